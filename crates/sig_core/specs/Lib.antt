@@ -1,0 +1,5 @@
+pub mod Filled
+pub mod Members
+pub mod Outs
+pub mod Step
+pub mod Word

@@ -1,0 +1,49 @@
+-- What a block does at one signal: its state after it, and its effects.
+use Rattle.std.specs.Prelude.{ℕ, ◌+◌, ◌≤◌, List, [], ◌∷◌, ◌++◌, length}
+use Rattle.sig_core.specs.declared.mark.Mark.{Mark}
+use Rattle.sig_core.specs.declared.outs.Outgoing.{Outgoing}
+use Rattle.sig_core.specs.declared.place.Place.{Place}
+use Rattle.sig_core.specs.declared.signal.Body.{Body}
+
+-- what a step sends and is marked by, each in order
+pub record Effects : Type 0 where
+  pub sends : List Outgoing
+  pub marks : List Mark
+
+-- the state after a step, and what it does
+pub record Step (S : Type 0) : Type 0 where
+  pub state : S
+  pub effects : Effects
+
+-- no effects
+abbrev pub nothing : Effects
+nothing = record { sends = []; marks = [] }
+
+-- effects, and then others
+abbrev pub joined : Effects → Effects → Effects
+joined first second = record { sends = first.sends ++ second.sends; marks = first.marks ++ second.marks }
+
+-- one signal, for a place
+abbrev pub to_place : Place → Body → Outgoing
+to_place to body = record { to = to; body = body }
+
+-- effects, and then one signal
+abbrev pub and_send : Effects → Place → Body → Effects
+and_send effects to body = record { sends = effects.sends ++ to_place to body ∷ []; marks = effects.marks }
+
+-- effects, and then one mark
+abbrev pub and_mark : Effects → Mark → Effects
+and_mark effects mark = record { sends = effects.sends; marks = effects.marks ++ mark ∷ [] }
+
+-- nothing happens
+abbrev pub stay : {S : Type 0} → S → Step S
+stay state = record { state = state; effects = nothing }
+
+-- a step to a state that sends one signal
+abbrev pub sending : {S : Type 0} → S → Place → Body → Step S
+sending state to body = record { state = state; effects = and_send nothing to body }
+
+-- the effects leave room for those of one more signal: at most 12 signals and 12 marks of 16 each
+pub record HasRoom (effects : Effects) : Type 0 where
+  pub sends : length effects.sends + 12 ≤ 16
+  pub marks : length effects.marks + 12 ≤ 16

@@ -1,0 +1,125 @@
+//! The primary key of a row.
+ghost use Rattle.std.specs.Prelude.{◌≡◌, ◌≤◌, length, refl, Some};
+ghost use Rattle.std.proofs.Common.{rules};
+ghost use Rattle.std.specs.Ordering.{nat_cmp};
+ghost use Rattle.std.specs.Hash as fed;
+ghost use Rattle.std.specs.Cmp.{partial_equiv_from_equiv};
+ghost use Rattle.std.specs.Cmp.Lexicographic.{pointwise, slice_cmp, nat_list_eq_equiv, nat_list_cmp_total, texts_ties, texts_po};
+ghost use Rattle.std.specs.Prelude.{nat_eq};
+ghost use Rattle.std.specs.Cmp.Rules.{hashing};
+ghost use Rattle.sig_core.specs.Word.{if_word};
+
+use crate::word::{WordFault, check, put_front};
+use std::cmp::Ordering;
+use std::fmt;
+use std::hash::{Hash, Hasher};
+use std::marker::Model;
+
+/// The most bytes that a key has.
+pub const KEY_BYTES: usize = 32;
+
+/// The primary key of a row: 1 to 32 bytes, each from 0x21 to 0x7e. Keys compare as lists of bytes.
+#[derive(Clone, Copy)]
+pub struct Key {
+    bytes: [u8; 32],
+    len: u8,
+}
+
+impl Model for Key {
+    ghost use Rattle.std.specs.Prelude.{List, ℕ, take, length};
+    ghost use Rattle.sig_core.specs.Filled.{filled, filled-held, length-held};
+    ghost use Rattle.sig_core.specs.Word.{IsWord};
+
+    ghost Value = { List ℕ };
+
+    ghost view = { λ k. take k.len k.bytes };
+
+    ghost invariant = { λ k. IsWord 1 32 k.bytes k.len };
+
+    ghost inverse = { λ bytes. record { bytes = filled 0 32 bytes; len = length bytes } };
+
+    ghost inverse_ok = { λ k is i. record { bytes = filled-held is.filled i; len = length-held is.filled i } };
+}
+
+impl Key {
+    /// The key of these bytes.
+    ///
+    /// # Errors
+    /// `Length` where there are none or more than 32, else `BadByte` at the first that is not from
+    /// 0x21 to 0x7e.
+    #[tactic(auto, using(crate::proofs::WordLemmas::stored_word))]
+    pub fn new(bytes: &[u8]) -> Result<Key, WordFault>
+        ensures { result ≡ if_word 1 32 bytes.now bytes.now }
+    {
+        check(bytes, 1, KEY_BYTES)?;
+        let mut stored = [0; KEY_BYTES];
+        put_front(&mut stored, bytes);
+        Ok(Key {
+            bytes: stored,
+            len: bytes.len() as u8,
+        })
+    }
+
+    /// The key's bytes.
+    pub fn bytes(&self) -> &[u8]
+        ensures value { result.now ≡ self.now }
+        ensures least { 1 ≤ length self.now }
+        ensures most { length self.now ≤ 32 }
+    {
+        &self.bytes[..self.len as usize]
+    }
+}
+
+impl PartialEq for Key {
+    ghost eq = { pointwise nat_eq };
+
+    ghost laws = { partial_equiv_from_equiv nat_list_eq_equiv };
+
+    fn eq(&self, other: &Key) -> bool {
+        self.bytes() == other.bytes()
+    }
+}
+
+impl Eq for Key {
+    ghost laws = { nat_list_eq_equiv };
+}
+
+impl PartialOrd for Key {
+    ghost partial_cmp = { λ x y. Some (slice_cmp nat_cmp x y) };
+
+    ghost laws = { texts_po };
+
+    fn partial_cmp(&self, other: &Key) -> Option<Ordering> {
+        Some(self.cmp(other))
+    }
+}
+
+impl Ord for Key {
+    ghost cmp = { slice_cmp nat_cmp };
+
+    ghost total = { nat_list_cmp_total };
+
+    ghost matches_partial_cmp = { λ x y. refl };
+
+    ghost matches_eq = { texts_ties };
+
+    fn cmp(&self, other: &Key) -> Ordering {
+        self.bytes().cmp(other.bytes())
+    }
+}
+
+impl Hash for Key {
+    ghost hash_input = { fed.slice fed.u8 };
+
+    ghost respects_eq = { Prim.search (hashing, rules) };
+
+    fn hash<H: Hasher>(&self, state: &mut H) {
+        self.bytes().hash(state);
+    }
+}
+
+impl fmt::Debug for Key {
+    fn fmt<W: fmt::Write>(&self, f: &mut fmt::Formatter<W>) -> fmt::Result {
+        fmt::Debug::fmt(self.bytes(), f)
+    }
+}

@@ -1,0 +1,48 @@
+//! The vocabulary of the data node kernel: keys and values, members and views, operations and
+//! outcomes, the signals between blocks, logs, and what a block is.
+#![tactic(auto)]
+
+mod actor;
+mod entry;
+mod key;
+mod log;
+mod mark;
+mod member;
+mod members;
+mod no_memory;
+mod op;
+mod outcome;
+mod outs;
+mod place;
+mod reply;
+mod request;
+mod seq;
+mod signal;
+mod table;
+mod value;
+mod view;
+mod word;
+
+pub use actor::Actor;
+pub use entry::Entry;
+pub use key::{KEY_BYTES, Key};
+pub use log::{HostLog, Life, LogStep};
+pub use mark::{Mark, Marks};
+pub use member::{HostId, Member, TxId};
+pub use members::{MEMBERS, Members};
+pub use no_memory::NoMemory;
+pub use op::{Answer, Op};
+pub use outcome::{AbortCause, Outcome, StopCause};
+pub use outs::{OUTS, Outgoing, Outs};
+pub use place::{BlockId, Place};
+pub use reply::{ApiReply, Refusal, Waiting};
+pub use request::{ApiReq, BatchLine};
+pub use seq::Seq;
+pub use signal::{
+    Body, ChainSignal, CheckpointSignal, ClientSignal, EpochSignal, FileSignal, HostSignal,
+    JoiningSignal, MembershipSignal, RecordState, RowWork, Signal, TakeoverSignal, Work,
+};
+pub use table::Table;
+pub use value::{VALUE_BYTES, Value};
+pub use view::{Shape, View};
+pub use word::WordFault;

@@ -1,0 +1,98 @@
+//! The effects of one step, as it makes them.
+ghost use Rattle.std.specs.Prelude.{◌≡◌, ◌<◌, IfOk, [], ◌∷◌, ◌++◌, length, None, option_to_list};
+
+use crate::mark::Mark;
+use crate::no_memory::NoMemory;
+use crate::place::Place;
+use crate::signal::Body;
+use std::alloc::Global;
+use std::marker::Model;
+
+/// How many signals a step sends at most, and how many marks it has at most.
+pub const OUTS: usize = 16;
+
+/// A signal to send, for this place.
+#[derive(Drop)]
+pub struct Outgoing {
+    pub to: Place,
+    pub body: Body,
+}
+
+/// The signals that a step sends and the marks that it is known by, each in order, with room for
+/// 16 of each.
+#[derive(Drop)]
+pub struct Outs {
+    sends: Vec<Outgoing>,
+    marks: Vec<Mark>,
+}
+
+impl Model for Outs {
+    ghost use Rattle.std.specs.Prelude.{length};
+    ghost use Rattle.sig_core.specs.Step.{Effects};
+    ghost use Rattle.sig_core.specs.Outs.{IsRoomFor};
+
+    ghost Value = { Effects };
+
+    ghost view = { λ o. record { sends = o.sends.items; marks = o.marks.items } };
+
+    ghost invariant = { λ o. IsRoomFor o.sends o.marks };
+}
+
+impl Outs {
+    ghost use Rattle.sig_core.specs.Step.{nothing, and_send, and_mark};
+
+    /// No effects, with room for those of a step.
+    ///
+    /// # Errors
+    /// `NoMemory`.
+    pub fn new(alloc: Global) -> Result<Outs, NoMemory>
+        ensures { IfOk result (λ outs. outs ≡ nothing) }
+    {
+        let sends = Vec::with_capacity(alloc, OUTS)?;
+        let marks = Vec::with_capacity(alloc, OUTS)?;
+        Ok(Outs { sends, marks })
+    }
+
+    /// Sends a signal. Takes no memory.
+    pub fn send(&mut self, to: Place, body: Body)
+        requires { length self.old.sends < 16 }
+        ensures { self.new ≡ and_send self.old to body }
+    {
+        self.sends.push_reserved(Outgoing { to, body });
+    }
+
+    /// Marks the step. Takes no memory.
+    pub fn mark(&mut self, mark: Mark)
+        requires { length self.old.marks < 16 }
+        ensures { self.new ≡ and_mark self.old mark }
+    {
+        self.marks.push_reserved(mark);
+    }
+
+    /// Empties it.
+    pub fn clear(&mut self)
+        ensures { self.new ≡ nothing }
+    {
+        self.sends.clear();
+        self.marks.clear();
+    }
+
+    /// The marks so far.
+    pub fn marks(&self) -> &[Mark]
+        ensures { result.now ≡ self.now.marks }
+    {
+        self.marks.as_slice()
+    }
+
+    /// Takes the first signal that is to be sent.
+    pub fn take_send(&mut self) -> Option<Outgoing>
+        ensures sends { self.old.sends ≡ option_to_list result ++ self.new.sends }
+        ensures none { result ≡ None → self.old.sends ≡ [] }
+        ensures marks { self.new.marks ≡ self.old.marks }
+    {
+        if self.sends.is_empty() {
+            return None;
+        }
+        Some(self.sends.remove(0))
+    }
+}

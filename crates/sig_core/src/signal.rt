@@ -1,0 +1,55 @@
+//! Signals: what blocks send one another.
+use crate::member::{HostId, Member};
+use crate::place::Place;
+use crate::view::View;
+
+mod chain;
+mod checkpoint;
+mod client;
+mod epoch;
+mod file;
+mod host;
+mod joining;
+mod membership;
+mod takeover;
+
+pub use chain::{ChainSignal, RowWork};
+pub use checkpoint::CheckpointSignal;
+pub use client::ClientSignal;
+pub use epoch::EpochSignal;
+pub use file::FileSignal;
+pub use host::{HostSignal, Work};
+pub use joining::JoiningSignal;
+pub use membership::MembershipSignal;
+pub use takeover::{RecordState, TakeoverSignal};
+
+/// What a signal says, by family.
+#[derive(Drop)]
+pub enum Body {
+    Host(HostSignal),
+    Client(ClientSignal),
+    Chain(ChainSignal),
+    Membership(MembershipSignal),
+    Takeover(TakeoverSignal),
+    Epoch(EpochSignal),
+    Checkpoint(CheckpointSignal),
+    File(FileSignal),
+    Joining(JoiningSignal),
+}
+
+/// A signal with its header.
+#[derive(Drop)]
+pub struct Signal {
+    /// The host that sent it.
+    pub from: HostId,
+    /// The member whose host sent it.
+    pub member: Member,
+    pub to: Place,
+    /// Counts the signals from one host to another, from 0.
+    pub seq: u64,
+    /// The stamp of the step that sent it.
+    pub stamp: u64,
+    /// The view that its sender had installed.
+    pub view: View,
+    pub body: Body,
+}
