@@ -1,4 +1,7 @@
 //! Operations on rows, and their answers.
+ghost use Rattle.std.specs.Prelude.{◌≡◌};
+ghost use Rattle.sig_core.specs.Op.{key_of};
+
 use crate::key::Key;
 use crate::value::Value;
 
@@ -17,6 +20,18 @@ pub enum Op {
     Upd(Key, Value),
     /// Removes a row that is there.
     Del(Key),
+}
+
+impl Op {
+    /// The key of the row.
+    pub fn key(&self) -> &Key
+        ensures { result.now ≡ key_of self.now }
+    {
+        match self {
+            Op::Get(key) | Op::GetX(key) | Op::Del(key) => key,
+            Op::Put(key, _) | Op::Ins(key, _) | Op::Upd(key, _) => key,
+        }
+    }
 }
 
 /// What an operation answers. The numbers are those of NDB Cluster's errors.

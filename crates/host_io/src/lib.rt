@@ -1,0 +1,17 @@
+//! The outside of the kernel: where it reads, where it writes, its disks, and what may watch it.
+#![tactic(auto)]
+
+mod disk;
+mod gate;
+mod sink;
+mod source;
+
+pub use disk::Disk;
+pub use gate::{Gate, NoGate};
+pub use sink::{MemSink, Sink};
+pub use source::{MemSource, Source};
+
+/// A call on the outside failed. The count of faults of the object that was called has then risen,
+/// or stands at its end.
+#[derive(Clone, Copy, Debug, PartialEq, Eq)]
+pub struct Failed;

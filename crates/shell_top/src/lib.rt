@@ -1,0 +1,4 @@
+//! The shell: reads a script, has the cluster serve it, and prints the replies.
+#![tactic(auto)]
+
+mod parts;

@@ -1,0 +1,7 @@
+//! The blocks of the two nodes and of the shell host, and the cluster that they make.
+
+pub mod api;
+pub mod dih;
+pub mod lqh;
+pub mod place;
+pub mod tc;
