@@ -1,6 +1,11 @@
 pub mod Api
+pub mod Blocks
+pub mod Cluster
+pub mod ClusterState
 pub mod Dih
 pub mod Lqh
+pub mod Network
 pub mod Place
+pub mod Start
 pub mod Tc
 pub mod Tx

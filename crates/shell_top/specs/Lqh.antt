@@ -1,5 +1,5 @@
 -- A replica's part in a transaction, signal by signal.
-use Rattle.std.specs.Prelude.{ℕ, ◌+◌, ◌-◌, ◌==◌, Bool, true, false, ◌&&◌, not, if◌then◌else◌, List, Option, None, Some, slice_get}
+use Rattle.std.specs.Prelude.{ℕ, ◌+◌, ◌-◌, ◌==◌, Bool, true, false, ◌&&◌, not, List, Option, None, Some, slice_get}
 use Rattle.std.specs.FinMap as map
 use Rattle.sig_core.specs.declared.mark.Mark.TheVariants.{Prepared, Applied, Done}
 use Rattle.sig_core.specs.declared.member.Member.{Member}
@@ -69,11 +69,12 @@ passed_to effects None body = effects
 passed_to effects (Some replica) body = and_send effects (rows_of replica.node) body
 
 -- a commit goes on towards the primary, and ends there
+abbrev pub committed_at_if : TxId → List ℕ → ℕ → List Member → ℕ → Option Pending → Bool → Effects
+committed_at_if tx key epoch chain at had true = and_send (applied_by tx key had) (coordinator_of tx) (Chain (Committed tx key))
+committed_at_if tx key epoch chain at had false = passed_to nothing (slice_get chain (at - 1)) (Chain (Commit tx key epoch chain (at - 1)))
+
 abbrev pub committed_at : TxId → List ℕ → ℕ → List Member → ℕ → Option Pending → Effects
-committed_at tx key epoch chain at had =
-    if at == 0
-    then and_send (applied_by tx key had) (coordinator_of tx) (Chain (Committed tx key))
-    else passed_to nothing (slice_get chain (at - 1)) (Chain (Commit tx key epoch chain (at - 1)))
+committed_at tx key epoch chain at had = committed_at_if tx key epoch chain at had (at == 0)
 
 abbrev pub commit_row : Lqh → TxId → List ℕ → ℕ → List Member → ℕ → Step Lqh
 commit_row s tx key epoch chain at =
@@ -86,11 +87,13 @@ complete_by s None = s
 complete_by s (Some p) = record { rows = s.rows; pending = None; marker = s.marker }
 
 -- a completion goes on towards the primary, and ends there
+abbrev pub completed_at_if : TxId → List ℕ → List Member → ℕ → Bool → Effects
+completed_at_if tx key chain at true = and_send (and_mark nothing (Done tx key)) (coordinator_of tx) (Chain (Completed tx key))
+completed_at_if tx key chain at false =
+    passed_to (and_mark nothing (Done tx key)) (slice_get chain (at - 1)) (Chain (Complete tx key chain (at - 1)))
+
 abbrev pub completed_at : TxId → List ℕ → List Member → ℕ → Effects
-completed_at tx key chain at =
-    if at == 0
-    then and_send (and_mark nothing (Done tx key)) (coordinator_of tx) (Chain (Completed tx key))
-    else passed_to (and_mark nothing (Done tx key)) (slice_get chain (at - 1)) (Chain (Complete tx key chain (at - 1)))
+completed_at tx key chain at = completed_at_if tx key chain at (at == 0)
 
 abbrev pub complete_row : Lqh → TxId → List ℕ → List Member → ℕ → Step Lqh
 complete_row s tx key chain at =

@@ -4,6 +4,7 @@ use Rattle.sig_core.specs.declared.member.Member.{Member}
 use Rattle.sig_core.specs.declared.member.TxId.{TxId}
 use Rattle.sig_core.specs.declared.place.BlockId.TheVariants.{Api, Tc, Dih, Lqh}
 use Rattle.sig_core.specs.declared.place.Place.{Place}
+use Rattle.sig_core.specs.declared.view.View.{View}
 
 -- the interface to the shell
 abbrev pub client : Place
@@ -28,3 +29,7 @@ coordinator_of tx = record { node = tx.tc; block = Tc }
 -- the replicas of each row, the primary first
 abbrev pub replicas : List Member
 replicas = record { node = 1; start = 0 } ∷ record { node = 2; start = 0 } ∷ []
+
+-- the only view
+abbrev pub first_view : View
+first_view = record { number = 1; full = replicas; starting = [] }

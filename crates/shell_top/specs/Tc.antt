@@ -1,5 +1,5 @@
 -- The coordinator's part in a transaction, signal by signal.
-use Rattle.std.specs.Prelude.{ℕ, ◌+◌, ◌-◌, ◌^◌, Bool, true, false, ◌||◌, ◌==◌, is_some, if◌then◌else◌, List, [], ◌∷◌, Option, None, Some}
+use Rattle.std.specs.Prelude.{ℕ, ◌+◌, ◌-◌, ◌^◌, Bool, true, false, ◌||◌, ◌==◌, is_some, List, [], ◌∷◌, Option, None, Some}
 use Rattle.sig_core.specs.declared.member.TxId.{TxId}
 use Rattle.sig_core.specs.declared.op.Answer.{Answer}
 use Rattle.sig_core.specs.declared.op.Op.{Op}
@@ -35,13 +35,15 @@ abbrev pub next_tx : Tc → TxId
 next_tx s = record { tc = 1; start = 0; seq = s.next_seq }
 
 -- a transaction begins, unless another is current or the numbers are used up
+abbrev pub begun_if : Tc → Option ℕ → Bool → Step Tc
+begun_if s name true = sending s client (Client (TcBeginRef name))
+begun_if s name false =
+    sending
+    (record { next_seq = s.next_seq + 1; current = Some (record { tx = next_tx s; phase = Begun }) })
+    client (Client (TcBeginConf name (next_tx s)))
+
 abbrev pub begun_row : Tc → Option ℕ → Step Tc
-begun_row s name =
-    if is_some s.current || s.next_seq == 2 ^ 64 - 1
-    then sending s client (Client (TcBeginRef name))
-    else sending
-        (record { next_seq = s.next_seq + 1; current = Some (record { tx = next_tx s; phase = Begun }) })
-        client (Client (TcBeginConf name (next_tx s)))
+begun_row s name = begun_if s name (is_some s.current || s.next_seq == 2 ^ 64 - 1)
 
 -- its operation goes to the primary
 abbrev pub operate_by : Tc → TxId → Op → Option Phase → Step Tc

@@ -1,9 +1,9 @@
 //! Where the blocks are: the API on the shell host, coordinator and epochs on node 1, and rows on
 //! nodes 1 and 2.
 ghost use Rattle.std.specs.Prelude.{◌≡◌, ◌<◌, IsSome, slice_get};
-ghost use Rattle.shell_top.specs.Place.{rows_of, coordinator_of, replicas};
+ghost use Rattle.shell_top.specs.Place.{rows_of, coordinator_of, replicas, first_view};
 
-use sig_core::{BlockId, Member, Members, Place, TxId};
+use sig_core::{BlockId, Member, Members, Place, TxId, View};
 
 /// The interface to the shell.
 pub const CLIENT: Place = Place {
@@ -59,4 +59,15 @@ pub fn replica_at(chain: &Members, at: usize) -> Option<Member>
     ensures few { IsSome result → at < 8 }
 {
     chain.as_slice().get(at).copied()
+}
+
+/// The only view: both nodes are full members.
+pub fn first_view() -> View
+    ensures { result ≡ first_view }
+{
+    View {
+        number: 1,
+        full: replicas(),
+        starting: Members::new(),
+    }
 }

@@ -1,0 +1,3 @@
+pub mod LinkWeight
+pub mod Settled
+pub mod Weight
