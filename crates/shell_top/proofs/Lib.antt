@@ -1,3 +1,4 @@
 pub mod LinkWeight
+pub mod PutServed
 pub mod Settled
 pub mod Weight

@@ -3,6 +3,7 @@ pub mod Blocks
 pub mod Cluster
 pub mod ClusterState
 pub mod Dih
+pub mod Idle
 pub mod Lqh
 pub mod Network
 pub mod Place
