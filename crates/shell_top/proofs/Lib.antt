@@ -2,3 +2,4 @@ pub mod LinkWeight
 pub mod PutServed
 pub mod Settled
 pub mod Weight
+pub mod WordCuts

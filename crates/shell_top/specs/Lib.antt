@@ -6,7 +6,9 @@ pub mod Dih
 pub mod Idle
 pub mod Lqh
 pub mod Network
+pub mod Parsed
 pub mod Place
 pub mod Start
 pub mod Tc
 pub mod Tx
+pub mod Words
