@@ -1,5 +1,6 @@
 pub mod LinkWeight
 pub mod PutServed
+pub mod ReaderLemmas
 pub mod Settled
 pub mod Weight
 pub mod WordCuts

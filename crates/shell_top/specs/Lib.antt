@@ -8,6 +8,7 @@ pub mod Lqh
 pub mod Network
 pub mod Parsed
 pub mod Place
+pub mod Reader
 pub mod Start
 pub mod Tc
 pub mod Tx

@@ -2,4 +2,5 @@
 #![tactic(auto)]
 
 mod parts;
+mod reader;
 mod script;
