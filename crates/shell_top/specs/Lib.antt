@@ -9,7 +9,10 @@ pub mod Network
 pub mod Parsed
 pub mod Place
 pub mod Reader
+pub mod Script
+pub mod Session
 pub mod Start
 pub mod Tc
+pub mod Text
 pub mod Tx
 pub mod Words

@@ -1,16 +1,15 @@
 -- What a line means.
 use Rattle.std.specs.Prelude.{ℕ, ◌-◌, ◌==◌, List, [], ◌∷◌, length, take, slice_index, codes, bytes_eq, if◌then◌else◌, Result, Ok, Err}
-use Rattle.sig_core.specs.declared.op.Op.TheVariants.{Put}
 use Rattle.sig_core.specs.declared.word.WordFault.{WordFault}
 use Rattle.sig_core.specs.Word.{if_word}
 use Rattle.shell_top.specs.declared.script.LineFault.TheVariants.{UnknownCommand, Arity, BadWord}
 use Rattle.shell_top.specs.declared.script.Parsed.{Parsed}
-use Rattle.shell_top.specs.declared.script.Parsed.TheVariants.{Nothing, Command, Fault}
+use Rattle.shell_top.specs.declared.script.Parsed.TheVariants.{Nothing, Put, Fault}
 use Rattle.shell_top.specs.Words.{words}
 
 -- a put of these words, if they are a key and a value
 abbrev pub put_if : Result (List ℕ) WordFault → Result (List ℕ) WordFault → Parsed
-put_if (Ok key) (Ok value) = Command (Put key value)
+put_if (Ok key) (Ok value) = Put key value
 put_if (Ok key) (Err fault) = Fault BadWord
 put_if (Err fault) value = Fault BadWord
 

@@ -1,6 +1,9 @@
 //! The shell: reads a script, has the cluster serve it, and prints the replies.
 #![tactic(auto)]
 
+mod ended;
 mod parts;
 mod reader;
 mod script;
+mod text;
+mod writer;

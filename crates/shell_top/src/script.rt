@@ -4,7 +4,7 @@ ghost use Rattle.std.specs.List.{before_first, after_first};
 ghost use Rattle.shell_top.specs.Parsed.{parsed, parsed_words, put_of, put_with, without_return};
 ghost use Rattle.shell_top.specs.Words.{words, is_space};
 
-use sig_core::{Key, Op, Value};
+use sig_core::{Key, Value};
 
 /// Why a line is outside the grammar.
 #[derive(Clone, Copy, Debug, PartialEq, Eq)]
@@ -22,8 +22,8 @@ pub enum LineFault {
 pub enum Parsed {
     /// The line is empty or a comment.
     Nothing,
-    /// An operation that is a transaction of its own.
-    Command(Op),
+    /// A put of this value at this key, as a transaction of its own.
+    Put(Key, Value),
     Fault(LineFault),
 }
 
@@ -74,7 +74,7 @@ fn make_put(key: &[u8], value: &[u8]) -> Parsed
     ensures { result ≡ put_with key.now value.now }
 {
     match (Key::new(key), Value::new(value)) {
-        (Ok(key), Ok(value)) => Parsed::Command(Op::Put(key, value)),
+        (Ok(key), Ok(value)) => Parsed::Put(key, value),
         _ => Parsed::Fault(LineFault::BadWord),
     }
 }

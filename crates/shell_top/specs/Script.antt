@@ -1,0 +1,55 @@
+-- What a script asks for, line by line.
+use Rattle.std.specs.Prelude.{ℕ, ◌+◌, Bool, true, false, ◌||◌, nat_lt, if◌then◌else◌, List, [], ◌∷◌, length, Option, None, Some}
+use Rattle.std.specs.List.{slice_split}
+use Rattle.shell_top.specs.declared.ended.Ending.{Ending}
+use Rattle.shell_top.specs.declared.ended.Ending.TheVariants.{Refused, TooLong}
+use Rattle.shell_top.specs.declared.script.Parsed.{Parsed}
+use Rattle.shell_top.specs.declared.script.Parsed.TheVariants as parsed
+use Rattle.shell_top.specs.Parsed.{parsed as parsed_line}
+use Rattle.shell_top.specs.Reader.{is_newline}
+
+-- a key, and the value to put there
+pub record Put : Type 0 where
+  pub key : List ℕ
+  pub value : List ℕ
+
+-- the commands up to the first fault, and that fault
+pub record Script : Type 0 where
+  pub commands : List Put
+  pub fault : Option Ending
+
+abbrev pub nothing_more : Script
+nothing_more = record { commands = []; fault = None }
+
+abbrev pub ends_with : Ending → Script
+ends_with fault = record { commands = []; fault = Some fault }
+
+-- a line, by what it asks for, and then the rest of a script
+abbrev pub follow : ℕ → Parsed → Script → Script
+follow line parsed.Nothing rest = rest
+follow line (parsed.Put key value) rest = record { commands = record { key = key; value = value } ∷ rest.commands; fault = rest.fault }
+follow line (parsed.Fault fault) rest = ends_with (Refused line fault)
+
+-- a line of more than 512 bytes, and the 65,537th
+abbrev pub is_too_long : ℕ → List ℕ → Bool
+is_too_long line bytes = nat_lt 65536 line || nat_lt 512 (length bytes)
+
+-- a whole line, and then the rest of a script
+abbrev pub whole_line : ℕ → List ℕ → Script → Script
+whole_line line bytes rest = if is_too_long line bytes then ends_with (TooLong line) else follow line (parsed_line bytes) rest
+
+-- what stands behind the last newline: no line if it is empty, a line if nothing more comes, and else a part of one
+abbrev pub last_part : Bool → ℕ → List ℕ → Script
+last_part ended line [] = nothing_more
+last_part true line (byte ∷ bytes) = whole_line line (byte ∷ bytes) nothing_more
+last_part false line (byte ∷ bytes) = if is_too_long line (byte ∷ bytes) then ends_with (TooLong line) else nothing_more
+
+-- the parts between newlines, of which the first is the line of this number
+abbrev pub script_of : Bool → ℕ → List (List ℕ) → Script
+script_of ended line [] = nothing_more
+script_of ended line (part ∷ []) = last_part ended line part
+script_of ended line (part ∷ next ∷ more) = whole_line line part (script_of ended (line + 1) (next ∷ more))
+
+-- what these bytes ask for, from this line on; whether nothing more comes
+abbrev pub script_from : Bool → ℕ → List ℕ → Script
+script_from ended line bytes = script_of ended line (slice_split is_newline bytes)

@@ -1,0 +1,75 @@
+-- What a session did: what it read and printed, and why it ended.
+use Rattle.std.specs.Prelude.{◌≡◌, ℕ, ◌+◌, ◌*◌, ◌-◌, ◌≤◌, ◌<◌, Bool, true, false, List, [], ◌∷◌, ◌++◌, length, take, Option, None, Some}
+use Rattle.std.specs.Io.KnownBytes.{Consumes, Appends, IsAtEnd}
+use Rattle.sig_core.specs.Table.{Rows}
+use Rattle.shell_top.specs.declared.ended.Ending.{Ending}
+use Rattle.shell_top.specs.declared.ended.Ending.TheVariants.{Finished, Words, Refused, ReadFault, WriteFault, NoMemory, TooLong}
+use Rattle.shell_top.specs.Cluster.{State}
+use Rattle.shell_top.specs.Idle.{idle}
+use Rattle.shell_top.specs.Script.{Put, Script, script_from}
+use Rattle.shell_top.specs.Text.{answers, fault_line}
+
+-- the known bytes grow by a first part of a text
+pub record AppendsPart (written written_now : Option (List ℕ)) (text : List ℕ) : Type 0 where
+  pub count : ℕ
+  pub appended : Appends written written_now (take count text)
+
+-- whether a script, read so far or to its end, ends a session so
+abbrev pub Ends : Ending → Bool → Script → Type 0
+Ends Finished ended script = (ended ≡ true) × (script.fault ≡ None)
+Ends Words ended script = Unit {0}
+Ends (Refused line fault) ended script = script.fault ≡ Some (Refused line fault)
+Ends ReadFault ended script = (ended ≡ false) × (script.fault ≡ None)
+Ends WriteFault ended script = Unit {0}
+Ends NoMemory ended script = Unit {0}
+Ends (TooLong line) ended script = script.fault ≡ Some (TooLong line)
+
+-- what is printed of a text: a first part where printing was cut short, and else all, and then the session ended as it was meant to
+abbrev pub Prints : Ending → Ending → Option (List ℕ) → Option (List ℕ) → List ℕ → Type 0
+Prints WriteFault meant written written_now text = AppendsPart written written_now text
+Prints NoMemory meant written written_now text = AppendsPart written written_now text
+Prints ending meant written written_now text = (meant ≡ ending) × Appends written written_now text
+
+-- The session read `input`, and up to its end where `ended`. It printed the answers to the commands of its lines, up to
+-- the first fault, and then the line of the fault by which it was meant to end.
+pub record IsSession (words : ℕ) (left left_now written written_now : Option (List ℕ)) (ending : Ending) : Type 0 where
+  pub input : List ℕ
+  pub ended : Bool
+  pub meant : Ending
+  pub consumed : Consumes left left_now input
+  pub at_end : ended ≡ true → IsAtEnd left_now
+  pub ends : Ends meant ended (script_from ended 1 input)
+  pub printed : Prints ending meant written written_now (answers (script_from ended 1 input).commands ++ fault_line meant)
+  pub words_first : 0 < words → (meant ≡ Words) × (input ≡ [])
+  pub words_refused : meant ≡ Words → 0 < words
+  pub bounded : length input ≤ 513 * 65536 + 1024
+
+-- commands in front of a script
+abbrev pub after : List Put → Script → Script
+after puts script = record { commands = puts ++ script.commands; fault = script.fault }
+
+-- The session is at this line: it read `consumed` and what is held, printed the answers to the commands of the lines
+-- before, and the cluster is idle.
+pub record IsUnderWay (left left_now written written_now : Option (List ℕ)) (line : ℕ) (held : List ℕ) (state : State) : Type 0 where
+  pub consumed : List ℕ
+  pub puts : List Put
+  pub rows : Rows
+  pub read : Consumes left left_now (consumed ++ held)
+  pub lines : (ended : Bool) (more : List ℕ) → script_from ended 1 (consumed ++ more) ≡ after puts (script_from ended line more)
+  pub printed : Appends written written_now (answers puts)
+  pub idle_now : state ≡ idle (length puts + 1) rows []
+  pub few : length puts + 1 ≤ line
+  pub line_low : line ≤ 65537
+  pub held_short : length held ≤ 1024
+  pub consumed_short : length consumed + 513 ≤ 513 * line
+
+-- The lines are read, or can be read no further, and their answers are printed, or printing was cut short.
+pub record AreLinesDone (left left_now written written_now : Option (List ℕ)) (ending : Ending) : Type 0 where
+  pub input : List ℕ
+  pub ended : Bool
+  pub consumed : Consumes left left_now input
+  pub at_end : ended ≡ true → IsAtEnd left_now
+  pub ends : Ends ending ended (script_from ended 1 input)
+  pub printed : Prints ending ending written written_now (answers (script_from ended 1 input).commands)
+  pub no_words : ending ≡ Words → ⊥
+  pub bounded : length input ≤ 513 * 65536 + 1024

@@ -1,0 +1,58 @@
+-- What a session prints.
+use Rattle.std.specs.Prelude.{ℕ, List, [], ◌∷◌, ◌++◌, codes}
+use Rattle.std.specs.Fmt.{decimal}
+use Rattle.sig_core.specs.declared.op.Answer.TheVariants.{Done, Found, Missing, E626, E630}
+use Rattle.shell_top.specs.declared.ended.Ending.{Ending}
+use Rattle.shell_top.specs.declared.ended.Ending.TheVariants.{Finished, Words, Refused, ReadFault, WriteFault, NoMemory, TooLong}
+use Rattle.shell_top.specs.declared.parts.api.Reply.{Reply}
+use Rattle.shell_top.specs.declared.parts.api.Reply.TheVariants.{Answered, Committed}
+use Rattle.shell_top.specs.declared.script.LineFault.{LineFault}
+use Rattle.shell_top.specs.declared.script.LineFault.TheVariants.{UnknownCommand, Arity, BadWord}
+use Rattle.shell_top.specs.Script.{Put}
+
+abbrev pub newline : List ℕ
+newline = 10 ∷ []
+
+-- the line of a reply
+abbrev pub reply_line : Reply → List ℕ
+reply_line (Answered Done) = codes "ok" ++ newline
+reply_line (Answered (Found value)) = codes "value " ++ value ++ newline
+reply_line (Answered Missing) = codes "none" ++ newline
+reply_line (Answered E626) = codes "error 626 tuple did not exist" ++ newline
+reply_line (Answered E630) = codes "error 630 tuple already existed" ++ newline
+reply_line (Committed epoch) = codes "committed " ++ decimal epoch ++ newline
+
+abbrev pub reply_lines : List Reply → List ℕ
+reply_lines [] = []
+reply_lines (reply ∷ replies) = reply_line reply ++ reply_lines replies
+
+-- each put is answered by ok, and committed in epoch 1
+abbrev pub answers : List Put → List ℕ
+answers [] = []
+answers (put ∷ puts) = codes "ok" ++ newline ++ codes "committed 1" ++ newline ++ answers puts
+
+-- the number of a fault of a line
+abbrev pub code_of : LineFault → ℕ
+code_of UnknownCommand = 1
+code_of Arity = 2
+code_of BadWord = 3
+
+-- the line that is printed last, where the session ends by a fault that has one
+abbrev pub fault_line : Ending → List ℕ
+fault_line Finished = []
+fault_line Words = codes "words refused" ++ newline
+fault_line (Refused line fault) = codes "line " ++ decimal line ++ codes " refused " ++ decimal (code_of fault) ++ newline
+fault_line ReadFault = codes "read fault" ++ newline
+fault_line WriteFault = []
+fault_line NoMemory = []
+fault_line (TooLong line) = codes "line " ++ decimal line ++ codes " too long" ++ newline
+
+-- the exit status
+abbrev pub status_of : Ending → ℕ
+status_of Finished = 0
+status_of Words = 1
+status_of (Refused line fault) = 2
+status_of ReadFault = 3
+status_of WriteFault = 4
+status_of NoMemory = 5
+status_of (TooLong line) = 9

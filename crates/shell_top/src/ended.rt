@@ -1,0 +1,32 @@
+//! How a session ends.
+use crate::script::LineFault;
+use host_io::Disk;
+
+/// Why a session ended.
+#[derive(Clone, Copy, Debug, PartialEq, Eq)]
+pub enum Ending {
+    /// The source was read to its end.
+    Finished,
+    /// There are words, and none are taken.
+    Words,
+    /// The line is outside the grammar.
+    Refused { line: u32, fault: LineFault },
+    /// The source failed.
+    ReadFault,
+    /// The sink failed.
+    WriteFault,
+    NoMemory,
+    /// The line has more than 512 bytes, or is the 65,537th.
+    TooLong { line: u32 },
+}
+
+/// What a session leaves.
+#[derive(Drop)]
+pub struct Ended {
+    /// The exit status: 0 where the source was read to its end; 1 where there were words; 2 at a
+    /// line outside the grammar; 3 where the source failed, 4 where the sink did; 5 for want of
+    /// memory; 9 at a line that is too long.
+    pub status: u8,
+    /// The disks that were handed in, in their order.
+    pub disks: Vec<Box<dyn Disk + Send>>,
+}

@@ -1,0 +1,99 @@
+//! The text of replies and faults.
+ghost use Rattle.std.specs.Prelude.{◌≡◌, ◌++◌, OnOk, IfOk, codes, string_bytes};
+ghost use Rattle.shell_top.specs.declared.ended.Ending.TheVariants.{Refused, TooLong};
+ghost use Rattle.shell_top.specs.Text.{newline, reply_line, fault_line, code_of, status_of};
+
+use crate::ended::Ending;
+use crate::parts::api::Reply;
+use crate::script::LineFault;
+use sig_core::{Answer, NoMemory};
+use std::alloc::Global;
+
+/// Adds the line of a reply to a text.
+///
+/// # Errors
+/// `NoMemory`.
+pub fn put_reply(alloc: Global, reply: &Reply, text: &mut Vec<u8>) -> Result<(), NoMemory>
+    ensures { OnOk result (text.new.items ≡ text.old.items ++ reply_line reply.now) }
+{
+    match reply {
+        Reply::Answered(Answer::Done) => text.extend_from_slice(b"ok\n")?,
+        Reply::Answered(Answer::Found(value)) => put_value(value.bytes(), text)?,
+        Reply::Answered(Answer::Missing) => text.extend_from_slice(b"none\n")?,
+        Reply::Answered(Answer::E626) => {
+            text.extend_from_slice(b"error 626 tuple did not exist\n")?;
+        }
+        Reply::Answered(Answer::E630) => {
+            text.extend_from_slice(b"error 630 tuple already existed\n")?;
+        }
+        Reply::Committed(epoch) => {
+            let line = format!(in alloc; "committed {epoch}\n")?;
+            text.extend_from_slice(line.as_bytes())?;
+        }
+    }
+    Ok(())
+}
+
+fn put_value(value: &[u8], text: &mut Vec<u8>) -> Result<(), NoMemory>
+    ensures { OnOk result (text.new.items ≡ text.old.items ++ (codes "value " ++ value.now ++ newline)) }
+{
+    text.extend_from_slice(b"value ")?;
+    text.extend_from_slice(value)?;
+    text.extend_from_slice(b"\n")?;
+    Ok(())
+}
+
+/// The number of a fault of a line.
+fn code_of(fault: LineFault) -> u8
+    ensures { result ≡ code_of fault }
+{
+    match fault {
+        LineFault::UnknownCommand => 1,
+        LineFault::Arity => 2,
+        LineFault::BadWord => 3,
+    }
+}
+
+/// The line that is printed last where a session ends so, or nothing.
+///
+/// # Errors
+/// `NoMemory`.
+pub fn fault_line(alloc: Global, ending: &Ending) -> Result<String, NoMemory>
+    ensures { IfOk result (λ line. string_bytes line ≡ fault_line ending.now) }
+{
+    match ending {
+        Ending::Finished | Ending::WriteFault | Ending::NoMemory => Ok(String::new(alloc)),
+        Ending::Words => Ok(String::from_str(alloc, "words refused\n")?),
+        Ending::Refused { line, fault } => refused_line(alloc, *line, *fault),
+        Ending::ReadFault => Ok(String::from_str(alloc, "read fault\n")?),
+        Ending::TooLong { line } => too_long_line(alloc, *line),
+    }
+}
+
+fn refused_line(alloc: Global, line: u32, fault: LineFault) -> Result<String, NoMemory>
+    ensures { IfOk result (λ text. string_bytes text ≡ fault_line (Refused line fault)) }
+{
+    let code = code_of(fault);
+    Ok(format!(in alloc; "line {line} refused {code}\n")?)
+}
+
+fn too_long_line(alloc: Global, line: u32) -> Result<String, NoMemory>
+    ensures { IfOk result (λ text. string_bytes text ≡ fault_line (TooLong line)) }
+{
+    Ok(format!(in alloc; "line {line} too long\n")?)
+}
+
+/// The exit status of a session that ends so.
+pub fn status_of(ending: &Ending) -> u8
+    ensures { result ≡ status_of ending.now }
+{
+    match ending {
+        Ending::Finished => 0,
+        Ending::Words => 1,
+        Ending::Refused { line: _, fault: _ } => 2,
+        Ending::ReadFault => 3,
+        Ending::WriteFault => 4,
+        Ending::NoMemory => 5,
+        Ending::TooLong { line: _ } => 9,
+    }
+}
