@@ -1,7 +1,9 @@
 pub mod LinkWeight
+pub mod PutLemmas
 pub mod PutServed
 pub mod ReaderLemmas
 pub mod ScriptLemmas
+pub mod SessionLemmas
 pub mod Settled
 pub mod Weight
 pub mod WordCuts

@@ -18,3 +18,11 @@ idle seq rows replies =
       };
       links = replicate 9 [];
     }
+
+-- the shell has had the replies
+abbrev pub told : State → State
+told s =
+    record {
+      blocks = record s.blocks { api = record { serving = s.blocks.api.serving; replies = [] } };
+      links = s.links;
+    }

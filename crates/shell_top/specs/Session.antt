@@ -1,5 +1,6 @@
 -- What a session did: what it read and printed, and why it ended.
-use Rattle.std.specs.Prelude.{◌≡◌, ℕ, ◌+◌, ◌*◌, ◌-◌, ◌≤◌, ◌<◌, Bool, true, false, List, [], ◌∷◌, ◌++◌, length, take, Option, None, Some}
+use Rattle.std.specs.Prelude.{◌≡◌, ℕ, ◌+◌, ◌*◌, ◌-◌, ◌≤◌, ◌<◌, Bool, true, false, List, [], ◌∷◌, ◌++◌, length, take, Option, None, Some, IfNone, MatchOption}
+use Rattle.std.specs.FinMap as map
 use Rattle.std.specs.Io.KnownBytes.{Consumes, Appends, IsAtEnd}
 use Rattle.sig_core.specs.Table.{Rows}
 use Rattle.shell_top.specs.declared.ended.Ending.{Ending}
@@ -13,6 +14,23 @@ use Rattle.shell_top.specs.Text.{answers, fault_line}
 pub record AppendsPart (written written_now : Option (List ℕ)) (text : List ℕ) : Type 0 where
   pub count : ℕ
   pub appended : Appends written written_now (take count text)
+
+-- printing was cut short, and a first part of a text was printed
+abbrev pub IsCutShort : Ending → Option (List ℕ) → Option (List ℕ) → List ℕ → Type 0
+IsCutShort WriteFault written written_now text = AppendsPart written written_now text
+IsCutShort NoMemory written written_now text = AppendsPart written written_now text
+IsCutShort ending written written_now text = ⊥
+
+-- an idle cluster serves a put: it is idle again, with the row, and the text is the answers
+pub record ServesPut (put : Put) (s t : State) (text : List ℕ) : Type 0 where
+  pub state : (seq : ℕ) (rows : Rows) → s ≡ idle seq rows [] → seq ≤ 65537 → t ≡ idle (seq + 1) (map.insert rows put.key put.value) []
+  pub told : (seq : ℕ) (rows : Rows) → s ≡ idle seq rows [] → seq ≤ 65537 → text ≡ answers (put ∷ [])
+
+-- the same, where the answers are printed, or are cut short and the session ends
+pub record PrintsPut (put : Put) (s t : State) (result : Option Ending) (written written_now : Option (List ℕ)) : Type 0 where
+  pub state : (seq : ℕ) (rows : Rows) → s ≡ idle seq rows [] → seq ≤ 65537 → IfNone result (t ≡ idle (seq + 1) (map.insert rows put.key put.value) [])
+  pub printed : (seq : ℕ) (rows : Rows) → s ≡ idle seq rows [] → seq ≤ 65537
+      → MatchOption result (Appends written written_now (answers (put ∷ []))) (λ ending. IsCutShort ending written written_now (answers (put ∷ [])))
 
 -- whether a script, read so far or to its end, ends a session so
 abbrev pub Ends : Ending → Bool → Script → Type 0

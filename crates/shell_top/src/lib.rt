@@ -5,5 +5,6 @@ mod ended;
 mod parts;
 mod reader;
 mod script;
+mod session;
 mod text;
 mod writer;

@@ -1,0 +1,270 @@
+-- How a session goes on, line by line, and how it ends.
+use Rattle.std.proofs.Common.{◌≡◌, ℕ, ◌+◌, ◌*◌, ◌-◌, ◌≤◌, ◌<◌, List, [], ◌∷◌, ◌++◌, length, take, drop, Bool, true, false, refl, ap, sym, subst, ◌∙◌, append_assoc, arith}
+use Rattle.std.specs.Prelude.{Option, None, Some, position}
+use Rattle.std.specs.FinMap as map
+use Rattle.std.specs.Io.KnownBytes.{Consumes, Appends, IsAtEnd, Keeps}
+use Rattle.std.proofs.KnownBytes.{Appends-nil, Appends-trans, Consumes-trans}
+use Rattle.std.proofs.lemmas.List.{append-nil, take-append-drop, length-append, length-take-le, length-drop, take_at}
+use Rattle.sig_core.specs.Table.{Rows}
+use Rattle.shell_top.specs.declared.ended.Ending.{Ending}
+use Rattle.shell_top.specs.declared.ended.Ending.TheVariants as ending
+use Rattle.shell_top.specs.declared.script.LineFault.{LineFault}
+use Rattle.shell_top.specs.declared.script.Parsed.{Parsed}
+use Rattle.shell_top.specs.declared.script.Parsed.TheVariants as parsed
+use Rattle.shell_top.specs.Cluster.{State}
+use Rattle.shell_top.specs.Idle.{idle}
+use Rattle.shell_top.specs.Parsed.{parsed as parsed_line}
+use Rattle.shell_top.specs.Reader.{Reads, IsPartial, is_newline}
+use Rattle.shell_top.specs.Script.{Put, Script, nothing_more, ends_with, follow, is_too_long, whole_line, last_part, script_from}
+use Rattle.shell_top.specs.Session.{AppendsPart, Ends, Prints, IsSession, IsUnderWay, AreLinesDone, after}
+use Rattle.shell_top.specs.Text.{answers}
+use Rattle.shell_top.proofs.ScriptLemmas.{script-part, script-line, script-held, found_within, whole_line-long, whole_line-short, too_long_line, too_long_bytes, short_line, last_part-long, last_part-partial, last_part-whole, after-append, answers-append}
+
+module _ (left written : Option (List ℕ)) where
+  -- more was read
+  pub read_on : (left_now left_then written_now : Option (List ℕ)) (line : ℕ) (held held_then : List ℕ) (s : State)
+      → IsUnderWay left left_now written written_now line held s → Reads left_now left_then held held_then → length held_then ≤ 1024
+      → IsUnderWay left left_then written written_now line held_then s
+  read_on left_now left_then written_now line held held_then s u r short = record {
+    consumed = u.consumed;
+    puts = u.puts;
+    rows = u.rows;
+    read = subst (Consumes left left_then)
+        (append_assoc u.consumed held r.more ∙ ap (λ xs. u.consumed ++ xs) (sym r.kept))
+        (Consumes-trans left left_now left_then (u.consumed ++ held) r.more u.read r.consumed);
+    lines = u.lines;
+    printed = u.printed;
+    idle_now = u.idle_now;
+    few = u.few;
+    line_low = u.line_low;
+    held_short = short;
+    consumed_short = u.consumed_short;
+  }
+
+  module _ (left_now written_now : Option (List ℕ)) (line : ℕ) (held : List ℕ) (s : State) (u : IsUnderWay left left_now written written_now line held s) where
+    -- what it asks for: what was done, and what is held
+    all_asked : (ended : Bool) (rest : Script) → script_from ended line held ≡ rest → script_from ended 1 (u.consumed ++ held) ≡ after u.puts rest
+    all_asked ended rest e = u.lines ended held ∙ ap (after u.puts) e
+
+    all_bounded : length (u.consumed ++ held) ≤ 513 * 65536 + 1024
+    all_bounded = omega (arith, length-append u.consumed held, u.consumed_short, u.line_low, u.held_short)
+
+    -- where what is held asks for no command, all is answered
+    all_answered : (ended : Bool) (rest : Script) → script_from ended line held ≡ rest → rest.commands ≡ []
+        → Appends written written_now (answers (script_from ended 1 (u.consumed ++ held)).commands)
+    all_answered ended rest e none =
+        subst (Appends written written_now)
+        (sym (ap (λ (x : Script). answers x.commands) (all_asked ended rest e) ∙ ap (λ puts. answers (u.puts ++ puts)) none ∙ ap answers (append-nil u.puts)))
+        u.printed
+
+    -- a line is refused
+    pub ends_refused : (fault : LineFault) (ended : Bool) → (ended ≡ true → IsAtEnd left_now) → script_from ended line held ≡ ends_with (ending.Refused line fault)
+        → AreLinesDone left left_now written written_now (ending.Refused line fault)
+    ends_refused fault ended at_end e = record {
+      input = u.consumed ++ held;
+      ended = ended;
+      consumed = u.read;
+      at_end = at_end;
+      ends = ap (λ (x : Script). x.fault) (all_asked ended _ e);
+      printed = (refl, all_answered ended _ e refl);
+      no_words = λ is. cc;
+      bounded = all_bounded;
+    }
+
+    -- a line is too long
+    pub ends_too_long : script_from false line held ≡ ends_with (ending.TooLong line) → AreLinesDone left left_now written written_now (ending.TooLong line)
+    ends_too_long e = record {
+      input = u.consumed ++ held;
+      ended = false;
+      consumed = u.read;
+      at_end = λ is. cc;
+      ends = ap (λ (x : Script). x.fault) (all_asked false _ e);
+      printed = (refl, all_answered false _ e refl);
+      no_words = λ is. cc;
+      bounded = all_bounded;
+    }
+
+    -- the source failed, and no line is whole
+    pub ends_unread : script_from false line held ≡ nothing_more → AreLinesDone left left_now written written_now ending.ReadFault
+    ends_unread e = record {
+      input = u.consumed ++ held;
+      ended = false;
+      consumed = u.read;
+      at_end = λ is. cc;
+      ends = (refl, ap (λ (x : Script). x.fault) (all_asked false _ e));
+      printed = (refl, all_answered false _ e refl);
+      no_words = λ is. cc;
+      bounded = all_bounded;
+    }
+
+    -- the source was read to its end, and nothing is left to do
+    pub ends_finished : IsAtEnd left_now → script_from true line held ≡ nothing_more → AreLinesDone left left_now written written_now ending.Finished
+    ends_finished at_end e = record {
+      input = u.consumed ++ held;
+      ended = true;
+      consumed = u.read;
+      at_end = λ is. at_end;
+      ends = (refl, ap (λ (x : Script). x.fault) (all_asked true _ e));
+      printed = (refl, all_answered true _ e refl);
+      no_words = λ is. cc;
+      bounded = all_bounded;
+    }
+
+    -- what was printed is a first part of the answers
+    printed_first : (ended : Bool) → AppendsPart written written_now (answers (script_from ended 1 (u.consumed ++ held)).commands)
+    printed_first ended = record {
+      count = length (answers u.puts);
+      appended = subst (Appends written written_now)
+          (sym (ap (λ (x : Script). take (length (answers u.puts)) (answers x.commands)) (u.lines ended held)
+            ∙ ap (take (length (answers u.puts))) (answers-append u.puts (script_from ended line held).commands)
+            ∙ take_at (answers u.puts) (answers (script_from ended line held).commands) (length (answers u.puts)) refl))
+          u.printed;
+    }
+
+    -- memory is wanting
+    pub ends_unremembered : AreLinesDone left left_now written written_now ending.NoMemory
+    ends_unremembered = record {
+      input = u.consumed ++ held;
+      ended = false;
+      consumed = u.read;
+      at_end = λ is. cc;
+      ends = tt;
+      printed = printed_first false;
+      no_words = λ is. cc;
+      bounded = all_bounded;
+    }
+
+    -- what is held begins with a put, whose answer was printed in part
+    module _ (written_then : Option (List ℕ)) (put : Put) (ended : Bool) (rest : Script) (asked : script_from ended line held ≡ after (put ∷ []) rest) where
+      -- the answers before, that of the put, and those behind it
+      all_text : answers (script_from ended 1 (u.consumed ++ held)).commands ≡ answers u.puts ++ (answers (put ∷ []) ++ answers rest.commands)
+      all_text = ap (λ (x : Script). answers x.commands) (all_asked ended _ asked) ∙ answers-append u.puts (put ∷ rest.commands)
+
+      cut_text : (n : ℕ) → answers u.puts ++ (answers (put ∷ []) ++ answers rest.commands)
+          ≡ (answers u.puts ++ take n (answers (put ∷ []))) ++ (drop n (answers (put ∷ [])) ++ answers rest.commands)
+      cut_text n =
+          let text = answers (put ∷ []) in
+          ap (λ xs. answers u.puts ++ (xs ++ answers rest.commands)) (sym (take-append-drop n text))
+          ∙ ap (λ xs. answers u.puts ++ xs) (append_assoc (take n text) (drop n text) (answers rest.commands))
+          ∙ sym (append_assoc (answers u.puts) (take n text) (drop n text ++ answers rest.commands))
+
+      pub printed_part : AppendsPart written_now written_then (answers (put ∷ []))
+          → AppendsPart written written_then (answers (script_from ended 1 (u.consumed ++ held)).commands)
+      printed_part part =
+          let front = answers u.puts ++ take part.count (answers (put ∷ [])) in
+          record {
+            count = length front;
+            appended = subst (Appends written written_then)
+                (sym (ap (take (length front)) (all_text ∙ cut_text part.count) ∙ take_at front _ (length front) refl))
+                (Appends-trans written written_now written_then (answers u.puts) (take part.count (answers (put ∷ []))) u.printed part.appended);
+          }
+
+      pub ends_unwritten : (ended ≡ true → IsAtEnd left_now) → AppendsPart written_now written_then (answers (put ∷ [])) → AreLinesDone left left_now written written_then ending.WriteFault
+      ends_unwritten at_end part = record {
+        input = u.consumed ++ held;
+        ended = ended;
+        consumed = u.read;
+        at_end = at_end;
+        ends = tt;
+        printed = printed_part part;
+        no_words = λ is. cc;
+        bounded = all_bounded;
+      }
+
+      pub ends_forgotten : (ended ≡ true → IsAtEnd left_now) → AppendsPart written_now written_then (answers (put ∷ [])) → AreLinesDone left left_now written written_then ending.NoMemory
+      ends_forgotten at_end part = record {
+        input = u.consumed ++ held;
+        ended = ended;
+        consumed = u.read;
+        at_end = at_end;
+        ends = tt;
+        printed = printed_part part;
+        no_words = λ is. cc;
+        bounded = all_bounded;
+      }
+
+    -- the last line is a put, and it was answered
+    pub ends_answered : (written_then : Option (List ℕ)) (put : Put) → script_from true line held ≡ after (put ∷ []) nothing_more → IsAtEnd left_now
+        → Appends written_now written_then (answers (put ∷ [])) → AreLinesDone left left_now written written_then ending.Finished
+    ends_answered written_then put asked at_end more = record {
+      input = u.consumed ++ held;
+      ended = true;
+      consumed = u.read;
+      at_end = λ is. at_end;
+      ends = (refl, ap (λ (x : Script). x.fault) (all_asked true _ asked));
+      printed = (refl, subst (Appends written written_then)
+          (sym (ap (λ (x : Script). answers x.commands) (all_asked true _ asked) ∙ answers-append u.puts (put ∷ [])))
+          (Appends-trans written written_now written_then (answers u.puts) (answers (put ∷ [])) u.printed more));
+      no_words = λ is. cc;
+      bounded = all_bounded;
+    }
+
+    -- a whole line is passed
+    module _ (at : ℕ) (found : position is_newline held ≡ Some at) (low : line ≤ 65536) (short : at ≤ 512) where
+      line_length : length (take at held) ≡ at
+      line_length = length-take-le at held (let within = found_within held at found in omega arith)
+
+      front_length : length (take (at + 1) held) ≡ at + 1
+      front_length = length-take-le (at + 1) held (let within = found_within held at found in omega arith)
+
+      line_short : is_too_long line (take at held) ≡ false
+      line_short = short_line line (take at held) low (omega (arith, line_length))
+
+      -- what is held asks for what its first line does, and then for the rest
+      pub first_asked : (ended : Bool) (is : Parsed) → parsed_line (take at held) ≡ is
+          → script_from ended line held ≡ follow line is (script_from ended (line + 1) (drop (at + 1) held))
+      first_asked ended is e =
+          script-held ended line held at found ∙ whole_line-short line (take at held) _ line_short
+          ∙ ap (λ p. follow line p (script_from ended (line + 1) (drop (at + 1) held))) e
+
+      lines_on : (puts : List Put) (is : Parsed) → parsed_line (take at held) ≡ is → ((rest : Script) → follow line is rest ≡ after puts rest)
+          → (ended : Bool) (more : List ℕ) → script_from ended 1 ((u.consumed ++ take (at + 1) held) ++ more) ≡ after (u.puts ++ puts) (script_from ended (line + 1) more)
+      lines_on puts is e follows ended more =
+          ap (script_from ended 1) (append_assoc u.consumed (take (at + 1) held) more)
+          ∙ u.lines ended (take (at + 1) held ++ more)
+          ∙ ap (after u.puts)
+            (script-line ended line held at more found ∙ whole_line-short line (take at held) _ line_short
+              ∙ ap (λ p. follow line p (script_from ended (line + 1) more)) e ∙ follows (script_from ended (line + 1) more))
+          ∙ sym (after-append u.puts puts (script_from ended (line + 1) more))
+
+      read_rest : Consumes left left_now ((u.consumed ++ take (at + 1) held) ++ drop (at + 1) held)
+      read_rest = subst (Consumes left left_now)
+          (ap (λ xs. u.consumed ++ xs) (sym (take-append-drop (at + 1) held)) ∙ sym (append_assoc u.consumed (take (at + 1) held) (drop (at + 1) held)))
+          u.read
+
+      -- the line asks for nothing
+      pub goes_on : parsed_line (take at held) ≡ parsed.Nothing → IsUnderWay left left_now written written_now (line + 1) (drop (at + 1) held) s
+      goes_on e = record {
+        consumed = u.consumed ++ take (at + 1) held;
+        puts = u.puts;
+        rows = u.rows;
+        read = read_rest;
+        lines = λ ended more. lines_on [] parsed.Nothing e (λ rest. refl) ended more ∙ ap (λ puts. after puts (script_from ended (line + 1) more)) (append-nil u.puts);
+        printed = u.printed;
+        idle_now = u.idle_now;
+        few = omega (arith, u.few);
+        line_low = omega arith;
+        held_short = omega (arith, u.held_short, length-drop (at + 1) held);
+        consumed_short = omega (arith, u.consumed_short, length-append u.consumed (take (at + 1) held), front_length);
+      }
+
+      -- the line is a put, and it was answered
+      pub goes_on_put : (written_then : Option (List ℕ)) (t : State) (key value : List ℕ) → parsed_line (take at held) ≡ parsed.Put key value
+          → t ≡ idle (length u.puts + 1 + 1) (map.insert u.rows key value) [] → Appends written_now written_then (answers (record { key = key; value = value } ∷ []))
+          → IsUnderWay left left_now written written_then (line + 1) (drop (at + 1) held) t
+      goes_on_put written_then t key value e done more =
+          let put : Put = record { key = key; value = value } in
+          record {
+            consumed = u.consumed ++ take (at + 1) held;
+            puts = u.puts ++ put ∷ [];
+            rows = map.insert u.rows key value;
+            read = read_rest;
+            lines = lines_on (put ∷ []) (parsed.Put key value) e (λ rest. refl);
+            printed = subst (Appends written written_then) (sym (answers-append u.puts (put ∷ [])))
+                (Appends-trans written written_now written_then (answers u.puts) (answers (put ∷ [])) u.printed more);
+            idle_now = done ∙ ap (λ n. idle (n + 1) (map.insert u.rows key value) []) (sym (length-append u.puts (put ∷ [])));
+            few = omega (arith, u.few, length-append u.puts (put ∷ []));
+            line_low = omega arith;
+            held_short = omega (arith, u.held_short, length-drop (at + 1) held);
+            consumed_short = omega (arith, u.consumed_short, length-append u.consumed (take (at + 1) held), front_length);
+          }
