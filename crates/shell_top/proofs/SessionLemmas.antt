@@ -1,6 +1,7 @@
 -- How a session goes on, line by line, and how it ends.
 use Rattle.std.proofs.Common.{◌≡◌, ℕ, ◌+◌, ◌*◌, ◌-◌, ◌≤◌, ◌<◌, List, [], ◌∷◌, ◌++◌, length, take, drop, Bool, true, false, refl, ap, sym, subst, ◌∙◌, append_assoc, arith}
-use Rattle.std.specs.Prelude.{Option, None, Some, position}
+use Rattle.std.specs.Prelude.{Option, None, Some, MatchOption, position, nat_lt, ◌==◌, ◌&&◌}
+use Rattle.std.proofs.lemmas.Bool.Decides.{nat_tests}
 use Rattle.std.specs.FinMap as map
 use Rattle.std.specs.Io.KnownBytes.{Consumes, Appends, IsAtEnd, Keeps}
 use Rattle.std.proofs.KnownBytes.{Appends-nil, Appends-trans, Consumes-trans}
@@ -16,9 +17,36 @@ use Rattle.shell_top.specs.Idle.{idle}
 use Rattle.shell_top.specs.Parsed.{parsed as parsed_line}
 use Rattle.shell_top.specs.Reader.{Reads, IsPartial, is_newline}
 use Rattle.shell_top.specs.Script.{Put, Script, nothing_more, ends_with, follow, is_too_long, whole_line, last_part, script_from}
-use Rattle.shell_top.specs.Session.{AppendsPart, Ends, Prints, IsSession, IsUnderWay, AreLinesDone, after}
+use Rattle.shell_top.specs.Session.{AppendsPart, Ends, Prints, IsSession, IsUnderWay, AreLinesDone, IsCutShort, PrintsPut, after}
 use Rattle.shell_top.specs.Text.{answers}
 use Rattle.shell_top.proofs.ScriptLemmas.{script-part, script-line, script-held, found_within, whole_line-long, whole_line-short, too_long_line, too_long_bytes, short_line, last_part-long, last_part-partial, last_part-whole, after-append, answers-append}
+
+-- something is held, and nothing
+pub some_held : (held bytes : List ℕ) (empty : Bool) → bytes ≡ held → empty ≡ (length bytes == 0) → empty ≡ false → 0 < length held
+some_held held bytes empty same is some =
+    let tested : (length held == 0) ≡ false = ap (λ xs. length xs == 0) (sym same) ∙ sym is ∙ some in
+    grind (arith, nat_tests, tested)
+
+-- what the test for the last line says
+pub past_end : (line : ℕ) (held : List ℕ) (past : Bool) → past ≡ (nat_lt 65536 line && nat_lt 0 (length held)) → past ≡ true → (65536 < line) × (0 < length held)
+past_end line held past is holds = both (nat_lt 65536 line) (nat_lt 0 (length held)) refl refl (sym is ∙ holds)
+  where
+    both : (a b : Bool) → nat_lt 65536 line ≡ a → nat_lt 0 (length held) ≡ b → (a && b) ≡ true → (65536 < line) × (0 < length held)
+    both true true p q e = (grind (arith, nat_tests, p), grind (arith, nat_tests, q))
+    both true false p q e = cc
+    both false b p q e = cc
+
+pub not_past_end : (line : ℕ) (held : List ℕ) (past : Bool) → past ≡ (nat_lt 65536 line && nat_lt 0 (length held)) → past ≡ false → 0 < length held → line ≤ 65536
+not_past_end line held past is fails some = either (nat_lt 65536 line) (nat_lt 0 (length held)) refl refl (sym is ∙ fails)
+  where
+    either : (a b : Bool) → nat_lt 65536 line ≡ a → nat_lt 0 (length held) ≡ b → (a && b) ≡ false → line ≤ 65536
+    either true true p q e = cc
+    either true false p q e = absurd (grind (arith, nat_tests, q))
+    either false b p q e = grind (arith, nat_tests, p)
+
+none_held : (held : List ℕ) → length held ≡ 0 → held ≡ []
+none_held [] none = refl
+none_held (byte ∷ held) none = absurd (omega arith)
 
 module _ (left written : Option (List ℕ)) where
   -- more was read
@@ -268,3 +296,81 @@ module _ (left written : Option (List ℕ)) where
             held_short = omega (arith, u.held_short, length-drop (at + 1) held);
             consumed_short = omega (arith, u.consumed_short, length-append u.consumed (take (at + 1) held), front_length);
           }
+
+      -- the line is a put: it was answered, or its answer was cut short
+      cut_line : (written_then : Option (List ℕ)) (put : Put) (rest : Script) → script_from false line held ≡ after (put ∷ []) rest
+          → (e : Ending) → IsCutShort e written_now written_then (answers (put ∷ [])) → AreLinesDone left left_now written written_then e
+      cut_line written_then put rest asked ending.WriteFault cut = ends_unwritten written_then put false rest asked (λ is. cc) cut
+      cut_line written_then put rest asked ending.NoMemory cut = ends_forgotten written_then put false rest asked (λ is. cc) cut
+      cut_line written_then put rest asked _ cut = absurd cut
+
+      pub line_put : (written_then : Option (List ℕ)) (t : State) (key value : List ℕ) (result : Option Ending) → parsed_line (take at held) ≡ parsed.Put key value
+          → PrintsPut (record { key = key; value = value }) s t result written_now written_then
+          → MatchOption result (IsUnderWay left left_now written written_then (line + 1) (drop (at + 1) held) t) (AreLinesDone left left_now written written_then)
+      line_put written_then t key value None e p =
+          let few : length u.puts + 1 ≤ 65537 = omega (arith, u.few) in
+          goes_on_put written_then t key value e (p.state (length u.puts + 1) u.rows u.idle_now few) (p.printed (length u.puts + 1) u.rows u.idle_now few)
+      line_put written_then t key value (Some ending) e p =
+          let few : length u.puts + 1 ≤ 65537 = omega (arith, u.few) in
+          cut_line written_then (record { key = key; value = value }) _ (first_asked false (parsed.Put key value) e) ending
+          (p.printed (length u.puts + 1) u.rows u.idle_now few)
+
+      -- the line is refused
+      pub line_fault : (fault : LineFault) → parsed_line (take at held) ≡ parsed.Fault fault → AreLinesDone left left_now written written_now (ending.Refused line fault)
+      line_fault fault e = ends_refused fault false (λ is. cc) (first_asked false (parsed.Fault fault) e)
+
+    -- a whole line is too long
+    pub line_too_long : (at : ℕ) → position is_newline held ≡ Some at → 512 < at → AreLinesDone left left_now written written_now (ending.TooLong line)
+    line_too_long at found long =
+        let size : length (take at held) ≡ at = length-take-le at held (let within = found_within held at found in omega arith) in
+        ends_too_long (script-held false line held at found ∙ whole_line-long line (take at held) _ (too_long_bytes line (take at held) (omega (arith, size))))
+
+    -- what is held can't be a line any more
+    pub part_too_long : position is_newline held ≡ None → 512 < length held → AreLinesDone left left_now written written_now (ending.TooLong line)
+    part_too_long none long =
+        let some : 0 < length held = omega arith in
+        ends_too_long (script-part false line held none ∙ last_part-long false line held some (too_long_bytes line held long))
+
+    -- there is a line after the last that may be
+    past_by : (found : Option ℕ) → position is_newline held ≡ found → 65536 < line → 0 < length held → AreLinesDone left left_now written written_now (ending.TooLong line)
+    past_by None e past some = ends_too_long (script-part false line held e ∙ last_part-long false line held some (too_long_line line held past))
+    past_by (Some at) e past some = ends_too_long (script-held false line held at e ∙ whole_line-long line (take at held) _ (too_long_line line (take at held) past))
+
+    pub line_past : 65536 < line → 0 < length held → AreLinesDone left left_now written written_now (ending.TooLong line)
+    line_past past some = past_by (position is_newline held) refl past some
+
+    -- the source failed
+    pub part_unread : IsPartial held → (0 < length held → line ≤ 65536) → AreLinesDone left left_now written written_now ending.ReadFault
+    part_unread partial low = ends_unread (script-part false line held partial.no_newline ∙ last_part-partial line held (λ some. short_line line held (low some) partial.short))
+
+    -- the last line
+    module _ (partial : IsPartial held) (low : 0 < length held → line ≤ 65536) (at_end : IsAtEnd left_now) where
+      pub last_none : length held ≡ 0 → AreLinesDone left left_now written written_now ending.Finished
+      last_none none = ends_finished at_end (script-part true line held partial.no_newline ∙ ap (last_part true line) (none_held held none))
+
+      last_asked : (is : Parsed) → 0 < length held → parsed_line held ≡ is → script_from true line held ≡ follow line is nothing_more
+      last_asked is some e =
+          script-part true line held partial.no_newline ∙ last_part-whole line held some (short_line line held (low some) partial.short)
+          ∙ ap (λ p. follow line p nothing_more) e
+
+      pub last_nothing : 0 < length held → parsed_line held ≡ parsed.Nothing → AreLinesDone left left_now written written_now ending.Finished
+      last_nothing some e = ends_finished at_end (last_asked parsed.Nothing some e)
+
+      pub last_fault : (fault : LineFault) → 0 < length held → parsed_line held ≡ parsed.Fault fault → AreLinesDone left left_now written written_now (ending.Refused line fault)
+      last_fault fault some e = ends_refused fault true (λ is. at_end) (last_asked (parsed.Fault fault) some e)
+
+      cut_last : (written_then : Option (List ℕ)) (put : Put) → script_from true line held ≡ after (put ∷ []) nothing_more
+          → (e : Ending) → IsCutShort e written_now written_then (answers (put ∷ [])) → AreLinesDone left left_now written written_then e
+      cut_last written_then put asked ending.WriteFault cut = ends_unwritten written_then put true nothing_more asked (λ is. at_end) cut
+      cut_last written_then put asked ending.NoMemory cut = ends_forgotten written_then put true nothing_more asked (λ is. at_end) cut
+      cut_last written_then put asked _ cut = absurd cut
+
+      pub last_put : (written_then : Option (List ℕ)) (t : State) (key value : List ℕ) (result : Option Ending) → 0 < length held → parsed_line held ≡ parsed.Put key value
+          → PrintsPut (record { key = key; value = value }) s t result written_now written_then
+          → MatchOption result (AreLinesDone left left_now written written_then ending.Finished) (AreLinesDone left left_now written written_then)
+      last_put written_then t key value None some e p =
+          let few : length u.puts + 1 ≤ 65537 = omega (arith, u.few, u.line_low) in
+          ends_answered written_then (record { key = key; value = value }) (last_asked (parsed.Put key value) some e) at_end (p.printed (length u.puts + 1) u.rows u.idle_now few)
+      last_put written_then t key value (Some ending) some e p =
+          let few : length u.puts + 1 ≤ 65537 = omega (arith, u.few, u.line_low) in
+          cut_last written_then (record { key = key; value = value }) (last_asked (parsed.Put key value) some e) ending (p.printed (length u.puts + 1) u.rows u.idle_now few)

@@ -8,18 +8,26 @@ use Rattle.shell_top.specs.declared.ended.Ending.TheVariants.{Finished, Words, R
 use Rattle.shell_top.specs.Cluster.{State}
 use Rattle.shell_top.specs.Idle.{idle}
 use Rattle.shell_top.specs.Script.{Put, Script, script_from}
-use Rattle.shell_top.specs.Text.{answers, fault_line}
+use Rattle.shell_top.specs.Text.{answers, fault_line, status_of}
 
 -- the known bytes grow by a first part of a text
 pub record AppendsPart (written written_now : Option (List ℕ)) (text : List ℕ) : Type 0 where
   pub count : ℕ
   pub appended : Appends written written_now (take count text)
 
+-- the endings by which printing is cut short
+abbrev pub is_cut_short : Ending → Bool
+is_cut_short WriteFault = true
+is_cut_short NoMemory = true
+is_cut_short ending = false
+
 -- printing was cut short, and a first part of a text was printed
+abbrev pub cut_short_if : Bool → Option (List ℕ) → Option (List ℕ) → List ℕ → Type 0
+cut_short_if true written written_now text = AppendsPart written written_now text
+cut_short_if false written written_now text = ⊥
+
 abbrev pub IsCutShort : Ending → Option (List ℕ) → Option (List ℕ) → List ℕ → Type 0
-IsCutShort WriteFault written written_now text = AppendsPart written written_now text
-IsCutShort NoMemory written written_now text = AppendsPart written written_now text
-IsCutShort ending written written_now text = ⊥
+IsCutShort ending written written_now text = cut_short_if (is_cut_short ending) written written_now text
 
 -- an idle cluster serves a put: it is idle again, with the row, and the text is the answers
 pub record ServesPut (put : Put) (s t : State) (text : List ℕ) : Type 0 where
@@ -43,10 +51,12 @@ Ends NoMemory ended script = Unit {0}
 Ends (TooLong line) ended script = script.fault ≡ Some (TooLong line)
 
 -- what is printed of a text: a first part where printing was cut short, and else all, and then the session ended as it was meant to
+abbrev pub prints_if : Bool → Ending → Ending → Option (List ℕ) → Option (List ℕ) → List ℕ → Type 0
+prints_if true ending meant written written_now text = AppendsPart written written_now text
+prints_if false ending meant written written_now text = (meant ≡ ending) × Appends written written_now text
+
 abbrev pub Prints : Ending → Ending → Option (List ℕ) → Option (List ℕ) → List ℕ → Type 0
-Prints WriteFault meant written written_now text = AppendsPart written written_now text
-Prints NoMemory meant written written_now text = AppendsPart written written_now text
-Prints ending meant written written_now text = (meant ≡ ending) × Appends written written_now text
+Prints ending meant written written_now text = prints_if (is_cut_short ending) ending meant written written_now text
 
 -- The session read `input`, and up to its end where `ended`. It printed the answers to the commands of its lines, up to
 -- the first fault, and then the line of the fault by which it was meant to end.
@@ -61,6 +71,12 @@ pub record IsSession (words : ℕ) (left left_now written written_now : Option (
   pub words_first : 0 < words → (meant ≡ Words) × (input ≡ [])
   pub words_refused : meant ≡ Words → 0 < words
   pub bounded : length input ≤ 513 * 65536 + 1024
+
+-- a session, and the status that tells how it ended
+pub record HasSession (words : ℕ) (left left_now written written_now : Option (List ℕ)) (status : ℕ) : Type 0 where
+  pub ending : Ending
+  pub session : IsSession words left left_now written written_now ending
+  pub told : status ≡ status_of ending
 
 -- commands in front of a script
 abbrev pub after : List Put → Script → Script

@@ -4,7 +4,12 @@
 mod ended;
 mod parts;
 mod reader;
+mod run;
 mod script;
+mod serve;
 mod session;
 mod text;
 mod writer;
+
+pub use ended::Ended;
+pub use run::run_shell;

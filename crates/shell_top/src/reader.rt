@@ -81,6 +81,7 @@ impl Reader {
         ensures filled { IsFilled result (S.left source.new) self.new }
         ensures cause { result ≡ filled.Failed → Rose (S.faults source.old) (S.faults source.new) }
         ensures steady { S.faults source.old ≤ S.faults source.new }
+        ensures most { length self.old ≤ 1024 → length self.new ≤ 1024 }
     {
         'reading: loop {
             if let Some(at) = first_newline(&self.held) {

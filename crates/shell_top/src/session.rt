@@ -1,73 +1,156 @@
 //! A session: line after line is read, served and answered.
-ghost use Rattle.std.specs.Prelude.{◌≡◌, ◌≤◌, Some, IfOk, OnOk};
+ghost use Rattle.std.specs.Prelude.{◌≡◌, ◌≤◌, ◌<◌, ◌+◌, ℕ, List, Option, [], None, Some, IfOk, IfNone, MatchOption, length, position, nat_lt, ◌&&◌};
+ghost use Rattle.std.specs.FinMap as map;
+ghost use Rattle.std.specs.Io.KnownBytes.{IsAtEnd};
 ghost use Rattle.host_io.specs.Fault.{Rose};
 ghost use Rattle.shell_top.specs.declared.ended.Ending.TheVariants as ending;
 ghost use Rattle.shell_top.specs.ClusterState.{state_of};
-ghost use Rattle.shell_top.specs.Idle.{told};
-ghost use Rattle.shell_top.specs.Session.{ServesPut, PrintsPut};
-ghost use Rattle.shell_top.specs.Text.{reply_lines};
+ghost use Rattle.shell_top.specs.Idle.{idle};
+ghost use Rattle.shell_top.specs.Reader.{IsPartial, is_newline};
+ghost use Rattle.shell_top.specs.Session.{IsUnderWay, AreLinesDone};
 
 use crate::ended::Ending;
 use crate::parts::cluster::Cluster;
-use crate::text::put_reply;
-use crate::writer::write_all;
-use host_io::Sink;
-use sig_core::{Key, NoMemory, Op, Value};
+use crate::reader::{Filled, LINE_BYTES, Reader};
+use crate::script::{Parsed, parse};
+use crate::serve::put;
+use host_io::{Sink, Source};
+use sig_core::NoMemory;
 use std::alloc::Global;
 
-/// The lines of all replies of the cluster.
-///
-/// # Errors
-/// `NoMemory`, and then the cluster is of no use.
-fn take_replies(alloc: Global, cluster: &mut Cluster) -> Result<Vec<u8>, NoMemory>
-    ensures state { OnOk result (state_of cluster.new ≡ told (state_of cluster.old)) }
-    ensures text { IfOk result (λ text. text.items ≡ reply_lines cluster.old.blocks.api.replies) }
-{
-    let mut text = Vec::new(alloc);
-    while let Some(reply) = cluster.blocks.api.next_reply() {
-        put_reply(alloc, &reply, &mut text)?;
+/// The most lines that a script has.
+const LINES: u32 = 65_536;
+
+/// What a session works with.
+#[derive(Drop)]
+pub struct Session {
+    reader: Reader,
+    cluster: Cluster,
+    /// The number of the next line, from 1.
+    line: u32,
+}
+
+impl Session {
+    /// Before the first line, over a fresh cluster.
+    ///
+    /// # Errors
+    /// `NoMemory`.
+    pub fn new(alloc: Global) -> Result<Session, NoMemory>
+        ensures reader { IfOk result (λ s. s.reader ≡ []) }
+        ensures cluster { IfOk result (λ s. state_of s.cluster ≡ idle 1 map.empty []) }
+        ensures line { IfOk result (λ s. s.line ≡ 1) }
+    {
+        let reader = Reader::new(alloc)?;
+        let cluster = Cluster::new(alloc)?;
+        Ok(Session {
+            reader,
+            cluster,
+            line: 1,
+        })
     }
-    Ok(text)
-}
 
-/// Has the cluster serve a put, and gives the text of its answers.
-///
-/// # Errors
-/// `NoMemory`, and then the cluster is of no use.
-#[tactic(auto, using(crate::proofs::PutLemmas::serves))]
-fn serve(
-    alloc: Global,
-    cluster: &mut Cluster,
-    key: &Key,
-    value: &Value,
-) -> Result<Vec<u8>, NoMemory>
-    ensures { IfOk result (λ text. ServesPut (record { key = key.now; value = value.now }) (state_of cluster.old) (state_of cluster.new) text.items) }
-{
-    let op = Op::Put(*key, *value);
-    cluster.ask(&op)?;
-    cluster.drive(alloc)?;
-    take_replies(alloc, cluster)
-}
+    /// Reads, serves and answers line after line, and says why that ends.
+    pub fn run<S: Source, K: Sink>(&mut self, alloc: Global, source: &mut S, sink: &mut K) -> Ending
+        ensures done { (left written : Option (List ℕ)) → IsUnderWay left (S.left source.old) written (K.written sink.old) self.old.line self.old.reader (state_of self.old.cluster) → AreLinesDone left (S.left source.new) written (K.written sink.new) result }
+        ensures read_cause { result ≡ ending.ReadFault → Rose (S.faults source.old) (S.faults source.new) }
+        ensures write_cause { result ≡ ending.WriteFault → Rose (K.faults sink.old) (K.faults sink.new) }
+        ensures read_steady { S.faults source.old ≤ S.faults source.new }
+        ensures write_steady { K.faults sink.old ≤ K.faults sink.new }
+    {
+        'lines: loop {
+            if let Some(ending) = self.next_line(alloc, source, sink) {
+                return ending;
+            }
+        }
+    }
 
-/// Has the cluster serve a put, and prints its answers. Says why the session ends, if it does.
-#[tactic(auto, using(crate::proofs::PutLemmas::prints))]
-fn put<K: Sink>(
-    alloc: Global,
-    cluster: &mut Cluster,
-    sink: &mut K,
-    key: &Key,
-    value: &Value,
-) -> Option<Ending>
-    ensures put { PrintsPut (record { key = key.now; value = value.now }) (state_of cluster.old) (state_of cluster.new) result (K.written sink.old) (K.written sink.new) }
-    ensures cause { result ≡ Some ending.WriteFault → Rose (K.faults sink.old) (K.faults sink.new) }
-    ensures steady { K.faults sink.old ≤ K.faults sink.new }
-{
-    let text = match serve(alloc, cluster, key, value) {
-        Ok(text) => text,
-        Err(NoMemory) => return Some(Ending::NoMemory),
-    };
-    match write_all(sink, &text) {
-        Ok(()) => None,
-        Err(_) => Some(Ending::WriteFault),
+    /// Reads, serves and answers the next line. Says why the session ends, if it does.
+    fn next_line<S: Source, K: Sink>(
+        &mut self,
+        alloc: Global,
+        source: &mut S,
+        sink: &mut K,
+    ) -> Option<Ending>
+        ensures done { (left written : Option (List ℕ)) → IsUnderWay left (S.left source.old) written (K.written sink.old) self.old.line self.old.reader (state_of self.old.cluster) → MatchOption result (IsUnderWay left (S.left source.new) written (K.written sink.new) self.new.line self.new.reader (state_of self.new.cluster)) (AreLinesDone left (S.left source.new) written (K.written sink.new)) }
+        ensures next { IfNone result ((self.new.line ≡ self.old.line + 1) × (self.old.line ≤ 65536)) }
+        ensures read_cause { result ≡ Some ending.ReadFault → Rose (S.faults source.old) (S.faults source.new) }
+        ensures write_cause { result ≡ Some ending.WriteFault → Rose (K.faults sink.old) (K.faults sink.new) }
+        ensures read_steady { S.faults source.old ≤ S.faults source.new }
+        ensures write_steady { K.faults sink.old ≤ K.faults sink.new }
+    {
+        let filled = self.reader.fill(source);
+        let line = self.line;
+        if self.is_past_end() {
+            return Some(Ending::TooLong { line });
+        }
+        match filled {
+            Filled::Line(at) => self.whole_line(alloc, sink, at),
+            Filled::Ended => Some(self.last_line(alloc, sink)),
+            Filled::Overlong => Some(Ending::TooLong { line }),
+            Filled::Failed => Some(Ending::ReadFault),
+            Filled::NoMemory => Some(Ending::NoMemory),
+        }
+    }
+
+    /// Whether what is held belongs to a line past the last that a script may have.
+    fn is_past_end(&self) -> bool
+        ensures { result ≡ (nat_lt 65536 self.now.line && nat_lt 0 (length self.now.reader)) }
+    {
+        self.line > LINES && !self.reader.held().is_empty()
+    }
+
+    /// Serves and answers the line whose newline stands at a place of what is held.
+    fn whole_line<K: Sink>(&mut self, alloc: Global, sink: &mut K, at: usize) -> Option<Ending>
+        requires found { position is_newline self.old.reader ≡ Some at }
+        requires low { self.old.line ≤ 65536 }
+        ensures done { (left left_now written : Option (List ℕ)) → IsUnderWay left left_now written (K.written sink.old) self.old.line self.old.reader (state_of self.old.cluster) → MatchOption result (IsUnderWay left left_now written (K.written sink.new) self.new.line self.new.reader (state_of self.new.cluster)) (AreLinesDone left left_now written (K.written sink.new)) }
+        ensures next { IfNone result (self.new.line ≡ self.old.line + 1) }
+        ensures unread { result ≡ Some ending.ReadFault → ⊥ }
+        ensures write_cause { result ≡ Some ending.WriteFault → Rose (K.faults sink.old) (K.faults sink.new) }
+        ensures write_steady { K.faults sink.old ≤ K.faults sink.new }
+    {
+        let line = self.line;
+        if at > LINE_BYTES {
+            return Some(Ending::TooLong { line });
+        }
+        let parsed = parse(&self.reader.held()[..at]);
+        self.reader.drop_front(at + 1);
+        self.line = line + 1;
+        match &parsed {
+            Parsed::Nothing => None,
+            Parsed::Put(key, value) => put(alloc, &mut self.cluster, sink, key, value),
+            Parsed::Fault(fault) => Some(Ending::Refused {
+                line,
+                fault: *fault,
+            }),
+        }
+    }
+
+    /// Serves and answers what stands behind the last newline, at the end of the source.
+    fn last_line<K: Sink>(&mut self, alloc: Global, sink: &mut K) -> Ending
+        requires partial { IsPartial self.old.reader }
+        requires low { 0 < length self.old.reader → self.old.line ≤ 65536 }
+        ensures done { (left left_now written : Option (List ℕ)) → IsUnderWay left left_now written (K.written sink.old) self.old.line self.old.reader (state_of self.old.cluster) → IsAtEnd left_now → AreLinesDone left left_now written (K.written sink.new) result }
+        ensures unread { result ≡ ending.ReadFault → ⊥ }
+        ensures write_cause { result ≡ ending.WriteFault → Rose (K.faults sink.old) (K.faults sink.new) }
+        ensures write_steady { K.faults sink.old ≤ K.faults sink.new }
+    {
+        let line = self.line;
+        let held = self.reader.held();
+        if held.is_empty() {
+            return Ending::Finished;
+        }
+        let parsed = parse(held);
+        match &parsed {
+            Parsed::Nothing => Ending::Finished,
+            Parsed::Put(key, value) => match put(alloc, &mut self.cluster, sink, key, value) {
+                None => Ending::Finished,
+                Some(ending) => ending,
+            },
+            Parsed::Fault(fault) => Ending::Refused {
+                line,
+                fault: *fault,
+            },
+        }
     }
 }

@@ -1,5 +1,7 @@
 //! The cluster, driven by one thread.
-ghost use Rattle.std.specs.Prelude.{◌≡◌, None, Some, IfOk, OnOk, MatchBool};
+ghost use Rattle.std.specs.Prelude.{◌≡◌, [], None, Some, IfOk, OnOk, MatchBool};
+ghost use Rattle.std.specs.FinMap as map;
+ghost use Rattle.shell_top.specs.Idle.{idle};
 ghost use Rattle.shell_top.specs.Network.{put_all};
 
 use crate::parts::blocks::Blocks;
@@ -21,6 +23,23 @@ pub struct Cluster {
 impl Cluster {
     ghost use Rattle.shell_top.specs.ClusterState.{state_of};
     ghost use Rattle.shell_top.specs.Cluster.{asked, next, IsQuiet, Reaches};
+
+    /// A fresh cluster.
+    ///
+    /// # Errors
+    /// `NoMemory`.
+    pub fn new(alloc: Global) -> Result<Cluster, NoMemory>
+        ensures { IfOk result (λ c. state_of c ≡ idle 1 map.empty []) }
+    {
+        let network = Network::new(alloc)?;
+        let outs = Outs::new(alloc)?;
+        Ok(Cluster {
+            blocks: Blocks::new(alloc),
+            network,
+            outs,
+            stamps: [0; 3],
+        })
+    }
 
     /// Asks the API for an operation, as a transaction of its own.
     ///

@@ -6,6 +6,7 @@ abbrev pub invariant-reading : goal.invariant-reading
 invariant-reading g l = record {
   reads : Reads (g.S.Source.left l.initial.source) (g.S.Source.left l.source) l.initial.self-inside.held.items l.self-inside.held.items;
   room : length l.self-inside.chunk.items ≡ 512;
+  most : length l.initial.self-inside.held.items ≤ 1024 → length l.self-inside.held.items ≤ 1024;
   steady : g.S.Source.faults l.initial.source ≤ g.S.Source.faults l.source;
 }
 

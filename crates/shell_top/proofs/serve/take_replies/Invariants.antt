@@ -2,7 +2,7 @@ use Rattle.std.proofs.Common.{◌≡◌, ◌++◌, length}
 use Rattle.shell_top.specs.ClusterState.{state_of}
 use Rattle.shell_top.specs.Idle.{told}
 use Rattle.shell_top.specs.Text.{reply_lines}
-use Rattle.shell_top.proofs.session.take_replies.Given as goal
+use Rattle.shell_top.proofs.serve.take_replies.Given as goal
 
 -- the text so far and the lines of the replies that are left are the lines of all
 abbrev pub invariant-loop-reply : goal.invariant-loop-reply
