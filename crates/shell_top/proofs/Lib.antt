@@ -1,3 +1,4 @@
+pub mod EndLemmas
 pub mod LinkWeight
 pub mod PutLemmas
 pub mod PutServed
