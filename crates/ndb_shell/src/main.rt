@@ -36,6 +36,14 @@ fn main(rt: HostRuntime) -> ExitCode {
     let mut source = StdSource::new(rt.stdin());
     let mut sink = StdSink::new(rt.stdout());
     let disks = Vec::new(rt.alloc());
-    let ended = run_shell(&rt, rt.alloc(), &words, &mut source, &mut sink, disks, &NoGate);
+    let ended = run_shell(
+        &rt,
+        rt.alloc(),
+        &words,
+        &mut source,
+        &mut sink,
+        disks,
+        &NoGate,
+    );
     ExitCode::from(ended.status)
 }

@@ -19,7 +19,7 @@ part_behind : (written mid now : Option (List ℕ)) (text more : List ℕ) → A
 part_behind written mid now text more all part =
     let front = text ++ take part.count more in
     let cut : text ++ more ≡ front ++ drop part.count more =
-        ap (λ xs. text ++ xs) (sym (take-append-drop part.count more)) ∙ sym (append_assoc text (take part.count more) (drop part.count more)) in
+    ap (λ xs. text ++ xs) (sym (take-append-drop part.count more)) ∙ sym (append_assoc text (take part.count more) (drop part.count more)) in
     record {
       count = length front;
       appended = subst (Appends written now) (sym (ap (take (length front)) cut ∙ take_at front (drop part.count more) (length front) refl))
@@ -31,8 +31,8 @@ part_before : (written mid now : Option (List ℕ)) (text : List ℕ) → Append
 part_before written mid now text part none =
     let nothing : take none.count [] ≡ [] = take_none none.count in
     let front : Appends written now (take part.count text) =
-        subst (Appends written now) (append-nil (take part.count text))
-        (Appends-trans written mid now (take part.count text) [] part.appended (subst (Appends mid now) nothing none.appended)) in
+    subst (Appends written now) (append-nil (take part.count text))
+    (Appends-trans written mid now (take part.count text) [] part.appended (subst (Appends mid now) nothing none.appended)) in
     record { count = part.count; appended = subst (λ xs. Appends written now (take part.count xs)) (sym (append-nil text)) front }
   where
     take_none : (n : ℕ) → take {A = ℕ} n [] ≡ []

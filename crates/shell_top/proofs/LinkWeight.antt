@@ -28,7 +28,7 @@ push_weight (link ∷ links) (suc at) flight = omega (arith, push_weight links a
 
 put_if_weight : (links : Links) (flight : Flight) (b : Bool)
     → links_weight (if b then slice_set links (link_at flight) (slice_index_or links (link_at flight) [] ++ flight ∷ []) else links)
-        ≤ links_weight links + weight flight.body
+    ≤ links_weight links + weight flight.body
 put_if_weight links flight true = push_weight links (link_at flight) flight
 put_if_weight links flight false = omega arith
 
@@ -65,7 +65,7 @@ next_by_lighter s t (Some taken) is e =
     let weighs = taken_at_weighs s.links (position (λ link. nat_lt 0 (length link)) s.links) taken is in
     let lighter = blocks_lighter s.blocks taken.flight.to taken.flight.body in
     let less : links_weight (moved taken (blocks_row s.blocks taken.flight.to taken.flight.body)).links + 1 ≤ links_weight s.links =
-        omega (arith, weighs.together, lighter, put_all_weight taken.left taken.flight.to.node (blocks_row s.blocks taken.flight.to taken.flight.body).effects.sends) in
+    omega (arith, weighs.together, lighter, put_all_weight taken.left taken.flight.to.node (blocks_row s.blocks taken.flight.to taken.flight.body).effects.sends) in
     subst (λ (u : State). links_weight u.links + 1 ≤ links_weight s.links) same less
 
 -- what is under way after a step weighs less than what was before it

@@ -103,102 +103,102 @@ module _ (seq : ℕ) (rows : Rows) (key value : List ℕ) where
   -- the API asks for a transaction
   abbrev begin_asked : State
   begin_asked = scene (serving.Beginning op) [] fresh None before before
-    (with_flight 0 3 coordinator (Client (TcBeginReq None)) no_flights)
+      (with_flight 0 3 coordinator (Client (TcBeginReq None)) no_flights)
 
   -- it has begun
   abbrev begun : State
   begun = scene (serving.Beginning op) [] (at phase.Begun) None before before
-    (with_flight 1 1 client (Client (TcBeginConf None tx)) no_flights)
+      (with_flight 1 1 client (Client (TcBeginConf None tx)) no_flights)
 
   -- the API sends the write
   abbrev write_asked : State
   write_asked = scene (serving.Operating tx) [] (at phase.Begun) None before before
-    (with_flight 0 3 coordinator (Client (TcKeyReq tx op)) no_flights)
+      (with_flight 0 3 coordinator (Client (TcKeyReq tx op)) no_flights)
 
   -- the coordinator sends it to the primary
   abbrev write_sent : State
   write_sent = scene (serving.Operating tx) [] (at (phase.Operating op)) None before before
-    (with_flight 1 4 (rows_of 1) (Chain (LqhKeyReq tx (Operate op) replicas 0)) no_flights)
+      (with_flight 1 4 (rows_of 1) (Chain (LqhKeyReq tx (Operate op) replicas 0)) no_flights)
 
   -- the primary has prepared it
   abbrev first_prepared : State
   first_prepared = scene (serving.Operating tx) [] (at (phase.Operating op)) None prepared before
-    (with_flight 1 7 (rows_of 2) (Chain (LqhKeyReq tx (Store key (Some value)) replicas 1)) no_flights)
+      (with_flight 1 7 (rows_of 2) (Chain (LqhKeyReq tx (Store key (Some value)) replicas 1)) no_flights)
 
   -- so has the backup
   abbrev both_prepared : State
   both_prepared = scene (serving.Operating tx) [] (at (phase.Operating op)) None prepared prepared
-    (with_flight 2 5 (coordinator_of tx) (Chain (LqhKeyConf tx key Done)) no_flights)
+      (with_flight 2 5 (coordinator_of tx) (Chain (LqhKeyConf tx key Done)) no_flights)
 
   -- the coordinator has the answer
   abbrev answered : State
   answered = scene (serving.Operating tx) [] (at (phase.Answered op Done)) None prepared prepared
-    (with_flight 1 1 client (Client (TcKeyConf tx Done)) no_flights)
+      (with_flight 1 1 client (Client (TcKeyConf tx Done)) no_flights)
 
   -- the API asks for the commit
   abbrev commit_asked : State
   commit_asked = scene (serving.Committing tx) done (at (phase.Answered op Done)) None prepared prepared
-    (with_flight 0 3 coordinator (Client (TcCommitReq tx)) no_flights)
+      (with_flight 0 3 coordinator (Client (TcCommitReq tx)) no_flights)
 
   -- the coordinator asks for an epoch
   abbrev epoch_asked : State
   epoch_asked = scene (serving.Committing tx) done (at (phase.Deciding op)) None prepared prepared
-    (with_flight 1 4 epochs (Epoch (DiVerifyReq tx ((op, Done) ∷ []))) no_flights)
+      (with_flight 1 4 epochs (Epoch (DiVerifyReq tx ((op, Done) ∷ []))) no_flights)
 
   -- it is given one
   abbrev epoch_given : State
   epoch_given = scene (serving.Committing tx) done (at (phase.Deciding op)) (Some tx) prepared prepared
-    (with_flight 1 4 coordinator (Epoch (DiVerifyConf tx 1)) no_flights)
+      (with_flight 1 4 coordinator (Epoch (DiVerifyConf tx 1)) no_flights)
 
   -- the commit goes to the backup
   abbrev commit_sent : State
   commit_sent = scene (serving.Committing tx) done (at (phase.Committing op 1)) (Some tx) prepared prepared
-    (with_flight 1 7 (rows_of 2) (Chain (Commit tx key 1 replicas 1)) no_flights)
+      (with_flight 1 7 (rows_of 2) (Chain (Commit tx key 1 replicas 1)) no_flights)
 
   -- the backup has committed
   abbrev second_committed : State
   second_committed = scene (serving.Committing tx) done (at (phase.Committing op 1)) (Some tx) prepared committed
-    (with_flight 2 5 (rows_of 1) (Chain (Commit tx key 1 replicas 0)) no_flights)
+      (with_flight 2 5 (rows_of 1) (Chain (Commit tx key 1 replicas 0)) no_flights)
 
   -- so has the primary
   abbrev both_committed : State
   both_committed = scene (serving.Committing tx) done (at (phase.Committing op 1)) (Some tx) committed committed
-    (with_flight 1 4 (coordinator_of tx) (Chain (Committed tx key)) no_flights)
+      (with_flight 1 4 (coordinator_of tx) (Chain (Committed tx key)) no_flights)
 
   -- the coordinator answers, and completes
   abbrev commit_answered : State
   commit_answered = scene (serving.Committing tx) done (at (phase.Completing op)) (Some tx) committed committed
-    (with_flight 1 7 (rows_of 2) (Chain (Complete tx key replicas 1)) (with_flight 1 1 client (Client (TcCommitConf tx 1)) no_flights))
+      (with_flight 1 7 (rows_of 2) (Chain (Complete tx key replicas 1)) (with_flight 1 1 client (Client (TcCommitConf tx 1)) no_flights))
 
   -- the API has reported it
   abbrev reported : State
   reported = scene serving.Idle all (at (phase.Completing op)) (Some tx) committed committed
-    (with_flight 1 7 (rows_of 2) (Chain (Complete tx key replicas 1)) (with_flight 0 6 (rows_of 2) (Client (TcCommitAck tx)) (with_flight 0 3 (rows_of 1) (Client (TcCommitAck tx)) no_flights)))
+      (with_flight 1 7 (rows_of 2) (Chain (Complete tx key replicas 1)) (with_flight 0 6 (rows_of 2) (Client (TcCommitAck tx)) (with_flight 0 3 (rows_of 1) (Client (TcCommitAck tx)) no_flights)))
 
   -- the primary knows that
   abbrev first_acknowledged : State
   first_acknowledged = scene serving.Idle all (at (phase.Completing op)) (Some tx) acknowledged committed
-    (with_flight 1 7 (rows_of 2) (Chain (Complete tx key replicas 1)) (with_flight 0 6 (rows_of 2) (Client (TcCommitAck tx)) no_flights))
+      (with_flight 1 7 (rows_of 2) (Chain (Complete tx key replicas 1)) (with_flight 0 6 (rows_of 2) (Client (TcCommitAck tx)) no_flights))
 
   -- so does the backup
   abbrev both_acknowledged : State
   both_acknowledged = scene serving.Idle all (at (phase.Completing op)) (Some tx) acknowledged acknowledged
-    (with_flight 1 7 (rows_of 2) (Chain (Complete tx key replicas 1)) no_flights)
+      (with_flight 1 7 (rows_of 2) (Chain (Complete tx key replicas 1)) no_flights)
 
   -- the backup is complete
   abbrev second_complete : State
   second_complete = scene serving.Idle all (at (phase.Completing op)) (Some tx) acknowledged after
-    (with_flight 2 5 (rows_of 1) (Chain (Complete tx key replicas 0)) no_flights)
+      (with_flight 2 5 (rows_of 1) (Chain (Complete tx key replicas 0)) no_flights)
 
   -- so is the primary
   abbrev both_complete : State
   both_complete = scene serving.Idle all (at (phase.Completing op)) (Some tx) after after
-    (with_flight 1 4 (coordinator_of tx) (Chain (Completed tx key)) no_flights)
+      (with_flight 1 4 (coordinator_of tx) (Chain (Completed tx key)) no_flights)
 
   -- the coordinator forgets the transaction
   abbrev forgotten : State
   forgotten = scene serving.Idle all past (Some tx) after after
-    (with_flight 1 4 epochs (Epoch (DiVerifyEnd tx)) no_flights)
+      (with_flight 1 4 epochs (Epoch (DiVerifyEnd tx)) no_flights)
 
   step-0 : next (asked (idle seq rows []) op) ≡ Some begin_asked
   step-0 = refl
@@ -266,25 +266,25 @@ module _ (seq : ℕ) (rows : Rows) (key value : List ℕ) where
   -- the shell asks for a put, and at quiet both replicas have the row and the shell has its answers
   pub put_served : eqb seq (2 ^ 64 - 1) ≡ false → settled 21 (asked (idle seq rows []) op) ≡ idle (seq + 1) new all
   put_served more =
-    let last : State = idle (seq + 1) new all in
-    then_settled 20 (asked (idle seq rows []) op) begin_asked last step-0 (
-    then_settled 19 begin_asked begun last (step-1 more) (
-    then_settled 18 begun write_asked last step-2 (
-    then_settled 17 write_asked write_sent last step-3 (
-    then_settled 16 write_sent first_prepared last step-4 (
-    then_settled 15 first_prepared both_prepared last step-5 (
-    then_settled 14 both_prepared answered last step-6 (
-    then_settled 13 answered commit_asked last step-7 (
-    then_settled 12 commit_asked epoch_asked last step-8 (
-    then_settled 11 epoch_asked epoch_given last step-9 (
-    then_settled 10 epoch_given commit_sent last step-10 (
-    then_settled 9 commit_sent second_committed last step-11 (
-    then_settled 8 second_committed both_committed last step-12 (
-    then_settled 7 both_committed commit_answered last step-13 (
-    then_settled 6 commit_answered reported last step-14 (
-    then_settled 5 reported first_acknowledged last step-15 (
-    then_settled 4 first_acknowledged both_acknowledged last step-16 (
-    then_settled 3 both_acknowledged second_complete last step-17 (
-    then_settled 2 second_complete both_complete last step-18 (
-    then_settled 1 both_complete forgotten last step-19 (
-    then_settled 0 forgotten (idle (seq + 1) new all) last step-20 refl))))))))))))))))))))
+      let last : State = idle (seq + 1) new all in
+      then_settled 20 (asked (idle seq rows []) op) begin_asked last step-0 (
+      then_settled 19 begin_asked begun last (step-1 more) (
+      then_settled 18 begun write_asked last step-2 (
+      then_settled 17 write_asked write_sent last step-3 (
+      then_settled 16 write_sent first_prepared last step-4 (
+      then_settled 15 first_prepared both_prepared last step-5 (
+      then_settled 14 both_prepared answered last step-6 (
+      then_settled 13 answered commit_asked last step-7 (
+      then_settled 12 commit_asked epoch_asked last step-8 (
+      then_settled 11 epoch_asked epoch_given last step-9 (
+      then_settled 10 epoch_given commit_sent last step-10 (
+      then_settled 9 commit_sent second_committed last step-11 (
+      then_settled 8 second_committed both_committed last step-12 (
+      then_settled 7 both_committed commit_answered last step-13 (
+      then_settled 6 commit_answered reported last step-14 (
+      then_settled 5 reported first_acknowledged last step-15 (
+      then_settled 4 first_acknowledged both_acknowledged last step-16 (
+      then_settled 3 both_acknowledged second_complete last step-17 (
+      then_settled 2 second_complete both_complete last step-18 (
+      then_settled 1 both_complete forgotten last step-19 (
+      then_settled 0 forgotten (idle (seq + 1) new all) last step-20 refl))))))))))))))))))))

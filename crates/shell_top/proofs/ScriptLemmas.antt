@@ -34,8 +34,8 @@ splits_here byte bytes is = record { parts = λ more. slice_split-cons_yes is_ne
 splits_later : (byte : ℕ) (bytes : List ℕ) (at : ℕ) → is_newline byte ≡ false → SplitsAt bytes at → SplitsAt (byte ∷ bytes) (suc at)
 splits_later byte bytes at is later = record {
   parts = λ more.
-    (let shift : suc at + 1 ≡ suc (at + 1) = omega arith in ap (λ n. slice_split is_newline (take n (byte ∷ bytes) ++ more)) shift)
-    ∙ slice_split-cons_no is_newline byte (take (at + 1) bytes ++ more) is ∙ ap (onto_first byte) (later.parts more);
+      (let shift : suc at + 1 ≡ suc (at + 1) = omega arith in ap (λ n. slice_split is_newline (take n (byte ∷ bytes) ++ more)) shift)
+      ∙ slice_split-cons_no is_newline byte (take (at + 1) bytes ++ more) is ∙ ap (onto_first byte) (later.parts more);
 }
 
 splits_by : (byte : ℕ) (bytes : List ℕ) (b : Bool) → is_newline byte ≡ b → position_or_len is_newline (byte ∷ bytes) < length (byte ∷ bytes)

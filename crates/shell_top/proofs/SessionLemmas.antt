@@ -144,8 +144,8 @@ module _ (left written : Option (List ℕ)) where
       count = length (answers u.puts);
       appended = subst (Appends written written_now)
           (sym (ap (λ (x : Script). take (length (answers u.puts)) (answers x.commands)) (u.lines ended held)
-            ∙ ap (take (length (answers u.puts))) (answers-append u.puts (script_from ended line held).commands)
-            ∙ take_at (answers u.puts) (answers (script_from ended line held).commands) (length (answers u.puts)) refl))
+          ∙ ap (take (length (answers u.puts))) (answers-append u.puts (script_from ended line held).commands)
+          ∙ take_at (answers u.puts) (answers (script_from ended line held).commands) (length (answers u.puts)) refl))
           u.printed;
     }
 
@@ -220,9 +220,12 @@ module _ (left written : Option (List ℕ)) where
       consumed = u.read;
       at_end = λ is. at_end;
       ends = (refl, ap (λ (x : Script). x.fault) (all_asked true _ asked));
-      printed = (refl, subst (Appends written written_then)
-          (sym (ap (λ (x : Script). answers x.commands) (all_asked true _ asked) ∙ answers-append u.puts (put ∷ [])))
-          (Appends-trans written written_now written_then (answers u.puts) (answers (put ∷ [])) u.printed more));
+      printed = (
+        refl,
+        subst (Appends written written_then)
+            (sym (ap (λ (x : Script). answers x.commands) (all_asked true _ asked) ∙ answers-append u.puts (put ∷ [])))
+            (Appends-trans written written_now written_then (answers u.puts) (answers (put ∷ [])) u.printed more),
+      );
       no_words = λ is. cc;
       bounded = all_bounded;
     }
@@ -251,8 +254,8 @@ module _ (left written : Option (List ℕ)) where
           ap (script_from ended 1) (append_assoc u.consumed (take (at + 1) held) more)
           ∙ u.lines ended (take (at + 1) held ++ more)
           ∙ ap (after u.puts)
-            (script-line ended line held at more found ∙ whole_line-short line (take at held) _ line_short
-              ∙ ap (λ p. follow line p (script_from ended (line + 1) more)) e ∙ follows (script_from ended (line + 1) more))
+          (script-line ended line held at more found ∙ whole_line-short line (take at held) _ line_short
+          ∙ ap (λ p. follow line p (script_from ended (line + 1) more)) e ∙ follows (script_from ended (line + 1) more))
           ∙ sym (after-append u.puts puts (script_from ended (line + 1) more))
 
       read_rest : Consumes left left_now ((u.consumed ++ take (at + 1) held) ++ drop (at + 1) held)

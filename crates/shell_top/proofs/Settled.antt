@@ -9,8 +9,8 @@ reaches_next from s t reached e =
     record {
       steps = reached.steps + 1;
       same = λ more.
-        let shift : reached.steps + 1 + more ≡ reached.steps + suc more = omega arith in
-        ap (λ n. settled n from) shift ∙ reached.same (suc more) ∙ ap (λ o. settled_by s o (settled more)) e;
+          let shift : reached.steps + 1 + more ≡ reached.steps + suc more = omega arith in
+          ap (λ n. settled n from) shift ∙ reached.same (suc more) ∙ ap (λ o. settled_by s o (settled more)) e;
     }
 
 pub reaches_if_went : (from s t : State) (went : Bool) (Q : Type 0) → went ≡ true → MatchBool went (next s ≡ Some t) Q → Reaches from s → Reaches from t

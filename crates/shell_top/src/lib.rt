@@ -13,3 +13,6 @@ mod writer;
 
 pub use ended::Ended;
 pub use run::run_shell;
+
+#[cfg(test)]
+mod tests;

@@ -117,7 +117,11 @@ fn first_newline(bytes: &[u8]) -> Option<usize>
 }
 
 /// Reads some bytes more and adds them to those that are held. Says whether there were any.
-fn read_more<S: Source>(held: &mut Vec<u8>, chunk: &mut Vec<u8>, source: &mut S) -> Result<bool, Filled>
+fn read_more<S: Source>(
+    held: &mut Vec<u8>,
+    chunk: &mut Vec<u8>,
+    source: &mut S,
+) -> Result<bool, Filled>
     requires { length chunk.old.items ≡ 512 }
     ensures room { length chunk.new.items ≡ 512 }
     ensures reads { Reads (S.left source.old) (S.left source.new) held.old.items held.new.items }

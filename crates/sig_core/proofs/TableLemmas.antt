@@ -26,17 +26,17 @@ pub insert-rows : (m n : BTreeMap (List ℕ) (List ℕ)) (k v : List ℕ) → Up
 insert-rows m n k v updates =
     map.same_map nat_list_cmp_total (map.slice_cmp-IsAntisymmetric map.nat_cmp-IsAntisymmetric) _ _
     (λ q. get-rows n.entries q ∙ updates.0 q
-      ∙ ap (λ b. cond b (Some v) (tree.get (slice_cmp nat_cmp) m q)) (same_either_way k q)
-      ∙ ap (cond (eq_by_cmp (slice_cmp nat_cmp) q k) (Some v)) (sym (get-rows m.entries q))
-      ∙ sym (map.get-insert nat_list_cmp_total (map.from_entries m.entries) k v q))
+    ∙ ap (λ b. cond b (Some v) (tree.get (slice_cmp nat_cmp) m q)) (same_either_way k q)
+    ∙ ap (cond (eq_by_cmp (slice_cmp nat_cmp) q k) (Some v)) (sym (get-rows m.entries q))
+    ∙ sym (map.get-insert nat_list_cmp_total (map.from_entries m.entries) k v q))
 
 pub remove-rows : (m n : BTreeMap (List ℕ) (List ℕ)) (k : List ℕ) → UpdatesBy (slice_cmp nat_cmp) (slice_cmp nat_cmp k) m n None
     → map.from_entries {R = slice_cmp nat_cmp} n.entries ≡ map.remove (map.from_entries m.entries) k
 remove-rows m n k updates =
     map.same_map nat_list_cmp_total (map.slice_cmp-IsAntisymmetric map.nat_cmp-IsAntisymmetric) _ _
     (λ q. get-rows n.entries q ∙ updates.0 q
-      ∙ ap (λ b. cond b None (tree.get (slice_cmp nat_cmp) m q)) (same_either_way k q)
-      ∙ ap (cond (eq_by_cmp (slice_cmp nat_cmp) q k) None) (sym (get-rows m.entries q))
-      ∙ sym (map.get-remove nat_list_cmp_total (map.from_entries m.entries) k q))
+    ∙ ap (λ b. cond b None (tree.get (slice_cmp nat_cmp) m q)) (same_either_way k q)
+    ∙ ap (cond (eq_by_cmp (slice_cmp nat_cmp) q k) None) (sym (get-rows m.entries q))
+    ∙ sym (map.get-remove nat_list_cmp_total (map.from_entries m.entries) k q))
 
 pub ruleset tables = (get-rows, insert-rows, remove-rows)

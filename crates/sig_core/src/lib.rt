@@ -46,3 +46,6 @@ pub use table::Table;
 pub use value::{VALUE_BYTES, Value};
 pub use view::{Shape, View};
 pub use word::WordFault;
+
+#[cfg(test)]
+mod tests;

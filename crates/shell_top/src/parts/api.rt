@@ -140,10 +140,12 @@ impl Actor for Api {
 
     fn handle(&mut self, _alloc: Global, signal: &Signal, out: &mut Outs) -> Result<(), NoMemory> {
         match &signal.body {
-            Body::Host(HostSignal::Continue {
-                work: Work::Request(ApiReq::Operate { name: None, op }),
-                at: _,
-            }) => {
+            Body::Host(
+                HostSignal::Continue {
+                    work: Work::Request(ApiReq::Operate { name: None, op }),
+                    at: _,
+                },
+            ) => {
                 self.begin(op, out);
                 Ok(())
             }

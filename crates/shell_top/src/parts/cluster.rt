@@ -48,7 +48,10 @@ impl Cluster {
     pub fn ask(&mut self, op: &Op) -> Result<(), NoMemory>
         ensures { OnOk result (state_of self.new ≡ asked (state_of self.old) op.now) }
     {
-        let request = ApiReq::Operate { name: None, op: *op };
+        let request = ApiReq::Operate {
+            name: None,
+            op: *op,
+        };
         let body = Body::Host(HostSignal::Continue {
             work: Work::Request(request),
             at: 0,

@@ -35,7 +35,10 @@ impl Dih {
         let epoch = self.epoch;
         self.counted = Some(tx);
         out.mark(Mark::Decided { tx, epoch });
-        out.send(COORDINATOR, Body::Epoch(EpochSignal::DiVerifyConf { tx, epoch }));
+        out.send(
+            COORDINATOR,
+            Body::Epoch(EpochSignal::DiVerifyConf { tx, epoch }),
+        );
     }
 
     fn end(&mut self, tx: TxId)

@@ -43,7 +43,15 @@ impl Lqh {
         }
     }
 
-    fn prepare(&mut self, tx: TxId, key: &Key, image: &Value, chain: &Members, at: u8, out: &mut Outs)
+    fn prepare(
+        &mut self,
+        tx: TxId,
+        key: &Key,
+        image: &Value,
+        chain: &Members,
+        at: u8,
+        out: &mut Outs,
+    )
         requires { HasRoom out.old }
         ensures state { self.new ≡ (prepare_by self.old tx key.now image.now chain.now at self.old.pending).state }
         ensures effects { out.new ≡ joined out.old (prepare_by self.old tx key.now image.now chain.now at self.old.pending).effects }
@@ -61,12 +69,21 @@ impl Lqh {
         match replica_at(chain, at as usize + 1) {
             Some(next) => {
                 let work = RowWork::Store(*key, Some(*image));
-                let body = ChainSignal::LqhKeyReq { tx, work, chain: *chain, at: at + 1 };
+                let body = ChainSignal::LqhKeyReq {
+                    tx,
+                    work,
+                    chain: *chain,
+                    at: at + 1,
+                };
                 out.send(rows_of(next.node), Body::Chain(body));
             }
             None => {
                 let answer = Answer::Done;
-                let body = ChainSignal::LqhKeyConf { tx, key: *key, answer };
+                let body = ChainSignal::LqhKeyConf {
+                    tx,
+                    key: *key,
+                    answer,
+                };
                 out.send(coordinator_of(tx), Body::Chain(body));
             }
         }
@@ -82,7 +99,15 @@ impl Lqh {
         }
     }
 
-    fn commit(&mut self, tx: TxId, key: &Key, epoch: u64, chain: &Members, at: u8, out: &mut Outs) -> Result<(), NoMemory>
+    fn commit(
+        &mut self,
+        tx: TxId,
+        key: &Key,
+        epoch: u64,
+        chain: &Members,
+        at: u8,
+        out: &mut Outs,
+    ) -> Result<(), NoMemory>
         requires { HasRoom out.old }
         ensures state { OnOk result (self.new ≡ (commit_row self.old tx key.now epoch chain.now at).state) }
         ensures effects { OnOk result (out.new ≡ joined out.old (commit_row self.old tx key.now epoch chain.now at).effects) }
@@ -99,7 +124,13 @@ impl Lqh {
             let body = ChainSignal::Committed { tx, key: *key };
             out.send(coordinator_of(tx), Body::Chain(body));
         } else if let Some(replica) = replica_at(chain, at as usize - 1) {
-            let body = ChainSignal::Commit { tx, key: *key, epoch, chain: *chain, at: at - 1 };
+            let body = ChainSignal::Commit {
+                tx,
+                key: *key,
+                epoch,
+                chain: *chain,
+                at: at - 1,
+            };
             out.send(rows_of(replica.node), Body::Chain(body));
         }
         Ok(())
@@ -139,7 +170,12 @@ impl Lqh {
             let body = ChainSignal::Completed { tx, key: *key };
             out.send(coordinator_of(tx), Body::Chain(body));
         } else if let Some(replica) = replica_at(chain, at as usize - 1) {
-            let body = ChainSignal::Complete { tx, key: *key, chain: *chain, at: at - 1 };
+            let body = ChainSignal::Complete {
+                tx,
+                key: *key,
+                chain: *chain,
+                at: at - 1,
+            };
             out.send(rows_of(replica.node), Body::Chain(body));
         }
     }
@@ -169,18 +205,26 @@ impl Actor for Lqh {
                 self.unmark(*tx);
                 Ok(())
             }
-            Body::Chain(ChainSignal::LqhKeyReq {
-                tx,
-                work: RowWork::Operate(Op::Put(key, image)) | RowWork::Store(key, Some(image)),
-                chain,
-                at,
-            }) => {
+            Body::Chain(
+                ChainSignal::LqhKeyReq {
+                    tx,
+                    work: RowWork::Operate(Op::Put(key, image)) | RowWork::Store(key, Some(image)),
+                    chain,
+                    at,
+                },
+            ) => {
                 self.prepare(*tx, key, image, chain, *at, out);
                 Ok(())
             }
-            Body::Chain(ChainSignal::Commit { tx, key, epoch, chain, at }) => {
-                self.commit(*tx, key, *epoch, chain, *at, out)
-            }
+            Body::Chain(
+                ChainSignal::Commit {
+                    tx,
+                    key,
+                    epoch,
+                    chain,
+                    at,
+                },
+            ) => { self.commit(*tx, key, *epoch, chain, *at, out) }
             Body::Chain(ChainSignal::Complete { tx, key, chain, at }) => {
                 self.complete(*tx, key, chain, *at, out);
                 Ok(())

@@ -111,7 +111,10 @@ impl Network {
         if host < HOSTS && usize::from(from) < HOSTS {
             let signal = Signal {
                 from: HostId(u32::from(from)),
-                member: Member { node: from, start: 0 },
+                member: Member {
+                    node: from,
+                    start: 0,
+                },
                 to,
                 seq: 0,
                 stamp,

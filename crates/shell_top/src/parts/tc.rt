@@ -5,8 +5,8 @@ ghost use Rattle.shell_top.specs.Tc.{at_phase, phase_in, begun_row, operate_by, 
 
 use crate::parts::place::{CLIENT, EPOCHS, replicas, rows_of};
 use sig_core::{
-    Actor, Answer, Body, ChainSignal, ClientSignal, EpochSignal, NoMemory, Op, Outs, RowWork,
-    Seq, Signal, TxId, View,
+    Actor, Answer, Body, ChainSignal, ClientSignal, EpochSignal, NoMemory, Op, Outs, RowWork, Seq,
+    Signal, TxId, View,
 };
 use std::alloc::Global;
 
@@ -96,7 +96,12 @@ impl Tc {
             self.go_to(tx, Phase::Operating(*op));
             let work = RowWork::Operate(*op);
             let chain = replicas();
-            let body = ChainSignal::LqhKeyReq { tx, work, chain, at: 0 };
+            let body = ChainSignal::LqhKeyReq {
+                tx,
+                work,
+                chain,
+                at: 0,
+            };
             out.send(rows_of(1), Body::Chain(body));
         }
     }
@@ -108,7 +113,10 @@ impl Tc {
     {
         if let Some(Phase::Operating(op)) = self.phase_of(tx) {
             self.go_to(tx, Phase::Answered(op, *answer));
-            let body = ClientSignal::TcKeyConf { tx, answer: *answer };
+            let body = ClientSignal::TcKeyConf {
+                tx,
+                answer: *answer,
+            };
             out.send(CLIENT, Body::Client(body));
         }
     }
@@ -148,7 +156,13 @@ impl Tc {
         self.go_to(tx, Phase::Committing(*op, epoch));
         let key = *op.key();
         let chain = replicas();
-        let body = ChainSignal::Commit { tx, key, epoch, chain, at: 1 };
+        let body = ChainSignal::Commit {
+            tx,
+            key,
+            epoch,
+            chain,
+            at: 1,
+        };
         out.send(rows_of(2), Body::Chain(body));
     }
 
@@ -168,10 +182,18 @@ impl Tc {
         ensures effects { out.new ≡ joined out.old (completing self.old tx op.now epoch).effects }
     {
         self.go_to(tx, Phase::Completing(*op));
-        out.send(CLIENT, Body::Client(ClientSignal::TcCommitConf { tx, epoch }));
+        out.send(
+            CLIENT,
+            Body::Client(ClientSignal::TcCommitConf { tx, epoch }),
+        );
         let key = *op.key();
         let chain = replicas();
-        let body = ChainSignal::Complete { tx, key, chain, at: 1 };
+        let body = ChainSignal::Complete {
+            tx,
+            key,
+            chain,
+            at: 1,
+        };
         out.send(rows_of(2), Body::Chain(body));
     }
 

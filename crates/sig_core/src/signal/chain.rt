@@ -19,13 +19,49 @@ pub enum RowWork {
 /// is the place in it, from 0, of the replica that the signal is for.
 #[derive(Clone, Copy)]
 pub enum ChainSignal {
-    LqhKeyReq { tx: TxId, work: RowWork, chain: Members, at: u8 },
-    LqhKeyConf { tx: TxId, key: Key, answer: Answer },
-    LqhKeyRef { tx: TxId, key: Key, cause: AbortCause },
-    Commit { tx: TxId, key: Key, epoch: u64, chain: Members, at: u8 },
-    Committed { tx: TxId, key: Key },
-    Complete { tx: TxId, key: Key, chain: Members, at: u8 },
-    Completed { tx: TxId, key: Key },
-    Abort { tx: TxId, key: Key },
-    Aborted { tx: TxId, key: Key },
+    LqhKeyReq {
+        tx: TxId,
+        work: RowWork,
+        chain: Members,
+        at: u8,
+    },
+    LqhKeyConf {
+        tx: TxId,
+        key: Key,
+        answer: Answer,
+    },
+    LqhKeyRef {
+        tx: TxId,
+        key: Key,
+        cause: AbortCause,
+    },
+    Commit {
+        tx: TxId,
+        key: Key,
+        epoch: u64,
+        chain: Members,
+        at: u8,
+    },
+    Committed {
+        tx: TxId,
+        key: Key,
+    },
+    Complete {
+        tx: TxId,
+        key: Key,
+        chain: Members,
+        at: u8,
+    },
+    Completed {
+        tx: TxId,
+        key: Key,
+    },
+    Abort {
+        tx: TxId,
+        key: Key,
+    },
+    Aborted {
+        tx: TxId,
+        key: Key,
+    },
 }

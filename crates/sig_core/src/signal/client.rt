@@ -10,24 +10,70 @@ use crate::value::Value;
 /// to a transaction; the transaction of a lone operation has none.
 #[derive(Drop)]
 pub enum ClientSignal {
-    TcBeginReq { name: Option<u16> },
-    TcBeginConf { name: Option<u16>, tx: TxId },
-    TcBeginRef { name: Option<u16> },
-    TcKeyReq { tx: TxId, op: Op },
-    TcKeyConf { tx: TxId, answer: Answer },
-    TcCommitReq { tx: TxId },
-    TcCommitConf { tx: TxId, epoch: u64 },
-    TcCommitAck { tx: TxId },
-    TcRollbackReq { tx: TxId },
-    TcRollbackRep { tx: TxId, cause: AbortCause },
-    TcKeyFailConf { tx: TxId, epoch: u64 },
-    TcKeyFailRef { tx: TxId },
+    TcBeginReq {
+        name: Option<u16>,
+    },
+    TcBeginConf {
+        name: Option<u16>,
+        tx: TxId,
+    },
+    TcBeginRef {
+        name: Option<u16>,
+    },
+    TcKeyReq {
+        tx: TxId,
+        op: Op,
+    },
+    TcKeyConf {
+        tx: TxId,
+        answer: Answer,
+    },
+    TcCommitReq {
+        tx: TxId,
+    },
+    TcCommitConf {
+        tx: TxId,
+        epoch: u64,
+    },
+    TcCommitAck {
+        tx: TxId,
+    },
+    TcRollbackReq {
+        tx: TxId,
+    },
+    TcRollbackRep {
+        tx: TxId,
+        cause: AbortCause,
+    },
+    TcKeyFailConf {
+        tx: TxId,
+        epoch: u64,
+    },
+    TcKeyFailRef {
+        tx: TxId,
+    },
     NfCompleteRep,
     ViewRep,
-    TcWaitReq { tx: TxId },
-    TcWaitConf { tx: TxId, ahead: TxId },
-    LqhWaitReq { tx: TxId, key: Key },
-    LqhWaitConf { tx: TxId, ahead: TxId },
-    DumpReq { at: u64 },
-    DumpConf { rows: Seq<(Key, Value)>, next: Option<u64> },
+    TcWaitReq {
+        tx: TxId,
+    },
+    TcWaitConf {
+        tx: TxId,
+        ahead: TxId,
+    },
+    LqhWaitReq {
+        tx: TxId,
+        key: Key,
+    },
+    LqhWaitConf {
+        tx: TxId,
+        ahead: TxId,
+    },
+    DumpReq {
+        at: u64,
+    },
+    DumpConf {
+        rows: Seq<(Key, Value)>,
+        next: Option<u64>,
+    },
 }

@@ -6,22 +6,56 @@ use crate::seq::Seq;
 /// Signals of epochs and global checkpoints.
 #[derive(Drop)]
 pub enum EpochSignal {
-    DiVerifyReq { tx: TxId, ops: Seq<(Op, Answer)> },
-    DiVerifyConf { tx: TxId, epoch: u64 },
-    DiVerifyEnd { tx: TxId },
+    DiVerifyReq {
+        tx: TxId,
+        ops: Seq<(Op, Answer)>,
+    },
+    DiVerifyConf {
+        tx: TxId,
+        epoch: u64,
+    },
+    DiVerifyEnd {
+        tx: TxId,
+    },
     GcpReq,
-    GcpRep { epoch: u64 },
-    GcpPrepare { epoch: u64 },
-    GcpPrepareConf { epoch: u64 },
-    GcpCommit { epoch: u64 },
-    GcpNodeFinish { epoch: u64 },
-    GcpSaveReq { epoch: u64 },
-    GcpSaveConf { epoch: u64 },
+    GcpRep {
+        epoch: u64,
+    },
+    GcpPrepare {
+        epoch: u64,
+    },
+    GcpPrepareConf {
+        epoch: u64,
+    },
+    GcpCommit {
+        epoch: u64,
+    },
+    GcpNodeFinish {
+        epoch: u64,
+    },
+    GcpSaveReq {
+        epoch: u64,
+    },
+    GcpSaveConf {
+        epoch: u64,
+    },
     /// The mask has bit n - 1 for each full member n.
-    CopyGciReq { epoch: u64, mask: u8 },
-    CopyGciConf { epoch: u64 },
-    GcpDone { epoch: u64 },
+    CopyGciReq {
+        epoch: u64,
+        mask: u8,
+    },
+    CopyGciConf {
+        epoch: u64,
+    },
+    GcpDone {
+        epoch: u64,
+    },
     GcpOrd,
     GcpStateReq,
-    GcpStateConf { current: u64, prepared: u64, saved: u64, durable: u64 },
+    GcpStateConf {
+        current: u64,
+        prepared: u64,
+        saved: u64,
+        durable: u64,
+    },
 }

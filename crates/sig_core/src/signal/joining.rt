@@ -6,23 +6,53 @@ use crate::value::Value;
 /// Signals by which a node that starts joins the others.
 #[derive(Clone, Copy)]
 pub enum JoiningSignal {
-    StartReq { member: Member },
-    StartRep { member: Member },
-    StartEnd { member: Member },
-    StartGone { member: Member },
-    CopyOrd { member: Member },
-    CopyFragReq { member: Member, fragment: u8 },
+    StartReq {
+        member: Member,
+    },
+    StartRep {
+        member: Member,
+    },
+    StartEnd {
+        member: Member,
+    },
+    StartGone {
+        member: Member,
+    },
+    CopyOrd {
+        member: Member,
+    },
+    CopyFragReq {
+        member: Member,
+        fragment: u8,
+    },
     CopyFragConf,
-    LqhScanReq { fragment: u8, at: u64 },
-    LqhScanConf { row: Option<(Key, Value)>, epoch: u64, next: Option<u64> },
-    LqhUnlock { key: Key },
-    CopyRowReq { key: Key, value: Value, epoch: u64 },
+    LqhScanReq {
+        fragment: u8,
+        at: u64,
+    },
+    LqhScanConf {
+        row: Option<(Key, Value)>,
+        epoch: u64,
+        next: Option<u64>,
+    },
+    LqhUnlock {
+        key: Key,
+    },
+    CopyRowReq {
+        key: Key,
+        value: Value,
+        epoch: u64,
+    },
     CopyRowConf,
     DrainReq,
     DrainConf,
-    DrainWait { tx: TxId },
+    DrainWait {
+        tx: TxId,
+    },
     CopySaveReq,
     CopySaveConf,
     CopySaved,
-    PromoteReq { member: Member },
+    PromoteReq {
+        member: Member,
+    },
 }

@@ -8,15 +8,36 @@ use crate::view::View;
 #[derive(Clone, Copy)]
 pub enum MembershipSignal {
     Heartbeat,
-    FailRep { suspects: Members },
-    PrepFailReq { proposal: View },
-    PrepFailConf { number: u64 },
-    PrepFailRef { promised: View },
-    FenceReq { proposal: View },
+    FailRep {
+        suspects: Members,
+    },
+    PrepFailReq {
+        proposal: View,
+    },
+    PrepFailConf {
+        number: u64,
+    },
+    PrepFailRef {
+        promised: View,
+    },
+    FenceReq {
+        proposal: View,
+    },
     FenceConf,
-    ArbitReq { number: u64, members: Members, joining: Option<Member> },
-    ArbitConf { number: u64 },
-    ArbitRef { number: u64, members: Members },
-    StopSet { cause: StopCause },
+    ArbitReq {
+        number: u64,
+        members: Members,
+        joining: Option<Member>,
+    },
+    ArbitConf {
+        number: u64,
+    },
+    ArbitRef {
+        number: u64,
+        members: Members,
+    },
+    StopSet {
+        cause: StopCause,
+    },
     CommitFailReq,
 }

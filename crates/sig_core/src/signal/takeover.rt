@@ -16,7 +16,12 @@ pub enum RecordState {
 pub enum TakeoverSignal {
     TakeoverOrd,
     LqhTransReq,
-    LqhTransConf { tx: TxId, key: Key, state: RecordState, epoch: u64 },
+    LqhTransConf {
+        tx: TxId,
+        key: Key,
+        state: RecordState,
+        epoch: u64,
+    },
     LqhTransEnd,
     TakeoverEnd,
 }

@@ -12,5 +12,5 @@ pub returns-clause-session : goal.returns-clause-session
 returns-clause-session g c =
     session_done _ _ _ (g.K.Sink.written c.args.sink.now) _ _ c.run-meant.result c.finish-2.result (no_words _ c.is_empty.result c.is_empty.ensures c.if-not-is_empty.false)
     (c.run-meant.ensures.done (g.S.Source.left c.args.source.now) (g.K.Sink.written c.args.sink.now)
-      (starts _ _ _ _ _ c.in-Ok.ensures.line c.in-Ok.ensures.reader c.in-Ok.ensures.cluster))
+    (starts _ _ _ _ _ c.in-Ok.ensures.line c.in-Ok.ensures.reader c.in-Ok.ensures.cluster))
     c.finish-2.ensures.printed

@@ -11,20 +11,20 @@ returns-then-at-gt-LINE_BYTES-clause-done g c left left_now written u =
 pub returns-in-Nothing-clause-done : goal.returns-in-Nothing-clause-done
 returns-in-Nothing-clause-done g c left left_now written u =
     let means : parsed_line (take c.args.at c.args.self.now.reader) ≡ parsed.Nothing =
-        ap (λ held. parsed_line (take c.args.at held)) (sym c.held.ensures) ∙ sym c.parse-parsed.ensures ∙ c.in-Nothing.is in
+    ap (λ held. parsed_line (take c.args.at held)) (sym c.held.ensures) ∙ sym c.parse-parsed.ensures ∙ c.in-Nothing.is in
     rw c.drop_front.ensures
     (goes_on left written left_now _ c.args.self.now.line c.args.self.now.reader _ u c.args.at c.requires.found c.requires.low c.if-at-gt-LINE_BYTES.false means)
 
 pub returns-in-Put-clause-done : goal.returns-in-Put-clause-done
 returns-in-Put-clause-done g c left left_now written u =
     let means : parsed_line (take c.args.at c.args.self.now.reader) ≡ parsed.Put c.in-Put.key c.in-Put.value =
-        ap (λ held. parsed_line (take c.args.at held)) (sym c.held.ensures) ∙ sym c.parse-parsed.ensures ∙ c.in-Put.is in
+    ap (λ held. parsed_line (take c.args.at held)) (sym c.held.ensures) ∙ sym c.parse-parsed.ensures ∙ c.in-Put.is in
     rw c.drop_front.ensures
     (line_put left written left_now _ c.args.self.now.line c.args.self.now.reader _ u c.args.at c.requires.found c.requires.low c.if-at-gt-LINE_BYTES.false _ _ c.in-Put.key c.in-Put.value
-      c.put.result means c.put.ensures.put)
+    c.put.result means c.put.ensures.put)
 
 pub returns-in-Fault-clause-done : goal.returns-in-Fault-clause-done
 returns-in-Fault-clause-done g c left left_now written u =
     let means : parsed_line (take c.args.at c.args.self.now.reader) ≡ parsed.Fault c.in-Fault.fault =
-        ap (λ held. parsed_line (take c.args.at held)) (sym c.held.ensures) ∙ sym c.parse-parsed.ensures ∙ c.in-Fault.is in
+    ap (λ held. parsed_line (take c.args.at held)) (sym c.held.ensures) ∙ sym c.parse-parsed.ensures ∙ c.in-Fault.is in
     line_fault left written left_now _ c.args.self.now.line c.args.self.now.reader _ u c.args.at c.requires.found c.requires.low c.if-at-gt-LINE_BYTES.false c.in-Fault.fault means

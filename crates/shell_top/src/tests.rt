@@ -1,0 +1,161 @@
+use crate::parts::cluster::Cluster;
+use crate::serve::put;
+use crate::{Ended, run_shell};
+use host_io::{MemSink, MemSource, NoGate, Sink, Source};
+use sig_core::{Key, Value};
+use std::alloc::Global;
+use std::process::Abort;
+use std::sync::Wait;
+use std::test::Fail;
+use std::thread::Threads;
+
+/// Runs a session on a source and a sink in memory.
+fn session<R: Threads + Wait + Sync>(
+    rt: &R,
+    alloc: Global,
+    source: &mut MemSource,
+    sink: &mut MemSink,
+) -> Ended {
+    run_shell(rt, alloc, &[], source, sink, Vec::new(alloc), &NoGate)
+}
+
+/// Asserts what a script prints, and the status that it ends with.
+fn expect<R: Threads + Wait + Sync + Abort>(
+    rt: &R,
+    alloc: Global,
+    script: &[u8],
+    printed: &[u8],
+    status: u8,
+) -> Result<(), Fail> {
+    let mut source = MemSource::new(script.to_vec(alloc)?, Vec::new(alloc))?;
+    let mut sink = MemSink::new(alloc, Vec::new(alloc))?;
+    let ended = session(rt, alloc, &mut source, &mut sink);
+    assert_eq!(rt; sink.written(), printed, "after {script:?}");
+    assert_eq!(rt; ended.status, status, "after {script:?}");
+    Ok(())
+}
+
+#[test]
+fn a_put_reaches_both_replicas(rt: HostRuntime) -> Result<(), Fail> {
+    let alloc = rt.alloc();
+    let (key, value) = (Key::new(b"a")?, Value::new(b"1")?);
+    let mut cluster = Cluster::new(alloc).ok().ok_or("no memory")?;
+    let mut sink = MemSink::new(alloc, Vec::new(alloc))?;
+    assert_eq!(rt; put(alloc, &mut cluster, &mut sink, &key, &value), None);
+    assert_eq!(rt; sink.written(), b"ok\ncommitted 1\n".as_slice());
+    assert_eq!(rt; cluster.blocks.first.rows.get(&key), Some(value));
+    assert_eq!(rt; cluster.blocks.second.rows.get(&key), Some(value));
+    Ok(())
+}
+
+#[test]
+fn empty_input_prints_nothing(rt: HostRuntime) -> Result<(), Fail> {
+    expect(&rt, rt.alloc(), b"", b"", 0)
+}
+
+#[test]
+fn last_line_without_newline(rt: HostRuntime) -> Result<(), Fail> {
+    expect(&rt, rt.alloc(), b"put a 1", b"ok\ncommitted 1\n", 0)
+}
+
+#[test]
+fn empty_lines_comments_and_spaces(rt: HostRuntime) -> Result<(), Fail> {
+    let script = b"\n  # nothing\n  put   a   1 \r\nput b\r\n\n";
+    expect(
+        &rt,
+        rt.alloc(),
+        script,
+        b"ok\ncommitted 1\nok\ncommitted 1\n",
+        0,
+    )
+}
+
+#[test]
+fn refused_lines_have_number_and_code(rt: HostRuntime) -> Result<(), Fail> {
+    let alloc = rt.alloc();
+    expect(&rt, alloc, b"fetch a\n", b"line 1 refused 1\n", 2)?;
+    expect(
+        &rt,
+        alloc,
+        b"put a 1\nput\n",
+        b"ok\ncommitted 1\nline 2 refused 2\n",
+        2,
+    )?;
+    expect(&rt, alloc, b"put a 1 2\nput b 1", b"line 1 refused 2\n", 2)?;
+    expect(&rt, alloc, b"\n\nput a\t 1\n", b"line 3 refused 3\n", 2)
+}
+
+#[test]
+fn longest_key_and_value(rt: HostRuntime) -> Result<(), Fail> {
+    let alloc = rt.alloc();
+    for (key, value, printed, status) in [
+        (32, 200, b"ok\ncommitted 1\n".as_slice(), 0),
+        (33, 200, b"line 1 refused 3\n".as_slice(), 2),
+        (32, 201, b"line 1 refused 3\n".as_slice(), 2),
+    ] {
+        let mut line = b"put ".to_vec(alloc)?;
+        for _ in 0..key {
+            line.push(b'k')?;
+        }
+        line.push(b' ')?;
+        for _ in 0..value {
+            line.push(b'v')?;
+        }
+        expect(&rt, alloc, &line, printed, status)?;
+    }
+    Ok(())
+}
+
+#[test]
+fn overlong_line(rt: HostRuntime) -> Result<(), Fail> {
+    let alloc = rt.alloc();
+    expect(&rt, alloc, &[b' '; 512], b"", 0)?;
+    expect(&rt, alloc, &[b' '; 513], b"line 1 too long\n", 9)
+}
+
+#[test]
+fn a_read_that_fails(rt: HostRuntime) -> Result<(), Fail> {
+    let alloc = rt.alloc();
+    let mut source = MemSource::new(b"put a 1\nput b".to_vec(alloc)?, vec![in alloc; 1]?)?;
+    let mut sink = MemSink::new(alloc, Vec::new(alloc))?;
+    let ended = session(&rt, alloc, &mut source, &mut sink);
+    assert_eq!(rt; sink.written(), b"ok\ncommitted 1\nread fault\n".as_slice());
+    assert_eq!(rt; ended.status, 3);
+    assert_eq!(rt; source.faults(), 1);
+    Ok(())
+}
+
+#[test]
+fn a_write_that_fails(rt: HostRuntime) -> Result<(), Fail> {
+    let alloc = rt.alloc();
+    let mut source = MemSource::new(
+        b"put a 1\nput b 2\nput c 3\n".to_vec(alloc)?,
+        Vec::new(alloc),
+    )?;
+    let mut sink = MemSink::new(alloc, vec![in alloc; 1]?)?;
+    let ended = session(&rt, alloc, &mut source, &mut sink);
+    assert_eq!(rt; sink.written(), b"ok\ncommitted 1\n".as_slice());
+    assert_eq!(rt; ended.status, 4);
+    assert_eq!(rt; sink.faults(), 1);
+    Ok(())
+}
+
+#[test]
+fn refused_words(rt: HostRuntime) -> Result<(), Fail> {
+    let alloc = rt.alloc();
+    let mut source = MemSource::new(b"put a 1\n".to_vec(alloc)?, Vec::new(alloc))?;
+    let mut sink = MemSink::new(alloc, Vec::new(alloc))?;
+    let words = vec![in alloc; String::from_str(alloc, "--nodes")?]?;
+    let ended = run_shell(
+        &rt,
+        alloc,
+        &words,
+        &mut source,
+        &mut sink,
+        Vec::new(alloc),
+        &NoGate,
+    );
+    assert_eq!(rt; sink.written(), b"words refused\n".as_slice());
+    assert_eq!(rt; ended.status, 1);
+    Ok(())
+}

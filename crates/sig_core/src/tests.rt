@@ -1,0 +1,111 @@
+use crate::{
+    BlockId, Body, ClientSignal, Key, Mark, Member, Members, Op, Outs, Place, Seq, Table, TxId,
+    Value, WordFault,
+};
+use std::test::Fail;
+
+#[test]
+fn keys_are_1_to_32_printable_bytes(rt: HostRuntime) -> Result<(), Fail> {
+    assert_eq!(rt; Key::new(b"").err(), Some(WordFault::Length { len: 0 }));
+    assert_eq!(rt;
+        Key::new(&[b'k'; 33]).err(),
+        Some(WordFault::Length { len: 33 })
+    );
+    assert_eq!(rt; Key::new(b"a b").err(), Some(WordFault::BadByte { at: 1 }));
+    assert_eq!(rt;
+        Key::new(b"a\x7f").err(),
+        Some(WordFault::BadByte { at: 1 })
+    );
+    let longest = Key::new(&[b'~'; 32])?;
+    assert_eq!(rt; longest.bytes(), [b'~'; 32].as_slice());
+    assert!(rt; Key::new(b"a")? < Key::new(b"ab")?);
+    assert!(rt; Key::new(b"ab")? < Key::new(b"b")?);
+    Ok(())
+}
+
+#[test]
+fn values_are_0_to_200_printable_bytes(rt: HostRuntime) -> Result<(), Fail> {
+    assert_eq!(rt; Value::new(b"")?.bytes(), [].as_slice());
+    assert_eq!(rt; Value::new(&[b'v'; 200])?.bytes(), [b'v'; 200].as_slice());
+    assert_eq!(rt;
+        Value::new(&[b'v'; 201]).err(),
+        Some(WordFault::Length { len: 201 })
+    );
+    assert_eq!(rt;
+        Value::new(b"!\x20").err(),
+        Some(WordFault::BadByte { at: 1 })
+    );
+    Ok(())
+}
+
+#[test]
+fn tables_keep_the_last_value(rt: HostRuntime) -> Result<(), Fail> {
+    let (a, b) = (Key::new(b"a")?, Key::new(b"b")?);
+    let mut table = Table::new(rt.alloc());
+    assert!(rt; table.insert(a, Value::new(b"1")?).is_ok());
+    assert!(rt; table.insert(b, Value::new(b"2")?).is_ok());
+    assert!(rt; table.insert(a, Value::new(b"3")?).is_ok());
+    table.remove(&b);
+    assert_eq!(rt; table.get(&a), Some(Value::new(b"3")?));
+    assert_eq!(rt; table.get(&b), None);
+    Ok(())
+}
+
+#[test]
+fn lists_and_effects_hold_what_was_put_in(rt: HostRuntime) -> Result<(), Fail> {
+    let mut list = Seq::new(rt.alloc());
+    assert!(rt; list.push(7u8).is_ok());
+    assert_eq!(rt; list.as_slice(), [7].as_slice());
+    let mut made = Seq::from_vec(vec![in rt.alloc(); 1u8, 2]?);
+    assert!(rt; made.push(3).is_ok());
+    assert_eq!(rt; made.len(), 3);
+
+    let mut members = Members::new();
+    members.push(Member { node: 2, start: 1 });
+    assert_eq!(rt;
+        members.as_slice(),
+        [Member { node: 2, start: 1 }].as_slice()
+    );
+
+    let mut outs = Outs::new(rt.alloc()).ok().ok_or("no memory")?;
+    let api = Place {
+        node: 0,
+        block: BlockId::Api,
+    };
+    outs.send(api, Body::Client(ClientSignal::ViewRep));
+    outs.mark(Mark::Durable { epoch: 1 });
+    assert_eq!(rt; outs.marks().len(), 1);
+    let sent = outs.take_send().ok_or("nothing was sent")?;
+    assert_eq!(rt; sent.to, api);
+    assert!(rt; outs.take_send().is_none());
+    Ok(())
+}
+
+#[test]
+fn operations_and_transactions_are_told_apart(rt: HostRuntime) -> Result<(), Fail> {
+    let (key, value) = (Key::new(b"k")?, Value::new(b"v")?);
+    assert_eq!(rt; *Op::Get(key).key(), key);
+    assert_eq!(rt; *Op::Upd(key, value).key(), key);
+    let first = TxId {
+        tc: 1,
+        start: 0,
+        seq: 1,
+    };
+    assert!(rt;
+        first
+            < TxId {
+                tc: 1,
+                start: 0,
+                seq: 2
+            }
+    );
+    assert_ne!(rt;
+        first,
+        TxId {
+            tc: 2,
+            start: 0,
+            seq: 1
+        }
+    );
+    Ok(())
+}
