@@ -1,0 +1,9 @@
+pub mod Lists
+pub mod Machine
+pub mod Links
+pub mod Logs
+pub mod Runs
+pub mod Orders
+pub mod Cuts
+pub mod TestMachine
+pub mod RunLaws
