@@ -5,5 +5,8 @@ pub mod Logs
 pub mod Runs
 pub mod Orders
 pub mod Cuts
+pub mod Along
 pub mod TestMachine
 pub mod RunLaws
+pub mod CutLaws
+pub mod AlongLaws

@@ -5,6 +5,10 @@ use Rattle.run_theory.specs.Machine.{Machine}
 use Rattle.run_theory.specs.Links.{taken, IsGiven}
 use Rattle.run_theory.specs.Logs.{IsStep, IsLog, IsThere}
 
+-- only hosts below n have steps
+abbrev pub IsWithin : {E : Type 0} → ℕ → (ℕ → List E) → Type 0
+IsWithin n logs = (h : ℕ) → n ≤ h → logs h ≡ []
+
 module _ {E X : Type 0} (m : Machine E X) where
   -- the log of host h after these events
   abbrev pub log_of : List E → ℕ → List E
@@ -31,7 +35,3 @@ module _ {E X : Type 0} (m : Machine E X) where
     pub there : (h : ℕ) → HasEntry (logs h) → IsThere m h (logs 0)
     -- what a host took from a link is what the link gave
     pub linked : (i j : ℕ) → IsGiven m i j (logs i) (taken m i (logs j))
-
-  -- only hosts below n have steps
-  abbrev pub IsWithin : ℕ → (ℕ → List E) → Type 0
-  IsWithin n logs = (h : ℕ) → n ≤ h → logs h ≡ []

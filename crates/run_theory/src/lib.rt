@@ -1,10 +1,13 @@
-//! Hosts that exchange signals over first-in-first-out links: logs, runs and closed cuts.
+//! Hosts that exchange signals over first-in-first-out links: their logs, runs and closed cuts.
+//!
+//! The definitions stand in `specs/`, and each law is the contract of a function that does nothing. A law ranges over
+//! every machine whose relations are tests; for any other machine cite the lemma of `proofs/`.
 #![tactic(auto)]
 
-ghost use Rattle.run_theory.specs.RunLaws.{RunsLeaveLogs};
+mod along_laws;
+mod cut_laws;
+mod run_laws;
 
-/// A run leaves right logs.
-pub fn runs_leave_logs<E, X>()
-    ensures { RunsLeaveLogs E X }
-{
-}
+pub use along_laws::{along_run, along_signals, of_runs};
+pub use cut_laws::{closed_cuts_are_right_logs, closed_cuts_grow};
+pub use run_laws::{right_logs_are_a_run, runs_leave_right_logs, schedules_run_in_merged_order};
