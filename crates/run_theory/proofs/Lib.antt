@@ -6,3 +6,4 @@ pub mod Orders
 pub mod Merging
 pub mod Along
 pub mod Growth
+pub mod LinkFacts

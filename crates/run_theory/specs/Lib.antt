@@ -10,3 +10,4 @@ pub mod TestMachine
 pub mod RunLaws
 pub mod CutLaws
 pub mod AlongLaws
+pub mod LinkLaws
