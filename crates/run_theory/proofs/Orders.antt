@@ -28,6 +28,14 @@ module _ {E X : Type 0} (m : Machine E X) where
       go below (inl at) = rw (log_of-own m e es h at) (all.0, below)
       go below (inr at) = rw (log_of-other m e es h at) below
 
+  -- what held of each step of a log holds after an event of which it holds too
+  pub each_next : (P : E → Type 0) (es : List E) (e : E) (h : ℕ) → P e → Each P (log_of m es h) → Each P (log_of m (e ∷ es) h)
+  each_next P es e h new old = go (cases_eq (m.host e) h)
+    where
+      go : (m.host e ≡ h) ⊎ (m.host e ≢ h) → Each P (log_of m (e ∷ es) h)
+      go (inl at) = rw (log_of-own m e es h at) (new, old)
+      go (inr at) = rw (log_of-other m e es h at) old
+
   pub each_event : (P : E → Type 0) (es : List E) → ((h : ℕ) → Each P (log_of m es h)) → Each P es
   each_event P [] all = tt
   each_event P (e ∷ es) all =
