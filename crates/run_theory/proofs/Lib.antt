@@ -7,3 +7,4 @@ pub mod Merging
 pub mod Along
 pub mod Growth
 pub mod LinkFacts
+pub mod HostFacts

@@ -11,3 +11,5 @@ pub mod RunLaws
 pub mod CutLaws
 pub mod AlongLaws
 pub mod LinkLaws
+pub mod Hosts
+pub mod HostLaws
