@@ -8,3 +8,5 @@ pub mod Along
 pub mod Growth
 pub mod LinkFacts
 pub mod HostFacts
+pub mod Channels
+pub mod Drops

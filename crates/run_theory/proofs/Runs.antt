@@ -89,8 +89,9 @@ module _ {E X : Type 0} (m : Machine E X) where
       go (inl at) = rw (log_of-own e es i at) (given_more m i j (log_of m es i) e xs (subst (λ k. IsRunning m (log_of m es k)) at happens.step.runs) g)
       go (inr at) = rw (log_of-other e es i at) g
 
-  linked_more : (es : List E) (e : E) (i j : ℕ) → Happens m es e → IsGiven m i j (log_of m es i) (taken m i (log_of m es j)) → IsGiven m i j (log_of m (e ∷ es) i) (taken m i (log_of m (e ∷ es) j))
-  linked_more es e i j happens g = given_next es e i j (taken m i (log_of m (e ∷ es) j)) happens (go (cases_eq (m.host e) j))
+  -- what a host took from a link, after an event, the link gave before it
+  pub given_taken : (es : List E) (e : E) (i j : ℕ) → Happens m es e → IsGiven m i j (log_of m es i) (taken m i (log_of m es j)) → IsGiven m i j (log_of m es i) (taken m i (log_of m (e ∷ es) j))
+  given_taken es e i j happens g = go (cases_eq (m.host e) j)
     where
       at_own : m.host e ≡ j → TakenCases i e (log_of m es j) → IsGiven m i j (log_of m es i) (taken m i (e ∷ log_of m es j))
       at_own at (took a f is) = rw is (subst₂ (λ k l. IsGiven m k l (log_of m es k) (m.signal e ∷ taken m k (log_of m es l))) f at (happens.takes a))
@@ -99,6 +100,9 @@ module _ {E X : Type 0} (m : Machine E X) where
       go : (m.host e ≡ j) ⊎ (m.host e ≢ j) → IsGiven m i j (log_of m es i) (taken m i (log_of m (e ∷ es) j))
       go (inl at) = rw (log_of-own e es j at) (at_own at (taken_cases i e (log_of m es j)))
       go (inr at) = rw (log_of-other e es j at) g
+
+  linked_more : (es : List E) (e : E) (i j : ℕ) → Happens m es e → IsGiven m i j (log_of m es i) (taken m i (log_of m es j)) → IsGiven m i j (log_of m (e ∷ es) i) (taken m i (log_of m (e ∷ es) j))
+  linked_more es e i j happens g = given_next es e i j (taken m i (log_of m (e ∷ es) j)) happens (given_taken es e i j happens g)
 
   pub no_logs : AreLogs m (log_of m [])
   no_logs = record { local = λ h. tt; there = λ h has. absurd has; linked = λ i j. inl (past_self []) }

@@ -13,3 +13,5 @@ pub mod AlongLaws
 pub mod LinkLaws
 pub mod Hosts
 pub mod HostLaws
+pub mod Literal
+pub mod LiteralLaws
