@@ -1,16 +1,15 @@
 -- The law of the game, by induction along runs with what each signal tells.
-use Rattle.std.proofs.Common.{◌≡◌, ◌⊎◌, ℕ, Bool, true, false, List, [], ◌∷◌, refl, sym, subst, inl, inr}
+use Rattle.std.proofs.Common.{◌≡◌, ℕ, false, List, ◌∷◌, refl, sym, subst, inl}
 use Rattle.run_theory.specs.Lists.{Each, IsIn, IsPast}
 use Rattle.run_theory.specs.Machine.{IsStamped}
-use Rattle.run_theory.specs.Runs.{log_of, AreLogs, IsWithin}
-use Rattle.run_theory.specs.Cuts.{IsCut, IsClosed}
+use Rattle.run_theory.specs.Runs.{log_of}
 use Rattle.run_theory.specs.Along.{Comes, IsKept}
 use Rattle.run_theory.proofs.Pasts.{in_past, each_map}
 use Rattle.run_theory.proofs.Runs.{log_of-own, log_of-past}
 use Rattle.run_theory.proofs.Orders.{each_next}
-use Rattle.run_theory.proofs.Along.{along_signals, of_runs_at_cuts}
+use Rattle.run_theory.proofs.Along.{along_signals_of_cuts}
 use Rattle.run_example.specs.declared.game.Kind.{Kind}
-use Rattle.run_example.specs.declared.game.Kind.TheVariants.{Serve, Make, Stop, Ping, Pong, Closed}
+use Rattle.run_example.specs.declared.game.Kind.TheVariants.{Serve, Ping, Pong}
 use Rattle.run_example.specs.declared.game.Signal.{Signal}
 use Rattle.run_example.specs.declared.game.Step.{Step}
 use Rattle.run_example.specs.Game.{is_asked, sends, game}
@@ -51,10 +50,10 @@ module _ (made : ℕ → ℕ) where
 
   step : (es : List Step) (e : Step) → Comes (game made) SignalTells AllTrue es e → AllTrue (log_of (game made) (e ∷ es))
   step es e come h =
-    let now : Step → Type 0 = λ f. SignalTells f.signal (log_of (game made) (e ∷ es)) in
-    let before : Step → Type 0 = λ f. SignalTells f.signal (log_of (game made) es) in
-    let new : before e = tells_asked e.signal.kind e.signal.from e.signal.to (log_of (game made) es) come.told in
-    each_next (game made) now es e h (stays es e e.signal new) (each_map before now (log_of (game made) es h) (λ f. stays es e f.signal) (come.law h))
+      let now : Step → Type 0 = λ f. SignalTells f.signal (log_of (game made) (e ∷ es)) in
+      let before : Step → Type 0 = λ f. SignalTells f.signal (log_of (game made) es) in
+      let new : before e = tells_asked e.signal.kind e.signal.from e.signal.to (log_of (game made) es) come.told in
+      each_next (game made) now es e h (stays es e e.signal new) (each_map before now (log_of (game made) es h) (λ f. stays es e f.signal) (come.law h))
 
   kept : IsKept (game made) SignalTells AllTrue
   kept = record {
@@ -66,5 +65,4 @@ module _ (made : ℕ → ℕ) where
   }
 
 pub pongs_answer : PongsAnswerPings
-pongs_answer made n inside logs within a cut closed =
-    of_runs_at_cuts (game made) (game_stamped made) AllTrue (λ es run. (along_signals (game made) SignalTells AllTrue (kept made) es run).law) n inside logs within a cut closed
+pongs_answer made n inside logs within a cut closed = (along_signals_of_cuts (game made) (game_stamped made) SignalTells AllTrue (kept made) n inside logs within a cut closed).law

@@ -1,6 +1,6 @@
 -- The sample is a run: each part computes.
-use Rattle.std.proofs.Common.{◌≡◌, ◌⊎◌, ℕ, Bool, true, false, List, [], ◌∷◌, drop, refl, inl, inr, true≢false}
-use Rattle.run_theory.specs.Runs.{Happens, Run}
+use Rattle.std.proofs.Common.{[], ◌∷◌, drop, refl, inl, inr, true≢false}
+use Rattle.run_theory.specs.Runs.{Happens}
 use Rattle.run_example.specs.declared.game.Kind.TheVariants.{Serve, Make, Stop, Ping, Pong, Closed}
 use Rattle.run_example.specs.Game.{game}
 use Rattle.run_example.specs.Sample.{signal, takes, sample_made, sample, SampleRuns}

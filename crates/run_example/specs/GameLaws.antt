@@ -1,10 +1,10 @@
 -- The law of the game: a pong comes only of a ping, and a ping of a serve.
-use Rattle.std.specs.Prelude.{ℕ, ◌≡◌, List, [], ◌∷◌}
+use Rattle.std.specs.Prelude.{ℕ, ◌≡◌, List}
 use Rattle.run_theory.specs.Lists.{Each, IsIn}
 use Rattle.run_theory.specs.Runs.{AreLogs, IsWithin}
 use Rattle.run_theory.specs.Cuts.{IsCut, IsClosed}
 use Rattle.run_example.specs.declared.game.Kind.{Kind}
-use Rattle.run_example.specs.declared.game.Kind.TheVariants.{Serve, Make, Stop, Ping, Pong, Closed}
+use Rattle.run_example.specs.declared.game.Kind.TheVariants.{Serve, Ping, Pong}
 use Rattle.run_example.specs.declared.game.Signal.{Signal}
 use Rattle.run_example.specs.declared.game.Step.{Step}
 use Rattle.run_example.specs.Game.{game}

@@ -1,7 +1,7 @@
 -- Induction along a run.
-use Rattle.std.proofs.Common.{◌≡◌, ◌≢◌, ◌⊎◌, ◌==◌, ◌+◌, ◌<◌, ◌≤◌, ℕ, Bool, true, false, List, [], ◌∷◌, ◌++◌, refl, sym, ap, ◌∙◌, subst, inl, inr, arith}
-use Rattle.std.proofs.lemmas.Bool.{cases_eq, cases_Bool}
-use Rattle.run_theory.specs.Lists.{Each, IsIn, IsPast}
+use Rattle.std.proofs.Common.{◌≡◌, ◌≢◌, ◌⊎◌, ℕ, true, List, [], ◌∷◌, ◌++◌, refl, sym, ap, ◌∙◌, subst, inl, inr}
+use Rattle.std.proofs.lemmas.Bool.{cases_eq}
+use Rattle.run_theory.specs.Lists.{Each}
 use Rattle.run_theory.specs.Machine.{Machine, IsStamped}
 use Rattle.run_theory.specs.Links.{sent_by, sent, taken, IsGiven}
 use Rattle.run_theory.specs.Runs.{log_of, Happens, Run, AreLogs, IsWithin}
@@ -25,20 +25,20 @@ module _ {E X : Type 0} (m : Machine E X) where
   given_head P i j log x xs all closing (inl p) = let h : Each P (x ∷ xs) = each_past P p all in h.0
   given_head P i j [] x xs all closing (inr c) = absurd c
   given_head P i j (e ∷ log) x xs all closing (inr c) =
-    let same : m.closing e j ≡ x = cc (c.is) in
-    subst P same (closing e log refl c.stops)
+      let same : m.closing e j ≡ x = cc (c.is) in
+      subst P same (closing e log refl c.stops)
 
   module _ (K : X → (ℕ → List E) → Type 0) (Q : (ℕ → List E) → Type 0) (kept : IsKept m K Q) where
     comes : (es : List E) (e : E) → Run m es → Happens m es e → AllHold m K Q (log_of m es) → Comes m K Q es e
     comes es e run happens all =
-      let i = m.from (m.signal e) in
-      let j = m.host e in
-      record {
-        run = run;
-        happens = happens;
-        law = all.law;
-        told = λ asked. given_head (λ x. K x (log_of m es)) i j (log_of m es i) (m.signal e) (taken m i (log_of m es j)) (all.sent_hold i j) (all.closing_hold i j) (happens.takes asked);
-      }
+        let i = m.from (m.signal e) in
+        let j = m.host e in
+        record {
+          run = run;
+          happens = happens;
+          law = all.law;
+          told = λ asked. given_head (λ x. K x (log_of m es)) i j (log_of m es i) (m.signal e) (taken m i (log_of m es j)) (all.sent_hold i j) (all.closing_hold i j) (happens.takes asked);
+        }
 
     sent_next : (es : List E) (e : E) (i j : ℕ) → Comes m K Q es e → Each (λ x. K x (log_of m es)) (sent m i j (log_of m es i)) → Each (λ x. K x (log_of m (e ∷ es))) (sent m i j (log_of m (e ∷ es) i))
     sent_next es e i j come all = go (each_map (λ x. K x (log_of m es)) P (sent m i j (log_of m es i)) (λ x k. kept.stays es e x come k) all) (cases_eq (m.host e) i)
@@ -54,25 +54,25 @@ module _ {E X : Type 0} (m : Machine E X) where
         go old (inr at) = subst (λ w. Each P (sent m i j w)) (sym (log_of-other m e es i at)) old
 
     closing_next : (es : List E) (e : E) (i j : ℕ) (f : E) (log : List E) → Comes m K Q es e
-      → (log_of m es i ≡ f ∷ log → m.stops f ≡ true → K (m.closing f j) (log_of m es))
-      → log_of m (e ∷ es) i ≡ f ∷ log → m.stops f ≡ true → K (m.closing f j) (log_of m (e ∷ es))
+        → (log_of m es i ≡ f ∷ log → m.stops f ≡ true → K (m.closing f j) (log_of m es))
+        → log_of m (e ∷ es) i ≡ f ∷ log → m.stops f ≡ true → K (m.closing f j) (log_of m (e ∷ es))
     closing_next es e i j f log come old is stop = go (cases_eq (m.host e) i)
       where
         go : (m.host e ≡ i) ⊎ (m.host e ≢ i) → K (m.closing f j) (log_of m (e ∷ es))
         go (inl at) =
-          let both : e ∷ log_of m es i ≡ f ∷ log = sym (log_of-own m e es i at) ∙ is in
-          let same : e ≡ f = cc (both) in
-          subst (λ g. K (m.closing g j) (log_of m (e ∷ es))) same (kept.closing es e come (ap m.stops same ∙ stop) j)
+            let both : e ∷ log_of m es i ≡ f ∷ log = sym (log_of-own m e es i at) ∙ is in
+            let same : e ≡ f = cc (both) in
+            subst (λ g. K (m.closing g j) (log_of m (e ∷ es))) same (kept.closing es e come (ap m.stops same ∙ stop) j)
         go (inr at) = kept.stays es e (m.closing f j) come (old (sym (log_of-other m e es i at) ∙ is) stop)
 
     all_next : (es : List E) (e : E) → Run m es → Happens m es e → AllHold m K Q (log_of m es) → AllHold m K Q (log_of m (e ∷ es))
     all_next es e run happens all =
-      let come = comes es e run happens all in
-      record {
-        law = kept.step es e come;
-        sent_hold = λ i j. sent_next es e i j come (all.sent_hold i j);
-        closing_hold = λ i j f log. closing_next es e i j f log come (all.closing_hold i j f log);
-      }
+        let come = comes es e run happens all in
+        record {
+          law = kept.step es e come;
+          sent_hold = λ i j. sent_next es e i j come (all.sent_hold i j);
+          closing_hold = λ i j f log. closing_next es e i j f log come (all.closing_hold i j f log);
+        }
 
     all_start : AllHold m K Q (log_of m [])
     all_start = record { law = kept.start; sent_hold = λ i j. tt; closing_hold = λ i j e log is stop. absurd cc }
@@ -100,3 +100,6 @@ module _ {E X : Type 0} (m : Machine E X) where
     -- an invariant holds of all right logs
     pub along_signals_of_logs : (K : X → (ℕ → List E) → Type 0) (Q : (ℕ → List E) → Type 0) → IsKept m K Q → (n : ℕ) (logs : ℕ → List E) → IsWithin n logs → AreLogs m logs → AllHold m K Q logs
     along_signals_of_logs K Q kept n logs within a = of_runs (AllHold m K Q) (along_signals K Q kept) n logs within a
+
+    pub along_signals_of_cuts : (K : X → (ℕ → List E) → Type 0) (Q : (ℕ → List E) → Type 0) → IsKept m K Q → (n : ℕ) (inside logs : ℕ → List E) → IsWithin n logs → AreLogs m logs → IsCut inside logs → IsClosed m inside → AllHold m K Q inside
+    along_signals_of_cuts K Q kept n inside logs within a cut closed = of_runs_at_cuts (AllHold m K Q) (along_signals K Q kept) n inside logs within a cut closed

@@ -1,9 +1,9 @@
 -- A cut of right logs is closed exactly where it is right logs itself.
-use Rattle.std.proofs.Common.{◌≡◌, ◌⊎◌, ◌+◌, ◌<◌, ◌≤◌, ℕ, Bool, true, false, List, [], ◌∷◌, ◌++◌, if◌then◌else◌, refl, sym, ap, ◌∙◌, subst, inl, inr, arith}
-use Rattle.run_theory.specs.Lists.{Each, HasEntry, IsPast}
+use Rattle.std.proofs.Common.{◌≡◌, ◌⊎◌, ◌≤◌, ℕ, Bool, true, false, List, [], ◌∷◌, ◌++◌, if◌then◌else◌, sym, ap, subst, inl, inr, arith}
+use Rattle.run_theory.specs.Lists.{IsPast}
 use Rattle.run_theory.specs.Machine.{Machine, IsStamped}
-use Rattle.run_theory.specs.Links.{sent, is_from, taken, IsGiven}
-use Rattle.run_theory.specs.Logs.{last, IsStep, IsLog, IsMade, IsThere}
+use Rattle.run_theory.specs.Links.{is_from, taken, IsGiven}
+use Rattle.run_theory.specs.Logs.{last, IsLog, IsMade, IsThere}
 use Rattle.run_theory.specs.Runs.{AreLogs}
 use Rattle.run_theory.specs.Cuts.{IsCut, IsClosed}
 use Rattle.run_theory.proofs.Pasts.{past_self, past_more, past_trans, past_cases, entry_past}
@@ -29,8 +29,8 @@ module _ {E X : Type 0} (m : Machine E X) where
     where
       go : (IsPast (step ∷ before) (newer ++ log) → IsPast (step ∷ before) log) → (e ∷ (newer ++ log) ≡ step ∷ before) ⊎ IsPast (step ∷ before) (newer ++ log) → IsPast (step ∷ before) log
       go rest (inl is) =
-        let same : e ≡ step = cc in
-        absurd (omega (arith, ap m.stamp same, last_after m 0 newer log l.1, step_above m 0 (newer ++ log) e l.0))
+          let same : e ≡ step = cc in
+          absurd (omega (arith, ap m.stamp same, last_after m 0 newer log l.1, step_above m 0 (newer ++ log) e l.0))
       go rest (inr q) = rest q
 
   pub made_inside : (h : ℕ) {log all : List E} → IsPast log all → IsLog m 0 all → m.made h ≤ last m 0 log → IsMade m h all → IsMade m h log
@@ -50,13 +50,13 @@ module _ {E X : Type 0} (m : Machine E X) where
   made_below h log l (inl z) = omega (arith, z)
   made_below h log l (inr d) =
       subst (λ w. m.made h ≤ last m 0 w) (sym d.past.is)
-        (omega (arith, d.at, last_after m 0 d.past.newer (d.step ∷ d.before) (subst (IsLog m 0) d.past.is l)))
+      (omega (arith, d.at, last_after m 0 d.past.newer (d.step ∷ d.before) (subst (IsLog m 0) d.past.is l)))
 
   module _ (stamped : IsStamped m) where
     linked_inside : (inside logs : ℕ → List E) (i j : ℕ) → AreLogs m logs → IsCut inside logs → IsClosed m inside → IsGiven m i j (inside i) (taken m i (inside j))
     linked_inside inside logs i j a cut closed =
-      let past = cut i in
-      given_after m stamped i j past.newer (inside i) (taken m i (inside j)) (subst (IsLog m i) past.is (a.local i)) (closed.signals i j)
+        let past = cut i in
+        given_after m stamped i j past.newer (inside i) (taken m i (inside j)) (subst (IsLog m i) past.is (a.local i)) (closed.signals i j)
         (subst (λ w. IsGiven m i j w (taken m i (inside j))) past.is (given_less m i j (logs i) (taken_past i (cut j)) (a.linked i j)))
 
     -- a closed cut of right logs is right logs

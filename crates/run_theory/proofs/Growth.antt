@@ -1,12 +1,12 @@
 -- Of two right logs, one inside the other, the larger are the smaller and further events.
-use Rattle.std.proofs.Common.{◌≡◌, ◌≢◌, ◌⊎◌, ◌==◌, ◌+◌, ◌<◌, ◌≤◌, ℕ, zero, suc, Bool, true, false, List, [], ◌∷◌, ◌++◌, refl, sym, ap, ◌∙◌, subst, inl, inr, arith}
+use Rattle.std.proofs.Common.{◌≡◌, ◌<◌, ◌≤◌, ℕ, zero, suc, false, List, [], ◌∷◌, ◌++◌, refl, sym, ap, ◌∙◌, subst, arith}
 use Rattle.std.proofs.Math.Path.{fun_ext}
-use Rattle.run_theory.specs.Lists.{Each, HasEntry, IsPast}
+use Rattle.run_theory.specs.Lists.{Each, HasEntry}
 use Rattle.run_theory.specs.Machine.{Machine, IsStamped}
-use Rattle.run_theory.specs.Links.{is_from, taken}
+use Rattle.run_theory.specs.Links.{taken}
 use Rattle.run_theory.specs.Logs.{last, IsLog}
 use Rattle.run_theory.specs.Runs.{log_of, Happens, Run, AreLogs, IsWithin}
-use Rattle.run_theory.specs.Orders.{HasLogs, IsByStamp, MayFollow, IsCausal, merged}
+use Rattle.run_theory.specs.Orders.{HasLogs, MayFollow, IsCausal, merged}
 use Rattle.run_theory.specs.Cuts.{IsCut, IsClosed}
 use Rattle.run_theory.specs.Along.{Grows}
 use Rattle.run_theory.proofs.Pasts.{each_map, each_append, each_past, past_self, past_more}
@@ -41,9 +41,9 @@ module _ {E X : Type 0} (m : Machine E X) where
     where
       own : m.asked e ≡ false → P (m.from (m.signal e)) (m.signal e)
       own asked =
-        let i = m.from (m.signal e) in
-        let h : Each (P i) (m.signal e ∷ taken m i log) = subst (Each (P i)) (taken-step m i e log asked refl) (all i) in
-        h.0
+          let i = m.from (m.signal e) in
+          let h : Each (P i) (m.signal e ∷ taken m i log) = subst (Each (P i)) (taken-step m i e log asked refl) (all i) in
+          h.0
 
   -- what an event of closed logs reads lies below the last stamps
   record IsInside (logs : ℕ → List E) (f : E) : Type 0 where
@@ -67,13 +67,13 @@ module _ {E X : Type 0} (m : Machine E X) where
     where
       took : m.asked f ≡ false → m.from (m.signal f) ≡ m.host e → m.sent_at (m.signal f) < m.stamp e
       took asked from =
-        let below : m.sent_at (m.signal f) ≤ last m (m.host e) (logs (m.host e)) = subst (λ k. m.sent_at (m.signal f) ≤ last m k (logs k)) from (all.0.took asked) in
-        omega (arith, below, above)
+          let below : m.sent_at (m.signal f) ≤ last m (m.host e) (logs (m.host e)) = subst (λ k. m.sent_at (m.signal f) ≤ last m k (logs k)) from (all.0.took asked) in
+          omega (arith, below, above)
 
       made : m.host e ≡ 0 → m.made (m.host f) < m.stamp e
       made first =
-        let over : last m 0 (logs 0) < m.stamp e = subst (λ k. last m k (logs k) < m.stamp e) first above in
-        omega (arith, over, all.0.made)
+          let over : last m 0 (logs 0) < m.stamp e = subst (λ k. last m k (logs k) < m.stamp e) first above in
+          omega (arith, over, all.0.made)
 
   causal_append : (more es : List E) → IsCausal m more → Each (λ e. Each (λ before. MayFollow m before e) es) more → IsCausal m es → IsCausal m (more ++ es)
   causal_append [] es c over c' = c'
@@ -82,14 +82,14 @@ module _ {E X : Type 0} (m : Machine E X) where
   module _ (stamped : IsStamped m) where
     inside_run : (es : List E) → Run m es → Each (IsInside (log_of m es)) es
     inside_run es run =
-      let a = logs_of_run m es run in
-      each_event m (IsInside (log_of m es)) es (λ h. inside_log (log_of m es) h a (closed_of_logs m stamped (log_of m es) a))
+        let a = logs_of_run m es run in
+        each_event m (IsInside (log_of m es)) es (λ h. inside_log (log_of m es) h a (closed_of_logs m stamped (log_of m es) a))
 
     -- a run keeps to causes
     pub causal_of_run : (es : List E) → Run m es → IsCausal m es
     causal_of_run [] run = tt
     causal_of_run (e ∷ es) run =
-      (follows_inside (log_of m es) es e (inside_run es run.0) (step_above m (m.host e) (log_of m es (m.host e)) e run.1.step), causal_of_run es run.0)
+        (follows_inside (log_of m es) es e (inside_run es run.0) (step_above m (m.host e) (log_of m es (m.host e)) e run.1.step), causal_of_run es run.0)
 
     -- of two right logs, one inside the other, the larger are the smaller and further events
     pub grow : (n : ℕ) (es : List E) (large : ℕ → List E) → Run m es → IsWithin n large → AreLogs m large → IsCut (log_of m es) large → Grows m es large
@@ -145,11 +145,11 @@ module _ {E X : Type 0} (m : Machine E X) where
     along_more Q step (e ∷ more) es run q = step (more ++ es) e run.0 run.1 (along_more Q step more es run.0 q)
 
     pub along_cuts : (Q : (ℕ → List E) → Type 0) → ((es : List E) (e : E) → Run m es → Happens m es e → Q (log_of m es) → Q (log_of m (e ∷ es)))
-      → (n : ℕ) (small large : ℕ → List E) → IsWithin n large → AreLogs m large → AreLogs m small → IsCut small large → Q small → Q large
+        → (n : ℕ) (small large : ℕ → List E) → IsWithin n large → AreLogs m large → AreLogs m small → IsCut small large → Q small → Q large
     along_cuts Q step n small large within a a' cut q =
-      let within' = within_cut m stamped n small large within cut in
-      let es = merged m n small in
-      let same : log_of m es ≡ small = logs_merged m n small within' a' in
-      let run = merged_run m stamped n small within' a' in
-      let grown = grow n es large run within a (subst (λ w. IsCut w large) (sym same) cut) in
-      subst Q (fun_ext grown.logs) (along_more Q step grown.more es grown.run (subst Q (sym same) q))
+        let within' = within_cut m stamped n small large within cut in
+        let es = merged m n small in
+        let same : log_of m es ≡ small = logs_merged m n small within' a' in
+        let run = merged_run m stamped n small within' a' in
+        let grown = grow n es large run within a (subst (λ w. IsCut w large) (sym same) cut) in
+        subst Q (fun_ext grown.logs) (along_more Q step grown.more es grown.run (subst Q (sym same) q))

@@ -1,10 +1,10 @@
 -- What running hosts and links keep in the order of time are right logs.
-use Rattle.std.proofs.Common.{◌≡◌, ◌++◌, ℕ, List, [], ◌∷◌, reverse, refl, sym, ap, ◌∙◌, subst}
+use Rattle.std.proofs.Common.{ℕ, List, [], ◌∷◌, reverse, sym, ap, ◌∙◌, subst}
 use Rattle.std.proofs.lemmas.List.{reverse-append, reverse-reverse}
 use mathlib.Core.List.{IsPrefix}
 use Rattle.run_theory.specs.Lists.{HasEntry, IsPast}
 use Rattle.run_theory.specs.Machine.{Machine, IsStamped}
-use Rattle.run_theory.specs.Links.{taken, IsGiven}
+use Rattle.run_theory.specs.Links.{taken}
 use Rattle.run_theory.specs.Runs.{AreLogs, IsWithin}
 use Rattle.run_theory.specs.Orders.{LogsRun}
 use Rattle.run_theory.specs.Hosts.{AreKept}
@@ -26,9 +26,9 @@ module _ {E X : Type 0} (m : Machine E X) where
     local = kept.local;
     there = λ h has. kept.there h (entry_reverse (own h) has);
     linked = λ i j.
-      let all = taken m i (reverse (own j)) in
-      let got : IsPast (reverse (reverse all)) (reverse (puts i j)) = past_trans (past_of_front (reverse all) (takes i j) (kept.took i j)) (past_of_front (takes i j) (puts i j) (kept.gives i j)) in
-      given_less m i j (reverse (own i)) (subst (λ w. IsPast w (reverse (puts i j))) (reverse-reverse all) got) (kept.sends i j);
+        let all = taken m i (reverse (own j)) in
+        let got : IsPast (reverse (reverse all)) (reverse (puts i j)) = past_trans (past_of_front (reverse all) (takes i j) (kept.took i j)) (past_of_front (takes i j) (puts i j) (kept.gives i j)) in
+        given_less m i j (reverse (own i)) (subst (λ w. IsPast w (reverse (puts i j))) (reverse-reverse all) got) (kept.sends i j);
   }
 
   pub hosts_run : IsStamped m → (n : ℕ) (own : ℕ → List E) (puts takes : ℕ → ℕ → List X) → IsWithin n own → AreKept m own puts takes → LogsRun m n (λ h. reverse (own h))

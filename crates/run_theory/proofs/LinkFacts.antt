@@ -1,17 +1,16 @@
 -- Links in words of their own: order, closing, stamps, and how often a signal is taken.
-use Rattle.std.proofs.Common.{◌≡◌, ◌≢◌, ◌⊎◌, ◌==◌, ◌+◌, ◌<◌, ◌≤◌, ℕ, zero, suc, Bool, true, false, cond, List, [], ◌∷◌, ◌++◌, length, reverse, count_by, slice_get, Option, Some, None, if◌then◌else◌, refl, sym, ap, ◌∙◌, subst, inl, inr, arith, eqb-true}
+use Rattle.std.proofs.Common.{◌≡◌, ◌⊎◌, ◌==◌, ◌+◌, ◌<◌, ◌≤◌, ℕ, zero, suc, Bool, true, false, cond, List, [], ◌∷◌, ◌++◌, length, reverse, count_by, slice_get, Some, if◌then◌else◌, refl, sym, ap, ◌∙◌, subst, inl, inr, arith, eqb-true}
 use Rattle.std.proofs.lemmas.List.{reverse-append, length-reverse}
 use Rattle.std.proofs.lemmas.List.Sums.{sum_by-append}
-use Rattle.std.proofs.lemmas.Bool.{cases_Bool}
-use Rattle.run_theory.specs.Lists.{Each, IsIn, IsPast}
+use Rattle.run_theory.specs.Lists.{IsIn, IsPast}
 use Rattle.run_theory.specs.Machine.{Machine, IsStamped}
 use Rattle.run_theory.specs.Links.{sent_by, put, sent, taken, Closes, IsGiven}
 use Rattle.run_theory.specs.Logs.{last, IsStep, IsLog}
 use Rattle.run_theory.specs.Runs.{AreLogs}
 use Rattle.run_theory.specs.LinkLaws.{at_time, IsClosingOf, offered, IsSentBy}
-use Rattle.run_theory.proofs.Pasts.{past_self, past_more, past_trans, each_in, each_past, in_past}
+use Rattle.run_theory.proofs.Pasts.{past_self, past_more, past_trans, each_in, in_past}
 use Rattle.run_theory.proofs.Links.{step_above, signal_below, log_past, sent_by_stop, sent_by_stamped, sent_below, given_less}
-use Rattle.run_theory.proofs.Runs.{taken-step, if_true, if_false}
+use Rattle.run_theory.proofs.Runs.{taken-step, if_true}
 use Rattle.run_theory.proofs.Cuts.{taken_past}
 
 -- what stands in the front of a list stands at the same place in the whole
@@ -57,11 +56,11 @@ count_past p {xs} {ys} past = subst (λ w. count_by p xs ≤ count_by p w) (sym 
 module _ {E X : Type 0} (m : Machine E X) where
   -- the k-th signal that was taken is the k-th that was sent, or the closing
   pub first_in_first_out : (logs : ℕ → List E) → AreLogs m logs → (i j k : ℕ) (x : X) → at_time (taken m i (logs j)) k ≡ Some x
-    → (at_time (sent m i j (logs i)) k ≡ Some x) ⊎ (IsClosingOf m j (logs i) x × (suc k ≡ length (taken m i (logs j))))
+      → (at_time (sent m i j (logs i)) k ≡ Some x) ⊎ (IsClosingOf m j (logs i) x × (suc k ≡ length (taken m i (logs j))))
   first_in_first_out logs a i j k x is = go (logs i) (taken m i (logs j)) (a.linked i j) is
     where
       closed : (e : E) (log : List E) (xs : List X) → (c : Closes m e j (sent m i j (e ∷ log)) xs) → (at_time c.rest k ≡ Some x) ⊎ ((k ≡ length c.rest) × (m.closing e j ≡ x))
-        → (at_time (sent m i j (e ∷ log)) k ≡ Some x) ⊎ (IsClosingOf m j (e ∷ log) x × (suc k ≡ length xs))
+          → (at_time (sent m i j (e ∷ log)) k ≡ Some x) ⊎ (IsClosingOf m j (e ∷ log) x × (suc k ≡ length xs))
       closed e log xs c (inl is) = inl (at_time_past k x c.past is)
       closed e log xs c (inr is) = inr ((c.stops, sym is.1), ap suc is.0 ∙ sym (ap length c.is))
 
@@ -95,9 +94,9 @@ module _ {E X : Type 0} (m : Machine E X) where
       go log xs (inl past) = count_past p (past_trans past (more log))
       go [] xs (inr c) = absurd c
       go (e ∷ log) xs (inr c) =
-        let all : List X = sent m i j (e ∷ log) in
-        let le : count_by p (m.closing e j ∷ c.rest) ≤ count_by p (m.closing e j ∷ all) = omega (arith, count_past p c.past, count_cons p (m.closing e j) c.rest, count_cons p (m.closing e j) all) in
-        subst (λ w. count_by p w ≤ count_by p (offered m i j (e ∷ log))) (sym c.is) (subst (λ w. count_by p (m.closing e j ∷ c.rest) ≤ count_by p w) (sym (if_true (m.closing e j ∷ all) all c.stops)) le)
+          let all : List X = sent m i j (e ∷ log) in
+          let le : count_by p (m.closing e j ∷ c.rest) ≤ count_by p (m.closing e j ∷ all) = omega (arith, count_past p c.past, count_cons p (m.closing e j) c.rest, count_cons p (m.closing e j) all) in
+          subst (λ w. count_by p w ≤ count_by p (offered m i j (e ∷ log))) (sym c.is) (subst (λ w. count_by p (m.closing e j ∷ c.rest) ≤ count_by p w) (sym (if_true (m.closing e j ∷ all) all c.stops)) le)
 
   -- a signal on a link was sent by a step of its sender, which has its stamp
   in_put : (j : ℕ) (x : X) (xs before : List X) → IsIn x (put m j xs before) → (IsIn x xs × (m.to x ≡ j)) ⊎ IsIn x before
@@ -132,24 +131,24 @@ module _ {E X : Type 0} (m : Machine E X) where
     in_given i j log x xs (inl p) = in_sent i j log x (in_past x p (inl refl))
     in_given i j [] x xs (inr c) = absurd c
     in_given i j (e ∷ log) x xs (inr c) =
-      let same : x ≡ m.closing e j = cc (c.is) in
-      record {
-        step = e;
-        before = log;
-        past = past_self (e ∷ log);
-        at = sym (ap m.sent_at same ∙ stamped.closing e j);
-        sends = inr (c.stops, same);
-      }
+        let same : x ≡ m.closing e j = cc (c.is) in
+        record {
+          step = e;
+          before = log;
+          past = past_self (e ∷ log);
+          at = sym (ap m.sent_at same ∙ stamped.closing e j);
+          sends = inr (c.stops, same);
+        }
 
     -- and the step that took it has the greater stamp
     pub stamps_rise : (logs : ℕ → List E) → AreLogs m logs → (j : ℕ) (e : E) (older : List E) → IsPast (e ∷ older) (logs j) → m.asked e ≡ false
-      → (s : IsSentBy m (m.from (m.signal e)) j (logs (m.from (m.signal e))) (m.signal e)) × (m.stamp s.step < m.stamp e)
+        → (s : IsSentBy m (m.from (m.signal e)) j (logs (m.from (m.signal e))) (m.signal e)) × (m.stamp s.step < m.stamp e)
     stamps_rise logs a j e older p asked =
-      let i = m.from (m.signal e) in
-      let l : IsLog m j (e ∷ older) = log_past m j p (a.local j) in
-      let took : IsPast (m.signal e ∷ taken m i older) (taken m i (logs j)) = subst (λ w. IsPast w (taken m i (logs j))) (taken-step m i e older asked refl) (taken_past m i p) in
-      let s : IsSentBy m i j (logs i) (m.signal e) = in_given i j (logs i) (m.signal e) (taken m i older) (given_less m i j (logs i) took (a.linked i j)) in
-      (s, omega (arith, s.at, signal_below m j older e l.0))
+        let i = m.from (m.signal e) in
+        let l : IsLog m j (e ∷ older) = log_past m j p (a.local j) in
+        let took : IsPast (m.signal e ∷ taken m i older) (taken m i (logs j)) = subst (λ w. IsPast w (taken m i (logs j))) (taken-step m i e older asked refl) (taken_past m i p) in
+        let s : IsSentBy m i j (logs i) (m.signal e) = in_given i j (logs i) (m.signal e) (taken m i older) (given_less m i j (logs i) took (a.linked i j)) in
+        (s, omega (arith, s.at, signal_below m j older e l.0))
 
     -- after the closing nothing more is taken
     pub closing_is_last : (logs : ℕ → List E) → AreLogs m logs → (i j : ℕ) (x : X) (newer older : List X) → IsClosingOf m j (logs i) x → taken m i (logs j) ≡ newer ++ x ∷ older → newer ≡ []
@@ -158,9 +157,9 @@ module _ {E X : Type 0} (m : Machine E X) where
         -- the closing is none of the signals that were sent
         apart : (e : E) (log : List E) → IsLog m i (e ∷ log) → IsClosingOf m j (e ∷ log) x → IsIn x (sent m i j (e ∷ log)) → ⊥
         apart e log l c i' =
-          let same : sent m i j (e ∷ log) ≡ sent m i j log = ap (λ w. put m j w (sent m i j log)) (sent_by_stop m i log e c.0) in
-          let below : m.sent_at x ≤ last m i log = each_in (λ y. m.sent_at y ≤ last m i log) x (sent m i j log) (sent_below m stamped i j log l.1) (subst (IsIn x) same i') in
-          omega (arith, below, step_above m i log e l.0, ap m.sent_at c.1, stamped.closing e j)
+            let same : sent m i j (e ∷ log) ≡ sent m i j log = ap (λ w. put m j w (sent m i j log)) (sent_by_stop m i log e c.0) in
+            let below : m.sent_at x ≤ last m i log = each_in (λ y. m.sent_at y ≤ last m i log) x (sent m i j log) (sent_below m stamped i j log l.1) (subst (IsIn x) same i') in
+            omega (arith, below, step_above m i log e l.0, ap m.sent_at c.1, stamped.closing e j)
 
         in_newer : (newer : List X) → IsIn x (newer ++ x ∷ older)
         in_newer [] = inl refl
@@ -174,5 +173,5 @@ module _ {E X : Type 0} (m : Machine E X) where
             rest : (newer : List X) → newer ++ x ∷ older ≡ m.closing e j ∷ d.rest → newer ≡ []
             rest [] is = refl
             rest (y ∷ newer) is =
-              let same : newer ++ x ∷ older ≡ d.rest = cc (is) in
-              absurd (apart e log l c (in_past x d.past (subst (IsIn x) same (in_newer newer))))
+                let same : newer ++ x ∷ older ≡ d.rest = cc (is) in
+                absurd (apart e log l c (in_past x d.past (subst (IsIn x) same (in_newer newer))))

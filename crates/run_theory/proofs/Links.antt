@@ -1,10 +1,10 @@
 -- Stamps along a log and along a link, and what a link gives as its sender's log grows or is cut.
-use Rattle.std.proofs.Common.{◌≡◌, ◌⊎◌, ◌==◌, ◌+◌, ◌<◌, ◌≤◌, ℕ, max, Bool, true, false, List, [], ◌∷◌, ◌++◌, if◌then◌else◌, refl, sym, ap, ◌∙◌, subst, inl, inr, arith}
-use Rattle.run_theory.specs.Lists.{Each, IsIn, HasEntry, IsPast}
+use Rattle.std.proofs.Common.{◌≡◌, ◌⊎◌, ◌==◌, ◌<◌, ◌≤◌, ℕ, Bool, true, false, List, [], ◌∷◌, ◌++◌, if◌then◌else◌, refl, sym, ap, subst, inl, inr, arith}
+use Rattle.run_theory.specs.Lists.{Each, IsPast}
 use Rattle.run_theory.specs.Machine.{Machine, IsStamped}
-use Rattle.run_theory.specs.Links.{sent_by, put, sent, is_from, taken, Closes, IsClosing, IsGiven}
-use Rattle.run_theory.specs.Logs.{last, IsRunning, IsStep, IsLog, IsMade, IsThere}
-use Rattle.run_theory.proofs.Pasts.{past_self, past_nil, past_more, past_less, past_trans, past_append, past_cases, each_map, each_past, each_append}
+use Rattle.run_theory.specs.Links.{sent_by, put, sent, IsGiven}
+use Rattle.run_theory.specs.Logs.{last, IsRunning, IsStep, IsLog}
+use Rattle.run_theory.proofs.Pasts.{past_self, past_nil, past_more, past_trans, past_cases, each_map, each_past}
 
 -- the newest entry has a stamp below s
 abbrev pub HeadBelow : {E X : Type 0} → Machine E X → ℕ → List X → Type 0
@@ -99,7 +99,7 @@ module _ {E X : Type 0} (m : Machine E X) where
     pub sent_below : (i j : ℕ) (log : List E) → IsLog m i log → Each (λ x. m.sent_at x ≤ last m i log) (sent m i j log)
     sent_below i j [] l = tt
     sent_below i j (e ∷ log) l =
-      put_each (λ x. m.sent_at x ≤ m.stamp e) j (sent_by m i log e) (sent m i j log)
+        put_each (λ x. m.sent_at x ≤ m.stamp e) j (sent_by m i log e) (sent m i j log)
         (each_map (λ x. m.sent_at x ≡ m.stamp e) (λ x. m.sent_at x ≤ m.stamp e) (sent_by m i log e) (λ x at. omega (arith, at)) (sent_by_stamped i log e))
         (each_map (λ x. m.sent_at x ≤ last m i log) (λ x. m.sent_at x ≤ m.stamp e) (sent m i j log) (λ x b. omega (arith, b, step_above i log e l.0)) (sent_below i j log l.1))
 
@@ -107,23 +107,23 @@ module _ {E X : Type 0} (m : Machine E X) where
     given_below i j log xs l (inl p) = each_past (λ x. m.sent_at x ≤ last m i log) p (sent_below i j log l)
     given_below i j [] xs l (inr c) = absurd c
     given_below i j (e ∷ log) xs l (inr c) =
-      let P : X → Type 0 = λ x. m.sent_at x ≤ m.stamp e in
-      let all : Each P (m.closing e j ∷ c.rest) = (omega (arith, stamped.closing e j), each_past P c.past (sent_below i j (e ∷ log) l)) in
-      subst (Each P) (sym c.is) all
+        let P : X → Type 0 = λ x. m.sent_at x ≤ m.stamp e in
+        let all : Each P (m.closing e j ∷ c.rest) = (omega (arith, stamped.closing e j), each_past P c.past (sent_below i j (e ∷ log) l)) in
+        subst (Each P) (sym c.is) all
 
     -- what a link gave before its sender's newest step it gave by the log below that step
     pub given_before : (i j : ℕ) (e : E) (log : List E) (xs : List X) → HeadBelow m (m.stamp e) xs → IsGiven m i j (e ∷ log) xs → IsGiven m i j log xs
     given_before i j e log [] below g = inl (past_nil (sent m i j log))
     given_before i j e log (x ∷ xs) below (inl p) =
-      inl (past_under_put (m.stamp e) j x xs (sent_by m i log e) (sent m i j log) below (sent_by_stamped i log e) p)
+        inl (past_under_put (m.stamp e) j x xs (sent_by m i log e) (sent m i j log) below (sent_by_stamped i log e) p)
     given_before i j e log (x ∷ xs) below (inr c) =
-      let head : x ≡ m.closing e j = cc (c.is) in
-      absurd (omega (arith, stamped.closing e j, ap m.sent_at head))
+        let head : x ≡ m.closing e j = cc (c.is) in
+        absurd (omega (arith, stamped.closing e j, ap m.sent_at head))
 
     pub given_after : (i j : ℕ) (newer log : List E) (xs : List X) → IsLog m i (newer ++ log) → Each (λ x. m.sent_at x ≤ last m i log) xs → IsGiven m i j (newer ++ log) xs → IsGiven m i j log xs
     given_after i j [] log xs l below g = g
     given_after i j (e ∷ newer) log xs l below g =
-      given_after i j newer log xs l.1 below (given_before i j e (newer ++ log) xs (head xs below) g)
+        given_after i j newer log xs l.1 below (given_before i j e (newer ++ log) xs (head xs below) g)
       where
         head : (xs : List X) → Each (λ x. m.sent_at x ≤ last m i log) xs → HeadBelow m (m.stamp e) xs
         head [] b = tt

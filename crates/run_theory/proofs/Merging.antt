@@ -1,16 +1,16 @@
 -- Merging logs by (stamp, host) keeps each log, and orders the events by stamp.
-use Rattle.std.proofs.Common.{◌≡◌, ◌≢◌, ◌⊎◌, ◌==◌, ◌+◌, ◌<◌, ◌≤◌, ◌&&◌, ◌||◌, ℕ, zero, suc, Bool, true, false, List, [], ◌∷◌, ◌++◌, if◌then◌else◌, nat_lt, refl, sym, ap, ◌∙◌, subst, ap₂, append-nil, inl, inr, arith}
+use Rattle.std.proofs.Common.{◌≡◌, ◌≢◌, ◌⊎◌, ◌==◌, ◌<◌, ◌≤◌, ◌&&◌, ◌||◌, ℕ, zero, suc, Bool, true, false, List, [], ◌∷◌, ◌++◌, if◌then◌else◌, nat_lt, refl, sym, ap, ◌∙◌, ap₂, append-nil, inl, inr, arith}
 use Rattle.std.proofs.lemmas.Bool.{cases_eq, cases_lt}
 use Rattle.std.proofs.Math.Path.{fun_ext}
 use Rattle.std.proofs.lemmas.Bool.Decides.{nat_tests}
-use Rattle.run_theory.specs.Lists.{Each, HasEntry, IsPast}
+use Rattle.run_theory.specs.Lists.{Each}
 use Rattle.run_theory.specs.Machine.{Machine, IsStamped}
-use Rattle.run_theory.specs.Logs.{last, IsStep, IsLog}
-use Rattle.run_theory.specs.Runs.{log_of, Run, AreLogs, IsWithin}
+use Rattle.run_theory.specs.Logs.{last, IsLog}
+use Rattle.run_theory.specs.Runs.{log_of, AreLogs, IsWithin}
 use Rattle.run_theory.specs.Orders.{HasLogs, IsByStamp, is_after, insert, insert_all, merged, LogsRun}
 use Rattle.run_theory.proofs.Pasts.{each_map}
 use Rattle.run_theory.proofs.Links.{step_above, stamps_below}
-use Rattle.run_theory.proofs.Runs.{log_of-own, log_of-other, if_true, if_false}
+use Rattle.run_theory.proofs.Runs.{log_of-own, log_of-other}
 use Rattle.run_theory.proofs.Orders.{run_by_stamp}
 
 -- what (stamp, host) tells, over plain numbers
@@ -39,11 +39,11 @@ module _ {E X : Type 0} (m : Machine E X) where
     where
       go : (t : Bool) → is_after m f e ≡ t → IsByStamp m (insert m e es) → IsByStamp m (if t then f ∷ insert m e es else e ∷ f ∷ es)
       go true is rest =
-        let above : m.stamp e ≤ m.stamp f = after_stamp (m.stamp e) (m.stamp f) (m.host e) (m.host f) is in
-        (each_insert (λ g. m.stamp g ≤ m.stamp f) e es above b.0, rest)
+          let above : m.stamp e ≤ m.stamp f = after_stamp (m.stamp e) (m.stamp f) (m.host e) (m.host f) is in
+          (each_insert (λ g. m.stamp g ≤ m.stamp f) e es above b.0, rest)
       go false is rest =
-        let above : m.stamp f ≤ m.stamp e = not_after_stamp (m.stamp e) (m.stamp f) (m.host e) (m.host f) is in
-        ((above, each_map (λ g. m.stamp g ≤ m.stamp f) (λ g. m.stamp g ≤ m.stamp e) es (λ g le. omega (arith, above, le)) b.0), b)
+          let above : m.stamp f ≤ m.stamp e = not_after_stamp (m.stamp e) (m.stamp f) (m.host e) (m.host f) is in
+          ((above, each_map (λ g. m.stamp g ≤ m.stamp f) (λ g. m.stamp g ≤ m.stamp e) es (λ g le. omega (arith, above, le)) b.0), b)
 
   by_stamp_insert_all : (log es : List E) → IsByStamp m es → IsByStamp m (insert_all m log es)
   by_stamp_insert_all [] es b = b
@@ -63,7 +63,7 @@ module _ {E X : Type 0} (m : Machine E X) where
       go : (m.host e ≡ h) ⊎ (m.host e ≢ h) → (m.host f ≡ h) ⊎ (m.host f ≢ h) → log_of m (f ∷ e ∷ es) h ≡ log_of m (e ∷ f ∷ es) h
       go (inl at) (inl at') = absurd (apart (at' ∙ sym at))
       go (inl at) (inr other) =
-        log_of-other m f (e ∷ es) h other ∙ (log_of-own m e es h at ∙ (ap (λ w. e ∷ w) (sym (log_of-other m f es h other)) ∙ sym (log_of-own m e (f ∷ es) h at)))
+          log_of-other m f (e ∷ es) h other ∙ (log_of-own m e es h at ∙ (ap (λ w. e ∷ w) (sym (log_of-other m f es h other)) ∙ sym (log_of-own m e (f ∷ es) h at)))
       go (inr other) at = log_of-front f (e ∷ es) es h (log_of-other m e es h other) ∙ sym (log_of-other m e (f ∷ es) h other)
 
   -- an event that is above all of its host goes in front, for every log
@@ -74,9 +74,9 @@ module _ {E X : Type 0} (m : Machine E X) where
       go : (t : Bool) → is_after m f e ≡ t → log_of m (insert m e es) h ≡ log_of m (e ∷ es) h → log_of m (if t then f ∷ insert m e es else e ∷ f ∷ es) h ≡ log_of m (e ∷ f ∷ es) h
       go false is rest = refl
       go true is rest =
-        let above : m.stamp e ≤ m.stamp f = after_stamp (m.stamp e) (m.stamp f) (m.host e) (m.host f) is in
-        let apart : m.host f ≡ m.host e → ⊥ = λ same. omega (arith, below.0 same, above) in
-        log_of-front f (insert m e es) (e ∷ es) h rest ∙ log_of-swap e f es h apart
+          let above : m.stamp e ≤ m.stamp f = after_stamp (m.stamp e) (m.stamp f) (m.host e) (m.host f) is in
+          let apart : m.host f ≡ m.host e → ⊥ = λ same. omega (arith, below.0 same, above) in
+          log_of-front f (insert m e es) (e ∷ es) h rest ∙ log_of-swap e f es h apart
 
   -- each step has a greater stamp than those before it
   abbrev pub Rises : List E → Type 0
@@ -91,10 +91,10 @@ module _ {E X : Type 0} (m : Machine E X) where
   log_of-insert_all : (n : ℕ) (log es : List E) (h : ℕ) → Each (λ e. m.host e ≡ n) log → Rises log → Each (λ e. m.host e < n) es → log_of m (insert_all m log es) h ≡ log_of m (log ++ es) h
   log_of-insert_all n [] es h at rises below = refl
   log_of-insert_all n (e ∷ log) es h at rises below =
-    let P : E → Type 0 = λ f. m.host f ≡ m.host e → m.stamp f < m.stamp e in
-    let new : Each P log = each_map (λ f. m.stamp f < m.stamp e) P log (λ f lt _. lt) rises.0 in
-    let old : Each P es = each_map (λ f. m.host f < n) P es (λ f lt same. absurd (omega (arith, lt, same, at.0))) below in
-    log_of-insert e (insert_all m log es) h (each_insert_all P log es new old) ∙ log_of-front e (insert_all m log es) (log ++ es) h (log_of-insert_all n log es h at.1 rises.1 below)
+      let P : E → Type 0 = λ f. m.host f ≡ m.host e → m.stamp f < m.stamp e in
+      let new : Each P log = each_map (λ f. m.stamp f < m.stamp e) P log (λ f lt _. lt) rises.0 in
+      let old : Each P es = each_map (λ f. m.host f < n) P es (λ f lt same. absurd (omega (arith, lt, same, at.0))) below in
+      log_of-insert e (insert_all m log es) h (each_insert_all P log es new old) ∙ log_of-front e (insert_all m log es) (log ++ es) h (log_of-insert_all n log es h at.1 rises.1 below)
 
   pub log_of-append : (xs ys : List E) (h : ℕ) → log_of m (xs ++ ys) h ≡ log_of m xs h ++ log_of m ys h
   log_of-append [] ys h = refl
@@ -116,7 +116,7 @@ module _ {E X : Type 0} (m : Machine E X) where
   hosts_merged : (n : ℕ) (logs : ℕ → List E) → AreOfHosts logs → Each (λ e. m.host e < n) (merged m n logs)
   hosts_merged zero logs a = tt
   hosts_merged (suc n) logs a =
-    each_insert_all (λ e. m.host e < suc n) (logs n) (merged m n logs)
+      each_insert_all (λ e. m.host e < suc n) (logs n) (merged m n logs)
       (each_map (λ e. m.host e ≡ n) (λ e. m.host e < suc n) (logs n) (λ e is. omega (arith, is)) (a.at n))
       (each_map (λ e. m.host e < n) (λ e. m.host e < suc n) (merged m n logs) (λ e lt. omega (arith, lt)) (hosts_merged n logs a))
 
@@ -126,7 +126,7 @@ module _ {E X : Type 0} (m : Machine E X) where
   log_of-merged_above : (n : ℕ) (logs : ℕ → List E) (h : ℕ) → AreOfHosts logs → n ≤ h → log_of m (merged m n logs) h ≡ []
   log_of-merged_above zero logs h a le = refl
   log_of-merged_above (suc n) logs h a le =
-    log_of-merged_parts n logs h a ∙ ap₂ (λ v w. v ++ w) (log_of-no_host n (logs n) h (λ is. omega arith) (a.at n)) (log_of-merged_above n logs h a (omega arith))
+      log_of-merged_parts n logs h a ∙ ap₂ (λ v w. v ++ w) (log_of-no_host n (logs n) h (λ is. omega arith) (a.at n)) (log_of-merged_above n logs h a (omega arith))
 
   log_of-merged_below : (n : ℕ) (logs : ℕ → List E) (h : ℕ) → AreOfHosts logs → h < n → log_of m (merged m n logs) h ≡ logs h
   log_of-merged_below zero logs h a lt = absurd (omega arith)
@@ -134,7 +134,7 @@ module _ {E X : Type 0} (m : Machine E X) where
     where
       go : (h < n → log_of m (merged m n logs) h ≡ logs h) → (n ≡ h) ⊎ (n ≢ h) → log_of m (logs n) h ++ log_of m (merged m n logs) h ≡ logs h
       go rest (inl is) =
-        ap₂ (λ v w. v ++ w) (ap (log_of m (logs n)) (sym is) ∙ (log_of-host n (logs n) (a.at n) ∙ ap logs is)) (log_of-merged_above n logs h a (omega arith)) ∙ append-nil (logs h)
+          ap₂ (λ v w. v ++ w) (ap (log_of m (logs n)) (sym is) ∙ (log_of-host n (logs n) (a.at n) ∙ ap logs is)) (log_of-merged_above n logs h a (omega arith)) ∙ append-nil (logs h)
       go rest (inr apart) = ap₂ (λ v w. v ++ w) (log_of-no_host n (logs n) h apart (a.at n)) (rest (omega arith))
 
   -- the merged list has the logs that were merged

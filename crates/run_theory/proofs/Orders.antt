@@ -1,18 +1,17 @@
 -- Right logs are a run, in any order that keeps to causes.
-use Rattle.std.proofs.Common.{◌≡◌, ◌≢◌, ◌⊎◌, ◌==◌, ◌+◌, ◌<◌, ◌≤◌, ℕ, Bool, true, false, List, [], ◌∷◌, ◌++◌, if◌then◌else◌, refl, sym, ap, ◌∙◌, subst, inl, inr, arith}
+use Rattle.std.proofs.Common.{◌≡◌, ◌≢◌, ◌⊎◌, ◌<◌, ◌≤◌, ℕ, false, List, [], ◌∷◌, refl, sym, ap, ◌∙◌, subst, inl, inr, arith}
 use Rattle.std.proofs.lemmas.Bool.{cases_eq}
 use Rattle.std.proofs.Math.Path.{fun_ext}
 use Rattle.run_theory.specs.Lists.{Each, HasEntry, IsPast}
 use Rattle.run_theory.specs.Machine.{Machine, IsStamped}
-use Rattle.run_theory.specs.Links.{sent, is_from, taken, IsGiven}
-use Rattle.run_theory.specs.Logs.{last, IsStep, IsLog, IsMade, IsThere}
-use Rattle.run_theory.specs.Runs.{log_of, Happens, Run, AreLogs, IsWithin}
-use Rattle.run_theory.specs.Cuts.{IsCut, IsClosed}
+use Rattle.run_theory.specs.Links.{taken, IsGiven}
+use Rattle.run_theory.specs.Logs.{last, IsLog, IsMade, IsThere}
+use Rattle.run_theory.specs.Runs.{log_of, Happens, Run, AreLogs}
 use Rattle.run_theory.specs.Orders.{HasLogs, IsByStamp, MayFollow, IsCausal}
-use Rattle.run_theory.proofs.Pasts.{past_self, past_cases, entry_past, each_map, each_past}
+use Rattle.run_theory.proofs.Pasts.{past_cases, entry_past, each_map, each_past}
 use Rattle.run_theory.proofs.Links.{step_above, signal_below, given_before, given_less, HeadBelow, log_past}
 use Rattle.run_theory.proofs.Runs.{log_of-own, log_of-other, log_of-past, taken-step, TakenCases, taken_cases, took, same}
-use Rattle.run_theory.proofs.Cuts.{taken_past, made_inside}
+use Rattle.run_theory.proofs.Cuts.{taken_past}
 
 module _ {E X : Type 0} (m : Machine E X) where
   -- the event is of the log of its host
@@ -39,8 +38,8 @@ module _ {E X : Type 0} (m : Machine E X) where
   pub each_event : (P : E → Type 0) (es : List E) → ((h : ℕ) → Each P (log_of m es h)) → Each P es
   each_event P [] all = tt
   each_event P (e ∷ es) all =
-    let own : Each P (e ∷ log_of m es (m.host e)) = rw (log_of-own m e es (m.host e) refl) at (all (m.host e)) in
-    (own.0, each_event P es (λ h. each_past P (log_of-past m e es h) (all h)))
+      let own : Each P (e ∷ log_of m es (m.host e)) = rw (log_of-own m e es (m.host e) refl) at (all (m.host e)) in
+      (own.0, each_event P es (λ h. each_past P (log_of-past m e es h) (all h)))
 
   -- what holds of the signal of each step that took it from a link holds of all that was taken
   pub each_taken : (P : X → Type 0) (i : ℕ) (log : List E) → Each (λ e. m.asked e ≡ false → m.from (m.signal e) ≡ i → P (m.signal e)) log → Each P (taken m i log)
@@ -58,10 +57,10 @@ module _ {E X : Type 0} (m : Machine E X) where
   -- none of these events took what e sent
   head_took : (e : E) (es : List E) (j : ℕ) → Each (λ before. MayFollow m before e) es → HeadBelow m (m.stamp e) (taken m (m.host e) (log_of m es j))
   head_took e es j follows =
-    let Q : E → Type 0 = λ f. m.asked f ≡ false → m.from (m.signal f) ≡ m.host e → m.sent_at (m.signal f) < m.stamp e in
-    head_below (m.stamp e) (taken m (m.host e) (log_of m es j))
+      let Q : E → Type 0 = λ f. m.asked f ≡ false → m.from (m.signal f) ≡ m.host e → m.sent_at (m.signal f) < m.stamp e in
+      head_below (m.stamp e) (taken m (m.host e) (log_of m es j))
       (each_taken (λ x. m.sent_at x < m.stamp e) (m.host e) (log_of m es j)
-        (each_log Q es j (each_map (λ before. MayFollow m before e) Q es (λ before f. f.took) follows)))
+      (each_log Q es j (each_map (λ before. MayFollow m before e) Q es (λ before f. f.took) follows)))
 
   -- none of these events is of a host that e made
   not_made : (e : E) (es : List E) (h : ℕ) → Each (λ before. MayFollow m before e) es → IsLog m h (log_of m es h) → HasEntry (log_of m es h) → m.host e ≡ 0 → m.made h < m.stamp e
@@ -82,8 +81,8 @@ module _ {E X : Type 0} (m : Machine E X) where
     where
       below : m.made h < m.stamp e → (e ∷ log_of m es 0 ≡ d.step ∷ d.before) ⊎ IsPast (d.step ∷ d.before) (log_of m es 0) → IsMade m h (log_of m es 0)
       below lt (inl is) =
-        let same : e ≡ d.step = cc in
-        absurd (omega (arith, lt, d.at, ap m.stamp same))
+          let same : e ≡ d.step = cc in
+          absurd (omega (arith, lt, d.at, ap m.stamp same))
       below lt (inr p) = record { step = d.step; before = d.before; past = p; at = d.at; makes = d.makes }
 
       go : (m.host e ≡ 0) ⊎ (m.host e ≢ 0) → IsMade m h (log_of m es 0)
@@ -105,23 +104,23 @@ module _ {E X : Type 0} (m : Machine E X) where
       local = λ h. log_past m h (log_of-past m e es h) (a.local h);
       there = λ h has. there_before e es h (not_made e es h follows (log_past m h (log_of-past m e es h) (a.local h)) has) (a.there h (entry_past (log_of-past m e es h) has));
       linked = λ i j.
-        linked_before e es i j (taken m i (log_of m es j)) (λ at. subst (λ k. HeadBelow m (m.stamp e) (taken m k (log_of m es j))) at (head_took e es j follows))
+          linked_before e es i j (taken m i (log_of m es j)) (λ at. subst (λ k. HeadBelow m (m.stamp e) (taken m k (log_of m es j))) at (head_took e es j follows))
           (given_less m i j (log_of m (e ∷ es) i) (taken_past m i (log_of-past m e es j)) (a.linked i j));
     }
 
     -- and the newest event happens after the others
     happens_last : (e : E) (es : List E) → AreLogs m (log_of m (e ∷ es)) → Happens m es e
     happens_last e es a =
-      let own = own_log e es a in
-      let i = m.from (m.signal e) in
-      let j = m.host e in
-      record {
-        step = own.0;
-        there = there_before e es j (λ _. omega (arith, made_last j (log_of m es j) own.1, step_above m j (log_of m es j) e own.0)) (a.there j (rw (log_of-own m e es j refl) tt));
-        takes = λ asked.
-          linked_before e es i j (m.signal e ∷ taken m i (log_of m es j)) (λ _. signal_below m j (log_of m es j) e own.0)
-            (subst (IsGiven m i j (log_of m (e ∷ es) i)) (ap (taken m i) (log_of-own m e es j refl) ∙ taken-step m i e (log_of m es j) asked refl) (a.linked i j));
-      }
+        let own = own_log e es a in
+        let i = m.from (m.signal e) in
+        let j = m.host e in
+        record {
+          step = own.0;
+          there = there_before e es j (λ _. omega (arith, made_last j (log_of m es j) own.1, step_above m j (log_of m es j) e own.0)) (a.there j (rw (log_of-own m e es j refl) tt));
+          takes = λ asked.
+              linked_before e es i j (m.signal e ∷ taken m i (log_of m es j)) (λ _. signal_below m j (log_of m es j) e own.0)
+              (subst (IsGiven m i j (log_of m (e ∷ es) i)) (ap (taken m i) (log_of-own m e es j refl) ∙ taken-step m i e (log_of m es j) asked refl) (a.linked i j));
+        }
 
     -- right logs in a causal order are a run
     pub run_in_order : (es : List E) → IsCausal m es → AreLogs m (log_of m es) → Run m es
@@ -139,8 +138,8 @@ module _ {E X : Type 0} (m : Machine E X) where
   pub later_in_log : (h : ℕ) (log : List E) → IsLog m h log → Each IsLater log
   later_in_log h [] l = tt
   later_in_log h (e ∷ log) l =
-    let made : m.made h < m.stamp e = omega (arith, made_last h log l.1, step_above m h log e l.0) in
-    (record { signal = signal_below m h log e l.0; host = subst (λ k. m.made k < m.stamp e) (sym l.0.at) made }, later_in_log h log l.1)
+      let made : m.made h < m.stamp e = omega (arith, made_last h log l.1, step_above m h log e l.0) in
+      (record { signal = signal_below m h log e l.0; host = subst (λ k. m.made k < m.stamp e) (sym l.0.at) made }, later_in_log h log l.1)
 
   pub causal_by_stamp : (es : List E) → Each IsLater es → IsByStamp m es → IsCausal m es
   causal_by_stamp [] later b = tt
@@ -157,5 +156,5 @@ module _ {E X : Type 0} (m : Machine E X) where
   -- right logs in an order by stamp are a run
   pub run_by_stamp : IsStamped m → (es : List E) (logs : ℕ → List E) → HasLogs m es logs → IsByStamp m es → AreLogs m logs → Run m es
   run_by_stamp stamped es logs has b a =
-    let own = subst (AreLogs m) (sym (fun_ext has)) a in
-    run_in_order stamped es (causal_of_stamps es own b) own
+      let own = subst (AreLogs m) (sym (fun_ext has)) a in
+      run_in_order stamped es (causal_of_stamps es own b) own

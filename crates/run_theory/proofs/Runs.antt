@@ -1,11 +1,11 @@
 -- Runs leave right logs.
-use Rattle.std.proofs.Common.{◌≡◌, ◌≢◌, ◌⊎◌, ◌==◌, ◌+◌, ◌<◌, ◌≤◌, ◌&&◌, not, ℕ, zero, suc, Bool, true, false, List, [], ◌∷◌, ◌++◌, if◌then◌else◌, refl, sym, ap, ◌∙◌, subst, subst₂, inl, inr, arith, eqb-true, eq-eqb, ne_eqb}
+use Rattle.std.proofs.Common.{◌≡◌, ◌≢◌, ◌⊎◌, ◌==◌, ◌&&◌, not, ℕ, Bool, true, false, List, [], ◌∷◌, if◌then◌else◌, refl, subst, subst₂, inl, inr, eq-eqb, ne_eqb}
 use Rattle.std.proofs.lemmas.Bool.{cases_eq, cases_Bool}
-use Rattle.run_theory.specs.Lists.{Each, IsIn, HasEntry, IsPast}
-use Rattle.run_theory.specs.Machine.{Machine, IsStamped}
-use Rattle.run_theory.specs.Links.{sent, is_from, taken, IsGiven}
-use Rattle.run_theory.specs.Logs.{last, IsRunning, IsStep, IsLog, IsMade, IsThere}
-use Rattle.run_theory.specs.Runs.{log_of, Happens, Run, AreLogs, IsWithin}
+use Rattle.run_theory.specs.Lists.{HasEntry, IsPast}
+use Rattle.run_theory.specs.Machine.{Machine}
+use Rattle.run_theory.specs.Links.{taken, IsGiven}
+use Rattle.run_theory.specs.Logs.{IsRunning, IsStep, IsLog, IsMade, IsThere}
+use Rattle.run_theory.specs.Runs.{log_of, Happens, Run, AreLogs}
 use Rattle.run_theory.proofs.Pasts.{past_self, past_more, past_trans}
 use Rattle.run_theory.proofs.Links.{given_more}
 

@@ -6,12 +6,10 @@ pub fn closed_cuts_are_right_logs<E, X>()
     ensures where_right { CutsAreClosedWhereRight E X }
     ensures whole { LogsAreClosed E X }
     ensures run { ClosedCutsRun E X }
-{
-}
+{}
 
 /// Of two closed cuts, one inside the other, the larger is the smaller plus further events.
 pub fn closed_cuts_grow<E, X>()
     ensures grow { ClosedCutsGrow E X }
     ensures keep { ClosedCutsKeep E X }
-{
-}
+{}

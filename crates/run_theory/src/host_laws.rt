@@ -5,5 +5,4 @@ ghost use Rattle.run_theory.specs.HostLaws.{HostsKeepRightLogs, HostsRun};
 pub fn logs_of_hosts<E, X>()
     ensures logs { HostsKeepRightLogs E X }
     ensures run { HostsRun E X }
-{
-}
+{}

@@ -4,5 +4,4 @@ ghost use Rattle.run_theory.specs.LiteralLaws.{ChannelsAdmitRuns};
 /// Both admit the same events, and so the same logs.
 pub fn channels_admit_runs<E, X>()
     ensures { ChannelsAdmitRuns E X }
-{
-}
+{}

@@ -1,5 +1,4 @@
 use Rattle.run_theory.specs.TestMachine.{machine}
-use Rattle.run_theory.proofs.Pasts.{past_trans}
 use Rattle.std.proofs.Common.{IsTrue}
 use Rattle.run_theory.proofs.Cuts.{logs_of_closed}
 use Rattle.run_theory.proofs.Along.{within_cut}
