@@ -10,3 +10,4 @@ pub mod LinkFacts
 pub mod HostFacts
 pub mod Channels
 pub mod Drops
+pub mod Sorting

@@ -105,11 +105,11 @@ module _ {E X : Type 0} (m : Machine E X) where
       go rest (inr at) = log_of-other m e (xs ++ ys) h at ∙ (rest ∙ ap (λ w. w ++ log_of m ys h) (sym (log_of-other m e xs h at)))
 
   -- the steps of one host have its log alone
-  log_of-host : (n : ℕ) (log : List E) → Each (λ e. m.host e ≡ n) log → log_of m log n ≡ log
+  pub log_of-host : (n : ℕ) (log : List E) → Each (λ e. m.host e ≡ n) log → log_of m log n ≡ log
   log_of-host n [] at = refl
   log_of-host n (e ∷ log) at = log_of-own m e log n at.0 ∙ ap (λ w. e ∷ w) (log_of-host n log at.1)
 
-  log_of-no_host : (n : ℕ) (log : List E) (h : ℕ) → (n ≡ h → ⊥) → Each (λ e. m.host e ≡ n) log → log_of m log h ≡ []
+  pub log_of-no_host : (n : ℕ) (log : List E) (h : ℕ) → (n ≡ h → ⊥) → Each (λ e. m.host e ≡ n) log → log_of m log h ≡ []
   log_of-no_host n [] h apart at = refl
   log_of-no_host n (e ∷ log) h apart at = log_of-other m e log h (λ is. apart (sym at.0 ∙ is)) ∙ log_of-no_host n log h apart at.1
 

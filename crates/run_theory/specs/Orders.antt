@@ -1,8 +1,13 @@
 -- Orders in which the steps of right logs may stand in one list.
-use Rattle.std.specs.Prelude.{◌≡◌, ◌==◌, ◌<◌, ◌≤◌, ◌&&◌, ◌||◌, ℕ, zero, suc, Bool, false, List, [], ◌∷◌, if◌then◌else◌, nat_lt}
+use Rattle.std.specs.Prelude.{◌≡◌, ◌==◌, ◌<◌, ◌≤◌, ◌&&◌, ◌||◌, ℕ, zero, suc, Bool, false, List, [], ◌∷◌, ◌++◌, if◌then◌else◌, nat_lt}
 use Rattle.run_theory.specs.Lists.{Each}
 use Rattle.run_theory.specs.Machine.{Machine}
 use Rattle.run_theory.specs.Runs.{Run, log_of}
+
+-- the logs of the hosts below n one behind another
+abbrev pub joined : {E : Type 0} → ℕ → (ℕ → List E) → List E
+joined zero logs = []
+joined (suc n) logs = logs n ++ joined n logs
 
 module _ {E X : Type 0} (m : Machine E X) where
   -- these events, in some order, are the steps of these logs, and keep the order of each log

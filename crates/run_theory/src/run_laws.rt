@@ -1,5 +1,5 @@
 //! Runs and right logs are the same thing.
-ghost use Rattle.run_theory.specs.RunLaws.{RunsLeaveRightLogs, RunsAreCausal, MergedLogsRun, LogsByStampRun, CausalLogsRun, SchedulesRunMerged};
+ghost use Rattle.run_theory.specs.RunLaws.{RunsLeaveRightLogs, RunsAreCausal, MergedLogsRun, LogsByStampRun, SortedLogsRun, CausalLogsRun, SchedulesRunMerged};
 
 /// A run leaves right logs, and keeps to causes.
 pub fn runs_leave_right_logs<E, X>()
@@ -7,10 +7,12 @@ pub fn runs_leave_right_logs<E, X>()
     ensures causal { RunsAreCausal E X }
 {}
 
-/// Right logs are a run: merged in order of (stamp, host), in any order by stamp, and in any order that keeps to causes.
+/// Right logs are a run: merged in order of (stamp, host), in any order by stamp, as a sort gives one, and in any order
+/// that keeps to causes.
 pub fn right_logs_are_a_run<E, X>()
     ensures merged { MergedLogsRun E X }
     ensures by_stamp { LogsByStampRun E X }
+    ensures sorted { SortedLogsRun E X }
     ensures causal { CausalLogsRun E X }
 {}
 
