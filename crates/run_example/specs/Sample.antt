@@ -1,6 +1,8 @@
 -- A sample run: host 1 stops with a pong unsent, and host 2 is made and plays on.
-use Rattle.std.specs.Prelude.{ℕ, List, [], ◌∷◌, suc, zero}
-use Rattle.run_theory.specs.Runs.{Run}
+use Rattle.std.specs.Prelude.{◌≡◌, ℕ, List, [], ◌∷◌, suc, zero}
+use Rattle.run_theory.specs.Links.{sent, taken}
+use Rattle.run_theory.specs.Runs.{log_of, Run}
+use Rattle.run_theory.specs.Cuts.{IsClosed}
 use Rattle.run_example.specs.declared.game.Kind.{Kind}
 use Rattle.run_example.specs.declared.game.Kind.TheVariants.{Serve, Make, Stop, Ping, Pong, Closed}
 use Rattle.run_example.specs.declared.game.Signal.{Signal}
@@ -39,3 +41,18 @@ sample =
 -- the sample is a run
 abbrev pub SampleRuns : Type 0
 SampleRuns = Run (game sample_made) sample
+
+-- host 1 sent two pongs, of which host 0 took the first and then the closing: the second was lost
+abbrev pub SampleLosesPong : Type 0
+SampleLosesPong =
+    (sent (game sample_made) 1 0 (log_of (game sample_made) sample 1) ≡ signal 1 0 3 (Pong 8) ∷ signal 1 0 2 (Pong 7) ∷ [])
+    × (taken (game sample_made) 1 (log_of (game sample_made) sample 0) ≡ signal 1 0 4 Closed ∷ signal 1 0 2 (Pong 7) ∷ [])
+
+-- the cut that has the log of host 0 alone
+abbrev pub torn : ℕ → List Step
+torn zero = log_of (game sample_made) sample 0
+torn (suc h) = []
+
+-- it isn't closed, since host 0 took what other hosts sent
+abbrev pub TornIsOpen : Type 0
+TornIsOpen = ¬ IsClosed (game sample_made) torn
