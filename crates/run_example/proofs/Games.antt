@@ -53,7 +53,7 @@ module _ (made : ℕ → ℕ) where
       let now : Step → Type 0 = λ f. SignalTells f.signal (log_of (game made) (e ∷ es)) in
       let before : Step → Type 0 = λ f. SignalTells f.signal (log_of (game made) es) in
       let new : before e = tells_asked e.signal.kind e.signal.from e.signal.to (log_of (game made) es) come.told in
-      each_next (game made) now es e h (stays es e e.signal new) (each_map before now (log_of (game made) es h) (λ f. stays es e f.signal) (come.law h))
+      each_next (game made) now es e h (stays es e e.signal new) (each_map before now (log_of (game made) es h) (λ f. stays es e f.signal) (come.all.law h))
 
   kept : IsKept (game made) SignalTells AllTrue
   kept = record {

@@ -36,7 +36,7 @@ module _ {E X : Type 0} (m : Machine E X) where
         record {
           run = run;
           happens = happens;
-          law = all.law;
+          all = all;
           told = λ asked. given_head (λ x. K x (log_of m es)) i j (log_of m es i) (m.signal e) (taken m i (log_of m es j)) (all.sent_hold i j) (all.closing_hold i j) (happens.takes asked);
         }
 

@@ -38,6 +38,7 @@ module _ {E X : Type 0} (m : Machine E X) where
   insert e [] = e ∷ []
   insert e (f ∷ es) = if is_after f e then f ∷ insert e es else e ∷ f ∷ es
 
+  -- the steps of a log, each at its place
   abbrev pub insert_all : List E → List E → List E
   insert_all [] es = es
   insert_all (e ∷ log) es = insert e (insert_all log es)
