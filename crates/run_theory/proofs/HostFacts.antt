@@ -4,7 +4,7 @@ use Rattle.std.proofs.lemmas.List.{reverse-append, reverse-reverse}
 use mathlib.Core.List.{IsPrefix}
 use Rattle.run_theory.specs.Lists.{HasEntry, IsPast}
 use Rattle.run_theory.specs.Machine.{Machine, IsStamped}
-use Rattle.run_theory.specs.Links.{sent_by, put, sent, is_from, taken, IsGiven}
+use Rattle.run_theory.specs.Links.{sent_by, put, sent, is_from, taken}
 use Rattle.run_theory.specs.Runs.{AreLogs, IsWithin}
 use Rattle.run_theory.specs.Orders.{LogsRun}
 use Rattle.run_theory.specs.Hosts.{AreKept}
@@ -31,7 +31,7 @@ module _ {E X : Type 0} (m : Machine E X) where
   put-in_time j (x ∷ xs) before = go (m.to x == j) refl (put-in_time j xs)
     where
       go : (b : Bool) → (m.to x == j) ≡ b → ((w : List X) → reverse (put m j xs w) ≡ reverse w ++ filter (λ y. m.to y == j) xs)
-        → reverse (put m j xs (if b then x ∷ before else before)) ≡ reverse before ++ filter (λ y. m.to y == j) (x ∷ xs)
+          → reverse (put m j xs (if b then x ∷ before else before)) ≡ reverse before ++ filter (λ y. m.to y == j) (x ∷ xs)
       go true is all =
           all (x ∷ before) ∙ (ap (λ w. w ++ filter (λ y. m.to y == j) xs) (reverse-cons x before) ∙ (append_assoc (reverse before) (x ∷ []) (filter (λ y. m.to y == j) xs) ∙ ap (λ w. reverse before ++ w) (sym (if_true (x ∷ filter (λ y. m.to y == j) xs) (filter (λ y. m.to y == j) xs) is))))
       go false is all =

@@ -1,5 +1,5 @@
 -- Links in words of their own: order, closing, stamps, and how often a signal is taken.
-use Rattle.std.proofs.Common.{◌≡◌, ◌⊎◌, ◌==◌, ◌+◌, ◌<◌, ◌≤◌, ℕ, zero, suc, Bool, true, false, cond, List, [], ◌∷◌, ◌++◌, length, reverse, count_by, slice_get, Some, if◌then◌else◌, refl, sym, ap, ◌∙◌, subst, inl, inr, arith, eqb-true}
+use Rattle.std.proofs.Common.{◌≡◌, ◌⊎◌, ◌==◌, ◌+◌, ◌<◌, ◌≤◌, ℕ, zero, suc, Bool, true, false, cond, List, [], ◌∷◌, ◌++◌, length, reverse, count_by, slice_get, Some, if◌then◌else◌, refl, sym, ap, ◌∙◌, subst, inl, inr, arith, eqb-true, Option, None, filter_map}
 use Rattle.std.proofs.lemmas.List.{reverse-append, length-reverse}
 use Rattle.std.proofs.lemmas.List.Sums.{sum_by-append}
 use Rattle.run_theory.specs.Lists.{IsIn, IsPast}
@@ -8,7 +8,7 @@ use Rattle.run_theory.specs.Links.{sent_by, put, sent, taken, Closes, IsGiven}
 use Rattle.run_theory.specs.Logs.{last, IsStep, IsLog}
 use Rattle.run_theory.specs.Runs.{AreLogs}
 use Rattle.run_theory.specs.LinkLaws.{at_time, IsClosingOf, offered, IsSentBy}
-use Rattle.run_theory.proofs.Pasts.{past_self, past_more, past_trans, each_in, in_past}
+use Rattle.run_theory.proofs.Pasts.{past_map, filter_map_none, past_self, past_more, past_trans, each_in, in_past}
 use Rattle.run_theory.proofs.Links.{step_above, signal_below, log_past, sent_by_stop, sent_by_stamped, sent_below, given_less}
 use Rattle.run_theory.proofs.Runs.{taken-step, if_true}
 use Rattle.run_theory.proofs.Cuts.{taken_past}
@@ -68,6 +68,18 @@ module _ {E X : Type 0} (m : Machine E X) where
       go log xs (inl p) is = inl (at_time_past k x p is)
       go [] xs (inr c) is = absurd c
       go (e ∷ log) xs (inr c) is = closed e log xs c (at_time_push c.rest (m.closing e j) k x (subst (λ w. at_time w k ≡ Some x) c.is is))
+
+  -- what is read off the signals taken from a link, but not off its closing, is an older part of what is read off those sent
+  pub link_projects : {Y : Type 0} (logs : ℕ → List E) → AreLogs m logs → (i j : ℕ) (f : X → Option Y) → ((x : X) → IsClosingOf m j (logs i) x → f x ≡ None)
+      → IsPast (filter_map f (taken m i (logs j))) (filter_map f (sent m i j (logs i)))
+  link_projects {Y} logs a i j f none = go (logs i) (taken m i (logs j)) none (a.linked i j)
+    where
+      go : (log : List E) (xs : List X) → ((x : X) → IsClosingOf m j log x → f x ≡ None) → IsGiven m i j log xs → IsPast (filter_map f xs) (filter_map f (sent m i j log))
+      go log xs none (inl p) = past_map f xs (sent m i j log) p
+      go [] xs none (inr c) = absurd c
+      go (e ∷ log) xs none (inr c) =
+          let same : filter_map f xs ≡ filter_map f c.rest = ap (filter_map f) c.is ∙ filter_map_none f (m.closing e j) c.rest (none (m.closing e j) (c.stops, refl)) in
+          subst (λ w. IsPast w (filter_map f (sent m i j (e ∷ log)))) (sym same) (past_map f c.rest (sent m i j (e ∷ log)) c.past)
 
   -- nothing follows a step that stops
   pub nothing_follows_stop : (h : ℕ) (newer older : List E) (e : E) → IsLog m h (newer ++ e ∷ older) → m.stops e ≡ true → newer ≡ []

@@ -1,5 +1,6 @@
 -- Older parts of a list, and what holds of each entry.
-use Rattle.std.proofs.Common.{◌≡◌, ◌⊎◌, List, [], ◌∷◌, ◌++◌, refl, sym, ap, ◌∙◌, subst, inl, inr, append_assoc}
+use Rattle.std.proofs.Common.{◌≡◌, ◌⊎◌, List, [], ◌∷◌, ◌++◌, refl, sym, ap, ◌∙◌, subst, inl, inr, append_assoc, ◌≤◌, length, Option, None, filter_map, arith, length-append}
+use Rattle.std.proofs.lemmas.List.Elements.{filter_map-append}
 use Rattle.run_theory.specs.Lists.{Each, IsIn, HasEntry, IsPast}
 
 pub past_self : {A : Type 0} (xs : List A) → IsPast xs xs
@@ -72,3 +73,18 @@ entry_past {A} {xs} p h = subst HasEntry (sym p.is) (go p.newer)
     go : (newer : List A) → HasEntry (newer ++ xs)
     go [] = h
     go (n ∷ newer) = tt
+
+-- an older part as long as the whole is the whole
+pub past_whole : {A : Type 0} (xs ys : List A) → IsPast xs ys → length ys ≤ length xs → xs ≡ ys
+past_whole {A} xs ys p le = go p.newer p.is
+  where
+    go : (newer : List A) → ys ≡ newer ++ xs → xs ≡ ys
+    go [] is = sym is
+    go (n ∷ newer) is = absurd (omega (arith, le, ap length is, length-append newer xs))
+
+-- what is read off an older part is an older part of what is read off the whole
+pub past_map : {A B : Type 0} (f : A → Option B) (xs ys : List A) → IsPast xs ys → IsPast (filter_map f xs) (filter_map f ys)
+past_map f xs ys p = record { newer = filter_map f p.newer; is = ap (filter_map f) p.is ∙ filter_map-append f p.newer xs }
+
+pub filter_map_none : {A B : Type 0} (f : A → Option B) (x : A) (xs : List A) → f x ≡ None → filter_map f (x ∷ xs) ≡ filter_map f xs
+filter_map_none f x xs is = rw is refl

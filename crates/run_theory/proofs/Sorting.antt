@@ -125,8 +125,8 @@ module _ {E X : Type 0} (m : Machine E X) where
   -- the same events in another order have the same steps of a host
   in_log_again : (all es : List E) (h : ℕ) → IsPermutation all es → (x : E) → IsIn x (log_of m all h) → IsIn x (log_of m es h)
   in_log_again all es h p x i =
-    let o = each_in (IsOf h all) x (log_of m all h) (of_log all h) i in
-    in_log x es h o.at (in_permutation x all es p o.inside)
+      let o = each_in (IsOf h all) x (log_of m all h) (of_log all h) i in
+      in_log x es h o.at (in_permutation x all es p o.inside)
 
   by_stamp_log : (es : List E) (h : ℕ) → IsByStamp m es → IsByStamp m (log_of m es h)
   by_stamp_log [] h b = tt
@@ -142,7 +142,7 @@ module _ {E X : Type 0} (m : Machine E X) where
   count_log (e ∷ es) h s = go (m.host e == h) refl (count_log es h s) ∙ sym (sum_by-cons (λ f. cond (is_at h s f) 1 0) e es)
     where
       go : (b : Bool) → (m.host e == h) ≡ b → count_by (has_stamp s) (log_of m es h) ≡ count_by (is_at h s) es
-        → count_by (has_stamp s) (cond b (e ∷ log_of m es h) (log_of m es h)) ≡ cond (b && has_stamp s e) 1 0 + count_by (is_at h s) es
+          → count_by (has_stamp s) (cond b (e ∷ log_of m es h) (log_of m es h)) ≡ cond (b && has_stamp s e) 1 0 + count_by (is_at h s) es
       go true at rest = sum_by-cons (λ f. cond (has_stamp s f) 1 0) e (log_of m es h) ∙ ap (λ n. cond (has_stamp s e) 1 0 + n) rest
       go false at rest = omega (arith, rest)
 
@@ -168,7 +168,7 @@ module _ {E X : Type 0} (m : Machine E X) where
   log_of-joined_above : (n : ℕ) (logs : ℕ → List E) (h : ℕ) → AreOfHosts m logs → n ≤ h → log_of m (joined n logs) h ≡ []
   log_of-joined_above zero logs h a le = refl
   log_of-joined_above (suc n) logs h a le =
-    log_of-append m (logs n) (joined n logs) h ∙ ap₂ (λ v w. v ++ w) (log_of-no_host m n (logs n) h (λ is. omega arith) (a.at n)) (log_of-joined_above n logs h a (omega arith))
+      log_of-append m (logs n) (joined n logs) h ∙ ap₂ (λ v w. v ++ w) (log_of-no_host m n (logs n) h (λ is. omega arith) (a.at n)) (log_of-joined_above n logs h a (omega arith))
 
   log_of-joined_below : (n : ℕ) (logs : ℕ → List E) (h : ℕ) → AreOfHosts m logs → h < n → log_of m (joined n logs) h ≡ logs h
   log_of-joined_below zero logs h a lt = absurd (omega arith)

@@ -1,5 +1,5 @@
 -- The laws of logs and links in words of their own, as the contracts of functions name them.
-use Rattle.std.specs.Prelude.{◌≡◌, ◌⊎◌, ◌<◌, ◌≤◌, ℕ, suc, Bool, true, false, List, [], ◌∷◌, ◌++◌, length, reverse, count_by, slice_get, Option, Some, if◌then◌else◌}
+use Rattle.std.specs.Prelude.{◌≡◌, ◌⊎◌, ◌<◌, ◌≤◌, ℕ, suc, Bool, true, false, List, [], ◌∷◌, ◌++◌, length, reverse, count_by, slice_get, Option, Some, None, filter_map, if◌then◌else◌}
 use Rattle.run_theory.specs.Lists.{IsIn, IsPast}
 use Rattle.run_theory.specs.Machine.{Machine, IsStamped}
 use Rattle.run_theory.specs.TestMachine.{TestMachine, machine}
@@ -60,3 +60,10 @@ abbrev pub TakenAtMostOnce : (E X : Type 0) → Type 0
 TakenAtMostOnce E X =
     (t : TestMachine E X) (logs : ℕ → List E) → AreLogs (machine t) logs → (i j : ℕ) (p : X → Bool)
     → count_by p (taken (machine t) i (logs j)) ≤ count_by p (offered (machine t) i j (logs i))
+
+-- what one reads off the signals taken from a link, but not off its closing, is an older part of what one reads off
+-- those sent
+abbrev pub LinksProject : (E X Y : Type 0) → Type 0
+LinksProject E X Y =
+    (t : TestMachine E X) (logs : ℕ → List E) → AreLogs (machine t) logs → (i j : ℕ) (f : X → Option Y) → ((x : X) → IsClosingOf (machine t) j (logs i) x → f x ≡ None)
+    → IsPast (filter_map f (taken (machine t) i (logs j))) (filter_map f (sent (machine t) i j (logs i)))

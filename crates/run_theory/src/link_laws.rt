@@ -1,5 +1,5 @@
 //! The laws of logs and links in words of their own.
-ghost use Rattle.run_theory.specs.LinkLaws.{FirstInFirstOut, NothingFollowsStop, ClosingIsLast, StampsRise, TakenAtMostOnce};
+ghost use Rattle.run_theory.specs.LinkLaws.{FirstInFirstOut, NothingFollowsStop, ClosingIsLast, StampsRise, TakenAtMostOnce, LinksProject};
 
 /// The k-th signal that was taken from a link is the k-th that was sent, until the closing.
 pub fn first_in_first_out<E, X>()
@@ -24,4 +24,9 @@ pub fn stamps_rise<E, X>()
 /// A signal is taken at most once.
 pub fn taken_at_most_once<E, X>()
     ensures { TakenAtMostOnce E X }
+{}
+
+/// What one reads off the signals taken from a link is an older part of what one reads off those sent.
+pub fn links_project<E, X, Y>()
+    ensures { LinksProject E X Y }
 {}
