@@ -2,6 +2,7 @@
 use Rattle.std.specs.Prelude.{ℕ, ◌≡◌, List}
 use Rattle.run_theory.specs.Lists.{Each, IsIn}
 use Rattle.run_theory.specs.Runs.{AreLogs, IsWithin}
+use Rattle.run_theory.specs.Orders.{LogsRun}
 use Rattle.run_theory.specs.Cuts.{IsCut, IsClosed}
 use Rattle.run_example.specs.declared.game.Kind.{Kind}
 use Rattle.run_example.specs.declared.game.Kind.TheVariants.{Serve, Ping, Pong}
@@ -34,3 +35,7 @@ abbrev pub PongsAnswerPings : Type 0
 PongsAnswerPings =
     (made : ℕ → ℕ) (n : ℕ) (inside logs : ℕ → List Step) → IsWithin n logs → AreLogs (game made) logs → IsCut inside logs → IsClosed (game made) inside
     → AllTrue inside
+
+-- right logs of the game, merged, are a run
+abbrev pub GameLogsRun : Type 0
+GameLogsRun = (made : ℕ → ℕ) (n : ℕ) (logs : ℕ → List Step) → IsWithin n logs → AreLogs (game made) logs → LogsRun (game made) n logs

@@ -5,4 +5,4 @@ mod game;
 mod game_laws;
 
 pub use game::{Kind, Signal, Step};
-pub use game_laws::{game_has_runs, pongs_answer_pings};
+pub use game_laws::{game_has_runs, game_logs_are_a_run, pongs_answer_pings};
