@@ -33,7 +33,8 @@ AllTrue logs = (h : ℕ) → Each (λ e. SignalTells e.signal logs) (logs h)
 -- ping of a ball that was served
 abbrev pub PongsAnswerPings : Type 0
 PongsAnswerPings =
-    (made : ℕ → ℕ) (n : ℕ) (inside logs : ℕ → List Step) → IsWithin n logs → AreLogs (game made) logs → IsCut inside logs → IsClosed (game made) inside
+    (made : ℕ → ℕ) (n : ℕ) (inside logs : ℕ → List Step) → IsWithin n logs → AreLogs (game made) logs
+    → IsCut inside logs → IsClosed (game made) inside
     → AllTrue inside
 
 -- right logs of the game, merged, are a run

@@ -14,7 +14,8 @@ HostsKeepRightLogs E X = (t : TestMachine E X) (own : ℕ → List E) (puts take
 -- and so a run, in merged order
 abbrev pub HostsRun : (E X : Type 0) → Type 0
 HostsRun E X =
-    (t : TestMachine E X) → IsStamped (machine t) → (n : ℕ) (own : ℕ → List E) (puts takes : ℕ → ℕ → List X) → IsWithin n own → AreKept (machine t) own puts takes
+    (t : TestMachine E X) → IsStamped (machine t) → (n : ℕ) (own : ℕ → List E) (puts takes : ℕ → ℕ → List X)
+    → IsWithin n own → AreKept (machine t) own puts takes
     → LogsRun (machine t) n (λ h. reverse (own h))
 
 -- in the order of time a step adds what it sends to a host behind all that was sent to it before

@@ -34,24 +34,28 @@ module _ {E X : Type 0} (m : Machine E X) where
 -- and that is the last one taken.
 abbrev pub FirstInFirstOut : (E X : Type 0) → Type 0
 FirstInFirstOut E X =
-    (t : TestMachine E X) (logs : ℕ → List E) → AreLogs (machine t) logs → (i j k : ℕ) (x : X) → at_time (taken (machine t) i (logs j)) k ≡ Some x
+    (t : TestMachine E X) (logs : ℕ → List E) → AreLogs (machine t) logs → (i j k : ℕ) (x : X)
+    → at_time (taken (machine t) i (logs j)) k ≡ Some x
     → (at_time (sent (machine t) i j (logs i)) k ≡ Some x) ⊎ (IsClosingOf (machine t) j (logs i) x × (suc k ≡ length (taken (machine t) i (logs j))))
 
 -- nothing follows a step that stops
 abbrev pub NothingFollowsStop : (E X : Type 0) → Type 0
 NothingFollowsStop E X =
-    (t : TestMachine E X) (h : ℕ) (newer older : List E) (e : E) → IsLog (machine t) h (newer ++ e ∷ older) → t.stops e ≡ true → newer ≡ []
+    (t : TestMachine E X) (h : ℕ) (newer older : List E) (e : E) → IsLog (machine t) h (newer ++ e ∷ older)
+    → t.stops e ≡ true → newer ≡ []
 
 -- after the closing of a link nothing more is taken from it
 abbrev pub ClosingIsLast : (E X : Type 0) → Type 0
 ClosingIsLast E X =
-    (t : TestMachine E X) → IsStamped (machine t) → (logs : ℕ → List E) → AreLogs (machine t) logs → (i j : ℕ) (x : X) (newer older : List X)
+    (t : TestMachine E X) → IsStamped (machine t) → (logs : ℕ → List E) → AreLogs (machine t) logs
+    → (i j : ℕ) (x : X) (newer older : List X)
     → IsClosingOf (machine t) j (logs i) x → taken (machine t) i (logs j) ≡ newer ++ x ∷ older → newer ≡ []
 
 -- a signal that a link gave was sent by a step of its sender, and the step that took it has the greater stamp
 abbrev pub StampsRise : (E X : Type 0) → Type 0
 StampsRise E X =
-    (t : TestMachine E X) → IsStamped (machine t) → (logs : ℕ → List E) → AreLogs (machine t) logs → (j : ℕ) (e : E) (older : List E)
+    (t : TestMachine E X) → IsStamped (machine t) → (logs : ℕ → List E) → AreLogs (machine t) logs
+    → (j : ℕ) (e : E) (older : List E)
     → IsPast (e ∷ older) (logs j) → t.asked e ≡ false
     → (s : IsSentBy (machine t) (t.from (t.signal e)) j (logs (t.from (t.signal e))) (t.signal e)) × (t.stamp s.step < t.stamp e)
 
@@ -65,5 +69,6 @@ TakenAtMostOnce E X =
 -- those sent
 abbrev pub LinksProject : (E X Y : Type 0) → Type 0
 LinksProject E X Y =
-    (t : TestMachine E X) (logs : ℕ → List E) → AreLogs (machine t) logs → (i j : ℕ) (f : X → Option Y) → ((x : X) → IsClosingOf (machine t) j (logs i) x → f x ≡ None)
+    (t : TestMachine E X) (logs : ℕ → List E) → AreLogs (machine t) logs → (i j : ℕ) (f : X → Option Y)
+    → ((x : X) → IsClosingOf (machine t) j (logs i) x → f x ≡ None)
     → IsPast (filter_map f (taken (machine t) i (logs j))) (filter_map f (sent (machine t) i j (logs i)))

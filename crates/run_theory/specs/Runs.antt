@@ -15,12 +15,16 @@ module _ {E X : Type 0} (m : Machine E X) where
   log_of [] h = []
   log_of (e ∷ es) h = if m.host e == h then e ∷ log_of es h else log_of es h
 
+  -- after these events the link from host i to host j may give x next
+  abbrev pub GivesNext : List E → ℕ → ℕ → X → Type 0
+  GivesNext es i j x = IsGiven m i j (log_of es i) (x ∷ taken m i (log_of es j))
+
   -- After these events the step e may come: it is a step of its host, its host is there, and its signal is what
-  -- the link gives next, unless no link gave it.
+  -- its link gives next, unless no link gave it.
   pub record Happens (es : List E) (e : E) : Type 0 where
     pub step : IsStep m (m.host e) (log_of es (m.host e)) e
     pub there : IsThere m (m.host e) (log_of es 0)
-    pub takes : m.asked e ≡ false → IsGiven m (m.from (m.signal e)) (m.host e) (log_of es (m.from (m.signal e))) (m.signal e ∷ taken m (m.from (m.signal e)) (log_of es (m.host e)))
+    pub takes : m.asked e ≡ false → GivesNext es (m.from (m.signal e)) (m.host e) (m.signal e)
 
   -- The machine: these events, the newest first, came one after another.
   abbrev pub Run : List E → Type 0
