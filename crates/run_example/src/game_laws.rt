@@ -2,9 +2,8 @@
 ghost use Rattle.run_example.specs.GameLaws.{PongsAnswerPings, GameLogsRun};
 ghost use Rattle.run_example.specs.Sample.{SampleRuns, SampleLosesPong, TornIsOpen};
 
-use run_theory::right_logs_are_a_run;
-
 use crate::game::{Signal, Step};
+use run_theory::right_logs_are_a_run;
 
 /// Right logs of the game, merged, are a run: the law of every machine, at this one.
 pub fn game_logs_are_a_run()
