@@ -1,10 +1,11 @@
 -- What running hosts and links keep in the order of time are right logs.
-use Rattle.std.proofs.Common.{◌≡◌, ◌==◌, ◌++◌, ℕ, Bool, true, false, List, [], ◌∷◌, reverse, filter, if◌then◌else◌, refl, sym, ap, ◌∙◌, subst, append_assoc, append-nil}
+use Rattle.std.proofs.Common.{◌≡◌, ◌==◌, ◌++◌, ℕ, Bool, true, false, List, [], ◌∷◌, reverse, filter, if◌then◌else◌, refl, sym, ap, ◌∙◌, subst, subst₂, take, drop, take-append-drop, append_assoc, append-nil}
 use Rattle.std.proofs.lemmas.List.{reverse-append, reverse-reverse}
 use mathlib.Core.List.{IsPrefix}
 use Rattle.run_theory.specs.Lists.{HasEntry, IsPast}
 use Rattle.run_theory.specs.Machine.{Machine, IsStamped}
-use Rattle.run_theory.specs.Links.{sent_by, put, sent, is_from, taken}
+use Rattle.run_theory.specs.Links.{sent_by, put, sent, is_from, taken, IsGiven}
+use Rattle.run_theory.specs.Logs.{IsLog, IsThere}
 use Rattle.run_theory.specs.Runs.{AreLogs, IsWithin}
 use Rattle.run_theory.specs.Orders.{LogsRun}
 use Rattle.run_theory.specs.Hosts.{AreKept}
@@ -16,6 +17,10 @@ use Rattle.run_theory.proofs.Merging.{merged_run}
 -- a front in the order of time is an older part
 pub past_of_front : {A : Type 0} (xs ys : List A) → IsPrefix xs ys → IsPast (reverse xs) (reverse ys)
 past_of_front xs ys p = record { newer = reverse p.0; is = ap reverse (sym p.1) ∙ reverse-append xs p.0 }
+
+-- the steps up to a length are an older part
+pub past_take : {A : Type 0} (n : ℕ) (xs : List A) → IsPast (reverse (take n xs)) (reverse xs)
+past_take n xs = past_of_front (take n xs) xs (drop n xs, take-append-drop n xs)
 
 entry_reverse : {A : Type 0} (xs : List A) → HasEntry (reverse xs) → HasEntry xs
 entry_reverse [] has = has
@@ -60,3 +65,13 @@ module _ {E X : Type 0} (m : Machine E X) where
 
   pub hosts_run : IsStamped m → (n : ℕ) (own : ℕ → List E) (puts takes : ℕ → ℕ → List X) → IsWithin n own → AreKept m own puts takes → LogsRun m n (λ h. reverse (own h))
   hosts_run stamped n own puts takes within kept = merged_run m stamped n (λ h. reverse (own h)) (λ h le. ap reverse (within h le)) (logs_of_hosts own puts takes kept)
+
+  -- all right logs are kept by some hosts and links
+  pub kept_of_logs : (logs : ℕ → List E) → AreLogs m logs → AreKept m (λ h. reverse (logs h)) (λ i j. reverse (taken m i (logs j))) (λ i j. reverse (taken m i (logs j)))
+  kept_of_logs logs a = record {
+    local = λ h. subst (IsLog m h) (sym (reverse-reverse (logs h))) (a.local h);
+    there = λ h has. subst (IsThere m h) (sym (reverse-reverse (logs 0))) (a.there h (entry_reverse (logs h) has));
+    sends = λ i j. subst₂ (IsGiven m i j) (sym (reverse-reverse (logs i))) (sym (reverse-reverse (taken m i (logs j)))) (a.linked i j);
+    gives = λ i j. ([], append-nil (reverse (taken m i (logs j))));
+    took = λ i j. ([], append-nil (reverse (taken m i (reverse (reverse (logs j))))) ∙ ap (λ w. reverse (taken m i w)) (reverse-reverse (logs j)));
+  }

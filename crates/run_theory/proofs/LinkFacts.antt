@@ -1,16 +1,17 @@
 -- Links in words of their own: order, closing, stamps, and how often a signal is taken.
-use Rattle.std.proofs.Common.{◌≡◌, ◌⊎◌, ◌==◌, ◌+◌, ◌<◌, ◌≤◌, ℕ, zero, suc, Bool, true, false, cond, List, [], ◌∷◌, ◌++◌, length, reverse, count_by, slice_get, Some, if◌then◌else◌, refl, sym, ap, ◌∙◌, subst, inl, inr, arith, eqb-true, Option, None, filter_map}
+use Rattle.std.proofs.Common.{◌≡◌, ◌≢◌, ◌⊎◌, ◌==◌, ◌+◌, ◌<◌, ◌≤◌, ℕ, zero, suc, Bool, true, false, cond, List, [], ◌∷◌, ◌++◌, length, reverse, count_by, slice_get, Some, if◌then◌else◌, refl, sym, ap, ◌∙◌, subst, inl, inr, arith, eqb-true, Option, None, filter_map}
 use Rattle.std.proofs.lemmas.List.{reverse-append, length-reverse}
 use Rattle.std.proofs.lemmas.List.Sums.{sum_by-append}
 use Rattle.run_theory.specs.Lists.{IsIn, IsPast}
 use Rattle.run_theory.specs.Machine.{Machine, IsStamped}
 use Rattle.run_theory.specs.Links.{sent_by, put, sent, taken, Closes, IsGiven}
-use Rattle.run_theory.specs.Logs.{last, IsStep, IsLog}
+use Rattle.run_theory.specs.Logs.{last, IsStep, IsLog, IsMade, IsThere}
 use Rattle.run_theory.specs.Runs.{AreLogs}
 use Rattle.run_theory.specs.LinkLaws.{at_time, IsClosingOf, offered, IsSentBy}
-use Rattle.run_theory.proofs.Pasts.{past_map, filter_map_none, past_self, past_more, past_trans, each_in, in_past}
+use Rattle.run_theory.proofs.Pasts.{entry_past, past_map, filter_map_none, past_self, past_more, past_trans, each_in, in_past}
 use Rattle.run_theory.proofs.Links.{step_above, signal_below, log_past, sent_by_stop, sent_by_stamped, sent_below, given_less}
 use Rattle.run_theory.proofs.Runs.{taken-step, if_true}
+use Rattle.run_theory.proofs.Orders.{made_last}
 use Rattle.run_theory.proofs.Cuts.{taken_past}
 
 -- what stands in the front of a list stands at the same place in the whole
@@ -89,6 +90,18 @@ module _ {E X : Type 0} (m : Machine E X) where
       go : (newer : List E) → newer ≡ [] → IsStep m h (newer ++ e ∷ older) f → f ∷ newer ≡ []
       go [] is s = absurd (cc (s.runs, stop))
       go (g ∷ newer) is s = absurd cc
+
+  -- a host that was made later makes its steps after the step that made it
+  pub hosts_are_made_first : (logs : ℕ → List E) → AreLogs m logs → (h : ℕ) (e : E) (older : List E) → IsPast (e ∷ older) (logs h) → m.made h ≢ 0
+      → (d : IsMade m h (logs 0)) × (m.stamp d.step < m.stamp e)
+  hosts_are_made_first logs a h e older p later = go (a.there h (entry_past p tt))
+    where
+      l : IsLog m h (e ∷ older)
+      l = log_past m h p (a.local h)
+
+      go : IsThere m h (logs 0) → (d : IsMade m h (logs 0)) × (m.stamp d.step < m.stamp e)
+      go (inl first) = absurd (later first)
+      go (inr d) = (d, omega (arith, d.at, made_last m h older l.1, step_above m h older e l.0))
 
   -- of the signals that pass a test, no more are taken than were put on the link
   pub taken_at_most_once : (logs : ℕ → List E) → AreLogs m logs → (i j : ℕ) (p : X → Bool) → count_by p (taken m i (logs j)) ≤ count_by p (offered m i j (logs i))

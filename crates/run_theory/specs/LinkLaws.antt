@@ -1,10 +1,10 @@
 -- The laws of logs and links in words of their own, as the contracts of functions name them.
-use Rattle.std.specs.Prelude.{◌≡◌, ◌⊎◌, ◌<◌, ◌≤◌, ℕ, suc, Bool, true, false, List, [], ◌∷◌, ◌++◌, length, reverse, count_by, slice_get, Option, Some, None, filter_map, if◌then◌else◌}
+use Rattle.std.specs.Prelude.{◌≡◌, ◌≢◌, ◌⊎◌, ◌<◌, ◌≤◌, ℕ, suc, Bool, true, false, List, [], ◌∷◌, ◌++◌, length, reverse, count_by, slice_get, Option, Some, None, filter_map, if◌then◌else◌}
 use Rattle.run_theory.specs.Lists.{IsIn, IsPast}
 use Rattle.run_theory.specs.Machine.{Machine, IsStamped}
 use Rattle.run_theory.specs.TestMachine.{TestMachine, machine}
 use Rattle.run_theory.specs.Links.{sent_by, sent, taken}
-use Rattle.run_theory.specs.Logs.{IsLog}
+use Rattle.run_theory.specs.Logs.{IsLog, IsMade}
 use Rattle.run_theory.specs.Runs.{AreLogs}
 
 -- the k-th entry in the order of time, the oldest one at 0
@@ -58,6 +58,13 @@ StampsRise E X =
     → (j : ℕ) (e : E) (older : List E)
     → IsPast (e ∷ older) (logs j) → t.asked e ≡ false
     → (s : IsSentBy (machine t) (t.from (t.signal e)) j (logs (t.from (t.signal e))) (t.signal e)) × (t.stamp s.step < t.stamp e)
+
+-- a host that was made later makes its steps after the step of host 0 that made it
+abbrev pub HostsAreMadeFirst : (E X : Type 0) → Type 0
+HostsAreMadeFirst E X =
+    (t : TestMachine E X) (logs : ℕ → List E) → AreLogs (machine t) logs → (h : ℕ) (e : E) (older : List E)
+    → IsPast (e ∷ older) (logs h) → t.made h ≢ 0
+    → (d : IsMade (machine t) h (logs 0)) × (t.stamp d.step < t.stamp e)
 
 -- a signal is taken at most once: of the signals that pass a test, no more are taken from a link than are put on it
 abbrev pub TakenAtMostOnce : (E X : Type 0) → Type 0

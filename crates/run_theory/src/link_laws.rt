@@ -1,5 +1,5 @@
 //! The laws of logs and links in words of their own.
-ghost use Rattle.run_theory.specs.LinkLaws.{FirstInFirstOut, NothingFollowsStop, ClosingIsLast, StampsRise, TakenAtMostOnce, LinksProject};
+ghost use Rattle.run_theory.specs.LinkLaws.{FirstInFirstOut, NothingFollowsStop, ClosingIsLast, StampsRise, HostsAreMadeFirst, TakenAtMostOnce, LinksProject};
 
 /// The k-th signal that was taken from a link is the k-th that was sent, until the closing.
 pub fn first_in_first_out<E, X>()
@@ -19,6 +19,11 @@ pub fn closing_is_last<E, X>()
 /// A step has a greater stamp than the step that sent its signal.
 pub fn stamps_rise<E, X>()
     ensures { StampsRise E X }
+{}
+
+/// A host that was made later makes its steps after the step that made it.
+pub fn hosts_are_made_first<E, X>()
+    ensures { HostsAreMadeFirst E X }
 {}
 
 /// A signal is taken at most once.
