@@ -1,0 +1,13 @@
+pub mod Pasts
+pub mod Links
+pub mod Runs
+pub mod Cuts
+pub mod Orders
+pub mod Merging
+pub mod Along
+pub mod Growth
+pub mod LinkFacts
+pub mod HostFacts
+pub mod Channels
+pub mod Drops
+pub mod Sorting

@@ -1,0 +1,17 @@
+pub mod Lists
+pub mod Machine
+pub mod Links
+pub mod Logs
+pub mod Runs
+pub mod Orders
+pub mod Cuts
+pub mod Along
+pub mod TestMachine
+pub mod RunLaws
+pub mod CutLaws
+pub mod AlongLaws
+pub mod LinkLaws
+pub mod Hosts
+pub mod HostLaws
+pub mod Literal
+pub mod LiteralLaws

@@ -1,0 +1,20 @@
+//! What running hosts promise, each of its own log and its own links.
+ghost use Rattle.run_theory.specs.HostLaws.{HostsKeepRightLogs, HostsRun, RightLogsAreKept, SendsBehind, TakesBehind, LengthsCutLogs};
+
+/// What running hosts and links keep are right logs, and so a run; and it promises no more.
+pub fn logs_of_hosts<E, X>()
+    ensures logs { HostsKeepRightLogs E X }
+    ensures run { HostsRun E X }
+    ensures exact { RightLogsAreKept E X }
+{}
+
+/// What one more step adds to what was sent and what was taken, in the order of time.
+pub fn steps_add_behind<E, X>()
+    ensures sends { SendsBehind E X }
+    ensures takes { TakesBehind E X }
+{}
+
+/// A length for each host's list is a cut.
+pub fn lengths_cut_logs<E>()
+    ensures { LengthsCutLogs E }
+{}
