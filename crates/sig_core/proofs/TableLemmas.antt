@@ -1,12 +1,12 @@
 -- A table's rows as a finite map: what an ordered map does to its entries is what the finite map does.
 use Rattle.std.proofs.Common.{◌≡◌, ℕ, List, [], ◌∷◌, refl, ap, sym, ◌∙◌, cond, Ordering}
-use Rattle.std.specs.Prelude.{Option, Some, None}
+use Rattle.std.specs.Prelude.{Some, None}
 use Rattle.std.specs.Ordering.{nat_cmp, eq_by_cmp}
-use Rattle.std.specs.Cmp.{IsTotalOrder, eq_by_cmp_equiv}
+use Rattle.std.specs.Cmp.{eq_by_cmp_equiv}
 use Rattle.std.specs.Cmp.Lexicographic.{slice_cmp, nat_list_cmp_total}
 use Rattle.std.specs.Map.{lookup}
 use Rattle.std.specs.BTreeMap as tree
-use Rattle.std.specs.BTreeMap.{BTreeMap, is_at, Updates, UpdatesBy, IsUnchanged}
+use Rattle.std.specs.BTreeMap.{BTreeMap, is_at, Updates, UpdatesBy}
 use Rattle.std.specs.FinMap as map
 
 -- a look-up by a key is that of the finite map of the entries

@@ -1,10 +1,9 @@
 -- What is stored of bytes that passed as a word.
-use Rattle.std.proofs.Common.{◌≡◌, ℕ, zero, suc, ◌-◌, ◌≤◌, List, ◌++◌, length, take, drop, refl, ap, ◌∙◌, arith, Bool, true, false, nat_lt}
+use Rattle.std.proofs.Common.{◌≡◌, ℕ, zero, suc, ◌-◌, ◌≤◌, List, ◌++◌, length, drop, refl, ap, ◌∙◌, arith, Bool, true, false, nat_lt}
 use Rattle.std.specs.Prelude.{replicate, position, Ok, Err, Option, Some, None, ◌||◌, if◌then◌else◌}
 use Rattle.std.proofs.lemmas.Bool.Decides.{nat_tests}
 use Rattle.std.proofs.lemmas.List.{length-append, length-drop, length-replicate, take_at, drop_at}
 use Rattle.sig_core.specs.declared.word.WordFault.{WordFault}
-use Rattle.sig_core.specs.Filled.{IsFilled}
 use Rattle.sig_core.specs.Word.{IsWord, if_word, unless_spoilt, is_unprintable}
 
 -- what is left of a filler

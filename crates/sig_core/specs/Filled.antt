@@ -1,6 +1,6 @@
 -- Short lists that are kept in an array: the array is filled up, so that equal lists are equal arrays.
 use Rattle.std.specs.Prelude.{◌≡◌, ℕ, ◌-◌, ◌≤◌, ◌++◌, List, length, take, drop, replicate}
-use Rattle.std.proofs.Common.{ap, ◌∙◌, sym, arith}
+use Rattle.std.proofs.Common.{arith}
 use Rattle.std.proofs.lemmas.List.{length-take-le, take-append-drop}
 
 -- the array has this room, and beyond its first len items it holds nothing but the filler

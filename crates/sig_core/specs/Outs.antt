@@ -1,5 +1,5 @@
 -- The room of a step's effects.
-use Rattle.std.specs.Prelude.{ℕ, ◌≤◌, length}
+use Rattle.std.specs.Prelude.{◌≤◌, length}
 use Rattle.std.specs.Global.{Vec}
 use Rattle.std.specs.Vec.{vec_capacity}
 use Rattle.sig_core.specs.declared.mark.Mark.{Mark}
