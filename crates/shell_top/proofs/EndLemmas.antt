@@ -1,8 +1,8 @@
 -- How a whole session is told: its lines, and then the line of the fault by which it was meant to end.
-use Rattle.std.proofs.Common.{◌≡◌, ℕ, ◌+◌, ◌≤◌, ◌<◌, List, [], ◌∷◌, ◌++◌, length, take, drop, Bool, true, false, refl, ap, sym, subst, ◌∙◌, append_assoc, arith}
-use Rattle.std.specs.Prelude.{Option, None, Some, ◌==◌}
+use Rattle.std.proofs.Common.{◌≡◌, ℕ, ◌<◌, List, [], ◌++◌, length, take, drop, Bool, true, false, refl, ap, sym, subst, ◌∙◌, append_assoc, arith}
+use Rattle.std.specs.Prelude.{Option, ◌==◌}
 use Rattle.std.specs.FinMap as map
-use Rattle.std.specs.Io.KnownBytes.{Consumes, Appends, IsAtEnd}
+use Rattle.std.specs.Io.KnownBytes.{Consumes, Appends}
 use Rattle.std.proofs.KnownBytes.{Appends-nil, Appends-trans, Consumes-nil}
 use Rattle.std.proofs.lemmas.Bool.Decides.{nat_tests}
 use Rattle.std.proofs.lemmas.List.{append-nil, take-append-drop, take_at}
@@ -12,7 +12,7 @@ use Rattle.shell_top.specs.Cluster.{State}
 use Rattle.shell_top.specs.Idle.{idle}
 use Rattle.shell_top.specs.Script.{script_from}
 use Rattle.shell_top.specs.Session.{AppendsPart, is_cut_short, prints_if, Prints, IsSession, IsUnderWay, AreLinesDone}
-use Rattle.shell_top.specs.Text.{answers, fault_line}
+use Rattle.shell_top.specs.Text.{fault_line}
 
 -- a text, and then a first part of another
 part_behind : (written mid now : Option (List ℕ)) (text more : List ℕ) → Appends written mid text → AppendsPart mid now more → AppendsPart written now (text ++ more)

@@ -1,5 +1,5 @@
 -- Each step of the cluster lessens the weight of what is under way.
-use Rattle.std.proofs.Common.{◌≡◌, ℕ, zero, suc, ◌+◌, ◌*◌, ◌≤◌, ◌<◌, List, [], ◌∷◌, ◌++◌, length, Bool, true, false, refl, subst, arith}
+use Rattle.std.proofs.Common.{◌≡◌, ℕ, zero, suc, ◌+◌, ◌≤◌, ◌<◌, List, [], ◌∷◌, ◌++◌, length, Bool, true, false, refl, subst, arith}
 use Rattle.std.specs.Prelude.{Option, None, Some, MatchBool, if◌then◌else◌, nat_lt, ◌&&◌, position, slice_index_or, slice_set}
 use Rattle.sig_core.specs.declared.outs.Outgoing.{Outgoing}
 use Rattle.shell_top.specs.Blocks.{blocks_row}

@@ -1,5 +1,5 @@
 -- A put, from the shell's request to quiet: scene by scene, each the next step of the one before.
-use Rattle.std.proofs.Common.{◌≡◌, ℕ, zero, suc, ◌+◌, ◌^◌, ◌-◌, List, [], ◌∷◌, refl, ap, ◌∙◌, eqb, true, false}
+use Rattle.std.proofs.Common.{◌≡◌, ℕ, suc, ◌+◌, ◌^◌, ◌-◌, List, [], ◌∷◌, refl, ap, ◌∙◌, eqb, true, false}
 use Rattle.std.specs.Prelude.{Option, None, Some, replicate, slice_set}
 use Rattle.std.specs.FinMap as map
 use Rattle.std.proofs.lemmas.Bool.{eq-eqb}
@@ -20,13 +20,12 @@ use Rattle.shell_top.specs.declared.parts.api.Reply.TheVariants as reply
 use Rattle.shell_top.specs.declared.parts.api.Serving.{Serving}
 use Rattle.shell_top.specs.declared.parts.api.Serving.TheVariants as serving
 use Rattle.shell_top.specs.declared.parts.lqh.Lqh.{Lqh}
-use Rattle.shell_top.specs.declared.parts.lqh.Pending.{Pending}
 use Rattle.shell_top.specs.declared.parts.tc.Phase.{Phase}
 use Rattle.shell_top.specs.declared.parts.tc.Phase.TheVariants as phase
 use Rattle.shell_top.specs.declared.parts.tc.Tc.{Tc}
-use Rattle.shell_top.specs.Cluster.{State, asked, next, settled, settled_by, IsQuiet}
+use Rattle.shell_top.specs.Cluster.{State, asked, next, settled, settled_by}
 use Rattle.shell_top.specs.Idle.{idle}
-use Rattle.shell_top.specs.Network.{Flight, Links}
+use Rattle.shell_top.specs.Network.{Links}
 use Rattle.shell_top.specs.Place.{client, coordinator, coordinator_of, epochs, rows_of, replicas}
 
 -- a number equals itself

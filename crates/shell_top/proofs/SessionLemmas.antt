@@ -1,12 +1,11 @@
 -- How a session goes on, line by line, and how it ends.
-use Rattle.std.proofs.Common.{◌≡◌, ℕ, ◌+◌, ◌*◌, ◌-◌, ◌≤◌, ◌<◌, List, [], ◌∷◌, ◌++◌, length, take, drop, Bool, true, false, refl, ap, sym, subst, ◌∙◌, append_assoc, arith}
+use Rattle.std.proofs.Common.{◌≡◌, ℕ, ◌+◌, ◌*◌, ◌≤◌, ◌<◌, List, [], ◌∷◌, ◌++◌, length, take, drop, Bool, true, false, refl, ap, sym, subst, ◌∙◌, append_assoc, arith}
 use Rattle.std.specs.Prelude.{Option, None, Some, MatchOption, position, nat_lt, ◌==◌, ◌&&◌}
 use Rattle.std.proofs.lemmas.Bool.Decides.{nat_tests}
 use Rattle.std.specs.FinMap as map
-use Rattle.std.specs.Io.KnownBytes.{Consumes, Appends, IsAtEnd, Keeps}
-use Rattle.std.proofs.KnownBytes.{Appends-nil, Appends-trans, Consumes-trans}
+use Rattle.std.specs.Io.KnownBytes.{Consumes, Appends, IsAtEnd}
+use Rattle.std.proofs.KnownBytes.{Appends-trans, Consumes-trans}
 use Rattle.std.proofs.lemmas.List.{append-nil, take-append-drop, length-append, length-take-le, length-drop, take_at}
-use Rattle.sig_core.specs.Table.{Rows}
 use Rattle.shell_top.specs.declared.ended.Ending.{Ending}
 use Rattle.shell_top.specs.declared.ended.Ending.TheVariants as ending
 use Rattle.shell_top.specs.declared.script.LineFault.{LineFault}
@@ -16,8 +15,8 @@ use Rattle.shell_top.specs.Cluster.{State}
 use Rattle.shell_top.specs.Idle.{idle}
 use Rattle.shell_top.specs.Parsed.{parsed as parsed_line}
 use Rattle.shell_top.specs.Reader.{Reads, IsPartial, is_newline}
-use Rattle.shell_top.specs.Script.{Put, Script, nothing_more, ends_with, follow, is_too_long, whole_line, last_part, script_from}
-use Rattle.shell_top.specs.Session.{AppendsPart, Ends, Prints, IsSession, IsUnderWay, AreLinesDone, IsCutShort, PrintsPut, after}
+use Rattle.shell_top.specs.Script.{Put, Script, nothing_more, ends_with, follow, is_too_long, last_part, script_from}
+use Rattle.shell_top.specs.Session.{AppendsPart, IsUnderWay, AreLinesDone, IsCutShort, PrintsPut, after}
 use Rattle.shell_top.specs.Text.{answers}
 use Rattle.shell_top.proofs.ScriptLemmas.{script-part, script-line, script-held, found_within, whole_line-long, whole_line-short, too_long_line, too_long_bytes, short_line, last_part-long, last_part-partial, last_part-whole, after-append, answers-append}
 

@@ -1,5 +1,5 @@
 -- Why driving the cluster ends: each signal has a weight, and what a block sends at a signal weighs less than it.
-use Rattle.std.proofs.Common.{◌≡◌, ℕ, zero, suc, ◌+◌, ◌-◌, ◌≤◌, ◌<◌, List, [], ◌∷◌, ◌++◌, length, Bool, true, false, refl, arith, lit≤}
+use Rattle.std.proofs.Common.{◌≡◌, ℕ, ◌+◌, ◌-◌, ◌≤◌, ◌<◌, List, [], ◌∷◌, ◌++◌, length, Bool, true, false, refl, arith, lit≤}
 use Rattle.std.specs.Prelude.{Option, None, Some, slice_get, ◌==◌, if◌then◌else◌}
 use Rattle.std.proofs.lemmas.Bool.Decides.{nat_tests}
 use Rattle.std.proofs.lemmas.Option.{slice_get_within}
@@ -15,7 +15,7 @@ use Rattle.sig_core.specs.declared.signal.Body.TheVariants.{Host, Client, Chain,
 use Rattle.sig_core.specs.declared.signal.chain.ChainSignal.TheVariants.{LqhKeyReq, LqhKeyConf, Commit, Committed, Complete, Completed}
 use Rattle.sig_core.specs.declared.signal.chain.RowWork.TheVariants.{Operate, Store}
 use Rattle.sig_core.specs.declared.signal.client.ClientSignal.TheVariants.{TcBeginReq, TcBeginConf, TcKeyReq, TcKeyConf, TcCommitReq, TcCommitConf, TcCommitAck}
-use Rattle.sig_core.specs.declared.signal.epoch.EpochSignal.TheVariants.{DiVerifyReq, DiVerifyConf, DiVerifyEnd}
+use Rattle.sig_core.specs.declared.signal.epoch.EpochSignal.TheVariants.{DiVerifyReq, DiVerifyConf}
 use Rattle.sig_core.specs.declared.signal.host.HostSignal.TheVariants.{Continue}
 use Rattle.sig_core.specs.declared.signal.host.Work.TheVariants.{Request}
 use Rattle.sig_core.specs.declared.mark.Mark.TheVariants.{Done}
@@ -36,7 +36,7 @@ use Rattle.shell_top.specs.declared.parts.tc.Phase.TheVariants as phase
 use Rattle.shell_top.specs.declared.parts.tc.Tc.{Tc}
 use Rattle.shell_top.specs.Api.{ApiState, begin_by, operate_by, commit_if, commit_by, report_if, report_by, api_row}
 use Rattle.shell_top.specs.Dih.{dih_row}
-use Rattle.shell_top.specs.Lqh.{prepare_by, commit_row, complete_row, lqh_row, prepared_at, passed_to, committed_at_if, completed_at_if}
+use Rattle.shell_top.specs.Lqh.{prepare_by, lqh_row, prepared_at, passed_to, committed_at_if, completed_at_if}
 use Rattle.shell_top.specs.Tc as tc
 use Rattle.shell_top.specs.Tc.{tc_row, phase_in}
 

@@ -1,5 +1,5 @@
 -- The cluster between two commands.
-use Rattle.std.specs.Prelude.{◌≡◌, ℕ, List, [], replicate, None}
+use Rattle.std.specs.Prelude.{ℕ, List, [], replicate, None}
 use Rattle.sig_core.specs.Table.{Rows}
 use Rattle.shell_top.specs.declared.parts.api.Reply.{Reply}
 use Rattle.shell_top.specs.declared.parts.api.Serving.TheVariants.{Idle}
