@@ -35,10 +35,16 @@ abbrev pub begin_by : ApiState → Op → Serving → Step ApiState
 begin_by s op Idle = sending (now s (Beginning op)) coordinator (Client (TcBeginReq None))
 begin_by s op _ = stay s
 
+abbrev pub begin_row : ApiState → Op → Step ApiState
+begin_row s op = begin_by s op s.serving
+
 -- its transaction has begun
 abbrev pub operate_by : ApiState → TxId → Serving → Step ApiState
 operate_by s tx (Beginning op) = sending (now s (Operating tx)) coordinator (Client (TcKeyReq tx op))
 operate_by s tx _ = stay s
+
+abbrev pub operate_row : ApiState → TxId → Step ApiState
+operate_row s tx = operate_by s tx s.serving
 
 -- its operation is answered
 abbrev pub commit_if : ApiState → TxId → Answer → Bool → Step ApiState
@@ -48,6 +54,9 @@ commit_if s tx answer false = stay s
 abbrev pub commit_by : ApiState → TxId → Answer → Serving → Step ApiState
 commit_by s tx answer (Operating asked) = commit_if s tx answer (same_tx asked tx)
 commit_by s tx answer _ = stay s
+
+abbrev pub commit_row : ApiState → TxId → Answer → Step ApiState
+commit_row s tx answer = commit_by s tx answer s.serving
 
 -- its commit is reported, once, and acknowledged, each time
 abbrev pub acknowledged : Effects → TxId → Effects
@@ -62,10 +71,13 @@ abbrev pub report_by : ApiState → TxId → ℕ → Serving → Step ApiState
 report_by s tx epoch (Committing asked) = report_if s tx epoch (same_tx asked tx)
 report_by s tx epoch _ = report_if s tx epoch false
 
+abbrev pub report_row : ApiState → TxId → ℕ → Step ApiState
+report_row s tx epoch = report_by s tx epoch s.serving
+
 -- what the API does at each signal. It leaves the others alone
 abbrev pub api_row : ApiState → Body → Step ApiState
-api_row s (Host (Continue (Request (Operate None op)) at)) = begin_by s op s.serving
-api_row s (Client (TcBeginConf None tx)) = operate_by s tx s.serving
-api_row s (Client (TcKeyConf tx answer)) = commit_by s tx answer s.serving
-api_row s (Client (TcCommitConf tx epoch)) = report_by s tx epoch s.serving
+api_row s (Host (Continue (Request (Operate None op)) at)) = begin_row s op
+api_row s (Client (TcBeginConf None tx)) = operate_row s tx
+api_row s (Client (TcKeyConf tx answer)) = commit_row s tx answer
+api_row s (Client (TcCommitConf tx epoch)) = report_row s tx epoch
 api_row s _ = stay s

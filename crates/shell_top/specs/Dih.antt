@@ -27,8 +27,11 @@ abbrev pub ended_by : Dih → TxId → Option TxId → Dih
 ended_by s tx None = s
 ended_by s tx (Some counted) = ended_if s (same_tx counted tx)
 
+abbrev pub ended : Dih → TxId → Dih
+ended s tx = ended_by s tx s.counted
+
 -- what the block does at each signal. It leaves the others alone
 abbrev pub dih_row : Dih → Body → Step Dih
 dih_row s (Epoch (DiVerifyReq tx ops)) = decided s tx
-dih_row s (Epoch (DiVerifyEnd tx)) = stay (ended_by s tx s.counted)
+dih_row s (Epoch (DiVerifyEnd tx)) = stay (ended s tx)
 dih_row s _ = stay s

@@ -33,6 +33,9 @@ prepare_by s tx key image chain at None =
     }
 prepare_by s tx key image chain at (Some other) = stay s
 
+abbrev pub prepare_row : Lqh → TxId → List ℕ → List ℕ → List Member → ℕ → Step Lqh
+prepare_row s tx key image chain at = prepare_by s tx key image chain at s.pending
+
 -- the pending write, where a test of it passes
 abbrev pub pending_if : Pending → Bool → Option Pending
 pending_if pending true = Some pending
@@ -108,11 +111,14 @@ abbrev pub unmarked_by : Lqh → TxId → Option TxId → Lqh
 unmarked_by s tx None = s
 unmarked_by s tx (Some marker) = unmarked_if s (same_tx marker tx)
 
+abbrev pub unmarked : Lqh → TxId → Lqh
+unmarked s tx = unmarked_by s tx s.marker
+
 -- what a replica does at each signal. It leaves the others alone
 abbrev pub lqh_row : Lqh → Body → Step Lqh
-lqh_row s (Client (TcCommitAck tx)) = stay (unmarked_by s tx s.marker)
-lqh_row s (Chain (LqhKeyReq tx (Operate (Put key value)) chain at)) = prepare_by s tx key value chain at s.pending
-lqh_row s (Chain (LqhKeyReq tx (Store key (Some image)) chain at)) = prepare_by s tx key image chain at s.pending
+lqh_row s (Client (TcCommitAck tx)) = stay (unmarked s tx)
+lqh_row s (Chain (LqhKeyReq tx (Operate (Put key value)) chain at)) = prepare_row s tx key value chain at
+lqh_row s (Chain (LqhKeyReq tx (Store key (Some image)) chain at)) = prepare_row s tx key image chain at
 lqh_row s (Chain (Commit tx key epoch chain at)) = commit_row s tx key epoch chain at
 lqh_row s (Chain (Complete tx key chain at)) = complete_row s tx key chain at
 lqh_row s _ = stay s

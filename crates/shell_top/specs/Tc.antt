@@ -50,15 +50,24 @@ abbrev pub operate_by : Tc → TxId → Op → Option Phase → Step Tc
 operate_by s tx op (Some Begun) = sending (at_phase s tx (Operating op)) (rows_of 1) (Chain (LqhKeyReq tx (Operate op) replicas 0))
 operate_by s tx op _ = stay s
 
+abbrev pub operate_row : Tc → TxId → Op → Step Tc
+operate_row s tx op = operate_by s tx op (phase_in s.current tx)
+
 -- its operation is answered
 abbrev pub answer_by : Tc → TxId → Answer → Option Phase → Step Tc
 answer_by s tx answer (Some (Operating op)) = sending (at_phase s tx (Answered op answer)) client (Client (TcKeyConf tx answer))
 answer_by s tx answer _ = stay s
 
+abbrev pub answer_row : Tc → TxId → Answer → Step Tc
+answer_row s tx answer = answer_by s tx answer (phase_in s.current tx)
+
 -- an epoch is asked for
 abbrev pub decide_by : Tc → TxId → Option Phase → Step Tc
 decide_by s tx (Some (Answered op answer)) = sending (at_phase s tx (Deciding op)) epochs (Epoch (DiVerifyReq tx ((op, answer) ∷ [])))
 decide_by s tx _ = stay s
+
+abbrev pub decide_row : Tc → TxId → Step Tc
+decide_row s tx = decide_by s tx (phase_in s.current tx)
 
 -- it commits, from the last replica on
 abbrev pub committing : Tc → TxId → Op → ℕ → Step Tc
@@ -67,6 +76,9 @@ committing s tx op epoch = sending (at_phase s tx (Committing op epoch)) (rows_o
 abbrev pub commit_by : Tc → TxId → ℕ → Option Phase → Step Tc
 commit_by s tx epoch (Some (Deciding op)) = committing s tx op epoch
 commit_by s tx epoch _ = stay s
+
+abbrev pub commit_row : Tc → TxId → ℕ → Step Tc
+commit_row s tx epoch = commit_by s tx epoch (phase_in s.current tx)
 
 -- it is committed, and completes, from the last replica on
 abbrev pub completing : Tc → TxId → Op → ℕ → Step Tc
@@ -80,18 +92,24 @@ abbrev pub complete_by : Tc → TxId → Option Phase → Step Tc
 complete_by s tx (Some (Committing op epoch)) = completing s tx op epoch
 complete_by s tx _ = stay s
 
+abbrev pub complete_row : Tc → TxId → Step Tc
+complete_row s tx = complete_by s tx (phase_in s.current tx)
+
 -- it is complete, and forgotten
 abbrev pub forget_by : Tc → TxId → Option Phase → Step Tc
 forget_by s tx (Some (Completing op)) = sending (record { next_seq = s.next_seq; current = None }) epochs (Epoch (DiVerifyEnd tx))
 forget_by s tx _ = stay s
 
+abbrev pub forget_row : Tc → TxId → Step Tc
+forget_row s tx = forget_by s tx (phase_in s.current tx)
+
 -- what the coordinator does at each signal. It leaves the others alone
 abbrev pub tc_row : Tc → Body → Step Tc
 tc_row s (Client (TcBeginReq name)) = begun_row s name
-tc_row s (Client (TcKeyReq tx op)) = operate_by s tx op (phase_in s.current tx)
-tc_row s (Client (TcCommitReq tx)) = decide_by s tx (phase_in s.current tx)
-tc_row s (Chain (LqhKeyConf tx key answer)) = answer_by s tx answer (phase_in s.current tx)
-tc_row s (Chain (Committed tx key)) = complete_by s tx (phase_in s.current tx)
-tc_row s (Chain (Completed tx key)) = forget_by s tx (phase_in s.current tx)
-tc_row s (Epoch (DiVerifyConf tx epoch)) = commit_by s tx epoch (phase_in s.current tx)
+tc_row s (Client (TcKeyReq tx op)) = operate_row s tx op
+tc_row s (Client (TcCommitReq tx)) = decide_row s tx
+tc_row s (Chain (LqhKeyConf tx key answer)) = answer_row s tx answer
+tc_row s (Chain (Committed tx key)) = complete_row s tx
+tc_row s (Chain (Completed tx key)) = forget_row s tx
+tc_row s (Epoch (DiVerifyConf tx epoch)) = commit_row s tx epoch
 tc_row s _ = stay s

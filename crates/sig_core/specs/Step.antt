@@ -1,5 +1,5 @@
 -- What a block does at one signal: its state after it, and its effects.
-use Rattle.std.specs.Prelude.{◌+◌, ◌≤◌, List, [], ◌∷◌, ◌++◌, length}
+use Rattle.std.specs.Prelude.{◌≡◌, ◌+◌, ◌≤◌, List, [], ◌∷◌, ◌++◌, length}
 use Rattle.sig_core.specs.declared.mark.Mark.{Mark}
 use Rattle.sig_core.specs.declared.outs.Outgoing.{Outgoing}
 use Rattle.sig_core.specs.declared.place.Place.{Place}
@@ -42,6 +42,16 @@ stay state = record { state = state; effects = nothing }
 -- a step to a state that sends one signal
 abbrev pub sending : {S : Type 0} → S → Place → Body → Step S
 sending state to body = record { state = state; effects = and_send nothing to body }
+
+-- the step was taken: the state is the one after it, and its effects stand behind those before
+pub record IsTaken {S : Type 0} (step : Step S) (now : S) (out out_now : Effects) : Type 0 where
+  pub state : now ≡ step.state
+  pub effects : out_now ≡ joined out step.effects
+
+-- nothing has happened
+pub record IsUntouched {S : Type 0} (old now : S) (out out_now : Effects) : Type 0 where
+  pub state : now ≡ old
+  pub effects : out_now ≡ out
 
 -- the effects leave room for those of one more signal: at most 12 signals and 12 marks of 16 each
 pub record HasRoom (effects : Effects) : Type 0 where

@@ -2,7 +2,7 @@
 ghost use Rattle.std.specs.Prelude.{◌≡◌, ◌≤◌, ◌+◌, length, OnOk, OnErr};
 ghost use Rattle.sig_core.specs.declared.signal.Signal.{Signal};
 ghost use Rattle.sig_core.specs.declared.view.View.{View};
-ghost use Rattle.sig_core.specs.Step.{Step, joined, HasRoom};
+ghost use Rattle.sig_core.specs.Step.{Step, HasRoom, IsTaken, IsUntouched};
 
 use crate::no_memory::NoMemory;
 use crate::outs::Outs;
@@ -25,17 +25,14 @@ pub trait Actor {
     /// `NoMemory`, and then nothing has happened.
     fn handle(&mut self, alloc: Global, signal: &Signal, out: &mut Outs) -> Result<(), NoMemory>
         requires { HasRoom out.old }
-        ensures state { OnOk result (self.new ≡ (step self.old signal.now).state) }
-        ensures effects { OnOk result (out.new ≡ joined out.old (step self.old signal.now).effects) }
-        ensures state_kept { OnErr result (self.new ≡ self.old) }
-        ensures effects_kept { OnErr result (out.new ≡ out.old) };
+        ensures ok { OnOk result (IsTaken (step self.old signal.now) self.new out.old out.new) }
+        ensures err { OnErr result (IsUntouched self.old self.new out.old out.new) };
 
     /// Installs a view. Takes no memory, and adds at most one signal, by which the block goes on
     /// with what the installation leaves to do.
     fn install(&mut self, view: &View, out: &mut Outs)
         requires { length out.old.sends + 1 ≤ 16 }
-        ensures state { self.new ≡ (installed self.old view.now).state }
-        ensures effects { out.new ≡ joined out.old (installed self.old view.now).effects }
+        ensures taken { IsTaken (installed self.old view.now) self.new out.old out.new }
         ensures few { length out.new.sends ≤ length out.old.sends + 1 }
         ensures unmarked { out.new.marks ≡ out.old.marks };
 }

@@ -1,6 +1,6 @@
 //! The API: asks the coordinator for what the shell asks of it, and collects the replies.
 ghost use Rattle.std.specs.Prelude.{◌≡◌, ◌≤◌, ◌<◌, ◌+◌, IfOk, OnOk, OnErr, None, [], ◌++◌, length, option_to_list};
-ghost use Rattle.sig_core.specs.Step.{joined, stay, HasRoom};
+ghost use Rattle.sig_core.specs.Step.{HasRoom, IsTaken, IsUntouched};
 ghost use Rattle.shell_top.specs.declared.parts.api.Serving.TheVariants.{Idle};
 
 use crate::parts::place::{COORDINATOR, rows_of};
@@ -48,7 +48,7 @@ impl Model for Api {
 }
 
 impl Api {
-    ghost use Rattle.shell_top.specs.Api.{begin_by, operate_by, commit_by, report_by};
+    ghost use Rattle.shell_top.specs.Api.{begin_row, operate_row, commit_row, report_row};
 
     /// Serves nothing yet.
     pub fn new(alloc: Global) -> Api
@@ -71,8 +71,7 @@ impl Api {
 
     fn begin(&mut self, op: &Op, out: &mut Outs)
         requires { HasRoom out.old }
-        ensures state { self.new ≡ (begin_by self.old op.now self.old.serving).state }
-        ensures effects { out.new ≡ joined out.old (begin_by self.old op.now self.old.serving).effects }
+        ensures { IsTaken (begin_row self.old op.now) self.new out.old out.new }
     {
         if let Serving::Idle = self.serving {
             self.serving = Serving::Beginning(*op);
@@ -83,8 +82,7 @@ impl Api {
 
     fn operate(&mut self, tx: TxId, out: &mut Outs)
         requires { HasRoom out.old }
-        ensures state { self.new ≡ (operate_by self.old tx self.old.serving).state }
-        ensures effects { out.new ≡ joined out.old (operate_by self.old tx self.old.serving).effects }
+        ensures { IsTaken (operate_row self.old tx) self.new out.old out.new }
     {
         if let Serving::Beginning(op) = self.serving {
             self.serving = Serving::Operating(tx);
@@ -94,10 +92,8 @@ impl Api {
 
     fn commit(&mut self, tx: TxId, answer: Answer, out: &mut Outs) -> Result<(), NoMemory>
         requires { HasRoom out.old }
-        ensures state { OnOk result (self.new ≡ (commit_by self.old tx answer self.old.serving).state) }
-        ensures effects { OnOk result (out.new ≡ joined out.old (commit_by self.old tx answer self.old.serving).effects) }
-        ensures state_kept { OnErr result (self.new ≡ self.old) }
-        ensures effects_kept { OnErr result (out.new ≡ out.old) }
+        ensures ok { OnOk result (IsTaken (commit_row self.old tx answer) self.new out.old out.new) }
+        ensures err { OnErr result (IsUntouched self.old self.new out.old out.new) }
     {
         if let Serving::Operating(asked) = self.serving
             && asked == tx
@@ -111,10 +107,8 @@ impl Api {
 
     fn report(&mut self, tx: TxId, epoch: u64, out: &mut Outs) -> Result<(), NoMemory>
         requires { HasRoom out.old }
-        ensures state { OnOk result (self.new ≡ (report_by self.old tx epoch self.old.serving).state) }
-        ensures effects { OnOk result (out.new ≡ joined out.old (report_by self.old tx epoch self.old.serving).effects) }
-        ensures state_kept { OnErr result (self.new ≡ self.old) }
-        ensures effects_kept { OnErr result (out.new ≡ out.old) }
+        ensures ok { OnOk result (IsTaken (report_row self.old tx epoch) self.new out.old out.new) }
+        ensures err { OnErr result (IsUntouched self.old self.new out.old out.new) }
     {
         if let Serving::Committing(asked) = self.serving
             && asked == tx

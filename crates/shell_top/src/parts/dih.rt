@@ -1,7 +1,7 @@
 //! Epochs: every decided transaction is given one.
 ghost use Rattle.std.specs.Prelude.{◌≡◌, None};
-ghost use Rattle.sig_core.specs.Step.{joined, HasRoom};
-ghost use Rattle.shell_top.specs.Dih.{decided, ended_by};
+ghost use Rattle.sig_core.specs.Step.{HasRoom, IsTaken, IsUntouched};
+ghost use Rattle.shell_top.specs.Dih.{decided, ended};
 
 use crate::parts::place::COORDINATOR;
 use sig_core::{Actor, Body, EpochSignal, Mark, NoMemory, Outs, Signal, TxId, View};
@@ -29,8 +29,7 @@ impl Dih {
 
     fn decide(&mut self, tx: TxId, out: &mut Outs)
         requires { HasRoom out.old }
-        ensures state { self.new ≡ (decided self.old tx).state }
-        ensures effects { out.new ≡ joined out.old (decided self.old tx).effects }
+        ensures { IsTaken (decided self.old tx) self.new out.old out.new }
     {
         let epoch = self.epoch;
         self.counted = Some(tx);
@@ -42,7 +41,7 @@ impl Dih {
     }
 
     fn end(&mut self, tx: TxId)
-        ensures { self.new ≡ ended_by self.old tx self.old.counted }
+        ensures { self.new ≡ ended self.old tx }
     {
         if let Some(counted) = self.counted
             && counted == tx

@@ -1,8 +1,8 @@
 //! The rows of a node: one replica of each.
 ghost use Rattle.std.specs.Prelude.{◌≡◌, None, OnOk, OnErr};
 ghost use Rattle.std.specs.FinMap as map;
-ghost use Rattle.sig_core.specs.Step.{joined, HasRoom};
-ghost use Rattle.shell_top.specs.Lqh.{prepare_by, prepared_of, commit_by, commit_row, complete_row, unmarked_by};
+ghost use Rattle.sig_core.specs.Step.{HasRoom, IsTaken, IsUntouched};
+ghost use Rattle.shell_top.specs.Lqh.{prepare_row, prepared_of, commit_by, commit_row, complete_row, unmarked};
 
 use crate::parts::place::{coordinator_of, replica_at, rows_of};
 use sig_core::{
@@ -53,8 +53,7 @@ impl Lqh {
         out: &mut Outs,
     )
         requires { HasRoom out.old }
-        ensures state { self.new ≡ (prepare_by self.old tx key.now image.now chain.now at self.old.pending).state }
-        ensures effects { out.new ≡ joined out.old (prepare_by self.old tx key.now image.now chain.now at self.old.pending).effects }
+        ensures { IsTaken (prepare_row self.old tx key.now image.now chain.now at) self.new out.old out.new }
     {
         if self.pending.is_some() {
             return;
@@ -109,10 +108,8 @@ impl Lqh {
         out: &mut Outs,
     ) -> Result<(), NoMemory>
         requires { HasRoom out.old }
-        ensures state { OnOk result (self.new ≡ (commit_row self.old tx key.now epoch chain.now at).state) }
-        ensures effects { OnOk result (out.new ≡ joined out.old (commit_row self.old tx key.now epoch chain.now at).effects) }
-        ensures state_kept { OnErr result (self.new ≡ self.old) }
-        ensures effects_kept { OnErr result (out.new ≡ out.old) }
+        ensures ok { OnOk result (IsTaken (commit_row self.old tx key.now epoch chain.now at) self.new out.old out.new) }
+        ensures err { OnErr result (IsUntouched self.old self.new out.old out.new) }
     {
         let had = self.prepared(tx);
         let applied = had.is_some();
@@ -156,8 +153,7 @@ impl Lqh {
 
     fn complete(&mut self, tx: TxId, key: &Key, chain: &Members, at: u8, out: &mut Outs)
         requires { HasRoom out.old }
-        ensures state { self.new ≡ (complete_row self.old tx key.now chain.now at).state }
-        ensures effects { out.new ≡ joined out.old (complete_row self.old tx key.now chain.now at).effects }
+        ensures { IsTaken (complete_row self.old tx key.now chain.now at) self.new out.old out.new }
     {
         if let Some(pending) = &self.pending
             && pending.tx == tx
@@ -181,7 +177,7 @@ impl Lqh {
     }
 
     fn unmark(&mut self, tx: TxId)
-        ensures { self.new ≡ unmarked_by self.old tx self.old.marker }
+        ensures { self.new ≡ unmarked self.old tx }
     {
         if let Some(marker) = self.marker
             && marker == tx

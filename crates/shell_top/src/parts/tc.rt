@@ -1,7 +1,7 @@
 //! The transaction coordinator, of one transaction at a time.
 ghost use Rattle.std.specs.Prelude.{◌≡◌, None, OnOk, OnErr};
-ghost use Rattle.sig_core.specs.Step.{joined, HasRoom};
-ghost use Rattle.shell_top.specs.Tc.{at_phase, phase_in, begun_row, operate_by, answer_by, decide_by, committing, commit_by, completing, complete_by, forget_by};
+ghost use Rattle.sig_core.specs.Step.{HasRoom, IsTaken, IsUntouched};
+ghost use Rattle.shell_top.specs.Tc.{at_phase, phase_in, begun_row, operate_row, answer_row, decide_row, committing, commit_row, completing, complete_row, forget_row};
 
 use crate::parts::place::{CLIENT, EPOCHS, replicas, rows_of};
 use sig_core::{
@@ -70,8 +70,7 @@ impl Tc {
 
     fn begin(&mut self, name: Option<u16>, out: &mut Outs)
         requires { HasRoom out.old }
-        ensures state { self.new ≡ (begun_row self.old name).state }
-        ensures effects { out.new ≡ joined out.old (begun_row self.old name).effects }
+        ensures { IsTaken (begun_row self.old name) self.new out.old out.new }
     {
         if self.current.is_some() || self.next_seq == u64::MAX {
             out.send(CLIENT, Body::Client(ClientSignal::TcBeginRef { name }));
@@ -89,8 +88,7 @@ impl Tc {
 
     fn operate(&mut self, tx: TxId, op: &Op, out: &mut Outs)
         requires { HasRoom out.old }
-        ensures state { self.new ≡ (operate_by self.old tx op.now (phase_in self.old.current tx)).state }
-        ensures effects { out.new ≡ joined out.old (operate_by self.old tx op.now (phase_in self.old.current tx)).effects }
+        ensures { IsTaken (operate_row self.old tx op.now) self.new out.old out.new }
     {
         if let Some(Phase::Begun) = self.phase_of(tx) {
             self.go_to(tx, Phase::Operating(*op));
@@ -108,8 +106,7 @@ impl Tc {
 
     fn answer(&mut self, tx: TxId, answer: &Answer, out: &mut Outs)
         requires { HasRoom out.old }
-        ensures state { self.new ≡ (answer_by self.old tx answer.now (phase_in self.old.current tx)).state }
-        ensures effects { out.new ≡ joined out.old (answer_by self.old tx answer.now (phase_in self.old.current tx)).effects }
+        ensures { IsTaken (answer_row self.old tx answer.now) self.new out.old out.new }
     {
         if let Some(Phase::Operating(op)) = self.phase_of(tx) {
             self.go_to(tx, Phase::Answered(op, *answer));
@@ -123,10 +120,8 @@ impl Tc {
 
     fn decide(&mut self, alloc: Global, tx: TxId, out: &mut Outs) -> Result<(), NoMemory>
         requires { HasRoom out.old }
-        ensures state { OnOk result (self.new ≡ (decide_by self.old tx (phase_in self.old.current tx)).state) }
-        ensures effects { OnOk result (out.new ≡ joined out.old (decide_by self.old tx (phase_in self.old.current tx)).effects) }
-        ensures state_kept { OnErr result (self.new ≡ self.old) }
-        ensures effects_kept { OnErr result (out.new ≡ out.old) }
+        ensures ok { OnOk result (IsTaken (decide_row self.old tx) self.new out.old out.new) }
+        ensures err { OnErr result (IsUntouched self.old self.new out.old out.new) }
     {
         if let Some(Phase::Answered(op, answer)) = self.phase_of(tx) {
             let op = &op;
@@ -140,18 +135,16 @@ impl Tc {
 
     fn commit(&mut self, tx: TxId, epoch: u64, out: &mut Outs)
         requires { HasRoom out.old }
-        ensures state { self.new ≡ (commit_by self.old tx epoch (phase_in self.old.current tx)).state }
-        ensures effects { out.new ≡ joined out.old (commit_by self.old tx epoch (phase_in self.old.current tx)).effects }
+        ensures { IsTaken (commit_row self.old tx epoch) self.new out.old out.new }
     {
         if let Some(Phase::Deciding(op)) = self.phase_of(tx) {
-            self.commit_row(tx, &op, epoch, out);
+            self.send_commit(tx, &op, epoch, out);
         }
     }
 
-    fn commit_row(&mut self, tx: TxId, op: &Op, epoch: u64, out: &mut Outs)
+    fn send_commit(&mut self, tx: TxId, op: &Op, epoch: u64, out: &mut Outs)
         requires { HasRoom out.old }
-        ensures state { self.new ≡ (committing self.old tx op.now epoch).state }
-        ensures effects { out.new ≡ joined out.old (committing self.old tx op.now epoch).effects }
+        ensures { IsTaken (committing self.old tx op.now epoch) self.new out.old out.new }
     {
         self.go_to(tx, Phase::Committing(*op, epoch));
         let key = *op.key();
@@ -168,18 +161,16 @@ impl Tc {
 
     fn complete(&mut self, tx: TxId, out: &mut Outs)
         requires { HasRoom out.old }
-        ensures state { self.new ≡ (complete_by self.old tx (phase_in self.old.current tx)).state }
-        ensures effects { out.new ≡ joined out.old (complete_by self.old tx (phase_in self.old.current tx)).effects }
+        ensures { IsTaken (complete_row self.old tx) self.new out.old out.new }
     {
         if let Some(Phase::Committing(op, epoch)) = self.phase_of(tx) {
-            self.complete_row(tx, &op, epoch, out);
+            self.send_complete(tx, &op, epoch, out);
         }
     }
 
-    fn complete_row(&mut self, tx: TxId, op: &Op, epoch: u64, out: &mut Outs)
+    fn send_complete(&mut self, tx: TxId, op: &Op, epoch: u64, out: &mut Outs)
         requires { HasRoom out.old }
-        ensures state { self.new ≡ (completing self.old tx op.now epoch).state }
-        ensures effects { out.new ≡ joined out.old (completing self.old tx op.now epoch).effects }
+        ensures { IsTaken (completing self.old tx op.now epoch) self.new out.old out.new }
     {
         self.go_to(tx, Phase::Completing(*op));
         out.send(
@@ -199,8 +190,7 @@ impl Tc {
 
     fn forget(&mut self, tx: TxId, out: &mut Outs)
         requires { HasRoom out.old }
-        ensures state { self.new ≡ (forget_by self.old tx (phase_in self.old.current tx)).state }
-        ensures effects { out.new ≡ joined out.old (forget_by self.old tx (phase_in self.old.current tx)).effects }
+        ensures { IsTaken (forget_row self.old tx) self.new out.old out.new }
     {
         if let Some(Phase::Completing(_)) = self.phase_of(tx) {
             self.current = None;
