@@ -1,9 +1,9 @@
 -- Each step of the cluster lessens the weight of what is under way.
 use Rattle.std.proofs.Common.{◌≡◌, ℕ, zero, suc, ◌+◌, ◌≤◌, ◌<◌, List, [], ◌∷◌, ◌++◌, length, Bool, true, false, refl, subst, arith}
-use Rattle.std.specs.Prelude.{Option, None, Some, MatchBool, if◌then◌else◌, nat_lt, ◌&&◌, position, slice_index_or, slice_set}
+use Rattle.std.specs.Prelude.{Option, None, Some, if◌then◌else◌, nat_lt, ◌&&◌, position, slice_index_or, slice_set}
 use Rattle.sig_core.specs.declared.outs.Outgoing.{Outgoing}
 use Rattle.shell_top.specs.Blocks.{blocks_row}
-use Rattle.shell_top.specs.Cluster.{State, moved, next, next_by}
+use Rattle.shell_top.specs.Cluster.{State, IsNext, moved, next, next_by}
 use Rattle.shell_top.specs.Network.{Flight, Links, Taken, flight_from, link_at, put, put_all, take_first, taken_at, taken_from}
 use Rattle.shell_top.proofs.Weight.{weight, sent_weight, blocks_lighter}
 
@@ -73,6 +73,6 @@ pub next_lighter : (s t : State) → next s ≡ Some t → links_weight t.links 
 next_lighter s t e = next_by_lighter s t (take_first s.links) refl e
 
 -- the same, where a flag says that there was a step
-pub went_lighter : (s t : State) (went : Bool) (Q : Type 0) → went ≡ true → MatchBool went (next s ≡ Some t) Q → links_weight t.links < links_weight s.links
-went_lighter s t true Q is e = omega (arith, next_lighter s t e)
-went_lighter s t false Q is e = cc
+pub went_lighter : (s t : State) (went : Bool) → went ≡ true → IsNext s t went → links_weight t.links < links_weight s.links
+went_lighter s t true is e = omega (arith, next_lighter s t e)
+went_lighter s t false is e = cc

@@ -15,7 +15,7 @@ use Rattle.shell_top.specs.Cluster.{State}
 use Rattle.shell_top.specs.Idle.{idle}
 use Rattle.shell_top.specs.Parsed.{parsed as parsed_line}
 use Rattle.shell_top.specs.Reader.{Reads, IsPartial, is_newline}
-use Rattle.shell_top.specs.Script.{Put, Script, nothing_more, ends_with, follow, is_too_long, last_part, script_from}
+use Rattle.shell_top.specs.Script.{Put, put_of, Script, nothing_more, ends_with, follow, is_too_long, last_part, script_from}
 use Rattle.shell_top.specs.Session.{AppendsPart, IsUnderWay, AreLinesDone, IsCutShort, PrintsPut, after}
 use Rattle.shell_top.specs.Text.{answers}
 use Rattle.shell_top.proofs.ScriptLemmas.{script-part, script-line, script-held, found_within, whole_line-long, whole_line-short, too_long_line, too_long_bytes, short_line, last_part-long, last_part-partial, last_part-whole, after-append, answers-append}
@@ -280,10 +280,10 @@ module _ (left written : Option (List ℕ)) where
 
       -- the line is a put, and it was answered
       pub goes_on_put : (written_then : Option (List ℕ)) (t : State) (key value : List ℕ) → parsed_line (take at held) ≡ parsed.Put key value
-          → t ≡ idle (length u.puts + 1 + 1) (map.insert u.rows key value) [] → Appends written_now written_then (answers (record { key = key; value = value } ∷ []))
+          → t ≡ idle (length u.puts + 1 + 1) (map.insert u.rows key value) [] → Appends written_now written_then (answers (put_of key value ∷ []))
           → IsUnderWay left left_now written written_then (line + 1) (drop (at + 1) held) t
       goes_on_put written_then t key value e done more =
-          let put : Put = record { key = key; value = value } in
+          let put = put_of key value in
           record {
             consumed = u.consumed ++ take (at + 1) held;
             puts = u.puts ++ put ∷ [];
@@ -307,14 +307,14 @@ module _ (left written : Option (List ℕ)) where
       cut_line written_then put rest asked _ cut = absurd cut
 
       pub line_put : (written_then : Option (List ℕ)) (t : State) (key value : List ℕ) (result : Option Ending) → parsed_line (take at held) ≡ parsed.Put key value
-          → PrintsPut (record { key = key; value = value }) s t result written_now written_then
+          → PrintsPut (put_of key value) s t result written_now written_then
           → MatchOption result (IsUnderWay left left_now written written_then (line + 1) (drop (at + 1) held) t) (AreLinesDone left left_now written written_then)
       line_put written_then t key value None e p =
           let few : length u.puts + 1 ≤ 65537 = omega (arith, u.few) in
           goes_on_put written_then t key value e (p.state (length u.puts + 1) u.rows u.idle_now few) (p.printed (length u.puts + 1) u.rows u.idle_now few)
       line_put written_then t key value (Some ending) e p =
           let few : length u.puts + 1 ≤ 65537 = omega (arith, u.few) in
-          cut_line written_then (record { key = key; value = value }) _ (first_asked false (parsed.Put key value) e) ending
+          cut_line written_then (put_of key value) _ (first_asked false (parsed.Put key value) e) ending
           (p.printed (length u.puts + 1) u.rows u.idle_now few)
 
       -- the line is refused
@@ -368,11 +368,11 @@ module _ (left written : Option (List ℕ)) where
       cut_last written_then put asked _ cut = absurd cut
 
       pub last_put : (written_then : Option (List ℕ)) (t : State) (key value : List ℕ) (result : Option Ending) → 0 < length held → parsed_line held ≡ parsed.Put key value
-          → PrintsPut (record { key = key; value = value }) s t result written_now written_then
+          → PrintsPut (put_of key value) s t result written_now written_then
           → MatchOption result (AreLinesDone left left_now written written_then ending.Finished) (AreLinesDone left left_now written written_then)
       last_put written_then t key value None some e p =
           let few : length u.puts + 1 ≤ 65537 = omega (arith, u.few, u.line_low) in
-          ends_answered written_then (record { key = key; value = value }) (last_asked (parsed.Put key value) some e) at_end (p.printed (length u.puts + 1) u.rows u.idle_now few)
+          ends_answered written_then (put_of key value) (last_asked (parsed.Put key value) some e) at_end (p.printed (length u.puts + 1) u.rows u.idle_now few)
       last_put written_then t key value (Some ending) some e p =
           let few : length u.puts + 1 ≤ 65537 = omega (arith, u.few, u.line_low) in
-          cut_last written_then (record { key = key; value = value }) (last_asked (parsed.Put key value) some e) ending (p.printed (length u.puts + 1) u.rows u.idle_now few)
+          cut_last written_then (put_of key value) (last_asked (parsed.Put key value) some e) ending (p.printed (length u.puts + 1) u.rows u.idle_now few)

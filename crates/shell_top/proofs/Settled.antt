@@ -1,7 +1,7 @@
 -- States that come of one another by steps.
 use Rattle.std.proofs.Common.{◌≡◌, ℕ, zero, suc, ◌+◌, Bool, true, false, refl, ap, sym, ◌∙◌, arith}
-use Rattle.std.specs.Prelude.{Option, None, Some, MatchBool}
-use Rattle.shell_top.specs.Cluster.{State, next, settled, settled_by, Reaches, IsQuiet}
+use Rattle.std.specs.Prelude.{Option, None, Some}
+use Rattle.shell_top.specs.Cluster.{State, IsNext, next, settled, settled_by, Reaches, IsQuiet}
 
 -- one step more
 pub reaches_next : (from s t : State) → Reaches from s → next s ≡ Some t → Reaches from t
@@ -13,9 +13,9 @@ reaches_next from s t reached e =
           ap (λ n. settled n from) shift ∙ reached.same (suc more) ∙ ap (λ o. settled_by s o (settled more)) e;
     }
 
-pub reaches_if_went : (from s t : State) (went : Bool) (Q : Type 0) → went ≡ true → MatchBool went (next s ≡ Some t) Q → Reaches from s → Reaches from t
-reaches_if_went from s t true Q is e reached = reaches_next from s t reached e
-reaches_if_went from s t false Q is e reached = cc
+pub reaches_if_went : (from s t : State) (went : Bool) → went ≡ true → IsNext s t went → Reaches from s → Reaches from t
+reaches_if_went from s t true is e reached = reaches_next from s t reached e
+reaches_if_went from s t false is e reached = cc
 
 -- no steps
 pub reaches_itself : (s : State) → Reaches s s

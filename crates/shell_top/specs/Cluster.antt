@@ -1,5 +1,5 @@
 -- The cluster as one thread drives it.
-use Rattle.std.specs.Prelude.{◌≡◌, ℕ, zero, suc, ◌+◌, Option, None, Some}
+use Rattle.std.specs.Prelude.{◌≡◌, Bool, true, false, ℕ, zero, suc, ◌+◌, Option, None, Some}
 use Rattle.sig_core.specs.declared.op.Op.{Op}
 use Rattle.sig_core.specs.declared.request.ApiReq.TheVariants.{Operate}
 use Rattle.sig_core.specs.declared.signal.Body.TheVariants.{Host}
@@ -44,6 +44,11 @@ settled_by s (Some t) further = further t
 abbrev pub settled : ℕ → State → State
 settled zero s = s
 settled (suc n) s = settled_by s (next s) (settled n)
+
+-- a step was taken, or nothing was under way and nothing has changed
+abbrev pub IsNext : State → State → Bool → Type 0
+IsNext s t true = next s ≡ Some t
+IsNext s t false = (next s ≡ None) × (t ≡ s)
 
 -- nothing is under way
 abbrev pub IsQuiet : State → Type 0

@@ -42,6 +42,9 @@ pub record Taken : Type 0 where
   pub flight : Flight
   pub left : Links
 
+abbrev pub taken : Signal → Links → Taken
+taken signal left = record { flight = flight_of signal; left = left }
+
 abbrev pub taken_from : Links → ℕ → List Flight → Option Taken
 taken_from links at [] = None
 taken_from links at (flight ∷ more) = Some (record { flight = flight; left = slice_set links at more })

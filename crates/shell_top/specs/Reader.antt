@@ -1,5 +1,5 @@
 -- Bytes that were read and are held until a line is whole.
-use Rattle.std.specs.Prelude.{◌≡◌, ℕ, Bool, ◌==◌, ◌≤◌, ◌<◌, List, ◌++◌, length, position, Option, None, Some}
+use Rattle.std.specs.Prelude.{◌≡◌, ℕ, Bool, true, false, ◌==◌, ◌≤◌, ◌<◌, List, ◌++◌, length, position, Option, None, Some}
 use Rattle.std.specs.Io.KnownBytes.{Consumes, IsAtEnd}
 use Rattle.shell_top.specs.declared.reader.Filled.{Filled}
 use Rattle.shell_top.specs.declared.reader.Filled.TheVariants.{Line, Ended, Overlong, Failed, NoMemory}
@@ -13,6 +13,11 @@ pub record Reads (left left_now : Option (List ℕ)) (held held_now : List ℕ) 
   pub more : List ℕ
   pub consumed : Consumes left left_now more
   pub kept : held_now ≡ held ++ more
+
+-- whether more is held than before; if not, the source is at its end
+abbrev pub HasMore : Option (List ℕ) → List ℕ → List ℕ → Bool → Type 0
+HasMore left held held_now true = length held < length held_now
+HasMore left held held_now false = (held_now ≡ held) × IsAtEnd left
 
 -- no line is whole, and what is held is not too long for one
 pub record IsPartial (held : List ℕ) : Type 0 where

@@ -13,6 +13,9 @@ pub record Put : Type 0 where
   pub key : List ℕ
   pub value : List ℕ
 
+abbrev pub put_of : List ℕ → List ℕ → Put
+put_of key value = record { key = key; value = value }
+
 -- the commands up to the first fault, and that fault
 pub record Script : Type 0 where
   pub commands : List Put
@@ -27,7 +30,7 @@ ends_with fault = record { commands = []; fault = Some fault }
 -- a line, by what it asks for, and then the rest of a script
 abbrev pub follow : ℕ → Parsed → Script → Script
 follow line parsed.Nothing rest = rest
-follow line (parsed.Put key value) rest = record { commands = record { key = key; value = value } ∷ rest.commands; fault = rest.fault }
+follow line (parsed.Put key value) rest = record { commands = put_of key value ∷ rest.commands; fault = rest.fault }
 follow line (parsed.Fault fault) rest = ends_with (Refused line fault)
 
 -- a line of more than 512 bytes, and the 65,537th

@@ -5,7 +5,9 @@ use Rattle.std.specs.Io.KnownBytes.{Consumes, Appends, IsAtEnd}
 use Rattle.sig_core.specs.Table.{Rows}
 use Rattle.shell_top.specs.declared.ended.Ending.{Ending}
 use Rattle.shell_top.specs.declared.ended.Ending.TheVariants.{Finished, Words, Refused, ReadFault, WriteFault, NoMemory, TooLong}
+use Rattle.shell_top.specs.declared.session.Session.{Session}
 use Rattle.shell_top.specs.Cluster.{State}
+use Rattle.shell_top.specs.ClusterState.{state_of}
 use Rattle.shell_top.specs.Idle.{idle}
 use Rattle.shell_top.specs.Script.{Put, Script, script_from}
 use Rattle.shell_top.specs.Text.{answers, fault_line, status_of}
@@ -107,3 +109,18 @@ pub record AreLinesDone (left left_now written written_now : Option (List ℕ)) 
   pub printed : Prints ending ending written written_now (answers (script_from ended 1 input).commands)
   pub no_words : ending ≡ Words → ⊥
   pub bounded : length input ≤ 513 * 65536 + 1024
+
+abbrev pub IsAt : Session → (left left_now written written_now : Option (List ℕ)) → Type 0
+IsAt session left left_now written written_now =
+    IsUnderWay left left_now written written_now session.line session.reader (state_of session.cluster)
+
+-- a session that is under way goes on, or it ends with its lines done
+abbrev pub GoesOn : Session → Session → (left_old left_new written_old written_new : Option (List ℕ)) → Option Ending → Type 0
+GoesOn old new left_old left_new written_old written_new result =
+    (left written : Option (List ℕ)) → IsAt old left left_old written written_old
+    → MatchOption result (IsAt new left left_new written written_new) (AreLinesDone left left_new written written_new)
+
+-- a session that is under way ends with its lines done
+abbrev pub GoesToEnd : Session → (left_old left_new written_old written_new : Option (List ℕ)) → Ending → Type 0
+GoesToEnd old left_old left_new written_old written_new ending =
+    (left written : Option (List ℕ)) → IsAt old left left_old written written_old → AreLinesDone left left_new written written_new ending

@@ -1,9 +1,9 @@
 //! Lines, as they come from a source.
-ghost use Rattle.std.specs.Prelude.{◌≡◌, ◌≤◌, ◌<◌, ◌+◌, IfOk, IfErr, MatchBool, [], length, drop, position};
+ghost use Rattle.std.specs.Prelude.{◌≡◌, ◌≤◌, ◌<◌, ◌+◌, IfOk, IfErr, [], length, drop, position};
 ghost use Rattle.std.specs.Io.KnownBytes.{IsAtEnd};
 ghost use Rattle.host_io.specs.Fault.{Rose};
 ghost use Rattle.shell_top.specs.declared.reader.Filled.TheVariants as filled;
-ghost use Rattle.shell_top.specs.Reader.{Reads, IsFault, is_newline};
+ghost use Rattle.shell_top.specs.Reader.{Reads, HasMore, IsFault, is_newline};
 
 use host_io::Source;
 use sig_core::NoMemory;
@@ -125,7 +125,7 @@ fn read_more<S: Source>(
     requires { length chunk.old.items ≡ 512 }
     ensures room { length chunk.new.items ≡ 512 }
     ensures reads { Reads (S.left source.old) (S.left source.new) held.old.items held.new.items }
-    ensures more { IfOk result (λ more. MatchBool more (length held.old.items < length held.new.items) ((held.new.items ≡ held.old.items) × IsAtEnd (S.left source.new))) }
+    ensures more { IfOk result (HasMore (S.left source.new) held.old.items held.new.items) }
     ensures most { length held.new.items ≤ length held.old.items + 512 }
     ensures fault { IfErr result (λ fault. held.new.items ≡ held.old.items) }
     ensures which { IfErr result IsFault }

@@ -4,6 +4,7 @@ ghost use Rattle.host_io.specs.Fault.{Rose};
 ghost use Rattle.shell_top.specs.declared.ended.Ending.TheVariants as ending;
 ghost use Rattle.shell_top.specs.ClusterState.{state_of};
 ghost use Rattle.shell_top.specs.Idle.{told};
+ghost use Rattle.shell_top.specs.Script.{put_of};
 ghost use Rattle.shell_top.specs.Session.{ServesPut, PrintsPut};
 ghost use Rattle.shell_top.specs.Text.{reply_lines};
 
@@ -41,7 +42,7 @@ fn serve(
     key: &Key,
     value: &Value,
 ) -> Result<Vec<u8>, NoMemory>
-    ensures { IfOk result (λ text. ServesPut (record { key = key.now; value = value.now }) (state_of cluster.old) (state_of cluster.new) text.items) }
+    ensures { IfOk result (λ text. ServesPut (put_of key.now value.now) (state_of cluster.old) (state_of cluster.new) text.items) }
 {
     let op = Op::Put(*key, *value);
     cluster.ask(&op)?;
@@ -58,7 +59,7 @@ pub fn put<K: Sink>(
     key: &Key,
     value: &Value,
 ) -> Option<Ending>
-    ensures put { PrintsPut (record { key = key.now; value = value.now }) (state_of cluster.old) (state_of cluster.new) result (K.written sink.old) (K.written sink.new) }
+    ensures put { PrintsPut (put_of key.now value.now) (state_of cluster.old) (state_of cluster.new) result (K.written sink.old) (K.written sink.new) }
     ensures unread { result ≡ Some ending.ReadFault → ⊥ }
     ensures cause { result ≡ Some ending.WriteFault → Rose (K.faults sink.old) (K.faults sink.new) }
     ensures steady { K.faults sink.old ≤ K.faults sink.new }

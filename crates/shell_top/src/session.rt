@@ -1,5 +1,5 @@
 //! A session: line after line is read, served and answered.
-ghost use Rattle.std.specs.Prelude.{◌≡◌, ◌≤◌, ◌<◌, ◌+◌, ℕ, List, Option, [], None, Some, IfOk, IfNone, MatchOption, length, position, nat_lt, ◌&&◌};
+ghost use Rattle.std.specs.Prelude.{◌≡◌, ◌≤◌, ◌<◌, ◌+◌, ℕ, List, Option, [], None, Some, IfOk, IfNone, length, position, nat_lt, ◌&&◌};
 ghost use Rattle.std.specs.FinMap as map;
 ghost use Rattle.std.specs.Io.KnownBytes.{IsAtEnd};
 ghost use Rattle.host_io.specs.Fault.{Rose};
@@ -7,7 +7,7 @@ ghost use Rattle.shell_top.specs.declared.ended.Ending.TheVariants as ending;
 ghost use Rattle.shell_top.specs.ClusterState.{state_of};
 ghost use Rattle.shell_top.specs.Idle.{idle};
 ghost use Rattle.shell_top.specs.Reader.{IsPartial, is_newline};
-ghost use Rattle.shell_top.specs.Session.{IsUnderWay, AreLinesDone};
+ghost use Rattle.shell_top.specs.Session.{GoesOn, GoesToEnd};
 
 use crate::ended::Ending;
 use crate::parts::cluster::Cluster;
@@ -51,7 +51,7 @@ impl Session {
 
     /// Reads, serves and answers line after line, and says why that ends.
     pub fn run<S: Source, K: Sink>(&mut self, alloc: Global, source: &mut S, sink: &mut K) -> Ending
-        ensures done { (left written : Option (List ℕ)) → IsUnderWay left (S.left source.old) written (K.written sink.old) self.old.line self.old.reader (state_of self.old.cluster) → AreLinesDone left (S.left source.new) written (K.written sink.new) result }
+        ensures done { GoesToEnd self.old (S.left source.old) (S.left source.new) (K.written sink.old) (K.written sink.new) result }
         ensures read_cause { result ≡ ending.ReadFault → Rose (S.faults source.old) (S.faults source.new) }
         ensures write_cause { result ≡ ending.WriteFault → Rose (K.faults sink.old) (K.faults sink.new) }
         ensures read_steady { S.faults source.old ≤ S.faults source.new }
@@ -71,7 +71,7 @@ impl Session {
         source: &mut S,
         sink: &mut K,
     ) -> Option<Ending>
-        ensures done { (left written : Option (List ℕ)) → IsUnderWay left (S.left source.old) written (K.written sink.old) self.old.line self.old.reader (state_of self.old.cluster) → MatchOption result (IsUnderWay left (S.left source.new) written (K.written sink.new) self.new.line self.new.reader (state_of self.new.cluster)) (AreLinesDone left (S.left source.new) written (K.written sink.new)) }
+        ensures done { GoesOn self.old self.new (S.left source.old) (S.left source.new) (K.written sink.old) (K.written sink.new) result }
         ensures next { IfNone result ((self.new.line ≡ self.old.line + 1) × (self.old.line ≤ 65536)) }
         ensures read_cause { result ≡ Some ending.ReadFault → Rose (S.faults source.old) (S.faults source.new) }
         ensures write_cause { result ≡ Some ending.WriteFault → Rose (K.faults sink.old) (K.faults sink.new) }
@@ -103,7 +103,7 @@ impl Session {
     fn whole_line<K: Sink>(&mut self, alloc: Global, sink: &mut K, at: usize) -> Option<Ending>
         requires found { position is_newline self.old.reader ≡ Some at }
         requires low { self.old.line ≤ 65536 }
-        ensures done { (left left_now written : Option (List ℕ)) → IsUnderWay left left_now written (K.written sink.old) self.old.line self.old.reader (state_of self.old.cluster) → MatchOption result (IsUnderWay left left_now written (K.written sink.new) self.new.line self.new.reader (state_of self.new.cluster)) (AreLinesDone left left_now written (K.written sink.new)) }
+        ensures done { (left : Option (List ℕ)) → GoesOn self.old self.new left left (K.written sink.old) (K.written sink.new) result }
         ensures next { IfNone result (self.new.line ≡ self.old.line + 1) }
         ensures unread { result ≡ Some ending.ReadFault → ⊥ }
         ensures write_cause { result ≡ Some ending.WriteFault → Rose (K.faults sink.old) (K.faults sink.new) }
@@ -130,7 +130,7 @@ impl Session {
     fn last_line<K: Sink>(&mut self, alloc: Global, sink: &mut K) -> Ending
         requires partial { IsPartial self.old.reader }
         requires low { 0 < length self.old.reader → self.old.line ≤ 65536 }
-        ensures done { (left left_now written : Option (List ℕ)) → IsUnderWay left left_now written (K.written sink.old) self.old.line self.old.reader (state_of self.old.cluster) → IsAtEnd left_now → AreLinesDone left left_now written (K.written sink.new) result }
+        ensures done { (left : Option (List ℕ)) → IsAtEnd left → GoesToEnd self.old left left (K.written sink.old) (K.written sink.new) result }
         ensures unread { result ≡ ending.ReadFault → ⊥ }
         ensures write_cause { result ≡ ending.WriteFault → Rose (K.faults sink.old) (K.faults sink.new) }
         ensures write_steady { K.faults sink.old ≤ K.faults sink.new }

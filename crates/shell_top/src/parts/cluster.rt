@@ -1,5 +1,5 @@
 //! The cluster, driven by one thread.
-ghost use Rattle.std.specs.Prelude.{◌≡◌, [], None, Some, IfOk, OnOk, MatchBool};
+ghost use Rattle.std.specs.Prelude.{◌≡◌, [], None, Some, IfOk, OnOk};
 ghost use Rattle.std.specs.FinMap as map;
 ghost use Rattle.shell_top.specs.Idle.{idle};
 ghost use Rattle.shell_top.specs.Network.{put_all};
@@ -22,7 +22,7 @@ pub struct Cluster {
 
 impl Cluster {
     ghost use Rattle.shell_top.specs.ClusterState.{state_of};
-    ghost use Rattle.shell_top.specs.Cluster.{asked, next, IsQuiet, Reaches};
+    ghost use Rattle.shell_top.specs.Cluster.{asked, IsNext, IsQuiet, Reaches};
 
     /// A fresh cluster.
     ///
@@ -65,7 +65,7 @@ impl Cluster {
     /// # Errors
     /// `NoMemory`, and then the cluster is of no use.
     fn step(&mut self, alloc: Global) -> Result<bool, NoMemory>
-        ensures { IfOk result (λ went. MatchBool went (next (state_of self.old) ≡ Some (state_of self.new)) ((next (state_of self.old) ≡ None) × (state_of self.new ≡ state_of self.old))) }
+        ensures { IfOk result (IsNext (state_of self.old) (state_of self.new)) }
     {
         let Some(signal) = self.network.take() else {
             return Ok(false);

@@ -1,6 +1,6 @@
 //! The links between the hosts.
 ghost use Rattle.std.specs.Prelude.{◌≡◌, [], ◌++◌, ◌∷◌, None, Some, MatchOption, IfNone, IfSome, OnOk, IfOk, ◌<◌, nat_lt, length, position, slice_index_or};
-ghost use Rattle.shell_top.specs.Network.{flight_of, taken_from};
+ghost use Rattle.shell_top.specs.Network.{taken, taken_at};
 
 use crate::parts::place::first_view;
 use sig_core::{HostId, Member, NoMemory, Outgoing, Signal};
@@ -82,7 +82,7 @@ impl Model for Network {
 
 impl Network {
     ghost use Rattle.std.specs.Prelude.{nat_lt, length, replicate};
-    ghost use Rattle.shell_top.specs.Network.{flight_of, flight_from, put, take_first};
+    ghost use Rattle.shell_top.specs.Network.{flight_from, put, take_first};
 
     /// Links with nothing on them.
     ///
@@ -130,7 +130,7 @@ impl Network {
     pub fn take(&mut self) -> Option<Signal>
         ensures none { IfNone result (take_first self.old ≡ None) }
         ensures kept { IfNone result (self.new ≡ self.old) }
-        ensures signal { IfSome result (λ signal. take_first self.old ≡ Some (record { flight = flight_of signal; left = self.new })) }
+        ensures signal { IfSome result (λ signal. take_first self.old ≡ Some (taken signal self.new)) }
     {
         let at = first_busy(&self.links)?;
         take_at(&mut self.links, at)
@@ -147,9 +147,9 @@ fn first_busy(links: &[Link]) -> Option<usize>
 /// Takes the first signal of the link at a place.
 fn take_at(links: &mut [Link], at: usize) -> Option<Signal>
     requires { at < length links.old }
-    ensures none { IfNone result (taken_from links.old at (slice_index_or links.old at []) ≡ None) }
+    ensures none { IfNone result (taken_at links.old (Some at) ≡ None) }
     ensures kept { IfNone result (links.new ≡ links.old) }
-    ensures signal { IfSome result (λ signal. taken_from links.old at (slice_index_or links.old at []) ≡ Some (record { flight = flight_of signal; left = links.new })) }
+    ensures signal { IfSome result (λ signal. taken_at links.old (Some at) ≡ Some (taken signal links.new)) }
 {
     links[at].take()
 }

@@ -6,27 +6,27 @@ use Rattle.shell_top.proofs.SessionLemmas.{some_held, last_nothing, last_put, la
 use Rattle.shell_top.proofs.session.Session.last_line.Goals as goal
 
 pub returns-in-Nothing-clause-done : goal.returns-in-Nothing-clause-done
-returns-in-Nothing-clause-done g c left left_now written u at_end =
+returns-in-Nothing-clause-done g c left_now at_end left written u =
     let means : parsed_line c.args.self.now.reader ≡ parsed.Nothing = ap parsed_line (sym c.held-held.ensures) ∙ sym c.parse-parsed.ensures ∙ c.in-Nothing.is in
     last_nothing left written left_now _ c.args.self.now.line c.args.self.now.reader _ u c.requires.partial c.requires.low at_end
     (some_held _ c.held-held.result.now c.is_empty.result c.held-held.ensures c.is_empty.ensures c.if-is_empty.false) means
 
 pub returns-in-None-clause-done : goal.returns-in-None-clause-done
-returns-in-None-clause-done g c left left_now written u at_end =
+returns-in-None-clause-done g c left_now at_end left written u =
     let means : parsed_line c.args.self.now.reader ≡ parsed.Put c.in-Put.key c.in-Put.value =
     ap parsed_line (sym c.held-held.ensures) ∙ sym c.parse-parsed.ensures ∙ c.in-Put.is in
     last_put left written left_now _ c.args.self.now.line c.args.self.now.reader _ u c.requires.partial c.requires.low at_end _ _ c.in-Put.key c.in-Put.value None
     (some_held _ c.held-held.result.now c.is_empty.result c.held-held.ensures c.is_empty.ensures c.if-is_empty.false) means c.in-None.ensures.put
 
 pub returns-in-Some-clause-done : goal.returns-in-Some-clause-done
-returns-in-Some-clause-done g c left left_now written u at_end =
+returns-in-Some-clause-done g c left_now at_end left written u =
     let means : parsed_line c.args.self.now.reader ≡ parsed.Put c.in-Put.key c.in-Put.value =
     ap parsed_line (sym c.held-held.ensures) ∙ sym c.parse-parsed.ensures ∙ c.in-Put.is in
     last_put left written left_now _ c.args.self.now.line c.args.self.now.reader _ u c.requires.partial c.requires.low at_end _ _ c.in-Put.key c.in-Put.value (Some c.in-Some.ending)
     (some_held _ c.held-held.result.now c.is_empty.result c.held-held.ensures c.is_empty.ensures c.if-is_empty.false) means c.in-Some.ensures.put
 
 pub returns-in-Fault-clause-done : goal.returns-in-Fault-clause-done
-returns-in-Fault-clause-done g c left left_now written u at_end =
+returns-in-Fault-clause-done g c left_now at_end left written u =
     let means : parsed_line c.args.self.now.reader ≡ parsed.Fault c.in-Fault.fault =
     ap parsed_line (sym c.held-held.ensures) ∙ sym c.parse-parsed.ensures ∙ c.in-Fault.is in
     last_fault left written left_now _ c.args.self.now.line c.args.self.now.reader _ u c.requires.partial c.requires.low at_end c.in-Fault.fault

@@ -9,14 +9,13 @@ returns-then-is_past_end-clause-done g c left written u =
 
 pub returns-in-Line-clause-done : goal.returns-in-Line-clause-done
 returns-in-Line-clause-done g c left written u =
-    c.whole_line.ensures.done left _ written
+    c.whole_line.ensures.done _ left written
     (read_on left written _ _ _ c.args.self.now.line _ _ _ u c.fill-filled.ensures.reads (c.fill-filled.ensures.most u.held_short))
 
 pub returns-in-Ended-clause-done : goal.returns-in-Ended-clause-done
 returns-in-Ended-clause-done g c left written u =
-    c.last_line.ensures.done left _ written
+    c.last_line.ensures.done _ c.in-Ended.ensures.filled.1 left written
     (read_on left written _ _ _ c.args.self.now.line _ _ _ u c.fill-filled.ensures.reads (c.fill-filled.ensures.most u.held_short))
-    c.in-Ended.ensures.filled.1
 
 pub returns-in-Overlong-clause-done : goal.returns-in-Overlong-clause-done
 returns-in-Overlong-clause-done g c left written u =
