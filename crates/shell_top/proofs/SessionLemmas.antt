@@ -16,7 +16,7 @@ use Rattle.shell_top.specs.Idle.{idle}
 use Rattle.shell_top.specs.Parsed.{parsed as parsed_line}
 use Rattle.shell_top.specs.Reader.{Reads, IsPartial, is_newline}
 use Rattle.shell_top.specs.Script.{Put, put_of, Script, nothing_more, ends_with, follow, is_too_long, last_part, script_from}
-use Rattle.shell_top.specs.Session.{AppendsPart, IsUnderWay, AreLinesDone, IsCutShort, PrintsPut, after}
+use Rattle.shell_top.specs.Session.{AppendsPart, Ends, Prints, IsUnderWay, AreLinesDone, IsCutShort, PrintsPut, after}
 use Rattle.shell_top.specs.Text.{answers}
 use Rattle.shell_top.proofs.ScriptLemmas.{script-part, script-line, script-held, found_within, whole_line-long, whole_line-short, too_long_line, too_long_bytes, short_line, last_part-long, last_part-partial, last_part-whole, after-append, answers-append}
 
@@ -69,76 +69,65 @@ module _ (left written : Option (List ℕ)) where
   }
 
   module _ (left_now written_now : Option (List ℕ)) (line : ℕ) (held : List ℕ) (s : State) (u : IsUnderWay left left_now written written_now line held s) where
-    -- what it asks for: what was done, and what is held
-    all_asked : (ended : Bool) (rest : Script) → script_from ended line held ≡ rest → script_from ended 1 (u.consumed ++ held) ≡ after u.puts rest
+    -- what all that was read asks for
+    abbrev all_read : Bool → Script
+    all_read ended = script_from ended 1 (u.consumed ++ held)
+
+    -- it is what was done, and what the part that is held asks for
+    all_asked : (ended : Bool) (rest : Script) → script_from ended line held ≡ rest → all_read ended ≡ after u.puts rest
     all_asked ended rest e = u.lines ended held ∙ ap (after u.puts) e
+
+    fault_asked : (ended : Bool) (rest : Script) → script_from ended line held ≡ rest → (all_read ended).fault ≡ rest.fault
+    fault_asked ended rest e = ap (λ (x : Script). x.fault) (all_asked ended rest e)
 
     all_bounded : length (u.consumed ++ held) ≤ 513 * 65536 + 1024
     all_bounded = omega (arith, length-append u.consumed held, u.consumed_short, u.line_low, u.held_short)
 
     -- where what is held asks for no command, all is answered
     all_answered : (ended : Bool) (rest : Script) → script_from ended line held ≡ rest → rest.commands ≡ []
-        → Appends written written_now (answers (script_from ended 1 (u.consumed ++ held)).commands)
+        → Appends written written_now (answers (all_read ended).commands)
     all_answered ended rest e none =
         subst (Appends written written_now)
         (sym (ap (λ (x : Script). answers x.commands) (all_asked ended rest e) ∙ ap (λ puts. answers (u.puts ++ puts)) none ∙ ap answers (append-nil u.puts)))
         u.printed
 
-    -- a line is refused
-    pub ends_refused : (fault : LineFault) (ended : Bool) → (ended ≡ true → IsAtEnd left_now) → script_from ended line held ≡ ends_with (ending.Refused line fault)
-        → AreLinesDone left left_now written written_now (ending.Refused line fault)
-    ends_refused fault ended at_end e = record {
+    -- the session ends here
+    ends_here : (written_then : Option (List ℕ)) (e : Ending) (ended : Bool) → (ended ≡ true → IsAtEnd left_now) → Ends e ended (all_read ended)
+        → Prints e e written written_then (answers (all_read ended).commands) → (e ≡ ending.Words → ⊥) → AreLinesDone left left_now written written_then e
+    ends_here written_then e ended at_end ends printed no_words = record {
       input = u.consumed ++ held;
       ended = ended;
       consumed = u.read;
       at_end = at_end;
-      ends = ap (λ (x : Script). x.fault) (all_asked ended _ e);
-      printed = (refl, all_answered ended _ e refl);
-      no_words = λ is. cc;
+      ends = ends;
+      printed = printed;
+      no_words = no_words;
       bounded = all_bounded;
     }
+
+    -- a line is refused
+    pub ends_refused : (fault : LineFault) (ended : Bool) → (ended ≡ true → IsAtEnd left_now) → script_from ended line held ≡ ends_with (ending.Refused line fault)
+        → AreLinesDone left left_now written written_now (ending.Refused line fault)
+    ends_refused fault ended at_end e =
+        ends_here written_now (ending.Refused line fault) ended at_end (fault_asked ended _ e) (refl, all_answered ended _ e refl) (λ is. cc)
 
     -- a line is too long
     pub ends_too_long : script_from false line held ≡ ends_with (ending.TooLong line) → AreLinesDone left left_now written written_now (ending.TooLong line)
-    ends_too_long e = record {
-      input = u.consumed ++ held;
-      ended = false;
-      consumed = u.read;
-      at_end = λ is. cc;
-      ends = ap (λ (x : Script). x.fault) (all_asked false _ e);
-      printed = (refl, all_answered false _ e refl);
-      no_words = λ is. cc;
-      bounded = all_bounded;
-    }
+    ends_too_long e =
+        ends_here written_now (ending.TooLong line) false (λ is. cc) (fault_asked false _ e) (refl, all_answered false _ e refl) (λ is. cc)
 
     -- the source failed, and no line is whole
     pub ends_unread : script_from false line held ≡ nothing_more → AreLinesDone left left_now written written_now ending.ReadFault
-    ends_unread e = record {
-      input = u.consumed ++ held;
-      ended = false;
-      consumed = u.read;
-      at_end = λ is. cc;
-      ends = (refl, ap (λ (x : Script). x.fault) (all_asked false _ e));
-      printed = (refl, all_answered false _ e refl);
-      no_words = λ is. cc;
-      bounded = all_bounded;
-    }
+    ends_unread e =
+        ends_here written_now ending.ReadFault false (λ is. cc) (refl, fault_asked false _ e) (refl, all_answered false _ e refl) (λ is. cc)
 
     -- the source was read to its end, and nothing is left to do
     pub ends_finished : IsAtEnd left_now → script_from true line held ≡ nothing_more → AreLinesDone left left_now written written_now ending.Finished
-    ends_finished at_end e = record {
-      input = u.consumed ++ held;
-      ended = true;
-      consumed = u.read;
-      at_end = λ is. at_end;
-      ends = (refl, ap (λ (x : Script). x.fault) (all_asked true _ e));
-      printed = (refl, all_answered true _ e refl);
-      no_words = λ is. cc;
-      bounded = all_bounded;
-    }
+    ends_finished at_end e =
+        ends_here written_now ending.Finished true (λ is. at_end) (refl, fault_asked true _ e) (refl, all_answered true _ e refl) (λ is. cc)
 
     -- what was printed is a first part of the answers
-    printed_first : (ended : Bool) → AppendsPart written written_now (answers (script_from ended 1 (u.consumed ++ held)).commands)
+    printed_first : (ended : Bool) → AppendsPart written written_now (answers (all_read ended).commands)
     printed_first ended = record {
       count = length (answers u.puts);
       appended = subst (Appends written written_now)
@@ -150,21 +139,12 @@ module _ (left written : Option (List ℕ)) where
 
     -- memory is wanting
     pub ends_unremembered : AreLinesDone left left_now written written_now ending.NoMemory
-    ends_unremembered = record {
-      input = u.consumed ++ held;
-      ended = false;
-      consumed = u.read;
-      at_end = λ is. cc;
-      ends = tt;
-      printed = printed_first false;
-      no_words = λ is. cc;
-      bounded = all_bounded;
-    }
+    ends_unremembered = ends_here written_now ending.NoMemory false (λ is. cc) tt (printed_first false) (λ is. cc)
 
     -- what is held begins with a put, whose answer was printed in part
     module _ (written_then : Option (List ℕ)) (put : Put) (ended : Bool) (rest : Script) (asked : script_from ended line held ≡ after (put ∷ []) rest) where
       -- the answers before, that of the put, and those behind it
-      all_text : answers (script_from ended 1 (u.consumed ++ held)).commands ≡ answers u.puts ++ (answers (put ∷ []) ++ answers rest.commands)
+      all_text : answers (all_read ended).commands ≡ answers u.puts ++ (answers (put ∷ []) ++ answers rest.commands)
       all_text = ap (λ (x : Script). answers x.commands) (all_asked ended _ asked) ∙ answers-append u.puts (put ∷ rest.commands)
 
       cut_text : (n : ℕ) → answers u.puts ++ (answers (put ∷ []) ++ answers rest.commands)
@@ -175,8 +155,7 @@ module _ (left written : Option (List ℕ)) where
           ∙ ap (λ xs. answers u.puts ++ xs) (append_assoc (take n text) (drop n text) (answers rest.commands))
           ∙ sym (append_assoc (answers u.puts) (take n text) (drop n text ++ answers rest.commands))
 
-      pub printed_part : AppendsPart written_now written_then (answers (put ∷ []))
-          → AppendsPart written written_then (answers (script_from ended 1 (u.consumed ++ held)).commands)
+      pub printed_part : AppendsPart written_now written_then (answers (put ∷ [])) → AppendsPart written written_then (answers (all_read ended).commands)
       printed_part part =
           let front = answers u.puts ++ take part.count (answers (put ∷ [])) in
           record {
@@ -187,47 +166,23 @@ module _ (left written : Option (List ℕ)) where
           }
 
       pub ends_unwritten : (ended ≡ true → IsAtEnd left_now) → AppendsPart written_now written_then (answers (put ∷ [])) → AreLinesDone left left_now written written_then ending.WriteFault
-      ends_unwritten at_end part = record {
-        input = u.consumed ++ held;
-        ended = ended;
-        consumed = u.read;
-        at_end = at_end;
-        ends = tt;
-        printed = printed_part part;
-        no_words = λ is. cc;
-        bounded = all_bounded;
-      }
+      ends_unwritten at_end part = ends_here written_then ending.WriteFault ended at_end tt (printed_part part) (λ is. cc)
 
       pub ends_forgotten : (ended ≡ true → IsAtEnd left_now) → AppendsPart written_now written_then (answers (put ∷ [])) → AreLinesDone left left_now written written_then ending.NoMemory
-      ends_forgotten at_end part = record {
-        input = u.consumed ++ held;
-        ended = ended;
-        consumed = u.read;
-        at_end = at_end;
-        ends = tt;
-        printed = printed_part part;
-        no_words = λ is. cc;
-        bounded = all_bounded;
-      }
+      ends_forgotten at_end part = ends_here written_then ending.NoMemory ended at_end tt (printed_part part) (λ is. cc)
 
     -- the last line is a put, and it was answered
     pub ends_answered : (written_then : Option (List ℕ)) (put : Put) → script_from true line held ≡ after (put ∷ []) nothing_more → IsAtEnd left_now
         → Appends written_now written_then (answers (put ∷ [])) → AreLinesDone left left_now written written_then ending.Finished
-    ends_answered written_then put asked at_end more = record {
-      input = u.consumed ++ held;
-      ended = true;
-      consumed = u.read;
-      at_end = λ is. at_end;
-      ends = (refl, ap (λ (x : Script). x.fault) (all_asked true _ asked));
-      printed = (
-        refl,
-        subst (Appends written written_then)
-            (sym (ap (λ (x : Script). answers x.commands) (all_asked true _ asked) ∙ answers-append u.puts (put ∷ [])))
-            (Appends-trans written written_now written_then (answers u.puts) (answers (put ∷ [])) u.printed more),
-      );
-      no_words = λ is. cc;
-      bounded = all_bounded;
-    }
+    ends_answered written_then put asked at_end more =
+        ends_here written_then ending.Finished true (λ is. at_end) (refl, fault_asked true _ asked)
+        (
+          refl,
+          subst (Appends written written_then)
+              (sym (ap (λ (x : Script). answers x.commands) (all_asked true _ asked) ∙ answers-append u.puts (put ∷ [])))
+              (Appends-trans written written_now written_then (answers u.puts) (answers (put ∷ [])) u.printed more),
+        )
+        (λ is. cc)
 
     -- a whole line is passed
     module _ (at : ℕ) (found : position is_newline held ≡ Some at) (low : line ≤ 65536) (short : at ≤ 512) where
