@@ -175,8 +175,7 @@ module _ (left written : Option (List ℕ)) where
     pub ends_answered : (written_then : Option (List ℕ)) (put : Put) → script_from true line held ≡ after (put ∷ []) nothing_more → IsAtEnd left_now
         → Appends written_now written_then (answers (put ∷ [])) → AreLinesDone left left_now written written_then ending.Finished
     ends_answered written_then put asked at_end more =
-        ends_here written_then ending.Finished true (λ is. at_end) (refl, fault_asked true _ asked)
-        (
+        ends_here written_then ending.Finished true (λ is. at_end) (refl, fault_asked true _ asked) (
           refl,
           subst (Appends written written_then)
               (sym (ap (λ (x : Script). answers x.commands) (all_asked true _ asked) ∙ answers-append u.puts (put ∷ [])))
