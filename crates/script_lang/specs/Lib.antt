@@ -1,0 +1,5 @@
+pub mod Fault
+pub mod Keyword
+pub mod Number
+pub mod Operation
+pub mod Words
