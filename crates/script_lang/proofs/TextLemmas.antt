@@ -28,10 +28,14 @@ pub hex_digits-next : (bytes : List ℕ) (index : ℕ) → index < length bytes
     → hex_digits (drop index bytes) ≡ byte_digits (get_or bytes index 0) ++ hex_digits (drop (index + 1) bytes)
 hex_digits-next bytes index within = ap hex_digits (drop_more bytes index 0 within)
 
--- what is written of a byte with at least two digits, filled up with 0
+-- the options `02x`: at least two places, filled up with 0
+abbrev pub two_places : List ℕ → List ℕ
+two_places = padded_integral (format_spec 32 0 4 2 18446744073709551615) false []
+
+-- what they write of a byte
 pub byte_digits-shown : (byte : ℕ) (number : Option (List ℕ)) (shown : List ℕ) → byte < 256 → number ≡ Some (digits 16 false byte)
-    → IfSome (option_map (padded_integral (format_spec 32 0 4 2 18446744073709551615) false []) number) (λ bytes. shown ≡ bytes) → shown ≡ byte_digits byte
-byte_digits-shown byte number shown small is written = padded (subst (λ n. IfSome (option_map (padded_integral (format_spec 32 0 4 2 18446744073709551615) false []) n) (λ bytes. shown ≡ bytes)) is written)
+    → IfSome (option_map two_places number) (λ bytes. shown ≡ bytes) → shown ≡ byte_digits byte
+byte_digits-shown byte number shown small is written = written_as (subst (λ n. IfSome (option_map two_places n) (λ bytes. shown ≡ bytes)) is written)
   where
-    padded : shown ≡ padded_integral (format_spec 32 0 4 2 18446744073709551615) false [] (digits 16 false byte) → shown ≡ byte_digits byte
-    padded same = same ∙ hex_byte false byte small
+    written_as : shown ≡ two_places (digits 16 false byte) → shown ≡ byte_digits byte
+    written_as same = same ∙ hex_byte false byte small

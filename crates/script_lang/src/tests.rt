@@ -7,346 +7,264 @@ use std::alloc::Global;
 use std::process::Abort;
 use std::test::Fail;
 
-/// Asserts that each reply prints its line behind what is there.
-fn expect<R: Abort>(rt: &R, alloc: Global, table: &[(ApiReply, &[u8])]) -> Result<(), Fail> {
-    for (reply, line) in table {
-        let mut text = b"above\n".to_vec(alloc)?;
-        assert_eq!(rt; print_reply(alloc, reply, &mut text).ok(), Some(()));
-        let mut wanted = b"above\n".to_vec(alloc)?;
-        wanted.extend_from_slice(line)?;
-        assert_eq!(rt; text.as_slice(), wanted.as_slice());
+/// Asserts that a reply prints these two parts of its line behind what is there.
+fn expect<R: Abort>(
+    rt: &R,
+    alloc: Global,
+    reply: &ApiReply,
+    name: &[u8],
+    words: &[u8],
+) -> Result<(), Fail> {
+    let mut text = b"above\n".to_vec(alloc)?;
+    let mut wanted = b"above\n".to_vec(alloc)?;
+    wanted.extend_from_slice(name)?;
+    wanted.extend_from_slice(words)?;
+    assert_eq!(rt; print_reply(alloc, reply, &mut text).ok(), Some(()));
+    assert_eq!(rt; text.as_slice(), wanted.as_slice());
+    Ok(())
+}
+
+#[test]
+fn begun_tells_the_name_and_the_node(rt: HostRuntime) -> Result<(), Fail> {
+    let begun = ApiReply::Begun { name: 7, node: 2 };
+    let last = ApiReply::Begun {
+        name: 65535,
+        node: 8,
+    };
+    expect(&rt, rt.alloc(), &begun, b"@7 ", b"begun 2\n")?;
+    expect(&rt, rt.alloc(), &last, b"@65535 ", b"begun 8\n")
+}
+
+#[test]
+fn answers_with_and_without_a_name(rt: HostRuntime) -> Result<(), Fail> {
+    let (value, empty) = (Value::new(b"100")?, Value::new(b"")?);
+    let table = [
+        (Answer::Done, b"ok\n".as_slice()),
+        (Answer::Found(value), b"value 100\n"),
+        (Answer::Found(empty), b"value \n"),
+        (Answer::Missing, b"none\n"),
+        (Answer::E626, b"error 626 tuple did not exist\n"),
+        (Answer::E630, b"error 630 tuple already existed\n"),
+    ];
+    for (answer, line) in &table {
+        let unnamed = ApiReply::Answered {
+            name: None,
+            answer: *answer,
+        };
+        let named = ApiReply::Answered {
+            name: Some(12),
+            answer: *answer,
+        };
+        expect(&rt, rt.alloc(), &unnamed, b"", line)?;
+        expect(&rt, rt.alloc(), &named, b"@12 ", line)?;
     }
     Ok(())
 }
 
-fn answered(name: Option<u16>, answer: Answer) -> ApiReply {
-    ApiReply::Answered { name, answer }
-}
-
-fn aborted(name: Option<u16>, cause: AbortCause) -> ApiReply {
-    ended(name, Outcome::Aborted(cause))
-}
-
-fn ended(name: Option<u16>, outcome: Outcome) -> ApiReply {
-    ApiReply::Ended { name, outcome }
-}
-
-fn pending(name: Option<u16>, on: Waiting) -> ApiReply {
-    ApiReply::Pending { name, on }
-}
-
-fn refused(name: Option<u16>, refusal: Refusal) -> ApiReply {
-    ApiReply::Refused { name, refusal }
-}
-
-fn stopped(node: u8, cause: StopCause) -> ApiReply {
-    ApiReply::Stopped { node, cause }
-}
-
 #[test]
-fn begun_tells_the_coordinators_node(rt: HostRuntime) -> Result<(), Fail> {
-    let table = [
-        (
-            ApiReply::Begun { name: 7, node: 2 },
-            b"@7 begun 2\n".as_slice(),
-        ),
-        (
-            ApiReply::Begun {
-                name: 65535,
-                node: 8,
-            },
-            b"@65535 begun 8\n".as_slice(),
-        ),
-    ];
-    expect(&rt, rt.alloc(), &table)
-}
-
-#[test]
-fn answers_have_the_name_where_there_is_one(rt: HostRuntime) -> Result<(), Fail> {
-    let empty = Value::new(b"")?;
-    let value = Value::new(b"100")?;
-    let table = [
-        (answered(None, Answer::Done), b"ok\n".as_slice()),
-        (answered(Some(1), Answer::Done), b"@1 ok\n".as_slice()),
-        (
-            answered(None, Answer::Found(value)),
-            b"value 100\n".as_slice(),
-        ),
-        (
-            answered(Some(12), Answer::Found(value)),
-            b"@12 value 100\n".as_slice(),
-        ),
-        (answered(None, Answer::Found(empty)), b"value \n".as_slice()),
-        (answered(None, Answer::Missing), b"none\n".as_slice()),
-        (answered(Some(3), Answer::Missing), b"@3 none\n".as_slice()),
-        (
-            answered(None, Answer::E626),
-            b"error 626 tuple did not exist\n".as_slice(),
-        ),
-        (
-            answered(Some(4), Answer::E626),
-            b"@4 error 626 tuple did not exist\n".as_slice(),
-        ),
-        (
-            answered(None, Answer::E630),
-            b"error 630 tuple already existed\n".as_slice(),
-        ),
-        (
-            answered(Some(5), Answer::E630),
-            b"@5 error 630 tuple already existed\n".as_slice(),
-        ),
-    ];
-    expect(&rt, rt.alloc(), &table)
-}
-
-#[test]
-fn outcomes_tell_the_epoch_or_the_cause(rt: HostRuntime) -> Result<(), Fail> {
+fn outcomes_with_and_without_a_name(rt: HostRuntime) -> Result<(), Fail> {
     let log_full = AbortCause::LogFull {
         used: 4000,
         reserved: 90,
         need: 250,
     };
     let table = [
+        (Outcome::Committed(1), b"committed 1\n".as_slice()),
         (
-            ended(None, Outcome::Committed(1)),
-            b"committed 1\n".as_slice(),
+            Outcome::Committed(18446744073709551615),
+            b"committed 18446744073709551615\n",
         ),
         (
-            ended(Some(9), Outcome::Committed(18446744073709551615)),
-            b"@9 committed 18446744073709551615\n".as_slice(),
+            Outcome::Aborted(AbortCause::Request),
+            b"aborted by request\n",
         ),
         (
-            aborted(None, AbortCause::Request),
-            b"aborted by request\n".as_slice(),
+            Outcome::Aborted(AbortCause::Timeout),
+            b"aborted 266 time-out\n",
         ),
         (
-            aborted(Some(9), AbortCause::Request),
-            b"@9 aborted by request\n".as_slice(),
+            Outcome::Aborted(AbortCause::NodeFail { view: 3 }),
+            b"aborted nodefail 3\n",
+        ),
+        (Outcome::Aborted(AbortCause::Down), b"aborted down\n"),
+        (
+            Outcome::Aborted(log_full),
+            b"aborted log full 4000 90 250\n",
         ),
         (
-            aborted(None, AbortCause::Timeout),
-            b"aborted 266 time-out\n".as_slice(),
+            Outcome::Aborted(AbortCause::TableFull { rows: 64 }),
+            b"aborted table full 64\n",
         ),
-        (
-            aborted(None, AbortCause::NodeFail { view: 3 }),
-            b"aborted nodefail 3\n".as_slice(),
-        ),
-        (
-            aborted(None, AbortCause::Down),
-            b"aborted down\n".as_slice(),
-        ),
-        (
-            aborted(None, log_full),
-            b"aborted log full 4000 90 250\n".as_slice(),
-        ),
-        (
-            aborted(Some(2), AbortCause::TableFull { rows: 64 }),
-            b"@2 aborted table full 64\n".as_slice(),
-        ),
-        (ended(None, Outcome::Unknown), b"unknown\n".as_slice()),
-        (ended(Some(1), Outcome::Unknown), b"@1 unknown\n".as_slice()),
+        (Outcome::Unknown, b"unknown\n"),
     ];
-    expect(&rt, rt.alloc(), &table)
+    for (outcome, line) in &table {
+        let unnamed = ApiReply::Ended {
+            name: None,
+            outcome: *outcome,
+        };
+        let named = ApiReply::Ended {
+            name: Some(9),
+            outcome: *outcome,
+        };
+        expect(&rt, rt.alloc(), &unnamed, b"", line)?;
+        expect(&rt, rt.alloc(), &named, b"@9 ", line)?;
+    }
+    Ok(())
 }
 
 #[test]
-fn waits_tell_what_is_waited_for(rt: HostRuntime) -> Result<(), Fail> {
+fn waits_with_and_without_a_name(rt: HostRuntime) -> Result<(), Fail> {
     let table = [
-        (
-            pending(None, Waiting::HeldBy(Some(3))),
-            b"pending held by @3\n".as_slice(),
-        ),
-        (
-            pending(Some(4), Waiting::HeldBy(Some(3))),
-            b"@4 pending held by @3\n".as_slice(),
-        ),
-        (
-            pending(Some(4), Waiting::HeldBy(None)),
-            b"@4 pending held by @0\n".as_slice(),
-        ),
-        (
-            pending(None, Waiting::Cut(1, 2)),
-            b"pending cut 1 2\n".as_slice(),
-        ),
-        (
-            pending(Some(4), Waiting::Cut(2, 1)),
-            b"@4 pending cut 2 1\n".as_slice(),
-        ),
-        (
-            pending(None, Waiting::Node(8)),
-            b"pending node 8\n".as_slice(),
-        ),
-        (
-            pending(Some(4), Waiting::Node(8)),
-            b"@4 pending node 8\n".as_slice(),
-        ),
+        (Waiting::HeldBy(Some(3)), b"pending held by @3\n".as_slice()),
+        (Waiting::HeldBy(None), b"pending held by @0\n"),
+        (Waiting::Cut(2, 1), b"pending cut 2 1\n"),
+        (Waiting::Node(8), b"pending node 8\n"),
     ];
-    expect(&rt, rt.alloc(), &table)
+    for (on, line) in &table {
+        let unnamed = ApiReply::Pending {
+            name: None,
+            on: *on,
+        };
+        let named = ApiReply::Pending {
+            name: Some(4),
+            on: *on,
+        };
+        expect(&rt, rt.alloc(), &unnamed, b"", line)?;
+        expect(&rt, rt.alloc(), &named, b"@4 ", line)?;
+    }
+    Ok(())
 }
 
 #[test]
-fn refusals_tell_why(rt: HostRuntime) -> Result<(), Fail> {
+fn refusals_with_and_without_a_name(rt: HostRuntime) -> Result<(), Fail> {
     let table = [
-        (refused(None, Refusal::Down), b"down\n".as_slice()),
-        (refused(None, Refusal::Running), b"running\n".as_slice()),
-        (
-            refused(Some(6), Refusal::NotOpen),
-            b"@6 not open\n".as_slice(),
-        ),
-        (
-            refused(Some(6), Refusal::IsOpen),
-            b"@6 is open\n".as_slice(),
-        ),
-        (
-            refused(None, Refusal::NoMember(5)),
-            b"no member 5\n".as_slice(),
-        ),
-        (
-            refused(None, Refusal::NotRunning(5)),
-            b"not running 5\n".as_slice(),
-        ),
-        (
-            refused(None, Refusal::RunningNode(5)),
-            b"running 5\n".as_slice(),
-        ),
-        (refused(None, Refusal::InView(5)), b"in view 5\n".as_slice()),
-        (refused(None, Refusal::Busy), b"busy\n".as_slice()),
-        (refused(Some(6), Refusal::Busy), b"@6 busy\n".as_slice()),
-        (
-            refused(Some(6), Refusal::TooManyOperations),
-            b"@6 too many operations 64\n".as_slice(),
-        ),
-        (
-            refused(Some(6), Refusal::TooManyOpen),
-            b"@6 too many open 64\n".as_slice(),
-        ),
-        (
-            refused(None, Refusal::Batch(300)),
-            b"batch refused 300\n".as_slice(),
-        ),
-        (refused(Some(6), Refusal::Down), b"@6 down\n".as_slice()),
+        (Refusal::Down, b"down\n".as_slice()),
+        (Refusal::Running, b"running\n"),
+        (Refusal::NotOpen, b"not open\n"),
+        (Refusal::IsOpen, b"is open\n"),
+        (Refusal::NoMember(5), b"no member 5\n"),
+        (Refusal::NotRunning(5), b"not running 5\n"),
+        (Refusal::RunningNode(5), b"running 5\n"),
+        (Refusal::InView(5), b"in view 5\n"),
+        (Refusal::Busy, b"busy\n"),
+        (Refusal::TooManyOperations, b"too many operations 64\n"),
+        (Refusal::TooManyOpen, b"too many open 64\n"),
+        (Refusal::Batch(300), b"batch refused 300\n"),
     ];
-    expect(&rt, rt.alloc(), &table)
+    for (refusal, line) in &table {
+        let unnamed = ApiReply::Refused {
+            name: None,
+            refusal: *refusal,
+        };
+        let named = ApiReply::Refused {
+            name: Some(6),
+            refusal: *refusal,
+        };
+        expect(&rt, rt.alloc(), &unnamed, b"", line)?;
+        expect(&rt, rt.alloc(), &named, b"@6 ", line)?;
+    }
+    Ok(())
 }
 
 #[test]
 fn stops_tell_the_node_and_the_cause(rt: HostRuntime) -> Result<(), Fail> {
-    let sibling = StopCause::Sibling { host: HostId(12) };
     let table = [
+        (StopCause::Killed, b"node 3 stopped killed\n".as_slice()),
         (
-            stopped(1, StopCause::Killed),
-            b"node 1 stopped killed\n".as_slice(),
+            StopCause::Excluded { view: 4 },
+            b"node 3 stopped excluded 4\n",
         ),
         (
-            stopped(2, StopCause::Excluded { view: 4 }),
-            b"node 2 stopped excluded 4\n".as_slice(),
+            StopCause::NoGroup { group: 1 },
+            b"node 3 stopped nogroup 1\n",
         ),
+        (StopCause::Disk { count: 2 }, b"node 3 stopped disk 2\n"),
+        (StopCause::Memory, b"node 3 stopped memory\n"),
+        (StopCause::Clock, b"node 3 stopped clock\n"),
         (
-            stopped(3, StopCause::NoGroup { group: 1 }),
-            b"node 3 stopped nogroup 1\n".as_slice(),
+            StopCause::Sibling { host: HostId(12) },
+            b"node 3 stopped sibling\n",
         ),
-        (
-            stopped(4, StopCause::Disk { count: 2 }),
-            b"node 4 stopped disk 2\n".as_slice(),
-        ),
-        (
-            stopped(5, StopCause::Memory),
-            b"node 5 stopped memory\n".as_slice(),
-        ),
-        (
-            stopped(6, StopCause::Clock),
-            b"node 6 stopped clock\n".as_slice(),
-        ),
-        (stopped(7, sibling), b"node 7 stopped sibling\n".as_slice()),
     ];
-    expect(&rt, rt.alloc(), &table)
+    for (cause, line) in &table {
+        let stopped = ApiReply::Stopped {
+            node: 3,
+            cause: *cause,
+        };
+        expect(&rt, rt.alloc(), &stopped, b"", line)?;
+    }
+    Ok(())
 }
 
 #[test]
 fn events_of_the_cluster_tell_their_numbers(rt: HostRuntime) -> Result<(), Fail> {
     let table = [
         (ApiReply::Ticked { rounds: 255 }, b"ticked 255\n".as_slice()),
-        (ApiReply::Cut { one: 3, other: 1 }, b"cut 3 1\n".as_slice()),
-        (ApiReply::Durable { epoch: 5 }, b"durable 5\n".as_slice()),
-        (
-            ApiReply::Checkpoint { epoch: 6 },
-            b"checkpoint 6\n".as_slice(),
-        ),
-        (ApiReply::Started { node: 2 }, b"started 2\n".as_slice()),
-        (
-            ApiReply::StartEnded { node: 2 },
-            b"start 2 ended\n".as_slice(),
-        ),
+        (ApiReply::Cut { one: 3, other: 1 }, b"cut 3 1\n"),
+        (ApiReply::Durable { epoch: 5 }, b"durable 5\n"),
+        (ApiReply::Checkpoint { epoch: 6 }, b"checkpoint 6\n"),
+        (ApiReply::Started { node: 2 }, b"started 2\n"),
+        (ApiReply::StartEnded { node: 2 }, b"start 2 ended\n"),
         (
             ApiReply::Rows {
                 node: 1,
                 count: 1000,
             },
-            b"node 1 rows 1000\n".as_slice(),
+            b"node 1 rows 1000\n",
         ),
-        (ApiReply::Crashed, b"crashed\n".as_slice()),
-        (
-            ApiReply::Restarted { epoch: 0 },
-            b"restarted 0\n".as_slice(),
-        ),
-        (ApiReply::BatchEnd, b"end\n".as_slice()),
+        (ApiReply::Crashed, b"crashed\n"),
+        (ApiReply::Restarted { epoch: 0 }, b"restarted 0\n"),
+        (ApiReply::BatchEnd, b"end\n"),
     ];
-    expect(&rt, rt.alloc(), &table)
+    for (reply, line) in &table {
+        expect(&rt, rt.alloc(), reply, b"", line)?;
+    }
+    Ok(())
 }
 
 #[test]
 fn rows_are_key_and_value(rt: HostRuntime) -> Result<(), Fail> {
     let key = Key::new(b"acct:17")?;
     let (value, empty) = (Value::new(b"100")?, Value::new(b"")?);
-    let table = [
-        (ApiReply::Row { key, value }, b"acct:17 100\n".as_slice()),
-        (
-            ApiReply::Row { key, value: empty },
-            b"acct:17 \n".as_slice(),
-        ),
-    ];
-    expect(&rt, rt.alloc(), &table)
+    let full_row = ApiReply::Row { key, value };
+    let empty_row = ApiReply::Row { key, value: empty };
+    expect(&rt, rt.alloc(), &full_row, b"", b"acct:17 100\n")?;
+    expect(&rt, rt.alloc(), &empty_row, b"", b"acct:17 \n")
 }
 
 #[test]
 fn views_list_nodes_or_a_dash(rt: HostRuntime) -> Result<(), Fail> {
-    let mut full = Members::new();
-    full.push(Member { node: 2, start: 0 });
-    full.push(Member { node: 1, start: 0 });
-    full.push(Member { node: 8, start: 4 });
-    let mut starting = Members::new();
-    starting.push(Member { node: 3, start: 9 });
-    let none = Members::new();
-    let settled = View {
-        number: 1,
-        full,
-        starting: none,
-    };
-    let joining = View {
-        number: 12,
-        full,
-        starting,
-    };
-    let empty = View {
-        number: 0,
-        full: none,
-        starting: none,
-    };
+    let mut one = Members::new();
+    one.push(Member { node: 3, start: 9 });
+    let mut three = Members::new();
+    three.push(Member { node: 2, start: 0 });
+    three.push(Member { node: 1, start: 0 });
+    three.push(Member { node: 8, start: 4 });
     let table = [
         (
-            ApiReply::View { view: settled },
+            1,
+            three,
+            Members::new(),
             b"view 1 full 2,1,8 starting -\n".as_slice(),
         ),
+        (12, three, one, b"view 12 full 2,1,8 starting 3\n"),
+        (13, one, three, b"view 13 full 3 starting 2,1,8\n"),
         (
-            ApiReply::View { view: joining },
-            b"view 12 full 2,1,8 starting 3\n".as_slice(),
-        ),
-        (
-            ApiReply::View { view: empty },
-            b"view 0 full - starting -\n".as_slice(),
+            0,
+            Members::new(),
+            Members::new(),
+            b"view 0 full - starting -\n",
         ),
     ];
-    expect(&rt, rt.alloc(), &table)
+    for (number, full, starting, line) in &table {
+        let view = View {
+            number: *number,
+            full: *full,
+            starting: *starting,
+        };
+        expect(&rt, rt.alloc(), &ApiReply::View { view }, b"", line)?;
+    }
+    Ok(())
 }
 
 #[test]
@@ -357,19 +275,20 @@ fn digests_are_hexadecimal(rt: HostRuntime) -> Result<(), Fail> {
     }
     let table = [
         (
-            ApiReply::Digest {
-                node: 1,
-                digest: rising,
-            },
-            b"digest 1 000102030405060708090a0b0c0d0e0f101112131415161718191a1b1c1d1e1f\n".as_slice(),
+            rising,
+            b"000102030405060708090a0b0c0d0e0f101112131415161718191a1b1c1d1e1f\n".as_slice(),
         ),
         (
-            ApiReply::Digest {
-                node: 2,
-                digest: [0xf9; 32],
-            },
-            b"digest 2 f9f9f9f9f9f9f9f9f9f9f9f9f9f9f9f9f9f9f9f9f9f9f9f9f9f9f9f9f9f9f9f9\n".as_slice(),
+            [0xf9; 32],
+            b"f9f9f9f9f9f9f9f9f9f9f9f9f9f9f9f9f9f9f9f9f9f9f9f9f9f9f9f9f9f9f9f9\n",
         ),
     ];
-    expect(&rt, rt.alloc(), &table)
+    for (digest, digits) in &table {
+        let reply = ApiReply::Digest {
+            node: 1,
+            digest: *digest,
+        };
+        expect(&rt, rt.alloc(), &reply, b"digest 1 ", digits)?;
+    }
+    Ok(())
 }
