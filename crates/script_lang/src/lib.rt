@@ -1,4 +1,4 @@
-//! The grammar of a script: what a line means.
+//! The language of scripts: what a line means, and how a reply is printed.
 #![tactic(auto)]
 
 mod command;
@@ -7,8 +7,13 @@ mod keyword;
 mod line;
 mod number;
 mod operation;
+mod reply;
 mod words;
 
 pub use command::Command;
 pub use fault::LineFault;
 pub use line::parse_line;
+pub use reply::print_reply;
+
+#[cfg(test)]
+mod tests;
