@@ -1,5 +1,6 @@
 -- The numbers of a script: decimal digits without leading zeros.
-use Rattle.std.specs.Prelude.{ℕ, ◌+◌, ◌-◌, ◌*◌, ◌==◌, ◌&&◌, ◌||◌, not, Bool, true, false, nat_lt, if◌then◌else◌, List, [], ◌∷◌, length, slice_index, Option, None, Some}
+use Rattle.std.specs.Prelude.{◌≡◌, ℕ, ◌+◌, ◌-◌, ◌*◌, ◌^◌, ◌<◌, ◌≤◌, ◌==◌, ◌&&◌, ◌||◌, not, Bool, true, false, nat_lt, if◌then◌else◌, List, [], ◌∷◌, length, slice_index, Option, None, Some}
+use Rattle.std.specs.Fmt.{decimal}
 
 abbrev pub is_digit : ℕ → Bool
 is_digit byte = nat_lt 47 byte && nat_lt byte 58
@@ -29,3 +30,12 @@ at_least least (Some value) = if nat_lt value least then None else Some value
 -- the number that the word tells, if it is from `least` to `most`
 abbrev pub number : ℕ → ℕ → List ℕ → Option ℕ
 number least most word = if has_no_leading_zero word then at_least least (read_digits most 0 word) else None
+
+-- a word that tells a number is its decimal text, and the number is in its range
+abbrev pub NumbersAreSpelled : Type 0
+NumbersAreSpelled =
+    (least most value : ℕ) (word : List ℕ) → most < 2 ^ 64 → number least most word ≡ Some value → (word ≡ decimal value) × (least ≤ value) × (value ≤ most)
+
+-- the decimal text of a number in its range tells it
+abbrev pub DecimalsAreRead : Type 0
+DecimalsAreRead = (least most value : ℕ) → value < 2 ^ 64 → least ≤ value → value ≤ most → number least most (decimal value) ≡ Some value

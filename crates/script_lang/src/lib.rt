@@ -13,6 +13,7 @@ mod words;
 pub use command::Command;
 pub use fault::LineFault;
 pub use line::parse_line;
+pub use number::numbers_are_decimal;
 pub use reply::print_reply;
 
 #[cfg(test)]

@@ -50,12 +50,7 @@ fn parse_words(line: &[u8], batch: bool, nodes: u8) -> Result<Option<Command>, L
     }
 }
 
-fn parse_command(
-    first: &[u8],
-    rest: &[u8],
-    batch: bool,
-    nodes: u8,
-) -> Result<Command, LineFault>
+fn parse_command(first: &[u8], rest: &[u8], batch: bool, nodes: u8) -> Result<Command, LineFault>
     ensures { result ≡ command_of batch nodes first.now (words rest.now) }
 {
     if first.first() == Some(&b'@') {
@@ -100,33 +95,42 @@ fn parse_plain(kind: OpKind, rest: &[u8]) -> Result<Command, LineFault>
 }
 
 /// What stands behind the first word.
-fn parse_rest(
-    keyword: Keyword,
-    rest: &[u8],
-    batch: bool,
-    nodes: u8,
-) -> Result<Command, LineFault>
+fn parse_rest(keyword: Keyword, rest: &[u8], batch: bool, nodes: u8) -> Result<Command, LineFault>
     ensures { result ≡ with_keyword batch nodes keyword (words rest.now) }
 {
     let most = u32::from(nodes);
     match keyword {
         Keyword::Operation(kind) => parse_plain(kind, rest),
         Keyword::Begin => parse_begin(rest, nodes),
-        Keyword::Commit => Ok(Command::Commit { name: one_number(rest, 1, NAMES)? as u16 }),
-        Keyword::Abort => Ok(Command::Abort { name: one_number(rest, 1, NAMES)? as u16 }),
+        Keyword::Commit => Ok(Command::Commit {
+            name: one_number(rest, 1, NAMES)? as u16,
+        }),
+        Keyword::Abort => Ok(Command::Abort {
+            name: one_number(rest, 1, NAMES)? as u16,
+        }),
         Keyword::Batch => bare(Command::Batch, rest),
         Keyword::End => bare(Command::End, rest),
         Keyword::Kill if batch => parse_kill_after(rest, nodes),
-        Keyword::Kill => Ok(Command::Kill { node: one_number(rest, 1, most)? as u8 }),
+        Keyword::Kill => Ok(Command::Kill {
+            node: one_number(rest, 1, most)? as u8,
+        }),
         Keyword::Cut => parse_cut(rest, nodes),
-        Keyword::Tick => Ok(Command::Tick { rounds: one_number(rest, 1, ROUNDS)? as u8 }),
+        Keyword::Tick => Ok(Command::Tick {
+            rounds: one_number(rest, 1, ROUNDS)? as u8,
+        }),
         Keyword::Gcp => bare(Command::Gcp, rest),
         Keyword::Lcp => bare(Command::Lcp, rest),
-        Keyword::Start => Ok(Command::Start { node: one_number(rest, 1, most)? as u8 }),
+        Keyword::Start => Ok(Command::Start {
+            node: one_number(rest, 1, most)? as u8,
+        }),
         Keyword::Crash => bare(Command::Crash, rest),
         Keyword::Restart => bare(Command::Restart, rest),
-        Keyword::Rows => Ok(Command::Rows { node: one_number(rest, 1, most)? as u8 }),
-        Keyword::Digest => Ok(Command::Digest { node: one_number(rest, 1, most)? as u8 }),
+        Keyword::Rows => Ok(Command::Rows {
+            node: one_number(rest, 1, most)? as u8,
+        }),
+        Keyword::Digest => Ok(Command::Digest {
+            node: one_number(rest, 1, most)? as u8,
+        }),
         Keyword::View => bare(Command::View, rest),
         Keyword::Quit => bare(Command::Quit, rest),
     }

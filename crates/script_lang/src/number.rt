@@ -1,6 +1,6 @@
 //! The numbers of a script.
 ghost use Rattle.std.specs.Prelude.{◌≡◌, ◌≤◌, IfSome};
-ghost use Rattle.script_lang.specs.Number.{has_no_leading_zero, number, read_digits, with_digit};
+ghost use Rattle.script_lang.specs.Number.{DecimalsAreRead, NumbersAreSpelled, has_no_leading_zero, number, read_digits, with_digit};
 
 /// The number that a word tells, if it is from `least` to `most`.
 pub fn read_number(word: &[u8], least: u32, most: u32) -> Option<u32>
@@ -55,3 +55,10 @@ fn with_digit(before: u32, byte: u8, most: u32) -> Option<u32>
     }
     Some(value as u32)
 }
+
+/// A law, which does nothing: a word tells a number of a range exactly where it is that number's
+/// decimal text.
+pub fn numbers_are_decimal()
+    ensures spelled { NumbersAreSpelled }
+    ensures read { DecimalsAreRead }
+{}

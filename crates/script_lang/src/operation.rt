@@ -22,10 +22,8 @@ fn takes_value(kind: OpKind) -> bool
 /// The words of the key and the value, if there are as many as the operation takes. The value is
 /// empty where it is left out.
 pub fn operands(kind: OpKind, rest: &[u8]) -> Option<(&[u8], &[u8])>
-    ensures {
-        MatchOption result (operands kind (words rest.now) ≡ None)
-            (λ both. operands kind (words rest.now) ≡ Some (both.0.now, both.1.now))
-    }
+    ensures { MatchOption result (operands kind (words rest.now) ≡ None)
+        (λ both. operands kind (words rest.now) ≡ Some (both.0.now, both.1.now)) }
 {
     if takes_value(kind) {
         return one_or_two(rest);

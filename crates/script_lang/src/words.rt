@@ -5,9 +5,7 @@ ghost use Rattle.script_lang.specs.Words.{words, is_space, no_words, one_word, t
 
 /// The first word of a line, and what stands behind it.
 pub fn next_word(line: &[u8]) -> Option<(&[u8], &[u8])>
-    ensures {
-        MatchOption result (words line.now ≡ []) (λ cut. words line.now ≡ cut.0.now ∷ words cut.1.now)
-    }
+    ensures { MatchOption result (words line.now ≡ []) (λ cut. words line.now ≡ cut.0.now ∷ words cut.1.now) }
 {
     let mut line = line;
     'spaces: loop {
@@ -50,9 +48,7 @@ pub fn no_words(line: &[u8]) -> bool
 
 /// The word of a line that has one.
 pub fn one_word(line: &[u8]) -> Option<&[u8]>
-    ensures {
-        MatchOption result (one_word (words line.now) ≡ None) (λ word. one_word (words line.now) ≡ Some word.now)
-    }
+    ensures { MatchOption result (one_word (words line.now) ≡ None) (λ word. one_word (words line.now) ≡ Some word.now) }
 {
     let (first, rest) = next_word(line)?;
     match next_word(rest) {
@@ -63,10 +59,8 @@ pub fn one_word(line: &[u8]) -> Option<&[u8]>
 
 /// The words of a line that has two.
 pub fn two_words(line: &[u8]) -> Option<(&[u8], &[u8])>
-    ensures {
-        MatchOption result (two_words (words line.now) ≡ None)
-            (λ both. two_words (words line.now) ≡ Some (both.0.now, both.1.now))
-    }
+    ensures { MatchOption result (two_words (words line.now) ≡ None)
+        (λ both. two_words (words line.now) ≡ Some (both.0.now, both.1.now)) }
 {
     let (first, rest) = next_word(line)?;
     let (second, rest) = next_word(rest)?;
@@ -78,10 +72,8 @@ pub fn two_words(line: &[u8]) -> Option<(&[u8], &[u8])>
 
 /// The words of a line that has one or two; the second is empty where it has one.
 pub fn one_or_two(line: &[u8]) -> Option<(&[u8], &[u8])>
-    ensures {
-        MatchOption result (one_or_two (words line.now) ≡ None)
-            (λ both. one_or_two (words line.now) ≡ Some (both.0.now, both.1.now))
-    }
+    ensures { MatchOption result (one_or_two (words line.now) ≡ None)
+        (λ both. one_or_two (words line.now) ≡ Some (both.0.now, both.1.now)) }
 {
     let (first, rest) = next_word(line)?;
     match next_word(rest) {
