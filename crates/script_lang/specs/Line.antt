@@ -142,6 +142,14 @@ parsed_words batch nodes (first ∷ rest) = if slice_index first 0 == 35 then Ok
 abbrev pub without_return : List ℕ → List ℕ
 without_return line = if slice_index line (length line - 1) == 13 then take (length line - 1) line else line
 
+abbrev pub first_of : List (List ℕ) → Option (List ℕ)
+first_of [] = None
+first_of (first ∷ rest) = Some first
+
+-- the first word of a line
+abbrev pub first_word : List ℕ → Option (List ℕ)
+first_word line = first_of (words (without_return line))
+
 -- what a line means, in a batch or outside, for a cluster of so many nodes
 abbrev pub parsed_line : Bool → ℕ → List ℕ → Result (Option Command) LineFault
 parsed_line batch nodes line = parsed_words batch nodes (words (without_return line))

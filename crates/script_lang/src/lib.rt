@@ -12,7 +12,7 @@ mod words;
 
 pub use command::Command;
 pub use fault::LineFault;
-pub use line::parse_line;
+pub use line::{first_word, parse_line};
 pub use number::numbers_are_decimal;
 pub use reply::print_reply;
 

@@ -1,6 +1,6 @@
 //! What a line means.
-ghost use Rattle.std.specs.Prelude.{◌≡◌, ◌≤◌, IfOk};
-ghost use Rattle.script_lang.specs.Line.{bare, begin, command_of, cut, kill_after, named, one_number, parsed_line, parsed_words, plain, with_keyword};
+ghost use Rattle.std.specs.Prelude.{◌≡◌, ◌≤◌, IfOk, MatchOption, None, Some};
+ghost use Rattle.script_lang.specs.Line.{bare, begin, command_of, cut, first_word, kill_after, named, one_number, parsed_line, parsed_words, plain, with_keyword, without_return};
 ghost use Rattle.script_lang.specs.Words.{words};
 
 use crate::command::Command;
@@ -28,11 +28,26 @@ const SIGNALS: u32 = 100_000;
 pub fn parse_line(line: &[u8], batch: bool, nodes: u8) -> Result<Option<Command>, LineFault>
     ensures { result ≡ parsed_line batch nodes line.now }
 {
-    let line = match line {
+    parse_words(without_return(line), batch, nodes)
+}
+
+/// The first word of a line, which may have a carriage return at its end.
+pub fn first_word(line: &[u8]) -> Option<&[u8]>
+    ensures {
+        MatchOption result (first_word line.now ≡ None) (λ word. first_word line.now ≡ Some word.now)
+    }
+{
+    let (first, _) = next_word(without_return(line))?;
+    Some(first)
+}
+
+fn without_return(line: &[u8]) -> &[u8]
+    ensures { result.now ≡ without_return line.now }
+{
+    match line {
         [front @ .., b'\r'] => front,
         _ => line,
-    };
-    parse_words(line, batch, nodes)
+    }
 }
 
 fn parse_words(line: &[u8], batch: bool, nodes: u8) -> Result<Option<Command>, LineFault>

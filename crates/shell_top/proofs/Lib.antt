@@ -7,5 +7,4 @@ pub mod ScriptLemmas
 pub mod SessionLemmas
 pub mod Settled
 pub mod Weight
-pub mod WordCuts
 pub mod WriterLemmas

@@ -15,4 +15,3 @@ pub mod Start
 pub mod Tc
 pub mod Text
 pub mod Tx
-pub mod Words

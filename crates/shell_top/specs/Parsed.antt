@@ -1,38 +1,35 @@
--- What a line means.
-use Rattle.std.specs.Prelude.{ℕ, ◌-◌, ◌==◌, List, [], ◌∷◌, length, take, slice_index, codes, bytes_eq, if◌then◌else◌, Result, Ok, Err}
-use Rattle.sig_core.specs.declared.word.WordFault.{WordFault}
-use Rattle.sig_core.specs.Word.{if_word}
-use Rattle.shell_top.specs.declared.script.LineFault.TheVariants.{UnknownCommand, Arity, BadWord}
+-- What a line asks of the session.
+use Rattle.std.specs.Prelude.{ℕ, ◌==◌, Bool, true, false, ◌||◌, List, slice_index, codes, bytes_eq, if◌then◌else◌, Option, None, Some, Result, Ok, Err}
+use Rattle.sig_core.specs.declared.op.Op.TheVariants as op
+use Rattle.script_lang.specs.declared.command.Command.{Command}
+use Rattle.script_lang.specs.declared.command.Command.TheVariants as command
+use Rattle.script_lang.specs.declared.fault.LineFault.{LineFault}
+use Rattle.script_lang.specs.declared.fault.LineFault.TheVariants.{UnknownCommand}
+use Rattle.script_lang.specs.Line.{first_word, parsed_line}
 use Rattle.shell_top.specs.declared.script.Parsed.{Parsed}
 use Rattle.shell_top.specs.declared.script.Parsed.TheVariants.{Nothing, Put, Fault}
-use Rattle.shell_top.specs.Words.{words}
 
--- a put of these words, if they are a key and a value
-abbrev pub put_if : Result (List ℕ) WordFault → Result (List ℕ) WordFault → Parsed
-put_if (Ok key) (Ok value) = Put key value
-put_if (Ok key) (Err fault) = Fault BadWord
-put_if (Err fault) value = Fault BadWord
+-- the words that may begin a line by now: those of comments, and the command that the session serves
+abbrev pub is_available : List ℕ → Bool
+is_available word = (slice_index word 0 == 35) || bytes_eq word (codes "put")
 
-abbrev pub put_with : List ℕ → List ℕ → Parsed
-put_with key value = put_if (if_word 1 32 key key) (if_word 0 200 value value)
+abbrev pub may_stand : Option (List ℕ) → Bool
+may_stand None = true
+may_stand (Some word) = is_available word
 
--- a key and a value; a value that is left out is empty
-abbrev pub put_of : List (List ℕ) → Parsed
-put_of [] = Fault Arity
-put_of (key ∷ []) = put_with key []
-put_of (key ∷ value ∷ []) = put_with key value
-put_of (key ∷ value ∷ more ∷ rest) = Fault Arity
+abbrev pub asked : Command → Parsed
+asked (command.Operate None (op.Put key value)) = Put key value
+asked command = Fault UnknownCommand
 
--- a first word that begins with # makes a comment of the line, and otherwise names the command
-abbrev pub parsed_words : List (List ℕ) → Parsed
-parsed_words [] = Nothing
-parsed_words (first ∷ rest) =
-    if slice_index first 0 == 35 then Nothing else (if bytes_eq first (codes "put") then put_of rest else Fault UnknownCommand)
+abbrev pub parsed_as : Result (Option Command) LineFault → Parsed
+parsed_as (Ok None) = Nothing
+parsed_as (Ok (Some command)) = asked command
+parsed_as (Err fault) = Fault fault
 
--- a line without the carriage return at its end
-abbrev pub without_return : List ℕ → List ℕ
-without_return line = if slice_index line (length line - 1) == 13 then take (length line - 1) line else line
+-- what a line of the whole grammar asks for, in a cluster of two nodes
+abbrev pub available : List ℕ → Parsed
+available line = parsed_as (parsed_line false 2 line)
 
--- what a line means
+-- what a line asks for
 abbrev pub parsed : List ℕ → Parsed
-parsed line = parsed_words (words (without_return line))
+parsed line = if may_stand (first_word line) then available line else Fault UnknownCommand

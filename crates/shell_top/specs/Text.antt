@@ -6,8 +6,7 @@ use Rattle.shell_top.specs.declared.ended.Ending.{Ending}
 use Rattle.shell_top.specs.declared.ended.Ending.TheVariants.{Finished, Words, Refused, ReadFault, WriteFault, NoMemory, TooLong}
 use Rattle.shell_top.specs.declared.parts.api.Reply.{Reply}
 use Rattle.shell_top.specs.declared.parts.api.Reply.TheVariants.{Answered, Committed}
-use Rattle.shell_top.specs.declared.script.LineFault.{LineFault}
-use Rattle.shell_top.specs.declared.script.LineFault.TheVariants.{UnknownCommand, Arity, BadWord}
+use Rattle.script_lang.specs.Fault.{code_of}
 use Rattle.shell_top.specs.Script.{Put}
 
 abbrev pub newline : List ℕ
@@ -30,12 +29,6 @@ reply_lines (reply ∷ replies) = reply_line reply ++ reply_lines replies
 abbrev pub answers : List Put → List ℕ
 answers [] = []
 answers (put ∷ puts) = codes "ok" ++ newline ++ codes "committed 1" ++ newline ++ answers puts
-
--- the number of a fault of a line
-abbrev pub code_of : LineFault → ℕ
-code_of UnknownCommand = 1
-code_of Arity = 2
-code_of BadWord = 3
 
 -- the line that is printed last, where the session ends by a fault that has one
 abbrev pub fault_line : Ending → List ℕ

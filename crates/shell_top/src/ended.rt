@@ -1,5 +1,5 @@
 //! How a session ends.
-use crate::script::LineFault;
+use script_lang::LineFault;
 use host_io::Disk;
 
 /// Why a session ended.

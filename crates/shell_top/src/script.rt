@@ -1,21 +1,13 @@
-//! The grammar of a script: what a line asks for.
-ghost use Rattle.std.specs.Prelude.{◌≡◌, ◌∷◌, [], MatchOption, position};
-ghost use Rattle.std.specs.List.{before_first, after_first};
-ghost use Rattle.shell_top.specs.Parsed.{parsed, parsed_words, put_of, put_with, without_return};
-ghost use Rattle.shell_top.specs.Words.{words, is_space};
+//! What a line asks of the session.
+ghost use Rattle.std.specs.Prelude.{◌≡◌};
+ghost use Rattle.script_lang.specs.Line.{first_word};
+ghost use Rattle.shell_top.specs.Parsed.{asked, available, is_available, may_stand, parsed};
 
-use sig_core::{Key, Value};
+use script_lang::{Command, LineFault, first_word, parse_line};
+use sig_core::{Key, Op, Value};
 
-/// Why a line is outside the grammar.
-#[derive(Clone, Copy, Debug, PartialEq, Eq)]
-pub enum LineFault {
-    /// The first word is no command.
-    UnknownCommand,
-    /// The command has too few or too many words.
-    Arity,
-    /// A word is no key or no value.
-    BadWord,
-}
+/// How many nodes the cluster has.
+const NODES: u8 = 2;
 
 /// What a line asks for.
 #[derive(Clone, Copy)]
@@ -32,82 +24,49 @@ pub enum Parsed {
 pub fn parse(line: &[u8]) -> Parsed
     ensures { result ≡ parsed line.now }
 {
-    let line = match line {
-        [front @ .., b'\r'] => front,
-        _ => line,
-    };
-    parse_words(line)
-}
-
-fn parse_words(line: &[u8]) -> Parsed
-    ensures { result ≡ parsed_words (words line.now) }
-{
-    let Some((first, rest)) = next_word(line) else {
-        return Parsed::Nothing;
-    };
-    if first.first() == Some(&b'#') {
-        return Parsed::Nothing;
-    }
-    if first != b"put".as_slice() {
+    if !may_stand(line) {
         return Parsed::Fault(LineFault::UnknownCommand);
     }
-    parse_put(rest)
+    parse_available(line)
 }
 
-/// What a put asks for, from what stands behind its first word.
-fn parse_put(rest: &[u8]) -> Parsed
-    ensures { result ≡ put_of (words rest.now) }
+/// Whether a line is empty or begins with a word that may begin one by now.
+fn may_stand(line: &[u8]) -> bool
+    ensures { result ≡ may_stand (first_word line.now) }
 {
-    let Some((key, rest)) = next_word(rest) else {
-        return Parsed::Fault(LineFault::Arity);
-    };
-    match next_word(rest) {
-        None => make_put(key, &[]),
-        Some((value, rest)) => match next_word(rest) {
-            None => make_put(key, value),
-            Some(_) => Parsed::Fault(LineFault::Arity),
-        },
+    match first_word(line) {
+        None => true,
+        Some(word) => is_available(word),
     }
 }
 
-fn make_put(key: &[u8], value: &[u8]) -> Parsed
-    ensures { result ≡ put_with key.now value.now }
+/// Whether a word begins a comment, or is a command that the session serves by now: the one list
+/// of these.
+fn is_available(word: &[u8]) -> bool
+    ensures { result ≡ is_available word.now }
 {
-    match (Key::new(key), Value::new(value)) {
-        (Ok(key), Ok(value)) => Parsed::Put(key, value),
-        _ => Parsed::Fault(LineFault::BadWord),
+    word.first() == Some(&b'#') || word == b"put".as_slice()
+}
+
+fn parse_available(line: &[u8]) -> Parsed
+    ensures { result ≡ available line.now }
+{
+    match parse_line(line, false, NODES) {
+        Ok(None) => Parsed::Nothing,
+        Ok(Some(command)) => asked(&command),
+        Err(fault) => Parsed::Fault(fault),
     }
 }
 
-/// The first word of a line, and what stands behind it.
-fn next_word(line: &[u8]) -> Option<(&[u8], &[u8])>
-    ensures { MatchOption result (words line.now ≡ []) (λ cut. words line.now ≡ cut.0.now ∷ words cut.1.now) }
+/// What a command asks for.
+fn asked(command: &Command) -> Parsed
+    ensures { result ≡ asked command.now }
 {
-    let mut line = line;
-    'spaces: loop {
-        let (first, rest) = line.split_first()?;
-        if *first != b' ' {
-            return Some(cut_word(line));
-        }
-        line = rest;
+    match command {
+        Command::Operate {
+            name: None,
+            op: Op::Put(key, value),
+        } => Parsed::Put(*key, *value),
+        _ => Parsed::Fault(LineFault::UnknownCommand),
     }
-}
-
-/// Cuts a line at its first space, which is dropped.
-#[tactic(auto, using(crate::proofs::WordCuts::cuts))]
-fn cut_word(line: &[u8]) -> (&[u8], &[u8])
-    ensures word { result.0.now ≡ before_first is_space line.now }
-    ensures rest { result.1.now ≡ after_first is_space line.now }
-{
-    match first_space(line) {
-        Some(at) => (&line[..at], &line[at + 1..]),
-        None => (line, &[]),
-    }
-}
-
-/// The place of the first space.
-fn first_space(line: &[u8]) -> Option<usize>
-    ensures { result ≡ position is_space line.now }
-{
-    line.iter().position(|b| *b == b' ')
 }

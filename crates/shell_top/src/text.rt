@@ -1,11 +1,11 @@
 //! The text of replies and faults.
 ghost use Rattle.std.specs.Prelude.{◌≡◌, ◌++◌, OnOk, IfOk, codes, string_bytes};
 ghost use Rattle.shell_top.specs.declared.ended.Ending.TheVariants.{Refused, TooLong};
-ghost use Rattle.shell_top.specs.Text.{newline, reply_line, fault_line, code_of, status_of};
+ghost use Rattle.shell_top.specs.Text.{newline, reply_line, fault_line, status_of};
 
 use crate::ended::Ending;
 use crate::parts::api::Reply;
-use crate::script::LineFault;
+use script_lang::LineFault;
 use sig_core::{Answer, NoMemory};
 use std::alloc::Global;
 
@@ -43,17 +43,6 @@ fn put_value(value: &[u8], text: &mut Vec<u8>) -> Result<(), NoMemory>
     Ok(())
 }
 
-/// The number of a fault of a line.
-fn code_of(fault: LineFault) -> u8
-    ensures { result ≡ code_of fault }
-{
-    match fault {
-        LineFault::UnknownCommand => 1,
-        LineFault::Arity => 2,
-        LineFault::BadWord => 3,
-    }
-}
-
 /// The line that is printed last where a session ends so, or nothing.
 ///
 /// # Errors
@@ -73,7 +62,7 @@ pub fn fault_line(alloc: Global, ending: &Ending) -> Result<String, NoMemory>
 fn refused_line(alloc: Global, line: u32, fault: LineFault) -> Result<String, NoMemory>
     ensures { IfOk result (λ text. string_bytes text ≡ fault_line (Refused line fault)) }
 {
-    let code = code_of(fault);
+    let code = fault.code();
     Ok(format!(in alloc; "line {line} refused {code}\n")?)
 }
 
