@@ -25,8 +25,9 @@ use view::add_view;
 use waiting::add_waiting;
 use words::add;
 
-/// Adds the line of a reply, with its newline, to a text. The line begins with `@`, the name and a
-/// space where the reply has the name of a transaction.
+/// Adds the line of a reply, with its newline, to a text. Where the reply has the name of a
+/// transaction, the line begins with `@`, the name and a space. Numbers are in decimal, and a
+/// digest in hexadecimal.
 ///
 /// # Errors
 /// `NoMemory`, and then the text is as it was.
