@@ -5,6 +5,11 @@ ghost use Rattle.std.specs.Prelude.{◌≡◌, IfOk, OnOk, OnErr};
 ghost use Rattle.std.specs.FinMap as map;
 ghost use Rattle.serial_model.specs.Serial.{perform};
 
+mod epoch;
+mod legal;
+
+pub use epoch::cut_to_epoch;
+pub use legal::{ReplayFault, replay};
 use sig_core::{Answer, Key, NoMemory, Op, Table, Value};
 
 /// Performs one operation on a table.
