@@ -12,10 +12,12 @@ module _ {S A : Type 0} (next : S → A → S) (Fine : S → A → Type 0) where
   AreFine s [] = Unit {0}
   AreFine s (x ∷ xs) = Fine s x × AreFine (next s x) xs
 
+  -- of a list in which each item is fine, so is this one
   pub fine_there : (s : S) (xs : List A) (x : A) (behind : List A) → AreFine s (xs ++ x ∷ behind) → Fine (after s xs) x
   fine_there s [] x behind fine = fine.0
   fine_there s (y ∷ xs) x behind fine = fine_there (next s y) xs x behind fine.1
 
+  -- equal lists have equal items in front, and behind it equal lists
   head_is : (x y : A) (xs ys : List A) → x ∷ xs ≡ y ∷ ys → x ≡ y
   head_is x y xs ys e = ap (λ zs. get_or zs 0 x) e
 

@@ -44,7 +44,7 @@ pub fn replay(
 ) -> Result<Table, ReplayFault>
     ensures legal { OnOk result (IsLegal (rows_of start.now) entries.now) }
     ensures rows { IfOk result (λ table. table ≡ fold (rows_of start.now) entries.now) }
-    ensures fault { IfErr result (λ fault. IsReplayFault (rows_of start.now) entries.now fault) }
+    ensures differs { IfErr result (λ fault. IsReplayFault (rows_of start.now) entries.now fault) }
 {
     let Ok(mut table) = start_table(alloc, start) else {
         return Err(ReplayFault::NoMemory);

@@ -10,8 +10,8 @@ loop-at-preserved c =
     (subst (λ ops. AreAnswered c.loop-at.table ops) c.as_slice.ensures c.in-Ok-replay_ops.ensures.answered)
     (c.in-Ok-replay_ops.ensures.rows ∙ ap (λ ops. after_ops c.loop-at.table ops) c.as_slice.ensures)
 
-pub returns-in-Err-clause-fault : goal.returns-in-Err-clause-fault
-returns-in-Err-clause-fault c =
+pub returns-in-Err-clause-differs : goal.returns-in-Err-clause-differs
+returns-in-Err-clause-differs c =
     rw c.fault_at.ensures
     (fault_here (rows_of c.args.start.now) c.loop-at.table c.args.entries.now c.loop-at.at c.index-entries-at.result c.in-Err.fault
     c.loop-at-test.true c.index-entries-at.is c.loop-at.invariant
