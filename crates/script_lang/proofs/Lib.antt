@@ -1,0 +1,4 @@
+pub mod NumberLaws
+pub mod NumberLemmas
+pub mod TextLemmas
+pub mod WordCuts

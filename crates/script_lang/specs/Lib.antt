@@ -1,0 +1,14 @@
+pub mod AnswerText
+pub mod DigestText
+pub mod Fault
+pub mod Keyword
+pub mod Line
+pub mod Number
+pub mod Operation
+pub mod OutcomeText
+pub mod RefusalText
+pub mod ReplyText
+pub mod StopText
+pub mod ViewText
+pub mod WaitingText
+pub mod Words

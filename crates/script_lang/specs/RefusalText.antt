@@ -1,0 +1,20 @@
+-- Why a command did nothing, in words.
+use Rattle.std.specs.Prelude.{ℕ, List, ◌++◌, codes}
+use Rattle.std.specs.Fmt.{decimal}
+use Rattle.sig_core.specs.declared.reply.Refusal.{Refusal}
+use Rattle.sig_core.specs.declared.reply.Refusal.TheVariants.{Down, Running, NotOpen, IsOpen, NoMember, NotRunning, RunningNode, InView, Busy, TooManyOperations, TooManyOpen, Batch}
+
+-- the words of a refusal
+abbrev pub refusal_words : Refusal → List ℕ
+refusal_words Down = codes "down"
+refusal_words Running = codes "running"
+refusal_words NotOpen = codes "not open"
+refusal_words IsOpen = codes "is open"
+refusal_words (NoMember node) = codes "no member " ++ decimal node
+refusal_words (NotRunning node) = codes "not running " ++ decimal node
+refusal_words (RunningNode node) = codes "running " ++ decimal node
+refusal_words (InView node) = codes "in view " ++ decimal node
+refusal_words Busy = codes "busy"
+refusal_words TooManyOperations = codes "too many operations 64"
+refusal_words TooManyOpen = codes "too many open 64"
+refusal_words (Batch name) = codes "batch refused " ++ decimal name

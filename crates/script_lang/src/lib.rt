@@ -1,0 +1,20 @@
+//! The language of scripts: what a line means, and how a reply is printed.
+#![tactic(auto)]
+
+mod command;
+mod fault;
+mod keyword;
+mod line;
+mod number;
+mod operation;
+mod reply;
+mod words;
+
+pub use command::Command;
+pub use fault::LineFault;
+pub use line::parse_line;
+pub use number::numbers_are_decimal;
+pub use reply::print_reply;
+
+#[cfg(test)]
+mod tests;

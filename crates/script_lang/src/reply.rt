@@ -1,0 +1,121 @@
+//! The text of replies: one line for each.
+ghost use Rattle.std.specs.Prelude.{◌≡◌, ◌++◌, string_bytes, OnOk, OnErr, IfOk};
+ghost use Rattle.sig_core.specs.declared.reply.ApiReply.TheVariants.{Cut, Rows};
+ghost use Rattle.script_lang.specs.ReplyText.{name_of, name_prefix, reply_words, reply_text};
+
+mod answer;
+mod digest;
+mod outcome;
+mod refusal;
+mod row;
+mod stop;
+mod view;
+mod waiting;
+mod words;
+
+use answer::add_answer;
+use digest::add_digest;
+use outcome::add_outcome;
+use refusal::add_refusal;
+use row::add_row;
+use sig_core::{ApiReply, NoMemory};
+use std::alloc::Global;
+use stop::add_stop;
+use view::add_view;
+use waiting::add_waiting;
+use words::add;
+
+/// Adds the line of a reply, with its newline, to a text. The line begins with `@`, the name and a
+/// space where the reply has the name of a transaction.
+///
+/// # Errors
+/// `NoMemory`, and then the text is as it was.
+pub fn print_reply(alloc: Global, reply: &ApiReply, text: &mut Vec<u8>) -> Result<(), NoMemory>
+    ensures ok { OnOk result (text.new.items ≡ text.old.items ++ reply_text reply.now) }
+    ensures err { OnErr result (text.new.items ≡ text.old.items) }
+{
+    let mut line = Vec::new(alloc);
+    add_name(alloc, name_of(reply), &mut line)?;
+    add_words(alloc, reply, &mut line)?;
+    line.push(b'\n')?;
+    text.extend_from_slice(&line)?;
+    Ok(())
+}
+
+// The name of the transaction that a reply is about.
+fn name_of(reply: &ApiReply) -> Option<u16>
+    ensures { result ≡ name_of reply.now }
+{
+    match reply {
+        ApiReply::Begun { name, .. } => Some(*name),
+        ApiReply::Answered { name, .. }
+        | ApiReply::Ended { name, .. }
+        | ApiReply::Pending { name, .. }
+        | ApiReply::Refused { name, .. } => *name,
+        ApiReply::Stopped { .. }
+        | ApiReply::Ticked { .. }
+        | ApiReply::Cut { .. }
+        | ApiReply::Durable { .. }
+        | ApiReply::Checkpoint { .. }
+        | ApiReply::Started { .. }
+        | ApiReply::StartEnded { .. }
+        | ApiReply::Row { .. }
+        | ApiReply::Rows { .. }
+        | ApiReply::Digest { .. }
+        | ApiReply::View { .. }
+        | ApiReply::Crashed
+        | ApiReply::Restarted { .. }
+        | ApiReply::BatchEnd => None,
+    }
+}
+
+// Adds what a line begins with: the name, if there is one.
+fn add_name(alloc: Global, name: Option<u16>, line: &mut Vec<u8>) -> Result<(), NoMemory>
+    ensures { OnOk result (line.new.items ≡ line.old.items ++ name_prefix name) }
+{
+    match name {
+        None => Ok(()),
+        Some(name) => add(line, &format!(in alloc; "@{name} ")?),
+    }
+}
+
+// Adds the words of a reply, which stand behind the name.
+fn add_words(alloc: Global, reply: &ApiReply, line: &mut Vec<u8>) -> Result<(), NoMemory>
+    ensures { OnOk result (line.new.items ≡ line.old.items ++ reply_words reply.now) }
+{
+    match reply {
+        ApiReply::Begun { name: _, node } => add(line, &format!(in alloc; "begun {node}")?),
+        ApiReply::Answered { name: _, answer } => add_answer(answer, line),
+        ApiReply::Ended { name: _, outcome } => add_outcome(alloc, outcome, line),
+        ApiReply::Pending { name: _, on } => add_waiting(alloc, on, line),
+        ApiReply::Refused { name: _, refusal } => add_refusal(alloc, refusal, line),
+        ApiReply::Stopped { node, cause } => add_stop(alloc, *node, cause, line),
+        ApiReply::Ticked { rounds } => add(line, &format!(in alloc; "ticked {rounds}")?),
+        ApiReply::Cut { one, other } => add(line, &cut_words(alloc, *one, *other)?),
+        ApiReply::Durable { epoch } => add(line, &format!(in alloc; "durable {epoch}")?),
+        ApiReply::Checkpoint { epoch } => add(line, &format!(in alloc; "checkpoint {epoch}")?),
+        ApiReply::Started { node } => add(line, &format!(in alloc; "started {node}")?),
+        ApiReply::StartEnded { node } => add(line, &format!(in alloc; "start {node} ended")?),
+        ApiReply::Row { key, value } => add_row(key.bytes(), value.bytes(), line),
+        ApiReply::Rows { node, count } => add(line, &rows_words(alloc, *node, *count)?),
+        ApiReply::Digest { node, digest } => add_digest(alloc, *node, digest, line),
+        ApiReply::View { view } => add_view(alloc, view, line),
+        ApiReply::Crashed => add(line, "crashed"),
+        ApiReply::Restarted { epoch } => add(line, &format!(in alloc; "restarted {epoch}")?),
+        ApiReply::BatchEnd => add(line, "end"),
+    }
+}
+
+// The words of a link that was cut.
+fn cut_words(alloc: Global, one: u8, other: u8) -> Result<String, NoMemory>
+    ensures { IfOk result (λ words. string_bytes words ≡ reply_words (Cut one other)) }
+{
+    Ok(format!(in alloc; "cut {one} {other}")?)
+}
+
+// The words of how many rows a node has.
+fn rows_words(alloc: Global, node: u8, count: u64) -> Result<String, NoMemory>
+    ensures { IfOk result (λ words. string_bytes words ≡ reply_words (Rows node count)) }
+{
+    Ok(format!(in alloc; "node {node} rows {count}")?)
+}
