@@ -5,6 +5,13 @@ ghost use Rattle.std.specs.Prelude.{◌≡◌, IfOk, OnOk, OnErr};
 ghost use Rattle.std.specs.FinMap as map;
 ghost use Rattle.serial_model.specs.Serial.{perform};
 
+mod epoch;
+mod legal;
+mod legal_laws;
+
+pub use epoch::cut_to_epoch;
+pub use legal::{ReplayFault, replay};
+pub use legal_laws::legal_lists_have_no_difference;
 use sig_core::{Answer, Key, NoMemory, Op, Table, Value};
 
 /// Performs one operation on a table.

@@ -1,0 +1,4 @@
+pub mod DifferenceLemmas
+pub mod LegalLemmas
+pub mod Prefixes
+pub mod Walks
