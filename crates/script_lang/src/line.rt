@@ -33,9 +33,7 @@ pub fn parse_line(line: &[u8], batch: bool, nodes: u8) -> Result<Option<Command>
 
 /// The first word of a line, which may have a carriage return at its end.
 pub fn first_word(line: &[u8]) -> Option<&[u8]>
-    ensures {
-        MatchOption result (first_word line.now ≡ None) (λ word. first_word line.now ≡ Some word.now)
-    }
+    ensures { MatchOption result (first_word line.now ≡ None) (λ word. first_word line.now ≡ Some word.now) }
 {
     let (first, _) = next_word(without_return(line))?;
     Some(first)
