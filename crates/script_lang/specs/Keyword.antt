@@ -1,5 +1,5 @@
 -- The words that name commands.
-use Rattle.std.specs.Prelude.{ℕ, Bool, true, false, not, List, codes, bytes_eq, if◌then◌else◌, Option, None, Some}
+use Rattle.std.specs.Prelude.{ℕ, Bool, true, not, List, codes, bytes_eq, if◌then◌else◌, Option, None, Some}
 use Rattle.script_lang.specs.declared.keyword.OpKind.{OpKind}
 use Rattle.script_lang.specs.declared.keyword.OpKind.TheVariants as kind
 use Rattle.script_lang.specs.declared.keyword.Keyword.{Keyword}

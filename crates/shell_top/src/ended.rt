@@ -1,6 +1,6 @@
 //! How a session ends.
-use script_lang::LineFault;
 use host_io::Disk;
+use script_lang::LineFault;
 
 /// Why a session ended.
 #[derive(Clone, Copy, Debug, PartialEq, Eq)]
