@@ -1,0 +1,4 @@
+pub mod Modes
+pub mod Holders
+pub mod Queues
+pub mod Rows
