@@ -1,1 +1,2 @@
+pub mod LocksLemmas
 pub mod QueueLemmas

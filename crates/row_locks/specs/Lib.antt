@@ -1,4 +1,6 @@
-pub mod Modes
+pub mod Codes
 pub mod Holders
+pub mod Modes
 pub mod Queues
 pub mod Rows
+pub mod Tables

@@ -2,9 +2,11 @@
 #![tactic(auto)]
 
 mod claim;
+mod holders;
 mod mode;
 mod queue;
 mod row;
-mod holders;
+mod table;
 
 pub use mode::{Lock, Mode};
+pub use table::LockTable;

@@ -2,6 +2,7 @@
 ghost use Rattle.std.specs.Prelude.{◌≡◌, ◌≤◌, ◌+◌, IfOk, OnOk, OnErr, length, slice_get, option_map};
 ghost use Rattle.row_locks.specs.Rows.{unlocked, asked, anew, row_lock, released, unwaited, unqueued, grown_old};
 ghost use Rattle.std.specs.Vec.{vec_capacity};
+ghost use Rattle.row_locks.specs.Tables.{is_idle, ahead_of};
 
 use crate::claim::{Holder, Wait};
 use crate::holders::{agrees_with, first_other, hold, holds, holds_enough, let_go};
@@ -95,6 +96,24 @@ impl Row {
         ensures { self.new ≡ grown_old self.old }
     {
         age_all(self.queue.as_mut_slice());
+    }
+
+    /// Whether nobody holds it and nobody waits.
+    pub fn is_idle(&self) -> bool
+        ensures { result ≡ is_idle self.now }
+    {
+        self.holders.is_empty() && self.queue.is_empty()
+    }
+
+    /// Where the transaction waits, the first holder that isn't it; else none.
+    pub fn ahead(&self, tx: TxId) -> Option<TxId>
+        ensures { result ≡ ahead_of self.now tx }
+    {
+        if waits(tx, &self.queue) {
+            Some(first_other(tx, &self.holders))
+        } else {
+            None
+        }
     }
 
     /// Holder `i`, from 0; none where there are fewer.

@@ -1,6 +1,5 @@
-use Rattle.std.proofs.Common.{◌≡◌, ◌≤◌, ◌+◌, ◌++◌, ℕ, length, take, drop}
-use Rattle.std.specs.Vec.{vec_capacity}
-use Rattle.row_locks.specs.Holders.{others, agrees_with, holds, holds_enough, first_other}
+use Rattle.std.proofs.Common.{◌≡◌, drop}
+use Rattle.row_locks.specs.Holders.{holds}
 use Rattle.row_locks.proofs.holders.holds.Given as goal
 
 -- what is left tells the answer

@@ -1,6 +1,6 @@
-use Rattle.std.proofs.Common.{◌≡◌, ◌≤◌, ◌+◌, ◌-◌, ◌++◌, ℕ, length, take, drop}
+use Rattle.std.proofs.Common.{◌≡◌, ◌≤◌, ◌-◌, ◌++◌, length, take, drop}
 use Rattle.std.specs.Vec.{vec_capacity}
-use Rattle.row_locks.specs.Holders.{others, agrees_with, holds, holds_enough, first_other}
+use Rattle.row_locks.specs.Holders.{others}
 use Rattle.row_locks.proofs.holders.let_go.Given as goal
 
 -- what was passed stays, and what is left is to be gone through

@@ -1,7 +1,5 @@
-use Rattle.std.proofs.Common.{◌≡◌, ◌≤◌, ◌+◌, ◌++◌, ℕ, length, take, drop, map}
-use Rattle.std.specs.Vec.{vec_capacity}
-use Rattle.row_locks.specs.Queues.{waits, without, raised, aged_all}
-use Rattle.row_locks.specs.Rows.{served}
+use Rattle.std.proofs.Common.{◌≡◌, ◌++◌, length, take, drop}
+use Rattle.row_locks.specs.Queues.{raised}
 use Rattle.row_locks.proofs.queue.raise.Given as goal
 
 -- what was passed, and what is left after its change, are the whole after its change

@@ -1,6 +1,5 @@
-use Rattle.std.proofs.Common.{◌≡◌, ◌≤◌, ◌+◌, ◌++◌, ℕ, length, take, drop, map}
+use Rattle.std.proofs.Common.{◌≡◌, ◌≤◌, ◌+◌, length}
 use Rattle.std.specs.Vec.{vec_capacity}
-use Rattle.row_locks.specs.Queues.{waits, without, raised, aged_all}
 use Rattle.row_locks.specs.Rows.{served}
 use Rattle.row_locks.proofs.queue.serve.Given as goal
 

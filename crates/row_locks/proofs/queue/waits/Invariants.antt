@@ -1,7 +1,5 @@
-use Rattle.std.proofs.Common.{◌≡◌, ◌≤◌, ◌+◌, ◌++◌, ℕ, length, take, drop, map}
-use Rattle.std.specs.Vec.{vec_capacity}
-use Rattle.row_locks.specs.Queues.{waits, without, raised, aged_all}
-use Rattle.row_locks.specs.Rows.{served}
+use Rattle.std.proofs.Common.{◌≡◌, drop}
+use Rattle.row_locks.specs.Queues.{waits}
 use Rattle.row_locks.proofs.queue.waits.Given as goal
 
 -- what is left tells the answer
