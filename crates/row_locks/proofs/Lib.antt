@@ -1,2 +1,3 @@
 pub mod LocksLemmas
 pub mod QueueLemmas
+pub mod RoundLemmas

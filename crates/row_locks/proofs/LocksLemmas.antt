@@ -17,7 +17,7 @@ abbrev pub key_cmp : List ℕ → List ℕ → Ordering
 key_cmp = slice_cmp nat_cmp
 
 -- a look-up by a key is that of the finite map of the entries
-find-lookup : {K X : Type 0} (R : K → K → Ordering) (q : K) (es : List (K × X)) → map.find R q es ≡ lookup (is_at (R q)) es
+pub find-lookup : {K X : Type 0} (R : K → K → Ordering) (q : K) (es : List (K × X)) → map.find R q es ≡ lookup (is_at (R q)) es
 find-lookup R q [] = refl
 find-lookup R q (e ∷ es) = ap (cond (eq_by_cmp R q e.0) (Some e.1)) (find-lookup R q es)
 

@@ -2,5 +2,6 @@ pub mod Codes
 pub mod Holders
 pub mod Modes
 pub mod Queues
+pub mod Rounds
 pub mod Rows
 pub mod Tables

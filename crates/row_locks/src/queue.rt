@@ -3,6 +3,7 @@ ghost use Rattle.std.specs.Prelude.{◌≡◌, ◌≤◌, ◌+◌, length};
 ghost use Rattle.std.specs.Vec.{vec_capacity};
 ghost use Rattle.row_locks.specs.Queues.{waits, without, raised, raised_if, aged, ages, aged_all};
 ghost use Rattle.row_locks.specs.Modes.{same_tx};
+ghost use Rattle.row_locks.specs.Rounds.{first_expired, is_expired};
 ghost use Rattle.row_locks.specs.Rows.{served};
 
 use crate::claim::{Holder, Wait};
@@ -83,6 +84,25 @@ fn ages(wait: Wait) -> bool
     ensures { result ≡ ages wait }
 {
     0 < wait.tx.tc && wait.rounds < ROUNDS
+}
+
+/// Who waits first of those that have stood at eight rounds.
+pub fn first_expired(queue: &[Wait]) -> Option<TxId>
+    ensures { result ≡ first_expired queue.now }
+{
+    for wait in queue {
+        if is_expired(*wait) {
+            return Some(wait.tx);
+        }
+    }
+    None
+}
+
+// Whether a wait has stood at eight rounds.
+fn is_expired(wait: Wait) -> bool
+    ensures { result ≡ is_expired wait }
+{
+    ROUNDS <= wait.rounds
 }
 
 /// Serves the queue in order, and answers how many became holders: these are the last ones. Takes

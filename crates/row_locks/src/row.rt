@@ -3,11 +3,12 @@ ghost use Rattle.std.specs.Prelude.{◌≡◌, ◌≤◌, ◌+◌, IfOk, OnOk, O
 ghost use Rattle.row_locks.specs.Rows.{unlocked, asked, anew, row_lock, released, unwaited, unqueued, grown_old};
 ghost use Rattle.std.specs.Vec.{vec_capacity};
 ghost use Rattle.row_locks.specs.Tables.{is_idle, ahead_of};
+ghost use Rattle.row_locks.specs.Rounds.{first_expired};
 
 use crate::claim::{Holder, Wait};
 use crate::holders::{agrees_with, first_other, hold, holds, holds_enough, let_go};
 use crate::mode::{Lock, Mode};
-use crate::queue::{age_all, leave, raise, serve, waits};
+use crate::queue::{age_all, first_expired, leave, raise, serve, waits};
 use sig_core::{NoMemory, TxId};
 use std::alloc::Global;
 use std::marker::Model;
@@ -96,6 +97,13 @@ impl Row {
         ensures { self.new ≡ grown_old self.old }
     {
         age_all(self.queue.as_mut_slice());
+    }
+
+    /// Who waits first, in the order of the queue, of those that have stood at eight rounds.
+    pub fn expired(&self) -> Option<TxId>
+        ensures { result ≡ first_expired self.now.queue }
+    {
+        first_expired(&self.queue)
     }
 
     /// Whether nobody holds it and nobody waits.

@@ -7,6 +7,7 @@ ghost use Rattle.std.specs.BTreeMap as tree;
 ghost use Rattle.std.specs.FinMap as map;
 ghost use Rattle.row_locks.specs.Rows.{asked, unlocked};
 ghost use Rattle.row_locks.specs.Tables.{asked_at, released_at, unwaited_at, holder_at, ahead_at, kept, locks_of};
+ghost use Rattle.row_locks.specs.Rounds.{all_unqueued, round_later, expired, expired_in};
 
 use crate::mode::{Lock, Mode};
 use crate::row::Row;
@@ -127,6 +128,65 @@ impl LockTable {
             None => 0,
         }
     }
+
+    /// Takes every waiter out of every queue, and grants nothing. Goes through all keys, and takes
+    /// no memory.
+    pub fn unwait_all(&mut self)
+        ensures { self.new ≡ all_unqueued self.old }
+    {
+        clear_queues(&mut self.rows);
+    }
+
+    /// Adds a round to every wait that ages: those of the copying of rows don't, and none ages
+    /// beyond eight rounds. Goes through all keys, and takes no memory.
+    pub fn age_round(&mut self)
+        ensures { self.new ≡ round_later self.old }
+    {
+        age_rows(&mut self.rows);
+    }
+
+    /// The first wait, in byte order of the keys and then in the order of the queue, that has
+    /// stood at eight rounds: who waits, and for which key. None exactly where there is no such
+    /// wait. Goes through all keys.
+    #[tactic(auto, using(crate::proofs::RoundLemmas::rounds))]
+    pub fn expired(&self) -> Option<(TxId, Key)>
+        ensures { result ≡ expired self.now }
+    {
+        expired_row(&self.rows)
+    }
+}
+
+// Takes every waiter out of every queue.
+fn clear_queues(rows: &mut BTreeMap<Key, Row>)
+    ensures { locks_of rows.new ≡ all_unqueued (locks_of rows.old) }
+{
+    rows.retain(|_, row| {
+        row.clear_queue();
+        true
+    });
+}
+
+// Adds a round to every wait that ages.
+fn age_rows(rows: &mut BTreeMap<Key, Row>)
+    ensures { locks_of rows.new ≡ round_later (locks_of rows.old) }
+{
+    rows.retain(|_, row| {
+        row.age();
+        true
+    });
+}
+
+// The first wait that has stood at eight rounds, and the key that it waits for.
+fn expired_row(rows: &BTreeMap<Key, Row>) -> Option<(TxId, Key)>
+    ensures found { result ≡ expired_in rows.now.entries }
+    ensures ordered { tree.IsOrdered (slice_cmp nat_cmp) rows.now }
+{
+    for (key, row) in rows {
+        if let Some(tx) = row.expired() {
+            return Some((tx, *key));
+        }
+    }
+    None
 }
 
 // Removes the lock of the key.
