@@ -10,3 +10,6 @@ mod table;
 
 pub use mode::{Lock, Mode};
 pub use table::LockTable;
+
+#[cfg(test)]
+mod tests;

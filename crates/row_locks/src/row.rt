@@ -150,7 +150,11 @@ fn request_anew(
 {
     holders.reserve(queue.len() + 1)?;
     let ahead = first_other(tx, holders);
-    match (holds(tx, holders), agrees_with(tx, mode, holders), queue.is_empty()) {
+    match (
+        holds(tx, holders),
+        agrees_with(tx, mode, holders),
+        queue.is_empty(),
+    ) {
         (true, true, _) | (false, true, true) => {
             hold(tx, mode, holders);
             Ok(Lock::Granted)
