@@ -1,3 +1,4 @@
 pub mod LocksLemmas
 pub mod QueueLemmas
 pub mod RoundLemmas
+pub mod OrderlyLemmas

@@ -3,11 +3,13 @@
 
 mod claim;
 mod holders;
+mod laws;
 mod mode;
 mod queue;
 mod row;
 mod table;
 
+pub use laws::locks_stay_orderly;
 pub use mode::{Lock, Mode};
 pub use table::LockTable;
 
