@@ -2,3 +2,4 @@ pub mod LocksLemmas
 pub mod QueueLemmas
 pub mod RoundLemmas
 pub mod OrderlyLemmas
+pub mod TableLawLemmas

@@ -1,20 +1,22 @@
-//! What is true of every lock, whatever was asked for and let go.
-ghost use Rattle.std.specs.Prelude.{ℕ};
+//! What is true of the locks, whatever was asked for and let go.
+ghost use Rattle.std.specs.Prelude.{ℕ, List};
+ghost use Rattle.std.specs.FinMap as map;
 ghost use Rattle.sig_core.specs.declared.member.TxId.{TxId};
 ghost use Rattle.row_locks.specs.declared.mode.Mode.{Mode};
-ghost use Rattle.row_locks.specs.Rows.{RowLock, unlocked, asked, released, unwaited, unqueued, grown_old};
-ghost use Rattle.row_locks.specs.Orderly.{IsOrderly};
+ghost use Rattle.row_locks.specs.OrderlyTables.{AreOrderly};
+ghost use Rattle.row_locks.specs.Rounds.{all_unqueued, round_later};
+ghost use Rattle.row_locks.specs.Tables.{Locks, asked_at, kept, released_at, unwaited_at};
 
-/// The lock of a row is orderly at first, and each call leaves it so: no transaction holds it
-/// twice or waits for it twice, all holders agree with one another, and the first that waits
-/// doesn't agree with all other holders. The calls of `LockTable` do what these definitions say,
-/// so this is a law of every lock of a table.
+/// The locks are orderly at first, and each call of `LockTable` leaves them so: of each key, no
+/// transaction holds the lock twice or waits for it twice, all holders agree with one another, and
+/// the first that waits doesn't agree with all other holders; and no key is there whose lock
+/// nobody holds. The values are those that the calls ensure, each in the clause of its name.
 pub fn locks_stay_orderly()
-    ensures start { IsOrderly unlocked }
-    ensures request { (lock : RowLock) (tx : TxId) (mode : Mode) → IsOrderly lock → IsOrderly (asked lock tx mode).lock }
-    ensures release { (lock : RowLock) (tx : TxId) → IsOrderly lock → IsOrderly (released lock tx).lock }
-    ensures unwait { (lock : RowLock) (tx : TxId) → IsOrderly lock → IsOrderly (unwaited lock tx).lock }
-    ensures unwait_all { (lock : RowLock) → IsOrderly lock → IsOrderly (unqueued lock) }
-    ensures age_round { (lock : RowLock) → IsOrderly lock → IsOrderly (grown_old lock) }
+    ensures new { AreOrderly map.empty }
+    ensures request { (locks : Locks) (key : List ℕ) (tx : TxId) (mode : Mode) → AreOrderly locks → AreOrderly (map.insert locks key (asked_at locks key tx mode).lock) }
+    ensures release { (locks : Locks) (key : List ℕ) (tx : TxId) → AreOrderly locks → AreOrderly (kept locks key (released_at locks key tx).lock) }
+    ensures unwait { (locks : Locks) (key : List ℕ) (tx : TxId) → AreOrderly locks → AreOrderly (kept locks key (unwaited_at locks key tx).lock) }
+    ensures unwait_all { (locks : Locks) → AreOrderly locks → AreOrderly (all_unqueued locks) }
+    ensures age_round { (locks : Locks) → AreOrderly locks → AreOrderly (round_later locks) }
 {
 }
