@@ -1,3 +1,4 @@
+pub mod AheadLemmas
 pub mod LocksLemmas
 pub mod QueueLemmas
 pub mod RoundLemmas

@@ -22,10 +22,10 @@ use Rattle.row_locks.proofs.LocksLemmas.{key_cmp, get-locks, find-lookup}
 use Rattle.row_locks.proofs.OrderlyLemmas.{asked_orderly, released_orderly, unwaited_orderly, unqueued_orderly, grown_old_orderly}
 
 pub unlocked_orderly : IsOrderly unlocked
-unlocked_orderly = record { held_once = refl; agreed = refl; waiting_once = refl; held_up = refl }
+unlocked_orderly = record { held_once = refl; agreed = refl; waiting_once = refl; held_up = refl; raises_first = refl }
 
 -- whoever is held up is held up by someone
-held-quiet : (hs : List Holder) (ws : List Wait) → is_first_held_up hs ws ≡ true → is_quiet ws ≡ false → is_free hs ≡ false
+pub held-quiet : (hs : List Holder) (ws : List Wait) → is_first_held_up hs ws ≡ true → is_quiet ws ≡ false → is_free hs ≡ false
 held-quiet (h ∷ hs) ws up q = refl
 held-quiet [] [] up q = absurd (true≢false q)
 held-quiet [] (w ∷ ws) up q = absurd (true≢false (sym up))
@@ -95,11 +95,11 @@ free_holds : (tx : TxId) (hs : List Holder) → holds tx hs ≡ true → is_free
 free_holds tx [] e = absurd (true≢false (sym e))
 free_holds tx (h ∷ hs) e = refl
 
-free_disagreed : (tx : TxId) (m : Mode) (hs : List Holder) → agrees_with tx m hs ≡ false → is_free hs ≡ false
+pub free_disagreed : (tx : TxId) (m : Mode) (hs : List Holder) → agrees_with tx m hs ≡ false → is_free hs ≡ false
 free_disagreed tx m [] e = absurd (true≢false e)
 free_disagreed tx m (h ∷ hs) e = refl
 
-quiet_waits : (tx : TxId) (ws : List Wait) → waits tx ws ≡ true → is_quiet ws ≡ false
+pub quiet_waits : (tx : TxId) (ws : List Wait) → waits tx ws ≡ true → is_quiet ws ≡ false
 quiet_waits tx [] e = absurd (true≢false (sym e))
 quiet_waits tx (w ∷ ws) e = refl
 

@@ -9,7 +9,7 @@ mod queue;
 mod row;
 mod table;
 
-pub use laws::locks_stay_orderly;
+pub use laws::{locks_stay_orderly, waits_are_for_others};
 pub use mode::{Lock, Mode};
 pub use table::LockTable;
 
