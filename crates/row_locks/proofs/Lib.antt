@@ -1,0 +1,6 @@
+pub mod AheadLemmas
+pub mod LocksLemmas
+pub mod QueueLemmas
+pub mod RoundLemmas
+pub mod OrderlyLemmas
+pub mod TableLawLemmas

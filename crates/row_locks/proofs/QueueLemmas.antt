@@ -1,0 +1,15 @@
+-- A loop that changes each item of a list where it stands.
+use Rattle.std.proofs.Common.{◌≡◌, ◌<◌, ◌+◌, ◌++◌, ℕ, suc, List, [], ◌∷◌, length, take, drop, map, get_or, slice_set, ap, sym, ◌∙◌, arith, append_assoc, drop-cons}
+use Rattle.std.proofs.lemmas.List.{take_more_set, drop-set-lt}
+
+-- the next item is changed: what was passed and what is left lead to the same list
+pub map_one_more : {A : Type 0} (f : A → A) (items : List A) (i : ℕ) (v d : A) → i < length items → v ≡ f (get_or items i d)
+    → take (i + 1) (slice_set items i v) ++ map f (drop (i + 1) (slice_set items i v)) ≡ take i items ++ map f (drop i items)
+map_one_more f items i v d inside is =
+    let next : i + 1 ≡ suc i = omega arith in
+    ap (λ xs. xs ++ map f (drop (i + 1) (slice_set items i v))) (take_more_set items i v inside)
+    ∙ ap (λ xs. (take i items ++ v ∷ []) ++ map f xs) (drop-set-lt (i + 1) items i v (omega arith))
+    ∙ append_assoc (take i items) (v ∷ []) (map f (drop (i + 1) items))
+    ∙ ap (λ x. take i items ++ x ∷ map f (drop (i + 1) items)) is
+    ∙ ap (λ n. take i items ++ f (get_or items i d) ∷ map f (drop n items)) next
+    ∙ ap (λ xs. take i items ++ map f xs) (sym (drop-cons items i d inside))

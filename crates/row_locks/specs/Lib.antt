@@ -1,0 +1,9 @@
+pub mod Codes
+pub mod Holders
+pub mod Modes
+pub mod Orderly
+pub mod OrderlyTables
+pub mod Queues
+pub mod Rounds
+pub mod Rows
+pub mod Tables

@@ -1,0 +1,50 @@
+-- What is true of the lock of every row, whatever was asked for and let go.
+use Rattle.std.specs.Prelude.{◌≡◌, Bool, true, false, ◌&&◌, not, List, [], ◌∷◌}
+use Rattle.row_locks.specs.declared.claim.Holder.{Holder}
+use Rattle.row_locks.specs.declared.claim.Wait.{Wait}
+use Rattle.row_locks.specs.Holders.{holds, agrees_with}
+use Rattle.row_locks.specs.Queues.{waits}
+use Rattle.row_locks.specs.Rows.{RowLock}
+
+-- no transaction stands twice among the holders
+abbrev pub are_held_once : List Holder → Bool
+are_held_once [] = true
+are_held_once (holder ∷ holders) = not (holds holder.tx holders) && are_held_once holders
+
+-- any two holders agree: one holds it exclusive, or all hold it shared
+abbrev pub are_agreed : List Holder → Bool
+are_agreed [] = true
+are_agreed (holder ∷ holders) = agrees_with holder.tx holder.mode holders && are_agreed holders
+
+-- no transaction stands twice in the queue
+abbrev pub are_waiting_once : List Wait → Bool
+are_waiting_once [] = true
+are_waiting_once (wait ∷ queue) = not (waits wait.tx queue) && are_waiting_once queue
+
+-- the first in the queue doesn't agree with all other holders: who could be granted the lock doesn't wait
+abbrev pub is_first_held_up : List Holder → List Wait → Bool
+is_first_held_up holders [] = true
+is_first_held_up holders (wait ∷ queue) = not (agrees_with wait.tx wait.mode holders)
+
+-- nobody in the queue holds the lock
+abbrev pub none_holds : List Holder → List Wait → Bool
+none_holds holders [] = true
+none_holds holders (wait ∷ queue) = not (holds wait.tx holders) && none_holds holders queue
+
+-- one of two tests
+abbrev pub test_if : Bool → Bool → Bool → Bool
+test_if true one other = one
+test_if false one other = other
+
+-- those that hold the lock, and wait to be raised, stand before those that don't
+abbrev pub are_raises_first : List Holder → List Wait → Bool
+are_raises_first holders [] = true
+are_raises_first holders (wait ∷ queue) = test_if (holds wait.tx holders) (are_raises_first holders queue) (none_holds holders queue)
+
+-- the lock of a row, as calls leave it
+pub record IsOrderly (lock : RowLock) : Type 0 where
+  pub held_once : are_held_once lock.holders ≡ true
+  pub agreed : are_agreed lock.holders ≡ true
+  pub waiting_once : are_waiting_once lock.queue ≡ true
+  pub held_up : is_first_held_up lock.holders lock.queue ≡ true
+  pub raises_first : are_raises_first lock.holders lock.queue ≡ true

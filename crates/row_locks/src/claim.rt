@@ -1,0 +1,35 @@
+//! Who holds a lock, and who waits for it.
+ghost use Rattle.std.specs.Prelude.{◌≡◌};
+ghost use Rattle.row_locks.specs.Queues.{wait_of};
+
+use crate::mode::Mode;
+use sig_core::TxId;
+
+/// A transaction that holds a lock.
+#[derive(Clone, Copy, Debug, PartialEq, Eq)]
+pub struct Holder {
+    pub tx: TxId,
+    pub mode: Mode,
+}
+
+/// A transaction that waits for a lock.
+#[derive(Clone, Copy, Debug, PartialEq, Eq)]
+pub struct Wait {
+    pub tx: TxId,
+    pub mode: Mode,
+    /// How many rounds it has stood in the queue, up to 8.
+    pub rounds: u8,
+}
+
+impl Wait {
+    /// A wait that begins.
+    pub fn new(tx: TxId, mode: Mode) -> Wait
+        ensures { result ≡ wait_of tx mode }
+    {
+        Wait {
+            tx,
+            mode,
+            rounds: 0,
+        }
+    }
+}

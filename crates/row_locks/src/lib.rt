@@ -1,0 +1,17 @@
+//! Row locks: shared and exclusive locks on keys, with queues that are served in order.
+#![tactic(auto)]
+
+mod claim;
+mod holders;
+mod laws;
+mod mode;
+mod queue;
+mod row;
+mod table;
+
+pub use laws::{locks_stay_orderly, waits_are_for_others};
+pub use mode::{Lock, Mode};
+pub use table::LockTable;
+
+#[cfg(test)]
+mod tests;

@@ -1,0 +1,128 @@
+//! The queue of a lock.
+ghost use Rattle.std.specs.Prelude.{◌≡◌, ◌≤◌, ◌+◌, length};
+ghost use Rattle.std.specs.Vec.{vec_capacity};
+ghost use Rattle.row_locks.specs.Queues.{waits, without, raised, raised_if, aged, ages, aged_all};
+ghost use Rattle.row_locks.specs.Modes.{same_tx};
+ghost use Rattle.row_locks.specs.Rounds.{first_expired, is_expired};
+ghost use Rattle.row_locks.specs.Rows.{served};
+
+use crate::claim::{Holder, Wait};
+use crate::holders::{agrees_with, hold};
+use crate::mode::{Mode, same_tx, stronger};
+use sig_core::TxId;
+
+/// How many rounds a wait stands at most.
+pub const ROUNDS: u8 = 8;
+
+/// Whether the transaction waits.
+pub fn waits(tx: TxId, queue: &[Wait]) -> bool
+    ensures { result ≡ waits tx queue.now }
+{
+    for wait in queue {
+        if same_tx(wait.tx, tx) {
+            return true;
+        }
+    }
+    false
+}
+
+/// Takes the transaction out of the queue. Takes no memory.
+pub fn leave(tx: TxId, queue: &mut Vec<Wait>)
+    ensures queue { queue.new.items ≡ without tx queue.old.items }
+    ensures fewer { length queue.new.items ≤ length queue.old.items }
+{
+    let mut next = 0;
+    while next < queue.len() {
+        if same_tx(queue[next].tx, tx) {
+            queue.remove(next);
+        } else {
+            next += 1;
+        }
+    }
+}
+
+/// Makes the transaction wait for this mode too, at its old place.
+#[tactic(auto, using(crate::proofs::QueueLemmas::map_one_more))]
+pub fn raise(tx: TxId, mode: Mode, queue: &mut [Wait])
+    ensures { queue.new ≡ raised tx mode queue.old }
+{
+    for wait in queue {
+        raise_one(tx, mode, wait);
+    }
+}
+
+// Raises a wait, if it is the transaction's.
+fn raise_one(tx: TxId, mode: Mode, wait: &mut Wait)
+    ensures { wait.new ≡ raised_if (same_tx wait.old.tx tx) mode wait.old }
+{
+    if same_tx(wait.tx, tx) {
+        wait.mode = stronger(wait.mode, mode);
+    }
+}
+
+/// Adds a round to each wait that ages.
+#[tactic(auto, using(crate::proofs::QueueLemmas::map_one_more))]
+pub fn age_all(queue: &mut [Wait])
+    ensures { queue.new ≡ aged_all queue.old }
+{
+    for wait in queue {
+        age(wait);
+    }
+}
+
+// Adds a round to a wait, if it ages.
+fn age(wait: &mut Wait)
+    ensures { wait.new ≡ aged wait.old }
+{
+    if ages(*wait) {
+        wait.rounds += 1;
+    }
+}
+
+// Whether a wait isn't of the copying of rows, and has not come to eight rounds.
+fn ages(wait: Wait) -> bool
+    ensures { result ≡ ages wait }
+{
+    0 < wait.tx.tc && wait.rounds < ROUNDS
+}
+
+/// Who waits first of those that have stood at eight rounds.
+pub fn first_expired(queue: &[Wait]) -> Option<TxId>
+    ensures { result ≡ first_expired queue.now }
+{
+    for wait in queue {
+        if is_expired(*wait) {
+            return Some(wait.tx);
+        }
+    }
+    None
+}
+
+// Whether a wait has stood at eight rounds.
+fn is_expired(wait: Wait) -> bool
+    ensures { result ≡ is_expired wait }
+{
+    ROUNDS <= wait.rounds
+}
+
+/// Serves the queue in order, and answers how many became holders: these are the last ones. Takes
+/// no memory.
+pub fn serve(holders: &mut Vec<Holder>, queue: &mut Vec<Wait>) -> usize
+    requires { length holders.old.items + length queue.old.items ≤ vec_capacity holders.old }
+    ensures holders { holders.new.items ≡ (served 0 holders.old.items queue.old.items).lock.holders }
+    ensures queue { queue.new.items ≡ (served 0 holders.old.items queue.old.items).lock.queue }
+    ensures granted { result ≡ (served 0 holders.old.items queue.old.items).granted }
+    ensures room { length holders.new.items + length queue.new.items ≤ vec_capacity holders.new }
+{
+    let mut granted = 0;
+    while !queue.is_empty() {
+        let wait = queue[0];
+        if !agrees_with(wait.tx, wait.mode, holders) {
+            break;
+        }
+        queue.remove(0);
+        hold(wait.tx, wait.mode, holders);
+        granted += 1;
+    }
+    granted
+}
