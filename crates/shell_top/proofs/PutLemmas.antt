@@ -15,7 +15,8 @@ use Rattle.shell_top.specs.Cluster.{State, asked, IsQuiet, Reaches, settled}
 use Rattle.shell_top.specs.Idle.{idle, told}
 use Rattle.shell_top.specs.Script.{Put}
 use Rattle.shell_top.specs.Session.{AppendsPart, ServesPut, PrintsPut}
-use Rattle.shell_top.specs.Text.{newline, answers, reply_lines}
+use Rattle.script_lang.specs.ReplyText.{newline}
+use Rattle.shell_top.specs.Text.{answers, reply_lines}
 use Rattle.shell_top.proofs.PutServed.{put_served}
 use Rattle.shell_top.proofs.Settled.{driven}
 

@@ -1,25 +1,25 @@
 -- What a session prints.
-use Rattle.std.specs.Prelude.{ℕ, List, [], ◌∷◌, ◌++◌, codes}
+use Rattle.std.specs.Prelude.{ℕ, List, [], ◌∷◌, ◌++◌, codes, None}
 use Rattle.std.specs.Fmt.{decimal}
-use Rattle.sig_core.specs.declared.op.Answer.TheVariants.{Done, Found, Missing, E626, E630}
+use Rattle.sig_core.specs.declared.outcome.Outcome.TheVariants as outcome
+use Rattle.sig_core.specs.declared.reply.ApiReply.{ApiReply}
+use Rattle.sig_core.specs.declared.reply.ApiReply.TheVariants as printed
 use Rattle.shell_top.specs.declared.ended.Ending.{Ending}
 use Rattle.shell_top.specs.declared.ended.Ending.TheVariants.{Finished, Words, Refused, ReadFault, WriteFault, NoMemory, TooLong}
 use Rattle.shell_top.specs.declared.parts.api.Reply.{Reply}
 use Rattle.shell_top.specs.declared.parts.api.Reply.TheVariants.{Answered, Committed}
 use Rattle.script_lang.specs.Fault.{code_of}
+use Rattle.script_lang.specs.ReplyText.{newline, reply_text}
 use Rattle.shell_top.specs.Script.{Put}
 
-abbrev pub newline : List ℕ
-newline = 10 ∷ []
+-- a reply, as the language of scripts has it
+abbrev pub api_reply : Reply → ApiReply
+api_reply (Answered answer) = printed.Answered None answer
+api_reply (Committed epoch) = printed.Ended None (outcome.Committed epoch)
 
 -- the line of a reply
 abbrev pub reply_line : Reply → List ℕ
-reply_line (Answered Done) = codes "ok" ++ newline
-reply_line (Answered (Found value)) = codes "value " ++ value ++ newline
-reply_line (Answered Missing) = codes "none" ++ newline
-reply_line (Answered E626) = codes "error 626 tuple did not exist" ++ newline
-reply_line (Answered E630) = codes "error 630 tuple already existed" ++ newline
-reply_line (Committed epoch) = codes "committed " ++ decimal epoch ++ newline
+reply_line reply = reply_text (api_reply reply)
 
 abbrev pub reply_lines : List Reply → List ℕ
 reply_lines [] = []

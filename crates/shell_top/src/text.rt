@@ -1,12 +1,12 @@
 //! The text of replies and faults.
-ghost use Rattle.std.specs.Prelude.{◌≡◌, ◌++◌, OnOk, IfOk, codes, string_bytes};
+ghost use Rattle.std.specs.Prelude.{◌≡◌, ◌++◌, OnOk, IfOk, string_bytes};
 ghost use Rattle.shell_top.specs.declared.ended.Ending.TheVariants.{Refused, TooLong};
-ghost use Rattle.shell_top.specs.Text.{newline, reply_line, fault_line, status_of};
+ghost use Rattle.shell_top.specs.Text.{api_reply, reply_line, fault_line, status_of};
 
 use crate::ended::Ending;
 use crate::parts::api::Reply;
-use script_lang::LineFault;
-use sig_core::{Answer, NoMemory};
+use script_lang::{LineFault, print_reply};
+use sig_core::{ApiReply, NoMemory, Outcome};
 use std::alloc::Global;
 
 /// Adds the line of a reply to a text.
@@ -16,31 +16,23 @@ use std::alloc::Global;
 pub fn put_reply(alloc: Global, reply: &Reply, text: &mut Vec<u8>) -> Result<(), NoMemory>
     ensures { OnOk result (text.new.items ≡ text.old.items ++ reply_line reply.now) }
 {
-    match reply {
-        Reply::Answered(Answer::Done) => text.extend_from_slice(b"ok\n")?,
-        Reply::Answered(Answer::Found(value)) => put_value(value.bytes(), text)?,
-        Reply::Answered(Answer::Missing) => text.extend_from_slice(b"none\n")?,
-        Reply::Answered(Answer::E626) => {
-            text.extend_from_slice(b"error 626 tuple did not exist\n")?;
-        }
-        Reply::Answered(Answer::E630) => {
-            text.extend_from_slice(b"error 630 tuple already existed\n")?;
-        }
-        Reply::Committed(epoch) => {
-            let line = format!(in alloc; "committed {epoch}\n")?;
-            text.extend_from_slice(line.as_bytes())?;
-        }
-    }
-    Ok(())
+    print_reply(alloc, &api_reply(reply), text)
 }
 
-fn put_value(value: &[u8], text: &mut Vec<u8>) -> Result<(), NoMemory>
-    ensures { OnOk result (text.new.items ≡ text.old.items ++ (codes "value " ++ value.now ++ newline)) }
+/// A reply, as the language of scripts has it.
+fn api_reply(reply: &Reply) -> ApiReply
+    ensures { result ≡ api_reply reply.now }
 {
-    text.extend_from_slice(b"value ")?;
-    text.extend_from_slice(value)?;
-    text.extend_from_slice(b"\n")?;
-    Ok(())
+    match reply {
+        Reply::Answered(answer) => ApiReply::Answered {
+            name: None,
+            answer: *answer,
+        },
+        Reply::Committed(epoch) => ApiReply::Ended {
+            name: None,
+            outcome: Outcome::Committed(*epoch),
+        },
+    }
 }
 
 /// The line that is printed last where a session ends so, or nothing.
