@@ -21,13 +21,11 @@ pub fn locks_stay_orderly()
     ensures unwait { (locks : Locks) (key : List ℕ) (tx : TxId) → AreOrderly locks → AreOrderly (kept locks key (unwaited_at locks key tx).lock) }
     ensures unwait_all { (locks : Locks) → AreOrderly locks → AreOrderly (all_unqueued locks) }
     ensures age_round { (locks : Locks) → AreOrderly locks → AreOrderly (round_later locks) }
-{
-}
+{}
 
 /// In orderly locks who waits waits for another: the holder that `ahead` gives, and the one that an
 /// answer `Queued` names, is never the transaction itself.
 pub fn waits_are_for_others()
     ensures ahead { (locks : Locks) (key : List ℕ) (tx : TxId) → AreOrderly locks → IfSome (ahead_at locks key tx) (λ ahead. same_tx ahead tx ≡ false) }
     ensures queued { (locks : Locks) (key : List ℕ) (tx : TxId) (mode : Mode) (ahead : TxId) → AreOrderly locks → (asked_at locks key tx mode).answer ≡ Queued ahead → same_tx ahead tx ≡ false }
-{
-}
+{}
