@@ -282,8 +282,13 @@ raises-aged hs (w ∷ ws) = λ i. test_if (holds w.tx hs) (raises-aged hs ws i) 
 
 pub grown_old_orderly : (lock : RowLock) → IsOrderly lock → IsOrderly (grown_old lock)
 grown_old_orderly lock is =
-    record { held_once = is.held_once; agreed = is.agreed; waiting_once = waiting-aged lock.queue ∙ is.waiting_once; held_up = held_up-aged lock.holders lock.queue ∙ is.held_up;
-      raises_first = raises-aged lock.holders lock.queue ∙ is.raises_first }
+    record {
+      held_once = is.held_once;
+      agreed = is.agreed;
+      waiting_once = waiting-aged lock.queue ∙ is.waiting_once;
+      held_up = held_up-aged lock.holders lock.queue ∙ is.held_up;
+      raises_first = raises-aged lock.holders lock.queue ∙ is.raises_first;
+    }
 
 -- a wait that is raised keeps its transaction, and agrees with no more
 
@@ -418,32 +423,57 @@ anew_at : (lock : RowLock) (tx : TxId) (m : Mode) → IsOrderly lock → holds_e
     → (held agrees quiet : Bool) → holds tx lock.holders ≡ held → agrees_with tx m lock.holders ≡ agrees → is_quiet lock.queue ≡ quiet
     → IsOrderly (asked_anew held agrees quiet lock tx m).lock
 anew_at lock tx m is enough waiting true true quiet h a q =
-    record { held_once = once-hold tx m lock.holders is.held_once; agreed = agreed-hold tx m lock.holders is.agreed a; waiting_once = is.waiting_once;
+    record {
+      held_once = once-hold tx m lock.holders is.held_once;
+      agreed = agreed-hold tx m lock.holders is.agreed a;
+      waiting_once = is.waiting_once;
       held_up = raise_orderly lock tx m is enough waiting h;
-      raises_first = raises-same tx lock.holders (hold tx m lock.holders) (holds-hold tx m lock.holders) lock.queue waiting ∙ is.raises_first }
+      raises_first = raises-same tx lock.holders (hold tx m lock.holders) (holds-hold tx m lock.holders) lock.queue waiting ∙ is.raises_first;
+    }
 anew_at lock tx m is enough waiting true false quiet h a q =
-    record { held_once = is.held_once; agreed = is.agreed; waiting_once = and_from _ _ (ap not waiting) is.waiting_once; held_up = ap not a;
-      raises_first = ap (λ b. test_if b (are_raises_first lock.holders lock.queue) (none_holds lock.holders lock.queue)) h ∙ is.raises_first }
+    record {
+      held_once = is.held_once;
+      agreed = is.agreed;
+      waiting_once = and_from _ _ (ap not waiting) is.waiting_once;
+      held_up = ap not a;
+      raises_first = ap (λ b. test_if b (are_raises_first lock.holders lock.queue) (none_holds lock.holders lock.queue)) h ∙ is.raises_first;
+    }
 anew_at lock tx m is enough waiting false true true h a q =
-    record { held_once = once-hold tx m lock.holders is.held_once; agreed = agreed-hold tx m lock.holders is.agreed a; waiting_once = is.waiting_once;
+    record {
+      held_once = once-hold tx m lock.holders is.held_once;
+      agreed = agreed-hold tx m lock.holders is.agreed a;
+      waiting_once = is.waiting_once;
       held_up = held_up-quiet (hold tx m lock.holders) lock.queue q;
-      raises_first = raises-quiet (hold tx m lock.holders) lock.queue q }
+      raises_first = raises-quiet (hold tx m lock.holders) lock.queue q;
+    }
 anew_at lock tx m is enough waiting false true false h a q =
-    record { held_once = is.held_once; agreed = is.agreed; waiting_once = waiting-end lock.queue (wait_of tx m) is.waiting_once waiting;
+    record {
+      held_once = is.held_once;
+      agreed = is.agreed;
+      waiting_once = waiting-end lock.queue (wait_of tx m) is.waiting_once waiting;
       held_up = held_up-end lock.holders lock.queue (wait_of tx m) is.held_up (λ e. absurd (true≢false (sym e ∙ q)));
-      raises_first = raises-end lock.holders lock.queue (wait_of tx m) h is.raises_first }
+      raises_first = raises-end lock.holders lock.queue (wait_of tx m) h is.raises_first;
+    }
 anew_at lock tx m is enough waiting false false quiet h a q =
-    record { held_once = is.held_once; agreed = is.agreed; waiting_once = waiting-end lock.queue (wait_of tx m) is.waiting_once waiting;
+    record {
+      held_once = is.held_once;
+      agreed = is.agreed;
+      waiting_once = waiting-end lock.queue (wait_of tx m) is.waiting_once waiting;
       held_up = held_up-end lock.holders lock.queue (wait_of tx m) is.held_up (λ e. a);
-      raises_first = raises-end lock.holders lock.queue (wait_of tx m) h is.raises_first }
+      raises_first = raises-end lock.holders lock.queue (wait_of tx m) h is.raises_first;
+    }
 
 asked_at-orderly : (lock : RowLock) (tx : TxId) (m : Mode) → IsOrderly lock → (enough waiting : Bool) → holds_enough tx m lock.holders ≡ enough → waits tx lock.queue ≡ waiting
     → IsOrderly (asked_by enough waiting lock tx m).lock
 asked_at-orderly lock tx m is true waiting e w = is
 asked_at-orderly lock tx m is false true e w =
-    record { held_once = is.held_once; agreed = is.agreed; waiting_once = waiting-raised tx m lock.queue ∙ is.waiting_once;
+    record {
+      held_once = is.held_once;
+      agreed = is.agreed;
+      waiting_once = waiting-raised tx m lock.queue ∙ is.waiting_once;
       held_up = held_up-raised lock.holders tx m lock.queue is.held_up;
-      raises_first = raises-raised lock.holders tx m lock.queue ∙ is.raises_first }
+      raises_first = raises-raised lock.holders tx m lock.queue ∙ is.raises_first;
+    }
 asked_at-orderly lock tx m is false false e w = anew_at lock tx m is e w _ _ _ refl refl refl
 
 pub asked_orderly : (lock : RowLock) (tx : TxId) (mode : Mode) → IsOrderly lock → IsOrderly (asked lock tx mode).lock

@@ -1,7 +1,6 @@
 //! The holders of a lock.
-ghost use Rattle.std.specs.Prelude.{◌≡◌, ◌<◌, ◌≤◌, ◌+◌, length};
+ghost use Rattle.std.specs.Prelude.{◌≡◌, ◌<◌, ◌≤◌, ◌+◌, ◌&&◌, ◌||◌, length};
 ghost use Rattle.std.specs.Vec.{vec_capacity};
-ghost use Rattle.std.specs.Prelude.{◌&&◌, ◌||◌};
 ghost use Rattle.row_locks.specs.Modes.{same_tx, is_enough, agree};
 ghost use Rattle.row_locks.specs.Holders.{others, agrees_with, holds, holds_enough, hold, first_other};
 

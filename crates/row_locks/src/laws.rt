@@ -9,11 +9,11 @@ ghost use Rattle.row_locks.specs.OrderlyTables.{AreOrderly};
 ghost use Rattle.row_locks.specs.Rounds.{all_unqueued, round_later};
 ghost use Rattle.row_locks.specs.Tables.{Locks, ahead_at, asked_at, kept, released_at, unwaited_at};
 
-/// The locks are orderly at first, and each call of `LockTable` leaves them so: of each key, no
-/// transaction holds the lock twice or waits for it twice, all holders agree with one another, and
-/// the first that waits doesn't agree with all other holders, and holders that wait to be raised stand
-/// before other waiters; and no key is there whose lock
-/// nobody holds. The values are those that the calls ensure, each in the clause of its name.
+/// The locks are orderly at first, and each call of `LockTable` leaves them so. Of each key, no
+/// transaction holds the lock twice or waits for it twice, all holders agree with one another, the
+/// first that waits doesn't agree with all other holders, and holders that wait to be raised stand
+/// before other waiters; and no key is there whose lock nobody holds. The values are those that the
+/// calls ensure, each in the clause of its name.
 pub fn locks_stay_orderly()
     ensures new { AreOrderly map.empty }
     ensures request { (locks : Locks) (key : List ℕ) (tx : TxId) (mode : Mode) → AreOrderly locks → AreOrderly (map.insert locks key (asked_at locks key tx mode).lock) }
@@ -21,13 +21,11 @@ pub fn locks_stay_orderly()
     ensures unwait { (locks : Locks) (key : List ℕ) (tx : TxId) → AreOrderly locks → AreOrderly (kept locks key (unwaited_at locks key tx).lock) }
     ensures unwait_all { (locks : Locks) → AreOrderly locks → AreOrderly (all_unqueued locks) }
     ensures age_round { (locks : Locks) → AreOrderly locks → AreOrderly (round_later locks) }
-{
-}
+{}
 
 /// In orderly locks who waits waits for another: the holder that `ahead` gives, and the one that an
 /// answer `Queued` names, is never the transaction itself.
 pub fn waits_are_for_others()
     ensures ahead { (locks : Locks) (key : List ℕ) (tx : TxId) → AreOrderly locks → IfSome (ahead_at locks key tx) (λ ahead. same_tx ahead tx ≡ false) }
     ensures queued { (locks : Locks) (key : List ℕ) (tx : TxId) (mode : Mode) (ahead : TxId) → AreOrderly locks → (asked_at locks key tx mode).answer ≡ Queued ahead → same_tx ahead tx ≡ false }
-{
-}
+{}

@@ -1,9 +1,9 @@
 //! The lock of one row.
 ghost use Rattle.std.specs.Prelude.{◌≡◌, ◌≤◌, ◌+◌, IfOk, OnOk, OnErr, length, slice_get, option_map};
-ghost use Rattle.row_locks.specs.Rows.{unlocked, asked, anew, row_lock, released, unwaited, unqueued, grown_old};
 ghost use Rattle.std.specs.Vec.{vec_capacity};
-ghost use Rattle.row_locks.specs.Tables.{is_idle, ahead_of};
 ghost use Rattle.row_locks.specs.Rounds.{first_expired};
+ghost use Rattle.row_locks.specs.Rows.{unlocked, asked, anew, row_lock, released, unwaited, unqueued, grown_old};
+ghost use Rattle.row_locks.specs.Tables.{is_idle, ahead_of};
 
 use crate::claim::{Holder, Wait};
 use crate::holders::{agrees_with, first_other, hold, holds, holds_enough, let_go};

@@ -1,6 +1,5 @@
 //! The locks of all keys.
-ghost use Rattle.std.specs.Prelude.{◌≡◌, OnOk, OnErr, IfOk};
-ghost use Rattle.std.specs.Prelude.{IsSome, IsNone};
+ghost use Rattle.std.specs.Prelude.{◌≡◌, OnOk, OnErr, IfOk, IsNone};
 ghost use Rattle.std.specs.Ordering.{nat_cmp};
 ghost use Rattle.std.specs.Cmp.Lexicographic.{slice_cmp};
 ghost use Rattle.std.specs.BTreeMap as tree;
@@ -17,7 +16,8 @@ use std::collections::BTreeMap;
 use std::marker::Model;
 
 /// The locks of all keys: who holds each and who waits. A lock is on a key, whether or not there
-/// is a row of that key.
+/// is a row of that key. A call for one key takes a time that is logarithmic in the number of keys,
+/// and linear in that key's holders and waiters: once, and again for each waiter that it grants.
 #[derive(Drop)]
 pub struct LockTable {
     rows: BTreeMap<Key, Row>,
