@@ -8,8 +8,8 @@ use Rattle.std.proofs.lemmas.Bool.Decides.{nat_tests}
 use Rattle.std.proofs.lemmas.List.{append-nil, take-append-drop, take_at}
 use Rattle.shell_top.specs.declared.ended.Ending.{Ending}
 use Rattle.shell_top.specs.declared.ended.Ending.TheVariants as ending
-use Rattle.shell_top.specs.Cluster.{State}
-use Rattle.shell_top.specs.Idle.{idle}
+use Rattle.world_core.specs.Drive.{State}
+use Rattle.world_core.specs.Idle.{idle}
 use Rattle.shell_top.specs.Script.{script_from}
 use Rattle.shell_top.specs.Session.{AppendsPart, is_cut_short, prints_if, Prints, IsSession, IsUnderWay, AreLinesDone}
 use Rattle.shell_top.specs.Text.{fault_line}

@@ -10,15 +10,15 @@ use Rattle.sig_core.specs.declared.op.Answer.TheVariants.{Done}
 use Rattle.sig_core.specs.declared.op.Op.TheVariants as op
 use Rattle.sig_core.specs.Table.{Rows}
 use Rattle.shell_top.specs.declared.ended.Ending.TheVariants as ending
-use Rattle.shell_top.specs.declared.parts.api.Reply.TheVariants.{Answered, Committed}
-use Rattle.shell_top.specs.Cluster.{State, asked, IsQuiet, Reaches, settled}
-use Rattle.shell_top.specs.Idle.{idle, told}
+use Rattle.world_core.specs.declared.api.Reply.TheVariants.{Answered, Committed}
+use Rattle.world_core.specs.Drive.{State, asked, IsQuiet, Reaches, settled}
+use Rattle.world_core.specs.Idle.{idle, told}
 use Rattle.shell_top.specs.Script.{Put}
 use Rattle.shell_top.specs.Session.{AppendsPart, ServesPut, PrintsPut}
 use Rattle.script_lang.specs.ReplyText.{newline}
 use Rattle.shell_top.specs.Text.{answers, reply_lines}
-use Rattle.shell_top.proofs.PutServed.{put_served}
-use Rattle.shell_top.proofs.Settled.{driven}
+use Rattle.world_core.proofs.PutServed.{put_served}
+use Rattle.world_core.proofs.Settled.{driven}
 
 -- the lines of the replies to a put
 lines_told : (put : Put) → reply_lines (Answered Done ∷ Committed 1 ∷ []) ≡ answers (put ∷ [])

@@ -11,8 +11,8 @@ use Rattle.shell_top.specs.declared.ended.Ending.TheVariants as ending
 use Rattle.script_lang.specs.declared.fault.LineFault.{LineFault}
 use Rattle.shell_top.specs.declared.script.Parsed.{Parsed}
 use Rattle.shell_top.specs.declared.script.Parsed.TheVariants as parsed
-use Rattle.shell_top.specs.Cluster.{State}
-use Rattle.shell_top.specs.Idle.{idle}
+use Rattle.world_core.specs.Drive.{State}
+use Rattle.world_core.specs.Idle.{idle}
 use Rattle.shell_top.specs.Parsed.{parsed as parsed_line}
 use Rattle.shell_top.specs.Reader.{Reads, IsPartial, is_newline}
 use Rattle.shell_top.specs.Script.{Put, put_of, Script, nothing_more, ends_with, follow, is_too_long, last_part, script_from}

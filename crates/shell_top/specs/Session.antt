@@ -6,9 +6,9 @@ use Rattle.sig_core.specs.Table.{Rows}
 use Rattle.shell_top.specs.declared.ended.Ending.{Ending}
 use Rattle.shell_top.specs.declared.ended.Ending.TheVariants.{Finished, Words, Refused, ReadFault, WriteFault, NoMemory, TooLong}
 use Rattle.shell_top.specs.declared.session.Session.{Session}
-use Rattle.shell_top.specs.Cluster.{State}
-use Rattle.shell_top.specs.ClusterState.{state_of}
-use Rattle.shell_top.specs.Idle.{idle}
+use Rattle.world_core.specs.Drive.{State}
+use Rattle.world_core.specs.WorldState.{state_of}
+use Rattle.world_core.specs.Idle.{idle}
 use Rattle.shell_top.specs.Script.{Put, Script, script_from}
 use Rattle.shell_top.specs.Text.{answers, fault_line, status_of}
 

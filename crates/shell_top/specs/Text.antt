@@ -6,8 +6,8 @@ use Rattle.sig_core.specs.declared.reply.ApiReply.{ApiReply}
 use Rattle.sig_core.specs.declared.reply.ApiReply.TheVariants as printed
 use Rattle.shell_top.specs.declared.ended.Ending.{Ending}
 use Rattle.shell_top.specs.declared.ended.Ending.TheVariants.{Finished, Words, Refused, ReadFault, WriteFault, NoMemory, TooLong}
-use Rattle.shell_top.specs.declared.parts.api.Reply.{Reply}
-use Rattle.shell_top.specs.declared.parts.api.Reply.TheVariants.{Answered, Committed}
+use Rattle.world_core.specs.declared.api.Reply.{Reply}
+use Rattle.world_core.specs.declared.api.Reply.TheVariants.{Answered, Committed}
 use Rattle.script_lang.specs.Fault.{code_of}
 use Rattle.script_lang.specs.ReplyText.{newline, reply_text}
 use Rattle.shell_top.specs.Script.{Put}

@@ -2,8 +2,8 @@
 ghost use Rattle.std.specs.Prelude.{◌≡◌, ◌≤◌, Some, IfOk, OnOk};
 ghost use Rattle.host_io.specs.Fault.{Rose};
 ghost use Rattle.shell_top.specs.declared.ended.Ending.TheVariants as ending;
-ghost use Rattle.shell_top.specs.ClusterState.{state_of};
-ghost use Rattle.shell_top.specs.Idle.{told};
+ghost use Rattle.world_core.specs.WorldState.{state_of};
+ghost use Rattle.world_core.specs.Idle.{told};
 ghost use Rattle.shell_top.specs.Script.{put_of};
 ghost use Rattle.shell_top.specs.Session.{ServesPut, PrintsPut};
 ghost use Rattle.shell_top.specs.Text.{reply_lines};

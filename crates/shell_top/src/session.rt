@@ -4,8 +4,8 @@ ghost use Rattle.std.specs.FinMap as map;
 ghost use Rattle.std.specs.Io.KnownBytes.{IsAtEnd};
 ghost use Rattle.host_io.specs.Fault.{Rose};
 ghost use Rattle.shell_top.specs.declared.ended.Ending.TheVariants as ending;
-ghost use Rattle.shell_top.specs.ClusterState.{state_of};
-ghost use Rattle.shell_top.specs.Idle.{idle};
+ghost use Rattle.world_core.specs.WorldState.{state_of};
+ghost use Rattle.world_core.specs.Idle.{idle};
 ghost use Rattle.shell_top.specs.Reader.{IsPartial, is_newline};
 ghost use Rattle.shell_top.specs.Session.{GoesOn, GoesToEnd};
 

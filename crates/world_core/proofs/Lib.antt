@@ -1,0 +1,5 @@
+pub mod LinkWeight
+pub mod PutServed
+pub mod SampleRun
+pub mod Settled
+pub mod Weight

@@ -1,0 +1,33 @@
+-- Lives of a session: their logs, and their history.
+use Rattle.std.specs.Prelude.{ℕ, ◌==◌, ◌+◌, if◌then◌else◌, List, [], ◌∷◌, ◌++◌, reverse}
+use Rattle.serial_model.specs.Epoch.{up_to_epoch}
+use Rattle.serial_model.specs.Legal.{rows_of}
+use Rattle.sig_core.specs.declared.entry.Entry.{Entry}
+use Rattle.sig_core.specs.declared.log.HostLog.{HostLog}
+use Rattle.sig_core.specs.declared.log.Life.{Life}
+use Rattle.sig_core.specs.declared.log.LogStep.{LogStep}
+use Rattle.world_core.specs.History.{history}
+use Rattle.world_core.specs.Machine.{hosts}
+use Rattle.world_core.specs.Start.{Start}
+
+-- the log of each host, the newest step first
+abbrev pub logs_in : List HostLog → ℕ → List LogStep
+logs_in [] h = []
+logs_in (log ∷ more) h = if log.host.0 == h then reverse log.steps else logs_in more h
+
+abbrev pub logs_of : Life → ℕ → List LogStep
+logs_of life = logs_in life.logs
+
+-- how a life began: in the epoch behind its start epoch, with its start rows
+abbrev pub start_of : Life → Start
+start_of life = record { epoch = life.start_epoch + 1; rows = rows_of life.start_rows }
+
+-- the history of a life
+abbrev pub life_history : Life → List Entry
+life_history life = history hosts (logs_of life)
+
+-- the history of a session: of each life what its next one restored, and of the last all
+abbrev pub session_history : List Life → List Entry
+session_history [] = []
+session_history (life ∷ []) = life_history life
+session_history (life ∷ next ∷ more) = up_to_epoch next.start_epoch (life_history life) ++ session_history (next ∷ more)
