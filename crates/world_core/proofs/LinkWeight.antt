@@ -4,7 +4,7 @@ use Rattle.std.specs.Prelude.{Option, None, Some, if◌then◌else◌, nat_lt, �
 use Rattle.sig_core.specs.declared.outs.Outgoing.{Outgoing}
 use Rattle.world_core.specs.Blocks.{blocks_row}
 use Rattle.world_core.specs.Drive.{State, IsNext, moved, next, next_by}
-use Rattle.world_core.specs.Network.{Flight, Links, Taken, flight_from, link_at, put, put_all, take_first, taken_at, taken_from}
+use Rattle.world_core.specs.Flights.{Flight, Links, Taken, flight_from, link_at, put, put_all, take_first, taken_at, taken_from}
 use Rattle.world_core.proofs.Weight.{weight, sent_weight, blocks_lighter}
 
 -- what is on a link, and on all, together
@@ -61,10 +61,10 @@ taken_at_weighs links (Some at) taken e = taken_weighs links at (slice_index_or 
 next_by_lighter : (s t : State) (taken : Option Taken) → take_first s.links ≡ taken → next_by s taken ≡ Some t → links_weight t.links + 1 ≤ links_weight s.links
 next_by_lighter s t None is e = cc
 next_by_lighter s t (Some taken) is e =
-    let same : moved taken (blocks_row s.blocks taken.flight.to taken.flight.body) ≡ t = cc in
+    let same : moved taken.left taken.flight.to.node (blocks_row s.blocks taken.flight.to taken.flight.body) ≡ t = cc in
     let weighs = taken_at_weighs s.links (position (λ link. nat_lt 0 (length link)) s.links) taken is in
     let lighter = blocks_lighter s.blocks taken.flight.to taken.flight.body in
-    let less : links_weight (moved taken (blocks_row s.blocks taken.flight.to taken.flight.body)).links + 1 ≤ links_weight s.links =
+    let less : links_weight (moved taken.left taken.flight.to.node (blocks_row s.blocks taken.flight.to taken.flight.body)).links + 1 ≤ links_weight s.links =
     omega (arith, weighs.together, lighter, put_all_weight taken.left taken.flight.to.node (blocks_row s.blocks taken.flight.to taken.flight.body).effects.sends) in
     subst (λ (u : State). links_weight u.links + 1 ≤ links_weight s.links) same less
 

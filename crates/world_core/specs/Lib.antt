@@ -3,6 +3,7 @@ pub mod Blocks
 pub mod Dih
 pub mod Drive
 pub mod Entries
+pub mod Flights
 pub mod History
 pub mod Idle
 pub mod Lives
@@ -21,4 +22,5 @@ pub mod Strict
 pub mod Tc
 pub mod Tx
 pub mod Views
-pub mod WorldState
+pub mod World
+pub mod WorldOf
