@@ -1,4 +1,7 @@
+pub mod KeywordInversion
 pub mod NumberLaws
 pub mod NumberLemmas
+pub mod ReadIsSpelled
+pub mod SpelledIsRead
 pub mod TextLemmas
 pub mod WordCuts
