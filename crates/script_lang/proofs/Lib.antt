@@ -1,4 +1,5 @@
 pub mod KeywordInversion
+pub mod LineOfCommand
 pub mod NumberLaws
 pub mod NumberLemmas
 pub mod ReadIsSpelled

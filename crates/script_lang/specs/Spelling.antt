@@ -120,3 +120,8 @@ abbrev pub SpellingsDiffer : Type 0
 SpellingsDiffer =
     (batch : Bool) (nodes : ℕ) (one other : Command) → nodes < 2 ^ 64
     → IsCommand batch nodes one → IsCommand batch nodes other → spelled one ≡ spelled other → one ≡ other
+
+-- each command that may stand there has a line
+abbrev pub CommandsHaveLines : Type 0
+CommandsHaveLines =
+    (batch : Bool) (nodes : ℕ) (command : Command) → nodes < 2 ^ 64 → IsCommand batch nodes command → parsed_line batch nodes (line_of command) ≡ Ok (Some command)

@@ -1,10 +1,11 @@
 //! How commands are spelled.
-ghost use Rattle.script_lang.specs.Spelling.{LinesAreSpelled, SpellingsAreRead, SpellingsDiffer};
+ghost use Rattle.script_lang.specs.Spelling.{CommandsHaveLines, LinesAreSpelled, SpellingsAreRead, SpellingsDiffer};
 
 /// A law, which does nothing: a line is read as a command exactly where its words are those of the
 /// command, and the command may stand there. No two such commands have the same words.
 pub fn commands_are_their_words()
     ensures read { LinesAreSpelled }
     ensures spelled { SpellingsAreRead }
+    ensures each { CommandsHaveLines }
     ensures one_meaning { SpellingsDiffer }
 {}
