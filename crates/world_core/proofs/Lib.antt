@@ -1,5 +1,12 @@
+pub mod BlockParts
+pub mod LinkIndex
 pub mod LinkWeight
+pub mod LogIndex
+pub mod MoveRight
+pub mod NoRequests
 pub mod PutServed
 pub mod SampleRun
+pub mod SentFacts
 pub mod Settled
+pub mod TakeRight
 pub mod Weight

@@ -15,6 +15,7 @@ pub mod Place
 pub mod Quiet
 pub mod Requests
 pub mod Rest
+pub mod Right
 pub mod Row
 pub mod SerialLaw
 pub mod Start
