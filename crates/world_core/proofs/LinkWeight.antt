@@ -5,16 +5,8 @@ use Rattle.sig_core.specs.declared.outs.Outgoing.{Outgoing}
 use Rattle.world_core.specs.Blocks.{blocks_row}
 use Rattle.world_core.specs.Drive.{State, IsNext, moved, next, next_by}
 use Rattle.world_core.specs.Flights.{Flight, Links, Taken, flight_from, link_at, put, put_all, take_first, taken_at, taken_from}
-use Rattle.world_core.proofs.Weight.{weight, sent_weight, blocks_lighter}
-
--- what is on a link, and on all, together
-abbrev pub link_weight : List Flight → ℕ
-link_weight [] = 0
-link_weight (flight ∷ more) = weight flight.body + link_weight more
-
-abbrev pub links_weight : Links → ℕ
-links_weight [] = 0
-links_weight (link ∷ more) = link_weight link + links_weight more
+use Rattle.world_core.specs.Weight.{link_weight, links_weight, weight}
+use Rattle.world_core.proofs.Weight.{sent_weight, blocks_lighter}
 
 link_weight-push : (link : List Flight) (flight : Flight) → link_weight (link ++ flight ∷ []) ≡ link_weight link + weight flight.body
 link_weight-push [] flight = omega arith
@@ -32,7 +24,7 @@ put_if_weight : (links : Links) (flight : Flight) (b : Bool)
 put_if_weight links flight true = push_weight links (link_at flight) flight
 put_if_weight links flight false = omega arith
 
-put_all_weight : (links : Links) (from : ℕ) (sends : List Outgoing) → links_weight (put_all links from sends) ≤ links_weight links + sent_weight sends
+pub put_all_weight : (links : Links) (from : ℕ) (sends : List Outgoing) → links_weight (put_all links from sends) ≤ links_weight links + sent_weight sends
 put_all_weight links from [] = omega arith
 put_all_weight links from (sent ∷ more) =
     omega (arith, put_all_weight (put links (flight_from from sent)) from more, put_if_weight links (flight_from from sent) (nat_lt sent.to.node 3 && nat_lt from 3))

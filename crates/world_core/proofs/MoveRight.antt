@@ -147,7 +147,7 @@ running start [] = tt
 running start (e ∷ log) = refl
 
 module _ (start : Start) (given : List ApiReply) (w : Whole) (x : Signal) (ready : IsReady start given w x) where
-  logs_are : (k : ℕ) → logs_at (moved w x).logs k ≡ log_with w x k
+  pub logs_are : (k : ℕ) → logs_at (moved w x).logs k ≡ log_with w x k
   logs_are k = go (x.to.node == k) refl
     where
       go : (b : Bool) → (x.to.node == k) ≡ b → logs_at (moved w x).logs k ≡ (if b then step_of w x ∷ logs_at w.logs k else logs_at w.logs k)

@@ -2,6 +2,7 @@ pub mod Api
 pub mod Blocks
 pub mod Dih
 pub mod Drive
+pub mod Driven
 pub mod Entries
 pub mod Flights
 pub mod History
@@ -23,5 +24,6 @@ pub mod Strict
 pub mod Tc
 pub mod Tx
 pub mod Views
+pub mod Weight
 pub mod World
 pub mod WorldOf

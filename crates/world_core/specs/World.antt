@@ -2,6 +2,7 @@
 use Rattle.std.specs.Prelude.{◌≡◌, ◌<◌, ◌^◌, ℕ, ◌+◌, max, List, [], ◌∷◌, ◌++◌, replicate, reverse, slice_index_or, slice_set}
 use Rattle.sig_core.specs.declared.log.HostLog.{HostLog}
 use Rattle.sig_core.specs.declared.log.LogStep.{LogStep}
+use Rattle.sig_core.specs.declared.reply.ApiReply.{ApiReply}
 use Rattle.sig_core.specs.declared.request.ApiReq.{ApiReq}
 use Rattle.sig_core.specs.declared.signal.Signal.{Signal}
 use Rattle.sig_core.specs.Step.{Step}
@@ -75,3 +76,8 @@ new_world =
 -- its blocks, and what is under way: all that decides what happens next
 abbrev pub state_of : Whole → State
 state_of w = record { blocks = w.blocks; links = flights w.links }
+
+-- a world whose API has these replies to give
+abbrev pub with_replies : Whole → List ApiReply → Whole
+with_replies w replies =
+    record w { blocks = record w.blocks { api = record { serving = w.blocks.api.serving; replies = replies } } }

@@ -9,7 +9,7 @@ use crate::logs::Logs;
 use crate::network::{HOSTS, Network};
 use crate::place::{CLIENT, first_view};
 use sig_core::{
-    Actor, ApiReq, Body, HostId, HostSignal, LogStep, Member, NoMemory, Outs, Seq, Signal,
+    Actor, ApiReply, ApiReq, Body, HostId, HostSignal, Life, LogStep, Member, NoMemory, Outs, Seq, Signal,
     Work,
 };
 use std::alloc::Global;
@@ -26,7 +26,12 @@ pub struct World {
 }
 
 impl World {
-    ghost use Rattle.world_core.specs.World.{CanTake, moved, new_world};
+    ghost use Rattle.std.specs.Prelude.{◌++◌, option_to_list, None, []};
+    ghost use Rattle.world_core.specs.Drive.{IsQuiet};
+    ghost use Rattle.world_core.specs.Driven.{HasAsked, HaveGrown, IsDriven, IsSound, IsStepped, latest, latest_to_come};
+    ghost use Rattle.world_core.specs.Lives.{fresh_life};
+    ghost use Rattle.world_core.specs.Start.{fresh};
+    ghost use Rattle.world_core.specs.World.{CanTake, logs_at, moved, new_world, state_of, with_replies};
     ghost use Rattle.world_core.specs.WorldOf.{whole_of};
 
     /// A fresh cluster: nothing has happened, and there are no rows.
@@ -46,6 +51,71 @@ impl World {
             stamps: [0; HOSTS],
             logs,
         })
+    }
+
+    /// Asks the API for something, in a step of host 0.
+    ///
+    /// # Errors
+    /// `NoMemory`, and then nothing is asked, and the world is of use for its logs alone.
+    #[tactic(auto, using(crate::proofs::WorldLemmas::asks))]
+    pub fn ask(&mut self, alloc: Global, request: ApiReq) -> Result<(), NoMemory>
+        requires sound { IsSound fresh (whole_of self.old) }
+        requires clock { latest (whole_of self.old) < 2 ^ 59 }
+        ensures ok { OnOk result (HasAsked fresh request (whole_of self.old) (whole_of self.new)) }
+        ensures err { OnErr result (self.new.logs ≡ self.old.logs) }
+    {
+        let signal = request_signal(self.stamps[0], request);
+        self.handle(alloc, signal)
+    }
+
+    /// Takes steps until nothing is under way.
+    ///
+    /// # Errors
+    /// `NoMemory`, and then the world is of use for its logs alone.
+    pub fn drive(&mut self, alloc: Global) -> Result<(), NoMemory>
+        requires sound { IsSound fresh (whole_of self.old) }
+        requires clock { latest_to_come (whole_of self.old) < 2 ^ 59 }
+        ensures driven { OnOk result (IsDriven fresh (whole_of self.old) (whole_of self.new)) }
+        ensures quiet { OnOk result (IsQuiet (state_of (whole_of self.new))) }
+        ensures err { OnErr result (HaveGrown fresh (logs_at self.old.logs) (logs_at self.new.logs)) }
+    {
+        while self.step(alloc)? {}
+        Ok(())
+    }
+
+    /// Takes the first signal of the first link that has one, and has its block handle it. Says
+    /// whether there was one.
+    #[tactic(auto, using(crate::proofs::WorldLemmas::steps))]
+    fn step(&mut self, alloc: Global) -> Result<bool, NoMemory>
+        requires sound { IsSound fresh (whole_of self.old) }
+        requires clock { latest (whole_of self.old) < 2 ^ 59 }
+        ensures ok { IfOk result (λ went. IsStepped fresh (whole_of self.old) (whole_of self.new) went) }
+        ensures err { OnErr result (self.new.logs ≡ self.old.logs) }
+    {
+        let Some(signal) = self.network.take() else {
+            return Ok(false);
+        };
+        self.handle(alloc, signal)?;
+        Ok(true)
+    }
+
+    /// The next reply of the API, in order, each once.
+    pub fn next_reply(&mut self) -> Option<ApiReply>
+        ensures some { whole_of self.old ≡ with_replies (whole_of self.new) (option_to_list result ++ self.new.blocks.api.replies) }
+        ensures none { result ≡ None → self.old.blocks.api.replies ≡ [] }
+    {
+        self.blocks.api.next_reply()
+    }
+
+    /// What the hosts did, as the only life of a fresh cluster. Takes no memory.
+    pub fn end_life(self, alloc: Global) -> Life
+        ensures { result ≡ fresh_life self.logs }
+    {
+        Life {
+            start_epoch: 0,
+            start_rows: Seq::new(alloc),
+            logs: self.logs.into_seq(),
+        }
     }
 
     /// Has the block that the signal is for handle it, as the next step of its host.
