@@ -14,7 +14,7 @@ fn tx(seq: u64) -> TxId {
 #[test]
 fn two_share_and_an_exclusive_request_waits(rt: HostRuntime) -> Result<(), Fail> {
     let key = Key::new(b"a")?;
-    let mut locks = LockTable::new(rt.alloc());
+    let mut locks = LockTable::new(rt.alloc())?;
     assert_eq!(rt; locks.request(tx(1), &key, Mode::Shared)?, Lock::Granted);
     assert_eq!(rt; locks.request(tx(2), &key, Mode::Shared)?, Lock::Granted);
     assert_eq!(rt; locks.request(tx(2), &key, Mode::Shared)?, Lock::Granted);
@@ -42,7 +42,7 @@ fn two_share_and_an_exclusive_request_waits(rt: HostRuntime) -> Result<(), Fail>
 #[test]
 fn a_raise_is_granted_at_once_or_stands_first(rt: HostRuntime) -> Result<(), Fail> {
     let key = Key::new(b"a")?;
-    let mut locks = LockTable::new(rt.alloc());
+    let mut locks = LockTable::new(rt.alloc())?;
     locks.request(tx(1), &key, Mode::Shared)?;
     assert_eq!(rt; locks.request(tx(1), &key, Mode::Exclusive)?, Lock::Granted);
     assert_eq!(rt;
@@ -72,7 +72,7 @@ fn a_raise_is_granted_at_once_or_stands_first(rt: HostRuntime) -> Result<(), Fai
 #[test]
 fn who_waits_no_more_keeps_what_it_holds(rt: HostRuntime) -> Result<(), Fail> {
     let key = Key::new(b"a")?;
-    let mut locks = LockTable::new(rt.alloc());
+    let mut locks = LockTable::new(rt.alloc())?;
     locks.request(tx(1), &key, Mode::Shared)?;
     locks.request(tx(2), &key, Mode::Shared)?;
     locks.request(tx(1), &key, Mode::Exclusive)?;
@@ -99,7 +99,7 @@ fn waits_age_to_eight_rounds(rt: HostRuntime) -> Result<(), Fail> {
         start: 0,
         seq: 1,
     };
-    let mut locks = LockTable::new(rt.alloc());
+    let mut locks = LockTable::new(rt.alloc())?;
     for key in &[two, one] {
         locks.request(tx(1), key, Mode::Exclusive)?;
         locks.request(copying, key, Mode::Shared)?;
@@ -110,10 +110,10 @@ fn waits_age_to_eight_rounds(rt: HostRuntime) -> Result<(), Fail> {
     }
     assert_eq!(rt; locks.expired(), None);
     locks.age_round();
-    assert_eq!(rt; locks.expired(), Some((tx(2), one)));
+    assert_eq!(rt; locks.expired(), Some((tx(2), &one)));
     locks.age_round();
     locks.unwait(tx(2), &one);
-    assert_eq!(rt; locks.expired(), Some((tx(2), two)));
+    assert_eq!(rt; locks.expired(), Some((tx(2), &two)));
     locks.unwait(tx(2), &two);
     assert_eq!(rt; locks.expired(), None);
     Ok(())
