@@ -1,6 +1,10 @@
 pub mod AheadLemmas
 pub mod LocksLemmas
+pub mod NeedLemmas
+pub mod OrderlyLemmas
 pub mod QueueLemmas
 pub mod RoundLemmas
-pub mod OrderlyLemmas
+pub mod ServingLemmas
 pub mod TableLawLemmas
+pub mod TxLemmas
+pub mod WithinLemmas
