@@ -1,9 +1,11 @@
 pub mod AheadLemmas
+pub mod GoneLemmas
 pub mod LocksLemmas
 pub mod NeedLemmas
 pub mod OrderlyLemmas
 pub mod QueueLemmas
 pub mod RoundLemmas
+pub mod RowLemmas
 pub mod ServingLemmas
 pub mod TableLawLemmas
 pub mod TxLemmas

@@ -9,7 +9,7 @@ use Rattle.row_locks.specs.declared.claim.Wait.{Wait}
 use Rattle.row_locks.specs.Modes.{same_tx, agree, stronger}
 use Rattle.row_locks.specs.Holders.{unless_gone, others, agrees_with, holds, holds_enough, holder_of, hold}
 use Rattle.row_locks.specs.Queues.{waits, without, wait_of, raised, raised_if, aged_all}
-use Rattle.row_locks.specs.Rows.{RowLock, served, served_if, asked, asked_by, asked_anew, is_quiet, released, unwaited, unqueued, grown_old}
+use Rattle.row_locks.specs.Rows.{RowLock, served, served_if, asked, asked_by, asked_anew, anew, is_quiet, released, unwaited, unqueued, grown_old}
 use Rattle.row_locks.specs.Orderly.{IsOrderly, are_held_once, are_agreed, are_waiting_once, is_first_held_up, none_holds, are_raises_first, test_if, none_has_enough, are_within_rounds}
 use Rattle.row_locks.proofs.TxLemmas.{or_none, or_parts, same_tx-swap, same_tx-is, apart_too}
 use Rattle.row_locks.proofs.NeedLemmas.{enough_shared, need-others, need-hold, need-without, need-aged, need-raised, need-end, need-quiet}
@@ -125,7 +125,7 @@ waiting_at : (w : Wait) (rest : List Wait) (b : Bool) → waits w.tx rest ≡ fa
 waiting_at w rest true n r = r
 waiting_at w rest false n r = and_from _ _ (ap not n) r
 
-waiting-without : (tx : TxId) (ws : List Wait) → are_waiting_once ws ≡ true → are_waiting_once (without tx ws) ≡ true
+pub waiting-without : (tx : TxId) (ws : List Wait) → are_waiting_once ws ≡ true → are_waiting_once (without tx ws) ≡ true
 waiting-without tx [] o = refl
 waiting-without tx (w ∷ ws) o =
     let parts = and_parts (not (waits w.tx ws)) (are_waiting_once ws) o in
@@ -205,7 +205,7 @@ gone_at : (tx : TxId) (w : Wait) (rest : List Wait) (b : Bool) → same_tx w.tx 
 gone_at tx w rest true e r = r
 gone_at tx w rest false e r = or_none _ _ e r
 
-gone-without : (tx : TxId) (ws : List Wait) → waits tx (without tx ws) ≡ false
+pub gone-without : (tx : TxId) (ws : List Wait) → waits tx (without tx ws) ≡ false
 gone-without tx [] = refl
 gone-without tx (w ∷ ws) = gone_at tx w (without tx ws) (same_tx w.tx tx) refl (gone-without tx ws)
 
@@ -450,7 +450,10 @@ anew_at lock tx m is enough waiting false false quiet h a q =
       within_rounds = within-end lock.queue (wait_of tx m) refl is.within_rounds;
     }
 
-asked_at-orderly : (lock : RowLock) (tx : TxId) (m : Mode) → IsOrderly lock → (enough waiting : Bool) → holds_enough tx m lock.holders ≡ enough → waits tx lock.queue ≡ waiting
+pub anew_orderly : (lock : RowLock) (tx : TxId) (m : Mode) → IsOrderly lock → holds_enough tx m lock.holders ≡ false → waits tx lock.queue ≡ false → IsOrderly (anew lock tx m).lock
+anew_orderly lock tx m is enough waiting = anew_at lock tx m is enough waiting _ _ _ refl refl refl
+
+pub asked_at-orderly : (lock : RowLock) (tx : TxId) (m : Mode) → IsOrderly lock → (enough waiting : Bool) → holds_enough tx m lock.holders ≡ enough → waits tx lock.queue ≡ waiting
     → IsOrderly (asked_by enough waiting lock tx m).lock
 asked_at-orderly lock tx m is true waiting e w = is
 asked_at-orderly lock tx m is false true e w =
@@ -463,7 +466,7 @@ asked_at-orderly lock tx m is false true e w =
       in_need = need-raised lock.holders tx m lock.queue e is.in_need;
       within_rounds = within-raised tx m lock.queue ∙ is.within_rounds;
     }
-asked_at-orderly lock tx m is false false e w = anew_at lock tx m is e w _ _ _ refl refl refl
+asked_at-orderly lock tx m is false false e w = anew_orderly lock tx m is e w
 
 pub asked_orderly : (lock : RowLock) (tx : TxId) (mode : Mode) → IsOrderly lock → IsOrderly (asked lock tx mode).lock
 asked_orderly lock tx mode is = asked_at-orderly lock tx mode is _ _ refl refl

@@ -7,6 +7,7 @@ mod laws;
 mod mode;
 mod queue;
 mod row;
+mod serving;
 mod table;
 
 pub use laws::{locks_stay_orderly, waits_are_for_others};

@@ -17,7 +17,7 @@ use std::marker::Model;
 
 /// The locks of all keys: who holds each and who waits. A lock is on a key, whether or not there
 /// is a row of that key. A call for one key takes a time that is logarithmic in the number of keys,
-/// and linear in that key's holders and waiters: once, and again for each waiter that it grants.
+/// and linear in that key's holders and waiters.
 #[derive(Drop)]
 pub struct LockTable {
     rows: BTreeMap<Key, Row>,
