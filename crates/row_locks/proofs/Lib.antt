@@ -1,5 +1,6 @@
 pub mod AheadLemmas
 pub mod GoneLemmas
+pub mod GrantedLemmas
 pub mod LocksLemmas
 pub mod NeedLemmas
 pub mod OrderlyLemmas
