@@ -1,6 +1,6 @@
 -- Who is granted the lock stood first in the queue, and is among the last holders.
-use Rattle.std.proofs.Common.{◌≡◌, ℕ, ◌+◌, ◌-◌, ◌≤◌, zero, suc, Bool, true, false, not, ◌&&◌, ◌||◌, List, [], ◌∷◌, ◌++◌, length, map, take, drop, refl, ap, sym, ◌∙◌, arith, append_assoc, append-nil, add-zero}
-use Rattle.std.proofs.lemmas.Bool.{and_parts, not-true}
+use Rattle.std.proofs.Common.{◌≡◌, ℕ, ◌+◌, ◌-◌, ◌≤◌, zero, suc, Bool, true, false, not, List, [], ◌∷◌, ◌++◌, length, map, take, drop, refl, ap, sym, ◌∙◌, arith, append_assoc, append-nil, add-zero}
+use Rattle.std.proofs.lemmas.Bool.{and_parts, not-true, or_parts, or_from}
 use Rattle.std.proofs.lemmas.List.{length-append, length-map, length-take-le, drop_at}
 use Rattle.sig_core.specs.declared.member.TxId.{TxId}
 use Rattle.row_locks.specs.declared.claim.Holder.{Holder}
@@ -13,7 +13,7 @@ use Rattle.row_locks.specs.Orderly.{are_waiting_once}
 use Rattle.row_locks.specs.OrderlyTables.{AreOrderly}
 use Rattle.row_locks.specs.Serving.{granted_to, last, GrantsFirst}
 use Rattle.row_locks.specs.Tables.{Locks, lock_at, released_at, unwaited_at}
-use Rattle.row_locks.proofs.TxLemmas.{or_none, or_parts, same_tx-swap}
+use Rattle.row_locks.proofs.TxLemmas.{same_tx-swap}
 use Rattle.row_locks.proofs.OrderlyLemmas.{waiting-without}
 
 -- the holders that don't wait in this queue
@@ -40,7 +40,7 @@ waits-take u zero ws e = refl
 waits-take u (suc n) [] e = refl
 waits-take u (suc n) (w ∷ ws) e =
     let parts = or_parts (same_tx w.tx u) (waits u ws) e in
-    or_none _ _ parts.0 (waits-take u n ws parts.1)
+    or_from _ _ parts.0 (waits-take u n ws parts.1)
 
 -- the first n in the queue were granted, after `granted` others
 record HasGranted (n granted : ℕ) (hs : List Holder) (ws : List Wait) (after : Served) : Type 0 where

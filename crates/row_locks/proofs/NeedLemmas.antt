@@ -1,6 +1,6 @@
 -- Who waits doesn't hold what it waits for: each call keeps that.
 use Rattle.std.proofs.Common.{◌≡◌, Bool, true, false, not, ◌&&◌, ◌||◌, List, [], ◌∷◌, ◌++◌, refl, ap, sym, ◌∙◌}
-use Rattle.std.proofs.lemmas.Bool.{true≢false, and_parts, and_from, not-true}
+use Rattle.std.proofs.lemmas.Bool.{true≢false, and_parts, and_from, not-true, or_parts}
 use Rattle.sig_core.specs.declared.member.TxId.{TxId}
 use Rattle.row_locks.specs.declared.mode.Mode.{Mode}
 use Rattle.row_locks.specs.declared.mode.Mode.TheVariants.{Shared, Exclusive}
@@ -11,7 +11,7 @@ use Rattle.row_locks.specs.Holders.{unless_gone, others, holds, holds_enough, ho
 use Rattle.row_locks.specs.Queues.{waits, without, raised, raised_if, aged_all}
 use Rattle.row_locks.specs.Rows.{is_quiet}
 use Rattle.row_locks.specs.Orderly.{none_has_enough}
-use Rattle.row_locks.proofs.TxLemmas.{or_none, or_parts, same_tx-swap, same_tx-is, apart_too}
+use Rattle.row_locks.proofs.TxLemmas.{same_tx-swap, same_tx-is, apart_too}
 
 -- who holds a lock has what a shared request asks
 

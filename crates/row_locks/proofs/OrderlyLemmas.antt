@@ -1,6 +1,6 @@
 -- Each call leaves the lock of a row orderly.
 use Rattle.std.proofs.Common.{◌≡◌, ℕ, ◌+◌, Bool, true, false, not, ◌&&◌, ◌||◌, nat_lt, List, [], ◌∷◌, ◌++◌, refl, ap, sym, ◌∙◌}
-use Rattle.std.proofs.lemmas.Bool.{true≢false, and_parts, and_from, not-true}
+use Rattle.std.proofs.lemmas.Bool.{true≢false, and_parts, and_from, not-true, or_parts, or_from}
 use Rattle.sig_core.specs.declared.member.TxId.{TxId}
 use Rattle.row_locks.specs.declared.mode.Mode.{Mode}
 use Rattle.row_locks.specs.declared.mode.Mode.TheVariants.{Shared, Exclusive}
@@ -11,7 +11,7 @@ use Rattle.row_locks.specs.Holders.{unless_gone, others, agrees_with, holds, hol
 use Rattle.row_locks.specs.Queues.{waits, without, wait_of, raised, raised_if, aged_all}
 use Rattle.row_locks.specs.Rows.{RowLock, served, served_if, asked, asked_by, asked_anew, anew, is_quiet, released, unwaited, unqueued, grown_old}
 use Rattle.row_locks.specs.Orderly.{IsOrderly, are_held_once, are_agreed, are_waiting_once, is_first_held_up, none_holds, are_raises_first, test_if, none_has_enough, are_within_rounds}
-use Rattle.row_locks.proofs.TxLemmas.{or_none, or_parts, same_tx-swap, same_tx-is, apart_too}
+use Rattle.row_locks.proofs.TxLemmas.{same_tx-swap, apart_too}
 use Rattle.row_locks.proofs.NeedLemmas.{enough_shared, need-others, need-hold, need-without, need-aged, need-raised, need-end, need-quiet}
 use Rattle.row_locks.proofs.WithinLemmas.{within-without, within-aged, within-raised, within-end}
 
@@ -29,11 +29,11 @@ not_held-others tx (h ∷ hs) = at (same_tx h.tx tx) refl (not_held-others tx hs
   where
     at : (b : Bool) → same_tx h.tx tx ≡ b → holds tx (others tx hs) ≡ false → holds tx (unless_gone b h (others tx hs)) ≡ false
     at true e r = r
-    at false e r = or_none (same_tx h.tx tx) (holds tx (others tx hs)) e r
+    at false e r = or_from (same_tx h.tx tx) (holds tx (others tx hs)) e r
 
 unheld_at : (u : TxId) (h : Holder) (rest : List Holder) (b : Bool) → same_tx h.tx u ≡ false → holds u rest ≡ false → holds u (unless_gone b h rest) ≡ false
 unheld_at u h rest true e r = r
-unheld_at u h rest false e r = or_none (same_tx h.tx u) (holds u rest) e r
+unheld_at u h rest false e r = or_from (same_tx h.tx u) (holds u rest) e r
 
 unheld-others : (u tx : TxId) (hs : List Holder) → holds u hs ≡ false → holds u (others tx hs) ≡ false
 unheld-others u tx [] n = refl
@@ -75,10 +75,10 @@ agreed-others tx (h ∷ hs) a =
 -- one holder more, at the end
 
 holds-end : (u : TxId) (hs : List Holder) (h : Holder) → holds u hs ≡ false → same_tx h.tx u ≡ false → holds u (hs ++ h ∷ []) ≡ false
-holds-end u [] h n e = or_none _ _ e refl
+holds-end u [] h n e = or_from _ _ e refl
 holds-end u (x ∷ hs) h n e =
     let parts = or_parts (same_tx x.tx u) (holds u hs) n in
-    or_none _ _ parts.0 (holds-end u hs h parts.1 e)
+    or_from _ _ parts.0 (holds-end u hs h parts.1 e)
 
 once-end : (hs : List Holder) (h : Holder) → are_held_once hs ≡ true → holds h.tx hs ≡ false → are_held_once (hs ++ h ∷ []) ≡ true
 once-end [] h o n = refl
@@ -113,7 +113,7 @@ agreed-hold tx m hs a e = agreed-end (others tx hs) (holder_of tx m) (agreed-oth
 
 unwaiting_at : (u : TxId) (w : Wait) (rest : List Wait) (b : Bool) → same_tx w.tx u ≡ false → waits u rest ≡ false → waits u (unless_gone b w rest) ≡ false
 unwaiting_at u w rest true e r = r
-unwaiting_at u w rest false e r = or_none _ _ e r
+unwaiting_at u w rest false e r = or_from _ _ e r
 
 unwaiting-without : (u tx : TxId) (ws : List Wait) → waits u ws ≡ false → waits u (without tx ws) ≡ false
 unwaiting-without u tx [] n = refl
@@ -143,7 +143,7 @@ holds-others u tx [] apart = refl
 holds-others u tx (h ∷ hs) apart = holds_others_at u tx h hs (others tx hs) (same_tx h.tx tx) refl apart (holds-others u tx hs apart)
 
 holds-last : (u : TxId) (hs : List Holder) (h : Holder) → same_tx h.tx u ≡ false → holds u (hs ++ h ∷ []) ≡ holds u hs
-holds-last u [] h e = or_none (same_tx h.tx u) false e refl
+holds-last u [] h e = or_from (same_tx h.tx u) false e refl
 holds-last u (x ∷ hs) h e = ap (λ b. same_tx x.tx u || b) (holds-last u hs h e)
 
 holds-hold : (tx : TxId) (m : Mode) (hs : List Holder) (u : TxId) → same_tx tx u ≡ false → holds u (hold tx m hs) ≡ holds u hs
@@ -203,7 +203,7 @@ raises-without hs tx (w ∷ ws) r =
 
 gone_at : (tx : TxId) (w : Wait) (rest : List Wait) (b : Bool) → same_tx w.tx tx ≡ b → waits tx rest ≡ false → waits tx (unless_gone b w rest) ≡ false
 gone_at tx w rest true e r = r
-gone_at tx w rest false e r = or_none _ _ e r
+gone_at tx w rest false e r = or_from _ _ e r
 
 pub gone-without : (tx : TxId) (ws : List Wait) → waits tx (without tx ws) ≡ false
 gone-without tx [] = refl
@@ -337,10 +337,10 @@ held_up-raised hs tx m (w ∷ ws) n = held_up_at hs (same_tx w.tx tx) m w n
 -- one waiter more, at the end
 
 waits-end : (u : TxId) (ws : List Wait) (w : Wait) → waits u ws ≡ false → same_tx w.tx u ≡ false → waits u (ws ++ w ∷ []) ≡ false
-waits-end u [] w n e = or_none _ _ e refl
+waits-end u [] w n e = or_from _ _ e refl
 waits-end u (x ∷ ws) w n e =
     let parts = or_parts (same_tx x.tx u) (waits u ws) n in
-    or_none _ _ parts.0 (waits-end u ws w parts.1 e)
+    or_from _ _ parts.0 (waits-end u ws w parts.1 e)
 
 waiting-end : (ws : List Wait) (w : Wait) → are_waiting_once ws ≡ true → waits w.tx ws ≡ false → are_waiting_once (ws ++ w ∷ []) ≡ true
 waiting-end [] w o n = refl
@@ -370,7 +370,7 @@ held_up-more hs x ws w n = n
 
 -- who is first doesn't agree with a transaction that is raised to exclusive
 
-agrees-last : (u : TxId) (m : Mode) (hs : List Holder) (h : Holder) → agrees_with u m (hs ++ h ∷ []) ≡ true → (same_tx h.tx u || agree h.mode m) ≡ true
+pub agrees-last : (u : TxId) (m : Mode) (hs : List Holder) (h : Holder) → agrees_with u m (hs ++ h ∷ []) ≡ true → (same_tx h.tx u || agree h.mode m) ≡ true
 agrees-last u m [] h e = (and_parts (same_tx h.tx u || agree h.mode m) true e).0
 agrees-last u m (x ∷ hs) h e = agrees-last u m hs h (and_parts (same_tx x.tx u || agree x.mode m) (agrees_with u m (hs ++ h ∷ [])) e).1
 
@@ -379,7 +379,7 @@ held_up-exclusive tx hs [] n = refl
 held_up-exclusive tx hs (w ∷ ws) n =
     let apart : same_tx tx w.tx ≡ false = same_tx-swap tx w.tx ∙ (or_parts (same_tx w.tx tx) (waits tx ws) n).0 in
     not_from (agrees_with w.tx w.mode (hold tx Exclusive hs))
-    (λ e. true≢false (sym (agrees-last w.tx w.mode (others tx hs) (holder_of tx Exclusive) e) ∙ or_none (same_tx tx w.tx) false apart refl))
+    (λ e. true≢false (sym (agrees-last w.tx w.mode (others tx hs) (holder_of tx Exclusive) e) ∙ or_from (same_tx tx w.tx) false apart refl))
 
 raise_orderly : (lock : RowLock) (tx : TxId) (m : Mode) → IsOrderly lock → holds_enough tx m lock.holders ≡ false → waits tx lock.queue ≡ false → holds tx lock.holders ≡ true
     → is_first_held_up (hold tx m lock.holders) lock.queue ≡ true

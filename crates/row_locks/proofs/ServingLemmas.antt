@@ -1,6 +1,6 @@
 -- A queue is served at once: one exclusive request, or the shared requests that stand first.
-use Rattle.std.proofs.Common.{◌≡◌, ℕ, ◌+◌, ◌<◌, suc, Bool, true, false, not, ◌&&◌, ◌||◌, cond, List, [], ◌∷◌, ◌++◌, length, map, take, drop, get_or, remove, refl, ap, sym, ◌∙◌, arith, append_assoc, append-nil, add-zero, one-add, lt_irrefl}
-use Rattle.std.proofs.lemmas.Bool.{true≢false, and_parts, and_from, not-true, or_from, or_right, false_from_ne_true}
+use Rattle.std.proofs.Common.{◌≡◌, ℕ, ◌+◌, ◌<◌, suc, Bool, true, false, not, ◌&&◌, ◌||◌, List, [], ◌∷◌, ◌++◌, length, map, take, drop, get_or, remove, refl, ap, sym, ◌∙◌, arith, append_assoc, append-nil, add-zero, lt_irrefl}
+use Rattle.std.proofs.lemmas.Bool.{true≢false, and_parts, and_from, not-true, or_from, or_right, false_from_ne_true, or_parts}
 use Rattle.sig_core.specs.declared.member.TxId.{TxId}
 use Rattle.row_locks.specs.declared.mode.Mode.{Mode}
 use Rattle.row_locks.specs.declared.mode.Mode.TheVariants.{Shared, Exclusive}
@@ -12,8 +12,9 @@ use Rattle.row_locks.specs.Queues.{waits}
 use Rattle.row_locks.specs.Rows.{Served, served, served_if}
 use Rattle.row_locks.specs.Orderly.{are_waiting_once, none_has_enough}
 use Rattle.row_locks.specs.Serving.{granted_to, shared_run}
-use Rattle.row_locks.proofs.TxLemmas.{or_parts, same_tx-swap}
+use Rattle.row_locks.proofs.TxLemmas.{same_tx-swap}
 use Rattle.row_locks.proofs.NeedLemmas.{enough_shared, need-last}
+use Rattle.row_locks.proofs.OrderlyLemmas.{agrees-last}
 
 -- every holder holds the lock shared
 abbrev all_shared : List Holder → Bool
@@ -28,17 +29,13 @@ agree-exclusive : (m : Mode) → agree m Exclusive ≡ false
 agree-exclusive Shared = refl
 agree-exclusive Exclusive = refl
 
-or_rest : (a b : Bool) → a ≡ false → (a || b) ≡ true → b ≡ true
-or_rest true b p e = absurd (true≢false p)
-or_rest false b p e = e
-
 -- whoever holds nothing agrees with all holders, to share the lock, only where all share it
 shared_from : (u : TxId) (hs : List Holder) → holds u hs ≡ false → agrees_with u Shared hs ≡ true → all_shared hs ≡ true
 shared_from u [] n a = refl
 shared_from u (h ∷ hs) n a =
     let apart = or_parts (same_tx h.tx u) (holds u hs) n in
     let agreed = and_parts (same_tx h.tx u || agree h.mode Shared) (agrees_with u Shared hs) a in
-    and_from _ _ (sym (agree-shared h.mode) ∙ or_rest (same_tx h.tx u) (agree h.mode Shared) apart.0 agreed.0) (shared_from u hs apart.1 agreed.1)
+    and_from _ _ (sym (agree-shared h.mode) ∙ sym (ap (λ b. b || agree h.mode Shared) apart.0) ∙ agreed.0) (shared_from u hs apart.1 agreed.1)
 
 agrees_from : (u : TxId) (hs : List Holder) → all_shared hs ≡ true → agrees_with u Shared hs ≡ true
 agrees_from u [] s = refl
@@ -57,10 +54,6 @@ others-unheld u [] n = refl
 others-unheld u (h ∷ hs) n =
     let parts = or_parts (same_tx h.tx u) (holds u hs) n in
     ap (λ b. unless_gone b h (others u hs)) parts.0 ∙ ap (λ xs. h ∷ xs) (others-unheld u hs parts.1)
-
-agrees-last : (u : TxId) (m : Mode) (hs : List Holder) (h : Holder) → agrees_with u m (hs ++ h ∷ []) ≡ true → (same_tx h.tx u || agree h.mode m) ≡ true
-agrees-last u m [] h e = (and_parts (same_tx h.tx u || agree h.mode m) true e).0
-agrees-last u m (x ∷ hs) h e = agrees-last u m hs h (and_parts (same_tx x.tx u || agree x.mode m) (agrees_with u m (hs ++ h ∷ [])) e).1
 
 -- who doesn't agree with the last holder doesn't agree with all
 disagrees-last : (u : TxId) (m : Mode) (hs : List Holder) (h : Holder) → same_tx h.tx u ≡ false → agree h.mode m ≡ false → agrees_with u m (hs ++ h ∷ []) ≡ false

@@ -1,16 +1,9 @@
 -- Which transaction is which.
-use Rattle.std.proofs.Common.{◌≡◌, ℕ, Bool, true, false, ◌&&◌, ◌||◌, nat_eq, refl, ap, ◌∙◌}
-use Rattle.std.proofs.lemmas.Bool.{true≢false, and_parts, eqb-true}
+use Rattle.std.proofs.Common.{◌≡◌, ℕ, Bool, true, false, ◌&&◌, nat_eq, ap, ◌∙◌}
+use Rattle.std.proofs.lemmas.Bool.{and_parts, eqb-true}
 use Rattle.std.specs.Cmp.{nat_eq_equiv}
 use Rattle.sig_core.specs.declared.member.TxId.{TxId}
 use Rattle.row_locks.specs.Modes.{same_tx}
-
-pub or_none : (a b : Bool) → a ≡ false → b ≡ false → (a || b) ≡ false
-or_none a b p q = ap (λ x. x || b) p ∙ q
-
-pub or_parts : (a b : Bool) → (a || b) ≡ false → (a ≡ false) × (b ≡ false)
-or_parts true b e = absurd (true≢false e)
-or_parts false b e = (refl, e)
 
 and_swap : (a b c x y z : Bool) → a ≡ x → b ≡ y → c ≡ z → (a && (b && c)) ≡ (x && (y && z))
 and_swap a b c x y z p q r = λ i. p i && (q i && r i)
