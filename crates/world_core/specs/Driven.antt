@@ -53,5 +53,5 @@ pub record HasAsked (start : Start) (request : ApiReq) (w t : Whole) : Type 0 wh
 
 -- a step was taken, or nothing was under way and nothing has changed
 abbrev pub IsStepped : Start → Whole → Whole → Bool → Type 0
-IsStepped start w t true = IsDriven start w t
+IsStepped start w t true = IsDriven start w t × (links_weight (state_of t).links < links_weight (state_of w).links)
 IsStepped start w t false = (t ≡ w) × IsQuiet (state_of w)

@@ -1,22 +1,15 @@
-use Rattle.std.proofs.Common.{rules, ◌≡◌, ◌<◌, ◌^◌, IfOk, OnOk, OnErr, slice_index_or, slice_set, ◌++◌, option_to_list, None, [], ℕ, ◌+◌, ◌-◌, ◌*◌, ◌≤◌, length, ◌/◌, ◌%◌, Bool, true, false, nat_eq, nat_lt, List, ◌∷◌, bit_and, bit_or, Fits, w8, w32, w64, Bor, MutBor}
-use Rattle.world_core.specs.Machine.{request_signal}
-use Rattle.world_core.specs.Network.{put_all}
-use Rattle.world_core.specs.World.{next_stamp, CanTake, logs_at, moved, new_world, state_of, with_replies}
-use Rattle.world_core.specs.Drive.{IsQuiet}
-use Rattle.world_core.specs.Driven.{HasAsked, HaveGrown, IsDriven, IsSound, IsStepped, latest, latest_to_come}
-use Rattle.world_core.specs.Lives.{fresh_life}
 use Rattle.world_core.specs.Start.{fresh}
 use Rattle.world_core.specs.WorldOf.{whole_of}
+use Rattle.world_core.proofs.WorldLemmas.{driven_itself, stays_sound, stepped_further, stepped_lighter}
 use Rattle.world_core.proofs.world.World.drive.Goals as goal
 
--- src/world.rt:82:9
 pub loop-init : goal.loop-init
-loop-init c = ?
+loop-init c = (driven_itself fresh (whole_of c.args.self.now) c.requires.sound, c.requires.sound)
 
--- src/world.rt:82:9
 pub loop-smaller : goal.loop-smaller
-loop-smaller c = ?
+loop-smaller c = stepped_lighter fresh (whole_of c.loop.self) (whole_of c.step.new.self) c.in_ok-step.field-0 c.if-branch.true c.in_ok-step.ensures.ok
 
--- src/world.rt:82:9
 pub loop-preserved : goal.loop-preserved
-loop-preserved c = ?
+loop-preserved c =
+    let driven = stepped_further fresh (whole_of c.args.self.now) (whole_of c.loop.self) (whole_of c.step.new.self) c.in_ok-step.field-0 c.if-branch.true c.loop.invariant.0 c.in_ok-step.ensures.ok in
+    (driven, stays_sound fresh (whole_of c.args.self.now) (whole_of c.step.new.self) driven c.requires.sound)

@@ -1,22 +1,15 @@
-use Rattle.std.proofs.Common.{rules, ◌≡◌, ◌<◌, ◌^◌, IfOk, OnOk, OnErr, slice_index_or, slice_set, ◌++◌, option_to_list, None, [], ℕ, ◌+◌, ◌-◌, ◌*◌, ◌≤◌, length, ◌/◌, ◌%◌, Bool, true, false, nat_eq, nat_lt, List, ◌∷◌, bit_and, bit_or, Fits, w8, w32, w64, Bor, MutBor}
-use Rattle.world_core.specs.Machine.{request_signal}
-use Rattle.world_core.specs.Network.{put_all}
-use Rattle.world_core.specs.World.{next_stamp, CanTake, logs_at, moved, new_world, state_of, with_replies}
-use Rattle.world_core.specs.Drive.{IsQuiet}
-use Rattle.world_core.specs.Driven.{HasAsked, HaveGrown, IsDriven, IsSound, IsStepped, latest, latest_to_come}
-use Rattle.world_core.specs.Lives.{fresh_life}
-use Rattle.world_core.specs.Start.{fresh}
+use Rattle.std.proofs.Common.{ap}
 use Rattle.world_core.specs.WorldOf.{whole_of}
+use Rattle.world_core.proofs.TakeRight.{left_of}
+use Rattle.world_core.proofs.WorldLemmas.{can_take, has_stayed, has_stepped}
 use Rattle.world_core.proofs.world.World.step.Goals as goal
 
--- src/world.rt:96:13
 pub returns-in_default-clause-ok : goal.returns-in_default-clause-ok
-returns-in_default-clause-ok c = ?
+returns-in_default-clause-ok c = has_stayed (whole_of c.args.self.now) _ c.in_default.ensures.none (ap (left_of (whole_of c.args.self.now)) c.in_default.ensures.kept)
 
--- src/world.rt:98:9
 pub handle-requires : goal.handle-requires
-handle-requires c = ?
+handle-requires c = can_take (whole_of c.args.self.now) c.in-Some.signal c.take.new.self c.requires.sound c.requires.clock c.in-Some.ensures.signal
 
--- src/world.rt:88:5
 pub returns-clause-ok : goal.returns-clause-ok
-returns-clause-ok c = ?
+returns-clause-ok c =
+    has_stepped (whole_of c.args.self.now) (whole_of c.handle.new.self) c.in-Some.signal c.take.new.self c.requires.sound c.in-Some.ensures.signal c.in_ok-handle.ensures.ok
