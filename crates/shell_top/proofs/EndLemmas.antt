@@ -1,124 +1,121 @@
 -- How a whole session is told: its lines, and then the line of the fault by which it was meant to end.
-use Rattle.std.proofs.Common.{◌≡◌, ℕ, ◌<◌, List, [], ◌++◌, length, take, drop, Bool, true, false, refl, ap, sym, subst, ◌∙◌, append_assoc, arith}
+use Rattle.std.proofs.Common.{◌≡◌, ℕ, ◌<◌, List, [], ◌∷◌, length, false, true, refl, ap, sym, subst, ◌∙◌, Bool, arith}
 use Rattle.std.specs.Prelude.{Option, ◌==◌}
 use Rattle.std.specs.FinMap as map
-use Rattle.std.specs.Io.KnownBytes.{Consumes, Appends}
-use Rattle.std.proofs.KnownBytes.{Appends-nil, Appends-trans, Consumes-nil}
+use Rattle.std.specs.Global.{Vec}
+use Rattle.std.specs.Io.KnownBytes.{Consumes}
+use Rattle.std.proofs.KnownBytes.{Appends-nil, Consumes-nil}
 use Rattle.std.proofs.lemmas.Bool.Decides.{nat_tests}
-use Rattle.std.proofs.lemmas.List.{append-nil, take-append-drop, take_at}
+use Rattle.std.proofs.lemmas.List.{append-nil}
+use Rattle.run_theory.proofs.Merging.{merged_run}
+use Rattle.commit_laws.proofs.Serial.{every_cut_serial}
+use Rattle.sig_core.specs.declared.log.HostLog.{HostLog}
+use Rattle.sig_core.specs.declared.log.Life.{Life}
 use Rattle.shell_top.specs.declared.ended.Ending.{Ending}
 use Rattle.shell_top.specs.declared.ended.Ending.TheVariants as ending
-use Rattle.world_core.specs.Drive.{State}
-use Rattle.world_core.specs.Idle.{idle}
-use Rattle.shell_top.specs.Script.{script_from}
-use Rattle.shell_top.specs.Session.{AppendsPart, is_cut_short, prints_if, Prints, IsSession, IsUnderWay, AreLinesDone}
-use Rattle.shell_top.specs.Text.{fault_line}
-
--- a text, and then a first part of another
-part_behind : (written mid now : Option (List ℕ)) (text more : List ℕ) → Appends written mid text → AppendsPart mid now more → AppendsPart written now (text ++ more)
-part_behind written mid now text more all part =
-    let front = text ++ take part.count more in
-    let cut : text ++ more ≡ front ++ drop part.count more =
-    ap (λ xs. text ++ xs) (sym (take-append-drop part.count more)) ∙ sym (append_assoc text (take part.count more) (drop part.count more)) in
-    record {
-      count = length front;
-      appended = subst (Appends written now) (sym (ap (take (length front)) cut ∙ take_at front (drop part.count more) (length front) refl))
-          (Appends-trans written mid now text (take part.count more) all part.appended);
-    }
-
--- a first part of a text, and then nothing
-part_before : (written mid now : Option (List ℕ)) (text : List ℕ) → AppendsPart written mid text → AppendsPart mid now [] → AppendsPart written now (text ++ [])
-part_before written mid now text part none =
-    let nothing : take none.count [] ≡ [] = take_none none.count in
-    let front : Appends written now (take part.count text) =
-    subst (Appends written now) (append-nil (take part.count text))
-    (Appends-trans written mid now (take part.count text) [] part.appended (subst (Appends mid now) nothing none.appended)) in
-    record { count = part.count; appended = subst (λ xs. Appends written now (take part.count xs)) (sym (append-nil text)) front }
-  where
-    take_none : (n : ℕ) → take {A = ℕ} n [] ≡ []
-    take_none n = grind (arith, take_at)
-
--- an ending that cuts printing short has no line of its own
-no_line : (meant : Ending) → is_cut_short meant ≡ true → fault_line meant ≡ []
-no_line ending.WriteFault cut = refl
-no_line ending.NoMemory cut = refl
-no_line _ cut = cc
-
--- the answers, and then the line of the fault
-prints_both : (a b : Bool) (meant result : Ending) → is_cut_short meant ≡ a → is_cut_short result ≡ b
-    → (written mid now : Option (List ℕ)) (text : List ℕ) → prints_if a meant meant written mid text → prints_if b result meant mid now (fault_line meant)
-    → prints_if b result meant written now (text ++ fault_line meant)
-prints_both true true meant result p q written mid now text lines last =
-    subst (λ line. AppendsPart written now (text ++ line)) (sym (no_line meant p))
-    (part_before written mid now text lines (subst (AppendsPart mid now) (no_line meant p) last))
-prints_both true false meant result p q written mid now text lines last =
-    let same : is_cut_short meant ≡ is_cut_short result = ap is_cut_short last.0 in cc
-prints_both false true meant result p q written mid now text lines last = part_behind written mid now text (fault_line meant) lines.1 last
-prints_both false false meant result p q written mid now text lines last =
-    (last.0, Appends-trans written mid now text (fault_line meant) lines.1 last.1)
+use Rattle.shell_top.specs.declared.session.Session.{Session}
+use Rattle.shell_top.specs.Lived.{AreLived, IsLife, session_text}
+use Rattle.shell_top.specs.Opened.{HasOpened}
+use Rattle.shell_top.specs.Printed.{Prints, is_cut_short}
+use Rattle.shell_top.specs.Script.{Put, script_from}
+use Rattle.shell_top.specs.Served.{IsServed, text_of}
+use Rattle.shell_top.specs.Session.{AreLinesDone, IsSession, IsUnderWay}
+use Rattle.shell_top.specs.Text.{answers, fault_line}
+use Rattle.shell_top.proofs.PrintedLemmas.{prints_both}
+use Rattle.world_core.specs.Lives.{fresh_life}
+use Rattle.world_core.specs.Machine.{hosts, machine}
+use Rattle.world_core.specs.Start.{fresh}
+use Rattle.world_core.specs.World.{logs_at}
+use Rattle.world_core.specs.WorldOf.{whole_of}
+use Rattle.world_core.proofs.FreshWorld.{fresh_asked, fresh_idle, fresh_right}
+use Rattle.world_core.proofs.SampleRun.{stamped}
 
 -- the session is before its first line
-pub starts : (left written : Option (List ℕ)) (line : ℕ) (held : List ℕ) (s : State) → line ≡ 1 → held ≡ [] → s ≡ idle 1 map.empty [] → IsUnderWay left left written written line held s
-starts left written line held s first none fresh = record {
-  consumed = [];
-  puts = [];
-  rows = map.empty;
-  read = subst (Consumes left left) (sym none) (Consumes-nil left);
-  lines = λ ended more. ap (λ n. script_from ended n more) (sym first);
-  printed = Appends-nil written;
-  idle_now = fresh;
-  few = omega (arith, first);
-  line_low = omega (arith, first);
-  held_short = let empty : length held ≡ 0 = ap length none in omega arith;
-  consumed_short = omega (arith, first);
-}
+pub starts : (left written : Option (List ℕ)) (session : Session) (lives : Vec Life) → HasOpened session lives → IsUnderWay left left written written session.line session.reader (whole_of session.world)
+starts left written session lives opened =
+    record {
+      consumed = [];
+      puts = [];
+      rows = map.empty;
+      read = subst (Consumes left left) (sym opened.reader) (Consumes-nil left);
+      lines = λ ended more. ap (λ n. script_from ended n more) (sym opened.line);
+      printed = Appends-nil written;
+      served = subst (IsServed [] map.empty) (sym opened.world)
+          (record { given = []; right = fresh_right; idle_now = fresh_idle; asked = refl; at_quiet = fresh_asked; told = refl });
+      few = omega (arith, opened.line);
+      line_low = omega (arith, opened.line);
+      held_short = let empty : length session.reader ≡ 0 = ap length opened.reader in omega arith;
+      consumed_short = omega (arith, opened.line);
+    }
+
+-- what the one life says
+pub is_life : (e : Ending) (commands : List Put) (logs : List HostLog) → AreLived fresh e commands (logs_at logs) → IsLife e commands (fresh_life logs)
+is_life e commands logs lived =
+    record {
+      lived = lived;
+      run = merged_run (machine fresh) (stamped fresh) hosts (logs_at logs) lived.within lived.right;
+      serial = λ inside a cut closed. every_cut_serial fresh inside (logs_at logs) lived.within lived.right a closed;
+    }
 
 -- it was done with its lines
-pub session_done : (words : ℕ) (left left_now written mid now : Option (List ℕ)) (meant result : Ending) → words ≡ 0
-    → AreLinesDone left left_now written mid meant → Prints result meant mid now (fault_line meant) → IsSession words left left_now written now result
-session_done words left left_now written mid now meant result none lines last = record {
-  input = lines.input;
-  ended = lines.ended;
-  meant = meant;
-  consumed = lines.consumed;
-  at_end = lines.at_end;
-  ends = lines.ends;
-  printed = prints_both (is_cut_short meant) (is_cut_short result) meant result refl refl written mid now _ lines.printed last;
-  words_first = λ some. absurd (omega arith);
-  words_refused = λ is. absurd (lines.no_words is);
-  bounded = lines.bounded;
-}
+pub session_done : (left left_now written mid now : Option (List ℕ)) (meant result : Ending) (logs : List HostLog) (lives : List Life) → lives ≡ fresh_life logs ∷ []
+    → AreLinesDone left left_now written mid meant logs → Prints result meant mid now (fault_line meant) → IsSession 0 left left_now written now result lives
+session_done left left_now written mid now meant result logs lives one lines last =
+    subst (IsSession 0 left left_now written now result) (sym one)
+    (record {
+      input = lines.input;
+      ended = lines.ended;
+      meant = meant;
+      consumed = lines.consumed;
+      at_end = lines.at_end;
+      ends = lines.ends;
+      printed = prints_both (is_cut_short meant) (is_cut_short result) meant result refl refl written mid now (answers (script_from lines.ended 1 lines.input).commands) lines.printed last;
+      told = prints_both (is_cut_short meant) (is_cut_short result) meant result refl refl written mid now (session_text (fresh_life logs ∷ []))
+          (subst (Prints meant meant written mid) (sym (append-nil (text_of fresh (logs_at logs 0)))) lines.told) last;
+      lived = is_life meant (script_from lines.ended 1 lines.input).commands logs lines.lived;
+      words_first = λ some. absurd (omega arith);
+      words_refused = λ is. absurd (lines.no_words is);
+      bounded = lines.bounded;
+    })
 
 -- there are words, and nothing is read
-pub session_refused : (words : ℕ) (left written now : Option (List ℕ)) (result : Ending) → 0 < words
-    → Prints result ending.Words written now (fault_line ending.Words) → IsSession words left left written now result
-session_refused words left written now result some printed = record {
-  input = [];
-  ended = false;
-  meant = ending.Words;
-  consumed = Consumes-nil left;
-  at_end = λ is. cc;
-  ends = tt;
-  printed = printed;
-  words_first = λ any. (refl, refl);
-  words_refused = λ is. some;
-  bounded = omega arith;
-}
+pub session_refused : (words : ℕ) (left written now : Option (List ℕ)) (result : Ending) (lives : List Life) → lives ≡ [] → 0 < words
+    → Prints result ending.Words written now (fault_line ending.Words) → IsSession words left left written now result lives
+session_refused words left written now result lives none some printed =
+    subst (IsSession words left left written now result) (sym none)
+    (record {
+      input = [];
+      ended = false;
+      meant = ending.Words;
+      consumed = Consumes-nil left;
+      at_end = λ is. cc;
+      ends = tt;
+      printed = printed;
+      told = printed;
+      lived = refl;
+      words_first = λ any. (refl, refl);
+      words_refused = λ is. some;
+      bounded = omega arith;
+    })
 
 -- memory is wanting before the first line
-pub session_unstarted : (words : ℕ) (left written : Option (List ℕ)) → words ≡ 0 → IsSession words left left written written ending.NoMemory
-session_unstarted words left written none = record {
-  input = [];
-  ended = false;
-  meant = ending.NoMemory;
-  consumed = Consumes-nil left;
-  at_end = λ is. cc;
-  ends = tt;
-  printed = record { count = 0; appended = Appends-nil written };
-  words_first = λ some. absurd (omega arith);
-  words_refused = λ is. cc;
-  bounded = omega arith;
-}
+pub session_unstarted : (words : ℕ) (left written : Option (List ℕ)) (lives : List Life) → lives ≡ [] → words ≡ 0 → IsSession words left left written written ending.NoMemory lives
+session_unstarted words left written lives no_life none =
+    subst (IsSession words left left written written ending.NoMemory) (sym no_life)
+    (record {
+      input = [];
+      ended = false;
+      meant = ending.NoMemory;
+      consumed = Consumes-nil left;
+      at_end = λ is. cc;
+      ends = tt;
+      printed = record { count = 0; appended = Appends-nil written };
+      told = record { count = 0; appended = Appends-nil written };
+      lived = refl;
+      words_first = λ some. absurd (omega arith);
+      words_refused = λ is. cc;
+      bounded = omega arith;
+    })
 
 -- what the test for words says
 pub some_words : (words : ℕ) (empty : Bool) → empty ≡ (words == 0) → empty ≡ false → 0 < words

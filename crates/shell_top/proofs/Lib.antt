@@ -1,10 +1,8 @@
 pub mod EndLemmas
-pub mod LinkWeight
+pub mod LivedLemmas
+pub mod PrintedLemmas
 pub mod PutLemmas
-pub mod PutServed
 pub mod ReaderLemmas
 pub mod ScriptLemmas
 pub mod SessionLemmas
-pub mod Settled
-pub mod Weight
 pub mod WriterLemmas

@@ -2,7 +2,6 @@
 use Rattle.std.proofs.Common.{◌≡◌, ℕ, ◌+◌, ◌*◌, ◌≤◌, ◌<◌, List, [], ◌∷◌, ◌++◌, length, take, drop, Bool, true, false, refl, ap, sym, subst, ◌∙◌, append_assoc, arith}
 use Rattle.std.specs.Prelude.{Option, None, Some, MatchOption, position, nat_lt, ◌==◌, ◌&&◌}
 use Rattle.std.proofs.lemmas.Bool.Decides.{nat_tests}
-use Rattle.std.specs.FinMap as map
 use Rattle.std.specs.Io.KnownBytes.{Consumes, Appends, IsAtEnd}
 use Rattle.std.proofs.KnownBytes.{Appends-trans, Consumes-trans}
 use Rattle.std.proofs.lemmas.List.{append-nil, take-append-drop, length-append, length-take-le, length-drop, take_at}
@@ -11,12 +10,18 @@ use Rattle.shell_top.specs.declared.ended.Ending.TheVariants as ending
 use Rattle.script_lang.specs.declared.fault.LineFault.{LineFault}
 use Rattle.shell_top.specs.declared.script.Parsed.{Parsed}
 use Rattle.shell_top.specs.declared.script.Parsed.TheVariants as parsed
-use Rattle.world_core.specs.Drive.{State}
-use Rattle.world_core.specs.Idle.{idle}
+use Rattle.sig_core.specs.declared.log.HostLog.{HostLog}
+use Rattle.shell_top.specs.Lived.{AreLived}
+use Rattle.shell_top.specs.Printed.{AppendsPart, Prints}
+use Rattle.shell_top.specs.Served.{AreLeft, IsServed, PrintsPut, PutEnds, rows_with, text_of}
+use Rattle.shell_top.proofs.LivedLemmas.{left_lived, served_lived, told_all, told_front, told_part}
+use Rattle.shell_top.proofs.PutLemmas.{served_text}
+use Rattle.world_core.specs.Start.{fresh}
+use Rattle.world_core.specs.World.{Whole, logs_at}
 use Rattle.shell_top.specs.Parsed.{parsed as parsed_line}
 use Rattle.shell_top.specs.Reader.{Reads, IsPartial, is_newline}
 use Rattle.shell_top.specs.Script.{Put, put_of, Script, nothing_more, ends_with, follow, is_too_long, last_part, script_from}
-use Rattle.shell_top.specs.Session.{AppendsPart, Ends, Prints, IsUnderWay, AreLinesDone, IsCutShort, PrintsPut, after}
+use Rattle.shell_top.specs.Session.{Ends, IsUnderWay, AreLinesDone, after}
 use Rattle.shell_top.specs.Text.{answers}
 use Rattle.shell_top.proofs.ScriptLemmas.{script-part, script-line, script-held, found_within, whole_line-long, whole_line-short, too_long_line, too_long_bytes, short_line, last_part-long, last_part-partial, last_part-whole, after-append, answers-append}
 
@@ -49,7 +54,7 @@ none_held (byte ∷ held) none = absurd (omega arith)
 
 module _ (left written : Option (List ℕ)) where
   -- more was read
-  pub read_on : (left_now left_then written_now : Option (List ℕ)) (line : ℕ) (held held_then : List ℕ) (s : State)
+  pub read_on : (left_now left_then written_now : Option (List ℕ)) (line : ℕ) (held held_then : List ℕ) (s : Whole)
       → IsUnderWay left left_now written written_now line held s → Reads left_now left_then held held_then → length held_then ≤ 1024
       → IsUnderWay left left_then written written_now line held_then s
   read_on left_now left_then written_now line held held_then s u r short = record {
@@ -61,14 +66,14 @@ module _ (left written : Option (List ℕ)) where
         (Consumes-trans left left_now left_then (u.consumed ++ held) r.more u.read r.consumed);
     lines = u.lines;
     printed = u.printed;
-    idle_now = u.idle_now;
+    served = u.served;
     few = u.few;
     line_low = u.line_low;
     held_short = short;
     consumed_short = u.consumed_short;
   }
 
-  module _ (left_now written_now : Option (List ℕ)) (line : ℕ) (held : List ℕ) (s : State) (u : IsUnderWay left left_now written written_now line held s) where
+  module _ (left_now written_now : Option (List ℕ)) (line : ℕ) (held : List ℕ) (s : Whole) (u : IsUnderWay left left_now written written_now line held s) where
     -- what all that was read asks for
     abbrev all_read : Bool → Script
     all_read ended = script_from ended 1 (u.consumed ++ held)
@@ -92,39 +97,54 @@ module _ (left written : Option (List ℕ)) where
         u.printed
 
     -- the session ends here
-    ends_here : (written_then : Option (List ℕ)) (e : Ending) (ended : Bool) → (ended ≡ true → IsAtEnd left_now) → Ends e ended (all_read ended)
-        → Prints e e written written_then (answers (all_read ended).commands) → (e ≡ ending.Words → ⊥) → AreLinesDone left left_now written written_then e
-    ends_here written_then e ended at_end ends printed no_words = record {
+    ends_here : (written_then : Option (List ℕ)) (e : Ending) (ended : Bool) (logs : List HostLog) → (ended ≡ true → IsAtEnd left_now) → Ends e ended (all_read ended)
+        → Prints e e written written_then (answers (all_read ended).commands) → Prints e e written written_then (text_of fresh (logs_at logs 0))
+        → AreLived fresh e (all_read ended).commands (logs_at logs) → (e ≡ ending.Words → ⊥) → AreLinesDone left left_now written written_then e logs
+    ends_here written_then e ended logs at_end ends printed told lived no_words = record {
       input = u.consumed ++ held;
       ended = ended;
       consumed = u.read;
       at_end = at_end;
       ends = ends;
       printed = printed;
+      told = told;
+      lived = lived;
       no_words = no_words;
       bounded = all_bounded;
     }
 
+    -- where what is held asks for no command, the logs say that all was asked, and tell what was printed
+    all_lived : (e : Ending) (ended : Bool) (rest : Script) → script_from ended line held ≡ rest → rest.commands ≡ [] → AreLived fresh e (all_read ended).commands (logs_at s.logs)
+    all_lived e ended rest is none =
+        served_lived e u.puts [] u.rows s (all_read ended).commands u.served (ap (λ (x : Script). x.commands) (all_asked ended rest is) ∙ ap (λ puts. u.puts ++ puts) none) (λ whole. refl)
+
+    all_told : Appends written written_now (text_of fresh (logs_at s.logs 0))
+    all_told = told_all u.puts u.rows s written written_now u.served u.printed
+
     -- a line is refused
     pub ends_refused : (fault : LineFault) (ended : Bool) → (ended ≡ true → IsAtEnd left_now) → script_from ended line held ≡ ends_with (ending.Refused line fault)
-        → AreLinesDone left left_now written written_now (ending.Refused line fault)
+        → AreLinesDone left left_now written written_now (ending.Refused line fault) s.logs
     ends_refused fault ended at_end e =
-        ends_here written_now (ending.Refused line fault) ended at_end (fault_asked ended _ e) (refl, all_answered ended _ e refl) (λ is. cc)
+        ends_here written_now (ending.Refused line fault) ended s.logs at_end (fault_asked ended _ e) (refl, all_answered ended _ e refl) (refl, all_told)
+        (all_lived (ending.Refused line fault) ended _ e refl) (λ is. cc)
 
     -- a line is too long
-    pub ends_too_long : script_from false line held ≡ ends_with (ending.TooLong line) → AreLinesDone left left_now written written_now (ending.TooLong line)
+    pub ends_too_long : script_from false line held ≡ ends_with (ending.TooLong line) → AreLinesDone left left_now written written_now (ending.TooLong line) s.logs
     ends_too_long e =
-        ends_here written_now (ending.TooLong line) false (λ is. cc) (fault_asked false _ e) (refl, all_answered false _ e refl) (λ is. cc)
+        ends_here written_now (ending.TooLong line) false s.logs (λ is. cc) (fault_asked false _ e) (refl, all_answered false _ e refl) (refl, all_told)
+        (all_lived (ending.TooLong line) false _ e refl) (λ is. cc)
 
     -- the source failed, and no line is whole
-    pub ends_unread : script_from false line held ≡ nothing_more → AreLinesDone left left_now written written_now ending.ReadFault
+    pub ends_unread : script_from false line held ≡ nothing_more → AreLinesDone left left_now written written_now ending.ReadFault s.logs
     ends_unread e =
-        ends_here written_now ending.ReadFault false (λ is. cc) (refl, fault_asked false _ e) (refl, all_answered false _ e refl) (λ is. cc)
+        ends_here written_now ending.ReadFault false s.logs (λ is. cc) (refl, fault_asked false _ e) (refl, all_answered false _ e refl) (refl, all_told)
+        (all_lived ending.ReadFault false _ e refl) (λ is. cc)
 
     -- the source was read to its end, and nothing is left to do
-    pub ends_finished : IsAtEnd left_now → script_from true line held ≡ nothing_more → AreLinesDone left left_now written written_now ending.Finished
+    pub ends_finished : IsAtEnd left_now → script_from true line held ≡ nothing_more → AreLinesDone left left_now written written_now ending.Finished s.logs
     ends_finished at_end e =
-        ends_here written_now ending.Finished true (λ is. at_end) (refl, fault_asked true _ e) (refl, all_answered true _ e refl) (λ is. cc)
+        ends_here written_now ending.Finished true s.logs (λ is. at_end) (refl, fault_asked true _ e) (refl, all_answered true _ e refl) (refl, all_told)
+        (all_lived ending.Finished true _ e refl) (λ is. cc)
 
     -- what was printed is a first part of the answers
     printed_first : (ended : Bool) → AppendsPart written written_now (answers (all_read ended).commands)
@@ -138,8 +158,12 @@ module _ (left written : Option (List ℕ)) where
     }
 
     -- memory is wanting
-    pub ends_unremembered : AreLinesDone left left_now written written_now ending.NoMemory
-    ends_unremembered = ends_here written_now ending.NoMemory false (λ is. cc) tt (printed_first false) (λ is. cc)
+    pub ends_unremembered : AreLinesDone left left_now written written_now ending.NoMemory s.logs
+    ends_unremembered =
+        ends_here written_now ending.NoMemory false s.logs (λ is. cc) tt (printed_first false)
+        (told_front (answers u.puts) [] (text_of fresh (logs_at s.logs 0)) written written_now (served_text u.puts u.rows s u.served ∙ sym (append-nil (answers u.puts))) u.printed)
+        (served_lived ending.NoMemory u.puts (script_from false line held).commands u.rows s (all_read false).commands u.served (ap (λ (x : Script). x.commands) (u.lines false held)) (λ whole. cc))
+        (λ is. cc)
 
     -- what is held begins with a put, whose answer was printed in part
     module _ (written_then : Option (List ℕ)) (put : Put) (ended : Bool) (rest : Script) (asked : script_from ended line held ≡ after (put ∷ []) rest) where
@@ -165,22 +189,38 @@ module _ (left written : Option (List ℕ)) where
                 (Appends-trans written written_now written_then (answers u.puts) (take part.count (answers (put ∷ []))) u.printed part.appended);
           }
 
-      pub ends_unwritten : (ended ≡ true → IsAtEnd left_now) → AppendsPart written_now written_then (answers (put ∷ [])) → AreLinesDone left left_now written written_then ending.WriteFault
-      ends_unwritten at_end part = ends_here written_then ending.WriteFault ended at_end tt (printed_part part) (λ is. cc)
+      -- the commands are those before, the put, and those behind it
+      all_commands : (all_read ended).commands ≡ u.puts ++ put ∷ rest.commands
+      all_commands = ap (λ (x : Script). x.commands) (all_asked ended _ asked)
 
-      pub ends_forgotten : (ended ≡ true → IsAtEnd left_now) → AppendsPart written_now written_then (answers (put ∷ [])) → AreLinesDone left left_now written written_then ending.NoMemory
-      ends_forgotten at_end part = ends_here written_then ending.NoMemory ended at_end tt (printed_part part) (λ is. cc)
+      pub ends_unwritten : (t : Whole) → (ended ≡ true → IsAtEnd left_now) → AppendsPart written_now written_then (answers (put ∷ []))
+          → IsServed (u.puts ++ put ∷ []) (rows_with u.rows put) t → AreLinesDone left left_now written written_then ending.WriteFault t.logs
+      ends_unwritten t at_end part served =
+          ends_here written_then ending.WriteFault ended t.logs at_end tt (printed_part part)
+          (told_part u.puts put (rows_with u.rows put) t written written_now written_then served u.printed part)
+          (served_lived ending.WriteFault (u.puts ++ put ∷ []) rest.commands (rows_with u.rows put) t (all_read ended).commands served
+          (all_commands ∙ sym (append_assoc u.puts (put ∷ []) rest.commands)) (λ whole. cc))
+          (λ is. cc)
+
+      pub ends_forgotten : (t : Whole) → (ended ≡ true → IsAtEnd left_now) → written_then ≡ written_now → AreLeft u.puts put t.logs → AreLinesDone left left_now written written_then ending.NoMemory t.logs
+      ends_forgotten t at_end same left_logs =
+          ends_here written_then ending.NoMemory ended t.logs at_end tt
+          (subst (λ now. AppendsPart written now (answers (all_read ended).commands)) (sym same) (printed_first ended))
+          (told_front (answers u.puts) left_logs.more (text_of fresh (logs_at t.logs 0)) written written_then left_logs.text (subst (λ now. Appends written now (answers u.puts)) (sym same) u.printed))
+          (left_lived u.puts put rest.commands t.logs (all_read ended).commands left_logs all_commands)
+          (λ is. cc)
 
     -- the last line is a put, and it was answered
-    pub ends_answered : (written_then : Option (List ℕ)) (put : Put) → script_from true line held ≡ after (put ∷ []) nothing_more → IsAtEnd left_now
-        → Appends written_now written_then (answers (put ∷ [])) → AreLinesDone left left_now written written_then ending.Finished
-    ends_answered written_then put asked at_end more =
-        ends_here written_then ending.Finished true (λ is. at_end) (refl, fault_asked true _ asked) (
-          refl,
-          subst (Appends written written_then)
-              (sym (ap (λ (x : Script). answers x.commands) (all_asked true _ asked) ∙ answers-append u.puts (put ∷ [])))
-              (Appends-trans written written_now written_then (answers u.puts) (answers (put ∷ [])) u.printed more),
-        )
+    pub ends_answered : (written_then : Option (List ℕ)) (put : Put) (t : Whole) → script_from true line held ≡ after (put ∷ []) nothing_more → IsAtEnd left_now
+        → Appends written_now written_then (answers (put ∷ [])) → IsServed (u.puts ++ put ∷ []) (rows_with u.rows put) t → AreLinesDone left left_now written written_then ending.Finished t.logs
+    ends_answered written_then put t asked at_end more served =
+        let all = subst (Appends written written_then) (sym (answers-append u.puts (put ∷ [])))
+            (Appends-trans written written_now written_then (answers u.puts) (answers (put ∷ [])) u.printed more) in
+        ends_here written_then ending.Finished true t.logs (λ is. at_end) (refl, fault_asked true _ asked)
+        (refl, subst (Appends written written_then) (sym (ap (λ (x : Script). answers x.commands) (all_asked true _ asked))) all)
+        (refl, told_all (u.puts ++ put ∷ []) (rows_with u.rows put) t written written_then served all)
+        (served_lived ending.Finished (u.puts ++ put ∷ []) [] (rows_with u.rows put) t (all_read true).commands served
+        (ap (λ (x : Script). x.commands) (all_asked true _ asked) ∙ sym (append-nil (u.puts ++ put ∷ []))) (λ whole. refl))
         (λ is. cc)
 
     -- a whole line is passed
@@ -225,7 +265,7 @@ module _ (left written : Option (List ℕ)) where
         read = read_rest;
         lines = λ ended more. lines_on [] parsed.Nothing e (λ rest. refl) ended more ∙ ap (λ puts. after puts (script_from ended (line + 1) more)) (append-nil u.puts);
         printed = u.printed;
-        idle_now = u.idle_now;
+        served = u.served;
         few = omega (arith, u.few);
         line_low = omega arith;
         held_short = omega (arith, u.held_short, length-drop (at + 1) held);
@@ -233,20 +273,20 @@ module _ (left written : Option (List ℕ)) where
       }
 
       -- the line is a put, and it was answered
-      pub goes_on_put : (written_then : Option (List ℕ)) (t : State) (key value : List ℕ) → parsed_line (take at held) ≡ parsed.Put key value
-          → t ≡ idle (length u.puts + 1 + 1) (map.insert u.rows key value) [] → Appends written_now written_then (answers (put_of key value ∷ []))
+      pub goes_on_put : (written_then : Option (List ℕ)) (t : Whole) (key value : List ℕ) → parsed_line (take at held) ≡ parsed.Put key value
+          → IsServed (u.puts ++ put_of key value ∷ []) (rows_with u.rows (put_of key value)) t → Appends written_now written_then (answers (put_of key value ∷ []))
           → IsUnderWay left left_now written written_then (line + 1) (drop (at + 1) held) t
       goes_on_put written_then t key value e done more =
           let put = put_of key value in
           record {
             consumed = u.consumed ++ take (at + 1) held;
             puts = u.puts ++ put ∷ [];
-            rows = map.insert u.rows key value;
+            rows = rows_with u.rows put;
             read = read_rest;
             lines = lines_on (put ∷ []) (parsed.Put key value) e (λ rest. refl);
             printed = subst (Appends written written_then) (sym (answers-append u.puts (put ∷ [])))
                 (Appends-trans written written_now written_then (answers u.puts) (answers (put ∷ [])) u.printed more);
-            idle_now = done ∙ ap (λ n. idle (n + 1) (map.insert u.rows key value) []) (sym (length-append u.puts (put ∷ [])));
+            served = done;
             few = omega (arith, u.few, length-append u.puts (put ∷ []));
             line_low = omega arith;
             held_short = omega (arith, u.held_short, length-drop (at + 1) held);
@@ -254,54 +294,52 @@ module _ (left written : Option (List ℕ)) where
           }
 
       -- the line is a put: it was answered, or its answer was cut short
-      cut_line : (written_then : Option (List ℕ)) (put : Put) (rest : Script) → script_from false line held ≡ after (put ∷ []) rest
-          → (e : Ending) → IsCutShort e written_now written_then (answers (put ∷ [])) → AreLinesDone left left_now written written_then e
-      cut_line written_then put rest asked ending.WriteFault cut = ends_unwritten written_then put false rest asked (λ is. cc) cut
-      cut_line written_then put rest asked ending.NoMemory cut = ends_forgotten written_then put false rest asked (λ is. cc) cut
-      cut_line written_then put rest asked _ cut = absurd cut
+      cut_line : (written_then : Option (List ℕ)) (put : Put) (t : Whole) (rest : Script) → script_from false line held ≡ after (put ∷ []) rest
+          → (e : Ending) → PutEnds e u.puts u.rows put t written_now written_then → AreLinesDone left left_now written written_then e t.logs
+      cut_line written_then put t rest asked ending.WriteFault cut = ends_unwritten written_then put false rest asked t (λ is. cc) cut.0 cut.1
+      cut_line written_then put t rest asked ending.NoMemory cut = ends_forgotten written_then put false rest asked t (λ is. cc) cut.0 cut.1
+      cut_line written_then put t rest asked _ cut = absurd cut
 
-      pub line_put : (written_then : Option (List ℕ)) (t : State) (key value : List ℕ) (result : Option Ending) → parsed_line (take at held) ≡ parsed.Put key value
+      pub line_put : (written_then : Option (List ℕ)) (t : Whole) (key value : List ℕ) (result : Option Ending) → parsed_line (take at held) ≡ parsed.Put key value
           → PrintsPut (put_of key value) s t result written_now written_then
-          → MatchOption result (IsUnderWay left left_now written written_then (line + 1) (drop (at + 1) held) t) (AreLinesDone left left_now written written_then)
+          → MatchOption result (IsUnderWay left left_now written written_then (line + 1) (drop (at + 1) held) t) (λ ending. AreLinesDone left left_now written written_then ending t.logs)
       line_put written_then t key value None e p =
-          let few : length u.puts + 1 ≤ 65537 = omega (arith, u.few) in
-          goes_on_put written_then t key value e (p.state (length u.puts + 1) u.rows u.idle_now few) (p.printed (length u.puts + 1) u.rows u.idle_now few)
+          let done = p.printed u.puts u.rows u.served (omega (arith, u.few)) in
+          goes_on_put written_then t key value e done.1 done.0
       line_put written_then t key value (Some ending) e p =
-          let few : length u.puts + 1 ≤ 65537 = omega (arith, u.few) in
-          cut_line written_then (put_of key value) _ (first_asked false (parsed.Put key value) e) ending
-          (p.printed (length u.puts + 1) u.rows u.idle_now few)
+          cut_line written_then (put_of key value) t _ (first_asked false (parsed.Put key value) e) ending (p.printed u.puts u.rows u.served (omega (arith, u.few)))
 
       -- the line is refused
-      pub line_fault : (fault : LineFault) → parsed_line (take at held) ≡ parsed.Fault fault → AreLinesDone left left_now written written_now (ending.Refused line fault)
+      pub line_fault : (fault : LineFault) → parsed_line (take at held) ≡ parsed.Fault fault → AreLinesDone left left_now written written_now (ending.Refused line fault) s.logs
       line_fault fault e = ends_refused fault false (λ is. cc) (first_asked false (parsed.Fault fault) e)
 
     -- a whole line is too long
-    pub line_too_long : (at : ℕ) → position is_newline held ≡ Some at → 512 < at → AreLinesDone left left_now written written_now (ending.TooLong line)
+    pub line_too_long : (at : ℕ) → position is_newline held ≡ Some at → 512 < at → AreLinesDone left left_now written written_now (ending.TooLong line) s.logs
     line_too_long at found long =
         let size : length (take at held) ≡ at = length-take-le at held (let within = found_within held at found in omega arith) in
         ends_too_long (script-held false line held at found ∙ whole_line-long line (take at held) _ (too_long_bytes line (take at held) (omega (arith, size))))
 
     -- what is held can't be a line any more
-    pub part_too_long : position is_newline held ≡ None → 512 < length held → AreLinesDone left left_now written written_now (ending.TooLong line)
+    pub part_too_long : position is_newline held ≡ None → 512 < length held → AreLinesDone left left_now written written_now (ending.TooLong line) s.logs
     part_too_long none long =
         let some : 0 < length held = omega arith in
         ends_too_long (script-part false line held none ∙ last_part-long false line held some (too_long_bytes line held long))
 
     -- there is a line after the last that may be
-    past_by : (found : Option ℕ) → position is_newline held ≡ found → 65536 < line → 0 < length held → AreLinesDone left left_now written written_now (ending.TooLong line)
+    past_by : (found : Option ℕ) → position is_newline held ≡ found → 65536 < line → 0 < length held → AreLinesDone left left_now written written_now (ending.TooLong line) s.logs
     past_by None e past some = ends_too_long (script-part false line held e ∙ last_part-long false line held some (too_long_line line held past))
     past_by (Some at) e past some = ends_too_long (script-held false line held at e ∙ whole_line-long line (take at held) _ (too_long_line line (take at held) past))
 
-    pub line_past : 65536 < line → 0 < length held → AreLinesDone left left_now written written_now (ending.TooLong line)
+    pub line_past : 65536 < line → 0 < length held → AreLinesDone left left_now written written_now (ending.TooLong line) s.logs
     line_past past some = past_by (position is_newline held) refl past some
 
     -- the source failed
-    pub part_unread : IsPartial held → (0 < length held → line ≤ 65536) → AreLinesDone left left_now written written_now ending.ReadFault
+    pub part_unread : IsPartial held → (0 < length held → line ≤ 65536) → AreLinesDone left left_now written written_now ending.ReadFault s.logs
     part_unread partial low = ends_unread (script-part false line held partial.no_newline ∙ last_part-partial line held (λ some. short_line line held (low some) partial.short))
 
     -- the last line
     module _ (partial : IsPartial held) (low : 0 < length held → line ≤ 65536) (at_end : IsAtEnd left_now) where
-      pub last_none : length held ≡ 0 → AreLinesDone left left_now written written_now ending.Finished
+      pub last_none : length held ≡ 0 → AreLinesDone left left_now written written_now ending.Finished s.logs
       last_none none = ends_finished at_end (script-part true line held partial.no_newline ∙ ap (last_part true line) (none_held held none))
 
       last_asked : (is : Parsed) → 0 < length held → parsed_line held ≡ is → script_from true line held ≡ follow line is nothing_more
@@ -309,24 +347,23 @@ module _ (left written : Option (List ℕ)) where
           script-part true line held partial.no_newline ∙ last_part-whole line held some (short_line line held (low some) partial.short)
           ∙ ap (λ p. follow line p nothing_more) e
 
-      pub last_nothing : 0 < length held → parsed_line held ≡ parsed.Nothing → AreLinesDone left left_now written written_now ending.Finished
+      pub last_nothing : 0 < length held → parsed_line held ≡ parsed.Nothing → AreLinesDone left left_now written written_now ending.Finished s.logs
       last_nothing some e = ends_finished at_end (last_asked parsed.Nothing some e)
 
-      pub last_fault : (fault : LineFault) → 0 < length held → parsed_line held ≡ parsed.Fault fault → AreLinesDone left left_now written written_now (ending.Refused line fault)
+      pub last_fault : (fault : LineFault) → 0 < length held → parsed_line held ≡ parsed.Fault fault → AreLinesDone left left_now written written_now (ending.Refused line fault) s.logs
       last_fault fault some e = ends_refused fault true (λ is. at_end) (last_asked (parsed.Fault fault) some e)
 
-      cut_last : (written_then : Option (List ℕ)) (put : Put) → script_from true line held ≡ after (put ∷ []) nothing_more
-          → (e : Ending) → IsCutShort e written_now written_then (answers (put ∷ [])) → AreLinesDone left left_now written written_then e
-      cut_last written_then put asked ending.WriteFault cut = ends_unwritten written_then put true nothing_more asked (λ is. at_end) cut
-      cut_last written_then put asked ending.NoMemory cut = ends_forgotten written_then put true nothing_more asked (λ is. at_end) cut
-      cut_last written_then put asked _ cut = absurd cut
+      cut_last : (written_then : Option (List ℕ)) (put : Put) (t : Whole) → script_from true line held ≡ after (put ∷ []) nothing_more
+          → (e : Ending) → PutEnds e u.puts u.rows put t written_now written_then → AreLinesDone left left_now written written_then e t.logs
+      cut_last written_then put t asked ending.WriteFault cut = ends_unwritten written_then put true nothing_more asked t (λ is. at_end) cut.0 cut.1
+      cut_last written_then put t asked ending.NoMemory cut = ends_forgotten written_then put true nothing_more asked t (λ is. at_end) cut.0 cut.1
+      cut_last written_then put t asked _ cut = absurd cut
 
-      pub last_put : (written_then : Option (List ℕ)) (t : State) (key value : List ℕ) (result : Option Ending) → 0 < length held → parsed_line held ≡ parsed.Put key value
+      pub last_put : (written_then : Option (List ℕ)) (t : Whole) (key value : List ℕ) (result : Option Ending) → 0 < length held → parsed_line held ≡ parsed.Put key value
           → PrintsPut (put_of key value) s t result written_now written_then
-          → MatchOption result (AreLinesDone left left_now written written_then ending.Finished) (AreLinesDone left left_now written written_then)
+          → MatchOption result (AreLinesDone left left_now written written_then ending.Finished t.logs) (λ ending. AreLinesDone left left_now written written_then ending t.logs)
       last_put written_then t key value None some e p =
-          let few : length u.puts + 1 ≤ 65537 = omega (arith, u.few, u.line_low) in
-          ends_answered written_then (put_of key value) (last_asked (parsed.Put key value) some e) at_end (p.printed (length u.puts + 1) u.rows u.idle_now few)
+          let done = p.printed u.puts u.rows u.served (omega (arith, u.few, u.line_low)) in
+          ends_answered written_then (put_of key value) t (last_asked (parsed.Put key value) some e) at_end done.0 done.1
       last_put written_then t key value (Some ending) some e p =
-          let few : length u.puts + 1 ≤ 65537 = omega (arith, u.few, u.line_low) in
-          cut_last written_then (put_of key value) (last_asked (parsed.Put key value) some e) ending (p.printed (length u.puts + 1) u.rows u.idle_now few)
+          cut_last written_then (put_of key value) t (last_asked (parsed.Put key value) some e) ending (p.printed u.puts u.rows u.served (omega (arith, u.few, u.line_low)))

@@ -4,7 +4,7 @@ use Rattle.std.specs.Prelude.{Option, None, Some}
 use Rattle.std.specs.Io.KnownBytes.{Appends, Keeps}
 use Rattle.std.proofs.KnownBytes.{Appends-nil, Appends-trans}
 use Rattle.std.proofs.lemmas.List.{append-nil, take-append-drop, take_at}
-use Rattle.shell_top.specs.Session.{AppendsPart}
+use Rattle.shell_top.specs.Printed.{AppendsPart}
 
 -- the bytes were written but for the rest
 pub record IsWriting (written written_now : Option (List ℕ)) (bytes rest : List ℕ) : Type 0 where

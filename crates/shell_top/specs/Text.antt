@@ -1,29 +1,17 @@
 -- What a session prints.
-use Rattle.std.specs.Prelude.{ℕ, List, [], ◌∷◌, ◌++◌, codes, None}
+use Rattle.std.specs.Prelude.{ℕ, List, [], ◌∷◌, ◌++◌, codes}
 use Rattle.std.specs.Fmt.{decimal}
-use Rattle.sig_core.specs.declared.outcome.Outcome.TheVariants as outcome
 use Rattle.sig_core.specs.declared.reply.ApiReply.{ApiReply}
-use Rattle.sig_core.specs.declared.reply.ApiReply.TheVariants as printed
 use Rattle.shell_top.specs.declared.ended.Ending.{Ending}
 use Rattle.shell_top.specs.declared.ended.Ending.TheVariants.{Finished, Words, Refused, ReadFault, WriteFault, NoMemory, TooLong}
-use Rattle.world_core.specs.declared.api.Reply.{Reply}
-use Rattle.world_core.specs.declared.api.Reply.TheVariants.{Answered, Committed}
 use Rattle.script_lang.specs.Fault.{code_of}
 use Rattle.script_lang.specs.ReplyText.{newline, reply_text}
 use Rattle.shell_top.specs.Script.{Put}
 
--- a reply, as the language of scripts has it
-abbrev pub api_reply : Reply → ApiReply
-api_reply (Answered answer) = printed.Answered None answer
-api_reply (Committed epoch) = printed.Ended None (outcome.Committed epoch)
-
--- the line of a reply
-abbrev pub reply_line : Reply → List ℕ
-reply_line reply = reply_text (api_reply reply)
-
-abbrev pub reply_lines : List Reply → List ℕ
+-- the lines of replies
+abbrev pub reply_lines : List ApiReply → List ℕ
 reply_lines [] = []
-reply_lines (reply ∷ replies) = reply_line reply ++ reply_lines replies
+reply_lines (reply ∷ replies) = reply_text reply ++ reply_lines replies
 
 -- each put is answered by ok, and committed in epoch 1
 abbrev pub answers : List Put → List ℕ

@@ -1,6 +1,7 @@
 //! How a session ends.
 use host_io::Disk;
 use script_lang::LineFault;
+use sig_core::Life;
 
 /// Why a session ended.
 #[derive(Clone, Copy, Debug, PartialEq, Eq)]
@@ -27,6 +28,9 @@ pub struct Ended {
     /// line outside the grammar; 3 where the source failed, 4 where the sink did; 5 for want of
     /// memory; 9 at a line that is too long.
     pub status: u8,
+    /// What the hosts did, life by life: none where there were words, or where memory was wanting
+    /// before anything was read.
+    pub lives: Vec<Life>,
     /// The disks that were handed in, in their order.
     pub disks: Vec<Box<dyn Disk + Send>>,
 }

@@ -2,7 +2,6 @@
 #![tactic(auto)]
 
 mod ended;
-mod parts;
 mod reader;
 mod run;
 mod script;

@@ -1,8 +1,10 @@
 //! The top call: a whole session.
-ghost use Rattle.std.specs.Prelude.{◌≡◌, ◌≤◌, ◌⊎◌, length};
+ghost use Rattle.std.specs.Prelude.{◌≡◌, ◌≤◌, ◌⊎◌, IfOk, length};
 ghost use Rattle.host_io.specs.Fault.{Rose};
 ghost use Rattle.shell_top.specs.declared.ended.Ending.TheVariants as ending;
-ghost use Rattle.shell_top.specs.Session.{IsSession, HasSession, Prints};
+ghost use Rattle.shell_top.specs.Opened.{HasOpened};
+ghost use Rattle.shell_top.specs.Printed.{Prints};
+ghost use Rattle.shell_top.specs.Session.{IsSession, HasSession};
 ghost use Rattle.shell_top.specs.Text.{fault_line};
 
 use crate::ended::{Ended, Ending};
@@ -10,7 +12,7 @@ use crate::session::Session;
 use crate::text::{fault_line, status_of};
 use crate::writer::write_all;
 use host_io::{Disk, Gate, Sink, Source};
-use sig_core::NoMemory;
+use sig_core::{Life, NoMemory};
 use std::alloc::Global;
 use std::sync::Wait;
 use std::thread::Threads;
@@ -26,16 +28,24 @@ pub fn run_shell<R: Threads + Wait + Sync, S: Source, K: Sink, G: Gate + Sync>(
     disks: Vec<Box<dyn Disk + Send>>,
     _gate: &G,
 ) -> Ended
-    ensures session { HasSession (length words.now) (S.left source.old) (S.left source.new) (K.written sink.old) (K.written sink.new) result.status }
+    ensures session { HasSession (length words.now) (S.left source.old) (S.left source.new) (K.written sink.old) (K.written sink.new) result.status result.lives.items }
     ensures read_fault { result.status ≡ 3 → Rose (S.faults source.old) (S.faults source.new) }
     ensures write_fault { result.status ≡ 4 → Rose (K.faults sink.old) (K.faults sink.new) }
     ensures disks { result.disks ≡ disks }
 {
-    let ending = run_session(alloc, words, source, sink);
+    let outcome = run_session(alloc, words, source, sink);
     Ended {
-        status: status_of(&ending),
+        status: status_of(&outcome.ending),
+        lives: outcome.lives,
         disks,
     }
+}
+
+/// How a session ended, and what the hosts did in it.
+#[derive(Drop)]
+struct Outcome {
+    ending: Ending,
+    lives: Vec<Life>,
 }
 
 /// Runs a session, and says how it ended.
@@ -44,20 +54,64 @@ fn run_session<S: Source, K: Sink>(
     words: &[String],
     source: &mut S,
     sink: &mut K,
-) -> Ending
-    ensures session { IsSession (length words.now) (S.left source.old) (S.left source.new) (K.written sink.old) (K.written sink.new) result }
-    ensures read_fault { result ≡ ending.ReadFault → Rose (S.faults source.old) (S.faults source.new) }
-    ensures write_fault { result ≡ ending.WriteFault → Rose (K.faults sink.old) (K.faults sink.new) }
+) -> Outcome
+    ensures session { IsSession (length words.now) (S.left source.old) (S.left source.new) (K.written sink.old) (K.written sink.new) result.ending result.lives.items }
+    ensures read_fault { result.ending ≡ ending.ReadFault → Rose (S.faults source.old) (S.faults source.new) }
+    ensures write_fault { result.ending ≡ ending.WriteFault → Rose (K.faults sink.old) (K.faults sink.new) }
 {
+    let lives = Vec::new(alloc);
     if !words.is_empty() {
-        return finish(alloc, sink, Ending::Words);
+        let ending = finish(alloc, sink, Ending::Words);
+        return Outcome { ending, lives };
     }
-    let mut session = match Session::new(alloc) {
-        Ok(session) => session,
-        Err(NoMemory) => return Ending::NoMemory,
-    };
+    match open(alloc) {
+        Ok(opened) => run_opened(alloc, opened, source, sink),
+        Err(NoMemory) => Outcome {
+            ending: Ending::NoMemory,
+            lives,
+        },
+    }
+}
+
+/// A session before its first line, and room for its life.
+#[derive(Drop)]
+struct Opened {
+    session: Session,
+    lives: Vec<Life>,
+}
+
+/// Opens a session, and makes the room for what it will hand back.
+///
+/// # Errors
+/// `NoMemory`.
+fn open(alloc: Global) -> Result<Opened, NoMemory>
+    ensures { IfOk result (λ opened. HasOpened opened.session opened.lives) }
+{
+    let lives = Vec::with_capacity(alloc, 1)?;
+    let session = Session::new(alloc)?;
+    Ok(Opened { session, lives })
+}
+
+/// Runs a session that was opened, and says how it ended.
+fn run_opened<S: Source, K: Sink>(
+    alloc: Global,
+    opened: Opened,
+    source: &mut S,
+    sink: &mut K,
+) -> Outcome
+    requires { HasOpened opened.session opened.lives }
+    ensures session { IsSession 0 (S.left source.old) (S.left source.new) (K.written sink.old) (K.written sink.new) result.ending result.lives.items }
+    ensures read_fault { result.ending ≡ ending.ReadFault → Rose (S.faults source.old) (S.faults source.new) }
+    ensures write_fault { result.ending ≡ ending.WriteFault → Rose (K.faults sink.old) (K.faults sink.new) }
+{
+    let Opened {
+        mut session,
+        mut lives,
+    } = opened;
     let meant = session.run(alloc, source, sink);
-    finish(alloc, sink, meant)
+    lives.push_reserved(session.end_life(alloc));
+    let ending = finish(alloc, sink, meant);
+    Outcome { ending, lives }
 }
 
 /// Prints the line of the fault by which a session is meant to end, and says how it ends.

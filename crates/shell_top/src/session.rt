@@ -1,22 +1,22 @@
 //! A session: line after line is read, served and answered.
 ghost use Rattle.std.specs.Prelude.{◌≡◌, ◌≤◌, ◌<◌, ◌+◌, ℕ, List, Option, [], None, Some, IfOk, IfNone, length, position, nat_lt, ◌&&◌};
-ghost use Rattle.std.specs.FinMap as map;
 ghost use Rattle.std.specs.Io.KnownBytes.{IsAtEnd};
 ghost use Rattle.host_io.specs.Fault.{Rose};
 ghost use Rattle.shell_top.specs.declared.ended.Ending.TheVariants as ending;
-ghost use Rattle.world_core.specs.WorldState.{state_of};
-ghost use Rattle.world_core.specs.Idle.{idle};
 ghost use Rattle.shell_top.specs.Reader.{IsPartial, is_newline};
-ghost use Rattle.shell_top.specs.Session.{GoesOn, GoesToEnd};
+ghost use Rattle.shell_top.specs.Session.{GoesOn, GoesToEnd, IsOpen};
+ghost use Rattle.world_core.specs.Lives.{fresh_life};
+ghost use Rattle.world_core.specs.World.{new_world};
+ghost use Rattle.world_core.specs.WorldOf.{whole_of};
 
 use crate::ended::Ending;
-use crate::parts::cluster::Cluster;
 use crate::reader::{Filled, LINE_BYTES, Reader};
 use crate::script::{Parsed, parse};
 use crate::serve::put;
 use host_io::{Sink, Source};
-use sig_core::NoMemory;
+use sig_core::{Life, NoMemory};
 use std::alloc::Global;
+use world_core::World;
 
 /// The most lines that a script has.
 const LINES: u32 = 65_536;
@@ -25,33 +25,42 @@ const LINES: u32 = 65_536;
 #[derive(Drop)]
 pub struct Session {
     reader: Reader,
-    cluster: Cluster,
+    world: World,
     /// The number of the next line, from 1.
     line: u32,
 }
 
 impl Session {
-    /// Before the first line, over a fresh cluster.
+    /// Before the first line, over a fresh world.
     ///
     /// # Errors
     /// `NoMemory`.
     pub fn new(alloc: Global) -> Result<Session, NoMemory>
         ensures reader { IfOk result (λ s. s.reader ≡ []) }
-        ensures cluster { IfOk result (λ s. state_of s.cluster ≡ idle 1 map.empty []) }
+        ensures world { IfOk result (λ s. whole_of s.world ≡ new_world) }
+        ensures opened { IfOk result (λ s. IsOpen (whole_of s.world) s.line) }
         ensures line { IfOk result (λ s. s.line ≡ 1) }
     {
         let reader = Reader::new(alloc)?;
-        let cluster = Cluster::new(alloc)?;
+        let world = World::new(alloc)?;
         Ok(Session {
             reader,
-            cluster,
+            world,
             line: 1,
         })
     }
 
+    /// What the hosts did. Takes no memory.
+    pub fn end_life(self, alloc: Global) -> Life
+        ensures { result ≡ fresh_life (whole_of self.world).logs }
+    {
+        self.world.end_life(alloc)
+    }
+
     /// Reads, serves and answers line after line, and says why that ends.
     pub fn run<S: Source, K: Sink>(&mut self, alloc: Global, source: &mut S, sink: &mut K) -> Ending
-        ensures done { GoesToEnd self.old (S.left source.old) (S.left source.new) (K.written sink.old) (K.written sink.new) result }
+        requires opened { IsOpen (whole_of self.old.world) self.old.line }
+        ensures done { GoesToEnd self.old self.new (S.left source.old) (S.left source.new) (K.written sink.old) (K.written sink.new) result }
         ensures read_cause { result ≡ ending.ReadFault → Rose (S.faults source.old) (S.faults source.new) }
         ensures write_cause { result ≡ ending.WriteFault → Rose (K.faults sink.old) (K.faults sink.new) }
         ensures read_steady { S.faults source.old ≤ S.faults source.new }
@@ -71,7 +80,9 @@ impl Session {
         source: &mut S,
         sink: &mut K,
     ) -> Option<Ending>
+        requires opened { IsOpen (whole_of self.old.world) self.old.line }
         ensures done { GoesOn self.old self.new (S.left source.old) (S.left source.new) (K.written sink.old) (K.written sink.new) result }
+        ensures opened { IfNone result (IsOpen (whole_of self.new.world) self.new.line) }
         ensures next { IfNone result ((self.new.line ≡ self.old.line + 1) × (self.old.line ≤ 65536)) }
         ensures read_cause { result ≡ Some ending.ReadFault → Rose (S.faults source.old) (S.faults source.new) }
         ensures write_cause { result ≡ Some ending.WriteFault → Rose (K.faults sink.old) (K.faults sink.new) }
@@ -103,6 +114,8 @@ impl Session {
     fn whole_line<K: Sink>(&mut self, alloc: Global, sink: &mut K, at: usize) -> Option<Ending>
         requires found { position is_newline self.old.reader ≡ Some at }
         requires low { self.old.line ≤ 65536 }
+        requires opened { IsOpen (whole_of self.old.world) self.old.line }
+        ensures opened { IfNone result (IsOpen (whole_of self.new.world) self.new.line) }
         ensures done { (left : Option (List ℕ)) → GoesOn self.old self.new left left (K.written sink.old) (K.written sink.new) result }
         ensures next { IfNone result (self.new.line ≡ self.old.line + 1) }
         ensures unread { result ≡ Some ending.ReadFault → ⊥ }
@@ -118,7 +131,7 @@ impl Session {
         self.line = line + 1;
         match &parsed {
             Parsed::Nothing => None,
-            Parsed::Put(key, value) => put(alloc, &mut self.cluster, sink, key, value),
+            Parsed::Put(key, value) => put(alloc, &mut self.world, sink, key, value),
             Parsed::Fault(fault) => Some(Ending::Refused {
                 line,
                 fault: *fault,
@@ -130,7 +143,8 @@ impl Session {
     fn last_line<K: Sink>(&mut self, alloc: Global, sink: &mut K) -> Ending
         requires partial { IsPartial self.old.reader }
         requires low { 0 < length self.old.reader → self.old.line ≤ 65536 }
-        ensures done { (left : Option (List ℕ)) → IsAtEnd left → GoesToEnd self.old left left (K.written sink.old) (K.written sink.new) result }
+        requires opened { IsOpen (whole_of self.old.world) self.old.line }
+        ensures done { (left : Option (List ℕ)) → IsAtEnd left → GoesToEnd self.old self.new left left (K.written sink.old) (K.written sink.new) result }
         ensures unread { result ≡ ending.ReadFault → ⊥ }
         ensures write_cause { result ≡ ending.WriteFault → Rose (K.faults sink.old) (K.faults sink.new) }
         ensures write_steady { K.faults sink.old ≤ K.faults sink.new }
@@ -143,7 +157,7 @@ impl Session {
         let parsed = parse(held);
         match &parsed {
             Parsed::Nothing => Ending::Finished,
-            Parsed::Put(key, value) => match put(alloc, &mut self.cluster, sink, key, value) {
+            Parsed::Put(key, value) => match put(alloc, &mut self.world, sink, key, value) {
                 None => Ending::Finished,
                 Some(ending) => ending,
             },

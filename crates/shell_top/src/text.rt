@@ -1,39 +1,12 @@
-//! The text of replies and faults.
-ghost use Rattle.std.specs.Prelude.{◌≡◌, ◌++◌, OnOk, IfOk, string_bytes};
+//! The text of faults.
+ghost use Rattle.std.specs.Prelude.{◌≡◌, IfOk, string_bytes};
 ghost use Rattle.shell_top.specs.declared.ended.Ending.TheVariants.{Refused, TooLong};
-ghost use Rattle.shell_top.specs.Text.{api_reply, reply_line, fault_line, status_of};
+ghost use Rattle.shell_top.specs.Text.{fault_line, status_of};
 
 use crate::ended::Ending;
-use crate::parts::api::Reply;
-use script_lang::{LineFault, print_reply};
-use sig_core::{ApiReply, NoMemory, Outcome};
+use script_lang::LineFault;
+use sig_core::NoMemory;
 use std::alloc::Global;
-
-/// Adds the line of a reply to a text.
-///
-/// # Errors
-/// `NoMemory`.
-pub fn put_reply(alloc: Global, reply: &Reply, text: &mut Vec<u8>) -> Result<(), NoMemory>
-    ensures { OnOk result (text.new.items ≡ text.old.items ++ reply_line reply.now) }
-{
-    print_reply(alloc, &api_reply(reply), text)
-}
-
-/// A reply, as the language of scripts has it.
-fn api_reply(reply: &Reply) -> ApiReply
-    ensures { result ≡ api_reply reply.now }
-{
-    match reply {
-        Reply::Answered(answer) => ApiReply::Answered {
-            name: None,
-            answer: *answer,
-        },
-        Reply::Committed(epoch) => ApiReply::Ended {
-            name: None,
-            outcome: Outcome::Committed(*epoch),
-        },
-    }
-}
 
 /// The line that is printed last where a session ends so, or nothing.
 ///

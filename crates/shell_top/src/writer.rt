@@ -2,7 +2,7 @@
 ghost use Rattle.std.specs.Prelude.{◌≡◌, ◌≤◌, OnOk, OnErr};
 ghost use Rattle.std.specs.Io.KnownBytes.{Appends};
 ghost use Rattle.host_io.specs.Fault.{Rose};
-ghost use Rattle.shell_top.specs.Session.{AppendsPart};
+ghost use Rattle.shell_top.specs.Printed.{AppendsPart};
 
 use host_io::{Failed, Sink};
 

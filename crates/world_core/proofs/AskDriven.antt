@@ -26,7 +26,7 @@ use Rattle.world_core.proofs.FlightLemmas.{put_flights}
 use Rattle.world_core.proofs.LinkWeight.{put_all_weight}
 use Rattle.world_core.proofs.MoveRight.{logs_are, move_right, step_of}
 use Rattle.world_core.proofs.QuietLemmas.{quiet_logs}
-use Rattle.world_core.proofs.StepDriven.{latest_after, log_grows, quiet_before, right_logs, stamp_low}
+use Rattle.world_core.proofs.StepDriven.{latest_after, log_grows, quiet_before, right_logs, stamp_low, within}
 use Rattle.world_core.proofs.TakeRight.{ask_ready}
 use Rattle.world_core.proofs.Weight.{blocks_lighter}
 
@@ -64,6 +64,7 @@ module _ (start : Start) (given : List ApiReply) (w : Whole) (right : IsRight st
         right = λ others was. move_right start others w signal (ask_ready start others w was request);
         more = log_grows start given w signal ready;
         logs = right_logs start given (asked w request) (move_right start given w signal ready);
+        within = within start given (asked w request) (move_right start given w signal ready);
         requests = ap requests log_is;
         asked = at_quiet;
         state = state_is;

@@ -27,9 +27,9 @@ use Rattle.world_core.specs.Right.{with_given}
 use Rattle.world_core.specs.Tc.{tc_row}
 
 -- the same step of the API, with these replies in front
-record IsSame (given : List ApiReply) (a b : Step ApiState) : Type 0 where
-  effects : a.effects ≡ b.effects
-  state : a.state ≡ with_given given b.state
+pub record IsSame (given : List ApiReply) (a b : Step ApiState) : Type 0 where
+  pub effects : a.effects ≡ b.effects
+  pub state : a.state ≡ with_given given b.state
 
 begin_same : (given : List ApiReply) (s : ApiState) (op : Op) (v : Serving) → IsSame given (begin_by (with_given given s) op v) (begin_by s op v)
 begin_same given s op serving.Idle = record { effects = refl; state = refl }
@@ -61,7 +61,7 @@ report_same : (given : List ApiReply) (s : ApiState) (tx : TxId) (epoch : ℕ) (
 report_same given s tx epoch (serving.Committing asked) = report_if_same given s tx epoch _
 report_same given s tx epoch _ = record { effects = refl; state = refl }
 
-api_same : (given : List ApiReply) (s : ApiState) (body : Body) → IsSame given (api_row (with_given given s) body) (api_row s body)
+pub api_same : (given : List ApiReply) (s : ApiState) (body : Body) → IsSame given (api_row (with_given given s) body) (api_row s body)
 api_same given s (Host (Continue (Request (Operate None op)) at)) = begin_same given s op s.serving
 api_same given s (Client (TcBeginConf None tx)) = operate_same given s tx s.serving
 api_same given s (Client (TcKeyConf tx answer)) = commit_same given s tx answer s.serving

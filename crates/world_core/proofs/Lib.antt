@@ -1,6 +1,7 @@
 pub mod AskDriven
 pub mod BlockParts
 pub mod FlightLemmas
+pub mod FreshWorld
 pub mod LinkIndex
 pub mod LinkWeight
 pub mod LogIndex
@@ -8,6 +9,7 @@ pub mod MoveRight
 pub mod NoRequests
 pub mod PutServed
 pub mod QuietLemmas
+pub mod Replies
 pub mod SampleRun
 pub mod SentFacts
 pub mod Settled

@@ -147,6 +147,7 @@ step_driven start given w right t e =
       grown = record {
         more = log_grows start given u t.signal ready;
         right = right_logs start given (moved u t.signal) (move_right start given u t.signal ready);
+        within = within start given (moved u t.signal) (move_right start given u t.signal ready);
         requests = requests_kept start given u t.signal ready fact.plain;
         asked = asked_kept start given u t.signal ready fact.plain;
       };

@@ -19,7 +19,7 @@ use Rattle.world_core.proofs.AskDriven as ask
 use Rattle.world_core.proofs.LinkWeight.{next_lighter}
 use Rattle.world_core.proofs.QuietLemmas.{none_next}
 use Rattle.world_core.proofs.Settled.{reaches_itself, reaches_trans}
-use Rattle.world_core.proofs.StepDriven.{next_is, right_logs, stamp_low, step_driven, taken_early}
+use Rattle.world_core.proofs.StepDriven.{next_is, right_logs, stamp_low, step_driven, taken_early, within}
 use Rattle.world_core.proofs.TakeRight.{left_of, take_ready, taken_between, taken_first}
 
 -- a request can be taken
@@ -64,7 +64,7 @@ pub ruleset steps = (can_take, has_stepped, has_stayed)
 -- logs that have not grown
 pub grown_itself : (start : Start) (w : Whole) → IsSound start w → HaveGrown start (logs_at w.logs) (logs_at w.logs)
 grown_itself start w sound =
-    record { more = λ h. past_self (logs_at w.logs h); right = right_logs start sound.given w sound.right; requests = refl; asked = λ was. was }
+    record { more = λ h. past_self (logs_at w.logs h); right = right_logs start sound.given w sound.right; within = within start sound.given w sound.right; requests = refl; asked = λ was. was }
 
 pub driven_itself : (start : Start) (w : Whole) → IsSound start w → IsDriven start w w
 driven_itself start w sound =
@@ -75,6 +75,7 @@ grown_further start a b c first second =
     record {
       more = λ h. past_trans (first.more h) (second.more h);
       right = second.right;
+      within = second.within;
       requests = second.requests ∙ first.requests;
       asked = λ was. second.asked (first.asked was);
     }

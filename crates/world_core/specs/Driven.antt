@@ -30,6 +30,7 @@ pub record IsSound (start : Start) (w : Whole) : Type 0 where
 pub record HaveGrown (start : Start) (old new : ℕ → List LogStep) : Type 0 where
   pub more : (h : ℕ) → IsPast (old h) (new h)
   pub right : AreLogs (machine start) new
+  pub within : IsWithin hosts new
   pub requests : requests (new 0) ≡ requests (old 0)
   pub asked : AreAskedAtQuiet start old → AreAskedAtQuiet start new
 
@@ -45,6 +46,7 @@ pub record HasAsked (start : Start) (request : ApiReq) (w t : Whole) : Type 0 wh
   pub right : (given : List ApiReply) → IsRight start given w → IsRight start given t
   pub more : (h : ℕ) → IsPast (logs_at w.logs h) (logs_at t.logs h)
   pub logs : AreLogs (machine start) (logs_at t.logs)
+  pub within : IsWithin hosts (logs_at t.logs)
   pub requests : requests (logs_at t.logs 0) ≡ requests (logs_at w.logs 0) ++ request ∷ []
   -- if nothing was under way, it was asked at quiet
   pub asked : IsQuiet (state_of w) → AreAskedAtQuiet start (logs_at w.logs) → AreAskedAtQuiet start (logs_at t.logs)

@@ -77,7 +77,11 @@ new_world =
 abbrev pub state_of : Whole → State
 state_of w = record { blocks = w.blocks; links = flights w.links }
 
--- a world whose API has these replies to give
+-- the replies that the API has to give
+abbrev pub replies_of : Whole → List ApiReply
+replies_of w = w.blocks.api.replies
+
+-- a world whose API has these to give
 abbrev pub with_replies : Whole → List ApiReply → Whole
 with_replies w replies =
     record w { blocks = record w.blocks { api = record { serving = w.blocks.api.serving; replies = replies } } }

@@ -31,7 +31,7 @@ impl World {
     ghost use Rattle.world_core.specs.Driven.{HasAsked, HaveGrown, IsDriven, IsSound, IsStepped, latest, latest_to_come};
     ghost use Rattle.world_core.specs.Lives.{fresh_life};
     ghost use Rattle.world_core.specs.Start.{fresh};
-    ghost use Rattle.world_core.specs.World.{CanTake, logs_at, moved, new_world, state_of, with_replies};
+    ghost use Rattle.world_core.specs.World.{CanTake, logs_at, moved, new_world, replies_of, state_of, with_replies};
     ghost use Rattle.world_core.specs.WorldOf.{whole_of};
 
     /// A fresh cluster: nothing has happened, and there are no rows.
@@ -101,8 +101,8 @@ impl World {
 
     /// The next reply of the API, in order, each once.
     pub fn next_reply(&mut self) -> Option<ApiReply>
-        ensures some { whole_of self.old ≡ with_replies (whole_of self.new) (option_to_list result ++ self.new.blocks.api.replies) }
-        ensures none { result ≡ None → self.old.blocks.api.replies ≡ [] }
+        ensures some { whole_of self.old ≡ with_replies (whole_of self.new) (option_to_list result ++ replies_of (whole_of self.new)) }
+        ensures none { result ≡ None → replies_of (whole_of self.old) ≡ [] }
     {
         self.blocks.api.next_reply()
     }

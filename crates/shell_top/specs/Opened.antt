@@ -1,0 +1,18 @@
+-- A session that has not begun.
+use Rattle.std.specs.Prelude.{◌≡◌, ◌<◌, List, [], length}
+use Rattle.std.specs.Global.{Vec}
+use Rattle.std.specs.Vec.{vec_capacity}
+use Rattle.sig_core.specs.declared.log.Life.{Life}
+use Rattle.shell_top.specs.declared.session.Session.{Session}
+use Rattle.shell_top.specs.Session.{IsOpen}
+use Rattle.world_core.specs.World.{new_world}
+use Rattle.world_core.specs.WorldOf.{whole_of}
+
+-- it is before its first line, its world is fresh, and there is room for its life
+pub record HasOpened (session : Session) (lives : Vec Life) : Type 0 where
+  pub reader : session.reader ≡ []
+  pub line : session.line ≡ 1
+  pub world : whole_of session.world ≡ new_world
+  pub opened : IsOpen (whole_of session.world) session.line
+  pub none : lives.items ≡ []
+  pub room : 0 < vec_capacity lives
