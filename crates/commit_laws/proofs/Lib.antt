@@ -1,0 +1,2 @@
+pub mod HostOne
+pub mod RowMarks
