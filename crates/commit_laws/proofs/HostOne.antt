@@ -37,7 +37,7 @@ insert_last : (a : Entry) (xs : List Entry) → IsLast a xs → insert a xs ≡ 
 insert_last a [] all = refl
 insert_last a (b ∷ xs) all = rw all.0 (ap (λ w. b ∷ w) (insert_last a xs all.1))
 
-each_reverse : {A : Type 0} (P : A → Type 0) (xs : List A) → Each P xs → Each P (reverse xs)
+pub each_reverse : {A : Type 0} (P : A → Type 0) (xs : List A) → Each P xs → Each P (reverse xs)
 each_reverse P [] all = tt
 each_reverse P (x ∷ xs) all = rw (reverse-append (x ∷ []) xs) (each_append P (reverse xs) (x ∷ []) (each_reverse P xs all.1) (all.0, tt))
 
