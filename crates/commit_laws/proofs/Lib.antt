@@ -1,3 +1,5 @@
+pub mod Chains
 pub mod Epochs
 pub mod HostOne
+pub mod Others
 pub mod RowMarks
