@@ -3,3 +3,5 @@ pub mod Epochs
 pub mod HostOne
 pub mod Others
 pub mod RowMarks
+pub mod Scenes
+pub mod Sights
