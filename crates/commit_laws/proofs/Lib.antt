@@ -1,6 +1,7 @@
 pub mod Chains
 pub mod Epochs
 pub mod HostOne
+pub mod Moves
 pub mod Others
 pub mod RowMarks
 pub mod Scenes
