@@ -3,6 +3,7 @@ pub mod Epochs
 pub mod HostOne
 pub mod Moves
 pub mod Others
+pub mod Quiet
 pub mod RowMarks
 pub mod Scenes
 pub mod Sights
