@@ -128,5 +128,5 @@ module _ (start : Start) where
       let newer : List Outgoing = chains p.newer in
       let own : chains (x ∷ taken (machine start) i to) ≡ bare x ∷ old = rw of_chain refl in
       let all : chain_sent start j from ≡ newer ++ (bare x ∷ old) =
-          sym (chains_sent i j from) ∙ (ap chains p.is ∙ (chains-append p.newer (x ∷ taken (machine start) i to) ∙ ap (λ w. newer ++ w) own)) in
+      sym (chains_sent i j from) ∙ (ap chains p.is ∙ (chains-append p.newer (x ∷ taken (machine start) i to) ∙ ap (λ w. newer ++ w) own)) in
       record { newer = newer; is = ends_alike under (newer ++ bare x ∷ []) old (sym link ∙ (all ∙ sym (append_assoc newer (bare x ∷ []) old))) }

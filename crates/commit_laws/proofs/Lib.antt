@@ -2,8 +2,10 @@ pub mod Chains
 pub mod Epochs
 pub mod HostOne
 pub mod Moves
+pub mod OneQuiet
 pub mod Others
 pub mod Quiet
 pub mod RowMarks
 pub mod Scenes
 pub mod Sights
+pub mod Story
