@@ -3,7 +3,9 @@ pub mod Epochs
 pub mod HostOne
 pub mod Moves
 pub mod OneQuiet
+pub mod OneTakes
 pub mod Others
+pub mod Puts
 pub mod Quiet
 pub mod RowMarks
 pub mod Scenes

@@ -21,7 +21,7 @@ use Rattle.commit_laws.proofs.Scenes.{Aside, Job, Scene, Idle, Begun, WriteSent,
 use Rattle.commit_laws.proofs.Sights.{next_one, next_two}
 
 -- a number equals itself
-itself : (n : ℕ) → eqb n n ≡ true
+pub itself : (n : ℕ) → eqb n n ≡ true
 itself n = eq-eqb n n refl
 
 -- where the primary goes on with a write, and leaves what isn't one
