@@ -130,3 +130,14 @@ module _ (start : Start) where
       let all : chain_sent start j from ≡ newer ++ (bare x ∷ old) =
       sym (chains_sent i j from) ∙ (ap chains p.is ∙ (chains-append p.newer (x ∷ taken (machine start) i to) ∙ ap (λ w. newer ++ w) own)) in
       record { newer = newer; is = ends_alike under (newer ++ bare x ∷ []) old (sym link ∙ (all ∙ sym (append_assoc newer (bare x ∷ []) old))) }
+
+  -- a link from a host that sent nothing of the chain gives nothing of it
+  pub none_given : (i j : ℕ) (from to : List LogStep) (x : Signal) → chain_sent start j from ≡ [] → is_chain x.body ≡ true
+      → IsGiven (machine start) i j from (x ∷ taken (machine start) i to) → ⊥
+  none_given i j from to x none of_chain given =
+      let p = given_past i j from (x ∷ taken (machine start) i to) given in
+      let newer : List Outgoing = chains p.newer in
+      let own : chains (x ∷ taken (machine start) i to) ≡ bare x ∷ chain_taken i to = rw of_chain refl in
+      let all : [] ≡ newer ++ (bare x ∷ chain_taken i to) =
+      sym none ∙ (sym (chains_sent i j from) ∙ (ap chains p.is ∙ (chains-append p.newer (x ∷ taken (machine start) i to) ∙ ap (λ w. newer ++ w) own))) in
+      omega (arith, ap length all, length-append newer (bare x ∷ chain_taken i to))

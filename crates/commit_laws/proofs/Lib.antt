@@ -8,6 +8,8 @@ pub mod Others
 pub mod Puts
 pub mod Quiet
 pub mod RowMarks
+pub mod Runs
 pub mod Scenes
 pub mod Sights
 pub mod Story
+pub mod TwoTakes

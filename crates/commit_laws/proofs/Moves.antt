@@ -5,6 +5,7 @@ use Rattle.std.specs.FinMap as map
 use Rattle.std.proofs.lemmas.Bool.{eq-eqb}
 use Rattle.sig_core.specs.declared.entry.Entry.{Entry}
 use Rattle.sig_core.specs.declared.log.LogStep.{LogStep}
+use Rattle.sig_core.specs.declared.mark.Mark.TheVariants.{Prepared}
 use Rattle.sig_core.specs.declared.op.Answer.TheVariants.{Done}
 use Rattle.sig_core.specs.declared.op.Op.{Op}
 use Rattle.sig_core.specs.declared.op.Op.TheVariants.{Get, GetX, Put, Ins, Upd, Del}
@@ -90,3 +91,12 @@ module _ (epoch : ℕ) (a : Aside) where
   pub second_completes : (job : Job) → two_takes (CompleteSent job) (rows_of 2) (Chain (Complete (tx job) job.key replicas 1)) ≡ sight epoch a (SecondComplete job)
   unfolding row
   second_completes job = simp (itself job.seq)
+
+  -- and which marks host 2 has then
+  pub second_prepares_marks : (job : Job) → (row (sight epoch a (FirstPrepared job)).two (rows_of 2) (Chain (LqhKeyReq (tx job) (Store job.key (Some job.value)) replicas 1))).effects.marks ≡ Prepared (tx job) job.key ∷ []
+  unfolding row
+  second_prepares_marks job = refl
+
+  pub second_commits_marks : (job : Job) (entry : Entry) → (row (sight epoch a (CommitSent job entry)).two (rows_of 2) (Chain (Commit (tx job) job.key epoch replicas 1))).effects.marks ≡ []
+  unfolding row
+  second_commits_marks job entry = refl

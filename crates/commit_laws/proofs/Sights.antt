@@ -79,7 +79,7 @@ module _ (start : Start) (one two : List LogStep) (v : Sight) (e : LogStep) (s :
       let same : step_after start log e ≡ r = ap (λ b. row b e.taken.to e.taken.body) is in
       ap₂ (λ (t : Step Blocks) c. chained j t.effects.sends c) same link ∙ chained-append j r.effects.sends under old
 
-  marks_are : (h : ℕ) (log : List LogStep) (w : Blocks) → after start log ≡ w → IsStep (machine start) h log e → e.marks ≡ (row w e.taken.to e.taken.body).effects.marks
+  pub marks_are : (h : ℕ) (log : List LogStep) (w : Blocks) → after start log ≡ w → IsStep (machine start) h log e → e.marks ≡ (row w e.taken.to e.taken.body).effects.marks
   marks_are h log w is step = step.fits.marks ∙ ap (λ b. (row b e.taken.to e.taken.body).effects.marks) is
 
   pub shows_one : (left_11 left_21 : List Outgoing) → IsStep (machine start) 1 one e
