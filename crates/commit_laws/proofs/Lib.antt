@@ -1,6 +1,7 @@
 pub mod Chains
 pub mod Epochs
 pub mod HostOne
+pub mod Kept
 pub mod Moves
 pub mod OneQuiet
 pub mod OneTakes

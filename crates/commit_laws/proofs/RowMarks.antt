@@ -237,3 +237,15 @@ block_epoch s node body _ = refl
 pub row_epoch : (s : Blocks) (to : Place) (body : Body) → (row s to body).state.dih.epoch ≡ s.dih.epoch
 unfolding row
 row_epoch s to body = block_epoch s to.node body to.block
+
+-- on node 0 the only marks are reports
+block_marks_zero : (s : Blocks) (body : Body) (at : BlockId) → HasEach IsReport (block_by s 0 body at)
+block_marks_zero s body block.Api = api_marks s.api body
+block_marks_zero s body block.Tc = tt
+block_marks_zero s body block.Dih = tt
+block_marks_zero s body block.Lqh = tt
+block_marks_zero s body _ = tt
+
+pub row_marks_zero : (s : Blocks) (to : Place) (body : Body) → to.node ≡ 0 → HasEach IsReport (row s to body)
+unfolding row
+row_marks_zero s to body on = subst (λ node. HasEach IsReport (block_by s node body to.block)) (sym on) (block_marks_zero s body to.block)
