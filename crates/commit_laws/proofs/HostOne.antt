@@ -49,7 +49,7 @@ later_is_last : (v w s t h k : ℕ) → v ≡ w → t < s → (nat_lt v w || ((v
 later_is_last v w s t h k same lt = grind (arith, nat_tests)
 
 module _ (start : Start) where
-  off_plain : (h : ℕ) (log : List LogStep) (e : LogStep) → (h == 1) ≡ false → IsStep (machine start) h log e → Each IsPlain e.marks
+  pub off_plain : (h : ℕ) (log : List LogStep) (e : LogStep) → (h == 1) ≡ false → IsStep (machine start) h log e → Each IsPlain e.marks
   off_plain h log e off s =
       let there : (e.taken.to.node == 1) ≡ false = ap (λ k. k == 1) s.at ∙ off in
       subst (Each IsPlain) (sym s.fits.marks) (row_marks_off (after start log) e.taken.to e.taken.body there)
@@ -59,7 +59,7 @@ module _ (start : Start) where
   no_entries h [] off l = refl
   no_entries h (e ∷ log) off l = plain_entries h e.stamp (e ∷ log) e.marks (entries_of h log) (off_plain h log e off l.0) ∙ no_entries h log off l.1
 
-  one_marks : (log : List LogStep) (e : LogStep) → IsStep (machine start) 1 log e → MarksOne (after start log).dih.epoch e.marks
+  pub one_marks : (log : List LogStep) (e : LogStep) → IsStep (machine start) 1 log e → MarksOne (after start log).dih.epoch e.marks
   one_marks log e s = subst (MarksOne (after start log).dih.epoch) (sym s.fits.marks) (row_marks_one (after start log) e.taken.to e.taken.body s.at)
 
   -- the first epoch is the only one

@@ -9,6 +9,7 @@ pub mod Others
 pub mod Puts
 pub mod Quiet
 pub mod RowMarks
+pub mod RowsAtRest
 pub mod Runs
 pub mod Scenes
 pub mod Sights
