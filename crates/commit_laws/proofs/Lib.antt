@@ -12,6 +12,7 @@ pub mod RowMarks
 pub mod RowsAtRest
 pub mod Runs
 pub mod Scenes
+pub mod Serial
 pub mod Sights
 pub mod Story
 pub mod TwoTakes
