@@ -1,5 +1,5 @@
 -- The history is the list of host 1: no other host decides, and stamps rise along a log.
-use Rattle.std.proofs.Common.{◌≡◌, ◌≢◌, ◌==◌, ◌&&◌, ◌||◌, ◌<◌, ◌≤◌, ℕ, Bool, true, false, List, [], ◌∷◌, ◌++◌, filter, reverse, if◌then◌else◌, nat_lt, refl, sym, ap, ◌∙◌, subst, arith}
+use Rattle.std.proofs.Common.{◌≡◌, ◌==◌, ◌&&◌, ◌||◌, ◌<◌, ◌≤◌, ℕ, false, List, [], ◌∷◌, ◌++◌, filter, reverse, nat_lt, refl, sym, ap, ◌∙◌, subst, arith}
 use Rattle.std.proofs.lemmas.Bool.Decides.{nat_tests}
 use Rattle.std.proofs.lemmas.List.{reverse-append}
 use Rattle.run_theory.specs.Lists.{Each}
@@ -14,7 +14,7 @@ use Rattle.sig_core.specs.declared.mark.Mark.TheVariants as mark
 use Rattle.sig_core.specs.declared.member.TxId.{TxId}
 use Rattle.world_core.specs.Entries.{installed_in, view_at, entry_of, entries_in, entries_of, is_before, insert, insert_all, entries}
 use Rattle.world_core.specs.History.{is_kept, history}
-use Rattle.world_core.specs.Machine.{after, hosts, machine, step_after}
+use Rattle.world_core.specs.Machine.{after, hosts, machine}
 use Rattle.world_core.specs.Start.{Start}
 use Rattle.commit_laws.proofs.RowMarks.{IsPlain, MarksOne, plain, decides, row_marks_off, row_marks_one, row_epoch}
 

@@ -1,11 +1,11 @@
 -- The history is the list of the applied entries: they are kept, and the open one isn't.
-use Rattle.std.proofs.Common.{◌≡◌, ◌≢◌, ◌==◌, ◌&&◌, ◌||◌, ◌<◌, ℕ, Bool, true, false, List, [], ◌∷◌, ◌++◌, append-nil, cond, filter, reverse, if◌then◌else◌, refl, sym, ap, ap₂, ◌∙◌, subst, ne_eqb, arith}
+use Rattle.std.proofs.Common.{◌≡◌, ◌==◌, ◌&&◌, ◌||◌, ◌<◌, ℕ, Bool, true, false, List, [], ◌∷◌, ◌++◌, append-nil, filter, reverse, if◌then◌else◌, refl, sym, ap, ap₂, ◌∙◌, subst, ne_eqb, arith}
 use Rattle.std.specs.List.{list_any}
 use Rattle.std.proofs.lemmas.Bool.{and_right}
 use Rattle.std.proofs.lemmas.List.{reverse-append}
 use Rattle.std.proofs.lemmas.List.Elements.{filter-append}
 use Rattle.run_theory.specs.Lists.{Each}
-use Rattle.run_theory.specs.Logs.{IsStep, IsLog}
+use Rattle.run_theory.specs.Logs.{IsLog}
 use Rattle.run_theory.specs.Runs.{AreLogs, IsWithin}
 use Rattle.run_theory.proofs.Pasts.{each_map}
 use Rattle.sig_core.specs.declared.entry.Entry.{Entry}
@@ -13,7 +13,6 @@ use Rattle.sig_core.specs.declared.log.LogStep.{LogStep}
 use Rattle.sig_core.specs.declared.mark.Mark.{Mark}
 use Rattle.sig_core.specs.declared.mark.Mark.TheVariants as mark
 use Rattle.sig_core.specs.declared.member.TxId.{TxId}
-use Rattle.world_core.specs.Entries.{entries_of}
 use Rattle.world_core.specs.History.{is_done, writes, is_applied, is_reported, is_kept, history}
 use Rattle.world_core.specs.Machine.{after, hosts, machine}
 use Rattle.world_core.specs.Marks.{has_mark, have_mark}

@@ -1,6 +1,6 @@
 -- From scene to scene: what a step that takes the signal of the scene leads to.
-use Rattle.std.proofs.Common.{◌≡◌, ℕ, ◌+◌, true, false, List, [], ◌∷◌, refl, sym, ap, ◌∙◌, eqb}
-use Rattle.std.specs.Prelude.{Option, None, Some}
+use Rattle.std.proofs.Common.{◌≡◌, ℕ, true, List, [], ◌∷◌, refl, eqb}
+use Rattle.std.specs.Prelude.{Some}
 use Rattle.std.specs.FinMap as map
 use Rattle.std.proofs.lemmas.Bool.{eq-eqb}
 use Rattle.sig_core.specs.declared.entry.Entry.{Entry}
@@ -18,7 +18,7 @@ use Rattle.sig_core.specs.declared.signal.epoch.EpochSignal.TheVariants.{DiVerif
 use Rattle.world_core.specs.Entries.{entry_of}
 use Rattle.world_core.specs.Place.{coordinator, coordinator_of, epochs, rows_of, replicas}
 use Rattle.world_core.specs.Row.{row}
-use Rattle.commit_laws.proofs.Scenes.{Aside, Job, Scene, Idle, Begun, WriteSent, Stuck, FirstPrepared, BothPrepared, Answered, EpochAsked, EpochGiven, CommitSent, SecondCommitted, BothCommitted, CompleteSent, SecondComplete, BothComplete, Sight, tx_of, tx, answered, sight, txs}
+use Rattle.commit_laws.proofs.Scenes.{Aside, Job, Scene, Idle, WriteSent, Stuck, FirstPrepared, BothPrepared, Answered, EpochAsked, EpochGiven, CommitSent, SecondCommitted, BothCommitted, CompleteSent, SecondComplete, BothComplete, Sight, tx_of, tx, answered, sight}
 use Rattle.commit_laws.proofs.Sights.{next_one, next_two}
 
 -- a number equals itself

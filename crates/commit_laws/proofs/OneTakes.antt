@@ -1,9 +1,8 @@
 -- A step of host 1 that takes the signal of the scene leads to the next scene.
 use Rattle.std.proofs.Common.{◌≡◌, ◌<◌, ◌+◌, ℕ, List, [], ◌∷◌, ◌++◌, refl, sym, ap, ◌∙◌, subst, arith}
-use Rattle.std.specs.Prelude.{Option, None, Some}
+use Rattle.std.specs.Prelude.{Some}
 use Rattle.std.specs.FinMap as map
 use Rattle.run_theory.specs.Logs.{IsStep}
-use Rattle.run_theory.specs.Lists.{Each}
 use Rattle.run_theory.proofs.Pasts.{each_map}
 use Rattle.sig_core.specs.declared.entry.Entry.{Entry}
 use Rattle.sig_core.specs.declared.log.LogStep.{LogStep}
@@ -16,13 +15,12 @@ use Rattle.sig_core.specs.declared.signal.Body.TheVariants.{Epoch}
 use Rattle.sig_core.specs.declared.signal.epoch.EpochSignal.TheVariants.{DiVerifyReq}
 use Rattle.world_core.specs.Entries.{else_of, entry_of, ops_of, verified_by}
 use Rattle.world_core.specs.Machine.{machine}
-use Rattle.world_core.specs.Row.{row}
 use Rattle.world_core.specs.Start.{Start}
 use Rattle.commit_laws.proofs.Chains.{IsOldest, bare, chain_taken}
 use Rattle.commit_laws.proofs.Moves.{after_write, itself, one_takes, write_taken, answer_taken, epoch_given, epoch_taken, first_commits, commit_taken, first_completes, forgotten}
 use Rattle.commit_laws.proofs.Puts.{fold_job}
-use Rattle.commit_laws.proofs.Scenes.{Aside, Job, Scene, Idle, Begun, WriteSent, Stuck, FirstPrepared, BothPrepared, Answered, EpochAsked, EpochGiven, CommitSent, SecondCommitted, BothCommitted, CompleteSent, SecondComplete, BothComplete, Sight, tx, answered, under_11, under_21, sight}
-use Rattle.commit_laws.proofs.Sights.{Shows, next_one, shows_one}
+use Rattle.commit_laws.proofs.Scenes.{Aside, Job, Scene, Idle, WriteSent, BothPrepared, Answered, EpochAsked, EpochGiven, CommitSent, SecondCommitted, BothCommitted, CompleteSent, SecondComplete, BothComplete, Sight, tx, answered, under_11, under_21, sight}
+use Rattle.commit_laws.proofs.Sights.{Shows, shows_one}
 use Rattle.commit_laws.proofs.Story.{IsEntryOf, IsRight, Tells}
 
 -- of one signal under way it is the oldest, and of none there is no oldest

@@ -21,10 +21,10 @@ use Rattle.world_core.specs.declared.api.Serving.TheVariants as serving
 use Rattle.world_core.specs.declared.blocks.Blocks.{Blocks}
 use Rattle.world_core.specs.Api.{ApiState, begin_by, operate_by, commit_if, commit_by, report_if, report_by, api_row}
 use Rattle.world_core.specs.Blocks.{in_api, block_by}
-use Rattle.world_core.specs.Machine.{after, machine, step_after}
+use Rattle.world_core.specs.Machine.{after, machine}
 use Rattle.world_core.specs.Row.{row}
 use Rattle.world_core.specs.Start.{Start}
-use Rattle.commit_laws.proofs.Chains.{IsUnchained, chained, chain_sent}
+use Rattle.commit_laws.proofs.Chains.{IsUnchained, chain_sent}
 
 abbrev SendsNone : {S : Type 0} → Step S → Type 0
 SendsNone step = IsUnchained step.effects.sends

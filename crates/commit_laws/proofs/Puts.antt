@@ -1,12 +1,12 @@
 -- Histories of puts: each is legal, and one put more inserts its row.
-use Rattle.std.proofs.Common.{◌≡◌, ℕ, List, [], ◌∷◌, ◌++◌, reverse, refl, sym, ap, ◌∙◌, subst}
+use Rattle.std.proofs.Common.{◌≡◌, List, [], ◌∷◌, ◌++◌, reverse, refl, sym, ap, ◌∙◌, subst}
 use Rattle.std.specs.FinMap as map
 use Rattle.std.proofs.lemmas.List.{reverse-append}
 use Rattle.run_theory.specs.Lists.{Each}
 use Rattle.serial_model.specs.Legal.{AreAnswered, after_ops, IsLegal, fold}
 use Rattle.sig_core.specs.declared.entry.Entry.{Entry}
 use Rattle.sig_core.specs.Table.{Rows}
-use Rattle.commit_laws.proofs.Scenes.{Job, answered}
+use Rattle.commit_laws.proofs.Scenes.{Job}
 use Rattle.commit_laws.proofs.Story.{IsPut, IsEntryOf}
 
 fold-append : (rows : Rows) (xs ys : List Entry) → fold rows (xs ++ ys) ≡ fold (fold rows xs) ys

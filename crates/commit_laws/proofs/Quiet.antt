@@ -1,6 +1,6 @@
 -- What a signal that isn't of the chain does at hosts 1 and 2: it begins a transaction, asks for its operation or for its
 -- commit, or changes nothing that the scenes tell.
-use Rattle.std.proofs.Common.{◌≡◌, ◌==◌, ◌^◌, ◌-◌, ◌||◌, ℕ, Bool, true, false, List, [], ◌∷◌, if◌then◌else◌, refl, sym, subst}
+use Rattle.std.proofs.Common.{◌≡◌, ◌==◌, ◌^◌, ◌-◌, ◌||◌, ℕ, Bool, true, false, List, [], refl, sym, subst}
 use Rattle.std.specs.Prelude.{Option, None, Some, is_some}
 use Rattle.sig_core.specs.declared.member.TxId.{TxId}
 use Rattle.sig_core.specs.declared.op.Answer.{Answer}

@@ -1,5 +1,5 @@
 -- What marks a row has: only the block of epochs on node 1 decides, and no block installs a view.
-use Rattle.std.proofs.Common.{◌≡◌, ◌≢◌, ◌⊎◌, ◌==◌, ℕ, ◌-◌, ◌+◌, Bool, true, false, List, [], ◌∷◌, if◌then◌else◌, refl, sym, subst}
+use Rattle.std.proofs.Common.{◌≡◌, ◌==◌, ℕ, ◌-◌, Bool, true, false, List, [], ◌∷◌, if◌then◌else◌, refl, sym, subst}
 use Rattle.std.specs.Prelude.{Option, None, Some, slice_get}
 use Rattle.run_theory.specs.Lists.{Each}
 use Rattle.sig_core.specs.declared.mark.Mark.{Mark}
@@ -32,7 +32,7 @@ use Rattle.world_core.specs.declared.tc.Phase.{Phase}
 use Rattle.world_core.specs.declared.tc.Phase.TheVariants as phase
 use Rattle.world_core.specs.declared.tc.Tc.{Tc}
 use Rattle.world_core.specs.Api.{ApiState, begin_by, operate_by, commit_if, commit_by, report_if, report_by, api_row}
-use Rattle.world_core.specs.Blocks.{in_first, in_second, block_by, blocks_row}
+use Rattle.world_core.specs.Blocks.{in_first, in_second, block_by}
 use Rattle.world_core.specs.Dih.{dih_row, ended_by, ended_if}
 use Rattle.world_core.specs.Lqh.{prepare_by, lqh_row, prepared_at, passed_to, committed_at_if, completed_at_if}
 use Rattle.world_core.specs.Row.{row}

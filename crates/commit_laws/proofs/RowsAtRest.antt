@@ -1,9 +1,6 @@
 -- The rows of each live replica are those of the history, for each key at rest; and the history is legal.
-use Rattle.std.proofs.Common.{◌≡◌, ◌⊎◌, ◌==◌, ℕ, Bool, true, false, List, [], ◌∷◌, bytes_eq, cond, reverse, refl, sym, ap, ◌∙◌, subst, inl, inr, true≢false}
-use Rattle.std.specs.List.{list_any}
-use Rattle.std.specs.Ordering.{nat_cmp}
+use Rattle.std.proofs.Common.{◌≡◌, ◌⊎◌, ◌==◌, ℕ, true, false, List, [], ◌∷◌, bytes_eq, cond, refl, sym, ap, ◌∙◌, subst, inl, inr, true≢false}
 use Rattle.std.specs.Prelude.{Some}
-use Rattle.std.specs.Cmp.Lexicographic.{slice_cmp}
 use Rattle.std.specs.FinMap as map
 use Rattle.std.specs.FinMap.{get-insert}
 use Rattle.std.proofs.lemmas.Bool.{cases_Bool}
@@ -14,7 +11,6 @@ use Rattle.run_theory.specs.Lists.{Each, IsIn}
 use Rattle.run_theory.specs.Logs.{IsLog}
 use Rattle.run_theory.specs.Runs.{AreLogs, IsWithin}
 use Rattle.serial_model.specs.Legal.{IsLegal, fold}
-use Rattle.sig_core.specs.declared.entry.Entry.{Entry}
 use Rattle.sig_core.specs.declared.log.LogStep.{LogStep}
 use Rattle.sig_core.specs.declared.mark.Mark.{Mark}
 use Rattle.sig_core.specs.declared.mark.Mark.TheVariants as mark
@@ -24,9 +20,8 @@ use Rattle.sig_core.specs.Table.{Rows}
 use Rattle.world_core.specs.declared.blocks.Blocks.{Blocks}
 use Rattle.world_core.specs.History.{history}
 use Rattle.world_core.specs.Machine.{after, hosts, machine}
-use Rattle.world_core.specs.Marks.{has_mark}
 use Rattle.world_core.specs.Place.{first_view, replicas}
-use Rattle.world_core.specs.Rest.{is_prepared, is_done, IsSettled, IsAtRest, rows_at}
+use Rattle.world_core.specs.Rest.{IsSettled, IsAtRest, rows_at}
 use Rattle.world_core.specs.Start.{Start}
 use Rattle.world_core.specs.Views.{greatest_in, greatest_of, greatest_view, live_nodes}
 use Rattle.commit_laws.proofs.HostOne.{off_plain, one_marks}
@@ -35,7 +30,7 @@ use Rattle.commit_laws.proofs.Puts.{puts_legal}
 use Rattle.commit_laws.proofs.RowMarks.{IsPlain, MarksOne, plain, decides}
 use Rattle.commit_laws.proofs.Runs.{tells_of_logs}
 use Rattle.commit_laws.proofs.Scenes.{Job, Scene, SecondCommitted, second_rows, tx}
-use Rattle.commit_laws.proofs.Story.{HasPrepared, IsPending, IsRight, Tells}
+use Rattle.commit_laws.proofs.Story.{HasPrepared, IsPending, Tells}
 
 -- plain marks install no view
 plain_greatest : (marks : List Mark) (view : View) → Each IsPlain marks → greatest_in marks view ≡ view

@@ -1,9 +1,9 @@
 -- After every run, and of all right logs, the story holds.
-use Rattle.std.proofs.Common.{◌≡◌, ◌≢◌, ◌⊎◌, ◌==◌, ℕ, Bool, true, false, List, [], ◌∷◌, ◌++◌, refl, sym, ap, ◌∙◌, subst, subst₂, inl, inr, ne_eqb, arith}
+use Rattle.std.proofs.Common.{◌≡◌, ◌≢◌, ◌⊎◌, ℕ, Bool, true, false, List, [], ◌∷◌, refl, sym, ap, ◌∙◌, subst, subst₂, inl, inr, ne_eqb, arith}
 use Rattle.std.specs.Prelude.{None}
 use Rattle.std.proofs.lemmas.Bool.{cases_eq, cases_Bool}
 use Rattle.run_theory.specs.Links.{taken, IsGiven}
-use Rattle.run_theory.specs.Logs.{IsStep, IsLog}
+use Rattle.run_theory.specs.Logs.{IsStep}
 use Rattle.run_theory.specs.Runs.{log_of, Happens, Run, AreLogs, IsWithin}
 use Rattle.run_theory.proofs.Along.{along_run, of_runs}
 use Rattle.run_theory.proofs.Runs.{log_of-own, log_of-other, logs_of_run, taken-step, taken-other}
@@ -12,7 +12,7 @@ use Rattle.sig_core.specs.declared.signal.Signal.{Signal}
 use Rattle.world_core.specs.Machine.{asked_rightly, hosts, is_request, last_stamp, machine}
 use Rattle.world_core.specs.Start.{Start, started}
 use Rattle.world_core.proofs.SampleRun.{stamped}
-use Rattle.commit_laws.proofs.Chains.{IsOldest, bare, chains, is_chain, chain_taken, none_given, oldest_given}
+use Rattle.commit_laws.proofs.Chains.{bare, chains, is_chain, chain_taken, none_given, oldest_given}
 use Rattle.commit_laws.proofs.OneQuiet.{quiet_tells}
 use Rattle.commit_laws.proofs.OneTakes.{none_oldest, taken_from_one, taken_from_two}
 use Rattle.commit_laws.proofs.Others.{others_send_none}

@@ -1,5 +1,5 @@
 -- The scenes of a transaction, from its begin to its end: what the blocks hold in each, and what is under way.
-use Rattle.std.proofs.Common.{◌≡◌, ℕ, false, true, List, [], ◌∷◌, ◌++◌}
+use Rattle.std.proofs.Common.{ℕ, false, true, List, [], ◌∷◌, ◌++◌}
 use Rattle.std.specs.Prelude.{Option, None, Some}
 use Rattle.std.specs.FinMap as map
 use Rattle.sig_core.specs.declared.entry.Entry.{Entry}

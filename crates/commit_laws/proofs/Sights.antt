@@ -1,8 +1,7 @@
 -- How what is seen of hosts 1 and 2 changes with a step of one of them.
-use Rattle.std.proofs.Common.{◌≡◌, ℕ, Bool, true, false, List, [], ◌∷◌, ◌++◌, refl, sym, ap, ap₂, ◌∙◌}
+use Rattle.std.proofs.Common.{◌≡◌, ℕ, List, [], ◌∷◌, ◌++◌, ap, ap₂, ◌∙◌}
 use Rattle.run_theory.specs.Links.{taken}
 use Rattle.run_theory.specs.Logs.{IsStep}
-use Rattle.sig_core.specs.declared.entry.Entry.{Entry}
 use Rattle.sig_core.specs.declared.log.LogStep.{LogStep}
 use Rattle.sig_core.specs.declared.mark.Mark.{Mark}
 use Rattle.sig_core.specs.declared.mark.Mark.TheVariants as mark
@@ -14,7 +13,7 @@ use Rattle.world_core.specs.Entries.{entries_in, entries_of}
 use Rattle.world_core.specs.Machine.{after, machine, step_after}
 use Rattle.world_core.specs.Row.{row}
 use Rattle.world_core.specs.Start.{Start}
-use Rattle.commit_laws.proofs.Chains.{bare, chained, chained-append, chain_sent, chain_taken}
+use Rattle.commit_laws.proofs.Chains.{chained, chained-append, chain_sent, chain_taken}
 use Rattle.commit_laws.proofs.Scenes.{Sight}
 
 -- the transactions that these marks tell to be applied, in front of those before

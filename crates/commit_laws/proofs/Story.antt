@@ -1,5 +1,5 @@
 -- What is true of the logs of hosts 1 and 2 after every run: a scene is seen, and what its numbers, rows and entries are.
-use Rattle.std.proofs.Common.{◌≡◌, ◌<◌, ◌+◌, ℕ, Bool, true, false, List, [], ◌∷◌, ◌++◌, ◌||◌, reverse, refl, sym, ap, ◌∙◌}
+use Rattle.std.proofs.Common.{◌≡◌, ◌<◌, ◌+◌, ℕ, true, false, List, [], ◌∷◌, ◌++◌, ◌||◌, reverse, ap, ◌∙◌}
 use Rattle.std.specs.List.{list_any}
 use Rattle.run_theory.specs.Lists.{Each}
 use Rattle.serial_model.specs.Legal.{fold}

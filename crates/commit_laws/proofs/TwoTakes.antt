@@ -1,10 +1,9 @@
 -- A step of host 2 leads to the next scene where it takes the signal of the scene, and else keeps it.
-use Rattle.std.proofs.Common.{◌≡◌, ◌&&◌, ◌||◌, ℕ, Bool, true, false, List, [], ◌∷◌, ◌++◌, bytes_eq, refl, sym, ap, ◌∙◌, subst}
+use Rattle.std.proofs.Common.{◌≡◌, ℕ, true, false, List, [], ◌∷◌, ◌++◌, bytes_eq, refl, sym, ap, ◌∙◌, subst}
 use Rattle.std.specs.List.{list_any}
 use Rattle.std.proofs.lemmas.Slice.Eq.{bytes_eq-Decides}
-use Rattle.std.specs.Prelude.{Option, None, Some}
+use Rattle.std.specs.Prelude.{Option, Some}
 use Rattle.run_theory.specs.Logs.{IsStep}
-use Rattle.sig_core.specs.declared.entry.Entry.{Entry}
 use Rattle.sig_core.specs.declared.log.LogStep.{LogStep}
 use Rattle.sig_core.specs.declared.mark.Mark.{Mark}
 use Rattle.sig_core.specs.declared.mark.Mark.TheVariants as mark
@@ -22,7 +21,7 @@ use Rattle.commit_laws.proofs.OneTakes.{only_one, none_oldest}
 use Rattle.commit_laws.proofs.Quiet.{QuietTwo, rests_two, aside_two, row_quiet_two}
 use Rattle.commit_laws.proofs.Scenes.{Aside, Job, Scene, FirstPrepared, BothPrepared, CommitSent, SecondCommitted, CompleteSent, SecondComplete, Sight, tx, under_12, sight}
 use Rattle.commit_laws.proofs.Sights.{Shows, marks_are, next_two, shows_two}
-use Rattle.commit_laws.proofs.Story.{HasPrepared, IsPending, IsRight, Tells, pending_more}
+use Rattle.commit_laws.proofs.Story.{HasPrepared, IsRight, Tells, pending_more}
 
 bytes_itself : (key : List ℕ) → bytes_eq key key ≡ true
 bytes_itself key = (bytes_eq-Decides key key).1 refl
