@@ -11,6 +11,8 @@ pub mod Quiet
 pub mod RowMarks
 pub mod RowsAtRest
 pub mod Runs
+pub mod SampleRuns
+pub mod SampleSteps
 pub mod Scenes
 pub mod Serial
 pub mod Sights
