@@ -16,7 +16,8 @@ use Rattle.world_core.specs.Entries.{installed_in, view_at, entry_of, entries_in
 use Rattle.world_core.specs.History.{is_kept, history}
 use Rattle.world_core.specs.Machine.{after, hosts, machine}
 use Rattle.world_core.specs.Start.{Start}
-use Rattle.commit_laws.proofs.RowMarks.{IsPlain, MarksOne, plain, decides, row_marks_off, row_marks_one, row_epoch}
+use Rattle.commit_laws.proofs.RowMarks.{IsPlain, MarksOne, plain, decides, row_marks_off, row_marks_one}
+use Rattle.commit_laws.proofs.RowEpoch.{row_epoch}
 
 -- plain marks make no entry, and install no view
 plain_entries : (h stamp : ℕ) (log : List LogStep) (marks : List Mark) (before : List Entry) → Each IsPlain marks → entries_in h stamp log marks before ≡ before

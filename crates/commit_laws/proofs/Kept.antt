@@ -35,7 +35,7 @@ or_swap true false c = refl
 or_swap false true c = refl
 or_swap false false c = refl
 
-or_true : (a b : Bool) → b ≡ true → (a || b) ≡ true
+pub or_true : (a b : Bool) → b ≡ true → (a || b) ≡ true
 or_true true b is = refl
 or_true false b is = is
 

@@ -8,13 +8,16 @@ pub mod OneTakes
 pub mod Others
 pub mod Puts
 pub mod Quiet
+pub mod RowEpoch
 pub mod RowMarks
 pub mod RowsAtRest
 pub mod Runs
+pub mod Sample
 pub mod SampleRuns
 pub mod SampleSteps
 pub mod Scenes
 pub mod Serial
+pub mod Settling
 pub mod Sights
 pub mod Story
 pub mod TwoTakes

@@ -18,7 +18,7 @@ use Rattle.sig_core.specs.declared.signal.Body.TheVariants.{Host, Client, Chain,
 use Rattle.sig_core.specs.declared.signal.chain.ChainSignal.TheVariants.{LqhKeyReq, LqhKeyConf, Commit, Committed, Complete, Completed}
 use Rattle.sig_core.specs.declared.signal.chain.RowWork.TheVariants.{Operate, Store}
 use Rattle.sig_core.specs.declared.signal.client.ClientSignal.TheVariants.{TcBeginReq, TcBeginConf, TcKeyReq, TcKeyConf, TcCommitReq, TcCommitConf, TcCommitAck}
-use Rattle.sig_core.specs.declared.signal.epoch.EpochSignal.TheVariants.{DiVerifyReq, DiVerifyConf, DiVerifyEnd}
+use Rattle.sig_core.specs.declared.signal.epoch.EpochSignal.TheVariants.{DiVerifyReq, DiVerifyConf}
 use Rattle.sig_core.specs.declared.signal.host.HostSignal.TheVariants.{Continue}
 use Rattle.sig_core.specs.declared.signal.host.Work.TheVariants.{Request}
 use Rattle.sig_core.specs.Step.{Effects, Step, stay}
@@ -33,7 +33,7 @@ use Rattle.world_core.specs.declared.tc.Phase.TheVariants as phase
 use Rattle.world_core.specs.declared.tc.Tc.{Tc}
 use Rattle.world_core.specs.Api.{ApiState, begin_by, operate_by, commit_if, commit_by, report_if, report_by, api_row}
 use Rattle.world_core.specs.Blocks.{in_first, in_second, block_by}
-use Rattle.world_core.specs.Dih.{dih_row, ended_by, ended_if}
+use Rattle.world_core.specs.Dih.{dih_row}
 use Rattle.world_core.specs.Lqh.{prepare_by, lqh_row, prepared_at, passed_to, committed_at_if, completed_at_if}
 use Rattle.world_core.specs.Row.{row}
 use Rattle.world_core.specs.Tc as tc
@@ -204,39 +204,6 @@ block_marks_one s body _ = plain tt
 pub row_marks_one : (s : Blocks) (to : Place) (body : Body) → to.node ≡ 1 → MarksOne s.dih.epoch (row s to body).effects.marks
 unfolding row
 row_marks_one s to body on = subst (λ node. MarksOne s.dih.epoch (block_by s node body to.block).effects.marks) (sym on) (block_marks_one s body to.block)
-
--- no block changes the epoch
-ended_if_epoch : (s : Dih) (b : Bool) → (ended_if s b).epoch ≡ s.epoch
-ended_if_epoch s true = refl
-ended_if_epoch s false = refl
-
-ended_epoch : (s : Dih) (tx : TxId) (counted : Option TxId) → (ended_by s tx counted).epoch ≡ s.epoch
-ended_epoch s tx None = refl
-ended_epoch s tx (Some counted) = ended_if_epoch s _
-
-dih_epoch : (s : Dih) (body : Body) → (dih_row s body).state.epoch ≡ s.epoch
-dih_epoch s (Epoch (DiVerifyReq tx ops)) = refl
-dih_epoch s (Epoch (DiVerifyEnd tx)) = ended_epoch s tx s.counted
-dih_epoch s body = refl
-
-if_epoch : (s : Blocks) (t : Step Blocks) (b : Bool) → t.state.dih.epoch ≡ s.dih.epoch → (if b then t else stay s).state.dih.epoch ≡ s.dih.epoch
-if_epoch s t true is = is
-if_epoch s t false is = refl
-
-rows_epoch : (s : Blocks) (body : Body) (b c : Bool) → (if b then in_first s (lqh_row s.first body) else (if c then in_second s (lqh_row s.second body) else stay s)).state.dih.epoch ≡ s.dih.epoch
-rows_epoch s body true c = refl
-rows_epoch s body false c = if_epoch s (in_second s (lqh_row s.second body)) c refl
-
-block_epoch : (s : Blocks) (node : ℕ) (body : Body) (at : BlockId) → (block_by s node body at).state.dih.epoch ≡ s.dih.epoch
-block_epoch s node body block.Api = if_epoch s _ _ refl
-block_epoch s node body block.Tc = if_epoch s _ _ refl
-block_epoch s node body block.Dih = if_epoch s _ _ (dih_epoch s.dih body)
-block_epoch s node body block.Lqh = rows_epoch s body _ _
-block_epoch s node body _ = refl
-
-pub row_epoch : (s : Blocks) (to : Place) (body : Body) → (row s to body).state.dih.epoch ≡ s.dih.epoch
-unfolding row
-row_epoch s to body = block_epoch s to.node body to.block
 
 -- on node 0 the only marks are reports
 block_marks_zero : (s : Blocks) (body : Body) (at : BlockId) → HasEach IsReport (block_by s 0 body at)

@@ -1,5 +1,5 @@
 -- The sample is a run: each step computes.
-use Rattle.std.proofs.Common.{◌≡◌, ◌+◌, ℕ, max, Bool, true, false, List, [], ◌∷◌, drop, refl, sym, subst, inl}
+use Rattle.std.proofs.Common.{◌≡◌, ◌+◌, ℕ, max, Bool, true, false, List, [], ◌∷◌, drop, refl, inl}
 use Rattle.std.specs.Prelude.{None}
 use Rattle.run_theory.specs.Links.{sent, taken}
 use Rattle.run_theory.specs.Logs.{last, IsRunning}
