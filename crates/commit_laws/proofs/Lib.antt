@@ -2,6 +2,8 @@ pub mod Chains
 pub mod Epochs
 pub mod HostOne
 pub mod Kept
+pub mod Legal
+pub mod LiveNodes
 pub mod Moves
 pub mod OneQuiet
 pub mod OneTakes

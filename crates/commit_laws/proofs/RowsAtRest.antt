@@ -1,5 +1,5 @@
--- The rows of each live replica are those of the history, for each key at rest; and the history is legal.
-use Rattle.std.proofs.Common.{◌≡◌, ◌⊎◌, ◌==◌, ℕ, true, false, List, [], ◌∷◌, bytes_eq, cond, refl, sym, ap, ◌∙◌, subst, inl, inr, true≢false}
+-- The rows of each live replica are those of the history, for each key at rest.
+use Rattle.std.proofs.Common.{◌≡◌, ◌⊎◌, ℕ, true, false, List, bytes_eq, cond, refl, sym, ap, ◌∙◌, subst, inl, inr, true≢false}
 use Rattle.std.specs.Prelude.{Some}
 use Rattle.std.specs.FinMap as map
 use Rattle.std.specs.FinMap.{get-insert}
@@ -7,55 +7,24 @@ use Rattle.std.proofs.lemmas.Bool.{cases_Bool}
 use Rattle.std.proofs.lemmas.Cmp.{nat_list_cmp_total}
 use Rattle.std.proofs.lemmas.Map.Text.{is_eq-slice_cmp}
 use Rattle.std.proofs.lemmas.Slice.Eq.{bytes_eq-Decides}
-use Rattle.run_theory.specs.Lists.{Each, IsIn}
-use Rattle.run_theory.specs.Logs.{IsLog}
+use Rattle.run_theory.specs.Lists.{IsIn}
 use Rattle.run_theory.specs.Runs.{AreLogs, IsWithin}
-use Rattle.serial_model.specs.Legal.{IsLegal, fold}
+use Rattle.serial_model.specs.Legal.{fold}
 use Rattle.sig_core.specs.declared.log.LogStep.{LogStep}
-use Rattle.sig_core.specs.declared.mark.Mark.{Mark}
-use Rattle.sig_core.specs.declared.mark.Mark.TheVariants as mark
 use Rattle.sig_core.specs.declared.member.Member.{Member}
-use Rattle.sig_core.specs.declared.view.View.{View}
 use Rattle.sig_core.specs.Table.{Rows}
 use Rattle.world_core.specs.declared.blocks.Blocks.{Blocks}
 use Rattle.world_core.specs.History.{history}
-use Rattle.world_core.specs.Machine.{after, hosts, machine}
-use Rattle.world_core.specs.Place.{first_view, replicas}
+use Rattle.world_core.specs.Machine.{hosts, machine}
+use Rattle.world_core.specs.Place.{replicas}
 use Rattle.world_core.specs.Rest.{IsSettled, IsAtRest, rows_at}
 use Rattle.world_core.specs.Start.{Start}
-use Rattle.world_core.specs.Views.{greatest_in, greatest_of, greatest_view, live_nodes}
-use Rattle.commit_laws.proofs.HostOne.{off_plain, one_marks}
+use Rattle.world_core.specs.Views.{live_nodes}
 use Rattle.commit_laws.proofs.Kept.{history_applied}
-use Rattle.commit_laws.proofs.Puts.{puts_legal}
-use Rattle.commit_laws.proofs.RowMarks.{IsPlain, MarksOne, plain, decides}
 use Rattle.commit_laws.proofs.Runs.{tells_of_logs}
 use Rattle.commit_laws.proofs.Scenes.{Job, Scene, SecondCommitted, second_rows, tx}
 use Rattle.commit_laws.proofs.Story.{HasPrepared, IsPending, Tells}
-
--- plain marks install no view
-plain_greatest : (marks : List Mark) (view : View) → Each IsPlain marks → greatest_in marks view ≡ view
-plain_greatest [] view all = refl
-plain_greatest (mark.Installed other ∷ marks) view all = absurd all.0
-plain_greatest (m ∷ marks) view all = plain_greatest marks view all.1
-
-one_greatest : (epoch : ℕ) (marks : List Mark) (view : View) → MarksOne epoch marks → greatest_in marks view ≡ view
-one_greatest epoch marks view (plain all) = plain_greatest marks view all
-one_greatest epoch marks view (decides asked is) = ap (λ w. greatest_in w view) is
-
-module _ (start : Start) where
-  off_greatest : (h : ℕ) (log : List LogStep) (view : View) → (h == 1) ≡ false → IsLog (machine start) h log → greatest_of log view ≡ view
-  off_greatest h [] view off l = refl
-  off_greatest h (e ∷ log) view off l = plain_greatest e.marks (greatest_of log view) (off_plain start h log e off l.0) ∙ off_greatest h log view off l.1
-
-  first_greatest : (log : List LogStep) (view : View) → IsLog (machine start) 1 log → greatest_of log view ≡ view
-  first_greatest [] view l = refl
-  first_greatest (e ∷ log) view l = one_greatest (after start log).dih.epoch e.marks (greatest_of log view) (one_marks start log e l.0) ∙ first_greatest log view l.1
-
-  -- the live nodes are those of the first view
-  lives : (logs : ℕ → List LogStep) → AreLogs (machine start) logs → live_nodes hosts logs ≡ replicas
-  lives logs a =
-      ap (λ (v : View). v.full) (off_greatest 2 (logs 2) (greatest_view 2 logs) refl (a.local 2)
-      ∙ (first_greatest (logs 1) (greatest_view 1 logs) (a.local 1) ∙ off_greatest 0 (logs 0) first_view refl (a.local 0)))
+use Rattle.commit_laws.proofs.LiveNodes.{lives}
 
 -- an inserted row is the only one that changes
 get_other : (rows : Rows) (key value other : List ℕ) → bytes_eq other key ≡ false → map.get (map.insert rows key value) other ≡ map.get rows other
@@ -82,10 +51,6 @@ second_agrees _ rows key log has settled = refl
 module _ (start : Start) (logs : ℕ → List LogStep) (within : IsWithin hosts logs) (a : AreLogs (machine start) logs) where
   told : Tells start (logs 1) (logs 2)
   told = tells_of_logs start logs within a
-
-  -- the history is legal
-  pub history_legal : IsLegal start.rows (history hosts logs)
-  history_legal = subst (IsLegal start.rows) (sym (history_applied start logs within a told)) (puts_legal start.rows told.aside.applied told.right.puts)
 
   -- the rows of the first replica are those of the history
   applied_rows : told.aside.rows ≡ fold start.rows (history hosts logs)

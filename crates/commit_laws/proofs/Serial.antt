@@ -11,7 +11,8 @@ use Rattle.world_core.specs.Start.{Start}
 use Rattle.world_core.specs.Strict.{IsStrictOrder}
 use Rattle.world_core.proofs.SampleRun.{stamped}
 use Rattle.commit_laws.proofs.Epochs.{epochs_ordered}
-use Rattle.commit_laws.proofs.RowsAtRest.{history_legal, rows_at_rest}
+use Rattle.commit_laws.proofs.Legal.{history_legal}
+use Rattle.commit_laws.proofs.RowsAtRest.{rows_at_rest}
 
 -- right logs whose history is in strict order are serial
 pub serial_if_strict : (start : Start) (logs : ℕ → List LogStep) → IsWithin hosts logs → AreLogs (machine start) logs → IsStrictOrder start (logs 0) (history hosts logs) → IsSerial start logs
