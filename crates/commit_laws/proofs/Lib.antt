@@ -1,0 +1,6 @@
+pub mod Falling
+pub mod Numbers
+pub mod PlainSignals
+pub mod TransactionNumbers
+pub mod NumbersTaken
+pub mod ReportedWasTold
