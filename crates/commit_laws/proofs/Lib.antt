@@ -4,3 +4,5 @@ pub mod PlainSignals
 pub mod TransactionNumbers
 pub mod NumbersTaken
 pub mod ReportedWasTold
+pub mod EntriesFall
+pub mod StrictOrder

@@ -102,11 +102,61 @@ ReportsTold tx told marks = list_any (is_reported tx) marks ≡ true → IsIn tx
 
 report_if_reports : (s : ApiState) (tx other : TxId) (epoch : ℕ) (b : Bool) (told : List ℕ) → (b ≡ true → IsIn other.seq told) → ReportsTold tx told (report_if s other epoch b).effects.marks
 report_if_reports s tx other epoch true told new any =
-    let same : same_tx other tx ≡ true = ? in
+    let same : same_tx other tx ≡ true = only (same_tx other tx) any in
     subst (λ n. IsIn n told) (same_seq other tx same) (new refl)
+  where
+    only : (b : Bool) → (b || false) ≡ true → b ≡ true
+    only true is = refl
+    only false is = is
 report_if_reports s tx other epoch false told new any = absurd cc
 
 report_reports : (s : ApiState) (tx other : TxId) (epoch : ℕ) (v : Serving) (told : List ℕ) → IsTold v told → ReportsTold tx told (report_by s other epoch v).effects.marks
 report_reports s tx other epoch (Committing asked) told at =
     report_if_reports s tx other epoch (same_tx asked other) told (λ same. subst (λ n. IsIn n told) (same_seq asked other same) at)
 report_reports s tx other epoch _ told at = λ any. absurd cc
+
+api_reports : (s : ApiState) (body : Body) (tx : TxId) (told : List ℕ) → IsTold s.serving told → ReportsTold tx told (api_row s body).effects.marks
+api_reports s (Host (Continue (Request (request.Operate None op)) at)) tx told is = begin_reports s op s.serving
+  where
+    begin_reports : (s : ApiState) (op : Op) (v : Serving) → ReportsTold tx told (begin_by s op v).effects.marks
+    begin_reports s op Idle = λ any. absurd cc
+    begin_reports s op _ = λ any. absurd cc
+api_reports s (Client (TcBeginConf None other)) tx told is = operate_reports s other s.serving
+  where
+    operate_reports : (s : ApiState) (other : TxId) (v : Serving) → ReportsTold tx told (operate_by s other v).effects.marks
+    operate_reports s other (Beginning op) = λ any. absurd cc
+    operate_reports s other _ = λ any. absurd cc
+api_reports s (Client (TcKeyConf other answer)) tx told is = commit_reports s other answer s.serving
+  where
+    if_reports : (s : ApiState) (other : TxId) (answer : Answer) (b : Bool) → ReportsTold tx told (commit_if s other answer b).effects.marks
+    if_reports s other answer true = λ any. absurd cc
+    if_reports s other answer false = λ any. absurd cc
+
+    commit_reports : (s : ApiState) (other : TxId) (answer : Answer) (v : Serving) → ReportsTold tx told (commit_by s other answer v).effects.marks
+    commit_reports s other answer (Operating asked) = if_reports s other answer _
+    commit_reports s other answer _ = λ any. absurd cc
+api_reports s (Client (TcCommitConf other epoch)) tx told is = report_reports s tx other epoch s.serving told is
+api_reports s _ tx told is = λ any. absurd cc
+
+block_reports : (s : Blocks) (body : Body) (block : BlockId) (tx : TxId) (told : List ℕ) → IsTold s.api.serving told → ReportsTold tx told (block_by s 0 body block).effects.marks
+block_reports s body block.Api tx told is = api_reports s.api body tx told is
+block_reports s body _ tx told is = λ any. absurd cc
+
+row_reports : (s : Blocks) (to : Place) (body : Body) → to.node ≡ 0 → (tx : TxId) (told : List ℕ) → IsTold s.api.serving told → ReportsTold tx told (row s to body).effects.marks
+unfolding row
+row_reports s to body at tx told is =
+    subst (λ node. ReportsTold tx told (block_by s node body to.block).effects.marks) (sym at) (block_reports s body to.block tx told is)
+
+-- a transaction that the shell's host reported is one of those of which it was told
+pub reported_was_told : (start : Start) (tx : TxId) (log : List LogStep) → IsLog (machine start) 0 log → has_mark (is_reported tx) log ≡ true → IsIn tx.seq (taken_numbers begun_number log)
+reported_was_told start tx [] l has = absurd cc
+reported_was_told start tx (e ∷ log) l has = go (reported_was_told start tx log l.1) (or_cases (list_any (is_reported tx) e.marks) (has_mark (is_reported tx) log) has)
+  where
+    before : List ℕ
+    before = taken_numbers begun_number log
+
+    go : (has_mark (is_reported tx) log ≡ true → IsIn tx.seq before) → (list_any (is_reported tx) e.marks ≡ true) ⊎ (has_mark (is_reported tx) log ≡ true) → IsIn tx.seq (taken_numbers begun_number (e ∷ log))
+    go below (inl new) =
+        let marked : list_any (is_reported tx) (step_after start log e).effects.marks ≡ true = subst (λ marks. list_any (is_reported tx) marks ≡ true) l.0.fits.marks new in
+        in_cons_option tx.seq (begun_number e.taken.body) before (row_reports (after start log) e.taken.to e.taken.body l.0.at tx before (told_of start log l.1) marked)
+    go below (inr old) = in_cons_option tx.seq (begun_number e.taken.body) before (below old)
