@@ -1,8 +1,10 @@
 pub mod Falling
 pub mod Numbers
+pub mod SameTx
 pub mod PlainSignals
 pub mod TransactionNumbers
 pub mod NumbersTaken
 pub mod ReportedWasTold
+pub mod Undecided
 pub mod EntriesFall
 pub mod StrictOrder

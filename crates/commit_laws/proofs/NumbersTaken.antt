@@ -1,5 +1,5 @@
 -- The numbers that a host reads off the signals it took are an older part of those that the coordinator's host sent.
-use Rattle.std.proofs.Common.{◌≡◌, ◌≢◌, ◌⊎◌, ◌==◌, ℕ, Bool, true, false, List, [], ◌∷◌, ◌++◌, refl, sym, ap, ◌∙◌, subst, inl, inr, Option, None, Some, filter_map, ne_eqb}
+use Rattle.std.proofs.Common.{◌≡◌, ◌≢◌, ◌⊎◌, ℕ, true, false, List, [], ◌∷◌, ◌++◌, refl, sym, ap, ◌∙◌, subst, inl, inr, Option, None, Some, filter_map, ne_eqb}
 use Rattle.std.specs.List.{cons_option}
 use Rattle.std.proofs.lemmas.Bool.{cases_eq, cases_Bool}
 use Rattle.run_theory.specs.Lists.{Each, IsPast}
@@ -16,7 +16,6 @@ use Rattle.sig_core.specs.declared.outs.Outgoing.{Outgoing}
 use Rattle.sig_core.specs.declared.place.Place.{Place}
 use Rattle.sig_core.specs.declared.signal.Body.{Body}
 use Rattle.sig_core.specs.declared.signal.Signal.{Signal}
-use Rattle.world_core.specs.Blocks.{block_by}
 use Rattle.world_core.specs.Machine.{machine, after, step_after, is_request}
 use Rattle.world_core.specs.Row.{row}
 use Rattle.world_core.specs.Start.{Start}

@@ -1,9 +1,9 @@
 -- Signals that no transaction's number is read off: all but those that tell that one has begun, or ask for its epoch.
 -- Only the coordinator sends others.
-use Rattle.std.proofs.Common.{◌≡◌, ◌==◌, ◌+◌, ◌-◌, ℕ, Bool, true, false, List, [], ◌∷◌, ◌++◌, if◌then◌else◌, refl, Option, None, Some}
+use Rattle.std.proofs.Common.{◌≡◌, ◌==◌, ◌-◌, ℕ, Bool, true, false, List, [], ◌∷◌, if◌then◌else◌, refl, Option, None, Some}
 use Rattle.std.specs.Prelude.{slice_get}
 use Rattle.run_theory.specs.Lists.{Each}
-use Rattle.run_theory.proofs.Pasts.{each_append, each_map}
+use Rattle.run_theory.proofs.Pasts.{each_append}
 use Rattle.sig_core.specs.declared.mark.Mark.TheVariants.{Done}
 use Rattle.sig_core.specs.declared.member.Member.{Member}
 use Rattle.sig_core.specs.declared.member.TxId.{TxId}
@@ -22,7 +22,7 @@ use Rattle.sig_core.specs.declared.signal.client.ClientSignal.TheVariants.{TcBeg
 use Rattle.sig_core.specs.declared.signal.epoch.EpochSignal.TheVariants.{DiVerifyReq}
 use Rattle.sig_core.specs.declared.signal.host.HostSignal.TheVariants.{Continue}
 use Rattle.sig_core.specs.declared.signal.host.Work.TheVariants.{Request}
-use Rattle.sig_core.specs.Step.{Effects, Step, nothing, and_mark, and_send, stay}
+use Rattle.sig_core.specs.Step.{Effects, Step, nothing, and_mark, stay}
 use Rattle.world_core.specs.Api.{ApiState, begin_by, operate_by, commit_if, commit_by, report_if, report_by, api_row}
 use Rattle.world_core.specs.Blocks.{in_api, in_tc, in_dih, in_first, in_second, block_by}
 use Rattle.world_core.specs.Dih.{dih_row}

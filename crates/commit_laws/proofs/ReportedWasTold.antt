@@ -1,7 +1,7 @@
 -- The API reports a transaction only after it was told that it has begun.
-use Rattle.std.proofs.Common.{◌≡◌, ◌⊎◌, ◌==◌, ◌&&◌, ◌||◌, ℕ, Bool, true, false, List, [], ◌∷◌, refl, sym, ap, ◌∙◌, subst, inl, inr, eqb-true, Option, None, Some}
+use Rattle.std.proofs.Common.{◌≡◌, ◌⊎◌, ◌||◌, ℕ, Bool, true, false, List, [], ◌∷◌, refl, sym, ap, subst, inl, inr, Option, None, Some}
 use Rattle.std.specs.List.{cons_option, list_any}
-use Rattle.std.proofs.lemmas.Bool.{and_parts, or_cases}
+use Rattle.std.proofs.lemmas.Bool.{or_cases}
 use Rattle.run_theory.specs.Lists.{IsIn}
 use Rattle.run_theory.specs.Logs.{IsLog}
 use Rattle.sig_core.specs.declared.log.LogStep.{LogStep}
@@ -31,6 +31,7 @@ use Rattle.world_core.specs.declared.api.Serving.{Serving}
 use Rattle.world_core.specs.declared.api.Serving.TheVariants.{Idle, Beginning, Operating, Committing}
 use Rattle.world_core.specs.declared.blocks.Blocks.{Blocks}
 use Rattle.commit_laws.proofs.Numbers.{begun_number, taken_numbers, in_cons_option}
+use Rattle.commit_laws.proofs.SameTx.{same_tx-is}
 
 -- the transaction that the API serves is one of those of which it was told
 abbrev pub IsTold : Serving → List ℕ → Type 0
@@ -48,7 +49,7 @@ told_more (Committing tx) o told is = in_cons_option tx.seq o told is
 told_more _ o told is = tt
 
 same_seq : (a b : TxId) → same_tx a b ≡ true → a.seq ≡ b.seq
-same_seq a b is = eqb-true a.seq b.seq (and_parts (a.tc == b.tc && a.start == b.start) (a.seq == b.seq) is).1
+same_seq a b is = ap (λ tx. tx.seq) (same_tx-is a b is)
 
 begin_told : (s : ApiState) (op : Op) (v : Serving) (told : List ℕ) → IsTold s.serving told → IsTold (begin_by s op v).state.serving told
 begin_told s op Idle told is = tt
@@ -115,26 +116,26 @@ report_reports s tx other epoch (Committing asked) told at =
     report_if_reports s tx other epoch (same_tx asked other) told (λ same. subst (λ n. IsIn n told) (same_seq asked other same) at)
 report_reports s tx other epoch _ told at = λ any. absurd cc
 
-api_reports : (s : ApiState) (body : Body) (tx : TxId) (told : List ℕ) → IsTold s.serving told → ReportsTold tx told (api_row s body).effects.marks
-api_reports s (Host (Continue (Request (request.Operate None op)) at)) tx told is = begin_reports s op s.serving
-  where
-    begin_reports : (s : ApiState) (op : Op) (v : Serving) → ReportsTold tx told (begin_by s op v).effects.marks
-    begin_reports s op Idle = λ any. absurd cc
-    begin_reports s op _ = λ any. absurd cc
-api_reports s (Client (TcBeginConf None other)) tx told is = operate_reports s other s.serving
-  where
-    operate_reports : (s : ApiState) (other : TxId) (v : Serving) → ReportsTold tx told (operate_by s other v).effects.marks
-    operate_reports s other (Beginning op) = λ any. absurd cc
-    operate_reports s other _ = λ any. absurd cc
-api_reports s (Client (TcKeyConf other answer)) tx told is = commit_reports s other answer s.serving
-  where
-    if_reports : (s : ApiState) (other : TxId) (answer : Answer) (b : Bool) → ReportsTold tx told (commit_if s other answer b).effects.marks
-    if_reports s other answer true = λ any. absurd cc
-    if_reports s other answer false = λ any. absurd cc
+begin_reports : (s : ApiState) (op : Op) (v : Serving) (tx : TxId) (told : List ℕ) → ReportsTold tx told (begin_by s op v).effects.marks
+begin_reports s op Idle tx told = λ any. absurd cc
+begin_reports s op _ tx told = λ any. absurd cc
 
-    commit_reports : (s : ApiState) (other : TxId) (answer : Answer) (v : Serving) → ReportsTold tx told (commit_by s other answer v).effects.marks
-    commit_reports s other answer (Operating asked) = if_reports s other answer _
-    commit_reports s other answer _ = λ any. absurd cc
+operate_reports : (s : ApiState) (other : TxId) (v : Serving) (tx : TxId) (told : List ℕ) → ReportsTold tx told (operate_by s other v).effects.marks
+operate_reports s other (Beginning op) tx told = λ any. absurd cc
+operate_reports s other _ tx told = λ any. absurd cc
+
+commit_if_reports : (s : ApiState) (other : TxId) (answer : Answer) (b : Bool) (tx : TxId) (told : List ℕ) → ReportsTold tx told (commit_if s other answer b).effects.marks
+commit_if_reports s other answer true tx told = λ any. absurd cc
+commit_if_reports s other answer false tx told = λ any. absurd cc
+
+commit_reports : (s : ApiState) (other : TxId) (answer : Answer) (v : Serving) (tx : TxId) (told : List ℕ) → ReportsTold tx told (commit_by s other answer v).effects.marks
+commit_reports s other answer (Operating asked) tx told = commit_if_reports s other answer _ tx told
+commit_reports s other answer _ tx told = λ any. absurd cc
+
+api_reports : (s : ApiState) (body : Body) (tx : TxId) (told : List ℕ) → IsTold s.serving told → ReportsTold tx told (api_row s body).effects.marks
+api_reports s (Host (Continue (Request (request.Operate None op)) at)) tx told is = begin_reports s op s.serving tx told
+api_reports s (Client (TcBeginConf None other)) tx told is = operate_reports s other s.serving tx told
+api_reports s (Client (TcKeyConf other answer)) tx told is = commit_reports s other answer s.serving tx told
 api_reports s (Client (TcCommitConf other epoch)) tx told is = report_reports s tx other epoch s.serving told is
 api_reports s _ tx told is = λ any. absurd cc
 

@@ -1,11 +1,10 @@
 -- Strict order: what was reported before another transaction was asked for stands before it.
-use Rattle.std.proofs.Common.{◌≡◌, ◌<◌, ℕ, Bool, true, List, [], ◌∷◌, ◌++◌, reverse, filter, refl, sym, ap, ◌∙◌, subst, append_assoc}
+use Rattle.std.proofs.Common.{◌≡◌, ◌<◌, ℕ, true, List, [], ◌∷◌, ◌++◌, reverse, filter, sym, ◌∙◌, subst, append_assoc}
 use Rattle.std.specs.List.{cons_option}
-use Rattle.run_theory.specs.Lists.{Each, IsIn, IsPast}
+use Rattle.run_theory.specs.Lists.{IsIn, IsPast}
 use Rattle.run_theory.specs.Runs.{AreLogs, IsWithin}
 use Rattle.run_theory.proofs.Links.{log_past}
 use Rattle.run_theory.proofs.Pasts.{past_append, past_map, past_trans, in_past, each_in}
-use Rattle.sig_core.specs.declared.entry.Entry.{Entry}
 use Rattle.sig_core.specs.declared.log.LogStep.{LogStep}
 use Rattle.sig_core.specs.declared.member.TxId.{TxId}
 use Rattle.world_core.specs.Entries.{entries_of}
@@ -13,10 +12,10 @@ use Rattle.world_core.specs.History.{history, is_kept, is_reported}
 use Rattle.world_core.specs.Machine.{hosts, machine}
 use Rattle.world_core.specs.Marks.{has_mark}
 use Rattle.world_core.specs.Start.{Start}
-use Rattle.world_core.specs.Strict.{IsAskedFor, StandsBefore, IsStrictOrder}
+use Rattle.world_core.specs.Strict.{IsAskedFor, IsStrictOrder}
 use Rattle.commit_laws.proofs.Falling.{Falls, Rises, falls_past, rises_reverse, rises_filter, stands_before}
-use Rattle.commit_laws.proofs.Numbers.{begun_number, verified_number, taken_numbers, sent_numbers}
-use Rattle.commit_laws.proofs.TransactionNumbers.{AreNumbered, numbered}
+use Rattle.commit_laws.proofs.Numbers.{begun_number, verified_number, taken_numbers}
+use Rattle.commit_laws.proofs.TransactionNumbers.{numbered}
 use Rattle.commit_laws.proofs.NumbersTaken.{taken_of_sent}
 use Rattle.commit_laws.proofs.ReportedWasTold.{reported_was_told}
 use Rattle.commit_laws.proofs.EntriesFall.{number_of, entries_fall}

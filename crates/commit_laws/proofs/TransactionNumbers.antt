@@ -1,6 +1,5 @@
 -- The coordinator numbers its transactions upwards, and asks for their epochs in that order.
-use Rattle.std.proofs.Common.{◌≡◌, ◌==◌, ◌&&◌, ◌+◌, ◌<◌, ◌≤◌, ℕ, Bool, true, false, List, [], ◌∷◌, refl, sym, ap, subst, subst₂, arith, eqb-true, Option, None, Some}
-use Rattle.std.proofs.lemmas.Bool.{and_parts}
+use Rattle.std.proofs.Common.{◌≡◌, ◌+◌, ◌<◌, ◌≤◌, ℕ, Bool, true, false, List, [], ◌∷◌, refl, sym, subst, subst₂, arith, Option, None, Some}
 use Rattle.run_theory.specs.Lists.{Each}
 use Rattle.run_theory.specs.Logs.{IsLog}
 use Rattle.run_theory.proofs.Pasts.{each_map}
@@ -18,7 +17,7 @@ use Rattle.sig_core.specs.declared.signal.chain.ChainSignal.TheVariants.{LqhKeyC
 use Rattle.sig_core.specs.declared.signal.client.ClientSignal.TheVariants.{TcBeginReq, TcKeyReq, TcCommitReq}
 use Rattle.sig_core.specs.declared.signal.epoch.EpochSignal.TheVariants.{DiVerifyConf}
 use Rattle.sig_core.specs.Step.{Step}
-use Rattle.world_core.specs.Blocks.{block_by, blocks_row}
+use Rattle.world_core.specs.Blocks.{block_by}
 use Rattle.world_core.specs.Machine.{machine, after, step_after}
 use Rattle.world_core.specs.Row.{row}
 use Rattle.world_core.specs.Start.{Start}
@@ -32,7 +31,8 @@ use Rattle.world_core.specs.declared.tc.Tc.{Tc}
 use Rattle.world_core.specs.declared.tc.Transaction.{Transaction}
 use Rattle.commit_laws.proofs.Falling.{Falls}
 use Rattle.commit_laws.proofs.Numbers.{begun_number, verified_number, put_numbers, put_numbers-silent, sent_numbers, sent_numbers-step}
-use Rattle.commit_laws.proofs.PlainSignals.{IsPlain, ArePlain, SendsPlain, dih_plain, lqh_plain}
+use Rattle.commit_laws.proofs.PlainSignals.{IsPlain, ArePlain, dih_plain, lqh_plain}
+use Rattle.commit_laws.proofs.SameTx.{same_tx-is}
 
 -- the least number for which an epoch may still be asked: that of the current transaction until it asks, then the next one
 abbrev pub least_at : Phase → ℕ → ℕ → ℕ
@@ -50,8 +50,8 @@ abbrev pub IsGivenNumber : Option Transaction → ℕ → Type 0
 IsGivenNumber None next = Unit {0}
 IsGivenNumber (Some current) next = current.tx.seq < next
 
--- Of the numbers of which the coordinator said that they have begun, and for which it asked for epochs, the newest
--- first: they fall, and are below those that come.
+-- Two lists of numbers, the newest first: of the transactions that the coordinator said to have begun, and of those for
+-- which it asked for epochs. Both fall, and all that comes is above them.
 pub record AreNumbered (next : ℕ) (current : Option Transaction) (begun verified : List ℕ) : Type 0 where
   pub given : IsGivenNumber current next
   pub begun_fall : Falls (λ n. n) begun
@@ -77,15 +77,6 @@ least_unasked-below (Some current) next given = least_at-below current.phase cur
 
 below_more : (a b : ℕ) (ns : List ℕ) → a ≤ b → Each (λ n. n < a) ns → Each (λ n. n < b) ns
 below_more a b ns le below = each_map (λ n. n < a) (λ n. n < b) ns (λ n less. omega (arith, less, le)) below
-
-same_tx-is : (a b : TxId) → same_tx a b ≡ true → a ≡ b
-same_tx-is a b is =
-    let outer = and_parts (a.tc == b.tc && a.start == b.start) (a.seq == b.seq) is in
-    let inner = and_parts (a.tc == b.tc) (a.start == b.start) outer.0 in
-    let tc : a.tc ≡ b.tc = eqb-true a.tc b.tc inner.0 in
-    let start : a.start ≡ b.start = eqb-true a.start b.start inner.1 in
-    let seq : a.seq ≡ b.seq = eqb-true a.seq b.seq outer.1 in
-    λ i. record { tc = tc i; start = start i; seq = seq i }
 
 -- where the current transaction is this one, in this phase
 current_is : (current : Option Transaction) (tx : TxId) (phase : Phase) → phase_in current tx ≡ Some phase → current ≡ Some (record { tx = tx; phase = phase })
