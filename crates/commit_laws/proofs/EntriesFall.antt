@@ -46,9 +46,8 @@ verified_more o entries verified are = record {
 verified_new : (entry : Entry) (entries : List Entry) (verified : List ℕ) → Falls (λ n. n) (number_of entry ∷ verified) → AreVerified entries verified
     → AreVerified (entry ∷ entries) (number_of entry ∷ verified)
 verified_new entry entries verified falls are =
-    let less : Each (λ other. number_of other < number_of entry) entries =
-        each_map (λ other. IsIn other.tx.seq verified) (λ other. number_of other < number_of entry) entries
-        (λ other i. each_in (λ n. n < number_of entry) (number_of other) verified falls.0 i) are.known in
+    let above : (other : Entry) → IsIn other.tx.seq verified → number_of other < number_of entry = λ other i. each_in (λ n. n < number_of entry) (number_of other) verified falls.0 i in
+    let less : Each (λ other. number_of other < number_of entry) entries = each_map (λ other. IsIn other.tx.seq verified) (λ other. number_of other < number_of entry) entries above are.known in
     record {
       fall = (less, are.fall);
       known = (inl refl, each_map (λ other. IsIn other.tx.seq verified) (λ other. IsIn other.tx.seq (number_of entry ∷ verified)) entries (λ other i. inr i) are.known);
@@ -94,6 +93,5 @@ entries_fall start [] l falls = record { fall = tt; known = tt }
 entries_fall start (e ∷ log) l falls =
     let verified : List ℕ = taken_numbers verified_number log in
     let before : AreVerified (entries_of 1 log) verified = entries_fall start log l.1 (falls_less (verified_number e.taken.body) verified falls) in
-    let keeps : KeepsOrder 1 e.stamp (e ∷ log) e.taken.body e.marks =
-        subst (KeepsOrder 1 e.stamp (e ∷ log) e.taken.body) (sym l.0.fits.marks) (row_keeps 1 e.stamp (e ∷ log) (after start log) e.taken.to e.taken.body l.0.at) in
+    let keeps : KeepsOrder 1 e.stamp (e ∷ log) e.taken.body e.marks = subst (KeepsOrder 1 e.stamp (e ∷ log) e.taken.body) (sym l.0.fits.marks) (row_keeps 1 e.stamp (e ∷ log) (after start log) e.taken.to e.taken.body l.0.at) in
     keeps (entries_of 1 log) verified falls before

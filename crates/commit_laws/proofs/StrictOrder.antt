@@ -22,14 +22,14 @@ use Rattle.commit_laws.proofs.EntriesFall.{number_of, entries_fall}
 
 module _ (start : Start) (logs : ℕ → List LogStep) (a : AreLogs (machine start) logs) where
   -- the shell's host is told of transactions in the order of their numbers
-  told_in_order : Falls (λ n. n) (taken_numbers begun_number (logs 0))
+  pub told_in_order : Falls (λ n. n) (taken_numbers begun_number (logs 0))
   told_in_order = falls_past (λ n. n) (taken_of_sent begun_number (λ body is. is.begun) start logs a 0) (numbered start (logs 1) (a.local 1)).begun_fall
 
   -- and the coordinator's host decides them in that order
-  decided_in_order : Falls number_of (entries_of 1 (logs 1))
+  pub decided_in_order : Falls number_of (entries_of 1 (logs 1))
   decided_in_order =
-      (entries_fall start (logs 1) (a.local 1)
-        (falls_past (λ n. n) (taken_of_sent verified_number (λ body is. is.verified) start logs a 1) (numbered start (logs 1) (a.local 1)).verified_fall)).fall
+      let asked : Falls (λ n. n) (taken_numbers verified_number (logs 1)) = falls_past (λ n. n) (taken_of_sent verified_number (λ body is. is.verified) start logs a 1) (numbered start (logs 1) (a.local 1)).verified_fall in
+      (entries_fall start (logs 1) (a.local 1) asked).fall
 
   -- what was reported before another transaction was asked for has a smaller number
   smaller : (reported asked : TxId) (before : List LogStep) → IsAskedFor start asked (logs 0) before → has_mark (is_reported reported) before ≡ true → reported.seq < asked.seq
@@ -44,11 +44,11 @@ module _ (start : Start) (logs : ℕ → List LogStep) (a : AreLogs (machine sta
       let next : Falls (λ n. n) (asked.seq ∷ taken_numbers begun_number older) = subst (λ body. Falls (λ n. n) (cons_option (begun_number body) (taken_numbers begun_number older))) f.begun falls in
       each_in (λ n. n < asked.seq) reported.seq (taken_numbers begun_number older) next.0 in_older
 
--- the history of right logs is in strict order, if it is the coordinator's host that has it
+-- the history is in strict order, where it is what is kept of the entries of the coordinator's host
 pub strict_order : (start : Start) (logs : ℕ → List LogStep) → IsWithin hosts logs → AreLogs (machine start) logs
     → history hosts logs ≡ filter (is_kept hosts logs) (reverse (entries_of 1 (logs 1)))
     → IsStrictOrder start (logs 0) (history hosts logs)
 strict_order start logs within a own x y before x_in y_in asked has =
-    let rises : Rises number_of (filter (is_kept hosts logs) (reverse (entries_of 1 (logs 1)))) =
-        rises_filter number_of (is_kept hosts logs) (reverse (entries_of 1 (logs 1))) (rises_reverse number_of (entries_of 1 (logs 1)) (decided_in_order start logs a)) in
+    let decided : Rises number_of (reverse (entries_of 1 (logs 1))) = rises_reverse number_of (entries_of 1 (logs 1)) (decided_in_order start logs a) in
+    let rises : Rises number_of (filter (is_kept hosts logs) (reverse (entries_of 1 (logs 1)))) = rises_filter number_of (is_kept hosts logs) (reverse (entries_of 1 (logs 1))) decided in
     stands_before number_of x y (history hosts logs) (subst (Rises number_of) (sym own) rises) x_in y_in (smaller start logs a x.tx y.tx before asked has)
