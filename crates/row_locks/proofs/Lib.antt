@@ -1,6 +1,13 @@
 pub mod AheadLemmas
+pub mod GoneLemmas
+pub mod GrantedLemmas
 pub mod LocksLemmas
+pub mod NeedLemmas
+pub mod OrderlyLemmas
 pub mod QueueLemmas
 pub mod RoundLemmas
-pub mod OrderlyLemmas
+pub mod RowLemmas
+pub mod ServingLemmas
 pub mod TableLawLemmas
+pub mod TxLemmas
+pub mod WithinLemmas

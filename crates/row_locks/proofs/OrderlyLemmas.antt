@@ -1,39 +1,25 @@
 -- Each call leaves the lock of a row orderly.
-use Rattle.std.proofs.Common.{◌≡◌, ℕ, ◌+◌, Bool, true, false, not, ◌&&◌, ◌||◌, nat_eq, List, [], ◌∷◌, ◌++◌, refl, ap, sym, ◌∙◌}
-use Rattle.std.proofs.lemmas.Bool.{true≢false, and_parts, and_from, not-true, eqb-true}
-use Rattle.std.specs.Cmp.{nat_eq_equiv}
+use Rattle.std.proofs.Common.{◌≡◌, ℕ, ◌+◌, Bool, true, false, not, ◌&&◌, ◌||◌, nat_lt, List, [], ◌∷◌, ◌++◌, refl, ap, sym, ◌∙◌}
+use Rattle.std.proofs.lemmas.Bool.{true≢false, and_parts, and_from, not-true, or_parts, or_from}
 use Rattle.sig_core.specs.declared.member.TxId.{TxId}
 use Rattle.row_locks.specs.declared.mode.Mode.{Mode}
 use Rattle.row_locks.specs.declared.mode.Mode.TheVariants.{Shared, Exclusive}
 use Rattle.row_locks.specs.declared.claim.Holder.{Holder}
 use Rattle.row_locks.specs.declared.claim.Wait.{Wait}
-use Rattle.row_locks.specs.Modes.{same_tx, agree, is_enough, stronger}
+use Rattle.row_locks.specs.Modes.{same_tx, agree, stronger}
 use Rattle.row_locks.specs.Holders.{unless_gone, others, agrees_with, holds, holds_enough, holder_of, hold}
 use Rattle.row_locks.specs.Queues.{waits, without, wait_of, raised, raised_if, aged_all}
-use Rattle.row_locks.specs.Rows.{RowLock, served, served_if, asked, asked_by, asked_anew, is_quiet, released, unwaited, unqueued, grown_old}
-use Rattle.row_locks.specs.Orderly.{IsOrderly, are_held_once, are_agreed, are_waiting_once, is_first_held_up, none_holds, are_raises_first, test_if}
-
-or_none : (a b : Bool) → a ≡ false → b ≡ false → (a || b) ≡ false
-or_none a b p q = ap (λ x. x || b) p ∙ q
-
-pub or_parts : (a b : Bool) → (a || b) ≡ false → (a ≡ false) × (b ≡ false)
-or_parts true b e = absurd (true≢false e)
-or_parts false b e = (refl, e)
-
-and_swap : (a b c x y z : Bool) → a ≡ x → b ≡ y → c ≡ z → (a && (b && c)) ≡ (x && (y && z))
-and_swap a b c x y z p q r = λ i. p i && (q i && r i)
+use Rattle.row_locks.specs.Rows.{RowLock, served, served_if, asked, asked_by, asked_anew, anew, is_quiet, released, unwaited, unqueued, grown_old}
+use Rattle.row_locks.specs.Orderly.{IsOrderly, are_held_once, are_agreed, are_waiting_once, is_first_held_up, none_holds, are_raises_first, test_if, none_has_enough, are_within_rounds}
+use Rattle.row_locks.proofs.TxLemmas.{same_tx-swap, apart_too}
+use Rattle.row_locks.proofs.NeedLemmas.{enough_shared, need-others, need-hold, need-without, need-aged, need-raised, need-end, need-quiet}
+use Rattle.row_locks.proofs.WithinLemmas.{within-without, within-aged, within-raised, within-end}
 
 agree-swap : (m n : Mode) → agree m n ≡ agree n m
 agree-swap Shared Shared = refl
 agree-swap Shared Exclusive = refl
 agree-swap Exclusive Shared = refl
 agree-swap Exclusive Exclusive = refl
-
-nat_eq-swap : (a b : ℕ) → nat_eq a b ≡ nat_eq b a
-nat_eq-swap a b = nat_eq_equiv.symm a b
-
-pub same_tx-swap : (a b : TxId) → same_tx a b ≡ same_tx b a
-same_tx-swap a b = and_swap _ _ _ _ _ _ (nat_eq-swap a.tc b.tc) (nat_eq-swap a.start b.start) (nat_eq-swap a.seq b.seq)
 
 -- without a holder
 
@@ -43,11 +29,11 @@ not_held-others tx (h ∷ hs) = at (same_tx h.tx tx) refl (not_held-others tx hs
   where
     at : (b : Bool) → same_tx h.tx tx ≡ b → holds tx (others tx hs) ≡ false → holds tx (unless_gone b h (others tx hs)) ≡ false
     at true e r = r
-    at false e r = or_none (same_tx h.tx tx) (holds tx (others tx hs)) e r
+    at false e r = or_from (same_tx h.tx tx) (holds tx (others tx hs)) e r
 
 unheld_at : (u : TxId) (h : Holder) (rest : List Holder) (b : Bool) → same_tx h.tx u ≡ false → holds u rest ≡ false → holds u (unless_gone b h rest) ≡ false
 unheld_at u h rest true e r = r
-unheld_at u h rest false e r = or_none (same_tx h.tx u) (holds u rest) e r
+unheld_at u h rest false e r = or_from (same_tx h.tx u) (holds u rest) e r
 
 unheld-others : (u tx : TxId) (hs : List Holder) → holds u hs ≡ false → holds u (others tx hs) ≡ false
 unheld-others u tx [] n = refl
@@ -89,10 +75,10 @@ agreed-others tx (h ∷ hs) a =
 -- one holder more, at the end
 
 holds-end : (u : TxId) (hs : List Holder) (h : Holder) → holds u hs ≡ false → same_tx h.tx u ≡ false → holds u (hs ++ h ∷ []) ≡ false
-holds-end u [] h n e = or_none _ _ e refl
+holds-end u [] h n e = or_from _ _ e refl
 holds-end u (x ∷ hs) h n e =
     let parts = or_parts (same_tx x.tx u) (holds u hs) n in
-    or_none _ _ parts.0 (holds-end u hs h parts.1 e)
+    or_from _ _ parts.0 (holds-end u hs h parts.1 e)
 
 once-end : (hs : List Holder) (h : Holder) → are_held_once hs ≡ true → holds h.tx hs ≡ false → are_held_once (hs ++ h ∷ []) ≡ true
 once-end [] h o n = refl
@@ -127,7 +113,7 @@ agreed-hold tx m hs a e = agreed-end (others tx hs) (holder_of tx m) (agreed-oth
 
 unwaiting_at : (u : TxId) (w : Wait) (rest : List Wait) (b : Bool) → same_tx w.tx u ≡ false → waits u rest ≡ false → waits u (unless_gone b w rest) ≡ false
 unwaiting_at u w rest true e r = r
-unwaiting_at u w rest false e r = or_none _ _ e r
+unwaiting_at u w rest false e r = or_from _ _ e r
 
 unwaiting-without : (u tx : TxId) (ws : List Wait) → waits u ws ≡ false → waits u (without tx ws) ≡ false
 unwaiting-without u tx [] n = refl
@@ -139,22 +125,13 @@ waiting_at : (w : Wait) (rest : List Wait) (b : Bool) → waits w.tx rest ≡ fa
 waiting_at w rest true n r = r
 waiting_at w rest false n r = and_from _ _ (ap not n) r
 
-waiting-without : (tx : TxId) (ws : List Wait) → are_waiting_once ws ≡ true → are_waiting_once (without tx ws) ≡ true
+pub waiting-without : (tx : TxId) (ws : List Wait) → are_waiting_once ws ≡ true → are_waiting_once (without tx ws) ≡ true
 waiting-without tx [] o = refl
 waiting-without tx (w ∷ ws) o =
     let parts = and_parts (not (waits w.tx ws)) (are_waiting_once ws) o in
     waiting_at w (without tx ws) (same_tx w.tx tx) (unwaiting-without w.tx tx ws (not-true _ parts.0)) (waiting-without tx ws parts.1)
 
 -- those that hold the lock stand before those that don't
-
-pub same_tx-is : (a b : TxId) → same_tx a b ≡ true → a ≡ b
-same_tx-is a b e =
-    let parts = and_parts (nat_eq a.tc b.tc) (nat_eq a.start b.start && nat_eq a.seq b.seq) e in
-    let more = and_parts (nat_eq a.start b.start) (nat_eq a.seq b.seq) parts.1 in
-    λ i. record { tc = eqb-true a.tc b.tc parts.0 i; start = eqb-true a.start b.start more.0 i; seq = eqb-true a.seq b.seq more.1 i }
-
-pub apart_too : (x tx u : TxId) → same_tx x tx ≡ true → same_tx tx u ≡ false → same_tx x u ≡ false
-apart_too x tx u e apart = ap (λ t. same_tx t u) (same_tx-is x tx e) ∙ apart
 
 holds_others_at : (u tx : TxId) (h : Holder) (hs rest : List Holder) (b : Bool) → same_tx h.tx tx ≡ b → same_tx tx u ≡ false → holds u rest ≡ holds u hs
     → holds u (unless_gone b h rest) ≡ (same_tx h.tx u || holds u hs)
@@ -166,7 +143,7 @@ holds-others u tx [] apart = refl
 holds-others u tx (h ∷ hs) apart = holds_others_at u tx h hs (others tx hs) (same_tx h.tx tx) refl apart (holds-others u tx hs apart)
 
 holds-last : (u : TxId) (hs : List Holder) (h : Holder) → same_tx h.tx u ≡ false → holds u (hs ++ h ∷ []) ≡ holds u hs
-holds-last u [] h e = or_none (same_tx h.tx u) false e refl
+holds-last u [] h e = or_from (same_tx h.tx u) false e refl
 holds-last u (x ∷ hs) h e = ap (λ b. same_tx x.tx u || b) (holds-last u hs h e)
 
 holds-hold : (tx : TxId) (m : Mode) (hs : List Holder) (u : TxId) → same_tx tx u ≡ false → holds u (hold tx m hs) ≡ holds u hs
@@ -226,37 +203,46 @@ raises-without hs tx (w ∷ ws) r =
 
 gone_at : (tx : TxId) (w : Wait) (rest : List Wait) (b : Bool) → same_tx w.tx tx ≡ b → waits tx rest ≡ false → waits tx (unless_gone b w rest) ≡ false
 gone_at tx w rest true e r = r
-gone_at tx w rest false e r = or_none _ _ e r
+gone_at tx w rest false e r = or_from _ _ e r
 
-gone-without : (tx : TxId) (ws : List Wait) → waits tx (without tx ws) ≡ false
+pub gone-without : (tx : TxId) (ws : List Wait) → waits tx (without tx ws) ≡ false
 gone-without tx [] = refl
 gone-without tx (w ∷ ws) = gone_at tx w (without tx ws) (same_tx w.tx tx) refl (gone-without tx ws)
 
 -- serving
 
 pub served_orderly : (g : ℕ) (hs : List Holder) (ws : List Wait) → are_held_once hs ≡ true → are_agreed hs ≡ true → are_waiting_once ws ≡ true → are_raises_first hs ws ≡ true
-    → IsOrderly (served g hs ws).lock
-served_orderly g hs [] o a w r = record { held_once = o; agreed = a; waiting_once = refl; held_up = refl; raises_first = refl }
-served_orderly g hs (x ∷ ws) o a w r =
+    → none_has_enough hs ws ≡ true → are_within_rounds ws ≡ true → IsOrderly (served g hs ws).lock
+served_orderly g hs [] o a w r n k =
+    record { held_once = o; agreed = a; waiting_once = refl; held_up = refl; raises_first = refl; in_need = refl; within_rounds = refl }
+served_orderly g hs (x ∷ ws) o a w r n k =
     let once = and_parts (not (waits x.tx ws)) (are_waiting_once ws) w in
     let raises = raises-same x.tx hs (hold x.tx x.mode hs) (holds-hold x.tx x.mode hs) ws (not-true _ once.0) ∙ raises_tail hs x ws r in
-    at (agrees_with x.tx x.mode hs) refl (λ e. served_orderly (g + 1) (hold x.tx x.mode hs) ws (once-hold x.tx x.mode hs o) (agreed-hold x.tx x.mode hs a e) once.1 raises)
+    let need = need-hold x.tx x.mode hs ws (not-true _ once.0) ∙ (and_parts (not (holds_enough x.tx x.mode hs)) (none_has_enough hs ws) n).1 in
+    let within = (and_parts (not (nat_lt 8 x.rounds)) (are_within_rounds ws) k).1 in
+    at (agrees_with x.tx x.mode hs) refl
+    (λ e. served_orderly (g + 1) (hold x.tx x.mode hs) ws (once-hold x.tx x.mode hs o) (agreed-hold x.tx x.mode hs a e) once.1 raises need within)
   where
     at : (b : Bool) → agrees_with x.tx x.mode hs ≡ b → (agrees_with x.tx x.mode hs ≡ true → IsOrderly (served (g + 1) (hold x.tx x.mode hs) ws).lock)
         → IsOrderly (served_if b (served (g + 1) (hold x.tx x.mode hs) ws) (record { lock = record { holders = hs; queue = x ∷ ws }; granted = g })).lock
     at true e f = f e
-    at false e f = record { held_once = o; agreed = a; waiting_once = w; held_up = ap not e; raises_first = r }
+    at false e f = record { held_once = o; agreed = a; waiting_once = w; held_up = ap not e; raises_first = r; in_need = n; within_rounds = k }
 
 pub released_orderly : (lock : RowLock) (tx : TxId) → IsOrderly lock → IsOrderly (released lock tx).lock
-released_orderly lock tx is = served_orderly 0 (others tx lock.holders) (without tx lock.queue) (once-others tx lock.holders is.held_once) (agreed-others tx lock.holders is.agreed) (waiting-without tx lock.queue is.waiting_once)
-    (raises-same tx lock.holders (others tx lock.holders) (λ u apart. holds-others u tx lock.holders apart) (without tx lock.queue) (gone-without tx lock.queue) ∙ raises-without lock.holders tx lock.queue is.raises_first)
+released_orderly lock tx is =
+    let gone = gone-without tx lock.queue in
+    served_orderly 0 (others tx lock.holders) (without tx lock.queue) (once-others tx lock.holders is.held_once) (agreed-others tx lock.holders is.agreed) (waiting-without tx lock.queue is.waiting_once)
+    (raises-same tx lock.holders (others tx lock.holders) (λ u apart. holds-others u tx lock.holders apart) (without tx lock.queue) gone ∙ raises-without lock.holders tx lock.queue is.raises_first)
+    (need-others tx lock.holders (without tx lock.queue) gone ∙ need-without lock.holders tx lock.queue is.in_need) (within-without tx lock.queue is.within_rounds)
 
 pub unwaited_orderly : (lock : RowLock) (tx : TxId) → IsOrderly lock → IsOrderly (unwaited lock tx).lock
-unwaited_orderly lock tx is = served_orderly 0 lock.holders (without tx lock.queue) is.held_once is.agreed (waiting-without tx lock.queue is.waiting_once)
-    (raises-without lock.holders tx lock.queue is.raises_first)
+unwaited_orderly lock tx is =
+    served_orderly 0 lock.holders (without tx lock.queue) is.held_once is.agreed (waiting-without tx lock.queue is.waiting_once)
+    (raises-without lock.holders tx lock.queue is.raises_first) (need-without lock.holders tx lock.queue is.in_need) (within-without tx lock.queue is.within_rounds)
 
 pub unqueued_orderly : (lock : RowLock) → IsOrderly lock → IsOrderly (unqueued lock)
-unqueued_orderly lock is = record { held_once = is.held_once; agreed = is.agreed; waiting_once = refl; held_up = refl; raises_first = refl }
+unqueued_orderly lock is =
+    record { held_once = is.held_once; agreed = is.agreed; waiting_once = refl; held_up = refl; raises_first = refl; in_need = refl; within_rounds = refl }
 
 -- ageing keeps who waits, and in which mode
 
@@ -288,6 +274,8 @@ grown_old_orderly lock is =
       waiting_once = waiting-aged lock.queue ∙ is.waiting_once;
       held_up = held_up-aged lock.holders lock.queue ∙ is.held_up;
       raises_first = raises-aged lock.holders lock.queue ∙ is.raises_first;
+      in_need = need-aged lock.holders lock.queue ∙ is.in_need;
+      within_rounds = within-aged lock.queue is.within_rounds;
     }
 
 -- a wait that is raised keeps its transaction, and agrees with no more
@@ -349,10 +337,10 @@ held_up-raised hs tx m (w ∷ ws) n = held_up_at hs (same_tx w.tx tx) m w n
 -- one waiter more, at the end
 
 waits-end : (u : TxId) (ws : List Wait) (w : Wait) → waits u ws ≡ false → same_tx w.tx u ≡ false → waits u (ws ++ w ∷ []) ≡ false
-waits-end u [] w n e = or_none _ _ e refl
+waits-end u [] w n e = or_from _ _ e refl
 waits-end u (x ∷ ws) w n e =
     let parts = or_parts (same_tx x.tx u) (waits u ws) n in
-    or_none _ _ parts.0 (waits-end u ws w parts.1 e)
+    or_from _ _ parts.0 (waits-end u ws w parts.1 e)
 
 waiting-end : (ws : List Wait) (w : Wait) → are_waiting_once ws ≡ true → waits w.tx ws ≡ false → are_waiting_once (ws ++ w ∷ []) ≡ true
 waiting-end [] w o n = refl
@@ -382,7 +370,7 @@ held_up-more hs x ws w n = n
 
 -- who is first doesn't agree with a transaction that is raised to exclusive
 
-agrees-last : (u : TxId) (m : Mode) (hs : List Holder) (h : Holder) → agrees_with u m (hs ++ h ∷ []) ≡ true → (same_tx h.tx u || agree h.mode m) ≡ true
+pub agrees-last : (u : TxId) (m : Mode) (hs : List Holder) (h : Holder) → agrees_with u m (hs ++ h ∷ []) ≡ true → (same_tx h.tx u || agree h.mode m) ≡ true
 agrees-last u m [] h e = (and_parts (same_tx h.tx u || agree h.mode m) true e).0
 agrees-last u m (x ∷ hs) h e = agrees-last u m hs h (and_parts (same_tx x.tx u || agree x.mode m) (agrees_with u m (hs ++ h ∷ [])) e).1
 
@@ -391,18 +379,7 @@ held_up-exclusive tx hs [] n = refl
 held_up-exclusive tx hs (w ∷ ws) n =
     let apart : same_tx tx w.tx ≡ false = same_tx-swap tx w.tx ∙ (or_parts (same_tx w.tx tx) (waits tx ws) n).0 in
     not_from (agrees_with w.tx w.mode (hold tx Exclusive hs))
-    (λ e. true≢false (sym (agrees-last w.tx w.mode (others tx hs) (holder_of tx Exclusive) e) ∙ or_none (same_tx tx w.tx) false apart refl))
-
--- who holds a lock has what a shared request asks
-
-enough_shared : (tx : TxId) (hs : List Holder) → holds_enough tx Shared hs ≡ holds tx hs
-enough_shared tx [] = refl
-enough_shared tx (h ∷ hs) = λ i. and_enough (same_tx h.tx tx) h.mode i || enough_shared tx hs i
-  where
-    and_enough : (b : Bool) (m : Mode) → (b && is_enough m Shared) ≡ b
-    and_enough true Shared = refl
-    and_enough true Exclusive = refl
-    and_enough false m = refl
+    (λ e. true≢false (sym (agrees-last w.tx w.mode (others tx hs) (holder_of tx Exclusive) e) ∙ or_from (same_tx tx w.tx) false apart refl))
 
 raise_orderly : (lock : RowLock) (tx : TxId) (m : Mode) → IsOrderly lock → holds_enough tx m lock.holders ≡ false → waits tx lock.queue ≡ false → holds tx lock.holders ≡ true
     → is_first_held_up (hold tx m lock.holders) lock.queue ≡ true
@@ -429,6 +406,8 @@ anew_at lock tx m is enough waiting true true quiet h a q =
       waiting_once = is.waiting_once;
       held_up = raise_orderly lock tx m is enough waiting h;
       raises_first = raises-same tx lock.holders (hold tx m lock.holders) (holds-hold tx m lock.holders) lock.queue waiting ∙ is.raises_first;
+      in_need = need-hold tx m lock.holders lock.queue waiting ∙ is.in_need;
+      within_rounds = is.within_rounds;
     }
 anew_at lock tx m is enough waiting true false quiet h a q =
     record {
@@ -437,6 +416,8 @@ anew_at lock tx m is enough waiting true false quiet h a q =
       waiting_once = and_from _ _ (ap not waiting) is.waiting_once;
       held_up = ap not a;
       raises_first = ap (λ b. test_if b (are_raises_first lock.holders lock.queue) (none_holds lock.holders lock.queue)) h ∙ is.raises_first;
+      in_need = and_from _ _ (ap not enough) is.in_need;
+      within_rounds = is.within_rounds;
     }
 anew_at lock tx m is enough waiting false true true h a q =
     record {
@@ -445,6 +426,8 @@ anew_at lock tx m is enough waiting false true true h a q =
       waiting_once = is.waiting_once;
       held_up = held_up-quiet (hold tx m lock.holders) lock.queue q;
       raises_first = raises-quiet (hold tx m lock.holders) lock.queue q;
+      in_need = need-quiet (hold tx m lock.holders) lock.queue q;
+      within_rounds = is.within_rounds;
     }
 anew_at lock tx m is enough waiting false true false h a q =
     record {
@@ -453,6 +436,8 @@ anew_at lock tx m is enough waiting false true false h a q =
       waiting_once = waiting-end lock.queue (wait_of tx m) is.waiting_once waiting;
       held_up = held_up-end lock.holders lock.queue (wait_of tx m) is.held_up (λ e. absurd (true≢false (sym e ∙ q)));
       raises_first = raises-end lock.holders lock.queue (wait_of tx m) h is.raises_first;
+      in_need = need-end lock.holders lock.queue (wait_of tx m) enough is.in_need;
+      within_rounds = within-end lock.queue (wait_of tx m) refl is.within_rounds;
     }
 anew_at lock tx m is enough waiting false false quiet h a q =
     record {
@@ -461,9 +446,14 @@ anew_at lock tx m is enough waiting false false quiet h a q =
       waiting_once = waiting-end lock.queue (wait_of tx m) is.waiting_once waiting;
       held_up = held_up-end lock.holders lock.queue (wait_of tx m) is.held_up (λ e. a);
       raises_first = raises-end lock.holders lock.queue (wait_of tx m) h is.raises_first;
+      in_need = need-end lock.holders lock.queue (wait_of tx m) enough is.in_need;
+      within_rounds = within-end lock.queue (wait_of tx m) refl is.within_rounds;
     }
 
-asked_at-orderly : (lock : RowLock) (tx : TxId) (m : Mode) → IsOrderly lock → (enough waiting : Bool) → holds_enough tx m lock.holders ≡ enough → waits tx lock.queue ≡ waiting
+pub anew_orderly : (lock : RowLock) (tx : TxId) (m : Mode) → IsOrderly lock → holds_enough tx m lock.holders ≡ false → waits tx lock.queue ≡ false → IsOrderly (anew lock tx m).lock
+anew_orderly lock tx m is enough waiting = anew_at lock tx m is enough waiting _ _ _ refl refl refl
+
+pub asked_at-orderly : (lock : RowLock) (tx : TxId) (m : Mode) → IsOrderly lock → (enough waiting : Bool) → holds_enough tx m lock.holders ≡ enough → waits tx lock.queue ≡ waiting
     → IsOrderly (asked_by enough waiting lock tx m).lock
 asked_at-orderly lock tx m is true waiting e w = is
 asked_at-orderly lock tx m is false true e w =
@@ -473,8 +463,10 @@ asked_at-orderly lock tx m is false true e w =
       waiting_once = waiting-raised tx m lock.queue ∙ is.waiting_once;
       held_up = held_up-raised lock.holders tx m lock.queue is.held_up;
       raises_first = raises-raised lock.holders tx m lock.queue ∙ is.raises_first;
+      in_need = need-raised lock.holders tx m lock.queue e is.in_need;
+      within_rounds = within-raised tx m lock.queue ∙ is.within_rounds;
     }
-asked_at-orderly lock tx m is false false e w = anew_at lock tx m is e w _ _ _ refl refl refl
+asked_at-orderly lock tx m is false false e w = anew_orderly lock tx m is e w
 
 pub asked_orderly : (lock : RowLock) (tx : TxId) (mode : Mode) → IsOrderly lock → IsOrderly (asked lock tx mode).lock
 asked_orderly lock tx mode is = asked_at-orderly lock tx mode is _ _ refl refl

@@ -22,7 +22,7 @@ use Rattle.row_locks.proofs.LocksLemmas.{key_cmp, get-locks, find-lookup}
 use Rattle.row_locks.proofs.OrderlyLemmas.{asked_orderly, released_orderly, unwaited_orderly, unqueued_orderly, grown_old_orderly}
 
 pub unlocked_orderly : IsOrderly unlocked
-unlocked_orderly = record { held_once = refl; agreed = refl; waiting_once = refl; held_up = refl; raises_first = refl }
+unlocked_orderly = record { held_once = refl; agreed = refl; waiting_once = refl; held_up = refl; raises_first = refl; in_need = refl; within_rounds = refl }
 
 -- whoever is held up is held up by someone
 pub held-quiet : (hs : List Holder) (ws : List Wait) → is_first_held_up hs ws ≡ true → is_quiet ws ≡ false → is_free hs ≡ false

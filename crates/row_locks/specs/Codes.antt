@@ -6,6 +6,7 @@ use Rattle.row_locks.specs.declared.mode.Mode.{Mode}
 use Rattle.row_locks.specs.declared.mode.Mode.TheVariants.{Shared, Exclusive}
 use Rattle.row_locks.specs.declared.claim.Holder.{Holder}
 use Rattle.row_locks.specs.declared.claim.Wait.{Wait}
+use Rattle.row_locks.specs.Modes.{is_shared}
 use Rattle.row_locks.specs.Rows.{RowLock}
 
 -- a transaction, as three numbers
@@ -14,11 +15,7 @@ tx_code =
     code_by (ℕ × (ℕ × ℕ)) (coded× coded_ℕ (coded× coded_ℕ coded_ℕ)) (λ tx. (tx.tc, (tx.start, tx.seq)))
     (λ p. record { tc = p.0; start = p.1.0; seq = p.1.1 }) (λ _. refl)
 
--- a mode, as whether it is shared
-abbrev pub is_shared : Mode → Bool
-is_shared Shared = true
-is_shared Exclusive = false
-
+-- a mode, by whether it is shared
 abbrev pub mode_of : Bool → Mode
 mode_of true = Shared
 mode_of false = Exclusive

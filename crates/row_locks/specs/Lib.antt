@@ -6,4 +6,5 @@ pub mod OrderlyTables
 pub mod Queues
 pub mod Rounds
 pub mod Rows
+pub mod Serving
 pub mod Tables

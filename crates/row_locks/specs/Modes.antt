@@ -24,3 +24,8 @@ agree Exclusive other = false
 abbrev pub stronger : Mode → Mode → Mode
 stronger Exclusive other = Exclusive
 stronger Shared other = other
+
+-- the mode is the shared one
+abbrev pub is_shared : Mode → Bool
+is_shared Shared = true
+is_shared Exclusive = false

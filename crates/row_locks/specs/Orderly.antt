@@ -1,8 +1,8 @@
 -- What is true of the lock of every row, whatever was asked for and let go.
-use Rattle.std.specs.Prelude.{◌≡◌, Bool, true, false, ◌&&◌, not, List, [], ◌∷◌}
+use Rattle.std.specs.Prelude.{◌≡◌, Bool, true, false, ◌&&◌, not, nat_lt, List, [], ◌∷◌}
 use Rattle.row_locks.specs.declared.claim.Holder.{Holder}
 use Rattle.row_locks.specs.declared.claim.Wait.{Wait}
-use Rattle.row_locks.specs.Holders.{holds, agrees_with}
+use Rattle.row_locks.specs.Holders.{holds, holds_enough, agrees_with}
 use Rattle.row_locks.specs.Queues.{waits}
 use Rattle.row_locks.specs.Rows.{RowLock}
 
@@ -41,6 +41,16 @@ abbrev pub are_raises_first : List Holder → List Wait → Bool
 are_raises_first holders [] = true
 are_raises_first holders (wait ∷ queue) = test_if (holds wait.tx holders) (are_raises_first holders queue) (none_holds holders queue)
 
+-- nobody in the queue holds the lock in a mode that is enough for what it waits for
+abbrev pub none_has_enough : List Holder → List Wait → Bool
+none_has_enough holders [] = true
+none_has_enough holders (wait ∷ queue) = not (holds_enough wait.tx wait.mode holders) && none_has_enough holders queue
+
+-- no wait has stood more than eight rounds
+abbrev pub are_within_rounds : List Wait → Bool
+are_within_rounds [] = true
+are_within_rounds (wait ∷ queue) = not (nat_lt 8 wait.rounds) && are_within_rounds queue
+
 -- the lock of a row, as calls leave it
 pub record IsOrderly (lock : RowLock) : Type 0 where
   pub held_once : are_held_once lock.holders ≡ true
@@ -48,3 +58,5 @@ pub record IsOrderly (lock : RowLock) : Type 0 where
   pub waiting_once : are_waiting_once lock.queue ≡ true
   pub held_up : is_first_held_up lock.holders lock.queue ≡ true
   pub raises_first : are_raises_first lock.holders lock.queue ≡ true
+  pub in_need : none_has_enough lock.holders lock.queue ≡ true
+  pub within_rounds : are_within_rounds lock.queue ≡ true

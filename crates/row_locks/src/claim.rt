@@ -1,6 +1,7 @@
 //! Who holds a lock, and who waits for it.
 ghost use Rattle.std.specs.Prelude.{◌≡◌};
 ghost use Rattle.row_locks.specs.Queues.{wait_of};
+ghost use Rattle.row_locks.specs.Serving.{granted_to};
 
 use crate::mode::Mode;
 use sig_core::TxId;
@@ -30,6 +31,16 @@ impl Wait {
             tx,
             mode,
             rounds: 0,
+        }
+    }
+
+    /// The holder that it is once its request is granted.
+    pub fn granted(self) -> Holder
+        ensures { result ≡ granted_to self }
+    {
+        Holder {
+            tx: self.tx,
+            mode: self.mode,
         }
     }
 }

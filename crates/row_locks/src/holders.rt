@@ -76,14 +76,7 @@ pub fn let_go(tx: TxId, holders: &mut Vec<Holder>)
     ensures fewer { length holders.new.items ≤ length holders.old.items }
     ensures capacity { vec_capacity holders.new ≡ vec_capacity holders.old }
 {
-    let mut next = 0;
-    while next < holders.len() {
-        if same_tx(holders[next].tx, tx) {
-            holders.remove(next);
-        } else {
-            next += 1;
-        }
-    }
+    holders.retain(|holder| !same_tx(holder.tx, tx));
 }
 
 /// Makes the transaction the last holder, in this mode and no other. Takes no memory.

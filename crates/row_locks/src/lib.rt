@@ -7,9 +7,10 @@ mod laws;
 mod mode;
 mod queue;
 mod row;
+mod serving;
 mod table;
 
-pub use laws::{locks_stay_orderly, waits_are_for_others};
+pub use laws::{granted_are_last_holders, locks_stay_orderly, waits_are_for_others};
 pub use mode::{Lock, Mode};
 pub use table::LockTable;
 

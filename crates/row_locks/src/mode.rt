@@ -1,6 +1,6 @@
 //! The modes of locks, and what a request for one is answered.
 ghost use Rattle.std.specs.Prelude.{◌≡◌};
-ghost use Rattle.row_locks.specs.Modes.{same_tx, is_enough, agree, stronger};
+ghost use Rattle.row_locks.specs.Modes.{same_tx, is_enough, is_shared, agree, stronger};
 
 use sig_core::TxId;
 
@@ -36,6 +36,16 @@ pub fn is_enough(held: Mode, asked: Mode) -> bool
     match (held, asked) {
         (Mode::Exclusive, _) | (Mode::Shared, Mode::Shared) => true,
         (Mode::Shared, Mode::Exclusive) => false,
+    }
+}
+
+/// Whether the mode is the shared one.
+pub fn is_shared(mode: Mode) -> bool
+    ensures { result ≡ is_shared mode }
+{
+    match mode {
+        Mode::Shared => true,
+        Mode::Exclusive => false,
     }
 }
 

@@ -1,13 +1,10 @@
 //! The queue of a lock.
-ghost use Rattle.std.specs.Prelude.{◌≡◌, ◌≤◌, ◌+◌, length};
-ghost use Rattle.std.specs.Vec.{vec_capacity};
+ghost use Rattle.std.specs.Prelude.{◌≡◌, ◌≤◌, length};
 ghost use Rattle.row_locks.specs.Queues.{waits, without, raised, raised_if, aged, ages, aged_all};
 ghost use Rattle.row_locks.specs.Modes.{same_tx};
 ghost use Rattle.row_locks.specs.Rounds.{first_expired, is_expired};
-ghost use Rattle.row_locks.specs.Rows.{served};
 
-use crate::claim::{Holder, Wait};
-use crate::holders::{agrees_with, hold};
+use crate::claim::Wait;
 use crate::mode::{Mode, same_tx, stronger};
 use sig_core::TxId;
 
@@ -31,14 +28,7 @@ pub fn leave(tx: TxId, queue: &mut Vec<Wait>)
     ensures queue { queue.new.items ≡ without tx queue.old.items }
     ensures fewer { length queue.new.items ≤ length queue.old.items }
 {
-    let mut next = 0;
-    while next < queue.len() {
-        if same_tx(queue[next].tx, tx) {
-            queue.remove(next);
-        } else {
-            next += 1;
-        }
-    }
+    queue.retain(|wait| !same_tx(wait.tx, tx));
 }
 
 /// Makes the transaction wait for this mode too, at its old place.
@@ -103,26 +93,4 @@ fn is_expired(wait: Wait) -> bool
     ensures { result ≡ is_expired wait }
 {
     ROUNDS <= wait.rounds
-}
-
-/// Serves the queue in order, and answers how many became holders: these are the last ones. Takes
-/// no memory.
-pub fn serve(holders: &mut Vec<Holder>, queue: &mut Vec<Wait>) -> usize
-    requires { length holders.old.items + length queue.old.items ≤ vec_capacity holders.old }
-    ensures holders { holders.new.items ≡ (served 0 holders.old.items queue.old.items).lock.holders }
-    ensures queue { queue.new.items ≡ (served 0 holders.old.items queue.old.items).lock.queue }
-    ensures granted { result ≡ (served 0 holders.old.items queue.old.items).granted }
-    ensures room { length holders.new.items + length queue.new.items ≤ vec_capacity holders.new }
-{
-    let mut granted = 0;
-    while !queue.is_empty() {
-        let wait = queue[0];
-        if !agrees_with(wait.tx, wait.mode, holders) {
-            break;
-        }
-        queue.remove(0);
-        hold(wait.tx, wait.mode, holders);
-        granted += 1;
-    }
-    granted
 }

@@ -8,13 +8,15 @@ ghost use Rattle.row_locks.specs.Tables.{is_idle, ahead_of};
 use crate::claim::{Holder, Wait};
 use crate::holders::{agrees_with, first_other, hold, holds, holds_enough, let_go};
 use crate::mode::{Lock, Mode};
-use crate::queue::{age_all, first_expired, leave, raise, serve, waits};
+use crate::queue::{age_all, first_expired, leave, raise, waits};
+use crate::serving::serve;
 use sig_core::{NoMemory, TxId};
 use std::alloc::Global;
 use std::marker::Model;
 
 /// The lock of one row: its holders, and the queue of those that wait. There is room among the
-/// holders for all that wait, so that serving them takes no memory.
+/// holders for all that wait, so that serving them takes no memory, and the lock is orderly, so that
+/// they are served at once.
 #[derive(Drop)]
 pub struct Row {
     holders: Vec<Holder>,
@@ -24,13 +26,14 @@ pub struct Row {
 impl Model for Row {
     ghost use Rattle.std.specs.Prelude.{length, ◌+◌, ◌≤◌};
     ghost use Rattle.std.specs.Vec.{vec_capacity};
-    ghost use Rattle.row_locks.specs.Rows.{RowLock};
+    ghost use Rattle.row_locks.specs.Orderly.{IsOrderly};
+    ghost use Rattle.row_locks.specs.Rows.{RowLock, row_lock};
 
     ghost Value = { RowLock };
 
     ghost view = { λ r. record { holders = r.holders.items; queue = r.queue.items } };
 
-    ghost invariant = { λ r. length r.holders.items + length r.queue.items ≤ vec_capacity r.holders };
+    ghost invariant = { λ r. (length r.holders.items + length r.queue.items ≤ vec_capacity r.holders) × IsOrderly (row_lock r.holders.items r.queue.items) };
 }
 
 impl Row {

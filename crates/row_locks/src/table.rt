@@ -1,5 +1,5 @@
 //! The locks of all keys.
-ghost use Rattle.std.specs.Prelude.{◌≡◌, OnOk, OnErr, IfOk, IsNone};
+ghost use Rattle.std.specs.Prelude.{◌≡◌, OnOk, OnErr, IfOk, IsNone, MatchOption, None, Some};
 ghost use Rattle.std.specs.Ordering.{nat_cmp};
 ghost use Rattle.std.specs.Cmp.Lexicographic.{slice_cmp};
 ghost use Rattle.std.specs.BTreeMap as tree;
@@ -17,7 +17,7 @@ use std::marker::Model;
 
 /// The locks of all keys: who holds each and who waits. A lock is on a key, whether or not there
 /// is a row of that key. A call for one key takes a time that is logarithmic in the number of keys,
-/// and linear in that key's holders and waiters: once, and again for each waiter that it grants.
+/// and linear in that key's holders and waiters.
 #[derive(Drop)]
 pub struct LockTable {
     rows: BTreeMap<Key, Row>,
@@ -38,14 +38,14 @@ impl Model for LockTable {
 }
 
 impl LockTable {
-    /// No locks. Takes no memory.
-    pub fn new(alloc: Global) -> LockTable
-        ensures { result ≡ map.empty }
+    /// No locks. It takes no memory, and so never answers the error.
+    pub fn new(alloc: Global) -> Result<LockTable, NoMemory>
+        ensures { result ≡ Ok map.empty }
     {
-        LockTable {
+        Ok(LockTable {
             rows: BTreeMap::new(alloc),
             alloc,
-        }
+        })
     }
 
     /// Holder `i` of the key, from 0; none where there are fewer.
@@ -149,8 +149,8 @@ impl LockTable {
     /// stood at eight rounds: who waits, and for which key. None exactly where there is no such
     /// wait. Goes through all keys.
     #[tactic(auto, using(crate::proofs::RoundLemmas::rounds))]
-    pub fn expired(&self) -> Option<(TxId, Key)>
-        ensures { result ≡ expired self.now }
+    pub fn expired(&self) -> Option<(TxId, &Key)>
+        ensures { MatchOption result (expired self.now ≡ None) (λ both. expired self.now ≡ Some (both.0, both.1.now)) }
     {
         expired_row(&self.rows)
     }
@@ -177,13 +177,13 @@ fn age_rows(rows: &mut BTreeMap<Key, Row>)
 }
 
 // The first wait that has stood at eight rounds, and the key that it waits for.
-fn expired_row(rows: &BTreeMap<Key, Row>) -> Option<(TxId, Key)>
-    ensures found { result ≡ expired_in rows.now.entries }
+fn expired_row(rows: &BTreeMap<Key, Row>) -> Option<(TxId, &Key)>
+    ensures found { MatchOption result (expired_in rows.now.entries ≡ None) (λ both. expired_in rows.now.entries ≡ Some (both.0, both.1.now)) }
     ensures ordered { tree.IsOrdered (slice_cmp nat_cmp) rows.now }
 {
     for (key, row) in rows {
         if let Some(tx) = row.expired() {
-            return Some((tx, *key));
+            return Some((tx, key));
         }
     }
     None

@@ -1,4 +1,10 @@
+pub mod JoinedWords
+pub mod KeywordInversion
+pub mod LineOfCommand
 pub mod NumberLaws
 pub mod NumberLemmas
+pub mod PartInversion
+pub mod ReadIsSpelled
+pub mod SpelledIsRead
 pub mod TextLemmas
 pub mod WordCuts

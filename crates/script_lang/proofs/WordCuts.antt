@@ -23,7 +23,7 @@ before_found p xs i e = sym (ap (λ n. take n xs) (at_place _ _ i e))
 pub after_found : (p : ℕ → Bool) (xs : List ℕ) (i : ℕ) → position p xs ≡ Some i → drop (i + 1) xs ≡ after_first p xs
 after_found p xs i e = sym (ap (λ n. drop (n + 1) xs) (at_place _ _ i e))
 
-none_left : (p : ℕ → Bool) (xs : List ℕ) → position p xs ≡ None → length xs ≤ position_or_len p xs
+pub none_left : (p : ℕ → Bool) (xs : List ℕ) → position p xs ≡ None → length xs ≤ position_or_len p xs
 none_left p xs e =
     let past : nat_lt (position_or_len p xs) (length xs) ≡ false = past_place _ _ e in
     grind (arith, nat_tests, past)

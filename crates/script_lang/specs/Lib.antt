@@ -8,6 +8,7 @@ pub mod Operation
 pub mod OutcomeText
 pub mod RefusalText
 pub mod ReplyText
+pub mod Spelling
 pub mod StopText
 pub mod ViewText
 pub mod WaitingText

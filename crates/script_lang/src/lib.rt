@@ -8,6 +8,7 @@ mod line;
 mod number;
 mod operation;
 mod reply;
+mod spelling;
 mod words;
 
 pub use command::Command;
@@ -15,6 +16,7 @@ pub use fault::LineFault;
 pub use line::{first_word, parse_line};
 pub use number::numbers_are_decimal;
 pub use reply::print_reply;
+pub use spelling::commands_are_their_words;
 
 #[cfg(test)]
 mod tests;

@@ -1,5 +1,17 @@
+pub mod AskDriven
+pub mod BlockParts
+pub mod FlightLemmas
+pub mod LinkIndex
 pub mod LinkWeight
+pub mod LogIndex
+pub mod MoveRight
+pub mod NoRequests
 pub mod PutServed
+pub mod QuietLemmas
 pub mod SampleRun
+pub mod SentFacts
 pub mod Settled
+pub mod StepDriven
+pub mod TakeRight
 pub mod Weight
+pub mod WorldLemmas

@@ -4,17 +4,9 @@ use Rattle.std.specs.Prelude.{Option, None, Some, if◌then◌else◌, nat_lt, �
 use Rattle.sig_core.specs.declared.outs.Outgoing.{Outgoing}
 use Rattle.world_core.specs.Blocks.{blocks_row}
 use Rattle.world_core.specs.Drive.{State, IsNext, moved, next, next_by}
-use Rattle.world_core.specs.Network.{Flight, Links, Taken, flight_from, link_at, put, put_all, take_first, taken_at, taken_from}
-use Rattle.world_core.proofs.Weight.{weight, sent_weight, blocks_lighter}
-
--- what is on a link, and on all, together
-abbrev pub link_weight : List Flight → ℕ
-link_weight [] = 0
-link_weight (flight ∷ more) = weight flight.body + link_weight more
-
-abbrev pub links_weight : Links → ℕ
-links_weight [] = 0
-links_weight (link ∷ more) = link_weight link + links_weight more
+use Rattle.world_core.specs.Flights.{Flight, Links, Taken, flight_from, link_at, put, put_all, take_first, taken_at, taken_from}
+use Rattle.world_core.specs.Weight.{link_weight, links_weight, weight}
+use Rattle.world_core.proofs.Weight.{sent_weight, blocks_lighter}
 
 link_weight-push : (link : List Flight) (flight : Flight) → link_weight (link ++ flight ∷ []) ≡ link_weight link + weight flight.body
 link_weight-push [] flight = omega arith
@@ -32,7 +24,7 @@ put_if_weight : (links : Links) (flight : Flight) (b : Bool)
 put_if_weight links flight true = push_weight links (link_at flight) flight
 put_if_weight links flight false = omega arith
 
-put_all_weight : (links : Links) (from : ℕ) (sends : List Outgoing) → links_weight (put_all links from sends) ≤ links_weight links + sent_weight sends
+pub put_all_weight : (links : Links) (from : ℕ) (sends : List Outgoing) → links_weight (put_all links from sends) ≤ links_weight links + sent_weight sends
 put_all_weight links from [] = omega arith
 put_all_weight links from (sent ∷ more) =
     omega (arith, put_all_weight (put links (flight_from from sent)) from more, put_if_weight links (flight_from from sent) (nat_lt sent.to.node 3 && nat_lt from 3))
@@ -61,10 +53,10 @@ taken_at_weighs links (Some at) taken e = taken_weighs links at (slice_index_or 
 next_by_lighter : (s t : State) (taken : Option Taken) → take_first s.links ≡ taken → next_by s taken ≡ Some t → links_weight t.links + 1 ≤ links_weight s.links
 next_by_lighter s t None is e = cc
 next_by_lighter s t (Some taken) is e =
-    let same : moved taken (blocks_row s.blocks taken.flight.to taken.flight.body) ≡ t = cc in
+    let same : moved taken.left taken.flight.to.node (blocks_row s.blocks taken.flight.to taken.flight.body) ≡ t = cc in
     let weighs = taken_at_weighs s.links (position (λ link. nat_lt 0 (length link)) s.links) taken is in
     let lighter = blocks_lighter s.blocks taken.flight.to taken.flight.body in
-    let less : links_weight (moved taken (blocks_row s.blocks taken.flight.to taken.flight.body)).links + 1 ≤ links_weight s.links =
+    let less : links_weight (moved taken.left taken.flight.to.node (blocks_row s.blocks taken.flight.to taken.flight.body)).links + 1 ≤ links_weight s.links =
     omega (arith, weighs.together, lighter, put_all_weight taken.left taken.flight.to.node (blocks_row s.blocks taken.flight.to taken.flight.body).effects.sends) in
     subst (λ (u : State). links_weight u.links + 1 ≤ links_weight s.links) same less
 

@@ -7,7 +7,11 @@ use Rattle.sig_core.specs.declared.member.TxId.{TxId}
 use Rattle.sig_core.specs.declared.op.Answer.TheVariants.{Done}
 use Rattle.sig_core.specs.declared.op.Op.{Op}
 use Rattle.sig_core.specs.declared.op.Op.TheVariants.{Put}
+use Rattle.sig_core.specs.declared.outcome.Outcome.TheVariants as outcome
 use Rattle.sig_core.specs.declared.place.Place.{Place}
+use Rattle.sig_core.specs.declared.reply.ApiReply.{ApiReply}
+use Rattle.sig_core.specs.declared.reply.ApiReply.TheVariants as reply
+use Rattle.sig_core.specs.declared.request.ApiReq.TheVariants as request
 use Rattle.sig_core.specs.declared.signal.Body.{Body}
 use Rattle.sig_core.specs.declared.signal.Body.TheVariants.{Client, Chain, Epoch}
 use Rattle.sig_core.specs.declared.signal.chain.ChainSignal.TheVariants.{LqhKeyReq, LqhKeyConf, Commit, Committed, Complete, Completed}
@@ -15,8 +19,6 @@ use Rattle.sig_core.specs.declared.signal.chain.RowWork.TheVariants.{Operate, St
 use Rattle.sig_core.specs.declared.signal.client.ClientSignal.TheVariants.{TcBeginReq, TcBeginConf, TcKeyReq, TcKeyConf, TcCommitReq, TcCommitConf, TcCommitAck}
 use Rattle.sig_core.specs.declared.signal.epoch.EpochSignal.TheVariants.{DiVerifyReq, DiVerifyConf, DiVerifyEnd}
 use Rattle.sig_core.specs.Table.{Rows}
-use Rattle.world_core.specs.declared.api.Reply.{Reply}
-use Rattle.world_core.specs.declared.api.Reply.TheVariants as reply
 use Rattle.world_core.specs.declared.api.Serving.{Serving}
 use Rattle.world_core.specs.declared.api.Serving.TheVariants as serving
 use Rattle.world_core.specs.declared.lqh.Lqh.{Lqh}
@@ -25,7 +27,7 @@ use Rattle.world_core.specs.declared.tc.Phase.TheVariants as phase
 use Rattle.world_core.specs.declared.tc.Tc.{Tc}
 use Rattle.world_core.specs.Drive.{State, asked, next, settled, settled_by}
 use Rattle.world_core.specs.Idle.{idle}
-use Rattle.world_core.specs.Network.{Links}
+use Rattle.world_core.specs.Flights.{Links}
 use Rattle.world_core.specs.Place.{client, coordinator, coordinator_of, epochs, rows_of, replicas}
 
 -- a number equals itself
@@ -37,7 +39,7 @@ then_settled : (n : ℕ) (s t u : State) → next s ≡ Some t → settled n t �
 then_settled n s t u e later = ap (λ o. settled_by s o (settled n)) e ∙ later
 
 -- a cluster, part by part
-abbrev scene : Serving → List Reply → Tc → Option TxId → Lqh → Lqh → Links → State
+abbrev scene : Serving → List ApiReply → Tc → Option TxId → Lqh → Lqh → Links → State
 scene now replies begun counted first second links =
     record {
       blocks = record {
@@ -93,11 +95,11 @@ module _ (seq : ℕ) (rows : Rows) (key value : List ℕ) where
   abbrev after : Lqh
   after = record { rows = new; pending = None; marker = None }
 
-  abbrev done : List Reply
-  done = reply.Answered Done ∷ []
+  abbrev done : List ApiReply
+  done = reply.Answered None Done ∷ []
 
-  abbrev all : List Reply
-  all = reply.Answered Done ∷ reply.Committed 1 ∷ []
+  abbrev all : List ApiReply
+  all = reply.Answered None Done ∷ reply.Ended None (outcome.Committed 1) ∷ []
 
   -- the API asks for a transaction
   abbrev begin_asked : State
@@ -199,7 +201,7 @@ module _ (seq : ℕ) (rows : Rows) (key value : List ℕ) where
   forgotten = scene serving.Idle all past (Some tx) after after
       (with_flight 1 4 epochs (Epoch (DiVerifyEnd tx)) no_flights)
 
-  step-0 : next (asked (idle seq rows []) op) ≡ Some begin_asked
+  step-0 : asked (idle seq rows []) (request.Operate None op) ≡ begin_asked
   step-0 = refl
 
   step-1 : eqb seq (2 ^ 64 - 1) ≡ false → next begin_asked ≡ Some begun
@@ -263,10 +265,10 @@ module _ (seq : ℕ) (rows : Rows) (key value : List ℕ) where
   step-20 = simp (itself seq)
 
   -- the shell asks for a put, and at quiet both replicas have the row and the shell has its answers
-  pub put_served : eqb seq (2 ^ 64 - 1) ≡ false → settled 21 (asked (idle seq rows []) op) ≡ idle (seq + 1) new all
+  pub put_served : eqb seq (2 ^ 64 - 1) ≡ false → settled 20 (asked (idle seq rows []) (request.Operate None op)) ≡ idle (seq + 1) new all
   put_served more =
       let last : State = idle (seq + 1) new all in
-      then_settled 20 (asked (idle seq rows []) op) begin_asked last step-0 (
+      ap (settled 20) step-0 ∙ (
       then_settled 19 begin_asked begun last (step-1 more) (
       then_settled 18 begun write_asked last step-2 (
       then_settled 17 write_asked write_sent last step-3 (

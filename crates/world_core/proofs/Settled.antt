@@ -45,3 +45,13 @@ driven from s t n reached quiet e still =
     ∙ (let shift : reached.steps + n ≡ n + reached.steps = omega arith in ap (λ k. settled k from) shift)
     ∙ settled-add n reached.steps from
     ∙ ap (settled reached.steps) e ∙ settled_quiet reached.steps t still
+
+-- steps, and then others
+pub reaches_trans : (a b c : State) → Reaches a b → Reaches b c → Reaches a c
+reaches_trans a b c first second =
+    record {
+      steps = first.steps + second.steps;
+      same = λ more.
+          let shift : first.steps + second.steps + more ≡ first.steps + (second.steps + more) = omega arith in
+          ap (λ n. settled n a) shift ∙ first.same (second.steps + more) ∙ second.same more;
+    }

@@ -39,25 +39,7 @@ use Rattle.world_core.specs.Dih.{dih_row}
 use Rattle.world_core.specs.Lqh.{prepare_by, lqh_row, prepared_at, passed_to, committed_at_if, completed_at_if}
 use Rattle.world_core.specs.Tc as tc
 use Rattle.world_core.specs.Tc.{tc_row, phase_in}
-
--- more than the signals that are sent at it weigh together, whatever the state
-abbrev pub weight : Body → ℕ
-weight (Host signal) = 22
-weight (Client (TcBeginReq name)) = 21
-weight (Client (TcBeginConf name tx)) = 20
-weight (Client (TcKeyReq tx op)) = 19
-weight (Client (TcKeyConf tx answer)) = 14
-weight (Client (TcCommitReq tx)) = 13
-weight (Client (TcCommitConf tx epoch)) = 3
-weight (Chain (LqhKeyReq tx work chain at)) = 16 + (length chain - at)
-weight (Chain (LqhKeyConf tx key answer)) = 15
-weight (Chain (Commit tx key epoch chain at)) = 9 + at
-weight (Chain (Committed tx key)) = 8
-weight (Chain (Complete tx key chain at)) = 3 + at
-weight (Chain (Completed tx key)) = 2
-weight (Epoch (DiVerifyReq tx ops)) = 12
-weight (Epoch (DiVerifyConf tx epoch)) = 11
-weight _ = 1
+use Rattle.world_core.specs.Weight.{weight}
 
 -- every signal weighs something
 pub some_weight : (body : Body) → 1 ≤ weight body

@@ -5,6 +5,8 @@ use Rattle.sig_core.specs.declared.member.TxId.{TxId}
 use Rattle.sig_core.specs.declared.op.Answer.{Answer}
 use Rattle.sig_core.specs.declared.op.Op.{Op}
 use Rattle.sig_core.specs.declared.outcome.Outcome.TheVariants as outcome
+use Rattle.sig_core.specs.declared.reply.ApiReply.{ApiReply}
+use Rattle.sig_core.specs.declared.reply.ApiReply.TheVariants.{Answered, Ended}
 use Rattle.sig_core.specs.declared.request.ApiReq.TheVariants.{Operate}
 use Rattle.sig_core.specs.declared.signal.Body.{Body}
 use Rattle.sig_core.specs.declared.signal.Body.TheVariants.{Host, Client}
@@ -12,8 +14,6 @@ use Rattle.sig_core.specs.declared.signal.client.ClientSignal.TheVariants.{TcBeg
 use Rattle.sig_core.specs.declared.signal.host.HostSignal.TheVariants.{Continue}
 use Rattle.sig_core.specs.declared.signal.host.Work.TheVariants.{Request}
 use Rattle.sig_core.specs.Step.{Effects, Step, nothing, and_send, and_mark, stay, sending}
-use Rattle.world_core.specs.declared.api.Reply.{Reply}
-use Rattle.world_core.specs.declared.api.Reply.TheVariants.{Answered, Committed}
 use Rattle.world_core.specs.declared.api.Serving.{Serving}
 use Rattle.world_core.specs.declared.api.Serving.TheVariants.{Idle, Beginning, Operating, Committing}
 use Rattle.world_core.specs.Place.{coordinator, rows_of}
@@ -22,12 +22,12 @@ use Rattle.world_core.specs.Tx.{same_tx}
 -- where the command's transaction stands, and the replies that the shell hasn't had
 pub record ApiState : Type 0 where
   pub serving : Serving
-  pub replies : List Reply
+  pub replies : List ApiReply
 
 abbrev pub now : ApiState → Serving → ApiState
 now s serving = record { serving = serving; replies = s.replies }
 
-abbrev pub replied : ApiState → Serving → Reply → ApiState
+abbrev pub replied : ApiState → Serving → ApiReply → ApiState
 replied s serving reply = record { serving = serving; replies = s.replies ++ reply ∷ [] }
 
 -- a command begins
@@ -48,7 +48,7 @@ operate_row s tx = operate_by s tx s.serving
 
 -- its operation is answered
 abbrev pub commit_if : ApiState → TxId → Answer → Bool → Step ApiState
-commit_if s tx answer true = sending (replied s (Committing tx) (Answered answer)) coordinator (Client (TcCommitReq tx))
+commit_if s tx answer true = sending (replied s (Committing tx) (Answered None answer)) coordinator (Client (TcCommitReq tx))
 commit_if s tx answer false = stay s
 
 abbrev pub commit_by : ApiState → TxId → Answer → Serving → Step ApiState
@@ -64,7 +64,7 @@ acknowledged effects tx = and_send (and_send effects (rows_of 1) (Client (TcComm
 
 abbrev pub report_if : ApiState → TxId → ℕ → Bool → Step ApiState
 report_if s tx epoch true =
-    record { state = replied s Idle (Committed epoch); effects = acknowledged (and_mark nothing (Reported tx (outcome.Committed epoch))) tx }
+    record { state = replied s Idle (Ended None (outcome.Committed epoch)); effects = acknowledged (and_mark nothing (Reported tx (outcome.Committed epoch))) tx }
 report_if s tx epoch false = record { state = s; effects = acknowledged nothing tx }
 
 abbrev pub report_by : ApiState → TxId → ℕ → Serving → Step ApiState

@@ -1,14 +1,13 @@
 -- The cluster as one thread drives it.
 use Rattle.std.specs.Prelude.{◌≡◌, Bool, true, false, ℕ, zero, suc, ◌+◌, Option, None, Some}
-use Rattle.sig_core.specs.declared.op.Op.{Op}
-use Rattle.sig_core.specs.declared.request.ApiReq.TheVariants.{Operate}
+use Rattle.sig_core.specs.declared.request.ApiReq.{ApiReq}
 use Rattle.sig_core.specs.declared.signal.Body.TheVariants.{Host}
 use Rattle.sig_core.specs.declared.signal.host.HostSignal.TheVariants.{Continue}
 use Rattle.sig_core.specs.declared.signal.host.Work.TheVariants.{Request}
 use Rattle.sig_core.specs.Step.{Step}
 use Rattle.world_core.specs.declared.blocks.Blocks.{Blocks}
 use Rattle.world_core.specs.Blocks.{blocks_row}
-use Rattle.world_core.specs.Network.{Links, Taken, put, put_all, take_first}
+use Rattle.world_core.specs.Flights.{Links, Taken, put_all, take_first}
 use Rattle.world_core.specs.Place.{client}
 
 -- the blocks, and what is under way between their hosts
@@ -16,21 +15,17 @@ pub record State : Type 0 where
   pub blocks : Blocks
   pub links : Links
 
--- the shell asks for an operation: a signal of the shell host to its API
-abbrev pub asked : State → Op → State
-asked s op =
-    record {
-      blocks = s.blocks;
-      links = put s.links (record { from = 0; to = client; body = Host (Continue (Request (Operate None op)) 0) });
-    }
+-- a step of a host: what its blocks send goes on its way
+abbrev pub moved : Links → ℕ → Step Blocks → State
+moved links host step = record { blocks = step.state; links = put_all links host step.effects.sends }
 
--- a step: the blocks handle the signal that was taken, and what they send goes on its way
-abbrev pub moved : Taken → Step Blocks → State
-moved taken step = record { blocks = step.state; links = put_all taken.left taken.flight.to.node step.effects.sends }
+-- the shell asks for something: a step of host 0
+abbrev pub asked : State → ApiReq → State
+asked s request = moved s.links 0 (blocks_row s.blocks client (Host (Continue (Request request) 0)))
 
 abbrev pub next_by : State → Option Taken → Option State
 next_by s None = None
-next_by s (Some taken) = Some (moved taken (blocks_row s.blocks taken.flight.to taken.flight.body))
+next_by s (Some taken) = Some (moved taken.left taken.flight.to.node (blocks_row s.blocks taken.flight.to taken.flight.body))
 
 -- the state after the next step, if anything is under way
 abbrev pub next : State → Option State

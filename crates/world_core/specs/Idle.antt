@@ -1,12 +1,12 @@
 -- The cluster between two commands.
 use Rattle.std.specs.Prelude.{ℕ, List, [], replicate, None}
 use Rattle.sig_core.specs.Table.{Rows}
-use Rattle.world_core.specs.declared.api.Reply.{Reply}
+use Rattle.sig_core.specs.declared.reply.ApiReply.{ApiReply}
 use Rattle.world_core.specs.declared.api.Serving.TheVariants.{Idle}
 use Rattle.world_core.specs.Drive.{State}
 
 -- nothing is under way or at work: so many transactions were begun, less one, both replicas have these rows, and the shell hasn't had these replies
-abbrev pub idle : ℕ → Rows → List Reply → State
+abbrev pub idle : ℕ → Rows → List ApiReply → State
 idle seq rows replies =
     record {
       blocks = record {

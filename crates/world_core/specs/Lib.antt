@@ -2,7 +2,9 @@ pub mod Api
 pub mod Blocks
 pub mod Dih
 pub mod Drive
+pub mod Driven
 pub mod Entries
+pub mod Flights
 pub mod History
 pub mod Idle
 pub mod Lives
@@ -14,6 +16,7 @@ pub mod Place
 pub mod Quiet
 pub mod Requests
 pub mod Rest
+pub mod Right
 pub mod Row
 pub mod SerialLaw
 pub mod Start
@@ -21,4 +24,6 @@ pub mod Strict
 pub mod Tc
 pub mod Tx
 pub mod Views
-pub mod WorldState
+pub mod Weight
+pub mod World
+pub mod WorldOf

@@ -1,5 +1,5 @@
 -- Lives of a session: their logs, and their history.
-use Rattle.std.specs.Prelude.{ℕ, ◌==◌, ◌+◌, if◌then◌else◌, List, [], ◌∷◌, ◌++◌, reverse}
+use Rattle.std.specs.Prelude.{ℕ, ◌+◌, List, [], ◌∷◌, ◌++◌}
 use Rattle.serial_model.specs.Epoch.{up_to_epoch}
 use Rattle.serial_model.specs.Legal.{rows_of}
 use Rattle.sig_core.specs.declared.entry.Entry.{Entry}
@@ -8,15 +8,12 @@ use Rattle.sig_core.specs.declared.log.Life.{Life}
 use Rattle.sig_core.specs.declared.log.LogStep.{LogStep}
 use Rattle.world_core.specs.History.{history}
 use Rattle.world_core.specs.Machine.{hosts}
+use Rattle.world_core.specs.World.{logs_at}
 use Rattle.world_core.specs.Start.{Start}
 
 -- the log of each host, the newest step first
-abbrev pub logs_in : List HostLog → ℕ → List LogStep
-logs_in [] h = []
-logs_in (log ∷ more) h = if log.host.0 == h then reverse log.steps else logs_in more h
-
 abbrev pub logs_of : Life → ℕ → List LogStep
-logs_of life = logs_in life.logs
+logs_of life = logs_at life.logs
 
 -- how a life began: in the epoch behind its start epoch, with its start rows
 abbrev pub start_of : Life → Start
@@ -31,3 +28,7 @@ abbrev pub session_history : List Life → List Entry
 session_history [] = []
 session_history (life ∷ []) = life_history life
 session_history (life ∷ next ∷ more) = up_to_epoch next.start_epoch (life_history life) ++ session_history (next ∷ more)
+
+-- the first life of a fresh cluster, with these logs
+abbrev pub fresh_life : List HostLog → Life
+fresh_life logs = record { start_epoch = 0; start_rows = []; logs = logs }

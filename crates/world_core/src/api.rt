@@ -5,7 +5,7 @@ ghost use Rattle.world_core.specs.declared.api.Serving.TheVariants.{Idle};
 
 use crate::place::{COORDINATOR, rows_of};
 use sig_core::{
-    Actor, Answer, ApiReq, Body, ClientSignal, HostSignal, Mark, NoMemory, Op, Outcome, Outs,
+    Actor, Answer, ApiReply, ApiReq, Body, ClientSignal, HostSignal, Mark, NoMemory, Op, Outcome, Outs,
     Signal, TxId, View, Work,
 };
 use std::alloc::Global;
@@ -24,19 +24,11 @@ pub enum Serving {
     Committing(TxId),
 }
 
-/// A reply to the shell.
-#[derive(Clone, Copy)]
-pub enum Reply {
-    Answered(Answer),
-    /// Committed in this epoch.
-    Committed(u64),
-}
-
 /// The block that serves the shell.
 #[derive(Drop)]
 pub struct Api {
     serving: Serving,
-    replies: VecDeque<Reply>,
+    replies: VecDeque<ApiReply>,
 }
 
 impl Model for Api {
@@ -61,7 +53,7 @@ impl Api {
     }
 
     /// The next reply, in order, each once.
-    pub fn next_reply(&mut self) -> Option<Reply>
+    pub fn next_reply(&mut self) -> Option<ApiReply>
         ensures reply { self.old.replies ≡ option_to_list result ++ self.new.replies }
         ensures none { result ≡ None → self.old.replies ≡ [] }
         ensures serving { self.new.serving ≡ self.old.serving }
@@ -98,7 +90,7 @@ impl Api {
         if let Serving::Operating(asked) = self.serving
             && asked == tx
         {
-            self.replies.push_back(Reply::Answered(answer))?;
+            self.replies.push_back(ApiReply::Answered { name: None, answer })?;
             self.serving = Serving::Committing(tx);
             out.send(COORDINATOR, Body::Client(ClientSignal::TcCommitReq { tx }));
         }
@@ -113,9 +105,9 @@ impl Api {
         if let Serving::Committing(asked) = self.serving
             && asked == tx
         {
-            self.replies.push_back(Reply::Committed(epoch))?;
-            self.serving = Serving::Idle;
             let outcome = Outcome::Committed(epoch);
+            self.replies.push_back(ApiReply::Ended { name: None, outcome })?;
+            self.serving = Serving::Idle;
             out.mark(Mark::Reported { tx, outcome });
         }
         out.send(rows_of(1), Body::Client(ClientSignal::TcCommitAck { tx }));

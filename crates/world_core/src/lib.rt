@@ -4,6 +4,7 @@
 mod api;
 mod blocks;
 mod dih;
+mod logs;
 mod lqh;
 mod network;
 mod place;

@@ -1,6 +1,7 @@
 //! The links between the hosts.
-ghost use Rattle.std.specs.Prelude.{◌≡◌, [], ◌++◌, ◌∷◌, None, Some, MatchOption, IfNone, IfSome, OnOk, IfOk, ◌<◌, nat_lt, length, position, slice_index_or};
-ghost use Rattle.world_core.specs.Network.{taken, taken_at};
+ghost use Rattle.std.specs.Prelude.{◌≡◌, ◌∷◌, [], None, Some, MatchOption, IfNone, IfSome, OnOk, IfOk, ◌<◌, nat_lt, length, position};
+ghost use Rattle.world_core.specs.Machine.{headed};
+ghost use Rattle.world_core.specs.Network.{behind, is_busy, is_taken, new_link, taken, taken_at};
 
 use crate::place::first_view;
 use sig_core::{HostId, Member, NoMemory, Outgoing, Signal};
@@ -17,20 +18,16 @@ struct Link {
 }
 
 impl Model for Link {
-    ghost use Rattle.std.specs.Prelude.{List, map};
-    ghost use Rattle.world_core.specs.Network.{Flight, flight_of};
+    ghost use Rattle.world_core.specs.Network.{LinkState};
 
-    ghost Value = { List Flight };
+    ghost Value = { LinkState };
 
-    ghost view = { λ l. map flight_of l.signals.items };
+    ghost view = { λ l. record { signals = l.signals.items; sent = l.sent } };
 }
 
 impl Link {
-    ghost use Rattle.std.specs.Prelude.{nat_lt, length};
-    ghost use Rattle.world_core.specs.Network.{flight_of};
-
     fn new(alloc: Global) -> Link
-        ensures { result ≡ [] }
+        ensures { result ≡ new_link }
     {
         Link {
             signals: VecDeque::new(alloc),
@@ -39,29 +36,41 @@ impl Link {
     }
 
     fn is_busy(&self) -> bool
-        ensures { result ≡ nat_lt 0 (length self.now) }
+        ensures { result ≡ is_busy self.now }
     {
         !self.signals.is_empty()
     }
 
-    fn put(&mut self, mut signal: Signal) -> Result<(), NoMemory>
-        ensures { OnOk result (self.new ≡ self.old ++ flight_of signal ∷ []) }
+    /// Puts a signal that host `from` sends in the step of this stamp behind the others.
+    fn put(&mut self, from: u8, stamp: u64, sent: Outgoing) -> Result<(), NoMemory>
+        ensures { OnOk result (self.new ≡ behind self.old (headed from stamp self.old.sent sent)) }
     {
-        signal.seq = self.sent;
-        self.signals.push_back(signal)?;
+        let Outgoing { to, body } = sent;
+        self.signals.push_back(Signal {
+            from: HostId(u32::from(from)),
+            member: Member {
+                node: from,
+                start: 0,
+            },
+            to,
+            seq: self.sent,
+            stamp,
+            view: first_view(),
+            body,
+        })?;
         self.sent = self.sent.saturating_add(1);
         Ok(())
     }
 
     fn take(&mut self) -> Option<Signal>
-        ensures { MatchOption result ((self.old ≡ []) × (self.new ≡ self.old)) (λ signal. self.old ≡ flight_of signal ∷ self.new) }
+        ensures { MatchOption result ((self.old.signals ≡ []) × (self.new ≡ self.old)) (λ signal. is_taken self.old signal self.new) }
     {
         self.signals.pop_front()
     }
 }
 
 /// How many hosts there are: the shell host and two nodes.
-const HOSTS: usize = 3;
+pub const HOSTS: usize = 3;
 
 /// The links from each host to each: those to host 0 first, and of these the one from host 0 first.
 #[derive(Drop)]
@@ -71,9 +80,9 @@ pub struct Network {
 
 impl Model for Network {
     ghost use Rattle.std.specs.Prelude.{List, length, ◌≡◌};
-    ghost use Rattle.world_core.specs.Network.{Flight};
+    ghost use Rattle.world_core.specs.Network.{LinkState};
 
-    ghost Value = { List (List Flight) };
+    ghost Value = { List LinkState };
 
     ghost view = { λ n. n.links.items };
 
@@ -81,15 +90,15 @@ impl Model for Network {
 }
 
 impl Network {
-    ghost use Rattle.std.specs.Prelude.{nat_lt, length, replicate};
-    ghost use Rattle.world_core.specs.Network.{flight_from, put, take_first};
+    ghost use Rattle.std.specs.Prelude.{replicate};
+    ghost use Rattle.world_core.specs.Network.{put, take_first};
 
     /// Links with nothing on them.
     ///
     /// # Errors
     /// `NoMemory`.
     pub fn new(alloc: Global) -> Result<Network, NoMemory>
-        ensures { IfOk result (λ n. n ≡ replicate 9 []) }
+        ensures { IfOk result (λ n. n ≡ replicate 9 new_link) }
     {
         let mut links = Vec::with_capacity(alloc, HOSTS * HOSTS)?;
         for _ in 0..HOSTS * HOSTS {
@@ -104,24 +113,11 @@ impl Network {
     /// # Errors
     /// `NoMemory`, and then the network is of no use.
     pub fn put(&mut self, from: u8, stamp: u64, sent: Outgoing) -> Result<(), NoMemory>
-        ensures { OnOk result (self.new ≡ put self.old (flight_from from sent)) }
+        ensures { OnOk result (self.new ≡ put self.old from stamp sent) }
     {
-        let Outgoing { to, body } = sent;
-        let host = usize::from(to.node);
+        let host = usize::from(sent.to.node);
         if host < HOSTS && usize::from(from) < HOSTS {
-            let signal = Signal {
-                from: HostId(u32::from(from)),
-                member: Member {
-                    node: from,
-                    start: 0,
-                },
-                to,
-                seq: 0,
-                stamp,
-                view: first_view(),
-                body,
-            };
-            self.links[host * HOSTS + usize::from(from)].put(signal)?;
+            self.links[host * HOSTS + usize::from(from)].put(from, stamp, sent)?;
         }
         Ok(())
     }
@@ -139,7 +135,7 @@ impl Network {
 
 /// The place of the first link that has a signal.
 fn first_busy(links: &[Link]) -> Option<usize>
-    ensures { result ≡ position (λ link. nat_lt 0 (length link)) links.now }
+    ensures { result ≡ position is_busy links.now }
 {
     links.iter().position(|link| link.is_busy())
 }

@@ -1,0 +1,80 @@
+-- What each signal that was sent tells of its header.
+use Rattle.std.proofs.Common.{◌≡◌, ℕ, ◌≤◌, List, [], ◌∷◌, Bool, true, false, refl, arith, ap, ◌∙◌}
+use Rattle.std.specs.Prelude.{if◌then◌else◌, ◌==◌}
+use Rattle.run_theory.proofs.Links.{step_above}
+use Rattle.run_theory.proofs.Pasts.{each_map}
+use Rattle.run_theory.specs.Links.{put, sent}
+use Rattle.run_theory.specs.Lists.{Each}
+use Rattle.run_theory.specs.Logs.{IsLog, last}
+use Rattle.sig_core.specs.declared.log.LogStep.{LogStep}
+use Rattle.sig_core.specs.declared.outs.Outgoing.{Outgoing}
+use Rattle.sig_core.specs.declared.place.Place.{Place}
+use Rattle.sig_core.specs.declared.signal.Body.{Body}
+use Rattle.sig_core.specs.declared.signal.Signal.{Signal}
+use Rattle.sig_core.specs.Step.{Step}
+use Rattle.std.proofs.lemmas.Bool.{eqb-true}
+use Rattle.world_core.specs.declared.blocks.Blocks.{Blocks}
+use Rattle.world_core.specs.Blocks.{blocks_row}
+use Rattle.world_core.specs.Machine.{all_headed, counted, is_request, last_stamp, machine, sent_count, step_after}
+use Rattle.world_core.specs.Row.{row}
+use Rattle.world_core.specs.Start.{Start}
+use Rattle.world_core.proofs.NoRequests.{asks_nothing, blocks_ask}
+
+-- the row is what the blocks do
+pub row_is : (s : Blocks) (to : Place) (body : Body) → row s to body ≡ blocks_row s to body
+unfolding row
+row_is s to body = refl
+
+-- a signal of this host, not later than this stamp, and no request
+pub record IsFrom (h stamp : ℕ) (x : Signal) : Type 0 where
+  pub from : x.from.0 ≡ h
+  pub early : x.stamp ≤ stamp
+  pub plain : is_request x.body ≡ false
+
+-- and for this host
+pub record IsBetween (i j stamp : ℕ) (x : Signal) : Type 0 where
+  pub from : x.from.0 ≡ i
+  pub to : x.to.node ≡ j
+  pub early : x.stamp ≤ stamp
+  pub plain : is_request x.body ≡ false
+
+plain_first : (b : Bool) (more : Bool) → (if b then false else more) ≡ true → b ≡ false
+plain_first true more e = cc
+plain_first false more e = refl
+
+plain_rest : (b : Bool) (more : Bool) → (if b then false else more) ≡ true → more ≡ true
+plain_rest true more e = cc
+plain_rest false more e = e
+
+headed_each : (h stamp : ℕ) (count : ℕ → ℕ) (sends : List Outgoing) → asks_nothing sends ≡ true → Each (λ x. IsFrom h stamp x) (all_headed h stamp count sends)
+headed_each h stamp count [] none = tt
+headed_each h stamp count (sent ∷ more) none =
+    (record { from = refl; early = omega arith; plain = plain_first (is_request sent.body) (asks_nothing more) none },
+    headed_each h stamp (counted sent.to.node count) more (plain_rest (is_request sent.body) (asks_nothing more) none))
+
+module _ (start : Start) where
+  put_between : (i j stamp : ℕ) (xs before : List Signal) → Each (λ x. IsFrom i stamp x) xs → Each (λ x. IsBetween i j stamp x) before
+      → Each (λ x. IsBetween i j stamp x) (put (machine start) j xs before)
+  put_between i j stamp [] before each rest = rest
+  put_between i j stamp (x ∷ xs) before each rest =
+      put_between i j stamp xs (if x.to.node == j then x ∷ before else before) each.1 (first (x.to.node == j) refl)
+    where
+      first : (b : Bool) → (x.to.node == j) ≡ b → Each (λ y. IsBetween i j stamp y) (if b then x ∷ before else before)
+      first true e = (record { from = each.0.from; to = eqb-true x.to.node j e; early = each.0.early; plain = each.0.plain }, rest)
+      first false e = rest
+
+  -- the newest stamp, as the theory has it
+  pub last_is : (h : ℕ) (log : List LogStep) → last (machine start) h log ≡ last_stamp log
+  last_is h [] = refl
+  last_is h (e ∷ log) = refl
+
+  -- all that a host sent another
+  pub sent_between : (i j : ℕ) (log : List LogStep) → IsLog (machine start) i log → Each (λ x. IsBetween i j (last_stamp log) x) (sent (machine start) i j log)
+  sent_between i j [] local = tt
+  sent_between i j (e ∷ log) local =
+      put_between i j e.stamp (all_headed i e.stamp (sent_count start log) (step_after start log e).effects.sends) (sent (machine start) i j log)
+      (headed_each i e.stamp (sent_count start log) (step_after start log e).effects.sends
+      (ap (λ (t : Step Blocks). asks_nothing t.effects.sends) (row_is _ e.taken.to e.taken.body) ∙ blocks_ask _ e.taken.to e.taken.body))
+      (each_map (λ x. IsBetween i j (last_stamp log) x) (λ x. IsBetween i j e.stamp x) (sent (machine start) i j log)
+      (λ x was. record { from = was.from; to = was.to; early = omega (arith, was.early, step_above (machine start) i log e local.0, last_is i log); plain = was.plain })
+      (sent_between i j log local.1))

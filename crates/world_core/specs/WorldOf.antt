@@ -1,0 +1,6 @@
+-- What a world is seen as.
+use Rattle.world_core.specs.declared.world.World.{World}
+use Rattle.world_core.specs.World.{Whole}
+
+abbrev pub whole_of : World → Whole
+whole_of w = record { blocks = w.blocks; links = w.network; stamps = w.stamps; logs = w.logs }
