@@ -25,8 +25,9 @@ use Rattle.world_core.specs.Tc.{tc_row}
 use Rattle.world_core.specs.declared.blocks.Blocks.{Blocks}
 use Rattle.world_core.specs.declared.dih.Dih.{Dih}
 use Rattle.commit_laws.proofs.Falling.{Falls}
+use Rattle.commit_laws.proofs.HostOne.{plain_entries}
 use Rattle.commit_laws.proofs.Numbers.{verified_number, taken_numbers, in_cons_option}
-use Rattle.commit_laws.proofs.Undecided.{IsUndecided, tc_marks, lqh_marks}
+use Rattle.commit_laws.proofs.RowMarks.{IsPlainMark, lqh_marks, none_plain, tc_marks}
 
 -- the number of an entry's transaction
 abbrev pub number_of : Entry → ℕ
@@ -53,20 +54,15 @@ verified_new entry entries verified falls are =
       known = (inl refl, each_map (λ other. IsIn other.tx.seq verified) (λ other. IsIn other.tx.seq (number_of entry ∷ verified)) entries (λ other i. inr i) are.known);
     }
 
-undecided : (h stamp : ℕ) (log : List LogStep) (marks : List Mark) (before : List Entry) → Each IsUndecided marks → entries_in h stamp log marks before ≡ before
-undecided h stamp log [] before all = refl
-undecided h stamp log (Decided tx epoch ∷ marks) before all = absurd all.0
-undecided h stamp log (mark ∷ marks) before all = undecided h stamp log marks before all.1
-
 -- A step with these marks, at this signal, keeps the entries in order where the numbers asked for fall.
 abbrev pub KeepsOrder : ℕ → ℕ → List LogStep → Body → List Mark → Type 0
 KeepsOrder h stamp log body marks =
     (entries : List Entry) (verified : List ℕ) → Falls (λ n. n) (cons_option (verified_number body) verified) → AreVerified entries verified
     → AreVerified (entries_in h stamp log marks entries) (cons_option (verified_number body) verified)
 
-undecided_keeps : (h stamp : ℕ) (log : List LogStep) (body : Body) (marks : List Mark) → Each IsUndecided marks → KeepsOrder h stamp log body marks
-undecided_keeps h stamp log body marks none entries verified falls are =
-    subst (λ now. AreVerified now (cons_option (verified_number body) verified)) (sym (undecided h stamp log marks entries none)) (verified_more (verified_number body) entries verified are)
+plain_keeps : (h stamp : ℕ) (log : List LogStep) (body : Body) (marks : List Mark) → Each IsPlainMark marks → KeepsOrder h stamp log body marks
+plain_keeps h stamp log body marks all entries verified falls are =
+    subst (λ now. AreVerified now (cons_option (verified_number body) verified)) (sym (plain_entries h stamp log marks entries all)) (verified_more (verified_number body) entries verified are)
 
 dih_keeps : (h stamp : ℕ) (log : List LogStep) (s : Dih) (body : Body) → KeepsOrder h stamp log body (dih_row s body).effects.marks
 dih_keeps h stamp log s (Epoch (DiVerifyReq tx ops)) entries verified falls are = verified_new (entry_of h stamp log tx s.epoch) entries verified falls are
@@ -74,9 +70,9 @@ dih_keeps h stamp log s body entries verified falls are = verified_more (verifie
 
 block_keeps : (h stamp : ℕ) (log : List LogStep) (s : Blocks) (body : Body) (block : BlockId) → KeepsOrder h stamp log body (block_by s 1 body block).effects.marks
 block_keeps h stamp log s body block.Dih = dih_keeps h stamp log s.dih body
-block_keeps h stamp log s body block.Tc = undecided_keeps h stamp log body (tc_row s.tc body).effects.marks (tc_marks s.tc body)
-block_keeps h stamp log s body block.Lqh = undecided_keeps h stamp log body (lqh_row s.first body).effects.marks (lqh_marks s.first body)
-block_keeps h stamp log s body _ = undecided_keeps h stamp log body [] tt
+block_keeps h stamp log s body block.Tc = plain_keeps h stamp log body (tc_row s.tc body).effects.marks (none_plain (tc_marks s.tc body))
+block_keeps h stamp log s body block.Lqh = plain_keeps h stamp log body (lqh_row s.first body).effects.marks (lqh_marks s.first body)
+block_keeps h stamp log s body _ = plain_keeps h stamp log body [] tt
 
 row_keeps : (h stamp : ℕ) (log : List LogStep) (s : Blocks) (to : Place) (body : Body) → to.node ≡ 1 → KeepsOrder h stamp log body (row s to body).effects.marks
 unfolding row

@@ -11,16 +11,8 @@ use Rattle.world_core.specs.History.{is_kept, history}
 use Rattle.world_core.specs.Machine.{hosts, machine}
 use Rattle.world_core.specs.SerialLaw.{AreEpochsOrdered}
 use Rattle.world_core.specs.Start.{Start}
-use Rattle.commit_laws.proofs.HostOne.{IsBelow, each_reverse, entries_below, history_is}
-
--- what holds of each entry holds of each that is kept
-pub each_filter : {A : Type 0} (P : A → Type 0) (p : A → Bool) (xs : List A) → Each P xs → Each P (filter p xs)
-each_filter P p [] all = tt
-each_filter {A} P p (x ∷ xs) all = go (p x) (each_filter P p xs all.1)
-  where
-    go : (b : Bool) → Each P (filter p xs) → Each P (cond b (x ∷ filter p xs) (filter p xs))
-    go true rest = (all.0, rest)
-    go false rest = rest
+use Rattle.commit_laws.proofs.EachLemmas.{each_filter, each_reverse}
+use Rattle.commit_laws.proofs.HostOne.{IsBelow, entries_below, history_is}
 
 -- entries of one epoch are in order of epochs
 one_epoch : (epoch : ℕ) (xs : List Entry) → Each (λ b. b.epoch ≡ epoch) xs → AreEpochsOrdered xs

@@ -5,6 +5,7 @@ use Rattle.run_theory.specs.Lists.{Each, IsIn, IsPast}
 use Rattle.run_theory.proofs.Pasts.{each_append, each_in}
 use Rattle.sig_core.specs.declared.entry.Entry.{Entry}
 use Rattle.world_core.specs.Strict.{StandsBefore}
+use Rattle.commit_laws.proofs.EachLemmas.{each_filter, each_reverse}
 
 -- each entry has a greater number than all those behind it
 abbrev pub Falls : {A : Type 0} → (A → ℕ) → List A → Type 0
@@ -24,10 +25,6 @@ falls_after number (n ∷ newer) xs falls = falls_after number newer xs falls.1
 pub falls_past : {A : Type 0} (number : A → ℕ) {xs all : List A} → IsPast xs all → Falls number all → Falls number xs
 falls_past number {xs} p falls = falls_after number p.newer xs (subst (Falls number) p.is falls)
 
-pub each_reverse : {A : Type 0} (P : A → Type 0) (xs : List A) → Each P xs → Each P (reverse xs)
-each_reverse P [] all = tt
-each_reverse P (x ∷ xs) all = subst (Each P) (sym (reverse-append (x ∷ []) xs)) (each_append P (reverse xs) (x ∷ []) (each_reverse P xs all.1) (all.0, tt))
-
 rises_push : {A : Type 0} (number : A → ℕ) (xs : List A) (z : A) → Each (λ y. number y < number z) xs → Rises number xs → Rises number (xs ++ z ∷ [])
 rises_push number [] z below rises = (tt, tt)
 rises_push number (x ∷ xs) z below rises =
@@ -39,14 +36,6 @@ rises_reverse number [] falls = tt
 rises_reverse number (x ∷ xs) falls =
     let below : Each (λ y. number y < number x) (reverse xs) = each_reverse (λ y. number y < number x) xs falls.0 in
     subst (Rises number) (sym (reverse-append (x ∷ []) xs)) (rises_push number (reverse xs) x below (rises_reverse number xs falls.1))
-
-each_filter : {A : Type 0} (P : A → Type 0) (p : A → Bool) (xs : List A) → Each P xs → Each P (filter p xs)
-each_filter P p [] all = tt
-each_filter P p (x ∷ xs) all = go (p x) (each_filter P p xs all.1)
-  where
-    go : (b : Bool) → Each P (filter p xs) → Each P (cond b (x ∷ filter p xs) (filter p xs))
-    go true rest = (all.0, rest)
-    go false rest = rest
 
 -- what is left out doesn't matter
 pub rises_filter : {A : Type 0} (number : A → ℕ) (p : A → Bool) (xs : List A) → Rises number xs → Rises number (filter p xs)

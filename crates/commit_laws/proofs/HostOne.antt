@@ -16,16 +16,17 @@ use Rattle.world_core.specs.Entries.{installed_in, view_at, entry_of, entries_in
 use Rattle.world_core.specs.History.{is_kept, history}
 use Rattle.world_core.specs.Machine.{after, hosts, machine}
 use Rattle.world_core.specs.Start.{Start}
-use Rattle.commit_laws.proofs.RowMarks.{IsPlain, MarksOne, plain, decides, row_marks_off, row_marks_one}
+use Rattle.commit_laws.proofs.EachLemmas.{each_reverse}
+use Rattle.commit_laws.proofs.RowMarks.{IsPlainMark, MarksOne, plain, decides, row_marks_off, row_marks_one}
 use Rattle.commit_laws.proofs.RowEpoch.{row_epoch}
 
 -- plain marks make no entry, and install no view
-plain_entries : (h stamp : ℕ) (log : List LogStep) (marks : List Mark) (before : List Entry) → Each IsPlain marks → entries_in h stamp log marks before ≡ before
+pub plain_entries : (h stamp : ℕ) (log : List LogStep) (marks : List Mark) (before : List Entry) → Each IsPlainMark marks → entries_in h stamp log marks before ≡ before
 plain_entries h stamp log [] before all = refl
 plain_entries h stamp log (mark.Decided tx epoch ∷ marks) before all = absurd all.0
 plain_entries h stamp log (m ∷ marks) before all = plain_entries h stamp log marks before all.1
 
-plain_installed : (marks : List Mark) (number : ℕ) → Each IsPlain marks → installed_in marks number ≡ number
+plain_installed : (marks : List Mark) (number : ℕ) → Each IsPlainMark marks → installed_in marks number ≡ number
 plain_installed [] number all = refl
 plain_installed (mark.Installed view ∷ marks) number all = absurd all.0
 plain_installed (m ∷ marks) number all = plain_installed marks number all.1
@@ -38,10 +39,6 @@ insert_last : (a : Entry) (xs : List Entry) → IsLast a xs → insert a xs ≡ 
 insert_last a [] all = refl
 insert_last a (b ∷ xs) all = rw all.0 (ap (λ w. b ∷ w) (insert_last a xs all.1))
 
-pub each_reverse : {A : Type 0} (P : A → Type 0) (xs : List A) → Each P xs → Each P (reverse xs)
-each_reverse P [] all = tt
-each_reverse P (x ∷ xs) all = rw (reverse-append (x ∷ []) xs) (each_append P (reverse xs) (x ∷ []) (each_reverse P xs all.1) (all.0, tt))
-
 insert_newest : (a : Entry) (more : List Entry) → IsLast a more → insert a (reverse more) ≡ reverse (a ∷ more)
 insert_newest a more all = insert_last a (reverse more) (each_reverse (λ b. is_before a b ≡ false) more all) ∙ sym (reverse-append (a ∷ []) more)
 
@@ -50,10 +47,10 @@ later_is_last : (v w s t h k : ℕ) → v ≡ w → t < s → (nat_lt v w || ((v
 later_is_last v w s t h k same lt = grind (arith, nat_tests)
 
 module _ (start : Start) where
-  pub off_plain : (h : ℕ) (log : List LogStep) (e : LogStep) → (h == 1) ≡ false → IsStep (machine start) h log e → Each IsPlain e.marks
+  pub off_plain : (h : ℕ) (log : List LogStep) (e : LogStep) → (h == 1) ≡ false → IsStep (machine start) h log e → Each IsPlainMark e.marks
   off_plain h log e off s =
       let there : (e.taken.to.node == 1) ≡ false = ap (λ k. k == 1) s.at ∙ off in
-      subst (Each IsPlain) (sym s.fits.marks) (row_marks_off (after start log) e.taken.to e.taken.body there)
+      subst (Each IsPlainMark) (sym s.fits.marks) (row_marks_off (after start log) e.taken.to e.taken.body there)
 
   -- a host other than 1 decides nothing
   pub no_entries : (h : ℕ) (log : List LogStep) → (h == 1) ≡ false → IsLog (machine start) h log → entries_of h log ≡ []

@@ -18,7 +18,8 @@ use Rattle.world_core.specs.Machine.{after, hosts, machine}
 use Rattle.world_core.specs.Marks.{has_mark, have_mark}
 use Rattle.world_core.specs.Start.{Start}
 use Rattle.world_core.specs.Tx.{same_tx}
-use Rattle.commit_laws.proofs.HostOne.{each_reverse, history_is}
+use Rattle.commit_laws.proofs.EachLemmas.{each_reverse}
+use Rattle.commit_laws.proofs.HostOne.{history_is}
 use Rattle.commit_laws.proofs.Moves.{itself}
 use Rattle.commit_laws.proofs.RowMarks.{IsReport, row_marks_zero}
 use Rattle.commit_laws.proofs.Scenes.{Job, Scene, EpochGiven, CommitSent, SecondCommitted, open_entry, tx, txs}

@@ -1,4 +1,5 @@
 pub mod Chains
+pub mod EachLemmas
 pub mod EntriesFall
 pub mod Epochs
 pub mod Falling
@@ -32,4 +33,3 @@ pub mod Story
 pub mod StrictOrder
 pub mod TransactionNumbers
 pub mod TwoTakes
-pub mod Undecided

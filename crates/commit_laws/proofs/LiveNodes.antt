@@ -12,10 +12,10 @@ use Rattle.world_core.specs.Place.{first_view, replicas}
 use Rattle.world_core.specs.Start.{Start}
 use Rattle.world_core.specs.Views.{greatest_in, greatest_of, greatest_view, live_nodes}
 use Rattle.commit_laws.proofs.HostOne.{off_plain, one_marks}
-use Rattle.commit_laws.proofs.RowMarks.{IsPlain, MarksOne, plain, decides}
+use Rattle.commit_laws.proofs.RowMarks.{IsPlainMark, MarksOne, plain, decides}
 
 -- plain marks install no view
-plain_greatest : (marks : List Mark) (view : View) → Each IsPlain marks → greatest_in marks view ≡ view
+plain_greatest : (marks : List Mark) (view : View) → Each IsPlainMark marks → greatest_in marks view ≡ view
 plain_greatest [] view all = refl
 plain_greatest (mark.Installed other ∷ marks) view all = absurd all.0
 plain_greatest (m ∷ marks) view all = plain_greatest marks view all.1

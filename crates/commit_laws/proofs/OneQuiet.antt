@@ -22,17 +22,10 @@ use Rattle.world_core.specs.Tc.{phase_if, phase_in, begun_if, operate_by, decide
 use Rattle.world_core.specs.Tx.{same_tx}
 use Rattle.commit_laws.proofs.Chains.{is_chain, taken_quiet, IsUnchained}
 use Rattle.commit_laws.proofs.Quiet.{still, aside_one, QuietOne, rests, begins, operates, decides, row_quiet_one}
+use Rattle.commit_laws.proofs.SameTx.{same_tx-is}
 use Rattle.commit_laws.proofs.Scenes.{Aside, Job, Scene, Idle, Begun, WriteSent, Answered, EpochAsked, Sight, tx_of, tx, op_of, current, under_11, under_12, under_21, sight}
 use Rattle.commit_laws.proofs.Sights.{Shows, next_one, shows_one}
 use Rattle.commit_laws.proofs.Story.{IsRight, Tells}
-
--- transactions that compare as one are one
-pub one_tx : (a b : TxId) → same_tx a b ≡ true → a ≡ b
-one_tx a b is =
-    let parts : ((a.tc == b.tc && a.start == b.start) ≡ true) × ((a.seq == b.seq) ≡ true) = and_parts (a.tc == b.tc && a.start == b.start) (a.seq == b.seq) is in
-    let more : ((a.tc == b.tc) ≡ true) × ((a.start == b.start) ≡ true) = and_parts (a.tc == b.tc) (a.start == b.start) parts.0 in
-    ap₂ (λ t s. record { tc = t; start = s; seq = a.seq }) (eqb-true a.tc b.tc more.0) (eqb-true a.start b.start more.1)
-    ∙ ap (λ n. record { tc = b.tc; start = b.start; seq = n }) (eqb-true a.seq b.seq parts.1)
 
 abbrev tx_in : Option Transaction → Option TxId
 tx_in None = None
@@ -52,7 +45,7 @@ phase_found None asked p is = cc
 phase_found (Some t) asked p is = go (same_tx t.tx asked) refl is
   where
     go : (b : Bool) → same_tx t.tx asked ≡ b → phase_if t.phase b ≡ Some p → IsFound (Some t) asked p
-    go true same is = record { tx = ap Some (one_tx t.tx asked same); phase = is }
+    go true same is = record { tx = ap Some (same_tx-is t.tx asked same); phase = is }
     go false same is = cc
 
 -- only where no transaction is current none is

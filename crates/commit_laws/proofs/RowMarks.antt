@@ -40,17 +40,17 @@ use Rattle.world_core.specs.Tc as tc
 use Rattle.world_core.specs.Tc.{tc_row}
 
 -- the mark decides no transaction and installs no view
-abbrev pub IsPlain : Mark → Type 0
-IsPlain (mark.Decided tx epoch) = ⊥
-IsPlain (mark.Installed view) = ⊥
-IsPlain other = Unit {0}
+abbrev pub IsPlainMark : Mark → Type 0
+IsPlainMark (mark.Decided tx epoch) = ⊥
+IsPlainMark (mark.Installed view) = ⊥
+IsPlainMark other = Unit {0}
 
 -- the mark tells of an outcome
 abbrev pub IsReport : Mark → Type 0
 IsReport (mark.Reported tx outcome) = Unit {0}
 IsReport other = ⊥
 
-pub report_plain : (m : Mark) → IsReport m → IsPlain m
+pub report_plain : (m : Mark) → IsReport m → IsPlainMark m
 report_plain (mark.Reported tx outcome) is = tt
 report_plain m is = absurd is
 
@@ -129,28 +129,28 @@ tc_marks s (Epoch (DiVerifyConf tx epoch)) = tc_commit_marks s tx epoch _
 tc_marks s body = refl
 
 -- a replica's marks are plain
-prepared_marks : (tx : TxId) (key image : List ℕ) (chain : List Member) (at : ℕ) (next : Option Member) → Each IsPlain (prepared_at tx key image chain at next).marks
+prepared_marks : (tx : TxId) (key image : List ℕ) (chain : List Member) (at : ℕ) (next : Option Member) → Each IsPlainMark (prepared_at tx key image chain at next).marks
 prepared_marks tx key image chain at None = (tt, tt)
 prepared_marks tx key image chain at (Some next) = (tt, tt)
 
-prepare_marks : (s : Lqh) (tx : TxId) (key image : List ℕ) (chain : List Member) (at : ℕ) (p : Option Pending) → HasEach IsPlain (prepare_by s tx key image chain at p)
+prepare_marks : (s : Lqh) (tx : TxId) (key image : List ℕ) (chain : List Member) (at : ℕ) (p : Option Pending) → HasEach IsPlainMark (prepare_by s tx key image chain at p)
 prepare_marks s tx key image chain at None = prepared_marks tx key image chain at _
 prepare_marks s tx key image chain at (Some other) = tt
 
-passed_marks : (f : Effects) (r : Option Member) (body : Body) → Each IsPlain f.marks → Each IsPlain (passed_to f r body).marks
+passed_marks : (f : Effects) (r : Option Member) (body : Body) → Each IsPlainMark f.marks → Each IsPlainMark (passed_to f r body).marks
 passed_marks f None body plain = plain
 passed_marks f (Some replica) body plain = plain
 
-committed_marks : (tx : TxId) (key : List ℕ) (epoch : ℕ) (chain : List Member) (at : ℕ) (had : Option Pending) (b : Bool) → Each IsPlain (committed_at_if tx key epoch chain at had b).marks
+committed_marks : (tx : TxId) (key : List ℕ) (epoch : ℕ) (chain : List Member) (at : ℕ) (had : Option Pending) (b : Bool) → Each IsPlainMark (committed_at_if tx key epoch chain at had b).marks
 committed_marks tx key epoch chain at None true = tt
 committed_marks tx key epoch chain at (Some p) true = (tt, tt)
 committed_marks tx key epoch chain at had false = passed_marks _ (slice_get chain (at - 1)) _ tt
 
-completed_marks : (tx : TxId) (key : List ℕ) (chain : List Member) (at : ℕ) (b : Bool) → Each IsPlain (completed_at_if tx key chain at b).marks
+completed_marks : (tx : TxId) (key : List ℕ) (chain : List Member) (at : ℕ) (b : Bool) → Each IsPlainMark (completed_at_if tx key chain at b).marks
 completed_marks tx key chain at true = (tt, tt)
 completed_marks tx key chain at false = passed_marks _ (slice_get chain (at - 1)) _ (tt, tt)
 
-pub lqh_marks : (s : Lqh) (body : Body) → HasEach IsPlain (lqh_row s body)
+pub lqh_marks : (s : Lqh) (body : Body) → HasEach IsPlainMark (lqh_row s body)
 lqh_marks s (Client (TcCommitAck tx)) = tt
 lqh_marks s (Chain (LqhKeyReq tx (Operate (Put key value)) chain at)) = prepare_marks s tx key value chain at _
 lqh_marks s (Chain (LqhKeyReq tx (Store key (Some image)) chain at)) = prepare_marks s tx key image chain at _
@@ -163,32 +163,32 @@ if_marks : (P : Mark → Type 0) (s : Blocks) (t : Step Blocks) (b : Bool) → H
 if_marks P s t true all = all
 if_marks P s t false all = tt
 
-rows_marks : (s : Blocks) (body : Body) (b c : Bool) → HasEach IsPlain (if b then in_first s (lqh_row s.first body) else (if c then in_second s (lqh_row s.second body) else stay s))
+rows_marks : (s : Blocks) (body : Body) (b c : Bool) → HasEach IsPlainMark (if b then in_first s (lqh_row s.first body) else (if c then in_second s (lqh_row s.second body) else stay s))
 rows_marks s body true c = lqh_marks s.first body
-rows_marks s body false c = if_marks IsPlain s (in_second s (lqh_row s.second body)) c (lqh_marks s.second body)
+rows_marks s body false c = if_marks IsPlainMark s (in_second s (lqh_row s.second body)) c (lqh_marks s.second body)
 
-none_plain : {marks : List Mark} → marks ≡ [] → Each IsPlain marks
+pub none_plain : {marks : List Mark} → marks ≡ [] → Each IsPlainMark marks
 none_plain is = rw is tt
 
-reports_plain : (marks : List Mark) → Each IsReport marks → Each IsPlain marks
+reports_plain : (marks : List Mark) → Each IsReport marks → Each IsPlainMark marks
 reports_plain [] all = tt
 reports_plain (m ∷ marks) all = (report_plain m all.0, reports_plain marks all.1)
 
 -- on a node other than 1 all marks are plain
-block_marks_off : (s : Blocks) (node : ℕ) (body : Body) (at : BlockId) → (node == 1) ≡ false → HasEach IsPlain (block_by s node body at)
-block_marks_off s node body block.Api off = if_marks IsPlain s _ _ (reports_plain _ (api_marks s.api body))
-block_marks_off s node body block.Tc off = if_marks IsPlain s _ _ (none_plain (tc_marks s.tc body))
+block_marks_off : (s : Blocks) (node : ℕ) (body : Body) (at : BlockId) → (node == 1) ≡ false → HasEach IsPlainMark (block_by s node body at)
+block_marks_off s node body block.Api off = if_marks IsPlainMark s _ _ (reports_plain _ (api_marks s.api body))
+block_marks_off s node body block.Tc off = if_marks IsPlainMark s _ _ (none_plain (tc_marks s.tc body))
 block_marks_off s node body block.Dih off = rw off tt
 block_marks_off s node body block.Lqh off = rows_marks s body _ _
 block_marks_off s node body _ off = tt
 
-pub row_marks_off : (s : Blocks) (to : Place) (body : Body) → (to.node == 1) ≡ false → HasEach IsPlain (row s to body)
+pub row_marks_off : (s : Blocks) (to : Place) (body : Body) → (to.node == 1) ≡ false → HasEach IsPlainMark (row s to body)
 unfolding row
 row_marks_off s to body off = block_marks_off s to.node body to.block off
 
 -- what the marks of a step on node 1 are, in this epoch
 pub data MarksOne (epoch : ℕ) (marks : List Mark) : Type 0 where
-  plain : Each IsPlain marks → MarksOne epoch marks
+  plain : Each IsPlainMark marks → MarksOne epoch marks
   decides : (tx : TxId) → marks ≡ mark.Decided tx epoch ∷ [] → MarksOne epoch marks
 
 dih_marks : (s : Dih) (body : Body) → MarksOne s.epoch (dih_row s body).effects.marks

@@ -9,7 +9,7 @@ use Rattle.world_core.specs.Marks.{has_mark}
 use Rattle.world_core.specs.Rest.{is_prepared, is_done, IsSettled}
 use Rattle.world_core.specs.Tx.{same_tx}
 use Rattle.commit_laws.proofs.Kept.{or_true}
-use Rattle.commit_laws.proofs.OneQuiet.{one_tx}
+use Rattle.commit_laws.proofs.SameTx.{same_tx-is}
 
 pub record Settles (key : List ℕ) (log : List LogStep) : Type 0 where
   pub settled : IsSettled key log
@@ -66,7 +66,7 @@ pub prepares_settles_but : {key : List ℕ} {one : TxId} {f : LogStep} {log : Li
 prepares_settles_but {key} {one} {f} {log} marks s = record { settled = go }
   where
     is_one : (tx : TxId) (b c : Bool) → same_tx one tx ≡ b → ((b && c) || false) ≡ true → one ≡ tx
-    is_one tx true c same found = one_tx one tx same
+    is_one tx true c same found = same_tx-is one tx same
     is_one tx false c same found = cc
 
     go : (newer : List LogStep) (e : LogStep) (older : List LogStep) (tx : TxId) → f ∷ log ≡ newer ++ e ∷ older → list_any (is_prepared tx key) e.marks ≡ true
