@@ -1,5 +1,5 @@
 -- Epochs never fall along the history: there is one epoch.
-use Rattle.std.proofs.Common.{◌≡◌, ◌≤◌, ℕ, Bool, true, false, List, [], ◌∷◌, filter, reverse, cond, sym, subst, arith}
+use Rattle.std.proofs.Common.{◌≡◌, ◌≤◌, ℕ, List, [], ◌∷◌, filter, reverse, sym, subst, arith}
 use Rattle.run_theory.specs.Lists.{Each}
 use Rattle.run_theory.specs.Logs.{last}
 use Rattle.run_theory.specs.Runs.{AreLogs, IsWithin}

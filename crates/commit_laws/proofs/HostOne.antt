@@ -6,7 +6,7 @@ use Rattle.run_theory.specs.Lists.{Each}
 use Rattle.run_theory.specs.Logs.{last, IsStep, IsLog}
 use Rattle.run_theory.specs.Runs.{AreLogs, IsWithin}
 use Rattle.run_theory.proofs.Links.{step_above}
-use Rattle.run_theory.proofs.Pasts.{each_map, each_append}
+use Rattle.run_theory.proofs.Pasts.{each_map}
 use Rattle.sig_core.specs.declared.entry.Entry.{Entry}
 use Rattle.sig_core.specs.declared.log.LogStep.{LogStep}
 use Rattle.sig_core.specs.declared.mark.Mark.{Mark}

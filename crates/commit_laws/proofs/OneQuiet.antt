@@ -1,7 +1,6 @@
 -- A step of host 1 at a signal that isn't of the chain keeps the story.
-use Rattle.std.proofs.Common.{◌≡◌, ◌==◌, ◌&&◌, ◌+◌, ℕ, Bool, true, false, List, ◌∷◌, ◌++◌, refl, sym, ap, ap₂, ◌∙◌, subst, arith}
+use Rattle.std.proofs.Common.{◌≡◌, ◌+◌, ℕ, Bool, true, false, List, ◌∷◌, ◌++◌, refl, sym, ap, ap₂, ◌∙◌, subst, arith}
 use Rattle.std.specs.Prelude.{Option, None, Some}
-use Rattle.std.proofs.lemmas.Bool.{eqb-true, and_parts}
 use Rattle.run_theory.specs.Logs.{IsStep}
 use Rattle.sig_core.specs.declared.log.LogStep.{LogStep}
 use Rattle.sig_core.specs.declared.member.TxId.{TxId}
@@ -23,7 +22,7 @@ use Rattle.world_core.specs.Tx.{same_tx}
 use Rattle.commit_laws.proofs.Chains.{is_chain, taken_quiet, IsUnchained}
 use Rattle.commit_laws.proofs.Quiet.{still, aside_one, QuietOne, rests, begins, operates, decides, row_quiet_one}
 use Rattle.commit_laws.proofs.SameTx.{same_tx-is}
-use Rattle.commit_laws.proofs.Scenes.{Aside, Job, Scene, Idle, Begun, WriteSent, Answered, EpochAsked, Sight, tx_of, tx, op_of, current, under_11, under_12, under_21, sight}
+use Rattle.commit_laws.proofs.Scenes.{Aside, Job, Scene, Idle, Begun, WriteSent, Answered, EpochAsked, Sight, tx_of, tx, op_of, current, under_11, under_12, sight}
 use Rattle.commit_laws.proofs.Sights.{Shows, next_one, shows_one}
 use Rattle.commit_laws.proofs.Story.{IsRight, Tells}
 

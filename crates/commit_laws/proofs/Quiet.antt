@@ -15,11 +15,9 @@ use Rattle.sig_core.specs.declared.signal.client.ClientSignal.TheVariants.{TcBeg
 use Rattle.sig_core.specs.declared.signal.epoch.EpochSignal.TheVariants.{DiVerifyReq, DiVerifyConf, DiVerifyEnd}
 use Rattle.sig_core.specs.Step.{Step, stay}
 use Rattle.world_core.specs.declared.blocks.Blocks.{Blocks}
-use Rattle.world_core.specs.declared.dih.Dih.{Dih}
 use Rattle.world_core.specs.declared.lqh.Lqh.{Lqh}
 use Rattle.world_core.specs.declared.tc.Phase.{Phase}
 use Rattle.world_core.specs.declared.tc.Phase.TheVariants as phase
-use Rattle.world_core.specs.declared.tc.Tc.{Tc}
 use Rattle.world_core.specs.Blocks.{in_tc, in_dih, in_first, in_second, block_by}
 use Rattle.world_core.specs.Dih.{dih_row, ended_by, ended_if}
 use Rattle.world_core.specs.Lqh.{lqh_row, unmarked_by, unmarked_if}

@@ -1,6 +1,5 @@
 -- How what is seen of hosts 1 and 2 changes with a step of one of them.
 use Rattle.std.proofs.Common.{◌≡◌, ℕ, List, [], ◌∷◌, ◌++◌, ap, ap₂, ◌∙◌}
-use Rattle.run_theory.specs.Links.{taken}
 use Rattle.run_theory.specs.Logs.{IsStep}
 use Rattle.sig_core.specs.declared.log.LogStep.{LogStep}
 use Rattle.sig_core.specs.declared.mark.Mark.{Mark}
