@@ -1,4 +1,5 @@
 pub mod Chains
+pub mod CurrentTx
 pub mod EachLemmas
 pub mod EntriesFall
 pub mod Epochs

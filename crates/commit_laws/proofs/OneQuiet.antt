@@ -1,5 +1,5 @@
 -- A step of host 1 at a signal that isn't of the chain keeps the story.
-use Rattle.std.proofs.Common.{◌≡◌, ◌+◌, ℕ, Bool, true, false, List, ◌∷◌, ◌++◌, refl, sym, ap, ap₂, ◌∙◌, subst, arith}
+use Rattle.std.proofs.Common.{◌≡◌, ◌+◌, ℕ, false, List, ◌∷◌, ◌++◌, refl, sym, ap, ap₂, ◌∙◌, subst, arith}
 use Rattle.std.specs.Prelude.{Option, None, Some}
 use Rattle.run_theory.specs.Logs.{IsStep}
 use Rattle.sig_core.specs.declared.log.LogStep.{LogStep}
@@ -17,11 +17,10 @@ use Rattle.world_core.specs.Blocks.{in_tc}
 use Rattle.world_core.specs.Machine.{machine}
 use Rattle.world_core.specs.Row.{row}
 use Rattle.world_core.specs.Start.{Start}
-use Rattle.world_core.specs.Tc.{phase_if, phase_in, begun_if, operate_by, decide_by}
-use Rattle.world_core.specs.Tx.{same_tx}
+use Rattle.world_core.specs.Tc.{phase_in, begun_if, operate_by, decide_by}
 use Rattle.commit_laws.proofs.Chains.{is_chain, taken_quiet, IsUnchained}
+use Rattle.commit_laws.proofs.CurrentTx.{current_is}
 use Rattle.commit_laws.proofs.Quiet.{still, aside_one, QuietOne, rests, begins, operates, decides, row_quiet_one}
-use Rattle.commit_laws.proofs.SameTx.{same_tx-is}
 use Rattle.commit_laws.proofs.Scenes.{Aside, Job, Scene, Idle, Begun, WriteSent, Answered, EpochAsked, Sight, tx_of, tx, op_of, current, under_11, under_12, sight}
 use Rattle.commit_laws.proofs.Sights.{Shows, next_one, shows_one}
 use Rattle.commit_laws.proofs.Story.{IsRight, Tells}
@@ -40,12 +39,9 @@ record IsFound (o : Option Transaction) (asked : TxId) (p : Phase) : Type 0 wher
   phase : phase_of o ≡ Some p
 
 phase_found : (o : Option Transaction) (asked : TxId) (p : Phase) → phase_in o asked ≡ Some p → IsFound o asked p
-phase_found None asked p is = cc
-phase_found (Some t) asked p is = go (same_tx t.tx asked) refl is
-  where
-    go : (b : Bool) → same_tx t.tx asked ≡ b → phase_if t.phase b ≡ Some p → IsFound (Some t) asked p
-    go true same is = record { tx = ap Some (same_tx-is t.tx asked same); phase = is }
-    go false same is = cc
+phase_found o asked p is =
+    let now = current_is o asked p is in
+    record { tx = ap tx_in now; phase = ap phase_of now }
 
 -- only where no transaction is current none is
 only_idle : (epoch : ℕ) (P : Scene → Type 0) (scene : Scene) → current epoch scene ≡ None → P Idle → P scene

@@ -23,16 +23,15 @@ use Rattle.world_core.specs.Row.{row}
 use Rattle.world_core.specs.Start.{Start}
 use Rattle.world_core.specs.Tc as rows
 use Rattle.world_core.specs.Tc.{phase_if, phase_in, tc_row}
-use Rattle.world_core.specs.Tx.{same_tx}
 use Rattle.world_core.specs.declared.blocks.Blocks.{Blocks}
 use Rattle.world_core.specs.declared.tc.Phase.{Phase}
 use Rattle.world_core.specs.declared.tc.Phase.TheVariants.{Begun, Operating, Answered, Deciding, Committing, Completing}
 use Rattle.world_core.specs.declared.tc.Tc.{Tc}
 use Rattle.world_core.specs.declared.tc.Transaction.{Transaction}
+use Rattle.commit_laws.proofs.CurrentTx.{current_is}
 use Rattle.commit_laws.proofs.Falling.{Falls}
 use Rattle.commit_laws.proofs.Numbers.{begun_number, verified_number, put_numbers, put_numbers-silent, sent_numbers, sent_numbers-step}
 use Rattle.commit_laws.proofs.PlainSignals.{IsPlain, ArePlain, dih_plain, lqh_plain}
-use Rattle.commit_laws.proofs.SameTx.{same_tx-is}
 
 -- the least number for which an epoch may still be asked: that of the current transaction until it asks, then the next one
 abbrev pub least_at : Phase → ℕ → ℕ → ℕ
@@ -77,18 +76,6 @@ least_unasked-below (Some current) next given = least_at-below current.phase cur
 
 below_more : (a b : ℕ) (ns : List ℕ) → a ≤ b → Each (λ n. n < a) ns → Each (λ n. n < b) ns
 below_more a b ns le below = each_map (λ n. n < a) (λ n. n < b) ns (λ n less. omega (arith, less, le)) below
-
--- where the current transaction is this one, in this phase
-current_is : (current : Option Transaction) (tx : TxId) (phase : Phase) → phase_in current tx ≡ Some phase → current ≡ Some (record { tx = tx; phase = phase })
-current_is None tx phase is = absurd cc
-current_is (Some t) tx phase is = go (same_tx t.tx tx) refl is
-  where
-    go : (b : Bool) → same_tx t.tx tx ≡ b → phase_if t.phase b ≡ Some phase → Some t ≡ Some (record { tx = tx; phase = phase })
-    go false same is = absurd cc
-    go true same is =
-        let at : t.phase ≡ phase = cc in
-        let tx_is : t.tx ≡ tx = same_tx-is t.tx tx same in
-        λ i. Some (record { tx = tx_is i; phase = at i })
 
 numbered_at : (next : ℕ) (current : Option Transaction) (tx : TxId) (phase : Phase) (begun verified : List ℕ) → phase_in current tx ≡ Some phase
     → AreNumbered next current begun verified → AreNumbered next (Some (record { tx = tx; phase = phase })) begun verified
