@@ -1,5 +1,5 @@
 -- How a whole session is told: its lines, and then the line of the fault by which it was meant to end.
-use Rattle.std.proofs.Common.{◌≡◌, ℕ, ◌<◌, List, [], ◌∷◌, length, false, true, refl, ap, sym, subst, ◌∙◌, Bool, arith}
+use Rattle.std.proofs.Common.{◌≡◌, ℕ, ◌<◌, List, [], ◌∷◌, ◌++◌, length, false, true, refl, ap, sym, subst, ◌∙◌, Bool, arith}
 use Rattle.std.specs.Prelude.{Option, ◌==◌}
 use Rattle.std.specs.FinMap as map
 use Rattle.std.specs.Global.{Vec}
@@ -48,13 +48,17 @@ starts left written session lives opened =
       consumed_short = omega (arith, opened.line);
     }
 
+-- the one life that is handed back
+pub one_life : (lives before : List Life) (life last : Life) → lives ≡ before ++ life ∷ [] → before ≡ [] → life ≡ last → lives ≡ last ∷ []
+one_life lives before life last are none is = are ∙ ap (λ ls. ls ++ life ∷ []) none ∙ ap (λ l. l ∷ []) is
+
 -- what the one life says
 pub is_life : (e : Ending) (commands : List Put) (logs : List HostLog) → AreLived fresh e commands (logs_at logs) → IsLife e commands (fresh_life logs)
 is_life e commands logs lived =
     record {
       lived = lived;
       run = merged_run (machine fresh) (stamped fresh) hosts (logs_at logs) lived.within lived.right;
-      serial = λ inside a cut closed. every_cut_serial fresh inside (logs_at logs) lived.within lived.right a closed;
+      serial = λ inside cut closed. every_cut_serial fresh inside (logs_at logs) lived.within lived.right cut closed;
     }
 
 -- it was done with its lines

@@ -1,5 +1,6 @@
 pub mod EndLemmas
 pub mod LivedLemmas
+pub mod OpenLemmas
 pub mod PrintedLemmas
 pub mod PutLemmas
 pub mod ReaderLemmas

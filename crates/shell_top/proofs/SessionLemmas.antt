@@ -48,9 +48,14 @@ not_past_end line held past is fails some = either (nat_lt 65536 line) (nat_lt 0
     either true false p q e = absurd (grind (arith, nat_tests, q))
     either false b p q e = grind (arith, nat_tests, p)
 
-none_held : (held : List ℕ) → length held ≡ 0 → held ≡ []
-none_held [] none = refl
-none_held (byte ∷ held) none = absurd (omega arith)
+pub none_held : (held bytes : List ℕ) (empty : Bool) → bytes ≡ held → empty ≡ (length bytes == 0) → empty ≡ true → length held ≡ 0
+none_held held bytes empty same is some =
+    let tested : (length held == 0) ≡ true = ap (λ xs. length xs == 0) (sym same) ∙ sym is ∙ some in
+    grind (arith, nat_tests, tested)
+
+empty_held : (held : List ℕ) → length held ≡ 0 → held ≡ []
+empty_held [] none = refl
+empty_held (byte ∷ held) none = absurd (omega arith)
 
 module _ (left written : Option (List ℕ)) where
   -- more was read
@@ -340,7 +345,7 @@ module _ (left written : Option (List ℕ)) where
     -- the last line
     module _ (partial : IsPartial held) (low : 0 < length held → line ≤ 65536) (at_end : IsAtEnd left_now) where
       pub last_none : length held ≡ 0 → AreLinesDone left left_now written written_now ending.Finished s.logs
-      last_none none = ends_finished at_end (script-part true line held partial.no_newline ∙ ap (last_part true line) (none_held held none))
+      last_none none = ends_finished at_end (script-part true line held partial.no_newline ∙ ap (last_part true line) (empty_held held none))
 
       last_asked : (is : Parsed) → 0 < length held → parsed_line held ≡ is → script_from true line held ≡ follow line is nothing_more
       last_asked is some e =

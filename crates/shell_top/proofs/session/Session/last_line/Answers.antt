@@ -2,8 +2,13 @@ use Rattle.std.proofs.Common.{◌≡◌, ap, sym, ◌∙◌}
 use Rattle.std.specs.Prelude.{None, Some}
 use Rattle.shell_top.specs.Parsed.{parsed as parsed_line}
 use Rattle.shell_top.specs.declared.script.Parsed.TheVariants as parsed
-use Rattle.shell_top.proofs.SessionLemmas.{some_held, last_nothing, last_put, last_fault}
+use Rattle.shell_top.proofs.SessionLemmas.{none_held, some_held, last_none, last_nothing, last_put, last_fault}
 use Rattle.shell_top.proofs.session.Session.last_line.Goals as goal
+
+pub returns-then-is_empty-clause-done : goal.returns-then-is_empty-clause-done
+returns-then-is_empty-clause-done g c left_now at_end left written u =
+    last_none left written left_now _ c.args.self.now.line c.args.self.now.reader _ u c.requires.partial c.requires.low at_end
+    (none_held c.args.self.now.reader c.held-held.result.now c.is_empty.result c.held-held.ensures c.is_empty.ensures c.if-is_empty.true)
 
 pub returns-in-Nothing-clause-done : goal.returns-in-Nothing-clause-done
 returns-in-Nothing-clause-done g c left_now at_end left written u =
