@@ -1,8 +1,6 @@
-use crate::parts::cluster::Cluster;
-use crate::serve::put;
 use crate::{Ended, run_shell};
 use host_io::{MemSink, MemSource, NoGate, Sink, Source};
-use sig_core::{Key, Value};
+use sig_core::{HostLog, Mark, TxId};
 use std::alloc::Global;
 use std::process::Abort;
 use std::sync::Wait;
@@ -35,16 +33,50 @@ fn expect<R: Threads + Wait + Sync + Abort>(
     Ok(())
 }
 
+/// How many marks of a log pass a test.
+fn count_marks<F: Fn(&Mark) -> bool>(log: &HostLog, test: F) -> usize {
+    let mut count = 0;
+    for step in log.steps.as_slice() {
+        for mark in step.marks.as_slice() {
+            if test(mark) {
+                count += 1;
+            }
+        }
+    }
+    count
+}
+
 #[test]
-fn a_put_reaches_both_replicas(rt: HostRuntime) -> Result<(), Fail> {
+fn a_put_stands_in_the_logs_of_all_hosts(rt: HostRuntime) -> Result<(), Fail> {
     let alloc = rt.alloc();
-    let (key, value) = (Key::new(b"a")?, Value::new(b"1")?);
-    let mut cluster = Cluster::new(alloc).ok().ok_or("no memory")?;
+    let first = TxId {
+        tc: 1,
+        start: 0,
+        seq: 1,
+    };
+    let mut source = MemSource::new(b"put a 1\nput b 2\n".to_vec(alloc)?, Vec::new(alloc))?;
     let mut sink = MemSink::new(alloc, Vec::new(alloc))?;
-    assert_eq!(rt; put(alloc, &mut cluster, &mut sink, &key, &value), None);
-    assert_eq!(rt; sink.written(), b"ok\ncommitted 1\n".as_slice());
-    assert_eq!(rt; cluster.blocks.first.rows.get(&key), Some(value));
-    assert_eq!(rt; cluster.blocks.second.rows.get(&key), Some(value));
+    let ended = session(&rt, alloc, &mut source, &mut sink);
+    assert_eq!(rt; ended.lives.len(), 1);
+    let life = &ended.lives[0];
+    assert_eq!(rt; life.start_epoch, 0);
+    assert_eq!(rt; life.start_rows.len(), 0);
+    let logs = life.logs.as_slice();
+    assert_eq!(rt; logs.len(), 3);
+    // the shell's host: two requests, and what begins, answers and commits each
+    assert_eq!(rt; logs[0].steps.len(), 8);
+    assert_eq!(rt; logs[1].steps.len(), 26);
+    assert_eq!(rt; logs[2].steps.len(), 8);
+    let reported = |mark: &Mark| matches!(mark, Mark::Reported { tx: _, outcome: _ });
+    let decided = |mark: &Mark| matches!(mark, Mark::Decided { tx: _, epoch: 1 });
+    assert_eq!(rt; count_marks(&logs[0], reported), 2);
+    assert_eq!(rt; count_marks(&logs[1], decided), 2);
+    let prepared = |mark: &Mark| matches!(mark, Mark::Prepared { tx, key: _ } if *tx == first);
+    let done = |mark: &Mark| matches!(mark, Mark::Done { tx, key: _ } if *tx == first);
+    for log in &logs[1..] {
+        assert_eq!(rt; count_marks(log, prepared), 1);
+        assert_eq!(rt; count_marks(log, done), 1);
+    }
     Ok(())
 }
 

@@ -1,7 +1,6 @@
 -- The shell asks for something: a step of host 0, at quiet.
-use Rattle.std.proofs.Common.{◌≡◌, ℕ, ◌+◌, ◌<◌, ◌≤◌, ◌^◌, List, [], ◌∷◌, ◌++◌, refl, ap, sym, ◌∙◌, subst, arith, lit<}
+use Rattle.std.proofs.Common.{◌≡◌, ℕ, List, [], ◌∷◌, ◌++◌, ap, sym, ◌∙◌, arith, lit<}
 use Rattle.std.specs.Prelude.{slice_index_or}
-use Rattle.run_theory.proofs.Pasts.{past_self, past_more}
 use Rattle.run_theory.specs.Lists.{IsPast}
 use Rattle.sig_core.specs.declared.log.LogStep.{LogStep}
 use Rattle.sig_core.specs.declared.reply.ApiReply.{ApiReply}
@@ -13,15 +12,15 @@ use Rattle.sig_core.specs.declared.signal.host.Work.TheVariants.{Request}
 use Rattle.world_core.specs.Blocks.{blocks_row}
 use Rattle.world_core.specs.Drive.{State}
 use Rattle.world_core.specs.Drive as drive
-use Rattle.world_core.specs.Driven.{HasAsked, latest, latest_to_come}
+use Rattle.world_core.specs.Driven.{HasAsked}
 use Rattle.world_core.specs.Flights.{flights}
-use Rattle.world_core.specs.Machine.{machine, request_signal}
+use Rattle.world_core.specs.Machine.{request_signal}
 use Rattle.world_core.specs.Place.{client}
 use Rattle.world_core.specs.Requests.{AreAskedAtQuiet, QuietBefore, requests}
 use Rattle.world_core.specs.Right.{IsRight}
 use Rattle.world_core.specs.Start.{Start}
 use Rattle.world_core.specs.Weight.{links_weight}
-use Rattle.world_core.specs.World.{Whole, asked, logs_at, moved, state_of}
+use Rattle.world_core.specs.World.{Whole, asked, logs_at, state_of}
 use Rattle.world_core.proofs.FlightLemmas.{put_flights}
 use Rattle.world_core.proofs.LinkWeight.{put_all_weight}
 use Rattle.world_core.proofs.MoveRight.{logs_are, move_right, step_of}
@@ -68,6 +67,11 @@ module _ (start : Start) (given : List ApiReply) (w : Whole) (right : IsRight st
         requests = ap requests log_is;
         asked = at_quiet;
         state = state_is;
-        clock = omega (arith, latest_after start given w signal ready (stamp_low w 0 (lit< tt)), put_all_weight (flights w.links) 0 step.effects.sends,
-            blocks_lighter w.blocks client (Host (Continue (Request request) 0)), ap (λ (s : State). links_weight s.links) state_is);
+        clock = omega (
+          arith,
+          latest_after start given w signal ready (stamp_low w 0 (lit< tt)),
+          put_all_weight (flights w.links) 0 step.effects.sends,
+          blocks_lighter w.blocks client (Host (Continue (Request request) 0)),
+          ap (λ (s : State). links_weight s.links) state_is,
+        );
       }

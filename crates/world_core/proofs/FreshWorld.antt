@@ -1,10 +1,9 @@
 -- A fresh world is right: nothing was sent, taken or asked.
-use Rattle.std.proofs.Common.{◌≡◌, ℕ, zero, suc, ◌<◌, ◌≤◌, List, [], ◌∷◌, ◌++◌, refl, ap, sym, ◌∙◌, subst, arith, lit≤, reverse}
+use Rattle.std.proofs.Common.{◌≡◌, ℕ, zero, suc, ◌<◌, ◌≤◌, [], ◌∷◌, ◌++◌, refl, ap, sym, ◌∙◌, subst, arith, lit≤, reverse}
 use Rattle.std.specs.Prelude.{slice_index_or}
 use Rattle.std.proofs.lemmas.List.{get_or-replicate}
 use Rattle.run_theory.specs.Links.{sent, taken}
 use Rattle.run_theory.specs.Logs.{IsLog}
-use Rattle.sig_core.specs.declared.log.LogStep.{LogStep}
 use Rattle.world_core.specs.Driven.{latest_to_come}
 use Rattle.world_core.specs.Idle.{idle}
 use Rattle.world_core.specs.Machine.{last_stamp, machine, sent_count}

@@ -1,14 +1,13 @@
 -- A step keeps a world right.
 use Rattle.std.proofs.Common.{◌≡◌, ◌≢◌, ℕ, zero, suc, ◌+◌, ◌<◌, ◌≤◌, List, [], ◌∷◌, ◌++◌, length, reverse, Bool, true, false, refl, ap, sym, ◌∙◌, subst, arith}
-use Rattle.std.specs.Prelude.{if◌then◌else◌, ◌==◌, max, slice_index_or, slice_set}
+use Rattle.std.specs.Prelude.{if◌then◌else◌, ◌==◌, max, slice_index_or}
 use Rattle.std.proofs.lemmas.Bool.{eqb-true, eq-eqb, true≢false}
-use Rattle.std.proofs.lemmas.List.{get_or-set_same, get_or-set_other, length-set, append_assoc, reverse-append}
+use Rattle.std.proofs.lemmas.List.{get_or-set_same, get_or-set_other, length-set, reverse-append}
 use Rattle.run_theory.specs.Links.{put, sent, taken}
 use Rattle.run_theory.specs.Logs.{IsLog, IsRunning, IsStep}
 use Rattle.sig_core.specs.declared.log.LogStep.{LogStep}
 use Rattle.sig_core.specs.declared.outs.Outgoing.{Outgoing}
 use Rattle.sig_core.specs.declared.reply.ApiReply.{ApiReply}
-use Rattle.sig_core.specs.declared.signal.Body.{Body}
 use Rattle.sig_core.specs.declared.signal.Signal.{Signal}
 use Rattle.sig_core.specs.Step.{Effects, Step}
 use Rattle.world_core.specs.declared.blocks.Blocks.{Blocks}
@@ -18,9 +17,9 @@ use Rattle.world_core.specs.Network.{LinkState, behind, link, new_link, put_all}
 use Rattle.world_core.specs.Network as network
 use Rattle.world_core.specs.Right.{AreBlocks, IsRight, with_given}
 use Rattle.world_core.specs.Start.{Start}
-use Rattle.world_core.specs.World.{Whole, logs_at, moved, next_stamp, with_step}
+use Rattle.world_core.specs.World.{Whole, logs_at, moved, next_stamp}
 use Rattle.world_core.proofs.BlockParts.{shell_moves, first_moves, second_moves}
-use Rattle.world_core.proofs.LinkIndex.{behind_if, put_all_length, put_all_other, put_length, put_own}
+use Rattle.world_core.proofs.LinkIndex.{put_all_length, put_all_other, put_length, put_own}
 use Rattle.world_core.proofs.LogIndex.{logs_at_own, logs_at_other, with_step_length}
 use Rattle.world_core.proofs.SentFacts.{last_is, row_is}
 
@@ -96,51 +95,54 @@ module _ (start : Start) (given : List ApiReply) (blocks : Blocks) (zeroth first
   shell_step at =
       let moves = shell_moves given (after start zeroth) blocks e.taken.body e.taken.to.block are.api in
       let theirs : step_after start zeroth e ≡ block_by (after start zeroth) 0 e.taken.body e.taken.to.block =
-          row_after zeroth ∙ ap (λ n. block_by (after start zeroth) n e.taken.body e.taken.to.block) at in
+      row_after zeroth ∙ ap (λ n. block_by (after start zeroth) n e.taken.body e.taken.to.block) at in
       let ours : blocks_row blocks e.taken.to e.taken.body ≡ block_by blocks 0 e.taken.body e.taken.to.block =
-          ap (λ n. block_by blocks n e.taken.body e.taken.to.block) at in
-      (ap (λ (s : Step Blocks). s.effects) theirs ∙ moves.effects ∙ sym (ap (λ (s : Step Blocks). s.effects) ours),
-      record {
-        api = ap (λ (s : Step Blocks). s.state.api) theirs ∙ moves.api ∙ sym (ap (λ (s : Step Blocks). with_given given s.state.api) ours);
-        tc = are.tc ∙ sym (ap (λ (s : Step Blocks). s.state.tc) ours ∙ moves.tc);
-        dih = are.dih ∙ sym (ap (λ (s : Step Blocks). s.state.dih) ours ∙ moves.dih);
-        primary = are.primary ∙ sym (ap (λ (s : Step Blocks). s.state.first) ours ∙ moves.first);
-        backup = are.backup ∙ sym (ap (λ (s : Step Blocks). s.state.second) ours ∙ moves.second);
-      })
+      ap (λ n. block_by blocks n e.taken.body e.taken.to.block) at in (
+        ap (λ (s : Step Blocks). s.effects) theirs ∙ moves.effects ∙ sym (ap (λ (s : Step Blocks). s.effects) ours),
+        record {
+          api = ap (λ (s : Step Blocks). s.state.api) theirs ∙ moves.api ∙ sym (ap (λ (s : Step Blocks). with_given given s.state.api) ours);
+          tc = are.tc ∙ sym (ap (λ (s : Step Blocks). s.state.tc) ours ∙ moves.tc);
+          dih = are.dih ∙ sym (ap (λ (s : Step Blocks). s.state.dih) ours ∙ moves.dih);
+          primary = are.primary ∙ sym (ap (λ (s : Step Blocks). s.state.first) ours ∙ moves.first);
+          backup = are.backup ∙ sym (ap (λ (s : Step Blocks). s.state.second) ours ∙ moves.second);
+        },
+      )
 
   first_step : e.taken.to.node ≡ 1 → (step_after start first e).effects ≡ (blocks_row blocks e.taken.to e.taken.body).effects
       × AreBlocks start given (blocks_row blocks e.taken.to e.taken.body).state zeroth (e ∷ first) second
   first_step at =
       let moves = first_moves (after start first) blocks e.taken.body e.taken.to.block are.tc are.dih are.primary in
       let theirs : step_after start first e ≡ block_by (after start first) 1 e.taken.body e.taken.to.block =
-          row_after first ∙ ap (λ n. block_by (after start first) n e.taken.body e.taken.to.block) at in
+      row_after first ∙ ap (λ n. block_by (after start first) n e.taken.body e.taken.to.block) at in
       let ours : blocks_row blocks e.taken.to e.taken.body ≡ block_by blocks 1 e.taken.body e.taken.to.block =
-          ap (λ n. block_by blocks n e.taken.body e.taken.to.block) at in
-      (ap (λ (s : Step Blocks). s.effects) theirs ∙ moves.effects ∙ sym (ap (λ (s : Step Blocks). s.effects) ours),
-      record {
-        api = are.api ∙ sym (ap (λ (s : Step Blocks). with_given given s.state.api) ours ∙ ap (with_given given) moves.api);
-        tc = ap (λ (s : Step Blocks). s.state.tc) theirs ∙ moves.tc ∙ sym (ap (λ (s : Step Blocks). s.state.tc) ours);
-        dih = ap (λ (s : Step Blocks). s.state.dih) theirs ∙ moves.dih ∙ sym (ap (λ (s : Step Blocks). s.state.dih) ours);
-        primary = ap (λ (s : Step Blocks). s.state.first) theirs ∙ moves.first ∙ sym (ap (λ (s : Step Blocks). s.state.first) ours);
-        backup = are.backup ∙ sym (ap (λ (s : Step Blocks). s.state.second) ours ∙ moves.second);
-      })
+      ap (λ n. block_by blocks n e.taken.body e.taken.to.block) at in (
+        ap (λ (s : Step Blocks). s.effects) theirs ∙ moves.effects ∙ sym (ap (λ (s : Step Blocks). s.effects) ours),
+        record {
+          api = are.api ∙ sym (ap (λ (s : Step Blocks). with_given given s.state.api) ours ∙ ap (with_given given) moves.api);
+          tc = ap (λ (s : Step Blocks). s.state.tc) theirs ∙ moves.tc ∙ sym (ap (λ (s : Step Blocks). s.state.tc) ours);
+          dih = ap (λ (s : Step Blocks). s.state.dih) theirs ∙ moves.dih ∙ sym (ap (λ (s : Step Blocks). s.state.dih) ours);
+          primary = ap (λ (s : Step Blocks). s.state.first) theirs ∙ moves.first ∙ sym (ap (λ (s : Step Blocks). s.state.first) ours);
+          backup = are.backup ∙ sym (ap (λ (s : Step Blocks). s.state.second) ours ∙ moves.second);
+        },
+      )
 
   second_step : e.taken.to.node ≡ 2 → (step_after start second e).effects ≡ (blocks_row blocks e.taken.to e.taken.body).effects
       × AreBlocks start given (blocks_row blocks e.taken.to e.taken.body).state zeroth first (e ∷ second)
   second_step at =
       let moves = second_moves (after start second) blocks e.taken.body e.taken.to.block are.backup in
       let theirs : step_after start second e ≡ block_by (after start second) 2 e.taken.body e.taken.to.block =
-          row_after second ∙ ap (λ n. block_by (after start second) n e.taken.body e.taken.to.block) at in
+      row_after second ∙ ap (λ n. block_by (after start second) n e.taken.body e.taken.to.block) at in
       let ours : blocks_row blocks e.taken.to e.taken.body ≡ block_by blocks 2 e.taken.body e.taken.to.block =
-          ap (λ n. block_by blocks n e.taken.body e.taken.to.block) at in
-      (ap (λ (s : Step Blocks). s.effects) theirs ∙ moves.effects ∙ sym (ap (λ (s : Step Blocks). s.effects) ours),
-      record {
-        api = are.api ∙ sym (ap (λ (s : Step Blocks). with_given given s.state.api) ours ∙ ap (with_given given) moves.api);
-        tc = are.tc ∙ sym (ap (λ (s : Step Blocks). s.state.tc) ours ∙ moves.tc);
-        dih = are.dih ∙ sym (ap (λ (s : Step Blocks). s.state.dih) ours ∙ moves.dih);
-        primary = are.primary ∙ sym (ap (λ (s : Step Blocks). s.state.first) ours ∙ moves.first);
-        backup = ap (λ (s : Step Blocks). s.state.second) theirs ∙ moves.second ∙ sym (ap (λ (s : Step Blocks). s.state.second) ours);
-      })
+      ap (λ n. block_by blocks n e.taken.body e.taken.to.block) at in (
+        ap (λ (s : Step Blocks). s.effects) theirs ∙ moves.effects ∙ sym (ap (λ (s : Step Blocks). s.effects) ours),
+        record {
+          api = are.api ∙ sym (ap (λ (s : Step Blocks). with_given given s.state.api) ours ∙ ap (with_given given) moves.api);
+          tc = are.tc ∙ sym (ap (λ (s : Step Blocks). s.state.tc) ours ∙ moves.tc);
+          dih = are.dih ∙ sym (ap (λ (s : Step Blocks). s.state.dih) ours ∙ moves.dih);
+          primary = are.primary ∙ sym (ap (λ (s : Step Blocks). s.state.first) ours ∙ moves.first);
+          backup = ap (λ (s : Step Blocks). s.state.second) theirs ∙ moves.second ∙ sym (ap (λ (s : Step Blocks). s.state.second) ours);
+        },
+      )
 
 running : (start : Start) (log : List LogStep) → IsRunning (machine start) log
 running start [] = tt

@@ -1,10 +1,8 @@
 -- No block sends a request of the shell.
-use Rattle.std.proofs.Common.{◌≡◌, ℕ, List, [], ◌∷◌, ◌++◌, Bool, true, false, refl}
+use Rattle.std.proofs.Common.{◌≡◌, ℕ, List, [], ◌∷◌, Bool, true, false, refl}
 use Rattle.std.specs.Prelude.{Option, None, Some, slice_get, ◌-◌, ◌==◌, if◌then◌else◌}
-use Rattle.run_theory.specs.Lists.{Each}
 use Rattle.sig_core.specs.declared.member.Member.{Member}
 use Rattle.sig_core.specs.declared.member.TxId.{TxId}
-use Rattle.sig_core.specs.declared.mark.Mark.TheVariants.{Done}
 use Rattle.sig_core.specs.declared.op.Answer.{Answer}
 use Rattle.sig_core.specs.declared.op.Op.{Op}
 use Rattle.sig_core.specs.declared.op.Op.TheVariants.{Put}
@@ -21,7 +19,7 @@ use Rattle.sig_core.specs.declared.signal.client.ClientSignal.TheVariants.{TcBeg
 use Rattle.sig_core.specs.declared.signal.epoch.EpochSignal.TheVariants.{DiVerifyReq, DiVerifyConf}
 use Rattle.sig_core.specs.declared.signal.host.HostSignal.TheVariants.{Continue}
 use Rattle.sig_core.specs.declared.signal.host.Work.TheVariants.{Request}
-use Rattle.sig_core.specs.Step.{Effects, Step, nothing, and_mark, stay}
+use Rattle.sig_core.specs.Step.{Step, stay}
 use Rattle.world_core.specs.declared.api.Serving.{Serving}
 use Rattle.world_core.specs.declared.api.Serving.TheVariants as serving
 use Rattle.world_core.specs.declared.blocks.Blocks.{Blocks}
@@ -34,7 +32,7 @@ use Rattle.world_core.specs.declared.tc.Tc.{Tc}
 use Rattle.world_core.specs.Api.{ApiState, api_row, begin_by, commit_by, commit_if, operate_by, report_by, report_if}
 use Rattle.world_core.specs.Blocks.{block_by, blocks_row, in_api, in_dih, in_first, in_second, in_tc}
 use Rattle.world_core.specs.Dih.{dih_row}
-use Rattle.world_core.specs.Lqh.{committed_at_if, completed_at_if, lqh_row, passed_to, prepare_by, prepared_at}
+use Rattle.world_core.specs.Lqh.{committed_at_if, completed_at_if, lqh_row, prepare_by, prepared_at}
 use Rattle.world_core.specs.Machine.{is_request}
 use Rattle.world_core.specs.Tc as tc
 use Rattle.world_core.specs.Tc.{phase_in, tc_row}

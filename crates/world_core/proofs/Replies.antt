@@ -1,12 +1,11 @@
 -- The replies in a log of host 0, and those that a world has to give.
-use Rattle.std.proofs.Common.{◌≡◌, ℕ, List, [], ◌∷◌, ◌++◌, Bool, true, false, refl, ap, sym, ◌∙◌, subst}
+use Rattle.std.proofs.Common.{◌≡◌, ℕ, List, [], ◌∷◌, ◌++◌, Bool, true, false, ap, sym, ◌∙◌, subst}
 use Rattle.std.specs.Prelude.{if◌then◌else◌, ◌==◌}
 use Rattle.std.proofs.lemmas.List.{append-nil, append_assoc}
 use Rattle.run_theory.specs.Lists.{IsPast}
 use Rattle.sig_core.specs.declared.log.LogStep.{LogStep}
 use Rattle.sig_core.specs.declared.place.BlockId.{BlockId}
 use Rattle.sig_core.specs.declared.place.BlockId.TheVariants as block
-use Rattle.sig_core.specs.declared.place.Place.{Place}
 use Rattle.sig_core.specs.declared.reply.ApiReply.{ApiReply}
 use Rattle.sig_core.specs.declared.signal.Body.{Body}
 use Rattle.sig_core.specs.Step.{Step, stay}
@@ -16,7 +15,7 @@ use Rattle.world_core.specs.Blocks.{block_by, in_api, in_dih, in_first, in_secon
 use Rattle.world_core.specs.Dih.{dih_row}
 use Rattle.world_core.specs.Lqh.{lqh_row}
 use Rattle.world_core.specs.Machine.{after}
-use Rattle.world_core.specs.Right.{AreBlocks, IsRight, with_given}
+use Rattle.world_core.specs.Right.{IsRight, with_given}
 use Rattle.world_core.specs.Start.{Start}
 use Rattle.world_core.specs.Tc.{tc_row}
 use Rattle.world_core.specs.World.{Whole, logs_at, replies_of, with_replies}
@@ -101,4 +100,3 @@ told_right start given w right =
 -- the replies in the log are those that the shell has had, and those that the world has to give
 pub replies_are : (start : Start) (given : List ApiReply) (w : Whole) → IsRight start given w → (after start (logs_at w.logs 0)).api.replies ≡ given ++ replies_of w
 replies_are start given w right = ap (λ (s : ApiState). s.replies) right.blocks.api
-

@@ -9,9 +9,6 @@ use Rattle.world_core.specs.Start.{Start}
 use Rattle.sig_core.specs.declared.log.LogStep.{LogStep}
 use Rattle.world_core.specs.History.{history}
 use Rattle.world_core.specs.Machine.{hosts, machine, after, all_headed, counted, sent_count, step_after}
-use Rattle.world_core.specs.SerialLaw.{EveryCutIsSerial}
-use Rattle.world_core.specs.Lives.{session_history}
-use Rattle.world_core.specs.Requests.{AreAskedAtQuiet}
 
 nothing : history hosts (λ h. []) ≡ []
 nothing = refl

@@ -48,9 +48,10 @@ plain_rest false more e = e
 
 headed_each : (h stamp : ℕ) (count : ℕ → ℕ) (sends : List Outgoing) → asks_nothing sends ≡ true → Each (λ x. IsFrom h stamp x) (all_headed h stamp count sends)
 headed_each h stamp count [] none = tt
-headed_each h stamp count (sent ∷ more) none =
-    (record { from = refl; early = omega arith; plain = plain_first (is_request sent.body) (asks_nothing more) none },
-    headed_each h stamp (counted sent.to.node count) more (plain_rest (is_request sent.body) (asks_nothing more) none))
+headed_each h stamp count (sent ∷ more) none = (
+  record { from = refl; early = omega arith; plain = plain_first (is_request sent.body) (asks_nothing more) none },
+  headed_each h stamp (counted sent.to.node count) more (plain_rest (is_request sent.body) (asks_nothing more) none),
+)
 
 module _ (start : Start) where
   put_between : (i j stamp : ℕ) (xs before : List Signal) → Each (λ x. IsFrom i stamp x) xs → Each (λ x. IsBetween i j stamp x) before

@@ -1,11 +1,11 @@
 -- A step of a world whose signal a link gave: logs grow, and the clock doesn't run away.
-use Rattle.std.proofs.Common.{◌≡◌, ◌⊎◌, inl, inr, ◌≢◌, ℕ, zero, suc, ◌+◌, ◌<◌, ◌≤◌, ◌^◌, List, [], ◌∷◌, ◌++◌, length, reverse, Bool, true, false, refl, ap, sym, ◌∙◌, subst, arith, lit<}
-use Rattle.std.specs.Prelude.{if◌then◌else◌, ◌==◌, max, slice_index_or, Option, None, Some, option_to_list}
+use Rattle.std.proofs.Common.{◌≡◌, ◌⊎◌, inl, inr, ℕ, zero, suc, ◌+◌, ◌<◌, ◌≤◌, List, [], ◌∷◌, ◌++◌, reverse, Bool, true, false, refl, ap, sym, ◌∙◌, subst, arith, lit<}
+use Rattle.std.specs.Prelude.{if◌then◌else◌, ◌==◌, slice_index_or, None, Some, option_to_list}
 use Rattle.std.proofs.lemmas.Bool.{eqb-true, eq-eqb, true≢false, cases_lt}
 use Rattle.std.proofs.lemmas.List.{append-nil, get_or-set_same, get_or-set_other}
-use Rattle.run_theory.proofs.Pasts.{past_append, past_more, past_nil, past_self, past_trans}
+use Rattle.run_theory.proofs.Pasts.{past_more, past_nil, past_self, past_trans}
 use Rattle.run_theory.specs.Links.{taken, sent}
-use Rattle.run_theory.specs.Lists.{HasEntry, IsPast}
+use Rattle.run_theory.specs.Lists.{IsPast}
 use Rattle.run_theory.specs.Logs.{IsLog}
 use Rattle.run_theory.specs.Runs.{AreLogs, IsWithin}
 use Rattle.sig_core.specs.declared.log.LogStep.{LogStep}
@@ -18,20 +18,18 @@ use Rattle.sig_core.specs.declared.signal.host.Work.TheVariants.{Request}
 use Rattle.world_core.specs.Blocks.{blocks_row}
 use Rattle.world_core.specs.Drive.{State, next}
 use Rattle.world_core.specs.Drive as drive
-use Rattle.world_core.specs.Driven.{HaveGrown, IsDriven, latest, latest_to_come}
-use Rattle.world_core.specs.Machine.{hosts, is_request, last_stamp, machine}
-use Rattle.world_core.specs.Network.{LinkState, Taken, link, take_first}
+use Rattle.world_core.specs.Driven.{IsDriven, latest}
+use Rattle.world_core.specs.Machine.{hosts, is_request, machine}
+use Rattle.world_core.specs.Network.{Taken, link, take_first}
 use Rattle.world_core.specs.Requests.{AreAskedAtQuiet, QuietBefore, request_in, requests}
 use Rattle.world_core.specs.Right.{IsRight}
 use Rattle.world_core.specs.Start.{Start}
-use Rattle.world_core.specs.Weight.{links_weight, weight}
 use Rattle.world_core.specs.World.{Whole, logs_at, moved, state_of}
 use Rattle.world_core.proofs.FlightLemmas.{put_flights, take_flight, without_headers}
 use Rattle.world_core.proofs.LinkWeight.{next_lighter}
 use Rattle.world_core.proofs.LogIndex.{logs_at_past}
-use Rattle.world_core.proofs.MoveRight.{IsReady, log_with, logs_are, move_right, step_of}
+use Rattle.world_core.proofs.MoveRight.{IsReady, logs_are, move_right, step_of}
 use Rattle.world_core.proofs.Settled.{reaches_itself, reaches_next}
-use Rattle.world_core.proofs.SentFacts.{IsBetween}
 use Rattle.world_core.proofs.TakeRight.{IsTakenFrom, left_of, take_ready, taken_between, taken_first}
 
 module _ (start : Start) where
@@ -114,12 +112,12 @@ latest_after start given w x ready early = omega (arith, each 0 (lit< tt), each 
         go : (b : Bool) → (x.to.node == k) ≡ b → slice_index_or (moved w x).stamps k 0 ≤ latest w + 1
         go true e =
             let same : slice_index_or (moved w x).stamps x.to.node 0 ≡ (step_of w x).stamp =
-                get_or-set_same w.stamps x.to.node (step_of w x).stamp 0 (omega (arith, ready.there, ready.three_stamps)) in
+            get_or-set_same w.stamps x.to.node (step_of w x).stamp 0 (omega (arith, ready.there, ready.three_stamps)) in
             subst (λ n. slice_index_or (moved w x).stamps n 0 ≤ latest w + 1) (eqb-true x.to.node k e)
             (omega (arith, same, stamp_low w x.to.node ready.there, early))
         go false e =
             let same : slice_index_or (moved w x).stamps k 0 ≡ slice_index_or w.stamps k 0 =
-                get_or-set_other w.stamps x.to.node k (step_of w x).stamp 0 (λ at. absurd (true≢false (sym (eq-eqb x.to.node k (sym at)) ∙ e))) in
+            get_or-set_other w.stamps x.to.node k (step_of w x).stamp 0 (λ at. absurd (true≢false (sym (eq-eqb x.to.node k (sym at)) ∙ e))) in
             omega (arith, same, stamp_low w k low)
 
 -- what was taken is no later than the latest

@@ -1,15 +1,14 @@
 -- What the calls of a world come to.
-use Rattle.std.proofs.Common.{◌≡◌, ℕ, ◌+◌, ◌<◌, ◌≤◌, ◌^◌, List, [], ◌∷◌, ◌++◌, Bool, true, false, refl, ap, sym, ◌∙◌, subst, arith, lit<}
-use Rattle.std.specs.Prelude.{Option, None, Some, OnOk, Result, Ok, Err, slice_index_or}
+use Rattle.std.proofs.Common.{◌≡◌, ℕ, ◌<◌, ◌^◌, List, Bool, true, false, refl, ap, sym, ◌∙◌, subst, arith, lit<}
+use Rattle.std.specs.Prelude.{None, Some, OnOk, Result, Ok, Err, slice_index_or}
 use Rattle.std.proofs.lemmas.Bool.{true≢false}
 use Rattle.run_theory.proofs.Pasts.{past_self, past_trans}
 use Rattle.sig_core.specs.declared.log.LogStep.{LogStep}
 use Rattle.sig_core.specs.declared.no_memory.NoMemory.{NoMemory}
-use Rattle.sig_core.specs.declared.reply.ApiReply.{ApiReply}
 use Rattle.sig_core.specs.declared.request.ApiReq.{ApiReq}
 use Rattle.sig_core.specs.declared.signal.Signal.{Signal}
-use Rattle.world_core.specs.Drive.{IsQuiet, State}
-use Rattle.world_core.specs.Driven.{HasAsked, HaveGrown, IsDriven, IsSound, IsStepped, latest, latest_to_come}
+use Rattle.world_core.specs.Drive.{IsQuiet}
+use Rattle.world_core.specs.Driven.{HasAsked, HaveGrown, IsDriven, IsSound, IsStepped, latest}
 use Rattle.world_core.specs.Machine.{request_signal}
 use Rattle.world_core.specs.Network.{LinkState, take_first, taken}
 use Rattle.world_core.specs.Start.{Start, fresh}
@@ -20,7 +19,7 @@ use Rattle.world_core.proofs.LinkWeight.{next_lighter}
 use Rattle.world_core.proofs.QuietLemmas.{none_next}
 use Rattle.world_core.proofs.Settled.{reaches_itself, reaches_trans}
 use Rattle.world_core.proofs.StepDriven.{next_is, right_logs, stamp_low, step_driven, taken_early, within}
-use Rattle.world_core.proofs.TakeRight.{left_of, take_ready, taken_between, taken_first}
+use Rattle.world_core.proofs.TakeRight.{left_of, taken_between, taken_first}
 
 -- a request can be taken
 pub can_ask : (w : Whole) (request : ApiReq) → latest w < 2 ^ 59 → CanTake w (request_signal (slice_index_or w.stamps 0 0) request)
@@ -50,15 +49,17 @@ can_take w x left sound early e =
 
 pub has_stepped : (w t : Whole) (x : Signal) (left : List LinkState) → IsSound fresh w → take_first w.links ≡ Some (taken x left) → t ≡ moved (left_of w left) x
     → IsStepped fresh w t true
-has_stepped w t x left sound e same =
-    (subst (IsDriven fresh w) (sym same) (step_driven fresh sound.given w sound.right (taken x left) e),
-    subst (λ u. links_weight (state_of u).links < links_weight (state_of w).links) (sym same)
-    (let lighter = next_lighter (state_of w) (state_of (moved (left_of w left) x)) (next_is w (taken x left) e) in omega (arith, lighter)))
+has_stepped w t x left sound e same = (
+  subst (IsDriven fresh w) (sym same) (step_driven fresh sound.given w sound.right (taken x left) e),
+  subst (λ u. links_weight (state_of u).links < links_weight (state_of w).links) (sym same)
+      (let lighter = next_lighter (state_of w) (state_of (moved (left_of w left) x)) (next_is w (taken x left) e) in omega (arith, lighter)),
+)
 
 pub has_stayed : (w t : Whole) → take_first w.links ≡ None → t ≡ w → (t ≡ w) × IsQuiet (state_of w)
 has_stayed w t e same = (same, none_next w e)
 
 pub ruleset asks = (can_ask)
+
 pub ruleset steps = (can_take, has_stepped, has_stayed)
 
 -- logs that have not grown

@@ -1,6 +1,5 @@
 -- The machine of the kernel: hosts 0, the shell's, to 2, each of which has a log.
-use Rattle.std.specs.Prelude.{◌≡◌, ℕ, zero, suc, ◌+◌, ◌-◌, ◌^◌, ◌==◌, nat_lt, min, if◌then◌else◌, Bool, true, false, List, [], ◌∷◌}
-use Rattle.run_theory.specs.Logs.{last}
+use Rattle.std.specs.Prelude.{◌≡◌, ℕ, ◌+◌, ◌-◌, ◌^◌, ◌==◌, min, if◌then◌else◌, Bool, true, false, List, [], ◌∷◌}
 use Rattle.run_theory.specs.Machine.{Machine}
 use Rattle.sig_core.specs.declared.log.LogStep.{LogStep}
 use Rattle.sig_core.specs.declared.outs.Outgoing.{Outgoing}
@@ -10,7 +9,7 @@ use Rattle.sig_core.specs.declared.signal.Body.TheVariants.{Host}
 use Rattle.sig_core.specs.declared.signal.Signal.{Signal}
 use Rattle.sig_core.specs.declared.signal.host.HostSignal.TheVariants.{Continue}
 use Rattle.sig_core.specs.declared.signal.host.Work.TheVariants.{Request}
-use Rattle.sig_core.specs.Step.{Effects, Step}
+use Rattle.sig_core.specs.Step.{Step}
 use Rattle.world_core.specs.declared.blocks.Blocks.{Blocks}
 use Rattle.world_core.specs.Place.{client, first_view}
 use Rattle.world_core.specs.Row.{row}

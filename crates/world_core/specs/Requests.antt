@@ -1,7 +1,6 @@
 -- The requests of the shell, and that each was asked when nothing was under way.
 use Rattle.std.specs.Prelude.{◌≡◌, ℕ, true, List, [], ◌∷◌, ◌++◌, Option, None, Some, option_to_list}
 use Rattle.run_theory.specs.Cuts.{IsCut}
-use Rattle.run_theory.specs.Machine.{Machine}
 use Rattle.run_theory.specs.Runs.{AreLogs}
 use Rattle.sig_core.specs.declared.log.LogStep.{LogStep}
 use Rattle.sig_core.specs.declared.request.ApiReq.{ApiReq}

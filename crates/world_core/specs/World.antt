@@ -1,5 +1,5 @@
 -- A world: the blocks of all hosts, the links between them, and what each host has done.
-use Rattle.std.specs.Prelude.{◌≡◌, ◌<◌, ◌^◌, ℕ, ◌+◌, max, List, [], ◌∷◌, ◌++◌, replicate, reverse, slice_index_or, slice_set}
+use Rattle.std.specs.Prelude.{◌<◌, ◌^◌, ℕ, ◌+◌, max, List, [], ◌∷◌, ◌++◌, replicate, reverse, slice_index_or, slice_set}
 use Rattle.sig_core.specs.declared.log.HostLog.{HostLog}
 use Rattle.sig_core.specs.declared.log.LogStep.{LogStep}
 use Rattle.sig_core.specs.declared.reply.ApiReply.{ApiReply}

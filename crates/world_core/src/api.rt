@@ -5,8 +5,8 @@ ghost use Rattle.world_core.specs.declared.api.Serving.TheVariants.{Idle};
 
 use crate::place::{COORDINATOR, rows_of};
 use sig_core::{
-    Actor, Answer, ApiReply, ApiReq, Body, ClientSignal, HostSignal, Mark, NoMemory, Op, Outcome, Outs,
-    Signal, TxId, View, Work,
+    Actor, Answer, ApiReply, ApiReq, Body, ClientSignal, HostSignal, Mark, NoMemory, Op, Outcome,
+    Outs, Signal, TxId, View, Work,
 };
 use std::alloc::Global;
 use std::collections::VecDeque;
@@ -90,7 +90,8 @@ impl Api {
         if let Serving::Operating(asked) = self.serving
             && asked == tx
         {
-            self.replies.push_back(ApiReply::Answered { name: None, answer })?;
+            self.replies
+                .push_back(ApiReply::Answered { name: None, answer })?;
             self.serving = Serving::Committing(tx);
             out.send(COORDINATOR, Body::Client(ClientSignal::TcCommitReq { tx }));
         }
@@ -106,7 +107,10 @@ impl Api {
             && asked == tx
         {
             let outcome = Outcome::Committed(epoch);
-            self.replies.push_back(ApiReply::Ended { name: None, outcome })?;
+            self.replies.push_back(ApiReply::Ended {
+                name: None,
+                outcome,
+            })?;
             self.serving = Serving::Idle;
             out.mark(Mark::Reported { tx, outcome });
         }

@@ -9,8 +9,8 @@ use crate::logs::Logs;
 use crate::network::{HOSTS, Network};
 use crate::place::{CLIENT, first_view};
 use sig_core::{
-    Actor, ApiReply, ApiReq, Body, HostId, HostSignal, Life, LogStep, Member, NoMemory, Outs, Seq, Signal,
-    Work,
+    Actor, ApiReply, ApiReq, Body, HostId, HostSignal, Life, LogStep, Member, NoMemory, Outs, Seq,
+    Signal, Work,
 };
 use std::alloc::Global;
 
