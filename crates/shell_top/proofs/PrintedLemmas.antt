@@ -51,4 +51,3 @@ prints_both true false meant result p q written mid now text lines last =
 prints_both false true meant result p q written mid now text lines last = part_behind written mid now text (fault_line meant) lines.1 last
 prints_both false false meant result p q written mid now text lines last =
     (last.0, Appends-trans written mid now text (fault_line meant) lines.1 last.1)
-

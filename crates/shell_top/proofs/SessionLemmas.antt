@@ -220,7 +220,7 @@ module _ (left written : Option (List ℕ)) where
         → Appends written_now written_then (answers (put ∷ [])) → IsServed (u.puts ++ put ∷ []) (rows_with u.rows put) t → AreLinesDone left left_now written written_then ending.Finished t.logs
     ends_answered written_then put t asked at_end more served =
         let all = subst (Appends written written_then) (sym (answers-append u.puts (put ∷ [])))
-            (Appends-trans written written_now written_then (answers u.puts) (answers (put ∷ [])) u.printed more) in
+        (Appends-trans written written_now written_then (answers u.puts) (answers (put ∷ [])) u.printed more) in
         ends_here written_then ending.Finished true t.logs (λ is. at_end) (refl, fault_asked true _ asked)
         (refl, subst (Appends written written_then) (sym (ap (λ (x : Script). answers x.commands) (all_asked true _ asked))) all)
         (refl, told_all (u.puts ++ put ∷ []) (rows_with u.rows put) t written written_then served all)

@@ -1,11 +1,35 @@
 use crate::{Ended, run_shell};
-use host_io::{MemSink, MemSource, NoGate, Sink, Source};
-use sig_core::{HostLog, Mark, TxId};
+use host_io::{Failed, MemSink, MemSource, NoGate, Sink, Source};
+use sig_core::{HostLog, Mark};
 use std::alloc::Global;
 use std::process::Abort;
 use std::sync::Wait;
 use std::test::Fail;
 use std::thread::Threads;
+
+/// A source in memory that gives at most so many bytes a read.
+#[derive(Drop)]
+struct Pieces {
+    source: MemSource,
+    most: usize,
+}
+
+impl Source for Pieces {
+    ghost use Rattle.std.specs.Prelude.{Some};
+
+    ghost left = { λ p. Some p.source.left };
+
+    ghost faults = { λ p. p.source.faults };
+
+    fn read(&mut self, buf: &mut [u8]) -> Result<usize, Failed> {
+        let size = buf.len().min(self.most).max(1).min(buf.len());
+        self.source.read(&mut buf[..size])
+    }
+
+    fn faults(&self) -> u64 {
+        self.source.faults()
+    }
+}
 
 /// Runs a session on a source and a sink in memory.
 fn session<R: Threads + Wait + Sync>(
@@ -33,49 +57,60 @@ fn expect<R: Threads + Wait + Sync + Abort>(
     Ok(())
 }
 
-/// How many marks of a log pass a test.
-fn count_marks<F: Fn(&Mark) -> bool>(log: &HostLog, test: F) -> usize {
-    let mut count = 0;
+/// A kind of marks.
+#[derive(Clone, Copy)]
+enum Kind {
+    Prepared,
+    Decided,
+    Done,
+    Reported,
+}
+
+/// Whether a mark is of this kind.
+fn is_of(mark: &Mark, kind: Kind) -> bool {
+    match (mark, kind) {
+        (Mark::Prepared { tx: _, key: _ }, Kind::Prepared) => true,
+        (Mark::Decided { tx: _, epoch: _ }, Kind::Decided) => true,
+        (Mark::Done { tx: _, key: _ }, Kind::Done) => true,
+        (Mark::Reported { tx: _, outcome: _ }, Kind::Reported) => true,
+        _ => false,
+    }
+}
+
+/// Whether a step of the log has a mark of this kind.
+fn has_mark(log: &HostLog, kind: Kind) -> bool {
     for step in log.steps.as_slice() {
         for mark in step.marks.as_slice() {
-            if test(mark) {
-                count += 1;
+            if is_of(mark, kind) {
+                return true;
             }
         }
     }
-    count
+    false
 }
 
 #[test]
 fn a_put_stands_in_the_logs_of_all_hosts(rt: HostRuntime) -> Result<(), Fail> {
     let alloc = rt.alloc();
-    let first = TxId {
-        tc: 1,
-        start: 0,
-        seq: 1,
-    };
     let mut source = MemSource::new(b"put a 1\nput b 2\n".to_vec(alloc)?, Vec::new(alloc))?;
     let mut sink = MemSink::new(alloc, Vec::new(alloc))?;
     let ended = session(&rt, alloc, &mut source, &mut sink);
     assert_eq!(rt; ended.lives.len(), 1);
-    let life = &ended.lives[0];
-    assert_eq!(rt; life.start_epoch, 0);
-    assert_eq!(rt; life.start_rows.len(), 0);
-    let logs = life.logs.as_slice();
-    assert_eq!(rt; logs.len(), 3);
-    // the shell's host: two requests, and what begins, answers and commits each
-    assert_eq!(rt; logs[0].steps.len(), 8);
-    assert_eq!(rt; logs[1].steps.len(), 26);
-    assert_eq!(rt; logs[2].steps.len(), 8);
-    let reported = |mark: &Mark| matches!(mark, Mark::Reported { tx: _, outcome: _ });
-    let decided = |mark: &Mark| matches!(mark, Mark::Decided { tx: _, epoch: 1 });
-    assert_eq!(rt; count_marks(&logs[0], reported), 2);
-    assert_eq!(rt; count_marks(&logs[1], decided), 2);
-    let prepared = |mark: &Mark| matches!(mark, Mark::Prepared { tx, key: _ } if *tx == first);
-    let done = |mark: &Mark| matches!(mark, Mark::Done { tx, key: _ } if *tx == first);
-    for log in &logs[1..] {
-        assert_eq!(rt; count_marks(log, prepared), 1);
-        assert_eq!(rt; count_marks(log, done), 1);
+    for life in &ended.lives {
+        assert_eq!(rt; life.start_epoch, 0);
+        assert_eq!(rt; life.start_rows.len(), 0);
+        let logs = life.logs.as_slice();
+        assert_eq!(rt; logs.len(), 3);
+        for (log, steps, marked, unmarked) in [
+            (logs.get(0), 8, Kind::Reported, Kind::Prepared),
+            (logs.get(1), 26, Kind::Decided, Kind::Reported),
+            (logs.get(2), 8, Kind::Done, Kind::Decided),
+        ] {
+            let log = log.ok_or("a host has no log")?;
+            assert_eq!(rt; log.steps.len(), steps);
+            assert!(rt; has_mark(log, marked));
+            assert!(rt; !has_mark(log, unmarked));
+        }
     }
     Ok(())
 }
@@ -100,6 +135,34 @@ fn empty_lines_comments_and_spaces(rt: HostRuntime) -> Result<(), Fail> {
         b"ok\ncommitted 1\nok\ncommitted 1\n",
         0,
     )
+}
+
+#[test]
+fn lines_come_in_any_pieces(rt: HostRuntime) -> Result<(), Fail> {
+    let alloc = rt.alloc();
+    let script = b"put a 1\n\n# nothing\nput b\r\nput c 3\nput";
+    for most in [1, 2, 3, 7, 64] {
+        let mut source = Pieces {
+            source: MemSource::new(script.to_vec(alloc)?, Vec::new(alloc))?,
+            most,
+        };
+        let mut sink = MemSink::new(alloc, Vec::new(alloc))?;
+        let ended = run_shell(
+            &rt,
+            alloc,
+            &[],
+            &mut source,
+            &mut sink,
+            Vec::new(alloc),
+            &NoGate,
+        );
+        assert_eq!(rt;
+            sink.written(),
+            b"ok\ncommitted 1\nok\ncommitted 1\nok\ncommitted 1\nline 6 refused 2\n".as_slice()
+        );
+        assert_eq!(rt; ended.status, 2);
+    }
+    Ok(())
 }
 
 #[test]
