@@ -1,8 +1,6 @@
 -- A session is open, from line to line.
-use Rattle.std.proofs.Common.{◌≡◌, ℕ, ◌+◌, ◌≤◌, sym, subst, arith, lit≤}
+use Rattle.std.proofs.Common.{◌≡◌, sym, subst, arith, lit≤}
 use Rattle.shell_top.specs.Session.{IsOpen}
-use Rattle.world_core.specs.Driven.{IsSound, latest_to_come}
-use Rattle.world_core.specs.Start.{fresh}
 use Rattle.world_core.specs.World.{Whole, new_world}
 use Rattle.world_core.proofs.FreshWorld.{fresh_clock, fresh_right}
 

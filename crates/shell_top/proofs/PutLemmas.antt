@@ -7,11 +7,9 @@ use Rattle.std.proofs.lemmas.List.{append-nil, append_assoc, length-append, map-
 use Rattle.std.specs.Io.KnownBytes.{Appends}
 use Rattle.std.proofs.lemmas.Bool.{ne_eqb}
 use Rattle.run_theory.proofs.Pasts.{past_trans}
-use Rattle.run_theory.specs.Lists.{IsPast}
 use Rattle.sig_core.specs.declared.log.HostLog.{HostLog}
 use Rattle.sig_core.specs.declared.no_memory.NoMemory.{NoMemory}
 use Rattle.sig_core.specs.declared.op.Answer.TheVariants.{Done}
-use Rattle.sig_core.specs.declared.op.Op.TheVariants as op
 use Rattle.sig_core.specs.declared.outcome.Outcome.TheVariants as outcome
 use Rattle.sig_core.specs.declared.reply.ApiReply.{ApiReply}
 use Rattle.sig_core.specs.declared.reply.ApiReply.TheVariants.{Answered, Ended}
@@ -20,7 +18,7 @@ use Rattle.script_lang.specs.ReplyText.{newline, reply_text}
 use Rattle.shell_top.specs.declared.ended.Ending.TheVariants as ending
 use Rattle.shell_top.specs.Printed.{AppendsPart}
 use Rattle.shell_top.specs.Script.{Put}
-use Rattle.shell_top.specs.Served.{AreLeft, IsServed, LeavesPut, PrintsPut, ServesPut, request_of, requests_of, rows_with, text_of}
+use Rattle.shell_top.specs.Served.{IsServed, LeavesPut, PrintsPut, ServesPut, request_of, requests_of, rows_with, text_of}
 use Rattle.shell_top.specs.Text.{answers, reply_lines}
 use Rattle.shell_top.proofs.ScriptLemmas.{answers-append}
 use Rattle.world_core.specs.Drive.{IsQuiet, Reaches, State, settled}
@@ -28,8 +26,6 @@ use Rattle.world_core.specs.Drive as drive
 use Rattle.world_core.specs.Driven.{HasAsked, HaveGrown, IsDriven, IsSound, latest_to_come}
 use Rattle.world_core.specs.Idle.{idle, told}
 use Rattle.world_core.specs.Machine.{after}
-use Rattle.world_core.specs.Requests.{requests}
-use Rattle.world_core.specs.Right.{IsRight}
 use Rattle.world_core.specs.Start.{fresh}
 use Rattle.world_core.specs.World.{Whole, logs_at, replies_of, state_of, with_replies}
 use Rattle.world_core.proofs.PutServed.{put_served}

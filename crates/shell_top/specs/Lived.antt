@@ -1,9 +1,8 @@
 -- What the lives of a session say of it.
-use Rattle.std.specs.Prelude.{◌≡◌, ℕ, Bool, false, List, [], ◌∷◌, ◌++◌, take}
+use Rattle.std.specs.Prelude.{◌≡◌, ℕ, false, List, [], ◌∷◌, ◌++◌, take}
 use Rattle.run_theory.specs.Cuts.{IsCut, IsClosed}
 use Rattle.run_theory.specs.Orders.{LogsRun}
 use Rattle.run_theory.specs.Runs.{AreLogs, IsWithin}
-use Rattle.sig_core.specs.declared.log.HostLog.{HostLog}
 use Rattle.sig_core.specs.declared.log.Life.{Life}
 use Rattle.sig_core.specs.declared.log.LogStep.{LogStep}
 use Rattle.shell_top.specs.declared.ended.Ending.{Ending}
@@ -11,13 +10,12 @@ use Rattle.shell_top.specs.declared.ended.Ending.TheVariants.{NoMemory}
 use Rattle.shell_top.specs.Printed.{is_cut_short}
 use Rattle.shell_top.specs.Script.{Put}
 use Rattle.shell_top.specs.Served.{requests_of, text_of}
-use Rattle.world_core.specs.Lives.{fresh_life, logs_of, start_of}
+use Rattle.world_core.specs.Lives.{logs_of, start_of}
 use Rattle.world_core.specs.Machine.{hosts, machine}
 use Rattle.world_core.specs.Quiet.{IsQuiet}
 use Rattle.world_core.specs.Requests.{AreAskedAtQuiet, requests}
 use Rattle.world_core.specs.SerialLaw.{IsSerial}
-use Rattle.world_core.specs.Start.{Start, fresh}
-use Rattle.world_core.specs.World.{logs_at}
+use Rattle.world_core.specs.Start.{Start}
 
 -- The logs of a life in which the shell asked for the commands, each at quiet: for all of them unless the session was
 -- cut short, and else for a first part. At its end nothing was under way, unless memory was wanting.

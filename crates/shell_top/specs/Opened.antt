@@ -1,5 +1,5 @@
 -- A session that has not begun.
-use Rattle.std.specs.Prelude.{◌≡◌, ◌<◌, List, [], length}
+use Rattle.std.specs.Prelude.{◌≡◌, ◌<◌, []}
 use Rattle.std.specs.Global.{Vec}
 use Rattle.std.specs.Vec.{vec_capacity}
 use Rattle.sig_core.specs.declared.log.Life.{Life}
