@@ -1,5 +1,5 @@
 -- Nobody installs a view, so the live nodes are those of the first one.
-use Rattle.std.proofs.Common.{◌≡◌, ◌==◌, ℕ, false, List, [], ◌∷◌, refl, ap, ◌∙◌}
+use Rattle.std.proofs.Common.{◌≡◌, ◌==◌, ℕ, false, List, [], ◌∷◌, true, refl, ap, ◌∙◌}
 use Rattle.run_theory.specs.Lists.{Each}
 use Rattle.run_theory.specs.Logs.{IsLog}
 use Rattle.run_theory.specs.Runs.{AreLogs}
@@ -10,7 +10,7 @@ use Rattle.sig_core.specs.declared.view.View.{View}
 use Rattle.world_core.specs.Machine.{after, hosts, machine}
 use Rattle.world_core.specs.Place.{first_view, replicas}
 use Rattle.world_core.specs.Start.{Start}
-use Rattle.world_core.specs.Views.{greatest_in, greatest_of, greatest_view, live_nodes}
+use Rattle.world_core.specs.Views.{greatest_in, greatest_of, greatest_view, is_viable, live_nodes}
 use Rattle.commit_laws.proofs.HostOne.{off_plain, one_marks}
 use Rattle.commit_laws.proofs.RowMarks.{IsPlainMark, MarksOne, plain, decides}
 
@@ -33,8 +33,16 @@ module _ (start : Start) where
   first_greatest [] view l = refl
   first_greatest (e ∷ log) view l = one_greatest (after start log).dih.epoch e.marks (greatest_of log view) (one_marks start log e l.0) ∙ first_greatest log view l.1
 
-  -- the live nodes are those of the first view
+  -- the first view is the only one
+  view_stays : (logs : ℕ → List LogStep) → AreLogs (machine start) logs → greatest_view hosts logs ≡ first_view
+  view_stays logs a =
+      off_greatest 2 (logs 2) (greatest_view 2 logs) refl (a.local 2)
+      ∙ (first_greatest (logs 1) (greatest_view 1 logs) (a.local 1) ∙ off_greatest 0 (logs 0) first_view refl (a.local 0))
+
+  -- it is viable
+  pub views_viable : (logs : ℕ → List LogStep) → AreLogs (machine start) logs → is_viable 1 2 (greatest_view hosts logs) ≡ true
+  views_viable logs a = ap (is_viable 1 2) (view_stays logs a)
+
+  -- the live nodes are its own
   pub lives : (logs : ℕ → List LogStep) → AreLogs (machine start) logs → live_nodes hosts logs ≡ replicas
-  lives logs a =
-      ap (λ (v : View). v.full) (off_greatest 2 (logs 2) (greatest_view 2 logs) refl (a.local 2)
-      ∙ (first_greatest (logs 1) (greatest_view 1 logs) (a.local 1) ∙ off_greatest 0 (logs 0) first_view refl (a.local 0)))
+  lives logs a = ap (λ (v : View). v.full) (view_stays logs a)

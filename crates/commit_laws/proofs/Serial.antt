@@ -11,6 +11,7 @@ use Rattle.world_core.proofs.SampleRun.{stamped}
 use Rattle.commit_laws.proofs.Epochs.{epochs_ordered}
 use Rattle.commit_laws.proofs.HostOne.{history_is}
 use Rattle.commit_laws.proofs.Legal.{history_legal}
+use Rattle.commit_laws.proofs.LiveNodes.{views_viable}
 use Rattle.commit_laws.proofs.RowsAtRest.{rows_at_rest}
 use Rattle.commit_laws.proofs.StrictOrder.{strict_order}
 
@@ -20,6 +21,7 @@ logs_serial start logs within a = record {
   legal = history_legal start logs within a;
   strict = strict_order start logs within a (history_is start logs within a);
   epochs = epochs_ordered start logs within a;
+  viable = views_viable start logs a;
   rows = rows_at_rest start logs within a;
 }
 

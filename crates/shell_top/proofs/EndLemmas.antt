@@ -8,7 +8,7 @@ use Rattle.std.proofs.KnownBytes.{Appends-nil, Consumes-nil}
 use Rattle.std.proofs.lemmas.Bool.Decides.{nat_tests}
 use Rattle.std.proofs.lemmas.List.{append-nil}
 use Rattle.run_theory.proofs.Merging.{merged_run}
-use Rattle.commit_laws.proofs.Serial.{every_cut_serial}
+use Rattle.commit_laws.proofs.Serial.{every_cut_serial, logs_serial}
 use Rattle.sig_core.specs.declared.log.HostLog.{HostLog}
 use Rattle.sig_core.specs.declared.log.Life.{Life}
 use Rattle.shell_top.specs.declared.ended.Ending.{Ending}
@@ -77,6 +77,7 @@ session_done left left_now written mid now meant result logs lives one lines las
       told = prints_both (is_cut_short meant) (is_cut_short result) meant result refl refl written mid now (session_text (fresh_life logs ∷ []))
           (subst (Prints meant meant written mid) (sym (append-nil (text_of fresh (logs_at logs 0)))) lines.told) last;
       lived = is_life meant (script_from lines.ended 1 lines.input).commands logs lines.lived;
+      history = (logs_serial fresh (logs_at logs) lines.lived.within lines.lived.right).legal;
       words_first = λ some. absurd (omega arith);
       words_refused = λ is. absurd (lines.no_words is);
       bounded = lines.bounded;
@@ -97,6 +98,7 @@ session_refused words left written now result lives none some printed =
       printed = printed;
       told = printed;
       lived = refl;
+      history = tt;
       words_first = λ any. (refl, refl);
       words_refused = λ is. some;
       bounded = omega arith;
@@ -116,6 +118,7 @@ session_unstarted words left written lives no_life none =
       printed = record { count = 0; appended = Appends-nil written };
       told = record { count = 0; appended = Appends-nil written };
       lived = refl;
+      history = tt;
       words_first = λ some. absurd (omega arith);
       words_refused = λ is. cc;
       bounded = omega arith;

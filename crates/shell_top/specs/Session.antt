@@ -1,6 +1,7 @@
 -- What a session did: what it read and printed, and why it ended.
 use Rattle.std.specs.Prelude.{◌≡◌, ℕ, ◌+◌, ◌*◌, ◌≤◌, ◌<◌, Bool, true, false, List, [], ◌++◌, length, Option, None, Some, MatchOption}
 use Rattle.std.specs.Io.KnownBytes.{Consumes, Appends, IsAtEnd}
+use Rattle.serial_model.specs.Legal.{IsLegal}
 use Rattle.sig_core.specs.declared.log.HostLog.{HostLog}
 use Rattle.sig_core.specs.declared.log.Life.{Life}
 use Rattle.sig_core.specs.Table.{Rows}
@@ -11,6 +12,7 @@ use Rattle.shell_top.specs.Lived.{AreLived, AreLives, session_text}
 use Rattle.shell_top.specs.Printed.{Prints}
 use Rattle.shell_top.specs.Served.{IsServed, text_of}
 use Rattle.world_core.specs.Driven.{IsSound, latest_to_come}
+use Rattle.world_core.specs.Lives.{session_history}
 use Rattle.world_core.specs.Start.{fresh}
 use Rattle.world_core.specs.World.{Whole, logs_at}
 use Rattle.world_core.specs.WorldOf.{whole_of}
@@ -29,7 +31,7 @@ Ends (TooLong line) ended script = script.fault ≡ Some (TooLong line)
 
 -- The session read `input`, and up to its end where `ended`. It printed the answers to the commands of its lines, up to
 -- the first fault, and then the line of the fault by which it was meant to end; and the answers are the text of the logs
--- of its life.
+-- of its life, and the history of its lives is legal.
 pub record IsSession (words : ℕ) (left left_now written written_now : Option (List ℕ)) (ending : Ending) (lives : List Life) : Type 0 where
   pub input : List ℕ
   pub ended : Bool
@@ -40,6 +42,7 @@ pub record IsSession (words : ℕ) (left left_now written written_now : Option (
   pub printed : Prints ending meant written written_now (answers (script_from ended 1 input).commands ++ fault_line meant)
   pub told : Prints ending meant written written_now (session_text lives ++ fault_line meant)
   pub lived : AreLives meant (script_from ended 1 input).commands input lives
+  pub history : IsLegal fresh.rows (session_history lives)
   pub words_first : 0 < words → (meant ≡ Words) × (input ≡ [])
   pub words_refused : meant ≡ Words → 0 < words
   pub bounded : length input ≤ 513 * 65536 + 1024

@@ -172,6 +172,13 @@ fn refused_lines_have_number_and_code(rt: HostRuntime) -> Result<(), Fail> {
     expect(
         &rt,
         alloc,
+        b"put a 1\nfetch a\nput b 2\n",
+        b"ok\ncommitted 1\nline 2 refused 1\n",
+        2,
+    )?;
+    expect(
+        &rt,
+        alloc,
         b"put a 1\nput\n",
         b"ok\ncommitted 1\nline 2 refused 2\n",
         2,
@@ -206,6 +213,19 @@ fn overlong_line(rt: HostRuntime) -> Result<(), Fail> {
     let alloc = rt.alloc();
     expect(&rt, alloc, &[b' '; 512], b"", 0)?;
     expect(&rt, alloc, &[b' '; 513], b"line 1 too long\n", 9)
+}
+
+#[test]
+fn one_line_more_than_a_script_may_have(rt: HostRuntime) -> Result<(), Fail> {
+    let alloc = rt.alloc();
+    expect(&rt, alloc, &[b'\n'; 65_536], b"", 0)?;
+    expect(
+        &rt,
+        alloc,
+        &[b'\n'; 65_537],
+        b"line 65537 too long\n",
+        9,
+    )
 }
 
 #[test]

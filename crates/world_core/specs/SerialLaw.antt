@@ -1,5 +1,5 @@
 -- The serial law: what the history of a cut is worth.
-use Rattle.std.specs.Prelude.{◌≡◌, ◌≤◌, ℕ, List, [], ◌∷◌}
+use Rattle.std.specs.Prelude.{◌≡◌, ◌≤◌, ℕ, true, List, [], ◌∷◌}
 use Rattle.std.specs.FinMap as map
 use Rattle.run_theory.specs.Cuts.{IsCut, IsClosed}
 use Rattle.run_theory.specs.Lists.{Each, IsIn}
@@ -13,7 +13,7 @@ use Rattle.world_core.specs.Machine.{hosts, machine}
 use Rattle.world_core.specs.Rest.{IsAtRest, rows_at}
 use Rattle.world_core.specs.Start.{Start}
 use Rattle.world_core.specs.Strict.{IsStrictOrder}
-use Rattle.world_core.specs.Views.{live_nodes}
+use Rattle.world_core.specs.Views.{greatest_view, is_viable, live_nodes}
 
 -- epochs never fall along a list
 abbrev pub AreEpochsOrdered : List Entry → Type 0
@@ -21,11 +21,13 @@ AreEpochsOrdered [] = Unit {0}
 AreEpochsOrdered (a ∷ rest) = Each (λ (b : Entry). a.epoch ≤ b.epoch) rest × AreEpochsOrdered rest
 
 -- The history of these logs is a serial history: every answer in it is right, it keeps to strict order, epochs never
--- fall along it, and every live replica has its rows of each key at rest.
+-- fall along it, the greatest view is viable, and every live replica has its rows of each key at rest.
 pub record IsSerial (start : Start) (logs : ℕ → List LogStep) : Type 0 where
   pub legal : IsLegal start.rows (history hosts logs)
   pub strict : IsStrictOrder start (logs 0) (history hosts logs)
   pub epochs : AreEpochsOrdered (history hosts logs)
+  -- one group of two replicas
+  pub viable : is_viable 1 2 (greatest_view hosts logs) ≡ true
   pub rows : (key : List ℕ) → IsAtRest hosts logs key → (member : Member) → IsIn member (live_nodes hosts logs)
       → map.get (rows_at start member.node (logs member.node)) key ≡ map.get (fold start.rows (history hosts logs)) key
 
