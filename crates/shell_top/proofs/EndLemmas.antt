@@ -97,7 +97,7 @@ session_refused words left written now result lives none some printed =
       ends = tt;
       printed = printed;
       told = printed;
-      lived = refl;
+      lived = (refl, refl);
       history = tt;
       words_first = λ any. (refl, refl);
       words_refused = λ is. some;
@@ -117,7 +117,7 @@ session_unstarted words left written lives no_life none =
       ends = tt;
       printed = record { count = 0; appended = Appends-nil written };
       told = record { count = 0; appended = Appends-nil written };
-      lived = refl;
+      lived = (refl, refl);
       history = tt;
       words_first = λ some. absurd (omega arith);
       words_refused = λ is. cc;

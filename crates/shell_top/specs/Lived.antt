@@ -1,12 +1,12 @@
 -- What the lives of a session say of it.
-use Rattle.std.specs.Prelude.{◌≡◌, ℕ, false, List, [], ◌∷◌, ◌++◌, take}
+use Rattle.std.specs.Prelude.{◌≡◌, ℕ, Bool, true, false, List, [], ◌∷◌, ◌++◌, take}
 use Rattle.run_theory.specs.Cuts.{IsCut, IsClosed}
 use Rattle.run_theory.specs.Orders.{LogsRun}
 use Rattle.run_theory.specs.Runs.{AreLogs, IsWithin}
 use Rattle.sig_core.specs.declared.log.Life.{Life}
 use Rattle.sig_core.specs.declared.log.LogStep.{LogStep}
 use Rattle.shell_top.specs.declared.ended.Ending.{Ending}
-use Rattle.shell_top.specs.declared.ended.Ending.TheVariants.{NoMemory}
+use Rattle.shell_top.specs.declared.ended.Ending.TheVariants.{NoMemory, Words}
 use Rattle.shell_top.specs.Printed.{is_cut_short}
 use Rattle.shell_top.specs.Script.{Put}
 use Rattle.shell_top.specs.Served.{requests_of, text_of}
@@ -35,9 +35,15 @@ pub record IsLife (ending : Ending) (commands : List Put) (life : Life) : Type 0
   pub run : LogsRun (machine (start_of life)) hosts (logs_of life)
   pub serial : (inside : ℕ → List LogStep) → IsCut inside (logs_of life) → IsClosed (machine (start_of life)) inside → IsSerial (start_of life) inside
 
--- a session has one life, or none where it ended before anything was read
+-- the endings that can come before there is a life
+abbrev pub may_be_unborn : Ending → Bool
+may_be_unborn Words = true
+may_be_unborn NoMemory = true
+may_be_unborn ending = false
+
+-- a session has one life; or none, where there were words, or memory was wanting, before anything was read
 abbrev pub AreLives : Ending → List Put → List ℕ → List Life → Type 0
-AreLives ending commands input [] = input ≡ []
+AreLives ending commands input [] = (input ≡ []) × (may_be_unborn ending ≡ true)
 AreLives ending commands input (life ∷ []) = IsLife ending commands life
 AreLives ending commands input (life ∷ next ∷ more) = ⊥
 
