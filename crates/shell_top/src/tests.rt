@@ -219,13 +219,7 @@ fn overlong_line(rt: HostRuntime) -> Result<(), Fail> {
 fn one_line_more_than_a_script_may_have(rt: HostRuntime) -> Result<(), Fail> {
     let alloc = rt.alloc();
     expect(&rt, alloc, &[b'\n'; 65_536], b"", 0)?;
-    expect(
-        &rt,
-        alloc,
-        &[b'\n'; 65_537],
-        b"line 65537 too long\n",
-        9,
-    )
+    expect(&rt, alloc, &[b'\n'; 65_537], b"line 65537 too long\n", 9)
 }
 
 #[test]
