@@ -1,0 +1,9 @@
+pub mod Abort
+pub mod Chain
+pub mod Commit
+pub mod Operate
+pub mod Part
+pub mod Place
+pub mod Sends
+pub mod Touched
+pub mod Turn
