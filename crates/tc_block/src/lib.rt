@@ -1,7 +1,9 @@
 //! The transaction coordinator of a node.
 #![tactic(auto)]
 
+mod abort;
 mod chain;
+mod commit;
 mod part;
 mod phase;
 mod place;
