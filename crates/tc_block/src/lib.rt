@@ -8,5 +8,6 @@ mod part;
 mod phase;
 mod place;
 mod sends;
+mod tc;
 mod touched;
 mod transaction;
