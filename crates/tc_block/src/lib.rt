@@ -11,3 +11,5 @@ mod sends;
 mod tc;
 mod touched;
 mod transaction;
+
+pub use tc::Tc;

@@ -102,6 +102,53 @@ impl Tc {
     }
 
     #[tactic(auto, using(crate::proofs::LiveLemmas::live))]
+    fn answer(
+        &mut self,
+        tx: TxId,
+        key: &Key,
+        answer: &Answer,
+        out: &mut Outs,
+    ) -> Result<(), NoMemory>
+        requires { HasRoom out.old }
+        ensures ok { OnOk result (IsTaken (step_of self.old tx (λ t. answer_row self.old.view tx t key.now answer.now)) self.new out.old out.new) }
+        ensures err { OnErr result (IsUntouched self.old self.new out.old out.new) }
+    {
+        let Some(at) = self.live.get_index_of(&tx) else {
+            return Ok(());
+        };
+        let t = &mut self.live[at];
+        t.answer(&self.view, tx, key, answer, out)
+    }
+
+    #[tactic(auto, using(crate::proofs::LiveLemmas::live))]
+    fn refuse(&mut self, tx: TxId, key: &Key, cause: AbortCause, out: &mut Outs)
+        requires { HasRoom out.old }
+        ensures { IsTaken (turn_of self.old tx (λ t. refuse_row self.old.node self.old.view tx t key.now cause)) self.new out.old out.new }
+    {
+        let Some(at) = self.live.get_index_of(&tx) else {
+            return;
+        };
+        let t = &mut self.live[at];
+        let over = t.refuse(self.node, &self.view, tx, key, cause, out);
+        if over {
+            self.forget(at);
+        }
+    }
+
+    #[tactic(auto, using(crate::proofs::LiveLemmas::live))]
+    fn decide(&mut self, alloc: Global, tx: TxId, out: &mut Outs) -> Result<(), NoMemory>
+        requires { HasRoom out.old }
+        ensures ok { OnOk result (IsTaken (step_of self.old tx (λ t. decide_row self.old.node tx t)) self.new out.old out.new) }
+        ensures err { OnErr result (IsUntouched self.old self.new out.old out.new) }
+    {
+        let Some(at) = self.live.get_index_of(&tx) else {
+            return Ok(());
+        };
+        let t = &mut self.live[at];
+        t.decide(alloc, self.node, tx, out)
+    }
+
+    #[tactic(auto, using(crate::proofs::LiveLemmas::live))]
     fn commit(&mut self, tx: TxId, epoch: u64, out: &mut Outs)
         requires { HasRoom out.old }
         ensures { IsTaken (turn_of self.old tx (λ t. commit_row self.old.node self.old.view tx t epoch)) self.new out.old out.new }
@@ -114,6 +161,90 @@ impl Tc {
         if over {
             self.forget(at);
         }
+    }
+
+    #[tactic(auto, using(crate::proofs::LiveLemmas::live))]
+    fn committed(&mut self, tx: TxId, out: &mut Outs)
+        requires { HasRoom out.old }
+        ensures { IsTaken (turn_of self.old tx (λ t. committed_row self.old.node self.old.view tx t)) self.new out.old out.new }
+    {
+        let Some(at) = self.live.get_index_of(&tx) else {
+            return;
+        };
+        let t = &mut self.live[at];
+        let over = t.committed(self.node, &self.view, tx, out);
+        if over {
+            self.forget(at);
+        }
+    }
+
+    #[tactic(auto, using(crate::proofs::LiveLemmas::live))]
+    fn completed(&mut self, tx: TxId, out: &mut Outs)
+        requires { HasRoom out.old }
+        ensures { IsTaken (turn_of self.old tx (λ t. completed_row self.old.node tx t)) self.new out.old out.new }
+    {
+        let Some(at) = self.live.get_index_of(&tx) else {
+            return;
+        };
+        let t = &mut self.live[at];
+        let over = t.completed(self.node, tx, out);
+        if over {
+            self.forget(at);
+        }
+    }
+
+    #[tactic(auto, using(crate::proofs::LiveLemmas::live))]
+    fn rollback(&mut self, tx: TxId, out: &mut Outs)
+        requires { HasRoom out.old }
+        ensures { IsTaken (turn_of self.old tx (λ t. rollback_row self.old.node self.old.view tx t)) self.new out.old out.new }
+    {
+        let Some(at) = self.live.get_index_of(&tx) else {
+            return;
+        };
+        let t = &mut self.live[at];
+        let over = t.rollback(self.node, &self.view, tx, out);
+        if over {
+            self.forget(at);
+        }
+    }
+
+    #[tactic(auto, using(crate::proofs::LiveLemmas::live))]
+    fn aborted(&mut self, tx: TxId, out: &mut Outs)
+        requires { HasRoom out.old }
+        ensures { IsTaken (turn_of self.old tx (λ t. aborted_row self.old.node tx t)) self.new out.old out.new }
+    {
+        let Some(at) = self.live.get_index_of(&tx) else {
+            return;
+        };
+        let t = &mut self.live[at];
+        let over = t.aborted(self.node, tx, out);
+        if over {
+            self.forget(at);
+        }
+    }
+
+    #[tactic(auto, using(crate::proofs::LiveLemmas::live))]
+    fn wait(&self, tx: TxId, out: &mut Outs)
+        requires { HasRoom out.old }
+        ensures { IsTaken (step_of self.now tx (λ t. wait_row tx t)) self.now out.old out.new }
+    {
+        let Some(at) = self.live.get_index_of(&tx) else {
+            return;
+        };
+        let t = &self.live[at];
+        t.wait(tx, out);
+    }
+
+    #[tactic(auto, using(crate::proofs::LiveLemmas::live))]
+    fn go_on(&self, tx: TxId, at: u64, out: &mut Outs)
+        requires { HasRoom out.old }
+        ensures { IsTaken (step_of self.now tx (λ t. go_on_row self.now.node self.now.view tx t at)) self.now out.old out.new }
+    {
+        let Some(place) = self.live.get_index_of(&tx) else {
+            return;
+        };
+        let t = &self.live[place];
+        t.go_on(self.node, &self.view, tx, at, out);
     }
 
     // Forgets the transaction at a place.
@@ -132,5 +263,71 @@ impl Tc {
         if self.live.get_index_of(&tx).is_some() {
             out.send(CLIENT, Body::Client(ClientSignal::TcWaitConf { tx, ahead }));
         }
+    }
+}
+
+impl Actor for Tc {
+    ghost use Rattle.sig_core.specs.Step.{stay};
+    ghost use Rattle.tc_block.specs.Tc.{in_view, tc_row};
+
+    ghost step = { λ s signal. tc_row s signal.body };
+
+    ghost installed = { λ s view. stay (in_view s view) };
+
+    fn handle(&mut self, alloc: Global, signal: &Signal, out: &mut Outs) -> Result<(), NoMemory> {
+        match &signal.body {
+            Body::Host(
+                HostSignal::Continue {
+                    work: Work::Transaction(tx),
+                    at,
+                },
+            ) => {
+                self.go_on(*tx, *at, out);
+                Ok(())
+            }
+            Body::Client(ClientSignal::TcBeginReq { name }) => self.begin(alloc, *name, out),
+            Body::Client(ClientSignal::TcKeyReq { tx, op }) => self.operate(*tx, op, out),
+            Body::Client(ClientSignal::TcCommitReq { tx }) => self.decide(alloc, *tx, out),
+            Body::Client(ClientSignal::TcRollbackReq { tx }) => {
+                self.rollback(*tx, out);
+                Ok(())
+            }
+            Body::Client(ClientSignal::TcWaitReq { tx }) => {
+                self.wait(*tx, out);
+                Ok(())
+            }
+            Body::Client(ClientSignal::LqhWaitConf { tx, ahead }) => {
+                self.pass(*tx, *ahead, out);
+                Ok(())
+            }
+            Body::Chain(ChainSignal::LqhKeyConf { tx, key, answer }) => {
+                self.answer(*tx, key, answer, out)
+            }
+            Body::Chain(ChainSignal::LqhKeyRef { tx, key, cause }) => {
+                self.refuse(*tx, key, *cause, out);
+                Ok(())
+            }
+            Body::Chain(ChainSignal::Committed { tx, key: _ }) => {
+                self.committed(*tx, out);
+                Ok(())
+            }
+            Body::Chain(ChainSignal::Completed { tx, key: _ }) => {
+                self.completed(*tx, out);
+                Ok(())
+            }
+            Body::Chain(ChainSignal::Aborted { tx, key: _ }) => {
+                self.aborted(*tx, out);
+                Ok(())
+            }
+            Body::Epoch(EpochSignal::DiVerifyConf { tx, epoch }) => {
+                self.commit(*tx, *epoch, out);
+                Ok(())
+            }
+            _ => Ok(()),
+        }
+    }
+
+    fn install(&mut self, view: &View, _out: &mut Outs) {
+        self.view = *view;
     }
 }
