@@ -13,3 +13,6 @@ mod touched;
 mod transaction;
 
 pub use tc::Tc;
+
+#[cfg(test)]
+mod tests;
