@@ -1,2 +1,3 @@
 mod conversation;
+mod heard;
 mod text;

@@ -3,86 +3,70 @@ use sig_core::{
     AbortCause, Answer, BlockId, Body, ChainSignal, ClientSignal, EpochSignal, HostSignal, Key,
     Outgoing, Outs,
 };
-use std::alloc::Global;
-use std::fmt::Write;
-use std::test::Fail;
+use std::alloc::{AllocError, Global};
 
 /// All that is sent, in order, with commas between.
-pub fn shown(alloc: Global, outs: &mut Outs) -> Result<String, Fail> {
+pub fn shown(alloc: Global, outs: &mut Outs) -> Result<String, AllocError> {
     let mut text = String::new(alloc);
     for i in 0..16u8 {
         match outs.take_send() {
-            Some(sent) => {
-                if i > 0 {
-                    text.push_str(", ")?;
-                }
-                show(&mut text, &sent)?;
-            }
+            Some(sent) => show(&mut text, i, &sent)?,
             None => break,
         }
     }
     Ok(text)
 }
 
-fn show(text: &mut String, sent: &Outgoing) -> Result<(), Fail> {
-    let block = match sent.to.block {
+fn show(text: &mut String, i: u8, sent: &Outgoing) -> Result<(), AllocError> {
+    if i > 0 {
+        text.push_str(", ")?;
+    }
+    put_number(text, block_word(sent.to.block), u64::from(sent.to.node))?;
+    text.push_str(" ")?;
+    match &sent.body {
+        Body::Client(signal) => show_client(text, signal),
+        Body::Chain(signal) => show_chain(text, signal),
+        Body::Epoch(signal) => show_epoch(text, signal),
+        Body::Host(HostSignal::Continue { work: _, at }) => put_number(text, "go on ", *at),
+        _ => text.push_str("another"),
+    }
+}
+
+fn block_word(block: BlockId) -> &'static str {
+    match block {
         BlockId::Api => "api",
         BlockId::Tc => "tc",
         BlockId::Dih => "dih",
         BlockId::Lqh => "lqh",
         _ => "another",
-    };
-    let node = sent.to.node;
-    write!(text, "{block}{node} ")?;
-    match &sent.body {
-        Body::Client(signal) => show_client(text, signal),
-        Body::Chain(signal) => show_chain(text, signal),
-        Body::Epoch(EpochSignal::DiVerifyReq { tx, ops }) => {
-            let count = ops.len();
-            let seq = tx.seq;
-            write!(text, "verify {seq} with {count}")?;
-            Ok(())
-        }
-        Body::Epoch(EpochSignal::DiVerifyEnd { tx }) => {
-            let seq = tx.seq;
-            write!(text, "end {seq}")?;
-            Ok(())
-        }
-        Body::Host(HostSignal::Continue { work: _, at }) => {
-            write!(text, "go on {at}")?;
-            Ok(())
-        }
-        _ => {
-            text.push_str("another")?;
-            Ok(())
-        }
     }
 }
 
-fn show_client(text: &mut String, signal: &ClientSignal) -> Result<(), Fail> {
+fn show_epoch(text: &mut String, signal: &EpochSignal) -> Result<(), AllocError> {
     match signal {
-        ClientSignal::TcBeginConf { name: _, tx } => {
-            let seq = tx.seq;
-            write!(text, "begun {seq}")?;
+        EpochSignal::DiVerifyReq { tx, ops } => {
+            put_number(text, "verify ", tx.seq)?;
+            put_number(text, " with ", ops.len() as u64)
         }
-        ClientSignal::TcBeginRef { name: _ } => text.push_str("refused")?,
-        ClientSignal::TcKeyConf { tx: _, answer } => text.push_str(answer_word(answer))?,
-        ClientSignal::TcCommitConf { tx: _, epoch } => write!(text, "committed {epoch}")?,
-        ClientSignal::TcRollbackRep { tx: _, cause } => {
-            text.push_str("aborted for ")?;
-            text.push_str(cause_word(*cause))?;
-        }
-        ClientSignal::TcWaitConf { tx: _, ahead } => {
-            let seq = ahead.seq;
-            write!(text, "behind {seq}")?;
-        }
-        ClientSignal::LqhWaitReq { tx: _, key } => show_key(text, "wait", key)?,
-        _ => text.push_str("another")?,
+        EpochSignal::DiVerifyEnd { tx } => put_number(text, "end ", tx.seq),
+        _ => text.push_str("another"),
     }
-    Ok(())
 }
 
-fn show_chain(text: &mut String, signal: &ChainSignal) -> Result<(), Fail> {
+fn show_client(text: &mut String, signal: &ClientSignal) -> Result<(), AllocError> {
+    match signal {
+        ClientSignal::TcBeginConf { name: _, tx } => put_number(text, "begun ", tx.seq),
+        ClientSignal::TcBeginRef { name: _ } => text.push_str("refused"),
+        ClientSignal::TcKeyConf { tx: _, answer } => text.push_str(answer_word(answer)),
+        ClientSignal::TcCommitConf { tx: _, epoch } => put_number(text, "committed ", *epoch),
+        ClientSignal::TcRollbackRep { tx: _, cause } => text.push_str(cause_word(*cause)),
+        ClientSignal::TcWaitConf { tx: _, ahead } => put_number(text, "behind ", ahead.seq),
+        ClientSignal::LqhWaitReq { tx: _, key } => put_key(text, "wait ", key),
+        _ => text.push_str("another"),
+    }
+}
+
+fn show_chain(text: &mut String, signal: &ChainSignal) -> Result<(), AllocError> {
     match signal {
         ChainSignal::LqhKeyReq {
             tx: _,
@@ -90,8 +74,8 @@ fn show_chain(text: &mut String, signal: &ChainSignal) -> Result<(), Fail> {
             chain,
             at,
         } => {
-            let replicas = chain.as_slice().len();
-            write!(text, "operate at {at} of {replicas}")?;
+            put_number(text, "operate at ", u64::from(*at))?;
+            put_number(text, " of ", chain.as_slice().len() as u64)
         }
         ChainSignal::Commit {
             tx: _,
@@ -100,8 +84,9 @@ fn show_chain(text: &mut String, signal: &ChainSignal) -> Result<(), Fail> {
             chain: _,
             at,
         } => {
-            show_key(text, "commit", key)?;
-            write!(text, " in {epoch} at {at}")?;
+            put_key(text, "commit ", key)?;
+            put_number(text, " in ", *epoch)?;
+            put_number(text, " at ", u64::from(*at))
         }
         ChainSignal::Complete {
             tx: _,
@@ -109,20 +94,23 @@ fn show_chain(text: &mut String, signal: &ChainSignal) -> Result<(), Fail> {
             chain: _,
             at,
         } => {
-            show_key(text, "complete", key)?;
-            write!(text, " at {at}")?;
+            put_key(text, "complete ", key)?;
+            put_number(text, " at ", u64::from(*at))
         }
-        ChainSignal::Abort { tx: _, key } => show_key(text, "abort", key)?,
-        _ => text.push_str("another")?,
+        ChainSignal::Abort { tx: _, key } => put_key(text, "abort ", key),
+        _ => text.push_str("another"),
     }
-    Ok(())
 }
 
-fn show_key(text: &mut String, word: &str, key: &Key) -> Result<(), Fail> {
+fn put_number(text: &mut String, word: &str, n: u64) -> Result<(), AllocError> {
     text.push_str(word)?;
-    text.push_str(" ")?;
-    text.push_str(str::from_utf8(key.bytes())?)?;
-    Ok(())
+    write!(text, "{n}")
+}
+
+// The first letter of the key, which has no others here.
+fn put_key(text: &mut String, word: &str, key: &Key) -> Result<(), AllocError> {
+    text.push_str(word)?;
+    text.push(char::from(key.bytes()[0]))
 }
 
 fn answer_word(answer: &Answer) -> &'static str {
@@ -137,8 +125,8 @@ fn answer_word(answer: &Answer) -> &'static str {
 
 fn cause_word(cause: AbortCause) -> &'static str {
     match cause {
-        AbortCause::Request => "request",
-        AbortCause::Timeout => "timeout",
-        _ => "another cause",
+        AbortCause::Request => "aborted for request",
+        AbortCause::Timeout => "aborted for timeout",
+        _ => "aborted for another cause",
     }
 }
