@@ -1,6 +1,7 @@
 pub mod Abort
 pub mod Chain
 pub mod Commit
+pub mod Complete
 pub mod Live
 pub mod Operate
 pub mod Part

@@ -1,5 +1,5 @@
 -- What a transaction sends to the replicas of its keys, phase by phase.
-use Rattle.std.specs.Prelude.{ℕ, ◌+◌, Bool, true, false, List, [], ◌∷◌, ◌++◌, length, map}
+use Rattle.std.specs.Prelude.{ℕ, Bool, true, false, nat_lt, List, [], ◌∷◌, ◌++◌, map}
 use Rattle.std.specs.List.{flat_map}
 use Rattle.sig_core.specs.declared.member.Member.{Member}
 use Rattle.sig_core.specs.declared.member.TxId.{TxId}
@@ -9,7 +9,7 @@ use Rattle.sig_core.specs.declared.signal.chain.ChainSignal.TheVariants.{Commit,
 use Rattle.sig_core.specs.declared.signal.client.ClientSignal.TheVariants.{TcCommitConf, LqhWaitReq}
 use Rattle.sig_core.specs.declared.signal.epoch.EpochSignal.TheVariants.{DiVerifyEnd}
 use Rattle.sig_core.specs.declared.view.View.{View}
-use Rattle.sig_core.specs.Step.{Step, to_place}
+use Rattle.sig_core.specs.Step.{Step, stay, to_place}
 use Rattle.tc_block.specs.declared.phase.Phase.{Phase}
 use Rattle.tc_block.specs.declared.phase.Phase.TheVariants.{Open, Verifying, Committing, Completing, Aborting}
 use Rattle.tc_block.specs.declared.touched.Touched.{Touched}
@@ -77,3 +77,12 @@ phase_sends view tx phase touched = front_sends tx phase ++ flat_map (key_sends 
 -- a transaction comes to a phase, and sends the first part of what it sends in it
 unfoldable pub entering : ℕ → View → TxId → Transaction → Phase → Step Transaction
 entering node view tx t phase = record { state = at_phase t phase; effects = part_effects node tx (phase_sends view tx phase t.touched) 0 }
+
+-- the rest of what a transaction sends in its phase, from a place on. No list has more than 512 signals: `Abort` for 64 keys,
+-- to eight replicas of each
+abbrev pub go_on_if : ℕ → View → TxId → Transaction → ℕ → Bool → Step Transaction
+go_on_if node view tx t at true = record { state = t; effects = part_effects node tx (phase_sends view tx t.phase t.touched) at }
+go_on_if node view tx t at false = stay t
+
+unfoldable pub go_on_row : ℕ → View → TxId → Transaction → ℕ → Step Transaction
+go_on_row node view tx t at = go_on_if node view tx t at (nat_lt at 512)

@@ -12,10 +12,12 @@ use Rattle.sig_core.specs.declared.signal.host.Work.TheVariants.{Transaction}
 use Rattle.sig_core.specs.declared.view.View.{View}
 use Rattle.sig_core.specs.Step.{Step, stay, sending}
 use Rattle.tc_block.specs.Abort.{aborted_row, refuse_row, rollback_row}
-use Rattle.tc_block.specs.Commit.{commit_row, committed_row, completed_row, decide_row, go_on_row}
+use Rattle.tc_block.specs.Commit.{commit_row, committed_row, decide_row}
+use Rattle.tc_block.specs.Complete.{completed_row}
 use Rattle.tc_block.specs.Live.{place_in, step_of, turn_of}
 use Rattle.tc_block.specs.Operate.{answer_row, fresh, operate_row, wait_row}
 use Rattle.tc_block.specs.Place.{client}
+use Rattle.tc_block.specs.Sends.{go_on_row}
 use Rattle.tc_block.specs.State.{TcState, same_tx}
 
 -- a coordinator that has begun no transaction

@@ -5,11 +5,12 @@ ghost use Rattle.tc_block.specs.Abort.{abort_end, aborted_for, aborted_row, abor
 ghost use Rattle.tc_block.specs.Turn.{sends_only};
 
 use crate::chain::chain_of;
+use crate::complete::send_verify_end;
 use crate::phase::{Asked, Phase};
-use crate::place::{CLIENT, epochs};
+use crate::place::CLIENT;
 use crate::touched::Touched;
 use crate::transaction::Transaction;
-use sig_core::{AbortCause, Body, ClientSignal, EpochSignal, Key, Outs, TxId, View};
+use sig_core::{AbortCause, Body, ClientSignal, Key, Outs, TxId, View};
 
 impl Transaction {
     /// An operation is refused: the transaction is aborted. While it is, the operation's key is
@@ -130,7 +131,7 @@ fn end_abort(node: u8, tx: TxId, cause: AbortCause, verifying: bool, out: &mut O
 {
     let told = ClientSignal::TcRollbackRep { tx, cause };
     if verifying {
-        out.send(epochs(node), Body::Epoch(EpochSignal::DiVerifyEnd { tx }));
+        send_verify_end(node, tx, out);
         out.send(CLIENT, Body::Client(told));
     } else {
         out.send(CLIENT, Body::Client(told));

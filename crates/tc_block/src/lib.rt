@@ -4,6 +4,7 @@
 mod abort;
 mod chain;
 mod commit;
+mod complete;
 mod part;
 mod phase;
 mod place;

@@ -13,6 +13,9 @@ use crate::place::{CLIENT, coordinator, rows_of};
 use crate::touched::Touched;
 use sig_core::{Body, ChainSignal, ClientSignal, HostSignal, Key, Members, Outs, TxId, View, Work};
 
+/// The most signals that a list of sends has: `Abort` for 64 keys, to eight replicas of each.
+pub const SENDS: u64 = 512;
+
 /// Sends the part from place `at` on of what a transaction sends in this phase, and where something
 /// is left the signal by which the coordinator goes on with it.
 pub fn send_part(
@@ -117,16 +120,16 @@ fn offer_commit(tx: TxId, epoch: u64, t: &Touched, part: &mut Part, out: &mut Ou
     ensures offered { so_far part.new out.new ≡ all_offered (so_far part.old out.old) (commit_of tx epoch t.now ∷ []) }
     ensures fits { length out.new.sends + part.new.room ≤ 15 }
 {
-    let at = last_place(&t.chain);
+    let last = last_place(&t.chain);
     let body = ChainSignal::Commit {
         tx,
         key: t.key,
         epoch,
         chain: t.chain,
-        at,
+        at: last,
     };
     part.offer(
-        rows_of(node_at(&t.chain, at as usize)),
+        rows_of(node_at(&t.chain, last as usize)),
         Body::Chain(body),
         out,
     );

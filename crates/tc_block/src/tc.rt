@@ -2,9 +2,11 @@
 ghost use Rattle.std.specs.Prelude.{◌≡◌, ◌+◌, ◌<◌, ◌^◌, OnOk, OnErr, IfOk, is_some};
 ghost use Rattle.sig_core.specs.Step.{HasRoom, IsTaken, IsUntouched};
 ghost use Rattle.tc_block.specs.Abort.{aborted_row, refuse_row, rollback_row};
-ghost use Rattle.tc_block.specs.Commit.{commit_row, committed_row, completed_row, decide_row, go_on_row};
+ghost use Rattle.tc_block.specs.Commit.{commit_row, committed_row, decide_row};
+ghost use Rattle.tc_block.specs.Complete.{completed_row};
 ghost use Rattle.tc_block.specs.Live.{place_in, step_of, turn_of, without};
 ghost use Rattle.tc_block.specs.Operate.{answer_row, operate_row, wait_row};
+ghost use Rattle.tc_block.specs.Sends.{go_on_row};
 
 use crate::place::CLIENT;
 use crate::transaction::Transaction;

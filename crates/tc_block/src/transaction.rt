@@ -5,7 +5,7 @@ ghost use Rattle.sig_core.specs.Step.{HasRoom, IsTaken, IsUntouched};
 use crate::chain::{chain_of, node_at};
 use crate::phase::{Asked, Phase};
 use crate::place::{CLIENT, rows_of};
-use crate::sends::{send_aborts, send_part, send_waits};
+use crate::sends::{SENDS, send_aborts, send_part, send_waits};
 use crate::touched::{TouchedKeys, same_key};
 use sig_core::{
     Answer, Body, ChainSignal, ClientSignal, Key, NoMemory, Op, Outs, RowWork, Seq, TxId, View,
@@ -26,7 +26,7 @@ pub struct Transaction {
 
 impl Transaction {
     ghost use Rattle.tc_block.specs.Operate.{answer_row, answered, asked_on, can_operate, fresh, is_ready, late_answer, operate_row, touched_after, wait_row};
-    ghost use Rattle.tc_block.specs.Sends.{entering};
+    ghost use Rattle.tc_block.specs.Sends.{entering, go_on_row};
 
     /// A transaction that has begun. Takes no memory.
     pub fn new(alloc: Global) -> Transaction
@@ -186,5 +186,17 @@ impl Transaction {
     {
         self.phase = phase;
         send_part(node, view, tx, phase, self.touched.as_slice(), 0, out);
+    }
+
+    /// Goes on with a list of sends, from this place on.
+    #[tactic(auto, unfolding(crate::specs::Sends::go_on_row))]
+    pub fn go_on(&self, node: u8, view: &View, tx: TxId, at: u64, out: &mut Outs)
+        requires { HasRoom out.old }
+        ensures { IsTaken (go_on_row node view.now tx self.now at) self.now out.old out.new }
+    {
+        if at < SENDS {
+            let touched = self.touched.as_slice();
+            send_part(node, view, tx, self.phase, touched, at, out);
+        }
     }
 }

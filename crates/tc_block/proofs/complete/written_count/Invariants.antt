@@ -1,6 +1,6 @@
 use Rattle.std.proofs.Common.{◌≡◌, ◌≤◌, ◌+◌, drop}
-use Rattle.tc_block.specs.Commit.{written_count}
-use Rattle.tc_block.proofs.commit.written_count.Given as goal
+use Rattle.tc_block.specs.Complete.{written_count}
+use Rattle.tc_block.proofs.complete.written_count.Given as goal
 
 -- those so far and those that are left are all
 abbrev pub invariant-loop-t : goal.invariant-loop-t
