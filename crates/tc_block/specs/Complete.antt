@@ -4,7 +4,7 @@ use Rattle.sig_core.specs.declared.member.TxId.{TxId}
 use Rattle.sig_core.specs.declared.view.View.{View}
 use Rattle.sig_core.specs.Step.{stay}
 use Rattle.tc_block.specs.declared.phase.Phase.{Phase}
-use Rattle.tc_block.specs.declared.phase.Phase.TheVariants.{Open, Verifying, Committing, Completing, Aborting}
+use Rattle.tc_block.specs.declared.phase.Phase.TheVariants.{Completing}
 use Rattle.tc_block.specs.declared.touched.Touched.{Touched}
 use Rattle.tc_block.specs.declared.transaction.Transaction.{Transaction}
 use Rattle.tc_block.specs.Sends.{entering, reported, verify_end}

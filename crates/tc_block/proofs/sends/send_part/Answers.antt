@@ -1,8 +1,5 @@
-use Rattle.std.proofs.Common.{◌≡◌, ap, sym, ◌∙◌}
-use Rattle.sig_core.specs.declared.outs.Outgoing.{Outgoing}
-use Rattle.sig_core.specs.Step.{Effects, and_send, to_place}
-use Rattle.tc_block.specs.declared.part.Part.{Part}
-use Rattle.tc_block.specs.Part.{all_offered, offered_from, so_far, go_on_to}
+use Rattle.std.proofs.Common.{◌≡◌}
+use Rattle.tc_block.specs.Part.{all_offered, offered_from, so_far}
 use Rattle.tc_block.specs.Sends.{phase_sends}
 use Rattle.tc_block.proofs.PartLemmas.{ends_with_part, goes_on_after_part}
 use Rattle.tc_block.proofs.sends.send_part.Goals as goal
