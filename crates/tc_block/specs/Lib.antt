@@ -1,0 +1,13 @@
+pub mod Abort
+pub mod Chain
+pub mod Commit
+pub mod Complete
+pub mod Live
+pub mod Operate
+pub mod Part
+pub mod Place
+pub mod Sends
+pub mod State
+pub mod Tc
+pub mod Touched
+pub mod Turn

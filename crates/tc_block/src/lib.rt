@@ -1,0 +1,19 @@
+//! The transaction coordinator of a node.
+#![tactic(auto)]
+
+mod abort;
+mod chain;
+mod commit;
+mod complete;
+mod part;
+mod phase;
+mod place;
+mod sends;
+mod tc;
+mod touched;
+mod transaction;
+
+pub use tc::Tc;
+
+#[cfg(test)]
+mod tests;

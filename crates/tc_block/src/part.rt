@@ -1,0 +1,50 @@
+//! Lists of sends, of which one event sends eight.
+ghost use Rattle.std.specs.Prelude.{◌≡◌, ◌+◌, ◌≤◌, false, length};
+ghost use Rattle.sig_core.specs.Step.{to_place};
+
+use sig_core::{Body, Outs, Place};
+
+/// How many sends of a list an event does.
+pub const PART: usize = 8;
+
+/// How far an event has come with a list of sends that it goes through.
+#[derive(Clone, Copy)]
+pub struct Part {
+    /// How many are still to be passed over: earlier events sent them.
+    pub skip: u64,
+    /// How many more this event sends.
+    pub room: usize,
+    /// Some were left for later.
+    pub more: bool,
+}
+
+impl Part {
+    ghost use Rattle.tc_block.specs.Part.{offered, so_far};
+
+    /// Nothing of the list was gone through yet, and the event sends from place `at` on.
+    pub fn new(at: u64) -> Part
+        ensures { result ≡ record { skip = at; room = 8; more = false } }
+    {
+        Part {
+            skip: at,
+            room: PART,
+            more: false,
+        }
+    }
+
+    /// Goes through one more of the list: passes it over, sends it, or leaves it for later.
+    pub fn offer(&mut self, to: Place, body: Body, out: &mut Outs)
+        requires { length out.old.sends + self.old.room ≤ 15 }
+        ensures offered { so_far self.new out.new ≡ offered (so_far self.old out.old) (to_place to body) }
+        ensures fits { length out.new.sends + self.new.room ≤ 15 }
+    {
+        if self.skip > 0 {
+            self.skip -= 1;
+        } else if self.room > 0 {
+            self.room -= 1;
+            out.send(to, body);
+        } else {
+            self.more = true;
+        }
+    }
+}

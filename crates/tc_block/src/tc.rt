@@ -1,0 +1,335 @@
+//! The coordinator of a node.
+ghost use Rattle.std.specs.Prelude.{◌≡◌, ◌+◌, ◌<◌, ◌^◌, OnOk, OnErr, IfOk, is_some};
+ghost use Rattle.sig_core.specs.Step.{HasRoom, IsTaken, IsUntouched};
+ghost use Rattle.tc_block.specs.Abort.{aborted_row, refuse_row, rollback_row};
+ghost use Rattle.tc_block.specs.Commit.{commit_row, committed_row, decide_row};
+ghost use Rattle.tc_block.specs.Complete.{completed_row};
+ghost use Rattle.tc_block.specs.Live.{place_in, step_of, turn_of, without};
+ghost use Rattle.tc_block.specs.Operate.{answer_row, operate_row, wait_row};
+ghost use Rattle.tc_block.specs.Sends.{go_on_row};
+
+use crate::place::CLIENT;
+use crate::transaction::Transaction;
+use indexmap::IndexMap;
+use sig_core::{
+    AbortCause, Actor, Answer, Body, ChainSignal, ClientSignal, EpochSignal, HostSignal, Key,
+    NoMemory, Op, Outs, Signal, TxId, View, Work,
+};
+use std::alloc::Global;
+use std::marker::Model;
+
+/// How many transactions a coordinator keeps at most.
+pub const TRANSACTIONS: usize = 64;
+
+/// The transaction coordinator of one start of a node.
+#[derive(Drop)]
+pub struct Tc {
+    node: u8,
+    start: u32,
+    /// The number of the next transaction, from 1.
+    next_seq: u64,
+    view: View,
+    /// The transactions that aren't forgotten, in the order in which they began.
+    live: IndexMap<TxId, Transaction>,
+}
+
+impl Model for Tc {
+    ghost use Rattle.tc_block.specs.State.{TcState};
+
+    ghost Value = { TcState };
+
+    ghost view = { λ t. record { node = t.node; start = t.start; next_seq = t.next_seq; view = t.view; live = t.live.entries } };
+}
+
+impl Tc {
+    ghost use Rattle.tc_block.specs.State.{with_live};
+    ghost use Rattle.tc_block.specs.Tc.{begin_row, idle, is_full, pass_row};
+
+    /// The coordinator of this start of a node, which has begun no transaction.
+    ///
+    /// # Errors
+    /// `NoMemory`.
+    pub fn new(alloc: Global, node: u8, start: u32, view: View) -> Result<Tc, NoMemory>
+        ensures { IfOk result (λ tc. tc ≡ idle node start view) }
+    {
+        let live = IndexMap::with_capacity(alloc, TRANSACTIONS)?;
+        Ok(Tc {
+            node,
+            start,
+            next_seq: 1,
+            view,
+            live,
+        })
+    }
+
+    // Whether it begins no further transaction.
+    fn is_full(&self) -> bool
+        ensures { result ≡ is_full self.now }
+    {
+        self.live.len() >= TRANSACTIONS || self.next_seq == u64::MAX
+    }
+
+    #[tactic(auto, unfolding(crate::specs::Tc::begin_row))]
+    fn begin(&mut self, alloc: Global, name: Option<u16>, out: &mut Outs) -> Result<(), NoMemory>
+        requires { HasRoom out.old }
+        ensures ok { OnOk result (IsTaken (begin_row self.old name) self.new out.old out.new) }
+        ensures err { OnErr result (IsUntouched self.old self.new out.old out.new) }
+    {
+        if self.is_full() {
+            out.send(CLIENT, Body::Client(ClientSignal::TcBeginRef { name }));
+            return Ok(());
+        }
+        let tx = TxId {
+            tc: self.node,
+            start: self.start,
+            seq: self.next_seq,
+        };
+        self.live.insert(tx, Transaction::new(alloc))?;
+        self.next_seq += 1;
+        out.send(CLIENT, Body::Client(ClientSignal::TcBeginConf { name, tx }));
+        Ok(())
+    }
+
+    #[tactic(auto, using(crate::proofs::LiveLemmas::live))]
+    fn operate(&mut self, tx: TxId, op: &Op, out: &mut Outs) -> Result<(), NoMemory>
+        requires { HasRoom out.old }
+        ensures ok { OnOk result (IsTaken (step_of self.old tx (λ t. operate_row self.old.view tx t op.now)) self.new out.old out.new) }
+        ensures err { OnErr result (IsUntouched self.old self.new out.old out.new) }
+    {
+        let Some(at) = self.live.get_index_of(&tx) else {
+            return Ok(());
+        };
+        let t = &mut self.live[at];
+        t.operate(&self.view, tx, op, out)
+    }
+
+    #[tactic(auto, using(crate::proofs::LiveLemmas::live))]
+    fn answer(
+        &mut self,
+        tx: TxId,
+        key: &Key,
+        answer: &Answer,
+        out: &mut Outs,
+    ) -> Result<(), NoMemory>
+        requires { HasRoom out.old }
+        ensures ok { OnOk result (IsTaken (step_of self.old tx (λ t. answer_row self.old.view tx t key.now answer.now)) self.new out.old out.new) }
+        ensures err { OnErr result (IsUntouched self.old self.new out.old out.new) }
+    {
+        let Some(at) = self.live.get_index_of(&tx) else {
+            return Ok(());
+        };
+        let t = &mut self.live[at];
+        t.answer(&self.view, tx, key, answer, out)
+    }
+
+    #[tactic(auto, using(crate::proofs::LiveLemmas::live))]
+    fn refuse(&mut self, tx: TxId, key: &Key, cause: AbortCause, out: &mut Outs)
+        requires { HasRoom out.old }
+        ensures { IsTaken (turn_of self.old tx (λ t. refuse_row self.old.node self.old.view tx t key.now cause)) self.new out.old out.new }
+    {
+        let Some(at) = self.live.get_index_of(&tx) else {
+            return;
+        };
+        let t = &mut self.live[at];
+        let over = t.refuse(self.node, &self.view, tx, key, cause, out);
+        if over {
+            self.forget(at);
+        }
+    }
+
+    #[tactic(auto, using(crate::proofs::LiveLemmas::live))]
+    fn decide(&mut self, alloc: Global, tx: TxId, out: &mut Outs) -> Result<(), NoMemory>
+        requires { HasRoom out.old }
+        ensures ok { OnOk result (IsTaken (step_of self.old tx (λ t. decide_row self.old.node tx t)) self.new out.old out.new) }
+        ensures err { OnErr result (IsUntouched self.old self.new out.old out.new) }
+    {
+        let Some(at) = self.live.get_index_of(&tx) else {
+            return Ok(());
+        };
+        let t = &mut self.live[at];
+        t.decide(alloc, self.node, tx, out)
+    }
+
+    #[tactic(auto, using(crate::proofs::LiveLemmas::live))]
+    fn commit(&mut self, tx: TxId, epoch: u64, out: &mut Outs)
+        requires { HasRoom out.old }
+        ensures { IsTaken (turn_of self.old tx (λ t. commit_row self.old.node self.old.view tx t epoch)) self.new out.old out.new }
+    {
+        let Some(at) = self.live.get_index_of(&tx) else {
+            return;
+        };
+        let t = &mut self.live[at];
+        let over = t.commit(self.node, &self.view, tx, epoch, out);
+        if over {
+            self.forget(at);
+        }
+    }
+
+    #[tactic(auto, using(crate::proofs::LiveLemmas::live))]
+    fn committed(&mut self, tx: TxId, out: &mut Outs)
+        requires { HasRoom out.old }
+        ensures { IsTaken (turn_of self.old tx (λ t. committed_row self.old.node self.old.view tx t)) self.new out.old out.new }
+    {
+        let Some(at) = self.live.get_index_of(&tx) else {
+            return;
+        };
+        let t = &mut self.live[at];
+        let over = t.committed(self.node, &self.view, tx, out);
+        if over {
+            self.forget(at);
+        }
+    }
+
+    #[tactic(auto, using(crate::proofs::LiveLemmas::live))]
+    fn completed(&mut self, tx: TxId, out: &mut Outs)
+        requires { HasRoom out.old }
+        ensures { IsTaken (turn_of self.old tx (λ t. completed_row self.old.node tx t)) self.new out.old out.new }
+    {
+        let Some(at) = self.live.get_index_of(&tx) else {
+            return;
+        };
+        let t = &mut self.live[at];
+        let over = t.completed(self.node, tx, out);
+        if over {
+            self.forget(at);
+        }
+    }
+
+    #[tactic(auto, using(crate::proofs::LiveLemmas::live))]
+    fn rollback(&mut self, tx: TxId, out: &mut Outs)
+        requires { HasRoom out.old }
+        ensures { IsTaken (turn_of self.old tx (λ t. rollback_row self.old.node self.old.view tx t)) self.new out.old out.new }
+    {
+        let Some(at) = self.live.get_index_of(&tx) else {
+            return;
+        };
+        let t = &mut self.live[at];
+        let over = t.rollback(self.node, &self.view, tx, out);
+        if over {
+            self.forget(at);
+        }
+    }
+
+    #[tactic(auto, using(crate::proofs::LiveLemmas::live))]
+    fn aborted(&mut self, tx: TxId, out: &mut Outs)
+        requires { HasRoom out.old }
+        ensures { IsTaken (turn_of self.old tx (λ t. aborted_row self.old.node tx t)) self.new out.old out.new }
+    {
+        let Some(at) = self.live.get_index_of(&tx) else {
+            return;
+        };
+        let t = &mut self.live[at];
+        let over = t.aborted(self.node, tx, out);
+        if over {
+            self.forget(at);
+        }
+    }
+
+    #[tactic(auto, using(crate::proofs::LiveLemmas::live))]
+    fn wait(&self, tx: TxId, out: &mut Outs)
+        requires { HasRoom out.old }
+        ensures { IsTaken (step_of self.now tx (λ t. wait_row tx t)) self.now out.old out.new }
+    {
+        let Some(at) = self.live.get_index_of(&tx) else {
+            return;
+        };
+        let t = &self.live[at];
+        t.wait(tx, out);
+    }
+
+    #[tactic(auto, using(crate::proofs::LiveLemmas::live))]
+    fn go_on(&self, tx: TxId, at: u64, out: &mut Outs)
+        requires { HasRoom out.old }
+        ensures { IsTaken (step_of self.now tx (λ t. go_on_row self.now.node self.now.view tx t at)) self.now out.old out.new }
+    {
+        let Some(place) = self.live.get_index_of(&tx) else {
+            return;
+        };
+        let t = &self.live[place];
+        t.go_on(self.node, &self.view, tx, at, out);
+    }
+
+    // Forgets the transaction at a place.
+    #[tactic(auto, unfolding(crate::specs::Live::without))]
+    fn forget(&mut self, at: usize)
+        ensures { self.new ≡ with_live self.old (without self.old.live at) }
+    {
+        self.live.shift_remove_index(at);
+    }
+
+    #[tactic(auto, unfolding(crate::specs::Tc::pass_row))]
+    fn pass(&self, tx: TxId, ahead: TxId, out: &mut Outs)
+        requires { HasRoom out.old }
+        ensures { IsTaken (pass_row self.now tx ahead) self.now out.old out.new }
+    {
+        if self.live.get_index_of(&tx).is_some() {
+            out.send(CLIENT, Body::Client(ClientSignal::TcWaitConf { tx, ahead }));
+        }
+    }
+}
+
+impl Actor for Tc {
+    ghost use Rattle.sig_core.specs.Step.{stay};
+    ghost use Rattle.tc_block.specs.Tc.{in_view, tc_row};
+
+    ghost step = { λ s signal. tc_row s signal.body };
+
+    ghost installed = { λ s view. stay (in_view s view) };
+
+    fn handle(&mut self, alloc: Global, signal: &Signal, out: &mut Outs) -> Result<(), NoMemory> {
+        match &signal.body {
+            Body::Host(
+                HostSignal::Continue {
+                    work: Work::Transaction(tx),
+                    at,
+                },
+            ) => {
+                self.go_on(*tx, *at, out);
+                Ok(())
+            }
+            Body::Client(ClientSignal::TcBeginReq { name }) => self.begin(alloc, *name, out),
+            Body::Client(ClientSignal::TcKeyReq { tx, op }) => self.operate(*tx, op, out),
+            Body::Client(ClientSignal::TcCommitReq { tx }) => self.decide(alloc, *tx, out),
+            Body::Client(ClientSignal::TcRollbackReq { tx }) => {
+                self.rollback(*tx, out);
+                Ok(())
+            }
+            Body::Client(ClientSignal::TcWaitReq { tx }) => {
+                self.wait(*tx, out);
+                Ok(())
+            }
+            Body::Client(ClientSignal::LqhWaitConf { tx, ahead }) => {
+                self.pass(*tx, *ahead, out);
+                Ok(())
+            }
+            Body::Chain(ChainSignal::LqhKeyConf { tx, key, answer }) => {
+                self.answer(*tx, key, answer, out)
+            }
+            Body::Chain(ChainSignal::LqhKeyRef { tx, key, cause }) => {
+                self.refuse(*tx, key, *cause, out);
+                Ok(())
+            }
+            Body::Chain(ChainSignal::Committed { tx, key: _ }) => {
+                self.committed(*tx, out);
+                Ok(())
+            }
+            Body::Chain(ChainSignal::Completed { tx, key: _ }) => {
+                self.completed(*tx, out);
+                Ok(())
+            }
+            Body::Chain(ChainSignal::Aborted { tx, key: _ }) => {
+                self.aborted(*tx, out);
+                Ok(())
+            }
+            Body::Epoch(EpochSignal::DiVerifyConf { tx, epoch }) => {
+                self.commit(*tx, *epoch, out);
+                Ok(())
+            }
+            _ => Ok(()),
+        }
+    }
+
+    fn install(&mut self, view: &View, _out: &mut Outs) {
+        self.view = *view;
+    }
+}

@@ -1,0 +1,202 @@
+//! A transaction, as its coordinator sees it.
+ghost use Rattle.std.specs.Prelude.{◌≡◌, OnOk, OnErr};
+ghost use Rattle.sig_core.specs.Step.{HasRoom, IsTaken, IsUntouched};
+
+use crate::chain::{chain_of, node_at};
+use crate::phase::{Asked, Phase};
+use crate::place::{CLIENT, rows_of};
+use crate::sends::{SENDS, send_aborts, send_part, send_waits};
+use crate::touched::{TouchedKeys, same_key};
+use sig_core::{
+    Answer, Body, ChainSignal, ClientSignal, Key, NoMemory, Op, Outs, RowWork, Seq, TxId, View,
+};
+use std::alloc::Global;
+
+/// A transaction that has begun and isn't forgotten.
+#[derive(Drop)]
+pub struct Transaction {
+    /// The answered operations, in order.
+    pub ops: Seq<(Op, Answer)>,
+    /// The keys that its operations are on.
+    pub touched: TouchedKeys,
+    /// The operation that isn't answered.
+    pub asked: Option<Asked>,
+    pub phase: Phase,
+}
+
+impl Transaction {
+    ghost use Rattle.tc_block.specs.Operate.{answer_row, answered, asked_on, can_operate, fresh, is_ready, late_answer, operate_row, touched_after, wait_row};
+    ghost use Rattle.tc_block.specs.Sends.{entering, go_on_row};
+
+    /// A transaction that has begun. Takes no memory.
+    pub fn new(alloc: Global) -> Transaction
+        ensures { result ≡ fresh }
+    {
+        Transaction {
+            ops: Seq::new(alloc),
+            touched: TouchedKeys::new(alloc),
+            asked: None,
+            phase: Phase::Open,
+        }
+    }
+
+    /// Whether it takes operations, and none is unanswered.
+    pub fn is_ready(&self) -> bool
+        ensures { result ≡ is_ready self.now.phase self.now.asked }
+    {
+        match (self.phase, &self.asked) {
+            (Phase::Open, None) => true,
+            _ => false,
+        }
+    }
+
+    fn can_operate(&self, op: &Op) -> bool
+        ensures { result ≡ can_operate self.now op.now }
+    {
+        self.is_ready() && self.touched.fits(op.key())
+    }
+
+    /// An operation is asked for: it goes to the primary of its key. It changes nothing while
+    /// another is unanswered, nor where it would touch a 65th key.
+    ///
+    /// # Errors
+    /// `NoMemory`, and then nothing has happened.
+    #[tactic(auto, unfolding(crate::specs::Operate::operate_row))]
+    pub fn operate(
+        &mut self,
+        view: &View,
+        tx: TxId,
+        op: &Op,
+        out: &mut Outs,
+    ) -> Result<(), NoMemory>
+        requires { HasRoom out.old }
+        ensures ok { OnOk result (IsTaken (operate_row view.now tx self.old op.now) self.new out.old out.new) }
+        ensures err { OnErr result (IsUntouched self.old self.new out.old out.new) }
+    {
+        if self.can_operate(op) {
+            let chain = &chain_of(view, op.key());
+            self.touched.touch(op.key(), chain)?;
+            self.asked = Some(Asked {
+                op: *op,
+                chain: *chain,
+            });
+            let body = ChainSignal::LqhKeyReq {
+                tx,
+                work: RowWork::Operate(*op),
+                chain: *chain,
+                at: 0,
+            };
+            out.send(rows_of(node_at(chain, 0)), Body::Chain(body));
+        }
+        Ok(())
+    }
+
+    /// The unanswered operation, if it is on this key.
+    pub fn asked_on(&self, key: &Key) -> Option<Asked>
+        ensures { result ≡ asked_on self.now.asked key.now }
+    {
+        match &self.asked {
+            Some(asked) if same_key(asked.op.key(), key) => Some(*asked),
+            _ => None,
+        }
+    }
+
+    /// An operation is answered: the answer is noted, and the client told. While the transaction is
+    /// aborted its key is aborted once more, since the operation may have come to a replica behind
+    /// its `Abort`.
+    ///
+    /// # Errors
+    /// `NoMemory`, and then nothing has happened.
+    #[tactic(auto, unfolding(crate::specs::Operate::answer_row))]
+    pub fn answer(
+        &mut self,
+        view: &View,
+        tx: TxId,
+        key: &Key,
+        answer: &Answer,
+        out: &mut Outs,
+    ) -> Result<(), NoMemory>
+        requires { HasRoom out.old }
+        ensures ok { OnOk result (IsTaken (answer_row view.now tx self.old key.now answer.now) self.new out.old out.new) }
+        ensures err { OnErr result (IsUntouched self.old self.new out.old out.new) }
+    {
+        let Some(asked) = self.asked_on(key) else {
+            return Ok(());
+        };
+        match self.phase {
+            Phase::Open => {
+                self.note(&asked, answer)?;
+                let body = ClientSignal::TcKeyConf {
+                    tx,
+                    answer: *answer,
+                };
+                out.send(CLIENT, Body::Client(body));
+                Ok(())
+            }
+            Phase::Aborting {
+                cause: _,
+                verifying: _,
+                awaited: _,
+            } => {
+                self.answer_late(view, tx, key, out);
+                Ok(())
+            }
+            _ => Ok(()),
+        }
+    }
+
+    // Notes an answer. Only `Done` is of a write that took effect.
+    fn note(&mut self, asked: &Asked, answer: &Answer) -> Result<(), NoMemory>
+        ensures ok { OnOk result (self.new ≡ answered self.old asked.now answer.now) }
+        ensures err { OnErr result (self.new ≡ self.old) }
+    {
+        self.ops.push((asked.op, *answer))?;
+        self.asked = None;
+        if let Answer::Done = answer {
+            self.touched.write(asked.op.key(), &asked.chain);
+        }
+        Ok(())
+    }
+
+    /// The unanswered operation is answered while the transaction is aborted.
+    pub fn answer_late(&mut self, view: &View, tx: TxId, key: &Key, out: &mut Outs)
+        requires { HasRoom out.old }
+        ensures { IsTaken (late_answer view.now tx self.old key.now) self.new out.old out.new }
+    {
+        self.asked = None;
+        send_aborts(tx, key, &chain_of(view, key), out);
+    }
+
+    /// Asks the replicas of the unanswered operation what it waits for.
+    #[tactic(auto, unfolding(crate::specs::Operate::wait_row))]
+    pub fn wait(&self, tx: TxId, out: &mut Outs)
+        requires { HasRoom out.old }
+        ensures { IsTaken (wait_row tx self.now) self.now out.old out.new }
+    {
+        if let Some(asked) = &self.asked {
+            send_waits(tx, asked.op.key(), &asked.chain, out);
+        }
+    }
+
+    /// Comes to a phase, and sends the first part of what is sent in it.
+    #[tactic(auto, unfolding(crate::specs::Sends::entering))]
+    pub fn enter(&mut self, node: u8, view: &View, tx: TxId, phase: Phase, out: &mut Outs)
+        requires { HasRoom out.old }
+        ensures { IsTaken (entering node view.now tx self.old phase) self.new out.old out.new }
+    {
+        self.phase = phase;
+        send_part(node, view, tx, phase, self.touched.as_slice(), 0, out);
+    }
+
+    /// Goes on with a list of sends, from this place on.
+    #[tactic(auto, unfolding(crate::specs::Sends::go_on_row))]
+    pub fn go_on(&self, node: u8, view: &View, tx: TxId, at: u64, out: &mut Outs)
+        requires { HasRoom out.old }
+        ensures { IsTaken (go_on_row node view.now tx self.now at) self.now out.old out.new }
+    {
+        if at < SENDS {
+            let touched = self.touched.as_slice();
+            send_part(node, view, tx, self.phase, touched, at, out);
+        }
+    }
+}
