@@ -1,7 +1,13 @@
+pub mod Chain
 pub mod Filled
+pub mod Journal
 pub mod Members
 pub mod Op
 pub mod Outs
+pub mod Place
+pub mod Redo
+pub mod Rows
+pub mod Same
 pub mod Step
 pub mod Table
 pub mod Word

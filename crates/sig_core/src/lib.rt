@@ -3,7 +3,9 @@
 #![tactic(auto)]
 
 mod actor;
+mod chain;
 mod entry;
+mod journal;
 mod key;
 mod log;
 mod mark;
@@ -14,8 +16,10 @@ mod op;
 mod outcome;
 mod outs;
 mod place;
+mod redo;
 mod reply;
 mod request;
+mod rows;
 mod seq;
 mod signal;
 mod table;
@@ -24,7 +28,9 @@ mod view;
 mod word;
 
 pub use actor::Actor;
+pub use chain::{last_place, node_at, primary_of};
 pub use entry::Entry;
+pub use journal::{Journal, JournalFault};
 pub use key::{KEY_BYTES, Key};
 pub use log::{HostLog, Life, LogStep};
 pub use mark::{Mark, Marks};
@@ -34,9 +40,11 @@ pub use no_memory::NoMemory;
 pub use op::{Answer, Op};
 pub use outcome::{AbortCause, Outcome, StopCause};
 pub use outs::{OUTS, Outgoing, Outs};
-pub use place::{BlockId, Place};
+pub use place::{BlockId, CLIENT, Place, coordinator, coordinator_of, epochs, rows_of};
+pub use redo::Redo;
 pub use reply::{ApiReply, Refusal, Waiting};
 pub use request::{ApiReq, BatchLine};
+pub use rows::{PendingRecord, Rows, RowsFault, Slot};
 pub use seq::Seq;
 pub use signal::{
     Body, ChainSignal, CheckpointSignal, ClientSignal, EpochSignal, FileSignal, HostSignal,

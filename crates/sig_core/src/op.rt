@@ -1,6 +1,6 @@
 //! Operations on rows, and their answers.
 ghost use Rattle.std.specs.Prelude.{◌≡◌};
-ghost use Rattle.sig_core.specs.Op.{key_of};
+ghost use Rattle.sig_core.specs.Op.{answer_to, image_of, key_of};
 
 use crate::key::Key;
 use crate::value::Value;
@@ -30,6 +30,31 @@ impl Op {
         match self {
             Op::Get(key) | Op::GetX(key) | Op::Del(key) => key,
             Op::Put(key, _) | Op::Ins(key, _) | Op::Upd(key, _) => key,
+        }
+    }
+
+    /// What the operation answers where its key has this row, or none.
+    #[tactic(auto, unfolding(crate::specs::Op::answer_to))]
+    pub fn answer_to(&self, row: &Option<Value>) -> Answer
+        ensures { result ≡ answer_to self.now row.now }
+    {
+        match (self, row) {
+            (Op::Get(_) | Op::GetX(_), Some(value)) => Answer::Found(*value),
+            (Op::Get(_) | Op::GetX(_), None) => Answer::Missing,
+            (Op::Ins(_, _), Some(_)) => Answer::E630,
+            (Op::Upd(_, _) | Op::Del(_), None) => Answer::E626,
+            _ => Answer::Done,
+        }
+    }
+
+    /// What the operation, as a write that takes effect, makes of the row. None for a deletion, and
+    /// for what doesn't write.
+    pub fn image(&self) -> Option<Value>
+        ensures { result ≡ image_of self.now }
+    {
+        match self {
+            Op::Put(_, value) | Op::Ins(_, value) | Op::Upd(_, value) => Some(*value),
+            _ => None,
         }
     }
 }

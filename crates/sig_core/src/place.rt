@@ -1,4 +1,8 @@
 //! Where a signal is for.
+ghost use Rattle.std.specs.Prelude.{◌≡◌};
+ghost use Rattle.sig_core.specs.Place.{coordinator, coordinator_of, epochs, rows_of};
+
+use crate::member::TxId;
 
 /// A block: a part of a host that handles signals.
 #[derive(Clone, Copy, Debug, PartialEq, Eq)]
@@ -30,4 +34,47 @@ pub enum BlockId {
 pub struct Place {
     pub node: u8,
     pub block: BlockId,
+}
+
+/// The interface to clients, on the shell host.
+pub const CLIENT: Place = Place {
+    node: 0,
+    block: BlockId::Api,
+};
+
+/// The coordinator of a node.
+pub fn coordinator(node: u8) -> Place
+    ensures { result ≡ coordinator node }
+{
+    Place {
+        node,
+        block: BlockId::Tc,
+    }
+}
+
+/// The coordinator of a transaction.
+pub fn coordinator_of(tx: TxId) -> Place
+    ensures { result ≡ coordinator_of tx }
+{
+    coordinator(tx.tc)
+}
+
+/// The block of a node that gives epochs.
+pub fn epochs(node: u8) -> Place
+    ensures { result ≡ epochs node }
+{
+    Place {
+        node,
+        block: BlockId::Dih,
+    }
+}
+
+/// The rows of a node.
+pub fn rows_of(node: u8) -> Place
+    ensures { result ≡ rows_of node }
+{
+    Place {
+        node,
+        block: BlockId::Lqh,
+    }
 }

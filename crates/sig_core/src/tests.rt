@@ -1,6 +1,6 @@
 use crate::{
-    BlockId, Body, ClientSignal, Key, Mark, Member, Members, Op, Outs, Place, Seq, Table, TxId,
-    Value, WordFault,
+    Answer, BlockId, Body, ClientSignal, Key, Mark, Member, Members, Op, Outs, Place, Redo, Seq,
+    Table, TxId, Value, WordFault, last_place, node_at, primary_of,
 };
 use std::test::Fail;
 
@@ -107,5 +107,60 @@ fn operations_and_transactions_are_told_apart(rt: HostRuntime) -> Result<(), Fai
             seq: 1
         }
     );
+    Ok(())
+}
+
+#[test]
+fn redo_records_have_the_size_of_their_bytes(rt: HostRuntime) -> Result<(), Fail> {
+    let (key, value) = (Key::new(b"a")?, Value::new(b"1")?);
+    let tx = TxId {
+        tc: 1,
+        start: 0,
+        seq: 1,
+    };
+    let prepare = Redo::Prepare {
+        tx,
+        fragment: 1,
+        key,
+        image: Some(value),
+    };
+    let commit = Redo::Commit { tx, epoch: 1, key };
+    let abort = Redo::Abort { tx, key };
+    let sizes = [prepare.size(), commit.size(), abort.size()];
+    assert_eq!(rt; sizes, [22, 26, 18]);
+    Ok(())
+}
+
+#[test]
+fn operations_are_answered_by_their_row(rt: HostRuntime) -> Result<(), Fail> {
+    let (key, value) = (Key::new(b"k")?, Value::new(b"v")?);
+    let row = Some(value);
+    let answers = [
+        (Op::Get(key), None, Answer::Missing),
+        (Op::GetX(key), row, Answer::Found(value)),
+        (Op::Put(key, value), row, Answer::Done),
+        (Op::Ins(key, value), row, Answer::E630),
+        (Op::Upd(key, value), None, Answer::E626),
+        (Op::Del(key), None, Answer::E626),
+        (Op::Del(key), row, Answer::Done),
+    ];
+    for (op, row, answer) in answers {
+        assert_eq!(rt; op.answer_to(&row), answer);
+    }
+    assert_eq!(rt; Op::Upd(key, value).image(), row);
+    assert_eq!(rt; Op::Del(key).image(), None);
+    Ok(())
+}
+
+#[test]
+fn chains_have_a_primary_and_a_last_place(rt: HostRuntime) -> Result<(), Fail> {
+    let mut chain = Members::new();
+    assert_eq!(rt; node_at(&chain, 0), 0);
+    assert_eq!(rt; primary_of(&chain).as_slice().len(), 0);
+    chain.push(Member { node: 2, start: 0 });
+    chain.push(Member { node: 1, start: 0 });
+    assert_eq!(rt; node_at(&chain, 1), 1);
+    assert_eq!(rt; node_at(&primary_of(&chain), 0), 2);
+    assert_eq!(rt; last_place(&chain), 1);
     Ok(())
 }

@@ -11,7 +11,7 @@ use Rattle.sig_core.specs.declared.signal.host.Work.TheVariants.{Transaction}
 use Rattle.sig_core.specs.Step.{Effects, joined, and_send}
 use Rattle.tc_block.specs.declared.part.Part.{Part}
 use Rattle.tc_block.specs.Part.{Offered, all_offered, go_on_to, offered, offered_by, offered_from, part, part_effects, rest_if, so_far}
-use Rattle.tc_block.specs.Place.{coordinator}
+use Rattle.sig_core.specs.Place.{coordinator}
 use Rattle.tc_block.specs.Turn.{sends_only}
 
 -- two lists, one after the other

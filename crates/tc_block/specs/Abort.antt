@@ -16,7 +16,7 @@ use Rattle.tc_block.specs.declared.touched.Touched.{Touched}
 use Rattle.tc_block.specs.declared.transaction.Transaction.{Transaction}
 use Rattle.tc_block.specs.Chain.{chain_of}
 use Rattle.tc_block.specs.Operate.{asked_on, late_answer}
-use Rattle.tc_block.specs.Place.{client}
+use Rattle.sig_core.specs.Place.{client}
 use Rattle.tc_block.specs.Sends.{entering, verify_end}
 use Rattle.tc_block.specs.Turn.{Turn, going, ending, at_phase, asking, sends_only}
 

@@ -1,25 +1,8 @@
--- Chains: the replicas of a key, the primary first.
-use Rattle.std.specs.Prelude.{ℕ, ◌-◌, List, length, slice_get, option_to_list, Option, None, Some}
+-- The replicas of a key.
+use Rattle.std.specs.Prelude.{ℕ, List}
 use Rattle.sig_core.specs.declared.member.Member.{Member}
 use Rattle.sig_core.specs.declared.view.View.{View}
 
 -- the replicas of a key in a view: the full members, in order of age
 unfoldable pub chain_of : View → List ℕ → List Member
 chain_of view key = view.full
-
--- the primary of a chain, alone
-abbrev pub primary_of : List Member → List Member
-primary_of chain = option_to_list (slice_get chain 0)
-
--- the node of a replica; 0, which has no rows, where there is none
-abbrev pub node_of : Option Member → ℕ
-node_of None = 0
-node_of (Some member) = member.node
-
--- the node at a place of a chain
-abbrev pub node_at : List Member → ℕ → ℕ
-node_at chain at = node_of (slice_get chain at)
-
--- the last place of a chain
-abbrev pub last_place : List Member → ℕ
-last_place chain = length chain - 1

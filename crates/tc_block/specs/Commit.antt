@@ -10,7 +10,7 @@ use Rattle.tc_block.specs.declared.phase.Phase.TheVariants.{Verifying, Committin
 use Rattle.tc_block.specs.declared.transaction.Transaction.{Transaction}
 use Rattle.tc_block.specs.Complete.{all_committed}
 use Rattle.tc_block.specs.Operate.{is_ready}
-use Rattle.tc_block.specs.Place.{epochs}
+use Rattle.sig_core.specs.Place.{epochs}
 use Rattle.tc_block.specs.Sends.{entering}
 use Rattle.tc_block.specs.Turn.{Turn, going, at_phase}
 

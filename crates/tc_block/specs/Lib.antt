@@ -5,7 +5,6 @@ pub mod Complete
 pub mod Live
 pub mod Operate
 pub mod Part
-pub mod Place
 pub mod Sends
 pub mod State
 pub mod Tc

@@ -3,9 +3,10 @@ use Rattle.std.specs.Prelude.{ℕ, Bool, true, false, List, remove, position, sl
 use Rattle.std.specs.Map.{keys_of, values_of}
 use Rattle.indexmap.specs.IndexMap.{set_value_at}
 use Rattle.sig_core.specs.declared.member.TxId.{TxId}
+use Rattle.sig_core.specs.Same.{same_tx}
 use Rattle.sig_core.specs.Step.{Step, stay}
 use Rattle.tc_block.specs.declared.transaction.Transaction.{Transaction}
-use Rattle.tc_block.specs.State.{TcState, same_tx, with_live}
+use Rattle.tc_block.specs.State.{TcState, with_live}
 use Rattle.tc_block.specs.Turn.{Turn}
 
 -- where the transaction stands among those that aren't forgotten

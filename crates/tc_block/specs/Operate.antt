@@ -11,16 +11,18 @@ use Rattle.sig_core.specs.declared.signal.chain.RowWork.TheVariants.{Operate}
 use Rattle.sig_core.specs.declared.signal.client.ClientSignal.TheVariants.{TcKeyConf}
 use Rattle.sig_core.specs.declared.view.View.{View}
 use Rattle.sig_core.specs.Op.{key_of}
+use Rattle.sig_core.specs.Same.{same_key}
 use Rattle.sig_core.specs.Step.{Step, stay, sending}
 use Rattle.tc_block.specs.declared.phase.Asked.{Asked}
 use Rattle.tc_block.specs.declared.phase.Phase.{Phase}
 use Rattle.tc_block.specs.declared.phase.Phase.TheVariants.{Open, Aborting}
 use Rattle.tc_block.specs.declared.touched.Touched.{Touched}
 use Rattle.tc_block.specs.declared.transaction.Transaction.{Transaction}
-use Rattle.tc_block.specs.Chain.{chain_of, node_at}
-use Rattle.tc_block.specs.Place.{client, rows_of}
+use Rattle.sig_core.specs.Chain.{node_at}
+use Rattle.tc_block.specs.Chain.{chain_of}
+use Rattle.sig_core.specs.Place.{client, rows_of}
 use Rattle.tc_block.specs.Sends.{aborts_of, waits_of}
-use Rattle.tc_block.specs.Touched.{fits, same_key, touch, write}
+use Rattle.tc_block.specs.Touched.{fits, touch, write}
 use Rattle.tc_block.specs.Turn.{asking, sends_only}
 
 -- a transaction that has begun

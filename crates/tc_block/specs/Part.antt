@@ -7,7 +7,7 @@ use Rattle.sig_core.specs.declared.signal.host.HostSignal.TheVariants.{Continue}
 use Rattle.sig_core.specs.declared.signal.host.Work.TheVariants.{Transaction}
 use Rattle.sig_core.specs.Step.{Effects, and_send, to_place}
 use Rattle.tc_block.specs.declared.part.Part.{Part}
-use Rattle.tc_block.specs.Place.{coordinator}
+use Rattle.sig_core.specs.Place.{coordinator}
 
 -- what an event sends of a list, from a place on
 abbrev pub part : List Outgoing → ℕ → List Outgoing

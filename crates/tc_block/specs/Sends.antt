@@ -14,9 +14,10 @@ use Rattle.tc_block.specs.declared.phase.Phase.{Phase}
 use Rattle.tc_block.specs.declared.phase.Phase.TheVariants.{Open, Verifying, Committing, Completing, Aborting}
 use Rattle.tc_block.specs.declared.touched.Touched.{Touched}
 use Rattle.tc_block.specs.declared.transaction.Transaction.{Transaction}
-use Rattle.tc_block.specs.Chain.{chain_of, last_place, node_at}
+use Rattle.sig_core.specs.Chain.{last_place, node_at}
+use Rattle.tc_block.specs.Chain.{chain_of}
 use Rattle.tc_block.specs.Part.{part_effects}
-use Rattle.tc_block.specs.Place.{client, epochs, rows_of}
+use Rattle.sig_core.specs.Place.{client, epochs, rows_of}
 use Rattle.tc_block.specs.Turn.{at_phase}
 
 -- the client is told that the transaction is committed

@@ -1,5 +1,5 @@
 -- The coordinator's state.
-use Rattle.std.specs.Prelude.{ℕ, ◌&&◌, Bool, nat_eq, List}
+use Rattle.std.specs.Prelude.{ℕ, List}
 use Rattle.sig_core.specs.declared.member.TxId.{TxId}
 use Rattle.sig_core.specs.declared.view.View.{View}
 use Rattle.tc_block.specs.declared.transaction.Transaction.{Transaction}
@@ -12,10 +12,6 @@ pub record TcState : Type 0 where
   pub next_seq : ℕ
   pub view : View
   pub live : List (TxId × Transaction)
-
--- the two are one transaction
-abbrev pub same_tx : TxId → TxId → Bool
-same_tx one other = nat_eq one.tc other.tc && (nat_eq one.start other.start && nat_eq one.seq other.seq)
 
 -- the coordinator with these transactions
 abbrev pub with_live : TcState → List (TxId × Transaction) → TcState

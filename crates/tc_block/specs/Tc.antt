@@ -10,15 +10,16 @@ use Rattle.sig_core.specs.declared.signal.epoch.EpochSignal.TheVariants.{DiVerif
 use Rattle.sig_core.specs.declared.signal.host.HostSignal.TheVariants.{Continue}
 use Rattle.sig_core.specs.declared.signal.host.Work.TheVariants.{Transaction}
 use Rattle.sig_core.specs.declared.view.View.{View}
+use Rattle.sig_core.specs.Same.{same_tx}
 use Rattle.sig_core.specs.Step.{Step, stay, sending}
 use Rattle.tc_block.specs.Abort.{aborted_row, refuse_row, rollback_row}
 use Rattle.tc_block.specs.Commit.{commit_row, committed_row, decide_row}
 use Rattle.tc_block.specs.Complete.{completed_row}
 use Rattle.tc_block.specs.Live.{place_in, step_of, turn_of}
 use Rattle.tc_block.specs.Operate.{answer_row, fresh, operate_row, wait_row}
-use Rattle.tc_block.specs.Place.{client}
+use Rattle.sig_core.specs.Place.{client}
 use Rattle.tc_block.specs.Sends.{go_on_row}
-use Rattle.tc_block.specs.State.{TcState, same_tx}
+use Rattle.tc_block.specs.State.{TcState}
 
 -- a coordinator that has begun no transaction
 abbrev pub idle : ℕ → ℕ → View → TcState

@@ -1,13 +1,9 @@
 -- The keys that a transaction has touched, in the order in which it first did.
-use Rattle.std.specs.Prelude.{ℕ, Bool, true, false, ◌||◌, nat_eq, nat_lt, is_some, List, [], ◌∷◌, ◌++◌, length, position, slice_set, Option, None, Some}
-use Rattle.std.specs.Cmp.Lexicographic.{pointwise}
+use Rattle.std.specs.Prelude.{ℕ, Bool, true, false, ◌||◌, nat_lt, is_some, List, [], ◌∷◌, ◌++◌, length, position, slice_set, Option, None, Some}
 use Rattle.sig_core.specs.declared.member.Member.{Member}
 use Rattle.tc_block.specs.declared.touched.Touched.{Touched}
-use Rattle.tc_block.specs.Chain.{primary_of}
-
--- the two are one key
-abbrev pub same_key : List ℕ → List ℕ → Bool
-same_key one other = pointwise nat_eq one other
+use Rattle.sig_core.specs.Chain.{primary_of}
+use Rattle.sig_core.specs.Same.{same_key}
 
 -- this one is on the key
 abbrev pub is_on : List ℕ → Touched → Bool

@@ -7,10 +7,9 @@ ghost use Rattle.tc_block.specs.Turn.{sends_only};
 use crate::chain::chain_of;
 use crate::complete::send_verify_end;
 use crate::phase::{Asked, Phase};
-use crate::place::CLIENT;
 use crate::touched::Touched;
 use crate::transaction::Transaction;
-use sig_core::{AbortCause, Body, ClientSignal, Key, Outs, TxId, View};
+use sig_core::{AbortCause, Body, CLIENT, ClientSignal, Key, Outs, TxId, View};
 
 impl Transaction {
     /// An operation is refused: the transaction is aborted. While it is, the operation's key is

@@ -1,6 +1,6 @@
-//! Chains: the replicas of a key, the primary first.
+//! The replicas of a key.
 ghost use Rattle.std.specs.Prelude.{◌≡◌};
-ghost use Rattle.tc_block.specs.Chain.{chain_of, last_place, node_at, primary_of};
+ghost use Rattle.tc_block.specs.Chain.{chain_of};
 
 use sig_core::{Key, Members, View};
 
@@ -11,35 +11,4 @@ pub fn chain_of(view: &View, _key: &Key) -> Members
     ensures { result ≡ chain_of view.now _key.now }
 {
     view.full
-}
-
-/// The primary of a chain, alone.
-pub fn primary_of(chain: &Members) -> Members
-    ensures { result ≡ primary_of chain.now }
-{
-    match chain.as_slice().first().copied() {
-        Some(member) => {
-            let mut primary = Members::new();
-            primary.push(member);
-            primary
-        }
-        None => Members::new(),
-    }
-}
-
-/// The node at a place of a chain. 0, which has no rows, where the chain has no such place.
-pub fn node_at(chain: &Members, at: usize) -> u8
-    ensures { result ≡ node_at chain.now at }
-{
-    match chain.as_slice().get(at).copied() {
-        Some(member) => member.node,
-        None => 0,
-    }
-}
-
-/// The last place of a chain.
-pub fn last_place(chain: &Members) -> u8
-    ensures { result ≡ last_place chain.now }
-{
-    chain.as_slice().len().saturating_sub(1) as u8
 }

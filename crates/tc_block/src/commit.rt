@@ -4,9 +4,8 @@ ghost use Rattle.sig_core.specs.Step.{HasRoom, IsTaken, IsUntouched};
 ghost use Rattle.tc_block.specs.Commit.{commit_if, commit_row, committed_row, decide_row};
 
 use crate::phase::Phase;
-use crate::place::epochs;
 use crate::transaction::Transaction;
-use sig_core::{Body, EpochSignal, NoMemory, Outs, Seq, TxId, View};
+use sig_core::{Body, EpochSignal, NoMemory, Outs, Seq, TxId, View, epochs};
 use std::alloc::Global;
 
 impl Transaction {

@@ -5,10 +5,9 @@ ghost use Rattle.tc_block.specs.Complete.{all_committed, completed_row, one_if, 
 ghost use Rattle.tc_block.specs.Sends.{verify_end};
 
 use crate::phase::Phase;
-use crate::place::{CLIENT, epochs};
 use crate::touched::Touched;
 use crate::transaction::Transaction;
-use sig_core::{Body, ClientSignal, EpochSignal, Outs, TxId, View};
+use sig_core::{Body, CLIENT, ClientSignal, EpochSignal, Outs, TxId, View, epochs};
 
 impl Transaction {
     /// All keys are committed: tells the client, and completes what was written. Answers whether the

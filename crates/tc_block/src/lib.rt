@@ -7,7 +7,6 @@ mod commit;
 mod complete;
 mod part;
 mod phase;
-mod place;
 mod sends;
 mod tc;
 mod touched;

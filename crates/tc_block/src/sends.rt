@@ -6,12 +6,14 @@ ghost use Rattle.tc_block.specs.Part.{all_offered, part_effects, so_far};
 ghost use Rattle.tc_block.specs.Sends.{aborts_of, commit_of, complete_if, front_sends, key_sends, phase_sends, waits_of};
 ghost use Rattle.tc_block.specs.Turn.{sends_only};
 
-use crate::chain::{chain_of, last_place, node_at};
+use crate::chain::chain_of;
 use crate::part::{PART, Part};
 use crate::phase::Phase;
-use crate::place::{CLIENT, coordinator, rows_of};
 use crate::touched::Touched;
-use sig_core::{Body, ChainSignal, ClientSignal, HostSignal, Key, Members, Outs, TxId, View, Work};
+use sig_core::{
+    Body, CLIENT, ChainSignal, ClientSignal, HostSignal, Key, Members, Outs, TxId, View, Work,
+    coordinator, last_place, node_at, rows_of,
+};
 
 /// The most signals that a list of sends has: `Abort` for 64 keys, to eight replicas of each.
 pub const SENDS: u64 = 512;

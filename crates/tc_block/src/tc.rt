@@ -8,12 +8,11 @@ ghost use Rattle.tc_block.specs.Live.{place_in, step_of, turn_of, without};
 ghost use Rattle.tc_block.specs.Operate.{answer_row, operate_row, wait_row};
 ghost use Rattle.tc_block.specs.Sends.{go_on_row};
 
-use crate::place::CLIENT;
 use crate::transaction::Transaction;
 use indexmap::IndexMap;
 use sig_core::{
-    AbortCause, Actor, Answer, Body, ChainSignal, ClientSignal, EpochSignal, HostSignal, Key,
-    NoMemory, Op, Outs, Signal, TxId, View, Work,
+    AbortCause, Actor, Answer, Body, CLIENT, ChainSignal, ClientSignal, EpochSignal, HostSignal,
+    Key, NoMemory, Op, Outs, Signal, TxId, View, Work,
 };
 use std::alloc::Global;
 use std::marker::Model;

@@ -1,9 +1,9 @@
 //! The keys that a transaction has touched.
 ghost use Rattle.std.specs.Prelude.{◌≡◌, ◌≤◌, [], length, is_some, IsTrue, OnOk, OnErr};
-ghost use Rattle.tc_block.specs.Touched.{fits, is_on, place_of, same_key, touch, write};
+ghost use Rattle.sig_core.specs.Same.{same_key};
+ghost use Rattle.tc_block.specs.Touched.{fits, is_on, place_of, touch, write};
 
-use crate::chain::primary_of;
-use sig_core::{Key, Members, NoMemory};
+use sig_core::{Key, Members, NoMemory, primary_of};
 use std::alloc::Global;
 use std::marker::Model;
 

@@ -2,13 +2,13 @@
 ghost use Rattle.std.specs.Prelude.{◌≡◌, OnOk, OnErr};
 ghost use Rattle.sig_core.specs.Step.{HasRoom, IsTaken, IsUntouched};
 
-use crate::chain::{chain_of, node_at};
+use crate::chain::chain_of;
 use crate::phase::{Asked, Phase};
-use crate::place::{CLIENT, rows_of};
 use crate::sends::{SENDS, send_aborts, send_part, send_waits};
 use crate::touched::{TouchedKeys, same_key};
 use sig_core::{
-    Answer, Body, ChainSignal, ClientSignal, Key, NoMemory, Op, Outs, RowWork, Seq, TxId, View,
+    Answer, Body, CLIENT, ChainSignal, ClientSignal, Key, NoMemory, Op, Outs, RowWork, Seq, TxId,
+    View, node_at, rows_of,
 };
 use std::alloc::Global;
 

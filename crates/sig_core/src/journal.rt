@@ -1,0 +1,54 @@
+//! What a journal of redo records is.
+ghost use Rattle.std.specs.Prelude.{◌≡◌, ◌≢◌, ◌≤◌, ◌<◌, ◌^◌, ℕ, Err, OnOk};
+ghost use Rattle.sig_core.specs.declared.journal.JournalFault.TheVariants as fault;
+ghost use Rattle.sig_core.specs.Journal.{JournalState, Reserves, appending, unreserving};
+ghost use Rattle.sig_core.specs.Redo.{size_of};
+
+use crate::no_memory::NoMemory;
+use crate::redo::Redo;
+
+/// Why a journal keeps no bytes free.
+#[derive(Clone, Copy, Debug, PartialEq, Eq)]
+pub enum JournalFault {
+    /// It has 16,777,216 bytes; so many are used, so many reserved, and so many were asked for.
+    LogFull { used: u64, reserved: u64, need: u64 },
+    NoMemory,
+}
+
+/// A journal of redo records. Contracts see how many bytes it has used and how many it keeps free
+/// for records to come, both 0 at first.
+pub trait Journal {
+    /// What the journal is seen as.
+    ghost used_of: { Self → JournalState };
+
+    /// It has the memory to keep this many bytes more free.
+    ghost has_room: { Self → ℕ → Type 0 };
+
+    /// Makes the memory for so many bytes more, so that the next `reserve` of as many wants none.
+    ///
+    /// # Errors
+    /// `NoMemory`, and then the journal is as it was.
+    fn make_room(&mut self, need: u64) -> Result<(), NoMemory>
+        ensures ok { OnOk result (has_room self.new need) }
+        ensures same { used_of self.new ≡ used_of self.old };
+
+    /// Keeps so many bytes more free.
+    ///
+    /// # Errors
+    /// `LogFull` exactly where what is used, reserved and needed exceeds 16,777,216; `NoMemory`
+    /// where no room was made. Then the journal is as it was.
+    fn reserve(&mut self, need: u64) -> Result<(), JournalFault>
+        requires { need < 2 ^ 32 }
+        ensures answer { Reserves (used_of self.old) need (used_of self.new) result }
+        ensures room { has_room self.old need → result ≢ Err fault.NoMemory };
+
+    /// Appends a record, in bytes that were kept free. Takes no memory.
+    fn append(&mut self, redo: &Redo)
+        requires { size_of redo.now ≤ (used_of self.old).reserved }
+        ensures { used_of self.new ≡ appending (used_of self.old) (size_of redo.now) };
+
+    /// Keeps so many bytes fewer free.
+    fn unreserve(&mut self, bytes: u64)
+        requires { bytes ≤ (used_of self.old).reserved }
+        ensures { used_of self.new ≡ unreserving (used_of self.old) bytes };
+}
