@@ -1,5 +1,5 @@
 //! What the rows of a node are.
-ghost use Rattle.std.specs.Prelude.{◌≡◌, ◌≢◌, IsTrue, List, MatchOption, None, Some, Err, OnOk, OnErr, slice_index_or, ℕ};
+ghost use Rattle.std.specs.Prelude.{◌≡◌, ◌≢◌, IsTrue, List, ◌+◌, ◌<◌, ◌^◌, MatchOption, IfSome, None, Some, Err, OnOk, OnErr, slice_index_or, ℕ};
 ghost use Rattle.sig_core.specs.declared.rows.RowsFault.TheVariants as fault;
 ghost use Rattle.sig_core.specs.Op.{key_of};
 ghost use Rattle.sig_core.specs.Rows.{IsRowAt, Prepares, RowsState, Stores, abort_record, commit_record, complete_record, has_row, next_place, put_row, record_state, row_of, seen};
@@ -109,9 +109,10 @@ pub trait Rows {
     fn row(&self, key: &Key) -> Option<&Value>
         ensures { MatchOption result (row_of (state_of self.now) key.now ≡ None) (λ row. row_of (state_of self.now) key.now ≡ Some row.now) };
 
-    /// The least place at or above this one that has a row.
+    /// The least place at or above this one that has a row. Below the greatest `u64`.
     fn place_from(&self, at: u64) -> Option<u64>
-        ensures { result ≡ next_place (state_of self.now) at };
+        ensures place { result ≡ next_place (state_of self.now) at }
+        ensures small { IfSome result (λ place. place + 1 < 2 ^ 64) };
 
     /// The row at a place that has one.
     fn at_place(&self, at: u64) -> (&Key, &Value)
