@@ -1,0 +1,83 @@
+//! How transactions end, as far as the client is told.
+ghost use Rattle.std.specs.Prelude.{◌≡◌, ◌<◌, OnOk, OnErr, length};
+ghost use Rattle.sig_core.specs.Step.{HasRoom, IsTaken, IsUntouched};
+ghost use Rattle.api_block.specs.Outcome.{abort_report_row, commit_report_row, over, refuse_row};
+
+use crate::api::Api;
+use crate::members::{News, tell_everyone};
+use crate::opened::{place_beginning, place_of};
+use sig_core::{AbortCause, ApiReply, Mark, NoMemory, Outcome, Outs, Refusal, TxId};
+
+impl Api {
+    /// A coordinator begins no further transaction.
+    ///
+    /// # Errors
+    /// `NoMemory`, and then nothing has happened.
+    #[tactic(auto, unfolding(crate::specs::Outcome::refuse_row))]
+    pub fn refuse_begin(&mut self, name: Option<u16>) -> Result<(), NoMemory>
+        ensures ok { OnOk result (self.new ≡ (refuse_row self.old name).state) }
+        ensures err { OnErr result (self.new ≡ self.old) }
+    {
+        let Some(at) = place_beginning(self.opened.as_slice(), name) else {
+            return Ok(());
+        };
+        let refusal = Refusal::TooManyOpen;
+        self.end(at, ApiReply::Refused { name, refusal })
+    }
+
+    // The transaction at a place is over.
+    fn end(&mut self, at: usize, reply: ApiReply) -> Result<(), NoMemory>
+        requires { at < length self.old.opened }
+        ensures ok { OnOk result (self.new ≡ over self.old at reply) }
+        ensures err { OnErr result (self.new ≡ self.old) }
+    {
+        self.reply(reply)?;
+        self.opened.remove(at);
+        Ok(())
+    }
+
+    /// A transaction is committed: the client is told, and the rows of every member that it knows.
+    ///
+    /// # Errors
+    /// `NoMemory`, and then nothing has happened.
+    #[tactic(auto, unfolding(crate::specs::Outcome::commit_report_row))]
+    pub fn report_commit(&mut self, tx: TxId, epoch: u64, out: &mut Outs) -> Result<(), NoMemory>
+        requires { HasRoom out.old }
+        ensures ok { OnOk result (IsTaken (commit_report_row self.old tx epoch) self.new out.old out.new) }
+        ensures err { OnErr result (IsUntouched self.old self.new out.old out.new) }
+    {
+        if let Some(at) = place_of(self.opened.as_slice(), tx) {
+            let name = self.opened[at].name;
+            let outcome = Outcome::Committed(epoch);
+            self.end(at, ApiReply::Ended { name, outcome })?;
+            out.mark(Mark::Reported { tx, outcome });
+        }
+        tell_everyone(&self.view, News::Committed(tx), out);
+        Ok(())
+    }
+
+    /// A transaction is aborted: the client is told.
+    ///
+    /// # Errors
+    /// `NoMemory`, and then nothing has happened.
+    #[tactic(auto, unfolding(crate::specs::Outcome::abort_report_row))]
+    pub fn report_abort(
+        &mut self,
+        tx: TxId,
+        cause: AbortCause,
+        out: &mut Outs,
+    ) -> Result<(), NoMemory>
+        requires { HasRoom out.old }
+        ensures ok { OnOk result (IsTaken (abort_report_row self.old tx cause) self.new out.old out.new) }
+        ensures err { OnErr result (IsUntouched self.old self.new out.old out.new) }
+    {
+        let Some(at) = place_of(self.opened.as_slice(), tx) else {
+            return Ok(());
+        };
+        let name = self.opened[at].name;
+        let outcome = Outcome::Aborted(cause);
+        self.end(at, ApiReply::Ended { name, outcome })?;
+        out.mark(Mark::Reported { tx, outcome });
+        Ok(())
+    }
+}

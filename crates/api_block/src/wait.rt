@@ -1,0 +1,98 @@
+//! What the last command waits for.
+ghost use Rattle.std.specs.Prelude.{◌≡◌, OnOk, OnErr, Some};
+ghost use Rattle.sig_core.specs.Step.{HasRoom, IsTaken, IsUntouched};
+ghost use Rattle.api_block.specs.Wait.{behind_row, name_of, pending_by, pending_row, waits_row};
+
+use crate::api::Api;
+use crate::opened::{is_unanswered, place_of};
+use sig_core::{ApiReply, Body, ClientSignal, NoMemory, Outs, TxId, Waiting, coordinator_of};
+
+impl Api {
+    /// Asks for whom the last command waits, if it isn't answered.
+    #[tactic(auto, unfolding(crate::specs::Wait::waits_row))]
+    pub fn ask_wait(&mut self, out: &mut Outs)
+        requires { HasRoom out.old }
+        ensures { IsTaken (waits_row self.old) self.new out.old out.new }
+    {
+        let Some(at) = self.own_place() else {
+            return;
+        };
+        let t = &mut self.opened[at];
+        if !is_unanswered(&t.doing) {
+            return;
+        }
+        if let Some(tx) = t.tx {
+            t.ahead = None;
+            out.send(
+                coordinator_of(tx),
+                Body::Client(ClientSignal::TcWaitReq { tx }),
+            );
+        }
+    }
+
+    /// Notes the transaction that another waits for.
+    #[tactic(auto, unfolding(crate::specs::Wait::behind_row))]
+    pub fn note_wait(&mut self, tx: TxId, ahead: TxId)
+        ensures { self.new ≡ (behind_row self.old tx ahead).state }
+    {
+        if let Some(at) = place_of(self.opened.as_slice(), tx) {
+            self.opened[at].ahead = Some(ahead);
+        }
+    }
+
+    /// Replies for whom the last command waits, if it isn't answered and that is known. An
+    /// operation alone isn't waited for any longer: its transaction is aborted.
+    ///
+    /// # Errors
+    /// `NoMemory`, and then nothing has happened.
+    #[tactic(auto, unfolding(crate::specs::Wait::pending_row))]
+    pub fn tell_wait(&mut self, out: &mut Outs) -> Result<(), NoMemory>
+        requires { HasRoom out.old }
+        ensures ok { OnOk result (IsTaken (pending_row self.old) self.new out.old out.new) }
+        ensures err { OnErr result (IsUntouched self.old self.new out.old out.new) }
+    {
+        let Some(at) = self.own_place() else {
+            return Ok(());
+        };
+        let t = self.opened[at];
+        match (is_unanswered(&t.doing), t.ahead) {
+            (true, Some(ahead)) => self.tell_holder(self.name_of(ahead), t.name, t.tx, out),
+            _ => Ok(()),
+        }
+    }
+
+    // Replies that the transaction of this name waits for that of another.
+    fn tell_holder(
+        &mut self,
+        holder: Option<u16>,
+        name: Option<u16>,
+        tx: Option<TxId>,
+        out: &mut Outs,
+    ) -> Result<(), NoMemory>
+        requires { HasRoom out.old }
+        ensures ok { OnOk result (IsTaken (pending_by self.old holder name tx) self.new out.old out.new) }
+        ensures err { OnErr result (IsUntouched self.old self.new out.old out.new) }
+    {
+        self.reply(ApiReply::Pending {
+            name,
+            on: Waiting::HeldBy(holder),
+        })?;
+        if let (None, Some(tx)) = (name, tx) {
+            out.send(
+                coordinator_of(tx),
+                Body::Client(ClientSignal::TcRollbackReq { tx }),
+            );
+        }
+        Ok(())
+    }
+
+    // The name of a transaction; one that isn't known has none.
+    fn name_of(&self, tx: TxId) -> Option<u16>
+        ensures { result ≡ name_of self.now tx }
+    {
+        match place_of(self.opened.as_slice(), tx) {
+            Some(at) => self.opened[at].name,
+            None => None,
+        }
+    }
+}
