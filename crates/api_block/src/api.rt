@@ -3,6 +3,7 @@ ghost use Rattle.std.specs.Prelude.{◌≡◌, ◌<◌, length, IfOk, IfSome, fa
 ghost use Rattle.sig_core.specs.Step.{HasRoom, IsTaken, IsUntouched};
 
 use crate::dump::Dump;
+use crate::lists::push_back;
 use crate::opened::{OpenTransaction, is_unanswered, place_named};
 use sig_core::{
     Actor, ApiReply, ApiReq, Body, ClientSignal, HostSignal, NoMemory, Outs, Refusal, Signal, View,
@@ -128,8 +129,7 @@ impl Api {
         ensures ok { OnOk result (self.new ≡ replied self.old (reply ∷ [])) }
         ensures err { OnErr result (self.new ≡ self.old) }
     {
-        self.replies.push_back(reply)?;
-        Ok(())
+        push_back(&mut self.replies, reply)
     }
 
     /// Refuses a request.

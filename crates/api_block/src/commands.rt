@@ -5,6 +5,7 @@ ghost use Rattle.api_block.specs.Commands.{abort_row, begin_row, beginning, comm
 
 use crate::api::Api;
 use crate::dump::Dump;
+use crate::lists::push;
 use crate::members::{News, is_full, least_node, tell_everyone};
 use crate::opened::{Doing, OpenTransaction, place_named};
 use sig_core::{
@@ -51,7 +52,7 @@ impl Api {
         ensures ok { OnOk result (IsTaken (beginning self.old name node op.now) self.new out.old out.new) }
         ensures err { OnErr result (IsUntouched self.old self.new out.old out.new) }
     {
-        self.opened.push(OpenTransaction::new(name, node, op))?;
+        push(&mut self.opened, OpenTransaction::new(name, node, op))?;
         self.own = Some(name);
         out.send(
             coordinator(node),

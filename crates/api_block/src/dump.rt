@@ -1,18 +1,17 @@
 //! Dumps: the rows of a node, as they come.
-ghost use Rattle.std.specs.Prelude.{◌≡◌, ◌++◌, ℕ, List, false, OnOk, OnErr};
+ghost use Rattle.std.specs.Prelude.{◌≡◌, ◌++◌, ℕ, List, map, IfOk, OnOk, OnErr};
 ghost use Rattle.std.specs.List.{flat_map};
 ghost use Rattle.sha2.specs.Hashers.{Holds256};
 ghost use Rattle.sha2.specs.Sha256.{sha256};
 ghost use Rattle.sig_core.specs.Step.{HasRoom, IsTaken, IsUntouched};
 ghost use Rattle.api_block.specs.Dump.{begun_dump, dump_replies, dumped_row, line_of, row_reply};
-ghost use Rattle.api_block.specs.State.{replied};
 
 use crate::api::Api;
 use crate::gathered::GatheredRows;
+use crate::lists::{append, push};
 use sha2::{Digest, Sha256};
 use sig_core::{ApiReply, Body, ClientSignal, Key, NoMemory, Outs, Value, rows_of};
 use std::alloc::Global;
-use std::collections::VecDeque;
 
 /// A dump that is under way.
 #[derive(Drop)]
@@ -67,46 +66,46 @@ impl Api {
             None => {
                 let (node, digest) = (dump.node, dump.digest);
                 let all = dump.rows.with_last(alloc, rows)?;
-                self.reply_dump(node, digest, all.as_slice())?;
+                append(
+                    &mut self.replies,
+                    dump_replies(alloc, node, digest, all.as_slice())?,
+                )?;
                 self.dump = None;
             }
         }
         Ok(())
     }
-
-    // Replies the rows of a node, or their digest.
-    #[tactic(auto, unfolding(crate::specs::Dump::dump_replies))]
-    fn reply_dump(&mut self, node: u8, digest: bool, rows: &[(Key, Value)]) -> Result<(), NoMemory>
-        ensures ok { OnOk result (self.new ≡ replied self.old (dump_replies node digest rows.now)) }
-        ensures err { OnErr result (self.new ≡ self.old) }
-    {
-        if digest {
-            let digest = digest_of(rows);
-            self.reply(ApiReply::Digest { node, digest })
-        } else {
-            add_rows(&mut self.replies, node, rows)
-        }
-    }
 }
 
-// Adds a reply for each row, and one that says how many they are.
+// What a dump that is over replies: the digest of its rows, or the rows and how many there are.
 #[tactic(auto, unfolding(crate::specs::Dump::dump_replies))]
-fn add_rows(
-    replies: &mut VecDeque<ApiReply>,
+fn dump_replies(
+    alloc: Global,
     node: u8,
+    digest: bool,
     rows: &[(Key, Value)],
-) -> Result<(), NoMemory>
-    ensures ok { OnOk result (replies.new.items ≡ replies.old.items ++ dump_replies node false rows.now) }
-    ensures err { OnErr result (replies.new.items ≡ replies.old.items) }
+) -> Result<Vec<ApiReply>, NoMemory>
+    ensures { IfOk result (λ replies. replies.items ≡ dump_replies node digest rows.now) }
 {
-    replies.reserve(rows.len() + 1)?;
-    for row in rows {
-        replies.push_back_reserved(row_reply(row));
+    let mut replies = Vec::new(alloc);
+    if digest {
+        let digest = digest_of(rows);
+        push(&mut replies, ApiReply::Digest { node, digest })?;
+    } else {
+        add_rows(&mut replies, rows)?;
+        let count = rows.len() as u64;
+        push(&mut replies, ApiReply::Rows { node, count })?;
     }
-    replies.push_back_reserved(ApiReply::Rows {
-        node,
-        count: rows.len() as u64,
-    });
+    Ok(replies)
+}
+
+// Adds a reply for each row.
+fn add_rows(replies: &mut Vec<ApiReply>, rows: &[(Key, Value)]) -> Result<(), NoMemory>
+    ensures { OnOk result (replies.new.items ≡ replies.old.items ++ map row_reply rows.now) }
+{
+    for row in rows {
+        push(replies, row_reply(row))?;
+    }
     Ok(())
 }
 

@@ -6,6 +6,7 @@ mod api;
 mod commands;
 mod dump;
 mod gathered;
+mod lists;
 mod members;
 mod opened;
 mod operate;
