@@ -36,8 +36,8 @@ begin_at s name node true = beginning s (Some name) node None
 begin_at s name node false = refused s (Some name) (NoMember node)
 
 abbrev pub begin_if : ApiState → ℕ → Option ℕ → Bool → Step ApiState
-begin_if s name node true = refused s (Some name) IsOpen
-begin_if s name node false = begin_at s name (node_for s.view node) (is_full s.view (node_for s.view node))
+begin_if s name at true = refused s (Some name) IsOpen
+begin_if s name at false = begin_at s name (node_for s.view at) (is_full s.view (node_for s.view at))
 
 -- a transaction with a name is to begin
 unfoldable pub begin_row : ApiState → ℕ → Option ℕ → Step ApiState

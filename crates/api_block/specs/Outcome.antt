@@ -12,7 +12,6 @@ use Rattle.sig_core.specs.declared.reply.ApiReply.TheVariants.{Ended, Refused}
 use Rattle.sig_core.specs.declared.reply.Refusal.TheVariants.{TooManyOpen}
 use Rattle.sig_core.specs.Step.{Step, stay}
 use Rattle.api_block.specs.declared.members.News.TheVariants as news
-use Rattle.api_block.specs.declared.opened.OpenTransaction.{OpenTransaction}
 use Rattle.api_block.specs.Members.{everyone, telling_all}
 use Rattle.api_block.specs.Opened.{begins, place_of, where_at}
 use Rattle.api_block.specs.State.{ApiState, replied, with_opened}
@@ -26,9 +25,9 @@ unfoldable pub refuse_row : ApiState → Option ℕ → Step ApiState
 refuse_row s name = where_at s.opened (stay s) (λ at t. stay (over s at (Refused name TooManyOpen))) (position (begins name) s.opened)
 
 -- the transaction has this outcome, and these signals are sent
-abbrev pub ending : ApiState → TxId → Outcome → List Outgoing → ℕ → OpenTransaction → Step ApiState
-ending s tx outcome sends at t =
-    record { state = over s at (Ended t.name outcome); effects = record { sends = sends; marks = Reported tx outcome ∷ [] } }
+abbrev pub ending : ApiState → TxId → Outcome → List Outgoing → ℕ → Option ℕ → Step ApiState
+ending s tx outcome sends at name =
+    record { state = over s at (Ended name outcome); effects = record { sends = sends; marks = Reported tx outcome ∷ [] } }
 
 abbrev pub unknown : ApiState → List Outgoing → Step ApiState
 unknown s sends = record { state = s; effects = record { sends = sends; marks = [] } }
@@ -39,7 +38,7 @@ acknowledging s tx = telling_all (news.Committed tx) (everyone s.view)
 
 unfoldable pub commit_report_row : ApiState → TxId → ℕ → Step ApiState
 commit_report_row s tx epoch =
-    where_at s.opened (unknown s (acknowledging s tx)) (ending s tx (Committed epoch) (acknowledging s tx)) (place_of s tx)
+    where_at s.opened (unknown s (acknowledging s tx)) (λ at t. ending s tx (Committed epoch) (acknowledging s tx) at t.name) (place_of s tx)
 
 unfoldable pub abort_report_row : ApiState → TxId → AbortCause → Step ApiState
-abort_report_row s tx cause = where_at s.opened (stay s) (ending s tx (Aborted cause) []) (place_of s tx)
+abort_report_row s tx cause = where_at s.opened (stay s) (λ at t. ending s tx (Aborted cause) [] at t.name) (place_of s tx)

@@ -6,8 +6,8 @@ use crate::dump::Dump;
 use crate::lists::push_back;
 use crate::opened::{OpenTransaction, is_unanswered, place_named};
 use sig_core::{
-    Actor, ApiReply, ApiReq, Body, ClientSignal, HostSignal, NoMemory, Outs, Refusal, Signal, View,
-    Work,
+    Actor, Answer, ApiReply, ApiReq, Body, ClientSignal, HostSignal, NoMemory, Outs, Refusal,
+    Signal, View, Work,
 };
 use std::alloc::Global;
 use std::collections::VecDeque;
@@ -129,6 +129,8 @@ impl Api {
         ensures ok { OnOk result (self.new ≡ replied self.old (reply ∷ [])) }
         ensures err { OnErr result (self.new ≡ self.old) }
     {
+        // The check wants to hear of this type, which a reply may hold, before it follows one.
+        let _unused: Option<Answer> = None;
         push_back(&mut self.replies, reply)
     }
 

@@ -1,7 +1,7 @@
 //! The commands that open, end and look at transactions and rows.
-ghost use Rattle.std.specs.Prelude.{◌≡◌, OnOk, OnErr, Some, []};
+ghost use Rattle.std.specs.Prelude.{◌≡◌, ◌<◌, length, OnOk, OnErr};
 ghost use Rattle.sig_core.specs.Step.{HasRoom, IsTaken, IsUntouched};
-ghost use Rattle.api_block.specs.Commands.{abort_row, begin_row, beginning, commit_row, dump_row, node_for, tick_row};
+ghost use Rattle.api_block.specs.Commands.{abort_by, abort_row, begin_row, beginning, commit_by, commit_row, dump_row, node_for, tick_row};
 
 use crate::api::Api;
 use crate::dump::Dump;
@@ -9,8 +9,8 @@ use crate::lists::push;
 use crate::members::{News, is_full, least_node, tell_everyone};
 use crate::opened::{Doing, OpenTransaction, place_named};
 use sig_core::{
-    ApiReply, Body, ClientSignal, NoMemory, Op, Outs, Refusal, View, coordinator, coordinator_of,
-    rows_of,
+    ApiReply, Body, ClientSignal, NoMemory, Op, Outs, Refusal, TxId, View, coordinator,
+    coordinator_of, rows_of,
 };
 use std::alloc::Global;
 
@@ -52,7 +52,17 @@ impl Api {
         ensures ok { OnOk result (IsTaken (beginning self.old name node op.now) self.new out.old out.new) }
         ensures err { OnErr result (IsUntouched self.old self.new out.old out.new) }
     {
-        push(&mut self.opened, OpenTransaction::new(name, node, op))?;
+        push(
+            &mut self.opened,
+            OpenTransaction {
+                name,
+                node,
+                tx: None,
+                operations: 0,
+                doing: Doing::Beginning(*op),
+                ahead: None,
+            },
+        )?;
         self.own = Some(name);
         out.send(
             coordinator(node),
@@ -71,13 +81,31 @@ impl Api {
         ensures ok { OnOk result (IsTaken (commit_row self.old name) self.new out.old out.new) }
         ensures err { OnErr result (IsUntouched self.old self.new out.old out.new) }
     {
-        let Some(at) = place_named(self.opened.as_slice(), Some(name)) else {
-            return self.refuse(Some(name), Refusal::NotOpen);
-        };
-        let t = &mut self.opened[at];
+        match place_named(self.opened.as_slice(), Some(name)) {
+            Some(at) => {
+                let t = self.opened[at];
+                self.commit_at(name, at, &t, out)
+            }
+            None => self.refuse(Some(name), Refusal::NotOpen),
+        }
+    }
+
+    // The transaction at a place is to commit.
+    fn commit_at(
+        &mut self,
+        name: u16,
+        at: usize,
+        t: &OpenTransaction,
+        out: &mut Outs,
+    ) -> Result<(), NoMemory>
+        requires place { at < length self.old.opened }
+        requires room { HasRoom out.old }
+        ensures ok { OnOk result (IsTaken (commit_by self.old name at t.now t.now.doing t.now.tx) self.new out.old out.new) }
+        ensures err { OnErr result (IsUntouched self.old self.new out.old out.new) }
+    {
         match (&t.doing, t.tx) {
             (Doing::Ready, Some(tx)) => {
-                t.doing = Doing::Committing;
+                self.opened[at] = t.committing();
                 self.own = Some(Some(name));
                 out.send(
                     coordinator_of(tx),
@@ -99,18 +127,32 @@ impl Api {
         ensures ok { OnOk result (IsTaken (abort_row self.old name) self.new out.old out.new) }
         ensures err { OnErr result (IsUntouched self.old self.new out.old out.new) }
     {
-        let Some(at) = place_named(self.opened.as_slice(), Some(name)) else {
-            return self.refuse(Some(name), Refusal::NotOpen);
-        };
-        let Some(tx) = self.opened[at].tx else {
-            return self.refuse(Some(name), Refusal::Busy);
-        };
-        self.own = Some(Some(name));
-        out.send(
-            coordinator_of(tx),
-            Body::Client(ClientSignal::TcRollbackReq { tx }),
-        );
-        Ok(())
+        match place_named(self.opened.as_slice(), Some(name)) {
+            Some(at) => {
+                let tx = self.opened[at].tx;
+                self.abort_tx(name, tx, out)
+            }
+            None => self.refuse(Some(name), Refusal::NotOpen),
+        }
+    }
+
+    // What was begun for a name is to be aborted.
+    fn abort_tx(&mut self, name: u16, tx: Option<TxId>, out: &mut Outs) -> Result<(), NoMemory>
+        requires { HasRoom out.old }
+        ensures ok { OnOk result (IsTaken (abort_by self.old name tx) self.new out.old out.new) }
+        ensures err { OnErr result (IsUntouched self.old self.new out.old out.new) }
+    {
+        match tx {
+            Some(tx) => {
+                self.own = Some(Some(name));
+                out.send(
+                    coordinator_of(tx),
+                    Body::Client(ClientSignal::TcRollbackReq { tx }),
+                );
+                Ok(())
+            }
+            None => self.refuse(Some(name), Refusal::Busy),
+        }
     }
 
     /// A round of time has passed for the cluster; the last of those of a command is replied.

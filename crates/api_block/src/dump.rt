@@ -1,16 +1,17 @@
 //! Dumps: the rows of a node, as they come.
-ghost use Rattle.std.specs.Prelude.{◌≡◌, ◌++◌, ℕ, List, map, IfOk, OnOk, OnErr};
+ghost use Rattle.std.specs.Prelude.{◌≡◌, ◌++◌, ℕ, List, false, IfOk, OnOk, OnErr};
 ghost use Rattle.std.specs.List.{flat_map};
 ghost use Rattle.sha2.specs.Hashers.{Holds256};
 ghost use Rattle.sha2.specs.Sha256.{sha256};
 ghost use Rattle.sig_core.specs.Step.{HasRoom, IsTaken, IsUntouched};
-ghost use Rattle.api_block.specs.Dump.{begun_dump, dump_replies, dumped_row, line_of, row_reply};
+ghost use Rattle.api_block.specs.State.{replied};
+ghost use Rattle.api_block.specs.Dump.{begun_dump, dump_replies, dumped_by, dumped_row, line_of, row_reply};
 
 use crate::api::Api;
 use crate::gathered::GatheredRows;
 use crate::lists::{append, push};
 use sha2::{Digest, Sha256};
-use sig_core::{ApiReply, Body, ClientSignal, Key, NoMemory, Outs, Value, rows_of};
+use sig_core::{Answer, ApiReply, Body, ClientSignal, Key, NoMemory, Outs, Value, rows_of};
 use std::alloc::Global;
 
 /// A dump that is under way.
@@ -52,61 +53,85 @@ impl Api {
         ensures ok { OnOk result (IsTaken (dumped_row self.old rows.now next) self.new out.old out.new) }
         ensures err { OnErr result (IsUntouched self.old self.new out.old out.new) }
     {
-        let Some(dump) = &mut self.dump else {
+        match next {
+            Some(at) => self.gather_part(rows, at, out),
+            None => self.end_dump(alloc, rows),
+        }
+    }
+
+    // Some rows that aren't the last ones.
+    fn gather_part(
+        &mut self,
+        rows: &[(Key, Value)],
+        at: u64,
+        out: &mut Outs,
+    ) -> Result<(), NoMemory>
+        requires { HasRoom out.old }
+        ensures ok { OnOk result (IsTaken (dumped_by self.old rows.now (Some at) self.old.dump) self.new out.old out.new) }
+        ensures err { OnErr result (IsUntouched self.old self.new out.old out.new) }
+    {
+        let Some(mut dump) = self.dump.take() else {
             return Ok(());
         };
-        match next {
-            Some(at) => {
-                dump.rows.join(rows)?;
-                out.send(
-                    rows_of(dump.node),
-                    Body::Client(ClientSignal::DumpReq { at }),
-                );
-            }
-            None => {
-                let (node, digest) = (dump.node, dump.digest);
-                let all = dump.rows.with_last(alloc, rows)?;
-                append(
-                    &mut self.replies,
-                    dump_replies(alloc, node, digest, all.as_slice())?,
-                )?;
-                self.dump = None;
-            }
-        }
+        let node = dump.node;
+        let joined = dump.rows.join(rows);
+        self.dump = Some(dump);
+        joined?;
+        out.send(rows_of(node), Body::Client(ClientSignal::DumpReq { at }));
         Ok(())
     }
+
+    // The last rows of a dump.
+    fn end_dump(&mut self, alloc: Global, rows: &[(Key, Value)]) -> Result<(), NoMemory>
+        ensures ok { OnOk result (self.new ≡ (dumped_by self.old rows.now None self.old.dump).state) }
+        ensures err { OnErr result (self.new ≡ self.old) }
+    {
+        let Some(dump) = &self.dump else {
+            return Ok(());
+        };
+        let (node, digest) = (dump.node, dump.digest);
+        let all = dump.rows.with_last(alloc, rows)?;
+        self.reply_dump(alloc, node, digest, all.as_slice())?;
+        self.dump = None;
+        Ok(())
+    }
+
+    // Replies the rows of a dump that is over, or their digest.
+    #[tactic(auto, unfolding(crate::specs::Dump::dump_replies))]
+    fn reply_dump(
+        &mut self,
+        alloc: Global,
+        node: u8,
+        digest: bool,
+        rows: &[(Key, Value)],
+    ) -> Result<(), NoMemory>
+        ensures ok { OnOk result (self.new ≡ replied self.old (dump_replies node digest rows.now)) }
+        ensures err { OnErr result (self.new ≡ self.old) }
+    {
+        if digest {
+            let digest = digest_of(rows);
+            self.reply(ApiReply::Digest { node, digest })
+        } else {
+            let replies = row_replies(alloc, node, rows)?;
+            append(&mut self.replies, replies)
+        }
+    }
 }
 
-// What a dump that is over replies: the digest of its rows, or the rows and how many there are.
+// A reply for each row, and one that says how many they are.
 #[tactic(auto, unfolding(crate::specs::Dump::dump_replies))]
-fn dump_replies(
-    alloc: Global,
-    node: u8,
-    digest: bool,
-    rows: &[(Key, Value)],
-) -> Result<Vec<ApiReply>, NoMemory>
-    ensures { IfOk result (λ replies. replies.items ≡ dump_replies node digest rows.now) }
+fn row_replies(alloc: Global, node: u8, rows: &[(Key, Value)]) -> Result<Vec<ApiReply>, NoMemory>
+    ensures { IfOk result (λ replies. replies.items ≡ dump_replies node false rows.now) }
 {
+    // The check wants to hear of this type, which a reply may hold, before it follows one.
+    let _unused: Option<Answer> = None;
     let mut replies = Vec::new(alloc);
-    if digest {
-        let digest = digest_of(rows);
-        push(&mut replies, ApiReply::Digest { node, digest })?;
-    } else {
-        add_rows(&mut replies, rows)?;
-        let count = rows.len() as u64;
-        push(&mut replies, ApiReply::Rows { node, count })?;
-    }
-    Ok(replies)
-}
-
-// Adds a reply for each row.
-fn add_rows(replies: &mut Vec<ApiReply>, rows: &[(Key, Value)]) -> Result<(), NoMemory>
-    ensures { OnOk result (replies.new.items ≡ replies.old.items ++ map row_reply rows.now) }
-{
     for row in rows {
-        push(replies, row_reply(row))?;
+        push(&mut replies, row_reply(row))?;
     }
-    Ok(())
+    let count = rows.len() as u64;
+    push(&mut replies, ApiReply::Rows { node, count })?;
+    Ok(replies)
 }
 
 fn row_reply(row: &(Key, Value)) -> ApiReply

@@ -1,6 +1,7 @@
 //! Transactions that were asked for and whose end isn't reported.
 ghost use Rattle.std.specs.Prelude.{◌≡◌, ◌<◌, position, length, IfSome};
-ghost use Rattle.api_block.specs.Opened.{asked_for, begins, begins_at, has_tx, is_beginning, is_named, is_tx, is_unanswered, same_name};
+ghost use Rattle.api_block.specs.declared.opened.Doing.TheVariants.{Ready, Committing};
+ghost use Rattle.api_block.specs.Opened.{answered, begins, begins_at, begun, begun_operating, behind, committing, has_tx, is_beginning, is_named, is_tx, is_unanswered, operating, same_name};
 
 use sig_core::{Op, TxId};
 
@@ -34,19 +35,79 @@ pub struct OpenTransaction {
 }
 
 impl OpenTransaction {
-    /// A transaction that is asked for, with the operation that it is to perform where it has no
-    /// name.
-    pub fn new(name: Option<u16>, node: u8, op: &Option<Op>) -> OpenTransaction
-        ensures { result ≡ asked_for name node op.now }
+    /// It takes commands.
+    pub fn begun(&self, tx: TxId) -> OpenTransaction
+        ensures { result ≡ begun self.now tx }
     {
         OpenTransaction {
-            name,
-            node,
-            tx: None,
-            operations: 0,
-            doing: Doing::Beginning(*op),
-            ahead: None,
+            tx: Some(tx),
+            doing: Doing::Ready,
+            ..*self
         }
+    }
+
+    /// It performs the operation that it was asked for with.
+    pub fn begun_operating(&self, tx: TxId) -> OpenTransaction
+        ensures { result ≡ begun_operating self.now tx }
+    {
+        OpenTransaction {
+            tx: Some(tx),
+            operations: 1,
+            doing: Doing::Operating,
+            ..*self
+        }
+    }
+
+    /// It performs one more operation.
+    pub fn operating(&self) -> OpenTransaction
+        requires { self.now.operations < 64 }
+        ensures { result ≡ operating self.now }
+    {
+        OpenTransaction {
+            operations: self.operations + 1,
+            doing: Doing::Operating,
+            ahead: None,
+            ..*self
+        }
+    }
+
+    /// Its operation is answered, and it takes commands again.
+    pub fn ready(&self) -> OpenTransaction
+        ensures { result ≡ answered self.now Ready }
+    {
+        OpenTransaction {
+            doing: Doing::Ready,
+            ahead: None,
+            ..*self
+        }
+    }
+
+    /// Its operation is answered, and it commits.
+    pub fn ready_to_commit(&self) -> OpenTransaction
+        ensures { result ≡ answered self.now Committing }
+    {
+        OpenTransaction {
+            doing: Doing::Committing,
+            ahead: None,
+            ..*self
+        }
+    }
+
+    /// Its commit is asked for.
+    pub fn committing(&self) -> OpenTransaction
+        ensures { result ≡ committing self.now }
+    {
+        OpenTransaction {
+            doing: Doing::Committing,
+            ..*self
+        }
+    }
+
+    /// It waits for that transaction, or it isn't known for which.
+    pub fn behind(&self, ahead: Option<TxId>) -> OpenTransaction
+        ensures { result ≡ behind self.now ahead }
+    {
+        OpenTransaction { ahead, ..*self }
     }
 }
 

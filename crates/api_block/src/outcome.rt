@@ -1,7 +1,7 @@
 //! How transactions end, as far as the client is told.
-ghost use Rattle.std.specs.Prelude.{◌≡◌, ◌<◌, OnOk, OnErr, length};
+ghost use Rattle.std.specs.Prelude.{◌≡◌, ◌<◌, [], OnOk, OnErr, length};
 ghost use Rattle.sig_core.specs.Step.{HasRoom, IsTaken, IsUntouched};
-ghost use Rattle.api_block.specs.Outcome.{abort_report_row, commit_report_row, over, refuse_row};
+ghost use Rattle.api_block.specs.Outcome.{abort_report_row, commit_report_row, ending, over, refuse_row};
 
 use crate::api::Api;
 use crate::members::{News, tell_everyone};
@@ -18,11 +18,13 @@ impl Api {
         ensures ok { OnOk result (self.new ≡ (refuse_row self.old name).state) }
         ensures err { OnErr result (self.new ≡ self.old) }
     {
-        let Some(at) = place_beginning(self.opened.as_slice(), name) else {
-            return Ok(());
-        };
-        let refusal = Refusal::TooManyOpen;
-        self.end(at, ApiReply::Refused { name, refusal })
+        match place_beginning(self.opened.as_slice(), name) {
+            Some(at) => {
+                let refusal = Refusal::TooManyOpen;
+                self.end(at, ApiReply::Refused { name, refusal })
+            }
+            None => Ok(()),
+        }
     }
 
     // The transaction at a place is over.
@@ -33,6 +35,25 @@ impl Api {
     {
         self.reply(reply)?;
         self.opened.remove(at);
+        Ok(())
+    }
+
+    // The transaction at a place has this outcome.
+    fn report(
+        &mut self,
+        tx: TxId,
+        outcome: Outcome,
+        at: usize,
+        name: Option<u16>,
+        out: &mut Outs,
+    ) -> Result<(), NoMemory>
+        requires place { at < length self.old.opened }
+        requires room { HasRoom out.old }
+        ensures ok { OnOk result (IsTaken (ending self.old tx outcome [] at name) self.new out.old out.new) }
+        ensures err { OnErr result (IsUntouched self.old self.new out.old out.new) }
+    {
+        self.end(at, ApiReply::Ended { name, outcome })?;
+        out.mark(Mark::Reported { tx, outcome });
         Ok(())
     }
 
@@ -48,9 +69,7 @@ impl Api {
     {
         if let Some(at) = place_of(self.opened.as_slice(), tx) {
             let name = self.opened[at].name;
-            let outcome = Outcome::Committed(epoch);
-            self.end(at, ApiReply::Ended { name, outcome })?;
-            out.mark(Mark::Reported { tx, outcome });
+            self.report(tx, Outcome::Committed(epoch), at, name, out)?;
         }
         tell_everyone(&self.view, News::Committed(tx), out);
         Ok(())
@@ -71,13 +90,12 @@ impl Api {
         ensures ok { OnOk result (IsTaken (abort_report_row self.old tx cause) self.new out.old out.new) }
         ensures err { OnErr result (IsUntouched self.old self.new out.old out.new) }
     {
-        let Some(at) = place_of(self.opened.as_slice(), tx) else {
-            return Ok(());
-        };
-        let name = self.opened[at].name;
-        let outcome = Outcome::Aborted(cause);
-        self.end(at, ApiReply::Ended { name, outcome })?;
-        out.mark(Mark::Reported { tx, outcome });
-        Ok(())
+        match place_of(self.opened.as_slice(), tx) {
+            Some(at) => {
+                let name = self.opened[at].name;
+                self.report(tx, Outcome::Aborted(cause), at, name, out)
+            }
+            None => Ok(()),
+        }
     }
 }

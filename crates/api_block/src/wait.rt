@@ -1,10 +1,11 @@
 //! What the last command waits for.
-ghost use Rattle.std.specs.Prelude.{◌≡◌, OnOk, OnErr, Some};
+ghost use Rattle.std.specs.Prelude.{◌≡◌, ◌<◌, length, OnOk, OnErr};
+ghost use Rattle.api_block.specs.Opened.{is_unanswered};
 ghost use Rattle.sig_core.specs.Step.{HasRoom, IsTaken, IsUntouched};
-ghost use Rattle.api_block.specs.Wait.{behind_row, name_of, pending_by, pending_row, waits_row};
+ghost use Rattle.api_block.specs.Wait.{behind_row, name_of, pending_by, pending_if, pending_row, waits_if, waits_row};
 
 use crate::api::Api;
-use crate::opened::{is_unanswered, place_of};
+use crate::opened::{OpenTransaction, is_unanswered, place_of};
 use sig_core::{ApiReply, Body, ClientSignal, NoMemory, Outs, TxId, Waiting, coordinator_of};
 
 impl Api {
@@ -14,15 +15,20 @@ impl Api {
         requires { HasRoom out.old }
         ensures { IsTaken (waits_row self.old) self.new out.old out.new }
     {
-        let Some(at) = self.own_place() else {
-            return;
-        };
-        let t = &mut self.opened[at];
-        if !is_unanswered(&t.doing) {
-            return;
+        if let Some(at) = self.own_place() {
+            let t = self.opened[at];
+            self.ask_wait_at(at, &t, out);
         }
-        if let Some(tx) = t.tx {
-            t.ahead = None;
+    }
+
+    // Asks for whom the transaction at a place waits.
+    fn ask_wait_at(&mut self, at: usize, t: &OpenTransaction, out: &mut Outs)
+        requires place { at < length self.old.opened }
+        requires room { HasRoom out.old }
+        ensures { IsTaken (waits_if self.old at t.now (is_unanswered t.now.doing) t.now.tx) self.new out.old out.new }
+    {
+        if let (true, Some(tx)) = (is_unanswered(&t.doing), t.tx) {
+            self.opened[at] = t.behind(None);
             out.send(
                 coordinator_of(tx),
                 Body::Client(ClientSignal::TcWaitReq { tx }),
@@ -36,7 +42,7 @@ impl Api {
         ensures { self.new ≡ (behind_row self.old tx ahead).state }
     {
         if let Some(at) = place_of(self.opened.as_slice(), tx) {
-            self.opened[at].ahead = Some(ahead);
+            self.opened[at] = self.opened[at].behind(Some(ahead));
         }
     }
 
@@ -51,10 +57,21 @@ impl Api {
         ensures ok { OnOk result (IsTaken (pending_row self.old) self.new out.old out.new) }
         ensures err { OnErr result (IsUntouched self.old self.new out.old out.new) }
     {
-        let Some(at) = self.own_place() else {
-            return Ok(());
-        };
-        let t = self.opened[at];
+        match self.own_place() {
+            Some(at) => {
+                let t = self.opened[at];
+                self.tell_wait_of(&t, out)
+            }
+            None => Ok(()),
+        }
+    }
+
+    // Replies for whom a transaction waits.
+    fn tell_wait_of(&mut self, t: &OpenTransaction, out: &mut Outs) -> Result<(), NoMemory>
+        requires { HasRoom out.old }
+        ensures ok { OnOk result (IsTaken (pending_if self.old t.now (is_unanswered t.now.doing) t.now.ahead) self.new out.old out.new) }
+        ensures err { OnErr result (IsUntouched self.old self.new out.old out.new) }
+    {
         match (is_unanswered(&t.doing), t.ahead) {
             (true, Some(ahead)) => self.tell_holder(self.name_of(ahead), t.name, t.tx, out),
             _ => Ok(()),
