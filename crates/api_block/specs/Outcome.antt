@@ -21,8 +21,8 @@ abbrev pub over : ApiState → ℕ → ApiReply → ApiState
 over s at reply = replied (with_opened s (remove s.opened at)) (reply ∷ [])
 
 -- the transaction doesn't begin
-unfoldable pub refuse_row : ApiState → Option ℕ → Step ApiState
-refuse_row s name = where_at s.opened (stay s) (λ at t. stay (over s at (Refused name TooManyOpen))) (position (begins name) s.opened)
+unfoldable pub refuse_row : ApiState → Option ℕ → ApiState
+refuse_row s name = where_at s.opened s (λ at t. over s at (Refused name TooManyOpen)) (position (begins name) s.opened)
 
 -- the transaction has this outcome, and these signals are sent
 abbrev pub ending : ApiState → TxId → Outcome → List Outgoing → ℕ → Option ℕ → Step ApiState

@@ -20,8 +20,8 @@ unfoldable pub waits_row : ApiState → Step ApiState
 waits_row s = where_at s.opened (stay s) (λ at t. waits_if s at t (is_unanswered t.doing) t.tx) (own_place s)
 
 -- the coordinator has told it
-unfoldable pub behind_row : ApiState → TxId → TxId → Step ApiState
-behind_row s tx ahead = where_at s.opened (stay s) (λ at t. stay (changing s at (behind t (Some ahead)))) (place_of s tx)
+unfoldable pub behind_row : ApiState → TxId → TxId → ApiState
+behind_row s tx ahead = where_at s.opened s (λ at t. changing s at (behind t (Some ahead))) (place_of s tx)
 
 -- the name of a transaction; one that isn't known has none
 abbrev pub name_of : ApiState → TxId → Option ℕ

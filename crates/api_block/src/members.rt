@@ -1,7 +1,7 @@
 //! The members of the view, and what they are told.
 ghost use Rattle.std.specs.Prelude.{◌≡◌, ◌+◌, ◌-◌, ◌≤◌, length, take};
 ghost use Rattle.std.specs.List.{list_any};
-ghost use Rattle.sig_core.specs.Step.{HasRoom, joined};
+ghost use Rattle.sig_core.specs.Step.{joined};
 ghost use Rattle.api_block.specs.Members.{everyone, is_at, is_full, least_from, least_node, lesser, news_body, telling_all};
 ghost use Rattle.api_block.specs.State.{sends_only};
 
@@ -63,7 +63,7 @@ fn lesser(least: u8, node: u8) -> u8
 /// Tells the rows of every full member, and then of every starting one, of at most 12 in all.
 #[tactic(auto, unfolding(crate::specs::Members::everyone), using(crate::proofs::MemberLemmas::told))]
 pub fn tell_everyone(view: &View, news: News, out: &mut Outs)
-    requires { HasRoom out.old }
+    requires { length out.old.sends + 12 ≤ 16 }
     ensures { out.new ≡ joined out.old (sends_only (telling_all news (everyone view.now))) }
 {
     let full = view.full.as_slice();

@@ -1,7 +1,8 @@
 //! How transactions end, as far as the client is told.
 ghost use Rattle.std.specs.Prelude.{◌≡◌, ◌<◌, [], OnOk, OnErr, length};
+ghost use Rattle.sig_core.specs.declared.outcome.Outcome.TheVariants.{Committed};
 ghost use Rattle.sig_core.specs.Step.{HasRoom, IsTaken, IsUntouched};
-ghost use Rattle.api_block.specs.Outcome.{abort_report_row, commit_report_row, ending, over, refuse_row};
+ghost use Rattle.api_block.specs.Outcome.{abort_report_row, acknowledging, commit_report_row, ending, over, refuse_row};
 
 use crate::api::Api;
 use crate::members::{News, tell_everyone};
@@ -15,7 +16,7 @@ impl Api {
     /// `NoMemory`, and then nothing has happened.
     #[tactic(auto, unfolding(crate::specs::Outcome::refuse_row))]
     pub fn refuse_begin(&mut self, name: Option<u16>) -> Result<(), NoMemory>
-        ensures ok { OnOk result (self.new ≡ (refuse_row self.old name).state) }
+        ensures ok { OnOk result (self.new ≡ refuse_row self.old name) }
         ensures err { OnErr result (self.new ≡ self.old) }
     {
         match place_beginning(self.opened.as_slice(), name) {
@@ -67,10 +68,33 @@ impl Api {
         ensures ok { OnOk result (IsTaken (commit_report_row self.old tx epoch) self.new out.old out.new) }
         ensures err { OnErr result (IsUntouched self.old self.new out.old out.new) }
     {
-        if let Some(at) = place_of(self.opened.as_slice(), tx) {
-            let name = self.opened[at].name;
-            self.report(tx, Outcome::Committed(epoch), at, name, out)?;
+        match place_of(self.opened.as_slice(), tx) {
+            Some(at) => {
+                let name = self.opened[at].name;
+                self.report_commit_at(tx, epoch, at, name, out)
+            }
+            None => {
+                tell_everyone(&self.view, News::Committed(tx), out);
+                Ok(())
+            }
         }
+    }
+
+    // The transaction at a place is committed.
+    fn report_commit_at(
+        &mut self,
+        tx: TxId,
+        epoch: u64,
+        at: usize,
+        name: Option<u16>,
+        out: &mut Outs,
+    ) -> Result<(), NoMemory>
+        requires place { at < length self.old.opened }
+        requires room { HasRoom out.old }
+        ensures ok { OnOk result (IsTaken (ending self.old tx (Committed epoch) (acknowledging self.old tx) at name) self.new out.old out.new) }
+        ensures err { OnErr result (IsUntouched self.old self.new out.old out.new) }
+    {
+        self.report(tx, Outcome::Committed(epoch), at, name, out)?;
         tell_everyone(&self.view, News::Committed(tx), out);
         Ok(())
     }

@@ -39,7 +39,7 @@ impl Api {
     /// Notes the transaction that another waits for.
     #[tactic(auto, unfolding(crate::specs::Wait::behind_row))]
     pub fn note_wait(&mut self, tx: TxId, ahead: TxId)
-        ensures { self.new ≡ (behind_row self.old tx ahead).state }
+        ensures { self.new ≡ behind_row self.old tx ahead }
     {
         if let Some(at) = place_of(self.opened.as_slice(), tx) {
             self.opened[at] = self.opened[at].behind(Some(ahead));
