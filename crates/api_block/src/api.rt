@@ -129,7 +129,8 @@ impl Api {
         ensures ok { OnOk result (self.new ≡ replied self.old (reply ∷ [])) }
         ensures err { OnErr result (self.new ≡ self.old) }
     {
-        // The check wants to hear of this type, which a reply may hold, before it follows one.
+        // It is only named: the check follows a reply into a list where it has heard of this type,
+        // which a reply may hold.
         let _unused: Option<Answer> = None;
         push_back(&mut self.replies, reply)
     }

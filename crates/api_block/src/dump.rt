@@ -123,7 +123,8 @@ impl Api {
 fn row_replies(alloc: Global, node: u8, rows: &[(Key, Value)]) -> Result<Vec<ApiReply>, NoMemory>
     ensures { IfOk result (λ replies. replies.items ≡ dump_replies node false rows.now) }
 {
-    // The check wants to hear of this type, which a reply may hold, before it follows one.
+    // It is only named: the check follows a reply into a list where it has heard of this type,
+    // which a reply may hold.
     let _unused: Option<Answer> = None;
     let mut replies = Vec::new(alloc);
     for row in rows {
