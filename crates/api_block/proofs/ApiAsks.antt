@@ -1,6 +1,6 @@
 -- No row of the API sends a request of the shell.
 use Rattle.std.proofs.Common.{◌≡◌, ℕ, Bool, true, false, List, [], ◌∷◌, refl}
-use Rattle.std.specs.Prelude.{Option, None, Some, ◌==◌, nat_lt, slice_get, position, is_some}
+use Rattle.std.specs.Prelude.{Option, None, Some, nat_lt, slice_get, position, is_some}
 use Rattle.sig_core.specs.declared.member.Member.{Member}
 use Rattle.sig_core.specs.declared.member.TxId.{TxId}
 use Rattle.sig_core.specs.declared.op.Answer.{Answer}

@@ -1,5 +1,5 @@
 -- What the API does, row by row, doesn't depend on replies that it gave already.
-use Rattle.std.proofs.Common.{◌≡◌, ℕ, Bool, true, false, List, [], ◌∷◌, ◌++◌, refl, ap, append_assoc}
+use Rattle.std.proofs.Common.{◌≡◌, ℕ, Bool, true, false, List, [], ◌∷◌, refl, ap, append_assoc}
 use Rattle.std.specs.Prelude.{Option, None, Some, ◌==◌, nat_lt, slice_get, position, is_some, remove}
 use Rattle.sig_core.specs.declared.mark.Mark.TheVariants.{Reported}
 use Rattle.sig_core.specs.declared.member.TxId.{TxId}
@@ -25,7 +25,7 @@ use Rattle.api_block.specs.Dump.{dump_replies, dumped_by, dumped_next, dumped_ro
 use Rattle.api_block.specs.Gathered.{gathered}
 use Rattle.api_block.specs.Given.{in_given, step_in_given}
 use Rattle.api_block.specs.Members.{everyone, is_full, least_node, telling_all}
-use Rattle.api_block.specs.Opened.{answered, begins, begins_at, begun, behind, if_there, is_unanswered, own_place, place_named, place_of, where_at}
+use Rattle.api_block.specs.Opened.{begins, begins_at, begun, behind, if_there, is_unanswered, own_place, place_named, place_of, where_at}
 use Rattle.api_block.specs.Operate.{answer_by, answer_row, begun_by, begun_row, lone_by, lone_row, operate_by, operate_if, operate_row}
 use Rattle.api_block.specs.Outcome.{abort_report_row, acknowledging, commit_report_row, ending, over, refuse_row, unknown}
 use Rattle.api_block.specs.State.{ApiState, about, changing, refused, replied, with_dump, with_opened, with_replies}

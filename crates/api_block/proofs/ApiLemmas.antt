@@ -1,5 +1,5 @@
 -- What the crates above use of the API: replies that were given change nothing, and it sends no request of the shell.
-use Rattle.std.proofs.Common.{◌≡◌, Bool, true, false, List, refl, ap}
+use Rattle.std.proofs.Common.{◌≡◌, true, false, List, refl, ap}
 use Rattle.std.specs.Prelude.{None, Some}
 use Rattle.sig_core.specs.declared.reply.ApiReply.{ApiReply}
 use Rattle.sig_core.specs.declared.request.ApiReq.{ApiReq}

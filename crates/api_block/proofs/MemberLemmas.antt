@@ -1,5 +1,5 @@
 -- What members are told, list after list.
-use Rattle.std.proofs.Common.{◌≡◌, List, [], ◌∷◌, ◌++◌, map, refl, ap}
+use Rattle.std.proofs.Common.{◌≡◌, List, [], ◌∷◌, ◌++◌, refl, ap}
 use Rattle.sig_core.specs.declared.member.Member.{Member}
 use Rattle.api_block.specs.declared.members.News.{News}
 use Rattle.api_block.specs.Members.{telling, telling_all}

@@ -1,6 +1,5 @@
 -- How transactions end, as far as the client is told.
 use Rattle.std.specs.Prelude.{ℕ, List, [], ◌∷◌, position, remove, Option}
-use Rattle.sig_core.specs.declared.mark.Mark.{Mark}
 use Rattle.sig_core.specs.declared.mark.Mark.TheVariants.{Reported}
 use Rattle.sig_core.specs.declared.member.TxId.{TxId}
 use Rattle.sig_core.specs.declared.outcome.AbortCause.{AbortCause}

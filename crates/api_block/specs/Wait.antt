@@ -1,5 +1,5 @@
 -- What the last command waits for.
-use Rattle.std.specs.Prelude.{ℕ, Bool, true, false, [], ◌∷◌, Option, None, Some}
+use Rattle.std.specs.Prelude.{ℕ, Bool, true, [], ◌∷◌, Option, None, Some}
 use Rattle.sig_core.specs.declared.member.TxId.{TxId}
 use Rattle.sig_core.specs.declared.reply.ApiReply.TheVariants.{Pending}
 use Rattle.sig_core.specs.declared.reply.Waiting.TheVariants.{HeldBy}
