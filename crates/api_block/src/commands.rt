@@ -20,7 +20,12 @@ impl Api {
     /// # Errors
     /// `NoMemory`, and then nothing has happened.
     #[tactic(auto, unfolding(crate::specs::Commands::begin_row))]
-    pub fn begin(&mut self, name: u16, node: Option<u8>, out: &mut Outs) -> Result<(), NoMemory>
+    pub(crate) fn begin(
+        &mut self,
+        name: u16,
+        node: Option<u8>,
+        out: &mut Outs,
+    ) -> Result<(), NoMemory>
         requires { HasRoom out.old }
         ensures ok { OnOk result (IsTaken (begin_row self.old name node) self.new out.old out.new) }
         ensures err { OnErr result (IsUntouched self.old self.new out.old out.new) }
@@ -41,7 +46,7 @@ impl Api {
     ///
     /// # Errors
     /// `NoMemory`, and then nothing has happened.
-    pub fn ask_begin(
+    pub(crate) fn ask_begin(
         &mut self,
         name: Option<u16>,
         node: u8,
@@ -76,7 +81,7 @@ impl Api {
     /// # Errors
     /// `NoMemory`, and then nothing has happened.
     #[tactic(auto, unfolding(crate::specs::Commands::commit_row))]
-    pub fn commit(&mut self, name: u16, out: &mut Outs) -> Result<(), NoMemory>
+    pub(crate) fn commit(&mut self, name: u16, out: &mut Outs) -> Result<(), NoMemory>
         requires { HasRoom out.old }
         ensures ok { OnOk result (IsTaken (commit_row self.old name) self.new out.old out.new) }
         ensures err { OnErr result (IsUntouched self.old self.new out.old out.new) }
@@ -122,7 +127,7 @@ impl Api {
     /// # Errors
     /// `NoMemory`, and then nothing has happened.
     #[tactic(auto, unfolding(crate::specs::Commands::abort_row))]
-    pub fn abort(&mut self, name: u16, out: &mut Outs) -> Result<(), NoMemory>
+    pub(crate) fn abort(&mut self, name: u16, out: &mut Outs) -> Result<(), NoMemory>
         requires { HasRoom out.old }
         ensures ok { OnOk result (IsTaken (abort_row self.old name) self.new out.old out.new) }
         ensures err { OnErr result (IsUntouched self.old self.new out.old out.new) }
@@ -160,7 +165,7 @@ impl Api {
     /// # Errors
     /// `NoMemory`, and then nothing has happened.
     #[tactic(auto, unfolding(crate::specs::Commands::tick_row))]
-    pub fn tick(&mut self, round: u8, of: u8, out: &mut Outs) -> Result<(), NoMemory>
+    pub(crate) fn tick(&mut self, round: u8, of: u8, out: &mut Outs) -> Result<(), NoMemory>
         requires { HasRoom out.old }
         ensures ok { OnOk result (IsTaken (tick_row self.old round of) self.new out.old out.new) }
         ensures err { OnErr result (IsUntouched self.old self.new out.old out.new) }
@@ -178,7 +183,7 @@ impl Api {
     /// # Errors
     /// `NoMemory`, and then nothing has happened.
     #[tactic(auto, unfolding(crate::specs::Commands::dump_row))]
-    pub fn begin_dump(
+    pub(crate) fn begin_dump(
         &mut self,
         alloc: Global,
         node: u8,

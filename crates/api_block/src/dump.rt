@@ -42,7 +42,7 @@ impl Api {
     /// # Errors
     /// `NoMemory`, and then nothing has happened.
     #[tactic(auto, unfolding(crate::specs::Dump::dumped_row))]
-    pub fn gather(
+    pub(crate) fn gather(
         &mut self,
         alloc: Global,
         rows: &[(Key, Value)],

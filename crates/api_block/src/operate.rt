@@ -22,7 +22,7 @@ impl Api {
     /// # Errors
     /// `NoMemory`, and then nothing has happened.
     #[tactic(auto, unfolding(crate::specs::Operate::lone_row))]
-    pub fn operate_alone(&mut self, op: &Op, out: &mut Outs) -> Result<(), NoMemory>
+    pub(crate) fn operate_alone(&mut self, op: &Op, out: &mut Outs) -> Result<(), NoMemory>
         requires { HasRoom out.old }
         ensures ok { OnOk result (IsTaken (lone_row self.old op.now) self.new out.old out.new) }
         ensures err { OnErr result (IsUntouched self.old self.new out.old out.new) }
@@ -38,7 +38,7 @@ impl Api {
     /// # Errors
     /// `NoMemory`, and then nothing has happened.
     #[tactic(auto, unfolding(crate::specs::Operate::operate_row))]
-    pub fn operate(&mut self, name: u16, op: &Op, out: &mut Outs) -> Result<(), NoMemory>
+    pub(crate) fn operate(&mut self, name: u16, op: &Op, out: &mut Outs) -> Result<(), NoMemory>
         requires { HasRoom out.old }
         ensures ok { OnOk result (IsTaken (operate_row self.old name op.now) self.new out.old out.new) }
         ensures err { OnErr result (IsUntouched self.old self.new out.old out.new) }
@@ -84,7 +84,12 @@ impl Api {
     /// # Errors
     /// `NoMemory`, and then nothing has happened.
     #[tactic(auto, unfolding(crate::specs::Operate::begun_row))]
-    pub fn begun(&mut self, name: Option<u16>, tx: TxId, out: &mut Outs) -> Result<(), NoMemory>
+    pub(crate) fn begun(
+        &mut self,
+        name: Option<u16>,
+        tx: TxId,
+        out: &mut Outs,
+    ) -> Result<(), NoMemory>
         requires { HasRoom out.old }
         ensures ok { OnOk result (IsTaken (begun_row self.old name tx) self.new out.old out.new) }
         ensures err { OnErr result (IsUntouched self.old self.new out.old out.new) }
@@ -135,7 +140,12 @@ impl Api {
     /// # Errors
     /// `NoMemory`, and then nothing has happened.
     #[tactic(auto, unfolding(crate::specs::Operate::answer_row))]
-    pub fn answer(&mut self, tx: TxId, answer: &Answer, out: &mut Outs) -> Result<(), NoMemory>
+    pub(crate) fn answer(
+        &mut self,
+        tx: TxId,
+        answer: &Answer,
+        out: &mut Outs,
+    ) -> Result<(), NoMemory>
         requires { HasRoom out.old }
         ensures ok { OnOk result (IsTaken (answer_row self.old tx answer.now) self.new out.old out.new) }
         ensures err { OnErr result (IsUntouched self.old self.new out.old out.new) }

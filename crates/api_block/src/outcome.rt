@@ -15,7 +15,7 @@ impl Api {
     /// # Errors
     /// `NoMemory`, and then nothing has happened.
     #[tactic(auto, unfolding(crate::specs::Outcome::refuse_row))]
-    pub fn refuse_begin(&mut self, name: Option<u16>) -> Result<(), NoMemory>
+    pub(crate) fn refuse_begin(&mut self, name: Option<u16>) -> Result<(), NoMemory>
         ensures ok { OnOk result (self.new ≡ refuse_row self.old name) }
         ensures err { OnErr result (self.new ≡ self.old) }
     {
@@ -63,7 +63,12 @@ impl Api {
     /// # Errors
     /// `NoMemory`, and then nothing has happened.
     #[tactic(auto, unfolding(crate::specs::Outcome::commit_report_row))]
-    pub fn report_commit(&mut self, tx: TxId, epoch: u64, out: &mut Outs) -> Result<(), NoMemory>
+    pub(crate) fn report_commit(
+        &mut self,
+        tx: TxId,
+        epoch: u64,
+        out: &mut Outs,
+    ) -> Result<(), NoMemory>
         requires { HasRoom out.old }
         ensures ok { OnOk result (IsTaken (commit_report_row self.old tx epoch) self.new out.old out.new) }
         ensures err { OnErr result (IsUntouched self.old self.new out.old out.new) }
@@ -104,7 +109,7 @@ impl Api {
     /// # Errors
     /// `NoMemory`, and then nothing has happened.
     #[tactic(auto, unfolding(crate::specs::Outcome::abort_report_row))]
-    pub fn report_abort(
+    pub(crate) fn report_abort(
         &mut self,
         tx: TxId,
         cause: AbortCause,

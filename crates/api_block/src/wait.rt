@@ -11,7 +11,7 @@ use sig_core::{ApiReply, Body, ClientSignal, NoMemory, Outs, TxId, Waiting, coor
 impl Api {
     /// Asks for whom the last command waits, if it isn't answered.
     #[tactic(auto, unfolding(crate::specs::Wait::waits_row))]
-    pub fn ask_wait(&mut self, out: &mut Outs)
+    pub(crate) fn ask_wait(&mut self, out: &mut Outs)
         requires { HasRoom out.old }
         ensures { IsTaken (waits_row self.old) self.new out.old out.new }
     {
@@ -38,7 +38,7 @@ impl Api {
 
     /// Notes the transaction that another waits for.
     #[tactic(auto, unfolding(crate::specs::Wait::behind_row))]
-    pub fn note_wait(&mut self, tx: TxId, ahead: TxId)
+    pub(crate) fn note_wait(&mut self, tx: TxId, ahead: TxId)
         ensures { self.new ≡ behind_row self.old tx ahead }
     {
         if let Some(at) = place_of(self.opened.as_slice(), tx) {
@@ -52,7 +52,7 @@ impl Api {
     /// # Errors
     /// `NoMemory`, and then nothing has happened.
     #[tactic(auto, unfolding(crate::specs::Wait::pending_row))]
-    pub fn tell_wait(&mut self, out: &mut Outs) -> Result<(), NoMemory>
+    pub(crate) fn tell_wait(&mut self, out: &mut Outs) -> Result<(), NoMemory>
         requires { HasRoom out.old }
         ensures ok { OnOk result (IsTaken (pending_row self.old) self.new out.old out.new) }
         ensures err { OnErr result (IsUntouched self.old self.new out.old out.new) }
