@@ -1,0 +1,78 @@
+-- What the crates above use of the API: replies that were given change nothing, and it sends no request of the shell.
+use Rattle.std.proofs.Common.{◌≡◌, true, false, List, refl, ap}
+use Rattle.std.specs.Prelude.{None, Some}
+use Rattle.sig_core.specs.declared.reply.ApiReply.{ApiReply}
+use Rattle.sig_core.specs.declared.request.ApiReq.{ApiReq}
+use Rattle.sig_core.specs.declared.request.ApiReq.TheVariants.{Begin, Operate, Commit, Abort, Tick, Rows, Digest, Waits, Pending}
+use Rattle.sig_core.specs.declared.signal.Body.{Body}
+use Rattle.sig_core.specs.declared.signal.Body.TheVariants.{Host, Client}
+use Rattle.sig_core.specs.declared.signal.client.ClientSignal.TheVariants.{TcBeginConf, TcBeginRef, TcKeyConf, TcCommitConf, TcRollbackRep, TcWaitConf, DumpConf}
+use Rattle.sig_core.specs.declared.signal.host.HostSignal.TheVariants.{Continue}
+use Rattle.sig_core.specs.declared.signal.host.Work.TheVariants.{Request}
+use Rattle.sig_core.specs.Step.{stay}
+use Rattle.api_block.specs.Api.{api_row, request_row}
+use Rattle.api_block.specs.Given.{in_given, step_in_given}
+use Rattle.api_block.specs.Opened.{is_left_open}
+use Rattle.api_block.specs.Requests.{asks_nothing}
+use Rattle.api_block.specs.State.{ApiState}
+use Rattle.api_block.proofs.ApiAsks.{AsksNothing, abort_asks, abort_report_asks, answer_asks, begin_asks, begun_asks, commit_asks, commit_report_asks, dump_asks, dumped_asks, lone_asks, operate_asks, pending_asks, tick_asks, waits_asks}
+use Rattle.api_block.proofs.ApiGiven.{abort_given, abort_report_given, answer_given, begin_given, begun_given, behind_given, commit_given, commit_report_given, dump_given, dumped_given, lone_given, operate_given, pending_given, refuse_given, tick_given, waits_given}
+
+-- at a request
+pub given_request : (given : List ApiReply) (s : ApiState) (request : ApiReq)
+    → request_row (in_given given s) request ≡ step_in_given given (request_row s request)
+unfolding request_row
+given_request given s (Begin name node) = begin_given given s name node
+given_request given s (Operate None op) = lone_given given s op
+given_request given s (Operate (Some name) op) = operate_given given s name op
+given_request given s (Commit name) = commit_given given s name
+given_request given s (Abort name) = abort_given given s name
+given_request given s (Tick round of) = tick_given given s round of
+given_request given s (Rows node) = dump_given given s node false
+given_request given s (Digest node) = dump_given given s node true
+given_request given s Waits = waits_given given s
+given_request given s Pending = pending_given given s
+given_request given s _ = refl
+
+-- what the API does at a signal doesn't depend on the replies that it gave
+pub given_row : (given : List ApiReply) (s : ApiState) (body : Body)
+    → api_row (in_given given s) body ≡ record { state = in_given given (api_row s body).state; effects = (api_row s body).effects }
+given_row given s (Host (Continue (Request request) at)) = given_request given s request
+given_row given s (Client (TcBeginConf name tx)) = begun_given given s name tx
+given_row given s (Client (TcBeginRef name)) = ap (λ (state : ApiState). stay state) (refuse_given given s name)
+given_row given s (Client (TcKeyConf tx answer)) = answer_given given s tx answer
+given_row given s (Client (TcCommitConf tx epoch)) = commit_report_given given s tx epoch
+given_row given s (Client (TcRollbackRep tx cause)) = abort_report_given given s tx cause
+given_row given s (Client (TcWaitConf tx ahead)) = ap (λ (state : ApiState). stay state) (behind_given given s tx ahead)
+given_row given s (Client (DumpConf rows next)) = dumped_given given s rows next
+given_row given s _ = refl
+
+-- nor does it whether a command is left open
+pub given_open : (given : List ApiReply) (s : ApiState) → is_left_open (in_given given s) ≡ is_left_open s
+given_open given s = refl
+
+asks_at_request : (s : ApiState) (request : ApiReq) → AsksNothing (request_row s request)
+unfolding request_row
+asks_at_request s (Begin name node) = begin_asks s name node
+asks_at_request s (Operate None op) = lone_asks s op
+asks_at_request s (Operate (Some name) op) = operate_asks s name op
+asks_at_request s (Commit name) = commit_asks s name
+asks_at_request s (Abort name) = abort_asks s name
+asks_at_request s (Tick round of) = tick_asks s round of
+asks_at_request s (Rows node) = dump_asks s node false
+asks_at_request s (Digest node) = dump_asks s node true
+asks_at_request s Waits = waits_asks s
+asks_at_request s Pending = pending_asks s
+asks_at_request s _ = refl
+
+-- the API sends no request of the shell
+pub api_asks : (s : ApiState) (body : Body) → asks_nothing (api_row s body).effects.sends ≡ true
+api_asks s (Host (Continue (Request request) at)) = asks_at_request s request
+api_asks s (Client (TcBeginConf name tx)) = begun_asks s name tx
+api_asks s (Client (TcBeginRef name)) = refl
+api_asks s (Client (TcKeyConf tx answer)) = answer_asks s tx answer
+api_asks s (Client (TcCommitConf tx epoch)) = commit_report_asks s tx epoch
+api_asks s (Client (TcRollbackRep tx cause)) = abort_report_asks s tx cause
+api_asks s (Client (TcWaitConf tx ahead)) = refl
+api_asks s (Client (DumpConf rows next)) = dumped_asks s rows next
+api_asks s _ = refl

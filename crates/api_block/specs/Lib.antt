@@ -1,0 +1,12 @@
+pub mod Api
+pub mod Commands
+pub mod Dump
+pub mod Gathered
+pub mod Given
+pub mod Members
+pub mod Opened
+pub mod Operate
+pub mod Outcome
+pub mod Requests
+pub mod State
+pub mod Wait
