@@ -1,0 +1,12 @@
+//! The rows of a node: their locks, records, journal and markers.
+#![tactic(auto)]
+
+mod count_journal;
+mod map_rows;
+mod places;
+mod request;
+mod work;
+
+pub use count_journal::{CountJournal, JOURNAL_BYTES};
+pub use map_rows::{MapRows, PLACES};
+pub use request::{Marker, Request};
