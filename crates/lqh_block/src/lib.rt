@@ -2,11 +2,15 @@
 #![tactic(auto)]
 
 mod count_journal;
+mod lqh;
 mod map_rows;
 mod places;
 mod request;
+mod storage;
 mod work;
 
 pub use count_journal::{CountJournal, JOURNAL_BYTES};
+pub use lqh::Lqh;
 pub use map_rows::{MapRows, PLACES};
 pub use request::{Marker, Request};
+pub use storage::Storage;

@@ -1,4 +1,4 @@
-use Rattle.std.proofs.Common.{◌≡◌, ◌+◌, ◌∙◌, ap, arith, is_some, cond}
+use Rattle.std.proofs.Common.{◌≡◌, ◌∙◌, ap, arith}
 use Rattle.std.specs.Prelude.{Some}
 use Rattle.sig_core.specs.Rows.{place_of}
 use Rattle.lqh_block.proofs.PlaceLemmas.{freed_indexed, index_finds}
