@@ -1,2 +1,3 @@
+pub mod EffectLemmas
 pub mod IndexLemmas
 pub mod PlaceLemmas

@@ -10,7 +10,7 @@ use Rattle.sig_core.specs.declared.view.View.{View}
 use Rattle.sig_core.specs.Journal.{JournalState}
 use Rattle.sig_core.specs.Place.{rows_of}
 use Rattle.sig_core.specs.Rows.{RowsState}
-use Rattle.sig_core.specs.Step.{Step, to_place}
+use Rattle.sig_core.specs.Step.{Effects, Step, to_place}
 use Rattle.row_locks.specs.Rows.{Served}
 use Rattle.row_locks.specs.Tables.{Locks, kept, released_at}
 use Rattle.lqh_block.specs.declared.request.Marker.{Marker}
@@ -57,6 +57,10 @@ go_on node work = to_place (rows_of node) (Host (Continue work 0))
 abbrev pub go_on_if : ℕ → Work → Bool → List Outgoing
 go_on_if node work true = go_on node work ∷ []
 go_on_if node work false = []
+
+-- signals and no marks
+abbrev pub sends_only : List Outgoing → Effects
+sends_only sends = record { sends = sends; marks = [] }
 
 -- the signal by which the block goes on with waits that were granted, if some were
 abbrev pub serve_granted : ℕ → Served → List Outgoing

@@ -4,6 +4,7 @@
 mod count_journal;
 mod lqh;
 mod map_rows;
+mod operate;
 mod places;
 mod request;
 mod storage;

@@ -1,5 +1,5 @@
 //! The rows of a node and its journal: what is prepared, committed and given up.
-ghost use Rattle.std.specs.Prelude.{◌≡◌, ◌<◌, ◌≤◌, OnOk, length};
+ghost use Rattle.std.specs.Prelude.{◌≡◌, ◌+◌, ◌<◌, ◌≤◌, OnOk, length};
 ghost use Rattle.sig_core.specs.Journal.{appending};
 ghost use Rattle.sig_core.specs.Op.{answer_to, image_of, key_of};
 ghost use Rattle.sig_core.specs.Rows.{seen};
@@ -44,7 +44,8 @@ impl<R: Rows, J: Journal> Storage<R, J> {
         requires room { HasRoom out.old }
         requires rows { R.has_room self.old.rows (work_key request.now.work) }
         requires journal { J.has_room self.old.journal (need_of request.now.tx (work_key request.now.work) (work_image request.now.work)) }
-        ensures { IsTaken (perform (storage (R.state_of self.old.rows) (J.used_of self.old.journal)) request.now) (storage (R.state_of self.new.rows) (J.used_of self.new.journal)) out.old out.new }
+        ensures few { length out.new.sends ≤ length out.old.sends + 1 }
+        ensures taken { IsTaken (perform (storage (R.state_of self.old.rows) (J.used_of self.old.journal)) request.now) (storage (R.state_of self.new.rows) (J.used_of self.new.journal)) out.old out.new }
     {
         let chain = &request.chain;
         match &request.work {
@@ -60,7 +61,8 @@ impl<R: Rows, J: Journal> Storage<R, J> {
         requires room { HasRoom out.old }
         requires rows { R.has_room self.old.rows (key_of op.now) }
         requires journal { J.has_room self.old.journal (need_of tx (key_of op.now) (image_of op.now)) }
-        ensures { IsTaken (operate_by (storage (R.state_of self.old.rows) (J.used_of self.old.journal)) tx op.now chain.now at (answer_to op.now (seen (R.state_of self.old.rows) tx (key_of op.now)))) (storage (R.state_of self.new.rows) (J.used_of self.new.journal)) out.old out.new }
+        ensures few { length out.new.sends ≤ length out.old.sends + 1 }
+        ensures taken { IsTaken (operate_by (storage (R.state_of self.old.rows) (J.used_of self.old.journal)) tx op.now chain.now at (answer_to op.now (seen (R.state_of self.old.rows) tx (key_of op.now)))) (storage (R.state_of self.new.rows) (J.used_of self.new.journal)) out.old out.new }
     {
         let key = op.key();
         let answer = op.answer_to(&self.rows.seen(tx, key));
@@ -86,7 +88,8 @@ impl<R: Rows, J: Journal> Storage<R, J> {
         requires room { HasRoom out.old }
         requires rows { R.has_room self.old.rows key.now }
         requires journal { J.has_room self.old.journal (need_of tx key.now image.now) }
-        ensures { IsTaken (store_row (storage (R.state_of self.old.rows) (J.used_of self.old.journal)) tx key.now image.now chain.now at) (storage (R.state_of self.new.rows) (J.used_of self.new.journal)) out.old out.new }
+        ensures few { length out.new.sends ≤ length out.old.sends + 1 }
+        ensures taken { IsTaken (store_row (storage (R.state_of self.old.rows) (J.used_of self.old.journal)) tx key.now image.now chain.now at) (storage (R.state_of self.new.rows) (J.used_of self.new.journal)) out.old out.new }
     {
         let had = self.rows.record_state(tx, key);
         let need = need_of(tx, key, image);
