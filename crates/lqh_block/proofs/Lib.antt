@@ -1,3 +1,4 @@
+pub mod DumpLemmas
 pub mod EffectLemmas
 pub mod IndexLemmas
 pub mod PlaceLemmas

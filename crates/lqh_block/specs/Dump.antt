@@ -1,10 +1,10 @@
 -- The rows of a node, for a client that asks for all of them.
-use Rattle.std.specs.Prelude.{ℕ, zero, suc, ◌+◌, List, [], ◌∷◌, ◌++◌, slice_index_or, Option, None, Some}
+use Rattle.std.specs.Prelude.{ℕ, zero, suc, ◌+◌, ◌<◌, ◌^◌, IsTrue, List, [], ◌∷◌, ◌++◌, slice_index_or, Option, None, Some}
 use Rattle.sig_core.specs.declared.rows.Slot.{Slot}
 use Rattle.sig_core.specs.declared.signal.Body.TheVariants.{Client}
 use Rattle.sig_core.specs.declared.signal.client.ClientSignal.TheVariants.{DumpConf}
 use Rattle.sig_core.specs.Place.{client}
-use Rattle.sig_core.specs.Rows.{RowsState, next_place}
+use Rattle.sig_core.specs.Rows.{RowsState, has_row, next_place}
 use Rattle.sig_core.specs.Step.{Step, sending}
 use Rattle.lqh_block.specs.State.{LqhState}
 
@@ -41,6 +41,11 @@ more s (suc n) d = one_more s (more s n d)
 -- the first eight rows from a place on
 unfoldable pub dumped_from : RowsState → ℕ → Dumped
 dumped_from s at = more s 8 (dumped [] (next_place s at))
+
+-- the place has a row, and isn't the greatest that there is
+pub record IsRowPlace (s : RowsState) (at : ℕ) : Type 0 where
+  pub row : IsTrue (has_row (slice_index_or s.places at None))
+  pub small : at + 1 < 2 ^ 64
 
 -- a client asks for rows
 unfoldable pub dump_row : LqhState → ℕ → Step LqhState

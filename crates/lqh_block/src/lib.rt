@@ -1,13 +1,18 @@
 //! The rows of a node: their locks, records, journal and markers.
 #![tactic(auto)]
 
+mod abort;
+mod commit;
 mod count_journal;
+mod dump;
+mod expire;
 mod lqh;
 mod map_rows;
 mod operate;
 mod places;
 mod request;
 mod storage;
+mod wait;
 mod work;
 
 pub use count_journal::{CountJournal, JOURNAL_BYTES};

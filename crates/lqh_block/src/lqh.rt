@@ -1,13 +1,12 @@
 //! The block of a node that has its rows.
-ghost use Rattle.std.specs.Prelude.{◌≡◌, ◌<◌, ◌++◌, IfOk, OnOk, OnErr, filter, length, position};
-ghost use Rattle.sig_core.specs.Step.{HasRoom, IsTaken, IsUntouched};
+ghost use Rattle.std.specs.Prelude.{◌≡◌, IfOk};
 
 use crate::request::{Marker, Request};
 use crate::storage::Storage;
 use row_locks::LockTable;
 use sig_core::{
-    Actor, Body, ChainSignal, ClientSignal, HostSignal, Journal, Key, NoMemory, Outs, Rows, Signal,
-    TxId, View, Work, coordinator_of, rows_of,
+    Actor, Body, ChainSignal, ClientSignal, HostSignal, Journal, NoMemory, Outs, Rows, Signal, View,
+    Work,
 };
 use std::alloc::Global;
 use std::marker::Model;
@@ -73,5 +72,77 @@ impl<R: Rows, J: Journal> Lqh<R, J> {
         ensures { R.state_of result.now ≡ self.now.rows }
     {
         &self.storage.rows
+    }
+}
+
+impl<R: Rows, J: Journal> Actor for Lqh<R, J> {
+    ghost use Rattle.sig_core.specs.Step.{stay};
+    ghost use Rattle.lqh_block.specs.Lqh.{in_view, lqh_row};
+
+    ghost step = { λ s signal. lqh_row s signal.body };
+
+    ghost installed = { λ s view. stay (in_view s view) };
+
+    fn handle(&mut self, alloc: Global, signal: &Signal, out: &mut Outs) -> Result<(), NoMemory> {
+        match &signal.body {
+            Body::Chain(ChainSignal::LqhKeyReq {
+                tx,
+                work,
+                chain,
+                at,
+            }) => {
+                let request = Request {
+                    tx: *tx,
+                    work: *work,
+                    chain: *chain,
+                    at: *at,
+                };
+                self.request(&request, out)
+            }
+            Body::Host(HostSignal::Continue {
+                work: Work::Granted,
+                at: _,
+            }) => self.serve(out),
+            Body::Chain(ChainSignal::Commit {
+                tx,
+                key,
+                epoch,
+                chain,
+                at,
+            }) => self.commit(*tx, key, *epoch, chain, *at, out),
+            Body::Chain(ChainSignal::Complete { tx, key, chain, at }) => {
+                self.complete(*tx, key, chain, *at, out);
+                Ok(())
+            }
+            Body::Chain(ChainSignal::Abort { tx, key }) => {
+                self.abort(*tx, key, out);
+                Ok(())
+            }
+            Body::Client(ClientSignal::TcCommitAck { tx }) => {
+                self.acknowledge(*tx, out);
+                Ok(())
+            }
+            Body::Client(ClientSignal::LqhWaitReq { tx, key }) => {
+                self.tell_wait(*tx, key, out);
+                Ok(())
+            }
+            Body::Client(ClientSignal::DumpReq { at }) => self.dump(alloc, *at, out),
+            Body::Host(HostSignal::Round) => {
+                self.age(out);
+                Ok(())
+            }
+            Body::Host(HostSignal::Continue {
+                work: Work::Expired,
+                at: _,
+            }) => {
+                self.expire(out);
+                Ok(())
+            }
+            _ => Ok(()),
+        }
+    }
+
+    fn install(&mut self, view: &View, _out: &mut Outs) {
+        self.view = *view;
     }
 }
