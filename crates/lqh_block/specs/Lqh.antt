@@ -18,7 +18,7 @@ use Rattle.lqh_block.specs.Dump.{dump_row}
 use Rattle.lqh_block.specs.Expire.{expire_row, round_row}
 use Rattle.lqh_block.specs.Operate.{granted_row, request_row}
 use Rattle.lqh_block.specs.State.{LqhState}
-use Rattle.lqh_block.specs.Wait.{acknowledge_row, wait_row}
+use Rattle.lqh_block.specs.Wait.{acknowledged, wait_row}
 
 -- a node's rows before the first signal
 abbrev pub unasked_yet : ℕ → View → RowsState → JournalState → LqhState
@@ -36,7 +36,7 @@ lqh_row s (Host (Continue Granted at)) = granted_row s
 lqh_row s (Chain (Commit tx key epoch chain at)) = commit_row s tx key epoch chain at
 lqh_row s (Chain (Complete tx key chain at)) = complete_row s tx key chain at
 lqh_row s (Chain (Abort tx key)) = abort_row s tx key
-lqh_row s (Client (TcCommitAck tx)) = acknowledge_row s tx
+lqh_row s (Client (TcCommitAck tx)) = stay (acknowledged s tx)
 lqh_row s (Client (LqhWaitReq tx key)) = wait_row s tx key
 lqh_row s (Client (DumpReq at)) = dump_row s at
 lqh_row s (Host Round) = round_row s

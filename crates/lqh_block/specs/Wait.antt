@@ -23,5 +23,5 @@ abbrev pub is_other : TxId → Marker → Bool
 is_other tx m = not (same_tx m.tx tx)
 
 -- the client has heard of the transaction's commit
-unfoldable pub acknowledge_row : LqhState → TxId → Step LqhState
-acknowledge_row s tx = stay (with_markers s (filter (is_other tx) s.markers))
+unfoldable pub acknowledged : LqhState → TxId → LqhState
+acknowledged s tx = with_markers s (filter (is_other tx) s.markers)

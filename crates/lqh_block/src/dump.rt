@@ -30,6 +30,7 @@ impl<R: Rows, J: Journal> Lqh<R, J> {
 }
 
 // Lists the first rows from a place on, and answers the place of the next one.
+#[tactic(auto, using(crate::proofs::DumpLemmas::lists))]
 fn first_rows<R: Rows>(
     rows: &R,
     at: u64,

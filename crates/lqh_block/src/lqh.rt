@@ -119,7 +119,7 @@ impl<R: Rows, J: Journal> Actor for Lqh<R, J> {
                 Ok(())
             }
             Body::Client(ClientSignal::TcCommitAck { tx }) => {
-                self.acknowledge(*tx, out);
+                self.acknowledge(*tx);
                 Ok(())
             }
             Body::Client(ClientSignal::LqhWaitReq { tx, key }) => {

@@ -1,7 +1,7 @@
 //! What transactions wait for, and markers of commits.
-ghost use Rattle.std.specs.Prelude.{◌≡◌};
+ghost use Rattle.std.specs.Prelude.{◌≡◌, filter};
 ghost use Rattle.sig_core.specs.Step.{HasRoom, IsTaken};
-ghost use Rattle.lqh_block.specs.Wait.{acknowledge_row, is_other, wait_row};
+ghost use Rattle.lqh_block.specs.Wait.{acknowledged, is_other, wait_row};
 
 use crate::lqh::Lqh;
 use crate::request::Marker;
@@ -22,13 +22,19 @@ impl<R: Rows, J: Journal> Lqh<R, J> {
     }
 
     /// The client has heard of the transaction's commit: its markers go.
-    #[tactic(auto, unfolding(crate::specs::Wait::acknowledge_row))]
-    pub fn acknowledge(&mut self, tx: TxId, out: &mut Outs)
-        ensures { IsTaken (acknowledge_row self.old tx) self.new out.old out.new }
+    #[tactic(auto, unfolding(crate::specs::Wait::acknowledged))]
+    pub fn acknowledge(&mut self, tx: TxId)
+        ensures { self.new ≡ acknowledged self.old tx }
     {
-        let _ = out;
-        self.markers.retain(|marker| is_other(tx, marker));
+        forget(&mut self.markers, tx);
     }
+}
+
+// Removes the transaction's markers.
+fn forget(markers: &mut Vec<Marker>, tx: TxId)
+    ensures { markers.new.items ≡ filter (is_other tx) markers.old.items }
+{
+    markers.retain(|marker| is_other(tx, marker));
 }
 
 // Whether the marker isn't the transaction's.
