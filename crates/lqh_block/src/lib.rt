@@ -20,3 +20,6 @@ pub use lqh::Lqh;
 pub use map_rows::{MapRows, PLACES};
 pub use request::{Marker, Request};
 pub use storage::Storage;
+
+#[cfg(test)]
+mod tests;
