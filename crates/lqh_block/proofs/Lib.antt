@@ -1,0 +1,4 @@
+pub mod DumpLemmas
+pub mod EffectLemmas
+pub mod IndexLemmas
+pub mod PlaceLemmas

@@ -1,0 +1,14 @@
+pub mod Abort
+pub mod Codes
+pub mod Commit
+pub mod Complete
+pub mod Dump
+pub mod Expire
+pub mod Index
+pub mod Lqh
+pub mod MapRows
+pub mod Operate
+pub mod State
+pub mod Storage
+pub mod Wait
+pub mod Work

@@ -1,0 +1,25 @@
+//! The rows of a node: their locks, records, journal and markers.
+#![tactic(auto)]
+
+mod abort;
+mod commit;
+mod count_journal;
+mod dump;
+mod expire;
+mod lqh;
+mod map_rows;
+mod operate;
+mod places;
+mod request;
+mod storage;
+mod wait;
+mod work;
+
+pub use count_journal::{CountJournal, JOURNAL_BYTES};
+pub use lqh::Lqh;
+pub use map_rows::{MapRows, PLACES};
+pub use request::{Marker, Request};
+pub use storage::Storage;
+
+#[cfg(test)]
+mod tests;

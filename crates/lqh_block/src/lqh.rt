@@ -1,0 +1,148 @@
+//! The block of a node that has its rows.
+ghost use Rattle.std.specs.Prelude.{◌≡◌, IfOk};
+
+use crate::request::{Marker, Request};
+use crate::storage::Storage;
+use row_locks::LockTable;
+use sig_core::{
+    Actor, Body, ChainSignal, ClientSignal, HostSignal, Journal, NoMemory, Outs, Rows, Signal, View,
+    Work,
+};
+use std::alloc::Global;
+use std::marker::Model;
+
+/// The rows of a node: their locks, the records of transactions that are at work on them, the
+/// journal, and the markers of commits that clients haven't acknowledged.
+#[derive(Drop)]
+pub struct Lqh<R: Rows, J: Journal> {
+    pub(crate) node: u8,
+    pub(crate) view: View,
+    pub(crate) storage: Storage<R, J>,
+    pub(crate) locks: LockTable,
+    /// The requests whose lock wasn't granted when they came, the oldest first.
+    pub(crate) waiting: Vec<Request>,
+    /// The oldest first.
+    pub(crate) markers: Vec<Marker>,
+}
+
+impl<R: Rows, J: Journal> Model for Lqh<R, J> {
+    ghost use Rattle.std.specs.Coded.{codes};
+    ghost use Rattle.lqh_block.specs.State.{LqhState};
+    ghost use Rattle.lqh_block.specs.Codes.{locks_code};
+
+    ghost Value = { LqhState };
+
+    ghost coded = { Prim.hlevel (codes, locks_code) };
+
+    ghost view = { λ l. record { node = l.node; view = l.view; rows = R.state_of l.storage.rows; journal = J.used_of l.storage.journal; locks = l.locks; waiting = l.waiting.items; markers = l.markers.items } };
+}
+
+impl<R: Rows, J: Journal> Lqh<R, J> {
+    ghost use Rattle.lqh_block.specs.Lqh.{unasked_yet};
+
+    /// The rows of a node, with nothing under way.
+    ///
+    /// # Errors
+    /// `NoMemory`.
+    pub fn new(
+        alloc: Global,
+        node: u8,
+        view: View,
+        rows: R,
+        journal: J,
+    ) -> Result<Lqh<R, J>, NoMemory>
+    where
+        R: Drop,
+        J: Drop,
+        ensures { IfOk result (λ lqh. lqh ≡ unasked_yet node view (R.state_of rows) (J.used_of journal)) }
+    {
+        let locks = LockTable::new(alloc)?;
+        Ok(Lqh {
+            node,
+            view,
+            storage: Storage { rows, journal },
+            locks,
+            waiting: Vec::new(alloc),
+            markers: Vec::new(alloc),
+        })
+    }
+
+    /// The rows.
+    pub fn rows(&self) -> &R
+        ensures { R.state_of result.now ≡ self.now.rows }
+    {
+        &self.storage.rows
+    }
+}
+
+impl<R: Rows, J: Journal> Actor for Lqh<R, J> {
+    ghost use Rattle.sig_core.specs.Step.{stay};
+    ghost use Rattle.lqh_block.specs.Lqh.{in_view, lqh_row};
+
+    ghost step = { λ s signal. lqh_row s signal.body };
+
+    ghost installed = { λ s view. stay (in_view s view) };
+
+    fn handle(&mut self, alloc: Global, signal: &Signal, out: &mut Outs) -> Result<(), NoMemory> {
+        match &signal.body {
+            Body::Chain(ChainSignal::LqhKeyReq {
+                tx,
+                work,
+                chain,
+                at,
+            }) => {
+                let request = Request {
+                    tx: *tx,
+                    work: *work,
+                    chain: *chain,
+                    at: *at,
+                };
+                self.request(&request, out)
+            }
+            Body::Host(HostSignal::Continue {
+                work: Work::Granted,
+                at: _,
+            }) => self.serve(out),
+            Body::Chain(ChainSignal::Commit {
+                tx,
+                key,
+                epoch,
+                chain,
+                at,
+            }) => self.commit(*tx, key, *epoch, chain, *at, out),
+            Body::Chain(ChainSignal::Complete { tx, key, chain, at }) => {
+                self.complete(*tx, key, chain, *at, out);
+                Ok(())
+            }
+            Body::Chain(ChainSignal::Abort { tx, key }) => {
+                self.abort(*tx, key, out);
+                Ok(())
+            }
+            Body::Client(ClientSignal::TcCommitAck { tx }) => {
+                self.acknowledge(*tx);
+                Ok(())
+            }
+            Body::Client(ClientSignal::LqhWaitReq { tx, key }) => {
+                self.tell_wait(*tx, key, out);
+                Ok(())
+            }
+            Body::Client(ClientSignal::DumpReq { at }) => self.dump(alloc, *at, out),
+            Body::Host(HostSignal::Round) => {
+                self.age(out);
+                Ok(())
+            }
+            Body::Host(HostSignal::Continue {
+                work: Work::Expired,
+                at: _,
+            }) => {
+                self.expire(out);
+                Ok(())
+            }
+            _ => Ok(()),
+        }
+    }
+
+    fn install(&mut self, view: &View, _out: &mut Outs) {
+        self.view = *view;
+    }
+}

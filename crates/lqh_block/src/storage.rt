@@ -1,0 +1,256 @@
+//! The rows of a node and its journal: what is prepared, committed and given up.
+ghost use Rattle.std.specs.Prelude.{◌≡◌, ◌+◌, ◌<◌, ◌≤◌, OnOk, length};
+ghost use Rattle.sig_core.specs.Journal.{appending};
+ghost use Rattle.sig_core.specs.Op.{answer_to, image_of, key_of};
+ghost use Rattle.sig_core.specs.Rows.{seen};
+ghost use Rattle.sig_core.specs.Step.{HasRoom, IsTaken, and_send};
+ghost use Rattle.lqh_block.specs.Storage.{aborted_in, committed_in, confirmed, end_size, kept_once, need_of, operate_by, passed_on, perform, prepare_size, refusal, storage, store_row};
+ghost use Rattle.lqh_block.specs.Work.{work_image, work_key};
+
+use crate::request::Request;
+use crate::work::{work_image, work_key};
+use sig_core::{
+    AbortCause, Answer, Body, ChainSignal, Journal, JournalFault, Key, Mark, Members, NoMemory, Op,
+    Outs, Redo, RowWork, Rows, RowsFault, TxId, Value, coordinator_of, rows_of,
+};
+
+/// The rows of a node, and its journal.
+#[derive(Drop)]
+pub struct Storage<R, J> {
+    pub rows: R,
+    pub journal: J,
+}
+
+impl<R: Rows, J: Journal> Storage<R, J> {
+    /// Makes the memory to perform a request, so that `perform` wants none.
+    ///
+    /// # Errors
+    /// `NoMemory`.
+    pub fn make_room(&mut self, request: &Request) -> Result<(), NoMemory>
+        ensures rows { OnOk result (R.has_room self.new.rows (work_key request.now.work)) }
+        ensures journal { OnOk result (J.has_room self.new.journal (need_of request.now.tx (work_key request.now.work) (work_image request.now.work))) }
+        ensures same { storage (R.state_of self.new.rows) (J.used_of self.new.journal) ≡ storage (R.state_of self.old.rows) (J.used_of self.old.journal) }
+    {
+        let key = work_key(&request.work);
+        self.rows.make_room(key)?;
+        let need = need_of(request.tx, key, &work_image(&request.work));
+        self.journal.make_room(need)?;
+        Ok(())
+    }
+
+    /// Performs a request whose lock is granted, in memory that was made for it.
+    #[tactic(auto, unfolding(crate::specs::Storage::perform))]
+    pub fn perform(&mut self, request: &Request, out: &mut Outs)
+        requires room { HasRoom out.old }
+        requires rows { R.has_room self.old.rows (work_key request.now.work) }
+        requires journal { J.has_room self.old.journal (need_of request.now.tx (work_key request.now.work) (work_image request.now.work)) }
+        ensures few { length out.new.sends ≤ length out.old.sends + 1 }
+        ensures taken { IsTaken (perform (storage (R.state_of self.old.rows) (J.used_of self.old.journal)) request.now) (storage (R.state_of self.new.rows) (J.used_of self.new.journal)) out.old out.new }
+    {
+        let chain = &request.chain;
+        match &request.work {
+            RowWork::Operate(op) => self.operate(request.tx, op, chain, request.at, out),
+            RowWork::Store(key, image) => {
+                self.store(request.tx, key, image, chain, request.at, out);
+            }
+        }
+    }
+
+    // Answers an operation; a write that takes effect is prepared first.
+    fn operate(&mut self, tx: TxId, op: &Op, chain: &Members, at: u8, out: &mut Outs)
+        requires room { HasRoom out.old }
+        requires rows { R.has_room self.old.rows (key_of op.now) }
+        requires journal { J.has_room self.old.journal (need_of tx (key_of op.now) (image_of op.now)) }
+        ensures few { length out.new.sends ≤ length out.old.sends + 1 }
+        ensures taken { IsTaken (operate_by (storage (R.state_of self.old.rows) (J.used_of self.old.journal)) tx op.now chain.now at (answer_to op.now (seen (R.state_of self.old.rows) tx (key_of op.now)))) (storage (R.state_of self.new.rows) (J.used_of self.new.journal)) out.old out.new }
+    {
+        let key = op.key();
+        let answer = op.answer_to(&self.rows.seen(tx, key));
+        match answer {
+            Answer::Done => self.store(tx, key, &op.image(), chain, at, out),
+            Answer::Found(_) | Answer::Missing | Answer::E626 | Answer::E630 => {
+                confirm(tx, key, &answer, out);
+            }
+        }
+    }
+
+    // Prepares an image, and sends it on along its chain.
+    #[tactic(auto, unfolding(crate::specs::Storage::store_row))]
+    fn store(
+        &mut self,
+        tx: TxId,
+        key: &Key,
+        image: &Option<Value>,
+        chain: &Members,
+        at: u8,
+        out: &mut Outs,
+    )
+        requires room { HasRoom out.old }
+        requires rows { R.has_room self.old.rows key.now }
+        requires journal { J.has_room self.old.journal (need_of tx key.now image.now) }
+        ensures few { length out.new.sends ≤ length out.old.sends + 1 }
+        ensures taken { IsTaken (store_row (storage (R.state_of self.old.rows) (J.used_of self.old.journal)) tx key.now image.now chain.now at) (storage (R.state_of self.new.rows) (J.used_of self.new.journal)) out.old out.new }
+    {
+        let had = self.rows.record_state(tx, key);
+        let need = need_of(tx, key, image);
+        match self.journal.reserve(need) {
+            Ok(()) => {}
+            Err(JournalFault::LogFull {
+                used,
+                reserved,
+                need,
+            }) => {
+                let cause = AbortCause::LogFull {
+                    used,
+                    reserved,
+                    need,
+                };
+                refuse(tx, key, cause, out);
+                return;
+            }
+            Err(JournalFault::NoMemory) => unreachable!(),
+        }
+        match self.rows.prepare_image(tx, key, image) {
+            Ok(()) => {
+                self.journal_image(tx, key, image, had);
+                out.mark(Mark::Prepared { tx, key: *key });
+                pass_on(tx, key, image, chain, at, out);
+            }
+            Err(RowsFault::Full { rows }) => {
+                self.journal.unreserve(need);
+                refuse(tx, key, AbortCause::TableFull { rows }, out);
+            }
+            Err(RowsFault::NoMemory) => unreachable!(),
+        }
+    }
+
+    // Appends the record of a prepared image, in bytes that are kept free. Those for its end are
+    // kept once, where the transaction had a record already.
+    fn journal_image(&mut self, tx: TxId, key: &Key, image: &Option<Value>, had: Option<bool>)
+        requires { need_of tx key.now image.now ≤ (J.used_of self.old.journal).reserved }
+        ensures rows { self.new.rows ≡ self.old.rows }
+        ensures journal { J.used_of self.new.journal ≡ kept_once (appending (J.used_of self.old.journal) (prepare_size tx key.now image.now)) (end_size tx key.now) had }
+    {
+        let prepare = Redo::Prepare {
+            tx,
+            fragment: 0,
+            key: *key,
+            image: *image,
+        };
+        self.journal.append(&prepare);
+        if let Some(_) = had {
+            self.journal.unreserve(end_size(tx, key));
+        }
+    }
+
+    /// Commits the transaction's prepared image of the row. Takes no memory.
+    #[tactic(auto, unfolding(crate::specs::Storage::committed_in))]
+    pub fn commit(&mut self, tx: TxId, key: &Key, epoch: u64)
+        ensures { storage (R.state_of self.new.rows) (J.used_of self.new.journal) ≡ committed_in (storage (R.state_of self.old.rows) (J.used_of self.old.journal)) tx key.now epoch }
+    {
+        self.rows.commit(tx, key, epoch);
+        let redo = Redo::Commit {
+            tx,
+            epoch,
+            key: *key,
+        };
+        if redo.size() <= self.journal.reserved() {
+            self.journal.append(&redo);
+        }
+    }
+
+    /// Gives the transaction's prepared image of the row up. Takes no memory.
+    #[tactic(auto, unfolding(crate::specs::Storage::aborted_in))]
+    pub fn abort(&mut self, tx: TxId, key: &Key)
+        ensures { storage (R.state_of self.new.rows) (J.used_of self.new.journal) ≡ aborted_in (storage (R.state_of self.old.rows) (J.used_of self.old.journal)) tx key.now }
+    {
+        self.rows.abort(tx, key);
+        let redo = Redo::Abort { tx, key: *key };
+        if redo.size() + SPARED <= self.journal.reserved() {
+            self.journal.append(&redo);
+            self.journal.unreserve(SPARED);
+        }
+    }
+}
+
+/// By how many bytes an `Abort` is shorter than the `Commit` that is kept free for.
+pub const SPARED: u64 = 8;
+
+// The bytes that a journal needs for an image.
+fn need_of(tx: TxId, key: &Key, image: &Option<Value>) -> u64
+    ensures need { result ≡ need_of tx key.now image.now }
+    ensures most { result ≤ 504 }
+{
+    let prepare = Redo::Prepare {
+        tx,
+        fragment: 0,
+        key: *key,
+        image: *image,
+    };
+    prepare.size() + end_size(tx, key)
+}
+
+// The bytes that are kept free for the end of a prepared image.
+fn end_size(tx: TxId, key: &Key) -> u64
+    ensures size { result ≡ end_size tx key.now }
+    ensures most { result ≤ 252 }
+{
+    let commit = Redo::Commit {
+        tx,
+        epoch: 0,
+        key: *key,
+    };
+    commit.size()
+}
+
+/// Refuses a transaction at a key.
+pub fn refuse(tx: TxId, key: &Key, cause: AbortCause, out: &mut Outs)
+    requires { length out.old.sends < 16 }
+    ensures { out.new ≡ and_send out.old (refusal tx key.now cause).to (refusal tx key.now cause).body }
+{
+    let body = ChainSignal::LqhKeyRef {
+        tx,
+        key: *key,
+        cause,
+    };
+    out.send(coordinator_of(tx), Body::Chain(body));
+}
+
+// Answers an operation.
+fn confirm(tx: TxId, key: &Key, answer: &Answer, out: &mut Outs)
+    requires { length out.old.sends < 16 }
+    ensures { out.new ≡ and_send out.old (confirmed tx key.now answer.now).to (confirmed tx key.now answer.now).body }
+{
+    let body = ChainSignal::LqhKeyConf {
+        tx,
+        key: *key,
+        answer: *answer,
+    };
+    out.send(coordinator_of(tx), Body::Chain(body));
+}
+
+// Sends a prepared image to the next place of its chain, or answers the write.
+fn pass_on(
+    tx: TxId,
+    key: &Key,
+    image: &Option<Value>,
+    chain: &Members,
+    at: u8,
+    out: &mut Outs,
+)
+    requires { length out.old.sends < 16 }
+    ensures { out.new ≡ and_send out.old (passed_on tx key.now image.now chain.now at).to (passed_on tx key.now image.now chain.now at).body }
+{
+    match chain.as_slice().get(at as usize + 1).copied() {
+        Some(next) => {
+            let body = ChainSignal::LqhKeyReq {
+                tx,
+                work: RowWork::Store(*key, *image),
+                chain: *chain,
+                at: at + 1,
+            };
+            out.send(rows_of(next.node), Body::Chain(body));
+        }
+        None => confirm(tx, key, &Answer::Done, out),
+    }
+}

@@ -1,0 +1,100 @@
+//! Rows in memory and the journal that counts, each on its own and where they are full.
+use super::conversation::{node, talk};
+use super::heard::{Heard, tx_of};
+use crate::{CountJournal, MapRows, PLACES};
+use sig_core::{Answer, Journal, JournalFault, Key, NoMemory, Op, Rows, Value};
+use std::test::Fail;
+
+#[test]
+fn a_write_is_prepared(rt: HostRuntime) -> Result<(), Fail> {
+    let mut rows = MapRows::new(rt.alloc());
+    let op = Op::Ins(Key::new(b"a")?, Value::new(b"x")?);
+    rows.make_room(op.key())?;
+    let answers = [rows.prepare(tx_of(1), &op), rows.prepare(tx_of(1), &op)];
+    assert_eq!(rt; answers[0], Ok(Answer::Done));
+    assert_eq!(rt; answers[1], Ok(Answer::E630));
+    Ok(())
+}
+
+#[test]
+fn a_journal_has_16_mib(rt: HostRuntime) {
+    let mut journal = CountJournal::new();
+    let full = JournalFault::LogFull {
+        used: 0,
+        reserved: 0,
+        need: 16_777_217,
+    };
+    assert_eq!(rt; journal.reserve(16_777_217), Err(full));
+    assert_eq!(rt; journal.reserve(16_777_216), Ok(()));
+}
+
+// The key of a number.
+fn numbered(number: usize) -> Result<Key, Fail> {
+    let mut digits = [b'0'; 6];
+    let mut rest = number;
+    for digit in &mut digits {
+        *digit = b'0' + (rest % 10) as u8;
+        rest /= 10;
+    }
+    Ok(Key::new(&digits)?)
+}
+
+// Rows that take so many places.
+fn fill(rows: &mut MapRows, count: usize) -> Result<(), Fail> {
+    let value = Value::new(b"x")?;
+    for i in 0..count {
+        rows.put_row(&numbered(i)?, &value)?;
+    }
+    Ok(())
+}
+
+#[test]
+fn a_full_table_refuses_a_write(rt: HostRuntime) -> Result<(), Fail> {
+    let alloc = rt.alloc();
+    let mut rows = MapRows::new(alloc);
+    fill(&mut rows, PLACES - 1)?;
+    let mut lqh = node(alloc, rows, CountJournal::new())?;
+    let lines = [
+        (Heard::Put(1, b'a', b'x'), "lqh2 store 1 at 1, prepared 1 a"),
+        (
+            Heard::Put(1, b'b', b'x'),
+            "tc1 refuse 1 b table 131072",
+        ),
+        (Heard::Put(1, b'a', b'y'), "lqh2 store 1 at 1, prepared 1 a"),
+        (Heard::Abort(1, b'a'), "tc1 aborted 1 a, done 1 a"),
+        (Heard::Put(1, b'b', b'x'), "lqh2 store 1 at 1, prepared 1 b"),
+    ];
+    talk(&rt, alloc, &mut lqh, &lines)
+}
+
+// A row of each of these letters.
+fn put_letters(rows: &mut MapRows, letters: &[u8]) -> Result<(), Fail> {
+    let value = Value::new(b"x")?;
+    for letter in letters {
+        rows.put_row(&Key::new(&[*letter])?, &value)?;
+    }
+    Ok(())
+}
+
+#[test]
+fn ten_rows_are_dumped_in_two_parts(rt: HostRuntime) -> Result<(), Fail> {
+    let alloc = rt.alloc();
+    let mut rows = MapRows::new(alloc);
+    put_letters(&mut rows, b"abcdefghij")?;
+    let mut lqh = node(alloc, rows, CountJournal::new())?;
+    let lines = [
+        (Heard::Dump(0), "api0 rows axbxcxdxexfxgxhx next 8"),
+        (Heard::Dump(8), "api0 rows ixjx"),
+        (Heard::Dump(10), "api0 rows "),
+        (Heard::Del(1, b'd'), "lqh2 store 1 at 1, prepared 1 d"),
+        (Heard::Commit(1, b'd', 0), "tc1 committed 1 d, applied 1 d"),
+        (Heard::Dump(0), "api0 rows axbxcxexfxgxhxix next 9"),
+        (Heard::Put(2, b'k', b'y'), "lqh2 store 2 at 1, prepared 2 k"),
+        (Heard::Complete(1, b'd', 0), "tc1 completed 1 d, done 1 d"),
+        (Heard::Put(2, b'l', b'z'), "lqh2 store 2 at 1, prepared 2 l"),
+        (Heard::Commit(2, b'k', 0), "tc1 committed 2 k, applied 2 k"),
+        (Heard::Commit(2, b'l', 0), "tc1 committed 2 l, applied 2 l"),
+        (Heard::Dump(0), "api0 rows axbxcxlzexfxgxhx next 8"),
+    ];
+    talk(&rt, alloc, &mut lqh, &lines)
+}
