@@ -31,10 +31,12 @@ impl Shell {
         ensures ok { OnOk result (served self.old body.now ≡ self.new) }
         ensures err { OnErr result (self.new ≡ self.old) }
     {
-        if let Body::Host(HostSignal::Continue {
-            work: Work::Request(_),
-            at: _,
-        }) = body
+        if let Body::Host(
+            HostSignal::Continue {
+                work: Work::Request(_),
+                at: _,
+            },
+        ) = body
         {
             self.replies.push_back(ApiReply::Answered {
                 name: None,
@@ -107,7 +109,7 @@ impl Host {
 
 impl Actor for Host {
     ghost use Rattle.node_core.specs.Row.{served};
-ghost use Rattle.sig_core.specs.Step.{stay};
+    ghost use Rattle.sig_core.specs.Step.{stay};
     ghost use Rattle.node_core.specs.Row.{row};
 
     ghost step = { λ s signal. row s signal.to signal.body };

@@ -12,7 +12,7 @@ use Rattle.sig_core.specs.declared.reply.ApiReply.{ApiReply}
 use Rattle.world_core.specs.Driven.{IsSound}
 use Rattle.world_core.specs.Machine.{after, hosts}
 use Rattle.world_core.specs.Right.{IsRight}
-use Rattle.world_core.specs.Start.{Start, first_view, started}
+use Rattle.world_core.specs.Start.{Start, first_view}
 use Rattle.world_core.specs.World.{Whole, body_at, is_left_open, is_open_in, logs_at, replies_in, replies_of, with_replies, with_replies_in}
 
 -- the first host is the shell's, and no other one is

@@ -1,9 +1,8 @@
 -- What the calls of a world come to.
 use Rattle.std.proofs.Common.{◌≡◌, ℕ, ◌<◌, List, Bool, true, false, refl, ap, sym, ◌∙◌, subst, arith}
-use Rattle.std.specs.Prelude.{None, Some, IfOk, OnErr, OnOk, Result, Ok, Err, slice_index_or}
+use Rattle.std.specs.Prelude.{None, Some, OnOk, Result, Ok, Err, slice_index_or}
 use Rattle.std.proofs.lemmas.Bool.{true≢false}
 use Rattle.run_theory.proofs.Pasts.{past_self, past_trans}
-use Rattle.sig_core.specs.declared.log.HostLog.{HostLog}
 use Rattle.sig_core.specs.declared.log.LogStep.{LogStep}
 use Rattle.sig_core.specs.declared.no_memory.NoMemory.{NoMemory}
 use Rattle.sig_core.specs.declared.request.ApiReq.{ApiReq}
@@ -12,9 +11,10 @@ use Rattle.world_core.specs.Driven.{HasAsked, HaveGrown, IsDriven, IsSound, IsSt
 use Rattle.world_core.specs.Inbox.{taken}
 use Rattle.world_core.specs.Machine.{hosts, request_signal}
 use Rattle.world_core.specs.Network.{Links, take_first}
-use Rattle.world_core.specs.Start.{Start}
-use Rattle.world_core.specs.World.{CanTake, IsOf, IsQuiet, Whole, asked, logs_at, moved}
+use Rattle.world_core.specs.Start.{Start, fresh}
+use Rattle.world_core.specs.World.{CanTake, IsOf, IsQuiet, Whole, asked, logs_at, moved, new_world}
 use Rattle.world_core.proofs.AskDriven as ask
+use Rattle.world_core.proofs.FreshWorld.{fresh_sound}
 use Rattle.world_core.proofs.QuietLemmas.{none_taken}
 use Rattle.world_core.proofs.StepDriven.{right_logs, step_driven, within}
 use Rattle.world_core.proofs.TakeRight.{left_of, taken_between, taken_first}
@@ -113,7 +113,13 @@ is_quiet w a b false is way stepped =
     let stayed = stepped way.is.start way.is.sound in
     subst IsQuiet (sym stayed.0) stayed.1
 
--- a step failed, and the logs are as they were before it
-pub has_failed : (w a : Whole) (logs : List HostLog) → IsUnderWay w a → logs ≡ a.logs → (start : Start) → IsSound start w → HaveGrown start (logs_at w.logs) (logs_at logs)
-has_failed w a logs way same start sound =
-    subst (λ (ls : List HostLog). HaveGrown start (logs_at w.logs) (logs_at ls)) (sym same) (way.driven start sound).grown
+-- a fresh world
+pub fresh_world : (w : Whole) (nodes : ℕ) → w ≡ new_world (fresh nodes) → IsWorld w
+fresh_world w nodes same = record { start = fresh nodes; sound = subst (IsSound (fresh nodes)) (sym same) (fresh_sound (fresh nodes)) }
+
+-- a world that was asked for something
+pub asked_sound : (start : Start) (request : ApiReq) (w t : Whole) → HasAsked start request w t → IsSound start w → IsSound start t
+asked_sound start request w t asked sound = record { given = sound.given; right = asked.right sound.given sound.right }
+
+pub asked_world : (request : ApiReq) (w t : Whole) → ((start : Start) → IsSound start w → HasAsked start request w t) → IsWorld w → IsWorld t
+asked_world request w t asked is = record { start = is.start; sound = asked_sound is.start request w t (asked is.start is.sound) is.sound }

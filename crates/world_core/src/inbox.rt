@@ -114,13 +114,7 @@ impl Inbox {
     ///
     /// # Errors
     /// `NoMemory`, and then the inbox is of no use.
-    pub fn put(
-        &mut self,
-        view: &View,
-        from: u8,
-        stamp: u64,
-        sent: Outgoing,
-    ) -> Result<(), NoMemory>
+    pub fn put(&mut self, view: &View, from: u8, stamp: u64, sent: Outgoing) -> Result<(), NoMemory>
         ensures { OnOk result (self.new ≡ with_sent self.old view.now from stamp sent) }
     {
         let at = usize::from(from);

@@ -8,3 +8,6 @@ mod network;
 mod world;
 
 pub use world::World;
+
+#[cfg(test)]
+mod tests;

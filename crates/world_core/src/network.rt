@@ -45,13 +45,7 @@ impl Network {
     ///
     /// # Errors
     /// `NoMemory`, and then the network is of no use.
-    pub fn put(
-        &mut self,
-        view: &View,
-        from: u8,
-        stamp: u64,
-        sent: Outgoing,
-    ) -> Result<(), NoMemory>
+    pub fn put(&mut self, view: &View, from: u8, stamp: u64, sent: Outgoing) -> Result<(), NoMemory>
         ensures { OnOk result (self.new ≡ put self.old view.now from stamp sent) }
     {
         let at = usize::from(sent.to.node);
