@@ -78,11 +78,11 @@ given_shell given (Shell s) = refl
 given_shell given (Node n) = refl
 
 pub shell_is : (view : View) → is_shell (fresh_shell view) ≡ true
-unfolding is_shell
+unfolding is_shell fresh_shell
 shell_is view = refl
 
 pub node_is : (node : ℕ) (view : View) (epoch : ℕ) (rows : List (List ℕ × List ℕ)) → is_shell (fresh_node node view epoch rows) ≡ false
-unfolding is_shell
+unfolding is_shell fresh_node
 node_is node view epoch rows = refl
 
 -- nothing was had of the shell's replies

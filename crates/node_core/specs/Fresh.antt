@@ -4,8 +4,8 @@ use Rattle.node_core.specs.declared.host.Host.{Host}
 use Rattle.node_core.specs.declared.host.Host.TheVariants.{Shell, Node}
 use Rattle.sig_core.specs.declared.view.View.{View}
 
-abbrev pub fresh_shell : View → Host
+unfoldable pub fresh_shell : View → Host
 fresh_shell view = Shell (record { replies = [] })
 
-abbrev pub fresh_node : ℕ → View → ℕ → List (List ℕ × List ℕ) → Host
+unfoldable pub fresh_node : ℕ → View → ℕ → List (List ℕ × List ℕ) → Host
 fresh_node node view epoch rows = Node (record { node = node })

@@ -62,6 +62,7 @@ pub enum Host {
 
 impl Host {
     /// The shell.
+    #[tactic(auto, unfolding(crate::specs::Fresh::fresh_shell))]
     pub fn shell(alloc: Global, view: &View) -> Result<Host, NoMemory>
         ensures { IfOk result (λ host. host ≡ fresh_shell view.now) }
     {
@@ -72,6 +73,7 @@ impl Host {
     }
 
     /// A node.
+    #[tactic(auto, unfolding(crate::specs::Fresh::fresh_node))]
     pub fn node(
         alloc: Global,
         node: u8,
