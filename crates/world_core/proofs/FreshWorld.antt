@@ -1,57 +1,92 @@
 -- A fresh world is right: nothing was sent, taken or asked.
-use Rattle.std.proofs.Common.{◌≡◌, ℕ, zero, suc, ◌<◌, ◌≤◌, [], ◌∷◌, ◌++◌, refl, ap, sym, ◌∙◌, subst, arith, lit≤, reverse}
+use Rattle.std.proofs.Common.{◌≡◌, ◌⊎◌, inl, inr, ℕ, zero, suc, ◌-◌, ◌<◌, ◌≤◌, List, [], ◌∷◌, ◌++◌, length, refl, ap, sym, ◌∙◌, subst, arith, replicate, reverse}
 use Rattle.std.specs.Prelude.{slice_index_or}
-use Rattle.std.proofs.lemmas.List.{get_or-replicate}
+use Rattle.std.proofs.lemmas.Bool.{cases_lt}
+use Rattle.std.proofs.lemmas.List.{get_or-append_right, get_or-replicate, get_or_append_left, get_or_past, length-append, length-replicate}
+use Rattle.node_core.proofs.HostLemmas.{given_none}
+use Rattle.node_core.specs.Fresh.{fresh_shell}
 use Rattle.run_theory.specs.Links.{sent, taken}
 use Rattle.run_theory.specs.Logs.{IsLog}
-use Rattle.world_core.specs.Driven.{latest_to_come}
-use Rattle.world_core.specs.Idle.{idle}
-use Rattle.world_core.specs.Machine.{last_stamp, machine, sent_count}
-use Rattle.world_core.specs.Network.{LinkState, link, new_link, place_of}
+use Rattle.sig_core.specs.declared.log.HostLog.{HostLog}
+use Rattle.sig_core.specs.declared.log.LogStep.{LogStep}
+use Rattle.world_core.specs.Driven.{IsSound}
+use Rattle.world_core.specs.Inbox.{LinkState, link_from, new_link}
+use Rattle.world_core.specs.Machine.{after, hosts, last_stamp, machine, sent_count}
+use Rattle.world_core.specs.Network.{AreLinks, inbox_of, link}
 use Rattle.world_core.specs.Requests.{AreAskedAtQuiet}
 use Rattle.world_core.specs.Right.{IsRight}
-use Rattle.world_core.specs.Start.{fresh}
-use Rattle.world_core.specs.World.{logs_at, new_world, state_of}
-use Rattle.std.specs.FinMap as map
+use Rattle.world_core.specs.Start.{Start, first_view, started}
+use Rattle.world_core.specs.World.{body_at, for_each, logs_at, new_world, no_steps}
 
-no_log : (h : ℕ) → logs_at new_world.logs h ≡ []
-no_log zero = refl
-no_log (suc zero) = refl
-no_log (suc (suc zero)) = refl
-no_log (suc (suc (suc h))) = refl
+-- what is there for each host
+each_length : {A : Type 0} (n : ℕ) (thing : ℕ → A) → length (for_each n thing) ≡ n
+each_length zero thing = refl
+each_length (suc n) thing = length-append (for_each n thing) (thing n ∷ []) ∙ (let before = each_length n thing in omega (arith, before))
 
-no_stamp : (h : ℕ) → h < 3 → slice_index_or new_world.stamps h 0 ≡ last_stamp (logs_at new_world.logs h)
-no_stamp zero low = refl
-no_stamp (suc zero) low = refl
-no_stamp (suc (suc zero)) low = refl
-no_stamp (suc (suc (suc h))) low = absurd (omega (arith, low))
+each_at : {A : Type 0} (n : ℕ) (thing : ℕ → A) (h : ℕ) (d : A) → h < n → slice_index_or (for_each n thing) h d ≡ thing h
+each_at zero thing h d low = absurd (omega (arith, low))
+each_at {A = A} (suc n) thing h d low = go (each_at n thing h d) (cases_lt h n)
+  where
+    first_of : (x : A) → slice_index_or (x ∷ []) (n - n) d ≡ x
+    first_of x = let none : n - n ≡ 0 = omega arith in ap (λ k. slice_index_or (x ∷ []) k d) none
 
-no_signal : (i j : ℕ) → i < 3 → j < 3 → link new_world.links i j ≡ new_link
-no_signal i j i_low low = get_or-replicate 9 (place_of i j) new_link new_link (omega (arith, i_low, low))
+    go : (h < n → slice_index_or (for_each n thing) h d ≡ thing h) → (h < n) ⊎ (n ≤ h) → slice_index_or (for_each n thing ++ thing n ∷ []) h d ≡ thing h
+    go before (inl below) = get_or_append_left (for_each n thing) (thing n ∷ []) d h (omega (arith, below, each_length n thing)) ∙ before below
+    go before (inr last) =
+        let at : n ≡ h = omega (arith, last, low) in
+        subst (λ k. slice_index_or (for_each n thing ++ thing n ∷ []) k d ≡ thing k) at
+        (get_or-append_right (for_each n thing) (thing n ∷ []) n n d (each_length n thing) (omega arith) ∙ first_of (thing n))
 
-pub fresh_right : IsRight fresh [] new_world
-fresh_right =
-    record {
-      three_logs = refl;
-      three_stamps = refl;
-      nine_links = refl;
-      local = λ h low. subst (IsLog (machine fresh) h) (sym (no_log h)) tt;
-      stamps = no_stamp;
-      linked = λ i j i_low low.
-          ap (sent (machine fresh) i j) (no_log i)
-          ∙ sym (ap (λ (l : LinkState). reverse l.signals ++ taken (machine fresh) i (logs_at new_world.logs j)) (no_signal i j i_low low) ∙ ap (taken (machine fresh) i) (no_log j));
-      counts = λ i j i_low low. ap (λ (l : LinkState). l.sent) (no_signal i j i_low low) ∙ ap (λ log. sent_count fresh log j) (sym (no_log i));
-      no_others = λ i j high. ap (taken (machine fresh) i) (no_log j);
-      blocks = record { api = refl; tc = refl; dih = refl; primary = refl; backup = refl };
-    }
+module _ (start : Start) where
+  no_log : (h : ℕ) → logs_at (new_world start).logs h ≡ []
+  no_log h = go (cases_lt h (hosts start))
+    where
+      go : (h < hosts start) ⊎ (hosts start ≤ h) → logs_at (new_world start).logs h ≡ []
+      go (inl low) = ap (λ (log : HostLog). reverse log.steps) (each_at (hosts start) no_steps h (no_steps 0) low)
+      go (inr past) = ap (λ (log : HostLog). reverse log.steps) (get_or_past (for_each (hosts start) no_steps) h (no_steps 0) (omega (arith, past, each_length (hosts start) no_steps)))
 
--- nothing was asked
-pub fresh_asked : AreAskedAtQuiet fresh (logs_at new_world.logs)
-fresh_asked [] e before is asked = cc
-fresh_asked (n ∷ newer) e before is asked = cc
+  no_inbox : (j : ℕ) → j < hosts start → inbox_of (new_world start).links j ≡ replicate (hosts start) new_link
+  no_inbox j low = get_or-replicate (hosts start) j (replicate (hosts start) new_link) [] low
 
-pub fresh_idle : state_of new_world ≡ idle 1 map.empty []
-fresh_idle = refl
+  no_signal : (i j : ℕ) → i < hosts start → j < hosts start → link (new_world start).links i j ≡ new_link
+  no_signal i j i_low low = ap (λ ls. link_from ls i) (no_inbox j low) ∙ get_or-replicate (hosts start) i new_link new_link i_low
 
-pub fresh_clock : latest_to_come new_world ≤ 22
-fresh_clock = lit≤ tt
+  links_there : AreLinks (hosts start) (new_world start).links
+  links_there =
+      record {
+        inboxes = length-replicate (hosts start) (replicate (hosts start) new_link);
+        each = λ j low. ap length (no_inbox j low) ∙ length-replicate (hosts start) new_link;
+      }
+
+  pub fresh_right : IsRight start [] (new_world start)
+  fresh_right =
+      record {
+        view = refl;
+        sizes = record {
+          bodies = each_length (hosts start) (started start);
+          links = links_there;
+          stamps = length-replicate (hosts start) 0;
+          logs = each_length (hosts start) no_steps;
+        };
+        local = λ h low. subst (IsLog (machine start) h) (sym (no_log h)) tt;
+        stamps = λ h low. get_or-replicate (hosts start) h 0 0 low ∙ ap last_stamp (sym (no_log h));
+        linked = λ i j i_low low.
+            ap (sent (machine start) i j) (no_log i)
+            ∙ sym (ap (λ (l : LinkState). reverse l.signals ++ taken (machine start) i (logs_at (new_world start).logs j)) (no_signal i j i_low low) ∙ ap (taken (machine start) i) (no_log j));
+        counts = λ i j i_low low. ap (λ (l : LinkState). l.sent) (no_signal i j i_low low) ∙ ap (λ log. sent_count start i log j) (sym (no_log i));
+        no_others = λ i j high. ap (taken (machine start) i) (no_log j);
+        blocks = λ h low.
+            ap (after start h) (no_log h)
+            ∙ sym (given_none (body_at (new_world start).bodies h) ∙ each_at (hosts start) (started start) h (fresh_shell (first_view 0)) low);
+      }
+
+  pub fresh_sound : IsSound start (new_world start)
+  fresh_sound = record { given = []; right = fresh_right }
+
+  -- nothing was asked
+  pub fresh_asked : AreAskedAtQuiet start (logs_at (new_world start).logs)
+  fresh_asked newer e before is asked = absurd (none newer (sym (no_log 0) ∙ is))
+    where
+      none : (newer : List LogStep) → [] ≡ newer ++ e ∷ before → ⊥
+      none [] is = cc
+      none (n ∷ newer) is = cc

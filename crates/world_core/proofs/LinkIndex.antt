@@ -1,60 +1,116 @@
 -- What putting signals on links, and taking one, does to each link.
-use Rattle.std.proofs.Common.{◌≡◌, ◌≢◌, ℕ, ◌<◌, List, [], ◌∷◌, length, Bool, true, false, refl, ap, sym, ◌∙◌, arith, true≢false}
+use Rattle.std.proofs.Common.{◌≡◌, ◌≢◌, ◌⊎◌, inl, inr, ℕ, ◌<◌, List, [], ◌∷◌, length, Bool, true, false, refl, ap, sym, ◌∙◌, subst, arith, true≢false}
 use Rattle.std.proofs.lemmas.Bool.Decides.{nat_tests}
-use Rattle.std.specs.Prelude.{if◌then◌else◌, ◌==◌, ◌&&◌, nat_lt, slice_set}
-use Rattle.std.proofs.lemmas.Bool.{eqb-true, eq-eqb}
+use Rattle.std.specs.Prelude.{if◌then◌else◌, ◌==◌, nat_lt, slice_set}
+use Rattle.std.proofs.lemmas.Bool.{cases_eq, eqb-true, eq-eqb}
 use Rattle.std.proofs.lemmas.List.{get_or-set_same, get_or-set_other, length-set}
 use Rattle.sig_core.specs.declared.outs.Outgoing.{Outgoing}
+use Rattle.sig_core.specs.declared.view.View.{View}
+use Rattle.world_core.specs.Inbox.{LinkState, behind, link_from, new_link, with_sent}
 use Rattle.world_core.specs.Machine.{headed}
-use Rattle.world_core.specs.Network.{LinkState, behind, link, new_link, place_of, put, put_all}
+use Rattle.world_core.specs.Network.{AreLinks, Links, inbox_of, link, put, put_all}
+
+-- a link with one more signal of a host
+abbrev more_sent : LinkState → View → ℕ → ℕ → Outgoing → LinkState
+more_sent l view h stamp sent = behind l (headed view h stamp l.sent sent)
+
+-- an inbox keeps its length
+with_sent_length : (inbox : List LinkState) (view : View) (h stamp : ℕ) (sent : Outgoing) → length (with_sent inbox view h stamp sent) ≡ length inbox
+with_sent_length inbox view h stamp sent = go (nat_lt h (length inbox))
+  where
+    go : (b : Bool) → length (if b then slice_set inbox h (more_sent (link_from inbox h) view h stamp sent) else inbox) ≡ length inbox
+    go true = length-set inbox h (more_sent (link_from inbox h) view h stamp sent)
+    go false = refl
+
+-- of an inbox the link of the sender changes
+with_sent_own : (inbox : List LinkState) (view : View) (h stamp : ℕ) (sent : Outgoing) → h < length inbox
+    → link_from (with_sent inbox view h stamp sent) h ≡ more_sent (link_from inbox h) view h stamp sent
+with_sent_own inbox view h stamp sent there = go (nat_lt h (length inbox)) refl
+  where
+    go : (b : Bool) → nat_lt h (length inbox) ≡ b
+        → link_from (if b then slice_set inbox h (more_sent (link_from inbox h) view h stamp sent) else inbox) h ≡ more_sent (link_from inbox h) view h stamp sent
+    go true e = get_or-set_same inbox h (more_sent (link_from inbox h) view h stamp sent) new_link there
+    go false e = absurd (grind (arith, nat_tests, e, there))
+
+with_sent_other : (inbox : List LinkState) (view : View) (h stamp : ℕ) (sent : Outgoing) (i : ℕ) → i ≢ h
+    → link_from (with_sent inbox view h stamp sent) i ≡ link_from inbox i
+with_sent_other inbox view h stamp sent i differs = go (nat_lt h (length inbox))
+  where
+    go : (b : Bool) → link_from (if b then slice_set inbox h (more_sent (link_from inbox h) view h stamp sent) else inbox) i ≡ link_from inbox i
+    go true = get_or-set_other inbox h i (more_sent (link_from inbox h) view h stamp sent) new_link differs
+    go false = refl
+
+-- an inbox, put in the place of one
+abbrev placed : Links → ℕ → List LinkState → Links
+placed links to new = if nat_lt to (length links) then slice_set links to new else links
+
+placed_own : (links : Links) (to : ℕ) (new : List LinkState) (j : ℕ) → j < length links → to ≡ j → inbox_of (placed links to new) j ≡ new
+placed_own links to new j there at = subst (λ k. inbox_of (placed links to new) k ≡ new) at (go (nat_lt to (length links)) refl)
+  where
+    go : (b : Bool) → nat_lt to (length links) ≡ b → inbox_of (if b then slice_set links to new else links) to ≡ new
+    go true e = get_or-set_same links to new [] (subst (λ k. k < length links) (sym at) there)
+    go false e = absurd (grind (arith, nat_tests, e, there, at))
+
+placed_other : (links : Links) (to : ℕ) (new : List LinkState) (j : ℕ) → j ≢ to → inbox_of (placed links to new) j ≡ inbox_of links j
+placed_other links to new j apart = go (nat_lt to (length links))
+  where
+    go : (b : Bool) → inbox_of (if b then slice_set links to new else links) j ≡ inbox_of links j
+    go true = get_or-set_other links to j new [] apart
+    go false = refl
 
 -- the number of links stays
-put_if_length : (links : List LinkState) (at : ℕ) (new : LinkState) (b : Bool) → length (if b then slice_set links at new else links) ≡ length links
-put_if_length links at new true = length-set links at new
-put_if_length links at new false = refl
+pub set_links : (n : ℕ) (links : Links) (to : ℕ) (new : List LinkState) → AreLinks n links → length new ≡ length (inbox_of links to) → AreLinks n (slice_set links to new)
+set_links n links to new are same = record { inboxes = length-set links to new ∙ are.inboxes; each = λ j low. go j low (cases_eq j to) }
+  where
+    go : (j : ℕ) → j < n → (j ≡ to) ⊎ (j ≢ to) → length (inbox_of (slice_set links to new) j) ≡ n
+    go j low (inl at) =
+        subst (λ k. length (inbox_of (slice_set links to new) k) ≡ n) (sym at)
+        (ap length (get_or-set_same links to new [] (omega (arith, at, low, are.inboxes))) ∙ same ∙ are.each to (omega (arith, at, low)))
+    go j low (inr apart) = ap length (get_or-set_other links to j new [] apart) ∙ are.each j low
 
-pub put_length : (links : List LinkState) (h stamp : ℕ) (sent : Outgoing) → length (put links h stamp sent) ≡ length links
-put_length links h stamp sent = put_if_length links (place_of h sent.to.node) (behind (link links h sent.to.node) (headed h stamp (link links h sent.to.node).sent sent)) (nat_lt sent.to.node 3 && nat_lt h 3)
+pub put_links : (n : ℕ) (links : Links) (view : View) (h stamp : ℕ) (sent : Outgoing) → AreLinks n links → AreLinks n (put links view h stamp sent)
+put_links n links view h stamp sent are = go (nat_lt sent.to.node (length links))
+  where
+    go : (b : Bool) → AreLinks n (if b then slice_set links sent.to.node (with_sent (inbox_of links sent.to.node) view h stamp sent) else links)
+    go true = set_links n links sent.to.node (with_sent (inbox_of links sent.to.node) view h stamp sent) are (with_sent_length (inbox_of links sent.to.node) view h stamp sent)
+    go false = are
 
-pub put_all_length : (links : List LinkState) (h stamp : ℕ) (sends : List Outgoing) → length (put_all links h stamp sends) ≡ length links
-put_all_length links h stamp [] = refl
-put_all_length links h stamp (sent ∷ more) = put_all_length (put links h stamp sent) h stamp more ∙ put_length links h stamp sent
+pub put_all_links : (n : ℕ) (links : Links) (view : View) (h stamp : ℕ) (sends : List Outgoing) → AreLinks n links → AreLinks n (put_all links view h stamp sends)
+put_all_links n links view h stamp [] are = are
+put_all_links n links view h stamp (sent ∷ more) are = put_all_links n (put links view h stamp sent) view h stamp more (put_links n links view h stamp sent are)
 
 -- a link of another sender stays as it is
-other_if : (links : List LinkState) (at i j : ℕ) (new : LinkState) (b : Bool) → (b ≡ true → place_of i j ≢ at) → link (if b then slice_set links at new else links) i j ≡ link links i j
-other_if links at i j new true differs = get_or-set_other links at (place_of i j) new new_link (differs refl)
-other_if links at i j new false differs = refl
+put_other : (links : Links) (view : View) (h stamp : ℕ) (sent : Outgoing) (i j : ℕ) → i ≢ h → link (put links view h stamp sent) i j ≡ link links i j
+put_other links view h stamp sent i j differs = go (cases_eq j sent.to.node)
+  where
+    go : (j ≡ sent.to.node) ⊎ (j ≢ sent.to.node) → link (put links view h stamp sent) i j ≡ link links i j
+    go (inl at) = there (nat_lt sent.to.node (length links)) refl
+      where
+        there : (b : Bool) → nat_lt sent.to.node (length links) ≡ b → link (if b then slice_set links sent.to.node (with_sent (inbox_of links sent.to.node) view h stamp sent) else links) i j ≡ link links i j
+        there true e =
+            subst (λ k. link (slice_set links sent.to.node (with_sent (inbox_of links sent.to.node) view h stamp sent)) i k ≡ link links i k) (sym at)
+            (ap (λ b. link_from b i) (get_or-set_same links sent.to.node (with_sent (inbox_of links sent.to.node) view h stamp sent) [] (grind (arith, nat_tests, e)))
+            ∙ with_sent_other (inbox_of links sent.to.node) view h stamp sent i differs)
+        there false e = refl
+    go (inr apart) = ap (λ b. link_from b i) (placed_other links sent.to.node (with_sent (inbox_of links sent.to.node) view h stamp sent) j apart)
 
-put_other : (links : List LinkState) (h stamp : ℕ) (sent : Outgoing) (i j : ℕ) → i < 3 → h < 3 → i ≢ h → link (put links h stamp sent) i j ≡ link links i j
-put_other links h stamp sent i j low there differs =
-    other_if links (place_of h sent.to.node) i j (behind (link links h sent.to.node) (headed h stamp (link links h sent.to.node).sent sent)) (nat_lt sent.to.node 3 && nat_lt h 3)
-    (λ _ same. differs (omega (arith, same)))
-
-pub put_all_other : (links : List LinkState) (h stamp : ℕ) (sends : List Outgoing) (i j : ℕ) → i < 3 → h < 3 → i ≢ h → link (put_all links h stamp sends) i j ≡ link links i j
-put_all_other links h stamp [] i j low there differs = refl
-put_all_other links h stamp (sent ∷ more) i j low there differs =
-    put_all_other (put links h stamp sent) h stamp more i j low there differs ∙ put_other links h stamp sent i j low there differs
+pub put_all_other : (links : Links) (view : View) (h stamp : ℕ) (sends : List Outgoing) (i j : ℕ) → i ≢ h → link (put_all links view h stamp sends) i j ≡ link links i j
+put_all_other links view h stamp [] i j differs = refl
+put_all_other links view h stamp (sent ∷ more) i j differs =
+    put_all_other (put links view h stamp sent) view h stamp more i j differs ∙ put_other links view h stamp sent i j differs
 
 -- the link of the sender to host j: one more, if the signal is for j
-abbrev pub behind_if : Bool → LinkState → ℕ → ℕ → Outgoing → LinkState
-behind_if true l h stamp sent = behind l (headed h stamp l.sent sent)
-behind_if false l h stamp sent = l
+abbrev pub behind_if : Bool → LinkState → View → ℕ → ℕ → Outgoing → LinkState
+behind_if true l view h stamp sent = more_sent l view h stamp sent
+behind_if false l view h stamp sent = l
 
-own_if : (links : List LinkState) (h stamp : ℕ) (sent : Outgoing) (j : ℕ) (b c : Bool) → length links ≡ 9 → h < 3 → j < 3 → (nat_lt sent.to.node 3 && nat_lt h 3) ≡ b → (sent.to.node == j) ≡ c
-    → link (if b then slice_set links (place_of h sent.to.node) (behind (link links h sent.to.node) (headed h stamp (link links h sent.to.node).sent sent)) else links) h j
-    ≡ behind_if c (link links h j) h stamp sent
-own_if links h stamp sent j true true nine there low e same =
+pub put_own : (n : ℕ) (links : Links) (view : View) (h stamp : ℕ) (sent : Outgoing) (j : ℕ) (c : Bool) → AreLinks n links → h < n → j < n → (sent.to.node == j) ≡ c
+    → link (put links view h stamp sent) h j ≡ behind_if c (link links h j) view h stamp sent
+put_own n links view h stamp sent j true are there low same =
     let at : sent.to.node ≡ j = eqb-true sent.to.node j same in
-    let mine : ℕ → LinkState = λ n. behind (link links h n) (headed h stamp (link links h n).sent sent) in
-    ap (λ n. link (slice_set links (place_of h n) (mine n)) h j) at ∙ get_or-set_same links (place_of h j) (mine j) new_link (omega (arith, nine))
-own_if links h stamp sent j true false nine there low e same =
-    let apart : sent.to.node ≢ j = λ at. absurd (true≢false (sym (eq-eqb sent.to.node j at) ∙ same)) in
-    get_or-set_other links (place_of h sent.to.node) (place_of h j) (behind (link links h sent.to.node) (headed h stamp (link links h sent.to.node).sent sent)) new_link
-    (λ at. apart (omega (arith, at)))
-own_if links h stamp sent j false true nine there low e same =
-    let at : sent.to.node ≡ j = eqb-true sent.to.node j same in grind (arith, nat_tests, e, at)
-own_if links h stamp sent j false false nine there low e same = refl
-
-pub put_own : (links : List LinkState) (h stamp : ℕ) (sent : Outgoing) (j : ℕ) (c : Bool) → length links ≡ 9 → h < 3 → j < 3 → (sent.to.node == j) ≡ c
-    → link (put links h stamp sent) h j ≡ behind_if c (link links h j) h stamp sent
-put_own links h stamp sent j c nine there low same = own_if links h stamp sent j (nat_lt sent.to.node 3 && nat_lt h 3) c nine there low refl same
+    ap (λ b. link_from b h) (placed_own links sent.to.node (with_sent (inbox_of links sent.to.node) view h stamp sent) j (omega (arith, low, are.inboxes)) at)
+    ∙ with_sent_own (inbox_of links sent.to.node) view h stamp sent (omega (arith, there, are.each sent.to.node (omega (arith, at, low))))
+    ∙ ap (λ k. more_sent (link links h k) view h stamp sent) at
+put_own n links view h stamp sent j false are there low same =
+    let apart : j ≢ sent.to.node = λ at. absurd (true≢false (sym (eq-eqb sent.to.node j (sym at)) ∙ same)) in
+    ap (λ b. link_from b h) (placed_other links sent.to.node (with_sent (inbox_of links sent.to.node) view h stamp sent) j apart)

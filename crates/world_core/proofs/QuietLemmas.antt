@@ -1,22 +1,23 @@
--- Where no step is next, no link has a signal, and every host has taken all that it was sent.
-use Rattle.std.proofs.Common.{◌≡◌, ℕ, zero, suc, ◌+◌, ◌<◌, ◌≤◌, List, [], ◌∷◌, length, reverse, Bool, true, false, refl, ap, sym, ◌∙◌, arith}
+-- Where nothing can be taken, no link has a signal, and every host has taken all that it was sent.
+use Rattle.std.proofs.Common.{◌≡◌, ◌⊎◌, inl, inr, ℕ, zero, suc, ◌+◌, ◌<◌, ◌≤◌, List, [], ◌∷◌, length, reverse, Bool, true, false, refl, ap, sym, ◌∙◌, arith}
 use Rattle.std.specs.List.{prefix_len}
-use Rattle.std.specs.Prelude.{if◌then◌else◌, ◌++◌, nat_lt, not, position, slice_index_or, Option, None, Some}
-use Rattle.std.proofs.lemmas.Bool.{true≢false}
+use Rattle.std.specs.Prelude.{if◌then◌else◌, ◌++◌, is_some, nat_lt, not, position, slice_index_or, Option, None, Some}
+use Rattle.std.proofs.lemmas.Bool.{true≢false, cases_lt}
 use Rattle.std.proofs.lemmas.Bool.Decides.{nat_tests}
+use Rattle.std.proofs.lemmas.List.{get_or_past}
 use Rattle.std.proofs.lemmas.List.Quantifiers.{position-Some}
+use Rattle.run_theory.specs.Links.{taken}
 use Rattle.sig_core.specs.declared.reply.ApiReply.{ApiReply}
 use Rattle.sig_core.specs.declared.signal.Signal.{Signal}
-use Rattle.run_theory.specs.Links.{sent, taken}
-use Rattle.world_core.specs.Drive.{State, next, next_by}
-use Rattle.world_core.specs.Drive as drive
-use Rattle.world_core.specs.Network.{LinkState, Taken, is_busy, link, new_link, place_of, take_first, taken_at, taken_from}
+use Rattle.world_core.specs.Inbox.{LinkState, Taken, has_signal, is_busy, link_from, new_link}
+use Rattle.world_core.specs.Inbox as inbox
 use Rattle.world_core.specs.Machine.{hosts, machine}
+use Rattle.world_core.specs.Network.{AreIdle, Links, inbox_of, take_first, taken_at, taken_from}
 use Rattle.world_core.specs.Quiet.{IsQuiet}
 use Rattle.world_core.specs.Right.{IsRight}
 use Rattle.world_core.specs.Start.{Start}
-use Rattle.world_core.specs.World.{Whole, logs_at, state_of}
-use Rattle.world_core.proofs.FlightLemmas.{take_flight, without_headers}
+use Rattle.world_core.specs.World.{Whole, logs_at}
+use Rattle.world_core.specs.World as world
 
 -- a test that the first so many of a list pass, where these are all
 all_pass : {A : Type 0} (q : A → Bool) (xs : List A) (k : ℕ) (d : A) → length xs ≤ prefix_len q xs → k < length xs → q (slice_index_or xs k d) ≡ true
@@ -44,17 +45,17 @@ none_found p xs k d none low =
     far true e none = cc
     far false e none = grind (arith, nat_tests, e)
 
--- nothing is taken where no link is busy
-no_taken : (links : List LinkState) (at sent : ℕ) (signals : List Signal) → taken_from links at sent signals ≡ None → signals ≡ []
-no_taken links at sent [] e = refl
-no_taken links at sent (x ∷ more) e = cc
+-- nothing is taken from an inbox where no link of it is busy
+no_taken : (links : List LinkState) (from sent : ℕ) (signals : List Signal) → inbox.taken_from links from sent signals ≡ None → signals ≡ []
+no_taken links from sent [] e = refl
+no_taken links from sent (x ∷ more) e = cc
 
-none_busy : (links : List LinkState) (at : Option ℕ) → position is_busy links ≡ at → taken_at links at ≡ None → at ≡ None
+none_busy : (links : List LinkState) (at : Option ℕ) → position is_busy links ≡ at → inbox.taken_at links at ≡ None → at ≡ None
 none_busy links None is e = refl
-none_busy links (Some at) is e =
-    let found = position-Some is_busy links at new_link is in
-    let empty : (slice_index_or links at new_link).signals ≡ [] = no_taken links at (slice_index_or links at new_link).sent (slice_index_or links at new_link).signals e in
-    let busy : nat_lt 0 (length (slice_index_or links at new_link).signals) ≡ true = found.1 in
+none_busy links (Some from) is e =
+    let found = position-Some is_busy links from new_link is in
+    let empty : (link_from links from).signals ≡ [] = no_taken links from (link_from links from).sent (link_from links from).signals e in
+    let busy : nat_lt 0 (length (link_from links from).signals) ≡ true = found.1 in
     absurd (true≢false (sym busy ∙ ap (λ xs. nat_lt 0 (length xs)) empty))
 
 not_busy : (l : LinkState) → is_busy l ≡ false → l.signals ≡ []
@@ -64,21 +65,42 @@ not_busy l e = go l.signals e
     go [] e = refl
     go (x ∷ xs) e = absurd (grind (arith, nat_tests, e))
 
-pub links_empty : (links : List LinkState) → length links ≡ 9 → take_first links ≡ None → (i j : ℕ) → i < 3 → j < 3 → (link links i j).signals ≡ []
-links_empty links nine e i j i_low low =
-    not_busy (link links i j) (none_found is_busy links (place_of i j) new_link (none_busy links (position is_busy links) refl e) (omega (arith, nine, i_low, low)))
+-- no link of an inbox has a signal where no first one is found
+link_idle : (links : List LinkState) → position is_busy links ≡ None → (i : ℕ) → (link_from links i).signals ≡ []
+link_idle links none i = go (cases_lt i (length links))
+  where
+    go : (i < length links) ⊎ (length links ≤ i) → (link_from links i).signals ≡ []
+    go (inl low) = not_busy (link_from links i) (none_found is_busy links i new_link none low)
+    go (inr past) = ap (λ (l : LinkState). l.signals) (get_or_past links i new_link past)
 
-nothing_next : (s : State) (o : Option Taken) → next_by s (without_headers o) ≡ None → o ≡ None
-nothing_next s None e = refl
-nothing_next s (Some t) e = cc
+none_is : (o : Option ℕ) → is_some o ≡ false → o ≡ None
+none_is None e = refl
+none_is (Some at) e = cc
 
--- no step is next exactly where nothing can be taken
-pub none_to_take : (w : Whole) → drive.IsQuiet (state_of w) → take_first w.links ≡ None
-none_to_take w quiet = nothing_next (state_of w) (take_first w.links) (sym (ap (next_by (state_of w)) (take_flight w.links)) ∙ quiet)
+not_taken : (links : Links) (to : ℕ) (o : Option (Taken (List LinkState))) → taken_from links to o ≡ None → o ≡ None
+not_taken links to None e = refl
+not_taken links to (Some t) e = cc
 
-pub none_next : (w : Whole) → take_first w.links ≡ None → drive.IsQuiet (state_of w)
-none_next w e = ap (next_by (state_of w)) (take_flight w.links ∙ ap without_headers e)
+none_there : (links : Links) (at : Option ℕ) → position has_signal links ≡ at → taken_at links at ≡ None → at ≡ None
+none_there links None is e = refl
+none_there links (Some to) is e =
+    let found = position-Some has_signal links to [] is in
+    let none : position is_busy (inbox_of links to) ≡ None =
+    none_busy (inbox_of links to) (position is_busy (inbox_of links to)) refl (not_taken links to (inbox.take_first (inbox_of links to)) e) in
+    absurd (true≢false (sym found.1 ∙ ap is_some none))
 
-pub quiet_logs : (start : Start) (given : List ApiReply) (w : Whole) → IsRight start given w → drive.IsQuiet (state_of w) → IsQuiet (machine start) hosts (logs_at w.logs)
+-- nothing can be taken: nothing is under way
+pub none_taken : (links : Links) → take_first links ≡ None → AreIdle links
+none_taken links e i j = go (cases_lt j (length links))
+  where
+    none : position has_signal links ≡ None
+    none = none_there links (position has_signal links) refl e
+
+    go : (j < length links) ⊎ (length links ≤ j) → (link_from (inbox_of links j) i).signals ≡ []
+    go (inl low) = link_idle (inbox_of links j) (none_is (position is_busy (inbox_of links j)) (none_found has_signal links j [] none low)) i
+    go (inr past) = ap (λ ls. (link_from ls i).signals) (get_or_past links j [] past)
+
+-- then each host has taken all that was sent to it
+pub quiet_logs : (start : Start) (given : List ApiReply) (w : Whole) → IsRight start given w → world.IsQuiet w → IsQuiet (machine start) (hosts start) (logs_at w.logs)
 quiet_logs start given w right quiet i j i_low low =
-    sym (right.linked i j i_low low ∙ ap (λ xs. reverse xs ++ taken (machine start) i (logs_at w.logs j)) (links_empty w.links right.nine_links (none_to_take w quiet) i j i_low low))
+    sym (right.linked i j i_low low ∙ ap (λ xs. reverse xs ++ taken (machine start) i (logs_at w.logs j)) (quiet i j))

@@ -1,102 +1,133 @@
 -- The replies in a log of host 0, and those that a world has to give.
-use Rattle.std.proofs.Common.{◌≡◌, ℕ, List, [], ◌∷◌, ◌++◌, Bool, true, false, ap, sym, ◌∙◌, subst}
-use Rattle.std.specs.Prelude.{if◌then◌else◌, ◌==◌}
+use Rattle.std.proofs.Common.{◌≡◌, ℕ, zero, suc, ◌+◌, ◌<◌, List, [], ◌∷◌, ◌++◌, length, Bool, true, false, refl, ap, sym, ◌∙◌, subst, arith}
 use Rattle.std.proofs.lemmas.List.{append-nil, append_assoc}
+use Rattle.node_core.proofs.HostLemmas.{IsFront, given_more, given_node, given_open, given_replies, given_shell, node_is, replies_itself, replies_over, replies_with, row_shell, shell_is, with_shell}
+use Rattle.node_core.proofs.HostLemmas as host
+use Rattle.node_core.specs.declared.host.Host.{Host}
+use Rattle.node_core.specs.Replies.{in_given, is_shell}
+use Rattle.node_core.specs.Replies as reply
 use Rattle.run_theory.specs.Lists.{IsPast}
 use Rattle.sig_core.specs.declared.log.LogStep.{LogStep}
-use Rattle.sig_core.specs.declared.place.BlockId.{BlockId}
-use Rattle.sig_core.specs.declared.place.BlockId.TheVariants as block
 use Rattle.sig_core.specs.declared.reply.ApiReply.{ApiReply}
-use Rattle.sig_core.specs.declared.signal.Body.{Body}
-use Rattle.sig_core.specs.Step.{Step, stay}
-use Rattle.world_core.specs.declared.blocks.Blocks.{Blocks}
-use Rattle.world_core.specs.Api.{ApiState, api_row}
-use Rattle.world_core.specs.Blocks.{block_by, in_api, in_dih, in_first, in_second, in_tc}
-use Rattle.world_core.specs.Dih.{dih_row}
-use Rattle.world_core.specs.Lqh.{lqh_row}
-use Rattle.world_core.specs.Machine.{after}
-use Rattle.world_core.specs.Right.{IsRight, with_given}
-use Rattle.world_core.specs.Start.{Start}
-use Rattle.world_core.specs.Tc.{tc_row}
-use Rattle.world_core.specs.World.{Whole, logs_at, replies_of, with_replies}
-use Rattle.world_core.proofs.BlockParts.{api_same}
-use Rattle.world_core.proofs.SentFacts.{row_is}
+use Rattle.world_core.specs.Driven.{IsSound}
+use Rattle.world_core.specs.Machine.{after, hosts}
+use Rattle.world_core.specs.Right.{IsRight}
+use Rattle.world_core.specs.Start.{Start, first_view}
+use Rattle.world_core.specs.World.{Whole, body_at, is_left_open, is_open_in, logs_at, replies_in, replies_of, with_replies, with_replies_in}
 
--- the second list is the first and some more
-pub record IsFront {A : Type 0} (front all : List A) : Type 0 where
-  pub more : List A
-  pub is : all ≡ front ++ more
+-- the first host is the shell's, and no other one is
+abbrev is_first : ℕ → Bool
+is_first zero = true
+is_first (suc h) = false
 
-front_itself : {A : Type 0} (xs : List A) → IsFront xs xs
+after_first : (start : Start) (h : ℕ) (log : List LogStep) → is_shell (after start h log) ≡ is_first h
+after_first start zero [] = shell_is (first_view start.nodes)
+after_first start (suc h) [] = node_is (h + 1) (first_view start.nodes) start.epoch start.rows
+after_first start h (e ∷ log) = row_shell (after start h log) e.taken.to e.taken.body ∙ after_first start h log
+
+body_first : (start : Start) (given : List ApiReply) (w : Whole) → IsRight start given w → (h : ℕ) → h < hosts start → is_shell (body_at w.bodies h) ≡ is_first h
+body_first start given w right h low =
+    sym (given_shell given (body_at w.bodies h)) ∙ sym (ap is_shell (right.blocks h low)) ∙ after_first start h (logs_at w.logs h)
+
+pub shell_first : (start : Start) (w : Whole) → IsSound start w → is_shell (body_at w.bodies 0) ≡ true
+shell_first start w sound = body_first start sound.given w sound.right 0 (omega arith)
+
+front_itself : (xs : List ApiReply) → IsFront xs xs
 front_itself xs = record { more = []; is = sym (append-nil xs) }
 
-front_further : {A : Type 0} (xs ys zs : List A) → IsFront xs ys → IsFront ys zs → IsFront xs zs
+front_further : (xs ys zs : List ApiReply) → IsFront xs ys → IsFront ys zs → IsFront xs zs
 front_further xs ys zs a b =
     record { more = a.more ++ b.more; is = b.is ∙ ap (λ us. us ++ b.more) a.is ∙ append_assoc xs a.more b.more }
 
--- the API adds replies behind those that it has
-api_adds : (s : ApiState) (body : Body) → IsFront s.replies (api_row s body).state.replies
-api_adds s body =
-    let bare : ApiState = record { serving = s.serving; replies = [] } in
-    let same : with_given s.replies bare ≡ s = ap (λ rs. record { serving = s.serving; replies = rs }) (append-nil s.replies) in
-    record {
-      more = (api_row bare body).state.replies;
-      is = ap (λ (t : ApiState). (api_row t body).state.replies) (sym same) ∙ ap (λ (t : ApiState). t.replies) (api_same s.replies bare body).state;
-    }
-
-if_adds : (s : Blocks) (t : Step Blocks) (b : Bool) → IsFront s.api.replies t.state.api.replies → IsFront s.api.replies (if b then t else stay s).state.api.replies
-if_adds s t true adds = adds
-if_adds s t false adds = front_itself s.api.replies
-
-block_adds : (s : Blocks) (node : ℕ) (body : Body) (at : BlockId) → IsFront s.api.replies (block_by s node body at).state.api.replies
-block_adds s node body block.Api = if_adds s (in_api s (api_row s.api body)) (node == 0) (api_adds s.api body)
-block_adds s node body block.Tc = if_adds s (in_tc s (tc_row s.tc body)) (node == 1) (front_itself s.api.replies)
-block_adds s node body block.Dih = if_adds s (in_dih s (dih_row s.dih body)) (node == 1) (front_itself s.api.replies)
-block_adds s node body block.Lqh = rows_add (node == 1) (node == 2)
-  where
-    rows_add : (b c : Bool) → IsFront s.api.replies (if b then in_first s (lqh_row s.first body) else (if c then in_second s (lqh_row s.second body) else stay s)).state.api.replies
-    rows_add true c = front_itself s.api.replies
-    rows_add false true = front_itself s.api.replies
-    rows_add false false = front_itself s.api.replies
-block_adds s node body _ = front_itself s.api.replies
-
-step_adds : (start : Start) (log : List LogStep) (e : LogStep) → IsFront (after start log).api.replies (after start (e ∷ log)).api.replies
-step_adds start log e =
-    subst (λ (t : Step Blocks). IsFront (after start log).api.replies t.state.api.replies) (sym (row_is (after start log) e.taken.to e.taken.body))
-    (block_adds (after start log) e.taken.to.node e.taken.body e.taken.to.block)
-
-newer_add : (start : Start) (newer log : List LogStep) → IsFront (after start log).api.replies (after start (newer ++ log)).api.replies
-newer_add start [] log = front_itself (after start log).api.replies
+newer_add : (start : Start) (newer log : List LogStep) → IsFront (reply.replies_of (after start 0 log)) (reply.replies_of (after start 0 (newer ++ log)))
+newer_add start [] log = front_itself (reply.replies_of (after start 0 log))
 newer_add start (e ∷ newer) log =
-    front_further (after start log).api.replies (after start (newer ++ log)).api.replies (after start (e ∷ (newer ++ log))).api.replies
-    (newer_add start newer log) (step_adds start (newer ++ log) e)
+    front_further (reply.replies_of (after start 0 log)) (reply.replies_of (after start 0 (newer ++ log))) (reply.replies_of (after start 0 (e ∷ (newer ++ log))))
+    (newer_add start newer log) (host.replies_grow (after start 0 (newer ++ log)) e.taken.to e.taken.body)
 
 -- replies stand in longer logs as they did
-pub replies_grow : (start : Start) (log all : List LogStep) → IsPast log all → IsFront (after start log).api.replies (after start all).api.replies
+pub replies_grow : (start : Start) (log all : List LogStep) → IsPast log all → IsFront (reply.replies_of (after start 0 log)) (reply.replies_of (after start 0 all))
 replies_grow start log all past =
-    subst (λ l. IsFront (after start log).api.replies (after start l).api.replies) (sym past.is) (newer_add start past.newer log)
+    subst (λ l. IsFront (reply.replies_of (after start 0 log)) (reply.replies_of (after start 0 l))) (sym past.is) (newer_add start past.newer log)
+
+-- the replies of a list of hosts are those of the first
+first_replies : (bodies : List Host) → 0 < length bodies → replies_in bodies ≡ reply.replies_of (body_at bodies 0)
+first_replies [] low = absurd (omega (arith, low))
+first_replies (shell ∷ nodes) low = refl
+
+first_open : (bodies : List Host) → 0 < length bodies → is_open_in bodies ≡ reply.is_left_open (body_at bodies 0)
+first_open [] low = absurd (omega (arith, low))
+first_open (shell ∷ nodes) low = refl
+
+with_length : (bodies : List Host) (replies : List ApiReply) → length (with_replies_in bodies replies) ≡ length bodies
+with_length [] replies = refl
+with_length (shell ∷ nodes) replies = refl
+
+-- the shell has had the replies of the first host
+told_at : (given : List ApiReply) (bodies : List Host) (h : ℕ) → h < length bodies → is_shell (body_at bodies h) ≡ is_first h
+    → in_given given (body_at bodies h) ≡ in_given (given ++ replies_in bodies) (body_at (with_replies_in bodies []) h)
+told_at given [] h low first = absurd (omega (arith, low))
+told_at given (shell ∷ nodes) zero low first = sym (given_more given shell first)
+told_at given (shell ∷ nodes) (suc h) low first =
+    given_node given (body_at nodes h) first ∙ sym (given_node (given ++ reply.replies_of shell) (body_at nodes h) first)
 
 -- the shell has had what the world had to give
 pub told_right : (start : Start) (given : List ApiReply) (w : Whole) → IsRight start given w → IsRight start (given ++ replies_of w) (with_replies w [])
 told_right start given w right =
     record {
-      three_logs = right.three_logs;
-      three_stamps = right.three_stamps;
-      nine_links = right.nine_links;
+      view = right.view;
+      sizes = record {
+        bodies = with_length w.bodies [] ∙ right.sizes.bodies;
+        links = right.sizes.links;
+        stamps = right.sizes.stamps;
+        logs = right.sizes.logs;
+      };
       local = right.local;
       stamps = right.stamps;
       linked = right.linked;
       counts = right.counts;
       no_others = right.no_others;
-      blocks = record {
-        api = right.blocks.api ∙ ap (λ rs. record { serving = w.blocks.api.serving; replies = rs }) (sym (append-nil (given ++ replies_of w)));
-        tc = right.blocks.tc;
-        dih = right.blocks.dih;
-        primary = right.blocks.primary;
-        backup = right.blocks.backup;
-      };
+      blocks = λ h low. right.blocks h low ∙ told_at given w.bodies h (omega (arith, low, right.sizes.bodies)) (body_first start given w right h low);
     }
 
+pub told_sound : (start : Start) (w : Whole) → IsSound start w → IsSound start (with_replies w [])
+told_sound start w sound = record { given = sound.given ++ replies_of w; right = told_right start sound.given w sound.right }
+
 -- the replies in the log are those that the shell has had, and those that the world has to give
-pub replies_are : (start : Start) (given : List ApiReply) (w : Whole) → IsRight start given w → (after start (logs_at w.logs 0)).api.replies ≡ given ++ replies_of w
-replies_are start given w right = ap (λ (s : ApiState). s.replies) right.blocks.api
+pub replies_are : (start : Start) (given : List ApiReply) (w : Whole) → IsRight start given w → reply.replies_of (after start 0 (logs_at w.logs 0)) ≡ given ++ replies_of w
+replies_are start given w right =
+    ap reply.replies_of (right.blocks 0 (omega arith)) ∙ given_replies given (body_at w.bodies 0) (body_first start given w right 0 (omega arith))
+    ∙ ap (λ rs. given ++ rs) (sym (first_replies w.bodies (omega (arith, right.sizes.bodies))))
+
+-- what is left open is so in the log
+pub open_is : (start : Start) (w : Whole) → IsSound start w → is_left_open w ≡ reply.is_left_open (after start 0 (logs_at w.logs 0))
+open_is start w sound =
+    first_open w.bodies (omega (arith, sound.right.sizes.bodies))
+    ∙ sym (ap reply.is_left_open (sound.right.blocks 0 (omega arith)) ∙ given_open sound.given (body_at w.bodies 0))
+
+-- other replies in the place of replies
+with_with : (bodies : List Host) (first second : List ApiReply) → with_replies_in (with_replies_in bodies first) second ≡ with_replies_in bodies second
+with_with [] first second = refl
+with_with (shell ∷ nodes) first second = ap (λ s. s ∷ nodes) (replies_over shell first second)
+
+pub with_over : (w : Whole) (first second : List ApiReply) → with_replies (with_replies w first) second ≡ with_replies w second
+with_over w first second = ap (λ (bodies : List Host). record w { bodies = bodies }) (with_with w.bodies first second)
+
+with_itself : (bodies : List Host) → with_replies_in bodies (replies_in bodies) ≡ bodies
+with_itself [] = refl
+with_itself (shell ∷ nodes) = ap (λ s. s ∷ nodes) (replies_itself shell)
+
+pub with_own : (w : Whole) → with_replies w (replies_of w) ≡ w
+with_own w = ap (λ (bodies : List Host). record w { bodies = bodies }) (with_itself w.bodies)
+
+of_with : (bodies : List Host) (replies : List ApiReply) → 0 < length bodies → is_shell (body_at (with_replies_in bodies replies) 0) ≡ true → replies_in (with_replies_in bodies replies) ≡ replies
+of_with [] replies low shell = absurd (omega (arith, low))
+of_with (s ∷ nodes) replies low shell = replies_with s replies (sym (with_shell s replies) ∙ shell)
+
+-- A reply that was taken: a world that is sound had these replies in front, before the shell took them.
+pub taken_replies : (start : Start) (w t : Whole) (front : List ApiReply) → IsSound start w → w ≡ with_replies t (front ++ replies_of t) → replies_of w ≡ front ++ replies_of t
+taken_replies start w t front sound is =
+    let there : 0 < length t.bodies =
+    omega (arith, sound.right.sizes.bodies, ap (λ (u : Whole). length u.bodies) is, with_length t.bodies (front ++ replies_of t)) in
+    ap replies_of is
+    ∙ of_with t.bodies (front ++ replies_of t) there (sym (ap (λ (u : Whole). is_shell (body_at u.bodies 0)) is) ∙ shell_first start w sound)

@@ -1,6 +1,9 @@
 -- What each signal that was sent tells of its header.
-use Rattle.std.proofs.Common.{◌≡◌, ℕ, ◌≤◌, List, [], ◌∷◌, Bool, true, false, refl, arith, ap, ◌∙◌}
+use Rattle.std.proofs.Common.{◌≡◌, ℕ, ◌≤◌, List, [], ◌∷◌, Bool, true, false, refl, arith}
 use Rattle.std.specs.Prelude.{if◌then◌else◌, ◌==◌}
+use Rattle.std.proofs.lemmas.Bool.{eqb-true}
+use Rattle.node_core.proofs.HostLemmas.{rows_ask}
+use Rattle.node_core.specs.Requests.{asks_nothing, is_request}
 use Rattle.run_theory.proofs.Links.{step_above}
 use Rattle.run_theory.proofs.Pasts.{each_map}
 use Rattle.run_theory.specs.Links.{put, sent}
@@ -8,22 +11,10 @@ use Rattle.run_theory.specs.Lists.{Each}
 use Rattle.run_theory.specs.Logs.{IsLog, last}
 use Rattle.sig_core.specs.declared.log.LogStep.{LogStep}
 use Rattle.sig_core.specs.declared.outs.Outgoing.{Outgoing}
-use Rattle.sig_core.specs.declared.place.Place.{Place}
-use Rattle.sig_core.specs.declared.signal.Body.{Body}
 use Rattle.sig_core.specs.declared.signal.Signal.{Signal}
-use Rattle.sig_core.specs.Step.{Step}
-use Rattle.std.proofs.lemmas.Bool.{eqb-true}
-use Rattle.world_core.specs.declared.blocks.Blocks.{Blocks}
-use Rattle.world_core.specs.Blocks.{blocks_row}
-use Rattle.world_core.specs.Machine.{all_headed, counted, is_request, last_stamp, machine, sent_count, step_after}
-use Rattle.world_core.specs.Row.{row}
-use Rattle.world_core.specs.Start.{Start}
-use Rattle.world_core.proofs.NoRequests.{asks_nothing, blocks_ask}
-
--- the row is what the blocks do
-pub row_is : (s : Blocks) (to : Place) (body : Body) → row s to body ≡ blocks_row s to body
-unfolding row
-row_is s to body = refl
+use Rattle.sig_core.specs.declared.view.View.{View}
+use Rattle.world_core.specs.Machine.{after, all_headed, counted, last_stamp, machine, sent_count, step_after}
+use Rattle.world_core.specs.Start.{Start, first_view}
 
 -- a signal of this host, not later than this stamp, and no request
 pub record IsFrom (h stamp : ℕ) (x : Signal) : Type 0 where
@@ -46,11 +37,11 @@ plain_rest : (b : Bool) (more : Bool) → (if b then false else more) ≡ true �
 plain_rest true more e = cc
 plain_rest false more e = e
 
-headed_each : (h stamp : ℕ) (count : ℕ → ℕ) (sends : List Outgoing) → asks_nothing sends ≡ true → Each (λ x. IsFrom h stamp x) (all_headed h stamp count sends)
-headed_each h stamp count [] none = tt
-headed_each h stamp count (sent ∷ more) none = (
+headed_each : (view : View) (h stamp : ℕ) (count : ℕ → ℕ) (sends : List Outgoing) → asks_nothing sends ≡ true → Each (λ x. IsFrom h stamp x) (all_headed view h stamp count sends)
+headed_each view h stamp count [] none = tt
+headed_each view h stamp count (sent ∷ more) none = (
   record { from = refl; early = omega arith; plain = plain_first (is_request sent.body) (asks_nothing more) none },
-  headed_each h stamp (counted sent.to.node count) more (plain_rest (is_request sent.body) (asks_nothing more) none),
+  headed_each view h stamp (counted sent.to.node count) more (plain_rest (is_request sent.body) (asks_nothing more) none),
 )
 
 module _ (start : Start) where
@@ -73,9 +64,8 @@ module _ (start : Start) where
   pub sent_between : (i j : ℕ) (log : List LogStep) → IsLog (machine start) i log → Each (λ x. IsBetween i j (last_stamp log) x) (sent (machine start) i j log)
   sent_between i j [] local = tt
   sent_between i j (e ∷ log) local =
-      put_between i j e.stamp (all_headed i e.stamp (sent_count start log) (step_after start log e).effects.sends) (sent (machine start) i j log)
-      (headed_each i e.stamp (sent_count start log) (step_after start log e).effects.sends
-      (ap (λ (t : Step Blocks). asks_nothing t.effects.sends) (row_is _ e.taken.to e.taken.body) ∙ blocks_ask _ e.taken.to e.taken.body))
+      put_between i j e.stamp (all_headed (first_view start.nodes) i e.stamp (sent_count start i log) (step_after start i log e).effects.sends) (sent (machine start) i j log)
+      (headed_each (first_view start.nodes) i e.stamp (sent_count start i log) (step_after start i log e).effects.sends (rows_ask (after start i log) e.taken.to e.taken.body))
       (each_map (λ x. IsBetween i j (last_stamp log) x) (λ x. IsBetween i j e.stamp x) (sent (machine start) i j log)
       (λ x was. record { from = was.from; to = was.to; early = omega (arith, was.early, step_above (machine start) i log e local.0, last_is i log); plain = was.plain })
       (sent_between i j log local.1))

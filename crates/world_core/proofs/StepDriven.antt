@@ -1,8 +1,9 @@
--- A step of a world whose signal a link gave: logs grow, and the clock doesn't run away.
-use Rattle.std.proofs.Common.{◌≡◌, ◌⊎◌, inl, inr, ℕ, zero, suc, ◌+◌, ◌<◌, ◌≤◌, List, [], ◌∷◌, ◌++◌, reverse, Bool, true, false, refl, ap, sym, ◌∙◌, subst, arith, lit<}
-use Rattle.std.specs.Prelude.{if◌then◌else◌, ◌==◌, slice_index_or, None, Some, option_to_list}
-use Rattle.std.proofs.lemmas.Bool.{eqb-true, eq-eqb, true≢false, cases_lt}
-use Rattle.std.proofs.lemmas.List.{append-nil, get_or-set_same, get_or-set_other}
+-- A step of a world whose signal a link gave: logs grow, and nothing is asked.
+use Rattle.std.proofs.Common.{◌≡◌, ◌⊎◌, inl, inr, ℕ, ◌<◌, ◌≤◌, List, [], ◌∷◌, ◌++◌, reverse, Bool, true, false, refl, ap, sym, ◌∙◌, subst, arith}
+use Rattle.std.specs.Prelude.{if◌then◌else◌, ◌==◌, None, Some, option_to_list}
+use Rattle.std.proofs.lemmas.Bool.{true≢false, cases_lt}
+use Rattle.std.proofs.lemmas.List.{append-nil}
+use Rattle.node_core.specs.Requests.{is_request}
 use Rattle.run_theory.proofs.Pasts.{past_more, past_nil, past_self, past_trans}
 use Rattle.run_theory.specs.Links.{taken, sent}
 use Rattle.run_theory.specs.Lists.{IsPast}
@@ -15,45 +16,40 @@ use Rattle.sig_core.specs.declared.signal.Body.TheVariants.{Host}
 use Rattle.sig_core.specs.declared.signal.Signal.{Signal}
 use Rattle.sig_core.specs.declared.signal.host.HostSignal.TheVariants.{Continue}
 use Rattle.sig_core.specs.declared.signal.host.Work.TheVariants.{Request}
-use Rattle.world_core.specs.Blocks.{blocks_row}
-use Rattle.world_core.specs.Drive.{State, next}
-use Rattle.world_core.specs.Drive as drive
-use Rattle.world_core.specs.Driven.{IsDriven, latest}
-use Rattle.world_core.specs.Machine.{hosts, is_request, machine}
-use Rattle.world_core.specs.Network.{Taken, link, take_first}
+use Rattle.world_core.specs.Driven.{IsDriven}
+use Rattle.world_core.specs.Inbox.{Taken}
+use Rattle.world_core.specs.Machine.{hosts, machine}
+use Rattle.world_core.specs.Network.{Links, link, take_first}
 use Rattle.world_core.specs.Requests.{AreAskedAtQuiet, QuietBefore, request_in, requests}
 use Rattle.world_core.specs.Right.{IsRight}
 use Rattle.world_core.specs.Start.{Start}
-use Rattle.world_core.specs.World.{Whole, logs_at, moved, state_of}
-use Rattle.world_core.proofs.FlightLemmas.{put_flights, take_flight, without_headers}
-use Rattle.world_core.proofs.LinkWeight.{next_lighter}
+use Rattle.world_core.specs.World.{Whole, logs_at, moved}
 use Rattle.world_core.proofs.LogIndex.{logs_at_past}
 use Rattle.world_core.proofs.MoveRight.{IsReady, logs_are, move_right, step_of}
-use Rattle.world_core.proofs.Settled.{reaches_itself, reaches_next}
-use Rattle.world_core.proofs.TakeRight.{IsTakenFrom, left_of, take_ready, taken_between, taken_first}
+use Rattle.world_core.proofs.TakeRight.{left_of, take_ready, taken_between, taken_first}
 
 module _ (start : Start) where
   -- the logs of a right world are right
   pub right_logs : (given : List ApiReply) (w : Whole) → IsRight start given w → AreLogs (machine start) (logs_at w.logs)
   right_logs given w right =
       record {
-        local = λ h. local (cases_lt h 3);
+        local = λ h. local (cases_lt h (hosts start));
         there = λ h has. inl refl;
-        linked = λ i j. inl (linked i j (cases_lt i 3) (cases_lt j 3));
+        linked = λ i j. inl (linked i j (cases_lt i (hosts start)) (cases_lt j (hosts start)));
       }
     where
-      local : {h : ℕ} → (h < 3) ⊎ (3 ≤ h) → IsLog (machine start) h (logs_at w.logs h)
+      local : {h : ℕ} → (h < hosts start) ⊎ (hosts start ≤ h) → IsLog (machine start) h (logs_at w.logs h)
       local {h} (inl low) = right.local h low
-      local {h} (inr high) = subst (IsLog (machine start) h) (sym (logs_at_past w.logs h (omega (arith, high, right.three_logs)))) tt
+      local {h} (inr high) = subst (IsLog (machine start) h) (sym (logs_at_past w.logs h (omega (arith, high, right.sizes.logs)))) tt
 
-      linked : (i j : ℕ) → (i < 3) ⊎ (3 ≤ i) → (j < 3) ⊎ (3 ≤ j) → IsPast (taken (machine start) i (logs_at w.logs j)) (sent (machine start) i j (logs_at w.logs i))
+      linked : (i j : ℕ) → (i < hosts start) ⊎ (hosts start ≤ i) → (j < hosts start) ⊎ (hosts start ≤ j) → IsPast (taken (machine start) i (logs_at w.logs j)) (sent (machine start) i j (logs_at w.logs i))
       linked i j (inl i_low) (inl low) = record { newer = reverse (link w.links i j).signals; is = right.linked i j i_low low }
       linked i j (inr high) o = subst (λ xs. IsPast xs (sent (machine start) i j (logs_at w.logs i))) (sym (right.no_others i j high)) (past_nil _)
       linked i j o (inr high) =
-          subst (λ log. IsPast (taken (machine start) i log) (sent (machine start) i j (logs_at w.logs i))) (sym (logs_at_past w.logs j (omega (arith, high, right.three_logs)))) (past_nil _)
+          subst (λ log. IsPast (taken (machine start) i log) (sent (machine start) i j (logs_at w.logs i))) (sym (logs_at_past w.logs j (omega (arith, high, right.sizes.logs)))) (past_nil _)
 
-  pub within : (given : List ApiReply) (w : Whole) → IsRight start given w → IsWithin hosts (logs_at w.logs)
-  within given w right h high = logs_at_past w.logs h (omega (arith, high, right.three_logs))
+  pub within : (given : List ApiReply) (w : Whole) → IsRight start given w → IsWithin (hosts start) (logs_at w.logs)
+  within given w right h high = logs_at_past w.logs h (omega (arith, high, right.sizes.logs))
 
   -- logs only grow by a step
   pub log_grows : (given : List ApiReply) (w : Whole) (x : Signal) → IsReady start given w x → (h : ℕ) → IsPast (logs_at w.logs h) (logs_at (moved w x).logs h)
@@ -95,53 +91,15 @@ module _ (start : Start) (given : List ApiReply) (w : Whole) (x : Signal) (ready
           let rest : logs_at w.logs 0 ≡ newer ++ e ∷ before = cc in
           was newer e before rest asked
 
--- the stamp of a host is not above the latest
-pub stamp_low : (w : Whole) (k : ℕ) → k < 3 → slice_index_or w.stamps k 0 ≤ latest w
-stamp_low w zero low = omega arith
-stamp_low w (suc zero) low = omega arith
-stamp_low w (suc (suc zero)) low = omega arith
-stamp_low w (suc (suc (suc k))) low = absurd (omega (arith, low))
-
--- one step makes the latest stamp later by one at most
-pub latest_after : (start : Start) (given : List ApiReply) (w : Whole) (x : Signal) → IsReady start given w x → x.stamp ≤ latest w → latest (moved w x) ≤ latest w + 1
-latest_after start given w x ready early = omega (arith, each 0 (lit< tt), each 1 (lit< tt), each 2 (lit< tt))
-  where
-    each : (k : ℕ) → k < 3 → slice_index_or (moved w x).stamps k 0 ≤ latest w + 1
-    each k low = go (x.to.node == k) refl
-      where
-        go : (b : Bool) → (x.to.node == k) ≡ b → slice_index_or (moved w x).stamps k 0 ≤ latest w + 1
-        go true e =
-            let same : slice_index_or (moved w x).stamps x.to.node 0 ≡ (step_of w x).stamp =
-            get_or-set_same w.stamps x.to.node (step_of w x).stamp 0 (omega (arith, ready.there, ready.three_stamps)) in
-            subst (λ n. slice_index_or (moved w x).stamps n 0 ≤ latest w + 1) (eqb-true x.to.node k e)
-            (omega (arith, same, stamp_low w x.to.node ready.there, early))
-        go false e =
-            let same : slice_index_or (moved w x).stamps k 0 ≡ slice_index_or w.stamps k 0 =
-            get_or-set_other w.stamps x.to.node k (step_of w x).stamp 0 (λ at. absurd (true≢false (sym (eq-eqb x.to.node k (sym at)) ∙ e))) in
-            omega (arith, same, stamp_low w k low)
-
--- what was taken is no later than the latest
-pub taken_early : (start : Start) (given : List ApiReply) (w : Whole) (right : IsRight start given w) (t : Taken) → IsTakenFrom w.links t → t.signal.stamp ≤ latest w
-taken_early start given w right t from =
-    omega (arith, (taken_between start given w right t from).early, right.stamps from.from from.from_low, stamp_low w from.from from.from_low)
-
--- the state after the step is the next one
-pub next_is : (w : Whole) (t : Taken) → take_first w.links ≡ Some t → next (state_of w) ≡ Some (state_of (moved (left_of w t.left) t.signal))
-next_is w t e =
-    let x = t.signal in
-    let step = blocks_row w.blocks x.to x.body in
-    ap (drive.next_by (state_of w)) (take_flight w.links ∙ ap without_headers e)
-    ∙ ap (λ ls. Some (record { blocks = step.state; links = ls })) (sym (put_flights t.left x.to.node (step_of (left_of w t.left) x).stamp step.effects.sends))
-
-pub step_driven : (start : Start) (given : List ApiReply) (w : Whole) → IsRight start given w → (t : Taken) → take_first w.links ≡ Some t
+pub step_driven : (start : Start) (given : List ApiReply) (w : Whole) → IsRight start given w → (t : Taken Links) → take_first w.links ≡ Some t
     → IsDriven start w (moved (left_of w t.left) t.signal)
 step_driven start given w right t e =
-    let from = taken_first w.links t right.nine_links e in
+    let from = taken_first (hosts start) w.links t right.sizes.links e in
     let u = left_of w t.left in
     let ready = take_ready start given w right t from in
     let fact = taken_between start given w right t from in
     record {
-      right = λ others was. move_right start others u t.signal (take_ready start others w was t (taken_first w.links t was.nine_links e));
+      right = λ others was. move_right start others u t.signal (take_ready start others w was t (taken_first (hosts start) w.links t was.sizes.links e));
       grown = record {
         more = log_grows start given u t.signal ready;
         right = right_logs start given (moved u t.signal) (move_right start given u t.signal ready);
@@ -149,6 +107,4 @@ step_driven start given w right t e =
         requests = requests_kept start given u t.signal ready fact.plain;
         asked = asked_kept start given u t.signal ready fact.plain;
       };
-      reached = reaches_next (state_of w) (state_of w) (state_of (moved u t.signal)) (reaches_itself (state_of w)) (next_is w t e);
-      clock = omega (arith, latest_after start given u t.signal ready (taken_early start given w right t from), next_lighter (state_of w) (state_of (moved u t.signal)) (next_is w t e));
     }

@@ -1,36 +1,31 @@
 -- What driving a world does.
-use Rattle.std.specs.Prelude.{◌≡◌, ◌<◌, ◌≤◌, ◌+◌, ℕ, max, Bool, true, false, List, ◌++◌, ◌∷◌, [], slice_index_or}
+use Rattle.std.specs.Prelude.{◌≡◌, ℕ, Bool, true, false, List, ◌++◌, ◌∷◌, []}
 use Rattle.run_theory.specs.Lists.{IsPast}
 use Rattle.run_theory.specs.Runs.{AreLogs, IsWithin}
 use Rattle.sig_core.specs.declared.log.LogStep.{LogStep}
 use Rattle.sig_core.specs.declared.reply.ApiReply.{ApiReply}
 use Rattle.sig_core.specs.declared.request.ApiReq.{ApiReq}
-use Rattle.world_core.specs.Drive.{IsQuiet, Reaches}
-use Rattle.world_core.specs.Drive as drive
 use Rattle.world_core.specs.Machine.{hosts, machine}
 use Rattle.world_core.specs.Requests.{AreAskedAtQuiet, requests}
 use Rattle.world_core.specs.Right.{IsRight}
 use Rattle.world_core.specs.Start.{Start}
-use Rattle.world_core.specs.Weight.{links_weight}
-use Rattle.world_core.specs.World.{Whole, logs_at, state_of}
-
--- the latest stamp, and how much later what is under way can make it
-abbrev pub latest : Whole → ℕ
-latest w = max (slice_index_or w.stamps 0 0) (max (slice_index_or w.stamps 1 0) (slice_index_or w.stamps 2 0))
-
-abbrev pub latest_to_come : Whole → ℕ
-latest_to_come w = latest w + links_weight (state_of w).links
+use Rattle.world_core.specs.World.{IsQuiet, Whole, logs_at}
 
 -- a world that is right, whatever replies the shell has had
 pub record IsSound (start : Start) (w : Whole) : Type 0 where
   pub given : List ApiReply
   pub right : IsRight start given w
 
+-- a world that is right from some start
+pub record IsWorld (w : Whole) : Type 0 where
+  pub start : Start
+  pub sound : IsSound start w
+
 -- Logs that have grown by steps that no request made.
 pub record HaveGrown (start : Start) (old new : ℕ → List LogStep) : Type 0 where
   pub more : (h : ℕ) → IsPast (old h) (new h)
   pub right : AreLogs (machine start) new
-  pub within : IsWithin hosts new
+  pub within : IsWithin (hosts start) new
   pub requests : requests (new 0) ≡ requests (old 0)
   pub asked : AreAskedAtQuiet start old → AreAskedAtQuiet start new
 
@@ -38,22 +33,18 @@ pub record HaveGrown (start : Start) (old new : ℕ → List LogStep) : Type 0 w
 pub record IsDriven (start : Start) (w t : Whole) : Type 0 where
   pub right : (given : List ApiReply) → IsRight start given w → IsRight start given t
   pub grown : HaveGrown start (logs_at w.logs) (logs_at t.logs)
-  pub reached : Reaches (state_of w) (state_of t)
-  pub clock : latest_to_come t ≤ latest_to_come w
 
 -- The shell asked for something, in a step of host 0.
 pub record HasAsked (start : Start) (request : ApiReq) (w t : Whole) : Type 0 where
   pub right : (given : List ApiReply) → IsRight start given w → IsRight start given t
   pub more : (h : ℕ) → IsPast (logs_at w.logs h) (logs_at t.logs h)
   pub logs : AreLogs (machine start) (logs_at t.logs)
-  pub within : IsWithin hosts (logs_at t.logs)
+  pub within : IsWithin (hosts start) (logs_at t.logs)
   pub requests : requests (logs_at t.logs 0) ≡ requests (logs_at w.logs 0) ++ request ∷ []
   -- if nothing was under way, it was asked at quiet
-  pub asked : IsQuiet (state_of w) → AreAskedAtQuiet start (logs_at w.logs) → AreAskedAtQuiet start (logs_at t.logs)
-  pub state : state_of t ≡ drive.asked (state_of w) request
-  pub clock : latest_to_come t ≤ latest_to_come w + 22
+  pub asked : IsQuiet w → AreAskedAtQuiet start (logs_at w.logs) → AreAskedAtQuiet start (logs_at t.logs)
 
 -- a step was taken, or nothing was under way and nothing has changed
 abbrev pub IsStepped : Start → Whole → Whole → Bool → Type 0
-IsStepped start w t true = IsDriven start w t × (links_weight (state_of t).links < links_weight (state_of w).links)
-IsStepped start w t false = (t ≡ w) × IsQuiet (state_of w)
+IsStepped start w t true = IsDriven start w t
+IsStepped start w t false = (t ≡ w) × IsQuiet w

@@ -10,8 +10,8 @@ use Rattle.sig_core.specs.declared.op.Op.{Op}
 use Rattle.sig_core.specs.declared.signal.Body.{Body}
 use Rattle.sig_core.specs.declared.signal.Body.TheVariants.{Epoch}
 use Rattle.sig_core.specs.declared.signal.epoch.EpochSignal.TheVariants.{DiVerifyReq}
-use Rattle.world_core.specs.Place.{first_view}
-use Rattle.world_core.specs.Tx.{same_tx}
+use Rattle.sig_core.specs.Same.{same_tx}
+use Rattle.world_core.specs.Start.{first_number}
 
 -- the number of the view that is installed after these marks, where this one was before
 abbrev pub installed_in : List Mark → ℕ → ℕ
@@ -21,7 +21,7 @@ installed_in (mark ∷ marks) number = installed_in marks number
 
 -- the number of the view that a host with this log has installed
 abbrev pub view_at : List LogStep → ℕ
-view_at [] = first_view.number
+view_at [] = first_number
 view_at (e ∷ log) = installed_in e.marks (view_at log)
 
 -- the operations and answers with which the signal asks for an epoch for the transaction

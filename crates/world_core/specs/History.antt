@@ -9,9 +9,9 @@ use Rattle.sig_core.specs.declared.member.TxId.{TxId}
 use Rattle.sig_core.specs.declared.op.Answer.{Answer}
 use Rattle.sig_core.specs.declared.op.Answer.TheVariants.{Done}
 use Rattle.sig_core.specs.declared.outcome.Outcome.TheVariants.{Committed}
+use Rattle.sig_core.specs.Same.{same_tx}
 use Rattle.world_core.specs.Entries.{entries}
 use Rattle.world_core.specs.Marks.{have_mark}
-use Rattle.world_core.specs.Tx.{same_tx}
 
 abbrev pub is_done : Answer → Bool
 is_done Done = true

@@ -1,13 +1,11 @@
 -- Lives of a session: their logs, and their history.
 use Rattle.std.specs.Prelude.{ℕ, ◌+◌, List, [], ◌∷◌, ◌++◌}
 use Rattle.serial_model.specs.Epoch.{up_to_epoch}
-use Rattle.serial_model.specs.Legal.{rows_of}
 use Rattle.sig_core.specs.declared.entry.Entry.{Entry}
 use Rattle.sig_core.specs.declared.log.HostLog.{HostLog}
 use Rattle.sig_core.specs.declared.log.Life.{Life}
 use Rattle.sig_core.specs.declared.log.LogStep.{LogStep}
 use Rattle.world_core.specs.History.{history}
-use Rattle.world_core.specs.Machine.{hosts}
 use Rattle.world_core.specs.World.{logs_at}
 use Rattle.world_core.specs.Start.{Start}
 
@@ -15,20 +13,20 @@ use Rattle.world_core.specs.Start.{Start}
 abbrev pub logs_of : Life → ℕ → List LogStep
 logs_of life = logs_at life.logs
 
--- how a life began: in the epoch behind its start epoch, with its start rows
-abbrev pub start_of : Life → Start
-start_of life = record { epoch = life.start_epoch + 1; rows = rows_of life.start_rows }
+-- how a life of so many nodes began: in the epoch behind its start epoch, with its start rows
+abbrev pub start_of : ℕ → Life → Start
+start_of nodes life = record { nodes = nodes; epoch = life.start_epoch + 1; rows = life.start_rows }
 
--- the history of a life
-abbrev pub life_history : Life → List Entry
-life_history life = history hosts (logs_of life)
+-- the history of a life of so many nodes
+abbrev pub life_history : ℕ → Life → List Entry
+life_history nodes life = history (nodes + 1) (logs_of life)
 
 -- the history of a session: of each life what its next one restored, and of the last all
-abbrev pub session_history : List Life → List Entry
-session_history [] = []
-session_history (life ∷ []) = life_history life
-session_history (life ∷ next ∷ more) = up_to_epoch next.start_epoch (life_history life) ++ session_history (next ∷ more)
+abbrev pub session_history : ℕ → List Life → List Entry
+session_history nodes [] = []
+session_history nodes (life ∷ []) = life_history nodes life
+session_history nodes (life ∷ next ∷ more) = up_to_epoch next.start_epoch (life_history nodes life) ++ session_history nodes (next ∷ more)
 
--- the first life of a fresh cluster, with these logs
+-- the first life of a fresh world, with these logs
 abbrev pub fresh_life : List HostLog → Life
 fresh_life logs = record { start_epoch = 0; start_rows = []; logs = logs }

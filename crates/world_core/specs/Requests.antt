@@ -28,7 +28,7 @@ pub record QuietBefore (start : Start) (logs : ℕ → List LogStep) (before : L
   pub cut : IsCut inside logs
   pub at : inside 0 ≡ before
   pub right : AreLogs (machine start) inside
-  pub quiet : IsQuiet (machine start) hosts inside
+  pub quiet : IsQuiet (machine start) (hosts start) inside
 
 -- the cut before each request is quiet
 abbrev pub AreAskedAtQuiet : Start → (ℕ → List LogStep) → Type 0

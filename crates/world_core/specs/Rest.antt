@@ -1,27 +1,25 @@
 -- Keys at rest, and what the replicas have of them.
 use Rattle.std.specs.List.{list_any}
-use Rattle.std.specs.Prelude.{◌≡◌, ℕ, ◌==◌, ◌&&◌, bytes_eq, if◌then◌else◌, Bool, true, false, List, ◌∷◌, ◌++◌}
+use Rattle.std.specs.Prelude.{◌≡◌, ℕ, ◌&&◌, Bool, true, false, List, ◌∷◌, ◌++◌}
 use Rattle.run_theory.specs.Lists.{IsIn}
 use Rattle.sig_core.specs.declared.log.LogStep.{LogStep}
 use Rattle.sig_core.specs.declared.mark.Mark.{Mark}
 use Rattle.sig_core.specs.declared.mark.Mark.TheVariants.{Prepared, Done}
 use Rattle.sig_core.specs.declared.member.Member.{Member}
 use Rattle.sig_core.specs.declared.member.TxId.{TxId}
-use Rattle.sig_core.specs.Table.{Rows}
-use Rattle.world_core.specs.Machine.{after}
+use Rattle.sig_core.specs.Same.{same_key, same_tx}
 use Rattle.world_core.specs.Marks.{has_mark}
 use Rattle.world_core.specs.Start.{Start}
-use Rattle.world_core.specs.Tx.{same_tx}
 use Rattle.world_core.specs.Views.{live_nodes}
 
 -- a replica prepared the transaction's write of the key
 abbrev pub is_prepared : TxId → List ℕ → Mark → Bool
-is_prepared tx key (Prepared other at) = same_tx other tx && bytes_eq at key
+is_prepared tx key (Prepared other at) = same_tx other tx && same_key at key
 is_prepared tx key mark = false
 
 -- it is done with the transaction's part in the key
 abbrev pub is_done : TxId → List ℕ → Mark → Bool
-is_done tx key (Done other at) = same_tx other tx && bytes_eq at key
+is_done tx key (Done other at) = same_tx other tx && same_key at key
 is_done tx key mark = false
 
 -- in this log every preparation of a write of the key is followed by the end of the same transaction's part in it
@@ -31,9 +29,5 @@ IsSettled key log =
     → has_mark (is_done tx key) newer ≡ true
 
 -- the key is at rest: it is settled at each live node
-abbrev pub IsAtRest : ℕ → (ℕ → List LogStep) → List ℕ → Type 0
-IsAtRest n logs key = (member : Member) → IsIn member (live_nodes n logs) → IsSettled key (logs member.node)
-
--- the rows of the replica of this node, after its log
-abbrev pub rows_at : Start → ℕ → List LogStep → Rows
-rows_at start node log = if node == 1 then (after start log).first.rows else (after start log).second.rows
+abbrev pub IsAtRest : Start → (ℕ → List LogStep) → List ℕ → Type 0
+IsAtRest start logs key = (member : Member) → IsIn member (live_nodes start logs) → IsSettled key (logs member.node)

@@ -6,7 +6,8 @@ use Rattle.sig_core.specs.declared.mark.Mark.{Mark}
 use Rattle.sig_core.specs.declared.mark.Mark.TheVariants.{Installed}
 use Rattle.sig_core.specs.declared.member.Member.{Member}
 use Rattle.sig_core.specs.declared.view.View.{View}
-use Rattle.world_core.specs.Place.{first_view}
+use Rattle.world_core.specs.Machine.{hosts}
+use Rattle.world_core.specs.Start.{Start, first_view}
 
 -- the group of a node, from 0, where each has so many replicas
 abbrev pub group_of : ℕ → ℕ → ℕ
@@ -17,7 +18,7 @@ abbrev pub are_manned : ℕ → ℕ → View → Bool
 are_manned replicas zero view = true
 are_manned replicas (suc group) view = list_any (λ member. group_of replicas member.node == group) view.full && are_manned replicas group view
 
--- a view is viable in a cluster of so many groups of so many replicas where each group has a full member
+-- a view is viable for so many groups of so many replicas where each group has a full member
 abbrev pub is_viable : ℕ → ℕ → View → Bool
 is_viable groups replicas view = are_manned replicas groups view
 
@@ -34,11 +35,15 @@ abbrev pub greatest_of : List LogStep → View → View
 greatest_of [] view = view
 greatest_of (e ∷ log) view = greatest_in e.marks (greatest_of log view)
 
--- the view with the greatest number that a host below n has installed, or the first one
-abbrev pub greatest_view : ℕ → (ℕ → List LogStep) → View
-greatest_view zero logs = first_view
-greatest_view (suc n) logs = greatest_of (logs n) (greatest_view n logs)
+-- of a view and those that the hosts below n have installed, the one with the greatest number
+abbrev pub greatest_below : ℕ → (ℕ → List LogStep) → View → View
+greatest_below zero logs view = view
+greatest_below (suc n) logs view = greatest_of (logs n) (greatest_below n logs view)
+
+-- the view with the greatest number that a host has installed, or the first one
+abbrev pub greatest_view : Start → (ℕ → List LogStep) → View
+greatest_view start logs = greatest_below (hosts start) logs (first_view start.nodes)
 
 -- the live nodes of a cut are the full members of that view
-abbrev pub live_nodes : ℕ → (ℕ → List LogStep) → List Member
-live_nodes n logs = (greatest_view n logs).full
+abbrev pub live_nodes : Start → (ℕ → List LogStep) → List Member
+live_nodes start logs = (greatest_view start logs).full

@@ -1,25 +1,32 @@
--- A world: the blocks of all hosts, the links between them, and what each host has done.
-use Rattle.std.specs.Prelude.{◌<◌, ◌^◌, ℕ, ◌+◌, max, List, [], ◌∷◌, ◌++◌, replicate, reverse, slice_index_or, slice_set}
+-- A world: the hosts, the links between them, and what each host has done.
+use Rattle.std.specs.Prelude.{◌≡◌, ◌<◌, ℕ, zero, suc, ◌+◌, max, Bool, false, List, [], ◌∷◌, ◌++◌, length, replicate, reverse, slice_index_or, slice_set}
+use Rattle.node_core.specs.declared.host.Host.{Host}
+use Rattle.node_core.specs.Fresh.{fresh_shell}
+use Rattle.node_core.specs.Replies as host
+use Rattle.node_core.specs.Row.{row}
 use Rattle.sig_core.specs.declared.log.HostLog.{HostLog}
 use Rattle.sig_core.specs.declared.log.LogStep.{LogStep}
 use Rattle.sig_core.specs.declared.reply.ApiReply.{ApiReply}
 use Rattle.sig_core.specs.declared.request.ApiReq.{ApiReq}
 use Rattle.sig_core.specs.declared.signal.Signal.{Signal}
+use Rattle.sig_core.specs.declared.view.View.{View}
 use Rattle.sig_core.specs.Step.{Step}
-use Rattle.world_core.specs.declared.blocks.Blocks.{Blocks}
-use Rattle.world_core.specs.Blocks.{blocks_row}
-use Rattle.world_core.specs.Drive.{State}
-use Rattle.world_core.specs.Flights.{flights}
-use Rattle.world_core.specs.Machine.{request_signal}
-use Rattle.world_core.specs.Network.{LinkState, new_link, put_all}
-use Rattle.world_core.specs.Start.{started, fresh}
+use Rattle.world_core.specs.Inbox.{new_link}
+use Rattle.world_core.specs.Machine.{hosts, request_signal}
+use Rattle.world_core.specs.Network.{AreIdle, AreLinks, Links, put_all}
+use Rattle.world_core.specs.Start.{Start, first_view, started}
 
--- the blocks, the links, the stamp of each host's last step, and the log of each host
+-- the view that all hosts have, the hosts, the links to each, the stamp of each host's last step, and the log of each
 pub record Whole : Type 0 where
-  pub blocks : Blocks
-  pub links : List LinkState
+  pub view : View
+  pub bodies : List Host
+  pub links : Links
   pub stamps : List ℕ
   pub logs : List HostLog
+
+-- a host of a world; where there is none, one that has done nothing
+abbrev pub body_at : List Host → ℕ → Host
+body_at bodies h = slice_index_or bodies h (fresh_shell (first_view 0))
 
 -- a log without steps
 abbrev pub no_steps : ℕ → HostLog
@@ -40,48 +47,77 @@ with_step logs h e = slice_set logs h (record (slice_index_or logs h (no_steps 0
 abbrev pub next_stamp : List ℕ → ℕ → ℕ → ℕ
 next_stamp stamps h sent_at = max (slice_index_or stamps h 0) sent_at + 1
 
-abbrev pub moved_by : Whole → Signal → ℕ → Step Blocks → Whole
+abbrev pub moved_by : Whole → Signal → ℕ → Step Host → Whole
 moved_by w x stamp step =
     record {
-      blocks = step.state;
-      links = put_all w.links x.to.node stamp step.effects.sends;
+      view = w.view;
+      bodies = slice_set w.bodies x.to.node step.state;
+      links = put_all w.links w.view x.to.node stamp step.effects.sends;
       stamps = slice_set w.stamps x.to.node stamp;
       logs = with_step w.logs x.to.node (record { stamp = stamp; taken = x; marks = step.effects.marks });
     }
 
--- a host takes a signal that is on no link any more: its blocks do what their row says, and the step is in its log
+-- a host takes a signal that is on no link any more: it does what its row says, and the step is in its log
 abbrev pub moved : Whole → Signal → Whole
-moved w x = moved_by w x (next_stamp w.stamps x.to.node x.stamp) (blocks_row w.blocks x.to x.body)
+moved w x = moved_by w x (next_stamp w.stamps x.to.node x.stamp) (row (body_at w.bodies x.to.node) x.to x.body)
 
--- the host is there, and its clock can go on
-pub record CanTake (w : Whole) (x : Signal) : Type 0 where
-  pub there : x.to.node < 3
-  pub clock : slice_index_or w.stamps x.to.node 0 < 2 ^ 59
-  pub signal : x.stamp < 2 ^ 59
+-- the host is there
+pub record CanTake (w : Whole) (h : ℕ) : Type 0 where
+  pub bodies : h < length w.bodies
+  pub stamps : h < length w.stamps
+  pub logs : h < length w.logs
+
+-- there are n hosts
+pub record IsOf (n : ℕ) (w : Whole) : Type 0 where
+  pub bodies : length w.bodies ≡ n
+  pub links : AreLinks n w.links
+  pub stamps : length w.stamps ≡ n
+  pub logs : length w.logs ≡ n
 
 -- the shell asks for something
 abbrev pub asked : Whole → ApiReq → Whole
-asked w request = moved w (request_signal (slice_index_or w.stamps 0 0) request)
+asked w request = moved w (request_signal w.view (slice_index_or w.stamps 0 0) request)
+
+-- nothing is under way
+abbrev pub IsQuiet : Whole → Type 0
+IsQuiet w = AreIdle w.links
+
+-- a thing for each host below n
+abbrev pub for_each : {A : Type 0} → ℕ → (ℕ → A) → List A
+for_each zero thing = []
+for_each (suc n) thing = for_each n thing ++ thing n ∷ []
 
 -- a world in which nothing has happened
-abbrev pub new_world : Whole
-new_world =
+abbrev pub new_world : Start → Whole
+new_world start =
     record {
-      blocks = started fresh;
-      links = replicate 9 new_link;
-      stamps = 0 ∷ 0 ∷ 0 ∷ [];
-      logs = no_steps 0 ∷ no_steps 1 ∷ no_steps 2 ∷ [];
+      view = first_view start.nodes;
+      bodies = for_each (hosts start) (started start);
+      links = replicate (hosts start) (replicate (hosts start) new_link);
+      stamps = replicate (hosts start) 0;
+      logs = for_each (hosts start) no_steps;
     }
 
--- its blocks, and what is under way: all that decides what happens next
-abbrev pub state_of : Whole → State
-state_of w = record { blocks = w.blocks; links = flights w.links }
+-- the replies that the first host, the shell's, has to give
+abbrev pub replies_in : List Host → List ApiReply
+replies_in [] = []
+replies_in (shell ∷ nodes) = host.replies_of shell
 
--- the replies that the API has to give
 abbrev pub replies_of : Whole → List ApiReply
-replies_of w = w.blocks.api.replies
+replies_of w = replies_in w.bodies
 
--- a world whose API has these to give
+-- these in their place
+abbrev pub with_replies_in : List Host → List ApiReply → List Host
+with_replies_in [] replies = []
+with_replies_in (shell ∷ nodes) replies = host.with_replies shell replies ∷ nodes
+
 abbrev pub with_replies : Whole → List ApiReply → Whole
-with_replies w replies =
-    record w { blocks = record w.blocks { api = record { serving = w.blocks.api.serving; replies = replies } } }
+with_replies w replies = record w { bodies = with_replies_in w.bodies replies }
+
+-- the last command left something of its own unanswered
+abbrev pub is_open_in : List Host → Bool
+is_open_in [] = false
+is_open_in (shell ∷ nodes) = host.is_left_open shell
+
+abbrev pub is_left_open : Whole → Bool
+is_left_open w = is_open_in w.bodies

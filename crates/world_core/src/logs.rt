@@ -1,8 +1,7 @@
 //! The logs of all hosts.
-ghost use Rattle.std.specs.Prelude.{◌≡◌, ◌<◌, [], ◌∷◌, IfOk, OnOk, OnErr};
-ghost use Rattle.world_core.specs.World.{no_steps, with_step};
+ghost use Rattle.std.specs.Prelude.{◌≡◌, ◌<◌, length, IfOk, OnOk, OnErr};
+ghost use Rattle.world_core.specs.World.{for_each, no_steps, with_step};
 
-use crate::network::HOSTS;
 use sig_core::{HostId, HostLog, LogStep, NoMemory, Seq};
 use std::alloc::Global;
 use std::marker::Model;
@@ -14,29 +13,27 @@ pub struct Logs {
 }
 
 impl Model for Logs {
-    ghost use Rattle.std.specs.Prelude.{List, length, ◌≡◌};
+    ghost use Rattle.std.specs.Prelude.{List};
     ghost use Rattle.sig_core.specs.declared.log.HostLog.{HostLog};
 
     ghost Value = { List HostLog };
 
     ghost view = { λ l. l.hosts.items };
-
-    ghost invariant = { λ l. length l.hosts.items ≡ 3 };
 }
 
 impl Logs {
-    /// Logs without steps.
+    /// Logs of so many hosts, without steps.
     ///
     /// # Errors
     /// `NoMemory`.
-    pub fn new(alloc: Global) -> Result<Logs, NoMemory>
-        ensures { IfOk result (λ logs. logs ≡ no_steps 0 ∷ no_steps 1 ∷ no_steps 2 ∷ []) }
+    pub fn new(alloc: Global, hosts: u8) -> Result<Logs, NoMemory>
+        ensures { IfOk result (λ logs. logs ≡ for_each hosts no_steps) }
     {
-        let mut hosts = Vec::with_capacity(alloc, HOSTS)?;
-        hosts.push_reserved(no_steps(alloc, 0));
-        hosts.push_reserved(no_steps(alloc, 1));
-        hosts.push_reserved(no_steps(alloc, 2));
-        Ok(Logs { hosts })
+        let mut logs = Vec::with_capacity(alloc, usize::from(hosts))?;
+        for host in 0..hosts {
+            logs.push_reserved(no_steps(alloc, u32::from(host)));
+        }
+        Ok(Logs { hosts: logs })
     }
 
     /// Adds a step behind the others of its host.
@@ -44,7 +41,7 @@ impl Logs {
     /// # Errors
     /// `NoMemory`, and then the logs are as they were.
     pub fn add(&mut self, host: u8, step: LogStep) -> Result<(), NoMemory>
-        requires { host < 3 }
+        requires { host < length self.old }
         ensures ok { OnOk result (self.new ≡ with_step self.old host step) }
         ensures err { OnErr result (self.new ≡ self.old) }
     {

@@ -1,95 +1,107 @@
 //! The world: all hosts, driven by one thread.
-ghost use Rattle.std.specs.Prelude.{◌≡◌, ◌<◌, ◌^◌, IfOk, OnOk, OnErr, slice_index_or, slice_set};
+ghost use Rattle.std.specs.Prelude.{◌≡◌, ◌≤◌, ◌+◌, IfOk, OnOk, OnErr};
 ghost use Rattle.world_core.specs.Machine.{request_signal};
 ghost use Rattle.world_core.specs.Network.{put_all};
-ghost use Rattle.world_core.specs.World.{next_stamp};
+ghost use Rattle.world_core.specs.Start.{first_view, fresh, started};
+ghost use Rattle.world_core.specs.World.{for_each};
 
-use crate::blocks::Blocks;
+use crate::first::first_view;
 use crate::logs::Logs;
-use crate::network::{HOSTS, Network};
-use crate::place::{CLIENT, first_view};
+use crate::network::Network;
+use node_core::Host;
 use sig_core::{
-    Actor, ApiReply, ApiReq, Body, HostId, HostSignal, Life, LogStep, Member, NoMemory, Outs, Seq,
-    Signal, Work,
+    Actor, ApiReply, ApiReq, Body, CLIENT, HostId, HostSignal, Life, LogStep, Member, NoMemory,
+    Outs, Seq, Signal, View, Work,
 };
 use std::alloc::Global;
+use std::sync::Wait;
 
-/// All hosts: their blocks, the links between them, and the log of each.
+/// The stamps of steps are below this one.
+const STAMPS_END: u64 = 1 << 59;
+
+/// All hosts, the links between them, and the log of each.
 #[derive(Drop)]
 pub struct World {
-    blocks: Blocks,
+    view: View,
+    /// Host 0, the shell's, and those of the nodes, in their order.
+    bodies: Vec<Host>,
     network: Network,
     outs: Outs,
     /// The stamp of each host's last step.
-    stamps: [u64; HOSTS],
+    stamps: Vec<u64>,
     logs: Logs,
 }
 
 impl World {
     ghost use Rattle.std.specs.Prelude.{◌++◌, option_to_list, None, []};
-    ghost use Rattle.world_core.specs.Drive.{IsQuiet};
-    ghost use Rattle.world_core.specs.Driven.{HasAsked, HaveGrown, IsDriven, IsSound, IsStepped, latest, latest_to_come};
+    ghost use Rattle.world_core.specs.Driven.{HasAsked, HaveGrown, IsDriven, IsSound, IsStepped, IsWorld};
     ghost use Rattle.world_core.specs.Lives.{fresh_life};
-    ghost use Rattle.world_core.specs.Start.{fresh};
-    ghost use Rattle.world_core.specs.World.{CanTake, logs_at, moved, new_world, replies_of, state_of, with_replies};
+    ghost use Rattle.world_core.specs.Start.{Start};
+    ghost use Rattle.world_core.specs.World.{CanTake, IsQuiet, is_left_open, logs_at, moved, new_world, replies_of, with_replies};
     ghost use Rattle.world_core.specs.WorldOf.{whole_of};
 
-    /// A fresh cluster: nothing has happened, and there are no rows.
+    /// A fresh world of 1 to 8 nodes: nothing has happened, and there are no rows.
     ///
     /// # Errors
     /// `NoMemory`.
-    pub fn new(alloc: Global) -> Result<World, NoMemory>
-        ensures { IfOk result (λ w. whole_of w ≡ new_world) }
+    pub fn new(alloc: Global, nodes: u8) -> Result<World, NoMemory>
+        requires some { 1 ≤ nodes }
+        requires few { nodes ≤ 8 }
+        ensures { IfOk result (λ w. whole_of w ≡ new_world (fresh nodes)) }
     {
-        let network = Network::new(alloc)?;
+        let view = first_view(nodes);
+        let bodies = fresh_bodies(alloc, nodes, &view)?;
+        let hosts = nodes + 1;
+        let network = Network::new(alloc, usize::from(hosts))?;
         let outs = Outs::new(alloc)?;
-        let logs = Logs::new(alloc)?;
+        let stamps = Vec::from_elem(alloc, 0, usize::from(hosts))?;
+        let logs = Logs::new(alloc, hosts)?;
         Ok(World {
-            blocks: Blocks::new(alloc),
+            view,
+            bodies,
             network,
             outs,
-            stamps: [0; HOSTS],
+            stamps,
             logs,
         })
     }
 
-    /// Asks the API for something, in a step of host 0.
+    /// Asks the shell's host for something, in a step of it.
     ///
     /// # Errors
     /// `NoMemory`, and then nothing is asked, and the world is of use for its logs alone.
-    #[tactic(auto, using(crate::proofs::WorldLemmas::asks))]
     pub fn ask(&mut self, alloc: Global, request: ApiReq) -> Result<(), NoMemory>
-        requires sound { IsSound fresh (whole_of self.old) }
-        requires clock { latest (whole_of self.old) < 2 ^ 59 }
-        ensures ok { OnOk result (HasAsked fresh request (whole_of self.old) (whole_of self.new)) }
+        requires { IsWorld (whole_of self.old) }
+        ensures ok { (start : Start) → IsSound start (whole_of self.old) → OnOk result (HasAsked start request (whole_of self.old) (whole_of self.new)) }
         ensures err { OnErr result (self.new.logs ≡ self.old.logs) }
     {
-        let signal = request_signal(self.stamps[0], request);
+        let signal = request_signal(&self.view, self.stamps[0], request);
         self.handle(alloc, signal)
     }
 
-    /// Takes steps until nothing is under way.
+    /// Takes steps until nothing is under way. It isn't claimed that this ends.
     ///
     /// # Errors
     /// `NoMemory`, and then the world is of use for its logs alone.
-    pub fn drive(&mut self, alloc: Global) -> Result<(), NoMemory>
-        requires sound { IsSound fresh (whole_of self.old) }
-        requires clock { latest_to_come (whole_of self.old) < 2 ^ 59 }
-        ensures driven { OnOk result (IsDriven fresh (whole_of self.old) (whole_of self.new)) }
-        ensures quiet { OnOk result (IsQuiet (state_of (whole_of self.new))) }
-        ensures err { OnErr result (HaveGrown fresh (logs_at self.old.logs) (logs_at self.new.logs)) }
+    pub fn drive<W: Wait>(&mut self, rt: &W, alloc: Global) -> Result<(), NoMemory>
+        requires { IsWorld (whole_of self.old) }
+        ensures driven { (start : Start) → IsSound start (whole_of self.old) → OnOk result (IsDriven start (whole_of self.old) (whole_of self.new)) }
+        ensures quiet { OnOk result (IsQuiet (whole_of self.new)) }
+        ensures err { (start : Start) → IsSound start (whole_of self.old) → OnErr result (HaveGrown start (logs_at self.old.logs) (logs_at self.new.logs)) }
     {
-        while self.step(alloc)? {}
-        Ok(())
+        for _ in rt.forever() {
+            if !self.step(alloc)? {
+                return Ok(());
+            }
+        }
+        unreachable!()
     }
 
-    /// Takes the first signal of the first link that has one, and has its block handle it. Says
+    /// Takes the first signal of the first link that has one, and has its host handle it. Says
     /// whether there was one.
-    #[tactic(auto, using(crate::proofs::WorldLemmas::steps))]
     fn step(&mut self, alloc: Global) -> Result<bool, NoMemory>
-        requires sound { IsSound fresh (whole_of self.old) }
-        requires clock { latest (whole_of self.old) < 2 ^ 59 }
-        ensures ok { IfOk result (λ went. IsStepped fresh (whole_of self.old) (whole_of self.new) went) }
+        requires { IsWorld (whole_of self.old) }
+        ensures ok { (start : Start) → IsSound start (whole_of self.old) → IfOk result (λ went. IsStepped start (whole_of self.old) (whole_of self.new) went) }
         ensures err { OnErr result (self.new.logs ≡ self.old.logs) }
     {
         let Some(signal) = self.network.take() else {
@@ -99,15 +111,25 @@ impl World {
         Ok(true)
     }
 
-    /// The next reply of the API, in order, each once.
+    /// The next reply for the shell, in order, each once.
     pub fn next_reply(&mut self) -> Option<ApiReply>
         ensures some { whole_of self.old ≡ with_replies (whole_of self.new) (option_to_list result ++ replies_of (whole_of self.new)) }
         ensures none { result ≡ None → replies_of (whole_of self.old) ≡ [] }
     {
-        self.blocks.api.next_reply()
+        self.bodies.first_mut()?.next_reply()
     }
 
-    /// What the hosts did, as the only life of a fresh cluster. Takes no memory.
+    /// Whether the last command left something of its own unanswered.
+    pub fn is_left_open(&self) -> bool
+        ensures { result ≡ is_left_open (whole_of self.now) }
+    {
+        match self.bodies.first() {
+            Some(shell) => shell.is_left_open(),
+            None => false,
+        }
+    }
+
+    /// What the hosts did, as the first life of a fresh world. Takes no memory.
     pub fn end_life(self, alloc: Global) -> Life
         ensures { result ≡ fresh_life self.logs }
     {
@@ -118,18 +140,28 @@ impl World {
         }
     }
 
-    /// Has the block that the signal is for handle it, as the next step of its host.
+    /// Has the host that the signal is for handle it, as its next step.
+    ///
+    /// # Errors
+    /// `NoMemory`, and then the world is of use for its logs alone. Until hosts can stop, used-up
+    /// stamps are told as want of memory.
     fn handle(&mut self, alloc: Global, signal: Signal) -> Result<(), NoMemory>
-        requires { CanTake (whole_of self.old) signal }
+        requires { CanTake (whole_of self.old) signal.to.node }
         ensures ok { OnOk result (whole_of self.new ≡ moved (whole_of self.old) signal) }
         ensures err { OnErr result (self.new.logs ≡ self.old.logs) }
     {
-        self.outs.clear();
-        self.blocks.handle(alloc, &signal, &mut self.outs)?;
         let host = signal.to.node;
-        let stamp = next_stamp(&mut self.stamps, host, signal.stamp);
+        let at = usize::from(host);
+        let before = self.stamps[at].max(signal.stamp);
+        if before >= STAMPS_END {
+            return Err(NoMemory);
+        }
+        let stamp = before + 1;
+        self.outs.clear();
+        self.bodies[at].handle(alloc, &signal, &mut self.outs)?;
+        self.stamps[at] = stamp;
         let marks = Vec::from_slice(alloc, self.outs.marks())?;
-        dispatch(&mut self.network, host, stamp, &mut self.outs)?;
+        dispatch(&mut self.network, &self.view, host, stamp, &mut self.outs)?;
         let marks = Seq::from_vec(marks);
         let taken = signal;
         self.logs.add(
@@ -143,9 +175,23 @@ impl World {
     }
 }
 
+/// The hosts as a fresh world begins, which has this view.
+fn fresh_bodies(alloc: Global, nodes: u8, view: &View) -> Result<Vec<Host>, NoMemory>
+    requires few { nodes ≤ 8 }
+    requires view { view.now ≡ first_view nodes }
+    ensures { IfOk result (λ bodies. bodies.items ≡ for_each (nodes + 1) (started (fresh nodes))) }
+{
+    let mut bodies = Vec::with_capacity(alloc, usize::from(nodes) + 1)?;
+    bodies.push_reserved(Host::shell(alloc, view)?);
+    for before in 0..nodes {
+        bodies.push_reserved(Host::node(alloc, before + 1, view, 1, &[])?);
+    }
+    Ok(bodies)
+}
+
 /// The signal by which the shell asks for something, after a step of host 0 with this stamp.
-fn request_signal(stamp: u64, request: ApiReq) -> Signal
-    ensures { result ≡ request_signal stamp request }
+fn request_signal(view: &View, stamp: u64, request: ApiReq) -> Signal
+    ensures { result ≡ request_signal view.now stamp request }
 {
     Signal {
         from: HostId(0),
@@ -153,7 +199,7 @@ fn request_signal(stamp: u64, request: ApiReq) -> Signal
         to: CLIENT,
         seq: 0,
         stamp,
-        view: first_view(),
+        view: *view,
         body: Body::Host(HostSignal::Continue {
             work: Work::Request(request),
             at: 0,
@@ -161,25 +207,18 @@ fn request_signal(stamp: u64, request: ApiReq) -> Signal
     }
 }
 
-/// The stamp of a host's next step: one more than that of its step before and of the signal taken.
-fn next_stamp(stamps: &mut [u64; HOSTS], host: u8, sent_at: u64) -> u64
-    requires there { host < 3 }
-    requires clock { slice_index_or stamps.old host 0 < 2 ^ 59 }
-    requires signal { sent_at < 2 ^ 59 }
-    ensures stamp { result ≡ next_stamp stamps.old host sent_at }
-    ensures kept { stamps.new ≡ slice_set stamps.old host result }
-{
-    let at = usize::from(host);
-    stamps[at] = stamps[at].max(sent_at) + 1;
-    stamps[at]
-}
-
 /// Puts what a step of a host sends on its way.
-fn dispatch(network: &mut Network, host: u8, stamp: u64, outs: &mut Outs) -> Result<(), NoMemory>
-    ensures { OnOk result (network.new ≡ put_all network.old host stamp outs.old.sends) }
+fn dispatch(
+    network: &mut Network,
+    view: &View,
+    host: u8,
+    stamp: u64,
+    outs: &mut Outs,
+) -> Result<(), NoMemory>
+    ensures { OnOk result (network.new ≡ put_all network.old view.now host stamp outs.old.sends) }
 {
     while let Some(sent) = outs.take_send() {
-        network.put(host, stamp, sent)?;
+        network.put(view, host, stamp, sent)?;
     }
     Ok(())
 }

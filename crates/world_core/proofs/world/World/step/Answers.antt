@@ -8,8 +8,8 @@ pub returns-in_default-clause-ok : goal.returns-in_default-clause-ok
 returns-in_default-clause-ok c = has_stayed (whole_of c.args.self.now) _ c.in_default.ensures.none (ap (left_of (whole_of c.args.self.now)) c.in_default.ensures.kept)
 
 pub handle-requires : goal.handle-requires
-handle-requires c = can_take (whole_of c.args.self.now) c.in-Some.signal c.take.new.self c.requires.sound c.requires.clock c.in-Some.ensures.signal
+handle-requires c = can_take (whole_of c.args.self.now) c.in-Some.signal c.take.new.self c.requires c.in-Some.ensures.signal
 
 pub returns-clause-ok : goal.returns-clause-ok
 returns-clause-ok c =
-    has_stepped (whole_of c.args.self.now) (whole_of c.handle.new.self) c.in-Some.signal c.take.new.self c.requires.sound c.in-Some.ensures.signal c.in_ok-handle.ensures.ok
+    has_stepped (whole_of c.args.self.now) (whole_of c.handle.new.self) c.in-Some.signal c.take.new.self c.in-Some.ensures.signal c.in_ok-handle.ensures.ok

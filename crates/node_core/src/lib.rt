@@ -1,0 +1,6 @@
+//! The blocks of a host.
+#![tactic(auto)]
+
+mod host;
+
+pub use host::Host;

@@ -1,0 +1,153 @@
+//! The links to one host.
+ghost use Rattle.std.specs.Prelude.{◌≡◌, ◌∷◌, [], None, Some, MatchOption, IfNone, IfSome, OnOk, IfOk, ◌<◌, nat_lt, length, position};
+ghost use Rattle.world_core.specs.Inbox.{behind, is_busy, is_taken, new_link, taken, taken_at};
+ghost use Rattle.world_core.specs.Machine.{headed};
+
+use sig_core::{HostId, Member, NoMemory, Outgoing, Signal, View};
+use std::alloc::Global;
+use std::collections::VecDeque;
+use std::marker::Model;
+
+/// A link from one host to another, or to itself: the signals on their way, the oldest first.
+#[derive(Drop)]
+struct Link {
+    signals: VecDeque<Signal>,
+    /// How many signals were put on it.
+    sent: u64,
+}
+
+impl Model for Link {
+    ghost use Rattle.world_core.specs.Inbox.{LinkState};
+
+    ghost Value = { LinkState };
+
+    ghost view = { λ l. record { signals = l.signals.items; sent = l.sent } };
+}
+
+impl Link {
+    fn new(alloc: Global) -> Link
+        ensures { result ≡ new_link }
+    {
+        Link {
+            signals: VecDeque::new(alloc),
+            sent: 0,
+        }
+    }
+
+    fn is_busy(&self) -> bool
+        ensures { result ≡ is_busy self.now }
+    {
+        !self.signals.is_empty()
+    }
+
+    /// Puts a signal that host `from`, which has this view, sends in the step of this stamp behind
+    /// the others.
+    fn put(&mut self, view: &View, from: u8, stamp: u64, sent: Outgoing) -> Result<(), NoMemory>
+        ensures { OnOk result (self.new ≡ behind self.old (headed view.now from stamp self.old.sent sent)) }
+    {
+        let Outgoing { to, body } = sent;
+        self.signals.push_back(Signal {
+            from: HostId(u32::from(from)),
+            member: Member {
+                node: from,
+                start: 0,
+            },
+            to,
+            seq: self.sent,
+            stamp,
+            view: *view,
+            body,
+        })?;
+        self.sent = self.sent.saturating_add(1);
+        Ok(())
+    }
+
+    fn take(&mut self) -> Option<Signal>
+        ensures { MatchOption result ((self.old.signals ≡ []) × (self.new ≡ self.old)) (λ signal. is_taken self.old signal self.new) }
+    {
+        self.signals.pop_front()
+    }
+}
+
+/// The links from each host to one, in the order of hosts.
+#[derive(Drop)]
+pub struct Inbox {
+    links: Vec<Link>,
+}
+
+impl Model for Inbox {
+    ghost use Rattle.std.specs.Prelude.{List};
+    ghost use Rattle.world_core.specs.Inbox.{LinkState};
+
+    ghost Value = { List LinkState };
+
+    ghost view = { λ i. i.links.items };
+}
+
+impl Inbox {
+    ghost use Rattle.std.specs.Prelude.{replicate};
+    ghost use Rattle.world_core.specs.Inbox.{has_signal, take_first, with_sent};
+
+    /// A link from each of so many hosts, with nothing on it.
+    ///
+    /// # Errors
+    /// `NoMemory`.
+    pub fn new(alloc: Global, hosts: usize) -> Result<Inbox, NoMemory>
+        ensures { IfOk result (λ i. i ≡ replicate hosts new_link) }
+    {
+        let mut links = Vec::with_capacity(alloc, hosts)?;
+        for _ in 0..hosts {
+            links.push_reserved(Link::new(alloc));
+        }
+        Ok(Inbox { links })
+    }
+
+    /// Whether a link has a signal.
+    pub fn has_signal(&self) -> bool
+        ensures { result ≡ has_signal self.now }
+    {
+        first_busy(&self.links).is_some()
+    }
+
+    /// Puts a signal that host `from`, which has this view, sends in the step of this stamp on its
+    /// link, behind the others.
+    ///
+    /// # Errors
+    /// `NoMemory`, and then the inbox is of no use.
+    pub fn put(&mut self, view: &View, from: u8, stamp: u64, sent: Outgoing) -> Result<(), NoMemory>
+        ensures { OnOk result (self.new ≡ with_sent self.old view.now from stamp sent) }
+    {
+        let at = usize::from(from);
+        if at < self.links.len() {
+            self.links[at].put(view, from, stamp, sent)?;
+        }
+        Ok(())
+    }
+
+    /// Takes the first signal of the first link that has one.
+    pub fn take(&mut self) -> Option<Signal>
+        ensures none { IfNone result (take_first self.old ≡ None) }
+        ensures kept { IfNone result (self.new ≡ self.old) }
+        ensures signal { IfSome result (λ signal. take_first self.old ≡ Some (taken signal self.new)) }
+    {
+        let at = first_busy(&self.links)?;
+        take_at(&mut self.links, at)
+    }
+}
+
+/// The place of the first link that has a signal.
+fn first_busy(links: &[Link]) -> Option<usize>
+    ensures { result ≡ position is_busy links.now }
+{
+    links.iter().position(|link| link.is_busy())
+}
+
+/// Takes the first signal of the link at a place.
+fn take_at(links: &mut [Link], at: usize) -> Option<Signal>
+    requires { at < length links.old }
+    ensures none { IfNone result (taken_at links.old (Some at) ≡ None) }
+    ensures kept { IfNone result (links.new ≡ links.old) }
+    ensures signal { IfSome result (λ signal. taken_at links.old (Some at) ≡ Some (taken signal links.new)) }
+{
+    links[at].take()
+}
