@@ -1,1 +1,5 @@
+pub mod DihAsks
 pub mod HostLemmas
+pub mod LqhAsks
+pub mod Quiet
+pub mod TcAsks

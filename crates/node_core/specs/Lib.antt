@@ -1,6 +1,6 @@
 pub mod Committed
+pub mod Dih
 pub mod Fresh
 pub mod Replies
 pub mod Requests
 pub mod Row
-pub mod Shell

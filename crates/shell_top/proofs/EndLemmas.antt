@@ -1,48 +1,52 @@
 -- How a whole session is told: its lines, and then the line of the fault by which it was meant to end.
 use Rattle.std.proofs.Common.{◌≡◌, ℕ, ◌<◌, List, [], ◌∷◌, ◌++◌, length, false, true, refl, ap, sym, subst, ◌∙◌, Bool, arith}
-use Rattle.std.specs.Prelude.{Option, ◌==◌}
-use Rattle.std.specs.FinMap as map
+use Rattle.std.specs.Prelude.{Option, None, ◌==◌}
 use Rattle.std.specs.Global.{Vec}
-use Rattle.std.specs.Io.KnownBytes.{Consumes}
+use Rattle.std.specs.Io.KnownBytes.{Appends, Consumes}
 use Rattle.std.proofs.KnownBytes.{Appends-nil, Consumes-nil}
 use Rattle.std.proofs.lemmas.Bool.Decides.{nat_tests}
 use Rattle.std.proofs.lemmas.List.{append-nil}
 use Rattle.run_theory.proofs.Merging.{merged_run}
-use Rattle.commit_laws.proofs.Serial.{every_cut_serial, logs_serial}
 use Rattle.sig_core.specs.declared.log.HostLog.{HostLog}
 use Rattle.sig_core.specs.declared.log.Life.{Life}
 use Rattle.shell_top.specs.declared.ended.Ending.{Ending}
 use Rattle.shell_top.specs.declared.ended.Ending.TheVariants as ending
 use Rattle.shell_top.specs.declared.session.Session.{Session}
-use Rattle.shell_top.specs.Lived.{AreLived, IsLife, session_text}
+use Rattle.shell_top.specs.Arranged.{arranged}
+use Rattle.shell_top.specs.Lived.{AreLived, IsLife, nodes, session_text}
 use Rattle.shell_top.specs.Opened.{HasOpened}
 use Rattle.shell_top.specs.Printed.{Prints, is_cut_short}
-use Rattle.shell_top.specs.Script.{Put, script_from}
-use Rattle.shell_top.specs.Served.{IsServed, text_of}
+use Rattle.script_lang.specs.declared.command.Command.{Command}
+use Rattle.shell_top.specs.Script.{script_from}
+use Rattle.shell_top.specs.Served.{IsServed}
+use Rattle.shell_top.specs.Told.{text_of}
 use Rattle.shell_top.specs.Session.{AreLinesDone, IsSession, IsUnderWay}
-use Rattle.shell_top.specs.Text.{answers, fault_line}
+use Rattle.shell_top.specs.Text.{fault_line, reply_lines}
 use Rattle.shell_top.proofs.PrintedLemmas.{prints_both}
 use Rattle.world_core.specs.Lives.{fresh_life}
 use Rattle.world_core.specs.Machine.{hosts, machine}
-use Rattle.world_core.specs.Start.{fresh}
-use Rattle.world_core.specs.World.{logs_at}
+use Rattle.world_core.specs.Start.{first_view, fresh}
+use Rattle.world_core.specs.World.{Whole, logs_at, new_world}
 use Rattle.world_core.specs.WorldOf.{whole_of}
-use Rattle.world_core.proofs.FreshWorld.{fresh_asked, fresh_idle, fresh_right}
-use Rattle.world_core.proofs.SampleRun.{stamped}
+use Rattle.node_core.proofs.HostLemmas.{fresh_told}
+use Rattle.world_core.proofs.FreshWorld.{fresh_asked, fresh_quiet, fresh_right}
+use Rattle.world_core.proofs.Stamped.{stamped}
+
+-- nothing is told of a fresh world
+fresh_text : text_of (fresh nodes) (logs_at (new_world (fresh nodes)).logs 0) ≡ []
+fresh_text = ap (λ replies. reply_lines (arranged None replies)) (fresh_told (first_view nodes))
 
 -- the session is before its first line
 pub starts : (left written : Option (List ℕ)) (session : Session) (lives : Vec Life) → HasOpened session lives → IsUnderWay left left written written session.line session.reader (whole_of session.world)
 starts left written session lives opened =
     record {
       consumed = [];
-      puts = [];
-      rows = map.empty;
+      commands = [];
       read = subst (Consumes left left) (sym opened.reader) (Consumes-nil left);
       lines = λ ended more. ap (λ n. script_from ended n more) (sym opened.line);
-      printed = Appends-nil written;
-      served = subst (IsServed [] map.empty) (sym opened.world)
-          (record { given = []; right = fresh_right; idle_now = fresh_idle; asked = refl; at_quiet = fresh_asked; told = refl });
-      few = omega (arith, opened.line);
+      printed = subst (λ (w : Whole). Appends written written (text_of (fresh nodes) (logs_at w.logs 0))) (sym opened.world) (subst (Appends written written) (sym fresh_text) (Appends-nil written));
+      served = subst (IsServed (fresh nodes) []) (sym opened.world)
+          (record { given = []; right = fresh_right (fresh nodes); quiet = fresh_quiet (fresh nodes); asked = refl; at_quiet = fresh_asked (fresh nodes); none_left = fresh_told (first_view nodes) });
       line_low = omega (arith, opened.line);
       held_short = let empty : length session.reader ≡ 0 = ap length opened.reader in omega arith;
       consumed_short = omega (arith, opened.line);
@@ -53,12 +57,11 @@ pub one_life : (lives before : List Life) (life last : Life) → lives ≡ befor
 one_life lives before life last are none is = are ∙ ap (λ ls. ls ++ life ∷ []) none ∙ ap (λ l. l ∷ []) is
 
 -- what the one life says
-pub is_life : (e : Ending) (commands : List Put) (logs : List HostLog) → AreLived fresh e commands (logs_at logs) → IsLife e commands (fresh_life logs)
+pub is_life : (e : Ending) (commands : List Command) (logs : List HostLog) → AreLived (fresh nodes) e commands (logs_at logs) → IsLife e commands (fresh_life logs)
 is_life e commands logs lived =
     record {
       lived = lived;
-      run = merged_run (machine fresh) (stamped fresh) hosts (logs_at logs) lived.within lived.right;
-      serial = λ inside cut closed. every_cut_serial fresh inside (logs_at logs) lived.within lived.right cut closed;
+      run = merged_run (machine (fresh nodes)) (stamped (fresh nodes)) (hosts (fresh nodes)) (logs_at logs) lived.within lived.right;
     }
 
 -- it was done with its lines
@@ -73,11 +76,9 @@ session_done left left_now written mid now meant result logs lives one lines las
       consumed = lines.consumed;
       at_end = lines.at_end;
       ends = lines.ends;
-      printed = prints_both (is_cut_short meant) (is_cut_short result) meant result refl refl written mid now (answers (script_from lines.ended 1 lines.input).commands) lines.printed last;
       told = prints_both (is_cut_short meant) (is_cut_short result) meant result refl refl written mid now (session_text (fresh_life logs ∷ []))
-          (subst (Prints meant meant written mid) (sym (append-nil (text_of fresh (logs_at logs 0)))) lines.told) last;
+          (subst (Prints meant meant written mid) (sym (append-nil (text_of (fresh nodes) (logs_at logs 0)))) lines.told) last;
       lived = is_life meant (script_from lines.ended 1 lines.input).commands logs lines.lived;
-      history = (logs_serial fresh (logs_at logs) lines.lived.within lines.lived.right).legal;
       words_first = λ some. absurd (omega arith);
       words_refused = λ is. absurd (lines.no_words is);
       bounded = lines.bounded;
@@ -95,10 +96,8 @@ session_refused words left written now result lives none some printed =
       consumed = Consumes-nil left;
       at_end = λ is. cc;
       ends = tt;
-      printed = printed;
       told = printed;
       lived = (refl, refl);
-      history = tt;
       words_first = λ any. (refl, refl);
       words_refused = λ is. some;
       bounded = omega arith;
@@ -115,10 +114,8 @@ session_unstarted words left written lives no_life none =
       consumed = Consumes-nil left;
       at_end = λ is. cc;
       ends = tt;
-      printed = record { count = 0; appended = Appends-nil written };
       told = record { count = 0; appended = Appends-nil written };
       lived = (refl, refl);
-      history = tt;
       words_first = λ some. absurd (omega arith);
       words_refused = λ is. cc;
       bounded = omega arith;

@@ -2,8 +2,10 @@ pub mod EndLemmas
 pub mod LivedLemmas
 pub mod OpenLemmas
 pub mod PrintedLemmas
-pub mod PutLemmas
 pub mod ReaderLemmas
 pub mod ScriptLemmas
+pub mod ServeLemmas
 pub mod SessionLemmas
+pub mod TakenLemmas
+pub mod ToldLemmas
 pub mod WriterLemmas

@@ -1,16 +1,22 @@
 -- How a script falls into lines, as they are read.
 use Rattle.std.proofs.Common.{◌≡◌, ℕ, suc, ◌+◌, ◌≤◌, ◌<◌, List, [], ◌∷◌, ◌++◌, length, take, drop, Bool, true, false, cond, not, refl, ap, sym, subst, ◌∙◌, append_assoc, arith}
-use Rattle.std.specs.Prelude.{None, Some, position, nat_lt, if◌then◌else◌}
+use Rattle.std.specs.Prelude.{Option, None, Some, Result, Ok, Err, position, nat_lt, if◌then◌else◌}
 use Rattle.std.specs.List.{position_or_len, slice_split, onto_first}
 use Rattle.std.proofs.lemmas.Bool.Decides.{nat_tests}
 use Rattle.std.proofs.lemmas.List.{take-append-drop}
 use Rattle.std.proofs.lemmas.List.Splits.{slice_split-cons_yes, slice_split-cons_no, length-slice_split}
+use Rattle.script_lang.specs.declared.command.Command.{Command}
 use Rattle.shell_top.specs.declared.ended.Ending.TheVariants.{TooLong}
-use Rattle.shell_top.specs.Parsed.{parsed as parsed_line}
+use Rattle.script_lang.specs.declared.command.Command.TheVariants as command
+use Rattle.script_lang.specs.declared.fault.LineFault.{LineFault}
+use Rattle.script_lang.specs.declared.fault.LineFault.TheVariants.{UnknownCommand}
+use Rattle.script_lang.specs.Line.{first_word, parsed_line as whole_grammar}
+use Rattle.shell_top.specs.Asked.{is_served}
+use Rattle.shell_top.specs.declared.script.Parsed.TheVariants as parsed
+use Rattle.shell_top.specs.Parsed.{asked as asked_as, available, may_stand, parsed as parsed_line, parsed_as}
 use Rattle.shell_top.specs.Reader.{is_newline}
-use Rattle.shell_top.specs.Script.{Put, Script, nothing_more, ends_with, follow, is_too_long, whole_line, last_part, script_of, script_from}
+use Rattle.shell_top.specs.Script.{Script, nothing_more, ends_with, follow, is_too_long, whole_line, last_part, script_of, script_from}
 use Rattle.shell_top.specs.Session.{after}
-use Rattle.shell_top.specs.Text.{answers}
 
 -- where a newline stands in what comes first, the first part ends there
 place-yes : (byte : ℕ) (bytes : List ℕ) → is_newline byte ≡ true → position_or_len is_newline (byte ∷ bytes) ≡ 0
@@ -145,9 +151,29 @@ last_part-whole line [] some short = absurd (omega arith)
 last_part-whole line (byte ∷ bytes) some short = whole_line-short line (byte ∷ bytes) nothing_more short
 
 -- commands, and then others
-pub after-append : (first second : List Put) (script : Script) → after (first ++ second) script ≡ after first (after second script)
-after-append first second script = ap (λ puts. record { commands = puts; fault = script.fault }) (append_assoc first second script.commands)
+pub after-append : (first second : List Command) (script : Script) → after (first ++ second) script ≡ after first (after second script)
+after-append first second script = ap (λ commands. record { commands = commands; last = script.last }) (append_assoc first second script.commands)
 
-pub answers-append : (first second : List Put) → answers (first ++ second) ≡ answers first ++ answers second
-answers-append [] second = refl
-answers-append (put ∷ first) second = ap (λ text. answers (put ∷ []) ++ text) (answers-append first second)
+-- what a line asks for is served
+asked_served : (c asked : Command) → asked_as asked ≡ parsed.Ask c → is_served c ≡ true
+asked_served c (command.Begin name at) e = let same : command.Begin name at ≡ c = cc in ap is_served (sym same)
+asked_served c (command.Operate name op) e = let same : command.Operate name op ≡ c = cc in ap is_served (sym same)
+asked_served c (command.Commit name) e = let same : command.Commit name ≡ c = cc in ap is_served (sym same)
+asked_served c (command.Abort name) e = let same : command.Abort name ≡ c = cc in ap is_served (sym same)
+asked_served c (command.Tick rounds) e = let same : command.Tick rounds ≡ c = cc in ap is_served (sym same)
+asked_served c (command.Rows at) e = let same : command.Rows at ≡ c = cc in ap is_served (sym same)
+asked_served c (command.Digest at) e = let same : command.Digest at ≡ c = cc in ap is_served (sym same)
+asked_served c command.Quit e = cc
+asked_served c _ e = cc
+
+line_served : (c : Command) (result : Result (Option Command) LineFault) → parsed_as result ≡ parsed.Ask c → is_served c ≡ true
+line_served c (Ok None) e = cc
+line_served c (Ok (Some asked)) e = asked_served c asked e
+line_served c (Err fault) e = cc
+
+pub command_served : (line : List ℕ) (c : Command) → parsed_line line ≡ parsed.Ask c → is_served c ≡ true
+command_served line c e = go (may_stand (first_word line)) e
+  where
+    go : (b : Bool) → (if b then available line else parsed.Fault UnknownCommand) ≡ parsed.Ask c → is_served c ≡ true
+    go true e = line_served c (whole_grammar false 2 line) e
+    go false e = cc

@@ -11,19 +11,19 @@ use Rattle.script_lang.specs.declared.fault.LineFault.{LineFault}
 use Rattle.shell_top.specs.declared.script.Parsed.{Parsed}
 use Rattle.shell_top.specs.declared.script.Parsed.TheVariants as parsed
 use Rattle.sig_core.specs.declared.log.HostLog.{HostLog}
-use Rattle.shell_top.specs.Lived.{AreLived}
+use Rattle.script_lang.specs.declared.command.Command.{Command}
+use Rattle.shell_top.specs.Lived.{AreLived, nodes}
 use Rattle.shell_top.specs.Printed.{AppendsPart, Prints}
-use Rattle.shell_top.specs.Served.{AreLeft, IsServed, PrintsPut, PutEnds, rows_with, text_of}
-use Rattle.shell_top.proofs.LivedLemmas.{left_lived, served_lived, told_all, told_front, told_part}
-use Rattle.shell_top.proofs.PutLemmas.{served_text}
-use Rattle.world_core.specs.Start.{fresh}
+use Rattle.shell_top.specs.Served.{AreLeft, CommandEnds, IsServed, PrintsCommand, WrittenInPart, WrittenWhole}
+use Rattle.shell_top.specs.Told.{text_of}
+use Rattle.shell_top.proofs.LivedLemmas.{left_lived, served_lived, told_front, told_part}
+use Rattle.world_core.specs.Start.{Start, fresh}
 use Rattle.world_core.specs.World.{Whole, logs_at}
 use Rattle.shell_top.specs.Parsed.{parsed as parsed_line}
 use Rattle.shell_top.specs.Reader.{Reads, IsPartial, is_newline}
-use Rattle.shell_top.specs.Script.{Put, put_of, Script, nothing_more, ends_with, follow, is_too_long, last_part, script_from}
-use Rattle.shell_top.specs.Session.{Ends, IsUnderWay, AreLinesDone, after}
-use Rattle.shell_top.specs.Text.{answers}
-use Rattle.shell_top.proofs.ScriptLemmas.{script-part, script-line, script-held, found_within, whole_line-long, whole_line-short, too_long_line, too_long_bytes, short_line, last_part-long, last_part-partial, last_part-whole, after-append, answers-append}
+use Rattle.shell_top.specs.Script.{Script, nothing_more, ends_with, follow, is_too_long, last_part, script_from}
+use Rattle.shell_top.specs.Session.{Ends, IsUnderWay, AreLinesDone, after, is_finished}
+use Rattle.shell_top.proofs.ScriptLemmas.{script-part, script-line, script-held, found_within, whole_line-long, whole_line-short, too_long_line, too_long_bytes, short_line, last_part-long, last_part-partial, last_part-whole, after-append}
 
 -- something is held, and nothing
 pub some_held : (held bytes : List ℕ) (empty : Bool) → bytes ≡ held → empty ≡ (length bytes == 0) → empty ≡ false → 0 < length held
@@ -64,15 +64,13 @@ module _ (left written : Option (List ℕ)) where
       → IsUnderWay left left_then written written_now line held_then s
   read_on left_now left_then written_now line held held_then s u r short = record {
     consumed = u.consumed;
-    puts = u.puts;
-    rows = u.rows;
+    commands = u.commands;
     read = subst (Consumes left left_then)
         (append_assoc u.consumed held r.more ∙ ap (λ xs. u.consumed ++ xs) (sym r.kept))
         (Consumes-trans left left_now left_then (u.consumed ++ held) r.more u.read r.consumed);
     lines = u.lines;
     printed = u.printed;
     served = u.served;
-    few = u.few;
     line_low = u.line_low;
     held_short = short;
     consumed_short = u.consumed_short;
@@ -84,148 +82,124 @@ module _ (left written : Option (List ℕ)) where
     all_read ended = script_from ended 1 (u.consumed ++ held)
 
     -- it is what was done, and what the part that is held asks for
-    all_asked : (ended : Bool) (rest : Script) → script_from ended line held ≡ rest → all_read ended ≡ after u.puts rest
-    all_asked ended rest e = u.lines ended held ∙ ap (after u.puts) e
+    all_asked : (ended : Bool) (rest : Script) → script_from ended line held ≡ rest → all_read ended ≡ after u.commands rest
+    all_asked ended rest e = u.lines ended held ∙ ap (after u.commands) e
 
-    fault_asked : (ended : Bool) (rest : Script) → script_from ended line held ≡ rest → (all_read ended).fault ≡ rest.fault
-    fault_asked ended rest e = ap (λ (x : Script). x.fault) (all_asked ended rest e)
+    last_asked_for : (ended : Bool) (rest : Script) → script_from ended line held ≡ rest → (all_read ended).last ≡ rest.last
+    last_asked_for ended rest e = ap (λ (x : Script). x.last) (all_asked ended rest e)
 
     all_bounded : length (u.consumed ++ held) ≤ 513 * 65536 + 1024
     all_bounded = omega (arith, length-append u.consumed held, u.consumed_short, u.line_low, u.held_short)
 
-    -- where what is held asks for no command, all is answered
-    all_answered : (ended : Bool) (rest : Script) → script_from ended line held ≡ rest → rest.commands ≡ []
-        → Appends written written_now (answers (all_read ended).commands)
-    all_answered ended rest e none =
-        subst (Appends written written_now)
-        (sym (ap (λ (x : Script). answers x.commands) (all_asked ended rest e) ∙ ap (λ puts. answers (u.puts ++ puts)) none ∙ ap answers (append-nil u.puts)))
-        u.printed
-
     -- the session ends here
     ends_here : (written_then : Option (List ℕ)) (e : Ending) (ended : Bool) (logs : List HostLog) → (ended ≡ true → IsAtEnd left_now) → Ends e ended (all_read ended)
-        → Prints e e written written_then (answers (all_read ended).commands) → Prints e e written written_then (text_of fresh (logs_at logs 0))
-        → AreLived fresh e (all_read ended).commands (logs_at logs) → (e ≡ ending.Words → ⊥) → AreLinesDone left left_now written written_then e logs
-    ends_here written_then e ended logs at_end ends printed told lived no_words = record {
+        → Prints e e written written_then (text_of (fresh nodes) (logs_at logs 0)) → AreLived (fresh nodes) e (all_read ended).commands (logs_at logs) → (e ≡ ending.Words → ⊥)
+        → AreLinesDone left left_now written written_then e logs
+    ends_here written_then e ended logs at_end ends told lived no_words = record {
       input = u.consumed ++ held;
       ended = ended;
       consumed = u.read;
       at_end = at_end;
       ends = ends;
-      printed = printed;
       told = told;
       lived = lived;
       no_words = no_words;
       bounded = all_bounded;
     }
 
-    -- where what is held asks for no command, the logs say that all was asked, and tell what was printed
-    all_lived : (e : Ending) (ended : Bool) (rest : Script) → script_from ended line held ≡ rest → rest.commands ≡ [] → AreLived fresh e (all_read ended).commands (logs_at s.logs)
+    -- where what is held asks for no command, the logs say that all was asked for
+    all_lived : (e : Ending) (ended : Bool) (rest : Script) → script_from ended line held ≡ rest → rest.commands ≡ [] → AreLived (fresh nodes) e (all_read ended).commands (logs_at s.logs)
     all_lived e ended rest is none =
-        served_lived e u.puts [] u.rows s (all_read ended).commands u.served (ap (λ (x : Script). x.commands) (all_asked ended rest is) ∙ ap (λ puts. u.puts ++ puts) none) (λ whole. refl)
-
-    all_told : Appends written written_now (text_of fresh (logs_at s.logs 0))
-    all_told = told_all u.puts u.rows s written written_now u.served u.printed
+        served_lived (fresh nodes) e u.commands [] s (all_read ended).commands u.served
+        (ap (λ (x : Script). x.commands) (all_asked ended rest is) ∙ ap (λ commands. u.commands ++ commands) none) (λ whole. refl)
 
     -- a line is refused
     pub ends_refused : (fault : LineFault) (ended : Bool) → (ended ≡ true → IsAtEnd left_now) → script_from ended line held ≡ ends_with (ending.Refused line fault)
         → AreLinesDone left left_now written written_now (ending.Refused line fault) s.logs
     ends_refused fault ended at_end e =
-        ends_here written_now (ending.Refused line fault) ended s.logs at_end (fault_asked ended _ e) (refl, all_answered ended _ e refl) (refl, all_told)
+        ends_here written_now (ending.Refused line fault) ended s.logs at_end (last_asked_for ended _ e) (refl, u.printed)
         (all_lived (ending.Refused line fault) ended _ e refl) (λ is. cc)
 
     -- a line is too long
     pub ends_too_long : script_from false line held ≡ ends_with (ending.TooLong line) → AreLinesDone left left_now written written_now (ending.TooLong line) s.logs
     ends_too_long e =
-        ends_here written_now (ending.TooLong line) false s.logs (λ is. cc) (fault_asked false _ e) (refl, all_answered false _ e refl) (refl, all_told)
+        ends_here written_now (ending.TooLong line) false s.logs (λ is. cc) (last_asked_for false _ e) (refl, u.printed)
         (all_lived (ending.TooLong line) false _ e refl) (λ is. cc)
 
     -- the source failed, and no line is whole
     pub ends_unread : script_from false line held ≡ nothing_more → AreLinesDone left left_now written written_now ending.ReadFault s.logs
     ends_unread e =
-        ends_here written_now ending.ReadFault false s.logs (λ is. cc) (refl, fault_asked false _ e) (refl, all_answered false _ e refl) (refl, all_told)
+        ends_here written_now ending.ReadFault false s.logs (λ is. cc) (refl, last_asked_for false _ e) (refl, u.printed)
         (all_lived ending.ReadFault false _ e refl) (λ is. cc)
 
     -- the source was read to its end, and nothing is left to do
     pub ends_finished : IsAtEnd left_now → script_from true line held ≡ nothing_more → AreLinesDone left left_now written written_now ending.Finished s.logs
     ends_finished at_end e =
-        ends_here written_now ending.Finished true s.logs (λ is. at_end) (refl, fault_asked true _ e) (refl, all_answered true _ e refl) (refl, all_told)
+        ends_here written_now ending.Finished true s.logs (λ is. at_end) (ap (is_finished true) (last_asked_for true _ e)) (refl, u.printed)
         (all_lived ending.Finished true _ e refl) (λ is. cc)
 
-    -- what was printed is a first part of the answers
-    printed_first : (ended : Bool) → AppendsPart written written_now (answers (all_read ended).commands)
-    printed_first ended = record {
-      count = length (answers u.puts);
-      appended = subst (Appends written written_now)
-          (sym (ap (λ (x : Script). take (length (answers u.puts)) (answers x.commands)) (u.lines ended held)
-          ∙ ap (take (length (answers u.puts))) (answers-append u.puts (script_from ended line held).commands)
-          ∙ take_at (answers u.puts) (answers (script_from ended line held).commands) (length (answers u.puts)) refl))
-          u.printed;
-    }
+    -- or the session is to end
+    pub ends_quit : (ended : Bool) → (ended ≡ true → IsAtEnd left_now) → script_from ended line held ≡ ends_with ending.Finished
+        → AreLinesDone left left_now written written_now ending.Finished s.logs
+    ends_quit ended at_end e =
+        ends_here written_now ending.Finished ended s.logs at_end (ap (is_finished ended) (last_asked_for ended _ e)) (refl, u.printed)
+        (all_lived ending.Finished ended _ e refl) (λ is. cc)
 
     -- memory is wanting
     pub ends_unremembered : AreLinesDone left left_now written written_now ending.NoMemory s.logs
     ends_unremembered =
-        ends_here written_now ending.NoMemory false s.logs (λ is. cc) tt (printed_first false)
-        (told_front (answers u.puts) [] (text_of fresh (logs_at s.logs 0)) written written_now (served_text u.puts u.rows s u.served ∙ sym (append-nil (answers u.puts))) u.printed)
-        (served_lived ending.NoMemory u.puts (script_from false line held).commands u.rows s (all_read false).commands u.served (ap (λ (x : Script). x.commands) (u.lines false held)) (λ whole. cc))
+        ends_here written_now ending.NoMemory false s.logs (λ is. cc) tt
+        (told_front (text_of (fresh nodes) (logs_at s.logs 0)) [] (text_of (fresh nodes) (logs_at s.logs 0)) written written_now (sym (append-nil (text_of (fresh nodes) (logs_at s.logs 0)))) u.printed)
+        (served_lived (fresh nodes) ending.NoMemory u.commands (script_from false line held).commands s (all_read false).commands u.served
+        (ap (λ (x : Script). x.commands) (u.lines false held)) (λ whole. cc))
         (λ is. cc)
 
-    -- what is held begins with a put, whose answer was printed in part
-    module _ (written_then : Option (List ℕ)) (put : Put) (ended : Bool) (rest : Script) (asked : script_from ended line held ≡ after (put ∷ []) rest) where
-      -- the answers before, that of the put, and those behind it
-      all_text : answers (all_read ended).commands ≡ answers u.puts ++ (answers (put ∷ []) ++ answers rest.commands)
-      all_text = ap (λ (x : Script). answers x.commands) (all_asked ended _ asked) ∙ answers-append u.puts (put ∷ rest.commands)
-
-      cut_text : (n : ℕ) → answers u.puts ++ (answers (put ∷ []) ++ answers rest.commands)
-          ≡ (answers u.puts ++ take n (answers (put ∷ []))) ++ (drop n (answers (put ∷ [])) ++ answers rest.commands)
-      cut_text n =
-          let text = answers (put ∷ []) in
-          ap (λ xs. answers u.puts ++ (xs ++ answers rest.commands)) (sym (take-append-drop n text))
-          ∙ ap (λ xs. answers u.puts ++ xs) (append_assoc (take n text) (drop n text) (answers rest.commands))
-          ∙ sym (append_assoc (answers u.puts) (take n text) (drop n text ++ answers rest.commands))
-
-      pub printed_part : AppendsPart written_now written_then (answers (put ∷ [])) → AppendsPart written written_then (answers (all_read ended).commands)
-      printed_part part =
-          let front = answers u.puts ++ take part.count (answers (put ∷ [])) in
-          record {
-            count = length front;
-            appended = subst (Appends written written_then)
-                (sym (ap (take (length front)) (all_text ∙ cut_text part.count) ∙ take_at front _ (length front) refl))
-                (Appends-trans written written_now written_then (answers u.puts) (take part.count (answers (put ∷ []))) u.printed part.appended);
-          }
-
-      -- the commands are those before, the put, and those behind it
-      all_commands : (all_read ended).commands ≡ u.puts ++ put ∷ rest.commands
+    -- what is held begins with a command
+    module _ (written_then : Option (List ℕ)) (c : Command) (ended : Bool) (rest : Script) (asked : script_from ended line held ≡ after (c ∷ []) rest) where
+      -- the commands are those before, this one, and those behind it
+      all_commands : (all_read ended).commands ≡ u.commands ++ c ∷ rest.commands
       all_commands = ap (λ (x : Script). x.commands) (all_asked ended _ asked)
 
-      pub ends_unwritten : (t : Whole) → (ended ≡ true → IsAtEnd left_now) → AppendsPart written_now written_then (answers (put ∷ []))
-          → IsServed (u.puts ++ put ∷ []) (rows_with u.rows put) t → AreLinesDone left left_now written written_then ending.WriteFault t.logs
-      ends_unwritten t at_end part served =
-          ends_here written_then ending.WriteFault ended t.logs at_end tt (printed_part part)
-          (told_part u.puts put (rows_with u.rows put) t written written_now written_then served u.printed part)
-          (served_lived ending.WriteFault (u.puts ++ put ∷ []) rest.commands (rows_with u.rows put) t (all_read ended).commands served
-          (all_commands ∙ sym (append_assoc u.puts (put ∷ []) rest.commands)) (λ whole. cc))
+      -- its text was printed in part
+      pub ends_unwritten : (t : Whole) → (ended ≡ true → IsAtEnd left_now) → WrittenInPart (fresh nodes) u.commands c s t written_now written_then
+          → AreLinesDone left left_now written written_then ending.WriteFault t.logs
+      ends_unwritten t at_end part =
+          ends_here written_then ending.WriteFault ended t.logs at_end tt
+          (told_part (text_of (fresh nodes) (logs_at s.logs 0)) part.text (text_of (fresh nodes) (logs_at t.logs 0)) written written_now written_then part.told u.printed part.part)
+          (served_lived (fresh nodes) ending.WriteFault (u.commands ++ c ∷ []) rest.commands t (all_read ended).commands part.served
+          (all_commands ∙ sym (append_assoc u.commands (c ∷ []) rest.commands)) (λ whole. cc))
           (λ is. cc)
 
-      pub ends_forgotten : (t : Whole) → (ended ≡ true → IsAtEnd left_now) → written_then ≡ written_now → AreLeft u.puts put t.logs → AreLinesDone left left_now written written_then ending.NoMemory t.logs
+      -- or memory was wanting meanwhile
+      pub ends_forgotten : (t : Whole) → (ended ≡ true → IsAtEnd left_now) → written_then ≡ written_now → AreLeft (fresh nodes) c s t.logs
+          → AreLinesDone left left_now written written_then ending.NoMemory t.logs
       ends_forgotten t at_end same left_logs =
           ends_here written_then ending.NoMemory ended t.logs at_end tt
-          (subst (λ now. AppendsPart written now (answers (all_read ended).commands)) (sym same) (printed_first ended))
-          (told_front (answers u.puts) left_logs.more (text_of fresh (logs_at t.logs 0)) written written_then left_logs.text (subst (λ now. Appends written now (answers u.puts)) (sym same) u.printed))
-          (left_lived u.puts put rest.commands t.logs (all_read ended).commands left_logs all_commands)
+          (told_front (text_of (fresh nodes) (logs_at s.logs 0)) left_logs.more (text_of (fresh nodes) (logs_at t.logs 0)) written written_then left_logs.text
+          (subst (λ now. Appends written now (text_of (fresh nodes) (logs_at s.logs 0))) (sym same) u.printed))
+          (left_lived (fresh nodes) u.commands c rest.commands s t.logs (all_read ended).commands u.served left_logs all_commands)
           (λ is. cc)
 
-    -- the last line is a put, and it was answered
-    pub ends_answered : (written_then : Option (List ℕ)) (put : Put) (t : Whole) → script_from true line held ≡ after (put ∷ []) nothing_more → IsAtEnd left_now
-        → Appends written_now written_then (answers (put ∷ [])) → IsServed (u.puts ++ put ∷ []) (rows_with u.rows put) t → AreLinesDone left left_now written written_then ending.Finished t.logs
-    ends_answered written_then put t asked at_end more served =
-        let all = subst (Appends written written_then) (sym (answers-append u.puts (put ∷ [])))
-        (Appends-trans written written_now written_then (answers u.puts) (answers (put ∷ [])) u.printed more) in
-        ends_here written_then ending.Finished true t.logs (λ is. at_end) (refl, fault_asked true _ asked)
-        (refl, subst (Appends written written_then) (sym (ap (λ (x : Script). answers x.commands) (all_asked true _ asked))) all)
-        (refl, told_all (u.puts ++ put ∷ []) (rows_with u.rows put) t written written_then served all)
-        (served_lived ending.Finished (u.puts ++ put ∷ []) [] (rows_with u.rows put) t (all_read true).commands served
-        (ap (λ (x : Script). x.commands) (all_asked true _ asked) ∙ sym (append-nil (u.puts ++ put ∷ []))) (λ whole. refl))
+      pub cut_command : (t : Whole) → (ended ≡ true → IsAtEnd left_now) → (e : Ending) → CommandEnds (fresh nodes) e u.commands c s t written_now written_then
+          → AreLinesDone left left_now written written_then e t.logs
+      cut_command t at_end ending.WriteFault cut = ends_unwritten t at_end cut
+      cut_command t at_end ending.NoMemory cut = ends_forgotten t at_end cut.0 cut.1
+      cut_command t at_end _ cut = absurd cut
+
+    -- the text of a command behind the text before
+    printed_on : (written_then : Option (List ℕ)) (c : Command) (t : Whole) → WrittenWhole (fresh nodes) u.commands c s t written_now written_then
+        → Appends written written_then (text_of (fresh nodes) (logs_at t.logs 0))
+    printed_on written_then c t all =
+        subst (Appends written written_then) (sym all.told) (Appends-trans written written_now written_then (text_of (fresh nodes) (logs_at s.logs 0)) all.text u.printed all.all)
+
+    -- the last line is a command, and it was served
+    pub ends_answered : (written_then : Option (List ℕ)) (c : Command) (t : Whole) → script_from true line held ≡ after (c ∷ []) nothing_more → IsAtEnd left_now
+        → WrittenWhole (fresh nodes) u.commands c s t written_now written_then → AreLinesDone left left_now written written_then ending.Finished t.logs
+    ends_answered written_then c t asked at_end all =
+        ends_here written_then ending.Finished true t.logs (λ is. at_end) (ap (is_finished true) (last_asked_for true _ asked))
+        (refl, printed_on written_then c t all)
+        (served_lived (fresh nodes) ending.Finished (u.commands ++ c ∷ []) [] t (all_read true).commands all.served
+        (ap (λ (x : Script). x.commands) (all_asked true _ asked) ∙ sym (append-nil (u.commands ++ c ∷ []))) (λ whole. refl))
         (λ is. cc)
 
     -- a whole line is passed
@@ -246,15 +220,15 @@ module _ (left written : Option (List ℕ)) where
           script-held ended line held at found ∙ whole_line-short line (take at held) _ line_short
           ∙ ap (λ p. follow line p (script_from ended (line + 1) (drop (at + 1) held))) e
 
-      lines_on : (puts : List Put) (is : Parsed) → parsed_line (take at held) ≡ is → ((rest : Script) → follow line is rest ≡ after puts rest)
-          → (ended : Bool) (more : List ℕ) → script_from ended 1 ((u.consumed ++ take (at + 1) held) ++ more) ≡ after (u.puts ++ puts) (script_from ended (line + 1) more)
-      lines_on puts is e follows ended more =
+      lines_on : (commands : List Command) (is : Parsed) → parsed_line (take at held) ≡ is → ((rest : Script) → follow line is rest ≡ after commands rest)
+          → (ended : Bool) (more : List ℕ) → script_from ended 1 ((u.consumed ++ take (at + 1) held) ++ more) ≡ after (u.commands ++ commands) (script_from ended (line + 1) more)
+      lines_on commands is e follows ended more =
           ap (script_from ended 1) (append_assoc u.consumed (take (at + 1) held) more)
           ∙ u.lines ended (take (at + 1) held ++ more)
-          ∙ ap (after u.puts)
+          ∙ ap (after u.commands)
           (script-line ended line held at more found ∙ whole_line-short line (take at held) _ line_short
           ∙ ap (λ p. follow line p (script_from ended (line + 1) more)) e ∙ follows (script_from ended (line + 1) more))
-          ∙ sym (after-append u.puts puts (script_from ended (line + 1) more))
+          ∙ sym (after-append u.commands commands (script_from ended (line + 1) more))
 
       read_rest : Consumes left left_now ((u.consumed ++ take (at + 1) held) ++ drop (at + 1) held)
       read_rest = subst (Consumes left left_now)
@@ -265,54 +239,43 @@ module _ (left written : Option (List ℕ)) where
       pub goes_on : parsed_line (take at held) ≡ parsed.Nothing → IsUnderWay left left_now written written_now (line + 1) (drop (at + 1) held) s
       goes_on e = record {
         consumed = u.consumed ++ take (at + 1) held;
-        puts = u.puts;
-        rows = u.rows;
+        commands = u.commands;
         read = read_rest;
-        lines = λ ended more. lines_on [] parsed.Nothing e (λ rest. refl) ended more ∙ ap (λ puts. after puts (script_from ended (line + 1) more)) (append-nil u.puts);
+        lines = λ ended more. lines_on [] parsed.Nothing e (λ rest. refl) ended more ∙ ap (λ commands. after commands (script_from ended (line + 1) more)) (append-nil u.commands);
         printed = u.printed;
         served = u.served;
-        few = omega (arith, u.few);
         line_low = omega arith;
         held_short = omega (arith, u.held_short, length-drop (at + 1) held);
         consumed_short = omega (arith, u.consumed_short, length-append u.consumed (take (at + 1) held), front_length);
       }
 
-      -- the line is a put, and it was answered
-      pub goes_on_put : (written_then : Option (List ℕ)) (t : Whole) (key value : List ℕ) → parsed_line (take at held) ≡ parsed.Put key value
-          → IsServed (u.puts ++ put_of key value ∷ []) (rows_with u.rows (put_of key value)) t → Appends written_now written_then (answers (put_of key value ∷ []))
-          → IsUnderWay left left_now written written_then (line + 1) (drop (at + 1) held) t
-      goes_on_put written_then t key value e done more =
-          let put = put_of key value in
+      -- the line is a command, and it was served
+      goes_on_asked : (written_then : Option (List ℕ)) (t : Whole) (c : Command) → parsed_line (take at held) ≡ parsed.Ask c
+          → WrittenWhole (fresh nodes) u.commands c s t written_now written_then → IsUnderWay left left_now written written_then (line + 1) (drop (at + 1) held) t
+      goes_on_asked written_then t c e all =
           record {
             consumed = u.consumed ++ take (at + 1) held;
-            puts = u.puts ++ put ∷ [];
-            rows = rows_with u.rows put;
+            commands = u.commands ++ c ∷ [];
             read = read_rest;
-            lines = lines_on (put ∷ []) (parsed.Put key value) e (λ rest. refl);
-            printed = subst (Appends written written_then) (sym (answers-append u.puts (put ∷ [])))
-                (Appends-trans written written_now written_then (answers u.puts) (answers (put ∷ [])) u.printed more);
-            served = done;
-            few = omega (arith, u.few, length-append u.puts (put ∷ []));
+            lines = lines_on (c ∷ []) (parsed.Ask c) e (λ rest. refl);
+            printed = printed_on written_then c t all;
+            served = all.served;
             line_low = omega arith;
             held_short = omega (arith, u.held_short, length-drop (at + 1) held);
             consumed_short = omega (arith, u.consumed_short, length-append u.consumed (take (at + 1) held), front_length);
           }
 
-      -- the line is a put: it was answered, or its answer was cut short
-      cut_line : (written_then : Option (List ℕ)) (put : Put) (t : Whole) (rest : Script) → script_from false line held ≡ after (put ∷ []) rest
-          → (e : Ending) → PutEnds e u.puts u.rows put t written_now written_then → AreLinesDone left left_now written written_then e t.logs
-      cut_line written_then put t rest asked ending.WriteFault cut = ends_unwritten written_then put false rest asked t (λ is. cc) cut.0 cut.1
-      cut_line written_then put t rest asked ending.NoMemory cut = ends_forgotten written_then put false rest asked t (λ is. cc) cut.0 cut.1
-      cut_line written_then put t rest asked _ cut = absurd cut
-
-      pub line_put : (written_then : Option (List ℕ)) (t : Whole) (key value : List ℕ) (result : Option Ending) → parsed_line (take at held) ≡ parsed.Put key value
-          → PrintsPut (put_of key value) s t result written_now written_then
+      -- or it was cut short
+      pub line_asked : (written_then : Option (List ℕ)) (t : Whole) (c : Command) (result : Option Ending) → parsed_line (take at held) ≡ parsed.Ask c
+          → PrintsCommand (fresh nodes) c s t result written_now written_then
           → MatchOption result (IsUnderWay left left_now written written_then (line + 1) (drop (at + 1) held) t) (λ ending. AreLinesDone left left_now written written_then ending t.logs)
-      line_put written_then t key value None e p =
-          let done = p.printed u.puts u.rows u.served (omega (arith, u.few)) in
-          goes_on_put written_then t key value e done.1 done.0
-      line_put written_then t key value (Some ending) e p =
-          cut_line written_then (put_of key value) t _ (first_asked false (parsed.Put key value) e) ending (p.printed u.puts u.rows u.served (omega (arith, u.few)))
+      line_asked written_then t c None e p = goes_on_asked written_then t c e (p.printed u.commands u.served)
+      line_asked written_then t c (Some ending) e p =
+          cut_command written_then c false _ (first_asked false (parsed.Ask c) e) t (λ is. cc) ending (p.printed u.commands u.served)
+
+      -- the session is to end
+      pub line_quit : parsed_line (take at held) ≡ parsed.Quit → AreLinesDone left left_now written written_now ending.Finished s.logs
+      line_quit e = ends_quit false (λ is. cc) (first_asked false parsed.Quit e)
 
       -- the line is refused
       pub line_fault : (fault : LineFault) → parsed_line (take at held) ≡ parsed.Fault fault → AreLinesDone left left_now written written_now (ending.Refused line fault) s.logs
@@ -358,17 +321,12 @@ module _ (left written : Option (List ℕ)) where
       pub last_fault : (fault : LineFault) → 0 < length held → parsed_line held ≡ parsed.Fault fault → AreLinesDone left left_now written written_now (ending.Refused line fault) s.logs
       last_fault fault some e = ends_refused fault true (λ is. at_end) (last_asked (parsed.Fault fault) some e)
 
-      cut_last : (written_then : Option (List ℕ)) (put : Put) (t : Whole) → script_from true line held ≡ after (put ∷ []) nothing_more
-          → (e : Ending) → PutEnds e u.puts u.rows put t written_now written_then → AreLinesDone left left_now written written_then e t.logs
-      cut_last written_then put t asked ending.WriteFault cut = ends_unwritten written_then put true nothing_more asked t (λ is. at_end) cut.0 cut.1
-      cut_last written_then put t asked ending.NoMemory cut = ends_forgotten written_then put true nothing_more asked t (λ is. at_end) cut.0 cut.1
-      cut_last written_then put t asked _ cut = absurd cut
+      pub last_quit : 0 < length held → parsed_line held ≡ parsed.Quit → AreLinesDone left left_now written written_now ending.Finished s.logs
+      last_quit some e = ends_quit true (λ is. at_end) (last_asked parsed.Quit some e)
 
-      pub last_put : (written_then : Option (List ℕ)) (t : Whole) (key value : List ℕ) (result : Option Ending) → 0 < length held → parsed_line held ≡ parsed.Put key value
-          → PrintsPut (put_of key value) s t result written_now written_then
+      pub last_command : (written_then : Option (List ℕ)) (t : Whole) (c : Command) (result : Option Ending) → 0 < length held → parsed_line held ≡ parsed.Ask c
+          → PrintsCommand (fresh nodes) c s t result written_now written_then
           → MatchOption result (AreLinesDone left left_now written written_then ending.Finished t.logs) (λ ending. AreLinesDone left left_now written written_then ending t.logs)
-      last_put written_then t key value None some e p =
-          let done = p.printed u.puts u.rows u.served (omega (arith, u.few, u.line_low)) in
-          ends_answered written_then (put_of key value) t (last_asked (parsed.Put key value) some e) at_end done.0 done.1
-      last_put written_then t key value (Some ending) some e p =
-          cut_last written_then (put_of key value) t (last_asked (parsed.Put key value) some e) ending (p.printed u.puts u.rows u.served (omega (arith, u.few, u.line_low)))
+      last_command written_then t c None some e p = ends_answered written_then c t (last_asked (parsed.Ask c) some e) at_end (p.printed u.commands u.served)
+      last_command written_then t c (Some ending) some e p =
+          cut_command written_then c true nothing_more (last_asked (parsed.Ask c) some e) t (λ is. at_end) ending (p.printed u.commands u.served)

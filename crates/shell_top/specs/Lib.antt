@@ -1,3 +1,5 @@
+pub mod Arranged
+pub mod Asked
 pub mod Lived
 pub mod Opened
 pub mod Parsed
@@ -7,3 +9,4 @@ pub mod Script
 pub mod Served
 pub mod Session
 pub mod Text
+pub mod Told

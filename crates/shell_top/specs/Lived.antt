@@ -1,39 +1,43 @@
 -- What the lives of a session say of it.
-use Rattle.std.specs.Prelude.{◌≡◌, ℕ, Bool, true, false, List, [], ◌∷◌, ◌++◌, take}
-use Rattle.run_theory.specs.Cuts.{IsCut, IsClosed}
+use Rattle.std.specs.Prelude.{◌≡◌, ℕ, Bool, true, false, List, [], ◌∷◌, ◌++◌, reverse}
 use Rattle.run_theory.specs.Orders.{LogsRun}
 use Rattle.run_theory.specs.Runs.{AreLogs, IsWithin}
+use Rattle.script_lang.specs.declared.command.Command.{Command}
 use Rattle.sig_core.specs.declared.log.Life.{Life}
 use Rattle.sig_core.specs.declared.log.LogStep.{LogStep}
+use Rattle.shell_top.specs.Asked.{AreAsked, AreAskedInPart}
 use Rattle.shell_top.specs.declared.ended.Ending.{Ending}
 use Rattle.shell_top.specs.declared.ended.Ending.TheVariants.{NoMemory, Words}
 use Rattle.shell_top.specs.Printed.{is_cut_short}
-use Rattle.shell_top.specs.Script.{Put}
-use Rattle.shell_top.specs.Served.{requests_of, text_of}
+use Rattle.shell_top.specs.Told.{text_of}
 use Rattle.world_core.specs.Lives.{logs_of, start_of}
 use Rattle.world_core.specs.Machine.{hosts, machine}
 use Rattle.world_core.specs.Quiet.{IsQuiet}
-use Rattle.world_core.specs.Requests.{AreAskedAtQuiet, requests}
-use Rattle.world_core.specs.SerialLaw.{IsSerial}
+use Rattle.world_core.specs.Requests.{AreAskedAtQuiet}
 use Rattle.world_core.specs.Start.{Start}
 
--- The logs of a life in which the shell asked for the commands, each at quiet: for all of them unless the session was
--- cut short, and else for a first part. At its end nothing was under way, unless memory was wanting.
-pub record AreLived (start : Start) (ending : Ending) (commands : List Put) (logs : ℕ → List LogStep) : Type 0 where
-  pub right : AreLogs (machine start) logs
-  pub within : IsWithin hosts logs
-  pub count : ℕ
-  pub asked : requests (logs 0) ≡ requests_of (take count commands)
-  pub all_asked : is_cut_short ending ≡ false → take count commands ≡ commands
-  pub at_quiet : AreAskedAtQuiet start logs
-  pub quiet : (ending ≡ NoMemory → ⊥) → IsQuiet (machine start) hosts logs
+-- all commands were asked for, or, where the session was cut short, a first part of what is asked for them
+abbrev pub AreAskedFor : Start → Bool → List Command → List LogStep → Type 0
+AreAskedFor start false commands log = AreAsked start (reverse commands) log
+AreAskedFor start true commands log = AreAskedInPart start commands log
 
--- What a life says: its logs are a run of the machine from its start, the requests in them are those of the commands,
--- and the history of every closed cut of them is a serial history.
-pub record IsLife (ending : Ending) (commands : List Put) (life : Life) : Type 0 where
-  pub lived : AreLived (start_of life) ending commands (logs_of life)
-  pub run : LogsRun (machine (start_of life)) hosts (logs_of life)
-  pub serial : (inside : ℕ → List LogStep) → IsCut inside (logs_of life) → IsClosed (machine (start_of life)) inside → IsSerial (start_of life) inside
+-- The logs of a life in which the shell asked for the commands, each at quiet, unless the session was cut short. At its
+-- end nothing was under way, unless memory was wanting.
+pub record AreLived (start : Start) (ending : Ending) (commands : List Command) (logs : ℕ → List LogStep) : Type 0 where
+  pub right : AreLogs (machine start) logs
+  pub within : IsWithin (hosts start) logs
+  pub asked : AreAskedFor start (is_cut_short ending) commands (logs 0)
+  pub at_quiet : AreAskedAtQuiet start logs
+  pub quiet : (ending ≡ NoMemory → ⊥) → IsQuiet (machine start) (hosts start) logs
+
+-- how many nodes a cluster has
+abbrev pub nodes : ℕ
+nodes = 2
+
+-- What a life says: its logs are a run of the machine from its start, and the requests in them are those of the commands.
+pub record IsLife (ending : Ending) (commands : List Command) (life : Life) : Type 0 where
+  pub lived : AreLived (start_of nodes life) ending commands (logs_of life)
+  pub run : LogsRun (machine (start_of nodes life)) (hosts (start_of nodes life)) (logs_of life)
 
 -- the endings that can come before there is a life
 abbrev pub may_be_unborn : Ending → Bool
@@ -42,7 +46,7 @@ may_be_unborn NoMemory = true
 may_be_unborn ending = false
 
 -- a session has one life; or none, where there were words, or memory was wanting, before anything was read
-abbrev pub AreLives : Ending → List Put → List ℕ → List Life → Type 0
+abbrev pub AreLives : Ending → List Command → List ℕ → List Life → Type 0
 AreLives ending commands input [] = (input ≡ []) × (may_be_unborn ending ≡ true)
 AreLives ending commands input (life ∷ []) = IsLife ending commands life
 AreLives ending commands input (life ∷ next ∷ more) = ⊥
@@ -50,4 +54,4 @@ AreLives ending commands input (life ∷ next ∷ more) = ⊥
 -- the text of the logs of a session
 abbrev pub session_text : List Life → List ℕ
 session_text [] = []
-session_text (life ∷ more) = text_of (start_of life) (logs_of life 0) ++ session_text more
+session_text (life ∷ more) = text_of (start_of nodes life) (logs_of life 0) ++ session_text more

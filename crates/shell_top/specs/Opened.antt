@@ -5,6 +5,8 @@ use Rattle.std.specs.Vec.{vec_capacity}
 use Rattle.sig_core.specs.declared.log.Life.{Life}
 use Rattle.shell_top.specs.declared.session.Session.{Session}
 use Rattle.shell_top.specs.Session.{IsOpen}
+use Rattle.shell_top.specs.Lived.{nodes}
+use Rattle.world_core.specs.Start.{fresh}
 use Rattle.world_core.specs.World.{new_world}
 use Rattle.world_core.specs.WorldOf.{whole_of}
 
@@ -12,7 +14,7 @@ use Rattle.world_core.specs.WorldOf.{whole_of}
 pub record HasOpened (session : Session) (lives : Vec Life) : Type 0 where
   pub reader : session.reader ≡ []
   pub line : session.line ≡ 1
-  pub world : whole_of session.world ≡ new_world
-  pub opened : IsOpen (whole_of session.world) session.line
+  pub world : whole_of session.world ≡ new_world (fresh nodes)
+  pub opened : IsOpen (whole_of session.world)
   pub none : lives.items ≡ []
   pub room : 0 < vec_capacity lives

@@ -1,25 +1,48 @@
 -- What a line asks of the session.
 use Rattle.std.specs.Prelude.{ℕ, ◌==◌, Bool, true, false, ◌||◌, List, slice_index, codes, bytes_eq, if◌then◌else◌, Option, None, Some, Result, Ok, Err}
-use Rattle.sig_core.specs.declared.op.Op.TheVariants as op
 use Rattle.script_lang.specs.declared.command.Command.{Command}
 use Rattle.script_lang.specs.declared.command.Command.TheVariants as command
 use Rattle.script_lang.specs.declared.fault.LineFault.{LineFault}
 use Rattle.script_lang.specs.declared.fault.LineFault.TheVariants.{UnknownCommand}
 use Rattle.script_lang.specs.Line.{first_word, parsed_line}
 use Rattle.shell_top.specs.declared.script.Parsed.{Parsed}
-use Rattle.shell_top.specs.declared.script.Parsed.TheVariants.{Nothing, Put, Fault}
+use Rattle.shell_top.specs.declared.script.Parsed.TheVariants.{Nothing, Ask, Quit, Fault}
 
--- the words that may begin a line by now: those of comments, and the command that the session serves
+-- what stands before a comment, and before the name of a transaction
+abbrev pub is_sign : List ℕ → Bool
+is_sign word = (slice_index word 0 == 35) || (slice_index word 0 == 64)
+
+-- the operations
+abbrev pub is_operation : List ℕ → Bool
+is_operation word =
+    bytes_eq word (codes "get") || bytes_eq word (codes "getx") || bytes_eq word (codes "put")
+    || bytes_eq word (codes "ins") || bytes_eq word (codes "upd") || bytes_eq word (codes "del")
+
+-- the other commands that the session serves by now
+abbrev pub is_order : List ℕ → Bool
+is_order word =
+    bytes_eq word (codes "begin") || bytes_eq word (codes "commit") || bytes_eq word (codes "abort") || bytes_eq word (codes "tick")
+    || bytes_eq word (codes "rows") || bytes_eq word (codes "digest") || bytes_eq word (codes "quit")
+
+-- the words that may begin a line by now
 abbrev pub is_available : List ℕ → Bool
-is_available word = (slice_index word 0 == 35) || bytes_eq word (codes "put")
+is_available word = is_sign word || is_operation word || is_order word
 
 abbrev pub may_stand : Option (List ℕ) → Bool
 may_stand None = true
 may_stand (Some word) = is_available word
 
+-- what a command asks for; those that the session doesn't serve yet are unknown
 abbrev pub asked : Command → Parsed
-asked (command.Operate None (op.Put key value)) = Put key value
-asked command = Fault UnknownCommand
+asked command.Quit = Quit
+asked (command.Begin name at) = Ask (command.Begin name at)
+asked (command.Operate name op) = Ask (command.Operate name op)
+asked (command.Commit name) = Ask (command.Commit name)
+asked (command.Abort name) = Ask (command.Abort name)
+asked (command.Tick rounds) = Ask (command.Tick rounds)
+asked (command.Rows at) = Ask (command.Rows at)
+asked (command.Digest at) = Ask (command.Digest at)
+asked _ = Fault UnknownCommand
 
 abbrev pub parsed_as : Result (Option Command) LineFault → Parsed
 parsed_as (Ok None) = Nothing

@@ -1,36 +1,30 @@
 -- What a script asks for, line by line.
 use Rattle.std.specs.Prelude.{ℕ, ◌+◌, Bool, true, false, ◌||◌, nat_lt, if◌then◌else◌, List, [], ◌∷◌, length, Option, None, Some}
 use Rattle.std.specs.List.{slice_split}
+use Rattle.script_lang.specs.declared.command.Command.{Command}
 use Rattle.shell_top.specs.declared.ended.Ending.{Ending}
-use Rattle.shell_top.specs.declared.ended.Ending.TheVariants.{Refused, TooLong}
+use Rattle.shell_top.specs.declared.ended.Ending.TheVariants.{Finished, Refused, TooLong}
 use Rattle.shell_top.specs.declared.script.Parsed.{Parsed}
 use Rattle.shell_top.specs.declared.script.Parsed.TheVariants as parsed
 use Rattle.shell_top.specs.Parsed.{parsed as parsed_line}
 use Rattle.shell_top.specs.Reader.{is_newline}
 
--- a key, and the value to put there
-pub record Put : Type 0 where
-  pub key : List ℕ
-  pub value : List ℕ
-
-abbrev pub put_of : List ℕ → List ℕ → Put
-put_of key value = record { key = key; value = value }
-
--- the commands up to the first fault, and that fault
+-- the commands up to the first fault or `quit`, and how the session ends there
 pub record Script : Type 0 where
-  pub commands : List Put
-  pub fault : Option Ending
+  pub commands : List Command
+  pub last : Option Ending
 
 abbrev pub nothing_more : Script
-nothing_more = record { commands = []; fault = None }
+nothing_more = record { commands = []; last = None }
 
 abbrev pub ends_with : Ending → Script
-ends_with fault = record { commands = []; fault = Some fault }
+ends_with last = record { commands = []; last = Some last }
 
 -- a line, by what it asks for, and then the rest of a script
 abbrev pub follow : ℕ → Parsed → Script → Script
 follow line parsed.Nothing rest = rest
-follow line (parsed.Put key value) rest = record { commands = put_of key value ∷ rest.commands; fault = rest.fault }
+follow line (parsed.Ask command) rest = record { commands = command ∷ rest.commands; last = rest.last }
+follow line parsed.Quit rest = ends_with Finished
 follow line (parsed.Fault fault) rest = ends_with (Refused line fault)
 
 -- a line of more than 512 bytes, and the 65,537th

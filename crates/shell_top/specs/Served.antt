@@ -1,81 +1,99 @@
--- What a world has done for the puts that it was asked for.
-use Rattle.std.specs.Prelude.{◌≡◌, ◌≤◌, ℕ, ◌+◌, Bool, if◌then◌else◌, List, [], ◌∷◌, ◌++◌, length, map, Option, None, MatchOption}
-use Rattle.std.specs.FinMap as finite
+-- What a world has done for the commands that it was asked for.
+use Rattle.std.specs.Prelude.{◌≡◌, ◌⊎◌, ℕ, Bool, true, false, List, [], ◌∷◌, ◌++◌, reverse, take, Option, None, MatchOption}
 use Rattle.std.specs.Io.KnownBytes.{Appends}
+use Rattle.run_theory.specs.Lists.{IsPast}
 use Rattle.run_theory.specs.Runs.{AreLogs, IsWithin}
+use Rattle.script_lang.specs.declared.command.Command.{Command}
 use Rattle.sig_core.specs.declared.log.HostLog.{HostLog}
 use Rattle.sig_core.specs.declared.log.LogStep.{LogStep}
-use Rattle.sig_core.specs.declared.op.Op.TheVariants as op
 use Rattle.sig_core.specs.declared.reply.ApiReply.{ApiReply}
 use Rattle.sig_core.specs.declared.request.ApiReq.{ApiReq}
-use Rattle.sig_core.specs.declared.request.ApiReq.TheVariants.{Operate}
-use Rattle.sig_core.specs.Table.{Rows}
+use Rattle.shell_top.specs.Asked.{AreAsked, IsAskedNext, all_requests, questions, requests_of}
 use Rattle.shell_top.specs.declared.ended.Ending.{Ending}
 use Rattle.shell_top.specs.declared.ended.Ending.TheVariants.{WriteFault, NoMemory}
 use Rattle.shell_top.specs.Printed.{AppendsPart}
-use Rattle.shell_top.specs.Script.{Put}
-use Rattle.shell_top.specs.Text.{answers, reply_lines}
-use Rattle.world_core.specs.Driven.{IsSound, latest_to_come}
-use Rattle.world_core.specs.Idle.{idle}
-use Rattle.world_core.specs.Machine.{after, hosts, machine}
+use Rattle.shell_top.specs.Told.{text_of}
+use Rattle.world_core.specs.Driven.{IsSound}
+use Rattle.world_core.specs.Machine.{hosts, machine}
 use Rattle.world_core.specs.Requests.{AreAskedAtQuiet, requests}
 use Rattle.world_core.specs.Right.{IsRight}
-use Rattle.world_core.specs.Start.{Start, fresh}
-use Rattle.world_core.specs.World.{Whole, logs_at, state_of}
+use Rattle.world_core.specs.Start.{Start}
+use Rattle.world_core.specs.World.{IsQuiet, Whole, logs_at, replies_of}
 
--- what the shell asks for a put, and for puts
-abbrev pub request_of : Put → ApiReq
-request_of put = Operate None (op.Put put.key put.value)
+-- the first of these requests is the next step of host 0
+abbrev pub AsksFirst : List ApiReq → List LogStep → List LogStep → Type 0
+AsksFirst [] before log = log ≡ before
+AsksFirst (first ∷ asked) before log = IsAskedNext before log
 
-abbrev pub requests_of : List Put → List ApiReq
-requests_of puts = map request_of puts
+-- The world was asked for these requests, each at quiet, and is quiet.
+pub record HasServed (start : Start) (asked : List ApiReq) (w t : Whole) : Type 0 where
+  pub right : (given : List ApiReply) → IsRight start given w → IsRight start given t
+  pub more : (h : ℕ) → IsPast (logs_at w.logs h) (logs_at t.logs h)
+  pub requests : requests (logs_at t.logs 0) ≡ requests (logs_at w.logs 0) ++ asked
+  pub next : AsksFirst asked (logs_at w.logs 0) (logs_at t.logs 0)
+  pub at_quiet : IsQuiet w → AreAskedAtQuiet start (logs_at w.logs) → AreAskedAtQuiet start (logs_at t.logs)
+  pub quiet : IsQuiet w → IsQuiet t
 
--- the text of a log of host 0: the lines of the replies in it
-abbrev pub text_of : Start → List LogStep → List ℕ
-text_of start log = reply_lines (after start log).api.replies
+-- Memory was wanting while the world was asked for these requests: of the logs, a first part of them was asked for, each
+-- at quiet; where none was, the shell's host made no step.
+pub record AreLeftOff (start : Start) (asked : List ApiReq) (w : Whole) (logs : ℕ → List LogStep) : Type 0 where
+  pub right : AreLogs (machine start) logs
+  pub within : IsWithin (hosts start) logs
+  pub more : (h : ℕ) → IsPast (logs_at w.logs h) (logs h)
+  pub part : ℕ
+  pub requests : requests (logs 0) ≡ requests (logs_at w.logs 0) ++ take part asked
+  pub at_quiet : IsQuiet w → AreAskedAtQuiet start (logs_at w.logs) → AreAskedAtQuiet start logs
+  pub begun : (logs 0 ≡ logs_at w.logs 0) ⊎ IsAskedNext (logs_at w.logs 0) (logs 0)
 
--- The world is quiet, with these rows at both replicas. The shell asked for these puts, each at quiet, and has had the
--- answers to all of them.
-pub record IsServed (puts : List Put) (rows : Rows) (w : Whole) : Type 0 where
+-- What was asked about the last command: nothing where it left nothing of its own unanswered, and else the questions.
+abbrev pub HasGoneOn : Start → Whole → Whole → Bool → Type 0
+HasGoneOn start w t false = t ≡ w
+HasGoneOn start w t true = HasServed start questions w t
+
+-- The world is quiet. The shell asked for these commands, each at quiet, and has had all replies.
+pub record IsServed (start : Start) (commands : List Command) (w : Whole) : Type 0 where
   pub given : List ApiReply
-  pub right : IsRight fresh given w
-  pub idle_now : state_of w ≡ idle (length puts + 1) rows []
-  pub asked : requests (logs_at w.logs 0) ≡ requests_of puts
-  pub at_quiet : AreAskedAtQuiet fresh (logs_at w.logs)
-  pub told : reply_lines given ≡ answers puts
+  pub right : IsRight start given w
+  pub quiet : IsQuiet w
+  pub asked : AreAsked start (reverse commands) (logs_at w.logs 0)
+  pub at_quiet : AreAskedAtQuiet start (logs_at w.logs)
+  pub none_left : replies_of w ≡ []
 
--- Memory was wanting while a put was asked for or served, after these puts: what the logs are then.
-pub record AreLeft (puts : List Put) (put : Put) (logs : List HostLog) : Type 0 where
-  pub right : AreLogs (machine fresh) (logs_at logs)
-  pub within : IsWithin hosts (logs_at logs)
-  pub begun : Bool
-  pub asked : requests (logs_at logs 0) ≡ requests_of (if begun then puts ++ put ∷ [] else puts)
-  pub at_quiet : AreAskedAtQuiet fresh (logs_at logs)
+-- Memory was wanting while a command was served, after these commands: what the logs are then. Their text goes on from
+-- the text before.
+pub record AreLeft (start : Start) (command : Command) (w : Whole) (logs : List HostLog) : Type 0 where
+  pub left : AreLeftOff start (requests_of command ++ questions) w (logs_at logs)
   pub more : List ℕ
-  pub text : text_of fresh (logs_at logs 0) ≡ answers puts ++ more
+  pub text : text_of start (logs_at logs 0) ≡ text_of start (logs_at w.logs 0) ++ more
 
-abbrev pub rows_with : Rows → Put → Rows
-rows_with rows put = finite.insert rows put.key put.value
+-- a world that served some commands serves one more, and the text of its log goes on with this text
+pub record ServesCommand (start : Start) (command : Command) (w t : Whole) (text : List ℕ) : Type 0 where
+  pub served : (commands : List Command) → IsServed start commands w → IsServed start (commands ++ command ∷ []) t
+  pub told : (commands : List Command) → IsServed start commands w → text_of start (logs_at t.logs 0) ≡ text_of start (logs_at w.logs 0) ++ text
+  pub sound : IsSound start t
 
--- a world that served some puts serves one more, and the text is its answers
-pub record ServesPut (put : Put) (w t : Whole) (text : List ℕ) : Type 0 where
-  pub served : (puts : List Put) (rows : Rows) → IsServed puts rows w → length puts + 1 ≤ 65537 → IsServed (puts ++ put ∷ []) (rows_with rows put) t
-  pub told : (puts : List Put) (rows : Rows) → IsServed puts rows w → length puts + 1 ≤ 65537 → text ≡ answers (put ∷ [])
-  pub sound : IsSound fresh t
-  pub clock : latest_to_come t ≤ latest_to_come w + 22
+-- the command was served, and a first part of its text was written
+pub record WrittenInPart (start : Start) (commands : List Command) (command : Command) (w t : Whole) (written written_now : Option (List ℕ)) : Type 0 where
+  pub text : List ℕ
+  pub told : text_of start (logs_at t.logs 0) ≡ text_of start (logs_at w.logs 0) ++ text
+  pub part : AppendsPart written written_now text
+  pub served : IsServed start (commands ++ command ∷ []) t
 
--- or memory is wanting meanwhile
-pub record LeavesPut (put : Put) (w : Whole) (logs : List HostLog) : Type 0 where
-  pub left : (puts : List Put) (rows : Rows) → IsServed puts rows w → AreLeft puts put logs
+-- the command was served, and its text was written
+pub record WrittenWhole (start : Start) (commands : List Command) (command : Command) (w t : Whole) (written written_now : Option (List ℕ)) : Type 0 where
+  pub text : List ℕ
+  pub told : text_of start (logs_at t.logs 0) ≡ text_of start (logs_at w.logs 0) ++ text
+  pub all : Appends written written_now text
+  pub served : IsServed start (commands ++ command ∷ []) t
 
--- the session ends in a put: its answers were written in part, or memory was wanting
-abbrev pub PutEnds : Ending → List Put → Rows → Put → Whole → Option (List ℕ) → Option (List ℕ) → Type 0
-PutEnds WriteFault puts rows put t written written_now = AppendsPart written written_now (answers (put ∷ [])) × IsServed (puts ++ put ∷ []) (rows_with rows put) t
-PutEnds NoMemory puts rows put t written written_now = (written_now ≡ written) × AreLeft puts put t.logs
-PutEnds ending puts rows put t written written_now = ⊥
+-- the session ends in a command: its text was written in part, or memory was wanting
+abbrev pub CommandEnds : Start → Ending → List Command → Command → Whole → Whole → Option (List ℕ) → Option (List ℕ) → Type 0
+CommandEnds start WriteFault commands command w t written written_now = WrittenInPart start commands command w t written written_now
+CommandEnds start NoMemory commands command w t written written_now = (written_now ≡ written) × AreLeft start command w t.logs
+CommandEnds start ending commands command w t written written_now = ⊥
 
--- a world that served some puts serves one more and the answers are printed, or the session ends
-pub record PrintsPut (put : Put) (w t : Whole) (result : Option Ending) (written written_now : Option (List ℕ)) : Type 0 where
-  pub printed : (puts : List Put) (rows : Rows) → IsServed puts rows w → length puts + 1 ≤ 65537
-      → MatchOption result (Appends written written_now (answers (put ∷ [])) × IsServed (puts ++ put ∷ []) (rows_with rows put) t)
-      (λ ending. PutEnds ending puts rows put t written written_now)
+-- a world that served some commands serves one more and its text is printed, or the session ends
+pub record PrintsCommand (start : Start) (command : Command) (w t : Whole) (result : Option Ending) (written written_now : Option (List ℕ)) : Type 0 where
+  pub printed : (commands : List Command) → IsServed start commands w
+      → MatchOption result (WrittenWhole start commands command w t written written_now)
+      (λ ending. CommandEnds start ending commands command w t written written_now)

@@ -1,37 +1,42 @@
 -- What a session did: what it read and printed, and why it ended.
 use Rattle.std.specs.Prelude.{◌≡◌, ℕ, ◌+◌, ◌*◌, ◌≤◌, ◌<◌, Bool, true, false, List, [], ◌++◌, length, Option, None, Some, MatchOption}
 use Rattle.std.specs.Io.KnownBytes.{Consumes, Appends, IsAtEnd}
-use Rattle.serial_model.specs.Legal.{IsLegal}
+use Rattle.script_lang.specs.declared.command.Command.{Command}
 use Rattle.sig_core.specs.declared.log.HostLog.{HostLog}
 use Rattle.sig_core.specs.declared.log.Life.{Life}
-use Rattle.sig_core.specs.Table.{Rows}
 use Rattle.shell_top.specs.declared.ended.Ending.{Ending}
 use Rattle.shell_top.specs.declared.ended.Ending.TheVariants.{Finished, Words, Refused, ReadFault, WriteFault, NoMemory, TooLong}
 use Rattle.shell_top.specs.declared.session.Session.{Session}
-use Rattle.shell_top.specs.Lived.{AreLived, AreLives, session_text}
+use Rattle.shell_top.specs.Lived.{AreLived, AreLives, nodes, session_text}
 use Rattle.shell_top.specs.Printed.{Prints}
-use Rattle.shell_top.specs.Served.{IsServed, text_of}
-use Rattle.world_core.specs.Driven.{IsSound, latest_to_come}
-use Rattle.world_core.specs.Lives.{session_history}
+use Rattle.shell_top.specs.Script.{Script, script_from}
+use Rattle.shell_top.specs.Served.{IsServed}
+use Rattle.shell_top.specs.Text.{fault_line, status_of}
+use Rattle.shell_top.specs.Told.{text_of}
+use Rattle.world_core.specs.Driven.{IsSound}
 use Rattle.world_core.specs.Start.{fresh}
 use Rattle.world_core.specs.World.{Whole, logs_at}
 use Rattle.world_core.specs.WorldOf.{whole_of}
-use Rattle.shell_top.specs.Script.{Put, Script, script_from}
-use Rattle.shell_top.specs.Text.{answers, fault_line, status_of}
+
+-- the script ends the session as finished: at `quit`, or at its end
+abbrev pub is_finished : Bool → Option Ending → Bool
+is_finished ended (Some Finished) = true
+is_finished ended None = ended
+is_finished ended last = false
 
 -- whether a script, read so far or to its end, ends a session so
 abbrev pub Ends : Ending → Bool → Script → Type 0
-Ends Finished ended script = (ended ≡ true) × (script.fault ≡ None)
+Ends Finished ended script = is_finished ended script.last ≡ true
 Ends Words ended script = Unit {0}
-Ends (Refused line fault) ended script = script.fault ≡ Some (Refused line fault)
-Ends ReadFault ended script = (ended ≡ false) × (script.fault ≡ None)
+Ends (Refused line fault) ended script = script.last ≡ Some (Refused line fault)
+Ends ReadFault ended script = (ended ≡ false) × (script.last ≡ None)
 Ends WriteFault ended script = Unit {0}
 Ends NoMemory ended script = Unit {0}
-Ends (TooLong line) ended script = script.fault ≡ Some (TooLong line)
+Ends (TooLong line) ended script = script.last ≡ Some (TooLong line)
 
--- The session read `input`, and up to its end where `ended`. It printed the answers to the commands of its lines, up to
--- the first fault, and then the line of the fault by which it was meant to end; and the answers are the text of the logs
--- of its life, and the history of its lives is legal.
+-- The session read `input`, and up to its end where `ended`. It printed the text of the logs of its life, in which the
+-- commands of its lines were asked for, up to the first fault, and then the line of the fault by which it was meant to
+-- end.
 pub record IsSession (words : ℕ) (left left_now written written_now : Option (List ℕ)) (ending : Ending) (lives : List Life) : Type 0 where
   pub input : List ℕ
   pub ended : Bool
@@ -39,10 +44,8 @@ pub record IsSession (words : ℕ) (left left_now written written_now : Option (
   pub consumed : Consumes left left_now input
   pub at_end : ended ≡ true → IsAtEnd left_now
   pub ends : Ends meant ended (script_from ended 1 input)
-  pub printed : Prints ending meant written written_now (answers (script_from ended 1 input).commands ++ fault_line meant)
   pub told : Prints ending meant written written_now (session_text lives ++ fault_line meant)
   pub lived : AreLives meant (script_from ended 1 input).commands input lives
-  pub history : IsLegal fresh.rows (session_history lives)
   pub words_first : 0 < words → (meant ≡ Words) × (input ≡ [])
   pub words_refused : meant ≡ Words → 0 < words
   pub bounded : length input ≤ 513 * 65536 + 1024
@@ -54,34 +57,31 @@ pub record HasSession (words : ℕ) (left left_now written written_now : Option 
   pub told : status ≡ status_of ending
 
 -- commands in front of a script
-abbrev pub after : List Put → Script → Script
-after puts script = record { commands = puts ++ script.commands; fault = script.fault }
+abbrev pub after : List Command → Script → Script
+after commands script = record { commands = commands ++ script.commands; last = script.last }
 
--- The session is at this line: it read `consumed` and what is held, printed the answers to the commands of the lines
--- before, and the world has served these.
+-- The session is at this line: it read `consumed` and what is held, the world has served the commands of the lines
+-- before, and its text is printed.
 pub record IsUnderWay (left left_now written written_now : Option (List ℕ)) (line : ℕ) (held : List ℕ) (w : Whole) : Type 0 where
   pub consumed : List ℕ
-  pub puts : List Put
-  pub rows : Rows
+  pub commands : List Command
   pub read : Consumes left left_now (consumed ++ held)
-  pub lines : (ended : Bool) (more : List ℕ) → script_from ended 1 (consumed ++ more) ≡ after puts (script_from ended line more)
-  pub printed : Appends written written_now (answers puts)
-  pub served : IsServed puts rows w
-  pub few : length puts + 1 ≤ line
+  pub lines : (ended : Bool) (more : List ℕ) → script_from ended 1 (consumed ++ more) ≡ after commands (script_from ended line more)
+  pub printed : Appends written written_now (text_of (fresh nodes) (logs_at w.logs 0))
+  pub served : IsServed (fresh nodes) commands w
   pub line_low : line ≤ 65537
   pub held_short : length held ≤ 1024
   pub consumed_short : length consumed + 513 ≤ 513 * line
 
--- The lines are read, or can be read no further, and their answers are printed, or printing was cut short.
+-- The lines are read, or can be read no further, and the text of the logs is printed, or printing was cut short.
 pub record AreLinesDone (left left_now written written_now : Option (List ℕ)) (ending : Ending) (logs : List HostLog) : Type 0 where
   pub input : List ℕ
   pub ended : Bool
   pub consumed : Consumes left left_now input
   pub at_end : ended ≡ true → IsAtEnd left_now
   pub ends : Ends ending ended (script_from ended 1 input)
-  pub printed : Prints ending ending written written_now (answers (script_from ended 1 input).commands)
-  pub told : Prints ending ending written written_now (text_of fresh (logs_at logs 0))
-  pub lived : AreLived fresh ending (script_from ended 1 input).commands (logs_at logs)
+  pub told : Prints ending ending written written_now (text_of (fresh nodes) (logs_at logs 0))
+  pub lived : AreLived (fresh nodes) ending (script_from ended 1 input).commands (logs_at logs)
   pub no_words : ending ≡ Words → ⊥
   pub bounded : length input ≤ 513 * 65536 + 1024
 
@@ -102,8 +102,6 @@ GoesToEnd old new left_old left_new written_old written_new ending =
     (left written : Option (List ℕ)) → IsAt old left left_old written written_old
     → AreLinesDone left left_new written written_new ending (whole_of new.world).logs
 
--- the world is sound, and its clock has time for the lines to come
-pub record IsOpen (w : Whole) (line : ℕ) : Type 0 where
-  pub sound : IsSound fresh w
-  pub clock : latest_to_come w ≤ 22 * line
-  pub low : line ≤ 65537
+-- the world is sound
+abbrev pub IsOpen : Whole → Type 0
+IsOpen w = IsSound (fresh nodes) w

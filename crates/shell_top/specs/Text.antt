@@ -6,17 +6,11 @@ use Rattle.shell_top.specs.declared.ended.Ending.{Ending}
 use Rattle.shell_top.specs.declared.ended.Ending.TheVariants.{Finished, Words, Refused, ReadFault, WriteFault, NoMemory, TooLong}
 use Rattle.script_lang.specs.Fault.{code_of}
 use Rattle.script_lang.specs.ReplyText.{newline, reply_text}
-use Rattle.shell_top.specs.Script.{Put}
 
 -- the lines of replies
 abbrev pub reply_lines : List ApiReply → List ℕ
 reply_lines [] = []
 reply_lines (reply ∷ replies) = reply_text reply ++ reply_lines replies
-
--- each put is answered by ok, and committed in epoch 1
-abbrev pub answers : List Put → List ℕ
-answers [] = []
-answers (put ∷ puts) = codes "ok" ++ newline ++ codes "committed 1" ++ newline ++ answers puts
 
 -- the line that is printed last, where the session ends by a fault that has one
 abbrev pub fault_line : Ending → List ℕ

@@ -6,7 +6,7 @@ use sig_core::Life;
 /// Why a session ended.
 #[derive(Clone, Copy, Debug, PartialEq, Eq)]
 pub enum Ending {
-    /// The source was read to its end.
+    /// The source was read to its end, or to `quit`.
     Finished,
     /// There are words, and none are taken.
     Words,
@@ -24,7 +24,8 @@ pub enum Ending {
 /// What a session leaves.
 #[derive(Drop)]
 pub struct Ended {
-    /// The exit status: 0 where the source was read to its end; 1 where there were words; 2 at a
+    /// The exit status: 0 where the source was read to its end or to `quit`;
+    /// 1 where there were words; 2 at a
     /// line outside the grammar; 3 where the source failed, 4 where the sink did; 5 for want of
     /// memory; 9 at a line that is too long.
     pub status: u8,

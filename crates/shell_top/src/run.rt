@@ -17,10 +17,10 @@ use std::alloc::Global;
 use std::sync::Wait;
 use std::thread::Threads;
 
-/// Runs a session: reads a script of `put K V` lines from the source, has the cluster serve each,
-/// and writes the answers to the sink. The disks are handed back as they came.
+/// Runs a session: reads a script from the source, has the cluster serve each command, and writes
+/// the replies to the sink. The disks are handed back as they came.
 pub fn run_shell<R: Threads + Wait + Sync, S: Source, K: Sink, G: Gate + Sync>(
-    _rt: &R,
+    rt: &R,
     alloc: Global,
     words: &[String],
     source: &mut S,
@@ -33,7 +33,7 @@ pub fn run_shell<R: Threads + Wait + Sync, S: Source, K: Sink, G: Gate + Sync>(
     ensures write_fault { result.status ≡ 4 → Rose (K.faults sink.old) (K.faults sink.new) }
     ensures disks { result.disks ≡ disks }
 {
-    let outcome = run_session(alloc, words, source, sink);
+    let outcome = run_session(rt, alloc, words, source, sink);
     Ended {
         status: status_of(&outcome.ending),
         lives: outcome.lives,
@@ -49,7 +49,8 @@ struct Outcome {
 }
 
 /// Runs a session, and says how it ended.
-fn run_session<S: Source, K: Sink>(
+fn run_session<R: Wait, S: Source, K: Sink>(
+    rt: &R,
     alloc: Global,
     words: &[String],
     source: &mut S,
@@ -65,7 +66,7 @@ fn run_session<S: Source, K: Sink>(
         return Outcome { ending, lives };
     }
     match open(alloc) {
-        Ok(opened) => run_opened(alloc, opened, source, sink),
+        Ok(opened) => run_opened(rt, alloc, opened, source, sink),
         Err(NoMemory) => Outcome {
             ending: Ending::NoMemory,
             lives,
@@ -93,7 +94,8 @@ fn open(alloc: Global) -> Result<Opened, NoMemory>
 }
 
 /// Runs a session that was opened, and says how it ended.
-fn run_opened<S: Source, K: Sink>(
+fn run_opened<R: Wait, S: Source, K: Sink>(
+    rt: &R,
     alloc: Global,
     opened: Opened,
     source: &mut S,
@@ -108,7 +110,7 @@ fn run_opened<S: Source, K: Sink>(
         mut session,
         mut lives,
     } = opened;
-    let meant = session.run(alloc, source, sink);
+    let meant = session.run(rt, alloc, source, sink);
     lives.push_reserved(session.end_life(alloc));
     let ending = finish(alloc, sink, meant);
     Outcome { ending, lives }

@@ -1,21 +1,22 @@
 //! What a line asks of the session.
 ghost use Rattle.std.specs.Prelude.{◌≡◌};
 ghost use Rattle.script_lang.specs.Line.{first_word};
-ghost use Rattle.shell_top.specs.Parsed.{asked, available, is_available, may_stand, parsed};
+ghost use Rattle.shell_top.specs.Parsed.{asked, available, is_available, is_operation, is_order, is_sign, may_stand, parsed};
 
 use script_lang::{Command, LineFault, first_word, parse_line};
-use sig_core::{Key, Op, Value};
 
 /// How many nodes the cluster has.
-const NODES: u8 = 2;
+pub const NODES: u8 = 2;
 
 /// What a line asks for.
 #[derive(Clone, Copy)]
 pub enum Parsed {
     /// The line is empty or a comment.
     Nothing,
-    /// A put of this value at this key, as a transaction of its own.
-    Put(Key, Value),
+    /// A command for the cluster.
+    Ask(Command),
+    /// The session is to end.
+    Quit,
     Fault(LineFault),
 }
 
@@ -40,12 +41,41 @@ fn may_stand(line: &[u8]) -> bool
     }
 }
 
-/// Whether a word begins a comment, or is a command that the session serves by now: the one list
-/// of these.
+/// Whether a word begins a comment or names a transaction, or is a command that the session serves
+/// by now. This and the two below are the one list of these.
 fn is_available(word: &[u8]) -> bool
     ensures { result ≡ is_available word.now }
 {
-    word.first() == Some(&b'#') || word == b"put".as_slice()
+    is_sign(word) || is_operation(word) || is_order(word)
+}
+
+fn is_sign(word: &[u8]) -> bool
+    ensures { result ≡ is_sign word.now }
+{
+    word.first() == Some(&b'#') || word.first() == Some(&b'@')
+}
+
+fn is_operation(word: &[u8]) -> bool
+    ensures { result ≡ is_operation word.now }
+{
+    word == b"get".as_slice()
+        || word == b"getx".as_slice()
+        || word == b"put".as_slice()
+        || word == b"ins".as_slice()
+        || word == b"upd".as_slice()
+        || word == b"del".as_slice()
+}
+
+fn is_order(word: &[u8]) -> bool
+    ensures { result ≡ is_order word.now }
+{
+    word == b"begin".as_slice()
+        || word == b"commit".as_slice()
+        || word == b"abort".as_slice()
+        || word == b"tick".as_slice()
+        || word == b"rows".as_slice()
+        || word == b"digest".as_slice()
+        || word == b"quit".as_slice()
 }
 
 fn parse_available(line: &[u8]) -> Parsed
@@ -63,10 +93,14 @@ fn asked(command: &Command) -> Parsed
     ensures { result ≡ asked command.now }
 {
     match command {
-        Command::Operate {
-            name: None,
-            op: Op::Put(key, value),
-        } => Parsed::Put(*key, *value),
+        Command::Quit => Parsed::Quit,
+        Command::Begin { .. }
+        | Command::Operate { .. }
+        | Command::Commit { .. }
+        | Command::Abort { .. }
+        | Command::Tick { .. }
+        | Command::Rows { .. }
+        | Command::Digest { .. } => Parsed::Ask(*command),
         _ => Parsed::Fault(LineFault::UnknownCommand),
     }
 }

@@ -5,17 +5,20 @@ ghost use Rattle.host_io.specs.Fault.{Rose};
 ghost use Rattle.shell_top.specs.declared.ended.Ending.TheVariants as ending;
 ghost use Rattle.shell_top.specs.Reader.{IsPartial, is_newline};
 ghost use Rattle.shell_top.specs.Session.{GoesOn, GoesToEnd, IsOpen};
+ghost use Rattle.shell_top.specs.Lived.{nodes};
 ghost use Rattle.world_core.specs.Lives.{fresh_life};
+ghost use Rattle.world_core.specs.Start.{fresh};
 ghost use Rattle.world_core.specs.World.{new_world};
 ghost use Rattle.world_core.specs.WorldOf.{whole_of};
 
 use crate::ended::Ending;
 use crate::reader::{Filled, LINE_BYTES, Reader};
-use crate::script::{Parsed, parse};
-use crate::serve::put;
+use crate::script::{NODES, Parsed, parse};
+use crate::serve::serve_command;
 use host_io::{Sink, Source};
 use sig_core::{Life, NoMemory};
 use std::alloc::Global;
+use std::sync::Wait;
 use world_core::World;
 
 /// The most lines that a script has.
@@ -37,12 +40,12 @@ impl Session {
     /// `NoMemory`.
     pub fn new(alloc: Global) -> Result<Session, NoMemory>
         ensures reader { IfOk result (λ s. s.reader ≡ []) }
-        ensures world { IfOk result (λ s. whole_of s.world ≡ new_world) }
-        ensures opened { IfOk result (λ s. IsOpen (whole_of s.world) s.line) }
+        ensures world { IfOk result (λ s. whole_of s.world ≡ new_world (fresh nodes)) }
+        ensures opened { IfOk result (λ s. IsOpen (whole_of s.world)) }
         ensures line { IfOk result (λ s. s.line ≡ 1) }
     {
         let reader = Reader::new(alloc)?;
-        let world = World::new(alloc)?;
+        let world = World::new(alloc, NODES)?;
         Ok(Session {
             reader,
             world,
@@ -58,8 +61,14 @@ impl Session {
     }
 
     /// Reads, serves and answers line after line, and says why that ends.
-    pub fn run<S: Source, K: Sink>(&mut self, alloc: Global, source: &mut S, sink: &mut K) -> Ending
-        requires opened { IsOpen (whole_of self.old.world) self.old.line }
+    pub fn run<R: Wait, S: Source, K: Sink>(
+        &mut self,
+        rt: &R,
+        alloc: Global,
+        source: &mut S,
+        sink: &mut K,
+    ) -> Ending
+        requires opened { IsOpen (whole_of self.old.world) }
         ensures done { GoesToEnd self.old self.new (S.left source.old) (S.left source.new) (K.written sink.old) (K.written sink.new) result }
         ensures read_cause { result ≡ ending.ReadFault → Rose (S.faults source.old) (S.faults source.new) }
         ensures write_cause { result ≡ ending.WriteFault → Rose (K.faults sink.old) (K.faults sink.new) }
@@ -67,22 +76,23 @@ impl Session {
         ensures write_steady { K.faults sink.old ≤ K.faults sink.new }
     {
         'lines: loop {
-            if let Some(ending) = self.next_line(alloc, source, sink) {
+            if let Some(ending) = self.next_line(rt, alloc, source, sink) {
                 return ending;
             }
         }
     }
 
     /// Reads, serves and answers the next line. Says why the session ends, if it does.
-    fn next_line<S: Source, K: Sink>(
+    fn next_line<R: Wait, S: Source, K: Sink>(
         &mut self,
+        rt: &R,
         alloc: Global,
         source: &mut S,
         sink: &mut K,
     ) -> Option<Ending>
-        requires opened { IsOpen (whole_of self.old.world) self.old.line }
+        requires opened { IsOpen (whole_of self.old.world) }
         ensures done { GoesOn self.old self.new (S.left source.old) (S.left source.new) (K.written sink.old) (K.written sink.new) result }
-        ensures opened { IfNone result (IsOpen (whole_of self.new.world) self.new.line) }
+        ensures opened { IfNone result (IsOpen (whole_of self.new.world)) }
         ensures next { IfNone result ((self.new.line ≡ self.old.line + 1) × (self.old.line ≤ 65536)) }
         ensures read_cause { result ≡ Some ending.ReadFault → Rose (S.faults source.old) (S.faults source.new) }
         ensures write_cause { result ≡ Some ending.WriteFault → Rose (K.faults sink.old) (K.faults sink.new) }
@@ -95,8 +105,8 @@ impl Session {
             return Some(Ending::TooLong { line });
         }
         match filled {
-            Filled::Line(at) => self.whole_line(alloc, sink, at),
-            Filled::Ended => Some(self.last_line(alloc, sink)),
+            Filled::Line(at) => self.whole_line(rt, alloc, sink, at),
+            Filled::Ended => Some(self.last_line(rt, alloc, sink)),
             Filled::Overlong => Some(Ending::TooLong { line }),
             Filled::Failed => Some(Ending::ReadFault),
             Filled::NoMemory => Some(Ending::NoMemory),
@@ -111,11 +121,17 @@ impl Session {
     }
 
     /// Serves and answers the line whose newline stands at a place of what is held.
-    fn whole_line<K: Sink>(&mut self, alloc: Global, sink: &mut K, at: usize) -> Option<Ending>
+    fn whole_line<R: Wait, K: Sink>(
+        &mut self,
+        rt: &R,
+        alloc: Global,
+        sink: &mut K,
+        at: usize,
+    ) -> Option<Ending>
         requires found { position is_newline self.old.reader ≡ Some at }
         requires low { self.old.line ≤ 65536 }
-        requires opened { IsOpen (whole_of self.old.world) self.old.line }
-        ensures opened { IfNone result (IsOpen (whole_of self.new.world) self.new.line) }
+        requires opened { IsOpen (whole_of self.old.world) }
+        ensures opened { IfNone result (IsOpen (whole_of self.new.world)) }
         ensures done { (left : Option (List ℕ)) → GoesOn self.old self.new left left (K.written sink.old) (K.written sink.new) result }
         ensures next { IfNone result (self.new.line ≡ self.old.line + 1) }
         ensures unread { result ≡ Some ending.ReadFault → ⊥ }
@@ -131,7 +147,8 @@ impl Session {
         self.line = line + 1;
         match &parsed {
             Parsed::Nothing => None,
-            Parsed::Put(key, value) => put(alloc, &mut self.world, sink, key, value),
+            Parsed::Ask(command) => serve_command(rt, alloc, &mut self.world, sink, command),
+            Parsed::Quit => Some(Ending::Finished),
             Parsed::Fault(fault) => Some(Ending::Refused {
                 line,
                 fault: *fault,
@@ -140,10 +157,10 @@ impl Session {
     }
 
     /// Serves and answers what stands behind the last newline, at the end of the source.
-    fn last_line<K: Sink>(&mut self, alloc: Global, sink: &mut K) -> Ending
+    fn last_line<R: Wait, K: Sink>(&mut self, rt: &R, alloc: Global, sink: &mut K) -> Ending
         requires partial { IsPartial self.old.reader }
         requires low { 0 < length self.old.reader → self.old.line ≤ 65536 }
-        requires opened { IsOpen (whole_of self.old.world) self.old.line }
+        requires opened { IsOpen (whole_of self.old.world) }
         ensures done { (left : Option (List ℕ)) → IsAtEnd left → GoesToEnd self.old self.new left left (K.written sink.old) (K.written sink.new) result }
         ensures unread { result ≡ ending.ReadFault → ⊥ }
         ensures write_cause { result ≡ ending.WriteFault → Rose (K.faults sink.old) (K.faults sink.new) }
@@ -157,10 +174,11 @@ impl Session {
         let parsed = parse(held);
         match &parsed {
             Parsed::Nothing => Ending::Finished,
-            Parsed::Put(key, value) => match put(alloc, &mut self.world, sink, key, value) {
+            Parsed::Ask(command) => match serve_command(rt, alloc, &mut self.world, sink, command) {
                 None => Ending::Finished,
                 Some(ending) => ending,
             },
+            Parsed::Quit => Ending::Finished,
             Parsed::Fault(fault) => Ending::Refused {
                 line,
                 fault: *fault,

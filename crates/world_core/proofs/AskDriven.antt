@@ -1,5 +1,5 @@
 -- The shell asks for something: a step of host 0, at quiet.
-use Rattle.std.proofs.Common.{◌≡◌, ℕ, List, [], ◌∷◌, ◌++◌, ap, sym, ◌∙◌}
+use Rattle.std.proofs.Common.{◌≡◌, ℕ, List, [], ◌∷◌, ◌++◌, refl, ap, sym, ◌∙◌}
 use Rattle.std.specs.Prelude.{slice_index_or}
 use Rattle.run_theory.specs.Lists.{IsPast}
 use Rattle.sig_core.specs.declared.log.LogStep.{LogStep}
@@ -42,6 +42,9 @@ module _ (start : Start) (given : List ApiReply) (w : Whole) (right : IsRight st
   has_asked =
       let ready = ask_ready start given w right request in
       record {
+        asking = step_of w signal;
+        next = log_is;
+        asks = refl;
         right = λ others was. move_right start others w signal (ask_ready start others w was request);
         more = log_grows start given w signal ready;
         logs = right_logs start given (asked w request) (move_right start given w signal ready);

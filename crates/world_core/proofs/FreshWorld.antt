@@ -1,5 +1,5 @@
 -- A fresh world is right: nothing was sent, taken or asked.
-use Rattle.std.proofs.Common.{◌≡◌, ◌⊎◌, inl, inr, ℕ, zero, suc, ◌-◌, ◌<◌, ◌≤◌, List, [], ◌∷◌, ◌++◌, length, refl, ap, sym, ◌∙◌, subst, arith, replicate, reverse}
+use Rattle.std.proofs.Common.{◌≡◌, ◌⊎◌, inl, inr, ℕ, zero, suc, ◌+◌, ◌-◌, ◌<◌, ◌≤◌, List, [], ◌∷◌, ◌++◌, length, refl, ap, sym, ◌∙◌, subst, arith, replicate, reverse}
 use Rattle.std.specs.Prelude.{slice_index_or}
 use Rattle.std.proofs.lemmas.Bool.{cases_lt}
 use Rattle.std.proofs.lemmas.List.{get_or-append_right, get_or-replicate, get_or_append_left, get_or_past, length-append, length-replicate}
@@ -16,7 +16,7 @@ use Rattle.world_core.specs.Network.{AreLinks, inbox_of, link}
 use Rattle.world_core.specs.Requests.{AreAskedAtQuiet}
 use Rattle.world_core.specs.Right.{IsRight}
 use Rattle.world_core.specs.Start.{Start, first_view, started}
-use Rattle.world_core.specs.World.{body_at, for_each, logs_at, new_world, no_steps}
+use Rattle.world_core.specs.World.{IsQuiet, body_at, for_each, logs_at, new_world, no_steps}
 
 -- what is there for each host
 each_length : {A : Type 0} (n : ℕ) (thing : ℕ → A) → length (for_each n thing) ≡ n
@@ -36,6 +36,14 @@ each_at {A = A} (suc n) thing h d low = go (each_at n thing h d) (cases_lt h n)
         let at : n ≡ h = omega (arith, last, low) in
         subst (λ k. slice_index_or (for_each n thing ++ thing n ∷ []) k d ≡ thing k) at
         (get_or-append_right (for_each n thing) (thing n ∷ []) n n d (each_length n thing) (omega arith) ∙ first_of (thing n))
+
+-- wherever one looks in a list of one thing, it is that
+any_link : (n i : ℕ) (x : LinkState) → slice_index_or (replicate n x) i x ≡ x
+any_link n i x = go (cases_lt i n)
+  where
+    go : (i < n) ⊎ (n ≤ i) → slice_index_or (replicate n x) i x ≡ x
+    go (inl low) = get_or-replicate n i x x low
+    go (inr past) = get_or_past (replicate n x) i x (omega (arith, past, length-replicate n x))
 
 module _ (start : Start) where
   no_log : (h : ℕ) → logs_at (new_world start).logs h ≡ []
@@ -90,3 +98,13 @@ module _ (start : Start) where
       none : (newer : List LogStep) → [] ≡ newer ++ e ∷ before → ⊥
       none [] is = cc
       none (n ∷ newer) is = cc
+
+  -- and nothing is under way
+  inbox_idle : (n k i : ℕ) → (k < n) ⊎ (n ≤ k) → slice_index_or (slice_index_or (replicate n (replicate (hosts start) new_link)) k []) i new_link ≡ new_link
+  inbox_idle n k i (inl low) =
+      ap (λ box. slice_index_or box i new_link) (get_or-replicate n k (replicate (hosts start) new_link) [] low) ∙ any_link (hosts start) i new_link
+  inbox_idle n k i (inr past) =
+      ap (λ box. slice_index_or box i new_link) (get_or_past (replicate n (replicate (hosts start) new_link)) k [] (omega (arith, past, length-replicate n (replicate (hosts start) new_link))))
+
+  pub fresh_quiet : IsQuiet (new_world start)
+  fresh_quiet i j = ap (λ (l : LinkState). l.signals) (inbox_idle (hosts start) j i (cases_lt j (hosts start)))

@@ -131,3 +131,21 @@ taken_replies start w t front sound is =
     omega (arith, sound.right.sizes.bodies, ap (λ (u : Whole). length u.bodies) is, with_length t.bodies (front ++ replies_of t)) in
     ap replies_of is
     ∙ of_with t.bodies (front ++ replies_of t) there (sym (ap (λ (u : Whole). is_shell (body_at u.bodies 0)) is) ∙ shell_first start w sound)
+
+-- a world whose replies the shell has had has none to give
+pub replies_gone : (start : Start) (w : Whole) → IsSound start w → replies_of (with_replies w []) ≡ []
+replies_gone start w sound =
+    of_with w.bodies [] (omega (arith, sound.right.sizes.bodies)) (shell_first start (with_replies w []) (told_sound start w sound))
+
+shell_under : (bodies : List Host) (replies : List ApiReply) → is_shell (body_at (with_replies_in bodies replies) 0) ≡ true → 0 < length bodies → is_shell (body_at bodies 0) ≡ true
+shell_under [] replies shell low = absurd (omega (arith, low))
+shell_under (s ∷ nodes) replies shell low = sym (with_shell s replies) ∙ shell
+
+-- what a world has to give, while the shell takes replies of a sound one
+pub replies_before : (start : Start) (w now next : Whole) (others replies : List ApiReply) → IsSound start w → w ≡ with_replies now others → now ≡ with_replies next replies → replies_of now ≡ replies
+replies_before start w now next others replies sound is from =
+    let there : 0 < length now.bodies = omega (arith, sound.right.sizes.bodies, ap (λ (u : Whole). length u.bodies) is, with_length now.bodies others) in
+    let shell : is_shell (body_at now.bodies 0) ≡ true =
+    shell_under now.bodies others (sym (ap (λ (u : Whole). is_shell (body_at u.bodies 0)) is) ∙ shell_first start w sound) there in
+    let further : 0 < length next.bodies = omega (arith, there, ap (λ (u : Whole). length u.bodies) from, with_length next.bodies replies) in
+    ap replies_of from ∙ of_with next.bodies replies further (sym (ap (λ (u : Whole). is_shell (body_at u.bodies 0)) from) ∙ shell)

@@ -1,5 +1,6 @@
 -- What driving a world does.
 use Rattle.std.specs.Prelude.{◌≡◌, ℕ, Bool, true, false, List, ◌++◌, ◌∷◌, []}
+use Rattle.node_core.specs.Requests.{is_request}
 use Rattle.run_theory.specs.Lists.{IsPast}
 use Rattle.run_theory.specs.Runs.{AreLogs, IsWithin}
 use Rattle.sig_core.specs.declared.log.LogStep.{LogStep}
@@ -36,6 +37,9 @@ pub record IsDriven (start : Start) (w t : Whole) : Type 0 where
 
 -- The shell asked for something, in a step of host 0.
 pub record HasAsked (start : Start) (request : ApiReq) (w t : Whole) : Type 0 where
+  pub asking : LogStep
+  pub next : logs_at t.logs 0 ≡ asking ∷ logs_at w.logs 0
+  pub asks : is_request asking.taken.body ≡ true
   pub right : (given : List ApiReply) → IsRight start given w → IsRight start given t
   pub more : (h : ℕ) → IsPast (logs_at w.logs h) (logs_at t.logs h)
   pub logs : AreLogs (machine start) (logs_at t.logs)

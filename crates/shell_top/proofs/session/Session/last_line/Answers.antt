@@ -2,7 +2,8 @@ use Rattle.std.proofs.Common.{◌≡◌, ap, sym, ◌∙◌}
 use Rattle.std.specs.Prelude.{None, Some}
 use Rattle.shell_top.specs.Parsed.{parsed as parsed_line}
 use Rattle.shell_top.specs.declared.script.Parsed.TheVariants as parsed
-use Rattle.shell_top.proofs.SessionLemmas.{none_held, some_held, last_none, last_nothing, last_put, last_fault}
+use Rattle.shell_top.proofs.ScriptLemmas.{command_served}
+use Rattle.shell_top.proofs.SessionLemmas.{none_held, some_held, last_none, last_nothing, last_command, last_quit, last_fault}
 use Rattle.shell_top.proofs.session.Session.last_line.Goals as goal
 
 pub returns-then-is_empty-clause-done : goal.returns-then-is_empty-clause-done
@@ -18,17 +19,17 @@ returns-in-Nothing-clause-done g c left_now at_end left written u =
 
 pub returns-in-None-clause-done : goal.returns-in-None-clause-done
 returns-in-None-clause-done g c left_now at_end left written u =
-    let means : parsed_line c.args.self.now.reader ≡ parsed.Put c.in-Put.key c.in-Put.value =
-    ap parsed_line (sym c.held-held.ensures) ∙ sym c.parse-parsed.ensures ∙ c.in-Put.is in
-    last_put left written left_now _ c.args.self.now.line c.args.self.now.reader _ u c.requires.partial c.requires.low at_end _ _ c.in-Put.key c.in-Put.value None
-    (some_held _ c.held-held.result.now c.is_empty.result c.held-held.ensures c.is_empty.ensures c.if-is_empty.false) means c.in-None.ensures.put
+    let means : parsed_line c.args.self.now.reader ≡ parsed.Ask c.in-Ask.command =
+    ap parsed_line (sym c.held-held.ensures) ∙ sym c.parse-parsed.ensures ∙ c.in-Ask.is in
+    last_command left written left_now _ c.args.self.now.line c.args.self.now.reader _ u c.requires.partial c.requires.low at_end _ _ c.in-Ask.command None
+    (some_held _ c.held-held.result.now c.is_empty.result c.held-held.ensures c.is_empty.ensures c.if-is_empty.false) means c.in-None.ensures.printed
 
 pub returns-in-Some-clause-done : goal.returns-in-Some-clause-done
 returns-in-Some-clause-done g c left_now at_end left written u =
-    let means : parsed_line c.args.self.now.reader ≡ parsed.Put c.in-Put.key c.in-Put.value =
-    ap parsed_line (sym c.held-held.ensures) ∙ sym c.parse-parsed.ensures ∙ c.in-Put.is in
-    last_put left written left_now _ c.args.self.now.line c.args.self.now.reader _ u c.requires.partial c.requires.low at_end _ _ c.in-Put.key c.in-Put.value (Some c.in-Some.ending)
-    (some_held _ c.held-held.result.now c.is_empty.result c.held-held.ensures c.is_empty.ensures c.if-is_empty.false) means c.in-Some.ensures.put
+    let means : parsed_line c.args.self.now.reader ≡ parsed.Ask c.in-Ask.command =
+    ap parsed_line (sym c.held-held.ensures) ∙ sym c.parse-parsed.ensures ∙ c.in-Ask.is in
+    last_command left written left_now _ c.args.self.now.line c.args.self.now.reader _ u c.requires.partial c.requires.low at_end _ _ c.in-Ask.command (Some c.in-Some.ending)
+    (some_held _ c.held-held.result.now c.is_empty.result c.held-held.ensures c.is_empty.ensures c.if-is_empty.false) means c.in-Some.ensures.printed
 
 pub returns-in-Fault-clause-done : goal.returns-in-Fault-clause-done
 returns-in-Fault-clause-done g c left_now at_end left written u =
@@ -36,3 +37,13 @@ returns-in-Fault-clause-done g c left_now at_end left written u =
     ap parsed_line (sym c.held-held.ensures) ∙ sym c.parse-parsed.ensures ∙ c.in-Fault.is in
     last_fault left written left_now _ c.args.self.now.line c.args.self.now.reader _ u c.requires.partial c.requires.low at_end c.in-Fault.fault
     (some_held _ c.held-held.result.now c.is_empty.result c.held-held.ensures c.is_empty.ensures c.if-is_empty.false) means
+
+pub returns-in-Quit-clause-done : goal.returns-in-Quit-clause-done
+returns-in-Quit-clause-done g c left_now at_end left written u =
+    let means : parsed_line c.args.self.now.reader ≡ parsed.Quit = ap parsed_line (sym c.held-held.ensures) ∙ sym c.parse-parsed.ensures ∙ c.in-Quit.is in
+    last_quit left written left_now _ c.args.self.now.line c.args.self.now.reader _ u c.requires.partial c.requires.low at_end
+    (some_held _ c.held-held.result.now c.is_empty.result c.held-held.ensures c.is_empty.ensures c.if-is_empty.false) means
+
+pub serve_command-requires-clause-served : goal.serve_command-requires-clause-served
+serve_command-requires-clause-served g c =
+    command_served c.args.self.now.reader c.in-Ask.command (ap parsed_line (sym c.held-held.ensures) ∙ sym c.parse-parsed.ensures ∙ c.in-Ask.is)

@@ -1,7 +1,8 @@
 use Rattle.std.proofs.Common.{◌≡◌, take, ap, sym, ◌∙◌}
 use Rattle.shell_top.specs.Parsed.{parsed as parsed_line}
 use Rattle.shell_top.specs.declared.script.Parsed.TheVariants as parsed
-use Rattle.shell_top.proofs.SessionLemmas.{line_too_long, goes_on, line_put, line_fault}
+use Rattle.shell_top.proofs.ScriptLemmas.{command_served}
+use Rattle.shell_top.proofs.SessionLemmas.{line_too_long, goes_on, line_asked, line_quit, line_fault}
 use Rattle.shell_top.proofs.session.Session.whole_line.Goals as goal
 
 pub returns-then-at-gt-LINE_BYTES-clause-done : goal.returns-then-at-gt-LINE_BYTES-clause-done
@@ -15,16 +16,27 @@ returns-in-Nothing-clause-done g c left_now left written u =
     rw c.drop_front.ensures
     (goes_on left written left_now _ c.args.self.now.line c.args.self.now.reader _ u c.args.at c.requires.found c.requires.low c.if-at-gt-LINE_BYTES.false means)
 
-pub returns-in-Put-clause-done : goal.returns-in-Put-clause-done
-returns-in-Put-clause-done g c left_now left written u =
-    let means : parsed_line (take c.args.at c.args.self.now.reader) ≡ parsed.Put c.in-Put.key c.in-Put.value =
-    ap (λ held. parsed_line (take c.args.at held)) (sym c.held.ensures) ∙ sym c.parse-parsed.ensures ∙ c.in-Put.is in
+pub returns-in-Ask-clause-done : goal.returns-in-Ask-clause-done
+returns-in-Ask-clause-done g c left_now left written u =
+    let means : parsed_line (take c.args.at c.args.self.now.reader) ≡ parsed.Ask c.in-Ask.command =
+    ap (λ held. parsed_line (take c.args.at held)) (sym c.held.ensures) ∙ sym c.parse-parsed.ensures ∙ c.in-Ask.is in
     rw c.drop_front.ensures
-    (line_put left written left_now _ c.args.self.now.line c.args.self.now.reader _ u c.args.at c.requires.found c.requires.low c.if-at-gt-LINE_BYTES.false _ _ c.in-Put.key c.in-Put.value
-    c.put.result means c.put.ensures.put)
+    (line_asked left written left_now _ c.args.self.now.line c.args.self.now.reader _ u c.args.at c.requires.found c.requires.low c.if-at-gt-LINE_BYTES.false _ _ c.in-Ask.command
+    c.serve_command.result means c.serve_command.ensures.printed)
 
 pub returns-in-Fault-clause-done : goal.returns-in-Fault-clause-done
 returns-in-Fault-clause-done g c left_now left written u =
     let means : parsed_line (take c.args.at c.args.self.now.reader) ≡ parsed.Fault c.in-Fault.fault =
     ap (λ held. parsed_line (take c.args.at held)) (sym c.held.ensures) ∙ sym c.parse-parsed.ensures ∙ c.in-Fault.is in
     line_fault left written left_now _ c.args.self.now.line c.args.self.now.reader _ u c.args.at c.requires.found c.requires.low c.if-at-gt-LINE_BYTES.false c.in-Fault.fault means
+
+pub returns-in-Quit-clause-done : goal.returns-in-Quit-clause-done
+returns-in-Quit-clause-done g c left_now left written u =
+    let means : parsed_line (take c.args.at c.args.self.now.reader) ≡ parsed.Quit =
+    ap (λ held. parsed_line (take c.args.at held)) (sym c.held.ensures) ∙ sym c.parse-parsed.ensures ∙ c.in-Quit.is in
+    line_quit left written left_now _ c.args.self.now.line c.args.self.now.reader _ u c.args.at c.requires.found c.requires.low c.if-at-gt-LINE_BYTES.false means
+
+pub serve_command-requires-clause-served : goal.serve_command-requires-clause-served
+serve_command-requires-clause-served g c =
+    command_served (take c.args.at c.args.self.now.reader) c.in-Ask.command
+    (ap (λ held. parsed_line (take c.args.at held)) (sym c.held.ensures) ∙ sym c.parse-parsed.ensures ∙ c.in-Ask.is)

@@ -1,0 +1,162 @@
+-- The text of a log, command after command.
+use Rattle.std.proofs.Common.{◌≡◌, ℕ, zero, suc, ◌+◌, List, [], ◌∷◌, ◌++◌, length, take, drop, ◌-◌, Bool, true, false, refl, ap, sym, subst, ◌∙◌, append_assoc, arith}
+use Rattle.std.specs.Prelude.{if◌then◌else◌, ◌==◌, is_some, option_to_list, Option, None, Some}
+use Rattle.std.proofs.lemmas.Bool.{true≢false}
+use Rattle.std.proofs.lemmas.Bool.Decides.{nat_tests}
+use Rattle.std.proofs.lemmas.List.{append-nil, append_cancel_left, take-append-drop}
+use Rattle.node_core.specs.Requests.{is_request}
+use Rattle.script_lang.specs.declared.command.Command.{Command}
+use Rattle.script_lang.specs.declared.command.Command.TheVariants as command
+use Rattle.sig_core.specs.declared.log.LogStep.{LogStep}
+use Rattle.sig_core.specs.declared.reply.ApiReply.{ApiReply}
+use Rattle.sig_core.specs.declared.request.ApiReq.{ApiReq}
+use Rattle.sig_core.specs.declared.request.ApiReq.TheVariants as request
+use Rattle.sig_core.specs.declared.signal.Body.{Body}
+use Rattle.sig_core.specs.declared.signal.Body.TheVariants.{Host}
+use Rattle.sig_core.specs.declared.signal.host.HostSignal.TheVariants.{Continue}
+use Rattle.sig_core.specs.declared.signal.host.Work.TheVariants.{Request}
+use Rattle.shell_top.specs.Arranged.{arranged, name_asked}
+use Rattle.shell_top.specs.Asked.{IsAskedNext, is_served, name_in, questions, requests_of, rounds_behind}
+use Rattle.shell_top.specs.Text.{reply_lines}
+use Rattle.shell_top.specs.Told.{Telling, begins, begins_by, replies_in, telling, telling_by, text_of}
+use Rattle.world_core.specs.Requests.{request_in, requests}
+use Rattle.world_core.specs.Start.{Start}
+
+-- the requests of a log, and then those of the steps behind it
+pub requests_newer : (newer log : List LogStep) → requests (newer ++ log) ≡ requests log ++ requests newer
+requests_newer [] log = sym (append-nil (requests log))
+requests_newer (e ∷ newer) log =
+    ap (λ rs. rs ++ option_to_list (request_in e.taken.body)) (requests_newer newer log)
+    ∙ append_assoc (requests log) (requests newer) (option_to_list (request_in e.taken.body))
+
+-- none of these requests begins a command
+abbrev pub none_begins : List ApiReq → Bool
+none_begins [] = true
+none_begins (asked ∷ more) = if is_some (begins_by asked) then false else none_begins more
+
+none_front : (xs ys : List ApiReq) → none_begins (xs ++ ys) ≡ true → none_begins xs ≡ true
+none_front [] ys e = refl
+none_front (x ∷ xs) ys e = go (is_some (begins_by x)) e (none_front xs ys)
+  where
+    go : (b : Bool) → (if b then false else none_begins (xs ++ ys)) ≡ true → (none_begins (xs ++ ys) ≡ true → none_begins xs ≡ true) → (if b then false else none_begins xs) ≡ true
+    go true e later = cc
+    go false e later = later e
+
+pub none_take : (n : ℕ) (xs : List ApiReq) → none_begins xs ≡ true → none_begins (take n xs) ≡ true
+none_take n xs e = none_front (take n xs) (drop n xs) (subst (λ all. none_begins all ≡ true) (sym (take-append-drop n xs)) e)
+
+none_back : (xs ys : List ApiReq) → none_begins (xs ++ ys) ≡ true → none_begins ys ≡ true
+none_back [] ys e = e
+none_back (x ∷ xs) ys e = none_back xs ys (rest (is_some (begins_by x)) e)
+  where
+    rest : (b : Bool) → (if b then false else none_begins (xs ++ ys)) ≡ true → none_begins (xs ++ ys) ≡ true
+    rest true e = cc
+    rest false e = e
+
+pub none_both : (xs ys : List ApiReq) → none_begins xs ≡ true → none_begins ys ≡ true → none_begins (xs ++ ys) ≡ true
+none_both [] ys p q = q
+none_both (x ∷ xs) ys p q = go (is_some (begins_by x)) p (λ r. none_both xs ys r q)
+  where
+    go : (b : Bool) → (if b then false else none_begins xs) ≡ true → (none_begins xs ≡ true → none_begins (xs ++ ys) ≡ true) → (if b then false else none_begins (xs ++ ys)) ≡ true
+    go true p later = cc
+    go false p later = later p
+
+-- a step that begins no command goes on with the last one
+same_telling : (t : Telling) (replies : List ApiReply) (asked : Option ApiReq) → none_begins (option_to_list asked) ≡ true → telling_by t replies (begins asked) ≡ t
+same_telling t replies None e = refl
+same_telling t replies (Some asked) e = go (begins_by asked) e
+  where
+    go : (begun : Option ApiReq) → (if is_some begun then false else true) ≡ true → telling_by t replies begun ≡ t
+    go None e = refl
+    go (Some first) e = cc
+
+module _ (start : Start) where
+  telling_newer : (newer log : List LogStep) → none_begins (requests newer) ≡ true → telling start (newer ++ log) ≡ telling start log
+  telling_newer [] log e = refl
+  telling_newer (step ∷ newer) log e =
+      same_telling (telling start (newer ++ log)) (replies_in start (newer ++ log)) (request_in step.taken.body)
+      (none_back (requests newer) (option_to_list (request_in step.taken.body)) e)
+      ∙ telling_newer newer log (none_front (requests newer) (option_to_list (request_in step.taken.body)) e)
+
+  -- the text of one more command: its first request is the step behind `before`, and no later one begins a command
+  pub one_more : (first : ApiReq) (asking : LogStep) (newer before log : List LogStep) → log ≡ newer ++ asking ∷ before → request_in asking.taken.body ≡ Some first
+      → begins_by first ≡ Some first → none_begins (requests newer) ≡ true
+      → text_of start log ≡ text_of start before ++ reply_lines (arranged (name_asked first) (drop (length (replies_in start before)) (replies_in start log)))
+  one_more first asking newer before log is asks begins_it none =
+      let begun : begins (request_in asking.taken.body) ≡ Some first = ap begins asks ∙ begins_it in
+      let at : telling start log ≡ telling_by (telling start before) (replies_in start before) (Some first) =
+      ap (telling start) is ∙ telling_newer newer (asking ∷ before) none ∙ ap (telling_by (telling start before) (replies_in start before)) begun in
+      ap (λ (t : Telling). t.done ++ reply_lines (arranged t.asked (drop t.before (replies_in start log)))) at
+
+-- a request is one of the shell
+pub asked_in : (body : Body) → is_request body ≡ true → is_some (request_in body) ≡ true
+asked_in (Host (Continue (Request asked) at)) e = refl
+asked_in _ e = absurd (true≢false (sym e))
+
+-- what the steps behind `before` asked for, where the next one asks
+pub record AsksFor (first : ApiReq) (rest : List ApiReq) (before log : List LogStep) : Type 0 where
+  pub asking : LogStep
+  pub newer : List LogStep
+  pub is : log ≡ newer ++ asking ∷ before
+  pub asks : request_in asking.taken.body ≡ Some first
+  pub others : requests newer ≡ rest
+
+pub asks_for : (first : ApiReq) (rest : List ApiReq) (before log : List LogStep) → IsAskedNext before log → requests log ≡ requests before ++ first ∷ rest → AsksFor first rest before log
+asks_for first rest before log next are = go (request_in next.asking.taken.body) refl (asked_in next.asking.taken.body next.asks)
+  where
+    all : requests log ≡ (requests before ++ option_to_list (request_in next.asking.taken.body)) ++ requests next.newer
+    all = ap requests next.is ∙ requests_newer next.newer (next.asking ∷ before)
+
+    go : (o : Option ApiReq) → request_in next.asking.taken.body ≡ o → is_some o ≡ true → AsksFor first rest before log
+    go None e some = cc
+    go (Some asked) e some =
+        let both : requests before ++ (asked ∷ requests next.newer) ≡ requests before ++ first ∷ rest =
+        sym (append_assoc (requests before) (asked ∷ []) (requests next.newer))
+        ∙ ap (λ o. (requests before ++ option_to_list o) ++ requests next.newer) (sym e) ∙ sym all ∙ are in
+        let same : asked ∷ requests next.newer ≡ first ∷ rest = append_cancel_left (requests before) (asked ∷ requests next.newer) (first ∷ rest) both in
+        record {
+          asking = next.asking;
+          newer = next.newer;
+          is = next.is;
+          asks = e ∙ ap Some (heads asked first (requests next.newer) rest same);
+          others = tails asked first (requests next.newer) rest same;
+        }
+      where
+        heads : (a b : ApiReq) (xs ys : List ApiReq) → a ∷ xs ≡ b ∷ ys → a ≡ b
+        heads a b xs ys same = cc
+
+        tails : (a b : ApiReq) (xs ys : List ApiReq) → a ∷ xs ≡ b ∷ ys → xs ≡ ys
+        tails a b xs ys same = cc
+
+-- the first request of a command begins it, and no other of it does
+pub record HasFirst (c : Command) : Type 0 where
+  pub first : ApiReq
+  pub rest : List ApiReq
+  pub are : requests_of c ≡ first ∷ rest
+  pub begins_it : begins_by first ≡ Some first
+  pub name : name_asked first ≡ name_in c
+  pub none : none_begins rest ≡ true
+
+no_first : (rounds n : ℕ) → begins_by (request.Tick (n + 2) rounds) ≡ None
+no_first rounds n = go (n + 2 == 1) (grind (arith, nat_tests))
+  where
+    go : (b : Bool) → b ≡ false → (if b then Some (request.Tick (n + 2) rounds) else None) ≡ None
+    go true e = cc
+    go false e = refl
+
+rounds_go_on : (rounds n : ℕ) → none_begins (rounds_behind rounds n) ≡ true
+rounds_go_on rounds zero = refl
+rounds_go_on rounds (suc n) =
+    none_both (rounds_behind rounds n) (request.Tick (n + 2) rounds ∷ []) (rounds_go_on rounds n)
+    (ap (λ o. if is_some o then false else true) (no_first rounds n))
+
+pub has_first : (c : Command) → is_served c ≡ true → HasFirst c
+has_first (command.Begin name at) e = record { first = request.Begin name at; rest = []; are = refl; begins_it = refl; name = refl; none = refl }
+has_first (command.Operate name op) e = record { first = request.Operate name op; rest = []; are = refl; begins_it = refl; name = refl; none = refl }
+has_first (command.Commit name) e = record { first = request.Commit name; rest = []; are = refl; begins_it = refl; name = refl; none = refl }
+has_first (command.Abort name) e = record { first = request.Abort name; rest = []; are = refl; begins_it = refl; name = refl; none = refl }
+has_first (command.Tick rounds) e =
+    record { first = request.Tick 1 rounds; rest = rounds_behind rounds (rounds - 1); are = refl; begins_it = refl; name = refl; none = rounds_go_on rounds (rounds - 1) }
+has_first (command.Rows at) e = record { first = request.Rows at; rest = []; are = refl; begins_it = refl; name = refl; none = refl }
+has_first (command.Digest at) e = record { first = request.Digest at; rest = []; are = refl; begins_it = refl; name = refl; none = refl }
+has_first _ e = absurd (true≢false (sym e))

@@ -1,0 +1,97 @@
+-- What the shell asks for: command after command, and about each that leaves something of its own unanswered.
+use Rattle.std.specs.Prelude.{◌≡◌, ℕ, zero, suc, ◌+◌, ◌-◌, Bool, true, false, List, [], ◌∷◌, ◌++◌, length, reverse, take, drop, slice_get, Option, None, Some}
+use Rattle.node_core.specs.Replies.{is_left_open}
+use Rattle.node_core.specs.Requests.{is_request}
+use Rattle.run_theory.specs.Lists.{IsPast}
+use Rattle.script_lang.specs.declared.command.Command.{Command}
+use Rattle.script_lang.specs.declared.command.Command.TheVariants as command
+use Rattle.sig_core.specs.declared.log.LogStep.{LogStep}
+use Rattle.sig_core.specs.declared.request.ApiReq.{ApiReq}
+use Rattle.sig_core.specs.declared.request.ApiReq.TheVariants as request
+use Rattle.world_core.specs.Machine.{after}
+use Rattle.world_core.specs.Requests.{request_in, requests}
+use Rattle.world_core.specs.Start.{Start}
+
+-- n rounds more behind the first one, of so many
+abbrev pub rounds_behind : ℕ → ℕ → List ApiReq
+rounds_behind rounds zero = []
+rounds_behind rounds (suc n) = rounds_behind rounds n ++ request.Tick (n + 2) rounds ∷ []
+
+-- the requests of a command: one, or of a tick one for each round
+abbrev pub requests_of : Command → List ApiReq
+requests_of (command.Begin name at) = request.Begin name at ∷ []
+requests_of (command.Operate name op) = request.Operate name op ∷ []
+requests_of (command.Commit name) = request.Commit name ∷ []
+requests_of (command.Abort name) = request.Abort name ∷ []
+requests_of (command.Tick rounds) = request.Tick 1 rounds ∷ rounds_behind rounds (rounds - 1)
+requests_of (command.Rows at) = request.Rows at ∷ []
+requests_of (command.Digest at) = request.Digest at ∷ []
+requests_of _ = []
+
+-- the session serves it
+abbrev pub is_served : Command → Bool
+is_served (command.Begin name at) = true
+is_served (command.Operate name op) = true
+is_served (command.Commit name) = true
+is_served (command.Abort name) = true
+is_served (command.Tick rounds) = true
+is_served (command.Rows at) = true
+is_served (command.Digest at) = true
+is_served _ = false
+
+-- what is asked about a command that left something of its own unanswered
+abbrev pub questions : List ApiReq
+questions = request.Waits ∷ request.Pending ∷ []
+
+-- the step behind `served` is a request
+pub record IsAskedNext (served log : List LogStep) : Type 0 where
+  pub newer : List LogStep
+  pub asking : LogStep
+  pub is : log ≡ newer ++ asking ∷ served
+  pub asks : is_request asking.taken.body ≡ true
+
+-- The log went on from `served`, where a command's own requests were served, to its end: at once where nothing of its own
+-- was unanswered, and else the shell asked what it waits for, and then for its replies.
+abbrev pub AsksOn : List LogStep → List LogStep → Bool → Type 0
+AsksOn served log false = log ≡ served
+AsksOn served log true = IsAskedNext served log × (requests log ≡ requests served ++ questions)
+
+-- A command was asked for behind `before`, in host 0's log.
+pub record AsksCommand (start : Start) (command : Command) (before log : List LogStep) : Type 0 where
+  pub served : List LogStep
+  pub next : IsAskedNext before served
+  pub own : requests served ≡ requests before ++ requests_of command
+  pub on : AsksOn served log (is_left_open (after start 0 served))
+
+-- the commands before were asked for, and then this one
+pub record AsksAfter (start : Start) (command : Command) (log : List LogStep) (AreAskedBefore : List LogStep → Type 0) : Type 0 where
+  pub before : List LogStep
+  pub earlier : AreAskedBefore before
+  pub asks : AsksCommand start command before log
+
+-- The commands, the last one first, were asked for one after the other, in host 0's log.
+abbrev pub AreAsked : Start → List Command → List LogStep → Type 0
+AreAsked start [] log = requests log ≡ []
+AreAsked start (command ∷ earlier) log = AsksAfter start command log (AreAsked start earlier)
+
+-- all that is asked for a command at most
+abbrev pub all_requests : Option Command → List ApiReq
+all_requests None = []
+all_requests (Some command) = requests_of command ++ questions
+
+-- The first commands were asked for, and of the next one a first part of what is asked for it, in host 0's log.
+pub record AreAskedInPart (start : Start) (commands : List Command) (log : List LogStep) : Type 0 where
+  pub count : ℕ
+  pub before : List LogStep
+  pub asked : AreAsked start (reverse (take count commands)) before
+  pub past : IsPast before log
+  pub part : ℕ
+  pub begun : requests log ≡ requests before ++ take part (all_requests (slice_get commands count))
+
+-- the name of the transaction that a command is about, if it has one
+abbrev pub name_in : Command → Option ℕ
+name_in (command.Begin name at) = Some name
+name_in (command.Operate name op) = name
+name_in (command.Commit name) = Some name
+name_in (command.Abort name) = Some name
+name_in _ = None

@@ -1,0 +1,51 @@
+-- The text of a log of host 0.
+use Rattle.std.specs.Prelude.{ℕ, ◌==◌, if◌then◌else◌, Bool, true, false, List, [], ◌∷◌, ◌++◌, length, drop, Option, None, Some}
+use Rattle.node_core.specs.Replies.{replies_of}
+use Rattle.sig_core.specs.declared.log.LogStep.{LogStep}
+use Rattle.sig_core.specs.declared.reply.ApiReply.{ApiReply}
+use Rattle.sig_core.specs.declared.request.ApiReq.{ApiReq}
+use Rattle.sig_core.specs.declared.request.ApiReq.TheVariants as request
+use Rattle.shell_top.specs.Arranged.{arranged, name_asked}
+use Rattle.shell_top.specs.Text.{reply_lines}
+use Rattle.world_core.specs.Machine.{after}
+use Rattle.world_core.specs.Requests.{request_in}
+use Rattle.world_core.specs.Start.{Start}
+
+-- the request that begins a command; further rounds and questions go on with the one before
+abbrev pub begins_by : ApiReq → Option ApiReq
+begins_by request.Waits = None
+begins_by request.Pending = None
+begins_by (request.Tick round rounds) = if round == 1 then Some (request.Tick round rounds) else None
+begins_by asked = Some asked
+
+abbrev pub begins : Option ApiReq → Option ApiReq
+begins None = None
+begins (Some asked) = begins_by asked
+
+-- the replies in a log of host 0
+abbrev pub replies_in : Start → List LogStep → List ApiReply
+replies_in start log = replies_of (after start 0 log)
+
+-- How far the text of a log has come: the text before its last command, the name that this one asked for, and how many
+-- replies were given before it.
+pub record Telling : Type 0 where
+  pub done : List ℕ
+  pub asked : Option ℕ
+  pub before : ℕ
+
+-- the text before, and then the lines of the last command's replies
+abbrev pub told : Telling → List ApiReply → List ℕ
+told t replies = t.done ++ reply_lines (arranged t.asked (drop t.before replies))
+
+-- a step goes on with the last command, or begins one
+abbrev pub telling_by : Telling → List ApiReply → Option ApiReq → Telling
+telling_by t replies None = t
+telling_by t replies (Some asked) = record { done = told t replies; asked = name_asked asked; before = length replies }
+
+abbrev pub telling : Start → List LogStep → Telling
+telling start [] = record { done = []; asked = None; before = 0 }
+telling start (e ∷ log) = telling_by (telling start log) (replies_in start log) (begins (request_in e.taken.body))
+
+-- the text of a log: command after command, the lines of the replies to it
+abbrev pub text_of : Start → List LogStep → List ℕ
+text_of start log = told (telling start log) (replies_in start log)

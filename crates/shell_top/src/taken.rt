@@ -1,0 +1,28 @@
+//! The replies that a world has for the shell.
+ghost use Rattle.std.specs.Prelude.{◌≡◌, [], IfOk, OnOk, OnErr};
+ghost use Rattle.shell_top.specs.Lived.{nodes};
+ghost use Rattle.world_core.specs.Driven.{IsSound};
+ghost use Rattle.world_core.specs.Start.{fresh};
+ghost use Rattle.world_core.specs.World.{replies_of, with_replies};
+ghost use Rattle.world_core.specs.WorldOf.{whole_of};
+
+use sig_core::{ApiReply, NoMemory};
+use std::alloc::Global;
+use world_core::World;
+
+/// Takes all replies of the world, in order.
+///
+/// # Errors
+/// `NoMemory`, and then some replies may be lost.
+pub fn take_replies(alloc: Global, world: &mut World) -> Result<Vec<ApiReply>, NoMemory>
+    requires { IsSound (fresh nodes) (whole_of world.old) }
+    ensures told { OnOk result (whole_of world.new ≡ with_replies (whole_of world.old) []) }
+    ensures replies { IfOk result (λ replies. replies.items ≡ replies_of (whole_of world.old)) }
+    ensures err { OnErr result ((whole_of world.new).logs ≡ (whole_of world.old).logs) }
+{
+    let mut replies = Vec::new(alloc);
+    while let Some(reply) = world.next_reply() {
+        replies.extend_from_slice(&[reply])?;
+    }
+    Ok(replies)
+}
