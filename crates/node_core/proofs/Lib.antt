@@ -2,4 +2,5 @@ pub mod DihAsks
 pub mod HostLemmas
 pub mod LqhAsks
 pub mod Quiet
+pub mod RowLemmas
 pub mod TcAsks

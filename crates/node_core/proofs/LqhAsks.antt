@@ -1,6 +1,6 @@
 -- The rows of a node send no request of the shell.
 use Rattle.std.proofs.Common.{◌≡◌, ℕ, List, [], ◌∷◌, ◌++◌, Bool, true, false, refl, ap, sym, ◌∙◌, subst}
-use Rattle.std.specs.Prelude.{◌+◌, ◌-◌, ◌==◌, nat_lt, is_some, Option, None, Some, slice_get}
+use Rattle.std.specs.Prelude.{◌+◌, ◌-◌, ◌==◌, nat_lt, is_some, remove, Option, None, Some, slice_get}
 use Rattle.sig_core.specs.declared.member.Member.{Member}
 use Rattle.sig_core.specs.declared.member.TxId.{TxId}
 use Rattle.sig_core.specs.declared.op.Answer.{Answer}
@@ -87,7 +87,10 @@ request_asks s r = asked_asks (operate.asked_for s r) r (operate.asking s r).ans
 
 granted_asks_value : (s : LqhState) (at : ℕ) (r : Option Request) → AsksNothing (operate.granted_value s at r)
 granted_asks_value s at None = refl
-granted_asks_value s at (Some r) = append_asks _ _ (perform_asks _ r) (granted_asks s.node _)
+granted_asks_value s at (Some r) =
+    let left = with_waiting s (remove s.waiting at) in
+    append_asks (operate.performed left r).effects.sends (operate.more_granted left) (perform_asks (storage_of left) r)
+    (granted_asks s.node (is_some (operate.first_granted left.locks left.waiting)))
 
 granted_asks_by : (s : LqhState) (at : Option ℕ) → AsksNothing (operate.granted_by s at)
 granted_asks_by s None = refl
@@ -114,7 +117,8 @@ completed_asks tx key chain at rest false e = e
 
 complete_asks : (s : LqhState) (tx : TxId) (key : List ℕ) (chain : List Member) (at : ℕ) → AsksNothing (complete.complete_row s tx key chain at)
 unfolding complete.complete_row
-complete_asks s tx key chain at = completed_asks tx key chain at _ (at == 0) (granted_asks s.node _)
+complete_asks s tx key chain at =
+    completed_asks tx key chain at (serve_granted s.node (freed_lock s tx key)) (at == 0) (granted_asks s.node (nat_lt 0 (freed_lock s tx key).granted))
 
 -- what is aborted
 refused_asks : (tx : TxId) (key : List ℕ) (at : Option ℕ) → asks_nothing (abort.refused_by tx key at) ≡ true
@@ -128,7 +132,10 @@ abort_asks s tx key = append_asks (abort.refused_by tx key (abort.waits_at s tx 
 -- waits
 expire_asks_by : (s : LqhState) (w : Option (TxId × List ℕ)) → AsksNothing (expire.expire_by s w)
 expire_asks_by s None = refl
-expire_asks_by s (Some w) = append_asks _ _ (granted_asks s.node _) (expired_asks s.node _)
+expire_asks_by s (Some w) =
+    let served = unwaited_at s.locks w.1 w.0 in
+    append_asks (serve_granted s.node served) (expire.more_expired (with_lock s w.1 served)) (granted_asks s.node (nat_lt 0 served.granted))
+    (expired_asks s.node (is_some (expired (with_lock s w.1 served).locks)))
 
 expire_asks : (s : LqhState) → AsksNothing (expire.expire_row s)
 unfolding expire.expire_row

@@ -1,6 +1,6 @@
 //! A data node.
-ghost use Rattle.std.specs.Prelude.{◌≡◌, IfOk};
-ghost use Rattle.sig_core.specs.Rows.{no_rows};
+ghost use Rattle.std.specs.Prelude.{◌≡◌, IfOk, OnOk};
+ghost use Rattle.sig_core.specs.Rows.{no_rows, put_row};
 ghost use Rattle.node_core.specs.Fresh.{begun_node, with_rows};
 
 use crate::dih::Dih;
@@ -47,9 +47,16 @@ fn stored(alloc: Global, rows: &[(Key, Value)]) -> Result<MapRows, NoMemory>
 {
     let mut stored = MapRows::new(alloc);
     for row in rows {
-        stored.put_row(&row.0, &row.1)?;
+        put(&mut stored, row)?;
     }
     Ok(stored)
+}
+
+/// Puts a row.
+fn put(stored: &mut MapRows, row: &(Key, Value)) -> Result<(), NoMemory>
+    ensures { OnOk result (stored.new.rows ≡ put_row stored.old.rows row.now.0 row.now.1) }
+{
+    stored.put_row(&row.0, &row.1)
 }
 
 impl Actor for Node {
