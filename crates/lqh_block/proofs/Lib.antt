@@ -1,3 +1,4 @@
+pub mod DueLemmas
 pub mod DumpLemmas
 pub mod EffectLemmas
 pub mod IndexLemmas

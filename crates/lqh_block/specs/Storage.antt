@@ -1,5 +1,5 @@
 -- The rows of a node and its journal: what is prepared, committed and given up.
-use Rattle.std.specs.Prelude.{ℕ, ◌+◌, Bool, true, false, nat_le, nat_lt, List, [], ◌∷◌, slice_get, Option, None, Some}
+use Rattle.std.specs.Prelude.{ℕ, ◌+◌, Bool, true, false, nat_lt, List, [], ◌∷◌, slice_get, Option, None, Some}
 use Rattle.sig_core.specs.declared.mark.Mark.TheVariants.{Prepared}
 use Rattle.sig_core.specs.declared.member.Member.{Member}
 use Rattle.sig_core.specs.declared.member.TxId.{TxId}
@@ -58,10 +58,10 @@ passed_to tx key image chain at (Some next) = to_place (rows_of next.node) (Chai
 abbrev pub passed_on : TxId → List ℕ → Option (List ℕ) → List Member → ℕ → Outgoing
 passed_on tx key image chain at = passed_to tx key image chain at (slice_get chain (at + 1))
 
--- the end of a record is kept free once: where the transaction had a record on the key it was so already
+-- the end of a record is kept free once: where the transaction had a prepared record on the key it was so already
 abbrev pub kept_once : JournalState → ℕ → Option Bool → JournalState
-kept_once j size None = j
-kept_once j size (Some committed) = unreserving j size
+kept_once j size (Some false) = unreserving j size
+kept_once j size _ = j
 
 abbrev pub prepared_journal : JournalState → TxId → List ℕ → Option (List ℕ) → Option Bool → JournalState
 prepared_journal j tx key image had =
@@ -102,26 +102,10 @@ perform_by s tx chain at (Store key image) = store_row s tx key image chain at
 unfoldable pub perform : StorageState → Request → Step StorageState
 perform s r = perform_by s r.tx r.chain r.at r.work
 
--- a record is appended in bytes that were kept free, where there are as many
-abbrev pub commit_journal_if : JournalState → ℕ → Bool → JournalState
-commit_journal_if j size true = appending j size
-commit_journal_if j size false = j
-
-abbrev pub commit_journal : JournalState → ℕ → JournalState
-commit_journal j size = commit_journal_if j size (nat_le size j.reserved)
-
--- the transaction's prepared image of the row is committed
+-- the transaction's prepared image of the row is committed, and the journal told so in the bytes that it kept free for that
 unfoldable pub committed_in : StorageState → TxId → List ℕ → ℕ → StorageState
-committed_in s tx key epoch = storage (commit_record s.rows tx key) (commit_journal s.journal (size_of (redo.Commit tx epoch key)))
+committed_in s tx key epoch = storage (commit_record s.rows tx key) (appending s.journal (size_of (redo.Commit tx epoch key)))
 
--- a record is appended in bytes that were kept free for a longer one, by eight bytes
-abbrev pub abort_journal_if : JournalState → ℕ → Bool → JournalState
-abort_journal_if j size true = unreserving (appending j size) 8
-abort_journal_if j size false = j
-
-abbrev pub abort_journal : JournalState → ℕ → JournalState
-abort_journal j size = abort_journal_if j size (nat_le (size + 8) j.reserved)
-
--- the transaction's prepared image of the row is given up
+-- the transaction's prepared image of the row is given up, and the journal told so in those bytes, of which eight are left over
 unfoldable pub aborted_in : StorageState → TxId → List ℕ → StorageState
-aborted_in s tx key = storage (abort_record s.rows tx key) (abort_journal s.journal (size_of (redo.Abort tx key)))
+aborted_in s tx key = storage (abort_record s.rows tx key) (unreserving (appending s.journal (size_of (redo.Abort tx key))) 8)

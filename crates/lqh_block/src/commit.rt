@@ -100,7 +100,7 @@ impl<R: Rows, J: Journal> Lqh<R, J> {
         requires { HasRoom out.old }
         ensures { IsTaken (complete_row self.old tx key.now chain.now at) self.new out.old out.new }
     {
-        self.storage.rows.complete(tx, key);
+        self.storage.complete(tx, key);
         let granted = self.locks.release(tx, key);
         out.mark(Mark::Done { tx, key: *key });
         tell_completion(tx, key, chain, at, out);

@@ -42,10 +42,6 @@ impl Journal for CountJournal {
 
     ghost has_room = { λ _ _. ⊤ };
 
-    fn reserved(&self) -> u64 {
-        self.reserved
-    }
-
     fn make_room(&mut self, _need: u64) -> Result<(), NoMemory> {
         Ok(())
     }

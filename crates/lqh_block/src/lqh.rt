@@ -38,9 +38,11 @@ impl<R: Rows, J: Journal> Model for Lqh<R, J> {
 }
 
 impl<R: Rows, J: Journal> Lqh<R, J> {
+    ghost use Rattle.lqh_block.specs.Due.{IsCovered};
     ghost use Rattle.lqh_block.specs.Lqh.{unasked_yet};
 
-    /// The rows of a node, with nothing under way.
+    /// The rows of a node, with nothing under way. The journal has to keep as many bytes free as
+    /// the ends of the rows' prepared records will need.
     ///
     /// # Errors
     /// `NoMemory`.
@@ -54,6 +56,7 @@ impl<R: Rows, J: Journal> Lqh<R, J> {
     where
         R: Drop,
         J: Drop,
+        requires { IsCovered (R.state_of rows) (J.used_of journal) }
         ensures { IfOk result (λ lqh. lqh ≡ unasked_yet node view (R.state_of rows) (J.used_of journal)) }
     {
         let locks = LockTable::new(alloc)?;

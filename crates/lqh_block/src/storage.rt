@@ -1,8 +1,9 @@
 //! The rows of a node and its journal: what is prepared, committed and given up.
-ghost use Rattle.std.specs.Prelude.{◌≡◌, ◌+◌, ◌<◌, ◌≤◌, OnOk, length};
+ghost use Rattle.std.specs.Prelude.{◌≡◌, ◌+◌, ◌<◌, ◌≤◌, OnOk, Some, false, length};
 ghost use Rattle.sig_core.specs.Journal.{appending};
 ghost use Rattle.sig_core.specs.Op.{answer_to, image_of, key_of};
-ghost use Rattle.sig_core.specs.Rows.{seen};
+ghost use Rattle.sig_core.specs.Rows.{complete_record, record_state, seen};
+ghost use Rattle.lqh_block.specs.Due.{IsCovered};
 ghost use Rattle.sig_core.specs.Step.{HasRoom, IsTaken, and_send};
 ghost use Rattle.lqh_block.specs.Storage.{aborted_in, committed_in, confirmed, end_size, kept_once, need_of, operate_by, passed_on, perform, prepare_size, refusal, storage, store_row};
 ghost use Rattle.lqh_block.specs.Work.{work_image, work_key};
@@ -14,11 +15,13 @@ use sig_core::{
     Outs, Redo, RowWork, Rows, RowsFault, TxId, Value, coordinator_of, rows_of,
 };
 
-/// The rows of a node, and its journal.
+/// The rows of a node, and its journal, which keeps as many bytes free as the ends of all prepared
+/// records will need.
 #[derive(Drop)]
-pub struct Storage<R, J> {
+pub struct Storage<R: Rows, J: Journal> {
     pub rows: R,
     pub journal: J,
+    ghost covered: { IsCovered (R.state_of rows) (J.used_of journal) },
 }
 
 impl<R: Rows, J: Journal> Storage<R, J> {
@@ -75,7 +78,7 @@ impl<R: Rows, J: Journal> Storage<R, J> {
     }
 
     // Prepares an image, and sends it on along its chain.
-    #[tactic(auto, unfolding(crate::specs::Storage::store_row))]
+    #[tactic(auto, using(crate::proofs::DueLemmas::dues), unfolding(crate::specs::Storage::store_row))]
     fn store(
         &mut self,
         tx: TxId,
@@ -112,7 +115,7 @@ impl<R: Rows, J: Journal> Storage<R, J> {
         }
         match self.rows.prepare_image(tx, key, image) {
             Ok(()) => {
-                self.journal_image(tx, key, image, had);
+                journal_image(&mut self.journal, tx, key, image, had);
                 out.mark(Mark::Prepared { tx, key: *key });
                 pass_on(tx, key, image, chain, at, out);
             }
@@ -124,28 +127,10 @@ impl<R: Rows, J: Journal> Storage<R, J> {
         }
     }
 
-    // Appends the record of a prepared image, in bytes that are kept free. Those for its end are
-    // kept once, where the transaction had a record already.
-    fn journal_image(&mut self, tx: TxId, key: &Key, image: &Option<Value>, had: Option<bool>)
-        requires { need_of tx key.now image.now ≤ (J.used_of self.old.journal).reserved }
-        ensures rows { self.new.rows ≡ self.old.rows }
-        ensures journal { J.used_of self.new.journal ≡ kept_once (appending (J.used_of self.old.journal) (prepare_size tx key.now image.now)) (end_size tx key.now) had }
-    {
-        let prepare = Redo::Prepare {
-            tx,
-            fragment: 0,
-            key: *key,
-            image: *image,
-        };
-        self.journal.append(&prepare);
-        if let Some(_) = had {
-            self.journal.unreserve(end_size(tx, key));
-        }
-    }
-
     /// Commits the transaction's prepared image of the row. Takes no memory.
-    #[tactic(auto, unfolding(crate::specs::Storage::committed_in))]
+    #[tactic(auto, using(crate::proofs::DueLemmas::dues), unfolding(crate::specs::Storage::committed_in))]
     pub fn commit(&mut self, tx: TxId, key: &Key, epoch: u64)
+        requires { record_state (R.state_of self.old.rows) tx key.now ≡ Some false }
         ensures { storage (R.state_of self.new.rows) (J.used_of self.new.journal) ≡ committed_in (storage (R.state_of self.old.rows) (J.used_of self.old.journal)) tx key.now epoch }
     {
         self.rows.commit(tx, key, epoch);
@@ -154,27 +139,56 @@ impl<R: Rows, J: Journal> Storage<R, J> {
             epoch,
             key: *key,
         };
-        if redo.size() <= self.journal.reserved() {
-            self.journal.append(&redo);
-        }
+        self.journal.append(&redo);
     }
 
     /// Gives the transaction's prepared image of the row up. Takes no memory.
-    #[tactic(auto, unfolding(crate::specs::Storage::aborted_in))]
+    #[tactic(auto, using(crate::proofs::DueLemmas::dues), unfolding(crate::specs::Storage::aborted_in))]
     pub fn abort(&mut self, tx: TxId, key: &Key)
+        requires { record_state (R.state_of self.old.rows) tx key.now ≡ Some false }
         ensures { storage (R.state_of self.new.rows) (J.used_of self.new.journal) ≡ aborted_in (storage (R.state_of self.old.rows) (J.used_of self.old.journal)) tx key.now }
     {
         self.rows.abort(tx, key);
         let redo = Redo::Abort { tx, key: *key };
-        if redo.size() + SPARED <= self.journal.reserved() {
-            self.journal.append(&redo);
-            self.journal.unreserve(SPARED);
-        }
+        self.journal.append(&redo);
+        self.journal.unreserve(SPARED);
+    }
+
+    /// Drops the transaction's committed record, if it has one. Takes no memory.
+    pub fn complete(&mut self, tx: TxId, key: &Key)
+        ensures { storage (R.state_of self.new.rows) (J.used_of self.new.journal) ≡ storage (complete_record (R.state_of self.old.rows) tx key.now) (J.used_of self.old.journal) }
+    {
+        self.rows.complete(tx, key);
     }
 }
 
-/// By how many bytes an `Abort` is shorter than the `Commit` that is kept free for.
+/// By how many bytes an `Abort` is shorter than the `Commit` that bytes are kept free for.
 pub const SPARED: u64 = 8;
+
+// Appends the record of a prepared image, in bytes that are kept free. Those for its end are kept
+// once, where the transaction had a prepared record already.
+fn journal_image<J: Journal>(
+    journal: &mut J,
+    tx: TxId,
+    key: &Key,
+    image: &Option<Value>,
+    had: Option<bool>,
+)
+    requires { need_of tx key.now image.now ≤ (J.used_of journal.old).reserved }
+    ensures { J.used_of journal.new ≡ kept_once (appending (J.used_of journal.old) (prepare_size tx key.now image.now)) (end_size tx key.now) had }
+{
+    let prepare = Redo::Prepare {
+        tx,
+        fragment: 0,
+        key: *key,
+        image: *image,
+    };
+    journal.append(&prepare);
+    match had {
+        Some(false) => journal.unreserve(end_size(tx, key)),
+        Some(true) | None => {}
+    }
+}
 
 // The bytes that a journal needs for an image.
 fn need_of(tx: TxId, key: &Key, image: &Option<Value>) -> u64

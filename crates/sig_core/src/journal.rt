@@ -24,10 +24,6 @@ pub trait Journal {
     /// It has the memory to keep this many bytes more free.
     ghost has_room: { Self → ℕ → Type 0 };
 
-    /// How many bytes are kept free.
-    fn reserved(&self) -> u64
-        ensures { result ≡ (used_of self.now).reserved };
-
     /// Makes the memory for so many bytes more, so that the next `reserve` of as many wants none.
     ///
     /// # Errors

@@ -1,4 +1,6 @@
 //! Conversations of the rows of node 1, with the coordinator of that node and the rows of node 2.
+ghost use Rattle.std.specs.Prelude.{◌≡◌, []};
+
 use super::heard::{Heard, body_of, both};
 use super::text::shown;
 use crate::{CountJournal, Lqh, MapRows};
@@ -19,7 +21,10 @@ fn view() -> View {
 }
 
 /// The rows of node 1, over these.
-pub fn node(alloc: Global, rows: MapRows, journal: CountJournal) -> Result<Node, Fail> {
+#[tactic(auto, using(crate::proofs::DueLemmas::covered_at_rest))]
+pub fn node(alloc: Global, rows: MapRows, journal: CountJournal) -> Result<Node, Fail>
+    requires { rows.rows.pending ≡ [] }
+{
     Ok(Lqh::new(alloc, 1, view(), rows, journal)?)
 }
 

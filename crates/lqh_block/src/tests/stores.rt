@@ -1,4 +1,6 @@
 //! Rows in memory and the journal that counts, each on its own and where they are full.
+ghost use Rattle.std.specs.Prelude.{◌≡◌, OnOk};
+
 use super::conversation::{node, talk};
 use super::heard::{Heard, tx_of};
 use crate::{CountJournal, MapRows, PLACES};
@@ -40,7 +42,9 @@ fn numbered(number: usize) -> Result<Key, Fail> {
 }
 
 // Rows that take so many places.
-fn fill(rows: &mut MapRows, count: usize) -> Result<(), Fail> {
+fn fill(rows: &mut MapRows, count: usize) -> Result<(), Fail>
+    ensures { OnOk result (rows.new.rows.pending ≡ rows.old.rows.pending) }
+{
     let value = Value::new(b"x")?;
     for i in 0..count {
         rows.put_row(&numbered(i)?, &value)?;
@@ -68,7 +72,9 @@ fn a_full_table_refuses_a_write(rt: HostRuntime) -> Result<(), Fail> {
 }
 
 // A row of each of these letters.
-fn put_letters(rows: &mut MapRows, letters: &[u8]) -> Result<(), Fail> {
+fn put_letters(rows: &mut MapRows, letters: &[u8]) -> Result<(), Fail>
+    ensures { OnOk result (rows.new.rows.pending ≡ rows.old.rows.pending) }
+{
     let value = Value::new(b"x")?;
     for letter in letters {
         rows.put_row(&Key::new(&[*letter])?, &value)?;
