@@ -1,3 +1,6 @@
+mod commands;
+mod many;
+
 use crate::{Ended, run_shell};
 use host_io::{Failed, MemSink, MemSource, NoGate, Sink, Source};
 use sig_core::{HostLog, Mark};
