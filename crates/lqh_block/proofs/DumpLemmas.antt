@@ -17,7 +17,7 @@ row_place s from at is small = by (position has_row (drop from s.places)) refl i
         let place : from + more ≡ at = cc in
         let passes = (position-Some has_row (drop from s.places) more None e).1 in
         let here : slice_index_or (drop from s.places) more None ≡ slice_index_or s.places at None =
-            get_or-drop from s.places more None ∙ ap (λ n. slice_index_or s.places n None) place in
+        get_or-drop from s.places more None ∙ ap (λ n. slice_index_or s.places n None) place in
         record { row = ap has_row (sym here) ∙ passes; small = small }
 
 -- so many rows are listed, and the next place is known

@@ -239,10 +239,10 @@ fn first_row(slots: &[Option<Slot>]) -> Option<usize>
 }
 
 // Whether the record is the transaction's on this key.
-fn is_of(tx: TxId, key: &Key, record: &PendingRecord) -> bool
-    ensures { result ≡ is_of tx key.now record.now }
+fn is_of(tx: TxId, key: &Key, part: &PendingRecord) -> bool
+    ensures { result ≡ is_of tx key.now part.now }
 {
-    same_tx(record.tx, tx) && same_key(&record.key, key)
+    same_tx(part.tx, tx) && same_key(&part.key, key)
 }
 
 // Whether no record is on the key.
@@ -255,11 +255,11 @@ fn is_idle(pending: &[PendingRecord], key: &Key) -> bool
 fn is_any_on(pending: &[PendingRecord], key: &Key) -> bool
     ensures { result ≡ list_any (is_on key.now) pending.now }
 {
-    pending.iter().any(|record| is_on(key, record))
+    pending.iter().any(|part| is_on(key, part))
 }
 
-fn is_on(key: &Key, record: &PendingRecord) -> bool
-    ensures { result ≡ is_on key.now record.now }
+fn is_on(key: &Key, part: &PendingRecord) -> bool
+    ensures { result ≡ is_on key.now part.now }
 {
-    same_key(&record.key, key)
+    same_key(&part.key, key)
 }
