@@ -1,9 +1,8 @@
 -- Places that have rows.
-use Rattle.std.proofs.Common.{◌≡◌, ℕ, suc, ◌+◌, add-one, ◌<◌, ◌^◌, Bool, true, IsTrue, List, drop, slice_index_or, refl, ap, sym, ◌∙◌, arith}
+use Rattle.std.proofs.Common.{◌≡◌, ℕ, suc, ◌+◌, add-one, ◌<◌, ◌^◌, List, drop, slice_index_or, refl, ap, sym, ◌∙◌}
 use Rattle.std.specs.Prelude.{Option, None, Some, IfSome, position}
 use Rattle.std.proofs.lemmas.List.{get_or-drop}
 use Rattle.std.proofs.lemmas.List.Quantifiers.{position-Some}
-use Rattle.sig_core.specs.declared.rows.Slot.{Slot}
 use Rattle.sig_core.specs.Rows.{RowsState, has_row, next_by, next_place}
 use Rattle.lqh_block.specs.Dump.{Dumped, IsRowPlace, dumped, more, one_more}
 
