@@ -1,8 +1,7 @@
 //! Rows in memory.
-ghost use Rattle.std.specs.Prelude.{◌≡◌, ◌<◌, IsOk, OnOk, length, true, Option, position};
+ghost use Rattle.std.specs.Prelude.{◌≡◌, ◌<◌, IsOk, OnOk, true, Option, position};
 ghost use Rattle.std.specs.List.{list_any};
-ghost use Rattle.std.specs.Vec.{vec_capacity};
-ghost use Rattle.sig_core.specs.Rows.{drop_by, get_at, has_row, is_idle, is_of, is_on, no_rows, record_at, record_of, recorded_by};
+ghost use Rattle.sig_core.specs.Rows.{drop_by, has_row, is_idle, is_of, is_on, no_rows, record_at, record_of};
 
 use crate::places::{Places, has_row};
 use crate::work::{same_key, same_tx};
