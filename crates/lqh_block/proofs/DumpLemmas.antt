@@ -1,9 +1,8 @@
 -- Places that have rows.
-use Rattle.std.proofs.Common.{◌≡◌, ℕ, suc, ◌+◌, add-one, ◌<◌, ◌^◌, Bool, true, IsTrue, List, drop, slice_index_or, refl, ap, sym, ◌∙◌, arith}
+use Rattle.std.proofs.Common.{◌≡◌, ℕ, suc, ◌+◌, add-one, ◌<◌, ◌^◌, List, drop, slice_index_or, refl, ap, sym, ◌∙◌}
 use Rattle.std.specs.Prelude.{Option, None, Some, IfSome, position}
 use Rattle.std.proofs.lemmas.List.{get_or-drop}
 use Rattle.std.proofs.lemmas.List.Quantifiers.{position-Some}
-use Rattle.sig_core.specs.declared.rows.Slot.{Slot}
 use Rattle.sig_core.specs.Rows.{RowsState, has_row, next_by, next_place}
 use Rattle.lqh_block.specs.Dump.{Dumped, IsRowPlace, dumped, more, one_more}
 
@@ -17,7 +16,7 @@ row_place s from at is small = by (position has_row (drop from s.places)) refl i
         let place : from + more ≡ at = cc in
         let passes = (position-Some has_row (drop from s.places) more None e).1 in
         let here : slice_index_or (drop from s.places) more None ≡ slice_index_or s.places at None =
-            get_or-drop from s.places more None ∙ ap (λ n. slice_index_or s.places n None) place in
+        get_or-drop from s.places more None ∙ ap (λ n. slice_index_or s.places n None) place in
         record { row = ap has_row (sym here) ∙ passes; small = small }
 
 -- so many rows are listed, and the next place is known

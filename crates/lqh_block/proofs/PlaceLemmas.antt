@@ -1,5 +1,5 @@
 -- Places and the index of their keys, after a key was put in or taken out.
-use Rattle.std.proofs.Common.{◌≡◌, ℕ, zero, suc, ◌+◌, ◌-◌, ◌<◌, ◌≤◌, Bool, true, false, cond, nat_lt, not, nat_eq, List, [], ◌∷◌, ◌++◌, length, drop, slice_set, refl, ap, sym, ◌∙◌, arith, subst}
+use Rattle.std.proofs.Common.{◌≡◌, ℕ, zero, suc, ◌+◌, ◌<◌, ◌≤◌, Bool, true, false, cond, nat_lt, not, nat_eq, List, [], ◌∷◌, ◌++◌, length, drop, slice_set, refl, ap, sym, ◌∙◌, arith, subst}
 use Prim.Native.Nat.compare
 use Rattle.std.specs.Prelude.{Option, None, Some, position}
 use Rattle.std.specs.List.{position_or_len}
@@ -10,8 +10,8 @@ use Rattle.std.proofs.lemmas.List.{length-map, map-set}
 use Rattle.sig_core.specs.declared.rows.Slot.{Slot}
 use Rattle.sig_core.specs.Rows.{is_at, no_row, place_of, placed, taken, with_row}
 use Rattle.sig_core.specs.Same.{same_key}
-use Rattle.lqh_block.specs.Index.{IsIndexed, are_taken, count_of, first_free, is_free, is_key, key_in, keys_in, seek, seek_by, with_key}
-use Rattle.lqh_block.proofs.IndexLemmas.{are_taken-freed, are_taken-with_key, are_taken_le, count-gone, count-with_key, count_le, distinct-freed, distinct-with_key, first_free_le, found_behind, same, seek-gone, seek-with_key}
+use Rattle.lqh_block.specs.Index.{IsIndexed, are_taken, count_of, first_free, is_free, key_in, keys_in, seek, seek_by, with_key}
+use Rattle.lqh_block.proofs.IndexLemmas.{are_taken-freed, are_taken-with_key, are_taken_le, count-gone, count-with_key, distinct-freed, distinct-with_key, first_free_le, found_behind, same, seek-gone, seek-with_key}
 
 lt-suc-suc : (m n : ℕ) → nat_lt (suc m) (suc n) ≡ nat_lt m n
 lt-suc-suc m n = rw compare.suc-suc

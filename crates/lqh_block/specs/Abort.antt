@@ -9,7 +9,7 @@ use Rattle.sig_core.specs.declared.signal.Body.TheVariants.{Chain}
 use Rattle.sig_core.specs.declared.signal.chain.ChainSignal.TheVariants.{Aborted}
 use Rattle.sig_core.specs.Place.{coordinator_of}
 use Rattle.sig_core.specs.Rows.{record_state}
-use Rattle.sig_core.specs.Step.{Effects, Step, to_place}
+use Rattle.sig_core.specs.Step.{Step, to_place}
 use Rattle.lqh_block.specs.State.{LqhState, freed_lock, serve_granted, storage_of, unlocked, with_storage, with_waiting}
 use Rattle.lqh_block.specs.Storage.{aborted_in, refusal}
 use Rattle.lqh_block.specs.Work.{is_for}

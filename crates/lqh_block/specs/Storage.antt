@@ -19,7 +19,7 @@ use Rattle.sig_core.specs.Op.{answer_to, image_of, key_of}
 use Rattle.sig_core.specs.Place.{coordinator_of, rows_of}
 use Rattle.sig_core.specs.Redo.{size_of}
 use Rattle.sig_core.specs.Rows.{RowsState, abort_record, commit_record, is_full, record_state, seen, storing, taken}
-use Rattle.sig_core.specs.Step.{Step, sending, to_place}
+use Rattle.sig_core.specs.Step.{Step, to_place}
 use Rattle.lqh_block.specs.declared.request.Request.{Request}
 
 -- the rows of a node, and its journal

@@ -8,8 +8,8 @@ use crate::lqh::Lqh;
 use sig_core::{Body, CLIENT, ClientSignal, Journal, Key, NoMemory, Outs, Rows, Seq, Value};
 use std::alloc::Global;
 
-/// How many rows an answer to a dump has at most.
-pub const DUMP_ROWS: u8 = 8;
+// How many rows an answer to a dump has at most.
+const DUMP_ROWS: u8 = 8;
 
 impl<R: Rows, J: Journal> Lqh<R, J> {
     /// Tells the client the first rows from place `at` on, and the place of the next one.

@@ -19,7 +19,6 @@ pub use count_journal::{CountJournal, JOURNAL_BYTES};
 pub use lqh::Lqh;
 pub use map_rows::{MapRows, PLACES};
 pub use request::{Marker, Request};
-pub use storage::Storage;
 
 #[cfg(test)]
 mod tests;

@@ -5,8 +5,8 @@ use crate::request::{Marker, Request};
 use crate::storage::Storage;
 use row_locks::LockTable;
 use sig_core::{
-    Actor, Body, ChainSignal, ClientSignal, HostSignal, Journal, NoMemory, Outs, Rows, Signal, View,
-    Work,
+    Actor, Body, ChainSignal, ClientSignal, HostSignal, Journal, NoMemory, Outs, Rows, Signal,
+    View, Work,
 };
 use std::alloc::Global;
 use std::marker::Model;
@@ -88,12 +88,14 @@ impl<R: Rows, J: Journal> Actor for Lqh<R, J> {
 
     fn handle(&mut self, alloc: Global, signal: &Signal, out: &mut Outs) -> Result<(), NoMemory> {
         match &signal.body {
-            Body::Chain(ChainSignal::LqhKeyReq {
-                tx,
-                work,
-                chain,
-                at,
-            }) => {
+            Body::Chain(
+                ChainSignal::LqhKeyReq {
+                    tx,
+                    work,
+                    chain,
+                    at,
+                },
+            ) => {
                 let request = Request {
                     tx: *tx,
                     work: *work,
@@ -102,17 +104,21 @@ impl<R: Rows, J: Journal> Actor for Lqh<R, J> {
                 };
                 self.request(&request, out)
             }
-            Body::Host(HostSignal::Continue {
-                work: Work::Granted,
-                at: _,
-            }) => self.serve(out),
-            Body::Chain(ChainSignal::Commit {
-                tx,
-                key,
-                epoch,
-                chain,
-                at,
-            }) => self.commit(*tx, key, *epoch, chain, *at, out),
+            Body::Host(
+                HostSignal::Continue {
+                    work: Work::Granted,
+                    at: _,
+                },
+            ) => self.serve(out),
+            Body::Chain(
+                ChainSignal::Commit {
+                    tx,
+                    key,
+                    epoch,
+                    chain,
+                    at,
+                },
+            ) => self.commit(*tx, key, *epoch, chain, *at, out),
             Body::Chain(ChainSignal::Complete { tx, key, chain, at }) => {
                 self.complete(*tx, key, chain, *at, out);
                 Ok(())
@@ -134,10 +140,12 @@ impl<R: Rows, J: Journal> Actor for Lqh<R, J> {
                 self.age(out);
                 Ok(())
             }
-            Body::Host(HostSignal::Continue {
-                work: Work::Expired,
-                at: _,
-            }) => {
+            Body::Host(
+                HostSignal::Continue {
+                    work: Work::Expired,
+                    at: _,
+                },
+            ) => {
                 self.expire(out);
                 Ok(())
             }

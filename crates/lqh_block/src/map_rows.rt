@@ -1,8 +1,7 @@
 //! Rows in memory.
-ghost use Rattle.std.specs.Prelude.{◌≡◌, ◌<◌, IsOk, OnOk, length, true, Option, position};
+ghost use Rattle.std.specs.Prelude.{◌≡◌, ◌<◌, IsOk, OnOk, true, Option, position};
 ghost use Rattle.std.specs.List.{list_any};
-ghost use Rattle.std.specs.Vec.{vec_capacity};
-ghost use Rattle.sig_core.specs.Rows.{drop_by, get_at, has_row, is_idle, is_of, is_on, no_rows, record_at, record_of, recorded_by};
+ghost use Rattle.sig_core.specs.Rows.{drop_by, has_row, is_idle, is_of, is_on, no_rows, record_at, record_of};
 
 use crate::places::{Places, has_row};
 use crate::work::{same_key, same_tx};
@@ -239,10 +238,10 @@ fn first_row(slots: &[Option<Slot>]) -> Option<usize>
 }
 
 // Whether the record is the transaction's on this key.
-fn is_of(tx: TxId, key: &Key, record: &PendingRecord) -> bool
-    ensures { result ≡ is_of tx key.now record.now }
+fn is_of(tx: TxId, key: &Key, part: &PendingRecord) -> bool
+    ensures { result ≡ is_of tx key.now part.now }
 {
-    same_tx(record.tx, tx) && same_key(&record.key, key)
+    same_tx(part.tx, tx) && same_key(&part.key, key)
 }
 
 // Whether no record is on the key.
@@ -255,11 +254,11 @@ fn is_idle(pending: &[PendingRecord], key: &Key) -> bool
 fn is_any_on(pending: &[PendingRecord], key: &Key) -> bool
     ensures { result ≡ list_any (is_on key.now) pending.now }
 {
-    pending.iter().any(|record| is_on(key, record))
+    pending.iter().any(|part| is_on(key, part))
 }
 
-fn is_on(key: &Key, record: &PendingRecord) -> bool
-    ensures { result ≡ is_on key.now record.now }
+fn is_on(key: &Key, part: &PendingRecord) -> bool
+    ensures { result ≡ is_on key.now part.now }
 {
-    same_key(&record.key, key)
+    same_key(&part.key, key)
 }

@@ -1,5 +1,5 @@
 //! Places, and an index of the keys that they are taken by.
-ghost use Rattle.std.specs.Prelude.{◌≡◌, ◌<◌, IfOk, IfSome, IsOk, OnOk, [], ◌∷◌, ◌++◌, length, None, Some, true, map, slice_set, position, ◌≤◌, ◌+◌};
+ghost use Rattle.std.specs.Prelude.{◌≡◌, ◌<◌, IsOk, OnOk, [], length, None, Some, true, slice_set, position, ◌≤◌, ◌+◌};
 ghost use Rattle.std.specs.Vec.{vec_capacity};
 ghost use Rattle.sig_core.specs.Rows.{freed_by, has_row, no_row, place_of, placed, set_row, with_place};
 ghost use Rattle.lqh_block.specs.Index.{are_taken, first_free, is_free, keys_in};

@@ -98,11 +98,13 @@ impl<R: Rows, J: Journal> Storage<R, J> {
         let need = need_of(tx, key, image);
         match self.journal.reserve(need) {
             Ok(()) => {}
-            Err(JournalFault::LogFull {
-                used,
-                reserved,
-                need,
-            }) => {
+            Err(
+                JournalFault::LogFull {
+                    used,
+                    reserved,
+                    need,
+                },
+            ) => {
                 let cause = AbortCause::LogFull {
                     used,
                     reserved,
@@ -162,8 +164,8 @@ impl<R: Rows, J: Journal> Storage<R, J> {
     }
 }
 
-/// By how many bytes an `Abort` is shorter than the `Commit` that bytes are kept free for.
-pub const SPARED: u64 = 8;
+// By how many bytes an `Abort` is shorter than the `Commit` that bytes are kept free for.
+const SPARED: u64 = 8;
 
 // Appends the record of a prepared image, in bytes that are kept free. Those for its end are kept
 // once, where the transaction had a prepared record already.
@@ -244,14 +246,7 @@ fn confirm(tx: TxId, key: &Key, answer: &Answer, out: &mut Outs)
 }
 
 // Sends a prepared image to the next place of its chain, or answers the write.
-fn pass_on(
-    tx: TxId,
-    key: &Key,
-    image: &Option<Value>,
-    chain: &Members,
-    at: u8,
-    out: &mut Outs,
-)
+fn pass_on(tx: TxId, key: &Key, image: &Option<Value>, chain: &Members, at: u8, out: &mut Outs)
     requires { length out.old.sends < 16 }
     ensures { out.new ≡ and_send out.old (passed_on tx key.now image.now chain.now at).to (passed_on tx key.now image.now chain.now at).body }
 {

@@ -126,10 +126,7 @@ fn a_queue_is_served_in_order(rt: HostRuntime) -> Result<(), Fail> {
         (Heard::Granted, ""),
         (Heard::Commit(2, b'a', 0), "tc1 committed 2 a"),
         (Heard::Wait(4, b'a'), "tc1 4 behind 3"),
-        (
-            Heard::Commit(3, b'a', 0),
-            "tc1 committed 3 a, lqh1 granted",
-        ),
+        (Heard::Commit(3, b'a', 0), "tc1 committed 3 a, lqh1 granted"),
         (Heard::Granted, "lqh2 store 4 at 1, prepared 4 a"),
     ];
     talk_afresh(&rt, rt.alloc(), &lines)

@@ -67,24 +67,15 @@ pub fn body_of(heard: Heard) -> Result<Body, WordFault> {
 }
 
 fn put(seq: u64, letter: u8, value: u8) -> Result<Body, WordFault> {
-    Ok(operate(
-        seq,
-        Op::Put(Key::new(&[letter])?, Value::new(&[value])?),
-    ))
+    Ok(operate(seq, Op::Put(Key::new(&[letter])?, Value::new(&[value])?)))
 }
 
 fn insert(seq: u64, letter: u8, value: u8) -> Result<Body, WordFault> {
-    Ok(operate(
-        seq,
-        Op::Ins(Key::new(&[letter])?, Value::new(&[value])?),
-    ))
+    Ok(operate(seq, Op::Ins(Key::new(&[letter])?, Value::new(&[value])?)))
 }
 
 fn update(seq: u64, letter: u8, value: u8) -> Result<Body, WordFault> {
-    Ok(operate(
-        seq,
-        Op::Upd(Key::new(&[letter])?, Value::new(&[value])?),
-    ))
+    Ok(operate(seq, Op::Upd(Key::new(&[letter])?, Value::new(&[value])?)))
 }
 
 fn store(seq: u64, letter: u8, value: u8) -> Result<Body, WordFault> {

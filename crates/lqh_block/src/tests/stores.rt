@@ -60,10 +60,7 @@ fn a_full_table_refuses_a_write(rt: HostRuntime) -> Result<(), Fail> {
     let mut lqh = node(alloc, rows, CountJournal::new())?;
     let lines = [
         (Heard::Put(1, b'a', b'x'), "lqh2 store 1 at 1, prepared 1 a"),
-        (
-            Heard::Put(1, b'b', b'x'),
-            "tc1 refuse 1 b table 131072",
-        ),
+        (Heard::Put(1, b'b', b'x'), "tc1 refuse 1 b table 131072"),
         (Heard::Put(1, b'a', b'y'), "lqh2 store 1 at 1, prepared 1 a"),
         (Heard::Abort(1, b'a'), "tc1 aborted 1 a, done 1 a"),
         (Heard::Put(1, b'b', b'x'), "lqh2 store 1 at 1, prepared 1 b"),

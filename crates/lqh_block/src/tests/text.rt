@@ -26,14 +26,18 @@ fn show(text: &mut String, sent: &Outgoing) -> Result<(), AllocError> {
     match &sent.body {
         Body::Client(signal) => show_client(text, signal),
         Body::Chain(signal) => show_chain(text, signal),
-        Body::Host(HostSignal::Continue {
-            work: Work::Granted,
-            at: 0,
-        }) => text.push_str(" granted"),
-        Body::Host(HostSignal::Continue {
-            work: Work::Expired,
-            at: 0,
-        }) => text.push_str(" expired"),
+        Body::Host(
+            HostSignal::Continue {
+                work: Work::Granted,
+                at: 0,
+            },
+        ) => text.push_str(" granted"),
+        Body::Host(
+            HostSignal::Continue {
+                work: Work::Expired,
+                at: 0,
+            },
+        ) => text.push_str(" expired"),
         _ => text.push_str(" another"),
     }
 }

@@ -6,5 +6,5 @@ invariant_of-self g c =
     record {
       covered = rw c.complete.ensures
           (covered_complete (g.R.Rows.state_of c.args.self.now.rows) (g.J.Journal.used_of c.args.self.now.journal)
-           c.args.tx c.args.key.now c.args.self.now.covered);
+          c.args.tx c.args.key.now c.args.self.now.covered);
     }
