@@ -19,7 +19,7 @@ pub record DihState : Type 0 where
 abbrev pub fresh_dih : ℕ → ℕ → DihState
 fresh_dih node epoch = record { node = node; epoch = epoch; counted = [] }
 
--- a transaction is decided, in the current epoch. No coordinator asks for a 65th
+-- a transaction is decided, in the current epoch, unless 64 are counted
 abbrev pub decide_if : DihState → TxId → Bool → Step DihState
 decide_if s tx true =
     record {

@@ -24,10 +24,9 @@ pub enum Ending {
 /// What a session leaves.
 #[derive(Drop)]
 pub struct Ended {
-    /// The exit status: 0 where the source was read to its end or to `quit`;
-    /// 1 where there were words; 2 at a
-    /// line outside the grammar; 3 where the source failed, 4 where the sink did; 5 for want of
-    /// memory; 9 at a line that is too long.
+    /// The exit status: 0 where the source was read to its end or to `quit`; 1 where there were
+    /// words; 2 at a line outside the grammar; 3 where the source failed, 4 where the sink did; 5
+    /// for want of memory; 9 at a line that is too long.
     pub status: u8,
     /// What the hosts did, life by life: none where there were words, or where memory was wanting
     /// before anything was read.

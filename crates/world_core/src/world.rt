@@ -16,7 +16,7 @@ use sig_core::{
 use std::alloc::Global;
 use std::sync::Wait;
 
-/// The stamps of steps are below this one.
+/// A step needs the stamps of its host's step before and of its signal below this one.
 const STAMPS_END: u64 = 1 << 59;
 
 /// All hosts, the links between them, and the log of each.
