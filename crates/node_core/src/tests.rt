@@ -43,6 +43,7 @@ fn a_signal_goes_to_the_block_that_it_is_for(rt: HostRuntime) -> Result<(), Fail
         );
         assert_eq!(rt; outs.take_send().is_some(), sends == 1);
     }
+    outs.clear();
     assert_eq!(rt;
         shell.handle(alloc, &signal(BlockId::Api), &mut outs),
         Ok::<(), NoMemory>(())
