@@ -1,0 +1,6 @@
+//! The laws of transactions, over every run of the machine.
+#![tactic(auto)]
+
+mod cut_laws;
+
+pub use cut_laws::{epochs_never_fall, greatest_view_is_viable};
