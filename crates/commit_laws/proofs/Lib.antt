@@ -2,6 +2,8 @@ pub mod ApiMarks
 pub mod EachEntry
 pub mod Epochs
 pub mod HostMarks
+pub mod Keys
+pub mod KeysJoin
 pub mod LqhMarks
 pub mod PlainMarks
 pub mod TcMarks

@@ -2,5 +2,7 @@
 #![tactic(auto)]
 
 mod cut_laws;
+mod key_laws;
 
 pub use cut_laws::{epochs_never_fall, greatest_view_is_viable};
+pub use key_laws::keys_join;
