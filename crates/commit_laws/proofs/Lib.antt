@@ -1,9 +1,13 @@
 pub mod ApiMarks
 pub mod EachEntry
 pub mod Epochs
+pub mod Holding
 pub mod HostMarks
 pub mod Keys
 pub mod KeysJoin
 pub mod LqhMarks
 pub mod PlainMarks
+pub mod PrimaryGood
+pub mod PrimaryValue
+pub mod RecordLemmas
 pub mod TcMarks

@@ -1,2 +1,5 @@
 pub mod Laws
 pub mod OneKey
+pub mod Primary
+pub mod PrimaryLaws
+pub mod Records

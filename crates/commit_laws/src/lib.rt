@@ -3,6 +3,8 @@
 
 mod cut_laws;
 mod key_laws;
+mod row_laws;
 
 pub use cut_laws::{epochs_never_fall, greatest_view_is_viable};
 pub use key_laws::keys_join;
+pub use row_laws::{primary_keeps_answers_right, primary_keeps_value};
