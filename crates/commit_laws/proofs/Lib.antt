@@ -1,4 +1,5 @@
 pub mod ApiMarks
+pub mod BackupMoves
 pub mod EachEntry
 pub mod Epochs
 pub mod Holding

@@ -1,3 +1,5 @@
+pub mod Backup
+pub mod BackupLaws
 pub mod Laws
 pub mod OneKey
 pub mod Primary

@@ -7,4 +7,4 @@ mod row_laws;
 
 pub use cut_laws::{epochs_never_fall, greatest_view_is_viable};
 pub use key_laws::keys_join;
-pub use row_laws::{primary_keeps_answers_right, primary_keeps_value};
+pub use row_laws::{backup_keeps_value, primary_keeps_answers_right, primary_keeps_value};
