@@ -6,6 +6,7 @@ pub mod Holding
 pub mod HostMarks
 pub mod Keys
 pub mod KeysJoin
+pub mod LockHolding
 pub mod LqhMarks
 pub mod PlainMarks
 pub mod PrimaryGood
