@@ -2,8 +2,9 @@
 use Prim.Native.Nat.compare
 use Rattle.std.proofs.Common.{◌≡◌, ℕ, zero, suc, ◌+◌, Bool, true, false, cond, not, nat_lt, List, [], ◌∷◌, ◌++◌, filter, length, arith, refl, sym, ap, ◌∙◌, subst}
 use Rattle.std.specs.List.{position_or_len}
-use Rattle.std.specs.Prelude.{if◌then◌else◌, Option, None, Some, is_some, position, remove, slice_get, slice_set}
+use Rattle.std.specs.Prelude.{if◌then◌else◌, Option, None, Some, position, remove, slice_get, slice_set}
 use Rattle.std.proofs.lemmas.Bool.Decides.{nat_tests}
+use Rattle.commit_laws.specs.Firsts.{drop_first, first}
 
 -- a place behind the first one
 abbrev pub place_by : Bool → Option ℕ → Option ℕ
@@ -32,11 +33,6 @@ position-cons p x xs = by (p x)
         ∙ later (nat_lt (position_or_len p xs) (length xs))
 
 module _ {X : Type 0} where
-  -- the first one that passes
-  abbrev pub first : (X → Bool) → List X → Option X
-  first p [] = None
-  first p (x ∷ xs) = if p x then Some x else first p xs
-
   abbrev pub get_by : List X → Option ℕ → Option X
   get_by xs None = None
   get_by xs (Some at) = slice_get xs at
@@ -49,11 +45,6 @@ module _ {X : Type 0} where
   abbrev pub set_by : X → List X → Option ℕ → List X
   set_by y xs None = xs
   set_by y xs (Some at) = slice_set xs at y
-
-  -- it is taken out
-  abbrev pub drop_first : (X → Bool) → List X → List X
-  drop_first p [] = []
-  drop_first p (x ∷ xs) = if p x then xs else x ∷ drop_first p xs
 
   abbrev pub drop_by : List X → Option ℕ → List X
   drop_by xs None = xs
@@ -85,20 +76,6 @@ module _ {X : Type 0} where
       by true at more = refl
       by false None more = ap (λ w. x ∷ w) more
       by false (Some at) more = ap (λ w. x ∷ w) more
-
-  -- there is a place exactly where there is one that passes
-  abbrev pub any : (X → Bool) → List X → Bool
-  any p [] = false
-  any p (x ∷ xs) = if p x then true else any p xs
-
-  pub first-any : (p : X → Bool) (xs : List X) → is_some (position p xs) ≡ any p xs
-  first-any p [] = refl
-  first-any p (x ∷ xs) = ap is_some (position-cons p x xs) ∙ by (p x) (position p xs) (first-any p xs)
-    where
-      by : (b : Bool) (at : Option ℕ) → is_some at ≡ any p xs → is_some (place_by b at) ≡ (if b then true else any p xs)
-      by true at more = refl
-      by false None more = more
-      by false (Some at) more = more
 
   -- those that pass a filter: one that doesn't is taken out, or the first of them is
   pub filter-drop_other : (q p : X → Bool) (xs : List X) → ((x : X) → p x ≡ true → q x ≡ false) → filter q (drop_first p xs) ≡ filter q xs

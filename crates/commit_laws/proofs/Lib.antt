@@ -1,10 +1,12 @@
 pub mod ApiMarks
 pub mod BackupMoves
+pub mod CellsAt
 pub mod EachEntry
 pub mod Epochs
 pub mod Firsts
 pub mod Holding
 pub mod HostMarks
+pub mod KeyAfter
 pub mod Keys
 pub mod KeysJoin
 pub mod LockHolding

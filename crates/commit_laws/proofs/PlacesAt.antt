@@ -6,7 +6,8 @@ use Rattle.sig_core.specs.declared.rows.Slot.{Slot}
 use Rattle.sig_core.specs.Rows.{RowsState, freed, freed_by, freed_if, is_at, is_idle, no_row, place_of, placed, row_by, row_in, row_of, set_row, set_row_by, with_place, with_place_by, with_row}
 use Rattle.sig_core.specs.Same.{same_key}
 use Rattle.lqh_block.proofs.IndexLemmas.{same}
-use Rattle.commit_laws.proofs.Firsts.{any, first-any, first-set, place_by, position-cons, set_by, set_first}
+use Rattle.commit_laws.specs.Placed.{AreApart, has_place}
+use Rattle.commit_laws.proofs.Firsts.{first-set, place_by, position-cons, set_by, set_first}
 use Rattle.commit_laws.proofs.Keys.{same_key-self, same_key-swap}
 
 -- the row of the key
@@ -14,16 +15,6 @@ abbrev pub row_at : List (Option Slot) → List ℕ → Option (List ℕ)
 row_at [] key = None
 row_at (None ∷ places) key = row_at places key
 row_at (Some slot ∷ places) key = if same_key slot.key key then slot.row else row_at places key
-
--- the key has a place
-abbrev pub has_place : List (Option Slot) → List ℕ → Bool
-has_place places key = any (is_at key) places
-
--- no key has two
-abbrev pub AreApart : List (Option Slot) → Type 0
-AreApart [] = Unit {0}
-AreApart (None ∷ places) = AreApart places
-AreApart (Some slot ∷ places) = (has_place places slot.key ≡ false) × AreApart places
 
 row_by-at : (places : List (Option Slot)) (key : List ℕ) → row_by places (place_of places key) ≡ row_at places key
 row_by-at [] key = refl
@@ -57,6 +48,16 @@ no_place (Some slot ∷ places) key off = by (same_key slot.key key) off (no_pla
 not_first : (b c : Bool) → (if b then true else c) ≡ false → (b ≡ false) × (c ≡ false)
 not_first true c is = absurd cc
 not_first false c is = (refl, is)
+
+-- a key has a place exactly where one is found
+place_of-has : (places : List (Option Slot)) (key : List ℕ) → is_some (place_of places key) ≡ has_place places key
+place_of-has [] key = refl
+place_of-has (slot ∷ places) key = ap is_some (position-cons (is_at key) slot places) ∙ by (is_at key slot) (place_of places key) (place_of-has places key)
+  where
+    by : (b : Bool) (at : Option ℕ) → is_some at ≡ has_place places key → is_some (place_by b at) ≡ (if b then true else has_place places key)
+    by true at more = refl
+    by false None more = more
+    by false (Some at) more = more
 
 -- one key has come to have a place
 row-placed : (key q : List ℕ) (places : List (Option Slot)) → has_place places key ≡ false → row_at (placed (no_row key) places) q ≡ row_at places q
@@ -97,7 +98,7 @@ by_place : (P : List (Option Slot) → Type 0) (places : List (Option Slot)) (ke
 by_place P places key stays new = by (place_of places key) refl
   where
     by : (at : Option ℕ) → place_of places key ≡ at → P (with_place_by places key at)
-    by None is = new (sym (first-any (is_at key) places) ∙ ap is_some is)
+    by None is = new (sym (place_of-has places key) ∙ ap is_some is)
     by (Some at) is = stays
 
 pub row-with_place : (places : List (Option Slot)) (key q : List ℕ) → row_at (with_place places key) q ≡ row_at places q
@@ -118,7 +119,7 @@ has-own_place places key = by (place_of places key) refl
   where
     by : (at : Option ℕ) → place_of places key ≡ at → has_place (with_place_by places key at) key ≡ true
     by None is = has-placed key key places ∙ ap (λ b. if b then true else has_place places key) (same_key-self key)
-    by (Some at) is = sym (first-any (is_at key) places) ∙ ap is_some is
+    by (Some at) is = sym (place_of-has places key) ∙ ap is_some is
 
 -- the row of one key is set
 set_row-first : (places : List (Option Slot)) (key : List ℕ) (row : Option (List ℕ)) → set_row places key row ≡ set_first (is_at key) (Some (with_row key row)) places

@@ -2,15 +2,17 @@
 use Rattle.std.proofs.Common.{◌≡◌, ℕ, Bool, true, false, cond, not, ◌&&◌, List, [], ◌∷◌, ◌++◌, filter, refl, sym, ap, ◌∙◌, subst}
 use Rattle.std.proofs.lemmas.Bool.{and_parts}
 use Rattle.std.specs.Prelude.{if◌then◌else◌, Option, None, Some, position, remove, slice_get, slice_set}
+use Rattle.run_theory.specs.Lists.{Each}
 use Rattle.sig_core.specs.declared.member.TxId.{TxId}
 use Rattle.sig_core.specs.declared.rows.PendingRecord.{PendingRecord}
 use Rattle.sig_core.specs.Rows as rows
 use Rattle.sig_core.specs.Rows.{RowsState, get_at, is_of, is_on, record_at, record_of, recorded_by}
 use Rattle.sig_core.specs.Same.{same_key, same_tx}
 use Rattle.lqh_block.proofs.IndexLemmas.{same}
+use Rattle.commit_laws.specs.Firsts.{drop_first, first}
 use Rattle.commit_laws.specs.Records.{as_committed, edited, found, if_committed, put_back, stored, unless_committed}
 use Rattle.commit_laws.proofs.Keys.{same_key-self}
-use Rattle.commit_laws.proofs.Firsts.{drop_by, drop_first, first, first-drop, first-get, first-set, get_by, place_by, position-cons, set_by, set_first}
+use Rattle.commit_laws.proofs.Firsts.{drop_by, first-drop, first-get, first-set, get_by, place_by, position-cons, set_by, set_first}
 
 -- those on the key
 abbrev pub on : List ℕ → List PendingRecord → List PendingRecord
@@ -37,12 +39,11 @@ first-found tx key (x ∷ xs) = by (same_tx x.tx tx) refl (same_key x.key key) (
     by false e false more = more
 
 -- one is stored
-stored_in : PendingRecord → List PendingRecord → List PendingRecord
+abbrev pub stored_in : PendingRecord → List PendingRecord → List PendingRecord
 stored_in r [] = r ∷ []
 stored_in r (x ∷ xs) = if is_of r.tx r.key x then r ∷ xs else x ∷ stored_in r xs
 
-recorded-stored : (r : PendingRecord) (xs : List PendingRecord) → recorded_by xs r (position (is_of r.tx r.key) xs) ≡ stored_in r xs
-unfolding stored_in
+pub recorded-stored : (r : PendingRecord) (xs : List PendingRecord) → recorded_by xs r (position (is_of r.tx r.key) xs) ≡ stored_in r xs
 recorded-stored r [] = refl
 recorded-stored r (x ∷ xs) = ap (recorded_by (x ∷ xs) r) (position-cons (is_of r.tx r.key) x xs) ∙ by (is_of r.tx r.key x) (position (is_of r.tx r.key) xs) (recorded-stored r xs)
   where
@@ -55,7 +56,6 @@ on_here : (key : List ℕ) (x : PendingRecord) (xs : List PendingRecord) (c : Bo
 on_here key x xs c e = ap (λ c. cond c (x ∷ on key xs) (on key xs)) e
 
 on-stored_in : (key : List ℕ) (r : PendingRecord) (xs : List PendingRecord) → r.key ≡ key → on key (stored_in r xs) ≡ stored r (on key xs)
-unfolding stored_in
 on-stored_in key r [] own = on_here key r [] true (ap (λ k. same_key k key) own ∙ same_key-self key)
 on-stored_in key r (x ∷ xs) own = by (same_tx x.tx r.tx) refl (same_key x.key r.key) refl (on-stored_in key r xs own)
   where
@@ -75,7 +75,6 @@ on-stored_in key r (x ∷ xs) own = by (same_tx x.tx r.tx) refl (same_key x.key 
         ∙ sym (ap (stored r) (on_here key x xs false (ap (same_key x.key) (sym own) ∙ f)))
 
 on-stored_other : (q : List ℕ) (r : PendingRecord) (xs : List PendingRecord) → same_key r.key q ≡ false → on q (stored_in r xs) ≡ on q xs
-unfolding stored_in
 on-stored_other q r [] off = on_here q r [] false off
 on-stored_other q r (x ∷ xs) off = by (same_tx x.tx r.tx) (same_key x.key r.key) refl (on-stored_other q r xs off)
   where
@@ -171,3 +170,40 @@ on-edited_other f keeps tx key q (x ∷ xs) off = by (same_tx x.tx tx) (same_key
     by true true g more = back (f x) refl g
     by true false g more = ap (λ w. cond (same_key x.key q) (x ∷ w) w) more
     by false c g more = ap (λ w. cond (same_key x.key q) (x ∷ w) w) more
+
+-- what holds of each record
+pub each-recorded : (P : PendingRecord → Type 0) (r : PendingRecord) (xs : List PendingRecord) → P r → Each P xs → Each P (recorded_by xs r (record_at xs r.tx r.key))
+each-recorded P r xs own all = subst (Each P) (sym (recorded-stored r xs)) (in_list xs all)
+  where
+    by : (b : Bool) (x : PendingRecord) (rest : List PendingRecord) → P x → Each P rest → Each P (stored_in r rest) → Each P (if b then r ∷ rest else x ∷ stored_in r rest)
+    by true x rest here all more = (own, all)
+    by false x rest here all more = (here, more)
+
+    in_list : (xs : List PendingRecord) → Each P xs → Each P (stored_in r xs)
+    in_list [] all = (own, tt)
+    in_list (x ∷ xs) all = by (is_of r.tx r.key x) x xs all.0 all.1 (in_list xs all.1)
+
+pub each-edited_in : (P : PendingRecord → Type 0) (f : PendingRecord → Option PendingRecord) (p : PendingRecord → Bool) (xs : List PendingRecord) → ((r x : PendingRecord) → f r ≡ Some x → P r → P x)
+    → Each P xs → Each P (edited_in f p xs)
+each-edited_in P f p [] own all = tt
+each-edited_in P f p (x ∷ xs) own all = by (p x) (each-edited_in P f p xs own all.1)
+  where
+    back : (o : Option PendingRecord) → f x ≡ o → Each P (put_back o xs)
+    back None is = all.1
+    back (Some y) is = (own x y is all.0, all.1)
+
+    by : (b : Bool) → Each P (edited_in f p xs) → Each P (if b then put_back (f x) xs else x ∷ edited_in f p xs)
+    by true more = back (f x) refl
+    by false more = (all.0, more)
+
+-- the record that is found
+pub each-first : (P : PendingRecord → Type 0) (tx : TxId) (key : List ℕ) (xs : List PendingRecord) (r : PendingRecord) → Each P xs → first (is_of tx key) xs ≡ Some r → P r × (r.key ≡ key)
+each-first P tx key [] r all is = absurd cc
+each-first P tx key (x ∷ xs) r all is = by (is_of tx key x) refl is (each-first P tx key xs r all.1)
+  where
+    by : (b : Bool) → is_of tx key x ≡ b → (if b then Some x else first (is_of tx key) xs) ≡ Some r → (first (is_of tx key) xs ≡ Some r → P r × (r.key ≡ key)) → P r × (r.key ≡ key)
+    by true e is more =
+        let one : x ≡ r = cc in
+        let own = and_parts (same_tx x.tx tx) (same_key x.key key) e in
+        (subst P one all.0, ap (λ (r : PendingRecord). r.key) (sym one) ∙ same x.key key own.1)
+    by false e is more = more is

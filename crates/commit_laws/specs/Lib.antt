@@ -1,8 +1,11 @@
 pub mod Backup
 pub mod BackupLaws
+pub mod Firsts
 pub mod Laws
 pub mod LockLaws
 pub mod OneKey
+pub mod Placed
 pub mod Primary
 pub mod PrimaryLaws
 pub mod Records
+pub mod Replica
