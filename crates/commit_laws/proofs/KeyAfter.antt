@@ -40,11 +40,11 @@ use Rattle.commit_laws.proofs.Firsts.{drop_by, filter-drop_first, filter-drop_ot
 use Rattle.commit_laws.proofs.Keys.{same_key-self}
 use Rattle.commit_laws.proofs.LocksAt.{lock-aged, lock-inserted, lock-kept}
 
-replica_is : (r p : Replica) → r.cell ≡ p.cell → r.lock ≡ p.lock → r.waiting ≡ p.waiting → r ≡ p
+pub replica_is : (r p : Replica) → r.cell ≡ p.cell → r.lock ≡ p.lock → r.waiting ≡ p.waiting → r ≡ p
 replica_is r p cell lock waiting = λ i. record { cell = cell i; lock = lock i; waiting = waiting i }
 
 -- What a row does where it is of another key: nothing; and else its event.
-is_if : (own key : List ℕ) (event : Event) (r p : Replica) → (own ≡ key → r ≡ key_after event p) → (same_key own key ≡ false → r ≡ p) → r ≡ key_after (if_on own key event) p
+pub is_if : (own key : List ℕ) (event : Event) (r p : Replica) → (own ≡ key → r ≡ key_after event p) → (same_key own key ≡ false → r ≡ p) → r ≡ key_after (if_on own key event) p
 is_if own key event r p here other = by (same_key own key) refl
   where
     by : (b : Bool) → same_key own key ≡ b → r ≡ key_after (if b then event else rests) p
@@ -52,10 +52,10 @@ is_if own key event r p here other = by (same_key own key) refl
     by false e = other e
 
 -- an event of the key itself, and one of another
-on_own : {A : Type 0} (own key : List ℕ) (x y : A) → own ≡ key → (if same_key own key then x else y) ≡ x
+pub on_own : {A : Type 0} (own key : List ℕ) (x y : A) → own ≡ key → (if same_key own key then x else y) ≡ x
 on_own own key x y at = ap (λ k. if same_key k key then x else y) at ∙ ap (λ b. if b then x else y) (same_key-self key)
 
-on_other : {A : Type 0} (own key : List ℕ) (x y : A) → same_key own key ≡ false → (if same_key own key then x else y) ≡ y
+pub on_other : {A : Type 0} (own key : List ℕ) (x y : A) → same_key own key ≡ false → (if same_key own key then x else y) ≡ y
 on_other own key x y off = ap (λ b. if b then x else y) off
 
 -- requests
@@ -102,7 +102,7 @@ module _ (s : LqhState) (q : Request) (key : List ℕ) where
       (lock-inserted s.locks (work_key q.work) key (operate.asking s q).lock ∙ on_other (work_key q.work) key (operate.asking s q).lock (lock_at s.locks key) off)
       (waiting_end key s.waiting q false off)
 
-  request_event : at_key key (operate.request_row s q).state ≡ key_after (if_on (work_key q.work) key (asks q (is_refused (storage_of s) q))) (at_key key s)
+  pub request_event : at_key key (operate.request_row s q).state ≡ key_after (if_on (work_key q.work) key (asks q (is_refused (storage_of s) q))) (at_key key s)
   unfolding operate.request_row
   request_event =
       is_if (work_key q.work) key (asks q (is_refused (storage_of s) q)) _ _
@@ -182,7 +182,7 @@ module _ (s : LqhState) (key : List ℕ) where
       gone : filter (asks_for key) (remove s.waiting at) ≡ filter (asks_for key) (drop_first (operate.is_granted s.locks) s.waiting)
       gone = ap (filter (asks_for key)) (ap (drop_by s.waiting) (sym at_is) ∙ first-drop (operate.is_granted s.locks) s.waiting)
 
-  granted_event : at_key key (operate.granted_row s).state ≡ key_after (serves_if key s (first (operate.is_granted s.locks) s.waiting)) (at_key key s)
+  pub granted_event : at_key key (operate.granted_row s).state ≡ key_after (serves_if key s (first (operate.is_granted s.locks) s.waiting)) (at_key key s)
   unfolding operate.granted_row
   granted_event = by (position (operate.is_granted s.locks) s.waiting) refl (first (operate.is_granted s.locks) s.waiting) refl
     where

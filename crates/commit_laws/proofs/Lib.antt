@@ -7,6 +7,7 @@ pub mod Firsts
 pub mod Holding
 pub mod HostMarks
 pub mod KeyAfter
+pub mod KeyEnds
 pub mod Keys
 pub mod KeysJoin
 pub mod LockHolding
