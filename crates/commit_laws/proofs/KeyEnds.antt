@@ -40,7 +40,7 @@ released_other s tx own key off =
     lock-kept s.locks own key (released_at s.locks own tx).lock ∙ on_other own key (released_at s.locks own tx).lock (lock_at s.locks key) off
 
 -- the rows after a commit, whatever was there
-applied_rows : (s : LqhState) (tx : TxId) (key : List ℕ) (epoch : ℕ) → (commit.applied s tx key epoch (record_state s.rows tx key)).rows ≡ commit_record s.rows tx key
+pub applied_rows : (s : LqhState) (tx : TxId) (key : List ℕ) (epoch : ℕ) → (commit.applied s tx key epoch (record_state s.rows tx key)).rows ≡ commit_record s.rows tx key
 unfolding record_state commit_record storage.committed_in
 applied_rows s tx key epoch = by (record_at s.rows.pending tx key) refl (record_of s.rows tx key) refl
   where
@@ -56,7 +56,7 @@ applied_rows s tx key epoch = by (record_at s.rows.pending tx key) refl (record_
     by (Some at) at_is None is = refl
     by at at_is (Some r) is = at_state at at_is r is r.committed refl
 
-applied_locks : (s : LqhState) (tx : TxId) (key : List ℕ) (epoch : ℕ) (had : Option Bool) → (commit.applied s tx key epoch had).locks ≡ s.locks
+pub applied_locks : (s : LqhState) (tx : TxId) (key : List ℕ) (epoch : ℕ) (had : Option Bool) → (commit.applied s tx key epoch had).locks ≡ s.locks
 applied_locks s tx key epoch None = refl
 applied_locks s tx key epoch (Some false) = refl
 applied_locks s tx key epoch (Some true) = refl
@@ -67,7 +67,7 @@ applied_waiting s tx key epoch (Some false) = refl
 applied_waiting s tx key epoch (Some true) = refl
 
 -- and after an abort
-given_rows : (s : LqhState) (tx : TxId) (key : List ℕ) → (abort.given_up s tx key (record_state s.rows tx key)).rows ≡ abort_record s.rows tx key
+pub given_rows : (s : LqhState) (tx : TxId) (key : List ℕ) → (abort.given_up s tx key (record_state s.rows tx key)).rows ≡ abort_record s.rows tx key
 unfolding record_state abort_record storage.aborted_in
 given_rows s tx key = by (record_at s.rows.pending tx key) refl (record_of s.rows tx key) refl
   where
@@ -83,7 +83,7 @@ given_rows s tx key = by (record_at s.rows.pending tx key) refl (record_of s.row
     by (Some at) at_is None is = refl
     by at at_is (Some r) is = at_state at at_is r is r.committed refl
 
-given_locks : (s : LqhState) (tx : TxId) (key : List ℕ) (had : Option Bool) → (abort.given_up s tx key had).locks ≡ s.locks
+pub given_locks : (s : LqhState) (tx : TxId) (key : List ℕ) (had : Option Bool) → (abort.given_up s tx key had).locks ≡ s.locks
 given_locks s tx key None = refl
 given_locks s tx key (Some false) = refl
 given_locks s tx key (Some true) = refl
@@ -94,7 +94,7 @@ given_waiting s tx key (Some false) = refl
 given_waiting s tx key (Some true) = refl
 
 -- without the transaction's request
-unasked_is : (s : LqhState) (tx : TxId) (key : List ℕ) → abort.unasked s tx key ≡ with_waiting s (drop_first (is_for tx key) s.waiting)
+pub unasked_is : (s : LqhState) (tx : TxId) (key : List ℕ) → abort.unasked s tx key ≡ with_waiting s (drop_first (is_for tx key) s.waiting)
 unasked_is s tx key = by (position (is_for tx key) s.waiting) ∙ ap (with_waiting s) (first-drop (is_for tx key) s.waiting)
   where
     by : (at : Option ℕ) → abort.unasked_by s at ≡ with_waiting s (drop_by s.waiting at)

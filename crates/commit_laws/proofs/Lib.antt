@@ -19,4 +19,5 @@ pub mod PrimaryGood
 pub mod PrimaryValue
 pub mod RecordLemmas
 pub mod RecordsAt
+pub mod Replicas
 pub mod TcMarks

@@ -9,3 +9,4 @@ pub mod Primary
 pub mod PrimaryLaws
 pub mod Records
 pub mod Replica
+pub mod ReplicaLaws
