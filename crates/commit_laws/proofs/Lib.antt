@@ -2,6 +2,7 @@ pub mod ApiMarks
 pub mod BackupMoves
 pub mod CellsAt
 pub mod EachEntry
+pub mod EachSent
 pub mod Epochs
 pub mod Firsts
 pub mod Holding
@@ -13,6 +14,7 @@ pub mod KeysJoin
 pub mod LockHolding
 pub mod LocksAt
 pub mod LqhMarks
+pub mod LqhOther
 pub mod PlacesAt
 pub mod PlainMarks
 pub mod PrimaryGood
@@ -20,4 +22,6 @@ pub mod PrimaryValue
 pub mod RecordLemmas
 pub mod RecordsAt
 pub mod Replicas
+pub mod SortedEntries
+pub mod TcGoes
 pub mod TcMarks
