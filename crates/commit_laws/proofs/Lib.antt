@@ -11,6 +11,7 @@ pub mod KeyAfter
 pub mod KeyEnds
 pub mod Keys
 pub mod KeysJoin
+pub mod LiveSplit
 pub mod LockHolding
 pub mod LocksAt
 pub mod LqhMarks
@@ -25,3 +26,4 @@ pub mod Replicas
 pub mod SortedEntries
 pub mod TcGoes
 pub mod TcMarks
+pub mod TcNumbers
