@@ -59,6 +59,14 @@ module _ {X : Type 0} where
       by false None more = more
       by false (Some at) more = more
 
+  pub first_passes : (p : X → Bool) (xs : List X) (x : X) → first p xs ≡ Some x → p x ≡ true
+  first_passes p [] x is = absurd cc
+  first_passes p (y ∷ xs) x is = by (p y) refl is (first_passes p xs x)
+    where
+      by : (b : Bool) → p y ≡ b → (if b then Some y else first p xs) ≡ Some x → (first p xs ≡ Some x → p x ≡ true) → p x ≡ true
+      by true e is more = let one : y ≡ x = cc in ap p (sym one) ∙ e
+      by false e is more = more is
+
   pub first-set : (p : X → Bool) (y : X) (xs : List X) → set_by y xs (position p xs) ≡ set_first p y xs
   first-set p y [] = refl
   first-set p y (x ∷ xs) = ap (set_by y (x ∷ xs)) (position-cons p x xs) ∙ by (p x) (position p xs) (first-set p y xs)

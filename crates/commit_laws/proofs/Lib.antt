@@ -1,4 +1,5 @@
 pub mod ApiMarks
+pub mod ApiTold
 pub mod BackupMoves
 pub mod CellsAt
 pub mod EachEntry
