@@ -1,0 +1,34 @@
+-- What holds of each of some signals.
+use Rattle.std.proofs.Common.{◌≡◌, ℕ, zero, suc, List, [], ◌∷◌, ◌++◌, take, drop, refl}
+use Rattle.std.specs.Prelude.{map}
+use Rattle.std.specs.List.{flat_map}
+use Rattle.run_theory.specs.Lists.{Each}
+use Rattle.run_theory.proofs.Pasts.{each_append}
+use Rattle.sig_core.specs.declared.outs.Outgoing.{Outgoing}
+use Rattle.sig_core.specs.Step.{Step}
+use Rattle.commit_laws.specs.Kinds.{Kind, kind_of, other}
+
+-- none of them is of those by which a transaction comes to be decided and reported
+abbrev pub AreOther : List Outgoing → Type 0
+AreOther sends = Each (λ (o : Outgoing). kind_of o.body ≡ other) sends
+
+abbrev pub SendsOther : {S : Type 0} → Step S → Type 0
+SendsOther step = AreOther step.effects.sends
+
+pub each_take : {A : Type 0} (P : A → Type 0) (n : ℕ) (xs : List A) → Each P xs → Each P (take n xs)
+each_take P zero xs all = tt
+each_take P (suc n) [] all = tt
+each_take P (suc n) (x ∷ xs) all = (all.0, each_take P n xs all.1)
+
+pub each_drop : {A : Type 0} (P : A → Type 0) (n : ℕ) (xs : List A) → Each P xs → Each P (drop n xs)
+each_drop P zero xs all = all
+each_drop P (suc n) [] all = tt
+each_drop P (suc n) (x ∷ xs) all = each_drop P n xs all.1
+
+pub each_mapped : {A B : Type 0} (P : B → Type 0) (f : A → B) (xs : List A) → ((x : A) → P (f x)) → Each P (map f xs)
+each_mapped P f [] all = tt
+each_mapped P f (x ∷ xs) all = (all x, each_mapped P f xs all)
+
+pub each_flat : {A B : Type 0} (P : B → Type 0) (f : A → List B) (xs : List A) → ((x : A) → Each P (f x)) → Each P (flat_map f xs)
+each_flat P f [] all = tt
+each_flat P f (x ∷ xs) all = each_append P (f x) (flat_map f xs) (all x) (each_flat P f xs all)

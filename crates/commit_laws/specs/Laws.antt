@@ -1,0 +1,45 @@
+-- The laws of closed cuts, as the contracts of functions name them.
+use Rattle.std.specs.Prelude.{◌≡◌, ◌<◌, ℕ, true, List}
+use Rattle.std.specs.FinMap as map
+use Rattle.run_theory.specs.Cuts.{IsCut, IsClosed}
+use Rattle.run_theory.specs.Runs.{AreLogs, IsWithin}
+use Rattle.serial_model.specs.Legal.{IsLegal, fold}
+use Rattle.sig_core.specs.declared.entry.Entry.{Entry}
+use Rattle.sig_core.specs.declared.log.LogStep.{LogStep}
+use Rattle.sig_core.specs.Table.{Rows}
+use Rattle.world_core.specs.History.{history}
+use Rattle.world_core.specs.Machine.{hosts, machine}
+use Rattle.world_core.specs.SerialLaw.{AreEpochsOrdered}
+use Rattle.world_core.specs.Start.{Start, first_view}
+use Rattle.world_core.specs.Views.{greatest_view, is_viable}
+use Rattle.commit_laws.specs.OneKey.{IsRightAt, row_at_end}
+
+-- a closed cut of right logs
+pub record IsClosedCut (start : Start) (inside logs : ℕ → List LogStep) : Type 0 where
+  pub within : IsWithin (hosts start) logs
+  pub right : AreLogs (machine start) logs
+  pub cut : IsCut inside logs
+  pub closed : IsClosed (machine start) inside
+
+-- epochs never fall along the history of a closed cut
+abbrev pub EpochsNeverFall : Type 0
+EpochsNeverFall =
+    (start : Start) (inside logs : ℕ → List LogStep) → IsClosedCut start inside logs → AreEpochsOrdered (history (hosts start) inside)
+
+-- nobody installs another view than the first one, which is viable where there is a node
+abbrev pub GreatestViewIsFirst : Type 0
+GreatestViewIsFirst =
+    (start : Start) (inside logs : ℕ → List LogStep) → IsClosedCut start inside logs → greatest_view start inside ≡ first_view start.nodes
+
+abbrev pub GreatestViewIsViable : Type 0
+GreatestViewIsViable =
+    (start : Start) (inside logs : ℕ → List LogStep) → 0 < start.nodes → IsClosedCut start inside logs
+    → is_viable 1 start.nodes (greatest_view start inside) ≡ true
+
+-- a list of entries that is right for each key is legal
+abbrev pub KeysJoin : Type 0
+KeysJoin = (rows : Rows) (entries : List Entry) → ((key : List ℕ) → IsRightAt key (map.get rows key) entries) → IsLegal rows entries
+
+-- and its rows are those of the keys
+abbrev pub RowsJoin : Type 0
+RowsJoin = (rows : Rows) (entries : List Entry) (key : List ℕ) → map.get (fold rows entries) key ≡ row_at_end key (map.get rows key) entries

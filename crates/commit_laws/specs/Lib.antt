@@ -1,0 +1,14 @@
+pub mod Backup
+pub mod BackupLaws
+pub mod Firsts
+pub mod Kinds
+pub mod Laws
+pub mod LockLaws
+pub mod OneKey
+pub mod Phases
+pub mod Placed
+pub mod Primary
+pub mod PrimaryLaws
+pub mod Records
+pub mod Replica
+pub mod ReplicaLaws

@@ -1,0 +1,15 @@
+-- How far a transaction has come at its coordinator.
+use Rattle.std.specs.Prelude.{Bool, true, false}
+use Rattle.tc_block.specs.declared.phase.Phase.{Phase}
+use Rattle.tc_block.specs.declared.phase.Phase.TheVariants.{Open, Verifying, Committing, Completing, Aborting}
+
+-- it takes operations, and hasn't asked for an epoch
+abbrev pub is_open : Phase → Bool
+is_open Open = true
+is_open phase = false
+
+-- it knows that it is decided
+abbrev pub is_decided : Phase → Bool
+is_decided (Committing epoch awaited) = true
+is_decided (Completing epoch awaited) = true
+is_decided phase = false

@@ -1,0 +1,14 @@
+//! The laws of transactions, over every run of the machine.
+#![tactic(auto)]
+
+mod cut_laws;
+mod key_laws;
+mod lock_laws;
+mod replica_laws;
+mod row_laws;
+
+pub use cut_laws::{epochs_never_fall, greatest_view_is_viable};
+pub use key_laws::keys_join;
+pub use lock_laws::{holders_hold_on, waits_end_in_holding};
+pub use replica_laws::replicas_are_their_keys;
+pub use row_laws::{backup_keeps_value, primary_keeps_answers_right, primary_keeps_value};

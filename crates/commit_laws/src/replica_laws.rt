@@ -1,0 +1,13 @@
+//! A replica is its keys.
+ghost use Rattle.commit_laws.specs.ReplicaLaws.{KeysBeginAtRest, LogsKeepWell, SignalsAreEvents, SignalsKeepWell};
+
+/// Whatever signals a node takes, its rows have their places and its locks are orderly, and each
+/// signal does to each key what its event there says, which reads nothing of the other keys but
+/// whether an image is refused. At first each key has its row of the start, and nothing is at work
+/// on it.
+pub fn replicas_are_their_keys()
+    ensures events { SignalsAreEvents }
+    ensures well { SignalsKeepWell }
+    ensures logs { LogsKeepWell }
+    ensures begin { KeysBeginAtRest }
+{}
