@@ -1,0 +1,12 @@
+pub mod Tally
+pub mod SendKinds
+pub mod Focus
+pub mod ApiMoves
+pub mod TcSends
+pub mod DihSends
+pub mod LqhSends
+pub mod Wishes
+pub mod ApiBegins
+pub mod LinkCounts
+pub mod Hosts
+pub mod Begins
