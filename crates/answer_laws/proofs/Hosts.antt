@@ -41,7 +41,7 @@ use Rattle.answer_laws.proofs.DihSends.{dih_kinds}
 use Rattle.answer_laws.proofs.LqhSends.{lqh_kinds}
 use Rattle.answer_laws.proofs.SendKinds.{are_of, each_of, is_dih_kind, is_lqh_kind, is_tc_kind, none_of}
 use Rattle.answer_laws.proofs.Tally.{one_if, tally}
-use Rattle.answer_laws.proofs.TcSends.{tc_kinds}
+use Rattle.answer_laws.proofs.TcSends.{tc_kinds, tx_in}
 use Rattle.answer_laws.specs.Answered.{opened_in}
 use Rattle.answer_laws.proofs.Wishes.{and_false, is_api, is_reply, is_wish, reply_of, sends_of, to_node}
 
@@ -180,7 +180,7 @@ begin_tells s name false = (λ other tx is. ap (λ (t : TxId). t.tc) (sym (the_t
 tc_tells : (s : TcState) (body : Body) → Each (λ (o : Outgoing). TellsNode s.node o.body) (tc_row s body).effects.sends
 unfolding begin_row
 tc_tells s (Client (TcBeginReq name)) = begin_tells s name (is_full s)
-tc_tells s body = not_kind is_tc_kind s.node (λ name tx. refl) (tc_row s body).effects.sends (tc_kinds s body refl)
+tc_tells s body = not_kind (is_tc_kind (tx_in body)) s.node (λ name tx. refl) (tc_row s body).effects.sends (tc_kinds s body refl)
 
 pub node_tells : (n : node.Node) (at : BlockId) (body : Body) → Each (λ (o : Outgoing). TellsNode n.tc.node o.body) (node_row n at body).effects.sends
 unfolding node_row

@@ -10,3 +10,4 @@ pub mod ApiBegins
 pub mod LinkCounts
 pub mod Hosts
 pub mod Begins
+pub mod TcMoves

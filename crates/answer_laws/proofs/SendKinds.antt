@@ -3,6 +3,7 @@ use Rattle.std.proofs.Common.{◌≡◌, ℕ, zero, suc, ◌+◌, cond, arith, L
 use Rattle.std.specs.Prelude.{if◌then◌else◌, map}
 use Rattle.std.specs.List.{flat_map}
 use Rattle.run_theory.specs.Lists.{Each}
+use Rattle.sig_core.specs.declared.member.TxId.{TxId}
 use Rattle.sig_core.specs.declared.outs.Outgoing.{Outgoing}
 use Rattle.sig_core.specs.declared.place.Place.{Place}
 use Rattle.sig_core.specs.declared.signal.Body.{Body}
@@ -12,24 +13,25 @@ use Rattle.sig_core.specs.declared.signal.client.ClientSignal.TheVariants.{TcBeg
 use Rattle.sig_core.specs.declared.signal.epoch.EpochSignal.TheVariants.{DiVerifyReq, DiVerifyConf, DiVerifyEnd}
 use Rattle.sig_core.specs.declared.signal.host.HostSignal.TheVariants.{Continue}
 use Rattle.sig_core.specs.declared.signal.host.Work.TheVariants.{Granted, Expired, Transaction}
+use Rattle.sig_core.specs.Same.{same_tx}
 use Rattle.sig_core.specs.Step.{Step}
 use Rattle.answer_laws.proofs.Tally.{tally}
 
--- what a coordinator sends, but for its answer to the wish for a transaction
-abbrev pub is_tc_kind : Body → Bool
-is_tc_kind (Client (TcKeyConf tx answer)) = true
-is_tc_kind (Client (TcCommitConf tx epoch)) = true
-is_tc_kind (Client (TcRollbackRep tx cause)) = true
-is_tc_kind (Client (TcWaitConf tx ahead)) = true
-is_tc_kind (Client (LqhWaitReq tx key)) = true
-is_tc_kind (Chain (LqhKeyReq tx work chain at)) = true
-is_tc_kind (Chain (Commit tx key epoch chain at)) = true
-is_tc_kind (Chain (Complete tx key chain at)) = true
-is_tc_kind (Chain (Abort tx key)) = true
-is_tc_kind (Epoch (DiVerifyReq tx ops)) = true
-is_tc_kind (Epoch (DiVerifyEnd tx)) = true
-is_tc_kind (Host (Continue (Transaction tx) at)) = true
-is_tc_kind _ = false
+-- what a coordinator sends of a transaction. Of no other one it reports the end
+abbrev pub is_tc_kind : TxId → Body → Bool
+is_tc_kind one (Client (TcKeyConf tx answer)) = true
+is_tc_kind tx (Client (TcCommitConf other epoch)) = same_tx other tx
+is_tc_kind tx (Client (TcRollbackRep other cause)) = same_tx other tx
+is_tc_kind one (Client (TcWaitConf tx ahead)) = true
+is_tc_kind one (Client (LqhWaitReq tx key)) = true
+is_tc_kind one (Chain (LqhKeyReq tx work chain at)) = true
+is_tc_kind one (Chain (Commit tx key epoch chain at)) = true
+is_tc_kind one (Chain (Complete tx key chain at)) = true
+is_tc_kind one (Chain (Abort tx key)) = true
+is_tc_kind one (Epoch (DiVerifyReq tx ops)) = true
+is_tc_kind one (Epoch (DiVerifyEnd tx)) = true
+is_tc_kind one (Host (Continue (Transaction tx) at)) = true
+is_tc_kind one _ = false
 
 -- what the block of epochs sends
 abbrev pub is_dih_kind : Body → Bool

@@ -1,6 +1,7 @@
 -- Wishes for a transaction, and the coordinators' replies to them.
 use Rattle.std.proofs.Common.{◌≡◌, ℕ, ◌+◌, List, Bool, true, false, refl, arith}
 use Rattle.std.specs.Prelude.{◌==◌, ◌&&◌, Option}
+use Rattle.sig_core.specs.declared.member.TxId.{TxId}
 use Rattle.sig_core.specs.declared.outs.Outgoing.{Outgoing}
 use Rattle.sig_core.specs.declared.place.BlockId.{BlockId}
 use Rattle.sig_core.specs.declared.place.BlockId.TheVariants as block
@@ -19,7 +20,7 @@ use Rattle.answer_laws.proofs.DihSends.{dih_kinds}
 use Rattle.answer_laws.proofs.LqhSends.{lqh_kinds}
 use Rattle.answer_laws.proofs.SendKinds.{is_dih_kind, is_lqh_kind, is_tc_kind, none_of}
 use Rattle.answer_laws.proofs.Tally.{one_if, tally}
-use Rattle.answer_laws.proofs.TcSends.{tc_kinds}
+use Rattle.answer_laws.proofs.TcSends.{tc_kinds, tx_in}
 
 abbrev pub is_tc : BlockId → Bool
 is_tc block.Tc = true
@@ -59,10 +60,10 @@ and_false true false e = refl
 and_false false b e = refl
 
 -- neither block sends a reply, nor a wish
-no_reply_tc : (name : Option ℕ) (body : Body) → is_tc_kind body ≡ true → reply_of name body ≡ false
-no_reply_tc name (Client (TcBeginConf other tx)) e = cc
-no_reply_tc name (Client (TcBeginRef other)) e = cc
-no_reply_tc name _ e = refl
+no_reply_tc : (name : Option ℕ) (tx : TxId) (body : Body) → is_tc_kind tx body ≡ true → reply_of name body ≡ false
+no_reply_tc name one (Client (TcBeginConf other tx)) e = cc
+no_reply_tc name one (Client (TcBeginRef other)) e = cc
+no_reply_tc name one _ e = refl
 
 no_reply_dih : (name : Option ℕ) (body : Body) → is_dih_kind body ≡ true → reply_of name body ≡ false
 no_reply_dih name (Client (TcBeginConf other tx)) e = cc
@@ -74,9 +75,9 @@ no_reply_lqh name (Client (TcBeginConf other tx)) e = cc
 no_reply_lqh name (Client (TcBeginRef other)) e = cc
 no_reply_lqh name _ e = refl
 
-no_wish_tc : (name : Option ℕ) (body : Body) → is_tc_kind body ≡ true → wish_of name body ≡ false
-no_wish_tc name (Client (TcBeginReq other)) e = cc
-no_wish_tc name _ e = refl
+no_wish_tc : (name : Option ℕ) (tx : TxId) (body : Body) → is_tc_kind tx body ≡ true → wish_of name body ≡ false
+no_wish_tc name one (Client (TcBeginReq other)) e = cc
+no_wish_tc name one _ e = refl
 
 no_wish_dih : (name : Option ℕ) (body : Body) → is_dih_kind body ≡ true → wish_of name body ≡ false
 no_wish_dih name (Client (TcBeginReq other)) e = cc
@@ -94,7 +95,7 @@ tc_replies : (name : Option ℕ) (s : TcState) (body : Body) → sends_of (to_no
 unfolding begin_row
 tc_replies name s (Client (TcBeginReq other)) = begin_replies name s other (is_full s)
 tc_replies name s body =
-    none_of is_tc_kind (to_node 0 (is_reply name)) (λ to b k. and_false (to.node == 0) (is_api to.block) (no_reply_tc name b k))
+    none_of (is_tc_kind (tx_in body)) (to_node 0 (is_reply name)) (λ to b k. and_false (to.node == 0) (is_api to.block) (no_reply_tc name (tx_in body) b k))
     (tc_row s body).effects.sends (tc_kinds s body refl)
 
 -- a node replies to each wish that it takes, and to nothing else
@@ -126,7 +127,7 @@ tc_wishes : (name : Option ℕ) (j : ℕ) (s : TcState) (body : Body) → sends_
 unfolding begin_row
 tc_wishes name j s (Client (TcBeginReq other)) = begin_wishes name j s other (is_full s)
 tc_wishes name j s body =
-    none_of is_tc_kind (to_node j (is_wish name)) (λ to b k. and_false (to.node == j) (is_tc to.block) (no_wish_tc name b k))
+    none_of (is_tc_kind (tx_in body)) (to_node j (is_wish name)) (λ to b k. and_false (to.node == j) (is_tc to.block) (no_wish_tc name (tx_in body) b k))
     (tc_row s body).effects.sends (tc_kinds s body refl)
 
 -- a node wishes for none

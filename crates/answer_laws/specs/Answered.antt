@@ -1,5 +1,5 @@
 -- What the API's transactions wait for when nothing is under way.
-use Rattle.std.specs.Prelude.{◌≡◌, ◌≤◌, ℕ, false, List, [], Option, None, Some}
+use Rattle.std.specs.Prelude.{◌≡◌, ◌≤◌, ℕ, Bool, true, false, List, [], Option, None, Some}
 use Rattle.api_block.specs.declared.opened.Doing.{Doing}
 use Rattle.api_block.specs.declared.opened.Doing.TheVariants.{Ready, Operating}
 use Rattle.api_block.specs.declared.opened.OpenTransaction.{OpenTransaction}
@@ -13,7 +13,8 @@ use Rattle.run_theory.specs.Lists.{IsIn}
 use Rattle.run_theory.specs.Runs.{AreLogs, IsWithin}
 use Rattle.sig_core.specs.declared.log.LogStep.{LogStep}
 use Rattle.sig_core.specs.declared.member.TxId.{TxId}
-use Rattle.tc_block.specs.declared.phase.Phase.TheVariants.{Open}
+use Rattle.tc_block.specs.declared.phase.Phase.{Phase}
+use Rattle.tc_block.specs.declared.phase.Phase.TheVariants.{Open, Completing}
 use Rattle.tc_block.specs.declared.transaction.Transaction.{Transaction}
 use Rattle.tc_block.specs.State.{TcState}
 use Rattle.world_core.specs.Machine.{after, hosts, machine}
@@ -46,6 +47,21 @@ pub record WaitsForLock (start : Start) (logs : ℕ → List LogStep) (tx : TxId
   pub from : 1 ≤ node
   pub to : node ≤ start.nodes
   pub there : IsQueuedAt tx (after start node (logs node))
+
+-- it was reported committed, and is completed at the replicas
+abbrev pub is_completing : Phase → Bool
+is_completing (Completing epoch awaited) = true
+is_completing _ = false
+
+-- the coordinator has the transaction, whose end it hasn't reported
+pub record IsLive (tx : TxId) (s : TcState) : Type 0 where
+  pub transaction : Transaction
+  pub live : IsIn (tx, transaction) s.live
+  pub unreported : is_completing transaction.phase ≡ false
+
+abbrev pub IsLiveAt : TxId → Host → Type 0
+IsLiveAt tx (Shell s) = ⊥
+IsLiveAt tx (Node n) = IsLive tx n.tc
 
 -- the coordinator has the transaction: it takes operations, and none is unanswered
 pub record IsOpen (tx : TxId) (s : TcState) : Type 0 where
@@ -89,3 +105,10 @@ HasBegun t = is_beginning t.doing ≡ false
 
 abbrev pub NoBeginIsLost : Type 0
 NoBeginIsLost = EachAtQuiet (λ start logs t. HasBegun t)
+
+-- a transaction that has begun, and whose end isn't reported, is one of its coordinator, which hasn't reported it either
+abbrev pub HasCoordinator : Start → (ℕ → List LogStep) → OpenTransaction → Type 0
+HasCoordinator start logs t = (tx : TxId) → t.tx ≡ Some tx → IsLiveAt tx (after start tx.tc (logs tx.tc))
+
+abbrev pub EachHasCoordinator : Type 0
+EachHasCoordinator = EachAtQuiet HasCoordinator
