@@ -45,7 +45,7 @@ pub same_name-self : (a : Option ℕ) → same_name a a ≡ true
 same_name-self None = refl
 same_name-self (Some a) = grind (arith, nat_tests)
 
-first_of : (a b : Bool) → (a && b) ≡ true → a ≡ true
+pub first_of : (a b : Bool) → (a && b) ≡ true → a ≡ true
 first_of true b e = refl
 first_of false b e = e
 
@@ -62,21 +62,21 @@ each_behind P [] ys h = h
 each_behind P (x ∷ xs) ys h = each_behind P xs ys h.1
 
 -- one item becomes another
-each_changed : {A : Type 0} (P : A → Type 0) (front : List A) (x y : A) (back all : List A) → all ≡ front ++ x ∷ back → Each P all → (P x → P y) → Each P (front ++ y ∷ back)
+pub each_changed : {A : Type 0} (P : A → Type 0) (front : List A) (x y : A) (back all : List A) → all ≡ front ++ x ∷ back → Each P all → (P x → P y) → Each P (front ++ y ∷ back)
 each_changed P front x y back all is each go =
     let whole : Each P (front ++ x ∷ back) = subst (Each P) is each in
     let rest : Each P (x ∷ back) = each_behind P front (x ∷ back) whole in
     each_append P front (y ∷ back) (each_before P front (x ∷ back) whole) (go rest.0, rest.1)
 
 -- or is taken out
-each_less : {A : Type 0} (P : A → Type 0) (front : List A) (x : A) (back all : List A) → all ≡ front ++ x ∷ back → Each P all → Each P (front ++ back)
+pub each_less : {A : Type 0} (P : A → Type 0) (front : List A) (x : A) (back all : List A) → all ≡ front ++ x ∷ back → Each P all → Each P (front ++ back)
 each_less P front x back all is each =
     let whole : Each P (front ++ x ∷ back) = subst (Each P) is each in
     let rest : Each P (x ∷ back) = each_behind P front (x ∷ back) whole in
     each_append P front back (each_before P front (x ∷ back) whole) rest.1
 
 -- what stands in the middle
-each_at : {A : Type 0} (P : A → Type 0) (front : List A) (x : A) (back all : List A) → all ≡ front ++ x ∷ back → Each P all → P x
+pub each_at : {A : Type 0} (P : A → Type 0) (front : List A) (x : A) (back all : List A) → all ≡ front ++ x ∷ back → Each P all → P x
 each_at P front x back all is each =
     let rest : Each P (x ∷ back) = each_behind P front (x ∷ back) (subst (Each P) is each) in
     rest.0

@@ -121,7 +121,7 @@ module _ (start : Start) where
       )
 
   -- a reply of a node tells truly
-  node_told : (h j : ℕ) (log : List LogStep) → Each (λ (x : Signal). TellsNode (suc h) x.body) (sent (machine start) (suc h) j log)
+  pub node_told : (h j : ℕ) (log : List LogStep) → Each (λ (x : Signal). TellsNode (suc h) x.body) (sent (machine start) (suc h) j log)
   node_told h j log =
       sent_truths start (λ (x : Signal). TellsNode (suc h) x.body) (suc h) j
       (λ e older. each_map (λ (o : Outgoing). TellsNode (suc h) o.body) (λ (o : Outgoing). (number : ℕ) → TellsNode (suc h) (headed (first_view start.nodes) (suc h) e.stamp number o).body)
@@ -132,7 +132,7 @@ module _ (start : Start) where
       log
 
   -- what was taken from a link is an older part of what was sent
-  given_past : (i j : ℕ) (log : List LogStep) (xs : List Signal) → IsGiven (machine start) i j log xs → IsPast xs (sent (machine start) i j log)
+  pub given_past : (i j : ℕ) (log : List LogStep) (xs : List Signal) → IsGiven (machine start) i j log xs → IsPast xs (sent (machine start) i j log)
   given_past i j log xs (inl past) = past
   given_past i j [] xs (inr closing) = absurd closing
   given_past i j (e ∷ log) xs (inr closing) = absurd (false≢true closing.stops)

@@ -12,7 +12,7 @@ use Rattle.sig_core.specs.declared.place.BlockId.TheVariants as block
 use Rattle.sig_core.specs.declared.signal.Body.{Body}
 use Rattle.sig_core.specs.declared.signal.Body.TheVariants.{Host, Client, Chain, Epoch}
 use Rattle.sig_core.specs.declared.signal.chain.ChainSignal.TheVariants.{LqhKeyConf, LqhKeyRef, Committed, Completed, Aborted}
-use Rattle.sig_core.specs.declared.signal.client.ClientSignal.TheVariants.{TcBeginReq, TcBeginConf, TcBeginRef, TcKeyReq, TcCommitReq, TcRollbackReq, TcWaitReq, LqhWaitConf}
+use Rattle.sig_core.specs.declared.signal.client.ClientSignal.TheVariants.{TcBeginReq, TcBeginConf, TcBeginRef, TcKeyReq, TcCommitConf, TcCommitReq, TcRollbackRep, TcRollbackReq, TcWaitReq, LqhWaitConf}
 use Rattle.sig_core.specs.declared.signal.epoch.EpochSignal.TheVariants.{DiVerifyConf}
 use Rattle.sig_core.specs.declared.signal.host.HostSignal.TheVariants.{Continue}
 use Rattle.sig_core.specs.declared.signal.host.Work.TheVariants as work
@@ -41,6 +41,8 @@ use Rattle.answer_laws.proofs.DihSends.{dih_kinds}
 use Rattle.answer_laws.proofs.LqhSends.{lqh_kinds}
 use Rattle.answer_laws.proofs.SendKinds.{are_of, each_of, is_dih_kind, is_lqh_kind, is_tc_kind, none_of}
 use Rattle.answer_laws.proofs.Tally.{one_if, tally}
+use Rattle.answer_laws.proofs.TcLives.{is_start, start_of}
+use Rattle.answer_laws.proofs.TcMoves.{end_of, is_end}
 use Rattle.answer_laws.proofs.TcSends.{tc_kinds, tx_in}
 use Rattle.answer_laws.specs.Answered.{opened_in}
 use Rattle.answer_laws.proofs.Wishes.{and_false, is_api, is_reply, is_wish, reply_of, sends_of, to_node}
@@ -101,6 +103,45 @@ pub shell_replies : (name : Option ℕ) (j : ℕ) (s : ApiState) (at : BlockId) 
 unfolding shell_row
 shell_replies name j s block.Api body = move_replies name j s body _ _ (api_moves s body)
 shell_replies name j s _ body = refl
+
+no_start_api : (tx : TxId) (body : Body) → is_api_kind body ≡ true → start_of tx body ≡ false
+no_start_api tx (Client (TcBeginConf name other)) e = cc
+no_start_api tx _ e = refl
+
+no_end_api : (tx : TxId) (body : Body) → is_api_kind body ≡ true → end_of tx body ≡ false
+no_end_api tx (Client (TcCommitConf other epoch)) e = cc
+no_end_api tx (Client (TcRollbackRep other cause)) e = cc
+no_end_api tx _ e = refl
+
+no_starts : (tx : TxId) (j : ℕ) (sends : List Outgoing) → are_of is_api_kind sends ≡ true
+    → (sends_of (to_node j (is_start tx)) sends ≡ 0) × (sends_of (to_node j (is_end tx)) sends ≡ 0)
+no_starts tx j sends kind = (
+  none_of is_api_kind (to_node j (is_start tx)) (λ to b k. and_false (to.node == j) (is_api to.block) (no_start_api tx b k)) sends kind,
+  none_of is_api_kind (to_node j (is_end tx)) (λ to b k. and_false (to.node == j) (is_api to.block) (no_end_api tx b k)) sends kind,
+)
+
+move_starts : (tx : TxId) (j : ℕ) (s : ApiState) (body : Body) (after : View × List OpenTransaction) (sends : List Outgoing) → ApiMove s body after sends
+    → (sends_of (to_node j (is_start tx)) sends ≡ 0) × (sends_of (to_node j (is_end tx)) sends ≡ 0)
+move_starts tx j s body after sends (rests is kind void) = no_starts tx j sends kind
+move_starts tx j s body after sends (opens other at op new request is told) = (
+  ap (sends_of (to_node j (is_start tx))) told ∙ none (at == j),
+  ap (sends_of (to_node j (is_end tx))) told ∙ none (at == j),
+)
+  where
+    none : (b : Bool) → one_if (b && false) + 0 ≡ 0
+    none true = refl
+    none false = refl
+move_starts tx j s body after sends (begun_as other one front t u back about passes begun was is kind) = no_starts tx j sends kind
+move_starts tx j s body after sends (goes front t u back go void was is kind) = no_starts tx j sends kind
+move_starts tx j s body after sends (ends one front t back about passes was is kind) = no_starts tx j sends kind
+move_starts tx j s body after sends (refuses other front t back about passes was is kind) = no_starts tx j sends kind
+
+-- nor does it tell that a transaction begins or ends
+pub shell_starts : (tx : TxId) (j : ℕ) (s : ApiState) (at : BlockId) (body : Body)
+    → (sends_of (to_node j (is_start tx)) (shell_row s at body).effects.sends ≡ 0) × (sends_of (to_node j (is_end tx)) (shell_row s at body).effects.sends ≡ 0)
+unfolding shell_row
+shell_starts tx j s block.Api body = move_starts tx j s body _ _ (api_moves s body)
+shell_starts tx j s _ body = (refl, refl)
 
 -- a coordinator stays that of its node
 step_node : (s : TcState) (tx : TxId) (row : Transaction → Step Transaction) → (step_of s tx row).state.node ≡ s.node

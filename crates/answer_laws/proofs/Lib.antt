@@ -11,3 +11,6 @@ pub mod LinkCounts
 pub mod Hosts
 pub mod Begins
 pub mod TcMoves
+pub mod TcLives
+pub mod ApiHolds
+pub mod Lives

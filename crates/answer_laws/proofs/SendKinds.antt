@@ -123,3 +123,13 @@ none_of kind test fails (x ∷ xs) e =
 pub each_of : (kind : Body → Bool) (P : Outgoing → Type 0) → ((x : Outgoing) → kind x.body ≡ true → P x) → (xs : List Outgoing) → are_of kind xs ≡ true → Each P xs
 each_of kind P holds [] e = tt
 each_of kind P holds (x ∷ xs) e = (holds x (the_first (kind x.body) (are_of kind xs) e), each_of kind P holds xs (the_rest (kind x.body) (are_of kind xs) e))
+
+-- signals of a kind are of each kind that includes it
+pub of_kind : (kind other : Body → Bool) → ((body : Body) → kind body ≡ true → other body ≡ true) → (xs : List Outgoing) → are_of kind xs ≡ true → are_of other xs ≡ true
+of_kind kind other holds [] e = refl
+of_kind kind other holds (x ∷ xs) e =
+    one (other x.body) (holds x.body (the_first (kind x.body) (are_of kind xs) e)) (of_kind kind other holds xs (the_rest (kind x.body) (are_of kind xs) e))
+  where
+    one : (b : Bool) {rest : Bool} → b ≡ true → rest ≡ true → (if b then rest else false) ≡ true
+    one true e r = r
+    one false e r = e

@@ -1,7 +1,7 @@
 -- What each row of a coordinator does to its transactions, and which of its signals report the end of one.
-use Rattle.std.proofs.Common.{◌≡◌, ◌⊎◌, ℕ, zero, suc, ◌+◌, ◌<◌, ◌≤◌, List, [], ◌∷◌, ◌++◌, length, map, take, drop, Bool, true, false, cond, refl, ap, sym, ◌∙◌, subst, arith, inl, inr}
-use Rattle.std.specs.Prelude.{◌==◌, ◌&&◌, ◌||◌, nat_eq, nat_lt, not, Option, None, Some, position, remove, slice_get, is_some}
-use Rattle.std.specs.List.{flat_map, prefix_len}
+use Rattle.std.proofs.Common.{◌≡◌, ◌⊎◌, ℕ, suc, ◌+◌, ◌<◌, ◌≤◌, List, [], ◌∷◌, ◌++◌, length, Bool, true, false, cond, refl, ap, sym, ◌∙◌, subst, arith, inl, inr}
+use Rattle.std.specs.Prelude.{◌==◌, ◌&&◌, ◌||◌, nat_eq, nat_lt, not, Option, None, Some, remove, slice_get, is_some}
+use Rattle.std.specs.List.{prefix_len}
 use Rattle.std.specs.Map.{keys_of, values_of}
 use Rattle.std.proofs.Math.Numerals.{one-add}
 use Rattle.std.proofs.lemmas.Bool.{eqb-true, false≢true}
@@ -13,18 +13,24 @@ use Rattle.sig_core.specs.declared.op.Op.{Op}
 use Rattle.sig_core.specs.declared.outcome.AbortCause.{AbortCause}
 use Rattle.sig_core.specs.declared.outcome.AbortCause.TheVariants as cause
 use Rattle.sig_core.specs.declared.outs.Outgoing.{Outgoing}
+use Rattle.sig_core.specs.declared.place.BlockId.{BlockId}
+use Rattle.sig_core.specs.declared.place.BlockId.TheVariants as block
 use Rattle.sig_core.specs.declared.place.Place.{Place}
 use Rattle.sig_core.specs.declared.signal.Body.{Body}
 use Rattle.sig_core.specs.declared.signal.Body.TheVariants.{Host, Client, Chain, Epoch}
 use Rattle.sig_core.specs.declared.signal.chain.ChainSignal.TheVariants.{LqhKeyConf, LqhKeyRef, Committed, Completed, Aborted}
-use Rattle.sig_core.specs.declared.signal.client.ClientSignal.TheVariants.{TcBeginReq, TcBeginConf, TcBeginRef, TcKeyReq, TcCommitReq, TcCommitConf, TcRollbackReq, TcRollbackRep, TcWaitReq, TcWaitConf, LqhWaitConf}
+use Rattle.sig_core.specs.declared.signal.client.ClientSignal.TheVariants.{TcBeginReq, TcBeginConf, TcKeyReq, TcCommitReq, TcCommitConf, TcRollbackReq, TcRollbackRep, TcWaitReq, LqhWaitConf}
 use Rattle.sig_core.specs.declared.signal.epoch.EpochSignal.TheVariants.{DiVerifyConf}
 use Rattle.sig_core.specs.declared.signal.host.HostSignal.TheVariants.{Continue}
 use Rattle.sig_core.specs.declared.signal.host.Work.TheVariants as work
 use Rattle.sig_core.specs.declared.view.View.{View}
 use Rattle.sig_core.specs.Place.{client}
 use Rattle.sig_core.specs.Same.{same_tx}
-use Rattle.sig_core.specs.Step.{Step, stay, to_place}
+use Rattle.sig_core.specs.Step.{Step, to_place}
+use Rattle.lqh_block.specs.Lqh.{lqh_row}
+use Rattle.node_core.specs.declared.node.Node as node
+use Rattle.node_core.specs.Dih.{dih_row}
+use Rattle.node_core.specs.Row.{node_row}
 use Rattle.tc_block.specs.declared.phase.Asked.{Asked}
 use Rattle.tc_block.specs.declared.phase.Phase.{Phase}
 use Rattle.tc_block.specs.declared.phase.Phase.TheVariants.{Open, Verifying, Committing, Completing, Aborting}
@@ -39,8 +45,10 @@ use Rattle.tc_block.specs.Sends.{entering, front_sends, go_on_if, go_on_row, pha
 use Rattle.tc_block.specs.State.{TcState, with_live}
 use Rattle.tc_block.specs.Tc.{begin_if, begin_row, begun, is_full, next_tx, pass_if, pass_row, tc_row}
 use Rattle.tc_block.specs.Turn.{Turn, asking, going}
-use Rattle.answer_laws.proofs.SendKinds.{SendsOnly, are_of, is_begin_wish, is_tc_kind}
-use Rattle.answer_laws.proofs.Tally.{one_if, tally}
+use Rattle.answer_laws.proofs.DihSends.{dih_kinds}
+use Rattle.answer_laws.proofs.LqhSends.{lqh_kinds}
+use Rattle.answer_laws.proofs.SendKinds.{SendsOnly, are_of, is_dih_kind, is_lqh_kind, is_tc_kind, of_kind}
+use Rattle.answer_laws.proofs.Tally.{one_if}
 use Rattle.answer_laws.proofs.TcSends.{TurnSends, aborted_kinds, answer_kinds, commit_kinds, committed_kinds, completed_kinds, decide_kinds, go_on_kinds, operate_kinds, refuse_kinds, rollback_kinds, same_tx-self, wait_kinds}
 use Rattle.answer_laws.proofs.Wishes.{is_api, sends_of, to_node}
 use Rattle.answer_laws.specs.Answered.{is_completing}
@@ -259,11 +267,12 @@ found p (e ∷ live) low = go (p e.0) refl low (found p live)
     go true same low rest = record { key = e.0; value = e.1; front = []; back = live; is = refl; passes = same; get = refl; set = λ other. refl; removed = refl }
     go false same low rest = subst (λ k. IsEntry p (e ∷ live) k) (sym (one-add n)) (behind p e live n (rest (omega (arith, low))))
 
--- what a coordinator sends that is about no transaction of its own
+-- what tells neither that a transaction has begun nor of its end
 abbrev pub is_still_kind : Body → Bool
-is_still_kind (Client (TcBeginRef name)) = true
-is_still_kind (Client (TcWaitConf tx ahead)) = true
-is_still_kind _ = false
+is_still_kind (Client (TcBeginConf name tx)) = false
+is_still_kind (Client (TcCommitConf tx epoch)) = false
+is_still_kind (Client (TcRollbackRep tx cause)) = false
+is_still_kind _ = true
 
 -- what a step of a coordinator from s does to its transactions, and sends
 pub data TcMove (s : TcState) (after : TcState) (sends : List Outgoing) : Type 0 where
@@ -344,3 +353,23 @@ tc_moves s (Chain (Completed tx key)) = turn_moves s tx _ (λ t. completed_kinds
 tc_moves s (Chain (Aborted tx key)) = turn_moves s tx _ (λ t. aborted_kinds s.node tx t) (λ t. aborted_told s.node tx t)
 tc_moves s (Epoch (DiVerifyConf tx epoch)) = turn_moves s tx _ (λ t. commit_kinds s.node s.view tx t epoch) (λ t. commit_told s.node s.view tx t epoch)
 tc_moves s _ = stays refl refl
+
+still_dih : (body : Body) → is_dih_kind body ≡ true → is_still_kind body ≡ true
+still_dih (Client (TcBeginConf name tx)) e = cc
+still_dih (Client (TcCommitConf tx epoch)) e = cc
+still_dih (Client (TcRollbackRep tx cause)) e = cc
+still_dih _ e = refl
+
+still_lqh : (body : Body) → is_lqh_kind body ≡ true → is_still_kind body ≡ true
+still_lqh (Client (TcBeginConf name tx)) e = cc
+still_lqh (Client (TcCommitConf tx epoch)) e = cc
+still_lqh (Client (TcRollbackRep tx cause)) e = cc
+still_lqh _ e = refl
+
+-- every step of a node is such a move of its coordinator
+pub node_moves : (n : node.Node) (at : BlockId) (body : Body) → TcMove n.tc (node_row n at body).state.tc (node_row n at body).effects.sends
+unfolding node_row
+node_moves n block.Tc body = tc_moves n.tc body
+node_moves n block.Dih body = stays refl (of_kind is_dih_kind is_still_kind still_dih (dih_row n.dih body).effects.sends (dih_kinds n.dih body))
+node_moves n block.Lqh body = stays refl (of_kind is_lqh_kind is_still_kind still_lqh (lqh_row n.lqh body).effects.sends (lqh_kinds n.lqh body))
+node_moves n _ body = stays refl refl
