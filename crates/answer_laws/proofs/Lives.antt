@@ -37,7 +37,7 @@ use Rattle.answer_laws.proofs.Wishes.{is_api, sends_of, to_node}
 use Rattle.answer_laws.specs.Answered.{AreQuiet, EachHasCoordinator, IsLiveAt, is_completing, opened_after, opened_in}
 
 -- in a list of signals, the newest first, what has ended has begun before
-abbrev AreOrdered : TxId → List Signal → Type 0
+abbrev pub AreOrdered : TxId → List Signal → Type 0
 AreOrdered tx [] = Unit {0}
 AreOrdered tx (x ∷ xs) = (is_end tx x.to x.body ≡ true → 1 ≤ signals (is_start tx) xs) × AreOrdered tx xs
 
@@ -81,11 +81,11 @@ start_home tx h _ tells e = cc
 
 module _ (start : Start) (tx : TxId) where
   -- a node after a log, with what is so of the transaction there
-  record NodeKeeps (h : ℕ) (log : List LogStep) : Type 0 where
-    state : node.Node
-    is : after start (suc h) log ≡ Node state
-    keeps : IsKept tx state.tc (signals (is_start tx) (sent (machine start) (suc h) 0 log)) (signals (is_end tx) (sent (machine start) (suc h) 0 log))
-    ordered : AreOrdered tx (sent (machine start) (suc h) 0 log)
+  pub record NodeKeeps (h : ℕ) (log : List LogStep) : Type 0 where
+    pub state : node.Node
+    pub is : after start (suc h) log ≡ Node state
+    pub keeps : IsKept tx state.tc (signals (is_start tx) (sent (machine start) (suc h) 0 log)) (signals (is_end tx) (sent (machine start) (suc h) 0 log))
+    pub ordered : AreOrdered tx (sent (machine start) (suc h) 0 log)
 
   put_ordered : (view : View) (h stamp : ℕ) (count : ℕ → ℕ) (sends : List Outgoing) (before : List Signal) → AreOrdered tx before
       → (1 ≤ ends_in tx sends → 1 ≤ signals (is_start tx) before) → AreOrdered tx (put (machine start) 0 (all_headed view h stamp count sends) before)
@@ -107,12 +107,12 @@ module _ (start : Start) (tx : TxId) where
       later true some = omega (arith, due (omega (arith, some)))
       later false some = due (omega (arith, some))
 
-  keeps : (h : ℕ) (log : List LogStep) → NodeKeeps h log
+  pub keeps : (h : ℕ) (log : List LogStep) → NodeKeeps h log
   unfolding fresh_node begun_node row
   keeps h [] = record {
     state = begun_node (h + 1) (first_view start.nodes) start.epoch start.rows;
     is = refl;
-    keeps = record { began = λ e. e; order = λ e. e; kept = λ e. e; told = λ e. e; once = omega arith; unborn = λ e. refl; own = tt };
+    keeps = record { began = omega arith; order = λ e. e; kept = λ e. e; told = λ e. e; once = omega arith; unborn = λ e. refl; own = tt };
     ordered = tt;
   }
   keeps h (e ∷ log) = next (keeps h log)

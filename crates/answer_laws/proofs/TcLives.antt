@@ -47,7 +47,7 @@ pub record IsOwn (node next_seq : ℕ) (tx : TxId) : Type 0 where
 
 -- what is so of a transaction at a coordinator that has told so often that it has begun and ended
 pub record IsKept (tx : TxId) (s : TcState) (begun ended : ℕ) : Type 0 where
-  pub began : 1 ≤ tally (is_keyed tx) s.live → 1 ≤ begun
+  pub began : tally (is_keyed tx) s.live ≤ begun
   pub order : 1 ≤ ended → 1 ≤ begun
   pub kept : 1 ≤ begun → 1 ≤ tally (is_keyed tx) s.live + ended
   pub told : 1 ≤ tally (is_done tx) s.live → 1 ≤ ended
@@ -102,7 +102,7 @@ insert_new (e ∷ live) tx t early = go (same_tx tx e.0) refl (insert_new live t
 -- the same, where nothing was told
 kept_same : (tx : TxId) (s : TcState) (b e x y : ℕ) → x ≡ 0 → y ≡ 0 → IsKept tx s b e → IsKept tx s (x + b) (y + e)
 kept_same tx s b e x y p q k = record {
-  began = λ h. omega (arith, k.began h, p);
+  began = omega (arith, k.began, p);
   order = λ h. omega (arith, k.order (omega (arith, h, q)), p);
   kept = λ h. omega (arith, k.kept (omega (arith, h, p)), q);
   told = λ h. omega (arith, k.told h, q);
@@ -132,7 +132,7 @@ kept_start tx s b e k = go (same_tx (next_tx s) tx) refl
         let seq : s.next_seq ≡ tx.seq = ap (λ (x : TxId). x.seq) (same_tx-is (next_tx s) tx same) in
         let zero_b : b ≡ 0 = k.unborn (omega (arith, seq)) in
         record {
-          began = λ h. omega (arith, ap one_if same);
+          began = omega (arith, k.began, keyed);
           order = λ h. omega (arith, ap one_if same);
           kept = λ h. omega (arith, keyed, ap one_if same);
           told = λ h. k.told (omega (arith, h, done));
@@ -144,7 +144,7 @@ kept_start tx s b e k = go (same_tx (next_tx s) tx) refl
         }
     go false same =
         record {
-          began = λ h. omega (arith, k.began (omega (arith, h, keyed, ap one_if same)));
+          began = omega (arith, k.began, keyed);
           order = λ h. omega (arith, k.order h);
           kept = λ h. omega (arith, k.kept (omega (arith, h, ap one_if same)), keyed);
           told = λ h. k.told (omega (arith, h, done));
@@ -157,11 +157,11 @@ kept_start tx s b e k = go (same_tx (next_tx s) tx) refl
 
 -- transactions of which so many stand there, and so many complete, after so many reports of its end
 kept_live : (tx : TxId) (s : TcState) (live : List (TxId × Transaction)) (b e x y : ℕ) → IsKept tx s b e → x ≡ 0
-    → (1 ≤ tally (is_keyed tx) live → 1 ≤ tally (is_keyed tx) s.live) → (1 ≤ y → 1 ≤ tally (is_keyed tx) s.live)
+    → tally (is_keyed tx) live ≤ tally (is_keyed tx) s.live → (1 ≤ y → 1 ≤ tally (is_keyed tx) s.live)
     → (1 ≤ tally (is_keyed tx) s.live → 1 ≤ tally (is_keyed tx) live + (y + e)) → (1 ≤ tally (is_done tx) live → 1 ≤ y + e) → Each (λ (z : TxId × Transaction). IsOwn s.node s.next_seq z.0) live
     → IsKept tx (record { node = s.node; start = s.start; next_seq = s.next_seq; view = s.view; live = live }) (x + b) (y + e)
 kept_live tx s live b e x y k p fewer due left told own = record {
-  began = λ h. omega (arith, k.began (fewer h), p);
+  began = omega (arith, k.began, fewer, p);
   order = λ h. omega (arith, which h, p);
   kept = λ h. stays_some (omega (arith, h, p));
   told = told;
@@ -177,7 +177,7 @@ kept_live tx s live b e x y k p fewer due left told own = record {
     which h = by (some y e h)
       where
         by : (1 ≤ y) ⊎ (1 ≤ e) → 1 ≤ b
-        by (inl d) = k.began (due d)
+        by (inl d) = omega (arith, k.began, due d)
         by (inr d) = k.order d
 
     stays_some : 1 ≤ b → 1 ≤ tally (is_keyed tx) live + (y + e)
@@ -193,7 +193,7 @@ kept_turn : (tx one : TxId) (s : TcState) (t u : Transaction) (front back : List
     → IsKept tx (record { node = s.node; start = s.start; next_seq = s.next_seq; view = s.view; live = front ++ (one, u) ∷ back }) (starts_in tx sends + b) (ends_in tx sends + e)
 kept_turn tx one s t u front back sends b e k is kind told =
     kept_live tx s (front ++ (one, u) ∷ back) b e (starts_in tx sends) (ends_in tx sends) k (no_starts tx one sends kind)
-    (λ h. omega (arith, h, keyed)) (due (same_tx one tx) refl) (λ h. omega (arith, h, keyed)) (done (same_tx one tx) refl)
+    (omega (arith, keyed)) (due (same_tx one tx) refl) (λ h. omega (arith, h, keyed)) (done (same_tx one tx) refl)
     (each_changed (λ (x : TxId × Transaction). IsOwn s.node s.next_seq x.0) front (one, t) (one, u) back s.live is k.own (λ o. o))
   where
     keyed : tally (is_keyed tx) (front ++ (one, u) ∷ back) ≡ tally (is_keyed tx) s.live
@@ -237,7 +237,7 @@ kept_forget : (tx one : TxId) (s : TcState) (t : Transaction) (front back : List
     → IsKept tx (record { node = s.node; start = s.start; next_seq = s.next_seq; view = s.view; live = front ++ back }) (starts_in tx sends + b) (ends_in tx sends + e)
 kept_forget tx one s t front back sends b e k is kind told =
     kept_live tx s (front ++ back) b e (starts_in tx sends) (ends_in tx sends) k (no_starts tx one sends kind)
-    (λ h. omega (arith, h, keyed)) (due (same_tx one tx) refl) (left (same_tx one tx) refl)
+    (omega (arith, keyed)) (due (same_tx one tx) refl) (left (same_tx one tx) refl)
     (λ h. let before : 1 ≤ tally (is_done tx) s.live = omega (arith, h, done_old) in omega (arith, k.told before))
     (each_less (λ (x : TxId × Transaction). IsOwn s.node s.next_seq x.0) front (one, t) back s.live is k.own)
   where
@@ -294,10 +294,10 @@ due_move tx s after sends b e (starts name is told) k some = absurd (omega (arit
 due_move tx s after sends b e (turns one t u front back is now kind told) k some = go (same_tx one tx) refl
   where
     go : (m : Bool) → same_tx one tx ≡ m → 1 ≤ b
-    go true same = k.began (omega (arith, tally_between (is_keyed tx) front (one, t) back s.live is, ap one_if same))
+    go true same = omega (arith, k.began, tally_between (is_keyed tx) front (one, t) back s.live is, ap one_if same)
     go false same = absurd (omega (arith, some, no_ends_other tx one sends same kind))
 due_move tx s after sends b e (forgets one t front back is now kind told) k some = go (same_tx one tx) refl
   where
     go : (m : Bool) → same_tx one tx ≡ m → 1 ≤ b
-    go true same = k.began (omega (arith, tally_between (is_keyed tx) front (one, t) back s.live is, ap one_if same))
+    go true same = omega (arith, k.began, tally_between (is_keyed tx) front (one, t) back s.live is, ap one_if same)
     go false same = absurd (omega (arith, some, no_ends_other tx one sends same kind))
