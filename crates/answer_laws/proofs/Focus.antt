@@ -31,7 +31,7 @@ behind p x xs at f = record {
   removed = ap (λ ys. x ∷ ys) f.removed;
 }
 
-found : {A : Type 0} (p : A → Bool) (xs : List A) → prefix_len (λ x. not (p x)) xs < length xs → IsFocus p xs (prefix_len (λ x. not (p x)) xs)
+pub found : {A : Type 0} (p : A → Bool) (xs : List A) → prefix_len (λ x. not (p x)) xs < length xs → IsFocus p xs (prefix_len (λ x. not (p x)) xs)
 found p [] low = absurd (omega (arith, low))
 found {A} p (x ∷ xs) low = go (p x) refl low (found p xs)
   where

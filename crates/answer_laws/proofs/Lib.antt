@@ -14,3 +14,6 @@ pub mod TcMoves
 pub mod TcLives
 pub mod ApiHolds
 pub mod Lives
+pub mod Totals
+pub mod LqhOps
+pub mod TcOps

@@ -231,16 +231,16 @@ aborted_told node tx t = by t.phase
     by (Completing epoch awaited) e = inl e
 
 -- at this place of a list of transactions is one whose number passes a test
-record IsEntry (p : TxId → Bool) (live : List (TxId × Transaction)) (at : ℕ) : Type 0 where
-  key : TxId
-  value : Transaction
-  front : List (TxId × Transaction)
-  back : List (TxId × Transaction)
-  is : live ≡ front ++ (key, value) ∷ back
-  passes : p key ≡ true
-  get : slice_get (values_of live) at ≡ Some value
-  set : (other : Transaction) → set_value_at live at other ≡ front ++ (key, other) ∷ back
-  removed : remove live at ≡ front ++ back
+pub record IsEntry (p : TxId → Bool) (live : List (TxId × Transaction)) (at : ℕ) : Type 0 where
+  pub key : TxId
+  pub value : Transaction
+  pub front : List (TxId × Transaction)
+  pub back : List (TxId × Transaction)
+  pub is : live ≡ front ++ (key, value) ∷ back
+  pub passes : p key ≡ true
+  pub get : slice_get (values_of live) at ≡ Some value
+  pub set : (other : Transaction) → set_value_at live at other ≡ front ++ (key, other) ∷ back
+  pub removed : remove live at ≡ front ++ back
 
 behind : (p : TxId → Bool) (e : TxId × Transaction) (live : List (TxId × Transaction)) (at : ℕ) → IsEntry p live at → IsEntry p (e ∷ live) (suc at)
 behind p e live at f = record {
@@ -255,7 +255,7 @@ behind p e live at f = record {
   removed = ap (λ es. e ∷ es) f.removed;
 }
 
-found : (p : TxId → Bool) (live : List (TxId × Transaction)) → prefix_len (λ x. not (p x)) (keys_of live) < length (keys_of live)
+pub found : (p : TxId → Bool) (live : List (TxId × Transaction)) → prefix_len (λ x. not (p x)) (keys_of live) < length (keys_of live)
     → IsEntry p live (prefix_len (λ x. not (p x)) (keys_of live))
 found p [] low = absurd (omega (arith, low))
 found p (e ∷ live) low = go (p e.0) refl low (found p live)
@@ -286,7 +286,7 @@ pub data TcMove (s : TcState) (after : TcState) (sends : List Outgoing) : Type 0
 abbrev pub Moves : TcState → Step TcState → Type 0
 Moves s step = TcMove s step.state step.effects.sends
 
-named : (tx key : TxId) (front : List (TxId × Transaction)) (t : Transaction) (back all : List (TxId × Transaction)) → same_tx tx key ≡ true → all ≡ front ++ (key, t) ∷ back → all ≡ front ++ (tx, t) ∷ back
+pub named : (tx key : TxId) (front : List (TxId × Transaction)) (t : Transaction) (back all : List (TxId × Transaction)) → same_tx tx key ≡ true → all ≡ front ++ (key, t) ∷ back → all ≡ front ++ (tx, t) ∷ back
 named tx key front t back all same is = subst (λ k. all ≡ front ++ (k, t) ∷ back) (sym (same_tx-is tx key same)) is
 
 step_moves : (s : TcState) (tx : TxId) (row : Transaction → Step Transaction) → ((t : Transaction) → SendsOnly (is_tc_kind tx) (row t)) → ((t : Transaction) → IsTold tx t (going (row t))) → Moves s (step_of s tx row)
