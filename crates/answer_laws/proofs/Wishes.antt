@@ -1,0 +1,143 @@
+-- Wishes for a transaction, and the coordinators' replies to them.
+use Rattle.std.proofs.Common.{◌≡◌, ℕ, ◌+◌, List, Bool, true, false, refl, arith}
+use Rattle.std.specs.Prelude.{◌==◌, ◌&&◌, Option}
+use Rattle.sig_core.specs.declared.member.TxId.{TxId}
+use Rattle.sig_core.specs.declared.outs.Outgoing.{Outgoing}
+use Rattle.sig_core.specs.declared.place.BlockId.{BlockId}
+use Rattle.sig_core.specs.declared.place.BlockId.TheVariants as block
+use Rattle.sig_core.specs.declared.place.Place.{Place}
+use Rattle.sig_core.specs.declared.signal.Body.{Body}
+use Rattle.sig_core.specs.declared.signal.Body.TheVariants.{Client}
+use Rattle.sig_core.specs.declared.signal.client.ClientSignal.TheVariants.{TcBeginReq, TcBeginConf, TcBeginRef}
+use Rattle.api_block.specs.Opened.{same_name}
+use Rattle.node_core.specs.declared.node.Node as node
+use Rattle.node_core.specs.Dih.{dih_row}
+use Rattle.node_core.specs.Row.{node_row}
+use Rattle.lqh_block.specs.Lqh.{lqh_row}
+use Rattle.tc_block.specs.State.{TcState}
+use Rattle.tc_block.specs.Tc.{begin_if, begin_row, is_full, tc_row}
+use Rattle.answer_laws.proofs.DihSends.{dih_kinds}
+use Rattle.answer_laws.proofs.LqhSends.{lqh_kinds}
+use Rattle.answer_laws.proofs.SendKinds.{is_dih_kind, is_lqh_kind, is_tc_kind, none_of}
+use Rattle.answer_laws.proofs.Tally.{one_if, tally}
+use Rattle.answer_laws.proofs.TcSends.{tc_kinds, tx_in}
+
+abbrev pub is_tc : BlockId → Bool
+is_tc block.Tc = true
+is_tc _ = false
+
+abbrev pub is_api : BlockId → Bool
+is_api block.Api = true
+is_api _ = false
+
+-- the wish for a transaction of this name
+abbrev pub wish_of : Option ℕ → Body → Bool
+wish_of name (Client (TcBeginReq other)) = same_name other name
+wish_of name _ = false
+
+abbrev pub is_wish : Option ℕ → Place → Body → Bool
+is_wish name to body = is_tc to.block && wish_of name body
+
+-- the reply to such a wish
+abbrev pub reply_of : Option ℕ → Body → Bool
+reply_of name (Client (TcBeginConf other tx)) = same_name other name
+reply_of name (Client (TcBeginRef other)) = same_name other name
+reply_of name _ = false
+
+abbrev pub is_reply : Option ℕ → Place → Body → Bool
+is_reply name to body = is_api to.block && reply_of name body
+
+-- what is for a node and passes a test
+abbrev pub to_node : ℕ → (Place → Body → Bool) → Place → Body → Bool
+to_node node test to body = (to.node == node) && test to body
+
+abbrev pub sends_of : (Place → Body → Bool) → List Outgoing → ℕ
+sends_of test sends = tally (λ (x : Outgoing). test x.to x.body) sends
+
+pub and_false : (a b : Bool) {c : Bool} → c ≡ false → (a && (b && c)) ≡ false
+and_false true true e = e
+and_false true false e = refl
+and_false false b e = refl
+
+-- neither block sends a reply, nor a wish
+no_reply_tc : (name : Option ℕ) (tx : TxId) (body : Body) → is_tc_kind tx body ≡ true → reply_of name body ≡ false
+no_reply_tc name one (Client (TcBeginConf other tx)) e = cc
+no_reply_tc name one (Client (TcBeginRef other)) e = cc
+no_reply_tc name one _ e = refl
+
+no_reply_dih : (name : Option ℕ) (body : Body) → is_dih_kind body ≡ true → reply_of name body ≡ false
+no_reply_dih name (Client (TcBeginConf other tx)) e = cc
+no_reply_dih name (Client (TcBeginRef other)) e = cc
+no_reply_dih name _ e = refl
+
+no_reply_lqh : (name : Option ℕ) (body : Body) → is_lqh_kind body ≡ true → reply_of name body ≡ false
+no_reply_lqh name (Client (TcBeginConf other tx)) e = cc
+no_reply_lqh name (Client (TcBeginRef other)) e = cc
+no_reply_lqh name _ e = refl
+
+no_wish_tc : (name : Option ℕ) (tx : TxId) (body : Body) → is_tc_kind tx body ≡ true → wish_of name body ≡ false
+no_wish_tc name one (Client (TcBeginReq other)) e = cc
+no_wish_tc name one _ e = refl
+
+no_wish_dih : (name : Option ℕ) (body : Body) → is_dih_kind body ≡ true → wish_of name body ≡ false
+no_wish_dih name (Client (TcBeginReq other)) e = cc
+no_wish_dih name _ e = refl
+
+no_wish_lqh : (name : Option ℕ) (body : Body) → is_lqh_kind body ≡ true → wish_of name body ≡ false
+no_wish_lqh name (Client (TcBeginReq other)) e = cc
+no_wish_lqh name _ e = refl
+
+begin_replies : (name : Option ℕ) (s : TcState) (other : Option ℕ) (b : Bool) → sends_of (to_node 0 (is_reply name)) (begin_if s other b).effects.sends ≡ one_if (same_name other name)
+begin_replies name s other true = omega arith
+begin_replies name s other false = omega arith
+
+tc_replies : (name : Option ℕ) (s : TcState) (body : Body) → sends_of (to_node 0 (is_reply name)) (tc_row s body).effects.sends ≡ one_if (wish_of name body)
+unfolding begin_row
+tc_replies name s (Client (TcBeginReq other)) = begin_replies name s other (is_full s)
+tc_replies name s body =
+    none_of (is_tc_kind (tx_in body)) (to_node 0 (is_reply name)) (λ to b k. and_false (to.node == 0) (is_api to.block) (no_reply_tc name (tx_in body) b k))
+    (tc_row s body).effects.sends (tc_kinds s body refl)
+
+-- a node replies to each wish that it takes, and to nothing else
+pub node_replies : (name : Option ℕ) (n : node.Node) (at : BlockId) (body : Body)
+    → sends_of (to_node 0 (is_reply name)) (node_row n at body).effects.sends ≡ one_if (is_tc at && wish_of name body)
+unfolding node_row
+node_replies name n block.Tc body = tc_replies name n.tc body
+node_replies name n block.Dih body =
+    none_of is_dih_kind (to_node 0 (is_reply name)) (λ to b k. and_false (to.node == 0) (is_api to.block) (no_reply_dih name b k))
+    (dih_row n.dih body).effects.sends (dih_kinds n.dih body)
+node_replies name n block.Lqh body =
+    none_of is_lqh_kind (to_node 0 (is_reply name)) (λ to b k. and_false (to.node == 0) (is_api to.block) (no_reply_lqh name b k))
+    (lqh_row n.lqh body).effects.sends (lqh_kinds n.lqh body)
+node_replies name n _ body = refl
+
+begin_wishes : (name : Option ℕ) (j : ℕ) (s : TcState) (other : Option ℕ) (b : Bool) → sends_of (to_node j (is_wish name)) (begin_if s other b).effects.sends ≡ 0
+begin_wishes name j s other true = none_at (0 == j)
+  where
+    none_at : (b : Bool) → one_if (b && false) + 0 ≡ 0
+    none_at true = refl
+    none_at false = refl
+begin_wishes name j s other false = none_at (0 == j)
+  where
+    none_at : (b : Bool) → one_if (b && false) + 0 ≡ 0
+    none_at true = refl
+    none_at false = refl
+
+tc_wishes : (name : Option ℕ) (j : ℕ) (s : TcState) (body : Body) → sends_of (to_node j (is_wish name)) (tc_row s body).effects.sends ≡ 0
+unfolding begin_row
+tc_wishes name j s (Client (TcBeginReq other)) = begin_wishes name j s other (is_full s)
+tc_wishes name j s body =
+    none_of (is_tc_kind (tx_in body)) (to_node j (is_wish name)) (λ to b k. and_false (to.node == j) (is_tc to.block) (no_wish_tc name (tx_in body) b k))
+    (tc_row s body).effects.sends (tc_kinds s body refl)
+
+-- a node wishes for none
+pub node_wishes : (name : Option ℕ) (j : ℕ) (n : node.Node) (at : BlockId) (body : Body) → sends_of (to_node j (is_wish name)) (node_row n at body).effects.sends ≡ 0
+unfolding node_row
+node_wishes name j n block.Tc body = tc_wishes name j n.tc body
+node_wishes name j n block.Dih body =
+    none_of is_dih_kind (to_node j (is_wish name)) (λ to b k. and_false (to.node == j) (is_tc to.block) (no_wish_dih name b k))
+    (dih_row n.dih body).effects.sends (dih_kinds n.dih body)
+node_wishes name j n block.Lqh body =
+    none_of is_lqh_kind (to_node j (is_wish name)) (λ to b k. and_false (to.node == j) (is_tc to.block) (no_wish_lqh name b k))
+    (lqh_row n.lqh body).effects.sends (lqh_kinds n.lqh body)
+node_wishes name j n _ body = refl

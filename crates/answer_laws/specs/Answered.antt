@@ -1,0 +1,114 @@
+-- What the API's transactions wait for when nothing is under way.
+use Rattle.std.specs.Prelude.{◌≡◌, ◌≤◌, ℕ, Bool, true, false, List, [], Option, None, Some}
+use Rattle.api_block.specs.declared.opened.Doing.{Doing}
+use Rattle.api_block.specs.declared.opened.Doing.TheVariants.{Ready, Operating}
+use Rattle.api_block.specs.declared.opened.OpenTransaction.{OpenTransaction}
+use Rattle.api_block.specs.Opened.{is_beginning}
+use Rattle.lqh_block.specs.declared.request.Request.{Request}
+use Rattle.lqh_block.specs.Operate.{is_granted}
+use Rattle.lqh_block.specs.State.{LqhState}
+use Rattle.node_core.specs.declared.host.Host.{Host}
+use Rattle.node_core.specs.declared.host.Host.TheVariants.{Shell, Node}
+use Rattle.run_theory.specs.Lists.{IsIn}
+use Rattle.run_theory.specs.Runs.{AreLogs, IsWithin}
+use Rattle.sig_core.specs.declared.log.LogStep.{LogStep}
+use Rattle.sig_core.specs.declared.member.TxId.{TxId}
+use Rattle.tc_block.specs.declared.phase.Phase.{Phase}
+use Rattle.tc_block.specs.declared.phase.Phase.TheVariants.{Open, Completing}
+use Rattle.tc_block.specs.declared.transaction.Transaction.{Transaction}
+use Rattle.tc_block.specs.State.{TcState}
+use Rattle.world_core.specs.Machine.{after, hosts, machine}
+use Rattle.world_core.specs.Quiet.{IsQuiet}
+use Rattle.world_core.specs.Start.{Start}
+
+-- the transactions that a host's API was asked for and whose end isn't reported; a node has none
+abbrev pub opened_in : Host → List OpenTransaction
+opened_in (Shell s) = s.opened
+opened_in (Node n) = []
+
+-- those of these logs
+abbrev pub opened_after : Start → (ℕ → List LogStep) → List OpenTransaction
+opened_after start logs = opened_in (after start 0 (logs 0))
+
+-- a request of the transaction waits here in the queue of its key
+pub record IsQueued (tx : TxId) (s : LqhState) : Type 0 where
+  pub request : Request
+  pub waits : IsIn request s.waiting
+  pub own : request.tx ≡ tx
+  pub queued : is_granted s.locks request ≡ false
+
+abbrev pub IsQueuedAt : TxId → Host → Type 0
+IsQueuedAt tx (Shell s) = ⊥
+IsQueuedAt tx (Node n) = IsQueued tx n.lqh
+
+-- and so at a node
+pub record WaitsForLock (start : Start) (logs : ℕ → List LogStep) (tx : TxId) : Type 0 where
+  pub node : ℕ
+  pub from : 1 ≤ node
+  pub to : node ≤ start.nodes
+  pub there : IsQueuedAt tx (after start node (logs node))
+
+-- it was reported committed, and is completed at the replicas
+abbrev pub is_completing : Phase → Bool
+is_completing (Completing epoch awaited) = true
+is_completing _ = false
+
+-- the coordinator has the transaction, whose end it hasn't reported
+pub record IsLive (tx : TxId) (s : TcState) : Type 0 where
+  pub transaction : Transaction
+  pub live : IsIn (tx, transaction) s.live
+  pub unreported : is_completing transaction.phase ≡ false
+
+abbrev pub IsLiveAt : TxId → Host → Type 0
+IsLiveAt tx (Shell s) = ⊥
+IsLiveAt tx (Node n) = IsLive tx n.tc
+
+-- the coordinator has the transaction: it takes operations, and none is unanswered
+pub record IsOpen (tx : TxId) (s : TcState) : Type 0 where
+  pub transaction : Transaction
+  pub live : IsIn (tx, transaction) s.live
+  pub phase : transaction.phase ≡ Open
+  pub asked : transaction.asked ≡ None
+
+abbrev pub IsOpenAt : TxId → Host → Type 0
+IsOpenAt tx (Shell s) = ⊥
+IsOpenAt tx (Node n) = IsOpen tx n.tc
+
+-- what may be left unanswered when nothing is under way: no more than an operation that waits for a lock
+abbrev pub is_answered_by : Start → (ℕ → List LogStep) → Doing → Option TxId → Type 0
+is_answered_by start logs Ready (Some tx) = IsOpenAt tx (after start tx.tc (logs tx.tc))
+is_answered_by start logs Operating (Some tx) = WaitsForLock start logs tx
+is_answered_by start logs _ _ = ⊥
+
+abbrev pub IsAnswered : Start → (ℕ → List LogStep) → OpenTransaction → Type 0
+IsAnswered start logs t = is_answered_by start logs t.doing t.tx
+
+-- these are right logs, of one to eight nodes, and nothing is under way
+pub record AreQuiet (start : Start) (logs : ℕ → List LogStep) : Type 0 where
+  pub some : 1 ≤ start.nodes
+  pub few : start.nodes ≤ 8
+  pub right : AreLogs (machine start) logs
+  pub within : IsWithin (hosts start) logs
+  pub quiet : IsQuiet (machine start) (hosts start) logs
+
+-- a claim about each transaction of quiet logs
+abbrev pub EachAtQuiet : (Start → (ℕ → List LogStep) → OpenTransaction → Type 0) → Type 0
+EachAtQuiet Claim = (start : Start) (logs : ℕ → List LogStep) (t : OpenTransaction) → AreQuiet start logs → IsIn t (opened_after start logs) → Claim start logs t
+
+-- each command is answered, but for an operation that waits for a lock
+abbrev pub EachIsAnswered : Type 0
+EachIsAnswered = EachAtQuiet IsAnswered
+
+-- whether a transaction begins is answered
+abbrev pub HasBegun : OpenTransaction → Type 0
+HasBegun t = is_beginning t.doing ≡ false
+
+abbrev pub NoBeginIsLost : Type 0
+NoBeginIsLost = EachAtQuiet (λ start logs t. HasBegun t)
+
+-- a transaction that has begun, and whose end isn't reported, is one of its coordinator, which hasn't reported it either
+abbrev pub HasCoordinator : Start → (ℕ → List LogStep) → OpenTransaction → Type 0
+HasCoordinator start logs t = (tx : TxId) → t.tx ≡ Some tx → IsLiveAt tx (after start tx.tc (logs tx.tc))
+
+abbrev pub EachHasCoordinator : Type 0
+EachHasCoordinator = EachAtQuiet HasCoordinator

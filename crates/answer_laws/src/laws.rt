@@ -1,0 +1,13 @@
+//! What is proved of quiet worlds.
+ghost use Rattle.answer_laws.specs.Answered.{EachHasCoordinator, NoBeginIsLost};
+
+/// When nothing is under way, whether a transaction begins is answered.
+#[tactic(auto, using(crate::proofs::Begins::no_begin))]
+pub fn no_begin_is_lost()
+    ensures { NoBeginIsLost }
+{}
+
+/// When nothing is under way, each transaction whose end isn't reported is one of its coordinator.
+pub fn each_has_a_coordinator()
+    ensures { EachHasCoordinator }
+{}
