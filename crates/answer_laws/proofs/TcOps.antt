@@ -101,9 +101,9 @@ module _ (n : ℕ) (tx : TxId) (key : List ℕ) where
         go true e = record {
           right = (ready_asks t.phase t.asked (left_of (operate.is_ready t.phase t.asked) _ e)).0;
           asks = λ asked. inr (
-            let one = true_and (is_node n (node_at view.full 0)) _ good.first (true_and (same_tx tx tx) _ (same_tx-self tx) (true_and (same_key (key_of op) key) (is_good n view.full) asked good.good)) in
-            omega (arith, ap one_if one)
-          );
+              let one = true_and (is_node n (node_at view.full 0)) _ good.first (true_and (same_tx tx tx) _ (same_tx-self tx) (true_and (same_key (key_of op) key) (is_good n view.full) asked good.good)) in
+              omega (arith, ap one_if one)
+              );
         }
 
     pub wait_asks : KeepsAsked t (going (operate.wait_row tx t))

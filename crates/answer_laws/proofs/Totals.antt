@@ -131,14 +131,22 @@ module _ (start : Start) (n : ℕ) (test : Place → Body → Bool) where
 
   pub taken_more : (logs now : ℕ → List LogStep) (h : ℕ) (e : LogStep) → h < n → Grown logs now h e → taken_all now ≤ taken_all logs + one_if (test e.taken.to e.taken.body)
   taken_more logs now h e under grown =
-      omega (arith, total_same n (λ i. total n (λ j. signals test (taken (machine start) i (now j)))) (λ i. total n (λ j. signals test (taken (machine start) i (logs j))) + one_if (is_from (machine start) i e && test e.taken.to e.taken.body)) (λ i low. row i),
-      total_add n (λ i. total n (λ j. signals test (taken (machine start) i (logs j)))) (λ i. one_if (is_from (machine start) i e && test e.taken.to e.taken.body)), few)
+      omega (
+        arith,
+        total_same n (λ i. total n (λ j. signals test (taken (machine start) i (now j)))) (λ i. total n (λ j. signals test (taken (machine start) i (logs j))) + one_if (is_from (machine start) i e && test e.taken.to e.taken.body)) (λ i low. row i),
+        total_add n (λ i. total n (λ j. signals test (taken (machine start) i (logs j)))) (λ i. one_if (is_from (machine start) i e && test e.taken.to e.taken.body)),
+        few,
+      )
     where
       row : (i : ℕ) → total n (λ j. signals test (taken (machine start) i (now j))) ≡ total n (λ j. signals test (taken (machine start) i (logs j))) + one_if (is_from (machine start) i e && test e.taken.to e.taken.body)
       row i =
-          omega (arith, total_one n (λ j. signals test (taken (machine start) i (logs j))) (λ j. signals test (taken (machine start) i (now j))) h under
-          (λ k differs. ap (λ log. signals test (taken (machine start) i log)) (grown.others k differs)),
-          ap (λ log. signals test (taken (machine start) i log)) grown.own, taken_signals start test i e (logs h))
+          omega (
+            arith,
+            total_one n (λ j. signals test (taken (machine start) i (logs j))) (λ j. signals test (taken (machine start) i (now j))) h under
+                (λ k differs. ap (λ log. signals test (taken (machine start) i log)) (grown.others k differs)),
+            ap (λ log. signals test (taken (machine start) i log)) grown.own,
+            taken_signals start test i e (logs h),
+          )
 
       few : total n (λ i. one_if (is_from (machine start) i e && test e.taken.to e.taken.body)) ≤ one_if (test e.taken.to e.taken.body)
       few = go (not ((machine start).asked e)) refl

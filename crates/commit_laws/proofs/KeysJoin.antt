@@ -99,10 +99,11 @@ ops_answered : (rows : Rows) (ops : List (Op × Answer)) → ((key : List ℕ) �
 ops_answered rows [] right = tt
 ops_answered rows (op ∷ rest) right =
     let key : List ℕ = key_of op.0 in
-    let own : op.1 ≡ answer_to op.0 (map.get rows key) = right_head op (map.get rows key) (ops_on key rest) (same_key key key) (same_key-self key) (right key) in
-    (own ∙ sym (perform_answer op.0 (map.get rows key) rows),
-    ops_answered (perform op.0 rows).rows rest
-    (λ q. subst (λ row. AreRight row (ops_on q rest)) (sym (get_next rows op.0 q)) (right_rest (same_key key q) op (map.get rows q) (ops_on q rest) (right q))))
+    let own : op.1 ≡ answer_to op.0 (map.get rows key) = right_head op (map.get rows key) (ops_on key rest) (same_key key key) (same_key-self key) (right key) in (
+      own ∙ sym (perform_answer op.0 (map.get rows key) rows),
+      ops_answered (perform op.0 rows).rows rest
+          (λ q. subst (λ row. AreRight row (ops_on q rest)) (sym (get_next rows op.0 q)) (right_rest (same_key key q) op (map.get rows q) (ops_on q rest) (right q))),
+    )
 
 ops_rows : (rows : Rows) (ops : List (Op × Answer)) (key : List ℕ) → map.get (after_ops rows ops) key ≡ row_after_all (map.get rows key) (ops_on key ops)
 ops_rows rows [] key = refl
@@ -113,9 +114,10 @@ ops_rows rows (op ∷ rest) key =
 
 pub keys_join : KeysJoin
 keys_join rows [] right = tt
-keys_join rows (entry ∷ rest) right =
-    (ops_answered rows entry.ops (λ key. (right key).0),
-    keys_join (after_ops rows entry.ops) rest (λ key. subst (λ row. IsRightAt key row rest) (sym (ops_rows rows entry.ops key)) (right key).1))
+keys_join rows (entry ∷ rest) right = (
+  ops_answered rows entry.ops (λ key. (right key).0),
+  keys_join (after_ops rows entry.ops) rest (λ key. subst (λ row. IsRightAt key row rest) (sym (ops_rows rows entry.ops key)) (right key).1),
+)
 
 pub rows_join : RowsJoin
 rows_join rows [] key = refl

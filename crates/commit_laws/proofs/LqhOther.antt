@@ -134,9 +134,11 @@ abort_other s tx key = each_append (λ (o : Outgoing). kind_of o.body ≡ other)
 expire_other_by : (s : LqhState) (w : Option (TxId × List ℕ)) → SendsOther (expire.expire_by s w)
 expire_other_by s None = tt
 expire_other_by s (Some w) =
-    let served = unwaited_at s.locks w.1 w.0 in
-    (refl, each_append (λ (o : Outgoing). kind_of o.body ≡ other) (serve_granted s.node served) (expire.more_expired (with_lock s w.1 served)) (granted_other s.node (nat_lt 0 served.granted))
-    (expired_other s.node (is_some (expired (with_lock s w.1 served).locks))))
+    let served = unwaited_at s.locks w.1 w.0 in (
+      refl,
+      each_append (λ (o : Outgoing). kind_of o.body ≡ other) (serve_granted s.node served) (expire.more_expired (with_lock s w.1 served)) (granted_other s.node (nat_lt 0 served.granted))
+          (expired_other s.node (is_some (expired (with_lock s w.1 served).locks))),
+    )
 
 expire_other : (s : LqhState) → SendsOther (expire.expire_row s)
 unfolding expire.expire_row

@@ -89,9 +89,10 @@ apart-placed : (key : List ℕ) (places : List (Option Slot)) → has_place plac
 apart-placed key [] off apart = (refl, tt)
 apart-placed key (None ∷ places) off apart = (off, apart)
 apart-placed key (Some other ∷ places) off apart =
-    let parts = not_first (same_key other.key key) (has_place places key) off in
-    (has-placed key other.key places ∙ ap (λ b. if b then true else has_place places other.key) (same_key-swap key other.key ∙ parts.0) ∙ apart.0,
-    apart-placed key places parts.1 apart.1)
+    let parts = not_first (same_key other.key key) (has_place places key) off in (
+      has-placed key other.key places ∙ ap (λ b. if b then true else has_place places other.key) (same_key-swap key other.key ∙ parts.0) ∙ apart.0,
+      apart-placed key places parts.1 apart.1,
+    )
 
 -- what holds of places to which a key may be added
 by_place : (P : List (Option Slot) → Type 0) (places : List (Option Slot)) (key : List ℕ) → P places → (has_place places key ≡ false → P (placed (no_row key) places)) → P (with_place places key)

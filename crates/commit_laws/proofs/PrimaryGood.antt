@@ -236,10 +236,11 @@ each_settled tx (r ∷ rest) once none = by (same_tx r.tx tx) refl (each_settled
 
     by : (b : Bool) → same_tx r.tx tx ≡ b → ((HasPrepared tx rest → ⊥) → Each (λ (r : PendingRecord). r.tx ≡ tx → r.committed ≡ true) rest)
         → Each (λ (r : PendingRecord). r.tx ≡ tx → r.committed ≡ true) (r ∷ rest)
-    by true e more =
-        (λ is. here e r.committed refl,
-        each_map (λ (x : PendingRecord). same_tx x.tx tx ≡ false) (λ (x : PendingRecord). x.tx ≡ tx → x.committed ≡ true) rest unlike
-        (each_apart tx rest (ap (λ t. found t rest) (sym (same_tx-is r.tx tx e)) ∙ once.0)))
+    by true e more = (
+      λ is. here e r.committed refl,
+      each_map (λ (x : PendingRecord). same_tx x.tx tx ≡ false) (λ (x : PendingRecord). x.tx ≡ tx → x.committed ≡ true) rest unlike
+          (each_apart tx rest (ap (λ t. found t rest) (sym (same_tx-is r.tx tx e)) ∙ once.0)),
+    )
     by false e more =
         (unlike r e, more (λ has. none (record { record_is = has.record_is; there = ap (λ b. if b then Some r else found tx rest) e ∙ has.there; prepared = has.prepared })))
 

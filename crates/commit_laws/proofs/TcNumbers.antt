@@ -203,9 +203,10 @@ module _ (node : ℕ) (D : TxId → Type 0) (taken : Kind) (s : TcState) (begun_
         once = subst KeysOnce (sym (split.set (at_phase t Verifying))) (once_set split.front split.back tx t (at_phase t Verifying) once_split);
         live = subst (Each (IsLive node s.next_seq D (tx ∷ verified))) (sym (split.set (at_phase t Verifying)))
             (each_append (IsLive node s.next_seq D (tx ∷ verified)) split.front ((tx, (at_phase t Verifying)) ∷ split.back)
-            (others split.front (once_front split.front split.back tx t once_split) (each_front (IsLive node s.next_seq D verified) split.front ((tx, t) ∷ split.back) all_split))
-            (record { tc = own_live.tc; below = own_live.below; decided = λ is. absurd cc; unverified = λ is. absurd cc },
-            others split.back (once_back split.front split.back tx t once_split) (each_back (IsLive node s.next_seq D verified) split.front ((tx, t) ∷ split.back) all_split).1));
+            (others split.front (once_front split.front split.back tx t once_split) (each_front (IsLive node s.next_seq D verified) split.front ((tx, t) ∷ split.back) all_split)) (
+              record { tc = own_live.tc; below = own_live.below; decided = λ is. absurd cc; unverified = λ is. absurd cc },
+              others split.back (once_back split.front split.back tx t once_split) (each_back (IsLive node s.next_seq D verified) split.front ((tx, t) ∷ split.back) all_split).1,
+            ));
         begun_below = n.begun_below;
         begun_apart = n.begun_apart;
         verified_below = (own_live.below, n.verified_below);
