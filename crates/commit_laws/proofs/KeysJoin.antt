@@ -1,16 +1,15 @@
 -- A list of entries that is right for each key is legal, and its rows are those of the keys.
-use Rattle.std.proofs.Common.{◌≡◌, ℕ, Bool, true, false, cond, List, [], ◌∷◌, filter, refl, sym, ap, ◌∙◌, subst}
+use Rattle.std.proofs.Common.{◌≡◌, ℕ, Bool, true, false, cond, List, [], ◌∷◌, refl, sym, ap, ◌∙◌, subst}
 use Rattle.std.specs.Prelude.{Option, None, Some}
 use Rattle.std.specs.Cmp.Lexicographic.{nat_list_cmp_total}
 use Rattle.std.specs.FinMap as map
-use Rattle.sig_core.specs.declared.entry.Entry.{Entry}
 use Rattle.sig_core.specs.declared.op.Answer.{Answer}
 use Rattle.sig_core.specs.declared.op.Op.{Op}
 use Rattle.sig_core.specs.declared.op.Op.TheVariants.{Get, GetX, Put, Ins, Upd, Del}
 use Rattle.sig_core.specs.Op.{answer_to, key_of}
 use Rattle.sig_core.specs.Same.{same_key}
 use Rattle.sig_core.specs.Table.{Rows}
-use Rattle.serial_model.specs.Legal.{AreAnswered, IsLegal, after_ops, fold}
+use Rattle.serial_model.specs.Legal.{AreAnswered, after_ops}
 use Rattle.serial_model.specs.Serial.{perform, perform_on}
 use Rattle.lqh_block.proofs.IndexLemmas.{same}
 use Rattle.commit_laws.specs.Laws.{KeysJoin, RowsJoin}
@@ -99,10 +98,11 @@ ops_answered : (rows : Rows) (ops : List (Op × Answer)) → ((key : List ℕ) �
 ops_answered rows [] right = tt
 ops_answered rows (op ∷ rest) right =
     let key : List ℕ = key_of op.0 in
-    let own : op.1 ≡ answer_to op.0 (map.get rows key) = right_head op (map.get rows key) (ops_on key rest) (same_key key key) (same_key-self key) (right key) in
-    (own ∙ sym (perform_answer op.0 (map.get rows key) rows),
-    ops_answered (perform op.0 rows).rows rest
-    (λ q. subst (λ row. AreRight row (ops_on q rest)) (sym (get_next rows op.0 q)) (right_rest (same_key key q) op (map.get rows q) (ops_on q rest) (right q))))
+    let own : op.1 ≡ answer_to op.0 (map.get rows key) = right_head op (map.get rows key) (ops_on key rest) (same_key key key) (same_key-self key) (right key) in (
+      own ∙ sym (perform_answer op.0 (map.get rows key) rows),
+      ops_answered (perform op.0 rows).rows rest
+          (λ q. subst (λ row. AreRight row (ops_on q rest)) (sym (get_next rows op.0 q)) (right_rest (same_key key q) op (map.get rows q) (ops_on q rest) (right q))),
+    )
 
 ops_rows : (rows : Rows) (ops : List (Op × Answer)) (key : List ℕ) → map.get (after_ops rows ops) key ≡ row_after_all (map.get rows key) (ops_on key ops)
 ops_rows rows [] key = refl
@@ -113,9 +113,10 @@ ops_rows rows (op ∷ rest) key =
 
 pub keys_join : KeysJoin
 keys_join rows [] right = tt
-keys_join rows (entry ∷ rest) right =
-    (ops_answered rows entry.ops (λ key. (right key).0),
-    keys_join (after_ops rows entry.ops) rest (λ key. subst (λ row. IsRightAt key row rest) (sym (ops_rows rows entry.ops key)) (right key).1))
+keys_join rows (entry ∷ rest) right = (
+  ops_answered rows entry.ops (λ key. (right key).0),
+  keys_join (after_ops rows entry.ops) rest (λ key. subst (λ row. IsRightAt key row rest) (sym (ops_rows rows entry.ops key)) (right key).1),
+)
 
 pub rows_join : RowsJoin
 rows_join rows [] key = refl

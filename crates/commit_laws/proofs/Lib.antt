@@ -1,12 +1,14 @@
 pub mod ApiMarks
 pub mod ApiTold
 pub mod BackupMoves
+pub mod Causal
 pub mod CellsAt
 pub mod EachEntry
 pub mod EachSent
 pub mod Epochs
 pub mod Firsts
 pub mod Holding
+pub mod HostGoes
 pub mod HostMarks
 pub mod KeyAfter
 pub mod KeyEnds
@@ -25,6 +27,8 @@ pub mod RecordLemmas
 pub mod RecordsAt
 pub mod Replicas
 pub mod SortedEntries
+pub mod StrictOrder
 pub mod TcGoes
 pub mod TcMarks
 pub mod TcNumbers
+pub mod Unique

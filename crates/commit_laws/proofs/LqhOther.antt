@@ -1,6 +1,6 @@
 -- The rows of a node say nothing of how transactions come to be decided.
-use Rattle.std.proofs.Common.{◌≡◌, ℕ, List, [], ◌∷◌, ◌++◌, Bool, true, false, refl, ap, sym, ◌∙◌, subst}
-use Rattle.std.specs.Prelude.{◌+◌, ◌-◌, ◌==◌, nat_lt, is_some, remove, Option, None, Some, slice_get}
+use Rattle.std.proofs.Common.{◌≡◌, ℕ, List, [], ◌∷◌, Bool, true, false, refl}
+use Rattle.std.specs.Prelude.{◌+◌, ◌==◌, nat_lt, is_some, remove, Option, None, Some, slice_get}
 use Rattle.sig_core.specs.declared.member.Member.{Member}
 use Rattle.sig_core.specs.declared.member.TxId.{TxId}
 use Rattle.sig_core.specs.declared.op.Answer.{Answer}
@@ -12,16 +12,14 @@ use Rattle.sig_core.specs.declared.signal.Body.TheVariants.{Host, Client, Chain}
 use Rattle.sig_core.specs.declared.signal.chain.ChainSignal.TheVariants.{LqhKeyReq, Commit, Complete, Abort}
 use Rattle.sig_core.specs.declared.signal.chain.RowWork.{RowWork}
 use Rattle.sig_core.specs.declared.signal.chain.RowWork.TheVariants.{Operate, Store}
-use Rattle.sig_core.specs.declared.signal.client.ClientSignal.TheVariants.{TcCommitAck, LqhWaitReq, DumpReq}
+use Rattle.sig_core.specs.declared.signal.client.ClientSignal.TheVariants.{LqhWaitReq, DumpReq}
 use Rattle.sig_core.specs.declared.signal.host.HostSignal.TheVariants.{Round, Continue}
 use Rattle.sig_core.specs.declared.signal.host.Work.TheVariants as work
-use Rattle.sig_core.specs.Chain.{node_at}
 use Rattle.sig_core.specs.Op.{answer_to, image_of, key_of}
-use Rattle.sig_core.specs.Rows.{is_full, record_state, seen}
+use Rattle.sig_core.specs.Rows.{seen}
 use Rattle.row_locks.specs.declared.mode.Lock.{Lock}
 use Rattle.row_locks.specs.declared.mode.Lock.TheVariants.{Granted, Queued}
 use Rattle.row_locks.specs.Rounds.{expired}
-use Rattle.row_locks.specs.Rows.{Served}
 use Rattle.row_locks.specs.Tables.{ahead_at, unwaited_at}
 use Rattle.lqh_block.specs.Abort as abort
 use Rattle.lqh_block.specs.Commit as commit
@@ -134,9 +132,11 @@ abort_other s tx key = each_append (λ (o : Outgoing). kind_of o.body ≡ other)
 expire_other_by : (s : LqhState) (w : Option (TxId × List ℕ)) → SendsOther (expire.expire_by s w)
 expire_other_by s None = tt
 expire_other_by s (Some w) =
-    let served = unwaited_at s.locks w.1 w.0 in
-    (refl, each_append (λ (o : Outgoing). kind_of o.body ≡ other) (serve_granted s.node served) (expire.more_expired (with_lock s w.1 served)) (granted_other s.node (nat_lt 0 served.granted))
-    (expired_other s.node (is_some (expired (with_lock s w.1 served).locks))))
+    let served = unwaited_at s.locks w.1 w.0 in (
+      refl,
+      each_append (λ (o : Outgoing). kind_of o.body ≡ other) (serve_granted s.node served) (expire.more_expired (with_lock s w.1 served)) (granted_other s.node (nat_lt 0 served.granted))
+          (expired_other s.node (is_some (expired (with_lock s w.1 served).locks))),
+    )
 
 expire_other : (s : LqhState) → SendsOther (expire.expire_row s)
 unfolding expire.expire_row

@@ -1,6 +1,6 @@
 -- The places of a replica, key by key: the row of each key, and what becomes of it.
-use Rattle.std.proofs.Common.{◌≡◌, ◌⊎◌, ℕ, zero, suc, Bool, true, false, cond, not, ◌&&◌, List, [], ◌∷◌, ◌++◌, refl, sym, ap, ◌∙◌, subst, inl, inr}
-use Rattle.std.specs.Prelude.{if◌then◌else◌, Option, None, Some, is_some, position, slice_index_or, slice_set}
+use Rattle.std.proofs.Common.{◌≡◌, ℕ, Bool, true, false, List, [], ◌∷◌, refl, sym, ap, ◌∙◌, subst}
+use Rattle.std.specs.Prelude.{if◌then◌else◌, Option, None, Some, is_some, slice_index_or, slice_set}
 use Rattle.sig_core.specs.declared.rows.PendingRecord.{PendingRecord}
 use Rattle.sig_core.specs.declared.rows.Slot.{Slot}
 use Rattle.sig_core.specs.Rows.{RowsState, freed, freed_by, freed_if, is_at, is_idle, no_row, place_of, placed, row_by, row_in, row_of, set_row, set_row_by, with_place, with_place_by, with_row}
@@ -89,9 +89,10 @@ apart-placed : (key : List ℕ) (places : List (Option Slot)) → has_place plac
 apart-placed key [] off apart = (refl, tt)
 apart-placed key (None ∷ places) off apart = (off, apart)
 apart-placed key (Some other ∷ places) off apart =
-    let parts = not_first (same_key other.key key) (has_place places key) off in
-    (has-placed key other.key places ∙ ap (λ b. if b then true else has_place places other.key) (same_key-swap key other.key ∙ parts.0) ∙ apart.0,
-    apart-placed key places parts.1 apart.1)
+    let parts = not_first (same_key other.key key) (has_place places key) off in (
+      has-placed key other.key places ∙ ap (λ b. if b then true else has_place places other.key) (same_key-swap key other.key ∙ parts.0) ∙ apart.0,
+      apart-placed key places parts.1 apart.1,
+    )
 
 -- what holds of places to which a key may be added
 by_place : (P : List (Option Slot) → Type 0) (places : List (Option Slot)) (key : List ℕ) → P places → (has_place places key ≡ false → P (placed (no_row key) places)) → P (with_place places key)

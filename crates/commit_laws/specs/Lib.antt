@@ -1,5 +1,6 @@
 pub mod Backup
 pub mod BackupLaws
+pub mod Causes
 pub mod Firsts
 pub mod Kinds
 pub mod Laws
