@@ -22,6 +22,7 @@ pub mod LqhOther
 pub mod PlacesAt
 pub mod PlainMarks
 pub mod PrimaryGood
+pub mod PrimaryOrder
 pub mod PrimaryValue
 pub mod RecordLemmas
 pub mod RecordsAt
@@ -32,3 +33,4 @@ pub mod TcGoes
 pub mod TcMarks
 pub mod TcNumbers
 pub mod Unique
+pub mod Waiting

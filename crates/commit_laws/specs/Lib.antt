@@ -9,6 +9,7 @@ pub mod OneKey
 pub mod Phases
 pub mod Placed
 pub mod Primary
+pub mod PrimaryEvents
 pub mod PrimaryLaws
 pub mod Records
 pub mod Replica
