@@ -35,7 +35,7 @@ use Rattle.api_block.specs.Dump.{dumped_by, dumped_next, dumped_row}
 use Rattle.api_block.specs.Members.{everyone, is_full, least_node, telling_all}
 use Rattle.api_block.specs.Opened.{begins, begins_at, behind, has_tx, if_there, is_tx, is_unanswered, own_place, place_named, place_of, where_at}
 use Rattle.api_block.specs.Operate.{answer_by, answer_row, begun_by, begun_row, lone_by, lone_row, operate_by, operate_if, operate_row}
-use Rattle.api_block.specs.Outcome.{abort_report_row, acknowledging, commit_report_row, ending, over, refuse_row, unknown}
+use Rattle.api_block.specs.Outcome.{abort_report_row, commit_report_row, over, refuse_row}
 use Rattle.api_block.specs.State.{ApiState, changing}
 use Rattle.api_block.specs.Wait.{behind_row, name_of, pending_by, pending_if, pending_row, waits_if, waits_row}
 use Rattle.commit_laws.specs.Kinds.{Kind, kind_of}

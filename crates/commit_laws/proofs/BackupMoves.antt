@@ -11,12 +11,12 @@ use Rattle.sig_core.specs.Rows as rows
 use Rattle.sig_core.specs.Same.{same_tx}
 use Rattle.row_locks.specs.declared.claim.Holder.{Holder}
 use Rattle.row_locks.specs.declared.mode.Mode.TheVariants.{Exclusive}
-use Rattle.row_locks.specs.Holders.{holds, holds_enough}
+use Rattle.row_locks.specs.Holders.{holds_enough}
 use Rattle.row_locks.proofs.TxLemmas.{same_tx-is, same_tx-swap}
-use Rattle.commit_laws.specs.Backup.{Backup, HasImage, IsLedUnlessSpoilt, IsSound, aborted_at, committed_at, completed_at, is_spoilt, kept_of, prepared_at}
-use Rattle.commit_laws.specs.BackupLaws.{AbortsMove, CommitsMove, CompletionsMove, DecisionsMove, GrantsMove, ImagesMove, IsDecidedTo, Moves, UnkeptDecisionsMove}
-use Rattle.commit_laws.specs.Primary.{HasPrepared, HoldOn, ended_too}
-use Rattle.commit_laws.specs.Records.{AreOnce, as_committed, committed_row, edited, found, if_committed, is_kept, kept_row, put_back, unless_committed}
+use Rattle.commit_laws.specs.Backup.{Backup, HasImage, IsLedUnlessSpoilt, IsSound, committed_at, is_spoilt, kept_of}
+use Rattle.commit_laws.specs.BackupLaws.{AbortsMove, CommitsMove, CompletionsMove, DecisionsMove, GrantsMove, ImagesMove, Moves, UnkeptDecisionsMove}
+use Rattle.commit_laws.specs.Primary.{HoldOn, ended_too}
+use Rattle.commit_laws.specs.Records.{AreOnce, as_committed, committed_row, edited, found, if_committed, kept_row, put_back, unless_committed}
 use Rattle.commit_laws.proofs.Holding.{holds_so, only_holder}
 use Rattle.commit_laws.proofs.Keys.{same_tx-self}
 use Rattle.commit_laws.proofs.PrimaryValue.{all_committed}

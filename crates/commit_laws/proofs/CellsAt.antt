@@ -1,8 +1,8 @@
 -- The rows and records of a replica, key by key.
-use Rattle.std.proofs.Common.{◌≡◌, ℕ, Bool, true, false, cond, not, ◌&&◌, ◌||◌, List, [], ◌∷◌, ◌++◌, filter, refl, sym, ap, ◌∙◌, subst}
+use Rattle.std.proofs.Common.{◌≡◌, ℕ, Bool, true, false, not, ◌||◌, List, [], ◌∷◌, refl, sym, ap, ◌∙◌, subst}
 use Rattle.std.proofs.lemmas.Bool.{not-true}
 use Rattle.std.specs.List.{list_any}
-use Rattle.std.specs.Prelude.{if◌then◌else◌, Option, None, Some, position, remove, slice_get, slice_set}
+use Rattle.std.specs.Prelude.{if◌then◌else◌, Option, None, Some, remove}
 use Rattle.run_theory.specs.Lists.{Each}
 use Rattle.run_theory.proofs.Pasts.{each_map}
 use Rattle.sig_core.specs.declared.member.Member.{Member}
@@ -22,13 +22,13 @@ use Rattle.lqh_block.proofs.IndexLemmas.{same}
 use Rattle.lqh_block.specs.declared.request.Request.{Request}
 use Rattle.lqh_block.specs.Storage as storage
 use Rattle.lqh_block.specs.Storage.{StorageState}
-use Rattle.lqh_block.specs.Work.{work_image, work_key}
-use Rattle.commit_laws.specs.Firsts.{drop_first, first}
+use Rattle.lqh_block.specs.Work.{work_key}
+use Rattle.commit_laws.specs.Firsts.{first}
 use Rattle.commit_laws.specs.Placed.{AreApart, IsPlaced, has_place}
-use Rattle.commit_laws.specs.Records.{as_committed, committed_row, edited, found, if_committed, put_back, seen_by, stored, unless_committed}
+use Rattle.commit_laws.specs.Records.{as_committed, committed_row, edited, found, if_committed, put_back, seen_by, unless_committed}
 use Rattle.commit_laws.specs.Replica.{Cell, aborting, cell_at, committing, completing, is_refused, operated, storing, worked}
-use Rattle.commit_laws.proofs.Firsts.{drop_by, first-drop, first-get, first-set, get_by, set_by, set_first}
-use Rattle.commit_laws.proofs.Keys.{same_key-self, same_key-swap}
+use Rattle.commit_laws.proofs.Firsts.{drop_by, first-drop, first-get, first-set, get_by, set_by}
+use Rattle.commit_laws.proofs.Keys.{same_key-swap}
 use Rattle.commit_laws.proofs.PlacesAt.{apart-freed, apart-set_row, apart-with_place, has-freed, has-own_place, has-set_row, has-with_place, row-freed, row-set_row, row-with_place, row_at, row_of-at}
 use Rattle.commit_laws.proofs.RecordsAt.{KeepsKey, each-edited_in, each-first, each-recorded, edited_in, edited_in-drop, edited_in-keep, edited_in-none, edited_in-set, first-found, on, on-edited, on-edited_other, on-storing, on-storing_other, record_of-first}
 

@@ -1,12 +1,12 @@
 -- What holds of each of some signals.
-use Rattle.std.proofs.Common.{◌≡◌, ℕ, zero, suc, List, [], ◌∷◌, ◌++◌, take, drop, refl}
+use Rattle.std.proofs.Common.{◌≡◌, ℕ, zero, suc, List, [], ◌∷◌, take, drop}
 use Rattle.std.specs.Prelude.{map}
 use Rattle.std.specs.List.{flat_map}
 use Rattle.run_theory.specs.Lists.{Each}
 use Rattle.run_theory.proofs.Pasts.{each_append}
 use Rattle.sig_core.specs.declared.outs.Outgoing.{Outgoing}
 use Rattle.sig_core.specs.Step.{Step}
-use Rattle.commit_laws.specs.Kinds.{Kind, kind_of, other}
+use Rattle.commit_laws.specs.Kinds.{kind_of, other}
 
 -- none of them is of those by which a transaction comes to be decided and reported
 abbrev pub AreOther : List Outgoing → Type 0

@@ -1,44 +1,25 @@
 -- What a signal does to one key of a replica is the event of that key.
-use Rattle.std.proofs.Common.{◌≡◌, ◌==◌, ℕ, Bool, true, false, cond, not, ◌&&◌, List, [], ◌∷◌, ◌++◌, filter, refl, sym, ap, ◌∙◌, subst}
-use Rattle.std.proofs.lemmas.Bool.{and_from, and_parts}
-use Rattle.std.specs.Prelude.{if◌then◌else◌, Option, None, Some, is_some, position, remove, slice_get}
-use Rattle.sig_core.specs.declared.member.Member.{Member}
+use Rattle.std.proofs.Common.{◌≡◌, ℕ, Bool, true, false, cond, not, List, [], ◌∷◌, ◌++◌, filter, refl, sym, ap, ◌∙◌}
+use Rattle.std.specs.Prelude.{if◌then◌else◌, Option, None, Some, is_some, position, remove}
 use Rattle.sig_core.specs.declared.member.TxId.{TxId}
-use Rattle.sig_core.specs.declared.signal.Body.{Body}
-use Rattle.sig_core.specs.declared.signal.Body.TheVariants.{Host, Client, Chain}
-use Rattle.sig_core.specs.declared.signal.chain.ChainSignal.TheVariants.{LqhKeyReq, Commit, Complete, Abort}
-use Rattle.sig_core.specs.declared.signal.client.ClientSignal.TheVariants.{TcCommitAck, LqhWaitReq, DumpReq}
-use Rattle.sig_core.specs.declared.signal.host.HostSignal.TheVariants.{Round, Continue}
-use Rattle.sig_core.specs.declared.signal.host.Work.TheVariants as work
-use Rattle.sig_core.specs.Rows.{RowsState, abort_record, commit_record, complete_record, record_state}
-use Rattle.sig_core.specs.Same.{same_key, same_tx}
+use Rattle.sig_core.specs.Same.{same_key}
 use Rattle.row_locks.specs.declared.mode.Lock.{Lock}
 use Rattle.row_locks.specs.declared.mode.Lock.TheVariants.{Granted, Queued}
 use Rattle.row_locks.specs.Holders.{first_other}
 use Rattle.row_locks.specs.Queues.{waits}
-use Rattle.row_locks.specs.Rounds.{expired}
-use Rattle.row_locks.specs.Rows.{RowLock, asked, released, unwaited}
-use Rattle.row_locks.specs.Tables.{ahead_at, ahead_of, asked_at, kept, lock_at, released_at, some_if, unwaited_at}
+use Rattle.row_locks.specs.Rows.{asked}
+use Rattle.row_locks.specs.Tables.{ahead_of, lock_at, some_if}
 use Rattle.lqh_block.proofs.IndexLemmas.{same}
 use Rattle.lqh_block.specs.declared.request.Request.{Request}
-use Rattle.lqh_block.specs.Abort as abort
-use Rattle.lqh_block.specs.Commit as commit
-use Rattle.lqh_block.specs.Complete as complete
-use Rattle.lqh_block.specs.Dump as dump
-use Rattle.lqh_block.specs.Expire as expire
-use Rattle.lqh_block.specs.Lqh.{lqh_row}
 use Rattle.lqh_block.specs.Operate as operate
-use Rattle.lqh_block.specs.State.{LqhState, storage_of, unlocked, with_lock, with_rows, with_waiting}
-use Rattle.lqh_block.specs.Storage as storage
-use Rattle.lqh_block.specs.Wait as wait
-use Rattle.lqh_block.specs.Work.{is_for, work_key, work_mode}
+use Rattle.lqh_block.specs.State.{LqhState, storage_of, with_waiting}
+use Rattle.lqh_block.specs.Work.{work_key, work_mode}
 use Rattle.commit_laws.specs.Firsts.{drop_first, first}
-use Rattle.commit_laws.specs.Placed.{IsPlaced}
-use Rattle.commit_laws.specs.Replica.{Cell, Event, Replica, aborting, after_request, ageing, aborts, ages, asked_by, asks, asks_for, at_key, cell_at, committing, commits, completes, completing, event_at, expired_by, expires, expires_if, expiring, if_on, is_by, is_let_in, is_refused, key_after, letting_go, rests, served_by, serves, serves_if, worked}
-use Rattle.commit_laws.proofs.CellsAt.{cell-aborted, cell-committed, cell-completed, cell-performed, placed-aborted, placed-committed, placed-completed, placed-performed}
-use Rattle.commit_laws.proofs.Firsts.{drop_by, filter-drop_first, filter-drop_other, first-drop, first-get, get_by}
+use Rattle.commit_laws.specs.Replica.{Event, Replica, asked_by, asks, asks_for, at_key, cell_at, if_on, is_let_in, is_refused, key_after, rests, served_by, serves, serves_if, worked}
+use Rattle.commit_laws.proofs.CellsAt.{cell-performed}
+use Rattle.commit_laws.proofs.Firsts.{drop_by, first-drop, first-get, get_by}
 use Rattle.commit_laws.proofs.Keys.{same_key-self}
-use Rattle.commit_laws.proofs.LocksAt.{lock-aged, lock-inserted, lock-kept}
+use Rattle.commit_laws.proofs.LocksAt.{lock-inserted}
 
 pub replica_is : (r p : Replica) → r.cell ≡ p.cell → r.lock ≡ p.lock → r.waiting ≡ p.waiting → r ≡ p
 replica_is r p cell lock waiting = λ i. record { cell = cell i; lock = lock i; waiting = waiting i }

@@ -1,5 +1,5 @@
 -- Commits, completions, aborts and waits that end, key by key.
-use Rattle.std.proofs.Common.{◌≡◌, ◌==◌, ℕ, Bool, true, false, cond, not, ◌&&◌, List, [], ◌∷◌, ◌++◌, filter, refl, sym, ap, ◌∙◌, subst}
+use Rattle.std.proofs.Common.{◌≡◌, ◌==◌, ℕ, Bool, true, false, not, ◌&&◌, List, filter, refl, sym, ap, ◌∙◌}
 use Rattle.std.proofs.lemmas.Bool.{and_parts}
 use Rattle.std.specs.Prelude.{if◌then◌else◌, Option, None, Some, position}
 use Rattle.sig_core.specs.declared.member.Member.{Member}
@@ -9,7 +9,7 @@ use Rattle.sig_core.specs.Rows as rows
 use Rattle.sig_core.specs.Rows.{RowsState, abort_record, commit_by, commit_record, complete_record, is_as, record_at, record_of, record_state, state_by}
 use Rattle.sig_core.specs.Same.{same_key, same_tx}
 use Rattle.row_locks.specs.Rounds.{expired}
-use Rattle.row_locks.specs.Rows.{RowLock, released, unwaited}
+use Rattle.row_locks.specs.Rows.{released, unwaited}
 use Rattle.row_locks.specs.Tables.{kept, lock_at, released_at, unwaited_at}
 use Rattle.lqh_block.proofs.IndexLemmas.{same}
 use Rattle.lqh_block.specs.declared.request.Request.{Request}
@@ -17,16 +17,15 @@ use Rattle.lqh_block.specs.Abort as abort
 use Rattle.lqh_block.specs.Commit as commit
 use Rattle.lqh_block.specs.Complete as complete
 use Rattle.lqh_block.specs.Expire as expire
-use Rattle.lqh_block.specs.State.{LqhState, storage_of, unlocked, with_lock, with_rows, with_storage, with_waiting}
+use Rattle.lqh_block.specs.State.{LqhState, unlocked, with_lock, with_waiting}
 use Rattle.lqh_block.specs.Storage as storage
 use Rattle.lqh_block.specs.Work.{is_for, work_key}
 use Rattle.commit_laws.specs.Firsts.{drop_first}
 use Rattle.commit_laws.specs.Placed.{IsPlaced}
-use Rattle.commit_laws.specs.Replica.{Cell, Event, Replica, aborting, ageing, aborts, ages, asks_for, at_key, cell_at, committing, commits, completes, completing, expired_by, expires, expires_if, expiring, if_on, is_by, key_after, letting_go, rests}
-use Rattle.commit_laws.proofs.CellsAt.{cell-aborted, cell-committed, cell-completed, placed-aborted, placed-committed, placed-completed}
+use Rattle.commit_laws.specs.Replica.{aborting, ageing, aborts, ages, asks_for, at_key, cell_at, committing, commits, completes, completing, expired_by, expires, expires_if, if_on, is_by, key_after, rests}
+use Rattle.commit_laws.proofs.CellsAt.{cell-aborted, cell-committed, cell-completed}
 use Rattle.commit_laws.proofs.Firsts.{drop_by, filter-drop_first, filter-drop_other, first-drop}
 use Rattle.commit_laws.proofs.KeyAfter.{is_if, on_other, on_own, replica_is}
-use Rattle.commit_laws.proofs.Keys.{same_key-self}
 use Rattle.commit_laws.proofs.LocksAt.{lock-aged, lock-kept}
 
 -- the lock that is let go of

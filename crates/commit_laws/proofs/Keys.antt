@@ -1,5 +1,5 @@
 -- Keys and transactions, compared.
-use Rattle.std.proofs.Common.{◌≡◌, ◌&&◌, ℕ, true, List, ap}
+use Rattle.std.proofs.Common.{◌≡◌, ◌&&◌, ℕ, true, List}
 use Rattle.std.specs.Cmp.{nat_eq_equiv}
 use Rattle.std.specs.Cmp.Lexicographic.{nat_list_eq_equiv, slice_cmp}
 use Rattle.std.specs.Ordering.{eq_by_cmp, nat_cmp}

@@ -1,16 +1,15 @@
 -- A list of entries that is right for each key is legal, and its rows are those of the keys.
-use Rattle.std.proofs.Common.{◌≡◌, ℕ, Bool, true, false, cond, List, [], ◌∷◌, filter, refl, sym, ap, ◌∙◌, subst}
+use Rattle.std.proofs.Common.{◌≡◌, ℕ, Bool, true, false, cond, List, [], ◌∷◌, refl, sym, ap, ◌∙◌, subst}
 use Rattle.std.specs.Prelude.{Option, None, Some}
 use Rattle.std.specs.Cmp.Lexicographic.{nat_list_cmp_total}
 use Rattle.std.specs.FinMap as map
-use Rattle.sig_core.specs.declared.entry.Entry.{Entry}
 use Rattle.sig_core.specs.declared.op.Answer.{Answer}
 use Rattle.sig_core.specs.declared.op.Op.{Op}
 use Rattle.sig_core.specs.declared.op.Op.TheVariants.{Get, GetX, Put, Ins, Upd, Del}
 use Rattle.sig_core.specs.Op.{answer_to, key_of}
 use Rattle.sig_core.specs.Same.{same_key}
 use Rattle.sig_core.specs.Table.{Rows}
-use Rattle.serial_model.specs.Legal.{AreAnswered, IsLegal, after_ops, fold}
+use Rattle.serial_model.specs.Legal.{AreAnswered, after_ops}
 use Rattle.serial_model.specs.Serial.{perform, perform_on}
 use Rattle.lqh_block.proofs.IndexLemmas.{same}
 use Rattle.commit_laws.specs.Laws.{KeysJoin, RowsJoin}

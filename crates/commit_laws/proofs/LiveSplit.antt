@@ -1,5 +1,5 @@
 -- The list of a coordinator's transactions, where one of them takes a step or is forgotten.
-use Rattle.std.proofs.Common.{◌≡◌, ℕ, zero, suc, Bool, true, false, List, [], ◌∷◌, ◌++◌, refl, sym, ap, ◌∙◌, subst}
+use Rattle.std.proofs.Common.{◌≡◌, ℕ, suc, Bool, true, false, List, [], ◌∷◌, ◌++◌, refl, sym, ap, ◌∙◌, subst}
 use Rattle.std.specs.Map.{keys_of, values_of}
 use Rattle.std.specs.Prelude.{Option, None, Some, position, remove, slice_get, if◌then◌else◌}
 use Rattle.indexmap.specs.IndexMap.{insert_entry, set_value_at}

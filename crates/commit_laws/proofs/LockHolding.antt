@@ -1,25 +1,23 @@
 -- Who holds a lock after a call on it.
-use Rattle.std.proofs.Common.{◌≡◌, ◌⊎◌, ℕ, ◌+◌, Bool, true, false, not, ◌&&◌, ◌||◌, List, [], ◌∷◌, ◌++◌, map, refl, sym, ap, ◌∙◌, subst, inl, inr}
+use Rattle.std.proofs.Common.{◌≡◌, ◌⊎◌, ℕ, ◌+◌, Bool, true, false, not, ◌&&◌, ◌||◌, List, [], ◌∷◌, ◌++◌, refl, sym, ap, ◌∙◌, subst, inl, inr}
 use Rattle.std.proofs.lemmas.Bool.{and_from, and_parts, not-true, or_cases, or_left, or_right}
-use Rattle.std.specs.List.{list_any}
 use Rattle.sig_core.specs.declared.member.TxId.{TxId}
 use Rattle.sig_core.specs.Same.{same_tx}
 use Rattle.row_locks.specs.declared.claim.Holder.{Holder}
 use Rattle.row_locks.specs.declared.claim.Wait.{Wait}
-use Rattle.row_locks.specs.declared.mode.Lock.TheVariants.{Granted, Queued}
+use Rattle.row_locks.specs.declared.mode.Lock.TheVariants.{Granted}
 use Rattle.row_locks.specs.declared.mode.Mode.{Mode}
 use Rattle.row_locks.specs.declared.mode.Mode.TheVariants.{Shared, Exclusive}
 use Rattle.row_locks.specs.Holders.{agrees_with, hold, holder_of, holds, holds_enough, others, unless_gone}
 use Rattle.row_locks.specs.Modes.{is_enough, stronger}
 use Rattle.row_locks.specs.Orderly.{IsOrderly, are_waiting_once, none_has_enough}
 use Rattle.row_locks.specs.Queues.{raised, raised_if, wait_of, waits, without, aged_all}
-use Rattle.row_locks.specs.Rows.{RowLock, anew, asked, asked_anew, asked_by, is_quiet, released, served, served_if, unwaited}
+use Rattle.row_locks.specs.Rows.{RowLock, asked, asked_anew, asked_by, is_quiet, released, served, served_if, unwaited}
 use Rattle.row_locks.proofs.NeedLemmas.{enough_shared, need-hold, need-others, need-without}
 use Rattle.row_locks.proofs.OrderlyLemmas.{asked_orderly, gone-without, released_orderly, unwaited_orderly, waiting-without}
-use Rattle.row_locks.proofs.TxLemmas.{same_tx-is, same_tx-swap}
+use Rattle.row_locks.proofs.TxLemmas.{same_tx-is}
 use Rattle.commit_laws.specs.LockLaws.{AttendedHold, ExpiriesAttend, ExpiriesHoldOn, GrantsHold, QueuedWait, ReleasesAttend, ReleasesHoldOn, RequestsAttend, RequestsHoldOn, RoundsAttend, is_attended, waits_enough}
 use Rattle.commit_laws.specs.Primary.{HoldOn}
-use Rattle.commit_laws.proofs.Holding.{agrees_with_exclusive, holds_so}
 use Rattle.commit_laws.proofs.Keys.{same_tx-self}
 
 -- the exclusive mode is enough for any

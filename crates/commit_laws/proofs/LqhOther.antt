@@ -1,6 +1,6 @@
 -- The rows of a node say nothing of how transactions come to be decided.
-use Rattle.std.proofs.Common.{◌≡◌, ℕ, List, [], ◌∷◌, ◌++◌, Bool, true, false, refl, ap, sym, ◌∙◌, subst}
-use Rattle.std.specs.Prelude.{◌+◌, ◌-◌, ◌==◌, nat_lt, is_some, remove, Option, None, Some, slice_get}
+use Rattle.std.proofs.Common.{◌≡◌, ℕ, List, [], ◌∷◌, Bool, true, false, refl}
+use Rattle.std.specs.Prelude.{◌+◌, ◌==◌, nat_lt, is_some, remove, Option, None, Some, slice_get}
 use Rattle.sig_core.specs.declared.member.Member.{Member}
 use Rattle.sig_core.specs.declared.member.TxId.{TxId}
 use Rattle.sig_core.specs.declared.op.Answer.{Answer}
@@ -12,16 +12,14 @@ use Rattle.sig_core.specs.declared.signal.Body.TheVariants.{Host, Client, Chain}
 use Rattle.sig_core.specs.declared.signal.chain.ChainSignal.TheVariants.{LqhKeyReq, Commit, Complete, Abort}
 use Rattle.sig_core.specs.declared.signal.chain.RowWork.{RowWork}
 use Rattle.sig_core.specs.declared.signal.chain.RowWork.TheVariants.{Operate, Store}
-use Rattle.sig_core.specs.declared.signal.client.ClientSignal.TheVariants.{TcCommitAck, LqhWaitReq, DumpReq}
+use Rattle.sig_core.specs.declared.signal.client.ClientSignal.TheVariants.{LqhWaitReq, DumpReq}
 use Rattle.sig_core.specs.declared.signal.host.HostSignal.TheVariants.{Round, Continue}
 use Rattle.sig_core.specs.declared.signal.host.Work.TheVariants as work
-use Rattle.sig_core.specs.Chain.{node_at}
 use Rattle.sig_core.specs.Op.{answer_to, image_of, key_of}
-use Rattle.sig_core.specs.Rows.{is_full, record_state, seen}
+use Rattle.sig_core.specs.Rows.{seen}
 use Rattle.row_locks.specs.declared.mode.Lock.{Lock}
 use Rattle.row_locks.specs.declared.mode.Lock.TheVariants.{Granted, Queued}
 use Rattle.row_locks.specs.Rounds.{expired}
-use Rattle.row_locks.specs.Rows.{Served}
 use Rattle.row_locks.specs.Tables.{ahead_at, unwaited_at}
 use Rattle.lqh_block.specs.Abort as abort
 use Rattle.lqh_block.specs.Commit as commit

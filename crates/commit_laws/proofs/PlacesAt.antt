@@ -1,6 +1,6 @@
 -- The places of a replica, key by key: the row of each key, and what becomes of it.
-use Rattle.std.proofs.Common.{◌≡◌, ◌⊎◌, ℕ, zero, suc, Bool, true, false, cond, not, ◌&&◌, List, [], ◌∷◌, ◌++◌, refl, sym, ap, ◌∙◌, subst, inl, inr}
-use Rattle.std.specs.Prelude.{if◌then◌else◌, Option, None, Some, is_some, position, slice_index_or, slice_set}
+use Rattle.std.proofs.Common.{◌≡◌, ℕ, Bool, true, false, List, [], ◌∷◌, refl, sym, ap, ◌∙◌, subst}
+use Rattle.std.specs.Prelude.{if◌then◌else◌, Option, None, Some, is_some, slice_index_or, slice_set}
 use Rattle.sig_core.specs.declared.rows.PendingRecord.{PendingRecord}
 use Rattle.sig_core.specs.declared.rows.Slot.{Slot}
 use Rattle.sig_core.specs.Rows.{RowsState, freed, freed_by, freed_if, is_at, is_idle, no_row, place_of, placed, row_by, row_in, row_of, set_row, set_row_by, with_place, with_place_by, with_row}

@@ -8,7 +8,7 @@ use Rattle.sig_core.specs.declared.member.TxId.{TxId}
 use Rattle.sig_core.specs.declared.op.Answer.{Answer}
 use Rattle.sig_core.specs.declared.op.Answer.TheVariants.{Done, Found, Missing, E626, E630}
 use Rattle.sig_core.specs.declared.op.Op.{Op}
-use Rattle.sig_core.specs.declared.op.Op.TheVariants.{Get, GetX, Put, Ins, Upd, Del}
+use Rattle.sig_core.specs.declared.op.Op.TheVariants.{Get}
 use Rattle.sig_core.specs.declared.rows.PendingRecord.{PendingRecord}
 use Rattle.sig_core.specs.Op.{answer_to, image_of, key_of}
 use Rattle.sig_core.specs.Rows.{prepared}
@@ -20,12 +20,12 @@ use Rattle.row_locks.specs.Holders.{holds, holds_enough}
 use Rattle.row_locks.proofs.TxLemmas.{same_tx-is, same_tx-swap}
 use Rattle.lqh_block.specs.Work.{op_mode}
 use Rattle.commit_laws.specs.OneKey.{AreRight, row_after, row_after_all, row_by}
-use Rattle.commit_laws.specs.Primary.{HasPrepared, HoldOn, IsGood, IsOwned, Primary, answered, ended_too, ended_with, noted, performed, seen_at, stored_by}
+use Rattle.commit_laws.specs.Primary.{HasPrepared, HoldOn, IsGood, IsOwned, Primary, answered, ended_too, ended_with, seen_at, stored_by}
 use Rattle.commit_laws.specs.PrimaryLaws.{AbortsKeepGood, CommitsKeepGood, CompletionsKeepGood, GrantsKeepGood, OperationsKeepGood}
 use Rattle.commit_laws.specs.Records.{AreOnce, as_committed, committed_row, edited, found, if_committed, seen_by, unless_committed}
 use Rattle.commit_laws.proofs.Keys.{same_tx-self}
 use Rattle.commit_laws.proofs.Holding.{holds_so, only_holder}
-use Rattle.commit_laws.proofs.RecordLemmas.{KeepsTx, OnlyOf, committed_keeps, each-edited, each-stored, each_apart, each_both, each_found, found-edited, found-stored, if_keeps, if_same, once-edited, once-stored, unless_keeps, unless_same}
+use Rattle.commit_laws.proofs.RecordLemmas.{KeepsTx, committed_keeps, each-edited, each-stored, each_apart, each_both, each_found, found-edited, found-stored, if_keeps, once-edited, once-stored, unless_keeps}
 
 right_end : (row : Option (List ℕ)) (xs : List (Op × Answer)) (op : Op × Answer) → AreRight row xs → op.1 ≡ answer_to op.0 (row_after_all row xs) → AreRight row (xs ++ op ∷ [])
 right_end row [] op all is = (is, tt)

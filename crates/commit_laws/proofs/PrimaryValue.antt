@@ -1,7 +1,6 @@
 -- What the row of a key is led to at its primary, event by event, and that a decision is right.
 use Rattle.std.proofs.Common.{◌≡◌, ◌⊎◌, ℕ, Bool, true, false, List, [], ◌∷◌, refl, sym, ap, ◌∙◌, subst, inl, inr}
 use Rattle.std.specs.Prelude.{if◌then◌else◌, Option, None, Some}
-use Rattle.std.proofs.lemmas.Bool.{cases_Bool}
 use Rattle.run_theory.specs.Lists.{Each}
 use Rattle.run_theory.proofs.Pasts.{each_map}
 use Rattle.sig_core.specs.declared.member.TxId.{TxId}
@@ -12,12 +11,10 @@ use Rattle.sig_core.specs.declared.rows.PendingRecord.{PendingRecord}
 use Rattle.sig_core.specs.Op.{answer_to, image_of, key_of}
 use Rattle.sig_core.specs.Rows as rows
 use Rattle.sig_core.specs.Same.{same_tx}
-use Rattle.row_locks.specs.declared.claim.Holder.{Holder}
 use Rattle.row_locks.specs.declared.mode.Mode.TheVariants.{Exclusive}
-use Rattle.row_locks.specs.Holders.{holds, holds_enough}
-use Rattle.row_locks.proofs.TxLemmas.{same_tx-is}
+use Rattle.row_locks.specs.Holders.{holds}
 use Rattle.commit_laws.specs.OneKey.{AreRight, row_after_all}
-use Rattle.commit_laws.specs.Primary.{HasPrepared, IsGood, IsLedTo, IsOwned, KeepsToo, Primary, seen_at, stored_by}
+use Rattle.commit_laws.specs.Primary.{IsGood, IsLedTo, IsOwned, Primary, seen_at, stored_by}
 use Rattle.commit_laws.specs.PrimaryLaws.{AbortsKeepValue, CommitsKeepValue, CompletionsKeepValue, DecisionsAreRight, IsDecidedRightly, OperationsKeepValue}
 use Rattle.commit_laws.specs.Records.{AreOnce, as_committed, committed_row, edited, found, is_kept, kept_row, seen_by}
 use Rattle.commit_laws.proofs.Keys.{same_tx-self}

@@ -1,18 +1,17 @@
 -- The records of a replica, key by key: what is stored, committed and dropped on one key, and that the others are left alone.
-use Rattle.std.proofs.Common.{◌≡◌, ℕ, Bool, true, false, cond, not, ◌&&◌, List, [], ◌∷◌, ◌++◌, filter, refl, sym, ap, ◌∙◌, subst}
+use Rattle.std.proofs.Common.{◌≡◌, ℕ, Bool, true, false, cond, ◌&&◌, List, [], ◌∷◌, filter, refl, sym, ap, ◌∙◌, subst}
 use Rattle.std.proofs.lemmas.Bool.{and_parts}
-use Rattle.std.specs.Prelude.{if◌then◌else◌, Option, None, Some, position, remove, slice_get, slice_set}
+use Rattle.std.specs.Prelude.{if◌then◌else◌, Option, None, Some, position}
 use Rattle.run_theory.specs.Lists.{Each}
 use Rattle.sig_core.specs.declared.member.TxId.{TxId}
 use Rattle.sig_core.specs.declared.rows.PendingRecord.{PendingRecord}
-use Rattle.sig_core.specs.Rows as rows
 use Rattle.sig_core.specs.Rows.{RowsState, get_at, is_of, is_on, record_at, record_of, recorded_by}
 use Rattle.sig_core.specs.Same.{same_key, same_tx}
 use Rattle.lqh_block.proofs.IndexLemmas.{same}
 use Rattle.commit_laws.specs.Firsts.{drop_first, first}
-use Rattle.commit_laws.specs.Records.{as_committed, edited, found, if_committed, put_back, stored, unless_committed}
+use Rattle.commit_laws.specs.Records.{edited, found, put_back, stored}
 use Rattle.commit_laws.proofs.Keys.{same_key-self}
-use Rattle.commit_laws.proofs.Firsts.{drop_by, first-drop, first-get, first-set, get_by, place_by, position-cons, set_by, set_first}
+use Rattle.commit_laws.proofs.Firsts.{first-get, get_by, place_by, position-cons, set_first}
 
 -- those on the key
 abbrev pub on : List ℕ → List PendingRecord → List PendingRecord

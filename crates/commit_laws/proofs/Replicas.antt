@@ -1,11 +1,9 @@
 -- A replica is its keys.
 use Rattle.std.proofs.Common.{◌≡◌, ◌==◌, ℕ, zero, suc, Bool, true, false, cond, List, [], ◌∷◌, filter, refl, sym, ap, ◌∙◌, subst}
-use Rattle.std.specs.Cmp.Lexicographic.{nat_list_cmp_total, slice_cmp}
+use Rattle.std.specs.Cmp.Lexicographic.{nat_list_cmp_total}
 use Rattle.std.specs.FinMap as map
-use Rattle.std.specs.Ordering.{nat_cmp}
-use Rattle.std.specs.Prelude.{if◌then◌else◌, Option, None, Some, slice_get, remove}
+use Rattle.std.specs.Prelude.{if◌then◌else◌, Option, None, Some, slice_get}
 use Rattle.run_theory.specs.Lists.{Each}
-use Rattle.sig_core.specs.declared.log.LogStep.{LogStep}
 use Rattle.sig_core.specs.declared.member.Member.{Member}
 use Rattle.sig_core.specs.declared.member.TxId.{TxId}
 use Rattle.sig_core.specs.declared.place.BlockId.{BlockId}
@@ -17,11 +15,11 @@ use Rattle.sig_core.specs.declared.signal.chain.ChainSignal.TheVariants.{LqhKeyR
 use Rattle.sig_core.specs.declared.signal.client.ClientSignal.TheVariants.{TcCommitAck, LqhWaitReq, DumpReq}
 use Rattle.sig_core.specs.declared.signal.host.HostSignal.TheVariants.{Round, Continue}
 use Rattle.sig_core.specs.declared.signal.host.Work.TheVariants as work
-use Rattle.sig_core.specs.Rows.{RowsState, is_on, no_rows, put_row, record_state, set_row, with_place}
+use Rattle.sig_core.specs.Rows.{RowsState, is_on, no_rows, put_row, record_state, with_place}
 use Rattle.sig_core.specs.declared.rows.PendingRecord.{PendingRecord}
 use Rattle.sig_core.specs.Same.{same_key}
 use Rattle.sig_core.specs.Table.{Rows}
-use Rattle.serial_model.specs.Legal.{rows_of, rows_over}
+use Rattle.serial_model.specs.Legal.{rows_over}
 use Rattle.row_locks.specs.declared.mode.Lock.{Lock}
 use Rattle.row_locks.specs.declared.mode.Lock.TheVariants.{Granted, Queued}
 use Rattle.row_locks.specs.OrderlyTables.{AreOrderly}
@@ -35,9 +33,8 @@ use Rattle.lqh_block.specs.Commit as commit
 use Rattle.lqh_block.specs.Complete as complete
 use Rattle.lqh_block.specs.Dump as dump
 use Rattle.lqh_block.specs.Expire as expire
-use Rattle.lqh_block.specs.Lqh.{lqh_row}
 use Rattle.lqh_block.specs.Operate as operate
-use Rattle.lqh_block.specs.State.{LqhState, storage_of, unlocked, with_lock, with_waiting}
+use Rattle.lqh_block.specs.State.{LqhState, storage_of, unlocked}
 use Rattle.lqh_block.specs.Wait as wait
 use Rattle.lqh_block.specs.Work.{work_key, work_mode}
 use Rattle.node_core.specs.declared.host.Host as host
@@ -48,13 +45,12 @@ use Rattle.node_core.specs.Row.{node_row, row}
 use Rattle.world_core.specs.Machine.{after}
 use Rattle.world_core.specs.Start.{Start, started}
 use Rattle.commit_laws.specs.Placed.{AreApart, IsPlaced, has_place}
-use Rattle.commit_laws.specs.Replica.{at_key, event_at, key_after}
-use Rattle.commit_laws.specs.ReplicaLaws.{IsWell, IsWellHost, KeysBeginAtRest, LogsKeepWell, SignalsAreEvents, SignalsKeepWell, at_rest}
+use Rattle.commit_laws.specs.Replica.{at_key}
+use Rattle.commit_laws.specs.ReplicaLaws.{IsWell, IsWellHost, KeysBeginAtRest, LogsKeepWell, SignalsAreEvents, SignalsKeepWell}
 use Rattle.commit_laws.proofs.CellsAt.{placed-aborted, placed-committed, placed-completed, placed-performed}
 use Rattle.commit_laws.proofs.KeyAfter.{granted_event, replica_is, request_event}
 use Rattle.commit_laws.proofs.KeyEnds.{abort_event, applied_locks, applied_rows, commit_event, complete_event, expire_event, given_locks, given_rows, round_event, unasked_is}
 use Rattle.commit_laws.proofs.Keys.{same_key-swap, tied-same_key}
-use Rattle.commit_laws.proofs.LocksAt.{lock-inserted}
 use Rattle.commit_laws.proofs.PlacesAt.{apart-set_row, apart-with_place, has-own_place, row-set_row, row-with_place, row_at, row_of-at}
 
 acknowledged_same : (s : LqhState) (tx : TxId) (key : List ℕ) → at_key key (wait.acknowledged s tx) ≡ at_key key s

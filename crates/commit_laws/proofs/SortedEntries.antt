@@ -1,7 +1,7 @@
 -- The entries of a cut stand in the order of their stamps.
-use Rattle.std.proofs.Common.{◌≡◌, ◌⊎◌, ◌≤◌, ◌<◌, ℕ, zero, suc, Bool, true, false, cond, ◌&&◌, ◌||◌, List, [], ◌∷◌, ◌++◌, filter, refl, sym, ap, ◌∙◌, subst, inl, inr, arith}
+use Rattle.std.proofs.Common.{◌≡◌, ◌≤◌, ◌<◌, ℕ, zero, suc, Bool, true, false, cond, ◌&&◌, ◌||◌, List, [], ◌∷◌, ◌++◌, filter, refl, sym, ap, ◌∙◌, subst, inl, inr, arith}
 use Rattle.std.specs.Prelude.{◌==◌, nat_lt, if◌then◌else◌}
-use Rattle.std.proofs.lemmas.Bool.{eqb-true, le-ltb, ltb-false, ltb-true}
+use Rattle.std.proofs.lemmas.Bool.{eqb-true, ltb-false, ltb-true}
 use Rattle.run_theory.specs.Lists.{Each, IsIn}
 use Rattle.run_theory.proofs.Pasts.{each_in, each_map}
 use Rattle.sig_core.specs.declared.entry.Entry.{Entry}

@@ -1,10 +1,9 @@
 -- What a coordinator says, transaction by transaction: it begins each once, asks for an epoch of each at most once, and tells
 -- of the commit of those alone that are decided.
 use Rattle.std.proofs.Common.{◌≡◌, ◌<◌, ℕ, ◌+◌, Bool, true, false, ◌&&◌, List, [], ◌∷◌, ◌++◌, refl, sym, ap, ◌∙◌, subst, subst₂, arith}
-use Rattle.std.specs.Map.{keys_of, values_of}
-use Rattle.std.specs.Prelude.{Option, None, Some, is_some, position, remove, slice_get, nat_eq, if◌then◌else◌}
+use Rattle.std.specs.Map.{values_of}
+use Rattle.std.specs.Prelude.{Option, None, Some, is_some, slice_get, nat_eq}
 use Rattle.std.proofs.lemmas.Bool.{and_right, ne_eqb}
-use Rattle.indexmap.specs.IndexMap.{insert_entry, set_value_at}
 use Rattle.run_theory.specs.Lists.{Each}
 use Rattle.run_theory.proofs.Pasts.{each_append, each_map}
 use Rattle.sig_core.specs.declared.member.TxId.{TxId}
@@ -19,24 +18,23 @@ use Rattle.sig_core.specs.declared.signal.host.Work.TheVariants as work
 use Rattle.sig_core.specs.Place.{epochs}
 use Rattle.sig_core.specs.Same.{same_tx}
 use Rattle.sig_core.specs.Step.{Step, stay}
-use Rattle.row_locks.proofs.TxLemmas.{same_tx-is, same_tx-swap}
+use Rattle.row_locks.proofs.TxLemmas.{same_tx-swap}
 use Rattle.tc_block.specs.declared.phase.Asked.{Asked}
 use Rattle.tc_block.specs.declared.phase.Phase.{Phase}
 use Rattle.tc_block.specs.declared.phase.Phase.TheVariants.{Open, Verifying, Committing, Completing, Aborting}
 use Rattle.tc_block.specs.declared.transaction.Transaction.{Transaction}
 use Rattle.tc_block.specs.Commit as commit
-use Rattle.tc_block.specs.Live.{place_in, step_of, step_place, step_value, stepped, turn_of, turn_place, turn_value, turned, turned_if, without}
+use Rattle.tc_block.specs.Live.{place_in, step_of, step_place, step_value, stepped, turn_of, turn_place, turn_value, turned_if, without}
 use Rattle.tc_block.specs.Abort.{aborted_row, refuse_row, rollback_row}
 use Rattle.tc_block.specs.Complete.{completed_row}
 use Rattle.tc_block.specs.Operate.{answer_row, fresh, is_ready, operate_row, wait_row}
 use Rattle.tc_block.specs.Sends.{go_on_row}
 use Rattle.tc_block.specs.State.{TcState}
-use Rattle.tc_block.specs.Tc.{begin_if, begin_row, begun, is_full, next_tx, pass_if, pass_row, tc_row}
+use Rattle.tc_block.specs.Tc.{begin_if, begin_row, is_full, next_tx, pass_if, pass_row, tc_row}
 use Rattle.tc_block.specs.Turn.{Turn, at_phase}
 use Rattle.commit_laws.specs.Kinds.{Kind, kind_of}
 use Rattle.commit_laws.specs.Kinds as kind
 use Rattle.commit_laws.specs.Phases.{is_decided, is_open}
-use Rattle.commit_laws.proofs.Keys.{same_tx-self}
 use Rattle.commit_laws.proofs.LiveSplit.{KeysOnce, Live, Split, each_back, each_front, each_inserted, once_back, once_front, once_gone, once_inserted, once_set, split_at}
 use Rattle.commit_laws.proofs.TcGoes.{AllSay, Goes, SaysOf, TurnGoes, aborted_goes, answer_goes, commit_goes, committed_goes, completed_goes, go_on_goes, operate_goes, refuse_goes, rollback_goes, wait_goes}
 

@@ -11,6 +11,7 @@ use Rattle.world_core.specs.History.{history}
 use Rattle.world_core.specs.Machine.{hosts, machine}
 use Rattle.world_core.specs.SerialLaw.{AreEpochsOrdered}
 use Rattle.world_core.specs.Start.{Start, first_view}
+use Rattle.world_core.specs.Strict.{IsStrictOrder}
 use Rattle.world_core.specs.Views.{greatest_view, is_viable}
 use Rattle.commit_laws.specs.OneKey.{IsRightAt, row_at_end}
 
@@ -35,6 +36,12 @@ abbrev pub GreatestViewIsViable : Type 0
 GreatestViewIsViable =
     (start : Start) (inside logs : ℕ → List LogStep) → 0 < start.nodes → IsClosedCut start inside logs
     → is_viable 1 start.nodes (greatest_view start inside) ≡ true
+
+-- the history of a closed cut keeps to strict order
+abbrev pub HistoriesAreStrict : Type 0
+HistoriesAreStrict =
+    (start : Start) (inside logs : ℕ → List LogStep) → IsClosedCut start inside logs
+    → IsStrictOrder start (inside 0) (history (hosts start) inside)
 
 -- a list of entries that is right for each key is legal
 abbrev pub KeysJoin : Type 0

@@ -1,5 +1,6 @@
 pub mod Backup
 pub mod BackupLaws
+pub mod Causes
 pub mod Firsts
 pub mod Kinds
 pub mod Laws
@@ -8,6 +9,7 @@ pub mod OneKey
 pub mod Phases
 pub mod Placed
 pub mod Primary
+pub mod PrimaryEvents
 pub mod PrimaryLaws
 pub mod Records
 pub mod Replica

@@ -4,7 +4,7 @@ use Rattle.std.specs.List.{list_any}
 use Rattle.sig_core.specs.declared.member.TxId.{TxId}
 use Rattle.sig_core.specs.Same.{same_tx}
 use Rattle.row_locks.specs.declared.claim.Wait.{Wait}
-use Rattle.row_locks.specs.declared.mode.Lock.TheVariants.{Granted, Queued}
+use Rattle.row_locks.specs.declared.mode.Lock.TheVariants.{Granted}
 use Rattle.row_locks.specs.declared.mode.Mode.{Mode}
 use Rattle.row_locks.specs.Holders.{holds_enough}
 use Rattle.row_locks.specs.Modes.{is_enough}

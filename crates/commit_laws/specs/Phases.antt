@@ -1,7 +1,7 @@
 -- How far a transaction has come at its coordinator.
 use Rattle.std.specs.Prelude.{Bool, true, false}
 use Rattle.tc_block.specs.declared.phase.Phase.{Phase}
-use Rattle.tc_block.specs.declared.phase.Phase.TheVariants.{Open, Verifying, Committing, Completing, Aborting}
+use Rattle.tc_block.specs.declared.phase.Phase.TheVariants.{Open, Committing, Completing}
 
 -- it takes operations, and hasn't asked for an epoch
 abbrev pub is_open : Phase → Bool

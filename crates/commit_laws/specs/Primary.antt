@@ -1,5 +1,5 @@
 -- One key of its primary replica: its row, the records and the holders of its lock, and what it answered each transaction.
-use Rattle.std.specs.Prelude.{◌≡◌, ◌⊎◌, if◌then◌else◌, ◌||◌, ℕ, Bool, true, false, List, [], ◌∷◌, ◌++◌, Option, None, Some}
+use Rattle.std.specs.Prelude.{◌≡◌, ◌⊎◌, if◌then◌else◌, ◌||◌, ℕ, Bool, true, false, List, [], ◌∷◌, ◌++◌, Option, Some}
 use Rattle.run_theory.specs.Lists.{Each}
 use Rattle.sig_core.specs.declared.member.TxId.{TxId}
 use Rattle.sig_core.specs.declared.op.Answer.{Answer}
@@ -13,7 +13,6 @@ use Rattle.row_locks.specs.declared.claim.Holder.{Holder}
 use Rattle.row_locks.specs.declared.mode.Mode.TheVariants.{Exclusive}
 use Rattle.row_locks.specs.Holders.{holds, holds_enough}
 use Rattle.row_locks.specs.Orderly.{are_agreed}
-use Rattle.lqh_block.specs.Work.{op_mode}
 use Rattle.commit_laws.specs.OneKey.{AreRight, row_after_all}
 use Rattle.commit_laws.specs.Records.{AreOnce, as_committed, committed_row, edited, found, if_committed, kept_row, seen_by, stored, unless_committed}
 

@@ -1,5 +1,5 @@
 //! What holds of every closed cut of right logs.
-ghost use Rattle.commit_laws.specs.Laws.{EpochsNeverFall, GreatestViewIsFirst, GreatestViewIsViable};
+ghost use Rattle.commit_laws.specs.Laws.{EpochsNeverFall, GreatestViewIsFirst, GreatestViewIsViable, HistoriesAreStrict};
 
 /// Epochs never fall along the history of a closed cut.
 pub fn epochs_never_fall()
@@ -11,4 +11,10 @@ pub fn epochs_never_fall()
 pub fn greatest_view_is_viable()
     ensures first { GreatestViewIsFirst }
     ensures viable { GreatestViewIsViable }
+{}
+
+/// The history of a closed cut keeps to strict order: a transaction that was reported before
+/// another one was asked for stands before it.
+pub fn histories_are_strict()
+    ensures { HistoriesAreStrict }
 {}

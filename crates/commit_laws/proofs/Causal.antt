@@ -1,0 +1,361 @@
+-- Along every run: a transaction is decided behind its beginning, and reported behind its decision.
+use Rattle.std.proofs.Common.{◌≡◌, ◌≢◌, ◌⊎◌, ◌≤◌, ℕ, zero, suc, ◌+◌, Bool, true, false, List, [], ◌∷◌, refl, sym, ap, ◌∙◌, subst, inl, inr, arith, true≢false}
+use Rattle.std.proofs.lemmas.Bool.{cases_eq, or_cases}
+use Rattle.std.specs.List.{list_any}
+use Rattle.std.specs.Prelude.{Option, None, Some}
+use Rattle.run_theory.specs.Along.{Comes, IsKept}
+use Rattle.run_theory.specs.Lists.{Each, IsIn, IsPast}
+use Rattle.run_theory.specs.Runs.{log_of}
+use Rattle.run_theory.proofs.Along.{along_signals_of_cuts}
+use Rattle.run_theory.proofs.Links.{signal_below, step_above}
+use Rattle.run_theory.proofs.Orders.{each_next}
+use Rattle.run_theory.proofs.Pasts.{each_map, in_past}
+use Rattle.run_theory.proofs.Runs.{log_of-other, log_of-own, log_of-past}
+use Rattle.sig_core.specs.declared.log.LogStep.{LogStep}
+use Rattle.sig_core.specs.declared.mark.Mark.{Mark}
+use Rattle.sig_core.specs.declared.mark.Mark.TheVariants as mark
+use Rattle.sig_core.specs.declared.member.TxId.{TxId}
+use Rattle.sig_core.specs.declared.outcome.Outcome.TheVariants as outcome
+use Rattle.sig_core.specs.declared.outs.Outgoing.{Outgoing}
+use Rattle.sig_core.specs.declared.place.Place.{Place}
+use Rattle.sig_core.specs.declared.signal.Body.{Body}
+use Rattle.sig_core.specs.declared.signal.Body.TheVariants.{Client, Epoch}
+use Rattle.sig_core.specs.declared.signal.Signal.{Signal}
+use Rattle.sig_core.specs.declared.signal.client.ClientSignal.TheVariants.{TcBeginConf, TcCommitReq, TcCommitConf}
+use Rattle.sig_core.specs.declared.signal.epoch.EpochSignal.TheVariants.{DiVerifyReq, DiVerifyConf}
+use Rattle.row_locks.proofs.TxLemmas.{same_tx-is}
+use Rattle.node_core.specs.declared.host.Host.{Host}
+use Rattle.node_core.specs.declared.host.Host.TheVariants.{Shell, Node}
+use Rattle.node_core.specs.Fresh.{begun_node, fresh_node, fresh_shell}
+use Rattle.node_core.specs.Requests.{is_request}
+use Rattle.node_core.specs.Row.{row}
+use Rattle.world_core.specs.History.{is_reported}
+use Rattle.world_core.specs.Machine.{after, all_headed, counted, headed, hosts, last_stamp, machine, sent_count, signals_of, step_after}
+use Rattle.world_core.specs.Start.{Start, first_view, started}
+use Rattle.world_core.proofs.SentFacts.{last_is}
+use Rattle.world_core.proofs.Stamped.{stamped}
+use Rattle.commit_laws.specs.Causes.{IsDecidedBelow, IsToldBelow, is_decision}
+use Rattle.commit_laws.specs.Kinds.{Kind, kind_of}
+use Rattle.commit_laws.specs.Kinds as kind
+use Rattle.commit_laws.specs.Laws.{IsClosedCut}
+use Rattle.commit_laws.proofs.ApiTold.{Reports, TellsBegun, ToldOf}
+use Rattle.commit_laws.proofs.HostGoes.{Decides, HostGoes, HostKnows, HostSays, ReportsIf, TellsIf, host_goes}
+use Rattle.commit_laws.proofs.TcNumbers.{IsLive, Tells, begun_by, put_kinds, verified_by}
+
+-- a request says nothing of these
+request_other : (body : Body) → is_request body ≡ true → kind_of body ≡ kind.other
+request_other (Client (TcBeginConf name tx)) is = absurd cc
+request_other (Client (TcCommitReq tx)) is = absurd cc
+request_other (Client (TcCommitConf tx epoch)) is = absurd cc
+request_other (Epoch (DiVerifyReq tx ops)) is = absurd cc
+request_other (Epoch (DiVerifyConf tx epoch)) is = absurd cc
+request_other _ is = refl
+
+-- facts stay as logs grow, and as the limit does
+told_more : (small large : ℕ → List LogStep) (tx : TxId) (a b : ℕ) → ((h : ℕ) → IsPast (small h) (large h)) → a ≤ b → IsToldBelow small tx a → IsToldBelow large tx b
+told_more small large tx a b past le is = record { name = is.name; step = is.step; inside = in_past is.step (past 0) is.inside; told = is.told; below = omega (arith, is.below, le) }
+
+decided_more : (small large : ℕ → List LogStep) (tx : TxId) (a b : ℕ) → ((h : ℕ) → IsPast (small h) (large h)) → a ≤ b → IsDecidedBelow small tx a → IsDecidedBelow large tx b
+decided_more small large tx a b past le is = record {
+  host = is.host;
+  step = is.step;
+  inside = in_past is.step (past is.host) is.inside;
+  marked = is.marked;
+  below = omega (arith, is.below, le);
+}
+
+-- what a signal tells of the logs
+abbrev pub Says : (ℕ → List LogStep) → Signal → Kind → Type 0
+Says logs x (kind.begun tx) = x.from.0 ≡ tx.tc
+Says logs x (kind.wanted tx) = IsToldBelow logs tx (x.stamp + 1)
+Says logs x (kind.verified tx) = IsToldBelow logs tx (x.stamp + 1) × (x.from.0 ≡ tx.tc) × (x.to.node ≡ tx.tc)
+Says logs x (kind.decided tx) = IsDecidedBelow logs tx (x.stamp + 1)
+Says logs x (kind.ended tx) = IsDecidedBelow logs tx (x.stamp + 1)
+Says logs x kind.other = Unit {0}
+
+abbrev pub SignalSays : Signal → (ℕ → List LogStep) → Type 0
+SignalSays x logs = Says logs x (kind_of x.body)
+
+says_more : (small large : ℕ → List LogStep) (x : Signal) (k : Kind) → ((h : ℕ) → IsPast (small h) (large h)) → Says small x k → Says large x k
+says_more small large x (kind.begun tx) past says = says
+says_more small large x (kind.wanted tx) past says = told_more small large tx (x.stamp + 1) (x.stamp + 1) past (omega arith) says
+says_more small large x (kind.verified tx) past says = (told_more small large tx (x.stamp + 1) (x.stamp + 1) past (omega arith) says.0, says.1, says.2)
+says_more small large x (kind.decided tx) past says = decided_more small large tx (x.stamp + 1) (x.stamp + 1) past (omega arith) says
+says_more small large x (kind.ended tx) past says = decided_more small large tx (x.stamp + 1) (x.stamp + 1) past (omega arith) says
+says_more small large x kind.other past says = tt
+
+-- a decision in a step, and a report
+pub record DecidesAt (logs : ℕ → List LogStep) (e : LogStep) (tx : TxId) : Type 0 where
+  pub told : IsToldBelow logs tx e.stamp
+  pub from : e.taken.from.0 ≡ tx.tc
+  pub to : e.taken.to.node ≡ tx.tc
+  pub took : kind_of e.taken.body ≡ kind.verified tx
+
+abbrev pub DecidesRightly : (ℕ → List LogStep) → LogStep → Type 0
+DecidesRightly logs e = (tx : TxId) → list_any (is_decision tx) e.marks ≡ true → DecidesAt logs e tx
+
+abbrev pub ReportsRightly : (ℕ → List LogStep) → LogStep → Type 0
+ReportsRightly logs e = (tx : TxId) → list_any (is_reported tx) e.marks ≡ true → IsDecidedBelow logs tx e.stamp
+
+abbrev pub BeginsRightly : LogStep → Type 0
+BeginsRightly e = (tx : TxId) → kind_of e.taken.body ≡ kind.begun tx → e.taken.from.0 ≡ tx.tc
+
+decision_of : (taken : Kind) (marks : List Mark) (tx : TxId) → Each (Decides taken) marks → list_any (is_decision tx) marks ≡ true → taken ≡ kind.verified tx
+decision_of taken [] tx all is = absurd cc
+decision_of taken (m ∷ marks) tx all is = by (or_cases (is_decision tx m) (list_any (is_decision tx) marks) is) (decision_of taken marks tx all.1)
+  where
+    here : (m : Mark) → Decides taken m → is_decision tx m ≡ true → taken ≡ kind.verified tx
+    here (mark.Decided other epoch) decides own = decides ∙ ap (λ t. kind.verified t) (same_tx-is other tx own)
+    here _ decides own = absurd cc
+
+    by : (is_decision tx m ≡ true) ⊎ (list_any (is_decision tx) marks ≡ true) → (list_any (is_decision tx) marks ≡ true → taken ≡ kind.verified tx) → taken ≡ kind.verified tx
+    by (inl own) more = here m all.0 own
+    by (inr rest) more = more rest
+
+report_of : (taken : Kind) (marks : List Mark) (tx : TxId) → Each (Reports taken) marks → list_any (is_reported tx) marks ≡ true → taken ≡ kind.ended tx
+report_of taken [] tx all is = absurd cc
+report_of taken (m ∷ marks) tx all is = by (or_cases (is_reported tx m) (list_any (is_reported tx) marks) is) (report_of taken marks tx all.1)
+  where
+    here : (m : Mark) → Reports taken m → is_reported tx m ≡ true → taken ≡ kind.ended tx
+    here (mark.Reported other (outcome.Committed epoch)) reports own = reports ∙ ap (λ t. kind.ended t) (same_tx-is other tx own)
+    here (mark.Reported other (outcome.Aborted cause)) reports own = absurd cc
+    here _ reports own = absurd cc
+
+    by : (is_reported tx m ≡ true) ⊎ (list_any (is_reported tx) marks ≡ true) → (list_any (is_reported tx) marks ≡ true → taken ≡ kind.ended tx) → taken ≡ kind.ended tx
+    by (inl own) more = here m all.0 own
+    by (inr rest) more = more rest
+
+-- host 0 is the shell's, and the others are nodes
+abbrev IsOf : ℕ → Host → Type 0
+IsOf zero (Shell s) = Unit {0}
+IsOf zero (Node n) = ⊥
+IsOf (suc h) (Shell s) = ⊥
+IsOf (suc h) (Node n) = Unit {0}
+
+row_kind : (h : ℕ) (s : Host) (to : Place) (body : Body) → IsOf h s → IsOf h (row s to body).state
+unfolding row
+row_kind zero (Shell s) to body is = tt
+row_kind zero (Node n) to body is = absurd is
+row_kind (suc h) (Shell s) to body is = absurd is
+row_kind (suc h) (Node n) to body is = tt
+
+started_kind : (start : Start) (h : ℕ) → IsOf h (started start h)
+unfolding fresh_shell fresh_node
+started_kind start zero = tt
+started_kind start (suc h) = tt
+
+knows_more : (h : ℕ) (T D T' D' : TxId → Type 0) (s : Host) (bs vs : List TxId) → ((tx : TxId) → T tx → T' tx) → ((tx : TxId) → D tx → D' tx) → HostKnows h T D s bs vs → HostKnows h T' D' s bs vs
+knows_more h T D T' D' (Shell s) bs vs f g knows = (each_map (λ t. ToldOf T t.tx) (λ t. ToldOf T' t.tx) s.opened (λ t. by t.tx) knows.0, knows.1, knows.2)
+  where
+    by : (o : Option TxId) → ToldOf T o → ToldOf T' o
+    by None is = tt
+    by (Some tx) is = f tx is
+knows_more h T D T' D' (Node n) bs vs f g knows = record {
+  own = knows.own;
+  once = knows.once;
+  live = each_map (IsLive h n.tc.next_seq D vs) (IsLive h n.tc.next_seq D' vs) n.tc.live
+      (λ e is. record { tc = is.tc; below = is.below; decided = λ d. g e.0 (is.decided d); unverified = is.unverified }) knows.live;
+  begun_below = knows.begun_below;
+  begun_apart = knows.begun_apart;
+  verified_below = knows.verified_below;
+  verified_apart = knows.verified_apart;
+}
+
+module _ (start : Start) where
+  -- all that host h, with this log, said to have begun, or asked for an epoch for
+  abbrev pub sent_kinds : (Kind → List TxId → List TxId) → ℕ → List LogStep → List TxId
+  sent_kinds f h [] = []
+  sent_kinds f h (e ∷ log) = put_kinds f (step_after start h log e).effects.sends (sent_kinds f h log)
+
+  abbrev pub ToldBy : (ℕ → List LogStep) → List LogStep → TxId → Type 0
+  ToldBy logs log tx = IsToldBelow logs tx (last_stamp log + 1)
+
+  abbrev pub DecidedBy : (ℕ → List LogStep) → List LogStep → TxId → Type 0
+  DecidedBy logs log tx = IsDecidedBelow logs tx (last_stamp log + 1)
+
+  abbrev pub KnowsBy : (ℕ → List LogStep) → ℕ → List LogStep → Type 0
+  KnowsBy logs h log = HostKnows h (ToldBy logs log) (DecidedBy logs log) (after start h log) (sent_kinds begun_by h log) (sent_kinds verified_by h log)
+
+  pub record AreCausal (logs : ℕ → List LogStep) : Type 0 where
+    pub knows : (h : ℕ) → KnowsBy logs h (logs h)
+    pub decisions : (h : ℕ) → Each (DecidesRightly logs) (logs h)
+    pub reports : Each (ReportsRightly logs) (logs 0)
+    pub begins : Each BeginsRightly (logs 0)
+
+  kind_is : (h : ℕ) (log : List LogStep) → IsOf h (after start h log)
+  kind_is h [] = started_kind start h
+  kind_is h (e ∷ log) = row_kind h (after start h log) e.taken.to e.taken.body (kind_is h log)
+
+  started_knows : (h : ℕ) → KnowsBy (log_of (machine start) []) h []
+  unfolding fresh_shell fresh_node begun_node
+  started_knows zero = (tt, refl, refl)
+  started_knows (suc h) = record {
+    own = omega arith;
+    once = tt;
+    live = tt;
+    begun_below = tt;
+    begun_apart = tt;
+    verified_below = tt;
+    verified_apart = tt;
+  }
+
+  -- one event more
+  module _ (es : List LogStep) (e : LogStep) (come : Comes (machine start) SignalSays AreCausal es e) where
+    abbrev before : ℕ → List LogStep
+    before = log_of (machine start) es
+
+    abbrev now : ℕ → List LogStep
+    now = log_of (machine start) (e ∷ es)
+
+    abbrev h : ℕ
+    h = e.taken.to.node
+
+    grown : (g : ℕ) → IsPast (before g) (now g)
+    grown g = log_of-past (machine start) e es g
+
+    own_log : now h ≡ e ∷ before h
+    own_log = log_of-own (machine start) e es h refl
+
+    here : IsIn e (now h)
+    here = subst (IsIn e) (sym own_log) (inl refl)
+
+    later : e.taken.stamp + 1 ≤ e.stamp
+    later = let below = signal_below (machine start) h (before h) e come.happens.step in omega (arith, below)
+
+    after_last : last_stamp (before h) + 1 ≤ e.stamp + 1
+    after_last = let above = step_above (machine start) h (before h) e come.happens.step in omega (arith, above, last_is start h (before h))
+
+    -- what the taken signal says
+    taken_says : (k : Kind) → kind_of e.taken.body ≡ k → (k ≡ kind.other → ⊥) → Says before e.taken k
+    taken_says k is real = by (is_request e.taken.body) refl
+      where
+        by : (b : Bool) → is_request e.taken.body ≡ b → Says before e.taken k
+        by true asked = absurd (real (sym is ∙ request_other e.taken.body asked))
+        by false asked = subst (Says before e.taken) is (come.told asked)
+
+    tells_decided : (k : Kind) → kind_of e.taken.body ≡ k → Tells (λ tx. IsDecidedBelow now tx (e.stamp + 1)) k
+    tells_decided (kind.decided tx) is = decided_more before now tx (e.taken.stamp + 1) (e.stamp + 1) grown (omega (arith, later)) (taken_says (kind.decided tx) is (λ same. absurd cc))
+    tells_decided (kind.begun tx) is = tt
+    tells_decided (kind.wanted tx) is = tt
+    tells_decided (kind.verified tx) is = tt
+    tells_decided (kind.ended tx) is = tt
+    tells_decided kind.other is = tt
+
+    tells_begun : h ≡ 0 → (body : Body) → e.taken.body ≡ body → TellsBegun (λ tx. IsToldBelow now tx (e.stamp + 1)) (kind_of body)
+    tells_begun at (Client (TcBeginConf name tx)) is = record { name = name; step = e; inside = subst (λ g. IsIn e (now g)) at here; told = is; below = omega arith }
+    tells_begun at (Client (TcCommitReq tx)) is = tt
+    tells_begun at (Client (TcCommitConf tx epoch)) is = tt
+    tells_begun at (Epoch (DiVerifyReq tx ops)) is = tt
+    tells_begun at (Epoch (DiVerifyConf tx epoch)) is = tt
+    tells_begun at _ is = tt
+
+    tells_if : (s : Host) → (g : ℕ) → h ≡ g → IsOf g s → TellsIf s (λ tx. IsToldBelow now tx (e.stamp + 1)) (kind_of e.taken.body)
+    tells_if (Shell s) zero at is = tells_begun at e.taken.body refl
+    tells_if (Shell s) (suc g) at is = absurd is
+    tells_if (Node n) g at is = tt
+
+    goes : HostGoes h (λ tx. IsToldBelow now tx (e.stamp + 1)) (λ tx. IsDecidedBelow now tx (e.stamp + 1)) (kind_of e.taken.body) (sent_kinds begun_by h (before h)) (sent_kinds verified_by h (before h))
+        (step_after start h (before h) e)
+    goes =
+        host_goes h (λ tx. IsToldBelow now tx (e.stamp + 1)) (λ tx. IsDecidedBelow now tx (e.stamp + 1)) (after start h (before h)) e.taken.to e.taken.body
+        (sent_kinds begun_by h (before h)) (sent_kinds verified_by h (before h))
+        (knows_more h (ToldBy before (before h)) (DecidedBy before (before h)) (λ tx. IsToldBelow now tx (e.stamp + 1)) (λ tx. IsDecidedBelow now tx (e.stamp + 1)) (after start h (before h))
+        (sent_kinds begun_by h (before h)) (sent_kinds verified_by h (before h))
+        (λ tx is. told_more before now tx (last_stamp (before h) + 1) (e.stamp + 1) grown after_last is)
+        (λ tx is. decided_more before now tx (last_stamp (before h) + 1) (e.stamp + 1) grown after_last is) (come.all.law.knows h))
+        (tells_decided (kind_of e.taken.body) refl) (tells_if (after start h (before h)) h refl (kind_is h (before h)))
+
+    own_marks : e.marks ≡ (step_after start h (before h) e).effects.marks
+    own_marks = come.happens.step.fits.marks
+
+    knows_now : (g : ℕ) → KnowsBy now g (now g)
+    knows_now g = by (cases_eq h g)
+      where
+        by : (h ≡ g) ⊎ (h ≢ g) → KnowsBy now g (now g)
+        by (inl at) = subst (λ g. KnowsBy now g (now g)) at (subst (KnowsBy now h) (sym own_log) goes.knows)
+        by (inr off) =
+            subst (KnowsBy now g) (sym (log_of-other (machine start) e es g off))
+            (knows_more g (ToldBy before (before g)) (DecidedBy before (before g)) (ToldBy now (before g)) (DecidedBy now (before g)) (after start g (before g))
+            (sent_kinds begun_by g (before g)) (sent_kinds verified_by g (before g))
+            (λ tx is. told_more before now tx (last_stamp (before g) + 1) (last_stamp (before g) + 1) grown (omega arith) is)
+            (λ tx is. decided_more before now tx (last_stamp (before g) + 1) (last_stamp (before g) + 1) grown (omega arith) is) (come.all.law.knows g))
+
+    decides_now : DecidesRightly now e
+    decides_now tx marked =
+        let took : kind_of e.taken.body ≡ kind.verified tx =
+        decision_of (kind_of e.taken.body) (step_after start h (before h) e).effects.marks tx goes.decides (ap (list_any (is_decision tx)) (sym own_marks) ∙ marked) in
+        let says = taken_says (kind.verified tx) took (λ same. absurd cc) in
+        record { told = told_more before now tx (e.taken.stamp + 1) e.stamp grown later says.0; from = says.1; to = says.2; took = took }
+
+    decisions_now : (g : ℕ) → Each (DecidesRightly now) (now g)
+    decisions_now g =
+        each_next (machine start) (DecidesRightly now) es e g decides_now
+        (each_map (DecidesRightly before) (DecidesRightly now) (before g)
+        (λ f rightly tx marked. let is = rightly tx marked in record { told = told_more before now tx f.stamp f.stamp grown (omega arith) is.told; from = is.from; to = is.to; took = is.took })
+        (come.all.law.decisions g))
+
+    reports_of : (s : Host) → IsOf 0 s → ReportsIf s (kind_of e.taken.body) (step_after start h (before h) e).effects.marks → Each (Reports (kind_of e.taken.body)) (step_after start h (before h) e).effects.marks
+    reports_of (Shell s) is reports = reports
+    reports_of (Node n) is reports = absurd is
+
+    report_now : h ≡ 0 → ReportsRightly now e
+    report_now at tx marked =
+        let state : IsOf 0 (step_after start h (before h) e).state = subst (λ g. IsOf g (step_after start h (before h) e).state) at (row_kind h (after start h (before h)) e.taken.to e.taken.body (kind_is h (before h))) in
+        let took : kind_of e.taken.body ≡ kind.ended tx =
+        report_of (kind_of e.taken.body) (step_after start h (before h) e).effects.marks tx (reports_of (step_after start h (before h) e).state state goes.reports)
+        (ap (list_any (is_reported tx)) (sym own_marks) ∙ marked) in
+        decided_more before now tx (e.taken.stamp + 1) e.stamp grown later (taken_says (kind.ended tx) took (λ same. absurd cc))
+
+    reports_now : Each (ReportsRightly now) (now 0)
+    reports_now = by (cases_eq h 0)
+      where
+        old : Each (ReportsRightly now) (before 0)
+        old = each_map (ReportsRightly before) (ReportsRightly now) (before 0) (λ f rightly tx marked. decided_more before now tx f.stamp f.stamp grown (omega arith) (rightly tx marked)) come.all.law.reports
+
+        by : (h ≡ 0) ⊎ (h ≢ 0) → Each (ReportsRightly now) (now 0)
+        by (inl at) = subst (Each (ReportsRightly now)) (sym (log_of-own (machine start) e es 0 at)) (report_now at, old)
+        by (inr off) = subst (Each (ReportsRightly now)) (sym (log_of-other (machine start) e es 0 off)) old
+
+    begins_now : Each BeginsRightly (now 0)
+    begins_now = each_next (machine start) BeginsRightly es e 0 (λ tx is. taken_says (kind.begun tx) is (λ same. absurd cc)) come.all.law.begins
+
+    pub causal_step : AreCausal now
+    causal_step = record { knows = knows_now; decisions = decisions_now; reports = reports_now; begins = begins_now }
+
+    -- what it sends says the truth
+    one_says : (number : ℕ) (o : Outgoing) (k : Kind)
+        → HostSays h (λ tx. IsToldBelow now tx (e.stamp + 1)) (λ tx. IsDecidedBelow now tx (e.stamp + 1)) (kind_of e.taken.body) (step_after start h (before h) e).effects.marks o k
+        → Says now (headed (first_view start.nodes) h e.stamp number o) k
+    one_says number o (kind.begun tx) says = sym says
+    one_says number o (kind.wanted tx) says = says
+    one_says number o (kind.verified tx) says = (
+      told_more before now tx (e.taken.stamp + 1) (e.stamp + 1) grown (omega (arith, later)) (taken_says (kind.wanted tx) says.0 (λ same. absurd cc)),
+      sym says.1,
+      ap (λ (to : Place). to.node) says.2 ∙ sym says.1,
+    )
+    one_says number o (kind.decided tx) says = record { host = h; step = e; inside = here; marked = ap (list_any (is_decision tx)) own_marks ∙ says; below = omega arith }
+    one_says number o (kind.ended tx) says = says
+    one_says number o kind.other says = tt
+
+    all_say : (count : ℕ → ℕ) (sends : List Outgoing)
+        → Each (λ (o : Outgoing). HostSays h (λ tx. IsToldBelow now tx (e.stamp + 1)) (λ tx. IsDecidedBelow now tx (e.stamp + 1)) (kind_of e.taken.body) (step_after start h (before h) e).effects.marks o (kind_of o.body)) sends
+        → Each (λ x. SignalSays x now) (all_headed (first_view start.nodes) h e.stamp count sends)
+    all_say count [] all = tt
+    all_say count (o ∷ more) all = (one_says (count o.to.node) o (kind_of o.body) all.0, all_say (counted o.to.node count) more all.1)
+
+    pub sends_say : Each (λ x. SignalSays x now) (signals_of start h (before h) e)
+    sends_say = all_say (sent_count start h (before h)) (step_after start h (before h) e).effects.sends goes.says
+
+  causal_kept : IsKept (machine start) SignalSays AreCausal
+  causal_kept = record {
+    start = record { knows = started_knows; decisions = λ h. tt; reports = tt; begins = tt };
+    step = λ es e come. causal_step es e come;
+    sends = λ es e come runs. sends_say es e come;
+    closing = λ es e come stop j. absurd (true≢false (sym stop));
+    stays = λ es e x come says. says_more (log_of (machine start) es) (log_of (machine start) (e ∷ es)) x (kind_of x.body) (log_of-past (machine start) e es) says;
+  }
+
+  -- so it is of every closed cut
+  pub cuts_are_causal : (inside logs : ℕ → List LogStep) → IsClosedCut start inside logs → AreCausal inside
+  cuts_are_causal inside logs is =
+      (along_signals_of_cuts (machine start) (stamped start) SignalSays AreCausal causal_kept (hosts start) inside logs is.within is.right is.cut is.closed).law
