@@ -1,6 +1,6 @@
 -- A request for an operation is answered, passed on or waits, at each replica.
-use Rattle.std.proofs.Common.{◌≡◌, ◌⊎◌, ℕ, zero, suc, ◌+◌, ◌≤◌, ◌<◌, List, [], ◌∷◌, ◌++◌, length, Bool, true, false, cond, refl, ap, sym, ◌∙◌, subst, arith, inl, inr}
-use Rattle.std.specs.Prelude.{◌==◌, ◌&&◌, ◌-◌, nat_eq, nat_lt, not, is_some, position, remove, slice_get, Option, None, Some}
+use Rattle.std.proofs.Common.{◌≡◌, ℕ, zero, suc, ◌+◌, ◌≤◌, List, [], ◌∷◌, length, Bool, true, false, cond, refl, ap, sym, subst, arith}
+use Rattle.std.specs.Prelude.{◌==◌, ◌&&◌, nat_lt, not, is_some, remove, slice_get, Option, None, Some}
 use Rattle.std.specs.List.{list_all, prefix_len}
 use Rattle.std.proofs.lemmas.Bool.Decides.{nat_tests}
 use Rattle.sig_core.specs.declared.member.Member.{Member}
@@ -48,7 +48,7 @@ use Rattle.lqh_block.specs.Work.{is_for, work_key}
 use Rattle.answer_laws.proofs.Focus.{IsFocus, found}
 use Rattle.answer_laws.proofs.Tally.{one_if, tally, tally_append, tally_between}
 use Rattle.answer_laws.proofs.TcMoves.{same_tx-is}
-use Rattle.answer_laws.proofs.TcSends.{eqb-self, same_tx-self}
+use Rattle.answer_laws.proofs.TcSends.{eqb-self}
 use Rattle.answer_laws.proofs.Wishes.{is_tc, sends_of}
 
 abbrev pub is_lqh : BlockId → Bool
@@ -178,8 +178,13 @@ module _ (n : ℕ) (tx : TxId) (key : List ℕ) where
       at_focus : (f : IsFocus (operate.is_granted s.locks) s.waiting place) → Keeps s 0 (operate.granted_value s place (Some f.item)).state (operate.granted_value s place (Some f.item)).effects.sends
       at_focus f =
           let left = with_waiting s (remove s.waiting place) in
-          omega (arith, perform_ops (storage_of left) f.item, tally_between mine f.front f.item f.back s.waiting f.is, ap (tally mine) f.removed,
-          tally_append (λ (x : Outgoing). is_op n tx key x.to x.body) (operate.performed left f.item).effects.sends (operate.more_granted left))
+          omega (
+            arith,
+            perform_ops (storage_of left) f.item,
+            tally_between mine f.front f.item f.back s.waiting f.is,
+            ap (tally mine) f.removed,
+            tally_append (λ (x : Outgoing). is_op n tx key x.to x.body) (operate.performed left f.item).effects.sends (operate.more_granted left),
+          )
 
       go : (b : Bool) → nat_lt place (length s.waiting) ≡ b → Keeps s 0 (operate.granted_by s (cond b (Some place) None)).state (operate.granted_by s (cond b (Some place) None)).effects.sends
       go true e =
@@ -223,8 +228,13 @@ module _ (n : ℕ) (tx : TxId) (key : List ℕ) where
   abort_ops : (s : LqhState) (other : TxId) (at_key : List ℕ) → Keeps s 0 (abort.abort_row s other at_key).state (abort.abort_row s other at_key).effects.sends
   unfolding abort.abort_row
   abort_ops s other at_key =
-      omega (arith, unasked_ops s other at_key cause.Request, refused_by_ops other at_key (abort.waits_at s other at_key), given (record_state s.rows other at_key),
-      tally_append (λ (x : Outgoing). is_op n tx key x.to x.body) (abort.refused_by other at_key (abort.waits_at s other at_key)) (to_place (coordinator_of other) (Chain (Aborted other at_key)) ∷ serve_granted s.node (freed_lock s other at_key)))
+      omega (
+        arith,
+        unasked_ops s other at_key cause.Request,
+        refused_by_ops other at_key (abort.waits_at s other at_key),
+        given (record_state s.rows other at_key),
+        tally_append (λ (x : Outgoing). is_op n tx key x.to x.body) (abort.refused_by other at_key (abort.waits_at s other at_key)) (to_place (coordinator_of other) (Chain (Aborted other at_key)) ∷ serve_granted s.node (freed_lock s other at_key)),
+      )
     where
       given : (o : Option Bool) → tally mine (abort.given_up (abort.unasked s other at_key) other at_key o).waiting ≡ tally mine (abort.unasked s other at_key).waiting
       given None = refl
