@@ -17,3 +17,5 @@ pub mod Lives
 pub mod Totals
 pub mod LqhOps
 pub mod TcOps
+pub mod NodeOps
+pub mod Ops

@@ -90,7 +90,7 @@ no_ends_other : (tx one : TxId) (sends : List Outgoing) → same_tx one tx ≡ f
 no_ends_other tx one sends differs kind = none_of (is_tc_kind one) (to_node 0 (is_end tx)) (λ to b k. and_false (to.node == 0) (is_api to.block) (no_end_other tx one differs b k)) sends kind
 
 -- a new number stands last
-insert_new : (live : List (TxId × Transaction)) (tx : TxId) (t : Transaction) → Each (λ (e : TxId × Transaction). e.0.seq < tx.seq) live → insert_entry same_tx live tx t ≡ live ++ (tx, t) ∷ []
+pub insert_new : (live : List (TxId × Transaction)) (tx : TxId) (t : Transaction) → Each (λ (e : TxId × Transaction). e.0.seq < tx.seq) live → insert_entry same_tx live tx t ≡ live ++ (tx, t) ∷ []
 insert_new [] tx t early = refl
 insert_new (e ∷ live) tx t early = go (same_tx tx e.0) refl (insert_new live tx t early.1)
   where

@@ -11,7 +11,7 @@ use Rattle.sig_core.specs.declared.signal.Body.{Body}
 use Rattle.world_core.specs.Machine.{machine, step_after}
 use Rattle.world_core.specs.Start.{Start}
 use Rattle.answer_laws.proofs.LinkCounts.{sent_signals, signals, taken_signals}
-use Rattle.answer_laws.proofs.Tally.{one_if, tally}
+use Rattle.answer_laws.proofs.Tally.{one_if}
 use Rattle.answer_laws.proofs.Wishes.{sends_of, to_node}
 
 -- the sum of f over the numbers below n
@@ -22,6 +22,10 @@ total (suc n) f = f n + total n f
 pub total_same : (n : ℕ) (f g : ℕ → ℕ) → ((k : ℕ) → k < n → f k ≡ g k) → total n f ≡ total n g
 total_same zero f g same = refl
 total_same (suc n) f g same = omega (arith, same n (omega arith), total_same n f g (λ k low. same k (omega (arith, low))))
+
+pub total_le : (n : ℕ) (f g : ℕ → ℕ) → ((k : ℕ) → k < n → f k ≤ g k) → total n f ≤ total n g
+total_le zero f g less = omega arith
+total_le (suc n) f g less = omega (arith, less n (omega arith), total_le n f g (λ k low. less k (omega (arith, low))))
 
 pub total_add : (n : ℕ) (f g : ℕ → ℕ) → total n (λ k. f k + g k) ≡ total n f + total n g
 total_add zero f g = refl

@@ -7,12 +7,15 @@ use Rattle.api_block.specs.Opened.{is_beginning}
 use Rattle.lqh_block.specs.declared.request.Request.{Request}
 use Rattle.lqh_block.specs.Operate.{is_granted}
 use Rattle.lqh_block.specs.State.{LqhState}
+use Rattle.lqh_block.specs.Work.{work_key}
 use Rattle.node_core.specs.declared.host.Host.{Host}
 use Rattle.node_core.specs.declared.host.Host.TheVariants.{Shell, Node}
 use Rattle.run_theory.specs.Lists.{IsIn}
 use Rattle.run_theory.specs.Runs.{AreLogs, IsWithin}
 use Rattle.sig_core.specs.declared.log.LogStep.{LogStep}
 use Rattle.sig_core.specs.declared.member.TxId.{TxId}
+use Rattle.sig_core.specs.Op.{key_of}
+use Rattle.tc_block.specs.declared.phase.Asked.{Asked}
 use Rattle.tc_block.specs.declared.phase.Phase.{Phase}
 use Rattle.tc_block.specs.declared.phase.Phase.TheVariants.{Open, Completing}
 use Rattle.tc_block.specs.declared.transaction.Transaction.{Transaction}
@@ -112,3 +115,32 @@ HasCoordinator start logs t = (tx : TxId) → t.tx ≡ Some tx → IsLiveAt tx (
 
 abbrev pub EachHasCoordinator : Type 0
 EachHasCoordinator = EachAtQuiet HasCoordinator
+
+-- the transaction is one of this host's coordinator
+abbrev pub IsLiveAs : TxId → Transaction → Host → Type 0
+IsLiveAs tx t (Shell s) = ⊥
+IsLiveAs tx t (Node n) = IsIn (tx, t) n.tc.live
+
+-- a request of the transaction for the key is among those whose lock wasn't granted when they came
+pub record IsWaiting (tx : TxId) (key : List ℕ) (s : LqhState) : Type 0 where
+  pub request : Request
+  pub waits : IsIn request s.waiting
+  pub own : request.tx ≡ tx
+  pub on : work_key request.work ≡ key
+
+abbrev pub IsWaitingAt : TxId → List ℕ → Host → Type 0
+IsWaitingAt tx key (Shell s) = ⊥
+IsWaitingAt tx key (Node n) = IsWaiting tx key n.lqh
+
+-- and so at a node
+pub record Waits (start : Start) (logs : ℕ → List LogStep) (tx : TxId) (key : List ℕ) : Type 0 where
+  pub node : ℕ
+  pub from : 1 ≤ node
+  pub to : node ≤ start.nodes
+  pub there : IsWaitingAt tx key (after start node (logs node))
+
+-- an operation that a coordinator's transaction has unanswered waits at a node
+abbrev pub EachOperationWaits : Type 0
+EachOperationWaits =
+    (start : Start) (logs : ℕ → List LogStep) (node : ℕ) (tx : TxId) (t : Transaction) (asked : Asked) → AreQuiet start logs → node ≤ start.nodes
+    → IsLiveAs tx t (after start node (logs node)) → t.asked ≡ Some asked → Waits start logs tx (key_of asked.op)

@@ -1,5 +1,5 @@
 //! What is proved of quiet worlds.
-ghost use Rattle.answer_laws.specs.Answered.{EachHasCoordinator, NoBeginIsLost};
+ghost use Rattle.answer_laws.specs.Answered.{EachHasCoordinator, EachOperationWaits, NoBeginIsLost};
 
 /// When nothing is under way, whether a transaction begins is answered.
 #[tactic(auto, using(crate::proofs::Begins::no_begin))]
@@ -10,4 +10,9 @@ pub fn no_begin_is_lost()
 /// When nothing is under way, each transaction whose end isn't reported is one of its coordinator.
 pub fn each_has_a_coordinator()
     ensures { EachHasCoordinator }
+{}
+
+/// When nothing is under way, each operation that a coordinator's transaction has unanswered waits at a node.
+pub fn each_operation_waits()
+    ensures { EachOperationWaits }
 {}

@@ -3,4 +3,4 @@
 
 mod laws;
 
-pub use laws::{each_has_a_coordinator, no_begin_is_lost};
+pub use laws::{each_has_a_coordinator, each_operation_waits, no_begin_is_lost};
