@@ -3,6 +3,7 @@ use sig_core::{
     Actor, BlockId, Body, ClientSignal, HostId, Key, Member, Members, NoMemory, Outs, Place,
     Signal, Value, View,
 };
+use std::alloc::Global;
 use std::test::Fail;
 
 // Node 1 alone.
@@ -28,26 +29,33 @@ fn signal(block: BlockId) -> Signal {
     }
 }
 
+// Whether a host sends something at a signal for this block.
+fn answers(alloc: Global, host: &mut Host, block: BlockId) -> Result<bool, NoMemory> {
+    let mut outs = Outs::new(alloc)?;
+    host.handle(alloc, &signal(block), &mut outs)?;
+    Ok(outs.take_send().is_some())
+}
+
 #[test]
 fn a_signal_goes_to_the_block_that_it_is_for(rt: HostRuntime) -> Result<(), Fail> {
     let alloc = rt.alloc();
     let rows = [(Key::new(b"a")?, Value::new(b"1")?)];
     let mut node = Host::node(alloc, 1, &one(), 1, &rows)?;
-    let mut shell = Host::shell(alloc, &one())?;
-    let mut outs = Outs::new(alloc)?;
-    for (block, sends) in [(BlockId::Lqh, 1), (BlockId::Tc, 0), (BlockId::Api, 0)] {
-        outs.clear();
-        assert_eq!(rt;
-            node.handle(alloc, &signal(block), &mut outs),
-            Ok::<(), NoMemory>(())
-        );
-        assert_eq!(rt; outs.take_send().is_some(), sends == 1);
+    for (block, sends) in [
+        (BlockId::Lqh, true),
+        (BlockId::Tc, false),
+        (BlockId::Api, false),
+    ] {
+        assert_eq!(rt; answers(alloc, &mut node, block)?, sends);
     }
-    outs.clear();
-    assert_eq!(rt;
-        shell.handle(alloc, &signal(BlockId::Api), &mut outs),
-        Ok::<(), NoMemory>(())
-    );
+    Ok(())
+}
+
+#[test]
+fn a_shell_has_no_rows_and_begins_with_no_reply(rt: HostRuntime) -> Result<(), Fail> {
+    let alloc = rt.alloc();
+    let mut shell = Host::shell(alloc, &one())?;
+    assert!(rt; !answers(alloc, &mut shell, BlockId::Lqh)?);
     assert!(rt; shell.next_reply().is_none());
     assert!(rt; !shell.is_left_open());
     Ok(())
