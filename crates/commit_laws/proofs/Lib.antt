@@ -1,6 +1,7 @@
 pub mod ApiMarks
 pub mod ApiTold
 pub mod BackupMoves
+pub mod BackupOrder
 pub mod Causal
 pub mod CellsAt
 pub mod EachEntry

@@ -1,4 +1,5 @@
 pub mod Backup
+pub mod BackupEvents
 pub mod BackupLaws
 pub mod Causes
 pub mod Firsts
