@@ -19,3 +19,6 @@ pub mod LqhOps
 pub mod TcOps
 pub mod NodeOps
 pub mod Ops
+pub mod TcKeyless
+pub mod TcKeys
+pub mod ApiKeys

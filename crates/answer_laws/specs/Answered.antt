@@ -109,6 +109,11 @@ HasBegun t = is_beginning t.doing ≡ false
 abbrev pub NoBeginIsLost : Type 0
 NoBeginIsLost = EachAtQuiet (λ start logs t. HasBegun t)
 
+-- its operation was sent
+abbrev pub is_operating : Doing → Bool
+is_operating Operating = true
+is_operating _ = false
+
 -- a transaction that has begun, and whose end isn't reported, is one of its coordinator, which hasn't reported it either
 abbrev pub HasCoordinator : Start → (ℕ → List LogStep) → OpenTransaction → Type 0
 HasCoordinator start logs t = (tx : TxId) → t.tx ≡ Some tx → IsLiveAt tx (after start tx.tc (logs tx.tc))
