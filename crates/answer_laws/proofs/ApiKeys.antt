@@ -1,6 +1,6 @@
 -- The API sends an operation where a transaction begins to operate, and is answered once.
-use Rattle.std.proofs.Common.{◌≡◌, ℕ, ◌+◌, ◌≤◌, List, [], ◌∷◌, ◌++◌, Bool, true, false, refl, ap, sym, ◌∙◌, subst, arith}
-use Rattle.std.specs.Prelude.{◌==◌, ◌&&◌, Option, None, Some, is_some, nat_lt, position}
+use Rattle.std.proofs.Common.{◌≡◌, ℕ, ◌+◌, ◌≤◌, List, [], ◌∷◌, ◌++◌, Bool, true, false, refl, ap, sym, ◌∙◌, arith}
+use Rattle.std.specs.Prelude.{◌==◌, ◌&&◌, Option, None, Some, is_some, nat_lt}
 use Rattle.sig_core.specs.declared.member.Member.{Member}
 use Rattle.sig_core.specs.declared.member.TxId.{TxId}
 use Rattle.sig_core.specs.declared.op.Answer.{Answer}
@@ -26,7 +26,7 @@ use Rattle.api_block.specs.Api.{api_row, request_row}
 use Rattle.api_block.specs.Commands.{abort_by, abort_row, begin_at, begin_if, begin_row, commit_by, commit_row, dump_if, dump_row, node_for, tick_row, ticked_if}
 use Rattle.api_block.specs.Dump.{dumped_by, dumped_next, dumped_row}
 use Rattle.api_block.specs.Members.{everyone, is_full, least_node, telling_all}
-use Rattle.api_block.specs.Opened.{asked_for, begins, begins_at, has_tx, is_beginning, is_named, is_tx, is_unanswered, own_place, own_place_by, place_named, place_of, same_name, where_at}
+use Rattle.api_block.specs.Opened.{asked_for, begins, begins_at, has_tx, is_beginning, is_named, is_tx, is_unanswered, own_place_by, place_named, same_name, where_at}
 use Rattle.api_block.specs.Operate.{answer_by, answer_row, begun_by, begun_row, lone_by, lone_row, operate_by, operate_if, operate_row}
 use Rattle.api_block.specs.Outcome.{abort_report_row, commit_report_row, refuse_row}
 use Rattle.api_block.specs.State.{ApiState}
@@ -35,7 +35,6 @@ use Rattle.answer_laws.proofs.Focus.{IsFocus, where_found}
 use Rattle.answer_laws.proofs.Tally.{one_if, tally, tally_append, tally_between}
 use Rattle.answer_laws.proofs.TcKeys.{answer_of, is_key}
 use Rattle.answer_laws.proofs.TcMoves.{end_of, same_tx-is}
-use Rattle.answer_laws.proofs.TcSends.{same_tx-self}
 use Rattle.answer_laws.proofs.Wishes.{sends_of}
 use Rattle.answer_laws.specs.Answered.{is_operating}
 

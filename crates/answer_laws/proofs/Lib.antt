@@ -22,3 +22,4 @@ pub mod Ops
 pub mod TcKeyless
 pub mod TcKeys
 pub mod ApiKeys
+pub mod Asks

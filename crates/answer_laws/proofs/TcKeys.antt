@@ -1,5 +1,5 @@
 -- A coordinator answers each operation that it takes once: what it has unanswered and what it has answered it was asked for.
-use Rattle.std.proofs.Common.{◌≡◌, ◌⊎◌, ℕ, zero, suc, ◌+◌, ◌≤◌, ◌<◌, List, [], ◌∷◌, ◌++◌, length, Bool, true, false, cond, refl, ap, sym, ◌∙◌, subst, arith, inl, inr}
+use Rattle.std.proofs.Common.{◌≡◌, ℕ, ◌+◌, ◌≤◌, List, [], ◌∷◌, ◌++◌, length, Bool, true, false, cond, refl, ap, sym, ◌∙◌, subst, arith}
 use Rattle.std.specs.Prelude.{◌==◌, ◌&&◌, nat_lt, not, is_some, slice_get, Option, None, Some, if◌then◌else◌}
 use Rattle.std.specs.List.{prefix_len}
 use Rattle.std.specs.Map.{keys_of, values_of}
@@ -11,8 +11,6 @@ use Rattle.sig_core.specs.declared.op.Op.{Op}
 use Rattle.sig_core.specs.declared.outcome.AbortCause.{AbortCause}
 use Rattle.sig_core.specs.declared.outcome.AbortCause.TheVariants as cause
 use Rattle.sig_core.specs.declared.outs.Outgoing.{Outgoing}
-use Rattle.sig_core.specs.declared.place.BlockId.{BlockId}
-use Rattle.sig_core.specs.declared.place.BlockId.TheVariants as block
 use Rattle.sig_core.specs.declared.place.Place.{Place}
 use Rattle.sig_core.specs.declared.signal.Body.{Body}
 use Rattle.sig_core.specs.declared.signal.Body.TheVariants.{Host, Client, Chain, Epoch}
@@ -22,13 +20,8 @@ use Rattle.sig_core.specs.declared.signal.epoch.EpochSignal.TheVariants.{DiVerif
 use Rattle.sig_core.specs.declared.signal.host.HostSignal.TheVariants.{Continue}
 use Rattle.sig_core.specs.declared.signal.host.Work.TheVariants as work
 use Rattle.sig_core.specs.declared.view.View.{View}
-use Rattle.sig_core.specs.Op.{key_of}
-use Rattle.sig_core.specs.Same.{same_key, same_tx}
+use Rattle.sig_core.specs.Same.{same_tx}
 use Rattle.sig_core.specs.Step.{Step}
-use Rattle.lqh_block.specs.Lqh.{lqh_row}
-use Rattle.node_core.specs.declared.node.Node as node
-use Rattle.node_core.specs.Dih.{dih_row}
-use Rattle.node_core.specs.Row.{node_row}
 use Rattle.tc_block.specs.declared.phase.Asked.{Asked}
 use Rattle.tc_block.specs.declared.phase.Phase.{Phase}
 use Rattle.tc_block.specs.declared.phase.Phase.TheVariants.{Open, Verifying, Committing, Completing, Aborting}
@@ -42,9 +35,7 @@ use Rattle.tc_block.specs.Sends.{entering, go_on_if, go_on_row}
 use Rattle.tc_block.specs.State.{TcState}
 use Rattle.tc_block.specs.Tc.{begin_if, begin_row, is_full, next_tx, pass_if, pass_row, tc_row}
 use Rattle.tc_block.specs.Turn.{Turn, asking, going}
-use Rattle.answer_laws.proofs.DihSends.{dih_kinds}
-use Rattle.answer_laws.proofs.LqhSends.{lqh_kinds}
-use Rattle.answer_laws.proofs.SendKinds.{SendsOnly, are_of, is_dih_kind, is_keyless, is_lqh_kind, is_tc_kind, none_of}
+use Rattle.answer_laws.proofs.SendKinds.{SendsOnly, are_of, is_keyless, is_tc_kind, none_of}
 use Rattle.answer_laws.proofs.Tally.{one_if, tally, tally_between}
 use Rattle.answer_laws.proofs.TcKeyless as keyless
 use Rattle.answer_laws.proofs.TcLives.{apart}
@@ -275,14 +266,33 @@ module _ (tx : TxId) (s : TcState) where
           which : (b m : Bool) → same_tx one tx ≡ m → Fair (turned_if s place (row f.value) b) (came tx)
           which true false q = omega (arith, was, ap (tally (is_asked tx)) f.removed, no_answers_other tx one (row f.value).step.effects.sends q (kinds f.value))
           which false false q =
-              omega (arith, was, now, ap (tally (is_asked tx)) (f.set (row f.value).step.state), no_answers_other tx one (row f.value).step.effects.sends q (kinds f.value),
-              ap (λ b. one_if (b && is_some (row f.value).step.state.asked)) (key_is ∙ q), ap (λ b. one_if (b && is_some f.value.asked)) (key_is ∙ q))
+              omega (
+                arith,
+                was,
+                now,
+                ap (tally (is_asked tx)) (f.set (row f.value).step.state),
+                no_answers_other tx one (row f.value).step.effects.sends q (kinds f.value),
+                ap (λ b. one_if (b && is_some (row f.value).step.state.asked)) (key_is ∙ q),
+                ap (λ b. one_if (b && is_some f.value.asked)) (key_is ∙ q),
+              )
           which true true q =
-              omega (arith, was, ap (tally (is_asked tx)) f.removed, subst (λ x. IsFair x f.value (row f.value) (came x)) (same_tx-is one tx q) (fair f.value),
-              ap (λ b. one_if (b && is_some f.value.asked)) (key_is ∙ q))
+              omega (
+                arith,
+                was,
+                ap (tally (is_asked tx)) f.removed,
+                subst (λ x. IsFair x f.value (row f.value) (came x)) (same_tx-is one tx q) (fair f.value),
+                ap (λ b. one_if (b && is_some f.value.asked)) (key_is ∙ q),
+              )
           which false true q =
-              omega (arith, was, now, ap (tally (is_asked tx)) (f.set (row f.value).step.state), subst (λ x. IsFair x f.value (row f.value) (came x)) (same_tx-is one tx q) (fair f.value),
-              ap (λ b. one_if (b && is_some (row f.value).step.state.asked)) (key_is ∙ q), ap (λ b. one_if (b && is_some f.value.asked)) (key_is ∙ q))
+              omega (
+                arith,
+                was,
+                now,
+                ap (tally (is_asked tx)) (f.set (row f.value).step.state),
+                subst (λ x. IsFair x f.value (row f.value) (came x)) (same_tx-is one tx q) (fair f.value),
+                ap (λ b. one_if (b && is_some (row f.value).step.state.asked)) (key_is ∙ q),
+                ap (λ b. one_if (b && is_some f.value.asked)) (key_is ∙ q),
+              )
 
       go : (b : Bool) → nat_lt place (length (keys_of s.live)) ≡ b → Fair (turn_place s row (cond b (Some place) None)) (came tx)
       go true e =
@@ -335,8 +345,12 @@ module _ (tx : TxId) (s : TcState) where
 
   operate_fair : (one : TxId) (op : Op) (t : Transaction) → IsFair one t (going (operate.operate_row s.view one t op)) (one_if (same_tx one one))
   operate_fair one op t =
-      omega (arith, no_answers one (operate.operate_row s.view one t op).effects.sends (keyless.operate_keyless s.view one t op), one_most (is_some (operate.operate_row s.view one t op).state.asked),
-      ap one_if (same_tx-self one))
+      omega (
+        arith,
+        no_answers one (operate.operate_row s.view one t op).effects.sends (keyless.operate_keyless s.view one t op),
+        one_most (is_some (operate.operate_row s.view one t op).state.asked),
+        ap one_if (same_tx-self one),
+      )
 
   pub tc_fair : (body : Body) → Fair (tc_row s body) (one_if (key_of_tx tx body))
   unfolding begin_row pass_row
