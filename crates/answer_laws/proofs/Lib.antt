@@ -19,3 +19,7 @@ pub mod LqhOps
 pub mod TcOps
 pub mod NodeOps
 pub mod Ops
+pub mod TcKeyless
+pub mod TcKeys
+pub mod ApiKeys
+pub mod Asks

@@ -61,7 +61,7 @@ plain_end tx (Client (TcCommitConf other epoch)) e = refl
 plain_end tx (Client (TcRollbackRep other cause)) e = refl
 plain_end tx _ e = cc
 
-last_of : (a b : Bool) → (a && b) ≡ true → b ≡ true
+pub last_of : (a b : Bool) → (a && b) ≡ true → b ≡ true
 last_of true b e = e
 last_of false b e = cc
 
@@ -69,7 +69,7 @@ head_of : (a b : Bool) → (a && b) ≡ true → a ≡ true
 head_of true b e = refl
 head_of false b e = e
 
-all_three : (a b c : Bool) → a ≡ false → b ≡ true → c ≡ true → ((not a && b) && c) ≡ true
+pub all_three : (a b c : Bool) → a ≡ false → b ≡ true → c ≡ true → ((not a && b) && c) ≡ true
 all_three false true c p q r = r
 all_three false false c p q r = cc
 all_three true b c p q r = cc
@@ -186,7 +186,7 @@ module _ (start : Start) (tx : TxId) where
   silent_end (suc h) log differs = other_ends h log differs
 
   -- steps that took a signal which one host alone sends took it from that host
-  steps_from : (test : Place → Body → Bool) (i : ℕ) → ((to : Place) (body : Body) → test to body ≡ true → is_request body ≡ false)
+  pub steps_from : (test : Place → Body → Bool) (i : ℕ) → ((to : Place) (body : Body) → test to body ≡ true → is_request body ≡ false)
       → (log : List LogStep) → ((k : ℕ) → k ≢ i → signals test (taken (machine start) k log) ≡ 0) → steps test log ≤ signals test (taken (machine start) i log)
   steps_from test i plain [] none = omega arith
   steps_from test i plain (e ∷ log) none =
@@ -278,6 +278,18 @@ module _ (start : Start) (tx : TxId) where
           where
             none_here : (k : NodeKeeps h (logs (suc h))) → signals (is_end tx) (sent (machine start) (suc h) 0 (logs (suc h))) ≡ 0
             none_here k = none
+
+    taken_started : signals (is_start tx) (taken (machine start) tx.tc (logs 0)) ≤ signals (is_start tx) (sent (machine start) tx.tc 0 (logs tx.tc))
+    taken_started = tally_past (λ (x : Signal). is_start tx x.to x.body) (link tx.tc 0)
+
+    -- it was told once to have begun, and what the API holds isn't told to have ended
+    pub once_started : steps (is_start tx) (logs 0) ≤ 1
+    once_started = omega (arith, starts_there, taken_started, once_sent tx.tc)
+
+    pub holds_at : AreHeld tx (tally (has_tx tx) (opened_in (after start 0 (logs 0)))) (logs 0)
+    holds_at =
+        log_holds start tx (logs 0) once_started
+        (log_ordered (logs 0) ends_none (ordered_past tx (taken (machine start) tx.tc (logs 0)) (sent (machine start) tx.tc 0 (logs tx.tc)) (link tx.tc 0) (ordered_sent tx.tc)))
 
     held_live : (t : OpenTransaction) → IsIn t (opened_after start logs) → t.tx ≡ Some tx → IsLiveAt tx (after start tx.tc (logs tx.tc))
     held_live t inside is = at_low (cases_lt tx.tc (start.nodes + 1))

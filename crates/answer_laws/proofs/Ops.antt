@@ -62,14 +62,14 @@ same_key-self : (key : List ℕ) → same_key key key ≡ true
 same_key-self [] = refl
 same_key-self (byte ∷ key) = true_and (nat_eq byte byte) (same_key key key) (eqb-self byte) (same_key-self key)
 
-same_node : (a b : node.Node) → Node a ≡ Node b → a ≡ b
+pub same_node : (a b : node.Node) → Node a ≡ Node b → a ≡ b
 same_node a b e = cc
 
-row_state : (to : Place) (body : Body) (g : host.Host) (s : node.Node) → g ≡ Node s → (row g to body).state ≡ Node (node_row s to.block body).state
+pub row_state : (to : Place) (body : Body) (g : host.Host) (s : node.Node) → g ≡ Node s → (row g to body).state ≡ Node (node_row s to.block body).state
 unfolding row
 row_state to body g s is = ap (λ x. (row x to body).state) is
 
-row_effects : (to : Place) (body : Body) (g : host.Host) (s : node.Node) → g ≡ Node s → (row g to body).effects.sends ≡ (node_row s to.block body).effects.sends
+pub row_effects : (to : Place) (body : Body) (g : host.Host) (s : node.Node) → g ≡ Node s → (row g to body).effects.sends ≡ (node_row s to.block body).effects.sends
 unfolding row
 row_effects to body g s is = ap (λ x. (row x to body).effects.sends) is
 

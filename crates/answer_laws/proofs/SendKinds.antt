@@ -19,7 +19,7 @@ use Rattle.answer_laws.proofs.Tally.{tally}
 
 -- what a coordinator sends of a transaction. Of no other one it reports the end
 abbrev pub is_tc_kind : TxId → Body → Bool
-is_tc_kind one (Client (TcKeyConf tx answer)) = true
+is_tc_kind one (Client (TcKeyConf other answer)) = same_tx other one
 is_tc_kind tx (Client (TcCommitConf other epoch)) = same_tx other tx
 is_tc_kind tx (Client (TcRollbackRep other cause)) = same_tx other tx
 is_tc_kind one (Client (TcWaitConf tx ahead)) = true
@@ -32,6 +32,11 @@ is_tc_kind one (Epoch (DiVerifyReq tx ops)) = true
 is_tc_kind one (Epoch (DiVerifyEnd tx)) = true
 is_tc_kind one (Host (Continue (Transaction tx) at)) = true
 is_tc_kind one _ = false
+
+-- all but the answer of an operation
+abbrev pub is_keyless : Body → Bool
+is_keyless (Client (TcKeyConf other answer)) = false
+is_keyless _ = true
 
 -- what the block of epochs sends
 abbrev pub is_dih_kind : Body → Bool

@@ -69,7 +69,7 @@ no_end_still tx (Client (TcRollbackRep other cause)) e = cc
 no_end_still tx _ e = refl
 
 -- one transaction isn't another
-apart : (tx one other : TxId) → same_tx one tx ≡ false → same_tx other one ≡ true → same_tx other tx ≡ false
+pub apart : (tx one other : TxId) → same_tx one tx ≡ false → same_tx other one ≡ true → same_tx other tx ≡ false
 apart tx one other differs same = ap (λ t. same_tx t tx) (same_tx-is other one same) ∙ differs
 
 no_end_other : (tx one : TxId) → same_tx one tx ≡ false → (body : Body) → is_tc_kind one body ≡ true → end_of tx body ≡ false

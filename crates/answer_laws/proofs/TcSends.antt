@@ -130,7 +130,7 @@ late_kinds view tx t key = of_map (is_tc_kind tx) (abort_of tx key) (chain_of vi
 
 answer_kinds_by : (view : View) (tx : TxId) (t : Transaction) (key : List ℕ) (answer : Answer) (asked : Option Asked) (phase : Phase)
     → SendsOnly (is_tc_kind tx) (operate.answer_by view tx t key answer asked phase)
-answer_kinds_by view tx t key answer (Some asked) Open = refl
+answer_kinds_by view tx t key answer (Some asked) Open = ap (λ b. if b then true else false) (same_tx-self tx)
 answer_kinds_by view tx t key answer (Some asked) (Aborting why verifying awaited) = late_kinds view tx t key
 answer_kinds_by view tx t key answer (Some asked) Verifying = refl
 answer_kinds_by view tx t key answer (Some asked) (Committing epoch awaited) = refl

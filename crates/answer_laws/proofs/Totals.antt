@@ -83,6 +83,25 @@ unit_few (suc n) at c = go (at == n) refl (unit_few n at c)
     go true e rest = omega (arith, unit_above n at c (omega (arith, eqb-true at n e)))
     go false e rest = omega (arith, rest)
 
+-- one of them is no more than all
+pub total_at : (n : ℕ) (f : ℕ → ℕ) (k : ℕ) → k < n → f k ≤ total n f
+total_at zero f k low = absurd (omega (arith, low))
+total_at (suc n) f k low = go (cases_eq n k) (total_at n f k)
+  where
+    go : (n ≡ k) ⊎ (n ≢ k) → (k < n → f k ≤ total n f) → f k ≤ f n + total n f
+    go (inl is) rest = omega (arith, ap f is)
+    go (inr differs) rest = omega (arith, rest (omega (arith, low, differs)))
+
+-- signals for the hosts below n are no more than all
+pub spread_few : (n : ℕ) (test : Place → Body → Bool) (xs : List Outgoing) → total n (λ j. sends_of (to_node j test) xs) ≤ sends_of test xs
+spread_few n test [] = zeros n
+  where
+    zeros : (m : ℕ) → total m (λ j. 0) ≤ 0
+    zeros zero = omega arith
+    zeros (suc m) = omega (arith, zeros m)
+spread_few n test (x ∷ xs) =
+    omega (arith, total_add n (λ j. one_if ((x.to.node == j) && test x.to x.body)) (λ j. sends_of (to_node j test) xs), spread_few n test xs, unit_few n x.to.node (test x.to x.body))
+
 -- signals for the hosts below n, host by host
 spread : (n : ℕ) (test : Place → Body → Bool) → ((to : Place) (body : Body) → test to body ≡ true → to.node < n) → (xs : List Outgoing)
     → total n (λ j. sends_of (to_node j test) xs) ≡ sends_of test xs

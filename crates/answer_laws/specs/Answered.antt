@@ -109,6 +109,11 @@ HasBegun t = is_beginning t.doing ≡ false
 abbrev pub NoBeginIsLost : Type 0
 NoBeginIsLost = EachAtQuiet (λ start logs t. HasBegun t)
 
+-- its operation was sent
+abbrev pub is_operating : Doing → Bool
+is_operating Operating = true
+is_operating _ = false
+
 -- a transaction that has begun, and whose end isn't reported, is one of its coordinator, which hasn't reported it either
 abbrev pub HasCoordinator : Start → (ℕ → List LogStep) → OpenTransaction → Type 0
 HasCoordinator start logs t = (tx : TxId) → t.tx ≡ Some tx → IsLiveAt tx (after start tx.tc (logs tx.tc))
@@ -144,3 +149,11 @@ abbrev pub EachOperationWaits : Type 0
 EachOperationWaits =
     (start : Start) (logs : ℕ → List LogStep) (node : ℕ) (tx : TxId) (t : Transaction) (asked : Asked) → AreQuiet start logs → node ≤ start.nodes
     → IsLiveAs tx t (after start node (logs node)) → t.asked ≡ Some asked → Waits start logs tx (key_of asked.op)
+
+-- a transaction that has an operation unanswered at its coordinator is one whose operation was sent
+abbrev pub AsksWhereOperating : Start → (ℕ → List LogStep) → OpenTransaction → Type 0
+AsksWhereOperating start logs t =
+    (tx : TxId) (u : Transaction) (asked : Asked) → t.tx ≡ Some tx → IsLiveAs tx u (after start tx.tc (logs tx.tc)) → u.asked ≡ Some asked → is_operating t.doing ≡ true
+
+abbrev pub EachAsksWhereOperating : Type 0
+EachAsksWhereOperating = EachAtQuiet AsksWhereOperating

@@ -1,5 +1,5 @@
 //! What is proved of quiet worlds.
-ghost use Rattle.answer_laws.specs.Answered.{EachHasCoordinator, EachOperationWaits, NoBeginIsLost};
+ghost use Rattle.answer_laws.specs.Answered.{EachAsksWhereOperating, EachHasCoordinator, EachOperationWaits, NoBeginIsLost};
 
 /// When nothing is under way, whether a transaction begins is answered.
 #[tactic(auto, using(crate::proofs::Begins::no_begin))]
@@ -15,4 +15,10 @@ pub fn each_has_a_coordinator()
 /// When nothing is under way, each operation that a coordinator's transaction has unanswered waits at a node.
 pub fn each_operation_waits()
     ensures { EachOperationWaits }
+{}
+
+/// When nothing is under way, a transaction that has an operation unanswered at its coordinator is one whose operation
+/// was sent: where a transaction takes commands, or its commit was asked for, nothing is asked.
+pub fn each_asks_where_operating()
+    ensures { EachAsksWhereOperating }
 {}

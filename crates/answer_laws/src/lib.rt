@@ -3,4 +3,6 @@
 
 mod laws;
 
-pub use laws::{each_has_a_coordinator, each_operation_waits, no_begin_is_lost};
+pub use laws::{
+    each_asks_where_operating, each_has_a_coordinator, each_operation_waits, no_begin_is_lost,
+};

@@ -1,0 +1,370 @@
+-- A coordinator answers each operation that it takes once: what it has unanswered and what it has answered it was asked for.
+use Rattle.std.proofs.Common.{◌≡◌, ℕ, ◌+◌, ◌≤◌, List, [], ◌∷◌, ◌++◌, length, Bool, true, false, cond, refl, ap, sym, ◌∙◌, subst, arith}
+use Rattle.std.specs.Prelude.{◌==◌, ◌&&◌, nat_lt, not, is_some, slice_get, Option, None, Some, if◌then◌else◌}
+use Rattle.std.specs.List.{prefix_len}
+use Rattle.std.specs.Map.{keys_of, values_of}
+use Rattle.std.proofs.lemmas.Bool.Decides.{nat_tests}
+use Rattle.indexmap.specs.IndexMap.{insert_entry}
+use Rattle.sig_core.specs.declared.member.TxId.{TxId}
+use Rattle.sig_core.specs.declared.op.Answer.{Answer}
+use Rattle.sig_core.specs.declared.op.Op.{Op}
+use Rattle.sig_core.specs.declared.outcome.AbortCause.{AbortCause}
+use Rattle.sig_core.specs.declared.outcome.AbortCause.TheVariants as cause
+use Rattle.sig_core.specs.declared.outs.Outgoing.{Outgoing}
+use Rattle.sig_core.specs.declared.place.Place.{Place}
+use Rattle.sig_core.specs.declared.signal.Body.{Body}
+use Rattle.sig_core.specs.declared.signal.Body.TheVariants.{Host, Client, Chain, Epoch}
+use Rattle.sig_core.specs.declared.signal.chain.ChainSignal.TheVariants.{LqhKeyConf, LqhKeyRef, Committed, Completed, Aborted}
+use Rattle.sig_core.specs.declared.signal.client.ClientSignal.TheVariants.{TcBeginReq, TcKeyReq, TcKeyConf, TcCommitReq, TcRollbackReq, TcWaitReq, LqhWaitConf}
+use Rattle.sig_core.specs.declared.signal.epoch.EpochSignal.TheVariants.{DiVerifyConf}
+use Rattle.sig_core.specs.declared.signal.host.HostSignal.TheVariants.{Continue}
+use Rattle.sig_core.specs.declared.signal.host.Work.TheVariants as work
+use Rattle.sig_core.specs.declared.view.View.{View}
+use Rattle.sig_core.specs.Same.{same_tx}
+use Rattle.sig_core.specs.Step.{Step}
+use Rattle.tc_block.specs.declared.phase.Asked.{Asked}
+use Rattle.tc_block.specs.declared.phase.Phase.{Phase}
+use Rattle.tc_block.specs.declared.phase.Phase.TheVariants.{Open, Verifying, Committing, Completing, Aborting}
+use Rattle.tc_block.specs.declared.transaction.Transaction.{Transaction}
+use Rattle.tc_block.specs.Abort as abort
+use Rattle.tc_block.specs.Commit as commit
+use Rattle.tc_block.specs.Complete as complete
+use Rattle.tc_block.specs.Live.{place_in, step_of, step_place, step_value, turn_of, turn_place, turn_value, turned_if, without}
+use Rattle.tc_block.specs.Operate as operate
+use Rattle.tc_block.specs.Sends.{entering, go_on_if, go_on_row}
+use Rattle.tc_block.specs.State.{TcState}
+use Rattle.tc_block.specs.Tc.{begin_if, begin_row, is_full, next_tx, pass_if, pass_row, tc_row}
+use Rattle.tc_block.specs.Turn.{Turn, asking, going}
+use Rattle.answer_laws.proofs.SendKinds.{SendsOnly, are_of, is_keyless, is_tc_kind, none_of}
+use Rattle.answer_laws.proofs.Tally.{one_if, tally, tally_between}
+use Rattle.answer_laws.proofs.TcKeyless as keyless
+use Rattle.answer_laws.proofs.TcLives.{apart}
+use Rattle.answer_laws.proofs.TcMoves.{IsEntry, found, same_tx-is}
+use Rattle.answer_laws.proofs.TcSends.{TurnSends, aborted_kinds, answer_kinds, commit_kinds, committed_kinds, completed_kinds, decide_kinds, go_on_kinds, operate_kinds, refuse_kinds, rollback_kinds, same_tx-self, wait_kinds}
+use Rattle.answer_laws.proofs.Wishes.{and_false, is_api, is_tc, sends_of, to_node}
+
+-- an operation of the transaction is asked for at its coordinator
+abbrev pub key_of_tx : TxId → Body → Bool
+key_of_tx tx (Client (TcKeyReq other op)) = same_tx other tx
+key_of_tx tx _ = false
+
+abbrev pub is_key : TxId → Place → Body → Bool
+is_key tx to body = is_tc to.block && key_of_tx tx body
+
+-- and is answered to the API
+abbrev pub answer_of : TxId → Body → Bool
+answer_of tx (Client (TcKeyConf other answer)) = same_tx other tx
+answer_of tx _ = false
+
+abbrev pub is_answer : TxId → Place → Body → Bool
+is_answer tx to body = is_api to.block && answer_of tx body
+
+abbrev pub answers_in : TxId → List Outgoing → ℕ
+answers_in tx sends = sends_of (to_node 0 (is_answer tx)) sends
+
+abbrev pub has_asked : Transaction → ℕ
+has_asked t = one_if (is_some t.asked)
+
+abbrev pub is_asked : TxId → TxId × Transaction → Bool
+is_asked tx e = same_tx e.0 tx && is_some e.1.asked
+
+no_answer_keyless : (tx : TxId) (body : Body) → is_keyless body ≡ true → answer_of tx body ≡ false
+no_answer_keyless tx (Client (TcKeyConf other answer)) e = cc
+no_answer_keyless tx _ e = refl
+
+no_answers : (tx : TxId) (sends : List Outgoing) → are_of is_keyless sends ≡ true → answers_in tx sends ≡ 0
+no_answers tx sends kind = none_of is_keyless (to_node 0 (is_answer tx)) (λ to b k. and_false (to.node == 0) (is_api to.block) (no_answer_keyless tx b k)) sends kind
+
+no_answer_other : (tx one : TxId) → same_tx one tx ≡ false → (body : Body) → is_tc_kind one body ≡ true → answer_of tx body ≡ false
+no_answer_other tx one differs (Client (TcKeyConf other answer)) e = apart tx one other differs e
+no_answer_other tx one differs _ e = refl
+
+no_answers_other : (tx one : TxId) (sends : List Outgoing) → same_tx one tx ≡ false → are_of (is_tc_kind one) sends ≡ true → answers_in tx sends ≡ 0
+no_answers_other tx one sends differs kind = none_of (is_tc_kind one) (to_node 0 (is_answer tx)) (λ to b k. and_false (to.node == 0) (is_api to.block) (no_answer_other tx one differs b k)) sends kind
+
+-- what is unanswered after a turn, or was answered with it, was unanswered before, or came with it
+abbrev pub IsFair : TxId → Transaction → Turn → ℕ → Type 0
+IsFair tx t turn came = has_asked turn.step.state + answers_in tx turn.step.effects.sends ≤ has_asked t + came
+
+one_most : (b : Bool) → one_if b ≤ 1
+one_most true = omega arith
+one_most false = omega arith
+
+module _ (tx : TxId) (t : Transaction) where
+  -- what the transaction has unanswered stays so
+  abbrev StaysAsked : Turn → Type 0
+  StaysAsked turn = has_asked turn.step.state ≤ has_asked t
+
+  go_on_stays : (node : ℕ) (view : View) (at : ℕ) → StaysAsked (going (go_on_row node view tx t at))
+  unfolding go_on_row
+  go_on_stays node view at = go (nat_lt at 512)
+    where
+      go : (b : Bool) → StaysAsked (going (go_on_if node view tx t at b))
+      go true = omega arith
+      go false = omega arith
+
+  wait_stays : StaysAsked (going (operate.wait_row tx t))
+  unfolding operate.wait_row
+  wait_stays = go t.asked
+    where
+      go : (asked : Option Asked) → StaysAsked (going (operate.wait_by tx t asked))
+      go None = omega arith
+      go (Some asked) = omega arith
+
+  decide_stays : (node : ℕ) → StaysAsked (going (commit.decide_row node tx t))
+  unfolding commit.decide_row
+  decide_stays node = go (operate.is_ready t.phase t.asked)
+    where
+      go : (b : Bool) → StaysAsked (going (commit.decide_if node tx t b))
+      go true = omega arith
+      go false = omega arith
+
+  all_committed_stays : (node : ℕ) (view : View) (epoch : ℕ) → StaysAsked (complete.all_committed node view tx t epoch)
+  unfolding complete.all_committed entering
+  all_committed_stays node view epoch = go (complete.written_count t.touched == 0)
+    where
+      go : (b : Bool) → StaysAsked (complete.all_committed_if node view tx t epoch b)
+      go true = omega arith
+      go false = omega arith
+
+  commit_stays : (node : ℕ) (view : View) (epoch : ℕ) → StaysAsked (commit.commit_row node view tx t epoch)
+  unfolding commit.commit_row entering
+  commit_stays node view epoch = by t.phase
+    where
+      which : (b : Bool) → StaysAsked (commit.commit_if node view tx t epoch b)
+      which true = all_committed_stays node view epoch
+      which false = omega arith
+
+      by : (phase : Phase) → StaysAsked (commit.commit_by node view tx t epoch phase)
+      by Verifying = which (length t.touched == 0)
+      by Open = omega arith
+      by (Committing other awaited) = omega arith
+      by (Completing other awaited) = omega arith
+      by (Aborting why verifying awaited) = omega arith
+
+  committed_stays : (node : ℕ) (view : View) → StaysAsked (commit.committed_row node view tx t)
+  unfolding commit.committed_row
+  committed_stays node view = by t.phase
+    where
+      which : (epoch awaited : ℕ) (b : Bool) → StaysAsked (commit.committed_if node view tx t epoch awaited b)
+      which epoch awaited true = omega arith
+      which epoch awaited false = all_committed_stays node view epoch
+
+      by : (phase : Phase) → StaysAsked (commit.committed_by node view tx t phase)
+      by (Committing epoch awaited) = which epoch awaited (nat_lt 1 awaited)
+      by Open = omega arith
+      by Verifying = omega arith
+      by (Completing other awaited) = omega arith
+      by (Aborting why verifying awaited) = omega arith
+
+  completed_stays : (node : ℕ) → StaysAsked (complete.completed_row node tx t)
+  unfolding complete.completed_row
+  completed_stays node = by t.phase
+    where
+      which : (epoch awaited : ℕ) (b : Bool) → StaysAsked (complete.completed_if node tx t epoch awaited b)
+      which epoch awaited true = omega arith
+      which epoch awaited false = omega arith
+
+      by : (phase : Phase) → StaysAsked (complete.completed_by node tx t phase)
+      by (Completing epoch awaited) = which epoch awaited (nat_lt 1 awaited)
+      by Open = omega arith
+      by Verifying = omega arith
+      by (Committing other awaited) = omega arith
+      by (Aborting why verifying awaited) = omega arith
+
+  aborted_stays : (node : ℕ) → StaysAsked (abort.aborted_row node tx t)
+  unfolding abort.aborted_row
+  aborted_stays node = by t.phase
+    where
+      which : (why : AbortCause) (verifying : Bool) (awaited : ℕ) (b : Bool) → StaysAsked (abort.aborted_if node tx t why verifying awaited b)
+      which why verifying awaited true = omega arith
+      which why verifying awaited false = omega arith
+
+      by : (phase : Phase) → StaysAsked (abort.aborted_by node tx t phase)
+      by (Aborting why verifying awaited) = which why verifying awaited (nat_lt 1 awaited)
+      by Open = omega arith
+      by Verifying = omega arith
+      by (Committing epoch awaited) = omega arith
+      by (Completing epoch awaited) = omega arith
+
+  rollback_stays : (node : ℕ) (view : View) → StaysAsked (abort.rollback_row node view tx t)
+  unfolding abort.rollback_row abort.aborted_for entering
+  rollback_stays node view = by t.phase
+    where
+      which : (b : Bool) → StaysAsked (abort.abort_if node view tx t cause.Request b)
+      which true = omega arith
+      which false = omega arith
+
+      by : (phase : Phase) → StaysAsked (abort.rollback_by node view tx t phase)
+      by Open = which (abort.aborts_awaited view t == 0)
+      by Verifying = which (abort.aborts_awaited view t == 0)
+      by (Committing epoch awaited) = omega arith
+      by (Completing epoch awaited) = omega arith
+      by (Aborting why verifying awaited) = omega arith
+
+  refuse_stays : (node : ℕ) (view : View) (at : List ℕ) (why : AbortCause) → StaysAsked (abort.refuse_row node view tx t at why)
+  unfolding abort.refuse_row abort.aborted_for entering
+  refuse_stays node view at why = by (operate.asked_on t.asked at) t.phase
+    where
+      which : (b : Bool) → StaysAsked (abort.abort_if node view tx (asking t None) why b)
+      which true = omega arith
+      which false = omega arith
+
+      by : (o : Option Asked) (phase : Phase) → StaysAsked (abort.refuse_by node view tx t at why o phase)
+      by (Some a) Open = which (abort.aborts_awaited view (asking t None) == 0)
+      by (Some a) (Aborting other verifying awaited) = omega arith
+      by (Some a) Verifying = omega arith
+      by (Some a) (Committing epoch awaited) = omega arith
+      by (Some a) (Completing epoch awaited) = omega arith
+      by None phase = omega arith
+
+  answer_fair : (view : View) (at : List ℕ) (answer : Answer) → IsFair tx t (going (operate.answer_row view tx t at answer)) 0
+  unfolding operate.answer_row
+  answer_fair view at answer = by (operate.asked_on t.asked at) t.phase refl
+    where
+      was : (o : Option Asked) (a : Asked) → operate.asked_on o at ≡ Some a → one_if (is_some o) ≡ 1
+      was None a e = absurd (no_some e)
+        where
+          no_some : None ≡ Some a → ⊥
+          no_some q = cc
+      was (Some b) a e = refl
+
+      late : answers_in tx (operate.late_answer view tx t at).effects.sends ≡ 0
+      late = no_answers tx (operate.late_answer view tx t at).effects.sends (keyless.late_keyless view tx t at)
+
+      by : (o : Option Asked) (phase : Phase) → operate.asked_on t.asked at ≡ o → IsFair tx t (going (operate.answer_by view tx t at answer o phase)) 0
+      by (Some a) Open e = omega (arith, was t.asked a e, one_most (same_tx tx tx))
+      by (Some a) (Aborting why verifying awaited) e = omega (arith, late)
+      by (Some a) Verifying e = omega arith
+      by (Some a) (Committing epoch awaited) e = omega arith
+      by (Some a) (Completing epoch awaited) e = omega arith
+      by None phase e = omega arith
+
+module _ (tx : TxId) (s : TcState) where
+  abbrev Fair : Step TcState → ℕ → Type 0
+  Fair step came = tally (is_asked tx) step.state.live + answers_in tx step.effects.sends ≤ tally (is_asked tx) s.live + came
+
+  turn_fair : (one : TxId) (row : Transaction → Turn) (came : TxId → ℕ) → ((t : Transaction) → TurnSends one (row t)) → ((t : Transaction) → IsFair one t (row t) (came one)) → Fair (turn_of s one row) (came tx)
+  unfolding without
+  turn_fair one row came kinds fair = go (nat_lt place (length (keys_of s.live))) refl
+    where
+      place : ℕ
+      place = prefix_len (λ x. not (same_tx one x)) (keys_of s.live)
+
+      over : (f : IsEntry (same_tx one) s.live place) (b m : Bool) → same_tx one tx ≡ m → Fair (turned_if s place (row f.value) b) (came tx)
+      over f b m is = which b m is
+        where
+          key_is : same_tx f.key tx ≡ same_tx one tx
+          key_is = ap (λ t. same_tx t tx) (sym (same_tx-is one f.key f.passes))
+
+          was : tally (is_asked tx) s.live ≡ tally (is_asked tx) (f.front ++ f.back) + one_if (same_tx f.key tx && is_some f.value.asked)
+          was = tally_between (is_asked tx) f.front (f.key, f.value) f.back s.live f.is
+
+          now : tally (is_asked tx) (f.front ++ (f.key, (row f.value).step.state) ∷ f.back) ≡ tally (is_asked tx) (f.front ++ f.back) + one_if (same_tx f.key tx && is_some (row f.value).step.state.asked)
+          now = tally_between (is_asked tx) f.front (f.key, (row f.value).step.state) f.back (f.front ++ (f.key, (row f.value).step.state) ∷ f.back) refl
+
+          which : (b m : Bool) → same_tx one tx ≡ m → Fair (turned_if s place (row f.value) b) (came tx)
+          which true false q = omega (arith, was, ap (tally (is_asked tx)) f.removed, no_answers_other tx one (row f.value).step.effects.sends q (kinds f.value))
+          which false false q =
+              omega (
+                arith,
+                was,
+                now,
+                ap (tally (is_asked tx)) (f.set (row f.value).step.state),
+                no_answers_other tx one (row f.value).step.effects.sends q (kinds f.value),
+                ap (λ b. one_if (b && is_some (row f.value).step.state.asked)) (key_is ∙ q),
+                ap (λ b. one_if (b && is_some f.value.asked)) (key_is ∙ q),
+              )
+          which true true q =
+              omega (
+                arith,
+                was,
+                ap (tally (is_asked tx)) f.removed,
+                subst (λ x. IsFair x f.value (row f.value) (came x)) (same_tx-is one tx q) (fair f.value),
+                ap (λ b. one_if (b && is_some f.value.asked)) (key_is ∙ q),
+              )
+          which false true q =
+              omega (
+                arith,
+                was,
+                now,
+                ap (tally (is_asked tx)) (f.set (row f.value).step.state),
+                subst (λ x. IsFair x f.value (row f.value) (came x)) (same_tx-is one tx q) (fair f.value),
+                ap (λ b. one_if (b && is_some (row f.value).step.state.asked)) (key_is ∙ q),
+                ap (λ b. one_if (b && is_some f.value.asked)) (key_is ∙ q),
+              )
+
+      go : (b : Bool) → nat_lt place (length (keys_of s.live)) ≡ b → Fair (turn_place s row (cond b (Some place) None)) (came tx)
+      go true e =
+          let f = found (same_tx one) s.live (grind (arith, nat_tests, e)) in
+          subst (λ o. Fair (turn_value s row place o) (came tx)) (sym f.get) (over f (row f.value).over (same_tx one tx) refl)
+      go false e = omega arith
+
+  step_is : (one : TxId) (row : Transaction → Step Transaction) → step_of s one row ≡ turn_of s one (λ t. going (row t))
+  step_is one row = at_place (place_in s one)
+    where
+      at_value : (at : ℕ) (t : Option Transaction) → step_value s row at t ≡ turn_value s (λ t. going (row t)) at t
+      at_value at None = refl
+      at_value at (Some t) = refl
+
+      at_place : (o : Option ℕ) → step_place s row o ≡ turn_place s (λ t. going (row t)) o
+      at_place None = refl
+      at_place (Some at) = at_value at (slice_get (values_of s.live) at)
+
+  step_fair : (one : TxId) (row : Transaction → Step Transaction) (came : TxId → ℕ) → ((t : Transaction) → SendsOnly (is_tc_kind one) (row t)) → ((t : Transaction) → IsFair one t (going (row t)) (came one)) → Fair (step_of s one row) (came tx)
+  step_fair one row came kinds fair = subst (λ st. Fair st (came tx)) (sym (step_is one row)) (turn_fair one (λ t. going (row t)) came kinds fair)
+
+  -- a turn that answers nothing
+  still : (one : TxId) (t : Transaction) (turn : Turn) → are_of is_keyless turn.step.effects.sends ≡ true → has_asked turn.step.state ≤ has_asked t → IsFair one t turn 0
+  still one t turn kind stays = omega (arith, no_answers one turn.step.effects.sends kind, stays)
+
+  fresh_few : (live : List (TxId × Transaction)) (one : TxId) → tally (is_asked tx) (insert_entry same_tx live one operate.fresh) ≤ tally (is_asked tx) live
+  fresh_few [] one = none (same_tx one tx)
+    where
+      none : (b : Bool) → one_if (b && false) + 0 ≤ 0
+      none true = omega arith
+      none false = omega arith
+  fresh_few (e ∷ live) one = go (same_tx one e.0) (fresh_few live one)
+    where
+      none : (b c : Bool) → one_if (b && false) ≤ one_if (b && c)
+      none true c = omega arith
+      none false c = omega arith
+
+      go : (b : Bool) → tally (is_asked tx) (insert_entry same_tx live one operate.fresh) ≤ tally (is_asked tx) live
+          → tally (is_asked tx) (if b then (e.0, operate.fresh) ∷ live else e ∷ insert_entry same_tx live one operate.fresh) ≤ tally (is_asked tx) (e ∷ live)
+      go true rest = omega (arith, none (same_tx e.0 tx) (is_some e.1.asked))
+      go false rest = omega (arith, rest)
+
+  begin_fair : (name : Option ℕ) (b : Bool) → Fair (begin_if s name b) 0
+  begin_fair name true = omega arith
+  begin_fair name false = omega (arith, fresh_few s.live (next_tx s))
+
+  pass_fair : (one ahead : TxId) (b : Bool) → Fair (pass_if s one ahead b) 0
+  pass_fair one ahead true = omega arith
+  pass_fair one ahead false = omega arith
+
+  operate_fair : (one : TxId) (op : Op) (t : Transaction) → IsFair one t (going (operate.operate_row s.view one t op)) (one_if (same_tx one one))
+  operate_fair one op t =
+      omega (
+        arith,
+        no_answers one (operate.operate_row s.view one t op).effects.sends (keyless.operate_keyless s.view one t op),
+        one_most (is_some (operate.operate_row s.view one t op).state.asked),
+        ap one_if (same_tx-self one),
+      )
+
+  pub tc_fair : (body : Body) → Fair (tc_row s body) (one_if (key_of_tx tx body))
+  unfolding begin_row pass_row
+  tc_fair (Host (Continue (work.Transaction one) at)) = step_fair one _ (λ x. 0) (λ t. go_on_kinds s.node s.view one t at) (λ t. still one t (going (go_on_row s.node s.view one t at)) (keyless.go_on_keyless s.node s.view one t at) (go_on_stays one t s.node s.view at))
+  tc_fair (Client (TcBeginReq name)) = begin_fair name (is_full s)
+  tc_fair (Client (TcKeyReq one op)) = step_fair one _ (λ x. one_if (same_tx one x)) (λ t. operate_kinds s.view one t op) (λ t. operate_fair one op t)
+  tc_fair (Client (TcCommitReq one)) = step_fair one _ (λ x. 0) (λ t. decide_kinds s.node one t) (λ t. still one t (going (commit.decide_row s.node one t)) (keyless.decide_keyless s.node one t) (decide_stays one t s.node))
+  tc_fair (Client (TcRollbackReq one)) = turn_fair one _ (λ x. 0) (λ t. rollback_kinds s.node s.view one t) (λ t. still one t (abort.rollback_row s.node s.view one t) (keyless.rollback_keyless s.node s.view one t) (rollback_stays one t s.node s.view))
+  tc_fair (Client (TcWaitReq one)) = step_fair one _ (λ x. 0) (λ t. wait_kinds one t) (λ t. still one t (going (operate.wait_row one t)) (keyless.wait_keyless one t) (wait_stays one t))
+  tc_fair (Client (LqhWaitConf one ahead)) = pass_fair one ahead (is_some (place_in s one))
+  tc_fair (Chain (LqhKeyConf one at answer)) = step_fair one _ (λ x. 0) (λ t. answer_kinds s.view one t at answer) (λ t. answer_fair one t s.view at answer)
+  tc_fair (Chain (LqhKeyRef one at why)) = turn_fair one _ (λ x. 0) (λ t. refuse_kinds s.node s.view one t at why) (λ t. still one t (abort.refuse_row s.node s.view one t at why) (keyless.refuse_keyless s.node s.view one t at why) (refuse_stays one t s.node s.view at why))
+  tc_fair (Chain (Committed one at)) = turn_fair one _ (λ x. 0) (λ t. committed_kinds s.node s.view one t) (λ t. still one t (commit.committed_row s.node s.view one t) (keyless.committed_keyless s.node s.view one t) (committed_stays one t s.node s.view))
+  tc_fair (Chain (Completed one at)) = turn_fair one _ (λ x. 0) (λ t. completed_kinds s.node one t) (λ t. still one t (complete.completed_row s.node one t) (keyless.completed_keyless s.node one t) (completed_stays one t s.node))
+  tc_fair (Chain (Aborted one at)) = turn_fair one _ (λ x. 0) (λ t. aborted_kinds s.node one t) (λ t. still one t (abort.aborted_row s.node one t) (keyless.aborted_keyless s.node one t) (aborted_stays one t s.node))
+  tc_fair (Epoch (DiVerifyConf one epoch)) = turn_fair one _ (λ x. 0) (λ t. commit_kinds s.node s.view one t epoch) (λ t. still one t (commit.commit_row s.node s.view one t epoch) (keyless.commit_keyless s.node s.view one t epoch) (commit_stays one t s.node s.view epoch))
+  tc_fair _ = omega arith
