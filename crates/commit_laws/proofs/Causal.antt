@@ -19,7 +19,8 @@ use Rattle.sig_core.specs.declared.outcome.Outcome.TheVariants as outcome
 use Rattle.sig_core.specs.declared.outs.Outgoing.{Outgoing}
 use Rattle.sig_core.specs.declared.place.Place.{Place}
 use Rattle.sig_core.specs.declared.signal.Body.{Body}
-use Rattle.sig_core.specs.declared.signal.Body.TheVariants.{Client, Epoch}
+use Rattle.sig_core.specs.declared.signal.Body.TheVariants.{Client, Chain, Epoch}
+use Rattle.sig_core.specs.declared.signal.chain.ChainSignal.TheVariants.{Commit}
 use Rattle.sig_core.specs.declared.signal.Signal.{Signal}
 use Rattle.sig_core.specs.declared.signal.client.ClientSignal.TheVariants.{TcBeginConf, TcCommitReq, TcCommitConf}
 use Rattle.sig_core.specs.declared.signal.epoch.EpochSignal.TheVariants.{DiVerifyReq, DiVerifyConf}
@@ -49,6 +50,7 @@ request_other (Client (TcCommitReq tx)) is = absurd cc
 request_other (Client (TcCommitConf tx epoch)) is = absurd cc
 request_other (Epoch (DiVerifyReq tx ops)) is = absurd cc
 request_other (Epoch (DiVerifyConf tx epoch)) is = absurd cc
+request_other (Chain (Commit tx key epoch chain at)) is = absurd cc
 request_other _ is = refl
 
 -- facts stay as logs grow, and as the limit does
@@ -70,6 +72,7 @@ Says logs x (kind.begun tx) = x.from.0 ≡ tx.tc
 Says logs x (kind.wanted tx) = IsToldBelow logs tx (x.stamp + 1)
 Says logs x (kind.verified tx) = IsToldBelow logs tx (x.stamp + 1) × (x.from.0 ≡ tx.tc) × (x.to.node ≡ tx.tc)
 Says logs x (kind.decided tx) = IsDecidedBelow logs tx (x.stamp + 1)
+Says logs x (kind.committing tx) = IsDecidedBelow logs tx (x.stamp + 1)
 Says logs x (kind.ended tx) = IsDecidedBelow logs tx (x.stamp + 1)
 Says logs x kind.other = Unit {0}
 
@@ -81,6 +84,7 @@ says_more small large x (kind.begun tx) past says = says
 says_more small large x (kind.wanted tx) past says = told_more small large tx (x.stamp + 1) (x.stamp + 1) past (omega arith) says
 says_more small large x (kind.verified tx) past says = (told_more small large tx (x.stamp + 1) (x.stamp + 1) past (omega arith) says.0, says.1, says.2)
 says_more small large x (kind.decided tx) past says = decided_more small large tx (x.stamp + 1) (x.stamp + 1) past (omega arith) says
+says_more small large x (kind.committing tx) past says = decided_more small large tx (x.stamp + 1) (x.stamp + 1) past (omega arith) says
 says_more small large x (kind.ended tx) past says = decided_more small large tx (x.stamp + 1) (x.stamp + 1) past (omega arith) says
 says_more small large x kind.other past says = tt
 
@@ -96,6 +100,9 @@ DecidesRightly logs e = (tx : TxId) → list_any (is_decision tx) e.marks ≡ tr
 
 abbrev pub ReportsRightly : (ℕ → List LogStep) → LogStep → Type 0
 ReportsRightly logs e = (tx : TxId) → list_any (is_reported tx) e.marks ≡ true → IsDecidedBelow logs tx e.stamp
+
+abbrev pub CommitsRightly : (ℕ → List LogStep) → LogStep → Type 0
+CommitsRightly logs e = (tx : TxId) → kind_of e.taken.body ≡ kind.committing tx → IsDecidedBelow logs tx e.stamp
 
 abbrev pub BeginsRightly : LogStep → Type 0
 BeginsRightly e = (tx : TxId) → kind_of e.taken.body ≡ kind.begun tx → e.taken.from.0 ≡ tx.tc
@@ -181,6 +188,7 @@ module _ (start : Start) where
     pub decisions : (h : ℕ) → Each (DecidesRightly logs) (logs h)
     pub reports : Each (ReportsRightly logs) (logs 0)
     pub begins : Each BeginsRightly (logs 0)
+    pub commits : (h : ℕ) → Each (CommitsRightly logs) (logs h)
 
   kind_is : (h : ℕ) (log : List LogStep) → IsOf h (after start h log)
   kind_is h [] = started_kind start h
@@ -235,6 +243,7 @@ module _ (start : Start) where
 
     tells_decided : (k : Kind) → kind_of e.taken.body ≡ k → Tells (λ tx. IsDecidedBelow now tx (e.stamp + 1)) k
     tells_decided (kind.decided tx) is = decided_more before now tx (e.taken.stamp + 1) (e.stamp + 1) grown (omega (arith, later)) (taken_says (kind.decided tx) is (λ same. absurd cc))
+    tells_decided (kind.committing tx) is = decided_more before now tx (e.taken.stamp + 1) (e.stamp + 1) grown (omega (arith, later)) (taken_says (kind.committing tx) is (λ same. absurd cc))
     tells_decided (kind.begun tx) is = tt
     tells_decided (kind.wanted tx) is = tt
     tells_decided (kind.verified tx) is = tt
@@ -245,6 +254,7 @@ module _ (start : Start) where
     tells_begun at (Client (TcBeginConf name tx)) is = record { name = name; step = e; inside = subst (λ g. IsIn e (now g)) at here; told = is; below = omega arith }
     tells_begun at (Client (TcCommitReq tx)) is = tt
     tells_begun at (Client (TcCommitConf tx epoch)) is = tt
+    tells_begun at (Chain (Commit tx key epoch chain place)) is = tt
     tells_begun at (Epoch (DiVerifyReq tx ops)) is = tt
     tells_begun at (Epoch (DiVerifyConf tx epoch)) is = tt
     tells_begun at _ is = tt
@@ -319,8 +329,14 @@ module _ (start : Start) where
     begins_now : Each BeginsRightly (now 0)
     begins_now = each_next (machine start) BeginsRightly es e 0 (λ tx is. taken_says (kind.begun tx) is (λ same. absurd cc)) come.all.law.begins
 
+    commits_now : (g : ℕ) → Each (CommitsRightly now) (now g)
+    commits_now g =
+        each_next (machine start) (CommitsRightly now) es e g
+        (λ tx took. decided_more before now tx (e.taken.stamp + 1) e.stamp grown later (taken_says (kind.committing tx) took (λ same. absurd cc)))
+        (each_map (CommitsRightly before) (CommitsRightly now) (before g) (λ f rightly tx took. decided_more before now tx f.stamp f.stamp grown (omega arith) (rightly tx took)) (come.all.law.commits g))
+
     pub causal_step : AreCausal now
-    causal_step = record { knows = knows_now; decisions = decisions_now; reports = reports_now; begins = begins_now }
+    causal_step = record { knows = knows_now; decisions = decisions_now; reports = reports_now; begins = begins_now; commits = commits_now }
 
     -- what it sends says the truth
     one_says : (number : ℕ) (o : Outgoing) (k : Kind)
@@ -334,6 +350,7 @@ module _ (start : Start) where
       ap (λ (to : Place). to.node) says.2 ∙ sym says.1,
     )
     one_says number o (kind.decided tx) says = record { host = h; step = e; inside = here; marked = ap (list_any (is_decision tx)) own_marks ∙ says; below = omega arith }
+    one_says number o (kind.committing tx) says = says
     one_says number o (kind.ended tx) says = says
     one_says number o kind.other says = tt
 
@@ -348,7 +365,7 @@ module _ (start : Start) where
 
   causal_kept : IsKept (machine start) SignalSays AreCausal
   causal_kept = record {
-    start = record { knows = started_knows; decisions = λ h. tt; reports = tt; begins = tt };
+    start = record { knows = started_knows; decisions = λ h. tt; reports = tt; begins = tt; commits = λ h. tt };
     step = λ es e come. causal_step es e come;
     sends = λ es e come runs. sends_say es e come;
     closing = λ es e come stop j. absurd (true≢false (sym stop));

@@ -2,10 +2,15 @@
 use Rattle.std.specs.Prelude.{◌≡◌, ◌<◌, ℕ, true, List}
 use Rattle.std.specs.FinMap as map
 use Rattle.run_theory.specs.Cuts.{IsCut, IsClosed}
+use Rattle.run_theory.specs.Lists.{IsIn}
 use Rattle.run_theory.specs.Runs.{AreLogs, IsWithin}
 use Rattle.serial_model.specs.Legal.{IsLegal, fold}
 use Rattle.sig_core.specs.declared.entry.Entry.{Entry}
 use Rattle.sig_core.specs.declared.log.LogStep.{LogStep}
+use Rattle.sig_core.specs.declared.member.Member.{Member}
+use Rattle.sig_core.specs.declared.member.TxId.{TxId}
+use Rattle.sig_core.specs.declared.signal.Body.TheVariants.{Chain}
+use Rattle.sig_core.specs.declared.signal.chain.ChainSignal.TheVariants.{Commit}
 use Rattle.sig_core.specs.Table.{Rows}
 use Rattle.world_core.specs.History.{history}
 use Rattle.world_core.specs.Machine.{hosts, machine}
@@ -13,6 +18,7 @@ use Rattle.world_core.specs.SerialLaw.{AreEpochsOrdered}
 use Rattle.world_core.specs.Start.{Start, first_view}
 use Rattle.world_core.specs.Strict.{IsStrictOrder}
 use Rattle.world_core.specs.Views.{greatest_view, is_viable}
+use Rattle.commit_laws.specs.Causes.{IsDecidedBelow}
 use Rattle.commit_laws.specs.OneKey.{IsRightAt, row_at_end}
 
 -- a closed cut of right logs
@@ -42,6 +48,14 @@ abbrev pub HistoriesAreStrict : Type 0
 HistoriesAreStrict =
     (start : Start) (inside logs : ℕ → List LogStep) → IsClosedCut start inside logs
     → IsStrictOrder start (inside 0) (history (hosts start) inside)
+
+-- a row is committed for decided transactions alone: wherever a commit was taken, the decision has a lesser stamp
+abbrev pub CommitsAreOfDecided : Type 0
+CommitsAreOfDecided =
+    (start : Start) (inside logs : ℕ → List LogStep) → IsClosedCut start inside logs
+    → (h : ℕ) (e : LogStep) (tx : TxId) (key : List ℕ) (epoch : ℕ) (chain : List Member) (at : ℕ) → IsIn e (inside h)
+    → e.taken.body ≡ Chain (Commit tx key epoch chain at)
+    → IsDecidedBelow inside tx e.stamp
 
 -- a list of entries that is right for each key is legal
 abbrev pub KeysJoin : Type 0

@@ -8,7 +8,9 @@ mod lock_laws;
 mod replica_laws;
 mod row_laws;
 
-pub use cut_laws::{epochs_never_fall, greatest_view_is_viable, histories_are_strict};
+pub use cut_laws::{
+    commits_are_of_decided, epochs_never_fall, greatest_view_is_viable, histories_are_strict,
+};
 pub use event_laws::{events_at_backup, events_at_primary};
 pub use key_laws::keys_join;
 pub use lock_laws::{holders_hold_on, waits_end_in_holding};
