@@ -28,6 +28,7 @@ pub mod PrimaryValue
 pub mod RecordLemmas
 pub mod RecordsAt
 pub mod Replicas
+pub mod Serial
 pub mod SortedEntries
 pub mod StrictOrder
 pub mod TcGoes
