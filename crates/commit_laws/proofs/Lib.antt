@@ -20,6 +20,7 @@ pub mod LockHolding
 pub mod LocksAt
 pub mod LqhMarks
 pub mod LqhOther
+pub mod OneWay
 pub mod PlacesAt
 pub mod PlainMarks
 pub mod PrimaryGood
@@ -34,5 +35,6 @@ pub mod StrictOrder
 pub mod TcGoes
 pub mod TcMarks
 pub mod TcNumbers
+pub mod TcWays
 pub mod Unique
 pub mod Waiting
