@@ -25,7 +25,8 @@ use Rattle.commit_laws.specs.PrimaryEvents.{NoneOf}
 use Rattle.commit_laws.specs.Replica.{Cell, Replica, aborts, ageing, ages, asked_by, asks, commits, completes, expires, expiring, is_by, is_let_in, key_after, rests, served_by, serves, worked}
 use Rattle.commit_laws.proofs.BackupMoves.{aborts_move, commits_move, completions_move, grants_move, images_move}
 use Rattle.commit_laws.proofs.Firsts.{first_passes}
-use Rattle.commit_laws.proofs.LockHolding.{attended_hold, expiries_attend, expiries_hold_on, grants_hold, queued_wait, releases_attend, releases_hold_on, requests_attend, requests_hold_on, rounds_attend}
+use Rattle.commit_laws.proofs.LockHolding.{expiries_hold_on, grants_hold, releases_hold_on, requests_hold_on}
+use Rattle.commit_laws.proofs.LockWaiting.{attended_hold, expiries_attend, queued_wait, releases_attend, requests_attend, rounds_attend}
 use Rattle.commit_laws.proofs.Waiting.{alone-drop_first, alone-end, each-drop_first, each-first_item, none-dropped}
 
 -- the key with this cell and lock

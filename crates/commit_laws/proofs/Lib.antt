@@ -3,6 +3,7 @@ pub mod ApiTold
 pub mod BackupMoves
 pub mod BackupOrder
 pub mod Causal
+pub mod CausalFacts
 pub mod CellsAt
 pub mod EachEntry
 pub mod EachSent
@@ -17,10 +18,12 @@ pub mod Keys
 pub mod KeysJoin
 pub mod LiveSplit
 pub mod LockHolding
+pub mod LockWaiting
 pub mod LocksAt
 pub mod LqhMarks
 pub mod LqhOther
 pub mod OneWay
+pub mod PerformedAt
 pub mod PlacesAt
 pub mod PlainMarks
 pub mod PrimaryGood

@@ -1,9 +1,8 @@
 -- No coordinator sends a commit and an abort of one transaction.
-use Rattle.std.proofs.Common.{◌≡◌, ◌<◌, ℕ, zero, suc, ◌+◌, Bool, true, false, ◌&&◌, List, [], ◌∷◌, ◌++◌, refl, sym, ap, ◌∙◌, subst, subst₂, arith}
-use Rattle.std.specs.Map.{keys_of, values_of}
-use Rattle.std.specs.Prelude.{Option, None, Some, is_some, position, remove, slice_get, nat_eq}
+use Rattle.std.proofs.Common.{◌≡◌, ◌<◌, ℕ, zero, suc, ◌+◌, Bool, true, false, ◌&&◌, List, [], ◌∷◌, ◌++◌, refl, sym, ap, ◌∙◌, subst, arith}
+use Rattle.std.specs.Map.{values_of}
+use Rattle.std.specs.Prelude.{Option, None, Some, is_some, slice_get, nat_eq}
 use Rattle.std.proofs.lemmas.Bool.{and_right, ne_eqb}
-use Rattle.indexmap.specs.IndexMap.{insert_entry, set_value_at}
 use Rattle.run_theory.specs.Lists.{Each}
 use Rattle.run_theory.proofs.Pasts.{each_append, each_map}
 use Rattle.sig_core.specs.declared.log.LogStep.{LogStep}
@@ -20,8 +19,8 @@ use Rattle.sig_core.specs.declared.signal.epoch.EpochSignal.TheVariants.{DiVerif
 use Rattle.sig_core.specs.declared.signal.host.HostSignal.TheVariants.{Continue}
 use Rattle.sig_core.specs.declared.signal.host.Work.TheVariants as work
 use Rattle.sig_core.specs.Same.{same_tx}
-use Rattle.sig_core.specs.Step.{Step, stay}
-use Rattle.row_locks.proofs.TxLemmas.{same_tx-is, same_tx-swap}
+use Rattle.sig_core.specs.Step.{Step}
+use Rattle.row_locks.proofs.TxLemmas.{same_tx-swap}
 use Rattle.tc_block.specs.Abort.{aborted_row, refuse_row, rollback_row}
 use Rattle.tc_block.specs.Commit as commit
 use Rattle.tc_block.specs.Complete.{completed_row}
@@ -42,7 +41,6 @@ use Rattle.world_core.specs.Machine.{after}
 use Rattle.world_core.specs.Start.{Start, started}
 use Rattle.commit_laws.specs.Phases.{is_decided}
 use Rattle.commit_laws.specs.Ways.{CoordinatorsGoOneWay, Way, back, back_by, forth, forth_by, is_aborting, neither, put_ways, sent_ways, tc_sends, way_of}
-use Rattle.commit_laws.proofs.Keys.{same_tx-self}
 use Rattle.commit_laws.proofs.LiveSplit.{KeysOnce, Live, Split, each_back, each_front, each_inserted, once_back, once_front, once_gone, once_inserted, once_set, split_at}
 use Rattle.commit_laws.proofs.TcNumbers.{NotIn}
 use Rattle.commit_laws.proofs.TcWays.{AllWays, TurnWays, WayOf, Ways, aborted_ways, aborting_apart, answer_ways, commit_ways, committed_ways, completed_ways, decide_ways, decided_apart, go_on_ways, not_both, operate_ways, refuse_ways, rollback_ways, wait_ways}
@@ -132,12 +130,14 @@ module _ (s : TcState) (cs bs : List TxId) (n : IsOneWay s cs bs) where
     -- the others are left alone
     others : (xs : Live) → Each (λ (x : TxId × Transaction). same_tx x.0 tx ≡ false) xs → Each (IsLive s.next_seq cs bs) xs → Each (IsLive s.next_seq cs_now bs_now) xs
     others [] apart live = tt
-    others (x ∷ xs) apart live =
-        (record {
-          below = live.0.below;
-          uncommitted = λ off. each_forth (λ v. same_tx v x.0 ≡ false) tx after_phase sends cs all (λ is. same_tx-swap tx x.0 ∙ apart.0) (live.0.uncommitted off);
-          unaborted = λ off. each_back_way (λ v. same_tx v x.0 ≡ false) tx after_phase sends bs all (λ is. same_tx-swap tx x.0 ∙ apart.0) (live.0.unaborted off);
-        }, others xs apart.1 live.1)
+    others (x ∷ xs) apart live = (
+      record {
+        below = live.0.below;
+        uncommitted = λ off. each_forth (λ v. same_tx v x.0 ≡ false) tx after_phase sends cs all (λ is. same_tx-swap tx x.0 ∙ apart.0) (live.0.uncommitted off);
+        unaborted = λ off. each_back_way (λ v. same_tx v x.0 ≡ false) tx after_phase sends bs all (λ is. same_tx-swap tx x.0 ∙ apart.0) (live.0.unaborted off);
+      },
+      others xs apart.1 live.1,
+    )
 
     front_now : Each (IsLive s.next_seq cs_now bs_now) split.front
     front_now = others split.front (once_front split.front split.back tx t once_split) (each_front (IsLive s.next_seq cs bs) split.front ((tx, t) ∷ split.back) all_split)
@@ -181,9 +181,10 @@ module _ (s : TcState) (cs bs : List TxId) (n : IsOneWay s cs bs) where
     once = subst KeysOnce (sym (split.set step.state)) (once_set split.front split.back tx t step.state (once_split tx t at split step.state.phase step.effects.sends ways.sends ways.forward ways.backward));
     live = subst (Each (IsLive s.next_seq (put_ways forth_by step.effects.sends cs) (put_ways back_by step.effects.sends bs))) (sym (split.set step.state))
         (each_append (IsLive s.next_seq (put_ways forth_by step.effects.sends cs) (put_ways back_by step.effects.sends bs)) split.front ((tx, step.state) ∷ split.back)
-        (front_now tx t at split step.state.phase step.effects.sends ways.sends ways.forward ways.backward)
-        (own_now tx t at split step.state.phase step.effects.sends ways.sends ways.forward ways.backward step.state refl,
-        back_now tx t at split step.state.phase step.effects.sends ways.sends ways.forward ways.backward));
+        (front_now tx t at split step.state.phase step.effects.sends ways.sends ways.forward ways.backward) (
+          own_now tx t at split step.state.phase step.effects.sends ways.sends ways.forward ways.backward step.state refl,
+          back_now tx t at split step.state.phase step.effects.sends ways.sends ways.forward ways.backward,
+        ));
     cs_below = below_cs tx t at split step.state.phase step.effects.sends ways.sends ways.forward ways.backward;
     bs_below = below_bs tx t at split step.state.phase step.effects.sends ways.sends ways.forward ways.backward;
     apart = apart_now tx t at split step.state.phase step.effects.sends ways.sends ways.forward ways.backward;

@@ -28,7 +28,8 @@ use Rattle.commit_laws.specs.PrimaryEvents.{AtPrimary, FairEventsKeepOrder, IsFa
 use Rattle.commit_laws.specs.Records.{found, seen_by}
 use Rattle.commit_laws.specs.Replica.{Cell, Replica, aborts, ageing, ages, asked_by, asks, commits, completes, expires, expiring, is_by, is_let_in, operated, rests, served_by, serves, worked}
 use Rattle.commit_laws.proofs.Firsts.{first_passes}
-use Rattle.commit_laws.proofs.LockHolding.{attended_hold, expiries_attend, expiries_hold_on, grants_hold, queued_wait, releases_attend, releases_hold_on, requests_attend, requests_hold_on, rounds_attend}
+use Rattle.commit_laws.proofs.LockHolding.{expiries_hold_on, grants_hold, releases_hold_on, requests_hold_on}
+use Rattle.commit_laws.proofs.LockWaiting.{attended_hold, expiries_attend, queued_wait, releases_attend, requests_attend, rounds_attend}
 use Rattle.commit_laws.proofs.PrimaryGood.{aborts_keep, commits_keep, completions_keep, grants_keep, operations_keep}
 use Rattle.commit_laws.proofs.PrimaryValue.{aborts_value, commits_value, completions_value}
 use Rattle.commit_laws.proofs.RecordLemmas.{kept_row-stored}

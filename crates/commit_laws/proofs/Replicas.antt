@@ -48,7 +48,8 @@ use Rattle.world_core.specs.Start.{Start, first_view, started}
 use Rattle.commit_laws.specs.Placed.{AreApart, IsPlaced, has_place}
 use Rattle.commit_laws.specs.Replica.{at_key, key_after}
 use Rattle.commit_laws.specs.ReplicaLaws.{KeysHaveRows, LogsFollowEvents, NodesBeginAtRest, event_for, event_in, key_in, IsWell, IsWellHost, KeysBeginAtRest, LogsKeepWell, SignalsAreEvents, SignalsKeepWell}
-use Rattle.commit_laws.proofs.CellsAt.{placed-aborted, placed-committed, placed-completed, placed-performed}
+use Rattle.commit_laws.proofs.CellsAt.{placed-aborted, placed-committed, placed-completed}
+use Rattle.commit_laws.proofs.PerformedAt.{placed-performed}
 use Rattle.commit_laws.proofs.KeyAfter.{granted_event, replica_is, request_event}
 use Rattle.commit_laws.proofs.KeyEnds.{abort_event, applied_locks, applied_rows, commit_event, complete_event, expire_event, given_locks, given_rows, round_event, unasked_is}
 use Rattle.commit_laws.proofs.Keys.{same_key-swap, tied-same_key}

@@ -1,6 +1,5 @@
 -- The serial law of a closed cut, from what is left of it for each key.
 use Rattle.std.proofs.Common.{sym, ◌∙◌}
-use Rattle.std.specs.FinMap as map
 use Rattle.serial_model.specs.Legal.{rows_of}
 use Rattle.world_core.specs.History.{history}
 use Rattle.world_core.specs.Machine.{hosts}

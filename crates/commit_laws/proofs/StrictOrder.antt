@@ -29,7 +29,8 @@ use Rattle.commit_laws.specs.Causes.{is_decision}
 use Rattle.commit_laws.specs.Kinds.{Kind, kind_of}
 use Rattle.commit_laws.specs.Kinds as kind
 use Rattle.commit_laws.specs.Laws.{CommitsAreOfDecided, HistoriesAreStrict}
-use Rattle.commit_laws.proofs.Causal.{AreCausal, CommitsRightly, DecidesAt, DecidesRightly, cuts_are_causal}
+use Rattle.commit_laws.proofs.Causal.{AreCausal, cuts_are_causal}
+use Rattle.commit_laws.proofs.CausalFacts.{CommitsRightly, DecidesAt, DecidesRightly}
 use Rattle.commit_laws.proofs.EachEntry.{each_kept}
 use Rattle.commit_laws.proofs.Epochs.{inside_right, step_marks}
 use Rattle.commit_laws.proofs.HostMarks.{AreMarks, decides, plain}

@@ -1,5 +1,5 @@
 -- Which way a transaction goes at its coordinator: it has rows committed only in phases from which none is aborted, and back.
-use Rattle.std.proofs.Common.{◌≡◌, ℕ, List, take, drop, length, Bool, true, false, refl, sym, ap, ◌∙◌}
+use Rattle.std.proofs.Common.{◌≡◌, ℕ, List, take, drop, length, Bool, true, false, refl, ap}
 use Rattle.std.specs.Prelude.{◌+◌, ◌==◌, nat_lt, Option, None, Some}
 use Rattle.std.specs.List.{flat_map}
 use Rattle.sig_core.specs.declared.member.TxId.{TxId}
