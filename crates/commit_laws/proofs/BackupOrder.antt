@@ -1,5 +1,5 @@
 -- Fair events leave a key in order at a backup.
-use Rattle.std.proofs.Common.{◌≡◌, ℕ, Bool, true, false, not, List, [], ◌∷◌, ◌++◌, refl, sym, ap, ◌∙◌, subst}
+use Rattle.std.proofs.Common.{◌≡◌, Bool, true, false, List, [], ◌∷◌, refl, ◌∙◌}
 use Rattle.std.proofs.lemmas.Bool.{not-true}
 use Rattle.std.specs.Prelude.{Option, None, Some}
 use Rattle.run_theory.specs.Lists.{Each}
@@ -7,7 +7,6 @@ use Rattle.run_theory.proofs.Pasts.{each_append, each_map}
 use Rattle.sig_core.specs.declared.member.TxId.{TxId}
 use Rattle.sig_core.specs.declared.signal.chain.RowWork.{RowWork}
 use Rattle.sig_core.specs.declared.signal.chain.RowWork.TheVariants.{Operate, Store}
-use Rattle.sig_core.specs.Same.{same_tx}
 use Rattle.row_locks.specs.declared.mode.Lock.{Lock}
 use Rattle.row_locks.specs.declared.mode.Lock.TheVariants.{Granted, Queued}
 use Rattle.row_locks.specs.Holders.{holds_enough}
@@ -22,11 +21,12 @@ use Rattle.commit_laws.specs.BackupEvents.{FairEventsKeepAt, IsFairAt, IsImage, 
 use Rattle.commit_laws.specs.BackupLaws.{Moves}
 use Rattle.commit_laws.specs.Firsts.{drop_first, first}
 use Rattle.commit_laws.specs.LockLaws.{is_attended}
-use Rattle.commit_laws.specs.PrimaryEvents.{AreAlone, NoneOf}
-use Rattle.commit_laws.specs.Replica.{Cell, Event, Replica, aborts, ageing, ages, asked_by, asks, commits, completes, expires, expiring, is_by, is_let_in, key_after, rests, served_by, serves, worked}
+use Rattle.commit_laws.specs.PrimaryEvents.{NoneOf}
+use Rattle.commit_laws.specs.Replica.{Cell, Replica, aborts, ageing, ages, asked_by, asks, commits, completes, expires, expiring, is_by, is_let_in, key_after, rests, served_by, serves, worked}
 use Rattle.commit_laws.proofs.BackupMoves.{aborts_move, commits_move, completions_move, grants_move, images_move}
 use Rattle.commit_laws.proofs.Firsts.{first_passes}
-use Rattle.commit_laws.proofs.LockHolding.{attended_hold, expiries_attend, expiries_hold_on, grants_hold, queued_wait, releases_attend, releases_hold_on, requests_attend, requests_hold_on, rounds_attend}
+use Rattle.commit_laws.proofs.LockHolding.{expiries_hold_on, grants_hold, releases_hold_on, requests_hold_on}
+use Rattle.commit_laws.proofs.LockWaiting.{attended_hold, expiries_attend, queued_wait, releases_attend, requests_attend, rounds_attend}
 use Rattle.commit_laws.proofs.Waiting.{alone-drop_first, alone-end, each-drop_first, each-first_item, none-dropped}
 
 -- the key with this cell and lock

@@ -1,6 +1,6 @@
 -- Along every run: a transaction is decided behind its beginning, and reported behind its decision.
 use Rattle.std.proofs.Common.{◌≡◌, ◌≢◌, ◌⊎◌, ◌≤◌, ℕ, zero, suc, ◌+◌, Bool, true, false, List, [], ◌∷◌, refl, sym, ap, ◌∙◌, subst, inl, inr, arith, true≢false}
-use Rattle.std.proofs.lemmas.Bool.{cases_eq, or_cases}
+use Rattle.std.proofs.lemmas.Bool.{cases_eq}
 use Rattle.std.specs.List.{list_any}
 use Rattle.std.specs.Prelude.{Option, None, Some}
 use Rattle.run_theory.specs.Along.{Comes, IsKept}
@@ -9,21 +9,17 @@ use Rattle.run_theory.specs.Runs.{log_of}
 use Rattle.run_theory.proofs.Along.{along_signals_of_cuts}
 use Rattle.run_theory.proofs.Links.{signal_below, step_above}
 use Rattle.run_theory.proofs.Orders.{each_next}
-use Rattle.run_theory.proofs.Pasts.{each_map, in_past}
+use Rattle.run_theory.proofs.Pasts.{each_map}
 use Rattle.run_theory.proofs.Runs.{log_of-other, log_of-own, log_of-past}
 use Rattle.sig_core.specs.declared.log.LogStep.{LogStep}
-use Rattle.sig_core.specs.declared.mark.Mark.{Mark}
-use Rattle.sig_core.specs.declared.mark.Mark.TheVariants as mark
 use Rattle.sig_core.specs.declared.member.TxId.{TxId}
-use Rattle.sig_core.specs.declared.outcome.Outcome.TheVariants as outcome
 use Rattle.sig_core.specs.declared.outs.Outgoing.{Outgoing}
 use Rattle.sig_core.specs.declared.place.Place.{Place}
 use Rattle.sig_core.specs.declared.signal.Body.{Body}
-use Rattle.sig_core.specs.declared.signal.Body.TheVariants.{Client, Epoch}
-use Rattle.sig_core.specs.declared.signal.Signal.{Signal}
+use Rattle.sig_core.specs.declared.signal.Body.TheVariants.{Client, Chain, Epoch}
+use Rattle.sig_core.specs.declared.signal.chain.ChainSignal.TheVariants.{Commit}
 use Rattle.sig_core.specs.declared.signal.client.ClientSignal.TheVariants.{TcBeginConf, TcCommitReq, TcCommitConf}
 use Rattle.sig_core.specs.declared.signal.epoch.EpochSignal.TheVariants.{DiVerifyReq, DiVerifyConf}
-use Rattle.row_locks.proofs.TxLemmas.{same_tx-is}
 use Rattle.node_core.specs.declared.host.Host.{Host}
 use Rattle.node_core.specs.declared.host.Host.TheVariants.{Shell, Node}
 use Rattle.node_core.specs.Fresh.{begun_node, fresh_node, fresh_shell}
@@ -39,91 +35,9 @@ use Rattle.commit_laws.specs.Kinds.{Kind, kind_of}
 use Rattle.commit_laws.specs.Kinds as kind
 use Rattle.commit_laws.specs.Laws.{IsClosedCut}
 use Rattle.commit_laws.proofs.ApiTold.{Reports, TellsBegun, ToldOf}
-use Rattle.commit_laws.proofs.HostGoes.{Decides, HostGoes, HostKnows, HostSays, ReportsIf, TellsIf, host_goes}
+use Rattle.commit_laws.proofs.HostGoes.{HostGoes, HostKnows, HostSays, ReportsIf, TellsIf, host_goes}
 use Rattle.commit_laws.proofs.TcNumbers.{IsLive, Tells, begun_by, put_kinds, verified_by}
-
--- a request says nothing of these
-request_other : (body : Body) → is_request body ≡ true → kind_of body ≡ kind.other
-request_other (Client (TcBeginConf name tx)) is = absurd cc
-request_other (Client (TcCommitReq tx)) is = absurd cc
-request_other (Client (TcCommitConf tx epoch)) is = absurd cc
-request_other (Epoch (DiVerifyReq tx ops)) is = absurd cc
-request_other (Epoch (DiVerifyConf tx epoch)) is = absurd cc
-request_other _ is = refl
-
--- facts stay as logs grow, and as the limit does
-told_more : (small large : ℕ → List LogStep) (tx : TxId) (a b : ℕ) → ((h : ℕ) → IsPast (small h) (large h)) → a ≤ b → IsToldBelow small tx a → IsToldBelow large tx b
-told_more small large tx a b past le is = record { name = is.name; step = is.step; inside = in_past is.step (past 0) is.inside; told = is.told; below = omega (arith, is.below, le) }
-
-decided_more : (small large : ℕ → List LogStep) (tx : TxId) (a b : ℕ) → ((h : ℕ) → IsPast (small h) (large h)) → a ≤ b → IsDecidedBelow small tx a → IsDecidedBelow large tx b
-decided_more small large tx a b past le is = record {
-  host = is.host;
-  step = is.step;
-  inside = in_past is.step (past is.host) is.inside;
-  marked = is.marked;
-  below = omega (arith, is.below, le);
-}
-
--- what a signal tells of the logs
-abbrev pub Says : (ℕ → List LogStep) → Signal → Kind → Type 0
-Says logs x (kind.begun tx) = x.from.0 ≡ tx.tc
-Says logs x (kind.wanted tx) = IsToldBelow logs tx (x.stamp + 1)
-Says logs x (kind.verified tx) = IsToldBelow logs tx (x.stamp + 1) × (x.from.0 ≡ tx.tc) × (x.to.node ≡ tx.tc)
-Says logs x (kind.decided tx) = IsDecidedBelow logs tx (x.stamp + 1)
-Says logs x (kind.ended tx) = IsDecidedBelow logs tx (x.stamp + 1)
-Says logs x kind.other = Unit {0}
-
-abbrev pub SignalSays : Signal → (ℕ → List LogStep) → Type 0
-SignalSays x logs = Says logs x (kind_of x.body)
-
-says_more : (small large : ℕ → List LogStep) (x : Signal) (k : Kind) → ((h : ℕ) → IsPast (small h) (large h)) → Says small x k → Says large x k
-says_more small large x (kind.begun tx) past says = says
-says_more small large x (kind.wanted tx) past says = told_more small large tx (x.stamp + 1) (x.stamp + 1) past (omega arith) says
-says_more small large x (kind.verified tx) past says = (told_more small large tx (x.stamp + 1) (x.stamp + 1) past (omega arith) says.0, says.1, says.2)
-says_more small large x (kind.decided tx) past says = decided_more small large tx (x.stamp + 1) (x.stamp + 1) past (omega arith) says
-says_more small large x (kind.ended tx) past says = decided_more small large tx (x.stamp + 1) (x.stamp + 1) past (omega arith) says
-says_more small large x kind.other past says = tt
-
--- a decision in a step, and a report
-pub record DecidesAt (logs : ℕ → List LogStep) (e : LogStep) (tx : TxId) : Type 0 where
-  pub told : IsToldBelow logs tx e.stamp
-  pub from : e.taken.from.0 ≡ tx.tc
-  pub to : e.taken.to.node ≡ tx.tc
-  pub took : kind_of e.taken.body ≡ kind.verified tx
-
-abbrev pub DecidesRightly : (ℕ → List LogStep) → LogStep → Type 0
-DecidesRightly logs e = (tx : TxId) → list_any (is_decision tx) e.marks ≡ true → DecidesAt logs e tx
-
-abbrev pub ReportsRightly : (ℕ → List LogStep) → LogStep → Type 0
-ReportsRightly logs e = (tx : TxId) → list_any (is_reported tx) e.marks ≡ true → IsDecidedBelow logs tx e.stamp
-
-abbrev pub BeginsRightly : LogStep → Type 0
-BeginsRightly e = (tx : TxId) → kind_of e.taken.body ≡ kind.begun tx → e.taken.from.0 ≡ tx.tc
-
-decision_of : (taken : Kind) (marks : List Mark) (tx : TxId) → Each (Decides taken) marks → list_any (is_decision tx) marks ≡ true → taken ≡ kind.verified tx
-decision_of taken [] tx all is = absurd cc
-decision_of taken (m ∷ marks) tx all is = by (or_cases (is_decision tx m) (list_any (is_decision tx) marks) is) (decision_of taken marks tx all.1)
-  where
-    here : (m : Mark) → Decides taken m → is_decision tx m ≡ true → taken ≡ kind.verified tx
-    here (mark.Decided other epoch) decides own = decides ∙ ap (λ t. kind.verified t) (same_tx-is other tx own)
-    here _ decides own = absurd cc
-
-    by : (is_decision tx m ≡ true) ⊎ (list_any (is_decision tx) marks ≡ true) → (list_any (is_decision tx) marks ≡ true → taken ≡ kind.verified tx) → taken ≡ kind.verified tx
-    by (inl own) more = here m all.0 own
-    by (inr rest) more = more rest
-
-report_of : (taken : Kind) (marks : List Mark) (tx : TxId) → Each (Reports taken) marks → list_any (is_reported tx) marks ≡ true → taken ≡ kind.ended tx
-report_of taken [] tx all is = absurd cc
-report_of taken (m ∷ marks) tx all is = by (or_cases (is_reported tx m) (list_any (is_reported tx) marks) is) (report_of taken marks tx all.1)
-  where
-    here : (m : Mark) → Reports taken m → is_reported tx m ≡ true → taken ≡ kind.ended tx
-    here (mark.Reported other (outcome.Committed epoch)) reports own = reports ∙ ap (λ t. kind.ended t) (same_tx-is other tx own)
-    here (mark.Reported other (outcome.Aborted cause)) reports own = absurd cc
-    here _ reports own = absurd cc
-
-    by : (is_reported tx m ≡ true) ⊎ (list_any (is_reported tx) marks ≡ true) → (list_any (is_reported tx) marks ≡ true → taken ≡ kind.ended tx) → taken ≡ kind.ended tx
-    by (inl own) more = here m all.0 own
-    by (inr rest) more = more rest
+use Rattle.commit_laws.proofs.CausalFacts.{BeginsRightly, CommitsRightly, DecidesRightly, ReportsRightly, Says, SignalSays, decided_more, decision_of, report_of, request_other, says_more, told_more}
 
 -- host 0 is the shell's, and the others are nodes
 abbrev IsOf : ℕ → Host → Type 0
@@ -181,6 +95,7 @@ module _ (start : Start) where
     pub decisions : (h : ℕ) → Each (DecidesRightly logs) (logs h)
     pub reports : Each (ReportsRightly logs) (logs 0)
     pub begins : Each BeginsRightly (logs 0)
+    pub commits : (h : ℕ) → Each (CommitsRightly logs) (logs h)
 
   kind_is : (h : ℕ) (log : List LogStep) → IsOf h (after start h log)
   kind_is h [] = started_kind start h
@@ -235,6 +150,7 @@ module _ (start : Start) where
 
     tells_decided : (k : Kind) → kind_of e.taken.body ≡ k → Tells (λ tx. IsDecidedBelow now tx (e.stamp + 1)) k
     tells_decided (kind.decided tx) is = decided_more before now tx (e.taken.stamp + 1) (e.stamp + 1) grown (omega (arith, later)) (taken_says (kind.decided tx) is (λ same. absurd cc))
+    tells_decided (kind.committing tx) is = decided_more before now tx (e.taken.stamp + 1) (e.stamp + 1) grown (omega (arith, later)) (taken_says (kind.committing tx) is (λ same. absurd cc))
     tells_decided (kind.begun tx) is = tt
     tells_decided (kind.wanted tx) is = tt
     tells_decided (kind.verified tx) is = tt
@@ -245,6 +161,7 @@ module _ (start : Start) where
     tells_begun at (Client (TcBeginConf name tx)) is = record { name = name; step = e; inside = subst (λ g. IsIn e (now g)) at here; told = is; below = omega arith }
     tells_begun at (Client (TcCommitReq tx)) is = tt
     tells_begun at (Client (TcCommitConf tx epoch)) is = tt
+    tells_begun at (Chain (Commit tx key epoch chain place)) is = tt
     tells_begun at (Epoch (DiVerifyReq tx ops)) is = tt
     tells_begun at (Epoch (DiVerifyConf tx epoch)) is = tt
     tells_begun at _ is = tt
@@ -319,8 +236,14 @@ module _ (start : Start) where
     begins_now : Each BeginsRightly (now 0)
     begins_now = each_next (machine start) BeginsRightly es e 0 (λ tx is. taken_says (kind.begun tx) is (λ same. absurd cc)) come.all.law.begins
 
+    commits_now : (g : ℕ) → Each (CommitsRightly now) (now g)
+    commits_now g =
+        each_next (machine start) (CommitsRightly now) es e g
+        (λ tx took. decided_more before now tx (e.taken.stamp + 1) e.stamp grown later (taken_says (kind.committing tx) took (λ same. absurd cc)))
+        (each_map (CommitsRightly before) (CommitsRightly now) (before g) (λ f rightly tx took. decided_more before now tx f.stamp f.stamp grown (omega arith) (rightly tx took)) (come.all.law.commits g))
+
     pub causal_step : AreCausal now
-    causal_step = record { knows = knows_now; decisions = decisions_now; reports = reports_now; begins = begins_now }
+    causal_step = record { knows = knows_now; decisions = decisions_now; reports = reports_now; begins = begins_now; commits = commits_now }
 
     -- what it sends says the truth
     one_says : (number : ℕ) (o : Outgoing) (k : Kind)
@@ -334,6 +257,7 @@ module _ (start : Start) where
       ap (λ (to : Place). to.node) says.2 ∙ sym says.1,
     )
     one_says number o (kind.decided tx) says = record { host = h; step = e; inside = here; marked = ap (list_any (is_decision tx)) own_marks ∙ says; below = omega arith }
+    one_says number o (kind.committing tx) says = says
     one_says number o (kind.ended tx) says = says
     one_says number o kind.other says = tt
 
@@ -348,7 +272,7 @@ module _ (start : Start) where
 
   causal_kept : IsKept (machine start) SignalSays AreCausal
   causal_kept = record {
-    start = record { knows = started_knows; decisions = λ h. tt; reports = tt; begins = tt };
+    start = record { knows = started_knows; decisions = λ h. tt; reports = tt; begins = tt; commits = λ h. tt };
     step = λ es e come. causal_step es e come;
     sends = λ es e come runs. sends_say es e come;
     closing = λ es e come stop j. absurd (true≢false (sym stop));

@@ -28,10 +28,9 @@ use Rattle.commit_laws.specs.Kinds.{Kind, kind_of}
 use Rattle.commit_laws.specs.Kinds as kind
 use Rattle.commit_laws.proofs.ApiMarks.{api_marks}
 use Rattle.commit_laws.proofs.ApiTold.{ApiSays, AreTold, Reports, TellsBegun, api_goes}
-use Rattle.commit_laws.proofs.EachSent.{AreOther}
 use Rattle.commit_laws.proofs.Keys.{same_tx-self}
 use Rattle.commit_laws.proofs.LqhMarks.{lqh_marks}
-use Rattle.commit_laws.proofs.LqhOther.{lqh_other}
+use Rattle.commit_laws.proofs.LqhOther.{RowsSay, lqh_says}
 use Rattle.commit_laws.proofs.PlainMarks.{ArePlain, is_plain}
 use Rattle.commit_laws.proofs.TcMarks.{tc_marks}
 use Rattle.commit_laws.proofs.TcNumbers.{AllSayAt, IsNumbered, SaysAt, Tells, begun_by, put_kinds, tc_numbered, verified_by}
@@ -42,6 +41,7 @@ HostSays h T D taken marks o (kind.begun tx) = tx.tc ≡ h
 HostSays h T D taken marks o (kind.wanted tx) = T tx
 HostSays h T D taken marks o (kind.verified tx) = (taken ≡ kind.wanted tx) × (tx.tc ≡ h) × (o.to ≡ epochs h)
 HostSays h T D taken marks o (kind.decided tx) = list_any (is_decision tx) marks ≡ true
+HostSays h T D taken marks o (kind.committing tx) = D tx
 HostSays h T D taken marks o (kind.ended tx) = D tx
 HostSays h T D taken marks o kind.other = Unit {0}
 
@@ -77,15 +77,34 @@ plain_decides taken marks plain = each_map (λ m. is_plain m ≡ true) (Decides 
     by (mark.Decided tx epoch) is = absurd cc
     by m is = tt
 
--- other signals add to neither list
-others_none : (f : Kind → List TxId → List TxId) → ((before : List TxId) → f kind.other before ≡ before) → (sends : List Outgoing) (before : List TxId) → AreOther sends → put_kinds f sends before ≡ before
-others_none f none [] before all = refl
-others_none f none (o ∷ more) before all = ap (put_kinds f more) (ap (λ k. f k before) all.0 ∙ none before) ∙ others_none f none more before all.1
+-- the rows of a node add to neither list
+rows_none : (f : Kind → List TxId → List TxId) → ((before : List TxId) → f kind.other before ≡ before) → ((tx : TxId) (before : List TxId) → f (kind.committing tx) before ≡ before)
+    → (taken : Kind) (sends : List Outgoing) (before : List TxId) → Each (λ (o : Outgoing). RowsSay taken (kind_of o.body)) sends → put_kinds f sends before ≡ before
+rows_none f none committing taken [] before all = refl
+rows_none f none committing taken (o ∷ more) before all = ap (put_kinds f more) (by (kind_of o.body) all.0) ∙ rows_none f none committing taken more before all.1
+  where
+    by : (k : Kind) → RowsSay taken k → f k before ≡ before
+    by (kind.begun tx) says = absurd says
+    by (kind.wanted tx) says = absurd says
+    by (kind.verified tx) says = absurd says
+    by (kind.decided tx) says = absurd says
+    by (kind.committing tx) says = committing tx before
+    by (kind.ended tx) says = absurd says
+    by kind.other says = none before
 
 module _ (h : ℕ) (T D : TxId → Type 0) where
-  others_say : (taken : Kind) (marks : List Mark) (sends : List Outgoing) → AreOther sends → Each (λ (o : Outgoing). HostSays h T D taken marks o (kind_of o.body)) sends
-  others_say taken marks sends all =
-      each_map (λ (o : Outgoing). kind_of o.body ≡ kind.other) (λ (o : Outgoing). HostSays h T D taken marks o (kind_of o.body)) sends (λ o is. subst (HostSays h T D taken marks o) (sym is) tt) all
+  rows_say : (taken : Kind) → Tells D taken → (marks : List Mark) (sends : List Outgoing) → Each (λ (o : Outgoing). RowsSay taken (kind_of o.body)) sends
+      → Each (λ (o : Outgoing). HostSays h T D taken marks o (kind_of o.body)) sends
+  rows_say taken tells marks sends all = each_map (λ (o : Outgoing). RowsSay taken (kind_of o.body)) (λ (o : Outgoing). HostSays h T D taken marks o (kind_of o.body)) sends (λ o. by o (kind_of o.body)) all
+    where
+      by : (o : Outgoing) (k : Kind) → RowsSay taken k → HostSays h T D taken marks o k
+      by o (kind.begun tx) says = absurd says
+      by o (kind.wanted tx) says = absurd says
+      by o (kind.verified tx) says = absurd says
+      by o (kind.decided tx) says = absurd says
+      by o (kind.committing tx) says = subst (Tells D) says tells
+      by o (kind.ended tx) says = absurd says
+      by o kind.other says = tt
 
   tc_says : (taken : Kind) (marks : List Mark) (sends : List Outgoing) → AllSayAt h D taken sends → Each (λ (o : Outgoing). HostSays h T D taken marks o (kind_of o.body)) sends
   tc_says taken marks sends all = each_map (λ (o : Outgoing). SaysAt h D taken o (kind_of o.body)) (λ (o : Outgoing). HostSays h T D taken marks o (kind_of o.body)) sends (λ o. by o (kind_of o.body)) all
@@ -95,6 +114,7 @@ module _ (h : ℕ) (T D : TxId → Type 0) where
       by o (kind.wanted tx) says = absurd says
       by o (kind.verified tx) says = says
       by o (kind.decided tx) says = absurd says
+      by o (kind.committing tx) says = says
       by o (kind.ended tx) says = says
       by o kind.other says = tt
 
@@ -107,6 +127,7 @@ module _ (h : ℕ) (T D : TxId → Type 0) where
       by o (kind.wanted tx) says = says
       by o (kind.verified tx) says = absurd says
       by o (kind.decided tx) says = absurd says
+      by o (kind.committing tx) says = absurd says
       by o (kind.ended tx) says = absurd says
       by o kind.other says = tt
 
@@ -120,6 +141,7 @@ module _ (h : ℕ) (T D : TxId → Type 0) where
       by (kind.wanted tx) says = wanted tx before
       by (kind.verified tx) says = absurd says
       by (kind.decided tx) says = absurd says
+      by (kind.committing tx) says = absurd says
       by (kind.ended tx) says = absurd says
       by kind.other says = none before
 
@@ -166,10 +188,10 @@ module _ (h : ℕ) (T D : TxId → Type 0) where
         reports = tt;
       }
   node_goes n block.Lqh body begun_yet verified numbered tells =
-      let none = lqh_other n.lqh body in
+      let none = lqh_says n.lqh body in
       record {
-        knows = subst₂ (IsNumbered h D n.tc) (sym (others_none begun_by (λ before. refl) _ begun_yet none)) (sym (others_none verified_by (λ before. refl) _ verified none)) numbered;
-        says = others_say (kind_of body) (node_row n block.Lqh body).effects.marks (node_row n block.Lqh body).effects.sends none;
+        knows = subst₂ (IsNumbered h D n.tc) (sym (rows_none begun_by (λ before. refl) (λ tx before. refl) (kind_of body) (node_row n block.Lqh body).effects.sends begun_yet none)) (sym (rows_none verified_by (λ before. refl) (λ tx before. refl) (kind_of body) (node_row n block.Lqh body).effects.sends verified none)) numbered;
+        says = rows_say (kind_of body) tells (node_row n block.Lqh body).effects.marks (node_row n block.Lqh body).effects.sends none;
         decides = plain_decides (kind_of body) _ (lqh_marks n.lqh body);
         reports = tt;
       }

@@ -16,7 +16,7 @@ use Rattle.lqh_block.specs.State.{LqhState, storage_of, with_waiting}
 use Rattle.lqh_block.specs.Work.{work_key, work_mode}
 use Rattle.commit_laws.specs.Firsts.{drop_first, first}
 use Rattle.commit_laws.specs.Replica.{Event, Replica, asked_by, asks, asks_for, at_key, cell_at, if_on, is_let_in, is_refused, key_after, rests, served_by, serves, serves_if, worked}
-use Rattle.commit_laws.proofs.CellsAt.{cell-performed}
+use Rattle.commit_laws.proofs.PerformedAt.{cell-performed}
 use Rattle.commit_laws.proofs.Firsts.{drop_by, first-drop, first-get, get_by}
 use Rattle.commit_laws.proofs.Keys.{same_key-self}
 use Rattle.commit_laws.proofs.LocksAt.{lock-inserted}

@@ -3,6 +3,7 @@ pub mod ApiTold
 pub mod BackupMoves
 pub mod BackupOrder
 pub mod Causal
+pub mod CausalFacts
 pub mod CellsAt
 pub mod EachEntry
 pub mod EachSent
@@ -17,9 +18,12 @@ pub mod Keys
 pub mod KeysJoin
 pub mod LiveSplit
 pub mod LockHolding
+pub mod LockWaiting
 pub mod LocksAt
 pub mod LqhMarks
 pub mod LqhOther
+pub mod OneWay
+pub mod PerformedAt
 pub mod PlacesAt
 pub mod PlainMarks
 pub mod PrimaryGood
@@ -28,10 +32,12 @@ pub mod PrimaryValue
 pub mod RecordLemmas
 pub mod RecordsAt
 pub mod Replicas
+pub mod Serial
 pub mod SortedEntries
 pub mod StrictOrder
 pub mod TcGoes
 pub mod TcMarks
 pub mod TcNumbers
+pub mod TcWays
 pub mod Unique
 pub mod Waiting

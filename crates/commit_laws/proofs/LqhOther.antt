@@ -1,5 +1,5 @@
 -- The rows of a node say nothing of how transactions come to be decided.
-use Rattle.std.proofs.Common.{◌≡◌, ℕ, List, [], ◌∷◌, Bool, true, false, refl}
+use Rattle.std.proofs.Common.{◌≡◌, ℕ, List, [], ◌∷◌, Bool, true, false, refl, sym, subst}
 use Rattle.std.specs.Prelude.{◌+◌, ◌==◌, nat_lt, is_some, remove, Option, None, Some, slice_get}
 use Rattle.sig_core.specs.declared.member.Member.{Member}
 use Rattle.sig_core.specs.declared.member.TxId.{TxId}
@@ -33,8 +33,9 @@ use Rattle.lqh_block.specs.State.{LqhState, freed_lock, go_on_if, serve_granted,
 use Rattle.lqh_block.specs.Storage as storage
 use Rattle.lqh_block.specs.Storage.{StorageState}
 use Rattle.lqh_block.specs.Wait as wait
-use Rattle.run_theory.proofs.Pasts.{each_append}
-use Rattle.commit_laws.specs.Kinds.{kind_of, other}
+use Rattle.run_theory.specs.Lists.{Each}
+use Rattle.run_theory.proofs.Pasts.{each_append, each_map}
+use Rattle.commit_laws.specs.Kinds.{Kind, committing, kind_of, other}
 use Rattle.commit_laws.proofs.EachSent.{AreOther, SendsOther}
 
 granted_other : (node : ℕ) (b : Bool) → AreOther (go_on_if node work.Granted b)
@@ -99,16 +100,29 @@ granted_row_other : (s : LqhState) → SendsOther (operate.granted_row s)
 unfolding operate.granted_row
 granted_row_other s = granted_other_by s _
 
--- what is committed and completed
-told_other : (s : LqhState) (tx : TxId) (key : List ℕ) (epoch : ℕ) (chain : List Member) (at : ℕ) (had : Option Bool) (b : Bool)
-    → SendsOther (commit.told_if s tx key epoch chain at had b)
-told_other s tx key epoch chain at had true = (refl, granted_other s.node _)
-told_other s tx key epoch chain at had false = (refl, tt)
+-- what is committed: where the commit goes on to the next place, it is the one that was taken
+abbrev pub RowsSay : Kind → Kind → Type 0
+RowsSay taken (committing tx) = taken ≡ committing tx
+RowsSay taken other = Unit {0}
+RowsSay taken _ = ⊥
 
-commit_other : (s : LqhState) (tx : TxId) (key : List ℕ) (epoch : ℕ) (chain : List Member) (at : ℕ) → SendsOther (commit.commit_row s tx key epoch chain at)
+abbrev pub AllRowsSay : Kind → List Outgoing → Type 0
+AllRowsSay taken sends = Each (λ (o : Outgoing). RowsSay taken (kind_of o.body)) sends
+
+others_say : (taken : Kind) (sends : List Outgoing) → AreOther sends → AllRowsSay taken sends
+others_say taken sends all =
+    each_map (λ (o : Outgoing). kind_of o.body ≡ other) (λ (o : Outgoing). RowsSay taken (kind_of o.body)) sends (λ o is. subst (RowsSay taken) (sym is) tt) all
+
+told_says : (s : LqhState) (tx : TxId) (key : List ℕ) (epoch : ℕ) (chain : List Member) (at : ℕ) (had : Option Bool) (b : Bool)
+    → AllRowsSay (committing tx) (commit.told_if s tx key epoch chain at had b).effects.sends
+told_says s tx key epoch chain at had true = (tt, others_say (committing tx) (serve_granted s.node (freed_lock s tx key)) (granted_other s.node (nat_lt 0 (freed_lock s tx key).granted)))
+told_says s tx key epoch chain at had false = (refl, tt)
+
+commit_says : (s : LqhState) (tx : TxId) (key : List ℕ) (epoch : ℕ) (chain : List Member) (at : ℕ) → AllRowsSay (committing tx) (commit.commit_row s tx key epoch chain at).effects.sends
 unfolding commit.commit_row
-commit_other s tx key epoch chain at = told_other _ tx key epoch chain at _ (at == 0)
+commit_says s tx key epoch chain at = told_says _ tx key epoch chain at _ (at == 0)
 
+-- what is completed
 completed_other : (tx : TxId) (key : List ℕ) (chain : List Member) (at : ℕ) (rest : List Outgoing) (b : Bool) → AreOther rest
     → AreOther (complete.completed_by tx key chain at b ∷ rest)
 completed_other tx key chain at rest true e = (refl, e)
@@ -154,14 +168,14 @@ dump_other : (s : LqhState) (at : ℕ) → SendsOther (dump.dump_row s at)
 unfolding dump.dump_row
 dump_other s at = (refl, tt)
 
-pub lqh_other : (s : LqhState) (body : Body) → SendsOther (lqh_row s body)
-lqh_other s (Chain (LqhKeyReq tx what chain at)) = request_other s (record { tx = tx; work = what; chain = chain; at = at })
-lqh_other s (Host (Continue work.Granted at)) = granted_row_other s
-lqh_other s (Chain (Commit tx key epoch chain at)) = commit_other s tx key epoch chain at
-lqh_other s (Chain (Complete tx key chain at)) = complete_other s tx key chain at
-lqh_other s (Chain (Abort tx key)) = abort_other s tx key
-lqh_other s (Client (LqhWaitReq tx key)) = wait_other s tx key
-lqh_other s (Client (DumpReq at)) = dump_other s at
-lqh_other s (Host Round) = expire_other (expire.aged s)
-lqh_other s (Host (Continue work.Expired at)) = expire_other s
-lqh_other s _ = tt
+pub lqh_says : (s : LqhState) (body : Body) → AllRowsSay (kind_of body) (lqh_row s body).effects.sends
+lqh_says s (Chain (LqhKeyReq tx what chain at)) = others_say other _ (request_other s (record { tx = tx; work = what; chain = chain; at = at }))
+lqh_says s (Host (Continue work.Granted at)) = others_say other _ (granted_row_other s)
+lqh_says s (Chain (Commit tx key epoch chain at)) = commit_says s tx key epoch chain at
+lqh_says s (Chain (Complete tx key chain at)) = others_say other _ (complete_other s tx key chain at)
+lqh_says s (Chain (Abort tx key)) = others_say other _ (abort_other s tx key)
+lqh_says s (Client (LqhWaitReq tx key)) = others_say other _ (wait_other s tx key)
+lqh_says s (Client (DumpReq at)) = others_say other _ (dump_other s at)
+lqh_says s (Host Round) = others_say other _ (expire_other (expire.aged s))
+lqh_says s (Host (Continue work.Expired at)) = others_say other _ (expire_other s)
+lqh_says s _ = tt

@@ -1,5 +1,5 @@
 -- Fair events leave a key in order at its primary.
-use Rattle.std.proofs.Common.{◌≡◌, ℕ, Bool, true, false, not, List, [], ◌∷◌, ◌++◌, refl, sym, ap, ◌∙◌, subst}
+use Rattle.std.proofs.Common.{◌≡◌, ℕ, Bool, true, false, List, [], ◌∷◌, refl, ◌∙◌}
 use Rattle.std.proofs.lemmas.Bool.{not-true}
 use Rattle.std.specs.Prelude.{Option, None, Some}
 use Rattle.run_theory.specs.Lists.{Each}
@@ -12,11 +12,9 @@ use Rattle.sig_core.specs.declared.signal.chain.RowWork.{RowWork}
 use Rattle.sig_core.specs.declared.signal.chain.RowWork.TheVariants.{Operate, Store}
 use Rattle.sig_core.specs.Op.{answer_to, image_of, key_of}
 use Rattle.sig_core.specs.Rows.{prepared}
-use Rattle.sig_core.specs.Same.{same_tx}
 use Rattle.row_locks.specs.declared.mode.Lock.{Lock}
 use Rattle.row_locks.specs.declared.mode.Lock.TheVariants.{Granted, Queued}
 use Rattle.row_locks.specs.Holders.{holds_enough}
-use Rattle.row_locks.specs.Orderly.{IsOrderly}
 use Rattle.row_locks.specs.Queues.{waits}
 use Rattle.row_locks.specs.Rows.{RowLock, asked, grown_old, released, unwaited}
 use Rattle.row_locks.proofs.OrderlyLemmas.{asked_orderly, grown_old_orderly, released_orderly, unwaited_orderly}
@@ -26,11 +24,12 @@ use Rattle.lqh_block.specs.Work.{work_mode}
 use Rattle.commit_laws.specs.Firsts.{drop_first, first}
 use Rattle.commit_laws.specs.LockLaws.{is_attended}
 use Rattle.commit_laws.specs.Primary.{IsGood, IsLedTo, Primary, answered, seen_at}
-use Rattle.commit_laws.specs.PrimaryEvents.{AreAlone, AtPrimary, FairEventsKeepOrder, IsFair, IsInOrder, IsOfOperation, IsOperation, IsTimely, NoneOf, TimelyEventsKeepValue, made_by, made_if, made_served, noted_unless, primary_after, primary_of}
+use Rattle.commit_laws.specs.PrimaryEvents.{AtPrimary, FairEventsKeepOrder, IsFair, IsInOrder, IsOfOperation, IsOperation, NoneOf, TimelyEventsKeepValue, made_by, made_if, made_served, noted_unless, primary_after, primary_of}
 use Rattle.commit_laws.specs.Records.{found, seen_by}
-use Rattle.commit_laws.specs.Replica.{Cell, Event, Replica, aborts, ageing, ages, asked_by, asks, commits, completes, expires, expiring, is_by, is_let_in, key_after, operated, rests, served_by, serves, worked}
+use Rattle.commit_laws.specs.Replica.{Cell, Replica, aborts, ageing, ages, asked_by, asks, commits, completes, expires, expiring, is_by, is_let_in, operated, rests, served_by, serves, worked}
 use Rattle.commit_laws.proofs.Firsts.{first_passes}
-use Rattle.commit_laws.proofs.LockHolding.{attended_hold, expiries_attend, expiries_hold_on, grants_hold, queued_wait, releases_attend, releases_hold_on, requests_attend, requests_hold_on, rounds_attend}
+use Rattle.commit_laws.proofs.LockHolding.{expiries_hold_on, grants_hold, releases_hold_on, requests_hold_on}
+use Rattle.commit_laws.proofs.LockWaiting.{attended_hold, expiries_attend, queued_wait, releases_attend, requests_attend, rounds_attend}
 use Rattle.commit_laws.proofs.PrimaryGood.{aborts_keep, commits_keep, completions_keep, grants_keep, operations_keep}
 use Rattle.commit_laws.proofs.PrimaryValue.{aborts_value, commits_value, completions_value}
 use Rattle.commit_laws.proofs.RecordLemmas.{kept_row-stored}

@@ -1,5 +1,5 @@
 -- A replica is its keys.
-use Rattle.std.proofs.Common.{◌≡◌, ◌==◌, ℕ, zero, suc, Bool, true, false, cond, List, [], ◌∷◌, filter, refl, sym, ap, ◌∙◌, subst}
+use Rattle.std.proofs.Common.{◌≡◌, ◌==◌, ◌+◌, ℕ, zero, suc, Bool, true, false, cond, List, [], ◌∷◌, filter, refl, sym, ap, ◌∙◌, subst}
 use Rattle.std.specs.Cmp.Lexicographic.{nat_list_cmp_total}
 use Rattle.std.specs.FinMap as map
 use Rattle.std.specs.Prelude.{if◌then◌else◌, Option, None, Some, slice_get}
@@ -37,17 +37,19 @@ use Rattle.lqh_block.specs.Operate as operate
 use Rattle.lqh_block.specs.State.{LqhState, storage_of, unlocked}
 use Rattle.lqh_block.specs.Wait as wait
 use Rattle.lqh_block.specs.Work.{work_key, work_mode}
+use Rattle.node_core.specs.Committed as committed
 use Rattle.node_core.specs.declared.host.Host as host
 use Rattle.node_core.specs.declared.host.Host.TheVariants.{Shell, Node}
 use Rattle.node_core.specs.declared.node.Node as node
 use Rattle.node_core.specs.Fresh.{begun_node, fresh_node, fresh_shell, with_rows}
 use Rattle.node_core.specs.Row.{node_row, row}
 use Rattle.world_core.specs.Machine.{after}
-use Rattle.world_core.specs.Start.{Start, started}
+use Rattle.world_core.specs.Start.{Start, first_view, started}
 use Rattle.commit_laws.specs.Placed.{AreApart, IsPlaced, has_place}
-use Rattle.commit_laws.specs.Replica.{at_key}
-use Rattle.commit_laws.specs.ReplicaLaws.{IsWell, IsWellHost, KeysBeginAtRest, LogsKeepWell, SignalsAreEvents, SignalsKeepWell}
-use Rattle.commit_laws.proofs.CellsAt.{placed-aborted, placed-committed, placed-completed, placed-performed}
+use Rattle.commit_laws.specs.Replica.{at_key, key_after}
+use Rattle.commit_laws.specs.ReplicaLaws.{KeysHaveRows, LogsFollowEvents, NodesBeginAtRest, event_for, event_in, key_in, IsWell, IsWellHost, KeysBeginAtRest, LogsKeepWell, SignalsAreEvents, SignalsKeepWell}
+use Rattle.commit_laws.proofs.CellsAt.{placed-aborted, placed-committed, placed-completed}
+use Rattle.commit_laws.proofs.PerformedAt.{placed-performed}
 use Rattle.commit_laws.proofs.KeyAfter.{granted_event, replica_is, request_event}
 use Rattle.commit_laws.proofs.KeyEnds.{abort_event, applied_locks, applied_rows, commit_event, complete_event, expire_event, given_locks, given_rows, round_event, unasked_is}
 use Rattle.commit_laws.proofs.Keys.{same_key-swap, tied-same_key}
@@ -225,3 +227,28 @@ row_well (Node n) to body well = node_well n to.block body well
 pub logs_keep_well : LogsKeepWell
 logs_keep_well start h [] = started_well start h
 logs_keep_well start h (e ∷ log) = row_well (after start h log) e.taken.to e.taken.body (logs_keep_well start h log)
+
+-- a host's step is one of each of its keys
+node_event : (n : node.Node) (at : BlockId) (body : Body) (key : List ℕ) → IsWell n.lqh → at_key key (node_row n at body).state.lqh ≡ key_after (event_for key n.lqh at body) (at_key key n.lqh)
+unfolding node_row
+node_event n block.Lqh body key well = signals_are_events n.lqh body key well
+node_event n block.Tc body key well = refl
+node_event n block.Dih body key well = refl
+node_event n _ body key well = refl
+
+host_event : (s : host.Host) (to : Place) (body : Body) (key : List ℕ) → IsWellHost s → key_in key (row s to body).state ≡ key_after (event_in key s to body) (key_in key s)
+unfolding row
+host_event (Shell s) to body key well = refl
+host_event (Node n) to body key well = node_event n to.block body key well
+
+pub logs_follow : LogsFollowEvents
+logs_follow start h log e key = host_event (after start h log) e.taken.to e.taken.body key (logs_keep_well start h log)
+
+pub nodes_begin : NodesBeginAtRest
+unfolding fresh_node
+nodes_begin start h key = keys_begin_at_rest (h + 1) (first_view start.nodes) start.epoch start.rows key
+
+pub keys_have_rows : KeysHaveRows
+unfolding committed.row_at
+keys_have_rows (Shell s) key = refl
+keys_have_rows (Node n) key = refl

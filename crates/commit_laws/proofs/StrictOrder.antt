@@ -13,7 +13,8 @@ use Rattle.sig_core.specs.declared.mark.Mark.{Mark}
 use Rattle.sig_core.specs.declared.mark.Mark.TheVariants as mark
 use Rattle.sig_core.specs.declared.member.TxId.{TxId}
 use Rattle.sig_core.specs.declared.signal.Body.{Body}
-use Rattle.sig_core.specs.declared.signal.Body.TheVariants.{Client, Epoch}
+use Rattle.sig_core.specs.declared.signal.Body.TheVariants.{Client, Chain, Epoch}
+use Rattle.sig_core.specs.declared.signal.chain.ChainSignal.TheVariants.{Commit}
 use Rattle.sig_core.specs.declared.signal.client.ClientSignal.TheVariants.{TcBeginConf, TcCommitReq, TcCommitConf}
 use Rattle.sig_core.specs.declared.signal.epoch.EpochSignal.TheVariants.{DiVerifyReq, DiVerifyConf}
 use Rattle.sig_core.specs.Same.{same_tx}
@@ -27,8 +28,9 @@ use Rattle.world_core.specs.Strict.{IsStrictOrder}
 use Rattle.commit_laws.specs.Causes.{is_decision}
 use Rattle.commit_laws.specs.Kinds.{Kind, kind_of}
 use Rattle.commit_laws.specs.Kinds as kind
-use Rattle.commit_laws.specs.Laws.{HistoriesAreStrict}
-use Rattle.commit_laws.proofs.Causal.{AreCausal, DecidesAt, DecidesRightly, cuts_are_causal}
+use Rattle.commit_laws.specs.Laws.{CommitsAreOfDecided, HistoriesAreStrict}
+use Rattle.commit_laws.proofs.Causal.{AreCausal, cuts_are_causal}
+use Rattle.commit_laws.proofs.CausalFacts.{CommitsRightly, DecidesAt, DecidesRightly}
 use Rattle.commit_laws.proofs.EachEntry.{each_kept}
 use Rattle.commit_laws.proofs.Epochs.{inside_right, step_marks}
 use Rattle.commit_laws.proofs.HostMarks.{AreMarks, decides, plain}
@@ -45,6 +47,7 @@ begun_asked (Client (TcCommitReq other)) tx is = absurd cc
 begun_asked (Client (TcCommitConf other epoch)) tx is = absurd cc
 begun_asked (Epoch (DiVerifyReq other ops)) tx is = absurd cc
 begun_asked (Epoch (DiVerifyConf other epoch)) tx is = absurd cc
+begun_asked (Chain (Commit other key epoch chain at)) tx is = absurd cc
 begun_asked _ tx is = absurd cc
 
 verified_asked : (body : Body) (tx : TxId) → kind_of body ≡ kind.verified tx → is_request body ≡ false
@@ -53,6 +56,7 @@ verified_asked (Client (TcCommitReq other)) tx is = absurd cc
 verified_asked (Client (TcCommitConf other epoch)) tx is = absurd cc
 verified_asked (Epoch (DiVerifyReq other ops)) tx is = refl
 verified_asked (Epoch (DiVerifyConf other epoch)) tx is = absurd cc
+verified_asked (Chain (Commit other key epoch chain at)) tx is = absurd cc
 verified_asked _ tx is = absurd cc
 
 -- the step of an entry
@@ -193,3 +197,7 @@ module _ (start : Start) where
 
 pub histories_strict : HistoriesAreStrict
 histories_strict start inside logs is = strictly start inside (inside_right start inside logs is) (cuts_are_causal start inside logs is)
+
+pub commits_decided : CommitsAreOfDecided
+commits_decided start inside logs is h e tx key epoch chain at here took =
+    each_in (CommitsRightly inside) e (inside h) ((cuts_are_causal start inside logs is).commits h) here tx (ap kind_of took)

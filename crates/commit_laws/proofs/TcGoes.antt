@@ -32,9 +32,11 @@ use Rattle.commit_laws.specs.Kinds as kind
 use Rattle.commit_laws.specs.Phases.{is_decided, is_open}
 use Rattle.commit_laws.proofs.EachSent.{each_drop, each_flat, each_mapped, each_take}
 
--- what a transaction may say where D is known of it once it is decided: that it has ended, and nothing of the rest
+-- what a transaction may say where D is known of it once it is decided: that its rows are committed and that it has ended,
+-- and nothing of the rest
 abbrev pub SaysOf : TxId → Type 0 → Kind → Type 0
 SaysOf tx D (kind.ended other) = (other ≡ tx) × D
+SaysOf tx D (kind.committing other) = (other ≡ tx) × D
 SaysOf tx D kind.other = Unit {0}
 SaysOf tx D _ = ⊥
 
@@ -81,19 +83,19 @@ module _ (tx : TxId) (D : Type 0) where
   complete_says t true = (tt, tt)
   complete_says t false = tt
 
-  key_says : (view : View) (phase : Phase) (t : Touched) → AllSay tx D (key_sends view tx phase t)
+  key_says : (view : View) (phase : Phase) (t : Touched) → Known phase → AllSay tx D (key_sends view tx phase t)
   unfolding key_sends
-  key_says view Open t = tt
-  key_says view Verifying t = tt
-  key_says view (Committing epoch awaited) t = (tt, tt)
-  key_says view (Completing epoch awaited) t = complete_says t t.written
-  key_says view (Aborting why verifying awaited) t = each_mapped (λ (o : Outgoing). SaysOf tx D (kind_of o.body)) (abort_of tx t.key) (chain_of view t.key) (λ r. tt)
+  key_says view Open t known = tt
+  key_says view Verifying t known = tt
+  key_says view (Committing epoch awaited) t known = ((refl, known refl), tt)
+  key_says view (Completing epoch awaited) t known = complete_says t t.written
+  key_says view (Aborting why verifying awaited) t known = each_mapped (λ (o : Outgoing). SaysOf tx D (kind_of o.body)) (abort_of tx t.key) (chain_of view t.key) (λ r. tt)
 
   phase_says : (view : View) (phase : Phase) (touched : List Touched) → Known phase → AllSay tx D (phase_sends view tx phase touched)
   unfolding phase_sends
   phase_says view phase touched known =
       each_append (λ (o : Outgoing). SaysOf tx D (kind_of o.body)) (front_sends tx phase) (flat_map (key_sends view tx phase) touched) (front_says phase known)
-      (each_flat (λ (o : Outgoing). SaysOf tx D (kind_of o.body)) (key_sends view tx phase) touched (key_says view phase))
+      (each_flat (λ (o : Outgoing). SaysOf tx D (kind_of o.body)) (key_sends view tx phase) touched (λ t. key_says view phase t known))
 
   -- it enters a phase that isn't the open one
   enters : (node : ℕ) (view : View) (t : Transaction) (phase : Phase) → is_open phase ≡ false → Known phase → Goes tx D t.phase (entering node view tx t phase)

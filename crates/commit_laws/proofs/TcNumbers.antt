@@ -80,6 +80,7 @@ pub record IsNumbered (node : ℕ) (D : TxId → Type 0) (s : TcState) (begun_ye
 abbrev pub SaysAt : ℕ → (TxId → Type 0) → Kind → Outgoing → Kind → Type 0
 SaysAt node D taken o (kind.begun tx) = tx.tc ≡ node
 SaysAt node D taken o (kind.verified tx) = (taken ≡ kind.wanted tx) × (tx.tc ≡ node) × (o.to ≡ epochs node)
+SaysAt node D taken o (kind.committing tx) = D tx
 SaysAt node D taken o (kind.ended tx) = D tx
 SaysAt node D taken o kind.other = Unit {0}
 SaysAt node D taken o _ = ⊥
@@ -101,6 +102,7 @@ begun_none tx D (o ∷ more) before all = ap (put_kinds begun_by more) (by (kind
     by (kind.wanted other) says = refl
     by (kind.verified other) says = refl
     by (kind.decided other) says = refl
+    by (kind.committing other) says = refl
     by (kind.ended other) says = refl
     by kind.other says = refl
 
@@ -113,6 +115,7 @@ verified_none tx D (o ∷ more) before all = ap (put_kinds verified_by more) (by
     by (kind.wanted other) says = refl
     by (kind.verified other) says = absurd says
     by (kind.decided other) says = refl
+    by (kind.committing other) says = refl
     by (kind.ended other) says = refl
     by kind.other says = refl
 
@@ -124,6 +127,7 @@ says_at node D taken tx sends all = each_map (λ (o : Outgoing). SaysOf tx (D tx
     by o (kind.wanted other) says = absurd says
     by o (kind.verified other) says = absurd says
     by o (kind.decided other) says = absurd says
+    by o (kind.committing other) says = subst D (sym says.0) says.1
     by o (kind.ended other) says = subst D (sym says.0) says.1
     by o kind.other says = tt
 
@@ -304,9 +308,10 @@ module _ (node : ℕ) (D : TxId → Type 0) (taken : Kind) (s : TcState) (begun_
   unfolding pass_row
   pass_numbered tx ahead = pass_stays tx ahead (is_some (place_in s tx))
 
--- a signal that tells of a decision tells the truth
+-- a signal that tells of a decision, or commits a row, tells the truth
 abbrev pub Tells : (TxId → Type 0) → Kind → Type 0
 Tells D (kind.decided tx) = D tx
+Tells D (kind.committing tx) = D tx
 Tells D k = Unit {0}
 
 pub tc_numbered : (node : ℕ) (D : TxId → Type 0) (s : TcState) (begun_yet verified : List TxId) (body : Body) → IsNumbered node D s begun_yet verified → Tells D (kind_of body)

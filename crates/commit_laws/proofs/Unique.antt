@@ -76,6 +76,7 @@ begun_reads = record { adds = adds; none = refl }
     adds (kind.wanted tx) before = refl
     adds (kind.verified tx) before = refl
     adds (kind.decided tx) before = refl
+    adds (kind.committing tx) before = refl
     adds (kind.ended tx) before = refl
     adds kind.other before = refl
 
@@ -87,6 +88,7 @@ verified_reads = record { adds = adds; none = refl }
     adds (kind.wanted tx) before = refl
     adds (kind.verified tx) before = refl
     adds (kind.decided tx) before = refl
+    adds (kind.committing tx) before = refl
     adds (kind.ended tx) before = refl
     adds kind.other before = refl
 

@@ -2,17 +2,25 @@
 use Rattle.std.specs.Prelude.{◌≡◌, ◌<◌, ℕ, true, List}
 use Rattle.std.specs.FinMap as map
 use Rattle.run_theory.specs.Cuts.{IsCut, IsClosed}
+use Rattle.run_theory.specs.Lists.{IsIn}
 use Rattle.run_theory.specs.Runs.{AreLogs, IsWithin}
-use Rattle.serial_model.specs.Legal.{IsLegal, fold}
+use Rattle.node_core.specs.Committed.{row_at}
+use Rattle.serial_model.specs.Legal.{IsLegal, fold, rows_of}
 use Rattle.sig_core.specs.declared.entry.Entry.{Entry}
 use Rattle.sig_core.specs.declared.log.LogStep.{LogStep}
+use Rattle.sig_core.specs.declared.member.Member.{Member}
+use Rattle.sig_core.specs.declared.member.TxId.{TxId}
+use Rattle.sig_core.specs.declared.signal.Body.TheVariants.{Chain}
+use Rattle.sig_core.specs.declared.signal.chain.ChainSignal.TheVariants.{Commit}
 use Rattle.sig_core.specs.Table.{Rows}
 use Rattle.world_core.specs.History.{history}
-use Rattle.world_core.specs.Machine.{hosts, machine}
-use Rattle.world_core.specs.SerialLaw.{AreEpochsOrdered}
+use Rattle.world_core.specs.Machine.{after, hosts, machine}
+use Rattle.world_core.specs.Rest.{IsAtRest}
+use Rattle.world_core.specs.SerialLaw.{AreEpochsOrdered, IsSerial}
 use Rattle.world_core.specs.Start.{Start, first_view}
 use Rattle.world_core.specs.Strict.{IsStrictOrder}
-use Rattle.world_core.specs.Views.{greatest_view, is_viable}
+use Rattle.world_core.specs.Views.{greatest_view, is_viable, live_nodes}
+use Rattle.commit_laws.specs.Causes.{IsDecidedBelow}
 use Rattle.commit_laws.specs.OneKey.{IsRightAt, row_at_end}
 
 -- a closed cut of right logs
@@ -43,6 +51,14 @@ HistoriesAreStrict =
     (start : Start) (inside logs : ℕ → List LogStep) → IsClosedCut start inside logs
     → IsStrictOrder start (inside 0) (history (hosts start) inside)
 
+-- a row is committed for decided transactions alone: wherever a commit was taken, the decision has a lesser stamp
+abbrev pub CommitsAreOfDecided : Type 0
+CommitsAreOfDecided =
+    (start : Start) (inside logs : ℕ → List LogStep) → IsClosedCut start inside logs
+    → (h : ℕ) (e : LogStep) (tx : TxId) (key : List ℕ) (epoch : ℕ) (chain : List Member) (at : ℕ) → IsIn e (inside h)
+    → e.taken.body ≡ Chain (Commit tx key epoch chain at)
+    → IsDecidedBelow inside tx e.stamp
+
 -- a list of entries that is right for each key is legal
 abbrev pub KeysJoin : Type 0
 KeysJoin = (rows : Rows) (entries : List Entry) → ((key : List ℕ) → IsRightAt key (map.get rows key) entries) → IsLegal rows entries
@@ -50,3 +66,16 @@ KeysJoin = (rows : Rows) (entries : List Entry) → ((key : List ℕ) → IsRigh
 -- and its rows are those of the keys
 abbrev pub RowsJoin : Type 0
 RowsJoin = (rows : Rows) (entries : List Entry) (key : List ℕ) → map.get (fold rows entries) key ≡ row_at_end key (map.get rows key) entries
+
+-- What is left of the serial law of a closed cut, key by key: the history is right for each key, and where a key is at rest
+-- each live replica has the row that the history leaves.
+pub record AreKeysRight (start : Start) (inside : ℕ → List LogStep) : Type 0 where
+  pub right : (key : List ℕ) → IsRightAt key (map.get (rows_of start.rows) key) (history (hosts start) inside)
+  pub rows : (key : List ℕ) → IsAtRest start inside key → (member : Member) → IsIn member (live_nodes start inside)
+      → row_at (after start member.node (inside member.node)) key ≡ row_at_end key (map.get (rows_of start.rows) key) (history (hosts start) inside)
+
+-- with that, and where there is a node, the cut is serial
+abbrev pub KeysMakeSerial : Type 0
+KeysMakeSerial =
+    (start : Start) (inside logs : ℕ → List LogStep) → 0 < start.nodes → IsClosedCut start inside logs → AreKeysRight start inside
+    → IsSerial start inside

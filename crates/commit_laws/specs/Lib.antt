@@ -15,3 +15,4 @@ pub mod PrimaryLaws
 pub mod Records
 pub mod Replica
 pub mod ReplicaLaws
+pub mod Ways

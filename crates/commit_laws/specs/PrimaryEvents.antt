@@ -19,7 +19,7 @@ use Rattle.commit_laws.specs.Firsts.{first}
 use Rattle.commit_laws.specs.LockLaws.{is_attended}
 use Rattle.commit_laws.specs.Primary.{HasPrepared, IsGood, IsLedTo, Primary, ended_too, noted}
 use Rattle.commit_laws.specs.Records.{found, seen_by}
-use Rattle.commit_laws.specs.Replica.{Cell, Event, Replica, aborts, ages, asks, commits, completes, expires, is_let_in, key_after, rests, serves}
+use Rattle.commit_laws.specs.Replica.{Cell, Event, Replica, aborts, asks, commits, completes, is_let_in, key_after, serves}
 
 -- the key at its primary, with what was answered there, and the transactions whose commit or abort was taken there
 pub record AtPrimary : Type 0 where

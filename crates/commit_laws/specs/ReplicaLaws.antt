@@ -1,7 +1,10 @@
 -- A replica is its keys: each signal does to each key what the event of that key says.
-use Rattle.std.specs.Prelude.{◌≡◌, ℕ, List, [], Option}
+use Rattle.std.specs.Prelude.{◌≡◌, ℕ, suc, List, [], ◌∷◌, Option, None}
 use Rattle.std.specs.FinMap as map
 use Rattle.sig_core.specs.declared.log.LogStep.{LogStep}
+use Rattle.sig_core.specs.declared.place.BlockId.{BlockId}
+use Rattle.sig_core.specs.declared.place.BlockId.TheVariants.{Lqh}
+use Rattle.sig_core.specs.declared.place.Place.{Place}
 use Rattle.sig_core.specs.declared.signal.Body.{Body}
 use Rattle.sig_core.specs.declared.view.View.{View}
 use Rattle.serial_model.specs.Legal.{rows_of}
@@ -9,13 +12,14 @@ use Rattle.row_locks.specs.OrderlyTables.{AreOrderly}
 use Rattle.row_locks.specs.Rows.{unlocked}
 use Rattle.lqh_block.specs.Lqh.{lqh_row}
 use Rattle.lqh_block.specs.State.{LqhState}
+use Rattle.node_core.specs.Committed.{row_at}
 use Rattle.node_core.specs.declared.host.Host.{Host}
 use Rattle.node_core.specs.declared.host.Host.TheVariants.{Shell, Node}
 use Rattle.node_core.specs.Fresh.{begun_node}
 use Rattle.world_core.specs.Machine.{after}
 use Rattle.world_core.specs.Start.{Start}
 use Rattle.commit_laws.specs.Placed.{IsPlaced}
-use Rattle.commit_laws.specs.Replica.{Replica, at_key, event_at, key_after}
+use Rattle.commit_laws.specs.Replica.{Event, Replica, at_key, event_at, key_after, rests}
 
 -- the rows have their places, and the locks are orderly
 pub record IsWell (s : LqhState) : Type 0 where
@@ -48,3 +52,31 @@ abbrev pub KeysBeginAtRest : Type 0
 KeysBeginAtRest =
     (node : ℕ) (view : View) (epoch : ℕ) (rows : List (List ℕ × List ℕ)) (key : List ℕ)
     → at_key key (begun_node node view epoch rows).lqh ≡ at_rest (map.get (rows_of rows) key)
+
+-- one key of a host; the shell's host has none
+abbrev pub key_in : List ℕ → Host → Replica
+key_in key (Shell s) = at_rest None
+key_in key (Node n) = at_key key n.lqh
+
+-- what a signal is to the key: only those for the rows of the node are events
+abbrev pub event_for : List ℕ → LqhState → BlockId → Body → Event
+event_for key s Lqh body = event_at key s body
+event_for key s other body = rests
+
+abbrev pub event_in : List ℕ → Host → Place → Body → Event
+event_in key (Shell s) to body = rests
+event_in key (Node n) to body = event_for key n.lqh to.block body
+
+-- along each log each step does to each key what its event there says
+abbrev pub LogsFollowEvents : Type 0
+LogsFollowEvents =
+    (start : Start) (h : ℕ) (log : List LogStep) (e : LogStep) (key : List ℕ)
+    → key_in key (after start h (e ∷ log)) ≡ key_after (event_in key (after start h log) e.taken.to e.taken.body) (key_in key (after start h log))
+
+-- the key is at rest at first, with its row of the start
+abbrev pub NodesBeginAtRest : Type 0
+NodesBeginAtRest = (start : Start) (h : ℕ) (key : List ℕ) → key_in key (after start (suc h) []) ≡ at_rest (map.get (rows_of start.rows) key)
+
+-- and its row is the committed row of the host
+abbrev pub KeysHaveRows : Type 0
+KeysHaveRows = (s : Host) (key : List ℕ) → row_at s key ≡ (key_in key s).cell.row

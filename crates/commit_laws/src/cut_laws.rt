@@ -1,5 +1,5 @@
 //! What holds of every closed cut of right logs.
-ghost use Rattle.commit_laws.specs.Laws.{EpochsNeverFall, GreatestViewIsFirst, GreatestViewIsViable, HistoriesAreStrict};
+ghost use Rattle.commit_laws.specs.Laws.{CommitsAreOfDecided, EpochsNeverFall, GreatestViewIsFirst, GreatestViewIsViable, HistoriesAreStrict, KeysMakeSerial};
 
 /// Epochs never fall along the history of a closed cut.
 pub fn epochs_never_fall()
@@ -17,4 +17,16 @@ pub fn greatest_view_is_viable()
 /// another one was asked for stands before it.
 pub fn histories_are_strict()
     ensures { HistoriesAreStrict }
+{}
+
+/// In a closed cut a row is committed, at whatever place of its chain, for decided transactions
+/// alone: the decision stands in the cut, with a lesser stamp.
+pub fn commits_are_of_decided()
+    ensures { CommitsAreOfDecided }
+{}
+
+/// A closed cut whose history is right for each key alone, and whose live replicas have its row of
+/// each key at rest, is serial, where there is a node.
+pub fn right_keys_make_cuts_serial()
+    ensures { KeysMakeSerial }
 {}

@@ -1,5 +1,5 @@
 //! A replica is its keys.
-ghost use Rattle.commit_laws.specs.ReplicaLaws.{KeysBeginAtRest, LogsKeepWell, SignalsAreEvents, SignalsKeepWell};
+ghost use Rattle.commit_laws.specs.ReplicaLaws.{KeysBeginAtRest, KeysHaveRows, LogsFollowEvents, LogsKeepWell, NodesBeginAtRest, SignalsAreEvents, SignalsKeepWell};
 
 /// Whatever signals a node takes, its rows have their places and its locks are orderly, and each
 /// signal does to each key what its event there says, which reads nothing of the other keys but
@@ -10,4 +10,12 @@ pub fn replicas_are_their_keys()
     ensures well { SignalsKeepWell }
     ensures logs { LogsKeepWell }
     ensures begin { KeysBeginAtRest }
+{}
+
+/// Along any log of a host each key goes from event to event, from its row of the start on; and its
+/// row is the committed row of the host.
+pub fn logs_follow_events()
+    ensures steps { LogsFollowEvents }
+    ensures begin { NodesBeginAtRest }
+    ensures rows { KeysHaveRows }
 {}

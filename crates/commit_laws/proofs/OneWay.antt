@@ -1,0 +1,314 @@
+-- No coordinator sends a commit and an abort of one transaction.
+use Rattle.std.proofs.Common.{◌≡◌, ◌<◌, ℕ, zero, suc, ◌+◌, Bool, true, false, ◌&&◌, List, [], ◌∷◌, ◌++◌, refl, sym, ap, ◌∙◌, subst, arith}
+use Rattle.std.specs.Map.{values_of}
+use Rattle.std.specs.Prelude.{Option, None, Some, is_some, slice_get, nat_eq}
+use Rattle.std.proofs.lemmas.Bool.{and_right, ne_eqb}
+use Rattle.run_theory.specs.Lists.{Each}
+use Rattle.run_theory.proofs.Pasts.{each_append, each_map}
+use Rattle.sig_core.specs.declared.log.LogStep.{LogStep}
+use Rattle.sig_core.specs.declared.member.TxId.{TxId}
+use Rattle.sig_core.specs.declared.outs.Outgoing.{Outgoing}
+use Rattle.sig_core.specs.declared.place.BlockId.{BlockId}
+use Rattle.sig_core.specs.declared.place.BlockId.TheVariants as block
+use Rattle.sig_core.specs.declared.place.Place.{Place}
+use Rattle.sig_core.specs.declared.signal.Body.{Body}
+use Rattle.sig_core.specs.declared.signal.Body.TheVariants.{Host, Client, Chain, Epoch}
+use Rattle.sig_core.specs.declared.signal.chain.ChainSignal.TheVariants.{LqhKeyConf, LqhKeyRef, Committed, Completed, Aborted}
+use Rattle.sig_core.specs.declared.signal.client.ClientSignal.TheVariants.{TcBeginReq, TcKeyReq, TcCommitReq, TcRollbackReq, TcWaitReq, LqhWaitConf}
+use Rattle.sig_core.specs.declared.signal.epoch.EpochSignal.TheVariants.{DiVerifyConf}
+use Rattle.sig_core.specs.declared.signal.host.HostSignal.TheVariants.{Continue}
+use Rattle.sig_core.specs.declared.signal.host.Work.TheVariants as work
+use Rattle.sig_core.specs.Same.{same_tx}
+use Rattle.sig_core.specs.Step.{Step}
+use Rattle.row_locks.proofs.TxLemmas.{same_tx-swap}
+use Rattle.tc_block.specs.Abort.{aborted_row, refuse_row, rollback_row}
+use Rattle.tc_block.specs.Commit as commit
+use Rattle.tc_block.specs.Complete.{completed_row}
+use Rattle.tc_block.specs.declared.phase.Phase.{Phase}
+use Rattle.tc_block.specs.declared.transaction.Transaction.{Transaction}
+use Rattle.tc_block.specs.Live.{place_in, step_of, step_place, step_value, stepped, turn_of, turn_place, turn_value, turned_if, without}
+use Rattle.tc_block.specs.Operate.{answer_row, fresh, operate_row, wait_row}
+use Rattle.tc_block.specs.Sends.{go_on_row}
+use Rattle.tc_block.specs.State.{TcState}
+use Rattle.tc_block.specs.Tc.{begin_if, begin_row, is_full, next_tx, pass_if, pass_row, tc_row}
+use Rattle.tc_block.specs.Turn.{Turn}
+use Rattle.node_core.specs.declared.host.Host as host
+use Rattle.node_core.specs.declared.host.Host.TheVariants.{Shell, Node}
+use Rattle.node_core.specs.declared.node.Node as node
+use Rattle.node_core.specs.Fresh.{begun_node, fresh_node, fresh_shell}
+use Rattle.node_core.specs.Row.{node_row, row}
+use Rattle.world_core.specs.Machine.{after}
+use Rattle.world_core.specs.Start.{Start, started}
+use Rattle.commit_laws.specs.Phases.{is_decided}
+use Rattle.commit_laws.specs.Ways.{CoordinatorsGoOneWay, Way, back, back_by, forth, forth_by, is_aborting, neither, put_ways, sent_ways, tc_sends, way_of}
+use Rattle.commit_laws.proofs.LiveSplit.{KeysOnce, Live, Split, each_back, each_front, each_inserted, once_back, once_front, once_gone, once_inserted, once_set, split_at}
+use Rattle.commit_laws.proofs.TcNumbers.{NotIn}
+use Rattle.commit_laws.proofs.TcWays.{AllWays, TurnWays, WayOf, Ways, aborted_ways, aborting_apart, answer_ways, commit_ways, committed_ways, completed_ways, decide_ways, decided_apart, go_on_ways, not_both, operate_ways, refuse_ways, rollback_ways, wait_ways}
+
+-- one of the coordinator's transactions, where rows were committed for these, and aborted for those
+record IsLive (next : ℕ) (cs bs : List TxId) (e : TxId × Transaction) : Type 0 where
+  below : e.0.seq < next
+  uncommitted : is_decided e.1.phase ≡ false → NotIn e.0 cs
+  unaborted : is_aborting e.1.phase ≡ false → NotIn e.0 bs
+
+record IsOneWay (s : TcState) (cs bs : List TxId) : Type 0 where
+  once : KeysOnce s.live
+  live : Each (IsLive s.next_seq cs bs) s.live
+  cs_below : Each (λ (v : TxId). v.seq < s.next_seq) cs
+  bs_below : Each (λ (v : TxId). v.seq < s.next_seq) bs
+  apart : Each (λ tx. NotIn tx bs) cs
+
+abbrev StaysOneWay : List TxId → List TxId → Step TcState → Type 0
+StaysOneWay cs bs step = IsOneWay step.state (put_ways forth_by step.effects.sends cs) (put_ways back_by step.effects.sends bs)
+
+-- what holds of each committed before, and of the transaction if it is in such a phase, holds of each then
+each_forth : (P : TxId → Type 0) (tx : TxId) (phase : Phase) (sends : List Outgoing) (cs : List TxId) → AllWays tx phase sends → (is_decided phase ≡ true → P tx) → Each P cs → Each P (put_ways forth_by sends cs)
+each_forth P tx phase [] cs all own before = before
+each_forth P tx phase (o ∷ more) cs all own before = each_forth P tx phase more (forth_by (way_of o.body) cs) all.1 own (by (way_of o.body) all.0)
+  where
+    by : (w : Way) → WayOf tx phase w → Each P (forth_by w cs)
+    by (forth other) is = (subst P (sym is.0) (own is.1), before)
+    by (back other) is = before
+    by neither is = before
+
+each_back_way : (P : TxId → Type 0) (tx : TxId) (phase : Phase) (sends : List Outgoing) (bs : List TxId) → AllWays tx phase sends → (is_aborting phase ≡ true → P tx) → Each P bs → Each P (put_ways back_by sends bs)
+each_back_way P tx phase [] bs all own before = before
+each_back_way P tx phase (o ∷ more) bs all own before = each_back_way P tx phase more (back_by (way_of o.body) bs) all.1 own (by (way_of o.body) all.0)
+  where
+    by : (w : Way) → WayOf tx phase w → Each P (back_by w bs)
+    by (forth other) is = before
+    by (back other) is = (subst P (sym is.0) (own is.1), before)
+    by neither is = before
+
+module _ (s : TcState) (cs bs : List TxId) (n : IsOneWay s cs bs) where
+  module _ (tx : TxId) (t : Transaction) (at : ℕ) (split : Split tx t s.live at) (after_phase : Phase) (sends : List Outgoing) (all : AllWays tx after_phase sends)
+      (forward : is_decided t.phase ≡ true → is_decided after_phase ≡ true) (backward : is_aborting t.phase ≡ true → is_aborting after_phase ≡ true) where
+    all_split : Each (IsLive s.next_seq cs bs) (split.front ++ (tx, t) ∷ split.back)
+    all_split = subst (Each (IsLive s.next_seq cs bs)) split.is n.live
+
+    once_split : KeysOnce (split.front ++ (tx, t) ∷ split.back)
+    once_split = subst KeysOnce split.is n.once
+
+    own : IsLive s.next_seq cs bs (tx, t)
+    own = (each_back (IsLive s.next_seq cs bs) split.front ((tx, t) ∷ split.back) all_split).0
+
+    abbrev cs_now : List TxId
+    cs_now = put_ways forth_by sends cs
+
+    abbrev bs_now : List TxId
+    bs_now = put_ways back_by sends bs
+
+    -- who comes to commit has nothing aborted, and the other way round
+    none_back : is_decided after_phase ≡ true → NotIn tx bs
+    none_back is = by (is_aborting t.phase) refl
+      where
+        by : (b : Bool) → is_aborting t.phase ≡ b → NotIn tx bs
+        by true e = not_both (is_decided after_phase) is (aborting_apart after_phase (backward e))
+        by false e = own.unaborted e
+
+    none_forth : is_aborting after_phase ≡ true → NotIn tx cs
+    none_forth is = by (is_decided t.phase) refl
+      where
+        by : (b : Bool) → is_decided t.phase ≡ b → NotIn tx cs
+        by true e = not_both (is_aborting after_phase) is (decided_apart after_phase (forward e))
+        by false e = own.uncommitted e
+
+    still_forth : is_decided after_phase ≡ false → NotIn tx cs
+    still_forth off = by (is_decided t.phase) refl
+      where
+        by : (b : Bool) → is_decided t.phase ≡ b → NotIn tx cs
+        by true e = not_both (is_decided after_phase) (forward e) off
+        by false e = own.uncommitted e
+
+    still_back : is_aborting after_phase ≡ false → NotIn tx bs
+    still_back off = by (is_aborting t.phase) refl
+      where
+        by : (b : Bool) → is_aborting t.phase ≡ b → NotIn tx bs
+        by true e = not_both (is_aborting after_phase) (backward e) off
+        by false e = own.unaborted e
+
+    -- the others are left alone
+    others : (xs : Live) → Each (λ (x : TxId × Transaction). same_tx x.0 tx ≡ false) xs → Each (IsLive s.next_seq cs bs) xs → Each (IsLive s.next_seq cs_now bs_now) xs
+    others [] apart live = tt
+    others (x ∷ xs) apart live = (
+      record {
+        below = live.0.below;
+        uncommitted = λ off. each_forth (λ v. same_tx v x.0 ≡ false) tx after_phase sends cs all (λ is. same_tx-swap tx x.0 ∙ apart.0) (live.0.uncommitted off);
+        unaborted = λ off. each_back_way (λ v. same_tx v x.0 ≡ false) tx after_phase sends bs all (λ is. same_tx-swap tx x.0 ∙ apart.0) (live.0.unaborted off);
+      },
+      others xs apart.1 live.1,
+    )
+
+    front_now : Each (IsLive s.next_seq cs_now bs_now) split.front
+    front_now = others split.front (once_front split.front split.back tx t once_split) (each_front (IsLive s.next_seq cs bs) split.front ((tx, t) ∷ split.back) all_split)
+
+    back_now : Each (IsLive s.next_seq cs_now bs_now) split.back
+    back_now = others split.back (once_back split.front split.back tx t once_split) (each_back (IsLive s.next_seq cs bs) split.front ((tx, t) ∷ split.back) all_split).1
+
+    own_now : (w : Transaction) → w.phase ≡ after_phase → IsLive s.next_seq cs_now bs_now (tx, w)
+    own_now w is = record {
+      below = own.below;
+      uncommitted = λ off. let was = sym (ap is_decided is) ∙ off in
+          each_forth (λ v. same_tx v tx ≡ false) tx after_phase sends cs all (λ on. not_both (is_decided after_phase) on was) (still_forth was);
+      unaborted = λ off. let was = sym (ap is_aborting is) ∙ off in
+          each_back_way (λ v. same_tx v tx ≡ false) tx after_phase sends bs all (λ on. not_both (is_aborting after_phase) on was) (still_back was);
+    }
+
+    apart_now : Each (λ v. NotIn v bs_now) cs_now
+    apart_now =
+        each_forth (λ v. NotIn v bs_now) tx after_phase sends cs all
+        (λ is. each_back_way (λ w. same_tx w tx ≡ false) tx after_phase sends bs all (λ on. not_both (is_aborting after_phase) on (decided_apart after_phase is)) (none_back is))
+        (by (is_aborting after_phase) refl)
+      where
+        each_two : (v : TxId) → NotIn v bs → (is_aborting after_phase ≡ true → same_tx tx v ≡ false) → NotIn v bs_now
+        each_two v none on = each_back_way (λ w. same_tx w v ≡ false) tx after_phase sends bs all on none
+
+        all_two : (xs : List TxId) → Each (λ v. NotIn v bs) xs → (is_aborting after_phase ≡ true → NotIn tx xs) → Each (λ v. NotIn v bs_now) xs
+        all_two [] none on = tt
+        all_two (v ∷ xs) none on = (each_two v none.0 (λ is. same_tx-swap tx v ∙ (on is).0), all_two xs none.1 (λ is. (on is).1))
+
+        by : (b : Bool) → is_aborting after_phase ≡ b → Each (λ v. NotIn v bs_now) cs
+        by b e = all_two cs n.apart none_forth
+
+    below_cs : Each (λ (v : TxId). v.seq < s.next_seq) cs_now
+    below_cs = each_forth (λ (v : TxId). v.seq < s.next_seq) tx after_phase sends cs all (λ is. own.below) n.cs_below
+
+    below_bs : Each (λ (v : TxId). v.seq < s.next_seq) bs_now
+    below_bs = each_back_way (λ (v : TxId). v.seq < s.next_seq) tx after_phase sends bs all (λ is. own.below) n.bs_below
+
+  step_stays : (tx : TxId) (t : Transaction) (at : ℕ) → Split tx t s.live at → (step : Step Transaction) → Ways tx t.phase step → StaysOneWay cs bs (stepped s at step)
+  step_stays tx t at split step ways = record {
+    once = subst KeysOnce (sym (split.set step.state)) (once_set split.front split.back tx t step.state (once_split tx t at split step.state.phase step.effects.sends ways.sends ways.forward ways.backward));
+    live = subst (Each (IsLive s.next_seq (put_ways forth_by step.effects.sends cs) (put_ways back_by step.effects.sends bs))) (sym (split.set step.state))
+        (each_append (IsLive s.next_seq (put_ways forth_by step.effects.sends cs) (put_ways back_by step.effects.sends bs)) split.front ((tx, step.state) ∷ split.back)
+        (front_now tx t at split step.state.phase step.effects.sends ways.sends ways.forward ways.backward) (
+          own_now tx t at split step.state.phase step.effects.sends ways.sends ways.forward ways.backward step.state refl,
+          back_now tx t at split step.state.phase step.effects.sends ways.sends ways.forward ways.backward,
+        ));
+    cs_below = below_cs tx t at split step.state.phase step.effects.sends ways.sends ways.forward ways.backward;
+    bs_below = below_bs tx t at split step.state.phase step.effects.sends ways.sends ways.forward ways.backward;
+    apart = apart_now tx t at split step.state.phase step.effects.sends ways.sends ways.forward ways.backward;
+  }
+
+  gone_stays : (tx : TxId) (t : Transaction) (at : ℕ) → Split tx t s.live at → (turn : Turn) → TurnWays tx t.phase turn → StaysOneWay cs bs (turned_if s at turn true)
+  unfolding without
+  gone_stays tx t at split turn ways = record {
+    once = subst KeysOnce (sym split.gone) (once_gone split.front split.back tx t (once_split tx t at split turn.step.state.phase turn.step.effects.sends ways.sends ways.forward ways.backward));
+    live = subst (Each (IsLive s.next_seq (put_ways forth_by turn.step.effects.sends cs) (put_ways back_by turn.step.effects.sends bs))) (sym split.gone)
+        (each_append (IsLive s.next_seq (put_ways forth_by turn.step.effects.sends cs) (put_ways back_by turn.step.effects.sends bs)) split.front split.back
+        (front_now tx t at split turn.step.state.phase turn.step.effects.sends ways.sends ways.forward ways.backward)
+        (back_now tx t at split turn.step.state.phase turn.step.effects.sends ways.sends ways.forward ways.backward));
+    cs_below = below_cs tx t at split turn.step.state.phase turn.step.effects.sends ways.sends ways.forward ways.backward;
+    bs_below = below_bs tx t at split turn.step.state.phase turn.step.effects.sends ways.sends ways.forward ways.backward;
+    apart = apart_now tx t at split turn.step.state.phase turn.step.effects.sends ways.sends ways.forward ways.backward;
+  }
+
+  turn_stays : (tx : TxId) (t : Transaction) (at : ℕ) → Split tx t s.live at → (turn : Turn) → TurnWays tx t.phase turn → (b : Bool) → StaysOneWay cs bs (turned_if s at turn b)
+  turn_stays tx t at split turn ways true = gone_stays tx t at split turn ways
+  turn_stays tx t at split turn ways false = step_stays tx t at split turn.step ways
+
+  step_one : (tx : TxId) (row : Transaction → Step Transaction) → ((t : Transaction) → Ways tx t.phase (row t)) → StaysOneWay cs bs (step_of s tx row)
+  step_one tx row ways = at_place (place_in s tx) refl
+    where
+      at_value : (at : ℕ) → place_in s tx ≡ Some at → (t : Option Transaction) → slice_get (values_of s.live) at ≡ t → StaysOneWay cs bs (step_value s row at t)
+      at_value at at_is None is = n
+      at_value at at_is (Some t) is = step_stays tx t at (split_at tx s.live at t at_is is) (row t) (ways t)
+
+      at_place : (at : Option ℕ) → place_in s tx ≡ at → StaysOneWay cs bs (step_place s row at)
+      at_place None at_is = n
+      at_place (Some at) at_is = at_value at at_is (slice_get (values_of s.live) at) refl
+
+  turn_one : (tx : TxId) (row : Transaction → Turn) → ((t : Transaction) → TurnWays tx t.phase (row t)) → StaysOneWay cs bs (turn_of s tx row)
+  turn_one tx row ways = at_place (place_in s tx) refl
+    where
+      at_value : (at : ℕ) → place_in s tx ≡ Some at → (t : Option Transaction) → slice_get (values_of s.live) at ≡ t → StaysOneWay cs bs (turn_value s row at t)
+      at_value at at_is None is = n
+      at_value at at_is (Some t) is = turn_stays tx t at (split_at tx s.live at t at_is is) (row t) (ways t) (row t).over
+
+      at_place : (at : Option ℕ) → place_in s tx ≡ at → StaysOneWay cs bs (turn_place s row at)
+      at_place None at_is = n
+      at_place (Some at) at_is = at_value at at_is (slice_get (values_of s.live) at) refl
+
+  lower_apart : (v : TxId) → v.seq < s.next_seq → same_tx v (next_tx s) ≡ false
+  lower_apart v lt =
+      let off : nat_eq v.seq s.next_seq ≡ false = ne_eqb v.seq s.next_seq (λ same. omega (arith, lt, same)) in
+      and_right (nat_eq v.tc s.node) (nat_eq v.start s.start && nat_eq v.seq s.next_seq) (and_right (nat_eq v.start s.start) (nat_eq v.seq s.next_seq) off)
+
+  lower_none : (xs : List TxId) → Each (λ (v : TxId). v.seq < s.next_seq) xs → NotIn (next_tx s) xs
+  lower_none xs all = each_map (λ (v : TxId). v.seq < s.next_seq) (λ v. same_tx v (next_tx s) ≡ false) xs lower_apart all
+
+  begins_one : (name : Option ℕ) (b : Bool) → StaysOneWay cs bs (begin_if s name b)
+  begins_one name true = n
+  begins_one name false = record {
+    once = once_inserted s.live (next_tx s) fresh (each_map (IsLive s.next_seq cs bs) (λ (x : TxId × Transaction). same_tx x.0 (next_tx s) ≡ false) s.live (λ x is. lower_apart x.0 is.below) n.live) n.once;
+    live = each_inserted (IsLive (s.next_seq + 1) cs bs) s.live (next_tx s) fresh
+        (each_map (IsLive s.next_seq cs bs) (λ (x : TxId × Transaction). same_tx x.0 (next_tx s) ≡ false) s.live (λ x is. lower_apart x.0 is.below) n.live)
+        (record { below = omega arith; uncommitted = λ off. lower_none cs n.cs_below; unaborted = λ off. lower_none bs n.bs_below })
+        (each_map (IsLive s.next_seq cs bs) (IsLive (s.next_seq + 1) cs bs) s.live (λ x is. record { below = omega (arith, is.below); uncommitted = is.uncommitted; unaborted = is.unaborted }) n.live);
+    cs_below = each_map (λ (v : TxId). v.seq < s.next_seq) (λ (v : TxId). v.seq < s.next_seq + 1) cs (λ v lt. omega (arith, lt)) n.cs_below;
+    bs_below = each_map (λ (v : TxId). v.seq < s.next_seq) (λ (v : TxId). v.seq < s.next_seq + 1) bs (λ v lt. omega (arith, lt)) n.bs_below;
+    apart = n.apart;
+  }
+
+  begin_one : (name : Option ℕ) → StaysOneWay cs bs (begin_row s name)
+  unfolding begin_row
+  begin_one name = begins_one name (is_full s)
+
+  pass_if_one : (tx ahead : TxId) (b : Bool) → StaysOneWay cs bs (pass_if s tx ahead b)
+  pass_if_one tx ahead true = n
+  pass_if_one tx ahead false = n
+
+  pass_one : (tx ahead : TxId) → StaysOneWay cs bs (pass_row s tx ahead)
+  unfolding pass_row
+  pass_one tx ahead = pass_if_one tx ahead (is_some (place_in s tx))
+
+tc_one : (s : TcState) (cs bs : List TxId) (body : Body) → IsOneWay s cs bs → StaysOneWay cs bs (tc_row s body)
+tc_one s cs bs (Host (Continue (work.Transaction tx) at)) n = step_one s cs bs n tx (λ t. go_on_row s.node s.view tx t at) (λ t. go_on_ways tx s.node s.view t at)
+tc_one s cs bs (Client (TcBeginReq name)) n = begin_one s cs bs n name
+tc_one s cs bs (Client (TcKeyReq tx op)) n = step_one s cs bs n tx (λ t. operate_row s.view tx t op) (λ t. operate_ways tx s.view t op)
+tc_one s cs bs (Client (TcCommitReq tx)) n = step_one s cs bs n tx (λ t. commit.decide_row s.node tx t) (λ t. decide_ways tx s.node t)
+tc_one s cs bs (Client (TcRollbackReq tx)) n = turn_one s cs bs n tx (λ t. rollback_row s.node s.view tx t) (λ t. rollback_ways tx s.node s.view t)
+tc_one s cs bs (Client (TcWaitReq tx)) n = step_one s cs bs n tx (λ t. wait_row tx t) (λ t. wait_ways tx t)
+tc_one s cs bs (Client (LqhWaitConf tx ahead)) n = pass_one s cs bs n tx ahead
+tc_one s cs bs (Chain (LqhKeyConf tx key answer)) n = step_one s cs bs n tx (λ t. answer_row s.view tx t key answer) (λ t. answer_ways tx s.view t key answer)
+tc_one s cs bs (Chain (LqhKeyRef tx key why)) n = turn_one s cs bs n tx (λ t. refuse_row s.node s.view tx t key why) (λ t. refuse_ways tx s.node s.view t key why)
+tc_one s cs bs (Chain (Committed tx key)) n = turn_one s cs bs n tx (λ t. commit.committed_row s.node s.view tx t) (λ t. committed_ways tx s.node s.view t)
+tc_one s cs bs (Chain (Completed tx key)) n = turn_one s cs bs n tx (λ t. completed_row s.node tx t) (λ t. completed_ways tx s.node t)
+tc_one s cs bs (Chain (Aborted tx key)) n = turn_one s cs bs n tx (λ t. aborted_row s.node tx t) (λ t. aborted_ways tx s.node t)
+tc_one s cs bs (Epoch (DiVerifyConf tx epoch)) n = turn_one s cs bs n tx (λ t. commit.commit_row s.node s.view tx t epoch) (λ t. commit_ways tx s.node s.view t epoch)
+tc_one s cs bs _ n = n
+
+-- so it is of each host, along any log
+abbrev HostIsOneWay : host.Host → List TxId → List TxId → Type 0
+HostIsOneWay (Shell s) cs bs = (cs ≡ []) × (bs ≡ [])
+HostIsOneWay (Node n) cs bs = IsOneWay n.tc cs bs
+
+node_one : (n : node.Node) (at : BlockId) (body : Body) (cs bs : List TxId) → IsOneWay n.tc cs bs
+    → IsOneWay (node_row n at body).state.tc (put_ways forth_by (tc_sends (Node n) at body) cs) (put_ways back_by (tc_sends (Node n) at body) bs)
+unfolding node_row
+node_one n block.Tc body cs bs is = tc_one n.tc cs bs body is
+node_one n block.Dih body cs bs is = is
+node_one n block.Lqh body cs bs is = is
+node_one n _ body cs bs is = is
+
+host_one : (s : host.Host) (to : Place) (body : Body) (cs bs : List TxId) → HostIsOneWay s cs bs
+    → HostIsOneWay (row s to body).state (put_ways forth_by (tc_sends s to.block body) cs) (put_ways back_by (tc_sends s to.block body) bs)
+unfolding row
+host_one (Shell s) to body cs bs is = is
+host_one (Node n) to body cs bs is = node_one n to.block body cs bs is
+
+started_one : (start : Start) (h : ℕ) → HostIsOneWay (started start h) [] []
+unfolding fresh_shell fresh_node begun_node
+started_one start zero = (refl, refl)
+started_one start (suc h) = record { once = tt; live = tt; cs_below = tt; bs_below = tt; apart = tt }
+
+log_one : (start : Start) (h : ℕ) (log : List LogStep) → HostIsOneWay (after start h log) (sent_ways start forth_by h log) (sent_ways start back_by h log)
+log_one start h [] = started_one start h
+log_one start h (e ∷ log) = host_one (after start h log) e.taken.to e.taken.body (sent_ways start forth_by h log) (sent_ways start back_by h log) (log_one start h log)
+
+one_apart : (s : host.Host) (cs bs : List TxId) → HostIsOneWay s cs bs → Each (λ tx. NotIn tx bs) cs
+one_apart (Shell s) cs bs is = subst (Each (λ tx. NotIn tx bs)) (sym is.0) tt
+one_apart (Node n) cs bs is = is.apart
+
+pub coordinators_one_way : CoordinatorsGoOneWay
+coordinators_one_way start h log = one_apart (after start h log) (sent_ways start forth_by h log) (sent_ways start back_by h log) (log_one start h log)

@@ -1,0 +1,64 @@
+-- Which way a transaction goes at its coordinator: its rows are committed, or aborted.
+use Rattle.std.specs.Prelude.{◌≡◌, ℕ, Bool, true, false, List, [], ◌∷◌}
+use Rattle.run_theory.specs.Lists.{Each}
+use Rattle.sig_core.specs.declared.log.LogStep.{LogStep}
+use Rattle.sig_core.specs.declared.member.TxId.{TxId}
+use Rattle.sig_core.specs.declared.outs.Outgoing.{Outgoing}
+use Rattle.sig_core.specs.declared.place.BlockId.{BlockId}
+use Rattle.sig_core.specs.declared.place.BlockId.TheVariants.{Tc}
+use Rattle.sig_core.specs.declared.signal.Body.{Body}
+use Rattle.sig_core.specs.declared.signal.Body.TheVariants.{Chain}
+use Rattle.sig_core.specs.declared.signal.chain.ChainSignal.TheVariants.{Commit, Abort}
+use Rattle.sig_core.specs.Same.{same_tx}
+use Rattle.tc_block.specs.declared.phase.Phase.{Phase}
+use Rattle.tc_block.specs.declared.phase.Phase.TheVariants.{Aborting}
+use Rattle.tc_block.specs.Tc.{tc_row}
+use Rattle.node_core.specs.declared.host.Host.{Host}
+use Rattle.node_core.specs.declared.host.Host.TheVariants.{Node}
+use Rattle.world_core.specs.Machine.{after}
+use Rattle.world_core.specs.Start.{Start}
+
+-- a signal commits a row of the transaction, aborts one, or does neither
+pub data Way : Type 0 where
+  forth : TxId → Way
+  back : TxId → Way
+  neither : Way
+
+abbrev pub way_of : Body → Way
+way_of (Chain (Commit tx key epoch chain at)) = forth tx
+way_of (Chain (Abort tx key)) = back tx
+way_of body = neither
+
+-- it is being aborted
+abbrev pub is_aborting : Phase → Bool
+is_aborting (Aborting cause verifying awaited) = true
+is_aborting phase = false
+
+-- the transactions of which signals commit a row, or abort one, in front of those before
+abbrev pub forth_by : Way → List TxId → List TxId
+forth_by (forth tx) before = tx ∷ before
+forth_by way before = before
+
+abbrev pub back_by : Way → List TxId → List TxId
+back_by (back tx) before = tx ∷ before
+back_by way before = before
+
+abbrev pub put_ways : (Way → List TxId → List TxId) → List Outgoing → List TxId → List TxId
+put_ways f [] before = before
+put_ways f (o ∷ more) before = put_ways f more (f (way_of o.body) before)
+
+-- what the coordinator of a host sends at a signal; the other blocks send none of its own
+abbrev pub tc_sends : Host → BlockId → Body → List Outgoing
+tc_sends (Node n) Tc body = (tc_row n.tc body).effects.sends
+tc_sends host block body = []
+
+-- the transactions of which the coordinator of host h, with this log, had a row committed, or aborted
+abbrev pub sent_ways : Start → (Way → List TxId → List TxId) → ℕ → List LogStep → List TxId
+sent_ways start f h [] = []
+sent_ways start f h (e ∷ log) = put_ways f (tc_sends (after start h log) e.taken.to.block e.taken.body) (sent_ways start f h log)
+
+-- no coordinator sends a commit and an abort of one transaction, whatever its host takes
+abbrev pub CoordinatorsGoOneWay : Type 0
+CoordinatorsGoOneWay =
+    (start : Start) (h : ℕ) (log : List LogStep)
+    → Each (λ tx. Each (λ v. same_tx v tx ≡ false) (sent_ways start back_by h log)) (sent_ways start forth_by h log)
