@@ -23,3 +23,4 @@ pub mod TcKeyless
 pub mod TcKeys
 pub mod ApiKeys
 pub mod Asks
+pub mod SampleQuiet

@@ -1,5 +1,6 @@
 //! What is proved of quiet worlds.
 ghost use Rattle.answer_laws.specs.Answered.{EachAsksWhereOperating, EachHasCoordinator, EachOperationWaits, NoBeginIsLost};
+ghost use Rattle.answer_laws.specs.Sample.{SampleIsQuiet};
 
 /// When nothing is under way, whether a transaction begins is answered.
 #[tactic(auto, using(crate::proofs::Begins::no_begin))]
@@ -21,4 +22,10 @@ pub fn each_operation_waits()
 /// was sent: where a transaction takes commands, or its commit was asked for, nothing is asked.
 pub fn each_asks_where_operating()
     ensures { EachAsksWhereOperating }
+{}
+
+/// There are quiet logs with a transaction whose end isn't reported.
+#[tactic(auto, using(crate::proofs::SampleQuiet::sample_quiet))]
+pub fn quiet_logs_have_transactions()
+    ensures { SampleIsQuiet }
 {}
