@@ -7,7 +7,7 @@ use Rattle.sig_core.specs.declared.log.LogStep.{LogStep}
 use Rattle.world_core.specs.Entries.{entries, entries_of, insert, insert_all, is_before}
 use Rattle.world_core.specs.History.{history, is_kept}
 
-each_filter : {A : Type 0} (P : A → Type 0) (p : A → Bool) (xs : List A) → Each P xs → Each P (filter p xs)
+pub each_filter : {A : Type 0} (P : A → Type 0) (p : A → Bool) (xs : List A) → Each P xs → Each P (filter p xs)
 each_filter P p [] all = tt
 each_filter {A} P p (x ∷ xs) all = go (p x) (each_filter P p xs all.1)
   where
@@ -16,7 +16,7 @@ each_filter {A} P p (x ∷ xs) all = go (p x) (each_filter P p xs all.1)
     go false rest = rest
 
 module _ (P : Entry → Type 0) where
-  each_insert : (a : Entry) (xs : List Entry) → P a → Each P xs → Each P (insert a xs)
+  pub each_insert : (a : Entry) (xs : List Entry) → P a → Each P xs → Each P (insert a xs)
   each_insert a [] holds all = (holds, tt)
   each_insert a (b ∷ rest) holds all = go (is_before a b) (each_insert a rest holds all.1)
     where

@@ -29,7 +29,7 @@ use Rattle.commit_laws.proofs.PlainMarks.{ArePlain}
 pub inside_right : (start : Start) (inside logs : ℕ → List LogStep) → IsClosedCut start inside logs → AreLogs (machine start) inside
 inside_right start inside logs is = logs_of_closed (machine start) (stamped start) inside logs is.right is.cut is.closed
 
-plain_entries : (P : Entry → Type 0) (h stamp : ℕ) (log : List LogStep) (marks : List Mark) (before : List Entry) → ArePlain marks → Each P before → Each P (entries_in h stamp log marks before)
+pub plain_entries : (P : Entry → Type 0) (h stamp : ℕ) (log : List LogStep) (marks : List Mark) (before : List Entry) → ArePlain marks → Each P before → Each P (entries_in h stamp log marks before)
 plain_entries P h stamp log [] before all each = each
 plain_entries P h stamp log (mark.Decided tx epoch ∷ marks) before all each = absurd cc
 plain_entries P h stamp log (m ∷ marks) before all each = plain_entries P h stamp log marks before all.1 each

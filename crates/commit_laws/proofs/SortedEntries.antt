@@ -9,6 +9,7 @@ use Rattle.sig_core.specs.declared.log.LogStep.{LogStep}
 use Rattle.world_core.specs.Entries.{entries, entries_of, insert, insert_all, is_before}
 use Rattle.world_core.specs.History.{history, is_kept}
 use Rattle.world_core.specs.Strict.{StandsBefore}
+use Rattle.commit_laws.proofs.EachEntry.{each_filter, each_insert}
 
 abbrev pub AreSorted : List Entry → Type 0
 AreSorted [] = Unit {0}
@@ -42,14 +43,6 @@ module _ (number : ℕ) where
   abbrev InView : Entry → Type 0
   InView b = b.view ≡ number
 
-  each_insert : (P : Entry → Type 0) (a : Entry) (xs : List Entry) → P a → Each P xs → Each P (insert a xs)
-  each_insert P a [] holds all = (holds, tt)
-  each_insert P a (b ∷ rest) holds all = go (is_before a b) (each_insert P a rest holds all.1)
-    where
-      go : (test : Bool) → Each P (insert a rest) → Each P (if test then a ∷ b ∷ rest else b ∷ insert a rest)
-      go true more = (holds, all)
-      go false more = (all.0, more)
-
   sorted_insert : (a : Entry) (xs : List Entry) → InView a → Each InView xs → AreSorted xs → AreSorted (insert a xs)
   sorted_insert a [] view views sorted = (tt, tt)
   sorted_insert a (b ∷ rest) view views sorted = go (is_before a b) refl (sorted_insert a rest view views.1 sorted.1)
@@ -78,14 +71,6 @@ module _ (number : ℕ) where
   sorted_entries : (n : ℕ) (logs : ℕ → List LogStep) → ((h : ℕ) → Each InView (entries_of h (logs h))) → AreSorted (entries n logs)
   sorted_entries zero logs all = tt
   sorted_entries (suc n) logs all = sorted_all (entries_of n (logs n)) (entries n logs) (all n) (views_entries n logs all) (sorted_entries n logs all)
-
-  each_filter : {A : Type 0} (P : A → Type 0) (p : A → Bool) (xs : List A) → Each P xs → Each P (filter p xs)
-  each_filter P p [] all = tt
-  each_filter {A} P p (x ∷ xs) all = go (p x) (each_filter P p xs all.1)
-    where
-      go : (b : Bool) → Each P (filter p xs) → Each P (cond b (x ∷ filter p xs) (filter p xs))
-      go true rest = (all.0, rest)
-      go false rest = rest
 
   sorted_filter : (p : Entry → Bool) (xs : List Entry) → AreSorted xs → AreSorted (filter p xs)
   sorted_filter p [] sorted = tt

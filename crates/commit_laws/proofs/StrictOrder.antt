@@ -32,7 +32,7 @@ use Rattle.commit_laws.specs.Laws.{CommitsAreOfDecided, HistoriesAreStrict}
 use Rattle.commit_laws.proofs.Causal.{AreCausal, cuts_are_causal}
 use Rattle.commit_laws.proofs.CausalFacts.{CommitsRightly, DecidesAt, DecidesRightly}
 use Rattle.commit_laws.proofs.EachEntry.{each_kept}
-use Rattle.commit_laws.proofs.Epochs.{inside_right, step_marks}
+use Rattle.commit_laws.proofs.Epochs.{inside_right, plain_entries, step_marks}
 use Rattle.commit_laws.proofs.HostMarks.{AreMarks, decides, plain}
 use Rattle.commit_laws.proofs.Keys.{same_tx-self}
 use Rattle.commit_laws.proofs.PlainMarks.{ArePlain}
@@ -66,11 +66,6 @@ record IsEntryOf (h : ℕ) (log : List LogStep) (b : Entry) : Type 0 where
   inside : IsIn step log
   marked : list_any (is_decision b.tx) step.marks ≡ true
   stamp : b.stamp ≡ step.stamp
-
-plain_entries : (P : Entry → Type 0) (h stamp : ℕ) (log : List LogStep) (marks : List Mark) (before : List Entry) → ArePlain marks → Each P before → Each P (entries_in h stamp log marks before)
-plain_entries P h stamp log [] before all each = each
-plain_entries P h stamp log (mark.Decided tx epoch ∷ marks) before all each = absurd cc
-plain_entries P h stamp log (m ∷ marks) before all each = plain_entries P h stamp log marks before all.1 each
 
 plain_installed : (marks : List Mark) (number : ℕ) → ArePlain marks → installed_in marks number ≡ number
 plain_installed [] number all = refl
