@@ -5,5 +5,5 @@ mod laws;
 
 pub use laws::{
     each_asks_where_operating, each_has_a_coordinator, each_operation_waits, no_begin_is_lost,
-    quiet_logs_have_transactions,
+    no_commit_is_awaited, quiet_logs_have_transactions,
 };
