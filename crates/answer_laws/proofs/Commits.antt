@@ -538,3 +538,13 @@ no_commit start logs h tx t quiet low live = go t.phase refl
     go Verifying p = ap is_committing p
     go (Completing epoch k) p = ap is_committing p
     go (Aborting why verifying k) p = ap is_committing p
+
+-- a transaction is live at a node
+pub live_low : (start : Start) (logs : ℕ → List LogStep) (tx : TxId) (t : Transaction) → AreQuiet start logs → (h : ℕ) → IsLiveAs tx t (after start h (logs h)) → h ≤ start.nodes
+live_low start logs tx t quiet h live = go (cases_lt h (start.nodes + 1)) h refl
+  where
+    go : (h < start.nodes + 1) ⊎ (start.nodes + 1 ≤ h) → (c : ℕ) → h ≡ c → h ≤ start.nodes
+    go (inl low) c e = omega (arith, low)
+    go (inr high) zero e = omega (arith, high, e)
+    go (inr high) (suc c) e =
+        absurd (fresh_live start quiet.some tx t c (subst (λ log. IsLiveAs tx t (after start (suc c) log)) (quiet.within (suc c) (omega (arith, high, e))) (subst (λ k. IsLiveAs tx t (after start k (logs k))) e live)))

@@ -28,3 +28,4 @@ pub mod TcCommits
 pub mod TcOwes
 pub mod NodeOwes
 pub mod Commits
+pub mod Serves

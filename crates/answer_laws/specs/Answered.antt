@@ -168,3 +168,16 @@ abbrev pub NoCommitIsAwaited : Type 0
 NoCommitIsAwaited =
     (start : Start) (logs : ℕ → List LogStep) (node : ℕ) (tx : TxId) (t : Transaction) → AreQuiet start logs → node ≤ start.nodes
     → IsLiveAs tx t (after start node (logs node)) → is_committing t.phase ≡ false
+
+-- The coordinator of a transaction whose end isn't reported has it. It hasn't reported the end either, and doesn't wait
+-- for keys to be committed. If it has an operation unanswered, the API has sent that, and it waits at a node.
+pub record IsServed (start : Start) (logs : ℕ → List LogStep) (t : OpenTransaction) (tx : TxId) : Type 0 where
+  pub transaction : Transaction
+  pub live : IsLiveAs tx transaction (after start tx.tc (logs tx.tc))
+  pub unreported : is_completing transaction.phase ≡ false
+  pub uncommitted : is_committing transaction.phase ≡ false
+  pub operating : (asked : Asked) → transaction.asked ≡ Some asked → is_operating t.doing ≡ true
+  pub waiting : (asked : Asked) → transaction.asked ≡ Some asked → Waits start logs tx (key_of asked.op)
+
+abbrev pub EachIsServed : Type 0
+EachIsServed = EachAtQuiet (λ start logs t. (tx : TxId) → t.tx ≡ Some tx → IsServed start logs t tx)
