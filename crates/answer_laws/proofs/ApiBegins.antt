@@ -280,7 +280,7 @@ same_node s from name t good inside passes some = go name refl
         let same : t.node ≡ c.item.node = cc in
         same ∙ c_node
 
-in_middle : {A : Type 0} (front : List A) (x : A) (back : List A) → IsIn x (front ++ x ∷ back)
+pub in_middle : {A : Type 0} (front : List A) (x : A) (back : List A) → IsIn x (front ++ x ∷ back)
 in_middle [] x back = inl refl
 in_middle (y ∷ front) x back = inr (in_middle front x back)
 

@@ -24,3 +24,8 @@ pub mod TcKeys
 pub mod ApiKeys
 pub mod Asks
 pub mod SampleQuiet
+pub mod TcCommits
+pub mod TcOwes
+pub mod NodeOwes
+pub mod Commits
+pub mod Serves

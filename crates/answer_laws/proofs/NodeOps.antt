@@ -38,7 +38,7 @@ abbrev pub AreRight : List (TxId × Transaction) → Type 0
 AreRight live = Each (λ (e : TxId × Transaction). is_right e.1.asked e.1.phase ≡ true) live
 
 -- one that isn't found isn't there
-absent_key : (tx one : TxId) (live : List (TxId × Transaction)) → same_tx one tx ≡ true → length (keys_of live) ≤ prefix_len (λ x. not (same_tx one x)) (keys_of live) → tally (is_keyed tx) live ≡ 0
+pub absent_key : (tx one : TxId) (live : List (TxId × Transaction)) → same_tx one tx ≡ true → length (keys_of live) ≤ prefix_len (λ x. not (same_tx one x)) (keys_of live) → tally (is_keyed tx) live ≡ 0
 absent_key tx one [] same past = refl
 absent_key tx one (e ∷ live) same past = go (same_tx one e.0) refl past (absent_key tx one live same)
   where

@@ -52,7 +52,7 @@ use Rattle.answer_laws.proofs.Totals.{Grown, IsSome, sent_all, sent_more, taken_
 use Rattle.answer_laws.proofs.Wishes.{is_tc, sends_of}
 use Rattle.answer_laws.specs.Answered.{AreQuiet, EachOperationWaits, IsLiveAs, IsWaitingAt, Waits}
 
-tc_view : (s after : TcState) (sends : List Outgoing) → TcMove s after sends → after.view ≡ s.view
+pub tc_view : (s after : TcState) (sends : List Outgoing) → TcMove s after sends → after.view ≡ s.view
 tc_view s after sends (stays is kind) = ap (λ (t : TcState). t.view) is
 tc_view s after sends (starts name is told) = ap (λ (t : TcState). t.view) is
 tc_view s after sends (turns one t u front back is now kind told) = ap (λ (t : TcState). t.view) now
@@ -81,7 +81,7 @@ good_behind n (x ∷ xs) ys p q = true_and (is_node n x.node) (is_good n (xs ++ 
 node_in : (n node : ℕ) → 1 ≤ node → node < n → is_node n node ≡ true
 node_in n node some low = true_and (nat_lt 0 node) (nat_lt node n) (grind (arith, nat_tests, some)) (grind (arith, nat_tests, low))
 
-good_members : (n m : ℕ) → m < n → is_good n (members m) ≡ true
+pub good_members : (n m : ℕ) → m < n → is_good n (members m) ≡ true
 good_members n zero low = refl
 good_members n (suc m) low =
     good_behind n (members m) (record { node = m + 1; start = 0 } ∷ []) (good_members n m (omega (arith, low))) (true_and (is_node n (m + 1)) true (node_in n (m + 1) (omega arith) (omega (arith, low))) refl)

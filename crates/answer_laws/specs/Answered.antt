@@ -17,7 +17,7 @@ use Rattle.sig_core.specs.declared.member.TxId.{TxId}
 use Rattle.sig_core.specs.Op.{key_of}
 use Rattle.tc_block.specs.declared.phase.Asked.{Asked}
 use Rattle.tc_block.specs.declared.phase.Phase.{Phase}
-use Rattle.tc_block.specs.declared.phase.Phase.TheVariants.{Open, Completing}
+use Rattle.tc_block.specs.declared.phase.Phase.TheVariants as phases
 use Rattle.tc_block.specs.declared.transaction.Transaction.{Transaction}
 use Rattle.tc_block.specs.State.{TcState}
 use Rattle.world_core.specs.Machine.{after, hosts, machine}
@@ -53,7 +53,7 @@ pub record WaitsForLock (start : Start) (logs : ℕ → List LogStep) (tx : TxId
 
 -- it was reported committed, and is completed at the replicas
 abbrev pub is_completing : Phase → Bool
-is_completing (Completing epoch awaited) = true
+is_completing (phases.Completing epoch awaited) = true
 is_completing _ = false
 
 -- the coordinator has the transaction, whose end it hasn't reported
@@ -70,7 +70,7 @@ IsLiveAt tx (Node n) = IsLive tx n.tc
 pub record IsOpen (tx : TxId) (s : TcState) : Type 0 where
   pub transaction : Transaction
   pub live : IsIn (tx, transaction) s.live
-  pub phase : transaction.phase ≡ Open
+  pub phase : transaction.phase ≡ phases.Open
   pub asked : transaction.asked ≡ None
 
 abbrev pub IsOpenAt : TxId → Host → Type 0
@@ -157,3 +157,27 @@ AsksWhereOperating start logs t =
 
 abbrev pub EachAsksWhereOperating : Type 0
 EachAsksWhereOperating = EachAtQuiet AsksWhereOperating
+
+-- its keys are being committed
+abbrev pub is_committing : Phase → Bool
+is_committing (phases.Committing epoch awaited) = true
+is_committing _ = false
+
+-- no coordinator waits for keys of a transaction to be committed
+abbrev pub NoCommitIsAwaited : Type 0
+NoCommitIsAwaited =
+    (start : Start) (logs : ℕ → List LogStep) (node : ℕ) (tx : TxId) (t : Transaction) → AreQuiet start logs → node ≤ start.nodes
+    → IsLiveAs tx t (after start node (logs node)) → is_committing t.phase ≡ false
+
+-- The coordinator of a transaction whose end isn't reported has it. It hasn't reported the end either, and doesn't wait
+-- for keys to be committed. If it has an operation unanswered, the API has sent that, and it waits at a node.
+pub record IsServed (start : Start) (logs : ℕ → List LogStep) (t : OpenTransaction) (tx : TxId) : Type 0 where
+  pub transaction : Transaction
+  pub live : IsLiveAs tx transaction (after start tx.tc (logs tx.tc))
+  pub unreported : is_completing transaction.phase ≡ false
+  pub uncommitted : is_committing transaction.phase ≡ false
+  pub operating : (asked : Asked) → transaction.asked ≡ Some asked → is_operating t.doing ≡ true
+  pub waiting : (asked : Asked) → transaction.asked ≡ Some asked → Waits start logs tx (key_of asked.op)
+
+abbrev pub EachIsServed : Type 0
+EachIsServed = EachAtQuiet (λ start logs t. (tx : TxId) → t.tx ≡ Some tx → IsServed start logs t tx)

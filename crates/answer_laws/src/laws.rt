@@ -1,5 +1,5 @@
 //! What is proved of quiet worlds.
-ghost use Rattle.answer_laws.specs.Answered.{EachAsksWhereOperating, EachHasCoordinator, EachOperationWaits, NoBeginIsLost};
+ghost use Rattle.answer_laws.specs.Answered.{EachAsksWhereOperating, EachHasCoordinator, EachIsServed, EachOperationWaits, NoBeginIsLost, NoCommitIsAwaited};
 ghost use Rattle.answer_laws.specs.Sample.{SampleIsQuiet};
 
 /// When nothing is under way, whether a transaction begins is answered.
@@ -22,6 +22,16 @@ pub fn each_operation_waits()
 /// was sent: where a transaction takes commands, or its commit was asked for, nothing is asked.
 pub fn each_asks_where_operating()
     ensures { EachAsksWhereOperating }
+{}
+
+/// When nothing is under way, no coordinator waits for the keys of a transaction to be committed.
+pub fn no_commit_is_awaited()
+    ensures { NoCommitIsAwaited }
+{}
+
+/// All that together, of each transaction whose end isn't reported.
+pub fn each_is_served()
+    ensures { EachIsServed }
 {}
 
 /// There are quiet logs with a transaction whose end isn't reported.

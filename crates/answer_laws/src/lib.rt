@@ -4,6 +4,6 @@
 mod laws;
 
 pub use laws::{
-    each_asks_where_operating, each_has_a_coordinator, each_operation_waits, no_begin_is_lost,
-    quiet_logs_have_transactions,
+    each_asks_where_operating, each_has_a_coordinator, each_is_served, each_operation_waits,
+    no_begin_is_lost, no_commit_is_awaited, quiet_logs_have_transactions,
 };
