@@ -32,8 +32,8 @@ pub record IsSerial (start : Start) (logs : ℕ → List LogStep) : Type 0 where
   pub rows : (key : List ℕ) → IsAtRest start logs key → (member : Member) → IsIn member (live_nodes start logs)
       → row_at (after start member.node (logs member.node)) key ≡ map.get (fold (rows_of start.rows) (history (hosts start) logs)) key
 
--- the history of every closed cut of right logs is a serial history
+-- The history of every closed cut of right logs is a serial history, where there is a node: a view of nobody isn't viable.
 abbrev pub EveryCutIsSerial : Type 0
 EveryCutIsSerial =
-    (start : Start) (inside logs : ℕ → List LogStep) → IsWithin (hosts start) logs → AreLogs (machine start) logs → IsCut inside logs
+    (start : Start) (inside logs : ℕ → List LogStep) → 1 ≤ start.nodes → IsWithin (hosts start) logs → AreLogs (machine start) logs → IsCut inside logs
     → IsClosed (machine start) inside → IsSerial start inside
