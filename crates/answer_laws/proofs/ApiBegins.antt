@@ -4,7 +4,7 @@ use Rattle.std.specs.Prelude.{◌==◌, ◌&&◌, ◌||◌, nat_lt, Option, None
 use Rattle.std.specs.List.{list_any}
 use Rattle.std.proofs.lemmas.Bool.{eqb-true, true≢false}
 use Rattle.std.proofs.lemmas.Bool.Decides.{nat_tests}
-use Rattle.run_theory.proofs.Pasts.{each_append, each_in}
+use Rattle.run_theory.proofs.Pasts.{each_after, each_append, each_before, each_in}
 use Rattle.run_theory.specs.Lists.{Each, IsIn}
 use Rattle.sig_core.specs.declared.member.Member.{Member}
 use Rattle.sig_core.specs.declared.member.TxId.{TxId}
@@ -53,32 +53,24 @@ second_of : (a b : Bool) → (a && b) ≡ true → b ≡ true
 second_of true b e = e
 second_of false b e = cc
 
-each_before : {A : Type 0} (P : A → Type 0) (xs ys : List A) → Each P (xs ++ ys) → Each P xs
-each_before P [] ys h = tt
-each_before P (x ∷ xs) ys h = (h.0, each_before P xs ys h.1)
-
-each_behind : {A : Type 0} (P : A → Type 0) (xs ys : List A) → Each P (xs ++ ys) → Each P ys
-each_behind P [] ys h = h
-each_behind P (x ∷ xs) ys h = each_behind P xs ys h.1
-
 -- one item becomes another
 pub each_changed : {A : Type 0} (P : A → Type 0) (front : List A) (x y : A) (back all : List A) → all ≡ front ++ x ∷ back → Each P all → (P x → P y) → Each P (front ++ y ∷ back)
 each_changed P front x y back all is each go =
     let whole : Each P (front ++ x ∷ back) = subst (Each P) is each in
-    let rest : Each P (x ∷ back) = each_behind P front (x ∷ back) whole in
+    let rest : Each P (x ∷ back) = each_after P front (x ∷ back) whole in
     each_append P front (y ∷ back) (each_before P front (x ∷ back) whole) (go rest.0, rest.1)
 
 -- or is taken out
 pub each_less : {A : Type 0} (P : A → Type 0) (front : List A) (x : A) (back all : List A) → all ≡ front ++ x ∷ back → Each P all → Each P (front ++ back)
 each_less P front x back all is each =
     let whole : Each P (front ++ x ∷ back) = subst (Each P) is each in
-    let rest : Each P (x ∷ back) = each_behind P front (x ∷ back) whole in
+    let rest : Each P (x ∷ back) = each_after P front (x ∷ back) whole in
     each_append P front back (each_before P front (x ∷ back) whole) rest.1
 
 -- what stands in the middle
 pub each_at : {A : Type 0} (P : A → Type 0) (front : List A) (x : A) (back all : List A) → all ≡ front ++ x ∷ back → Each P all → P x
 each_at P front x back all is each =
-    let rest : Each P (x ∷ back) = each_behind P front (x ∷ back) (subst (Each P) is each) in
+    let rest : Each P (x ∷ back) = each_after P front (x ∷ back) (subst (Each P) is each) in
     rest.0
 
 -- the least node is one of a full member

@@ -4,7 +4,7 @@ use Rattle.std.specs.Map.{keys_of, values_of}
 use Rattle.std.specs.Prelude.{Option, None, Some, position, remove, slice_get, if◌then◌else◌}
 use Rattle.indexmap.specs.IndexMap.{insert_entry, set_value_at}
 use Rattle.run_theory.specs.Lists.{Each}
-use Rattle.run_theory.proofs.Pasts.{each_append}
+use Rattle.run_theory.proofs.Pasts.{each_after, each_append, each_before}
 use Rattle.sig_core.specs.declared.member.TxId.{TxId}
 use Rattle.sig_core.specs.Same.{same_tx}
 use Rattle.row_locks.proofs.TxLemmas.{same_tx-is, same_tx-swap}
@@ -68,14 +68,6 @@ split_at tx (e ∷ es) at t is there = by (same_tx tx e.0) refl (sym (position-c
         further last.place last.next (more last.place last.found (ap (slice_get (values_of (e ∷ es))) last.next ∙ there))
 
 -- what holds of each part of a list
-pub each_front : {A : Type 0} (P : A → Type 0) (xs ys : List A) → Each P (xs ++ ys) → Each P xs
-each_front P [] ys all = tt
-each_front P (x ∷ xs) ys all = (all.0, each_front P xs ys all.1)
-
-pub each_back : {A : Type 0} (P : A → Type 0) (xs ys : List A) → Each P (xs ++ ys) → Each P ys
-each_back P [] ys all = all
-each_back P (x ∷ xs) ys all = each_back P xs ys all.1
-
 -- no transaction stands twice
 abbrev pub KeysOnce : Live → Type 0
 KeysOnce [] = Unit {0}
@@ -85,20 +77,20 @@ pub once_set : (front back : Live) (tx : TxId) (t w : Transaction) → KeysOnce 
 once_set [] back tx t w once = once
 once_set (e ∷ front) back tx t w once =
     let P : TxId × Transaction → Type 0 = λ x. same_tx x.0 e.0 ≡ false in
-    let all = each_back P front ((tx, t) ∷ back) once.0 in
-    (each_append P front ((tx, w) ∷ back) (each_front P front ((tx, t) ∷ back) once.0) (all.0, all.1), once_set front back tx t w once.1)
+    let all = each_after P front ((tx, t) ∷ back) once.0 in
+    (each_append P front ((tx, w) ∷ back) (each_before P front ((tx, t) ∷ back) once.0) (all.0, all.1), once_set front back tx t w once.1)
 
 pub once_gone : (front back : Live) (tx : TxId) (t : Transaction) → KeysOnce (front ++ (tx, t) ∷ back) → KeysOnce (front ++ back)
 once_gone [] back tx t once = once.1
 once_gone (e ∷ front) back tx t once =
     let P : TxId × Transaction → Type 0 = λ x. same_tx x.0 e.0 ≡ false in
-    (each_append P front back (each_front P front ((tx, t) ∷ back) once.0) (each_back P front ((tx, t) ∷ back) once.0).1, once_gone front back tx t once.1)
+    (each_append P front back (each_before P front ((tx, t) ∷ back) once.0) (each_after P front ((tx, t) ∷ back) once.0).1, once_gone front back tx t once.1)
 
 -- the others are others
 pub once_front : (front back : Live) (tx : TxId) (t : Transaction) → KeysOnce (front ++ (tx, t) ∷ back) → Each (λ (x : TxId × Transaction). same_tx x.0 tx ≡ false) front
 once_front [] back tx t once = tt
 once_front (e ∷ front) back tx t once =
-    (same_tx-swap e.0 tx ∙ (each_back (λ (x : TxId × Transaction). same_tx x.0 e.0 ≡ false) front ((tx, t) ∷ back) once.0).0, once_front front back tx t once.1)
+    (same_tx-swap e.0 tx ∙ (each_after (λ (x : TxId × Transaction). same_tx x.0 e.0 ≡ false) front ((tx, t) ∷ back) once.0).0, once_front front back tx t once.1)
 
 pub once_back : (front back : Live) (tx : TxId) (t : Transaction) → KeysOnce (front ++ (tx, t) ∷ back) → Each (λ (x : TxId × Transaction). same_tx x.0 tx ≡ false) back
 once_back [] back tx t once = once.0

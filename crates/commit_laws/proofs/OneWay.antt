@@ -4,7 +4,7 @@ use Rattle.std.specs.Map.{values_of}
 use Rattle.std.specs.Prelude.{Option, None, Some, is_some, slice_get, nat_eq}
 use Rattle.std.proofs.lemmas.Bool.{and_right, ne_eqb}
 use Rattle.run_theory.specs.Lists.{Each}
-use Rattle.run_theory.proofs.Pasts.{each_append, each_map}
+use Rattle.run_theory.proofs.Pasts.{each_after, each_append, each_before, each_map}
 use Rattle.sig_core.specs.declared.log.LogStep.{LogStep}
 use Rattle.sig_core.specs.declared.member.TxId.{TxId}
 use Rattle.sig_core.specs.declared.outs.Outgoing.{Outgoing}
@@ -41,7 +41,7 @@ use Rattle.world_core.specs.Machine.{after}
 use Rattle.world_core.specs.Start.{Start, started}
 use Rattle.commit_laws.specs.Phases.{is_decided}
 use Rattle.commit_laws.specs.Ways.{CoordinatorsGoOneWay, Way, back, back_by, forth, forth_by, is_aborting, neither, put_ways, sent_ways, tc_sends, way_of}
-use Rattle.commit_laws.proofs.LiveSplit.{KeysOnce, Live, Split, each_back, each_front, each_inserted, once_back, once_front, once_gone, once_inserted, once_set, split_at}
+use Rattle.commit_laws.proofs.LiveSplit.{KeysOnce, Live, Split, each_inserted, once_back, once_front, once_gone, once_inserted, once_set, split_at}
 use Rattle.commit_laws.proofs.TcNumbers.{NotIn}
 use Rattle.commit_laws.proofs.TcWays.{AllWays, TurnWays, WayOf, Ways, aborted_ways, aborting_apart, answer_ways, commit_ways, committed_ways, completed_ways, decide_ways, decided_apart, go_on_ways, not_both, operate_ways, refuse_ways, rollback_ways, wait_ways}
 
@@ -90,7 +90,7 @@ module _ (s : TcState) (cs bs : List TxId) (n : IsOneWay s cs bs) where
     once_split = subst KeysOnce split.is n.once
 
     own : IsLive s.next_seq cs bs (tx, t)
-    own = (each_back (IsLive s.next_seq cs bs) split.front ((tx, t) ∷ split.back) all_split).0
+    own = (each_after (IsLive s.next_seq cs bs) split.front ((tx, t) ∷ split.back) all_split).0
 
     abbrev cs_now : List TxId
     cs_now = put_ways forth_by sends cs
@@ -140,10 +140,10 @@ module _ (s : TcState) (cs bs : List TxId) (n : IsOneWay s cs bs) where
     )
 
     front_now : Each (IsLive s.next_seq cs_now bs_now) split.front
-    front_now = others split.front (once_front split.front split.back tx t once_split) (each_front (IsLive s.next_seq cs bs) split.front ((tx, t) ∷ split.back) all_split)
+    front_now = others split.front (once_front split.front split.back tx t once_split) (each_before (IsLive s.next_seq cs bs) split.front ((tx, t) ∷ split.back) all_split)
 
     back_now : Each (IsLive s.next_seq cs_now bs_now) split.back
-    back_now = others split.back (once_back split.front split.back tx t once_split) (each_back (IsLive s.next_seq cs bs) split.front ((tx, t) ∷ split.back) all_split).1
+    back_now = others split.back (once_back split.front split.back tx t once_split) (each_after (IsLive s.next_seq cs bs) split.front ((tx, t) ∷ split.back) all_split).1
 
     own_now : (w : Transaction) → w.phase ≡ after_phase → IsLive s.next_seq cs_now bs_now (tx, w)
     own_now w is = record {

@@ -5,7 +5,7 @@ use Rattle.std.specs.Map.{values_of}
 use Rattle.std.specs.Prelude.{Option, None, Some, is_some, slice_get, nat_eq}
 use Rattle.std.proofs.lemmas.Bool.{and_right, ne_eqb}
 use Rattle.run_theory.specs.Lists.{Each}
-use Rattle.run_theory.proofs.Pasts.{each_append, each_map}
+use Rattle.run_theory.proofs.Pasts.{each_after, each_append, each_before, each_map}
 use Rattle.sig_core.specs.declared.member.TxId.{TxId}
 use Rattle.sig_core.specs.declared.outs.Outgoing.{Outgoing}
 use Rattle.sig_core.specs.declared.signal.Body.{Body}
@@ -35,7 +35,7 @@ use Rattle.tc_block.specs.Turn.{Turn, at_phase}
 use Rattle.commit_laws.specs.Kinds.{Kind, kind_of}
 use Rattle.commit_laws.specs.Kinds as kind
 use Rattle.commit_laws.specs.Phases.{is_decided, is_open}
-use Rattle.commit_laws.proofs.LiveSplit.{KeysOnce, Live, Split, each_back, each_front, each_inserted, once_back, once_front, once_gone, once_inserted, once_set, split_at}
+use Rattle.commit_laws.proofs.LiveSplit.{KeysOnce, Live, Split, each_inserted, once_back, once_front, once_gone, once_inserted, once_set, split_at}
 use Rattle.commit_laws.proofs.TcGoes.{AllSay, Goes, SaysOf, TurnGoes, aborted_goes, answer_goes, commit_goes, committed_goes, completed_goes, go_on_goes, operate_goes, refuse_goes, rollback_goes, wait_goes}
 
 -- the transactions that signals say to have begun, and those for which an epoch is asked, in front of those before
@@ -144,7 +144,7 @@ module _ (node : ℕ) (D : TxId → Type 0) (taken : Kind) (s : TcState) (begun_
     once_split = subst KeysOnce split.is n.once
 
     pub own_live : IsLive node s.next_seq D verified (tx, t)
-    own_live = (each_back (IsLive node s.next_seq D verified) split.front ((tx, t) ∷ split.back) all_split).0
+    own_live = (each_after (IsLive node s.next_seq D verified) split.front ((tx, t) ∷ split.back) all_split).0
 
     -- it takes a step
     step_stays : (step : Step Transaction) → Goes tx (D tx) t.phase step → StaysNumbered node D taken begun_yet verified (stepped s at step)
@@ -155,8 +155,8 @@ module _ (node : ℕ) (D : TxId → Type 0) (taken : Kind) (s : TcState) (begun_
             once = subst KeysOnce (sym (split.set step.state)) (once_set split.front split.back tx t step.state once_split);
             live = subst (Each (IsLive node s.next_seq D verified)) (sym (split.set step.state))
                 (each_append (IsLive node s.next_seq D verified) split.front ((tx, step.state) ∷ split.back)
-                (each_front (IsLive node s.next_seq D verified) split.front ((tx, t) ∷ split.back) all_split)
-                (now, (each_back (IsLive node s.next_seq D verified) split.front ((tx, t) ∷ split.back) all_split).1));
+                (each_before (IsLive node s.next_seq D verified) split.front ((tx, t) ∷ split.back) all_split)
+                (now, (each_after (IsLive node s.next_seq D verified) split.front ((tx, t) ∷ split.back) all_split).1));
             begun_below = n.begun_below;
             begun_apart = n.begun_apart;
             verified_below = n.verified_below;
@@ -182,8 +182,8 @@ module _ (node : ℕ) (D : TxId → Type 0) (taken : Kind) (s : TcState) (begun_
             once = subst KeysOnce (sym split.gone) (once_gone split.front split.back tx t once_split);
             live = subst (Each (IsLive node s.next_seq D verified)) (sym split.gone)
                 (each_append (IsLive node s.next_seq D verified) split.front split.back
-                (each_front (IsLive node s.next_seq D verified) split.front ((tx, t) ∷ split.back) all_split)
-                (each_back (IsLive node s.next_seq D verified) split.front ((tx, t) ∷ split.back) all_split).1);
+                (each_before (IsLive node s.next_seq D verified) split.front ((tx, t) ∷ split.back) all_split)
+                (each_after (IsLive node s.next_seq D verified) split.front ((tx, t) ∷ split.back) all_split).1);
             begun_below = n.begun_below;
             begun_apart = n.begun_apart;
             verified_below = n.verified_below;
@@ -205,9 +205,9 @@ module _ (node : ℕ) (D : TxId → Type 0) (taken : Kind) (s : TcState) (begun_
         once = subst KeysOnce (sym (split.set (at_phase t Verifying))) (once_set split.front split.back tx t (at_phase t Verifying) once_split);
         live = subst (Each (IsLive node s.next_seq D (tx ∷ verified))) (sym (split.set (at_phase t Verifying)))
             (each_append (IsLive node s.next_seq D (tx ∷ verified)) split.front ((tx, (at_phase t Verifying)) ∷ split.back)
-            (others split.front (once_front split.front split.back tx t once_split) (each_front (IsLive node s.next_seq D verified) split.front ((tx, t) ∷ split.back) all_split)) (
+            (others split.front (once_front split.front split.back tx t once_split) (each_before (IsLive node s.next_seq D verified) split.front ((tx, t) ∷ split.back) all_split)) (
               record { tc = own_live.tc; below = own_live.below; decided = λ is. absurd cc; unverified = λ is. absurd cc },
-              others split.back (once_back split.front split.back tx t once_split) (each_back (IsLive node s.next_seq D verified) split.front ((tx, t) ∷ split.back) all_split).1,
+              others split.back (once_back split.front split.back tx t once_split) (each_after (IsLive node s.next_seq D verified) split.front ((tx, t) ∷ split.back) all_split).1,
             ));
         begun_below = n.begun_below;
         begun_apart = n.begun_apart;

@@ -9,7 +9,7 @@ use Rattle.run_theory.specs.Runs.{log_of, Happens, Run, AreLogs, IsWithin}
 use Rattle.run_theory.specs.Orders.{HasLogs, MayFollow, IsCausal, merged}
 use Rattle.run_theory.specs.Cuts.{IsCut, IsClosed}
 use Rattle.run_theory.specs.Along.{Grows}
-use Rattle.run_theory.proofs.Pasts.{each_map, each_append, each_past, past_self, past_more}
+use Rattle.run_theory.proofs.Pasts.{each_map, each_append, each_before, each_past, past_self, past_more}
 use Rattle.run_theory.proofs.Links.{step_above, last_after}
 use Rattle.run_theory.proofs.Runs.{logs_of_run, taken-step}
 use Rattle.run_theory.proofs.Cuts.{closed_of_logs, taken_past}
@@ -17,14 +17,10 @@ use Rattle.run_theory.proofs.Orders.{run_in_order, each_event, causal_by_stamp, 
 use Rattle.run_theory.proofs.Along.{within_cut}
 use Rattle.run_theory.proofs.Merging.{AreOfHosts, Rises, each_insert_all, by_stamp_merged, has_logs_merged, log_at, log_rises, log_of-append, merged_run, logs_merged}
 
-each_front : {A : Type 0} (P : A → Type 0) (xs ys : List A) → Each P (xs ++ ys) → Each P xs
-each_front P [] ys all = tt
-each_front P (x ∷ xs) ys all = (all.0, each_front P xs ys all.1)
-
 module _ {E X : Type 0} (m : Machine E X) where
   rises_front : (xs ys : List E) → Rises m (xs ++ ys) → Rises m xs
   rises_front [] ys r = tt
-  rises_front (x ∷ xs) ys r = (each_front (λ f. m.stamp f < m.stamp x) xs ys r.0, rises_front xs ys r.1)
+  rises_front (x ∷ xs) ys r = (each_before (λ f. m.stamp f < m.stamp x) xs ys r.0, rises_front xs ys r.1)
 
   newer_above : (h : ℕ) (newer log : List E) → IsLog m h (newer ++ log) → Each (λ e. last m h log < m.stamp e) newer
   newer_above h [] log l = tt
@@ -103,7 +99,7 @@ module _ {E X : Type 0} (m : Machine E X) where
 
         of_hosts : AreOfHosts m newer
         of_hosts = record {
-          at = λ h. each_front (λ e. m.host e ≡ h) (newer h) (log_of m es h) (log_at m h (newer h ++ log_of m es h) (parts h));
+          at = λ h. each_before (λ e. m.host e ≡ h) (newer h) (log_of m es h) (log_at m h (newer h ++ log_of m es h) (parts h));
           rises = λ h. rises_front (newer h) (log_of m es h) (log_rises m h (newer h ++ log_of m es h) (parts h));
         }
 
@@ -121,7 +117,7 @@ module _ {E X : Type 0} (m : Machine E X) where
         has h = log_of-append m more es h ∙ (ap (λ w. w ++ log_of m es h) (has_logs_merged m n newer of_hosts within_newer h) ∙ sym (cut h).is)
 
         later : Each (IsLater m) more
-        later = each_merged (IsLater m) n newer (λ h. each_front (IsLater m) (newer h) (log_of m es h) (later_in_log m h (newer h ++ log_of m es h) (parts h)))
+        later = each_merged (IsLater m) n newer (λ h. each_before (IsLater m) (newer h) (log_of m es h) (later_in_log m h (newer h ++ log_of m es h) (parts h)))
 
         Above : E → Type 0
         Above = λ e. last m (m.host e) (log_of m es (m.host e)) < m.stamp e

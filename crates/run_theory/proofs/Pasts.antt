@@ -43,6 +43,10 @@ pub each_append : {A : Type 0} (P : A → Type 0) (xs ys : List A) → Each P xs
 each_append P [] ys h k = k
 each_append P (x ∷ xs) ys h k = (h.0, each_append P xs ys h.1 k)
 
+pub each_before : {A : Type 0} (P : A → Type 0) (xs ys : List A) → Each P (xs ++ ys) → Each P xs
+each_before P [] ys h = tt
+each_before P (x ∷ xs) ys h = (h.0, each_before P xs ys h.1)
+
 pub each_after : {A : Type 0} (P : A → Type 0) (xs ys : List A) → Each P (xs ++ ys) → Each P ys
 each_after P [] ys h = h
 each_after P (x ∷ xs) ys h = each_after P xs ys h.1
