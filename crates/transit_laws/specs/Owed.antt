@@ -1,0 +1,77 @@
+-- What the rest of the machine owes one key of a replica at each event, and at a decision.
+use Rattle.std.specs.List.{list_any}
+use Rattle.std.specs.Prelude.{◌≡◌, ◌≢◌, ◌⊎◌, ◌×◌, ℕ, Bool, true, false, List, Some}
+use Rattle.run_theory.specs.Lists.{Each}
+use Rattle.sig_core.specs.declared.log.LogStep.{LogStep}
+use Rattle.sig_core.specs.declared.member.TxId.{TxId}
+use Rattle.sig_core.specs.declared.op.Answer.{Answer}
+use Rattle.sig_core.specs.declared.op.Op.{Op}
+use Rattle.sig_core.specs.declared.signal.Body.TheVariants.{Epoch}
+use Rattle.sig_core.specs.declared.signal.epoch.EpochSignal.TheVariants.{DiVerifyReq}
+use Rattle.lqh_block.specs.declared.request.Request.{Request}
+use Rattle.world_core.specs.Machine.{after}
+use Rattle.world_core.specs.Marks.{has_mark}
+use Rattle.world_core.specs.Start.{Start}
+use Rattle.commit_laws.specs.BackupEvents.{IsImage}
+use Rattle.commit_laws.specs.Causes.{is_decision}
+use Rattle.commit_laws.specs.PrimaryEvents.{IsOperation, NoneOf}
+use Rattle.commit_laws.specs.Primary.{HasPrepared}
+use Rattle.commit_laws.specs.Replica.{Event, Replica, aborts, asks, commits, completes}
+use Rattle.commit_laws.specs.ReplicaLaws.{event_in}
+use Rattle.transit_laws.specs.Circle.{IsSettledFor, at_host}
+use Rattle.transit_laws.specs.Completions.{IsCommittedAtAll}
+use Rattle.transit_laws.specs.GivenUp.{is_carried_out, is_given_up}
+use Rattle.transit_laws.specs.Routes.{primary}
+use Rattle.transit_laws.specs.Transit.{Comes, IsRun, logs_of}
+
+-- its coordinator's node has decided it
+abbrev pub is_decided : (ℕ → List LogStep) → TxId → Bool
+is_decided logs tx = has_mark (is_decision tx) (logs tx.tc)
+
+-- it is given up, or not decided
+abbrev pub IsUndecided : Start → (ℕ → List LogStep) → TxId → Type 0
+IsUndecided start logs tx = (is_given_up start logs tx ≡ true) ⊎ (is_decided logs tx ≡ false)
+
+-- it is decided, and its coordinator carries that out
+pub record IsCarriedOut (start : Start) (logs : ℕ → List LogStep) (tx : TxId) : Type 0 where
+  pub decided : is_decided logs tx ≡ true
+  pub carried : is_carried_out start logs tx ≡ true
+
+-- operations are for the primary of a key, and images for the others
+pub record IsForReplica (start : Start) (key : List ℕ) (h : ℕ) (q : Request) : Type 0 where
+  pub operation : h ≡ primary start key → IsOperation q
+  pub image : h ≢ primary start key → IsImage q
+
+-- Requests of a transaction come one at a time, and of none that is decided; a commit of one that is, to the primary last; a
+-- completion when all replicas have committed; an abort of a transaction that is given up.
+abbrev pub IsOwed : Start → (ℕ → List LogStep) → List ℕ → ℕ → Event → Type 0
+IsOwed start logs key h (asks q refused) = IsForReplica start key h q × (NoneOf q.tx (at_host start logs key h).waiting × IsUndecided start logs q.tx)
+IsOwed start logs key h (commits tx true) = (h ≡ primary start key) × (NoneOf tx (at_host start logs key h).waiting × IsCarriedOut start logs tx)
+IsOwed start logs key h (commits tx false) = (h ≢ primary start key) × IsCarriedOut start logs tx
+IsOwed start logs key h (completes tx) = NoneOf tx (at_host start logs key h).waiting × IsCommittedAtAll start logs tx key
+IsOwed start logs key h (aborts tx) = is_given_up start logs tx ≡ true
+IsOwed start logs key h event = Unit {0}
+
+abbrev pub EventsAreOwed : Type 0
+EventsAreOwed =
+    (start : Start) (es : List LogStep) (e : LogStep) (key : List ℕ) → Comes start es e
+    → IsOwed start (logs_of start es) key e.taken.to.node (event_in key (after start e.taken.to.node (logs_of start es e.taken.to.node)) e.taken.to e.taken.body)
+
+-- who waits at a replica isn't decided
+abbrev pub WaitersAreUndecided : Type 0
+WaitersAreUndecided =
+    (start : Start) (es : List LogStep) (key : List ℕ) (h : ℕ) → IsRun start es
+    → Each (λ (q : Request). IsUndecided start (logs_of start es) q.tx) (at_host start (logs_of start es) key h).waiting
+
+-- what a decision finds: the request for the epoch came to the coordinator's node, and the transaction is settled for each key
+pub record IsDecidedWith (start : Start) (logs : ℕ → List LogStep) (e : LogStep) (tx : TxId) : Type 0 where
+  pub ops : List (Op × Answer)
+  pub request : e.taken.body ≡ Epoch (DiVerifyReq tx ops)
+  pub home : e.taken.to.node ≡ tx.tc
+  pub settled : (key : List ℕ) → IsSettledFor start logs tx ops key
+
+abbrev pub DecidedAreSettled : Type 0
+DecidedAreSettled =
+    (start : Start) (es : List LogStep) (e : LogStep) (tx : TxId) → Comes start es e → list_any (is_decision tx) e.marks ≡ true
+    → is_given_up start (logs_of start es) tx ≡ false
+    → IsDecidedWith start (logs_of start es) e tx

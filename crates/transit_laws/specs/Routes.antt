@@ -1,0 +1,102 @@
+-- Signals along chains: where they are sent, and what they ask for there.
+use Rattle.std.specs.Prelude.{◌≡◌, ◌<◌, ◌⊎◌, ◌==◌, ℕ, Bool, true, false, length, List, Option, None, Some}
+use Rattle.run_theory.specs.Lists.{Each}
+use Rattle.sig_core.specs.declared.log.LogStep.{LogStep}
+use Rattle.sig_core.specs.declared.member.Member.{Member}
+use Rattle.sig_core.specs.declared.member.TxId.{TxId}
+use Rattle.sig_core.specs.declared.signal.Body.{Body}
+use Rattle.sig_core.specs.declared.signal.Body.TheVariants.{Chain}
+use Rattle.sig_core.specs.declared.signal.chain.ChainSignal.TheVariants.{LqhKeyReq, Commit, Complete}
+use Rattle.sig_core.specs.declared.signal.chain.RowWork.{RowWork}
+use Rattle.sig_core.specs.declared.signal.chain.RowWork.TheVariants.{Operate, Store}
+use Rattle.sig_core.specs.declared.signal.Signal.{Signal}
+use Rattle.sig_core.specs.Chain.{node_at, primary_of}
+use Rattle.sig_core.specs.Op.{key_of}
+use Rattle.lqh_block.specs.declared.request.Request.{Request}
+use Rattle.lqh_block.specs.Work.{work_key}
+use Rattle.tc_block.specs.Chain.{chain_of}
+use Rattle.tc_block.specs.declared.phase.Asked.{Asked}
+use Rattle.tc_block.specs.declared.touched.Touched.{Touched}
+use Rattle.tc_block.specs.declared.transaction.Transaction.{Transaction}
+use Rattle.node_core.specs.declared.host.Host.{Host}
+use Rattle.node_core.specs.declared.host.Host.TheVariants.{Shell, Node}
+use Rattle.world_core.specs.Machine.{hosts}
+use Rattle.world_core.specs.Start.{Start, first_view}
+use Rattle.transit_laws.specs.Transit.{AreInTransit, IsRun, host_after}
+
+-- the replicas of a key, the primary first; no other view than the first is installed by now
+abbrev pub replicas : Start → List ℕ → List Member
+replicas start key = chain_of (first_view start.nodes) key
+
+-- the node of the primary
+abbrev pub primary : Start → List ℕ → ℕ
+primary start key = node_at (replicas start key) 0
+
+-- an operation is for the first place of a chain, and an image for a later one
+abbrev pub IsWorkAt : ℕ → RowWork → Type 0
+IsWorkAt at (Operate op) = at ≡ 0
+IsWorkAt at (Store key image) = 0 < at
+
+-- what is for this place of a chain is sent to its node
+pub record IsSentTo (node : ℕ) (chain : List Member) (at : ℕ) : Type 0 where
+  pub inside : at < length chain
+  pub node_is : node ≡ node_at chain at
+
+-- a request is sent along the replicas of its key
+pub record IsRequestRouted (start : Start) (node : ℕ) (q : Request) : Type 0 where
+  pub chain : q.chain ≡ replicas start (work_key q.work)
+  pub sent : IsSentTo node q.chain q.at
+  pub work : IsWorkAt q.at q.work
+
+-- a commit is sent along the replicas, or to the primary alone
+pub record IsCommitRouted (start : Start) (node : ℕ) (key : List ℕ) (chain : List Member) (at : ℕ) : Type 0 where
+  pub chain : (chain ≡ replicas start key) ⊎ (chain ≡ primary_of (replicas start key))
+  pub sent : IsSentTo node chain at
+
+-- a completion along the replicas
+pub record IsCompletionRouted (start : Start) (node : ℕ) (key : List ℕ) (chain : List Member) (at : ℕ) : Type 0 where
+  pub chain : chain ≡ replicas start key
+  pub sent : IsSentTo node chain at
+
+abbrev pub IsRouted : Start → ℕ → Body → Type 0
+IsRouted start node (Chain (LqhKeyReq tx work chain at)) = IsRequestRouted start node (record { tx = tx; work = work; chain = chain; at = at })
+IsRouted start node (Chain (Commit tx key epoch chain at)) = IsCommitRouted start node key chain at
+IsRouted start node (Chain (Complete tx key chain at)) = IsCompletionRouted start node key chain at
+IsRouted start node body = Unit {0}
+
+-- a coordinator has the replicas of each key that was written, and the primary of each other one
+abbrev pub IsTouchedRouted : Start → Touched → Type 0
+IsTouchedRouted start t = t.chain ≡ (if t.written then replicas start t.key else primary_of (replicas start t.key))
+
+abbrev pub IsAskedRouted : Start → Option Asked → Type 0
+IsAskedRouted start None = Unit {0}
+IsAskedRouted start (Some asked) = asked.chain ≡ replicas start (key_of asked.op)
+
+pub record IsTransactionRouted (start : Start) (t : Transaction) : Type 0 where
+  pub touched : Each (IsTouchedRouted start) t.touched
+  pub asked : IsAskedRouted start t.asked
+
+-- what waits at a host, and what its coordinator has
+abbrev pub IsHostRouted : Start → ℕ → Host → Type 0
+IsHostRouted start h (Shell s) = Unit {0}
+IsHostRouted start h (Node n) =
+    (n.tc.view ≡ first_view start.nodes) × (Each (λ (q : Request). IsRequestRouted start h q) n.lqh.waiting × Each (λ (e : TxId × Transaction). IsTransactionRouted start e.1) n.tc.live)
+
+-- so it is after every run of some nodes
+pub record AreRouted (start : Start) (es : List LogStep) (xs : List Signal) : Type 0 where
+  pub signals : Each (λ (x : Signal). IsRouted start x.to.node x.body) xs
+  pub hosts : (h : ℕ) → IsHostRouted start h (host_after start es h)
+
+abbrev pub SignalsAreRouted : Type 0
+SignalsAreRouted = (start : Start) (es : List LogStep) (xs : List Signal) → IsRun start es → AreInTransit start es xs → AreRouted start es xs
+
+-- no node stands twice among the replicas
+abbrev pub ReplicasAreApart : Type 0
+ReplicasAreApart =
+    (start : Start) (key : List ℕ) (one other : ℕ) → one < length (replicas start key) → other < length (replicas start key)
+    → node_at (replicas start key) one ≡ node_at (replicas start key) other → one ≡ other
+
+-- the replicas are the nodes, from 1
+abbrev pub ReplicasAreNodes : Type 0
+ReplicasAreNodes =
+    (start : Start) (key : List ℕ) (at : ℕ) → at < length (replicas start key) → (0 < node_at (replicas start key) at) × (node_at (replicas start key) at < hosts start)
