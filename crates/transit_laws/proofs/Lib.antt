@@ -1,1 +1,2 @@
+pub mod OthersStay
 pub mod Transit

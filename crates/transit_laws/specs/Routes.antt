@@ -1,5 +1,5 @@
 -- Signals along chains: where they are sent, and what they ask for there.
-use Rattle.std.specs.Prelude.{◌≡◌, ◌<◌, ◌⊎◌, ◌==◌, ℕ, Bool, true, false, length, List, Option, None, Some}
+use Rattle.std.specs.Prelude.{◌≡◌, ◌<◌, ◌⊎◌, ◌==◌, if◌then◌else◌, ℕ, Bool, true, false, length, List, Option, None, Some}
 use Rattle.run_theory.specs.Lists.{Each}
 use Rattle.sig_core.specs.declared.log.LogStep.{LogStep}
 use Rattle.sig_core.specs.declared.member.Member.{Member}
@@ -50,12 +50,12 @@ pub record IsRequestRouted (start : Start) (node : ℕ) (q : Request) : Type 0 w
 
 -- a commit is sent along the replicas, or to the primary alone
 pub record IsCommitRouted (start : Start) (node : ℕ) (key : List ℕ) (chain : List Member) (at : ℕ) : Type 0 where
-  pub chain : (chain ≡ replicas start key) ⊎ (chain ≡ primary_of (replicas start key))
+  pub along : (chain ≡ replicas start key) ⊎ (chain ≡ primary_of (replicas start key))
   pub sent : IsSentTo node chain at
 
 -- a completion along the replicas
 pub record IsCompletionRouted (start : Start) (node : ℕ) (key : List ℕ) (chain : List Member) (at : ℕ) : Type 0 where
-  pub chain : chain ≡ replicas start key
+  pub along : chain ≡ replicas start key
   pub sent : IsSentTo node chain at
 
 abbrev pub IsRouted : Start → ℕ → Body → Type 0
