@@ -1,2 +1,4 @@
+pub mod KeySends
+pub mod KeyTokens
 pub mod OthersStay
 pub mod Transit
