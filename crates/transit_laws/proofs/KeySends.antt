@@ -18,6 +18,7 @@ use Rattle.sig_core.specs.declared.signal.client.ClientSignal.TheVariants.{LqhWa
 use Rattle.sig_core.specs.declared.signal.host.HostSignal.TheVariants.{Round, Continue}
 use Rattle.sig_core.specs.declared.signal.host.Work.TheVariants as work
 use Rattle.sig_core.specs.Op.{answer_to, image_of, key_of}
+use Rattle.sig_core.specs.Place.{coordinator_of}
 use Rattle.sig_core.specs.Rows.{is_full, record_state, seen}
 use Rattle.sig_core.specs.Same.{same_key, same_tx}
 use Rattle.row_locks.specs.declared.mode.Lock.{Lock}
@@ -46,7 +47,7 @@ use Rattle.commit_laws.proofs.Firsts.{first-get, get_by}
 use Rattle.commit_laws.proofs.KeyAfter.{first_here}
 use Rattle.commit_laws.proofs.Keys.{same_key-self}
 use Rattle.commit_laws.proofs.PerformedAt.{seen-cell}
-use Rattle.transit_laws.proofs.KeyTokens.{Token, answers, asked_tokens, event_tokens, expired_tokens, if_by, operated_token, passed_token, performed_token, performs, put, put_if, refuses, served_tokens, stored_token, token_of, tokens-append, tokens_of, work_token}
+use Rattle.transit_laws.proofs.KeyTokens.{Token, answers, asked_tokens, event_tokens, expired_tokens, if_by, is_home, operated_token, passed_token, performed_token, performs, put, put_home, put_if, refuses, served_tokens, stored_token, token_of, tokens-append, tokens_of, work_token}
 
 -- the signal isn't an abort of the transaction
 abbrev pub is_abort : TxId → Body → Bool
@@ -81,13 +82,13 @@ module _ (tx : TxId) (key : List ℕ) where
   -- a request that is performed sends one
   passed_one : (v : TxId) (own : List ℕ) (image : Option (List ℕ)) (chain : List Member) (at : ℕ) (next : Option Member)
       → tokens_of tx key (storage.passed_to v own image chain at next ∷ []) ≡ (if same_tx v tx && same_key own key then passed_token own image at next ∷ [] else [])
-  passed_one v own image chain at None = put_if (same_tx v tx && same_key own key) (answers answer.Done) []
+  passed_one v own image chain at None = put_home v (same_tx v tx && same_key own key) (answers answer.Done) []
   passed_one v own image chain at (Some next) = put_if (same_tx v tx && same_key own key) (performs (Store own image) (at + 1)) []
 
   stored_one : (s : StorageState) (v : TxId) (own : List ℕ) (image : Option (List ℕ)) (chain : List Member) (at : ℕ) (log full : Bool)
       → tokens_of tx key (storage.store_if s v own image chain at log full).effects.sends ≡ (if same_tx v tx && same_key own key then stored_token own image chain at (log || full) ∷ [] else [])
-  stored_one s v own image chain at true full = put_if (same_tx v tx && same_key own key) refuses []
-  stored_one s v own image chain at false true = put_if (same_tx v tx && same_key own key) refuses []
+  stored_one s v own image chain at true full = put_home v (same_tx v tx && same_key own key) refuses []
+  stored_one s v own image chain at false true = put_home v (same_tx v tx && same_key own key) refuses []
   stored_one s v own image chain at false false = passed_one v own image chain at (slice_get chain (at + 1))
 
   store_one : (s : StorageState) (v : TxId) (own : List ℕ) (image : Option (List ℕ)) (chain : List Member) (at : ℕ)
@@ -101,10 +102,10 @@ module _ (tx : TxId) (key : List ℕ) where
       ≡ (if same_tx v tx && same_key (key_of op) key
       then operated_token op chain at (storage.is_log_full s.journal (storage.need_of v (key_of op) (image_of op)) || is_full s.rows (key_of op)) a ∷ [] else [])
   operated_one s v op chain at answer.Done = store_one s v (key_of op) (image_of op) chain at
-  operated_one s v op chain at (answer.Found value) = put_if (same_tx v tx && same_key (key_of op) key) (answers (answer.Found value)) []
-  operated_one s v op chain at answer.Missing = put_if (same_tx v tx && same_key (key_of op) key) (answers answer.Missing) []
-  operated_one s v op chain at answer.E626 = put_if (same_tx v tx && same_key (key_of op) key) (answers answer.E626) []
-  operated_one s v op chain at answer.E630 = put_if (same_tx v tx && same_key (key_of op) key) (answers answer.E630) []
+  operated_one s v op chain at (answer.Found value) = put_home v (same_tx v tx && same_key (key_of op) key) (answers (answer.Found value)) []
+  operated_one s v op chain at answer.Missing = put_home v (same_tx v tx && same_key (key_of op) key) (answers answer.Missing) []
+  operated_one s v op chain at answer.E626 = put_home v (same_tx v tx && same_key (key_of op) key) (answers answer.E626) []
+  operated_one s v op chain at answer.E630 = put_home v (same_tx v tx && same_key (key_of op) key) (answers answer.E630) []
 
   worked_one : (s : StorageState) (v : TxId) (chain : List Member) (at : ℕ) (w : RowWork)
       → tokens_of tx key (storage.perform_by s v chain at w).effects.sends
@@ -208,7 +209,7 @@ module _ (tx : TxId) (key : List ℕ) where
 
   refused_none : (v : TxId) (own : List ℕ) (at : Option ℕ) → same_tx v tx ≡ false → tokens_of tx key (abort.refused_by v own at) ≡ []
   refused_none v own None off = refl
-  refused_none v own (Some at) off = ap (λ b. put (if b && same_key own key then Some refuses else None) []) off
+  refused_none v own (Some at) off = put_home v (same_tx v tx && same_key own key) refuses [] ∙ ap (λ b. if b && same_key own key then refuses ∷ [] else []) off
 
   abort_none : (s : LqhState) (v : TxId) (own : List ℕ) → same_tx v tx ≡ false → tokens_of tx key (abort.abort_row s v own).effects.sends ≡ []
   unfolding abort.abort_row
@@ -220,7 +221,9 @@ module _ (tx : TxId) (key : List ℕ) where
   -- waits that end
   refused_one : (v : TxId) (own : List ℕ) (rest : List Outgoing) (why : AbortCause) → tokens_of tx key rest ≡ []
       → tokens_of tx key (storage.refusal v own why ∷ rest) ≡ (if same_tx v tx && same_key own key then refuses ∷ [] else [])
-  refused_one v own rest why none = ap (put (if same_tx v tx && same_key own key then Some refuses else None)) none ∙ put_if (same_tx v tx && same_key own key) refuses []
+  refused_one v own rest why none =
+      ap (put (if is_home v (coordinator_of v) && (same_tx v tx && same_key own key) then Some refuses else None)) none
+      ∙ put_home v (same_tx v tx && same_key own key) refuses []
 
   expire_by_tokens : (s : LqhState) (w : Option (TxId × List ℕ)) (r : Replica) → tokens_of tx key (expire.expire_by s w).effects.sends ≡ event_tokens tx (expires_if key w) r
   expire_by_tokens s None r = refl
