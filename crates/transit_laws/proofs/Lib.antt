@@ -1,4 +1,5 @@
 pub mod KeySends
 pub mod KeyTokens
 pub mod OthersStay
+pub mod TcTokenless
 pub mod Transit
