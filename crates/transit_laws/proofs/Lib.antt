@@ -1,3 +1,4 @@
+pub mod CircleView
 pub mod KeySends
 pub mod KeyTokens
 pub mod LiveAfter

@@ -139,10 +139,11 @@ module _ (tx : TxId) (key : List ℕ) (h : ℕ) where
         absent past true m t is =
             absurd (let none : None ≡ Some t = sym (live_none tx s.live (absent_key tx one s.live m past)) ∙ is in cc)
 
+        at_entry : IsEntry (same_tx one) s.live place → Sees s body (turn_value s row place (slice_get (values_of s.live) place))
+        at_entry f = subst (λ o. Sees s body (turn_value s row place o)) (sym f.get) (over f (row f.value).over refl (same_tx f.key tx) refl)
+
         go : (b : Bool) → nat_lt place (length (keys_of s.live)) ≡ b → Sees s body (turn_place s row (cond b (Some place) None))
-        go true e =
-            let f = found (same_tx one) s.live (grind (arith, nat_tests, e)) in
-            subst (λ o. Sees s body (turn_value s row place o)) (sym f.get) (over f (row f.value).over refl (same_tx f.key tx) refl)
+        go true e = at_entry (found (same_tx one) s.live (grind (arith, nat_tests, e)))
         go false e = record { grows = omega arith; seen = same refl refl (absent (grind (arith, nat_tests, e)) (same_tx one tx) refl) }
 
     -- a step is a turn after which the transaction isn't over
