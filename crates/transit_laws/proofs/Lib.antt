@@ -3,6 +3,7 @@ pub mod KeySends
 pub mod KeyTokens
 pub mod LiveAfter
 pub mod OthersStay
+pub mod Performing
 pub mod TcCircle
 pub mod TcSees
 pub mod TcTokenless
