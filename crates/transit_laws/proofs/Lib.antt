@@ -8,3 +8,4 @@ pub mod TcCircle
 pub mod TcSees
 pub mod TcTokenless
 pub mod Transit
+pub mod TransitLists
