@@ -2,6 +2,7 @@ pub mod CircleView
 pub mod KeySends
 pub mod KeyTokens
 pub mod LiveAfter
+pub mod OnlyToken
 pub mod OthersStay
 pub mod Performing
 pub mod TcCircle
@@ -9,3 +10,4 @@ pub mod TcSees
 pub mod TcTokenless
 pub mod Transit
 pub mod TransitLists
+pub mod ViewOf
