@@ -1,4 +1,5 @@
 pub mod CircleView
+pub mod KeyMoves
 pub mod KeySends
 pub mod KeyTokens
 pub mod LiveAfter
