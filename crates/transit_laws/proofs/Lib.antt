@@ -1,3 +1,4 @@
+pub mod CircleKept
 pub mod CircleView
 pub mod KeyMoves
 pub mod KeySends
