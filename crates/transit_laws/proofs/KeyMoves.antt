@@ -93,12 +93,13 @@ module _ (start : Start) (es : List LogStep) (e : LogStep) (tx : TxId) (key : Li
   pub ended_other : host_of ≢ primary start key → view_now.ended ≡ view_before.ended
   ended_other off = ap (λ log. (primary_along start (primary start key) key log).ended tx) (other_log (primary start key) off)
 
-  -- where the event leaves alone what is here of the transaction
-  pub view_like : found tx (key_after event_here before_here).cell.pending ≡ found tx before_here.cell.pending → waits_of tx (key_after event_here before_here) ≡ waits_of tx before_here
-      → made_after event_here answered_here tx ≡ (at_primary start logs key).made tx → ended_after event_here answered_here tx ≡ (at_primary start logs key).ended tx → IsLike view_before view_now
-  view_like found_is waits_are made_is ended_is = record {
-    likewise = record { made = made (cases_eq host_of (primary start key)); ended = ended (cases_eq host_of (primary start key)); rec = λ h. rec h (cases_eq host_of h) };
-    waits = λ h. waits h (cases_eq host_of h);
+  -- where the event leaves alone what is here of the transaction, but for the requests that wait
+  pub view_as : found tx (key_after event_here before_here).cell.pending ≡ found tx before_here.cell.pending
+      → made_after event_here answered_here tx ≡ (at_primary start logs key).made tx → ended_after event_here answered_here tx ≡ (at_primary start logs key).ended tx → IsAs view_before view_now
+  view_as found_is made_is ended_is = record {
+    made = made (cases_eq host_of (primary start key));
+    ended = ended (cases_eq host_of (primary start key));
+    rec = λ h. rec h (cases_eq host_of h);
   }
     where
       made : (host_of ≡ primary start key) ⊎ (host_of ≢ primary start key) → view_now.made ≡ view_before.made
@@ -113,9 +114,17 @@ module _ (start : Start) (es : List LogStep) (e : LogStep) (tx : TxId) (key : Li
       rec h (inl is) = subst (λ h. view_now.rec h ≡ view_before.rec h) is (ap (λ (r : Replica). found tx r.cell.pending) key_here ∙ found_is)
       rec h (inr off) = ap (λ (r : Replica). found tx r.cell.pending) (key_other h off)
 
+  pub waits_other : (h : ℕ) → host_of ≢ h → view_now.waits h ≡ view_before.waits h
+  waits_other h off = ap (waits_of tx) (key_other h off)
+
+  -- and these too
+  pub view_like : found tx (key_after event_here before_here).cell.pending ≡ found tx before_here.cell.pending → waits_of tx (key_after event_here before_here) ≡ waits_of tx before_here
+      → made_after event_here answered_here tx ≡ (at_primary start logs key).made tx → ended_after event_here answered_here tx ≡ (at_primary start logs key).ended tx → IsLike view_before view_now
+  view_like found_is waits_are made_is ended_is = record { likewise = view_as found_is made_is ended_is; waits = λ h. waits h (cases_eq host_of h) }
+    where
       waits : (h : ℕ) → (host_of ≡ h) ⊎ (host_of ≢ h) → view_now.waits h ≡ view_before.waits h
       waits h (inl is) = subst (λ h. view_now.waits h ≡ view_before.waits h) is (ap (waits_of tx) key_here ∙ waits_are)
-      waits h (inr off) = ap (waits_of tx) (key_other h off)
+      waits h (inr off) = waits_other h off
 
   -- an event of another transaction, or of none
   pub others_like : is_of tx (event_of event_here before_here) ≡ false → IsLike view_before view_now

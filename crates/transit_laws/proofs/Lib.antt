@@ -4,6 +4,7 @@ pub mod KeyMoves
 pub mod KeySends
 pub mod KeyTokens
 pub mod LiveAfter
+pub mod LqhCases
 pub mod OnlyToken
 pub mod OthersStay
 pub mod Performing
