@@ -2,6 +2,7 @@ pub mod CircleKept
 pub mod CircleView
 pub mod KeyMoves
 pub mod KeySends
+pub mod KeySteps
 pub mod KeyTokens
 pub mod LiveAfter
 pub mod LqhCases
