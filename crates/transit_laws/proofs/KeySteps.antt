@@ -1,5 +1,5 @@
 -- A transaction that goes on, of one key, where its key takes a step at a replica.
-use Rattle.std.proofs.Common.{◌≡◌, ◌⊎◌, ◌≢◌, ◌≤◌, ◌<◌, ◌++◌, ℕ, Bool, true, false, filter, length, List, [], ◌∷◌, refl, sym, ap, ◌∙◌, subst, inl, inr}
+use Rattle.std.proofs.Common.{◌≡◌, ◌⊎◌, ◌≢◌, ◌≤◌, ◌<◌, ◌++◌, ℕ, Bool, true, false, cond, filter, length, List, [], ◌∷◌, refl, sym, ap, ◌∙◌, subst, inl, inr}
 use Rattle.std.proofs.lemmas.Bool.{cases_eq}
 use Rattle.std.specs.Prelude.{if◌then◌else◌, Option, None, Some}
 use Rattle.run_theory.specs.Lists.{Each}
@@ -34,7 +34,7 @@ use Rattle.transit_laws.specs.Live.{live_at}
 use Rattle.transit_laws.specs.Routes.{IsRequestRouted, primary, replicas}
 use Rattle.transit_laws.specs.Tokens.{OneAtATime, is_token}
 use Rattle.transit_laws.specs.Transit.{AreInTransit, Comes, Takes, joined, logs_of}
-use Rattle.transit_laws.proofs.CircleKept.{IsGoing, NoneIn, queued_going, rests_going, sent_going}
+use Rattle.transit_laws.proofs.CircleKept.{IsGoing, SignalTells, queued_going, rests_going, sent_going}
 use Rattle.transit_laws.proofs.CircleView.{IsAs, IsAskedHere, Settles, Tells, settles_as}
 use Rattle.transit_laws.proofs.KeyMoves.{answered_here, before_here, event_here, ended_here, ended_other, host_of, key_here, key_other, made_here, made_other, others_like, view_as, view_before, view_now, waits_other}
 use Rattle.transit_laws.proofs.KeyTokens.{Token, asked_tokens, event_tokens, expired_tokens, if_by, performed_token, performs, refuses, served_tokens, token_of, tokens_of, work_token}
@@ -42,7 +42,7 @@ use Rattle.transit_laws.proofs.OnlyToken.{IsOnly, one_sent}
 use Rattle.transit_laws.proofs.OthersStay.{event_of, filter-end, is_of, of_first, waits_of}
 use Rattle.transit_laws.proofs.Performing.{IsPerformed, performed_tells}
 use Rattle.transit_laws.proofs.TcCircle.{is_early}
-use Rattle.transit_laws.proofs.TransitLists.{sent_some, takes_more, tally_headed, uncounted}
+use Rattle.transit_laws.proofs.TransitLists.{Told, sent_some, takes_it, takes_more, tally_headed, uncounted}
 
 -- an event of another transaction sends none
 pub off_tokens : (tx : TxId) (event : Event) (r : Replica) → is_of tx (event_of event r) ≡ false → event_tokens tx event r ≡ []
@@ -63,6 +63,18 @@ off_tokens tx (replica.aborts v) r off = refl
 off_tokens tx (expires v) r off = ap (λ b. if b then refuses ∷ [] else []) off
 off_tokens tx (ages None) r off = refl
 off_tokens tx (ages (Some v)) r off = ap (λ b. if b then refuses ∷ [] else []) off
+
+-- what is so of those that pass a test is so of the first one that passes another, if it passes this one
+each-first_by : {A : Type 0} (P : A → Type 0) (p other : A → Bool) (xs : List A) (x : A) → Each P (filter p xs) → first other xs ≡ Some x → p x ≡ true → P x
+each-first_by P p other [] x all is passes = absurd cc
+each-first_by {A} P p other (y ∷ xs) x all is passes = by (other y) is (p y) refl all (each-first_by P p other xs x)
+  where
+    by : (b : Bool) → (if b then Some y else first other xs) ≡ Some x → (c : Bool) → p y ≡ c → Each P (cond c (y ∷ filter p xs) (filter p xs))
+        → (Each P (filter p xs) → first other xs ≡ Some x → p x ≡ true → P x) → P x
+    by true is true e all more = let one : y ≡ x = cc in subst P one all.0
+    by true is false e all more = absurd (let one : y ≡ x = cc in let both : true ≡ false = sym passes ∙ (ap p (sym one) ∙ e) in cc)
+    by false is true e all more = more all.1 is passes
+    by false is false e all more = more all is passes
 
 module _ (start : Start) (es : List LogStep) (e : LogStep) (tx : TxId) (key : List ℕ) (come : Comes start es e) (few : OneAtATime) (before between : List Signal) (transit : AreInTransit start es before)
     (takes : Takes e before between) (t : Transaction) (live : live_at start (logs_of start (e ∷ es)) tx ≡ Some t) (early : is_early t.phase ≡ true) where
@@ -147,3 +159,96 @@ module _ (start : Start) (es : List LogStep) (e : LogStep) (tx : TxId) (key : Li
         made = λ at. made_here start es e tx key at ∙ made_is;
         unmade = made_other start es e tx key;
       }
+
+  is_own : (v : TxId) → v ≡ tx → same_tx v tx ≡ true
+  is_own v is = ap (λ v. same_tx v tx) is ∙ same_tx-self tx
+
+  own_token : (v : TxId) (token : Token) → v ≡ tx → if_by tx v token ≡ token ∷ []
+  own_token v token is = ap (λ b. if b then token ∷ [] else []) (is_own v is)
+
+  -- a request that comes: it is performed, or waits
+  pub asked_going : (q : Request) (refused : Bool) → event ≡ asks q refused → q.tx ≡ tx → work_key q.work ≡ key → IsRequestRouted start n q → is_request e.taken.body ≡ false
+      → token_of tx key e.taken.to e.taken.body ≡ Some (performs q.work q.at) → tokens_of tx key sends ≡ event_tokens tx event r → Going → GoesOn
+  asked_going q refused event_is q_is own routed given taken is going = by (asked r.lock q.tx (work_mode q.work)).answer refl
+    where
+      by : (a : Lock) → (asked r.lock q.tx (work_mode q.work)).answer ≡ a → GoesOn
+      by Granted a_is =
+          performs_going q refused routed own
+          (ap (λ event. found tx (key_after event r).cell.pending) event_is ∙ ap (λ a. found tx (asked_by r (asked r.lock q.tx (work_mode q.work)).lock q refused a).cell.pending) a_is
+          ∙ ap (λ v. found tx (worked r.cell v refused q.work).pending) q_is)
+          (ap (λ event. made_after event (answered_here start es e tx key) tx) event_is ∙ ap (λ a. made_if (answered_here start es e tx key) q refused a tx) a_is
+          ∙ ap (λ v. made_by made r.cell v refused q.work tx) q_is)
+          (ap (λ event. ended_after event (answered_here start es e tx key) tx) event_is)
+          (is ∙ ap (λ event. event_tokens tx event r) event_is ∙ ap (asked_tokens tx r q refused) a_is ∙ own_token q.tx (performed_token r.cell q refused) q_is
+          ∙ ap (λ v. work_token r.cell v q.chain q.at refused q.work ∷ []) q_is)
+          (subst (Told tx key (Tells start key (view_before start es e tx key) t)) taken (takes_it (SignalTells start tx key (view_before start es e tx key) t) e before between takes given going.signals))
+          going
+      by (Queued ahead) a_is =
+          queued_going start tx key (view_before start es e tx key) (view_now start es e tx key) t e before between takes (first_view start.nodes) n e.stamp (sent_count start n (logs_of start es n)) sends going
+          (view_as start es e tx key
+          (ap (λ event. found tx (key_after event r).cell.pending) event_is ∙ ap (λ a. found tx (asked_by r (asked r.lock q.tx (work_mode q.work)).lock q refused a).cell.pending) a_is)
+          (ap (λ event. made_after event (answered_here start es e tx key) tx) event_is ∙ ap (λ a. made_if (answered_here start es e tx key) q refused a tx) a_is)
+          (ap (λ event. ended_after event (answered_here start es e tx key) tx) event_is))
+          n q given taken
+          (ap (waits_of tx) (key_here start es e tx key) ∙ ap (λ event. waits_of tx (key_after event r)) event_is
+          ∙ ap (λ a. waits_of tx (asked_by r (asked r.lock q.tx (work_mode q.work)).lock q refused a)) a_is ∙ filter-end (is_by tx) r.waiting q true (is_own q.tx q_is))
+          (waits_other start es e tx key) (is ∙ ap (λ event. event_tokens tx event r) event_is ∙ ap (asked_tokens tx r q refused) a_is)
+
+  -- one that waited
+  pub served_going : (q : Request) (refused : Bool) → event ≡ serves refused → first (is_let_in r.lock) r.waiting ≡ Some q → q.tx ≡ tx → work_key q.work ≡ key → IsRequestRouted start n q
+      → tokens_of tx key sends ≡ event_tokens tx event r → Going → GoesOn
+  served_going q refused event_is first_is q_is own routed is going =
+      performs_going q refused routed own
+      (ap (λ event. found tx (key_after event r).cell.pending) event_is ∙ ap (λ o. found tx (served_by r refused o).cell.pending) first_is ∙ ap (λ v. found tx (worked r.cell v refused q.work).pending) q_is)
+      (ap (λ event. made_after event (answered_here start es e tx key) tx) event_is ∙ ap (λ o. made_served (answered_here start es e tx key) refused o tx) first_is
+      ∙ ap (λ v. made_by made r.cell v refused q.work tx) q_is)
+      (ap (λ event. ended_after event (answered_here start es e tx key) tx) event_is)
+      (is ∙ ap (λ event. event_tokens tx event r) event_is ∙ ap (served_tokens tx r refused) first_is ∙ own_token q.tx (performed_token r.cell q refused) q_is
+      ∙ ap (λ v. work_token r.cell v q.chain q.at refused q.work ∷ []) q_is)
+      (each-first_by (λ (q : Request). Tells start key (view_before start es e tx key) t (performs q.work q.at)) (is_by tx) (is_let_in r.lock) r.waiting q (going.waiting n) first_is (is_own q.tx q_is))
+      going
+
+  -- a wait that ends
+  pub expired_going : (event ≡ expires tx) ⊎ (event ≡ ages (Some tx)) → token_of tx key e.taken.to e.taken.body ≡ None → tokens_of tx key sends ≡ event_tokens tx event r → Going → GoesOn
+  expired_going event_is taken is going =
+      sent_going start tx key (view_now start es e tx key) t between (first_view start.nodes) n e.stamp (sent_count start n (logs_of start es n)) sends refuses going.asked now one.signals one.waits
+      (by (waits_of tx r) refl)
+    where
+      now : tokens_of tx key sends ≡ refuses ∷ []
+      now = is ∙ which event_is
+        where
+          which : (event ≡ expires tx) ⊎ (event ≡ ages (Some tx)) → event_tokens tx event r ≡ refuses ∷ []
+          which (inl e_is) = ap (λ event. event_tokens tx event r) e_is ∙ own_token tx refuses refl
+          which (inr e_is) = ap (λ event. event_tokens tx event r) e_is ∙ own_token tx refuses refl
+
+      one : IsOnly tx key start (e ∷ es) come.now few (joined sent between) transit_now t live early sent between
+      one = only refuses now
+
+      like : IsAs (view_before start es e tx key) (view_now start es e tx key)
+      like = which event_is
+        where
+          which : (event ≡ expires tx) ⊎ (event ≡ ages (Some tx)) → IsAs (view_before start es e tx key) (view_now start es e tx key)
+          which (inl e_is) =
+              view_as start es e tx key (ap (λ event. found tx (key_after event r).cell.pending) e_is) (ap (λ event. made_after event (answered_here start es e tx key) tx) e_is)
+              (ap (λ event. ended_after event (answered_here start es e tx key) tx) e_is)
+          which (inr e_is) =
+              view_as start es e tx key (ap (λ event. found tx (key_after event r).cell.pending) e_is) (ap (λ event. made_after event (answered_here start es e tx key) tx) e_is)
+              (ap (λ event. ended_after event (answered_here start es e tx key) tx) e_is)
+
+      asked_of : (what : RowWork) (at : ℕ) → Tells start key (view_before start es e tx key) t (performs what at) → IsAskedHere start key t
+      asked_of (Operate op) at told = record { op = op; asks = told.1 }
+      asked_of (Store own image) at told = record { op = told.op; asks = told.asks }
+
+      by : (xs : List Request) → waits_of tx r ≡ xs → Tells start key (view_now start es e tx key) t refuses
+      by (q ∷ xs) waits_is =
+          inl (asked_of q.work q.at (subst (Each (λ (q : Request). Tells start key (view_before start es e tx key) t (performs q.work q.at))) waits_is (going.waiting n)).0)
+      by [] waits_is =
+          inr (settles_as start key (view_before start es e tx key) (view_now start es e tx key) t.ops like
+          (going.settled
+          (takes_more (λ (x : Signal). token_of tx key x.to x.body ≡ None) e before between takes
+          (each_map (λ (x : Signal). is_token tx x.body ≡ false) (λ (x : Signal). token_of tx key x.to x.body ≡ None) between (λ x off. uncounted tx key x.to x.body off) one.signals) taken)
+          (λ h. idle h (cases_eq n h))))
+        where
+          idle : (h : ℕ) → (n ≡ h) ⊎ (n ≢ h) → (view_before start es e tx key).waits h ≡ []
+          idle h (inl at) = subst (λ h. (view_before start es e tx key).waits h ≡ []) at waits_is
+          idle h (inr off) = sym (waits_other start es e tx key h off) ∙ one.waits h
