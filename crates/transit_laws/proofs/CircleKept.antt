@@ -130,11 +130,11 @@ module _ (start : Start) (tx : TxId) (key : List ℕ) where
       one is = cc
 
   -- no part is left
-  pub cleared_going : (w : View) (u : Transaction) (xs : List Signal) → (u.phase ≡ Verifying → u.asked ≡ None) → Each (λ (x : Signal). is_token tx x.body ≡ false) xs → ((g : ℕ) → w.waits g ≡ [])
+  pub cleared_going : (w : View) (u : Transaction) (xs : List Signal) → (u.phase ≡ Verifying → u.asked ≡ None) → NoneIn xs → ((g : ℕ) → w.waits g ≡ [])
       → Settles start key w u.ops → IsGoing w u xs
   cleared_going w u xs asked none waits settles = record {
     asked = asked;
-    signals = each_map (λ (x : Signal). is_token tx x.body ≡ false) (SignalTells w u) xs (λ x off. told_none w u (token_of tx key x.to x.body) (uncounted tx key x.to x.body off)) none;
+    signals = each_map (λ (x : Signal). token_of tx key x.to x.body ≡ None) (SignalTells w u) xs (λ x off. told_none w u (token_of tx key x.to x.body) off) none;
     waiting = λ g. subst (Each (λ (q : Request). Tells start key w u (performs q.work q.at))) (sym (waits g)) tt;
     settled = λ nobody idle. settles;
   }

@@ -1,5 +1,6 @@
 pub mod CircleKept
 pub mod CircleView
+pub mod Circles
 pub mod KeyMoves
 pub mod KeySends
 pub mod KeySteps
@@ -10,6 +11,7 @@ pub mod OnlyToken
 pub mod OthersStay
 pub mod Performing
 pub mod TcCircle
+pub mod TcGoing
 pub mod TcSees
 pub mod TcTokenless
 pub mod Transit

@@ -100,6 +100,15 @@ module _ (tx : TxId) (key : List ℕ) where
   none_sent [] all = refl
   none_sent (o ∷ more) all = ap (λ w. put w (tokens_of tx key more)) all.0 ∙ none_sent more all.1
 
+  pub sent_none : (sends : List Outgoing) → tokens_of tx key sends ≡ [] → Each (λ (o : Outgoing). token_of tx key o.to o.body ≡ None) sends
+  sent_none [] none = tt
+  sent_none (o ∷ more) none = by (token_of tx key o.to o.body) refl none (sent_none more)
+    where
+      by : (w : Option Token) → token_of tx key o.to o.body ≡ w → put w (tokens_of tx key more) ≡ [] → (tokens_of tx key more ≡ [] → Each (λ (o : Outgoing). token_of tx key o.to o.body ≡ None) more)
+          → Each (λ (o : Outgoing). token_of tx key o.to o.body ≡ None) (o ∷ more)
+      by None e none later = (e, later none)
+      by (Some t) e none later = absurd cc
+
   -- a token counts as one of the transaction
   both_are : (a b c : Bool) (t u : Token) → (if a && (b && c) then Some t else None) ≡ Some u → b ≡ true
   both_are true true c t u is = refl
