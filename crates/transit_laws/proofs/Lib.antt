@@ -1,6 +1,7 @@
 pub mod CircleKept
 pub mod CircleView
 pub mod Circles
+pub mod HostCases
 pub mod KeyMoves
 pub mod KeySends
 pub mod KeySteps
