@@ -1,5 +1,5 @@
 -- Which block of a host a signal is for, and what the others have of a transaction then.
-use Rattle.std.proofs.Common.{◌≡◌, ◌≤◌, ◌≢◌, ℕ, zero, suc, Bool, true, false, ◌&&◌, List, [], ◌∷◌, refl, sym, ap, ◌∙◌, subst, arith}
+use Rattle.std.proofs.Common.{◌≡◌, ◌⊎◌, ◌≤◌, ◌≢◌, inl, inr, ℕ, zero, suc, Bool, true, false, ◌&&◌, List, [], ◌∷◌, refl, sym, ap, ◌∙◌, subst, arith}
 use Rattle.std.proofs.lemmas.Bool.{and_parts, eqb-true}
 use Rattle.std.specs.Prelude.{if◌then◌else◌, nat_eq, Option, None, Some}
 use Rattle.run_theory.specs.Lists.{Each}
@@ -15,6 +15,8 @@ use Rattle.sig_core.specs.declared.signal.chain.ChainSignal.TheVariants.{LqhKeyR
 use Rattle.sig_core.specs.Same.{same_key, same_tx}
 use Rattle.api_block.specs.Api.{api_row}
 use Rattle.api_block.specs.State.{ApiState}
+use Rattle.row_locks.proofs.TxLemmas.{same_tx-is}
+use Rattle.lqh_block.specs.declared.request.Request.{Request}
 use Rattle.lqh_block.specs.Lqh.{lqh_row}
 use Rattle.lqh_block.specs.State.{LqhState}
 use Rattle.lqh_block.specs.Work.{work_key}
@@ -39,7 +41,7 @@ use Rattle.answer_laws.proofs.Tally.{tally}
 use Rattle.answer_laws.proofs.TcLives.{IsOwn, is_keyed}
 use Rattle.transit_laws.specs.Live.{of_host}
 use Rattle.transit_laws.proofs.Circles.{IsUnborn}
-use Rattle.transit_laws.proofs.KeyTokens.{answers, is_home, is_rows, is_tc, performs, refuses, token_of}
+use Rattle.transit_laws.proofs.KeyTokens.{Token, answers, is_home, is_rows, is_tc, performs, refuses, some_if, token_of}
 use Rattle.transit_laws.proofs.TcTokenless.{is_tokenless}
 
 -- the rows of a node, its coordinator, another block of a node, or the shell's host
@@ -180,3 +182,24 @@ node_facts start tx (suc h) log n is =
 pub shell_zero : (start : Start) (h : ℕ) (log : List LogStep) (a : ApiState) → after start h log ≡ Shell a → h ≡ 0
 shell_zero start zero log a is = refl
 shell_zero start (suc h) log a is = absurd (shell_node a (node_after start h log).state (sym is ∙ (node_after start h log).is))
+
+home_of : (tx v : TxId) (to : Place) (b : Bool) → (is_home v to && (same_tx v tx && b)) ≡ true → to.node ≡ tx.tc
+home_of tx v to b is =
+    let parts = and_parts (is_home v to) (same_tx v tx && b) is in
+    eqb-true to.node v.tc (and_parts (is_tc to.block) (nat_eq to.node v.tc) parts.0).1 ∙ ap (λ (t : TxId). t.tc) (same_tx-is v tx (and_parts (same_tx v tx) b parts.1).0)
+
+-- who takes a part of an operation: the rows of a node, or the coordinator of the transaction
+pub record IsRequest (to : Place) (body : Body) : Type 0 where
+  pub request : Request
+  pub is : body ≡ Chain (LqhKeyReq request.tx request.work request.chain request.at)
+  pub rows : is_rows to.block ≡ true
+
+pub token_place : (tx : TxId) (key : List ℕ) (to : Place) (body : Body) (token : Token) → token_of tx key to body ≡ Some token → IsRequest to body ⊎ (to.node ≡ tx.tc)
+token_place tx key to (Chain (LqhKeyReq v work chain at)) token is =
+    let parts = some_if (is_rows to.block && (same_tx v tx && same_key (work_key work) key)) (performs work at) token is in
+    inl (record { request = record { tx = v; work = work; chain = chain; at = at }; is = refl; rows = (and_parts (is_rows to.block) (same_tx v tx && same_key (work_key work) key) parts.0).0 })
+token_place tx key to (Chain (LqhKeyConf v own answer)) token is =
+    inr (home_of tx v to (same_key own key) (some_if (is_home v to && (same_tx v tx && same_key own key)) (answers answer) token is).0)
+token_place tx key to (Chain (LqhKeyRef v own why)) token is =
+    inr (home_of tx v to (same_key own key) (some_if (is_home v to && (same_tx v tx && same_key own key)) refuses token is).0)
+token_place tx key to _ token is = absurd cc

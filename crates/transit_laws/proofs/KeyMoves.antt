@@ -9,7 +9,7 @@ use Rattle.world_core.specs.Machine.{after, machine}
 use Rattle.world_core.specs.Start.{Start, started}
 use Rattle.commit_laws.specs.PrimaryEvents.{AtPrimary, ended_after, made_after, primary_after}
 use Rattle.commit_laws.specs.Records.{found}
-use Rattle.commit_laws.specs.Replica.{Event, Replica, key_after}
+use Rattle.commit_laws.specs.Replica.{Event, Replica, ages, expires, key_after}
 use Rattle.commit_laws.specs.ReplicaLaws.{event_in, key_in}
 use Rattle.commit_laws.proofs.Replicas.{logs_follow}
 use Rattle.transit_laws.specs.Circle.{at_host, at_primary, primary_along}
@@ -131,3 +131,10 @@ module _ (start : Start) (es : List LogStep) (e : LogStep) (tx : TxId) (key : Li
   others_like off =
       let stays = others_stay tx event_here before_here off in
       view_like stays.found_is stays.waits_are (made_stays tx event_here answered_here off) (ended_stays tx event_here answered_here off)
+
+  -- a wait that ends
+  pub expired_as : (event_here ≡ expires tx) ⊎ (event_here ≡ ages (Some tx)) → IsAs view_before view_now
+  expired_as (inl is) =
+      view_as (ap (λ event. found tx (key_after event before_here).cell.pending) is) (ap (λ event. made_after event answered_here tx) is) (ap (λ event. ended_after event answered_here tx) is)
+  expired_as (inr is) =
+      view_as (ap (λ event. found tx (key_after event before_here).cell.pending) is) (ap (λ event. made_after event answered_here tx) is) (ap (λ event. ended_after event answered_here tx) is)

@@ -36,7 +36,7 @@ use Rattle.transit_laws.specs.Tokens.{OneAtATime, is_token}
 use Rattle.transit_laws.specs.Transit.{AreInTransit, Comes, Takes, joined, logs_of}
 use Rattle.transit_laws.proofs.CircleKept.{IsGoing, SignalTells, queued_going, rests_going, sent_going}
 use Rattle.transit_laws.proofs.CircleView.{IsAs, IsAskedHere, Settles, Tells, settles_as}
-use Rattle.transit_laws.proofs.KeyMoves.{answered_here, before_here, event_here, ended_here, ended_other, host_of, key_here, key_other, made_here, made_other, others_like, view_as, view_before, view_now, waits_other}
+use Rattle.transit_laws.proofs.KeyMoves.{answered_here, before_here, event_here, ended_here, ended_other, expired_as, host_of, key_here, key_other, made_here, made_other, others_like, view_as, view_before, view_now, waits_other}
 use Rattle.transit_laws.proofs.KeyTokens.{Token, asked_tokens, event_tokens, expired_tokens, if_by, performed_token, performs, refuses, served_tokens, token_of, tokens_of, work_token}
 use Rattle.transit_laws.proofs.OnlyToken.{IsOnly, one_sent}
 use Rattle.transit_laws.proofs.OthersStay.{event_of, filter-end, is_of, of_first, waits_of}
@@ -65,7 +65,7 @@ off_tokens tx (ages None) r off = refl
 off_tokens tx (ages (Some v)) r off = ap (λ b. if b then refuses ∷ [] else []) off
 
 -- what is so of those that pass a test is so of the first one that passes another, if it passes this one
-each-first_by : {A : Type 0} (P : A → Type 0) (p other : A → Bool) (xs : List A) (x : A) → Each P (filter p xs) → first other xs ≡ Some x → p x ≡ true → P x
+pub each-first_by : {A : Type 0} (P : A → Type 0) (p other : A → Bool) (xs : List A) (x : A) → Each P (filter p xs) → first other xs ≡ Some x → p x ≡ true → P x
 each-first_by P p other [] x all is passes = absurd cc
 each-first_by {A} P p other (y ∷ xs) x all is passes = by (other y) is (p y) refl all (each-first_by P p other xs x)
   where
@@ -225,15 +225,7 @@ module _ (start : Start) (es : List LogStep) (e : LogStep) (tx : TxId) (key : Li
       one = only refuses now
 
       like : IsAs (view_before start es e tx key) (view_now start es e tx key)
-      like = which event_is
-        where
-          which : (event ≡ expires tx) ⊎ (event ≡ ages (Some tx)) → IsAs (view_before start es e tx key) (view_now start es e tx key)
-          which (inl e_is) =
-              view_as start es e tx key (ap (λ event. found tx (key_after event r).cell.pending) e_is) (ap (λ event. made_after event (answered_here start es e tx key) tx) e_is)
-              (ap (λ event. ended_after event (answered_here start es e tx key) tx) e_is)
-          which (inr e_is) =
-              view_as start es e tx key (ap (λ event. found tx (key_after event r).cell.pending) e_is) (ap (λ event. made_after event (answered_here start es e tx key) tx) e_is)
-              (ap (λ event. ended_after event (answered_here start es e tx key) tx) e_is)
+      like = expired_as start es e tx key event_is
 
       asked_of : (what : RowWork) (at : ℕ) → Tells start key (view_before start es e tx key) t (performs what at) → IsAskedHere start key t
       asked_of (Operate op) at told = record { op = op; asks = told.1 }

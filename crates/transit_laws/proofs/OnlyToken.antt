@@ -122,3 +122,17 @@ module _ (tx : TxId) (key : List ℕ) where
             signals = none_counted (λ (x : Signal). is_token tx x.body) old (omega (arith, bound, one_most (is_some t.asked), all, some));
             waits = none_wait (omega (arith, bound, one_most (is_some t.asked), all, some));
           }
+
+    -- where it isn't live, and wasn't given up, there is none at all
+    pub record NoneAtAll (xs : List Signal) : Type 0 where
+      pub signals : Each (λ (x : Signal). is_token tx x.body ≡ false) xs
+      pub waits : (h : ℕ) → (view_of start (logs_of start es) tx key).waits h ≡ []
+
+    pub none_live : OneAtATime → (xs : List Signal) → AreInTransit start es xs → live_at start (logs_of start es) tx ≡ None → is_given_up start (logs_of start es) tx ≡ false → NoneAtAll xs
+    none_live few xs transit none kept =
+        let zero_is : budget start (logs_of start es) tx ≡ 0 = λ i. budget_by (kept i) (none i) in
+        let bound : tokens_in tx xs + waiting_all start (logs_of start es) tx ≤ 0 = subst (λ n. tokens_in tx xs + waiting_all start (logs_of start es) tx ≤ n) zero_is (few start es xs tx run transit) in
+        record {
+          signals = none_counted (λ (x : Signal). is_token tx x.body) xs (omega (arith, bound));
+          waits = none_wait (omega (arith, bound));
+        }

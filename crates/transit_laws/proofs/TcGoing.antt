@@ -117,7 +117,7 @@ module _ (start : Start) (es : List LogStep) (e : LogStep) (tx : TxId) (key : Li
   taken_is = ap (λ to. token_of tx key to e.taken.body) home
 
   -- no part is sent, and the key is settled where one is taken
-  rest_goes : (t : Transaction) → IsGoing start tx key v t before → tokens_of tx key sends ≡ [] → (token_of tx key e.taken.to e.taken.body ≡ None) ⊎ Settles start key v t.ops → IsGoing start tx key w t (joined sent between)
+  pub rest_goes : (t : Transaction) → IsGoing start tx key v t before → tokens_of tx key sends ≡ [] → (token_of tx key e.taken.to e.taken.body ≡ None) ⊎ Settles start key v t.ops → IsGoing start tx key w t (joined sent between)
   rest_goes t going none taken = rests_going start tx key v w t e before between takes (first_view start.nodes) n e.stamp (sent_count start n (logs_of start es n)) sends going quiet taken none
 
   -- it rests
