@@ -1,4 +1,5 @@
 pub mod CircleKept
+pub mod CircleSteps
 pub mod CircleView
 pub mod Circles
 pub mod HostCases
