@@ -20,6 +20,7 @@ use Rattle.row_locks.proofs.TxLemmas.{same_tx-is}
 use Rattle.lqh_block.proofs.IndexLemmas as index
 use Rattle.lqh_block.specs.declared.request.Request.{Request}
 use Rattle.lqh_block.specs.Lqh.{lqh_row}
+use Rattle.lqh_block.specs.State.{storage_of}
 use Rattle.lqh_block.specs.Work.{work_key}
 use Rattle.node_core.specs.declared.host.Host as host
 use Rattle.node_core.specs.declared.host.Host.TheVariants.{Shell, Node}
@@ -34,7 +35,7 @@ use Rattle.tc_block.specs.Turn.{Turn}
 use Rattle.world_core.specs.Machine.{after, machine, sent_count, signals_of, step_after}
 use Rattle.world_core.specs.Start.{Start, first_view}
 use Rattle.commit_laws.specs.Firsts.{first}
-use Rattle.commit_laws.specs.Replica.{Event, Replica, asks_for, at_key, event_at, is_by, is_let_in, rests}
+use Rattle.commit_laws.specs.Replica.{Event, Replica, ages, asks_for, at_key, event_at, expires, is_by, is_let_in, is_refused, rests}
 use Rattle.commit_laws.specs.ReplicaLaws.{event_in, key_in}
 use Rattle.commit_laws.proofs.Keys.{same_tx-self}
 use Rattle.commit_laws.proofs.Waiting.{each-first_item}
@@ -50,8 +51,8 @@ use Rattle.transit_laws.proofs.HostCases.{HostCase, IsBystander, IsRequest, Node
 use Rattle.transit_laws.proofs.KeyMoves.{IsLike, before_here, event_here, expired_as, host_of, others_like, view_before, view_now}
 use Rattle.transit_laws.proofs.KeySends.{is_abort, lqh_tokens}
 use Rattle.transit_laws.proofs.KeySteps.{asked_going, each-first_by, expired_going, off_going, served_going}
-use Rattle.transit_laws.proofs.KeyTokens.{Token, event_tokens, is_rows, is_tc, token_of, tokens_of}
-use Rattle.transit_laws.proofs.LiveAfter.{live_none, strange_none}
+use Rattle.transit_laws.proofs.KeyTokens.{Token, event_tokens, is_rows, is_tc, performs, token_of, tokens_of}
+use Rattle.transit_laws.proofs.LiveAfter.{live_none, strange_none, unborn_none}
 use Rattle.transit_laws.proofs.LqhCases.{LqhCase, aborted, asked, committed, completed, expired_here, lqh_case, off, served}
 use Rattle.transit_laws.proofs.OnlyToken.{NoneAtAll, none_live}
 use Rattle.transit_laws.proofs.OthersStay.{event_of, is_of, waits_of}
@@ -297,3 +298,126 @@ module _ (start : Start) (few : OneAtATime) (routed : SignalsAreRouted) (nodes :
         by : (n ≡ tx.tc) ⊎ (n ≢ tx.tc) → Now
         by (inl at) = home_circles at
         by (inr apart) = away_circles apart
+
+  -- the rows of a node
+  module _ (m : node.Node) (is : here ≡ Node m) (at_block : e.taken.to.block ≡ block.Lqh) where
+    rows_is : row here e.taken.to e.taken.body ≡ in_node (in_lqh m (lqh_row m.lqh e.taken.body))
+    rows_is = row_rows here m e.taken.to e.taken.body is at_block
+
+    still_live : live_at start (logs_of start (e ∷ es)) tx ≡ live_at start (logs_of start es) tx
+    still_live = live_same (ap (λ (st : Step host.Host). of_host tx st.state) rows_is ∙ sym (ap (of_host tx) is))
+
+    still_unborn : IsUnborn tx (host_after start (e ∷ es) tx.tc) → IsUnborn tx (host_after start es tx.tc)
+    still_unborn = unborn_same (λ unborn. subst (IsUnborn tx) (sym is) (subst (λ (st : Step host.Host). IsUnborn tx st.state) rows_is unborn))
+
+    event_is : event ≡ event_at key m.lqh e.taken.body
+    event_is = event_rows key here m e.taken.to e.taken.body is at_block
+
+    replica_is : r ≡ at_key key m.lqh
+    replica_is = ap (key_in key) is
+
+    for_rows : e.taken.to ≡ rows_of n
+    for_rows = λ i. record { node = n; block = at_block i }
+
+    taken_is : (o : Option Token) → token_of tx key (rows_of n) e.taken.body ≡ o → token_of tx key e.taken.to e.taken.body ≡ o
+    taken_is o token_is = ap (λ to. token_of tx key to e.taken.body) for_rows ∙ token_is
+
+    given_up_not : (id : TxId) (own : List ℕ) → id ≡ tx → e.taken.body ≡ Chain (Abort id own) → ⊥
+    given_up_not id own one body_is =
+        true_false (sym (aborts start es e id own come body_is) ∙ (ap (is_given_up start (logs_of start es)) one ∙ kept))
+
+    no_abort : is_abort tx e.taken.body ≡ false
+    no_abort = by (is_abort tx e.taken.body) refl
+      where
+        by : (b : Bool) → is_abort tx e.taken.body ≡ b → b ≡ false
+        by true abort = let a = abort_of tx e.taken.body abort in absurd (given_up_not a.id a.own a.one a.is)
+        by false abort = refl
+
+    tokens_are : tokens_of tx key sends ≡ event_tokens tx event r
+    tokens_are =
+        ap (λ (st : Step host.Host). tokens_of tx key st.effects.sends) rows_is ∙ lqh_tokens tx key m.lqh e.taken.body no_abort
+        ∙ sym (λ i. event_tokens tx (event_is i) (replica_is i))
+
+    abbrev Case : Type 0
+    Case = LqhCase tx key n m.lqh e.taken.body (event_at key m.lqh e.taken.body)
+
+    off_here : is_of tx (event_of (event_at key m.lqh e.taken.body) (at_key key m.lqh)) ≡ false → is_of tx (event_of event r) ≡ false
+    off_here apart = (λ i. is_of tx (event_of (event_is i) (replica_is i))) ∙ apart
+
+    ends_here : (event_at key m.lqh e.taken.body ≡ expires tx) ⊎ (event_at key m.lqh e.taken.body ≡ ages (Some tx)) → (event ≡ expires tx) ⊎ (event ≡ ages (Some tx))
+    ends_here (inl e_is) = inl (event_is ∙ e_is)
+    ends_here (inr e_is) = inr (event_is ∙ e_is)
+
+    -- the request that is served is one for the key, and routed
+    served_on : (q : Request) → first (is_let_in (at_key key m.lqh).lock) (at_key key m.lqh).waiting ≡ Some q → work_key q.work ≡ key
+    served_on q first_is =
+        index.same (work_key q.work) key
+        (each-first_item (λ (q : Request). asks_for key q ≡ true) (is_let_in (at_key key m.lqh).lock) (at_key key m.lqh).waiting q (each_passes (asks_for key) m.lqh.waiting) first_is)
+
+    served_routed : (q : Request) → first (is_let_in (at_key key m.lqh).lock) (at_key key m.lqh).waiting ≡ Some q → IsRequestRouted start n q
+    served_routed q first_is =
+        let hosted : IsHostRouted start n (Node m) = subst (IsHostRouted start n) is ((routed start es before come.before transit).hosts n) in
+        each-first_item (λ (q : Request). IsRequestRouted start n q) (is_let_in (at_key key m.lqh).lock) (at_key key m.lqh).waiting q
+        (each_filter (λ (q : Request). IsRequestRouted start n q) (asks_for key) m.lqh.waiting hosted.1.0) first_is
+
+    first_here : (q : Request) → first (is_let_in (at_key key m.lqh).lock) (at_key key m.lqh).waiting ≡ Some q → first (is_let_in r.lock) r.waiting ≡ Some q
+    first_here q first_is = ap (λ (r : Replica). first (is_let_in r.lock) r.waiting) replica_is ∙ first_is
+
+    rows_going : (t : Transaction) → live_at start (logs_of start (e ∷ es)) tx ≡ Some t → is_early t.phase ≡ true → IsGoing start tx key v t before → Case → IsGoing start tx key w t (joined sent between)
+    rows_going t live early going (off apart taken) =
+        off_going start es e tx key come few before between transit takes t live early (off_here apart) (taken_is None taken) tokens_are going
+    rows_going t live early going (asked q body_is q_is own at taken) =
+        asked_going start es e tx key come few before between transit takes t live early q (is_refused (storage_of m.lqh) q) (event_is ∙ at) q_is own (routed_request q body_is) (ap is_request body_is)
+        (taken_is (Some (performs q.work q.at)) taken) tokens_are going
+    rows_going t live early going (served q refused at first_is q_is taken) =
+        served_going start es e tx key come few before between transit takes t live early q refused (event_is ∙ at) (first_here q first_is) q_is (served_on q first_is) (served_routed q first_is) tokens_are going
+    rows_going t live early going (expired_here at taken) =
+        expired_going start es e tx key come few before between transit takes t live early (ends_here at) (taken_is None taken) tokens_are going
+    rows_going t live early going (aborted id own one body_is) = absurd (given_up_not id own one body_is)
+    rows_going t live early going (committed id own epoch chain at one body_is) =
+        absurd (true_false (sym (commits start es e id own epoch chain at come body_is) ∙ (ap (is_carried_out start (logs_of start es)) one ∙ undone)))
+    rows_going t live early going (completed id own chain at one body_is) =
+        absurd (true_false (sym (completions start es e id own chain at come body_is) ∙ (ap (is_carried_out start (logs_of start es)) one ∙ undone)))
+
+    -- before it begins no part of an operation is about
+    absent : IsUnborn tx (host_after start es tx.tc) → live_at start (logs_of start es) tx ≡ None
+    absent unborn = by (host_after start es tx.tc) refl unborn
+      where
+        by : (s : host.Host) → host_after start es tx.tc ≡ s → IsUnborn tx s → of_host tx (host_after start es tx.tc) ≡ None
+        by (Shell a) host_is early = absurd early
+        by (Node k) host_is early =
+            let known = node_facts start tx tx.tc (logs_of start es tx.tc) k host_is in
+            ap (of_host tx) host_is ∙ live_none tx k.tc.live (unborn_none tx k.tc.node k.tc.next_seq k.tc.live known.own early)
+
+    zero : IsUnborn tx (host_after start es tx.tc) → NoneAtAll tx key start es come.before before
+    zero unborn = none_live tx key start es come.before few before transit (absent unborn) kept
+
+    rows_pristine : IsUnborn tx (host_after start es tx.tc) → Case → IsPristine w
+    rows_pristine unborn (off apart taken) = pristine_as v w (others_like start es e tx key (off_here apart)).likewise (circling.pristine unborn)
+    rows_pristine unborn (asked q body_is q_is own at taken) =
+        absurd (true_false (sym (counts tx key (rows_of n) e.taken.body (performs q.work q.at) taken)
+        ∙ takes_it (λ (x : Signal). is_token tx x.body ≡ false) e before between takes (ap is_request body_is) (zero unborn).signals))
+    rows_pristine unborn (served q refused at first_is q_is taken) =
+        absurd (each-first_by (λ (q : Request). ⊥) (is_by tx) (is_let_in r.lock) r.waiting q (subst (Each (λ (q : Request). ⊥)) (sym ((zero unborn).waits n)) tt) (first_here q first_is)
+        (ap (λ t. same_tx t tx) q_is ∙ same_tx-self tx))
+    rows_pristine unborn (expired_here at taken) = pristine_as v w (expired_as start es e tx key (ends_here at)) (circling.pristine unborn)
+    rows_pristine unborn (aborted id own one body_is) = absurd (given_up_not id own one body_is)
+    rows_pristine unborn (committed id own epoch chain at one body_is) =
+        absurd (true_false (sym (commits start es e id own epoch chain at come body_is) ∙ (ap (is_carried_out start (logs_of start es)) one ∙ undone)))
+    rows_pristine unborn (completed id own chain at one body_is) =
+        absurd (true_false (sym (completions start es e id own chain at come body_is) ∙ (ap (is_carried_out start (logs_of start es)) one ∙ undone)))
+
+    rows_circles : Now
+    rows_circles = record {
+      pristine = λ unborn. rows_pristine (still_unborn unborn) (lqh_case tx key n m.lqh e.taken.body);
+      going = λ t live early. rows_going t live early (going_now t still_live live early) (lqh_case tx key n m.lqh e.taken.body);
+    }
+
+  pub step_circles : Now
+  step_circles = by (host_case here e.taken.to)
+    where
+      by : HostCase here e.taken.to → Now
+      by (at_rows m is at_block) = rows_circles m is at_block
+      by (at_tc m is at_block) = tc_circles m is at_block
+      by (at_other m is apart away) = other_circles m is apart away
+      by (at_shell a is) = shell_circles a is
