@@ -18,4 +18,5 @@ pub mod TcSees
 pub mod TcTokenless
 pub mod Transit
 pub mod TransitLists
+pub mod VerifiedSettled
 pub mod ViewOf
