@@ -1,1 +1,2 @@
 pub mod Transit
+pub mod Weighing
