@@ -1,1 +1,3 @@
+pub mod EachLive
 pub mod Transit
+pub mod Weighing
