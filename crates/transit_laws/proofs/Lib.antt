@@ -1,3 +1,4 @@
+pub mod DecidedSettled
 pub mod EachLive
+pub mod Owing
 pub mod Transit
-pub mod Weighing
