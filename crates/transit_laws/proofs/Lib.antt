@@ -1,3 +1,4 @@
 pub mod EachLive
 pub mod Transit
+pub mod TransitRuns
 pub mod Weighing

@@ -19,7 +19,7 @@ weigh f [] = 0
 weigh f (x ∷ xs) = f x + weigh f xs
 
 pub weigh_append : {A : Type 0} (f : A → ℕ) (xs ys : List A) → weigh f (xs ++ ys) ≡ weigh f xs + weigh f ys
-weigh_append f [] ys = refl
+weigh_append f [] ys = omega arith
 weigh_append f (x ∷ xs) ys = omega (arith, weigh_append f xs ys)
 
 pub weigh_less : {A : Type 0} (f g : A → ℕ) (xs : List A) → ((x : A) → f x ≤ g x) → weigh f xs ≤ weigh g xs
@@ -46,7 +46,7 @@ headed_weigh w view h stamp count [] = refl
 headed_weigh w view h stamp count (o ∷ os) = ap (λ m. w o.to o.body + m) (headed_weigh w view h stamp (counted o.to.node count) os)
 
 joined_weigh : (w : Place → Body → ℕ) (xs ys : List Signal) → in_transit w (joined xs ys) ≡ in_transit w xs + in_transit w ys
-joined_weigh w [] ys = refl
+joined_weigh w [] ys = omega arith
 joined_weigh w (x ∷ xs) ys = omega (arith, joined_weigh w xs (x ∷ ys))
 
 -- what is in transit behind a step
