@@ -1,4 +1,6 @@
 pub mod EachLive
 pub mod Transit
 pub mod TransitRuns
+pub mod WaysMarked
+pub mod WaysPassed
 pub mod Weighing
