@@ -1,6 +1,7 @@
 pub mod EachLive
 pub mod Transit
 pub mod TransitRuns
+pub mod Ways
 pub mod WaysMarked
 pub mod WaysPassed
 pub mod Weighing
