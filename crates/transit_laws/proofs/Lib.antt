@@ -1,4 +1,5 @@
 pub mod EachLive
+pub mod GivenUp
 pub mod Transit
 pub mod TransitRuns
 pub mod Ways
