@@ -1,4 +1,10 @@
 pub mod DecidedSettled
 pub mod EachLive
+pub mod GivenUp
 pub mod Owing
 pub mod Transit
+pub mod TransitRuns
+pub mod Ways
+pub mod WaysMarked
+pub mod WaysPassed
+pub mod Weighing
