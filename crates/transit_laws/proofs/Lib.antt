@@ -1,2 +1,4 @@
 pub mod EachLive
+pub mod RoutesChain
+pub mod RoutesSends
 pub mod Transit
