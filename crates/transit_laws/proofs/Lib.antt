@@ -1,4 +1,5 @@
 pub mod EachLive
 pub mod RoutesChain
 pub mod RoutesSends
+pub mod RoutesTc
 pub mod Transit
