@@ -1,5 +1,6 @@
 pub mod EachLive
 pub mod RoutesChain
+pub mod RoutesLqh
 pub mod RoutesSends
 pub mod RoutesTc
 pub mod Transit
