@@ -1,4 +1,6 @@
 pub mod EachLive
+pub mod InTransit
+pub mod Routes
 pub mod RoutesChain
 pub mod RoutesLqh
 pub mod RoutesSends
