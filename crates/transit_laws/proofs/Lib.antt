@@ -1,5 +1,6 @@
 pub mod EachLive
 pub mod InTransit
+pub mod RoutedEvents
 pub mod Routes
 pub mod RoutesChain
 pub mod RoutesLqh
