@@ -1,4 +1,5 @@
 pub mod EachLive
+pub mod EachTurn
 pub mod InTransit
 pub mod RoutedEvents
 pub mod Routes

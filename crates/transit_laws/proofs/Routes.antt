@@ -32,29 +32,15 @@ use Rattle.answer_laws.proofs.DihSends.{dih_kinds}
 use Rattle.answer_laws.proofs.SendKinds.{are_of, each_of, is_dih_kind}
 use Rattle.transit_laws.specs.Routes.{AreRouted, IsForBlock, IsHostRouted, IsRouted, IsTransactionRouted, SignalsAreForBlocks, SignalsAreRouted, replicas}
 use Rattle.transit_laws.specs.Transit.{AreInTransit, Comes, IsRun, Takes, host_after, joined, logs_of}
+use Rattle.transit_laws.proofs.EachTurn.{is_chain}
 use Rattle.transit_laws.proofs.InTransit.{each_headed, each_host, each_joined, took}
 use Rattle.transit_laws.proofs.RoutesChain.{replicas_length}
 use Rattle.transit_laws.proofs.RoutesLqh.{lqh_routed}
-use Rattle.transit_laws.proofs.RoutesSends.{AreSent, IsSent}
+use Rattle.transit_laws.proofs.RoutesSends.{AreSent, IsSent, plain_block, plain_routed, plain_sent}
 use Rattle.transit_laws.proofs.RoutesTc.{tc_routed}
 use Rattle.transit_laws.proofs.Transit.{along_transit}
 
-abbrev is_chain : Body → Bool
-is_chain (Chain c) = true
-is_chain body = false
-
 module _ (start : Start) where
-  plain_routed : (node : ℕ) (body : Body) → is_chain body ≡ false → IsRouted start node body
-  plain_routed node (Chain c) e = absurd (true≢false e)
-  plain_routed node _ e = tt
-
-  plain_block : (to : Place) (body : Body) → is_chain body ≡ false → IsForBlock to body
-  plain_block to (Chain c) e = absurd (true≢false e)
-  plain_block to _ e = tt
-
-  plain_sent : (o : Outgoing) → is_chain o.body ≡ false → IsSent start o
-  plain_sent o e = record { routed = plain_routed o.to.node o.body e; block = plain_block o.to o.body e }
-
   api_plain : (body : Body) → is_api_kind body ≡ true → is_chain body ≡ false
   api_plain (Chain c) e = cc
   api_plain _ e = refl
@@ -68,7 +54,7 @@ module _ (start : Start) where
   request_plain _ e = refl
 
   api_kinds_sent : (sends : List Outgoing) → are_of is_api_kind sends ≡ true → AreSent start sends
-  api_kinds_sent sends e = each_of is_api_kind (λ o. IsSent start o) (λ o is. plain_sent o (api_plain o.body is)) sends e
+  api_kinds_sent sends e = each_of is_api_kind (λ o. IsSent start o) (λ o is. plain_sent start o (api_plain o.body is)) sends e
 
   move_sent : (s : ApiState) (body : Body) (then_is : View × List OpenTransaction) (sends : List Outgoing) → ApiMove s body then_is sends → AreSent start sends
   move_sent s body then_is sends (rests is kind void) = api_kinds_sent sends kind
@@ -82,7 +68,7 @@ module _ (start : Start) where
   api_sent s body = move_sent s body _ _ (api_moves s body)
 
   dih_sent : (s : DihState) (body : Body) → AreSent start (dih_row s body).effects.sends
-  dih_sent s body = each_of is_dih_kind (λ o. IsSent start o) (λ o is. plain_sent o (dih_plain o.body is)) (dih_row s body).effects.sends (dih_kinds s body)
+  dih_sent s body = each_of is_dih_kind (λ o. IsSent start o) (λ o is. plain_sent start o (dih_plain o.body is)) (dih_row s body).effects.sends (dih_kinds s body)
 
   -- a step of a host
   record HostRoutes (h : ℕ) (step : Step host.Host) : Type 0 where
@@ -127,7 +113,7 @@ module _ (start : Start) where
     pub hosts : (h : ℕ) → IsHostRouted start h (host_after start es h)
 
   pub request_routed : (x : Signal) → is_request x.body ≡ true → IsOnWay x
-  request_routed x e = record { routed = plain_routed x.to.node x.body (request_plain x.body e); block = plain_block x.to x.body (request_plain x.body e) }
+  request_routed x e = record { routed = plain_routed start x.to.node x.body (request_plain x.body e); block = plain_block start x.to x.body (request_plain x.body e) }
 
   pub places_some : (es : List LogStep) → IsRun start es → (key : List ℕ) → 0 < length (replicas start key)
   places_some es run key = omega (arith, run.some, replicas_length start key)

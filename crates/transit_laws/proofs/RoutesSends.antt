@@ -2,11 +2,15 @@
 use Rattle.std.proofs.Common.{◌≡◌, ◌⊎◌, ◌<◌, ℕ, zero, suc, ◌+◌, Bool, true, false, List, [], ◌∷◌, ◌++◌, take, drop, length, refl, sym, ap, ◌∙◌, subst, arith, inl, inr}
 use Rattle.std.specs.List.{flat_map}
 use Rattle.std.specs.Prelude.{if◌then◌else◌, nat_lt, Option, None, Some}
+use Rattle.std.proofs.lemmas.Bool.{true≢false}
 use Rattle.run_theory.specs.Lists.{Each}
 use Rattle.run_theory.proofs.Pasts.{each_append}
 use Rattle.sig_core.specs.declared.member.Member.{Member}
 use Rattle.sig_core.specs.declared.member.TxId.{TxId}
 use Rattle.sig_core.specs.declared.outs.Outgoing.{Outgoing}
+use Rattle.sig_core.specs.declared.place.Place.{Place}
+use Rattle.sig_core.specs.declared.signal.Body.{Body}
+use Rattle.sig_core.specs.declared.signal.Body.TheVariants.{Chain}
 use Rattle.sig_core.specs.declared.view.View.{View}
 use Rattle.sig_core.specs.Chain.{node_at, primary_of}
 use Rattle.tc_block.specs.declared.phase.Phase.{Phase}
@@ -16,8 +20,9 @@ use Rattle.tc_block.specs.Chain.{chain_of}
 use Rattle.tc_block.specs.Part.{part_effects, rest_if}
 use Rattle.tc_block.specs.Sends.{abort_of, aborts_of, commit_of, complete_if, complete_of, front_sends, key_sends, phase_sends, wait_of, waits_of}
 use Rattle.world_core.specs.Start.{Start}
-use Rattle.commit_laws.proofs.EachSent.{each_drop, each_mapped, each_take}
+use Rattle.commit_laws.proofs.EachSent.{each_mapped}
 use Rattle.transit_laws.specs.Routes.{IsForBlock, IsRouted, IsTouchedRouted, replicas}
+use Rattle.transit_laws.proofs.EachTurn.{is_chain}
 use Rattle.transit_laws.proofs.RoutesChain.{last_inside, primary_length}
 
 -- a signal is routed, and for its block
@@ -32,6 +37,19 @@ AreSent start sends = Each (λ (o : Outgoing). IsSent start o) sends
 pub each_flat_of : {A B : Type 0} (R : A → Type 0) (P : B → Type 0) (f : A → List B) (xs : List A) → ((x : A) → R x → Each P (f x)) → Each R xs → Each P (flat_map f xs)
 each_flat_of R P f [] holds all = tt
 each_flat_of R P f (x ∷ xs) holds all = each_append P (f x) (flat_map f xs) (holds x all.0) (each_flat_of R P f xs holds all.1)
+
+-- a signal about no row
+module _ (start : Start) where
+  pub plain_routed : (node : ℕ) (body : Body) → is_chain body ≡ false → IsRouted start node body
+  plain_routed node (Chain c) e = absurd (true≢false e)
+  plain_routed node _ e = tt
+
+  pub plain_block : (to : Place) (body : Body) → is_chain body ≡ false → IsForBlock to body
+  plain_block to (Chain c) e = absurd (true≢false e)
+  plain_block to _ e = tt
+
+  pub plain_sent : (o : Outgoing) → is_chain o.body ≡ false → IsSent start o
+  plain_sent o e = record { routed = plain_routed o.to.node o.body e; block = plain_block o.to o.body e }
 
 module _ (start : Start) (some : (key : List ℕ) → 0 < length (replicas start key)) (tx : TxId) where
   -- where a commit goes
@@ -65,9 +83,6 @@ module _ (start : Start) (some : (key : List ℕ) → 0 < length (replicas start
   pub aborts_sent : (key : List ℕ) (chain : List Member) → AreSent start (aborts_of tx key chain)
   aborts_sent key chain = each_mapped (λ (o : Outgoing). IsSent start o) (abort_of tx key) chain (λ r. record { routed = tt; block = refl })
 
-  pub waits_sent : (key : List ℕ) (chain : List Member) → AreSent start (waits_of tx key chain)
-  waits_sent key chain = each_mapped (λ (o : Outgoing). IsSent start o) (wait_of tx key) chain (λ r. record { routed = tt; block = tt })
-
   key_sent : (view : View) (phase : Phase) (t : Touched) → IsTouchedRouted start t → AreSent start (key_sends view tx phase t)
   unfolding key_sends
   key_sent view Open t is = tt
@@ -89,14 +104,3 @@ module _ (start : Start) (some : (key : List ℕ) → 0 < length (replicas start
   phase_sent view phase touched all =
       each_append (λ (o : Outgoing). IsSent start o) (front_sends tx phase) (flat_map (key_sends view tx phase) touched) (front_sent phase)
       (each_flat_of (IsTouchedRouted start) (λ (o : Outgoing). IsSent start o) (key_sends view tx phase) touched (λ t is. key_sent view phase t is) all)
-
-  rest_sent : (node at : ℕ) (b : Bool) → AreSent start (rest_if node tx at b)
-  rest_sent node at true = (record { routed = tt; block = tt }, tt)
-  rest_sent node at false = tt
-
-  pub part_sent : (node : ℕ) (sends : List Outgoing) (at : ℕ) → AreSent start sends → AreSent start (part_effects node tx sends at).sends
-  unfolding part_effects
-  part_sent node sends at all =
-      each_append (λ (o : Outgoing). IsSent start o) (take 8 (drop at sends)) (rest_if node tx at (nat_lt (at + 8) (length sends)))
-      (each_take (λ (o : Outgoing). IsSent start o) 8 (drop at sends) (each_drop (λ (o : Outgoing). IsSent start o) at sends all))
-      (rest_sent node at (nat_lt (at + 8) (length sends)))
