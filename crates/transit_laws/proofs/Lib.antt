@@ -1,10 +1,12 @@
 pub mod EachLive
 pub mod EachTurn
 pub mod InTransit
+pub mod Keyed
 pub mod RoutedEvents
 pub mod Routes
 pub mod RoutesChain
 pub mod RoutesLqh
 pub mod RoutesSends
 pub mod RoutesTc
+pub mod TouchedLists
 pub mod Transit
