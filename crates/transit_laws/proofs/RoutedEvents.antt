@@ -1,9 +1,7 @@
 -- What comes to a host is for it: operations to the primary, images to the others, and commits to the primary last.
-use Rattle.std.proofs.Common.{◌≡◌, ◌≢◌, ◌⊎◌, ◌==◌, ◌+◌, ◌<◌, ℕ, Bool, true, false, List, ◌∷◌, length, refl, sym, ap, ◌∙◌, subst, arith, inl, inr, eq-eqb, ne_eqb}
+use Rattle.std.proofs.Common.{◌≡◌, ◌≢◌, ◌⊎◌, ◌==◌, ◌+◌, ◌<◌, ℕ, List, ◌∷◌, length, sym, ap, ◌∙◌, subst, arith, inl, inr, eq-eqb, ne_eqb}
 use Rattle.std.proofs.lemmas.Bool.{cases_eq}
-use Rattle.sig_core.specs.declared.log.LogStep.{LogStep}
 use Rattle.sig_core.specs.declared.member.Member.{Member}
-use Rattle.sig_core.specs.declared.member.TxId.{TxId}
 use Rattle.sig_core.specs.declared.signal.chain.RowWork.{RowWork}
 use Rattle.sig_core.specs.declared.signal.chain.RowWork.TheVariants.{Operate, Store}
 use Rattle.sig_core.specs.Chain.{node_at, primary_of}
@@ -12,7 +10,7 @@ use Rattle.world_core.specs.Start.{Start}
 use Rattle.commit_laws.specs.BackupEvents.{IsOfImage}
 use Rattle.commit_laws.specs.PrimaryEvents.{IsOfOperation}
 use Rattle.transit_laws.specs.Routes.{ComingAreRouted, CommitsEndAtPrimary, IsCommitRouted, IsRequestRouted, IsRouted, IsSentTo, IsWorkAt, RequestsAreForReplicas, primary, replicas}
-use Rattle.transit_laws.specs.Transit.{Comes, RunsHaveTransit}
+use Rattle.transit_laws.specs.Transit.{RunsHaveTransit}
 use Rattle.transit_laws.proofs.InTransit.{took}
 use Rattle.transit_laws.proofs.Routes.{IsOnWay, all_routed, places_some, request_routed}
 use Rattle.transit_laws.proofs.RoutesChain.{primary_first, primary_length, replica_at}

@@ -1,10 +1,8 @@
 -- What is sent along chains goes to the places that it is for, along every run.
-use Rattle.std.proofs.Common.{◌≡◌, ◌<◌, ℕ, zero, suc, Bool, true, false, List, [], ◌∷◌, length, refl, sym, ◌∙◌, subst, arith}
-use Rattle.std.proofs.lemmas.Bool.{true≢false}
+use Rattle.std.proofs.Common.{◌≡◌, ◌<◌, ℕ, zero, suc, true, false, List, ◌∷◌, length, refl, sym, ◌∙◌, subst, arith}
 use Rattle.run_theory.specs.Lists.{Each}
 use Rattle.run_theory.proofs.Pasts.{each_map}
 use Rattle.sig_core.specs.declared.log.LogStep.{LogStep}
-use Rattle.sig_core.specs.declared.member.TxId.{TxId}
 use Rattle.sig_core.specs.declared.outs.Outgoing.{Outgoing}
 use Rattle.sig_core.specs.declared.place.BlockId.{BlockId}
 use Rattle.sig_core.specs.declared.place.BlockId.TheVariants as block
@@ -17,7 +15,6 @@ use Rattle.sig_core.specs.Step.{Step}
 use Rattle.api_block.specs.Api.{api_row}
 use Rattle.api_block.specs.declared.opened.OpenTransaction.{OpenTransaction}
 use Rattle.api_block.specs.State.{ApiState}
-use Rattle.tc_block.specs.declared.transaction.Transaction.{Transaction}
 use Rattle.node_core.specs.declared.host.Host as host
 use Rattle.node_core.specs.declared.host.Host.TheVariants.{Shell, Node}
 use Rattle.node_core.specs.declared.node.Node as node
@@ -30,7 +27,7 @@ use Rattle.world_core.specs.Start.{Start, first_view, started}
 use Rattle.answer_laws.proofs.ApiMoves.{ApiMove, api_moves, begun_as, ends, goes, is_api_kind, opens, refuses, rests}
 use Rattle.answer_laws.proofs.DihSends.{dih_kinds}
 use Rattle.answer_laws.proofs.SendKinds.{are_of, each_of, is_dih_kind}
-use Rattle.transit_laws.specs.Routes.{AreRouted, IsForBlock, IsHostRouted, IsRouted, IsTransactionRouted, SignalsAreForBlocks, SignalsAreRouted, replicas}
+use Rattle.transit_laws.specs.Routes.{IsForBlock, IsHostRouted, IsRouted, SignalsAreForBlocks, SignalsAreRouted, replicas}
 use Rattle.transit_laws.specs.Transit.{AreInTransit, Comes, IsRun, Takes, host_after, joined, logs_of}
 use Rattle.transit_laws.proofs.EachTurn.{is_chain}
 use Rattle.transit_laws.proofs.InTransit.{each_headed, each_host, each_joined, took}

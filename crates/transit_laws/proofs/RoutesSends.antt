@@ -1,7 +1,7 @@
 -- What a coordinator sends along chains goes to the places that it is for.
-use Rattle.std.proofs.Common.{◌≡◌, ◌⊎◌, ◌<◌, ℕ, zero, suc, ◌+◌, Bool, true, false, List, [], ◌∷◌, ◌++◌, take, drop, length, refl, sym, ap, ◌∙◌, subst, arith, inl, inr}
+use Rattle.std.proofs.Common.{◌≡◌, ◌⊎◌, ◌<◌, ℕ, Bool, true, false, List, [], ◌∷◌, length, refl, ap, arith, inl, inr}
 use Rattle.std.specs.List.{flat_map}
-use Rattle.std.specs.Prelude.{if◌then◌else◌, nat_lt, Option, None, Some}
+use Rattle.std.specs.Prelude.{if◌then◌else◌}
 use Rattle.std.proofs.lemmas.Bool.{true≢false}
 use Rattle.run_theory.specs.Lists.{Each}
 use Rattle.run_theory.proofs.Pasts.{each_append}
@@ -12,13 +12,12 @@ use Rattle.sig_core.specs.declared.place.Place.{Place}
 use Rattle.sig_core.specs.declared.signal.Body.{Body}
 use Rattle.sig_core.specs.declared.signal.Body.TheVariants.{Chain}
 use Rattle.sig_core.specs.declared.view.View.{View}
-use Rattle.sig_core.specs.Chain.{node_at, primary_of}
+use Rattle.sig_core.specs.Chain.{primary_of}
 use Rattle.tc_block.specs.declared.phase.Phase.{Phase}
 use Rattle.tc_block.specs.declared.phase.Phase.TheVariants.{Open, Verifying, Committing, Completing, Aborting}
 use Rattle.tc_block.specs.declared.touched.Touched.{Touched}
 use Rattle.tc_block.specs.Chain.{chain_of}
-use Rattle.tc_block.specs.Part.{part_effects, rest_if}
-use Rattle.tc_block.specs.Sends.{abort_of, aborts_of, commit_of, complete_if, complete_of, front_sends, key_sends, phase_sends, wait_of, waits_of}
+use Rattle.tc_block.specs.Sends.{abort_of, aborts_of, commit_of, complete_if, complete_of, front_sends, key_sends, phase_sends}
 use Rattle.world_core.specs.Start.{Start}
 use Rattle.commit_laws.proofs.EachSent.{each_mapped}
 use Rattle.transit_laws.specs.Routes.{IsForBlock, IsRouted, IsTouchedRouted, replicas}

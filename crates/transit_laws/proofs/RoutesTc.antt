@@ -1,18 +1,14 @@
 -- A coordinator whose transactions are routed sends only what is routed, and they stay so.
-use Rattle.std.proofs.Common.{◌≡◌, ◌<◌, ℕ, zero, suc, List, [], ◌∷◌, length, refl, sym, ap, ◌∙◌, subst}
+use Rattle.std.proofs.Common.{◌≡◌, ◌<◌, ℕ, zero, suc, List, [], ◌∷◌, length, refl, sym, subst}
 use Rattle.std.specs.Prelude.{Option, None, Some, slice_set}
 use Rattle.run_theory.specs.Lists.{Each}
 use Rattle.run_theory.proofs.Pasts.{each_append}
 use Rattle.sig_core.specs.declared.member.Member.{Member}
-use Rattle.sig_core.specs.declared.member.TxId.{TxId}
 use Rattle.sig_core.specs.declared.op.Answer.{Answer}
 use Rattle.sig_core.specs.declared.op.Answer.TheVariants as answer
 use Rattle.sig_core.specs.declared.op.Op.{Op}
-use Rattle.sig_core.specs.declared.outs.Outgoing.{Outgoing}
 use Rattle.sig_core.specs.declared.signal.Body.{Body}
-use Rattle.sig_core.specs.declared.view.View.{View}
 use Rattle.sig_core.specs.Op.{key_of}
-use Rattle.tc_block.specs.declared.phase.Asked.{Asked}
 use Rattle.tc_block.specs.declared.touched.Touched.{Touched}
 use Rattle.tc_block.specs.declared.transaction.Transaction.{Transaction}
 use Rattle.tc_block.specs.Chain.{chain_of}

@@ -1,0 +1,25 @@
+//! Where signals along chains go, and what a transaction has of its keys.
+ghost use Rattle.transit_laws.specs.Keyed.{TransactionsAreKeyed};
+ghost use Rattle.transit_laws.specs.Routes.{ReplicasAreApart, ReplicasAreNodes, SignalsAreForBlocks, SignalsAreRouted};
+
+/// The replicas of a key are nodes, each of them once.
+pub fn replicas_are_nodes()
+    ensures apart { ReplicasAreApart }
+    ensures nodes { ReplicasAreNodes }
+{}
+
+/// What is in transit along the replicas of a key is sent to the node of its place: an operation to
+/// the first place, an image to a later one; and a commit or a completion to a place of them, or a
+/// commit to the primary alone. So is what waits at a node. All that asks a replica for something is
+/// for the rows of its node, and what answers that for the coordinator of the transaction.
+pub fn signals_are_routed()
+    ensures routed { SignalsAreRouted }
+    ensures blocks { SignalsAreForBlocks }
+{}
+
+/// Of each transaction of a coordinator no two of the keys that it has touched are the same, each of
+/// its operations is on one of them, and a key counts as written just where an operation on it was
+/// answered by `Done`.
+pub fn transactions_are_keyed()
+    ensures { TransactionsAreKeyed }
+{}
