@@ -205,7 +205,7 @@ module _ (start : Start) (h : ℕ) where
         sends = (
           record { routed = tt; block = refl },
           each_append (λ (o : Outgoing). IsSent start o) (serve_granted s.node (served w)) (expire.more_expired (with_lock s w.1 (served w)))
-          (goes_on s.node work.Granted (nat_lt 0 (served w).granted)) (goes_on s.node work.Expired (is_some (expired (with_lock s w.1 (served w)).locks))),
+              (goes_on s.node work.Granted (nat_lt 0 (served w).granted)) (goes_on s.node work.Expired (is_some (expired (with_lock s w.1 (served w)).locks))),
         );
       }
 

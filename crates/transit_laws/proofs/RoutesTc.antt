@@ -45,7 +45,6 @@ module _ (start : Start) (some : (key : List ℕ) → 0 < length (replicas start
   answered_routed t fine answer.E626 op chain is = fine.touched
   answered_routed t fine answer.E630 op chain is = fine.touched
 
-
   turns_routed : TurnsKeep (λ t. IsTransactionRouted start t) (λ o. IsSent start o) (first_view start.nodes)
   turns_routed = record {
     begun = record { touched = tt; asked = tt };

@@ -66,7 +66,6 @@ none_done key (o ∷ ops) none = by (same_key (key_of o.0) key) none.0 (none_don
     by true is rest = cc
     by false is rest = rest
 
-
 none_on : (key : List ℕ) (touched : List Touched) → list_any (is_on key) touched ≡ false → Each (λ (u : Touched). same_key u.key key ≡ false) touched
 none_on key [] none = tt
 none_on key (t ∷ touched) none = by (same_key t.key key) refl none (none_on key touched)
