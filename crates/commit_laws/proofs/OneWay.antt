@@ -1,4 +1,4 @@
--- No coordinator sends a commit and an abort of one transaction.
+-- No coordinator takes one transaction both forth and back.
 use Rattle.std.proofs.Common.{◌≡◌, ◌<◌, ℕ, zero, suc, ◌+◌, Bool, true, false, ◌&&◌, List, [], ◌∷◌, ◌++◌, refl, sym, ap, ◌∙◌, subst, arith}
 use Rattle.std.specs.Map.{values_of}
 use Rattle.std.specs.Prelude.{Option, None, Some, is_some, slice_get, nat_eq}
@@ -45,7 +45,7 @@ use Rattle.commit_laws.proofs.LiveSplit.{KeysOnce, Live, Split, each_inserted, o
 use Rattle.commit_laws.proofs.TcNumbers.{NotIn}
 use Rattle.commit_laws.proofs.TcWays.{AllWays, TurnWays, WayOf, Ways, aborted_ways, aborting_apart, answer_ways, commit_ways, committed_ways, completed_ways, decide_ways, decided_apart, go_on_ways, not_both, operate_ways, refuse_ways, rollback_ways, wait_ways}
 
--- one of the coordinator's transactions, where rows were committed for these, and aborted for those
+-- one of the coordinator's transactions, where these went forth, and those back
 record IsLive (next : ℕ) (cs bs : List TxId) (e : TxId × Transaction) : Type 0 where
   below : e.0.seq < next
   uncommitted : is_decided e.1.phase ≡ false → NotIn e.0 cs
@@ -61,7 +61,7 @@ record IsOneWay (s : TcState) (cs bs : List TxId) : Type 0 where
 abbrev StaysOneWay : List TxId → List TxId → Step TcState → Type 0
 StaysOneWay cs bs step = IsOneWay step.state (put_ways forth_by step.effects.sends cs) (put_ways back_by step.effects.sends bs)
 
--- what holds of each committed before, and of the transaction if it is in such a phase, holds of each then
+-- what holds of each that went forth before, and of the transaction if it is in such a phase, holds of each then
 each_forth : (P : TxId → Type 0) (tx : TxId) (phase : Phase) (sends : List Outgoing) (cs : List TxId) → AllWays tx phase sends → (is_decided phase ≡ true → P tx) → Each P cs → Each P (put_ways forth_by sends cs)
 each_forth P tx phase [] cs all own before = before
 each_forth P tx phase (o ∷ more) cs all own before = each_forth P tx phase more (forth_by (way_of o.body) cs) all.1 own (by (way_of o.body) all.0)
@@ -98,7 +98,7 @@ module _ (s : TcState) (cs bs : List TxId) (n : IsOneWay s cs bs) where
     abbrev bs_now : List TxId
     bs_now = put_ways back_by sends bs
 
-    -- who comes to commit has nothing aborted, and the other way round
+    -- who goes forth didn't go back, and the other way round
     none_back : is_decided after_phase ≡ true → NotIn tx bs
     none_back is = by (is_aborting t.phase) refl
       where
@@ -193,19 +193,27 @@ module _ (s : TcState) (cs bs : List TxId) (n : IsOneWay s cs bs) where
   gone_stays : (tx : TxId) (t : Transaction) (at : ℕ) → Split tx t s.live at → (turn : Turn) → TurnWays tx t.phase turn → StaysOneWay cs bs (turned_if s at turn true)
   unfolding without
   gone_stays tx t at split turn ways = record {
-    once = subst KeysOnce (sym split.gone) (once_gone split.front split.back tx t (once_split tx t at split turn.step.state.phase turn.step.effects.sends ways.sends ways.forward ways.backward));
+    once = subst KeysOnce (sym split.gone) (once_gone split.front split.back tx t (once_split tx t at split ways.last turn.step.effects.sends ways.sends ways.forward ways.backward));
     live = subst (Each (IsLive s.next_seq (put_ways forth_by turn.step.effects.sends cs) (put_ways back_by turn.step.effects.sends bs))) (sym split.gone)
         (each_append (IsLive s.next_seq (put_ways forth_by turn.step.effects.sends cs) (put_ways back_by turn.step.effects.sends bs)) split.front split.back
-        (front_now tx t at split turn.step.state.phase turn.step.effects.sends ways.sends ways.forward ways.backward)
-        (back_now tx t at split turn.step.state.phase turn.step.effects.sends ways.sends ways.forward ways.backward));
-    cs_below = below_cs tx t at split turn.step.state.phase turn.step.effects.sends ways.sends ways.forward ways.backward;
-    bs_below = below_bs tx t at split turn.step.state.phase turn.step.effects.sends ways.sends ways.forward ways.backward;
-    apart = apart_now tx t at split turn.step.state.phase turn.step.effects.sends ways.sends ways.forward ways.backward;
+        (front_now tx t at split ways.last turn.step.effects.sends ways.sends ways.forward ways.backward)
+        (back_now tx t at split ways.last turn.step.effects.sends ways.sends ways.forward ways.backward));
+    cs_below = below_cs tx t at split ways.last turn.step.effects.sends ways.sends ways.forward ways.backward;
+    bs_below = below_bs tx t at split ways.last turn.step.effects.sends ways.sends ways.forward ways.backward;
+    apart = apart_now tx t at split ways.last turn.step.effects.sends ways.sends ways.forward ways.backward;
   }
 
-  turn_stays : (tx : TxId) (t : Transaction) (at : ℕ) → Split tx t s.live at → (turn : Turn) → TurnWays tx t.phase turn → (b : Bool) → StaysOneWay cs bs (turned_if s at turn b)
-  turn_stays tx t at split turn ways true = gone_stays tx t at split turn ways
-  turn_stays tx t at split turn ways false = step_stays tx t at split turn.step ways
+  -- a turn after which the transaction isn't over is a step
+  step_ways : (tx : TxId) (phase : Phase) (turn : Turn) → TurnWays tx phase turn → turn.over ≡ false → Ways tx phase turn.step
+  step_ways tx phase turn ways off = record {
+    sends = subst (λ last. AllWays tx last turn.step.effects.sends) (sym (ways.stands off)) ways.sends;
+    forward = λ is. ap is_decided (ways.stands off) ∙ ways.forward is;
+    backward = λ is. ap is_aborting (ways.stands off) ∙ ways.backward is;
+  }
+
+  turn_stays : (tx : TxId) (t : Transaction) (at : ℕ) → Split tx t s.live at → (turn : Turn) → TurnWays tx t.phase turn → (b : Bool) → turn.over ≡ b → StaysOneWay cs bs (turned_if s at turn b)
+  turn_stays tx t at split turn ways true over = gone_stays tx t at split turn ways
+  turn_stays tx t at split turn ways false over = step_stays tx t at split turn.step (step_ways tx t.phase turn ways over)
 
   step_one : (tx : TxId) (row : Transaction → Step Transaction) → ((t : Transaction) → Ways tx t.phase (row t)) → StaysOneWay cs bs (step_of s tx row)
   step_one tx row ways = at_place (place_in s tx) refl
@@ -223,7 +231,7 @@ module _ (s : TcState) (cs bs : List TxId) (n : IsOneWay s cs bs) where
     where
       at_value : (at : ℕ) → place_in s tx ≡ Some at → (t : Option Transaction) → slice_get (values_of s.live) at ≡ t → StaysOneWay cs bs (turn_value s row at t)
       at_value at at_is None is = n
-      at_value at at_is (Some t) is = turn_stays tx t at (split_at tx s.live at t at_is is) (row t) (ways t) (row t).over
+      at_value at at_is (Some t) is = turn_stays tx t at (split_at tx s.live at t at_is is) (row t) (ways t) (row t).over refl
 
       at_place : (at : Option ℕ) → place_in s tx ≡ at → StaysOneWay cs bs (turn_place s row at)
       at_place None at_is = n

@@ -1,4 +1,4 @@
--- Which way a transaction goes at its coordinator: its rows are committed, or aborted.
+-- Which way a transaction goes at its coordinator: its rows are committed, or aborted, and its client is told so.
 use Rattle.std.specs.Prelude.{◌≡◌, ℕ, Bool, true, false, List, [], ◌∷◌}
 use Rattle.run_theory.specs.Lists.{Each}
 use Rattle.sig_core.specs.declared.log.LogStep.{LogStep}
@@ -7,8 +7,9 @@ use Rattle.sig_core.specs.declared.outs.Outgoing.{Outgoing}
 use Rattle.sig_core.specs.declared.place.BlockId.{BlockId}
 use Rattle.sig_core.specs.declared.place.BlockId.TheVariants.{Tc}
 use Rattle.sig_core.specs.declared.signal.Body.{Body}
-use Rattle.sig_core.specs.declared.signal.Body.TheVariants.{Chain}
+use Rattle.sig_core.specs.declared.signal.Body.TheVariants.{Client, Chain}
 use Rattle.sig_core.specs.declared.signal.chain.ChainSignal.TheVariants.{Commit, Abort}
+use Rattle.sig_core.specs.declared.signal.client.ClientSignal.TheVariants.{TcCommitConf, TcRollbackRep}
 use Rattle.sig_core.specs.Same.{same_tx}
 use Rattle.tc_block.specs.declared.phase.Phase.{Phase}
 use Rattle.tc_block.specs.declared.phase.Phase.TheVariants.{Aborting}
@@ -18,7 +19,8 @@ use Rattle.node_core.specs.declared.host.Host.TheVariants.{Node}
 use Rattle.world_core.specs.Machine.{after}
 use Rattle.world_core.specs.Start.{Start}
 
--- a signal commits a row of the transaction, aborts one, or does neither
+-- a signal commits a row of the transaction or tells its client that it is committed, aborts one or tells that it is aborted,
+-- or does neither
 pub data Way : Type 0 where
   forth : TxId → Way
   back : TxId → Way
@@ -27,6 +29,8 @@ pub data Way : Type 0 where
 abbrev pub way_of : Body → Way
 way_of (Chain (Commit tx key epoch chain at)) = forth tx
 way_of (Chain (Abort tx key)) = back tx
+way_of (Client (TcCommitConf tx epoch)) = forth tx
+way_of (Client (TcRollbackRep tx cause)) = back tx
 way_of body = neither
 
 -- it is being aborted
@@ -34,7 +38,7 @@ abbrev pub is_aborting : Phase → Bool
 is_aborting (Aborting cause verifying awaited) = true
 is_aborting phase = false
 
--- the transactions of which signals commit a row, or abort one, in front of those before
+-- the transactions that signals take forth, or back, in front of those before
 abbrev pub forth_by : Way → List TxId → List TxId
 forth_by (forth tx) before = tx ∷ before
 forth_by way before = before
@@ -52,12 +56,12 @@ abbrev pub tc_sends : Host → BlockId → Body → List Outgoing
 tc_sends (Node n) Tc body = (tc_row n.tc body).effects.sends
 tc_sends host block body = []
 
--- the transactions of which the coordinator of host h, with this log, had a row committed, or aborted
+-- the transactions that the coordinator of host h, with this log, took forth, or back
 abbrev pub sent_ways : Start → (Way → List TxId → List TxId) → ℕ → List LogStep → List TxId
 sent_ways start f h [] = []
 sent_ways start f h (e ∷ log) = put_ways f (tc_sends (after start h log) e.taken.to.block e.taken.body) (sent_ways start f h log)
 
--- no coordinator sends a commit and an abort of one transaction, whatever its host takes
+-- no coordinator takes one transaction both forth and back, whatever its host takes
 abbrev pub CoordinatorsGoOneWay : Type 0
 CoordinatorsGoOneWay =
     (start : Start) (h : ℕ) (log : List LogStep)

@@ -10,3 +10,5 @@ pub mod RoutesSends
 pub mod RoutesTc
 pub mod TouchedLists
 pub mod Transit
+pub mod TransitRuns
+pub mod Weighing
