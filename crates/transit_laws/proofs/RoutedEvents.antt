@@ -10,10 +10,11 @@ use Rattle.world_core.specs.Start.{Start}
 use Rattle.commit_laws.specs.BackupEvents.{IsOfImage}
 use Rattle.commit_laws.specs.PrimaryEvents.{IsOfOperation}
 use Rattle.transit_laws.specs.Routes.{ComingAreRouted, CommitsEndAtPrimary, IsCommitRouted, IsRequestRouted, IsRouted, IsSentTo, IsWorkAt, RequestsAreForReplicas, primary, replicas}
-use Rattle.transit_laws.specs.Transit.{RunsHaveTransit}
+use Rattle.transit_laws.specs.Transit.{Comes}
 use Rattle.transit_laws.proofs.InTransit.{took}
 use Rattle.transit_laws.proofs.Routes.{IsOnWay, all_routed, places_some, request_routed}
 use Rattle.transit_laws.proofs.RoutesChain.{primary_first, primary_length, replica_at}
+use Rattle.transit_laws.proofs.TransitRuns.{runs_have_transit}
 
 -- two tests of numbers that pass together
 same_tests : (a b c d : ℕ) → (a ≡ b → c ≡ d) → (c ≡ d → a ≡ b) → (a == b) ≡ (c == d)
@@ -48,22 +49,20 @@ module _ (start : Start) (some : (key : List ℕ) → 0 < length (replicas start
           let own : h ≡ primary start key = is.sent.node_is ∙ (ap (λ c. node_at c at) alone ∙ (ap (node_at (primary_of (replicas start key))) first ∙ primary_first (replicas start key))) in
           same_tests at 0 h (primary start key) (λ is_first. own) (λ is_own. first)
 
--- what each run has in transit is a hypothesis
-module _ (transit : RunsHaveTransit) where
-  pub coming_are_routed : ComingAreRouted
-  coming_are_routed start es e comes =
-      let now = (transit start (e ∷ es) comes.now).1 in
-      let is = (took (λ x. IsOnWay start x) e now.0 now.1.1.between now.1.1.takes (request_routed start e.taken) (all_routed start es now.0 comes.before now.1.0).signals).0 in
-      record { routed = is.routed; block = is.block }
+pub coming_are_routed : ComingAreRouted
+coming_are_routed start es e comes =
+    let now = (runs_have_transit start (e ∷ es) comes.now).1 in
+    let is = (took (λ x. IsOnWay start x) e now.0 now.1.1.between now.1.1.takes (request_routed start e.taken) (all_routed start es now.0 comes.before now.1.0).signals).0 in
+    record { routed = is.routed; block = is.block }
 
-  pub requests_are_for_replicas : RequestsAreForReplicas
-  requests_are_for_replicas start es e tx work chain at comes is =
-      let routed : IsRequestRouted start e.taken.to.node (record { tx = tx; work = work; chain = chain; at = at }) =
-      subst (IsRouted start e.taken.to.node) is (coming_are_routed start es e comes).routed in
-      let some = places_some start es comes.before in
-      for_replica start some e.taken.to.node (work_key work) work at routed.work (place_of start some e.taken.to.node (work_key work) chain at routed.chain routed.sent)
+pub requests_are_for_replicas : RequestsAreForReplicas
+requests_are_for_replicas start es e tx work chain at comes is =
+    let routed : IsRequestRouted start e.taken.to.node (record { tx = tx; work = work; chain = chain; at = at }) =
+    subst (IsRouted start e.taken.to.node) is (coming_are_routed start es e comes).routed in
+    let some = places_some start es comes.before in
+    for_replica start some e.taken.to.node (work_key work) work at routed.work (place_of start some e.taken.to.node (work_key work) chain at routed.chain routed.sent)
 
-  pub commits_end_at_primary : CommitsEndAtPrimary
-  commits_end_at_primary start es e tx key epoch chain at comes is =
-      let routed : IsCommitRouted start e.taken.to.node key chain at = subst (IsRouted start e.taken.to.node) is (coming_are_routed start es e comes).routed in
-      at_primary start (places_some start es comes.before) e.taken.to.node key chain at routed
+pub commits_end_at_primary : CommitsEndAtPrimary
+commits_end_at_primary start es e tx key epoch chain at comes is =
+    let routed : IsCommitRouted start e.taken.to.node key chain at = subst (IsRouted start e.taken.to.node) is (coming_are_routed start es e comes).routed in
+    at_primary start (places_some start es comes.before) e.taken.to.node key chain at routed

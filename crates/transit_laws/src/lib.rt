@@ -3,4 +3,6 @@
 
 mod route_laws;
 
-pub use route_laws::{replicas_are_nodes, signals_are_routed, transactions_are_keyed};
+pub use route_laws::{
+    coming_signals_are_routed, replicas_are_nodes, signals_are_routed, transactions_are_keyed,
+};

@@ -1,6 +1,6 @@
 //! Where signals along chains go, and what a transaction has of its keys.
 ghost use Rattle.transit_laws.specs.Keyed.{TransactionsAreKeyed};
-ghost use Rattle.transit_laws.specs.Routes.{ReplicasAreApart, ReplicasAreNodes, SignalsAreForBlocks, SignalsAreRouted};
+ghost use Rattle.transit_laws.specs.Routes.{ComingAreRouted, CommitsEndAtPrimary, ReplicasAreApart, ReplicasAreNodes, RequestsAreForReplicas, SignalsAreForBlocks, SignalsAreRouted};
 
 /// The replicas of a key are nodes, each of them once.
 pub fn replicas_are_nodes()
@@ -15,6 +15,15 @@ pub fn replicas_are_nodes()
 pub fn signals_are_routed()
     ensures routed { SignalsAreRouted }
     ensures blocks { SignalsAreForBlocks }
+{}
+
+/// What comes to a host is routed so: a request to the primary is for an operation, and one to
+/// another replica for an image; and a commit is at the first place of its chain just where it comes
+/// to the primary.
+pub fn coming_signals_are_routed()
+    ensures routed { ComingAreRouted }
+    ensures requests { RequestsAreForReplicas }
+    ensures commits { CommitsEndAtPrimary }
 {}
 
 /// Of each transaction of a coordinator no two of the keys that it has touched are the same, each of
