@@ -1,7 +1,17 @@
 pub mod DecidedSettled
 pub mod EachLive
+pub mod EachTurn
 pub mod GivenUp
+pub mod InTransit
+pub mod Keyed
 pub mod Owing
+pub mod RoutedEvents
+pub mod Routes
+pub mod RoutesChain
+pub mod RoutesLqh
+pub mod RoutesSends
+pub mod RoutesTc
+pub mod TouchedLists
 pub mod Transit
 pub mod TransitRuns
 pub mod Ways
