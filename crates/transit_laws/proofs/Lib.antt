@@ -1,1 +1,3 @@
+pub mod LqhWaits
+pub mod QueueWaits
 pub mod Transit
