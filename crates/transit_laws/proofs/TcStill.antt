@@ -2,7 +2,6 @@
 use Rattle.std.proofs.Common.{◌≡◌, ℕ, ◌+◌, ◌≤◌, List, [], ◌∷◌, ◌++◌, take, drop, length, Bool, true, false, refl, ap, sym, ◌∙◌, subst, arith}
 use Rattle.std.specs.Prelude.{◌==◌, ◌&&◌, ◌||◌, if◌then◌else◌, is_some, nat_lt, Option, None, Some}
 use Rattle.std.specs.List.{flat_map, list_any}
-use Rattle.std.proofs.lemmas.Bool.{and_parts}
 use Rattle.run_theory.proofs.Pasts.{each_append}
 use Rattle.run_theory.specs.Lists.{Each}
 use Rattle.sig_core.specs.declared.member.TxId.{TxId}
@@ -11,8 +10,6 @@ use Rattle.sig_core.specs.declared.op.Op.{Op}
 use Rattle.sig_core.specs.declared.outcome.AbortCause.{AbortCause}
 use Rattle.sig_core.specs.declared.outcome.AbortCause.TheVariants as cause
 use Rattle.sig_core.specs.declared.outs.Outgoing.{Outgoing}
-use Rattle.sig_core.specs.declared.signal.Body.TheVariants.{Client}
-use Rattle.sig_core.specs.declared.signal.client.ClientSignal.TheVariants.{TcRollbackRep}
 use Rattle.sig_core.specs.declared.view.View.{View}
 use Rattle.sig_core.specs.Op.{key_of}
 use Rattle.sig_core.specs.Same.{same_tx}
@@ -30,12 +27,9 @@ use Rattle.tc_block.specs.Operate as operate
 use Rattle.tc_block.specs.Part.{part_effects, rest_if}
 use Rattle.tc_block.specs.Sends.{abort_of, aborts_of, complete_if, entering, front_sends, go_on_if, go_on_row, key_sends, phase_sends, wait_of}
 use Rattle.tc_block.specs.Turn.{Turn, asking, going}
-use Rattle.commit_laws.specs.Ways.{back, back_by, is_aborting, put_ways, way_of}
 use Rattle.commit_laws.proofs.EachSent.{each_drop, each_flat, each_mapped, each_take}
-use Rattle.commit_laws.proofs.Keys.{same_tx-self}
-use Rattle.answer_laws.proofs.Tally.{one_if, tally_none}
-use Rattle.answer_laws.proofs.TcOps.{aborted_asks, answer_asks, commit_asks, committed_asks, completed_asks, decide_asks, go_on_asks, is_right, may_ask, refuse_asks, rollback_asks, wait_asks}
-use Rattle.transit_laws.specs.Tokens.{budget_of, is_token}
+use Rattle.answer_laws.proofs.Tally.{tally_none}
+use Rattle.transit_laws.specs.Tokens.{is_token}
 use Rattle.transit_laws.proofs.LqhTokens.{tokens_out}
 
 -- none of these signals is a part of an operation
@@ -91,7 +85,7 @@ module _ (v : TxId) where
     unfolding entering
     enters_still node view t phase = part_still node (phase_sends view tx phase t.touched) 0 (phase_still view phase t.touched)
 
-    go_on_still : (node : ℕ) (view : View) (t : Transaction) (at : ℕ) → AreStill (go_on_row node view tx t at).effects.sends
+    pub go_on_still : (node : ℕ) (view : View) (t : Transaction) (at : ℕ) → AreStill (go_on_row node view tx t at).effects.sends
     unfolding go_on_row
     go_on_still node view t at = by (nat_lt at 512)
       where
@@ -99,7 +93,7 @@ module _ (v : TxId) where
         by true = part_still node (phase_sends view tx t.phase t.touched) at (phase_still view t.phase t.touched)
         by false = tt
 
-    answer_still : (view : View) (t : Transaction) (key : List ℕ) (answer : Answer) → AreStill (operate.answer_row view tx t key answer).effects.sends
+    pub answer_still : (view : View) (t : Transaction) (key : List ℕ) (answer : Answer) → AreStill (operate.answer_row view tx t key answer).effects.sends
     unfolding operate.answer_row
     answer_still view t key answer = by (operate.asked_on t.asked key) t.phase
       where
@@ -111,7 +105,7 @@ module _ (v : TxId) where
         by (Some a) (Completing epoch awaited) = tt
         by None phase = tt
 
-    wait_still : (t : Transaction) → AreStill (operate.wait_row tx t).effects.sends
+    pub wait_still : (t : Transaction) → AreStill (operate.wait_row tx t).effects.sends
     unfolding operate.wait_row
     wait_still t = by t.asked
       where
@@ -119,7 +113,7 @@ module _ (v : TxId) where
         by None = tt
         by (Some a) = each_mapped (λ (o : Outgoing). is_token v o.body ≡ false) (wait_of tx (key_of a.op)) a.chain (λ r. refl)
 
-    decide_still : (node : ℕ) (t : Transaction) → AreStill (commit.decide_row node tx t).effects.sends
+    pub decide_still : (node : ℕ) (t : Transaction) → AreStill (commit.decide_row node tx t).effects.sends
     unfolding commit.decide_row
     decide_still node t = by (operate.is_ready t.phase t.asked)
       where
@@ -135,7 +129,7 @@ module _ (v : TxId) where
         by true = (refl, (refl, tt))
         by false = enters_still node view t (Completing epoch (complete.written_count t.touched))
 
-    commit_still : (node : ℕ) (view : View) (t : Transaction) (epoch : ℕ) → AreStill (commit.commit_row node view tx t epoch).step.effects.sends
+    pub commit_still : (node : ℕ) (view : View) (t : Transaction) (epoch : ℕ) → AreStill (commit.commit_row node view tx t epoch).step.effects.sends
     unfolding commit.commit_row
     commit_still node view t epoch = by t.phase
       where
@@ -150,7 +144,7 @@ module _ (v : TxId) where
         by (Completing other awaited) = tt
         by (Aborting why verifying awaited) = tt
 
-    committed_still : (node : ℕ) (view : View) (t : Transaction) → AreStill (commit.committed_row node view tx t).step.effects.sends
+    pub committed_still : (node : ℕ) (view : View) (t : Transaction) → AreStill (commit.committed_row node view tx t).step.effects.sends
     unfolding commit.committed_row
     committed_still node view t = by t.phase
       where
@@ -165,7 +159,7 @@ module _ (v : TxId) where
         by (Completing other awaited) = tt
         by (Aborting why verifying awaited) = tt
 
-    completed_still : (node : ℕ) (t : Transaction) → AreStill (complete.completed_row node tx t).step.effects.sends
+    pub completed_still : (node : ℕ) (t : Transaction) → AreStill (complete.completed_row node tx t).step.effects.sends
     unfolding complete.completed_row
     completed_still node t = by t.phase
       where
@@ -192,7 +186,7 @@ module _ (v : TxId) where
         by true = abort_end_still node why (abort.is_verifying t.phase)
         by false = enters_still node view t (Aborting why (abort.is_verifying t.phase) (abort.aborts_awaited view t))
 
-    refuse_still : (node : ℕ) (view : View) (t : Transaction) (key : List ℕ) (why : AbortCause) → AreStill (abort.refuse_row node view tx t key why).step.effects.sends
+    pub refuse_still : (node : ℕ) (view : View) (t : Transaction) (key : List ℕ) (why : AbortCause) → AreStill (abort.refuse_row node view tx t key why).step.effects.sends
     unfolding abort.refuse_row
     refuse_still node view t key why = by (operate.asked_on t.asked key) t.phase
       where
@@ -204,7 +198,7 @@ module _ (v : TxId) where
         by (Some a) (Completing epoch awaited) = tt
         by None phase = tt
 
-    rollback_still : (node : ℕ) (view : View) (t : Transaction) → AreStill (abort.rollback_row node view tx t).step.effects.sends
+    pub rollback_still : (node : ℕ) (view : View) (t : Transaction) → AreStill (abort.rollback_row node view tx t).step.effects.sends
     unfolding abort.rollback_row
     rollback_still node view t = by t.phase
       where
@@ -215,7 +209,7 @@ module _ (v : TxId) where
         by (Completing epoch awaited) = tt
         by (Aborting why verifying awaited) = tt
 
-    aborted_still : (node : ℕ) (t : Transaction) → AreStill (abort.aborted_row node tx t).step.effects.sends
+    pub aborted_still : (node : ℕ) (t : Transaction) → AreStill (abort.aborted_row node tx t).step.effects.sends
     unfolding abort.aborted_row
     aborted_still node t = by t.phase
       where
