@@ -28,7 +28,7 @@ use Rattle.tc_block.specs.Live.{place_in, step_of, step_place, step_value, turn_
 use Rattle.tc_block.specs.Operate.{answer_row, fresh, operate_row, wait_row}
 use Rattle.tc_block.specs.Sends.{go_on_row}
 use Rattle.tc_block.specs.State.{TcState}
-use Rattle.tc_block.specs.Tc.{begin_if, begin_row, is_full, next_tx, pass_if, pass_row, tc_row}
+use Rattle.tc_block.specs.Tc.{begin_if, begin_row, begun, is_full, next_tx, pass_if, pass_row, tc_row}
 use Rattle.tc_block.specs.Turn.{Turn, going}
 use Rattle.commit_laws.specs.Ways.{Way, back, back_by, forth, neither, put_ways, way_of}
 use Rattle.commit_laws.proofs.Keys.{same_tx-self}
@@ -192,3 +192,106 @@ module _ (rolls : (tx : TxId) (why : AbortCause) → way_of (Client (TcRollbackR
               ap (λ b. if b then one_if (gives_up tx turn.step.effects.sends) else budget_of turn.step.state) over,
               ends,
             )
+
+  -- a row of one transaction is one of the coordinator
+  step_one : (tx : TxId) (row : Transaction → Step Transaction) (came : ℕ)
+      → ((t : Transaction) → is_right t.asked t.phase ≡ true → same_tx tx v ≡ true → TurnTokens tx t came (going (row t)))
+      → ((t : Transaction) → is_right t.asked t.phase ≡ true → TurnTokens tx t 1 (going (row t)))
+      → StepTokens v s bs came (step_of s tx row)
+  step_one tx row came mine turns = at_place (place_in s tx) refl
+    where
+      at_value : (at : ℕ) → place_in s tx ≡ Some at → (t : Option Transaction) → slice_get (values_of s.live) at ≡ t → StepTokens v s bs came (step_value s row at t)
+      at_value at at_is None is = nothing came
+      at_value at at_is (Some t) is =
+          let split = split_at tx s.live at t at_is is in
+          let right = (own tx t at split).right in
+          turn_tokens tx t at split (going (row t)) came (mine t right) (turns t right) false refl
+
+      at_place : (at : Option ℕ) → place_in s tx ≡ at → StepTokens v s bs came (step_place s row at)
+      at_place None at_is = nothing came
+      at_place (Some at) at_is = at_value at at_is (slice_get (values_of s.live) at) refl
+
+  turn_one : (tx : TxId) (row : Transaction → Turn) (came : ℕ)
+      → ((t : Transaction) → is_right t.asked t.phase ≡ true → same_tx tx v ≡ true → TurnTokens tx t came (row t))
+      → ((t : Transaction) → is_right t.asked t.phase ≡ true → TurnTokens tx t 1 (row t))
+      → StepTokens v s bs came (turn_of s tx row)
+  turn_one tx row came mine turns = at_place (place_in s tx) refl
+    where
+      at_value : (at : ℕ) → place_in s tx ≡ Some at → (t : Option Transaction) → slice_get (values_of s.live) at ≡ t → StepTokens v s bs came (turn_value s row at t)
+      at_value at at_is None is = nothing came
+      at_value at at_is (Some t) is =
+          let split = split_at tx s.live at t at_is is in
+          let right = (own tx t at split).right in
+          turn_tokens tx t at split (row t) came (mine t right) (turns t right) (row t).over refl
+
+      at_place : (at : Option ℕ) → place_in s tx ≡ at → StepTokens v s bs came (turn_place s row at)
+      at_place None at_is = nothing came
+      at_place (Some at) at_is = at_value at at_is (slice_get (values_of s.live) at) refl
+
+  -- a transaction begins, whose number nobody has
+  begins : (name : Option ℕ) (b : Bool) → StepTokens v s bs 0 (begin_if s name b)
+  begins name true = record { home = λ m low. omega (arith, low); away = λ off. refl }
+  begins name false = record { home = λ m low. by (same_tx (next_tx s) v) refl m low; away = λ off. refl }
+    where
+      lower : (w : TxId) → w.seq < s.next_seq → same_tx w (next_tx s) ≡ false
+      lower w lt =
+          let off : nat_eq w.seq s.next_seq ≡ false = ne_eqb w.seq s.next_seq (λ same. omega (arith, lt, same)) in
+          and_right (nat_eq w.tc s.node) (nat_eq w.start s.start && nat_eq w.seq s.next_seq) (and_right (nat_eq w.start s.start) (nat_eq w.seq s.next_seq) off)
+
+      others : AreOthers (next_tx s) s.live
+      others = each_map (IsOwned s.node s.next_seq) (λ (x : TxId × Transaction). same_tx x.0 (next_tx s) ≡ false) s.live (λ x is. lower x.0 is.below) n.live
+
+      not_yet : (xs : List TxId) → Each (λ (w : TxId). w.seq < s.next_seq) xs → list_any (same_tx (next_tx s)) xs ≡ false
+      not_yet [] below = refl
+      not_yet (w ∷ xs) below = ap (λ b. b || list_any (same_tx (next_tx s)) xs) (same_tx-swap (next_tx s) w ∙ lower w below.0) ∙ not_yet xs below.1
+
+      by : (b : Bool) → same_tx (next_tx s) v ≡ b → (m : ℕ) → m + 0 ≤ budget_by (list_any (same_tx v) bs) (of_live v s.live)
+          → m + 0 ≤ budget_by (list_any (same_tx v) bs) (of_live v (begun s).live)
+      by false apart m low = omega (arith, low, ap (budget_by (list_any (same_tx v) bs)) (of_inserted s.live (next_tx s) v fresh others apart))
+      by true e m low =
+          let one : next_tx s ≡ v = same_tx-is (next_tx s) v e in
+          omega (
+            arith,
+            low,
+            ap (λ u. budget_by (list_any (same_tx u) bs) (of_live u s.live)) (sym one),
+            ap (λ b. budget_by b (of_live (next_tx s) s.live)) (not_yet bs n.begun),
+            ap (budget_by false) (of_none s.live (next_tx s) others),
+          )
+
+  begin_one : (name : Option ℕ) → StepTokens v s bs 0 (begin_row s name)
+  unfolding begin_row
+  begin_one name = begins name (is_full s)
+
+  pass_one : (tx ahead : TxId) → StepTokens v s bs 0 (pass_row s tx ahead)
+  unfolding pass_row
+  pass_one tx ahead = by (is_some (place_in s tx))
+    where
+      by : (b : Bool) → StepTokens v s bs 0 (pass_if s tx ahead b)
+      by true = record { home = λ m low. omega (arith, low); away = λ off. refl }
+      by false = nothing 0
+
+  came_one : (tx : TxId) → same_tx tx v ≡ true → 1 ≤ one_if (same_tx tx v)
+  came_one tx e = omega (arith, ap one_if e)
+
+  -- what each signal does
+  pub tc_tokens : (body : Body) → StepTokens v s bs (one_if (is_token v body)) (tc_row s body)
+  tc_tokens (Host (Continue (work.Transaction tx) at)) =
+      step_one tx (λ t. go_on_row s.node s.view tx t at) 0 (λ t right e. go_on_turn rolls tx t right s.node s.view at 0) (λ t right. go_on_turn rolls tx t right s.node s.view at 1)
+  tc_tokens (Client (TcBeginReq name)) = begin_one name
+  tc_tokens (Client (TcKeyReq tx op)) = step_one tx (λ t. operate_row s.view tx t op) 0 (λ t right e. operate_turn rolls tx t right s.view op 0) (λ t right. operate_turn rolls tx t right s.view op 1)
+  tc_tokens (Client (TcCommitReq tx)) = step_one tx (λ t. commit.decide_row s.node tx t) 0 (λ t right e. decide_turn rolls tx t right s.node 0) (λ t right. decide_turn rolls tx t right s.node 1)
+  tc_tokens (Client (TcRollbackReq tx)) = turn_one tx (λ t. rollback_row s.node s.view tx t) 0 (λ t right e. rollback_turn rolls tx t right s.node s.view 0) (λ t right. rollback_turn rolls tx t right s.node s.view 1)
+  tc_tokens (Client (TcWaitReq tx)) = step_one tx (λ t. wait_row tx t) 0 (λ t right e. wait_turn rolls tx t right 0) (λ t right. wait_turn rolls tx t right 1)
+  tc_tokens (Client (LqhWaitConf tx ahead)) = pass_one tx ahead
+  tc_tokens (Chain (LqhKeyReq tx what chain at)) = record { home = λ m low. omega (arith, low); away = λ off. refl }
+  tc_tokens (Chain (LqhKeyConf tx key answer)) =
+      step_one tx (λ t. answer_row s.view tx t key answer) (one_if (same_tx tx v)) (λ t right e. answer_turn rolls tx t right s.view key answer (one_if (same_tx tx v)) (came_one tx e))
+      (λ t right. answer_turn rolls tx t right s.view key answer 1 (omega arith))
+  tc_tokens (Chain (LqhKeyRef tx key why)) =
+      turn_one tx (λ t. refuse_row s.node s.view tx t key why) (one_if (same_tx tx v)) (λ t right e. refuse_turn rolls tx t right s.node s.view key why (one_if (same_tx tx v)) (came_one tx e))
+      (λ t right. refuse_turn rolls tx t right s.node s.view key why 1 (omega arith))
+  tc_tokens (Chain (Committed tx key)) = turn_one tx (λ t. commit.committed_row s.node s.view tx t) 0 (λ t right e. committed_turn rolls tx t right s.node s.view 0) (λ t right. committed_turn rolls tx t right s.node s.view 1)
+  tc_tokens (Chain (Completed tx key)) = turn_one tx (λ t. completed_row s.node tx t) 0 (λ t right e. completed_turn rolls tx t right s.node 0) (λ t right. completed_turn rolls tx t right s.node 1)
+  tc_tokens (Chain (Aborted tx key)) = turn_one tx (λ t. aborted_row s.node tx t) 0 (λ t right e. aborted_turn rolls tx t right s.node 0) (λ t right. aborted_turn rolls tx t right s.node 1)
+  tc_tokens (Epoch (DiVerifyConf tx epoch)) = turn_one tx (λ t. commit.commit_row s.node s.view tx t epoch) 0 (λ t right e. commit_turn rolls tx t right s.node s.view epoch 0) (λ t right. commit_turn rolls tx t right s.node s.view epoch 1)
+  tc_tokens _ = nothing 0
