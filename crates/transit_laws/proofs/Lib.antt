@@ -2,6 +2,7 @@ pub mod LqhTokens
 pub mod LqhWaits
 pub mod OfLive
 pub mod QueueWaits
+pub mod TcSound
 pub mod TcStill
 pub mod TcTokens
 pub mod TcTurns
