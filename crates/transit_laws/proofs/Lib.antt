@@ -1,3 +1,4 @@
+pub mod EachLive
 pub mod LqhTokens
 pub mod LqhWaits
 pub mod OfLive
@@ -7,3 +8,5 @@ pub mod TcStill
 pub mod TcTokens
 pub mod TcTurns
 pub mod Transit
+pub mod TransitRuns
+pub mod Weighing

@@ -9,7 +9,6 @@ use Rattle.run_theory.specs.Lists.{Each}
 use Rattle.run_theory.proofs.Pasts.{each_after, each_append, each_before, each_map}
 use Rattle.sig_core.specs.declared.log.LogStep.{LogStep}
 use Rattle.sig_core.specs.declared.member.TxId.{TxId}
-use Rattle.sig_core.specs.declared.outcome.AbortCause.{AbortCause}
 use Rattle.sig_core.specs.declared.outs.Outgoing.{Outgoing}
 use Rattle.sig_core.specs.declared.place.BlockId.{BlockId}
 use Rattle.sig_core.specs.declared.place.BlockId.TheVariants as block
@@ -17,7 +16,7 @@ use Rattle.sig_core.specs.declared.place.Place.{Place}
 use Rattle.sig_core.specs.declared.signal.Body.{Body}
 use Rattle.sig_core.specs.declared.signal.Body.TheVariants.{Host, Client, Chain, Epoch}
 use Rattle.sig_core.specs.declared.signal.chain.ChainSignal.TheVariants.{LqhKeyConf, LqhKeyRef, Committed, Completed, Aborted}
-use Rattle.sig_core.specs.declared.signal.client.ClientSignal.TheVariants.{TcBeginReq, TcKeyReq, TcCommitReq, TcRollbackReq, TcRollbackRep, TcWaitReq, LqhWaitConf}
+use Rattle.sig_core.specs.declared.signal.client.ClientSignal.TheVariants.{TcBeginReq, TcKeyReq, TcCommitReq, TcRollbackReq, TcWaitReq, LqhWaitConf}
 use Rattle.sig_core.specs.declared.signal.epoch.EpochSignal.TheVariants.{DiVerifyConf}
 use Rattle.sig_core.specs.declared.signal.host.HostSignal.TheVariants.{Continue}
 use Rattle.sig_core.specs.declared.signal.host.Work.TheVariants as work
@@ -44,9 +43,9 @@ use Rattle.node_core.specs.Fresh.{begun_node, fresh_node, fresh_shell}
 use Rattle.node_core.specs.Row.{node_row, row}
 use Rattle.world_core.specs.Machine.{after}
 use Rattle.world_core.specs.Start.{Start, started}
-use Rattle.commit_laws.specs.Ways.{Way, back, back_by, forth, neither, put_ways, sent_ways, tc_sends, way_of}
+use Rattle.commit_laws.specs.Ways.{Way, back, back_by, closes, forth, neither, put_ways, sent_ways, tc_sends, way_of}
 use Rattle.commit_laws.proofs.LiveSplit.{KeysOnce, Live, Split, each_inserted, once_gone, once_inserted, once_set, split_at}
-use Rattle.commit_laws.proofs.TcWays.{AllWays, WayOf, aborted_ways, answer_ways, commit_ways, committed_ways, completed_ways, decide_ways, go_on_ways, operate_ways, refuse_ways, rollback_ways, wait_ways}
+use Rattle.commit_laws.proofs.TcWays.{AllWays, TurnWays, WayOf, Ways, aborted_ways, answer_ways, commit_ways, committed_ways, completed_ways, decide_ways, go_on_ways, operate_ways, refuse_ways, rollback_ways, wait_ways}
 use Rattle.answer_laws.proofs.TcOps.{is_right}
 use Rattle.transit_laws.proofs.LqhWaits.{WaitersAsk, lqh_asks}
 use Rattle.transit_laws.proofs.TcTokens.{IsOwned, IsSound}
@@ -56,6 +55,7 @@ use Rattle.transit_laws.proofs.TcTurns.{TurnTokens, aborted_turn, answer_turn, c
 abbrev IsBackOf : TxId → Way → Type 0
 IsBackOf tx (forth other) = Unit {0}
 IsBackOf tx (back other) = other ≡ tx
+IsBackOf tx (closes other) = Unit {0}
 IsBackOf tx neither = Unit {0}
 
 abbrev AreBackOf : TxId → List Outgoing → Type 0
@@ -67,6 +67,7 @@ of_ways tx phase sends all = each_map (λ (o : Outgoing). WayOf tx phase (way_of
     by : (w : Way) → WayOf tx phase w → IsBackOf tx w
     by (forth other) is = tt
     by (back other) is = is.0
+    by (closes other) is = tt
     by neither is = tt
 
 each_back : (P : TxId → Type 0) (tx : TxId) (sends : List Outgoing) (bs : List TxId) → AreBackOf tx sends → P tx → Each P bs → Each P (put_ways back_by sends bs)
@@ -76,6 +77,7 @@ each_back P tx (o ∷ more) bs all own before = each_back P tx more (back_by (wa
     by : (w : Way) → IsBackOf tx w → Each P (back_by w bs)
     by (forth other) is = before
     by (back other) is = (subst P (sym is) own, before)
+    by (closes other) is = before
     by neither is = before
 
 -- a turn of the transaction keeps it right, and gives up no other one
@@ -83,8 +85,11 @@ record Turns (tx : TxId) (turn : Turn) : Type 0 where
   right : is_right turn.step.state.asked turn.step.state.phase ≡ true
   gives : AreBackOf tx turn.step.effects.sends
 
-turns : (tx : TxId) (t : Transaction) (turn : Turn) → TurnTokens tx t 1 turn → AllWays tx turn.step.state.phase turn.step.effects.sends → Turns tx turn
-turns tx t turn is ways = record { right = is.right; gives = of_ways tx turn.step.state.phase turn.step.effects.sends ways }
+of_step : (tx : TxId) (t : Transaction) (step : Step Transaction) → TurnTokens tx t 1 (going step) → Ways tx t.phase step → Turns tx (going step)
+of_step tx t step is ways = record { right = is.right; gives = of_ways tx step.state.phase step.effects.sends ways.sends }
+
+of_turn : (tx : TxId) (t : Transaction) (turn : Turn) → TurnTokens tx t 1 turn → TurnWays tx t.phase turn → Turns tx turn
+of_turn tx t turn is ways = record { right = is.right; gives = of_ways tx ways.last turn.step.effects.sends ways.sends }
 
 abbrev StaysSound : List TxId → Step TcState → Type 0
 StaysSound bs step = IsSound step.state (put_ways back_by step.effects.sends bs)
@@ -172,48 +177,47 @@ module _ (s : TcState) (bs : List TxId) (n : IsSound s bs) where
       by true = n
       by false = n
 
-  module _ (rolls : (tx : TxId) (why : AbortCause) → way_of (Client (TcRollbackRep tx why)) ≡ back tx) where
-    pub tc_sound : (body : Body) → StaysSound bs (tc_row s body)
-    tc_sound (Host (Continue (work.Transaction tx) at)) = step_sound tx (λ t. go_on_row s.node s.view tx t at) (λ t right. turns tx t (going (go_on_row s.node s.view tx t at)) (go_on_turn rolls tx t right s.node s.view at 1) (go_on_ways tx s.node s.view t at).sends)
-    tc_sound (Client (TcBeginReq name)) = begin_sound name
-    tc_sound (Client (TcKeyReq tx op)) = step_sound tx (λ t. operate_row s.view tx t op) (λ t right. turns tx t (going (operate_row s.view tx t op)) (operate_turn rolls tx t right s.view op 1) (operate_ways tx s.view t op).sends)
-    tc_sound (Client (TcCommitReq tx)) = step_sound tx (λ t. commit.decide_row s.node tx t) (λ t right. turns tx t (going (commit.decide_row s.node tx t)) (decide_turn rolls tx t right s.node 1) (decide_ways tx s.node t).sends)
-    tc_sound (Client (TcRollbackReq tx)) = sound_turn tx (λ t. rollback_row s.node s.view tx t) (λ t right. turns tx t (rollback_row s.node s.view tx t) (rollback_turn rolls tx t right s.node s.view 1) (rollback_ways tx s.node s.view t).sends)
-    tc_sound (Client (TcWaitReq tx)) = step_sound tx (λ t. wait_row tx t) (λ t right. turns tx t (going (wait_row tx t)) (wait_turn rolls tx t right 1) (wait_ways tx t).sends)
-    tc_sound (Client (LqhWaitConf tx ahead)) = pass_sound tx ahead
-    tc_sound (Chain (LqhKeyConf tx key answer)) = step_sound tx (λ t. answer_row s.view tx t key answer) (λ t right. turns tx t (going (answer_row s.view tx t key answer)) (answer_turn rolls tx t right s.view key answer 1 (omega arith)) (answer_ways tx s.view t key answer).sends)
-    tc_sound (Chain (LqhKeyRef tx key why)) = sound_turn tx (λ t. refuse_row s.node s.view tx t key why) (λ t right. turns tx t (refuse_row s.node s.view tx t key why) (refuse_turn rolls tx t right s.node s.view key why 1 (omega arith)) (refuse_ways tx s.node s.view t key why).sends)
-    tc_sound (Chain (Committed tx key)) = sound_turn tx (λ t. commit.committed_row s.node s.view tx t) (λ t right. turns tx t (commit.committed_row s.node s.view tx t) (committed_turn rolls tx t right s.node s.view 1) (committed_ways tx s.node s.view t).sends)
-    tc_sound (Chain (Completed tx key)) = sound_turn tx (λ t. completed_row s.node tx t) (λ t right. turns tx t (completed_row s.node tx t) (completed_turn rolls tx t right s.node 1) (completed_ways tx s.node t).sends)
-    tc_sound (Chain (Aborted tx key)) = sound_turn tx (λ t. aborted_row s.node tx t) (λ t right. turns tx t (aborted_row s.node tx t) (aborted_turn rolls tx t right s.node 1) (aborted_ways tx s.node t).sends)
-    tc_sound (Epoch (DiVerifyConf tx epoch)) = sound_turn tx (λ t. commit.commit_row s.node s.view tx t epoch) (λ t right. turns tx t (commit.commit_row s.node s.view tx t epoch) (commit_turn rolls tx t right s.node s.view epoch 1) (commit_ways tx s.node s.view t epoch).sends)
-    tc_sound _ = n
+  -- so is each step
+  pub tc_sound : (body : Body) → StaysSound bs (tc_row s body)
+  tc_sound (Host (Continue (work.Transaction tx) at)) = step_sound tx (λ t. go_on_row s.node s.view tx t at) (λ t right. of_step tx t (go_on_row s.node s.view tx t at) (go_on_turn tx t right s.node s.view at 1) (go_on_ways tx s.node s.view t at))
+  tc_sound (Client (TcBeginReq name)) = begin_sound name
+  tc_sound (Client (TcKeyReq tx op)) = step_sound tx (λ t. operate_row s.view tx t op) (λ t right. of_step tx t (operate_row s.view tx t op) (operate_turn tx t right s.view op 1) (operate_ways tx s.view t op))
+  tc_sound (Client (TcCommitReq tx)) = step_sound tx (λ t. commit.decide_row s.node tx t) (λ t right. of_step tx t (commit.decide_row s.node tx t) (decide_turn tx t right s.node 1) (decide_ways tx s.node t))
+  tc_sound (Client (TcRollbackReq tx)) = sound_turn tx (λ t. rollback_row s.node s.view tx t) (λ t right. of_turn tx t (rollback_row s.node s.view tx t) (rollback_turn tx t right s.node s.view 1) (rollback_ways tx s.node s.view t))
+  tc_sound (Client (TcWaitReq tx)) = step_sound tx (λ t. wait_row tx t) (λ t right. of_step tx t (wait_row tx t) (wait_turn tx t right 1) (wait_ways tx t))
+  tc_sound (Client (LqhWaitConf tx ahead)) = pass_sound tx ahead
+  tc_sound (Chain (LqhKeyConf tx key answer)) = step_sound tx (λ t. answer_row s.view tx t key answer) (λ t right. of_step tx t (answer_row s.view tx t key answer) (answer_turn tx t right s.view key answer 1 (omega arith)) (answer_ways tx s.view t key answer))
+  tc_sound (Chain (LqhKeyRef tx key why)) = sound_turn tx (λ t. refuse_row s.node s.view tx t key why) (λ t right. of_turn tx t (refuse_row s.node s.view tx t key why) (refuse_turn tx t right s.node s.view key why 1 (omega arith)) (refuse_ways tx s.node s.view t key why))
+  tc_sound (Chain (Committed tx key)) = sound_turn tx (λ t. commit.committed_row s.node s.view tx t) (λ t right. of_turn tx t (commit.committed_row s.node s.view tx t) (committed_turn tx t right s.node s.view 1) (committed_ways tx s.node s.view t))
+  tc_sound (Chain (Completed tx key)) = sound_turn tx (λ t. completed_row s.node tx t) (λ t right. of_turn tx t (completed_row s.node tx t) (completed_turn tx t right s.node 1) (completed_ways tx s.node t))
+  tc_sound (Chain (Aborted tx key)) = sound_turn tx (λ t. aborted_row s.node tx t) (λ t right. of_turn tx t (aborted_row s.node tx t) (aborted_turn tx t right s.node 1) (aborted_ways tx s.node t))
+  tc_sound (Epoch (DiVerifyConf tx epoch)) = sound_turn tx (λ t. commit.commit_row s.node s.view tx t epoch) (λ t right. of_turn tx t (commit.commit_row s.node s.view tx t epoch) (commit_turn tx t right s.node s.view epoch 1) (commit_ways tx s.node s.view t epoch))
+  tc_sound _ = n
 
 -- a node is sound: its coordinator is, and who waits in a queue has a request that waits
 abbrev pub IsSoundHost : host.Host → List TxId → Type 0
 IsSoundHost (Shell s) bs = Unit {0}
 IsSoundHost (Node n) bs = IsSound n.tc bs × WaitersAsk n.lqh
 
-module _ (rolls : (tx : TxId) (why : AbortCause) → way_of (Client (TcRollbackRep tx why)) ≡ back tx) where
-  node_sound : (n : node.Node) (at : BlockId) (body : Body) (bs : List TxId) → IsSound n.tc bs × WaitersAsk n.lqh
-      → IsSound (node_row n at body).state.tc (put_ways back_by (tc_sends (Node n) at body) bs) × WaitersAsk (node_row n at body).state.lqh
-  unfolding node_row
-  node_sound n block.Tc body bs is = (tc_sound n.tc bs is.0 rolls body, is.1)
-  node_sound n block.Dih body bs is = is
-  node_sound n block.Lqh body bs is = (is.0, lqh_asks n.lqh body is.1)
-  node_sound n _ body bs is = is
+node_sound : (n : node.Node) (at : BlockId) (body : Body) (bs : List TxId) → IsSound n.tc bs × WaitersAsk n.lqh
+    → IsSound (node_row n at body).state.tc (put_ways back_by (tc_sends (Node n) at body) bs) × WaitersAsk (node_row n at body).state.lqh
+unfolding node_row
+node_sound n block.Tc body bs is = (tc_sound n.tc bs is.0 body, is.1)
+node_sound n block.Dih body bs is = is
+node_sound n block.Lqh body bs is = (is.0, lqh_asks n.lqh body is.1)
+node_sound n _ body bs is = is
 
-  host_sound : (s : host.Host) (to : Place) (body : Body) (bs : List TxId) → IsSoundHost s bs → IsSoundHost (row s to body).state (put_ways back_by (tc_sends s to.block body) bs)
-  unfolding row
-  host_sound (Shell s) to body bs is = tt
-  host_sound (Node n) to body bs is = node_sound n to.block body bs is
+host_sound : (s : host.Host) (to : Place) (body : Body) (bs : List TxId) → IsSoundHost s bs → IsSoundHost (row s to body).state (put_ways back_by (tc_sends s to.block body) bs)
+unfolding row
+host_sound (Shell s) to body bs is = tt
+host_sound (Node n) to body bs is = node_sound n to.block body bs is
 
-  started_sound : (start : Start) (h : ℕ) → IsSoundHost (started start h) []
-  unfolding fresh_shell fresh_node begun_node
-  started_sound start zero = tt
-  started_sound start (suc h) = (record { once = tt; live = tt; begun = tt }, record { asks = λ key tx is. absurd (let both : true ≡ false = sym is ∙ ap (λ o. waits tx (or_unlocked o).queue) (finite.get-empty key_cmp key) in cc) })
+started_sound : (start : Start) (h : ℕ) → IsSoundHost (started start h) []
+unfolding fresh_shell fresh_node begun_node
+started_sound start zero = tt
+started_sound start (suc h) = (record { once = tt; live = tt; begun = tt }, record { asks = λ key tx is. absurd (let both : true ≡ false = sym is ∙ ap (λ o. waits tx (or_unlocked o).queue) (finite.get-empty key_cmp key) in cc) })
 
-  -- so it is along any log
-  pub log_sound : (start : Start) (h : ℕ) (log : List LogStep) → IsSoundHost (after start h log) (sent_ways start back_by h log)
-  log_sound start h [] = started_sound start h
-  log_sound start h (e ∷ log) = host_sound (after start h log) e.taken.to e.taken.body (sent_ways start back_by h log) (log_sound start h log)
+-- so it is along any log
+pub log_sound : (start : Start) (h : ℕ) (log : List LogStep) → IsSoundHost (after start h log) (sent_ways start back_by h log)
+log_sound start h [] = started_sound start h
+log_sound start h (e ∷ log) = host_sound (after start h log) e.taken.to e.taken.body (sent_ways start back_by h log) (log_sound start h log)

@@ -8,12 +8,11 @@ use Rattle.indexmap.specs.IndexMap.{insert_entry}
 use Rattle.run_theory.specs.Lists.{Each}
 use Rattle.run_theory.proofs.Pasts.{each_after, each_append, each_before, each_map}
 use Rattle.sig_core.specs.declared.member.TxId.{TxId}
-use Rattle.sig_core.specs.declared.outcome.AbortCause.{AbortCause}
 use Rattle.sig_core.specs.declared.outs.Outgoing.{Outgoing}
 use Rattle.sig_core.specs.declared.signal.Body.{Body}
 use Rattle.sig_core.specs.declared.signal.Body.TheVariants.{Host, Client, Chain, Epoch}
 use Rattle.sig_core.specs.declared.signal.chain.ChainSignal.TheVariants.{LqhKeyReq, LqhKeyConf, LqhKeyRef, Committed, Completed, Aborted}
-use Rattle.sig_core.specs.declared.signal.client.ClientSignal.TheVariants.{TcBeginReq, TcKeyReq, TcCommitReq, TcRollbackReq, TcRollbackRep, TcWaitReq, LqhWaitConf}
+use Rattle.sig_core.specs.declared.signal.client.ClientSignal.TheVariants.{TcBeginReq, TcKeyReq, TcCommitReq, TcRollbackReq, TcWaitReq, LqhWaitConf}
 use Rattle.sig_core.specs.declared.signal.epoch.EpochSignal.TheVariants.{DiVerifyConf}
 use Rattle.sig_core.specs.declared.signal.host.HostSignal.TheVariants.{Continue}
 use Rattle.sig_core.specs.declared.signal.host.Work.TheVariants as work
@@ -30,7 +29,7 @@ use Rattle.tc_block.specs.Sends.{go_on_row}
 use Rattle.tc_block.specs.State.{TcState}
 use Rattle.tc_block.specs.Tc.{begin_if, begin_row, begun, is_full, next_tx, pass_if, pass_row, tc_row}
 use Rattle.tc_block.specs.Turn.{Turn, going}
-use Rattle.commit_laws.specs.Ways.{Way, back, back_by, forth, neither, put_ways, way_of}
+use Rattle.commit_laws.specs.Ways.{Way, back, back_by, closes, forth, neither, put_ways, way_of}
 use Rattle.commit_laws.proofs.Keys.{same_tx-self}
 use Rattle.commit_laws.proofs.LiveSplit.{KeysOnce, Live, Split, each_inserted, once_back, once_front, once_gone, once_inserted, once_set, split_at}
 use Rattle.answer_laws.proofs.Tally.{one_if}
@@ -61,6 +60,7 @@ still_given_up v (o ∷ more) bs is = still_given_up v more (back_by (way_of o.b
     by : (w : Way) → list_any (same_tx v) (back_by w bs) ≡ true
     by (forth tx) = is
     by (back tx) = or_right (same_tx v tx) (list_any (same_tx v) bs) is
+    by (closes tx) = is
     by neither = is
 
 -- and who is given up then is so, whoever was before
@@ -71,6 +71,7 @@ given_up_more v (o ∷ sends) xs ys more is = given_up_more v sends (back_by (wa
   where
     by : (w : Way) → list_any (same_tx v) (back_by w xs) ≡ true → list_any (same_tx v) (back_by w ys) ≡ true
     by (forth tx) is = more is
+    by (closes tx) is = more is
     by neither is = more is
     by (back tx) is = which (or_cases (same_tx v tx) (list_any (same_tx v) xs) is)
       where
@@ -93,7 +94,7 @@ pub record StepTokens (v : TxId) (s : TcState) (bs : List TxId) (came : ℕ) (st
       → m + tokens_out v step.effects.sends ≤ budget_by (list_any (same_tx v) (put_ways back_by step.effects.sends bs)) (of_live v step.state.live)
   pub away : v.tc ≢ s.node → tokens_out v step.effects.sends ≡ 0
 
-module _ (rolls : (tx : TxId) (why : AbortCause) → way_of (Client (TcRollbackRep tx why)) ≡ back tx) (v : TxId) (s : TcState) (bs : List TxId) (n : IsSound s bs) where
+module _ (v : TxId) (s : TcState) (bs : List TxId) (n : IsSound s bs) where
   -- nothing is sent, and no transaction changes
   nothing : (came : ℕ) → StepTokens v s bs came (record { state = s; effects = record { sends = []; marks = [] } })
   nothing came = record { home = λ m low. omega (arith, low); away = λ off. refl }
@@ -276,22 +277,22 @@ module _ (rolls : (tx : TxId) (why : AbortCause) → way_of (Client (TcRollbackR
   -- what each signal does
   pub tc_tokens : (body : Body) → StepTokens v s bs (one_if (is_token v body)) (tc_row s body)
   tc_tokens (Host (Continue (work.Transaction tx) at)) =
-      step_one tx (λ t. go_on_row s.node s.view tx t at) 0 (λ t right e. go_on_turn rolls tx t right s.node s.view at 0) (λ t right. go_on_turn rolls tx t right s.node s.view at 1)
+      step_one tx (λ t. go_on_row s.node s.view tx t at) 0 (λ t right e. go_on_turn tx t right s.node s.view at 0) (λ t right. go_on_turn tx t right s.node s.view at 1)
   tc_tokens (Client (TcBeginReq name)) = begin_one name
-  tc_tokens (Client (TcKeyReq tx op)) = step_one tx (λ t. operate_row s.view tx t op) 0 (λ t right e. operate_turn rolls tx t right s.view op 0) (λ t right. operate_turn rolls tx t right s.view op 1)
-  tc_tokens (Client (TcCommitReq tx)) = step_one tx (λ t. commit.decide_row s.node tx t) 0 (λ t right e. decide_turn rolls tx t right s.node 0) (λ t right. decide_turn rolls tx t right s.node 1)
-  tc_tokens (Client (TcRollbackReq tx)) = turn_one tx (λ t. rollback_row s.node s.view tx t) 0 (λ t right e. rollback_turn rolls tx t right s.node s.view 0) (λ t right. rollback_turn rolls tx t right s.node s.view 1)
-  tc_tokens (Client (TcWaitReq tx)) = step_one tx (λ t. wait_row tx t) 0 (λ t right e. wait_turn rolls tx t right 0) (λ t right. wait_turn rolls tx t right 1)
+  tc_tokens (Client (TcKeyReq tx op)) = step_one tx (λ t. operate_row s.view tx t op) 0 (λ t right e. operate_turn tx t right s.view op 0) (λ t right. operate_turn tx t right s.view op 1)
+  tc_tokens (Client (TcCommitReq tx)) = step_one tx (λ t. commit.decide_row s.node tx t) 0 (λ t right e. decide_turn tx t right s.node 0) (λ t right. decide_turn tx t right s.node 1)
+  tc_tokens (Client (TcRollbackReq tx)) = turn_one tx (λ t. rollback_row s.node s.view tx t) 0 (λ t right e. rollback_turn tx t right s.node s.view 0) (λ t right. rollback_turn tx t right s.node s.view 1)
+  tc_tokens (Client (TcWaitReq tx)) = step_one tx (λ t. wait_row tx t) 0 (λ t right e. wait_turn tx t right 0) (λ t right. wait_turn tx t right 1)
   tc_tokens (Client (LqhWaitConf tx ahead)) = pass_one tx ahead
   tc_tokens (Chain (LqhKeyReq tx what chain at)) = record { home = λ m low. omega (arith, low); away = λ off. refl }
   tc_tokens (Chain (LqhKeyConf tx key answer)) =
-      step_one tx (λ t. answer_row s.view tx t key answer) (one_if (same_tx tx v)) (λ t right e. answer_turn rolls tx t right s.view key answer (one_if (same_tx tx v)) (came_one tx e))
-      (λ t right. answer_turn rolls tx t right s.view key answer 1 (omega arith))
+      step_one tx (λ t. answer_row s.view tx t key answer) (one_if (same_tx tx v)) (λ t right e. answer_turn tx t right s.view key answer (one_if (same_tx tx v)) (came_one tx e))
+      (λ t right. answer_turn tx t right s.view key answer 1 (omega arith))
   tc_tokens (Chain (LqhKeyRef tx key why)) =
-      turn_one tx (λ t. refuse_row s.node s.view tx t key why) (one_if (same_tx tx v)) (λ t right e. refuse_turn rolls tx t right s.node s.view key why (one_if (same_tx tx v)) (came_one tx e))
-      (λ t right. refuse_turn rolls tx t right s.node s.view key why 1 (omega arith))
-  tc_tokens (Chain (Committed tx key)) = turn_one tx (λ t. commit.committed_row s.node s.view tx t) 0 (λ t right e. committed_turn rolls tx t right s.node s.view 0) (λ t right. committed_turn rolls tx t right s.node s.view 1)
-  tc_tokens (Chain (Completed tx key)) = turn_one tx (λ t. completed_row s.node tx t) 0 (λ t right e. completed_turn rolls tx t right s.node 0) (λ t right. completed_turn rolls tx t right s.node 1)
-  tc_tokens (Chain (Aborted tx key)) = turn_one tx (λ t. aborted_row s.node tx t) 0 (λ t right e. aborted_turn rolls tx t right s.node 0) (λ t right. aborted_turn rolls tx t right s.node 1)
-  tc_tokens (Epoch (DiVerifyConf tx epoch)) = turn_one tx (λ t. commit.commit_row s.node s.view tx t epoch) 0 (λ t right e. commit_turn rolls tx t right s.node s.view epoch 0) (λ t right. commit_turn rolls tx t right s.node s.view epoch 1)
+      turn_one tx (λ t. refuse_row s.node s.view tx t key why) (one_if (same_tx tx v)) (λ t right e. refuse_turn tx t right s.node s.view key why (one_if (same_tx tx v)) (came_one tx e))
+      (λ t right. refuse_turn tx t right s.node s.view key why 1 (omega arith))
+  tc_tokens (Chain (Committed tx key)) = turn_one tx (λ t. commit.committed_row s.node s.view tx t) 0 (λ t right e. committed_turn tx t right s.node s.view 0) (λ t right. committed_turn tx t right s.node s.view 1)
+  tc_tokens (Chain (Completed tx key)) = turn_one tx (λ t. completed_row s.node tx t) 0 (λ t right e. completed_turn tx t right s.node 0) (λ t right. completed_turn tx t right s.node 1)
+  tc_tokens (Chain (Aborted tx key)) = turn_one tx (λ t. aborted_row s.node tx t) 0 (λ t right e. aborted_turn tx t right s.node 0) (λ t right. aborted_turn tx t right s.node 1)
+  tc_tokens (Epoch (DiVerifyConf tx epoch)) = turn_one tx (λ t. commit.commit_row s.node s.view tx t epoch) 0 (λ t right e. commit_turn tx t right s.node s.view epoch 0) (λ t right. commit_turn tx t right s.node s.view epoch 1)
   tc_tokens _ = nothing 0

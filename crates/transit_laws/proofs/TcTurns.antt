@@ -9,8 +9,6 @@ use Rattle.sig_core.specs.declared.op.Op.{Op}
 use Rattle.sig_core.specs.declared.outcome.AbortCause.{AbortCause}
 use Rattle.sig_core.specs.declared.outcome.AbortCause.TheVariants as cause
 use Rattle.sig_core.specs.declared.outs.Outgoing.{Outgoing}
-use Rattle.sig_core.specs.declared.signal.Body.TheVariants.{Client}
-use Rattle.sig_core.specs.declared.signal.client.ClientSignal.TheVariants.{TcRollbackRep}
 use Rattle.sig_core.specs.declared.view.View.{View}
 use Rattle.sig_core.specs.Op.{key_of}
 use Rattle.sig_core.specs.Same.{same_tx}
@@ -25,7 +23,7 @@ use Rattle.tc_block.specs.Complete as complete
 use Rattle.tc_block.specs.Operate as operate
 use Rattle.tc_block.specs.Sends.{entering, go_on_if, go_on_row}
 use Rattle.tc_block.specs.Turn.{Turn, asking, going}
-use Rattle.commit_laws.specs.Ways.{back, back_by, is_aborting, put_ways, way_of}
+use Rattle.commit_laws.specs.Ways.{back_by, is_aborting, put_ways}
 use Rattle.commit_laws.proofs.Keys.{same_tx-self}
 use Rattle.answer_laws.proofs.Tally.{one_if}
 use Rattle.answer_laws.proofs.TcOps.{aborted_asks, answer_asks, commit_asks, committed_asks, completed_asks, decide_asks, go_on_asks, is_right, may_ask, refuse_asks, rollback_asks, wait_asks}
@@ -92,8 +90,7 @@ pub record TurnTokens (tx : TxId) (t : Transaction) (came : ℕ) (turn : Turn) :
   pub own : (m : ℕ) → m + came ≤ budget_of t → m + tokens_out tx turn.step.effects.sends ≤ budget_after tx turn
   pub others : (v : TxId) → same_tx tx v ≡ false → tokens_out v turn.step.effects.sends ≡ 0
 
--- the client is told of an abort by what gives the transaction up
-module _ (rolls : (tx : TxId) (why : AbortCause) → way_of (Client (TcRollbackRep tx why)) ≡ back tx) (tx : TxId) (t : Transaction) (right : is_right t.asked t.phase ≡ true) where
+module _ (tx : TxId) (t : Transaction) (right : is_right t.asked t.phase ≡ true) where
   -- a turn at which nothing of it is sent
   still_turn : (came : ℕ) (turn : Turn) → is_right turn.step.state.asked turn.step.state.phase ≡ true → ((v : TxId) → AreStill v turn.step.effects.sends)
       → ((m : ℕ) → m + came ≤ budget_of t → m ≤ budget_after tx turn) → TurnTokens tx t came turn
@@ -199,8 +196,8 @@ module _ (rolls : (tx : TxId) (why : AbortCause) → way_of (Client (TcRollbackR
 
   -- who is told of its abort is given up
   end_gives_up : (node : ℕ) (why : AbortCause) (b : Bool) → gives_up tx (abort.abort_end node tx why b) ≡ true
-  end_gives_up node why true = ap (λ w. list_any (same_tx tx) (back_by w [])) (rolls tx why) ∙ or_left (same_tx tx tx) false (same_tx-self tx)
-  end_gives_up node why false = ap (λ w. list_any (same_tx tx) (back_by w [])) (rolls tx why) ∙ or_left (same_tx tx tx) false (same_tx-self tx)
+  end_gives_up node why true = or_left (same_tx tx tx) false (same_tx-self tx)
+  end_gives_up node why false = or_left (same_tx tx tx) false (same_tx-self tx)
 
   one_then : (node : ℕ) (view : View) (why : AbortCause) → budget_after tx (abort.aborted_for node view tx t why) ≡ 1
   unfolding abort.aborted_for entering
