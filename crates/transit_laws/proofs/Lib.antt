@@ -1,4 +1,5 @@
 pub mod EachLive
+pub mod HostTokens
 pub mod LqhTokens
 pub mod LqhWaits
 pub mod OfLive
