@@ -3,6 +3,7 @@ pub mod HostTokens
 pub mod LqhTokens
 pub mod LqhWaits
 pub mod OfLive
+pub mod OneAtATime
 pub mod QueueWaits
 pub mod TcSound
 pub mod TcStill
