@@ -1,6 +1,6 @@
 pub mod EachLive
 pub mod EachTurn
-pub mod InTransit
+pub mod HostAfter
 pub mod Keyed
 pub mod RoutedEvents
 pub mod Routes
