@@ -50,8 +50,7 @@ module _ (start : Start) (some : (key : List ℕ) → 0 < length (replicas start
 pub coming_are_routed : ComingAreRouted
 coming_are_routed start es e comes =
     let now = (runs_have_transit start (e ∷ es) comes.now).1 in
-    let is = took_routed start es e now.0 now.1.1.between (all_routed start es now.0 comes.before now.1.0) now.1.1.takes in
-    record { routed = is.routed; block = is.block }
+    took_routed start es e now.0 now.1.1.between (all_routed start es now.0 comes.before now.1.0) now.1.1.takes
 
 pub requests_are_for_replicas : RequestsAreForReplicas
 requests_are_for_replicas start es e tx work chain at comes is =

@@ -27,13 +27,13 @@ use Rattle.world_core.specs.Start.{Start, started}
 use Rattle.answer_laws.proofs.ApiMoves.{ApiMove, api_moves, begun_as, ends, goes, is_api_kind, opens, refuses, rests}
 use Rattle.answer_laws.proofs.DihSends.{dih_kinds}
 use Rattle.answer_laws.proofs.SendKinds.{are_of, each_of, is_dih_kind}
-use Rattle.transit_laws.specs.Routes.{IsForBlock, IsHostRouted, IsRouted, SignalsAreForBlocks, SignalsAreRouted, replicas}
+use Rattle.transit_laws.specs.Routes.{IsForBlock, IsHostRouted, IsOnWay, IsRouted, SignalsAreForBlocks, SignalsAreRouted, replicas}
 use Rattle.transit_laws.specs.Transit.{AreInTransit, Comes, IsRun, Takes, host_after, joined, logs_of}
 use Rattle.transit_laws.proofs.EachTurn.{is_chain}
 use Rattle.transit_laws.proofs.HostAfter.{each_host}
 use Rattle.transit_laws.proofs.RoutesChain.{replicas_length}
 use Rattle.transit_laws.proofs.RoutesLqh.{lqh_routed}
-use Rattle.transit_laws.proofs.RoutesSends.{AreSent, IsOnWay, IsSent, plain_sent}
+use Rattle.transit_laws.proofs.RoutesSends.{AreSent, IsSent, plain_sent}
 use Rattle.transit_laws.proofs.RoutesTc.{tc_routed}
 use Rattle.transit_laws.proofs.Transit.{along_transit}
 use Rattle.transit_laws.proofs.Weighing.{each_between, each_joins, each_taken}

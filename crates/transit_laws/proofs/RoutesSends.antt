@@ -20,15 +20,11 @@ use Rattle.tc_block.specs.Chain.{chain_of}
 use Rattle.tc_block.specs.Sends.{abort_of, aborts_of, commit_of, complete_if, complete_of, front_sends, key_sends, phase_sends}
 use Rattle.world_core.specs.Start.{Start}
 use Rattle.commit_laws.proofs.EachSent.{each_mapped}
-use Rattle.transit_laws.specs.Routes.{IsForBlock, IsRouted, IsTouchedRouted, replicas}
+use Rattle.transit_laws.specs.Routes.{IsForBlock, IsOnWay, IsRouted, IsTouchedRouted, replicas}
 use Rattle.transit_laws.proofs.EachTurn.{is_chain}
 use Rattle.transit_laws.proofs.RoutesChain.{last_inside, primary_length}
 
--- a signal for this place is routed, and for its block
-pub record IsOnWay (start : Start) (to : Place) (body : Body) : Type 0 where
-  pub routed : IsRouted start to.node body
-  pub block : IsForBlock to body
-
+-- a signal is routed, and for its block
 abbrev pub IsSent : Start → Outgoing → Type 0
 IsSent start o = IsOnWay start o.to o.body
 
