@@ -2,6 +2,7 @@ pub mod DecidedSettled
 pub mod EachLive
 pub mod EachTurn
 pub mod GivenUp
+pub mod HostAfter
 pub mod HostTokens
 pub mod InTransit
 pub mod Keyed
