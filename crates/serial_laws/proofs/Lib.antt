@@ -1,0 +1,2 @@
+pub mod EntriesGrow
+pub mod Turns
