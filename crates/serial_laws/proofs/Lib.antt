@@ -1,2 +1,3 @@
 pub mod EntriesGrow
+pub mod Parts
 pub mod Turns
