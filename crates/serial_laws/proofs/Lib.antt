@@ -1,3 +1,4 @@
 pub mod EntriesGrow
 pub mod Parts
+pub mod RunEntries
 pub mod Turns
