@@ -1,4 +1,5 @@
 pub mod EntriesGrow
 pub mod Parts
+pub mod RowMarks
 pub mod RunEntries
 pub mod Turns
