@@ -1,4 +1,7 @@
 pub mod EntriesGrow
+pub mod HostSteps
+pub mod Members
+pub mod NewDecisions
 pub mod Parts
 pub mod RowApplies
 pub mod RowMarks

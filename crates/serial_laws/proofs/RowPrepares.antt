@@ -42,7 +42,7 @@ use Rattle.commit_laws.proofs.Replicas.{signals_are_events}
 use Rattle.serial_laws.proofs.RowMarks.{alone_so}
 
 -- nothing is there where nothing was
-none_there : {A : Type 0} (o p : Option PendingRecord) → o ≡ p → p ≡ None → is_some o ≡ true → A
+pub none_there : {A : Type 0} (o p : Option PendingRecord) → o ≡ p → p ≡ None → is_some o ≡ true → A
 none_there o p same none is = absurd (let both : false ≡ true = sym (ap is_some (same ∙ none)) ∙ is in cc)
 
 module _ (v : TxId) (key : List ℕ) where
