@@ -1,4 +1,6 @@
 pub mod EntriesGrow
+pub mod Finals
+pub mod Folds
 pub mod HostSteps
 pub mod Members
 pub mod NewDecisions
