@@ -1,7 +1,9 @@
+pub mod DecisionSteps
 pub mod EntriesGrow
 pub mod Finals
 pub mod Folds
 pub mod HostSteps
+pub mod KeySteps
 pub mod Members
 pub mod NewDecisions
 pub mod Parts
