@@ -1,11 +1,13 @@
 pub mod DecisionSteps
 pub mod EntriesGrow
+pub mod FairSteps
 pub mod Finals
 pub mod Folds
 pub mod HostSteps
 pub mod KeySteps
 pub mod Members
 pub mod NewDecisions
+pub mod NoRecords
 pub mod Parts
 pub mod RowApplies
 pub mod RowMarks

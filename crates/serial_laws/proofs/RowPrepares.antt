@@ -117,17 +117,17 @@ module _ (v : TxId) (key : List ℕ) where
   abbrev MakesNone : Event → Type 0
   MakesNone event = (r : Replica) → found v r.cell.pending ≡ None → found v (key_after event r).cell.pending ≡ None
 
-  commits_none : (tx : TxId) (last : Bool) → MakesNone (commits tx last)
+  pub commits_none : (tx : TxId) (last : Bool) → MakesNone (commits tx last)
   commits_none tx true r none = none-edited as_committed committed_keeps tx v r.cell.pending none
   commits_none tx false r none = none-edited as_committed committed_keeps tx v r.cell.pending none
 
-  completes_none : (tx : TxId) → MakesNone (completes tx)
+  pub completes_none : (tx : TxId) → MakesNone (completes tx)
   completes_none tx r none = none-edited unless_committed unless_keeps tx v r.cell.pending none
 
-  aborts_none : (tx : TxId) → MakesNone (aborts tx)
+  pub aborts_none : (tx : TxId) → MakesNone (aborts tx)
   aborts_none tx r none = none-edited if_committed if_keeps tx v r.cell.pending none
 
-  ages_none : (o : Option TxId) → MakesNone (ages o)
+  pub ages_none : (o : Option TxId) → MakesNone (ages o)
   ages_none None r none = none
   ages_none (Some tx) r none = none
 
