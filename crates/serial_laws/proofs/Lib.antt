@@ -13,4 +13,6 @@ pub mod RowApplies
 pub mod RowMarks
 pub mod RowPrepares
 pub mod RunEntries
+pub mod StepKinds
 pub mod Turns
+pub mod WriterSteps
