@@ -15,4 +15,5 @@ pub mod RowPrepares
 pub mod RunEntries
 pub mod StepKinds
 pub mod Turns
+pub mod Unfinished
 pub mod WriterSteps

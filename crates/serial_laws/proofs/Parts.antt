@@ -17,6 +17,7 @@ use Rattle.world_core.specs.Machine.{after, machine}
 use Rattle.world_core.specs.Marks.{has_mark, have_mark}
 use Rattle.world_core.specs.Start.{Start}
 use Rattle.world_core.proofs.Stamped.{stamped}
+use Rattle.commit_laws.specs.Laws.{IsClosedCut}
 use Rattle.commit_laws.specs.Ways.{Way, back, back_by, forth, forth_by, neither, put_ways, sent_ways, tc_sends, way_of}
 use Rattle.commit_laws.proofs.Causal.{AreCausal, cuts_are_causal}
 use Rattle.transit_laws.specs.GivenUp.{is_carried_out, is_given_up}
@@ -50,14 +51,16 @@ part_logs start es all past h = record { newer = logs_of start past.newer h; is 
 pub run_logs : (start : Start) (es : List LogStep) → IsRun start es → AreLogs (machine start) (logs_of start es)
 run_logs start es run = logs_of_run (machine start) es run.run
 
+pub run_cut : (start : Start) (es : List LogStep) → IsRun start es → IsClosedCut start (logs_of start es) (logs_of start es)
+run_cut start es run = record {
+  within = run.within;
+  right = run_logs start es run;
+  cut = λ h. past_self (logs_of start es h);
+  closed = closed_of_logs (machine start) (stamped start) (logs_of start es) (run_logs start es run);
+}
+
 pub run_causal : (start : Start) (es : List LogStep) → IsRun start es → AreCausal start (logs_of start es)
-run_causal start es run =
-    cuts_are_causal start (logs_of start es) (logs_of start es) (record {
-      within = run.within;
-      right = run_logs start es run;
-      cut = λ h. past_self (logs_of start es h);
-      closed = closed_of_logs (machine start) (stamped start) (logs_of start es) (run_logs start es run);
-    })
+run_causal start es run = cuts_are_causal start (logs_of start es) (logs_of start es) (run_cut start es run)
 
 -- marks stay
 pub mark_past : (test : Mark → Bool) (log all : List LogStep) → IsPast log all → has_mark test log ≡ true → has_mark test all ≡ true
