@@ -1,3 +1,4 @@
+pub mod AlongRuns
 pub mod DecisionSteps
 pub mod EntriesGrow
 pub mod FairSteps
@@ -13,6 +14,7 @@ pub mod RowApplies
 pub mod RowMarks
 pub mod RowPrepares
 pub mod RunEntries
+pub mod SerialOfOwed
 pub mod StepKinds
 pub mod Turns
 pub mod Unfinished
