@@ -18,7 +18,7 @@ use Rattle.world_core.specs.Marks.{has_mark, have_mark}
 use Rattle.world_core.specs.Start.{Start}
 use Rattle.world_core.proofs.Stamped.{stamped}
 use Rattle.commit_laws.specs.Laws.{IsClosedCut}
-use Rattle.commit_laws.specs.Ways.{Way, back, back_by, forth, forth_by, neither, put_ways, sent_ways, tc_sends, way_of}
+use Rattle.commit_laws.specs.Ways.{Way, back, back_by, closes, forth, forth_by, neither, put_ways, sent_ways, tc_sends, way_of}
 use Rattle.commit_laws.proofs.Causal.{AreCausal, cuts_are_causal}
 use Rattle.transit_laws.specs.GivenUp.{is_carried_out, is_given_up}
 use Rattle.transit_laws.specs.Transit.{Comes, IsRun, logs_of}
@@ -84,11 +84,13 @@ module _ (start : Start) (tx : TxId) where
   forth_more : (w : Way) (before : List TxId) → list_any (same_tx tx) before ≡ true → list_any (same_tx tx) (forth_by w before) ≡ true
   forth_more (forth v) before has = or_right (same_tx tx v) (list_any (same_tx tx) before) has
   forth_more (back v) before has = has
+  forth_more (closes v) before has = has
   forth_more neither before has = has
 
   back_more : (w : Way) (before : List TxId) → list_any (same_tx tx) before ≡ true → list_any (same_tx tx) (back_by w before) ≡ true
   back_more (forth v) before has = has
   back_more (back v) before has = or_right (same_tx tx v) (list_any (same_tx tx) before) has
+  back_more (closes v) before has = has
   back_more neither before has = has
 
   module _ (f : Way → List TxId → List TxId) (more : (w : Way) (before : List TxId) → list_any (same_tx tx) before ≡ true → list_any (same_tx tx) (f w before) ≡ true) where

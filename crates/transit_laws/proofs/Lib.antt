@@ -4,7 +4,6 @@ pub mod EachTurn
 pub mod GivenUp
 pub mod HostAfter
 pub mod HostTokens
-pub mod InTransit
 pub mod Keyed
 pub mod LqhTokens
 pub mod LqhWaits
