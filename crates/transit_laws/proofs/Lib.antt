@@ -1,5 +1,14 @@
+pub mod CircleView
 pub mod EachLive
 pub mod GivenUp
+pub mod KeySends
+pub mod KeyTokens
+pub mod LiveAfter
+pub mod OthersStay
+pub mod Performing
+pub mod TcCircle
+pub mod TcSees
+pub mod TcTokenless
 pub mod Transit
 pub mod TransitRuns
 pub mod Ways
