@@ -6,6 +6,7 @@ pub mod KeyTokens
 pub mod LiveAfter
 pub mod OthersStay
 pub mod Performing
+pub mod TcAskTurns
 pub mod TcAsks
 pub mod TcCircle
 pub mod TcSees
