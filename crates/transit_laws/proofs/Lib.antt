@@ -1,6 +1,7 @@
 pub mod CircleView
 pub mod EachLive
 pub mod GivenUp
+pub mod HostAsks
 pub mod KeySends
 pub mod KeyTokens
 pub mod LiveAfter

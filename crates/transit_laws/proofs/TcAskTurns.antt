@@ -53,9 +53,9 @@ mute_none tx [] mute = refl
 mute_none tx (o ∷ more) mute = omega (arith, ap one_if (mute_ask tx o.body mute.0), mute_none tx more mute.1)
 
 -- another transaction asks for none of this one
-other_none : (tx one : TxId) (t : Transaction) (sends : List Outgoing) → same_tx one tx ≡ false → AreMute sends ⊎ IsAsking one t sends → in_sends (ask tx) sends ≡ 0
-other_none tx one t sends off (inl mute) = mute_none tx sends mute
-other_none tx one t sends off (inr asking) = omega (arith, ap (in_sends (ask tx)) asking.is, ap one_if off)
+other_none : (tx one : TxId) (t : Transaction) (turn : Turn) → same_tx one tx ≡ false → AreMute turn.step.effects.sends ⊎ IsAsking one t turn → in_sends (ask tx) turn.step.effects.sends ≡ 0
+other_none tx one t turn off (inl mute) = mute_none tx turn.step.effects.sends mute
+other_none tx one t turn off (inr asking) = omega (arith, ap (in_sends (ask tx)) asking.is, ap one_if off)
 
 module _ (tx : TxId) where
   -- the transaction is as before, takes a turn, or begins
@@ -82,7 +82,7 @@ module _ (tx : TxId) where
         place = prefix_len (λ x. not (same_tx one x)) (keys_of s.live)
 
         quiet : (f : IsEntry (same_tx one) s.live place) → same_tx f.key tx ≡ false → in_sends (ask tx) (row f.value).step.effects.sends ≡ 0
-        quiet f off = other_none tx one f.value (row f.value).step.effects.sends (ap (λ v. same_tx v tx) (same_tx-is one f.key f.passes) ∙ off) (asks f.value).sends
+        quiet f off = other_none tx one f.value (row f.value) (ap (λ v. same_tx v tx) (same_tx-is one f.key f.passes) ∙ off) (asks f.value).sends
 
         -- where it is this one
         none_front : (f : IsEntry (same_tx one) s.live place) → same_tx f.key tx ≡ true → tally (is_keyed tx) (f.front ++ f.back) ≡ 0

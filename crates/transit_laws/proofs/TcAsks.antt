@@ -39,7 +39,7 @@ use Rattle.tc_block.specs.declared.phase.Phase.{Phase}
 use Rattle.tc_block.specs.declared.phase.Phase.TheVariants.{Open, Verifying, Committing, Completing, Aborting}
 use Rattle.tc_block.specs.declared.touched.Touched.{Touched}
 use Rattle.tc_block.specs.declared.transaction.Transaction.{Transaction}
-use Rattle.tc_block.specs.Turn.{Turn, going}
+use Rattle.tc_block.specs.Turn.{Turn, at_phase, going}
 use Rattle.commit_laws.specs.Kinds.{kind_of}
 use Rattle.commit_laws.specs.Ways.{Way, back, way_of}
 use Rattle.commit_laws.proofs.Keys.{same_tx-self}
@@ -70,18 +70,20 @@ is_mute body = true
 abbrev pub AreMute : List Outgoing → Type 0
 AreMute sends = Each (λ (o : Outgoing). is_mute o.body ≡ true) sends
 
--- one signal asks for an epoch, with the operations of a transaction that is open
-pub record IsAsking (tx : TxId) (t : Transaction) (sends : List Outgoing) : Type 0 where
+-- one signal asks for an epoch, with the operations of a transaction that was open, and waits for it then
+pub record IsAsking (tx : TxId) (t : Transaction) (turn : Turn) : Type 0 where
   pub node : ℕ
   pub was : t.phase ≡ Open
-  pub is : sends ≡ to_place (epochs node) (Epoch (DiVerifyReq tx t.ops)) ∷ []
+  pub free : t.asked ≡ None
+  pub left : left_by turn ≡ Some (at_phase t Verifying)
+  pub is : turn.step.effects.sends ≡ to_place (epochs node) (Epoch (DiVerifyReq tx t.ops)) ∷ []
 
 -- what becomes of one that waits for its epoch: it waits on, was given the epoch, or is given up
 abbrev pub IsLate : TxId → Body → Transaction → Turn → Type 0
 IsLate tx body t turn = (left_by turn ≡ Some t) ⊎ ((is_conf tx body ≡ true) ⊎ (list_any (λ (o : Outgoing). is_back tx (way_of o.body)) turn.step.effects.sends ≡ true))
 
 pub record AskTurn (tx : TxId) (body : Body) (t : Transaction) (turn : Turn) : Type 0 where
-  pub sends : AreMute turn.step.effects.sends ⊎ IsAsking tx t turn.step.effects.sends
+  pub sends : AreMute turn.step.effects.sends ⊎ IsAsking tx t turn
   pub late : t.phase ≡ Verifying → t.asked ≡ None → IsLate tx body t turn
 
 mute_of : (tx : TxId) (body : Body) → SaysOf tx (Unit {0}) (kind_of body) → is_mute body ≡ true
@@ -187,6 +189,14 @@ module _ (tx : TxId) where
     pub wait_asks : (body : Body) → AskTurn tx body t (going (operate.wait_row tx t))
     wait_asks body = mute_turn body (going (operate.wait_row tx t)) (wait_goes tx (Unit {0}) t (λ is. tt)).sends wait_rests
 
+    ready_free : (phase : Phase) (asked : Option Asked) → operate.is_ready phase asked ≡ true → asked ≡ None
+    ready_free Open None is = refl
+    ready_free Open (Some asked) is = absurd cc
+    ready_free Verifying asked is = absurd cc
+    ready_free (Committing epoch awaited) asked is = absurd cc
+    ready_free (Completing epoch awaited) asked is = absurd cc
+    ready_free (Aborting why verifying awaited) asked is = absurd cc
+
     ready_open : (phase : Phase) (asked : Option Asked) → operate.is_ready phase asked ≡ true → phase ≡ Open
     ready_open Open asked is = refl
     ready_open Verifying asked is = absurd cc
@@ -203,7 +213,7 @@ module _ (tx : TxId) where
       where
         by : (b : Bool) → operate.is_ready t.phase t.asked ≡ b → AskTurn tx body t (going (commit.decide_if node tx t b))
         by true is = record {
-          sends = inr (record { node = node; was = ready_open t.phase t.asked is; is = refl });
+          sends = inr (record { node = node; was = ready_open t.phase t.asked is; free = ready_free t.phase t.asked is; left = refl; is = refl });
           late = λ v none. open_waits t.phase (ready_open t.phase t.asked is) v;
         }
         by false is = record { sends = inl tt; late = λ v none. inl refl }
