@@ -18,3 +18,4 @@ pub mod Ways
 pub mod WaysMarked
 pub mod WaysPassed
 pub mod Weighing
+pub mod WhoAsks
