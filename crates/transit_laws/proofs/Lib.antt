@@ -1,4 +1,5 @@
 pub mod CircleView
+pub mod Decided
 pub mod EachLive
 pub mod GivenUp
 pub mod HostAsks

@@ -1,5 +1,6 @@
 pub mod Circle
 pub mod Completions
+pub mod Decided
 pub mod GivenUp
 pub mod Keyed
 pub mod Live
