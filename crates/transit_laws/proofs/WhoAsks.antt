@@ -2,8 +2,8 @@
 use Rattle.std.proofs.Common.{◌≡◌, ◌≢◌, ◌⊎◌, ℕ, zero, suc, ◌+◌, ◌≤◌, List, [], ◌∷◌, Bool, true, false, refl, sym, ap, ◌∙◌, subst, inl, inr, arith}
 use Rattle.std.proofs.lemmas.Bool.{cases_eq, or_cases}
 use Rattle.std.specs.List.{list_any}
-use Rattle.std.specs.Prelude.{◌||◌, if◌then◌else◌, Option, None, Some}
-use Rattle.run_theory.specs.Lists.{Each, IsIn, IsPast}
+use Rattle.std.specs.Prelude.{◌||◌, Option, None, Some}
+use Rattle.run_theory.specs.Lists.{Each, IsIn}
 use Rattle.run_theory.proofs.Pasts.{each_from, each_in, each_map}
 use Rattle.run_theory.proofs.Runs.{log_of-other, log_of-own, log_of-past}
 use Rattle.sig_core.specs.declared.log.LogStep.{LogStep}

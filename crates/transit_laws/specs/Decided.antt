@@ -1,4 +1,4 @@
--- Which rows are committed, once more: of transactions that their coordinators' nodes have decided.
+-- Rows are committed of transactions that the nodes of their coordinators have decided.
 use Rattle.std.specs.Prelude.{◌≡◌, ℕ, true, List}
 use Rattle.sig_core.specs.declared.log.LogStep.{LogStep}
 use Rattle.sig_core.specs.declared.member.Member.{Member}
