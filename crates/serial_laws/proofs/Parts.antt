@@ -18,7 +18,7 @@ use Rattle.world_core.specs.Marks.{has_mark, have_mark}
 use Rattle.world_core.specs.Start.{Start}
 use Rattle.world_core.proofs.Stamped.{stamped}
 use Rattle.commit_laws.specs.Laws.{IsClosedCut}
-use Rattle.commit_laws.specs.Ways.{Way, back, back_by, forth, forth_by, neither, put_ways, sent_ways, tc_sends, way_of}
+use Rattle.commit_laws.specs.Ways.{Way, back, back_by, forth, forth_by, put_ways, sent_ways, tc_sends, way_of}
 use Rattle.commit_laws.proofs.Causal.{AreCausal, cuts_are_causal}
 use Rattle.transit_laws.specs.GivenUp.{is_carried_out, is_given_up}
 use Rattle.transit_laws.specs.Transit.{Comes, IsRun, logs_of}
@@ -83,13 +83,11 @@ mark_all test (suc n) h logs below has = by (cases_eq h n) (mark_all test n h lo
 module _ (start : Start) (tx : TxId) where
   forth_more : (w : Way) (before : List TxId) → list_any (same_tx tx) before ≡ true → list_any (same_tx tx) (forth_by w before) ≡ true
   forth_more (forth v) before has = or_right (same_tx tx v) (list_any (same_tx tx) before) has
-  forth_more (back v) before has = has
-  forth_more neither before has = has
+  forth_more _ before has = has
 
   back_more : (w : Way) (before : List TxId) → list_any (same_tx tx) before ≡ true → list_any (same_tx tx) (back_by w before) ≡ true
-  back_more (forth v) before has = has
   back_more (back v) before has = or_right (same_tx tx v) (list_any (same_tx tx) before) has
-  back_more neither before has = has
+  back_more _ before has = has
 
   module _ (f : Way → List TxId → List TxId) (more : (w : Way) (before : List TxId) → list_any (same_tx tx) before ≡ true → list_any (same_tx tx) (f w before) ≡ true) where
     put_more : (sends : List Outgoing) (before : List TxId) → list_any (same_tx tx) before ≡ true → list_any (same_tx tx) (put_ways f sends before) ≡ true
