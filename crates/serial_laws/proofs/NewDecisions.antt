@@ -1,5 +1,5 @@
 -- What an event decides wasn't decided before, and each transaction has one entry.
-use Rattle.std.proofs.Common.{◌≡◌, ◌≢◌, ◌⊎◌, ◌<◌, ℕ, zero, suc, Bool, true, false, ◌&&◌, ◌||◌, List, [], ◌∷◌, ◌++◌, refl, sym, ap, ◌∙◌, subst, inl, inr, arith}
+use Rattle.std.proofs.Common.{◌≡◌, ◌≢◌, ◌⊎◌, ℕ, zero, suc, Bool, true, false, ◌&&◌, ◌||◌, List, [], ◌∷◌, ◌++◌, refl, sym, ap, ◌∙◌, subst, inl, inr, arith}
 use Rattle.std.proofs.lemmas.Bool.{cases_eq, or_cases, or_left}
 use Rattle.std.proofs.lemmas.Bool.Decides.{nat_tests}
 use Rattle.std.specs.List.{list_any}
@@ -7,7 +7,7 @@ use Rattle.std.specs.Prelude.{◌==◌, nat_lt}
 use Rattle.run_theory.specs.Lists.{Each, IsIn, IsPast}
 use Rattle.run_theory.specs.Orders.{is_after}
 use Rattle.run_theory.proofs.Orders.{each_log}
-use Rattle.run_theory.proofs.Pasts.{each_append, each_in, each_map, in_append, in_past, past_less, past_self}
+use Rattle.run_theory.proofs.Pasts.{each_append, each_in, each_map, in_past, past_less, past_self}
 use Rattle.run_theory.proofs.Runs.{log_of-past}
 use Rattle.sig_core.specs.declared.entry.Entry.{Entry}
 use Rattle.sig_core.specs.declared.log.LogStep.{LogStep}
@@ -28,7 +28,7 @@ use Rattle.commit_laws.proofs.PlainMarks.{ArePlain}
 use Rattle.commit_laws.proofs.StrictOrder.{one_decided}
 use Rattle.transit_laws.specs.Owed.{is_decided}
 use Rattle.transit_laws.specs.Transit.{Comes, IsRun, logs_of}
-use Rattle.serial_laws.proofs.Parts.{mark_past, part_comes, part_logs, part_run, part_turn, run_causal, run_logs}
+use Rattle.serial_laws.proofs.Parts.{mark_past, part_comes, part_turn, run_causal, run_logs}
 use Rattle.serial_laws.proofs.RowMarks.{alone_so}
 use Rattle.serial_laws.proofs.RunEntries.{entries_decided, entries_plain, marks_are, new_entry, other_log, own_log}
 use Rattle.serial_laws.proofs.Turns.{ComesAfter, IsByTurn}
