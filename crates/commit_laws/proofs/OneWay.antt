@@ -72,7 +72,7 @@ or_right true b is = refl
 or_right false b is = is
 
 -- who went a way is among those that went it later
-forth_more : (p : TxId → Bool) (sends : List Outgoing) (cs : List TxId) → list_any p cs ≡ true → list_any p (put_ways forth_by sends cs) ≡ true
+pub forth_more : (p : TxId → Bool) (sends : List Outgoing) (cs : List TxId) → list_any p cs ≡ true → list_any p (put_ways forth_by sends cs) ≡ true
 forth_more p [] cs is = is
 forth_more p (o ∷ more) cs is = forth_more p more (forth_by (way_of o.body) cs) (by (way_of o.body))
   where
@@ -82,7 +82,7 @@ forth_more p (o ∷ more) cs is = forth_more p more (forth_by (way_of o.body) cs
     by (closes other) = is
     by neither = is
 
-back_more : (p : TxId → Bool) (sends : List Outgoing) (bs : List TxId) → list_any p bs ≡ true → list_any p (put_ways back_by sends bs) ≡ true
+pub back_more : (p : TxId → Bool) (sends : List Outgoing) (bs : List TxId) → list_any p bs ≡ true → list_any p (put_ways back_by sends bs) ≡ true
 back_more p [] bs is = is
 back_more p (o ∷ more) bs is = back_more p more (back_by (way_of o.body) bs) (by (way_of o.body))
   where

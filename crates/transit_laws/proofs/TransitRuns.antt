@@ -229,3 +229,15 @@ pub runs_have_transit : RunsHaveTransit
 runs_have_transit start es run =
     let has = has_transit start es run in
     (has.xs, has.transit)
+
+-- what an event that comes takes, of what is in transit then
+pub record IsTaking (start : Start) (es : List LogStep) (e : LogStep) : Type 0 where
+  pub before : List Signal
+  pub transit : AreInTransit start es before
+  pub between : List Signal
+  pub takes : Takes e before between
+
+pub taking : (start : Start) (es : List LogStep) (e : LogStep) → Comes start es e → IsTaking start es e
+taking start es e come =
+    let (xs, (before, (rest, passes))) = runs_have_transit start (e ∷ es) come.now in
+    record { before = before; transit = rest; between = passes.between; takes = passes.takes }
