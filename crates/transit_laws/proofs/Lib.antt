@@ -13,6 +13,7 @@ pub mod TcTokens
 pub mod TcTurns
 pub mod Transit
 pub mod TransitRuns
+pub mod Undecided
 pub mod Verified
 pub mod Ways
 pub mod WaysMarked

@@ -36,14 +36,14 @@ abbrev pub gives_up : TxId → List Outgoing → Bool
 gives_up tx sends = list_any (same_tx tx) (put_ways back_by sends [])
 
 -- how many parts there may be, by its phase and its unanswered operation
-abbrev budget_at : Phase → Option Asked → ℕ
+abbrev pub budget_at : Phase → Option Asked → ℕ
 budget_at phase asked = if is_aborting phase then 1 else one_if (is_some asked)
 
 -- and after a turn: where it is over, one if the transaction is given up
 abbrev pub budget_after : TxId → Turn → ℕ
 budget_after tx turn = if turn.over then one_if (gives_up tx turn.step.effects.sends) else budget_of turn.step.state
 
-few : (phase : Phase) (asked : Option Asked) → budget_at phase asked ≤ 1
+pub few : (phase : Phase) (asked : Option Asked) → budget_at phase asked ≤ 1
 few phase asked = by (is_aborting phase) asked
   where
     by : (b : Bool) (asked : Option Asked) → (if b then 1 else one_if (is_some asked)) ≤ 1
@@ -52,7 +52,7 @@ few phase asked = by (is_aborting phase) asked
     by false (Some a) = omega arith
 
 -- none where it takes neither operations nor is aborted
-idle : (phase : Phase) (asked : Option Asked) → is_right asked phase ≡ true → may_ask phase ≡ false → budget_at phase asked ≡ 0
+pub idle : (phase : Phase) (asked : Option Asked) → is_right asked phase ≡ true → may_ask phase ≡ false → budget_at phase asked ≡ 0
 idle Open asked right off = absurd cc
 idle (Aborting why verifying awaited) asked right off = absurd cc
 idle Verifying None right off = refl
