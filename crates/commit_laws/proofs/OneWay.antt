@@ -425,7 +425,7 @@ pub coordinators_say : CoordinatorsSay
 coordinators_say start h log e = (host_one (after start h log) e.taken.to e.taken.body (sent_ways start forth_by h log) (sent_ways start back_by h log) (log_one start h log)).says
 
 -- who is among those that went forth isn't apart from all of them
-not_apart : (tx : TxId) (cs : List TxId) → list_any (same_tx tx) cs ≡ true → NotIn tx cs → ⊥
+pub not_apart : (tx : TxId) (cs : List TxId) → list_any (same_tx tx) cs ≡ true → NotIn tx cs → ⊥
 not_apart tx [] among off = cc
 not_apart tx (v ∷ cs) among off = by (or_cases (same_tx tx v) (list_any (same_tx tx) cs) among) (λ more. not_apart tx cs more off.1)
   where

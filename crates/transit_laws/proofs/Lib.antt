@@ -3,6 +3,7 @@ pub mod GivenUp
 pub mod HostTokens
 pub mod LqhTokens
 pub mod LqhWaits
+pub mod NoneWait
 pub mod OfLive
 pub mod OneAtATime
 pub mod QueueWaits

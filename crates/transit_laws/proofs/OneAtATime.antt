@@ -82,7 +82,7 @@ module _ (start : Start) (tx : TxId) where
     joined_now = joined (signals_of start h (was h) e) between
 
     -- in transit then are those that were left and those that are sent
-    in_before : tokens_in tx before ≡ came + tokens_in tx between
+    pub in_before : tokens_in tx before ≡ came + tokens_in tx between
     in_before =
         omega (
           arith,
@@ -151,16 +151,16 @@ module _ (start : Start) (tx : TxId) where
   unfolding fresh_node begun_node
   fresh_waits k = refl
 
+  pub none_waits_first : (k : ℕ) → waiting_in tx (after start k []) ≡ 0
+  none_waits_first zero = ap (waiting_in tx) (shell_after start []).is
+  none_waits_first (suc k) = fresh_waits k
+
   none_first : tokens start (logs_of start []) [] tx ≤ budget start (logs_of start []) tx
   none_first = omega (arith, none (hosts start))
     where
-      none_at : (k : ℕ) → waiting_in tx (after start k []) ≡ 0
-      none_at zero = ap (waiting_in tx) (shell_after start []).is
-      none_at (suc k) = fresh_waits k
-
       none : (n : ℕ) → total n (λ k. waiting_in tx (after start k [])) ≡ 0
       none zero = refl
-      none (suc n) = omega (arith, none_at n, none n)
+      none (suc n) = omega (arith, none_waits_first n, none n)
 
 pub one_at_a_time : OneAtATime
 one_at_a_time start es xs tx run is =

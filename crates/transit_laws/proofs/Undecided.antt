@@ -20,31 +20,26 @@ use Rattle.node_core.specs.Fresh.{begun_node, fresh_node, fresh_shell}
 use Rattle.world_core.specs.Machine.{after, hosts}
 use Rattle.world_core.specs.Start.{Start, started}
 use Rattle.commit_laws.specs.Phases as phases
-use Rattle.commit_laws.specs.PrimaryEvents.{NoneOf}
-use Rattle.commit_laws.specs.Replica.{asks_for}
-use Rattle.commit_laws.specs.ReplicaLaws.{key_in}
 use Rattle.commit_laws.specs.Ways.{back_by, forth_by, is_aborting, sent_ways}
 use Rattle.commit_laws.proofs.Causal.{KnowsBy, sent_kinds}
 use Rattle.commit_laws.proofs.HostGoes.{HostKnows}
-use Rattle.commit_laws.proofs.OneWay.{forth_decided}
+use Rattle.commit_laws.proofs.OneWay.{forth_decided, not_apart}
 use Rattle.commit_laws.proofs.TcNumbers.{IsLive, NotIn, begun_by, verified_by}
 use Rattle.answer_laws.proofs.Tally.{one_if, tally, tally_in}
 use Rattle.answer_laws.proofs.TcOps.{may_ask}
 use Rattle.answer_laws.proofs.Totals.{total_at}
-use Rattle.transit_laws.specs.Circle.{at_host}
 use Rattle.transit_laws.specs.GivenUp.{is_carried_out, is_given_up}
 use Rattle.transit_laws.specs.Live.{live_at, of_host, of_live}
 use Rattle.transit_laws.specs.Owed.{IsUndecided, WaitersAreUndecided, is_decided}
 use Rattle.transit_laws.specs.Tokens.{budget_by, budget_of, is_token, tokens, tokens_in, waiting_all, waiting_in}
 use Rattle.transit_laws.specs.Transit.{AreInTransit, Comes, IsRun, logs_of}
-use Rattle.transit_laws.specs.Undecided.{CarriedOutHaveNone, DecidedHaveNone, NoneOfCarriedOutWait, NoneWaitBeside, TokensAreUndecided}
+use Rattle.transit_laws.specs.Undecided.{CarriedOutHaveNone, DecidedHaveNone}
 use Rattle.transit_laws.proofs.GivenUp.{none_is_both}
 use Rattle.transit_laws.proofs.OfLive.{each_found}
 use Rattle.transit_laws.proofs.OneAtATime.{one_at_a_time}
 use Rattle.transit_laws.proofs.TcSound.{IsSoundHost, log_sound}
 use Rattle.transit_laws.proofs.TcTokens.{IsOwned}
 use Rattle.transit_laws.proofs.TcTurns.{few, idle}
-use Rattle.transit_laws.proofs.TransitRuns.{runs_have_transit}
 use Rattle.transit_laws.proofs.Verified.{decided_asked, run_causal}
 
 -- one that is neither open nor aborted has no operation unanswered
@@ -61,14 +56,6 @@ decided_not_asking Verifying is = absurd cc
 decided_not_asking (Committing epoch awaited) is = refl
 decided_not_asking (Completing epoch awaited) is = refl
 decided_not_asking (Aborting why verifying awaited) is = absurd cc
-
-not_apart : (tx : TxId) (vs : List TxId) → list_any (same_tx tx) vs ≡ true → NotIn tx vs → ⊥
-not_apart tx [] among off = cc
-not_apart tx (v ∷ vs) among off = by (or_cases (same_tx tx v) (list_any (same_tx tx) vs) among) (λ more. not_apart tx vs more off.1)
-  where
-    by : (same_tx tx v ≡ true) ⊎ (list_any (same_tx tx) vs ≡ true) → (list_any (same_tx tx) vs ≡ true → ⊥) → ⊥
-    by (inl own) rest = let both : true ≡ false = sym own ∙ (same_tx-swap tx v ∙ off.0) in cc
-    by (inr more) rest = rest more
 
 falsely : {A : Type 0} (b : Bool) → b ≡ true → b ≡ false → A
 falsely true is off = absurd cc
