@@ -1,5 +1,5 @@
 -- Where a part of an operation comes, or the transaction is carried out, none of its requests waits at a replica.
-use Rattle.std.proofs.Common.{◌≡◌, ◌⊎◌, ◌<◌, ◌≤◌, ℕ, zero, suc, ◌+◌, Bool, true, false, List, [], ◌∷◌, refl, sym, ap, ◌∙◌, subst, arith, inl, inr}
+use Rattle.std.proofs.Common.{◌≡◌, ◌⊎◌, ◌<◌, ◌≤◌, ℕ, ◌+◌, Bool, true, false, List, [], ◌∷◌, refl, sym, ap, ◌∙◌, arith, inl, inr}
 use Rattle.std.specs.Prelude.{cond, filter, Option, None, Some}
 use Rattle.std.proofs.lemmas.Bool.{cases_lt}
 use Rattle.run_theory.specs.Lists.{Each, IsIn}
@@ -18,17 +18,16 @@ use Rattle.commit_laws.specs.Replica.{asks_for}
 use Rattle.commit_laws.specs.ReplicaLaws.{key_in}
 use Rattle.commit_laws.proofs.EachEntry.{each_filter}
 use Rattle.commit_laws.proofs.Keys.{same_tx-self}
-use Rattle.answer_laws.proofs.Tally.{one_if, tally, tally_in}
+use Rattle.answer_laws.proofs.Tally.{one_if, tally}
 use Rattle.answer_laws.proofs.Totals.{total_at}
+use Rattle.transit_laws.specs.Beside.{ComersAreUndecided, NoneWaitBeside, NoneWaitWhereCarriedOut}
 use Rattle.transit_laws.specs.Circle.{at_host}
-use Rattle.transit_laws.specs.GivenUp.{is_carried_out, is_given_up}
+use Rattle.transit_laws.specs.GivenUp.{is_given_up}
 use Rattle.transit_laws.specs.Live.{live_at}
 use Rattle.transit_laws.specs.Owed.{IsUndecided, WaitersAreUndecided, is_decided}
 use Rattle.transit_laws.specs.Tokens.{budget, budget_by, is_token, tokens, tokens_in, waiting_all, waiting_in}
 use Rattle.transit_laws.specs.Transit.{AreInTransit, Comes, IsRun, logs_of}
-use Rattle.transit_laws.specs.Undecided.{NoneOfCarriedOutWait, NoneWaitBeside, TokensAreUndecided}
 use Rattle.tc_block.specs.declared.transaction.Transaction.{Transaction}
-
 use Rattle.transit_laws.proofs.OneAtATime.{in_before, none_waits_first, one_at_a_time}
 use Rattle.transit_laws.proofs.TcTurns.{few}
 use Rattle.transit_laws.proofs.TransitRuns.{IsTaking, runs_have_transit, taking}
@@ -93,8 +92,8 @@ module _ (start : Start) (es : List LogStep) (run : IsRun start es) where
       by false false e f = inr f
       by false true e f = absurd (omega (arith, some, decided_have_none start es xs tx run transit f e))
 
-pub none_of_carried_out_wait : NoneOfCarriedOutWait
-none_of_carried_out_wait start es tx key h run carried =
+pub none_wait_where_carried_out : NoneWaitWhereCarriedOut
+none_wait_where_carried_out start es tx key h run carried =
     let (xs, transit) = runs_have_transit start es run in
     none_at start es run tx key h (omega (arith, carried_out_have_none start es xs tx run transit carried))
 
@@ -103,13 +102,13 @@ taken_some : (start : Start) (es : List LogStep) (e : LogStep) (tx : TxId) (come
 taken_some start es e tx come t is = omega (arith, in_before start tx es e t.before t.between come t.takes, ap one_if is)
 
 pub none_wait_beside : NoneWaitBeside
-none_wait_beside start es e tx key h come is =
+none_wait_beside start es e tx key h come plain is =
     let t = taking start es e come in
     none_at start es come.before tx key h
     (omega (arith, taken_some start es e tx come t is, one_at_a_time start es t.before tx come.before t.transit, few_budget start es come.before tx))
 
-pub tokens_are_undecided : TokensAreUndecided
-tokens_are_undecided start es e tx come is =
+pub comers_are_undecided : ComersAreUndecided
+comers_are_undecided start es e tx come plain is =
     let t = taking start es e come in
     undecided_if start es come.before tx t.before t.transit (omega (arith, taken_some start es e tx come t is))
 

@@ -1,5 +1,5 @@
 -- The operations of a transaction are under way one at a time.
-use Rattle.std.proofs.Common.{◌≡◌, ◌≢◌, ◌⊎◌, ◌<◌, ℕ, zero, suc, ◌+◌, ◌-◌, ◌≤◌, Bool, true, false, List, [], ◌∷◌, refl, sym, ap, ◌∙◌, subst, arith, inl, inr}
+use Rattle.std.proofs.Common.{◌≡◌, ◌≢◌, ◌⊎◌, ◌<◌, ℕ, zero, suc, ◌+◌, ◌-◌, ◌≤◌, Bool, true, List, [], ◌∷◌, refl, sym, ap, ◌∙◌, subst, arith, inl, inr}
 use Rattle.std.specs.List.{list_any}
 use Rattle.std.proofs.lemmas.Bool.{cases_eq, cases_lt}
 use Rattle.run_theory.proofs.Runs.{log_of-other, log_of-own}
@@ -12,8 +12,7 @@ use Rattle.sig_core.specs.declared.signal.Body.TheVariants.{Chain}
 use Rattle.sig_core.specs.declared.signal.chain.ChainSignal.TheVariants.{LqhKeyReq, LqhKeyConf, LqhKeyRef}
 use Rattle.sig_core.specs.declared.signal.Signal.{Signal}
 use Rattle.sig_core.specs.Same.{same_tx}
-use Rattle.node_core.specs.declared.host.Host as host
-use Rattle.node_core.specs.declared.host.Host.TheVariants.{Shell, Node}
+use Rattle.node_core.specs.declared.host.Host.TheVariants.{Node}
 use Rattle.node_core.specs.Fresh.{begun_node, fresh_node}
 use Rattle.node_core.specs.Requests.{is_request}
 use Rattle.world_core.specs.Machine.{after, hosts, machine, signals_of, step_after}
@@ -24,12 +23,12 @@ use Rattle.answer_laws.proofs.Tally.{one_if, tally}
 use Rattle.answer_laws.proofs.Totals.{total, total_at, total_one}
 use Rattle.transit_laws.specs.Live.{of_host}
 use Rattle.transit_laws.specs.Tokens.{OneAtATime, budget, budget_by, is_token, tokens, tokens_in, waiting_all, waiting_in}
-use Rattle.transit_laws.specs.Transit.{AreInTransit, Comes, IsRun, Takes, joined, logs_of}
+use Rattle.transit_laws.specs.Transit.{Comes, Takes, joined, logs_of}
 use Rattle.transit_laws.proofs.HostTokens.{Kept, node_step_kept, shell_kept}
 use Rattle.transit_laws.proofs.LqhTokens.{tokens_out}
 use Rattle.transit_laws.proofs.TcSound.{IsSoundHost, log_sound}
 use Rattle.transit_laws.proofs.Transit.{along_transit}
-use Rattle.transit_laws.proofs.Weighing.{in_sends, in_transit, joins_weigh, takes_weigh, weigh}
+use Rattle.transit_laws.proofs.Weighing.{joins_weigh, takes_weigh, weigh}
 
 tally_weighs : {A : Type 0} (p : A → Bool) (xs : List A) → tally p xs ≡ weigh (λ x. one_if (p x)) xs
 tally_weighs p [] = refl

@@ -1,45 +1,35 @@
 -- Of a transaction that is decided, and isn't given up, nothing is under way.
-use Rattle.std.proofs.Common.{◌≡◌, ◌⊎◌, ◌<◌, ◌≤◌, ℕ, zero, suc, ◌+◌, Bool, true, false, cond, List, [], ◌∷◌, filter, refl, sym, ap, ◌∙◌, subst, arith, inl, inr}
+use Rattle.std.proofs.Common.{◌≡◌, ℕ, Bool, true, false, List, refl, ap, arith}
 use Rattle.std.specs.List.{list_any}
-use Rattle.std.specs.Prelude.{◌||◌, Option, None, Some}
-use Rattle.std.proofs.lemmas.Bool.{cases_lt, or_cases}
-use Rattle.run_theory.specs.Lists.{Each, IsIn}
+use Rattle.std.specs.Prelude.{Option, None, Some}
+use Rattle.run_theory.specs.Lists.{Each}
 use Rattle.sig_core.specs.declared.log.LogStep.{LogStep}
 use Rattle.sig_core.specs.declared.member.TxId.{TxId}
-use Rattle.sig_core.specs.declared.signal.Signal.{Signal}
 use Rattle.sig_core.specs.Same.{same_tx}
-use Rattle.row_locks.proofs.TxLemmas.{same_tx-swap}
-use Rattle.lqh_block.specs.declared.request.Request.{Request}
 use Rattle.tc_block.specs.declared.phase.Phase.{Phase}
 use Rattle.tc_block.specs.declared.phase.Phase.TheVariants.{Open, Verifying, Committing, Completing, Aborting}
 use Rattle.tc_block.specs.declared.transaction.Transaction.{Transaction}
 use Rattle.node_core.specs.declared.host.Host as host
 use Rattle.node_core.specs.declared.host.Host.TheVariants.{Shell, Node}
-use Rattle.node_core.specs.declared.node.Node as node
-use Rattle.node_core.specs.Fresh.{begun_node, fresh_node, fresh_shell}
-use Rattle.world_core.specs.Machine.{after, hosts}
-use Rattle.world_core.specs.Start.{Start, started}
+use Rattle.world_core.specs.Machine.{after}
+use Rattle.world_core.specs.Start.{Start}
 use Rattle.commit_laws.specs.Phases as phases
 use Rattle.commit_laws.specs.Ways.{back_by, forth_by, is_aborting, sent_ways}
-use Rattle.commit_laws.proofs.Causal.{KnowsBy, sent_kinds}
+use Rattle.commit_laws.proofs.Causal.{sent_kinds}
 use Rattle.commit_laws.proofs.HostGoes.{HostKnows}
 use Rattle.commit_laws.proofs.OneWay.{forth_decided, not_apart}
-use Rattle.commit_laws.proofs.TcNumbers.{IsLive, NotIn, begun_by, verified_by}
-use Rattle.answer_laws.proofs.Tally.{one_if, tally, tally_in}
+use Rattle.commit_laws.proofs.TcNumbers.{IsLive, begun_by, verified_by}
 use Rattle.answer_laws.proofs.TcOps.{may_ask}
-use Rattle.answer_laws.proofs.Totals.{total_at}
-use Rattle.transit_laws.specs.GivenUp.{is_carried_out, is_given_up}
 use Rattle.transit_laws.specs.Live.{live_at, of_host, of_live}
-use Rattle.transit_laws.specs.Owed.{IsUndecided, WaitersAreUndecided, is_decided}
-use Rattle.transit_laws.specs.Tokens.{budget_by, budget_of, is_token, tokens, tokens_in, waiting_all, waiting_in}
-use Rattle.transit_laws.specs.Transit.{AreInTransit, Comes, IsRun, logs_of}
+use Rattle.transit_laws.specs.Tokens.{budget_by}
+use Rattle.transit_laws.specs.Transit.{logs_of}
 use Rattle.transit_laws.specs.Undecided.{CarriedOutHaveNone, DecidedHaveNone}
 use Rattle.transit_laws.proofs.GivenUp.{none_is_both}
 use Rattle.transit_laws.proofs.OfLive.{each_found}
 use Rattle.transit_laws.proofs.OneAtATime.{one_at_a_time}
 use Rattle.transit_laws.proofs.TcSound.{IsSoundHost, log_sound}
 use Rattle.transit_laws.proofs.TcTokens.{IsOwned}
-use Rattle.transit_laws.proofs.TcTurns.{few, idle}
+use Rattle.transit_laws.proofs.TcTurns.{idle}
 use Rattle.transit_laws.proofs.Verified.{decided_asked, run_causal}
 
 -- one that is neither open nor aborted has no operation unanswered

@@ -4,7 +4,6 @@ use Rattle.std.proofs.lemmas.Bool.{or_cases, or_left, or_right}
 use Rattle.std.specs.List.{list_any}
 use Rattle.run_theory.specs.LinkLaws.{IsSentBy}
 use Rattle.run_theory.specs.Lists.{Each, IsIn, IsPast}
-use Rattle.run_theory.proofs.Cuts.{closed_of_logs}
 use Rattle.run_theory.proofs.LinkFacts.{stamps_rise}
 use Rattle.run_theory.proofs.Pasts.{past_more, past_self}
 use Rattle.run_theory.proofs.Runs.{logs_of_run}
@@ -29,13 +28,11 @@ use Rattle.commit_laws.proofs.Keys.{same_tx-self}
 use Rattle.commit_laws.proofs.TcNumbers.{put_kinds, verified_by}
 use Rattle.transit_laws.specs.Owed.{is_decided}
 use Rattle.transit_laws.specs.Transit.{IsRun, logs_of}
+use Rattle.transit_laws.proofs.DecidedSettled.{run_is_cut}
 
 -- the logs of a run keep to causes
 pub run_causal : (start : Start) (es : List LogStep) → IsRun start es → AreCausal start (logs_of start es)
-run_causal start es run =
-    let right = logs_of_run (machine start) es run.run in
-    cuts_are_causal start (logs_of start es) (logs_of start es)
-    (record { within = run.within; right = right; cut = λ h. past_self (logs_of start es h); closed = closed_of_logs (machine start) (stamped start) (logs_of start es) right })
+run_causal start es run = cuts_are_causal start (logs_of start es) (logs_of start es) (run_is_cut start es run)
 
 -- for whom an epoch was asked stays so
 verified_more : (p : TxId → Bool) (sends : List Outgoing) (vs : List TxId) → list_any p vs ≡ true → list_any p (put_kinds verified_by sends vs) ≡ true

@@ -1,3 +1,4 @@
+pub mod Beside
 pub mod Circle
 pub mod Completions
 pub mod GivenUp
