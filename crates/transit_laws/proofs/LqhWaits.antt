@@ -2,7 +2,7 @@
 use Rattle.std.proofs.Common.{◌≡◌, ◌⊎◌, ℕ, ◌+◌, ◌≤◌, Bool, true, false, cond, ◌&&◌, not, List, [], ◌∷◌, ◌++◌, length, refl, sym, ap, ◌∙◌, subst, arith, inl, inr}
 use Rattle.std.specs.Prelude.{◌==◌, if◌then◌else◌, nat_lt, is_some, Option, None, Some}
 use Rattle.std.specs.List.{prefix_len}
-use Rattle.std.proofs.lemmas.Bool.{and_from, and_parts}
+use Rattle.std.proofs.lemmas.Bool.{and_from, and_left, and_parts, and_right}
 use Rattle.std.proofs.lemmas.Bool.Decides.{nat_tests}
 use Rattle.sig_core.specs.declared.member.Member.{Member}
 use Rattle.sig_core.specs.declared.member.TxId.{TxId}
@@ -94,19 +94,11 @@ unasked_others s tx key all = go (nat_lt place (length s.waiting)) refl
 freed_queue : (s : LqhState) (tx : TxId) (key k : List ℕ) (u : TxId) → is_queued (unlocked s tx key) k u ≡ true → (is_queued s k u ≡ true) × ((same_tx tx u && same_key key k) ≡ false)
 freed_queue s tx key k u is = by (same_key key k) refl (ap (λ (l : RowLock). waits u l.queue) (sym (lock-kept s.locks key k (freed_lock s tx key).lock)) ∙ is)
   where
-    falsely : (b c : Bool) → b ≡ false → (b && c) ≡ false
-    falsely true c off = absurd cc
-    falsely false c off = refl
-
-    off_key : (b : Bool) → (b && false) ≡ false
-    off_key true = refl
-    off_key false = refl
-
     by : (b : Bool) → same_key key k ≡ b → waits u (if b then (freed_lock s tx key).lock else lock_at s.locks k).queue ≡ true → (is_queued s k u ≡ true) × ((same_tx tx u && same_key key k) ≡ false)
     by true e is =
         let freed = waits_released (lock_at s.locks key) tx u is in
-        (ap (λ j. is_queued s j u) (sym (same_key-is key k e)) ∙ freed.0, falsely (same_tx tx u) (same_key key k) freed.1)
-    by false e is = (is, ap (λ b. same_tx tx u && b) e ∙ off_key (same_tx tx u))
+        (ap (λ j. is_queued s j u) (sym (same_key-is key k e)) ∙ freed.0, and_left (same_tx tx u) (same_key key k) freed.1)
+    by false e is = (is, and_right (same_tx tx u) (same_key key k) e)
 
 unlocked_asks : (s : LqhState) (tx : TxId) (key : List ℕ) → OthersAsk s key tx → WaitersAsk (unlocked s tx key)
 unlocked_asks s tx key others = record {

@@ -19,6 +19,7 @@ use Rattle.commit_laws.proofs.Causal.{sent_kinds}
 use Rattle.commit_laws.proofs.HostGoes.{HostKnows}
 use Rattle.commit_laws.proofs.OneWay.{forth_decided, not_apart}
 use Rattle.commit_laws.proofs.TcNumbers.{IsLive, begun_by, verified_by}
+use Rattle.commit_laws.proofs.TcWays.{not_both}
 use Rattle.answer_laws.proofs.TcOps.{may_ask}
 use Rattle.transit_laws.specs.Live.{live_at, of_host, of_live}
 use Rattle.transit_laws.specs.Tokens.{budget_by}
@@ -47,10 +48,6 @@ decided_not_asking (Committing epoch awaited) is = refl
 decided_not_asking (Completing epoch awaited) is = refl
 decided_not_asking (Aborting why verifying awaited) is = absurd cc
 
-falsely : {A : Type 0} (b : Bool) → b ≡ true → b ≡ false → A
-falsely true is off = absurd cc
-falsely false is off = absurd cc
-
 -- at a host that has asked for its epoch, and hasn't given it up, there may be none of it
 module _ (tx : TxId) (h : ℕ) (T D : TxId → Type 0) (begun bs vs : List TxId) where
   asked_by : (live : List (TxId × Transaction)) (node next at : ℕ) → Each (IsOwned node next bs) live → Each (IsLive h at D vs) live → list_any (same_tx tx) vs ≡ true → list_any (same_tx tx) bs ≡ false
@@ -63,7 +60,7 @@ module _ (tx : TxId) (h : ℕ) (T D : TxId → Type 0) (begun bs vs : List TxId)
 
       kept : (t : Transaction) → IsOwned node next bs (tx, t) → (b : Bool) → is_aborting t.phase ≡ b → b ≡ false
       kept t is false e = refl
-      kept t is true e = falsely (list_any (same_tx tx) bs) (is.given e) off
+      kept t is true e = not_both (list_any (same_tx tx) bs) (is.given e) off
 
       by : (o : Option Transaction) → of_live tx live ≡ o → budget_by false o ≡ 0
       by None e = refl

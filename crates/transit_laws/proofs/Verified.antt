@@ -5,7 +5,7 @@ use Rattle.std.specs.List.{list_any}
 use Rattle.run_theory.specs.LinkLaws.{IsSentBy}
 use Rattle.run_theory.specs.Lists.{Each, IsIn, IsPast}
 use Rattle.run_theory.proofs.LinkFacts.{stamps_rise}
-use Rattle.run_theory.proofs.Pasts.{past_more, past_self}
+use Rattle.run_theory.proofs.Pasts.{each_past, past_more, past_self}
 use Rattle.run_theory.proofs.Runs.{logs_of_run}
 use Rattle.sig_core.specs.declared.log.LogStep.{LogStep}
 use Rattle.sig_core.specs.declared.mark.Mark.{Mark}
@@ -64,13 +64,13 @@ sent_verified view h stamp count (o ∷ more) vs x tx (inr rest) is =
     sent_verified view h stamp (counted o.to.node count) more (verified_by (kind_of o.body) vs) x tx rest is
 
 -- the step of a mark
-record Marked (test : Mark → Bool) (log : List LogStep) : Type 0 where
-  step : LogStep
-  older : List LogStep
-  past : IsPast (step ∷ older) log
-  marked : list_any test step.marks ≡ true
+pub record Marked (test : Mark → Bool) (log : List LogStep) : Type 0 where
+  pub step : LogStep
+  pub older : List LogStep
+  pub past : IsPast (step ∷ older) log
+  pub marked : list_any test step.marks ≡ true
 
-marked_step : (test : Mark → Bool) (log : List LogStep) → has_mark test log ≡ true → Marked test log
+pub marked_step : (test : Mark → Bool) (log : List LogStep) → has_mark test log ≡ true → Marked test log
 marked_step test [] has = absurd cc
 marked_step test (e ∷ log) has = by (or_cases (list_any test e.marks) (has_mark test log) has) (marked_step test log)
   where
@@ -80,13 +80,6 @@ marked_step test (e ∷ log) has = by (or_cases (list_any test e.marks) (has_mar
     by : (list_any test e.marks ≡ true) ⊎ (has_mark test log ≡ true) → (has_mark test log ≡ true → Marked test log) → Marked test (e ∷ log)
     by (inl own) more = record { step = e; older = log; past = past_self (e ∷ log); marked = own }
     by (inr rest) more = later (more rest)
-
-each_step : {A : Type 0} (P : A → Type 0) (x : A) (older all : List A) → IsPast (x ∷ older) all → Each P all → P x
-each_step {A} P x older all past each = by past.newer (subst (Each P) past.is each)
-  where
-    by : (newer : List A) → Each P (newer ++ x ∷ older) → P x
-    by [] each = each.0
-    by (y ∷ newer) each = by newer each.1
 
 module _ (start : Start) (es : List LogStep) (run : IsRun start es) (tx : TxId) where
   abbrev logs : ℕ → List LogStep
@@ -111,7 +104,7 @@ module _ (start : Start) (es : List LogStep) (run : IsRun start es) (tx : TxId) 
   pub decided_asked : is_decided logs tx ≡ true → asked_of tx.tc (logs tx.tc) ≡ true
   decided_asked decided =
       let m = marked_step (is_decision tx) (logs tx.tc) decided in
-      took m (each_step (DecidesRightly logs) m.step m.older (logs tx.tc) m.past ((run_causal start es run).decisions tx.tc) tx m.marked)
+      took m ((each_past (DecidesRightly logs) m.past ((run_causal start es run).decisions tx.tc)).0 tx m.marked)
     where
       took : (m : Marked (is_decision tx) (logs tx.tc)) → DecidesAt logs m.step tx → asked_of tx.tc (logs tx.tc) ≡ true
       took m d = subst (λ k. asked_of k (logs k) ≡ true) d.from (by (is_request m.step.taken.body) refl)
