@@ -3,7 +3,7 @@ use Rattle.std.proofs.Common.{◌≡◌, ◌⊎◌, ℕ, Bool, true, false, List
 use Rattle.std.proofs.lemmas.Bool.{or_cases, or_left, or_right}
 use Rattle.std.specs.List.{list_any}
 use Rattle.run_theory.specs.LinkLaws.{IsSentBy}
-use Rattle.run_theory.specs.Lists.{Each, IsIn, IsPast}
+use Rattle.run_theory.specs.Lists.{IsIn, IsPast}
 use Rattle.run_theory.proofs.LinkFacts.{stamps_rise}
 use Rattle.run_theory.proofs.Pasts.{each_past, past_more, past_self}
 use Rattle.run_theory.proofs.Runs.{logs_of_run}
