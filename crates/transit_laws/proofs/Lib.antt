@@ -13,6 +13,7 @@ pub mod Keyed
 pub mod LiveAfter
 pub mod LqhTokens
 pub mod LqhWaits
+pub mod NoneWait
 pub mod OfLive
 pub mod OneAtATime
 pub mod OthersStay
@@ -25,6 +26,7 @@ pub mod RoutesChain
 pub mod RoutesLqh
 pub mod RoutesSends
 pub mod RoutesTc
+pub mod TcAborts
 pub mod TcAskTurns
 pub mod TcAsks
 pub mod TcCircle
@@ -37,6 +39,8 @@ pub mod TcTurns
 pub mod TouchedLists
 pub mod Transit
 pub mod TransitRuns
+pub mod Undecided
+pub mod Verified
 pub mod Ways
 pub mod WaysMarked
 pub mod WaysPassed

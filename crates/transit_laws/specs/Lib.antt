@@ -9,3 +9,4 @@ pub mod Owed
 pub mod Routes
 pub mod Tokens
 pub mod Transit
+pub mod Undecided
