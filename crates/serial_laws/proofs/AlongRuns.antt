@@ -35,7 +35,8 @@ use Rattle.serial_laws.proofs.FairSteps.{AreWriters, owed_fair}
 use Rattle.serial_laws.proofs.Finals.{decided_at, first_row, history_at, is_final, is_final_entry}
 use Rattle.serial_laws.proofs.KeySteps.{IsBackupWith, IsGoodWith, IsPrimaryWith, good_step, primary_replica, rests_fair}
 use Rattle.serial_laws.proofs.Members.{IsNodeOf, member_node, primary_node}
-use Rattle.serial_laws.proofs.Parts.{part_comes, part_turn, run_cut}
+use Rattle.serial_laws.proofs.Parts.{part_comes, part_turn}
+use Rattle.transit_laws.proofs.Decided.{run_is_cut}
 use Rattle.serial_laws.proofs.StepKinds.{StepKind, decision, quiet, step_kind}
 use Rattle.serial_laws.proofs.Turns.{ComesAfter, IsByTurn}
 use Rattle.serial_laws.proofs.Unfinished.{AreUnfinished, once_at, settled_empty, unfinished_now}
@@ -159,7 +160,7 @@ module _ (start : Start) (end : List LogStep) (run : IsRun start end) (turn : Is
   keys_right = by (holds_at end (past_self end))
     where
       node : (member : Member) → IsIn member (live_nodes start (logs_of start end)) → IsNodeOf start member.node
-      node member live = member_node start member (subst (IsIn member) (ap (λ (w : View). w.full) (view_first start (logs_of start end) (logs_of start end) (run_cut start end run))) live)
+      node member live = member_node start member (subst (IsIn member) (ap (λ (w : View). w.full) (view_first start (logs_of start end) (logs_of start end) (run_is_cut start end run))) live)
 
       by : Holds end → AreKeysRight start (logs_of start end)
       by holds = record {
