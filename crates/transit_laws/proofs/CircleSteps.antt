@@ -39,14 +39,15 @@ use Rattle.commit_laws.specs.Replica.{Event, Replica, ages, asks_for, at_key, ev
 use Rattle.commit_laws.specs.ReplicaLaws.{event_in, key_in}
 use Rattle.commit_laws.proofs.Keys.{same_tx-self}
 use Rattle.commit_laws.proofs.Waiting.{each-first_item}
-use Rattle.transit_laws.specs.GivenUp.{AbortsAreOfGivenUp, CommitsAreOfCarriedOut, CompletionsAreOfCarriedOut, is_carried_out, is_given_up}
+use Rattle.transit_laws.specs.GivenUp.{is_carried_out, is_given_up}
 use Rattle.transit_laws.specs.Live.{live_at, of_host, of_live}
-use Rattle.transit_laws.specs.Routes.{IsHostRouted, IsRequestRouted, IsRouted, ReplicasAreNodes, SignalsAreRouted, replicas}
-use Rattle.transit_laws.specs.Tokens.{OneAtATime, is_token}
+use Rattle.transit_laws.specs.Routes.{IsHostRouted, IsRequestRouted, IsRouted, replicas}
+use Rattle.transit_laws.specs.Tokens.{is_token}
 use Rattle.transit_laws.specs.Transit.{AreInTransit, Comes, Takes, host_after, joined, logs_of}
 use Rattle.transit_laws.proofs.CircleKept.{IsGoing, rests_going}
 use Rattle.transit_laws.proofs.Circles.{IsCircling, IsPristine, IsUnborn, pristine_as}
 use Rattle.transit_laws.proofs.CircleView.{View}
+use Rattle.transit_laws.proofs.GivenUp.{aborts_are_of_given_up, commits_are_of_carried_out, completions_are_of_carried_out}
 use Rattle.transit_laws.proofs.HostCases.{HostCase, IsBystander, IsRequest, NodeFacts, at_other, at_rows, at_shell, at_tc, event_none, event_rows, host_case, node_facts, other_bystander, row_rows, row_tc, shell_bystander, shell_zero, token_other, token_place}
 use Rattle.transit_laws.proofs.KeyMoves.{IsLike, before_here, event_here, expired_as, host_of, others_like, view_before, view_now}
 use Rattle.transit_laws.proofs.KeySends.{is_abort, lqh_tokens}
@@ -56,6 +57,8 @@ use Rattle.transit_laws.proofs.LiveAfter.{live_none, strange_none, unborn_none}
 use Rattle.transit_laws.proofs.LqhCases.{LqhCase, aborted, asked, committed, completed, expired_here, lqh_case, off, served}
 use Rattle.transit_laws.proofs.OnlyToken.{NoneAtAll, none_live}
 use Rattle.transit_laws.proofs.OthersStay.{event_of, is_of, waits_of}
+use Rattle.transit_laws.proofs.Routes.{signals_are_routed}
+use Rattle.transit_laws.proofs.RoutesChain.{replicas_are_nodes}
 use Rattle.transit_laws.proofs.TcCircle.{Going, is_early}
 use Rattle.transit_laws.proofs.TcGoing.{begin_goes, rest_goes, row_goes}
 use Rattle.transit_laws.proofs.TcSees.{Seen, Sees, no_tokens, tc_sees}
@@ -92,8 +95,7 @@ abort_of : (tx : TxId) (body : Body) → is_abort tx body ≡ true → IsAbortOf
 abort_of tx (Chain (Abort v own)) is = record { id = v; own = own; one = same_tx-is v tx is; is = refl }
 abort_of tx _ is = absurd cc
 
-module _ (start : Start) (few : OneAtATime) (routed : SignalsAreRouted) (nodes : ReplicasAreNodes) (aborts : AbortsAreOfGivenUp) (commits : CommitsAreOfCarriedOut) (completions : CompletionsAreOfCarriedOut)
-    (es : List LogStep) (e : LogStep) (tx : TxId) (key : List ℕ) (come : Comes start es e) (before between : List Signal) (transit : AreInTransit start es before) (takes : Takes e before between)
+module _ (start : Start) (es : List LogStep) (e : LogStep) (tx : TxId) (key : List ℕ) (come : Comes start es e) (before between : List Signal) (transit : AreInTransit start es before) (takes : Takes e before between)
     (kept : is_given_up start (logs_of start es) tx ≡ false) (undone : is_carried_out start (logs_of start es) tx ≡ false) (circling : IsCircling start tx key es before) where
   abbrev n : ℕ
   n = host_of start es e tx key
@@ -166,7 +168,7 @@ module _ (start : Start) (few : OneAtATime) (routed : SignalsAreRouted) (nodes :
   routed_request : (q : Request) → e.taken.body ≡ Chain (LqhKeyReq q.tx q.work q.chain q.at) → IsRequestRouted start n q
   routed_request q is =
       subst (IsRouted start n) is
-      (takes_it (λ (x : Signal). IsRouted start x.to.node x.body) e before between takes (ap is_request is) (routed start es before come.before transit).signals)
+      (takes_it (λ (x : Signal). IsRouted start x.to.node x.body) e before between takes (ap is_request is) (signals_are_routed start es before come.before transit).signals)
 
   -- the shell's host
   shell_circles : (a : ApiState) → here ≡ Shell a → Now
@@ -177,7 +179,7 @@ module _ (start : Start) (few : OneAtATime) (routed : SignalsAreRouted) (nodes :
 
       far : (q : Request) → IsRequestRouted start n q → ⊥
       far q asks =
-          let some = (nodes start (work_key q.work) q.at (subst (λ chain. q.at < length chain) asks.chain asks.sent.inside)).0 in
+          let some = (replicas_are_nodes start (work_key q.work) q.at (subst (λ chain. q.at < length chain) asks.chain asks.sent.inside)).0 in
           let at : n ≡ node_at (replicas start (work_key q.work)) q.at = asks.sent.node_is ∙ ap (λ chain. node_at chain q.at) asks.chain in
           omega (arith, some, at, shell_zero start n (logs_of start es n) a is)
 
@@ -277,13 +279,13 @@ module _ (start : Start) (few : OneAtATime) (routed : SignalsAreRouted) (nodes :
             → Seen tx key n m.tc e.taken.body (tc_row m.tc e.taken.body).state (tc_row m.tc e.taken.body).effects.sends → IsGoing start tx key w u (joined sent between)
         by u live early (sees.same live_is none deaf) =
             let was : of_live tx m.tc.live ≡ Some u = sym live_is ∙ (sym live_now ∙ live) in
-            rest_goes start es e tx key come few before between transit takes home like u (circling.going u (live_was ∙ was) early) (ap (tokens_of tx key) sends_are ∙ none)
+            rest_goes start es e tx key come before between transit takes home like u (circling.going u (live_was ∙ was) early) (ap (tokens_of tx key) sends_are ∙ none)
             (inl (ap (λ to. token_of tx key to e.taken.body) to_is ∙ deaf u was))
         by u live early (sees.turned t turn was later sends_is goes) =
-            row_goes start es e tx key come few before between transit takes home like t u (live_was ∙ was) live early (λ still. circling.going t (live_was ∙ was) still)
+            row_goes start es e tx key come before between transit takes home like t u (live_was ∙ was) live early (λ still. circling.going t (live_was ∙ was) still)
             (subst (Going tx e.taken.body t u) (sym (sends_are ∙ sends_is)) (goes u (sym later ∙ (sym live_now ∙ live)) early))
         by u live early (sees.begun next_is later none) =
-            begin_goes start es e tx key come few before between transit takes home like u live early (some fresh u (sym later ∙ (sym live_now ∙ live)))
+            begin_goes start es e tx key come before between transit takes home like u live early (some fresh u (sym later ∙ (sym live_now ∙ live)))
             (circling.pristine (subst (λ h. IsUnborn tx (after start h (logs_of start es h))) at (subst (IsUnborn tx) (sym is) first_number)))
           where
             first_number : m.tc.next_seq ≤ tx.seq
@@ -324,7 +326,7 @@ module _ (start : Start) (few : OneAtATime) (routed : SignalsAreRouted) (nodes :
 
     given_up_not : (id : TxId) (own : List ℕ) → id ≡ tx → e.taken.body ≡ Chain (Abort id own) → ⊥
     given_up_not id own one body_is =
-        true_false (sym (aborts start es e id own come body_is) ∙ (ap (is_given_up start (logs_of start es)) one ∙ kept))
+        true_false (sym (aborts_are_of_given_up start es e id own come body_is) ∙ (ap (is_given_up start (logs_of start es)) one ∙ kept))
 
     no_abort : is_abort tx e.taken.body ≡ false
     no_abort = by (is_abort tx e.taken.body) refl
@@ -356,7 +358,7 @@ module _ (start : Start) (few : OneAtATime) (routed : SignalsAreRouted) (nodes :
 
     served_routed : (q : Request) → first (is_let_in (at_key key m.lqh).lock) (at_key key m.lqh).waiting ≡ Some q → IsRequestRouted start n q
     served_routed q first_is =
-        let hosted : IsHostRouted start n (Node m) = subst (IsHostRouted start n) is ((routed start es before come.before transit).hosts n) in
+        let hosted : IsHostRouted start n (Node m) = subst (IsHostRouted start n) is ((signals_are_routed start es before come.before transit).hosts n) in
         each-first_item (λ (q : Request). IsRequestRouted start n q) (is_let_in (at_key key m.lqh).lock) (at_key key m.lqh).waiting q
         (each_filter (λ (q : Request). IsRequestRouted start n q) (asks_for key) m.lqh.waiting hosted.1.0) first_is
 
@@ -365,19 +367,19 @@ module _ (start : Start) (few : OneAtATime) (routed : SignalsAreRouted) (nodes :
 
     rows_going : (t : Transaction) → live_at start (logs_of start (e ∷ es)) tx ≡ Some t → is_early t.phase ≡ true → IsGoing start tx key v t before → Case → IsGoing start tx key w t (joined sent between)
     rows_going t live early going (off apart taken) =
-        off_going start es e tx key come few before between transit takes t live early (off_here apart) (taken_is None taken) tokens_are going
+        off_going start es e tx key come before between transit takes t live early (off_here apart) (taken_is None taken) tokens_are going
     rows_going t live early going (asked q body_is q_is own at taken) =
-        asked_going start es e tx key come few before between transit takes t live early q (is_refused (storage_of m.lqh) q) (event_is ∙ at) q_is own (routed_request q body_is) (ap is_request body_is)
+        asked_going start es e tx key come before between transit takes t live early q (is_refused (storage_of m.lqh) q) (event_is ∙ at) q_is own (routed_request q body_is) (ap is_request body_is)
         (taken_is (Some (performs q.work q.at)) taken) tokens_are going
     rows_going t live early going (served q refused at first_is q_is taken) =
-        served_going start es e tx key come few before between transit takes t live early q refused (event_is ∙ at) (first_here q first_is) q_is (served_on q first_is) (served_routed q first_is) tokens_are going
+        served_going start es e tx key come before between transit takes t live early q refused (event_is ∙ at) (first_here q first_is) q_is (served_on q first_is) (served_routed q first_is) tokens_are going
     rows_going t live early going (expired_here at taken) =
-        expired_going start es e tx key come few before between transit takes t live early (ends_here at) (taken_is None taken) tokens_are going
+        expired_going start es e tx key come before between transit takes t live early (ends_here at) (taken_is None taken) tokens_are going
     rows_going t live early going (aborted id own one body_is) = absurd (given_up_not id own one body_is)
     rows_going t live early going (committed id own epoch chain at one body_is) =
-        absurd (true_false (sym (commits start es e id own epoch chain at come body_is) ∙ (ap (is_carried_out start (logs_of start es)) one ∙ undone)))
+        absurd (true_false (sym (commits_are_of_carried_out start es e id own epoch chain at come body_is) ∙ (ap (is_carried_out start (logs_of start es)) one ∙ undone)))
     rows_going t live early going (completed id own chain at one body_is) =
-        absurd (true_false (sym (completions start es e id own chain at come body_is) ∙ (ap (is_carried_out start (logs_of start es)) one ∙ undone)))
+        absurd (true_false (sym (completions_are_of_carried_out start es e id own chain at come body_is) ∙ (ap (is_carried_out start (logs_of start es)) one ∙ undone)))
 
     -- before it begins no part of an operation is about
     absent : IsUnborn tx (host_after start es tx.tc) → live_at start (logs_of start es) tx ≡ None
@@ -390,7 +392,7 @@ module _ (start : Start) (few : OneAtATime) (routed : SignalsAreRouted) (nodes :
             ap (of_host tx) host_is ∙ live_none tx k.tc.live (unborn_none tx k.tc.node k.tc.next_seq k.tc.live known.own early)
 
     zero : IsUnborn tx (host_after start es tx.tc) → NoneAtAll tx key start es come.before before
-    zero unborn = none_live tx key start es come.before few before transit (absent unborn) kept
+    zero unborn = none_live tx key start es come.before before transit (absent unborn) kept
 
     rows_pristine : IsUnborn tx (host_after start es tx.tc) → Case → IsPristine w
     rows_pristine unborn (off apart taken) = pristine_as v w (others_like start es e tx key (off_here apart)).likewise (circling.pristine unborn)
@@ -403,9 +405,9 @@ module _ (start : Start) (few : OneAtATime) (routed : SignalsAreRouted) (nodes :
     rows_pristine unborn (expired_here at taken) = pristine_as v w (expired_as start es e tx key (ends_here at)) (circling.pristine unborn)
     rows_pristine unborn (aborted id own one body_is) = absurd (given_up_not id own one body_is)
     rows_pristine unborn (committed id own epoch chain at one body_is) =
-        absurd (true_false (sym (commits start es e id own epoch chain at come body_is) ∙ (ap (is_carried_out start (logs_of start es)) one ∙ undone)))
+        absurd (true_false (sym (commits_are_of_carried_out start es e id own epoch chain at come body_is) ∙ (ap (is_carried_out start (logs_of start es)) one ∙ undone)))
     rows_pristine unborn (completed id own chain at one body_is) =
-        absurd (true_false (sym (completions start es e id own chain at come body_is) ∙ (ap (is_carried_out start (logs_of start es)) one ∙ undone)))
+        absurd (true_false (sym (completions_are_of_carried_out start es e id own chain at come body_is) ∙ (ap (is_carried_out start (logs_of start es)) one ∙ undone)))
 
     rows_circles : Now
     rows_circles = record {

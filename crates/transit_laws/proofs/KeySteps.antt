@@ -32,7 +32,7 @@ use Rattle.commit_laws.proofs.Keys.{same_tx-self}
 use Rattle.transit_laws.specs.Circle.{at_primary}
 use Rattle.transit_laws.specs.Live.{live_at}
 use Rattle.transit_laws.specs.Routes.{IsRequestRouted, primary, replicas}
-use Rattle.transit_laws.specs.Tokens.{OneAtATime, is_token}
+use Rattle.transit_laws.specs.Tokens.{is_token}
 use Rattle.transit_laws.specs.Transit.{AreInTransit, Comes, Takes, joined, logs_of}
 use Rattle.transit_laws.proofs.CircleKept.{IsGoing, SignalTells, queued_going, rests_going, sent_going}
 use Rattle.transit_laws.proofs.CircleView.{IsAs, IsAskedHere, Settles, Tells, settles_as}
@@ -76,7 +76,7 @@ each-first_by {A} P p other (y ∷ xs) x all is passes = by (other y) is (p y) r
     by false is true e all more = more all.1 is passes
     by false is false e all more = more all is passes
 
-module _ (start : Start) (es : List LogStep) (e : LogStep) (tx : TxId) (key : List ℕ) (come : Comes start es e) (few : OneAtATime) (before between : List Signal) (transit : AreInTransit start es before)
+module _ (start : Start) (es : List LogStep) (e : LogStep) (tx : TxId) (key : List ℕ) (come : Comes start es e) (before between : List Signal) (transit : AreInTransit start es before)
     (takes : Takes e before between) (t : Transaction) (live : live_at start (logs_of start (e ∷ es)) tx ≡ Some t) (early : is_early t.phase ≡ true) where
   abbrev n : ℕ
   n = host_of start es e tx key
@@ -107,9 +107,9 @@ module _ (start : Start) (es : List LogStep) (e : LogStep) (tx : TxId) (key : Li
 
   -- where a part is sent it is the only one
   only : (token : Token) → tokens_of tx key sends ≡ token ∷ []
-      → IsOnly tx key start (e ∷ es) come.now few (joined sent between) transit_now t live early sent between
+      → IsOnly tx key start (e ∷ es) come.now (joined sent between) transit_now t live early sent between
   only token is =
-      one_sent tx key start (e ∷ es) come.now few (joined sent between) transit_now t live early sent between refl
+      one_sent tx key start (e ∷ es) come.now (joined sent between) transit_now t live early sent between refl
       (subst (λ k. 1 ≤ k) (sym (tally_headed (is_token tx) (first_view start.nodes) n e.stamp (sent_count start n (logs_of start es n)) sends)) (sent_some tx key sends token [] is))
 
   ended_same : ended_after event (answered_here start es e tx key) tx ≡ (at_primary start (logs_of start es) key).ended tx → (view_now start es e tx key).ended ≡ (view_before start es e tx key).ended
@@ -146,7 +146,7 @@ module _ (start : Start) (es : List LogStep) (e : LogStep) (tx : TxId) (key : Li
       now : tokens_of tx key sends ≡ token ∷ []
       now = is ∙ ap (λ chain. work_token r.cell tx chain q.at refused q.work ∷ []) chain_is
 
-      one : IsOnly tx key start (e ∷ es) come.now few (joined sent between) transit_now t live early sent between
+      one : IsOnly tx key start (e ∷ es) come.now (joined sent between) transit_now t live early sent between
       one = only token now
 
       performed : IsPerformed start tx key (view_before start es e tx key) (view_now start es e tx key) n r.cell q.work refused made
@@ -221,7 +221,7 @@ module _ (start : Start) (es : List LogStep) (e : LogStep) (tx : TxId) (key : Li
           which (inl e_is) = ap (λ event. event_tokens tx event r) e_is ∙ own_token tx refuses refl
           which (inr e_is) = ap (λ event. event_tokens tx event r) e_is ∙ own_token tx refuses refl
 
-      one : IsOnly tx key start (e ∷ es) come.now few (joined sent between) transit_now t live early sent between
+      one : IsOnly tx key start (e ∷ es) come.now (joined sent between) transit_now t live early sent between
       one = only refuses now
 
       like : IsAs (view_before start es e tx key) (view_now start es e tx key)

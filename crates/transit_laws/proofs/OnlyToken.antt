@@ -1,4 +1,4 @@
--- Where the operations of a transaction are under way one at a time, a new part of one is the only one.
+-- Since the operations of a transaction are under way one at a time, a new part of one is the only one.
 use Rattle.std.proofs.Common.{◌≡◌, ◌≤◌, ◌<◌, ◌+◌, ◌&&◌, ◌||◌, ℕ, zero, suc, Bool, true, false, cond, filter, List, [], ◌∷◌, refl, sym, ap, ◌∙◌, subst, arith}
 use Rattle.std.proofs.lemmas.Bool.Decides.{nat_tests}
 use Rattle.std.specs.FinMap as map
@@ -26,9 +26,10 @@ use Rattle.answer_laws.proofs.Tally.{one_if, tally}
 use Rattle.answer_laws.proofs.Totals.{total_at}
 use Rattle.transit_laws.specs.GivenUp.{is_given_up}
 use Rattle.transit_laws.specs.Live.{live_at}
-use Rattle.transit_laws.specs.Tokens.{OneAtATime, budget, budget_by, budget_of, is_token, tokens_in, waiting_all, waiting_in}
+use Rattle.transit_laws.specs.Tokens.{budget, budget_by, budget_of, is_token, tokens_in, waiting_all, waiting_in}
 use Rattle.transit_laws.specs.Transit.{AreInTransit, IsRun, joined, logs_of}
 use Rattle.transit_laws.proofs.CircleView.{View}
+use Rattle.transit_laws.proofs.OneAtATime.{one_at_a_time}
 use Rattle.transit_laws.proofs.OthersStay.{waits_of}
 use Rattle.transit_laws.proofs.TcCircle.{is_early}
 use Rattle.transit_laws.proofs.TransitLists.{tally_joined}
@@ -81,7 +82,7 @@ module _ (tx : TxId) (key : List ℕ) where
             let high : hosts start ≤ h = grind (arith, nat_tests, e) in
             ap (λ log. waits_of tx (key_in key (after start h log))) (run.within h high) ∙ none_begun h (omega (arith, high))
 
-    module _ (few : OneAtATime) (xs : List Signal) (transit : AreInTransit start es xs) (t : Transaction) (live : live_at start (logs_of start es) tx ≡ Some t) (early : is_early t.phase ≡ true) where
+    module _ (xs : List Signal) (transit : AreInTransit start es xs) (t : Transaction) (live : live_at start (logs_of start es) tx ≡ Some t) (early : is_early t.phase ≡ true) where
       allowed : budget start (logs_of start es) tx ≡ one_if (is_some t.asked)
       allowed = ap (budget_by (is_given_up start (logs_of start es) tx)) live ∙ by (is_given_up start (logs_of start es) tx) ∙ ap (λ b. if b then 1 else one_if (is_some t.asked)) (early_stays t.phase early)
         where
@@ -90,7 +91,7 @@ module _ (tx : TxId) (key : List ℕ) where
           by false = refl
 
       bound : tokens_in tx xs + waiting_all start (logs_of start es) tx ≤ one_if (is_some t.asked)
-      bound = subst (λ n. tokens_in tx xs + waiting_all start (logs_of start es) tx ≤ n) allowed (few start es xs tx run transit)
+      bound = subst (λ n. tokens_in tx xs + waiting_all start (logs_of start es) tx ≤ n) allowed (one_at_a_time start es xs tx run transit)
 
       -- none where nothing is asked
       pub record NoTokens : Type 0 where
@@ -128,10 +129,10 @@ module _ (tx : TxId) (key : List ℕ) where
       pub signals : Each (λ (x : Signal). is_token tx x.body ≡ false) xs
       pub waits : (h : ℕ) → (view_of start (logs_of start es) tx key).waits h ≡ []
 
-    pub none_live : OneAtATime → (xs : List Signal) → AreInTransit start es xs → live_at start (logs_of start es) tx ≡ None → is_given_up start (logs_of start es) tx ≡ false → NoneAtAll xs
-    none_live few xs transit none kept =
+    pub none_live : (xs : List Signal) → AreInTransit start es xs → live_at start (logs_of start es) tx ≡ None → is_given_up start (logs_of start es) tx ≡ false → NoneAtAll xs
+    none_live xs transit none kept =
         let zero_is : budget start (logs_of start es) tx ≡ 0 = λ i. budget_by (kept i) (none i) in
-        let bound : tokens_in tx xs + waiting_all start (logs_of start es) tx ≤ 0 = subst (λ n. tokens_in tx xs + waiting_all start (logs_of start es) tx ≤ n) zero_is (few start es xs tx run transit) in
+        let bound : tokens_in tx xs + waiting_all start (logs_of start es) tx ≤ 0 = subst (λ n. tokens_in tx xs + waiting_all start (logs_of start es) tx ≤ n) zero_is (one_at_a_time start es xs tx run transit) in
         record {
           signals = none_counted (λ (x : Signal). is_token tx x.body) xs (omega (arith, bound));
           waits = none_wait (omega (arith, bound));

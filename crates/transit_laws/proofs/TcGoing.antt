@@ -33,7 +33,7 @@ use Rattle.world_core.specs.Start.{Start, first_view}
 use Rattle.commit_laws.proofs.Keys.{same_tx-self}
 use Rattle.answer_laws.proofs.SendKinds.{are_of}
 use Rattle.transit_laws.specs.Live.{live_at}
-use Rattle.transit_laws.specs.Tokens.{OneAtATime, is_token}
+use Rattle.transit_laws.specs.Tokens.{is_token}
 use Rattle.transit_laws.specs.Transit.{AreInTransit, Comes, Takes, joined, logs_of}
 use Rattle.transit_laws.proofs.CircleKept.{IsGoing, NoneIn, SignalTells, cleared_going, rests_going, sent_going}
 use Rattle.transit_laws.proofs.Circles.{IsCircling, IsPristine, pristine_as, pristine_settles}
@@ -93,7 +93,7 @@ module _ (start : Start) (key : List ℕ) where
       by here (inr settled) = settled
   deaf_settles tx h v t _ token deaf is tells closed = absurd cc
 
-module _ (start : Start) (es : List LogStep) (e : LogStep) (tx : TxId) (key : List ℕ) (come : Comes start es e) (few : OneAtATime) (before between : List Signal) (transit : AreInTransit start es before)
+module _ (start : Start) (es : List LogStep) (e : LogStep) (tx : TxId) (key : List ℕ) (come : Comes start es e) (before between : List Signal) (transit : AreInTransit start es before)
     (takes : Takes e before between) (home : e.taken.to ≡ coordinator tx.tc) (quiet : IsLike (view_before start es e tx key) (view_now start es e tx key)) where
   abbrev n : ℕ
   n = host_of start es e tx key
@@ -134,8 +134,8 @@ module _ (start : Start) (es : List LogStep) (e : LogStep) (tx : TxId) (key : Li
 
   -- nothing is asked before it
   module _ (t : Transaction) (live : live_at start (logs_of start es) tx ≡ Some t) (early : is_early t.phase ≡ true) (going : IsGoing start tx key v t before) (none : t.asked ≡ None) where
-    zero : NoTokens tx key start es come.before few before transit t live early
-    zero = none_asked tx key start es come.before few before transit t live early none
+    zero : NoTokens tx key start es come.before before transit t live early
+    zero = none_asked tx key start es come.before before transit t live early none
 
     -- then the key is settled
     idle_settles : Settles start key w t.ops
@@ -178,8 +178,8 @@ module _ (start : Start) (es : List LogStep) (e : LogStep) (tx : TxId) (key : Li
 
   -- nothing is asked behind it
   module _ (u : Transaction) (live : live_at start (logs_of start (e ∷ es)) tx ≡ Some u) (early : is_early u.phase ≡ true) (none : u.asked ≡ None) where
-    then : NoTokens tx key start (e ∷ es) come.now few (joined sent between) transit_now u live early
-    then = none_asked tx key start (e ∷ es) come.now few (joined sent between) transit_now u live early none
+    then : NoTokens tx key start (e ∷ es) come.now (joined sent between) transit_now u live early
+    then = none_asked tx key start (e ∷ es) come.now (joined sent between) transit_now u live early none
 
     none_then : Each (λ (x : Signal). token_of tx key x.to x.body ≡ None) (joined sent between)
     none_then =
