@@ -1,10 +1,12 @@
 //! What signals in transit tell: of a transaction's operations, its commit and its end.
 #![tactic(auto)]
 
+mod circle_laws;
 mod route_laws;
 mod token_laws;
 mod way_laws;
 
+pub use circle_laws::verified_are_settled;
 pub use route_laws::{
     coming_signals_are_routed, replicas_are_nodes, signals_are_routed, transactions_are_keyed,
 };
