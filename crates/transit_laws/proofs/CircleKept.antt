@@ -1,5 +1,5 @@
 -- What is true of a transaction that goes on, of one key, and how steps keep it.
-use Rattle.std.proofs.Common.{◌≡◌, ◌⊎◌, ◌≢◌, ◌≤◌, ◌++◌, ℕ, Bool, true, false, List, [], ◌∷◌, refl, sym, ap, ◌∙◌, subst, inl, inr}
+use Rattle.std.proofs.Common.{◌≡◌, ◌⊎◌, ◌≢◌, ◌++◌, ℕ, false, List, [], ◌∷◌, sym, ◌∙◌, subst, inl, inr}
 use Rattle.std.proofs.lemmas.Bool.{cases_eq}
 use Rattle.std.specs.Prelude.{Option, None, Some}
 use Rattle.run_theory.specs.Lists.{Each}
@@ -20,7 +20,8 @@ use Rattle.transit_laws.specs.Transit.{Takes, joined}
 use Rattle.transit_laws.proofs.CircleView.{IsAs, Settles, Tells, View, settles_as, tells_as}
 use Rattle.transit_laws.proofs.KeyMoves.{IsLike}
 use Rattle.transit_laws.proofs.KeyTokens.{Token, performs, token_of, tokens_of}
-use Rattle.transit_laws.proofs.TransitLists.{Told, each_headed, each_joined, headed_each, joined_new, joined_old, none_sent, takes_it, takes_less, takes_more, told_sends, uncounted}
+use Rattle.transit_laws.proofs.TransitLists.{Told, sent_each, joined_new, joined_old, none_sent, takes_more, told_sends, uncounted}
+use Rattle.transit_laws.proofs.Weighing.{headed_each, joined_each, each_taken, each_between}
 
 module _ (start : Start) (tx : TxId) (key : List ℕ) where
   -- what a signal tells
@@ -55,12 +56,12 @@ module _ (start : Start) (tx : TxId) (key : List ℕ) where
     old_signals : IsAs v w → Each (SignalTells w t) between
     old_signals like =
         each_map (SignalTells v t) (SignalTells w t) between (λ x told. told_as v w t (token_of tx key x.to x.body) like told)
-        (takes_less (SignalTells v t) e before between takes going.signals)
+        (each_between (SignalTells v t) e before between takes going.signals)
 
     quiet_signals : IsAs v w → tokens_of tx key sends ≡ [] → Each (SignalTells w t) (joined new between)
     quiet_signals like sent =
-        each_joined (SignalTells w t) new between
-        (each_headed (λ to body. Told tx key (Tells start key w t) (token_of tx key to body)) view h stamp count sends (told_sends tx key (Tells start key w t) sends [] sent tt))
+        joined_each (SignalTells w t) new between
+        (headed_each (λ to body. Told tx key (Tells start key w t) (token_of tx key to body)) view h stamp count sends (told_sends tx key (Tells start key w t) sends [] sent tt))
         (old_signals like)
 
     old_waiting : IsAs v w → (g : ℕ) → w.waits g ≡ v.waits g → Each (λ (q : Request). Tells start key w t (performs q.work q.at)) (w.waits g)
@@ -95,7 +96,7 @@ module _ (start : Start) (tx : TxId) (key : List ℕ) where
     }
       where
         own : Tells start key v t (performs q.work q.at)
-        own = subst (Told tx key (Tells start key v t)) taken (takes_it (SignalTells v t) e before between takes given going.signals)
+        own = subst (Told tx key (Tells start key v t)) taken (each_taken (SignalTells v t) e before between given takes going.signals)
 
         waiting : (g : ℕ) → (n ≡ g) ⊎ (n ≢ g) → Each (λ (q : Request). Tells start key w t (performs q.work q.at)) (w.waits g)
         waiting g (inl is) =
@@ -117,13 +118,13 @@ module _ (start : Start) (tx : TxId) (key : List ℕ) where
       → Tells start key w u token → IsGoing w u (joined (all_headed view h stamp count sends) between)
   sent_going w u between view h stamp count sends token asked sent none waits tells = record {
     asked = asked;
-    signals = each_joined (SignalTells w u) (all_headed view h stamp count sends) between
-        (each_headed (λ to body. Told tx key (Tells start key w u) (token_of tx key to body)) view h stamp count sends (told_sends tx key (Tells start key w u) sends (token ∷ []) sent (tells, tt)))
+    signals = joined_each (SignalTells w u) (all_headed view h stamp count sends) between
+        (headed_each (λ to body. Told tx key (Tells start key w u) (token_of tx key to body)) view h stamp count sends (told_sends tx key (Tells start key w u) sends (token ∷ []) sent (tells, tt)))
         (each_map (λ (x : Signal). is_token tx x.body ≡ false) (SignalTells w u) between (λ x off. told_none w u (token_of tx key x.to x.body) (uncounted tx key x.to x.body off)) none);
     waiting = λ g. subst (Each (λ (q : Request). Tells start key w u (performs q.work q.at))) (sym (waits g)) tt;
     settled = λ nobody idle. absurd (one (sym sent
         ∙ none_sent tx key sends
-        (headed_each (λ to body. token_of tx key to body ≡ None) view h stamp count sends (joined_new (λ (x : Signal). token_of tx key x.to x.body ≡ None) (all_headed view h stamp count sends) between nobody))));
+        (sent_each (λ to body. token_of tx key to body ≡ None) view h stamp count sends (joined_new (λ (x : Signal). token_of tx key x.to x.body ≡ None) (all_headed view h stamp count sends) between nobody))));
   }
     where
       one : token ∷ [] ≡ [] → ⊥

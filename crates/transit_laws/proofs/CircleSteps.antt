@@ -1,5 +1,5 @@
 -- Each step keeps what is true of a transaction that is neither given up nor carried out, of one key.
-use Rattle.std.proofs.Common.{◌≡◌, ◌⊎◌, ◌≢◌, ◌≤◌, ◌<◌, ◌++◌, ℕ, length, Bool, true, false, cond, filter, List, [], ◌∷◌, refl, sym, ap, ◌∙◌, subst, inl, inr, arith}
+use Rattle.std.proofs.Common.{◌≡◌, ◌⊎◌, ◌≢◌, ◌≤◌, ◌<◌, ℕ, length, Bool, true, false, cond, filter, List, [], ◌∷◌, refl, sym, ap, ◌∙◌, subst, inl, inr, arith}
 use Rattle.std.proofs.lemmas.Bool.{cases_eq}
 use Rattle.std.specs.Prelude.{Option, None, Some}
 use Rattle.run_theory.specs.Lists.{Each}
@@ -30,8 +30,7 @@ use Rattle.node_core.specs.Row.{in_lqh, in_node, in_tc, row}
 use Rattle.api_block.specs.State.{ApiState}
 use Rattle.tc_block.specs.declared.transaction.Transaction.{Transaction}
 use Rattle.tc_block.specs.Operate.{fresh}
-use Rattle.tc_block.specs.Tc.{next_tx, tc_row}
-use Rattle.tc_block.specs.Turn.{Turn}
+use Rattle.tc_block.specs.Tc.{tc_row}
 use Rattle.world_core.specs.Machine.{after, machine, sent_count, signals_of, step_after}
 use Rattle.world_core.specs.Start.{Start, first_view}
 use Rattle.commit_laws.specs.Firsts.{first}
@@ -56,14 +55,15 @@ use Rattle.transit_laws.proofs.KeyTokens.{Token, event_tokens, is_rows, is_tc, p
 use Rattle.transit_laws.proofs.LiveAfter.{live_none, strange_none, unborn_none}
 use Rattle.transit_laws.proofs.LqhCases.{LqhCase, aborted, asked, committed, completed, expired_here, lqh_case, off, served}
 use Rattle.transit_laws.proofs.OnlyToken.{NoneAtAll, none_live}
-use Rattle.transit_laws.proofs.OthersStay.{event_of, is_of, waits_of}
+use Rattle.transit_laws.proofs.OthersStay.{event_of, is_of}
 use Rattle.transit_laws.proofs.Routes.{signals_are_routed}
 use Rattle.transit_laws.proofs.RoutesChain.{replicas_are_nodes}
 use Rattle.transit_laws.proofs.TcCircle.{Going, is_early}
 use Rattle.transit_laws.proofs.TcGoing.{begin_goes, rest_goes, row_goes}
 use Rattle.transit_laws.proofs.TcSees.{Seen, Sees, no_tokens, tc_sees}
 use Rattle.transit_laws.proofs.TcSees as sees
-use Rattle.transit_laws.proofs.TransitLists.{counts, takes_it}
+use Rattle.transit_laws.proofs.TransitLists.{counts}
+use Rattle.transit_laws.proofs.Weighing.{each_taken}
 
 each_filter : {A : Type 0} (P : A → Type 0) (p : A → Bool) (xs : List A) → Each P xs → Each P (filter p xs)
 each_filter P p [] all = tt
@@ -168,7 +168,7 @@ module _ (start : Start) (es : List LogStep) (e : LogStep) (tx : TxId) (key : Li
   routed_request : (q : Request) → e.taken.body ≡ Chain (LqhKeyReq q.tx q.work q.chain q.at) → IsRequestRouted start n q
   routed_request q is =
       subst (IsRouted start n) is
-      (takes_it (λ (x : Signal). IsRouted start x.to.node x.body) e before between takes (ap is_request is) (signals_are_routed start es before come.before transit).signals)
+      (each_taken (λ (x : Signal). IsRouted start x.to.node x.body) e before between (ap is_request is) takes (signals_are_routed start es before come.before transit).signals)
 
   -- the shell's host
   shell_circles : (a : ApiState) → here ≡ Shell a → Now
@@ -398,7 +398,7 @@ module _ (start : Start) (es : List LogStep) (e : LogStep) (tx : TxId) (key : Li
     rows_pristine unborn (off apart taken) = pristine_as v w (others_like start es e tx key (off_here apart)).likewise (circling.pristine unborn)
     rows_pristine unborn (asked q body_is q_is own at taken) =
         absurd (true_false (sym (counts tx key (rows_of n) e.taken.body (performs q.work q.at) taken)
-        ∙ takes_it (λ (x : Signal). is_token tx x.body ≡ false) e before between takes (ap is_request body_is) (zero unborn).signals))
+        ∙ each_taken (λ (x : Signal). is_token tx x.body ≡ false) e before between (ap is_request body_is) takes (zero unborn).signals))
     rows_pristine unborn (served q refused at first_is q_is taken) =
         absurd (each-first_by (λ (q : Request). ⊥) (is_by tx) (is_let_in r.lock) r.waiting q (subst (Each (λ (q : Request). ⊥)) (sym ((zero unborn).waits n)) tt) (first_here q first_is)
         (ap (λ t. same_tx t tx) q_is ∙ same_tx-self tx))

@@ -1,5 +1,5 @@
 -- What is true of a transaction, of one key, after a run.
-use Rattle.std.proofs.Common.{◌≡◌, ◌≤◌, ℕ, Bool, true, false, List, [], refl, ap, sym, ◌∙◌, subst₂}
+use Rattle.std.proofs.Common.{◌≡◌, ◌≤◌, ℕ, true, false, List, [], ap, sym, ◌∙◌, subst₂}
 use Rattle.std.specs.Prelude.{is_some, Option, None, Some}
 use Rattle.sig_core.specs.declared.log.LogStep.{LogStep}
 use Rattle.sig_core.specs.declared.member.TxId.{TxId}

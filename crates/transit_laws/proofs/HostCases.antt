@@ -1,7 +1,7 @@
 -- Which block of a host a signal is for, and what the others have of a transaction then.
-use Rattle.std.proofs.Common.{◌≡◌, ◌⊎◌, ◌≤◌, ◌≢◌, inl, inr, ℕ, zero, suc, Bool, true, false, ◌&&◌, List, [], ◌∷◌, refl, sym, ap, ◌∙◌, subst, arith}
+use Rattle.std.proofs.Common.{◌≡◌, ◌⊎◌, ◌≤◌, inl, inr, ℕ, zero, suc, Bool, true, false, ◌&&◌, List, refl, sym, ap, ◌∙◌, subst, arith}
 use Rattle.std.proofs.lemmas.Bool.{and_parts, eqb-true}
-use Rattle.std.specs.Prelude.{if◌then◌else◌, nat_eq, Option, None, Some}
+use Rattle.std.specs.Prelude.{if◌then◌else◌, nat_eq, None, Some}
 use Rattle.run_theory.specs.Lists.{Each}
 use Rattle.sig_core.specs.declared.log.LogStep.{LogStep}
 use Rattle.sig_core.specs.declared.member.TxId.{TxId}
@@ -10,10 +10,9 @@ use Rattle.sig_core.specs.declared.place.BlockId.{BlockId}
 use Rattle.sig_core.specs.declared.place.BlockId.TheVariants as block
 use Rattle.sig_core.specs.declared.place.Place.{Place}
 use Rattle.sig_core.specs.declared.signal.Body.{Body}
-use Rattle.sig_core.specs.declared.signal.Body.TheVariants.{Host, Client, Chain, Epoch}
+use Rattle.sig_core.specs.declared.signal.Body.TheVariants.{Chain}
 use Rattle.sig_core.specs.declared.signal.chain.ChainSignal.TheVariants.{LqhKeyReq, LqhKeyConf, LqhKeyRef}
 use Rattle.sig_core.specs.Same.{same_key, same_tx}
-use Rattle.api_block.specs.Api.{api_row}
 use Rattle.api_block.specs.State.{ApiState}
 use Rattle.row_locks.proofs.TxLemmas.{same_tx-is}
 use Rattle.lqh_block.specs.declared.request.Request.{Request}
@@ -29,20 +28,21 @@ use Rattle.tc_block.specs.declared.transaction.Transaction.{Transaction}
 use Rattle.tc_block.specs.Tc.{tc_row}
 use Rattle.world_core.specs.Machine.{after}
 use Rattle.world_core.specs.Start.{Start}
-use Rattle.commit_laws.specs.Replica.{Event, event_at, rests}
+use Rattle.commit_laws.specs.Replica.{event_at, rests}
 use Rattle.commit_laws.specs.ReplicaLaws.{event_for, event_in}
-use Rattle.answer_laws.proofs.ApiMoves.{ApiMove, api_moves, is_api_kind}
-use Rattle.answer_laws.proofs.ApiMoves as api
+use Rattle.answer_laws.proofs.ApiMoves.{is_api_kind}
 use Rattle.answer_laws.proofs.DihSends.{dih_kinds}
 use Rattle.answer_laws.proofs.Hosts.{node_after, shell_after}
 use Rattle.answer_laws.proofs.Lives.{keeps}
-use Rattle.answer_laws.proofs.SendKinds.{are_of, is_dih_kind, of_kind}
+use Rattle.answer_laws.proofs.SendKinds.{each_of, is_dih_kind}
 use Rattle.answer_laws.proofs.Tally.{tally}
 use Rattle.answer_laws.proofs.TcLives.{IsOwn, is_keyed}
 use Rattle.transit_laws.specs.Live.{of_host}
+use Rattle.transit_laws.specs.Tokens.{is_token}
 use Rattle.transit_laws.proofs.Circles.{IsUnborn}
 use Rattle.transit_laws.proofs.KeyTokens.{Token, answers, is_home, is_rows, is_tc, performs, refuses, some_if, token_of}
-use Rattle.transit_laws.proofs.TcTokenless.{is_tokenless}
+use Rattle.transit_laws.proofs.TcStill.{AreStill}
+use Rattle.transit_laws.proofs.WaysPassed.{api_each}
 
 -- the rows of a node, its coordinator, another block of a node, or the shell's host
 pub data HostCase (s : host.Host) (to : Place) : Type 0 where
@@ -88,19 +88,25 @@ event_none key s _ body off = refl
 pub record IsBystander (tx : TxId) (s : host.Host) (to : Place) (body : Body) : Type 0 where
   pub live : of_host tx (row s to body).state ≡ of_host tx s
   pub unborn : IsUnborn tx (row s to body).state → IsUnborn tx s
-  pub sends : are_of is_tokenless (row s to body).effects.sends ≡ true
+  pub sends : AreStill tx (row s to body).effects.sends
 
-dih_plain : (body : Body) → is_dih_kind body ≡ true → is_tokenless body ≡ true
-dih_plain (Chain (LqhKeyReq tx work chain at)) is = absurd cc
-dih_plain (Chain (LqhKeyConf tx key answer)) is = absurd cc
-dih_plain (Chain (LqhKeyRef tx key why)) is = absurd cc
-dih_plain _ is = refl
+dih_plain : (tx : TxId) (o : Outgoing) → is_dih_kind o.body ≡ true → is_token tx o.body ≡ false
+dih_plain tx o is = by o.body is
+  where
+    by : (body : Body) → is_dih_kind body ≡ true → is_token tx body ≡ false
+    by (Chain (LqhKeyReq v work chain at)) is = absurd cc
+    by (Chain (LqhKeyConf v key answer)) is = absurd cc
+    by (Chain (LqhKeyRef v key why)) is = absurd cc
+    by _ is = refl
 
-api_plain : (body : Body) → is_api_kind body ≡ true → is_tokenless body ≡ true
-api_plain (Chain (LqhKeyReq tx work chain at)) is = absurd cc
-api_plain (Chain (LqhKeyConf tx key answer)) is = absurd cc
-api_plain (Chain (LqhKeyRef tx key why)) is = absurd cc
-api_plain _ is = refl
+api_plain : (tx : TxId) (o : Outgoing) → is_api_kind o.body ≡ true → is_token tx o.body ≡ false
+api_plain tx o is = by o.body is
+  where
+    by : (body : Body) → is_api_kind body ≡ true → is_token tx body ≡ false
+    by (Chain (LqhKeyReq v work chain at)) is = absurd cc
+    by (Chain (LqhKeyConf v key answer)) is = absurd cc
+    by (Chain (LqhKeyRef v key why)) is = absurd cc
+    by _ is = refl
 
 node_bystander : (tx : TxId) (n : node.Node) (to : Place) (body : Body) (b : BlockId) → to.block ≡ b → is_rows b ≡ false → is_tc b ≡ false → IsBystander tx (Node n) to body
 unfolding row node_row
@@ -109,41 +115,27 @@ node_bystander tx n to body block.Tc at off apart = absurd cc
 node_bystander tx n to body block.Dih at off apart = record {
   live = ap (λ b. of_host tx (in_node (node_row n b body)).state) at;
   unborn = subst (λ b. IsUnborn tx (in_node (node_row n b body)).state → IsUnborn tx (Node n)) (sym at) (λ is. is);
-  sends = ap (λ b. are_of is_tokenless (in_node (node_row n b body)).effects.sends) at
-      ∙ of_kind is_dih_kind is_tokenless dih_plain (dih_row n.dih body).effects.sends (dih_kinds n.dih body);
+  sends = subst (λ b. AreStill tx (in_node (node_row n b body)).effects.sends) (sym at)
+      (each_of is_dih_kind (λ (o : Outgoing). is_token tx o.body ≡ false) (dih_plain tx) (dih_row n.dih body).effects.sends (dih_kinds n.dih body));
 }
 node_bystander tx n to body b at off apart = record {
   live = ap (λ b. of_host tx (in_node (node_row n b body)).state) at;
   unborn = subst (λ b. IsUnborn tx (in_node (node_row n b body)).state → IsUnborn tx (Node n)) (sym at) (λ is. is);
-  sends = ap (λ b. are_of is_tokenless (in_node (node_row n b body)).effects.sends) at;
+  sends = subst (λ b. AreStill tx (in_node (node_row n b body)).effects.sends) (sym at) tt;
 }
 
 -- the API sends none
-api_tokenless : (s : ApiState) (body : Body) → are_of is_tokenless (api_row s body).effects.sends ≡ true
-api_tokenless s body = by (api_moves s body)
-  where
-    plain : (sends : List Outgoing) → are_of is_api_kind sends ≡ true → are_of is_tokenless sends ≡ true
-    plain sends is = of_kind is_api_kind is_tokenless api_plain sends is
-
-    by : ApiMove s body ((api_row s body).state.view, (api_row s body).state.opened) (api_row s body).effects.sends → are_of is_tokenless (api_row s body).effects.sends ≡ true
-    by (api.rests is kinds void) = plain (api_row s body).effects.sends kinds
-    by (api.opens name at op new asked is sends) = ap (are_of is_tokenless) sends
-    by (api.begun_as name tx front t u back taken begins has is now kinds) = plain (api_row s body).effects.sends kinds
-    by (api.goes front t u back on void is now kinds) = plain (api_row s body).effects.sends kinds
-    by (api.ends tx front t back taken has is now kinds) = plain (api_row s body).effects.sends kinds
-    by (api.refuses name front t back taken begins is now kinds) = plain (api_row s body).effects.sends kinds
-
-shell_tokenless : (s : ApiState) (b : BlockId) (body : Body) → are_of is_tokenless (shell_row s b body).effects.sends ≡ true
+shell_still : (tx : TxId) (s : ApiState) (b : BlockId) (body : Body) → AreStill tx (shell_row s b body).effects.sends
 unfolding shell_row
-shell_tokenless s block.Api body = api_tokenless s body
-shell_tokenless s _ body = refl
+shell_still tx s block.Api body = api_each (λ (o : Outgoing). is_token tx o.body ≡ false) (api_plain tx) (λ name at. refl) s body
+shell_still tx s _ body = tt
 
 pub other_bystander : (tx : TxId) (s : host.Host) (n : node.Node) (to : Place) (body : Body) → s ≡ Node n → is_rows to.block ≡ false → is_tc to.block ≡ false → IsBystander tx s to body
 other_bystander tx s n to body is off apart = subst (λ s. IsBystander tx s to body) (sym is) (node_bystander tx n to body to.block refl off apart)
 
 shell_bystander_of : (tx : TxId) (a : ApiState) (to : Place) (body : Body) → IsBystander tx (Shell a) to body
 unfolding row
-shell_bystander_of tx a to body = record { live = refl; unborn = λ is. is; sends = shell_tokenless a to.block body }
+shell_bystander_of tx a to body = record { live = refl; unborn = λ is. is; sends = shell_still tx a to.block body }
 
 pub shell_bystander : (tx : TxId) (s : host.Host) (a : ApiState) (to : Place) (body : Body) → s ≡ Shell a → IsBystander tx s to body
 shell_bystander tx s a to body is = subst (λ s. IsBystander tx s to body) (sym is) (shell_bystander_of tx a to body)

@@ -1,5 +1,5 @@
 -- A transaction that goes on, of one key, where its key takes a step at a replica.
-use Rattle.std.proofs.Common.{◌≡◌, ◌⊎◌, ◌≢◌, ◌≤◌, ◌<◌, ◌++◌, ℕ, Bool, true, false, cond, filter, length, List, [], ◌∷◌, refl, sym, ap, ◌∙◌, subst, inl, inr}
+use Rattle.std.proofs.Common.{◌≡◌, ◌⊎◌, ◌≢◌, ◌≤◌, ◌<◌, ℕ, Bool, true, false, cond, filter, length, List, [], ◌∷◌, refl, sym, ap, ◌∙◌, subst, inl, inr}
 use Rattle.std.proofs.lemmas.Bool.{cases_eq}
 use Rattle.std.specs.Prelude.{if◌then◌else◌, Option, None, Some}
 use Rattle.run_theory.specs.Lists.{Each}
@@ -16,7 +16,7 @@ use Rattle.sig_core.specs.Chain.{node_at}
 use Rattle.sig_core.specs.Same.{same_tx}
 use Rattle.row_locks.specs.declared.mode.Lock.{Lock}
 use Rattle.row_locks.specs.declared.mode.Lock.TheVariants.{Granted, Queued}
-use Rattle.row_locks.specs.Rows.{RowLock, asked}
+use Rattle.row_locks.specs.Rows.{asked}
 use Rattle.lqh_block.specs.declared.request.Request.{Request}
 use Rattle.lqh_block.specs.Work.{work_key, work_mode}
 use Rattle.node_core.specs.Requests.{is_request}
@@ -35,14 +35,15 @@ use Rattle.transit_laws.specs.Routes.{IsRequestRouted, primary, replicas}
 use Rattle.transit_laws.specs.Tokens.{is_token}
 use Rattle.transit_laws.specs.Transit.{AreInTransit, Comes, Takes, joined, logs_of}
 use Rattle.transit_laws.proofs.CircleKept.{IsGoing, SignalTells, queued_going, rests_going, sent_going}
-use Rattle.transit_laws.proofs.CircleView.{IsAs, IsAskedHere, Settles, Tells, settles_as}
+use Rattle.transit_laws.proofs.CircleView.{IsAs, IsAskedHere, Tells, settles_as}
 use Rattle.transit_laws.proofs.KeyMoves.{answered_here, before_here, event_here, ended_here, ended_other, expired_as, host_of, key_here, key_other, made_here, made_other, others_like, view_as, view_before, view_now, waits_other}
-use Rattle.transit_laws.proofs.KeyTokens.{Token, asked_tokens, event_tokens, expired_tokens, if_by, performed_token, performs, refuses, served_tokens, token_of, tokens_of, work_token}
+use Rattle.transit_laws.proofs.KeyTokens.{Token, asked_tokens, event_tokens, if_by, performed_token, performs, refuses, served_tokens, token_of, tokens_of, work_token}
 use Rattle.transit_laws.proofs.OnlyToken.{IsOnly, one_sent}
 use Rattle.transit_laws.proofs.OthersStay.{event_of, filter-end, is_of, of_first, waits_of}
 use Rattle.transit_laws.proofs.Performing.{IsPerformed, performed_tells}
 use Rattle.transit_laws.proofs.TcCircle.{is_early}
-use Rattle.transit_laws.proofs.TransitLists.{Told, sent_some, takes_it, takes_more, tally_headed, uncounted}
+use Rattle.transit_laws.proofs.TransitLists.{Told, sent_some, takes_more, tally_headed, uncounted}
+use Rattle.transit_laws.proofs.Weighing.{each_taken}
 
 -- an event of another transaction sends none
 pub off_tokens : (tx : TxId) (event : Event) (r : Replica) → is_of tx (event_of event r) ≡ false → event_tokens tx event r ≡ []
@@ -181,7 +182,7 @@ module _ (start : Start) (es : List LogStep) (e : LogStep) (tx : TxId) (key : Li
           (ap (λ event. ended_after event (answered_here start es e tx key) tx) event_is)
           (is ∙ ap (λ event. event_tokens tx event r) event_is ∙ ap (asked_tokens tx r q refused) a_is ∙ own_token q.tx (performed_token r.cell q refused) q_is
           ∙ ap (λ v. work_token r.cell v q.chain q.at refused q.work ∷ []) q_is)
-          (subst (Told tx key (Tells start key (view_before start es e tx key) t)) taken (takes_it (SignalTells start tx key (view_before start es e tx key) t) e before between takes given going.signals))
+          (subst (Told tx key (Tells start key (view_before start es e tx key) t)) taken (each_taken (SignalTells start tx key (view_before start es e tx key) t) e before between given takes going.signals))
           going
       by (Queued ahead) a_is =
           queued_going start tx key (view_before start es e tx key) (view_now start es e tx key) t e before between takes (first_view start.nodes) n e.stamp (sent_count start n (logs_of start es n)) sends going

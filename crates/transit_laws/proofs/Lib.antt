@@ -42,7 +42,6 @@ pub mod TcGoing
 pub mod TcSees
 pub mod TcSound
 pub mod TcStill
-pub mod TcTokenless
 pub mod TcTokens
 pub mod TcTurns
 pub mod TouchedLists

@@ -1,5 +1,5 @@
 -- Which events a signal for the rows of a node is of one transaction, on one key.
-use Rattle.std.proofs.Common.{◌≡◌, ◌⊎◌, ◌&&◌, ◌==◌, ℕ, Bool, true, false, List, [], ◌∷◌, refl, sym, ap, ◌∙◌, inl, inr}
+use Rattle.std.proofs.Common.{◌≡◌, ◌⊎◌, ◌&&◌, ◌==◌, ℕ, Bool, true, false, List, refl, ap, ◌∙◌, inl, inr}
 use Rattle.std.specs.Prelude.{if◌then◌else◌, Option, None, Some}
 use Rattle.sig_core.specs.declared.member.Member.{Member}
 use Rattle.sig_core.specs.declared.member.TxId.{TxId}
@@ -20,7 +20,7 @@ use Rattle.lqh_block.specs.State.{LqhState, storage_of}
 use Rattle.lqh_block.specs.Work.{work_key}
 use Rattle.commit_laws.specs.Firsts.{first}
 use Rattle.commit_laws.specs.Replica.{Event, Replica, aborts, ages, asks, at_key, commits, completes, event_at, expired_by, expires, expires_if, if_on, is_let_in, is_refused, rests, serves, serves_if}
-use Rattle.transit_laws.proofs.KeyTokens.{Token, performs, token_of}
+use Rattle.transit_laws.proofs.KeyTokens.{performs, token_of}
 use Rattle.transit_laws.proofs.OthersStay.{event_of, is_of, of_first}
 
 module _ (tx : TxId) (key : List ℕ) (h : ℕ) where

@@ -1,5 +1,5 @@
 -- A transaction that goes on, of one key, where its coordinator takes a step.
-use Rattle.std.proofs.Common.{◌≡◌, ◌⊎◌, ◌&&◌, ◌≤◌, ◌++◌, ℕ, Bool, true, false, List, [], ◌∷◌, refl, sym, ap, ◌∙◌, subst, inl, inr, arith}
+use Rattle.std.proofs.Common.{◌≡◌, ◌⊎◌, ◌&&◌, ◌++◌, ℕ, Bool, true, false, List, [], ◌∷◌, refl, sym, ap, ◌∙◌, subst, inl, inr}
 use Rattle.std.proofs.lemmas.Bool.{and_parts}
 use Rattle.std.specs.Prelude.{if◌then◌else◌, Option, None, Some}
 use Rattle.run_theory.specs.Lists.{Each}
@@ -24,27 +24,25 @@ use Rattle.sig_core.specs.Step.{to_place}
 use Rattle.lqh_block.proofs.IndexLemmas.{same}
 use Rattle.node_core.specs.Requests.{is_request}
 use Rattle.tc_block.specs.declared.phase.Asked.{Asked}
-use Rattle.tc_block.specs.declared.phase.Phase.{Phase}
 use Rattle.tc_block.specs.declared.phase.Phase.TheVariants.{Open, Verifying}
 use Rattle.tc_block.specs.declared.transaction.Transaction.{Transaction}
 use Rattle.tc_block.specs.Operate.{asked_if, asked_on, fresh}
 use Rattle.world_core.specs.Machine.{sent_count, signals_of, step_after}
 use Rattle.world_core.specs.Start.{Start, first_view}
 use Rattle.commit_laws.proofs.Keys.{same_tx-self}
-use Rattle.answer_laws.proofs.SendKinds.{are_of}
 use Rattle.transit_laws.specs.Live.{live_at}
 use Rattle.transit_laws.specs.Tokens.{is_token}
 use Rattle.transit_laws.specs.Transit.{AreInTransit, Comes, Takes, joined, logs_of}
-use Rattle.transit_laws.proofs.CircleKept.{IsGoing, NoneIn, SignalTells, cleared_going, rests_going, sent_going}
-use Rattle.transit_laws.proofs.Circles.{IsCircling, IsPristine, pristine_as, pristine_settles}
+use Rattle.transit_laws.proofs.CircleKept.{IsGoing, SignalTells, cleared_going, rests_going, sent_going}
+use Rattle.transit_laws.proofs.Circles.{IsPristine, pristine_as, pristine_settles}
 use Rattle.transit_laws.proofs.CircleView.{IsAnswered, IsAsked, Settles, Tells, View, settles_as, settles_other}
 use Rattle.transit_laws.proofs.KeyMoves.{IsLike, host_of, view_before, view_now}
 use Rattle.transit_laws.proofs.KeyTokens.{Token, answers, home_is, is_home, performs, put, put_if, refuses, some_if, token_of, tokens_of}
 use Rattle.transit_laws.proofs.OnlyToken.{NoTokens, none_asked}
 use Rattle.transit_laws.proofs.TcCircle.{Going, IsDeaf, is_early, notes, operates, rests, verifies}
 use Rattle.transit_laws.proofs.TcSees.{no_tokens}
-use Rattle.transit_laws.proofs.TcTokenless.{is_tokenless}
-use Rattle.transit_laws.proofs.TransitLists.{Told, each_headed, each_joined, joined_old, sent_none, takes_it, takes_less, takes_more, uncounted}
+use Rattle.transit_laws.proofs.TransitLists.{Told, joined_old, sent_none, takes_more, uncounted}
+use Rattle.transit_laws.proofs.Weighing.{headed_each, joined_each, each_taken, each_between}
 
 -- the unanswered operation on this key is the unanswered operation
 pub asked_is : (a b : Asked) (own : List ℕ) → asked_on (Some a) own ≡ Some b → (a ≡ b) × (same_key (key_of a.op) own ≡ true)
@@ -129,7 +127,7 @@ module _ (start : Start) (es : List LogStep) (e : LogStep) (tx : TxId) (key : Li
       by (Some token) is =
           inr (deaf_settles start key tx tx.tc v t e.taken.body token deaf is
           (subst (Told tx key (Tells start key v t)) (taken_is ∙ is)
-          (takes_it (SignalTells start tx key v t) e before between takes (token_given tx key (coordinator tx.tc) e.taken.body token is) going.signals))
+          (each_taken (SignalTells start tx key v t) e before between (token_given tx key (coordinator tx.tc) e.taken.body token is) takes going.signals))
           going.asked)
 
   -- nothing is asked before it
@@ -156,7 +154,7 @@ module _ (start : Start) (es : List LogStep) (e : LogStep) (tx : TxId) (key : Li
         settled = subst (Settles start key w) (sym ops_is) idle_settles
 
         left : Each (λ (x : Signal). is_token tx x.body ≡ false) between
-        left = takes_less (λ (x : Signal). is_token tx x.body ≡ false) e before between takes zero.signals
+        left = each_between (λ (x : Signal). is_token tx x.body ≡ false) e before between takes zero.signals
 
         waits : (g : ℕ) → w.waits g ≡ []
         waits g = quiet.waits g ∙ zero.waits g
@@ -171,8 +169,8 @@ module _ (start : Start) (es : List LogStep) (e : LogStep) (tx : TxId) (key : Li
             (settled, record { asked = record { op = op; chain = chain }; is = asked_is; op_is = refl; here = here })
         by false off =
             cleared_going start tx key w u (joined sent between) closed
-            (each_joined (λ (x : Signal). token_of tx key x.to x.body ≡ None) sent between
-            (each_headed (λ to body. token_of tx key to body ≡ None) (first_view start.nodes) n e.stamp (sent_count start n (logs_of start es n)) sends (sent_none tx key sends (tokens false off)))
+            (joined_each (λ (x : Signal). token_of tx key x.to x.body ≡ None) sent between
+            (headed_each (λ to body. token_of tx key to body ≡ None) (first_view start.nodes) n e.stamp (sent_count start n (logs_of start es n)) sends (sent_none tx key sends (tokens false off)))
             (each_map (λ (x : Signal). is_token tx x.body ≡ false) (λ (x : Signal). token_of tx key x.to x.body ≡ None) between (λ x off. uncounted tx key x.to x.body off) left))
             waits settled
 
@@ -210,7 +208,7 @@ module _ (start : Start) (es : List LogStep) (e : LogStep) (tx : TxId) (key : Li
         by : (b : Bool) → same_key own key ≡ b → Settles start key w (t.ops ++ (asked.op, answer) ∷ [])
         by true here =
             told (subst (Told tx key (Tells start key v t)) (token true here)
-            (takes_it (SignalTells start tx key v t) e before between takes (ap is_request body_is) going.signals))
+            (each_taken (SignalTells start tx key v t) e before between (ap is_request body_is) takes going.signals))
           where
             told : IsAnswered start key v t answer → Settles start key w (t.ops ++ (asked.op, answer) ∷ [])
             told a =

@@ -1,5 +1,5 @@
 -- Signals that are sent, join those in transit and are taken.
-use Rattle.std.proofs.Common.{◌≡◌, ◌≤◌, ◌+◌, ◌&&◌, ℕ, Bool, true, false, List, [], ◌∷◌, ◌++◌, refl, sym, ap, ◌∙◌, subst, arith}
+use Rattle.std.proofs.Common.{◌≡◌, ◌≤◌, ◌+◌, ◌&&◌, ℕ, Bool, true, false, List, [], ◌∷◌, refl, sym, ap, ◌∙◌, subst, arith}
 use Rattle.std.specs.Prelude.{if◌then◌else◌, Option, None, Some}
 use Rattle.run_theory.specs.Lists.{Each}
 use Rattle.run_theory.proofs.Pasts.{each_after, each_append, each_before}
@@ -21,11 +21,7 @@ use Rattle.transit_laws.specs.Tokens.{is_token}
 use Rattle.transit_laws.specs.Transit.{Takes, joined}
 use Rattle.transit_laws.proofs.KeyTokens.{Token, answers, is_home, is_rows, performs, put, refuses, token_of, tokens_of}
 
--- what holds of those that join and of those before
-pub each_joined : (P : Signal → Type 0) (xs ys : List Signal) → Each P xs → Each P ys → Each P (joined xs ys)
-each_joined P [] ys new old = old
-each_joined P (x ∷ xs) ys new old = each_joined P xs (x ∷ ys) new.1 (new.0, old)
-
+-- what holds of all holds of those before, and of those that join
 pub joined_old : (P : Signal → Type 0) (xs ys : List Signal) → Each P (joined xs ys) → Each P ys
 joined_old P [] ys all = all
 joined_old P (x ∷ xs) ys all = (joined_old P xs (x ∷ ys) all).1
@@ -38,22 +34,7 @@ pub tally_joined : (p : Signal → Bool) (xs ys : List Signal) → tally p (join
 tally_joined p [] ys = omega arith
 tally_joined p (x ∷ xs) ys = omega (arith, tally_joined p xs (x ∷ ys))
 
--- of those that are left when one is taken, of it, and of all
-pub takes_less : (P : Signal → Type 0) (e : LogStep) (before between : List Signal) → Takes e before between → Each P before → Each P between
-takes_less P e before between takes all = by (is_request e.taken.body) refl
-  where
-    by : (b : Bool) → is_request e.taken.body ≡ b → Each P between
-    by true asked = subst (Each P) (sym (takes.request asked)) all
-    by false given =
-        let taken = takes.signal given in
-        let split = subst (Each P) taken.is all in
-        subst (Each P) (sym taken.left) (each_append P taken.front taken.back (each_before P taken.front (e.taken ∷ taken.back) split) (each_after P taken.front (e.taken ∷ taken.back) split).1)
-
-pub takes_it : (P : Signal → Type 0) (e : LogStep) (before between : List Signal) → Takes e before between → is_request e.taken.body ≡ false → Each P before → P e.taken
-takes_it P e before between takes given all =
-    let taken = takes.signal given in
-    (each_after P taken.front (e.taken ∷ taken.back) (subst (Each P) taken.is all)).0
-
+-- what holds of the signal that is taken and of those that are left holds of all
 pub takes_more : (P : Signal → Type 0) (e : LogStep) (before between : List Signal) → Takes e before between → Each P between → P e.taken → Each P before
 takes_more P e before between takes all it = by (is_request e.taken.body) refl
   where
@@ -65,15 +46,10 @@ takes_more P e before between takes all it = by (is_request e.taken.body) refl
         subst (Each P) (sym taken.is) (each_append P taken.front (e.taken ∷ taken.back) (each_before P taken.front taken.back split) (it, each_after P taken.front taken.back split))
 
 -- what is sent is what is in transit then
-pub each_headed : (Q : Place → Body → Type 0) (view : View) (h stamp : ℕ) (count : ℕ → ℕ) (sends : List Outgoing) → Each (λ (o : Outgoing). Q o.to o.body) sends
-    → Each (λ (x : Signal). Q x.to x.body) (all_headed view h stamp count sends)
-each_headed Q view h stamp count [] all = tt
-each_headed Q view h stamp count (o ∷ more) all = (all.0, each_headed Q view h stamp (counted o.to.node count) more all.1)
-
-pub headed_each : (Q : Place → Body → Type 0) (view : View) (h stamp : ℕ) (count : ℕ → ℕ) (sends : List Outgoing) → Each (λ (x : Signal). Q x.to x.body) (all_headed view h stamp count sends)
+pub sent_each : (Q : Place → Body → Type 0) (view : View) (h stamp : ℕ) (count : ℕ → ℕ) (sends : List Outgoing) → Each (λ (x : Signal). Q x.to x.body) (all_headed view h stamp count sends)
     → Each (λ (o : Outgoing). Q o.to o.body) sends
-headed_each Q view h stamp count [] all = tt
-headed_each Q view h stamp count (o ∷ more) all = (all.0, headed_each Q view h stamp (counted o.to.node count) more all.1)
+sent_each Q view h stamp count [] all = tt
+sent_each Q view h stamp count (o ∷ more) all = (all.0, sent_each Q view h stamp (counted o.to.node count) more all.1)
 
 pub tally_headed : (p : Body → Bool) (view : View) (h stamp : ℕ) (count : ℕ → ℕ) (sends : List Outgoing) → tally (λ (x : Signal). p x.body) (all_headed view h stamp count sends) ≡ tally (λ (o : Outgoing). p o.body) sends
 tally_headed p view h stamp count [] = refl

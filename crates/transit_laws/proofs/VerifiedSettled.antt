@@ -1,14 +1,11 @@
 -- A transaction that waits for its epoch, and isn't given up, has of each key what the primary answered.
-use Rattle.std.proofs.Common.{◌≡◌, ◌⊎◌, ◌≢◌, ◌||◌, ℕ, zero, suc, Bool, true, false, List, [], ◌∷◌, refl, sym, ap, ◌∙◌, subst, inl, inr}
-use Rattle.std.proofs.lemmas.Bool.{cases_eq}
+use Rattle.std.proofs.Common.{◌≡◌, ℕ, zero, suc, Bool, true, false, List, [], ◌∷◌, refl, sym, ap, ◌∙◌, subst}
 use Rattle.std.specs.List.{list_any}
-use Rattle.std.specs.Prelude.{is_some, Option, None, Some}
+use Rattle.std.specs.Prelude.{is_some, None, Some}
 use Rattle.run_theory.proofs.Runs.{log_of-past}
-use Rattle.run_theory.specs.Lists.{Each}
 use Rattle.run_theory.proofs.Pasts.{each_map}
 use Rattle.sig_core.specs.declared.log.LogStep.{LogStep}
 use Rattle.sig_core.specs.declared.member.TxId.{TxId}
-use Rattle.sig_core.specs.declared.outs.Outgoing.{Outgoing}
 use Rattle.sig_core.specs.declared.signal.Signal.{Signal}
 use Rattle.sig_core.specs.Same.{same_tx}
 use Rattle.node_core.specs.declared.host.Host.{Host}
@@ -26,14 +23,14 @@ use Rattle.commit_laws.specs.Ways.{forth_by, sent_ways}
 use Rattle.commit_laws.proofs.OneWay.{forth_decided}
 use Rattle.commit_laws.proofs.Replicas.{nodes_begin}
 use Rattle.answer_laws.proofs.Hosts.{shell_after}
-use Rattle.transit_laws.specs.Circle.{Agree, IsSettled, IsSettledFor, VerifiedAreSettled, at_host, at_primary}
+use Rattle.transit_laws.specs.Circle.{Agree, IsSettledFor, VerifiedAreSettled, at_host, at_primary}
 use Rattle.transit_laws.specs.GivenUp.{is_carried_out, is_given_up}
 use Rattle.transit_laws.specs.Live.{live_at, of_host}
 use Rattle.transit_laws.specs.Routes.{primary}
 use Rattle.transit_laws.specs.Tokens.{is_token}
 use Rattle.transit_laws.specs.Transit.{AreInTransit, Comes, IsRun, Takes, joined, logs_of}
 use Rattle.transit_laws.proofs.CircleKept.{IsGoing}
-use Rattle.transit_laws.proofs.Circles.{IsCircling, IsPristine}
+use Rattle.transit_laws.proofs.Circles.{IsCircling}
 use Rattle.transit_laws.proofs.CircleSteps.{step_circles}
 use Rattle.transit_laws.proofs.CircleView.{Settles}
 use Rattle.transit_laws.proofs.KeyMoves.{replica_along}

@@ -1,5 +1,5 @@
 -- Sums over signals: as they are sent, as they join those in transit, and as one of them is taken.
-use Rattle.std.proofs.Common.{◌≡◌, ℕ, ◌+◌, ◌≤◌, List, [], ◌∷◌, ◌++◌, Bool, true, false, refl, ap, sym, ◌∙◌, subst, arith}
+use Rattle.std.proofs.Common.{◌≡◌, ℕ, ◌+◌, ◌≤◌, List, [], ◌∷◌, ◌++◌, Bool, true, false, refl, ap, sym, subst, arith}
 use Rattle.run_theory.specs.Lists.{Each}
 use Rattle.run_theory.proofs.Pasts.{each_after, each_append, each_before}
 use Rattle.sig_core.specs.declared.log.LogStep.{LogStep}
@@ -9,7 +9,7 @@ use Rattle.sig_core.specs.declared.signal.Body.{Body}
 use Rattle.sig_core.specs.declared.signal.Signal.{Signal}
 use Rattle.sig_core.specs.declared.view.View.{View}
 use Rattle.node_core.specs.Requests.{is_request}
-use Rattle.world_core.specs.Machine.{all_headed, counted, headed, sent_count, signals_of, step_after}
+use Rattle.world_core.specs.Machine.{all_headed, counted, sent_count, signals_of, step_after}
 use Rattle.world_core.specs.Start.{Start, first_view}
 use Rattle.transit_laws.specs.Transit.{IsTaken, Takes, joined}
 
@@ -88,12 +88,12 @@ each_taken P e before between is takes all =
     let t = takes.signal is in
     (each_after P t.front (e.taken ∷ t.back) (subst (Each P) t.is all)).0
 
-headed_each : (P : Place → Body → Type 0) (view : View) (h stamp : ℕ) (count : ℕ → ℕ) (os : List Outgoing) → Each (λ (o : Outgoing). P o.to o.body) os
+pub headed_each : (P : Place → Body → Type 0) (view : View) (h stamp : ℕ) (count : ℕ → ℕ) (os : List Outgoing) → Each (λ (o : Outgoing). P o.to o.body) os
     → Each (λ (x : Signal). P x.to x.body) (all_headed view h stamp count os)
 headed_each P view h stamp count [] all = tt
 headed_each P view h stamp count (o ∷ os) all = (all.0, headed_each P view h stamp (counted o.to.node count) os all.1)
 
-joined_each : (P : Signal → Type 0) (xs ys : List Signal) → Each P xs → Each P ys → Each P (joined xs ys)
+pub joined_each : (P : Signal → Type 0) (xs ys : List Signal) → Each P xs → Each P ys → Each P (joined xs ys)
 joined_each P [] ys all others = others
 joined_each P (x ∷ xs) ys all others = joined_each P xs (x ∷ ys) all.1 (all.0, others)
 
