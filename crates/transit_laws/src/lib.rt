@@ -6,7 +6,7 @@ mod route_laws;
 mod token_laws;
 mod way_laws;
 
-pub use circle_laws::verified_are_settled;
+pub use circle_laws::{decided_are_settled, verified_are_settled};
 pub use route_laws::{
     coming_signals_are_routed, replicas_are_nodes, signals_are_routed, transactions_are_keyed,
 };
