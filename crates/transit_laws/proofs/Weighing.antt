@@ -9,7 +9,7 @@ use Rattle.sig_core.specs.declared.signal.Body.{Body}
 use Rattle.sig_core.specs.declared.signal.Signal.{Signal}
 use Rattle.sig_core.specs.declared.view.View.{View}
 use Rattle.node_core.specs.Requests.{is_request}
-use Rattle.world_core.specs.Machine.{all_headed, counted, headed, signals_of, step_after}
+use Rattle.world_core.specs.Machine.{all_headed, counted, headed, sent_count, signals_of, step_after}
 use Rattle.world_core.specs.Start.{Start, first_view}
 use Rattle.transit_laws.specs.Transit.{IsTaken, Takes, joined}
 
@@ -19,7 +19,7 @@ weigh f [] = 0
 weigh f (x ∷ xs) = f x + weigh f xs
 
 pub weigh_append : {A : Type 0} (f : A → ℕ) (xs ys : List A) → weigh f (xs ++ ys) ≡ weigh f xs + weigh f ys
-weigh_append f [] ys = refl
+weigh_append f [] ys = omega arith
 weigh_append f (x ∷ xs) ys = omega (arith, weigh_append f xs ys)
 
 pub weigh_less : {A : Type 0} (f g : A → ℕ) (xs : List A) → ((x : A) → f x ≤ g x) → weigh f xs ≤ weigh g xs
@@ -46,14 +46,14 @@ headed_weigh w view h stamp count [] = refl
 headed_weigh w view h stamp count (o ∷ os) = ap (λ m. w o.to o.body + m) (headed_weigh w view h stamp (counted o.to.node count) os)
 
 joined_weigh : (w : Place → Body → ℕ) (xs ys : List Signal) → in_transit w (joined xs ys) ≡ in_transit w xs + in_transit w ys
-joined_weigh w [] ys = refl
+joined_weigh w [] ys = omega arith
 joined_weigh w (x ∷ xs) ys = omega (arith, joined_weigh w xs (x ∷ ys))
 
 -- what is in transit behind a step
 pub joins_weigh : (w : Place → Body → ℕ) (start : Start) (h : ℕ) (log : List LogStep) (e : LogStep) (between : List Signal)
     → in_transit w (joined (signals_of start h log e) between) ≡ in_sends w (step_after start h log e).effects.sends + in_transit w between
 joins_weigh w start h log e between =
-    omega (arith, joined_weigh w (signals_of start h log e) between, headed_weigh w (first_view start.nodes) h e.stamp _ (step_after start h log e).effects.sends)
+    omega (arith, joined_weigh w (signals_of start h log e) between, headed_weigh w (first_view start.nodes) h e.stamp (sent_count start h log) (step_after start h log e).effects.sends)
 
 -- and what was taken from it
 pub takes_weigh : (w : Place → Body → ℕ) (e : LogStep) (before between : List Signal) → (is_request e.taken.body ≡ true → w e.taken.to e.taken.body ≡ 0) → Takes e before between
@@ -102,4 +102,4 @@ pub each_joins : (P : Place → Body → Type 0) (start : Start) (h : ℕ) (log 
     → Each (λ (x : Signal). P x.to x.body) (joined (signals_of start h log e) between)
 each_joins P start h log e between sent rest =
     joined_each (λ (x : Signal). P x.to x.body) (signals_of start h log e) between
-    (headed_each P (first_view start.nodes) h e.stamp _ (step_after start h log e).effects.sends sent) rest
+    (headed_each P (first_view start.nodes) h e.stamp (sent_count start h log) (step_after start h log e).effects.sends sent) rest
