@@ -1,3 +1,5 @@
+pub mod Ahead
+pub mod CommitBegins
 pub mod EachLive
 pub mod OfLive
 pub mod PartSends

@@ -41,12 +41,16 @@ use Rattle.transit_laws.proofs.TxSignals.{is_next, is_sign}
 abbrev pub AreSilent : TxId → List Outgoing → Type 0
 AreSilent tx sends = Each (λ (o : Outgoing). is_sign tx o.body ≡ false) sends
 
+-- the transaction after a turn, unless it is over
+abbrev pub left_by : Turn → Option Transaction
+left_by turn = if turn.over then None else Some turn.step.state
+
 -- a step of the coordinator leaves the transaction alone, begins one, or gives it a turn
 pub data TcTurn (tx : TxId) (s : TcState) (body : Body) (step : Step TcState) : Type 0 where
   idle : of_live tx step.state.live ≡ of_live tx s.live → AreSilent tx step.effects.sends → (is_next tx body ≡ true → of_live tx s.live ≡ None) → TcTurn tx s body step
   begins : step.state ≡ begun s → AreSilent tx step.effects.sends → is_next tx body ≡ false → TcTurn tx s body step
   turns : (t : Transaction) → of_live tx s.live ≡ Some t → same_tx (tx_in body) tx ≡ true → step.effects.sends ≡ (turn_for s.node s.view tx body t).step.effects.sends
-      → of_live tx step.state.live ≡ (if (turn_for s.node s.view tx body t).over then None else Some (turn_for s.node s.view tx body t).step.state) → TcTurn tx s body step
+      → of_live tx step.state.live ≡ left_by (turn_for s.node s.view tx body t) → TcTurn tx s body step
 
 next_other : (tx : TxId) (body : Body) → same_tx (tx_in body) tx ≡ false → is_next tx body ≡ false
 next_other tx (Host (Continue (work.Transaction one) at)) e = e
@@ -91,6 +95,10 @@ module _ (tx : TxId) (s : TcState) (once : tally (is_keyed tx) s.live ≤ 1) whe
       was : (f : IsEntry (same_tx one) s.live place) → same_tx one tx ≡ true → of_live tx s.live ≡ Some f.value
       was f e = ap (of_live tx) f.is ∙ of_here tx f.key f.value f.front f.back (front_none f e) (keyed f true e)
 
+      left : (f : IsEntry (same_tx one) s.live place) (b : Bool) → same_tx one tx ≡ true → (row f.value).over ≡ b
+          → (if b then None else Some (row f.value).step.state) ≡ left_by (turn_for s.node s.view tx body f.value)
+      left f b e o = ap (λ c. if c then None else Some (row f.value).step.state) (sym o) ∙ ap left_by (mine e f.value)
+
       over : (f : IsEntry (same_tx one) s.live place) (m b : Bool) → same_tx one tx ≡ m → (row f.value).over ≡ b → TcTurn tx s body (turned_if s place (row f.value) b)
       over f false true e o =
           idle
@@ -103,13 +111,11 @@ module _ (tx : TxId) (s : TcState) (once : tally (is_keyed tx) s.live ≤ 1) whe
           (own_silent one tx (row f.value).step.effects.sends e (own f.value)) (λ next. absurd (let both : true ≡ false = sym next ∙ next_other tx body e in cc))
       over f true true e o =
           turns f.value (was f e) e (ap (λ (turn : Turn). turn.step.effects.sends) (mine e f.value))
-          (ap (of_live tx) f.removed ∙ of_none tx (f.front ++ f.back) (first f e)
-              ∙ sym (ap (λ b. if b then None else Some (turn_for s.node s.view tx body f.value).step.state) (sym (ap (λ (turn : Turn). turn.over) (mine e f.value)) ∙ o)))
+          (ap (of_live tx) f.removed ∙ of_none tx (f.front ++ f.back) (first f e) ∙ left f true e o)
       over f true false e o =
           turns f.value (was f e) e (ap (λ (turn : Turn). turn.step.effects.sends) (mine e f.value))
           (ap (of_live tx) (f.set (row f.value).step.state) ∙ of_here tx f.key (row f.value).step.state f.front f.back (front_none f e) (keyed f true e)
-              ∙ ap (λ (turn : Turn). Some turn.step.state) (mine e f.value)
-              ∙ sym (ap (λ b. if b then None else Some (turn_for s.node s.view tx body f.value).step.state) (sym (ap (λ (turn : Turn). turn.over) (mine e f.value)) ∙ o)))
+              ∙ left f false e o)
 
       none : (m : Bool) → same_tx one tx ≡ m → length (keys_of s.live) ≤ place → is_next tx body ≡ true → of_live tx s.live ≡ None
       none true e past next = of_none tx s.live (absent_key tx one s.live e past)
