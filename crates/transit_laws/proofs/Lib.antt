@@ -1,6 +1,8 @@
 pub mod Ahead
 pub mod CommitBegins
 pub mod EachLive
+pub mod HostParts
+pub mod LqhParts
 pub mod OfLive
 pub mod PartSends
 pub mod TcOwn
