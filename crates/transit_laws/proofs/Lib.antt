@@ -5,6 +5,7 @@ pub mod HostParts
 pub mod LqhParts
 pub mod OfLive
 pub mod PartSends
+pub mod RecordsFade
 pub mod TcOwn
 pub mod TcTurns
 pub mod Transit

@@ -121,10 +121,11 @@ module _ (tx : TxId) (s : TcState) (once : tally (is_keyed tx) s.live ≤ 1) whe
       none true e past next = of_none tx s.live (absent_key tx one s.live e past)
       none false e past next = absurd (let both : true ≡ false = sym next ∙ next_other tx body e in cc)
 
+      placed : IsEntry (same_tx one) s.live place → TcTurn tx s body (turn_place s row (Some place))
+      placed f = subst (λ o. TcTurn tx s body (turn_value s row place o)) (sym f.get) (over f (same_tx one tx) (row f.value).over refl refl)
+
       go : (b : Bool) → nat_lt place (length (keys_of s.live)) ≡ b → TcTurn tx s body (turn_place s row (cond b (Some place) None))
-      go true e =
-          let f = found (same_tx one) s.live (grind (arith, nat_tests, e)) in
-          subst (λ o. TcTurn tx s body (turn_value s row place o)) (sym {b = Some f.value} f.get) (over f (same_tx one tx) (row f.value).over refl refl)
+      go true e = placed (found (same_tx one) s.live (grind (arith, nat_tests, e)))
       go false e = idle refl tt (none (same_tx one tx) refl (grind (arith, nat_tests, e)))
 
   plain_step : (body : Body) (row : Transaction → Step Transaction) → ((t : Transaction) → TurnOwn (tx_in body) (going (row t)))
