@@ -6,6 +6,7 @@ pub mod LqhParts
 pub mod OfLive
 pub mod PartSends
 pub mod RecordsFade
+pub mod RunsFade
 pub mod TcOwn
 pub mod TcTurns
 pub mod Transit
