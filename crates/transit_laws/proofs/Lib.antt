@@ -1,12 +1,13 @@
 pub mod Ahead
 pub mod CommitBegins
 pub mod EachLive
+pub mod HostFades
 pub mod HostParts
 pub mod LqhParts
 pub mod OfLive
 pub mod PartSends
 pub mod RecordsFade
-pub mod RunsFade
+pub mod StepFades
 pub mod TcOwn
 pub mod TcTurns
 pub mod Transit

@@ -1,4 +1,4 @@
--- Along a run: the records of a transaction of which nothing more is asked are committed and completed, and the primary marks that.
+-- One step: the records of a transaction of which nothing more is asked are committed and completed, and the primary marks that.
 use Rattle.std.proofs.Common.{◌≡◌, ◌≢◌, ◌⊎◌, ◌<◌, ◌≤◌, ◌+◌, ℕ, Bool, true, false, ◌||◌, List, [], ◌∷◌, filter, refl, sym, ap, ◌∙◌, subst, arith, inl, inr}
 use Rattle.std.specs.Prelude.{◌==◌, if◌then◌else◌, Option, None, Some}
 use Rattle.std.specs.List.{list_any}
@@ -57,7 +57,7 @@ use Rattle.transit_laws.specs.Transit.{Comes, Takes, logs_of}
 use Rattle.transit_laws.proofs.RecordsFade.{Fading, HasRecord, IsHarmless, commit_ends, fades_prepared, fades_there, fading, is_committed, is_completed, once_at, stays}
 use Rattle.transit_laws.proofs.Weighing.{each_taken}
 
-none_passes : {A : Type 0} (p : A → Bool) (xs : List A) → tally p xs ≡ 0 → Each (λ x. p x ≡ false) xs
+pub none_passes : {A : Type 0} (p : A → Bool) (xs : List A) → tally p xs ≡ 0 → Each (λ x. p x ≡ false) xs
 none_passes p [] none = tt
 none_passes p (x ∷ xs) none = by (p x) refl (none_passes p xs)
   where
@@ -65,16 +65,16 @@ none_passes p (x ∷ xs) none = by (p x) refl (none_passes p xs)
     by true e rest = absurd (omega (arith, none, ap one_if e))
     by false e rest = (e, rest (omega (arith, none)))
 
-either : (b : Bool) {c : Bool} → c ≡ true → (b || c) ≡ true
+pub either : (b : Bool) {c : Bool} → c ≡ true → (b || c) ≡ true
 either true e = refl
 either false e = e
 
-first_or : (b c : Bool) → b ≡ true → (b || c) ≡ true
+pub first_or : (b c : Bool) → b ≡ true → (b || c) ≡ true
 first_or true c e = refl
 first_or false c e = cc
 
 module _ (tx : TxId) where
-  request_token : (body : Body) → is_request body ≡ true → is_token tx body ≡ false
+  pub request_token : (body : Body) → is_request body ≡ true → is_token tx body ≡ false
   request_token (Chain (LqhKeyReq other what chain at)) e = cc
   request_token (Chain (LqhKeyConf other key answer)) e = cc
   request_token (Chain (LqhKeyRef other key why)) e = cc
@@ -107,7 +107,7 @@ module _ (tx : TxId) where
       by (Some wait) = harmless_if wait.1 key _ (at_key key s) (λ e. tt)
   harmless_at key s _ token none aborts_not = tt
 
-  harmless_in : (key : List ℕ) (g : host.Host) (to : Place) (body : Body) → is_token tx body ≡ false → waiting_in tx g ≡ 0
+  pub harmless_in : (key : List ℕ) (g : host.Host) (to : Place) (body : Body) → is_token tx body ≡ false → waiting_in tx g ≡ 0
       → ((one : TxId) (own : List ℕ) → body ≡ Chain (Abort one own) → same_tx one tx ≡ false) → IsHarmless tx (key_in key g) (event_in key g to body)
   harmless_in key (Shell s) to body token none aborts_not = tt
   harmless_in key (Node n) to body token none aborts_not = by to.block
@@ -191,7 +191,7 @@ module _ (tx : TxId) where
           none r = cc
   lqh_primary s body key (is_committed v last event_is same is) ends h = absurd (no_commits key s body v last refl event_is)
 
-  primary_step : (g : host.Host) (to : Place) (body : Body) (key : List ℕ) → Fading tx (event_in key g to body) (key_in key g).cell.pending (key_after (event_in key g to body) (key_in key g)).cell.pending
+  pub primary_step : (g : host.Host) (to : Place) (body : Body) (key : List ℕ) → Fading tx (event_in key g to body) (key_in key g).cell.pending (key_after (event_in key g to body) (key_in key g)).cell.pending
       → ((one : TxId) (own : List ℕ) (epoch : ℕ) (chain : List Member) (at : ℕ) → body ≡ Chain (Commit one own epoch chain at) → own ≡ key → (at == 0) ≡ true)
       → HasPrepared tx (key_in key g).cell.pending
       → HasPrepared tx (key_after (event_in key g to body) (key_in key g)).cell.pending ⊎ (list_any (is_applied tx) (row g to body).effects.marks ≡ true)
@@ -207,7 +207,7 @@ module _ (tx : TxId) where
       by _ f = inl h
 
   -- where the last commit comes nothing stays prepared
-  last_step : (g : host.Host) (to : Place) (one : TxId) (own key : List ℕ) (epoch : ℕ) (chain : List Member) (at : ℕ) → to.block ≡ block.Lqh → same_tx one tx ≡ true → same_key own key ≡ true
+  pub last_step : (g : host.Host) (to : Place) (one : TxId) (own key : List ℕ) (epoch : ℕ) (chain : List Member) (at : ℕ) → to.block ≡ block.Lqh → same_tx one tx ≡ true → same_key own key ≡ true
       → HasPrepared tx (key_after (event_in key g to (Chain (Commit one own epoch chain at))) (key_in key g)).cell.pending → ⊥
   last_step (Shell s) to one own key epoch chain at home same same_own h = let none : None ≡ Some h.record_is = h.there in cc
   last_step (Node n) to one own key epoch chain at home same same_own h =
