@@ -34,7 +34,7 @@ use Rattle.tc_block.specs.Turn.{Turn, at_phase, going}
 use Rattle.commit_laws.proofs.EachSent.{each_mapped}
 use Rattle.commit_laws.specs.Phases.{is_decided}
 use Rattle.transit_laws.proofs.TcOwn.{turn_for}
-use Rattle.transit_laws.proofs.TcTurns.{AreSilent}
+use Rattle.transit_laws.proofs.TxTurns.{AreSilent}
 use Rattle.transit_laws.proofs.TxSignals.{is_next, is_part, is_sign}
 
 -- a turn of a transaction that commits, and awaits so many

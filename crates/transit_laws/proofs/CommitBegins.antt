@@ -38,7 +38,7 @@ use Rattle.answer_laws.proofs.Tally.{one_if}
 use Rattle.answer_laws.proofs.TcSends.{same_tx-self, tx_in}
 use Rattle.transit_laws.proofs.Ahead.{wait_silent}
 use Rattle.transit_laws.proofs.TcOwn.{turn_for}
-use Rattle.transit_laws.proofs.TcTurns.{AreSilent}
+use Rattle.transit_laws.proofs.TxTurns.{AreSilent}
 use Rattle.transit_laws.proofs.TxSignals.{is_part, is_sign}
 
 -- a row of the transaction is to be aborted

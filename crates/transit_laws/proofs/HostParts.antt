@@ -18,7 +18,7 @@ use Rattle.answer_laws.proofs.ApiMoves.{ApiMove, api_moves, begun_as, ends, goes
 use Rattle.answer_laws.proofs.DihSends.{dih_kinds}
 use Rattle.answer_laws.proofs.SendKinds.{are_of, is_dih_kind, of_kind}
 use Rattle.transit_laws.proofs.LqhParts.{is_plain, plain_silent}
-use Rattle.transit_laws.proofs.TcTurns.{AreSilent}
+use Rattle.transit_laws.proofs.TxTurns.{AreSilent}
 
 api_plain : (body : Body) → is_api_kind body ≡ true → is_plain body ≡ true
 api_plain (Client (TcKeyReq tx op)) e = refl

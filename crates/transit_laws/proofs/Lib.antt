@@ -3,13 +3,13 @@ pub mod CommitBegins
 pub mod EachLive
 pub mod HostFades
 pub mod HostParts
+pub mod LiveOf
 pub mod LqhParts
-pub mod OfLive
 pub mod PartSends
 pub mod RecordsFade
 pub mod StepFades
 pub mod TcOwn
-pub mod TcTurns
 pub mod Transit
 pub mod TxSignals
+pub mod TxTurns
 pub mod Weighing

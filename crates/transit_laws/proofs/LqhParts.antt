@@ -46,7 +46,7 @@ use Rattle.answer_laws.proofs.SendKinds.{SendsOnly, are_of, each_of, of_append}
 use Rattle.answer_laws.proofs.LqhOps.{is_lqh}
 use Rattle.answer_laws.proofs.Tally.{one_if}
 use Rattle.answer_laws.proofs.Wishes.{is_tc}
-use Rattle.transit_laws.proofs.TcTurns.{AreSilent}
+use Rattle.transit_laws.proofs.TxTurns.{AreSilent}
 use Rattle.transit_laws.proofs.TxSignals.{Tells, cover, is_part, is_sign, part_cover, part_tells, part_weight, sign_part, weight}
 use Rattle.transit_laws.proofs.Weighing.{in_sends, weigh, weigh_none}
 

@@ -34,7 +34,7 @@ use Rattle.answer_laws.proofs.TcLives.{is_keyed}
 use Rattle.answer_laws.proofs.TcMoves.{IsEntry, found, same_tx-is}
 use Rattle.answer_laws.proofs.TcSends.{tx_in}
 use Rattle.transit_laws.specs.Live.{of_live}
-use Rattle.transit_laws.proofs.OfLive.{of_here, of_none, of_other}
+use Rattle.transit_laws.proofs.LiveOf.{of_here, of_none, of_other}
 use Rattle.transit_laws.proofs.TcOwn.{TurnOwn, is_own, own_silent, turn_for, turn_own}
 use Rattle.transit_laws.proofs.TxSignals.{is_next, is_sign}
 
