@@ -2,12 +2,15 @@ pub mod Ahead
 pub mod CircleView
 pub mod CommitBegins
 pub mod EachLive
+pub mod EachTurn
 pub mod GivenUp
+pub mod HostAfter
 pub mod HostFades
 pub mod HostParts
 pub mod HostTokens
 pub mod KeySends
 pub mod KeyTokens
+pub mod Keyed
 pub mod LiveAfter
 pub mod LiveOf
 pub mod LqhParts
@@ -20,6 +23,12 @@ pub mod PartSends
 pub mod Performing
 pub mod QueueWaits
 pub mod RecordsFade
+pub mod RoutedEvents
+pub mod Routes
+pub mod RoutesChain
+pub mod RoutesLqh
+pub mod RoutesSends
+pub mod RoutesTc
 pub mod StepFades
 pub mod TcAborts
 pub mod TcAsks
@@ -31,6 +40,7 @@ pub mod TcStill
 pub mod TcTokenless
 pub mod TcTokens
 pub mod TcTurns
+pub mod TouchedLists
 pub mod Transit
 pub mod TransitRuns
 pub mod TxSignals
