@@ -7,6 +7,7 @@ pub mod GivenUp
 pub mod HostAfter
 pub mod HostFades
 pub mod HostParts
+pub mod HostSteps
 pub mod HostTokens
 pub mod KeySends
 pub mod KeyTokens
