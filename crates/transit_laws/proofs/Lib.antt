@@ -1,4 +1,5 @@
 pub mod Ahead
+pub mod CarriedOut
 pub mod CircleView
 pub mod CommitBegins
 pub mod EachLive
