@@ -1,5 +1,6 @@
 pub mod Ahead
 pub mod CarriedOut
+pub mod CarriedTurn
 pub mod CircleView
 pub mod CommitBegins
 pub mod EachLive
