@@ -1,4 +1,5 @@
 pub mod Ahead
+pub mod CarriedNext
 pub mod CarriedOut
 pub mod CarriedTurn
 pub mod CircleView
