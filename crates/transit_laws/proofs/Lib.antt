@@ -2,6 +2,7 @@ pub mod Ahead
 pub mod CarriedNext
 pub mod CarriedOut
 pub mod CarriedTurn
+pub mod CarryBegins
 pub mod CircleView
 pub mod CommitBegins
 pub mod EachLive
@@ -33,6 +34,7 @@ pub mod RoutesChain
 pub mod RoutesLqh
 pub mod RoutesSends
 pub mod RoutesTc
+pub mod SettledAlong
 pub mod StepFades
 pub mod TcAborts
 pub mod TcAsks

@@ -145,6 +145,21 @@ module _ (tx : TxId) (node : ℕ) (view : View) where
             ap (λ b. weigh c (take 8 (drop at xs) ++ rest_if node tx at b)) (next e),
           )
 
+  -- the first signal is the first commit
+  pub record Starts (first : Outgoing) (sends : List Outgoing) : Type 0 where
+    pub more : List Outgoing
+    pub is : sends ≡ first ∷ more
+
+  pub first_commit : (epoch awaited : ℕ) (u : Touched) (us : List Touched) → Starts (commit_of tx epoch u) (part_effects node tx (phase_sends view tx (Committing epoch awaited) (u ∷ us)) 0).sends
+  unfolding part_effects
+  first_commit epoch awaited u us =
+      subst (λ xs. Starts (commit_of tx epoch u) (take 8 (drop 0 xs) ++ rest_if node tx 0 (nat_lt (0 + 8) (length xs)))) (sym (commits_are epoch awaited (u ∷ us)))
+      (record { more = take 7 (map (commit_of tx epoch) us) ++ rest_if node tx 0 (nat_lt (0 + 8) (length (map (commit_of tx epoch) (u ∷ us)))); is = refl })
+
+  pub no_commits : (epoch awaited : ℕ) → (part_effects node tx (phase_sends view tx (Committing epoch awaited) []) 0).sends ≡ []
+  unfolding part_effects
+  no_commits epoch awaited = ap (λ xs. take 8 (drop 0 xs) ++ rest_if node tx 0 (nat_lt (0 + 8) (length xs))) (commits_are epoch awaited [])
+
   module _ (C : List ℕ → List Member → ℕ → Type 0) (D : List ℕ → Type 0) where
     abbrev SoTells : Outgoing → Type 0
     SoTells o = Tells tx C D o.body

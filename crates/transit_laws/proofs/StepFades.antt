@@ -72,6 +72,14 @@ module _ (start : Start) (es : List LogStep) (e : LogStep) (come : Comes start e
       by (inl less) = less
       by (inr high) = absurd (let both : [] ≡ e ∷ logs_of start es h = sym (come.now.within h high) ∙ now_own in cc)
 
+  -- marks stay
+  pub marks_at : (tx : TxId) (k : ℕ) → (h ≡ k) ⊎ (h ≢ k) → has_mark (is_applied tx) (logs_of start es k) ≡ true → has_mark (is_applied tx) (logs_of start (e ∷ es) k) ≡ true
+  marks_at tx k (inl same) is =
+      subst (λ j. has_mark (is_applied tx) (logs_of start (e ∷ es) j) ≡ true) same
+      (subst (λ log. has_mark (is_applied tx) log ≡ true) (sym now_own)
+      (either (list_any (is_applied tx) e.marks) (subst (λ j. has_mark (is_applied tx) (logs_of start es j) ≡ true) (sym same) is)))
+  marks_at tx k (inr differs) is = subst (λ log. has_mark (is_applied tx) log ≡ true) (sym (now_other k differs)) is
+
   module _ (before between : List Signal) (takes : Takes e before between) (tx : TxId) (none : tokens start (logs_of start es) before tx ≡ 0) (no_abort : NoAbort e tx) (ends : EndsAtPrimary start e) where
     wait_none : waiting_in tx (after start h (logs_of start es h)) ≡ 0
     wait_none = omega (arith, none, total_at (hosts start) (λ k. waiting_in tx (after start k (logs_of start es k))) h low)
@@ -139,13 +147,6 @@ module _ (start : Start) (es : List LogStep) (e : LogStep) (come : Comes start e
             inl (subst (λ j. HasPrepared tx (at_host start (logs_of start (e ∷ es)) key j).cell.pending) same (subst (λ (r : Replica). HasPrepared tx r.cell.pending) (sym (now_is key)) q))
         which (inr q) = inr (subst (λ j. has_mark (is_applied tx) (logs_of start (e ∷ es) j) ≡ true) same (marks_own q))
 
-    marks_at : (k : ℕ) → (h ≡ k) ⊎ (h ≢ k) → has_mark (is_applied tx) (logs_of start es k) ≡ true → has_mark (is_applied tx) (logs_of start (e ∷ es) k) ≡ true
-    marks_at k (inl same) is =
-        subst (λ j. has_mark (is_applied tx) (logs_of start (e ∷ es) j) ≡ true) same
-        (subst (λ log. has_mark (is_applied tx) log ≡ true) (sym now_own)
-        (either (list_any (is_applied tx) e.marks) (subst (λ j. has_mark (is_applied tx) (logs_of start es j) ≡ true) (sym same) is)))
-    marks_at k (inr differs) is = subst (λ log. has_mark (is_applied tx) log ≡ true) (sym (now_other k differs)) is
-
     pub step_fades : StepFades start (logs_of start es) (logs_of start (e ∷ es)) e tx
     step_fades = record {
       prepared = λ key k. prepared_at key k (cases_eq h k);
@@ -154,5 +155,5 @@ module _ (start : Start) (es : List LogStep) (e : LogStep) (come : Comes start e
       committed = λ key one own epoch chain at is home same same_own p.
           last_step tx g e.taken.to one own key epoch chain at home same same_own
           (subst (λ b. HasPrepared tx (key_after (event_in key g e.taken.to b) (key_in key g)).cell.pending) is (subst (λ (r : Replica). HasPrepared tx r.cell.pending) (now_is key) p));
-      marks = λ k. marks_at k (cases_eq h k);
+      marks = λ k. marks_at tx k (cases_eq h k);
     }
