@@ -7,6 +7,7 @@ pub mod CircleView
 pub mod CommitBegins
 pub mod EachLive
 pub mod EachTurn
+pub mod FirstCommits
 pub mod GivenUp
 pub mod HostAfter
 pub mod HostFades
