@@ -5,6 +5,7 @@ pub mod CarriedTurn
 pub mod CarryBegins
 pub mod CircleView
 pub mod CommitBegins
+pub mod Completions
 pub mod EachLive
 pub mod EachTurn
 pub mod FirstCommits
