@@ -423,3 +423,33 @@ coordinators_one_way start h log = one_apart (after start h log) (sent_ways star
 
 pub coordinators_say : CoordinatorsSay
 coordinators_say start h log e = (host_one (after start h log) e.taken.to e.taken.body (sent_ways start forth_by h log) (sent_ways start back_by h log) (log_one start h log)).says
+
+-- who is among those that went forth isn't apart from all of them
+pub not_apart : (tx : TxId) (cs : List TxId) → list_any (same_tx tx) cs ≡ true → NotIn tx cs → ⊥
+not_apart tx [] among off = cc
+not_apart tx (v ∷ cs) among off = by (or_cases (same_tx tx v) (list_any (same_tx tx) cs) among) (λ more. not_apart tx cs more off.1)
+  where
+    by : (same_tx tx v ≡ true) ⊎ (list_any (same_tx tx) cs ≡ true) → (list_any (same_tx tx) cs ≡ true → ⊥) → ⊥
+    by (inl own) rest = let both : true ≡ false = sym own ∙ (same_tx-swap tx v ∙ off.0) in cc
+    by (inr more) rest = rest more
+
+-- one that a coordinator took forth knows that it is decided
+pub forth_decided : (start : Start) (h : ℕ) (log : List LogStep) (n : node.Node) → after start h log ≡ Node n
+    → Each (λ (e : TxId × Transaction). list_any (same_tx e.0) (sent_ways start forth_by h log) ≡ true → is_decided e.1.phase ≡ true) n.tc.live
+forth_decided start h log n is = each_map (IsLive n.tc.node n.tc.next_seq cs bs) (λ (e : TxId × Transaction). list_any (same_tx e.0) cs ≡ true → is_decided e.1.phase ≡ true) n.tc.live known one.live
+  where
+    cs : List TxId
+    cs = sent_ways start forth_by h log
+
+    bs : List TxId
+    bs = sent_ways start back_by h log
+
+    one : IsOneWay n.tc cs bs
+    one = subst (λ s. HostIsOneWay s cs bs) is (log_one start h log)
+
+    known : (e : TxId × Transaction) → IsLive n.tc.node n.tc.next_seq cs bs e → list_any (same_tx e.0) cs ≡ true → is_decided e.1.phase ≡ true
+    known e live among = by (is_decided e.1.phase) refl
+      where
+        by : (b : Bool) → is_decided e.1.phase ≡ b → is_decided e.1.phase ≡ true
+        by true on = on
+        by false off = absurd (not_apart e.0 cs among (live.uncommitted off))

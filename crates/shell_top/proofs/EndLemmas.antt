@@ -73,6 +73,7 @@ ordered start inside logs some cut =
 pub is_life : (e : Ending) (commands : List Command) (logs : List HostLog) → AreLived (fresh nodes) e commands (logs_at logs) → IsLife e commands (fresh_life logs)
 is_life e commands logs lived =
     record {
+      begins = refl;
       lived = lived;
       ordered = λ inside cut closed. ordered (fresh nodes) inside (logs_at logs) (lit< tt) (record { within = lived.within; right = lived.right; cut = cut; closed = closed });
       run = merged_run (machine (fresh nodes)) (stamped (fresh nodes)) (hosts (fresh nodes)) (logs_at logs) lived.within lived.right;

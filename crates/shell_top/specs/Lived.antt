@@ -17,7 +17,7 @@ use Rattle.world_core.specs.Machine.{hosts, machine}
 use Rattle.world_core.specs.Quiet.{IsQuiet}
 use Rattle.world_core.specs.Requests.{AreAskedAtQuiet}
 use Rattle.world_core.specs.SerialLaw.{AreEpochsOrdered}
-use Rattle.world_core.specs.Start.{Start}
+use Rattle.world_core.specs.Start.{Start, fresh}
 use Rattle.world_core.specs.Strict.{IsStrictOrder}
 use Rattle.world_core.specs.Views.{greatest_view, is_viable}
 
@@ -46,9 +46,10 @@ pub record IsOrdered (start : Start) (logs : ℕ → List LogStep) : Type 0 wher
   -- one group, of which each node has a replica
   pub viable : is_viable 1 start.nodes (greatest_view start logs) ≡ true
 
--- What a life says: its logs are a run of the machine from its start, the requests in them are those of the commands,
--- and every closed cut of them is ordered.
+-- What a life says: it begins without rows, in the first epoch; its logs are a run of the machine from there, the requests
+-- in them are those of the commands, and every closed cut of them is ordered.
 pub record IsLife (ending : Ending) (commands : List Command) (life : Life) : Type 0 where
+  pub begins : start_of nodes life ≡ fresh nodes
   pub lived : AreLived (start_of nodes life) ending commands (logs_of life)
   pub run : LogsRun (machine (start_of nodes life)) (hosts (start_of nodes life)) (logs_of life)
   pub ordered : (inside : ℕ → List LogStep) → IsCut inside (logs_of life) → IsClosed (machine (start_of nodes life)) inside → IsOrdered (start_of nodes life) inside

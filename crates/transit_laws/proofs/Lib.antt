@@ -6,6 +6,7 @@ pub mod CarryBegins
 pub mod CircleView
 pub mod CommitBegins
 pub mod Completions
+pub mod DecidedSettled
 pub mod EachLive
 pub mod EachTurn
 pub mod FirstCommits
@@ -23,9 +24,11 @@ pub mod LiveOf
 pub mod LqhParts
 pub mod LqhTokens
 pub mod LqhWaits
+pub mod NoneWait
 pub mod OfLive
 pub mod OneAtATime
 pub mod OthersStay
+pub mod Owing
 pub mod PartSends
 pub mod Performing
 pub mod QueueWaits
@@ -53,6 +56,8 @@ pub mod Transit
 pub mod TransitRuns
 pub mod TxSignals
 pub mod TxTurns
+pub mod Undecided
+pub mod Verified
 pub mod Ways
 pub mod WaysMarked
 pub mod WaysPassed

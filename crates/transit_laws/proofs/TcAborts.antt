@@ -1,8 +1,8 @@
 -- Who comes to be aborted is given up in the same turn.
-use Rattle.std.proofs.Common.{◌≡◌, ◌⊎◌, ℕ, zero, suc, ◌+◌, ◌≤◌, List, [], ◌∷◌, ◌++◌, take, drop, map, length, Bool, true, false, refl, ap, sym, ◌∙◌, subst, arith, inl, inr}
-use Rattle.std.specs.Prelude.{◌==◌, ◌||◌, is_some, nat_lt, position, slice_set, Option, None, Some}
-use Rattle.std.specs.List.{flat_map, list_any}
-use Rattle.std.proofs.lemmas.Bool.{and_parts, eqb-true, or_left}
+use Rattle.std.proofs.Common.{◌≡◌, ◌⊎◌, ℕ, zero, suc, ◌+◌, ◌≤◌, List, [], ◌∷◌, ◌++◌, take, length, Bool, true, false, refl, ap, sym, ◌∙◌, subst, arith, inl, inr}
+use Rattle.std.specs.Prelude.{◌==◌, is_some, nat_lt, Option, None, Some}
+use Rattle.std.specs.List.{flat_map}
+use Rattle.std.proofs.lemmas.Bool.{or_left}
 use Rattle.std.proofs.lemmas.Bool.Decides.{nat_tests}
 use Rattle.sig_core.specs.declared.member.Member.{Member}
 use Rattle.sig_core.specs.declared.member.TxId.{TxId}
@@ -24,8 +24,8 @@ use Rattle.tc_block.specs.Chain.{chain_of}
 use Rattle.tc_block.specs.Commit as commit
 use Rattle.tc_block.specs.Complete as complete
 use Rattle.tc_block.specs.Operate as operate
-use Rattle.tc_block.specs.Part.{part_effects, rest}
-use Rattle.tc_block.specs.Sends.{abort_of, aborts_of, entering, front_sends, go_on_if, go_on_row, key_sends, phase_sends}
+use Rattle.tc_block.specs.Part.{part_effects}
+use Rattle.tc_block.specs.Sends.{aborts_of, entering, front_sends, go_on_if, go_on_row, key_sends, phase_sends}
 use Rattle.tc_block.specs.Touched.{place_of, touch, touched_by}
 use Rattle.tc_block.specs.Turn.{Turn, asking, going}
 use Rattle.commit_laws.specs.Ways.{is_aborting}

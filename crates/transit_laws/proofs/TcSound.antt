@@ -5,7 +5,6 @@ use Rattle.std.specs.List.{list_any}
 use Rattle.std.specs.Map.{values_of}
 use Rattle.std.specs.Prelude.{Option, None, Some, is_some, slice_get, nat_eq}
 use Rattle.std.proofs.lemmas.Bool.{and_right, ne_eqb}
-use Rattle.indexmap.specs.IndexMap.{insert_entry}
 use Rattle.run_theory.specs.Lists.{Each}
 use Rattle.run_theory.proofs.Pasts.{each_after, each_append, each_before, each_map}
 use Rattle.sig_core.specs.declared.log.LogStep.{LogStep}

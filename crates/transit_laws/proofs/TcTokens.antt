@@ -1,12 +1,11 @@
 -- What a coordinator sends of its transactions' operations at each signal, and how many parts of one there may be then.
-use Rattle.std.proofs.Common.{◌≡◌, ◌≢◌, ◌⊎◌, ◌<◌, ℕ, zero, suc, ◌+◌, ◌≤◌, Bool, true, false, ◌&&◌, ◌||◌, List, [], ◌∷◌, ◌++◌, refl, sym, ap, ◌∙◌, subst, arith, inl, inr}
+use Rattle.std.proofs.Common.{◌≡◌, ◌≢◌, ◌⊎◌, ◌<◌, ℕ, ◌+◌, ◌≤◌, Bool, true, false, ◌&&◌, ◌||◌, List, [], ◌∷◌, ◌++◌, refl, sym, ap, ◌∙◌, subst, arith, inl, inr}
 use Rattle.std.specs.Map.{values_of}
 use Rattle.std.specs.List.{list_any}
 use Rattle.std.specs.Prelude.{if◌then◌else◌, Option, None, Some, is_some, slice_get, nat_eq}
 use Rattle.std.proofs.lemmas.Bool.{and_right, ne_eqb, or_cases, or_left, or_right}
-use Rattle.indexmap.specs.IndexMap.{insert_entry}
 use Rattle.run_theory.specs.Lists.{Each}
-use Rattle.run_theory.proofs.Pasts.{each_after, each_append, each_before, each_map}
+use Rattle.run_theory.proofs.Pasts.{each_after, each_append, each_map}
 use Rattle.sig_core.specs.declared.member.TxId.{TxId}
 use Rattle.sig_core.specs.declared.outs.Outgoing.{Outgoing}
 use Rattle.sig_core.specs.declared.signal.Body.{Body}
@@ -30,8 +29,7 @@ use Rattle.tc_block.specs.State.{TcState}
 use Rattle.tc_block.specs.Tc.{begin_if, begin_row, begun, is_full, next_tx, pass_if, pass_row, tc_row}
 use Rattle.tc_block.specs.Turn.{Turn, going}
 use Rattle.commit_laws.specs.Ways.{Way, back, back_by, closes, forth, is_aborting, neither, put_ways, way_of}
-use Rattle.commit_laws.proofs.Keys.{same_tx-self}
-use Rattle.commit_laws.proofs.LiveSplit.{KeysOnce, Live, Split, each_inserted, once_back, once_front, once_gone, once_inserted, once_set, split_at}
+use Rattle.commit_laws.proofs.LiveSplit.{KeysOnce, Live, Split, once_back, once_front, split_at}
 use Rattle.commit_laws.proofs.OneWay.{back_more}
 use Rattle.answer_laws.proofs.Tally.{one_if}
 use Rattle.answer_laws.proofs.TcOps.{is_right}
@@ -40,7 +38,7 @@ use Rattle.transit_laws.specs.Tokens.{budget_by, budget_of, is_token}
 use Rattle.transit_laws.proofs.LqhTokens.{tokens_out}
 use Rattle.transit_laws.proofs.OfLive.{AreOthers, of_between, of_inserted, of_none, of_other}
 use Rattle.transit_laws.proofs.TcAborts.{HasTouched}
-use Rattle.transit_laws.proofs.TcTurns.{TurnTokens, aborted_turn, answer_turn, budget_after, commit_turn, committed_turn, completed_turn, decide_turn, gives_up, go_on_turn, operate_turn, refuse_turn, rollback_turn, wait_turn}
+use Rattle.transit_laws.proofs.TcTurns.{TurnTokens, aborted_turn, answer_turn, commit_turn, committed_turn, completed_turn, decide_turn, gives_up, go_on_turn, operate_turn, refuse_turn, rollback_turn, wait_turn}
 
 -- one of the coordinator's transactions: its number is of this node, and below the next one, and it is given up if it is aborted
 pub record IsOwned (node next : ℕ) (bs : List TxId) (e : TxId × Transaction) : Type 0 where

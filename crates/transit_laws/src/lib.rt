@@ -7,4 +7,6 @@ mod token_laws;
 pub use route_laws::{
     coming_signals_are_routed, replicas_are_nodes, signals_are_routed, transactions_are_keyed,
 };
-pub use token_laws::operations_come_one_at_a_time;
+pub use token_laws::{
+    decided_ask_nothing, operations_come_one_at_a_time, requests_stand_alone, who_asks_is_undecided,
+};
