@@ -46,6 +46,7 @@ use Rattle.answer_laws.proofs.TcLives.{IsOwn, insert_new, is_keyed}
 use Rattle.answer_laws.proofs.TcMoves.{same_tx-is}
 use Rattle.answer_laws.proofs.Wishes.{is_tc}
 use Rattle.commit_laws.proofs.Keys.{same_key-self}
+use Rattle.commit_laws.proofs.TcWays.{not_both}
 use Rattle.transit_laws.specs.Circle.{at_host}
 use Rattle.transit_laws.specs.Completions.{IsCommittedAtAll}
 use Rattle.transit_laws.specs.GivenUp.{is_carried_out, is_given_up}
@@ -57,7 +58,8 @@ use Rattle.transit_laws.proofs.CarriedOut.{IsAhead, IsCarried, IsDone, IsLiveAhe
 use Rattle.transit_laws.proofs.CarriedTurn.{TurnLeaves, ahead_stays, parts_tell, silent_parts, silent_stays, turn_leaves}
 use Rattle.transit_laws.proofs.GivenUp.{aborts_are_of_given_up, none_is_both}
 use Rattle.transit_laws.proofs.HostSteps.{HostStep, aside_cover, aside, away_cover, begins, host_step, next_number, number_rises, rows, shell, turns}
-use Rattle.transit_laws.proofs.LiveOf.{of_each, of_other}
+use Rattle.transit_laws.proofs.LiveOf.{of_each}
+use Rattle.transit_laws.proofs.OfLive.{of_other}
 use Rattle.transit_laws.proofs.LqhParts.{IsLast, lqh_covers, lqh_tells, lqh_weighs}
 use Rattle.transit_laws.proofs.RoutedEvents.{coming_are_routed, commits_end_at_primary}
 use Rattle.transit_laws.proofs.RoutesChain.{primary_first, replicas_are_nodes}
@@ -91,7 +93,7 @@ node_facts start tx (suc h) log n is =
 begun_older : (tx : TxId) (s : TcState) → Each (λ (e : TxId × Transaction). IsOwn s.node s.next_seq e.0) s.live → tx.seq < s.next_seq → of_live tx (begun s).live ≡ of_live tx s.live
 begun_older tx s own older =
     ap (of_live tx) (insert_new s.live (next_tx s) fresh (each_map (λ (x : TxId × Transaction). IsOwn s.node s.next_seq x.0) (λ (x : TxId × Transaction). x.0.seq < s.next_seq) s.live (λ x o. o.early) own))
-    ∙ of_other tx (next_tx s) fresh s.live [] (by (same_tx (next_tx s) tx) refl) ∙ ap (of_live tx) (append-nil s.live)
+    ∙ of_other s.live [] (next_tx s) tx fresh (by (same_tx (next_tx s) tx) refl) ∙ ap (of_live tx) (append-nil s.live)
   where
     by : (b : Bool) → same_tx (next_tx s) tx ≡ b → same_tx (next_tx s) tx ≡ false
     by true e = absurd (omega (arith, older, ap (λ (t : TxId). t.seq) (same_tx-is (next_tx s) tx e)))
@@ -320,10 +322,6 @@ module _ (start : Start) (es : List LogStep) (e : LogStep) (come : Comes start e
       facts : (n : node.Node) → g ≡ Node n → NodeFacts tx h n
       facts n is = node_facts start tx h (logs_of start es h) n is
 
-      off_rows : {A : Type 0} (b : Bool) → b ≡ true → b ≡ false → A
-      off_rows true yes_is no_is = absurd cc
-      off_rows false yes_is no_is = absurd cc
-
       next_now : HostStep tx g e.taken.to e.taken.body (row g e.taken.to e.taken.body).state sends → IsCarried start (logs_of start (e ∷ es)) later tx
       next_now (rows s home same sent) = rows_now s home same sent
       next_now (shell s is gone silent) = by (cases_eq h tx.tc)
@@ -352,7 +350,7 @@ module _ (start : Start) (es : List LogStep) (e : LogStep) (come : Comes start e
           by (inr differs) = quiet_now silent (live_far differs) (λ t there key i. away_cover tx key i e.taken.to e.taken.body off (far_test differs))
           by (inl own) =
               quiet_now silent (live_now own ∙ (left ∙ (begun_older tx n.tc (facts n is).own (older own) ∙ sym (live_was own ∙ ap (of_host tx) is))))
-              (λ t there key i. aside_cover tx key i e.taken.to e.taken.body off (λ next tc. off_rows (is_next tx e.taken.body) next not_next))
+              (λ t there key i. aside_cover tx key i e.taken.to e.taken.body off (λ next tc. not_both (is_next tx e.taken.body) next not_next))
       next_now (turns n t is at was own_body sent left) = by (cases_eq h tx.tc)
         where
           by : (h ≡ tx.tc) ⊎ (h ≢ tx.tc) → IsCarried start (logs_of start (e ∷ es)) later tx

@@ -38,7 +38,7 @@ use Rattle.transit_laws.proofs.Ahead as ahead
 use Rattle.transit_laws.proofs.Ahead.{FromCommitting, FromCompleting, from_committing, from_completing}
 use Rattle.transit_laws.proofs.CarriedOut.{IsAhead, IsAlong, IsDone, IsGoing, IsLiveAhead, IsSpread, TellsOf, along_stays, at_all, committed_stays, done_stays, marked_stays}
 use Rattle.transit_laws.proofs.HostSteps.{aside_cover}
-use Rattle.transit_laws.proofs.PartSends.{commits_tell, completions_tell, part_covers, part_weighs}
+use Rattle.transit_laws.proofs.PartSends.{commits_tell, completions_tell, length_middle, part_covers, part_weighs}
 use Rattle.transit_laws.proofs.StepFades.{StepFades}
 use Rattle.transit_laws.proofs.TcOwn.{turn_for}
 use Rattle.transit_laws.proofs.TxSignals.{cover, cover_weight, covers, is_next, is_part, is_sign, part_cover, part_tells, part_weight, request_part, sign_part, weight}
@@ -51,11 +51,7 @@ each_split P pre [] all = tt
 each_split P pre (x ∷ xs) all = (all pre x xs refl, each_split P (pre ++ x ∷ []) xs (λ front y back is. all front y back (sym (append_assoc pre (x ∷ []) xs) ∙ is)))
 
 shorter : {A : Type 0} (front : List A) (x : A) (back all : List A) → all ≡ front ++ x ∷ back → length front < length all
-shorter {A} front x back all is = omega (arith, ap length is, middle front)
-  where
-    middle : (ys : List A) → length ys < length (ys ++ x ∷ back)
-    middle [] = omega arith
-    middle (y ∷ ys) = omega (arith, middle ys)
+shorter front x back all is = omega (arith, ap length is, length_middle front x back)
 
 -- a coordinator that goes on behind a place leads to no commit before it
 late_cover : (tx : TxId) (key : List ℕ) (i : ℕ) (to : Place) (one : TxId) (at : ℕ) → i < at → cover tx key i to (Host (Continue (work.Transaction one) at)) ≡ 0

@@ -3,7 +3,7 @@
 use Rattle.std.proofs.Common.{◌≡◌, ◌≢◌, ◌⊎◌, ◌≤◌, ◌<◌, ◌+◌, ◌-◌, ℕ, zero, suc, Bool, true, false, ◌||◌, length, List, [], ◌∷◌, ◌++◌, refl, sym, ap, ◌∙◌, subst, arith, inl, inr}
 use Rattle.std.specs.Prelude.{◌==◌, if◌then◌else◌, Option, None, Some}
 use Rattle.std.specs.List.{list_any}
-use Rattle.std.proofs.lemmas.Bool.{cases_eq}
+use Rattle.std.proofs.lemmas.Bool.{cases_eq, or_left}
 use Rattle.std.proofs.lemmas.Bool.Decides.{nat_tests}
 use Rattle.run_theory.specs.Lists.{Each}
 use Rattle.run_theory.proofs.Pasts.{each_map}
@@ -37,10 +37,6 @@ use Rattle.transit_laws.proofs.StepFades.{now_other, now_own}
 use Rattle.transit_laws.proofs.TxSignals.{is_commit, is_sign}
 use Rattle.transit_laws.proofs.TxTurns.{AreSilent}
 
-or_first : (b c : Bool) → b ≡ true → (b || c) ≡ true
-or_first true c e = refl
-or_first false c e = cc
-
 module _ (tx : TxId) where
   -- what says nothing of the transaction takes it nowhere
   silent_one : (b : Body) (cs : List TxId) → is_sign tx b ≡ false → list_any (same_tx tx) (forth_by (way_of b) cs) ≡ list_any (same_tx tx) cs
@@ -56,7 +52,7 @@ module _ (tx : TxId) where
   silent_forth (o ∷ sends) cs silent = silent_forth sends (forth_by (way_of o.body) cs) silent.1 ∙ silent_one o.body cs silent.0
 
   back_one : (b : Body) (bs : List TxId) → is_back tx b ≡ true → list_any (same_tx tx) (back_by (way_of b) bs) ≡ true
-  back_one (Chain (Abort other key)) bs e = or_first (same_tx tx other) (list_any (same_tx tx) bs) (same_tx-swap tx other ∙ e)
+  back_one (Chain (Abort other key)) bs e = or_left (same_tx tx other) (list_any (same_tx tx) bs) (same_tx-swap tx other ∙ e)
   back_one _ bs e = absurd cc
 
   back_first : (sends : List Outgoing) (bs : List TxId) → Aborts tx sends → list_any (same_tx tx) (put_ways back_by sends bs) ≡ true
@@ -64,7 +60,7 @@ module _ (tx : TxId) where
       ap (λ os. list_any (same_tx tx) (put_ways back_by os bs)) a.is ∙ back_more (same_tx tx) a.more (back_by (way_of a.first.body) bs) (back_one a.first.body bs a.aborts)
 
   forth_one : (b : Body) (cs : List TxId) → is_commit tx b ≡ true → list_any (same_tx tx) (forth_by (way_of b) cs) ≡ true
-  forth_one (Chain (Commit other key epoch chain at)) cs e = or_first (same_tx tx other) (list_any (same_tx tx) cs) (same_tx-swap tx other ∙ e)
+  forth_one (Chain (Commit other key epoch chain at)) cs e = or_left (same_tx tx other) (list_any (same_tx tx) cs) (same_tx-swap tx other ∙ e)
   forth_one _ cs e = absurd cc
 
   forth_first : (sends : List Outgoing) (first : Outgoing) (more : List Outgoing) (cs : List TxId) → sends ≡ first ∷ more → is_commit tx first.body ≡ true → list_any (same_tx tx) (put_ways forth_by sends cs) ≡ true

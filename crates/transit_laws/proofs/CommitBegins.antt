@@ -34,6 +34,7 @@ use Rattle.tc_block.specs.Part.{part_effects, rest_if}
 use Rattle.tc_block.specs.Sends.{abort_of, entering, front_sends, key_sends, phase_sends}
 use Rattle.tc_block.specs.Turn.{Turn, asking, at_phase, going}
 use Rattle.commit_laws.proofs.EachSent.{each_flat, each_mapped}
+use Rattle.commit_laws.proofs.TcWays.{not_both}
 use Rattle.answer_laws.proofs.Tally.{one_if}
 use Rattle.answer_laws.proofs.TcSends.{same_tx-self, tx_in}
 use Rattle.transit_laws.proofs.Ahead.{wait_silent}
@@ -206,19 +207,15 @@ module _ (node : ℕ) (view : View) (tx : TxId) where
         by (Completing e awaited) is = silent tt
         by (Aborting why verifying awaited) is = silent tt
 
-    both : {A : Type 0} (b : Bool) → b ≡ true → b ≡ false → A
-    both true e f = cc
-    both false e f = cc
-
     pub turn_begins : (body : Body) → same_tx (tx_in body) tx ≡ true → is_part tx body ≡ false → B (turn_for node view tx body t)
-    turn_begins (Host (Continue (work.Transaction one) at)) same none = both (same_tx one tx) same none
+    turn_begins (Host (Continue (work.Transaction one) at)) same none = not_both (same_tx one tx) same none
     turn_begins (Client (TcKeyReq one op)) same none = operate_begins op
     turn_begins (Client (TcCommitReq one)) same none = decide_begins
     turn_begins (Client (TcRollbackReq one)) same none = rollback_begins
     turn_begins (Client (TcWaitReq one)) same none = silent (wait_silent node view tx t)
     turn_begins (Chain (LqhKeyConf one key answer)) same none = answer_begins key answer
     turn_begins (Chain (LqhKeyRef one key why)) same none = refuse_begins key why
-    turn_begins (Chain (Committed one key)) same none = both (same_tx one tx) same none
+    turn_begins (Chain (Committed one key)) same none = not_both (same_tx one tx) same none
     turn_begins (Chain (Completed one key)) same none = completed_begins
     turn_begins (Chain (Aborted one key)) same none = aborted_begins
     turn_begins (Epoch (DiVerifyConf one epoch)) same none = commit_begins epoch

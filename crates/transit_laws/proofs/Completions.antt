@@ -8,7 +8,8 @@ use Rattle.sig_core.specs.declared.signal.Signal.{Signal}
 use Rattle.node_core.specs.Requests.{is_request}
 use Rattle.world_core.specs.Machine.{machine, signals_of}
 use Rattle.world_core.specs.Start.{Start}
-use Rattle.answer_laws.proofs.TcSends.{same_tx-self}
+use Rattle.commit_laws.proofs.Keys.{same_tx-self}
+use Rattle.commit_laws.proofs.TcWays.{not_both}
 use Rattle.transit_laws.specs.Circle.{VerifiedAreSettled}
 use Rattle.transit_laws.specs.Completions.{CompletionsFollowCommits}
 use Rattle.transit_laws.specs.GivenUp.{is_carried_out, is_given_up}
@@ -20,20 +21,11 @@ use Rattle.transit_laws.proofs.FirstCommits.{first_next, part}
 use Rattle.transit_laws.proofs.GivenUp.{completions_are_of_carried_out, none_is_both}
 use Rattle.transit_laws.proofs.Transit.{along_transit}
 use Rattle.transit_laws.proofs.TransitRuns.{taking}
+use Rattle.transit_laws.proofs.Undecided.{carried_out_have_none}
 use Rattle.transit_laws.proofs.Ways.{carried_more, given_more}
 use Rattle.transit_laws.proofs.Weighing.{each_taken, in_transit}
 
--- of a transaction that is carried out no part of an operation is in transit or waits
-abbrev pub CarriedOutHaveNone : Type 0
-CarriedOutHaveNone =
-    (start : Start) (es : List LogStep) (xs : List Signal) (tx : TxId) → IsRun start es → AreInTransit start es xs → is_carried_out start (logs_of start es) tx ≡ true
-    → tokens start (logs_of start es) xs tx ≡ 0
-
-both : {A : Type 0} (b : Bool) → b ≡ true → b ≡ false → A
-both true p q = absurd cc
-both false p q = absurd cc
-
-module _ (verified : VerifiedAreSettled) (none_left : CarriedOutHaveNone) where
+module _ (verified : VerifiedAreSettled) where
   -- What holds of each transaction along a run: if it is carried out, its keys are on their way to be done; if it is that no more
   -- than given up, nothing of it is on its way.
   pub record IsUnderWay (start : Start) (tx : TxId) (es : List LogStep) (xs : List Signal) : Type 0 where
@@ -51,8 +43,8 @@ module _ (verified : VerifiedAreSettled) (none_left : CarriedOutHaveNone) where
         by : (c : Bool) → is_carried_out start (logs_of start es) tx ≡ c → (g : Bool) → is_given_up start (logs_of start es) tx ≡ g
             → IsUnderWay start tx (e ∷ es) (joined (signals_of start e.taken.to.node (logs_of start es e.taken.to.node) e) between)
         by true is g free = record {
-          carried = λ now. carried_next start es e come before between takes tx is (none_left start es before tx come.before transit is) (u.carried is);
-          silent = λ off given. both (is_carried_out start (logs_of start (e ∷ es)) tx) (carried_more start (logs_of start es) (logs_of start (e ∷ es)) tx past is) off;
+          carried = λ now. carried_next start es e come before between takes tx is (carried_out_have_none start es before tx come.before transit is) (u.carried is);
+          silent = λ off given. not_both (is_carried_out start (logs_of start (e ∷ es)) tx) (carried_more start (logs_of start es) (logs_of start (e ∷ es)) tx past is) off;
         }
         by false is false free =
             let first = first_next verified start es e come before between transit takes tx is free (u.silent is free) in
@@ -60,8 +52,8 @@ module _ (verified : VerifiedAreSettled) (none_left : CarriedOutHaveNone) where
         by false is true given =
             let given_now = given_more start (logs_of start es) (logs_of start (e ∷ es)) tx past given in
             record {
-              carried = λ now. both (is_given_up start (logs_of start (e ∷ es)) tx) given_now (none_is_both start (logs_of start (e ∷ es)) tx now);
-              silent = λ off free. both (is_given_up start (logs_of start (e ∷ es)) tx) given_now free;
+              carried = λ now. not_both (is_given_up start (logs_of start (e ∷ es)) tx) given_now (none_is_both start (logs_of start (e ∷ es)) tx now);
+              silent = λ off free. not_both (is_given_up start (logs_of start (e ∷ es)) tx) given_now free;
             }
 
     pub under_way : (es : List LogStep) (xs : List Signal) → IsRun start es → AreInTransit start es xs → IsUnderWay start tx es xs

@@ -35,6 +35,7 @@ use Rattle.commit_laws.specs.Replica.{Replica, key_after, rests}
 use Rattle.commit_laws.specs.ReplicaLaws.{event_in, key_in}
 use Rattle.commit_laws.specs.Ways.{tc_sends}
 use Rattle.commit_laws.proofs.Replicas.{logs_follow}
+use Rattle.commit_laws.proofs.TcWays.{not_both}
 use Rattle.answer_laws.proofs.Commits.{NodeIs, node_is}
 use Rattle.answer_laws.proofs.Hosts.{shell_after}
 use Rattle.answer_laws.proofs.Ops.{same_node}
@@ -135,14 +136,10 @@ module _ (verified : VerifiedAreSettled) (start : Start) (es : List LogStep) (e 
         weigh_none (λ (o : Outgoing). part tx o.to o.body) sends (each_map (λ (o : Outgoing). is_part tx o.body ≡ false) (λ (o : Outgoing). part tx o.to o.body ≡ 0) sends (λ o f. ap one_if f) light),
       )
 
-  both : {A : Type 0} (b : Bool) → b ≡ true → b ≡ false → A
-  both true p q = absurd cc
-  both false p q = absurd cc
-
   -- nothing is said of it
   unsaid : Each (λ (o : Outgoing). is_part tx o.body ≡ false) sends → is_carried_out start (logs_of start (e ∷ es)) tx ≡ is_carried_out start (logs_of start es) tx → IsFirst
   unsaid light same = record {
-    carried = λ now. both (is_carried_out start (logs_of start (e ∷ es)) tx) now (same ∙ uncarried);
+    carried = λ now. not_both (is_carried_out start (logs_of start (e ∷ es)) tx) now (same ∙ uncarried);
     silent = λ off free. later_none light;
   }
 
@@ -286,7 +283,7 @@ module _ (verified : VerifiedAreSettled) (start : Start) (es : List LogStep) (e 
         later_none (subst (Each (λ (o : Outgoing). is_part tx o.body ≡ false)) (sym (part_is ∙ (ap (λ us. (part_effects n.tc.node tx (phase_sends n.tc.view tx (Committing epoch (length t.touched)) us) 0).sends) none_touched ∙ no_commits tx n.tc.node n.tc.view epoch (length t.touched)))) tt)
     none_unless epoch (u ∷ us) some_touched part_is off =
         let first = first_commit tx n.tc.node n.tc.view epoch (length t.touched) u us in
-        both (is_carried_out start (logs_of start (e ∷ es)) tx)
+        not_both (is_carried_out start (logs_of start (e ∷ es)) tx)
         (carried_first start es e come tx same (commit_of tx epoch u) first.more
         (said_sends ∙ (part_is ∙ (ap (λ vs. (part_effects n.tc.node tx (phase_sends n.tc.view tx (Committing epoch (length t.touched)) vs) 0).sends) some_touched ∙ first.is))) (same_tx-self tx)) off
 
@@ -307,8 +304,8 @@ module _ (verified : VerifiedAreSettled) (start : Start) (es : List LogStep) (e 
     turn_first (turn.backs a) =
         let given = given_first start es e come tx same (subst (Aborts tx) (sym (said_sends ∙ sent)) a) in
         record {
-          carried = λ now. both (is_given_up start (logs_of start (e ∷ es)) tx) given (none_is_both start (logs_of start (e ∷ es)) tx now);
-          silent = λ off free. both (is_given_up start (logs_of start (e ∷ es)) tx) given free;
+          carried = λ now. not_both (is_given_up start (logs_of start (e ∷ es)) tx) given (none_is_both start (logs_of start (e ∷ es)) tx now);
+          silent = λ off free. not_both (is_given_up start (logs_of start (e ∷ es)) tx) given free;
         }
     turn_first (turn.commits epoch phase over st part_is) = record {
       carried = λ now. carries epoch phase over st (sent ∙ part_is);

@@ -2,7 +2,7 @@
 use Rattle.std.proofs.Common.{◌≡◌, ◌≢◌, ◌⊎◌, ◌<◌, ◌≤◌, ◌+◌, ℕ, Bool, true, false, ◌||◌, List, [], ◌∷◌, filter, refl, sym, ap, ◌∙◌, subst, arith, inl, inr}
 use Rattle.std.specs.Prelude.{◌==◌, if◌then◌else◌, Option, None, Some}
 use Rattle.std.specs.List.{list_any}
-use Rattle.std.proofs.lemmas.Bool.{cases_eq, cases_lt}
+use Rattle.std.proofs.lemmas.Bool.{or_left}
 use Rattle.std.proofs.lemmas.Bool.Decides.{nat_tests}
 use Rattle.lqh_block.proofs.IndexLemmas as keys
 use Rattle.run_theory.specs.Lists.{Each}
@@ -55,23 +55,7 @@ use Rattle.transit_laws.specs.Routes.{primary}
 use Rattle.transit_laws.specs.Tokens.{is_token, tokens, tokens_in, waiting_all, waiting_in}
 use Rattle.transit_laws.specs.Transit.{Comes, Takes, logs_of}
 use Rattle.transit_laws.proofs.RecordsFade.{Fading, HasRecord, IsHarmless, commit_ends, fades_prepared, fades_there, fading, is_committed, is_completed, once_at, stays}
-use Rattle.transit_laws.proofs.Weighing.{each_taken}
-
-pub none_passes : {A : Type 0} (p : A → Bool) (xs : List A) → tally p xs ≡ 0 → Each (λ x. p x ≡ false) xs
-none_passes p [] none = tt
-none_passes p (x ∷ xs) none = by (p x) refl (none_passes p xs)
-  where
-    by : (b : Bool) → p x ≡ b → (tally p xs ≡ 0 → Each (λ y. p y ≡ false) xs) → (p x ≡ false) × Each (λ y. p y ≡ false) xs
-    by true e rest = absurd (omega (arith, none, ap one_if e))
-    by false e rest = (e, rest (omega (arith, none)))
-
-pub either : (b : Bool) {c : Bool} → c ≡ true → (b || c) ≡ true
-either true e = refl
-either false e = e
-
-pub first_or : (b c : Bool) → b ≡ true → (b || c) ≡ true
-first_or true c e = refl
-first_or false c e = cc
+use Rattle.transit_laws.proofs.Weighing.{none_passes}
 
 module _ (tx : TxId) where
   pub request_token : (body : Body) → is_request body ≡ true → is_token tx body ≡ false
@@ -159,7 +143,7 @@ module _ (tx : TxId) where
 
       by : (b : Bool) → b ≡ true → (o : Option PendingRecord) → o ≡ Some h.record_is
           → list_any (is_applied tx) (commit.told_if (commit.applied s one own epoch (state_by (record_of s.rows one own))) one own epoch chain at (state_by o) b).effects.marks ≡ true
-      by true e (Some r) is = first_or (same_tx one tx) false same
+      by true e (Some r) is = or_left (same_tx one tx) false same
       by true e None is = cc
       by false e o is = cc
 

@@ -3,6 +3,7 @@ use Rattle.std.proofs.Common.{◌≡◌, ℕ, zero, suc, ◌+◌, ◌-◌, ◌�
 use Rattle.std.specs.Prelude.{◌==◌, ◌&&◌, nat_le, nat_lt, if◌then◌else◌}
 use Rattle.std.specs.List.{flat_map}
 use Rattle.std.proofs.lemmas.Bool.Decides.{nat_tests}
+use Rattle.std.proofs.lemmas.List.{length-map}
 use Rattle.run_theory.specs.Lists.{Each}
 use Rattle.run_theory.proofs.Pasts.{each_append}
 use Rattle.sig_core.specs.declared.member.Member.{Member}
@@ -21,7 +22,7 @@ use Rattle.tc_block.specs.declared.phase.Phase.TheVariants.{Committing, Completi
 use Rattle.tc_block.specs.declared.touched.Touched.{Touched}
 use Rattle.tc_block.specs.Part.{part_effects, rest_if}
 use Rattle.tc_block.specs.Sends.{commit_of, complete_if, front_sends, key_sends, phase_sends}
-use Rattle.commit_laws.proofs.EachSent.{each_drop, each_take}
+use Rattle.commit_laws.proofs.EachSent.{each_drop, each_mapped, each_take}
 use Rattle.commit_laws.proofs.Keys.{same_key-self}
 use Rattle.answer_laws.proofs.LqhOps.{true_and}
 use Rattle.answer_laws.proofs.Tally.{one_if}
@@ -33,10 +34,6 @@ ones : {A : Type 0} (f : A → ℕ) (xs : List A) → Each (λ x. f x ≡ 1) xs 
 ones f [] all = refl
 ones f (x ∷ xs) all = omega (arith, all.0, ones f xs all.1)
 
-each_map_all : {A B : Type 0} (P : B → Type 0) (g : A → B) (xs : List A) → ((x : A) → P (g x)) → Each P (map g xs)
-each_map_all P g [] all = tt
-each_map_all P g (x ∷ xs) all = (all x, each_map_all P g xs all)
-
 -- an item in the part weighs in it
 in_part : {A B : Type 0} (f : B → ℕ) (g : A → B) (front : List A) (x : A) (back : List A) (at n : ℕ) → at ≤ length front → length front < at + n
     → f (g x) ≤ weigh f (take n (drop at (map g (front ++ x ∷ back))))
@@ -47,11 +44,8 @@ in_part f g (y ∷ front) x back zero zero low high = absurd (omega (arith, high
 in_part f g (y ∷ front) x back zero (suc n) low high = omega (arith, in_part f g front x back zero n (omega arith) (omega (arith, high)))
 in_part f g (y ∷ front) x back (suc at) n low high = in_part f g front x back at n (omega (arith, low)) (omega (arith, high))
 
-length_map : {A B : Type 0} (g : A → B) (xs : List A) → length (map g xs) ≡ length xs
-length_map g [] = refl
-length_map g (x ∷ xs) = ap suc (length_map g xs)
-
-length_middle : {A : Type 0} (front : List A) (x : A) (back : List A) → length front < length (front ++ x ∷ back)
+-- a place of a list
+pub length_middle : {A : Type 0} (front : List A) (x : A) (back : List A) → length front < length (front ++ x ∷ back)
 length_middle [] x back = omega arith
 length_middle (y ∷ front) x back = omega (arith, length_middle front x back)
 
@@ -78,18 +72,18 @@ module _ (tx : TxId) (node : ℕ) (view : View) where
       w o = weight tx (length touched) o.to o.body
 
       each_one : Each (λ o. w o ≡ 1) xs
-      each_one = each_map_all (λ o. w o ≡ 1) (commit_of tx epoch) touched (λ u. ap one_if (same_tx-self tx))
+      each_one = each_mapped (λ o. w o ≡ 1) (commit_of tx epoch) touched (λ u. ap one_if (same_tx-self tx))
 
       part_is : weigh w (take 8 (drop at xs)) ≡ min 8 (length touched - at)
       part_is =
           ones w (take 8 (drop at xs)) (each_take (λ o. w o ≡ 1) 8 (drop at xs) (each_drop (λ o. w o ≡ 1) at xs each_one))
-          ∙ (length-take 8 (drop at xs) ∙ (ap (λ m. min 8 m) (length-drop at xs) ∙ ap (λ m. min 8 (m - at)) (length_map (commit_of tx epoch) touched)))
+          ∙ (length-take 8 (drop at xs) ∙ (ap (λ m. min 8 m) (length-drop at xs) ∙ ap (λ m. min 8 (m - at)) (length-map touched (commit_of tx epoch))))
 
       rest_is : weigh w (rest_if node tx at true) ≡ length touched - (at + 8)
       rest_is = omega (arith, ap (λ b. if b then length touched - (at + 8) else 0) (same_tx-self tx))
 
       by : (b : Bool) → nat_lt (at + 8) (length xs) ≡ b → weigh w (take 8 (drop at xs) ++ rest_if node tx at b) ≤ length touched - at
-      by true e = omega (arith, weigh_append w (take 8 (drop at xs)) (rest_if node tx at true), part_is, rest_is, far e, length_map (commit_of tx epoch) touched)
+      by true e = omega (arith, weigh_append w (take 8 (drop at xs)) (rest_if node tx at true), part_is, rest_is, far e, length-map touched (commit_of tx epoch))
         where
           far : nat_lt (at + 8) (length xs) ≡ true → at + 8 < length xs
           far q = grind (arith, nat_tests, q)
@@ -119,7 +113,7 @@ module _ (tx : TxId) (node : ℕ) (view : View) where
 
       next : nat_lt (length front) (at + 8) ≡ false → nat_lt (at + 8) (length xs) ≡ true
       next q =
-          let more : at + 8 < length xs = omega (arith, far q, length_middle front u back, length_map (commit_of tx epoch) (front ++ u ∷ back)) in
+          let more : at + 8 < length xs = omega (arith, far q, length_middle front u back, length-map (front ++ u ∷ back) (commit_of tx epoch)) in
           grind (arith, nat_tests, more)
 
       le : nat_lt (length front) (at + 8) ≡ false → nat_le (at + 8) (length front) ≡ true

@@ -2,7 +2,7 @@
 use Rattle.std.proofs.Common.{◌≡◌, ◌≢◌, ◌⊎◌, ◌<◌, ◌≤◌, ◌+◌, ℕ, Bool, true, false, ◌||◌, List, [], ◌∷◌, refl, sym, ap, ◌∙◌, subst, arith, inl, inr}
 use Rattle.std.specs.Prelude.{◌==◌, Option, None, Some}
 use Rattle.std.specs.List.{list_any}
-use Rattle.std.proofs.lemmas.Bool.{cases_eq, cases_lt}
+use Rattle.std.proofs.lemmas.Bool.{cases_eq, or_left, or_right}
 use Rattle.std.proofs.lemmas.Bool.Decides.{nat_tests}
 use Rattle.run_theory.specs.Lists.{Each}
 use Rattle.run_theory.proofs.Runs.{log_of-other, log_of-own}
@@ -31,9 +31,10 @@ use Rattle.transit_laws.specs.Circle.{at_host}
 use Rattle.transit_laws.specs.Routes.{primary}
 use Rattle.transit_laws.specs.Tokens.{is_token, tokens, tokens_in, waiting_all, waiting_in}
 use Rattle.transit_laws.specs.Transit.{Comes, Takes, logs_of}
-use Rattle.transit_laws.proofs.HostFades.{either, first_or, harmless_in, last_step, none_passes, primary_step, request_token}
+use Rattle.transit_laws.proofs.HostFades.{harmless_in, last_step, primary_step, request_token}
+use Rattle.transit_laws.proofs.OneAtATime.{comes_low}
 use Rattle.transit_laws.proofs.RecordsFade.{Fading, HasRecord, fades_prepared, fades_there, fading, once_at}
-use Rattle.transit_laws.proofs.Weighing.{each_taken}
+use Rattle.transit_laws.proofs.Weighing.{each_taken, none_passes}
 
 -- No record of the transaction comes, and none comes to be prepared; the primary marks the commit of one; where the last commit of
 -- a key comes none is prepared any more.
@@ -64,25 +65,17 @@ module _ (start : Start) (es : List LogStep) (e : LogStep) (come : Comes start e
   pub now_other : (k : ℕ) → h ≢ k → logs_of start (e ∷ es) k ≡ logs_of start es k
   now_other k differs = log_of-other (machine start) e es k differs
 
-  -- it is a step of one of the hosts
-  pub low : h < hosts start
-  low = by (cases_lt h (hosts start))
-    where
-      by : (h < hosts start) ⊎ (hosts start ≤ h) → h < hosts start
-      by (inl less) = less
-      by (inr high) = absurd (let both : [] ≡ e ∷ logs_of start es h = sym (come.now.within h high) ∙ now_own in cc)
-
   -- marks stay
   pub marks_at : (tx : TxId) (k : ℕ) → (h ≡ k) ⊎ (h ≢ k) → has_mark (is_applied tx) (logs_of start es k) ≡ true → has_mark (is_applied tx) (logs_of start (e ∷ es) k) ≡ true
   marks_at tx k (inl same) is =
       subst (λ j. has_mark (is_applied tx) (logs_of start (e ∷ es) j) ≡ true) same
       (subst (λ log. has_mark (is_applied tx) log ≡ true) (sym now_own)
-      (either (list_any (is_applied tx) e.marks) (subst (λ j. has_mark (is_applied tx) (logs_of start es j) ≡ true) (sym same) is)))
+      (or_right (list_any (is_applied tx) e.marks) (has_mark (is_applied tx) (logs_of start es h)) (subst (λ j. has_mark (is_applied tx) (logs_of start es j) ≡ true) (sym same) is)))
   marks_at tx k (inr differs) is = subst (λ log. has_mark (is_applied tx) log ≡ true) (sym (now_other k differs)) is
 
   module _ (before between : List Signal) (takes : Takes e before between) (tx : TxId) (none : tokens start (logs_of start es) before tx ≡ 0) (no_abort : NoAbort e tx) (ends : EndsAtPrimary start e) where
     wait_none : waiting_in tx (after start h (logs_of start es h)) ≡ 0
-    wait_none = omega (arith, none, total_at (hosts start) (λ k. waiting_in tx (after start k (logs_of start es k))) h low)
+    wait_none = omega (arith, none, total_at (hosts start) (λ k. waiting_in tx (after start k (logs_of start es k))) h (comes_low start es e come))
 
     token_none : is_token tx e.taken.body ≡ false
     token_none = by (is_request e.taken.body) refl
@@ -112,7 +105,7 @@ module _ (start : Start) (es : List LogStep) (e : LogStep) (come : Comes start e
     marks_own : list_any (is_applied tx) (step_after start h (logs_of start es h) e).effects.marks ≡ true → has_mark (is_applied tx) (logs_of start (e ∷ es) h) ≡ true
     marks_own is =
         subst (λ log. has_mark (is_applied tx) log ≡ true) (sym now_own)
-        (first_or (list_any (is_applied tx) e.marks) (has_mark (is_applied tx) (logs_of start es h)) (ap (list_any (is_applied tx)) come.happens.step.fits.marks ∙ is))
+        (or_left (list_any (is_applied tx) e.marks) (has_mark (is_applied tx) (logs_of start es h)) (ap (list_any (is_applied tx)) come.happens.step.fits.marks ∙ is))
 
     prepared_at : (key : List ℕ) (k : ℕ) → (h ≡ k) ⊎ (h ≢ k) → HasPrepared tx (at_host start (logs_of start (e ∷ es)) key k).cell.pending → HasPrepared tx (at_host start (logs_of start es) key k).cell.pending
     prepared_at key k (inl same) p =

@@ -13,7 +13,8 @@ use Rattle.sig_core.specs.declared.signal.host.HostSignal.TheVariants.{Continue}
 use Rattle.sig_core.specs.declared.signal.host.Work.TheVariants as work
 use Rattle.sig_core.specs.Same.{same_key, same_tx}
 use Rattle.node_core.specs.Requests.{is_request}
-use Rattle.answer_laws.proofs.LqhOps.{is_lqh, left_of, right_of}
+use Rattle.commit_laws.proofs.TcWays.{not_both}
+use Rattle.answer_laws.proofs.LqhOps.{is_lqh}
 use Rattle.answer_laws.proofs.Tally.{one_if}
 use Rattle.answer_laws.proofs.Wishes.{is_tc}
 
@@ -66,10 +67,6 @@ Tells tx C D (Chain (Commit other key epoch chain at)) = same_tx other tx ≡ tr
 Tells tx C D (Chain (Complete other key chain at)) = same_tx other tx ≡ true → D key
 Tells tx C D _ = Unit {0}
 
-off : {A : Type 0} (b : Bool) → b ≡ false → b ≡ true → A
-off true e f = cc
-off false e f = cc
-
 pub sign_part : (tx : TxId) (body : Body) → is_sign tx body ≡ false → is_part tx body ≡ false
 sign_part tx (Client (TcCommitConf other epoch)) e = refl
 sign_part tx (Chain (Commit other key epoch chain at)) e = e
@@ -79,8 +76,8 @@ sign_part tx (Host (Continue (work.Transaction other) at)) e = e
 sign_part tx _ e = refl
 
 pub part_tells : (tx : TxId) (C : List ℕ → List Member → ℕ → Type 0) (D : List ℕ → Type 0) (body : Body) → is_part tx body ≡ false → Tells tx C D body
-part_tells tx C D (Chain (Commit other key epoch chain at)) e = λ f. off (same_tx other tx) e f
-part_tells tx C D (Chain (Complete other key chain at)) e = λ f. off (same_tx other tx) e f
+part_tells tx C D (Chain (Commit other key epoch chain at)) e = λ f. not_both (same_tx other tx) f e
+part_tells tx C D (Chain (Complete other key chain at)) e = λ f. not_both (same_tx other tx) f e
 part_tells tx C D _ e = tt
 
 pub part_weight : (tx : TxId) (count : ℕ) (to : Place) (body : Body) → is_part tx body ≡ false → weight tx count to body ≡ 0
@@ -96,10 +93,6 @@ request_part tx (Chain (Committed other key)) e = cc
 request_part tx (Chain (Complete other key chain at)) e = cc
 request_part tx (Host (Continue (work.Transaction other) at)) e = cc
 request_part tx _ e = refl
-
-last_and : (a b : Bool) → (a && b) ≡ true → b ≡ true
-last_and true b e = e
-last_and false b e = cc
 
 -- what leads to the commit of one of the keys stands for one at least
 pub cover_weight : (tx : TxId) (key : List ℕ) (i count : ℕ) (to : Place) (body : Body) → i < count → cover tx key i to body ≤ weight tx count to body

@@ -34,7 +34,8 @@ use Rattle.answer_laws.proofs.TcLives.{is_keyed}
 use Rattle.answer_laws.proofs.TcMoves.{IsEntry, found, same_tx-is}
 use Rattle.answer_laws.proofs.TcSends.{tx_in}
 use Rattle.transit_laws.specs.Live.{of_live}
-use Rattle.transit_laws.proofs.LiveOf.{of_here, of_none, of_other}
+use Rattle.transit_laws.proofs.LiveOf.{of_here, uncounted_others}
+use Rattle.transit_laws.proofs.OfLive.{of_none, of_other}
 use Rattle.transit_laws.proofs.TcOwn.{TurnOwn, is_own, own_silent, turn_for, turn_own}
 use Rattle.transit_laws.proofs.TxSignals.{is_next, is_sign}
 
@@ -102,23 +103,23 @@ module _ (tx : TxId) (s : TcState) (once : tally (is_keyed tx) s.live ≤ 1) whe
       over : (f : IsEntry (same_tx one) s.live place) (m b : Bool) → same_tx one tx ≡ m → (row f.value).over ≡ b → TcTurn tx s body (turned_if s place (row f.value) b)
       over f false true e o =
           idle
-          (ap (of_live tx) f.removed ∙ sym (ap (of_live tx) f.is ∙ of_other tx f.key f.value f.front f.back (keyed f false e)))
+          (ap (of_live tx) f.removed ∙ sym (ap (of_live tx) f.is ∙ of_other f.front f.back f.key tx f.value (keyed f false e)))
           (own_silent one tx (row f.value).step.effects.sends e (own f.value)) (λ next. absurd (let both : true ≡ false = sym next ∙ next_other tx body e in cc))
       over f false false e o =
           idle
-          (ap (of_live tx) (f.set (row f.value).step.state) ∙ of_other tx f.key (row f.value).step.state f.front f.back (keyed f false e)
-              ∙ sym (ap (of_live tx) f.is ∙ of_other tx f.key f.value f.front f.back (keyed f false e)))
+          (ap (of_live tx) (f.set (row f.value).step.state) ∙ of_other f.front f.back f.key tx (row f.value).step.state (keyed f false e)
+              ∙ sym (ap (of_live tx) f.is ∙ of_other f.front f.back f.key tx f.value (keyed f false e)))
           (own_silent one tx (row f.value).step.effects.sends e (own f.value)) (λ next. absurd (let both : true ≡ false = sym next ∙ next_other tx body e in cc))
       over f true true e o =
           turns f.value (was f e) e (ap (λ (turn : Turn). turn.step.effects.sends) (mine e f.value))
-          (ap (of_live tx) f.removed ∙ of_none tx (f.front ++ f.back) (first f e) ∙ left f true e o)
+          (ap (of_live tx) f.removed ∙ of_none (f.front ++ f.back) tx (uncounted_others tx (f.front ++ f.back) (first f e)) ∙ left f true e o)
       over f true false e o =
           turns f.value (was f e) e (ap (λ (turn : Turn). turn.step.effects.sends) (mine e f.value))
           (ap (of_live tx) (f.set (row f.value).step.state) ∙ of_here tx f.key (row f.value).step.state f.front f.back (front_none f e) (keyed f true e)
               ∙ left f false e o)
 
       none : (m : Bool) → same_tx one tx ≡ m → length (keys_of s.live) ≤ place → is_next tx body ≡ true → of_live tx s.live ≡ None
-      none true e past next = of_none tx s.live (absent_key tx one s.live e past)
+      none true e past next = of_none s.live tx (uncounted_others tx s.live (absent_key tx one s.live e past))
       none false e past next = absurd (let both : true ≡ false = sym next ∙ next_other tx body e in cc)
 
       placed : IsEntry (same_tx one) s.live place → TcTurn tx s body (turn_place s row (Some place))
