@@ -1,6 +1,6 @@
 -- A transaction that is carried out stays so in each step of a run.
-use Rattle.std.proofs.Common.{◌≡◌, ◌≢◌, ◌⊎◌, ◌≤◌, ◌<◌, ◌+◌, ◌-◌, ℕ, zero, suc, Bool, true, false, length, List, [], ◌∷◌, ◌++◌, refl, sym, ap, ◌∙◌, subst, arith, inl, inr}
-use Rattle.std.specs.Prelude.{◌==◌, ◌&&◌, nat_le, if◌then◌else◌, Option, None, Some}
+use Rattle.std.proofs.Common.{◌≡◌, ◌≢◌, ◌⊎◌, ◌≤◌, ◌<◌, ◌+◌, ◌-◌, ℕ, zero, suc, Bool, true, false, length, List, [], ◌∷◌, refl, sym, ap, ◌∙◌, subst, arith, inl, inr}
+use Rattle.std.specs.Prelude.{◌==◌, ◌&&◌, nat_le, Option, None, Some}
 use Rattle.std.proofs.lemmas.Bool.{cases_eq, cases_lt, eqb-true}
 use Rattle.std.proofs.lemmas.Bool.Decides.{nat_tests}
 use Rattle.std.proofs.lemmas.List.{append-nil}
@@ -15,16 +15,15 @@ use Rattle.sig_core.specs.declared.place.BlockId.TheVariants as block
 use Rattle.sig_core.specs.declared.place.Place.{Place}
 use Rattle.sig_core.specs.declared.signal.Body.{Body}
 use Rattle.sig_core.specs.declared.signal.Body.TheVariants.{Host, Chain}
-use Rattle.sig_core.specs.declared.signal.chain.ChainSignal.TheVariants.{Abort, Commit}
+use Rattle.sig_core.specs.declared.signal.chain.ChainSignal.TheVariants.{Commit}
 use Rattle.sig_core.specs.declared.signal.host.HostSignal.TheVariants.{Continue}
 use Rattle.sig_core.specs.declared.signal.host.Work.TheVariants as work
 use Rattle.sig_core.specs.declared.signal.Signal.{Signal}
 use Rattle.sig_core.specs.Chain.{node_at, primary_of}
-use Rattle.sig_core.specs.Same.{same_key, same_tx}
+use Rattle.sig_core.specs.Same.{same_tx}
 use Rattle.api_block.specs.State.{ApiState}
 use Rattle.lqh_block.specs.Lqh.{lqh_row}
 use Rattle.lqh_block.specs.State.{LqhState}
-use Rattle.tc_block.specs.declared.touched.Touched.{Touched}
 use Rattle.tc_block.specs.declared.transaction.Transaction.{Transaction}
 use Rattle.tc_block.specs.Operate.{fresh}
 use Rattle.tc_block.specs.State.{TcState}
@@ -38,7 +37,7 @@ use Rattle.world_core.specs.Machine.{after, signals_of, step_after}
 use Rattle.world_core.specs.Start.{Start}
 use Rattle.commit_laws.specs.Primary.{HasPrepared}
 use Rattle.answer_laws.proofs.Hosts.{node_after, shell_after}
-use Rattle.answer_laws.proofs.Lives.{NodeKeeps, keeps}
+use Rattle.answer_laws.proofs.Lives.{keeps}
 use Rattle.answer_laws.proofs.LqhOps.{is_lqh}
 use Rattle.answer_laws.proofs.Ops.{same_node}
 use Rattle.answer_laws.proofs.Tally.{one_if, tally}
@@ -53,9 +52,9 @@ use Rattle.transit_laws.specs.GivenUp.{is_carried_out, is_given_up}
 use Rattle.transit_laws.specs.Live.{live_at, of_host, of_live}
 use Rattle.transit_laws.specs.Routes.{IsCommitRouted, IsRouted, replicas}
 use Rattle.transit_laws.specs.Tokens.{tokens}
-use Rattle.transit_laws.specs.Transit.{AreInTransit, Comes, Takes, joined, logs_of}
+use Rattle.transit_laws.specs.Transit.{Comes, Takes, joined, logs_of}
 use Rattle.transit_laws.proofs.CarriedOut.{IsAhead, IsCarried, IsDone, IsLiveAhead, IsSpread, IsUpTo, TellsOf, committed_stays, tells_stay, tells_too}
-use Rattle.transit_laws.proofs.CarriedTurn.{TurnLeaves, ahead_stays, parts_tell, silent_parts, silent_stays, turn_leaves}
+use Rattle.transit_laws.proofs.CarriedTurn.{ahead_stays, parts_tell, silent_parts, silent_stays, turn_leaves}
 use Rattle.transit_laws.proofs.GivenUp.{aborts_are_of_given_up, none_is_both}
 use Rattle.transit_laws.proofs.HostSteps.{HostStep, aside_cover, aside, away_cover, begins, host_step, next_number, number_rises, rows, shell, turns}
 use Rattle.transit_laws.proofs.LiveOf.{of_each}
@@ -64,9 +63,8 @@ use Rattle.transit_laws.proofs.LqhParts.{IsLast, lqh_covers, lqh_tells, lqh_weig
 use Rattle.transit_laws.proofs.RoutedEvents.{coming_are_routed, commits_end_at_primary}
 use Rattle.transit_laws.proofs.RoutesChain.{primary_first, replicas_are_nodes}
 use Rattle.transit_laws.proofs.StepFades.{EndsAtPrimary, NoAbort, StepFades, now_other, now_own, step_fades}
-use Rattle.transit_laws.proofs.TcOwn.{turn_for}
 use Rattle.transit_laws.proofs.TxSignals.{cover, is_next, part_tells, request_part, weight}
-use Rattle.transit_laws.proofs.TxTurns.{AreSilent, left_by}
+use Rattle.transit_laws.proofs.TxTurns.{AreSilent}
 use Rattle.transit_laws.proofs.Weighing.{each_between, each_joins, each_taken, in_sends, in_transit, joins_weigh, takes_weigh}
 
 -- what is so of the transactions of a node after any log

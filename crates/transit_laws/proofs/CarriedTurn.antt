@@ -1,12 +1,11 @@
 -- A transaction that is carried out stays so in each turn.
 use Rattle.std.proofs.Common.{◌≡◌, ◌⊎◌, ◌≤◌, ◌<◌, ◌+◌, ◌-◌, ℕ, Bool, true, false, length, List, [], ◌∷◌, ◌++◌, refl, sym, ap, ◌∙◌, subst, arith, inl, inr, append_assoc}
-use Rattle.std.specs.Prelude.{◌==◌, ◌&&◌, nat_le, if◌then◌else◌, Option, None, Some}
+use Rattle.std.specs.Prelude.{◌==◌, ◌&&◌, nat_le, if◌then◌else◌, None, Some}
 use Rattle.std.proofs.lemmas.Bool.{cases_lt}
 use Rattle.std.proofs.lemmas.Bool.Decides.{nat_tests}
 use Rattle.run_theory.specs.Lists.{Each}
 use Rattle.run_theory.proofs.Pasts.{each_map}
 use Rattle.sig_core.specs.declared.log.LogStep.{LogStep}
-use Rattle.sig_core.specs.declared.member.Member.{Member}
 use Rattle.sig_core.specs.declared.member.TxId.{TxId}
 use Rattle.sig_core.specs.declared.outs.Outgoing.{Outgoing}
 use Rattle.sig_core.specs.declared.place.BlockId.TheVariants as block
@@ -36,14 +35,14 @@ use Rattle.answer_laws.proofs.Wishes.{is_tc}
 use Rattle.transit_laws.specs.Completions.{IsCommittedAtAll}
 use Rattle.transit_laws.proofs.Ahead as ahead
 use Rattle.transit_laws.proofs.Ahead.{FromCommitting, FromCompleting, from_committing, from_completing}
-use Rattle.transit_laws.proofs.CarriedOut.{IsAhead, IsAlong, IsDone, IsGoing, IsLiveAhead, IsSpread, TellsOf, along_stays, at_all, committed_stays, done_stays, marked_stays}
+use Rattle.transit_laws.proofs.CarriedOut.{IsAhead, IsAlong, IsDone, IsGoing, IsLiveAhead, IsSpread, TellsOf, along_stays, at_all, committed_stays, done_stays}
 use Rattle.transit_laws.proofs.HostSteps.{aside_cover}
 use Rattle.transit_laws.proofs.PartSends.{commits_tell, completions_tell, length_middle, part_covers, part_weighs}
 use Rattle.transit_laws.proofs.StepFades.{StepFades}
 use Rattle.transit_laws.proofs.TcOwn.{turn_for}
 use Rattle.transit_laws.proofs.TxSignals.{cover, cover_weight, covers, is_next, is_part, is_sign, part_cover, part_tells, part_weight, request_part, sign_part, weight}
 use Rattle.transit_laws.proofs.TxTurns.{AreSilent, left_by}
-use Rattle.transit_laws.proofs.Weighing.{in_sends, in_transit, weigh, weigh_less, weigh_none}
+use Rattle.transit_laws.proofs.Weighing.{in_sends, in_transit, weigh_less, weigh_none}
 
 -- what holds at each place of a list holds of each of it
 each_split : {A : Type 0} (P : A → Type 0) (pre xs : List A) → ((front : List A) (x : A) (back : List A) → pre ++ xs ≡ front ++ x ∷ back → P x) → Each P xs

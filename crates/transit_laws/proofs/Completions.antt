@@ -1,5 +1,5 @@
 -- A row is completed behind its commit at each replica.
-use Rattle.std.proofs.Common.{◌≡◌, ℕ, Bool, true, false, List, [], ◌∷◌, refl, sym, ap, ◌∙◌, subst}
+use Rattle.std.proofs.Common.{◌≡◌, ℕ, Bool, true, false, List, ◌∷◌, refl, ap, subst}
 use Rattle.run_theory.proofs.Runs.{log_of-past}
 use Rattle.run_theory.specs.Lists.{IsPast}
 use Rattle.sig_core.specs.declared.log.LogStep.{LogStep}
@@ -13,7 +13,6 @@ use Rattle.commit_laws.proofs.TcWays.{not_both}
 use Rattle.transit_laws.specs.Circle.{VerifiedAreSettled}
 use Rattle.transit_laws.specs.Completions.{CompletionsFollowCommits}
 use Rattle.transit_laws.specs.GivenUp.{is_carried_out, is_given_up}
-use Rattle.transit_laws.specs.Tokens.{tokens}
 use Rattle.transit_laws.specs.Transit.{AreInTransit, Comes, IsRun, Takes, joined, logs_of}
 use Rattle.transit_laws.proofs.CarriedNext.{carried_next}
 use Rattle.transit_laws.proofs.CarriedOut.{IsCarried, TellsOf}

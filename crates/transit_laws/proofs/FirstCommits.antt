@@ -1,11 +1,10 @@
 -- Where a transaction comes to be carried out it is settled for each key that it touched, and so all that is to hold of it then does.
-use Rattle.std.proofs.Common.{◌≡◌, ◌≢◌, ◌⊎◌, ◌≤◌, ◌<◌, ◌+◌, ◌-◌, ℕ, zero, suc, Bool, true, false, length, List, [], ◌∷◌, ◌++◌, refl, sym, ap, ◌∙◌, subst, arith, inl, inr}
-use Rattle.std.specs.Prelude.{◌==◌, if◌then◌else◌, Option, None, Some}
+use Rattle.std.proofs.Common.{◌≡◌, ◌≢◌, ◌⊎◌, ◌≤◌, ◌<◌, ◌+◌, ℕ, zero, suc, Bool, true, false, length, List, [], ◌∷◌, refl, sym, ap, ◌∙◌, subst, arith, inl, inr}
+use Rattle.std.specs.Prelude.{if◌then◌else◌, None, Some}
 use Rattle.std.proofs.lemmas.Bool.{cases_eq}
 use Rattle.run_theory.specs.Lists.{Each}
 use Rattle.run_theory.proofs.Pasts.{each_map}
 use Rattle.sig_core.specs.declared.log.LogStep.{LogStep}
-use Rattle.sig_core.specs.declared.member.Member.{Member}
 use Rattle.sig_core.specs.declared.member.TxId.{TxId}
 use Rattle.sig_core.specs.declared.outs.Outgoing.{Outgoing}
 use Rattle.sig_core.specs.declared.place.BlockId.{BlockId}
@@ -16,7 +15,6 @@ use Rattle.sig_core.specs.declared.signal.Signal.{Signal}
 use Rattle.sig_core.specs.Chain.{last_place}
 use Rattle.sig_core.specs.Same.{same_tx}
 use Rattle.api_block.specs.State.{ApiState}
-use Rattle.lqh_block.specs.Lqh.{lqh_row}
 use Rattle.tc_block.specs.declared.phase.Phase.TheVariants.{Committing, Verifying}
 use Rattle.tc_block.specs.declared.touched.Touched.{Touched}
 use Rattle.tc_block.specs.declared.transaction.Transaction.{Transaction}
@@ -26,7 +24,6 @@ use Rattle.tc_block.specs.Turn.{Turn, at_phase}
 use Rattle.node_core.specs.declared.host.Host as host
 use Rattle.node_core.specs.declared.host.Host.TheVariants.{Shell, Node}
 use Rattle.node_core.specs.declared.node.Node as node
-use Rattle.node_core.specs.Requests.{is_request}
 use Rattle.node_core.specs.Row.{row}
 use Rattle.world_core.specs.Machine.{after, signals_of, step_after}
 use Rattle.world_core.specs.Start.{Start}
@@ -36,7 +33,7 @@ use Rattle.commit_laws.specs.ReplicaLaws.{event_in, key_in}
 use Rattle.commit_laws.specs.Ways.{tc_sends}
 use Rattle.commit_laws.proofs.Replicas.{logs_follow}
 use Rattle.commit_laws.proofs.TcWays.{not_both}
-use Rattle.answer_laws.proofs.Commits.{NodeIs, node_is}
+use Rattle.answer_laws.proofs.Commits.{node_is}
 use Rattle.answer_laws.proofs.Hosts.{shell_after}
 use Rattle.answer_laws.proofs.Ops.{same_node}
 use Rattle.answer_laws.proofs.Tally.{one_if}
@@ -60,7 +57,7 @@ use Rattle.transit_laws.proofs.HostSteps.{HostStep, aside, begins, host_step, ne
 use Rattle.transit_laws.proofs.Keyed.{log_keyed}
 use Rattle.transit_laws.proofs.LiveOf.{of_each}
 use Rattle.transit_laws.proofs.LqhParts.{lqh_silent}
-use Rattle.transit_laws.proofs.PartSends.{Starts, commits_tell, first_commit, no_commits, part_covers, part_weighs}
+use Rattle.transit_laws.proofs.PartSends.{commits_tell, first_commit, no_commits, part_covers, part_weighs}
 use Rattle.transit_laws.proofs.RecordsFade.{HasRecord}
 use Rattle.transit_laws.proofs.Routes.{signals_are_routed}
 use Rattle.transit_laws.proofs.SettledAlong.{settled_along}

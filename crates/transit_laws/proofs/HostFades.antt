@@ -1,13 +1,10 @@
 -- One step: the records of a transaction of which nothing more is asked are committed and completed, and the primary marks that.
-use Rattle.std.proofs.Common.{◌≡◌, ◌≢◌, ◌⊎◌, ◌<◌, ◌≤◌, ◌+◌, ℕ, Bool, true, false, ◌||◌, List, [], ◌∷◌, filter, refl, sym, ap, ◌∙◌, subst, arith, inl, inr}
+use Rattle.std.proofs.Common.{◌≡◌, ◌⊎◌, ℕ, Bool, true, false, List, refl, sym, ap, ◌∙◌, subst, inl, inr}
 use Rattle.std.specs.Prelude.{◌==◌, if◌then◌else◌, Option, None, Some}
 use Rattle.std.specs.List.{list_any}
 use Rattle.std.proofs.lemmas.Bool.{or_left}
-use Rattle.std.proofs.lemmas.Bool.Decides.{nat_tests}
 use Rattle.lqh_block.proofs.IndexLemmas as keys
 use Rattle.run_theory.specs.Lists.{Each}
-use Rattle.run_theory.proofs.Runs.{log_of-other, log_of-own}
-use Rattle.sig_core.specs.declared.log.LogStep.{LogStep}
 use Rattle.sig_core.specs.declared.mark.Mark.{Mark}
 use Rattle.sig_core.specs.declared.member.Member.{Member}
 use Rattle.sig_core.specs.declared.member.TxId.{TxId}
@@ -16,18 +13,16 @@ use Rattle.sig_core.specs.declared.place.BlockId.TheVariants as block
 use Rattle.sig_core.specs.declared.place.Place.{Place}
 use Rattle.sig_core.specs.declared.rows.PendingRecord.{PendingRecord}
 use Rattle.sig_core.specs.declared.signal.Body.{Body}
-use Rattle.sig_core.specs.declared.signal.Body.TheVariants.{Host, Client, Chain}
+use Rattle.sig_core.specs.declared.signal.Body.TheVariants.{Host, Chain}
 use Rattle.sig_core.specs.declared.signal.chain.ChainSignal.TheVariants.{LqhKeyReq, LqhKeyConf, LqhKeyRef, Commit, Complete, Abort}
 use Rattle.sig_core.specs.declared.signal.host.HostSignal.TheVariants.{Round, Continue}
 use Rattle.sig_core.specs.declared.signal.host.Work.TheVariants as work
-use Rattle.sig_core.specs.declared.signal.Signal.{Signal}
 use Rattle.sig_core.specs.Rows.{record_of, record_state, state_by}
 use Rattle.sig_core.specs.Same.{same_key, same_tx}
 use Rattle.row_locks.proofs.TxLemmas.{same_tx-is}
 use Rattle.row_locks.specs.Rounds.{expired}
 use Rattle.lqh_block.specs.Commit as commit
 use Rattle.lqh_block.specs.declared.request.Request.{Request}
-use Rattle.lqh_block.specs.Expire.{aged}
 use Rattle.lqh_block.specs.Lqh.{lqh_row}
 use Rattle.lqh_block.specs.Operate.{is_granted}
 use Rattle.lqh_block.specs.State.{LqhState}
@@ -37,24 +32,15 @@ use Rattle.node_core.specs.declared.host.Host.TheVariants.{Shell, Node}
 use Rattle.node_core.specs.Requests.{is_request}
 use Rattle.node_core.specs.Row.{node_row, row}
 use Rattle.world_core.specs.History.{is_applied}
-use Rattle.world_core.specs.Machine.{after, hosts, machine, step_after}
-use Rattle.world_core.specs.Marks.{has_mark}
-use Rattle.world_core.specs.Start.{Start}
 use Rattle.commit_laws.specs.Firsts.{first}
 use Rattle.commit_laws.specs.Primary.{HasPrepared}
-use Rattle.commit_laws.specs.Records.{AreOnce, found}
-use Rattle.commit_laws.specs.Replica.{Event, Replica, aborts, ages, asks, asks_for, at_key, cell_at, commits, completes, event_at, expired_by, expires, expires_if, if_on, is_refused, key_after, rests, serves, serves_if}
+use Rattle.commit_laws.specs.Records.{found}
+use Rattle.commit_laws.specs.Replica.{Event, Replica, asks_for, at_key, cell_at, commits, event_at, expires_if, if_on, key_after, rests, serves_if}
 use Rattle.commit_laws.specs.ReplicaLaws.{event_in, key_in}
 use Rattle.commit_laws.proofs.EachEntry.{each_filter}
 use Rattle.commit_laws.proofs.RecordsAt.{first-found, record_of-first}
-use Rattle.commit_laws.proofs.Replicas.{logs_follow}
-use Rattle.answer_laws.proofs.Tally.{one_if, tally}
-use Rattle.answer_laws.proofs.Totals.{total_at}
-use Rattle.transit_laws.specs.Circle.{at_host}
-use Rattle.transit_laws.specs.Routes.{primary}
-use Rattle.transit_laws.specs.Tokens.{is_token, tokens, tokens_in, waiting_all, waiting_in}
-use Rattle.transit_laws.specs.Transit.{Comes, Takes, logs_of}
-use Rattle.transit_laws.proofs.RecordsFade.{Fading, HasRecord, IsHarmless, commit_ends, fades_prepared, fades_there, fading, is_committed, is_completed, once_at, stays}
+use Rattle.transit_laws.specs.Tokens.{is_token, waiting_in}
+use Rattle.transit_laws.proofs.RecordsFade.{Fading, IsHarmless, commit_ends, is_committed, is_completed, stays}
 use Rattle.transit_laws.proofs.Weighing.{none_passes}
 
 module _ (tx : TxId) where

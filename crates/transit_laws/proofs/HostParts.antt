@@ -1,12 +1,11 @@
 -- The shell's host and the block of epochs commit and complete no rows.
-use Rattle.std.proofs.Common.{◌≡◌, List, ◌∷◌, [], Bool, true, false, refl, sym, subst}
-use Rattle.run_theory.specs.Lists.{Each}
+use Rattle.std.proofs.Common.{◌≡◌, List, true, refl, sym, subst}
 use Rattle.sig_core.specs.declared.member.TxId.{TxId}
 use Rattle.sig_core.specs.declared.outs.Outgoing.{Outgoing}
 use Rattle.sig_core.specs.declared.place.BlockId.{BlockId}
 use Rattle.sig_core.specs.declared.place.BlockId.TheVariants as block
 use Rattle.sig_core.specs.declared.signal.Body.{Body}
-use Rattle.sig_core.specs.declared.signal.Body.TheVariants.{Host, Client, Chain, Epoch}
+use Rattle.sig_core.specs.declared.signal.Body.TheVariants.{Host, Client, Epoch}
 use Rattle.sig_core.specs.declared.signal.client.ClientSignal.TheVariants.{TcKeyReq, TcCommitReq, TcRollbackReq, TcWaitReq, TcCommitAck, DumpReq}
 use Rattle.sig_core.specs.declared.signal.host.HostSignal.TheVariants.{Round}
 use Rattle.sig_core.specs.declared.view.View.{View}

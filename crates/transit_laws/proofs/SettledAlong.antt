@@ -1,20 +1,16 @@
 -- Where a transaction is settled for a key that it touched, each record of it on the key is along its chain, and the primary has
 -- one prepared.
-use Rattle.std.proofs.Common.{◌≡◌, ◌⊎◌, ◌≤◌, ◌<◌, ◌+◌, ◌-◌, ℕ, zero, suc, Bool, true, false, length, List, [], ◌∷◌, refl, sym, ap, ◌∙◌, subst, arith, inl, inr}
+use Rattle.std.proofs.Common.{◌≡◌, ◌⊎◌, ◌≤◌, ◌<◌, ℕ, zero, suc, true, length, List, [], ◌∷◌, refl, sym, ap, ◌∙◌, subst, arith, inl, inr}
 use Rattle.std.specs.Prelude.{if◌then◌else◌, is_some, Option, None, Some}
-use Rattle.std.specs.List.{list_any}
 use Rattle.std.proofs.lemmas.Bool.{cases_lt}
 use Rattle.sig_core.specs.declared.log.LogStep.{LogStep}
-use Rattle.sig_core.specs.declared.member.Member.{Member}
 use Rattle.sig_core.specs.declared.member.TxId.{TxId}
 use Rattle.sig_core.specs.declared.op.Answer.{Answer}
 use Rattle.sig_core.specs.declared.op.Op.{Op}
 use Rattle.sig_core.specs.declared.rows.PendingRecord.{PendingRecord}
 use Rattle.sig_core.specs.Chain.{last_place, primary_of}
 use Rattle.tc_block.specs.declared.touched.Touched.{Touched}
-use Rattle.world_core.specs.History.{is_applied}
 use Rattle.world_core.specs.Machine.{after}
-use Rattle.world_core.specs.Marks.{has_mark}
 use Rattle.world_core.specs.Start.{Start}
 use Rattle.commit_laws.specs.Primary.{HasPrepared}
 use Rattle.commit_laws.specs.Records.{found}
@@ -24,9 +20,9 @@ use Rattle.commit_laws.proofs.Replicas.{logs_follow}
 use Rattle.transit_laws.specs.Circle.{Agree, IsReplica, IsSettledFor, at_host, at_primary, primary_along}
 use Rattle.transit_laws.specs.Keyed.{IsWrittenRightly}
 use Rattle.transit_laws.specs.Routes.{IsTouchedRouted, primary, replicas}
-use Rattle.transit_laws.proofs.CarriedOut.{IsAlong, IsMarked, IsSpread, IsUpTo}
+use Rattle.transit_laws.proofs.CarriedOut.{IsAlong, IsUpTo}
 use Rattle.transit_laws.proofs.RecordsFade.{HasRecord}
-use Rattle.transit_laws.proofs.RoutesChain.{replica_at, replicas_length}
+use Rattle.transit_laws.proofs.RoutesChain.{replica_at}
 
 -- the key at its primary is the key at the host of the primary
 along_is : (start : Start) (h : ℕ) (key : List ℕ) (log : List LogStep) → (primary_along start h key log).replica ≡ key_in key (after start h log)

@@ -1,16 +1,14 @@
 -- What a step of a run makes of the records of a transaction of which nothing more is asked.
-use Rattle.std.proofs.Common.{◌≡◌, ◌≢◌, ◌⊎◌, ◌<◌, ◌≤◌, ◌+◌, ℕ, Bool, true, false, ◌||◌, List, [], ◌∷◌, refl, sym, ap, ◌∙◌, subst, arith, inl, inr}
-use Rattle.std.specs.Prelude.{◌==◌, Option, None, Some}
+use Rattle.std.proofs.Common.{◌≡◌, ◌≢◌, ◌⊎◌, ℕ, Bool, true, false, List, ◌∷◌, refl, sym, ap, ◌∙◌, subst, arith, inl, inr}
+use Rattle.std.specs.Prelude.{◌==◌}
 use Rattle.std.specs.List.{list_any}
 use Rattle.std.proofs.lemmas.Bool.{cases_eq, or_left, or_right}
 use Rattle.std.proofs.lemmas.Bool.Decides.{nat_tests}
-use Rattle.run_theory.specs.Lists.{Each}
 use Rattle.run_theory.proofs.Runs.{log_of-other, log_of-own}
 use Rattle.sig_core.specs.declared.log.LogStep.{LogStep}
 use Rattle.sig_core.specs.declared.member.Member.{Member}
 use Rattle.sig_core.specs.declared.member.TxId.{TxId}
 use Rattle.sig_core.specs.declared.place.BlockId.TheVariants as block
-use Rattle.sig_core.specs.declared.rows.PendingRecord.{PendingRecord}
 use Rattle.sig_core.specs.declared.signal.Body.TheVariants.{Chain}
 use Rattle.sig_core.specs.declared.signal.chain.ChainSignal.TheVariants.{Abort, Commit}
 use Rattle.sig_core.specs.declared.signal.Signal.{Signal}
@@ -25,11 +23,10 @@ use Rattle.commit_laws.specs.Primary.{HasPrepared}
 use Rattle.commit_laws.specs.Replica.{Event, Replica, key_after}
 use Rattle.commit_laws.specs.ReplicaLaws.{event_in, key_in}
 use Rattle.commit_laws.proofs.Replicas.{logs_follow}
-use Rattle.answer_laws.proofs.Tally.{tally}
 use Rattle.answer_laws.proofs.Totals.{total_at}
 use Rattle.transit_laws.specs.Circle.{at_host}
 use Rattle.transit_laws.specs.Routes.{primary}
-use Rattle.transit_laws.specs.Tokens.{is_token, tokens, tokens_in, waiting_all, waiting_in}
+use Rattle.transit_laws.specs.Tokens.{is_token, tokens, waiting_in}
 use Rattle.transit_laws.specs.Transit.{Comes, Takes, logs_of}
 use Rattle.transit_laws.proofs.HostFades.{harmless_in, last_step, primary_step, request_token}
 use Rattle.transit_laws.proofs.OneAtATime.{comes_low}

@@ -1,6 +1,6 @@
 -- A coordinator commits and completes rows only of the transaction whose turn it is.
-use Rattle.std.proofs.Common.{◌≡◌, ℕ, List, [], take, drop, length, Bool, true, false, refl, ap}
-use Rattle.std.specs.Prelude.{◌+◌, ◌==◌, if◌then◌else◌, nat_lt, Option, None, Some}
+use Rattle.std.proofs.Common.{◌≡◌, ℕ, List, take, drop, length, Bool, true, false, refl, ap}
+use Rattle.std.specs.Prelude.{◌+◌, if◌then◌else◌, nat_lt, Option, None, Some}
 use Rattle.std.specs.List.{flat_map}
 use Rattle.run_theory.specs.Lists.{Each}
 use Rattle.sig_core.specs.declared.member.TxId.{TxId}

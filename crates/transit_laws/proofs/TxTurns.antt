@@ -1,10 +1,9 @@
 -- What a step of a coordinator does to one transaction: it takes its turn, or is left alone.
-use Rattle.std.proofs.Common.{◌≡◌, ℕ, ◌+◌, ◌<◌, ◌≤◌, List, [], ◌∷◌, ◌++◌, length, Bool, true, false, cond, refl, ap, sym, ◌∙◌, subst, arith}
+use Rattle.std.proofs.Common.{◌≡◌, ℕ, ◌≤◌, List, ◌++◌, length, Bool, true, false, cond, refl, ap, sym, ◌∙◌, subst, arith}
 use Rattle.std.specs.Prelude.{nat_lt, not, Option, None, Some, slice_get, is_some, if◌then◌else◌}
 use Rattle.std.specs.List.{prefix_len}
 use Rattle.std.specs.Map.{keys_of, values_of}
 use Rattle.std.proofs.lemmas.Bool.Decides.{nat_tests}
-use Rattle.indexmap.specs.IndexMap.{set_value_at}
 use Rattle.run_theory.specs.Lists.{Each}
 use Rattle.sig_core.specs.declared.member.TxId.{TxId}
 use Rattle.sig_core.specs.declared.outs.Outgoing.{Outgoing}
@@ -25,10 +24,9 @@ use Rattle.tc_block.specs.Live.{place_in, step_of, step_place, step_value, turn_
 use Rattle.tc_block.specs.Operate as operate
 use Rattle.tc_block.specs.Sends.{go_on_row}
 use Rattle.tc_block.specs.State.{TcState}
-use Rattle.tc_block.specs.Tc.{begin_if, begin_row, begun, is_full, next_tx, pass_if, pass_row, tc_row}
+use Rattle.tc_block.specs.Tc.{begin_if, begin_row, begun, is_full, pass_if, pass_row, tc_row}
 use Rattle.tc_block.specs.Turn.{Turn, going}
 use Rattle.answer_laws.proofs.NodeOps.{absent_key}
-use Rattle.answer_laws.proofs.SendKinds.{are_of}
 use Rattle.answer_laws.proofs.Tally.{one_if, tally, tally_append, tally_between}
 use Rattle.answer_laws.proofs.TcLives.{is_keyed}
 use Rattle.answer_laws.proofs.TcMoves.{IsEntry, found, same_tx-is}
@@ -36,7 +34,7 @@ use Rattle.answer_laws.proofs.TcSends.{tx_in}
 use Rattle.transit_laws.specs.Live.{of_live}
 use Rattle.transit_laws.proofs.LiveOf.{of_here, uncounted_others}
 use Rattle.transit_laws.proofs.OfLive.{of_none, of_other}
-use Rattle.transit_laws.proofs.TcOwn.{TurnOwn, is_own, own_silent, turn_for, turn_own}
+use Rattle.transit_laws.proofs.TcOwn.{TurnOwn, own_silent, turn_for, turn_own}
 use Rattle.transit_laws.proofs.TxSignals.{is_next, is_sign}
 
 abbrev pub AreSilent : TxId → List Outgoing → Type 0

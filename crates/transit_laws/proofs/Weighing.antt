@@ -1,5 +1,5 @@
 -- Sums over signals: as they are sent, as they join those in transit, and as one of them is taken.
-use Rattle.std.proofs.Common.{◌≡◌, ℕ, ◌+◌, ◌≤◌, List, [], ◌∷◌, ◌++◌, Bool, true, false, refl, ap, sym, ◌∙◌, subst, arith}
+use Rattle.std.proofs.Common.{◌≡◌, ℕ, ◌+◌, ◌≤◌, List, [], ◌∷◌, ◌++◌, Bool, true, false, refl, ap, sym, subst, arith}
 use Rattle.run_theory.specs.Lists.{Each}
 use Rattle.run_theory.proofs.Pasts.{each_after, each_append, each_before}
 use Rattle.sig_core.specs.declared.log.LogStep.{LogStep}
@@ -9,7 +9,7 @@ use Rattle.sig_core.specs.declared.signal.Body.{Body}
 use Rattle.sig_core.specs.declared.signal.Signal.{Signal}
 use Rattle.sig_core.specs.declared.view.View.{View}
 use Rattle.node_core.specs.Requests.{is_request}
-use Rattle.world_core.specs.Machine.{all_headed, counted, headed, sent_count, signals_of, step_after}
+use Rattle.world_core.specs.Machine.{all_headed, counted, sent_count, signals_of, step_after}
 use Rattle.world_core.specs.Start.{Start, first_view}
 use Rattle.answer_laws.proofs.Tally.{one_if, tally}
 use Rattle.transit_laws.specs.Transit.{IsTaken, Takes, joined}
