@@ -181,8 +181,15 @@ module _ (start : Start) (logs now : ℕ → List LogStep) (e : LogStep) (before
             by (inr d) = d
             by (inl some) =
                 absurd (omega (
-                  arith, some, fewer, last, g.weighs, answer_weighs one own_key is (length t.touched), answer_covers one own_key is u.key (length front),
-                  out (weight tx (length t.touched)) (weight_free (length t.touched)), out (cover tx u.key (length front)) (cover_free u.key (length front)),
+                  arith,
+                  some,
+                  fewer,
+                  last,
+                  g.weighs,
+                  answer_weighs one own_key is (length t.touched),
+                  answer_covers one own_key is u.key (length front),
+                  out (weight tx (length t.touched)) (weight_free (length t.touched)),
+                  out (cover tx u.key (length front)) (cover_free u.key (length front)),
                 ))
 
         all_done : (one : TxId) (own_key : List ℕ) → e.taken.body ≡ Chain (Committed one own_key) → awaited ≤ 1 → Each (λ (u : Touched). IsCommittedAtAll start now tx u.key) t.touched
@@ -212,7 +219,9 @@ module _ (start : Start) (logs now : ℕ → List LogStep) (e : LogStep) (before
             by (inl late) = omega (arith, ap (cover tx u.key (length front) e.taken.to) is, late_cover tx u.key (length front) e.taken.to one at late)
             by (inr low) =
                 omega (
-                  arith, few (covers tx u.key (length front) e.taken.to e.taken.body), ap (in_sends (cover tx u.key (length front))) part,
+                  arith,
+                  few (covers tx u.key (length front) e.taken.to e.taken.body),
+                  ap (in_sends (cover tx u.key (length front))) part,
                   ap (λ us. in_sends (cover tx u.key (length front)) (part_effects node tx (phase_sends view tx (Committing epoch awaited) us) at).sends) split,
                   part_covers tx node view epoch awaited at front u back home low,
                 )
@@ -221,8 +230,11 @@ module _ (start : Start) (logs now : ℕ → List LogStep) (e : LogStep) (before
             → in_sends (weight tx (length t.touched)) sends ≤ weight tx (length t.touched) e.taken.to e.taken.body
         part_light one at is part =
             omega (
-              arith, ap (in_sends (weight tx (length t.touched))) part, part_weighs tx node view epoch awaited at t.touched,
-              ap (weight tx (length t.touched) e.taken.to) is, ap (λ b. if b then length t.touched - at else 0) (own_cont one at is),
+              arith,
+              ap (in_sends (weight tx (length t.touched))) part,
+              part_weighs tx node view epoch awaited at t.touched,
+              ap (weight tx (length t.touched) e.taken.to) is,
+              ap (λ b. if b then length t.touched - at else 0) (own_cont one at is),
             )
 
         spread_now : Each (λ (u : Touched). IsSpread start now tx u.key u.chain (last_place u.chain)) t.touched
@@ -231,7 +243,8 @@ module _ (start : Start) (logs now : ℕ → List LogStep) (e : LogStep) (before
         stop_leads : (one : TxId) (at : ℕ) → e.taken.body ≡ Host (Continue (work.Transaction one) at) → 512 ≤ at → Leads t.touched
         stop_leads one at is high front u back split =
             inl (omega (
-              arith, ap (cover tx u.key (length front) e.taken.to) is,
+              arith,
+              ap (cover tx u.key (length front) e.taken.to) is,
               late_cover tx u.key (length front) e.taken.to one at (omega (arith, high, g.few, shorter front u back t.touched split)),
             ))
 
@@ -254,8 +267,13 @@ module _ (start : Start) (logs now : ℕ → List LogStep) (e : LogStep) (before
           live = state_leaves turn (at_phase t (Committing ep (awaited - 1))) over st (record {
             few = g.few;
             weighs = omega (
-              arith, less, g.weighs, answer_weighs one key is (length t.touched), parts_light (length t.touched) (silent_parts (sent_none nil)),
-              out (weight tx (length t.touched)) (weight_free (length t.touched)), into (weight tx (length t.touched)),
+              arith,
+              less,
+              g.weighs,
+              answer_weighs one key is (length t.touched),
+              parts_light (length t.touched) (silent_parts (sent_none nil)),
+              out (weight tx (length t.touched)) (weight_free (length t.touched)),
+              into (weight tx (length t.touched)),
             );
             along = along_stays start logs now e tx f t.touched g.along;
             covered = covered_stays t.touched (λ front u back split. inl (omega (arith, answer_covers one key is u.key (length front)))) g.covered;

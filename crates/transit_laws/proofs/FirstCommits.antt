@@ -129,7 +129,10 @@ module _ (verified : VerifiedAreSettled) (start : Start) (es : List LogStep) (e 
   later_none : Each (λ (o : Outgoing). is_part tx o.body ≡ false) sends → in_transit (part tx) later ≡ 0
   later_none light =
       omega (
-        arith, out, none, joins_weigh (part tx) start h (logs_of start es h) e between,
+        arith,
+        out,
+        none,
+        joins_weigh (part tx) start h (logs_of start es h) e between,
         weigh_none (λ (o : Outgoing). part tx o.to o.body) sends (each_map (λ (o : Outgoing). is_part tx o.body ≡ false) (λ (o : Outgoing). part tx o.to o.body ≡ 0) sends (λ o f. ap one_if f) light),
       )
 
@@ -258,14 +261,18 @@ module _ (verified : VerifiedAreSettled) (start : Start) (es : List LogStep) (e 
         going = record {
           few = omega (arith, few);
           weighs = omega (
-            arith, joins_weigh (weight tx (length t.touched)) start h (logs_of start es h) e between,
-            ap (in_sends (weight tx (length t.touched))) part_is, part_weighs tx n.tc.node n.tc.view epoch (length t.touched) 0 t.touched,
+            arith,
+            joins_weigh (weight tx (length t.touched)) start h (logs_of start es h) e between,
+            ap (in_sends (weight tx (length t.touched))) part_is,
+            part_weighs tx n.tc.node n.tc.view epoch (length t.touched) 0 t.touched,
             weigh_none (λ (x : Signal). weight tx (length t.touched) x.to x.body) between
                 (each_map (λ (x : Signal). is_part tx x.body ≡ false) (λ (x : Signal). weight tx (length t.touched) x.to x.body ≡ 0) between (λ x f. part_weight tx (length t.touched) x.to x.body f) between_none),
           );
           along = along phase;
           covered = λ front u back split. inl (omega (
-            arith, joins_weigh (cover tx u.key (length front)) start h (logs_of start es h) e between, ap (in_sends (cover tx u.key (length front))) part_is,
+            arith,
+            joins_weigh (cover tx u.key (length front)) start h (logs_of start es h) e between,
+            ap (in_sends (cover tx u.key (length front))) part_is,
             ap (λ us. in_sends (cover tx u.key (length front)) (part_effects n.tc.node tx (phase_sends n.tc.view tx (Committing epoch (length t.touched)) us) 0).sends) split,
             part_covers tx n.tc.node n.tc.view epoch (length t.touched) 0 front u back home (omega arith),
           ));

@@ -124,12 +124,16 @@ module _ (tx : TxId) (node : ℕ) (view : View) where
       by : (b : Bool) → nat_lt (length front) (at + 8) ≡ b → 1 ≤ weigh c (take 8 (drop at xs) ++ rest_if node tx at (nat_lt (at + 8) (length xs)))
       by true e =
           omega (
-            arith, here, in_part c (commit_of tx epoch) front u back at 8 low (near e),
+            arith,
+            here,
+            in_part c (commit_of tx epoch) front u back at 8 low (near e),
             weigh_append c (take 8 (drop at xs)) (rest_if node tx at (nat_lt (at + 8) (length xs))),
           )
       by false e =
           omega (
-            arith, rest_covers e, weigh_append c (take 8 (drop at xs)) (rest_if node tx at true),
+            arith,
+            rest_covers e,
+            weigh_append c (take 8 (drop at xs)) (rest_if node tx at true),
             ap (λ b. weigh c (take 8 (drop at xs) ++ rest_if node tx at b)) (next e),
           )
 

@@ -106,7 +106,7 @@ module _ (tx : TxId) (s : TcState) (once : tally (is_keyed tx) s.live ≤ 1) whe
       over f false false e o =
           idle
           (ap (of_live tx) (f.set (row f.value).step.state) ∙ of_other f.front f.back f.key tx (row f.value).step.state (keyed f false e)
-              ∙ sym (ap (of_live tx) f.is ∙ of_other f.front f.back f.key tx f.value (keyed f false e)))
+          ∙ sym (ap (of_live tx) f.is ∙ of_other f.front f.back f.key tx f.value (keyed f false e)))
           (own_silent one tx (row f.value).step.effects.sends e (own f.value)) (λ next. absurd (let both : true ≡ false = sym next ∙ next_other tx body e in cc))
       over f true true e o =
           turns f.value (was f e) e (ap (λ (turn : Turn). turn.step.effects.sends) (mine e f.value))
@@ -114,7 +114,7 @@ module _ (tx : TxId) (s : TcState) (once : tally (is_keyed tx) s.live ≤ 1) whe
       over f true false e o =
           turns f.value (was f e) e (ap (λ (turn : Turn). turn.step.effects.sends) (mine e f.value))
           (ap (of_live tx) (f.set (row f.value).step.state) ∙ of_here tx f.key (row f.value).step.state f.front f.back (front_none f e) (keyed f true e)
-              ∙ left f false e o)
+          ∙ left f false e o)
 
       none : (m : Bool) → same_tx one tx ≡ m → length (keys_of s.live) ≤ place → is_next tx body ≡ true → of_live tx s.live ≡ None
       none true e past next = of_none s.live tx (uncounted_others tx s.live (absent_key tx one s.live e past))
