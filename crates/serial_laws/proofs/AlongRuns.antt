@@ -1,36 +1,29 @@
 -- Along every run each key is good, and at its end the history is right for the key and the nodes have its row.
-use Rattle.std.proofs.Common.{◌≡◌, ◌≢◌, ◌⊎◌, ◌-◌, ◌+◌, ℕ, zero, suc, Bool, true, false, ◌&&◌, List, [], ◌∷◌, ◌++◌, filter, refl, sym, ap, ◌∙◌, subst, inl, inr, arith}
+use Rattle.std.proofs.Common.{◌≡◌, ◌≢◌, ◌⊎◌, ℕ, zero, suc, Bool, true, false, List, [], ◌∷◌, ◌++◌, filter, refl, sym, ap, ◌∙◌, subst, inl, inr, arith}
 use Rattle.std.proofs.lemmas.Bool.{cases_eq}
 use Rattle.std.specs.FinMap as map
 use Rattle.std.specs.List.{list_any}
-use Rattle.std.specs.Prelude.{is_some, Option, None, Some}
-use Rattle.run_theory.specs.Lists.{Each, IsIn, IsPast}
+use Rattle.std.specs.Prelude.{is_some, Option}
+use Rattle.run_theory.specs.Lists.{IsIn, IsPast}
 use Rattle.run_theory.proofs.Pasts.{past_less, past_self}
 use Rattle.serial_model.specs.Legal.{rows_of}
 use Rattle.sig_core.specs.declared.entry.Entry.{Entry}
 use Rattle.sig_core.specs.declared.log.LogStep.{LogStep}
 use Rattle.sig_core.specs.declared.member.Member.{Member}
 use Rattle.sig_core.specs.declared.member.TxId.{TxId}
-use Rattle.sig_core.specs.declared.op.Answer.{Answer}
-use Rattle.sig_core.specs.declared.op.Op.{Op}
-use Rattle.sig_core.specs.declared.rows.PendingRecord.{PendingRecord}
 use Rattle.row_locks.proofs.TableLawLemmas.{unlocked_orderly}
-use Rattle.node_core.specs.Committed.{row_at}
 use Rattle.world_core.specs.Entries.{entries}
 use Rattle.world_core.specs.Machine.{after, hosts, machine}
-use Rattle.world_core.specs.Rest.{IsAtRest}
-use Rattle.world_core.specs.Start.{Start, first_view, members}
-use Rattle.world_core.specs.Views.{greatest_view, live_nodes}
+use Rattle.world_core.specs.Start.{Start}
+use Rattle.world_core.specs.Views.{live_nodes}
 use Rattle.sig_core.specs.declared.view.View.{View}
 use Rattle.commit_laws.specs.Backup.{is_spoilt, kept_of}
-use Rattle.commit_laws.specs.BackupEvents.{backup_of}
 use Rattle.commit_laws.specs.Laws.{AreKeysRight}
 use Rattle.commit_laws.specs.OneKey.{row_at_end}
 use Rattle.commit_laws.specs.Primary.{ended_too}
-use Rattle.commit_laws.specs.PrimaryEvents.{AtPrimary}
 use Rattle.commit_laws.specs.Records.{found, kept_row}
 use Rattle.commit_laws.specs.Replica.{Replica}
-use Rattle.commit_laws.specs.ReplicaLaws.{at_rest, key_in}
+use Rattle.commit_laws.specs.ReplicaLaws.{at_rest}
 use Rattle.commit_laws.proofs.Epochs.{view_first}
 use Rattle.commit_laws.proofs.Replicas.{keys_have_rows, nodes_begin}
 use Rattle.transit_laws.specs.Circle.{at_host, at_primary}
@@ -40,10 +33,11 @@ use Rattle.serial_laws.specs.Owing.{AreOwed}
 use Rattle.serial_laws.proofs.DecisionSteps.{kept_good, unkept_good}
 use Rattle.serial_laws.proofs.FairSteps.{AreWriters, owed_fair}
 use Rattle.serial_laws.proofs.Finals.{decided_at, first_row, history_at, is_final, is_final_entry}
-use Rattle.serial_laws.proofs.KeySteps.{IsBackupWith, IsFairStep, IsGoodWith, IsPrimaryWith, good_step, primary_replica, rests_fair}
+use Rattle.serial_laws.proofs.KeySteps.{IsBackupWith, IsGoodWith, IsPrimaryWith, good_step, primary_replica, rests_fair}
 use Rattle.serial_laws.proofs.Members.{IsNodeOf, member_node, primary_node}
-use Rattle.serial_laws.proofs.Parts.{part_comes, part_turn, run_cut}
-use Rattle.serial_laws.proofs.StepKinds.{IsDecision, StepKind, decision, quiet, step_kind}
+use Rattle.serial_laws.proofs.Parts.{part_comes, part_turn}
+use Rattle.transit_laws.proofs.Decided.{run_is_cut}
+use Rattle.serial_laws.proofs.StepKinds.{StepKind, decision, quiet, step_kind}
 use Rattle.serial_laws.proofs.Turns.{ComesAfter, IsByTurn}
 use Rattle.serial_laws.proofs.Unfinished.{AreUnfinished, once_at, settled_empty, unfinished_now}
 use Rattle.serial_laws.proofs.WriterSteps.{writers_now}
@@ -166,7 +160,7 @@ module _ (start : Start) (end : List LogStep) (run : IsRun start end) (turn : Is
   keys_right = by (holds_at end (past_self end))
     where
       node : (member : Member) → IsIn member (live_nodes start (logs_of start end)) → IsNodeOf start member.node
-      node member live = member_node start member (subst (IsIn member) (ap (λ (w : View). w.full) (view_first start (logs_of start end) (logs_of start end) (run_cut start end run))) live)
+      node member live = member_node start member (subst (IsIn member) (ap (λ (w : View). w.full) (view_first start (logs_of start end) (logs_of start end) (run_is_cut start end run))) live)
 
       by : Holds end → AreKeysRight start (logs_of start end)
       by holds = record {

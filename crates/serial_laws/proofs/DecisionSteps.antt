@@ -1,8 +1,7 @@
 -- A decision, at one key of all nodes: it is right, and the key is led to what it makes of the row.
-use Rattle.std.proofs.Common.{◌≡◌, ◌≢◌, ◌⊎◌, ℕ, Bool, true, false, ◌&&◌, ◌||◌, List, [], ◌∷◌, ◌++◌, refl, sym, ap, ◌∙◌, subst, inl, inr}
-use Rattle.std.proofs.lemmas.Bool.{and_from, and_left, and_right}
+use Rattle.std.proofs.Common.{◌≡◌, ◌⊎◌, ℕ, Bool, true, false, ◌&&◌, ◌||◌, List, [], ◌∷◌, ◌++◌, refl, sym, ap, ◌∙◌, subst, inl, inr}
+use Rattle.std.proofs.lemmas.Bool.{and_left, and_right}
 use Rattle.std.specs.FinMap as map
-use Rattle.std.specs.List.{list_any}
 use Rattle.std.specs.Prelude.{is_some, Option, None, Some}
 use Rattle.serial_model.specs.Legal.{rows_of}
 use Rattle.sig_core.specs.declared.entry.Entry.{Entry}
@@ -13,14 +12,13 @@ use Rattle.sig_core.specs.declared.op.Op.{Op}
 use Rattle.sig_core.specs.declared.rows.PendingRecord.{PendingRecord}
 use Rattle.sig_core.specs.Same.{same_tx}
 use Rattle.row_locks.proofs.TxLemmas.{same_tx-is, same_tx-swap}
-use Rattle.world_core.specs.History.{is_done}
 use Rattle.world_core.specs.Start.{Start}
-use Rattle.commit_laws.specs.Backup.{HasImage, IsLedUnlessSpoilt, kept_of}
+use Rattle.commit_laws.specs.Backup.{HasImage, kept_of}
 use Rattle.commit_laws.specs.BackupEvents.{IsInOrderAt, backup_of}
 use Rattle.commit_laws.specs.BackupLaws.{IsDecidedTo}
 use Rattle.commit_laws.specs.OneKey.{AreRight, ops_on, row_after_all, row_at_end}
 use Rattle.commit_laws.specs.Primary.{IsLedTo, KeepsToo, ended_too}
-use Rattle.commit_laws.specs.PrimaryEvents.{AtPrimary, IsInOrder, primary_of}
+use Rattle.commit_laws.specs.PrimaryEvents.{AtPrimary, primary_of}
 use Rattle.commit_laws.specs.PrimaryLaws.{IsDecidedRightly}
 use Rattle.commit_laws.specs.Records.{found}
 use Rattle.commit_laws.specs.Replica.{Replica}
@@ -29,9 +27,8 @@ use Rattle.commit_laws.proofs.Keys.{same_tx-self}
 use Rattle.commit_laws.proofs.PrimaryValue.{decisions_right, only_of, prepared_holds}
 use Rattle.commit_laws.proofs.RecordLemmas.{kept_row-one}
 use Rattle.transit_laws.specs.Circle.{Agree, IsSettledFor, at_host, at_primary}
-use Rattle.transit_laws.specs.Routes.{primary}
 use Rattle.serial_laws.proofs.Folds.{end_last, none_done, right_last}
-use Rattle.serial_laws.proofs.KeySteps.{IsBackupWith, IsGoodWith, IsPrimaryWith, primary_replica}
+use Rattle.serial_laws.proofs.KeySteps.{IsBackupWith, IsGoodWith}
 use Rattle.serial_laws.proofs.Members.{IsNodeOf, node_replica}
 
 -- what a decision makes of the order of a backup

@@ -1,15 +1,11 @@
 -- The entries of a run with one event more: those of the event stand behind the others.
-use Rattle.std.proofs.Common.{◌≡◌, ◌≢◌, ◌⊎◌, ◌≤◌, ◌<◌, ℕ, zero, suc, ◌+◌, Bool, true, false, ◌&&◌, ◌||◌, List, [], ◌∷◌, ◌++◌, refl, sym, ap, ◌∙◌, subst, inl, inr, arith, append-nil}
-use Rattle.std.specs.Prelude.{◌==◌, nat_lt, if◌then◌else◌}
-use Rattle.std.proofs.lemmas.Bool.{cases_eq, cases_lt}
-use Rattle.std.proofs.lemmas.Bool.Decides.{nat_tests}
-use Rattle.run_theory.specs.Lists.{Each, IsIn}
-use Rattle.run_theory.proofs.Pasts.{each_append, each_map}
+use Rattle.std.proofs.Common.{◌≡◌, ◌≢◌, ◌⊎◌, ◌≤◌, ◌<◌, ℕ, zero, suc, Bool, true, false, List, [], ◌∷◌, ◌++◌, refl, ap, ◌∙◌, subst, inl, inr, arith}
+use Rattle.std.specs.Prelude.{if◌then◌else◌}
+use Rattle.std.proofs.lemmas.Bool.{cases_eq}
+use Rattle.run_theory.specs.Lists.{Each}
 use Rattle.sig_core.specs.declared.entry.Entry.{Entry}
 use Rattle.sig_core.specs.declared.log.LogStep.{LogStep}
-use Rattle.sig_core.specs.declared.mark.Mark.{Mark}
-use Rattle.sig_core.specs.declared.mark.Mark.TheVariants as mark
-use Rattle.world_core.specs.Entries.{entries, entries_in, entries_of, entry_of, insert, insert_all, is_before}
+use Rattle.world_core.specs.Entries.{entries, entries_of, insert, insert_all, is_before}
 
 -- the entry comes after all of these, by the order of entries
 abbrev pub IsAfterAll : Entry → List Entry → Type 0

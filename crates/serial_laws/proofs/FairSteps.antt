@@ -1,17 +1,17 @@
 -- What is owed to a key makes each event of it fair.
-use Rattle.std.proofs.Common.{◌≡◌, ◌≢◌, ◌<◌, ℕ, Bool, true, false, ◌||◌, List, [], ◌∷◌, refl, sym, ap, ◌∙◌, subst, inl}
+use Rattle.std.proofs.Common.{◌≡◌, ◌≢◌, ℕ, Bool, true, false, List, ◌∷◌, refl, sym, ap, ◌∙◌, subst, inl}
 use Rattle.std.proofs.lemmas.Bool.{and_from, and_left, or_left}
 use Rattle.std.specs.List.{list_any}
-use Rattle.std.specs.Prelude.{is_some, Option, None, Some}
+use Rattle.std.specs.Prelude.{is_some, Some}
 use Rattle.run_theory.specs.Lists.{Each, IsPast}
-use Rattle.run_theory.proofs.Pasts.{each_map, past_less, past_self}
+use Rattle.run_theory.proofs.Pasts.{each_map, past_less}
 use Rattle.run_theory.proofs.Runs.{log_of-own}
 use Rattle.sig_core.specs.declared.log.LogStep.{LogStep}
 use Rattle.sig_core.specs.declared.member.TxId.{TxId}
 use Rattle.sig_core.specs.declared.rows.PendingRecord.{PendingRecord}
 use Rattle.lqh_block.specs.declared.request.Request.{Request}
 use Rattle.world_core.specs.History.{is_applied}
-use Rattle.world_core.specs.Machine.{after, hosts, machine, step_after}
+use Rattle.world_core.specs.Machine.{after, machine, step_after}
 use Rattle.world_core.specs.Marks.{has_mark}
 use Rattle.world_core.specs.Start.{Start}
 use Rattle.commit_laws.specs.Backup.{kept_of}
@@ -26,7 +26,7 @@ use Rattle.transit_laws.specs.Owed.{IsCarriedOut, IsOwed, IsUndecided}
 use Rattle.transit_laws.specs.Routes.{primary}
 use Rattle.transit_laws.specs.Transit.{Comes, IsRun, logs_of}
 use Rattle.serial_laws.specs.Owing.{AreOwed}
-use Rattle.serial_laws.proofs.Finals.{IsWriter, carried_at, decided_at, is_final, kept_at, undecided_at, writer_final}
+use Rattle.serial_laws.proofs.Finals.{IsWriter, carried_at, decided_at, is_final, undecided_at, writer_final}
 use Rattle.serial_laws.proofs.HostSteps.{host_applies}
 use Rattle.serial_laws.proofs.KeySteps.{IsFairStep, event_of, primary_replica}
 use Rattle.serial_laws.proofs.Members.{IsNodeOf, primary_node}

@@ -1,12 +1,12 @@
 -- What is decided at some time of a run and carried out, what is final at its end, and the history up to that time.
-use Rattle.std.proofs.Common.{◌≡◌, ◌⊎◌, ◌<◌, ℕ, Bool, true, false, not, ◌&&◌, ◌||◌, List, [], ◌∷◌, ◌++◌, filter, refl, sym, ap, ◌∙◌, subst, inl, inr}
+use Rattle.std.proofs.Common.{◌≡◌, ◌<◌, ℕ, Bool, true, false, not, ◌&&◌, ◌||◌, List, [], ◌∷◌, ◌++◌, filter, refl, sym, ap, ◌∙◌, subst, inl, inr}
 use Rattle.std.proofs.lemmas.Bool.{and_from, and_left, and_right, or_left, or_right}
 use Rattle.std.proofs.Math.Path.{fun_ext}
 use Rattle.std.specs.FinMap as map
 use Rattle.std.specs.List.{list_any}
 use Rattle.std.specs.Prelude.{if◌then◌else◌, Option}
-use Rattle.run_theory.specs.Lists.{Each, IsIn, IsPast}
-use Rattle.run_theory.proofs.Pasts.{past_append, past_more, past_self, past_trans}
+use Rattle.run_theory.specs.Lists.{IsIn, IsPast}
+use Rattle.run_theory.proofs.Pasts.{past_self}
 use Rattle.serial_model.specs.Legal.{rows_of}
 use Rattle.sig_core.specs.declared.entry.Entry.{Entry}
 use Rattle.sig_core.specs.declared.log.LogStep.{LogStep}
@@ -15,7 +15,7 @@ use Rattle.sig_core.specs.declared.member.TxId.{TxId}
 use Rattle.sig_core.specs.Same.{same_tx}
 use Rattle.row_locks.proofs.TxLemmas.{same_tx-is}
 use Rattle.world_core.specs.Entries.{entries}
-use Rattle.world_core.specs.History.{history, is_applied, is_kept, is_reported, writes}
+use Rattle.world_core.specs.History.{is_applied, is_kept, is_reported, writes}
 use Rattle.world_core.specs.Machine.{hosts, machine}
 use Rattle.world_core.specs.Marks.{has_mark, have_mark}
 use Rattle.world_core.specs.Start.{Start}

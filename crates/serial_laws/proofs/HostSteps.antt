@@ -1,7 +1,7 @@
 -- What a step of a node marks, key by key.
-use Rattle.std.proofs.Common.{◌≡◌, ℕ, zero, suc, Bool, true, false, ◌||◌, List, [], ◌∷◌, refl, sym, ap, ◌∙◌}
+use Rattle.std.proofs.Common.{◌≡◌, ℕ, suc, Bool, true, false, List, [], ◌∷◌, refl, ap, ◌∙◌}
 use Rattle.std.specs.List.{list_any}
-use Rattle.std.specs.Prelude.{is_some, length, nat_lt, Option, None, Some}
+use Rattle.std.specs.Prelude.{is_some, length, nat_lt, None}
 use Rattle.std.proofs.lemmas.Bool.{or_from}
 use Rattle.sig_core.specs.declared.log.LogStep.{LogStep}
 use Rattle.sig_core.specs.declared.mark.Mark.{Mark}
@@ -13,7 +13,6 @@ use Rattle.sig_core.specs.declared.place.Place.{Place}
 use Rattle.sig_core.specs.declared.signal.Body.{Body}
 use Rattle.sig_core.specs.declared.signal.Body.TheVariants.{Epoch}
 use Rattle.sig_core.specs.declared.signal.epoch.EpochSignal.TheVariants.{DiVerifyReq}
-use Rattle.lqh_block.specs.Lqh.{lqh_row}
 use Rattle.node_core.specs.declared.host.Host.{Host}
 use Rattle.node_core.specs.declared.host.Host.TheVariants.{Shell, Node}
 use Rattle.node_core.specs.declared.node.Node as node
@@ -28,7 +27,7 @@ use Rattle.commit_laws.specs.Records.{found}
 use Rattle.commit_laws.specs.Replica.{cell_at, commits}
 use Rattle.commit_laws.specs.ReplicaLaws.{IsWellHost, event_for, event_in, key_in}
 use Rattle.commit_laws.proofs.TcMarks.{tc_marks}
-use Rattle.serial_laws.proofs.RowApplies.{AppliesIf, IsAppliedFrom, applied_from, applies}
+use Rattle.serial_laws.proofs.RowApplies.{AppliesIf, applied_from, applies}
 use Rattle.serial_laws.proofs.RowMarks.{EndsPart, done_ends, never}
 use Rattle.serial_laws.proofs.RowPrepares.{new_marked, none_there}
 

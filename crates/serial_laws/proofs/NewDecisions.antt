@@ -1,5 +1,5 @@
 -- What an event decides wasn't decided before, and each transaction has one entry.
-use Rattle.std.proofs.Common.{◌≡◌, ◌≢◌, ◌⊎◌, ◌<◌, ℕ, zero, suc, Bool, true, false, ◌&&◌, ◌||◌, List, [], ◌∷◌, ◌++◌, refl, sym, ap, ◌∙◌, subst, inl, inr, arith}
+use Rattle.std.proofs.Common.{◌≡◌, ◌≢◌, ◌⊎◌, ℕ, zero, suc, Bool, true, false, ◌&&◌, ◌||◌, List, [], ◌∷◌, ◌++◌, refl, sym, ap, ◌∙◌, subst, inl, inr, arith}
 use Rattle.std.proofs.lemmas.Bool.{cases_eq, or_cases, or_left}
 use Rattle.std.proofs.lemmas.Bool.Decides.{nat_tests}
 use Rattle.std.specs.List.{list_any}
@@ -7,7 +7,7 @@ use Rattle.std.specs.Prelude.{◌==◌, nat_lt}
 use Rattle.run_theory.specs.Lists.{Each, IsIn, IsPast}
 use Rattle.run_theory.specs.Orders.{is_after}
 use Rattle.run_theory.proofs.Orders.{each_log}
-use Rattle.run_theory.proofs.Pasts.{each_append, each_in, each_map, in_append, in_past, past_less, past_self}
+use Rattle.run_theory.proofs.Pasts.{each_append, each_in, each_map, in_past, past_less, past_self}
 use Rattle.run_theory.proofs.Runs.{log_of-past}
 use Rattle.sig_core.specs.declared.entry.Entry.{Entry}
 use Rattle.sig_core.specs.declared.log.LogStep.{LogStep}
@@ -28,7 +28,8 @@ use Rattle.commit_laws.proofs.PlainMarks.{ArePlain}
 use Rattle.commit_laws.proofs.StrictOrder.{one_decided}
 use Rattle.transit_laws.specs.Owed.{is_decided}
 use Rattle.transit_laws.specs.Transit.{Comes, IsRun, logs_of}
-use Rattle.serial_laws.proofs.Parts.{mark_past, part_comes, part_logs, part_run, part_turn, run_causal, run_logs}
+use Rattle.serial_laws.proofs.Parts.{mark_past, part_comes, part_turn, run_logs}
+use Rattle.transit_laws.proofs.Decided.{run_is_causal}
 use Rattle.serial_laws.proofs.RowMarks.{alone_so}
 use Rattle.serial_laws.proofs.RunEntries.{entries_decided, entries_plain, marks_are, new_entry, other_log, own_log}
 use Rattle.serial_laws.proofs.Turns.{ComesAfter, IsByTurn}
@@ -73,7 +74,7 @@ module _ (start : Start) (es : List LogStep) (e : LogStep) (come : Comes start e
   here = subst (IsIn e) (sym own) (inl refl)
 
   pub decides_at : (tx : TxId) → list_any (is_decision tx) e.marks ≡ true → DecidesAt now e tx
-  decides_at tx marked = each_in (DecidesRightly now) e (now h) ((run_causal start (e ∷ es) come.now).decisions h) here tx marked
+  decides_at tx marked = each_in (DecidesRightly now) e (now h) ((run_is_causal start (e ∷ es) come.now).decisions h) here tx marked
 
   -- what it decides wasn't decided before
   pub new_decided : (tx : TxId) → list_any (is_decision tx) e.marks ≡ true → is_decided before tx ≡ false
@@ -84,7 +85,7 @@ module _ (start : Start) (es : List LogStep) (e : LogStep) (come : Comes start e
       by true is =
           let old = marked_step (is_decision tx) (before tx.tc) is in
           let same : old.step ≡ e =
-          one_decided start now (run_logs start (e ∷ es) come.now) (run_causal start (e ∷ es) come.now) tx tx.tc h old.step e
+          one_decided start now (run_logs start (e ∷ es) come.now) (run_is_causal start (e ∷ es) come.now) tx tx.tc h old.step e
           (in_past old.step (log_of-past (machine start) e es tx.tc) old.inside) here old.marked marked in
           let after : is_after (machine start) e old.step ≡ true = each_in (λ f. is_after (machine start) e f ≡ true) old.step (before tx.tc) (each_log (machine start) (λ f. is_after (machine start) e f ≡ true) es tx.tc turn) old.inside in
           absurd (let both : false ≡ true = sym (not_after_self e.stamp h) ∙ subst (λ f. is_after (machine start) e f ≡ true) same after in cc)

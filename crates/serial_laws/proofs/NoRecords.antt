@@ -1,5 +1,5 @@
 -- Which events make a record of a transaction, and which end one.
-use Rattle.std.proofs.Common.{◌≡◌, ◌⊎◌, ℕ, Bool, true, false, List, [], ◌∷◌, refl, sym, ap, ◌∙◌, subst, inl, inr}
+use Rattle.std.proofs.Common.{◌≡◌, ℕ, Bool, true, false, List, [], ◌∷◌, refl, sym, ap, ◌∙◌, subst}
 use Rattle.std.specs.Prelude.{if◌then◌else◌, is_some, Option, None, Some}
 use Rattle.run_theory.specs.Lists.{Each}
 use Rattle.sig_core.specs.declared.member.TxId.{TxId}
@@ -20,7 +20,7 @@ use Rattle.lqh_block.specs.Work.{work_mode}
 use Rattle.commit_laws.specs.Firsts.{first}
 use Rattle.commit_laws.specs.Records.{AreOnce, edited, found, put_back, seen_by}
 use Rattle.commit_laws.specs.Replica.{Cell, Event, Replica, aborts, ages, asked_by, asks, commits, completes, expires, is_let_in, key_after, operated, rests, served_by, serves, storing, worked}
-use Rattle.commit_laws.proofs.RecordLemmas.{KeepsTx, found-stored}
+use Rattle.commit_laws.proofs.RecordLemmas.{found-stored}
 use Rattle.row_locks.proofs.TxLemmas.{same_tx-is}
 use Rattle.serial_laws.proofs.RowPrepares.{aborts_none, ages_none, commits_none, completes_none}
 

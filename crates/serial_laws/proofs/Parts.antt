@@ -18,8 +18,7 @@ use Rattle.world_core.specs.Marks.{has_mark, have_mark}
 use Rattle.world_core.specs.Start.{Start}
 use Rattle.world_core.proofs.Stamped.{stamped}
 use Rattle.commit_laws.specs.Laws.{IsClosedCut}
-use Rattle.commit_laws.specs.Ways.{Way, back, back_by, forth, forth_by, neither, put_ways, sent_ways, tc_sends, way_of}
-use Rattle.commit_laws.proofs.Causal.{AreCausal, cuts_are_causal}
+use Rattle.commit_laws.specs.Ways.{Way, back, back_by, closes, forth, forth_by, neither, put_ways, sent_ways, tc_sends, way_of}
 use Rattle.transit_laws.specs.GivenUp.{is_carried_out, is_given_up}
 use Rattle.transit_laws.specs.Transit.{Comes, IsRun, logs_of}
 use Rattle.transit_laws.proofs.Transit.{comes, earlier}
@@ -47,20 +46,9 @@ part_turn start es all past turn = by past.newer (subst (IsByTurn (machine start
 pub part_logs : (start : Start) (es all : List LogStep) → IsPast es all → (h : ℕ) → IsPast (logs_of start es h) (logs_of start all h)
 part_logs start es all past h = record { newer = logs_of start past.newer h; is = ap (λ w. logs_of start w h) past.is ∙ log_of-append (machine start) past.newer es h }
 
--- the logs of a run are right, and keep to causes
+-- the logs of a run are right
 pub run_logs : (start : Start) (es : List LogStep) → IsRun start es → AreLogs (machine start) (logs_of start es)
 run_logs start es run = logs_of_run (machine start) es run.run
-
-pub run_cut : (start : Start) (es : List LogStep) → IsRun start es → IsClosedCut start (logs_of start es) (logs_of start es)
-run_cut start es run = record {
-  within = run.within;
-  right = run_logs start es run;
-  cut = λ h. past_self (logs_of start es h);
-  closed = closed_of_logs (machine start) (stamped start) (logs_of start es) (run_logs start es run);
-}
-
-pub run_causal : (start : Start) (es : List LogStep) → IsRun start es → AreCausal start (logs_of start es)
-run_causal start es run = cuts_are_causal start (logs_of start es) (logs_of start es) (run_cut start es run)
 
 -- marks stay
 pub mark_past : (test : Mark → Bool) (log all : List LogStep) → IsPast log all → has_mark test log ≡ true → has_mark test all ≡ true
@@ -84,11 +72,13 @@ module _ (start : Start) (tx : TxId) where
   forth_more : (w : Way) (before : List TxId) → list_any (same_tx tx) before ≡ true → list_any (same_tx tx) (forth_by w before) ≡ true
   forth_more (forth v) before has = or_right (same_tx tx v) (list_any (same_tx tx) before) has
   forth_more (back v) before has = has
+  forth_more (closes v) before has = has
   forth_more neither before has = has
 
   back_more : (w : Way) (before : List TxId) → list_any (same_tx tx) before ≡ true → list_any (same_tx tx) (back_by w before) ≡ true
   back_more (forth v) before has = has
   back_more (back v) before has = or_right (same_tx tx v) (list_any (same_tx tx) before) has
+  back_more (closes v) before has = has
   back_more neither before has = has
 
   module _ (f : Way → List TxId → List TxId) (more : (w : Way) (before : List TxId) → list_any (same_tx tx) before ≡ true → list_any (same_tx tx) (f w before) ≡ true) where

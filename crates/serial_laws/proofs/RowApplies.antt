@@ -1,5 +1,5 @@
 -- What a step of the rows of a node marks as applied: a record that is committed at the first place of its chain.
-use Rattle.std.proofs.Common.{◌≡◌, ◌==◌, ℕ, Bool, true, false, ◌||◌, List, [], ◌∷◌, refl, sym, ap, ◌∙◌, subst}
+use Rattle.std.proofs.Common.{◌≡◌, ◌==◌, ℕ, Bool, true, false, List, refl, sym, ap, ◌∙◌}
 use Rattle.std.specs.List.{list_any}
 use Rattle.std.specs.Prelude.{if◌then◌else◌, is_some, Option, None, Some}
 use Rattle.sig_core.specs.declared.mark.Mark.{Mark}
@@ -28,7 +28,7 @@ use Rattle.lqh_block.specs.State.{LqhState, storage_of}
 use Rattle.world_core.specs.History.{is_applied}
 use Rattle.commit_laws.specs.Firsts.{first}
 use Rattle.commit_laws.specs.Records.{found}
-use Rattle.commit_laws.specs.Replica.{Event, aborts, ages, asks, cell_at, commits, completes, event_at, expired_by, expires, expires_if, if_on, is_refused, rests, serves, serves_if}
+use Rattle.commit_laws.specs.Replica.{Event, aborts, asks, cell_at, commits, completes, event_at, expires, expires_if, if_on, is_refused, rests, serves, serves_if}
 use Rattle.commit_laws.proofs.Keys.{same_key-self, same_tx-self}
 use Rattle.serial_laws.proofs.RowMarks.{alone, alone_so, dump_none, expire_none, granted_none, never, request_none, state_found, wait_none}
 

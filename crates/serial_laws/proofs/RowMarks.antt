@@ -1,8 +1,8 @@
 -- What a step of the rows of a node marks, key by key: what is prepared, applied and done with.
-use Rattle.std.proofs.Common.{◌≡◌, ◌==◌, ℕ, Bool, true, false, ◌&&◌, ◌||◌, List, [], ◌∷◌, refl, sym, ap, ◌∙◌, subst}
-use Rattle.std.proofs.lemmas.Bool.{and_from, and_parts, or_from}
+use Rattle.std.proofs.Common.{◌≡◌, ◌==◌, ℕ, Bool, true, false, ◌&&◌, ◌||◌, List, refl, sym, ap, ◌∙◌, subst}
+use Rattle.std.proofs.lemmas.Bool.{and_parts, or_from}
 use Rattle.std.specs.List.{list_any}
-use Rattle.std.specs.Prelude.{if◌then◌else◌, is_some, position, remove, slice_get, Option, None, Some}
+use Rattle.std.specs.Prelude.{if◌then◌else◌, remove, slice_get, Option, None, Some}
 use Rattle.sig_core.specs.declared.mark.Mark.{Mark}
 use Rattle.sig_core.specs.declared.mark.Mark.TheVariants as mark
 use Rattle.sig_core.specs.declared.member.Member.{Member}
@@ -20,7 +20,7 @@ use Rattle.sig_core.specs.declared.signal.client.ClientSignal.TheVariants.{LqhWa
 use Rattle.sig_core.specs.declared.signal.host.HostSignal.TheVariants.{Round, Continue}
 use Rattle.sig_core.specs.declared.signal.host.Work.TheVariants as work
 use Rattle.sig_core.specs.Op.{answer_to, image_of, key_of}
-use Rattle.sig_core.specs.Rows.{RowsState, is_full, prepared, record_state, seen, state_by}
+use Rattle.sig_core.specs.Rows.{RowsState, record_state, seen, state_by}
 use Rattle.sig_core.specs.Same.{same_key, same_tx}
 use Rattle.row_locks.specs.declared.mode.Lock.{Lock}
 use Rattle.row_locks.specs.declared.mode.Lock.TheVariants.{Granted, Queued}
@@ -40,14 +40,10 @@ use Rattle.lqh_block.specs.State.{LqhState, storage_of, with_waiting}
 use Rattle.lqh_block.specs.Storage as storage
 use Rattle.lqh_block.specs.Storage.{StorageState}
 use Rattle.lqh_block.specs.Wait as wait
-use Rattle.world_core.specs.History.{is_applied}
-use Rattle.world_core.specs.Rest.{is_done, is_prepared}
+use Rattle.world_core.specs.Rest.{is_done}
 use Rattle.commit_laws.specs.Primary.{HasPrepared}
-use Rattle.commit_laws.specs.Records.{found, stored}
-use Rattle.commit_laws.specs.Replica.{Event, aborts, cell_at, commits, completes, event_at, if_on, rests}
-use Rattle.commit_laws.proofs.CellsAt.{cell-storing}
-use Rattle.commit_laws.proofs.Keys.{same_key-self}
-use Rattle.commit_laws.proofs.RecordLemmas.{found-stored}
+use Rattle.commit_laws.specs.Records.{found}
+use Rattle.commit_laws.specs.Replica.{Event, aborts, cell_at, completes, event_at, if_on, rests}
 use Rattle.commit_laws.proofs.RecordsAt.{first-found, record_of-first}
 
 -- a mark that stands alone

@@ -1,8 +1,8 @@
 -- A new record on a key is marked as prepared.
-use Rattle.std.proofs.Common.{◌≡◌, ◌==◌, ℕ, Bool, true, false, ◌&&◌, ◌||◌, List, [], ◌∷◌, refl, sym, ap, ◌∙◌, subst}
+use Rattle.std.proofs.Common.{◌≡◌, ◌==◌, ℕ, Bool, true, false, ◌&&◌, ◌||◌, List, refl, sym, ap, ◌∙◌}
 use Rattle.std.proofs.lemmas.Bool.{and_from}
 use Rattle.std.specs.List.{list_any}
-use Rattle.std.specs.Prelude.{if◌then◌else◌, is_some, position, remove, slice_get, Option, None, Some}
+use Rattle.std.specs.Prelude.{if◌then◌else◌, is_some, remove, slice_get, Option, None, Some}
 use Rattle.sig_core.specs.declared.mark.Mark.{Mark}
 use Rattle.sig_core.specs.declared.member.Member.{Member}
 use Rattle.sig_core.specs.declared.member.TxId.{TxId}
@@ -34,7 +34,7 @@ use Rattle.lqh_block.specs.Storage as storage
 use Rattle.lqh_block.specs.Storage.{StorageState}
 use Rattle.world_core.specs.Rest.{is_prepared}
 use Rattle.commit_laws.specs.Records.{as_committed, found, if_committed, unless_committed}
-use Rattle.commit_laws.specs.Replica.{Event, Replica, aborts, ages, asks, at_key, cell_at, commits, completes, event_at, expired_by, expires, expires_if, if_on, key_after, rests, serves, storing}
+use Rattle.commit_laws.specs.Replica.{Event, Replica, aborts, ages, at_key, cell_at, commits, completes, event_at, expired_by, expires, expires_if, if_on, key_after, rests, storing}
 use Rattle.commit_laws.specs.ReplicaLaws.{IsWell}
 use Rattle.commit_laws.proofs.CellsAt.{cell-storing}
 use Rattle.commit_laws.proofs.RecordLemmas.{committed_keeps, found-stored, if_keeps, none-edited, unless_keeps}

@@ -1,5 +1,5 @@
 -- The serial law, from what the machine owes each key.
-use Rattle.std.proofs.Common.{◌≡◌, ℕ, List, sym, subst, arith}
+use Rattle.std.proofs.Common.{List, sym, subst, arith}
 use Rattle.run_theory.specs.Orders.{merged}
 use Rattle.run_theory.specs.Runs.{IsWithin}
 use Rattle.run_theory.proofs.Along.{within_cut}

@@ -1,9 +1,9 @@
 -- An event either decides a transaction that is carried out, or changes nothing of what is decided and of the history.
-use Rattle.std.proofs.Common.{◌≡◌, ◌⊎◌, ℕ, Bool, true, false, not, ◌&&◌, List, [], ◌∷◌, ◌++◌, filter, refl, sym, ap, ◌∙◌, subst, inl, inr}
+use Rattle.std.proofs.Common.{◌≡◌, ℕ, Bool, true, false, not, List, [], ◌∷◌, ◌++◌, filter, refl, sym, ap, ◌∙◌, subst}
 use Rattle.std.proofs.lemmas.Bool.{and_left}
 use Rattle.std.specs.List.{list_any}
-use Rattle.std.specs.Prelude.{if◌then◌else◌, Option, None, Some}
-use Rattle.run_theory.specs.Lists.{Each, IsIn, IsPast}
+use Rattle.std.specs.Prelude.{if◌then◌else◌, None, Some}
+use Rattle.run_theory.specs.Lists.{IsIn, IsPast}
 use Rattle.run_theory.proofs.Pasts.{past_less}
 use Rattle.sig_core.specs.declared.entry.Entry.{Entry}
 use Rattle.sig_core.specs.declared.log.LogStep.{LogStep}
@@ -14,7 +14,6 @@ use Rattle.sig_core.specs.declared.op.Op.{Op}
 use Rattle.sig_core.specs.declared.place.BlockId.{BlockId}
 use Rattle.sig_core.specs.declared.place.BlockId.TheVariants as block
 use Rattle.sig_core.specs.declared.place.Place.{Place}
-use Rattle.sig_core.specs.declared.signal.Body.{Body}
 use Rattle.sig_core.specs.declared.signal.Body.TheVariants.{Epoch}
 use Rattle.sig_core.specs.declared.signal.epoch.EpochSignal.TheVariants.{DiVerifyReq}
 use Rattle.sig_core.specs.Same.{same_tx}

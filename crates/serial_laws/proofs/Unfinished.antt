@@ -1,5 +1,5 @@
 -- Where there is a record of a transaction, its write of the key was prepared and isn't done with.
-use Rattle.std.proofs.Common.{◌≡◌, ◌≢◌, ◌⊎◌, ℕ, Bool, true, false, ◌||◌, List, [], ◌∷◌, ◌++◌, refl, sym, ap, ◌∙◌, subst, inl, inr}
+use Rattle.std.proofs.Common.{◌≡◌, ◌≢◌, ◌⊎◌, ℕ, Bool, true, false, List, [], ◌∷◌, ◌++◌, refl, sym, ap, ◌∙◌, subst, inl, inr}
 use Rattle.std.proofs.lemmas.Bool.{cases_eq, or_from}
 use Rattle.std.specs.List.{list_any}
 use Rattle.std.specs.Prelude.{if◌then◌else◌, is_some, Option, None, Some}
@@ -12,13 +12,12 @@ use Rattle.world_core.specs.Machine.{after, machine}
 use Rattle.world_core.specs.Marks.{has_mark}
 use Rattle.world_core.specs.Rest.{IsSettled, is_done, is_prepared}
 use Rattle.world_core.specs.Start.{Start}
-use Rattle.commit_laws.specs.Primary.{HasPrepared}
 use Rattle.commit_laws.specs.Records.{AreOnce, found, if_committed, unless_committed}
 use Rattle.commit_laws.specs.Replica.{Event, Replica, aborts, ages, asks, commits, completes, expires, key_after, rests, serves}
 use Rattle.commit_laws.specs.ReplicaLaws.{key_in}
 use Rattle.commit_laws.proofs.Keys.{same_tx-self}
 use Rattle.commit_laws.proofs.Replicas.{logs_keep_well}
-use Rattle.transit_laws.specs.Circle.{at_host, at_primary}
+use Rattle.transit_laws.specs.Circle.{at_host}
 use Rattle.transit_laws.specs.Owed.{IsOwed}
 use Rattle.transit_laws.specs.Routes.{primary}
 use Rattle.transit_laws.specs.Transit.{Comes, logs_of}

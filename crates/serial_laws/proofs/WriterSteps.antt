@@ -1,12 +1,11 @@
 -- Who is decided and has a record writes, and so does who is applied: one event more.
-use Rattle.std.proofs.Common.{◌≡◌, ◌≢◌, ◌⊎◌, ℕ, Bool, true, false, cond, ◌||◌, List, [], ◌∷◌, filter, refl, sym, ap, ◌∙◌, subst, inl, inr, arith}
+use Rattle.std.proofs.Common.{◌≡◌, ◌≢◌, ◌⊎◌, ℕ, Bool, true, false, cond, ◌||◌, List, [], ◌∷◌, refl, sym, ap, ◌∙◌, subst, inl, inr, arith}
 use Rattle.std.proofs.lemmas.Bool.{cases_eq, or_cases, or_left, or_right}
 use Rattle.std.specs.List.{list_any}
 use Rattle.std.specs.Prelude.{zero, suc, is_some, Option, None, Some}
-use Rattle.run_theory.specs.Lists.{Each, IsIn, IsPast}
+use Rattle.run_theory.specs.Lists.{Each, IsPast}
 use Rattle.run_theory.proofs.Pasts.{each_map, past_less, past_more, past_self}
 use Rattle.run_theory.proofs.Runs.{log_of-other, log_of-own}
-use Rattle.sig_core.specs.declared.entry.Entry.{Entry}
 use Rattle.sig_core.specs.declared.log.LogStep.{LogStep}
 use Rattle.sig_core.specs.declared.member.TxId.{TxId}
 use Rattle.sig_core.specs.declared.op.Answer.{Answer}
@@ -16,16 +15,14 @@ use Rattle.sig_core.specs.Op.{key_of}
 use Rattle.sig_core.specs.Same.{same_key, same_tx}
 use Rattle.row_locks.proofs.TxLemmas.{same_tx-is}
 use Rattle.lqh_block.specs.declared.request.Request.{Request}
-use Rattle.world_core.specs.Entries.{entries}
 use Rattle.world_core.specs.History.{is_applied, is_done}
-use Rattle.world_core.specs.Machine.{after, hosts, machine}
+use Rattle.world_core.specs.Machine.{after, machine}
 use Rattle.world_core.specs.Marks.{has_mark}
 use Rattle.world_core.specs.Start.{Start}
 use Rattle.commit_laws.specs.OneKey.{ops_on}
-use Rattle.commit_laws.specs.Primary.{ended_too}
 use Rattle.commit_laws.specs.Records.{found}
 use Rattle.commit_laws.specs.Replica.{Event, Replica, aborts, ages, asks, commits, completes, expires, key_after, rests, serves}
-use Rattle.transit_laws.specs.Circle.{Agree, IsSettledFor, at_host, at_primary}
+use Rattle.transit_laws.specs.Circle.{Agree, at_host, at_primary}
 use Rattle.transit_laws.specs.Owed.{IsOwed, IsUndecided}
 use Rattle.transit_laws.specs.Transit.{Comes, IsRun, logs_of}
 use Rattle.serial_laws.specs.Owing.{AreOwed}
@@ -35,7 +32,7 @@ use Rattle.serial_laws.proofs.HostSteps.{IsNode, after_node, host_applied}
 use Rattle.serial_laws.proofs.KeySteps.{event_of, host_other, host_own}
 use Rattle.serial_laws.proofs.Members.{IsNodeOf, node_replica}
 use Rattle.serial_laws.proofs.NoRecords.{IsOfOthers, one_before}
-use Rattle.serial_laws.proofs.StepKinds.{IsDecision, StepKind, decision, quiet}
+use Rattle.serial_laws.proofs.StepKinds.{StepKind, decision, quiet}
 use Rattle.serial_laws.proofs.Turns.{ComesAfter, IsByTurn}
 
 -- the host of a node has one

@@ -1,2 +1,6 @@
-//! The serial law, from what the machine owes each key.
+//! The serial law: the history of every closed cut is a serial history.
 #![tactic(auto)]
+
+mod laws;
+
+pub use laws::owed_makes_serial;

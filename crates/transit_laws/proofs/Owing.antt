@@ -33,8 +33,9 @@ use Rattle.commit_laws.proofs.Keys.{same_tx-self}
 use Rattle.commit_laws.specs.Firsts.{first}
 use Rattle.commit_laws.specs.Replica.{Event, asks, commits, expires_if, if_on, is_refused, rests, serves_if}
 use Rattle.commit_laws.specs.ReplicaLaws.{event_for, event_in}
-use Rattle.transit_laws.specs.Beside.{ComersAreUndecided, CommitsAreDecided, NoneWaitBeside, NoneWaitWhereCarriedOut}
+use Rattle.transit_laws.specs.Beside.{ComersAreUndecided, NoneWaitBeside, NoneWaitWhereCarriedOut}
 use Rattle.transit_laws.specs.Completions.{CompletionsFollowCommits}
+use Rattle.transit_laws.specs.Decided.{CommitsAreDecided}
 use Rattle.transit_laws.specs.GivenUp.{AbortsAreOfGivenUp, CommitsAreOfCarriedOut, CompletionsAreOfCarriedOut, is_carried_out}
 use Rattle.transit_laws.specs.Owed.{EventsAreOwed, IsOwed}
 use Rattle.transit_laws.specs.Routes.{CommitsEndAtPrimary, RequestsAreForReplicas, primary}

@@ -1,6 +1,6 @@
 -- What each row of a coordinator does to a transaction as to its epoch: it asks for one when it is open, and waits until it has
 -- one or is given up.
-use Rattle.std.proofs.Common.{◌≡◌, ◌≢◌, ◌⊎◌, ℕ, ◌+◌, ◌==◌, Bool, true, false, ◌&&◌, ◌||◌, List, [], ◌∷◌, ◌++◌, length, take, refl, sym, ap, ◌∙◌, subst, inl, inr, arith}
+use Rattle.std.proofs.Common.{◌≡◌, ◌≢◌, ◌⊎◌, ℕ, ◌==◌, Bool, true, false, ◌&&◌, ◌||◌, List, [], ◌∷◌, ◌++◌, length, take, refl, sym, ap, ◌∙◌, subst, inl, inr, arith}
 use Rattle.std.specs.List.{flat_map, list_any}
 use Rattle.std.specs.Prelude.{map, nat_lt, Option, None, Some}
 use Rattle.std.proofs.lemmas.Bool.Decides.{nat_tests}
@@ -13,19 +13,14 @@ use Rattle.sig_core.specs.declared.op.Op.{Op}
 use Rattle.sig_core.specs.declared.outcome.AbortCause.{AbortCause}
 use Rattle.sig_core.specs.declared.outcome.AbortCause.TheVariants as cause
 use Rattle.sig_core.specs.declared.outs.Outgoing.{Outgoing}
-use Rattle.sig_core.specs.declared.place.Place.{Place}
 use Rattle.sig_core.specs.declared.signal.Body.{Body}
-use Rattle.sig_core.specs.declared.signal.Body.TheVariants.{Host, Client, Chain, Epoch}
-use Rattle.sig_core.specs.declared.signal.chain.ChainSignal.TheVariants.{LqhKeyConf, LqhKeyRef, Committed, Completed, Aborted}
-use Rattle.sig_core.specs.declared.signal.client.ClientSignal.TheVariants.{TcKeyReq, TcCommitReq, TcRollbackReq, TcWaitReq}
+use Rattle.sig_core.specs.declared.signal.Body.TheVariants.{Epoch}
 use Rattle.sig_core.specs.declared.signal.epoch.EpochSignal.TheVariants.{DiVerifyReq, DiVerifyConf}
-use Rattle.sig_core.specs.declared.signal.host.HostSignal.TheVariants.{Continue}
-use Rattle.sig_core.specs.declared.signal.host.Work.TheVariants as work
 use Rattle.sig_core.specs.declared.view.View.{View}
 use Rattle.sig_core.specs.Op.{key_of}
 use Rattle.sig_core.specs.Place.{epochs}
 use Rattle.sig_core.specs.Same.{same_tx}
-use Rattle.sig_core.specs.Step.{stay, to_place}
+use Rattle.sig_core.specs.Step.{to_place}
 use Rattle.tc_block.specs.Abort as abort
 use Rattle.tc_block.specs.Chain.{chain_of}
 use Rattle.tc_block.specs.Commit as commit
@@ -39,7 +34,7 @@ use Rattle.tc_block.specs.declared.phase.Phase.{Phase}
 use Rattle.tc_block.specs.declared.phase.Phase.TheVariants.{Open, Verifying, Committing, Completing, Aborting}
 use Rattle.tc_block.specs.declared.touched.Touched.{Touched}
 use Rattle.tc_block.specs.declared.transaction.Transaction.{Transaction}
-use Rattle.tc_block.specs.Turn.{Turn, going}
+use Rattle.tc_block.specs.Turn.{Turn, at_phase, going}
 use Rattle.commit_laws.specs.Kinds.{kind_of}
 use Rattle.commit_laws.specs.Ways.{Way, back, way_of}
 use Rattle.commit_laws.proofs.Keys.{same_tx-self}
@@ -70,18 +65,20 @@ is_mute body = true
 abbrev pub AreMute : List Outgoing → Type 0
 AreMute sends = Each (λ (o : Outgoing). is_mute o.body ≡ true) sends
 
--- one signal asks for an epoch, with the operations of a transaction that is open
-pub record IsAsking (tx : TxId) (t : Transaction) (sends : List Outgoing) : Type 0 where
+-- one signal asks for an epoch, with the operations of a transaction that was open, and waits for it then
+pub record IsAsking (tx : TxId) (t : Transaction) (turn : Turn) : Type 0 where
   pub node : ℕ
   pub was : t.phase ≡ Open
-  pub is : sends ≡ to_place (epochs node) (Epoch (DiVerifyReq tx t.ops)) ∷ []
+  pub free : t.asked ≡ None
+  pub left : left_by turn ≡ Some (at_phase t Verifying)
+  pub is : turn.step.effects.sends ≡ to_place (epochs node) (Epoch (DiVerifyReq tx t.ops)) ∷ []
 
 -- what becomes of one that waits for its epoch: it waits on, was given the epoch, or is given up
 abbrev pub IsLate : TxId → Body → Transaction → Turn → Type 0
 IsLate tx body t turn = (left_by turn ≡ Some t) ⊎ ((is_conf tx body ≡ true) ⊎ (list_any (λ (o : Outgoing). is_back tx (way_of o.body)) turn.step.effects.sends ≡ true))
 
 pub record AskTurn (tx : TxId) (body : Body) (t : Transaction) (turn : Turn) : Type 0 where
-  pub sends : AreMute turn.step.effects.sends ⊎ IsAsking tx t turn.step.effects.sends
+  pub sends : AreMute turn.step.effects.sends ⊎ IsAsking tx t turn
   pub late : t.phase ≡ Verifying → t.asked ≡ None → IsLate tx body t turn
 
 mute_of : (tx : TxId) (body : Body) → SaysOf tx (Unit {0}) (kind_of body) → is_mute body ≡ true
@@ -143,14 +140,15 @@ module _ (tx : TxId) where
           (λ zero_is. absurd (grind (arith, nat_tests, is, zero_is, ap (abort.asked_count view) none))))
 
   module _ (t : Transaction) where
-    abbrev rests_on : Turn → Type 0
-    rests_on turn = t.phase ≡ Verifying → t.asked ≡ None → left_by turn ≡ Some t
+    -- if it waits for its epoch, it is as before
+    abbrev RestsOn : Turn → Type 0
+    RestsOn turn = t.phase ≡ Verifying → t.asked ≡ None → left_by turn ≡ Some t
 
     -- a turn that asks for nothing, after which it waits on if it did
-    mute_turn : (body : Body) (turn : Turn) → AllSay tx (Unit {0}) turn.step.effects.sends → rests_on turn → AskTurn tx body t turn
+    mute_turn : (body : Body) (turn : Turn) → AllSay tx (Unit {0}) turn.step.effects.sends → RestsOn turn → AskTurn tx body t turn
     mute_turn body turn says rests = record { sends = inl (all_mute tx turn.step.effects.sends says); late = λ v none. inl (rests v none) }
 
-    go_on_rests : (node : ℕ) (view : View) (at : ℕ) → rests_on (going (go_on_row node view tx t at))
+    go_on_rests : (node : ℕ) (view : View) (at : ℕ) → RestsOn (going (go_on_row node view tx t at))
     unfolding go_on_row
     go_on_rests node view at v none = by (nat_lt at 512)
       where
@@ -162,14 +160,14 @@ module _ (tx : TxId) where
     go_on_asks node view at body =
         mute_turn body (going (go_on_row node view tx t at)) (go_on_goes tx (Unit {0}) node view t at (λ is. tt)).sends (go_on_rests node view at)
 
-    operate_rests : (view : View) (op : Op) → rests_on (going (operate.operate_row view tx t op))
+    operate_rests : (view : View) (op : Op) → RestsOn (going (operate.operate_row view tx t op))
     unfolding operate.operate_row
     operate_rests view op v none = ap (λ p. left_by (going (operate.operate_if view tx t op (operate.is_ready p t.asked && fits t.touched (key_of op))))) v
 
     pub operate_asks : (view : View) (op : Op) (body : Body) → AskTurn tx body t (going (operate.operate_row view tx t op))
     operate_asks view op body = mute_turn body (going (operate.operate_row view tx t op)) (operate_goes tx (Unit {0}) view t op (λ is. tt)).sends (operate_rests view op)
 
-    answer_rests : (view : View) (key : List ℕ) (answer : Answer) → rests_on (going (operate.answer_row view tx t key answer))
+    answer_rests : (view : View) (key : List ℕ) (answer : Answer) → RestsOn (going (operate.answer_row view tx t key answer))
     unfolding operate.answer_row
     answer_rests view key answer v none = by (operate.asked_on t.asked key)
       where
@@ -180,12 +178,20 @@ module _ (tx : TxId) where
     pub answer_asks : (view : View) (key : List ℕ) (answer : Answer) (body : Body) → AskTurn tx body t (going (operate.answer_row view tx t key answer))
     answer_asks view key answer body = mute_turn body (going (operate.answer_row view tx t key answer)) (answer_goes tx (Unit {0}) view t key answer (λ is. tt)).sends (answer_rests view key answer)
 
-    wait_rests : rests_on (going (operate.wait_row tx t))
+    wait_rests : RestsOn (going (operate.wait_row tx t))
     unfolding operate.wait_row
     wait_rests v none = ap (λ o. left_by (going (operate.wait_by tx t o))) none
 
     pub wait_asks : (body : Body) → AskTurn tx body t (going (operate.wait_row tx t))
     wait_asks body = mute_turn body (going (operate.wait_row tx t)) (wait_goes tx (Unit {0}) t (λ is. tt)).sends wait_rests
+
+    ready_free : (phase : Phase) (asked : Option Asked) → operate.is_ready phase asked ≡ true → asked ≡ None
+    ready_free Open None is = refl
+    ready_free Open (Some asked) is = absurd cc
+    ready_free Verifying asked is = absurd cc
+    ready_free (Committing epoch awaited) asked is = absurd cc
+    ready_free (Completing epoch awaited) asked is = absurd cc
+    ready_free (Aborting why verifying awaited) asked is = absurd cc
 
     ready_open : (phase : Phase) (asked : Option Asked) → operate.is_ready phase asked ≡ true → phase ≡ Open
     ready_open Open asked is = refl
@@ -203,7 +209,7 @@ module _ (tx : TxId) where
       where
         by : (b : Bool) → operate.is_ready t.phase t.asked ≡ b → AskTurn tx body t (going (commit.decide_if node tx t b))
         by true is = record {
-          sends = inr (record { node = node; was = ready_open t.phase t.asked is; is = refl });
+          sends = inr (record { node = node; was = ready_open t.phase t.asked is; free = ready_free t.phase t.asked is; left = refl; is = refl });
           late = λ v none. open_waits t.phase (ready_open t.phase t.asked is) v;
         }
         by false is = record { sends = inl tt; late = λ v none. inl refl }
@@ -214,28 +220,28 @@ module _ (tx : TxId) where
       late = λ v none. inr (inl (same_tx-self tx));
     }
 
-    committed_rests : (node : ℕ) (view : View) → rests_on (commit.committed_row node view tx t)
+    committed_rests : (node : ℕ) (view : View) → RestsOn (commit.committed_row node view tx t)
     unfolding commit.committed_row
     committed_rests node view v none = ap (λ p. left_by (commit.committed_by node view tx t p)) v
 
     pub committed_asks : (node : ℕ) (view : View) (body : Body) → AskTurn tx body t (commit.committed_row node view tx t)
     committed_asks node view body = mute_turn body (commit.committed_row node view tx t) (committed_goes tx (Unit {0}) node view t (λ is. tt)).sends (committed_rests node view)
 
-    completed_rests : (node : ℕ) → rests_on (complete.completed_row node tx t)
+    completed_rests : (node : ℕ) → RestsOn (complete.completed_row node tx t)
     unfolding complete.completed_row
     completed_rests node v none = ap (λ p. left_by (complete.completed_by node tx t p)) v
 
     pub completed_asks : (node : ℕ) (body : Body) → AskTurn tx body t (complete.completed_row node tx t)
     completed_asks node body = mute_turn body (complete.completed_row node tx t) (completed_goes tx (Unit {0}) node t (λ is. tt)).sends (completed_rests node)
 
-    aborted_rests : (node : ℕ) → rests_on (abort.aborted_row node tx t)
+    aborted_rests : (node : ℕ) → RestsOn (abort.aborted_row node tx t)
     unfolding abort.aborted_row
     aborted_rests node v none = ap (λ p. left_by (abort.aborted_by node tx t p)) v
 
     pub aborted_asks : (node : ℕ) (body : Body) → AskTurn tx body t (abort.aborted_row node tx t)
     aborted_asks node body = mute_turn body (abort.aborted_row node tx t) (aborted_goes tx (Unit {0}) node t (λ is. tt)).sends (aborted_rests node)
 
-    refuse_rests : (node : ℕ) (view : View) (key : List ℕ) (why : AbortCause) → rests_on (abort.refuse_row node view tx t key why)
+    refuse_rests : (node : ℕ) (view : View) (key : List ℕ) (why : AbortCause) → RestsOn (abort.refuse_row node view tx t key why)
     unfolding abort.refuse_row
     refuse_rests node view key why v none = ap (λ o. left_by (abort.refuse_by node view tx t key why (operate.asked_on o key) t.phase)) none
 

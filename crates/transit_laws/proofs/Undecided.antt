@@ -31,7 +31,8 @@ use Rattle.transit_laws.proofs.OneAtATime.{one_at_a_time}
 use Rattle.transit_laws.proofs.TcSound.{IsSoundHost, log_sound}
 use Rattle.transit_laws.proofs.TcTokens.{IsOwned}
 use Rattle.transit_laws.proofs.TcTurns.{idle}
-use Rattle.transit_laws.proofs.Verified.{decided_asked, run_causal}
+use Rattle.transit_laws.proofs.Decided.{run_is_causal}
+use Rattle.transit_laws.proofs.Verified.{decided_asked}
 
 -- one that is neither open nor aborted has no operation unanswered
 not_asking : (phase : Phase) → phases.is_open phase ≡ false → is_aborting phase ≡ false → may_ask phase ≡ false
@@ -80,7 +81,7 @@ decided_have_none start es xs tx run transit decided kept =
       one_at_a_time start es xs tx run transit,
       ap (λ b. budget_by b (live_at start logs tx)) kept,
       none_by tx tx.tc _ _ (sent_kinds start begun_by tx.tc (logs tx.tc)) (sent_ways start back_by tx.tc (logs tx.tc)) (sent_kinds start verified_by tx.tc (logs tx.tc)) (after start tx.tc (logs tx.tc))
-          (log_sound start tx.tc (logs tx.tc)) ((run_causal start es run).knows tx.tc) (decided_asked start es run tx decided) kept,
+          (log_sound start tx.tc (logs tx.tc)) ((run_is_causal start es run).knows tx.tc) (decided_asked start es run tx decided) kept,
     )
   where
     logs : ℕ → List LogStep

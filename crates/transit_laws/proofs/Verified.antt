@@ -22,17 +22,13 @@ use Rattle.world_core.proofs.Stamped.{stamped}
 use Rattle.commit_laws.specs.Causes.{is_decision}
 use Rattle.commit_laws.specs.Kinds.{Kind, kind_of}
 use Rattle.commit_laws.specs.Kinds as kind
-use Rattle.commit_laws.proofs.Causal.{AreCausal, cuts_are_causal, sent_kinds}
+use Rattle.commit_laws.proofs.Causal.{sent_kinds}
 use Rattle.commit_laws.proofs.CausalFacts.{DecidesAt, DecidesRightly, request_other}
 use Rattle.commit_laws.proofs.Keys.{same_tx-self}
 use Rattle.commit_laws.proofs.TcNumbers.{put_kinds, verified_by}
 use Rattle.transit_laws.specs.Owed.{is_decided}
 use Rattle.transit_laws.specs.Transit.{IsRun, logs_of}
-use Rattle.transit_laws.proofs.DecidedSettled.{run_is_cut}
-
--- the logs of a run keep to causes
-pub run_causal : (start : Start) (es : List LogStep) → IsRun start es → AreCausal start (logs_of start es)
-run_causal start es run = cuts_are_causal start (logs_of start es) (logs_of start es) (run_is_cut start es run)
+use Rattle.transit_laws.proofs.Decided.{run_is_causal}
 
 -- for whom an epoch was asked stays so
 verified_more : (p : TxId → Bool) (sends : List Outgoing) (vs : List TxId) → list_any p vs ≡ true → list_any p (put_kinds verified_by sends vs) ≡ true
@@ -104,7 +100,7 @@ module _ (start : Start) (es : List LogStep) (run : IsRun start es) (tx : TxId) 
   pub decided_asked : is_decided logs tx ≡ true → asked_of tx.tc (logs tx.tc) ≡ true
   decided_asked decided =
       let m = marked_step (is_decision tx) (logs tx.tc) decided in
-      took m ((each_past (DecidesRightly logs) m.past ((run_causal start es run).decisions tx.tc)).0 tx m.marked)
+      took m ((each_past (DecidesRightly logs) m.past ((run_is_causal start es run).decisions tx.tc)).0 tx m.marked)
     where
       took : (m : Marked (is_decision tx) (logs tx.tc)) → DecidesAt logs m.step tx → asked_of tx.tc (logs tx.tc) ≡ true
       took m d = subst (λ k. asked_of k (logs k) ≡ true) d.from (by (is_request m.step.taken.body) refl)

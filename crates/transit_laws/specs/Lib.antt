@@ -1,6 +1,7 @@
 pub mod Beside
 pub mod Circle
 pub mod Completions
+pub mod Decided
 pub mod GivenUp
 pub mod Keyed
 pub mod Live
