@@ -40,7 +40,7 @@ use Rattle.answer_laws.proofs.Tally.{one_if}
 use Rattle.answer_laws.proofs.TcLives.{IsOwn}
 use Rattle.answer_laws.proofs.TcOwes.{IsKnown}
 use Rattle.answer_laws.proofs.TcSends.{same_tx-self, tx_in}
-use Rattle.transit_laws.specs.Circle.{IsSettled, VerifiedAreSettled, at_host}
+use Rattle.transit_laws.specs.Circle.{IsSettled, at_host}
 use Rattle.transit_laws.specs.Completions.{IsCommittedAtAll}
 use Rattle.transit_laws.specs.GivenUp.{is_carried_out, is_given_up}
 use Rattle.transit_laws.specs.Keyed.{IsHostKeyed, IsTouchedRightly, IsWrittenRightly}
@@ -65,6 +65,7 @@ use Rattle.transit_laws.proofs.StepFades.{StepFades, marks_at, now_other, now_ow
 use Rattle.transit_laws.proofs.TcOwn.{turn_for}
 use Rattle.transit_laws.proofs.TxSignals.{cover, is_part, is_sign, part_tells, part_weight, request_part, sign_part, weight}
 use Rattle.transit_laws.proofs.TxTurns.{AreSilent, left_by}
+use Rattle.transit_laws.proofs.VerifiedSettled.{verified_settled}
 use Rattle.transit_laws.proofs.Weighing.{each_joins, in_sends, in_transit, joins_weigh, none_weighs, takes_weigh, weigh_none}
 
 -- a signal that commits or completes a row of the transaction
@@ -96,7 +97,7 @@ is_home block.Dih = inr (λ e. cc)
 is_home block.Api = inr (λ e. cc)
 is_home _ = inr (λ e. cc)
 
-module _ (verified : VerifiedAreSettled) (start : Start) (es : List LogStep) (e : LogStep) (come : Comes start es e) (before between : List Signal) (transit : AreInTransit start es before) (takes : Takes e before between)
+module _ (start : Start) (es : List LogStep) (e : LogStep) (come : Comes start es e) (before between : List Signal) (transit : AreInTransit start es before) (takes : Takes e before between)
     (tx : TxId) (uncarried : is_carried_out start (logs_of start es) tx ≡ false) (ungiven : is_given_up start (logs_of start es) tx ≡ false) (none : in_transit (part tx) before ≡ 0) where
   abbrev h : ℕ
   h = e.taken.to.node
@@ -226,7 +227,7 @@ module _ (verified : VerifiedAreSettled) (start : Start) (es : List LogStep) (e 
     along phase = along_stays start (logs_of start es) (logs_of start (e ∷ es)) e tx fades t.touched (all t.touched routed keyed)
       where
         settled : IsSettled start (logs_of start es) tx t
-        settled = verified start es before tx t come.before transit ungiven live_was phase
+        settled = verified_settled start es before tx t come.before transit ungiven live_was phase
 
         routed : Each (IsTouchedRouted start) t.touched
         routed = (of_is (λ one u. IsTransactionRouted start u) (subst (IsHostRouted start h) is ((signals_are_routed start es before come.before transit).hosts h)).1.1).touched
