@@ -11,6 +11,7 @@ use Rattle.sig_core.specs.declared.view.View.{View}
 use Rattle.node_core.specs.Requests.{is_request}
 use Rattle.world_core.specs.Machine.{all_headed, counted, sent_count, signals_of, step_after}
 use Rattle.world_core.specs.Start.{Start, first_view}
+use Rattle.answer_laws.proofs.Tally.{one_if, tally}
 use Rattle.transit_laws.specs.Transit.{IsTaken, Takes, joined}
 
 -- the sum of f over a list
@@ -33,6 +34,15 @@ weigh_none f (x ∷ xs) none = omega (arith, none.0, weigh_none f xs none.1)
 pub none_weighs : {A : Type 0} (f : A → ℕ) (xs : List A) → weigh f xs ≡ 0 → Each (λ x. f x ≡ 0) xs
 none_weighs f [] none = tt
 none_weighs f (x ∷ xs) none = (omega (arith, none), none_weighs f xs (omega (arith, none)))
+
+-- where no item passes a test each fails it
+pub none_passes : {A : Type 0} (p : A → Bool) (xs : List A) → tally p xs ≡ 0 → Each (λ x. p x ≡ false) xs
+none_passes p [] none = tt
+none_passes p (x ∷ xs) none = by (p x) refl (none_passes p xs)
+  where
+    by : (b : Bool) → p x ≡ b → (tally p xs ≡ 0 → Each (λ y. p y ≡ false) xs) → (p x ≡ false) × Each (λ y. p y ≡ false) xs
+    by true e rest = absurd (omega (arith, none, ap one_if e))
+    by false e rest = (e, rest (omega (arith, none)))
 
 -- what signals weigh in transit, and as they are sent
 abbrev pub in_transit : (Place → Body → ℕ) → List Signal → ℕ

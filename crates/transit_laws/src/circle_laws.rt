@@ -1,16 +1,9 @@
 //! What a transaction has of a key is what the replicas made of it.
 ghost use Rattle.transit_laws.specs.Circle.{VerifiedAreSettled};
-ghost use Rattle.transit_laws.specs.Owed.{DecidedAreSettled};
 
 /// A transaction that waits for its epoch, and isn't given up, has no operation unanswered; and of
 /// each key it has what the key's primary answered, each replica has the primary's image prepared,
 /// or none where no answer was `Done`, and no other host has one.
 pub fn verified_are_settled()
     ensures { VerifiedAreSettled }
-{}
-
-/// So it is of a transaction that is decided in a step, and isn't given up: the step took the request
-/// for its epoch at the node of its coordinator, with the operations for which each key is settled.
-pub fn decided_are_settled()
-    ensures { DecidedAreSettled }
 {}
