@@ -1,18 +1,15 @@
 -- What the laws of signals in transit come to, for one key of a replica at each event, and at each decision.
-use Rattle.std.proofs.Common.{◌≡◌, ◌≢◌, ◌⊎◌, ℕ, Bool, true, false, List, refl, sym, ap, ◌∙◌, subst, arith, inl, inr, true≢false}
+use Rattle.std.proofs.Common.{◌≡◌, ℕ, Bool, true, false, List, refl, sym, ap, ◌∙◌, arith, true≢false}
 use Rattle.std.proofs.lemmas.Bool.{eqb-true}
 use Rattle.std.proofs.lemmas.Bool.Decides.{nat_tests}
-use Rattle.std.specs.List.{list_any}
 use Rattle.std.specs.Prelude.{◌==◌, if◌then◌else◌, Option, None, Some}
-use Rattle.run_theory.proofs.Pasts.{each_append, each_after}
-use Rattle.run_theory.specs.Lists.{Each}
 use Rattle.sig_core.specs.declared.log.LogStep.{LogStep}
 use Rattle.sig_core.specs.declared.member.Member.{Member}
 use Rattle.sig_core.specs.declared.member.TxId.{TxId}
 use Rattle.sig_core.specs.declared.place.BlockId.{BlockId}
 use Rattle.sig_core.specs.declared.place.BlockId.TheVariants.{Lqh}
 use Rattle.sig_core.specs.declared.signal.Body.{Body}
-use Rattle.sig_core.specs.declared.signal.Body.TheVariants.{Host, Chain, Epoch}
+use Rattle.sig_core.specs.declared.signal.Body.TheVariants.{Host, Chain}
 use Rattle.sig_core.specs.declared.signal.chain.ChainSignal.TheVariants.{LqhKeyReq, Commit, Complete, Abort}
 use Rattle.sig_core.specs.declared.signal.chain.RowWork.{RowWork}
 use Rattle.sig_core.specs.declared.signal.host.HostSignal.TheVariants.{Round, Continue}
@@ -69,13 +66,12 @@ module _ (start : Start) (es : List LogStep) (e : LogStep) (key : List ℕ) (com
   asked tx w chain at refused is own =
       let parts = requests_are_for_replicas start es e tx w chain at come is in
       let plain = ap is_request is in
-      let token = ap (is_token tx) is ∙ same_tx-self tx in
-      (
+      let token = ap (is_token tx) is ∙ same_tx-self tx in (
         record {
           operation = λ here. parts.0 (here ∙ ap (primary start) (sym own));
           image = λ off. parts.1 (λ here. off (here ∙ ap (primary start) own));
         },
-        (none_wait_beside start es e tx key e.taken.to.node come plain token, comers_are_undecided start es e tx come plain token)
+        (none_wait_beside start es e tx key e.taken.to.node come plain token, comers_are_undecided start es e tx come plain token),
       )
 
   committed : (tx : TxId) (epoch : ℕ) (chain : List Member) (at : ℕ) → e.taken.body ≡ Chain (Commit tx key epoch chain at) → Owed (commits tx (at == 0))
@@ -88,16 +84,14 @@ module _ (start : Start) (es : List LogStep) (e : LogStep) (key : List ℕ) (com
       equal one other same = grind (arith, nat_tests, same)
 
       by : (b : Bool) → (at == 0) ≡ b → is_carried_out start (logs_of start es) tx ≡ true → Owed (commits tx b)
-      by true at_first out =
-          (
-            eqb-true e.taken.to.node (primary start key) (here ∙ at_first),
-            (none_wait_where_carried_out start es tx key e.taken.to.node come.before out, record { decided = commits_are_decided start es e tx key epoch chain at come is; carried = out }),
-          )
-      by false later out =
-          (
-            (λ same. true≢false (sym (equal e.taken.to.node (primary start key) same) ∙ (here ∙ later))),
-            record { decided = commits_are_decided start es e tx key epoch chain at come is; carried = out },
-          )
+      by true at_first out = (
+        eqb-true e.taken.to.node (primary start key) (here ∙ at_first),
+        (none_wait_where_carried_out start es tx key e.taken.to.node come.before out, record { decided = commits_are_decided start es e tx key epoch chain at come is; carried = out }),
+      )
+      by false later out = (
+        (λ same. true≢false (sym (equal e.taken.to.node (primary start key) same) ∙ (here ∙ later))),
+        record { decided = commits_are_decided start es e tx key epoch chain at come is; carried = out },
+      )
 
   at_block : (s : LqhState) (b : BlockId) (body : Body) → e.taken.body ≡ body → Owed (event_for key s b body)
   at_block s Lqh (Chain (LqhKeyReq tx w chain at)) is = owed_if (work_key w) _ (asked tx w chain at (is_refused (storage_of s) (record { tx = tx; work = w; chain = chain; at = at })) is)
@@ -106,7 +100,7 @@ module _ (start : Start) (es : List LogStep) (e : LogStep) (key : List ℕ) (com
       owed_if own _ (λ same. committed tx epoch chain at (is ∙ ap (λ k. Chain (Commit tx k epoch chain at)) same))
   at_block s Lqh (Chain (Complete tx own chain at)) is =
       owed_if own _ (λ same. let now = is ∙ ap (λ k. Chain (Complete tx k chain at)) same in
-          (none_wait_where_carried_out start es tx key e.taken.to.node come.before (completions_are_of_carried_out start es e tx key chain at come now), completions_follow_commits start es e tx key chain at come now))
+      (none_wait_where_carried_out start es tx key e.taken.to.node come.before (completions_are_of_carried_out start es e tx key chain at come now), completions_follow_commits start es e tx key chain at come now))
   at_block s Lqh (Chain (Abort tx own)) is = owed_if own _ (λ same. aborts_are_of_given_up start es e tx own come is)
   at_block s Lqh (Host Round) is = tt
   at_block s Lqh (Host (Continue Expired at)) is = expires_owed (expired s.locks)
