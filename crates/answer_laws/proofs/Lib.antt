@@ -29,3 +29,5 @@ pub mod TcOwes
 pub mod NodeOwes
 pub mod Commits
 pub mod Serves
+pub mod TcTurns
+pub mod TcSteps
