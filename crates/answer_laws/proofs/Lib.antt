@@ -30,4 +30,11 @@ pub mod NodeOwes
 pub mod Commits
 pub mod Serves
 pub mod TcTurns
+pub mod PartKinds
 pub mod TcSteps
+pub mod Ahead
+pub mod EpochCounts
+pub mod EpochLives
+pub mod EpochFlow
+pub mod EpochGiven
+pub mod Verified

@@ -31,13 +31,13 @@ use Rattle.tc_block.specs.Chain.{chain_of}
 use Rattle.tc_block.specs.Complete as complete
 use Rattle.tc_block.specs.Live.{place_in, step_of, step_place, step_value, turn_of, turn_place, turn_value, turned_if, without}
 use Rattle.tc_block.specs.Operate.{fresh}
-use Rattle.tc_block.specs.Part.{part_effects, rest_if}
-use Rattle.tc_block.specs.Sends.{abort_of, complete_if, entering, front_sends, key_sends, phase_sends}
+use Rattle.tc_block.specs.Sends.{abort_of}
 use Rattle.tc_block.specs.State.{TcState, with_live}
 use Rattle.tc_block.specs.Tc.{begin_if, begin_row, begun, is_full, next_tx, pass_if, pass_row, tc_row}
 use Rattle.tc_block.specs.Turn.{Turn, going}
 use Rattle.answer_laws.proofs.NodeOps.{absent_key}
-use Rattle.answer_laws.proofs.SendKinds.{are_of, of_append, of_drop, of_flat, of_kind, of_map, of_take}
+use Rattle.answer_laws.proofs.PartKinds.{IsPartKind, entering_of, parts_of}
+use Rattle.answer_laws.proofs.SendKinds.{are_of, of_kind, of_map}
 use Rattle.answer_laws.proofs.Tally.{one_if, tally, tally_append, tally_between, tally_in}
 use Rattle.answer_laws.proofs.TcLives.{IsOwn, apart, insert_new, is_keyed}
 use Rattle.answer_laws.proofs.TcMoves.{IsEntry, found, same_tx-is}
@@ -119,58 +119,27 @@ wait_said : (tx : TxId) (body : Body) → is_wait_kind body ≡ true → is_said
 wait_said tx (Client (LqhWaitReq other key)) e = refl
 wait_said tx _ e = cc
 
+one_said : (tx : TxId) (more : Bool) → more ≡ true → (if same_tx tx tx then more else false) ≡ true
+one_said tx more e = ap (λ b. if b then more else false) (same_tx-self tx) ∙ e
+
+said_part : (tx : TxId) → IsPartKind (is_said tx) tx
+said_part tx = record {
+  commit = λ key epoch chain at. same_tx-self tx;
+  complete = λ key chain at. same_tx-self tx;
+  abort = λ key. same_tx-self tx;
+  cont = λ at. same_tx-self tx;
+  report = λ epoch. same_tx-self tx;
+}
+
+end_said : (node : ℕ) (tx : TxId) (why : AbortCause) (b : Bool) → are_of (is_said tx) (abort.abort_end node tx why b) ≡ true
+end_said node tx why true = one_said tx _ (one_said tx true refl)
+end_said node tx why false = one_said tx true refl
+
+abort_said : (node : ℕ) (tx : TxId) (view : View) (w : Transaction) (why : AbortCause) (b : Bool) → are_of (is_said tx) (abort.abort_if node view tx w why b).step.effects.sends ≡ true
+abort_said node tx view w why true = end_said node tx why (abort.is_verifying w.phase)
+abort_said node tx view w why false = entering_of (is_said tx) tx (said_part tx) node view w _
+
 -- all that a transaction sends is said of it
-module _ (node : ℕ) (tx : TxId) where
-  one_said : (more : Bool) → more ≡ true → (if same_tx tx tx then more else false) ≡ true
-  one_said more e = ap (λ b. if b then more else false) (same_tx-self tx) ∙ e
-
-  rest_said : (at : ℕ) (b : Bool) → are_of (is_said tx) (rest_if node tx at b) ≡ true
-  rest_said at true = one_said true refl
-  rest_said at false = refl
-
-  part_said : (sends : List Outgoing) (at : ℕ) → are_of (is_said tx) sends ≡ true → are_of (is_said tx) (part_effects node tx sends at).sends ≡ true
-  unfolding part_effects
-  part_said sends at plain =
-      of_append (is_said tx) (take 8 (drop at sends)) (rest_if node tx at (nat_lt (at + 8) (length sends)))
-      (of_take (is_said tx) 8 (drop at sends) (of_drop (is_said tx) at sends plain)) (rest_said at (nat_lt (at + 8) (length sends)))
-
-  front_said : (phase : Phase) → are_of (is_said tx) (front_sends tx phase) ≡ true
-  unfolding front_sends
-  front_said Open = refl
-  front_said Verifying = refl
-  front_said (Committing epoch awaited) = refl
-  front_said (Completing epoch awaited) = one_said true refl
-  front_said (Aborting why verifying awaited) = refl
-
-  complete_said : (t : Touched) (b : Bool) → are_of (is_said tx) (complete_if tx t b) ≡ true
-  complete_said t true = one_said true refl
-  complete_said t false = refl
-
-  key_said : (view : View) (phase : Phase) (t : Touched) → are_of (is_said tx) (key_sends view tx phase t) ≡ true
-  unfolding key_sends
-  key_said view Open t = refl
-  key_said view Verifying t = refl
-  key_said view (Committing epoch awaited) t = one_said true refl
-  key_said view (Completing epoch awaited) t = complete_said t t.written
-  key_said view (Aborting why verifying awaited) t = of_map (is_said tx) (abort_of tx t.key) (chain_of view t.key) (λ r. same_tx-self tx)
-
-  phase_said : (view : View) (phase : Phase) (touched : List Touched) → are_of (is_said tx) (phase_sends view tx phase touched) ≡ true
-  unfolding phase_sends
-  phase_said view phase touched =
-      of_append (is_said tx) (front_sends tx phase) (flat_map (key_sends view tx phase) touched) (front_said phase) (of_flat (is_said tx) (key_sends view tx phase) touched (key_said view phase))
-
-  entering_said : (view : View) (t : Transaction) (phase : Phase) → are_of (is_said tx) (entering node view tx t phase).effects.sends ≡ true
-  unfolding entering
-  entering_said view t phase = part_said (phase_sends view tx phase t.touched) 0 (phase_said view phase t.touched)
-
-  end_said : (why : AbortCause) (b : Bool) → are_of (is_said tx) (abort.abort_end node tx why b) ≡ true
-  end_said why true = one_said _ (one_said true refl)
-  end_said why false = one_said true refl
-
-  abort_said : (view : View) (w : Transaction) (why : AbortCause) (b : Bool) → are_of (is_said tx) (abort.abort_if node view tx w why b).step.effects.sends ≡ true
-  abort_said view w why true = end_said why (abort.is_verifying w.phase)
-  abort_said view w why false = entering_said view w _
-
 move_said : (s : TcState) (tx : TxId) (t : Transaction) (body : Body) (turn : Turn) → TurnMove s tx t body turn → are_of (is_said tx) turn.step.effects.sends ≡ true
 move_said s tx t body turn move = go move
   where
@@ -179,21 +148,21 @@ move_said s tx t body turn move = go move
 
     go : TurnMove s tx t body turn → are_of (is_said tx) turn.step.effects.sends ≡ true
     go (keeps sends is kind missed) = said turn _ is (of_kind is_wait_kind (is_said tx) (wait_said tx) sends kind)
-    go (goes_on at about low is) = said turn _ is (part_said s.node tx (phase_sends s.view tx t.phase t.touched) at (phase_said s.node tx s.view t.phase t.touched))
-    go (asks op about p q is) = said turn _ is (one_said s.node tx true refl)
-    go (answers key answer asked about p q is) = said turn _ is (one_said s.node tx true refl)
+    go (goes_on at about low is) = said turn _ is (parts_of (is_said tx) tx (said_part tx) s.node s.view t.phase t.touched at)
+    go (asks op about p q is) = said turn _ is (one_said tx true refl)
+    go (answers key answer asked about p q is) = said turn _ is (one_said tx true refl)
     go (late key asked p q is) = said turn _ is (of_map (is_said tx) (abort_of tx key) (chain_of s.view key) (λ r. same_tx-self tx))
-    go (decides about p q is) = said turn _ is (one_said s.node tx true refl)
+    go (decides about p q is) = said turn _ is (one_said tx true refl)
     go (aborts w why gives some is) = said turn _ is (abort_said s.node tx s.view w why false)
     go (gives_up w why gives is none) = said turn _ is (abort_said s.node tx s.view w why true)
     go (aborted key why v k about p low is) = said turn _ is refl
     go (abort_ends key why v k about p low is) = said turn _ is (end_said s.node tx why v)
-    go (commits epoch about p is) = said turn _ is (entering_said s.node tx s.view t _)
+    go (commits epoch about p is) = said turn _ is (entering_of (is_said tx) tx (said_part tx) s.node s.view t _)
     go (committed epoch k p is) = said turn _ is refl
-    go (completes epoch p is) = said turn _ is (entering_said s.node tx s.view t _)
-    go (ends epoch p is) = said turn _ is (one_said s.node tx _ (one_said s.node tx true refl))
+    go (completes epoch p is) = said turn _ is (entering_of (is_said tx) tx (said_part tx) s.node s.view t _)
+    go (ends epoch p is) = said turn _ is (one_said tx _ (one_said tx true refl))
     go (completed epoch k p is) = said turn _ is refl
-    go (all_completed epoch k p is) = said turn _ is (one_said s.node tx true refl)
+    go (all_completed epoch k p is) = said turn _ is (one_said tx true refl)
 
 -- a transaction takes a turn, and is forgotten if it is over
 abbrev pub left_in : TxId → List (TxId × Transaction) → List (TxId × Transaction) → Turn → List (TxId × Transaction)
@@ -404,3 +373,24 @@ module _ (tx : TxId) (s : TcState) (body : Body) (once : tally (is_keyed tx) s.l
 
   pub tx_step : TxStep tx s body (tc_row s body)
   tx_step = tx_of (tc_row s body) (tc_step s body)
+
+-- numbers rise, and one that is live has one
+pub next_grows : (s : TcState) (body : Body) → s.next_seq ≤ (tc_row s body).state.next_seq
+next_grows s body = go (tc_row s body) (tc_step s body)
+  where
+    go : (step : Step TcState) → TcStep s body step → s.next_seq ≤ step.state.next_seq
+    go step (rests about is kind) = omega (arith, ap (λ (x : TcState). x.next_seq) is)
+    go step (begins name about room is) = omega (arith, ap (λ (x : Step TcState). x.state.next_seq) is)
+    go step (misses about none is) = omega (arith, ap (λ (x : Step TcState). x.state.next_seq) is)
+    go step (takes about t front back was is) = omega (arith, ap (λ (x : Step TcState). x.state.next_seq) is)
+
+pub live_early : (tx : TxId) (s : TcState) (t : Transaction) → of_live tx s.live ≡ Some t → Each (λ (e : TxId × Transaction). IsOwn s.node s.next_seq e.0) s.live → tx.seq < s.next_seq
+live_early tx s t there own = go s.live there own
+  where
+    go : (live : List (TxId × Transaction)) → of_live tx live ≡ Some t → Each (λ (e : TxId × Transaction). IsOwn s.node s.next_seq e.0) live → tx.seq < s.next_seq
+    go [] there own = absurd cc
+    go (e ∷ live) there own = by (same_tx e.0 tx) refl there (λ rest. go live rest own.1)
+      where
+        by : (b : Bool) → same_tx e.0 tx ≡ b → (if b then Some e.1 else of_live tx live) ≡ Some t → (of_live tx live ≡ Some t → tx.seq < s.next_seq) → tx.seq < s.next_seq
+        by true is there rest = omega (arith, own.0.early, ap (λ (x : TxId). x.seq) (same_tx-is e.0 tx is))
+        by false is there rest = rest there

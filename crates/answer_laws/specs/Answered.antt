@@ -19,6 +19,7 @@ use Rattle.tc_block.specs.declared.phase.Asked.{Asked}
 use Rattle.tc_block.specs.declared.phase.Phase.{Phase}
 use Rattle.tc_block.specs.declared.phase.Phase.TheVariants as phases
 use Rattle.tc_block.specs.declared.transaction.Transaction.{Transaction}
+use Rattle.tc_block.specs.Abort.{is_verifying}
 use Rattle.tc_block.specs.State.{TcState}
 use Rattle.world_core.specs.Machine.{after, hosts, machine}
 use Rattle.world_core.specs.Quiet.{IsQuiet}
@@ -181,3 +182,9 @@ pub record IsServed (start : Start) (logs : ℕ → List LogStep) (t : OpenTrans
 
 abbrev pub EachIsServed : Type 0
 EachIsServed = EachAtQuiet (λ start logs t. (tx : TxId) → t.tx ≡ Some tx → IsServed start logs t tx)
+
+-- no transaction waits for its epoch
+abbrev pub NoEpochIsAwaited : Type 0
+NoEpochIsAwaited =
+    (start : Start) (logs : ℕ → List LogStep) (node : ℕ) (tx : TxId) (t : Transaction) → AreQuiet start logs → node ≤ start.nodes
+    → IsLiveAs tx t (after start node (logs node)) → is_verifying t.phase ≡ false

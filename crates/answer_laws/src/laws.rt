@@ -1,5 +1,5 @@
 //! What is proved of quiet worlds.
-ghost use Rattle.answer_laws.specs.Answered.{EachAsksWhereOperating, EachHasCoordinator, EachIsServed, EachOperationWaits, NoBeginIsLost, NoCommitIsAwaited};
+ghost use Rattle.answer_laws.specs.Answered.{EachAsksWhereOperating, EachHasCoordinator, EachIsServed, EachOperationWaits, NoBeginIsLost, NoCommitIsAwaited, NoEpochIsAwaited};
 ghost use Rattle.answer_laws.specs.Sample.{SampleIsQuiet};
 
 /// When nothing is under way, whether a transaction begins is answered.
@@ -27,6 +27,12 @@ pub fn each_asks_where_operating()
 /// When nothing is under way, no coordinator waits for the keys of a transaction to be committed.
 pub fn no_commit_is_awaited()
     ensures { NoCommitIsAwaited }
+{}
+
+/// When nothing is under way, no transaction waits for its epoch.
+#[tactic(auto, using(crate::proofs::Verified::no_epoch))]
+pub fn no_epoch_is_awaited()
+    ensures { NoEpochIsAwaited }
 {}
 
 /// All that together, of each transaction whose end isn't reported.
