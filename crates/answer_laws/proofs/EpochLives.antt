@@ -114,9 +114,9 @@ module _ (s : TcState) (tx : TxId) (t : Transaction) (body : Body) (turn : Turn)
   pub turn_counts : TurnMove s tx t body turn → TurnCounts s.node tx t turn
   turn_counts (keeps sends is kind missed) = back_to _ is (unchanged refl refl (of_kind is_wait_kind is_epochless wait_plain sends kind))
   turn_counts (goes_on at about low is) = back_to _ is (unchanged refl refl (parts_of is_epochless tx (plain_part tx) s.node s.view t.phase t.touched at))
-  turn_counts (asks op about p q is) = back_to _ is (unchanged refl refl refl)
+  turn_counts (asks op about p q fit is) = back_to _ is (unchanged refl refl refl)
   turn_counts (answers key answer asked about p q is) = back_to _ is (unchanged refl refl refl)
-  turn_counts (late key asked p q is) = back_to _ is (unchanged refl refl (of_map is_epochless (abort_of tx key) (chain_of s.view key) (λ r. refl)))
+  turn_counts (late key asked about p q is) = back_to _ is (unchanged refl refl (of_map is_epochless (abort_of tx key) (chain_of s.view key) (λ r. refl)))
   turn_counts (decides about p q is) = back_to _ is (asking t.ops refl (ap is_counted p) refl refl)
   turn_counts (aborts w why gives some is) =
       let g = given_phase t body w gives in

@@ -38,3 +38,4 @@ pub mod EpochLives
 pub mod EpochFlow
 pub mod EpochGiven
 pub mod Verified
+pub mod TcAborts

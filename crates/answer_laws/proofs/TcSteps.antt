@@ -149,9 +149,9 @@ move_said s tx t body turn move = go move
     go : TurnMove s tx t body turn → are_of (is_said tx) turn.step.effects.sends ≡ true
     go (keeps sends is kind missed) = said turn _ is (of_kind is_wait_kind (is_said tx) (wait_said tx) sends kind)
     go (goes_on at about low is) = said turn _ is (parts_of (is_said tx) tx (said_part tx) s.node s.view t.phase t.touched at)
-    go (asks op about p q is) = said turn _ is (one_said tx true refl)
+    go (asks op about p q fit is) = said turn _ is (one_said tx true refl)
     go (answers key answer asked about p q is) = said turn _ is (one_said tx true refl)
-    go (late key asked p q is) = said turn _ is (of_map (is_said tx) (abort_of tx key) (chain_of s.view key) (λ r. same_tx-self tx))
+    go (late key asked about p q is) = said turn _ is (of_map (is_said tx) (abort_of tx key) (chain_of s.view key) (λ r. same_tx-self tx))
     go (decides about p q is) = said turn _ is (one_said tx true refl)
     go (aborts w why gives some is) = said turn _ is (abort_said s.node tx s.view w why false)
     go (gives_up w why gives is none) = said turn _ is (abort_said s.node tx s.view w why true)

@@ -33,6 +33,7 @@ use Rattle.tc_block.specs.Operate as operate
 use Rattle.tc_block.specs.Part.{part_effects}
 use Rattle.tc_block.specs.Sends.{aborts_of, entering, go_on_if, go_on_row, phase_sends, reported, verify_end, waits_of}
 use Rattle.tc_block.specs.State.{TcState}
+use Rattle.tc_block.specs.Touched.{fits}
 use Rattle.tc_block.specs.Turn.{Turn, asking, at_phase, ending, going, sends_only}
 use Rattle.answer_laws.proofs.SendKinds.{are_of, of_map}
 use Rattle.answer_laws.proofs.TcOps.{may_ask}
@@ -89,6 +90,12 @@ IsMissed t (Chain (Aborted tx key)) = is_aborting t.phase ≡ false
 IsMissed t (Epoch (DiVerifyConf tx epoch)) = abort.is_verifying t.phase ≡ false
 IsMissed t _ = Unit {0}
 
+-- replicas answer an operation
+abbrev pub is_row_answer : Body → Bool
+is_row_answer (Chain (LqhKeyConf tx key answer)) = true
+is_row_answer (Chain (LqhKeyRef tx key why)) = true
+is_row_answer _ = false
+
 -- the transaction has this operation unanswered, and the signal answers it
 pub record IsAnswered (t : Transaction) (key : List ℕ) (asked : Asked) : Type 0 where
   pub is : t.asked ≡ Some asked
@@ -108,10 +115,10 @@ pub data TurnMove (s : TcState) (tx : TxId) (t : Transaction) (body : Body) (tur
   keeps : (sends : List Outgoing) → turn ≡ going (record { state = t; effects = sends_only sends }) → are_of is_wait_kind sends ≡ true → IsMissed t body → TurnMove s tx t body turn
   goes_on : (at : ℕ) → body ≡ Host (Continue (work.Transaction tx) at) → at < 512
       → turn ≡ going (record { state = t; effects = part_effects s.node tx (phase_sends s.view tx t.phase t.touched) at }) → TurnMove s tx t body turn
-  asks : (op : Op) → body ≡ Client (TcKeyReq tx op) → t.phase ≡ Open → t.asked ≡ None → turn ≡ going (operate.operating tx t op (chain_of s.view (key_of op))) → TurnMove s tx t body turn
+  asks : (op : Op) → body ≡ Client (TcKeyReq tx op) → t.phase ≡ Open → t.asked ≡ None → fits t.touched (key_of op) ≡ true → turn ≡ going (operate.operating tx t op (chain_of s.view (key_of op))) → TurnMove s tx t body turn
   answers : (key : List ℕ) (answer : Answer) (asked : Asked) → body ≡ Chain (LqhKeyConf tx key answer) → t.phase ≡ Open → IsAnswered t key asked
       → turn ≡ going (sending (operate.answered t asked answer) client (Client (TcKeyConf tx answer))) → TurnMove s tx t body turn
-  late : (key : List ℕ) (asked : Asked) → is_aborting t.phase ≡ true → IsAnswered t key asked → turn ≡ going (operate.late_answer s.view tx t key) → TurnMove s tx t body turn
+  late : (key : List ℕ) (asked : Asked) → is_row_answer body ≡ true → is_aborting t.phase ≡ true → IsAnswered t key asked → turn ≡ going (operate.late_answer s.view tx t key) → TurnMove s tx t body turn
   decides : body ≡ Client (TcCommitReq tx) → t.phase ≡ Open → t.asked ≡ None → turn ≡ going (sending (at_phase t Verifying) (epochs s.node) (Epoch (DiVerifyReq tx t.ops))) → TurnMove s tx t body turn
   aborts : (w : Transaction) (why : AbortCause) → GivesUp t body w → 1 ≤ abort.aborts_awaited s.view w → turn ≡ abort.abort_if s.node s.view tx w why false → TurnMove s tx t body turn
   gives_up : (w : Transaction) (why : AbortCause) → GivesUp t body w → turn ≡ abort.abort_if s.node s.view tx w why true → abort.aborts_awaited s.view w ≡ 0 → TurnMove s tx t body turn
@@ -157,12 +164,16 @@ module _ (s : TcState) (tx : TxId) (t : Transaction) where
   first_is true b e = refl
   first_is false b e = e
 
+  last_is : (a b : Bool) → (a && b) ≡ true → b ≡ true
+  last_is true b e = e
+  last_is false b e = absurd cc
+
   operate_move : (op : Op) → TurnMove s tx t (Client (TcKeyReq tx op)) (going (operate.operate_row s.view tx t op))
   unfolding operate.operate_row
   operate_move op = go (operate.can_operate t op) refl
     where
       go : (b : Bool) → operate.can_operate t op ≡ b → TurnMove s tx t (Client (TcKeyReq tx op)) (going (operate.operate_if s.view tx t op b))
-      go true e = let r = ready_is t.phase t.asked (first_is (operate.is_ready t.phase t.asked) _ e) in asks op refl r.0 r.1 refl
+      go true e = let r = ready_is t.phase t.asked (first_is (operate.is_ready t.phase t.asked) _ e) in asks op refl r.0 r.1 (last_is (operate.is_ready t.phase t.asked) _ e) refl
       go false e = keeps [] refl refl e
 
   decide_move : TurnMove s tx t (Client (TcCommitReq tx)) (going (commit.decide_row s.node tx t))
@@ -206,7 +217,7 @@ module _ (s : TcState) (tx : TxId) (t : Transaction) where
     where
       by : (o : Option Asked) (phase : Phase) → operate.asked_on t.asked key ≡ o → t.phase ≡ phase → TurnMove s tx t (Chain (LqhKeyConf tx key answer)) (going (operate.answer_by s.view tx t key answer o phase))
       by (Some b) Open on p = let r = asked_is t.asked key b on in answers key answer b refl p (record { is = r.0; on = r.1 }) refl
-      by (Some b) (Aborting why verifying awaited) on p = let r = asked_is t.asked key b on in late key b (ap is_aborting p) (record { is = r.0; on = r.1 }) refl
+      by (Some b) (Aborting why verifying awaited) on p = let r = asked_is t.asked key b on in late key b refl (ap is_aborting p) (record { is = r.0; on = r.1 }) refl
       by (Some b) Verifying on p = keeps [] refl refl (inr (ap may_ask p))
       by (Some b) (Committing epoch awaited) on p = keeps [] refl refl (inr (ap may_ask p))
       by (Some b) (Completing epoch awaited) on p = keeps [] refl refl (inr (ap may_ask p))
@@ -218,7 +229,7 @@ module _ (s : TcState) (tx : TxId) (t : Transaction) where
     where
       by : (o : Option Asked) (phase : Phase) → operate.asked_on t.asked key ≡ o → t.phase ≡ phase → TurnMove s tx t (Chain (LqhKeyRef tx key why)) (abort.refuse_by s.node s.view tx t key why o phase)
       by (Some b) Open on p = let r = asked_is t.asked key b on in abort_move (asking t None) why _ (refused tx key why b p refl (record { is = r.0; on = r.1 }) refl)
-      by (Some b) (Aborting other verifying awaited) on p = let r = asked_is t.asked key b on in late key b (ap is_aborting p) (record { is = r.0; on = r.1 }) refl
+      by (Some b) (Aborting other verifying awaited) on p = let r = asked_is t.asked key b on in late key b refl (ap is_aborting p) (record { is = r.0; on = r.1 }) refl
       by (Some b) Verifying on p = keeps [] refl refl (inr (ap may_ask p))
       by (Some b) (Committing epoch awaited) on p = keeps [] refl refl (inr (ap may_ask p))
       by (Some b) (Completing epoch awaited) on p = keeps [] refl refl (inr (ap may_ask p))

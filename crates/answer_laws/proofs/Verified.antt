@@ -134,9 +134,9 @@ module _ (s : TcState) (tx : TxId) (t : Transaction) (body : Body) (turn : Turn)
       go : TurnMove s tx t body turn → PhaseMove tx s.node t body turn.step.state turn.step.effects.sends
       go (keeps sends is kind missed) = stays_phase _ is refl (missed_conf tx t body missed)
       go (goes_on at about low is) = stays_phase _ is refl (λ p. ap (conf_body tx) about)
-      go (asks op about p q is) = stays_phase _ is refl (λ p. ap (conf_body tx) about)
+      go (asks op about p q fit is) = stays_phase _ is refl (λ p. ap (conf_body tx) about)
       go (answers key answer asked about p q is) = stays_phase _ is refl (λ p. ap (conf_body tx) about)
-      go (late key asked p q is) = stays_phase _ is refl (λ r. absurd (false≢true (sym (ap is_aborting r) ∙ p)))
+      go (late key asked about p q is) = stays_phase _ is refl (λ r. absurd (false≢true (sym (ap is_aborting r) ∙ p)))
       go (decides about p q is) =
           verifies p (phase_is _ is) (ap (conf_body tx) about)
           (omega (arith, ap (λ (x : Turn). sends_of (to_node s.node (is_req tx)) x.step.effects.sends) is, ap one_if (ap (λ b. b && (true && same_tx tx tx)) (eqb-self s.node) ∙ same_tx-self tx)))
