@@ -39,3 +39,5 @@ pub mod EpochFlow
 pub mod EpochGiven
 pub mod Verified
 pub mod TcAborts
+pub mod Always
+pub mod Aborts

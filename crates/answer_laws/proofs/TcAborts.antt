@@ -34,8 +34,9 @@ use Rattle.answer_laws.proofs.LqhOps.{is_good, is_lqh, is_node, left_of, right_o
 use Rattle.answer_laws.proofs.Tally.{one_if, tally, tally_append}
 use Rattle.answer_laws.proofs.TcCommits.{is_cont}
 use Rattle.answer_laws.proofs.TcSends.{eqb-self, same_tx-self}
-use Rattle.answer_laws.proofs.TcTurns.{GivesUp, IsMissed, TurnMove, abort_ends, aborted, aborts, all_completed, answers, asked_to, asks, commits, committed, completed, completes, decides, ends, gives_up, goes_on, is_aborting, is_row_answer, keeps, late, refused}
+use Rattle.answer_laws.proofs.TcTurns.{GivesUp, IsMissed, TurnMove, abort_ends, aborted, aborts, all_completed, answers, asked_to, asks, commits, committed, completed, completes, decides, ends, gives_up, goes_on, is_row_answer, keeps, late, refused}
 use Rattle.answer_laws.proofs.Wishes.{is_tc, sends_of}
+use Rattle.answer_laws.specs.Answered.{is_aborting}
 
 -- an abort of the transaction on its way to a replica, or its answer
 abbrev pub is_abort : ℕ → TxId → Place → Body → Bool

@@ -38,7 +38,7 @@ use Rattle.tc_block.specs.Turn.{Turn, asking, at_phase, ending, going, sends_onl
 use Rattle.answer_laws.proofs.SendKinds.{are_of, of_map}
 use Rattle.answer_laws.proofs.TcOps.{may_ask}
 use Rattle.answer_laws.proofs.TcSends.{tx_in}
-use Rattle.answer_laws.specs.Answered.{is_committing}
+use Rattle.answer_laws.specs.Answered.{is_aborting, is_committing}
 
 -- what the transaction's row makes of it at a signal about it
 abbrev pub turn_row : TcState → Body → Transaction → Turn
@@ -74,10 +74,6 @@ is_turn _ = false
 abbrev pub is_wait_kind : Body → Bool
 is_wait_kind (Client (LqhWaitReq tx key)) = true
 is_wait_kind _ = false
-
-abbrev pub is_aborting : Phase → Bool
-is_aborting (Aborting why verifying awaited) = true
-is_aborting _ = false
 
 -- why the signal changes nothing
 abbrev pub IsMissed : Transaction → Body → Type 0

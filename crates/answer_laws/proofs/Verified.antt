@@ -51,9 +51,9 @@ use Rattle.answer_laws.proofs.TcLives.{IsOwn, is_keyed}
 use Rattle.answer_laws.proofs.TcMoves.{same_tx-is}
 use Rattle.answer_laws.proofs.TcSends.{eqb-self, same_tx-self, tx_in}
 use Rattle.answer_laws.proofs.TcSteps.{TxStep, born, elsewhere, is_apart, left_of_turn, live_early, live_in, next_grows, of_live, turned, tx_step}
-use Rattle.answer_laws.proofs.TcTurns.{IsMissed, TurnMove, abort_ends, aborted, aborts, all_completed, answers, asks, commits, committed, completed, completes, decides, ends, gives_up, goes_on, is_aborting, is_turn, keeps, late}
+use Rattle.answer_laws.proofs.TcTurns.{IsMissed, TurnMove, abort_ends, aborted, aborts, all_completed, answers, asks, commits, committed, completed, completes, decides, ends, gives_up, goes_on, is_turn, keeps, late}
 use Rattle.answer_laws.proofs.Wishes.{and_false, is_tc, sends_of, to_node}
-use Rattle.answer_laws.specs.Answered.{AreQuiet, IsLiveAs, NoEpochIsAwaited}
+use Rattle.answer_laws.specs.Answered.{AreQuiet, IsLiveAs, is_aborting, NoEpochIsAwaited}
 
 second : (a : Bool) {b : Bool} → b ≡ false → (a && b) ≡ false
 second true q = q

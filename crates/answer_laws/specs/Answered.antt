@@ -188,3 +188,14 @@ abbrev pub NoEpochIsAwaited : Type 0
 NoEpochIsAwaited =
     (start : Start) (logs : ℕ → List LogStep) (node : ℕ) (tx : TxId) (t : Transaction) → AreQuiet start logs → node ≤ start.nodes
     → IsLiveAs tx t (after start node (logs node)) → is_verifying t.phase ≡ false
+
+-- it is being aborted
+abbrev pub is_aborting : Phase → Bool
+is_aborting (phases.Aborting why verifying awaited) = true
+is_aborting _ = false
+
+-- no transaction that has no operation unanswered waits for the end of its abort
+abbrev pub NoAbortIsAwaited : Type 0
+NoAbortIsAwaited =
+    (start : Start) (logs : ℕ → List LogStep) (node : ℕ) (tx : TxId) (t : Transaction) → AreQuiet start logs → node ≤ start.nodes
+    → IsLiveAs tx t (after start node (logs node)) → t.asked ≡ None → is_aborting t.phase ≡ false

@@ -1,5 +1,5 @@
 //! What is proved of quiet worlds.
-ghost use Rattle.answer_laws.specs.Answered.{EachAsksWhereOperating, EachHasCoordinator, EachIsServed, EachOperationWaits, NoBeginIsLost, NoCommitIsAwaited, NoEpochIsAwaited};
+ghost use Rattle.answer_laws.specs.Answered.{EachAsksWhereOperating, EachHasCoordinator, EachIsServed, EachOperationWaits, NoAbortIsAwaited, NoBeginIsLost, NoCommitIsAwaited, NoEpochIsAwaited};
 ghost use Rattle.answer_laws.specs.Sample.{SampleIsQuiet};
 
 /// When nothing is under way, whether a transaction begins is answered.
@@ -33,6 +33,12 @@ pub fn no_commit_is_awaited()
 #[tactic(auto, using(crate::proofs::Verified::no_epoch))]
 pub fn no_epoch_is_awaited()
     ensures { NoEpochIsAwaited }
+{}
+
+/// When nothing is under way, no transaction that has no operation unanswered is being aborted.
+#[tactic(auto, using(crate::proofs::Aborts::no_abort))]
+pub fn no_abort_is_awaited()
+    ensures { NoAbortIsAwaited }
 {}
 
 /// All that together, of each transaction whose end isn't reported.

@@ -5,5 +5,5 @@ mod laws;
 
 pub use laws::{
     each_asks_where_operating, each_has_a_coordinator, each_is_served, each_operation_waits,
-    no_begin_is_lost, no_commit_is_awaited, no_epoch_is_awaited, quiet_logs_have_transactions,
+    no_abort_is_awaited, no_begin_is_lost, no_commit_is_awaited, no_epoch_is_awaited, quiet_logs_have_transactions,
 };
