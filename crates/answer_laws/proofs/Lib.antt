@@ -41,3 +41,4 @@ pub mod Verified
 pub mod TcAborts
 pub mod Always
 pub mod Aborts
+pub mod ApiTurns
