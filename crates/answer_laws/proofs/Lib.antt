@@ -42,3 +42,4 @@ pub mod TcAborts
 pub mod Always
 pub mod Aborts
 pub mod ApiTurns
+pub mod ApiEntries
