@@ -43,3 +43,7 @@ pub mod Always
 pub mod Aborts
 pub mod ApiTurns
 pub mod ApiEntries
+pub mod OpenTurns
+pub mod Strangers
+pub mod Wants
+pub mod Heard

@@ -394,3 +394,14 @@ live_early tx s t there own = go s.live there own
         by : (b : Bool) → same_tx e.0 tx ≡ b → (if b then Some e.1 else of_live tx live) ≡ Some t → (of_live tx live ≡ Some t → tx.seq < s.next_seq) → tx.seq < s.next_seq
         by true is there rest = omega (arith, own.0.early, ap (λ (x : TxId). x.seq) (same_tx-is e.0 tx is))
         by false is there rest = rest there
+
+pub live_home : (tx : TxId) (s : TcState) (t : Transaction) → of_live tx s.live ≡ Some t → Each (λ (e : TxId × Transaction). IsOwn s.node s.next_seq e.0) s.live → tx.tc ≡ s.node
+live_home tx s t there own = go s.live there own
+  where
+    go : (live : List (TxId × Transaction)) → of_live tx live ≡ Some t → Each (λ (e : TxId × Transaction). IsOwn s.node s.next_seq e.0) live → tx.tc ≡ s.node
+    go [] there own = absurd cc
+    go (e ∷ live) there own = by (same_tx e.0 tx) refl there (λ rest. go live rest own.1)
+      where
+        by : (b : Bool) → same_tx e.0 tx ≡ b → (if b then Some e.1 else of_live tx live) ≡ Some t → (of_live tx live ≡ Some t → tx.tc ≡ s.node) → tx.tc ≡ s.node
+        by true is there rest = sym (ap (λ (x : TxId). x.tc) (same_tx-is e.0 tx is)) ∙ own.0.home
+        by false is there rest = rest there

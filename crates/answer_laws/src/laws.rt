@@ -1,5 +1,5 @@
 //! What is proved of quiet worlds.
-ghost use Rattle.answer_laws.specs.Answered.{EachAsksWhereOperating, EachHasCoordinator, EachIsServed, EachOperationWaits, NoAbortIsAwaited, NoBeginIsLost, NoCommitIsAwaited, NoEpochIsAwaited};
+ghost use Rattle.answer_laws.specs.Answered.{EachAskedWhereOperating, EachAsksWhereOperating, EachClosedWhereCommitting, EachHasCoordinator, EachIsNumbered, EachIsServed, EachOperationWaits, NoAbortIsAwaited, NoBeginIsLost, NoCommitIsAwaited, NoEpochIsAwaited};
 ghost use Rattle.answer_laws.specs.Sample.{SampleIsQuiet};
 
 /// When nothing is under way, whether a transaction begins is answered.
@@ -39,6 +39,25 @@ pub fn no_epoch_is_awaited()
 #[tactic(auto, using(crate::proofs::Aborts::no_abort))]
 pub fn no_abort_is_awaited()
     ensures { NoAbortIsAwaited }
+{}
+
+/// When nothing is under way, a transaction whose operation was sent has it unanswered at its coordinator, where that
+/// has the transaction open.
+#[tactic(auto, using(crate::proofs::Heard::asked_where_operating))]
+pub fn each_operation_is_asked()
+    ensures { EachAskedWhereOperating }
+{}
+
+/// When nothing is under way, a transaction whose commit was asked for isn't open at its coordinator.
+#[tactic(auto, using(crate::proofs::Heard::closed_where_committing))]
+pub fn each_commit_is_heard()
+    ensures { EachClosedWhereCommitting }
+{}
+
+/// When nothing is under way, each transaction that has begun is known by its number.
+#[tactic(auto, using(crate::proofs::Heard::each_numbered))]
+pub fn each_is_numbered()
+    ensures { EachIsNumbered }
 {}
 
 /// All that together, of each transaction whose end isn't reported.
