@@ -47,3 +47,5 @@ pub mod OpenTurns
 pub mod Strangers
 pub mod Wants
 pub mod Heard
+pub mod QueueWaits
+pub mod LqhWaits
