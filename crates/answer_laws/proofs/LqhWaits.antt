@@ -33,7 +33,7 @@ use Rattle.row_locks.specs.Queues.{waits}
 use Rattle.row_locks.specs.Rounds.{expired}
 use Rattle.row_locks.specs.Rows.{RowLock, Served}
 use Rattle.row_locks.specs.Holders.{first_other}
-use Rattle.row_locks.specs.Tables.{ahead_at, kept, lock_at, some_if, unwaited_at}
+use Rattle.row_locks.specs.Tables.{ahead_at, kept, lock_at, released_at, some_if, unwaited_at}
 use Rattle.lqh_block.proofs.IndexLemmas.{same as same_key-is}
 use Rattle.lqh_block.specs.Abort as abort
 use Rattle.lqh_block.specs.Commit as commit
@@ -479,12 +479,12 @@ module _ (tx : TxId) (key : List ℕ) where
           none both = omega (arith, same_count s.waiting (alike both), absent (is_for other at_key) s.waiting (grind (arith, nat_tests, e)))
 
   -- a transaction is taken out of a lock, with its request
-  outed_row : (s : LqhState) (body : Body) (other : TxId) (at_key : List ℕ) (after : LqhState) (front back : List Outgoing) (sv : Served) → is_more_body body ≡ false
+  outed_row : (s : LqhState) (body : Body) (other : TxId) (at_key : List ℕ) (after : LqhState) (sends : List Outgoing) (sv : Served) → is_more_body body ≡ false
       → LockLeft s other at_key (waits tx (lock_at (kept s.locks at_key sv.lock) key).queue) sv.granted
       → waiting after ≡ waiting (abort.unasked s other at_key) → after.locks ≡ kept s.locks at_key sv.lock
-      → ((queued s ≡ true → 1 ≤ waiting s) → hops front ≤ one_if (is_some (abort.waits_at s other at_key) && (same_tx other tx && same_key at_key key))) → hops back ≡ 0
-      → RowWaits s body after (front ++ (serve_granted s.node sv ++ back))
-  outed_row s body other at_key after front back sv still l waiting_is locks_are told quiet = record {
+      → ((queued s ≡ true → 1 ≤ waiting s) → hops sends ≤ one_if (is_some (abort.waits_at s other at_key) && (same_tx other tx && same_key at_key key)))
+      → goes_on s.node (serve_granted s.node sv) ≤ goes_on s.node sends → RowWaits s body after sends
+  outed_row s body other at_key after sends sv still l waiting_is locks_are told more = record {
     few = λ q. by_few q (same_tx other tx && same_key at_key key) refl;
     there = λ q on. by_there q (same_tx other tx && same_key at_key key) refl on;
     served = λ one forth some off. by_served one (same_tx other tx && same_key at_key key) refl some off;
@@ -496,43 +496,30 @@ module _ (tx : TxId) (key : List ℕ) where
       now_is : queued after ≡ waits tx (lock_at (kept s.locks at_key sv.lock) key).queue
       now_is = ap (λ ls. waits tx (lock_at ls key).queue) locks_are
 
-      sends : List Outgoing
-      sends = front ++ (serve_granted s.node sv ++ back)
-
-      hops_are : hops (front ++ (serve_granted s.node sv ++ back)) ≡ hops front
-      hops_are =
-          omega (
-            arith,
-            tally_append (λ (x : Outgoing). is_hop tx key x.to x.body) front (serve_granted s.node sv ++ back),
-            tally_append (λ (x : Outgoing). is_hop tx key x.to x.body) (serve_granted s.node sv) back,
-            no_hops_more s.node (nat_lt 0 sv.granted),
-            quiet,
-          )
-
       none_with : (b : Bool) → one_if (b && false) ≡ 0
       none_with true = refl
       none_with false = refl
 
-      by_few : (queued s ≡ true → 1 ≤ waiting s) → (m : Bool) → (same_tx other tx && same_key at_key key) ≡ m → waiting after + hops (front ++ (serve_granted s.node sv ++ back)) ≤ waiting s + came_to body
+      by_few : (queued s ≡ true → 1 ≤ waiting s) → (m : Bool) → (same_tx other tx && same_key at_key key) ≡ m → waiting after + hops sends ≤ waiting s + came_to body
       by_few q false m =
-          omega (arith, waiting_is, t.other_out m, hops_are, told q, ap (λ b. one_if (is_some (abort.waits_at s other at_key) && b)) m, none_with (is_some (abort.waits_at s other at_key)))
+          omega (arith, waiting_is, t.other_out m, told q, ap (λ b. one_if (is_some (abort.waits_at s other at_key) && b)) m, none_with (is_some (abort.waits_at s other at_key)))
       by_few q true m = which (t.own_out m)
         where
           which : ((is_some (abort.waits_at s other at_key) ≡ true) × (waiting (abort.unasked s other at_key) + 1 ≡ waiting s)) ⊎ ((is_some (abort.waits_at s other at_key) ≡ false) × ((waiting s ≡ 0) × (waiting (abort.unasked s other at_key) ≡ 0)))
-              → waiting after + hops (front ++ (serve_granted s.node sv ++ back)) ≤ waiting s + came_to body
-          which (inl out) = omega (arith, waiting_is, out.1, hops_are, told q, most (is_some (abort.waits_at s other at_key) && (same_tx other tx && same_key at_key key)))
+              → waiting after + hops sends ≤ waiting s + came_to body
+          which (inl out) = omega (arith, waiting_is, out.1, told q, most (is_some (abort.waits_at s other at_key) && (same_tx other tx && same_key at_key key)))
             where
               most : (b : Bool) → one_if b ≤ 1
               most true = omega arith
               most false = omega arith
-          which (inr out) = omega (arith, waiting_is, out.1.1, hops_are, told q, ap (λ b. one_if (b && (same_tx other tx && same_key at_key key))) out.0)
+          which (inr out) = omega (arith, waiting_is, out.1.1, told q, ap (λ b. one_if (b && (same_tx other tx && same_key at_key key))) out.0)
 
       by_there : (queued s ≡ true → 1 ≤ waiting s) → (m : Bool) → (same_tx other tx && same_key at_key key) ≡ m → queued after ≡ true → 1 ≤ waiting after
       by_there q true m on = absurd (false≢true (sym (l.mine m) ∙ (sym now_is ∙ on)))
       by_there q false m on = omega (arith, waiting_is, t.other_out m, q (l.less (sym now_is ∙ on)))
 
       by_served : waiting s ≤ 1 → (m : Bool) → (same_tx other tx && same_key at_key key) ≡ m → 1 ≤ waiting after → queued after ≡ false
-          → ((1 ≤ waiting s) × ((queued s ≡ false) × (is_more_body body ≡ false))) ⊎ (1 ≤ goes_on s.node (front ++ (serve_granted s.node sv ++ back)))
+          → ((1 ≤ waiting s) × ((queued s ≡ false) × (is_more_body body ≡ false))) ⊎ (1 ≤ goes_on s.node sends)
       by_served one true m some off = absurd (none_left (t.own_out m))
         where
           none_left : ((is_some (abort.waits_at s other at_key) ≡ true) × (waiting (abort.unasked s other at_key) + 1 ≡ waiting s)) ⊎ ((is_some (abort.waits_at s other at_key) ≡ false) × ((waiting s ≡ 0) × (waiting (abort.unasked s other at_key) ≡ 0))) → ⊥
@@ -540,13 +527,150 @@ module _ (tx : TxId) (key : List ℕ) where
           none_left (inr out) = omega (arith, some, waiting_is, out.1.1)
       by_served one false m some off = which (l.others m (λ a b. false≢true (sym m ∙ true_and (same_tx other tx) (same_key at_key key) a b)) (sym now_is ∙ off))
         where
-          which : (queued s ≡ false) ⊎ (nat_lt 0 sv.granted ≡ true) → ((1 ≤ waiting s) × ((queued s ≡ false) × (is_more_body body ≡ false))) ⊎ (1 ≤ goes_on s.node (front ++ (serve_granted s.node sv ++ back)))
+          which : (queued s ≡ false) ⊎ (nat_lt 0 sv.granted ≡ true) → ((1 ≤ waiting s) × ((queued s ≡ false) × (is_more_body body ≡ false))) ⊎ (1 ≤ goes_on s.node sends)
           which (inl down) = inl (omega (arith, some, waiting_is, t.other_out m), (down, still))
-          which (inr up) =
-              inr (omega (
-                arith,
-                goes_append s.node front (serve_granted s.node sv ++ back),
-                tally_append (λ (x : Outgoing). is_more s.node x.to x.body) (serve_granted s.node sv) back,
-                ap (λ b. goes_on s.node (go_on_if s.node work.Granted b)) up,
-                more_one s.node,
-              ))
+          which (inr up) = inr (omega (arith, more, ap (λ b. goes_on s.node (go_on_if s.node work.Granted b)) up, more_one s.node))
+
+  refused_told : (other : TxId) (at_key : List ℕ) (o : Option ℕ) → hops (abort.refused_by other at_key o) ≡ one_if (is_some o && (same_tx other tx && same_key at_key key))
+  refused_told other at_key None = refl
+  refused_told other at_key (Some at) = omega arith
+
+  given_up_waits : (s : LqhState) (other : TxId) (at_key : List ℕ) (o : Option Bool) → ((abort.given_up s other at_key o).waiting ≡ s.waiting) × ((abort.given_up s other at_key o).locks ≡ s.locks)
+  given_up_waits s other at_key None = (refl, refl)
+  given_up_waits s other at_key (Some true) = (refl, refl)
+  given_up_waits s other at_key (Some false) = (refl, refl)
+
+  unasked_locks : (s : LqhState) (o : Option ℕ) → (abort.unasked_by s o).locks ≡ s.locks
+  unasked_locks s None = refl
+  unasked_locks s (Some at) = refl
+
+  abort_waits : (s : LqhState) (other : TxId) (at_key : List ℕ) → RowWaits s (Chain (Abort other at_key)) (abort.abort_row s other at_key).state (abort.abort_row s other at_key).effects.sends
+  unfolding abort.abort_row
+  abort_waits s other at_key =
+      outed_row s (Chain (Abort other at_key)) other at_key (abort.abort_row s other at_key).state (abort.abort_row s other at_key).effects.sends (freed_lock s other at_key) refl
+      (lock_left s other at_key (freed_lock s other at_key) (released_waits tx other (lock_at s.locks at_key)))
+      (ap (tally own) given.0)
+      (ap (λ ls. kept ls at_key (freed_lock (abort.given_up (abort.unasked s other at_key) other at_key (record_state s.rows other at_key)) other at_key).lock) locks_are
+      ∙ ap (λ ls. kept s.locks at_key (released_at ls at_key other).lock) locks_are)
+      (λ q. omega (
+          arith,
+          refused_told other at_key (abort.waits_at s other at_key),
+          tally_append (λ (x : Outgoing). is_hop tx key x.to x.body) (abort.refused_by other at_key (abort.waits_at s other at_key)) (to_place (coordinator_of other) (Chain (Aborted other at_key)) ∷ serve_granted s.node (freed_lock s other at_key)),
+          no_hops_more s.node (nat_lt 0 (freed_lock s other at_key).granted),
+      ))
+      (omega (arith, goes_append s.node (abort.refused_by other at_key (abort.waits_at s other at_key)) (to_place (coordinator_of other) (Chain (Aborted other at_key)) ∷ serve_granted s.node (freed_lock s other at_key))))
+    where
+      given : ((abort.given_up (abort.unasked s other at_key) other at_key (record_state s.rows other at_key)).waiting ≡ (abort.unasked s other at_key).waiting)
+          × ((abort.given_up (abort.unasked s other at_key) other at_key (record_state s.rows other at_key)).locks ≡ (abort.unasked s other at_key).locks)
+      given = given_up_waits (abort.unasked s other at_key) other at_key (record_state s.rows other at_key)
+
+      locks_are : (abort.given_up (abort.unasked s other at_key) other at_key (record_state s.rows other at_key)).locks ≡ s.locks
+      locks_are = given.1 ∙ unasked_locks s (abort.waits_at s other at_key)
+
+  -- a wait that stood too long ends, of which nothing came
+  expire_by_waits : (s : LqhState) (body : Body) → is_more_body body ≡ false → (o : Option (TxId × List ℕ)) → expired s.locks ≡ o
+      → RowWaits s body (expire.expire_by s o).state (expire.expire_by s o).effects.sends
+  expire_by_waits s body still None is = record {
+    few = λ q. omega arith;
+    there = λ q on. q on;
+    served = λ one forth some off. inl (some, (off, still));
+  }
+  expire_by_waits s body still (Some w) is =
+      outed_row s body w.0 w.1 (expire.expiring s w.0 w.1 sv).state (expire.expiring s w.0 w.1 sv).effects.sends sv still
+      (lock_left s w.0 w.1 sv (unwaited_waits tx w.0 (lock_at s.locks w.1)))
+      (ap (tally own) (same_waiting (abort.waits_at s w.0 w.1)))
+      (unasked_locks (with_lock s w.1 sv) (abort.waits_at (with_lock s w.1 sv) w.0 w.1))
+      (λ q. omega (
+          arith,
+          told q (same_tx w.0 tx && same_key w.1 key) refl,
+          tally_append (λ (x : Outgoing). is_hop tx key x.to x.body) (serve_granted s.node sv) (expire.more_expired (with_lock s w.1 sv)),
+          no_hops_more s.node (nat_lt 0 sv.granted),
+          no_hops_expired s.node (is_some (expired (with_lock s w.1 sv).locks)),
+      ))
+      (omega (arith, tally_append (λ (x : Outgoing). is_more s.node x.to x.body) (serve_granted s.node sv) (expire.more_expired (with_lock s w.1 sv))))
+    where
+      sv : Served
+      sv = unwaited_at s.locks w.1 w.0
+
+      same_waiting : (o : Option ℕ) → (abort.unasked_by (with_lock s w.1 sv) o).waiting ≡ (abort.unasked_by s o).waiting
+      same_waiting None = refl
+      same_waiting (Some at) = refl
+
+      -- who is in the queue waits
+      told : (queued s ≡ true → 1 ≤ waiting s) → (m : Bool) → (same_tx w.0 tx && same_key w.1 key) ≡ m
+          → one_if (same_tx w.0 tx && same_key w.1 key) ≤ one_if (is_some (abort.waits_at s w.0 w.1) && (same_tx w.0 tx && same_key w.1 key))
+      told q false m = omega (arith, ap one_if m)
+      told q true m = which ((taken_out s w.0 w.1).own_out m)
+        where
+          here : queued s ≡ true
+          here =
+              subst (λ k. waits tx (lock_at s.locks k).queue ≡ true) (same_key-is w.1 key (right_of (same_tx w.0 tx) (same_key w.1 key) m))
+              (subst (λ u. waits u (lock_at s.locks w.1).queue ≡ true) (same_tx-is w.0 tx (left_of (same_tx w.0 tx) (same_key w.1 key) m)) (expired_queued s.locks w.0 w.1 is))
+
+          which : ((is_some (abort.waits_at s w.0 w.1) ≡ true) × (waiting (abort.unasked s w.0 w.1) + 1 ≡ waiting s)) ⊎ ((is_some (abort.waits_at s w.0 w.1) ≡ false) × ((waiting s ≡ 0) × (waiting (abort.unasked s w.0 w.1) ≡ 0)))
+              → one_if (same_tx w.0 tx && same_key w.1 key) ≤ one_if (is_some (abort.waits_at s w.0 w.1) && (same_tx w.0 tx && same_key w.1 key))
+          which (inl out) = omega (arith, ap (λ b. one_if (b && (same_tx w.0 tx && same_key w.1 key))) out.0)
+          which (inr out) = absurd (omega (arith, q here, out.1.0))
+
+  expire_waits : (s : LqhState) (body : Body) → is_more_body body ≡ false → RowWaits s body (expire.expire_row s).state (expire.expire_row s).effects.sends
+  unfolding expire.expire_row
+  expire_waits s body still = expire_by_waits s body still (expired s.locks) refl
+
+  -- a round later who is in the queue still is
+  round_waits : (s : LqhState) → RowWaits s (Host Round) (expire.round_row s).state (expire.round_row s).effects.sends
+  round_waits s = record {
+    few = λ q. r.few (λ on. q (same ∙ on));
+    there = λ q on. r.there (λ o. q (same ∙ o)) on;
+    served = λ one forth some off. back (r.served one forth some off);
+  }
+    where
+      aged : LqhState
+      aged = expire.aged s
+
+      r : RowWaits (expire.aged s) (Host Round) (expire.expire_row (expire.aged s)).state (expire.expire_row (expire.aged s)).effects.sends
+      r = expire_waits (expire.aged s) (Host Round) refl
+
+      same : queued s ≡ queued (expire.aged s)
+      same = sym (ap (λ (l : RowLock). waits tx l.queue) (lock-aged s.locks key) ∙ waits_aged tx (lock_at s.locks key).queue)
+
+      back : ((1 ≤ waiting s) × ((queued (expire.aged s) ≡ false) × (is_more_body (Host Round) ≡ false))) ⊎ (1 ≤ goes_on s.node (expire.expire_row (expire.aged s)).effects.sends)
+          → ((1 ≤ waiting s) × ((queued s ≡ false) × (is_more_body (Host Round) ≡ false))) ⊎ (1 ≤ goes_on s.node (expire.expire_row (expire.aged s)).effects.sends)
+      back (inl p) = inl (p.0, (same ∙ p.1.0, p.1.1))
+      back (inr p) = inr p
+
+  -- the others leave all that as it is
+  quiet_waits : (s : LqhState) (body : Body) (after : LqhState) (sends : List Outgoing) → is_more_body body ≡ false → after.waiting ≡ s.waiting → after.locks ≡ s.locks → hops sends ≡ 0 → RowWaits s body after sends
+  quiet_waits s body after sends still waiting_is locks_are none = record {
+    few = λ q. omega (arith, ap (tally own) waiting_is, none);
+    there = λ q on. omega (arith, ap (tally own) waiting_is, q (sym (ap (λ ls. waits tx (lock_at ls key).queue) locks_are) ∙ on));
+    served = λ one forth some off. inl (omega (arith, some, ap (tally own) waiting_is), (sym (ap (λ ls. waits tx (lock_at ls key).queue) locks_are) ∙ off, still));
+  }
+
+  wait_waits : (s : LqhState) (other : TxId) (at_key : List ℕ) → RowWaits s (Client (LqhWaitReq other at_key)) (wait.wait_row s other at_key).state (wait.wait_row s other at_key).effects.sends
+  unfolding wait.wait_row
+  wait_waits s other at_key = go (ahead_at s.locks at_key other)
+    where
+      go : (o : Option TxId) → RowWaits s (Client (LqhWaitReq other at_key)) (wait.wait_by s other o).state (wait.wait_by s other o).effects.sends
+      go None = quiet_waits s _ s [] refl refl refl refl
+      go (Some ahead) = quiet_waits s _ s _ refl refl refl refl
+
+  dump_waits : (s : LqhState) (at : ℕ) → RowWaits s (Client (DumpReq at)) (dump.dump_row s at).state (dump.dump_row s at).effects.sends
+  unfolding dump.dump_row
+  dump_waits s at = quiet_waits s (Client (DumpReq at)) (dump.dump_row s at).state (dump.dump_row s at).effects.sends refl refl refl refl
+
+  ack_waits : (s : LqhState) (other : TxId) → RowWaits s (Client (TcCommitAck other)) (wait.acknowledged s other) []
+  unfolding wait.acknowledged
+  ack_waits s other = quiet_waits s (Client (TcCommitAck other)) (wait.acknowledged s other) [] refl refl refl refl
+
+  pub lqh_waits : (s : LqhState) (body : Body) → RowWaits s body (lqh_row s body).state (lqh_row s body).effects.sends
+  lqh_waits s (Chain (LqhKeyReq other what chain at)) = request_waits s (record { tx = other; work = what; chain = chain; at = at })
+  lqh_waits s (Host (Continue work.Granted at)) = granted_waits s at
+  lqh_waits s (Chain (Commit other at_key epoch chain at)) = commit_waits s other at_key epoch chain at
+  lqh_waits s (Chain (Complete other at_key chain at)) = complete_waits s other at_key chain at
+  lqh_waits s (Chain (Abort other at_key)) = abort_waits s other at_key
+  lqh_waits s (Client (TcCommitAck other)) = ack_waits s other
+  lqh_waits s (Client (LqhWaitReq other at_key)) = wait_waits s other at_key
+  lqh_waits s (Client (DumpReq at)) = dump_waits s at
+  lqh_waits s (Host Round) = round_waits s
+  lqh_waits s (Host (Continue work.Expired at)) = expire_waits s (Host (Continue work.Expired at)) refl
+  lqh_waits s _ = quiet_waits s _ s [] refl refl refl refl
