@@ -49,3 +49,5 @@ pub mod Wants
 pub mod Heard
 pub mod QueueWaits
 pub mod LqhWaits
+pub mod LqhForth
+pub mod TcForth

@@ -29,19 +29,21 @@ pub record IsPartKind (kind : Body → Bool) (tx : TxId) : Type 0 where
   pub cont : (at : ℕ) → kind (Host (Continue (work.Transaction tx) at)) ≡ true
   pub report : (epoch : ℕ) → kind (Client (TcCommitConf tx epoch)) ≡ true
 
+-- a part of a list is of the kind that the list is of, and the signal to go on
+pub part_of : (kind : Body → Bool) (tx : TxId) → ((at : ℕ) → kind (Host (Continue (work.Transaction tx) at)) ≡ true) → (node : ℕ) (sends : List Outgoing) (at : ℕ) → are_of kind sends ≡ true
+    → are_of kind (part_effects node tx sends at).sends ≡ true
+unfolding part_effects
+part_of kind tx cont node sends at plain =
+    of_append kind (take 8 (drop at sends)) (rest_if node tx at (nat_lt (at + 8) (length sends)))
+    (of_take kind 8 (drop at sends) (of_drop kind at sends plain)) (rest (nat_lt (at + 8) (length sends)))
+  where
+    rest : (b : Bool) → are_of kind (rest_if node tx at b) ≡ true
+    rest true = ap (λ b. if b then true else false) (cont (at + 8))
+    rest false = refl
+
 module _ (kind : Body → Bool) (tx : TxId) (p : IsPartKind kind tx) where
   one_of : (b : Bool) → b ≡ true → (if b then true else false) ≡ true
   one_of b e = ap (λ b. if b then true else false) e
-
-  rest_of : (node at : ℕ) (b : Bool) → are_of kind (rest_if node tx at b) ≡ true
-  rest_of node at true = one_of _ (p.cont (at + 8))
-  rest_of node at false = refl
-
-  part_of : (node : ℕ) (sends : List Outgoing) (at : ℕ) → are_of kind sends ≡ true → are_of kind (part_effects node tx sends at).sends ≡ true
-  unfolding part_effects
-  part_of node sends at plain =
-      of_append kind (take 8 (drop at sends)) (rest_if node tx at (nat_lt (at + 8) (length sends)))
-      (of_take kind 8 (drop at sends) (of_drop kind at sends plain)) (rest_of node at (nat_lt (at + 8) (length sends)))
 
   front_of : (phase : Phase) → are_of kind (front_sends tx phase) ≡ true
   unfolding front_sends
@@ -69,7 +71,7 @@ module _ (kind : Body → Bool) (tx : TxId) (p : IsPartKind kind tx) where
 
   -- a part of a list, and the first part
   pub parts_of : (node : ℕ) (view : View) (phase : Phase) (touched : List Touched) (at : ℕ) → are_of kind (part_effects node tx (phase_sends view tx phase touched) at).sends ≡ true
-  parts_of node view phase touched at = part_of node (phase_sends view tx phase touched) at (phase_of view phase touched)
+  parts_of node view phase touched at = part_of kind tx p.cont node (phase_sends view tx phase touched) at (phase_of view phase touched)
 
   pub entering_of : (node : ℕ) (view : View) (t : Transaction) (phase : Phase) → are_of kind (entering node view tx t phase).effects.sends ≡ true
   unfolding entering
