@@ -11,7 +11,8 @@ use Rattle.node_core.specs.Row.{node_row, row}
 use Rattle.lqh_block.specs.Lqh.{lqh_row}
 use Rattle.run_theory.proofs.Along.{along_run, of_runs}
 use Rattle.run_theory.proofs.Runs.{log_of-other, log_of-own, log_of-past, logs_of_run}
-use Rattle.run_theory.specs.Links.{is_from, sent, taken}
+use Rattle.node_core.specs.Requests.{is_request}
+use Rattle.run_theory.specs.Links.{IsGiven, is_from, sent, taken}
 use Rattle.run_theory.specs.Lists.{Each, IsIn, IsPast}
 use Rattle.run_theory.specs.Runs.{AreLogs, Happens, IsWithin, Run, log_of}
 use Rattle.sig_core.specs.declared.log.LogStep.{LogStep}
@@ -73,6 +74,7 @@ module _ (start : Start) where
     pub within : IsWithin (start.nodes + 1) now
     pub own : now h ≡ e ∷ logs h
     pub others : (k : ℕ) → k ≢ h → now k ≡ logs k
+    pub takes : is_request e.taken.body ≡ false → IsGiven (machine start) e.taken.from.0 h (logs e.taken.from.0) (e.taken ∷ taken (machine start) e.taken.from.0 (logs h))
 
   log_nil : (newer log : List LogStep) → [] ≡ newer ++ log → log ≡ []
   log_nil [] log is = sym is
@@ -99,6 +101,7 @@ module _ (start : Start) where
             within = in_now;
             own = log_of-own (machine start) e es e.taken.to.node refl;
             others = λ k differs. log_of-other (machine start) e es k (λ same. differs (sym same));
+            takes = happens.takes;
           })
           (before (λ k high. let past = log_of-past (machine start) e es k in log_nil past.newer (log_of (machine start) es k) (sym (in_now k high) ∙ past.is)))
         where

@@ -51,3 +51,4 @@ pub mod QueueWaits
 pub mod LqhWaits
 pub mod LqhForth
 pub mod TcForth
+pub mod Flows
