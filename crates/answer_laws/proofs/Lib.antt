@@ -52,3 +52,4 @@ pub mod LqhWaits
 pub mod LqhForth
 pub mod TcForth
 pub mod Flows
+pub mod Lone
