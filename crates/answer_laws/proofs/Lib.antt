@@ -53,3 +53,5 @@ pub mod LqhForth
 pub mod TcForth
 pub mod Flows
 pub mod Lone
+pub mod LqhNode
+pub mod Undecided
