@@ -1,7 +1,7 @@
 -- What is on its way between the hosts, step by step.
 use Rattle.std.proofs.Common.{◌≡◌, ◌≢◌, ◌⊎◌, ℕ, zero, suc, ◌+◌, ◌≤◌, ◌<◌, List, [], ◌∷◌, Bool, true, false, refl, ap, sym, ◌∙◌, subst, arith, inl, inr}
 use Rattle.std.specs.Prelude.{◌==◌, ◌&&◌, not}
-use Rattle.std.proofs.lemmas.Bool.{cases_eq, cases_lt}
+use Rattle.std.proofs.lemmas.Bool.{cases_eq, cases_lt, eqb-true}
 use Rattle.std.proofs.lemmas.Bool.Decides.{nat_tests}
 use Rattle.node_core.specs.Requests.{is_request}
 use Rattle.run_theory.specs.Links.{IsGiven, is_from, sent, taken}
@@ -15,8 +15,9 @@ use Rattle.world_core.specs.Machine.{machine, step_after}
 use Rattle.world_core.specs.Start.{Start}
 use Rattle.answer_laws.proofs.Ahead.{Goes, few_taken}
 use Rattle.answer_laws.proofs.Begins.{given_past}
-use Rattle.answer_laws.proofs.LinkCounts.{signals}
+use Rattle.answer_laws.proofs.LinkCounts.{signals, taken_signals}
 use Rattle.answer_laws.proofs.Lives.{all_three}
+use Rattle.answer_laws.proofs.LqhOps.{right_of, true_and}
 use Rattle.answer_laws.proofs.Tally.{one_if, tally_past}
 use Rattle.answer_laws.proofs.Totals.{Grown, sent_all, sent_few, taken_all, taken_exact, total, total_at, total_le, total_less}
 use Rattle.answer_laws.proofs.Wishes.{sends_of}
@@ -69,3 +70,21 @@ module _ (start : Start) (test : Place → Body → Bool) (logs now : ℕ → Li
 -- no more is taken than sent
 pub flow_few : (start : Start) (test : Place → Body → Bool) (logs : ℕ → List LogStep) → AreLogs (machine start) logs → taken_all start (start.nodes + 1) test logs ≤ sent_all start (start.nodes + 1) test logs
 flow_few start test logs right = total_le (start.nodes + 1) _ _ (λ i low. total_le (start.nodes + 1) _ _ (λ j under. few_taken start logs right test i j))
+
+-- with one that is taken from a host's own link no more is taken than had been sent before
+pub flow_grows : (start : Start) (test : Place → Body → Bool) (logs now : ℕ → List LogStep) (h : ℕ) (e : LogStep) → Goes start logs now h e → is_request e.taken.body ≡ false → test e.taken.to e.taken.body ≡ true
+    → is_from (machine start) h e ≡ true → signals test (taken (machine start) h (now h)) ≤ signals test (sent (machine start) h h (logs h))
+flow_grows start test logs now h e g plain passes from =
+    omega (
+      arith,
+      ap (λ log. signals test (taken (machine start) h log)) g.own,
+      taken_signals start test h e (logs h),
+      ap one_if (true_and (is_from (machine start) h e) (test e.taken.to e.taken.body) from passes),
+      subst (λ j. signals test (taken (machine start) j (logs h)) + 1 ≤ signals test (sent (machine start) j h (logs j))) same (coming start test logs now h e g plain passes),
+    )
+  where
+    same : e.taken.from.0 ≡ h
+    same = by (e.taken.from.0 == h) refl (right_of (not (is_request e.taken.body)) (e.taken.from.0 == h) from)
+      where
+        by : (b : Bool) → (e.taken.from.0 == h) ≡ b → (e.taken.from.0 == h) ≡ true → e.taken.from.0 ≡ h
+        by b q on = eqb-true e.taken.from.0 h on

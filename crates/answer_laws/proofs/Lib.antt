@@ -55,3 +55,5 @@ pub mod Flows
 pub mod Lone
 pub mod LqhNode
 pub mod Undecided
+pub mod Rights
+pub mod Queued

@@ -364,7 +364,7 @@ module _ (start : Start) (tx : TxId) (key : List ℕ) where
         finish (of_lqh at is sends) = rows_balanced logs now i e g x.state x.is n at (ap (λ (y : node.Node). y.lqh) is) sends
         finish (of_tc at is sends) = still_balanced logs now i e g x.state x.is n (ap (λ (y : node.Node). y.lqh) is) (ap (hops tx key) sends ∙ of_tc_step (tx_step tx x.state.tc e.taken.body x.once x.own))
 
-    lone_step : (logs now : ℕ → List LogStep) (i : ℕ) (e : LogStep) → Goes start logs now i e → IsLone h logs → IsLone h now
+    pub lone_step : (logs now : ℕ → List LogStep) (i : ℕ) (e : LogStep) → Goes start logs now i e → IsLone h logs → IsLone h now
     lone_step logs now zero e g k = other_lone logs now (g.others (suc h) (λ z. absurd (omega (arith, z)))) (shell_balanced logs now e g) k
     lone_step logs now (suc i) e g k = by (cases_eq (suc i) (suc h))
       where
@@ -381,7 +381,7 @@ module _ (start : Start) (tx : TxId) (key : List ℕ) where
     zeros zero f none = refl
     zeros (suc m) f none = omega (arith, none m, zeros m f none)
 
-    first_lone : IsLone h (log_of (machine start) [])
+    pub first_lone : IsLone h (log_of (machine start) [])
     first_lone =
         let s : S (log_of (machine start) []) ≡ 0 = zeros (start.nodes + 1) _ (λ i. zeros (start.nodes + 1) _ (λ j. refl)) in
         let w : W (log_of (machine start) []) ≡ 0 = zeros (start.nodes + 1) _ first_waits in

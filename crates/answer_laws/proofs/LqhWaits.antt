@@ -147,7 +147,7 @@ module _ (tx : TxId) (key : List ℕ) where
   perform_once s r = perform_by_once s r.tx r.chain r.at r.work
 
   -- a request of the transaction for the key is granted where the transaction isn't in the queue
-  granted_is : (s : LqhState) (r : Request) → own r ≡ true → operate.is_granted s.locks r ≡ not (queued s)
+  pub granted_is : (s : LqhState) (r : Request) → own r ≡ true → operate.is_granted s.locks r ≡ not (queued s)
   granted_is s r mine =
       let one : r.tx ≡ tx = same_tx-is r.tx tx (left_of (same_tx r.tx tx) (same_key (work_key r.work) key) mine) in
       let on : work_key r.work ≡ key = same_key-is (work_key r.work) key (right_of (same_tx r.tx tx) (same_key (work_key r.work) key) mine) in

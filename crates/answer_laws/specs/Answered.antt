@@ -222,3 +222,9 @@ IsNumbered t = is_beginning t.doing ≡ false → is_some t.tx ≡ true
 
 abbrev pub EachIsNumbered : Type 0
 EachIsNumbered = EachAtQuiet (λ start logs t. IsNumbered t)
+
+-- an operation that a coordinator's transaction has unanswered waits in the queue of a lock
+abbrev pub EachOperationIsQueued : Type 0
+EachOperationIsQueued =
+    (start : Start) (logs : ℕ → List LogStep) (node : ℕ) (tx : TxId) (t : Transaction) (asked : Asked) → AreQuiet start logs → node ≤ start.nodes
+    → IsLiveAs tx t (after start node (logs node)) → t.asked ≡ Some asked → WaitsForLock start logs tx
