@@ -57,3 +57,4 @@ pub mod LqhNode
 pub mod Undecided
 pub mod Rights
 pub mod Queued
+pub mod Answers

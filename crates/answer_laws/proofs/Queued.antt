@@ -51,7 +51,7 @@ use Rattle.answer_laws.proofs.TcLives.{IsOwn}
 use Rattle.answer_laws.proofs.TcOps.{is_right, may_ask}
 use Rattle.answer_laws.proofs.TcSends.{same_tx-self}
 use Rattle.answer_laws.proofs.TcSteps.{live_in, of_live}
-use Rattle.answer_laws.proofs.Totals.{sent_all}
+use Rattle.answer_laws.proofs.Totals.{sent_all, sent_least}
 use Rattle.answer_laws.proofs.Undecided.{F, IsBack, forth_at, is_undecided, none_came}
 use Rattle.answer_laws.proofs.Flows.{flow_grows}
 use Rattle.answer_laws.proofs.Rights.{asked_undecided}
@@ -204,3 +204,92 @@ module _ (start : Start) (tx : TxId) (key : List ℕ) (h : ℕ) (home : tx.tc �
               still true q = absurd (false≢true (sym p.1.1 ∙ more_at (suc i) e.taken.to e.taken.body q))
           by (inr more) =
               omega (arith, sent_now, taken_few, more, ap (λ j. goes_on tx key j (lqh_row x.state.lqh e.taken.body).effects.sends) x.number, ap (goes_on tx key (suc i)) sends)
+
+  -- what was sent stays sent
+  before_none : (logs now : ℕ → List LogStep) (j : ℕ) (e : LogStep) → Goes start logs now j e → F start tx h home now ≡ 0 → F start tx h home logs ≡ 0
+  before_none logs now j e g none = omega (arith, none, sent_least start (start.nodes + 1) (forth_at tx) logs now j e g.low (record { own = g.own; others = g.others }))
+
+  step : (logs now : ℕ → List LogStep) (j : ℕ) (e : LogStep) → Goes start logs now j e → IsServed logs → IsServed now
+  step logs now j e g k = record { lone = lone_step start tx key h home logs now j e g k.lone; served = by (cases_eq j (suc i)) }
+    where
+      by : (j ≡ suc i) ⊎ (j ≢ suc i) → F start tx h home now ≡ 0 → (y : node.Node) → after start (suc i) (now (suc i)) ≡ Node y → 1 ≤ waiting tx key y.lqh → queued tx key y.lqh ≡ false
+          → more_taken (now (suc i)) + 1 ≤ more_sent (now (suc i))
+      by (inl same) none y y_is some off = own_served logs now e (subst (λ m. Goes start logs now m e) same g) k (before_none logs now j e g) none y y_is some off
+      by (inr differs) none y y_is some off =
+          let log_is = g.others (suc i) (λ z. differs (sym z)) in
+          omega (arith, k.served (before_none logs now j e g none) y (ap (after start (suc i)) (sym log_is) ∙ y_is) some off, ap more_taken log_is, ap more_sent log_is)
+
+  first_none_waits : (y : node.Node) → after start (suc i) [] ≡ Node y → waiting tx key y.lqh ≡ 0
+  unfolding fresh_node begun_node
+  first_none_waits y y_is = ap (λ (z : node.Node). waiting tx key z.lqh) (same_node y (begun_node (i + 1) (first_view start.nodes) start.epoch start.rows) (sym y_is))
+
+  first : IsServed (log_of (machine start) [])
+  first = record { lone = first_lone start tx key h home; served = λ none y y_is some off. absurd (omega (arith, some, first_none_waits y y_is)) }
+
+  -- at quiet who waits is in the queue
+  all_queued : (logs : ℕ → List LogStep) → AreQuiet start logs → F start tx h home logs ≡ 0 → (y : node.Node) → after start (suc i) (logs (suc i)) ≡ Node y → 1 ≤ waiting tx key y.lqh → queued tx key y.lqh ≡ true
+  all_queued logs quiet none y y_is some = by (queued tx key y.lqh) refl
+    where
+      by : (b : Bool) → queued tx key y.lqh ≡ b → queued tx key y.lqh ≡ true
+      by true q = q
+      by false q =
+          absurd (omega (
+            arith,
+            (along start IsServed first step logs quiet.within quiet.right).served none y y_is some q,
+            ap (signals (is_more (suc i))) (quiet.quiet (suc i) (suc i) low low),
+          ))
+
+-- who is known to wait is in the queue
+module _ (start : Start) (logs : ℕ → List LogStep) (quiet : AreQuiet start logs) (tx : TxId) (key : List ℕ) (h : ℕ) (home : tx.tc ≡ suc h) (none : F start tx h home logs ≡ 0) where
+  there_queued : (i : ℕ) → suc i ≤ start.nodes → IsWaitingAt tx key (after start (suc i) (logs (suc i))) → IsQueuedAt tx (after start (suc i) (logs (suc i)))
+  there_queued i low w = subst (IsQueuedAt tx) (sym x.is) (here (subst (IsWaitingAt tx key) x.is w))
+    where
+      x : AtNode start tx i (logs (suc i))
+      x = at_node start tx i (logs (suc i))
+
+      here : IsWaiting tx key x.state.lqh → IsQueuedAt tx (Node x.state)
+      here w = record {
+        request = w.request;
+        waits = w.waits;
+        own = w.own;
+        queued = granted_is tx key x.state.lqh w.request mine ∙ ap not (all_queued start tx key h home i (omega (arith, low)) logs quiet none x.state x.is some);
+      }
+        where
+          mine : (same_tx w.request.tx tx && same_key (work_key w.request.work) key) ≡ true
+          mine =
+              true_and (same_tx w.request.tx tx) (same_key (work_key w.request.work) key) (ap (λ t. same_tx t tx) w.own ∙ same_tx-self tx)
+              (ap (λ k. same_key k key) w.on ∙ same_key-self key)
+
+          some : 1 ≤ waiting tx key x.state.lqh
+          some = tally_in (λ (r : Request). same_tx r.tx tx && same_key (work_key r.work) key) w.request x.state.lqh.waiting w.waits mine
+
+  waits_queued : Waits start logs tx key → WaitsForLock start logs tx
+  waits_queued w = by w.node refl
+    where
+      by : (m : ℕ) → w.node ≡ m → WaitsForLock start logs tx
+      by zero is = absurd (omega (arith, w.from, is))
+      by (suc i) is = record {
+        node = suc i;
+        from = omega arith;
+        to = omega (arith, w.to, is);
+        there = there_queued i (omega (arith, w.to, is)) (subst (λ m. IsWaitingAt tx key (after start m (logs m))) is w.there);
+      }
+
+pub operations_queue : EachOperationIsQueued
+operations_queue start logs zero tx t asked quiet low live is = absurd (subst (λ g. IsLiveAs tx t g) (shell_after start (logs 0)).is live)
+operations_queue start logs (suc h) tx t asked quiet low live is = waits_queued start logs quiet tx (key_of asked.op) h home none (operations_wait start logs (suc h) tx t asked quiet low live is)
+  where
+    x : AtNode start tx h (logs (suc h))
+    x = at_node start tx h (logs (suc h))
+
+    inside : IsIn (tx, t) x.state.tc.live
+    inside = subst (λ g. IsLiveAs tx t g) x.is live
+
+    there : tx_at tx (after start (suc h) (logs (suc h))) ≡ Some t
+    there = ap (tx_at tx) x.is ∙ live_in tx t x.state.tc.live x.once inside
+
+    home : tx.tc ≡ suc h
+    home = (each_in (λ (e : TxId × Transaction). IsOwn x.state.tc.node x.state.tc.next_seq e.0) (tx, t) x.state.tc.live x.own inside).home ∙ x.number
+
+    none : F start tx h home logs ≡ 0
+    none = (is_undecided start tx h home logs quiet.within quiet.right).undecided t there (asked_undecided start tx h (logs (suc h)) t asked there is)

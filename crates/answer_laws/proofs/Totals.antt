@@ -179,6 +179,17 @@ module _ (start : Start) (n : ℕ) (test : Place → Body → Bool) where
           (λ j under. sent_signals start test h j e (logs h))
           ∙ total_add n (λ j. sends_of (to_node j test) (step_after start h (logs h) e).effects.sends) (λ j. signals test (sent (machine start) h j (logs h)))
 
+  -- nor less than before
+  pub sent_least : (logs now : ℕ → List LogStep) (h : ℕ) (e : LogStep) → h < n → Grown logs now h e → sent_all logs ≤ sent_all now
+  sent_least logs now h e under grown =
+      omega (
+        arith,
+        total_one n (λ i. total n (λ j. signals test (sent (machine start) i j (logs i)))) (λ i. total n (λ j. signals test (sent (machine start) i j (now i)))) h under
+            (λ k differs. ap (λ log. total n (λ j. signals test (sent (machine start) k j log))) (grown.others k differs)),
+        ap (λ log. total n (λ j. signals test (sent (machine start) h j log))) grown.own,
+        total_le n (λ j. signals test (sent (machine start) h j (logs h))) (λ j. signals test (sent (machine start) h j (e ∷ logs h))) (λ j low. omega (arith, sent_signals start test h j e (logs h))),
+      )
+
   -- what was taken before, and what this step took
   pub taken_exact : (logs now : ℕ → List LogStep) (h : ℕ) (e : LogStep) → h < n → Grown logs now h e
       → taken_all now ≡ taken_all logs + total n (λ i. one_if (is_from (machine start) i e && test e.taken.to e.taken.body))

@@ -1,5 +1,5 @@
 //! What is proved of quiet worlds.
-ghost use Rattle.answer_laws.specs.Answered.{EachAskedWhereOperating, EachAsksWhereOperating, EachClosedWhereCommitting, EachHasCoordinator, EachIsNumbered, EachIsServed, EachOperationWaits, NoAbortIsAwaited, NoBeginIsLost, NoCommitIsAwaited, NoEpochIsAwaited};
+ghost use Rattle.answer_laws.specs.Answered.{EachAskedWhereOperating, EachAsksWhereOperating, EachClosedWhereCommitting, EachHasCoordinator, EachIsAnswered, EachIsNumbered, EachIsServed, EachOperationIsQueued, EachOperationWaits, NoAbortIsAwaited, NoBeginIsLost, NoCommitIsAwaited, NoEpochIsAwaited};
 ghost use Rattle.answer_laws.specs.Sample.{SampleIsQuiet};
 
 /// When nothing is under way, whether a transaction begins is answered.
@@ -58,6 +58,18 @@ pub fn each_commit_is_heard()
 #[tactic(auto, using(crate::proofs::Heard::each_numbered))]
 pub fn each_is_numbered()
     ensures { EachIsNumbered }
+{}
+
+/// When nothing is under way, each operation that a coordinator's transaction has unanswered waits in the queue of a lock.
+pub fn each_operation_is_queued()
+    ensures { EachOperationIsQueued }
+{}
+
+/// When nothing is under way, each transaction whose end isn't reported takes operations, and none is unanswered, or it has
+/// an operation that waits in the queue of a lock.
+#[tactic(auto, using(crate::proofs::Answers::each_answered))]
+pub fn each_is_answered()
+    ensures { EachIsAnswered }
 {}
 
 /// All that together, of each transaction whose end isn't reported.
