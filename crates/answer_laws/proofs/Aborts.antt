@@ -1,7 +1,7 @@
 -- What a transaction that aborts waits for is on its way, or it has an operation unanswered.
 use Rattle.std.proofs.Common.{◌≡◌, ◌≢◌, ◌⊎◌, ℕ, zero, suc, ◌+◌, ◌*◌, ◌≤◌, ◌<◌, List, [], ◌∷◌, ◌++◌, length, Bool, true, false, refl, ap, sym, ◌∙◌, subst, arith, inl, inr}
 use Rattle.std.specs.Prelude.{◌==◌, ◌&&◌, nat_lt, if◌then◌else◌, Option, None, Some}
-use Rattle.std.proofs.lemmas.Bool.{cases_eq, eqb-true, false≢true}
+use Rattle.std.proofs.lemmas.Bool.{cases_eq, eqb-true}
 use Rattle.std.proofs.lemmas.Bool.Decides.{nat_tests}
 use Rattle.lqh_block.specs.Abort.{abort_row, refused_by, waits_at}
 use Rattle.lqh_block.specs.Lqh.{lqh_row}
@@ -17,12 +17,10 @@ use Rattle.sig_core.specs.declared.member.Member.{Member}
 use Rattle.sig_core.specs.declared.member.TxId.{TxId}
 use Rattle.sig_core.specs.declared.outcome.AbortCause.{AbortCause}
 use Rattle.sig_core.specs.declared.outs.Outgoing.{Outgoing}
-use Rattle.sig_core.specs.declared.place.BlockId.TheVariants as block
 use Rattle.sig_core.specs.declared.place.Place.{Place}
 use Rattle.sig_core.specs.declared.signal.Body.{Body}
-use Rattle.sig_core.specs.declared.signal.Body.TheVariants.{Host, Client, Chain}
+use Rattle.sig_core.specs.declared.signal.Body.TheVariants.{Host, Chain}
 use Rattle.sig_core.specs.declared.signal.chain.ChainSignal.TheVariants.{Abort, Aborted}
-use Rattle.sig_core.specs.declared.signal.client.ClientSignal.TheVariants.{TcBeginReq}
 use Rattle.sig_core.specs.declared.signal.host.HostSignal.TheVariants.{Continue}
 use Rattle.sig_core.specs.declared.signal.host.Work.TheVariants as work
 use Rattle.sig_core.specs.declared.view.View.{View}
@@ -36,24 +34,22 @@ use Rattle.tc_block.specs.declared.transaction.Transaction.{Transaction}
 use Rattle.tc_block.specs.Abort.{asked_count, replica_count}
 use Rattle.tc_block.specs.Chain.{chain_of}
 use Rattle.tc_block.specs.Operate.{fresh}
-use Rattle.tc_block.specs.State.{TcState}
 use Rattle.tc_block.specs.Tc.{tc_row}
-use Rattle.tc_block.specs.Turn.{Turn}
 use Rattle.world_core.specs.Machine.{after, machine, step_after}
 use Rattle.world_core.specs.Start.{Start, first_view, members}
-use Rattle.answer_laws.proofs.Ahead.{AtNode, Goes, NextAt, NodeStep, along, at_node, few_taken, first_none, is_dih, link, next_at, of_dih, of_lqh, of_none, of_tc, tx_at}
+use Rattle.answer_laws.proofs.Ahead.{AtNode, Goes, NextAt, NodeStep, along, at_node, few_taken, first_none, next_at, of_dih, of_lqh, of_none, of_tc, tx_at}
 use Rattle.answer_laws.proofs.Always.{few_touched}
 use Rattle.answer_laws.proofs.Hosts.{shell_after}
 use Rattle.answer_laws.proofs.LinkCounts.{sent_signals, signals, taken_signals}
 use Rattle.answer_laws.proofs.LqhOps.{is_good, is_lqh, is_node, left_of, right_of, true_and}
 use Rattle.answer_laws.proofs.Ops.{good_members}
-use Rattle.answer_laws.proofs.Tally.{one_if, tally, tally_append, tally_past}
+use Rattle.answer_laws.proofs.Tally.{one_if, tally_append}
 use Rattle.answer_laws.proofs.TcAborts.{AbortMove, IsPart, abort_move, aborted_body, begins, continues, is_abort, waits}
 use Rattle.answer_laws.proofs.TcCommits.{is_cont}
 use Rattle.answer_laws.proofs.TcLives.{IsOwn}
 use Rattle.answer_laws.proofs.TcMoves.{same_tx-is}
-use Rattle.answer_laws.proofs.TcSends.{eqb-self, same_tx-self, tx_in}
-use Rattle.answer_laws.proofs.TcSteps.{TxStep, born, elsewhere, left_of_turn, live_in, of_live, turned, tx_step}
+use Rattle.answer_laws.proofs.TcSends.{eqb-self, tx_in}
+use Rattle.answer_laws.proofs.TcSteps.{TxStep, born, elsewhere, live_in, of_live, turned, tx_step}
 use Rattle.answer_laws.proofs.TcTurns.{is_turn}
 use Rattle.answer_laws.proofs.Totals.{Grown, sent_all, sent_more, taken_all, taken_more, total_le, total_same}
 use Rattle.answer_laws.proofs.Wishes.{is_tc, sends_of, to_node}

@@ -1,6 +1,6 @@
 -- Laws that each step of a host keeps, and what is known of a node after a log.
-use Rattle.std.proofs.Common.{◌≡◌, ◌≢◌, ◌⊎◌, ℕ, suc, ◌+◌, ◌≤◌, ◌<◌, List, [], ◌∷◌, ◌++◌, Bool, true, false, refl, ap, sym, ◌∙◌, subst, arith, inl, inr}
-use Rattle.std.specs.Prelude.{Option, None, Some}
+use Rattle.std.proofs.Common.{◌≡◌, ◌≢◌, ◌⊎◌, ℕ, suc, ◌+◌, ◌≤◌, ◌<◌, List, [], ◌∷◌, ◌++◌, Bool, true, false, refl, ap, sym, ◌∙◌, arith, inl, inr}
+use Rattle.std.specs.Prelude.{Option, None}
 use Rattle.std.proofs.lemmas.Bool.{cases_lt}
 use Rattle.node_core.specs.declared.host.Host as host
 use Rattle.node_core.specs.declared.host.Host.TheVariants.{Shell, Node}
@@ -12,8 +12,8 @@ use Rattle.lqh_block.specs.Lqh.{lqh_row}
 use Rattle.run_theory.proofs.Along.{along_run, of_runs}
 use Rattle.run_theory.proofs.Runs.{log_of-other, log_of-own, log_of-past, logs_of_run}
 use Rattle.node_core.specs.Requests.{is_request}
-use Rattle.run_theory.specs.Links.{IsGiven, is_from, sent, taken}
-use Rattle.run_theory.specs.Lists.{Each, IsIn, IsPast}
+use Rattle.run_theory.specs.Links.{IsGiven, sent, taken}
+use Rattle.run_theory.specs.Lists.{Each, IsPast}
 use Rattle.run_theory.specs.Runs.{AreLogs, Happens, IsWithin, Run, log_of}
 use Rattle.sig_core.specs.declared.log.LogStep.{LogStep}
 use Rattle.sig_core.specs.declared.member.TxId.{TxId}
@@ -30,7 +30,7 @@ use Rattle.world_core.specs.Machine.{after, machine, step_after}
 use Rattle.world_core.specs.Start.{Start, first_view}
 use Rattle.answer_laws.proofs.Begins.{given_past}
 use Rattle.answer_laws.proofs.Hosts.{node_after}
-use Rattle.answer_laws.proofs.Lives.{NodeKeeps, keeps}
+use Rattle.answer_laws.proofs.Lives.{keeps}
 use Rattle.answer_laws.proofs.LinkCounts.{signals}
 use Rattle.answer_laws.proofs.LqhOps.{is_lqh}
 use Rattle.answer_laws.proofs.Ops.{same_node, tc_view}
@@ -39,7 +39,6 @@ use Rattle.answer_laws.proofs.TcLives.{IsOwn, is_keyed}
 use Rattle.answer_laws.proofs.TcMoves.{node_moves}
 use Rattle.answer_laws.proofs.TcSteps.{of_live}
 use Rattle.answer_laws.proofs.Wishes.{is_tc}
-use Rattle.answer_laws.specs.Answered.{AreQuiet}
 
 -- the transaction at a host's coordinator
 abbrev pub tx_at : TxId → host.Host → Option Transaction

@@ -1,5 +1,5 @@
 -- At quiet each command is answered, but for an operation that waits for a lock.
-use Rattle.std.proofs.Common.{◌≡◌, ◌≤◌, ℕ, List, Bool, true, false, refl, ap, sym, ◌∙◌, subst}
+use Rattle.std.proofs.Common.{◌≡◌, ◌≤◌, ℕ, List, true, false, refl, ap, sym, ◌∙◌}
 use Rattle.std.specs.Prelude.{is_some, Option, None, Some}
 use Rattle.std.proofs.lemmas.Bool.{false≢true, true≢false}
 use Rattle.api_block.specs.declared.opened.Doing.{Doing}

@@ -3,9 +3,7 @@ use Rattle.std.proofs.Common.{◌≡◌, ◌⊎◌, ℕ, ◌+◌, ◌≤◌, ◌
 use Rattle.std.specs.Prelude.{◌==◌, ◌&&◌, nat_lt, is_some, if◌then◌else◌, Option, None, Some}
 use Rattle.std.proofs.lemmas.Bool.{false≢true}
 use Rattle.std.proofs.lemmas.Bool.Decides.{nat_tests}
-use Rattle.run_theory.proofs.Pasts.{each_append}
 use Rattle.run_theory.specs.Lists.{Each, IsIn}
-use Rattle.sig_core.specs.declared.log.LogStep.{LogStep}
 use Rattle.sig_core.specs.declared.member.TxId.{TxId}
 use Rattle.sig_core.specs.declared.op.Answer.{Answer}
 use Rattle.sig_core.specs.declared.op.Op.{Op}
@@ -19,25 +17,21 @@ use Rattle.sig_core.specs.declared.signal.client.ClientSignal.TheVariants.{TcBeg
 use Rattle.sig_core.specs.Place.{coordinator_of}
 use Rattle.sig_core.specs.Same.{same_tx}
 use Rattle.sig_core.specs.Step.{Step, to_place}
-use Rattle.api_block.specs.declared.opened.Doing.{Doing}
-use Rattle.api_block.specs.declared.opened.Doing.TheVariants.{Beginning, Ready, Operating, Committing}
+use Rattle.api_block.specs.declared.opened.Doing.TheVariants.{Ready, Operating, Committing}
 use Rattle.api_block.specs.declared.opened.OpenTransaction.{OpenTransaction}
 use Rattle.api_block.specs.Opened.{asked_for, has_tx, is_beginning, is_tx}
 use Rattle.api_block.specs.State.{ApiState}
 use Rattle.node_core.specs.Row.{shell_row}
-use Rattle.world_core.specs.Machine.{after}
-use Rattle.world_core.specs.Start.{Start}
-use Rattle.answer_laws.proofs.ApiBegins.{AreGood, IsGood, each_at, each_changed, each_less}
+use Rattle.answer_laws.proofs.ApiBegins.{AreGood, IsGood, each_at}
 use Rattle.answer_laws.proofs.ApiTurns.{ApiStep, Changes, IsUnheard, Unheard, absent, answered_last, answered_ready, api_step, begins_ready, begins_working, changes, commits, drops, idle, is_calm, notes, opens, rests, works}
-use Rattle.answer_laws.proofs.Hosts.{opened_first, opened_next, shell_after}
 use Rattle.answer_laws.proofs.SendKinds.{are_of, none_of}
 use Rattle.answer_laws.proofs.Tally.{one_if, tally, tally_append, tally_between, tally_in}
 use Rattle.answer_laws.proofs.TcKeys.{answer_of, is_key, key_of_tx}
 use Rattle.answer_laws.proofs.TcLives.{start_of}
 use Rattle.answer_laws.proofs.TcMoves.{same_tx-is}
-use Rattle.answer_laws.proofs.TcSends.{eqb-self, same_tx-self}
+use Rattle.answer_laws.proofs.TcSends.{eqb-self}
 use Rattle.answer_laws.proofs.Wishes.{and_false, is_tc, sends_of, to_node}
-use Rattle.answer_laws.specs.Answered.{is_operating, opened_in}
+use Rattle.answer_laws.specs.Answered.{is_operating}
 
 -- the commit of the transaction is asked for
 abbrev pub is_commit_req : TxId → Place → Body → Bool

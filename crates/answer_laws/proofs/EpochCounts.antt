@@ -1,15 +1,12 @@
 -- Which transactions the block of epochs counts, told from what its node's coordinator sends it.
-use Rattle.std.proofs.Common.{◌≡◌, ◌⊎◌, ℕ, zero, suc, ◌+◌, ◌-◌, ◌≤◌, ◌<◌, List, [], ◌∷◌, ◌++◌, length, Bool, true, false, cond, refl, ap, sym, ◌∙◌, subst, arith, inl, inr}
+use Rattle.std.proofs.Common.{◌≡◌, ℕ, ◌+◌, ◌≤◌, ◌<◌, List, [], ◌∷◌, ◌++◌, length, Bool, true, false, cond, refl, ap, sym, ◌∙◌, subst, arith}
 use Rattle.std.specs.Prelude.{◌==◌, ◌&&◌, not, nat_lt, if◌then◌else◌, Option, None, Some, position, remove}
 use Rattle.std.specs.List.{prefix_len}
-use Rattle.std.proofs.lemmas.Bool.{false≢true, true≢false}
+use Rattle.std.proofs.lemmas.Bool.{false≢true}
 use Rattle.std.proofs.lemmas.Bool.Decides.{nat_tests}
 use Rattle.run_theory.specs.Links.{put}
-use Rattle.run_theory.specs.Lists.{Each}
 use Rattle.sig_core.specs.declared.member.TxId.{TxId}
 use Rattle.sig_core.specs.declared.outs.Outgoing.{Outgoing}
-use Rattle.sig_core.specs.declared.place.BlockId.TheVariants as block
-use Rattle.sig_core.specs.declared.place.Place.{Place}
 use Rattle.sig_core.specs.declared.signal.Body.{Body}
 use Rattle.sig_core.specs.declared.signal.Body.TheVariants.{Epoch}
 use Rattle.sig_core.specs.declared.signal.Signal.{Signal}
@@ -21,9 +18,8 @@ use Rattle.world_core.specs.Start.{Start}
 use Rattle.answer_laws.proofs.Ahead.{is_dih}
 use Rattle.answer_laws.proofs.Focus.{IsFocus, absent, found}
 use Rattle.answer_laws.proofs.SendKinds.{are_of}
-use Rattle.answer_laws.proofs.Tally.{one_if, tally, tally_append, tally_between}
+use Rattle.answer_laws.proofs.Tally.{one_if, tally, tally_between}
 use Rattle.answer_laws.proofs.TcMoves.{same_tx-is}
-use Rattle.answer_laws.proofs.TcSends.{same_tx-self}
 
 -- what the block of epochs makes of the transactions that it counts
 abbrev pub with_asked : List TxId → TxId → Bool → List TxId

@@ -1,53 +1,34 @@
 -- The block of epochs gives one to each transaction that asks, since it never counts 64 when it is asked.
-use Rattle.std.proofs.Common.{◌≡◌, ◌≢◌, ◌⊎◌, ℕ, zero, suc, ◌+◌, ◌≤◌, ◌<◌, List, [], ◌∷◌, ◌++◌, length, Bool, true, false, refl, ap, sym, ◌∙◌, subst, arith, inl, inr}
-use Rattle.std.specs.Prelude.{◌==◌, ◌&&◌, not, nat_lt, if◌then◌else◌, Option, None, Some, position}
-use Rattle.std.proofs.lemmas.Bool.{cases_eq, eqb-true, false≢true}
+use Rattle.std.proofs.Common.{◌≡◌, ℕ, ◌+◌, ◌≤◌, ◌<◌, List, ◌∷◌, length, Bool, true, false, refl, ap, ◌∙◌, arith}
+use Rattle.std.specs.Prelude.{◌==◌, ◌&&◌, not, nat_lt, Option, None, Some, position}
 use Rattle.std.proofs.lemmas.Bool.Decides.{nat_tests}
 use Rattle.api_block.specs.declared.opened.OpenTransaction.{OpenTransaction}
 use Rattle.api_block.specs.State.{ApiState}
-use Rattle.lqh_block.specs.Lqh.{lqh_row}
-use Rattle.node_core.specs.declared.host.Host.TheVariants.{Node}
-use Rattle.node_core.specs.declared.node.Node as node
 use Rattle.node_core.specs.Dih.{DihState, decide_if, decide_row, dih_row, end_by, end_row}
-use Rattle.node_core.specs.Fresh.{begun_node, fresh_node}
-use Rattle.node_core.specs.Requests.{is_request as is_asked}
-use Rattle.node_core.specs.Row.{node_row, shell_row}
-use Rattle.run_theory.specs.Links.{is_from, sent, taken}
-use Rattle.run_theory.specs.Runs.{AreLogs}
-use Rattle.sig_core.specs.declared.log.LogStep.{LogStep}
+use Rattle.node_core.specs.Row.{shell_row}
 use Rattle.sig_core.specs.declared.member.TxId.{TxId}
 use Rattle.sig_core.specs.declared.outs.Outgoing.{Outgoing}
 use Rattle.sig_core.specs.declared.place.BlockId.{BlockId}
 use Rattle.sig_core.specs.declared.place.BlockId.TheVariants as block
 use Rattle.sig_core.specs.declared.place.Place.{Place}
 use Rattle.sig_core.specs.declared.signal.Body.{Body}
-use Rattle.sig_core.specs.declared.signal.Body.TheVariants.{Client, Epoch, Host}
+use Rattle.sig_core.specs.declared.signal.Body.TheVariants.{Client, Epoch}
 use Rattle.sig_core.specs.declared.signal.client.ClientSignal.TheVariants.{TcBeginReq}
 use Rattle.sig_core.specs.declared.signal.epoch.EpochSignal.TheVariants.{DiVerifyReq, DiVerifyConf, DiVerifyEnd}
-use Rattle.sig_core.specs.declared.signal.host.HostSignal.TheVariants.{Continue}
-use Rattle.sig_core.specs.declared.signal.host.Work.TheVariants as work
 use Rattle.sig_core.specs.declared.view.View.{View}
 use Rattle.sig_core.specs.Same.{same_tx}
 use Rattle.sig_core.specs.Step.{Step}
-use Rattle.tc_block.specs.declared.transaction.Transaction.{Transaction}
 use Rattle.tc_block.specs.Sends.{verify_end}
 use Rattle.tc_block.specs.State.{TcState}
 use Rattle.tc_block.specs.Tc.{begin_if, begin_row, is_full, tc_row}
-use Rattle.world_core.specs.Machine.{after, machine, sent_count, step_after}
-use Rattle.world_core.specs.Start.{Start, first_view}
-use Rattle.answer_laws.proofs.Ahead.{AtNode, NextAt, NodeStep, at_node, few_taken, is_dih, next_at, of_dih, of_lqh, of_none, of_tc}
+use Rattle.world_core.specs.Machine.{after}
+use Rattle.answer_laws.proofs.Ahead.{is_dih}
 use Rattle.answer_laws.proofs.ApiMoves.{ApiMove, api_moves, begun_as, ends, goes, is_api_kind, opens, refuses, rests}
-use Rattle.answer_laws.proofs.DihSends.{dih_kinds}
-use Rattle.answer_laws.proofs.EpochCounts.{AreFew, SendsFew, counted_of, counts_by, counts_if, ended_by, is_epochless, plain_counts, put_counts, put_few, sends_count, with_asked}
-use Rattle.answer_laws.proofs.EpochLives.{AreCounted, StepCounts, TurnCounts, asking, ending, gone, unchanged, step_counts, turn_counts}
-use Rattle.answer_laws.proofs.Hosts.{shell_after, shell_sends}
-use Rattle.answer_laws.proofs.LinkCounts.{sent_signals, signals, taken_signals}
-use Rattle.answer_laws.proofs.Lives.{all_three}
-use Rattle.answer_laws.proofs.LqhSends.{lqh_kinds}
-use Rattle.answer_laws.proofs.Ops.{same_node}
+use Rattle.answer_laws.proofs.EpochCounts.{counts_by, ended_by, is_epochless, with_asked}
+use Rattle.answer_laws.proofs.EpochLives.{TurnCounts, asking, ending, gone, unchanged, turn_counts}
 use Rattle.answer_laws.proofs.SendKinds.{are_of, is_dih_kind, is_lqh_kind, is_tc_kind, none_of, of_kind}
-use Rattle.answer_laws.proofs.Tally.{one_if, tally, tally_append}
-use Rattle.answer_laws.proofs.TcSends.{eqb-self, same_tx-self, tc_kinds, tx_in}
+use Rattle.answer_laws.proofs.Tally.{one_if, tally_append}
+use Rattle.answer_laws.proofs.TcSends.{eqb-self, tc_kinds, tx_in}
 use Rattle.answer_laws.proofs.TcSteps.{TcStep, begins, is_rest_kind, misses, takes, tc_step}
 use Rattle.answer_laws.proofs.TcSteps as steps
 use Rattle.answer_laws.proofs.TcTurns.{turn_moves, turn_row}

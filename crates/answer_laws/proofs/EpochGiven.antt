@@ -1,7 +1,7 @@
 -- What a node's block of epochs counts is what the node's coordinator has asked for, and each that asks is given an epoch.
-use Rattle.std.proofs.Common.{◌≡◌, ◌≢◌, ◌⊎◌, ℕ, zero, suc, ◌+◌, ◌≤◌, ◌<◌, List, [], ◌∷◌, ◌++◌, length, Bool, true, false, refl, ap, sym, ◌∙◌, subst, arith, inl, inr}
-use Rattle.std.specs.Prelude.{◌==◌, ◌&&◌, not, nat_lt, if◌then◌else◌, Option, None, Some}
-use Rattle.std.proofs.lemmas.Bool.{cases_eq, cases_lt, eqb-true, false≢true}
+use Rattle.std.proofs.Common.{◌≡◌, ◌≢◌, ◌⊎◌, ℕ, zero, suc, ◌+◌, ◌≤◌, ◌<◌, List, [], ◌∷◌, length, Bool, true, false, refl, ap, sym, ◌∙◌, subst, arith, inl, inr}
+use Rattle.std.specs.Prelude.{◌==◌, ◌&&◌, not, if◌then◌else◌}
+use Rattle.std.proofs.lemmas.Bool.{cases_eq, eqb-true, false≢true}
 use Rattle.std.proofs.lemmas.Bool.Decides.{nat_tests}
 use Rattle.lqh_block.specs.Lqh.{lqh_row}
 use Rattle.node_core.specs.declared.host.Host.TheVariants.{Node}
@@ -9,20 +9,16 @@ use Rattle.node_core.specs.declared.node.Node as node
 use Rattle.node_core.specs.Dih.{dih_row}
 use Rattle.node_core.specs.Fresh.{begun_node, fresh_node}
 use Rattle.node_core.specs.Requests.{is_request as is_asked}
-use Rattle.run_theory.proofs.Pasts.{each_in}
 use Rattle.run_theory.specs.Links.{is_from, sent, taken}
-use Rattle.run_theory.specs.Lists.{Each, IsIn}
-use Rattle.run_theory.specs.Runs.{AreLogs, log_of}
+use Rattle.run_theory.specs.Lists.{Each}
+use Rattle.run_theory.specs.Runs.{AreLogs}
 use Rattle.sig_core.specs.declared.log.LogStep.{LogStep}
 use Rattle.sig_core.specs.declared.member.TxId.{TxId}
-use Rattle.sig_core.specs.declared.outs.Outgoing.{Outgoing}
 use Rattle.sig_core.specs.declared.place.Place.{Place}
 use Rattle.sig_core.specs.declared.signal.Body.{Body}
-use Rattle.sig_core.specs.declared.signal.Body.TheVariants.{Epoch, Host}
+use Rattle.sig_core.specs.declared.signal.Body.TheVariants.{Epoch}
 use Rattle.sig_core.specs.declared.signal.Signal.{Signal}
-use Rattle.sig_core.specs.declared.signal.epoch.EpochSignal.TheVariants.{DiVerifyReq, DiVerifyConf, DiVerifyEnd}
-use Rattle.sig_core.specs.declared.signal.host.HostSignal.TheVariants.{Continue}
-use Rattle.sig_core.specs.declared.signal.host.Work.TheVariants as work
+use Rattle.sig_core.specs.declared.signal.epoch.EpochSignal.TheVariants.{DiVerifyReq, DiVerifyEnd}
 use Rattle.sig_core.specs.Same.{same_tx}
 use Rattle.tc_block.specs.declared.transaction.Transaction.{Transaction}
 use Rattle.tc_block.specs.Tc.{tc_row}
@@ -32,20 +28,16 @@ use Rattle.answer_laws.proofs.Ahead.{AtNode, NextAt, NodeStep, at_node, few_take
 use Rattle.answer_laws.proofs.DihSends.{dih_kinds}
 use Rattle.answer_laws.proofs.EpochCounts.{AreFew, SendsFew, counted_of, counts_by, counts_if, is_epochless, is_request, plain_counts, put_counts, put_few, sends_count}
 use Rattle.answer_laws.proofs.EpochFlow.{dih_counts, dih_few, dih_gives, dih_plain, dih_stays, is_conf, is_epoch, is_req, lqh_confless, lqh_plain, no_conf, plain_none, req_body, shell_epochs, tc_confless, tc_epochs}
-use Rattle.answer_laws.proofs.EpochLives.{AreCounted, StepCounts, step_counts}
-use Rattle.answer_laws.proofs.Hosts.{node_after, shell_after, shell_sends}
+use Rattle.answer_laws.proofs.EpochLives.{AreCounted, step_counts}
+use Rattle.answer_laws.proofs.Hosts.{shell_after, shell_sends}
 use Rattle.answer_laws.proofs.LinkCounts.{sent_signals, signals, taken_signals}
 use Rattle.answer_laws.proofs.Lives.{all_three}
-use Rattle.answer_laws.proofs.LqhOps.{is_lqh}
 use Rattle.answer_laws.proofs.LqhSends.{lqh_kinds}
 use Rattle.answer_laws.proofs.Ops.{same_node}
 use Rattle.answer_laws.proofs.SendKinds.{are_of, is_dih_kind, is_lqh_kind, of_kind}
-use Rattle.answer_laws.proofs.Tally.{one_if, tally}
+use Rattle.answer_laws.proofs.Tally.{one_if}
 use Rattle.answer_laws.proofs.TcLives.{IsOwn}
-use Rattle.answer_laws.proofs.TcMoves.{same_tx-is}
-use Rattle.answer_laws.proofs.TcSends.{eqb-self, same_tx-self, tx_in}
-use Rattle.answer_laws.proofs.TcSteps.{is_apart}
-use Rattle.answer_laws.proofs.Wishes.{is_tc, sends_of, to_node}
+use Rattle.answer_laws.proofs.Wishes.{sends_of, to_node}
 
 module _ (start : Start) (h : ℕ) where
   any : TxId

@@ -1,9 +1,8 @@
 -- The transactions that the block of epochs counts are those of its node's coordinator that have asked for an epoch.
-use Rattle.std.proofs.Common.{◌≡◌, ◌⊎◌, ℕ, ◌+◌, ◌≤◌, ◌<◌, List, [], ◌∷◌, ◌++◌, length, Bool, true, false, refl, ap, sym, ◌∙◌, subst, arith, inl, inr}
-use Rattle.std.specs.Prelude.{◌-◌, ◌^◌, ◌==◌, ◌&&◌, ◌||◌, nat_le, nat_lt, Option, None, Some, if◌then◌else◌, position}
+use Rattle.std.proofs.Common.{◌≡◌, ℕ, ◌+◌, ◌≤◌, ◌<◌, List, [], ◌∷◌, ◌++◌, length, Bool, true, false, refl, ap, sym, ◌∙◌, subst, arith, inl, inr}
+use Rattle.std.specs.Prelude.{◌-◌, ◌^◌, ◌==◌, ◌&&◌, ◌||◌, nat_le, if◌then◌else◌, position}
 use Rattle.std.proofs.lemmas.Bool.{false≢true}
 use Rattle.std.proofs.lemmas.Bool.Decides.{nat_tests}
-use Rattle.indexmap.specs.IndexMap.{insert_entry}
 use Rattle.run_theory.proofs.Pasts.{each_map}
 use Rattle.run_theory.specs.Lists.{Each}
 use Rattle.sig_core.specs.declared.member.TxId.{TxId}
@@ -27,13 +26,13 @@ use Rattle.tc_block.specs.Sends.{abort_of, entering, reported, verify_end}
 use Rattle.tc_block.specs.State.{TcState}
 use Rattle.tc_block.specs.Tc.{is_full, next_tx, tc_row}
 use Rattle.tc_block.specs.Turn.{Turn}
-use Rattle.answer_laws.proofs.EpochCounts.{IsWithout, SendsFew, asked_count, counts_if, ended_by, ended_count, head_of_kind, is_epochless, plain_counts, sends_count, with_asked}
+use Rattle.answer_laws.proofs.EpochCounts.{IsWithout, SendsFew, asked_count, counts_if, ended_by, ended_count, is_epochless, plain_counts, sends_count}
 use Rattle.answer_laws.proofs.PartKinds.{IsPartKind, entering_of, parts_of}
 use Rattle.answer_laws.proofs.SendKinds.{are_of, of_kind, of_map}
 use Rattle.answer_laws.proofs.Tally.{one_if, tally, tally_append, tally_between}
 use Rattle.answer_laws.proofs.TcLives.{IsOwn, insert_new}
 use Rattle.answer_laws.proofs.TcSends.{eqb-self, same_tx-self, tx_in}
-use Rattle.answer_laws.proofs.TcSteps.{TcStep, begins, is_rest_kind, left_in, misses, rests, takes, tc_step}
+use Rattle.answer_laws.proofs.TcSteps.{TcStep, begins, is_rest_kind, misses, rests, takes, tc_step}
 use Rattle.answer_laws.proofs.TcTurns.{GivesUp, IsCommitted, TurnMove, abort_ends, aborted, aborts, all_completed, answers, asked_to, asks, at_last, at_once, commits, committed, completed, completes, decides, ends, gives_up, goes_on, is_wait_kind, keeps, late, refused, turn_moves, turn_row}
 use Rattle.answer_laws.specs.Answered.{is_committing}
 

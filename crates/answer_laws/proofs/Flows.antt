@@ -1,11 +1,10 @@
 -- What is on its way between the hosts, step by step.
-use Rattle.std.proofs.Common.{◌≡◌, ◌≢◌, ◌⊎◌, ℕ, zero, suc, ◌+◌, ◌≤◌, ◌<◌, List, [], ◌∷◌, Bool, true, false, refl, ap, sym, ◌∙◌, subst, arith, inl, inr}
+use Rattle.std.proofs.Common.{◌≡◌, ◌≢◌, ◌⊎◌, ℕ, ◌+◌, ◌≤◌, ◌<◌, List, ◌∷◌, Bool, true, false, refl, ap, sym, ◌∙◌, subst, arith, inl, inr}
 use Rattle.std.specs.Prelude.{◌==◌, ◌&&◌, not}
 use Rattle.std.proofs.lemmas.Bool.{cases_eq, cases_lt, eqb-true}
 use Rattle.std.proofs.lemmas.Bool.Decides.{nat_tests}
 use Rattle.node_core.specs.Requests.{is_request}
-use Rattle.run_theory.specs.Links.{IsGiven, is_from, sent, taken}
-use Rattle.run_theory.specs.Lists.{IsPast}
+use Rattle.run_theory.specs.Links.{is_from, sent, taken}
 use Rattle.run_theory.specs.Runs.{AreLogs}
 use Rattle.sig_core.specs.declared.log.LogStep.{LogStep}
 use Rattle.sig_core.specs.declared.place.Place.{Place}
@@ -19,7 +18,7 @@ use Rattle.answer_laws.proofs.LinkCounts.{signals, taken_signals}
 use Rattle.answer_laws.proofs.Lives.{all_three}
 use Rattle.answer_laws.proofs.LqhOps.{right_of, true_and}
 use Rattle.answer_laws.proofs.Tally.{one_if, tally_past}
-use Rattle.answer_laws.proofs.Totals.{Grown, sent_all, sent_few, taken_all, taken_exact, total, total_at, total_le, total_less}
+use Rattle.answer_laws.proofs.Totals.{Grown, sent_all, sent_few, taken_all, taken_exact, total_at, total_le, total_less}
 use Rattle.answer_laws.proofs.Wishes.{sends_of}
 
 module _ (start : Start) (test : Place → Body → Bool) (logs now : ℕ → List LogStep) (h : ℕ) (e : LogStep) (g : Goes start logs now h e) where

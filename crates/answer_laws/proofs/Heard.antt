@@ -1,26 +1,23 @@
 -- What the API has asked of a transaction its coordinator has heard, or it is on its way.
-use Rattle.std.proofs.Common.{◌≡◌, ◌≢◌, ◌⊎◌, ℕ, zero, suc, ◌+◌, ◌≤◌, ◌<◌, List, [], ◌∷◌, ◌++◌, length, Bool, true, false, refl, ap, sym, ◌∙◌, subst, arith, inl, inr}
-use Rattle.std.specs.Prelude.{◌==◌, ◌&&◌, ◌||◌, nat_lt, is_some, if◌then◌else◌, Option, None, Some}
+use Rattle.std.proofs.Common.{◌≡◌, ◌≢◌, ◌⊎◌, ℕ, zero, suc, ◌+◌, ◌≤◌, ◌<◌, List, [], ◌∷◌, length, Bool, true, false, refl, ap, sym, ◌∙◌, subst, arith, inl, inr}
+use Rattle.std.specs.Prelude.{◌&&◌, ◌||◌, nat_lt, is_some, if◌then◌else◌, Option, None, Some}
 use Rattle.std.proofs.lemmas.Bool.{cases_eq, false≢true}
 use Rattle.std.proofs.lemmas.Bool.Decides.{nat_tests}
-use Rattle.api_block.specs.declared.opened.Doing.{Doing}
-use Rattle.api_block.specs.declared.opened.Doing.TheVariants.{Beginning, Ready, Operating, Committing}
+use Rattle.api_block.specs.declared.opened.Doing.TheVariants.{Operating, Committing}
 use Rattle.api_block.specs.declared.opened.OpenTransaction.{OpenTransaction}
-use Rattle.api_block.specs.Opened.{asked_for, has_tx, is_beginning, is_tx}
+use Rattle.api_block.specs.Opened.{has_tx, is_tx}
 use Rattle.api_block.specs.State.{ApiState}
 use Rattle.lqh_block.specs.Lqh.{lqh_row}
-use Rattle.node_core.specs.declared.host.Host as host
-use Rattle.node_core.specs.declared.host.Host.TheVariants.{Shell, Node}
+use Rattle.node_core.specs.declared.host.Host.TheVariants.{Node}
 use Rattle.node_core.specs.declared.node.Node as node
 use Rattle.node_core.specs.Dih.{dih_row}
 use Rattle.node_core.specs.Row.{shell_row}
-use Rattle.run_theory.proofs.Pasts.{each_append, each_in}
+use Rattle.run_theory.proofs.Pasts.{each_in}
 use Rattle.run_theory.specs.Lists.{Each, IsIn}
-use Rattle.run_theory.specs.Links.{sent, taken}
+use Rattle.run_theory.specs.Links.{sent}
 use Rattle.run_theory.specs.Runs.{AreLogs, log_of}
 use Rattle.sig_core.specs.declared.log.LogStep.{LogStep}
 use Rattle.sig_core.specs.declared.member.TxId.{TxId}
-use Rattle.sig_core.specs.declared.op.Op.{Op}
 use Rattle.sig_core.specs.declared.outs.Outgoing.{Outgoing}
 use Rattle.sig_core.specs.declared.place.BlockId.{BlockId}
 use Rattle.sig_core.specs.declared.place.BlockId.TheVariants as block
@@ -29,25 +26,19 @@ use Rattle.sig_core.specs.declared.signal.Body.{Body}
 use Rattle.sig_core.specs.declared.signal.Body.TheVariants.{Client}
 use Rattle.sig_core.specs.declared.signal.client.ClientSignal.TheVariants.{TcKeyReq, TcCommitReq}
 use Rattle.sig_core.specs.Op.{key_of}
-use Rattle.sig_core.specs.Same.{same_tx}
 use Rattle.sig_core.specs.Step.{Step, stay}
 use Rattle.tc_block.specs.declared.phase.Asked.{Asked}
-use Rattle.tc_block.specs.declared.phase.Phase.{Phase}
 use Rattle.tc_block.specs.declared.phase.Phase.TheVariants.{Open}
 use Rattle.tc_block.specs.declared.transaction.Transaction.{Transaction}
 use Rattle.tc_block.specs.Operate.{can_operate, fresh, is_ready}
 use Rattle.tc_block.specs.State.{TcState}
-use Rattle.tc_block.specs.Tc.{next_tx, tc_row}
+use Rattle.tc_block.specs.Tc.{tc_row}
 use Rattle.tc_block.specs.Touched.{fits, place_of}
-use Rattle.tc_block.specs.Turn.{Turn}
-use Rattle.world_core.specs.Machine.{after, machine, step_after}
+use Rattle.world_core.specs.Machine.{after, machine}
 use Rattle.world_core.specs.Start.{Start}
-use Rattle.answer_laws.proofs.Ahead.{AtNode, Goes, NextAt, NodeStep, along, at_node, few_taken, first_none, next_at, of_dih, of_lqh, of_none, of_tc, tx_at}
+use Rattle.answer_laws.proofs.Ahead.{AtNode, Goes, NextAt, NodeStep, along, at_node, first_none, next_at, of_dih, of_lqh, of_none, of_tc, tx_at}
 use Rattle.answer_laws.proofs.Always.{Touches, turn_touches}
-use Rattle.answer_laws.proofs.ApiBegins.{AreGood, IsGood, each_at, each_changed, each_less}
-use Rattle.answer_laws.proofs.ApiEntries.{Asks, EntryStep, IsEntryRight, Moves, asks_end, commits_to, goes, is_answered, is_answered_last, is_commit_req, is_noted, keys_to, moves, of_opened, opened_at, shell_entry, starts_ready, starts_working, stays, works_on}
-use Rattle.answer_laws.proofs.ApiHolds.{shell_holds}
-use Rattle.answer_laws.proofs.ApiTurns.{ApiStep, Changes, answered_last, answered_ready, api_step, begins_ready, begins_working, changes, commits, drops, notes, opens, rests, works}
+use Rattle.answer_laws.proofs.ApiEntries.{IsEntryRight, is_commit_req, of_opened, opened_at, shell_entry}
 use Rattle.answer_laws.proofs.Commits.{live_low}
 use Rattle.answer_laws.proofs.DihSends.{dih_kinds}
 use Rattle.answer_laws.proofs.Hosts.{opened_first, opened_next, shell_after, shell_sends}
@@ -63,10 +54,10 @@ use Rattle.answer_laws.proofs.TcLives.{is_start, start_of}
 use Rattle.answer_laws.proofs.TcMoves.{same_tx-is}
 use Rattle.answer_laws.proofs.TcSends.{same_tx-self, tx_in}
 use Rattle.answer_laws.proofs.TcSteps.{TxStep, born, elsewhere, left_of_turn, live_early, live_in, next_grows, of_live, turned, tx_step}
-use Rattle.answer_laws.proofs.TcTurns.{IsMissed, TurnMove, is_turn}
+use Rattle.answer_laws.proofs.TcTurns.{IsMissed, is_turn}
 use Rattle.answer_laws.proofs.Wants.{IsAsking, IsHeld, all_right, entry_next, held_few}
 use Rattle.answer_laws.proofs.Wishes.{is_api, is_tc, sends_of, to_node}
-use Rattle.answer_laws.specs.Answered.{AreQuiet, EachAskedWhereOperating, EachClosedWhereCommitting, EachIsNumbered, IsLiveAs, is_operating, opened_after, opened_in}
+use Rattle.answer_laws.specs.Answered.{AreQuiet, EachAskedWhereOperating, EachClosedWhereCommitting, EachIsNumbered, IsLiveAs, opened_after, opened_in}
 
 some_held : (tx : TxId) (opened : List OpenTransaction) (t : OpenTransaction) → of_opened tx opened ≡ Some t → 1 ≤ tally (has_tx tx) opened
 some_held tx [] t there = absurd cc

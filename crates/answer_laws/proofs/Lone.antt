@@ -1,6 +1,6 @@
 -- No more than one request of a transaction for a key waits, or is on its way.
 use Rattle.std.proofs.Common.{◌≡◌, ◌≢◌, ◌⊎◌, ℕ, zero, suc, ◌+◌, ◌≤◌, ◌<◌, List, [], ◌∷◌, Bool, true, false, refl, ap, sym, ◌∙◌, subst, arith, inl, inr}
-use Rattle.std.specs.Prelude.{◌==◌, ◌&&◌, not, if◌then◌else◌, Option, None, Some}
+use Rattle.std.specs.Prelude.{◌&&◌, not, if◌then◌else◌, Option, None, Some}
 use Rattle.std.proofs.lemmas.Bool.{cases_eq, false≢true}
 use Rattle.std.specs.Cmp.Lexicographic.{slice_cmp}
 use Rattle.std.specs.FinMap as finite
@@ -25,21 +25,17 @@ use Rattle.sig_core.specs.declared.place.BlockId.{BlockId}
 use Rattle.sig_core.specs.declared.place.BlockId.TheVariants as block
 use Rattle.sig_core.specs.declared.place.Place.{Place}
 use Rattle.sig_core.specs.declared.signal.Body.{Body}
-use Rattle.sig_core.specs.declared.signal.Body.TheVariants.{Chain, Epoch}
+use Rattle.sig_core.specs.declared.signal.Body.TheVariants.{Chain}
 use Rattle.sig_core.specs.declared.signal.chain.ChainSignal.TheVariants.{LqhKeyReq, LqhKeyConf, LqhKeyRef}
-use Rattle.sig_core.specs.declared.signal.epoch.EpochSignal.TheVariants.{DiVerifyConf}
 use Rattle.sig_core.specs.declared.view.View.{View}
 use Rattle.sig_core.specs.Same.{same_key, same_tx}
-use Rattle.tc_block.specs.declared.phase.Phase.{Phase}
 use Rattle.tc_block.specs.declared.phase.Phase.TheVariants.{Open}
 use Rattle.tc_block.specs.declared.transaction.Transaction.{Transaction}
-use Rattle.tc_block.specs.Operate.{fresh}
 use Rattle.tc_block.specs.State.{TcState}
 use Rattle.tc_block.specs.Tc.{tc_row}
-use Rattle.tc_block.specs.Turn.{Turn}
 use Rattle.api_block.specs.declared.opened.OpenTransaction.{OpenTransaction}
 use Rattle.api_block.specs.State.{ApiState}
-use Rattle.world_core.specs.Machine.{after, machine, step_after}
+use Rattle.world_core.specs.Machine.{after, machine}
 use Rattle.world_core.specs.Start.{Start, first_view}
 use Rattle.answer_laws.proofs.Ahead.{AtNode, Goes, NextAt, NodeStep, along, at_node, first_none, next_at, of_dih, of_lqh, of_none, of_tc, tx_at}
 use Rattle.answer_laws.proofs.ApiMoves.{ApiMove, api_moves, begun_as, ends, goes, is_api_kind, opens, refuses, rests}
@@ -47,17 +43,16 @@ use Rattle.answer_laws.proofs.DihSends.{dih_kinds}
 use Rattle.answer_laws.proofs.Flows.{flow_few, flow_sent, flow_taken, flow_took}
 use Rattle.answer_laws.proofs.Hosts.{shell_after, shell_sends}
 use Rattle.answer_laws.proofs.LqhOps.{is_lqh}
-use Rattle.answer_laws.proofs.LqhWaits.{RowWaits, came_to, hops, is_hop, lqh_waits, queued, waiting}
+use Rattle.answer_laws.proofs.LqhWaits.{came_to, hops, is_hop, lqh_waits, queued, waiting}
 use Rattle.answer_laws.proofs.Ops.{same_node}
 use Rattle.answer_laws.proofs.SendKinds.{are_of, is_dih_kind, none_of, of_kind}
 use Rattle.answer_laws.proofs.Tally.{one_if}
 use Rattle.answer_laws.proofs.TcForth.{HopTurn, answer_came, hop_turn, hopless_none, is_hopless}
 use Rattle.answer_laws.proofs.TcOps.{asks_key}
-use Rattle.answer_laws.proofs.TcSends.{tx_in}
 use Rattle.answer_laws.proofs.TcSteps.{TxStep, born, elsewhere, is_apart, left_of_turn, live_early, live_home, next_grows, of_live, turned, tx_step}
 use Rattle.answer_laws.proofs.TcTurns.{is_turn}
-use Rattle.answer_laws.proofs.Totals.{sent_all, taken_all, total, total_at, total_one, total_same}
-use Rattle.answer_laws.proofs.Wishes.{is_tc, sends_of}
+use Rattle.answer_laws.proofs.Totals.{sent_all, taken_all, total, total_at, total_one}
+use Rattle.answer_laws.proofs.Wishes.{is_tc}
 
 plain_hop : (tx : TxId) (key : List ℕ) (to : Place) (body : Body) → is_hop tx key to body ≡ true → is_request body ≡ false
 plain_hop tx key to (Chain (LqhKeyReq other what chain at)) e = refl

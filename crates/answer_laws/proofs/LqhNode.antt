@@ -1,6 +1,6 @@
 -- The rows of a node stay those of that node.
-use Rattle.std.proofs.Common.{◌≡◌, ℕ, List, [], Bool, true, false, refl, ap, ◌∙◌}
-use Rattle.std.specs.Prelude.{◌==◌, position, slice_get, Option, None, Some}
+use Rattle.std.proofs.Common.{◌≡◌, ℕ, List, Bool, true, false, refl, ◌∙◌}
+use Rattle.std.specs.Prelude.{◌==◌, slice_get, Option, None, Some}
 use Rattle.sig_core.specs.declared.member.Member.{Member}
 use Rattle.sig_core.specs.declared.member.TxId.{TxId}
 use Rattle.sig_core.specs.declared.signal.Body.{Body}

@@ -1,5 +1,5 @@
 -- The signals of a transaction's lists are of each kind that its commits, completions, aborts and the like are of.
-use Rattle.std.proofs.Common.{◌≡◌, ℕ, ◌+◌, List, take, drop, length, Bool, true, false, refl, ap, ◌∙◌}
+use Rattle.std.proofs.Common.{◌≡◌, ℕ, ◌+◌, List, take, drop, length, Bool, true, false, refl, ap}
 use Rattle.std.specs.Prelude.{nat_lt, if◌then◌else◌}
 use Rattle.std.specs.List.{flat_map}
 use Rattle.sig_core.specs.declared.member.Member.{Member}

@@ -1,9 +1,9 @@
 -- Who waits in the queue of a lock after a call on it.
-use Rattle.std.proofs.Common.{◌≡◌, ◌⊎◌, ℕ, ◌+◌, ◌≤◌, Bool, true, false, cond, List, [], ◌∷◌, ◌++◌, refl, sym, ap, ◌∙◌, subst, arith, inl, inr}
-use Rattle.std.specs.Prelude.{◌&&◌, ◌||◌, nat_lt, T, is_some, Option, None, Some, if◌then◌else◌}
+use Rattle.std.proofs.Common.{◌≡◌, ℕ, ◌+◌, ◌≤◌, Bool, true, false, cond, List, [], ◌∷◌, ◌++◌, refl, sym, ap, ◌∙◌, arith}
+use Rattle.std.specs.Prelude.{◌&&◌, ◌||◌, nat_lt, T, Option, None, Some}
 use Rattle.std.specs.FinMap as finite
 use Rattle.std.specs.FinMap.Entries.{below_all, is_sorted}
-use Rattle.std.specs.Ordering.{eq_by_cmp, is_eq, is_lt, nat_cmp}
+use Rattle.std.specs.Ordering.{is_eq, is_lt, nat_cmp}
 use Rattle.std.specs.Cmp.Lexicographic.{slice_cmp}
 use Rattle.std.specs.declared.cmp.Ordering.{Ordering}
 use Rattle.std.specs.declared.cmp.Ordering.TheVariants.{Less, Equal, Greater}
@@ -14,11 +14,10 @@ use Rattle.sig_core.specs.Same.{same_key, same_tx}
 use Rattle.row_locks.specs.declared.claim.Holder.{Holder}
 use Rattle.row_locks.specs.declared.claim.Wait.{Wait}
 use Rattle.row_locks.specs.declared.mode.Mode.{Mode}
-use Rattle.row_locks.specs.declared.mode.Lock.{Lock}
 use Rattle.row_locks.specs.declared.mode.Lock.TheVariants.{Granted, Queued}
 use Rattle.row_locks.specs.Holders.{agrees_with, hold, holds, holds_enough, others, unless_gone}
 use Rattle.row_locks.specs.Queues.{aged_all, raised, raised_if, wait_of, waits, without}
-use Rattle.row_locks.specs.Rounds.{expired, expired_in, first_expired, found_at, found_if, is_expired, round_later}
+use Rattle.row_locks.specs.Rounds.{expired, expired_in, first_expired, found_at, found_if, is_expired}
 use Rattle.row_locks.specs.Rows.{Asked, RowLock, Served, asked, asked_anew, asked_by, is_quiet, released, served, served_if, unwaited}
 use Rattle.row_locks.specs.Tables.{Locks, lock_at, or_unlocked}
 use Rattle.row_locks.proofs.TxLemmas.{same_tx-is}

@@ -1,25 +1,23 @@
 -- At quiet an operation that a coordinator's transaction has unanswered waits in the queue of a lock.
 use Rattle.std.proofs.Common.{◌≡◌, ◌≢◌, ◌⊎◌, ℕ, zero, suc, ◌+◌, ◌≤◌, ◌<◌, List, [], ◌∷◌, Bool, true, false, refl, ap, sym, ◌∙◌, subst, arith, inl, inr}
-use Rattle.std.specs.Prelude.{◌==◌, ◌&&◌, not, if◌then◌else◌, is_some, Option, None, Some}
+use Rattle.std.specs.Prelude.{◌==◌, ◌&&◌, not, Some}
 use Rattle.std.proofs.lemmas.Bool.{cases_eq, false≢true}
 use Rattle.lqh_block.specs.declared.request.Request.{Request}
 use Rattle.lqh_block.specs.Lqh.{lqh_row}
-use Rattle.lqh_block.specs.Operate.{is_granted}
 use Rattle.lqh_block.specs.State.{LqhState}
 use Rattle.lqh_block.specs.Work.{work_key}
 use Rattle.node_core.specs.declared.host.Host as host
-use Rattle.node_core.specs.declared.host.Host.TheVariants.{Shell, Node}
+use Rattle.node_core.specs.declared.host.Host.TheVariants.{Node}
 use Rattle.node_core.specs.declared.node.Node as node
 use Rattle.node_core.specs.Fresh.{begun_node, fresh_node}
 use Rattle.node_core.specs.Requests.{is_request}
 use Rattle.run_theory.proofs.Pasts.{each_in}
 use Rattle.run_theory.specs.Links.{is_from, sent, taken}
-use Rattle.run_theory.specs.Lists.{Each, IsIn}
-use Rattle.run_theory.specs.Runs.{AreLogs, IsWithin, log_of}
+use Rattle.run_theory.specs.Lists.{IsIn}
+use Rattle.run_theory.specs.Runs.{log_of}
 use Rattle.sig_core.specs.declared.log.LogStep.{LogStep}
 use Rattle.sig_core.specs.declared.member.TxId.{TxId}
 use Rattle.sig_core.specs.declared.outs.Outgoing.{Outgoing}
-use Rattle.sig_core.specs.declared.place.BlockId.TheVariants as block
 use Rattle.sig_core.specs.declared.place.Place.{Place}
 use Rattle.sig_core.specs.declared.signal.Body.{Body}
 use Rattle.sig_core.specs.declared.signal.Body.TheVariants.{Host}
@@ -27,32 +25,24 @@ use Rattle.sig_core.specs.declared.signal.host.HostSignal.TheVariants.{Continue}
 use Rattle.sig_core.specs.declared.signal.host.Work.TheVariants as work
 use Rattle.sig_core.specs.Op.{key_of}
 use Rattle.sig_core.specs.Same.{same_key, same_tx}
-use Rattle.tc_block.specs.declared.phase.Asked.{Asked}
-use Rattle.tc_block.specs.declared.phase.Phase.{Phase}
-use Rattle.tc_block.specs.declared.phase.Phase.TheVariants.{Open, Verifying, Committing, Completing, Aborting}
 use Rattle.tc_block.specs.declared.transaction.Transaction.{Transaction}
-use Rattle.tc_block.specs.State.{TcState}
-use Rattle.tc_block.specs.Turn.{Turn}
-use Rattle.world_core.specs.Machine.{after, machine, step_after}
+use Rattle.world_core.specs.Machine.{after, machine}
 use Rattle.world_core.specs.Start.{Start, first_view}
-use Rattle.commit_laws.specs.Phases.{is_decided}
 use Rattle.commit_laws.proofs.Keys.{same_key-self}
 use Rattle.answer_laws.proofs.Ahead.{AtNode, Goes, NextAt, NodeStep, along, at_node, few_taken, next_at, of_dih, of_lqh, of_none, of_tc, tx_at}
-use Rattle.answer_laws.proofs.Begins.{given_past}
 use Rattle.answer_laws.proofs.Hosts.{shell_after}
 use Rattle.answer_laws.proofs.LinkCounts.{sent_signals, signals, taken_signals}
 use Rattle.answer_laws.proofs.LqhNode.{lqh_node}
 use Rattle.answer_laws.proofs.LqhOps.{is_lqh, true_and}
-use Rattle.answer_laws.proofs.LqhWaits.{RowWaits, granted_is, goes_on, is_forth, is_more, is_more_body, lqh_waits, queued, waiting}
-use Rattle.answer_laws.proofs.Lone.{IsLone, is_lone, lone_step, first_lone, one_waits, waiting_at}
+use Rattle.answer_laws.proofs.LqhWaits.{granted_is, goes_on, is_more, is_more_body, lqh_waits, queued, waiting}
+use Rattle.answer_laws.proofs.Lone.{IsLone, lone_step, first_lone, one_waits, waiting_at}
 use Rattle.answer_laws.proofs.Ops.{operations_wait, same_node}
-use Rattle.answer_laws.proofs.Tally.{one_if, tally, tally_in, tally_past}
+use Rattle.answer_laws.proofs.Tally.{one_if, tally_in}
 use Rattle.answer_laws.proofs.TcLives.{IsOwn}
-use Rattle.answer_laws.proofs.TcOps.{is_right, may_ask}
 use Rattle.answer_laws.proofs.TcSends.{same_tx-self}
-use Rattle.answer_laws.proofs.TcSteps.{live_in, of_live}
-use Rattle.answer_laws.proofs.Totals.{sent_all, sent_least}
-use Rattle.answer_laws.proofs.Undecided.{F, IsBack, forth_at, is_undecided, none_came}
+use Rattle.answer_laws.proofs.TcSteps.{live_in}
+use Rattle.answer_laws.proofs.Totals.{sent_least}
+use Rattle.answer_laws.proofs.Undecided.{F, forth_at, is_undecided, none_came}
 use Rattle.answer_laws.proofs.Flows.{flow_grows}
 use Rattle.answer_laws.proofs.Rights.{asked_undecided}
 use Rattle.answer_laws.proofs.Wishes.{sends_of, to_node}

@@ -1,12 +1,10 @@
 -- Which hosts tell of a transaction: its coordinator alone answers its operations, and the API alone asks for its commit.
-use Rattle.std.proofs.Common.{◌≡◌, ◌≢◌, ◌⊎◌, ℕ, zero, suc, ◌+◌, ◌≤◌, ◌<◌, List, [], ◌∷◌, Bool, true, false, refl, ap, sym, ◌∙◌, subst, arith, inl, inr}
-use Rattle.std.specs.Prelude.{◌==◌, ◌&&◌, not, Option, None, Some}
-use Rattle.std.proofs.lemmas.Bool.{eqb-true, false≢true}
+use Rattle.std.proofs.Common.{◌≡◌, ◌≢◌, ℕ, zero, suc, ◌+◌, ◌≤◌, List, [], ◌∷◌, Bool, true, false, refl, ap, sym, ◌∙◌, arith}
+use Rattle.std.specs.Prelude.{◌==◌, ◌&&◌, not, Option}
+use Rattle.std.proofs.lemmas.Bool.{false≢true}
 use Rattle.lqh_block.specs.Lqh.{lqh_row}
-use Rattle.node_core.specs.declared.node.Node as node
 use Rattle.node_core.specs.Dih.{dih_row}
 use Rattle.node_core.specs.Requests.{is_request}
-use Rattle.run_theory.specs.Lists.{Each, IsIn}
 use Rattle.run_theory.specs.Links.{sent, taken}
 use Rattle.run_theory.specs.Runs.{AreLogs}
 use Rattle.sig_core.specs.declared.log.LogStep.{LogStep}
@@ -15,27 +13,25 @@ use Rattle.sig_core.specs.declared.outs.Outgoing.{Outgoing}
 use Rattle.sig_core.specs.declared.place.Place.{Place}
 use Rattle.sig_core.specs.declared.signal.Body.{Body}
 use Rattle.sig_core.specs.declared.signal.Body.TheVariants.{Client}
-use Rattle.sig_core.specs.declared.signal.client.ClientSignal.TheVariants.{TcBeginReq, TcKeyReq, TcKeyConf, TcCommitReq}
+use Rattle.sig_core.specs.declared.signal.client.ClientSignal.TheVariants.{TcBeginReq, TcKeyConf, TcCommitReq}
 use Rattle.sig_core.specs.Same.{same_tx}
-use Rattle.tc_block.specs.declared.transaction.Transaction.{Transaction}
 use Rattle.tc_block.specs.State.{TcState}
 use Rattle.tc_block.specs.Tc.{begin_if, begin_row, is_full, tc_row}
-use Rattle.world_core.specs.Machine.{after, machine}
+use Rattle.world_core.specs.Machine.{machine}
 use Rattle.world_core.specs.Start.{Start}
 use Rattle.answer_laws.proofs.Ahead.{AtNode, NextAt, NodeStep, at_node, few_taken, next_at, of_dih, of_lqh, of_none, of_tc}
 use Rattle.answer_laws.proofs.ApiEntries.{is_commit_req}
 use Rattle.answer_laws.proofs.Asks.{node_asked, node_silent, plain_answer, plain_key, shell_silent}
 use Rattle.answer_laws.proofs.DihSends.{dih_kinds}
-use Rattle.answer_laws.proofs.LinkCounts.{sent_signals, signals, steps, taken_steps}
-use Rattle.answer_laws.proofs.Lives.{NodeKeeps, keeps, last_of, plain_start, silent_start, steps_from}
+use Rattle.answer_laws.proofs.LinkCounts.{sent_signals, signals, steps}
+use Rattle.answer_laws.proofs.Lives.{keeps, last_of, plain_start, silent_start, steps_from}
 use Rattle.answer_laws.proofs.LqhSends.{lqh_kinds}
 use Rattle.answer_laws.proofs.SendKinds.{are_of, is_dih_kind, is_lqh_kind, is_tc_kind, none_of}
-use Rattle.answer_laws.proofs.Tally.{one_if, tally}
+use Rattle.answer_laws.proofs.Tally.{one_if}
 use Rattle.answer_laws.proofs.TcKeys.{answer_of, answers_in, is_answer, is_key, key_of_tx}
-use Rattle.answer_laws.proofs.TcLives.{IsOwn, is_start, start_of}
-use Rattle.answer_laws.proofs.TcMoves.{same_tx-is}
-use Rattle.answer_laws.proofs.TcSends.{same_tx-self, tc_kinds, tx_in}
-use Rattle.answer_laws.proofs.TcSteps.{TxStep, born, elsewhere, is_apart, live_home, of_live, turned, tx_step}
+use Rattle.answer_laws.proofs.TcLives.{is_start, start_of}
+use Rattle.answer_laws.proofs.TcSends.{tc_kinds, tx_in}
+use Rattle.answer_laws.proofs.TcSteps.{TxStep, born, elsewhere, is_apart, live_home, turned, tx_step}
 use Rattle.answer_laws.proofs.Wishes.{and_false, is_api, is_tc, sends_of, to_node}
 
 second : (a : Bool) {b : Bool} → b ≡ false → (a && b) ≡ false

@@ -1,6 +1,6 @@
 -- What a turn of a transaction sends to replicas: operations where it is open, commits and completions where it is decided.
-use Rattle.std.proofs.Common.{◌≡◌, ◌⊎◌, ℕ, ◌+◌, ◌-◌, ◌≤◌, List, [], ◌∷◌, ◌++◌, length, Bool, true, false, refl, ap, sym, ◌∙◌, subst, arith, inl, inr}
-use Rattle.std.specs.Prelude.{◌==◌, ◌&&◌, not, is_some, if◌then◌else◌, Option, None, Some}
+use Rattle.std.proofs.Common.{◌≡◌, ◌⊎◌, ℕ, ◌+◌, ◌≤◌, List, ◌++◌, Bool, true, false, refl, ap, sym, ◌∙◌, arith, inl, inr}
+use Rattle.std.specs.Prelude.{◌&&◌, Option, Some}
 use Rattle.std.specs.List.{flat_map}
 use Rattle.std.proofs.lemmas.Bool.{false≢true}
 use Rattle.lqh_block.proofs.IndexLemmas.{same as same_key-is}
@@ -9,10 +9,9 @@ use Rattle.sig_core.specs.declared.outcome.AbortCause.{AbortCause}
 use Rattle.sig_core.specs.declared.outs.Outgoing.{Outgoing}
 use Rattle.sig_core.specs.declared.place.Place.{Place}
 use Rattle.sig_core.specs.declared.signal.Body.{Body}
-use Rattle.sig_core.specs.declared.signal.Body.TheVariants.{Client, Chain, Host}
+use Rattle.sig_core.specs.declared.signal.Body.TheVariants.{Chain}
 use Rattle.sig_core.specs.declared.signal.chain.ChainSignal.TheVariants.{LqhKeyReq, LqhKeyConf, LqhKeyRef, Commit, Complete}
 use Rattle.sig_core.specs.declared.view.View.{View}
-use Rattle.sig_core.specs.Chain.{node_at}
 use Rattle.sig_core.specs.Op.{key_of}
 use Rattle.sig_core.specs.Same.{same_key, same_tx}
 use Rattle.tc_block.specs.declared.phase.Asked.{Asked}
@@ -22,23 +21,20 @@ use Rattle.tc_block.specs.declared.touched.Touched.{Touched}
 use Rattle.tc_block.specs.declared.transaction.Transaction.{Transaction}
 use Rattle.tc_block.specs.Abort as abort
 use Rattle.tc_block.specs.Chain.{chain_of}
-use Rattle.tc_block.specs.Complete.{written_count}
-use Rattle.tc_block.specs.Operate as operate
 use Rattle.tc_block.specs.Part.{part_effects}
 use Rattle.tc_block.specs.Sends.{abort_of, entering, front_sends, key_sends, phase_sends}
 use Rattle.tc_block.specs.State.{TcState}
 use Rattle.tc_block.specs.Turn.{Turn}
 use Rattle.commit_laws.specs.Phases.{is_decided}
 use Rattle.answer_laws.proofs.LqhForth.{is_back}
-use Rattle.answer_laws.proofs.LqhWaits.{hops, is_forth, is_hop}
+use Rattle.answer_laws.proofs.LqhWaits.{hops, is_hop}
 use Rattle.answer_laws.proofs.PartKinds.{IsPartKind, entering_of, part_of, parts_of}
 use Rattle.answer_laws.proofs.SendKinds.{are_of, none_of, of_append, of_flat, of_kind, of_map}
 use Rattle.answer_laws.proofs.Tally.{one_if}
-use Rattle.answer_laws.proofs.TcOps.{asks_key, is_right, may_ask}
+use Rattle.answer_laws.proofs.TcOps.{asks_key}
 use Rattle.answer_laws.proofs.TcSends.{same_tx-self}
-use Rattle.answer_laws.proofs.TcTurns.{GivesUp, IsAnswered, IsCommitted, IsMissed, TurnMove, abort_ends, aborted, aborts, all_completed, answers, asked_to, asks, at_last, at_once, commits, committed, completed, completes, decides, ends, gives_up, goes_on, is_wait_kind, keeps, late, refused}
-use Rattle.answer_laws.proofs.Wishes.{is_tc, sends_of}
-use Rattle.answer_laws.specs.Answered.{is_aborting, is_committing}
+use Rattle.answer_laws.proofs.TcTurns.{GivesUp, TurnMove, abort_ends, aborted, aborts, all_completed, answers, asked_to, asks, commits, committed, completed, completes, decides, ends, gives_up, goes_on, is_wait_kind, keeps, late, refused}
+use Rattle.answer_laws.specs.Answered.{is_aborting}
 
 second : (a : Bool) {b : Bool} → b ≡ false → (a && b) ≡ false
 second true q = q

@@ -15,8 +15,6 @@ use Rattle.sig_core.specs.declared.signal.client.ClientSignal.TheVariants.{TcKey
 use Rattle.sig_core.specs.declared.signal.epoch.EpochSignal.TheVariants.{DiVerifyReq, DiVerifyConf}
 use Rattle.sig_core.specs.declared.signal.host.HostSignal.TheVariants.{Continue}
 use Rattle.sig_core.specs.declared.signal.host.Work.TheVariants as work
-use Rattle.sig_core.specs.declared.member.Member.{Member}
-use Rattle.sig_core.specs.declared.view.View.{View}
 use Rattle.sig_core.specs.Op.{key_of}
 use Rattle.sig_core.specs.Place.{client, epochs}
 use Rattle.sig_core.specs.Same.{same_key}
@@ -31,7 +29,7 @@ use Rattle.tc_block.specs.Commit as commit
 use Rattle.tc_block.specs.Complete as complete
 use Rattle.tc_block.specs.Operate as operate
 use Rattle.tc_block.specs.Part.{part_effects}
-use Rattle.tc_block.specs.Sends.{aborts_of, entering, go_on_if, go_on_row, phase_sends, reported, verify_end, waits_of}
+use Rattle.tc_block.specs.Sends.{entering, go_on_if, go_on_row, phase_sends, reported, verify_end, waits_of}
 use Rattle.tc_block.specs.State.{TcState}
 use Rattle.tc_block.specs.Touched.{fits}
 use Rattle.tc_block.specs.Turn.{Turn, asking, at_phase, ending, going, sends_only}

@@ -1,16 +1,13 @@
 -- At quiet no transaction waits for its epoch.
-use Rattle.std.proofs.Common.{◌≡◌, ◌≢◌, ◌⊎◌, ℕ, zero, suc, ◌+◌, ◌≤◌, ◌<◌, List, [], ◌∷◌, ◌++◌, length, Bool, true, false, refl, ap, sym, ◌∙◌, subst, arith, inl, inr}
+use Rattle.std.proofs.Common.{◌≡◌, ◌≢◌, ◌⊎◌, ℕ, zero, suc, ◌+◌, ◌≤◌, List, [], length, Bool, true, false, refl, ap, sym, ◌∙◌, subst, arith, inl, inr}
 use Rattle.std.specs.Prelude.{◌-◌, ◌==◌, ◌&&◌, not, if◌then◌else◌, Option, None, Some}
-use Rattle.std.proofs.lemmas.Bool.{cases_eq, cases_lt, false≢true}
+use Rattle.std.proofs.lemmas.Bool.{cases_eq, false≢true}
 use Rattle.lqh_block.specs.Lqh.{lqh_row}
-use Rattle.node_core.specs.declared.host.Host as host
-use Rattle.node_core.specs.declared.host.Host.TheVariants.{Shell, Node}
+use Rattle.node_core.specs.declared.host.Host.TheVariants.{Node}
 use Rattle.node_core.specs.declared.node.Node as node
 use Rattle.node_core.specs.Dih.{dih_row}
-use Rattle.run_theory.proofs.Pasts.{each_in}
-use Rattle.run_theory.specs.Links.{is_from, sent, taken}
-use Rattle.run_theory.specs.Lists.{Each, IsIn}
-use Rattle.run_theory.specs.Runs.{AreLogs, log_of}
+use Rattle.run_theory.specs.Links.{is_from}
+use Rattle.run_theory.specs.Runs.{log_of}
 use Rattle.sig_core.specs.declared.log.LogStep.{LogStep}
 use Rattle.sig_core.specs.declared.member.TxId.{TxId}
 use Rattle.sig_core.specs.declared.outcome.AbortCause.{AbortCause}
@@ -21,7 +18,6 @@ use Rattle.sig_core.specs.declared.signal.Body.{Body}
 use Rattle.sig_core.specs.declared.signal.Body.TheVariants.{Epoch}
 use Rattle.sig_core.specs.declared.signal.epoch.EpochSignal.TheVariants.{DiVerifyReq, DiVerifyConf}
 use Rattle.sig_core.specs.Same.{same_tx}
-use Rattle.sig_core.specs.Step.{Step}
 use Rattle.tc_block.specs.declared.phase.Phase.{Phase}
 use Rattle.tc_block.specs.declared.phase.Phase.TheVariants.{Open, Verifying, Committing, Completing, Aborting}
 use Rattle.tc_block.specs.declared.transaction.Transaction.{Transaction}
@@ -30,29 +26,27 @@ use Rattle.tc_block.specs.Complete.{written_count}
 use Rattle.tc_block.specs.Operate.{fresh}
 use Rattle.tc_block.specs.Sends.{entering}
 use Rattle.tc_block.specs.State.{TcState}
-use Rattle.tc_block.specs.Tc.{next_tx, tc_row}
+use Rattle.tc_block.specs.Tc.{tc_row}
 use Rattle.tc_block.specs.Turn.{Turn}
-use Rattle.world_core.specs.Machine.{after, machine, step_after}
+use Rattle.world_core.specs.Machine.{after, machine}
 use Rattle.world_core.specs.Start.{Start}
 use Rattle.answer_laws.proofs.Ahead.{AtNode, Goes, NextAt, NodeStep, along, at_node, few_taken, first_none, is_dih, next_at, of_dih, of_lqh, of_none, of_tc, tx_at}
-use Rattle.answer_laws.proofs.Commits.{live_low}
 use Rattle.answer_laws.proofs.DihSends.{dih_kinds}
 use Rattle.answer_laws.proofs.EpochCounts.{AreFew, is_epochless}
 use Rattle.answer_laws.proofs.EpochFlow.{dih_plain, is_conf, is_req, lqh_plain}
 use Rattle.answer_laws.proofs.EpochLives.{TurnCounts, asking, ending, gone, is_counted, unchanged, turn_counts}
-use Rattle.answer_laws.proofs.EpochGiven.{DihIs, SentCounts, all_own, dih_is, own_sent, own_taken, sent_counts}
+use Rattle.answer_laws.proofs.EpochGiven.{DihIs, all_own, dih_is, own_sent, own_taken, sent_counts}
 use Rattle.answer_laws.proofs.Hosts.{shell_after}
 use Rattle.answer_laws.proofs.LinkCounts.{sent_signals, signals, taken_signals}
 use Rattle.answer_laws.proofs.LqhSends.{lqh_kinds}
 use Rattle.answer_laws.proofs.Ops.{same_node}
 use Rattle.answer_laws.proofs.SendKinds.{are_of, is_dih_kind, is_lqh_kind, none_of, of_kind}
-use Rattle.answer_laws.proofs.Tally.{one_if, tally}
-use Rattle.answer_laws.proofs.TcLives.{IsOwn, is_keyed}
+use Rattle.answer_laws.proofs.Tally.{one_if}
 use Rattle.answer_laws.proofs.TcMoves.{same_tx-is}
 use Rattle.answer_laws.proofs.TcSends.{eqb-self, same_tx-self, tx_in}
 use Rattle.answer_laws.proofs.TcSteps.{TxStep, born, elsewhere, is_apart, left_of_turn, live_early, live_in, next_grows, of_live, turned, tx_step}
 use Rattle.answer_laws.proofs.TcTurns.{IsMissed, TurnMove, abort_ends, aborted, aborts, all_completed, answers, asks, commits, committed, completed, completes, decides, ends, gives_up, goes_on, is_turn, keeps, late}
-use Rattle.answer_laws.proofs.Wishes.{and_false, is_tc, sends_of, to_node}
+use Rattle.answer_laws.proofs.Wishes.{is_tc, sends_of, to_node}
 use Rattle.answer_laws.specs.Answered.{AreQuiet, IsLiveAs, is_aborting, NoEpochIsAwaited}
 
 second : (a : Bool) {b : Bool} → b ≡ false → (a && b) ≡ false
