@@ -37,13 +37,13 @@ use Rattle.tc_block.specs.Operate.{fresh}
 use Rattle.tc_block.specs.Tc.{tc_row}
 use Rattle.world_core.specs.Machine.{after, machine, step_after}
 use Rattle.world_core.specs.Start.{Start, first_view, members}
-use Rattle.answer_laws.proofs.Ahead.{AtNode, Goes, NextAt, NodeStep, along, at_node, few_taken, first_none, next_at, of_dih, of_lqh, of_none, of_tc, tx_at}
+use Rattle.answer_laws.proofs.Ahead.{along, at_node, AtNode, few_taken, first_none, Goes, next_at, NextAt, no_transaction, NodeStep, of_dih, of_lqh, of_none, of_tc, the_transaction, tx_at}
 use Rattle.answer_laws.proofs.Always.{few_touched}
 use Rattle.answer_laws.proofs.Hosts.{shell_after}
 use Rattle.answer_laws.proofs.LinkCounts.{sent_signals, signals, taken_signals}
 use Rattle.answer_laws.proofs.LqhOps.{is_good, is_lqh, is_node, left_of, right_of, true_and}
 use Rattle.answer_laws.proofs.Ops.{good_members}
-use Rattle.answer_laws.proofs.Tally.{one_if, tally_append}
+use Rattle.answer_laws.proofs.Tally.{and_few, one_if, tally_append}
 use Rattle.answer_laws.proofs.TcAborts.{AbortMove, IsPart, abort_move, aborted_body, begins, continues, is_abort, waits}
 use Rattle.answer_laws.proofs.TcCommits.{is_cont}
 use Rattle.answer_laws.proofs.TcLives.{IsOwn}
@@ -54,10 +54,6 @@ use Rattle.answer_laws.proofs.TcTurns.{is_turn}
 use Rattle.answer_laws.proofs.Totals.{Grown, sent_all, sent_more, taken_all, taken_more, total_le, total_same}
 use Rattle.answer_laws.proofs.Wishes.{is_tc, sends_of, to_node}
 use Rattle.answer_laws.specs.Answered.{AreQuiet, IsLiveAs, is_aborting, NoAbortIsAwaited}
-
-few : (a b : Bool) → one_if (a && b) ≤ one_if b
-few true b = omega arith
-few false b = omega arith
 
 -- what came to the rows of a node
 abbrev abort_body : TxId → Body → Bool
@@ -81,13 +77,13 @@ lqh_aborts n tx s (Chain (Abort other key)) = by (same_tx other tx) refl
 lqh_aborts n tx s _ = omega arith
 
 few_rows : (n : ℕ) (tx : TxId) (to : Place) (body : Body) → is_tc to.block ≡ false → one_if (is_abort n tx to body) ≤ one_if (abort_body tx body)
-few_rows n tx to (Chain (Abort other key)) e = few (is_lqh to.block && is_node n to.node) _
+few_rows n tx to (Chain (Abort other key)) e = and_few (is_lqh to.block && is_node n to.node) _
 few_rows n tx to (Chain (Aborted other key)) e = omega (arith, ap (λ b. one_if ((b && (to.node == tx.tc)) && same_tx other tx)) e)
 few_rows n tx to _ e = omega arith
 
 few_answers : (n : ℕ) (tx : TxId) (to : Place) (body : Body) → is_lqh to.block ≡ false → one_if (is_abort n tx to body) ≤ one_if (aborted_body tx body)
 few_answers n tx to (Chain (Abort other key)) e = omega (arith, ap (λ b. one_if ((b && is_node n to.node) && same_tx other tx)) e)
-few_answers n tx to (Chain (Aborted other key)) e = few (is_tc to.block && (to.node == tx.tc)) _
+few_answers n tx to (Chain (Aborted other key)) e = and_few (is_tc to.block && (to.node == tx.tc)) _
 few_answers n tx to _ e = omega arith
 
 none_at : (n : ℕ) (tx : TxId) (to : Place) (body : Body) → is_lqh to.block ≡ false → (is_tc to.block && (to.node == tx.tc)) ≡ false → one_if (is_abort n tx to body) ≡ 0
@@ -208,12 +204,6 @@ module _ (start : Start) (few_nodes : start.nodes ≤ 8) (tx : TxId) (h : ℕ) (
       each_few [] = omega arith
       each_few (x ∷ xs) = omega (arith, each_few xs, one x.key)
 
-  is_some : (t u : Transaction) → Some t ≡ Some u → t ≡ u
-  is_some t u e = cc
-
-  no_none : (t : Transaction) → None ≡ Some t → ⊥
-  no_none t e = cc
-
   own_step : (logs now : ℕ → List LogStep) (e : LogStep) → Goes start logs now (suc h) e → AllDue logs → AllDue now
   own_step logs now e g all u why v k u_at u_is = finish n.step
     where
@@ -258,7 +248,7 @@ module _ (start : Start) (few_nodes : start.nodes ≤ 8) (tx : TxId) (h : ℕ) (
           )
 
       c_taken : (a : ℕ) → conts_taken a (now (suc h)) ≤ conts_taken a (logs (suc h)) + one_if (is_cont tx a e.taken.to e.taken.body)
-      c_taken a = omega (arith, ap (conts_taken a) g.own, taken_signals start (is_cont tx a) (suc h) e (logs (suc h)), few (is_from (machine start) (suc h) e) (is_cont tx a e.taken.to e.taken.body))
+      c_taken a = omega (arith, ap (conts_taken a) g.own, taken_signals start (is_cont tx a) (suc h) e (logs (suc h)), and_few (is_from (machine start) (suc h) e) (is_cont tx a e.taken.to e.taken.body))
 
       c_few : (a : ℕ) → conts_taken a (logs (suc h)) ≤ conts_sent a (logs (suc h))
       c_few a = few_taken start logs g.before (is_cont tx a) (suc h) (suc h)
@@ -306,12 +296,12 @@ module _ (start : Start) (few_nodes : start.nodes ≤ 8) (tx : TxId) (h : ℕ) (
 
               off : (b : Bool) → aborted_body tx e.taken.body ≡ b → aborted_body tx e.taken.body ≡ false
               off false q = q
-              off true q = let c = answer_turn tx e.taken.body q in absurd (no_none u (sym (absent c.0 c.1) ∙ there))
+              off true q = let c = answer_turn tx e.taken.body q in absurd (no_transaction u (sym (absent c.0 c.1) ∙ there))
 
               off_cont : (a : ℕ) (b : Bool) → is_cont tx a e.taken.to e.taken.body ≡ b → is_cont tx a e.taken.to e.taken.body ≡ false
               off_cont a false q = q
-              off_cont a true q = let c = cont_turn tx a e.taken.to e.taken.body q in absurd (no_none u (sym (absent c.0 c.1) ∙ there))
-          by (born name about one none there told) = absurd (open_not (ap (λ (t : Transaction). t.phase) (is_some fresh u (sym (tc_is ∙ there) ∙ now_at)) ∙ u_is))
+              off_cont a true q = let c = cont_turn tx a e.taken.to e.taken.body q in absurd (no_transaction u (sym (absent c.0 c.1) ∙ there))
+          by (born name about one none there told) = absurd (open_not (ap (λ (t : Transaction). t.phase) (the_transaction fresh u (sym (tc_is ∙ there) ∙ now_at)) ∙ u_is))
             where
               open_not : Open ≡ Aborting why v k → ⊥
               open_not q = cc
@@ -327,11 +317,11 @@ module _ (start : Start) (few_nodes : start.nodes ≤ 8) (tx : TxId) (h : ℕ) (
               number = x.number ∙ sym home
 
               which : (b : Bool) → turn.over ≡ b → IsDue now u k
-              which true over = absurd (no_none u (sym (tc_is ∙ (left ∙ ap (λ b. if b then None else Some turn.step.state) over)) ∙ now_at))
+              which true over = absurd (no_transaction u (sym (tc_is ∙ (left ∙ ap (λ b. if b then None else Some turn.step.state) over)) ∙ now_at))
               which false over = subst (λ w. IsDue now w k) same (moved (abort_move (start.nodes + 1) tx (first_view start.nodes) view_good x.state.tc number x.view t e.taken.body turn move over why v k (ap (λ (w : Transaction). w.phase) same ∙ u_is)))
                 where
                   same : turn.step.state ≡ u
-                  same = is_some turn.step.state u (sym (tc_is ∙ (left ∙ ap (λ b. if b then None else Some turn.step.state) over)) ∙ now_at)
+                  same = the_transaction turn.step.state u (sym (tc_is ∙ (left ∙ ap (λ b. if b then None else Some turn.step.state) over)) ∙ now_at)
 
                   w : Transaction
                   w = turn.step.state
@@ -474,7 +464,7 @@ module _ (start : Start) (few_nodes : start.nodes ≤ 8) (tx : TxId) (h : ℕ) (
       by (inr differs) = other_step logs now i e g differs (passed i refl differs) all
 
   first : AllDue (log_of (machine start) [])
-  first t why v k at is = absurd (no_none t (sym (first_none start tx h) ∙ at))
+  first t why v k at is = absurd (no_transaction t (sym (first_none start tx h) ∙ at))
 
   none_aborts : (logs : ℕ → List LogStep) → AreQuiet start logs → (t : Transaction) (why : AbortCause) (v : Bool) (k : ℕ) → tx_at tx (after start (suc h) (logs (suc h))) ≡ Some t → t.asked ≡ None → t.phase ≡ Aborting why v k → ⊥
   none_aborts logs quiet t why v k at none is = by due.owed

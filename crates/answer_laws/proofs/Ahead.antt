@@ -1,6 +1,6 @@
 -- Laws that each step of a host keeps, and what is known of a node after a log.
 use Rattle.std.proofs.Common.{◌≡◌, ◌≢◌, ◌⊎◌, ℕ, suc, ◌+◌, ◌≤◌, ◌<◌, List, [], ◌∷◌, ◌++◌, Bool, true, false, refl, ap, sym, ◌∙◌, arith, inl, inr}
-use Rattle.std.specs.Prelude.{Option, None}
+use Rattle.std.specs.Prelude.{Option, None, Some}
 use Rattle.std.proofs.lemmas.Bool.{cases_lt}
 use Rattle.node_core.specs.declared.host.Host as host
 use Rattle.node_core.specs.declared.host.Host.TheVariants.{Shell, Node}
@@ -48,6 +48,12 @@ tx_at tx (Node n) = of_live tx n.tc.live
 abbrev pub is_dih : BlockId → Bool
 is_dih block.Dih = true
 is_dih _ = false
+
+pub the_transaction : (t u : Transaction) → Some t ≡ Some u → t ≡ u
+the_transaction t u e = cc
+
+pub no_transaction : {A : Type 0} (t : Transaction) → None ≡ Some t → A
+no_transaction t e = absurd cc
 
 -- a step of a node is one of its blocks
 pub data NodeStep (x : node.Node) (at : BlockId) (body : Body) (now : node.Node) (sends : List Outgoing) : Type 0 where

@@ -29,6 +29,7 @@ use Rattle.world_core.specs.Start.{Start, first_view}
 use Rattle.answer_laws.proofs.Ahead.{AtNode, NextAt, NodeStep, at_node, first_none, next_at, of_dih, of_lqh, of_none, of_tc, tx_at}
 use Rattle.answer_laws.proofs.Tally.{one_if}
 use Rattle.answer_laws.proofs.TcKeys.{key_of_tx}
+use Rattle.answer_laws.proofs.TcOwes.{last_length, set_length}
 use Rattle.answer_laws.proofs.TcSends.{same_tx-self}
 use Rattle.answer_laws.proofs.TcSteps.{TxStep, born, elsewhere, of_live, turned, tx_step}
 use Rattle.answer_laws.proofs.TcTurns.{GivesUp, TurnMove, abort_ends, aborted, aborts, all_completed, answers, asked_to, asks, commits, committed, completed, completes, decides, ends, gives_up, goes_on, keeps, late, refused}
@@ -95,15 +96,6 @@ always start tx h P stable (e ∷ log) t at = next (always start tx h P stable l
 pub record Touches (tx : TxId) (t : Transaction) (body : Body) (u : Transaction) : Type 0 where
   pub few : length t.touched ≤ 64 → length u.touched ≤ 64
   pub more : length u.touched ≤ length t.touched + one_if (key_of_tx tx body)
-
-set_length : {A : Type 0} (xs : List A) (at : ℕ) (y : A) → length (slice_set xs at y) ≡ length xs
-set_length [] at y = refl
-set_length (x ∷ xs) zero y = refl
-set_length (x ∷ xs) (suc at) y = ap suc (set_length xs at y)
-
-last_length : {A : Type 0} (xs : List A) (y : A) → length (xs ++ y ∷ []) ≡ length xs + 1
-last_length [] y = refl
-last_length (x ∷ xs) y = omega (arith, last_length xs y)
 
 touch_length : (touched : List Touched) (key : List ℕ) (chain : List Member) → fits touched key ≡ true
     → (length (touch touched key chain) ≤ length touched) ⊎ ((length touched < 64) × (length (touch touched key chain) ≡ length touched + 1))

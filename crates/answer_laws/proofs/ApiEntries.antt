@@ -30,7 +30,7 @@ use Rattle.answer_laws.proofs.TcKeys.{answer_of, is_key, key_of_tx}
 use Rattle.answer_laws.proofs.TcLives.{start_of}
 use Rattle.answer_laws.proofs.TcMoves.{same_tx-is}
 use Rattle.answer_laws.proofs.TcSends.{eqb-self}
-use Rattle.answer_laws.proofs.Wishes.{and_false, is_tc, sends_of, to_node}
+use Rattle.answer_laws.proofs.Wishes.{and_false, is_tc, second_fails, sends_of, to_node}
 use Rattle.answer_laws.specs.Answered.{is_operating}
 
 -- the commit of the transaction is asked for
@@ -84,10 +84,6 @@ keys_to tx sends = sends_of (to_node tx.tc (is_key tx)) sends
 abbrev pub commits_to : TxId → List Outgoing → ℕ
 commits_to tx sends = sends_of (to_node tx.tc (is_commit_req tx)) sends
 
-second : (a : Bool) {b : Bool} → b ≡ false → (a && b) ≡ false
-second true q = q
-second false q = refl
-
 calm_keys : (tx : TxId) (sends : List Outgoing) → are_of is_calm sends ≡ true → keys_to tx sends ≡ 0
 calm_keys tx sends kind = none_of is_calm (to_node tx.tc (is_key tx)) (λ to b k. and_false (to.node == tx.tc) (is_tc to.block) (fails b k)) sends kind
   where
@@ -96,7 +92,7 @@ calm_keys tx sends kind = none_of is_calm (to_node tx.tc (is_key tx)) (λ to b k
     fails _ e = refl
 
 calm_commits : (tx : TxId) (sends : List Outgoing) → are_of is_calm sends ≡ true → commits_to tx sends ≡ 0
-calm_commits tx sends kind = none_of is_calm (to_node tx.tc (is_commit_req tx)) (λ to b k. second (to.node == tx.tc) (fails to b k)) sends kind
+calm_commits tx sends kind = none_of is_calm (to_node tx.tc (is_commit_req tx)) (λ to b k. second_fails (to.node == tx.tc) (fails to b k)) sends kind
   where
     fails : (to : Place) (b : Body) → is_calm b ≡ true → is_commit_req tx to b ≡ false
     fails to (Client (TcCommitReq other)) e = absurd (false≢true e)

@@ -32,7 +32,7 @@ use Rattle.answer_laws.proofs.TcSends.{eqb-self, tc_kinds, tx_in}
 use Rattle.answer_laws.proofs.TcSteps.{TcStep, begins, is_rest_kind, misses, takes, tc_step}
 use Rattle.answer_laws.proofs.TcSteps as steps
 use Rattle.answer_laws.proofs.TcTurns.{turn_moves, turn_row}
-use Rattle.answer_laws.proofs.Wishes.{and_false, is_tc, sends_of, to_node}
+use Rattle.answer_laws.proofs.Wishes.{and_false, is_tc, second_fails, sends_of, to_node}
 
 -- a transaction asks for an epoch, and is given one
 abbrev pub is_req : TxId → Place → Body → Bool
@@ -179,11 +179,7 @@ dih_gives tx s _ few = omega arith
 -- the other blocks give none
 pub no_conf : (j : ℕ) (tx : TxId) (kind : Body → Bool) → ((to : Place) (body : Body) → kind body ≡ true → is_conf tx to body ≡ false) → (sends : List Outgoing) → are_of kind sends ≡ true
     → sends_of (to_node j (is_conf tx)) sends ≡ 0
-no_conf j tx kind fails sends e = none_of kind (to_node j (is_conf tx)) (λ to body k. second (to.node == j) (fails to body k)) sends e
-  where
-    second : (a : Bool) {b : Bool} → b ≡ false → (a && b) ≡ false
-    second true q = q
-    second false q = refl
+no_conf j tx kind fails sends e = none_of kind (to_node j (is_conf tx)) (λ to body k. second_fails (to.node == j) (fails to body k)) sends e
 
 pub lqh_confless : (tx : TxId) (to : Place) (body : Body) → is_lqh_kind body ≡ true → is_conf tx to body ≡ false
 lqh_confless tx to (Epoch (DiVerifyConf other epoch)) e = cc

@@ -37,7 +37,7 @@ use Rattle.answer_laws.proofs.Ops.{same_node}
 use Rattle.answer_laws.proofs.SendKinds.{are_of, is_dih_kind, is_lqh_kind, of_kind}
 use Rattle.answer_laws.proofs.Tally.{one_if}
 use Rattle.answer_laws.proofs.TcLives.{IsOwn}
-use Rattle.answer_laws.proofs.Wishes.{sends_of, to_node}
+use Rattle.answer_laws.proofs.Wishes.{second_fails, sends_of, to_node}
 
 module _ (start : Start) (h : ℕ) where
   any : TxId
@@ -181,11 +181,7 @@ module _ (start : Start) (h : ℕ) where
     where
       kind : (b : Bool) → is_epochless e.taken.body ≡ b → is_epochless e.taken.body ≡ false
       kind false q = q
-      kind true q = absurd (false≢true (sym (second (is_dih e.taken.to.block) (ap not q)) ∙ is))
-        where
-          second : (a : Bool) {b : Bool} → b ≡ false → (a && b) ≡ false
-          second true q = q
-          second false q = refl
+      kind true q = absurd (false≢true (sym (second_fails (is_dih e.taken.to.block) (ap not q)) ∙ is))
 
       from : (k : ℕ) → e.taken.from.0 ≡ k → (is_from (machine start) k e && is_epoch e.taken.to e.taken.body) ≡ true
       from k same = all_three (is_asked e.taken.body) (e.taken.from.0 == k) (is_epoch e.taken.to e.taken.body) (plain_asked e.taken.body (kind (is_epochless e.taken.body) refl)) (grind (arith, nat_tests, same)) is

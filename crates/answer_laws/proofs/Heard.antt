@@ -36,7 +36,7 @@ use Rattle.tc_block.specs.Tc.{tc_row}
 use Rattle.tc_block.specs.Touched.{fits, place_of}
 use Rattle.world_core.specs.Machine.{after, machine}
 use Rattle.world_core.specs.Start.{Start}
-use Rattle.answer_laws.proofs.Ahead.{AtNode, Goes, NextAt, NodeStep, along, at_node, first_none, next_at, of_dih, of_lqh, of_none, of_tc, tx_at}
+use Rattle.answer_laws.proofs.Ahead.{along, at_node, AtNode, first_none, Goes, next_at, NextAt, no_transaction, NodeStep, of_dih, of_lqh, of_none, of_tc, the_transaction, tx_at}
 use Rattle.answer_laws.proofs.Always.{Touches, turn_touches}
 use Rattle.answer_laws.proofs.ApiEntries.{IsEntryRight, is_commit_req, of_opened, opened_at, shell_entry}
 use Rattle.answer_laws.proofs.Commits.{live_low}
@@ -56,7 +56,7 @@ use Rattle.answer_laws.proofs.TcSends.{same_tx-self, tx_in}
 use Rattle.answer_laws.proofs.TcSteps.{TxStep, born, elsewhere, left_of_turn, live_early, live_in, next_grows, of_live, turned, tx_step}
 use Rattle.answer_laws.proofs.TcTurns.{IsMissed, is_turn}
 use Rattle.answer_laws.proofs.Wants.{IsAsking, IsHeld, all_right, entry_next, held_few}
-use Rattle.answer_laws.proofs.Wishes.{is_api, is_tc, sends_of, to_node}
+use Rattle.answer_laws.proofs.Wishes.{is_api, is_tc, second_fails, sends_of, to_node}
 use Rattle.answer_laws.specs.Answered.{AreQuiet, EachAskedWhereOperating, EachClosedWhereCommitting, EachIsNumbered, IsLiveAs, opened_after, opened_in}
 
 some_held : (tx : TxId) (opened : List OpenTransaction) (t : OpenTransaction) → of_opened tx opened ≡ Some t → 1 ≤ tally (has_tx tx) opened
@@ -75,13 +75,6 @@ shell_stays : (s : ApiState) (at : BlockId) (body : Body) → is_api at ≡ fals
 unfolding shell_row
 shell_stays s block.Api body e = cc
 shell_stays s _ body e = refl
-
-the_transaction : (t u : Transaction) → Some t ≡ Some u → t ≡ u
-the_transaction t u e = cc
-
-second : (a : Bool) {b : Bool} → b ≡ false → (a && b) ≡ false
-second true q = q
-second false q = refl
 
 has_asked : Transaction → ℕ
 has_asked t = one_if (is_some t.asked)
@@ -318,18 +311,15 @@ module _ (start : Start) (tx : TxId) (h : ℕ) (home : tx.tc ≡ suc h) where
           by : TxStep tx x.state.tc e.taken.body (tc_row x.state.tc e.taken.body) → Result
           by (elsewhere same kind absent) =
               kept (ap (λ (s : TcState). of_live tx s.live) tc_is ∙ same) grows (ap (answers_in tx) sends ∙ apart_answers tx (tc_row x.state.tc e.taken.body).effects.sends kind)
-              (λ t there. (second (is_tc e.taken.to.block) (off_key t there (key_of_tx tx e.taken.body) refl), second (is_tc e.taken.to.block) (off_commit t there (commit_body tx e.taken.body) refl)))
+              (λ t there. (second_fails (is_tc e.taken.to.block) (off_key t there (key_of_tx tx e.taken.body) refl), second_fails (is_tc e.taken.to.block) (off_commit t there (commit_body tx e.taken.body) refl)))
             where
-              gone : (t : Transaction) → None ≡ Some t → ⊥
-              gone t e = cc
-
               off_key : (t : Transaction) → of_live tx x.state.tc.live ≡ Some t → (b : Bool) → key_of_tx tx e.taken.body ≡ b → key_of_tx tx e.taken.body ≡ false
               off_key t there false q = q
-              off_key t there true q = let c = key_turn tx e.taken.body q in absurd (gone t (sym (absent c.0 c.1) ∙ there))
+              off_key t there true q = let c = key_turn tx e.taken.body q in absurd (no_transaction t (sym (absent c.0 c.1) ∙ there))
 
               off_commit : (t : Transaction) → of_live tx x.state.tc.live ≡ Some t → (b : Bool) → commit_body tx e.taken.body ≡ b → commit_body tx e.taken.body ≡ false
               off_commit t there false q = q
-              off_commit t there true q = let c = commit_turn tx e.taken.body q in absurd (gone t (sym (absent c.0 c.1) ∙ there))
+              off_commit t there true q = let c = commit_turn tx e.taken.body q in absurd (no_transaction t (sym (absent c.0 c.1) ∙ there))
           by (born name about one none there told) = (heard_now, λ y y_is early. omega (arith, none_sent, sent_now, none_told))
             where
               none_told : answers_in tx n.sends ≡ 0
@@ -351,9 +341,9 @@ module _ (start : Start) (tx : TxId) (h : ℕ) (home : tx.tc ≡ suc h) where
               heard_now t at p =
                   let f : fresh ≡ t = the_transaction fresh t (sym (ap (λ (s : TcState). of_live tx s.live) tc_is ∙ there) ∙ now_at t at) in
                   subst (IsHeard (now (suc h))) f (record {
-                    keys = omega (arith, keys_now, ap (λ b. one_if (is_tc e.taken.to.block && b)) (ap (key_of_tx tx) about), ap one_if (second (is_tc e.taken.to.block) refl), keys_few start tx h home logs g.before, none_asked_for.0, sent_now, none_told, none_sent);
+                    keys = omega (arith, keys_now, ap (λ b. one_if (is_tc e.taken.to.block && b)) (ap (key_of_tx tx) about), ap one_if (second_fails (is_tc e.taken.to.block) refl), keys_few start tx h home logs g.before, none_asked_for.0, sent_now, none_told, none_sent);
                     touched = omega arith;
-                    commits = omega (arith, commits_now, ap (λ b. one_if (is_tc e.taken.to.block && b)) (ap (commit_body tx) about), ap one_if (second (is_tc e.taken.to.block) refl), commits_few start tx h home logs g.before, none_asked_for.1);
+                    commits = omega (arith, commits_now, ap (λ b. one_if (is_tc e.taken.to.block && b)) (ap (commit_body tx) about), ap one_if (second_fails (is_tc e.taken.to.block) refl), commits_few start tx h home logs g.before, none_asked_for.1);
                   })
           by (turned t turn about one there move left told) = (heard_now, late)
             where
@@ -375,14 +365,11 @@ module _ (start : Start) (tx : TxId) (h : ℕ) (home : tx.tc ≡ suc h) where
               commits_here : commits_taken (now (suc h)) ≡ one_if (commit_body tx e.taken.body) + commits_taken (logs (suc h))
               commits_here = commits_now ∙ ap (λ b. one_if (b && commit_body tx e.taken.body) + commits_taken (logs (suc h))) block_is
 
-              gone : (u : Transaction) → None ≡ Some u → ⊥
-              gone u e = cc
-
               heard_now : (u : Transaction) → tx_at tx (after start (suc h) (now (suc h))) ≡ Some u → u.phase ≡ Open → IsHeard (now (suc h)) u
               heard_now u u_at p = which turn.over refl
                 where
                   which : (b : Bool) → turn.over ≡ b → IsHeard (now (suc h)) u
-                  which true over = absurd (gone u (sym (now_live ∙ ap (λ b. if b then None else Some turn.step.state) over) ∙ now_at u u_at))
+                  which true over = absurd (no_transaction u (sym (now_live ∙ ap (λ b. if b then None else Some turn.step.state) over) ∙ now_at u u_at))
                   which false over = subst (IsHeard (now (suc h))) same (result (open_turn x.state.tc tx t e.taken.body turn move over (ap (λ (v : Transaction). v.phase) same ∙ p)))
                     where
                       same : turn.step.state ≡ u
@@ -494,15 +481,13 @@ module _ (start : Start) (tx : TxId) (h : ℕ) (home : tx.tc ≡ suc h) where
       done = λ some. omega arith;
       new = λ none. (refl, refl);
     };
-    heard = λ t at p. absurd (no_tx t (sym (first_none start tx h) ∙ at));
+    heard = λ t at p. absurd (no_transaction t (sym (first_none start tx h) ∙ at));
     unborn = λ y y_is early. refl;
   }
     where
       no_open : {A : Type 0} (t : OpenTransaction) → None ≡ Some t → A
       no_open t e = absurd cc
 
-      no_tx : (t : Transaction) → None ≡ Some t → ⊥
-      no_tx t e = cc
 
   -- at quiet
   module _ (logs : ℕ → List LogStep) (quiet : AreQuiet start logs) (low : suc h < start.nodes + 1) where

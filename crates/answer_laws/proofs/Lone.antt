@@ -37,7 +37,7 @@ use Rattle.api_block.specs.declared.opened.OpenTransaction.{OpenTransaction}
 use Rattle.api_block.specs.State.{ApiState}
 use Rattle.world_core.specs.Machine.{after, machine}
 use Rattle.world_core.specs.Start.{Start, first_view}
-use Rattle.answer_laws.proofs.Ahead.{AtNode, Goes, NextAt, NodeStep, along, at_node, first_none, next_at, of_dih, of_lqh, of_none, of_tc, tx_at}
+use Rattle.answer_laws.proofs.Ahead.{along, at_node, AtNode, first_none, Goes, next_at, NextAt, no_transaction, NodeStep, of_dih, of_lqh, of_none, of_tc, the_transaction, tx_at}
 use Rattle.answer_laws.proofs.ApiMoves.{ApiMove, api_moves, begun_as, ends, goes, is_api_kind, opens, refuses, rests}
 use Rattle.answer_laws.proofs.DihSends.{dih_kinds}
 use Rattle.answer_laws.proofs.Flows.{flow_few, flow_sent, flow_taken, flow_took}
@@ -51,7 +51,7 @@ use Rattle.answer_laws.proofs.TcForth.{HopTurn, answer_came, hop_turn, hopless_n
 use Rattle.answer_laws.proofs.TcOps.{asks_key}
 use Rattle.answer_laws.proofs.TcSteps.{TxStep, born, elsewhere, is_apart, left_of_turn, live_early, live_home, next_grows, of_live, turned, tx_step}
 use Rattle.answer_laws.proofs.TcTurns.{is_turn}
-use Rattle.answer_laws.proofs.Totals.{sent_all, taken_all, total, total_at, total_one}
+use Rattle.answer_laws.proofs.Totals.{sent_all, taken_all, total, total_at, total_one, total_zero}
 use Rattle.answer_laws.proofs.Wishes.{is_tc}
 
 plain_hop : (tx : TxId) (key : List ℕ) (to : Place) (body : Body) → is_hop tx key to body ≡ true → is_request body ≡ false
@@ -226,12 +226,6 @@ module _ (start : Start) (tx : TxId) (key : List ℕ) where
     pub opened : (t : Transaction) → tx_at tx (after start (suc h) (logs (suc h))) ≡ Some t → t.phase ≡ Open → S logs + W logs ≤ T logs + one_if (asks_key key t.asked)
     pub unborn : (x : node.Node) → after start (suc h) (logs (suc h)) ≡ Node x → x.tc.next_seq ≤ tx.seq → S logs + W logs ≤ T logs
 
-  gone : {A : Type 0} (t : Transaction) → None ≡ Some t → A
-  gone t e = absurd cc
-
-  the_one : (t u : Transaction) → Some t ≡ Some u → t ≡ u
-  the_one t u e = cc
-
   module _ (h : ℕ) (home : tx.tc ≡ suc h) where
     -- a balanced step of another host
     other_lone : (logs now : ℕ → List LogStep) → now (suc h) ≡ logs (suc h) → Balanced logs now → IsLone h logs → IsLone h now
@@ -330,9 +324,9 @@ module _ (start : Start) (tx : TxId) (key : List ℕ) where
                 now_live = ap (λ (s : TcState). of_live tx s.live) tc_is ∙ left
 
                 opened_now : (u : Transaction) → tx_at tx (after start (suc h) (now (suc h))) ≡ Some u → u.phase ≡ Open → (b : Bool) → turn.over ≡ b → S now + W now ≤ T now + one_if (asks_key key u.asked)
-                opened_now u u_at p true over = gone u (sym (now_live ∙ ap (λ b. if b then None else Some turn.step.state) over) ∙ now_at u u_at)
+                opened_now u u_at p true over = no_transaction u (sym (now_live ∙ ap (λ b. if b then None else Some turn.step.state) over) ∙ now_at u u_at)
                 opened_now u u_at p false over =
-                    let same : turn.step.state ≡ u = the_one turn.step.state u (sym (now_live ∙ ap (λ b. if b then None else Some turn.step.state) over) ∙ now_at u u_at) in
+                    let same : turn.step.state ≡ u = the_transaction turn.step.state u (sym (now_live ∙ ap (λ b. if b then None else Some turn.step.state) over) ∙ now_at u u_at) in
                     let o = turns.opened over (ap (λ (v : Transaction). v.phase) same ∙ p) in
                     omega (arith, k.opened t (was_at (Some t) there) o.0, o.1, sent, waits, taken_now, ap (λ (v : Transaction). one_if (asks_key key v.asked)) same)
 
@@ -372,17 +366,13 @@ module _ (start : Start) (tx : TxId) (key : List ℕ) where
     first_waits zero = ap waiting_at (shell_after start []).is
     first_waits (suc i) = refl
 
-    zeros : (m : ℕ) (f : ℕ → ℕ) → ((i : ℕ) → f i ≡ 0) → total m f ≡ 0
-    zeros zero f none = refl
-    zeros (suc m) f none = omega (arith, none m, zeros m f none)
-
     pub first_lone : IsLone h (log_of (machine start) [])
     first_lone =
-        let s : S (log_of (machine start) []) ≡ 0 = zeros (start.nodes + 1) _ (λ i. zeros (start.nodes + 1) _ (λ j. refl)) in
-        let w : W (log_of (machine start) []) ≡ 0 = zeros (start.nodes + 1) _ first_waits in
+        let s : S (log_of (machine start) []) ≡ 0 = total_zero (start.nodes + 1) _ (λ i. total_zero (start.nodes + 1) _ (λ j. refl)) in
+        let w : W (log_of (machine start) []) ≡ 0 = total_zero (start.nodes + 1) _ first_waits in
         record {
           few = omega (arith, s, w);
-          opened = λ t at p. gone t (sym (first_none start tx h) ∙ at);
+          opened = λ t at p. no_transaction t (sym (first_none start tx h) ∙ at);
           unborn = λ x x_is early. omega (arith, s, w);
         }
 

@@ -25,7 +25,7 @@ use Rattle.answer_laws.proofs.SendKinds.{are_of, is_keyless, none_of, of_kind}
 use Rattle.answer_laws.proofs.Tally.{one_if}
 use Rattle.answer_laws.proofs.TcKeys.{answer_of, answers_in, is_answer, key_of_tx}
 use Rattle.answer_laws.proofs.TcSends.{same_tx-self}
-use Rattle.answer_laws.proofs.TcTurns.{IsMissed, TurnMove, abort_ends, aborted, aborts, all_completed, answers, asks, commits, committed, completed, completes, decides, ends, gives_up, goes_on, is_wait_kind, keeps, late}
+use Rattle.answer_laws.proofs.TcTurns.{abort_ends, aborted, aborts, all_completed, answers, asks, commits, committed, completed, completes, decides, ends, entered_phase, gives_up, goes_on, is_wait_kind, IsMissed, keeps, late, over_not, TurnMove}
 use Rattle.answer_laws.proofs.Wishes.{and_false, is_api, to_node}
 use Rattle.answer_laws.specs.Answered.{is_aborting}
 
@@ -62,9 +62,6 @@ module _ (s : TcState) (tx : TxId) (t : Transaction) (body : Body) (turn : Turn)
   Open_turn : Type 0
   Open_turn = (t.phase ≡ Open) × OpenTurn tx t body turn.step.state turn.step.effects.sends
 
-  over_not : {A : Type 0} (other : Turn) → turn ≡ other → other.over ≡ true → turn.over ≡ false → A
-  over_not other is o e = absurd (false≢true (sym e ∙ (ap (λ (x : Turn). x.over) is ∙ o)))
-
   other_phase : {A : Type 0} (other : Turn) (phase : Phase) → turn ≡ other → other.step.state.phase ≡ phase → (phase ≡ Open → ⊥) → turn.step.state.phase ≡ Open → A
   other_phase other phase is p differs e = absurd (differs (sym p ∙ (sym (ap (λ (x : Turn). x.step.state.phase) is) ∙ e)))
 
@@ -79,10 +76,6 @@ module _ (s : TcState) (tx : TxId) (t : Transaction) (body : Body) (turn : Turn)
 
   verifying_no : Verifying ≡ Open → ⊥
   verifying_no e = cc
-
-  entered_phase : (view : View) (w : Transaction) (phase : Phase) → (entering s.node view tx w phase).state.phase ≡ phase
-  unfolding entering
-  entered_phase view w phase = refl
 
   pub open_turn : TurnMove s tx t body turn → turn.over ≡ false → turn.step.state.phase ≡ Open → (t.phase ≡ Open) × OpenTurn tx t body turn.step.state turn.step.effects.sends
   open_turn move over is_open = go move
@@ -111,13 +104,13 @@ module _ (s : TcState) (tx : TxId) (t : Transaction) (body : Body) (turn : Turn)
           (p, is_told (ap (key_of_tx tx) about) (ap (commit_body tx) about) (ap is_some q.is) (asked_of _ is) (omega (arith, answers_of _ is, ap one_if (ap (λ b. true && (true && b)) (same_tx-self tx)))))
       go (late key asked about p q is) = absurd (aborting_no t.phase p (phase_of _ is))
       go (decides about p q is) = other_phase _ Verifying is refl verifying_no is_open
-      go (aborts w why gives some is) = other_phase _ (Aborting why (is_verifying w.phase) (aborts_awaited s.view w)) is (entered_phase s.view w _) (aborting_no _ refl) is_open
-      go (gives_up w why gives is none) = over_not _ is refl over
+      go (aborts w why gives some is) = other_phase _ (Aborting why (is_verifying w.phase) (aborts_awaited s.view w)) is (entered_phase s.node s.view tx w _) (aborting_no _ refl) is_open
+      go (gives_up w why gives is none) = over_not turn _ is refl over
       go (aborted key why v k about p low is) = other_phase _ (Aborting why v (k - 1)) is refl (aborting_no _ refl) is_open
-      go (abort_ends key why v k about p low is) = over_not _ is refl over
-      go (commits epoch about p is) = other_phase _ (Committing epoch (length t.touched)) is (entered_phase s.view t _) (committing_no _ _) is_open
+      go (abort_ends key why v k about p low is) = over_not turn _ is refl over
+      go (commits epoch about p is) = other_phase _ (Committing epoch (length t.touched)) is (entered_phase s.node s.view tx t _) (committing_no _ _) is_open
       go (committed epoch k p is) = other_phase _ (Committing epoch (k - 1)) is refl (committing_no _ _) is_open
-      go (completes epoch p is) = other_phase _ (Completing epoch (written_count t.touched)) is (entered_phase s.view t _) (completing_no _ _) is_open
-      go (ends epoch p is) = over_not _ is refl over
+      go (completes epoch p is) = other_phase _ (Completing epoch (written_count t.touched)) is (entered_phase s.node s.view tx t _) (completing_no _ _) is_open
+      go (ends epoch p is) = over_not turn _ is refl over
       go (completed epoch k p is) = other_phase _ (Completing epoch (k - 1)) is refl (completing_no _ _) is_open
-      go (all_completed epoch k p is) = over_not _ is refl over
+      go (all_completed epoch k p is) = over_not turn _ is refl over

@@ -32,11 +32,7 @@ use Rattle.answer_laws.proofs.TcKeys.{answer_of, answers_in, is_answer, is_key, 
 use Rattle.answer_laws.proofs.TcLives.{is_start, start_of}
 use Rattle.answer_laws.proofs.TcSends.{tc_kinds, tx_in}
 use Rattle.answer_laws.proofs.TcSteps.{TxStep, born, elsewhere, is_apart, live_home, turned, tx_step}
-use Rattle.answer_laws.proofs.Wishes.{and_false, is_api, is_tc, sends_of, to_node}
-
-second : (a : Bool) {b : Bool} → b ≡ false → (a && b) ≡ false
-second true q = q
-second false q = refl
+use Rattle.answer_laws.proofs.Wishes.{and_false, is_api, is_tc, second_fails, sends_of, to_node}
 
 -- what isn't said of the transaction answers none of its operations
 pub apart_answers : (tx : TxId) (sends : List Outgoing) → are_of (is_apart tx) sends ≡ true → answers_in tx sends ≡ 0
@@ -66,21 +62,21 @@ lqh_answers tx sends kind = none_of is_lqh_kind (to_node 0 (is_answer tx)) (λ t
 
 -- the commit of a transaction is asked for by no node
 commit_tc : (tx one : TxId) (j : ℕ) (sends : List Outgoing) → are_of (is_tc_kind one) sends ≡ true → sends_of (to_node j (is_commit_req tx)) sends ≡ 0
-commit_tc tx one j sends kind = none_of (is_tc_kind one) (to_node j (is_commit_req tx)) (λ to b k. second (to.node == j) (fails to b k)) sends kind
+commit_tc tx one j sends kind = none_of (is_tc_kind one) (to_node j (is_commit_req tx)) (λ to b k. second_fails (to.node == j) (fails to b k)) sends kind
   where
     fails : (to : Place) (b : Body) → is_tc_kind one b ≡ true → is_commit_req tx to b ≡ false
     fails to (Client (TcCommitReq other)) e = absurd (false≢true e)
     fails to _ e = refl
 
 commit_dih : (tx : TxId) (j : ℕ) (sends : List Outgoing) → are_of is_dih_kind sends ≡ true → sends_of (to_node j (is_commit_req tx)) sends ≡ 0
-commit_dih tx j sends kind = none_of is_dih_kind (to_node j (is_commit_req tx)) (λ to b k. second (to.node == j) (fails to b k)) sends kind
+commit_dih tx j sends kind = none_of is_dih_kind (to_node j (is_commit_req tx)) (λ to b k. second_fails (to.node == j) (fails to b k)) sends kind
   where
     fails : (to : Place) (b : Body) → is_dih_kind b ≡ true → is_commit_req tx to b ≡ false
     fails to (Client (TcCommitReq other)) e = absurd (false≢true e)
     fails to _ e = refl
 
 commit_lqh : (tx : TxId) (j : ℕ) (sends : List Outgoing) → are_of is_lqh_kind sends ≡ true → sends_of (to_node j (is_commit_req tx)) sends ≡ 0
-commit_lqh tx j sends kind = none_of is_lqh_kind (to_node j (is_commit_req tx)) (λ to b k. second (to.node == j) (fails to b k)) sends kind
+commit_lqh tx j sends kind = none_of is_lqh_kind (to_node j (is_commit_req tx)) (λ to b k. second_fails (to.node == j) (fails to b k)) sends kind
   where
     fails : (to : Place) (b : Body) → is_lqh_kind b ≡ true → is_commit_req tx to b ≡ false
     fails to (Client (TcCommitReq other)) e = absurd (false≢true e)

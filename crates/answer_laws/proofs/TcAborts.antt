@@ -34,7 +34,7 @@ use Rattle.answer_laws.proofs.LqhOps.{is_good, is_lqh, is_node, left_of, right_o
 use Rattle.answer_laws.proofs.Tally.{one_if, tally, tally_append}
 use Rattle.answer_laws.proofs.TcCommits.{is_cont}
 use Rattle.answer_laws.proofs.TcSends.{eqb-self, same_tx-self}
-use Rattle.answer_laws.proofs.TcTurns.{GivesUp, IsMissed, TurnMove, abort_ends, aborted, aborts, all_completed, answers, asked_to, asks, commits, committed, completed, completes, decides, ends, gives_up, goes_on, is_row_answer, keeps, late, refused}
+use Rattle.answer_laws.proofs.TcTurns.{abort_ends, aborted, aborts, all_completed, answers, asked_to, asks, commits, committed, completed, completes, decides, ends, entered_phase, gives_up, GivesUp, goes_on, is_row_answer, IsMissed, keeps, late, over_not, refused, TurnMove}
 use Rattle.answer_laws.proofs.Wishes.{is_tc, sends_of}
 use Rattle.answer_laws.specs.Answered.{is_aborting}
 
@@ -150,9 +150,6 @@ module _ (n : ℕ) (tx : TxId) (view : View) (good : is_good n view.full ≡ tru
         → IsPart (is_abort n tx) tx (abort.replica_count view t.touched) at sends → AbortMove t body u sends k
 
   module _ (s : TcState) (home : s.node ≡ tx.tc) (view_is : s.view ≡ view) (t : Transaction) (body : Body) (turn : Turn) where
-    over_not : {A : Type 0} (other : Turn) → turn ≡ other → other.over ≡ true → turn.over ≡ false → A
-    over_not other is o e = absurd (false≢true (sym e ∙ (ap (λ (x : Turn). x.over) is ∙ o)))
-
     other_phase : {A : Type 0} (other : Turn) (phase : Phase) (why : AbortCause) (v : Bool) (k : ℕ) → turn ≡ other → other.step.state.phase ≡ phase → is_aborting phase ≡ false → turn.step.state.phase ≡ Aborting why v k → A
     other_phase other phase why v k is p off e =
         absurd (false≢true (sym off ∙ (ap is_aborting (sym p) ∙ (ap (λ (x : Turn). is_aborting x.step.state.phase) (sym is) ∙ ap is_aborting e))))
@@ -196,10 +193,6 @@ module _ (n : ℕ) (tx : TxId) (view : View) (good : is_good n view.full ≡ tru
         (subst (λ (x : Transaction). IsPart (is_abort n tx) tx (abort.replica_count view x.touched) 0 sends) (sym u_is)
         (subst (IsPart (is_abort n tx) tx (abort.replica_count view w.touched) 0) (sym sends_is) (aborts_part s.node 0 why v m w.touched home)))
 
-    entered_phase : (v : View) (w : Transaction) (phase : Phase) → (entering s.node v tx w phase).state.phase ≡ phase
-    unfolding entering
-    entered_phase v w phase = refl
-
     pub abort_move : TurnMove s tx t body turn → turn.over ≡ false → (why : AbortCause) (v : Bool) (k : ℕ) → turn.step.state.phase ≡ Aborting why v k
         → AbortMove t body turn.step.state turn.step.effects.sends k
     abort_move move over why v k is_k = go move
@@ -227,10 +220,10 @@ module _ (n : ℕ) (tx : TxId) (view : View) (good : is_good n view.full ≡ tru
         go (decides about p q is) = other_phase _ Verifying why v k is refl refl is_k
         go (aborts w because gives some is) =
             entered w because (abort.is_verifying w.phase) k (abort.aborts_awaited view w) turn.step.state turn.step.effects.sends gives (subst (λ x. 1 ≤ abort.aborts_awaited x w) view_is some) refl
-            (sym (the_k because why (abort.is_verifying w.phase) v _ k (sym (entered_phase s.view w _) ∙ phase_of _ is)) ∙ ap (λ x. abort.aborts_awaited x w) view_is)
+            (sym (the_k because why (abort.is_verifying w.phase) v _ k (sym (entered_phase s.node s.view tx w _) ∙ phase_of _ is)) ∙ ap (λ x. abort.aborts_awaited x w) view_is)
             (ap (λ (x : Turn). x.step.state) is ∙ ap (λ x. (entering s.node x tx w (Aborting because (abort.is_verifying w.phase) (abort.aborts_awaited x w))).state) view_is)
             (ap (λ (x : Turn). x.step.effects.sends) is ∙ ap (λ x. (entering s.node x tx w (Aborting because (abort.is_verifying w.phase) (abort.aborts_awaited x w))).effects.sends) view_is)
-        go (gives_up w because gives is none) = over_not _ is refl over
+        go (gives_up w because gives is none) = over_not turn _ is refl over
         go (aborted key because w before about p low is) =
             subst (λ (x : Turn). AbortMove t body x.step.state x.step.effects.sends k) (sym is)
             (waits because w before p (λ some. omega (arith, low, one_less)) (λ at to lower. ap (is_cont tx at to) about) refl
@@ -242,10 +235,10 @@ module _ (n : ℕ) (tx : TxId) (view : View) (good : is_good n view.full ≡ tru
             few : (b : Bool) → one_if b ≤ 1
             few true = omega arith
             few false = omega arith
-        go (abort_ends key because w before about p low is) = over_not _ is refl over
-        go (commits epoch about p is) = other_phase _ (Committing epoch (length t.touched)) why v k is (entered_phase s.view t _) refl is_k
+        go (abort_ends key because w before about p low is) = over_not turn _ is refl over
+        go (commits epoch about p is) = other_phase _ (Committing epoch (length t.touched)) why v k is (entered_phase s.node s.view tx t _) refl is_k
         go (committed epoch m p is) = other_phase _ (Committing epoch (m - 1)) why v k is refl refl is_k
-        go (completes epoch p is) = other_phase _ _ why v k is (entered_phase s.view t _) refl is_k
-        go (ends epoch p is) = over_not _ is refl over
+        go (completes epoch p is) = other_phase _ _ why v k is (entered_phase s.node s.view tx t _) refl is_k
+        go (ends epoch p is) = over_not turn _ is refl over
         go (completed epoch m p is) = other_phase _ (Completing epoch (m - 1)) why v k is refl refl is_k
-        go (all_completed epoch m p is) = over_not _ is refl over
+        go (all_completed epoch m p is) = over_not turn _ is refl over

@@ -33,12 +33,9 @@ use Rattle.answer_laws.proofs.SendKinds.{are_of, none_of, of_append, of_flat, of
 use Rattle.answer_laws.proofs.Tally.{one_if}
 use Rattle.answer_laws.proofs.TcOps.{asks_key}
 use Rattle.answer_laws.proofs.TcSends.{same_tx-self}
-use Rattle.answer_laws.proofs.TcTurns.{GivesUp, TurnMove, abort_ends, aborted, aborts, all_completed, answers, asked_to, asks, commits, committed, completed, completes, decides, ends, gives_up, goes_on, is_wait_kind, keeps, late, refused}
+use Rattle.answer_laws.proofs.TcTurns.{abort_ends, aborted, aborts, all_completed, answers, asked_to, asks, commits, committed, completed, completes, decides, ends, entered_phase, gives_up, GivesUp, goes_on, is_wait_kind, keeps, late, over_not, refused, TurnMove}
+use Rattle.answer_laws.proofs.Wishes.{second_fails}
 use Rattle.answer_laws.specs.Answered.{is_aborting}
-
-second : (a : Bool) {b : Bool} → b ≡ false → (a && b) ≡ false
-second true q = q
-second false q = refl
 
 -- neither a request for an operation nor an answer to one
 abbrev pub is_hopless : Body → Bool
@@ -121,9 +118,6 @@ module _ (s : TcState) (tx : TxId) (key : List ℕ) (t : Transaction) (body : Bo
   pub record BackTurn : Type 0 where
     pub undecided : turn.over ≡ false → is_decided turn.step.state.phase ≡ false → (is_decided t.phase ≡ false) × (are_of (is_back tx) turn.step.effects.sends ≡ true)
 
-  over_not : {A : Type 0} (other : Turn) → turn ≡ other → other.over ≡ true → turn.over ≡ false → A
-  over_not other is o e = absurd (false≢true (sym e ∙ (ap (λ (x : Turn). x.over) is ∙ o)))
-
   phase_is : (other : Turn) → turn ≡ other → turn.step.state.phase ≡ other.step.state.phase
   phase_is other is = ap (λ (x : Turn). x.step.state.phase) is
 
@@ -137,7 +131,7 @@ module _ (s : TcState) (tx : TxId) (key : List ℕ) (t : Transaction) (body : Bo
 
       by : ((other.over ≡ true) ⊎ ((other.step.state.phase ≡ Open → ⊥) ⊎ ((other.step.state.phase ≡ t.phase) × (other.step.state.asked ≡ t.asked)))) → turn.over ≡ false → turn.step.state.phase ≡ Open
           → (t.phase ≡ Open) × (one_if (asks_key key t.asked) + hops tx key turn.step.effects.sends ≤ one_if (asks_key key turn.step.state.asked) + answer_came tx key body)
-      by (inl o) over p = over_not other is o over
+      by (inl o) over p = over_not turn other is o over
       by (inr (inl closed)) over p = absurd (closed (sym (phase_is other is) ∙ p))
       by (inr (inr same)) over p =
           (sym same.0 ∙ (sym (phase_is other is) ∙ p), omega (arith, none, ap (λ (x : Turn). one_if (asks_key key x.step.state.asked)) is, ap (λ a. one_if (asks_key key a)) same.1))
@@ -154,12 +148,8 @@ module _ (s : TcState) (tx : TxId) (key : List ℕ) (t : Transaction) (body : Bo
   verifying_no : Verifying ≡ Open → ⊥
   verifying_no e = cc
 
-  entered_phase : (w : Transaction) (phase : Phase) → (entering s.node s.view tx w phase).state.phase ≡ phase
-  unfolding entering
-  entered_phase w phase = refl
-
   entered_closed : (w : Transaction) (phase : Phase) → (phase ≡ Open → ⊥) → (entering s.node s.view tx w phase).state.phase ≡ Open → ⊥
-  entered_closed w phase closed e = closed (sym (entered_phase w phase) ∙ e)
+  entered_closed w phase closed e = closed (sym (entered_phase s.node s.view tx w phase) ∙ e)
 
   end_hopless : (why : AbortCause) (b : Bool) → are_of is_hopless (abort.abort_end s.node tx why b) ≡ true
   end_hopless why true = refl
@@ -222,7 +212,7 @@ module _ (s : TcState) (tx : TxId) (key : List ℕ) (t : Transaction) (body : Bo
 
   back_never : (other : Turn) → turn ≡ other → (is_decided other.step.state.phase ≡ true) ⊎ (other.over ≡ true) → BackTurn
   back_never other is (inl on) = record { undecided = λ over off. absurd (false≢true (sym off ∙ (ap is_decided (phase_is other is) ∙ on))) }
-  back_never other is (inr o) = record { undecided = λ over off. over_not other is o over }
+  back_never other is (inr o) = record { undecided = λ over off. over_not turn other is o over }
 
   given_undecided : (w : Transaction) → GivesUp t body w → is_decided t.phase ≡ false
   given_undecided w (asked_to (inl p) other about is) = ap is_decided p
@@ -247,9 +237,9 @@ module _ (s : TcState) (tx : TxId) (key : List ℕ) (t : Transaction) (body : Bo
   back_turn (gives_up w why gives is none) = back_never _ is (inr refl)
   back_turn (aborted at why v k about p low is) = back_from _ is (ap is_decided p) refl
   back_turn (abort_ends at why v k about p low is) = back_never _ is (inr refl)
-  back_turn (commits epoch about p is) = back_never _ is (inl (ap is_decided (entered_phase t _)))
+  back_turn (commits epoch about p is) = back_never _ is (inl (ap is_decided (entered_phase s.node s.view tx t _)))
   back_turn (committed epoch k p is) = back_never _ is (inl refl)
-  back_turn (completes epoch p is) = back_never _ is (inl (ap is_decided (entered_phase t _)))
+  back_turn (completes epoch p is) = back_never _ is (inl (ap is_decided (entered_phase s.node s.view tx t _)))
   back_turn (ends epoch p is) = back_never _ is (inr refl)
   back_turn (completed epoch k p is) = back_never _ is (inl refl)
   back_turn (all_completed epoch k p is) = back_never _ is (inr refl)

@@ -35,7 +35,7 @@ use Rattle.answer_laws.proofs.PartKinds.{IsPartKind, entering_of, parts_of}
 use Rattle.answer_laws.proofs.SendKinds.{are_of, of_kind, of_map}
 use Rattle.answer_laws.proofs.Tally.{one_if, tally, tally_append, tally_between, tally_in}
 use Rattle.answer_laws.proofs.TcLives.{IsOwn, apart, insert_new, is_keyed}
-use Rattle.answer_laws.proofs.TcMoves.{IsEntry, found, same_tx-is}
+use Rattle.answer_laws.proofs.TcMoves.{found, IsEntry, same_tx-is, step_is}
 use Rattle.answer_laws.proofs.TcSends.{same_tx-self, tx_in}
 use Rattle.answer_laws.proofs.TcTurns.{TurnMove, abort_ends, aborted, aborts, all_completed, answers, asks, commits, committed, completed, completes, decides, ends, gives_up, goes_on, is_turn, is_wait_kind, keeps, late, turn_moves, turn_row}
 
@@ -170,17 +170,6 @@ pub data TcStep (s : TcState) (body : Body) (step : Step TcState) : Type 0 where
   misses : is_turn body ≡ true → tally (is_keyed (tx_in body)) s.live ≡ 0 → step ≡ stay s → TcStep s body step
   takes : is_turn body ≡ true → (t : Transaction) (front back : List (TxId × Transaction)) → s.live ≡ front ++ (tx_in body, t) ∷ back
       → step ≡ record { state = with_live s (left_in (tx_in body) front back (turn_row s body t)); effects = (turn_row s body t).step.effects } → TcStep s body step
-
-step_is : (s : TcState) (one : TxId) (row : Transaction → Step Transaction) → step_of s one row ≡ turn_of s one (λ t. going (row t))
-step_is s one row = at_place (place_in s one)
-  where
-    at_value : (at : ℕ) (t : Option Transaction) → step_value s row at t ≡ turn_value s (λ t. going (row t)) at t
-    at_value at None = refl
-    at_value at (Some t) = refl
-
-    at_place : (o : Option ℕ) → step_place s row o ≡ turn_place s (λ t. going (row t)) o
-    at_place None = refl
-    at_place (Some at) = at_value at (slice_get (values_of s.live) at)
 
 taken_turn : (s : TcState) (body : Body) → is_turn body ≡ true → TcStep s body (turn_of s (tx_in body) (turn_row s body))
 unfolding without

@@ -1,6 +1,7 @@
 -- What a signal makes of a coordinator's transaction, case by case.
 use Rattle.std.proofs.Common.{◌≡◌, ◌⊎◌, ℕ, ◌-◌, ◌≤◌, ◌<◌, List, [], ◌∷◌, length, Bool, true, false, refl, ap, sym, ◌∙◌, arith, inl, inr}
 use Rattle.std.specs.Prelude.{◌==◌, ◌&&◌, nat_lt, Option, None, Some}
+use Rattle.std.proofs.lemmas.Bool.{false≢true}
 use Rattle.std.proofs.lemmas.Bool.Decides.{nat_tests}
 use Rattle.sig_core.specs.declared.member.TxId.{TxId}
 use Rattle.sig_core.specs.declared.op.Answer.{Answer}
@@ -15,6 +16,7 @@ use Rattle.sig_core.specs.declared.signal.client.ClientSignal.TheVariants.{TcKey
 use Rattle.sig_core.specs.declared.signal.epoch.EpochSignal.TheVariants.{DiVerifyReq, DiVerifyConf}
 use Rattle.sig_core.specs.declared.signal.host.HostSignal.TheVariants.{Continue}
 use Rattle.sig_core.specs.declared.signal.host.Work.TheVariants as work
+use Rattle.sig_core.specs.declared.view.View.{View}
 use Rattle.sig_core.specs.Op.{key_of}
 use Rattle.sig_core.specs.Place.{client, epochs}
 use Rattle.sig_core.specs.Same.{same_key}
@@ -126,6 +128,15 @@ pub data TurnMove (s : TcState) (tx : TxId) (t : Transaction) (body : Body) (tur
   ends : (epoch : ℕ) → IsCommitted t body → turn ≡ ending t (sends_only (reported tx epoch ∷ verify_end s.node tx ∷ [])) → TurnMove s tx t body turn
   completed : (epoch k : ℕ) → t.phase ≡ Completing epoch k → turn ≡ going (stay (at_phase t (Completing epoch (k - 1)))) → TurnMove s tx t body turn
   all_completed : (epoch k : ℕ) → t.phase ≡ Completing epoch k → turn ≡ ending t (sends_only (verify_end s.node tx ∷ [])) → TurnMove s tx t body turn
+
+-- a turn that is over isn't one that isn't
+pub over_not : {A : Type 0} (turn other : Turn) → turn ≡ other → other.over ≡ true → turn.over ≡ false → A
+over_not turn other is o e = absurd (false≢true (sym e ∙ (ap (λ (x : Turn). x.over) is ∙ o)))
+
+-- a transaction that comes to a phase is in it
+pub entered_phase : (node : ℕ) (view : View) (tx : TxId) (w : Transaction) (phase : Phase) → (entering node view tx w phase).state.phase ≡ phase
+unfolding entering
+entered_phase node view tx w phase = refl
 
 asked_is : (o : Option Asked) (key : List ℕ) (b : Asked) → operate.asked_on o key ≡ Some b → (o ≡ Some b) × (same_key (key_of b.op) key ≡ true)
 asked_is None key b e = absurd cc

@@ -31,6 +31,10 @@ pub total_add : (n : ℕ) (f g : ℕ → ℕ) → total n (λ k. f k + g k) ≡ 
 total_add zero f g = refl
 total_add (suc n) f g = omega (arith, total_add n f g)
 
+pub total_zero : (n : ℕ) (f : ℕ → ℕ) → ((k : ℕ) → f k ≡ 0) → total n f ≡ 0
+total_zero zero f none = refl
+total_zero (suc n) f none = omega (arith, none n, total_zero n f none)
+
 -- one of them changes
 pub total_one : (n : ℕ) (f g : ℕ → ℕ) (h : ℕ) → h < n → ((k : ℕ) → k ≢ h → g k ≡ f k) → total n g + f h ≡ total n f + g h
 total_one zero f g h low same = absurd (omega (arith, low))

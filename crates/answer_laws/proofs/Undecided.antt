@@ -29,7 +29,7 @@ use Rattle.tc_block.specs.Tc.{tc_row}
 use Rattle.world_core.specs.Machine.{after, machine, step_after}
 use Rattle.world_core.specs.Start.{Start}
 use Rattle.commit_laws.specs.Phases.{is_decided}
-use Rattle.answer_laws.proofs.Ahead.{AtNode, Goes, NextAt, NodeStep, along, at_node, next_at, of_dih, of_lqh, of_none, of_tc, tx_at}
+use Rattle.answer_laws.proofs.Ahead.{along, at_node, AtNode, Goes, next_at, NextAt, no_transaction, NodeStep, of_dih, of_lqh, of_none, of_tc, the_transaction, tx_at}
 use Rattle.answer_laws.proofs.ApiMoves.{ApiMove, api_moves, begun_as, ends, goes, is_api_kind, opens, refuses, rests}
 use Rattle.answer_laws.proofs.DihSends.{dih_kinds}
 use Rattle.answer_laws.proofs.Flows.{flow_came, flow_sent}
@@ -40,7 +40,7 @@ use Rattle.answer_laws.proofs.Ops.{same_node}
 use Rattle.answer_laws.proofs.SendKinds.{are_of, is_dih_kind, none_of, of_kind}
 use Rattle.answer_laws.proofs.TcForth.{BackTurn, back_turn}
 use Rattle.answer_laws.proofs.TcSteps.{TxStep, born, elsewhere, is_apart, left_of_turn, live_early, live_home, next_grows, of_live, turned, tx_step}
-use Rattle.answer_laws.proofs.Totals.{sent_all, total}
+use Rattle.answer_laws.proofs.Totals.{sent_all, total, total_zero}
 use Rattle.answer_laws.proofs.Wishes.{sends_of}
 
 abbrev pub forth_at : TxId → Place → Body → Bool
@@ -113,12 +113,6 @@ module _ (start : Start) (tx : TxId) (h : ℕ) (home : tx.tc ≡ suc h) where
   rows_quiet : (logs now : ℕ → List LogStep) (i : ℕ) (e : LogStep) → Goes start logs now i e → F logs ≡ 0 → (s : LqhState) (sends : List Outgoing) → sends ≡ (lqh_row s e.taken.body).effects.sends → sends_of (forth_at tx) sends ≡ 0
   rows_quiet logs now i e g none s sends is = ap (sends_of (forth_at tx)) is ∙ back_none tx (lqh_row s e.taken.body).effects.sends (lqh_back tx s e.taken.body (none_came logs now i e g none))
 
-  gone : {A : Type 0} (t : Transaction) → None ≡ Some t → A
-  gone t e = absurd cc
-
-  the_one : (t u : Transaction) → Some t ≡ Some u → t ≡ u
-  the_one t u e = cc
-
   own_back : (logs now : ℕ → List LogStep) (e : LogStep) → Goes start logs now (suc h) e → IsBack logs → IsBack now
   own_back logs now e g k = finish n.step
     where
@@ -186,9 +180,9 @@ module _ (start : Start) (tx : TxId) (h : ℕ) (home : tx.tc ≡ suc h) where
               now_live = ap (λ (s : TcState). of_live tx s.live) tc_is ∙ left
 
               which : (u : Transaction) → tx_at tx (after start (suc h) (now (suc h))) ≡ Some u → is_decided u.phase ≡ false → (b : Bool) → turn.over ≡ b → F now ≡ 0
-              which u u_at off true over = gone u (sym (now_live ∙ ap (λ b. if b then None else Some turn.step.state) over) ∙ now_at u u_at)
+              which u u_at off true over = no_transaction u (sym (now_live ∙ ap (λ b. if b then None else Some turn.step.state) over) ∙ now_at u u_at)
               which u u_at off false over =
-                  let same : turn.step.state ≡ u = the_one turn.step.state u (sym (now_live ∙ ap (λ b. if b then None else Some turn.step.state) over) ∙ now_at u u_at) in
+                  let same : turn.step.state ≡ u = the_transaction turn.step.state u (sym (now_live ∙ ap (λ b. if b then None else Some turn.step.state) over) ∙ now_at u u_at) in
                   let o = turns.undecided over (ap (λ (v : Transaction). is_decided v.phase) same ∙ off) in
                   none_now (k.undecided t (was_at (Some t) there) o.0) (ap (sends_of (forth_at tx)) (sends ∙ told) ∙ back_none tx turn.step.effects.sends o.1)
 
@@ -232,13 +226,9 @@ module _ (start : Start) (tx : TxId) (h : ℕ) (home : tx.tc ≡ suc h) where
                 sent_now logs now i e g none (other_quiet logs now i e g differs none);
           }
 
-  zeros : (m : ℕ) (f : ℕ → ℕ) → ((i : ℕ) → f i ≡ 0) → total m f ≡ 0
-  zeros zero f none = refl
-  zeros (suc m) f none = omega (arith, none m, zeros m f none)
-
   first : IsBack (log_of (machine start) [])
   first =
-      let none : F (log_of (machine start) []) ≡ 0 = zeros (start.nodes + 1) _ (λ i. zeros (start.nodes + 1) _ (λ j. refl)) in
+      let none : F (log_of (machine start) []) ≡ 0 = total_zero (start.nodes + 1) _ (λ i. total_zero (start.nodes + 1) _ (λ j. refl)) in
       record { undecided = λ t at off. none; unborn = λ y y_is early. none }
 
   pub is_undecided : (logs : ℕ → List LogStep) → IsWithin (start.nodes + 1) logs → AreLogs (machine start) logs → IsBack logs

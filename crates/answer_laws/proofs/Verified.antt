@@ -30,7 +30,7 @@ use Rattle.tc_block.specs.Tc.{tc_row}
 use Rattle.tc_block.specs.Turn.{Turn}
 use Rattle.world_core.specs.Machine.{after, machine}
 use Rattle.world_core.specs.Start.{Start}
-use Rattle.answer_laws.proofs.Ahead.{AtNode, Goes, NextAt, NodeStep, along, at_node, few_taken, first_none, is_dih, next_at, of_dih, of_lqh, of_none, of_tc, tx_at}
+use Rattle.answer_laws.proofs.Ahead.{along, at_node, AtNode, few_taken, first_none, Goes, is_dih, next_at, NextAt, no_transaction, NodeStep, of_dih, of_lqh, of_none, of_tc, the_transaction, tx_at}
 use Rattle.answer_laws.proofs.DihSends.{dih_kinds}
 use Rattle.answer_laws.proofs.EpochCounts.{AreFew, is_epochless}
 use Rattle.answer_laws.proofs.EpochFlow.{dih_plain, is_conf, is_req, lqh_plain}
@@ -45,13 +45,9 @@ use Rattle.answer_laws.proofs.Tally.{one_if}
 use Rattle.answer_laws.proofs.TcMoves.{same_tx-is}
 use Rattle.answer_laws.proofs.TcSends.{eqb-self, same_tx-self, tx_in}
 use Rattle.answer_laws.proofs.TcSteps.{TxStep, born, elsewhere, is_apart, left_of_turn, live_early, live_in, next_grows, of_live, turned, tx_step}
-use Rattle.answer_laws.proofs.TcTurns.{IsMissed, TurnMove, abort_ends, aborted, aborts, all_completed, answers, asks, commits, committed, completed, completes, decides, ends, gives_up, goes_on, is_turn, keeps, late}
-use Rattle.answer_laws.proofs.Wishes.{is_tc, sends_of, to_node}
+use Rattle.answer_laws.proofs.TcTurns.{abort_ends, aborted, aborts, all_completed, answers, asks, commits, committed, completed, completes, decides, ends, entered_phase, gives_up, goes_on, is_turn, IsMissed, keeps, late, over_not, TurnMove}
+use Rattle.answer_laws.proofs.Wishes.{is_tc, second_fails, sends_of, to_node}
 use Rattle.answer_laws.specs.Answered.{AreQuiet, IsLiveAs, is_aborting, NoEpochIsAwaited}
-
-second : (a : Bool) {b : Bool} → b ≡ false → (a && b) ≡ false
-second true q = q
-second false q = refl
 
 abbrev conf_body : TxId → Body → Bool
 conf_body tx (Epoch (DiVerifyConf other epoch)) = same_tx other tx
@@ -76,7 +72,7 @@ pub data PhaseMove (tx : TxId) (j : ℕ) (t : Transaction) (body : Body) (u : Tr
   further : (u.phase ≡ Open → ⊥) → (u.phase ≡ Verifying → ⊥) → PhaseMove tx j t body u sends
 
 req_plain : (j : ℕ) (tx : TxId) (sends : List Outgoing) → are_of is_epochless sends ≡ true → sends_of (to_node j (is_req tx)) sends ≡ 0
-req_plain j tx sends kind = none_of is_epochless (to_node j (is_req tx)) (λ to body k. second (to.node == j) (fails to body k)) sends kind
+req_plain j tx sends kind = none_of is_epochless (to_node j (is_req tx)) (λ to body k. second_fails (to.node == j) (fails to body k)) sends kind
   where
     fails : (to : Place) (body : Body) → is_epochless body ≡ true → is_req tx to body ≡ false
     fails to (Epoch (DiVerifyReq other ops)) e = absurd (false≢true e)
@@ -87,9 +83,6 @@ missed_conf tx t (Epoch (DiVerifyConf other epoch)) missed p = absurd (false≢t
 missed_conf tx t _ missed p = refl
 
 module _ (s : TcState) (tx : TxId) (t : Transaction) (body : Body) (turn : Turn) where
-  over_not : (other : Turn) → turn ≡ other → other.over ≡ true → turn.over ≡ false → ⊥
-  over_not other is o e = false≢true (sym e ∙ (ap (λ (x : Turn). x.over) is ∙ o))
-
   phase_is : (other : Turn) → turn ≡ other → turn.step.state.phase ≡ other.step.state.phase
   phase_is other is = ap (λ (x : Turn). x.step.state.phase) is
 
@@ -104,10 +97,6 @@ module _ (s : TcState) (tx : TxId) (t : Transaction) (body : Body) (turn : Turn)
 
   completing_no : (epoch k : ℕ) → (Completing epoch k ≡ Open → ⊥) × (Completing epoch k ≡ Verifying → ⊥)
   completing_no epoch k = (λ e. cc, λ e. cc)
-
-  entered_phase : (view : View) (w : Transaction) (phase : Phase) → (entering s.node view tx w phase).state.phase ≡ phase
-  unfolding entering
-  entered_phase view w phase = refl
 
   rest_phase : (other : Turn) → turn ≡ other → other.step.state.phase ≡ t.phase → (t.phase ≡ Verifying → conf_body tx body ≡ false) → TurnCounts s.node tx t turn → turn.over ≡ false
       → is_counted turn.step.state.phase ≡ is_counted t.phase → PhaseMove tx s.node t body turn.step.state turn.step.effects.sends
@@ -134,27 +123,27 @@ module _ (s : TcState) (tx : TxId) (t : Transaction) (body : Body) (turn : Turn)
       go (decides about p q is) =
           verifies p (phase_is _ is) (ap (conf_body tx) about)
           (omega (arith, ap (λ (x : Turn). sends_of (to_node s.node (is_req tx)) x.step.effects.sends) is, ap one_if (ap (λ b. b && (true && same_tx tx tx)) (eqb-self s.node) ∙ same_tx-self tx)))
-      go (aborts w why gives some is) = leaves _ (Aborting why (is_verifying w.phase) (aborts_awaited s.view w)) is (entered_phase s.view w _) (aborting_no why _ _).0 (aborting_no why _ _).1
-      go (gives_up w why gives is none) = absurd (over_not _ is refl e)
+      go (aborts w why gives some is) = leaves _ (Aborting why (is_verifying w.phase) (aborts_awaited s.view w)) is (entered_phase s.node s.view tx w _) (aborting_no why _ _).0 (aborting_no why _ _).1
+      go (gives_up w why gives is none) = over_not turn _ is refl e
       go (aborted key why v k about p low is) = leaves _ (Aborting why v (k - 1)) is refl (aborting_no why _ _).0 (aborting_no why _ _).1
-      go (abort_ends key why v k about p low is) = absurd (over_not _ is refl e)
-      go (commits epoch about p is) = leaves _ (Committing epoch (length t.touched)) is (entered_phase s.view t _) (committing_no _ _).0 (committing_no _ _).1
+      go (abort_ends key why v k about p low is) = over_not turn _ is refl e
+      go (commits epoch about p is) = leaves _ (Committing epoch (length t.touched)) is (entered_phase s.node s.view tx t _) (committing_no _ _).0 (committing_no _ _).1
       go (committed epoch k p is) = leaves _ (Committing epoch (k - 1)) is refl (committing_no _ _).0 (committing_no _ _).1
-      go (completes epoch p is) = leaves _ (Completing epoch (written_count t.touched)) is (entered_phase s.view t _) (completing_no _ _).0 (completing_no _ _).1
-      go (ends epoch p is) = absurd (over_not _ is refl e)
+      go (completes epoch p is) = leaves _ (Completing epoch (written_count t.touched)) is (entered_phase s.node s.view tx t _) (completing_no _ _).0 (completing_no _ _).1
+      go (ends epoch p is) = over_not turn _ is refl e
       go (completed epoch k p is) = leaves _ (Completing epoch (k - 1)) is refl (completing_no _ _).0 (completing_no _ _).1
-      go (all_completed epoch k p is) = absurd (over_not _ is refl e)
+      go (all_completed epoch k p is) = over_not turn _ is refl e
 
 -- what isn't said of the transaction doesn't ask for its epoch
 apart_req : (j : ℕ) (tx : TxId) (sends : List Outgoing) → are_of (is_apart tx) sends ≡ true → sends_of (to_node j (is_req tx)) sends ≡ 0
-apart_req j tx sends kind = none_of (is_apart tx) (to_node j (is_req tx)) (λ to body k. second (to.node == j) (fails to body k)) sends kind
+apart_req j tx sends kind = none_of (is_apart tx) (to_node j (is_req tx)) (λ to body k. second_fails (to.node == j) (fails to body k)) sends kind
   where
     fails : (to : Place) (body : Body) → is_apart tx body ≡ true → is_req tx to body ≡ false
     fails to (Epoch (DiVerifyReq other ops)) e = by (same_tx other tx) e
       where
         by : (b : Bool) → not b ≡ true → (is_dih to.block && b) ≡ false
         by true q = absurd (false≢true q)
-        by false q = second (is_dih to.block) refl
+        by false q = second_fails (is_dih to.block) refl
     fails to _ e = refl
 
 module _ (start : Start) (tx : TxId) (h : ℕ) where
@@ -169,12 +158,6 @@ module _ (start : Start) (tx : TxId) (h : ℕ) where
     opened : (t : Transaction) → tx_at tx (after start (suc h) (logs (suc h))) ≡ Some t → t.phase ≡ Open → reqs (logs (suc h)) ≡ 0
     verifying : (t : Transaction) → tx_at tx (after start (suc h) (logs (suc h))) ≡ Some t → t.phase ≡ Verifying → (1 ≤ reqs (logs (suc h))) × (confs (logs (suc h)) ≡ 0)
     unborn : (x : node.Node) → after start (suc h) (logs (suc h)) ≡ Node x → x.tc.next_seq ≤ tx.seq → reqs (logs (suc h)) ≡ 0
-
-  is_some : (t u : Transaction) → Some t ≡ Some u → t ≡ u
-  is_some t u e = cc
-
-  no_none : (t : Transaction) → None ≡ Some t → ⊥
-  no_none t e = cc
 
   own_step : (logs now : ℕ → List LogStep) (e : LogStep) → Goes start logs now (suc h) e → IsAsked logs → IsAsked now
   own_step logs now e g k = finish n.step
@@ -195,7 +178,7 @@ module _ (start : Start) (tx : TxId) (h : ℕ) where
       confs_now = ap confs g.own ∙ taken_signals start (is_conf tx) (suc h) e (logs (suc h))
 
       confs_same : is_conf tx e.taken.to e.taken.body ≡ false → confs (now (suc h)) ≡ confs (logs (suc h))
-      confs_same off = omega (arith, confs_now, ap one_if (second (is_from (machine start) (suc h) e) off))
+      confs_same off = omega (arith, confs_now, ap one_if (second_fails (is_from (machine start) (suc h) e) off))
 
       was_at : (o : Option Transaction) → of_live tx x.state.tc.live ≡ o → tx_at tx (after start (suc h) (logs (suc h))) ≡ o
       was_at o e = ap (tx_at tx) x.is ∙ e
@@ -262,11 +245,11 @@ module _ (start : Start) (tx : TxId) (h : ℕ) where
               off t there false q = q
               off t there true q =
                   let c = conf_turn tx e.taken.body (conf_at tx e.taken.to e.taken.body q).1 in
-                  absurd (no_none t (sym (absent c.0 c.1) ∙ there))
+                  absurd (no_transaction t (sym (absent c.0 c.1) ∙ there))
           by (born name about one none there told) = record {
             opened = λ t now_there p. omega (arith, reqs_now, zero_req, unborn_now);
             verifying = λ t now_there p.
-                let f : fresh ≡ t = is_some fresh t (sym (ap (λ (s : TcState). of_live tx s.live) tc_is ∙ there) ∙ now_at t now_there) in
+                let f : fresh ≡ t = the_transaction fresh t (sym (ap (λ (s : TcState). of_live tx s.live) tc_is ∙ there) ∙ now_at t now_there) in
                 absurd (open_not (ap (λ (u : Transaction). u.phase) f ∙ p));
             unborn = λ y y_is early. omega (arith, reqs_now, zero_req, unborn_now);
           }
@@ -299,14 +282,14 @@ module _ (start : Start) (tx : TxId) (h : ℕ) where
 
               which : (b : Bool) → turn.over ≡ b → IsAsked now
               which true over = record {
-                opened = λ u at p. absurd (no_none u (sym (now_live ∙ ap (λ b. if b then None else Some turn.step.state) over) ∙ now_at u at));
-                verifying = λ u at p. absurd (no_none u (sym (now_live ∙ ap (λ b. if b then None else Some turn.step.state) over) ∙ now_at u at));
+                opened = λ u at p. absurd (no_transaction u (sym (now_live ∙ ap (λ b. if b then None else Some turn.step.state) over) ∙ now_at u at));
+                verifying = λ u at p. absurd (no_transaction u (sym (now_live ∙ ap (λ b. if b then None else Some turn.step.state) over) ∙ now_at u at));
                 unborn = late_unborn;
               }
               which false over = moved (phase_move x.state.tc tx t e.taken.body turn move over)
                 where
                   u_is : (u : Transaction) → tx_at tx (after start (suc h) (now (suc h))) ≡ Some u → u.phase ≡ turn.step.state.phase
-                  u_is u at = ap (λ (v : Transaction). v.phase) (sym (is_some turn.step.state u (sym (now_live ∙ ap (λ b. if b then None else Some turn.step.state) over) ∙ now_at u at)))
+                  u_is u at = ap (λ (v : Transaction). v.phase) (sym (the_transaction turn.step.state u (sym (now_live ∙ ap (λ b. if b then None else Some turn.step.state) over) ∙ now_at u at)))
 
                   moved : PhaseMove tx x.state.tc.node t e.taken.body turn.step.state turn.step.effects.sends → IsAsked now
                   moved (rests same off none) = record {
@@ -350,7 +333,7 @@ module _ (start : Start) (tx : TxId) (h : ℕ) where
   first : IsAsked (log_of (machine start) [])
   first = record {
     opened = λ t at p. refl;
-    verifying = λ t at p. absurd (no_none t (sym (first_none start tx h) ∙ at));
+    verifying = λ t at p. absurd (no_transaction t (sym (first_none start tx h) ∙ at));
     unborn = λ y y_is early. refl;
   }
 
