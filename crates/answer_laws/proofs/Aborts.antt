@@ -44,8 +44,8 @@ use Rattle.answer_laws.proofs.LinkCounts.{sent_signals, signals, taken_signals}
 use Rattle.answer_laws.proofs.LqhOps.{is_good, is_lqh, is_node, left_of, right_of, true_and}
 use Rattle.answer_laws.proofs.Ops.{good_members}
 use Rattle.answer_laws.proofs.Tally.{and_few, one_if, tally_append}
-use Rattle.answer_laws.proofs.TcAborts.{AbortMove, IsPart, abort_move, aborted_body, begins, continues, is_abort, waits}
-use Rattle.answer_laws.proofs.TcCommits.{is_cont}
+use Rattle.answer_laws.proofs.TcAborts.{AbortMove, abort_move, aborted_body, begins, continues, is_abort, waits}
+use Rattle.answer_laws.proofs.PartCounts.{IsPart, is_cont}
 use Rattle.answer_laws.proofs.TcLives.{IsOwn}
 use Rattle.answer_laws.proofs.TcMoves.{same_tx-is}
 use Rattle.answer_laws.proofs.TcSends.{eqb-self, tx_in}

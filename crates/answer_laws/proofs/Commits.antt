@@ -47,7 +47,8 @@ use Rattle.answer_laws.proofs.LqhOps.{is_good, is_lqh, is_node, left_of, right_o
 use Rattle.answer_laws.proofs.NodeOwes.{OwesOf, at_if, came_in, cont_in, tc_owes}
 use Rattle.answer_laws.proofs.Ops.{good_members, row_effects, row_state, same_node, tc_view}
 use Rattle.answer_laws.proofs.Tally.{and_few, one_if, tally, tally_past}
-use Rattle.answer_laws.proofs.TcCommits.{chain_at, is_chain, is_commit, is_cont}
+use Rattle.answer_laws.proofs.PartCounts.{is_cont}
+use Rattle.answer_laws.proofs.TcCommits.{chain_at, is_chain, is_commit}
 use Rattle.answer_laws.proofs.TcLives.{IsOwn, is_keyed}
 use Rattle.answer_laws.proofs.TcMoves.{node_moves, same_tx-is}
 use Rattle.answer_laws.proofs.TcOwes.{IsKnown, Owes, begins, goes_on, waits}

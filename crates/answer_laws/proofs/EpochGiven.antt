@@ -243,12 +243,12 @@ module _ (start : Start) (h : ℕ) where
         counted = counted_now n.step (is_epoch e.taken.to e.taken.body) refl;
         few = λ tx. omega (arith, k.few tx, sent_now tx, taken_signals start (is_req tx) (suc h) e log, at_most tx n.step);
         gives = λ f tx. omega (
-            arith,
-            k.gives (few_before f) tx,
-            sent_now tx,
-            taken_signals start (is_req tx) (suc h) e log,
-            less (is_from (machine start) (suc h) e) (is_req tx e.taken.to e.taken.body),
-            at_least tx n.step f,
+          arith,
+          k.gives (few_before f) tx,
+          sent_now tx,
+          taken_signals start (is_req tx) (suc h) e log,
+          less (is_from (machine start) (suc h) e) (is_req tx e.taken.to e.taken.body),
+          at_least tx n.step f,
         );
       }
         where

@@ -276,17 +276,17 @@ module _ (s : TcState) (body : Body) (c : List TxId) (k : AreCounted s c) (owned
             counted = record {
               all = omega (arith, ap length grown, length_end c, k.all, ap (tally is_counted_one) live, now_all, was_all, ap one_if none, ap one_if some);
               own = λ v. omega (
-                  arith,
-                  ap (tally (same_tx v)) grown,
-                  tally_append (same_tx v) c (one ∷ []),
-                  k.own v,
-                  ap (tally (is_counted_as v)) live,
-                  now_one v,
-                  was_one v,
-                  ap (λ b. one_if (same_tx v one && b)) none,
-                  ap (λ b. one_if (same_tx v one && b)) some,
-                  ap one_if (both (same_tx v one)),
-                  ap one_if (alone (same_tx v one)),
+                arith,
+                ap (tally (same_tx v)) grown,
+                tally_append (same_tx v) c (one ∷ []),
+                k.own v,
+                ap (tally (is_counted_as v)) live,
+                now_one v,
+                was_one v,
+                ap (λ b. one_if (same_tx v one && b)) none,
+                ap (λ b. one_if (same_tx v one && b)) some,
+                ap one_if (both (same_tx v one)),
+                ap one_if (alone (same_tx v one)),
               );
               room = omega (arith, k.room, ap length live, now_length, was_length);
             };
@@ -309,14 +309,14 @@ module _ (s : TcState) (body : Body) (c : List TxId) (k : AreCounted s c) (owned
             counted = record {
               all = omega (arith, ap length fewer_is, less.fewer, k.all, ap (tally is_counted_one) live, was_all, ap one_if some);
               own = λ v. omega (
-                  arith,
-                  ap (tally (same_tx v)) fewer_is,
-                  less.own v,
-                  k.own v,
-                  ap (tally (is_counted_as v)) live,
-                  was_one v,
-                  ap (λ b. one_if (same_tx v one && b)) some,
-                  ap one_if (alone (same_tx v one)),
+                arith,
+                ap (tally (same_tx v)) fewer_is,
+                less.own v,
+                k.own v,
+                ap (tally (is_counted_as v)) live,
+                was_one v,
+                ap (λ b. one_if (same_tx v one && b)) some,
+                ap one_if (alone (same_tx v one)),
               );
               room = omega (arith, k.room, ap length live, was_length);
             };

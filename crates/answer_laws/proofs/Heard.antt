@@ -488,7 +488,6 @@ module _ (start : Start) (tx : TxId) (h : ℕ) (home : tx.tc ≡ suc h) where
       no_open : {A : Type 0} (t : OpenTransaction) → None ≡ Some t → A
       no_open t e = absurd cc
 
-
   -- at quiet
   module _ (logs : ℕ → List LogStep) (quiet : AreQuiet start logs) (low : suc h < start.nodes + 1) where
     all_heard : AllHeard logs

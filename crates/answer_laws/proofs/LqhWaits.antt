@@ -262,12 +262,12 @@ module _ (tx : TxId) (key : List ℕ) where
           → RowWaits s (Host (Continue work.Granted at)) (operate.granted_value s place (Some f.item)).state (operate.granted_value s place (Some f.item)).effects.sends
       at_focus f = record {
         few = λ q. omega (
-            arith,
-            perform_once (storage_of left) f.item,
-            between,
-            removed,
-            tally_append (λ (x : Outgoing). is_hop tx key x.to x.body) (operate.performed left f.item).effects.sends (operate.more_granted left),
-            no_hops_more left.node (is_some (operate.first_granted left.locks left.waiting)),
+          arith,
+          perform_once (storage_of left) f.item,
+          between,
+          removed,
+          tally_append (λ (x : Outgoing). is_hop tx key x.to x.body) (operate.performed left f.item).effects.sends (operate.more_granted left),
+          no_hops_more left.node (is_some (operate.first_granted left.locks left.waiting)),
         );
         there = λ q on. stays (q on) on (own f.item) refl;
         served = λ one forth some off. inr (
@@ -549,10 +549,10 @@ module _ (tx : TxId) (key : List ℕ) where
       (ap (λ ls. kept ls at_key (freed_lock (abort.given_up (abort.unasked s other at_key) other at_key (record_state s.rows other at_key)) other at_key).lock) locks_are
       ∙ ap (λ ls. kept s.locks at_key (released_at ls at_key other).lock) locks_are)
       (λ q. omega (
-          arith,
-          refused_told other at_key (abort.waits_at s other at_key),
-          tally_append (λ (x : Outgoing). is_hop tx key x.to x.body) (abort.refused_by other at_key (abort.waits_at s other at_key)) (to_place (coordinator_of other) (Chain (Aborted other at_key)) ∷ serve_granted s.node (freed_lock s other at_key)),
-          no_hops_more s.node (nat_lt 0 (freed_lock s other at_key).granted),
+        arith,
+        refused_told other at_key (abort.waits_at s other at_key),
+        tally_append (λ (x : Outgoing). is_hop tx key x.to x.body) (abort.refused_by other at_key (abort.waits_at s other at_key)) (to_place (coordinator_of other) (Chain (Aborted other at_key)) ∷ serve_granted s.node (freed_lock s other at_key)),
+        no_hops_more s.node (nat_lt 0 (freed_lock s other at_key).granted),
       ))
       (omega (arith, goes_append s.node (abort.refused_by other at_key (abort.waits_at s other at_key)) (to_place (coordinator_of other) (Chain (Aborted other at_key)) ∷ serve_granted s.node (freed_lock s other at_key))))
     where
@@ -577,11 +577,11 @@ module _ (tx : TxId) (key : List ℕ) where
       (ap (tally own) (same_waiting (abort.waits_at s w.0 w.1)))
       (unasked_locks (with_lock s w.1 sv) (abort.waits_at (with_lock s w.1 sv) w.0 w.1))
       (λ q. omega (
-          arith,
-          told q (same_tx w.0 tx && same_key w.1 key) refl,
-          tally_append (λ (x : Outgoing). is_hop tx key x.to x.body) (serve_granted s.node sv) (expire.more_expired (with_lock s w.1 sv)),
-          no_hops_more s.node (nat_lt 0 sv.granted),
-          no_hops_expired s.node (is_some (expired (with_lock s w.1 sv).locks)),
+        arith,
+        told q (same_tx w.0 tx && same_key w.1 key) refl,
+        tally_append (λ (x : Outgoing). is_hop tx key x.to x.body) (serve_granted s.node sv) (expire.more_expired (with_lock s w.1 sv)),
+        no_hops_more s.node (nat_lt 0 sv.granted),
+        no_hops_expired s.node (is_some (expired (with_lock s w.1 sv).locks)),
       ))
       (omega (arith, tally_append (λ (x : Outgoing). is_more s.node x.to x.body) (serve_granted s.node sv) (expire.more_expired (with_lock s w.1 sv))))
     where

@@ -1,16 +1,14 @@
 -- Turn by turn, what a transaction that aborts waits for.
-use Rattle.std.proofs.Common.{◌≡◌, ◌⊎◌, ℕ, zero, suc, ◌+◌, ◌-◌, ◌≤◌, ◌<◌, List, [], ◌∷◌, ◌++◌, length, take, drop, Bool, true, false, min, refl, ap, sym, ◌∙◌, subst, arith, inl, inr, length-take, length-drop}
-use Rattle.std.specs.Prelude.{◌==◌, ◌&&◌, nat_lt, Option, None, Some}
+use Rattle.std.proofs.Common.{◌≡◌, ℕ, ◌+◌, ◌-◌, ◌≤◌, ◌<◌, List, [], ◌∷◌, ◌++◌, length, Bool, true, false, refl, ap, sym, ◌∙◌, subst, arith}
+use Rattle.std.specs.Prelude.{◌==◌, ◌&&◌, Option, None, Some}
 use Rattle.std.specs.List.{flat_map}
 use Rattle.std.proofs.lemmas.Bool.{eqb-true, false≢true}
-use Rattle.std.proofs.lemmas.Bool.Decides.{nat_tests}
 use Rattle.run_theory.proofs.Pasts.{each_append}
 use Rattle.run_theory.specs.Lists.{Each}
 use Rattle.sig_core.specs.declared.member.Member.{Member}
 use Rattle.sig_core.specs.declared.member.TxId.{TxId}
 use Rattle.sig_core.specs.declared.outcome.AbortCause.{AbortCause}
 use Rattle.sig_core.specs.declared.outs.Outgoing.{Outgoing}
-use Rattle.sig_core.specs.declared.place.BlockId.TheVariants as block
 use Rattle.sig_core.specs.declared.place.Place.{Place}
 use Rattle.sig_core.specs.declared.signal.Body.{Body}
 use Rattle.sig_core.specs.declared.signal.Body.TheVariants.{Host, Chain}
@@ -26,14 +24,14 @@ use Rattle.tc_block.specs.declared.touched.Touched.{Touched}
 use Rattle.tc_block.specs.declared.transaction.Transaction.{Transaction}
 use Rattle.tc_block.specs.Abort as abort
 use Rattle.tc_block.specs.Chain.{chain_of}
-use Rattle.tc_block.specs.Part.{part_effects, rest_if}
+use Rattle.tc_block.specs.Part.{part_effects}
 use Rattle.tc_block.specs.Sends.{aborts_of, entering, front_sends, key_sends, phase_sends}
 use Rattle.tc_block.specs.State.{TcState}
 use Rattle.tc_block.specs.Turn.{Turn}
 use Rattle.answer_laws.proofs.LqhOps.{is_good, is_lqh, is_node, left_of, right_of, true_and}
-use Rattle.answer_laws.proofs.Tally.{one_if, tally, tally_append}
-use Rattle.answer_laws.proofs.TcCommits.{is_cont}
-use Rattle.answer_laws.proofs.TcSends.{eqb-self, same_tx-self}
+use Rattle.answer_laws.proofs.Tally.{one_if}
+use Rattle.answer_laws.proofs.PartCounts.{IsPart, all_counted, is_cont, part_is}
+use Rattle.answer_laws.proofs.TcSends.{same_tx-self}
 use Rattle.answer_laws.proofs.TcTurns.{abort_ends, aborted, aborts, all_completed, answers, asked_to, asks, commits, committed, completed, completes, decides, ends, entered_phase, gives_up, GivesUp, goes_on, is_row_answer, IsMissed, keeps, late, over_not, refused, TurnMove}
 use Rattle.answer_laws.proofs.Wishes.{is_tc, sends_of}
 use Rattle.answer_laws.specs.Answered.{is_aborting}
@@ -47,54 +45,6 @@ is_abort n tx to _ = false
 abbrev pub aborted_body : TxId → Body → Bool
 aborted_body tx (Chain (Aborted other key)) = same_tx other tx
 aborted_body tx _ = false
-
--- a part of a list was sent, from a place on: eight and the signal to go on, or all that is left
-abbrev pub IsPart : (test : Place → Body → Bool) → TxId → (l at : ℕ) → List Outgoing → Type 0
-IsPart test tx l at sends = ((at + 8 < l) × (8 ≤ sends_of test sends) × (1 ≤ sends_of (is_cont tx (at + 8)) sends)) ⊎ (l ≤ at + sends_of test sends)
-
-all_counted : {A : Type 0} (p : A → Bool) (xs : List A) → Each (λ x. p x ≡ true) xs → tally p xs ≡ length xs
-all_counted p [] all = refl
-all_counted p (x ∷ xs) all = omega (arith, ap one_if all.0, all_counted p xs all.1)
-
-each_take : {A : Type 0} (P : A → Type 0) (m : ℕ) (xs : List A) → Each P xs → Each P (take m xs)
-each_take P zero xs all = tt
-each_take P (suc m) [] all = tt
-each_take P (suc m) (x ∷ xs) all = (all.0, each_take P m xs all.1)
-
-each_drop : {A : Type 0} (P : A → Type 0) (m : ℕ) (xs : List A) → Each P xs → Each P (drop m xs)
-each_drop P zero xs all = all
-each_drop P (suc m) [] all = tt
-each_drop P (suc m) (x ∷ xs) all = each_drop P m xs all.1
-
-part_is : (test : Place → Body → Bool) (node : ℕ) (tx : TxId) (xs : List Outgoing) (at : ℕ) → node ≡ tx.tc → Each (λ (x : Outgoing). test x.to x.body ≡ true) xs
-    → IsPart test tx (length xs) at (part_effects node tx xs at).sends
-unfolding part_effects
-part_is test node tx xs at home all = go (nat_lt (at + 8) (length xs)) refl
-  where
-    passes : Outgoing → Bool
-    passes x = test x.to x.body
-
-    part_count : tally (λ (x : Outgoing). test x.to x.body) (take 8 (drop at xs)) ≡ min 8 (length xs - at)
-    part_count =
-        all_counted (λ (x : Outgoing). test x.to x.body) (take 8 (drop at xs)) (each_take (λ (x : Outgoing). test x.to x.body ≡ true) 8 (drop at xs) (each_drop (λ (x : Outgoing). test x.to x.body ≡ true) at xs all))
-        ∙ (length-take 8 (drop at xs) ∙ ap (λ m. min 8 m) (length-drop at xs))
-
-    cont_passes : is_cont tx (at + 8) (record { node = node; block = block.Tc }) (Host (Continue (work.Transaction tx) (at + 8))) ≡ true
-    cont_passes =
-        true_and (node == tx.tc) (same_tx tx tx && ((at + 8) == (at + 8))) (subst (λ k. (k == tx.tc) ≡ true) (sym home) (eqb-self tx.tc))
-        (true_and (same_tx tx tx) ((at + 8) == (at + 8)) (same_tx-self tx) (eqb-self (at + 8)))
-
-    go : (b : Bool) → nat_lt (at + 8) (length xs) ≡ b → IsPart test tx (length xs) at (take 8 (drop at xs) ++ rest_if node tx at b)
-    go true e =
-        let low : at + 8 < length xs = grind (arith, nat_tests, e) in
-        inl (
-          low,
-          omega (arith, low, part_count, tally_append (λ (x : Outgoing). test x.to x.body) (take 8 (drop at xs)) (rest_if node tx at true)),
-          omega (arith, ap one_if cont_passes, tally_append (λ (x : Outgoing). is_cont tx (at + 8) x.to x.body) (take 8 (drop at xs)) (rest_if node tx at true)),
-        )
-    go false e =
-        let near : length xs ≤ at + 8 = grind (arith, nat_tests, e) in
-        inr (omega (arith, near, part_count, tally_append (λ (x : Outgoing). test x.to x.body) (take 8 (drop at xs)) (rest_if node tx at false)))
 
 module _ (n : ℕ) (tx : TxId) (view : View) (good : is_good n view.full ≡ true) where
   -- to each replica an abort goes

@@ -34,7 +34,6 @@ use Rattle.answer_laws.proofs.Tally.{one_if}
 use Rattle.answer_laws.proofs.TcOps.{asks_key}
 use Rattle.answer_laws.proofs.TcSends.{same_tx-self}
 use Rattle.answer_laws.proofs.TcTurns.{abort_ends, aborted, aborts, all_completed, answers, asked_to, asks, commits, committed, completed, completes, decides, ends, entered_phase, gives_up, GivesUp, goes_on, is_wait_kind, keeps, late, over_not, refused, TurnMove}
-use Rattle.answer_laws.proofs.Wishes.{second_fails}
 use Rattle.answer_laws.specs.Answered.{is_aborting}
 
 -- neither a request for an operation nor an answer to one

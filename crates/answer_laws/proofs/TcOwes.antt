@@ -32,7 +32,8 @@ use Rattle.tc_block.specs.Part.{part_effects}
 use Rattle.tc_block.specs.Touched.{fits, place_of, touch, touched_by, unwritten, written, written_by}
 use Rattle.tc_block.specs.Turn.{Turn, asking, going}
 use Rattle.answer_laws.proofs.LqhOps.{is_good, is_node, left_of, right_of, true_and}
-use Rattle.answer_laws.proofs.TcCommits.{is_chain, is_commit, is_cont, part_law}
+use Rattle.answer_laws.proofs.PartCounts.{is_cont}
+use Rattle.answer_laws.proofs.TcCommits.{is_chain, is_commit, part_law}
 use Rattle.answer_laws.proofs.Wishes.{sends_of}
 
 -- what is so of each of a coordinator's transactions

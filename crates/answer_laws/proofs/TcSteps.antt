@@ -1,8 +1,8 @@
 -- What a signal makes of one of a coordinator's transactions, and what of the signals sent is said of it.
 use Rattle.std.proofs.Common.{◌≡◌, ℕ, ◌+◌, ◌<◌, ◌≤◌, List, [], ◌∷◌, ◌++◌, length, Bool, true, false, cond, refl, ap, sym, ◌∙◌, subst, arith, inl, inr}
-use Rattle.std.specs.Prelude.{not, nat_lt, if◌then◌else◌, is_some, Option, None, Some, slice_get}
+use Rattle.std.specs.Prelude.{not, nat_lt, if◌then◌else◌, is_some, Option, None, Some}
 use Rattle.std.specs.List.{prefix_len}
-use Rattle.std.specs.Map.{keys_of, values_of}
+use Rattle.std.specs.Map.{keys_of}
 use Rattle.std.proofs.lemmas.Bool.{false≢true}
 use Rattle.std.proofs.lemmas.Bool.Decides.{nat_tests}
 use Rattle.indexmap.specs.IndexMap.{insert_entry}
@@ -24,7 +24,7 @@ use Rattle.sig_core.specs.Step.{Step, sending, stay}
 use Rattle.tc_block.specs.declared.transaction.Transaction.{Transaction}
 use Rattle.tc_block.specs.Abort as abort
 use Rattle.tc_block.specs.Chain.{chain_of}
-use Rattle.tc_block.specs.Live.{place_in, step_of, step_place, step_value, turn_of, turn_place, turn_value, turned_if, without}
+use Rattle.tc_block.specs.Live.{place_in, step_of, turn_of, turn_place, turn_value, turned_if, without}
 use Rattle.tc_block.specs.Operate.{fresh}
 use Rattle.tc_block.specs.Sends.{abort_of}
 use Rattle.tc_block.specs.State.{TcState, with_live}

@@ -12,7 +12,6 @@ use Rattle.sig_core.specs.declared.log.LogStep.{LogStep}
 use Rattle.sig_core.specs.declared.member.TxId.{TxId}
 use Rattle.sig_core.specs.declared.outcome.AbortCause.{AbortCause}
 use Rattle.sig_core.specs.declared.outs.Outgoing.{Outgoing}
-use Rattle.sig_core.specs.declared.view.View.{View}
 use Rattle.sig_core.specs.declared.place.Place.{Place}
 use Rattle.sig_core.specs.declared.signal.Body.{Body}
 use Rattle.sig_core.specs.declared.signal.Body.TheVariants.{Epoch}
@@ -24,7 +23,6 @@ use Rattle.tc_block.specs.declared.transaction.Transaction.{Transaction}
 use Rattle.tc_block.specs.Abort.{aborts_awaited, is_verifying}
 use Rattle.tc_block.specs.Complete.{written_count}
 use Rattle.tc_block.specs.Operate.{fresh}
-use Rattle.tc_block.specs.Sends.{entering}
 use Rattle.tc_block.specs.State.{TcState}
 use Rattle.tc_block.specs.Tc.{tc_row}
 use Rattle.tc_block.specs.Turn.{Turn}
@@ -303,8 +301,8 @@ module _ (start : Start) (tx : TxId) (h : ℕ) where
                   moved (verifies was becomes off some) = record {
                     opened = λ u at p. absurd (verifying_not (sym becomes ∙ (sym (u_is u at) ∙ p)));
                     verifying = λ u at p. (
-                        omega (arith, reqs_now, sends_are, some),
-                        confs_same (conf_off (is_conf tx e.taken.to e.taken.body) refl (inl off)) ∙ none_given (k.opened t (was_at (Some t) there) was),
+                      omega (arith, reqs_now, sends_are, some),
+                      confs_same (conf_off (is_conf tx e.taken.to e.taken.body) refl (inl off)) ∙ none_given (k.opened t (was_at (Some t) there) was),
                     );
                     unborn = late_unborn;
                   }
