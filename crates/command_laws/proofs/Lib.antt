@@ -1,4 +1,6 @@
 pub mod ApiChanges
+pub mod CommitGoes
+pub mod Entries
 pub mod Firm
 pub mod FirmHosts
 pub mod First
