@@ -5,5 +5,6 @@ pub mod Firm
 pub mod FirmHosts
 pub mod First
 pub mod PhaseSends
+pub mod Pushes
 pub mod Since
 pub mod Turns
