@@ -1,4 +1,5 @@
 pub mod ApiChanges
+pub mod CommitFirst
 pub mod CommitGoes
 pub mod Entries
 pub mod Firm
@@ -7,4 +8,5 @@ pub mod First
 pub mod PhaseSends
 pub mod Pushes
 pub mod Since
+pub mod Told
 pub mod Turns
