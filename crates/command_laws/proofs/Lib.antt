@@ -1,8 +1,10 @@
 pub mod ApiChanges
 pub mod CommitFirst
 pub mod CommitGoes
+pub mod Committed
 pub mod Entries
 pub mod Firm
+pub mod FirmAtQuiet
 pub mod FirmHosts
 pub mod First
 pub mod PhaseSends
