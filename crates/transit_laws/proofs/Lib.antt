@@ -1,1 +1,2 @@
+pub mod EachLive
 pub mod Transit

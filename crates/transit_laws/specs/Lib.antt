@@ -1,6 +1,7 @@
 pub mod Circle
 pub mod Completions
 pub mod GivenUp
+pub mod Keyed
 pub mod Live
 pub mod Owed
 pub mod Routes
