@@ -10,5 +10,6 @@ pub mod First
 pub mod PhaseSends
 pub mod Pushes
 pub mod Since
+pub mod TcPath
 pub mod Told
 pub mod Turns
