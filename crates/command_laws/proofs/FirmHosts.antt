@@ -95,7 +95,7 @@ module _ (tx : TxId) where
   no_back_idle to (Client (TcRollbackRep other cause)) e = cc
   no_back_idle to _ e = refl
 
-  no_back_firm : (to : Place) (body : Body) → is_no_abort body ≡ true → is_back tx to body ≡ false
+  pub no_back_firm : (to : Place) (body : Body) → is_no_abort body ≡ true → is_back tx to body ≡ false
   no_back_firm to (Client (TcRollbackRep other cause)) e = cc
   no_back_firm to _ e = refl
 

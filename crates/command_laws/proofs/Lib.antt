@@ -12,4 +12,5 @@ pub mod Pushes
 pub mod Since
 pub mod TcPath
 pub mod Told
+pub mod TurnTells
 pub mod Turns
