@@ -115,7 +115,7 @@ module _ (tx : TxId) where
   no_back_api to (Client (TcRollbackRep other cause)) e = cc
   no_back_api to _ e = refl
 
-  not_push : (body : Body) → push_of tx body ≡ false → same_tx (tx_in body) tx ≡ true → is_push body ≡ false
+  pub not_push : (body : Body) → push_of tx body ≡ false → same_tx (tx_in body) tx ≡ true → is_push body ≡ false
   not_push (Client (TcKeyReq other op)) none same = absurd (let both : true ≡ false = sym same ∙ none in cc)
   not_push (Client (TcRollbackReq other)) none same = absurd (let both : true ≡ false = sym same ∙ none in cc)
   not_push _ none same = refl

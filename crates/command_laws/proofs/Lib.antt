@@ -11,6 +11,7 @@ pub mod PhaseSends
 pub mod Pushes
 pub mod Since
 pub mod TcPath
+pub mod TellsOnce
 pub mod Told
 pub mod TurnTells
 pub mod Turns

@@ -81,19 +81,19 @@ module _ (tx : TxId) where
   none_other one differs to (Client (TcRollbackRep other cause)) e = apart tx one other differs e
   none_other one differs to _ e = refl
 
-  none_dih : (to : Place) (body : Body) → is_dih_kind body ≡ true → is_told tx to body ≡ false
+  pub none_dih : (to : Place) (body : Body) → is_dih_kind body ≡ true → is_told tx to body ≡ false
   none_dih to (Client (TcKeyConf other answer)) e = cc
   none_dih to (Client (TcCommitConf other epoch)) e = cc
   none_dih to (Client (TcRollbackRep other cause)) e = cc
   none_dih to _ e = refl
 
-  none_lqh : (to : Place) (body : Body) → is_lqh_kind body ≡ true → is_told tx to body ≡ false
+  pub none_lqh : (to : Place) (body : Body) → is_lqh_kind body ≡ true → is_told tx to body ≡ false
   none_lqh to (Client (TcKeyConf other answer)) e = cc
   none_lqh to (Client (TcCommitConf other epoch)) e = cc
   none_lqh to (Client (TcRollbackRep other cause)) e = cc
   none_lqh to _ e = refl
 
-  none_api : (to : Place) (body : Body) → is_api_kind body ≡ true → is_told tx to body ≡ false
+  pub none_api : (to : Place) (body : Body) → is_api_kind body ≡ true → is_told tx to body ≡ false
   none_api to (Client (TcKeyConf other answer)) e = cc
   none_api to (Client (TcCommitConf other epoch)) e = cc
   none_api to (Client (TcRollbackRep other cause)) e = cc
