@@ -12,6 +12,7 @@ pub mod Pushes
 pub mod Since
 pub mod TcPath
 pub mod TellsOnce
+pub mod TellsSince
 pub mod Told
 pub mod TurnTells
 pub mod Turns

@@ -201,7 +201,7 @@ module _ (tx : TxId) where
       let n : r_more + r ≡ r = omega (arith, q) in
       subst (λ i. HasTold asked i (a_more + a) (r_more + r) s) (sym k) (subst (λ i. HasTold asked keys i (r_more + r) s) (sym m) (subst (λ i. HasTold asked keys a i s) (sym n) has))
 
-  node_next : (n : node.Node) (at : BlockId) (body : Body) → IsSound tx n.tc → (is_tc at && wish_back_of tx body) ≡ false → (asked keys a r : ℕ) → asked + (keys + one_if (is_tc at && key_of_tx tx body)) ≤ 1 → HasTold asked keys a r n.tc
+  pub node_next : (n : node.Node) (at : BlockId) (body : Body) → IsSound tx n.tc → (is_tc at && wish_back_of tx body) ≡ false → (asked keys a r : ℕ) → asked + (keys + one_if (is_tc at && key_of_tx tx body)) ≤ 1 → HasTold asked keys a r n.tc
       → HasTold asked (keys + one_if (is_tc at && key_of_tx tx body)) (sends_of (is_reply tx) (node_row n at body).effects.sends + a) (sends_of (is_back tx) (node_row n at body).effects.sends + r) (node_row n at body).state.tc
   unfolding node_row
   node_next n block.Tc body sound wish asked keys a r once has = tc_next n.tc body sound wish asked keys a r once has
