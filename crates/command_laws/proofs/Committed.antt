@@ -5,7 +5,7 @@ use Rattle.run_theory.specs.Cuts.{IsCut}
 use Rattle.run_theory.specs.Lists.{Each, IsIn, IsPast}
 use Rattle.run_theory.specs.Logs.{IsLog}
 use Rattle.run_theory.proofs.Links.{log_after}
-use Rattle.run_theory.proofs.Pasts.{each_from, each_in, each_map}
+use Rattle.run_theory.proofs.Pasts.{each_before, each_from, each_map}
 use Rattle.sig_core.specs.declared.log.LogStep.{LogStep}
 use Rattle.sig_core.specs.declared.mark.Mark.TheVariants.{Reported}
 use Rattle.sig_core.specs.declared.member.TxId.{TxId}
@@ -43,6 +43,7 @@ use Rattle.command_laws.proofs.FirmAtQuiet.{firm_at}
 use Rattle.command_laws.proofs.FirmHosts.{back_of, firm_since, is_back, is_push_to, push_of}
 use Rattle.command_laws.proofs.First.{IsFirst, request_first}
 use Rattle.command_laws.proofs.Pushes.{calm_since, node_pushes}
+use Rattle.command_laws.proofs.Reported.{reported}
 use Rattle.command_laws.proofs.Since.{none_taken, sent_since}
 use Rattle.command_laws.proofs.Told.{told_since}
 use Rattle.command_laws.specs.Served.{CommitsAreCommitted, IsServed, IsToldCommitted, named_in}
@@ -68,28 +69,10 @@ request_pushes_none tx to body is = by (is_tc to.block) (plain body is)
     by true p = p
     by false p = refl
 
-sent_append : (start : Start) (test : Place → Body → Bool) (h : ℕ) (xs ys log : List LogStep) → sent_since start test h (xs ++ ys) log ≡ sent_since start test h xs (ys ++ log) + sent_since start test h ys log
+pub sent_append : (start : Start) (test : Place → Body → Bool) (h : ℕ) (xs ys log : List LogStep) → sent_since start test h (xs ++ ys) log ≡ sent_since start test h xs (ys ++ log) + sent_since start test h ys log
 sent_append start test h [] ys log = omega arith
 sent_append start test h (e ∷ xs) ys log =
     omega (arith, sent_append start test h xs ys log, ap (λ l. sends_of test (step_after start h l e).effects.sends) (append_assoc xs ys log))
-
-abbrev OutcomeOf : Type 0
-OutcomeOf = TxId × Outcome
-
-ending_is : (a b : OutcomeOf) → Some a ≡ Some b → a ≡ b
-ending_is a b is = cc
-
--- an end by abort is told by the report of one
-pub was_aborted : (tx : TxId) (body : Body) (cause : AbortCause) → outcome_in body ≡ Some (tx, outcome.Aborted cause) → back_of tx body ≡ true
-was_aborted tx (Client (TcRollbackRep one other)) cause is = ap (λ (e : OutcomeOf). same_tx e.0 tx) (ending_is (one, outcome.Aborted other) (tx, outcome.Aborted cause) is) ∙ same_tx-self tx
-was_aborted tx (Client (TcCommitConf one epoch)) cause is = absurd (let both : outcome.Committed epoch ≡ outcome.Aborted cause = ap (λ (e : OutcomeOf). e.1) (ending_is (one, outcome.Committed epoch) (tx, outcome.Aborted cause) is) in cc)
-was_aborted tx _ cause is = cc
-
--- none is unknown
-pub never_unknown : (tx : TxId) (body : Body) → outcome_in body ≡ Some (tx, outcome.Unknown) → ⊥
-never_unknown tx (Client (TcRollbackRep one other)) is = let both : outcome.Aborted other ≡ outcome.Unknown = ap (λ (e : OutcomeOf). e.1) (ending_is (one, outcome.Aborted other) (tx, outcome.Unknown) is) in cc
-never_unknown tx (Client (TcCommitConf one epoch)) is = let both : outcome.Committed epoch ≡ outcome.Unknown = ap (λ (e : OutcomeOf). e.1) (ending_is (one, outcome.Committed epoch) (tx, outcome.Unknown) is) in cc
-never_unknown tx _ is = cc
 
 module _ (answered : EachIsAnswered) (start : Start) (was now : ℕ → List LogStep) (name : ℕ) (t : OpenTransaction) (tx : TxId) (served : IsServed start was now (Commit name))
     (named : named_in (opened_after start was) name ≡ Some t) (ready : t.doing ≡ Ready) (own : t.tx ≡ Some tx) where
@@ -149,49 +132,12 @@ module _ (answered : EachIsAnswered) (start : Start) (was now : ℕ → List Log
       by None none = none
 
   report : HasEnded tx (Some name) start f.later (f.first ∷ was 0) → IsToldCommitted start was now name tx
-  report ended = by ended.ending.outcome refl
+  report ended =
+      let r = reported start was now served.since tx (Some name) f.later (f.first ∷ was 0) f.is (record { newer = f.first ∷ []; is = refl }) f.plain none_later ended in
+      record { epoch = r.epoch; told = r.told; marked = r.marked }
     where
-      log : List LogStep
-      log = ended.older ++ f.first ∷ was 0
-
-      now_is : now 0 ≡ ended.newer ++ ended.step ∷ log
-      now_is = f.is ∙ ap (λ w. w ++ f.first ∷ was 0) ended.is ∙ append_assoc ended.newer (ended.step ∷ ended.older) (f.first ∷ was 0)
-
-      plain : is_request ended.step.taken.body ≡ false
-      plain = each_in (λ (e : LogStep). is_request e.taken.body ≡ false) ended.step f.later f.plain (subst (IsIn ended.step) (sym ended.is) (in_middle ended.newer ended.step ended.older))
-
-      not_back : back_of tx ended.step.taken.body ≡ false
-      not_back =
-          each_in (λ (e : LogStep). is_request e.taken.body ≡ false → back_of tx e.taken.body ≡ false) ended.step (f.later ++ f.first ∷ []) none_told
-          (subst (λ w. IsIn ended.step (w ++ f.first ∷ [])) (sym ended.is)
-          (subst (IsIn ended.step) (sym (append_assoc ended.newer (ended.step ∷ ended.older) (f.first ∷ []))) (in_middle ended.newer ended.step (ended.older ++ f.first ∷ [])))) plain
-
-      past : IsPast (was 0) log
-      past = record { newer = ended.older ++ f.first ∷ []; is = sym (append_assoc ended.older (f.first ∷ []) (was 0)) }
-
-      logged : IsLog (machine start) 0 (ended.step ∷ log)
-      logged = log_after (machine start) 0 ended.newer (ended.step ∷ log) (subst (IsLog (machine start) 0) now_is (served.since.right.local 0))
-
-      marks : ended.step.marks ≡ Reported tx ended.ending.outcome ∷ []
-      marks = logged.0.fits.marks ∙ ended.ending.marked
-
-      by : (end : Outcome) → ended.ending.outcome ≡ end → IsToldCommitted start was now name tx
-      by (outcome.Committed epoch) is = record {
-        epoch = epoch;
-        told = subst (λ w. IsIn (Ended (Some name) (outcome.Committed epoch)) (drop (length (replies_of (after start 0 (was 0)))) (replies_of (after start 0 w)))) (sym now_is)
-            (told_since start (was 0) log ended.newer ended.step (Ended (Some name) (outcome.Committed epoch)) past
-            (ended.ending.told ∙ ap (λ end. replies_of (after start 0 log) ++ Ended (Some name) end ∷ []) is));
-        marked = record {
-          step = ended.step;
-          older = log;
-          inside = record { newer = ended.newer; is = now_is };
-          later = past;
-          marked = subst (IsIn (Reported tx (outcome.Committed epoch))) (sym (marks ∙ ap (λ end. Reported tx end ∷ []) is)) (inl refl);
-        };
-      }
-      by (outcome.Aborted cause) is =
-          absurd (let both : false ≡ true = sym not_back ∙ was_aborted tx ended.step.taken.body cause (ended.ending.about ∙ ap (λ end. Some (tx, end)) is) in cc)
-      by outcome.Unknown is = absurd (never_unknown tx ended.step.taken.body (ended.ending.about ∙ ap (λ end. Some (tx, end)) is))
+      none_later : Each (λ (e : LogStep). is_request e.taken.body ≡ false → back_of tx e.taken.body ≡ false) f.later
+      none_later = each_before (λ (e : LogStep). is_request e.taken.body ≡ false → back_of tx e.taken.body ≡ false) f.later (f.first ∷ []) none_told
 
   committed_told : IsToldCommitted start was now name tx
   committed_told = by (commit_goes tx (Some name) start f.later (f.first ∷ was 0) f.plain asked.has)

@@ -7,8 +7,11 @@ pub mod Firm
 pub mod FirmAtQuiet
 pub mod FirmHosts
 pub mod First
+pub mod LoneAsks
+pub mod LoneCommitted
 pub mod PhaseSends
 pub mod Pushes
+pub mod Reported
 pub mod Since
 pub mod TcPath
 pub mod TellsOnce

@@ -57,3 +57,19 @@ CommitsAreCommitted =
     (start : Start) (was now : ℕ → List LogStep) (name : ℕ) (t : OpenTransaction) (tx : TxId) → IsServed start was now (Commit name)
     → named_in (opened_after start was) name ≡ Some t → t.doing ≡ Ready → t.tx ≡ Some tx
     → IsToldCommitted start was now name tx
+
+-- an operation alone was answered since then
+pub record IsAnsweredAlone (start : Start) (was now : ℕ → List LogStep) : Type 0 where
+  pub answer : Answer
+  pub told : IsIn (Answered None answer) (replies_since start was now)
+
+-- and one was reported committed
+pub record IsCommittedAlone (start : Start) (was now : ℕ → List LogStep) : Type 0 where
+  pub epoch : ℕ
+  pub told : IsIn (Ended None (Committed epoch)) (replies_since start was now)
+
+-- an operation alone that is answered ends in its being committed
+abbrev pub LoneAreCommitted : Type 0
+LoneAreCommitted =
+    (start : Start) (was now : ℕ → List LogStep) (op : Op) → IsServed start was now (Operate None op) → IsAnsweredAlone start was now
+    → IsCommittedAlone start was now
