@@ -9,7 +9,7 @@ use Rattle.run_theory.specs.Links.{is_from, sent, taken}
 use Rattle.run_theory.specs.Lists.{Each, IsIn, IsPast}
 use Rattle.run_theory.specs.Logs.{IsLog}
 use Rattle.run_theory.proofs.Links.{log_after}
-use Rattle.run_theory.proofs.Pasts.{each_in, each_map}
+use Rattle.run_theory.proofs.Pasts.{each_before, each_in, each_map}
 use Rattle.sig_core.specs.declared.log.LogStep.{LogStep}
 use Rattle.sig_core.specs.declared.member.TxId.{TxId}
 use Rattle.sig_core.specs.declared.op.Answer.{Answer}
@@ -27,6 +27,7 @@ use Rattle.sig_core.specs.declared.signal.client.ClientSignal.TheVariants.{TcKey
 use Rattle.sig_core.specs.Place.{client}
 use Rattle.sig_core.specs.Same.{same_tx}
 use Rattle.api_block.specs.declared.opened.Doing.TheVariants.{Committing}
+use Rattle.node_core.proofs.HostLemmas.{IsFront}
 use Rattle.node_core.specs.declared.host.Host as host
 use Rattle.node_core.specs.declared.host.Host.TheVariants.{Shell, Node}
 use Rattle.node_core.specs.Replies.{replies_of}
@@ -53,7 +54,8 @@ use Rattle.command_laws.proofs.FirmHosts.{back_of, is_back}
 use Rattle.command_laws.proofs.First.{IsFirst, request_first}
 use Rattle.command_laws.proofs.LoneAsks.{HasLone, LoneFirst, asks_since, is_lone, lone_first, lone_since}
 use Rattle.command_laws.proofs.Pushes.{is_node_kind, node_since}
-use Rattle.command_laws.proofs.Since.{few_taken, none_counted, none_taken, sent_since, taken_since}
+use Rattle.command_laws.proofs.Reported.{reported}
+use Rattle.command_laws.proofs.Since.{few_taken, front_nil, none_counted, none_taken, sent_since, taken_since}
 use Rattle.command_laws.proofs.TellsOnce.{HasTold, IsOneOfThree, is_wish_back_to, wish_back_of}
 use Rattle.command_laws.proofs.TellsSince.{OnTc, away_since, shell_since, since_none, tells_since}
 use Rattle.command_laws.proofs.Told.{told_since}
@@ -220,3 +222,133 @@ module _ (start : Start) (was now : ℕ → List LogStep) (op : Op) (served : Is
               three (inl none) = inl none.0
               three (inr (inl firm)) = inr firm.0.1
               three (inr (inr gone)) = inl gone.0
+
+  no_tx : TxId
+  no_tx = record { tc = 0; start = 0; seq = 0 }
+
+  -- an answer of an operation alone was replied in a step since then
+  answered_step : IsAnsweredAlone start was now → HasLone start f.later (f.first ∷ was 0)
+  answered_step answered = by (lone_since start f.later (f.first ∷ was 0) f.plain)
+    where
+      grown : IsFront (replies_of (after start 0 (was 0))) (replies_of (after start 0 (now 0)))
+      grown = replies_grow start (was 0) (now 0) (served.cut 0)
+
+      since_is : drop (length (replies_of (after start 0 (was 0)))) (replies_of (after start 0 (now 0))) ≡ grown.more
+      since_is = ap (drop (length (replies_of (after start 0 (was 0))))) grown.is ∙ drop-append_seam (replies_of (after start 0 (was 0))) grown.more
+
+      some : 1 ≤ tally is_lone grown.more
+      some = tally_in is_lone (Answered None answered.answer) grown.more (subst (IsIn (Answered None answered.answer)) since_is answered.told) refl
+
+      by : HasLone start f.later (f.first ∷ was 0) ⊎ (tally is_lone (replies_of (after start 0 (f.later ++ f.first ∷ was 0))) ≡ tally is_lone (replies_of (after start 0 (f.first ∷ was 0)))) → HasLone start f.later (f.first ∷ was 0)
+      by (inl l) = l
+      by (inr same) =
+          absurd (omega (
+            arith,
+            some,
+            ap (tally is_lone) grown.is,
+            tally_append is_lone (replies_of (after start 0 (was 0))) grown.more,
+            ap (λ log. tally is_lone (replies_of (after start 0 log))) f.is,
+            same,
+            (first no_tx).lone,
+          ))
+
+  module _ (answered : EachIsAnswered) (l : HasLone start f.later (f.first ∷ was 0)) where
+    now_is : now 0 ≡ l.newer ++ l.step ∷ (l.older ++ f.first ∷ was 0)
+    now_is = f.is ∙ ap (λ w. w ++ f.first ∷ was 0) l.is ∙ append_assoc l.newer (l.step ∷ l.older) (f.first ∷ was 0)
+
+    in_later : IsIn l.step f.later
+    in_later = subst (IsIn l.step) (sym l.is) (in_middle l.newer l.step l.older)
+
+    in_newer : IsIn l.step (f.later ++ f.first ∷ [])
+    in_newer =
+        subst (λ w. IsIn l.step (w ++ f.first ∷ [])) (sym l.is)
+        (subst (IsIn l.step) (sym (append_assoc l.newer (l.step ∷ l.older) (f.first ∷ []))) (in_middle l.newer l.step (l.older ++ f.first ∷ [])))
+
+    logged : IsLog (machine start) 0 (l.step ∷ (l.older ++ f.first ∷ was 0))
+    logged = log_after (machine start) 0 l.newer (l.step ∷ (l.older ++ f.first ∷ was 0)) (subst (IsLog (machine start) 0) now_is (served.since.right.local 0))
+
+    is_answer_here : is_reply l.tx l.step.taken.to l.step.taken.body ≡ true
+    is_answer_here =
+        all (l.step.taken.to.node == 0) (is_api l.step.taken.to.block) (answer_of l.tx l.step.taken.body) (grind (arith, nat_tests, logged.0.at)) l.block
+        (ap (answer_of l.tx) l.lone.about ∙ same_tx-self l.tx)
+      where
+        all : (a b c : Bool) → a ≡ true → b ≡ true → c ≡ true → (a && (b && c)) ≡ true
+        all true true c p q r = r
+        all true false c p q r = cc
+        all false b c p q r = cc
+
+    plain_step : is_request l.step.taken.body ≡ false
+    plain_step = each_in (λ (e : LogStep). is_request e.taken.body ≡ false) l.step f.later f.plain in_later
+
+    was_sent : (i : ℕ) → l.step.taken.from.0 ≡ i → 1 ≤ sent_since start (is_reply l.tx) i (cut i).newer (was i)
+    was_sent i at =
+        let here = all_three (is_request l.step.taken.body) (l.step.taken.from.0 == i) (is_reply l.tx l.step.taken.to l.step.taken.body) plain_step (grind (arith, nat_tests, at)) is_answer_here in
+        let taken = tally_in (λ (e : LogStep). is_from (machine start) i e && is_reply l.tx e.taken.to e.taken.body) l.step (f.later ++ f.first ∷ []) in_newer here in
+        omega (arith, taken, few_taken start was now served.before served.since cut (is_reply l.tx) i 0)
+
+    -- its coordinator answered it, and so no host reports its abort
+    no_backs_at : (k : ℕ) → l.step.taken.from.0 ≡ k → (h : ℕ) → sent_since start (is_back l.tx) h (cut h).newer (was h) ≡ 0
+    no_backs_at k at zero = (since_none start l.tx 0 (cut 0).newer (was 0) (shell_since start l.tx (cut 0).newer (was 0))).1
+    no_backs_at zero at (suc h) = absurd (omega (arith, was_sent zero at, (since_none start l.tx 0 (cut 0).newer (was 0) (shell_since start l.tx (cut 0).newer (was 0))).0))
+    no_backs_at (suc k) at (suc h) = home (cases_eq l.tx.tc (suc k)) (cases_eq l.tx.tc (suc h))
+      where
+        away : (j : ℕ) → l.tx.tc ≢ suc j → (sent_since start (is_reply l.tx) (suc j) (cut (suc j)).newer (was (suc j)) ≡ 0) × (sent_since start (is_back l.tx) (suc j) (cut (suc j)).newer (was (suc j)) ≡ 0)
+        away j differs = since_none start l.tx (suc j) (cut (suc j)).newer (was (suc j)) (away_since start l.tx j differs (cut (suc j)).newer (was (suc j)))
+
+        some : (j : ℕ) → suc k ≡ suc j → 1 ≤ sent_since start (is_reply l.tx) (suc j) (cut (suc j)).newer (was (suc j))
+        some j same = was_sent (suc j) (at ∙ same)
+
+        here : (j : ℕ) → suc k ≡ suc j → (suc j < hosts start) ⊎ (hosts start ≤ suc j) → sent_since start (is_back l.tx) (suc j) (cut (suc j)).newer (was (suc j)) ≡ 0
+        here j same (inl low) = by (told l.tx j low)
+          where
+            by : (sent_since start (is_reply l.tx) (suc j) (cut (suc j)).newer (was (suc j)) ≡ 0) ⊎ (sent_since start (is_back l.tx) (suc j) (cut (suc j)).newer (was (suc j)) ≡ 0)
+                → sent_since start (is_back l.tx) (suc j) (cut (suc j)).newer (was (suc j)) ≡ 0
+            by (inl none) = absurd (omega (arith, none, some j same))
+            by (inr none) = none
+        here j same (inr high) =
+            let none : (cut (suc j)).newer ≡ [] = front_nil (cut (suc j)).newer (was (suc j)) (sym (served.since.within (suc j) high) ∙ (cut (suc j)).is) in
+            ap (λ w. sent_since start (is_back l.tx) (suc j) w (was (suc j))) none
+
+        home : (l.tx.tc ≡ suc k) ⊎ (l.tx.tc ≢ suc k) → (l.tx.tc ≡ suc h) ⊎ (l.tx.tc ≢ suc h) → sent_since start (is_back l.tx) (suc h) (cut (suc h)).newer (was (suc h)) ≡ 0
+        home (inr differs) other = absurd (omega (arith, (away k differs).0, some k refl))
+        home (inl own) (inr differs) = (away h differs).1
+        home (inl own) (inl same) = here h (sym own ∙ same) (cases_lt (suc h) (hosts start))
+
+    none_back : Each (λ (e : LogStep). is_request e.taken.body ≡ false → back_of l.tx e.taken.body ≡ false) (f.later ++ f.first ∷ [])
+    none_back = none_taken start was now served.before served.since cut (is_back l.tx) (no_backs_at l.step.taken.from.0 refl) 0
+
+    later_is : f.later ++ f.first ∷ [] ≡ l.newer ++ (l.step ∷ l.older ++ f.first ∷ [])
+    later_is = ap (λ w. w ++ f.first ∷ []) l.is ∙ append_assoc l.newer (l.step ∷ l.older) (f.first ∷ [])
+
+    still_committing : HasOne l.tx None Committing (opened_after start now) → ⊥
+    still_committing has =
+        subst (λ d. is_answered_by start now d has.item.tx → ⊥) (sym has.does) (λ none. by has.item.tx none)
+        (answered start now has.item served.since has.inside)
+      where
+        by : (o : Option TxId) → is_answered_by start now Committing o → ⊥
+        by (Some one) none = none
+        by None none = none
+
+    plain_newer : Each (λ (e : LogStep). is_request e.taken.body ≡ false) l.newer
+    plain_newer = each_before (λ (e : LogStep). is_request e.taken.body ≡ false) l.newer (l.step ∷ l.older) (subst (Each (λ (e : LogStep). is_request e.taken.body ≡ false)) l.is f.plain)
+
+    none_newer : Each (λ (e : LogStep). is_request e.taken.body ≡ false → back_of l.tx e.taken.body ≡ false) l.newer
+    none_newer =
+        each_before (λ (e : LogStep). is_request e.taken.body ≡ false → back_of l.tx e.taken.body ≡ false) l.newer (l.step ∷ l.older ++ f.first ∷ [])
+        (subst (Each (λ (e : LogStep). is_request e.taken.body ≡ false → back_of l.tx e.taken.body ≡ false)) later_is none_back)
+
+    lone_told : IsCommittedAlone start was now
+    lone_told = by (commit_goes l.tx None start l.newer (l.step ∷ (l.older ++ f.first ∷ was 0)) plain_newer l.lone.has)
+      where
+        past : IsPast (was 0) (l.step ∷ (l.older ++ f.first ∷ was 0))
+        past = record { newer = l.step ∷ l.older ++ f.first ∷ []; is = ap (λ w. l.step ∷ w) (sym (append_assoc l.older (f.first ∷ []) (was 0))) }
+
+        by : HasOne l.tx None Committing (opened_in (after start 0 (l.newer ++ l.step ∷ (l.older ++ f.first ∷ was 0)))) ⊎ HasEnded l.tx None start l.newer (l.step ∷ (l.older ++ f.first ∷ was 0)) → IsCommittedAlone start was now
+        by (inl has) = absurd (still_committing (subst (λ log. HasOne l.tx None Committing (opened_in (after start 0 log))) (sym now_is) has))
+        by (inr ended) =
+            let r = reported start was now served.since l.tx None l.newer (l.step ∷ (l.older ++ f.first ∷ was 0)) now_is past plain_newer none_newer ended in
+            record { epoch = r.epoch; told = r.told }
+
+-- so it is where each command is answered
+pub lone_committed : EachIsAnswered → LoneAreCommitted
+lone_committed each start was now op served answered = lone_told start was now op served each (answered_step start was now op served answered)
