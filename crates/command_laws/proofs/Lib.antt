@@ -10,6 +10,7 @@ pub mod First
 pub mod LoneAsks
 pub mod LoneCommitted
 pub mod PhaseSends
+pub mod Places
 pub mod Pushes
 pub mod Reported
 pub mod Since
