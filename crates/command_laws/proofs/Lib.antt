@@ -20,3 +20,4 @@ pub mod TellsSince
 pub mod Told
 pub mod TurnTells
 pub mod Turns
+pub mod WaitRows
