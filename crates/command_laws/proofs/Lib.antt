@@ -20,4 +20,5 @@ pub mod TellsSince
 pub mod Told
 pub mod TurnTells
 pub mod Turns
+pub mod WaitApi
 pub mod WaitRows

@@ -266,3 +266,55 @@ module _ (tx : TxId) where
       by : (at : BlockId) → (is_tc at && want_of tx body) ≡ true → 1 ≤ sends_of (to_node member.node (is_probe tx (key_of asked.op))) (node_row n at body).effects.sends
       by block.Tc e = tc_wants n.tc t asked member live unanswered inside body e
       by _ e = cc
+
+  -- the rows of a node where it is held up tell its coordinator
+  find_one : (s : LqhState) (o : Option TxId) → is_some o ≡ true → 1 ≤ sends_of (to_node tx.tc (is_found tx)) (lqh.wait_by s tx o).effects.sends
+  find_one s None some = cc
+  find_one s (Some ahead) some =
+      omega (arith, ap one_if (true_and (tx.tc == tx.tc) (same_tx tx tx) (eqb-self tx.tc) (same_tx-self tx)))
+
+  lqh_finds : (s : LqhState) (key : List ℕ) → is_some (ahead_at s.locks key tx) ≡ true → (body : Body) → probe_of tx key body ≡ true → 1 ≤ sends_of (to_node tx.tc (is_found tx)) (lqh_row s body).effects.sends
+  unfolding lqh.wait_row
+  lqh_finds s key held (Client (LqhWaitReq one at)) e =
+      let own : one ≡ tx = same_tx-is one tx (first_of (same_tx one tx) (same_key at key) e) in
+      let on : at ≡ key = same_key-is at key (second_of (same_tx one tx) (same_key at key) e) in
+      subst (λ v. 1 ≤ sends_of (to_node tx.tc (is_found tx)) (lqh.wait_by s v (ahead_at s.locks at v)).effects.sends) (sym own)
+      (find_one s (ahead_at s.locks at tx) (ap (λ k. is_some (ahead_at s.locks k tx)) on ∙ held))
+    where
+      first_of : (a b : Bool) → (a && b) ≡ true → a ≡ true
+      first_of true b p = refl
+      first_of false b p = cc
+
+      second_of : (a b : Bool) → (a && b) ≡ true → b ≡ true
+      second_of true b p = p
+      second_of false b p = cc
+  lqh_finds s key held _ e = cc
+
+  pub node_finds : (n : node.Node) (key : List ℕ) → is_some (ahead_at n.lqh.locks key tx) ≡ true → (to : Place) (body : Body) → is_probe tx key to body ≡ true
+      → 1 ≤ sends_of (to_node tx.tc (is_found tx)) (node_row n to.block body).effects.sends
+  unfolding node_row
+  node_finds n key held to body is = by to.block is
+    where
+      by : (at : BlockId) → (is_lqh at && probe_of tx key body) ≡ true → 1 ≤ sends_of (to_node tx.tc (is_found tx)) (node_row n at body).effects.sends
+      by block.Lqh e = lqh_finds n.lqh key held body e
+      by _ e = cc
+
+  -- its coordinator passes that on to the API
+  pass_one : (s : TcState) (ahead : TxId) (b : Bool) → b ≡ true → 1 ≤ sends_of (to_node 0 (is_passed tx)) (pass_if s tx ahead b).effects.sends
+  pass_one s ahead true e = omega (arith, ap one_if (same_tx-self tx))
+  pass_one s ahead false e = cc
+
+  tc_passes : (s : TcState) (t : Transaction) → of_live tx s.live ≡ Some t → (body : Body) → found_of tx body ≡ true → 1 ≤ sends_of (to_node 0 (is_passed tx)) (tc_row s body).effects.sends
+  unfolding pass_row
+  tc_passes s t live (Client (LqhWaitConf one ahead)) e =
+      subst (λ v. 1 ≤ sends_of (to_node 0 (is_passed tx)) (pass_if s v ahead (is_some (place_in s v))).effects.sends) (sym (same_tx-is one tx e))
+      (pass_one s ahead (is_some (place_in s tx)) (ap is_some (placed_at tx s.live t live).place))
+  tc_passes s t live _ e = cc
+
+  pub node_passes : (n : node.Node) (t : Transaction) → of_live tx n.tc.live ≡ Some t → (to : Place) (body : Body) → is_found tx to body ≡ true → 1 ≤ sends_of (to_node 0 (is_passed tx)) (node_row n to.block body).effects.sends
+  unfolding node_row
+  node_passes n t live to body is = by to.block is
+    where
+      by : (at : BlockId) → (is_tc at && found_of tx body) ≡ true → 1 ≤ sends_of (to_node 0 (is_passed tx)) (node_row n at body).effects.sends
+      by block.Tc e = tc_passes n.tc t live body e
+      by _ e = cc
