@@ -1,6 +1,6 @@
 -- The API while it asks what its own transaction waits for.
 use Rattle.std.proofs.Common.{◌≡◌, ◌⊎◌, ◌≤◌, ◌+◌, ℕ, suc, Bool, true, false, List, [], ◌∷◌, ◌++◌, length, refl, sym, ap, ◌∙◌, subst, inl, inr, arith}
-use Rattle.std.specs.Prelude.{◌==◌, ◌&&◌, Option, None, Some, is_some, position, slice_get, slice_set}
+use Rattle.std.specs.Prelude.{◌==◌, ◌&&◌, Option, None, Some, is_some, not, position, slice_get, slice_set}
 use Rattle.run_theory.specs.Lists.{IsIn}
 use Rattle.sig_core.specs.declared.member.TxId.{TxId}
 use Rattle.sig_core.specs.declared.place.BlockId.{BlockId}
@@ -26,6 +26,7 @@ use Rattle.node_core.specs.declared.host.Host as host
 use Rattle.node_core.specs.declared.host.Host.TheVariants.{Shell, Node}
 use Rattle.node_core.specs.Replies.{replies_of}
 use Rattle.node_core.specs.Row.{in_shell, node_row, row, shell_row}
+use Rattle.answer_laws.proofs.LqhOps.{true_and}
 use Rattle.answer_laws.proofs.Tally.{one_if, tally}
 use Rattle.answer_laws.proofs.TcMoves.{same_tx-is}
 use Rattle.answer_laws.proofs.TcSends.{eqb-self, same_tx-self}
@@ -124,3 +125,76 @@ module _ (front : List OpenTransaction) (t : OpenTransaction) (back : List OpenT
 
     pub about_waits : (g : host.Host) (ahead : Option TxId) (to : Place) (body : Body) → is_wait_of tx body ≡ true → IsAboutOne ahead g → StaysAbout ahead to body (row g to body)
     about_waits g ahead to body e about = subst (λ h. StaysAbout ahead to body (row h to body)) (sym about.is) (shell_waits about.state ahead to to.block body refl e about.own_is about.opened)
+
+own_place_is : (s : ApiState) (name : Option ℕ) (front : List OpenTransaction) (u : OpenTransaction) (back : List OpenTransaction) → s.own ≡ Some name → s.opened ≡ front ++ u ∷ back → tally (is_named name) front ≡ 0
+    → is_named name u ≡ true → own_place s ≡ Some (length front)
+own_place_is s name front u back own opened none named =
+    ap (own_place_by s) own ∙ ap (position (is_named name)) opened ∙ split_position (is_named name) front u back none named
+
+-- the question for whom it waits
+pub record IsAsking (s : ApiState) (t : OpenTransaction) (tx : TxId) (i : IsOwn s t) (step : Step host.Host) : Type 0 where
+  pub about : IsAboutOne i.first.front t i.first.back (Some i.name) None step.state
+  pub plain : sends_of (is_other tx) step.effects.sends ≡ 0
+  pub wants : 1 ≤ sends_of (to_node tx.tc (is_want tx)) step.effects.sends
+
+waits_is : (s : ApiState) (t : OpenTransaction) (tx : TxId) (i : IsOwn s t) → is_unanswered t.doing ≡ true → t.tx ≡ Some tx
+    → waits_row s ≡ sending (changing s (length i.first.front) (behind t None)) (coordinator_of tx) (Client (TcWaitReq tx))
+unfolding waits_row
+waits_is s t tx i waits own =
+    ap (where_at s.opened (stay s) (λ at (x : OpenTransaction). waits_if s at x (is_unanswered x.doing) x.tx)) (own_place_is s i.name i.first.front t i.first.back i.own i.first.is i.first.none i.first.passes)
+    ∙ ap (if_there (stay s) (λ (x : OpenTransaction). waits_if s (length i.first.front) x (is_unanswered x.doing) x.tx)) (ap (λ xs. slice_get xs (length i.first.front)) i.first.is ∙ split_get i.first.front t i.first.back)
+    ∙ ap (λ b. waits_if s (length i.first.front) t b t.tx) waits ∙ ap (waits_if s (length i.first.front) t true) own
+
+pub waits_first : (g : host.Host) (s : ApiState) (t : OpenTransaction) (tx : TxId) (i : IsOwn s t) → g ≡ Shell s → is_unanswered t.doing ≡ true → t.tx ≡ Some tx
+    → IsAsking s t tx i (row g client (Host (Continue (work.Request request.Waits) 0)))
+unfolding row shell_row request_row
+waits_first g s t tx i is waits own = subst (λ h. IsAsking s t tx i (row h client (Host (Continue (work.Request request.Waits) 0)))) (sym is) asking
+  where
+    now : waits_row s ≡ sending (changing s (length i.first.front) (behind t None)) (coordinator_of tx) (Client (TcWaitReq tx))
+    now = waits_is s t tx i waits own
+
+    asking : IsAsking s t tx i (in_shell (waits_row s))
+    asking = record {
+      about = record {
+        state = (waits_row s).state;
+        is = refl;
+        own_is = ap (λ (r : Step ApiState). r.state.own) now ∙ i.own;
+        opened = ap (λ (r : Step ApiState). r.state.opened) now ∙ ap (λ xs. slice_set xs (length i.first.front) (behind t None)) i.first.is ∙ split_set i.first.front t i.first.back (behind t None);
+      };
+      plain = ap (λ (r : Step ApiState). sends_of (is_other tx) r.effects.sends) now ∙ ap (λ b. one_if (not b) + 0) (same_tx-self tx);
+      wants = omega (
+        arith,
+        ap (λ (r : Step ApiState). sends_of (to_node tx.tc (is_want tx)) r.effects.sends) now,
+        ap one_if (true_and (tx.tc == tx.tc) (same_tx tx tx) (eqb-self tx.tc) (same_tx-self tx)),
+      );
+    }
+
+pending_by_replies : (s : ApiState) (holder name : Option ℕ) (one : Option TxId) → (pending_by s holder name one).state.replies ≡ s.replies ++ Pending name (HeldBy holder) ∷ []
+pending_by_replies s holder None (Some tx) = refl
+pending_by_replies s holder None None = refl
+pending_by_replies s holder (Some name) one = refl
+
+-- the question for replies tells the holder
+pub record TellsHolder (name : Option ℕ) (g : host.Host) (step : Step host.Host) : Type 0 where
+  pub holder : Option ℕ
+  pub told : replies_of step.state ≡ replies_of g ++ Pending name (HeldBy holder) ∷ []
+
+pub pending_first : (g : host.Host) (front : List OpenTransaction) (t : OpenTransaction) (back : List OpenTransaction) (name : Option ℕ) (ahead : Option TxId) → IsAboutOne front t back (Some name) ahead g
+    → is_unanswered t.doing ≡ true → tally (is_named name) front ≡ 0 → is_named name t ≡ true → is_some ahead ≡ true
+    → TellsHolder t.name g (row g client (Host (Continue (work.Request request.Pending) 0)))
+unfolding row shell_row request_row pending_row replies_of
+pending_first g front t back name ahead about waits none named some = by ahead some about
+  where
+    by : (a : Option TxId) → is_some a ≡ true → IsAboutOne front t back (Some name) a g → TellsHolder t.name g (row g client (Host (Continue (work.Request request.Pending) 0)))
+    by None off about = cc
+    by (Some next) on about = subst (λ h. TellsHolder t.name h (row h client (Host (Continue (work.Request request.Pending) 0)))) (sym about.is) (record {
+      holder = name_of about.state next;
+      told = ap (λ (r : Step ApiState). r.state.replies) now ∙ pending_by_replies about.state (name_of about.state next) t.name t.tx;
+    })
+      where
+        now : pending_row about.state ≡ pending_by about.state (name_of about.state next) t.name t.tx
+        now =
+            ap (where_at about.state.opened (stay about.state) (λ at (x : OpenTransaction). pending_if about.state x (is_unanswered x.doing) x.ahead))
+            (own_place_is about.state name front (behind t (Some next)) back about.own_is about.opened none named)
+            ∙ ap (if_there (stay about.state) (λ (x : OpenTransaction). pending_if about.state x (is_unanswered x.doing) x.ahead)) (ap (λ xs. slice_get xs (length front)) about.opened ∙ split_get front (behind t (Some next)) back)
+            ∙ ap (λ b. pending_if about.state (behind t (Some next)) b (Some next)) waits
