@@ -34,7 +34,7 @@ use Rattle.answer_laws.specs.Answered.{AreQuiet}
 use Rattle.command_laws.proofs.Since.{all_taken}
 use Rattle.command_laws.specs.Served.{IsServed}
 
-requests_append : (newer log : List LogStep) → requests (newer ++ log) ≡ requests log ++ requests newer
+pub requests_append : (newer log : List LogStep) → requests (newer ++ log) ≡ requests log ++ requests newer
 requests_append [] log = sym (append-nil (requests log))
 requests_append (e ∷ newer) log =
     ap (λ rs. rs ++ option_to_list (request_in e.taken.body)) (requests_append newer log) ∙ append_assoc (requests log) (requests newer) (option_to_list (request_in e.taken.body))
@@ -60,6 +60,11 @@ no_requests (e ∷ log) none = by (request_in e.taken.body) refl (front (request
         → (requests log ≡ [] → Each (λ (f : LogStep). is_request f.taken.body ≡ false) log) → Each (λ (f : LogStep). is_request f.taken.body ≡ false) (e ∷ log)
     by None is both rest = (none_asked e.taken.body is, rest both.0)
     by (Some r) is both rest = let some : r ∷ [] ≡ [] = sym (ap option_to_list is) ∙ both.1 in absurd cc
+
+-- a step that a request makes is one of the shell's host
+pub fits_asked : (start : Start) (h stamp : ℕ) (x : Signal) (b : Bool) → b ≡ true → asked_rightly (first_view start.nodes) b h stamp x → IsAsked (first_view start.nodes) h stamp x
+fits_asked start h stamp x true e asked = asked
+fits_asked start h stamp x false e asked = cc
 
 -- the oldest event of some
 record Oldest (es : List LogStep) : Type 0 where
@@ -114,12 +119,8 @@ module _ (start : Start) (was now : ℕ → List LogStep) (request : ApiReq) (se
             all_taken start was now served.before served.since served.cut (λ to body. true) i j low,
           ))
 
-  fits_asked : (h stamp : ℕ) (x : Signal) (b : Bool) → b ≡ true → asked_rightly (first_view start.nodes) b h stamp x → IsAsked (first_view start.nodes) h stamp x
-  fits_asked h stamp x true e asked = asked
-  fits_asked h stamp x false e asked = cc
-
   at_first : (es newer : List LogStep) (e : LogStep) → log_of (machine start) es ≡ was → Happens (machine start) es e → Run (machine start) (e ∷ es) → log_of (machine start) (newer ++ e ∷ es) ≡ now → IsFirst start was now request
-  at_first es newer e same happens run all = found (fits_asked e.taken.to.node _ e.taken (is_request e.taken.body) (first_asked es e same happens low) happens.step.fits.asked)
+  at_first es newer e same happens run all = found (fits_asked start e.taken.to.node _ e.taken (is_request e.taken.body) (first_asked es e same happens low) happens.step.fits.asked)
     where
       here : (h : ℕ) → now h ≡ log_of (machine start) newer h ++ log_of (machine start) (e ∷ es) h
       here h = ap (λ logs. logs h) (sym all) ∙ log_of-append (machine start) newer (e ∷ es) h

@@ -21,4 +21,6 @@ pub mod Told
 pub mod TurnTells
 pub mod Turns
 pub mod WaitApi
+pub mod WaitHosts
 pub mod WaitRows
+pub mod WaitRun

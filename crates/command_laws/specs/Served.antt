@@ -1,5 +1,5 @@
 -- What a command comes to, between two quiet moments.
-use Rattle.std.specs.Prelude.{◌≡◌, ◌<◌, ◌⊎◌, ◌++◌, ℕ, true, false, is_some, List, [], ◌∷◌, drop, length, position, Option, None, Some}
+use Rattle.std.specs.Prelude.{◌≡◌, ◌≤◌, ◌++◌, ℕ, true, false, is_some, List, [], ◌∷◌, drop, length, position, Option, None, Some}
 use Rattle.run_theory.specs.Cuts.{IsCut}
 use Rattle.run_theory.specs.Lists.{IsIn, IsPast}
 use Rattle.sig_core.specs.declared.log.LogStep.{LogStep}
@@ -101,6 +101,7 @@ pub record IsHeldUp (start : Start) (logs : ℕ → List LogStep) (tx : TxId) : 
   pub unanswered : transaction.asked ≡ Some asked
   pub member : Member
   pub inside : IsIn member asked.chain
+  pub low : member.node ≤ start.nodes
   pub held : IsHeldUpAt tx (key_of asked.op) (after start member.node (logs member.node))
 
 -- so it is at quiet where its operation was sent
