@@ -7,6 +7,7 @@ pub mod Firm
 pub mod FirmAtQuiet
 pub mod FirmHosts
 pub mod First
+pub mod HoldersTold
 pub mod LoneAsks
 pub mod LoneCommitted
 pub mod PhaseSends

@@ -1,0 +1,153 @@
+-- The two questions about a command that left something unanswered tell for whom that waits.
+use Rattle.std.proofs.Common.{◌≡◌, ◌≢◌, ◌⊎◌, ◌<◌, ◌≤◌, ◌+◌, ℕ, zero, suc, Bool, true, false, List, [], ◌∷◌, ◌++◌, length, refl, sym, ap, ◌∙◌, subst, inl, inr, append_assoc, arith}
+use Rattle.std.specs.Prelude.{◌&&◌, Option, None, Some, drop, is_some, option_to_list}
+use Rattle.run_theory.specs.Cuts.{IsCut}
+use Rattle.run_theory.specs.Links.{is_from}
+use Rattle.run_theory.specs.Lists.{Each, IsIn}
+use Rattle.run_theory.specs.Runs.{log_of}
+use Rattle.run_theory.proofs.Pasts.{past_self}
+use Rattle.sig_core.specs.declared.log.LogStep.{LogStep}
+use Rattle.sig_core.specs.declared.member.TxId.{TxId}
+use Rattle.sig_core.specs.declared.place.Place.{Place}
+use Rattle.sig_core.specs.declared.reply.ApiReply.TheVariants.{Pending}
+use Rattle.sig_core.specs.declared.reply.Waiting.TheVariants.{HeldBy}
+use Rattle.sig_core.specs.declared.request.ApiReq.TheVariants as request
+use Rattle.sig_core.specs.declared.signal.Body.{Body}
+use Rattle.sig_core.specs.Op.{key_of}
+use Rattle.sig_core.specs.Place.{client}
+use Rattle.sig_core.specs.Step.{Step}
+use Rattle.api_block.specs.declared.opened.Doing.{Doing}
+use Rattle.api_block.specs.declared.opened.Doing.TheVariants.{Beginning, Ready, Operating, Committing}
+use Rattle.api_block.specs.declared.opened.OpenTransaction.{OpenTransaction}
+use Rattle.api_block.specs.Opened.{has_tx, is_tx, is_unanswered}
+use Rattle.api_block.specs.State.{ApiState}
+use Rattle.node_core.specs.declared.host.Host as host
+use Rattle.node_core.specs.declared.host.Host.TheVariants.{Shell, Node}
+use Rattle.node_core.specs.declared.node.Node as node
+use Rattle.node_core.specs.Replies.{replies_of}
+use Rattle.node_core.specs.Row.{row}
+use Rattle.tc_block.specs.declared.transaction.Transaction.{Transaction}
+use Rattle.world_core.specs.Machine.{after, hosts, machine, step_after}
+use Rattle.world_core.specs.Requests.{request_in, requests}
+use Rattle.world_core.specs.Start.{Start}
+use Rattle.answer_laws.proofs.ApiBegins.{in_middle}
+use Rattle.answer_laws.proofs.Commits.{live_low}
+use Rattle.answer_laws.proofs.Hosts.{node_after, shell_after}
+use Rattle.answer_laws.proofs.LinkCounts.{steps}
+use Rattle.answer_laws.proofs.Lives.{holds_at, once_started}
+use Rattle.answer_laws.proofs.Tally.{one_if, tally, tally_append, tally_between}
+use Rattle.answer_laws.proofs.TcSends.{same_tx-self}
+use Rattle.answer_laws.proofs.Wishes.{sends_of, to_node}
+use Rattle.answer_laws.specs.Answered.{AreQuiet, EachIsAnswered, IsLiveAs, is_answered_by, opened_after, opened_in}
+use Rattle.transit_laws.specs.Live.{of_live}
+use Rattle.command_laws.proofs.First.{IsFirst, request_first, with_first}
+use Rattle.command_laws.proofs.Since.{all_arrive, sent_since_to, taken_since}
+use Rattle.command_laws.proofs.TellsSince.{OnTc, sound_at}
+use Rattle.command_laws.proofs.Told.{told_since}
+use Rattle.command_laws.proofs.WaitApi.{IsAboutOne, IsAsking, IsOwn, TellsHolder, own_found, pending_first, waits_first}
+use Rattle.command_laws.proofs.WaitRows.{in_live, is_found, is_passed, is_probe, is_want}
+use Rattle.command_laws.proofs.WaitRun.{AllHold, all_hold}
+use Rattle.command_laws.specs.Served.{EachIsHeldUp, HoldersAreTold, IsHeldUp, IsServed, IsToldHolder, own_in}
+
+sent_to_append : (start : Start) (test : Place → Body → Bool) (h j : ℕ) (xs ys log : List LogStep)
+    → sent_since_to start test h j (xs ++ ys) log ≡ sent_since_to start test h j xs (ys ++ log) + sent_since_to start test h j ys log
+sent_to_append start test h j [] ys log = omega arith
+sent_to_append start test h j (e ∷ xs) ys log =
+    omega (arith, sent_to_append start test h j xs ys log, ap (λ l. sends_of (to_node j test) (step_after start h l e).effects.sends) (append_assoc xs ys log))
+
+taken_few : (start : Start) (test : Place → Body → Bool) (i : ℕ) (newer : List LogStep) → taken_since start test i newer ≤ steps test newer
+taken_few start test i [] = omega arith
+taken_few start test i (e ∷ newer) = omega (arith, taken_few start test i newer, few (is_from (machine start) i e) (test e.taken.to e.taken.body))
+  where
+    few : (a b : Bool) → one_if (a && b) ≤ one_if b
+    few true b = omega arith
+    few false b = omega arith
+
+-- what is unanswered at quiet is an operation that was sent
+record IsWaiting (t : OpenTransaction) : Type 0 where
+  tx : TxId
+  own : t.tx ≡ Some tx
+  does : t.doing ≡ Operating
+
+is_waiting : (start : Start) (logs : ℕ → List LogStep) (t : OpenTransaction) → is_unanswered t.doing ≡ true → is_answered_by start logs t.doing t.tx → IsWaiting t
+is_waiting start logs t unanswered answered = by t.doing t.tx refl refl unanswered answered
+  where
+    by : (doing : Doing) (o : Option TxId) → t.doing ≡ doing → t.tx ≡ o → is_unanswered doing ≡ true → is_answered_by start logs doing o → IsWaiting t
+    by Operating (Some tx) does own some a = record { tx = tx; own = own; does = does }
+    by Operating None does own some a = absurd a
+    by Ready o does own some a = cc
+    by (Beginning op) (Some tx) does own some a = absurd a
+    by (Beginning op) None does own some a = absurd a
+    by Committing (Some tx) does own some a = absurd a
+    by Committing None does own some a = absurd a
+
+module _ (start : Start) (tx : TxId) (u : Transaction) (logs : ℕ → List LogStep) where
+  -- the transaction as its coordinator has it
+  on_live : (k : ℕ) → IsLiveAs tx u (after start k (logs k)) → OnTc (λ s. of_live tx s.live ≡ Some u) (after start k (logs k))
+  on_live zero live = absurd (subst (IsLiveAs tx u) (shell_after start (logs 0)).is live)
+  on_live (suc h) live =
+      let n = node_after start h (logs (suc h)) in
+      subst (OnTc (λ s. of_live tx s.live ≡ Some u)) (sym n.is)
+      (in_live tx u n.state.tc.live (subst (IsLiveAs tx u) n.is live) (sound_at start tx h (logs (suc h)) n.state n.is).few)
+
+  not_shell : (P : host.Host → Type 0) → ((s : ApiState) → P (Shell s) → ⊥) → (k : ℕ) → P (after start k (logs k)) → (j : ℕ) × (k ≡ suc j)
+  not_shell P none zero p = absurd (none (shell_after start (logs 0)).state (subst P (shell_after start (logs 0)).is p))
+  not_shell P none (suc h) p = (h, refl)
+
+module _ (answered : EachIsAnswered) (held_up : EachIsHeldUp) (start : Start) (was mid now : ℕ → List LogStep) (t : OpenTransaction) (first_served : IsServed start was mid request.Waits)
+    (then_served : IsServed start mid now request.Pending) (own : own_in (after start 0 (was 0)) ≡ Some t) (unanswered : is_unanswered t.doing ≡ true) where
+  s : ApiState
+  s = (shell_after start (was 0)).state
+
+  is : after start 0 (was 0) ≡ Shell s
+  unfolding s
+  is = (shell_after start (was 0)).is
+
+  i : IsOwn s t
+  i = own_found s t (ap own_in (sym is) ∙ own)
+
+  in_opened : IsIn t (opened_after start was)
+  in_opened = subst (λ g. IsIn t (opened_in g)) (sym is) (subst (IsIn t) (sym i.first.is) (in_middle i.first.front t i.first.back))
+
+  w : IsWaiting t
+  w = is_waiting start was t unanswered (answered start was t first_served.before in_opened)
+
+  up : IsHeldUp start was w.tx
+  up = held_up start was t first_served.before in_opened w.tx w.own w.does
+
+  live : OnTc (λ c. of_live w.tx c.live ≡ Some up.transaction) (after start w.tx.tc (was w.tx.tc))
+  live = on_live start w.tx up.transaction was w.tx.tc up.live
+
+  -- no other transaction of the API has its number
+  none : tally (has_tx w.tx) i.first.front ≡ 0
+  none =
+      let h = holds_at start w.tx was first_served.before in
+      omega (
+        arith,
+        h.few,
+        once_started start w.tx was first_served.before,
+        ap (λ g. tally (has_tx w.tx) (opened_in g)) is,
+        tally_between (has_tx w.tx) i.first.front t i.first.back s.opened i.first.is,
+        ap one_if (ap (is_tx w.tx) w.own ∙ same_tx-self w.tx),
+        tally_append (has_tx w.tx) i.first.front i.first.back,
+      )
+
+  f : IsFirst start was mid request.Waits
+  f = request_first start was mid request.Waits first_served
+
+  asking : IsAsking s t w.tx i (step_after start 0 (was 0) f.first)
+  asking =
+      subst (λ (to : Place). IsAsking s t w.tx i (row (after start 0 (was 0)) to f.first.taken.body)) (sym f.place)
+      (subst (λ body. IsAsking s t w.tx i (row (after start 0 (was 0)) client body)) (sym f.body) (waits_first (after start 0 (was 0)) s t w.tx i is unanswered w.own))
+
+  abbrev first_cut : IsCut (with_first was f.first) mid
+  first_cut zero = record { newer = f.later; is = f.is }
+  first_cut (suc h) = first_served.cut (suc h)
+
+  asked_same : requests (mid 0) ≡ requests (f.first ∷ was 0)
+  asked_same = first_served.asked ∙ ap (λ o. requests (was 0) ++ option_to_list o) (sym (ap request_in f.body))
+
+  all : AllHold start was first_served.before f.first w.tx up.transaction up.asked up.member up.unanswered up.inside live up.held i.first.front t i.first.back (Some i.name) w.own none asking.plain mid
+  all =
+      all_hold start was first_served.before f.first w.tx up.transaction up.asked up.member up.unanswered up.inside live up.held i.first.front t i.first.back (Some i.name) w.own none asking.plain mid f.right
+      first_served.since first_cut asked_same asking.about
