@@ -47,7 +47,7 @@ use Rattle.command_laws.proofs.Told.{told_since}
 use Rattle.command_laws.proofs.WaitApi.{IsAboutOne, IsAsking, IsOwn, TellsHolder, own_found, pending_first, waits_first}
 use Rattle.command_laws.proofs.WaitRows.{in_live, is_found, is_passed, is_probe, is_want}
 use Rattle.command_laws.proofs.WaitRun.{AllHold, all_hold}
-use Rattle.command_laws.specs.Served.{EachIsHeldUp, HoldersAreTold, IsHeldUp, IsServed, IsToldHolder, own_in}
+use Rattle.command_laws.specs.Served.{EachIsHeldUp, HoldersAreTold, IsHeldUp, IsHeldUpAt, IsServed, IsToldHolder, own_in}
 
 sent_to_append : (start : Start) (test : Place → Body → Bool) (h j : ℕ) (xs ys log : List LogStep)
     → sent_since_to start test h j (xs ++ ys) log ≡ sent_since_to start test h j xs (ys ++ log) + sent_since_to start test h j ys log
@@ -151,3 +151,89 @@ module _ (answered : EachIsAnswered) (held_up : EachIsHeldUp) (start : Start) (w
   all =
       all_hold start was first_served.before f.first w.tx up.transaction up.asked up.member up.unanswered up.inside live up.held i.first.front t i.first.back (Some i.name) w.own none asking.plain mid f.right
       first_served.since first_cut asked_same asking.about
+
+  abbrev cut : IsCut was mid
+  cut zero = record { newer = log_of (machine start) all.more 0 ++ f.first ∷ []; is = all.is 0 ∙ sym (append_assoc (log_of (machine start) all.more 0) (f.first ∷ []) (was 0)) }
+  cut (suc h) = record { newer = log_of (machine start) all.more (suc h); is = all.is (suc h) }
+
+  -- the question goes to the coordinator, from there to the node where the lock is, and the answer back
+  module _ (c m : ℕ) (c_is : w.tx.tc ≡ suc c) (m_is : up.member.node ≡ suc m) where
+    c_low : suc c < hosts start
+    c_low = let low = live_low start was w.tx up.transaction first_served.before w.tx.tc up.live in omega (arith, low, c_is)
+
+    m_low : suc m < hosts start
+    m_low = omega (arith, up.low, m_is)
+
+    wanted : 1 ≤ steps (is_want w.tx) (log_of (machine start) all.more (suc c))
+    wanted =
+        omega (
+          arith,
+          asking.wants,
+          ap (λ k. sends_of (to_node k (is_want w.tx)) (step_after start 0 (was 0) f.first).effects.sends) c_is,
+          sent_to_append start (is_want w.tx) 0 (suc c) (log_of (machine start) all.more 0) (f.first ∷ []) (was 0),
+          all_arrive start was mid first_served.before first_served.since cut (is_want w.tx) 0 (suc c) (omega arith) c_low,
+          taken_few start (is_want w.tx) 0 (log_of (machine start) all.more (suc c)),
+        )
+
+    probed : 1 ≤ steps (is_probe w.tx (key_of up.asked.op)) (log_of (machine start) all.more (suc m))
+    probed =
+        omega (
+          arith,
+          wanted,
+          (all.nodes c).wants c_is,
+          ap (λ k. sent_since_to start (is_probe w.tx (key_of up.asked.op)) (suc c) k (log_of (machine start) all.more (suc c)) (was (suc c))) m_is,
+          all_arrive start was mid first_served.before first_served.since cut (is_probe w.tx (key_of up.asked.op)) (suc c) (suc m) c_low m_low,
+          taken_few start (is_probe w.tx (key_of up.asked.op)) (suc c) (log_of (machine start) all.more (suc m)),
+        )
+
+    found : 1 ≤ steps (is_found w.tx) (log_of (machine start) all.more (suc c))
+    found =
+        omega (
+          arith,
+          probed,
+          (all.nodes m).finds m_is,
+          ap (λ k. sent_since_to start (is_found w.tx) (suc m) k (log_of (machine start) all.more (suc m)) (was (suc m))) c_is,
+          all_arrive start was mid first_served.before first_served.since cut (is_found w.tx) (suc m) (suc c) m_low c_low,
+          taken_few start (is_found w.tx) (suc m) (log_of (machine start) all.more (suc c)),
+        )
+
+    passed : 1 ≤ steps (is_passed w.tx) (log_of (machine start) all.more 0)
+    passed =
+        omega (
+          arith,
+          found,
+          (all.nodes c).passes c_is,
+          all_arrive start was mid first_served.before first_served.since cut (is_passed w.tx) (suc c) 0 c_low (omega arith),
+          taken_few start (is_passed w.tx) (suc c) (log_of (machine start) all.more 0 ++ f.first ∷ []),
+          tally_append (λ (e : LogStep). is_passed w.tx e.taken.to e.taken.body) (log_of (machine start) all.more 0) (f.first ∷ []),
+          ap one_if (ap (λ (to : Place). is_passed w.tx to f.first.taken.body) f.place ∙ ap (is_passed w.tx client) f.body),
+        )
+
+  ahead_known : is_some all.shell.ahead ≡ true
+  ahead_known =
+      let c = not_shell start w.tx up.transaction was (IsLiveAs w.tx up.transaction) (λ state p. p) w.tx.tc up.live in
+      let m = not_shell start w.tx up.transaction was (IsHeldUpAt w.tx (key_of up.asked.op)) (λ state p. p) up.member.node up.held in
+      all.shell.known (passed c.0 m.0 c.1 m.1)
+
+  then : IsFirst start mid now request.Pending
+  then = request_first start mid now request.Pending then_served
+
+  about : IsAboutOne i.first.front t i.first.back (Some i.name) all.shell.ahead (after start 0 (mid 0))
+  about = subst (λ log. IsAboutOne i.first.front t i.first.back (Some i.name) all.shell.ahead (after start 0 log)) (sym (all.is 0)) all.shell.about
+
+  tells : TellsHolder t.name (after start 0 (mid 0)) (step_after start 0 (mid 0) then.first)
+  tells =
+      subst (λ (to : Place). TellsHolder t.name (after start 0 (mid 0)) (row (after start 0 (mid 0)) to then.first.taken.body)) (sym then.place)
+      (subst (λ body. TellsHolder t.name (after start 0 (mid 0)) (row (after start 0 (mid 0)) client body)) (sym then.body)
+      (pending_first (after start 0 (mid 0)) i.first.front t i.first.back i.name all.shell.ahead about unanswered i.first.none i.first.passes ahead_known))
+
+  holder_told : IsToldHolder start mid now t.name
+  holder_told = record {
+    holder = tells.holder;
+    told = subst (λ log. IsIn (Pending t.name (HeldBy tells.holder)) (drop (length (replies_of (after start 0 (mid 0)))) (replies_of (after start 0 log)))) (sym then.is)
+        (told_since start (mid 0) (mid 0) then.later then.first (Pending t.name (HeldBy tells.holder)) (past_self (mid 0)) tells.told);
+  }
+
+-- so it is where each command is answered, but for an operation that is held up
+pub holders_told : EachIsAnswered → EachIsHeldUp → HoldersAreTold
+holders_told answered held_up start was mid now t first_served then_served own unanswered = holder_told answered held_up start was mid now t first_served then_served own unanswered
