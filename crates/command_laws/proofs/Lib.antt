@@ -10,6 +10,8 @@ pub mod First
 pub mod HoldersTold
 pub mod LoneAsks
 pub mod LoneCommitted
+pub mod LqhFair
+pub mod OwnSends
 pub mod PhaseSends
 pub mod Places
 pub mod Pushes

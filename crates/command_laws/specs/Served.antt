@@ -1,5 +1,5 @@
 -- What a command comes to, between two quiet moments.
-use Rattle.std.specs.Prelude.{◌≡◌, ◌≤◌, ◌++◌, ℕ, true, false, is_some, List, [], ◌∷◌, drop, length, position, Option, None, Some}
+use Rattle.std.specs.Prelude.{◌≡◌, ◌<◌, ◌≤◌, ◌⊎◌, ◌++◌, ℕ, Bool, true, false, is_some, List, [], ◌∷◌, drop, length, position, Option, None, Some}
 use Rattle.run_theory.specs.Cuts.{IsCut}
 use Rattle.run_theory.specs.Lists.{IsIn, IsPast}
 use Rattle.sig_core.specs.declared.log.LogStep.{LogStep}
@@ -8,7 +8,9 @@ use Rattle.sig_core.specs.declared.member.Member.{Member}
 use Rattle.sig_core.specs.declared.member.TxId.{TxId}
 use Rattle.sig_core.specs.declared.op.Answer.{Answer}
 use Rattle.sig_core.specs.declared.op.Op.{Op}
-use Rattle.sig_core.specs.declared.outcome.Outcome.TheVariants.{Committed}
+use Rattle.sig_core.specs.declared.outcome.AbortCause.{AbortCause}
+use Rattle.sig_core.specs.declared.outcome.AbortCause.TheVariants.{LogFull, TableFull, Timeout}
+use Rattle.sig_core.specs.declared.outcome.Outcome.TheVariants.{Aborted, Committed}
 use Rattle.sig_core.specs.declared.reply.ApiReply.{ApiReply}
 use Rattle.sig_core.specs.declared.reply.ApiReply.TheVariants.{Answered, Ended, Pending}
 use Rattle.sig_core.specs.declared.reply.Waiting.TheVariants.{HeldBy}
@@ -28,7 +30,7 @@ use Rattle.node_core.specs.Replies.{replies_of}
 use Rattle.world_core.specs.Machine.{after}
 use Rattle.world_core.specs.Requests.{requests}
 use Rattle.world_core.specs.Start.{Start}
-use Rattle.answer_laws.specs.Answered.{AreQuiet, EachAtQuiet, IsLiveAs, opened_after}
+use Rattle.answer_laws.specs.Answered.{AreQuiet, EachAtQuiet, IsLiveAs, WaitsForLock, opened_after}
 
 -- The shell asked for one more thing between two quiet moments: the later logs have those before, and of the shell's requests
 -- this one more.
@@ -119,3 +121,37 @@ HoldersAreTold =
     (start : Start) (was mid now : ℕ → List LogStep) (t : OpenTransaction) → IsServed start was mid request.Waits → IsServed start mid now request.Pending
     → own_in (after start 0 (was 0)) ≡ Some t → is_unanswered t.doing ≡ true
     → IsToldHolder start mid now t.name
+
+-- there is no room or no time for an operation
+abbrev pub is_refusal : AbortCause → Bool
+is_refusal (LogFull used reserved need) = true
+is_refusal (TableFull rows) = true
+is_refusal Timeout = true
+is_refusal cause = false
+
+-- an operation of the transaction of this name was answered since then
+pub record IsAnsweredAs (start : Start) (was now : ℕ → List LogStep) (name : ℕ) : Type 0 where
+  pub answer : Answer
+  pub told : IsIn (Answered (Some name) answer) (replies_since start was now)
+
+-- it ended since then, for want of room or of time
+pub record IsRefusedAs (start : Start) (was now : ℕ → List LogStep) (name : ℕ) : Type 0 where
+  pub cause : AbortCause
+  pub told : IsIn (Ended (Some name) (Aborted cause)) (replies_since start was now)
+  pub refusal : is_refusal cause ≡ true
+
+-- its operation waits for a lock
+pub record StillWaits (start : Start) (now : ℕ → List LogStep) (name : ℕ) (tx : TxId) : Type 0 where
+  pub item : OpenTransaction
+  pub inside : IsIn item (opened_after start now)
+  pub called : item.name ≡ Some name
+  pub own : item.tx ≡ Some tx
+  pub does : item.doing ≡ Operating
+  pub waits : WaitsForLock start now tx
+
+-- an operation of a transaction that takes commands is answered, or refused for want of room or of time, or waits for a lock
+abbrev pub OperationsAreAnswered : Type 0
+OperationsAreAnswered =
+    (start : Start) (was now : ℕ → List LogStep) (name : ℕ) (op : Op) (t : OpenTransaction) (tx : TxId) → IsServed start was now (Operate (Some name) op)
+    → named_in (opened_after start was) name ≡ Some t → t.doing ≡ Ready → t.tx ≡ Some tx → t.operations < 64
+    → IsAnsweredAs start was now name ⊎ (IsRefusedAs start was now name ⊎ StillWaits start now name tx)
