@@ -43,6 +43,7 @@ use Rattle.answer_laws.proofs.TcMoves.{same_tx-is}
 use Rattle.answer_laws.proofs.TcSends.{aborted_kinds, answer_kinds, commit_kinds, committed_kinds, completed_kinds, decide_kinds, go_on_kinds, operate_kinds, refuse_kinds, rollback_kinds, tx_in, wait_kinds}
 use Rattle.answer_laws.proofs.Wishes.{is_tc, sends_of}
 use Rattle.command_laws.proofs.Firm.{StaysFirm, firm_turn, is_firm, is_no_abort, is_push}
+use Rattle.command_laws.proofs.OwnSends.{is_own_kind, turn_own}
 use Rattle.command_laws.proofs.Since.{sent_since}
 use Rattle.command_laws.proofs.Turns.{TakesTurn, TcShape, is_idle_kind, starts, still, tc_shape, turn_by, turns}
 
@@ -62,21 +63,6 @@ back_of tx _ = false
 
 abbrev pub is_back : TxId → Place → Body → Bool
 is_back tx to body = back_of tx body
-
--- what a turn sends is of its transaction
-pub turn_sends : (s : TcState) (tx : TxId) (body : Body) (t : Transaction) → are_of (is_tc_kind tx) (turn_by s tx body t).step.effects.sends ≡ true
-turn_sends s tx (Host (Continue (work.Transaction one) at)) t = go_on_kinds s.node s.view tx t at
-turn_sends s tx (Client (TcKeyReq one op)) t = operate_kinds s.view tx t op
-turn_sends s tx (Client (TcCommitReq one)) t = decide_kinds s.node tx t
-turn_sends s tx (Client (TcRollbackReq one)) t = rollback_kinds s.node s.view tx t
-turn_sends s tx (Client (TcWaitReq one)) t = wait_kinds tx t
-turn_sends s tx (Chain (LqhKeyConf one key answer)) t = answer_kinds s.view tx t key answer
-turn_sends s tx (Chain (LqhKeyRef one key why)) t = refuse_kinds s.node s.view tx t key why
-turn_sends s tx (Chain (Committed one key)) t = committed_kinds s.node s.view tx t
-turn_sends s tx (Chain (Completed one key)) t = completed_kinds s.node tx t
-turn_sends s tx (Chain (Aborted one key)) t = aborted_kinds s.node tx t
-turn_sends s tx (Epoch (DiVerifyConf one epoch)) t = commit_kinds s.node s.view tx t epoch
-turn_sends s tx _ t = refl
 
 pub each_inserted_value : (P : TxId × Transaction → Type 0) (live : List (TxId × Transaction)) (tx : TxId) (t : Transaction) → ((key : TxId) → P (key, t)) → Each P live → Each P (insert_entry same_tx live tx t)
 each_inserted_value P [] tx t own all = (own tx, tt)
@@ -99,7 +85,7 @@ module _ (tx : TxId) where
   no_back_firm to (Client (TcRollbackRep other cause)) e = cc
   no_back_firm to _ e = refl
 
-  no_back_other : (one : TxId) → same_tx one tx ≡ false → (to : Place) (body : Body) → is_tc_kind one body ≡ true → is_back tx to body ≡ false
+  no_back_other : (one : TxId) → same_tx one tx ≡ false → (to : Place) (body : Body) → is_own_kind one body ≡ true → is_back tx to body ≡ false
   no_back_other one differs to (Client (TcRollbackRep other cause)) e = apart tx one other differs e
   no_back_other one differs to _ e = refl
 
@@ -152,7 +138,7 @@ module _ (tx : TxId) where
         quiet : sends_of (is_back tx) step.effects.sends ≡ 0
         quiet =
             ap (λ effects. sends_of (is_back tx) effects.sends) r.effects
-            ∙ none_of (is_tc_kind (tx_in body)) (is_back tx) (no_back_other (tx_in body) differs) (turn_by s (tx_in body) body r.t).step.effects.sends (turn_sends s (tx_in body) body r.t)
+            ∙ none_of (is_own_kind (tx_in body)) (is_back tx) (no_back_other (tx_in body) differs) (turn_by s (tx_in body) body r.t).step.effects.sends (turn_own s (tx_in body) body r.t)
 
         by : (b : Bool) → (turn_by s (tx_in body) body r.t).over ≡ b → KeepsFirm step.state.live step.effects.sends
         by true over = record {
