@@ -2,6 +2,7 @@ pub mod ApiChanges
 pub mod CommitFirst
 pub mod CommitGoes
 pub mod Committed
+pub mod EarlySteps
 pub mod EarlyTurns
 pub mod Entries
 pub mod Firm
