@@ -63,7 +63,7 @@ abbrev pub is_wish_to : TxId → Place → Body → Bool
 is_wish_to tx to body = is_tc to.block && wish_of tx body
 
 -- no operation is refused by it
-abbrev is_no_ref : Body → Bool
+abbrev pub is_no_ref : Body → Bool
 is_no_ref (Chain (LqhKeyRef tx key why)) = false
 is_no_ref _ = true
 
@@ -75,7 +75,7 @@ begin_no_ref : (s : TcState) (name : Option ℕ) (b : Bool) → are_of is_no_ref
 begin_no_ref s name true = refl
 begin_no_ref s name false = refl
 
-tc_no_ref : (s : TcState) (body : Body) → are_of is_no_ref (tc_row s body).effects.sends ≡ true
+pub tc_no_ref : (s : TcState) (body : Body) → are_of is_no_ref (tc_row s body).effects.sends ≡ true
 unfolding begin_row
 tc_no_ref s (Client (TcBeginReq name)) = begin_no_ref s name (is_full s)
 tc_no_ref s body = of_kind (is_tc_kind (tx_in body)) is_no_ref (no_ref_tc (tx_in body)) (tc_row s body).effects.sends (tc_kinds s body refl)
@@ -134,25 +134,25 @@ module _ (tx : TxId) where
   good_end to (Client (TcRollbackRep other cause)) e = ap (λ b. not (if b then true else not (same_tx other tx))) e
   good_end to _ e = refl
 
-  fair_loss : (to : Place) (b : Body) → is_fair tx b ≡ true → is_loss tx to b ≡ false
+  pub fair_loss : (to : Place) (b : Body) → is_fair tx b ≡ true → is_loss tx to b ≡ false
   fair_loss to b e = ap not e
 
-  good_dih : (to : Place) (b : Body) → is_dih_kind b ≡ true → is_bad tx to b ≡ false
+  pub good_dih : (to : Place) (b : Body) → is_dih_kind b ≡ true → is_bad tx to b ≡ false
   good_dih to (Client (TcCommitConf other epoch)) e = cc
   good_dih to (Client (TcRollbackRep other cause)) e = cc
   good_dih to _ e = refl
 
-  good_lqh : (to : Place) (b : Body) → is_lqh_kind b ≡ true → is_bad tx to b ≡ false
+  pub good_lqh : (to : Place) (b : Body) → is_lqh_kind b ≡ true → is_bad tx to b ≡ false
   good_lqh to (Client (TcCommitConf other epoch)) e = cc
   good_lqh to (Client (TcRollbackRep other cause)) e = cc
   good_lqh to _ e = refl
 
-  loss_dih : (to : Place) (b : Body) → is_dih_kind b ≡ true → is_loss tx to b ≡ false
+  pub loss_dih : (to : Place) (b : Body) → is_dih_kind b ≡ true → is_loss tx to b ≡ false
   loss_dih to (Chain (Abort other key)) e = cc
   loss_dih to (Chain (LqhKeyRef other key why)) e = cc
   loss_dih to _ e = refl
 
-  both_api : (to : Place) (b : Body) → is_api_kind b ≡ true → (is_bad tx to b ≡ false) × (is_loss tx to b ≡ false)
+  pub both_api : (to : Place) (b : Body) → is_api_kind b ≡ true → (is_bad tx to b ≡ false) × (is_loss tx to b ≡ false)
   both_api to (Client (TcCommitConf other epoch)) e = cc
   both_api to (Client (TcRollbackRep other cause)) e = cc
   both_api to (Chain (Abort other key)) e = cc
@@ -189,7 +189,7 @@ module _ (tx : TxId) where
         by true over = tt
         by false over = past over
 
-    clean_goes : is_fair tx body ≡ true → (tx.tc ≡ s.node → IsOpenNow tx s) → TcGoes tx s body step → StaysClean step.state step.effects.sends ⊎ Leaves step.state step.effects.sends
+    pub clean_goes : is_fair tx body ≡ true → (tx.tc ≡ s.node → IsOpenNow tx s) → TcGoes tx s body step → StaysClean step.state step.effects.sends ⊎ Leaves step.state step.effects.sends
     clean_goes fair was (aside same none more) =
         inl (record {
           good = none_bad step.effects.sends none;
@@ -229,7 +229,7 @@ module _ (tx : TxId) where
           past = record { past = subst PastOption (sym left) (left_past (turn_by s tx body t) q.past); early = omega (arith, live_early tx s.node s.next_seq s.live t sound.own live, more) };
         })
 
-    past_goes : (tx.tc ≡ s.node → IsPastNow tx s) → TcGoes tx s body step → GoesPast step.state step.effects.sends
+    pub past_goes : (tx.tc ≡ s.node → IsPastNow tx s) → TcGoes tx s body step → GoesPast step.state step.effects.sends
     past_goes was (aside same none more) = record {
       good = none_bad step.effects.sends none;
       past = λ at. let p = was (at ∙ node_same) in record { past = subst PastOption (sym same) p.past; early = omega (arith, p.early, more) };

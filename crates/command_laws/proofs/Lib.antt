@@ -2,6 +2,8 @@ pub mod ApiChanges
 pub mod CommitFirst
 pub mod CommitGoes
 pub mod Committed
+pub mod EarlyNodes
+pub mod EarlyRun
 pub mod EarlySteps
 pub mod EarlyTurns
 pub mod Entries
