@@ -38,11 +38,11 @@ pub record IsEnding (tx : TxId) (name : Option ℕ) (g : host.Host) (body : Body
   pub told : replies_of step.state ≡ replies_of g ++ Ended name outcome ∷ []
   pub marked : step.effects.marks ≡ Reported tx outcome ∷ []
 
-record IsEndingHere (tx : TxId) (name : Option ℕ) (s : ApiState) (body : Body) (step : Step ApiState) : Type 0 where
-  outcome : Outcome
-  about : outcome_in body ≡ Some (tx, outcome)
-  told : step.state.replies ≡ s.replies ++ Ended name outcome ∷ []
-  marked : step.effects.marks ≡ Reported tx outcome ∷ []
+pub record IsEndingHere (tx : TxId) (name : Option ℕ) (s : ApiState) (body : Body) (step : Step ApiState) : Type 0 where
+  pub outcome : Outcome
+  pub about : outcome_in body ≡ Some (tx, outcome)
+  pub told : step.state.replies ≡ s.replies ++ Ended name outcome ∷ []
+  pub marked : step.effects.marks ≡ Reported tx outcome ∷ []
 
 module _ (tx : TxId) (name : Option ℕ) where
   GoesOrEnds : ApiState → Body → Step ApiState → Type 0

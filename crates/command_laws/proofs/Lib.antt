@@ -15,6 +15,8 @@ pub mod HoldersTold
 pub mod LoneAsks
 pub mod LoneCommitted
 pub mod LqhFair
+pub mod OperateAsks
+pub mod OperateGoes
 pub mod OwnSends
 pub mod PhaseSends
 pub mod Places
