@@ -17,6 +17,7 @@ pub mod LoneCommitted
 pub mod LqhFair
 pub mod OperateAsks
 pub mod OperateGoes
+pub mod OperationAnswered
 pub mod OwnSends
 pub mod PhaseSends
 pub mod Places
