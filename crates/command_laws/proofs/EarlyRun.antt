@@ -1,5 +1,5 @@
 -- Where no commit or abort of an open transaction is wished for, nobody reports its commit, or its abort but for want of room or of time.
-use Rattle.std.proofs.Common.{◌≡◌, ◌≢◌, ◌⊎◌, ◌<◌, ◌≤◌, ◌+◌, ℕ, zero, suc, Bool, true, false, List, [], ◌∷◌, ◌++◌, length, refl, sym, ap, ◌∙◌, subst, inl, inr, append_assoc, arith}
+use Rattle.std.proofs.Common.{◌≡◌, ◌≢◌, ◌⊎◌, ◌<◌, ◌≤◌, ℕ, zero, suc, Bool, true, false, List, [], ◌∷◌, ◌++◌, refl, sym, ap, ◌∙◌, subst, inl, inr, append_assoc, arith}
 use Rattle.std.proofs.lemmas.Bool.{cases_eq, cases_lt}
 use Rattle.std.proofs.lemmas.List.{append_cancel_right}
 use Rattle.std.specs.Prelude.{not}
@@ -28,7 +28,7 @@ use Rattle.answer_laws.proofs.LinkCounts.{signals}
 use Rattle.answer_laws.proofs.Tally.{one_if, tally_past}
 use Rattle.answer_laws.proofs.Wishes.{sends_of}
 use Rattle.answer_laws.specs.Answered.{AreQuiet}
-use Rattle.command_laws.proofs.EarlyNodes.{CleanStep, PastStep, clean_step, past_step, shell_step}
+use Rattle.command_laws.proofs.EarlyNodes.{CleanStep, clean_step, past_step, shell_step}
 use Rattle.command_laws.proofs.EarlySteps.{IsOpenNow, IsPastNow, is_bad, is_loss, is_wish_to}
 use Rattle.command_laws.proofs.LqhFair.{is_fair}
 use Rattle.command_laws.proofs.Since.{link_sent, sent_since}

@@ -1,5 +1,5 @@
 -- A transaction whose commit isn't asked for stays open, or is aborted for want of room or of time.
-use Rattle.std.proofs.Common.{◌≡◌, ◌⊎◌, ◌+◌, ◌-◌, ℕ, Bool, true, false, List, [], ◌∷◌, ◌++◌, length, refl, sym, ap, ◌∙◌, subst, inl, inr}
+use Rattle.std.proofs.Common.{◌≡◌, ◌⊎◌, ◌+◌, ℕ, Bool, true, false, List, [], ◌∷◌, ◌++◌, length, refl, sym, ap, ◌∙◌, subst, inl, inr}
 use Rattle.std.specs.List.{flat_map}
 use Rattle.std.specs.Prelude.{◌==◌, if◌then◌else◌, Option, None, Some, drop, nat_lt, not, take}
 use Rattle.sig_core.specs.declared.member.TxId.{TxId}

@@ -1,9 +1,9 @@
 -- The two questions about a command that left something unanswered tell for whom that waits.
-use Rattle.std.proofs.Common.{◌≡◌, ◌≢◌, ◌⊎◌, ◌<◌, ◌≤◌, ◌+◌, ℕ, zero, suc, Bool, true, false, List, [], ◌∷◌, ◌++◌, length, refl, sym, ap, ◌∙◌, subst, inl, inr, append_assoc, arith}
+use Rattle.std.proofs.Common.{◌≡◌, ◌<◌, ◌≤◌, ◌+◌, ℕ, zero, suc, Bool, true, false, List, [], ◌∷◌, ◌++◌, length, refl, sym, ap, ◌∙◌, subst, append_assoc, arith}
 use Rattle.std.specs.Prelude.{◌&&◌, Option, None, Some, drop, is_some, option_to_list}
 use Rattle.run_theory.specs.Cuts.{IsCut}
 use Rattle.run_theory.specs.Links.{is_from}
-use Rattle.run_theory.specs.Lists.{Each, IsIn}
+use Rattle.run_theory.specs.Lists.{IsIn}
 use Rattle.run_theory.specs.Runs.{log_of}
 use Rattle.run_theory.proofs.Pasts.{past_self}
 use Rattle.sig_core.specs.declared.log.LogStep.{LogStep}
@@ -15,15 +15,13 @@ use Rattle.sig_core.specs.declared.request.ApiReq.TheVariants as request
 use Rattle.sig_core.specs.declared.signal.Body.{Body}
 use Rattle.sig_core.specs.Op.{key_of}
 use Rattle.sig_core.specs.Place.{client}
-use Rattle.sig_core.specs.Step.{Step}
 use Rattle.api_block.specs.declared.opened.Doing.{Doing}
 use Rattle.api_block.specs.declared.opened.Doing.TheVariants.{Beginning, Ready, Operating, Committing}
 use Rattle.api_block.specs.declared.opened.OpenTransaction.{OpenTransaction}
 use Rattle.api_block.specs.Opened.{has_tx, is_tx, is_unanswered}
 use Rattle.api_block.specs.State.{ApiState}
 use Rattle.node_core.specs.declared.host.Host as host
-use Rattle.node_core.specs.declared.host.Host.TheVariants.{Shell, Node}
-use Rattle.node_core.specs.declared.node.Node as node
+use Rattle.node_core.specs.declared.host.Host.TheVariants.{Shell}
 use Rattle.node_core.specs.Replies.{replies_of}
 use Rattle.node_core.specs.Row.{row}
 use Rattle.tc_block.specs.declared.transaction.Transaction.{Transaction}
@@ -38,7 +36,7 @@ use Rattle.answer_laws.proofs.Lives.{holds_at, once_started}
 use Rattle.answer_laws.proofs.Tally.{one_if, tally, tally_append, tally_between}
 use Rattle.answer_laws.proofs.TcSends.{same_tx-self}
 use Rattle.answer_laws.proofs.Wishes.{sends_of, to_node}
-use Rattle.answer_laws.specs.Answered.{AreQuiet, EachIsAnswered, IsLiveAs, is_answered_by, opened_after, opened_in}
+use Rattle.answer_laws.specs.Answered.{EachIsAnswered, IsLiveAs, is_answered_by, opened_after, opened_in}
 use Rattle.transit_laws.specs.Live.{of_live}
 use Rattle.command_laws.proofs.First.{IsFirst, request_first, with_first}
 use Rattle.command_laws.proofs.Since.{all_arrive, sent_since_to, taken_since}

@@ -1,6 +1,6 @@
 -- An operation of a transaction that takes commands is answered, or refused for want of room or of time, or waits for a lock.
-use Rattle.std.proofs.Common.{◌≡◌, ◌≢◌, ◌⊎◌, ◌<◌, ◌≤◌, ◌+◌, ℕ, zero, suc, Bool, true, false, List, [], ◌∷◌, ◌++◌, refl, sym, ap, ◌∙◌, subst, inl, inr, append_assoc, arith}
-use Rattle.std.specs.Prelude.{◌&&◌, Option, None, Some, drop, if◌then◌else◌, is_some, length, not}
+use Rattle.std.proofs.Common.{◌≡◌, ◌⊎◌, ◌<◌, ℕ, zero, suc, Bool, true, false, List, [], ◌∷◌, ◌++◌, refl, sym, ap, ◌∙◌, subst, inl, inr, append_assoc, arith}
+use Rattle.std.specs.Prelude.{◌&&◌, Option, Some, drop, if◌then◌else◌, is_some, length, not}
 use Rattle.run_theory.specs.Cuts.{IsCut}
 use Rattle.run_theory.specs.Lists.{Each, IsIn, IsPast}
 use Rattle.run_theory.proofs.Pasts.{each_from, each_in, each_map}
@@ -45,7 +45,7 @@ use Rattle.command_laws.proofs.First.{IsFirst, request_first}
 use Rattle.command_laws.proofs.OperateAsks.{AreNamed, IsAskedFor, named_since, no_wish_node, operate_first}
 use Rattle.command_laws.proofs.OperateGoes.{HasAnswered, operate_goes}
 use Rattle.command_laws.proofs.Pushes.{node_since}
-use Rattle.command_laws.proofs.Reported.{OutcomeOf, ending_is, never_unknown}
+use Rattle.command_laws.proofs.Reported.{OutcomeOf, ending_is}
 use Rattle.command_laws.proofs.Since.{none_taken, sent_since}
 use Rattle.command_laws.proofs.TellsSince.{OnTc}
 use Rattle.command_laws.proofs.Told.{told_since}
@@ -69,9 +69,13 @@ ends_well : (tx : TxId) (body : Body) (end : Outcome) → outcome_in body ≡ So
 ends_well tx (Client (TcCommitConf one epoch)) end is good =
     absurd (let same : same_tx one tx ≡ true = ap (λ (e : OutcomeOf). same_tx e.0 tx) (ending_is (one, outcome.Committed epoch) (tx, end) is) ∙ same_tx-self tx in
     let off : false ≡ true = sym (ap not same) ∙ good in cc)
-ends_well tx (Client (TcRollbackRep one cause)) end is good =
-    (cause, (ap (λ (e : OutcomeOf). e.1) (sym (ending_is (one, outcome.Aborted cause) (tx, end) is)),
-    by (is_refusal cause) good (ap (λ (e : OutcomeOf). same_tx e.0 tx) (ending_is (one, outcome.Aborted cause) (tx, end) is) ∙ same_tx-self tx)))
+ends_well tx (Client (TcRollbackRep one cause)) end is good = (
+  cause,
+  (
+    ap (λ (e : OutcomeOf). e.1) (sym (ending_is (one, outcome.Aborted cause) (tx, end) is)),
+    by (is_refusal cause) good (ap (λ (e : OutcomeOf). same_tx e.0 tx) (ending_is (one, outcome.Aborted cause) (tx, end) is) ∙ same_tx-self tx),
+  ),
+)
   where
     by : (b : Bool) → (if b then true else not (same_tx one tx)) ≡ true → same_tx one tx ≡ true → b ≡ true
     by true fine same = refl

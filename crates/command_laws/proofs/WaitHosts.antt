@@ -1,7 +1,7 @@
 -- Each host along steps that take questions of what one transaction waits for, and answers to them.
-use Rattle.std.proofs.Common.{◌≡◌, ◌≢◌, ◌⊎◌, ◌≤◌, ◌+◌, ℕ, zero, suc, Bool, true, false, List, [], ◌∷◌, ◌++◌, refl, sym, ap, ◌∙◌, subst, inl, inr, arith}
-use Rattle.std.specs.Prelude.{◌==◌, ◌&&◌, Option, None, Some, is_some}
-use Rattle.run_theory.specs.Lists.{Each, IsIn}
+use Rattle.std.proofs.Common.{◌≡◌, ◌≤◌, ◌+◌, ℕ, suc, Bool, true, false, List, [], ◌∷◌, ◌++◌, refl, sym, ap, ◌∙◌, subst, arith}
+use Rattle.std.specs.Prelude.{Option, None, Some, is_some}
+use Rattle.run_theory.specs.Lists.{IsIn}
 use Rattle.sig_core.specs.declared.log.LogStep.{LogStep}
 use Rattle.sig_core.specs.declared.member.Member.{Member}
 use Rattle.sig_core.specs.declared.member.TxId.{TxId}
@@ -12,23 +12,22 @@ use Rattle.row_locks.specs.Tables.{ahead_at}
 use Rattle.api_block.specs.declared.opened.OpenTransaction.{OpenTransaction}
 use Rattle.api_block.specs.Opened.{has_tx}
 use Rattle.node_core.specs.declared.host.Host as host
-use Rattle.node_core.specs.declared.host.Host.TheVariants.{Shell, Node}
+use Rattle.node_core.specs.declared.host.Host.TheVariants.{Node}
 use Rattle.node_core.specs.declared.node.Node as node
-use Rattle.node_core.specs.Row.{node_row, row}
+use Rattle.node_core.specs.Row.{row}
 use Rattle.tc_block.specs.declared.phase.Asked.{Asked}
 use Rattle.tc_block.specs.declared.transaction.Transaction.{Transaction}
-use Rattle.world_core.specs.Machine.{after, step_after}
+use Rattle.world_core.specs.Machine.{after}
 use Rattle.world_core.specs.Start.{Start}
 use Rattle.answer_laws.proofs.Hosts.{IsNode, node_after}
 use Rattle.answer_laws.proofs.LinkCounts.{steps}
-use Rattle.answer_laws.proofs.Ops.{same_node}
 use Rattle.answer_laws.proofs.Tally.{one_if, tally}
 use Rattle.answer_laws.proofs.Wishes.{sends_of, to_node}
 use Rattle.transit_laws.specs.Live.{of_live}
 use Rattle.command_laws.proofs.Since.{sent_since, sent_since_to}
 use Rattle.command_laws.proofs.TellsSince.{OnTc}
 use Rattle.command_laws.proofs.WaitApi.{IsAboutOne, StaysAbout, about_waits}
-use Rattle.command_laws.proofs.WaitRows.{IsQuietStep, is_found, is_other, is_passed, is_probe, is_wait_of, is_want, node_finds, node_passes, node_waits, node_wants}
+use Rattle.command_laws.proofs.WaitRows.{is_found, is_other, is_passed, is_probe, is_wait_of, is_want, node_finds, node_passes, node_waits, node_wants}
 use Rattle.command_laws.specs.Served.{IsHeldUpAt}
 
 module _ (start : Start) (was : ℕ → List LogStep) (tx : TxId) (u : Transaction) (asked : Asked) (member : Member) (unanswered : u.asked ≡ Some asked) (inside : IsIn member asked.chain)
