@@ -28,7 +28,7 @@ comes start es e now = record { before = earlier start es e now; happens = now.r
 -- what holds at first and is kept by each event holds after every run
 pub along_transit : (start : Start) (P : List LogStep → List Signal → Type 0) → P [] []
     → ((es : List LogStep) (e : LogStep) (before between : List Signal) → Comes start es e → AreInTransit start es before → P es before → Takes e before between
-        → P (e ∷ es) (joined (signals_of start e.taken.to.node (logs_of start es e.taken.to.node) e) between))
+    → P (e ∷ es) (joined (signals_of start e.taken.to.node (logs_of start es e.taken.to.node) e) between))
     → (es : List LogStep) (xs : List Signal) → IsRun start es → AreInTransit start es xs → P es xs
 along_transit start P none next [] xs run is = subst (P []) (sym is) none
 along_transit start P none next (e ∷ es) xs run (before, (rest, passes)) =

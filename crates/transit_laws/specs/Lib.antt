@@ -1,3 +1,4 @@
+pub mod Beside
 pub mod Circle
 pub mod Completions
 pub mod GivenUp
@@ -7,3 +8,4 @@ pub mod Owed
 pub mod Routes
 pub mod Tokens
 pub mod Transit
+pub mod Undecided

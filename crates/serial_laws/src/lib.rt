@@ -1,0 +1,2 @@
+//! The serial law, from what the machine owes each key.
+#![tactic(auto)]
