@@ -11,6 +11,7 @@ pub mod Firm
 pub mod FirmAtQuiet
 pub mod FirmHosts
 pub mod First
+pub mod HeldUp
 pub mod HoldersTold
 pub mod LoneAsks
 pub mod LoneCommitted
