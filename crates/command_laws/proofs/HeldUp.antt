@@ -1,8 +1,8 @@
 -- At quiet an operation that was sent is unanswered at its coordinator, and held up at one of the nodes that it is sent along.
 use Rattle.std.proofs.Common.{◌≡◌, ◌≢◌, ◌⊎◌, ◌<◌, ◌≤◌, ◌+◌, ℕ, zero, suc, Bool, true, false, List, [], ◌∷◌, length, refl, sym, ap, ◌∙◌, subst, inl, inr, arith}
 use Rattle.std.proofs.lemmas.Bool.{cases_eq}
-use Rattle.std.specs.Prelude.{if◌then◌else◌, Option, None, Some, is_some, not, slice_get}
-use Rattle.run_theory.specs.Lists.{Each, IsIn}
+use Rattle.std.specs.Prelude.{if◌then◌else◌, Option, None, Some, is_some, not}
+use Rattle.run_theory.specs.Lists.{IsIn}
 use Rattle.run_theory.specs.Orders.{merged}
 use Rattle.run_theory.specs.Runs.{IsWithin}
 use Rattle.run_theory.proofs.Merging.{logs_merged, merged_run}
@@ -10,19 +10,16 @@ use Rattle.run_theory.proofs.Pasts.{each_in}
 use Rattle.sig_core.specs.declared.log.LogStep.{LogStep}
 use Rattle.sig_core.specs.declared.member.Member.{Member}
 use Rattle.sig_core.specs.declared.member.TxId.{TxId}
-use Rattle.sig_core.specs.declared.signal.Signal.{Signal}
-use Rattle.sig_core.specs.Chain.{node_at, node_of}
+use Rattle.sig_core.specs.Chain.{node_at}
 use Rattle.sig_core.specs.Op.{key_of}
 use Rattle.sig_core.specs.Same.{same_tx}
 use Rattle.row_locks.specs.Tables.{ahead_at}
 use Rattle.api_block.specs.declared.opened.Doing.TheVariants.{Operating}
 use Rattle.api_block.specs.declared.opened.OpenTransaction.{OpenTransaction}
 use Rattle.lqh_block.specs.declared.request.Request.{Request}
-use Rattle.lqh_block.specs.Operate.{is_granted}
 use Rattle.lqh_block.specs.Work.{work_key}
 use Rattle.node_core.specs.declared.host.Host as host
 use Rattle.node_core.specs.declared.host.Host.TheVariants.{Shell, Node}
-use Rattle.node_core.specs.declared.node.Node as node
 use Rattle.tc_block.specs.declared.phase.Asked.{Asked}
 use Rattle.tc_block.specs.declared.transaction.Transaction.{Transaction}
 use Rattle.world_core.proofs.Stamped.{stamped}
@@ -35,7 +32,7 @@ use Rattle.answer_laws.proofs.Heard.{asked_where_operating}
 use Rattle.answer_laws.proofs.Ops.{operations_wait}
 use Rattle.answer_laws.proofs.Queued.{operations_queue}
 use Rattle.answer_laws.proofs.Serves.{each_served}
-use Rattle.answer_laws.proofs.Tally.{one_if, only_one, tally, tally_in}
+use Rattle.answer_laws.proofs.Tally.{one_if, only_one, tally_in}
 use Rattle.answer_laws.proofs.TcSends.{same_tx-self}
 use Rattle.answer_laws.proofs.Totals.{total, total_at}
 use Rattle.answer_laws.proofs.Verified.{no_epoch}
@@ -46,9 +43,9 @@ use Rattle.transit_laws.proofs.Routes.{signals_are_routed}
 use Rattle.transit_laws.proofs.TransitRuns.{runs_have_transit}
 use Rattle.transit_laws.specs.GivenUp.{is_given_up}
 use Rattle.transit_laws.specs.Live.{live_at}
-use Rattle.transit_laws.specs.Routes.{AreRouted, IsAskedRouted, IsHostRouted, IsRequestRouted, IsTransactionRouted, replicas}
-use Rattle.transit_laws.specs.Tokens.{budget_by, budget_of, tokens_in, waiting_all, waiting_in}
-use Rattle.transit_laws.specs.Transit.{AreInTransit, IsRun, logs_of}
+use Rattle.transit_laws.specs.Routes.{IsAskedRouted, IsHostRouted, IsRequestRouted, IsTransactionRouted, replicas}
+use Rattle.transit_laws.specs.Tokens.{budget_by, waiting_all, waiting_in}
+use Rattle.transit_laws.specs.Transit.{IsRun, logs_of}
 use Rattle.command_laws.specs.Served.{EachIsHeldUp, IsHeldUp, IsHeldUpAt}
 
 -- two of them are no more than all
