@@ -1,6 +1,6 @@
 -- A commit of a transaction that takes commands ends in its being committed.
 use Rattle.std.proofs.Common.{◌≡◌, ◌⊎◌, ◌+◌, ℕ, zero, suc, Bool, true, false, List, [], ◌∷◌, ◌++◌, refl, sym, ap, ◌∙◌, subst, inl, inr, append_assoc, arith}
-use Rattle.std.specs.Prelude.{◌&&◌, Option, None, Some}
+use Rattle.std.specs.Prelude.{Option, None, Some}
 use Rattle.run_theory.specs.Cuts.{IsCut}
 use Rattle.run_theory.specs.Lists.{Each, IsIn}
 use Rattle.run_theory.proofs.Pasts.{each_before, each_from, each_map}
@@ -32,6 +32,7 @@ use Rattle.command_laws.proofs.First.{IsFirst, request_first}
 use Rattle.command_laws.proofs.Pushes.{calm_since, node_pushes}
 use Rattle.command_laws.proofs.Reported.{reported}
 use Rattle.command_laws.proofs.Since.{none_taken, sent_since}
+use Rattle.command_laws.proofs.Tests.{and_off, none_at}
 use Rattle.command_laws.specs.Served.{CommitsAreCommitted, IsServed, IsToldCommitted, named_in}
 
 -- at quiet no transaction is beginning
@@ -44,16 +45,12 @@ cut_at_first was now later first is cut zero = record { newer = later ++ first �
 cut_at_first was now later first is cut (suc h) = cut (suc h)
 
 request_pushes_none : (tx : TxId) (to : Place) (body : Body) → is_request body ≡ true → is_push_to tx to body ≡ false
-request_pushes_none tx to body is = by (is_tc to.block) (plain body is)
+request_pushes_none tx to body is = and_off (is_tc to.block) (plain body is)
   where
     plain : (b : Body) → is_request b ≡ true → push_of tx b ≡ false
     plain (Client (TcKeyReq one op)) r = cc
     plain (Client (TcRollbackReq one)) r = cc
     plain _ r = refl
-
-    by : (a : Bool) → push_of tx body ≡ false → (a && push_of tx body) ≡ false
-    by true p = p
-    by false p = refl
 
 pub sent_append : (start : Start) (test : Place → Body → Bool) (h : ℕ) (xs ys log : List LogStep) → sent_since start test h (xs ++ ys) log ≡ sent_since start test h xs (ys ++ log) + sent_since start test h ys log
 sent_append start test h [] ys log = omega arith
@@ -89,17 +86,10 @@ module _ (answered : EachIsAnswered) (start : Start) (was now : ℕ → List Log
   no_pushes zero = omega (arith, sent_append start (is_push_to tx) 0 f.later (f.first ∷ []) (was 0), (calm_since tx start f.later (f.first ∷ was 0) f.plain asked.calm).1, asked.pushes)
   no_pushes (suc h) = node_pushes start tx h (cut (suc h)).newer (was (suc h))
 
-  plain_push : (e : LogStep) → (is_request e.taken.body ≡ false → is_push_to tx e.taken.to e.taken.body ≡ false) → is_push_to tx e.taken.to e.taken.body ≡ false
-  plain_push e none = by (is_request e.taken.body) refl
-    where
-      by : (b : Bool) → is_request e.taken.body ≡ b → is_push_to tx e.taken.to e.taken.body ≡ false
-      by true is = request_pushes_none tx e.taken.to e.taken.body is
-      by false is = none is
-
   none_pushed : (h : ℕ) → Each (λ (e : LogStep). is_push_to tx e.taken.to e.taken.body ≡ false) (cut h).newer
   none_pushed h =
       each_map (λ (e : LogStep). is_request e.taken.body ≡ false → is_push_to tx e.taken.to e.taken.body ≡ false) (λ (e : LogStep). is_push_to tx e.taken.to e.taken.body ≡ false) (cut h).newer
-      plain_push (none_taken start was now served.before served.since cut (is_push_to tx) no_pushes h)
+      (none_at (is_push_to tx) (request_pushes_none tx)) (none_taken start was now served.before served.since cut (is_push_to tx) no_pushes h)
 
   -- nobody reports its abort, and so the shell's host isn't told of one
   no_backs : (h : ℕ) → sent_since start (is_back tx) h (cut h).newer (was h) ≡ 0

@@ -35,6 +35,7 @@ use Rattle.answer_laws.proofs.TcSends.{same_tx-self, tx_in}
 use Rattle.command_laws.proofs.LqhFair.{is_fair}
 use Rattle.command_laws.proofs.PhaseSends.{HasChains, aborts_of_kind, entering_of_kind, go_on_of_kind}
 use Rattle.command_laws.proofs.Turns.{turn_by}
+use Rattle.command_laws.proofs.Tests.{one_kind}
 use Rattle.command_laws.specs.Served.{is_refusal}
 
 -- it is aborted for want of room or of time
@@ -69,10 +70,6 @@ pub record IsLeaving (turn : Turn) : Type 0 where
 abbrev pub EarlyTurn : TxId → Transaction → Turn → Type 0
 EarlyTurn tx t turn = StaysOpen tx t turn ⊎ IsLeaving turn
 
-one_of : (b : Bool) → b ≡ true → (if b then true else false) ≡ true
-one_of true e = refl
-one_of false e = cc
-
 chains : (tx : TxId) → HasChains tx is_no_end
 chains tx = record { commits = λ key epoch chain at. refl; completes = λ key chain at. refl; aborts = λ key. refl; goes_on = λ at. refl }
 
@@ -100,7 +97,7 @@ part_none kind node tx at goes sends none =
     of_append kind (take 8 (drop at sends)) (rest_if node tx at (nat_lt (at + 8) (length sends))) (of_take kind 8 (drop at sends) (of_drop kind at sends (ap (are_of kind) none))) (by (nat_lt (at + 8) (length sends)))
   where
     by : (b : Bool) → are_of kind (rest_if node tx at b) ≡ true
-    by true = one_of (kind (Host (Continue (work.Transaction tx) (at + 8)))) (goes (at + 8))
+    by true = one_kind (kind (Host (Continue (work.Transaction tx) (at + 8)))) (goes (at + 8))
     by false = refl
 
 module _ (node : ℕ) (view : View) (tx : TxId) (t : Transaction) where
@@ -154,8 +151,8 @@ module _ (node : ℕ) (view : View) (tx : TxId) (t : Transaction) where
         by None = stays_open
 
     end_kind : (why : AbortCause) (verifying : Bool) → is_refusal why ≡ true → are_of is_no_end (abort.abort_end node tx why verifying) ≡ true
-    end_kind why true e = one_of (is_refusal why) e
-    end_kind why false e = one_of (is_refusal why) e
+    end_kind why true e = one_kind (is_refusal why) e
+    end_kind why false e = one_kind (is_refusal why) e
 
     abort_open : (u : Transaction) (why : AbortCause) → is_refusal why ≡ true → IsLeaving (abort.aborted_for node view tx u why)
     unfolding abort.aborted_for entering
@@ -289,8 +286,8 @@ module _ (node : ℕ) (view : View) (tx : TxId) (t : Transaction) where
     aborted_past = by t.phase refl
       where
         end_of : (why : AbortCause) (verifying : Bool) → is_refusal why ≡ true → are_of is_no_end (abort.abort_end node tx why verifying) ≡ true
-        end_of why true e = one_of (is_refusal why) e
-        end_of why false e = one_of (is_refusal why) e
+        end_of why true e = one_kind (is_refusal why) e
+        end_of why false e = one_kind (is_refusal why) e
 
         in_if : (why : AbortCause) (verifying : Bool) (awaited : ℕ) (b : Bool) → is_refusal why ≡ true → IsLeaving (abort.aborted_if node tx t why verifying awaited b)
         in_if why verifying awaited true e = record { past = λ off. e; ends = refl }

@@ -28,6 +28,7 @@ pub mod Since
 pub mod TcPath
 pub mod TellsOnce
 pub mod TellsSince
+pub mod Tests
 pub mod Told
 pub mod TurnTells
 pub mod Turns

@@ -53,6 +53,7 @@ use Rattle.command_laws.proofs.Since.{few_taken, front_nil, none_taken, sent_sin
 use Rattle.command_laws.proofs.TellsOnce.{HasTold, IsOneOfThree, is_wish_back_to, wish_back_of}
 use Rattle.command_laws.proofs.TellsSince.{OnTc, away_since, shell_since, since_none, tells_since}
 use Rattle.command_laws.proofs.TurnTells.{is_reply}
+use Rattle.command_laws.proofs.Tests.{and_off, none_at}
 use Rattle.command_laws.specs.Served.{IsAnsweredAlone, IsCommittedAlone, IsServed, LoneAreCommitted}
 
 -- signals that one host alone sent were taken from that host
@@ -84,37 +85,25 @@ request_plain_key tx to body is = plain body (last_of (is_tc to.block) (key_of_t
     plain _ e = cc
 
 no_key_node : (tx : TxId) (to : Place) (body : Body) → is_node_kind body ≡ true → is_key tx to body ≡ false
-no_key_node tx to body e = by (is_tc to.block) (plain body e)
+no_key_node tx to body e = and_off (is_tc to.block) (plain body e)
   where
     plain : (b : Body) → is_node_kind b ≡ true → key_of_tx tx b ≡ false
     plain (Client (TcKeyReq one op)) k = cc
     plain _ k = refl
 
-    by : (a : Bool) → key_of_tx tx body ≡ false → (a && key_of_tx tx body) ≡ false
-    by true p = p
-    by false p = refl
-
 no_wish_node : (tx : TxId) (to : Place) (body : Body) → is_node_kind body ≡ true → is_wish_back_to tx to body ≡ false
-no_wish_node tx to body e = by (is_tc to.block) (plain body e)
+no_wish_node tx to body e = and_off (is_tc to.block) (plain body e)
   where
     plain : (b : Body) → is_node_kind b ≡ true → wish_back_of tx b ≡ false
     plain (Client (TcRollbackReq one)) k = cc
     plain _ k = refl
 
-    by : (a : Bool) → wish_back_of tx body ≡ false → (a && wish_back_of tx body) ≡ false
-    by true p = p
-    by false p = refl
-
 request_plain_wish : (tx : TxId) (to : Place) (body : Body) → is_request body ≡ true → is_wish_back_to tx to body ≡ false
-request_plain_wish tx to body is = by (is_tc to.block) (plain body is)
+request_plain_wish tx to body is = and_off (is_tc to.block) (plain body is)
   where
     plain : (b : Body) → is_request b ≡ true → wish_back_of tx b ≡ false
     plain (Client (TcRollbackReq one)) r = cc
     plain _ r = refl
-
-    by : (a : Bool) → wish_back_of tx body ≡ false → (a && wish_back_of tx body) ≡ false
-    by true p = p
-    by false p = refl
 
 fewer_asked : (tx : TxId) (live : List (TxId × Transaction)) → tally (is_asked tx) live ≤ tally (is_keyed tx) live
 fewer_asked tx [] = omega arith
@@ -144,17 +133,10 @@ module _ (start : Start) (was now : ℕ → List LogStep) (op : Op) (served : Is
         omega (arith, sent_append start (is_wish_back_to tx) 0 f.later (f.first ∷ []) (was 0), (asks_since tx start f.later (f.first ∷ was 0) f.plain).0, first.wishes)
     no_wishes (suc h) = node_since start (is_wish_back_to tx) (no_wish_node tx) h (cut (suc h)).newer (was (suc h))
 
-    plain_wish : (e : LogStep) → (is_request e.taken.body ≡ false → is_wish_back_to tx e.taken.to e.taken.body ≡ false) → is_wish_back_to tx e.taken.to e.taken.body ≡ false
-    plain_wish e none = by (is_request e.taken.body) refl
-      where
-        by : (b : Bool) → is_request e.taken.body ≡ b → is_wish_back_to tx e.taken.to e.taken.body ≡ false
-        by true is = request_plain_wish tx e.taken.to e.taken.body is
-        by false is = none is
-
     none_wished : (h : ℕ) → Each (λ (e : LogStep). is_wish_back_to tx e.taken.to e.taken.body ≡ false) (cut h).newer
     none_wished h =
         each_map (λ (e : LogStep). is_request e.taken.body ≡ false → is_wish_back_to tx e.taken.to e.taken.body ≡ false) (λ (e : LogStep). is_wish_back_to tx e.taken.to e.taken.body ≡ false) (cut h).newer
-        plain_wish (none_taken start was now served.before served.since cut (is_wish_back_to tx) no_wishes h)
+        (none_at (is_wish_back_to tx) (request_plain_wish tx)) (none_taken start was now served.before served.since cut (is_wish_back_to tx) no_wishes h)
 
     -- an operation is asked for at most once since it has begun
     few_keys : (h : ℕ) → steps (is_key tx) (cut (suc h)).newer ≤ steps (is_start tx) f.later

@@ -35,6 +35,7 @@ use Rattle.lqh_block.specs.Storage as storage
 use Rattle.lqh_block.specs.Storage.{StorageState}
 use Rattle.lqh_block.specs.Wait as wait
 use Rattle.answer_laws.proofs.SendKinds.{SendsOnly, are_of, of_append}
+use Rattle.command_laws.proofs.Tests.{one_kind}
 use Rattle.command_laws.specs.Served.{is_refusal}
 
 -- all but an abort of the transaction, and the refusal of its operation for another cause
@@ -42,10 +43,6 @@ abbrev pub is_fair : TxId → Body → Bool
 is_fair own (Chain (Abort tx key)) = not (same_tx tx own)
 is_fair own (Chain (LqhKeyRef tx key why)) = if is_refusal why then true else not (same_tx tx own)
 is_fair own _ = true
-
-one_of : (b : Bool) → b ≡ true → (if b then true else false) ≡ true
-one_of true e = refl
-one_of false e = cc
 
 module _ (own : TxId) where
   granted_kinds : (node : ℕ) (b : Bool) → are_of (is_fair own) (go_on_if node work.Granted b) ≡ true
@@ -133,7 +130,7 @@ module _ (own : TxId) where
   -- what is aborted
   refused_kinds : (tx : TxId) (key : List ℕ) (at : Option ℕ) → not (same_tx tx own) ≡ true → are_of (is_fair own) (abort.refused_by tx key at) ≡ true
   refused_kinds tx key None e = refl
-  refused_kinds tx key (Some at) e = one_of (not (same_tx tx own)) e
+  refused_kinds tx key (Some at) e = one_kind (not (same_tx tx own)) e
 
   abort_kinds : (s : LqhState) (tx : TxId) (key : List ℕ) → not (same_tx tx own) ≡ true → SendsOnly (is_fair own) (abort.abort_row s tx key)
   unfolding abort.abort_row

@@ -1,7 +1,7 @@
 -- The step that asks for an operation, and that no commit or abort of its transaction is wished for then.
 use Rattle.std.proofs.Common.{◌≡◌, ◌<◌, ◌+◌, ℕ, Bool, true, false, List, [], ◌∷◌, ◌++◌, refl, sym, ap, ◌∙◌, subst, arith}
 use Rattle.std.proofs.lemmas.Bool.Decides.{nat_tests}
-use Rattle.std.specs.Prelude.{◌&&◌, Some, is_some, nat_lt}
+use Rattle.std.specs.Prelude.{Some, is_some, nat_lt}
 use Rattle.run_theory.specs.Lists.{Each, IsIn}
 use Rattle.sig_core.specs.declared.log.LogStep.{LogStep}
 use Rattle.sig_core.specs.declared.member.TxId.{TxId}
@@ -44,6 +44,7 @@ use Rattle.command_laws.proofs.EarlySteps.{is_wish_to, wish_of}
 use Rattle.command_laws.proofs.Entries.{HasOne, IsNamed, NoneBegins, named_found}
 use Rattle.command_laws.proofs.Pushes.{is_node_kind, node_sends_node}
 use Rattle.command_laws.proofs.Since.{sent_since}
+use Rattle.command_laws.proofs.Tests.{and_off}
 use Rattle.command_laws.specs.Served.{named_in}
 
 module _ (tx : TxId) where
@@ -53,28 +54,20 @@ module _ (tx : TxId) where
     pub named : Each (λ (t : OpenTransaction). has_tx tx t ≡ true → is_some t.name ≡ true) opened
 
   no_wish_news : (to : Place) (body : Body) → is_news_kind body ≡ true → is_wish_to tx to body ≡ false
-  no_wish_news to body e = by (is_tc to.block) (plain body e)
+  no_wish_news to body e = and_off (is_tc to.block) (plain body e)
     where
       plain : (b : Body) → is_news_kind b ≡ true → wish_of tx b ≡ false
       plain (Client (TcCommitReq one)) k = cc
       plain (Client (TcRollbackReq one)) k = cc
       plain _ k = refl
 
-      by : (a : Bool) → wish_of tx body ≡ false → (a && wish_of tx body) ≡ false
-      by true p = p
-      by false p = refl
-
   pub no_wish_node : (to : Place) (body : Body) → is_node_kind body ≡ true → is_wish_to tx to body ≡ false
-  no_wish_node to body e = by (is_tc to.block) (plain body e)
+  no_wish_node to body e = and_off (is_tc to.block) (plain body e)
     where
       plain : (b : Body) → is_node_kind b ≡ true → wish_of tx b ≡ false
       plain (Client (TcCommitReq one)) k = cc
       plain (Client (TcRollbackReq one)) k = cc
       plain _ k = refl
-
-      by : (a : Bool) → wish_of tx body ≡ false → (a && wish_of tx body) ≡ false
-      by true p = p
-      by false p = refl
 
   -- a step keeps that, and wishes for no commit or abort of it
   pub record KeepsNamed (opened : List OpenTransaction) (sends : List Outgoing) : Type 0 where

@@ -1,6 +1,6 @@
 -- An operation of a transaction that takes commands is answered, or refused for want of room or of time, or waits for a lock.
 use Rattle.std.proofs.Common.{◌≡◌, ◌⊎◌, ◌<◌, ℕ, zero, suc, Bool, true, false, List, [], ◌∷◌, ◌++◌, refl, sym, ap, ◌∙◌, subst, inl, inr, append_assoc, arith}
-use Rattle.std.specs.Prelude.{◌&&◌, Option, Some, drop, if◌then◌else◌, is_some, length, not}
+use Rattle.std.specs.Prelude.{Option, Some, drop, if◌then◌else◌, is_some, length, not}
 use Rattle.run_theory.specs.Cuts.{IsCut}
 use Rattle.run_theory.specs.Lists.{Each, IsIn, IsPast}
 use Rattle.run_theory.proofs.Pasts.{each_from, each_in, each_map}
@@ -50,19 +50,16 @@ use Rattle.command_laws.proofs.Since.{none_taken, sent_since}
 use Rattle.command_laws.proofs.TellsSince.{OnTc}
 use Rattle.command_laws.proofs.Told.{told_since}
 use Rattle.command_laws.proofs.WaitRows.{in_live}
+use Rattle.command_laws.proofs.Tests.{and_off, none_at}
 use Rattle.command_laws.specs.Served.{IsAnsweredAs, IsRefusedAs, IsServed, OperationsAreAnswered, StillWaits, is_refusal, named_in, replies_since}
 
 request_plain_wish : (tx : TxId) (to : Place) (body : Body) → is_request body ≡ true → is_wish_to tx to body ≡ false
-request_plain_wish tx to body is = by (is_tc to.block) (plain body is)
+request_plain_wish tx to body is = and_off (is_tc to.block) (plain body is)
   where
     plain : (b : Body) → is_request b ≡ true → wish_of tx b ≡ false
     plain (Client (TcCommitReq one)) r = cc
     plain (Client (TcRollbackReq one)) r = cc
     plain _ r = refl
-
-    by : (a : Bool) → wish_of tx body ≡ false → (a && wish_of tx body) ≡ false
-    by true p = p
-    by false p = refl
 
 -- an end that isn't bad is an abort for want of room or of time
 ends_well : (tx : TxId) (body : Body) (end : Outcome) → outcome_in body ≡ Some (tx, end) → is_good tx body ≡ true → (cause : AbortCause) × ((end ≡ outcome.Aborted cause) × (is_refusal cause ≡ true))
@@ -135,14 +132,7 @@ module _ (answered : EachIsAnswered) (start : Start) (was now : ℕ → List Log
   none_wished : (h : ℕ) → Each (λ (e : LogStep). is_wish_to tx e.taken.to e.taken.body ≡ false) (cut h).newer
   none_wished h =
       each_map (λ (e : LogStep). is_request e.taken.body ≡ false → is_wish_to tx e.taken.to e.taken.body ≡ false) (λ (e : LogStep). is_wish_to tx e.taken.to e.taken.body ≡ false) (cut h).newer
-      plain (none_taken start was now served.before served.since cut (is_wish_to tx) no_wishes h)
-    where
-      plain : (e : LogStep) → (is_request e.taken.body ≡ false → is_wish_to tx e.taken.to e.taken.body ≡ false) → is_wish_to tx e.taken.to e.taken.body ≡ false
-      plain e none = by (is_request e.taken.body) refl
-        where
-          by : (b : Bool) → is_request e.taken.body ≡ b → is_wish_to tx e.taken.to e.taken.body ≡ false
-          by true is = request_plain_wish tx e.taken.to e.taken.body is
-          by false is = none is
+      (none_at (is_wish_to tx) (request_plain_wish tx)) (none_taken start was now served.before served.since cut (is_wish_to tx) no_wishes h)
 
   none_bad : Each (λ (e : LogStep). is_request e.taken.body ≡ false → is_bad tx e.taken.to e.taken.body ≡ false) (f.later ++ f.first ∷ [])
   none_bad = none_taken start was now served.before served.since cut (is_bad tx) (no_bad start was now served.before served.since cut tx none_wished open_was) 0

@@ -29,6 +29,7 @@ use Rattle.answer_laws.proofs.SendKinds.{are_of, of_map}
 use Rattle.answer_laws.proofs.TcSends.{same_tx-self}
 use Rattle.command_laws.proofs.PhaseSends.{HasChains, aborts_of_kind, entering_of_kind, go_on_of_kind}
 use Rattle.command_laws.proofs.Turns.{turn_by}
+use Rattle.command_laws.proofs.Tests.{one_kind}
 
 -- what a coordinator sends of the transaction
 abbrev pub is_own_kind : TxId → Body → Bool
@@ -45,10 +46,6 @@ is_own_kind tx (Epoch (DiVerifyEnd other)) = same_tx other tx
 is_own_kind tx (Host (Continue (work.Transaction other) at)) = same_tx other tx
 is_own_kind tx _ = false
 
-one_of : (b : Bool) → b ≡ true → (if b then true else false) ≡ true
-one_of true e = refl
-one_of false e = cc
-
 two_of : (b : Bool) → b ≡ true → (if b then (if b then true else false) else false) ≡ true
 two_of true e = refl
 two_of false e = cc
@@ -62,7 +59,7 @@ module _ (tx : TxId) where
 
   fronts : (phase : Phase) → are_of (is_own_kind tx) (front_sends tx phase) ≡ true
   unfolding front_sends
-  fronts (Completing epoch awaited) = one_of (same_tx tx tx) self
+  fronts (Completing epoch awaited) = one_kind (same_tx tx tx) self
   fronts (Committing epoch awaited) = refl
   fronts (Aborting cause verifying awaited) = refl
   fronts Open = refl
@@ -80,7 +77,7 @@ module _ (tx : TxId) where
     operate_own op = by (operate.can_operate t op)
       where
         by : (b : Bool) → are_of (is_own_kind tx) (operate.operate_if view tx t op b).effects.sends ≡ true
-        by true = one_of (same_tx tx tx) self
+        by true = one_kind (same_tx tx tx) self
         by false = refl
 
     late_own : (key : List ℕ) → are_of (is_own_kind tx) (operate.late_answer view tx t key).effects.sends ≡ true
@@ -91,7 +88,7 @@ module _ (tx : TxId) where
     answer_own key answer = by (operate.asked_on t.asked key) t.phase
       where
         by : (o : Option Asked) (phase : Phase) → are_of (is_own_kind tx) (operate.answer_by view tx t key answer o phase).effects.sends ≡ true
-        by (Some asked) Open = one_of (same_tx tx tx) self
+        by (Some asked) Open = one_kind (same_tx tx tx) self
         by (Some asked) (Aborting why verifying awaited) = late_own key
         by (Some asked) Verifying = refl
         by (Some asked) (Committing epoch awaited) = refl
@@ -100,7 +97,7 @@ module _ (tx : TxId) where
 
     end_own : (why : AbortCause) (verifying : Bool) → are_of (is_own_kind tx) (abort.abort_end node tx why verifying) ≡ true
     end_own why true = two_of (same_tx tx tx) self
-    end_own why false = one_of (same_tx tx tx) self
+    end_own why false = one_kind (same_tx tx tx) self
 
     abort_own : (u : Transaction) (why : AbortCause) → are_of (is_own_kind tx) (abort.aborted_for node view tx u why).step.effects.sends ≡ true
     unfolding abort.aborted_for
@@ -153,7 +150,7 @@ module _ (tx : TxId) where
     decide_own = by (operate.is_ready t.phase t.asked)
       where
         by : (b : Bool) → are_of (is_own_kind tx) (commit.decide_if node tx t b).effects.sends ≡ true
-        by true = one_of (same_tx tx tx) self
+        by true = one_kind (same_tx tx tx) self
         by false = refl
 
     all_committed_own : (epoch : ℕ) → are_of (is_own_kind tx) (complete.all_committed node view tx t epoch).step.effects.sends ≡ true
@@ -200,7 +197,7 @@ module _ (tx : TxId) where
       where
         in_if : (epoch awaited : ℕ) (b : Bool) → are_of (is_own_kind tx) (complete.completed_if node tx t epoch awaited b).step.effects.sends ≡ true
         in_if epoch awaited true = refl
-        in_if epoch awaited false = one_of (same_tx tx tx) self
+        in_if epoch awaited false = one_kind (same_tx tx tx) self
 
         by : (phase : Phase) → are_of (is_own_kind tx) (complete.completed_by node tx t phase).step.effects.sends ≡ true
         by (Completing epoch awaited) = in_if epoch awaited (nat_lt 1 awaited)

@@ -40,8 +40,10 @@ use Rattle.answer_laws.proofs.TcMoves.{same_tx-is}
 use Rattle.answer_laws.proofs.TcSends.{eqb-self, same_tx-self}
 use Rattle.answer_laws.proofs.Wishes.{is_api, is_tc, sends_of, to_node}
 use Rattle.commit_laws.proofs.Firsts.{place_by, position-cons}
+use Rattle.commit_laws.proofs.Keys.{same_key-self}
 use Rattle.commit_laws.proofs.LiveSplit.{split_at}
 use Rattle.transit_laws.specs.Live.{of_live}
+use Rattle.command_laws.proofs.Tests.{one_kind}
 
 -- a question of what the transaction waits for, or an answer to one
 abbrev pub is_wait_of : TxId → Body → Bool
@@ -95,10 +97,6 @@ same_key-is (x ∷ a) (y ∷ b) e = by (nat_eq x y) refl e (same_key-is a b)
     by : (c : Bool) → nat_eq x y ≡ c → (c && same_key a b) ≡ true → (same_key a b ≡ true → a ≡ b) → x ∷ a ≡ y ∷ b
     by true is both rest = let first : x ≡ y = grind (arith, nat_tests, is) in ap (λ n. n ∷ a) first ∙ ap (λ w. y ∷ w) (rest both)
     by false is both rest = cc
-
-same_key-same : (key : List ℕ) → same_key key key ≡ true
-same_key-same [] = refl
-same_key-same (byte ∷ key) = true_and (nat_eq byte byte) (same_key key key) (eqb-self byte) (same_key-same key)
 
 -- one of a list stands among what is made of it
 in_made : {A B : Type 0} (g : A → B) (x : A) (xs : List A) → IsIn x xs → IsIn (g x) (map g xs)
@@ -156,10 +154,6 @@ module _ (tx : TxId) where
   of_kind_step : {S : Type 0} (s : S) (step : Step S) → step.state ≡ s → are_of (is_wait_of tx) step.effects.sends ≡ true → IsQuietStep s step
   of_kind_step s step same kind = record { same = same; plain = none_of (is_wait_of tx) (is_other tx) no_other step.effects.sends kind }
 
-  one_of_kind : (b : Bool) → b ≡ true → (if b then true else false) ≡ true
-  one_of_kind true e = refl
-  one_of_kind false e = cc
-
   waits_kind : (one : TxId) (key : List ℕ) (members : List Member) → same_tx one tx ≡ true → are_of (is_wait_of tx) (waits_of one key members) ≡ true
   waits_kind one key members e = of_map (is_wait_of tx) (wait_of one key) members (λ m. e)
 
@@ -194,7 +188,7 @@ module _ (tx : TxId) where
       at_place (Some at) is = at_value at is (slice_get (values_of s.live) at) refl
 
   pass_step : (s : TcState) (one ahead : TxId) (b : Bool) → same_tx one tx ≡ true → IsQuietStep s (pass_if s one ahead b)
-  pass_step s one ahead true e = of_kind_step s (pass_if s one ahead true) refl (one_of_kind (same_tx one tx) e)
+  pass_step s one ahead true e = of_kind_step s (pass_if s one ahead true) refl (one_kind (same_tx one tx) e)
   pass_step s one ahead false e = of_kind_step s (pass_if s one ahead false) refl refl
 
   tc_waits : (s : TcState) (body : Body) → is_wait_of tx body ≡ true → IsQuietStep s (tc_row s body)
@@ -214,7 +208,7 @@ module _ (tx : TxId) where
 
   find_step : (s : LqhState) (one : TxId) (o : Option TxId) → same_tx one tx ≡ true → IsQuietStep s (lqh.wait_by s one o)
   find_step s one None e = of_kind_step s _ refl refl
-  find_step s one (Some ahead) e = of_kind_step s (lqh.wait_by s one (Some ahead)) refl (one_of_kind (same_tx one tx) e)
+  find_step s one (Some ahead) e = of_kind_step s (lqh.wait_by s one (Some ahead)) refl (one_kind (same_tx one tx) e)
 
   lqh_waits : (s : LqhState) (body : Body) → is_wait_of tx body ≡ true → IsQuietStep s (lqh_row s body)
   unfolding lqh.wait_row
@@ -244,7 +238,7 @@ module _ (tx : TxId) where
       subst (λ (step : Step TcState). 1 ≤ sends_of (to_node member.node (is_probe tx (key_of asked.op))) step.effects.sends) (sym there)
       (tally_in (λ (x : Outgoing). to_node member.node (is_probe tx (key_of asked.op)) x.to x.body) (wait_of tx (key_of asked.op) member) (waits_of tx (key_of asked.op) asked.chain)
       (in_made (wait_of tx (key_of asked.op)) member asked.chain inside)
-      (true_and (member.node == member.node) _ (eqb-self member.node) (true_and (same_tx tx tx) (same_key (key_of asked.op) (key_of asked.op)) (same_tx-self tx) (same_key-same (key_of asked.op)))))
+      (true_and (member.node == member.node) _ (eqb-self member.node) (true_and (same_tx tx tx) (same_key (key_of asked.op) (key_of asked.op)) (same_tx-self tx) (same_key-self (key_of asked.op)))))
     where
       p : IsPlacedAt tx t s.live
       p = placed_at tx s.live t live
