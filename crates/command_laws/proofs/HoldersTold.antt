@@ -1,6 +1,6 @@
 -- The two questions about a command that left something unanswered tell for whom that waits.
 use Rattle.std.proofs.Common.{◌≡◌, ◌<◌, ◌≤◌, ◌+◌, ℕ, zero, suc, Bool, true, false, List, [], ◌∷◌, ◌++◌, length, refl, sym, ap, ◌∙◌, subst, append_assoc, arith}
-use Rattle.std.specs.Prelude.{◌&&◌, Option, None, Some, drop, is_some, option_to_list}
+use Rattle.std.specs.Prelude.{◌&&◌, Option, None, Some, drop, is_some, option_to_list, slice_get}
 use Rattle.run_theory.specs.Cuts.{IsCut}
 use Rattle.run_theory.specs.Links.{is_from}
 use Rattle.run_theory.specs.Lists.{IsIn}
@@ -18,11 +18,11 @@ use Rattle.sig_core.specs.Place.{client}
 use Rattle.api_block.specs.declared.opened.Doing.{Doing}
 use Rattle.api_block.specs.declared.opened.Doing.TheVariants.{Beginning, Ready, Operating, Committing}
 use Rattle.api_block.specs.declared.opened.OpenTransaction.{OpenTransaction}
-use Rattle.api_block.specs.Opened.{has_tx, is_tx, is_unanswered}
+use Rattle.api_block.specs.Opened.{has_tx, if_there, is_tx, is_unanswered, own_place, where_at}
 use Rattle.api_block.specs.State.{ApiState}
 use Rattle.node_core.specs.declared.host.Host as host
-use Rattle.node_core.specs.declared.host.Host.TheVariants.{Shell}
-use Rattle.node_core.specs.Replies.{replies_of}
+use Rattle.node_core.specs.declared.host.Host.TheVariants.{Shell, Node}
+use Rattle.node_core.specs.Replies.{is_left_open, replies_of}
 use Rattle.node_core.specs.Row.{row}
 use Rattle.tc_block.specs.declared.transaction.Transaction.{Transaction}
 use Rattle.world_core.specs.Machine.{after, hosts, machine, step_after}
@@ -225,13 +225,40 @@ module _ (answered : EachIsAnswered) (held_up : EachIsHeldUp) (start : Start) (w
       (subst (λ body. TellsHolder t.name (after start 0 (mid 0)) (row (after start 0 (mid 0)) client body)) (sym then.body)
       (pending_first (after start 0 (mid 0)) i.first.front t i.first.back i.name all.shell.ahead about unanswered i.first.none i.first.passes ahead_known))
 
-  holder_told : IsToldHolder start mid now t.name
+  holder_told : IsToldHolder start was mid now
   holder_told = record {
+    own = t;
+    is = own;
     holder = tells.holder;
     told = subst (λ log. IsIn (Pending t.name (HeldBy tells.holder)) (drop (length (replies_of (after start 0 (mid 0)))) (replies_of (after start 0 log)))) (sym then.is)
         (told_since start (mid 0) (mid 0) then.later then.first (Pending t.name (HeldBy tells.holder)) (past_self (mid 0)) tells.told);
   }
 
+-- the own transaction of a host whose last command left it unanswered
+record IsLeft (g : host.Host) : Type 0 where
+  t : OpenTransaction
+  own : own_in g ≡ Some t
+  unanswered : is_unanswered t.doing ≡ true
+
+left_own : (g : host.Host) → is_left_open g ≡ true → IsLeft g
+unfolding is_left_open
+left_own (Node n) left = cc
+left_own (Shell s) left = at_place (own_place s) refl left
+  where
+    at_get : (at : ℕ) (x : Option OpenTransaction) → own_place s ≡ Some at → slice_get s.opened at ≡ x → if_there false (λ (y : OpenTransaction). is_unanswered y.doing) x ≡ true → IsLeft (Shell s)
+    at_get at None place get is = cc
+    at_get at (Some y) place get is = record {
+      t = y;
+      own = ap (where_at s.opened None (λ p (x : OpenTransaction). Some x)) place ∙ ap (if_there None (λ (x : OpenTransaction). Some x)) get;
+      unanswered = is;
+    }
+
+    at_place : (o : Option ℕ) → own_place s ≡ o → where_at s.opened false (λ at (y : OpenTransaction). is_unanswered y.doing) o ≡ true → IsLeft (Shell s)
+    at_place None place is = cc
+    at_place (Some at) place is = at_get at (slice_get s.opened at) place refl is
+
 -- so it is where each command is answered, but for an operation that is held up
 pub holders_told : EachIsAnswered → EachIsHeldUp → HoldersAreTold
-holders_told answered held_up start was mid now t first_served then_served own unanswered = holder_told answered held_up start was mid now t first_served then_served own unanswered
+holders_told answered held_up start was mid now first_served then_served left =
+    let own = left_own (after start 0 (was 0)) left in
+    holder_told answered held_up start was mid now own.t first_served then_served own.own own.unanswered

@@ -20,13 +20,13 @@ use Rattle.sig_core.specs.declared.request.ApiReq.TheVariants as request
 use Rattle.sig_core.specs.Op.{key_of}
 use Rattle.api_block.specs.declared.opened.Doing.TheVariants.{Operating, Ready}
 use Rattle.api_block.specs.declared.opened.OpenTransaction.{OpenTransaction}
-use Rattle.api_block.specs.Opened.{is_named, is_unanswered, own_place, where_at}
+use Rattle.api_block.specs.Opened.{is_named, own_place, where_at}
 use Rattle.row_locks.specs.Tables.{ahead_at}
 use Rattle.tc_block.specs.declared.phase.Asked.{Asked}
 use Rattle.tc_block.specs.declared.transaction.Transaction.{Transaction}
 use Rattle.node_core.specs.declared.host.Host.{Host}
 use Rattle.node_core.specs.declared.host.Host.TheVariants.{Shell, Node}
-use Rattle.node_core.specs.Replies.{replies_of}
+use Rattle.node_core.specs.Replies.{is_left_open, replies_of}
 use Rattle.world_core.specs.Machine.{after}
 use Rattle.world_core.specs.Requests.{requests}
 use Rattle.world_core.specs.Start.{Start}
@@ -110,17 +110,18 @@ pub record IsHeldUp (start : Start) (logs : ℕ → List LogStep) (tx : TxId) : 
 abbrev pub EachIsHeldUp : Type 0
 EachIsHeldUp = EachAtQuiet (λ start logs t. (tx : TxId) → t.tx ≡ Some tx → t.doing ≡ Operating → IsHeldUp start logs tx)
 
--- who holds what the transaction of this name waits for was told since then
-pub record IsToldHolder (start : Start) (was now : ℕ → List LogStep) (name : Option ℕ) : Type 0 where
+-- who holds what the own transaction of then waits for was told since then
+pub record IsToldHolder (start : Start) (was mid now : ℕ → List LogStep) : Type 0 where
+  pub own : OpenTransaction
+  pub is : own_in (after start 0 (was 0)) ≡ Some own
   pub holder : Option ℕ
-  pub told : IsIn (Pending name (HeldBy holder)) (replies_since start was now)
+  pub told : IsIn (Pending own.name (HeldBy holder)) (replies_since start mid now)
 
 -- where a command left something of its own unanswered, the two questions about it tell for whom that waits
 abbrev pub HoldersAreTold : Type 0
 HoldersAreTold =
-    (start : Start) (was mid now : ℕ → List LogStep) (t : OpenTransaction) → IsServed start was mid request.Waits → IsServed start mid now request.Pending
-    → own_in (after start 0 (was 0)) ≡ Some t → is_unanswered t.doing ≡ true
-    → IsToldHolder start mid now t.name
+    (start : Start) (was mid now : ℕ → List LogStep) → IsServed start was mid request.Waits → IsServed start mid now request.Pending → is_left_open (after start 0 (was 0)) ≡ true
+    → IsToldHolder start was mid now
 
 -- there is no room or no time for an operation
 abbrev pub is_refusal : AbortCause → Bool
