@@ -1,4 +1,5 @@
 pub mod ApiChanges
+pub mod ComesTo
 pub mod CommitFirst
 pub mod CommitGoes
 pub mod Committed
@@ -32,6 +33,7 @@ pub mod TellsSince
 pub mod Tests
 pub mod Told
 pub mod TurnTells
+pub mod TurnedDown
 pub mod Turns
 pub mod WaitApi
 pub mod WaitHosts

@@ -4,6 +4,7 @@
 mod commands;
 
 pub use commands::{
-    a_commit_is_served, commits_are_committed, each_operation_is_held_up, holders_are_told,
-    lone_operations_are_committed, operations_are_answered,
+    a_commit_is_served, commits_are_committed, commits_come_to_something,
+    each_operation_is_held_up, holders_are_told, lone_operations_are_committed,
+    operations_are_answered, operations_come_to_something,
 };
