@@ -23,7 +23,9 @@ pub mod OwnSends
 pub mod PhaseSends
 pub mod Places
 pub mod Pushes
+pub mod QuietCuts
 pub mod Reported
+pub mod ServedBetween
 pub mod Since
 pub mod TcPath
 pub mod TellsOnce
