@@ -1,11 +1,11 @@
 -- Each request is served between two quiet moments: the one at which it is asked for, and the next one at which a
 -- request is asked for, or the end.
-use Rattle.std.proofs.Common.{◌≡◌, ◌⊎◌, ◌≤◌, ℕ, Bool, true, false, List, [], ◌∷◌, ◌++◌, refl, sym, ap, ◌∙◌, subst, inl, inr, append_assoc}
+use Rattle.std.proofs.Common.{◌≡◌, ◌⊎◌, ◌≤◌, ℕ, true, false, List, [], ◌∷◌, ◌++◌, refl, sym, ap, ◌∙◌, inl, inr, append_assoc}
 use Rattle.std.proofs.lemmas.Bool.{false≢true}
 use Rattle.std.proofs.lemmas.List.{append-nil}
 use Rattle.std.specs.Prelude.{Option, None, Some, option_to_list}
 use Rattle.run_theory.specs.Cuts.{IsCut}
-use Rattle.run_theory.specs.Lists.{Each, IsPast}
+use Rattle.run_theory.specs.Lists.{IsPast}
 use Rattle.run_theory.specs.Runs.{AreLogs, IsWithin}
 use Rattle.run_theory.proofs.Along.{within_cut}
 use Rattle.run_theory.proofs.Pasts.{each_after, past_self}
@@ -22,27 +22,14 @@ use Rattle.world_core.specs.Quiet.{IsQuiet}
 use Rattle.world_core.specs.Requests.{AreAskedAtQuiet, QuietBefore, request_in, requests}
 use Rattle.world_core.specs.Start.{Start}
 use Rattle.answer_laws.specs.Answered.{AreQuiet}
-use Rattle.command_laws.proofs.First.{fits_asked}
-use Rattle.command_laws.proofs.QuietCuts.{AreOfLogs, IsAskedAtFirst, quiet_cut}
+use Rattle.command_laws.proofs.First.{fits_asked, no_requests, requests_append}
+use Rattle.command_laws.proofs.QuietCuts.{IsAskedAtFirst, quiet_cut}
 use Rattle.command_laws.specs.Between.{IsAskedAgain, IsServedIn, RequestsAreServed}
 
--- no step of these is one that a request makes
-abbrev pub AreUnasked : List LogStep → Type 0
-AreUnasked = Each (λ (e : LogStep). is_request e.taken.body ≡ false)
-
-asks_none : (body : Body) → is_request body ≡ false → request_in body ≡ None
-asks_none (Host (Continue (Request request) at)) plain = cc
-asks_none _ plain = refl
-
+-- what brings a request is a step that a request makes
 asks_it : (body : Body) (request : ApiReq) → request_in body ≡ Some request → is_request body ≡ true
 asks_it (Host (Continue (Request asked) at)) request is = refl
 asks_it _ request is = cc
-
--- such steps bring no request
-pub requests_same : (newer log : List LogStep) → AreUnasked newer → requests (newer ++ log) ≡ requests log
-requests_same [] log plain = refl
-requests_same (e ∷ newer) log plain =
-    ap (λ o. requests (newer ++ log) ++ option_to_list o) (asks_none e.taken.body plain.0) ∙ append-nil (requests (newer ++ log)) ∙ requests_same newer log plain.1
 
 -- the oldest step of these that a request makes
 record FirstAsked (newer : List LogStep) : Type 0 where
@@ -51,17 +38,18 @@ record FirstAsked (newer : List LogStep) : Type 0 where
   between : List LogStep
   is : newer ≡ later ++ next ∷ between
   asks : is_request next.taken.body ≡ true
-  plain : AreUnasked between
+  none : requests between ≡ []
 
-first_asked : (newer : List LogStep) → AreUnasked newer ⊎ FirstAsked newer
-first_asked [] = inl tt
-first_asked (e ∷ newer) = by (is_request e.taken.body) refl (first_asked newer)
+first_asked : (newer : List LogStep) → (requests newer ≡ []) ⊎ FirstAsked newer
+first_asked [] = inl refl
+first_asked (e ∷ newer) = by (request_in e.taken.body) refl (first_asked newer)
   where
-    by : (b : Bool) → is_request e.taken.body ≡ b → AreUnasked newer ⊎ FirstAsked newer → AreUnasked (e ∷ newer) ⊎ FirstAsked (e ∷ newer)
-    by b asks (inr first) =
-        inr (record { later = e ∷ first.later; next = first.next; between = first.between; is = ap (λ w. e ∷ w) first.is; asks = first.asks; plain = first.plain })
-    by true asks (inl plain) = inr (record { later = []; next = e; between = newer; is = refl; asks = asks; plain = plain })
-    by false asks (inl plain) = inl (asks, plain)
+    by : (o : Option ApiReq) → request_in e.taken.body ≡ o → (requests newer ≡ []) ⊎ FirstAsked newer → (requests (e ∷ newer) ≡ []) ⊎ FirstAsked (e ∷ newer)
+    by o asks (inr first) =
+        inr (record { later = e ∷ first.later; next = first.next; between = first.between; is = ap (λ w. e ∷ w) first.is; asks = first.asks; none = first.none })
+    by None asks (inl none) = inl (ap (λ rs. rs ++ option_to_list (request_in e.taken.body)) none ∙ ap option_to_list asks)
+    by (Some request) asks (inl none) =
+        inr (record { later = []; next = e; between = newer; is = refl; asks = asks_it e.taken.body request asks; none = none })
 
 only_first : (start : Start) → IsAskedAtFirst (machine start)
 only_first start =
@@ -74,27 +62,26 @@ module _ (start : Start) (logs : ℕ → List LogStep) (right : AreLogs (machine
   -- behind this log of host 0 comes a quiet moment before anything else is asked for
   record IsDriven (log : List LogStep) : Type 0 where
     between : List LogStep
-    plain : AreUnasked between
+    none : requests between ≡ []
     ends : QuietBefore start logs (between ++ log)
 
   driven : (newer log : List LogStep) → logs 0 ≡ newer ++ log → IsQuiet (machine start) (hosts start) logs ⊎ IsAskedAgain start newer → IsDriven log
   driven newer log is ends = by (first_asked newer) ends
     where
-      by : AreUnasked newer ⊎ FirstAsked newer → IsQuiet (machine start) (hosts start) logs ⊎ IsAskedAgain start newer → IsDriven log
+      by : (requests newer ≡ []) ⊎ FirstAsked newer → IsQuiet (machine start) (hosts start) logs ⊎ IsAskedAgain start newer → IsDriven log
       by (inr first) ends =
           record {
             between = first.between;
-            plain = first.plain;
+            none = first.none;
             ends =
                 at_quiet first.later first.next (first.between ++ log)
                 (is ∙ ap (λ w. w ++ log) first.is ∙ append_assoc first.later (first.next ∷ first.between) log)
                 first.asks;
           }
-      by (inl plain) (inl quiet) =
-          record { between = newer; plain = plain; ends = record { inside = logs; cut = λ h. past_self (logs h); at = is; right = right; quiet = quiet } }
-      by (inl plain) (inr again) =
-          let rest : AreUnasked (again.next ∷ again.between) =
-          each_after (λ (e : LogStep). is_request e.taken.body ≡ false) again.later (again.next ∷ again.between) (subst AreUnasked again.is plain) in
+      by (inl none) (inl quiet) =
+          record { between = newer; none = none; ends = record { inside = logs; cut = λ h. past_self (logs h); at = is; right = right; quiet = quiet } }
+      by (inl none) (inr again) =
+          let rest = each_after (λ (e : LogStep). is_request e.taken.body ≡ false) again.later (again.next ∷ again.between) (no_requests _ (sym (ap requests again.is) ∙ none)) in
           absurd (false≢true (sym rest.0 ∙ again.asked))
 
   module _ (some : 1 ≤ start.nodes) (few : start.nodes ≤ 8) where
@@ -132,8 +119,8 @@ module _ (start : Start) (logs : ℕ → List LogStep) (right : AreLogs (machine
 
         asked : requests (d.ends.inside 0) ≡ requests (begins.inside 0) ++ request ∷ []
         asked =
-            ap requests d.ends.at ∙ requests_same d.between (e ∷ before) d.plain ∙ ap (λ o. requests before ++ option_to_list o) asks
-            ∙ ap (λ w. requests w ++ request ∷ []) (sym begins.at)
+            ap requests d.ends.at ∙ requests_append d.between (e ∷ before) ∙ ap (λ rs. requests (e ∷ before) ++ rs) d.none ∙ append-nil (requests (e ∷ before))
+            ∙ ap (λ o. requests before ++ option_to_list o) asks ∙ ap (λ w. requests w ++ request ∷ []) (sym begins.at)
 
 -- each request that was driven to quiet is served between two quiet moments
 pub requests_served : RequestsAreServed

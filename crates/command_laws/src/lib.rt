@@ -6,6 +6,6 @@ mod commands;
 
 pub use between::requests_are_served;
 pub use commands::{
-    commits_are_committed, each_operation_is_held_up, holders_are_told, lone_operations_are_committed,
-    operations_are_answered,
+    commits_are_committed, each_operation_is_held_up, holders_are_told,
+    lone_operations_are_committed, operations_are_answered,
 };
