@@ -24,8 +24,10 @@ pub mod OwnSends
 pub mod PhaseSends
 pub mod Places
 pub mod Pushes
+pub mod QuietCuts
 pub mod Reported
 pub mod SampleServed
+pub mod ServedBetween
 pub mod Since
 pub mod TcPath
 pub mod TellsOnce
