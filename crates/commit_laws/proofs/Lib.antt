@@ -6,6 +6,7 @@ pub mod Causal
 pub mod CausalFacts
 pub mod CellsAt
 pub mod EachEntry
+pub mod EachLqh
 pub mod EachSent
 pub mod Epochs
 pub mod Firsts
