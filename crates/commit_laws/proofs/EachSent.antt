@@ -1,6 +1,6 @@
 -- What holds of each of some signals.
-use Rattle.std.proofs.Common.{◌≡◌, ℕ, zero, suc, List, [], ◌∷◌, take, drop}
-use Rattle.std.specs.Prelude.{map}
+use Rattle.std.proofs.Common.{◌≡◌, ℕ, zero, suc, List, [], ◌∷◌, take, drop, subst}
+use Rattle.std.specs.Prelude.{map, remove, slice_get, Some}
 use Rattle.std.specs.List.{flat_map}
 use Rattle.run_theory.specs.Lists.{Each}
 use Rattle.run_theory.proofs.Pasts.{each_append}
@@ -24,6 +24,14 @@ pub each_drop : {A : Type 0} (P : A → Type 0) (n : ℕ) (xs : List A) → Each
 each_drop P zero xs all = all
 each_drop P (suc n) [] all = tt
 each_drop P (suc n) (x ∷ xs) all = each_drop P n xs all.1
+
+pub each_removed : {A : Type 0} (P : A → Type 0) (xs : List A) (at : ℕ) → Each P xs → Each P (remove xs at)
+each_removed P xs at all = each_append P (take at xs) (drop (suc at) xs) (each_take P at xs all) (each_drop P (suc at) xs all)
+
+pub each_got : {A : Type 0} (P : A → Type 0) (xs : List A) (at : ℕ) (x : A) → slice_get xs at ≡ Some x → Each P xs → P x
+each_got P [] at x is all = cc
+each_got P (y ∷ ys) zero x is all = let same : y ≡ x = cc in subst P same all.0
+each_got P (y ∷ ys) (suc at) x is all = each_got P ys at x is all.1
 
 pub each_mapped : {A B : Type 0} (P : B → Type 0) (f : A → B) (xs : List A) → ((x : A) → P (f x)) → Each P (map f xs)
 each_mapped P f [] all = tt

@@ -8,6 +8,7 @@ pub mod CellsAt
 pub mod EachEntry
 pub mod EachLqh
 pub mod EachSent
+pub mod EachWaiting
 pub mod Epochs
 pub mod Firsts
 pub mod Holding
