@@ -8,6 +8,8 @@ pub mod CellsAt
 pub mod EachEntry
 pub mod EachLqh
 pub mod EachSent
+pub mod EachTc
+pub mod EachTurn
 pub mod EachWaiting
 pub mod Epochs
 pub mod Firsts
