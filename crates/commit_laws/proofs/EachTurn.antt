@@ -216,3 +216,33 @@ module _ (node : ℕ) (view : View) (tx : TxId) (t : Transaction) (body : Body) 
       by Verifying at = forms.stays
       by (Committing epoch awaited) at = forms.stays
       by (Completing epoch awaited) at = forms.stays
+
+-- two predicates together
+pub abort_both : (node : ℕ) (view : View) (tx : TxId) (t : Transaction) (P Q : Turn → Type 0) → AbortForms node view tx t P → AbortForms node view tx t Q → AbortForms node view tx t (λ turn. P turn × Q turn)
+abort_both node view tx t P Q p q = record { enters = λ why some. (p.enters why some, q.enters why some); ends = λ why none. (p.ends why none, q.ends why none) }
+
+pub committed_both : (node : ℕ) (view : View) (tx : TxId) (t : Transaction) (epoch : ℕ) (P Q : Turn → Type 0) → CommittedForms node view tx t epoch P → CommittedForms node view tx t epoch Q
+    → CommittedForms node view tx t epoch (λ turn. P turn × Q turn)
+committed_both node view tx t epoch P Q p q = record { enters = λ some. (p.enters some, q.enters some); ends = λ none. (p.ends none, q.ends none) }
+
+pub turn_both : (node : ℕ) (view : View) (tx : TxId) (t : Transaction) (body : Body) (P Q : Turn → Type 0) → TurnForms node view tx t body P → TurnForms node view tx t body Q
+    → TurnForms node view tx t body (λ turn. P turn × Q turn)
+turn_both node view tx t body P Q p q = record {
+  stays = (p.stays, q.stays);
+  goes_on = λ at. (p.goes_on at, q.goes_on at);
+  operates = λ op is can. (p.operates op is can, q.operates op is can);
+  answers = λ key answer asked is on at. (p.answers key answer asked is on at, q.answers key answer asked is on at);
+  late = λ key asked why verifying awaited on at. (p.late key asked why verifying awaited on at, q.late key asked why verifying awaited on at);
+  waits = λ asked on. (p.waits asked on, q.waits asked on);
+  decides = λ is ready. (p.decides is ready, q.decides is ready);
+  commits = λ epoch is at some. (p.commits epoch is at some, q.commits epoch is at some);
+  commits_none = λ epoch is at. committed_both node view tx t epoch P Q (p.commits_none epoch is at) (q.commits_none epoch is at);
+  committed = λ epoch awaited at more. (p.committed epoch awaited at more, q.committed epoch awaited at more);
+  committed_all = λ epoch awaited at. committed_both node view tx t epoch P Q (p.committed_all epoch awaited at) (q.committed_all epoch awaited at);
+  completed = λ epoch awaited at more. (p.completed epoch awaited at more, q.completed epoch awaited at more);
+  completed_all = λ epoch awaited at last. (p.completed_all epoch awaited at last, q.completed_all epoch awaited at last);
+  rolls_back = λ undecided unaborted. abort_both node view tx t P Q (p.rolls_back undecided unaborted) (q.rolls_back undecided unaborted);
+  refuses = λ asked on at. abort_both node view tx (asking t None) P Q (p.refuses asked on at) (q.refuses asked on at);
+  aborted = λ why verifying awaited at more. (p.aborted why verifying awaited at more, q.aborted why verifying awaited at more);
+  aborted_all = λ why verifying awaited at last. (p.aborted_all why verifying awaited at last, q.aborted_all why verifying awaited at last);
+}
