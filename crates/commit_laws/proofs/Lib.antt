@@ -20,6 +20,7 @@ pub mod KeyAfter
 pub mod KeyEnds
 pub mod Keys
 pub mod KeysJoin
+pub mod LiveKeeps
 pub mod LiveSplit
 pub mod LockHolding
 pub mod LockWaiting

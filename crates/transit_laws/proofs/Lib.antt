@@ -1,8 +1,6 @@
 pub mod CircleView
 pub mod Decided
 pub mod DecidedSettled
-pub mod EachLive
-pub mod EachTurn
 pub mod GivenUp
 pub mod HostAfter
 pub mod HostAsks
