@@ -7,10 +7,12 @@ use Rattle.sig_core.specs.declared.op.Op.{Op}
 use Rattle.sig_core.specs.declared.outcome.AbortCause.{AbortCause}
 use Rattle.sig_core.specs.declared.outcome.AbortCause.TheVariants as cause
 use Rattle.sig_core.specs.declared.signal.Body.{Body}
-use Rattle.sig_core.specs.declared.signal.Body.TheVariants.{Client, Chain, Epoch}
-use Rattle.sig_core.specs.declared.signal.chain.ChainSignal.TheVariants.{LqhKeyConf}
-use Rattle.sig_core.specs.declared.signal.client.ClientSignal.TheVariants.{TcKeyReq, TcKeyConf, TcCommitReq}
+use Rattle.sig_core.specs.declared.signal.Body.TheVariants.{Host, Client, Chain, Epoch}
+use Rattle.sig_core.specs.declared.signal.chain.ChainSignal.TheVariants.{LqhKeyConf, LqhKeyRef, Committed, Completed, Aborted}
+use Rattle.sig_core.specs.declared.signal.client.ClientSignal.TheVariants.{TcKeyReq, TcKeyConf, TcCommitReq, TcRollbackReq, TcWaitReq}
 use Rattle.sig_core.specs.declared.signal.epoch.EpochSignal.TheVariants.{DiVerifyConf}
+use Rattle.sig_core.specs.declared.signal.host.HostSignal.TheVariants.{Continue}
+use Rattle.sig_core.specs.declared.signal.host.Work.TheVariants as work
 use Rattle.sig_core.specs.declared.view.View.{View}
 use Rattle.sig_core.specs.Op.{key_of}
 use Rattle.sig_core.specs.Place.{client}
@@ -217,32 +219,48 @@ module _ (node : ℕ) (view : View) (tx : TxId) (t : Transaction) (body : Body) 
       by (Committing epoch awaited) at = forms.stays
       by (Completing epoch awaited) at = forms.stays
 
+-- what the transaction does by the row of this signal
+pub record RowsAre (node : ℕ) (view : View) (tx : TxId) (t : Transaction) (body : Body) (R : Turn → Type 0) : Type 0 where
+  pub goes_on : (at : ℕ) → body ≡ Host (Continue (work.Transaction tx) at) → R (going (go_on_row node view tx t at))
+  pub operates : (op : Op) → body ≡ Client (TcKeyReq tx op) → R (going (operate.operate_row view tx t op))
+  pub decides : body ≡ Client (TcCommitReq tx) → R (going (commit.decide_row node tx t))
+  pub rolls_back : body ≡ Client (TcRollbackReq tx) → R (abort.rollback_row node view tx t)
+  pub waits : body ≡ Client (TcWaitReq tx) → R (going (operate.wait_row tx t))
+  pub answers : (key : List ℕ) (answer : Answer) → body ≡ Chain (LqhKeyConf tx key answer) → R (going (operate.answer_row view tx t key answer))
+  pub refuses : (key : List ℕ) (why : AbortCause) → body ≡ Chain (LqhKeyRef tx key why) → R (abort.refuse_row node view tx t key why)
+  pub committed : (key : List ℕ) → body ≡ Chain (Committed tx key) → R (commit.committed_row node view tx t)
+  pub completed : (key : List ℕ) → body ≡ Chain (Completed tx key) → R (complete.completed_row node tx t)
+  pub aborted : (key : List ℕ) → body ≡ Chain (Aborted tx key) → R (abort.aborted_row node tx t)
+  pub commits : (epoch : ℕ) → body ≡ Epoch (DiVerifyConf tx epoch) → R (commit.commit_row node view tx t epoch)
+
+pub rows_of : (node : ℕ) (view : View) (tx : TxId) (t : Transaction) (body : Body) (R : Turn → Type 0) → TurnForms node view tx t body R → RowsAre node view tx t body R
+rows_of node view tx t body R forms = record {
+  goes_on = λ at is. goes_on node view tx t body R forms at;
+  operates = λ op is. operates node view tx t body R forms op is;
+  decides = λ is. decides node view tx t body R forms is;
+  rolls_back = λ is. rolls_back node view tx t body R forms;
+  waits = λ is. waits node view tx t body R forms;
+  answers = λ key answer is. answers node view tx t body R forms key answer is;
+  refuses = λ key why is. refuses node view tx t body R forms key why;
+  committed = λ key is. committed node view tx t body R forms;
+  completed = λ key is. completed node view tx t body R forms;
+  aborted = λ key is. aborted node view tx t body R forms;
+  commits = λ epoch is. commits node view tx t body R forms epoch is;
+}
+
 -- two predicates together
-pub abort_both : (node : ℕ) (view : View) (tx : TxId) (t : Transaction) (P Q : Turn → Type 0) → AbortForms node view tx t P → AbortForms node view tx t Q → AbortForms node view tx t (λ turn. P turn × Q turn)
-abort_both node view tx t P Q p q = record { enters = λ why some. (p.enters why some, q.enters why some); ends = λ why none. (p.ends why none, q.ends why none) }
-
-pub committed_both : (node : ℕ) (view : View) (tx : TxId) (t : Transaction) (epoch : ℕ) (P Q : Turn → Type 0) → CommittedForms node view tx t epoch P → CommittedForms node view tx t epoch Q
-    → CommittedForms node view tx t epoch (λ turn. P turn × Q turn)
-committed_both node view tx t epoch P Q p q = record { enters = λ some. (p.enters some, q.enters some); ends = λ none. (p.ends none, q.ends none) }
-
-pub turn_both : (node : ℕ) (view : View) (tx : TxId) (t : Transaction) (body : Body) (P Q : Turn → Type 0) → TurnForms node view tx t body P → TurnForms node view tx t body Q
-    → TurnForms node view tx t body (λ turn. P turn × Q turn)
-turn_both node view tx t body P Q p q = record {
-  stays = (p.stays, q.stays);
-  goes_on = λ at. (p.goes_on at, q.goes_on at);
-  operates = λ op is can. (p.operates op is can, q.operates op is can);
-  answers = λ key answer asked is on at. (p.answers key answer asked is on at, q.answers key answer asked is on at);
-  late = λ key asked why verifying awaited on at. (p.late key asked why verifying awaited on at, q.late key asked why verifying awaited on at);
-  waits = λ asked on. (p.waits asked on, q.waits asked on);
-  decides = λ is ready. (p.decides is ready, q.decides is ready);
-  commits = λ epoch is at some. (p.commits epoch is at some, q.commits epoch is at some);
-  commits_none = λ epoch is at. committed_both node view tx t epoch P Q (p.commits_none epoch is at) (q.commits_none epoch is at);
-  committed = λ epoch awaited at more. (p.committed epoch awaited at more, q.committed epoch awaited at more);
-  committed_all = λ epoch awaited at. committed_both node view tx t epoch P Q (p.committed_all epoch awaited at) (q.committed_all epoch awaited at);
-  completed = λ epoch awaited at more. (p.completed epoch awaited at more, q.completed epoch awaited at more);
-  completed_all = λ epoch awaited at last. (p.completed_all epoch awaited at last, q.completed_all epoch awaited at last);
-  rolls_back = λ undecided unaborted. abort_both node view tx t P Q (p.rolls_back undecided unaborted) (q.rolls_back undecided unaborted);
-  refuses = λ asked on at. abort_both node view tx (asking t None) P Q (p.refuses asked on at) (q.refuses asked on at);
-  aborted = λ why verifying awaited at more. (p.aborted why verifying awaited at more, q.aborted why verifying awaited at more);
-  aborted_all = λ why verifying awaited at last. (p.aborted_all why verifying awaited at last, q.aborted_all why verifying awaited at last);
+pub rows_both : (node : ℕ) (view : View) (tx : TxId) (t : Transaction) (body : Body) (P Q : Turn → Type 0) → RowsAre node view tx t body P → RowsAre node view tx t body Q
+    → RowsAre node view tx t body (λ turn. P turn × Q turn)
+rows_both node view tx t body P Q p q = record {
+  goes_on = λ at is. (p.goes_on at is, q.goes_on at is);
+  operates = λ op is. (p.operates op is, q.operates op is);
+  decides = λ is. (p.decides is, q.decides is);
+  rolls_back = λ is. (p.rolls_back is, q.rolls_back is);
+  waits = λ is. (p.waits is, q.waits is);
+  answers = λ key answer is. (p.answers key answer is, q.answers key answer is);
+  refuses = λ key why is. (p.refuses key why is, q.refuses key why is);
+  committed = λ key is. (p.committed key is, q.committed key is);
+  completed = λ key is. (p.completed key is, q.completed key is);
+  aborted = λ key is. (p.aborted key is, q.aborted key is);
+  commits = λ epoch is. (p.commits epoch is, q.commits epoch is);
 }

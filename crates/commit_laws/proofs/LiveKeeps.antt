@@ -31,7 +31,7 @@ use Rattle.tc_block.specs.Tc.{next_tx, tc_row}
 use Rattle.tc_block.specs.Turn.{Turn, asking, at_phase}
 use Rattle.commit_laws.proofs.EachSent.{each_drop, each_mapped, each_take}
 use Rattle.commit_laws.proofs.EachTc.{tc_each}
-use Rattle.commit_laws.proofs.EachTurn.{AbortForms, CommittedForms, TurnForms}
+use Rattle.commit_laws.proofs.EachTurn.{AbortForms, CommittedForms, TurnForms, rows_of}
 use Rattle.commit_laws.proofs.LiveSplit.{Live, Split}
 
 -- a step of a transaction leaves it so, and sends only such signals
@@ -129,7 +129,8 @@ module _ (P : Transaction → Type 0) (Q : Outgoing → Type 0) where
   unfolding without
   live_keeps s body fresh keep operated all =
       tc_each (λ tx t turn. TurnKeeps P Q turn) (LiveKeeps P Q s.view) s body (record {
-        turns = λ tx t at split. let fine = own tx t at split in turn_keeps P Q s.node s.view keep tx t body fine (λ op is. operated tx t op fine);
+        turns = λ tx t at split. let fine = own tx t at split in
+            rows_of s.node s.view tx t body (λ turn. TurnKeeps P Q turn) (turn_keeps P Q s.node s.view keep tx t body fine (λ op is. operated tx t op fine));
         turned = λ tx t at split turn keeps. by tx t at split turn keeps turn.over;
         stays = record { live = all; sends = tt; view = refl };
         full = λ name. record { live = all; sends = (keep.plain _ refl, tt); view = refl };

@@ -13,7 +13,7 @@ use Rattle.tc_block.specs.State.{TcState}
 use Rattle.tc_block.specs.Tc.{tc_row}
 use Rattle.tc_block.specs.Turn.{Turn, asking}
 use Rattle.commit_laws.proofs.EachTc.{tc_each}
-use Rattle.commit_laws.proofs.EachTurn.{AbortForms, CommittedForms, TurnForms}
+use Rattle.commit_laws.proofs.EachTurn.{AbortForms, CommittedForms, TurnForms, rows_of}
 
 -- a step that marks nothing
 abbrev pub HasNoMarks : {S : Type 0} → Step S → Type 0
@@ -56,7 +56,7 @@ module _ (node : ℕ) (view : View) (tx : TxId) where
 pub tc_marks : (s : TcState) (body : Body) → HasNoMarks (tc_row s body)
 tc_marks s body =
     tc_each (λ tx t turn. TurnHasNoMarks turn) HasNoMarks s body (record {
-      turns = λ tx t at split. turn_marks s.node s.view tx t body;
+      turns = λ tx t at split. rows_of s.node s.view tx t body TurnHasNoMarks (turn_marks s.node s.view tx t body);
       turned = λ tx t at split turn none. over at turn none turn.over;
       stays = refl;
       full = λ name. refl;
