@@ -1,5 +1,5 @@
 -- What holds of each form of turn that a transaction takes at its coordinator holds of what each row makes it do.
-use Rattle.std.proofs.Common.{◌≡◌, ◌==◌, ℕ, Bool, true, false, List, length, refl, ap}
+use Rattle.std.proofs.Common.{◌≡◌, ◌==◌, ℕ, Bool, true, false, List, [], length, refl, ap}
 use Rattle.std.specs.Prelude.{◌-◌, nat_lt, Option, None, Some}
 use Rattle.sig_core.specs.declared.member.TxId.{TxId}
 use Rattle.sig_core.specs.declared.op.Answer.{Answer}
@@ -31,6 +31,10 @@ use Rattle.tc_block.specs.Sends.{entering, go_on_if, go_on_row}
 use Rattle.tc_block.specs.Turn.{Turn, asking, at_phase, going}
 use Rattle.commit_laws.specs.Phases.{is_decided}
 use Rattle.commit_laws.specs.Ways.{is_aborting}
+
+-- for the rows that look at no view
+abbrev pub no_view : View
+no_view = record { number = 0; full = []; starting = [] }
 
 -- an abort begins, or has nothing to wait for
 pub record AbortForms (node : ℕ) (view : View) (tx : TxId) (t : Transaction) (R : Turn → Type 0) : Type 0 where

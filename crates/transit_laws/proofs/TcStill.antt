@@ -1,5 +1,5 @@
 -- Only an operation that is asked for sends a part of one: the other turns of a transaction are still.
-use Rattle.std.proofs.Common.{◌≡◌, ℕ, List, [], Bool, true, false, refl}
+use Rattle.std.proofs.Common.{◌≡◌, ℕ, List, Bool, true, false, refl}
 use Rattle.std.specs.List.{flat_map}
 use Rattle.run_theory.proofs.Pasts.{each_append}
 use Rattle.run_theory.specs.Lists.{Each}
@@ -27,15 +27,11 @@ use Rattle.tc_block.specs.Sends.{abort_of, aborts_of, complete_if, front_sends, 
 use Rattle.tc_block.specs.Turn.{Turn}
 use Rattle.commit_laws.proofs.EachSent.{each_flat, each_mapped}
 use Rattle.commit_laws.proofs.EachTurn as turns
-use Rattle.commit_laws.proofs.EachTurn.{TurnForms}
+use Rattle.commit_laws.proofs.EachTurn.{TurnForms, no_view}
 use Rattle.commit_laws.proofs.LiveKeeps.{TurnKeeps, TurnsKeep, is_chain, turn_keeps}
 use Rattle.answer_laws.proofs.Tally.{tally_none}
 use Rattle.transit_laws.specs.Tokens.{is_token}
 use Rattle.transit_laws.proofs.LqhTokens.{tokens_out}
-
--- for the rows that look at no view
-no_view : View
-no_view = record { number = 0; full = []; starting = [] }
 
 -- none of these signals is a part of an operation
 module _ (v : TxId) where
