@@ -5,6 +5,7 @@ pub mod BackupOrder
 pub mod Causal
 pub mod CausalFacts
 pub mod CellsAt
+pub mod EachApi
 pub mod EachEntry
 pub mod EachLqh
 pub mod EachSent
