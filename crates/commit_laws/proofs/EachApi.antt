@@ -309,3 +309,27 @@ api_each K P M s (Client (TcRollbackRep tx why)) forms all = abort_report_each K
 api_each K P M s (Client (TcWaitConf tx ahead)) forms all = behind_each K P M _ forms s all tx ahead
 api_each K P M s (Client (DumpConf rows next)) forms all = dumped_each K P M _ forms s all rows next
 api_each K P M s _ forms all = record { opened = all; sends = tt; marks = tt }
+
+-- what is marked, whatever is sent
+pub api_marks_each : (M : Mark → Type 0) (s : ApiState) (body : Body) → ((tx : TxId) (epoch : ℕ) → body ≡ Client (TcCommitConf tx epoch) → M (Reported tx (outcome.Committed epoch)))
+    → ((tx : TxId) (why : AbortCause) → body ≡ Client (TcRollbackRep tx why) → M (Reported tx (outcome.Aborted why))) → Each M (api_row s body).effects.marks
+api_marks_each M s body committed aborted =
+    (api_each (λ (t : OpenTransaction). Unit {0}) (λ (o : Outgoing). Unit {0}) M s body (record {
+      asked = λ name node op. tt;
+      changed = λ t u same own. tt;
+      begun = λ name tx u is own. tt;
+      begins = λ name node. tt;
+      operates = λ t tx op own is. tt;
+      commits = λ t tx own is. tt;
+      rolls_back = λ t tx own is. tt;
+      waits = λ t tx own is. tt;
+      ticks = λ node. tt;
+      acknowledges = λ tx epoch node is. tt;
+      dumps = λ node at. tt;
+      committed = committed;
+      aborted = aborted;
+    }) (any s.opened)).marks
+  where
+    any : (opened : List OpenTransaction) → Each (λ (t : OpenTransaction). Unit {0}) opened
+    any [] = tt
+    any (t ∷ more) = (tt, any more)

@@ -1,30 +1,25 @@
 -- Whose marks the steps of a host have: a row is applied, or a commit reported, of the transaction that the signal takes forth.
-use Rattle.std.proofs.Common.{◌≡◌, List, [], ◌∷◌, Bool, true, false, sym, ap, subst}
-use Rattle.std.specs.Prelude.{length, nat_lt, Option, None, Some}
+use Rattle.std.proofs.Common.{◌≡◌, Bool, true, false, sym, ap, subst}
+use Rattle.std.specs.Prelude.{length, nat_lt}
 use Rattle.sig_core.specs.declared.member.TxId.{TxId}
 use Rattle.sig_core.specs.declared.signal.Body.{Body}
-use Rattle.sig_core.specs.declared.signal.Body.TheVariants.{Client, Chain, Epoch}
-use Rattle.sig_core.specs.declared.signal.chain.ChainSignal.TheVariants.{Commit}
-use Rattle.sig_core.specs.declared.signal.client.ClientSignal.TheVariants.{TcBeginConf, TcCommitReq, TcCommitConf}
+use Rattle.sig_core.specs.declared.signal.Body.TheVariants.{Epoch}
 use Rattle.lqh_block.specs.Lqh.{lqh_row}
 use Rattle.lqh_block.specs.State.{LqhState}
 use Rattle.sig_core.specs.declared.mark.Mark.{Mark}
 use Rattle.sig_core.specs.declared.mark.Mark.TheVariants.{Applied, Reported}
 use Rattle.sig_core.specs.declared.outcome.Outcome.TheVariants as outcome
-use Rattle.sig_core.specs.declared.signal.epoch.EpochSignal.TheVariants.{DiVerifyReq, DiVerifyConf}
+use Rattle.sig_core.specs.declared.signal.epoch.EpochSignal.TheVariants.{DiVerifyReq}
 use Rattle.sig_core.specs.Step.{Step}
 use Rattle.api_block.specs.Api.{api_row}
-use Rattle.api_block.specs.declared.opened.OpenTransaction.{OpenTransaction}
 use Rattle.api_block.specs.State.{ApiState}
 use Rattle.tc_block.specs.State.{TcState}
 use Rattle.tc_block.specs.Tc.{tc_row}
 use Rattle.node_core.specs.Dih.{DihState, decide_if, decide_row, dih_row}
 use Rattle.run_theory.specs.Lists.{Each}
-use Rattle.commit_laws.specs.Kinds.{Kind, kind_of}
-use Rattle.commit_laws.specs.Kinds as kind
+use Rattle.commit_laws.proofs.EachApi.{api_marks_each}
 use Rattle.commit_laws.proofs.EachLqh.{lqh_marks_each}
 use Rattle.commit_laws.specs.Ways.{Way, forth, neither, way_of}
-use Rattle.commit_laws.proofs.ApiTold.{AreTold, Reports, TellsBegun, ToldOf, api_goes}
 use Rattle.commit_laws.proofs.TcMarks.{tc_marks}
 
 -- a row that was applied, or a commit that was reported, is of the transaction that the signal takes forth
@@ -61,38 +56,5 @@ dih_marked s _ = tt
 pub tc_marked : (s : TcState) (body : Body) → AreMarked (way_of body) (tc_row s body)
 tc_marked s body = subst (Each (IsMarked (way_of body))) (sym (tc_marks s body)) tt
 
--- a report of a commit is one of the client
-ended_forth : (body : Body) (tx : TxId) → kind_of body ≡ kind.ended tx → way_of body ≡ forth tx
-ended_forth (Client (TcCommitConf other epoch)) tx is = let same : other ≡ tx = cc in ap (λ t. forth t) same
-ended_forth (Client (TcBeginConf name other)) tx is = absurd cc
-ended_forth (Client (TcCommitReq other)) tx is = absurd cc
-ended_forth (Epoch (DiVerifyReq other ops)) tx is = absurd cc
-ended_forth (Epoch (DiVerifyConf other epoch)) tx is = absurd cc
-ended_forth (Chain (Commit other key epoch chain at)) tx is = absurd cc
-ended_forth _ tx is = absurd cc
-
 pub api_marked : (s : ApiState) (body : Body) → AreMarked (way_of body) (api_row s body)
-api_marked s body =
-    let goes = api_goes (λ tx. Unit {0}) s body (told s.opened) (begun (kind_of body)) in
-    all (api_row s body).effects.marks goes.reports
-  where
-    told_of : (o : Option TxId) → ToldOf (λ tx. Unit {0}) o
-    told_of None = tt
-    told_of (Some tx) = tt
-
-    told : (opened : List OpenTransaction) → AreTold (λ tx. Unit {0}) opened
-    told [] = tt
-    told (t ∷ more) = (told_of t.tx, told more)
-
-    begun : (k : Kind) → TellsBegun (λ tx. Unit {0}) k
-    begun (kind.begun tx) = tt
-    begun _ = tt
-
-    one : (m : Mark) → Reports (kind_of body) m → IsMarked (way_of body) m
-    one (Reported tx (outcome.Committed epoch)) is = ended_forth body tx is
-    one (Applied tx key) is = absurd is
-    one _ is = tt
-
-    all : (marks : List Mark) → Each (Reports (kind_of body)) marks → Each (IsMarked (way_of body)) marks
-    all [] reports = tt
-    all (m ∷ more) reports = (one m reports.0, all more reports.1)
+api_marked s body = api_marks_each (IsMarked (way_of body)) s body (λ tx epoch is. ap way_of is) (λ tx why is. tt)
