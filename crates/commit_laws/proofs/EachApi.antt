@@ -1,5 +1,5 @@
 -- What holds of each form of signal and mark of the API, and of each transaction that it has opened, holds of each of its steps.
-use Rattle.std.proofs.Common.{◌≡◌, ℕ, zero, suc, Bool, true, false, List, [], ◌∷◌, ◌++◌, refl, sym, ap, ◌∙◌, subst}
+use Rattle.std.proofs.Common.{◌≡◌, ℕ, Bool, true, false, List, [], ◌∷◌, ◌++◌, refl, sym, ap, ◌∙◌}
 use Rattle.std.specs.Prelude.{Option, None, Some, nat_lt, slice_get, slice_set, position, is_some, remove}
 use Rattle.run_theory.specs.Lists.{Each}
 use Rattle.run_theory.proofs.Pasts.{each_append}
@@ -39,17 +39,7 @@ use Rattle.api_block.specs.Wait.{behind_row, name_of, pending_by, pending_if, pe
 use Rattle.row_locks.proofs.TxLemmas.{same_tx-is}
 use Rattle.commit_laws.specs.Firsts.{first}
 use Rattle.commit_laws.proofs.Firsts.{first-get, first_passes, get_by}
-use Rattle.commit_laws.proofs.EachSent.{each_mapped, each_removed}
-
-pub each_get : {A : Type 0} (P : A → Type 0) (xs : List A) (at : ℕ) (x : A) → Each P xs → slice_get xs at ≡ Some x → P x
-each_get P [] at x all is = absurd cc
-each_get P (y ∷ xs) zero x all is = let one : y ≡ x = cc in subst P one all.0
-each_get P (y ∷ xs) (suc at) x all is = each_get P xs at x all.1 is
-
-pub each_set : {A : Type 0} (P : A → Type 0) (xs : List A) (at : ℕ) (x : A) → Each P xs → P x → Each P (slice_set xs at x)
-each_set P [] at x all own = all
-each_set P (y ∷ xs) zero x all own = (own, all.1)
-each_set P (y ∷ xs) (suc at) x all own = (all.0, each_set P xs at x all.1 own)
+use Rattle.commit_laws.proofs.EachSent.{each_get, each_mapped, each_removed, each_set}
 
 -- K is of each transaction that is opened, P of each signal that is sent, and M of each mark
 pub record ApiForms (K : OpenTransaction → Type 0) (P : Outgoing → Type 0) (M : Mark → Type 0) (body : Body) : Type 0 where

@@ -307,9 +307,8 @@ module _ (s : TcState) (cs bs : List TxId) (n : IsOneWay s cs bs) where
   lower_none : (xs : List TxId) → Each (λ (v : TxId). v.seq < s.next_seq) xs → NotIn (next_tx s) xs
   lower_none xs all = each_map (λ (v : TxId). v.seq < s.next_seq) (λ v. same_tx v (next_tx s) ≡ false) xs lower_apart all
 
-  begins_one : (name : Option ℕ) (b : Bool) → StaysOneWay s.node cs bs (begin_if s name b)
-  begins_one name true = record { one = n; says = (tt, tt) }
-  begins_one name false = record {
+  begins_one : (name : Option ℕ) → StaysOneWay s.node cs bs (begin_if s name false)
+  begins_one name = record {
     one = record {
       once = once_inserted s.live (next_tx s) fresh (each_map (IsLive s.node s.next_seq cs bs) (λ (x : TxId × Transaction). same_tx x.0 (next_tx s) ≡ false) s.live (λ x is. lower_apart x.0 is.below) n.live) n.once;
       live = each_inserted (IsLive s.node (s.next_seq + 1) cs bs) s.live (next_tx s) fresh
@@ -329,8 +328,8 @@ tc_one s cs bs body n =
       turns = λ tx t at split. rows_of s.node s.view tx t body (λ turn. TurnWays tx t.phase turn) (turn_ways tx s.node s.view t body);
       turned = λ tx t at split turn ways. turn_stays s cs bs n tx t at split turn ways turn.over refl;
       stays = nothing_stays s cs bs n;
-      full = λ name. begins_one s cs bs n name true;
-      begins = λ name. begins_one s cs bs n name false;
+      full = λ name. record { one = n; says = (tt, tt) };
+      begins = begins_one s cs bs n;
       passes = λ tx ahead. record { one = n; says = (tt, tt) };
     })
 

@@ -17,7 +17,7 @@ use Rattle.lqh_block.specs.Lqh.{lqh_row}
 use Rattle.lqh_block.specs.State.{LqhState}
 use Rattle.world_core.specs.Start.{Start}
 use Rattle.commit_laws.proofs.EachLqh.{RequestSends, lqh_sends_each}
-use Rattle.commit_laws.proofs.EachSent.{each_got}
+use Rattle.commit_laws.proofs.EachSent.{each_get}
 use Rattle.commit_laws.proofs.EachWaiting.{waiting_each}
 use Rattle.transit_laws.specs.Routes.{IsCommitRouted, IsCompletionRouted, IsRequestRouted, IsRouted}
 use Rattle.transit_laws.proofs.RoutesSends.{AreSent, IsSent}
@@ -51,7 +51,7 @@ module _ (start : Start) (h : ℕ) where
   sent_on s body is all =
       lqh_sends_each (λ (o : Outgoing). IsSent start o) s body (record {
         asked = λ r same. request_sent r (subst (IsRouted start h) same is);
-        waited = λ at r there. request_sent r (each_got (λ (q : Request). IsRequestRouted start h q) s.waiting at r there all);
+        waited = λ at r there. request_sent r (each_get (λ (q : Request). IsRequestRouted start h q) s.waiting at r all there);
         goes_on = λ what. record { routed = tt; block = tt };
         commits_on = λ tx key epoch chain at same behind. commit_sent tx key epoch chain at (subst (IsRouted start h) same is);
         committed = λ tx key. record { routed = tt; block = refl };

@@ -1,6 +1,6 @@
 -- A coordinator whose transactions are routed sends only what is routed, and they stay so.
-use Rattle.std.proofs.Common.{◌≡◌, ◌<◌, ℕ, zero, suc, List, [], ◌∷◌, length, refl, sym, subst}
-use Rattle.std.specs.Prelude.{Option, None, Some, slice_set}
+use Rattle.std.proofs.Common.{◌≡◌, ◌<◌, ℕ, List, [], ◌∷◌, length, refl, sym, subst}
+use Rattle.std.specs.Prelude.{Option, None, Some}
 use Rattle.run_theory.specs.Lists.{Each}
 use Rattle.run_theory.proofs.Pasts.{each_append}
 use Rattle.sig_core.specs.declared.member.Member.{Member}
@@ -18,14 +18,10 @@ use Rattle.tc_block.specs.State.{TcState}
 use Rattle.tc_block.specs.Tc.{tc_row}
 use Rattle.tc_block.specs.Touched.{place_of, touched_by, unwritten, written, written_by}
 use Rattle.world_core.specs.Start.{Start, first_view}
+use Rattle.commit_laws.proofs.EachSent.{each_set}
 use Rattle.commit_laws.proofs.LiveKeeps.{AllAre, LiveKeeps, StepKeeps, TurnsKeep, live_keeps}
 use Rattle.transit_laws.specs.Routes.{IsAskedRouted, IsTouchedRouted, IsTransactionRouted, replicas}
 use Rattle.transit_laws.proofs.RoutesSends.{IsSent, aborts_sent, phase_sent, plain_sent}
-
-each_set : {A : Type 0} (P : A → Type 0) (xs : List A) (at : ℕ) (x : A) → P x → Each P xs → Each P (slice_set xs at x)
-each_set P [] at x own all = tt
-each_set P (y ∷ ys) zero x own all = (own, all.1)
-each_set P (y ∷ ys) (suc at) x own all = (all.0, each_set P ys at x own all.1)
 
 module _ (start : Start) (some : (key : List ℕ) → 0 < length (replicas start key)) where
   touched_routed : (keys : List Touched) (key : List ℕ) (place : Option ℕ) → Each (IsTouchedRouted start) keys
@@ -36,7 +32,7 @@ module _ (start : Start) (some : (key : List ℕ) → 0 < length (replicas start
   written_routed : (keys : List Touched) (key : List ℕ) (chain : List Member) (place : Option ℕ) → chain ≡ replicas start key → Each (IsTouchedRouted start) keys
       → Each (IsTouchedRouted start) (written_by keys key chain place)
   written_routed keys key chain None is all = all
-  written_routed keys key chain (Some at) is all = each_set (IsTouchedRouted start) keys at (written key chain) is all
+  written_routed keys key chain (Some at) is all = each_set (IsTouchedRouted start) keys at (written key chain) all is
 
   answered_routed : (t : Transaction) → IsTransactionRouted start t → (answer : Answer) (op : Op) (chain : List Member) → chain ≡ replicas start (key_of op) → Each (IsTouchedRouted start) (touched_after answer t.touched op chain)
   answered_routed t fine answer.Done op chain is = written_routed t.touched (key_of op) chain (place_of t.touched (key_of op)) is fine.touched

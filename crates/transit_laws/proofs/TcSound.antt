@@ -128,9 +128,8 @@ module _ (s : TcState) (bs : List TxId) (n : IsSound s bs) where
       begun = each_back (λ (v : TxId). v.seq < s.next_seq) tx turn.step.effects.sends bs is.gives own.below n.begun;
     }
 
-  begins_sound : (name : Option ℕ) (b : Bool) → StaysSound bs (begin_if s name b)
-  begins_sound name true = n
-  begins_sound name false = record {
+  begins_sound : (name : Option ℕ) → StaysSound bs (begin_if s name false)
+  begins_sound name = record {
     once = once_inserted s.live (next_tx s) fresh others n.once;
     live = each_inserted (IsOwned s.node (s.next_seq + 1) bs) s.live (next_tx s) fresh others (record { home = refl; below = omega arith; right = refl; touched = λ is. absurd cc; given = λ is. absurd cc })
         (each_map (IsOwned s.node s.next_seq bs) (IsOwned s.node (s.next_seq + 1) bs) s.live (λ x is. record { home = is.home; below = omega (arith, is.below); right = is.right; touched = is.touched; given = is.given }) n.live);
@@ -156,7 +155,7 @@ module _ (s : TcState) (bs : List TxId) (n : IsSound s bs) where
         turned = λ tx t at split turn both. turn_sound tx t at split turn (of_turn tx t turn both.0 both.1.0 both.1.1) turn.over;
         stays = n;
         full = λ name. n;
-        begins = λ name. begins_sound name false;
+        begins = begins_sound;
         passes = λ tx ahead. n;
       })
     where
