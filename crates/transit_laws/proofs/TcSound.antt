@@ -36,13 +36,13 @@ use Rattle.commit_laws.specs.Ways.{Way, back, back_by, closes, forth, is_abortin
 use Rattle.commit_laws.proofs.LiveSplit.{KeysOnce, Live, Split, each_inserted, once_gone, once_inserted, once_set}
 use Rattle.commit_laws.proofs.OneWay.{back_more}
 use Rattle.commit_laws.proofs.EachTc.{tc_each}
-use Rattle.commit_laws.proofs.EachTurn.{RowsAre, rows_both, rows_of}
+use Rattle.commit_laws.proofs.EachTurn.{rows_both, rows_of}
 use Rattle.commit_laws.proofs.TcWays.{AllWays, TurnWays, WayOf, turn_ways}
 use Rattle.answer_laws.proofs.TcOps.{is_right}
 use Rattle.transit_laws.proofs.LqhWaits.{WaitersAsk, lqh_asks}
 use Rattle.transit_laws.proofs.TcAborts.{TurnAborts, turn_aborts}
-use Rattle.transit_laws.proofs.TcTokens.{IsOwned, IsSound, now_given_up}
-use Rattle.transit_laws.proofs.TcTurns.{TurnTokens, gives_up, aborted_turn, answer_turn, commit_turn, committed_turn, completed_turn, decide_turn, go_on_turn, operate_turn, refuse_turn, rollback_turn, wait_turn}
+use Rattle.transit_laws.proofs.TcTokens.{IsOwned, IsSound, now_given_up, rows_tokens}
+use Rattle.transit_laws.proofs.TcTurns.{TurnTokens, gives_up}
 
 -- what gives a transaction up is of this one
 abbrev IsBackOf : TxId → Way → Type 0
@@ -148,7 +148,7 @@ module _ (s : TcState) (bs : List TxId) (n : IsSound s bs) where
   pub tc_sound : (body : Body) → StaysSound bs (tc_row s body)
   tc_sound body =
       tc_each (λ tx t turn. Both tx t turn) (StaysSound bs) s body (record {
-        turns = λ tx t at split. rows_both s.node s.view tx t body (λ turn. TurnTokens tx t 1 turn) (λ turn. TurnAborts tx t turn × TurnWays tx t.phase turn) (turn_tokens tx t (own tx t at split).right)
+        turns = λ tx t at split. rows_both s.node s.view tx t body (λ turn. TurnTokens tx t 1 turn) (λ turn. TurnAborts tx t turn × TurnWays tx t.phase turn) (rows_tokens s.node s.view tx t body (own tx t at split).right 1 (λ key answer is. omega arith) (λ key why is. omega arith))
             (rows_both s.node s.view tx t body (λ turn. TurnAborts tx t turn) (λ turn. TurnWays tx t.phase turn)
             (rows_of s.node s.view tx t body (λ turn. TurnAborts tx t turn) (turn_aborts s.node s.view tx t (own tx t at split).touched body))
             (rows_of s.node s.view tx t body (λ turn. TurnWays tx t.phase turn) (turn_ways tx s.node s.view t body)));
@@ -161,21 +161,6 @@ module _ (s : TcState) (bs : List TxId) (n : IsSound s bs) where
     where
       Both : TxId → Transaction → Turn → Type 0
       Both tx t turn = TurnTokens tx t 1 turn × (TurnAborts tx t turn × TurnWays tx t.phase turn)
-
-      turn_tokens : (tx : TxId) (t : Transaction) → is_right t.asked t.phase ≡ true → RowsAre s.node s.view tx t body (λ turn. TurnTokens tx t 1 turn)
-      turn_tokens tx t right = record {
-        goes_on = λ at is. go_on_turn tx t right s.node s.view at 1;
-        operates = λ op is. operate_turn tx t right s.view op 1;
-        decides = λ is. decide_turn tx t right s.node 1;
-        rolls_back = λ is. rollback_turn tx t right s.node s.view 1;
-        waits = λ is. wait_turn tx t right 1;
-        answers = λ key answer is. answer_turn tx t right s.view key answer 1 (omega arith);
-        refuses = λ key why is. refuse_turn tx t right s.node s.view key why 1 (omega arith);
-        committed = λ key is. committed_turn tx t right s.node s.view 1;
-        completed = λ key is. completed_turn tx t right s.node 1;
-        aborted = λ key is. aborted_turn tx t right s.node 1;
-        commits = λ epoch is. commit_turn tx t right s.node s.view epoch 1;
-      }
 
 -- a node is sound: its coordinator is, and who waits in a queue has a request that waits
 abbrev pub IsSoundHost : host.Host → List TxId → Type 0
