@@ -41,7 +41,8 @@ use Rattle.commit_laws.specs.Firsts.{first}
 use Rattle.commit_laws.proofs.Firsts.{first-get, first_passes, get_by}
 use Rattle.commit_laws.proofs.EachSent.{each_get, each_mapped, each_removed, each_set}
 
--- K is of each transaction that is opened, P of each signal that is sent, and M of each mark
+-- K is of each transaction that is opened, P of each signal that is sent, and M of each mark. A transaction that is opened
+-- changes in all but its number, which it has once it has begun; and what is sent of one is of its number
 pub record ApiForms (K : OpenTransaction → Type 0) (P : Outgoing → Type 0) (M : Mark → Type 0) (body : Body) : Type 0 where
   pub asked : (name : Option ℕ) (node : ℕ) (op : Option Op) → K (asked_for name node op)
   pub changed : (t u : OpenTransaction) → u.tx ≡ t.tx → K t → K u

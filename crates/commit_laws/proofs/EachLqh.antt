@@ -53,7 +53,8 @@ pub record RequestSends (P : Outgoing → Type 0) (r : Request) : Type 0 where
   pub passes : (image : Option (List ℕ)) (next : Member) → slice_get r.chain (r.at + 1) ≡ Some next
       → P (to_place (rows_of next.node) (Chain (LqhKeyReq r.tx (Store (work_key r.work) image) r.chain (r.at + 1))))
 
--- what the rows send from this state, at this signal
+-- what the rows send from this state, at this signal: of a request that comes or that waited, to go on with their own work,
+-- of a commit, a completion or an abort, and to a client
 pub record RowsSend (P : Outgoing → Type 0) (s : LqhState) (body : Body) : Type 0 where
   pub asked : (r : Request) → body ≡ Chain (LqhKeyReq r.tx r.work r.chain r.at) → RequestSends P r
   pub waited : (at : ℕ) (r : Request) → slice_get s.waiting at ≡ Some r → RequestSends P r
@@ -69,7 +70,7 @@ pub record RowsSend (P : Outgoing → Type 0) (s : LqhState) (body : Body) : Typ
   pub waits : (tx ahead : TxId) → P (to_place (coordinator_of tx) (Client (LqhWaitConf tx ahead)))
   pub dumps : (rows : List (List ℕ × List ℕ)) (next : Option ℕ) → P (to_place client (Client (DumpConf rows next)))
 
--- what the rows mark from this state, at this signal
+-- what the rows mark from this state, at this signal: a commit where there is a record, an abort where it was prepared
 pub record RowsMark (M : Mark → Type 0) (s : LqhState) (body : Body) : Type 0 where
   pub prepared : (tx : TxId) (key : List ℕ) → M (Prepared tx key)
   pub applied : (tx : TxId) (key : List ℕ) (epoch : ℕ) (chain : List Member) (at : ℕ) (committed : Bool) → body ≡ Chain (Commit tx key epoch chain at)

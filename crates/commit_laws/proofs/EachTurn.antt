@@ -48,22 +48,29 @@ pub record CommittedForms (node : ℕ) (view : View) (tx : TxId) (t : Transactio
 
 -- the turns that the transaction may take at this signal
 pub record TurnForms (node : ℕ) (view : View) (tx : TxId) (t : Transaction) (body : Body) (R : Turn → Type 0) : Type 0 where
+  -- it does nothing, or sends more of what it sends in its phase
   pub stays : R (going (stay t))
   pub goes_on : (at : ℕ) → R (going (go_on_if node view tx t at true))
+  -- an operation goes to its primary, is answered, or is answered when the transaction is aborted already
   pub operates : (op : Op) → body ≡ Client (TcKeyReq tx op) → operate.can_operate t op ≡ true → R (going (operate.operating tx t op (chain_of view (key_of op))))
   pub answers : (key : List ℕ) (answer : Answer) (asked : Asked) → body ≡ Chain (LqhKeyConf tx key answer) → t.asked ≡ Some asked → t.phase ≡ Open
       → R (going (sending (operate.answered t asked answer) client (Client (TcKeyConf tx answer))))
   pub late : (key : List ℕ) (asked : Asked) (why : AbortCause) (verifying : Bool) (awaited : ℕ) → t.asked ≡ Some asked → t.phase ≡ Aborting why verifying awaited → R (going (operate.late_answer view tx t key))
+  -- the replicas are asked what it waits for
   pub waits : (asked : Asked) → t.asked ≡ Some asked → R (going (operate.wait_by tx t (Some asked)))
+  -- it asks for an epoch, and has one
   pub decides : body ≡ Client (TcCommitReq tx) → operate.is_ready t.phase t.asked ≡ true → R (going (commit.decide_if node tx t true))
   pub commits : (epoch : ℕ) → body ≡ Epoch (DiVerifyConf tx epoch) → t.phase ≡ Verifying → (length t.touched == 0) ≡ false → R (going (entering node view tx t (Committing epoch (length t.touched))))
   pub commits_none : (epoch : ℕ) → body ≡ Epoch (DiVerifyConf tx epoch) → t.phase ≡ Verifying → CommittedForms node view tx t epoch R
+  -- a key is committed, the last one or not, and so with completions
   pub committed : (epoch awaited : ℕ) → t.phase ≡ Committing epoch awaited → nat_lt 1 awaited ≡ true → R (going (stay (at_phase t (Committing epoch (awaited - 1)))))
   pub committed_all : (epoch awaited : ℕ) → t.phase ≡ Committing epoch awaited → CommittedForms node view tx t epoch R
   pub completed : (epoch awaited : ℕ) → t.phase ≡ Completing epoch awaited → nat_lt 1 awaited ≡ true → R (going (stay (at_phase t (Completing epoch (awaited - 1)))))
   pub completed_all : (epoch awaited : ℕ) → t.phase ≡ Completing epoch awaited → nat_lt 1 awaited ≡ false → R (complete.completed_if node tx t epoch awaited false)
+  -- it is given up: the client wishes it, or an operation is refused
   pub rolls_back : is_decided t.phase ≡ false → is_aborting t.phase ≡ false → AbortForms node view tx t R
   pub refuses : (asked : Asked) → t.asked ≡ Some asked → t.phase ≡ Open → AbortForms node view tx (asking t None) R
+  -- a replica has aborted a key, the last one or not
   pub aborted : (why : AbortCause) (verifying : Bool) (awaited : ℕ) → t.phase ≡ Aborting why verifying awaited → nat_lt 1 awaited ≡ true
       → R (going (stay (at_phase t (Aborting why verifying (awaited - 1)))))
   pub aborted_all : (why : AbortCause) (verifying : Bool) (awaited : ℕ) → t.phase ≡ Aborting why verifying awaited → nat_lt 1 awaited ≡ false
