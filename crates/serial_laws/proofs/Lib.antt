@@ -1,6 +1,7 @@
 pub mod AlongRuns
 pub mod DecisionSteps
 pub mod EntriesGrow
+pub mod EveryCut
 pub mod FairSteps
 pub mod Finals
 pub mod Folds

@@ -1,12 +1,10 @@
 -- A run, and the parts of it up to some time.
-use Rattle.std.proofs.Common.{◌≡◌, ◌≢◌, ◌⊎◌, ◌<◌, ℕ, zero, suc, Bool, true, false, ◌||◌, List, [], ◌∷◌, ◌++◌, refl, sym, ap, ◌∙◌, subst, inl, inr, arith}
+use Rattle.std.proofs.Common.{◌≡◌, ◌≢◌, ◌⊎◌, ◌<◌, ℕ, zero, suc, Bool, true, ◌||◌, List, [], ◌∷◌, ◌++◌, sym, ap, ◌∙◌, subst, inl, inr, arith}
 use Rattle.std.proofs.lemmas.Bool.{cases_eq, or_left, or_right}
 use Rattle.std.specs.List.{list_any}
 use Rattle.run_theory.specs.Lists.{IsPast}
 use Rattle.run_theory.specs.Runs.{AreLogs}
-use Rattle.run_theory.proofs.Cuts.{closed_of_logs}
 use Rattle.run_theory.proofs.Merging.{log_of-append}
-use Rattle.run_theory.proofs.Pasts.{past_self}
 use Rattle.run_theory.proofs.Runs.{logs_of_run}
 use Rattle.sig_core.specs.declared.log.LogStep.{LogStep}
 use Rattle.sig_core.specs.declared.mark.Mark.{Mark}
@@ -16,8 +14,6 @@ use Rattle.sig_core.specs.Same.{same_tx}
 use Rattle.world_core.specs.Machine.{after, machine}
 use Rattle.world_core.specs.Marks.{has_mark, have_mark}
 use Rattle.world_core.specs.Start.{Start}
-use Rattle.world_core.proofs.Stamped.{stamped}
-use Rattle.commit_laws.specs.Laws.{IsClosedCut}
 use Rattle.commit_laws.specs.Ways.{Way, back, back_by, closes, forth, forth_by, neither, put_ways, sent_ways, tc_sends, way_of}
 use Rattle.transit_laws.specs.GivenUp.{is_carried_out, is_given_up}
 use Rattle.transit_laws.specs.Transit.{Comes, IsRun, logs_of}

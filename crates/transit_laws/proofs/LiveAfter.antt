@@ -1,11 +1,11 @@
 -- One transaction among those of a coordinator, where one of them changes, is forgotten or begins.
-use Rattle.std.proofs.Common.{◌≡◌, ℕ, ◌+◌, ◌<◌, ◌≤◌, List, [], ◌∷◌, ◌++◌, Bool, true, false, refl, sym, ap, ◌∙◌, subst, arith}
-use Rattle.std.specs.Prelude.{if◌then◌else◌, Option, None, Some}
+use Rattle.std.proofs.Common.{◌≡◌, ℕ, ◌+◌, ◌≤◌, List, [], ◌∷◌, ◌++◌, Bool, true, false, refl, sym, ap, ◌∙◌, arith}
+use Rattle.std.specs.Prelude.{if◌then◌else◌, None, Some}
 use Rattle.run_theory.specs.Lists.{Each}
 use Rattle.sig_core.specs.declared.member.TxId.{TxId}
 use Rattle.sig_core.specs.Same.{same_tx}
 use Rattle.tc_block.specs.declared.transaction.Transaction.{Transaction}
-use Rattle.answer_laws.proofs.Tally.{one_if, tally, tally_append, tally_between}
+use Rattle.answer_laws.proofs.Tally.{one_if, tally}
 use Rattle.answer_laws.proofs.TcLives.{IsOwn, is_keyed}
 use Rattle.answer_laws.proofs.TcMoves.{same_tx-is}
 use Rattle.answer_laws.proofs.TcSends.{same_tx-self}
@@ -38,11 +38,7 @@ module _ (tx : TxId) where
   pub live_here : (t : Transaction) (back : Live) → of_live tx ((tx, t) ∷ back) ≡ Some t
   live_here t back = ap (λ b. if b then Some t else of_live tx back) (same_tx-self tx)
 
-  -- beside another one
-  pub live_beside : (v : TxId) (t : Transaction) (front back : Live) → same_tx v tx ≡ false → of_live tx (front ++ (v, t) ∷ back) ≡ of_live tx (front ++ back)
-  live_beside v t [] back off = ap (λ b. if b then Some t else of_live tx back) off
-  live_beside v t (e ∷ front) back off = ap (λ w. if same_tx e.0 tx then Some e.1 else w) (live_beside v t front back off)
-
+  -- another one behind it
   pub live_end : (v : TxId) (t : Transaction) (live : Live) → same_tx v tx ≡ false → of_live tx (live ++ (v, t) ∷ []) ≡ of_live tx live
   live_end v t [] off = ap (λ b. if b then Some t else None) off
   live_end v t (e ∷ live) off = ap (λ w. if same_tx e.0 tx then Some e.1 else w) (live_end v t live off)

@@ -15,8 +15,6 @@ use Rattle.sig_core.specs.declared.signal.chain.RowWork.TheVariants.{Operate, St
 use Rattle.sig_core.specs.Chain.{node_at}
 use Rattle.sig_core.specs.Op.{answer_to, image_of, key_of}
 use Rattle.sig_core.specs.Rows.{prepared}
-use Rattle.sig_core.specs.Same.{same_key, same_tx}
-use Rattle.lqh_block.specs.Work.{work_key}
 use Rattle.tc_block.specs.declared.transaction.Transaction.{Transaction}
 use Rattle.world_core.specs.History.{is_done}
 use Rattle.world_core.specs.Start.{Start}
@@ -27,8 +25,8 @@ use Rattle.commit_laws.specs.Replica.{Cell, operated, storing, worked}
 use Rattle.commit_laws.proofs.Keys.{same_tx-self}
 use Rattle.commit_laws.proofs.RecordLemmas.{found-stored}
 use Rattle.transit_laws.specs.Routes.{IsWorkAt, primary, replicas}
-use Rattle.transit_laws.proofs.CircleView.{HasIt, IsAsked, IsAs, IsStoring, Settles, Stores, Tells, View, answers_settle, last_settles, next_stores, tells_as, writes_store}
-use Rattle.transit_laws.proofs.KeyTokens.{answers, operated_token, passed_token, performs, refuses, stored_token, work_token}
+use Rattle.transit_laws.proofs.CircleView.{HasIt, IsAsked, IsStoring, Settles, Stores, Tells, View, answers_settle, last_settles, next_stores, writes_store}
+use Rattle.transit_laws.proofs.KeyTokens.{answers, operated_token, passed_token, performs, stored_token, work_token}
 
 not_none : (xs : List Member) (at : ℕ) → slice_get xs at ≡ None → at < length xs → ⊥
 not_none xs at none low =

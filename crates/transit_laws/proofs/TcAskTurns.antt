@@ -33,7 +33,8 @@ use Rattle.answer_laws.proofs.Tally.{one_if, tally, tally_append, tally_between}
 use Rattle.answer_laws.proofs.TcLives.{IsOwn, insert_new, is_keyed}
 use Rattle.answer_laws.proofs.TcMoves.{IsEntry, found, same_tx-is}
 use Rattle.transit_laws.specs.Live.{of_live}
-use Rattle.transit_laws.proofs.LiveAfter.{live_behind, live_beside, live_end, live_here, live_none, unborn_none}
+use Rattle.transit_laws.proofs.LiveAfter.{live_behind, live_end, live_here, live_none, unborn_none}
+use Rattle.transit_laws.proofs.OfLive.{of_other}
 use Rattle.transit_laws.proofs.TcAsks.{AreMute, AskTurn, IsAsking, aborted_asks, answer_asks, commit_asks, committed_asks, completed_asks, decide_asks, go_on_asks, is_ask, is_mute, operate_asks, refuse_asks, rollback_asks, wait_asks}
 use Rattle.transit_laws.proofs.TcCircle.{GoesOn, aborted_going, answer_going, commit_going, committed_going, completed_going, decide_going, go_on_going, left_by, operate_going, refuse_going, rollback_going, wait_going}
 use Rattle.transit_laws.proofs.Weighing.{in_sends}
@@ -94,11 +95,11 @@ module _ (tx : TxId) where
 
         over : (f : IsEntry (same_tx one) s.live place) (b : Bool) → (row f.value).over ≡ b → (m : Bool) → same_tx f.key tx ≡ m → AskSees s body (turned_if s place (row f.value) b)
         over f true e false m =
-            record { grows = omega arith; seen = same (ap (of_live tx) f.removed ∙ sym (live_beside tx f.key f.value f.front f.back m) ∙ ap (of_live tx) (sym f.is)) (quiet f m) }
+            record { grows = omega arith; seen = same (ap (of_live tx) f.removed ∙ sym (of_other f.front f.back f.key tx f.value m) ∙ ap (of_live tx) (sym f.is)) (quiet f m) }
         over f false e false m = record {
           grows = omega arith;
           seen = same
-              (ap (of_live tx) (f.set (row f.value).step.state) ∙ live_beside tx f.key (row f.value).step.state f.front f.back m ∙ sym (live_beside tx f.key f.value f.front f.back m)
+              (ap (of_live tx) (f.set (row f.value).step.state) ∙ of_other f.front f.back f.key tx (row f.value).step.state m ∙ sym (of_other f.front f.back f.key tx f.value m)
               ∙ ap (of_live tx) (sym f.is))
               (quiet f m);
         }

@@ -1,5 +1,5 @@
 -- What a row of a coordinator does to a transaction that is open, or waits for its epoch, then.
-use Rattle.std.proofs.Common.{◌≡◌, ◌⊎◌, ◌++◌, ◌&&◌, ℕ, List, [], ◌∷◌, length, Bool, true, false, refl, sym, ap, ◌∙◌, inl, inr}
+use Rattle.std.proofs.Common.{◌≡◌, ◌⊎◌, ◌++◌, ℕ, List, [], ◌∷◌, length, Bool, true, false, refl, sym, ap, ◌∙◌, inl, inr}
 use Rattle.std.proofs.lemmas.Bool.{and_parts}
 use Rattle.std.specs.Prelude.{◌==◌, if◌then◌else◌, nat_lt, Option, None, Some}
 use Rattle.sig_core.specs.declared.member.Member.{Member}
@@ -35,8 +35,7 @@ use Rattle.tc_block.specs.Operate.{asked_on}
 use Rattle.tc_block.specs.Sends.{entering, go_on_if, go_on_row}
 use Rattle.tc_block.specs.Touched.{fits}
 use Rattle.tc_block.specs.Turn.{Turn, asking, going}
-use Rattle.answer_laws.proofs.SendKinds.{are_of}
-use Rattle.transit_laws.proofs.TcTokenless.{answer_tokenless, decide_tokenless, go_on_tokenless, is_tokenless, wait_tokenless}
+use Rattle.transit_laws.proofs.TcStill.{AreStill, go_on_still, wait_still}
 
 -- it is open, or waits for its epoch
 abbrev pub is_early : Phase → Bool
@@ -56,12 +55,12 @@ IsDeaf t body = Unit {0}
 
 -- It rests, sends an operation to the primary, notes the answer of its operation, or asks for an epoch.
 pub data Going (tx : TxId) (body : Body) (t u : Transaction) (sends : List Outgoing) : Type 0 where
-  rests : u ≡ t → are_of is_tokenless sends ≡ true → IsDeaf t body → Going tx body t u sends
+  rests : u ≡ t → AreStill tx sends → IsDeaf t body → Going tx body t u sends
   operates : (op : Op) (chain : List Member) → t.asked ≡ None → t.phase ≡ Open → u.ops ≡ t.ops → u.asked ≡ Some (record { op = op; chain = chain }) → u.phase ≡ Open
       → sends ≡ to_place (rows_of (node_at chain 0)) (Chain (LqhKeyReq tx (Operate op) chain 0)) ∷ [] → Going tx body t u sends
   notes : (asked : Asked) (answer : Answer) (own : List ℕ) → body ≡ Chain (LqhKeyConf tx own answer) → asked_on t.asked own ≡ Some asked → t.phase ≡ Open
-      → u.ops ≡ t.ops ++ (asked.op, answer) ∷ [] → u.asked ≡ None → u.phase ≡ Open → are_of is_tokenless sends ≡ true → Going tx body t u sends
-  verifies : t.asked ≡ None → t.phase ≡ Open → u.ops ≡ t.ops → u.asked ≡ None → u.phase ≡ Verifying → are_of is_tokenless sends ≡ true → Going tx body t u sends
+      → u.ops ≡ t.ops ++ (asked.op, answer) ∷ [] → u.asked ≡ None → u.phase ≡ Open → AreStill tx sends → Going tx body t u sends
+  verifies : t.asked ≡ None → t.phase ≡ Open → u.ops ≡ t.ops → u.asked ≡ None → u.phase ≡ Verifying → AreStill tx sends → Going tx body t u sends
 
 -- so it is, if the transaction is open or waits for its epoch after the turn
 abbrev pub GoesOn : TxId → Body → Transaction → Turn → Type 0
@@ -77,7 +76,7 @@ ready_is (Aborting why verifying awaited) asked is = absurd cc
 
 module _ (tx : TxId) (t : Transaction) where
   -- it is as before
-  rest_goes : (body : Body) (sends : List Outgoing) → are_of is_tokenless sends ≡ true → IsDeaf t body → GoesOn tx body t (going (record { state = t; effects = record { sends = sends; marks = [] } }))
+  rest_goes : (body : Body) (sends : List Outgoing) → AreStill tx sends → IsDeaf t body → GoesOn tx body t (going (record { state = t; effects = record { sends = sends; marks = [] } }))
   rest_goes body sends none deaf u is early = let same : t ≡ u = cc in rests (sym same) none deaf
 
   -- it is open no more
@@ -103,14 +102,14 @@ module _ (tx : TxId) (t : Transaction) where
   pub go_on_going : (node : ℕ) (view : View) (at : ℕ) → GoesOn tx (Host (Continue (work.Transaction tx) at)) t (going (go_on_row node view tx t at))
   go_on_going node view at u is early =
       let same : (go_on_row node view tx t at).state ≡ u = cc in
-      rests (sym same ∙ go_on_same node view at) (go_on_tokenless node view tx t at) tt
+      rests (sym same ∙ go_on_same node view at) (go_on_still tx tx node view t at) tt
 
   pub operate_going : (view : View) (op : Op) → GoesOn tx (Client (TcKeyReq tx op)) t (going (operate.operate_row view tx t op))
   unfolding operate.operate_row
   operate_going view op = by (operate.can_operate t op) refl
     where
       by : (b : Bool) → operate.can_operate t op ≡ b → GoesOn tx (Client (TcKeyReq tx op)) t (going (operate.operate_if view tx t op b))
-      by false e u is early = rest_goes (Client (TcKeyReq tx op)) [] refl tt u is early
+      by false e u is early = rest_goes (Client (TcKeyReq tx op)) [] tt tt u is early
       by true e u is early =
           let ready = ready_is t.phase t.asked (and_parts (operate.is_ready t.phase t.asked) (fits t.touched (key_of op)) e).0 in
           let same : (operate.operating tx t op (chain_of view (key_of op))).state ≡ u = cc in
@@ -124,12 +123,12 @@ module _ (tx : TxId) (t : Transaction) where
       by : (asked : Option Asked) (phase : Phase) → asked_on t.asked own ≡ asked → t.phase ≡ phase → GoesOn tx (Chain (LqhKeyConf tx own answer)) t (going (operate.answer_by view tx t own answer asked phase))
       by (Some asked) Open on p u is early =
           let same : operate.answered t asked answer ≡ u = cc in
-          notes asked answer own refl on p (ap (λ (w : Transaction). w.ops) (sym same)) (ap (λ (w : Transaction). w.asked) (sym same)) (ap (λ (w : Transaction). w.phase) (sym same) ∙ p) refl
+          notes asked answer own refl on p (ap (λ (w : Transaction). w.ops) (sym same)) (ap (λ (w : Transaction). w.asked) (sym same)) (ap (λ (w : Transaction). w.phase) (sym same) ∙ p) (refl, tt)
       by (Some asked) (Aborting why verifying awaited) on p u is early = closed_goes (Chain (LqhKeyConf tx own answer)) (going (operate.late_answer view tx t own)) (ap is_early p) u is early
-      by (Some asked) Verifying on p u is early = rest_goes (Chain (LqhKeyConf tx own answer)) [] refl (inr p) u is early
+      by (Some asked) Verifying on p u is early = rest_goes (Chain (LqhKeyConf tx own answer)) [] tt (inr p) u is early
       by (Some asked) (Committing epoch awaited) on p u is early = closed_goes (Chain (LqhKeyConf tx own answer)) (going (stay t)) (ap is_early p) u is early
       by (Some asked) (Completing epoch awaited) on p u is early = closed_goes (Chain (LqhKeyConf tx own answer)) (going (stay t)) (ap is_early p) u is early
-      by None phase on p u is early = rest_goes (Chain (LqhKeyConf tx own answer)) [] refl (inl on) u is early
+      by None phase on p u is early = rest_goes (Chain (LqhKeyConf tx own answer)) [] tt (inl on) u is early
 
   wait_same : (operate.wait_row tx t).state ≡ t
   unfolding operate.wait_row
@@ -142,18 +141,18 @@ module _ (tx : TxId) (t : Transaction) where
   pub wait_going : GoesOn tx (Client (TcWaitReq tx)) t (going (operate.wait_row tx t))
   wait_going u is early =
       let same : (operate.wait_row tx t).state ≡ u = cc in
-      rests (sym same ∙ wait_same) (wait_tokenless tx t) tt
+      rests (sym same ∙ wait_same) (wait_still tx tx t) tt
 
   pub decide_going : (node : ℕ) → GoesOn tx (Client (TcCommitReq tx)) t (going (commit.decide_row node tx t))
   unfolding commit.decide_row
   decide_going node = by (operate.is_ready t.phase t.asked) refl
     where
       by : (b : Bool) → operate.is_ready t.phase t.asked ≡ b → GoesOn tx (Client (TcCommitReq tx)) t (going (commit.decide_if node tx t b))
-      by false e u is early = rest_goes (Client (TcCommitReq tx)) [] refl tt u is early
+      by false e u is early = rest_goes (Client (TcCommitReq tx)) [] tt tt u is early
       by true e u is early =
           let ready = ready_is t.phase t.asked e in
           let same : (commit.decide_if node tx t true).state ≡ u = cc in
-          verifies ready.1 ready.0 (ap (λ (w : Transaction). w.ops) (sym same)) (ap (λ (w : Transaction). w.asked) (sym same) ∙ ready.1) (ap (λ (w : Transaction). w.phase) (sym same)) refl
+          verifies ready.1 ready.0 (ap (λ (w : Transaction). w.ops) (sym same)) (ap (λ (w : Transaction). w.asked) (sym same) ∙ ready.1) (ap (λ (w : Transaction). w.phase) (sym same)) (refl, tt)
 
   -- all is committed
   all_going : (body : Body) (node : ℕ) (view : View) (epoch : ℕ) → GoesOn tx body t (complete.all_committed node view tx t epoch)
@@ -174,10 +173,10 @@ module _ (tx : TxId) (t : Transaction) where
 
       by : (phase : Phase) → GoesOn tx (Epoch (DiVerifyConf tx epoch)) t (commit.commit_by node view tx t epoch phase)
       by Verifying = which (length t.touched == 0)
-      by Open = rest_goes (Epoch (DiVerifyConf tx epoch)) [] refl tt
-      by (Committing other awaited) = rest_goes (Epoch (DiVerifyConf tx epoch)) [] refl tt
-      by (Completing other awaited) = rest_goes (Epoch (DiVerifyConf tx epoch)) [] refl tt
-      by (Aborting why verifying awaited) = rest_goes (Epoch (DiVerifyConf tx epoch)) [] refl tt
+      by Open = rest_goes (Epoch (DiVerifyConf tx epoch)) [] tt tt
+      by (Committing other awaited) = rest_goes (Epoch (DiVerifyConf tx epoch)) [] tt tt
+      by (Completing other awaited) = rest_goes (Epoch (DiVerifyConf tx epoch)) [] tt tt
+      by (Aborting why verifying awaited) = rest_goes (Epoch (DiVerifyConf tx epoch)) [] tt tt
 
   pub committed_going : (node : ℕ) (view : View) (own : List ℕ) → GoesOn tx (Chain (Committed tx own)) t (commit.committed_row node view tx t)
   unfolding commit.committed_row
@@ -189,10 +188,10 @@ module _ (tx : TxId) (t : Transaction) where
 
       by : (phase : Phase) → GoesOn tx (Chain (Committed tx own)) t (commit.committed_by node view tx t phase)
       by (Committing epoch awaited) = which epoch awaited (nat_lt 1 awaited)
-      by Open = rest_goes (Chain (Committed tx own)) [] refl tt
-      by Verifying = rest_goes (Chain (Committed tx own)) [] refl tt
-      by (Completing epoch awaited) = rest_goes (Chain (Committed tx own)) [] refl tt
-      by (Aborting why verifying awaited) = rest_goes (Chain (Committed tx own)) [] refl tt
+      by Open = rest_goes (Chain (Committed tx own)) [] tt tt
+      by Verifying = rest_goes (Chain (Committed tx own)) [] tt tt
+      by (Completing epoch awaited) = rest_goes (Chain (Committed tx own)) [] tt tt
+      by (Aborting why verifying awaited) = rest_goes (Chain (Committed tx own)) [] tt tt
 
   pub completed_going : (node : ℕ) (own : List ℕ) → GoesOn tx (Chain (Completed tx own)) t (complete.completed_row node tx t)
   unfolding complete.completed_row
@@ -204,10 +203,10 @@ module _ (tx : TxId) (t : Transaction) where
 
       by : (phase : Phase) → GoesOn tx (Chain (Completed tx own)) t (complete.completed_by node tx t phase)
       by (Completing epoch awaited) = which epoch awaited (nat_lt 1 awaited)
-      by Open = rest_goes (Chain (Completed tx own)) [] refl tt
-      by Verifying = rest_goes (Chain (Completed tx own)) [] refl tt
-      by (Committing epoch awaited) = rest_goes (Chain (Completed tx own)) [] refl tt
-      by (Aborting why verifying awaited) = rest_goes (Chain (Completed tx own)) [] refl tt
+      by Open = rest_goes (Chain (Completed tx own)) [] tt tt
+      by Verifying = rest_goes (Chain (Completed tx own)) [] tt tt
+      by (Committing epoch awaited) = rest_goes (Chain (Completed tx own)) [] tt tt
+      by (Aborting why verifying awaited) = rest_goes (Chain (Completed tx own)) [] tt tt
 
   -- aborts
   aborted_for_going : (body : Body) (node : ℕ) (view : View) (w : Transaction) (why : AbortCause) → GoesOn tx body t (abort.aborted_for node view tx w why)
@@ -225,10 +224,10 @@ module _ (tx : TxId) (t : Transaction) where
       by : (asked : Option Asked) (phase : Phase) → asked_on t.asked own ≡ asked → t.phase ≡ phase → GoesOn tx (Chain (LqhKeyRef tx own why)) t (abort.refuse_by node view tx t own why asked phase)
       by (Some asked) Open on p = aborted_for_going (Chain (LqhKeyRef tx own why)) node view (asking t None) why
       by (Some asked) (Aborting other verifying awaited) on p = closed_goes (Chain (LqhKeyRef tx own why)) (going (operate.late_answer view tx t own)) (ap is_early p)
-      by (Some asked) Verifying on p = rest_goes (Chain (LqhKeyRef tx own why)) [] refl (inr p)
+      by (Some asked) Verifying on p = rest_goes (Chain (LqhKeyRef tx own why)) [] tt (inr p)
       by (Some asked) (Committing epoch awaited) on p = closed_goes (Chain (LqhKeyRef tx own why)) (going (stay t)) (ap is_early p)
       by (Some asked) (Completing epoch awaited) on p = closed_goes (Chain (LqhKeyRef tx own why)) (going (stay t)) (ap is_early p)
-      by None phase on p = rest_goes (Chain (LqhKeyRef tx own why)) [] refl (inl on)
+      by None phase on p = rest_goes (Chain (LqhKeyRef tx own why)) [] tt (inl on)
 
   pub rollback_going : (node : ℕ) (view : View) → GoesOn tx (Client (TcRollbackReq tx)) t (abort.rollback_row node view tx t)
   unfolding abort.rollback_row
@@ -237,9 +236,9 @@ module _ (tx : TxId) (t : Transaction) where
       by : (phase : Phase) → GoesOn tx (Client (TcRollbackReq tx)) t (abort.rollback_by node view tx t phase)
       by Open = aborted_for_going (Client (TcRollbackReq tx)) node view t cause.Request
       by Verifying = aborted_for_going (Client (TcRollbackReq tx)) node view t cause.Request
-      by (Committing epoch awaited) = rest_goes (Client (TcRollbackReq tx)) [] refl tt
-      by (Completing epoch awaited) = rest_goes (Client (TcRollbackReq tx)) [] refl tt
-      by (Aborting why verifying awaited) = rest_goes (Client (TcRollbackReq tx)) [] refl tt
+      by (Committing epoch awaited) = rest_goes (Client (TcRollbackReq tx)) [] tt tt
+      by (Completing epoch awaited) = rest_goes (Client (TcRollbackReq tx)) [] tt tt
+      by (Aborting why verifying awaited) = rest_goes (Client (TcRollbackReq tx)) [] tt tt
 
   pub aborted_going : (node : ℕ) (own : List ℕ) → GoesOn tx (Chain (Aborted tx own)) t (abort.aborted_row node tx t)
   unfolding abort.aborted_row
@@ -251,7 +250,7 @@ module _ (tx : TxId) (t : Transaction) where
 
       by : (phase : Phase) → GoesOn tx (Chain (Aborted tx own)) t (abort.aborted_by node tx t phase)
       by (Aborting why verifying awaited) = which why verifying awaited (nat_lt 1 awaited)
-      by Open = rest_goes (Chain (Aborted tx own)) [] refl tt
-      by Verifying = rest_goes (Chain (Aborted tx own)) [] refl tt
-      by (Committing epoch awaited) = rest_goes (Chain (Aborted tx own)) [] refl tt
-      by (Completing epoch awaited) = rest_goes (Chain (Aborted tx own)) [] refl tt
+      by Open = rest_goes (Chain (Aborted tx own)) [] tt tt
+      by Verifying = rest_goes (Chain (Aborted tx own)) [] tt tt
+      by (Committing epoch awaited) = rest_goes (Chain (Aborted tx own)) [] tt tt
+      by (Completing epoch awaited) = rest_goes (Chain (Aborted tx own)) [] tt tt

@@ -1,5 +1,5 @@
 -- What a step of a coordinator does to one transaction, and sends of its operation on one key.
-use Rattle.std.proofs.Common.{◌≡◌, ℕ, suc, ◌+◌, ◌≤◌, ◌<◌, List, [], ◌∷◌, ◌++◌, length, Bool, true, false, ◌&&◌, cond, refl, sym, ap, ◌∙◌, subst, arith}
+use Rattle.std.proofs.Common.{◌≡◌, ℕ, ◌≤◌, ◌<◌, List, [], ◌∷◌, ◌++◌, length, Bool, true, false, ◌&&◌, cond, refl, sym, ap, ◌∙◌, subst, arith}
 use Rattle.std.specs.Prelude.{if◌then◌else◌, nat_lt, not, is_some, slice_get, Option, None, Some}
 use Rattle.std.specs.List.{prefix_len}
 use Rattle.std.specs.Map.{keys_of, values_of}
@@ -10,7 +10,6 @@ use Rattle.run_theory.specs.Lists.{Each}
 use Rattle.sig_core.specs.declared.member.TxId.{TxId}
 use Rattle.sig_core.specs.declared.op.Op.{Op}
 use Rattle.sig_core.specs.declared.outs.Outgoing.{Outgoing}
-use Rattle.sig_core.specs.declared.place.Place.{Place}
 use Rattle.sig_core.specs.declared.signal.Body.{Body}
 use Rattle.sig_core.specs.declared.signal.Body.TheVariants.{Host, Client, Chain, Epoch}
 use Rattle.sig_core.specs.declared.signal.chain.ChainSignal.TheVariants.{LqhKeyReq, LqhKeyConf, LqhKeyRef, Committed, Completed, Aborted}
@@ -35,30 +34,22 @@ use Rattle.tc_block.specs.State.{TcState}
 use Rattle.tc_block.specs.Tc.{begin_if, begin_row, is_full, next_tx, pass_if, pass_row, tc_row}
 use Rattle.tc_block.specs.Turn.{Turn, going}
 use Rattle.answer_laws.proofs.NodeOps.{absent_key}
-use Rattle.answer_laws.proofs.SendKinds.{are_of}
 use Rattle.answer_laws.proofs.Tally.{one_if, tally, tally_append, tally_between}
 use Rattle.answer_laws.proofs.TcLives.{IsOwn, insert_new, is_keyed}
 use Rattle.answer_laws.proofs.TcMoves.{IsEntry, found, same_tx-is}
 use Rattle.transit_laws.specs.Live.{of_live}
+use Rattle.transit_laws.specs.Tokens.{is_token}
 use Rattle.transit_laws.proofs.KeyTokens.{Token, answers, is_home, performs, put, refuses, token_of, tokens_of}
-use Rattle.transit_laws.proofs.LiveAfter.{live_behind, live_beside, live_end, live_here, live_none, unborn_none}
+use Rattle.transit_laws.proofs.LiveAfter.{live_behind, live_end, live_here, live_none, unborn_none}
+use Rattle.transit_laws.proofs.OfLive.{of_other}
 use Rattle.transit_laws.proofs.TcCircle.{GoesOn, aborted_going, answer_going, commit_going, committed_going, completed_going, decide_going, go_on_going, left_by, operate_going, refuse_going, rollback_going, wait_going}
-use Rattle.transit_laws.proofs.TcTokenless.{aborted_tokenless, answer_tokenless, commit_tokenless, committed_tokenless, completed_tokenless, decide_tokenless, go_on_tokenless, is_tokenless, refuse_tokenless, rollback_tokenless, wait_tokenless}
+use Rattle.transit_laws.proofs.TcStill.{AreStill, aborted_still, answer_still, commit_still, committed_still, completed_still, decide_still, go_on_still, refuse_still, rollback_still, wait_still}
+use Rattle.transit_laws.proofs.TransitLists.{none_sent, uncounted}
 
--- where no part of an operation is sent or answered there is no token
-pub no_token : (tx : TxId) (key : List ℕ) (to : Place) (body : Body) → is_tokenless body ≡ true → token_of tx key to body ≡ None
-no_token tx key to (Chain (LqhKeyReq v work chain at)) is = absurd cc
-no_token tx key to (Chain (LqhKeyConf v own answer)) is = absurd cc
-no_token tx key to (Chain (LqhKeyRef v own why)) is = absurd cc
-no_token tx key to _ is = refl
-
-pub no_tokens : (tx : TxId) (key : List ℕ) (sends : List Outgoing) → are_of is_tokenless sends ≡ true → tokens_of tx key sends ≡ []
-no_tokens tx key [] is = refl
-no_tokens tx key (o ∷ more) is = by (is_tokenless o.body) refl is (no_tokens tx key more)
-  where
-    by : (b : Bool) → is_tokenless o.body ≡ b → (if b then are_of is_tokenless more else false) ≡ true → (are_of is_tokenless more ≡ true → tokens_of tx key more ≡ []) → tokens_of tx key (o ∷ more) ≡ []
-    by true e is rest = ap (λ w. put w (tokens_of tx key more)) (no_token tx key o.to o.body e) ∙ rest is
-    by false e is rest = absurd cc
+-- where no part of an operation is sent there is no token
+pub no_tokens : (tx : TxId) (key : List ℕ) (sends : List Outgoing) → AreStill tx sends → tokens_of tx key sends ≡ []
+no_tokens tx key sends still =
+    none_sent tx key sends (each_map (λ (o : Outgoing). is_token tx o.body ≡ false) (λ (o : Outgoing). token_of tx key o.to o.body ≡ None) sends (λ o off. uncounted tx key o.to o.body off) still)
 
 other_none : (a b c : Bool) (t : Token) → b ≡ false → (if a && (b && c) then Some t else None) ≡ None
 other_none true b c t off = ap (λ b. if b && c then Some t else None) off
@@ -104,12 +95,12 @@ module _ (tx : TxId) (key : List ℕ) (h : ℕ) where
         over : (f : IsEntry (same_tx one) s.live place) (b : Bool) → (row f.value).over ≡ b → (m : Bool) → same_tx f.key tx ≡ m → Sees s body (turned_if s place (row f.value) b)
         over f true e false m = record {
           grows = omega arith;
-          seen = same (ap (of_live tx) f.removed ∙ sym (live_beside tx f.key f.value f.front f.back m) ∙ ap (of_live tx) (sym f.is)) (quiet (other f m) f.value) (λ t is. deaf (other f m));
+          seen = same (ap (of_live tx) f.removed ∙ sym (of_other f.front f.back f.key tx f.value m) ∙ ap (of_live tx) (sym f.is)) (quiet (other f m) f.value) (λ t is. deaf (other f m));
         }
         over f false e false m = record {
           grows = omega arith;
           seen = same
-              (ap (of_live tx) (f.set (row f.value).step.state) ∙ live_beside tx f.key (row f.value).step.state f.front f.back m ∙ sym (live_beside tx f.key f.value f.front f.back m)
+              (ap (of_live tx) (f.set (row f.value).step.state) ∙ of_other f.front f.back f.key tx (row f.value).step.state m ∙ sym (of_other f.front f.back f.key tx f.value m)
               ∙ ap (of_live tx) (sym f.is))
               (quiet (other f m) f.value) (λ t is. deaf (other f m));
         }
@@ -164,11 +155,11 @@ module _ (tx : TxId) (key : List ℕ) (h : ℕ) where
 
     -- where none is asked for or answered
     plain_turn : (one : TxId) (row : Transaction → Turn) (body : Body) → (same_tx one tx ≡ false → token_of tx key (coordinator h) body ≡ None)
-        → ((t : Transaction) → are_of is_tokenless (row t).step.effects.sends ≡ true) → ((t : Transaction) → GoesOn one body t (row t)) → Sees s body (turn_of s one row)
+        → ((t : Transaction) → AreStill tx (row t).step.effects.sends) → ((t : Transaction) → GoesOn one body t (row t)) → Sees s body (turn_of s one row)
     plain_turn one row body deaf quiet goes = turn_sees one row body deaf (λ off t. no_tokens tx key (row t).step.effects.sends (quiet t)) goes
 
     plain_step : (one : TxId) (row : Transaction → Step Transaction) (body : Body) → (same_tx one tx ≡ false → token_of tx key (coordinator h) body ≡ None)
-        → ((t : Transaction) → are_of is_tokenless (row t).effects.sends ≡ true) → ((t : Transaction) → GoesOn one body t (going (row t))) → Sees s body (step_of s one row)
+        → ((t : Transaction) → AreStill tx (row t).effects.sends) → ((t : Transaction) → GoesOn one body t (going (row t))) → Sees s body (step_of s one row)
     plain_step one row body deaf quiet goes = step_sees one row body deaf (λ off t. no_tokens tx key (row t).effects.sends (quiet t)) goes
 
     -- an operation of another one
@@ -204,27 +195,27 @@ module _ (tx : TxId) (key : List ℕ) (h : ℕ) where
     pub tc_sees : (body : Body) → Sees s body (tc_row s body)
     unfolding begin_row pass_row
     tc_sees (Host (Continue (work.Transaction one) at)) =
-        plain_step one (λ t. go_on_row s.node s.view one t at) (Host (Continue (work.Transaction one) at)) (λ off. refl) (λ t. go_on_tokenless s.node s.view one t at) (λ t. go_on_going one t s.node s.view at)
+        plain_step one (λ t. go_on_row s.node s.view one t at) (Host (Continue (work.Transaction one) at)) (λ off. refl) (λ t. go_on_still tx one s.node s.view t at) (λ t. go_on_going one t s.node s.view at)
     tc_sees (Client (TcBeginReq name)) = begin_sees name (is_full s)
     tc_sees (Client (TcKeyReq one op)) = step_sees one (λ t. operate_row s.view one t op) (Client (TcKeyReq one op)) (λ off. refl) (operate_other one s.view op) (λ t. operate_going one t s.view op)
-    tc_sees (Client (TcCommitReq one)) = plain_step one (λ t. decide_row s.node one t) (Client (TcCommitReq one)) (λ off. refl) (λ t. decide_tokenless s.node one t) (λ t. decide_going one t s.node)
+    tc_sees (Client (TcCommitReq one)) = plain_step one (λ t. decide_row s.node one t) (Client (TcCommitReq one)) (λ off. refl) (λ t. decide_still tx one s.node t) (λ t. decide_going one t s.node)
     tc_sees (Client (TcRollbackReq one)) =
-        plain_turn one (λ t. rollback_row s.node s.view one t) (Client (TcRollbackReq one)) (λ off. refl) (λ t. rollback_tokenless s.node s.view one t) (λ t. rollback_going one t s.node s.view)
-    tc_sees (Client (TcWaitReq one)) = plain_step one (λ t. wait_row one t) (Client (TcWaitReq one)) (λ off. refl) (λ t. wait_tokenless one t) (λ t. wait_going one t)
+        plain_turn one (λ t. rollback_row s.node s.view one t) (Client (TcRollbackReq one)) (λ off. refl) (λ t. rollback_still tx one s.node s.view t) (λ t. rollback_going one t s.node s.view)
+    tc_sees (Client (TcWaitReq one)) = plain_step one (λ t. wait_row one t) (Client (TcWaitReq one)) (λ off. refl) (λ t. wait_still tx one t) (λ t. wait_going one t)
     tc_sees (Client (LqhWaitConf one ahead)) = pass_sees one ahead (is_some (place_in s one))
     tc_sees (Chain (LqhKeyConf one at answer)) =
         plain_step one (λ t. answer_row s.view one t at answer) (Chain (LqhKeyConf one at answer)) (λ off. other_none (is_home one (coordinator h)) (same_tx one tx) (same_key at key) (answers answer) off)
-        (λ t. answer_tokenless s.view one t at answer) (λ t. answer_going one t s.view at answer)
+        (λ t. answer_still tx one s.view t at answer) (λ t. answer_going one t s.view at answer)
     tc_sees (Chain (LqhKeyRef one at why)) =
         plain_turn one (λ t. refuse_row s.node s.view one t at why) (Chain (LqhKeyRef one at why)) (λ off. other_none (is_home one (coordinator h)) (same_tx one tx) (same_key at key) refuses off)
-        (λ t. refuse_tokenless s.node s.view one t at why) (λ t. refuse_going one t s.node s.view at why)
+        (λ t. refuse_still tx one s.node s.view t at why) (λ t. refuse_going one t s.node s.view at why)
     tc_sees (Chain (Committed one at)) =
-        plain_turn one (λ t. committed_row s.node s.view one t) (Chain (Committed one at)) (λ off. refl) (λ t. committed_tokenless s.node s.view one t) (λ t. committed_going one t s.node s.view at)
+        plain_turn one (λ t. committed_row s.node s.view one t) (Chain (Committed one at)) (λ off. refl) (λ t. committed_still tx one s.node s.view t) (λ t. committed_going one t s.node s.view at)
     tc_sees (Chain (Completed one at)) =
-        plain_turn one (λ t. completed_row s.node one t) (Chain (Completed one at)) (λ off. refl) (λ t. completed_tokenless s.node one t) (λ t. completed_going one t s.node at)
+        plain_turn one (λ t. completed_row s.node one t) (Chain (Completed one at)) (λ off. refl) (λ t. completed_still tx one s.node t) (λ t. completed_going one t s.node at)
     tc_sees (Chain (Aborted one at)) =
-        plain_turn one (λ t. aborted_row s.node one t) (Chain (Aborted one at)) (λ off. refl) (λ t. aborted_tokenless s.node one t) (λ t. aborted_going one t s.node at)
+        plain_turn one (λ t. aborted_row s.node one t) (Chain (Aborted one at)) (λ off. refl) (λ t. aborted_still tx one s.node t) (λ t. aborted_going one t s.node at)
     tc_sees (Epoch (DiVerifyConf one epoch)) =
-        plain_turn one (λ t. commit_row s.node s.view one t epoch) (Epoch (DiVerifyConf one epoch)) (λ off. refl) (λ t. commit_tokenless s.node s.view one t epoch) (λ t. commit_going one t s.node s.view epoch)
+        plain_turn one (λ t. commit_row s.node s.view one t epoch) (Epoch (DiVerifyConf one epoch)) (λ off. refl) (λ t. commit_still tx one s.node s.view t epoch) (λ t. commit_going one t s.node s.view epoch)
     tc_sees (Chain (LqhKeyReq one what chain at)) = quiet_sees (Chain (LqhKeyReq one what chain at)) refl
     tc_sees _ = quiet_sees _ refl

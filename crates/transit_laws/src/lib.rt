@@ -1,10 +1,16 @@
 //! What signals in transit tell: of a transaction's operations, its commit and its end.
 #![tactic(auto)]
 
+mod circle_laws;
+mod completion_laws;
+mod owed_laws;
 mod route_laws;
 mod token_laws;
 mod way_laws;
 
+pub use circle_laws::verified_are_settled;
+pub use completion_laws::completions_follow_commits;
+pub use owed_laws::keys_get_what_is_owed;
 pub use route_laws::{
     coming_signals_are_routed, replicas_are_nodes, signals_are_routed, transactions_are_keyed,
 };
