@@ -27,7 +27,7 @@ use Rattle.sig_core.specs.Chain.{node_at}
 use Rattle.sig_core.specs.Op.{answer_to, image_of, key_of}
 use Rattle.sig_core.specs.Place.{client, coordinator_of, rows_of}
 use Rattle.sig_core.specs.Rows.{is_full, record_state, seen}
-use Rattle.sig_core.specs.Step.{Step, stay, to_place}
+use Rattle.sig_core.specs.Step.{Step, to_place}
 use Rattle.row_locks.specs.declared.mode.Lock.{Lock}
 use Rattle.row_locks.specs.declared.mode.Lock.TheVariants.{Granted, Queued}
 use Rattle.row_locks.specs.Rounds.{expired}
@@ -85,9 +85,6 @@ pub record StepEach (P : Outgoing → Type 0) (M : Mark → Type 0) {S : Type 0}
   pub marks : Each M step.effects.marks
 
 module _ (P : Outgoing → Type 0) (M : Mark → Type 0) where
-  stays : {S : Type 0} (s : S) → StepEach P M (stay s)
-  stays s = record { sends = tt; marks = tt }
-
   module _ (r : Request) (sends : RequestSends P r) (marks : (tx : TxId) (key : List ℕ) → M (Prepared tx key)) where
     passed : (image : Option (List ℕ)) (next : Option Member) → slice_get r.chain (r.at + 1) ≡ next → P (storage.passed_to r.tx (work_key r.work) image r.chain r.at next)
     passed image None is = sends.answers answer.Done

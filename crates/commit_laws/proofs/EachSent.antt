@@ -1,19 +1,9 @@
--- What holds of each of some signals.
+-- What holds of each item of a list, where items are taken, left out, changed or made into others.
 use Rattle.std.proofs.Common.{◌≡◌, ℕ, zero, suc, List, [], ◌∷◌, take, drop, subst}
 use Rattle.std.specs.Prelude.{map, remove, slice_get, slice_set, Some}
 use Rattle.std.specs.List.{flat_map}
 use Rattle.run_theory.specs.Lists.{Each}
 use Rattle.run_theory.proofs.Pasts.{each_append}
-use Rattle.sig_core.specs.declared.outs.Outgoing.{Outgoing}
-use Rattle.sig_core.specs.Step.{Step}
-use Rattle.commit_laws.specs.Kinds.{kind_of, other}
-
--- none of them is of those by which a transaction comes to be decided and reported
-abbrev pub AreOther : List Outgoing → Type 0
-AreOther sends = Each (λ (o : Outgoing). kind_of o.body ≡ other) sends
-
-abbrev pub SendsOther : {S : Type 0} → Step S → Type 0
-SendsOther step = AreOther step.effects.sends
 
 pub each_take : {A : Type 0} (P : A → Type 0) (n : ℕ) (xs : List A) → Each P xs → Each P (take n xs)
 each_take P zero xs all = tt

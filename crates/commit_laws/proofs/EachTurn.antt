@@ -77,7 +77,7 @@ pub record TurnForms (node : ℕ) (view : View) (tx : TxId) (t : Transaction) (b
       → R (abort.aborted_if node tx t why verifying awaited false)
 
 -- the unanswered operation on a key is the unanswered one
-pub asked_on-is : (o : Option Asked) (key : List ℕ) (asked : Asked) → operate.asked_on o key ≡ Some asked → o ≡ Some asked
+asked_on-is : (o : Option Asked) (key : List ℕ) (asked : Asked) → operate.asked_on o key ≡ Some asked → o ≡ Some asked
 asked_on-is None key asked is = cc
 asked_on-is (Some a) key asked is = by (same_key (key_of a.op) key) is
   where
