@@ -1,0 +1,264 @@
+-- The two questions about a command that left something unanswered tell for whom that waits.
+use Rattle.std.proofs.Common.{◌≡◌, ◌<◌, ◌≤◌, ◌+◌, ℕ, zero, suc, Bool, true, false, List, [], ◌∷◌, ◌++◌, length, refl, sym, ap, ◌∙◌, subst, append_assoc, arith}
+use Rattle.std.specs.Prelude.{◌&&◌, Option, None, Some, drop, is_some, option_to_list, slice_get}
+use Rattle.run_theory.specs.Cuts.{IsCut}
+use Rattle.run_theory.specs.Links.{is_from}
+use Rattle.run_theory.specs.Lists.{IsIn}
+use Rattle.run_theory.specs.Runs.{log_of}
+use Rattle.run_theory.proofs.Pasts.{past_self}
+use Rattle.sig_core.specs.declared.log.LogStep.{LogStep}
+use Rattle.sig_core.specs.declared.member.TxId.{TxId}
+use Rattle.sig_core.specs.declared.place.Place.{Place}
+use Rattle.sig_core.specs.declared.reply.ApiReply.TheVariants.{Pending}
+use Rattle.sig_core.specs.declared.reply.Waiting.TheVariants.{HeldBy}
+use Rattle.sig_core.specs.declared.request.ApiReq.TheVariants as request
+use Rattle.sig_core.specs.declared.signal.Body.{Body}
+use Rattle.sig_core.specs.Op.{key_of}
+use Rattle.sig_core.specs.Place.{client}
+use Rattle.api_block.specs.declared.opened.Doing.{Doing}
+use Rattle.api_block.specs.declared.opened.Doing.TheVariants.{Beginning, Ready, Operating, Committing}
+use Rattle.api_block.specs.declared.opened.OpenTransaction.{OpenTransaction}
+use Rattle.api_block.specs.Opened.{has_tx, if_there, is_tx, is_unanswered, own_place, where_at}
+use Rattle.api_block.specs.State.{ApiState}
+use Rattle.node_core.specs.declared.host.Host as host
+use Rattle.node_core.specs.declared.host.Host.TheVariants.{Shell, Node}
+use Rattle.node_core.specs.Replies.{is_left_open, replies_of}
+use Rattle.node_core.specs.Row.{row}
+use Rattle.tc_block.specs.declared.transaction.Transaction.{Transaction}
+use Rattle.world_core.specs.Machine.{after, hosts, machine, step_after}
+use Rattle.world_core.specs.Requests.{request_in, requests}
+use Rattle.world_core.specs.Start.{Start}
+use Rattle.answer_laws.proofs.ApiBegins.{in_middle}
+use Rattle.answer_laws.proofs.Commits.{live_low}
+use Rattle.answer_laws.proofs.Hosts.{node_after, shell_after}
+use Rattle.answer_laws.proofs.LinkCounts.{steps}
+use Rattle.answer_laws.proofs.Lives.{holds_at, once_started}
+use Rattle.answer_laws.proofs.Tally.{one_if, tally, tally_append, tally_between}
+use Rattle.answer_laws.proofs.TcSends.{same_tx-self}
+use Rattle.answer_laws.proofs.Wishes.{sends_of, to_node}
+use Rattle.answer_laws.specs.Answered.{EachIsAnswered, IsLiveAs, is_answered_by, opened_after, opened_in}
+use Rattle.transit_laws.specs.Live.{of_live}
+use Rattle.command_laws.proofs.First.{IsFirst, request_first, with_first}
+use Rattle.command_laws.proofs.Since.{all_arrive, sent_since_to, taken_since}
+use Rattle.command_laws.proofs.TellsSince.{OnTc, sound_at}
+use Rattle.command_laws.proofs.Told.{told_since}
+use Rattle.command_laws.proofs.WaitApi.{IsAboutOne, IsAsking, IsOwn, TellsHolder, own_found, pending_first, waits_first}
+use Rattle.command_laws.proofs.WaitRows.{in_live, is_found, is_passed, is_probe, is_want}
+use Rattle.command_laws.proofs.WaitRun.{AllHold, all_hold}
+use Rattle.command_laws.specs.Served.{EachIsHeldUp, HoldersAreTold, IsHeldUp, IsHeldUpAt, IsServed, IsToldHolder, own_in}
+
+sent_to_append : (start : Start) (test : Place → Body → Bool) (h j : ℕ) (xs ys log : List LogStep)
+    → sent_since_to start test h j (xs ++ ys) log ≡ sent_since_to start test h j xs (ys ++ log) + sent_since_to start test h j ys log
+sent_to_append start test h j [] ys log = omega arith
+sent_to_append start test h j (e ∷ xs) ys log =
+    omega (arith, sent_to_append start test h j xs ys log, ap (λ l. sends_of (to_node j test) (step_after start h l e).effects.sends) (append_assoc xs ys log))
+
+taken_few : (start : Start) (test : Place → Body → Bool) (i : ℕ) (newer : List LogStep) → taken_since start test i newer ≤ steps test newer
+taken_few start test i [] = omega arith
+taken_few start test i (e ∷ newer) = omega (arith, taken_few start test i newer, few (is_from (machine start) i e) (test e.taken.to e.taken.body))
+  where
+    few : (a b : Bool) → one_if (a && b) ≤ one_if b
+    few true b = omega arith
+    few false b = omega arith
+
+-- what is unanswered at quiet is an operation that was sent
+record IsWaiting (t : OpenTransaction) : Type 0 where
+  tx : TxId
+  own : t.tx ≡ Some tx
+  does : t.doing ≡ Operating
+
+is_waiting : (start : Start) (logs : ℕ → List LogStep) (t : OpenTransaction) → is_unanswered t.doing ≡ true → is_answered_by start logs t.doing t.tx → IsWaiting t
+is_waiting start logs t unanswered answered = by t.doing t.tx refl refl unanswered answered
+  where
+    by : (doing : Doing) (o : Option TxId) → t.doing ≡ doing → t.tx ≡ o → is_unanswered doing ≡ true → is_answered_by start logs doing o → IsWaiting t
+    by Operating (Some tx) does own some a = record { tx = tx; own = own; does = does }
+    by Operating None does own some a = absurd a
+    by Ready o does own some a = cc
+    by (Beginning op) (Some tx) does own some a = absurd a
+    by (Beginning op) None does own some a = absurd a
+    by Committing (Some tx) does own some a = absurd a
+    by Committing None does own some a = absurd a
+
+module _ (start : Start) (tx : TxId) (u : Transaction) (logs : ℕ → List LogStep) where
+  -- the transaction as its coordinator has it
+  on_live : (k : ℕ) → IsLiveAs tx u (after start k (logs k)) → OnTc (λ s. of_live tx s.live ≡ Some u) (after start k (logs k))
+  on_live zero live = absurd (subst (IsLiveAs tx u) (shell_after start (logs 0)).is live)
+  on_live (suc h) live =
+      let n = node_after start h (logs (suc h)) in
+      subst (OnTc (λ s. of_live tx s.live ≡ Some u)) (sym n.is)
+      (in_live tx u n.state.tc.live (subst (IsLiveAs tx u) n.is live) (sound_at start tx h (logs (suc h)) n.state n.is).few)
+
+  not_shell : (P : host.Host → Type 0) → ((s : ApiState) → P (Shell s) → ⊥) → (k : ℕ) → P (after start k (logs k)) → (j : ℕ) × (k ≡ suc j)
+  not_shell P none zero p = absurd (none (shell_after start (logs 0)).state (subst P (shell_after start (logs 0)).is p))
+  not_shell P none (suc h) p = (h, refl)
+
+module _ (answered : EachIsAnswered) (held_up : EachIsHeldUp) (start : Start) (was mid now : ℕ → List LogStep) (t : OpenTransaction) (first_served : IsServed start was mid request.Waits)
+    (then_served : IsServed start mid now request.Pending) (own : own_in (after start 0 (was 0)) ≡ Some t) (unanswered : is_unanswered t.doing ≡ true) where
+  s : ApiState
+  s = (shell_after start (was 0)).state
+
+  is : after start 0 (was 0) ≡ Shell s
+  unfolding s
+  is = (shell_after start (was 0)).is
+
+  i : IsOwn s t
+  i = own_found s t (ap own_in (sym is) ∙ own)
+
+  in_opened : IsIn t (opened_after start was)
+  in_opened = subst (λ g. IsIn t (opened_in g)) (sym is) (subst (IsIn t) (sym i.first.is) (in_middle i.first.front t i.first.back))
+
+  w : IsWaiting t
+  w = is_waiting start was t unanswered (answered start was t first_served.before in_opened)
+
+  up : IsHeldUp start was w.tx
+  up = held_up start was t first_served.before in_opened w.tx w.own w.does
+
+  live : OnTc (λ c. of_live w.tx c.live ≡ Some up.transaction) (after start w.tx.tc (was w.tx.tc))
+  live = on_live start w.tx up.transaction was w.tx.tc up.live
+
+  -- no other transaction of the API has its number
+  none : tally (has_tx w.tx) i.first.front ≡ 0
+  none =
+      let h = holds_at start w.tx was first_served.before in
+      omega (
+        arith,
+        h.few,
+        once_started start w.tx was first_served.before,
+        ap (λ g. tally (has_tx w.tx) (opened_in g)) is,
+        tally_between (has_tx w.tx) i.first.front t i.first.back s.opened i.first.is,
+        ap one_if (ap (is_tx w.tx) w.own ∙ same_tx-self w.tx),
+        tally_append (has_tx w.tx) i.first.front i.first.back,
+      )
+
+  f : IsFirst start was mid request.Waits
+  f = request_first start was mid request.Waits first_served
+
+  asking : IsAsking s t w.tx i (step_after start 0 (was 0) f.first)
+  asking =
+      subst (λ (to : Place). IsAsking s t w.tx i (row (after start 0 (was 0)) to f.first.taken.body)) (sym f.place)
+      (subst (λ body. IsAsking s t w.tx i (row (after start 0 (was 0)) client body)) (sym f.body) (waits_first (after start 0 (was 0)) s t w.tx i is unanswered w.own))
+
+  abbrev first_cut : IsCut (with_first was f.first) mid
+  first_cut zero = record { newer = f.later; is = f.is }
+  first_cut (suc h) = first_served.cut (suc h)
+
+  asked_same : requests (mid 0) ≡ requests (f.first ∷ was 0)
+  asked_same = first_served.asked ∙ ap (λ o. requests (was 0) ++ option_to_list o) (sym (ap request_in f.body))
+
+  all : AllHold start was first_served.before f.first w.tx up.transaction up.asked up.member up.unanswered up.inside live up.held i.first.front t i.first.back (Some i.name) w.own none asking.plain mid
+  all =
+      all_hold start was first_served.before f.first w.tx up.transaction up.asked up.member up.unanswered up.inside live up.held i.first.front t i.first.back (Some i.name) w.own none asking.plain mid f.right
+      first_served.since first_cut asked_same asking.about
+
+  abbrev cut : IsCut was mid
+  cut zero = record { newer = log_of (machine start) all.more 0 ++ f.first ∷ []; is = all.is 0 ∙ sym (append_assoc (log_of (machine start) all.more 0) (f.first ∷ []) (was 0)) }
+  cut (suc h) = record { newer = log_of (machine start) all.more (suc h); is = all.is (suc h) }
+
+  -- the question goes to the coordinator, from there to the node where the lock is, and the answer back
+  module _ (c m : ℕ) (c_is : w.tx.tc ≡ suc c) (m_is : up.member.node ≡ suc m) where
+    c_low : suc c < hosts start
+    c_low = let low = live_low start was w.tx up.transaction first_served.before w.tx.tc up.live in omega (arith, low, c_is)
+
+    m_low : suc m < hosts start
+    m_low = omega (arith, up.low, m_is)
+
+    wanted : 1 ≤ steps (is_want w.tx) (log_of (machine start) all.more (suc c))
+    wanted =
+        omega (
+          arith,
+          asking.wants,
+          ap (λ k. sends_of (to_node k (is_want w.tx)) (step_after start 0 (was 0) f.first).effects.sends) c_is,
+          sent_to_append start (is_want w.tx) 0 (suc c) (log_of (machine start) all.more 0) (f.first ∷ []) (was 0),
+          all_arrive start was mid first_served.before first_served.since cut (is_want w.tx) 0 (suc c) (omega arith) c_low,
+          taken_few start (is_want w.tx) 0 (log_of (machine start) all.more (suc c)),
+        )
+
+    probed : 1 ≤ steps (is_probe w.tx (key_of up.asked.op)) (log_of (machine start) all.more (suc m))
+    probed =
+        omega (
+          arith,
+          wanted,
+          (all.nodes c).wants c_is,
+          ap (λ k. sent_since_to start (is_probe w.tx (key_of up.asked.op)) (suc c) k (log_of (machine start) all.more (suc c)) (was (suc c))) m_is,
+          all_arrive start was mid first_served.before first_served.since cut (is_probe w.tx (key_of up.asked.op)) (suc c) (suc m) c_low m_low,
+          taken_few start (is_probe w.tx (key_of up.asked.op)) (suc c) (log_of (machine start) all.more (suc m)),
+        )
+
+    found : 1 ≤ steps (is_found w.tx) (log_of (machine start) all.more (suc c))
+    found =
+        omega (
+          arith,
+          probed,
+          (all.nodes m).finds m_is,
+          ap (λ k. sent_since_to start (is_found w.tx) (suc m) k (log_of (machine start) all.more (suc m)) (was (suc m))) c_is,
+          all_arrive start was mid first_served.before first_served.since cut (is_found w.tx) (suc m) (suc c) m_low c_low,
+          taken_few start (is_found w.tx) (suc m) (log_of (machine start) all.more (suc c)),
+        )
+
+    passed : 1 ≤ steps (is_passed w.tx) (log_of (machine start) all.more 0)
+    passed =
+        omega (
+          arith,
+          found,
+          (all.nodes c).passes c_is,
+          all_arrive start was mid first_served.before first_served.since cut (is_passed w.tx) (suc c) 0 c_low (omega arith),
+          taken_few start (is_passed w.tx) (suc c) (log_of (machine start) all.more 0 ++ f.first ∷ []),
+          tally_append (λ (e : LogStep). is_passed w.tx e.taken.to e.taken.body) (log_of (machine start) all.more 0) (f.first ∷ []),
+          ap one_if (ap (λ (to : Place). is_passed w.tx to f.first.taken.body) f.place ∙ ap (is_passed w.tx client) f.body),
+        )
+
+  ahead_known : is_some all.shell.ahead ≡ true
+  ahead_known =
+      let c = not_shell start w.tx up.transaction was (IsLiveAs w.tx up.transaction) (λ state p. p) w.tx.tc up.live in
+      let m = not_shell start w.tx up.transaction was (IsHeldUpAt w.tx (key_of up.asked.op)) (λ state p. p) up.member.node up.held in
+      all.shell.known (passed c.0 m.0 c.1 m.1)
+
+  then : IsFirst start mid now request.Pending
+  then = request_first start mid now request.Pending then_served
+
+  about : IsAboutOne i.first.front t i.first.back (Some i.name) all.shell.ahead (after start 0 (mid 0))
+  about = subst (λ log. IsAboutOne i.first.front t i.first.back (Some i.name) all.shell.ahead (after start 0 log)) (sym (all.is 0)) all.shell.about
+
+  tells : TellsHolder t.name (after start 0 (mid 0)) (step_after start 0 (mid 0) then.first)
+  tells =
+      subst (λ (to : Place). TellsHolder t.name (after start 0 (mid 0)) (row (after start 0 (mid 0)) to then.first.taken.body)) (sym then.place)
+      (subst (λ body. TellsHolder t.name (after start 0 (mid 0)) (row (after start 0 (mid 0)) client body)) (sym then.body)
+      (pending_first (after start 0 (mid 0)) i.first.front t i.first.back i.name all.shell.ahead about unanswered i.first.none i.first.passes ahead_known))
+
+  holder_told : IsToldHolder start was mid now
+  holder_told = record {
+    own = t;
+    is = own;
+    holder = tells.holder;
+    told = subst (λ log. IsIn (Pending t.name (HeldBy tells.holder)) (drop (length (replies_of (after start 0 (mid 0)))) (replies_of (after start 0 log)))) (sym then.is)
+        (told_since start (mid 0) (mid 0) then.later then.first (Pending t.name (HeldBy tells.holder)) (past_self (mid 0)) tells.told);
+  }
+
+-- the own transaction of a host whose last command left it unanswered
+record IsLeft (g : host.Host) : Type 0 where
+  t : OpenTransaction
+  own : own_in g ≡ Some t
+  unanswered : is_unanswered t.doing ≡ true
+
+left_own : (g : host.Host) → is_left_open g ≡ true → IsLeft g
+unfolding is_left_open
+left_own (Node n) left = cc
+left_own (Shell s) left = at_place (own_place s) refl left
+  where
+    at_get : (at : ℕ) (x : Option OpenTransaction) → own_place s ≡ Some at → slice_get s.opened at ≡ x → if_there false (λ (y : OpenTransaction). is_unanswered y.doing) x ≡ true → IsLeft (Shell s)
+    at_get at None place get is = cc
+    at_get at (Some y) place get is = record {
+      t = y;
+      own = ap (where_at s.opened None (λ p (x : OpenTransaction). Some x)) place ∙ ap (if_there None (λ (x : OpenTransaction). Some x)) get;
+      unanswered = is;
+    }
+
+    at_place : (o : Option ℕ) → own_place s ≡ o → where_at s.opened false (λ at (y : OpenTransaction). is_unanswered y.doing) o ≡ true → IsLeft (Shell s)
+    at_place None place is = cc
+    at_place (Some at) place is = at_get at (slice_get s.opened at) place refl is
+
+-- so it is where each command is answered, but for an operation that is held up
+pub holders_told : EachIsAnswered → EachIsHeldUp → HoldersAreTold
+holders_told answered held_up start was mid now first_served then_served left =
+    let own = left_own (after start 0 (was 0)) left in
+    holder_told answered held_up start was mid now own.t first_served then_served own.own own.unanswered

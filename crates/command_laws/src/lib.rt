@@ -1,0 +1,9 @@
+//! What a command comes to, between two quiet moments.
+#![tactic(auto)]
+
+mod commands;
+
+pub use commands::{
+    a_commit_is_served, commits_are_committed, each_operation_is_held_up, holders_are_told,
+    lone_operations_are_committed, operations_are_answered,
+};
