@@ -11,8 +11,6 @@ pub mod CommitBegins
 pub mod Completions
 pub mod Decided
 pub mod DecidedSettled
-pub mod EachLive
-pub mod EachTurn
 pub mod FirstCommits
 pub mod GivenUp
 pub mod HostAfter
