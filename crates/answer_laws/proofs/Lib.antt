@@ -1,3 +1,4 @@
+pub mod AbortCounts
 pub mod Aborts
 pub mod Ahead
 pub mod Always
@@ -19,6 +20,7 @@ pub mod EpochLives
 pub mod Flows
 pub mod Focus
 pub mod Heard
+pub mod Heeded
 pub mod Hosts
 pub mod LinkCounts
 pub mod Lives
@@ -28,6 +30,7 @@ pub mod LqhNode
 pub mod LqhOps
 pub mod LqhSends
 pub mod LqhWaits
+pub mod Missed
 pub mod NodeOps
 pub mod NodeOwes
 pub mod OpenTurns
