@@ -74,6 +74,7 @@ module _ (start : Start) (few_nodes : start.nodes ≤ 8) (tx : TxId) (h : ℕ) (
   abbrev IsOwed : (ℕ → List LogStep) → ℕ → ℕ → ℕ → Type 0
   IsOwed logs l a k = (T logs + k ≤ S logs + a) ⊎ IsLeft logs l a k
 
+  -- what its abort waits for is at most that
   record IsDue (logs : ℕ → List LogStep) (t : Transaction) (k : ℕ) : Type 0 where
     some : 1 ≤ k
     owed : IsOwed logs (replica_count (first_view start.nodes) t.touched) (asked_count (first_view start.nodes) t.asked) k

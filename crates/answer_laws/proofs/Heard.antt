@@ -68,11 +68,14 @@ module _ (start : Start) (tx : TxId) (h : ℕ) (home : tx.tc ≡ suc h) where
   abbrev pub answers_sent : List LogStep → ℕ
   answers_sent log = signals (is_answer tx) (sent (machine start) (suc h) 0 log)
 
+  -- What the coordinator of an open transaction has heard: as many operations as it has answered or has unanswered, no fewer
+  -- than it touches keys, and no commit.
   pub record IsHeard (log : List LogStep) (t : Transaction) : Type 0 where
     pub keys : keys_taken log ≡ one_if (is_some t.asked) + answers_sent log
     pub touched : length t.touched ≤ keys_taken log
     pub commits : commits_taken log ≡ 0
 
+  -- and so for both sides
   pub record AllHeard (logs : ℕ → List LogStep) : Type 0 where
     pub asking : IsAsking (of_opened tx (opened_in (after start 0 (logs 0)))) (keys_sent logs) (commits_sent logs) (answers_taken logs) (starts_taken logs)
     pub heard : (t : Transaction) → tx_at tx (after start (suc h) (logs (suc h))) ≡ Some t → t.phase ≡ Open → IsHeard (logs (suc h)) t

@@ -26,6 +26,7 @@ pub mod LinkCounts
 pub mod Lives
 pub mod Lone
 pub mod LqhForth
+pub mod LqhLeaves
 pub mod LqhNode
 pub mod LqhOps
 pub mod LqhSends

@@ -31,6 +31,7 @@ abbrev pub commit_body : TxId → Body → Bool
 commit_body tx (Client (TcCommitReq other)) = same_tx other tx
 commit_body tx _ = false
 
+-- Its operation and the answers that it sends: as before, and why; it was asked for one; or its answer was passed on.
 pub data OpenTurn (tx : TxId) (t : Transaction) (body : Body) (u : Transaction) (sends : List Outgoing) : Type 0 where
   stays_open : u.asked ≡ t.asked → answers_in tx sends ≡ 0 → IsMissed t body ⊎ ((key_of_tx tx body ≡ false) × (commit_body tx body ≡ false)) → OpenTurn tx t body u sends
   is_asked : key_of_tx tx body ≡ true → commit_body tx body ≡ false → t.asked ≡ None → is_some u.asked ≡ true → answers_in tx sends ≡ 0 → OpenTurn tx t body u sends

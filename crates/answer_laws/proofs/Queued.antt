@@ -34,7 +34,8 @@ use Rattle.answer_laws.proofs.Hosts.{shell_after}
 use Rattle.answer_laws.proofs.LinkCounts.{sent_signals, signals, taken_signals}
 use Rattle.answer_laws.proofs.LqhNode.{lqh_node}
 use Rattle.answer_laws.proofs.LqhOps.{is_lqh, true_and}
-use Rattle.answer_laws.proofs.LqhWaits.{granted_is, goes_on, is_more, is_more_body, lqh_waits, queued, waiting}
+use Rattle.answer_laws.proofs.LqhLeaves.{lqh_waits}
+use Rattle.answer_laws.proofs.LqhWaits.{granted_is, goes_on, is_more, is_more_body, queued, waiting}
 use Rattle.answer_laws.proofs.Lone.{IsLone, lone_step, first_lone, one_waits, waiting_at}
 use Rattle.answer_laws.proofs.Ops.{operations_wait, same_node}
 use Rattle.answer_laws.proofs.Tally.{one_if, tally_in}

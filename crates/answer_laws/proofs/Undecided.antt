@@ -95,6 +95,7 @@ module _ (start : Start) (tx : TxId) (h : ℕ) (home : tx.tc ≡ suc h) where
   abbrev pub F : (ℕ → List LogStep) → ℕ
   F logs = sent_all start (start.nodes + 1) (forth_at tx) logs
 
+  -- none was sent while the transaction isn't decided
   pub record IsBack (logs : ℕ → List LogStep) : Type 0 where
     pub undecided : (t : Transaction) → tx_at tx (after start (suc h) (logs (suc h))) ≡ Some t → is_decided t.phase ≡ false → F logs ≡ 0
     pub unborn : (x : node.Node) → after start (suc h) (logs (suc h)) ≡ Node x → x.tc.next_seq ≤ tx.seq → F logs ≡ 0
