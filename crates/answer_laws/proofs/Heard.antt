@@ -28,12 +28,11 @@ use Rattle.answer_laws.proofs.Ahead.{along, at_node, AtNode, first_none, Goes, n
 use Rattle.answer_laws.proofs.Always.{Touches, turn_touches}
 use Rattle.answer_laws.proofs.ApiEntries.{IsEntryRight, is_commit_req, of_opened, shell_entry}
 use Rattle.answer_laws.proofs.DihSends.{dih_kinds}
-use Rattle.answer_laws.proofs.Hosts.{opened_first, opened_next, shell_after, shell_sends}
+use Rattle.answer_laws.proofs.Hosts.{opened_first, opened_next, same_node, shell_after, shell_sends}
 use Rattle.answer_laws.proofs.LinkCounts.{sent_signals, signals, steps}
 use Rattle.answer_laws.proofs.Lives.{keeps}
 use Rattle.answer_laws.proofs.LqhSends.{lqh_kinds}
 use Rattle.answer_laws.proofs.OpenTurns.{OpenTurn, commit_body, is_asked, is_told, open_turn, stays_open}
-use Rattle.answer_laws.proofs.Ops.{same_node}
 use Rattle.answer_laws.proofs.Strangers.{answers_asked, answers_few, apart_answers, commits_few, dih_answers, keys_few, lqh_answers, starts_few, starts_once}
 use Rattle.answer_laws.proofs.Tally.{one_if, tally}
 use Rattle.answer_laws.proofs.TcKeys.{answer_of, answers_in, is_answer, is_key, key_of_tx}

@@ -366,6 +366,13 @@ tc_moves s (Chain (Aborted tx key)) = turn_moves s tx _ (λ t. aborted_kinds s.n
 tc_moves s (Epoch (DiVerifyConf tx epoch)) = turn_moves s tx _ (λ t. commit_kinds s.node s.view tx t epoch) (λ t. commit_told s.node s.view tx t epoch)
 tc_moves s _ = stays refl refl
 
+-- no move changes the view
+pub tc_view : (s after : TcState) (sends : List Outgoing) → TcMove s after sends → after.view ≡ s.view
+tc_view s after sends (stays is kind) = ap (λ (t : TcState). t.view) is
+tc_view s after sends (starts name is told) = ap (λ (t : TcState). t.view) is
+tc_view s after sends (turns one t u front back is now kind told) = ap (λ (t : TcState). t.view) now
+tc_view s after sends (forgets one t front back is now kind told) = ap (λ (t : TcState). t.view) now
+
 still_dih : (body : Body) → is_dih_kind body ≡ true → is_still_kind body ≡ true
 still_dih (Client (TcBeginConf name tx)) e = cc
 still_dih (Client (TcCommitConf tx epoch)) e = cc

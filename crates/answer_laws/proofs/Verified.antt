@@ -34,10 +34,9 @@ use Rattle.answer_laws.proofs.EpochCounts.{AreFew, is_epochless}
 use Rattle.answer_laws.proofs.EpochFlow.{dih_plain, is_conf, is_req, lqh_plain}
 use Rattle.answer_laws.proofs.EpochLives.{TurnCounts, asking, ending, gone, is_counted, unchanged, turn_counts}
 use Rattle.answer_laws.proofs.EpochGiven.{DihIs, all_own, dih_is, own_sent, own_taken, sent_counts}
-use Rattle.answer_laws.proofs.Hosts.{shell_after}
+use Rattle.answer_laws.proofs.Hosts.{same_node, shell_after}
 use Rattle.answer_laws.proofs.LinkCounts.{sent_signals, signals, taken_signals}
 use Rattle.answer_laws.proofs.LqhSends.{lqh_kinds}
-use Rattle.answer_laws.proofs.Ops.{same_node}
 use Rattle.answer_laws.proofs.SendKinds.{are_of, is_dih_kind, is_lqh_kind, none_of, of_kind}
 use Rattle.answer_laws.proofs.Tally.{one_if}
 use Rattle.answer_laws.proofs.TcMoves.{same_tx-is}
