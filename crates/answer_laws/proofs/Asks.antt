@@ -35,8 +35,8 @@ use Rattle.answer_laws.proofs.ApiMoves.{ApiMove, api_moves, begun_as, ends, goes
 use Rattle.answer_laws.proofs.Begins.{given_past}
 use Rattle.answer_laws.proofs.DihSends.{dih_kinds}
 use Rattle.answer_laws.proofs.Hosts.{node_after, node_sends, opened_next, shell_after, shell_sends}
-use Rattle.answer_laws.proofs.LinkCounts.{sent_signals, signals, steps, taken_signals}
-use Rattle.answer_laws.proofs.Lives.{all_three, holds_at, last_of, once_started, steps_from}
+use Rattle.answer_laws.proofs.LinkCounts.{all_three, sent_signals, signals, steps, taken_signals}
+use Rattle.answer_laws.proofs.Lives.{holds_at, last_of, once_started, steps_from}
 use Rattle.answer_laws.proofs.LqhSends.{lqh_kinds}
 use Rattle.answer_laws.proofs.Ops.{row_effects, row_state}
 use Rattle.answer_laws.proofs.SendKinds.{are_of, is_dih_kind, is_lqh_kind, is_tc_kind, none_of}

@@ -30,7 +30,7 @@ use Rattle.world_core.specs.Machine.{after, headed, hosts, machine, step_after}
 use Rattle.world_core.specs.Start.{Start, first_view, members}
 use Rattle.answer_laws.proofs.ApiBegins.{IsDue, IsGood, same_name-self}
 use Rattle.answer_laws.proofs.Hosts.{TellsNode, node_after, node_sends, node_tells, opened_first, opened_next, shell_after, shell_count, shell_replies, shell_sends}
-use Rattle.answer_laws.proofs.LinkCounts.{sent_signals, sent_truths, signals, steps, taken_signals, taken_steps}
+use Rattle.answer_laws.proofs.LinkCounts.{all_three, sent_signals, sent_truths, signals, steps, taken_signals, taken_steps}
 use Rattle.answer_laws.proofs.Tally.{one_if, tally, tally_in, tally_past}
 use Rattle.answer_laws.proofs.Wishes.{is_api, is_reply, is_tc, is_wish, node_replies, node_wishes, reply_of, sends_of, to_node, wish_of}
 use Rattle.answer_laws.specs.Answered.{AreQuiet, NoBeginIsLost, opened_after, opened_in}
@@ -51,11 +51,6 @@ plain_conf name tx body is = ap is_request is
 both : (a b : Bool) → (a && b) ≡ true → b ≡ true
 both true b e = e
 both false b e = cc
-
-all_three : (a b c : Bool) → a ≡ false → b ≡ true → c ≡ true → ((not a && b) && c) ≡ true
-all_three false true c p q r = r
-all_three false false c p q r = cc
-all_three true b c p q r = cc
 
 all_true : (a b c : Bool) → a ≡ true → b ≡ true → c ≡ true → ((a && b) && c) ≡ true
 all_true true true c p q r = r

@@ -122,13 +122,13 @@ no_cont tx a to _ e = refl
 
 module _ (start : Start) (some_nodes : 1 ≤ start.nodes) (tx : TxId) where
   -- a node after a log, as far as commits go
-  record NodeIs (h : ℕ) (log : List LogStep) : Type 0 where
-    state : node.Node
-    is : after start (suc h) log ≡ Node state
-    view : state.tc.view ≡ first_view start.nodes
-    known : Each (λ (e : TxId × Transaction). IsKnown (start.nodes + 1) e.1) state.tc.live
-    once : tally (is_keyed tx) state.tc.live ≤ 1
-    own : Each (λ (e : TxId × Transaction). IsOwn state.tc.node state.tc.next_seq e.0) state.tc.live
+  pub record NodeIs (h : ℕ) (log : List LogStep) : Type 0 where
+    pub state : node.Node
+    pub is : after start (suc h) log ≡ Node state
+    pub view : state.tc.view ≡ first_view start.nodes
+    pub known : Each (λ (e : TxId × Transaction). IsKnown (start.nodes + 1) e.1) state.tc.live
+    pub once : tally (is_keyed tx) state.tc.live ≤ 1
+    pub own : Each (λ (e : TxId × Transaction). IsOwn state.tc.node state.tc.next_seq e.0) state.tc.live
 
   view_chain : is_chain (start.nodes + 1) (first_view start.nodes).full ≡ true
   view_chain = true_and (is_good (start.nodes + 1) (first_view start.nodes).full) (nat_lt 0 (length (first_view start.nodes).full)) (good_members (start.nodes + 1) start.nodes (omega arith)) (some start.nodes some_nodes)
@@ -153,7 +153,7 @@ module _ (start : Start) (some_nodes : 1 ≤ start.nodes) (tx : TxId) where
   node_known x block.Lqh body known once own good = known
   node_known x _ body known once own good = known
 
-  node_is : (h : ℕ) (log : List LogStep) → NodeIs h log
+  pub node_is : (h : ℕ) (log : List LogStep) → NodeIs h log
   unfolding fresh_node begun_node row
   node_is h [] = record { state = begun_node (h + 1) (first_view start.nodes) start.epoch start.rows; is = refl; view = refl; known = tt; once = omega arith; own = tt }
   node_is h (e ∷ log) = next (node_is h log) (keeps start tx h (e ∷ log))

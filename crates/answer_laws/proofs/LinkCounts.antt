@@ -1,6 +1,6 @@
 -- How many signals of a kind were sent over a link and taken from it.
 use Rattle.std.proofs.Common.{◌≡◌, ℕ, ◌+◌, ◌≤◌, List, [], ◌∷◌, Bool, true, false, refl, arith}
-use Rattle.std.specs.Prelude.{◌==◌, ◌&&◌, if◌then◌else◌}
+use Rattle.std.specs.Prelude.{◌==◌, ◌&&◌, if◌then◌else◌, not}
 use Rattle.run_theory.specs.Links.{is_from, put, sent, taken}
 use Rattle.run_theory.specs.Lists.{Each}
 use Rattle.sig_core.specs.declared.log.LogStep.{LogStep}
@@ -13,6 +13,12 @@ use Rattle.world_core.specs.Machine.{all_headed, counted, headed, machine, sent_
 use Rattle.world_core.specs.Start.{Start, first_view}
 use Rattle.answer_laws.proofs.Tally.{one_if, tally}
 use Rattle.answer_laws.proofs.Wishes.{sends_of, to_node}
+
+-- what a link gave, which is no request, and passes a test
+pub all_three : (a b c : Bool) → a ≡ false → b ≡ true → c ≡ true → ((not a && b) && c) ≡ true
+all_three false true c p q r = r
+all_three false false c p q r = cc
+all_three true b c p q r = cc
 
 -- how many signals of a list pass a test
 abbrev pub signals : (Place → Body → Bool) → List Signal → ℕ

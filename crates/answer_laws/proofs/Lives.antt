@@ -1,6 +1,6 @@
 -- Each transaction that the API holds as begun is one of its coordinator.
 use Rattle.std.proofs.Common.{◌≡◌, ◌≢◌, ◌⊎◌, ℕ, zero, suc, ◌+◌, ◌<◌, ◌≤◌, List, [], ◌∷◌, ◌++◌, Bool, true, false, refl, ap, sym, ◌∙◌, subst, arith, inl, inr}
-use Rattle.std.specs.Prelude.{◌==◌, ◌&&◌, not, Some, if◌then◌else◌}
+use Rattle.std.specs.Prelude.{◌==◌, ◌&&◌, Some, if◌then◌else◌}
 use Rattle.std.proofs.lemmas.Bool.{cases_eq, cases_lt}
 use Rattle.std.proofs.lemmas.Bool.Decides.{nat_tests}
 use Rattle.run_theory.proofs.Pasts.{each_map}
@@ -28,7 +28,7 @@ use Rattle.world_core.specs.Start.{Start, first_view}
 use Rattle.answer_laws.proofs.ApiHolds.{AreHeld, IsOrdered, log_holds}
 use Rattle.answer_laws.proofs.Begins.{given_past, node_told}
 use Rattle.answer_laws.proofs.Hosts.{TellsNode, shell_after, shell_sends, shell_starts}
-use Rattle.answer_laws.proofs.LinkCounts.{sent_signals, signals, steps, taken_signals, taken_steps}
+use Rattle.answer_laws.proofs.LinkCounts.{all_three, sent_signals, signals, steps, taken_signals, taken_steps}
 use Rattle.answer_laws.proofs.Tally.{Counted, counted, one_if, tally, tally_in, tally_none, tally_past}
 use Rattle.answer_laws.proofs.TcLives.{IsKept, due_move, is_done, is_keyed, is_start, kept_move, start_of, starts_in}
 use Rattle.answer_laws.proofs.TcMoves.{end_of, ends_in, is_end, node_moves, same_tx-is}
@@ -68,11 +68,6 @@ last_of false b e = cc
 head_of : (a b : Bool) → (a && b) ≡ true → a ≡ true
 head_of true b e = refl
 head_of false b e = e
-
-pub all_three : (a b c : Bool) → a ≡ false → b ≡ true → c ≡ true → ((not a && b) && c) ≡ true
-all_three false true c p q r = r
-all_three false false c p q r = cc
-all_three true b c p q r = cc
 
 -- who tells that a transaction begins is its coordinator
 start_home : (tx : TxId) (h : ℕ) (body : Body) → TellsNode h body → start_of tx body ≡ true → tx.tc ≡ h

@@ -5,7 +5,7 @@ use Rattle.std.specs.Prelude.{Option, None, Some, nat_lt, slice_get, slice_set, 
 use Rattle.run_theory.specs.Lists.{Each}
 use Rattle.run_theory.proofs.Pasts.{each_append}
 use Rattle.sig_core.specs.declared.mark.Mark.{Mark}
-use Rattle.sig_core.specs.declared.mark.Mark.TheVariants.{Reported}
+use Rattle.sig_core.specs.declared.mark.Mark.TheVariants.{Applied, Reported}
 use Rattle.sig_core.specs.declared.member.Member.{Member}
 use Rattle.sig_core.specs.declared.member.TxId.{TxId}
 use Rattle.sig_core.specs.declared.op.Answer.{Answer}
@@ -69,8 +69,10 @@ module _ (T : TxId → Type 0) where
   ApiSays kind.other = Unit {0}
   ApiSays _ = ⊥
 
+-- it marks a commit as reported that it is told of, and never a row as applied
 abbrev pub Reports : Kind → Mark → Type 0
 Reports taken (Reported tx (outcome.Committed epoch)) = taken ≡ kind.ended tx
+Reports taken (Applied tx key) = ⊥
 Reports taken mark = Unit {0}
 
 pub record ApiGoes (T : TxId → Type 0) (taken : Kind) (step : Step ApiState) : Type 0 where

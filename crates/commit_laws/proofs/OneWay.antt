@@ -1,8 +1,9 @@
--- No coordinator sends a commit and an abort of one transaction.
-use Rattle.std.proofs.Common.{◌≡◌, ◌<◌, ℕ, zero, suc, ◌+◌, Bool, true, false, ◌&&◌, List, [], ◌∷◌, ◌++◌, refl, sym, ap, ◌∙◌, subst, arith}
+-- No coordinator takes one transaction both forth and back.
+use Rattle.std.proofs.Common.{◌≡◌, ◌⊎◌, ◌<◌, ℕ, zero, suc, ◌+◌, Bool, true, false, ◌&&◌, List, [], ◌∷◌, ◌++◌, refl, sym, ap, ◌∙◌, subst, inl, inr, arith}
+use Rattle.std.specs.List.{list_any}
 use Rattle.std.specs.Map.{values_of}
-use Rattle.std.specs.Prelude.{Option, None, Some, is_some, slice_get, nat_eq}
-use Rattle.std.proofs.lemmas.Bool.{and_right, ne_eqb}
+use Rattle.std.specs.Prelude.{◌||◌, Option, None, Some, is_some, slice_get, nat_eq}
+use Rattle.std.proofs.lemmas.Bool.{and_right, ne_eqb, or_cases}
 use Rattle.run_theory.specs.Lists.{Each}
 use Rattle.run_theory.proofs.Pasts.{each_after, each_append, each_before, each_map}
 use Rattle.sig_core.specs.declared.log.LogStep.{LogStep}
@@ -19,7 +20,7 @@ use Rattle.sig_core.specs.declared.signal.epoch.EpochSignal.TheVariants.{DiVerif
 use Rattle.sig_core.specs.declared.signal.host.HostSignal.TheVariants.{Continue}
 use Rattle.sig_core.specs.declared.signal.host.Work.TheVariants as work
 use Rattle.sig_core.specs.Same.{same_tx}
-use Rattle.sig_core.specs.Step.{Step}
+use Rattle.sig_core.specs.Step.{Step, stay}
 use Rattle.row_locks.proofs.TxLemmas.{same_tx-swap}
 use Rattle.tc_block.specs.Abort.{aborted_row, refuse_row, rollback_row}
 use Rattle.tc_block.specs.Commit as commit
@@ -39,29 +40,95 @@ use Rattle.node_core.specs.Fresh.{begun_node, fresh_node, fresh_shell}
 use Rattle.node_core.specs.Row.{node_row, row}
 use Rattle.world_core.specs.Machine.{after}
 use Rattle.world_core.specs.Start.{Start, started}
-use Rattle.commit_laws.specs.Phases.{is_decided}
-use Rattle.commit_laws.specs.Ways.{CoordinatorsGoOneWay, Way, back, back_by, forth, forth_by, is_aborting, neither, put_ways, sent_ways, tc_sends, way_of}
+use Rattle.commit_laws.specs.Phases.{is_completing, is_decided}
+use Rattle.commit_laws.specs.Ways.{AreSaid, CoordinatorsGoOneWay, CoordinatorsSay, IsSaid, Way, back, back_by, closes, forth, forth_by, is_aborting, is_forth, neither, put_ways, sent_ways, tc_sends, way_of}
+use Rattle.commit_laws.proofs.Keys.{same_tx-self}
 use Rattle.commit_laws.proofs.LiveSplit.{KeysOnce, Live, Split, each_inserted, once_back, once_front, once_gone, once_inserted, once_set, split_at}
 use Rattle.commit_laws.proofs.TcNumbers.{NotIn}
-use Rattle.commit_laws.proofs.TcWays.{AllWays, TurnWays, WayOf, Ways, aborted_ways, aborting_apart, answer_ways, commit_ways, committed_ways, completed_ways, decide_ways, decided_apart, go_on_ways, not_both, operate_ways, refuse_ways, rollback_ways, wait_ways}
+use Rattle.commit_laws.proofs.TcWays.{AllWays, TellsForth, TurnWays, WayOf, Ways, aborted_ways, aborting_apart, answer_ways, commit_ways, committed_ways, completed_ways, decide_ways, decided_apart, go_on_ways, not_both, operate_ways, refuse_ways, rollback_ways, wait_ways}
 
--- one of the coordinator's transactions, where rows were committed for these, and aborted for those
-record IsLive (next : ℕ) (cs bs : List TxId) (e : TxId × Transaction) : Type 0 where
+-- one of the coordinator's transactions, where these went forth, and those back
+record IsLive (node next : ℕ) (cs bs : List TxId) (e : TxId × Transaction) : Type 0 where
+  home : e.0.tc ≡ node
   below : e.0.seq < next
+  carried : is_completing e.1.phase ≡ true → list_any (same_tx e.0) cs ≡ true
   uncommitted : is_decided e.1.phase ≡ false → NotIn e.0 cs
   unaborted : is_aborting e.1.phase ≡ false → NotIn e.0 bs
 
 record IsOneWay (s : TcState) (cs bs : List TxId) : Type 0 where
   once : KeysOnce s.live
-  live : Each (IsLive s.next_seq cs bs) s.live
+  live : Each (IsLive s.node s.next_seq cs bs) s.live
   cs_below : Each (λ (v : TxId). v.seq < s.next_seq) cs
   bs_below : Each (λ (v : TxId). v.seq < s.next_seq) bs
   apart : Each (λ tx. NotIn tx bs) cs
 
-abbrev StaysOneWay : List TxId → List TxId → Step TcState → Type 0
-StaysOneWay cs bs step = IsOneWay step.state (put_ways forth_by step.effects.sends cs) (put_ways back_by step.effects.sends bs)
+-- a step of a coordinator of this node, and what it sends
+record StaysOneWay (node : ℕ) (cs bs : List TxId) (step : Step TcState) : Type 0 where
+  one : IsOneWay step.state (put_ways forth_by step.effects.sends cs) (put_ways back_by step.effects.sends bs)
+  says : Each (λ (o : Outgoing). IsSaid node (put_ways forth_by step.effects.sends cs) (put_ways back_by step.effects.sends bs) (way_of o.body)) step.effects.sends
 
--- what holds of each committed before, and of the transaction if it is in such a phase, holds of each then
+or_right : (a b : Bool) → b ≡ true → (a || b) ≡ true
+or_right true b is = refl
+or_right false b is = is
+
+-- who went a way is among those that went it later
+pub forth_more : (p : TxId → Bool) (sends : List Outgoing) (cs : List TxId) → list_any p cs ≡ true → list_any p (put_ways forth_by sends cs) ≡ true
+forth_more p [] cs is = is
+forth_more p (o ∷ more) cs is = forth_more p more (forth_by (way_of o.body) cs) (by (way_of o.body))
+  where
+    by : (w : Way) → list_any p (forth_by w cs) ≡ true
+    by (forth other) = or_right (p other) (list_any p cs) is
+    by (back other) = is
+    by (closes other) = is
+    by neither = is
+
+pub back_more : (p : TxId → Bool) (sends : List Outgoing) (bs : List TxId) → list_any p bs ≡ true → list_any p (put_ways back_by sends bs) ≡ true
+back_more p [] bs is = is
+back_more p (o ∷ more) bs is = back_more p more (back_by (way_of o.body) bs) (by (way_of o.body))
+  where
+    by : (w : Way) → list_any p (back_by w bs) ≡ true
+    by (forth other) = is
+    by (back other) = or_right (p other) (list_any p bs) is
+    by (closes other) = is
+    by neither = is
+
+-- what is told puts the transaction there
+told_in : (tx : TxId) (sends : List Outgoing) (cs : List TxId) → list_any (λ (o : Outgoing). is_forth tx (way_of o.body)) sends ≡ true → list_any (same_tx tx) (put_ways forth_by sends cs) ≡ true
+told_in tx [] cs told = absurd cc
+told_in tx (o ∷ more) cs told =
+    by (way_of o.body) (or_cases (is_forth tx (way_of o.body)) (list_any (λ (p : Outgoing). is_forth tx (way_of p.body)) more) told)
+    (told_in tx more (forth_by (way_of o.body) cs))
+  where
+    here : (w : Way) → is_forth tx w ≡ true → list_any (same_tx tx) (forth_by w cs) ≡ true
+    here (forth other) is = ap (λ b. b || list_any (same_tx tx) cs) is
+    here (back other) is = absurd cc
+    here (closes other) is = absurd cc
+    here neither is = absurd cc
+
+    by : (w : Way) → (is_forth tx w ≡ true) ⊎ (list_any (λ (p : Outgoing). is_forth tx (way_of p.body)) more ≡ true)
+        → (list_any (λ (p : Outgoing). is_forth tx (way_of p.body)) more ≡ true → list_any (same_tx tx) (put_ways forth_by more (forth_by w cs)) ≡ true)
+        → list_any (same_tx tx) (put_ways forth_by more (forth_by w cs)) ≡ true
+    by w (inl is) rest = forth_more (same_tx tx) more (forth_by w cs) (here w is)
+    by w (inr is) rest = rest is
+
+-- what a transaction of this node sends is said
+says_all : (node : ℕ) (tx : TxId) (phase : Phase) (sends : List Outgoing) (cs bs : List TxId) → tx.tc ≡ node → AllWays tx phase sends
+    → (is_completing phase ≡ true → list_any (same_tx tx) (put_ways forth_by sends cs) ≡ true)
+    → Each (λ (o : Outgoing). IsSaid node (put_ways forth_by sends cs) (put_ways back_by sends bs) (way_of o.body)) sends
+says_all node tx phase [] cs bs home all carried = tt
+says_all node tx phase (o ∷ more) cs bs home all carried =
+    (by (way_of o.body) all.0 carried, says_all node tx phase more (forth_by (way_of o.body) cs) (back_by (way_of o.body) bs) home all.1 carried)
+  where
+    by : (w : Way) → WayOf tx phase w → (is_completing phase ≡ true → list_any (same_tx tx) (put_ways forth_by more (forth_by w cs)) ≡ true)
+        → IsSaid node (put_ways forth_by more (forth_by w cs)) (put_ways back_by more (back_by w bs)) w
+    by (forth other) is carried =
+        (ap (λ (v : TxId). v.tc) is.0 ∙ home, forth_more (same_tx other) more (other ∷ cs) (ap (λ b. b || list_any (same_tx other) cs) (same_tx-self other)))
+    by (back other) is carried =
+        (ap (λ (v : TxId). v.tc) is.0 ∙ home, back_more (same_tx other) more (other ∷ bs) (ap (λ b. b || list_any (same_tx other) bs) (same_tx-self other)))
+    by (closes other) is carried = (ap (λ (v : TxId). v.tc) is.0 ∙ home, subst (λ v. list_any (same_tx v) (put_ways forth_by more cs) ≡ true) (sym is.0) (carried is.1))
+    by neither is carried = tt
+
+-- what holds of each that went forth before, and of the transaction if it is in such a phase, holds of each then
 each_forth : (P : TxId → Type 0) (tx : TxId) (phase : Phase) (sends : List Outgoing) (cs : List TxId) → AllWays tx phase sends → (is_decided phase ≡ true → P tx) → Each P cs → Each P (put_ways forth_by sends cs)
 each_forth P tx phase [] cs all own before = before
 each_forth P tx phase (o ∷ more) cs all own before = each_forth P tx phase more (forth_by (way_of o.body) cs) all.1 own (by (way_of o.body) all.0)
@@ -69,6 +136,7 @@ each_forth P tx phase (o ∷ more) cs all own before = each_forth P tx phase mor
     by : (w : Way) → WayOf tx phase w → Each P (forth_by w cs)
     by (forth other) is = (subst P (sym is.0) (own is.1), before)
     by (back other) is = before
+    by (closes other) is = before
     by neither is = before
 
 each_back_way : (P : TxId → Type 0) (tx : TxId) (phase : Phase) (sends : List Outgoing) (bs : List TxId) → AllWays tx phase sends → (is_aborting phase ≡ true → P tx) → Each P bs → Each P (put_ways back_by sends bs)
@@ -78,19 +146,20 @@ each_back_way P tx phase (o ∷ more) bs all own before = each_back_way P tx pha
     by : (w : Way) → WayOf tx phase w → Each P (back_by w bs)
     by (forth other) is = before
     by (back other) is = (subst P (sym is.0) (own is.1), before)
+    by (closes other) is = before
     by neither is = before
 
 module _ (s : TcState) (cs bs : List TxId) (n : IsOneWay s cs bs) where
   module _ (tx : TxId) (t : Transaction) (at : ℕ) (split : Split tx t s.live at) (after_phase : Phase) (sends : List Outgoing) (all : AllWays tx after_phase sends)
-      (forward : is_decided t.phase ≡ true → is_decided after_phase ≡ true) (backward : is_aborting t.phase ≡ true → is_aborting after_phase ≡ true) where
-    all_split : Each (IsLive s.next_seq cs bs) (split.front ++ (tx, t) ∷ split.back)
-    all_split = subst (Each (IsLive s.next_seq cs bs)) split.is n.live
+      (forward : is_decided t.phase ≡ true → is_decided after_phase ≡ true) (backward : is_aborting t.phase ≡ true → is_aborting after_phase ≡ true) (told : TellsForth tx t.phase after_phase sends) where
+    all_split : Each (IsLive s.node s.next_seq cs bs) (split.front ++ (tx, t) ∷ split.back)
+    all_split = subst (Each (IsLive s.node s.next_seq cs bs)) split.is n.live
 
     once_split : KeysOnce (split.front ++ (tx, t) ∷ split.back)
     once_split = subst KeysOnce split.is n.once
 
-    own : IsLive s.next_seq cs bs (tx, t)
-    own = (each_after (IsLive s.next_seq cs bs) split.front ((tx, t) ∷ split.back) all_split).0
+    own : IsLive s.node s.next_seq cs bs (tx, t)
+    own = (each_after (IsLive s.node s.next_seq cs bs) split.front ((tx, t) ∷ split.back) all_split).0
 
     abbrev cs_now : List TxId
     cs_now = put_ways forth_by sends cs
@@ -98,7 +167,7 @@ module _ (s : TcState) (cs bs : List TxId) (n : IsOneWay s cs bs) where
     abbrev bs_now : List TxId
     bs_now = put_ways back_by sends bs
 
-    -- who comes to commit has nothing aborted, and the other way round
+    -- who goes forth didn't go back, and the other way round
     none_back : is_decided after_phase ≡ true → NotIn tx bs
     none_back is = by (is_aborting t.phase) refl
       where
@@ -127,27 +196,41 @@ module _ (s : TcState) (cs bs : List TxId) (n : IsOneWay s cs bs) where
         by true e = not_both (is_aborting after_phase) (backward e) off
         by false e = own.unaborted e
 
+    carried_now : is_completing after_phase ≡ true → list_any (same_tx tx) cs_now ≡ true
+    carried_now is = by (told is)
+      where
+        by : (is_completing t.phase ≡ true) ⊎ (list_any (λ (o : Outgoing). is_forth tx (way_of o.body)) sends ≡ true) → list_any (same_tx tx) cs_now ≡ true
+        by (inl was) = forth_more (same_tx tx) sends cs (own.carried was)
+        by (inr tells) = told_in tx sends cs tells
+
+    says_now : Each (λ (o : Outgoing). IsSaid s.node cs_now bs_now (way_of o.body)) sends
+    says_now = says_all s.node tx after_phase sends cs bs own.home all carried_now
+
     -- the others are left alone
-    others : (xs : Live) → Each (λ (x : TxId × Transaction). same_tx x.0 tx ≡ false) xs → Each (IsLive s.next_seq cs bs) xs → Each (IsLive s.next_seq cs_now bs_now) xs
+    others : (xs : Live) → Each (λ (x : TxId × Transaction). same_tx x.0 tx ≡ false) xs → Each (IsLive s.node s.next_seq cs bs) xs → Each (IsLive s.node s.next_seq cs_now bs_now) xs
     others [] apart live = tt
     others (x ∷ xs) apart live = (
       record {
+        home = live.0.home;
         below = live.0.below;
+        carried = λ on. forth_more (same_tx x.0) sends cs (live.0.carried on);
         uncommitted = λ off. each_forth (λ v. same_tx v x.0 ≡ false) tx after_phase sends cs all (λ is. same_tx-swap tx x.0 ∙ apart.0) (live.0.uncommitted off);
         unaborted = λ off. each_back_way (λ v. same_tx v x.0 ≡ false) tx after_phase sends bs all (λ is. same_tx-swap tx x.0 ∙ apart.0) (live.0.unaborted off);
       },
       others xs apart.1 live.1,
     )
 
-    front_now : Each (IsLive s.next_seq cs_now bs_now) split.front
-    front_now = others split.front (once_front split.front split.back tx t once_split) (each_before (IsLive s.next_seq cs bs) split.front ((tx, t) ∷ split.back) all_split)
+    front_now : Each (IsLive s.node s.next_seq cs_now bs_now) split.front
+    front_now = others split.front (once_front split.front split.back tx t once_split) (each_before (IsLive s.node s.next_seq cs bs) split.front ((tx, t) ∷ split.back) all_split)
 
-    back_now : Each (IsLive s.next_seq cs_now bs_now) split.back
-    back_now = others split.back (once_back split.front split.back tx t once_split) (each_after (IsLive s.next_seq cs bs) split.front ((tx, t) ∷ split.back) all_split).1
+    back_now : Each (IsLive s.node s.next_seq cs_now bs_now) split.back
+    back_now = others split.back (once_back split.front split.back tx t once_split) (each_after (IsLive s.node s.next_seq cs bs) split.front ((tx, t) ∷ split.back) all_split).1
 
-    own_now : (w : Transaction) → w.phase ≡ after_phase → IsLive s.next_seq cs_now bs_now (tx, w)
+    own_now : (w : Transaction) → w.phase ≡ after_phase → IsLive s.node s.next_seq cs_now bs_now (tx, w)
     own_now w is = record {
+      home = own.home;
       below = own.below;
+      carried = λ on. carried_now (sym (ap is_completing is) ∙ on);
       uncommitted = λ off. let was = sym (ap is_decided is) ∙ off in
           each_forth (λ v. same_tx v tx ≡ false) tx after_phase sends cs all (λ on. not_both (is_decided after_phase) on was) (still_forth was);
       unaborted = λ off. let was = sym (ap is_aborting is) ∙ off in
@@ -176,57 +259,75 @@ module _ (s : TcState) (cs bs : List TxId) (n : IsOneWay s cs bs) where
     below_bs : Each (λ (v : TxId). v.seq < s.next_seq) bs_now
     below_bs = each_back_way (λ (v : TxId). v.seq < s.next_seq) tx after_phase sends bs all (λ is. own.below) n.bs_below
 
-  step_stays : (tx : TxId) (t : Transaction) (at : ℕ) → Split tx t s.live at → (step : Step Transaction) → Ways tx t.phase step → StaysOneWay cs bs (stepped s at step)
+  step_stays : (tx : TxId) (t : Transaction) (at : ℕ) → Split tx t s.live at → (step : Step Transaction) → Ways tx t.phase step → StaysOneWay s.node cs bs (stepped s at step)
   step_stays tx t at split step ways = record {
-    once = subst KeysOnce (sym (split.set step.state)) (once_set split.front split.back tx t step.state (once_split tx t at split step.state.phase step.effects.sends ways.sends ways.forward ways.backward));
-    live = subst (Each (IsLive s.next_seq (put_ways forth_by step.effects.sends cs) (put_ways back_by step.effects.sends bs))) (sym (split.set step.state))
-        (each_append (IsLive s.next_seq (put_ways forth_by step.effects.sends cs) (put_ways back_by step.effects.sends bs)) split.front ((tx, step.state) ∷ split.back)
-        (front_now tx t at split step.state.phase step.effects.sends ways.sends ways.forward ways.backward) (
-          own_now tx t at split step.state.phase step.effects.sends ways.sends ways.forward ways.backward step.state refl,
-          back_now tx t at split step.state.phase step.effects.sends ways.sends ways.forward ways.backward,
-        ));
-    cs_below = below_cs tx t at split step.state.phase step.effects.sends ways.sends ways.forward ways.backward;
-    bs_below = below_bs tx t at split step.state.phase step.effects.sends ways.sends ways.forward ways.backward;
-    apart = apart_now tx t at split step.state.phase step.effects.sends ways.sends ways.forward ways.backward;
+    one = record {
+      once = subst KeysOnce (sym (split.set step.state)) (once_set split.front split.back tx t step.state (once_split tx t at split step.state.phase step.effects.sends ways.sends ways.forward ways.backward ways.told));
+      live = subst (Each (IsLive s.node s.next_seq (put_ways forth_by step.effects.sends cs) (put_ways back_by step.effects.sends bs))) (sym (split.set step.state))
+          (each_append (IsLive s.node s.next_seq (put_ways forth_by step.effects.sends cs) (put_ways back_by step.effects.sends bs)) split.front ((tx, step.state) ∷ split.back)
+          (front_now tx t at split step.state.phase step.effects.sends ways.sends ways.forward ways.backward ways.told) (
+            own_now tx t at split step.state.phase step.effects.sends ways.sends ways.forward ways.backward ways.told step.state refl,
+            back_now tx t at split step.state.phase step.effects.sends ways.sends ways.forward ways.backward ways.told,
+          ));
+      cs_below = below_cs tx t at split step.state.phase step.effects.sends ways.sends ways.forward ways.backward ways.told;
+      bs_below = below_bs tx t at split step.state.phase step.effects.sends ways.sends ways.forward ways.backward ways.told;
+      apart = apart_now tx t at split step.state.phase step.effects.sends ways.sends ways.forward ways.backward ways.told;
+    };
+    says = says_now tx t at split step.state.phase step.effects.sends ways.sends ways.forward ways.backward ways.told;
   }
 
-  gone_stays : (tx : TxId) (t : Transaction) (at : ℕ) → Split tx t s.live at → (turn : Turn) → TurnWays tx t.phase turn → StaysOneWay cs bs (turned_if s at turn true)
+  gone_stays : (tx : TxId) (t : Transaction) (at : ℕ) → Split tx t s.live at → (turn : Turn) → TurnWays tx t.phase turn → StaysOneWay s.node cs bs (turned_if s at turn true)
   unfolding without
   gone_stays tx t at split turn ways = record {
-    once = subst KeysOnce (sym split.gone) (once_gone split.front split.back tx t (once_split tx t at split turn.step.state.phase turn.step.effects.sends ways.sends ways.forward ways.backward));
-    live = subst (Each (IsLive s.next_seq (put_ways forth_by turn.step.effects.sends cs) (put_ways back_by turn.step.effects.sends bs))) (sym split.gone)
-        (each_append (IsLive s.next_seq (put_ways forth_by turn.step.effects.sends cs) (put_ways back_by turn.step.effects.sends bs)) split.front split.back
-        (front_now tx t at split turn.step.state.phase turn.step.effects.sends ways.sends ways.forward ways.backward)
-        (back_now tx t at split turn.step.state.phase turn.step.effects.sends ways.sends ways.forward ways.backward));
-    cs_below = below_cs tx t at split turn.step.state.phase turn.step.effects.sends ways.sends ways.forward ways.backward;
-    bs_below = below_bs tx t at split turn.step.state.phase turn.step.effects.sends ways.sends ways.forward ways.backward;
-    apart = apart_now tx t at split turn.step.state.phase turn.step.effects.sends ways.sends ways.forward ways.backward;
+    one = record {
+      once = subst KeysOnce (sym split.gone) (once_gone split.front split.back tx t (once_split tx t at split ways.last turn.step.effects.sends ways.sends ways.forward ways.backward ways.told));
+      live = subst (Each (IsLive s.node s.next_seq (put_ways forth_by turn.step.effects.sends cs) (put_ways back_by turn.step.effects.sends bs))) (sym split.gone)
+          (each_append (IsLive s.node s.next_seq (put_ways forth_by turn.step.effects.sends cs) (put_ways back_by turn.step.effects.sends bs)) split.front split.back
+          (front_now tx t at split ways.last turn.step.effects.sends ways.sends ways.forward ways.backward ways.told)
+          (back_now tx t at split ways.last turn.step.effects.sends ways.sends ways.forward ways.backward ways.told));
+      cs_below = below_cs tx t at split ways.last turn.step.effects.sends ways.sends ways.forward ways.backward ways.told;
+      bs_below = below_bs tx t at split ways.last turn.step.effects.sends ways.sends ways.forward ways.backward ways.told;
+      apart = apart_now tx t at split ways.last turn.step.effects.sends ways.sends ways.forward ways.backward ways.told;
+    };
+    says = says_now tx t at split ways.last turn.step.effects.sends ways.sends ways.forward ways.backward ways.told;
   }
 
-  turn_stays : (tx : TxId) (t : Transaction) (at : ℕ) → Split tx t s.live at → (turn : Turn) → TurnWays tx t.phase turn → (b : Bool) → StaysOneWay cs bs (turned_if s at turn b)
-  turn_stays tx t at split turn ways true = gone_stays tx t at split turn ways
-  turn_stays tx t at split turn ways false = step_stays tx t at split turn.step ways
+  -- a turn after which the transaction isn't over is a step
+  step_ways : (tx : TxId) (phase : Phase) (turn : Turn) → TurnWays tx phase turn → turn.over ≡ false → Ways tx phase turn.step
+  step_ways tx phase turn ways off = record {
+    sends = subst (λ last. AllWays tx last turn.step.effects.sends) (sym (ways.stands off)) ways.sends;
+    forward = λ is. ap is_decided (ways.stands off) ∙ ways.forward is;
+    backward = λ is. ap is_aborting (ways.stands off) ∙ ways.backward is;
+    told = subst (λ last. TellsForth tx phase last turn.step.effects.sends) (sym (ways.stands off)) ways.told;
+  }
 
-  step_one : (tx : TxId) (row : Transaction → Step Transaction) → ((t : Transaction) → Ways tx t.phase (row t)) → StaysOneWay cs bs (step_of s tx row)
+  turn_stays : (tx : TxId) (t : Transaction) (at : ℕ) → Split tx t s.live at → (turn : Turn) → TurnWays tx t.phase turn → (b : Bool) → turn.over ≡ b → StaysOneWay s.node cs bs (turned_if s at turn b)
+  turn_stays tx t at split turn ways true over = gone_stays tx t at split turn ways
+  turn_stays tx t at split turn ways false over = step_stays tx t at split turn.step (step_ways tx t.phase turn ways over)
+
+  nothing_stays : StaysOneWay s.node cs bs (stay s)
+  nothing_stays = record { one = n; says = tt }
+
+  step_one : (tx : TxId) (row : Transaction → Step Transaction) → ((t : Transaction) → Ways tx t.phase (row t)) → StaysOneWay s.node cs bs (step_of s tx row)
   step_one tx row ways = at_place (place_in s tx) refl
     where
-      at_value : (at : ℕ) → place_in s tx ≡ Some at → (t : Option Transaction) → slice_get (values_of s.live) at ≡ t → StaysOneWay cs bs (step_value s row at t)
-      at_value at at_is None is = n
+      at_value : (at : ℕ) → place_in s tx ≡ Some at → (t : Option Transaction) → slice_get (values_of s.live) at ≡ t → StaysOneWay s.node cs bs (step_value s row at t)
+      at_value at at_is None is = nothing_stays
       at_value at at_is (Some t) is = step_stays tx t at (split_at tx s.live at t at_is is) (row t) (ways t)
 
-      at_place : (at : Option ℕ) → place_in s tx ≡ at → StaysOneWay cs bs (step_place s row at)
-      at_place None at_is = n
+      at_place : (at : Option ℕ) → place_in s tx ≡ at → StaysOneWay s.node cs bs (step_place s row at)
+      at_place None at_is = nothing_stays
       at_place (Some at) at_is = at_value at at_is (slice_get (values_of s.live) at) refl
 
-  turn_one : (tx : TxId) (row : Transaction → Turn) → ((t : Transaction) → TurnWays tx t.phase (row t)) → StaysOneWay cs bs (turn_of s tx row)
+  turn_one : (tx : TxId) (row : Transaction → Turn) → ((t : Transaction) → TurnWays tx t.phase (row t)) → StaysOneWay s.node cs bs (turn_of s tx row)
   turn_one tx row ways = at_place (place_in s tx) refl
     where
-      at_value : (at : ℕ) → place_in s tx ≡ Some at → (t : Option Transaction) → slice_get (values_of s.live) at ≡ t → StaysOneWay cs bs (turn_value s row at t)
-      at_value at at_is None is = n
-      at_value at at_is (Some t) is = turn_stays tx t at (split_at tx s.live at t at_is is) (row t) (ways t) (row t).over
+      at_value : (at : ℕ) → place_in s tx ≡ Some at → (t : Option Transaction) → slice_get (values_of s.live) at ≡ t → StaysOneWay s.node cs bs (turn_value s row at t)
+      at_value at at_is None is = nothing_stays
+      at_value at at_is (Some t) is = turn_stays tx t at (split_at tx s.live at t at_is is) (row t) (ways t) (row t).over refl
 
-      at_place : (at : Option ℕ) → place_in s tx ≡ at → StaysOneWay cs bs (turn_place s row at)
-      at_place None at_is = n
+      at_place : (at : Option ℕ) → place_in s tx ≡ at → StaysOneWay s.node cs bs (turn_place s row at)
+      at_place None at_is = nothing_stays
       at_place (Some at) at_is = at_value at at_is (slice_get (values_of s.live) at) refl
 
   lower_apart : (v : TxId) → v.seq < s.next_seq → same_tx v (next_tx s) ≡ false
@@ -237,32 +338,35 @@ module _ (s : TcState) (cs bs : List TxId) (n : IsOneWay s cs bs) where
   lower_none : (xs : List TxId) → Each (λ (v : TxId). v.seq < s.next_seq) xs → NotIn (next_tx s) xs
   lower_none xs all = each_map (λ (v : TxId). v.seq < s.next_seq) (λ v. same_tx v (next_tx s) ≡ false) xs lower_apart all
 
-  begins_one : (name : Option ℕ) (b : Bool) → StaysOneWay cs bs (begin_if s name b)
-  begins_one name true = n
+  begins_one : (name : Option ℕ) (b : Bool) → StaysOneWay s.node cs bs (begin_if s name b)
+  begins_one name true = record { one = n; says = (tt, tt) }
   begins_one name false = record {
-    once = once_inserted s.live (next_tx s) fresh (each_map (IsLive s.next_seq cs bs) (λ (x : TxId × Transaction). same_tx x.0 (next_tx s) ≡ false) s.live (λ x is. lower_apart x.0 is.below) n.live) n.once;
-    live = each_inserted (IsLive (s.next_seq + 1) cs bs) s.live (next_tx s) fresh
-        (each_map (IsLive s.next_seq cs bs) (λ (x : TxId × Transaction). same_tx x.0 (next_tx s) ≡ false) s.live (λ x is. lower_apart x.0 is.below) n.live)
-        (record { below = omega arith; uncommitted = λ off. lower_none cs n.cs_below; unaborted = λ off. lower_none bs n.bs_below })
-        (each_map (IsLive s.next_seq cs bs) (IsLive (s.next_seq + 1) cs bs) s.live (λ x is. record { below = omega (arith, is.below); uncommitted = is.uncommitted; unaborted = is.unaborted }) n.live);
-    cs_below = each_map (λ (v : TxId). v.seq < s.next_seq) (λ (v : TxId). v.seq < s.next_seq + 1) cs (λ v lt. omega (arith, lt)) n.cs_below;
-    bs_below = each_map (λ (v : TxId). v.seq < s.next_seq) (λ (v : TxId). v.seq < s.next_seq + 1) bs (λ v lt. omega (arith, lt)) n.bs_below;
-    apart = n.apart;
+    one = record {
+      once = once_inserted s.live (next_tx s) fresh (each_map (IsLive s.node s.next_seq cs bs) (λ (x : TxId × Transaction). same_tx x.0 (next_tx s) ≡ false) s.live (λ x is. lower_apart x.0 is.below) n.live) n.once;
+      live = each_inserted (IsLive s.node (s.next_seq + 1) cs bs) s.live (next_tx s) fresh
+          (each_map (IsLive s.node s.next_seq cs bs) (λ (x : TxId × Transaction). same_tx x.0 (next_tx s) ≡ false) s.live (λ x is. lower_apart x.0 is.below) n.live)
+          (record { home = refl; below = omega arith; carried = λ on. absurd cc; uncommitted = λ off. lower_none cs n.cs_below; unaborted = λ off. lower_none bs n.bs_below })
+          (each_map (IsLive s.node s.next_seq cs bs) (IsLive s.node (s.next_seq + 1) cs bs) s.live (λ x is. record { home = is.home; below = omega (arith, is.below); carried = is.carried; uncommitted = is.uncommitted; unaborted = is.unaborted }) n.live);
+      cs_below = each_map (λ (v : TxId). v.seq < s.next_seq) (λ (v : TxId). v.seq < s.next_seq + 1) cs (λ v lt. omega (arith, lt)) n.cs_below;
+      bs_below = each_map (λ (v : TxId). v.seq < s.next_seq) (λ (v : TxId). v.seq < s.next_seq + 1) bs (λ v lt. omega (arith, lt)) n.bs_below;
+      apart = n.apart;
+    };
+    says = (tt, tt);
   }
 
-  begin_one : (name : Option ℕ) → StaysOneWay cs bs (begin_row s name)
+  begin_one : (name : Option ℕ) → StaysOneWay s.node cs bs (begin_row s name)
   unfolding begin_row
   begin_one name = begins_one name (is_full s)
 
-  pass_if_one : (tx ahead : TxId) (b : Bool) → StaysOneWay cs bs (pass_if s tx ahead b)
-  pass_if_one tx ahead true = n
-  pass_if_one tx ahead false = n
+  pass_if_one : (tx ahead : TxId) (b : Bool) → StaysOneWay s.node cs bs (pass_if s tx ahead b)
+  pass_if_one tx ahead true = record { one = n; says = (tt, tt) }
+  pass_if_one tx ahead false = nothing_stays
 
-  pass_one : (tx ahead : TxId) → StaysOneWay cs bs (pass_row s tx ahead)
+  pass_one : (tx ahead : TxId) → StaysOneWay s.node cs bs (pass_row s tx ahead)
   unfolding pass_row
   pass_one tx ahead = pass_if_one tx ahead (is_some (place_in s tx))
 
-tc_one : (s : TcState) (cs bs : List TxId) (body : Body) → IsOneWay s cs bs → StaysOneWay cs bs (tc_row s body)
+tc_one : (s : TcState) (cs bs : List TxId) (body : Body) → IsOneWay s cs bs → StaysOneWay s.node cs bs (tc_row s body)
 tc_one s cs bs (Host (Continue (work.Transaction tx) at)) n = step_one s cs bs n tx (λ t. go_on_row s.node s.view tx t at) (λ t. go_on_ways tx s.node s.view t at)
 tc_one s cs bs (Client (TcBeginReq name)) n = begin_one s cs bs n name
 tc_one s cs bs (Client (TcKeyReq tx op)) n = step_one s cs bs n tx (λ t. operate_row s.view tx t op) (λ t. operate_ways tx s.view t op)
@@ -276,25 +380,29 @@ tc_one s cs bs (Chain (Committed tx key)) n = turn_one s cs bs n tx (λ t. commi
 tc_one s cs bs (Chain (Completed tx key)) n = turn_one s cs bs n tx (λ t. completed_row s.node tx t) (λ t. completed_ways tx s.node t)
 tc_one s cs bs (Chain (Aborted tx key)) n = turn_one s cs bs n tx (λ t. aborted_row s.node tx t) (λ t. aborted_ways tx s.node t)
 tc_one s cs bs (Epoch (DiVerifyConf tx epoch)) n = turn_one s cs bs n tx (λ t. commit.commit_row s.node s.view tx t epoch) (λ t. commit_ways tx s.node s.view t epoch)
-tc_one s cs bs _ n = n
+tc_one s cs bs _ n = record { one = n; says = tt }
 
 -- so it is of each host, along any log
 abbrev HostIsOneWay : host.Host → List TxId → List TxId → Type 0
 HostIsOneWay (Shell s) cs bs = (cs ≡ []) × (bs ≡ [])
 HostIsOneWay (Node n) cs bs = IsOneWay n.tc cs bs
 
-node_one : (n : node.Node) (at : BlockId) (body : Body) (cs bs : List TxId) → IsOneWay n.tc cs bs
-    → IsOneWay (node_row n at body).state.tc (put_ways forth_by (tc_sends (Node n) at body) cs) (put_ways back_by (tc_sends (Node n) at body) bs)
-unfolding node_row
-node_one n block.Tc body cs bs is = tc_one n.tc cs bs body is
-node_one n block.Dih body cs bs is = is
-node_one n block.Lqh body cs bs is = is
-node_one n _ body cs bs is = is
+-- a step of a host, and what its coordinator sends
+record HostStays (before after : host.Host) (cs bs : List TxId) (sends : List Outgoing) : Type 0 where
+  one : HostIsOneWay after (put_ways forth_by sends cs) (put_ways back_by sends bs)
+  says : AreSaid before (put_ways forth_by sends cs) (put_ways back_by sends bs) sends
 
-host_one : (s : host.Host) (to : Place) (body : Body) (cs bs : List TxId) → HostIsOneWay s cs bs
-    → HostIsOneWay (row s to body).state (put_ways forth_by (tc_sends s to.block body) cs) (put_ways back_by (tc_sends s to.block body) bs)
+node_one : (n : node.Node) (at : BlockId) (body : Body) (cs bs : List TxId) → IsOneWay n.tc cs bs
+    → HostStays (Node n) (Node (node_row n at body).state) cs bs (tc_sends (Node n) at body)
+unfolding node_row
+node_one n block.Tc body cs bs is = let stays = tc_one n.tc cs bs body is in record { one = stays.one; says = stays.says }
+node_one n block.Dih body cs bs is = record { one = is; says = tt }
+node_one n block.Lqh body cs bs is = record { one = is; says = tt }
+node_one n _ body cs bs is = record { one = is; says = tt }
+
+host_one : (s : host.Host) (to : Place) (body : Body) (cs bs : List TxId) → HostIsOneWay s cs bs → HostStays s (row s to body).state cs bs (tc_sends s to.block body)
 unfolding row
-host_one (Shell s) to body cs bs is = is
+host_one (Shell s) to body cs bs is = record { one = is; says = tt }
 host_one (Node n) to body cs bs is = node_one n to.block body cs bs is
 
 started_one : (start : Start) (h : ℕ) → HostIsOneWay (started start h) [] []
@@ -304,7 +412,7 @@ started_one start (suc h) = record { once = tt; live = tt; cs_below = tt; bs_bel
 
 log_one : (start : Start) (h : ℕ) (log : List LogStep) → HostIsOneWay (after start h log) (sent_ways start forth_by h log) (sent_ways start back_by h log)
 log_one start h [] = started_one start h
-log_one start h (e ∷ log) = host_one (after start h log) e.taken.to e.taken.body (sent_ways start forth_by h log) (sent_ways start back_by h log) (log_one start h log)
+log_one start h (e ∷ log) = (host_one (after start h log) e.taken.to e.taken.body (sent_ways start forth_by h log) (sent_ways start back_by h log) (log_one start h log)).one
 
 one_apart : (s : host.Host) (cs bs : List TxId) → HostIsOneWay s cs bs → Each (λ tx. NotIn tx bs) cs
 one_apart (Shell s) cs bs is = subst (Each (λ tx. NotIn tx bs)) (sym is.0) tt
@@ -312,3 +420,36 @@ one_apart (Node n) cs bs is = is.apart
 
 pub coordinators_one_way : CoordinatorsGoOneWay
 coordinators_one_way start h log = one_apart (after start h log) (sent_ways start forth_by h log) (sent_ways start back_by h log) (log_one start h log)
+
+pub coordinators_say : CoordinatorsSay
+coordinators_say start h log e = (host_one (after start h log) e.taken.to e.taken.body (sent_ways start forth_by h log) (sent_ways start back_by h log) (log_one start h log)).says
+
+-- who is among those that went forth isn't apart from all of them
+pub not_apart : (tx : TxId) (cs : List TxId) → list_any (same_tx tx) cs ≡ true → NotIn tx cs → ⊥
+not_apart tx [] among off = cc
+not_apart tx (v ∷ cs) among off = by (or_cases (same_tx tx v) (list_any (same_tx tx) cs) among) (λ more. not_apart tx cs more off.1)
+  where
+    by : (same_tx tx v ≡ true) ⊎ (list_any (same_tx tx) cs ≡ true) → (list_any (same_tx tx) cs ≡ true → ⊥) → ⊥
+    by (inl own) rest = let both : true ≡ false = sym own ∙ (same_tx-swap tx v ∙ off.0) in cc
+    by (inr more) rest = rest more
+
+-- one that a coordinator took forth knows that it is decided
+pub forth_decided : (start : Start) (h : ℕ) (log : List LogStep) (n : node.Node) → after start h log ≡ Node n
+    → Each (λ (e : TxId × Transaction). list_any (same_tx e.0) (sent_ways start forth_by h log) ≡ true → is_decided e.1.phase ≡ true) n.tc.live
+forth_decided start h log n is = each_map (IsLive n.tc.node n.tc.next_seq cs bs) (λ (e : TxId × Transaction). list_any (same_tx e.0) cs ≡ true → is_decided e.1.phase ≡ true) n.tc.live known one.live
+  where
+    cs : List TxId
+    cs = sent_ways start forth_by h log
+
+    bs : List TxId
+    bs = sent_ways start back_by h log
+
+    one : IsOneWay n.tc cs bs
+    one = subst (λ s. HostIsOneWay s cs bs) is (log_one start h log)
+
+    known : (e : TxId × Transaction) → IsLive n.tc.node n.tc.next_seq cs bs e → list_any (same_tx e.0) cs ≡ true → is_decided e.1.phase ≡ true
+    known e live among = by (is_decided e.1.phase) refl
+      where
+        by : (b : Bool) → is_decided e.1.phase ≡ b → is_decided e.1.phase ≡ true
+        by true on = on
+        by false off = absurd (not_apart e.0 cs among (live.uncommitted off))

@@ -13,3 +13,8 @@ abbrev pub is_decided : Phase → Bool
 is_decided (Committing epoch awaited) = true
 is_decided (Completing epoch awaited) = true
 is_decided phase = false
+
+-- all its rows are committed
+abbrev pub is_completing : Phase → Bool
+is_completing (Completing epoch awaited) = true
+is_completing phase = false

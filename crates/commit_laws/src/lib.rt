@@ -9,7 +9,7 @@ mod lock_laws;
 mod replica_laws;
 mod row_laws;
 
-pub use coordinator_laws::coordinators_go_one_way;
+pub use coordinator_laws::{coordinators_go_one_way, coordinators_say};
 pub use cut_laws::{
     commits_are_of_decided, epochs_never_fall, greatest_view_is_viable, histories_are_strict,
     right_keys_make_cuts_serial,

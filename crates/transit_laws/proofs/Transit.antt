@@ -1,12 +1,12 @@
 -- What holds of the logs and of what is in transit, along every run.
-use Rattle.std.proofs.Common.{◌≡◌, ◌≢◌, ℕ, true, false, List, [], ◌∷◌, ◌++◌, refl, sym, subst, ◌∙◌}
+use Rattle.std.proofs.Common.{◌≡◌, List, [], ◌∷◌, ◌++◌, sym, subst, ◌∙◌}
 use Rattle.run_theory.proofs.Runs.{log_of-past}
 use Rattle.run_theory.specs.Runs.{log_of}
 use Rattle.sig_core.specs.declared.log.LogStep.{LogStep}
 use Rattle.sig_core.specs.declared.signal.Signal.{Signal}
 use Rattle.world_core.specs.Machine.{machine, signals_of}
 use Rattle.world_core.specs.Start.{Start}
-use Rattle.transit_laws.specs.Transit.{AreInTransit, Comes, IsRun, Passes, Takes, joined, logs_of}
+use Rattle.transit_laws.specs.Transit.{AreInTransit, Comes, IsRun, Takes, joined, logs_of}
 
 older_nil : (newer log : List LogStep) → [] ≡ newer ++ log → log ≡ []
 older_nil [] log is = sym is
@@ -28,7 +28,7 @@ comes start es e now = record { before = earlier start es e now; happens = now.r
 -- what holds at first and is kept by each event holds after every run
 pub along_transit : (start : Start) (P : List LogStep → List Signal → Type 0) → P [] []
     → ((es : List LogStep) (e : LogStep) (before between : List Signal) → Comes start es e → AreInTransit start es before → P es before → Takes e before between
-        → P (e ∷ es) (joined (signals_of start e.taken.to.node (logs_of start es e.taken.to.node) e) between))
+    → P (e ∷ es) (joined (signals_of start e.taken.to.node (logs_of start es e.taken.to.node) e) between))
     → (es : List LogStep) (xs : List Signal) → IsRun start es → AreInTransit start es xs → P es xs
 along_transit start P none next [] xs run is = subst (P []) (sym is) none
 along_transit start P none next (e ∷ es) xs run (before, (rest, passes)) =

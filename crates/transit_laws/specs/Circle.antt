@@ -1,6 +1,6 @@
 -- What a transaction that asks for its epoch has of a key is what the replicas made of it.
 use Rattle.std.specs.List.{list_any}
-use Rattle.std.specs.Prelude.{◌≡◌, ◌<◌, ℕ, true, false, is_some, length, List, [], ◌∷◌, Option, None, Some}
+use Rattle.std.specs.Prelude.{◌≡◌, ◌<◌, ℕ, false, is_some, length, List, [], ◌∷◌, Option, None, Some}
 use Rattle.run_theory.specs.Lists.{Each}
 use Rattle.sig_core.specs.declared.log.LogStep.{LogStep}
 use Rattle.sig_core.specs.declared.member.TxId.{TxId}
@@ -56,7 +56,7 @@ pub record IsReplica (start : Start) (key : List ℕ) (h : ℕ) : Type 0 where
 -- replica has the image of the primary, or none where that has none, which is so where no answer was `Done`.
 pub record IsSettledFor (start : Start) (logs : ℕ → List LogStep) (tx : TxId) (ops : List (Op × Answer)) (key : List ℕ) : Type 0 where
   pub made : (at_primary start logs key).made tx ≡ ops_on key ops
-  pub open : (at_primary start logs key).ended tx ≡ false
+  pub alive : (at_primary start logs key).ended tx ≡ false
   pub agreed : (h : ℕ) → IsReplica start key h → Agree (found tx (at_primary start logs key).replica.cell.pending) (found tx (at_host start logs key h).cell.pending)
   pub others : (h : ℕ) → (IsReplica start key h → ⊥) → found tx (at_host start logs key h).cell.pending ≡ None
   pub written : is_some (found tx (at_primary start logs key).replica.cell.pending) ≡ list_any (λ (op : Op × Answer). is_done op.1) (ops_on key ops)

@@ -1,8 +1,12 @@
+pub mod Beside
 pub mod Circle
 pub mod Completions
+pub mod Decided
 pub mod GivenUp
+pub mod Keyed
 pub mod Live
 pub mod Owed
 pub mod Routes
 pub mod Tokens
 pub mod Transit
+pub mod Undecided

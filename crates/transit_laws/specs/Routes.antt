@@ -1,17 +1,20 @@
 -- Signals along chains: where they are sent, and what they ask for there.
-use Rattle.std.specs.Prelude.{◌≡◌, ◌<◌, ◌⊎◌, ◌==◌, ℕ, Bool, true, false, length, List, Option, None, Some}
+use Rattle.std.specs.Prelude.{◌≡◌, ◌≢◌, ◌<◌, ◌⊎◌, ◌==◌, if◌then◌else◌, ℕ, length, List, Option, None, Some}
 use Rattle.run_theory.specs.Lists.{Each}
 use Rattle.sig_core.specs.declared.log.LogStep.{LogStep}
 use Rattle.sig_core.specs.declared.member.Member.{Member}
 use Rattle.sig_core.specs.declared.member.TxId.{TxId}
+use Rattle.sig_core.specs.declared.place.BlockId.TheVariants.{Lqh}
+use Rattle.sig_core.specs.declared.place.Place.{Place}
 use Rattle.sig_core.specs.declared.signal.Body.{Body}
 use Rattle.sig_core.specs.declared.signal.Body.TheVariants.{Chain}
-use Rattle.sig_core.specs.declared.signal.chain.ChainSignal.TheVariants.{LqhKeyReq, Commit, Complete}
+use Rattle.sig_core.specs.declared.signal.chain.ChainSignal.TheVariants.{LqhKeyReq, LqhKeyConf, LqhKeyRef, Commit, Committed, Complete, Completed, Abort, Aborted}
 use Rattle.sig_core.specs.declared.signal.chain.RowWork.{RowWork}
 use Rattle.sig_core.specs.declared.signal.chain.RowWork.TheVariants.{Operate, Store}
 use Rattle.sig_core.specs.declared.signal.Signal.{Signal}
 use Rattle.sig_core.specs.Chain.{node_at, primary_of}
 use Rattle.sig_core.specs.Op.{key_of}
+use Rattle.sig_core.specs.Place.{coordinator_of}
 use Rattle.lqh_block.specs.declared.request.Request.{Request}
 use Rattle.lqh_block.specs.Work.{work_key}
 use Rattle.tc_block.specs.Chain.{chain_of}
@@ -22,7 +25,9 @@ use Rattle.node_core.specs.declared.host.Host.{Host}
 use Rattle.node_core.specs.declared.host.Host.TheVariants.{Shell, Node}
 use Rattle.world_core.specs.Machine.{hosts}
 use Rattle.world_core.specs.Start.{Start, first_view}
-use Rattle.transit_laws.specs.Transit.{AreInTransit, IsRun, host_after}
+use Rattle.commit_laws.specs.BackupEvents.{IsOfImage}
+use Rattle.commit_laws.specs.PrimaryEvents.{IsOfOperation}
+use Rattle.transit_laws.specs.Transit.{AreInTransit, Comes, IsRun, host_after}
 
 -- the replicas of a key, the primary first; no other view than the first is installed by now
 abbrev pub replicas : Start → List ℕ → List Member
@@ -50,12 +55,12 @@ pub record IsRequestRouted (start : Start) (node : ℕ) (q : Request) : Type 0 w
 
 -- a commit is sent along the replicas, or to the primary alone
 pub record IsCommitRouted (start : Start) (node : ℕ) (key : List ℕ) (chain : List Member) (at : ℕ) : Type 0 where
-  pub chain : (chain ≡ replicas start key) ⊎ (chain ≡ primary_of (replicas start key))
+  pub along : (chain ≡ replicas start key) ⊎ (chain ≡ primary_of (replicas start key))
   pub sent : IsSentTo node chain at
 
 -- a completion along the replicas
 pub record IsCompletionRouted (start : Start) (node : ℕ) (key : List ℕ) (chain : List Member) (at : ℕ) : Type 0 where
-  pub chain : chain ≡ replicas start key
+  pub along : chain ≡ replicas start key
   pub sent : IsSentTo node chain at
 
 abbrev pub IsRouted : Start → ℕ → Body → Type 0
@@ -100,3 +105,44 @@ ReplicasAreApart =
 abbrev pub ReplicasAreNodes : Type 0
 ReplicasAreNodes =
     (start : Start) (key : List ℕ) (at : ℕ) → at < length (replicas start key) → (0 < node_at (replicas start key) at) × (node_at (replicas start key) at < hosts start)
+
+-- what asks a replica for something is for the rows of a node, and its answer for the coordinator of the transaction
+abbrev pub IsForBlock : Place → Body → Type 0
+IsForBlock to (Chain (LqhKeyReq tx work chain at)) = to.block ≡ Lqh
+IsForBlock to (Chain (Commit tx key epoch chain at)) = to.block ≡ Lqh
+IsForBlock to (Chain (Complete tx key chain at)) = to.block ≡ Lqh
+IsForBlock to (Chain (Abort tx key)) = to.block ≡ Lqh
+IsForBlock to (Chain (LqhKeyConf tx key answer)) = to ≡ coordinator_of tx
+IsForBlock to (Chain (LqhKeyRef tx key cause)) = to ≡ coordinator_of tx
+IsForBlock to (Chain (Committed tx key)) = to ≡ coordinator_of tx
+IsForBlock to (Chain (Completed tx key)) = to ≡ coordinator_of tx
+IsForBlock to (Chain (Aborted tx key)) = to ≡ coordinator_of tx
+IsForBlock to body = Unit {0}
+
+abbrev pub SignalsAreForBlocks : Type 0
+SignalsAreForBlocks =
+    (start : Start) (es : List LogStep) (xs : List Signal) → IsRun start es → AreInTransit start es xs
+    → Each (λ (x : Signal). IsForBlock x.to x.body) xs
+
+-- a request comes to the primary with an operation, and to each other replica with an image
+abbrev pub RequestsAreForReplicas : Type 0
+RequestsAreForReplicas =
+    (start : Start) (es : List LogStep) (e : LogStep) (tx : TxId) (work : RowWork) (chain : List Member) (at : ℕ) → Comes start es e
+    → e.taken.body ≡ Chain (LqhKeyReq tx work chain at)
+    → (e.taken.to.node ≡ primary start (work_key work) → IsOfOperation work) × (e.taken.to.node ≢ primary start (work_key work) → IsOfImage work)
+
+-- a commit is at the first place of its chain just where it comes to the primary
+abbrev pub CommitsEndAtPrimary : Type 0
+CommitsEndAtPrimary =
+    (start : Start) (es : List LogStep) (e : LogStep) (tx : TxId) (key : List ℕ) (epoch : ℕ) (chain : List Member) (at : ℕ) → Comes start es e
+    → e.taken.body ≡ Chain (Commit tx key epoch chain at)
+    → (at == 0) ≡ (e.taken.to.node == primary start key)
+
+-- a signal for this place is routed, and for its block
+pub record IsOnWay (start : Start) (to : Place) (body : Body) : Type 0 where
+  pub routed : IsRouted start to.node body
+  pub block : IsForBlock to body
+
+-- so is each that comes to a host
+abbrev pub ComingAreRouted : Type 0
+ComingAreRouted = (start : Start) (es : List LogStep) (e : LogStep) → Comes start es e → IsOnWay start e.taken.to e.taken.body

@@ -1,0 +1,167 @@
+-- The operations of a transaction are under way one at a time.
+use Rattle.std.proofs.Common.{◌≡◌, ◌≢◌, ◌⊎◌, ◌<◌, ℕ, zero, suc, ◌+◌, ◌-◌, ◌≤◌, Bool, true, List, [], ◌∷◌, refl, sym, ap, ◌∙◌, subst, arith, inl, inr}
+use Rattle.std.specs.List.{list_any}
+use Rattle.std.proofs.lemmas.Bool.{cases_eq, cases_lt}
+use Rattle.run_theory.proofs.Runs.{log_of-other, log_of-own}
+use Rattle.sig_core.specs.declared.log.LogStep.{LogStep}
+use Rattle.sig_core.specs.declared.member.TxId.{TxId}
+use Rattle.sig_core.specs.declared.outs.Outgoing.{Outgoing}
+use Rattle.sig_core.specs.declared.place.Place.{Place}
+use Rattle.sig_core.specs.declared.signal.Body.{Body}
+use Rattle.sig_core.specs.declared.signal.Body.TheVariants.{Chain}
+use Rattle.sig_core.specs.declared.signal.chain.ChainSignal.TheVariants.{LqhKeyReq, LqhKeyConf, LqhKeyRef}
+use Rattle.sig_core.specs.declared.signal.Signal.{Signal}
+use Rattle.sig_core.specs.Same.{same_tx}
+use Rattle.node_core.specs.declared.host.Host.TheVariants.{Node}
+use Rattle.node_core.specs.Fresh.{begun_node, fresh_node}
+use Rattle.node_core.specs.Requests.{is_request}
+use Rattle.world_core.specs.Machine.{after, hosts, machine, signals_of, step_after}
+use Rattle.world_core.specs.Start.{Start}
+use Rattle.commit_laws.specs.Ways.{back_by, sent_ways}
+use Rattle.answer_laws.proofs.Hosts.{node_after, shell_after}
+use Rattle.answer_laws.proofs.Tally.{one_if, tally}
+use Rattle.answer_laws.proofs.Totals.{total, total_at, total_one}
+use Rattle.transit_laws.specs.Live.{of_host}
+use Rattle.transit_laws.specs.Tokens.{OneAtATime, budget, budget_by, is_token, tokens, tokens_in, waiting_all, waiting_in}
+use Rattle.transit_laws.specs.Transit.{Comes, Takes, joined, logs_of}
+use Rattle.transit_laws.proofs.HostTokens.{Kept, node_step_kept, shell_kept}
+use Rattle.transit_laws.proofs.LqhTokens.{tokens_out}
+use Rattle.transit_laws.proofs.TcSound.{IsSoundHost, log_sound}
+use Rattle.transit_laws.proofs.Transit.{along_transit}
+use Rattle.transit_laws.proofs.Weighing.{joins_weigh, takes_weigh, weigh}
+
+tally_weighs : {A : Type 0} (p : A → Bool) (xs : List A) → tally p xs ≡ weigh (λ x. one_if (p x)) xs
+tally_weighs p [] = refl
+tally_weighs p (x ∷ xs) = ap (λ m. one_if (p x) + m) (tally_weighs p xs)
+
+-- the host of a step is one of those that there are
+pub comes_low : (start : Start) (es : List LogStep) (e : LogStep) → Comes start es e → e.taken.to.node < hosts start
+comes_low start es e come = by (cases_lt e.taken.to.node (hosts start))
+  where
+    nothing : e ∷ logs_of start es e.taken.to.node ≡ [] → ⊥
+    nothing q = cc
+
+    by : (e.taken.to.node < hosts start) ⊎ (hosts start ≤ e.taken.to.node) → e.taken.to.node < hosts start
+    by (inl low) = low
+    by (inr high) = absurd (nothing (sym (log_of-own (machine start) e es e.taken.to.node refl) ∙ come.now.within e.taken.to.node high))
+
+module _ (start : Start) (tx : TxId) where
+  abbrev weight : Place → Body → ℕ
+  weight to body = one_if (is_token tx body)
+
+  free : (body : Body) → is_request body ≡ true → one_if (is_token tx body) ≡ 0
+  free (Chain (LqhKeyReq other work chain at)) e = absurd cc
+  free (Chain (LqhKeyConf other key answer)) e = absurd cc
+  free (Chain (LqhKeyRef other key cause)) e = absurd cc
+  free _ e = refl
+
+  module _ (es : List LogStep) (e : LogStep) (before between : List Signal) (come : Comes start es e) (takes : Takes e before between) where
+    abbrev h : ℕ
+    h = e.taken.to.node
+
+    abbrev was : ℕ → List LogStep
+    was = logs_of start es
+
+    abbrev now : ℕ → List LogStep
+    now = logs_of start (e ∷ es)
+
+    own_log : now h ≡ e ∷ was h
+    own_log = log_of-own (machine start) e es h refl
+
+    other_log : (k : ℕ) → k ≢ h → now k ≡ was k
+    other_log k off = log_of-other (machine start) e es k (λ same. off (sym same))
+
+    abbrev out : ℕ
+    out = tokens_out tx (step_after start h (was h) e).effects.sends
+
+    abbrev came : ℕ
+    came = one_if (is_token tx e.taken.body)
+
+    abbrev joined_now : List Signal
+    joined_now = joined (signals_of start h (was h) e) between
+
+    -- in transit then are those that were left and those that are sent
+    pub in_before : tokens_in tx before ≡ came + tokens_in tx between
+    in_before =
+        omega (
+          arith,
+          tally_weighs (λ (x : Signal). is_token tx x.body) before,
+          tally_weighs (λ (x : Signal). is_token tx x.body) between,
+          takes_weigh weight e before between (free e.taken.body) takes,
+        )
+
+    in_now : tokens_in tx joined_now ≡ out + tokens_in tx between
+    in_now =
+        omega (
+          arith,
+          tally_weighs (λ (x : Signal). is_token tx x.body) joined_now,
+          tally_weighs (λ (x : Signal). is_token tx x.body) between,
+          tally_weighs (λ (o : Outgoing). is_token tx o.body) (step_after start h (was h) e).effects.sends,
+          joins_weigh weight start h (was h) e between,
+        )
+
+    abbrev waits_was : ℕ
+    waits_was = waiting_in tx (after start h (was h))
+
+    abbrev waits_now : ℕ
+    waits_now = waiting_in tx (step_after start h (was h) e).state
+
+    waiting_now : waiting_all start now tx + waits_was ≡ waiting_all start was tx + waits_now
+    waiting_now =
+        omega (
+          arith,
+          total_one (hosts start) (λ k. waiting_in tx (after start k (was k))) (λ k. waiting_in tx (after start k (now k))) h (comes_low start es e come)
+              (λ k off. ap (λ log. waiting_in tx (after start k log)) (other_log k off)),
+          ap (λ log. waiting_in tx (after start h log)) own_log,
+        )
+
+    waiting_some : waits_was ≤ waiting_all start was tx
+    waiting_some = total_at (hosts start) (λ k. waiting_in tx (after start k (was k))) h (comes_low start es e come)
+
+    kept : Kept tx h (sent_ways start back_by h (was h)) (after start h (was h)) e.taken.to e.taken.body
+    kept = at_host h (was h) e.taken.to e.taken.body (log_sound start h (was h))
+      where
+        at_host : (k : ℕ) (log : List LogStep) (to : Place) (body : Body) → IsSoundHost (after start k log) (sent_ways start back_by k log)
+            → Kept tx k (sent_ways start back_by k log) (after start k log) to body
+        at_host zero log to body sound =
+            let s = shell_after start log in
+            subst (λ g. Kept tx zero (sent_ways start back_by zero log) g to body) (sym s.is) (shell_kept tx (sent_ways start back_by zero log) s.state to body zero)
+        at_host (suc k) log to body sound =
+            let n = node_after start k log in
+            subst (λ g. Kept tx (suc k) (sent_ways start back_by (suc k) log) g to body) (sym n.is)
+            (subst (λ j. Kept tx j (sent_ways start back_by (suc k) log) (Node n.state) to body) n.number
+            (node_step_kept tx (sent_ways start back_by (suc k) log) n.state to body (subst (λ g. IsSoundHost g (sent_ways start back_by (suc k) log)) n.is sound)))
+
+    abbrev budget_here : ℕ → List LogStep → ℕ
+    budget_here k log = budget_by (list_any (same_tx tx) (sent_ways start back_by k log)) (of_host tx (after start k log))
+
+    step_one : tokens start was before tx ≤ budget start was tx → tokens start now joined_now tx ≤ budget start now tx
+    step_one low = by (cases_eq tx.tc h)
+      where
+        by : (tx.tc ≡ h) ⊎ (tx.tc ≢ h) → tokens start now joined_now tx ≤ budget start now tx
+        by (inr off) = omega (arith, low, in_before, in_now, waiting_now, kept.away off, ap (budget_here tx.tc) (other_log tx.tc off))
+        by (inl at) =
+            let here : budget start was tx ≡ budget_here h (was h) = ap (λ k. budget_here k (was k)) at in
+            let there : budget start now tx ≡ budget_here h (e ∷ was h) = ap (λ k. budget_here k (now k)) at ∙ ap (budget_here h) own_log in
+            let rest : ℕ = tokens_in tx between + (waiting_all start was tx - waits_was) in
+            omega (arith, kept.home rest (omega (arith, low, in_before, here, waiting_some)), in_now, waiting_now, waiting_some, there)
+
+  fresh_waits : (k : ℕ) → waiting_in tx (after start (suc k) []) ≡ 0
+  unfolding fresh_node begun_node
+  fresh_waits k = refl
+
+  pub none_waits_first : (k : ℕ) → waiting_in tx (after start k []) ≡ 0
+  none_waits_first zero = ap (waiting_in tx) (shell_after start []).is
+  none_waits_first (suc k) = fresh_waits k
+
+  none_first : tokens start (logs_of start []) [] tx ≤ budget start (logs_of start []) tx
+  none_first = omega (arith, none (hosts start))
+    where
+      none : (n : ℕ) → total n (λ k. waiting_in tx (after start k [])) ≡ 0
+      none zero = refl
+      none (suc n) = omega (arith, none_waits_first n, none n)
+
+pub one_at_a_time : OneAtATime
+one_at_a_time start es xs tx run is =
+    along_transit start (λ es xs. tokens start (logs_of start es) xs tx ≤ budget start (logs_of start es) tx) (none_first start tx)
+    (λ es e before between come transit low takes. step_one start tx es e before between come takes low) es xs run is
