@@ -79,10 +79,6 @@ cont_turn tx a to (Host (Continue (work.Transaction other) at)) e =
     (refl, same_tx-is other tx (left_of (same_tx other tx) (at == a) (right_of (is_tc to.block && (to.node == tx.tc)) (same_tx other tx && (at == a)) e)))
 cont_turn tx a to _ e = cc
 
-pub cont_block : (tx : TxId) (a : ℕ) (to : Place) (body : Body) → is_tc to.block ≡ false → is_cont tx a to body ≡ false
-cont_block tx a to (Host (Continue (work.Transaction other) at)) e = ap (λ b. (b && (to.node == tx.tc)) && (same_tx other tx && (at == a))) e
-cont_block tx a to _ e = refl
-
 pub cont_place : (tx : TxId) (a at : ℕ) (to : Place) → a ≢ at → is_cont tx a to (Host (Continue (work.Transaction tx) at)) ≡ false
 cont_place tx a at to differs = by (at == a) refl (is_tc to.block && (to.node == tx.tc)) (same_tx tx tx)
   where

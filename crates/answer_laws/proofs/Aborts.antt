@@ -36,13 +36,13 @@ use Rattle.answer_laws.proofs.LqhOps.{is_good, is_lqh, is_node}
 use Rattle.answer_laws.proofs.Ops.{good_members}
 use Rattle.answer_laws.proofs.Tally.{and_few, one_if}
 use Rattle.answer_laws.proofs.TcAborts.{AbortMove, abort_move, aborted_body, begins, continues, is_abort, waits}
-use Rattle.answer_laws.proofs.PartCounts.{IsPart, is_cont}
+use Rattle.answer_laws.proofs.PartCounts.{IsPart, is_cont, cont_block}
 use Rattle.answer_laws.proofs.TcLives.{IsOwn}
 use Rattle.answer_laws.proofs.TcSteps.{TxStep, born, elsewhere, live_in, of_live, turned, tx_step}
 use Rattle.answer_laws.proofs.Totals.{Grown, sent_all, sent_more, taken_all, taken_more, total_le, total_same}
 use Rattle.answer_laws.proofs.Wishes.{is_tc, sends_of, to_node}
 use Rattle.answer_laws.specs.Answered.{AreQuiet, IsLiveAs, is_aborting, NoAbortIsAwaited}
-use Rattle.answer_laws.proofs.AbortCounts.{lqh_aborts, few_rows, few_answers, none_at, abort_low, answer_turn, cont_turn, cont_block, cont_place, conts_few}
+use Rattle.answer_laws.proofs.AbortCounts.{lqh_aborts, few_rows, few_answers, none_at, abort_low, answer_turn, cont_turn, cont_place, conts_few}
 
 module _ (start : Start) (few_nodes : start.nodes ≤ 8) (tx : TxId) (h : ℕ) (home : tx.tc ≡ suc h) (home_low : suc h < start.nodes + 1) where
   abbrev view : View

@@ -45,7 +45,7 @@ use Rattle.answer_laws.proofs.LqhOps.{is_good, is_lqh, is_node, left_of, right_o
 use Rattle.answer_laws.proofs.NodeOwes.{OwesOf, at_if, came_in, cont_in, tc_owes}
 use Rattle.answer_laws.proofs.Ops.{good_members, row_effects, row_state}
 use Rattle.answer_laws.proofs.Tally.{and_few, one_if, tally, tally_past}
-use Rattle.answer_laws.proofs.PartCounts.{is_cont}
+use Rattle.answer_laws.proofs.PartCounts.{is_cont, cont_block}
 use Rattle.answer_laws.proofs.TcCommits.{chain_at, is_chain, is_commit}
 use Rattle.answer_laws.proofs.TcLives.{IsOwn, is_keyed}
 use Rattle.answer_laws.proofs.TcMoves.{node_moves, same_tx-is, tc_view}
@@ -115,10 +115,6 @@ cont_is n tx a to (Host (Continue (work.Transaction other) at)) e =
     let rest = right_of (is_tc to.block && (to.node == tx.tc)) (same_tx other tx && (at == a)) e in
     ap (λ b. at_if n tx b at) (left_of (same_tx other tx) (at == a) rest) ∙ ap (λ k. Some k) (eqb-true at a (right_of (same_tx other tx) (at == a) rest))
 cont_is n tx a to _ e = cc
-
-no_cont : (tx : TxId) (a : ℕ) (to : Place) (body : Body) → is_tc to.block ≡ false → is_cont tx a to body ≡ false
-no_cont tx a to (Host (Continue (work.Transaction other) at)) e = ap (λ b. (b && (to.node == tx.tc)) && (same_tx other tx && (at == a))) e
-no_cont tx a to _ e = refl
 
 module _ (start : Start) (some_nodes : 1 ≤ start.nodes) (tx : TxId) where
   -- a node after a log, as far as commits go
@@ -190,11 +186,11 @@ module _ (start : Start) (some_nodes : 1 ≤ start.nodes) (tx : TxId) where
       owed (cont_in (start.nodes + 1) tx body) (came_in (start.nodes + 1) tx body) (few_answers (start.nodes + 1) tx to body (ap is_lqh e)) (λ a c. cont_is (start.nodes + 1) tx a to body c)
       ((tc_owes (start.nodes + 1) tx x.tc body known once own good).owes u epoch k i is)
   at_home x to body block.Lqh e known once own good u epoch k i is =
-      kept i (omega (arith, few_along (start.nodes + 1) tx to body (ap is_tc e), lqh_commits (start.nodes + 1) tx x.lqh body)) (λ a. no_cont tx a to body (ap is_tc e))
+      kept i (omega (arith, few_along (start.nodes + 1) tx to body (ap is_tc e), lqh_commits (start.nodes + 1) tx x.lqh body)) (λ a. cont_block tx a to body (ap is_tc e))
   at_home x to body block.Dih e known once own good u epoch k i is =
-      kept i (omega (arith, none_at (start.nodes + 1) tx to body (ap is_lqh e) (ap (λ b. is_tc b && (to.node == tx.tc)) e))) (λ a. no_cont tx a to body (ap is_tc e))
+      kept i (omega (arith, none_at (start.nodes + 1) tx to body (ap is_lqh e) (ap (λ b. is_tc b && (to.node == tx.tc)) e))) (λ a. cont_block tx a to body (ap is_tc e))
   at_home x to body _ e known once own good u epoch k i is =
-      kept i (omega (arith, none_at (start.nodes + 1) tx to body (ap is_lqh e) (ap (λ b. is_tc b && (to.node == tx.tc)) e))) (λ a. no_cont tx a to body (ap is_tc e))
+      kept i (omega (arith, none_at (start.nodes + 1) tx to body (ap is_lqh e) (ap (λ b. is_tc b && (to.node == tx.tc)) e))) (λ a. cont_block tx a to body (ap is_tc e))
 
   away : (x : node.Node) (to : Place) (body : Body) (at : BlockId) → to.block ≡ at → (to.node == tx.tc) ≡ false
       → one_if (is_commit (start.nodes + 1) tx to body) ≤ sends_of (is_commit (start.nodes + 1) tx) (node_row x at body).effects.sends

@@ -12,6 +12,7 @@ use Rattle.tc_block.specs.declared.phase.Phase.TheVariants.{Open}
 use Rattle.tc_block.specs.declared.transaction.Transaction.{Transaction}
 use Rattle.world_core.specs.Machine.{after}
 use Rattle.world_core.specs.Start.{Start}
+use Rattle.commit_laws.proofs.Keys.{same_tx-self}
 use Rattle.answer_laws.proofs.Ahead.{at_node, tx_at}
 use Rattle.answer_laws.proofs.ApiEntries.{IsEntryRight, is_commit_req, opened_at}
 use Rattle.answer_laws.proofs.Commits.{live_low}
@@ -20,7 +21,6 @@ use Rattle.answer_laws.proofs.LinkCounts.{signals, taken_steps}
 use Rattle.answer_laws.proofs.Strangers.{starts_once}
 use Rattle.answer_laws.proofs.Tally.{one_if}
 use Rattle.answer_laws.proofs.TcKeys.{is_answer, is_key}
-use Rattle.answer_laws.proofs.TcSends.{same_tx-self}
 use Rattle.answer_laws.proofs.TcSteps.{live_in}
 use Rattle.answer_laws.proofs.Wants.{IsHeld, all_right, held_few}
 use Rattle.answer_laws.specs.Answered.{AreQuiet, EachAskedWhereOperating, EachClosedWhereCommitting, EachIsNumbered, IsLiveAs, opened_after, opened_in}

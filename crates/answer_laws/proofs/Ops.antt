@@ -1,6 +1,6 @@
 -- An operation that a coordinator's transaction has unanswered is on its way, or waits at a node.
 use Rattle.std.proofs.Common.{◌≡◌, ◌≢◌, ◌⊎◌, ℕ, zero, suc, ◌+◌, ◌≤◌, ◌<◌, List, [], ◌∷◌, ◌++◌, Bool, true, false, refl, ap, sym, ◌∙◌, subst, arith, inl, inr}
-use Rattle.std.specs.Prelude.{◌==◌, ◌&&◌, nat_eq, nat_lt, Some}
+use Rattle.std.specs.Prelude.{◌==◌, ◌&&◌, nat_lt, Some}
 use Rattle.std.proofs.lemmas.Bool.{cases_eq, eqb-true}
 use Rattle.std.proofs.lemmas.Bool.Decides.{nat_tests}
 use Rattle.lqh_block.proofs.IndexLemmas.{same as same_key-is}
@@ -33,6 +33,7 @@ use Rattle.tc_block.specs.declared.phase.Asked.{Asked}
 use Rattle.tc_block.specs.declared.transaction.Transaction.{Transaction}
 use Rattle.world_core.specs.Machine.{after, machine, step_after}
 use Rattle.world_core.specs.Start.{Start, first_view, members}
+use Rattle.commit_laws.proofs.Keys.{same_tx-self, same_key-self}
 use Rattle.answer_laws.proofs.Ahead.{along}
 use Rattle.answer_laws.proofs.Begins.{given_past}
 use Rattle.answer_laws.proofs.Hosts.{node_after, same_node, shell_after}
@@ -44,14 +45,9 @@ use Rattle.answer_laws.proofs.Tally.{Counted, counted, one_if, tally, tally_in, 
 use Rattle.answer_laws.proofs.TcLives.{IsOwn, is_keyed}
 use Rattle.answer_laws.proofs.TcMoves.{node_moves, same_tx-is, tc_view}
 use Rattle.answer_laws.proofs.TcOps.{IsGoodView, asks_key}
-use Rattle.answer_laws.proofs.TcSends.{eqb-self, same_tx-self}
 use Rattle.answer_laws.proofs.Totals.{Grown, IsSome, sent_all, sent_more, taken_all, taken_more, total, total_le, total_one, total_same, total_some}
 use Rattle.answer_laws.proofs.Wishes.{is_tc, sends_of}
 use Rattle.answer_laws.specs.Answered.{AreQuiet, EachOperationWaits, IsLiveAs, IsWaitingAt, Waits}
-
-same_key-self : (key : List ℕ) → same_key key key ≡ true
-same_key-self [] = refl
-same_key-self (byte ∷ key) = true_and (nat_eq byte byte) (same_key key key) (eqb-self byte) (same_key-self key)
 
 pub row_state : (to : Place) (body : Body) (g : host.Host) (s : node.Node) → g ≡ Node s → (row g to body).state ≡ Node (node_row s to.block body).state
 unfolding row
