@@ -39,7 +39,6 @@ pub mod OthersStay
 pub mod Owing
 pub mod PartSends
 pub mod Performing
-pub mod QueueWaits
 pub mod RecordsFade
 pub mod RoutedEvents
 pub mod Routes
