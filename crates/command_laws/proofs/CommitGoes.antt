@@ -25,9 +25,10 @@ use Rattle.node_core.specs.Requests.{is_request}
 use Rattle.node_core.specs.Row.{row, shell_row}
 use Rattle.world_core.specs.Machine.{after, step_after}
 use Rattle.world_core.specs.Start.{Start}
-use Rattle.answer_laws.proofs.ApiBegins.{first_of, in_middle}
+use Rattle.answer_laws.proofs.ApiBegins.{in_middle}
 use Rattle.answer_laws.specs.Answered.{opened_in}
 use Rattle.command_laws.proofs.ApiChanges.{ApiChange, answers, api_changes, commits, ends, outcome_in, refuses, rests, starts, waits}
+use Rattle.answer_laws.proofs.LqhOps.{left_of}
 use Rattle.command_laws.proofs.Entries.{HasOne, IsApart, here_or_apart, same_number}
 
 -- the step reports the end of the transaction of this name
@@ -97,12 +98,12 @@ module _ (tx : TxId) (name : Option ℕ) where
     change_goes step (starts called one at u about passes is goes) = by (here_or_apart has.item s.opened at has.inside)
       where
         by : (has.item ≡ at.t) ⊎ IsApart has.item at.front at.back → GoesOrEnds s body step
-        by (inl same) = absurd (not_beginning at.t (first_of (is_beginning at.t.doing) (same_name at.t.name called) (first_of (begins called at.t) _ passes)) same)
+        by (inl same) = absurd (not_beginning at.t (left_of (is_beginning at.t.doing) (same_name at.t.name called) (left_of (begins called at.t) _ passes)) same)
         by (inr others) = inl (as_before step.state.opened (subst (IsIn has.item) (sym is) (others.kept u)))
     change_goes step (refuses called at about passes is replies sends) = by (here_or_apart has.item s.opened at has.inside)
       where
         by : (has.item ≡ at.t) ⊎ IsApart has.item at.front at.back → GoesOrEnds s body step
-        by (inl same) = absurd (not_beginning at.t (first_of (is_beginning at.t.doing) (same_name at.t.name called) passes) same)
+        by (inl same) = absurd (not_beginning at.t (left_of (is_beginning at.t.doing) (same_name at.t.name called) passes) same)
         by (inr others) = inl (as_before step.state.opened (subst (IsIn has.item) (sym is) others.left))
 
   shell_goes : (s : ApiState) (at : BlockId) (body : Body) → is_request body ≡ false → HasOne tx name Committing s.opened

@@ -23,9 +23,9 @@ use Rattle.world_core.specs.Machine.{after, step_after}
 use Rattle.world_core.specs.Start.{Start}
 use Rattle.answer_laws.proofs.ApiMoves.{ApiMove, api_moves, begun_as, ends, goes, is_api_kind, opens, refuses, rests}
 use Rattle.answer_laws.proofs.DihSends.{dih_kinds}
-use Rattle.answer_laws.proofs.Hosts.{IsNode, node_after, shell_after}
+use Rattle.answer_laws.proofs.Hosts.{IsNode, node_after, same_node, shell_after}
 use Rattle.answer_laws.proofs.LqhSends.{lqh_kinds}
-use Rattle.answer_laws.proofs.Ops.{row_effects, row_state, same_node}
+use Rattle.answer_laws.proofs.Ops.{row_effects, row_state}
 use Rattle.answer_laws.proofs.SendKinds.{are_of, is_dih_kind, is_lqh_kind, none_of}
 use Rattle.answer_laws.proofs.Wishes.{is_tc, sends_of}
 use Rattle.command_laws.proofs.EarlySteps.{GoesPast, IsOpenNow, IsPastNow, Leaves, StaysClean, both_api, clean_goes, fair_loss, good_dih, good_lqh, is_bad, is_loss, is_wish_to, loss_dih, past_goes, tc_no_ref, wish_of}

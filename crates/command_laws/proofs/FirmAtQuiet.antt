@@ -13,15 +13,14 @@ use Rattle.tc_block.specs.declared.phase.Phase.TheVariants.{Open}
 use Rattle.tc_block.specs.declared.transaction.Transaction.{Transaction}
 use Rattle.world_core.specs.Machine.{after}
 use Rattle.world_core.specs.Start.{Start}
-use Rattle.answer_laws.proofs.Hosts.{node_after, shell_after}
+use Rattle.answer_laws.proofs.Hosts.{node_after, same_node, shell_after}
 use Rattle.answer_laws.proofs.Lives.{NodeKeeps, keeps}
-use Rattle.answer_laws.proofs.Ops.{same_node}
 use Rattle.answer_laws.proofs.Tally.{only_one}
 use Rattle.answer_laws.proofs.TcLives.{IsOwn, is_keyed}
 use Rattle.answer_laws.proofs.TcMoves.{same_tx-is}
-use Rattle.answer_laws.proofs.TcSends.{same_tx-self}
 use Rattle.answer_laws.specs.Answered.{IsOpen, IsOpenAt}
 use Rattle.command_laws.proofs.Firm.{is_firm}
+use Rattle.commit_laws.proofs.Keys.{same_tx-self}
 use Rattle.command_laws.proofs.FirmHosts.{FirmHost}
 
 module _ (start : Start) (tx : TxId) where

@@ -28,12 +28,11 @@ use Rattle.world_core.specs.Start.{Start}
 use Rattle.answer_laws.proofs.Aborts.{no_abort}
 use Rattle.answer_laws.proofs.Answers.{only_open}
 use Rattle.answer_laws.proofs.Commits.{live_low}
-use Rattle.answer_laws.proofs.Heard.{asked_where_operating}
+use Rattle.answer_laws.proofs.Heeded.{asked_where_operating}
 use Rattle.answer_laws.proofs.Ops.{operations_wait}
 use Rattle.answer_laws.proofs.Queued.{operations_queue}
 use Rattle.answer_laws.proofs.Serves.{each_served}
 use Rattle.answer_laws.proofs.Tally.{one_if, only_one, tally_in}
-use Rattle.answer_laws.proofs.TcSends.{same_tx-self}
 use Rattle.answer_laws.proofs.Totals.{total, total_at}
 use Rattle.answer_laws.proofs.Verified.{no_epoch}
 use Rattle.answer_laws.specs.Answered.{AreQuiet, IsLiveAs, IsQueuedAt, IsServed, IsWaitingAt, Waits, WaitsForLock, opened_after}
@@ -46,6 +45,7 @@ use Rattle.transit_laws.specs.Live.{live_at}
 use Rattle.transit_laws.specs.Routes.{IsAskedRouted, IsHostRouted, IsRequestRouted, IsTransactionRouted, replicas}
 use Rattle.transit_laws.specs.Tokens.{budget_by, waiting_all, waiting_in}
 use Rattle.transit_laws.specs.Transit.{IsRun, logs_of}
+use Rattle.commit_laws.proofs.Keys.{same_tx-self}
 use Rattle.command_laws.specs.Served.{EachIsHeldUp, IsHeldUp, IsHeldUpAt}
 
 -- two of them are no more than all

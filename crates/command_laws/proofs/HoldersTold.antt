@@ -34,7 +34,6 @@ use Rattle.answer_laws.proofs.Hosts.{node_after, shell_after}
 use Rattle.answer_laws.proofs.LinkCounts.{steps}
 use Rattle.answer_laws.proofs.Lives.{holds_at, once_started}
 use Rattle.answer_laws.proofs.Tally.{one_if, tally, tally_append, tally_between}
-use Rattle.answer_laws.proofs.TcSends.{same_tx-self}
 use Rattle.answer_laws.proofs.Wishes.{sends_of, to_node}
 use Rattle.answer_laws.specs.Answered.{EachIsAnswered, IsLiveAs, is_answered_by, opened_after, opened_in}
 use Rattle.transit_laws.specs.Live.{of_live}
@@ -45,6 +44,7 @@ use Rattle.command_laws.proofs.Told.{told_since}
 use Rattle.command_laws.proofs.WaitApi.{IsAboutOne, IsAsking, IsOwn, TellsHolder, own_found, pending_first, waits_first}
 use Rattle.command_laws.proofs.WaitRows.{in_live, is_found, is_passed, is_probe, is_want}
 use Rattle.command_laws.proofs.WaitRun.{AllHold, all_hold}
+use Rattle.commit_laws.proofs.Keys.{same_tx-self}
 use Rattle.command_laws.specs.Served.{EachIsHeldUp, HoldersAreTold, IsHeldUp, IsHeldUpAt, IsServed, IsToldHolder, own_in}
 
 sent_to_append : (start : Start) (test : Place → Body → Bool) (h j : ℕ) (xs ys log : List LogStep)

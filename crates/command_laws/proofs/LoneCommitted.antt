@@ -38,7 +38,6 @@ use Rattle.answer_laws.proofs.Lives.{NodeKeeps, keeps, once_started}
 use Rattle.answer_laws.proofs.Tally.{one_if, tally, tally_append, tally_in}
 use Rattle.answer_laws.proofs.TcKeys.{answer_of, is_asked, is_key, key_of_tx}
 use Rattle.answer_laws.proofs.TcLives.{is_keyed, is_start}
-use Rattle.answer_laws.proofs.TcSends.{same_tx-self}
 use Rattle.answer_laws.proofs.Wishes.{is_api, is_tc}
 use Rattle.answer_laws.specs.Answered.{EachIsAnswered, is_answered_by, opened_after, opened_in}
 use Rattle.command_laws.proofs.CommitGoes.{HasEnded, commit_goes}
@@ -54,6 +53,7 @@ use Rattle.command_laws.proofs.TellsOnce.{HasTold, IsOneOfThree, is_wish_back_to
 use Rattle.command_laws.proofs.TellsSince.{OnTc, away_since, shell_since, since_none, tells_since}
 use Rattle.command_laws.proofs.TurnTells.{is_reply}
 use Rattle.command_laws.proofs.Tests.{and_off, none_at}
+use Rattle.commit_laws.proofs.Keys.{same_tx-self}
 use Rattle.command_laws.specs.Served.{IsAnsweredAlone, IsCommittedAlone, IsServed, LoneAreCommitted}
 
 -- signals that one host alone sent were taken from that host

@@ -33,7 +33,7 @@ use Rattle.node_core.specs.Requests.{is_request}
 use Rattle.node_core.specs.Row.{node_row, row, shell_row}
 use Rattle.world_core.specs.Machine.{after}
 use Rattle.world_core.specs.Start.{Start}
-use Rattle.answer_laws.proofs.ApiBegins.{each_at, each_changed, each_less, first_of, in_middle}
+use Rattle.answer_laws.proofs.ApiBegins.{each_at, each_changed, each_less, in_middle}
 use Rattle.answer_laws.proofs.SendKinds.{none_of}
 use Rattle.answer_laws.proofs.Tally.{one_if}
 use Rattle.answer_laws.proofs.TcMoves.{same_tx-is}
@@ -45,6 +45,7 @@ use Rattle.command_laws.proofs.Entries.{HasOne, IsNamed, NoneBegins, named_found
 use Rattle.command_laws.proofs.Pushes.{is_node_kind, node_sends_node}
 use Rattle.command_laws.proofs.Since.{sent_since}
 use Rattle.command_laws.proofs.Tests.{and_off}
+use Rattle.answer_laws.proofs.LqhOps.{left_of}
 use Rattle.command_laws.specs.Served.{named_in}
 
 module _ (tx : TxId) where
@@ -120,10 +121,10 @@ module _ (tx : TxId) where
     }
     change_named step (starts called one at u about passes is goes) =
         absurd (let off : false ≡ true = sym (each_at (λ (t : OpenTransaction). is_beginning t.doing ≡ false) at.front at.t at.back s.opened at.is were.calm)
-        ∙ first_of (is_beginning at.t.doing) (same_name at.t.name called) (first_of (begins called at.t) _ passes) in cc)
+        ∙ left_of (is_beginning at.t.doing) (same_name at.t.name called) (left_of (begins called at.t) _ passes) in cc)
     change_named step (refuses called at about passes is replies sends) =
         absurd (let off : false ≡ true = sym (each_at (λ (t : OpenTransaction). is_beginning t.doing ≡ false) at.front at.t at.back s.opened at.is were.calm)
-        ∙ first_of (is_beginning at.t.doing) (same_name at.t.name called) passes in cc)
+        ∙ left_of (is_beginning at.t.doing) (same_name at.t.name called) passes in cc)
 
   shell_named : (s : ApiState) (at : BlockId) (body : Body) → is_request body ≡ false → AreNamed s.opened → KeepsNamed (shell_row s at body).state.opened (shell_row s at body).effects.sends
   unfolding shell_row

@@ -31,7 +31,6 @@ use Rattle.world_core.specs.Start.{Start}
 use Rattle.answer_laws.proofs.ApiBegins.{in_middle}
 use Rattle.answer_laws.proofs.Lives.{holds_at, keeps, once_started}
 use Rattle.answer_laws.proofs.Tally.{only_one}
-use Rattle.answer_laws.proofs.TcSends.{same_tx-self}
 use Rattle.answer_laws.proofs.Wishes.{is_tc}
 use Rattle.answer_laws.specs.Answered.{EachIsAnswered, IsOpenAt, WaitsForLock, is_answered_by, opened_after, opened_in}
 use Rattle.command_laws.proofs.ApiChanges.{outcome_in}
@@ -51,6 +50,7 @@ use Rattle.command_laws.proofs.TellsSince.{OnTc}
 use Rattle.command_laws.proofs.Told.{told_since}
 use Rattle.command_laws.proofs.WaitRows.{in_live}
 use Rattle.command_laws.proofs.Tests.{and_off, none_at}
+use Rattle.commit_laws.proofs.Keys.{same_tx-self}
 use Rattle.command_laws.specs.Served.{IsAnsweredAs, IsRefusedAs, IsServed, OperationsAreAnswered, StillWaits, is_refusal, named_in, replies_since}
 
 request_plain_wish : (tx : TxId) (to : Place) (body : Body) → is_request body ≡ true → is_wish_to tx to body ≡ false

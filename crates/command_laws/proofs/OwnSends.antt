@@ -26,9 +26,9 @@ use Rattle.tc_block.specs.Operate as operate
 use Rattle.tc_block.specs.Sends.{entering, front_sends, go_on_row, wait_of}
 use Rattle.tc_block.specs.State.{TcState}
 use Rattle.answer_laws.proofs.SendKinds.{are_of, of_map}
-use Rattle.answer_laws.proofs.TcSends.{same_tx-self}
 use Rattle.command_laws.proofs.PhaseSends.{HasChains, aborts_of_kind, entering_of_kind, go_on_of_kind}
 use Rattle.command_laws.proofs.Turns.{turn_by}
+use Rattle.commit_laws.proofs.Keys.{same_tx-self}
 use Rattle.command_laws.proofs.Tests.{one_kind}
 
 -- what a coordinator sends of the transaction

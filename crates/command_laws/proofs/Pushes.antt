@@ -27,7 +27,7 @@ use Rattle.tc_block.specs.State.{TcState}
 use Rattle.tc_block.specs.Tc.{begin_if, begin_row, is_full, tc_row}
 use Rattle.world_core.specs.Machine.{after}
 use Rattle.world_core.specs.Start.{Start}
-use Rattle.answer_laws.proofs.ApiBegins.{each_at, each_changed, each_less, first_of}
+use Rattle.answer_laws.proofs.ApiBegins.{each_at, each_changed, each_less}
 use Rattle.answer_laws.proofs.DihSends.{dih_kinds}
 use Rattle.answer_laws.proofs.Hosts.{node_after}
 use Rattle.answer_laws.proofs.LqhSends.{lqh_kinds}
@@ -39,6 +39,7 @@ use Rattle.command_laws.proofs.ApiChanges.{ApiChange, answers, api_changes, comm
 use Rattle.command_laws.proofs.Entries.{NoneBegins}
 use Rattle.command_laws.proofs.FirmHosts.{is_push_to, push_of}
 use Rattle.command_laws.proofs.Since.{sent_since}
+use Rattle.answer_laws.proofs.LqhOps.{left_of}
 use Rattle.command_laws.proofs.Tests.{and_off}
 
 -- all but what the API asks coordinators for
@@ -152,10 +153,10 @@ module _ (tx : TxId) where
     }
     change_calm step (starts called one at u about passes is goes) =
         absurd (let off : false ≡ true = sym (each_at (λ (t : OpenTransaction). is_beginning t.doing ≡ false) at.front at.t at.back s.opened at.is calm)
-        ∙ first_of (is_beginning at.t.doing) (same_name at.t.name called) (first_of (begins called at.t) _ passes) in cc)
+        ∙ left_of (is_beginning at.t.doing) (same_name at.t.name called) (left_of (begins called at.t) _ passes) in cc)
     change_calm step (refuses called at about passes is replies sends) =
         absurd (let off : false ≡ true = sym (each_at (λ (t : OpenTransaction). is_beginning t.doing ≡ false) at.front at.t at.back s.opened at.is calm)
-        ∙ first_of (is_beginning at.t.doing) (same_name at.t.name called) passes in cc)
+        ∙ left_of (is_beginning at.t.doing) (same_name at.t.name called) passes in cc)
 
   shell_calm : (s : ApiState) (at : BlockId) (body : Body) → is_request body ≡ false → NoneBegins s.opened → KeepsCalm (shell_row s at body).state.opened (shell_row s at body).effects.sends
   unfolding shell_row

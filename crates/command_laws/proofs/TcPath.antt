@@ -23,10 +23,11 @@ use Rattle.answer_laws.proofs.SendKinds.{is_dih_kind, is_lqh_kind, none_of}
 use Rattle.answer_laws.proofs.Tally.{one_if, tally, tally_between, tally_append}
 use Rattle.answer_laws.proofs.TcLives.{IsOwn, apart, insert_new, is_keyed}
 use Rattle.answer_laws.proofs.TcMoves.{same_tx-is}
-use Rattle.answer_laws.proofs.TcSends.{same_tx-self, tx_in}
+use Rattle.answer_laws.proofs.TcSends.{tx_in}
 use Rattle.answer_laws.proofs.Wishes.{sends_of}
 use Rattle.transit_laws.specs.Live.{of_live}
 use Rattle.command_laws.proofs.OwnSends.{is_own_kind, turn_own}
+use Rattle.commit_laws.proofs.Keys.{same_tx-self}
 use Rattle.command_laws.proofs.Turns.{TakesTurn, TcShape, is_idle_kind, starts, still, tc_shape, turn_by, turns}
 
 -- what the coordinator tells the client of the transaction, once it has begun, and replicas of its abort

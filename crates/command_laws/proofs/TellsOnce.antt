@@ -27,13 +27,14 @@ use Rattle.answer_laws.proofs.Tally.{one_if, tally}
 use Rattle.answer_laws.proofs.TcKeys.{answer_of, is_asked, key_of_tx, tc_fair}
 use Rattle.answer_laws.proofs.TcLives.{IsOwn}
 use Rattle.answer_laws.proofs.TcMoves.{same_tx-is}
-use Rattle.answer_laws.proofs.TcSends.{same_tx-self, tx_in}
+use Rattle.answer_laws.proofs.TcSends.{tx_in}
 use Rattle.answer_laws.proofs.Wishes.{is_api, is_tc, sends_of}
 use Rattle.transit_laws.specs.Live.{of_live}
 use Rattle.command_laws.proofs.Firm.{firm_turn, is_firm, is_no_abort}
 use Rattle.command_laws.proofs.FirmHosts.{is_back, no_back_firm, not_push, push_of}
 use Rattle.command_laws.proofs.TcPath.{IsSound, TcGoes, aside, begins, is_told, left_by, none_dih, none_lqh, takes, tc_goes, told_of}
 use Rattle.command_laws.proofs.Turns.{turn_by}
+use Rattle.commit_laws.proofs.Keys.{same_tx-self}
 use Rattle.command_laws.proofs.TurnTells.{TurnTells, is_reply, is_wish_back, turn_tells}
 
 -- where one test implies another, fewer signals pass it

@@ -28,10 +28,11 @@ use Rattle.node_core.specs.Row.{in_shell, row, shell_row}
 use Rattle.answer_laws.proofs.LqhOps.{true_and}
 use Rattle.answer_laws.proofs.Tally.{one_if, tally}
 use Rattle.answer_laws.proofs.TcMoves.{same_tx-is}
-use Rattle.answer_laws.proofs.TcSends.{eqb-self, same_tx-self}
+use Rattle.answer_laws.proofs.TcSends.{eqb-self}
 use Rattle.answer_laws.proofs.Wishes.{is_api, sends_of, to_node}
 use Rattle.command_laws.proofs.Places.{IsFirstOf, first_there, split_get, split_position, split_set}
 use Rattle.command_laws.proofs.WaitRows.{is_other, is_passed, is_wait_of, is_want, passed_of}
+use Rattle.commit_laws.proofs.Keys.{same_tx-self}
 use Rattle.command_laws.specs.Served.{own_in}
 
 -- the API's own transaction: the first of the name that the last command is about

@@ -37,10 +37,10 @@ use Rattle.answer_laws.proofs.SendKinds.{are_of, none_of, of_map}
 use Rattle.answer_laws.proofs.Tally.{one_if, tally, tally_in}
 use Rattle.answer_laws.proofs.TcLives.{is_keyed}
 use Rattle.answer_laws.proofs.TcMoves.{same_tx-is}
-use Rattle.answer_laws.proofs.TcSends.{eqb-self, same_tx-self}
+use Rattle.answer_laws.proofs.TcSends.{eqb-self}
 use Rattle.answer_laws.proofs.Wishes.{is_api, is_tc, sends_of, to_node}
 use Rattle.commit_laws.proofs.Firsts.{place_by, position-cons}
-use Rattle.commit_laws.proofs.Keys.{same_key-self}
+use Rattle.commit_laws.proofs.Keys.{same_key-self, same_tx-self}
 use Rattle.commit_laws.proofs.LiveSplit.{split_at}
 use Rattle.transit_laws.specs.Live.{of_live}
 use Rattle.command_laws.proofs.Tests.{one_kind}
