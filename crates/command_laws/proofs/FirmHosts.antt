@@ -1,0 +1,219 @@
+-- Nor is its abort reported by any host, along a log without operations and wishes for an abort.
+use Rattle.std.proofs.Common.{◌≡◌, ℕ, zero, suc, ◌+◌, Bool, true, false, List, [], ◌∷◌, ◌++◌, refl, sym, ap, ◌∙◌, subst, arith}
+use Rattle.std.specs.Prelude.{◌&&◌, if◌then◌else◌}
+use Rattle.indexmap.specs.IndexMap.{insert_entry}
+use Rattle.run_theory.specs.Lists.{Each}
+use Rattle.run_theory.proofs.Pasts.{each_after}
+use Rattle.sig_core.specs.declared.log.LogStep.{LogStep}
+use Rattle.sig_core.specs.declared.member.TxId.{TxId}
+use Rattle.sig_core.specs.declared.outs.Outgoing.{Outgoing}
+use Rattle.sig_core.specs.declared.place.BlockId.{BlockId}
+use Rattle.sig_core.specs.declared.place.BlockId.TheVariants as block
+use Rattle.sig_core.specs.declared.place.Place.{Place}
+use Rattle.sig_core.specs.declared.signal.Body.{Body}
+use Rattle.sig_core.specs.declared.signal.Body.TheVariants.{Host, Client, Chain, Epoch}
+use Rattle.sig_core.specs.declared.signal.chain.ChainSignal.TheVariants.{LqhKeyConf, LqhKeyRef, Committed, Completed, Aborted}
+use Rattle.sig_core.specs.declared.signal.client.ClientSignal.TheVariants.{TcKeyReq, TcCommitReq, TcRollbackRep, TcRollbackReq, TcWaitReq}
+use Rattle.sig_core.specs.declared.signal.epoch.EpochSignal.TheVariants.{DiVerifyConf}
+use Rattle.sig_core.specs.declared.signal.host.HostSignal.TheVariants.{Continue}
+use Rattle.sig_core.specs.declared.signal.host.Work.TheVariants as work
+use Rattle.sig_core.specs.Same.{same_tx}
+use Rattle.sig_core.specs.Step.{Step}
+use Rattle.api_block.specs.Api.{api_row}
+use Rattle.api_block.specs.State.{ApiState}
+use Rattle.lqh_block.specs.Lqh.{lqh_row}
+use Rattle.node_core.specs.declared.host.Host as host
+use Rattle.node_core.specs.declared.host.Host.TheVariants.{Shell, Node}
+use Rattle.node_core.specs.declared.node.Node as node
+use Rattle.node_core.specs.Dih.{dih_row}
+use Rattle.node_core.specs.Row.{node_row, row, shell_row}
+use Rattle.tc_block.specs.declared.transaction.Transaction.{Transaction}
+use Rattle.tc_block.specs.Operate.{fresh}
+use Rattle.tc_block.specs.State.{TcState}
+use Rattle.tc_block.specs.Tc.{tc_row}
+use Rattle.world_core.specs.Machine.{after, step_after}
+use Rattle.world_core.specs.Start.{Start}
+use Rattle.answer_laws.proofs.ApiBegins.{each_at, each_changed, each_less}
+use Rattle.answer_laws.proofs.ApiMoves.{ApiMove, api_moves, begun_as, ends, goes, is_api_kind, opens, refuses, rests}
+use Rattle.answer_laws.proofs.DihSends.{dih_kinds}
+use Rattle.answer_laws.proofs.LqhSends.{lqh_kinds}
+use Rattle.answer_laws.proofs.SendKinds.{are_of, is_dih_kind, is_lqh_kind, is_tc_kind, none_of}
+use Rattle.answer_laws.proofs.TcLives.{apart}
+use Rattle.answer_laws.proofs.TcMoves.{same_tx-is}
+use Rattle.answer_laws.proofs.TcSends.{aborted_kinds, answer_kinds, commit_kinds, committed_kinds, completed_kinds, decide_kinds, go_on_kinds, operate_kinds, refuse_kinds, rollback_kinds, tx_in, wait_kinds}
+use Rattle.answer_laws.proofs.Wishes.{is_tc, sends_of}
+use Rattle.command_laws.proofs.Firm.{StaysFirm, firm_turn, is_firm, is_no_abort, is_push}
+use Rattle.command_laws.proofs.Since.{sent_since}
+use Rattle.command_laws.proofs.Turns.{TakesTurn, TcShape, is_idle_kind, starts, still, tc_shape, turn_by, turns}
+
+-- an operation of the transaction, or the wish for its abort
+abbrev pub push_of : TxId → Body → Bool
+push_of tx (Client (TcKeyReq other op)) = same_tx other tx
+push_of tx (Client (TcRollbackReq other)) = same_tx other tx
+push_of tx _ = false
+
+abbrev pub is_push_to : TxId → Place → Body → Bool
+is_push_to tx to body = is_tc to.block && push_of tx body
+
+-- the report of its abort
+abbrev pub back_of : TxId → Body → Bool
+back_of tx (Client (TcRollbackRep other cause)) = same_tx other tx
+back_of tx _ = false
+
+abbrev pub is_back : TxId → Place → Body → Bool
+is_back tx to body = back_of tx body
+
+-- what a turn sends is of its transaction
+pub turn_sends : (s : TcState) (tx : TxId) (body : Body) (t : Transaction) → are_of (is_tc_kind tx) (turn_by s tx body t).step.effects.sends ≡ true
+turn_sends s tx (Host (Continue (work.Transaction one) at)) t = go_on_kinds s.node s.view tx t at
+turn_sends s tx (Client (TcKeyReq one op)) t = operate_kinds s.view tx t op
+turn_sends s tx (Client (TcCommitReq one)) t = decide_kinds s.node tx t
+turn_sends s tx (Client (TcRollbackReq one)) t = rollback_kinds s.node s.view tx t
+turn_sends s tx (Client (TcWaitReq one)) t = wait_kinds tx t
+turn_sends s tx (Chain (LqhKeyConf one key answer)) t = answer_kinds s.view tx t key answer
+turn_sends s tx (Chain (LqhKeyRef one key why)) t = refuse_kinds s.node s.view tx t key why
+turn_sends s tx (Chain (Committed one key)) t = committed_kinds s.node s.view tx t
+turn_sends s tx (Chain (Completed one key)) t = completed_kinds s.node tx t
+turn_sends s tx (Chain (Aborted one key)) t = aborted_kinds s.node tx t
+turn_sends s tx (Epoch (DiVerifyConf one epoch)) t = commit_kinds s.node s.view tx t epoch
+turn_sends s tx _ t = refl
+
+pub each_inserted_value : (P : TxId × Transaction → Type 0) (live : List (TxId × Transaction)) (tx : TxId) (t : Transaction) → ((key : TxId) → P (key, t)) → Each P live → Each P (insert_entry same_tx live tx t)
+each_inserted_value P [] tx t own all = (own tx, tt)
+each_inserted_value P (e ∷ live) tx t own all = by (same_tx tx e.0) (each_inserted_value P live tx t own all.1)
+  where
+    by : (b : Bool) → Each P (insert_entry same_tx live tx t) → Each P (if b then (e.0, t) ∷ live else e ∷ insert_entry same_tx live tx t)
+    by true rest = (own e.0, all.1)
+    by false rest = (all.0, rest)
+
+module _ (tx : TxId) where
+  -- the transaction is firm wherever it stands
+  abbrev pub AllFirm : List (TxId × Transaction) → Type 0
+  AllFirm live = Each (λ (e : TxId × Transaction). same_tx e.0 tx ≡ true → is_firm e.1.phase e.1.asked ≡ true) live
+
+  no_back_idle : (to : Place) (body : Body) → is_idle_kind body ≡ true → is_back tx to body ≡ false
+  no_back_idle to (Client (TcRollbackRep other cause)) e = cc
+  no_back_idle to _ e = refl
+
+  no_back_firm : (to : Place) (body : Body) → is_no_abort body ≡ true → is_back tx to body ≡ false
+  no_back_firm to (Client (TcRollbackRep other cause)) e = cc
+  no_back_firm to _ e = refl
+
+  no_back_other : (one : TxId) → same_tx one tx ≡ false → (to : Place) (body : Body) → is_tc_kind one body ≡ true → is_back tx to body ≡ false
+  no_back_other one differs to (Client (TcRollbackRep other cause)) e = apart tx one other differs e
+  no_back_other one differs to _ e = refl
+
+  no_back_dih : (to : Place) (body : Body) → is_dih_kind body ≡ true → is_back tx to body ≡ false
+  no_back_dih to (Client (TcRollbackRep other cause)) e = cc
+  no_back_dih to _ e = refl
+
+  no_back_lqh : (to : Place) (body : Body) → is_lqh_kind body ≡ true → is_back tx to body ≡ false
+  no_back_lqh to (Client (TcRollbackRep other cause)) e = cc
+  no_back_lqh to _ e = refl
+
+  no_back_api : (to : Place) (body : Body) → is_api_kind body ≡ true → is_back tx to body ≡ false
+  no_back_api to (Client (TcRollbackRep other cause)) e = cc
+  no_back_api to _ e = refl
+
+  not_push : (body : Body) → push_of tx body ≡ false → same_tx (tx_in body) tx ≡ true → is_push body ≡ false
+  not_push (Client (TcKeyReq other op)) none same = absurd (let both : true ≡ false = sym same ∙ none in cc)
+  not_push (Client (TcRollbackReq other)) none same = absurd (let both : true ≡ false = sym same ∙ none in cc)
+  not_push _ none same = refl
+
+  -- a step after which it is still firm, and in which no abort of it is reported
+  record KeepsFirm (live : List (TxId × Transaction)) (sends : List Outgoing) : Type 0 where
+    firm : AllFirm live
+    silent : sends_of (is_back tx) sends ≡ 0
+
+  module _ (s : TcState) (body : Body) (plain : push_of tx body ≡ false) (firm : AllFirm s.live) where
+    own_turn : (step : Step TcState) → same_tx (tx_in body) tx ≡ true → TakesTurn s (tx_in body) (turn_by s (tx_in body) body) step → KeepsFirm step.state.live step.effects.sends
+    own_turn step same r = by (turn_by s (tx_in body) body r.t).over refl
+      where
+        stays : StaysFirm (turn_by s (tx_in body) body r.t)
+        stays = firm_turn s (tx_in body) body r.t (not_push body plain same) (each_at (λ (e : TxId × Transaction). same_tx e.0 tx ≡ true → is_firm e.1.phase e.1.asked ≡ true) r.front (tx_in body, r.t) r.back s.live r.is firm same)
+
+        quiet : sends_of (is_back tx) step.effects.sends ≡ 0
+        quiet = ap (λ effects. sends_of (is_back tx) effects.sends) r.effects ∙ none_of is_no_abort (is_back tx) no_back_firm (turn_by s (tx_in body) body r.t).step.effects.sends stays.sends
+
+        by : (b : Bool) → (turn_by s (tx_in body) body r.t).over ≡ b → KeepsFirm step.state.live step.effects.sends
+        by true over = record {
+          firm = subst (λ state. AllFirm state.live) (sym (r.ends over)) (each_less (λ (e : TxId × Transaction). same_tx e.0 tx ≡ true → is_firm e.1.phase e.1.asked ≡ true) r.front (tx_in body, r.t) r.back s.live r.is firm);
+          silent = quiet;
+        }
+        by false over = record {
+          firm = subst (λ state. AllFirm state.live) (sym (r.goes over))
+              (each_changed (λ (e : TxId × Transaction). same_tx e.0 tx ≡ true → is_firm e.1.phase e.1.asked ≡ true) r.front (tx_in body, r.t) (tx_in body, (turn_by s (tx_in body) body r.t).step.state) r.back s.live r.is firm (λ before is. stays.firm));
+          silent = quiet;
+        }
+
+    other_turn : (step : Step TcState) → same_tx (tx_in body) tx ≡ false → TakesTurn s (tx_in body) (turn_by s (tx_in body) body) step → KeepsFirm step.state.live step.effects.sends
+    other_turn step differs r = by (turn_by s (tx_in body) body r.t).over refl
+      where
+        quiet : sends_of (is_back tx) step.effects.sends ≡ 0
+        quiet =
+            ap (λ effects. sends_of (is_back tx) effects.sends) r.effects
+            ∙ none_of (is_tc_kind (tx_in body)) (is_back tx) (no_back_other (tx_in body) differs) (turn_by s (tx_in body) body r.t).step.effects.sends (turn_sends s (tx_in body) body r.t)
+
+        by : (b : Bool) → (turn_by s (tx_in body) body r.t).over ≡ b → KeepsFirm step.state.live step.effects.sends
+        by true over = record {
+          firm = subst (λ state. AllFirm state.live) (sym (r.ends over)) (each_less (λ (e : TxId × Transaction). same_tx e.0 tx ≡ true → is_firm e.1.phase e.1.asked ≡ true) r.front (tx_in body, r.t) r.back s.live r.is firm);
+          silent = quiet;
+        }
+        by false over = record {
+          firm = subst (λ state. AllFirm state.live) (sym (r.goes over))
+              (each_changed (λ (e : TxId × Transaction). same_tx e.0 tx ≡ true → is_firm e.1.phase e.1.asked ≡ true) r.front (tx_in body, r.t) (tx_in body, (turn_by s (tx_in body) body r.t).step.state) r.back s.live r.is firm
+              (λ before is. absurd (let both : false ≡ true = sym differs ∙ is in cc)));
+          silent = quiet;
+        }
+
+    shape_firm : (step : Step TcState) → TcShape s (tx_in body) (turn_by s (tx_in body) body) step → KeepsFirm step.state.live step.effects.sends
+    shape_firm step (still is kind) = record { firm = subst (λ state. AllFirm state.live) (sym is) firm; silent = none_of is_idle_kind (is_back tx) no_back_idle step.effects.sends kind }
+    shape_firm step (starts name is told) = record {
+      firm = subst (λ state. AllFirm state.live) (sym is) (each_inserted_value _ s.live _ fresh (λ key same. refl) firm);
+      silent = ap (sends_of (is_back tx)) told;
+    }
+    shape_firm step (turns r) = by (same_tx (tx_in body) tx) refl
+      where
+        by : (b : Bool) → same_tx (tx_in body) tx ≡ b → KeepsFirm step.state.live step.effects.sends
+        by true same = own_turn step same r
+        by false differs = other_turn step differs r
+
+  abbrev pub FirmHost : host.Host → Type 0
+  FirmHost (Shell s) = Unit {0}
+  FirmHost (Node n) = AllFirm n.tc.live
+
+  node_firm : (n : node.Node) (at : BlockId) (body : Body) → (is_tc at && push_of tx body) ≡ false → AllFirm n.tc.live → KeepsFirm (node_row n at body).state.tc.live (node_row n at body).effects.sends
+  unfolding node_row
+  node_firm n block.Tc body plain firm = shape_firm n.tc body plain firm (tc_row n.tc body) (tc_shape n.tc body)
+  node_firm n block.Dih body plain firm = record { firm = firm; silent = none_of is_dih_kind (is_back tx) no_back_dih (dih_row n.dih body).effects.sends (dih_kinds n.dih body) }
+  node_firm n block.Lqh body plain firm = record { firm = firm; silent = none_of is_lqh_kind (is_back tx) no_back_lqh (lqh_row n.lqh body).effects.sends (lqh_kinds n.lqh body) }
+  node_firm n _ body plain firm = record { firm = firm; silent = refl }
+
+  api_silent : (s : ApiState) (body : Body) (step : Step ApiState) → ApiMove s body (step.state.view, step.state.opened) step.effects.sends → sends_of (is_back tx) step.effects.sends ≡ 0
+  api_silent s body step (rests is kind void) = none_of is_api_kind (is_back tx) no_back_api step.effects.sends kind
+  api_silent s body step (opens name at op new request is told) = ap (sends_of (is_back tx)) told
+  api_silent s body step (begun_as name one front t u back about passes begun was is kind) = none_of is_api_kind (is_back tx) no_back_api step.effects.sends kind
+  api_silent s body step (goes front t u back go void was is kind) = none_of is_api_kind (is_back tx) no_back_api step.effects.sends kind
+  api_silent s body step (ends one front t back about passes was is kind) = none_of is_api_kind (is_back tx) no_back_api step.effects.sends kind
+  api_silent s body step (refuses name front t back about passes was is kind) = none_of is_api_kind (is_back tx) no_back_api step.effects.sends kind
+
+  shell_silent : (s : ApiState) (at : BlockId) (body : Body) → sends_of (is_back tx) (shell_row s at body).effects.sends ≡ 0
+  unfolding shell_row
+  shell_silent s block.Api body = api_silent s body (api_row s body) (api_moves s body)
+  shell_silent s _ body = refl
+
+  host_firm : (g : host.Host) (to : Place) (body : Body) → is_push_to tx to body ≡ false → FirmHost g → FirmHost (row g to body).state × (sends_of (is_back tx) (row g to body).effects.sends ≡ 0)
+  unfolding row
+  host_firm (Shell s) to body plain firm = (tt, shell_silent s to.block body)
+  host_firm (Node n) to body plain firm = let kept = node_firm n to.block body plain firm in (kept.firm, kept.silent)
+
+  -- so no host reports it in steps that take neither an operation of the transaction nor the wish for its abort
+  pub firm_since : (start : Start) (h : ℕ) (newer log : List LogStep) → FirmHost (after start h log) → Each (λ (e : LogStep). is_push_to tx e.taken.to e.taken.body ≡ false) newer
+      → FirmHost (after start h (newer ++ log)) × (sent_since start (is_back tx) h newer log ≡ 0)
+  firm_since start h [] log firm plain = (firm, refl)
+  firm_since start h (e ∷ newer) log firm plain = next (firm_since start h newer log firm plain.1)
+    where
+      next : FirmHost (after start h (newer ++ log)) × (sent_since start (is_back tx) h newer log ≡ 0) → FirmHost (after start h (e ∷ (newer ++ log))) × (sent_since start (is_back tx) h (e ∷ newer) log ≡ 0)
+      next before =
+          let step = host_firm (after start h (newer ++ log)) e.taken.to e.taken.body plain.0 before.0 in
+          (step.0, omega (arith, step.1, before.1))

@@ -1,0 +1,183 @@
+-- The request comes first: before it nothing is under way.
+use Rattle.std.proofs.Common.{◌≡◌, ◌⊎◌, ◌<◌, ◌≤◌, ℕ, Bool, true, false, List, [], ◌∷◌, ◌++◌, refl, sym, ap, subst, ◌∙◌, inl, inr, append_assoc, arith}
+use Rattle.std.proofs.lemmas.Bool.{cases_lt}
+use Rattle.std.proofs.lemmas.List.{append-nil}
+use Rattle.std.proofs.Math.Path.{fun_ext}
+use Rattle.std.specs.Prelude.{Option, None, Some, option_to_list}
+use Rattle.run_theory.specs.Along.{Grows}
+use Rattle.run_theory.specs.Cuts.{IsCut}
+use Rattle.run_theory.specs.Links.{sent, taken}
+use Rattle.run_theory.specs.Lists.{Each}
+use Rattle.run_theory.specs.Orders.{merged}
+use Rattle.run_theory.specs.Runs.{Happens, Run, log_of}
+use Rattle.run_theory.proofs.Growth.{grow}
+use Rattle.run_theory.proofs.Merging.{log_of-append, logs_merged, merged_run}
+use Rattle.run_theory.proofs.Runs.{log_of-own}
+use Rattle.sig_core.specs.declared.log.LogStep.{LogStep}
+use Rattle.sig_core.specs.declared.request.ApiReq.{ApiReq}
+use Rattle.sig_core.specs.declared.signal.Body.{Body}
+use Rattle.sig_core.specs.declared.signal.Body.TheVariants.{Host}
+use Rattle.sig_core.specs.declared.signal.host.HostSignal.TheVariants.{Continue}
+use Rattle.sig_core.specs.declared.signal.host.Work.TheVariants.{Request}
+use Rattle.sig_core.specs.declared.signal.Signal.{Signal}
+use Rattle.sig_core.specs.declared.view.View.{View}
+use Rattle.sig_core.specs.Place.{client}
+use Rattle.node_core.specs.Requests.{is_request}
+use Rattle.world_core.proofs.Stamped.{stamped}
+use Rattle.world_core.specs.Machine.{IsAsked, asked_rightly, hosts, last_stamp, machine}
+use Rattle.world_core.specs.Requests.{request_in, requests}
+use Rattle.world_core.specs.Start.{Start, first_view}
+use Rattle.answer_laws.proofs.Begins.{given_past}
+use Rattle.answer_laws.proofs.LinkCounts.{signals}
+use Rattle.answer_laws.proofs.Tally.{tally_past}
+use Rattle.answer_laws.specs.Answered.{AreQuiet}
+use Rattle.command_laws.proofs.Since.{all_taken}
+use Rattle.command_laws.specs.Served.{IsServed}
+
+requests_append : (newer log : List LogStep) → requests (newer ++ log) ≡ requests log ++ requests newer
+requests_append [] log = sym (append-nil (requests log))
+requests_append (e ∷ newer) log =
+    ap (λ rs. rs ++ option_to_list (request_in e.taken.body)) (requests_append newer log) ∙ append_assoc (requests log) (requests newer) (option_to_list (request_in e.taken.body))
+
+cancel : {A : Type 0} (xs ys zs : List A) → xs ++ ys ≡ xs ++ zs → ys ≡ zs
+cancel [] ys zs is = is
+cancel (x ∷ xs) ys zs is = let rest : xs ++ ys ≡ xs ++ zs = cc in cancel xs ys zs rest
+
+none_asked : (body : Body) → request_in body ≡ None → is_request body ≡ false
+none_asked (Host (Continue (Request request) at)) none = cc
+none_asked _ none = refl
+
+-- a log without requests
+no_requests : (log : List LogStep) → requests log ≡ [] → Each (λ (e : LogStep). is_request e.taken.body ≡ false) log
+no_requests [] none = tt
+no_requests (e ∷ log) none = by (request_in e.taken.body) refl (front (requests log) none) (no_requests log)
+  where
+    front : (xs : List ApiReq) {ys : List ApiReq} → xs ++ ys ≡ [] → (xs ≡ []) × (ys ≡ [])
+    front [] is = (refl, is)
+    front (x ∷ xs) is = absurd cc
+
+    by : (o : Option ApiReq) → request_in e.taken.body ≡ o → (requests log ≡ []) × (option_to_list (request_in e.taken.body) ≡ [])
+        → (requests log ≡ [] → Each (λ (f : LogStep). is_request f.taken.body ≡ false) log) → Each (λ (f : LogStep). is_request f.taken.body ≡ false) (e ∷ log)
+    by None is both rest = (none_asked e.taken.body is, rest both.0)
+    by (Some r) is both rest = let some : r ∷ [] ≡ [] = sym (ap option_to_list is) ∙ both.1 in absurd cc
+
+-- the oldest event of some
+record Oldest (es : List LogStep) : Type 0 where
+  newer : List LogStep
+  first : LogStep
+  is : es ≡ newer ++ first ∷ []
+
+oldest : (es : List LogStep) → (es ≡ []) ⊎ Oldest es
+oldest [] = inl refl
+oldest (e ∷ es) = by (oldest es)
+  where
+    by : (es ≡ []) ⊎ Oldest es → (e ∷ es ≡ []) ⊎ Oldest (e ∷ es)
+    by (inl none) = inr (record { newer = []; first = e; is = ap (λ w. e ∷ w) none })
+    by (inr o) = inr (record { newer = e ∷ o.newer; first = o.first; is = ap (λ w. e ∷ w) o.is })
+
+run_before : (start : Start) (more es : List LogStep) → Run (machine start) (more ++ es) → Run (machine start) es
+run_before start [] es run = run
+run_before start (e ∷ more) es run = run_before start more es run.0
+
+-- the shell's host was asked for the request as its first step since then, and for no other one
+pub record IsFirst (start : Start) (was now : ℕ → List LogStep) (request : ApiReq) : Type 0 where
+  pub later : List LogStep
+  pub first : LogStep
+  pub is : now 0 ≡ later ++ first ∷ was 0
+  pub place : first.taken.to ≡ client
+  pub body : first.taken.body ≡ Host (Continue (Request request) 0)
+  pub plain : Each (λ (e : LogStep). is_request e.taken.body ≡ false) later
+
+module _ (start : Start) (was now : ℕ → List LogStep) (request : ApiReq) (served : IsServed start was now request) where
+  -- what comes at a quiet moment is no signal that a link gave
+  first_asked : (es : List LogStep) (e : LogStep) → log_of (machine start) es ≡ was → Happens (machine start) es e → e.taken.to.node < hosts start → is_request e.taken.body ≡ true
+  first_asked es e same happens low = by (is_request e.taken.body) refl
+    where
+      by : (b : Bool) → is_request e.taken.body ≡ b → b ≡ true
+      by true is = refl
+      by false is =
+          let i = e.taken.from.0 in
+          let j = e.taken.to.node in
+          let past = given_past start i j (log_of (machine start) es i) (e.taken ∷ taken (machine start) i (log_of (machine start) es j)) (happens.takes is) in
+          let more = tally_past (λ (x : Signal). true) past in
+          absurd (omega (
+            arith,
+            more,
+            ap (λ logs. signals (λ to body. true) (sent (machine start) i j (logs i))) same,
+            ap (λ logs. signals (λ to body. true) (taken (machine start) i (logs j))) same,
+            all_taken start was now served.before served.since served.cut (λ to body. true) i j low,
+          ))
+
+  fits_asked : (h stamp : ℕ) (x : Signal) (b : Bool) → b ≡ true → asked_rightly (first_view start.nodes) b h stamp x → IsAsked (first_view start.nodes) h stamp x
+  fits_asked h stamp x true e asked = asked
+  fits_asked h stamp x false e asked = cc
+
+  at_first : (es newer : List LogStep) (e : LogStep) → log_of (machine start) es ≡ was → Happens (machine start) es e → log_of (machine start) (newer ++ e ∷ es) ≡ now → IsFirst start was now request
+  at_first es newer e same happens all = found (fits_asked e.taken.to.node _ e.taken (is_request e.taken.body) (first_asked es e same happens low) happens.step.fits.asked)
+    where
+      here : (h : ℕ) → now h ≡ log_of (machine start) newer h ++ log_of (machine start) (e ∷ es) h
+      here h = ap (λ logs. logs h) (sym all) ∙ log_of-append (machine start) newer (e ∷ es) h
+
+      nonempty : (xs ys : List LogStep) → [] ≡ xs ++ e ∷ ys → ⊥
+      nonempty [] ys is = cc
+      nonempty (x ∷ xs) ys is = cc
+
+      own : (h : ℕ) → e.taken.to.node ≡ h → now h ≡ log_of (machine start) newer h ++ e ∷ was h
+      own h at = here h ∙ ap (λ log. log_of (machine start) newer h ++ log) (log_of-own (machine start) e es h at ∙ ap (λ logs. e ∷ logs h) same)
+
+      low : e.taken.to.node < hosts start
+      low = by (cases_lt e.taken.to.node (hosts start))
+        where
+          by : (e.taken.to.node < hosts start) ⊎ (hosts start ≤ e.taken.to.node) → e.taken.to.node < hosts start
+          by (inl under) = under
+          by (inr high) = absurd (nonempty _ _ (sym (served.since.within e.taken.to.node high) ∙ own e.taken.to.node refl))
+
+      found : IsAsked (first_view start.nodes) e.taken.to.node (last_stamp (log_of (machine start) es e.taken.to.node)) e.taken → IsFirst start was now request
+      found asked =
+          let body_is : e.taken.body ≡ Host (Continue (Request asked.request) 0) = ap (λ (x : Signal). x.body) asked.is in
+          let log_is = own 0 asked.shell in
+          let all_asked : requests (was 0) ++ (asked.request ∷ requests (log_of (machine start) newer 0)) ≡ requests (was 0) ++ request ∷ [] =
+          sym (append_assoc (requests (was 0)) (asked.request ∷ []) (requests (log_of (machine start) newer 0)))
+          ∙ ap (λ o. (requests (was 0) ++ option_to_list o) ++ requests (log_of (machine start) newer 0)) (sym (ap request_in body_is))
+          ∙ sym (requests_append (log_of (machine start) newer 0) (e ∷ was 0)) ∙ ap requests (sym log_is) ∙ served.asked in
+          let rest : asked.request ∷ requests (log_of (machine start) newer 0) ≡ request ∷ [] = cancel (requests (was 0)) _ _ all_asked in
+          let none : requests (log_of (machine start) newer 0) ≡ [] = cc in
+          let this : asked.request ≡ request = cc in
+          record {
+            later = log_of (machine start) newer 0;
+            first = e;
+            is = log_is;
+            place = ap (λ (x : Signal). x.to) asked.is;
+            body = body_is ∙ ap (λ r. Host (Continue (Request r) 0)) this;
+            plain = no_requests (log_of (machine start) newer 0) none;
+          }
+
+  pub request_first : IsFirst start was now request
+  request_first = by (oldest grown.more)
+    where
+      n : ℕ
+      n = hosts start
+
+      es : List LogStep
+      es = merged (machine start) n was
+
+      same : log_of (machine start) es ≡ was
+      same = logs_merged (machine start) n was served.before.within served.before.right
+
+      grown : Grows (machine start) es now
+      grown =
+          grow (machine start) (stamped start) n es now (merged_run (machine start) (stamped start) n was served.before.within served.before.right) served.since.within served.since.right
+          (subst (λ logs. IsCut logs now) (sym same) served.cut)
+
+      longer : (xs : List ApiReq) → xs ≡ xs ++ request ∷ [] → ⊥
+      longer [] is = cc
+      longer (x ∷ xs) is = let rest : xs ≡ xs ++ request ∷ [] = cc in longer xs rest
+
+      by : (grown.more ≡ []) ⊎ Oldest grown.more → IsFirst start was now request
+      by (inl none) =
+          absurd (longer (requests (was 0))
+          (ap (λ logs. requests (logs 0)) (sym same) ∙ ap (λ m. requests (log_of (machine start) (m ++ es) 0)) (sym none) ∙ ap requests (grown.logs 0) ∙ served.asked))
+      by (inr o) =
+          let parts : grown.more ++ es ≡ o.newer ++ (o.first ∷ es) = ap (λ m. m ++ es) o.is ∙ append_assoc o.newer (o.first ∷ []) es in
+          let run = run_before start o.newer (o.first ∷ es) (subst (Run (machine start)) parts grown.run) in
+          at_first es o.newer o.first same run.1 (ap (log_of (machine start)) (sym parts) ∙ fun_ext grown.logs)

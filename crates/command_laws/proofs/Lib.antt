@@ -1,0 +1,12 @@
+pub mod ApiChanges
+pub mod CommitFirst
+pub mod CommitGoes
+pub mod Entries
+pub mod Firm
+pub mod FirmHosts
+pub mod First
+pub mod PhaseSends
+pub mod Pushes
+pub mod Since
+pub mod Told
+pub mod Turns

@@ -1,0 +1,118 @@
+-- What was taken since a quiet moment was sent since.
+use Rattle.std.proofs.Common.{◌≡◌, ◌≢◌, ◌⊎◌, ◌<◌, ◌≤◌, ◌+◌, ℕ, suc, Bool, true, false, List, [], ◌∷◌, ◌++◌, refl, sym, ap, subst, ◌∙◌, inl, inr, arith}
+use Rattle.std.specs.Prelude.{◌==◌, ◌&&◌, not}
+use Rattle.std.proofs.lemmas.Bool.Decides.{nat_tests}
+use Rattle.run_theory.specs.Cuts.{IsCut}
+use Rattle.run_theory.specs.Links.{is_from, sent, taken}
+use Rattle.run_theory.specs.Lists.{Each, IsIn, IsPast}
+use Rattle.run_theory.specs.Runs.{AreLogs, IsWithin}
+use Rattle.run_theory.proofs.Pasts.{each_from, each_in}
+use Rattle.std.proofs.lemmas.Bool.{cases_lt}
+use Rattle.sig_core.specs.declared.log.LogStep.{LogStep}
+use Rattle.sig_core.specs.declared.outs.Outgoing.{Outgoing}
+use Rattle.sig_core.specs.declared.place.Place.{Place}
+use Rattle.sig_core.specs.declared.signal.Body.{Body}
+use Rattle.sig_core.specs.declared.signal.Signal.{Signal}
+use Rattle.node_core.specs.Requests.{is_request}
+use Rattle.world_core.proofs.Stamped.{stamped}
+use Rattle.world_core.specs.Machine.{hosts, machine, step_after}
+use Rattle.world_core.specs.Start.{Start}
+use Rattle.answer_laws.proofs.Begins.{given_past}
+use Rattle.answer_laws.proofs.LinkCounts.{all_three, sent_signals, signals, taken_signals}
+use Rattle.answer_laws.proofs.Tally.{one_if, tally, tally_past}
+use Rattle.answer_laws.proofs.Wishes.{sends_of, to_node}
+use Rattle.answer_laws.specs.Answered.{AreQuiet}
+
+-- where none is counted each fails
+pub none_counted : {A : Type 0} (p : A → Bool) (xs : List A) → tally p xs ≡ 0 → Each (λ x. p x ≡ false) xs
+none_counted p [] none = tt
+none_counted p (x ∷ xs) none = (by (p x) refl, none_counted p xs (omega (arith, none)))
+  where
+    by : (b : Bool) → p x ≡ b → p x ≡ false
+    by true e = absurd (omega (arith, none, ap one_if e))
+    by false e = e
+
+module _ (start : Start) (test : Place → Body → Bool) where
+  -- how many signals that pass the test the newer steps of host h sent, behind its log
+  abbrev pub sent_since : ℕ → List LogStep → List LogStep → ℕ
+  sent_since h [] log = 0
+  sent_since h (e ∷ newer) log = sends_of test (step_after start h (newer ++ log) e).effects.sends + sent_since h newer log
+
+  -- and how many they took from host i
+  abbrev pub taken_since : ℕ → List LogStep → ℕ
+  taken_since i newer = tally (λ (e : LogStep). is_from (machine start) i e && test e.taken.to e.taken.body) newer
+
+  fewer : (j : ℕ) (sends : List Outgoing) → sends_of (to_node j test) sends ≤ sends_of test sends
+  fewer j [] = omega arith
+  fewer j (o ∷ sends) = omega (arith, fewer j sends, less (o.to.node == j) (test o.to o.body))
+    where
+      less : (a b : Bool) → one_if (a && b) ≤ one_if b
+      less true b = omega arith
+      less false b = omega arith
+
+  link_sent : (h j : ℕ) (newer log : List LogStep) → signals test (sent (machine start) h j (newer ++ log)) ≤ sent_since h newer log + signals test (sent (machine start) h j log)
+  link_sent h j [] log = omega arith
+  link_sent h j (e ∷ newer) log =
+      omega (arith, link_sent h j newer log, sent_signals start test h j e (newer ++ log), fewer j (step_after start h (newer ++ log) e).effects.sends)
+
+  link_taken : (i : ℕ) (newer log : List LogStep) → signals test (taken (machine start) i (newer ++ log)) ≡ taken_since i newer + signals test (taken (machine start) i log)
+  link_taken i [] log = omega arith
+  link_taken i (e ∷ newer) log = omega (arith, link_taken i newer log, taken_signals start test i e (newer ++ log))
+
+front_nil : (newer log : List LogStep) → [] ≡ newer ++ log → newer ≡ []
+front_nil [] log is = refl
+front_nil (e ∷ newer) log is = absurd cc
+
+module _ (start : Start) (was now : ℕ → List LogStep) (before : AreQuiet start was) (since : AreQuiet start now) (cut : IsCut was now) where
+  -- the steps of a host since then, the newest first
+  abbrev pub newer_at : ℕ → List LogStep
+  newer_at h = (cut h).newer
+
+  module _ (test : Place → Body → Bool) where
+    -- all that was sent before was taken
+    pub all_taken : (i j : ℕ) → j < hosts start → signals test (sent (machine start) i j (was i)) ≤ signals test (taken (machine start) i (was j))
+    all_taken i j low = by (cases_lt i (hosts start))
+      where
+        by : (i < hosts start) ⊎ (hosts start ≤ i) → signals test (sent (machine start) i j (was i)) ≤ signals test (taken (machine start) i (was j))
+        by (inl under) = omega (arith, ap (signals test) (before.quiet i j under low))
+        by (inr high) = omega (arith, ap (λ log. signals test (sent (machine start) i j log)) (before.within i high))
+
+    -- of the signals that pass a test no more were taken from a link than were sent
+    pub few_taken : (i j : ℕ) → taken_since start test i (newer_at j) ≤ sent_since start test i (newer_at i) (was i)
+    few_taken i j = by (cases_lt j (hosts start))
+      where
+        by : (j < hosts start) ⊎ (hosts start ≤ j) → taken_since start test i (newer_at j) ≤ sent_since start test i (newer_at i) (was i)
+        by (inl low) =
+            omega (
+              arith,
+              tally_past (λ (x : Signal). test x.to x.body) (given_past start i j (now i) (taken (machine start) i (now j)) (since.right.linked i j)),
+              ap (λ log. signals test (sent (machine start) i j log)) (cut i).is,
+              ap (λ log. signals test (taken (machine start) i log)) (cut j).is,
+              link_sent start test i j (newer_at i) (was i),
+              link_taken start test i (newer_at j) (was j),
+              all_taken i j low,
+            )
+        by (inr high) =
+            let none : newer_at j ≡ [] = front_nil (newer_at j) (was j) (sym (since.within j high) ∙ (cut j).is) in
+            omega (arith, ap (taken_since start test i) none)
+
+    -- a signal that was taken from a link
+    from_link : (i : ℕ) (e : LogStep) → is_request e.taken.body ≡ false → e.taken.from.0 ≡ i → is_from (machine start) i e ≡ true
+    from_link i e plain at = go (is_request e.taken.body) (e.taken.from.0 == i) plain (grind (arith, nat_tests, at))
+      where
+        go : (a b : Bool) → a ≡ false → b ≡ true → (not a && b) ≡ true
+        go false true p q = refl
+        go false false p q = cc
+        go true b p q = cc
+
+    -- what no host has sent since then none has taken
+    pub none_taken : ((i : ℕ) → sent_since start test i (newer_at i) (was i) ≡ 0) → (j : ℕ)
+        → Each (λ (e : LogStep). is_request e.taken.body ≡ false → test e.taken.to e.taken.body ≡ false) (newer_at j)
+    none_taken none j = each_from _ (newer_at j) one
+      where
+        one : (e : LogStep) → IsIn e (newer_at j) → is_request e.taken.body ≡ false → test e.taken.to e.taken.body ≡ false
+        one e inside plain =
+            let i = e.taken.from.0 in
+            let zero : taken_since start test i (newer_at j) ≡ 0 = omega (arith, few_taken i j, none i) in
+            let off = each_in (λ (f : LogStep). (is_from (machine start) i f && test f.taken.to f.taken.body) ≡ false) e (newer_at j) (none_counted _ (newer_at j) zero) inside in
+            ap (λ b. b && test e.taken.to e.taken.body) (sym (from_link i e plain refl)) ∙ off

@@ -1,0 +1,2 @@
+//! What a command comes to, between two quiet moments.
+#![tactic(auto)]
