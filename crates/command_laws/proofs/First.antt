@@ -34,12 +34,12 @@ use Rattle.answer_laws.specs.Answered.{AreQuiet}
 use Rattle.command_laws.proofs.Since.{all_taken}
 use Rattle.command_laws.specs.Served.{IsServed}
 
-requests_append : (newer log : List LogStep) → requests (newer ++ log) ≡ requests log ++ requests newer
+pub requests_append : (newer log : List LogStep) → requests (newer ++ log) ≡ requests log ++ requests newer
 requests_append [] log = sym (append-nil (requests log))
 requests_append (e ∷ newer) log =
     ap (λ rs. rs ++ option_to_list (request_in e.taken.body)) (requests_append newer log) ∙ append_assoc (requests log) (requests newer) (option_to_list (request_in e.taken.body))
 
-cancel : {A : Type 0} (xs ys zs : List A) → xs ++ ys ≡ xs ++ zs → ys ≡ zs
+pub cancel : {A : Type 0} (xs ys zs : List A) → xs ++ ys ≡ xs ++ zs → ys ≡ zs
 cancel [] ys zs is = is
 cancel (x ∷ xs) ys zs is = let rest : xs ++ ys ≡ xs ++ zs = cc in cancel xs ys zs rest
 
@@ -48,7 +48,7 @@ none_asked (Host (Continue (Request request) at)) none = cc
 none_asked _ none = refl
 
 -- a log without requests
-no_requests : (log : List LogStep) → requests log ≡ [] → Each (λ (e : LogStep). is_request e.taken.body ≡ false) log
+pub no_requests : (log : List LogStep) → requests log ≡ [] → Each (λ (e : LogStep). is_request e.taken.body ≡ false) log
 no_requests [] none = tt
 no_requests (e ∷ log) none = by (request_in e.taken.body) refl (front (requests log) none) (no_requests log)
   where
@@ -62,12 +62,12 @@ no_requests (e ∷ log) none = by (request_in e.taken.body) refl (front (request
     by (Some r) is both rest = let some : r ∷ [] ≡ [] = sym (ap option_to_list is) ∙ both.1 in absurd cc
 
 -- the oldest event of some
-record Oldest (es : List LogStep) : Type 0 where
-  newer : List LogStep
-  first : LogStep
-  is : es ≡ newer ++ first ∷ []
+pub record Oldest (es : List LogStep) : Type 0 where
+  pub newer : List LogStep
+  pub first : LogStep
+  pub is : es ≡ newer ++ first ∷ []
 
-oldest : (es : List LogStep) → (es ≡ []) ⊎ Oldest es
+pub oldest : (es : List LogStep) → (es ≡ []) ⊎ Oldest es
 oldest [] = inl refl
 oldest (e ∷ es) = by (oldest es)
   where
@@ -75,7 +75,7 @@ oldest (e ∷ es) = by (oldest es)
     by (inl none) = inr (record { newer = []; first = e; is = ap (λ w. e ∷ w) none })
     by (inr o) = inr (record { newer = e ∷ o.newer; first = o.first; is = ap (λ w. e ∷ w) o.is })
 
-run_before : (start : Start) (more es : List LogStep) → Run (machine start) (more ++ es) → Run (machine start) es
+pub run_before : (start : Start) (more es : List LogStep) → Run (machine start) (more ++ es) → Run (machine start) es
 run_before start [] es run = run
 run_before start (e ∷ more) es run = run_before start more es run.0
 
@@ -90,7 +90,7 @@ pub record IsFirst (start : Start) (was now : ℕ → List LogStep) (request : A
 
 module _ (start : Start) (was now : ℕ → List LogStep) (request : ApiReq) (served : IsServed start was now request) where
   -- what comes at a quiet moment is no signal that a link gave
-  first_asked : (es : List LogStep) (e : LogStep) → log_of (machine start) es ≡ was → Happens (machine start) es e → e.taken.to.node < hosts start → is_request e.taken.body ≡ true
+  pub first_asked : (es : List LogStep) (e : LogStep) → log_of (machine start) es ≡ was → Happens (machine start) es e → e.taken.to.node < hosts start → is_request e.taken.body ≡ true
   first_asked es e same happens low = by (is_request e.taken.body) refl
     where
       by : (b : Bool) → is_request e.taken.body ≡ b → b ≡ true
@@ -108,7 +108,7 @@ module _ (start : Start) (was now : ℕ → List LogStep) (request : ApiReq) (se
             all_taken start was now served.before served.since served.cut (λ to body. true) i j low,
           ))
 
-  fits_asked : (h stamp : ℕ) (x : Signal) (b : Bool) → b ≡ true → asked_rightly (first_view start.nodes) b h stamp x → IsAsked (first_view start.nodes) h stamp x
+  pub fits_asked : (h stamp : ℕ) (x : Signal) (b : Bool) → b ≡ true → asked_rightly (first_view start.nodes) b h stamp x → IsAsked (first_view start.nodes) h stamp x
   fits_asked h stamp x true e asked = asked
   fits_asked h stamp x false e asked = cc
 

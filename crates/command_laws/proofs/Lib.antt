@@ -8,5 +8,7 @@ pub mod First
 pub mod PhaseSends
 pub mod Pushes
 pub mod Since
+pub mod SinceKinds
 pub mod Told
 pub mod Turns
+pub mod WaitKinds
