@@ -1,4 +1,5 @@
 pub mod ApiChanges
+pub mod Arrives
 pub mod CommitFirst
 pub mod CommitGoes
 pub mod Entries
