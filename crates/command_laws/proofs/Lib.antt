@@ -14,3 +14,4 @@ pub mod SinceKinds
 pub mod Told
 pub mod Turns
 pub mod WaitKinds
+pub mod WaitsAtQuiet

@@ -1,7 +1,8 @@
 -- What the shell is told of a command that waits for a lock.
-use Rattle.std.specs.Prelude.{◌≡◌, ℕ, true, List, Option, None, Some}
+use Rattle.std.specs.Prelude.{◌≡◌, ◌≤◌, ℕ, true, is_some, List, Option, None, Some}
 use Rattle.run_theory.specs.Lists.{IsIn}
 use Rattle.sig_core.specs.declared.log.LogStep.{LogStep}
+use Rattle.sig_core.specs.declared.member.TxId.{TxId}
 use Rattle.sig_core.specs.declared.reply.ApiReply.TheVariants as reply
 use Rattle.sig_core.specs.declared.reply.Waiting.TheVariants.{HeldBy}
 use Rattle.sig_core.specs.declared.request.ApiReq.TheVariants.{Pending, Waits}
@@ -9,9 +10,18 @@ use Rattle.api_block.specs.declared.opened.OpenTransaction.{OpenTransaction}
 use Rattle.api_block.specs.Opened.{is_unanswered, own_place, where_at}
 use Rattle.node_core.specs.declared.host.Host.{Host}
 use Rattle.node_core.specs.declared.host.Host.TheVariants.{Shell, Node}
+use Rattle.tc_block.specs.declared.transaction.Transaction.{Transaction}
 use Rattle.world_core.specs.Machine.{after}
 use Rattle.world_core.specs.Start.{Start}
+use Rattle.commit_laws.specs.Ways.{is_aborting}
+use Rattle.answer_laws.specs.Answered.{AreQuiet, IsLiveAs}
 use Rattle.command_laws.specs.Served.{IsServed, replies_since}
+
+-- a transaction that is aborted when nothing is under way has an operation unanswered
+abbrev pub AbortsAskAtQuiet : Type 0
+AbortsAskAtQuiet =
+    (start : Start) (logs : ℕ → List LogStep) (node : ℕ) (tx : TxId) (t : Transaction) → AreQuiet start logs → node ≤ start.nodes
+    → IsLiveAs tx t (after start node (logs node)) → is_aborting t.phase ≡ true → is_some t.asked ≡ true
 
 -- the transaction that the last command is about
 abbrev pub own_in : Host → Option OpenTransaction
