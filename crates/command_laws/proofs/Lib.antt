@@ -14,4 +14,5 @@ pub mod SinceKinds
 pub mod Told
 pub mod Turns
 pub mod WaitKinds
+pub mod WaitSends
 pub mod WaitsAtQuiet

@@ -31,7 +31,7 @@ use Rattle.commit_laws.proofs.Firsts.{place_by, position-cons}
 use Rattle.answer_laws.proofs.ApiBegins.{same_name-is}
 use Rattle.answer_laws.proofs.TcMoves.{same_tx-is}
 use Rattle.answer_laws.proofs.Wishes.{is_api}
-use Rattle.command_laws.proofs.WaitKinds.{is_wait}
+use Rattle.command_laws.proofs.WaitKinds.{is_telling, is_wait, tells_of}
 use Rattle.command_laws.specs.Holders.{own_in}
 
 -- the first that passes stands behind these
@@ -164,14 +164,6 @@ module _ (name : Option ℕ) (front back : List OpenTransaction) (before : Each 
           let goes : pending_row s ≡ pending_by s (name_of s ahead) t.name t.tx =
           own_where s t (stay s) (λ at x. pending_if s x (is_unanswered x.doing) x.ahead) mine called ∙ ap (λ b. pending_if s t b t.ahead) waits ∙ ap (pending_if s t true) is in
           record { holder = name_of s ahead; told = ap (λ (x : Step ApiState). x.state.replies) goes ∙ pending_told s (name_of s ahead) t.name t.tx }
-
-  -- the signal tells whom the transaction waits for
-  abbrev pub tells_of : TxId → Body → Bool
-  tells_of tx (Client (TcWaitConf one ahead)) = same_tx one tx
-  tells_of tx _ = false
-
-  abbrev pub is_telling : TxId → Place → Body → Bool
-  is_telling tx to body = is_api to.block && tells_of tx body
 
   module _ (tx : TxId) (t : OpenTransaction) (own_tx : t.tx ≡ Some tx) (alone : Each (λ (x : OpenTransaction). has_tx tx x ≡ false) front) (itself : has_tx tx t ≡ true) where
     -- after a signal about waiting the transaction stands there, and what was known of whom it waits for still is

@@ -1,7 +1,7 @@
 -- Signals that ask whom a transaction waits for, and their answers: they move no node, and only such signals follow from them.
 use Rattle.std.proofs.Common.{◌≡◌, ℕ, Bool, true, false, List, [], ◌∷◌, ◌++◌, refl, sym, ap, ◌∙◌, subst}
 use Rattle.std.specs.Map.{values_of}
-use Rattle.std.specs.Prelude.{Option, None, Some, is_some, if◌then◌else◌, slice_get}
+use Rattle.std.specs.Prelude.{◌&&◌, Option, None, Some, is_some, if◌then◌else◌, slice_get}
 use Rattle.sig_core.specs.declared.member.Member.{Member}
 use Rattle.sig_core.specs.declared.member.TxId.{TxId}
 use Rattle.sig_core.specs.declared.place.BlockId.{BlockId}
@@ -34,6 +34,7 @@ use Rattle.tc_block.specs.Tc.{pass_if, pass_row, tc_row}
 use Rattle.tc_block.specs.Turn.{Turn, going}
 use Rattle.answer_laws.proofs.SendKinds.{are_of, is_tc_kind, of_map}
 use Rattle.answer_laws.proofs.TcSends.{tc_kinds}
+use Rattle.answer_laws.proofs.Wishes.{is_api}
 use Rattle.command_laws.proofs.Turns.{TakesTurn, TcShape, starts, still, tc_shape, turns}
 
 -- the signal asks whom the transaction waits for, or tells it
@@ -43,6 +44,14 @@ is_wait tx (Client (LqhWaitReq one key)) = same_tx one tx
 is_wait tx (Client (LqhWaitConf one ahead)) = same_tx one tx
 is_wait tx (Client (TcWaitConf one ahead)) = same_tx one tx
 is_wait tx _ = false
+
+-- the signal tells whom the transaction waits for
+abbrev pub tells_of : TxId → Body → Bool
+tells_of tx (Client (TcWaitConf one ahead)) = same_tx one tx
+tells_of tx _ = false
+
+abbrev pub is_telling : TxId → Place → Body → Bool
+is_telling tx to body = is_api to.block && tells_of tx body
 
 module _ (tx : TxId) where
   -- a step that changes nothing, and sends only such signals
