@@ -6,6 +6,7 @@ pub mod Entries
 pub mod Firm
 pub mod FirmHosts
 pub mod First
+pub mod HoldersTold
 pub mod OwnEntry
 pub mod PhaseSends
 pub mod Pushes

@@ -88,11 +88,12 @@ placed (e ∷ live) tx u once (inr rest) =
       get = p.get;
     }
 
-some_sum : (b : Bool) (n : ℕ) → b ≡ true → 1 ≤ one_if b + n
+-- one that passes, and others
+pub some_sum : (b : Bool) (n : ℕ) → b ≡ true → 1 ≤ one_if b + n
 some_sum true n e = omega arith
 some_sum false n e = cc
 
-both : (a b : Bool) → a ≡ true → b ≡ true → (a && b) ≡ true
+pub both : (a b : Bool) → a ≡ true → b ≡ true → (a && b) ≡ true
 both true true p q = refl
 both false b p q = cc
 both true false p q = cc
@@ -125,7 +126,7 @@ module _ (tx : TxId) where
 
   -- at a host that has the transaction live, or a replica where it waits
   module _ (n : node.Node) where
-    asks_on : (u : Transaction) (asked : Asked) (at replica : ℕ) → KeysOnce n.tc.live → IsIn (tx, u) n.tc.live → u.asked ≡ Some asked → at < length asked.chain → replica ≡ node_at asked.chain at
+    pub asks_on : (u : Transaction) (asked : Asked) (at replica : ℕ) → KeysOnce n.tc.live → IsIn (tx, u) n.tc.live → u.asked ≡ Some asked → at < length asked.chain → replica ≡ node_at asked.chain at
         → (to : BlockId) (body : Body) → (is_tc to && asks_of tx body) ≡ true → 1 ≤ sends_of (to_node replica (is_seeking tx (key_of asked.op))) (node_row n to body).effects.sends
     unfolding node_row
     asks_on u asked at replica once live asks low is block.Tc (Client (TcWaitReq one)) passes =
@@ -133,14 +134,14 @@ module _ (tx : TxId) where
         (coordinator_asks n.tc u once live asked at replica asks low is)
     asks_on u asked at replica once live asks low is _ body passes = cc
 
-    passes_on : (u : Transaction) → KeysOnce n.tc.live → IsIn (tx, u) n.tc.live → (to : BlockId) (body : Body) → (is_tc to && finds_of tx body) ≡ true
+    pub passes_on : (u : Transaction) → KeysOnce n.tc.live → IsIn (tx, u) n.tc.live → (to : BlockId) (body : Body) → (is_tc to && finds_of tx body) ≡ true
         → 1 ≤ sends_of (to_node 0 (is_telling tx)) (node_row n to body).effects.sends
     unfolding node_row
     passes_on u once live block.Tc (Client (LqhWaitConf one ahead)) passes =
         subst (λ x. 1 ≤ sends_of (to_node 0 (is_telling tx)) (pass_row n.tc x ahead).effects.sends) (sym (same_tx-is one tx passes)) (coordinator_passes n.tc u once live ahead)
     passes_on u once live _ body passes = cc
 
-    finds_on : (key : List ℕ) (ahead : TxId) → ahead_at n.lqh.locks key tx ≡ Some ahead → (to : BlockId) (body : Body) → (is_lqh to && seeks_of tx key body) ≡ true
+    pub finds_on : (key : List ℕ) (ahead : TxId) → ahead_at n.lqh.locks key tx ≡ Some ahead → (to : BlockId) (body : Body) → (is_lqh to && seeks_of tx key body) ≡ true
         → 1 ≤ sends_of (to_node tx.tc (is_finding tx)) (node_row n to body).effects.sends
     unfolding node_row rows.wait_row
     finds_on key ahead held block.Lqh (Client (LqhWaitReq one other)) passes = by one other (same_tx-is one tx (left (same_tx one tx) _ passes)) (same_key-is other key (right (same_tx one tx) _ passes))
