@@ -1,6 +1,9 @@
 -- What a signal changes at the API, with the replies.
 use Rattle.std.proofs.Common.{◌≡◌, ℕ, Bool, true, false, List, [], ◌∷◌, ◌++◌, refl, sym, ap, ◌∙◌}
-use Rattle.std.specs.Prelude.{Option, None, Some, if◌then◌else◌, position}
+use Rattle.std.proofs.lemmas.List.{append-nil}
+use Rattle.run_theory.specs.Lists.{Each}
+use Rattle.run_theory.proofs.Pasts.{each_append}
+use Rattle.std.specs.Prelude.{map, Option, None, Some, if◌then◌else◌, position}
 use Rattle.sig_core.specs.declared.mark.Mark.TheVariants.{Reported}
 use Rattle.sig_core.specs.declared.member.Member.{Member}
 use Rattle.sig_core.specs.declared.member.TxId.{TxId}
@@ -10,7 +13,8 @@ use Rattle.sig_core.specs.declared.outcome.AbortCause.{AbortCause}
 use Rattle.sig_core.specs.declared.outcome.Outcome.{Outcome}
 use Rattle.sig_core.specs.declared.outcome.Outcome.TheVariants as outcome
 use Rattle.sig_core.specs.declared.outs.Outgoing.{Outgoing}
-use Rattle.sig_core.specs.declared.reply.ApiReply.TheVariants.{Answered, Begun, Ended, Refused}
+use Rattle.sig_core.specs.declared.reply.ApiReply.{ApiReply}
+use Rattle.sig_core.specs.declared.reply.ApiReply.TheVariants.{Answered, Begun, Digest, Ended, Refused, Row, Rows}
 use Rattle.sig_core.specs.declared.reply.Refusal.TheVariants.{TooManyOpen}
 use Rattle.sig_core.specs.declared.request.ApiReq.{ApiReq}
 use Rattle.sig_core.specs.declared.signal.Body.{Body}
@@ -19,7 +23,7 @@ use Rattle.sig_core.specs.declared.signal.client.ClientSignal.TheVariants.{TcBeg
 use Rattle.sig_core.specs.declared.signal.host.HostSignal.TheVariants.{Continue, Round}
 use Rattle.sig_core.specs.declared.signal.host.Work.TheVariants as work
 use Rattle.sig_core.specs.Place.{coordinator_of}
-use Rattle.sig_core.specs.Step.{Step, stay, to_place}
+use Rattle.sig_core.specs.Step.{Effects, Step, stay, to_place}
 use Rattle.api_block.specs.declared.dump.Dump.{Dump}
 use Rattle.api_block.specs.declared.members.News.{News}
 use Rattle.api_block.specs.declared.members.News.TheVariants as news
@@ -27,7 +31,8 @@ use Rattle.api_block.specs.declared.opened.Doing.{Doing}
 use Rattle.api_block.specs.declared.opened.Doing.TheVariants.{Beginning, Ready, Operating, Committing}
 use Rattle.api_block.specs.declared.opened.OpenTransaction.{OpenTransaction}
 use Rattle.api_block.specs.Api.{api_row}
-use Rattle.api_block.specs.Dump.{dumped_by, dumped_next, dumped_row}
+use Rattle.api_block.specs.Dump.{dump_replies, dumped_by, dumped_next, dumped_row, row_reply}
+use Rattle.api_block.specs.Gathered.{gathered}
 use Rattle.api_block.specs.Members.{everyone, telling_all}
 use Rattle.api_block.specs.Opened.{answered, behind, begins, begins_at, begun, begun_operating, has_tx, where_at}
 use Rattle.api_block.specs.Operate.{answer_by, answer_row, begun_by, begun_row}
@@ -69,11 +74,24 @@ pub data GoesOnAs (s : ApiState) (tx : TxId) (t u : OpenTransaction) (step : Ste
       → step.effects.sends ≡ to_place (coordinator_of tx) (Client (TcKeyReq tx op)) ∷ [] → GoesOnAs s tx t u step
   idle : u ≡ begun t tx → step.state.replies ≡ s.replies → step.effects.sends ≡ [] → GoesOnAs s tx t u step
 
+-- a reply that tells of rows
+abbrev pub is_row_reply : ApiReply → Bool
+is_row_reply (Row key value) = true
+is_row_reply (Rows node count) = true
+is_row_reply (Digest node digest) = true
+is_row_reply reply = false
+
+-- replies that tell of rows stand behind those before
+pub record AddsRows (s : ApiState) (step : Step ApiState) : Type 0 where
+  pub more : List ApiReply
+  pub is : step.state.replies ≡ s.replies ++ more
+  pub rows : Each (λ (r : ApiReply). is_row_reply r ≡ true) more
+
 -- what a signal that isn't a request does to the transactions, with what is replied, sent and marked
 pub data ApiChange (s : ApiState) (body : Body) (step : Step ApiState) : Type 0 where
-  rests : step.state.opened ≡ s.opened → are_of is_news_kind step.effects.sends ≡ true → ApiChange s body step
+  rests : step.state.opened ≡ s.opened → AddsRows s step → are_of is_news_kind step.effects.sends ≡ true → ApiChange s body step
   waits : (tx ahead : TxId) (one : IsOneOf s.opened) → body ≡ Client (TcWaitConf tx ahead) → BecomesIn one (behind one.t (Some ahead)) step.state.opened
-      → step.effects.sends ≡ [] → ApiChange s body step
+      → step.state.replies ≡ s.replies → step.effects.sends ≡ [] → ApiChange s body step
   answers : (tx : TxId) (answer : Answer) (name : ℕ) (one : IsOneOf s.opened) → body ≡ Client (TcKeyConf tx answer) → has_tx tx one.t ≡ true → one.t.doing ≡ Operating → one.t.name ≡ Some name
       → BecomesIn one (answered one.t Ready) step.state.opened → step.state.replies ≡ s.replies ++ Answered (Some name) answer ∷ [] → step.effects.sends ≡ [] → ApiChange s body step
   commits : (tx : TxId) (answer : Answer) (one : IsOneOf s.opened) → body ≡ Client (TcKeyConf tx answer) → has_tx tx one.t ≡ true → one.t.doing ≡ Operating → one.t.name ≡ None
@@ -95,32 +113,45 @@ telling_news (news.Committed tx) (member ∷ members) = telling_news (news.Commi
 abbrev one_of : {p : OpenTransaction → Bool} {opened : List OpenTransaction} {at : ℕ} → IsFocus p opened at → IsOneOf opened
 one_of f = record { t = f.item; front = f.front; back = f.back; is = f.is }
 
+rows_told : (node : ℕ) (digest : Bool) (rows : List (List ℕ × List ℕ)) → Each (λ (r : ApiReply). is_row_reply r ≡ true) (dump_replies node digest rows)
+unfolding dump_replies
+rows_told node true rows = (refl, tt)
+rows_told node false rows = each_append (λ (r : ApiReply). is_row_reply r ≡ true) (map row_reply rows) _ (each_row rows) (refl, tt)
+  where
+    each_row : (xs : List (List ℕ × List ℕ)) → Each (λ (r : ApiReply). is_row_reply r ≡ true) (map row_reply xs)
+    each_row [] = tt
+    each_row (x ∷ xs) = (refl, each_row xs)
+
 module _ (s : ApiState) where
+  -- no reply is added
+  none_added : {t : ApiState} {effects : Effects} → t.replies ≡ s.replies → AddsRows s (record { state = t; effects = effects })
+  none_added same = record { more = []; is = same ∙ sym (append-nil s.replies); rows = tt }
+
   answer_by_changes : (tx : TxId) (answer : Answer) (at : ℕ) (f : IsFocus (has_tx tx) s.opened at) (doing : Doing) (name : Option ℕ) → f.item.doing ≡ doing → f.item.name ≡ name
       → ApiChange s (Client (TcKeyConf tx answer)) (answer_by s tx answer at f.item doing name)
   answer_by_changes tx answer at f Operating (Some name) does called = answers tx answer name (one_of f) refl f.passes does called (f.set _) refl refl
   answer_by_changes tx answer at f Operating None does called = commits tx answer (one_of f) refl f.passes does called (f.set _) refl refl
-  answer_by_changes tx answer at f (Beginning op) name does called = rests refl refl
-  answer_by_changes tx answer at f Ready name does called = rests refl refl
-  answer_by_changes tx answer at f Committing name does called = rests refl refl
+  answer_by_changes tx answer at f (Beginning op) name does called = rests refl (none_added refl) refl
+  answer_by_changes tx answer at f Ready name does called = rests refl (none_added refl) refl
+  answer_by_changes tx answer at f Committing name does called = rests refl (none_added refl) refl
 
   answer_changes : (tx : TxId) (answer : Answer) → ApiChange s (Client (TcKeyConf tx answer)) (answer_row s tx answer)
   unfolding answer_row
   answer_changes tx answer =
-      where_found (has_tx tx) s.opened (stay s) (λ at t. answer_by s tx answer at t t.doing t.name) (ApiChange s (Client (TcKeyConf tx answer))) (λ none. rests refl refl)
+      where_found (has_tx tx) s.opened (stay s) (λ at t. answer_by s tx answer at t t.doing t.name) (ApiChange s (Client (TcKeyConf tx answer))) (λ none. rests refl (none_added refl) refl)
       (λ at f. answer_by_changes tx answer at f f.item.doing f.item.name refl refl)
 
   commit_report_changes : (tx : TxId) (epoch : ℕ) → ApiChange s (Client (TcCommitConf tx epoch)) (commit_report_row s tx epoch)
   unfolding commit_report_row
   commit_report_changes tx epoch =
       let acks = telling_news (news.Committed tx) (everyone s.view) in
-      where_found (has_tx tx) s.opened _ _ (ApiChange s (Client (TcCommitConf tx epoch))) (λ none. rests refl acks)
+      where_found (has_tx tx) s.opened _ _ (ApiChange s (Client (TcCommitConf tx epoch))) (λ none. rests refl (none_added refl) acks)
       (λ at f. ends tx (outcome.Committed epoch) (one_of f) refl f.passes f.removed refl refl acks)
 
   abort_report_changes : (tx : TxId) (cause : AbortCause) → ApiChange s (Client (TcRollbackRep tx cause)) (abort_report_row s tx cause)
   unfolding abort_report_row
   abort_report_changes tx cause =
-      where_found (has_tx tx) s.opened _ _ (ApiChange s (Client (TcRollbackRep tx cause))) (λ none. rests refl refl)
+      where_found (has_tx tx) s.opened _ _ (ApiChange s (Client (TcRollbackRep tx cause))) (λ none. rests refl (none_added refl) refl)
       (λ at f. ends tx (outcome.Aborted cause) (one_of f) refl f.passes f.removed refl refl refl)
 
   begun_by_goes : (name : Option ℕ) (tx : TxId) (at : ℕ) (f : IsFocus (begins_at name tx.tc) s.opened at) (called : Option ℕ) (doing : Doing) → f.item.doing ≡ doing → f.item.name ≡ called
@@ -135,31 +166,31 @@ module _ (s : ApiState) where
   begun_changes : (name : Option ℕ) (tx : TxId) → ApiChange s (Client (TcBeginConf name tx)) (begun_row s name tx)
   unfolding begun_row
   begun_changes name tx =
-      where_found (begins_at name tx.tc) s.opened (stay s) (λ at t. begun_by s tx at t t.name t.doing) (ApiChange s (Client (TcBeginConf name tx))) (λ none. rests refl refl)
+      where_found (begins_at name tx.tc) s.opened (stay s) (λ at t. begun_by s tx at t t.name t.doing) (ApiChange s (Client (TcBeginConf name tx))) (λ none. rests refl (none_added refl) refl)
       (λ at f. begun_by_goes name tx at f f.item.name f.item.doing refl refl)
 
   refuse_changes : (name : Option ℕ) → ApiChange s (Client (TcBeginRef name)) (stay (refuse_row s name))
   unfolding refuse_row
   refuse_changes name =
-      where_found (begins name) s.opened s _ (λ after. ApiChange s (Client (TcBeginRef name)) (stay after)) (λ none. rests refl refl)
+      where_found (begins name) s.opened s _ (λ after. ApiChange s (Client (TcBeginRef name)) (stay after)) (λ none. rests refl (none_added refl) refl)
       (λ at f. refuses name (one_of f) refl f.passes f.removed refl refl)
 
   behind_changes : (tx ahead : TxId) → ApiChange s (Client (TcWaitConf tx ahead)) (stay (behind_row s tx ahead))
   unfolding behind_row
   behind_changes tx ahead =
-      where_found (has_tx tx) s.opened s _ (λ after. ApiChange s (Client (TcWaitConf tx ahead)) (stay after)) (λ none. rests refl refl)
-      (λ at f. waits tx ahead (one_of f) refl (f.set _) refl)
+      where_found (has_tx tx) s.opened s _ (λ after. ApiChange s (Client (TcWaitConf tx ahead)) (stay after)) (λ none. rests refl (none_added refl) refl)
+      (λ at f. waits tx ahead (one_of f) refl (f.set _) refl refl)
 
   dumped_changes : (rows : List (List ℕ × List ℕ)) (next : Option ℕ) → ApiChange s (Client (DumpConf rows next)) (dumped_row s rows next)
   unfolding dumped_row
   dumped_changes rows next = by s.dump
     where
       on : (d : Dump) (o : Option ℕ) → ApiChange s (Client (DumpConf rows next)) (dumped_next s d rows o)
-      on d (Some at) = rests refl refl
-      on d None = rests refl refl
+      on d (Some at) = rests refl (none_added refl) refl
+      on d None = rests refl (record { more = dump_replies d.node d.digest (gathered d.rows rows); is = refl; rows = rows_told d.node d.digest (gathered d.rows rows) }) refl
 
       by : (d : Option Dump) → ApiChange s (Client (DumpConf rows next)) (dumped_by s rows next d)
-      by None = rests refl refl
+      by None = rests refl (none_added refl) refl
       by (Some d) = on d next
 
 pub api_changes : (s : ApiState) (body : Body) → is_request body ≡ false → ApiChange s body (api_row s body)
@@ -171,4 +202,4 @@ api_changes s (Client (TcCommitConf tx epoch)) plain = commit_report_changes s t
 api_changes s (Client (TcRollbackRep tx cause)) plain = abort_report_changes s tx cause
 api_changes s (Client (TcWaitConf tx ahead)) plain = behind_changes s tx ahead
 api_changes s (Client (DumpConf rows next)) plain = dumped_changes s rows next
-api_changes s _ plain = rests refl refl
+api_changes s _ plain = rests refl (none_added s refl) refl

@@ -61,8 +61,8 @@ module _ (tx : TxId) (name : Option ℕ) where
 
     change_goes : (step : Step ApiState) → ApiChange s body step → GoesOrEnds s body step
     unfolding GoesOrEnds
-    change_goes step (rests is kind) = inl (as_before step.state.opened (subst (IsIn has.item) (sym is) has.inside))
-    change_goes step (waits one ahead at about is sends) = by (here_or_apart has.item s.opened at has.inside)
+    change_goes step (rests is adds kind) = inl (as_before step.state.opened (subst (IsIn has.item) (sym is) has.inside))
+    change_goes step (waits one ahead at about is replies sends) = by (here_or_apart has.item s.opened at has.inside)
       where
         by : (has.item ≡ at.t) ⊎ IsApart has.item at.front at.back → GoesOrEnds s body step
         by (inl same) = inl (record {

@@ -49,7 +49,7 @@ pub has_chains : HasChains is_no_abort
 has_chains =
     record { commits = λ tx key epoch chain at. refl; completes = λ tx key chain at. refl; aborts = λ tx key. refl; goes_on = λ tx at. refl }
 
-fronts : (tx : TxId) (phase : Phase) → are_of is_no_abort (front_sends tx phase) ≡ true
+pub fronts : (tx : TxId) (phase : Phase) → are_of is_no_abort (front_sends tx phase) ≡ true
 unfolding front_sends
 fronts tx (Completing epoch awaited) = refl
 fronts tx (Committing epoch awaited) = refl

@@ -95,7 +95,7 @@ module _ (tx : TxId) where
   no_back_idle to (Client (TcRollbackRep other cause)) e = cc
   no_back_idle to _ e = refl
 
-  no_back_firm : (to : Place) (body : Body) → is_no_abort body ≡ true → is_back tx to body ≡ false
+  pub no_back_firm : (to : Place) (body : Body) → is_no_abort body ≡ true → is_back tx to body ≡ false
   no_back_firm to (Client (TcRollbackRep other cause)) e = cc
   no_back_firm to _ e = refl
 
@@ -115,7 +115,7 @@ module _ (tx : TxId) where
   no_back_api to (Client (TcRollbackRep other cause)) e = cc
   no_back_api to _ e = refl
 
-  not_push : (body : Body) → push_of tx body ≡ false → same_tx (tx_in body) tx ≡ true → is_push body ≡ false
+  pub not_push : (body : Body) → push_of tx body ≡ false → same_tx (tx_in body) tx ≡ true → is_push body ≡ false
   not_push (Client (TcKeyReq other op)) none same = absurd (let both : true ≡ false = sym same ∙ none in cc)
   not_push (Client (TcRollbackReq other)) none same = absurd (let both : true ≡ false = sym same ∙ none in cc)
   not_push _ none same = refl

@@ -1,5 +1,5 @@
 -- The request comes first: before it nothing is under way.
-use Rattle.std.proofs.Common.{◌≡◌, ◌⊎◌, ◌<◌, ◌≤◌, ℕ, Bool, true, false, List, [], ◌∷◌, ◌++◌, refl, sym, ap, subst, ◌∙◌, inl, inr, append_assoc, arith}
+use Rattle.std.proofs.Common.{◌≡◌, ◌⊎◌, ◌<◌, ◌≤◌, ℕ, zero, suc, Bool, true, false, List, [], ◌∷◌, ◌++◌, refl, sym, ap, subst, ◌∙◌, inl, inr, append_assoc, arith}
 use Rattle.std.proofs.lemmas.Bool.{cases_lt}
 use Rattle.std.proofs.lemmas.List.{append-nil}
 use Rattle.std.proofs.Math.Path.{fun_ext}
@@ -9,10 +9,10 @@ use Rattle.run_theory.specs.Cuts.{IsCut}
 use Rattle.run_theory.specs.Links.{sent, taken}
 use Rattle.run_theory.specs.Lists.{Each}
 use Rattle.run_theory.specs.Orders.{merged}
-use Rattle.run_theory.specs.Runs.{Happens, Run, log_of}
+use Rattle.run_theory.specs.Runs.{AreLogs, Happens, Run, log_of}
 use Rattle.run_theory.proofs.Growth.{grow}
 use Rattle.run_theory.proofs.Merging.{log_of-append, logs_merged, merged_run}
-use Rattle.run_theory.proofs.Runs.{log_of-own}
+use Rattle.run_theory.proofs.Runs.{log_of-other, log_of-own, logs_of_run}
 use Rattle.sig_core.specs.declared.log.LogStep.{LogStep}
 use Rattle.sig_core.specs.declared.request.ApiReq.{ApiReq}
 use Rattle.sig_core.specs.declared.signal.Body.{Body}
@@ -79,6 +79,11 @@ pub run_before : (start : Start) (more es : List LogStep) → Run (machine start
 run_before start [] es run = run
 run_before start (e ∷ more) es run = run_before start more es run.0
 
+-- the logs with one more step of the shell's host
+abbrev pub with_first : (ℕ → List LogStep) → LogStep → ℕ → List LogStep
+with_first was first zero = first ∷ was 0
+with_first was first (suc h) = was (suc h)
+
 -- the shell's host was asked for the request as its first step since then, and for no other one
 pub record IsFirst (start : Start) (was now : ℕ → List LogStep) (request : ApiReq) : Type 0 where
   pub later : List LogStep
@@ -87,6 +92,7 @@ pub record IsFirst (start : Start) (was now : ℕ → List LogStep) (request : A
   pub place : first.taken.to ≡ client
   pub body : first.taken.body ≡ Host (Continue (Request request) 0)
   pub plain : Each (λ (e : LogStep). is_request e.taken.body ≡ false) later
+  pub right : AreLogs (machine start) (with_first was first)
 
 module _ (start : Start) (was now : ℕ → List LogStep) (request : ApiReq) (served : IsServed start was now request) where
   -- what comes at a quiet moment is no signal that a link gave
@@ -112,8 +118,8 @@ module _ (start : Start) (was now : ℕ → List LogStep) (request : ApiReq) (se
   fits_asked h stamp x true e asked = asked
   fits_asked h stamp x false e asked = cc
 
-  at_first : (es newer : List LogStep) (e : LogStep) → log_of (machine start) es ≡ was → Happens (machine start) es e → log_of (machine start) (newer ++ e ∷ es) ≡ now → IsFirst start was now request
-  at_first es newer e same happens all = found (fits_asked e.taken.to.node _ e.taken (is_request e.taken.body) (first_asked es e same happens low) happens.step.fits.asked)
+  at_first : (es newer : List LogStep) (e : LogStep) → log_of (machine start) es ≡ was → Happens (machine start) es e → Run (machine start) (e ∷ es) → log_of (machine start) (newer ++ e ∷ es) ≡ now → IsFirst start was now request
+  at_first es newer e same happens run all = found (fits_asked e.taken.to.node _ e.taken (is_request e.taken.body) (first_asked es e same happens low) happens.step.fits.asked)
     where
       here : (h : ℕ) → now h ≡ log_of (machine start) newer h ++ log_of (machine start) (e ∷ es) h
       here h = ap (λ logs. logs h) (sym all) ∙ log_of-append (machine start) newer (e ∷ es) h
@@ -124,6 +130,10 @@ module _ (start : Start) (was now : ℕ → List LogStep) (request : ApiReq) (se
 
       own : (h : ℕ) → e.taken.to.node ≡ h → now h ≡ log_of (machine start) newer h ++ e ∷ was h
       own h at = here h ∙ ap (λ log. log_of (machine start) newer h ++ log) (log_of-own (machine start) e es h at ∙ ap (λ logs. e ∷ logs h) same)
+
+      first_logs : e.taken.to.node ≡ 0 → (h : ℕ) → log_of (machine start) (e ∷ es) h ≡ with_first was e h
+      first_logs at zero = log_of-own (machine start) e es 0 at ∙ ap (λ logs. e ∷ logs 0) same
+      first_logs at (suc h) = log_of-other (machine start) e es (suc h) (λ other. absurd (omega (arith, at, other))) ∙ ap (λ logs. logs (suc h)) same
 
       low : e.taken.to.node < hosts start
       low = by (cases_lt e.taken.to.node (hosts start))
@@ -150,6 +160,7 @@ module _ (start : Start) (was now : ℕ → List LogStep) (request : ApiReq) (se
             place = ap (λ (x : Signal). x.to) asked.is;
             body = body_is ∙ ap (λ r. Host (Continue (Request r) 0)) this;
             plain = no_requests (log_of (machine start) newer 0) none;
+            right = subst (AreLogs (machine start)) (fun_ext (first_logs asked.shell)) (logs_of_run (machine start) (e ∷ es) run);
           }
 
   pub request_first : IsFirst start was now request
@@ -180,4 +191,4 @@ module _ (start : Start) (was now : ℕ → List LogStep) (request : ApiReq) (se
       by (inr o) =
           let parts : grown.more ++ es ≡ o.newer ++ (o.first ∷ es) = ap (λ m. m ++ es) o.is ∙ append_assoc o.newer (o.first ∷ []) es in
           let run = run_before start o.newer (o.first ∷ es) (subst (Run (machine start)) parts grown.run) in
-          at_first es o.newer o.first same run.1 (ap (log_of (machine start)) (sym parts) ∙ fun_ext grown.logs)
+          at_first es o.newer o.first same run.1 run (ap (log_of (machine start)) (sym parts) ∙ fun_ext grown.logs)

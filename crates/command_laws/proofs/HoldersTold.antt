@@ -51,8 +51,8 @@ use Rattle.command_laws.proofs.WaitKinds.{is_telling, is_wait, node_same, wait_c
 use Rattle.command_laws.proofs.WaitsAtQuiet.{LiveThere, WaitsHeld, waits_held}
 use Rattle.command_laws.proofs.WaitSends.{asks_on, finds_on, is_asking, is_finding, is_seeking}
 use Rattle.command_laws.proofs.WaitSends as rows
-use Rattle.command_laws.specs.Holders.{AbortsAskAtQuiet, HoldersAreTold, IsHolderTold, own_after}
-use Rattle.command_laws.specs.Served.{IsServed}
+use Rattle.command_laws.specs.Holders.{AbortsAskAtQuiet}
+use Rattle.command_laws.specs.Served.{HoldersAreTold, IsServed, IsToldHolder, own_in}
 
 -- the rows of a node's host are those of the node
 node_sends : (test : Place → Body → Bool) (g : host.Host) (n : node.Node) (to : Place) (body : Body) → g ≡ Node n → 1 ≤ sends_of test (node_row n to.block body).effects.sends
@@ -101,7 +101,7 @@ at_first : (start : Start) (log : List LogStep) (e : LogStep) (body : Body) → 
 at_first start log e body place about = ap (λ (to : Place). row (after start 0 log) to e.taken.body) place ∙ ap (row (after start 0 log) client) about
 
 module _ (answered : EachIsAnswered) (aborts : AbortsAskAtQuiet) (start : Start) (was mid now : ℕ → List LogStep) (t : OpenTransaction) (first : IsServed start was mid Waits) (second : IsServed start mid now Pending)
-  (own_is : own_after start was ≡ Some t) (waits : is_unanswered t.doing ≡ true) where
+  (own_is : own_in (after start 0 (was 0)) ≡ Some t) (waits : is_unanswered t.doing ≡ true) where
   own : HasOwn t (after start 0 (was 0))
   own = own_found (after start 0 (was 0)) t own_is
 
@@ -241,7 +241,7 @@ module _ (answered : EachIsAnswered) (aborts : AbortsAskAtQuiet) (start : Start)
   tells None is e = cc
   tells (Some ahead) is e = pending_tells own.name own.front own.back own.none (after start 0 (mid 0)) (behind t stood.ahead) ahead at_mid own.called waits is
 
-  pub holder_told : IsHolderTold start mid now t.name
+  pub holder_told : IsToldHolder start mid now t.name
   holder_told =
       let w = tells stood.ahead refl known in
       let f : IsFirst start mid now Pending = request_first start mid now Pending second in

@@ -32,7 +32,7 @@ use Rattle.answer_laws.proofs.ApiBegins.{same_name-is}
 use Rattle.answer_laws.proofs.TcMoves.{same_tx-is}
 use Rattle.answer_laws.proofs.Wishes.{is_api}
 use Rattle.command_laws.proofs.WaitKinds.{is_telling, is_wait, tells_of}
-use Rattle.command_laws.specs.Holders.{own_in}
+use Rattle.command_laws.specs.Served.{own_in}
 
 -- the first that passes stands behind these
 pub at_front : {A : Type 0} (p : A → Bool) (front : List A) (x : A) (back : List A) → Each (λ y. p y ≡ false) front → p x ≡ true → position p (front ++ x ∷ back) ≡ Some (length front)

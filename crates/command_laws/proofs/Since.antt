@@ -59,7 +59,7 @@ module _ (start : Start) (test : Place → Body → Bool) where
   link_taken i [] log = omega arith
   link_taken i (e ∷ newer) log = omega (arith, link_taken i newer log, taken_signals start test i e (newer ++ log))
 
-front_nil : (newer log : List LogStep) → [] ≡ newer ++ log → newer ≡ []
+pub front_nil : (newer log : List LogStep) → [] ≡ newer ++ log → newer ≡ []
 front_nil [] log is = refl
 front_nil (e ∷ newer) log is = absurd cc
 

@@ -1,25 +1,34 @@
 -- What a command comes to, between two quiet moments.
-use Rattle.std.specs.Prelude.{◌≡◌, ◌<◌, ◌⊎◌, ◌++◌, ℕ, true, false, List, [], ◌∷◌, drop, length, position, Option, None, Some}
+use Rattle.std.specs.Prelude.{◌≡◌, ◌<◌, ◌⊎◌, ◌++◌, ℕ, true, false, is_some, List, [], ◌∷◌, drop, length, position, Option, None, Some}
 use Rattle.run_theory.specs.Cuts.{IsCut}
 use Rattle.run_theory.specs.Lists.{IsIn, IsPast}
 use Rattle.sig_core.specs.declared.log.LogStep.{LogStep}
 use Rattle.sig_core.specs.declared.mark.Mark.TheVariants.{Reported}
+use Rattle.sig_core.specs.declared.member.Member.{Member}
 use Rattle.sig_core.specs.declared.member.TxId.{TxId}
 use Rattle.sig_core.specs.declared.op.Answer.{Answer}
 use Rattle.sig_core.specs.declared.op.Op.{Op}
 use Rattle.sig_core.specs.declared.outcome.Outcome.TheVariants.{Committed}
 use Rattle.sig_core.specs.declared.reply.ApiReply.{ApiReply}
-use Rattle.sig_core.specs.declared.reply.ApiReply.TheVariants.{Answered, Ended}
+use Rattle.sig_core.specs.declared.reply.ApiReply.TheVariants.{Answered, Ended, Pending}
+use Rattle.sig_core.specs.declared.reply.Waiting.TheVariants.{HeldBy}
 use Rattle.sig_core.specs.declared.request.ApiReq.{ApiReq}
 use Rattle.sig_core.specs.declared.request.ApiReq.TheVariants.{Commit, Operate}
-use Rattle.api_block.specs.declared.opened.Doing.TheVariants.{Ready}
+use Rattle.sig_core.specs.declared.request.ApiReq.TheVariants as request
+use Rattle.sig_core.specs.Op.{key_of}
+use Rattle.api_block.specs.declared.opened.Doing.TheVariants.{Operating, Ready}
 use Rattle.api_block.specs.declared.opened.OpenTransaction.{OpenTransaction}
-use Rattle.api_block.specs.Opened.{is_named, where_at}
+use Rattle.api_block.specs.Opened.{is_named, is_unanswered, own_place, where_at}
+use Rattle.row_locks.specs.Tables.{ahead_at}
+use Rattle.tc_block.specs.declared.phase.Asked.{Asked}
+use Rattle.tc_block.specs.declared.transaction.Transaction.{Transaction}
+use Rattle.node_core.specs.declared.host.Host.{Host}
+use Rattle.node_core.specs.declared.host.Host.TheVariants.{Shell, Node}
 use Rattle.node_core.specs.Replies.{replies_of}
 use Rattle.world_core.specs.Machine.{after}
 use Rattle.world_core.specs.Requests.{requests}
 use Rattle.world_core.specs.Start.{Start}
-use Rattle.answer_laws.specs.Answered.{AreQuiet, opened_after}
+use Rattle.answer_laws.specs.Answered.{AreQuiet, EachAtQuiet, IsLiveAs, opened_after}
 
 -- The shell asked for one more thing between two quiet moments: the later logs have those before, and of the shell's requests
 -- this one more.
@@ -57,3 +66,55 @@ CommitsAreCommitted =
     (start : Start) (was now : ℕ → List LogStep) (name : ℕ) (t : OpenTransaction) (tx : TxId) → IsServed start was now (Commit name)
     → named_in (opened_after start was) name ≡ Some t → t.doing ≡ Ready → t.tx ≡ Some tx
     → IsToldCommitted start was now name tx
+
+-- an operation alone was answered since then
+pub record IsAnsweredAlone (start : Start) (was now : ℕ → List LogStep) : Type 0 where
+  pub answer : Answer
+  pub told : IsIn (Answered None answer) (replies_since start was now)
+
+-- and one was reported committed
+pub record IsCommittedAlone (start : Start) (was now : ℕ → List LogStep) : Type 0 where
+  pub epoch : ℕ
+  pub told : IsIn (Ended None (Committed epoch)) (replies_since start was now)
+
+-- an operation alone that is answered ends in its being committed
+abbrev pub LoneAreCommitted : Type 0
+LoneAreCommitted =
+    (start : Start) (was now : ℕ → List LogStep) (op : Op) → IsServed start was now (Operate None op) → IsAnsweredAlone start was now
+    → IsCommittedAlone start was now
+
+-- the transaction that the last command is about, if it is about one that is there
+abbrev pub own_in : Host → Option OpenTransaction
+own_in (Shell s) = where_at s.opened None (λ at t. Some t) (own_place s)
+own_in (Node n) = None
+
+-- the transaction waits in the queue of the key, and another one holds that
+abbrev pub IsHeldUpAt : TxId → List ℕ → Host → Type 0
+IsHeldUpAt tx key (Shell s) = ⊥
+IsHeldUpAt tx key (Node n) = is_some (ahead_at n.lqh.locks key tx) ≡ true
+
+-- its coordinator has its operation unanswered, and at one of the nodes that this is sent along it is held up on the key
+pub record IsHeldUp (start : Start) (logs : ℕ → List LogStep) (tx : TxId) : Type 0 where
+  pub transaction : Transaction
+  pub live : IsLiveAs tx transaction (after start tx.tc (logs tx.tc))
+  pub asked : Asked
+  pub unanswered : transaction.asked ≡ Some asked
+  pub member : Member
+  pub inside : IsIn member asked.chain
+  pub held : IsHeldUpAt tx (key_of asked.op) (after start member.node (logs member.node))
+
+-- so it is at quiet where its operation was sent
+abbrev pub EachIsHeldUp : Type 0
+EachIsHeldUp = EachAtQuiet (λ start logs t. (tx : TxId) → t.tx ≡ Some tx → t.doing ≡ Operating → IsHeldUp start logs tx)
+
+-- who holds what the transaction of this name waits for was told since then
+pub record IsToldHolder (start : Start) (was now : ℕ → List LogStep) (name : Option ℕ) : Type 0 where
+  pub holder : Option ℕ
+  pub told : IsIn (Pending name (HeldBy holder)) (replies_since start was now)
+
+-- where a command left something of its own unanswered, the two questions about it tell for whom that waits
+abbrev pub HoldersAreTold : Type 0
+HoldersAreTold =
+    (start : Start) (was mid now : ℕ → List LogStep) (t : OpenTransaction) → IsServed start was mid request.Waits → IsServed start mid now request.Pending
+    → own_in (after start 0 (was 0)) ≡ Some t → is_unanswered t.doing ≡ true
+    → IsToldHolder start mid now t.name

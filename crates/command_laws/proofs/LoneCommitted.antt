@@ -1,0 +1,354 @@
+-- An operation alone that is answered ends in its being committed.
+use Rattle.std.proofs.Common.{◌≡◌, ◌≢◌, ◌⊎◌, ◌<◌, ◌≤◌, ◌+◌, ℕ, zero, suc, Bool, true, false, List, [], ◌∷◌, ◌++◌, refl, sym, ap, ◌∙◌, subst, inl, inr, append_assoc, arith}
+use Rattle.std.proofs.lemmas.Bool.{cases_eq, cases_lt}
+use Rattle.std.proofs.Math.Seq.{drop-append_seam}
+use Rattle.std.proofs.lemmas.Bool.Decides.{nat_tests}
+use Rattle.std.specs.Prelude.{◌==◌, ◌&&◌, Option, None, Some, drop, is_some, length, not}
+use Rattle.run_theory.specs.Cuts.{IsCut}
+use Rattle.run_theory.specs.Links.{is_from, sent, taken}
+use Rattle.run_theory.specs.Lists.{Each, IsIn, IsPast}
+use Rattle.run_theory.specs.Logs.{IsLog}
+use Rattle.run_theory.proofs.Links.{log_after}
+use Rattle.run_theory.proofs.Pasts.{each_before, each_in, each_map}
+use Rattle.sig_core.specs.declared.log.LogStep.{LogStep}
+use Rattle.sig_core.specs.declared.member.TxId.{TxId}
+use Rattle.sig_core.specs.declared.op.Answer.{Answer}
+use Rattle.sig_core.specs.declared.op.Op.{Op}
+use Rattle.sig_core.specs.declared.outcome.AbortCause.{AbortCause}
+use Rattle.sig_core.specs.declared.outcome.Outcome.{Outcome}
+use Rattle.sig_core.specs.declared.outcome.Outcome.TheVariants as outcome
+use Rattle.sig_core.specs.declared.place.Place.{Place}
+use Rattle.sig_core.specs.declared.reply.ApiReply.{ApiReply}
+use Rattle.sig_core.specs.declared.reply.ApiReply.TheVariants.{Answered, Ended}
+use Rattle.sig_core.specs.declared.request.ApiReq.TheVariants.{Operate}
+use Rattle.sig_core.specs.declared.signal.Body.{Body}
+use Rattle.sig_core.specs.declared.signal.Body.TheVariants.{Client}
+use Rattle.sig_core.specs.declared.signal.client.ClientSignal.TheVariants.{TcKeyConf, TcKeyReq, TcRollbackReq}
+use Rattle.sig_core.specs.Place.{client}
+use Rattle.sig_core.specs.Same.{same_tx}
+use Rattle.api_block.specs.declared.opened.Doing.TheVariants.{Committing}
+use Rattle.node_core.proofs.HostLemmas.{IsFront}
+use Rattle.node_core.specs.declared.host.Host as host
+use Rattle.node_core.specs.declared.host.Host.TheVariants.{Shell, Node}
+use Rattle.node_core.specs.Replies.{replies_of}
+use Rattle.node_core.specs.Requests.{is_request}
+use Rattle.node_core.specs.Row.{row}
+use Rattle.tc_block.specs.declared.transaction.Transaction.{Transaction}
+use Rattle.tc_block.specs.State.{TcState}
+use Rattle.world_core.proofs.Replies.{replies_grow}
+use Rattle.world_core.specs.Machine.{after, hosts, machine, step_after}
+use Rattle.world_core.specs.Start.{Start}
+use Rattle.answer_laws.proofs.ApiBegins.{in_middle}
+use Rattle.answer_laws.proofs.LinkCounts.{all_three, signals, steps, taken_steps}
+use Rattle.answer_laws.proofs.Lives.{NodeKeeps, keeps, once_started}
+use Rattle.answer_laws.proofs.Tally.{one_if, tally, tally_append, tally_in}
+use Rattle.answer_laws.proofs.TcKeys.{answer_of, is_asked, is_key, key_of_tx}
+use Rattle.answer_laws.proofs.TcLives.{is_keyed, is_start}
+use Rattle.answer_laws.proofs.TcSends.{same_tx-self}
+use Rattle.answer_laws.proofs.Wishes.{is_api, is_tc}
+use Rattle.answer_laws.specs.Answered.{EachIsAnswered, is_answered_by, opened_after, opened_in}
+use Rattle.command_laws.proofs.CommitGoes.{HasEnded, commit_goes}
+use Rattle.command_laws.proofs.Committed.{cut_at_first, sent_append}
+use Rattle.command_laws.proofs.Entries.{HasOne}
+use Rattle.command_laws.proofs.FirmHosts.{back_of, is_back}
+use Rattle.command_laws.proofs.First.{IsFirst, request_first}
+use Rattle.command_laws.proofs.LoneAsks.{HasLone, LoneFirst, asks_since, is_lone, lone_first, lone_since}
+use Rattle.command_laws.proofs.Pushes.{is_node_kind, node_since}
+use Rattle.command_laws.proofs.Reported.{reported}
+use Rattle.command_laws.proofs.Since.{few_taken, front_nil, none_counted, none_taken, sent_since, taken_since}
+use Rattle.command_laws.proofs.TellsOnce.{HasTold, IsOneOfThree, is_wish_back_to, wish_back_of}
+use Rattle.command_laws.proofs.TellsSince.{OnTc, away_since, shell_since, since_none, tells_since}
+use Rattle.command_laws.proofs.Told.{told_since}
+use Rattle.command_laws.proofs.TurnTells.{is_reply}
+use Rattle.command_laws.specs.Served.{IsAnsweredAlone, IsCommittedAlone, IsServed, LoneAreCommitted}
+
+-- signals that one host alone sent were taken from that host
+pub steps_from_one : (start : Start) (test : Place → Body → Bool) (i : ℕ) → ((to : Place) (body : Body) → test to body ≡ true → is_request body ≡ false) → (newer : List LogStep)
+    → ((k : ℕ) → k ≢ i → taken_since start test k newer ≡ 0) → steps test newer ≤ taken_since start test i newer
+steps_from_one start test i plain [] none = omega arith
+steps_from_one start test i plain (e ∷ newer) none = by (test e.taken.to e.taken.body) refl (steps_from_one start test i plain newer (λ k differs. omega (arith, none k differs)))
+  where
+    from : (k : ℕ) → e.taken.from.0 ≡ k → test e.taken.to e.taken.body ≡ true → (is_from (machine start) k e && test e.taken.to e.taken.body) ≡ true
+    from k at is = all_three (is_request e.taken.body) (e.taken.from.0 == k) (test e.taken.to e.taken.body) (plain e.taken.to e.taken.body is) (grind (arith, nat_tests, at)) is
+
+    by : (b : Bool) → test e.taken.to e.taken.body ≡ b → steps test newer ≤ taken_since start test i newer → one_if b + steps test newer ≤ taken_since start test i (e ∷ newer)
+    by false is less = omega (arith, less)
+    by true is less = at (cases_eq e.taken.from.0 i)
+      where
+        at : (e.taken.from.0 ≡ i) ⊎ (e.taken.from.0 ≢ i) → one_if true + steps test newer ≤ taken_since start test i (e ∷ newer)
+        at (inl same) = omega (arith, less, ap one_if (from i same is))
+        at (inr differs) = absurd (omega (arith, none e.taken.from.0 differs, ap one_if (from e.taken.from.0 refl is)))
+
+request_plain_key : (tx : TxId) (to : Place) (body : Body) → is_key tx to body ≡ true → is_request body ≡ false
+request_plain_key tx to body is = plain body (last_of (is_tc to.block) (key_of_tx tx body) is)
+  where
+    last_of : (a b : Bool) → (a && b) ≡ true → b ≡ true
+    last_of true b e = e
+    last_of false b e = cc
+
+    plain : (b : Body) → key_of_tx tx b ≡ true → is_request b ≡ false
+    plain (Client (TcKeyReq other op)) e = refl
+    plain _ e = cc
+
+no_key_node : (tx : TxId) (to : Place) (body : Body) → is_node_kind body ≡ true → is_key tx to body ≡ false
+no_key_node tx to body e = by (is_tc to.block) (plain body e)
+  where
+    plain : (b : Body) → is_node_kind b ≡ true → key_of_tx tx b ≡ false
+    plain (Client (TcKeyReq one op)) k = cc
+    plain _ k = refl
+
+    by : (a : Bool) → key_of_tx tx body ≡ false → (a && key_of_tx tx body) ≡ false
+    by true p = p
+    by false p = refl
+
+no_wish_node : (tx : TxId) (to : Place) (body : Body) → is_node_kind body ≡ true → is_wish_back_to tx to body ≡ false
+no_wish_node tx to body e = by (is_tc to.block) (plain body e)
+  where
+    plain : (b : Body) → is_node_kind b ≡ true → wish_back_of tx b ≡ false
+    plain (Client (TcRollbackReq one)) k = cc
+    plain _ k = refl
+
+    by : (a : Bool) → wish_back_of tx body ≡ false → (a && wish_back_of tx body) ≡ false
+    by true p = p
+    by false p = refl
+
+request_plain_wish : (tx : TxId) (to : Place) (body : Body) → is_request body ≡ true → is_wish_back_to tx to body ≡ false
+request_plain_wish tx to body is = by (is_tc to.block) (plain body is)
+  where
+    plain : (b : Body) → is_request b ≡ true → wish_back_of tx b ≡ false
+    plain (Client (TcRollbackReq one)) r = cc
+    plain _ r = refl
+
+    by : (a : Bool) → wish_back_of tx body ≡ false → (a && wish_back_of tx body) ≡ false
+    by true p = p
+    by false p = refl
+
+fewer_asked : (tx : TxId) (live : List (TxId × Transaction)) → tally (is_asked tx) live ≤ tally (is_keyed tx) live
+fewer_asked tx [] = omega arith
+fewer_asked tx (e ∷ live) = omega (arith, fewer_asked tx live, few (same_tx e.0 tx) (is_some e.1.asked))
+  where
+    few : (a b : Bool) → one_if (a && b) ≤ one_if a
+    few true true = omega arith
+    few true false = omega arith
+    few false b = omega arith
+
+module _ (start : Start) (was now : ℕ → List LogStep) (op : Op) (served : IsServed start was now (Operate None op)) where
+  f : IsFirst start was now (Operate None op)
+  f = request_first start was now (Operate None op) served
+
+  abbrev cut : IsCut was now
+  cut = cut_at_first was now f.later f.first f.is served.cut
+
+  module _ (tx : TxId) where
+    first : LoneFirst tx (after start 0 (was 0)) (step_after start 0 (was 0) f.first)
+    first =
+        subst (λ (to : Place). LoneFirst tx (after start 0 (was 0)) (row (after start 0 (was 0)) to f.first.taken.body)) (sym f.place)
+        (subst (λ body. LoneFirst tx (after start 0 (was 0)) (row (after start 0 (was 0)) client body)) (sym f.body) (lone_first tx (after start 0 (was 0)) op))
+
+    -- nobody wishes for its abort
+    no_wishes : (h : ℕ) → sent_since start (is_wish_back_to tx) h (cut h).newer (was h) ≡ 0
+    no_wishes zero =
+        omega (arith, sent_append start (is_wish_back_to tx) 0 f.later (f.first ∷ []) (was 0), (asks_since tx start f.later (f.first ∷ was 0) f.plain).0, first.wishes)
+    no_wishes (suc h) = node_since start (is_wish_back_to tx) (no_wish_node tx) h (cut (suc h)).newer (was (suc h))
+
+    plain_wish : (e : LogStep) → (is_request e.taken.body ≡ false → is_wish_back_to tx e.taken.to e.taken.body ≡ false) → is_wish_back_to tx e.taken.to e.taken.body ≡ false
+    plain_wish e none = by (is_request e.taken.body) refl
+      where
+        by : (b : Bool) → is_request e.taken.body ≡ b → is_wish_back_to tx e.taken.to e.taken.body ≡ false
+        by true is = request_plain_wish tx e.taken.to e.taken.body is
+        by false is = none is
+
+    none_wished : (h : ℕ) → Each (λ (e : LogStep). is_wish_back_to tx e.taken.to e.taken.body ≡ false) (cut h).newer
+    none_wished h =
+        each_map (λ (e : LogStep). is_request e.taken.body ≡ false → is_wish_back_to tx e.taken.to e.taken.body ≡ false) (λ (e : LogStep). is_wish_back_to tx e.taken.to e.taken.body ≡ false) (cut h).newer
+        plain_wish (none_taken start was now served.before served.since cut (is_wish_back_to tx) no_wishes h)
+
+    -- an operation is asked for at most once since it has begun
+    few_keys : (h : ℕ) → steps (is_key tx) (cut (suc h)).newer ≤ steps (is_start tx) f.later
+    few_keys h =
+        omega (
+          arith,
+          steps_from_one start (is_key tx) 0 (request_plain_key tx) (cut (suc h)).newer (λ k differs. other k differs),
+          few_taken start was now served.before served.since cut (is_key tx) 0 (suc h),
+          sent_append start (is_key tx) 0 f.later (f.first ∷ []) (was 0),
+          (asks_since tx start f.later (f.first ∷ was 0) f.plain).1,
+          first.keys,
+        )
+      where
+        other : (k : ℕ) → k ≢ 0 → taken_since start (is_key tx) k (cut (suc h)).newer ≡ 0
+        other zero differs = absurd (differs refl)
+        other (suc k) differs =
+            omega (arith, few_taken start was now served.before served.since cut (is_key tx) (suc k) (suc h), node_since start (is_key tx) (no_key_node tx) k (cut (suc k)).newer (was (suc k)))
+
+    starts_apart : steps (is_start tx) f.later + steps (is_start tx) (was 0) ≤ 1
+    starts_apart =
+        omega (
+          arith,
+          once_started start tx now served.since,
+          ap (steps (is_start tx)) f.is,
+          tally_append (λ (e : LogStep). is_start tx e.taken.to e.taken.body) f.later (f.first ∷ was 0),
+        )
+
+    module _ (h : ℕ) (low : suc h < hosts start) where
+      n : NodeKeeps start tx h (was (suc h))
+      n = keeps start tx h (was (suc h))
+
+      asked : ℕ
+      asked = tally (is_asked tx) n.state.tc.live
+
+      few_asked : asked ≤ steps (is_start tx) (was 0)
+      unfolding asked
+      few_asked =
+          omega (
+            arith,
+            fewer_asked tx n.state.tc.live,
+            n.keeps.began,
+            ap (signals (is_start tx)) (served.before.quiet (suc h) 0 low (omega arith)),
+            taken_steps start (is_start tx) (suc h) (was 0),
+          )
+
+      told : (sent_since start (is_reply tx) (suc h) (cut (suc h)).newer (was (suc h)) ≡ 0) ⊎ (sent_since start (is_back tx) (suc h) (cut (suc h)).newer (was (suc h)) ≡ 0)
+      unfolding asked
+      told = by (after start (suc h) ((cut (suc h)).newer ++ was (suc h))) (tells_since start tx h (cut (suc h)).newer (was (suc h)) asked (none_wished (suc h)) (omega (arith, few_asked, few_keys h, starts_apart))
+          (subst (OnTc (HasTold tx asked 0 0 0)) (sym n.is) (record { fair = omega arith; three = inl (refl, refl) })))
+        where
+          by : (g : host.Host)
+              → OnTc (HasTold tx asked (steps (is_key tx) (cut (suc h)).newer) (sent_since start (is_reply tx) (suc h) (cut (suc h)).newer (was (suc h))) (sent_since start (is_back tx) (suc h) (cut (suc h)).newer (was (suc h)))) g
+              → (sent_since start (is_reply tx) (suc h) (cut (suc h)).newer (was (suc h)) ≡ 0) ⊎ (sent_since start (is_back tx) (suc h) (cut (suc h)).newer (was (suc h)) ≡ 0)
+          by (Shell s) has = absurd has
+          by (Node m) has = three has.three
+            where
+              three : IsOneOfThree tx (sent_since start (is_reply tx) (suc h) (cut (suc h)).newer (was (suc h))) (sent_since start (is_back tx) (suc h) (cut (suc h)).newer (was (suc h))) m.tc → (sent_since start (is_reply tx) (suc h) (cut (suc h)).newer (was (suc h)) ≡ 0) ⊎ (sent_since start (is_back tx) (suc h) (cut (suc h)).newer (was (suc h)) ≡ 0)
+              three (inl none) = inl none.0
+              three (inr (inl firm)) = inr firm.0.1
+              three (inr (inr gone)) = inl gone.0
+
+  no_tx : TxId
+  no_tx = record { tc = 0; start = 0; seq = 0 }
+
+  -- an answer of an operation alone was replied in a step since then
+  answered_step : IsAnsweredAlone start was now → HasLone start f.later (f.first ∷ was 0)
+  answered_step answered = by (lone_since start f.later (f.first ∷ was 0) f.plain)
+    where
+      grown : IsFront (replies_of (after start 0 (was 0))) (replies_of (after start 0 (now 0)))
+      grown = replies_grow start (was 0) (now 0) (served.cut 0)
+
+      since_is : drop (length (replies_of (after start 0 (was 0)))) (replies_of (after start 0 (now 0))) ≡ grown.more
+      since_is = ap (drop (length (replies_of (after start 0 (was 0))))) grown.is ∙ drop-append_seam (replies_of (after start 0 (was 0))) grown.more
+
+      some : 1 ≤ tally is_lone grown.more
+      some = tally_in is_lone (Answered None answered.answer) grown.more (subst (IsIn (Answered None answered.answer)) since_is answered.told) refl
+
+      by : HasLone start f.later (f.first ∷ was 0) ⊎ (tally is_lone (replies_of (after start 0 (f.later ++ f.first ∷ was 0))) ≡ tally is_lone (replies_of (after start 0 (f.first ∷ was 0)))) → HasLone start f.later (f.first ∷ was 0)
+      by (inl l) = l
+      by (inr same) =
+          absurd (omega (
+            arith,
+            some,
+            ap (tally is_lone) grown.is,
+            tally_append is_lone (replies_of (after start 0 (was 0))) grown.more,
+            ap (λ log. tally is_lone (replies_of (after start 0 log))) f.is,
+            same,
+            (first no_tx).lone,
+          ))
+
+  module _ (answered : EachIsAnswered) (l : HasLone start f.later (f.first ∷ was 0)) where
+    now_is : now 0 ≡ l.newer ++ l.step ∷ (l.older ++ f.first ∷ was 0)
+    now_is = f.is ∙ ap (λ w. w ++ f.first ∷ was 0) l.is ∙ append_assoc l.newer (l.step ∷ l.older) (f.first ∷ was 0)
+
+    in_later : IsIn l.step f.later
+    in_later = subst (IsIn l.step) (sym l.is) (in_middle l.newer l.step l.older)
+
+    in_newer : IsIn l.step (f.later ++ f.first ∷ [])
+    in_newer =
+        subst (λ w. IsIn l.step (w ++ f.first ∷ [])) (sym l.is)
+        (subst (IsIn l.step) (sym (append_assoc l.newer (l.step ∷ l.older) (f.first ∷ []))) (in_middle l.newer l.step (l.older ++ f.first ∷ [])))
+
+    logged : IsLog (machine start) 0 (l.step ∷ (l.older ++ f.first ∷ was 0))
+    logged = log_after (machine start) 0 l.newer (l.step ∷ (l.older ++ f.first ∷ was 0)) (subst (IsLog (machine start) 0) now_is (served.since.right.local 0))
+
+    is_answer_here : is_reply l.tx l.step.taken.to l.step.taken.body ≡ true
+    is_answer_here =
+        all (l.step.taken.to.node == 0) (is_api l.step.taken.to.block) (answer_of l.tx l.step.taken.body) (grind (arith, nat_tests, logged.0.at)) l.block
+        (ap (answer_of l.tx) l.lone.about ∙ same_tx-self l.tx)
+      where
+        all : (a b c : Bool) → a ≡ true → b ≡ true → c ≡ true → (a && (b && c)) ≡ true
+        all true true c p q r = r
+        all true false c p q r = cc
+        all false b c p q r = cc
+
+    plain_step : is_request l.step.taken.body ≡ false
+    plain_step = each_in (λ (e : LogStep). is_request e.taken.body ≡ false) l.step f.later f.plain in_later
+
+    was_sent : (i : ℕ) → l.step.taken.from.0 ≡ i → 1 ≤ sent_since start (is_reply l.tx) i (cut i).newer (was i)
+    was_sent i at =
+        let here = all_three (is_request l.step.taken.body) (l.step.taken.from.0 == i) (is_reply l.tx l.step.taken.to l.step.taken.body) plain_step (grind (arith, nat_tests, at)) is_answer_here in
+        let taken = tally_in (λ (e : LogStep). is_from (machine start) i e && is_reply l.tx e.taken.to e.taken.body) l.step (f.later ++ f.first ∷ []) in_newer here in
+        omega (arith, taken, few_taken start was now served.before served.since cut (is_reply l.tx) i 0)
+
+    -- its coordinator answered it, and so no host reports its abort
+    no_backs_at : (k : ℕ) → l.step.taken.from.0 ≡ k → (h : ℕ) → sent_since start (is_back l.tx) h (cut h).newer (was h) ≡ 0
+    no_backs_at k at zero = (since_none start l.tx 0 (cut 0).newer (was 0) (shell_since start l.tx (cut 0).newer (was 0))).1
+    no_backs_at zero at (suc h) = absurd (omega (arith, was_sent zero at, (since_none start l.tx 0 (cut 0).newer (was 0) (shell_since start l.tx (cut 0).newer (was 0))).0))
+    no_backs_at (suc k) at (suc h) = home (cases_eq l.tx.tc (suc k)) (cases_eq l.tx.tc (suc h))
+      where
+        away : (j : ℕ) → l.tx.tc ≢ suc j → (sent_since start (is_reply l.tx) (suc j) (cut (suc j)).newer (was (suc j)) ≡ 0) × (sent_since start (is_back l.tx) (suc j) (cut (suc j)).newer (was (suc j)) ≡ 0)
+        away j differs = since_none start l.tx (suc j) (cut (suc j)).newer (was (suc j)) (away_since start l.tx j differs (cut (suc j)).newer (was (suc j)))
+
+        some : (j : ℕ) → suc k ≡ suc j → 1 ≤ sent_since start (is_reply l.tx) (suc j) (cut (suc j)).newer (was (suc j))
+        some j same = was_sent (suc j) (at ∙ same)
+
+        here : (j : ℕ) → suc k ≡ suc j → (suc j < hosts start) ⊎ (hosts start ≤ suc j) → sent_since start (is_back l.tx) (suc j) (cut (suc j)).newer (was (suc j)) ≡ 0
+        here j same (inl low) = by (told l.tx j low)
+          where
+            by : (sent_since start (is_reply l.tx) (suc j) (cut (suc j)).newer (was (suc j)) ≡ 0) ⊎ (sent_since start (is_back l.tx) (suc j) (cut (suc j)).newer (was (suc j)) ≡ 0)
+                → sent_since start (is_back l.tx) (suc j) (cut (suc j)).newer (was (suc j)) ≡ 0
+            by (inl none) = absurd (omega (arith, none, some j same))
+            by (inr none) = none
+        here j same (inr high) =
+            let none : (cut (suc j)).newer ≡ [] = front_nil (cut (suc j)).newer (was (suc j)) (sym (served.since.within (suc j) high) ∙ (cut (suc j)).is) in
+            ap (λ w. sent_since start (is_back l.tx) (suc j) w (was (suc j))) none
+
+        home : (l.tx.tc ≡ suc k) ⊎ (l.tx.tc ≢ suc k) → (l.tx.tc ≡ suc h) ⊎ (l.tx.tc ≢ suc h) → sent_since start (is_back l.tx) (suc h) (cut (suc h)).newer (was (suc h)) ≡ 0
+        home (inr differs) other = absurd (omega (arith, (away k differs).0, some k refl))
+        home (inl own) (inr differs) = (away h differs).1
+        home (inl own) (inl same) = here h (sym own ∙ same) (cases_lt (suc h) (hosts start))
+
+    none_back : Each (λ (e : LogStep). is_request e.taken.body ≡ false → back_of l.tx e.taken.body ≡ false) (f.later ++ f.first ∷ [])
+    none_back = none_taken start was now served.before served.since cut (is_back l.tx) (no_backs_at l.step.taken.from.0 refl) 0
+
+    later_is : f.later ++ f.first ∷ [] ≡ l.newer ++ (l.step ∷ l.older ++ f.first ∷ [])
+    later_is = ap (λ w. w ++ f.first ∷ []) l.is ∙ append_assoc l.newer (l.step ∷ l.older) (f.first ∷ [])
+
+    still_committing : HasOne l.tx None Committing (opened_after start now) → ⊥
+    still_committing has =
+        subst (λ d. is_answered_by start now d has.item.tx → ⊥) (sym has.does) (λ none. by has.item.tx none)
+        (answered start now has.item served.since has.inside)
+      where
+        by : (o : Option TxId) → is_answered_by start now Committing o → ⊥
+        by (Some one) none = none
+        by None none = none
+
+    plain_newer : Each (λ (e : LogStep). is_request e.taken.body ≡ false) l.newer
+    plain_newer = each_before (λ (e : LogStep). is_request e.taken.body ≡ false) l.newer (l.step ∷ l.older) (subst (Each (λ (e : LogStep). is_request e.taken.body ≡ false)) l.is f.plain)
+
+    none_newer : Each (λ (e : LogStep). is_request e.taken.body ≡ false → back_of l.tx e.taken.body ≡ false) l.newer
+    none_newer =
+        each_before (λ (e : LogStep). is_request e.taken.body ≡ false → back_of l.tx e.taken.body ≡ false) l.newer (l.step ∷ l.older ++ f.first ∷ [])
+        (subst (Each (λ (e : LogStep). is_request e.taken.body ≡ false → back_of l.tx e.taken.body ≡ false)) later_is none_back)
+
+    lone_told : IsCommittedAlone start was now
+    lone_told = by (commit_goes l.tx None start l.newer (l.step ∷ (l.older ++ f.first ∷ was 0)) plain_newer l.lone.has)
+      where
+        past : IsPast (was 0) (l.step ∷ (l.older ++ f.first ∷ was 0))
+        past = record { newer = l.step ∷ l.older ++ f.first ∷ []; is = ap (λ w. l.step ∷ w) (sym (append_assoc l.older (f.first ∷ []) (was 0))) }
+
+        by : HasOne l.tx None Committing (opened_in (after start 0 (l.newer ++ l.step ∷ (l.older ++ f.first ∷ was 0)))) ⊎ HasEnded l.tx None start l.newer (l.step ∷ (l.older ++ f.first ∷ was 0)) → IsCommittedAlone start was now
+        by (inl has) = absurd (still_committing (subst (λ log. HasOne l.tx None Committing (opened_in (after start 0 log))) (sym now_is) has))
+        by (inr ended) =
+            let r = reported start was now served.since l.tx None l.newer (l.step ∷ (l.older ++ f.first ∷ was 0)) now_is past plain_newer none_newer ended in
+            record { epoch = r.epoch; told = r.told }
+
+-- so it is where each command is answered
+pub lone_committed : EachIsAnswered → LoneAreCommitted
+lone_committed each start was now op served answered = lone_told start was now op served each (answered_step start was now op served answered)

@@ -1,0 +1,214 @@
+-- One transaction at its coordinator, from step to step.
+use Rattle.std.proofs.Common.{◌≡◌, ◌⊎◌, ◌<◌, ◌≤◌, ◌+◌, ℕ, zero, suc, Bool, true, false, List, [], ◌∷◌, ◌++◌, refl, sym, ap, ◌∙◌, subst, inl, inr, arith}
+use Rattle.std.proofs.lemmas.List.{append-nil}
+use Rattle.std.specs.Prelude.{Option, None, Some, if◌then◌else◌}
+use Rattle.indexmap.specs.IndexMap.{insert_entry}
+use Rattle.run_theory.specs.Lists.{Each}
+use Rattle.run_theory.proofs.Pasts.{each_map}
+use Rattle.sig_core.specs.declared.log.LogStep.{LogStep}
+use Rattle.sig_core.specs.declared.member.TxId.{TxId}
+use Rattle.sig_core.specs.declared.outs.Outgoing.{Outgoing}
+use Rattle.sig_core.specs.declared.place.BlockId.{BlockId}
+use Rattle.sig_core.specs.declared.place.BlockId.TheVariants as block
+use Rattle.sig_core.specs.declared.place.Place.{Place}
+use Rattle.sig_core.specs.declared.signal.Body.{Body}
+use Rattle.sig_core.specs.declared.signal.Body.TheVariants.{Client}
+use Rattle.sig_core.specs.declared.signal.client.ClientSignal.TheVariants.{TcKeyConf, TcCommitConf, TcRollbackRep}
+use Rattle.sig_core.specs.Same.{same_tx}
+use Rattle.sig_core.specs.Step.{Step}
+use Rattle.api_block.specs.Api.{api_row}
+use Rattle.api_block.specs.State.{ApiState}
+use Rattle.lqh_block.specs.Lqh.{lqh_row}
+use Rattle.node_core.specs.declared.host.Host as host
+use Rattle.node_core.specs.declared.host.Host.TheVariants.{Shell, Node}
+use Rattle.node_core.specs.declared.node.Node as node
+use Rattle.node_core.specs.Dih.{dih_row}
+use Rattle.node_core.specs.Row.{node_row, row, shell_row}
+use Rattle.tc_block.specs.declared.transaction.Transaction.{Transaction}
+use Rattle.tc_block.specs.Operate.{fresh}
+use Rattle.tc_block.specs.State.{TcState}
+use Rattle.tc_block.specs.Tc.{begun, next_tx, tc_row}
+use Rattle.tc_block.specs.Turn.{Turn}
+use Rattle.answer_laws.proofs.ApiMoves.{ApiMove, api_moves, begun_as, ends, goes, is_api_kind, opens, refuses, rests}
+use Rattle.answer_laws.proofs.DihSends.{dih_kinds}
+use Rattle.answer_laws.proofs.LqhSends.{lqh_kinds}
+use Rattle.answer_laws.proofs.SendKinds.{are_of, is_dih_kind, is_lqh_kind, is_tc_kind, none_of}
+use Rattle.answer_laws.proofs.Tally.{one_if, tally, tally_between, tally_append}
+use Rattle.answer_laws.proofs.TcLives.{IsOwn, apart, insert_new, is_keyed}
+use Rattle.answer_laws.proofs.TcMoves.{same_tx-is}
+use Rattle.answer_laws.proofs.TcSends.{same_tx-self, tx_in}
+use Rattle.answer_laws.proofs.Wishes.{is_tc, sends_of}
+use Rattle.transit_laws.specs.Live.{of_host, of_live}
+use Rattle.command_laws.proofs.FirmHosts.{turn_sends}
+use Rattle.command_laws.proofs.Turns.{TakesTurn, TcShape, is_idle_kind, starts, still, tc_shape, turn_by, turns}
+
+-- what the coordinator tells the client of the transaction, once it has begun
+abbrev pub told_of : TxId → Body → Bool
+told_of tx (Client (TcKeyConf other answer)) = same_tx other tx
+told_of tx (Client (TcCommitConf other epoch)) = same_tx other tx
+told_of tx (Client (TcRollbackRep other cause)) = same_tx other tx
+told_of tx _ = false
+
+abbrev pub is_told : TxId → Place → Body → Bool
+is_told tx to body = told_of tx body
+
+-- what is left of a transaction after a turn
+abbrev pub left_by : Turn → Option Transaction
+left_by turn = if turn.over then None else Some turn.step.state
+
+-- what is known of a coordinator's transactions: none stands twice, and their numbers were given before
+pub record IsSound (tx : TxId) (s : TcState) : Type 0 where
+  pub few : tally (is_keyed tx) s.live ≤ 1
+  pub own : Each (λ (e : TxId × Transaction). IsOwn s.node s.next_seq e.0) s.live
+
+-- how the transaction fares in a step of its coordinator: nothing is said of it, or it begins, or it takes its turn
+pub data TcGoes (tx : TxId) (s : TcState) (body : Body) (step : Step TcState) : Type 0 where
+  aside : of_live tx step.state.live ≡ of_live tx s.live → sends_of (is_told tx) step.effects.sends ≡ 0 → s.next_seq ≤ step.state.next_seq → TcGoes tx s body step
+  begins : tx.seq ≡ s.next_seq → of_live tx step.state.live ≡ Some fresh → sends_of (is_told tx) step.effects.sends ≡ 0 → s.next_seq < step.state.next_seq → TcGoes tx s body step
+  takes : (t : Transaction) → tx_in body ≡ tx → of_live tx s.live ≡ Some t → step.effects.sends ≡ (turn_by s tx body t).step.effects.sends
+      → of_live tx step.state.live ≡ left_by (turn_by s tx body t) → s.next_seq ≤ step.state.next_seq → TcGoes tx s body step
+
+module _ (tx : TxId) where
+  none_idle : (to : Place) (body : Body) → is_idle_kind body ≡ true → is_told tx to body ≡ false
+  none_idle to (Client (TcKeyConf other answer)) e = cc
+  none_idle to (Client (TcCommitConf other epoch)) e = cc
+  none_idle to (Client (TcRollbackRep other cause)) e = cc
+  none_idle to _ e = refl
+
+  none_other : (one : TxId) → same_tx one tx ≡ false → (to : Place) (body : Body) → is_tc_kind one body ≡ true → is_told tx to body ≡ false
+  none_other one differs to (Client (TcKeyConf other answer)) e = apart tx one other differs e
+  none_other one differs to (Client (TcCommitConf other epoch)) e = apart tx one other differs e
+  none_other one differs to (Client (TcRollbackRep other cause)) e = apart tx one other differs e
+  none_other one differs to _ e = refl
+
+  pub none_dih : (to : Place) (body : Body) → is_dih_kind body ≡ true → is_told tx to body ≡ false
+  none_dih to (Client (TcKeyConf other answer)) e = cc
+  none_dih to (Client (TcCommitConf other epoch)) e = cc
+  none_dih to (Client (TcRollbackRep other cause)) e = cc
+  none_dih to _ e = refl
+
+  pub none_lqh : (to : Place) (body : Body) → is_lqh_kind body ≡ true → is_told tx to body ≡ false
+  none_lqh to (Client (TcKeyConf other answer)) e = cc
+  none_lqh to (Client (TcCommitConf other epoch)) e = cc
+  none_lqh to (Client (TcRollbackRep other cause)) e = cc
+  none_lqh to _ e = refl
+
+  pub none_api : (to : Place) (body : Body) → is_api_kind body ≡ true → is_told tx to body ≡ false
+  none_api to (Client (TcKeyConf other answer)) e = cc
+  none_api to (Client (TcCommitConf other epoch)) e = cc
+  none_api to (Client (TcRollbackRep other cause)) e = cc
+  none_api to _ e = refl
+
+  -- the transaction behind others
+  behind_none : (xs ys : List (TxId × Transaction)) → tally (is_keyed tx) xs ≡ 0 → of_live tx (xs ++ ys) ≡ of_live tx ys
+  behind_none [] ys none = refl
+  behind_none (x ∷ xs) ys none = by (same_tx x.0 tx) refl (behind_none xs ys (omega (arith, none)))
+    where
+      by : (b : Bool) → same_tx x.0 tx ≡ b → of_live tx (xs ++ ys) ≡ of_live tx ys → (if b then Some x.1 else of_live tx (xs ++ ys)) ≡ of_live tx ys
+      by true e rest = absurd (omega (arith, none, ap one_if e))
+      by false e rest = rest
+
+  none_there : (xs : List (TxId × Transaction)) → tally (is_keyed tx) xs ≡ 0 → of_live tx xs ≡ None
+  none_there [] none = refl
+  none_there (x ∷ xs) none = by (same_tx x.0 tx) refl (none_there xs (omega (arith, none)))
+    where
+      by : (b : Bool) → same_tx x.0 tx ≡ b → of_live tx xs ≡ None → (if b then Some x.1 else of_live tx xs) ≡ None
+      by true e rest = absurd (omega (arith, none, ap one_if e))
+      by false e rest = rest
+
+  -- another one in front of others is passed over
+  past_other : (xs : List (TxId × Transaction)) (one : TxId) (t : Transaction) (ys : List (TxId × Transaction)) → same_tx one tx ≡ false → of_live tx (xs ++ (one, t) ∷ ys) ≡ of_live tx (xs ++ ys)
+  past_other [] one t ys differs = ap (λ b. if b then Some t else of_live tx ys) differs
+  past_other (x ∷ xs) one t ys differs = ap (λ rest. if same_tx x.0 tx then Some x.1 else rest) (past_other xs one t ys differs)
+
+  found_here : (xs : List (TxId × Transaction)) (t : Transaction) (ys : List (TxId × Transaction)) → tally (is_keyed tx) xs ≡ 0 → of_live tx (xs ++ (tx, t) ∷ ys) ≡ Some t
+  found_here xs t ys none = behind_none xs ((tx, t) ∷ ys) none ∙ ap (λ b. if b then Some t else of_live tx ys) (same_tx-self tx)
+
+  module _ (s : TcState) (body : Body) (sound : IsSound tx s) where
+    own_goes : (step : Step TcState) → tx_in body ≡ tx → TakesTurn s (tx_in body) (turn_by s (tx_in body) body) step → TcGoes tx s body step
+    own_goes step same r = with_own (subst (λ one. TakesTurn s one (turn_by s one body) step) same r)
+      where
+        with_own : TakesTurn s tx (turn_by s tx body) step → TcGoes tx s body step
+        with_own r = by (turn_by s tx body r.t).over refl
+          where
+            count : tally (is_keyed tx) (r.front ++ r.back) ≡ 0
+            count = omega (arith, sound.few, tally_between (is_keyed tx) r.front (tx, r.t) r.back s.live r.is, ap one_if (same_tx-self tx))
+
+            front_none : tally (is_keyed tx) r.front ≡ 0
+            front_none = omega (arith, count, tally_append (is_keyed tx) r.front r.back)
+
+            was : of_live tx s.live ≡ Some r.t
+            was = ap (of_live tx) r.is ∙ found_here r.front r.t r.back front_none
+
+            by : (b : Bool) → (turn_by s tx body r.t).over ≡ b → TcGoes tx s body step
+            by true over =
+                takes r.t same was (ap (λ effects. effects.sends) r.effects)
+                (ap (λ (state : TcState). of_live tx state.live) (r.ends over) ∙ none_there (r.front ++ r.back) count ∙ sym (ap (λ b. if b then None else Some (turn_by s tx body r.t).step.state) over))
+                (omega (arith, ap (λ (state : TcState). state.next_seq) (r.ends over)))
+            by false over =
+                takes r.t same was (ap (λ effects. effects.sends) r.effects)
+                (ap (λ (state : TcState). of_live tx state.live) (r.goes over) ∙ found_here r.front (turn_by s tx body r.t).step.state r.back front_none
+                ∙ sym (ap (λ b. if b then None else Some (turn_by s tx body r.t).step.state) over))
+                (omega (arith, ap (λ (state : TcState). state.next_seq) (r.goes over)))
+
+    other_goes : (step : Step TcState) → same_tx (tx_in body) tx ≡ false → TakesTurn s (tx_in body) (turn_by s (tx_in body) body) step → TcGoes tx s body step
+    other_goes step differs r = by (turn_by s (tx_in body) body r.t).over refl
+      where
+        quiet : sends_of (is_told tx) step.effects.sends ≡ 0
+        quiet =
+            ap (λ effects. sends_of (is_told tx) effects.sends) r.effects
+            ∙ none_of (is_tc_kind (tx_in body)) (is_told tx) (none_other (tx_in body) differs) (turn_by s (tx_in body) body r.t).step.effects.sends (turn_sends s (tx_in body) body r.t)
+
+        was : of_live tx s.live ≡ of_live tx (r.front ++ r.back)
+        was = ap (of_live tx) r.is ∙ past_other r.front (tx_in body) r.t r.back differs
+
+        by : (b : Bool) → (turn_by s (tx_in body) body r.t).over ≡ b → TcGoes tx s body step
+        by true over =
+            aside (ap (λ (state : TcState). of_live tx state.live) (r.ends over) ∙ sym was) quiet (omega (arith, ap (λ (state : TcState). state.next_seq) (r.ends over)))
+        by false over =
+            aside
+            (ap (λ (state : TcState). of_live tx state.live) (r.goes over) ∙ past_other r.front (tx_in body) (turn_by s (tx_in body) body r.t).step.state r.back differs ∙ sym was) quiet
+            (omega (arith, ap (λ (state : TcState). state.next_seq) (r.goes over)))
+
+    -- a transaction that begins stands last
+    newest : insert_entry same_tx s.live (next_tx s) fresh ≡ s.live ++ (next_tx s, fresh) ∷ []
+    newest =
+        insert_new s.live (next_tx s) fresh
+        (each_map (λ (e : TxId × Transaction). IsOwn s.node s.next_seq e.0) (λ (e : TxId × Transaction). e.0.seq < s.next_seq) s.live (λ e own. own.early) sound.own)
+
+    none_yet : tx.seq ≡ s.next_seq → (live : List (TxId × Transaction)) → Each (λ (e : TxId × Transaction). IsOwn s.node s.next_seq e.0) live → tally (is_keyed tx) live ≡ 0
+    none_yet is [] own = refl
+    none_yet is (e ∷ live) own = by (same_tx e.0 tx) refl (none_yet is live own.1)
+      where
+        by : (b : Bool) → same_tx e.0 tx ≡ b → tally (is_keyed tx) live ≡ 0 → one_if b + tally (is_keyed tx) live ≡ 0
+        by true same rest = absurd (omega (arith, own.0.early, ap (λ (v : TxId). v.seq) (same_tx-is e.0 tx same), is))
+        by false same rest = omega (arith, rest)
+
+    start_goes : (step : Step TcState) → step.state ≡ begun s → sends_of (is_told tx) step.effects.sends ≡ 0 → TcGoes tx s body step
+    start_goes step is quiet = by (same_tx (next_tx s) tx) refl
+      where
+        now : of_live tx step.state.live ≡ of_live tx (s.live ++ (next_tx s, fresh) ∷ [])
+        now = ap (λ (state : TcState). of_live tx state.live) is ∙ ap (of_live tx) newest
+
+        by : (b : Bool) → same_tx (next_tx s) tx ≡ b → TcGoes tx s body step
+        by true same =
+            let own : next_tx s ≡ tx = same_tx-is (next_tx s) tx same in
+            let number : tx.seq ≡ s.next_seq = ap (λ (v : TxId). v.seq) (sym own) in
+            begins number
+            (now ∙ ap (λ v. of_live tx (s.live ++ (v, fresh) ∷ [])) own ∙ found_here s.live fresh [] (none_yet number s.live sound.own)) quiet
+            (omega (arith, ap (λ (state : TcState). state.next_seq) is))
+        by false differs =
+            aside (now ∙ past_other s.live (next_tx s) fresh [] differs ∙ ap (of_live tx) (append-nil s.live)) quiet (omega (arith, ap (λ (state : TcState). state.next_seq) is))
+
+    shape_goes : (step : Step TcState) → TcShape s (tx_in body) (turn_by s (tx_in body) body) step → TcGoes tx s body step
+    shape_goes step (still is kind) =
+        aside (ap (λ (state : TcState). of_live tx state.live) is) (none_of is_idle_kind (is_told tx) none_idle step.effects.sends kind) (omega (arith, ap (λ (state : TcState). state.next_seq) is))
+    shape_goes step (starts name is told) = start_goes step is (ap (sends_of (is_told tx)) told)
+    shape_goes step (turns r) = by (same_tx (tx_in body) tx) refl
+      where
+        by : (b : Bool) → same_tx (tx_in body) tx ≡ b → TcGoes tx s body step
+        by true same = own_goes step (same_tx-is (tx_in body) tx same) r
+        by false differs = other_goes step differs r
+
+    pub tc_goes : TcGoes tx s body (tc_row s body)
+    tc_goes = shape_goes (tc_row s body) (tc_shape s body)
