@@ -9,6 +9,7 @@ use Rattle.run_theory.specs.Runs.{log_of}
 use Rattle.run_theory.proofs.Merging.{logs_merged, merged_run}
 use Rattle.run_theory.proofs.Pasts.{each_in}
 use Rattle.sig_core.specs.declared.log.LogStep.{LogStep}
+use Rattle.sig_core.specs.declared.member.Member.{Member}
 use Rattle.sig_core.specs.declared.member.TxId.{TxId}
 use Rattle.sig_core.specs.declared.signal.Signal.{Signal}
 use Rattle.sig_core.specs.Chain.{node_at}
@@ -50,6 +51,7 @@ use Rattle.transit_laws.specs.Routes.{AreRouted, IsAskedRouted, IsHostRouted, Is
 use Rattle.transit_laws.specs.Tokens.{budget, budget_by, budget_of, tokens, waiting_all, waiting_in}
 use Rattle.transit_laws.specs.Transit.{AreInTransit, IsRun}
 use Rattle.command_laws.specs.Holders.{AbortsAskAtQuiet}
+use Rattle.command_laws.specs.Served.{EachIsHeldUp, IsHeldUp, IsHeldUpAt}
 
 -- the one of the list that has the key
 of_in : (live : Live) (tx : TxId) (t : Transaction) → KeysOnce live → IsIn (tx, t) live → of_live tx live ≡ Some t
@@ -347,3 +349,46 @@ module _ (answered_all : EachIsAnswered) (aborts : AbortsAskAtQuiet) (start : St
 
   pub waits_held : WaitsHeld start logs t
   waits_held = held_by sent (has_asked sent.tx (here sent).transaction (home sent) (run sent) (home_low sent) (here sent).live (some sent))
+
+-- the member at a place of a chain
+record MemberAt (chain : List Member) (at : ℕ) : Type 0 where
+  member : Member
+  inside : IsIn member chain
+  is : node_at chain at ≡ member.node
+
+member_at : (chain : List Member) (at : ℕ) → at < length chain → MemberAt chain at
+member_at [] at low = absurd (omega (arith, low))
+member_at (m ∷ chain) zero low = record { member = m; inside = inl refl; is = refl }
+member_at (m ∷ chain) (suc at) low =
+    let rest = member_at chain at (omega (arith, low)) in
+    record { member = rest.member; inside = inr rest.inside; is = rest.is }
+
+-- so each transaction whose operation was sent is held up
+pub each_held_up : EachIsAnswered → AbortsAskAtQuiet → EachIsHeldUp
+each_held_up answered_all aborts start logs t quiet inside tx is does = by w.tx w.is refl
+  where
+    w : WaitsHeld start logs t
+    w = waits_held answered_all aborts start logs t quiet inside (ap is_unanswered does)
+
+    m : MemberAt w.asked.chain w.at
+    m = member_at w.asked.chain w.at w.inside
+
+    held : IsHeldUpAt w.tx (key_of w.asked.op) (after start m.member.node (logs m.member.node))
+    held =
+        subst (λ k. IsHeldUpAt w.tx (key_of w.asked.op) (after start k (logs k))) (w.place ∙ m.is)
+        (subst (IsHeldUpAt w.tx (key_of w.asked.op)) (sym w.there) (ap is_some w.held))
+
+    here : IsHeldUp start logs w.tx
+    here = record {
+      transaction = w.transaction;
+      live = subst (IsLiveAs w.tx w.transaction) (sym w.at_home.is) w.at_home.live;
+      asked = w.asked;
+      unanswered = w.asks;
+      member = m.member;
+      inside = m.inside;
+      held = held;
+    }
+
+    by : (one : TxId) → t.tx ≡ Some one → w.tx ≡ one → IsHeldUp start logs tx
+    by one e same = let both : Some one ≡ Some tx = sym e ∙ is in
+        let which : one ≡ tx = cc in subst (IsHeldUp start logs) (same ∙ which) here
