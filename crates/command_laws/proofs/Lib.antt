@@ -15,6 +15,7 @@ pub mod OwnEntry
 pub mod PhaseSends
 pub mod Places
 pub mod Pushes
+pub mod Refusals
 pub mod Reported
 pub mod Since
 pub mod SinceKinds
