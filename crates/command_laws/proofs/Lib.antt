@@ -16,6 +16,7 @@ pub mod PhaseSends
 pub mod Places
 pub mod Pushes
 pub mod Refusals
+pub mod RefusalsFair
 pub mod Reported
 pub mod Since
 pub mod SinceKinds
