@@ -67,7 +67,7 @@ pub record StaysMild (turn : Turn) : Type 0 where
   pub sends : are_of is_mild_kind turn.step.effects.sends ≡ true
 
 -- an operation that is refused while the transaction takes operations is so for what a replica may
-pub IsFairHere : Phase → Body → Type 0
+abbrev pub IsFairHere : Phase → Body → Type 0
 IsFairHere phase body = (tx : TxId) (key : List ℕ) (why : AbortCause) → body ≡ Chain (LqhKeyRef tx key why) → phase ≡ Open → is_refusal why ≡ true
 
 module _ (node : ℕ) (view : View) (tx : TxId) (t : Transaction) (mild : is_mild t.phase ≡ true) where
@@ -189,7 +189,6 @@ module _ (node : ℕ) (view : View) (tx : TxId) (t : Transaction) (mild : is_mil
       by (Completing epoch awaited) is = stays
 
 pub mild_turn : (s : TcState) (tx : TxId) (body : Body) (t : Transaction) → is_stop body ≡ false → IsFairHere t.phase body → is_mild t.phase ≡ true → StaysMild (turn_by s tx body t)
-unfolding IsFairHere
 mild_turn s tx (Host (Continue (work.Transaction one) at)) t plain fair mild = go_on_mild s.node s.view tx t mild at
 mild_turn s tx (Client (TcKeyReq one op)) t plain fair mild = operate_mild s.node s.view tx t mild op
 mild_turn s tx (Client (TcCommitReq one)) t plain fair mild = cc

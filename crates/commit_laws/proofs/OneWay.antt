@@ -4,8 +4,8 @@ use Rattle.std.specs.List.{list_any}
 use Rattle.std.specs.Map.{values_of}
 use Rattle.std.specs.Prelude.{◌||◌, Option, None, Some, is_some, slice_get, nat_eq}
 use Rattle.std.proofs.lemmas.Bool.{and_right, ne_eqb, or_cases}
-use Rattle.run_theory.specs.Lists.{Each}
-use Rattle.run_theory.proofs.Pasts.{each_after, each_append, each_before, each_map}
+use Rattle.run_theory.specs.Lists.{Each, IsIn}
+use Rattle.run_theory.proofs.Pasts.{each_after, each_append, each_before, each_in, each_map}
 use Rattle.sig_core.specs.declared.log.LogStep.{LogStep}
 use Rattle.sig_core.specs.declared.member.TxId.{TxId}
 use Rattle.sig_core.specs.declared.outs.Outgoing.{Outgoing}
@@ -423,3 +423,21 @@ coordinators_one_way start h log = one_apart (after start h log) (sent_ways star
 
 pub coordinators_say : CoordinatorsSay
 coordinators_say start h log e = (host_one (after start h log) e.taken.to e.taken.body (sent_ways start forth_by h log) (sent_ways start back_by h log) (log_one start h log)).says
+
+none_any : (tx : TxId) (bs : List TxId) → NotIn tx bs → list_any (same_tx tx) bs ≡ false
+none_any tx [] none = refl
+none_any tx (v ∷ bs) none = ap (λ b. b || list_any (same_tx tx) bs) (same_tx-swap tx v ∙ none.0) ∙ none_any tx bs none.1
+
+host_back : (s : host.Host) (n : node.Node) (cs bs : List TxId) (tx : TxId) (t : Transaction) → s ≡ Node n → HostIsOneWay s cs bs → IsIn (tx, t) n.tc.live → is_aborting t.phase ≡ false
+    → list_any (same_tx tx) bs ≡ false
+host_back (Shell s) n cs bs tx t is one live off = absurd cc
+host_back (Node m) n cs bs tx t is one live off =
+    let same : m ≡ n = cc in
+    let there : IsIn (tx, t) m.tc.live = subst (λ (x : node.Node). IsIn (tx, t) x.tc.live) (sym same) live in
+    none_any tx bs ((each_in (IsLive m.tc.node m.tc.next_seq cs bs) (tx, t) m.tc.live one.live there).unaborted off)
+
+-- a transaction that isn't aborted is none of those that its coordinator took back
+pub live_not_back : (start : Start) (h : ℕ) (log : List LogStep) (n : node.Node) (tx : TxId) (t : Transaction) → after start h log ≡ Node n → IsIn (tx, t) n.tc.live → is_aborting t.phase ≡ false
+    → list_any (same_tx tx) (sent_ways start back_by h log) ≡ false
+live_not_back start h log n tx t is live off =
+    host_back (after start h log) n (sent_ways start forth_by h log) (sent_ways start back_by h log) tx t is (log_one start h log) live off
