@@ -11,6 +11,7 @@ pub mod First
 pub mod HoldersTold
 pub mod LoneAsks
 pub mod LoneCommitted
+pub mod MildSince
 pub mod MildTurns
 pub mod OwnEntry
 pub mod PhaseSends
