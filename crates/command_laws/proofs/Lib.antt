@@ -13,6 +13,8 @@ pub mod LoneAsks
 pub mod LoneCommitted
 pub mod MildSince
 pub mod MildTurns
+pub mod OperateFirst
+pub mod OperateGoes
 pub mod OwnEntry
 pub mod PhaseSends
 pub mod Places
