@@ -163,3 +163,54 @@ module _ (tx : TxId) where
       next before =
           let kept = host_named (after start 0 (later ++ log)) e.taken.to e.taken.body plain.0 before.0.0 before.0.1 in
           ((kept.calm, kept.named), omega (arith, kept.stops, before.1))
+
+module _ (s : ApiState) (name : ℕ) (op : Op) (t : OpenTransaction) (tx : TxId) (ready : t.doing ≡ Ready) (own : t.tx ≡ Some tx) (few : t.operations < 64) where
+  -- the row where the name is found
+  operate_found : (f : IsNamed s.opened name t) → operate_row s name op ≡ key_request (about (changing s f.at (operating t)) (Some (Some name))) tx op
+  unfolding operate_row
+  operate_found f =
+      let low : nat_lt t.operations 64 ≡ true = grind (arith, nat_tests, few) in
+      ap (where_at s.opened (refused s (Some name) NotOpen) (λ at (u : OpenTransaction). operate_by s name op at u u.doing u.tx)) f.place
+      ∙ ap (if_there (refused s (Some name) NotOpen) (λ (u : OpenTransaction). operate_by s name op f.at u u.doing u.tx)) f.get
+      ∙ ap (λ (d : Doing). operate_by s name op f.at t d t.tx) ready ∙ ap (operate_by s name op f.at t Ready) own ∙ ap (operate_if s name op f.at t tx) low
+
+-- after it the operation was sent, and nobody asks for the end
+pub record IsSent (tx : TxId) (name : ℕ) (step : Step host.Host) : Type 0 where
+  pub has : HasOne tx (Some name) Operating (opened_in step.state)
+  pub keeps : KeepsNamed tx (opened_in step.state) step.effects.sends
+
+pub operate_first : (g : host.Host) (name : ℕ) (op : Op) (t : OpenTransaction) (tx : TxId) → named_in (opened_in g) name ≡ Some t → t.doing ≡ Ready → t.tx ≡ Some tx → t.operations < 64
+    → NoneBegins (opened_in g) → AllNamed tx (opened_in g) → IsSent tx name (row g client (Host (Continue (work.Request (request.Operate (Some name) op)) 0)))
+unfolding row shell_row request_row
+operate_first (Shell s) name op t tx is ready own few calm named = record {
+  has = record {
+    item = operating t;
+    inside = subst (IsIn (operating t)) (sym opened) (in_middle f.focus.front (operating t) f.focus.back);
+    own = own;
+    called = f.called;
+    does = refl;
+  };
+  keeps = record {
+    calm = subst NoneBegins (sym opened) (each_changed (λ (u : OpenTransaction). is_beginning u.doing ≡ false) f.focus.front f.focus.item (operating t) f.focus.back s.opened f.focus.is calm (λ before. refl));
+    named = subst (AllNamed tx) (sym opened)
+        (each_changed (λ (x : OpenTransaction). has_tx tx x ≡ true → is_some x.name ≡ true) f.focus.front f.focus.item (operating t) f.focus.back s.opened f.focus.is named (λ before has. ap is_some f.called));
+    stops = ap (λ (step : Step ApiState). sends_of (is_stop_to tx) step.effects.sends) (operate_found s name op t tx ready own few f);
+  };
+}
+  where
+    f : IsNamed s.opened name t
+    f = named_found s.opened name t is
+
+    opened : (operate_row s name op).state.opened ≡ f.focus.front ++ operating t ∷ f.focus.back
+    opened = ap (λ (step : Step ApiState). step.state.opened) (operate_found s name op t tx ready own few f) ∙ f.focus.set (operating t)
+operate_first (Node n) name op t tx is ready own few calm named = cc
+
+-- where only one of them is the transaction, and that has a name, each has
+pub one_named : (tx : TxId) (opened : List OpenTransaction) (t : OpenTransaction) (name : ℕ) → tally (has_tx tx) opened ≤ 1 → IsIn t opened → t.tx ≡ Some tx → t.name ≡ Some name → AllNamed tx opened
+one_named tx opened t name few inside own called =
+    each_from (λ (x : OpenTransaction). has_tx tx x ≡ true → is_some x.name ≡ true) opened one
+  where
+    one : (x : OpenTransaction) → IsIn x opened → has_tx tx x ≡ true → is_some x.name ≡ true
+    one x there has =
+        let same : x ≡ t = only_one (has_tx tx) opened x t few there inside has (ap (is_tx tx) own ∙ same_tx-self tx) in
+        ap (λ (u : OpenTransaction). is_some u.name) same ∙ ap is_some called
