@@ -40,7 +40,7 @@ module _ (start : Start) (tx : TxId) where
     pub one_keyed : (a b : TxId × Transaction) → IsIn a kept.state.tc.live → IsIn b kept.state.tc.live → same_tx a.0 tx ≡ true → same_tx b.0 tx ≡ true → a ≡ b
     one_keyed a b left right own other = only_one (is_keyed tx) kept.state.tc.live a b (omega (arith, kept.keeps.began, kept.keeps.once)) left right own other
 
-  open_at : (g : host.Host) (n : node.Node) → g ≡ Node n → IsOpenAt tx g → IsOpen tx n.tc
+  pub open_at : (g : host.Host) (n : node.Node) → g ≡ Node n → IsOpenAt tx g → IsOpen tx n.tc
   open_at (Node m) n is o = subst (λ s. IsOpen tx s) (ap (λ (k : node.Node). k.tc) (same_node m n is)) o
   open_at (Shell s) n is o = cc
 

@@ -62,7 +62,7 @@ node_sends test (Shell s) n to body is some = cc
 node_sends test (Node m) n to body is some = let same : m ≡ n = cc in subst (λ (x : node.Node). 1 ≤ sends_of test (node_row x to.block body).effects.sends) (sym same) some
 
 -- the coordinator of a sound host has no transaction twice
-keys_once : (g : host.Host) (n : node.Node) (bs : List TxId) → g ≡ Node n → IsSoundHost g bs → KeysOnce n.tc.live
+pub keys_once : (g : host.Host) (n : node.Node) (bs : List TxId) → g ≡ Node n → IsSoundHost g bs → KeysOnce n.tc.live
 keys_once (Shell s) n bs is sound = cc
 keys_once (Node m) n bs is sound = let same : m ≡ n = cc in subst (λ (x : node.Node). KeysOnce x.tc.live) same sound.0.once
 

@@ -15,6 +15,7 @@ pub mod MildSince
 pub mod MildTurns
 pub mod OperateFirst
 pub mod OperateGoes
+pub mod OperationsAnswered
 pub mod OwnEntry
 pub mod PhaseSends
 pub mod Places

@@ -144,6 +144,10 @@ module _ (tx : TxId) where
     pub mild : mild_in (of_live tx s.live) ≡ true
     pub begun : tx.seq < s.next_seq
 
+  -- one that takes operations is so
+  pub is_mild_live : (s : TcState) (t : Transaction) → of_live tx s.live ≡ Some t → t.phase ≡ Open → tx.seq < s.next_seq → IsMildAt s
+  is_mild_live s t is opened early = record { mild = ap mild_in is ∙ ap is_mild opened; begun = early }
+
   record KeepsMild (state : TcState) (sends : List Outgoing) : Type 0 where
     at : IsMildAt state
     right : sends_of (is_wrong tx) sends ≡ 0

@@ -54,7 +54,7 @@ use Rattle.command_laws.specs.Holders.{AbortsAskAtQuiet}
 use Rattle.command_laws.specs.Served.{EachIsHeldUp, IsHeldUp, IsHeldUpAt}
 
 -- the one of the list that has the key
-of_in : (live : Live) (tx : TxId) (t : Transaction) → KeysOnce live → IsIn (tx, t) live → of_live tx live ≡ Some t
+pub of_in : (live : Live) (tx : TxId) (t : Transaction) → KeysOnce live → IsIn (tx, t) live → of_live tx live ≡ Some t
 of_in [] tx t once inside = absurd inside
 of_in (e ∷ live) tx t once (inl same) =
     ap (λ (x : TxId × Transaction). if same_tx x.0 tx then Some x.1 else of_live tx live) (sym same) ∙ ap (λ b. if b then Some t else of_live tx live) (same_tx-self tx)
