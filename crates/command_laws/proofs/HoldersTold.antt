@@ -44,7 +44,6 @@ use Rattle.command_laws.proofs.Arrives.{Came, passes_on}
 use Rattle.command_laws.proofs.First.{IsFirst, request_first}
 use Rattle.command_laws.proofs.OwnEntry.{Asks, HasOwn, IsOwnAt, Tells, host_waits, own_found, pending_tells, waits_asks}
 use Rattle.command_laws.proofs.OwnEntry as entry
-use Rattle.command_laws.proofs.Since.{none_counted}
 use Rattle.command_laws.proofs.SinceKinds.{SinceAre, since_are}
 use Rattle.command_laws.proofs.Told.{told_since}
 use Rattle.command_laws.proofs.WaitKinds.{is_telling, is_wait, node_same, wait_closed}
@@ -74,8 +73,8 @@ module _ (start : Start) (tx : TxId) where
       let before = node_stays h newer log n kinds.1 is in
       node_same tx (after start h (newer ++ log)) n e.taken.to e.taken.body before kinds.0 ∙ before
 
-  module _ (name : Option ℕ) (front back : List OpenTransaction) (before : Each (λ (x : OpenTransaction). is_named name x ≡ false) front) (t : OpenTransaction) (own_tx : t.tx ≡ Some tx)
-    (alone : Each (λ (x : OpenTransaction). has_tx tx x ≡ false) front) (itself : has_tx tx t ≡ true) where
+  module _ (name : Option ℕ) (front back : List OpenTransaction) (before : tally (is_named name) front ≡ 0) (t : OpenTransaction) (own_tx : t.tx ≡ Some tx)
+    (alone : tally (has_tx tx) front ≡ 0) (itself : has_tx tx t ≡ true) where
     -- at the shell's host the transaction stands in its place, and once it is told whom it waits for that is known
     record Stands (later log : List LogStep) : Type 0 where
       ahead : Option TxId
@@ -120,17 +119,16 @@ module _ (answered : EachIsAnswered) (aborts : AbortsAskAtQuiet) (start : Start)
   itself : has_tx held.tx t ≡ true
   itself = ap (is_tx held.tx) held.is ∙ same_tx-self held.tx
 
-  alone : Each (λ (x : OpenTransaction). has_tx held.tx x ≡ false) own.front
+  alone : tally (has_tx held.tx) own.front ≡ 0
   alone =
-      none_counted (has_tx held.tx) own.front
-      (omega (
+      omega (
         arith,
         (holds_at start held.tx was first.before).few,
         once_started start held.tx was first.before,
         ap (tally (has_tx held.tx)) opened_is,
         tally_append (has_tx held.tx) own.front (t ∷ own.back),
         ap one_if itself,
-      ))
+      )
 
   asks : Asks own.name own.front own.back own.none held.tx t (row (after start 0 (was 0)) client (Host (Continue (Request Waits) 0)))
   asks = waits_asks own.name own.front own.back own.none (after start 0 (was 0)) t held.tx own.at own.called waits held.is

@@ -27,57 +27,33 @@ use Rattle.node_core.specs.declared.host.Host as host
 use Rattle.node_core.specs.declared.host.Host.TheVariants.{Shell, Node}
 use Rattle.node_core.specs.Replies.{replies_of}
 use Rattle.node_core.specs.Row.{row, shell_row}
-use Rattle.commit_laws.proofs.Firsts.{place_by, position-cons}
 use Rattle.answer_laws.proofs.ApiBegins.{same_name-is}
+use Rattle.answer_laws.proofs.Tally.{tally}
 use Rattle.answer_laws.proofs.TcMoves.{same_tx-is}
 use Rattle.answer_laws.proofs.Wishes.{is_api}
+use Rattle.command_laws.proofs.Places.{IsFirstOf, first_there, split_get, split_position, split_set}
 use Rattle.command_laws.proofs.WaitKinds.{is_telling, is_wait, tells_of}
 use Rattle.command_laws.specs.Served.{own_in}
 
--- the first that passes stands behind these
-pub at_front : {A : Type 0} (p : A → Bool) (front : List A) (x : A) (back : List A) → Each (λ y. p y ≡ false) front → p x ≡ true → position p (front ++ x ∷ back) ≡ Some (length front)
-at_front p [] x back none passes = position-cons p x back ∙ ap (λ b. place_by b (position p back)) passes
-at_front p (y ∷ front) x back none passes =
-    position-cons p y (front ++ x ∷ back) ∙ ap (λ b. place_by b (position p (front ++ x ∷ back))) none.0 ∙ ap (place_by false) (at_front p front x back none.1 passes)
-
-get_front : {A : Type 0} (front : List A) (x : A) (back : List A) → slice_get (front ++ x ∷ back) (length front) ≡ Some x
-get_front [] x back = refl
-get_front (y ∷ front) x back = get_front front x back
-
-pub set_front : {A : Type 0} (front : List A) (x : A) (back : List A) (y : A) → slice_set (front ++ x ∷ back) (length front) y ≡ front ++ y ∷ back
-set_front [] x back y = refl
-set_front (z ∷ front) x back y = ap (λ w. z ∷ w) (set_front front x back y)
-
 pub where_front : {A : Type 0} (p : OpenTransaction → Bool) (front : List OpenTransaction) (x : OpenTransaction) (back : List OpenTransaction) (none : A) (some : ℕ → OpenTransaction → A)
-    → Each (λ y. p y ≡ false) front → p x ≡ true → where_at (front ++ x ∷ back) none some (position p (front ++ x ∷ back)) ≡ some (length front) x
+    → tally p front ≡ 0 → p x ≡ true → where_at (front ++ x ∷ back) none some (position p (front ++ x ∷ back)) ≡ some (length front) x
 where_front p front x back none some before passes =
-    ap (where_at (front ++ x ∷ back) none some) (at_front p front x back before passes) ∙ ap (if_there none (some (length front))) (get_front front x back)
-
--- the first that passes, with those in front, which don't
-pub record IsFirstOf (p : OpenTransaction → Bool) (xs : List OpenTransaction) (t : OpenTransaction) : Type 0 where
-  pub front : List OpenTransaction
-  pub back : List OpenTransaction
-  pub is : xs ≡ front ++ t ∷ back
-  pub none : Each (λ (x : OpenTransaction). p x ≡ false) front
-  pub passes : p t ≡ true
+    ap (where_at (front ++ x ∷ back) none some) (split_position p front x back before passes) ∙ ap (if_there none (some (length front))) (split_get front x back)
 
 abbrev find : List OpenTransaction → Option ℕ → Option OpenTransaction
 find xs o = where_at xs None (λ at t. Some t) o
 
-pub found_front : (p : OpenTransaction → Bool) (xs : List OpenTransaction) (t : OpenTransaction) → find xs (position p xs) ≡ Some t → IsFirstOf p xs t
-found_front p [] t is = absurd cc
-found_front p (x ∷ xs) t is = by (p x) refl (sym (ap (find (x ∷ xs)) (position-cons p x xs)) ∙ is) (found_front p xs t)
+-- what is found is the first that passes
+found_front : (p : OpenTransaction → Bool) (xs : List OpenTransaction) (t : OpenTransaction) → find xs (position p xs) ≡ Some t → IsFirstOf p xs t
+found_front p xs t is = by (position p xs) refl is
   where
-    further : p x ≡ false → IsFirstOf p xs t → IsFirstOf p (x ∷ xs) t
-    further off f = record { front = x ∷ f.front; back = f.back; is = ap (λ w. x ∷ w) f.is; none = (off, f.none); passes = f.passes }
+    here : (at : ℕ) → position p xs ≡ Some at → (o : Option OpenTransaction) → slice_get xs at ≡ o → if_there None (λ x. Some x) o ≡ Some t → IsFirstOf p xs t
+    here at place None get e = cc
+    here at place (Some x) get e = first_there p xs at t place (get ∙ e)
 
-    later : p x ≡ false → (o : Option ℕ) → find (x ∷ xs) (place_by false o) ≡ Some t → (find xs o ≡ Some t → IsFirstOf p xs t) → IsFirstOf p (x ∷ xs) t
-    later off None is rest = cc
-    later off (Some at) is rest = further off (rest is)
-
-    by : (b : Bool) → p x ≡ b → find (x ∷ xs) (place_by b (position p xs)) ≡ Some t → (find xs (position p xs) ≡ Some t → IsFirstOf p xs t) → IsFirstOf p (x ∷ xs) t
-    by true e is rest = let same : x ≡ t = cc in record { front = []; back = xs; is = ap (λ w. w ∷ xs) same; none = tt; passes = ap p (sym same) ∙ e }
-    by false e is rest = later e (position p xs) is rest
+    by : (o : Option ℕ) → position p xs ≡ o → find xs o ≡ Some t → IsFirstOf p xs t
+    by None place e = cc
+    by (Some at) place e = here at place (slice_get xs at) refl e
 
 -- this transaction stands there, and the last command is about the first of its name
 pub record IsOwn (name : Option ℕ) (front : List OpenTransaction) (t : OpenTransaction) (back : List OpenTransaction) (s : ApiState) : Type 0 where
@@ -95,7 +71,7 @@ pub record HasOwn (t : OpenTransaction) (g : host.Host) : Type 0 where
   pub front : List OpenTransaction
   pub back : List OpenTransaction
   pub at : IsOwnAt name front t back g
-  pub none : Each (λ (x : OpenTransaction). is_named name x ≡ false) front
+  pub none : tally (is_named name) front ≡ 0
   pub called : is_named name t ≡ true
 
 pub own_found : (g : host.Host) (t : OpenTransaction) → own_in g ≡ Some t → HasOwn t g
@@ -108,7 +84,7 @@ own_found (Shell s) t is = by s.own refl is
         let f = found_front (is_named name) s.opened t is in
         record { name = name; front = f.front; back = f.back; at = record { state = s; is = refl; here = record { own = e; is = f.is } }; none = f.none; called = f.passes }
 
-module _ (name : Option ℕ) (front back : List OpenTransaction) (before : Each (λ (x : OpenTransaction). is_named name x ≡ false) front) where
+module _ (name : Option ℕ) (front back : List OpenTransaction) (before : tally (is_named name) front ≡ 0) where
   own_where : {A : Type 0} (s : ApiState) (t : OpenTransaction) (none : A) (some : ℕ → OpenTransaction → A) → IsOwn name front t back s → is_named name t ≡ true
       → where_at s.opened none some (own_place s) ≡ some (length front) t
   own_where s t none some own called =
@@ -116,7 +92,7 @@ module _ (name : Option ℕ) (front back : List OpenTransaction) (before : Each 
       ∙ where_front (is_named name) front t back none some before called
 
   changed : (s : ApiState) (t u : OpenTransaction) → IsOwn name front t back s → IsOwn name front u back (changing s (length front) u)
-  changed s t u own = record { own = own.own; is = ap (λ xs. slice_set xs (length front) u) own.is ∙ set_front front t back u }
+  changed s t u own = record { own = own.own; is = ap (λ xs. slice_set xs (length front) u) own.is ∙ split_set front t back u }
 
   -- at the request for what it waits for its coordinator is asked
   pub record Asks (tx : TxId) (t : OpenTransaction) (step : Step host.Host) : Type 0 where
@@ -165,7 +141,7 @@ module _ (name : Option ℕ) (front back : List OpenTransaction) (before : Each 
           own_where s t (stay s) (λ at x. pending_if s x (is_unanswered x.doing) x.ahead) mine called ∙ ap (λ b. pending_if s t b t.ahead) waits ∙ ap (pending_if s t true) is in
           record { holder = name_of s ahead; told = ap (λ (x : Step ApiState). x.state.replies) goes ∙ pending_told s (name_of s ahead) t.name t.tx }
 
-  module _ (tx : TxId) (t : OpenTransaction) (own_tx : t.tx ≡ Some tx) (alone : Each (λ (x : OpenTransaction). has_tx tx x ≡ false) front) (itself : has_tx tx t ≡ true) where
+  module _ (tx : TxId) (t : OpenTransaction) (own_tx : t.tx ≡ Some tx) (alone : tally (has_tx tx) front ≡ 0) (itself : has_tx tx t ≡ true) where
     -- after a signal about waiting the transaction stands there, and what was known of whom it waits for still is
     pub record Waits (known told : Bool) (g : host.Host) : Type 0 where
       pub ahead : Option TxId
