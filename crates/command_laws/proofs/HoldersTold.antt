@@ -46,12 +46,12 @@ use Rattle.command_laws.proofs.OwnEntry.{Asks, HasOwn, IsOwnAt, Tells, host_wait
 use Rattle.command_laws.proofs.OwnEntry as entry
 use Rattle.command_laws.proofs.SinceKinds.{SinceAre, since_are}
 use Rattle.command_laws.proofs.Told.{told_since}
-use Rattle.command_laws.proofs.WaitKinds.{is_telling, is_wait, node_same, wait_closed}
+use Rattle.command_laws.proofs.WaitKinds.{is_telling, is_telling_who, is_wait, node_same, wait_closed}
 use Rattle.command_laws.proofs.WaitsAtQuiet.{LiveThere, WaitsHeld, waits_held}
 use Rattle.command_laws.proofs.WaitSends.{asks_on, finds_on, is_asking, is_finding, is_seeking}
 use Rattle.command_laws.proofs.WaitSends as rows
-use Rattle.command_laws.specs.Holders.{AbortsAskAtQuiet}
-use Rattle.command_laws.specs.Served.{HoldersAreTold, IsServed, IsToldHolder, own_in}
+use Rattle.command_laws.specs.Holders.{AbortsAskAtQuiet, name_in}
+use Rattle.command_laws.specs.Served.{HoldersAreTold, IsServed, IsToldHolder, own_in, replies_since}
 
 -- the rows of a node's host are those of the node
 node_sends : (test : Place → Body → Bool) (g : host.Host) (n : node.Node) (to : Place) (body : Body) → g ≡ Node n → 1 ≤ sends_of test (node_row n to.block body).effects.sends
@@ -67,7 +67,7 @@ keys_once (Node m) n bs is sound = let same : m ≡ n = cc in subst (λ (x : nod
 
 module _ (start : Start) (tx : TxId) where
   -- a node stays as it is while only such signals are taken
-  node_stays : (h : ℕ) (newer log : List LogStep) (n : node.Node) → Each (λ (e : LogStep). is_wait tx e.taken.body ≡ true) newer → after start h log ≡ Node n → after start h (newer ++ log) ≡ Node n
+  pub node_stays : (h : ℕ) (newer log : List LogStep) (n : node.Node) → Each (λ (e : LogStep). is_wait tx e.taken.body ≡ true) newer → after start h log ≡ Node n → after start h (newer ++ log) ≡ Node n
   node_stays h [] log n kinds is = is
   node_stays h (e ∷ newer) log n kinds is =
       let before = node_stays h newer log n kinds.1 is in
@@ -76,24 +76,29 @@ module _ (start : Start) (tx : TxId) where
   module _ (name : Option ℕ) (front back : List OpenTransaction) (before : tally (is_named name) front ≡ 0) (t : OpenTransaction) (own_tx : t.tx ≡ Some tx)
     (alone : tally (has_tx tx) front ≡ 0) (itself : has_tx tx t ≡ true) where
     -- at the shell's host the transaction stands in its place, and once it is told whom it waits for that is known
-    record Stands (later log : List LogStep) : Type 0 where
-      ahead : Option TxId
-      own : IsOwnAt name front (behind t ahead) back (after start 0 (later ++ log))
-      told : 1 ≤ steps (is_telling tx) later → is_some ahead ≡ true
+    pub record Stands (later log : List LogStep) : Type 0 where
+      pub ahead : Option TxId
+      pub own : IsOwnAt name front (behind t ahead) back (after start 0 (later ++ log))
+      pub told : 1 ≤ steps (is_telling tx) later → is_some ahead ≡ true
+      pub from : (who : TxId) → ahead ≡ Some who → 1 ≤ steps (is_telling_who tx who) later
 
     stands : (later log : List LogStep) → Each (λ (e : LogStep). is_wait tx e.taken.body ≡ true) later → IsOwnAt name front (behind t None) back (after start 0 log) → Stands later log
-    stands [] log kinds own = record { ahead = None; own = own; told = λ some. absurd (omega (arith, some)) }
+    stands [] log kinds own = record { ahead = None; own = own; told = λ some. absurd (omega (arith, some)); from = λ who is. cc }
     stands (e ∷ later) log kinds own = next (stands later log kinds.1 own)
       where
         next : Stands later log → Stands (e ∷ later) log
-        next s = record { ahead = w.ahead; own = w.own; told = λ some. by (is_telling tx e.taken.to e.taken.body) refl some }
+        next s = record { ahead = w.ahead; own = w.own; told = λ some. by (is_telling tx e.taken.to e.taken.body) refl some; from = λ who is. source who (w.from who is) }
           where
-            w : entry.Waits name front back before tx t own_tx alone itself (is_some s.ahead) (is_telling tx e.taken.to e.taken.body) (row (after start 0 (later ++ log)) e.taken.to e.taken.body).state
+            w : entry.Waits name front back before tx t own_tx alone itself s.ahead (is_telling tx e.taken.to e.taken.body) e.taken.to e.taken.body (row (after start 0 (later ++ log)) e.taken.to e.taken.body).state
             w = host_waits name front back before tx t own_tx alone itself (after start 0 (later ++ log)) s.ahead e.taken.to e.taken.body s.own kinds.0
 
             by : (b : Bool) → is_telling tx e.taken.to e.taken.body ≡ b → 1 ≤ one_if b + steps (is_telling tx) later → is_some w.ahead ≡ true
             by true is some = w.new is
             by false is some = w.kept (s.told (omega (arith, some)))
+
+            source : (who : TxId) → (s.ahead ≡ Some who) ⊎ (is_telling_who tx who e.taken.to e.taken.body ≡ true) → 1 ≤ steps (is_telling_who tx who) (e ∷ later)
+            source who (inl old) = omega (arith, s.from who old)
+            source who (inr new) = omega (arith, ap one_if new)
 
 -- the request is the first step of the shell's host
 at_first : (start : Start) (log : List LogStep) (e : LogStep) (body : Body) → e.taken.to ≡ client → e.taken.body ≡ body → step_after start 0 log e ≡ row (after start 0 log) client body
@@ -101,7 +106,7 @@ at_first start log e body place about = ap (λ (to : Place). row (after start 0 
 
 module _ (answered : EachIsAnswered) (aborts : AbortsAskAtQuiet) (start : Start) (was mid now : ℕ → List LogStep) (t : OpenTransaction) (first : IsServed start was mid Waits) (second : IsServed start mid now Pending)
   (own_is : own_in (after start 0 (was 0)) ≡ Some t) (waits : is_unanswered t.doing ≡ true) where
-  own : HasOwn t (after start 0 (was 0))
+  pub own : HasOwn t (after start 0 (was 0))
   own = own_found (after start 0 (was 0)) t own_is
 
   opened_is : opened_after start was ≡ own.front ++ t ∷ own.back
@@ -110,16 +115,16 @@ module _ (answered : EachIsAnswered) (aborts : AbortsAskAtQuiet) (start : Start)
   inside : IsIn t (opened_after start was)
   inside = subst (IsIn t) (sym opened_is) (in_middle own.front t own.back)
 
-  held : WaitsHeld start was t
+  pub held : WaitsHeld start was t
   held = waits_held answered aborts start was t first.before inside waits
 
   abbrev tx : TxId
   tx = held.tx
 
-  itself : has_tx held.tx t ≡ true
+  pub itself : has_tx held.tx t ≡ true
   itself = ap (is_tx held.tx) held.is ∙ same_tx-self held.tx
 
-  alone : tally (has_tx held.tx) own.front ≡ 0
+  pub alone : tally (has_tx held.tx) own.front ≡ 0
   alone =
       omega (
         arith,
@@ -130,13 +135,13 @@ module _ (answered : EachIsAnswered) (aborts : AbortsAskAtQuiet) (start : Start)
         ap one_if itself,
       )
 
-  asks : Asks own.name own.front own.back own.none held.tx t (row (after start 0 (was 0)) client (Host (Continue (Request Waits) 0)))
+  pub asks : Asks own.name own.front own.back own.none held.tx t (row (after start 0 (was 0)) client (Host (Continue (Request Waits) 0)))
   asks = waits_asks own.name own.front own.back own.none (after start 0 (was 0)) t held.tx own.at own.called waits held.is
 
-  begins : are_of (is_wait held.tx) (row (after start 0 (was 0)) client (Host (Continue (Request Waits) 0))).effects.sends ≡ true
+  pub begins : are_of (is_wait held.tx) (row (after start 0 (was 0)) client (Host (Continue (Request Waits) 0))).effects.sends ≡ true
   begins = ap (λ (effects : _). are_of (is_wait held.tx) effects.sends) asks.sends ∙ ap (λ b. if b then true else false) (same_tx-self held.tx)
 
-  since : SinceAre start was mid Waits (is_wait held.tx)
+  pub since : SinceAre start was mid Waits (is_wait held.tx)
   since = since_are start was mid Waits first (is_wait held.tx) (wait_closed held.tx) begins
 
   -- the log of a node is that before, and such steps
@@ -226,7 +231,7 @@ module _ (answered : EachIsAnswered) (aborts : AbortsAskAtQuiet) (start : Start)
   first_own =
       subst (λ (step : Step host.Host). IsOwnAt own.name own.front (behind t None) own.back step.state) (sym (at_first start (was 0) since.first (Host (Continue (Request Waits) 0)) since.place since.body)) asks.own
 
-  stood : Stands start held.tx own.name own.front own.back own.none t held.is alone itself (since.newer 0) (since.first ∷ was 0)
+  pub stood : Stands start held.tx own.name own.front own.back own.none t held.is alone itself (since.newer 0) (since.first ∷ was 0)
   stood = stands start held.tx own.name own.front own.back own.none t held.is alone itself (since.newer 0) (since.first ∷ was 0) (since.each 0) first_own
 
   at_mid : IsOwnAt own.name own.front (behind t stood.ahead) own.back (after start 0 (mid 0))
@@ -235,21 +240,32 @@ module _ (answered : EachIsAnswered) (aborts : AbortsAskAtQuiet) (start : Start)
   known : is_some stood.ahead ≡ true
   known = stood.told (some_told (is_telling held.tx) (since.newer 0) told.front told.back told.step told.is told.passes)
 
-  tells : (o : Option TxId) → stood.ahead ≡ o → is_some o ≡ true → Tells own.name own.front own.back own.none t.name (after start 0 (mid 0)) (row (after start 0 (mid 0)) client (Host (Continue (Request Pending) 0)))
-  tells None is e = cc
-  tells (Some ahead) is e = pending_tells own.name own.front own.back own.none (after start 0 (mid 0)) (behind t stood.ahead) ahead at_mid own.called waits is
+  -- whom the transaction waits for, as the shell's host knows it
+  pub record IsKnown : Type 0 where
+    pub who : TxId
+    pub is : stood.ahead ≡ Some who
+
+  pub known_who : IsKnown
+  known_who = by stood.ahead refl known
+    where
+      by : (o : Option TxId) → stood.ahead ≡ o → is_some o ≡ true → IsKnown
+      by None is e = cc
+      by (Some who) is e = record { who = who; is = is }
+
+  tells : Tells own.name own.front own.back own.none t.name known_who.who (after start 0 (mid 0)) (row (after start 0 (mid 0)) client (Host (Continue (Request Pending) 0)))
+  tells = pending_tells own.name own.front own.back own.none (after start 0 (mid 0)) (behind t stood.ahead) known_who.who at_mid own.called waits known_who.is
+
+  -- the reply names it
+  pub reply_told : IsIn (reply.Pending t.name (HeldBy (name_in (opened_after start mid) known_who.who))) (replies_since start mid now)
+  reply_told =
+      let f : IsFirst start mid now Pending = request_first start mid now Pending second in
+      let r = reply.Pending t.name (HeldBy (name_in (opened_after start mid) known_who.who)) in
+      subst (λ log. IsIn r (drop (length (replies_of (after start 0 (mid 0)))) (replies_of (after start 0 log)))) (sym f.is)
+      (told_since start (mid 0) (mid 0) f.later f.first r (past_self (mid 0))
+      (ap (λ (step : Step host.Host). replies_of step.state) (at_first start (mid 0) f.first (Host (Continue (Request Pending) 0)) f.place f.body) ∙ tells.told))
 
   pub holder_told : IsToldHolder start mid now t.name
-  holder_told =
-      let w = tells stood.ahead refl known in
-      let f : IsFirst start mid now Pending = request_first start mid now Pending second in
-      record {
-        holder = w.holder;
-        told =
-            subst (λ log. IsIn (reply.Pending t.name (HeldBy w.holder)) (drop (length (replies_of (after start 0 (mid 0)))) (replies_of (after start 0 log)))) (sym f.is)
-            (told_since start (mid 0) (mid 0) f.later f.first (reply.Pending t.name (HeldBy w.holder)) (past_self (mid 0))
-            (ap (λ (step : Step host.Host). replies_of step.state) (at_first start (mid 0) f.first (Host (Continue (Request Pending) 0)) f.place f.body) ∙ w.told));
-      }
+  holder_told = record { holder = name_in (opened_after start mid) known_who.who; told = reply_told }
 
 -- what the shell is told of its last command, where that waits
 pub holders_are_told : EachIsAnswered → AbortsAskAtQuiet → HoldersAreTold

@@ -1,5 +1,5 @@
 -- The transaction that the last command is about, among the others of the API.
-use Rattle.std.proofs.Common.{◌≡◌, ◌⊎◌, ◌≤◌, ◌+◌, ℕ, suc, Bool, true, false, List, [], ◌∷◌, ◌++◌, length, refl, sym, ap, ◌∙◌, subst, arith}
+use Rattle.std.proofs.Common.{◌≡◌, ◌⊎◌, ◌≤◌, ◌+◌, ℕ, suc, Bool, true, false, List, [], ◌∷◌, ◌++◌, length, refl, sym, ap, ◌∙◌, subst, inl, inr, arith}
 use Rattle.std.specs.Prelude.{◌&&◌, Option, None, Some, is_some, position, slice_get, slice_set}
 use Rattle.run_theory.specs.Lists.{Each}
 use Rattle.sig_core.specs.declared.log.LogStep.{LogStep}
@@ -30,9 +30,12 @@ use Rattle.node_core.specs.Row.{row, shell_row}
 use Rattle.answer_laws.proofs.ApiBegins.{same_name-is}
 use Rattle.answer_laws.proofs.Tally.{tally}
 use Rattle.answer_laws.proofs.TcMoves.{same_tx-is}
+use Rattle.answer_laws.proofs.TcSends.{same_tx-self}
 use Rattle.answer_laws.proofs.Wishes.{is_api}
+use Rattle.answer_laws.specs.Answered.{opened_in}
 use Rattle.command_laws.proofs.Places.{IsFirstOf, first_there, split_get, split_position, split_set}
-use Rattle.command_laws.proofs.WaitKinds.{is_telling, is_wait, tells_of}
+use Rattle.command_laws.proofs.WaitKinds.{is_telling, is_telling_who, is_wait, tells_of, tells_who}
+use Rattle.command_laws.specs.Holders.{name_in}
 use Rattle.command_laws.specs.Served.{own_in}
 
 pub where_front : {A : Type 0} (p : OpenTransaction → Bool) (front : List OpenTransaction) (x : OpenTransaction) (back : List OpenTransaction) (none : A) (some : ℕ → OpenTransaction → A)
@@ -123,46 +126,52 @@ module _ (name : Option ℕ) (front back : List OpenTransaction) (before : tally
   pending_told s holder (Some n) o = refl
 
   -- the reply that tells it
-  pub record Tells (called : Option ℕ) (g : host.Host) (step : Step host.Host) : Type 0 where
-    pub holder : Option ℕ
-    pub told : replies_of step.state ≡ replies_of g ++ Pending called (HeldBy holder) ∷ []
+  pub record Tells (called : Option ℕ) (ahead : TxId) (g : host.Host) (step : Step host.Host) : Type 0 where
+    pub told : replies_of step.state ≡ replies_of g ++ Pending called (HeldBy (name_in (opened_in g) ahead)) ∷ []
 
   pub pending_tells : (g : host.Host) (t : OpenTransaction) (ahead : TxId) → IsOwnAt name front t back g → is_named name t ≡ true → is_unanswered t.doing ≡ true → t.ahead ≡ Some ahead
-      → Tells t.name g (row g client (Host (Continue (work.Request request.Pending) 0)))
+      → Tells t.name ahead g (row g client (Host (Continue (work.Request request.Pending) 0)))
   unfolding row shell_row request_row pending_row replies_of
   pending_tells (Node n) t ahead own called waits is = let no : Node n ≡ Shell own.state = own.is in cc
   pending_tells (Shell s) t ahead own called waits is = by own.state own.is own.here
     where
-      by : (u : ApiState) → Shell s ≡ Shell u → IsOwn name front t back u → Tells t.name (Shell s) (row (Shell s) client (Host (Continue (work.Request request.Pending) 0)))
+      by : (u : ApiState) → Shell s ≡ Shell u → IsOwn name front t back u → Tells t.name ahead (Shell s) (row (Shell s) client (Host (Continue (work.Request request.Pending) 0)))
       by u same here =
           let one : s ≡ u = cc in
           let mine : IsOwn name front t back s = subst (IsOwn name front t back) (sym one) here in
           let goes : pending_row s ≡ pending_by s (name_of s ahead) t.name t.tx =
           own_where s t (stay s) (λ at x. pending_if s x (is_unanswered x.doing) x.ahead) mine called ∙ ap (λ b. pending_if s t b t.ahead) waits ∙ ap (pending_if s t true) is in
-          record { holder = name_of s ahead; told = ap (λ (x : Step ApiState). x.state.replies) goes ∙ pending_told s (name_of s ahead) t.name t.tx }
+          record { told = ap (λ (x : Step ApiState). x.state.replies) goes ∙ pending_told s (name_of s ahead) t.name t.tx }
 
   module _ (tx : TxId) (t : OpenTransaction) (own_tx : t.tx ≡ Some tx) (alone : tally (has_tx tx) front ≡ 0) (itself : has_tx tx t ≡ true) where
     -- after a signal about waiting the transaction stands there, and what was known of whom it waits for still is
-    pub record Waits (known told : Bool) (g : host.Host) : Type 0 where
+    pub record Waits (before_it : Option TxId) (told : Bool) (to : Place) (body : Body) (g : host.Host) : Type 0 where
       pub ahead : Option TxId
       pub own : IsOwnAt name front (behind t ahead) back g
-      pub kept : known ≡ true → is_some ahead ≡ true
+      pub kept : is_some before_it ≡ true → is_some ahead ≡ true
       pub new : told ≡ true → is_some ahead ≡ true
+      pub from : (who : TxId) → ahead ≡ Some who → (before_it ≡ Some who) ⊎ (is_telling_who tx who to body ≡ true)
 
-    record WaitsHere (known told : Bool) (s : ApiState) : Type 0 where
+    record WaitsHere (before_it : Option TxId) (told : Bool) (block_is : Bool) (body : Body) (s : ApiState) : Type 0 where
       ahead : Option TxId
       own : IsOwn name front (behind t ahead) back s
-      kept : known ≡ true → is_some ahead ≡ true
+      kept : is_some before_it ≡ true → is_some ahead ≡ true
       new : told ≡ true → is_some ahead ≡ true
+      from : (who : TxId) → ahead ≡ Some who → (before_it ≡ Some who) ⊎ ((block_is && tells_who tx who body) ≡ true)
 
     none_told : {A : Type 0} → false ≡ true → A
     none_told e = cc
 
-    stands : (s : ApiState) (ahead : Option TxId) → IsOwn name front (behind t ahead) back s → WaitsHere (is_some ahead) false s
-    stands s ahead own = record { ahead = ahead; own = own; kept = λ e. e; new = λ e. none_told e }
+    stands : (s : ApiState) (ahead : Option TxId) (block_is : Bool) (body : Body) → IsOwn name front (behind t ahead) back s → WaitsHere ahead false block_is body s
+    stands s ahead block_is body own = record { ahead = ahead; own = own; kept = λ e. e; new = λ e. none_told e; from = λ who is. inl is }
+
+    both_true : (a b : Bool) → a ≡ true → b ≡ true → (a && b) ≡ true
+    both_true true true p q = refl
+    both_true false b p q = cc
+    both_true true false p q = cc
 
     told_here : (s : ApiState) (ahead : Option TxId) (one other : TxId) → IsOwn name front (behind t ahead) back s → same_tx one tx ≡ true
-        → WaitsHere (is_some ahead) (same_tx one tx) (behind_row s one other)
+        → WaitsHere ahead (same_tx one tx) true (Client (TcWaitConf one other)) (behind_row s one other)
     unfolding behind_row
     told_here s ahead one other own same =
         let which : one ≡ tx = same_tx-is one tx same in
@@ -174,29 +183,30 @@ module _ (name : Option ℕ) (front back : List OpenTransaction) (before : tally
           own = subst (λ v. IsOwn name front (behind t (Some other)) back (behind_row s v other)) (sym which) (subst (IsOwn name front (behind t (Some other)) back) (sym goes) (changed s (behind t ahead) (behind t (Some other)) own));
           kept = λ e. refl;
           new = λ e. refl;
+          from = λ who is. inr (let which : other ≡ who = cc in both_true (same_tx one tx) (same_tx other who) same (ap (λ v. same_tx v who) which ∙ same_tx-self who));
         }
 
-    api_waits : (s : ApiState) (ahead : Option TxId) (body : Body) → IsOwn name front (behind t ahead) back s → is_wait tx body ≡ true → WaitsHere (is_some ahead) (tells_of tx body) (api_row s body).state
-    api_waits s ahead (Client (TcWaitReq one)) own kind = stands s ahead own
-    api_waits s ahead (Client (LqhWaitReq one key)) own kind = stands s ahead own
-    api_waits s ahead (Client (LqhWaitConf one other)) own kind = stands s ahead own
+    api_waits : (s : ApiState) (ahead : Option TxId) (body : Body) → IsOwn name front (behind t ahead) back s → is_wait tx body ≡ true → WaitsHere ahead (tells_of tx body) true body (api_row s body).state
+    api_waits s ahead (Client (TcWaitReq one)) own kind = stands s ahead true _ own
+    api_waits s ahead (Client (LqhWaitReq one key)) own kind = stands s ahead true _ own
+    api_waits s ahead (Client (LqhWaitConf one other)) own kind = stands s ahead true _ own
     api_waits s ahead (Client (TcWaitConf one other)) own kind = told_here s ahead one other own kind
     api_waits s ahead _ own kind = cc
 
     shell_waits : (s : ApiState) (ahead : Option TxId) (at : BlockId) (body : Body) → IsOwn name front (behind t ahead) back s → is_wait tx body ≡ true
-        → WaitsHere (is_some ahead) (is_api at && tells_of tx body) (shell_row s at body).state
+        → WaitsHere ahead (is_api at && tells_of tx body) (is_api at) body (shell_row s at body).state
     unfolding shell_row
     shell_waits s ahead block.Api body own kind = api_waits s ahead body own kind
-    shell_waits s ahead _ body own kind = stands s ahead own
+    shell_waits s ahead _ body own kind = stands s ahead false body own
 
     pub host_waits : (g : host.Host) (ahead : Option TxId) (to : Place) (body : Body) → IsOwnAt name front (behind t ahead) back g → is_wait tx body ≡ true
-        → Waits (is_some ahead) (is_telling tx to body) (row g to body).state
+        → Waits ahead (is_telling tx to body) to body (row g to body).state
     unfolding row
     host_waits (Node n) ahead to body own kind = let no : Node n ≡ Shell own.state = own.is in cc
     host_waits (Shell s) ahead to body own kind = by own.state own.is own.here
       where
-        by : (u : ApiState) → Shell s ≡ Shell u → IsOwn name front (behind t ahead) back u → Waits (is_some ahead) (is_telling tx to body) (row (Shell s) to body).state
+        by : (u : ApiState) → Shell s ≡ Shell u → IsOwn name front (behind t ahead) back u → Waits ahead (is_telling tx to body) to body (row (Shell s) to body).state
         by u same here =
             let one : s ≡ u = cc in
             let w = shell_waits s ahead to.block body (subst (IsOwn name front (behind t ahead) back) (sym one) here) kind in
-            record { ahead = w.ahead; own = record { state = (shell_row s to.block body).state; is = refl; here = w.own }; kept = w.kept; new = w.new }
+            record { ahead = w.ahead; own = record { state = (shell_row s to.block body).state; is = refl; here = w.own }; kept = w.kept; new = w.new; from = w.from }

@@ -53,6 +53,14 @@ tells_of tx _ = false
 abbrev pub is_telling : TxId → Place → Body → Bool
 is_telling tx to body = is_api to.block && tells_of tx body
 
+-- and that it is this one
+abbrev pub tells_who : TxId → TxId → Body → Bool
+tells_who tx ahead (Client (TcWaitConf one other)) = same_tx one tx && same_tx other ahead
+tells_who tx ahead _ = false
+
+abbrev pub is_telling_who : TxId → TxId → Place → Body → Bool
+is_telling_who tx ahead to body = is_api to.block && tells_who tx ahead body
+
 module _ (tx : TxId) where
   -- a step that changes nothing, and sends only such signals
   pub record Rests {S : Type 0} (s : S) (step : Step S) : Type 0 where
