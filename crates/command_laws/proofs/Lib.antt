@@ -33,4 +33,5 @@ pub mod TurnTells
 pub mod Turns
 pub mod WaitKinds
 pub mod WaitSends
+pub mod WaitSources
 pub mod WaitsAtQuiet
