@@ -8,6 +8,7 @@ pub mod Firm
 pub mod FirmAtQuiet
 pub mod FirmHosts
 pub mod First
+pub mod HoldersHold
 pub mod HoldersTold
 pub mod LoneAsks
 pub mod LoneCommitted
