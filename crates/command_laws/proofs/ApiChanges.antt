@@ -1,9 +1,9 @@
 -- What a signal changes at the API, with the replies.
-use Rattle.std.proofs.Common.{◌≡◌, ℕ, Bool, true, false, List, [], ◌∷◌, ◌++◌, refl, sym, ap, ◌∙◌}
+use Rattle.std.proofs.Common.{◌≡◌, ℕ, Bool, true, false, List, [], ◌∷◌, ◌++◌, refl, sym, ◌∙◌}
 use Rattle.std.proofs.lemmas.List.{append-nil}
 use Rattle.run_theory.specs.Lists.{Each}
 use Rattle.run_theory.proofs.Pasts.{each_append}
-use Rattle.std.specs.Prelude.{map, Option, None, Some, if◌then◌else◌, position}
+use Rattle.std.specs.Prelude.{map, Option, None, Some}
 use Rattle.sig_core.specs.declared.mark.Mark.TheVariants.{Reported}
 use Rattle.sig_core.specs.declared.member.Member.{Member}
 use Rattle.sig_core.specs.declared.member.TxId.{TxId}
@@ -12,11 +12,9 @@ use Rattle.sig_core.specs.declared.op.Op.{Op}
 use Rattle.sig_core.specs.declared.outcome.AbortCause.{AbortCause}
 use Rattle.sig_core.specs.declared.outcome.Outcome.{Outcome}
 use Rattle.sig_core.specs.declared.outcome.Outcome.TheVariants as outcome
-use Rattle.sig_core.specs.declared.outs.Outgoing.{Outgoing}
 use Rattle.sig_core.specs.declared.reply.ApiReply.{ApiReply}
 use Rattle.sig_core.specs.declared.reply.ApiReply.TheVariants.{Answered, Begun, Digest, Ended, Refused, Row, Rows}
 use Rattle.sig_core.specs.declared.reply.Refusal.TheVariants.{TooManyOpen}
-use Rattle.sig_core.specs.declared.request.ApiReq.{ApiReq}
 use Rattle.sig_core.specs.declared.signal.Body.{Body}
 use Rattle.sig_core.specs.declared.signal.Body.TheVariants.{Host, Client}
 use Rattle.sig_core.specs.declared.signal.client.ClientSignal.TheVariants.{TcBeginConf, TcBeginRef, TcKeyConf, TcKeyReq, TcCommitAck, TcCommitConf, TcCommitReq, TcRollbackRep, TcWaitConf, DumpConf, DumpReq}
@@ -34,7 +32,7 @@ use Rattle.api_block.specs.Api.{api_row}
 use Rattle.api_block.specs.Dump.{dump_replies, dumped_by, dumped_next, dumped_row, row_reply}
 use Rattle.api_block.specs.Gathered.{gathered}
 use Rattle.api_block.specs.Members.{everyone, telling_all}
-use Rattle.api_block.specs.Opened.{answered, behind, begins, begins_at, begun, begun_operating, has_tx, where_at}
+use Rattle.api_block.specs.Opened.{answered, behind, begins, begins_at, begun, begun_operating, has_tx}
 use Rattle.api_block.specs.Operate.{answer_by, answer_row, begun_by, begun_row}
 use Rattle.api_block.specs.Outcome.{abort_report_row, commit_report_row, refuse_row}
 use Rattle.api_block.specs.State.{ApiState}

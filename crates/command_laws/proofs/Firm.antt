@@ -1,6 +1,6 @@
 -- A transaction that has no operation unanswered isn't aborted, unless that is asked for or another operation.
-use Rattle.std.proofs.Common.{◌≡◌, ℕ, Bool, true, false, List, [], ◌∷◌, ◌++◌, length, refl, sym, ap, ◌∙◌, subst}
-use Rattle.std.specs.Prelude.{◌==◌, Option, None, Some, map, nat_lt}
+use Rattle.std.proofs.Common.{◌≡◌, ℕ, Bool, true, false, List, [], length, refl, sym, ap, ◌∙◌}
+use Rattle.std.specs.Prelude.{◌==◌, Option, None, Some, nat_lt}
 use Rattle.sig_core.specs.declared.member.TxId.{TxId}
 use Rattle.sig_core.specs.declared.op.Answer.{Answer}
 use Rattle.sig_core.specs.declared.outcome.AbortCause.{AbortCause}
@@ -20,9 +20,9 @@ use Rattle.tc_block.specs.Abort as abort
 use Rattle.tc_block.specs.Commit as commit
 use Rattle.tc_block.specs.Complete as complete
 use Rattle.tc_block.specs.Operate as operate
-use Rattle.tc_block.specs.Sends.{entering, front_sends, go_on_if, go_on_row, wait_of, waits_of}
+use Rattle.tc_block.specs.Sends.{entering, front_sends, go_on_if, go_on_row, wait_of}
 use Rattle.tc_block.specs.State.{TcState}
-use Rattle.tc_block.specs.Turn.{Turn, at_phase, going}
+use Rattle.tc_block.specs.Turn.{Turn, going}
 use Rattle.answer_laws.proofs.SendKinds.{are_of, of_map}
 use Rattle.command_laws.proofs.PhaseSends.{HasChains, entering_of_kind, go_on_of_kind}
 use Rattle.command_laws.proofs.Turns.{turn_by}

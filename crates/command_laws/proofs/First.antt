@@ -20,7 +20,6 @@ use Rattle.sig_core.specs.declared.signal.Body.TheVariants.{Host}
 use Rattle.sig_core.specs.declared.signal.host.HostSignal.TheVariants.{Continue}
 use Rattle.sig_core.specs.declared.signal.host.Work.TheVariants.{Request}
 use Rattle.sig_core.specs.declared.signal.Signal.{Signal}
-use Rattle.sig_core.specs.declared.view.View.{View}
 use Rattle.sig_core.specs.Place.{client}
 use Rattle.node_core.specs.Requests.{is_request}
 use Rattle.world_core.proofs.Stamped.{stamped}
@@ -30,7 +29,6 @@ use Rattle.world_core.specs.Start.{Start, first_view}
 use Rattle.answer_laws.proofs.Begins.{given_past}
 use Rattle.answer_laws.proofs.LinkCounts.{signals}
 use Rattle.answer_laws.proofs.Tally.{tally_past}
-use Rattle.answer_laws.specs.Answered.{AreQuiet}
 use Rattle.command_laws.proofs.Since.{all_taken}
 use Rattle.command_laws.specs.Served.{IsServed}
 

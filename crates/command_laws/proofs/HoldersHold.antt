@@ -1,14 +1,13 @@
 -- The transaction that the shell is told of holds the lock that its last command waits for.
-use Rattle.std.proofs.Common.{◌≡◌, ◌⊎◌, ◌<◌, ◌≤◌, ◌+◌, ℕ, zero, suc, Bool, true, false, List, [], ◌∷◌, ◌++◌, refl, sym, ap, subst, ◌∙◌, inl, inr, append_assoc, arith}
+use Rattle.std.proofs.Common.{◌≡◌, ◌⊎◌, ◌<◌, ◌≤◌, ℕ, zero, suc, Bool, true, false, List, [], ◌∷◌, ◌++◌, refl, sym, ap, subst, ◌∙◌, inl, inr, append_assoc, arith}
 use Rattle.std.proofs.lemmas.Bool.{cases_lt}
-use Rattle.std.specs.Prelude.{◌&&◌, ◌||◌, IfSome, Option, None, Some}
+use Rattle.std.specs.Prelude.{◌&&◌, ◌||◌, IfSome, Some}
 use Rattle.run_theory.specs.Cuts.{IsCut}
 use Rattle.run_theory.specs.Lists.{Each, IsIn}
-use Rattle.run_theory.proofs.Pasts.{each_after, each_in, in_append}
+use Rattle.run_theory.proofs.Pasts.{each_after, each_in}
 use Rattle.sig_core.specs.declared.log.LogStep.{LogStep}
 use Rattle.sig_core.specs.declared.member.TxId.{TxId}
 use Rattle.sig_core.specs.declared.place.Place.{Place}
-use Rattle.sig_core.specs.declared.request.ApiReq.{ApiReq}
 use Rattle.sig_core.specs.declared.request.ApiReq.TheVariants.{Pending, Waits}
 use Rattle.sig_core.specs.declared.signal.Body.{Body}
 use Rattle.sig_core.specs.declared.signal.Body.TheVariants.{Client}
@@ -22,13 +21,12 @@ use Rattle.row_locks.specs.Queues.{waits}
 use Rattle.row_locks.specs.Tables.{Locks, ahead_at, lock_at, some_if}
 use Rattle.api_block.specs.declared.opened.OpenTransaction.{OpenTransaction}
 use Rattle.api_block.specs.Opened.{is_unanswered}
-use Rattle.lqh_block.specs.State.{LqhState}
 use Rattle.node_core.specs.declared.host.Host as host
 use Rattle.node_core.specs.declared.host.Host.TheVariants.{Shell, Node}
 use Rattle.node_core.specs.declared.node.Node as node
 use Rattle.node_core.specs.Requests.{is_request}
 use Rattle.node_core.specs.Row.{node_row, row}
-use Rattle.world_core.specs.Machine.{after, hosts, step_after}
+use Rattle.world_core.specs.Machine.{after, hosts}
 use Rattle.world_core.specs.Start.{Start}
 use Rattle.commit_laws.proofs.Replicas.{logs_keep_well}
 use Rattle.commit_laws.specs.ReplicaLaws.{IsWellHost}
@@ -214,7 +212,7 @@ module _ (start : Start) (was mid : ℕ → List LogStep) (tx who : TxId) (serve
           found_there k sender.step sender.inside (node_told tx who n.state sender.step.taken.to.block sender.step.taken.body sender.waits_kind sender.sends)
 
 module _ (answered : EachIsAnswered) (aborts : AbortsAskAtQuiet) (start : Start) (was mid now : ℕ → List LogStep) (t : OpenTransaction) (first : IsServed start was mid Waits) (second : IsServed start mid now Pending)
-  (own_is : own_in (after start 0 (was 0)) ≡ Some t) (waiting : is_unanswered t.doing ≡ true) where
+    (own_is : own_in (after start 0 (was 0)) ≡ Some t) (waiting : is_unanswered t.doing ≡ true) where
   abbrev who : TxId
   who = (known_who answered aborts start was mid now t first second own_is waiting).who
 

@@ -5,21 +5,18 @@ use Rattle.run_theory.specs.Lists.{Each, IsIn, IsPast}
 use Rattle.run_theory.proofs.Pasts.{each_after, past_append, past_self}
 use Rattle.sig_core.specs.declared.log.LogStep.{LogStep}
 use Rattle.sig_core.specs.declared.member.TxId.{TxId}
-use Rattle.sig_core.specs.declared.place.BlockId.{BlockId}
 use Rattle.sig_core.specs.declared.place.Place.{Place}
 use Rattle.sig_core.specs.declared.reply.ApiReply.TheVariants as reply
 use Rattle.sig_core.specs.declared.reply.Waiting.TheVariants.{HeldBy}
-use Rattle.sig_core.specs.declared.request.ApiReq.{ApiReq}
 use Rattle.sig_core.specs.declared.request.ApiReq.TheVariants.{Pending, Waits}
 use Rattle.sig_core.specs.declared.signal.Body.{Body}
-use Rattle.sig_core.specs.declared.signal.Body.TheVariants.{Host, Client}
-use Rattle.sig_core.specs.declared.signal.client.ClientSignal.TheVariants.{TcWaitReq}
+use Rattle.sig_core.specs.declared.signal.Body.TheVariants.{Host}
 use Rattle.sig_core.specs.declared.signal.host.HostSignal.TheVariants.{Continue}
 use Rattle.sig_core.specs.declared.signal.host.Work.TheVariants.{Request}
 use Rattle.sig_core.specs.Op.{key_of}
-use Rattle.sig_core.specs.Place.{client, coordinator_of}
+use Rattle.sig_core.specs.Place.{client}
 use Rattle.sig_core.specs.Same.{same_tx}
-use Rattle.sig_core.specs.Step.{Step, sending}
+use Rattle.sig_core.specs.Step.{Step}
 use Rattle.api_block.specs.declared.opened.OpenTransaction.{OpenTransaction}
 use Rattle.api_block.specs.Opened.{behind, has_tx, is_named, is_tx, is_unanswered}
 use Rattle.node_core.specs.declared.host.Host as host
@@ -38,7 +35,7 @@ use Rattle.answer_laws.proofs.SendKinds.{are_of}
 use Rattle.answer_laws.proofs.Tally.{one_if, tally, tally_append}
 use Rattle.answer_laws.proofs.TcSends.{eqb-self, same_tx-self}
 use Rattle.answer_laws.proofs.Wishes.{sends_of, to_node}
-use Rattle.answer_laws.specs.Answered.{AreQuiet, EachIsAnswered, opened_after, opened_in}
+use Rattle.answer_laws.specs.Answered.{EachIsAnswered, opened_after, opened_in}
 use Rattle.transit_laws.proofs.TcSound.{IsSoundHost, log_sound}
 use Rattle.command_laws.proofs.Arrives.{Came, passes_on}
 use Rattle.command_laws.proofs.First.{IsFirst, request_first}
@@ -47,7 +44,7 @@ use Rattle.command_laws.proofs.OwnEntry as entry
 use Rattle.command_laws.proofs.SinceKinds.{SinceAre, since_are}
 use Rattle.command_laws.proofs.Told.{told_since}
 use Rattle.command_laws.proofs.WaitKinds.{is_telling, is_telling_who, is_wait, node_same, wait_closed}
-use Rattle.command_laws.proofs.WaitsAtQuiet.{LiveThere, WaitsHeld, waits_held}
+use Rattle.command_laws.proofs.WaitsAtQuiet.{WaitsHeld, waits_held}
 use Rattle.command_laws.proofs.WaitSends.{asks_on, finds_on, is_asking, is_finding, is_seeking}
 use Rattle.command_laws.proofs.WaitSends as rows
 use Rattle.command_laws.specs.Holders.{AbortsAskAtQuiet, name_in}
@@ -74,7 +71,7 @@ module _ (start : Start) (tx : TxId) where
       node_same tx (after start h (newer ++ log)) n e.taken.to e.taken.body before kinds.0 ∙ before
 
   module _ (name : Option ℕ) (front back : List OpenTransaction) (before : tally (is_named name) front ≡ 0) (t : OpenTransaction) (own_tx : t.tx ≡ Some tx)
-    (alone : tally (has_tx tx) front ≡ 0) (itself : has_tx tx t ≡ true) where
+      (alone : tally (has_tx tx) front ≡ 0) (itself : has_tx tx t ≡ true) where
     -- at the shell's host the transaction stands in its place, and once it is told whom it waits for that is known
     pub record Stands (later log : List LogStep) : Type 0 where
       pub ahead : Option TxId
@@ -105,7 +102,7 @@ at_first : (start : Start) (log : List LogStep) (e : LogStep) (body : Body) → 
 at_first start log e body place about = ap (λ (to : Place). row (after start 0 log) to e.taken.body) place ∙ ap (row (after start 0 log) client) about
 
 module _ (answered : EachIsAnswered) (aborts : AbortsAskAtQuiet) (start : Start) (was mid now : ℕ → List LogStep) (t : OpenTransaction) (first : IsServed start was mid Waits) (second : IsServed start mid now Pending)
-  (own_is : own_in (after start 0 (was 0)) ≡ Some t) (waits : is_unanswered t.doing ≡ true) where
+    (own_is : own_in (after start 0 (was 0)) ≡ Some t) (waits : is_unanswered t.doing ≡ true) where
   pub own : HasOwn t (after start 0 (was 0))
   own = own_found (after start 0 (was 0)) t own_is
 

@@ -1,5 +1,5 @@
 -- What the shell's host asks coordinators for in steps that aren't requests, and which of its replies answer operations alone.
-use Rattle.std.proofs.Common.{◌≡◌, ◌⊎◌, ◌≤◌, ◌+◌, ℕ, Bool, true, false, List, [], ◌∷◌, ◌++◌, refl, sym, ap, ◌∙◌, subst, inl, inr, arith}
+use Rattle.std.proofs.Common.{◌≡◌, ◌⊎◌, ◌≤◌, ℕ, Bool, true, false, List, [], ◌∷◌, ◌++◌, refl, sym, ap, ◌∙◌, subst, inl, inr, arith}
 use Rattle.std.specs.Prelude.{◌&&◌, Option, None, Some}
 use Rattle.run_theory.specs.Lists.{Each, IsIn}
 use Rattle.run_theory.proofs.Pasts.{each_map}
@@ -12,7 +12,7 @@ use Rattle.sig_core.specs.declared.place.BlockId.{BlockId}
 use Rattle.sig_core.specs.declared.place.BlockId.TheVariants as block
 use Rattle.sig_core.specs.declared.place.Place.{Place}
 use Rattle.sig_core.specs.declared.reply.ApiReply.{ApiReply}
-use Rattle.sig_core.specs.declared.reply.ApiReply.TheVariants.{Answered, Begun, Digest, Ended, Refused, Row, Rows}
+use Rattle.sig_core.specs.declared.reply.ApiReply.TheVariants.{Answered, Begun, Ended, Refused}
 use Rattle.sig_core.specs.declared.reply.Refusal.TheVariants.{NoMember, TooManyOpen}
 use Rattle.sig_core.specs.declared.request.ApiReq.TheVariants as request
 use Rattle.sig_core.specs.declared.signal.Body.{Body}
@@ -21,9 +21,8 @@ use Rattle.sig_core.specs.declared.signal.client.ClientSignal.TheVariants.{TcBeg
 use Rattle.sig_core.specs.declared.signal.host.HostSignal.TheVariants.{Continue}
 use Rattle.sig_core.specs.declared.signal.host.Work.TheVariants as work
 use Rattle.sig_core.specs.Place.{client}
-use Rattle.sig_core.specs.Same.{same_tx}
 use Rattle.sig_core.specs.Step.{Step}
-use Rattle.api_block.specs.declared.opened.Doing.TheVariants.{Committing, Ready}
+use Rattle.api_block.specs.declared.opened.Doing.TheVariants.{Committing}
 use Rattle.api_block.specs.declared.opened.OpenTransaction.{OpenTransaction}
 use Rattle.api_block.specs.Api.{api_row, request_row}
 use Rattle.api_block.specs.Members.{least_node}
@@ -35,7 +34,7 @@ use Rattle.node_core.specs.declared.host.Host.TheVariants.{Shell, Node}
 use Rattle.node_core.specs.Replies.{replies_of}
 use Rattle.node_core.specs.Requests.{is_request}
 use Rattle.node_core.specs.Row.{in_shell, node_row, row, shell_row}
-use Rattle.world_core.specs.Machine.{after, step_after}
+use Rattle.world_core.specs.Machine.{after}
 use Rattle.world_core.specs.Start.{Start}
 use Rattle.answer_laws.proofs.ApiBegins.{in_middle}
 use Rattle.answer_laws.proofs.Hosts.{shell_after}
@@ -47,7 +46,7 @@ use Rattle.answer_laws.proofs.TcLives.{is_start, start_of}
 use Rattle.answer_laws.proofs.TcMoves.{same_tx-is}
 use Rattle.answer_laws.proofs.Wishes.{is_api, is_tc, sends_of}
 use Rattle.answer_laws.specs.Answered.{opened_in}
-use Rattle.command_laws.proofs.ApiChanges.{AddsRows, ApiChange, GoesOnAs, alone, answers, api_changes, commits, ends, idle, is_news_kind, is_row_reply, refuses, rests, starts, told, waits}
+use Rattle.command_laws.proofs.ApiChanges.{ApiChange, GoesOnAs, alone, answers, api_changes, commits, ends, idle, is_news_kind, is_row_reply, refuses, rests, starts, told, waits}
 use Rattle.command_laws.proofs.Entries.{HasOne}
 use Rattle.command_laws.proofs.Since.{sent_since}
 use Rattle.command_laws.proofs.TellsOnce.{is_wish_back_to, wish_back_of}
@@ -93,17 +92,20 @@ module _ (s : ApiState) (body : Body) where
       inr (none_more step adds.more adds.is (tally_none is_lone adds.more (each_map (λ (r : ApiReply). is_row_reply r ≡ true) (λ (r : ApiReply). is_lone r ≡ false) adds.more not_lone adds.rows)))
   change_lone step (waits one ahead at about is replies sends) = inr (ap (tally is_lone) replies)
   change_lone step (answers one answer called at about passes does named is replies sends) = inr (none_more step (Answered (Some called) answer ∷ []) replies refl)
-  change_lone step (commits one answer at about passes does named is replies sends) = inl (one, record {
-    answer = answer;
-    about = about;
-    has = record {
-      item = answered at.t Committing;
-      inside = subst (IsIn (answered at.t Committing)) (sym is) (in_middle at.front (answered at.t Committing) at.back);
-      own = has_number one at.t passes;
-      called = named;
-      does = refl;
-    };
-  })
+  change_lone step (commits one answer at about passes does named is replies sends) = inl (
+    one,
+    record {
+      answer = answer;
+      about = about;
+      has = record {
+        item = answered at.t Committing;
+        inside = subst (IsIn (answered at.t Committing)) (sym is) (in_middle at.front (answered at.t Committing) at.back);
+        own = has_number one at.t passes;
+        called = named;
+        does = refl;
+      };
+    },
+  )
   change_lone step (ends one end at about passes is replies marks sends) = inr (none_more step (Ended at.t.name end ∷ []) replies refl)
   change_lone step (starts called one at u about passes is goes) = inr (goes_lone one at.t u step goes)
   change_lone step (refuses called at about passes is replies sends) = inr (none_more step (Refused called TooManyOpen ∷ []) replies refl)

@@ -1,6 +1,6 @@
 -- Along a log without a wish for its end, a transaction that takes operations is aborted only where a replica refused one, and
 -- nothing else is told of its end.
-use Rattle.std.proofs.Common.{◌≡◌, ◌≢◌, ◌⊎◌, ◌<◌, ◌≤◌, ◌+◌, ℕ, zero, suc, Bool, true, false, List, [], ◌∷◌, ◌++◌, refl, sym, ap, ◌∙◌, subst, inl, inr, arith}
+use Rattle.std.proofs.Common.{◌≡◌, ◌≢◌, ◌⊎◌, ◌<◌, ◌≤◌, ℕ, zero, suc, Bool, true, false, List, [], ◌∷◌, ◌++◌, refl, sym, ap, ◌∙◌, subst, inl, inr, arith}
 use Rattle.std.proofs.lemmas.Bool.{cases_eq}
 use Rattle.std.specs.List.{list_any}
 use Rattle.std.specs.Prelude.{◌&&◌, Option, None, Some, if◌then◌else◌, not}
@@ -18,7 +18,6 @@ use Rattle.sig_core.specs.declared.signal.Body.TheVariants.{Chain, Client}
 use Rattle.sig_core.specs.declared.signal.chain.ChainSignal.TheVariants.{LqhKeyRef}
 use Rattle.sig_core.specs.declared.signal.client.ClientSignal.TheVariants.{TcCommitConf, TcCommitReq, TcRollbackRep, TcRollbackReq}
 use Rattle.sig_core.specs.Same.{same_tx}
-use Rattle.sig_core.specs.Step.{Step}
 use Rattle.lqh_block.specs.Lqh.{lqh_row}
 use Rattle.node_core.specs.declared.host.Host as host
 use Rattle.node_core.specs.declared.host.Host.TheVariants.{Shell, Node}
@@ -39,18 +38,17 @@ use Rattle.commit_laws.specs.Ways.{back_by, is_aborting, sent_ways}
 use Rattle.answer_laws.proofs.DihSends.{dih_kinds}
 use Rattle.answer_laws.proofs.LqhSends.{lqh_kinds}
 use Rattle.answer_laws.proofs.SendKinds.{is_dih_kind, is_lqh_kind, none_of}
-use Rattle.answer_laws.proofs.Tally.{one_if, tally}
+use Rattle.answer_laws.proofs.Tally.{one_if}
 use Rattle.answer_laws.proofs.TcMoves.{same_tx-is}
 use Rattle.answer_laws.proofs.TcSends.{same_tx-self, tx_in}
 use Rattle.answer_laws.proofs.Wishes.{is_tc, sends_of}
 use Rattle.transit_laws.proofs.Transit.{comes, earlier}
-use Rattle.transit_laws.specs.GivenUp.{is_given_up}
 use Rattle.transit_laws.specs.Live.{of_live}
 use Rattle.transit_laws.specs.Transit.{Comes, IsRun, logs_of}
 use Rattle.command_laws.proofs.MildTurns.{IsFairHere, StaysMild, is_mild, is_mild_kind, is_stop, mild_turn}
 use Rattle.command_laws.proofs.RefusalsFair.{IsFair, coming_fair}
 use Rattle.command_laws.proofs.Since.{sent_since}
-use Rattle.command_laws.proofs.TcPath.{IsSound, TcGoes, aside, begins, is_told, left_by, none_dih, none_lqh, takes, tc_goes, told_of}
+use Rattle.command_laws.proofs.TcPath.{IsSound, TcGoes, aside, begins, is_told, none_dih, none_lqh, takes, tc_goes, told_of}
 use Rattle.command_laws.proofs.TellsSince.{away_since, shell_since, sound_at}
 use Rattle.command_laws.proofs.Turns.{turn_by}
 use Rattle.command_laws.specs.Operations.{is_refusal}

@@ -1,36 +1,23 @@
 -- A transaction whose operation was sent is so until that is answered, or its end is reported.
-use Rattle.std.proofs.Common.{◌≡◌, ◌⊎◌, ◌+◌, ◌<◌, ℕ, Bool, true, false, List, [], ◌∷◌, ◌++◌, length, refl, sym, ap, ◌∙◌, subst, inl, inr, arith}
-use Rattle.std.proofs.lemmas.Bool.Decides.{nat_tests}
-use Rattle.std.specs.Prelude.{◌&&◌, Option, None, Some, is_some, nat_lt}
+use Rattle.std.proofs.Common.{◌≡◌, ◌⊎◌, ℕ, true, false, List, [], ◌∷◌, ◌++◌, refl, sym, ap, ◌∙◌, subst, inl, inr}
+use Rattle.std.specs.Prelude.{Option, None, Some, is_some}
 use Rattle.run_theory.specs.Lists.{Each, IsIn}
 use Rattle.sig_core.specs.declared.log.LogStep.{LogStep}
 use Rattle.sig_core.specs.declared.mark.Mark.TheVariants.{Reported}
 use Rattle.sig_core.specs.declared.member.TxId.{TxId}
 use Rattle.sig_core.specs.declared.op.Answer.{Answer}
-use Rattle.sig_core.specs.declared.op.Op.{Op}
 use Rattle.sig_core.specs.declared.outcome.Outcome.{Outcome}
-use Rattle.sig_core.specs.declared.outs.Outgoing.{Outgoing}
 use Rattle.sig_core.specs.declared.place.BlockId.{BlockId}
 use Rattle.sig_core.specs.declared.place.BlockId.TheVariants as block
 use Rattle.sig_core.specs.declared.place.Place.{Place}
 use Rattle.sig_core.specs.declared.reply.ApiReply.TheVariants.{Answered, Ended}
-use Rattle.sig_core.specs.declared.reply.Refusal.TheVariants.{NotOpen}
-use Rattle.sig_core.specs.declared.request.ApiReq.TheVariants as request
 use Rattle.sig_core.specs.declared.signal.Body.{Body}
-use Rattle.sig_core.specs.declared.signal.Body.TheVariants.{Host, Client}
-use Rattle.sig_core.specs.declared.signal.client.ClientSignal.TheVariants.{TcCommitReq, TcKeyReq, TcRollbackReq}
-use Rattle.sig_core.specs.declared.signal.host.HostSignal.TheVariants.{Continue}
-use Rattle.sig_core.specs.declared.signal.host.Work.TheVariants as work
-use Rattle.sig_core.specs.Place.{client, coordinator_of}
-use Rattle.sig_core.specs.Same.{same_tx}
 use Rattle.sig_core.specs.Step.{Step}
-use Rattle.api_block.specs.declared.opened.Doing.{Doing}
-use Rattle.api_block.specs.declared.opened.Doing.TheVariants.{Ready, Operating}
+use Rattle.api_block.specs.declared.opened.Doing.TheVariants.{Operating}
 use Rattle.api_block.specs.declared.opened.OpenTransaction.{OpenTransaction}
-use Rattle.api_block.specs.Api.{api_row, request_row}
-use Rattle.api_block.specs.Opened.{begins, behind, has_tx, if_there, is_beginning, is_tx, operating, same_name, where_at}
-use Rattle.api_block.specs.Operate.{key_request, operate_by, operate_if, operate_row}
-use Rattle.api_block.specs.State.{ApiState, about, changing, refused}
+use Rattle.api_block.specs.Api.{api_row}
+use Rattle.api_block.specs.Opened.{begins, behind, has_tx, is_beginning, same_name}
+use Rattle.api_block.specs.State.{ApiState, about}
 use Rattle.node_core.specs.declared.host.Host as host
 use Rattle.node_core.specs.declared.host.Host.TheVariants.{Shell, Node}
 use Rattle.node_core.specs.Replies.{replies_of}
@@ -38,18 +25,11 @@ use Rattle.node_core.specs.Requests.{is_request}
 use Rattle.node_core.specs.Row.{row, shell_row}
 use Rattle.world_core.specs.Machine.{after, step_after}
 use Rattle.world_core.specs.Start.{Start}
-use Rattle.answer_laws.proofs.ApiBegins.{each_at, each_changed, each_less, first_of, in_middle}
-use Rattle.answer_laws.proofs.SendKinds.{none_of}
-use Rattle.answer_laws.proofs.TcMoves.{same_tx-is}
-use Rattle.answer_laws.proofs.Wishes.{is_tc, sends_of}
+use Rattle.answer_laws.proofs.ApiBegins.{first_of, in_middle}
 use Rattle.answer_laws.specs.Answered.{opened_in}
-use Rattle.command_laws.proofs.ApiChanges.{ApiChange, answers, api_changes, commits, ends, is_news_kind, outcome_in, refuses, rests, starts, waits}
+use Rattle.command_laws.proofs.ApiChanges.{ApiChange, answers, api_changes, commits, ends, outcome_in, refuses, rests, starts, waits}
 use Rattle.command_laws.proofs.CommitGoes.{HasEnded, IsEnding}
-use Rattle.command_laws.proofs.Entries.{HasOne, IsApart, IsNamed, NoneBegins, here_or_apart, named_found, same_number}
-use Rattle.command_laws.proofs.MildSince.{is_stop_to, stop_of}
-use Rattle.command_laws.proofs.Pushes.{is_node_kind, node_since}
-use Rattle.command_laws.proofs.Since.{sent_since}
-use Rattle.command_laws.specs.Served.{named_in}
+use Rattle.command_laws.proofs.Entries.{HasOne, IsApart, here_or_apart, same_number}
 
 -- each of these that is the transaction has a name
 abbrev pub AllNamed : TxId → List OpenTransaction → Type 0

@@ -1,11 +1,10 @@
 -- An operation that a transaction takes is answered, or ends it where a replica refused it, or waits for a lock.
-use Rattle.std.proofs.Common.{◌≡◌, ◌≢◌, ◌⊎◌, ◌<◌, ◌≤◌, ◌+◌, ℕ, zero, suc, Bool, true, false, List, [], ◌∷◌, ◌++◌, length, refl, sym, ap, ◌∙◌, subst, inl, inr, append_assoc, arith}
+use Rattle.std.proofs.Common.{◌≡◌, ◌≢◌, ◌⊎◌, ◌<◌, ◌≤◌, ℕ, zero, suc, Bool, true, false, List, [], ◌∷◌, ◌++◌, length, refl, sym, ap, ◌∙◌, subst, inl, inr, append_assoc, arith}
 use Rattle.std.proofs.lemmas.Bool.{cases_eq}
-use Rattle.std.specs.Prelude.{◌&&◌, Option, None, Some, drop, not, position}
+use Rattle.std.specs.Prelude.{◌&&◌, Option, None, Some, drop, not}
 use Rattle.run_theory.specs.Cuts.{IsCut}
 use Rattle.run_theory.specs.Lists.{Each, IsIn, IsPast}
 use Rattle.run_theory.specs.Orders.{merged}
-use Rattle.run_theory.specs.Runs.{log_of}
 use Rattle.run_theory.proofs.Merging.{logs_merged, merged_run}
 use Rattle.run_theory.proofs.Pasts.{each_before, each_in, each_map}
 use Rattle.sig_core.specs.declared.log.LogStep.{LogStep}
@@ -19,18 +18,14 @@ use Rattle.sig_core.specs.declared.reply.ApiReply.{ApiReply}
 use Rattle.sig_core.specs.declared.reply.ApiReply.TheVariants as reply
 use Rattle.sig_core.specs.declared.request.ApiReq.TheVariants.{Operate}
 use Rattle.sig_core.specs.declared.signal.Body.{Body}
-use Rattle.sig_core.specs.declared.signal.Body.TheVariants.{Host, Client}
+use Rattle.sig_core.specs.declared.signal.Body.TheVariants.{Client}
 use Rattle.sig_core.specs.declared.signal.client.ClientSignal.TheVariants.{TcCommitConf, TcRollbackRep}
-use Rattle.sig_core.specs.declared.signal.host.HostSignal.TheVariants.{Continue}
-use Rattle.sig_core.specs.declared.signal.host.Work.TheVariants.{Request}
 use Rattle.sig_core.specs.Place.{client}
 use Rattle.sig_core.specs.Same.{same_tx}
 use Rattle.api_block.specs.declared.opened.Doing.{Doing}
 use Rattle.api_block.specs.declared.opened.Doing.TheVariants.{Operating, Ready}
 use Rattle.api_block.specs.declared.opened.OpenTransaction.{OpenTransaction}
-use Rattle.api_block.specs.Opened.{has_tx, is_named, same_name, where_at}
-use Rattle.node_core.specs.declared.host.Host as host
-use Rattle.node_core.specs.declared.host.Host.TheVariants.{Shell, Node}
+use Rattle.api_block.specs.Opened.{is_named, same_name}
 use Rattle.node_core.specs.Replies.{replies_of}
 use Rattle.node_core.specs.Requests.{is_request}
 use Rattle.node_core.specs.Row.{row}
@@ -38,7 +33,7 @@ use Rattle.world_core.proofs.Stamped.{stamped}
 use Rattle.world_core.specs.Machine.{after, hosts, machine, step_after}
 use Rattle.world_core.specs.Start.{Start}
 use Rattle.answer_laws.proofs.ApiBegins.{in_middle, same_name-self}
-use Rattle.answer_laws.proofs.Focus.{IsFocus, where_found}
+use Rattle.answer_laws.proofs.Focus.{where_found}
 use Rattle.answer_laws.proofs.Hosts.{node_after, shell_after}
 use Rattle.answer_laws.proofs.Lives.{holds_at, once_started}
 use Rattle.answer_laws.proofs.Tally.{only_one, tally, tally_in}
@@ -47,7 +42,6 @@ use Rattle.answer_laws.proofs.TcSends.{same_tx-self}
 use Rattle.answer_laws.specs.Answered.{EachIsAnswered, IsOpen, IsOpenAt, WaitsForLock, is_answered_by, opened_after, opened_in}
 use Rattle.transit_laws.proofs.TcSound.{log_sound}
 use Rattle.transit_laws.specs.Live.{of_live}
-use Rattle.transit_laws.specs.Transit.{IsRun}
 use Rattle.command_laws.proofs.ApiChanges.{outcome_in}
 use Rattle.command_laws.proofs.CommitGoes.{HasEnded}
 use Rattle.command_laws.proofs.Committed.{calm_at, cut_at_first, sent_append}

@@ -1,8 +1,6 @@
 -- The transaction that the last command is about, among the others of the API.
-use Rattle.std.proofs.Common.{◌≡◌, ◌⊎◌, ◌≤◌, ◌+◌, ℕ, suc, Bool, true, false, List, [], ◌∷◌, ◌++◌, length, refl, sym, ap, ◌∙◌, subst, inl, inr, arith}
+use Rattle.std.proofs.Common.{◌≡◌, ◌⊎◌, ℕ, Bool, true, false, List, [], ◌∷◌, ◌++◌, length, refl, sym, ap, ◌∙◌, subst, inl, inr}
 use Rattle.std.specs.Prelude.{◌&&◌, Option, None, Some, is_some, position, slice_get, slice_set}
-use Rattle.run_theory.specs.Lists.{Each}
-use Rattle.sig_core.specs.declared.log.LogStep.{LogStep}
 use Rattle.sig_core.specs.declared.member.TxId.{TxId}
 use Rattle.sig_core.specs.declared.place.BlockId.{BlockId}
 use Rattle.sig_core.specs.declared.place.BlockId.TheVariants as block
@@ -20,14 +18,13 @@ use Rattle.sig_core.specs.Same.{same_tx}
 use Rattle.sig_core.specs.Step.{Step, sending, stay}
 use Rattle.api_block.specs.declared.opened.OpenTransaction.{OpenTransaction}
 use Rattle.api_block.specs.Api.{api_row, request_row}
-use Rattle.api_block.specs.Opened.{behind, has_tx, if_there, is_named, is_tx, is_unanswered, own_place, own_place_by, same_name, where_at}
+use Rattle.api_block.specs.Opened.{behind, has_tx, if_there, is_named, is_unanswered, own_place, own_place_by, where_at}
 use Rattle.api_block.specs.State.{ApiState, changing}
 use Rattle.api_block.specs.Wait.{behind_row, name_of, pending_by, pending_if, pending_row, waits_if, waits_row}
 use Rattle.node_core.specs.declared.host.Host as host
 use Rattle.node_core.specs.declared.host.Host.TheVariants.{Shell, Node}
 use Rattle.node_core.specs.Replies.{replies_of}
 use Rattle.node_core.specs.Row.{row, shell_row}
-use Rattle.answer_laws.proofs.ApiBegins.{same_name-is}
 use Rattle.answer_laws.proofs.Tally.{tally}
 use Rattle.answer_laws.proofs.TcMoves.{same_tx-is}
 use Rattle.answer_laws.proofs.TcSends.{same_tx-self}

@@ -1,12 +1,11 @@
 -- Along every run an operation is refused for what a replica may, or its transaction is given up.
-use Rattle.std.proofs.Common.{◌≡◌, ◌⊎◌, ℕ, Bool, true, false, List, [], ◌∷◌, refl, sym, ap, subst, ◌∙◌, inl, inr}
+use Rattle.std.proofs.Common.{◌≡◌, ◌⊎◌, ℕ, Bool, true, false, List, ◌∷◌, refl, sym, subst, inl, inr}
 use Rattle.std.specs.Prelude.{Option}
 use Rattle.run_theory.specs.Lists.{Each, IsPast}
 use Rattle.run_theory.proofs.Pasts.{each_map}
 use Rattle.run_theory.proofs.Runs.{log_of-past}
 use Rattle.sig_core.specs.declared.log.LogStep.{LogStep}
 use Rattle.sig_core.specs.declared.member.TxId.{TxId}
-use Rattle.sig_core.specs.declared.outcome.AbortCause.{AbortCause}
 use Rattle.sig_core.specs.declared.outs.Outgoing.{Outgoing}
 use Rattle.sig_core.specs.declared.place.BlockId.{BlockId}
 use Rattle.sig_core.specs.declared.place.BlockId.TheVariants as block
@@ -16,7 +15,6 @@ use Rattle.sig_core.specs.declared.signal.Body.TheVariants.{Chain, Client}
 use Rattle.sig_core.specs.declared.signal.chain.ChainSignal.TheVariants.{Abort, LqhKeyRef}
 use Rattle.sig_core.specs.declared.signal.client.ClientSignal.TheVariants.{TcBeginReq}
 use Rattle.sig_core.specs.declared.signal.Signal.{Signal}
-use Rattle.sig_core.specs.Same.{same_tx}
 use Rattle.api_block.specs.State.{ApiState}
 use Rattle.lqh_block.specs.Lqh.{lqh_row}
 use Rattle.node_core.specs.declared.host.Host as host
@@ -27,7 +25,7 @@ use Rattle.node_core.specs.Requests.{is_request}
 use Rattle.node_core.specs.Row.{node_row, row, shell_row}
 use Rattle.tc_block.specs.State.{TcState}
 use Rattle.tc_block.specs.Tc.{begin_if, begin_row, is_full, tc_row}
-use Rattle.world_core.specs.Machine.{after, machine, signals_of, step_after}
+use Rattle.world_core.specs.Machine.{after, machine, signals_of}
 use Rattle.world_core.specs.Start.{Start}
 use Rattle.answer_laws.proofs.ApiMoves.{is_api_kind}
 use Rattle.answer_laws.proofs.DihSends.{dih_kinds}
@@ -42,7 +40,7 @@ use Rattle.transit_laws.proofs.WaysPassed.{api_each}
 use Rattle.transit_laws.proofs.Weighing.{each_between, each_joins, each_taken}
 use Rattle.transit_laws.specs.GivenUp.{is_given_up}
 use Rattle.transit_laws.specs.Transit.{AreInTransit, Comes, IsRun, Takes, joined, logs_of}
-use Rattle.command_laws.proofs.Refusals.{abort_refuses, is_abort, is_fair, is_refused_of, lqh_fair}
+use Rattle.command_laws.proofs.Refusals.{abort_refuses, is_fair, is_refused_of, lqh_fair}
 use Rattle.command_laws.specs.Operations.{is_refusal}
 
 module _ (start : Start) where

@@ -1,5 +1,5 @@
 -- Where what follows from signals of a kind is of that kind, and what the request sends is too, all that was taken since is.
-use Rattle.std.proofs.Common.{◌≡◌, ◌≢◌, ◌⊎◌, ◌<◌, ◌≤◌, ◌+◌, ℕ, zero, suc, Bool, true, false, List, [], ◌∷◌, ◌++◌, refl, sym, ap, subst, ◌∙◌, inl, inr, append_assoc, arith}
+use Rattle.std.proofs.Common.{◌≡◌, ◌≢◌, ◌⊎◌, ◌≤◌, ℕ, zero, suc, Bool, true, false, List, [], ◌∷◌, ◌++◌, refl, sym, ap, subst, ◌∙◌, inl, inr, append_assoc, arith}
 use Rattle.std.proofs.lemmas.Bool.{cases_eq}
 use Rattle.std.proofs.Math.Path.{fun_ext}
 use Rattle.std.specs.Prelude.{◌==◌, ◌&&◌, not, option_to_list}
@@ -9,7 +9,7 @@ use Rattle.run_theory.specs.Links.{sent, taken}
 use Rattle.run_theory.specs.Lists.{Each, IsPast}
 use Rattle.run_theory.specs.Logs.{IsLog}
 use Rattle.run_theory.specs.Orders.{merged}
-use Rattle.run_theory.specs.Runs.{Happens, Run, log_of}
+use Rattle.run_theory.specs.Runs.{Run, log_of}
 use Rattle.run_theory.proofs.Cuts.{taken_past}
 use Rattle.run_theory.proofs.Growth.{grow}
 use Rattle.run_theory.proofs.Merging.{log_of-append, logs_merged, merged_run}
@@ -17,7 +17,6 @@ use Rattle.run_theory.proofs.Orders.{each_event, each_log}
 use Rattle.run_theory.proofs.Pasts.{each_before, past_append, past_trans}
 use Rattle.run_theory.proofs.Runs.{log_of-other, log_of-own, log_of-past}
 use Rattle.sig_core.specs.declared.log.LogStep.{LogStep}
-use Rattle.sig_core.specs.declared.outs.Outgoing.{Outgoing}
 use Rattle.sig_core.specs.declared.place.Place.{Place}
 use Rattle.sig_core.specs.declared.request.ApiReq.{ApiReq}
 use Rattle.sig_core.specs.declared.signal.Body.{Body}
@@ -25,7 +24,6 @@ use Rattle.sig_core.specs.declared.signal.Body.TheVariants.{Host}
 use Rattle.sig_core.specs.declared.signal.host.HostSignal.TheVariants.{Continue}
 use Rattle.sig_core.specs.declared.signal.host.Work.TheVariants.{Request}
 use Rattle.sig_core.specs.declared.signal.Signal.{Signal}
-use Rattle.sig_core.specs.declared.view.View.{View}
 use Rattle.sig_core.specs.Place.{client}
 use Rattle.node_core.specs.declared.host.Host as host
 use Rattle.node_core.specs.Requests.{is_request}
@@ -38,8 +36,8 @@ use Rattle.answer_laws.proofs.Begins.{given_past}
 use Rattle.answer_laws.proofs.LinkCounts.{sent_signals, signals}
 use Rattle.answer_laws.proofs.SendKinds.{are_of, none_of}
 use Rattle.answer_laws.proofs.Tally.{one_if, tally_past}
-use Rattle.answer_laws.proofs.Wishes.{sends_of, to_node}
-use Rattle.transit_laws.specs.Transit.{Comes, IsRun, logs_of}
+use Rattle.answer_laws.proofs.Wishes.{to_node}
+use Rattle.transit_laws.specs.Transit.{Comes, IsRun}
 use Rattle.transit_laws.proofs.OneAtATime.{comes_low}
 use Rattle.transit_laws.proofs.Transit.{comes, earlier}
 use Rattle.command_laws.proofs.First.{Oldest, cancel, first_asked, fits_asked, no_requests, oldest, requests_append}
@@ -71,8 +69,8 @@ module _ (start : Start) where
       by true is asked = let zero_is : suc h ≡ 0 = asked.shell in absurd (omega (arith, zero_is))
 
 module _ (start : Start) (was now : ℕ → List LogStep) (request : ApiReq) (served : IsServed start was now request) (k : Body → Bool)
-  (closed : (g : host.Host) (to : Place) (body : Body) → k body ≡ true → are_of k (row g to body).effects.sends ≡ true)
-  (begins : are_of k (row (after start 0 (was 0)) client (Host (Continue (Request request) 0))).effects.sends ≡ true) where
+    (closed : (g : host.Host) (to : Place) (body : Body) → k body ≡ true → are_of k (row g to body).effects.sends ≡ true)
+    (begins : are_of k (row (after start 0 (was 0)) client (Host (Continue (Request request) 0))).effects.sends ≡ true) where
   -- of other signals none was sent since
   Few : (ℕ → List LogStep) → Type 0
   Few logs = (i j : ℕ) → signals (is_other k) (sent (machine start) i j (logs i)) ≤ signals (is_other k) (sent (machine start) i j (was i))
@@ -167,8 +165,8 @@ is_run_before start [] es run = run
 is_run_before start (e ∷ newer) es run = is_run_before start newer es (earlier start (newer ++ es) e run)
 
 module _ (start : Start) (was now : ℕ → List LogStep) (request : ApiReq) (served : IsServed start was now request) (k : Body → Bool)
-  (closed : (g : host.Host) (to : Place) (body : Body) → k body ≡ true → are_of k (row g to body).effects.sends ≡ true)
-  (begins : are_of k (row (after start 0 (was 0)) client (Host (Continue (Request request) 0))).effects.sends ≡ true) where
+    (closed : (g : host.Host) (to : Place) (body : Body) → k body ≡ true → are_of k (row g to body).effects.sends ≡ true)
+    (begins : are_of k (row (after start 0 (was 0)) client (Host (Continue (Request request) 0))).effects.sends ≡ true) where
   all_are : (es newer : List LogStep) (first : LogStep) → log_of (machine start) es ≡ was → IsRun start (newer ++ first ∷ es) → log_of (machine start) (newer ++ first ∷ es) ≡ now → SinceAre start was now request k
   all_are es newer first same run all = found (fits_asked start was now request served first.taken.to.node _ first.taken (is_request first.taken.body) asks come.happens.step.fits.asked)
     where

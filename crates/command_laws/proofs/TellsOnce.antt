@@ -1,8 +1,7 @@
 -- A coordinator that takes one operation of a transaction answers it, or reports an abort, and not both.
-use Rattle.std.proofs.Common.{◌≡◌, ◌⊎◌, ◌<◌, ◌≤◌, ◌+◌, ℕ, zero, suc, Bool, true, false, List, [], ◌∷◌, ◌++◌, refl, sym, ap, ◌∙◌, subst, inl, inr, arith}
+use Rattle.std.proofs.Common.{◌≡◌, ◌⊎◌, ◌<◌, ◌≤◌, ◌+◌, ℕ, zero, suc, Bool, true, false, List, [], ◌∷◌, refl, sym, ap, ◌∙◌, subst, inl, inr, arith}
 use Rattle.std.specs.Prelude.{◌==◌, ◌&&◌, Option, None, Some, if◌then◌else◌}
 use Rattle.run_theory.specs.Lists.{Each}
-use Rattle.sig_core.specs.declared.log.LogStep.{LogStep}
 use Rattle.sig_core.specs.declared.member.TxId.{TxId}
 use Rattle.sig_core.specs.declared.outs.Outgoing.{Outgoing}
 use Rattle.sig_core.specs.declared.place.BlockId.{BlockId}
@@ -14,37 +13,28 @@ use Rattle.sig_core.specs.declared.signal.client.ClientSignal.TheVariants.{TcKey
 use Rattle.sig_core.specs.Same.{same_tx}
 use Rattle.sig_core.specs.Step.{Step}
 use Rattle.lqh_block.specs.Lqh.{lqh_row}
-use Rattle.node_core.specs.declared.host.Host as host
-use Rattle.node_core.specs.declared.host.Host.TheVariants.{Shell, Node}
 use Rattle.node_core.specs.declared.node.Node as node
 use Rattle.node_core.specs.Dih.{dih_row}
-use Rattle.node_core.specs.Row.{node_row, row}
+use Rattle.node_core.specs.Row.{node_row}
 use Rattle.tc_block.specs.declared.transaction.Transaction.{Transaction}
-use Rattle.tc_block.specs.Operate.{fresh}
 use Rattle.tc_block.specs.State.{TcState}
 use Rattle.tc_block.specs.Tc.{tc_row}
 use Rattle.tc_block.specs.Turn.{Turn}
-use Rattle.world_core.specs.Machine.{after, step_after}
-use Rattle.world_core.specs.Start.{Start}
 use Rattle.answer_laws.proofs.DihSends.{dih_kinds}
-use Rattle.answer_laws.proofs.Lives.{NodeKeeps, keeps}
 use Rattle.answer_laws.proofs.LqhSends.{lqh_kinds}
-use Rattle.answer_laws.proofs.LinkCounts.{steps}
-use Rattle.answer_laws.proofs.Ops.{same_node}
 use Rattle.answer_laws.proofs.SendKinds.{is_dih_kind, is_lqh_kind, none_of}
 use Rattle.answer_laws.proofs.Tally.{one_if, tally}
-use Rattle.answer_laws.proofs.TcKeys.{answer_of, is_asked, is_key, key_of_tx, tc_fair}
+use Rattle.answer_laws.proofs.TcKeys.{answer_of, is_asked, key_of_tx, tc_fair}
 use Rattle.answer_laws.proofs.TcLives.{IsOwn}
 use Rattle.answer_laws.proofs.TcMoves.{same_tx-is}
 use Rattle.answer_laws.proofs.TcSends.{same_tx-self, tx_in}
 use Rattle.answer_laws.proofs.Wishes.{is_api, is_tc, sends_of}
 use Rattle.transit_laws.specs.Live.{of_live}
 use Rattle.command_laws.proofs.Firm.{firm_turn, is_firm, is_no_abort}
-use Rattle.command_laws.proofs.FirmHosts.{back_of, is_back, no_back_firm, not_push, push_of}
-use Rattle.command_laws.proofs.Since.{sent_since}
+use Rattle.command_laws.proofs.FirmHosts.{is_back, no_back_firm, not_push, push_of}
 use Rattle.command_laws.proofs.TcPath.{IsSound, TcGoes, aside, begins, is_told, left_by, none_dih, none_lqh, takes, tc_goes, told_of}
 use Rattle.command_laws.proofs.Turns.{turn_by}
-use Rattle.command_laws.proofs.TurnTells.{IsFirmThen, TurnTells, is_reply, is_wish_back, turn_tells}
+use Rattle.command_laws.proofs.TurnTells.{TurnTells, is_reply, is_wish_back, turn_tells}
 
 -- where one test implies another, fewer signals pass it
 pub sends_less : (p q : Place → Body → Bool) → ((to : Place) (body : Body) → p to body ≡ true → q to body ≡ true) → (xs : List Outgoing) → sends_of p xs ≤ sends_of q xs

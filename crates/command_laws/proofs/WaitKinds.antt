@@ -1,5 +1,5 @@
 -- Signals that ask whom a transaction waits for, and their answers: they move no node, and only such signals follow from them.
-use Rattle.std.proofs.Common.{◌≡◌, ℕ, Bool, true, false, List, [], ◌∷◌, ◌++◌, refl, sym, ap, ◌∙◌, subst}
+use Rattle.std.proofs.Common.{◌≡◌, ℕ, Bool, true, false, List, [], ◌∷◌, ◌++◌, refl, sym, ap, ◌∙◌}
 use Rattle.std.specs.Map.{values_of}
 use Rattle.std.specs.Prelude.{◌&&◌, Option, None, Some, is_some, if◌then◌else◌, slice_get}
 use Rattle.sig_core.specs.declared.member.Member.{Member}
@@ -9,10 +9,9 @@ use Rattle.sig_core.specs.declared.place.BlockId.TheVariants as block
 use Rattle.sig_core.specs.declared.place.Place.{Place}
 use Rattle.sig_core.specs.declared.signal.Body.{Body}
 use Rattle.sig_core.specs.declared.signal.Body.TheVariants.{Client}
-use Rattle.sig_core.specs.declared.signal.client.ClientSignal.TheVariants.{TcBeginConf, TcWaitReq, LqhWaitReq, LqhWaitConf, TcWaitConf}
+use Rattle.sig_core.specs.declared.signal.client.ClientSignal.TheVariants.{TcWaitReq, LqhWaitReq, LqhWaitConf, TcWaitConf}
 use Rattle.sig_core.specs.Same.{same_tx}
-use Rattle.sig_core.specs.Step.{Step, stay}
-use Rattle.api_block.specs.declared.opened.OpenTransaction.{OpenTransaction}
+use Rattle.sig_core.specs.Step.{Step}
 use Rattle.api_block.specs.Api.{api_row}
 use Rattle.api_block.specs.State.{ApiState}
 use Rattle.lqh_block.specs.Lqh.{lqh_row}
@@ -31,11 +30,11 @@ use Rattle.tc_block.specs.Operate.{wait_by, wait_row}
 use Rattle.tc_block.specs.Sends.{waits_of}
 use Rattle.tc_block.specs.State.{TcState, with_live}
 use Rattle.tc_block.specs.Tc.{pass_if, pass_row, tc_row}
-use Rattle.tc_block.specs.Turn.{Turn, going}
+use Rattle.tc_block.specs.Turn.{going}
 use Rattle.answer_laws.proofs.SendKinds.{are_of, is_tc_kind, of_map}
 use Rattle.answer_laws.proofs.TcSends.{tc_kinds}
 use Rattle.answer_laws.proofs.Wishes.{is_api}
-use Rattle.command_laws.proofs.Turns.{TakesTurn, TcShape, starts, still, tc_shape, turns}
+use Rattle.command_laws.proofs.Turns.{TcShape, starts, still, tc_shape, turns}
 
 -- the signal asks whom the transaction waits for, or tells it
 abbrev pub is_wait : TxId → Body → Bool

@@ -1,46 +1,42 @@
 -- What is sent, host by host, so that it is told whom a transaction waits for.
-use Rattle.std.proofs.Common.{◌≡◌, ◌<◌, ◌≤◌, ◌+◌, ℕ, zero, suc, Bool, true, false, List, [], ◌∷◌, ◌++◌, length, refl, sym, ap, subst, ◌∙◌, inl, inr, arith}
+use Rattle.std.proofs.Common.{◌≡◌, ◌<◌, ◌≤◌, ◌+◌, ℕ, zero, suc, Bool, true, false, List, [], ◌∷◌, length, refl, sym, ap, subst, ◌∙◌, inl, inr, arith}
 use Rattle.std.specs.Map.{keys_of, values_of}
-use Rattle.std.specs.Prelude.{◌==◌, ◌&&◌, Option, None, Some, is_some, position, slice_get, map}
-use Rattle.run_theory.specs.Lists.{Each, IsIn}
+use Rattle.std.specs.Prelude.{◌==◌, ◌&&◌, Some, is_some, position, slice_get}
+use Rattle.run_theory.specs.Lists.{IsIn}
 use Rattle.run_theory.proofs.Pasts.{each_in}
 use Rattle.sig_core.specs.declared.member.Member.{Member}
 use Rattle.sig_core.specs.declared.member.TxId.{TxId}
-use Rattle.sig_core.specs.declared.outs.Outgoing.{Outgoing}
 use Rattle.sig_core.specs.declared.place.BlockId.{BlockId}
 use Rattle.sig_core.specs.declared.place.BlockId.TheVariants as block
 use Rattle.sig_core.specs.declared.place.Place.{Place}
 use Rattle.sig_core.specs.declared.signal.Body.{Body}
 use Rattle.sig_core.specs.declared.signal.Body.TheVariants.{Client}
-use Rattle.sig_core.specs.declared.signal.client.ClientSignal.TheVariants.{TcWaitReq, LqhWaitReq, LqhWaitConf, TcWaitConf}
+use Rattle.sig_core.specs.declared.signal.client.ClientSignal.TheVariants.{TcWaitReq, LqhWaitReq, LqhWaitConf}
 use Rattle.sig_core.specs.Chain.{node_at}
 use Rattle.sig_core.specs.Op.{key_of}
 use Rattle.sig_core.specs.Same.{same_key, same_tx}
 use Rattle.sig_core.specs.Step.{Step}
-use Rattle.row_locks.proofs.TxLemmas.{same_tx-swap}
 use Rattle.row_locks.specs.Tables.{ahead_at}
 use Rattle.lqh_block.proofs.IndexLemmas.{same as same_key-is}
 use Rattle.lqh_block.specs.Wait as rows
-use Rattle.node_core.specs.declared.host.Host as host
-use Rattle.node_core.specs.declared.host.Host.TheVariants.{Shell, Node}
 use Rattle.node_core.specs.declared.node.Node as node
-use Rattle.node_core.specs.Row.{node_row, row}
+use Rattle.node_core.specs.Row.{node_row}
 use Rattle.tc_block.specs.declared.phase.Asked.{Asked}
 use Rattle.tc_block.specs.declared.transaction.Transaction.{Transaction}
-use Rattle.tc_block.specs.Live.{place_in, step_of, step_place, step_value, stepped}
+use Rattle.tc_block.specs.Live.{step_of, step_place, step_value, stepped}
 use Rattle.tc_block.specs.Operate.{wait_by, wait_row}
-use Rattle.tc_block.specs.Sends.{wait_of, waits_of}
+use Rattle.tc_block.specs.Sends.{waits_of}
 use Rattle.tc_block.specs.State.{TcState}
 use Rattle.tc_block.specs.Tc.{pass_if, pass_row}
 use Rattle.commit_laws.proofs.Firsts.{place_by, position-cons}
 use Rattle.commit_laws.proofs.Keys.{same_key-self}
 use Rattle.commit_laws.proofs.LiveSplit.{KeysOnce, Live}
 use Rattle.answer_laws.proofs.LqhOps.{is_lqh}
-use Rattle.answer_laws.proofs.Tally.{one_if, tally}
+use Rattle.answer_laws.proofs.Tally.{one_if}
 use Rattle.answer_laws.proofs.TcMoves.{same_tx-is}
 use Rattle.answer_laws.proofs.TcSends.{eqb-self, same_tx-self}
-use Rattle.answer_laws.proofs.Wishes.{is_api, is_tc, sends_of, to_node}
-use Rattle.command_laws.proofs.WaitKinds.{is_telling, tells_of}
+use Rattle.answer_laws.proofs.Wishes.{is_tc, sends_of, to_node}
+use Rattle.command_laws.proofs.WaitKinds.{is_telling}
 
 -- the coordinator is asked whom the transaction waits for
 abbrev pub asks_of : TxId → Body → Bool

@@ -1,12 +1,12 @@
 -- Where it comes from that a transaction waits for another: its coordinator was told so, by a node where it waits behind that.
-use Rattle.std.proofs.Common.{◌≡◌, ◌⊎◌, ◌<◌, ◌≤◌, ◌+◌, ℕ, zero, suc, Bool, true, false, List, [], ◌∷◌, ◌++◌, refl, sym, ap, subst, ◌∙◌, inl, inr, append_assoc, arith}
+use Rattle.std.proofs.Common.{◌≡◌, ◌⊎◌, ◌<◌, ◌≤◌, ◌+◌, ℕ, Bool, true, false, List, [], ◌∷◌, ◌++◌, refl, sym, ap, ◌∙◌, inl, inr, arith}
 use Rattle.std.proofs.lemmas.Bool.{cases_lt}
 use Rattle.std.proofs.lemmas.Bool.Decides.{nat_tests}
 use Rattle.std.specs.Map.{values_of}
-use Rattle.std.specs.Prelude.{◌==◌, ◌&&◌, not, Option, None, Some, is_some, slice_get}
+use Rattle.std.specs.Prelude.{◌==◌, ◌&&◌, Option, None, Some, is_some, slice_get}
 use Rattle.run_theory.specs.Cuts.{IsCut}
 use Rattle.run_theory.specs.Links.{is_from}
-use Rattle.run_theory.specs.Lists.{Each, IsIn}
+use Rattle.run_theory.specs.Lists.{IsIn}
 use Rattle.sig_core.specs.declared.log.LogStep.{LogStep}
 use Rattle.sig_core.specs.declared.member.TxId.{TxId}
 use Rattle.sig_core.specs.declared.outs.Outgoing.{Outgoing}
@@ -44,9 +44,9 @@ use Rattle.answer_laws.proofs.Hosts.{shell_after}
 use Rattle.answer_laws.proofs.LinkCounts.{all_three}
 use Rattle.answer_laws.proofs.LqhSends.{lqh_kinds}
 use Rattle.answer_laws.proofs.SendKinds.{are_of, is_dih_kind, is_lqh_kind, is_tc_kind, none_of, of_map}
-use Rattle.answer_laws.proofs.Tally.{one_if, tally, tally_in, tally_none}
+use Rattle.answer_laws.proofs.Tally.{one_if, tally_in, tally_none}
 use Rattle.answer_laws.proofs.TcMoves.{same_tx-is}
-use Rattle.answer_laws.proofs.TcSends.{tc_kinds, tx_in}
+use Rattle.answer_laws.proofs.TcSends.{tc_kinds}
 use Rattle.answer_laws.proofs.Wishes.{is_api, is_tc, sends_of}
 use Rattle.answer_laws.specs.Answered.{AreQuiet}
 use Rattle.transit_laws.proofs.WaysPassed.{api_each}

@@ -1,9 +1,9 @@
 -- An operation that waits at a quiet moment: its coordinator has it unanswered, and it waits in a queue at a replica of its key.
-use Rattle.std.proofs.Common.{◌≡◌, ◌≢◌, ◌⊎◌, ◌<◌, ◌≤◌, ◌+◌, ℕ, zero, suc, Bool, true, false, List, [], ◌∷◌, ◌++◌, length, refl, sym, ap, subst, ◌∙◌, inl, inr, arith}
+use Rattle.std.proofs.Common.{◌≡◌, ◌≢◌, ◌⊎◌, ◌<◌, ◌≤◌, ◌+◌, ℕ, zero, suc, Bool, true, false, List, [], ◌∷◌, length, refl, sym, ap, subst, ◌∙◌, inl, inr, arith}
 use Rattle.std.proofs.lemmas.Bool.{cases_eq}
 use Rattle.std.proofs.lemmas.Bool.Decides.{nat_tests}
 use Rattle.std.specs.Prelude.{◌==◌, Option, None, Some, if◌then◌else◌, is_some, not}
-use Rattle.run_theory.specs.Lists.{Each, IsIn}
+use Rattle.run_theory.specs.Lists.{IsIn}
 use Rattle.run_theory.specs.Orders.{merged}
 use Rattle.run_theory.specs.Runs.{log_of}
 use Rattle.run_theory.proofs.Merging.{logs_merged, merged_run}
@@ -36,7 +36,7 @@ use Rattle.commit_laws.specs.Ways.{is_aborting}
 use Rattle.commit_laws.proofs.LiveSplit.{KeysOnce, Live}
 use Rattle.answer_laws.proofs.Commits.{live_low}
 use Rattle.answer_laws.proofs.Serves.{each_served}
-use Rattle.answer_laws.proofs.Tally.{one_if, only_one, tally, tally_in}
+use Rattle.answer_laws.proofs.Tally.{one_if, only_one, tally_in}
 use Rattle.answer_laws.proofs.TcSends.{same_tx-self}
 use Rattle.answer_laws.proofs.Totals.{total, total_at, total_one}
 use Rattle.answer_laws.specs.Answered as answered
@@ -47,7 +47,7 @@ use Rattle.transit_laws.proofs.TcSound.{IsSoundHost, log_sound}
 use Rattle.transit_laws.proofs.TransitRuns.{runs_have_transit}
 use Rattle.transit_laws.specs.GivenUp.{is_given_up}
 use Rattle.transit_laws.specs.Live.{of_host, of_live}
-use Rattle.transit_laws.specs.Routes.{AreRouted, IsAskedRouted, IsHostRouted, IsRequestRouted, IsTransactionRouted, replicas}
+use Rattle.transit_laws.specs.Routes.{IsAskedRouted, IsHostRouted, IsRequestRouted, IsTransactionRouted, replicas}
 use Rattle.transit_laws.specs.Tokens.{budget, budget_by, budget_of, tokens, waiting_all, waiting_in}
 use Rattle.transit_laws.specs.Transit.{AreInTransit, IsRun}
 use Rattle.command_laws.specs.Holders.{AbortsAskAtQuiet}
@@ -136,7 +136,7 @@ pub record WaitsHeld (start : Start) (logs : ℕ → List LogStep) (t : OpenTran
   pub held : ahead_at rows.lqh.locks (key_of asked.op) tx ≡ Some ahead
 
 module _ (answered_all : EachIsAnswered) (aborts : AbortsAskAtQuiet) (start : Start) (logs : ℕ → List LogStep) (t : OpenTransaction) (quiet : AreQuiet start logs)
-  (inside : IsIn t (opened_after start logs)) (waits : is_unanswered t.doing ≡ true) where
+    (inside : IsIn t (opened_after start logs)) (waits : is_unanswered t.doing ≡ true) where
   sent : IsSent start logs t
   sent = by t.doing t.tx refl (answered_all start logs t quiet inside) waits
     where

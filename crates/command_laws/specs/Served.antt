@@ -1,5 +1,5 @@
 -- What a command comes to, between two quiet moments.
-use Rattle.std.specs.Prelude.{◌≡◌, ◌<◌, ◌⊎◌, ◌++◌, ℕ, true, false, is_some, List, [], ◌∷◌, drop, length, position, Option, None, Some}
+use Rattle.std.specs.Prelude.{◌≡◌, ◌++◌, ℕ, true, is_some, List, [], ◌∷◌, drop, length, position, Option, None, Some}
 use Rattle.run_theory.specs.Cuts.{IsCut}
 use Rattle.run_theory.specs.Lists.{IsIn, IsPast}
 use Rattle.sig_core.specs.declared.log.LogStep.{LogStep}
