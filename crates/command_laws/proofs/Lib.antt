@@ -1,9 +1,9 @@
 pub mod ApiChanges
 pub mod Arrives
 pub mod CommitFirst
-pub mod CommitGoes
 pub mod Committed
 pub mod Entries
+pub mod EntryGoes
 pub mod Firm
 pub mod FirmAtQuiet
 pub mod FirmHosts
@@ -15,7 +15,6 @@ pub mod LoneCommitted
 pub mod MildSince
 pub mod MildTurns
 pub mod OperateFirst
-pub mod OperateGoes
 pub mod OperationsAnswered
 pub mod OwnEntry
 pub mod PhaseSends

@@ -41,7 +41,7 @@ use Rattle.answer_laws.proofs.TcLives.{is_keyed, is_start}
 use Rattle.answer_laws.proofs.TcSends.{same_tx-self}
 use Rattle.answer_laws.proofs.Wishes.{is_api, is_tc}
 use Rattle.answer_laws.specs.Answered.{EachIsAnswered, is_answered_by, opened_after, opened_in}
-use Rattle.command_laws.proofs.CommitGoes.{HasEnded, commit_goes}
+use Rattle.command_laws.proofs.EntryGoes.{HasEnded, commit_goes}
 use Rattle.command_laws.proofs.Committed.{cut_at_first, sent_append}
 use Rattle.command_laws.proofs.Entries.{HasOne}
 use Rattle.command_laws.proofs.FirmHosts.{back_of, is_back}

@@ -44,10 +44,13 @@ use Rattle.answer_laws.specs.Answered.{opened_in}
 use Rattle.command_laws.proofs.ApiChanges.{ApiChange, answers, api_changes, commits, ends, is_news_kind, refuses, rests, starts, waits}
 use Rattle.command_laws.proofs.Entries.{HasOne, IsNamed, NoneBegins, named_found}
 use Rattle.command_laws.proofs.MildSince.{is_stop_to, stop_of}
-use Rattle.command_laws.proofs.OperateGoes.{AllNamed}
 use Rattle.command_laws.proofs.Pushes.{is_node_kind, node_sends_node, node_since}
 use Rattle.command_laws.proofs.Since.{sent_since}
 use Rattle.command_laws.specs.Served.{named_in}
+
+-- each of these that is the transaction has a name
+abbrev pub AllNamed : TxId → List OpenTransaction → Type 0
+AllNamed tx opened = Each (λ (x : OpenTransaction). has_tx tx x ≡ true → is_some x.name ≡ true) opened
 
 module _ (tx : TxId) where
   stop_in : (to : Place) (body : Body) → stop_of tx body ≡ false → is_stop_to tx to body ≡ false

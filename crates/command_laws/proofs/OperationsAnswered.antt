@@ -43,15 +43,14 @@ use Rattle.answer_laws.specs.Answered.{EachIsAnswered, IsOpen, IsOpenAt, WaitsFo
 use Rattle.transit_laws.proofs.TcSound.{log_sound}
 use Rattle.transit_laws.specs.Live.{of_live}
 use Rattle.command_laws.proofs.ApiChanges.{outcome_in}
-use Rattle.command_laws.proofs.CommitGoes.{HasEnded}
 use Rattle.command_laws.proofs.Committed.{calm_at, cut_at_first, sent_append}
 use Rattle.command_laws.proofs.Entries.{HasOne, IsNamed, named_found}
 use Rattle.command_laws.proofs.FirmAtQuiet.{open_at}
 use Rattle.command_laws.proofs.First.{IsFirst, request_first}
 use Rattle.command_laws.proofs.HoldersTold.{keys_once}
 use Rattle.command_laws.proofs.MildSince.{FairLog, IsMildHost, fair_logs, is_stop_to, is_mild_live, is_wrong, mild_since, others_right, since_right, wrong_of}
-use Rattle.command_laws.proofs.OperateFirst.{IsSent, named_since, no_stop_request, node_stops, one_named, operate_first}
-use Rattle.command_laws.proofs.OperateGoes.{AllNamed, HasAnswered, operate_goes}
+use Rattle.command_laws.proofs.OperateFirst.{AllNamed, IsSent, named_since, no_stop_request, node_stops, one_named, operate_first}
+use Rattle.command_laws.proofs.EntryGoes.{HasAnswered, HasEnded, entry_goes}
 use Rattle.command_laws.proofs.Reported.{never_unknown}
 use Rattle.command_laws.proofs.Since.{none_taken, sent_since}
 use Rattle.command_laws.proofs.TellsSince.{shell_since, sound_at}
@@ -218,13 +217,13 @@ module _ (each : EachIsAnswered) (start : Start) (was now : ℕ → List LogStep
           (ended.ending.told ∙ ap (λ end. replies_of (after start 0 (ended.older ++ f.first ∷ was 0)) ++ reply.Ended (Some name) end ∷ []) is))
       by outcome.Unknown is = absurd (never_unknown tx ended.step.taken.body (ended.ending.about ∙ ap (λ end. Some (tx, end)) is))
 
-  was_answered : HasAnswered tx name start f.later (f.first ∷ was 0) → IsSettled start was now name tx
+  was_answered : HasAnswered (Some name) Operating start f.later (f.first ∷ was 0) → IsSettled start was now name tx
   was_answered done = answered done.answer.answer (replied done.newer done.step done.older (reply.Answered (Some name) done.answer.answer) done.is done.answer.told)
 
   pub settled : IsSettled start was now name tx
-  settled = by (operate_goes tx name start f.later (f.first ∷ was 0) f.plain sent.has)
+  settled = by (entry_goes tx (Some name) Operating refl start f.later (f.first ∷ was 0) f.plain sent.has)
     where
-      by : HasOne tx (Some name) Operating (opened_in (after start 0 (f.later ++ f.first ∷ was 0))) ⊎ HasEnded tx (Some name) start f.later (f.first ∷ was 0) ⊎ HasAnswered tx name start f.later (f.first ∷ was 0)
+      by : HasOne tx (Some name) Operating (opened_in (after start 0 (f.later ++ f.first ∷ was 0))) ⊎ HasEnded tx (Some name) start f.later (f.first ∷ was 0) ⊎ HasAnswered (Some name) Operating start f.later (f.first ∷ was 0)
           → IsSettled start was now name tx
       by (inl has) = still_waits (subst (λ log. HasOne tx (Some name) Operating (opened_in (after start 0 log))) (sym f.is) has)
       by (inr (inl ended)) = was_ended ended
