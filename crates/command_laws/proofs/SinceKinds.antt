@@ -40,7 +40,7 @@ use Rattle.answer_laws.proofs.Wishes.{to_node}
 use Rattle.transit_laws.specs.Transit.{Comes, IsRun}
 use Rattle.transit_laws.proofs.OneAtATime.{comes_low}
 use Rattle.transit_laws.proofs.Transit.{comes, earlier}
-use Rattle.command_laws.proofs.First.{Oldest, cancel, first_asked, fits_asked, no_requests, oldest, requests_append}
+use Rattle.command_laws.proofs.First.{Opens, opens}
 use Rattle.command_laws.proofs.Since.{all_taken}
 use Rattle.command_laws.specs.Served.{IsServed}
 
@@ -160,85 +160,40 @@ module _ (start : Start) (was now : ℕ → List LogStep) (request : ApiReq) (se
             let own = took (newer ++ first ∷ es) f before.0 (grew newer) (comes start (newer ++ first ∷ es) f run) plain.0 in
             (few_next (newer ++ first ∷ es) f before.0 (closed _ f.taken.to f.taken.body own), (own, before.1))
 
-is_run_before : (start : Start) (newer es : List LogStep) → IsRun start (newer ++ es) → IsRun start es
-is_run_before start [] es run = run
-is_run_before start (e ∷ newer) es run = is_run_before start newer es (earlier start (newer ++ es) e run)
-
 module _ (start : Start) (was now : ℕ → List LogStep) (request : ApiReq) (served : IsServed start was now request) (k : Body → Bool)
-    (closed : (g : host.Host) (to : Place) (body : Body) → k body ≡ true → are_of k (row g to body).effects.sends ≡ true)
-    (begins : are_of k (row (after start 0 (was 0)) client (Host (Continue (Request request) 0))).effects.sends ≡ true) where
-  all_are : (es newer : List LogStep) (first : LogStep) → log_of (machine start) es ≡ was → IsRun start (newer ++ first ∷ es) → log_of (machine start) (newer ++ first ∷ es) ≡ now → SinceAre start was now request k
-  all_are es newer first same run all = found (fits_asked start was now request served first.taken.to.node _ first.taken (is_request first.taken.body) asks come.happens.step.fits.asked)
-    where
-      come : Comes start es first
-      come = comes start es first (is_run_before start newer (first ∷ es) run)
+  (closed : (g : host.Host) (to : Place) (body : Body) → k body ≡ true → are_of k (row g to body).effects.sends ≡ true)
+  (begins : are_of k (row (after start 0 (was 0)) client (Host (Continue (Request request) 0))).effects.sends ≡ true) where
+  o : Opens start was now request
+  o = opens start was now request served
 
-      asks : is_request first.taken.body ≡ true
-      asks = first_asked start was now request served es first same come.happens (comes_low start es first come)
+  at : o.first.taken.to.node ≡ 0
+  at = ap (λ (to : Place). to.node) o.place
 
-      here : (h : ℕ) → now h ≡ log_of (machine start) newer h ++ log_of (machine start) (first ∷ es) h
-      here h = ap (λ logs. logs h) (sym all) ∙ log_of-append (machine start) newer (first ∷ es) h
+  nodes : (h : ℕ) → now (suc h) ≡ log_of (machine start) o.newer (suc h) ++ was (suc h)
+  nodes h =
+      ap (λ logs. logs (suc h)) (sym o.all) ∙ log_of-append (machine start) o.newer (o.first ∷ o.es) (suc h)
+      ∙ ap (λ log. log_of (machine start) o.newer (suc h) ++ log)
+      (log_of-other (machine start) o.first o.es (suc h) (λ own. absurd (omega (arith, own, at))) ∙ ap (λ logs. logs (suc h)) o.same)
 
-      found : IsAsked (first_view start.nodes) first.taken.to.node (last_stamp (log_of (machine start) es first.taken.to.node)) first.taken → SinceAre start was now request k
-      found asked =
-          let place : first.taken.to ≡ client = ap (λ (x : Signal). x.to) asked.is in
-          let body : first.taken.body ≡ Host (Continue (Request asked.request) 0) = ap (λ (x : Signal). x.body) asked.is in
-          let shell : now 0 ≡ log_of (machine start) newer 0 ++ first ∷ was 0 =
-          here 0 ∙ ap (λ log. log_of (machine start) newer 0 ++ log) (log_of-own (machine start) first es 0 asked.shell ∙ ap (λ logs. first ∷ logs 0) same) in
-          let all_asked : requests (was 0) ++ (asked.request ∷ requests (log_of (machine start) newer 0)) ≡ requests (was 0) ++ request ∷ [] =
-          sym (append_assoc (requests (was 0)) (asked.request ∷ []) (requests (log_of (machine start) newer 0)))
-          ∙ ap (λ o. (requests (was 0) ++ option_to_list o) ++ requests (log_of (machine start) newer 0)) (sym (ap request_in body))
-          ∙ sym (requests_append (log_of (machine start) newer 0) (first ∷ was 0)) ∙ ap requests (sym shell) ∙ served.asked in
-          let rest : asked.request ∷ requests (log_of (machine start) newer 0) ≡ request ∷ [] = cancel (requests (was 0)) _ _ all_asked in
-          let none : requests (log_of (machine start) newer 0) ≡ [] = cc in
-          let this : asked.request ≡ request = cc in
-          let about : first.taken.body ≡ Host (Continue (Request request) 0) = body ∙ ap (λ r. Host (Continue (Request r) 0)) this in
-          let nodes : (h : ℕ) → now (suc h) ≡ log_of (machine start) newer (suc h) ++ was (suc h) =
-          λ h. here (suc h) ∙ ap (λ log. log_of (machine start) newer (suc h) ++ log) (log_of-other (machine start) first es (suc h) (λ own. absurd (omega (arith, own, asked.shell))) ∙ ap (λ logs. logs (suc h)) same) in
-          let plain = each_event (machine start) (λ (e : LogStep). is_request e.taken.body ≡ false) newer (each_plain none nodes) in
-          let kinds = goes start was now request served k closed begins es same first place about newer run plain in
-          record {
-            first = first;
-            newer = log_of (machine start) newer;
-            shell = shell;
-            nodes = nodes;
-            place = place;
-            body = about;
-            each = λ h. each_log (machine start) (λ (e : LogStep). k e.taken.body ≡ true) newer h kinds.1;
-          }
-        where
-          each_plain : requests (log_of (machine start) newer 0) ≡ [] → ((h : ℕ) → now (suc h) ≡ log_of (machine start) newer (suc h) ++ was (suc h))
-              → (h : ℕ) → Each (λ (e : LogStep). is_request e.taken.body ≡ false) (log_of (machine start) newer h)
-          each_plain none nodes zero = no_requests (log_of (machine start) newer 0) none
-          each_plain none nodes (suc h) =
-              each_before (λ (e : LogStep). is_request e.taken.body ≡ false) (log_of (machine start) newer (suc h)) (was (suc h))
-              (subst (Each (λ (e : LogStep). is_request e.taken.body ≡ false)) (nodes h) (plain_nodes start h (now (suc h)) (served.since.right.local (suc h))))
+  each_plain : (h : ℕ) → Each (λ (e : LogStep). is_request e.taken.body ≡ false) (log_of (machine start) o.newer h)
+  each_plain zero = o.plain
+  each_plain (suc h) =
+      each_before (λ (e : LogStep). is_request e.taken.body ≡ false) (log_of (machine start) o.newer (suc h)) (was (suc h))
+      (subst (Each (λ (e : LogStep). is_request e.taken.body ≡ false)) (nodes h) (plain_nodes start h (now (suc h)) (served.since.right.local (suc h))))
+
+  run : IsRun start (o.newer ++ o.first ∷ o.es)
+  run = record { some = omega (arith, served.before.some); run = o.run; within = λ h high. ap (λ logs. logs h) o.all ∙ served.since.within h high }
 
   pub since_are : SinceAre start was now request k
-  since_are = by (oldest grown.more)
-    where
-      es : List LogStep
-      es = merged (machine start) (hosts start) was
-
-      same : log_of (machine start) es ≡ was
-      same = logs_merged (machine start) (hosts start) was served.before.within served.before.right
-
-      grown : Grows (machine start) es now
-      grown =
-          grow (machine start) (stamped start) (hosts start) es now (merged_run (machine start) (stamped start) (hosts start) was served.before.within served.before.right) served.since.within
-          served.since.right (subst (λ logs. IsCut logs now) (sym same) served.cut)
-
-      longer : (xs : List ApiReq) → xs ≡ xs ++ request ∷ [] → ⊥
-      longer [] is = cc
-      longer (x ∷ xs) is = let rest : xs ≡ xs ++ request ∷ [] = cc in longer xs rest
-
-      by : (grown.more ≡ []) ⊎ Oldest grown.more → SinceAre start was now request k
-      by (inl none) =
-          absurd (longer (requests (was 0))
-          (ap (λ logs. requests (logs 0)) (sym same) ∙ ap (λ m. requests (log_of (machine start) (m ++ es) 0)) (sym none) ∙ ap requests (grown.logs 0) ∙ served.asked))
-      by (inr o) =
-          let parts : grown.more ++ es ≡ o.newer ++ (o.first ∷ es) = ap (λ m. m ++ es) o.is ∙ append_assoc o.newer (o.first ∷ []) es in
-          let all : log_of (machine start) (o.newer ++ (o.first ∷ es)) ≡ now = ap (log_of (machine start)) (sym parts) ∙ fun_ext grown.logs in
-          all_are es o.newer o.first same
-          (record { some = omega (arith, served.before.some); run = subst (Run (machine start)) parts grown.run; within = λ h high. ap (λ logs. logs h) all ∙ served.since.within h high })
-          all
+  since_are =
+      let kinds = goes start was now request served k closed begins o.es o.same o.first o.place o.body o.newer run
+      (each_event (machine start) (λ (e : LogStep). is_request e.taken.body ≡ false) o.newer each_plain) in
+      record {
+        first = o.first;
+        newer = log_of (machine start) o.newer;
+        shell = o.is;
+        nodes = nodes;
+        place = o.place;
+        body = o.body;
+        each = λ h. each_log (machine start) (λ (e : LogStep). k e.taken.body ≡ true) o.newer h kinds.1;
+      }
