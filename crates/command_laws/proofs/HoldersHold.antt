@@ -37,7 +37,7 @@ use Rattle.answer_laws.proofs.Wishes.{is_api, is_tc, sends_of}
 use Rattle.answer_laws.specs.Answered.{EachIsAnswered}
 use Rattle.command_laws.proofs.Arrives.{Came, came}
 use Rattle.command_laws.proofs.HoldersTold.{known_who, held, node_stays, reply_told, since, stood}
-use Rattle.command_laws.proofs.Since.{sent_since}
+use Rattle.command_laws.proofs.Since.{front_nil, sent_since}
 use Rattle.command_laws.proofs.SinceKinds.{SinceAre}
 use Rattle.command_laws.proofs.WaitKinds.{is_telling_who, is_wait, tells_who}
 use Rattle.command_laws.proofs.WaitSources.{FoundAt, SentBy, came_from, finds_who, is_finding_who, no_find_api, no_tell_api, node_found, node_told, sent_by, shell_none}
@@ -118,10 +118,6 @@ some_step : (front : List LogStep) (e : LogStep) (back : List LogStep) → front
 some_step [] e back is = cc
 some_step (f ∷ front) e back is = cc
 
-front_empty : (newer log : List LogStep) → newer ++ log ≡ [] → newer ≡ []
-front_empty [] log is = refl
-front_empty (e ∷ newer) log is = cc
-
 module _ (start : Start) (was mid : ℕ → List LogStep) (tx who : TxId) (served : IsServed start was mid Waits) (s : SinceAre start was mid Waits (is_wait tx)) where
   -- the steps of each host since then
   abbrev newer_of : ℕ → List LogStep
@@ -196,7 +192,7 @@ module _ (start : Start) (was mid : ℕ → List LogStep) (tx who : TxId) (serve
             behind = subst (IsBehindAt tx who found.key) (sym now_is)
                 (behind_locks n.state.lqh.locks found.key tx who (orderly_at (after start (suc k) (was (suc k))) n.state n.is (logs_keep_well start (suc k) (was (suc k)))) found.is);
           }
-          there (inr high) = absurd (some_step b.front b.step b.back (sym b.is ∙ front_empty (s.newer (suc k)) (was (suc k)) (sym (s.nodes k) ∙ served.since.within (suc k) high)))
+          there (inr high) = absurd (some_step b.front b.step b.back (sym b.is ∙ front_nil (s.newer (suc k)) (was (suc k)) (sym (served.since.within (suc k) high) ∙ s.nodes k)))
 
   behind_there : (e : LogStep) → IsIn e (newer_of zero) → is_telling_who tx who e.taken.to e.taken.body ≡ true → IsBehindThere
   behind_there e inside passes = by e.taken.from.0 refl

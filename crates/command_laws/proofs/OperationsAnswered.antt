@@ -51,19 +51,13 @@ use Rattle.command_laws.proofs.HoldersTold.{keys_once}
 use Rattle.command_laws.proofs.MildSince.{FairLog, IsMildHost, fair_logs, is_stop_to, is_mild_live, is_wrong, mild_since, others_right, since_right, wrong_of}
 use Rattle.command_laws.proofs.OperateFirst.{AllNamed, IsSent, named_since, no_stop_request, node_stops, one_named, operate_first}
 use Rattle.command_laws.proofs.EntryGoes.{HasAnswered, HasEnded, entry_goes}
-use Rattle.command_laws.proofs.Reported.{never_unknown}
+use Rattle.command_laws.proofs.Reported.{OutcomeOf, ending_is, never_unknown}
 use Rattle.command_laws.proofs.Since.{none_taken, sent_since}
 use Rattle.command_laws.proofs.TellsSince.{shell_since, sound_at}
 use Rattle.command_laws.proofs.Told.{told_since}
 use Rattle.command_laws.proofs.WaitsAtQuiet.{of_in}
 use Rattle.command_laws.specs.Operations.{IsSettled, OperationsAreAnswered, answered, is_refusal, refused, waits}
 use Rattle.command_laws.specs.Served.{IsServed, named_in, replies_since}
-
-abbrev OutcomeOf : Type 0
-OutcomeOf = TxId × Outcome
-
-ending_is : (a b : OutcomeOf) → Some a ≡ Some b → a ≡ b
-ending_is a b is = cc
 
 -- a commit that is told is wrong, and an abort is where no replica refuses for that
 commit_wrong : (tx : TxId) (body : Body) (epoch : ℕ) → outcome_in body ≡ Some (tx, outcome.Committed epoch) → wrong_of tx body ≡ true

@@ -29,10 +29,10 @@ use Rattle.command_laws.proofs.FirmHosts.{back_of}
 use Rattle.command_laws.proofs.Told.{told_since}
 use Rattle.command_laws.specs.Served.{IsMarked, replies_since}
 
-abbrev OutcomeOf : Type 0
+abbrev pub OutcomeOf : Type 0
 OutcomeOf = TxId × Outcome
 
-ending_is : (a b : OutcomeOf) → Some a ≡ Some b → a ≡ b
+pub ending_is : (a b : OutcomeOf) → Some a ≡ Some b → a ≡ b
 ending_is a b is = cc
 
 -- an end by abort is told by the report of one

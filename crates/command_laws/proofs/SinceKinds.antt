@@ -1,18 +1,13 @@
 -- Where what follows from signals of a kind is of that kind, and what the request sends is too, all that was taken since is.
-use Rattle.std.proofs.Common.{◌≡◌, ◌≢◌, ◌⊎◌, ◌≤◌, ℕ, zero, suc, Bool, true, false, List, [], ◌∷◌, ◌++◌, refl, sym, ap, subst, ◌∙◌, inl, inr, append_assoc, arith}
+use Rattle.std.proofs.Common.{◌≡◌, ◌≢◌, ◌⊎◌, ◌≤◌, ℕ, zero, suc, Bool, true, false, List, [], ◌∷◌, ◌++◌, refl, sym, ap, subst, ◌∙◌, inl, inr, arith}
 use Rattle.std.proofs.lemmas.Bool.{cases_eq}
-use Rattle.std.proofs.Math.Path.{fun_ext}
-use Rattle.std.specs.Prelude.{◌==◌, ◌&&◌, not, option_to_list}
-use Rattle.run_theory.specs.Along.{Grows}
-use Rattle.run_theory.specs.Cuts.{IsCut}
+use Rattle.std.specs.Prelude.{◌==◌, ◌&&◌, not}
 use Rattle.run_theory.specs.Links.{sent, taken}
 use Rattle.run_theory.specs.Lists.{Each, IsPast}
 use Rattle.run_theory.specs.Logs.{IsLog}
-use Rattle.run_theory.specs.Orders.{merged}
-use Rattle.run_theory.specs.Runs.{Run, log_of}
+use Rattle.run_theory.specs.Runs.{log_of}
 use Rattle.run_theory.proofs.Cuts.{taken_past}
-use Rattle.run_theory.proofs.Growth.{grow}
-use Rattle.run_theory.proofs.Merging.{log_of-append, logs_merged, merged_run}
+use Rattle.run_theory.proofs.Merging.{log_of-append}
 use Rattle.run_theory.proofs.Orders.{each_event, each_log}
 use Rattle.run_theory.proofs.Pasts.{each_before, past_append, past_trans}
 use Rattle.run_theory.proofs.Runs.{log_of-other, log_of-own, log_of-past}
@@ -28,9 +23,7 @@ use Rattle.sig_core.specs.Place.{client}
 use Rattle.node_core.specs.declared.host.Host as host
 use Rattle.node_core.specs.Requests.{is_request}
 use Rattle.node_core.specs.Row.{row}
-use Rattle.world_core.proofs.Stamped.{stamped}
-use Rattle.world_core.specs.Machine.{IsAsked, after, asked_rightly, hosts, last_stamp, machine, step_after}
-use Rattle.world_core.specs.Requests.{request_in, requests}
+use Rattle.world_core.specs.Machine.{after, asked_rightly, last_stamp, machine, step_after}
 use Rattle.world_core.specs.Start.{Start, first_view}
 use Rattle.answer_laws.proofs.Begins.{given_past}
 use Rattle.answer_laws.proofs.LinkCounts.{sent_signals, signals}
@@ -161,8 +154,8 @@ module _ (start : Start) (was now : ℕ → List LogStep) (request : ApiReq) (se
             (few_next (newer ++ first ∷ es) f before.0 (closed _ f.taken.to f.taken.body own), (own, before.1))
 
 module _ (start : Start) (was now : ℕ → List LogStep) (request : ApiReq) (served : IsServed start was now request) (k : Body → Bool)
-  (closed : (g : host.Host) (to : Place) (body : Body) → k body ≡ true → are_of k (row g to body).effects.sends ≡ true)
-  (begins : are_of k (row (after start 0 (was 0)) client (Host (Continue (Request request) 0))).effects.sends ≡ true) where
+    (closed : (g : host.Host) (to : Place) (body : Body) → k body ≡ true → are_of k (row g to body).effects.sends ≡ true)
+    (begins : are_of k (row (after start 0 (was 0)) client (Host (Continue (Request request) 0))).effects.sends ≡ true) where
   o : Opens start was now request
   o = opens start was now request served
 
