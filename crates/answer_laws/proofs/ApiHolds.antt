@@ -108,7 +108,8 @@ move_holds tx s body after sends (refuses name front t back about passes was is 
       ends = λ e. absurd (false≢true (ap (end_of tx) (sym about) ∙ e));
     }
 
-shell_holds : (tx : TxId) (s : ApiState) (at : BlockId) (body : Body) → AreGood s.view s.opened
+-- a step of the shell's host
+pub shell_holds : (tx : TxId) (s : ApiState) (at : BlockId) (body : Body) → AreGood s.view s.opened
     → (tally (has_tx tx) (shell_row s at body).state.opened ≤ tally (has_tx tx) s.opened + one_if (is_api at && start_of tx body))
     × ((is_api at && end_of tx body) ≡ true → (tally (has_tx tx) (shell_row s at body).state.opened + 1 ≤ tally (has_tx tx) s.opened) ⊎ (tally (has_tx tx) (shell_row s at body).state.opened ≡ 0))
 unfolding shell_row

@@ -72,11 +72,11 @@ no_key_tc : (tx one : TxId) (body : Body) → is_tc_kind one body ≡ true → k
 no_key_tc tx one (Client (TcKeyReq other op)) e = cc
 no_key_tc tx one _ e = refl
 
-plain_key : (tx : TxId) (body : Body) → key_of_tx tx body ≡ true → is_request body ≡ false
+pub plain_key : (tx : TxId) (body : Body) → key_of_tx tx body ≡ true → is_request body ≡ false
 plain_key tx (Client (TcKeyReq other op)) e = refl
 plain_key tx _ e = cc
 
-plain_answer : (tx : TxId) (body : Body) → answer_of tx body ≡ true → is_request body ≡ false
+pub plain_answer : (tx : TxId) (body : Body) → answer_of tx body ≡ true → is_request body ≡ false
 plain_answer tx (Client (TcKeyConf other answer)) e = refl
 plain_answer tx _ e = cc
 
@@ -146,7 +146,8 @@ module _ (start : Start) (tx : TxId) where
   unfolding fresh_node begun_node
   fresh_asked h = refl
 
-  node_asked : (h : ℕ) (log : List LogStep) → asked_at (after start (suc h) log) + signals (is_answer tx) (sent (machine start) (suc h) 0 log) ≤ steps (is_key tx) log
+  -- what is asked or answered was asked for
+  pub node_asked : (h : ℕ) (log : List LogStep) → asked_at (after start (suc h) log) + signals (is_answer tx) (sent (machine start) (suc h) 0 log) ≤ steps (is_key tx) log
   node_asked h [] = omega (arith, fresh_asked h)
   node_asked h (e ∷ log) =
       let x = node_after start h log in
@@ -160,12 +161,12 @@ module _ (start : Start) (tx : TxId) where
         ap (answers_in tx) (row_effects e.taken.to e.taken.body (after start (suc h) log) x.state x.is),
       )
 
-  shell_silent : (log : List LogStep) → signals (is_answer tx) (sent (machine start) 0 0 log) ≡ 0
+  pub shell_silent : (log : List LogStep) → signals (is_answer tx) (sent (machine start) 0 0 log) ≡ 0
   shell_silent [] = refl
   shell_silent (e ∷ log) =
       omega (arith, shell_silent log, sent_signals start (is_answer tx) 0 0 e log, shell_answers tx (shell_after start log).state e.taken.to.block e.taken.body, ap (answers_in tx) (shell_sends start e log))
 
-  node_silent : (h j : ℕ) (log : List LogStep) → signals (is_key tx) (sent (machine start) (suc h) j log) ≡ 0
+  pub node_silent : (h j : ℕ) (log : List LogStep) → signals (is_key tx) (sent (machine start) (suc h) j log) ≡ 0
   node_silent h j [] = refl
   node_silent h j (e ∷ log) =
       omega (

@@ -46,8 +46,9 @@ use Rattle.answer_laws.proofs.LinkCounts.{sent_signals, signals, taken_signals}
 use Rattle.answer_laws.proofs.LqhOps.{is_good, is_lqh, is_node, left_of, right_of, true_and}
 use Rattle.answer_laws.proofs.NodeOwes.{OwesOf, at_if, came_in, cont_in, tc_owes}
 use Rattle.answer_laws.proofs.Ops.{good_members, row_effects, row_state, same_node, tc_view}
-use Rattle.answer_laws.proofs.Tally.{one_if, tally, tally_past}
-use Rattle.answer_laws.proofs.TcCommits.{chain_at, is_chain, is_commit, is_cont}
+use Rattle.answer_laws.proofs.Tally.{and_few, one_if, tally, tally_past}
+use Rattle.answer_laws.proofs.PartCounts.{is_cont}
+use Rattle.answer_laws.proofs.TcCommits.{chain_at, is_chain, is_commit}
 use Rattle.answer_laws.proofs.TcLives.{IsOwn, is_keyed}
 use Rattle.answer_laws.proofs.TcMoves.{node_moves, same_tx-is}
 use Rattle.answer_laws.proofs.TcOwes.{IsKnown, Owes, begins, goes_on, waits}
@@ -95,18 +96,14 @@ lqh_commits : (n : ℕ) (tx : TxId) (s : LqhState) (body : Body) → came_along 
 lqh_commits n tx s (Chain (Commit other key epoch chain at)) = commit_passed n tx s other key epoch chain at
 lqh_commits n tx s _ = omega arith
 
-few : (a b : Bool) → one_if (a && b) ≤ one_if b
-few true b = omega arith
-few false b = omega arith
-
 few_along : (n : ℕ) (tx : TxId) (to : Place) (body : Body) → is_tc to.block ≡ false → one_if (is_commit n tx to body) ≤ came_along n tx body
-few_along n tx to (Chain (Commit other key epoch chain at)) e = few (is_lqh to.block && is_node n to.node) _
+few_along n tx to (Chain (Commit other key epoch chain at)) e = and_few (is_lqh to.block && is_node n to.node) _
 few_along n tx to (Chain (Committed other key)) e = omega (arith, ap (λ b. one_if ((b && (to.node == tx.tc)) && same_tx other tx)) e)
 few_along n tx to _ e = omega arith
 
 few_answers : (n : ℕ) (tx : TxId) (to : Place) (body : Body) → is_lqh to.block ≡ false → one_if (is_commit n tx to body) ≤ came_in n tx body
 few_answers n tx to (Chain (Commit other key epoch chain at)) e = omega (arith, ap (λ b. one_if ((b && is_node n to.node) && (same_tx other tx && (is_good n chain && nat_lt at (length chain))))) e)
-few_answers n tx to (Chain (Committed other key)) e = few (is_tc to.block && (to.node == tx.tc)) _
+few_answers n tx to (Chain (Committed other key)) e = and_few (is_tc to.block && (to.node == tx.tc)) _
 few_answers n tx to _ e = omega arith
 
 none_at : (n : ℕ) (tx : TxId) (to : Place) (body : Body) → is_lqh to.block ≡ false → (is_tc to.block && (to.node == tx.tc)) ≡ false → one_if (is_commit n tx to body) ≡ 0
@@ -127,13 +124,13 @@ no_cont tx a to _ e = refl
 
 module _ (start : Start) (some_nodes : 1 ≤ start.nodes) (tx : TxId) where
   -- a node after a log, as far as commits go
-  record NodeIs (h : ℕ) (log : List LogStep) : Type 0 where
-    state : node.Node
-    is : after start (suc h) log ≡ Node state
-    view : state.tc.view ≡ first_view start.nodes
-    known : Each (λ (e : TxId × Transaction). IsKnown (start.nodes + 1) e.1) state.tc.live
-    once : tally (is_keyed tx) state.tc.live ≤ 1
-    own : Each (λ (e : TxId × Transaction). IsOwn state.tc.node state.tc.next_seq e.0) state.tc.live
+  pub record NodeIs (h : ℕ) (log : List LogStep) : Type 0 where
+    pub state : node.Node
+    pub is : after start (suc h) log ≡ Node state
+    pub view : state.tc.view ≡ first_view start.nodes
+    pub known : Each (λ (e : TxId × Transaction). IsKnown (start.nodes + 1) e.1) state.tc.live
+    pub once : tally (is_keyed tx) state.tc.live ≤ 1
+    pub own : Each (λ (e : TxId × Transaction). IsOwn state.tc.node state.tc.next_seq e.0) state.tc.live
 
   view_chain : is_chain (start.nodes + 1) (first_view start.nodes).full ≡ true
   view_chain = true_and (is_good (start.nodes + 1) (first_view start.nodes).full) (nat_lt 0 (length (first_view start.nodes).full)) (good_members (start.nodes + 1) start.nodes (omega arith)) (some start.nodes some_nodes)
@@ -158,7 +155,7 @@ module _ (start : Start) (some_nodes : 1 ≤ start.nodes) (tx : TxId) where
   node_known x block.Lqh body known once own good = known
   node_known x _ body known once own good = known
 
-  node_is : (h : ℕ) (log : List LogStep) → NodeIs h log
+  pub node_is : (h : ℕ) (log : List LogStep) → NodeIs h log
   unfolding fresh_node begun_node row
   node_is h [] = record { state = begun_node (h + 1) (first_view start.nodes) start.epoch start.rows; is = refl; view = refl; known = tt; once = omega arith; own = tt }
   node_is h (e ∷ log) = next (node_is h log) (keeps start tx h (e ∷ log))
@@ -455,7 +452,7 @@ module _ (start : Start) (some_nodes : 1 ≤ start.nodes) (tx : TxId) where
               arith,
               ap (λ log. signals (is_cont tx a) (taken (machine start) tx.tc log)) own_log,
               taken_signals start (is_cont tx a) tx.tc e (logs tx.tc),
-              few (is_from (machine start) tx.tc e) (is_cont tx a e.taken.to e.taken.body),
+              and_few (is_from (machine start) tx.tc e) (is_cont tx a e.taken.to e.taken.body),
             );
             c_few = λ a. tally_past (λ (y : Signal). is_cont tx a y.to y.body) (given_past start tx.tc tx.tc (logs tx.tc) (taken (machine start) tx.tc (logs tx.tc)) (right.linked tx.tc tx.tc));
           }

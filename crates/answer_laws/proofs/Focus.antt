@@ -43,7 +43,8 @@ found {A} p (x ∷ xs) low = go (p x) refl low (found p xs)
         subst (λ k. IsFocus p (x ∷ xs) k) (sym (one-add (prefix_len (λ y. not (p y)) xs)))
         (behind p x xs (prefix_len (λ y. not (p y)) xs) (rest (omega (arith, low))))
 
-absent : {A : Type 0} (p : A → Bool) (xs : List A) → length xs ≤ prefix_len (λ x. not (p x)) xs → tally p xs ≡ 0
+-- none passes where the first place is past the end
+pub absent : {A : Type 0} (p : A → Bool) (xs : List A) → length xs ≤ prefix_len (λ x. not (p x)) xs → tally p xs ≡ 0
 absent p [] past = refl
 absent p (x ∷ xs) past = go (p x) past (absent p xs)
   where

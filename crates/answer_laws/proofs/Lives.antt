@@ -52,7 +52,7 @@ ordered_none : (tx : TxId) (xs : List Signal) → signals (is_end tx) xs ≡ 0 �
 ordered_none tx [] none = tt
 ordered_none tx (x ∷ xs) none = (λ e. absurd (omega (arith, none, ap one_if e)), ordered_none tx xs (omega (arith, none)))
 
-plain_start : (tx : TxId) (body : Body) → start_of tx body ≡ true → is_request body ≡ false
+pub plain_start : (tx : TxId) (body : Body) → start_of tx body ≡ true → is_request body ≡ false
 plain_start tx (Client (TcBeginConf name other)) e = refl
 plain_start tx _ e = cc
 
@@ -172,7 +172,7 @@ module _ (start : Start) (tx : TxId) where
       go (inr none) = omega (arith, none)
 
   -- neither is told by another host
-  silent_start : (i : ℕ) (log : List LogStep) → i ≢ tx.tc → signals (is_start tx) (sent (machine start) i 0 log) ≡ 0
+  pub silent_start : (i : ℕ) (log : List LogStep) → i ≢ tx.tc → signals (is_start tx) (sent (machine start) i 0 log) ≡ 0
   silent_start zero log differs = (shell_silent log).0
   silent_start (suc h) log differs = other_silent h log differs
 

@@ -1,8 +1,8 @@
 -- What a step of a node does to an operation of a transaction: it is kept at the replicas, or was answered.
 use Rattle.std.proofs.Common.{◌≡◌, ◌⊎◌, ℕ, suc, ◌+◌, ◌≤◌, ◌<◌, List, [], ◌∷◌, ◌++◌, length, Bool, true, false, cond, refl, ap, sym, ◌∙◌, subst, arith, inl, inr}
-use Rattle.std.specs.Prelude.{◌&&◌, nat_lt, not, is_some, slice_get, Option, None, Some}
+use Rattle.std.specs.Prelude.{◌&&◌, nat_lt, not, is_some, Option, None, Some}
 use Rattle.std.specs.List.{prefix_len}
-use Rattle.std.specs.Map.{keys_of, values_of}
+use Rattle.std.specs.Map.{keys_of}
 use Rattle.std.proofs.lemmas.Bool.{false≢true}
 use Rattle.std.proofs.lemmas.Bool.Decides.{nat_tests}
 use Rattle.indexmap.specs.IndexMap.{insert_entry}
@@ -20,7 +20,7 @@ use Rattle.sig_core.specs.declared.signal.host.Work.TheVariants as work
 use Rattle.sig_core.specs.Same.{same_key, same_tx}
 use Rattle.sig_core.specs.Step.{Step}
 use Rattle.tc_block.specs.declared.transaction.Transaction.{Transaction}
-use Rattle.tc_block.specs.Live.{place_in, step_of, step_place, step_value, turn_of, turn_place, turn_value, turned_if, without}
+use Rattle.tc_block.specs.Live.{place_in, step_of, turn_of, turn_place, turn_value, turned_if, without}
 use Rattle.tc_block.specs.Operate.{fresh}
 use Rattle.tc_block.specs.State.{TcState}
 use Rattle.tc_block.specs.Tc.{begin_if, begin_row, is_full, next_tx, pass_if, pass_row, tc_row}
@@ -29,7 +29,7 @@ use Rattle.answer_laws.proofs.ApiBegins.{each_at, each_changed, each_less}
 use Rattle.answer_laws.proofs.LqhOps.{ops}
 use Rattle.answer_laws.proofs.Tally.{one_if, tally, tally_append, tally_between}
 use Rattle.answer_laws.proofs.TcLives.{IsOwn, insert_new, is_keyed}
-use Rattle.answer_laws.proofs.TcMoves.{IsEntry, found, same_tx-is}
+use Rattle.answer_laws.proofs.TcMoves.{found, IsEntry, same_tx-is, step_is}
 use Rattle.answer_laws.proofs.TcOps.{IsGoodView, TurnAsks, aborted_asks, answer_asks, asks_key, commit_asks, committed_asks, completed_asks, decide_asks, go_on_asks, is_right, operate_asks, refuse_asks, rollback_asks, wait_asks}
 use Rattle.answer_laws.proofs.TcSends.{same_tx-self}
 
@@ -164,20 +164,8 @@ module _ (n : ℕ) (tx : TxId) (key : List ℕ) where
             subst (λ o. Steps s (turn_value s row place o) (came tx)) (sym f.get) (over f (row f.value).over (same_tx f.key tx) refl)
         go false e = record { right = right; asks = λ some. none (grind (arith, nat_tests, e)) (same_tx one tx) refl some }
 
-    -- a step is a turn after which the transaction isn't over
-    step_is : (one : TxId) (row : Transaction → Step Transaction) → step_of s one row ≡ turn_of s one (λ t. going (row t))
-    step_is one row = at_place (place_in s one)
-      where
-        at_value : (at : ℕ) (t : Option Transaction) → step_value s row at t ≡ turn_value s (λ t. going (row t)) at t
-        at_value at None = refl
-        at_value at (Some t) = refl
-
-        at_place : (o : Option ℕ) → step_place s row o ≡ turn_place s (λ t. going (row t)) o
-        at_place None = refl
-        at_place (Some at) = at_value at (slice_get (values_of s.live) at)
-
     quiet_steps : (one : TxId) (row : Transaction → Step Transaction) → ((t : Transaction) → is_right t.asked t.phase ≡ true → TurnAsks n one key t (going (row t)) 0) → Steps s (step_of s one row) 0
-    quiet_steps one row turns = subst (λ st. Steps s st 0) (sym (step_is one row)) (turn_steps one (λ t. going (row t)) (λ x. 0) (λ e. refl) turns)
+    quiet_steps one row turns = subst (λ st. Steps s st 0) (sym (step_is s one row)) (turn_steps one (λ t. going (row t)) (λ x. 0) (λ e. refl) turns)
 
     begin_steps : Each (λ (e : TxId × Transaction). IsOwn s.node s.next_seq e.0) s.live → (name : Option ℕ) (b : Bool) → Steps s (begin_if s name b) 0
     begin_steps own name true = record { right = right; asks = λ some. inl (some, refl) }
@@ -217,7 +205,7 @@ module _ (n : ℕ) (tx : TxId) (key : List ℕ) where
   tc_steps s (Client (TcWaitReq one)) right once own good = quiet_steps s right once one _ (λ t r. wait_asks n one key t r)
   tc_steps s (Client (LqhWaitConf one ahead)) right once own good = pass_steps s right once one ahead (is_some (place_in s one))
   tc_steps s (Chain (LqhKeyConf one at answer)) right once own good =
-      subst (λ st. Steps s st (one_if (same_tx one tx && same_key at key))) (sym (step_is s right once one _))
+      subst (λ st. Steps s st (one_if (same_tx one tx && same_key at key))) (sym (step_is s one _))
       (turn_steps s right once one _ (λ x. one_if (same_tx one x && same_key at key)) (differs_none one at) (λ t r. answer_asks n one key t r s.view at answer))
   tc_steps s (Chain (LqhKeyRef one at why)) right once own good =
       turn_steps s right once one _ (λ x. one_if (same_tx one x && same_key at key)) (differs_none one at) (λ t r. refuse_asks n one key t r s.node s.view at why)

@@ -1,8 +1,8 @@
 -- What a step of a coordinator makes of what a transaction that commits waits for.
 use Rattle.std.proofs.Common.{◌≡◌, ◌⊎◌, ℕ, ◌≤◌, ◌<◌, List, [], ◌∷◌, ◌++◌, length, Bool, true, false, cond, refl, ap, sym, ◌∙◌, subst, arith, inl, inr}
-use Rattle.std.specs.Prelude.{nat_lt, not, is_some, slice_get, Option, None, Some}
+use Rattle.std.specs.Prelude.{nat_lt, not, is_some, Option, None, Some}
 use Rattle.std.specs.List.{prefix_len}
-use Rattle.std.specs.Map.{keys_of, values_of}
+use Rattle.std.specs.Map.{keys_of}
 use Rattle.std.proofs.lemmas.Bool.Decides.{nat_tests}
 use Rattle.indexmap.specs.IndexMap.{insert_entry}
 use Rattle.run_theory.proofs.Pasts.{each_append, each_map}
@@ -21,7 +21,7 @@ use Rattle.sig_core.specs.Step.{Step}
 use Rattle.tc_block.specs.declared.phase.Asked.{Asked}
 use Rattle.tc_block.specs.declared.phase.Phase.TheVariants.{Open, Committing}
 use Rattle.tc_block.specs.declared.transaction.Transaction.{Transaction}
-use Rattle.tc_block.specs.Live.{place_in, step_of, step_place, step_value, turn_of, turn_place, turn_value, turned_if, without}
+use Rattle.tc_block.specs.Live.{place_in, step_of, turn_of, turn_place, turn_value, turned_if, without}
 use Rattle.tc_block.specs.Commit.{committed_row}
 use Rattle.tc_block.specs.Operate.{fresh}
 use Rattle.tc_block.specs.Sends.{go_on_row}
@@ -33,7 +33,7 @@ use Rattle.answer_laws.proofs.NodeOps.{absent_key}
 use Rattle.answer_laws.proofs.Tally.{one_if, tally, tally_between, tally_in}
 use Rattle.answer_laws.proofs.TcCommits.{is_chain}
 use Rattle.answer_laws.proofs.TcLives.{IsOwn, insert_new, is_keyed}
-use Rattle.answer_laws.proofs.TcMoves.{IsEntry, found, same_tx-is}
+use Rattle.answer_laws.proofs.TcMoves.{found, IsEntry, same_tx-is, step_is}
 use Rattle.answer_laws.proofs.TcOwes.{IsKnown, Owes, TurnOwes, aborted_owes, answer_owes, commit_owes, committed_owes, completed_owes, decide_owes, go_on_owes, operate_owes, refuse_owes, rollback_owes, wait_owes, waits}
 use Rattle.answer_laws.proofs.TcSends.{same_tx-self}
 
@@ -154,22 +154,11 @@ module _ (n : ℕ) (tx : TxId) where
             subst (λ o. Steps s (turn_value s row place o) (came tx) (at tx)) (sym f.get) (over f (row f.value).over refl)
         go false e = record { known = known; owes = none (grind (arith, nat_tests, e)) (same_tx one tx) refl }
 
-    step_is : (one : TxId) (row : Transaction → Step Transaction) → step_of s one row ≡ turn_of s one (λ t. going (row t))
-    step_is one row = at_place (place_in s one)
-      where
-        at_value : (at : ℕ) (t : Option Transaction) → step_value s row at t ≡ turn_value s (λ t. going (row t)) at t
-        at_value at None = refl
-        at_value at (Some t) = refl
-
-        at_place : (o : Option ℕ) → step_place s row o ≡ turn_place s (λ t. going (row t)) o
-        at_place None = refl
-        at_place (Some at) = at_value at (slice_get (values_of s.live) at)
-
     quiet_turns : (one : TxId) (row : Transaction → Turn) → ((t : Transaction) → IsKnown n t → s.node ≡ one.tc → TurnOwes n one t (row t) 0 None) → Steps s (turn_of s one row) 0 None
     quiet_turns one row turns = turn_steps one row (λ x. 0) (λ x. None) (λ e. (refl, refl)) turns
 
     quiet_steps : (one : TxId) (row : Transaction → Step Transaction) → ((t : Transaction) → IsKnown n t → s.node ≡ one.tc → TurnOwes n one t (going (row t)) 0 None) → Steps s (step_of s one row) 0 None
-    quiet_steps one row turns = subst (λ st. Steps s st 0 None) (sym (step_is one row)) (quiet_turns one (λ t. going (row t)) turns)
+    quiet_steps one row turns = subst (λ st. Steps s st 0 None) (sym (step_is s one row)) (quiet_turns one (λ t. going (row t)) turns)
 
     begin_steps : (name : Option ℕ) (b : Bool) → Steps s (begin_if s name b) 0 None
     begin_steps name true = record { known = known; owes = λ u epoch k i is. record { before = u; inside = i; owes = waits epoch k is refl (omega arith) refl } }
@@ -215,7 +204,7 @@ module _ (n : ℕ) (tx : TxId) where
       → Steps s (tc_row s body) (came_in body) (cont_in body)
   unfolding begin_row pass_row
   tc_owes s (Host (Continue (work.Transaction one) a)) known once own good =
-      subst (λ st. Steps s st 0 (at_if (same_tx one tx) a)) (sym (step_is s known once own one _))
+      subst (λ st. Steps s st 0 (at_if (same_tx one tx) a)) (sym (step_is s one _))
       (turn_steps s known once own one _ (λ x. 0) (λ x. at_if (same_tx one x) a) (λ e. (refl, ap (λ b. at_if b a) e))
       (λ t k home. subst (λ b. TurnOwes n one t (going (go_on_row s.node s.view one t a)) 0 (at_if b a)) (sym (same_tx-self one)) (go_on_owes n one t k s.node s.view a home)))
   tc_owes s (Client (TcBeginReq name)) known once own good = begin_steps s known once own name (is_full s)

@@ -1,9 +1,14 @@
 -- How many items of a list pass a test.
 use Rattle.std.proofs.Common.{◌≡◌, ℕ, ◌+◌, ◌≤◌, List, [], ◌∷◌, ◌++◌, Bool, true, false, cond, refl, ap, sym, ◌∙◌, arith, inl, inr}
+use Rattle.std.specs.Prelude.{◌&&◌}
 use Rattle.run_theory.specs.Lists.{Each, IsIn, IsPast}
 
 abbrev pub one_if : Bool → ℕ
 one_if b = cond b 1 0
+
+pub and_few : (a b : Bool) → one_if (a && b) ≤ one_if b
+and_few true b = omega arith
+and_few false b = omega arith
 
 abbrev pub tally : {A : Type 0} → (A → Bool) → List A → ℕ
 tally p [] = 0

@@ -289,6 +289,18 @@ Moves s step = TcMove s step.state step.effects.sends
 pub named : (tx key : TxId) (front : List (TxId × Transaction)) (t : Transaction) (back all : List (TxId × Transaction)) → same_tx tx key ≡ true → all ≡ front ++ (key, t) ∷ back → all ≡ front ++ (tx, t) ∷ back
 named tx key front t back all same is = subst (λ k. all ≡ front ++ (k, t) ∷ back) (sym (same_tx-is tx key same)) is
 
+-- a step is a turn after which the transaction isn't over
+pub step_is : (s : TcState) (one : TxId) (row : Transaction → Step Transaction) → step_of s one row ≡ turn_of s one (λ t. going (row t))
+step_is s one row = at_place (place_in s one)
+  where
+    at_value : (at : ℕ) (t : Option Transaction) → step_value s row at t ≡ turn_value s (λ t. going (row t)) at t
+    at_value at None = refl
+    at_value at (Some t) = refl
+
+    at_place : (o : Option ℕ) → step_place s row o ≡ turn_place s (λ t. going (row t)) o
+    at_place None = refl
+    at_place (Some at) = at_value at (slice_get (values_of s.live) at)
+
 step_moves : (s : TcState) (tx : TxId) (row : Transaction → Step Transaction) → ((t : Transaction) → SendsOnly (is_tc_kind tx) (row t)) → ((t : Transaction) → IsTold tx t (going (row t))) → Moves s (step_of s tx row)
 step_moves s tx row kinds told = go (nat_lt n (length (keys_of s.live))) refl
   where

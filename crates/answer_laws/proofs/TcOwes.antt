@@ -32,7 +32,8 @@ use Rattle.tc_block.specs.Part.{part_effects}
 use Rattle.tc_block.specs.Touched.{fits, place_of, touch, touched_by, unwritten, written, written_by}
 use Rattle.tc_block.specs.Turn.{Turn, asking, going}
 use Rattle.answer_laws.proofs.LqhOps.{is_good, is_node, left_of, right_of, true_and}
-use Rattle.answer_laws.proofs.TcCommits.{is_chain, is_commit, is_cont, part_law}
+use Rattle.answer_laws.proofs.PartCounts.{is_cont}
+use Rattle.answer_laws.proofs.TcCommits.{is_chain, is_commit, part_law}
 use Rattle.answer_laws.proofs.Wishes.{sends_of}
 
 -- what is so of each of a coordinator's transactions
@@ -64,12 +65,12 @@ set_each P [] at y p all = tt
 set_each P (x ∷ xs) zero y p all = (p, all.1)
 set_each P (x ∷ xs) (suc at) y p all = (all.0, set_each P xs at y p all.1)
 
-set_length : {A : Type 0} (xs : List A) (at : ℕ) (y : A) → length (slice_set xs at y) ≡ length xs
+pub set_length : {A : Type 0} (xs : List A) (at : ℕ) (y : A) → length (slice_set xs at y) ≡ length xs
 set_length [] at y = refl
 set_length (x ∷ xs) zero y = refl
 set_length (x ∷ xs) (suc at) y = ap suc (set_length xs at y)
 
-last_length : {A : Type 0} (xs : List A) (y : A) → length (xs ++ y ∷ []) ≡ length xs + 1
+pub last_length : {A : Type 0} (xs : List A) (y : A) → length (xs ++ y ∷ []) ≡ length xs + 1
 last_length [] y = refl
 last_length (x ∷ xs) y = omega (arith, last_length xs y)
 

@@ -31,6 +31,10 @@ pub total_add : (n : ℕ) (f g : ℕ → ℕ) → total n (λ k. f k + g k) ≡ 
 total_add zero f g = refl
 total_add (suc n) f g = omega (arith, total_add n f g)
 
+pub total_zero : (n : ℕ) (f : ℕ → ℕ) → ((k : ℕ) → f k ≡ 0) → total n f ≡ 0
+total_zero zero f none = refl
+total_zero (suc n) f none = omega (arith, none n, total_zero n f none)
+
 -- one of them changes
 pub total_one : (n : ℕ) (f g : ℕ → ℕ) (h : ℕ) → h < n → ((k : ℕ) → k ≢ h → g k ≡ f k) → total n g + f h ≡ total n f + g h
 total_one zero f g h low same = absurd (omega (arith, low))
@@ -92,6 +96,15 @@ total_at (suc n) f k low = go (cases_eq n k) (total_at n f k)
     go (inl is) rest = omega (arith, ap f is)
     go (inr differs) rest = omega (arith, rest (omega (arith, low, differs)))
 
+-- one of them is less
+pub total_less : (n : ℕ) (f g : ℕ → ℕ) (k : ℕ) → k < n → ((j : ℕ) → j < n → f j ≤ g j) → f k + 1 ≤ g k → total n f + 1 ≤ total n g
+total_less zero f g k low less one = absurd (omega (arith, low))
+total_less (suc n) f g k low less one = go (cases_eq n k) (total_less n f g k)
+  where
+    go : (n ≡ k) ⊎ (n ≢ k) → (k < n → ((j : ℕ) → j < n → f j ≤ g j) → f k + 1 ≤ g k → total n f + 1 ≤ total n g) → f n + total n f + 1 ≤ g n + total n g
+    go (inl is) rest = omega (arith, ap f is, ap g is, one, total_le n f g (λ j under. less j (omega (arith, under))))
+    go (inr differs) rest = omega (arith, less n (omega arith), rest (omega (arith, low, differs)) (λ j under. less j (omega (arith, under))) one)
+
 -- signals for the hosts below n are no more than all
 pub spread_few : (n : ℕ) (test : Place → Body → Bool) (xs : List Outgoing) → total n (λ j. sends_of (to_node j test) xs) ≤ sends_of test xs
 spread_few n test [] = zeros n
@@ -152,13 +165,43 @@ module _ (start : Start) (n : ℕ) (test : Place → Body → Bool) where
           ∙ total_add n (λ j. sends_of (to_node j test) (step_after start h (logs h) e).effects.sends) (λ j. signals test (sent (machine start) h j (logs h)))
           ∙ ap (λ m. m + old h) (spread n test low (step_after start h (logs h) e).effects.sends)
 
-  pub taken_more : (logs now : ℕ → List LogStep) (h : ℕ) (e : LogStep) → h < n → Grown logs now h e → taken_all now ≤ taken_all logs + one_if (test e.taken.to e.taken.body)
-  taken_more logs now h e under grown =
+  -- no more was sent than before and with this step
+  pub sent_few : (logs now : ℕ → List LogStep) (h : ℕ) (e : LogStep) → h < n → Grown logs now h e → sent_all now ≤ sent_all logs + sends_of test (step_after start h (logs h) e).effects.sends
+  sent_few logs now h e under grown =
+      omega (arith, total_one n old new h under (λ k differs. ap (λ log. total n (λ j. signals test (sent (machine start) k j log))) (grown.others k differs)), here, spread_few n test (step_after start h (logs h) e).effects.sends)
+    where
+      old : ℕ → ℕ
+      old i = total n (λ j. signals test (sent (machine start) i j (logs i)))
+
+      new : ℕ → ℕ
+      new i = total n (λ j. signals test (sent (machine start) i j (now i)))
+
+      here : new h ≡ total n (λ j. sends_of (to_node j test) (step_after start h (logs h) e).effects.sends) + old h
+      here =
+          ap (λ log. total n (λ j. signals test (sent (machine start) h j log))) grown.own
+          ∙ total_same n (λ j. signals test (sent (machine start) h j (e ∷ logs h))) (λ j. sends_of (to_node j test) (step_after start h (logs h) e).effects.sends + signals test (sent (machine start) h j (logs h)))
+          (λ j under. sent_signals start test h j e (logs h))
+          ∙ total_add n (λ j. sends_of (to_node j test) (step_after start h (logs h) e).effects.sends) (λ j. signals test (sent (machine start) h j (logs h)))
+
+  -- nor less than before
+  pub sent_least : (logs now : ℕ → List LogStep) (h : ℕ) (e : LogStep) → h < n → Grown logs now h e → sent_all logs ≤ sent_all now
+  sent_least logs now h e under grown =
+      omega (
+        arith,
+        total_one n (λ i. total n (λ j. signals test (sent (machine start) i j (logs i)))) (λ i. total n (λ j. signals test (sent (machine start) i j (now i)))) h under
+            (λ k differs. ap (λ log. total n (λ j. signals test (sent (machine start) k j log))) (grown.others k differs)),
+        ap (λ log. total n (λ j. signals test (sent (machine start) h j log))) grown.own,
+        total_le n (λ j. signals test (sent (machine start) h j (logs h))) (λ j. signals test (sent (machine start) h j (e ∷ logs h))) (λ j low. omega (arith, sent_signals start test h j e (logs h))),
+      )
+
+  -- what was taken before, and what this step took
+  pub taken_exact : (logs now : ℕ → List LogStep) (h : ℕ) (e : LogStep) → h < n → Grown logs now h e
+      → taken_all now ≡ taken_all logs + total n (λ i. one_if (is_from (machine start) i e && test e.taken.to e.taken.body))
+  taken_exact logs now h e under grown =
       omega (
         arith,
         total_same n (λ i. total n (λ j. signals test (taken (machine start) i (now j)))) (λ i. total n (λ j. signals test (taken (machine start) i (logs j))) + one_if (is_from (machine start) i e && test e.taken.to e.taken.body)) (λ i low. row i),
         total_add n (λ i. total n (λ j. signals test (taken (machine start) i (logs j)))) (λ i. one_if (is_from (machine start) i e && test e.taken.to e.taken.body)),
-        few,
       )
     where
       row : (i : ℕ) → total n (λ j. signals test (taken (machine start) i (now j))) ≡ total n (λ j. signals test (taken (machine start) i (logs j))) + one_if (is_from (machine start) i e && test e.taken.to e.taken.body)
@@ -171,6 +214,9 @@ module _ (start : Start) (n : ℕ) (test : Place → Body → Bool) where
             taken_signals start test i e (logs h),
           )
 
+  pub taken_more : (logs now : ℕ → List LogStep) (h : ℕ) (e : LogStep) → h < n → Grown logs now h e → taken_all now ≤ taken_all logs + one_if (test e.taken.to e.taken.body)
+  taken_more logs now h e under grown = omega (arith, taken_exact logs now h e under grown, few)
+    where
       few : total n (λ i. one_if (is_from (machine start) i e && test e.taken.to e.taken.body)) ≤ one_if (test e.taken.to e.taken.body)
       few = go (not ((machine start).asked e)) refl
         where

@@ -54,6 +54,11 @@ to_node node test to body = (to.node == node) && test to body
 abbrev pub sends_of : (Place → Body → Bool) → List Outgoing → ℕ
 sends_of test sends = tally (λ (x : Outgoing). test x.to x.body) sends
 
+-- a test of two fails where the second does
+pub second_fails : (a : Bool) {b : Bool} → b ≡ false → (a && b) ≡ false
+second_fails true e = e
+second_fails false e = refl
+
 pub and_false : (a b : Bool) {c : Bool} → c ≡ false → (a && (b && c)) ≡ false
 and_false true true e = e
 and_false true false e = refl

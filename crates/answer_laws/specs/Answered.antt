@@ -1,7 +1,7 @@
 -- What the API's transactions wait for when nothing is under way.
-use Rattle.std.specs.Prelude.{◌≡◌, ◌≤◌, ℕ, Bool, true, false, List, [], Option, None, Some}
+use Rattle.std.specs.Prelude.{◌≡◌, ◌≤◌, ℕ, Bool, true, false, is_some, List, [], Option, None, Some}
 use Rattle.api_block.specs.declared.opened.Doing.{Doing}
-use Rattle.api_block.specs.declared.opened.Doing.TheVariants.{Ready, Operating}
+use Rattle.api_block.specs.declared.opened.Doing.TheVariants.{Ready, Operating, Committing}
 use Rattle.api_block.specs.declared.opened.OpenTransaction.{OpenTransaction}
 use Rattle.api_block.specs.Opened.{is_beginning}
 use Rattle.lqh_block.specs.declared.request.Request.{Request}
@@ -19,6 +19,7 @@ use Rattle.tc_block.specs.declared.phase.Asked.{Asked}
 use Rattle.tc_block.specs.declared.phase.Phase.{Phase}
 use Rattle.tc_block.specs.declared.phase.Phase.TheVariants as phases
 use Rattle.tc_block.specs.declared.transaction.Transaction.{Transaction}
+use Rattle.tc_block.specs.Abort.{is_verifying}
 use Rattle.tc_block.specs.State.{TcState}
 use Rattle.world_core.specs.Machine.{after, hosts, machine}
 use Rattle.world_core.specs.Quiet.{IsQuiet}
@@ -181,3 +182,49 @@ pub record IsServed (start : Start) (logs : ℕ → List LogStep) (t : OpenTrans
 
 abbrev pub EachIsServed : Type 0
 EachIsServed = EachAtQuiet (λ start logs t. (tx : TxId) → t.tx ≡ Some tx → IsServed start logs t tx)
+
+-- no transaction waits for its epoch
+abbrev pub NoEpochIsAwaited : Type 0
+NoEpochIsAwaited =
+    (start : Start) (logs : ℕ → List LogStep) (node : ℕ) (tx : TxId) (t : Transaction) → AreQuiet start logs → node ≤ start.nodes
+    → IsLiveAs tx t (after start node (logs node)) → is_verifying t.phase ≡ false
+
+-- it is being aborted
+abbrev pub is_aborting : Phase → Bool
+is_aborting (phases.Aborting why verifying awaited) = true
+is_aborting _ = false
+
+-- no transaction that has no operation unanswered waits for the end of its abort
+abbrev pub NoAbortIsAwaited : Type 0
+NoAbortIsAwaited =
+    (start : Start) (logs : ℕ → List LogStep) (node : ℕ) (tx : TxId) (t : Transaction) → AreQuiet start logs → node ≤ start.nodes
+    → IsLiveAs tx t (after start node (logs node)) → t.asked ≡ None → is_aborting t.phase ≡ false
+
+-- A transaction whose operation was sent has it unanswered at its coordinator, where that has the transaction open.
+abbrev pub AskedWhereOperating : Start → (ℕ → List LogStep) → OpenTransaction → Type 0
+AskedWhereOperating start logs t =
+    (tx : TxId) (u : Transaction) → t.tx ≡ Some tx → t.doing ≡ Operating → IsLiveAs tx u (after start tx.tc (logs tx.tc)) → u.phase ≡ phases.Open → is_some u.asked ≡ true
+
+abbrev pub EachAskedWhereOperating : Type 0
+EachAskedWhereOperating = EachAtQuiet AskedWhereOperating
+
+-- One whose commit was asked for isn't open at its coordinator.
+abbrev pub ClosedWhereCommitting : Start → (ℕ → List LogStep) → OpenTransaction → Type 0
+ClosedWhereCommitting start logs t =
+    (tx : TxId) (u : Transaction) → t.tx ≡ Some tx → t.doing ≡ Committing → IsLiveAs tx u (after start tx.tc (logs tx.tc)) → u.phase ≡ phases.Open → ⊥
+
+abbrev pub EachClosedWhereCommitting : Type 0
+EachClosedWhereCommitting = EachAtQuiet ClosedWhereCommitting
+
+-- one that has begun is known by its number
+abbrev pub IsNumbered : OpenTransaction → Type 0
+IsNumbered t = is_beginning t.doing ≡ false → is_some t.tx ≡ true
+
+abbrev pub EachIsNumbered : Type 0
+EachIsNumbered = EachAtQuiet (λ start logs t. IsNumbered t)
+
+-- an operation that a coordinator's transaction has unanswered waits in the queue of a lock
+abbrev pub EachOperationIsQueued : Type 0
+EachOperationIsQueued =
+    (start : Start) (logs : ℕ → List LogStep) (node : ℕ) (tx : TxId) (t : Transaction) (asked : Asked) → AreQuiet start logs → node ≤ start.nodes
+    → IsLiveAs tx t (after start node (logs node)) → t.asked ≡ Some asked → WaitsForLock start logs tx

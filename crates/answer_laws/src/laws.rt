@@ -1,5 +1,5 @@
 //! What is proved of quiet worlds.
-ghost use Rattle.answer_laws.specs.Answered.{EachAsksWhereOperating, EachHasCoordinator, EachIsServed, EachOperationWaits, NoBeginIsLost, NoCommitIsAwaited};
+ghost use Rattle.answer_laws.specs.Answered.{EachAskedWhereOperating, EachAsksWhereOperating, EachClosedWhereCommitting, EachHasCoordinator, EachIsAnswered, EachIsNumbered, EachIsServed, EachOperationIsQueued, EachOperationWaits, NoAbortIsAwaited, NoBeginIsLost, NoCommitIsAwaited, NoEpochIsAwaited};
 ghost use Rattle.answer_laws.specs.Sample.{SampleIsQuiet};
 
 /// When nothing is under way, whether a transaction begins is answered.
@@ -27,6 +27,49 @@ pub fn each_asks_where_operating()
 /// When nothing is under way, no coordinator waits for the keys of a transaction to be committed.
 pub fn no_commit_is_awaited()
     ensures { NoCommitIsAwaited }
+{}
+
+/// When nothing is under way, no transaction waits for its epoch.
+#[tactic(auto, using(crate::proofs::Verified::no_epoch))]
+pub fn no_epoch_is_awaited()
+    ensures { NoEpochIsAwaited }
+{}
+
+/// When nothing is under way, no transaction that has no operation unanswered is being aborted.
+#[tactic(auto, using(crate::proofs::Aborts::no_abort))]
+pub fn no_abort_is_awaited()
+    ensures { NoAbortIsAwaited }
+{}
+
+/// When nothing is under way, a transaction whose operation was sent has it unanswered at its coordinator, where that
+/// has the transaction open.
+#[tactic(auto, using(crate::proofs::Heard::asked_where_operating))]
+pub fn each_operation_is_asked()
+    ensures { EachAskedWhereOperating }
+{}
+
+/// When nothing is under way, a transaction whose commit was asked for isn't open at its coordinator.
+#[tactic(auto, using(crate::proofs::Heard::closed_where_committing))]
+pub fn each_commit_is_heard()
+    ensures { EachClosedWhereCommitting }
+{}
+
+/// When nothing is under way, each transaction that has begun is known by its number.
+#[tactic(auto, using(crate::proofs::Heard::each_numbered))]
+pub fn each_is_numbered()
+    ensures { EachIsNumbered }
+{}
+
+/// When nothing is under way, each operation that a coordinator's transaction has unanswered waits in the queue of a lock.
+pub fn each_operation_is_queued()
+    ensures { EachOperationIsQueued }
+{}
+
+/// When nothing is under way, each transaction whose end isn't reported takes operations, and none is unanswered, or it has
+/// an operation that waits in the queue of a lock.
+#[tactic(auto, using(crate::proofs::Answers::each_answered))]
+pub fn each_is_answered()
+    ensures { EachIsAnswered }
 {}
 
 /// All that together, of each transaction whose end isn't reported.

@@ -6,6 +6,7 @@ use Rattle.std.specs.List.{list_any}
 use Rattle.std.specs.Prelude.{◌&&◌, Option, None, Some, if◌then◌else◌, not}
 use Rattle.run_theory.proofs.Runs.{log_of-other, log_of-own}
 use Rattle.run_theory.specs.Lists.{Each, IsIn}
+use Rattle.run_theory.proofs.Pasts.{each_in}
 use Rattle.sig_core.specs.declared.log.LogStep.{LogStep}
 use Rattle.sig_core.specs.declared.member.TxId.{TxId}
 use Rattle.sig_core.specs.declared.outcome.AbortCause.{AbortCause}
@@ -33,7 +34,7 @@ use Rattle.tc_block.specs.Tc.{tc_row}
 use Rattle.tc_block.specs.Turn.{Turn}
 use Rattle.world_core.specs.Machine.{after, machine, step_after}
 use Rattle.world_core.specs.Start.{Start}
-use Rattle.commit_laws.proofs.OneWay.{live_not_back}
+use Rattle.commit_laws.proofs.OneWay.{back_aborting}
 use Rattle.commit_laws.specs.Ways.{back_by, is_aborting, sent_ways}
 use Rattle.answer_laws.proofs.DihSends.{dih_kinds}
 use Rattle.answer_laws.proofs.LqhSends.{lqh_kinds}
@@ -207,9 +208,6 @@ module _ (tx : TxId) where
           inl (λ i. (sym key i, sym value i))
       by false own is rest = inr (rest is)
 
-  not_aborting : (phase : Phase) → phase ≡ Open → is_aborting phase ≡ false
-  not_aborting phase is = ap is_aborting is
-
   -- along its coordinator's log
   pub mild_since : (start : Start) (h : ℕ) → tx.tc ≡ suc h → (newer log : List LogStep) → Each (λ (e : LogStep). is_stop_to tx e.taken.to e.taken.body ≡ false) newer → FairLog start (suc h) (newer ++ log)
       → IsMildHost (after start (suc h) log) → IsMildHost (after start (suc h) (newer ++ log)) × (sent_since start (is_wrong tx) (suc h) newer log ≡ 0)
@@ -231,8 +229,10 @@ module _ (tx : TxId) where
               by : (is_refusal why ≡ true) ⊎ (list_any (same_tx one) (sent_ways start back_by (suc h) (newer ++ log)) ≡ true) → is_refusal why ≡ true
               by (inl good) = good
               by (inr back) =
-                  absurd (let both : true ≡ false = sym back ∙ (ap (λ v. list_any (same_tx v) (sent_ways start back_by (suc h) (newer ++ log))) which
-                  ∙ live_not_back start (suc h) (newer ++ log) before.0.state tx t before.0.is (live_in before.0.state.tc.live t was) (not_aborting t.phase opened)) in cc)
+                  let all = back_aborting start (suc h) (newer ++ log) before.0.state before.0.is in
+                  let on = each_in (λ (x : TxId × Transaction). list_any (same_tx x.0) (sent_ways start back_by (suc h) (newer ++ log)) ≡ true → is_aborting x.1.phase ≡ true) (tx, t) before.0.state.tc.live all
+                  (live_in before.0.state.tc.live t was) (ap (λ v. list_any (same_tx v) (sent_ways start back_by (suc h) (newer ++ log))) (sym which) ∙ back) in
+                  absurd (let both : true ≡ false = sym on ∙ ap is_aborting opened in cc)
 
   -- no other host tells its end
   pub others_right : (start : Start) (h : ℕ) → tx.tc ≢ h → (newer log : List LogStep) → sent_since start (is_wrong tx) h newer log ≡ 0

@@ -100,7 +100,7 @@ let_in s key x is = ap (λ k. not (is_some (ahead_of (lock_at s.locks k) x.tx)))
     by false tx = refl
 
 -- the first of all that are granted, where it is for the key, is the first of those for it
-first_here : (s : LqhState) (key : List ℕ) (xs : List Request) (q : Request) → first (operate.is_granted s.locks) xs ≡ Some q → work_key q.work ≡ key
+pub first_here : (s : LqhState) (key : List ℕ) (xs : List Request) (q : Request) → first (operate.is_granted s.locks) xs ≡ Some q → work_key q.work ≡ key
     → first (is_let_in (lock_at s.locks key)) (filter (asks_for key) xs) ≡ Some q
 first_here s key [] q is at = absurd cc
 first_here s key (x ∷ xs) q is at = by (operate.is_granted s.locks x) (asks_for key x) refl refl is (λ more. first_here s key xs q more at)

@@ -4,8 +4,8 @@ use Rattle.std.specs.List.{list_any}
 use Rattle.std.specs.Map.{values_of}
 use Rattle.std.specs.Prelude.{◌||◌, Option, None, Some, is_some, slice_get, nat_eq}
 use Rattle.std.proofs.lemmas.Bool.{and_right, ne_eqb, or_cases}
-use Rattle.run_theory.specs.Lists.{Each, IsIn}
-use Rattle.run_theory.proofs.Pasts.{each_after, each_append, each_before, each_in, each_map}
+use Rattle.run_theory.specs.Lists.{Each}
+use Rattle.run_theory.proofs.Pasts.{each_after, each_append, each_before, each_map}
 use Rattle.sig_core.specs.declared.log.LogStep.{LogStep}
 use Rattle.sig_core.specs.declared.member.TxId.{TxId}
 use Rattle.sig_core.specs.declared.outs.Outgoing.{Outgoing}
@@ -424,20 +424,53 @@ coordinators_one_way start h log = one_apart (after start h log) (sent_ways star
 pub coordinators_say : CoordinatorsSay
 coordinators_say start h log e = (host_one (after start h log) e.taken.to e.taken.body (sent_ways start forth_by h log) (sent_ways start back_by h log) (log_one start h log)).says
 
-none_any : (tx : TxId) (bs : List TxId) → NotIn tx bs → list_any (same_tx tx) bs ≡ false
-none_any tx [] none = refl
-none_any tx (v ∷ bs) none = ap (λ b. b || list_any (same_tx tx) bs) (same_tx-swap tx v ∙ none.0) ∙ none_any tx bs none.1
+-- who is among those that went forth isn't apart from all of them
+pub not_apart : (tx : TxId) (cs : List TxId) → list_any (same_tx tx) cs ≡ true → NotIn tx cs → ⊥
+not_apart tx [] among off = cc
+not_apart tx (v ∷ cs) among off = by (or_cases (same_tx tx v) (list_any (same_tx tx) cs) among) (λ more. not_apart tx cs more off.1)
+  where
+    by : (same_tx tx v ≡ true) ⊎ (list_any (same_tx tx) cs ≡ true) → (list_any (same_tx tx) cs ≡ true → ⊥) → ⊥
+    by (inl own) rest = let both : true ≡ false = sym own ∙ (same_tx-swap tx v ∙ off.0) in cc
+    by (inr more) rest = rest more
 
-host_back : (s : host.Host) (n : node.Node) (cs bs : List TxId) (tx : TxId) (t : Transaction) → s ≡ Node n → HostIsOneWay s cs bs → IsIn (tx, t) n.tc.live → is_aborting t.phase ≡ false
-    → list_any (same_tx tx) bs ≡ false
-host_back (Shell s) n cs bs tx t is one live off = absurd cc
-host_back (Node m) n cs bs tx t is one live off =
-    let same : m ≡ n = cc in
-    let there : IsIn (tx, t) m.tc.live = subst (λ (x : node.Node). IsIn (tx, t) x.tc.live) (sym same) live in
-    none_any tx bs ((each_in (IsLive m.tc.node m.tc.next_seq cs bs) (tx, t) m.tc.live one.live there).unaborted off)
+-- one that a coordinator took forth knows that it is decided
+pub forth_decided : (start : Start) (h : ℕ) (log : List LogStep) (n : node.Node) → after start h log ≡ Node n
+    → Each (λ (e : TxId × Transaction). list_any (same_tx e.0) (sent_ways start forth_by h log) ≡ true → is_decided e.1.phase ≡ true) n.tc.live
+forth_decided start h log n is = each_map (IsLive n.tc.node n.tc.next_seq cs bs) (λ (e : TxId × Transaction). list_any (same_tx e.0) cs ≡ true → is_decided e.1.phase ≡ true) n.tc.live known one.live
+  where
+    cs : List TxId
+    cs = sent_ways start forth_by h log
 
--- a transaction that isn't aborted is none of those that its coordinator took back
-pub live_not_back : (start : Start) (h : ℕ) (log : List LogStep) (n : node.Node) (tx : TxId) (t : Transaction) → after start h log ≡ Node n → IsIn (tx, t) n.tc.live → is_aborting t.phase ≡ false
-    → list_any (same_tx tx) (sent_ways start back_by h log) ≡ false
-live_not_back start h log n tx t is live off =
-    host_back (after start h log) n (sent_ways start forth_by h log) (sent_ways start back_by h log) tx t is (log_one start h log) live off
+    bs : List TxId
+    bs = sent_ways start back_by h log
+
+    one : IsOneWay n.tc cs bs
+    one = subst (λ s. HostIsOneWay s cs bs) is (log_one start h log)
+
+    known : (e : TxId × Transaction) → IsLive n.tc.node n.tc.next_seq cs bs e → list_any (same_tx e.0) cs ≡ true → is_decided e.1.phase ≡ true
+    known e live among = by (is_decided e.1.phase) refl
+      where
+        by : (b : Bool) → is_decided e.1.phase ≡ b → is_decided e.1.phase ≡ true
+        by true on = on
+        by false off = absurd (not_apart e.0 cs among (live.uncommitted off))
+
+-- and one that it took back is being aborted
+pub back_aborting : (start : Start) (h : ℕ) (log : List LogStep) (n : node.Node) → after start h log ≡ Node n
+    → Each (λ (e : TxId × Transaction). list_any (same_tx e.0) (sent_ways start back_by h log) ≡ true → is_aborting e.1.phase ≡ true) n.tc.live
+back_aborting start h log n is = each_map (IsLive n.tc.node n.tc.next_seq cs bs) (λ (e : TxId × Transaction). list_any (same_tx e.0) bs ≡ true → is_aborting e.1.phase ≡ true) n.tc.live known one.live
+  where
+    cs : List TxId
+    cs = sent_ways start forth_by h log
+
+    bs : List TxId
+    bs = sent_ways start back_by h log
+
+    one : IsOneWay n.tc cs bs
+    one = subst (λ s. HostIsOneWay s cs bs) is (log_one start h log)
+
+    known : (e : TxId × Transaction) → IsLive n.tc.node n.tc.next_seq cs bs e → list_any (same_tx e.0) bs ≡ true → is_aborting e.1.phase ≡ true
+    known e live among = by (is_aborting e.1.phase) refl
+      where
+        by : (b : Bool) → is_aborting e.1.phase ≡ b → is_aborting e.1.phase ≡ true
+        by true on = on
+        by false off = absurd (not_apart e.0 bs among (live.unaborted off))

@@ -47,7 +47,7 @@ only_of p good tx held = each_map (IsOwned p.holders) (λ (r : PendingRecord). (
     each r (inr is) = inr (sym (only_holder p.holders good.agreed r.tx tx is held))
 
 -- who has a record prepared holds the lock exclusive
-prepared_holds : (p : Primary) → IsGood p → (tx : TxId) (x : PendingRecord) → found tx p.pending ≡ Some x → x.committed ≡ false → holds tx p.holders ≡ true
+pub prepared_holds : (p : Primary) → IsGood p → (tx : TxId) (x : PendingRecord) → found tx p.pending ≡ Some x → x.committed ≡ false → holds tx p.holders ≡ true
 prepared_holds p good tx x is prepared = by (each_found (IsOwned p.holders) tx p.pending x good.owned is)
   where
     by : IsOwned p.holders x × (x.tx ≡ tx) → holds tx p.holders ≡ true

@@ -60,12 +60,12 @@ verified_asked (Chain (Commit other key epoch chain at)) tx is = absurd cc
 verified_asked _ tx is = absurd cc
 
 -- the step of an entry
-record IsEntryOf (h : ℕ) (log : List LogStep) (b : Entry) : Type 0 where
-  view : b.view ≡ first_number
-  step : LogStep
-  inside : IsIn step log
-  marked : list_any (is_decision b.tx) step.marks ≡ true
-  stamp : b.stamp ≡ step.stamp
+pub record IsEntryOf (h : ℕ) (log : List LogStep) (b : Entry) : Type 0 where
+  pub view : b.view ≡ first_number
+  pub step : LogStep
+  pub inside : IsIn step log
+  pub marked : list_any (is_decision b.tx) step.marks ≡ true
+  pub stamp : b.stamp ≡ step.stamp
 
 plain_installed : (marks : List Mark) (number : ℕ) → ArePlain marks → installed_in marks number ≡ number
 plain_installed [] number all = refl
@@ -91,14 +91,14 @@ has_report tx (e ∷ log) is = by (or_cases (list_any (is_reported tx) e.marks) 
     by (inr rest) more = let report = more rest in record { step = report.step; inside = inr report.inside; marked = report.marked }
 
 module _ (start : Start) where
-  view_stays : (h : ℕ) (log : List LogStep) → IsLog (machine start) h log → view_at log ≡ first_number
+  pub view_stays : (h : ℕ) (log : List LogStep) → IsLog (machine start) h log → view_at log ≡ first_number
   view_stays h [] l = refl
   view_stays h (e ∷ log) l = step_installed start.epoch e.marks (view_at log) (step_marks start h log e l.0) ∙ view_stays h log l.1
 
   entry_more : (h : ℕ) (e : LogStep) (log : List LogStep) (b : Entry) → IsEntryOf h log b → IsEntryOf h (e ∷ log) b
   entry_more h e log b is = record { view = is.view; step = is.step; inside = inr is.inside; marked = is.marked; stamp = is.stamp }
 
-  entries_are : (h : ℕ) (log : List LogStep) → IsLog (machine start) h log → Each (IsEntryOf h log) (entries_of h log)
+  pub entries_are : (h : ℕ) (log : List LogStep) → IsLog (machine start) h log → Each (IsEntryOf h log) (entries_of h log)
   entries_are h [] l = tt
   entries_are h (e ∷ log) l =
       by (step_marks start h log e l.0) (each_map (IsEntryOf h log) (IsEntryOf h (e ∷ log)) (entries_of h log) (entry_more h e log) (entries_are h log l.1))
@@ -151,7 +151,7 @@ module _ (start : Start) where
     takes_verified e tx is = record { from = is.from; asked = verified_asked e.taken.body tx is.took; of = ap verified_of is.took }
 
     -- a transaction is decided in one step
-    one_decided : (tx : TxId) (g h : ℕ) (a b : LogStep) → IsIn a (logs g) → IsIn b (logs h) → list_any (is_decision tx) a.marks ≡ true → list_any (is_decision tx) b.marks ≡ true → a ≡ b
+    pub one_decided : (tx : TxId) (g h : ℕ) (a b : LogStep) → IsIn a (logs g) → IsIn b (logs h) → list_any (is_decision tx) a.marks ≡ true → list_any (is_decision tx) b.marks ≡ true → a ≡ b
     one_decided tx g h a b left other marked too =
         let at_a = decided_at g a tx left marked in
         let at_b = decided_at h b tx other too in

@@ -13,7 +13,7 @@ use Rattle.shell_top.specs.declared.ended.Ending.{Ending}
 use Rattle.shell_top.specs.declared.ended.Ending.TheVariants as ending
 use Rattle.shell_top.specs.declared.session.Session.{Session}
 use Rattle.shell_top.specs.Arranged.{arranged}
-use Rattle.shell_top.specs.Lived.{AreLived, IsLife, IsOrdered, nodes, session_text}
+use Rattle.shell_top.specs.Lived.{AreLived, IsLife, nodes, session_text}
 use Rattle.shell_top.specs.Opened.{HasOpened}
 use Rattle.shell_top.specs.Printed.{Prints, is_cut_short}
 use Rattle.script_lang.specs.declared.command.Command.{Command}
@@ -25,9 +25,7 @@ use Rattle.shell_top.specs.Text.{fault_line, reply_lines}
 use Rattle.shell_top.proofs.PrintedLemmas.{prints_both}
 use Rattle.world_core.specs.Lives.{fresh_life}
 use Rattle.world_core.specs.Machine.{hosts, machine}
-use Rattle.commit_laws.proofs.Epochs.{epochs_ordered, view_viable}
-use Rattle.commit_laws.proofs.StrictOrder.{histories_strict}
-use Rattle.commit_laws.specs.Laws.{IsClosedCut}
+use Rattle.serial_laws.proofs.EveryCut.{every_cut_serial}
 use Rattle.sig_core.specs.declared.log.LogStep.{LogStep}
 use Rattle.world_core.specs.Start.{Start, first_view, fresh}
 use Rattle.world_core.specs.World.{Whole, logs_at, new_world}
@@ -60,22 +58,13 @@ starts left written session lives opened =
 pub one_life : (lives before : List Life) (life last : Life) → lives ≡ before ++ life ∷ [] → before ≡ [] → life ≡ last → lives ≡ last ∷ []
 one_life lives before life last are none is = are ∙ ap (λ ls. ls ++ life ∷ []) none ∙ ap (λ l. l ∷ []) is
 
--- what a closed cut says
-ordered : (start : Start) (inside logs : ℕ → List LogStep) → 0 < start.nodes → IsClosedCut start inside logs → IsOrdered start inside
-ordered start inside logs some cut =
-    record {
-      strict = histories_strict start inside logs cut;
-      epochs = epochs_ordered start inside logs cut;
-      viable = view_viable start inside logs some cut;
-    }
-
 -- what the one life says
 pub is_life : (e : Ending) (commands : List Command) (logs : List HostLog) → AreLived (fresh nodes) e commands (logs_at logs) → IsLife e commands (fresh_life logs)
 is_life e commands logs lived =
     record {
       begins = refl;
       lived = lived;
-      ordered = λ inside cut closed. ordered (fresh nodes) inside (logs_at logs) (lit< tt) (record { within = lived.within; right = lived.right; cut = cut; closed = closed });
+      serial = λ inside cut closed. every_cut_serial (fresh nodes) inside (logs_at logs) (omega arith) lived.within lived.right cut closed;
       run = merged_run (machine (fresh nodes)) (stamped (fresh nodes)) (hosts (fresh nodes)) (logs_at logs) lived.within lived.right;
     }
 

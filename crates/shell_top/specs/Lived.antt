@@ -11,15 +11,12 @@ use Rattle.shell_top.specs.declared.ended.Ending.{Ending}
 use Rattle.shell_top.specs.declared.ended.Ending.TheVariants.{NoMemory, Words}
 use Rattle.shell_top.specs.Printed.{is_cut_short}
 use Rattle.shell_top.specs.Told.{text_of}
-use Rattle.world_core.specs.History.{history}
 use Rattle.world_core.specs.Lives.{logs_of, start_of}
 use Rattle.world_core.specs.Machine.{hosts, machine}
 use Rattle.world_core.specs.Quiet.{IsQuiet}
 use Rattle.world_core.specs.Requests.{AreAskedAtQuiet}
-use Rattle.world_core.specs.SerialLaw.{AreEpochsOrdered}
+use Rattle.world_core.specs.SerialLaw.{IsSerial}
 use Rattle.world_core.specs.Start.{Start, fresh}
-use Rattle.world_core.specs.Strict.{IsStrictOrder}
-use Rattle.world_core.specs.Views.{greatest_view, is_viable}
 
 -- all commands were asked for, or, where the session was cut short, a first part of what is asked for them
 abbrev pub AreAskedFor : Start → Bool → List Command → List LogStep → Type 0
@@ -39,20 +36,13 @@ pub record AreLived (start : Start) (ending : Ending) (commands : List Command) 
 abbrev pub nodes : ℕ
 nodes = 2
 
--- The history of these logs keeps to strict order, epochs never fall along it, and the greatest view is viable.
-pub record IsOrdered (start : Start) (logs : ℕ → List LogStep) : Type 0 where
-  pub strict : IsStrictOrder start (logs 0) (history (hosts start) logs)
-  pub epochs : AreEpochsOrdered (history (hosts start) logs)
-  -- one group, of which each node has a replica
-  pub viable : is_viable 1 start.nodes (greatest_view start logs) ≡ true
-
 -- What a life says: it begins without rows, in the first epoch; its logs are a run of the machine from there, the requests
--- in them are those of the commands, and every closed cut of them is ordered.
+-- in them are those of the commands, and every closed cut of them is serial.
 pub record IsLife (ending : Ending) (commands : List Command) (life : Life) : Type 0 where
   pub begins : start_of nodes life ≡ fresh nodes
   pub lived : AreLived (start_of nodes life) ending commands (logs_of life)
   pub run : LogsRun (machine (start_of nodes life)) (hosts (start_of nodes life)) (logs_of life)
-  pub ordered : (inside : ℕ → List LogStep) → IsCut inside (logs_of life) → IsClosed (machine (start_of nodes life)) inside → IsOrdered (start_of nodes life) inside
+  pub serial : (inside : ℕ → List LogStep) → IsCut inside (logs_of life) → IsClosed (machine (start_of nodes life)) inside → IsSerial (start_of nodes life) inside
 
 -- the endings that can come before there is a life
 abbrev pub may_be_unborn : Ending → Bool

@@ -17,7 +17,7 @@ use Rattle.world_core.specs.Marks.{has_mark, have_mark}
 use Rattle.world_core.specs.Start.{Start}
 use Rattle.commit_laws.specs.Ways.{back_by, forth_by, sent_ways, way_of}
 use Rattle.commit_laws.proofs.OneWay.{coordinators_one_way}
-use Rattle.transit_laws.specs.GivenUp.{AbortsAreOfGivenUp, CommitsAreOfCarriedOut, CompletionsAreOfCarriedOut, KeptAreNotGivenUp, NoneIsBoth, is_carried_out, is_given_up}
+use Rattle.transit_laws.specs.GivenUp.{AbortsAreOfGivenUp, CommitsAreOfCarriedOut, CompletionsAreOfCarriedOut, KeptAreNotGivenUp, NoneIsBoth, is_carried_out}
 use Rattle.transit_laws.specs.Transit.{IsRun, logs_of}
 use Rattle.transit_laws.proofs.TransitRuns.{runs_have_transit, taking}
 use Rattle.transit_laws.proofs.Ways.{IsMarkTold, IsTold, all_told, taken_told}

@@ -1,32 +1,26 @@
 -- Who waits in the queue of a key has a request for it among those that wait.
-use Rattle.std.proofs.Common.{◌≡◌, ◌⊎◌, ℕ, suc, zero, ◌+◌, ◌≤◌, Bool, true, false, cond, ◌&&◌, not, List, [], ◌∷◌, ◌++◌, length, refl, sym, ap, ◌∙◌, subst, arith, inl, inr}
-use Rattle.std.specs.Prelude.{◌==◌, if◌then◌else◌, nat_lt, remove, slice_get, is_some, Option, None, Some}
+use Rattle.std.proofs.Common.{◌≡◌, ◌⊎◌, ℕ, ◌+◌, ◌≤◌, Bool, true, false, cond, ◌&&◌, not, List, [], ◌∷◌, ◌++◌, length, refl, sym, ap, ◌∙◌, subst, arith, inl, inr}
+use Rattle.std.specs.Prelude.{◌==◌, if◌then◌else◌, nat_lt, is_some, Option, None, Some}
 use Rattle.std.specs.List.{prefix_len}
-use Rattle.std.specs.FinMap as finite
-use Rattle.std.proofs.lemmas.Bool.{and_from, and_parts}
+use Rattle.std.proofs.lemmas.Bool.{and_from, and_left, and_parts, and_right}
 use Rattle.std.proofs.lemmas.Bool.Decides.{nat_tests}
-use Rattle.sig_core.specs.declared.log.LogStep.{LogStep}
 use Rattle.sig_core.specs.declared.member.Member.{Member}
 use Rattle.sig_core.specs.declared.member.TxId.{TxId}
-use Rattle.sig_core.specs.declared.op.Answer.{Answer}
-use Rattle.sig_core.specs.declared.place.BlockId.{BlockId}
-use Rattle.sig_core.specs.declared.place.BlockId.TheVariants as block
-use Rattle.sig_core.specs.declared.place.Place.{Place}
 use Rattle.sig_core.specs.declared.signal.Body.{Body}
 use Rattle.sig_core.specs.declared.signal.Body.TheVariants.{Host, Client, Chain}
 use Rattle.sig_core.specs.declared.signal.chain.ChainSignal.TheVariants.{LqhKeyReq, Commit, Complete, Abort}
 use Rattle.sig_core.specs.declared.signal.client.ClientSignal.TheVariants.{TcCommitAck, LqhWaitReq, DumpReq}
 use Rattle.sig_core.specs.declared.signal.host.HostSignal.TheVariants.{Round, Continue}
 use Rattle.sig_core.specs.declared.signal.host.Work.TheVariants as work
-use Rattle.sig_core.specs.Rows.{RowsState, complete_record, record_state}
+use Rattle.sig_core.specs.Rows.{complete_record, record_state}
 use Rattle.sig_core.specs.Same.{same_key, same_tx}
 use Rattle.row_locks.specs.declared.mode.Lock.{Lock}
 use Rattle.row_locks.specs.declared.mode.Lock.TheVariants.{Granted, Queued}
 use Rattle.row_locks.specs.Holders.{first_other}
 use Rattle.row_locks.specs.Queues.{waits}
 use Rattle.row_locks.specs.Rounds.{expired}
-use Rattle.row_locks.specs.Rows.{RowLock, asked}
-use Rattle.row_locks.specs.Tables.{Locks, ahead_at, ahead_of, lock_at, some_if, unwaited_at}
+use Rattle.row_locks.specs.Rows.{RowLock}
+use Rattle.row_locks.specs.Tables.{ahead_at, lock_at, some_if, unwaited_at}
 use Rattle.lqh_block.proofs.IndexLemmas.{same as same_key-is}
 use Rattle.lqh_block.specs.Abort as abort
 use Rattle.lqh_block.specs.Commit as commit
@@ -36,7 +30,7 @@ use Rattle.lqh_block.specs.Dump as dump
 use Rattle.lqh_block.specs.Expire as expire
 use Rattle.lqh_block.specs.Lqh.{lqh_row}
 use Rattle.lqh_block.specs.Operate as operate
-use Rattle.lqh_block.specs.State.{LqhState, freed_lock, unlocked, with_lock, with_rows, with_waiting}
+use Rattle.lqh_block.specs.State.{LqhState, freed_lock, unlocked, with_lock, with_rows}
 use Rattle.lqh_block.specs.Wait as wait
 use Rattle.lqh_block.specs.Work.{is_for, work_key, work_mode}
 use Rattle.row_locks.proofs.TxLemmas.{same_tx-is}
@@ -100,19 +94,11 @@ unasked_others s tx key all = go (nat_lt place (length s.waiting)) refl
 freed_queue : (s : LqhState) (tx : TxId) (key k : List ℕ) (u : TxId) → is_queued (unlocked s tx key) k u ≡ true → (is_queued s k u ≡ true) × ((same_tx tx u && same_key key k) ≡ false)
 freed_queue s tx key k u is = by (same_key key k) refl (ap (λ (l : RowLock). waits u l.queue) (sym (lock-kept s.locks key k (freed_lock s tx key).lock)) ∙ is)
   where
-    falsely : (b c : Bool) → b ≡ false → (b && c) ≡ false
-    falsely true c off = absurd cc
-    falsely false c off = refl
-
-    off_key : (b : Bool) → (b && false) ≡ false
-    off_key true = refl
-    off_key false = refl
-
     by : (b : Bool) → same_key key k ≡ b → waits u (if b then (freed_lock s tx key).lock else lock_at s.locks k).queue ≡ true → (is_queued s k u ≡ true) × ((same_tx tx u && same_key key k) ≡ false)
     by true e is =
         let freed = waits_released (lock_at s.locks key) tx u is in
-        (ap (λ j. is_queued s j u) (sym (same_key-is key k e)) ∙ freed.0, falsely (same_tx tx u) (same_key key k) freed.1)
-    by false e is = (is, ap (λ b. same_tx tx u && b) e ∙ off_key (same_tx tx u))
+        (ap (λ j. is_queued s j u) (sym (same_key-is key k e)) ∙ freed.0, and_left (same_tx tx u) (same_key key k) freed.1)
+    by false e is = (is, and_right (same_tx tx u) (same_key key k) e)
 
 unlocked_asks : (s : LqhState) (tx : TxId) (key : List ℕ) → OthersAsk s key tx → WaitersAsk (unlocked s tx key)
 unlocked_asks s tx key others = record {
@@ -205,11 +191,11 @@ granted_asks s all = go (nat_lt place (length s.waiting)) refl
         another k u is true e =
             let parts = and_parts (same_tx f.item.tx u) (same_key (work_key f.item.work) k) e in
             absurd (
-                let both : true ≡ false =
-                sym is ∙ (ap (is_queued s k) (sym (same_tx-is f.item.tx u parts.0)) ∙ (ap (λ j. is_queued s j f.item.tx) (sym (same_key-is (work_key f.item.work) k parts.1))
-                ∙ free (is_queued s (work_key f.item.work) f.item.tx) (first_other f.item.tx (lock_at s.locks (work_key f.item.work)).holders) f.passes)) in
-                cc
-                )
+            let both : true ≡ false =
+            sym is ∙ (ap (is_queued s k) (sym (same_tx-is f.item.tx u parts.0)) ∙ (ap (λ j. is_queued s j f.item.tx) (sym (same_key-is (work_key f.item.work) k parts.1))
+            ∙ free (is_queued s (work_key f.item.work) f.item.tx) (first_other f.item.tx (lock_at s.locks (work_key f.item.work)).holders) f.passes)) in
+            cc
+            )
 
     go : (b : Bool) → nat_lt place (length s.waiting) ≡ b → WaitersAsk (operate.granted_by s (cond b (Some place) None)).state
     go true e =

@@ -1,11 +1,11 @@
 -- One transaction of those that a coordinator hasn't forgotten, where the list of them changes.
-use Rattle.std.proofs.Common.{◌≡◌, ℕ, Bool, true, false, List, [], ◌∷◌, ◌++◌, refl, sym, ap, ◌∙◌}
-use Rattle.std.specs.Prelude.{if◌then◌else◌, Option, None, Some}
+use Rattle.std.proofs.Common.{◌≡◌, Bool, true, false, [], ◌∷◌, ◌++◌, refl, sym, ap, ◌∙◌, subst}
+use Rattle.std.specs.Prelude.{if◌then◌else◌, None, Some}
 use Rattle.indexmap.specs.IndexMap.{insert_entry}
 use Rattle.run_theory.specs.Lists.{Each}
 use Rattle.sig_core.specs.declared.member.TxId.{TxId}
 use Rattle.sig_core.specs.Same.{same_tx}
-use Rattle.row_locks.proofs.TxLemmas.{same_tx-swap}
+use Rattle.row_locks.proofs.TxLemmas.{same_tx-is, same_tx-swap}
 use Rattle.tc_block.specs.declared.transaction.Transaction.{Transaction}
 use Rattle.commit_laws.proofs.Keys.{same_tx-self}
 use Rattle.commit_laws.proofs.LiveSplit.{Live}
@@ -37,3 +37,14 @@ of_inserted (e ∷ live) tx v t others apart = by (same_tx tx e.0) refl (of_inse
     by : (b : Bool) → same_tx tx e.0 ≡ b → of_live v (insert_entry same_tx live tx t) ≡ of_live v live → of_live v (if b then (e.0, t) ∷ live else e ∷ insert_entry same_tx live tx t) ≡ of_live v (e ∷ live)
     by true is more = absurd (let both : true ≡ false = sym is ∙ (same_tx-swap tx e.0 ∙ others.0) in cc)
     by false is more = ap (λ o. if same_tx e.0 v then Some e.1 else o) more
+
+-- what holds of each holds of the one that is found
+pub each_found : (P : TxId × Transaction → Type 0) (live : Live) (tx : TxId) (t : Transaction) → Each P live → of_live tx live ≡ Some t → P (tx, t)
+each_found P [] tx t all is = absurd cc
+each_found P (e ∷ live) tx t all is = by (same_tx e.0 tx) refl is (each_found P live tx t all.1)
+  where
+    by : (b : Bool) → same_tx e.0 tx ≡ b → (if b then Some e.1 else of_live tx live) ≡ Some t → (of_live tx live ≡ Some t → P (tx, t)) → P (tx, t)
+    by true own is rest =
+        let value : e.1 ≡ t = cc in
+        subst (λ v. P (tx, v)) value (subst (λ v. P (v, e.1)) (same_tx-is e.0 tx own) all.0)
+    by false off is rest = rest is

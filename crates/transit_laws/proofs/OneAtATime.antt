@@ -1,5 +1,5 @@
 -- The operations of a transaction are under way one at a time.
-use Rattle.std.proofs.Common.{◌≡◌, ◌≢◌, ◌⊎◌, ◌<◌, ℕ, zero, suc, ◌+◌, ◌-◌, ◌≤◌, Bool, true, false, List, [], ◌∷◌, refl, sym, ap, ◌∙◌, subst, arith, inl, inr}
+use Rattle.std.proofs.Common.{◌≡◌, ◌≢◌, ◌⊎◌, ◌<◌, ℕ, zero, suc, ◌+◌, ◌-◌, ◌≤◌, Bool, true, List, [], ◌∷◌, refl, sym, ap, ◌∙◌, subst, arith, inl, inr}
 use Rattle.std.specs.List.{list_any}
 use Rattle.std.proofs.lemmas.Bool.{cases_eq, cases_lt}
 use Rattle.run_theory.proofs.Runs.{log_of-other, log_of-own}
@@ -12,8 +12,7 @@ use Rattle.sig_core.specs.declared.signal.Body.TheVariants.{Chain}
 use Rattle.sig_core.specs.declared.signal.chain.ChainSignal.TheVariants.{LqhKeyReq, LqhKeyConf, LqhKeyRef}
 use Rattle.sig_core.specs.declared.signal.Signal.{Signal}
 use Rattle.sig_core.specs.Same.{same_tx}
-use Rattle.node_core.specs.declared.host.Host as host
-use Rattle.node_core.specs.declared.host.Host.TheVariants.{Shell, Node}
+use Rattle.node_core.specs.declared.host.Host.TheVariants.{Node}
 use Rattle.node_core.specs.Fresh.{begun_node, fresh_node}
 use Rattle.node_core.specs.Requests.{is_request}
 use Rattle.world_core.specs.Machine.{after, hosts, machine, signals_of, step_after}
@@ -24,12 +23,12 @@ use Rattle.answer_laws.proofs.Tally.{one_if, tally}
 use Rattle.answer_laws.proofs.Totals.{total, total_at, total_one}
 use Rattle.transit_laws.specs.Live.{of_host}
 use Rattle.transit_laws.specs.Tokens.{OneAtATime, budget, budget_by, is_token, tokens, tokens_in, waiting_all, waiting_in}
-use Rattle.transit_laws.specs.Transit.{AreInTransit, Comes, IsRun, Takes, joined, logs_of}
+use Rattle.transit_laws.specs.Transit.{Comes, Takes, joined, logs_of}
 use Rattle.transit_laws.proofs.HostTokens.{Kept, node_step_kept, shell_kept}
 use Rattle.transit_laws.proofs.LqhTokens.{tokens_out}
 use Rattle.transit_laws.proofs.TcSound.{IsSoundHost, log_sound}
 use Rattle.transit_laws.proofs.Transit.{along_transit}
-use Rattle.transit_laws.proofs.Weighing.{in_sends, in_transit, joins_weigh, takes_weigh, weigh}
+use Rattle.transit_laws.proofs.Weighing.{joins_weigh, takes_weigh, weigh}
 
 tally_weighs : {A : Type 0} (p : A → Bool) (xs : List A) → tally p xs ≡ weigh (λ x. one_if (p x)) xs
 tally_weighs p [] = refl
@@ -82,7 +81,7 @@ module _ (start : Start) (tx : TxId) where
     joined_now = joined (signals_of start h (was h) e) between
 
     -- in transit then are those that were left and those that are sent
-    in_before : tokens_in tx before ≡ came + tokens_in tx between
+    pub in_before : tokens_in tx before ≡ came + tokens_in tx between
     in_before =
         omega (
           arith,
@@ -151,16 +150,16 @@ module _ (start : Start) (tx : TxId) where
   unfolding fresh_node begun_node
   fresh_waits k = refl
 
+  pub none_waits_first : (k : ℕ) → waiting_in tx (after start k []) ≡ 0
+  none_waits_first zero = ap (waiting_in tx) (shell_after start []).is
+  none_waits_first (suc k) = fresh_waits k
+
   none_first : tokens start (logs_of start []) [] tx ≤ budget start (logs_of start []) tx
   none_first = omega (arith, none (hosts start))
     where
-      none_at : (k : ℕ) → waiting_in tx (after start k []) ≡ 0
-      none_at zero = ap (waiting_in tx) (shell_after start []).is
-      none_at (suc k) = fresh_waits k
-
       none : (n : ℕ) → total n (λ k. waiting_in tx (after start k [])) ≡ 0
       none zero = refl
-      none (suc n) = omega (arith, none_at n, none n)
+      none (suc n) = omega (arith, none_waits_first n, none n)
 
 pub one_at_a_time : OneAtATime
 one_at_a_time start es xs tx run is =

@@ -18,7 +18,7 @@ use Rattle.row_locks.specs.declared.mode.Mode.{Mode}
 use Rattle.row_locks.specs.Holders.{agrees_with, hold, holds, holds_enough, unless_gone}
 use Rattle.row_locks.specs.Queues.{aged_all, raised, raised_if, wait_of, waits, without}
 use Rattle.row_locks.specs.Rounds.{expired, expired_in, first_expired, found_at, found_if, is_expired}
-use Rattle.row_locks.specs.Rows.{Asked, RowLock, asked, asked_anew, asked_by, is_quiet, released, served, served_if, unwaited}
+use Rattle.row_locks.specs.Rows.{RowLock, asked, asked_anew, asked_by, is_quiet, released, served, served_if, unwaited}
 use Rattle.row_locks.specs.Tables.{Locks, lock_at, or_unlocked}
 use Rattle.row_locks.proofs.LocksLemmas.{key_cmp}
 use Rattle.row_locks.proofs.TxLemmas.{same_tx-is}

@@ -10,9 +10,7 @@ use Rattle.world_core.specs.Start.{Start}
 use Rattle.commit_laws.specs.BackupEvents.{IsOfImage}
 use Rattle.commit_laws.specs.PrimaryEvents.{IsOfOperation}
 use Rattle.transit_laws.specs.Routes.{ComingAreRouted, CommitsEndAtPrimary, IsCommitRouted, IsRequestRouted, IsRouted, IsSentTo, IsWorkAt, RequestsAreForReplicas, primary, replicas}
-use Rattle.transit_laws.specs.Transit.{Comes}
-use Rattle.transit_laws.proofs.InTransit.{took}
-use Rattle.transit_laws.proofs.Routes.{IsOnWay, all_routed, places_some, request_routed}
+use Rattle.transit_laws.proofs.Routes.{all_routed, places_some, took_routed}
 use Rattle.transit_laws.proofs.RoutesChain.{primary_first, primary_length, replica_at}
 use Rattle.transit_laws.proofs.TransitRuns.{runs_have_transit}
 
@@ -52,8 +50,7 @@ module _ (start : Start) (some : (key : List ℕ) → 0 < length (replicas start
 pub coming_are_routed : ComingAreRouted
 coming_are_routed start es e comes =
     let now = (runs_have_transit start (e ∷ es) comes.now).1 in
-    let is = (took (λ x. IsOnWay start x) e now.0 now.1.1.between now.1.1.takes (request_routed start e.taken) (all_routed start es now.0 comes.before now.1.0).signals).0 in
-    record { routed = is.routed; block = is.block }
+    took_routed start es e now.0 now.1.1.between (all_routed start es now.0 comes.before now.1.0) now.1.1.takes
 
 pub requests_are_for_replicas : RequestsAreForReplicas
 requests_are_for_replicas start es e tx work chain at comes is =

@@ -1,5 +1,5 @@
 -- What is sent along chains goes to the places that it is for, along every run.
-use Rattle.std.proofs.Common.{◌≡◌, ◌<◌, ℕ, zero, suc, true, false, List, ◌∷◌, length, refl, sym, ◌∙◌, subst, arith}
+use Rattle.std.proofs.Common.{◌≡◌, ◌<◌, ℕ, Bool, true, false, zero, suc, true, false, List, ◌∷◌, length, refl, sym, ◌∙◌, subst, arith}
 use Rattle.run_theory.specs.Lists.{Each}
 use Rattle.run_theory.proofs.Pasts.{each_map}
 use Rattle.sig_core.specs.declared.log.LogStep.{LogStep}
@@ -22,20 +22,21 @@ use Rattle.node_core.specs.Dih.{DihState, dih_row}
 use Rattle.node_core.specs.Fresh.{begun_node, fresh_node, fresh_shell}
 use Rattle.node_core.specs.Requests.{is_request}
 use Rattle.node_core.specs.Row.{node_row, row, shell_row}
-use Rattle.world_core.specs.Machine.{after, sent_count, signals_of, step_after}
-use Rattle.world_core.specs.Start.{Start, first_view, started}
+use Rattle.world_core.specs.Machine.{after, signals_of}
+use Rattle.world_core.specs.Start.{Start, started}
 use Rattle.answer_laws.proofs.ApiMoves.{ApiMove, api_moves, begun_as, ends, goes, is_api_kind, opens, refuses, rests}
 use Rattle.answer_laws.proofs.DihSends.{dih_kinds}
 use Rattle.answer_laws.proofs.SendKinds.{are_of, each_of, is_dih_kind}
-use Rattle.transit_laws.specs.Routes.{IsForBlock, IsHostRouted, IsRouted, SignalsAreForBlocks, SignalsAreRouted, replicas}
+use Rattle.transit_laws.specs.Routes.{IsForBlock, IsHostRouted, IsOnWay, IsRouted, SignalsAreForBlocks, SignalsAreRouted, replicas}
 use Rattle.transit_laws.specs.Transit.{AreInTransit, Comes, IsRun, Takes, host_after, joined, logs_of}
 use Rattle.transit_laws.proofs.EachTurn.{is_chain}
-use Rattle.transit_laws.proofs.InTransit.{each_headed, each_host, each_joined, took}
+use Rattle.transit_laws.proofs.HostAfter.{each_host}
 use Rattle.transit_laws.proofs.RoutesChain.{replicas_length}
 use Rattle.transit_laws.proofs.RoutesLqh.{lqh_routed}
-use Rattle.transit_laws.proofs.RoutesSends.{AreSent, IsSent, plain_block, plain_routed, plain_sent}
+use Rattle.transit_laws.proofs.RoutesSends.{AreSent, IsSent, plain_sent}
 use Rattle.transit_laws.proofs.RoutesTc.{tc_routed}
 use Rattle.transit_laws.proofs.Transit.{along_transit}
+use Rattle.transit_laws.proofs.Weighing.{each_between, each_joins, each_taken}
 
 module _ (start : Start) where
   api_plain : (body : Body) → is_api_kind body ≡ true → is_chain body ≡ false
@@ -51,7 +52,7 @@ module _ (start : Start) where
   request_plain _ e = refl
 
   api_kinds_sent : (sends : List Outgoing) → are_of is_api_kind sends ≡ true → AreSent start sends
-  api_kinds_sent sends e = each_of is_api_kind (λ o. IsSent start o) (λ o is. plain_sent start o (api_plain o.body is)) sends e
+  api_kinds_sent sends e = each_of is_api_kind (λ o. IsSent start o) (λ o is. plain_sent start o.to o.body (api_plain o.body is)) sends e
 
   move_sent : (s : ApiState) (body : Body) (then_is : View × List OpenTransaction) (sends : List Outgoing) → ApiMove s body then_is sends → AreSent start sends
   move_sent s body then_is sends (rests is kind void) = api_kinds_sent sends kind
@@ -65,7 +66,7 @@ module _ (start : Start) where
   api_sent s body = move_sent s body _ _ (api_moves s body)
 
   dih_sent : (s : DihState) (body : Body) → AreSent start (dih_row s body).effects.sends
-  dih_sent s body = each_of is_dih_kind (λ o. IsSent start o) (λ o is. plain_sent start o (dih_plain o.body is)) (dih_row s body).effects.sends (dih_kinds s body)
+  dih_sent s body = each_of is_dih_kind (λ o. IsSent start o) (λ o is. plain_sent start o.to o.body (dih_plain o.body is)) (dih_row s body).effects.sends (dih_kinds s body)
 
   -- a step of a host
   record HostRoutes (h : ℕ) (step : Step host.Host) : Type 0 where
@@ -100,17 +101,17 @@ module _ (start : Start) where
   started_routed zero = tt
   started_routed (suc h) = (refl, (tt, tt))
 
-  -- a signal in transit is routed, and for its block
-  pub record IsOnWay (x : Signal) : Type 0 where
-    pub routed : IsRouted start x.to.node x.body
-    pub block : IsForBlock x.to x.body
-
   pub record AllRouted (es : List LogStep) (xs : List Signal) : Type 0 where
-    pub signals : Each (λ x. IsOnWay x) xs
+    pub signals : Each (λ (x : Signal). IsOnWay start x.to x.body) xs
     pub hosts : (h : ℕ) → IsHostRouted start h (host_after start es h)
 
-  pub request_routed : (x : Signal) → is_request x.body ≡ true → IsOnWay x
-  request_routed x e = record { routed = plain_routed start x.to.node x.body (request_plain x.body e); block = plain_block start x.to x.body (request_plain x.body e) }
+  -- so is what a step takes
+  pub took_routed : (es : List LogStep) (e : LogStep) (before between : List Signal) → AllRouted es before → Takes e before between → IsOnWay start e.taken.to e.taken.body
+  took_routed es e before between all takes = by (is_request e.taken.body) refl
+    where
+      by : (b : Bool) → is_request e.taken.body ≡ b → IsOnWay start e.taken.to e.taken.body
+      by true is = plain_sent start e.taken.to e.taken.body (request_plain e.taken.body is)
+      by false is = each_taken (λ (x : Signal). IsOnWay start x.to x.body) e before between is takes all.signals
 
   pub places_some : (es : List LogStep) → IsRun start es → (key : List ℕ) → 0 < length (replicas start key)
   places_some es run key = omega (arith, run.some, replicas_length start key)
@@ -120,13 +121,10 @@ module _ (start : Start) where
   next_routed es e before between comes all takes =
       let h = e.taken.to.node in
       let log = logs_of start es h in
-      let took_is = took (λ x. IsOnWay x) e before between takes (request_routed e.taken) all.signals in
-      let step = host_routes (places_some es comes.before) h (after start h log) e.taken.to e.taken.body took_is.0.routed (all.hosts h) in
+      let is = took_routed es e before between all takes in
+      let step = host_routes (places_some es comes.before) h (after start h log) e.taken.to e.taken.body is.routed (all.hosts h) in
       record {
-        signals = each_joined (λ x. IsOnWay x) (signals_of start h log e) between
-            (each_headed (λ x. IsOnWay x) (λ o. IsSent start o) (first_view start.nodes) h e.stamp (λ o number is. record { routed = is.routed; block = is.block })
-            (sent_count start h log) (step_after start h log e).effects.sends step.sends)
-            took_is.1;
+        signals = each_joins (λ to body. IsOnWay start to body) start h log e between step.sends (each_between (λ (x : Signal). IsOnWay start x.to x.body) e before between takes all.signals);
         hosts = each_host start (λ g s. IsHostRouted start g s) es e step.state all.hosts;
       }
 
@@ -138,8 +136,8 @@ module _ (start : Start) where
 pub signals_are_routed : SignalsAreRouted
 signals_are_routed start es xs run transit =
     let all = all_routed start es xs run transit in
-    record { signals = each_map (λ x. IsOnWay start x) (λ (x : Signal). IsRouted start x.to.node x.body) xs (λ x is. is.routed) all.signals; hosts = all.hosts }
+    record { signals = each_map (λ (x : Signal). IsOnWay start x.to x.body) (λ (x : Signal). IsRouted start x.to.node x.body) xs (λ x is. is.routed) all.signals; hosts = all.hosts }
 
 pub signals_are_for_blocks : SignalsAreForBlocks
 signals_are_for_blocks start es xs run transit =
-    each_map (λ x. IsOnWay start x) (λ (x : Signal). IsForBlock x.to x.body) xs (λ x is. is.block) (all_routed start es xs run transit).signals
+    each_map (λ (x : Signal). IsOnWay start x.to x.body) (λ (x : Signal). IsForBlock x.to x.body) xs (λ x is. is.block) (all_routed start es xs run transit).signals

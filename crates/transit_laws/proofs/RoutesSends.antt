@@ -20,14 +20,13 @@ use Rattle.tc_block.specs.Chain.{chain_of}
 use Rattle.tc_block.specs.Sends.{abort_of, aborts_of, commit_of, complete_if, complete_of, front_sends, key_sends, phase_sends}
 use Rattle.world_core.specs.Start.{Start}
 use Rattle.commit_laws.proofs.EachSent.{each_mapped}
-use Rattle.transit_laws.specs.Routes.{IsForBlock, IsRouted, IsTouchedRouted, replicas}
+use Rattle.transit_laws.specs.Routes.{IsForBlock, IsOnWay, IsRouted, IsTouchedRouted, replicas}
 use Rattle.transit_laws.proofs.EachTurn.{is_chain}
 use Rattle.transit_laws.proofs.RoutesChain.{last_inside, primary_length}
 
 -- a signal is routed, and for its block
-pub record IsSent (start : Start) (o : Outgoing) : Type 0 where
-  pub routed : IsRouted start o.to.node o.body
-  pub block : IsForBlock o.to o.body
+abbrev pub IsSent : Start → Outgoing → Type 0
+IsSent start o = IsOnWay start o.to o.body
 
 abbrev pub AreSent : Start → List Outgoing → Type 0
 AreSent start sends = Each (λ (o : Outgoing). IsSent start o) sends
@@ -39,16 +38,16 @@ each_flat_of R P f (x ∷ xs) holds all = each_append P (f x) (flat_map f xs) (h
 
 -- a signal about no row
 module _ (start : Start) where
-  pub plain_routed : (node : ℕ) (body : Body) → is_chain body ≡ false → IsRouted start node body
+  plain_routed : (node : ℕ) (body : Body) → is_chain body ≡ false → IsRouted start node body
   plain_routed node (Chain c) e = absurd (true≢false e)
   plain_routed node _ e = tt
 
-  pub plain_block : (to : Place) (body : Body) → is_chain body ≡ false → IsForBlock to body
+  plain_block : (to : Place) (body : Body) → is_chain body ≡ false → IsForBlock to body
   plain_block to (Chain c) e = absurd (true≢false e)
   plain_block to _ e = tt
 
-  pub plain_sent : (o : Outgoing) → is_chain o.body ≡ false → IsSent start o
-  plain_sent o e = record { routed = plain_routed o.to.node o.body e; block = plain_block o.to o.body e }
+  pub plain_sent : (to : Place) (body : Body) → is_chain body ≡ false → IsOnWay start to body
+  plain_sent to body e = record { routed = plain_routed to.node body e; block = plain_block to body e }
 
 module _ (start : Start) (some : (key : List ℕ) → 0 < length (replicas start key)) (tx : TxId) where
   -- where a commit goes

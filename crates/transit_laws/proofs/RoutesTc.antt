@@ -57,7 +57,7 @@ module _ (start : Start) (some : (key : List ℕ) → 0 < length (replicas start
     answered = λ t asked answer is fine. record { touched = answered_routed t fine answer asked.op asked.chain (subst (IsAskedRouted start) is fine.asked); asked = tt };
     sends = λ tx t phase fine. phase_sent start some tx (first_view start.nodes) phase t.touched fine.touched;
     aborts = λ tx key. aborts_sent start some tx key (chain_of (first_view start.nodes) key);
-    plain = λ o e. plain_sent start o e;
+    plain = λ o e. plain_sent start o.to o.body e;
   }
 
   -- whatever it takes

@@ -1,10 +1,10 @@
 -- Each step of a coordinator leaves it sound.
-use Rattle.std.proofs.Common.{◌≡◌, ◌<◌, ℕ, zero, suc, ◌+◌, Bool, true, false, ◌&&◌, List, [], ◌∷◌, ◌++◌, refl, sym, ap, ◌∙◌, subst, arith}
+use Rattle.std.proofs.Common.{◌≡◌, ◌⊎◌, ◌<◌, ℕ, zero, suc, ◌+◌, Bool, true, false, ◌&&◌, List, [], ◌∷◌, ◌++◌, refl, sym, ap, ◌∙◌, subst, arith, inl, inr}
 use Rattle.std.specs.FinMap as finite
+use Rattle.std.specs.List.{list_any}
 use Rattle.std.specs.Map.{values_of}
 use Rattle.std.specs.Prelude.{Option, None, Some, is_some, slice_get, nat_eq}
 use Rattle.std.proofs.lemmas.Bool.{and_right, ne_eqb}
-use Rattle.indexmap.specs.IndexMap.{insert_entry}
 use Rattle.run_theory.specs.Lists.{Each}
 use Rattle.run_theory.proofs.Pasts.{each_after, each_append, each_before, each_map}
 use Rattle.sig_core.specs.declared.log.LogStep.{LogStep}
@@ -43,13 +43,15 @@ use Rattle.node_core.specs.Fresh.{begun_node, fresh_node, fresh_shell}
 use Rattle.node_core.specs.Row.{node_row, row}
 use Rattle.world_core.specs.Machine.{after}
 use Rattle.world_core.specs.Start.{Start, started}
-use Rattle.commit_laws.specs.Ways.{Way, back, back_by, closes, forth, neither, put_ways, sent_ways, tc_sends, way_of}
+use Rattle.commit_laws.specs.Ways.{Way, back, back_by, closes, forth, is_aborting, neither, put_ways, sent_ways, tc_sends, way_of}
 use Rattle.commit_laws.proofs.LiveSplit.{KeysOnce, Live, Split, each_inserted, once_gone, once_inserted, once_set, split_at}
+use Rattle.commit_laws.proofs.OneWay.{back_more}
 use Rattle.commit_laws.proofs.TcWays.{AllWays, TurnWays, WayOf, Ways, aborted_ways, answer_ways, commit_ways, committed_ways, completed_ways, decide_ways, go_on_ways, operate_ways, refuse_ways, rollback_ways, wait_ways}
 use Rattle.answer_laws.proofs.TcOps.{is_right}
 use Rattle.transit_laws.proofs.LqhWaits.{WaitersAsk, lqh_asks}
-use Rattle.transit_laws.proofs.TcTokens.{IsOwned, IsSound}
-use Rattle.transit_laws.proofs.TcTurns.{TurnTokens, aborted_turn, answer_turn, commit_turn, committed_turn, completed_turn, decide_turn, go_on_turn, operate_turn, refuse_turn, rollback_turn, wait_turn}
+use Rattle.transit_laws.proofs.TcAborts.{HasTouched, TurnAborts, aborted_aborts, answer_aborts, commit_aborts, committed_aborts, completed_aborts, decide_aborts, go_on_aborts, operate_aborts, refuse_aborts, rollback_aborts, wait_aborts}
+use Rattle.transit_laws.proofs.TcTokens.{IsOwned, IsSound, now_given_up}
+use Rattle.transit_laws.proofs.TcTurns.{TurnTokens, gives_up, aborted_turn, answer_turn, commit_turn, committed_turn, completed_turn, decide_turn, go_on_turn, operate_turn, refuse_turn, rollback_turn, wait_turn}
 
 -- what gives a transaction up is of this one
 abbrev IsBackOf : TxId → Way → Type 0
@@ -81,68 +83,80 @@ each_back P tx (o ∷ more) bs all own before = each_back P tx more (back_by (wa
     by neither is = before
 
 -- a turn of the transaction keeps it right, and gives up no other one
-record Turns (tx : TxId) (turn : Turn) : Type 0 where
+record Turns (tx : TxId) (t : Transaction) (turn : Turn) : Type 0 where
   right : is_right turn.step.state.asked turn.step.state.phase ≡ true
   gives : AreBackOf tx turn.step.effects.sends
+  aborts : TurnAborts tx t turn
 
-of_step : (tx : TxId) (t : Transaction) (step : Step Transaction) → TurnTokens tx t 1 (going step) → Ways tx t.phase step → Turns tx (going step)
-of_step tx t step is ways = record { right = is.right; gives = of_ways tx step.state.phase step.effects.sends ways.sends }
+of_step : (tx : TxId) (t : Transaction) (step : Step Transaction) → TurnTokens tx t 1 (going step) → TurnAborts tx t (going step) → Ways tx t.phase step → Turns tx t (going step)
+of_step tx t step is aborts ways = record { right = is.right; gives = of_ways tx step.state.phase step.effects.sends ways.sends; aborts = aborts }
 
-of_turn : (tx : TxId) (t : Transaction) (turn : Turn) → TurnTokens tx t 1 turn → TurnWays tx t.phase turn → Turns tx turn
-of_turn tx t turn is ways = record { right = is.right; gives = of_ways tx ways.last turn.step.effects.sends ways.sends }
+of_turn : (tx : TxId) (t : Transaction) (turn : Turn) → TurnTokens tx t 1 turn → TurnAborts tx t turn → TurnWays tx t.phase turn → Turns tx t turn
+of_turn tx t turn is aborts ways = record { right = is.right; gives = of_ways tx ways.last turn.step.effects.sends ways.sends; aborts = aborts }
 
 abbrev StaysSound : List TxId → Step TcState → Type 0
 StaysSound bs step = IsSound step.state (put_ways back_by step.effects.sends bs)
 
 module _ (s : TcState) (bs : List TxId) (n : IsSound s bs) where
   module _ (tx : TxId) (t : Transaction) (at : ℕ) (split : Split tx t s.live at) where
-    all_split : Each (IsOwned s.node s.next_seq) (split.front ++ (tx, t) ∷ split.back)
-    all_split = subst (Each (IsOwned s.node s.next_seq)) split.is n.live
+    all_split : Each (IsOwned s.node s.next_seq bs) (split.front ++ (tx, t) ∷ split.back)
+    all_split = subst (Each (IsOwned s.node s.next_seq bs)) split.is n.live
 
-    front_owned : Each (IsOwned s.node s.next_seq) split.front
-    front_owned = each_before (IsOwned s.node s.next_seq) split.front ((tx, t) ∷ split.back) all_split
+    front_owned : Each (IsOwned s.node s.next_seq bs) split.front
+    front_owned = each_before (IsOwned s.node s.next_seq bs) split.front ((tx, t) ∷ split.back) all_split
 
-    back_owned : Each (IsOwned s.node s.next_seq) ((tx, t) ∷ split.back)
-    back_owned = each_after (IsOwned s.node s.next_seq) split.front ((tx, t) ∷ split.back) all_split
+    back_owned : Each (IsOwned s.node s.next_seq bs) ((tx, t) ∷ split.back)
+    back_owned = each_after (IsOwned s.node s.next_seq bs) split.front ((tx, t) ∷ split.back) all_split
 
     once_split : KeysOnce (split.front ++ (tx, t) ∷ split.back)
     once_split = subst KeysOnce split.is n.once
 
-    turn_sound : (turn : Turn) → Turns tx turn → (b : Bool) → StaysSound bs (turned_if s at turn b)
+    -- the others stay as they are, and given up if they were
+    still_owned : (sends : List Outgoing) (xs : Live) → Each (IsOwned s.node s.next_seq bs) xs → Each (IsOwned s.node s.next_seq (put_ways back_by sends bs)) xs
+    still_owned sends xs all =
+        each_map (IsOwned s.node s.next_seq bs) (IsOwned s.node s.next_seq (put_ways back_by sends bs)) xs
+        (λ x is. record { home = is.home; below = is.below; right = is.right; touched = is.touched; given = λ on. back_more (same_tx x.0) sends bs (is.given on) }) all
+
+    own : IsOwned s.node s.next_seq bs (tx, t)
+    own = back_owned.0
+
+    given_now : (turn : Turn) → (is_aborting t.phase ≡ true) ⊎ (gives_up tx turn.step.effects.sends ≡ true) → list_any (same_tx tx) (put_ways back_by turn.step.effects.sends bs) ≡ true
+    given_now turn (inl was) = back_more (same_tx tx) turn.step.effects.sends bs (own.given was)
+    given_now turn (inr gives) = now_given_up tx turn.step.effects.sends bs gives
+
+    turn_sound : (turn : Turn) → Turns tx t turn → (b : Bool) → StaysSound bs (turned_if s at turn b)
     unfolding without
     turn_sound turn is false = record {
       once = subst KeysOnce (sym (split.set turn.step.state)) (once_set split.front split.back tx t turn.step.state once_split);
-      live = subst (Each (IsOwned s.node s.next_seq)) (sym (split.set turn.step.state))
-          (each_append (IsOwned s.node s.next_seq) split.front ((tx, turn.step.state) ∷ split.back) front_owned
-          (record { home = back_owned.0.home; below = back_owned.0.below; right = is.right }, back_owned.1));
-      begun = each_back (λ (v : TxId). v.seq < s.next_seq) tx turn.step.effects.sends bs is.gives back_owned.0.below n.begun;
+      live = subst (Each (IsOwned s.node s.next_seq (put_ways back_by turn.step.effects.sends bs))) (sym (split.set turn.step.state))
+          (each_append (IsOwned s.node s.next_seq (put_ways back_by turn.step.effects.sends bs)) split.front ((tx, turn.step.state) ∷ split.back) (still_owned turn.step.effects.sends split.front front_owned)
+          (record { home = own.home; below = own.below; right = is.right; touched = is.aborts.touched; given = λ on. given_now turn (is.aborts.aborts on) }, still_owned turn.step.effects.sends split.back back_owned.1));
+      begun = each_back (λ (v : TxId). v.seq < s.next_seq) tx turn.step.effects.sends bs is.gives own.below n.begun;
     }
     turn_sound turn is true = record {
       once = subst KeysOnce (sym split.gone) (once_gone split.front split.back tx t once_split);
-      live = subst (Each (IsOwned s.node s.next_seq)) (sym split.gone) (each_append (IsOwned s.node s.next_seq) split.front split.back front_owned back_owned.1);
-      begun = each_back (λ (v : TxId). v.seq < s.next_seq) tx turn.step.effects.sends bs is.gives back_owned.0.below n.begun;
+      live = subst (Each (IsOwned s.node s.next_seq (put_ways back_by turn.step.effects.sends bs))) (sym split.gone)
+          (each_append (IsOwned s.node s.next_seq (put_ways back_by turn.step.effects.sends bs)) split.front split.back (still_owned turn.step.effects.sends split.front front_owned) (still_owned turn.step.effects.sends split.back back_owned.1));
+      begun = each_back (λ (v : TxId). v.seq < s.next_seq) tx turn.step.effects.sends bs is.gives own.below n.begun;
     }
 
-    is_right_here : is_right t.asked t.phase ≡ true
-    is_right_here = back_owned.0.right
-
-  step_sound : (tx : TxId) (row : Transaction → Step Transaction) → ((t : Transaction) → is_right t.asked t.phase ≡ true → Turns tx (going (row t))) → StaysSound bs (step_of s tx row)
+  step_sound : (tx : TxId) (row : Transaction → Step Transaction) → ((t : Transaction) → is_right t.asked t.phase ≡ true → HasTouched t → Turns tx t (going (row t))) → StaysSound bs (step_of s tx row)
   step_sound tx row goes = at_place (place_in s tx) refl
     where
       at_value : (at : ℕ) → place_in s tx ≡ Some at → (t : Option Transaction) → slice_get (values_of s.live) at ≡ t → StaysSound bs (step_value s row at t)
       at_value at at_is None is = n
-      at_value at at_is (Some t) is = let split = split_at tx s.live at t at_is is in turn_sound tx t at split (going (row t)) (goes t (is_right_here tx t at split)) false
+      at_value at at_is (Some t) is = let split = split_at tx s.live at t at_is is in turn_sound tx t at split (going (row t)) (goes t (own tx t at split).right (own tx t at split).touched) false
 
       at_place : (at : Option ℕ) → place_in s tx ≡ at → StaysSound bs (step_place s row at)
       at_place None at_is = n
       at_place (Some at) at_is = at_value at at_is (slice_get (values_of s.live) at) refl
 
-  sound_turn : (tx : TxId) (row : Transaction → Turn) → ((t : Transaction) → is_right t.asked t.phase ≡ true → Turns tx (row t)) → StaysSound bs (turn_of s tx row)
+  sound_turn : (tx : TxId) (row : Transaction → Turn) → ((t : Transaction) → is_right t.asked t.phase ≡ true → HasTouched t → Turns tx t (row t)) → StaysSound bs (turn_of s tx row)
   sound_turn tx row goes = at_place (place_in s tx) refl
     where
       at_value : (at : ℕ) → place_in s tx ≡ Some at → (t : Option Transaction) → slice_get (values_of s.live) at ≡ t → StaysSound bs (turn_value s row at t)
       at_value at at_is None is = n
-      at_value at at_is (Some t) is = let split = split_at tx s.live at t at_is is in turn_sound tx t at split (row t) (goes t (is_right_here tx t at split)) (row t).over
+      at_value at at_is (Some t) is = let split = split_at tx s.live at t at_is is in turn_sound tx t at split (row t) (goes t (own tx t at split).right (own tx t at split).touched) (row t).over
 
       at_place : (at : Option ℕ) → place_in s tx ≡ at → StaysSound bs (turn_place s row at)
       at_place None at_is = n
@@ -152,8 +166,8 @@ module _ (s : TcState) (bs : List TxId) (n : IsSound s bs) where
   begins_sound name true = n
   begins_sound name false = record {
     once = once_inserted s.live (next_tx s) fresh others n.once;
-    live = each_inserted (IsOwned s.node (s.next_seq + 1)) s.live (next_tx s) fresh others (record { home = refl; below = omega arith; right = refl })
-        (each_map (IsOwned s.node s.next_seq) (IsOwned s.node (s.next_seq + 1)) s.live (λ x is. record { home = is.home; below = omega (arith, is.below); right = is.right }) n.live);
+    live = each_inserted (IsOwned s.node (s.next_seq + 1) bs) s.live (next_tx s) fresh others (record { home = refl; below = omega arith; right = refl; touched = λ is. absurd cc; given = λ is. absurd cc })
+        (each_map (IsOwned s.node s.next_seq bs) (IsOwned s.node (s.next_seq + 1) bs) s.live (λ x is. record { home = is.home; below = omega (arith, is.below); right = is.right; touched = is.touched; given = is.given }) n.live);
     begun = each_map (λ (v : TxId). v.seq < s.next_seq) (λ (v : TxId). v.seq < s.next_seq + 1) bs (λ v lt. omega (arith, lt)) n.begun;
   }
     where
@@ -163,7 +177,7 @@ module _ (s : TcState) (bs : List TxId) (n : IsSound s bs) where
           and_right (nat_eq w.tc s.node) (nat_eq w.start s.start && nat_eq w.seq s.next_seq) (and_right (nat_eq w.start s.start) (nat_eq w.seq s.next_seq) off)
 
       others : Each (λ (x : TxId × Transaction). same_tx x.0 (next_tx s) ≡ false) s.live
-      others = each_map (IsOwned s.node s.next_seq) (λ (x : TxId × Transaction). same_tx x.0 (next_tx s) ≡ false) s.live (λ x is. lower x.0 is.below) n.live
+      others = each_map (IsOwned s.node s.next_seq bs) (λ (x : TxId × Transaction). same_tx x.0 (next_tx s) ≡ false) s.live (λ x is. lower x.0 is.below) n.live
 
   begin_sound : (name : Option ℕ) → StaysSound bs (begin_row s name)
   unfolding begin_row
@@ -179,19 +193,19 @@ module _ (s : TcState) (bs : List TxId) (n : IsSound s bs) where
 
   -- so is each step
   pub tc_sound : (body : Body) → StaysSound bs (tc_row s body)
-  tc_sound (Host (Continue (work.Transaction tx) at)) = step_sound tx (λ t. go_on_row s.node s.view tx t at) (λ t right. of_step tx t (go_on_row s.node s.view tx t at) (go_on_turn tx t right s.node s.view at 1) (go_on_ways tx s.node s.view t at))
+  tc_sound (Host (Continue (work.Transaction tx) at)) = step_sound tx (λ t. go_on_row s.node s.view tx t at) (λ t right has. of_step tx t (go_on_row s.node s.view tx t at) (go_on_turn tx t right s.node s.view at 1) (go_on_aborts tx t has s.node s.view at) (go_on_ways tx s.node s.view t at))
   tc_sound (Client (TcBeginReq name)) = begin_sound name
-  tc_sound (Client (TcKeyReq tx op)) = step_sound tx (λ t. operate_row s.view tx t op) (λ t right. of_step tx t (operate_row s.view tx t op) (operate_turn tx t right s.view op 1) (operate_ways tx s.view t op))
-  tc_sound (Client (TcCommitReq tx)) = step_sound tx (λ t. commit.decide_row s.node tx t) (λ t right. of_step tx t (commit.decide_row s.node tx t) (decide_turn tx t right s.node 1) (decide_ways tx s.node t))
-  tc_sound (Client (TcRollbackReq tx)) = sound_turn tx (λ t. rollback_row s.node s.view tx t) (λ t right. of_turn tx t (rollback_row s.node s.view tx t) (rollback_turn tx t right s.node s.view 1) (rollback_ways tx s.node s.view t))
-  tc_sound (Client (TcWaitReq tx)) = step_sound tx (λ t. wait_row tx t) (λ t right. of_step tx t (wait_row tx t) (wait_turn tx t right 1) (wait_ways tx t))
+  tc_sound (Client (TcKeyReq tx op)) = step_sound tx (λ t. operate_row s.view tx t op) (λ t right has. of_step tx t (operate_row s.view tx t op) (operate_turn tx t right s.view op 1) (operate_aborts tx t has s.view op) (operate_ways tx s.view t op))
+  tc_sound (Client (TcCommitReq tx)) = step_sound tx (λ t. commit.decide_row s.node tx t) (λ t right has. of_step tx t (commit.decide_row s.node tx t) (decide_turn tx t right s.node 1) (decide_aborts tx t has s.node) (decide_ways tx s.node t))
+  tc_sound (Client (TcRollbackReq tx)) = sound_turn tx (λ t. rollback_row s.node s.view tx t) (λ t right has. of_turn tx t (rollback_row s.node s.view tx t) (rollback_turn tx t right s.node s.view 1) (rollback_aborts tx t has s.node s.view) (rollback_ways tx s.node s.view t))
+  tc_sound (Client (TcWaitReq tx)) = step_sound tx (λ t. wait_row tx t) (λ t right has. of_step tx t (wait_row tx t) (wait_turn tx t right 1) (wait_aborts tx t has) (wait_ways tx t))
   tc_sound (Client (LqhWaitConf tx ahead)) = pass_sound tx ahead
-  tc_sound (Chain (LqhKeyConf tx key answer)) = step_sound tx (λ t. answer_row s.view tx t key answer) (λ t right. of_step tx t (answer_row s.view tx t key answer) (answer_turn tx t right s.view key answer 1 (omega arith)) (answer_ways tx s.view t key answer))
-  tc_sound (Chain (LqhKeyRef tx key why)) = sound_turn tx (λ t. refuse_row s.node s.view tx t key why) (λ t right. of_turn tx t (refuse_row s.node s.view tx t key why) (refuse_turn tx t right s.node s.view key why 1 (omega arith)) (refuse_ways tx s.node s.view t key why))
-  tc_sound (Chain (Committed tx key)) = sound_turn tx (λ t. commit.committed_row s.node s.view tx t) (λ t right. of_turn tx t (commit.committed_row s.node s.view tx t) (committed_turn tx t right s.node s.view 1) (committed_ways tx s.node s.view t))
-  tc_sound (Chain (Completed tx key)) = sound_turn tx (λ t. completed_row s.node tx t) (λ t right. of_turn tx t (completed_row s.node tx t) (completed_turn tx t right s.node 1) (completed_ways tx s.node t))
-  tc_sound (Chain (Aborted tx key)) = sound_turn tx (λ t. aborted_row s.node tx t) (λ t right. of_turn tx t (aborted_row s.node tx t) (aborted_turn tx t right s.node 1) (aborted_ways tx s.node t))
-  tc_sound (Epoch (DiVerifyConf tx epoch)) = sound_turn tx (λ t. commit.commit_row s.node s.view tx t epoch) (λ t right. of_turn tx t (commit.commit_row s.node s.view tx t epoch) (commit_turn tx t right s.node s.view epoch 1) (commit_ways tx s.node s.view t epoch))
+  tc_sound (Chain (LqhKeyConf tx key answer)) = step_sound tx (λ t. answer_row s.view tx t key answer) (λ t right has. of_step tx t (answer_row s.view tx t key answer) (answer_turn tx t right s.view key answer 1 (omega arith)) (answer_aborts tx t has s.view key answer) (answer_ways tx s.view t key answer))
+  tc_sound (Chain (LqhKeyRef tx key why)) = sound_turn tx (λ t. refuse_row s.node s.view tx t key why) (λ t right has. of_turn tx t (refuse_row s.node s.view tx t key why) (refuse_turn tx t right s.node s.view key why 1 (omega arith)) (refuse_aborts tx t has s.node s.view key why) (refuse_ways tx s.node s.view t key why))
+  tc_sound (Chain (Committed tx key)) = sound_turn tx (λ t. commit.committed_row s.node s.view tx t) (λ t right has. of_turn tx t (commit.committed_row s.node s.view tx t) (committed_turn tx t right s.node s.view 1) (committed_aborts tx t has s.node s.view) (committed_ways tx s.node s.view t))
+  tc_sound (Chain (Completed tx key)) = sound_turn tx (λ t. completed_row s.node tx t) (λ t right has. of_turn tx t (completed_row s.node tx t) (completed_turn tx t right s.node 1) (completed_aborts tx t has s.node) (completed_ways tx s.node t))
+  tc_sound (Chain (Aborted tx key)) = sound_turn tx (λ t. aborted_row s.node tx t) (λ t right has. of_turn tx t (aborted_row s.node tx t) (aborted_turn tx t right s.node 1) (aborted_aborts tx t has s.node) (aborted_ways tx s.node t))
+  tc_sound (Epoch (DiVerifyConf tx epoch)) = sound_turn tx (λ t. commit.commit_row s.node s.view tx t epoch) (λ t right has. of_turn tx t (commit.commit_row s.node s.view tx t epoch) (commit_turn tx t right s.node s.view epoch 1) (commit_aborts tx t has s.node s.view epoch) (commit_ways tx s.node s.view t epoch))
   tc_sound _ = n
 
 -- a node is sound: its coordinator is, and who waits in a queue has a request that waits

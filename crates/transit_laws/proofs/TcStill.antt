@@ -1,19 +1,16 @@
 -- Only an operation that is asked for sends a part of one: the other turns of a transaction are still.
-use Rattle.std.proofs.Common.{◌≡◌, ℕ, ◌+◌, ◌≤◌, List, [], ◌∷◌, ◌++◌, take, drop, length, Bool, true, false, refl, ap, sym, ◌∙◌, subst, arith}
-use Rattle.std.specs.Prelude.{◌==◌, ◌&&◌, ◌||◌, if◌then◌else◌, is_some, nat_lt, Option, None, Some}
-use Rattle.std.specs.List.{flat_map, list_any}
+use Rattle.std.proofs.Common.{◌≡◌, ℕ, ◌+◌, List, take, drop, length, Bool, true, false, refl}
+use Rattle.std.specs.Prelude.{◌==◌, nat_lt, Option, None, Some}
+use Rattle.std.specs.List.{flat_map}
 use Rattle.run_theory.proofs.Pasts.{each_append}
 use Rattle.run_theory.specs.Lists.{Each}
 use Rattle.sig_core.specs.declared.member.TxId.{TxId}
 use Rattle.sig_core.specs.declared.op.Answer.{Answer}
-use Rattle.sig_core.specs.declared.op.Op.{Op}
 use Rattle.sig_core.specs.declared.outcome.AbortCause.{AbortCause}
 use Rattle.sig_core.specs.declared.outcome.AbortCause.TheVariants as cause
 use Rattle.sig_core.specs.declared.outs.Outgoing.{Outgoing}
 use Rattle.sig_core.specs.declared.view.View.{View}
 use Rattle.sig_core.specs.Op.{key_of}
-use Rattle.sig_core.specs.Same.{same_tx}
-use Rattle.sig_core.specs.Step.{Step, stay}
 use Rattle.tc_block.specs.declared.phase.Asked.{Asked}
 use Rattle.tc_block.specs.declared.phase.Phase.{Phase}
 use Rattle.tc_block.specs.declared.phase.Phase.TheVariants.{Open, Verifying, Committing, Completing, Aborting}
@@ -26,7 +23,7 @@ use Rattle.tc_block.specs.Complete as complete
 use Rattle.tc_block.specs.Operate as operate
 use Rattle.tc_block.specs.Part.{part_effects, rest_if}
 use Rattle.tc_block.specs.Sends.{abort_of, aborts_of, complete_if, entering, front_sends, go_on_if, go_on_row, key_sends, phase_sends, wait_of}
-use Rattle.tc_block.specs.Turn.{Turn, asking, going}
+use Rattle.tc_block.specs.Turn.{asking}
 use Rattle.commit_laws.proofs.EachSent.{each_drop, each_flat, each_mapped, each_take}
 use Rattle.answer_laws.proofs.Tally.{tally_none}
 use Rattle.transit_laws.specs.Tokens.{is_token}

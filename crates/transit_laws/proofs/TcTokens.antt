@@ -1,12 +1,11 @@
 -- What a coordinator sends of its transactions' operations at each signal, and how many parts of one there may be then.
-use Rattle.std.proofs.Common.{◌≡◌, ◌≢◌, ◌⊎◌, ◌<◌, ℕ, zero, suc, ◌+◌, ◌≤◌, Bool, true, false, ◌&&◌, ◌||◌, List, [], ◌∷◌, ◌++◌, refl, sym, ap, ◌∙◌, subst, arith, inl, inr}
+use Rattle.std.proofs.Common.{◌≡◌, ◌≢◌, ◌⊎◌, ◌<◌, ℕ, ◌+◌, ◌≤◌, Bool, true, false, ◌&&◌, ◌||◌, List, [], ◌∷◌, ◌++◌, refl, sym, ap, ◌∙◌, subst, arith, inl, inr}
 use Rattle.std.specs.Map.{values_of}
 use Rattle.std.specs.List.{list_any}
 use Rattle.std.specs.Prelude.{if◌then◌else◌, Option, None, Some, is_some, slice_get, nat_eq}
 use Rattle.std.proofs.lemmas.Bool.{and_right, ne_eqb, or_cases, or_left, or_right}
-use Rattle.indexmap.specs.IndexMap.{insert_entry}
 use Rattle.run_theory.specs.Lists.{Each}
-use Rattle.run_theory.proofs.Pasts.{each_after, each_append, each_before, each_map}
+use Rattle.run_theory.proofs.Pasts.{each_after, each_append, each_map}
 use Rattle.sig_core.specs.declared.member.TxId.{TxId}
 use Rattle.sig_core.specs.declared.outs.Outgoing.{Outgoing}
 use Rattle.sig_core.specs.declared.signal.Body.{Body}
@@ -29,41 +28,33 @@ use Rattle.tc_block.specs.Sends.{go_on_row}
 use Rattle.tc_block.specs.State.{TcState}
 use Rattle.tc_block.specs.Tc.{begin_if, begin_row, begun, is_full, next_tx, pass_if, pass_row, tc_row}
 use Rattle.tc_block.specs.Turn.{Turn, going}
-use Rattle.commit_laws.specs.Ways.{Way, back, back_by, closes, forth, neither, put_ways, way_of}
-use Rattle.commit_laws.proofs.Keys.{same_tx-self}
-use Rattle.commit_laws.proofs.LiveSplit.{KeysOnce, Live, Split, each_inserted, once_back, once_front, once_gone, once_inserted, once_set, split_at}
+use Rattle.commit_laws.specs.Ways.{Way, back, back_by, closes, forth, is_aborting, neither, put_ways, way_of}
+use Rattle.commit_laws.proofs.LiveSplit.{KeysOnce, Live, Split, once_back, once_front, split_at}
+use Rattle.commit_laws.proofs.OneWay.{back_more}
 use Rattle.answer_laws.proofs.Tally.{one_if}
 use Rattle.answer_laws.proofs.TcOps.{is_right}
 use Rattle.transit_laws.specs.Live.{of_live}
 use Rattle.transit_laws.specs.Tokens.{budget_by, budget_of, is_token}
 use Rattle.transit_laws.proofs.LqhTokens.{tokens_out}
 use Rattle.transit_laws.proofs.OfLive.{AreOthers, of_between, of_inserted, of_none, of_other}
-use Rattle.transit_laws.proofs.TcTurns.{TurnTokens, aborted_turn, answer_turn, budget_after, commit_turn, committed_turn, completed_turn, decide_turn, gives_up, go_on_turn, operate_turn, refuse_turn, rollback_turn, wait_turn}
+use Rattle.transit_laws.proofs.TcAborts.{HasTouched}
+use Rattle.transit_laws.proofs.TcTurns.{TurnTokens, aborted_turn, answer_turn, commit_turn, committed_turn, completed_turn, decide_turn, gives_up, go_on_turn, operate_turn, refuse_turn, rollback_turn, wait_turn}
 
--- one of the coordinator's transactions: its number is of this node, and below the next one
-pub record IsOwned (node next : ℕ) (e : TxId × Transaction) : Type 0 where
+-- one of the coordinator's transactions: its number is of this node, and below the next one, and it is given up if it is aborted
+pub record IsOwned (node next : ℕ) (bs : List TxId) (e : TxId × Transaction) : Type 0 where
   pub home : e.0.tc ≡ node
   pub below : e.0.seq < next
   pub right : is_right e.1.asked e.1.phase ≡ true
+  pub touched : HasTouched e.1
+  pub given : is_aborting e.1.phase ≡ true → list_any (same_tx e.0) bs ≡ true
 
 -- a coordinator that has given these transactions up
 pub record IsSound (s : TcState) (bs : List TxId) : Type 0 where
   pub once : KeysOnce s.live
-  pub live : Each (IsOwned s.node s.next_seq) s.live
+  pub live : Each (IsOwned s.node s.next_seq bs) s.live
   pub begun : Each (λ (v : TxId). v.seq < s.next_seq) bs
 
--- who was given up stays so
-pub still_given_up : (v : TxId) (sends : List Outgoing) (bs : List TxId) → list_any (same_tx v) bs ≡ true → list_any (same_tx v) (put_ways back_by sends bs) ≡ true
-still_given_up v [] bs is = is
-still_given_up v (o ∷ more) bs is = still_given_up v more (back_by (way_of o.body) bs) (by (way_of o.body))
-  where
-    by : (w : Way) → list_any (same_tx v) (back_by w bs) ≡ true
-    by (forth tx) = is
-    by (back tx) = or_right (same_tx v tx) (list_any (same_tx v) bs) is
-    by (closes tx) = is
-    by neither = is
-
--- and who is given up then is so, whoever was before
+-- who is given up then is so, whoever was before
 given_up_more : (v : TxId) (sends : List Outgoing) (xs ys : List TxId) → (list_any (same_tx v) xs ≡ true → list_any (same_tx v) ys ≡ true)
     → list_any (same_tx v) (put_ways back_by sends xs) ≡ true → list_any (same_tx v) (put_ways back_by sends ys) ≡ true
 given_up_more v [] xs ys more is = more is
@@ -103,8 +94,8 @@ module _ (v : TxId) (s : TcState) (bs : List TxId) (n : IsSound s bs) where
     once_split : KeysOnce (split.front ++ (tx, t) ∷ split.back)
     once_split = subst KeysOnce split.is n.once
 
-    own : IsOwned s.node s.next_seq (tx, t)
-    own = (each_after (IsOwned s.node s.next_seq) split.front ((tx, t) ∷ split.back) (subst (Each (IsOwned s.node s.next_seq)) split.is n.live)).0
+    own : IsOwned s.node s.next_seq bs (tx, t)
+    own = (each_after (IsOwned s.node s.next_seq bs) split.front ((tx, t) ∷ split.back) (subst (Each (IsOwned s.node s.next_seq bs)) split.is n.live)).0
 
     others_front : AreOthers tx split.front
     others_front = once_front split.front split.back tx t once_split
@@ -121,7 +112,7 @@ module _ (v : TxId) (s : TcState) (bs : List TxId) (n : IsSound s bs) where
           arith,
           low,
           is.others v apart,
-          budget_grows (list_any (same_tx v) bs) (list_any (same_tx v) (put_ways back_by turn.step.effects.sends bs)) (of_live v s.live) (still_given_up v turn.step.effects.sends bs),
+          budget_grows (list_any (same_tx v) bs) (list_any (same_tx v) (put_ways back_by turn.step.effects.sends bs)) (of_live v s.live) (back_more (same_tx v) turn.step.effects.sends bs),
           ap (budget_by (list_any (same_tx v) (put_ways back_by turn.step.effects.sends bs))) same,
         )
 
@@ -240,7 +231,7 @@ module _ (v : TxId) (s : TcState) (bs : List TxId) (n : IsSound s bs) where
           and_right (nat_eq w.tc s.node) (nat_eq w.start s.start && nat_eq w.seq s.next_seq) (and_right (nat_eq w.start s.start) (nat_eq w.seq s.next_seq) off)
 
       others : AreOthers (next_tx s) s.live
-      others = each_map (IsOwned s.node s.next_seq) (λ (x : TxId × Transaction). same_tx x.0 (next_tx s) ≡ false) s.live (λ x is. lower x.0 is.below) n.live
+      others = each_map (IsOwned s.node s.next_seq bs) (λ (x : TxId × Transaction). same_tx x.0 (next_tx s) ≡ false) s.live (λ x is. lower x.0 is.below) n.live
 
       not_yet : (xs : List TxId) → Each (λ (w : TxId). w.seq < s.next_seq) xs → list_any (same_tx (next_tx s)) xs ≡ false
       not_yet [] below = refl

@@ -1,6 +1,6 @@
 -- How many parts of its operations there may be after each turn of a transaction.
-use Rattle.std.proofs.Common.{◌≡◌, ℕ, ◌+◌, ◌≤◌, List, [], ◌∷◌, length, Bool, true, false, refl, ap, sym, ◌∙◌, subst, arith}
-use Rattle.std.specs.Prelude.{◌==◌, ◌&&◌, ◌||◌, if◌then◌else◌, is_some, nat_lt, Option, None, Some}
+use Rattle.std.proofs.Common.{◌≡◌, ℕ, ◌+◌, ◌≤◌, List, [], Bool, true, false, refl, ap, arith}
+use Rattle.std.specs.Prelude.{◌==◌, if◌then◌else◌, is_some, nat_lt, Option, None, Some}
 use Rattle.std.specs.List.{list_any}
 use Rattle.std.proofs.lemmas.Bool.{and_parts, or_left}
 use Rattle.sig_core.specs.declared.member.TxId.{TxId}
@@ -22,7 +22,7 @@ use Rattle.tc_block.specs.Commit as commit
 use Rattle.tc_block.specs.Complete as complete
 use Rattle.tc_block.specs.Operate as operate
 use Rattle.tc_block.specs.Sends.{entering, go_on_if, go_on_row}
-use Rattle.tc_block.specs.Turn.{Turn, asking, going}
+use Rattle.tc_block.specs.Turn.{Turn, going}
 use Rattle.commit_laws.specs.Ways.{back_by, is_aborting, put_ways}
 use Rattle.commit_laws.proofs.Keys.{same_tx-self}
 use Rattle.answer_laws.proofs.Tally.{one_if}
@@ -36,14 +36,14 @@ abbrev pub gives_up : TxId → List Outgoing → Bool
 gives_up tx sends = list_any (same_tx tx) (put_ways back_by sends [])
 
 -- how many parts there may be, by its phase and its unanswered operation
-abbrev budget_at : Phase → Option Asked → ℕ
+abbrev pub budget_at : Phase → Option Asked → ℕ
 budget_at phase asked = if is_aborting phase then 1 else one_if (is_some asked)
 
 -- and after a turn: where it is over, one if the transaction is given up
 abbrev pub budget_after : TxId → Turn → ℕ
 budget_after tx turn = if turn.over then one_if (gives_up tx turn.step.effects.sends) else budget_of turn.step.state
 
-few : (phase : Phase) (asked : Option Asked) → budget_at phase asked ≤ 1
+pub few : (phase : Phase) (asked : Option Asked) → budget_at phase asked ≤ 1
 few phase asked = by (is_aborting phase) asked
   where
     by : (b : Bool) (asked : Option Asked) → (if b then 1 else one_if (is_some asked)) ≤ 1
@@ -52,7 +52,7 @@ few phase asked = by (is_aborting phase) asked
     by false (Some a) = omega arith
 
 -- none where it takes neither operations nor is aborted
-idle : (phase : Phase) (asked : Option Asked) → is_right asked phase ≡ true → may_ask phase ≡ false → budget_at phase asked ≡ 0
+pub idle : (phase : Phase) (asked : Option Asked) → is_right asked phase ≡ true → may_ask phase ≡ false → budget_at phase asked ≡ 0
 idle Open asked right off = absurd cc
 idle (Aborting why verifying awaited) asked right off = absurd cc
 idle Verifying None right off = refl

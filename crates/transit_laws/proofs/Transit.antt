@@ -1,12 +1,12 @@
 -- What holds of the logs and of what is in transit, along every run.
-use Rattle.std.proofs.Common.{◌≡◌, ◌≢◌, ℕ, true, false, List, [], ◌∷◌, ◌++◌, refl, sym, subst, ◌∙◌}
+use Rattle.std.proofs.Common.{◌≡◌, List, [], ◌∷◌, ◌++◌, sym, subst, ◌∙◌}
 use Rattle.run_theory.proofs.Runs.{log_of-past}
 use Rattle.run_theory.specs.Runs.{log_of}
 use Rattle.sig_core.specs.declared.log.LogStep.{LogStep}
 use Rattle.sig_core.specs.declared.signal.Signal.{Signal}
 use Rattle.world_core.specs.Machine.{machine, signals_of}
 use Rattle.world_core.specs.Start.{Start}
-use Rattle.transit_laws.specs.Transit.{AreInTransit, Comes, IsRun, Passes, Takes, joined, logs_of}
+use Rattle.transit_laws.specs.Transit.{AreInTransit, Comes, IsRun, Takes, joined, logs_of}
 
 older_nil : (newer log : List LogStep) → [] ≡ newer ++ log → log ≡ []
 older_nil [] log is = sym is

@@ -1,5 +1,5 @@
 -- After each run some signals are in transit: of each link those that were sent and weren't taken.
-use Rattle.std.proofs.Common.{◌≡◌, ◌≢◌, ◌⊎◌, ℕ, suc, Bool, true, false, List, [], ◌∷◌, ◌++◌, refl, sym, ap, ◌∙◌, subst, inl, inr}
+use Rattle.std.proofs.Common.{◌≡◌, ◌≢◌, ◌⊎◌, ℕ, Bool, true, false, List, [], ◌∷◌, ◌++◌, refl, sym, ap, ◌∙◌, subst, inl, inr}
 use Rattle.std.proofs.lemmas.Bool.{cases_eq, eq-eqb, ne_eqb}
 use Rattle.std.specs.Prelude.{◌==◌, ◌&&◌, if◌then◌else◌}
 use Rattle.std.proofs.lemmas.List.{append_assoc, append_cancel_right}
@@ -14,7 +14,7 @@ use Rattle.node_core.specs.Requests.{is_request}
 use Rattle.world_core.specs.Machine.{all_headed, counted, machine, sent_count, signals_of, step_after}
 use Rattle.world_core.specs.Start.{Start, first_view}
 use Rattle.answer_laws.proofs.Begins.{given_past}
-use Rattle.transit_laws.specs.Transit.{AreInTransit, Comes, IsRun, IsTaken, Passes, RunsHaveTransit, Takes, joined, logs_of}
+use Rattle.transit_laws.specs.Transit.{AreInTransit, Comes, IsRun, RunsHaveTransit, Takes, joined, logs_of}
 use Rattle.transit_laws.proofs.Transit.{comes, earlier}
 
 -- the items that pass a test, in order

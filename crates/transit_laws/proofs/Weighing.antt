@@ -1,5 +1,5 @@
 -- Sums over signals: as they are sent, as they join those in transit, and as one of them is taken.
-use Rattle.std.proofs.Common.{◌≡◌, ℕ, ◌+◌, ◌≤◌, List, [], ◌∷◌, ◌++◌, Bool, true, false, refl, ap, sym, ◌∙◌, subst, arith}
+use Rattle.std.proofs.Common.{◌≡◌, ℕ, ◌+◌, ◌≤◌, List, [], ◌∷◌, ◌++◌, Bool, true, false, refl, ap, sym, subst, arith}
 use Rattle.run_theory.specs.Lists.{Each}
 use Rattle.run_theory.proofs.Pasts.{each_after, each_append, each_before}
 use Rattle.sig_core.specs.declared.log.LogStep.{LogStep}
@@ -9,8 +9,9 @@ use Rattle.sig_core.specs.declared.signal.Body.{Body}
 use Rattle.sig_core.specs.declared.signal.Signal.{Signal}
 use Rattle.sig_core.specs.declared.view.View.{View}
 use Rattle.node_core.specs.Requests.{is_request}
-use Rattle.world_core.specs.Machine.{all_headed, counted, headed, sent_count, signals_of, step_after}
+use Rattle.world_core.specs.Machine.{all_headed, counted, sent_count, signals_of, step_after}
 use Rattle.world_core.specs.Start.{Start, first_view}
+use Rattle.answer_laws.proofs.Tally.{one_if, tally}
 use Rattle.transit_laws.specs.Transit.{IsTaken, Takes, joined}
 
 -- the sum of f over a list
@@ -33,6 +34,15 @@ weigh_none f (x ∷ xs) none = omega (arith, none.0, weigh_none f xs none.1)
 pub none_weighs : {A : Type 0} (f : A → ℕ) (xs : List A) → weigh f xs ≡ 0 → Each (λ x. f x ≡ 0) xs
 none_weighs f [] none = tt
 none_weighs f (x ∷ xs) none = (omega (arith, none), none_weighs f xs (omega (arith, none)))
+
+-- where no item passes a test each fails it
+pub none_passes : {A : Type 0} (p : A → Bool) (xs : List A) → tally p xs ≡ 0 → Each (λ x. p x ≡ false) xs
+none_passes p [] none = tt
+none_passes p (x ∷ xs) none = by (p x) refl (none_passes p xs)
+  where
+    by : (b : Bool) → p x ≡ b → (tally p xs ≡ 0 → Each (λ y. p y ≡ false) xs) → (p x ≡ false) × Each (λ y. p y ≡ false) xs
+    by true e rest = absurd (omega (arith, none, ap one_if e))
+    by false e rest = (e, rest (omega (arith, none)))
 
 -- what signals weigh in transit, and as they are sent
 abbrev pub in_transit : (Place → Body → ℕ) → List Signal → ℕ
@@ -88,12 +98,12 @@ each_taken P e before between is takes all =
     let t = takes.signal is in
     (each_after P t.front (e.taken ∷ t.back) (subst (Each P) t.is all)).0
 
-headed_each : (P : Place → Body → Type 0) (view : View) (h stamp : ℕ) (count : ℕ → ℕ) (os : List Outgoing) → Each (λ (o : Outgoing). P o.to o.body) os
+pub headed_each : (P : Place → Body → Type 0) (view : View) (h stamp : ℕ) (count : ℕ → ℕ) (os : List Outgoing) → Each (λ (o : Outgoing). P o.to o.body) os
     → Each (λ (x : Signal). P x.to x.body) (all_headed view h stamp count os)
 headed_each P view h stamp count [] all = tt
 headed_each P view h stamp count (o ∷ os) all = (all.0, headed_each P view h stamp (counted o.to.node count) os all.1)
 
-joined_each : (P : Signal → Type 0) (xs ys : List Signal) → Each P xs → Each P ys → Each P (joined xs ys)
+pub joined_each : (P : Signal → Type 0) (xs ys : List Signal) → Each P xs → Each P ys → Each P (joined xs ys)
 joined_each P [] ys all others = others
 joined_each P (x ∷ xs) ys all others = joined_each P xs (x ∷ ys) all.1 (all.0, others)
 

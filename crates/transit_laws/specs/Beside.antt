@@ -1,16 +1,13 @@
 -- What is asked of replicas stands alone.
 use Rattle.std.specs.Prelude.{◌≡◌, ℕ, true, false, List}
 use Rattle.sig_core.specs.declared.log.LogStep.{LogStep}
-use Rattle.sig_core.specs.declared.member.Member.{Member}
 use Rattle.sig_core.specs.declared.member.TxId.{TxId}
-use Rattle.sig_core.specs.declared.signal.Body.TheVariants.{Chain}
-use Rattle.sig_core.specs.declared.signal.chain.ChainSignal.TheVariants.{Commit}
 use Rattle.node_core.specs.Requests.{is_request}
 use Rattle.world_core.specs.Start.{Start}
 use Rattle.commit_laws.specs.PrimaryEvents.{NoneOf}
 use Rattle.transit_laws.specs.Circle.{at_host}
 use Rattle.transit_laws.specs.GivenUp.{is_carried_out}
-use Rattle.transit_laws.specs.Owed.{IsUndecided, is_decided}
+use Rattle.transit_laws.specs.Owed.{IsUndecided}
 use Rattle.transit_laws.specs.Tokens.{is_token}
 use Rattle.transit_laws.specs.Transit.{Comes, IsRun, logs_of}
 
@@ -31,10 +28,3 @@ abbrev pub ComersAreUndecided : Type 0
 ComersAreUndecided =
     (start : Start) (es : List LogStep) (e : LogStep) (tx : TxId) → Comes start es e → is_request e.taken.body ≡ false → is_token tx e.taken.body ≡ true
     → IsUndecided start (logs_of start es) tx
-
--- a row is committed of a transaction that its coordinator's node has decided
-abbrev pub CommitsAreDecided : Type 0
-CommitsAreDecided =
-    (start : Start) (es : List LogStep) (e : LogStep) (tx : TxId) (key : List ℕ) (epoch : ℕ) (chain : List Member) (at : ℕ) → Comes start es e
-    → e.taken.body ≡ Chain (Commit tx key epoch chain at)
-    → is_decided (logs_of start es) tx ≡ true

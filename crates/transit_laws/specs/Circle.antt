@@ -1,6 +1,6 @@
 -- What a transaction that asks for its epoch has of a key is what the replicas made of it.
 use Rattle.std.specs.List.{list_any}
-use Rattle.std.specs.Prelude.{◌≡◌, ◌<◌, ℕ, true, false, is_some, length, List, [], ◌∷◌, Option, None, Some}
+use Rattle.std.specs.Prelude.{◌≡◌, ◌<◌, ℕ, false, is_some, length, List, [], ◌∷◌, Option, None, Some}
 use Rattle.run_theory.specs.Lists.{Each}
 use Rattle.sig_core.specs.declared.log.LogStep.{LogStep}
 use Rattle.sig_core.specs.declared.member.TxId.{TxId}

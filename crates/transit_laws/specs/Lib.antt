@@ -1,6 +1,7 @@
 pub mod Beside
 pub mod Circle
 pub mod Completions
+pub mod Decided
 pub mod GivenUp
 pub mod Keyed
 pub mod Live
@@ -8,3 +9,4 @@ pub mod Owed
 pub mod Routes
 pub mod Tokens
 pub mod Transit
+pub mod Undecided

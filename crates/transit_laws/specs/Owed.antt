@@ -1,6 +1,6 @@
 -- What the rest of the machine owes one key of a replica at each event, and at a decision.
 use Rattle.std.specs.List.{list_any}
-use Rattle.std.specs.Prelude.{◌≡◌, ◌≢◌, ◌⊎◌, ℕ, Bool, true, false, List, Some}
+use Rattle.std.specs.Prelude.{◌≡◌, ◌≢◌, ◌⊎◌, ℕ, Bool, true, false, List}
 use Rattle.run_theory.specs.Lists.{Each}
 use Rattle.sig_core.specs.declared.log.LogStep.{LogStep}
 use Rattle.sig_core.specs.declared.member.TxId.{TxId}
@@ -15,8 +15,7 @@ use Rattle.world_core.specs.Start.{Start}
 use Rattle.commit_laws.specs.BackupEvents.{IsImage}
 use Rattle.commit_laws.specs.Causes.{is_decision}
 use Rattle.commit_laws.specs.PrimaryEvents.{IsOperation, NoneOf}
-use Rattle.commit_laws.specs.Primary.{HasPrepared}
-use Rattle.commit_laws.specs.Replica.{Event, Replica, aborts, asks, commits, completes}
+use Rattle.commit_laws.specs.Replica.{Event, aborts, asks, commits, completes}
 use Rattle.commit_laws.specs.ReplicaLaws.{event_in}
 use Rattle.transit_laws.specs.Circle.{IsSettledFor, at_host}
 use Rattle.transit_laws.specs.Completions.{IsCommittedAtAll}

@@ -138,10 +138,11 @@ CommitsEndAtPrimary =
     → e.taken.body ≡ Chain (Commit tx key epoch chain at)
     → (at == 0) ≡ (e.taken.to.node == primary start key)
 
--- what comes to a host is routed there, and for the block that it is for
-pub record IsComingRouted (start : Start) (e : LogStep) : Type 0 where
-  pub routed : IsRouted start e.taken.to.node e.taken.body
-  pub block : IsForBlock e.taken.to e.taken.body
+-- a signal for this place is routed, and for its block
+pub record IsOnWay (start : Start) (to : Place) (body : Body) : Type 0 where
+  pub routed : IsRouted start to.node body
+  pub block : IsForBlock to body
 
+-- so is each that comes to a host
 abbrev pub ComingAreRouted : Type 0
-ComingAreRouted = (start : Start) (es : List LogStep) (e : LogStep) → Comes start es e → IsComingRouted start e
+ComingAreRouted = (start : Start) (es : List LogStep) (e : LogStep) → Comes start es e → IsOnWay start e.taken.to e.taken.body

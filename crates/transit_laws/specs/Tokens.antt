@@ -1,5 +1,5 @@
 -- The operations of a transaction are under way one at a time.
-use Rattle.std.specs.Prelude.{◌≡◌, ◌≤◌, ◌+◌, if◌then◌else◌, ℕ, Bool, true, false, is_some, List, Option, None, Some}
+use Rattle.std.specs.Prelude.{◌≤◌, ◌+◌, if◌then◌else◌, ℕ, Bool, true, false, is_some, List, Option, None, Some}
 use Rattle.sig_core.specs.declared.log.LogStep.{LogStep}
 use Rattle.sig_core.specs.declared.member.TxId.{TxId}
 use Rattle.sig_core.specs.declared.signal.Body.{Body}

@@ -1,0 +1,156 @@
+-- Which transactions the block of epochs counts, told from what its node's coordinator sends it.
+use Rattle.std.proofs.Common.{◌≡◌, ℕ, ◌+◌, ◌≤◌, ◌<◌, List, [], ◌∷◌, ◌++◌, length, Bool, true, false, cond, refl, ap, sym, ◌∙◌, subst, arith}
+use Rattle.std.specs.Prelude.{◌==◌, ◌&&◌, not, nat_lt, if◌then◌else◌, Option, None, Some, position, remove}
+use Rattle.std.specs.List.{prefix_len}
+use Rattle.std.proofs.lemmas.Bool.{false≢true}
+use Rattle.std.proofs.lemmas.Bool.Decides.{nat_tests}
+use Rattle.run_theory.specs.Links.{put}
+use Rattle.sig_core.specs.declared.member.TxId.{TxId}
+use Rattle.sig_core.specs.declared.outs.Outgoing.{Outgoing}
+use Rattle.sig_core.specs.declared.signal.Body.{Body}
+use Rattle.sig_core.specs.declared.signal.Body.TheVariants.{Epoch}
+use Rattle.sig_core.specs.declared.signal.Signal.{Signal}
+use Rattle.sig_core.specs.declared.signal.epoch.EpochSignal.TheVariants.{DiVerifyReq, DiVerifyEnd}
+use Rattle.sig_core.specs.declared.view.View.{View}
+use Rattle.sig_core.specs.Same.{same_tx}
+use Rattle.world_core.specs.Machine.{all_headed, counted as one_counted, headed, machine}
+use Rattle.world_core.specs.Start.{Start}
+use Rattle.answer_laws.proofs.Ahead.{is_dih}
+use Rattle.answer_laws.proofs.Focus.{IsFocus, absent, found}
+use Rattle.answer_laws.proofs.SendKinds.{are_of}
+use Rattle.answer_laws.proofs.Tally.{one_if, tally, tally_between}
+use Rattle.answer_laws.proofs.TcMoves.{same_tx-is}
+
+-- what the block of epochs makes of the transactions that it counts
+abbrev pub with_asked : List TxId → TxId → Bool → List TxId
+with_asked c tx true = c ++ tx ∷ []
+with_asked c tx false = c
+
+abbrev pub ended_by : List TxId → Option ℕ → List TxId
+ended_by c None = c
+ended_by c (Some at) = remove c at
+
+abbrev pub counts_by : Body → List TxId → List TxId
+counts_by (Epoch (DiVerifyReq tx ops)) c = with_asked c tx (nat_lt (length c) 64)
+counts_by (Epoch (DiVerifyEnd tx)) c = ended_by c (position (same_tx tx) c)
+counts_by _ c = c
+
+abbrev pub counts_if : Bool → Body → List TxId → List TxId
+counts_if true body c = counts_by body c
+counts_if false body c = c
+
+-- of signals on the link of its node to itself, the newest first
+abbrev pub counted_of : List Signal → List TxId
+counted_of [] = []
+counted_of (x ∷ xs) = counts_if (is_dih x.to.block) x.body (counted_of xs)
+
+-- a signal asks for an epoch
+abbrev pub is_request : Body → Bool
+is_request (Epoch (DiVerifyReq tx ops)) = true
+is_request _ = false
+
+-- each that asks finds fewer than 64 counted
+abbrev pub AreFew : List Signal → Type 0
+AreFew [] = Unit {0}
+AreFew (x ∷ xs) = ((is_dih x.to.block && is_request x.body) ≡ true → length (counted_of xs) < 64) × AreFew xs
+
+-- the same of the signals that a step of host h sends to itself, the first first
+abbrev pub sends_count : ℕ → List Outgoing → List TxId → List TxId
+sends_count h [] c = c
+sends_count h (o ∷ more) c = sends_count h more (counts_if ((o.to.node == h) && is_dih o.to.block) o.body c)
+
+abbrev pub SendsFew : ℕ → List Outgoing → List TxId → Type 0
+SendsFew h [] c = Unit {0}
+SendsFew h (o ∷ more) c = (((o.to.node == h) && (is_dih o.to.block && is_request o.body)) ≡ true → length c < 64) × SendsFew h more (counts_if ((o.to.node == h) && is_dih o.to.block) o.body c)
+
+module _ (start : Start) where
+  pub put_counts : (h : ℕ) (view : View) (g stamp : ℕ) (count : ℕ → ℕ) (sends : List Outgoing) (before : List Signal)
+      → counted_of (put (machine start) h (all_headed view g stamp count sends) before) ≡ sends_count h sends (counted_of before)
+  put_counts h view g stamp count [] before = refl
+  put_counts h view g stamp count (o ∷ more) before =
+      put_counts h view g stamp (one_counted o.to.node count) more (if o.to.node == h then headed view g stamp (count o.to.node) o ∷ before else before) ∙ ap (sends_count h more) (by (o.to.node == h))
+    where
+      by : (b : Bool) → counted_of (if b then headed view g stamp (count o.to.node) o ∷ before else before) ≡ counts_if (b && is_dih o.to.block) o.body (counted_of before)
+      by true = refl
+      by false = refl
+
+  pub put_few : (h : ℕ) (view : View) (g stamp : ℕ) (count : ℕ → ℕ) (sends : List Outgoing) (before : List Signal)
+      → AreFew before → SendsFew h sends (counted_of before) → AreFew (put (machine start) h (all_headed view g stamp count sends) before)
+  put_few h view g stamp count [] before few more_few = few
+  put_few h view g stamp count (o ∷ more) before few more_few =
+      put_few h view g stamp (one_counted o.to.node count) more (if o.to.node == h then headed view g stamp (count o.to.node) o ∷ before else before) (now (o.to.node == h) refl)
+      (subst (SendsFew h more) (sym (by (o.to.node == h))) more_few.1)
+    where
+      by : (b : Bool) → counted_of (if b then headed view g stamp (count o.to.node) o ∷ before else before) ≡ counts_if (b && is_dih o.to.block) o.body (counted_of before)
+      by true = refl
+      by false = refl
+
+      now : (b : Bool) → (o.to.node == h) ≡ b → AreFew (if b then headed view g stamp (count o.to.node) o ∷ before else before)
+      now true is = (λ e. more_few.0 (ap (λ b. b && (is_dih o.to.block && is_request o.body)) is ∙ e), few)
+      now false is = few
+
+-- what neither asks for an epoch nor ends one
+abbrev pub is_epochless : Body → Bool
+is_epochless (Epoch (DiVerifyReq tx ops)) = false
+is_epochless (Epoch (DiVerifyEnd tx)) = false
+is_epochless _ = true
+
+still_counts : (b : Bool) (body : Body) (c : List TxId) → is_epochless body ≡ true → counts_if b body c ≡ c
+still_counts false body c e = refl
+still_counts true (Epoch (DiVerifyReq tx ops)) c e = absurd (false≢true e)
+still_counts true (Epoch (DiVerifyEnd tx)) c e = absurd (false≢true e)
+still_counts true _ c e = refl
+
+still_asks : (a b : Bool) (body : Body) → is_epochless body ≡ true → (a && (b && is_request body)) ≡ true → ⊥
+still_asks true true (Epoch (DiVerifyReq tx ops)) e asks = false≢true e
+still_asks true true (Epoch (DiVerifyEnd tx)) e asks = false≢true e
+still_asks true true _ e asks = false≢true asks
+still_asks true false body e asks = false≢true asks
+still_asks false b body e asks = false≢true asks
+
+-- the head and the rest of signals of a kind
+pub head_of_kind : (kind : Body → Bool) (o : Outgoing) (more : List Outgoing) → are_of kind (o ∷ more) ≡ true → (kind o.body ≡ true) × (are_of kind more ≡ true)
+head_of_kind kind o more e = by (kind o.body) refl e
+  where
+    by : (b : Bool) → kind o.body ≡ b → (if b then are_of kind more else false) ≡ true → (kind o.body ≡ true) × (are_of kind more ≡ true)
+    by true is e = (is, e)
+    by false is e = absurd (false≢true e)
+
+-- such signals change nothing
+pub plain_counts : (h : ℕ) (sends : List Outgoing) (c : List TxId) → are_of is_epochless sends ≡ true → (sends_count h sends c ≡ c) × SendsFew h sends c
+plain_counts h [] c e = (refl, tt)
+plain_counts h (o ∷ more) c e =
+    let parts = head_of_kind is_epochless o more e in
+    let rest = plain_counts h more c parts.1 in
+    let here = still_counts ((o.to.node == h) && is_dih o.to.block) o.body c parts.0 in
+    (ap (sends_count h more) here ∙ rest.0, (λ asks. absurd (still_asks (o.to.node == h) (is_dih o.to.block) o.body parts.0 asks), subst (SendsFew h more) (sym here) rest.1))
+
+-- one more is counted, where fewer than 64 are
+pub asked_count : (c : List TxId) (tx : TxId) → length c < 64 → with_asked c tx (nat_lt (length c) 64) ≡ c ++ tx ∷ []
+asked_count c tx low =
+    let fewer : nat_lt (length c) 64 ≡ true = grind (arith, nat_tests, low) in
+    ap (with_asked c tx) fewer
+
+-- one that ends is counted no more
+pub record IsWithout (tx : TxId) (c now : List TxId) : Type 0 where
+  pub fewer : length now + 1 ≡ length c
+  pub own : (v : TxId) → tally (same_tx v) now + one_if (same_tx v tx) ≡ tally (same_tx v) c
+
+pub ended_count : (c : List TxId) (tx : TxId) → 1 ≤ tally (same_tx tx) c → IsWithout tx c (ended_by c (position (same_tx tx) c))
+ended_count c tx some = go (nat_lt n (length c)) refl
+  where
+    n : ℕ
+    n = prefix_len (λ x. not (same_tx tx x)) c
+
+    go : (b : Bool) → nat_lt n (length c) ≡ b → IsWithout tx c (ended_by c (cond b (Some n) None))
+    go true e =
+        let f : IsFocus (same_tx tx) c n = found (same_tx tx) c (grind (arith, nat_tests, e)) in
+        record {
+          fewer = omega (arith, ap length f.removed, ap length f.is, between f.front f.item f.back);
+          own = λ v. omega (arith, ap (tally (same_tx v)) f.removed, tally_between (same_tx v) f.front f.item f.back c f.is, ap (λ x. one_if (same_tx v x)) (same_tx-is tx f.item f.passes));
+        }
+      where
+        between : (xs : List TxId) (x : TxId) (ys : List TxId) → length (xs ++ x ∷ ys) ≡ length (xs ++ ys) + 1
+        between [] x ys = omega arith
+        between (y ∷ xs) x ys = omega (arith, between xs x ys)
+    go false e = absurd (omega (arith, some, absent (same_tx tx) c (grind (arith, nat_tests, e))))

@@ -1,0 +1,552 @@
+-- What the API has asked of a transaction its coordinator has heard, or it is on its way.
+use Rattle.std.proofs.Common.{◌≡◌, ◌≢◌, ◌⊎◌, ℕ, zero, suc, ◌+◌, ◌≤◌, ◌<◌, List, [], ◌∷◌, length, Bool, true, false, refl, ap, sym, ◌∙◌, subst, arith, inl, inr}
+use Rattle.std.specs.Prelude.{◌&&◌, ◌||◌, nat_lt, is_some, if◌then◌else◌, Option, None, Some}
+use Rattle.std.proofs.lemmas.Bool.{cases_eq, false≢true}
+use Rattle.std.proofs.lemmas.Bool.Decides.{nat_tests}
+use Rattle.api_block.specs.declared.opened.Doing.TheVariants.{Operating, Committing}
+use Rattle.api_block.specs.declared.opened.OpenTransaction.{OpenTransaction}
+use Rattle.api_block.specs.Opened.{has_tx, is_tx}
+use Rattle.api_block.specs.State.{ApiState}
+use Rattle.lqh_block.specs.Lqh.{lqh_row}
+use Rattle.node_core.specs.declared.host.Host.TheVariants.{Node}
+use Rattle.node_core.specs.declared.node.Node as node
+use Rattle.node_core.specs.Dih.{dih_row}
+use Rattle.node_core.specs.Row.{shell_row}
+use Rattle.run_theory.proofs.Pasts.{each_in}
+use Rattle.run_theory.specs.Lists.{Each, IsIn}
+use Rattle.run_theory.specs.Links.{sent}
+use Rattle.run_theory.specs.Runs.{AreLogs, log_of}
+use Rattle.sig_core.specs.declared.log.LogStep.{LogStep}
+use Rattle.sig_core.specs.declared.member.TxId.{TxId}
+use Rattle.sig_core.specs.declared.outs.Outgoing.{Outgoing}
+use Rattle.sig_core.specs.declared.place.BlockId.{BlockId}
+use Rattle.sig_core.specs.declared.place.BlockId.TheVariants as block
+use Rattle.sig_core.specs.declared.place.Place.{Place}
+use Rattle.sig_core.specs.declared.signal.Body.{Body}
+use Rattle.sig_core.specs.declared.signal.Body.TheVariants.{Client}
+use Rattle.sig_core.specs.declared.signal.client.ClientSignal.TheVariants.{TcKeyReq, TcCommitReq}
+use Rattle.sig_core.specs.Op.{key_of}
+use Rattle.sig_core.specs.Step.{Step, stay}
+use Rattle.tc_block.specs.declared.phase.Asked.{Asked}
+use Rattle.tc_block.specs.declared.phase.Phase.TheVariants.{Open}
+use Rattle.tc_block.specs.declared.transaction.Transaction.{Transaction}
+use Rattle.tc_block.specs.Operate.{can_operate, fresh, is_ready}
+use Rattle.tc_block.specs.State.{TcState}
+use Rattle.tc_block.specs.Tc.{tc_row}
+use Rattle.tc_block.specs.Touched.{fits, place_of}
+use Rattle.world_core.specs.Machine.{after, machine}
+use Rattle.world_core.specs.Start.{Start}
+use Rattle.answer_laws.proofs.Ahead.{along, at_node, AtNode, first_none, Goes, next_at, NextAt, no_transaction, NodeStep, of_dih, of_lqh, of_none, of_tc, the_transaction, tx_at}
+use Rattle.answer_laws.proofs.Always.{Touches, turn_touches}
+use Rattle.answer_laws.proofs.ApiEntries.{IsEntryRight, is_commit_req, of_opened, opened_at, shell_entry}
+use Rattle.answer_laws.proofs.Commits.{live_low}
+use Rattle.answer_laws.proofs.DihSends.{dih_kinds}
+use Rattle.answer_laws.proofs.Hosts.{opened_first, opened_next, shell_after, shell_sends}
+use Rattle.answer_laws.proofs.LinkCounts.{sent_signals, signals, steps, taken_steps}
+use Rattle.answer_laws.proofs.Lives.{keeps}
+use Rattle.answer_laws.proofs.LqhSends.{lqh_kinds}
+use Rattle.answer_laws.proofs.OpenTurns.{OpenTurn, commit_body, is_asked, is_told, open_turn, stays_open}
+use Rattle.answer_laws.proofs.Ops.{same_node}
+use Rattle.answer_laws.proofs.Strangers.{answers_asked, answers_few, apart_answers, commits_few, dih_answers, keys_few, lqh_answers, starts_few, starts_once}
+use Rattle.answer_laws.proofs.Tally.{one_if, tally}
+use Rattle.answer_laws.proofs.TcKeys.{answer_of, answers_in, is_answer, is_key, key_of_tx}
+use Rattle.answer_laws.proofs.TcLives.{is_start, start_of}
+use Rattle.answer_laws.proofs.TcMoves.{same_tx-is}
+use Rattle.answer_laws.proofs.TcSends.{same_tx-self, tx_in}
+use Rattle.answer_laws.proofs.TcSteps.{TxStep, born, elsewhere, left_of_turn, live_early, live_in, next_grows, of_live, turned, tx_step}
+use Rattle.answer_laws.proofs.TcTurns.{IsMissed, is_turn}
+use Rattle.answer_laws.proofs.Wants.{IsAsking, IsHeld, all_right, entry_next, held_few}
+use Rattle.answer_laws.proofs.Wishes.{is_api, is_tc, second_fails, sends_of, to_node}
+use Rattle.answer_laws.specs.Answered.{AreQuiet, EachAskedWhereOperating, EachClosedWhereCommitting, EachIsNumbered, IsLiveAs, opened_after, opened_in}
+
+some_held : (tx : TxId) (opened : List OpenTransaction) (t : OpenTransaction) → of_opened tx opened ≡ Some t → 1 ≤ tally (has_tx tx) opened
+some_held tx [] t there = absurd cc
+some_held tx (x ∷ opened) t there = go (has_tx tx x) refl there (some_held tx opened t)
+  where
+    go : (b : Bool) → has_tx tx x ≡ b → (if b then Some x else of_opened tx opened) ≡ Some t → (of_opened tx opened ≡ Some t → 1 ≤ tally (has_tx tx) opened) → 1 ≤ one_if (has_tx tx x) + tally (has_tx tx) opened
+    go true is there rest = omega (arith, ap one_if is)
+    go false is there rest = omega (arith, rest there)
+
+api_is : (at : BlockId) → is_api at ≡ true → at ≡ block.Api
+api_is block.Api e = refl
+api_is _ e = cc
+
+shell_stays : (s : ApiState) (at : BlockId) (body : Body) → is_api at ≡ false → shell_row s at body ≡ stay s
+unfolding shell_row
+shell_stays s block.Api body e = cc
+shell_stays s _ body e = refl
+
+has_asked : Transaction → ℕ
+has_asked t = one_if (is_some t.asked)
+
+commit_at : (tx : TxId) (to : Place) (body : Body) → is_commit_req tx to body ≡ (is_tc to.block && commit_body tx body)
+commit_at tx to (Client (TcCommitReq other)) = refl
+commit_at tx to _ = by (is_tc to.block)
+  where
+    by : (b : Bool) → false ≡ (b && false)
+    by true = refl
+    by false = refl
+
+key_turn : (tx : TxId) (body : Body) → key_of_tx tx body ≡ true → (is_turn body ≡ true) × (tx_in body ≡ tx)
+key_turn tx (Client (TcKeyReq other op)) e = (refl, same_tx-is other tx e)
+key_turn tx _ e = cc
+
+commit_turn : (tx : TxId) (body : Body) → commit_body tx body ≡ true → (is_turn body ≡ true) × (tx_in body ≡ tx)
+commit_turn tx (Client (TcCommitReq other)) e = (refl, same_tx-is other tx e)
+commit_turn tx _ e = cc
+
+-- an open transaction that has nothing unanswered misses neither
+none_asked : (o : Option Asked) → one_if (is_some o) ≡ 0 → o ≡ None
+none_asked None e = refl
+none_asked (Some a) e = absurd (omega (arith, e))
+
+ready : (t : Transaction) → t.phase ≡ Open → t.asked ≡ None → is_ready t.phase t.asked ≡ true
+ready t p q = ap (λ x. is_ready x t.asked) p ∙ ap (is_ready Open) q
+
+missed_key : (tx : TxId) (t : Transaction) (body : Body) → IsMissed t body → key_of_tx tx body ≡ true → t.phase ≡ Open → t.asked ≡ None → length t.touched < 64 → ⊥
+missed_key tx t (Client (TcKeyReq other op)) missed e p q low = false≢true (sym missed ∙ can)
+  where
+    room : nat_lt (length t.touched) 64 ≡ true
+    room = grind (arith, nat_tests, low)
+
+    can : can_operate t op ≡ true
+    can = ap (λ b. b && fits t.touched (key_of op)) (ready t p q) ∙ (ap (λ b. is_some (place_of t.touched (key_of op)) || b) room ∙ either (is_some (place_of t.touched (key_of op))))
+      where
+        either : (b : Bool) → (b || true) ≡ true
+        either true = refl
+        either false = refl
+missed_key tx t _ missed e p q low = false≢true e
+
+missed_commit : (tx : TxId) (t : Transaction) (body : Body) → IsMissed t body → commit_body tx body ≡ true → t.phase ≡ Open → t.asked ≡ None → ⊥
+missed_commit tx t (Client (TcCommitReq other)) missed e p q = false≢true (sym missed ∙ ready t p q)
+missed_commit tx t _ missed e p q = false≢true e
+
+module _ (start : Start) (tx : TxId) (h : ℕ) (home : tx.tc ≡ suc h) where
+  -- what the API has asked for, and was answered; what the coordinator has heard, and has answered
+  abbrev keys_sent : (ℕ → List LogStep) → ℕ
+  keys_sent logs = signals (is_key tx) (sent (machine start) 0 (suc h) (logs 0))
+
+  abbrev commits_sent : (ℕ → List LogStep) → ℕ
+  commits_sent logs = signals (is_commit_req tx) (sent (machine start) 0 (suc h) (logs 0))
+
+  abbrev answers_taken : (ℕ → List LogStep) → ℕ
+  answers_taken logs = steps (is_answer tx) (logs 0)
+
+  abbrev starts_taken : (ℕ → List LogStep) → ℕ
+  starts_taken logs = steps (is_start tx) (logs 0)
+
+  abbrev keys_taken : List LogStep → ℕ
+  keys_taken log = steps (is_key tx) log
+
+  abbrev commits_taken : List LogStep → ℕ
+  commits_taken log = steps (is_commit_req tx) log
+
+  abbrev answers_sent : List LogStep → ℕ
+  answers_sent log = signals (is_answer tx) (sent (machine start) (suc h) 0 log)
+
+  record IsHeard (log : List LogStep) (t : Transaction) : Type 0 where
+    keys : keys_taken log ≡ one_if (is_some t.asked) + answers_sent log
+    touched : length t.touched ≤ keys_taken log
+    commits : commits_taken log ≡ 0
+
+  record AllHeard (logs : ℕ → List LogStep) : Type 0 where
+    asking : IsAsking (of_opened tx (opened_in (after start 0 (logs 0)))) (keys_sent logs) (commits_sent logs) (answers_taken logs) (starts_taken logs)
+    heard : (t : Transaction) → tx_at tx (after start (suc h) (logs (suc h))) ≡ Some t → t.phase ≡ Open → IsHeard (logs (suc h)) t
+    unborn : (x : node.Node) → after start (suc h) (logs (suc h)) ≡ Node x → x.tc.next_seq ≤ tx.seq → answers_sent (logs (suc h)) ≡ 0
+
+  -- no more was taken than was sent, nor answered than asked
+  few_answers : (logs : ℕ → List LogStep) → AreLogs (machine start) logs → answers_taken logs ≤ keys_sent logs
+  few_answers logs right = omega (arith, answers_few start tx h home logs right, answers_asked start tx h home logs right, keys_few start tx h home logs right)
+
+  -- a step of the API
+  api_next : (logs now : ℕ → List LogStep) (e : LogStep) → Goes start logs now 0 e → AllHeard logs
+      → IsAsking (of_opened tx (opened_in (after start 0 (now 0)))) (keys_sent now) (commits_sent now) (answers_taken now) (starts_taken now)
+  api_next logs now e g q = by (is_api e.taken.to.block) refl
+    where
+      s : ApiState
+      s = (shell_after start (logs 0)).state
+
+      opened_was : opened_in (after start 0 (logs 0)) ≡ s.opened
+      opened_was = ap opened_in (shell_after start (logs 0)).is
+
+      opened_now : opened_in (after start 0 (now 0)) ≡ (shell_row s e.taken.to.block e.taken.body).state.opened
+      opened_now = ap (λ log. opened_in (after start 0 log)) g.own ∙ opened_next start e (logs 0)
+
+      sends : List Outgoing
+      sends = (shell_row s e.taken.to.block e.taken.body).effects.sends
+
+      keys_now : keys_sent now ≡ sends_of (to_node (suc h) (is_key tx)) sends + keys_sent logs
+      keys_now =
+          ap (λ log. signals (is_key tx) (sent (machine start) 0 (suc h) log)) g.own
+          ∙ (sent_signals start (is_key tx) 0 (suc h) e (logs 0) ∙ ap (λ xs. sends_of (to_node (suc h) (is_key tx)) xs + keys_sent logs) (shell_sends start e (logs 0)))
+
+      commits_now : commits_sent now ≡ sends_of (to_node (suc h) (is_commit_req tx)) sends + commits_sent logs
+      commits_now =
+          ap (λ log. signals (is_commit_req tx) (sent (machine start) 0 (suc h) log)) g.own
+          ∙ (sent_signals start (is_commit_req tx) 0 (suc h) e (logs 0) ∙ ap (λ xs. sends_of (to_node (suc h) (is_commit_req tx)) xs + commits_sent logs) (shell_sends start e (logs 0)))
+
+      answers_now : answers_taken now ≡ one_if (is_api e.taken.to.block && answer_of tx e.taken.body) + answers_taken logs
+      answers_now = ap (steps (is_answer tx)) g.own
+
+      starts_now : starts_taken now ≡ one_if (is_api e.taken.to.block && start_of tx e.taken.body) + starts_taken logs
+      starts_now = ap (steps (is_start tx)) g.own
+
+      once : starts_taken now ≤ 1
+      once = starts_once start tx h home now g.right
+
+      few : tally (has_tx tx) s.opened ≤ starts_taken logs
+      few = subst (λ os. tally (has_tx tx) os ≤ starts_taken logs) opened_was (held_few start tx (logs 0))
+
+      moved : (o p : Option OpenTransaction) (k c a b : ℕ) → o ≡ p → (k ≡ keys_sent now) → (c ≡ commits_sent now) → (a ≡ answers_taken now) → (b ≡ starts_taken now) → IsAsking o k c a b
+          → IsAsking p (keys_sent now) (commits_sent now) (answers_taken now) (starts_taken now)
+      moved o p k c a b o_is k_is c_is a_is b_is q =
+          subst (λ x. IsAsking x (keys_sent now) (commits_sent now) (answers_taken now) (starts_taken now)) o_is
+          (subst (λ m. IsAsking o m (commits_sent now) (answers_taken now) (starts_taken now)) k_is
+          (subst (λ m. IsAsking o k m (answers_taken now) (starts_taken now)) c_is
+          (subst (λ m. IsAsking o k c m (starts_taken now)) a_is (subst (IsAsking o k c a) b_is q))))
+
+      by : (b : Bool) → is_api e.taken.to.block ≡ b → IsAsking (of_opened tx (opened_in (after start 0 (now 0)))) (keys_sent now) (commits_sent now) (answers_taken now) (starts_taken now)
+      by true at =
+          let next = entry_next tx e.taken.body (of_opened tx s.opened) (of_opened tx (shell_row s e.taken.to.block e.taken.body).state.opened) sends (keys_sent logs) (commits_sent logs) (answers_taken logs) (starts_taken logs)
+          (shell_entry tx s e.taken.body (shell_after start (logs 0)).good (subst (Each IsEntryRight) opened_was (all_right start (logs 0))) (omega (arith, few, once, starts_now))
+          (λ st. omega (arith, few, fresh_start st)) e.taken.to.block (api_is e.taken.to.block at))
+          (subst (λ os. IsAsking (of_opened tx os) (keys_sent logs) (commits_sent logs) (answers_taken logs) (starts_taken logs)) opened_was q.asking)
+          (few_answers logs g.before) fresh_start held_some in
+          moved (of_opened tx (shell_row s e.taken.to.block e.taken.body).state.opened) (of_opened tx (opened_in (after start 0 (now 0)))) _ _ _ _ (ap (of_opened tx) (sym opened_now))
+          (sym (keys_now ∙ ap (λ j. sends_of (to_node j (is_key tx)) sends + keys_sent logs) (sym home)))
+          (sym (commits_now ∙ ap (λ j. sends_of (to_node j (is_commit_req tx)) sends + commits_sent logs) (sym home)))
+          (omega (arith, answers_now, ap (λ b. one_if (b && answer_of tx e.taken.body)) at))
+          (omega (arith, starts_now, ap (λ b. one_if (b && start_of tx e.taken.body)) at)) next
+        where
+          fresh_start : start_of tx e.taken.body ≡ true → starts_taken logs ≡ 0
+          fresh_start st = omega (arith, once, starts_now, ap (λ b. one_if (b && start_of tx e.taken.body)) at, ap one_if st)
+
+          held_some : (t : OpenTransaction) → of_opened tx s.opened ≡ Some t → 1 ≤ starts_taken logs
+          held_some t there = omega (arith, few, some_held tx s.opened t there)
+      by false at =
+          moved (of_opened tx s.opened) (of_opened tx (opened_in (after start 0 (now 0)))) (keys_sent logs) (commits_sent logs) (answers_taken logs) (starts_taken logs)
+          (ap (of_opened tx) (sym (opened_now ∙ ap (λ (st : Step ApiState). st.state.opened) quiet)))
+          (omega (arith, keys_now, ap (λ (st : Step ApiState). sends_of (to_node (suc h) (is_key tx)) st.effects.sends) quiet))
+          (omega (arith, commits_now, ap (λ (st : Step ApiState). sends_of (to_node (suc h) (is_commit_req tx)) st.effects.sends) quiet))
+          (omega (arith, answers_now, ap (λ b. one_if (b && answer_of tx e.taken.body)) at))
+          (omega (arith, starts_now, ap (λ b. one_if (b && start_of tx e.taken.body)) at))
+          (subst (λ os. IsAsking (of_opened tx os) (keys_sent logs) (commits_sent logs) (answers_taken logs) (starts_taken logs)) opened_was q.asking)
+        where
+          quiet : shell_row s e.taken.to.block e.taken.body ≡ stay s
+          quiet = shell_stays s e.taken.to.block e.taken.body at
+
+  -- a step of the coordinator's node
+  node_next : (logs now : ℕ → List LogStep) (e : LogStep) → Goes start logs now (suc h) e → AllHeard logs
+      → ((t : Transaction) → tx_at tx (after start (suc h) (now (suc h))) ≡ Some t → t.phase ≡ Open → IsHeard (now (suc h)) t)
+      × ((y : node.Node) → after start (suc h) (now (suc h)) ≡ Node y → y.tc.next_seq ≤ tx.seq → answers_sent (now (suc h)) ≡ 0)
+  node_next logs now e g q = finish n.step
+    where
+      Result : Type 0
+      Result =
+          ((t : Transaction) → tx_at tx (after start (suc h) (now (suc h))) ≡ Some t → t.phase ≡ Open → IsHeard (now (suc h)) t)
+          × ((y : node.Node) → after start (suc h) (now (suc h)) ≡ Node y → y.tc.next_seq ≤ tx.seq → answers_sent (now (suc h)) ≡ 0)
+
+      x : AtNode start tx h (logs (suc h))
+      x = at_node start tx h (logs (suc h))
+
+      n : NextAt start h e (logs (suc h)) x.state
+      n = next_at start h e (logs (suc h)) x.state x.is
+
+      now_is : after start (suc h) (now (suc h)) ≡ Node n.now
+      now_is = ap (after start (suc h)) g.own ∙ n.is
+
+      now_at : (t : Transaction) → tx_at tx (after start (suc h) (now (suc h))) ≡ Some t → of_live tx n.now.tc.live ≡ Some t
+      now_at t at = sym (ap (tx_at tx) now_is) ∙ at
+
+      was_at : (o : Option Transaction) → of_live tx x.state.tc.live ≡ o → tx_at tx (after start (suc h) (logs (suc h))) ≡ o
+      was_at o at = ap (tx_at tx) x.is ∙ at
+
+      sent_now : answers_sent (now (suc h)) ≡ answers_in tx n.sends + answers_sent (logs (suc h))
+      sent_now = ap answers_sent g.own ∙ (sent_signals start (is_answer tx) (suc h) 0 e (logs (suc h)) ∙ ap (λ xs. answers_in tx xs + answers_sent (logs (suc h))) n.sent_is)
+
+      keys_now : keys_taken (now (suc h)) ≡ one_if (is_tc e.taken.to.block && key_of_tx tx e.taken.body) + keys_taken (logs (suc h))
+      keys_now = ap keys_taken g.own
+
+      commits_now : commits_taken (now (suc h)) ≡ one_if (is_tc e.taken.to.block && commit_body tx e.taken.body) + commits_taken (logs (suc h))
+      commits_now = ap commits_taken g.own ∙ ap (λ b. one_if b + commits_taken (logs (suc h))) (commit_at tx e.taken.to e.taken.body)
+
+      number_of : (y : node.Node) → after start (suc h) (now (suc h)) ≡ Node y → y.tc.next_seq ≡ n.now.tc.next_seq
+      number_of y y_is = ap (λ (z : node.Node). z.tc.next_seq) (same_node y n.now (sym y_is ∙ now_is))
+
+      kept : of_live tx n.now.tc.live ≡ of_live tx x.state.tc.live → x.state.tc.next_seq ≤ n.now.tc.next_seq → answers_in tx n.sends ≡ 0
+          → ((t : Transaction) → of_live tx x.state.tc.live ≡ Some t → ((is_tc e.taken.to.block && key_of_tx tx e.taken.body) ≡ false) × ((is_tc e.taken.to.block && commit_body tx e.taken.body) ≡ false)) → Result
+      kept same more none off = (heard_now, unborn_now)
+        where
+          heard_now : (t : Transaction) → tx_at tx (after start (suc h) (now (suc h))) ≡ Some t → t.phase ≡ Open → IsHeard (now (suc h)) t
+          heard_now t at p =
+              let was = sym same ∙ now_at t at in
+              let o = q.heard t (was_at (Some t) was) p in
+              let f = off t was in
+              record {
+                keys = omega (arith, o.keys, keys_now, ap one_if f.0, sent_now, none);
+                touched = omega (arith, o.touched, keys_now);
+                commits = omega (arith, o.commits, commits_now, ap one_if f.1);
+              }
+
+          unborn_now : (y : node.Node) → after start (suc h) (now (suc h)) ≡ Node y → y.tc.next_seq ≤ tx.seq → answers_sent (now (suc h)) ≡ 0
+          unborn_now y y_is early = omega (arith, sent_now, none, q.unborn x.state x.is (omega (arith, more, early, number_of y y_is)))
+
+      quiet : n.now.tc ≡ x.state.tc → is_tc e.taken.to.block ≡ false → answers_in tx n.sends ≡ 0 → Result
+      quiet same off none =
+          kept (ap (λ (s : TcState). of_live tx s.live) same) (omega (arith, ap (λ (s : TcState). s.next_seq) same)) none
+          (λ t at. (ap (λ b. b && key_of_tx tx e.taken.body) off, ap (λ b. b && commit_body tx e.taken.body) off))
+
+      finish : NodeStep x.state e.taken.to.block e.taken.body n.now n.sends → Result
+      finish (of_dih at is sends) = quiet (ap (λ (y : node.Node). y.tc) is) (ap is_tc at) (ap (answers_in tx) sends ∙ dih_answers tx (dih_row x.state.dih e.taken.body).effects.sends (dih_kinds x.state.dih e.taken.body))
+      finish (of_lqh at is sends) = quiet (ap (λ (y : node.Node). y.tc) is) (ap is_tc at) (ap (answers_in tx) sends ∙ lqh_answers tx (lqh_row x.state.lqh e.taken.body).effects.sends (lqh_kinds x.state.lqh e.taken.body))
+      finish (of_none tc lqh dih is sends) = quiet (ap (λ (y : node.Node). y.tc) is) tc (ap (answers_in tx) sends)
+      finish (of_tc at is sends) = by (tx_step tx x.state.tc e.taken.body x.once x.own)
+        where
+          tc_is : n.now.tc ≡ (tc_row x.state.tc e.taken.body).state
+          tc_is = ap (λ (y : node.Node). y.tc) is
+
+          grows : x.state.tc.next_seq ≤ n.now.tc.next_seq
+          grows = omega (arith, next_grows x.state.tc e.taken.body, ap (λ (s : TcState). s.next_seq) tc_is)
+
+          by : TxStep tx x.state.tc e.taken.body (tc_row x.state.tc e.taken.body) → Result
+          by (elsewhere same kind absent) =
+              kept (ap (λ (s : TcState). of_live tx s.live) tc_is ∙ same) grows (ap (answers_in tx) sends ∙ apart_answers tx (tc_row x.state.tc e.taken.body).effects.sends kind)
+              (λ t there. (second_fails (is_tc e.taken.to.block) (off_key t there (key_of_tx tx e.taken.body) refl), second_fails (is_tc e.taken.to.block) (off_commit t there (commit_body tx e.taken.body) refl)))
+            where
+              off_key : (t : Transaction) → of_live tx x.state.tc.live ≡ Some t → (b : Bool) → key_of_tx tx e.taken.body ≡ b → key_of_tx tx e.taken.body ≡ false
+              off_key t there false q = q
+              off_key t there true q = let c = key_turn tx e.taken.body q in absurd (no_transaction t (sym (absent c.0 c.1) ∙ there))
+
+              off_commit : (t : Transaction) → of_live tx x.state.tc.live ≡ Some t → (b : Bool) → commit_body tx e.taken.body ≡ b → commit_body tx e.taken.body ≡ false
+              off_commit t there false q = q
+              off_commit t there true q = let c = commit_turn tx e.taken.body q in absurd (no_transaction t (sym (absent c.0 c.1) ∙ there))
+          by (born name about one none there told) = (heard_now, λ y y_is early. omega (arith, none_sent, sent_now, none_told))
+            where
+              none_told : answers_in tx n.sends ≡ 0
+              none_told = ap (answers_in tx) sends ∙ (ap (answers_in tx) told ∙ refl)
+
+              none_sent : answers_sent (logs (suc h)) ≡ 0
+              none_sent = q.unborn x.state x.is (omega (arith, ap (λ (v : TxId). v.seq) one))
+
+              -- it hasn't begun, and so nothing was asked of it
+              none_started : starts_taken logs ≡ 0
+              none_started =
+                  let k = keeps start tx h (logs (suc h)) in
+                  omega (arith, starts_few start tx h home logs g.before, k.keeps.unborn (omega (arith, ap (λ (v : TxId). v.seq) one, ap (λ (z : node.Node). z.tc.next_seq) (same_node k.state x.state (sym k.is ∙ x.is)))))
+
+              none_asked_for : (keys_sent logs ≡ 0) × (commits_sent logs ≡ 0)
+              none_asked_for = q.asking.new none_started
+
+              heard_now : (t : Transaction) → tx_at tx (after start (suc h) (now (suc h))) ≡ Some t → t.phase ≡ Open → IsHeard (now (suc h)) t
+              heard_now t at p =
+                  let f : fresh ≡ t = the_transaction fresh t (sym (ap (λ (s : TcState). of_live tx s.live) tc_is ∙ there) ∙ now_at t at) in
+                  subst (IsHeard (now (suc h))) f (record {
+                    keys = omega (arith, keys_now, ap (λ b. one_if (is_tc e.taken.to.block && b)) (ap (key_of_tx tx) about), ap one_if (second_fails (is_tc e.taken.to.block) refl), keys_few start tx h home logs g.before, none_asked_for.0, sent_now, none_told, none_sent);
+                    touched = omega arith;
+                    commits = omega (arith, commits_now, ap (λ b. one_if (is_tc e.taken.to.block && b)) (ap (commit_body tx) about), ap one_if (second_fails (is_tc e.taken.to.block) refl), commits_few start tx h home logs g.before, none_asked_for.1);
+                  })
+          by (turned t turn about one there move left told) = (heard_now, late)
+            where
+              now_live : of_live tx n.now.tc.live ≡ left_of_turn turn
+              now_live = ap (λ (s : TcState). of_live tx s.live) tc_is ∙ left
+
+              late : (y : node.Node) → after start (suc h) (now (suc h)) ≡ Node y → y.tc.next_seq ≤ tx.seq → answers_sent (now (suc h)) ≡ 0
+              late y y_is early = absurd (omega (arith, early, number_of y y_is, grows, live_early tx x.state.tc t there x.own))
+
+              told_is : answers_in tx n.sends ≡ answers_in tx turn.step.effects.sends
+              told_is = ap (answers_in tx) (sends ∙ told)
+
+              block_is : is_tc e.taken.to.block ≡ true
+              block_is = ap is_tc at
+
+              keys_here : keys_taken (now (suc h)) ≡ one_if (key_of_tx tx e.taken.body) + keys_taken (logs (suc h))
+              keys_here = keys_now ∙ ap (λ b. one_if (b && key_of_tx tx e.taken.body) + keys_taken (logs (suc h))) block_is
+
+              commits_here : commits_taken (now (suc h)) ≡ one_if (commit_body tx e.taken.body) + commits_taken (logs (suc h))
+              commits_here = commits_now ∙ ap (λ b. one_if (b && commit_body tx e.taken.body) + commits_taken (logs (suc h))) block_is
+
+              heard_now : (u : Transaction) → tx_at tx (after start (suc h) (now (suc h))) ≡ Some u → u.phase ≡ Open → IsHeard (now (suc h)) u
+              heard_now u u_at p = which turn.over refl
+                where
+                  which : (b : Bool) → turn.over ≡ b → IsHeard (now (suc h)) u
+                  which true over = absurd (no_transaction u (sym (now_live ∙ ap (λ b. if b then None else Some turn.step.state) over) ∙ now_at u u_at))
+                  which false over = subst (IsHeard (now (suc h))) same (result (open_turn x.state.tc tx t e.taken.body turn move over (ap (λ (v : Transaction). v.phase) same ∙ p)))
+                    where
+                      same : turn.step.state ≡ u
+                      same = the_transaction turn.step.state u (sym (now_live ∙ ap (λ b. if b then None else Some turn.step.state) over) ∙ now_at u u_at)
+
+                      touches : Touches tx t e.taken.body turn.step.state
+                      touches = turn_touches x.state.tc tx t e.taken.body turn move
+
+                      result : (t.phase ≡ Open) × OpenTurn tx t e.taken.body turn.step.state turn.step.effects.sends → IsHeard (now (suc h)) turn.step.state
+                      result (was_open, move) = go move
+                        where
+                          o : IsHeard (logs (suc h)) t
+                          o = q.heard t (was_at (Some t) there) was_open
+
+                          -- one more has come, so all before was answered
+                          answered_all : key_of_tx tx e.taken.body ≡ true → (one_if (is_some t.asked) ≡ 0) × (keys_taken (logs (suc h)) < 64)
+                          answered_all key =
+                              let few = keys_few start tx h home now g.right in
+                              let sent_same : keys_sent now ≡ keys_sent logs = ap (λ log. signals (is_key tx) (sent (machine start) 0 (suc h) log)) (g.others 0 (λ z. absurd (zero_suc z))) in (
+                                omega (arith, o.keys, few, sent_same, keys_here, ap one_if key, q.asking.ahead, answers_few start tx h home logs g.before),
+                                omega (arith, few, sent_same, keys_here, ap one_if key, q.asking.few),
+                              )
+                            where
+                              zero_suc : 0 ≡ suc h → ⊥
+                              zero_suc z = omega (arith, z)
+
+                          committed_all : commit_body tx e.taken.body ≡ true → one_if (is_some t.asked) ≡ 0
+                          committed_all commit =
+                              let few = commits_few start tx h home now g.right in
+                              let sent_same : commits_sent now ≡ commits_sent logs = ap (λ log. signals (is_commit_req tx) (sent (machine start) 0 (suc h) log)) (g.others 0 (λ z. absurd (zero_suc z))) in
+                              omega (arith, o.keys, keys_few start tx h home logs g.before, q.asking.done (omega (arith, few, sent_same, commits_here, ap one_if commit)), answers_few start tx h home logs g.before)
+                            where
+                              zero_suc : 0 ≡ suc h → ⊥
+                              zero_suc z = omega (arith, z)
+
+                          go : OpenTurn tx t e.taken.body turn.step.state turn.step.effects.sends → IsHeard (now (suc h)) turn.step.state
+                          go (stays_open asked none missed) = record {
+                            keys = omega (arith, o.keys, keys_here, ap one_if off.0, sent_now, told_is, none, ap (λ a. one_if (is_some a)) asked);
+                            touched = omega (arith, o.touched, touches.more, keys_here);
+                            commits = omega (arith, o.commits, commits_here, ap one_if off.1);
+                          }
+                            where
+                              off_key : (b : Bool) → key_of_tx tx e.taken.body ≡ b → IsMissed t e.taken.body → key_of_tx tx e.taken.body ≡ false
+                              off_key false e m = e
+                              off_key true e m = let a = answered_all e in absurd (missed_key tx t _ m e was_open (none_asked t.asked a.0) (omega (arith, a.1, o.touched)))
+
+                              off_commit : (b : Bool) → commit_body tx e.taken.body ≡ b → IsMissed t e.taken.body → commit_body tx e.taken.body ≡ false
+                              off_commit false e m = e
+                              off_commit true e m = absurd (missed_commit tx t _ m e was_open (none_asked t.asked (committed_all e)))
+
+                              off_of : IsMissed t e.taken.body ⊎ ((key_of_tx tx e.taken.body ≡ false) × (commit_body tx e.taken.body ≡ false)) → (key_of_tx tx e.taken.body ≡ false) × (commit_body tx e.taken.body ≡ false)
+                              off_of (inl m) = (off_key (key_of_tx tx e.taken.body) refl m, off_commit (commit_body tx e.taken.body) refl m)
+                              off_of (inr f) = f
+
+                              off : (key_of_tx tx e.taken.body ≡ false) × (commit_body tx e.taken.body ≡ false)
+                              off = off_of missed
+                          go (is_asked key commit none some quiet) = record {
+                            keys = omega (arith, o.keys, keys_here, ap one_if key, sent_now, told_is, quiet, ap (λ a. one_if (is_some a)) none, ap one_if some);
+                            touched = omega (arith, o.touched, touches.more, keys_here);
+                            commits = omega (arith, o.commits, commits_here, ap one_if commit);
+                          }
+                          go (is_told key commit some none one) = record {
+                            keys = omega (arith, o.keys, keys_here, ap one_if key, sent_now, told_is, one, ap (λ a. one_if (is_some a)) none, ap one_if some);
+                            touched = omega (arith, o.touched, touches.more, keys_here);
+                            commits = omega (arith, o.commits, commits_here, ap one_if commit);
+                          }
+
+  step : (logs now : ℕ → List LogStep) (i : ℕ) (e : LogStep) → Goes start logs now i e → AllHeard logs → AllHeard now
+  step logs now i e g q = by (cases_eq i 0)
+    where
+      -- where neither log is longer
+      node_same : now (suc h) ≡ logs (suc h)
+          → ((t : Transaction) → tx_at tx (after start (suc h) (now (suc h))) ≡ Some t → t.phase ≡ Open → IsHeard (now (suc h)) t)
+          × ((y : node.Node) → after start (suc h) (now (suc h)) ≡ Node y → y.tc.next_seq ≤ tx.seq → answers_sent (now (suc h)) ≡ 0)
+      node_same is = (
+        λ t at p. subst (λ log. IsHeard log t) (sym is) (q.heard t (ap (λ log. tx_at tx (after start (suc h) log)) (sym is) ∙ at) p),
+        λ y y_is early. ap answers_sent is ∙ q.unborn y (ap (after start (suc h)) (sym is) ∙ y_is) early,
+      )
+
+      api_same : now 0 ≡ logs 0 → IsAsking (of_opened tx (opened_in (after start 0 (now 0)))) (keys_sent now) (commits_sent now) (answers_taken now) (starts_taken now)
+      api_same is =
+          subst (λ log. IsAsking (of_opened tx (opened_in (after start 0 log))) (signals (is_key tx) (sent (machine start) 0 (suc h) log)) (signals (is_commit_req tx) (sent (machine start) 0 (suc h) log)) (steps (is_answer tx) log) (steps (is_start tx) log)) (sym is) q.asking
+
+      not_zero : suc h ≡ 0 → ⊥
+      not_zero z = absurd (omega (arith, z))
+
+      by : (i ≡ 0) ⊎ (i ≢ 0) → AllHeard now
+      by (inl zero_i) =
+          let g0 = subst (λ j. Goes start logs now j e) zero_i g in
+          let same = node_same (g0.others (suc h) not_zero) in
+          record { asking = api_next logs now e g0 q; heard = same.0; unborn = same.1 }
+      by (inr other) = where_at (cases_eq i (suc h))
+        where
+          where_at : (i ≡ suc h) ⊎ (i ≢ suc h) → AllHeard now
+          where_at (inl same) =
+              let gh = subst (λ j. Goes start logs now j e) same g in
+              let next = node_next logs now e gh q in
+              record { asking = api_same (gh.others 0 (λ z. not_zero (sym z))); heard = next.0; unborn = next.1 }
+          where_at (inr differs) =
+              let same = node_same (g.others (suc h) (λ z. differs (sym z))) in
+              record { asking = api_same (g.others 0 (λ z. other (sym z))); heard = same.0; unborn = same.1 }
+
+  first : AllHeard (log_of (machine start) [])
+  first = record {
+    asking = record {
+      held = λ t at. no_open t (sym (ap (of_opened tx) (opened_first start)) ∙ at);
+      few = omega arith;
+      ahead = omega arith;
+      done = λ some. omega arith;
+      new = λ none. (refl, refl);
+    };
+    heard = λ t at p. absurd (no_transaction t (sym (first_none start tx h) ∙ at));
+    unborn = λ y y_is early. refl;
+  }
+    where
+      no_open : {A : Type 0} (t : OpenTransaction) → None ≡ Some t → A
+      no_open t e = absurd cc
+
+  -- at quiet
+  module _ (logs : ℕ → List LogStep) (quiet : AreQuiet start logs) (low : suc h < start.nodes + 1) where
+    all_heard : AllHeard logs
+    all_heard = along start AllHeard first step logs quiet.within quiet.right
+
+    keys_whole : keys_sent logs ≤ keys_taken (logs (suc h))
+    keys_whole = omega (arith, ap (signals (is_key tx)) (quiet.quiet 0 (suc h) (omega arith) low), taken_steps start (is_key tx) 0 (logs (suc h)))
+
+    commits_whole : commits_sent logs ≤ commits_taken (logs (suc h))
+    commits_whole = omega (arith, ap (signals (is_commit_req tx)) (quiet.quiet 0 (suc h) (omega arith) low), taken_steps start (is_commit_req tx) 0 (logs (suc h)))
+
+    answers_whole : answers_sent (logs (suc h)) ≤ answers_taken logs
+    answers_whole = omega (arith, ap (signals (is_answer tx)) (quiet.quiet (suc h) 0 low (omega arith)), taken_steps start (is_answer tx) (suc h) (logs 0))
+
+    held_at : (t : OpenTransaction) → IsIn t (opened_after start logs) → t.tx ≡ Some tx → IsHeld t.operations (keys_sent logs) (commits_sent logs) (answers_taken logs) t.doing
+    held_at t inside is =
+        all_heard.asking.held t (opened_at tx t (opened_in (after start 0 (logs 0))) (omega (arith, held_few start tx (logs 0), starts_once start tx h home logs quiet.right)) inside (ap (is_tx tx) is ∙ same_tx-self tx))
+
+    asked_there : (t : OpenTransaction) (u : Transaction) → IsIn t (opened_after start logs) → t.tx ≡ Some tx → t.doing ≡ Operating → tx_at tx (after start (suc h) (logs (suc h))) ≡ Some u → u.phase ≡ Open → is_some u.asked ≡ true
+    asked_there t u inside is doing at p =
+        let o = all_heard.heard u at p in
+        let k = subst (IsHeld t.operations (keys_sent logs) (commits_sent logs) (answers_taken logs)) doing (held_at t inside is) in
+        on (is_some u.asked) (omega (arith, o.keys, k.0, keys_whole, answers_whole))
+      where
+        on : (b : Bool) → 1 ≤ one_if b → b ≡ true
+        on true e = refl
+        on false e = absurd (omega (arith, e))
+
+    closed_there : (t : OpenTransaction) (u : Transaction) → IsIn t (opened_after start logs) → t.tx ≡ Some tx → t.doing ≡ Committing → tx_at tx (after start (suc h) (logs (suc h))) ≡ Some u → u.phase ≡ Open → ⊥
+    closed_there t u inside is doing at p =
+        let o = all_heard.heard u at p in
+        let k = subst (IsHeld t.operations (keys_sent logs) (commits_sent logs) (answers_taken logs)) doing (held_at t inside is) in
+        omega (arith, o.commits, k.0, commits_whole)
+
+module _ (start : Start) (logs : ℕ → List LogStep) (t : OpenTransaction) (quiet : AreQuiet start logs) (inside : IsIn t (opened_after start logs)) (tx : TxId) (u : Transaction) (is : t.tx ≡ Some tx) where
+  live_at : (h : ℕ) → tx.tc ≡ suc h → IsLiveAs tx u (after start tx.tc (logs tx.tc)) → tx_at tx (after start (suc h) (logs (suc h))) ≡ Some u
+  live_at h home live =
+      let x = at_node start tx h (logs (suc h)) in
+      ap (tx_at tx) x.is ∙ live_in tx u x.state.tc.live x.once (subst (IsLiveAs tx u) x.is (subst (λ c. IsLiveAs tx u (after start c (logs c))) home live))
+
+  pub asked_where : t.doing ≡ Operating → IsLiveAs tx u (after start tx.tc (logs tx.tc)) → u.phase ≡ Open → is_some u.asked ≡ true
+  asked_where doing live p = by tx.tc refl
+    where
+      by : (c : ℕ) → tx.tc ≡ c → is_some u.asked ≡ true
+      by zero home = absurd (subst (IsLiveAs tx u) (shell_after start (logs 0)).is (subst (λ c. IsLiveAs tx u (after start c (logs c))) home live))
+      by (suc h) home = asked_there start tx h home logs quiet (omega (arith, home, live_low start logs tx u quiet tx.tc live)) t u inside is doing (live_at h home live) p
+
+  pub closed_where : t.doing ≡ Committing → IsLiveAs tx u (after start tx.tc (logs tx.tc)) → u.phase ≡ Open → ⊥
+  closed_where doing live p = by tx.tc refl
+    where
+      by : (c : ℕ) → tx.tc ≡ c → ⊥
+      by zero home = subst (IsLiveAs tx u) (shell_after start (logs 0)).is (subst (λ c. IsLiveAs tx u (after start c (logs c))) home live)
+      by (suc h) home = closed_there start tx h home logs quiet (omega (arith, home, live_low start logs tx u quiet tx.tc live)) t u inside is doing (live_at h home live) p
+
+pub asked_where_operating : EachAskedWhereOperating
+asked_where_operating start logs t quiet inside tx u is doing live p = asked_where start logs t quiet inside tx u is doing live p
+
+pub closed_where_committing : EachClosedWhereCommitting
+closed_where_committing start logs t quiet inside tx u is doing live p = closed_where start logs t quiet inside tx u is doing live p
+
+pub each_numbered : EachIsNumbered
+each_numbered start logs t quiet inside = (each_in IsEntryRight t (opened_in (after start 0 (logs 0))) (all_right start (logs 0)) inside).begun

@@ -1,0 +1,17 @@
+-- Every closed cut is serial.
+use Rattle.transit_laws.proofs.DecidedSettled.{decided_settled}
+use Rattle.transit_laws.proofs.GivenUp.{kept_are_not_given_up, none_is_both}
+use Rattle.transit_laws.proofs.NoneWait.{waiters_are_undecided}
+use Rattle.transit_laws.proofs.Owing.{events_owed}
+use Rattle.world_core.specs.SerialLaw.{EveryCutIsSerial}
+use Rattle.serial_laws.proofs.SerialOfOwed.{serial_of_owed}
+
+pub every_cut_serial : EveryCutIsSerial
+every_cut_serial =
+    serial_of_owed (record {
+      events = events_owed;
+      waiters = waiters_are_undecided;
+      decided = decided_settled;
+      one_way = none_is_both;
+      kept = kept_are_not_given_up;
+    })

@@ -1,0 +1,137 @@
+-- What a step of the rows of a node marks as applied: a record that is committed at the first place of its chain.
+use Rattle.std.proofs.Common.{◌≡◌, ◌==◌, ℕ, Bool, true, false, List, refl, sym, ap, ◌∙◌}
+use Rattle.std.specs.List.{list_any}
+use Rattle.std.specs.Prelude.{if◌then◌else◌, is_some, Option, None, Some}
+use Rattle.sig_core.specs.declared.mark.Mark.{Mark}
+use Rattle.sig_core.specs.declared.member.Member.{Member}
+use Rattle.sig_core.specs.declared.member.TxId.{TxId}
+use Rattle.sig_core.specs.declared.rows.PendingRecord.{PendingRecord}
+use Rattle.sig_core.specs.declared.signal.Body.{Body}
+use Rattle.sig_core.specs.declared.signal.Body.TheVariants.{Host, Client, Chain}
+use Rattle.sig_core.specs.declared.signal.chain.ChainSignal.TheVariants.{LqhKeyReq, Commit, Complete, Abort}
+use Rattle.sig_core.specs.declared.signal.client.ClientSignal.TheVariants.{LqhWaitReq, DumpReq, TcCommitAck}
+use Rattle.sig_core.specs.declared.signal.host.HostSignal.TheVariants.{Round, Continue}
+use Rattle.sig_core.specs.declared.signal.host.Work.TheVariants as work
+use Rattle.sig_core.specs.Rows.{record_state, state_by}
+use Rattle.sig_core.specs.Same.{same_key, same_tx}
+use Rattle.row_locks.specs.Rounds.{expired}
+use Rattle.row_locks.proofs.TxLemmas.{same_tx-is}
+use Rattle.lqh_block.proofs.IndexLemmas.{same}
+use Rattle.lqh_block.specs.Abort as abort
+use Rattle.lqh_block.specs.Commit as commit
+use Rattle.lqh_block.specs.Complete as complete
+use Rattle.lqh_block.specs.declared.request.Request.{Request}
+use Rattle.lqh_block.specs.Expire as expire
+use Rattle.lqh_block.specs.Lqh.{lqh_row}
+use Rattle.lqh_block.specs.Operate as operate
+use Rattle.lqh_block.specs.State.{LqhState, storage_of}
+use Rattle.world_core.specs.History.{is_applied}
+use Rattle.commit_laws.specs.Firsts.{first}
+use Rattle.commit_laws.specs.Records.{found}
+use Rattle.commit_laws.specs.Replica.{Event, aborts, asks, cell_at, commits, completes, event_at, expires, expires_if, if_on, is_refused, rests, serves, serves_if}
+use Rattle.commit_laws.proofs.Keys.{same_key-self, same_tx-self}
+use Rattle.serial_laws.proofs.RowMarks.{alone, alone_so, dump_none, expire_none, granted_none, never, request_none, state_found, wait_none}
+
+-- what is committed at the first place of its chain is marked as applied, if there is a record
+abbrev pub AppliesIf : Event → List PendingRecord → List Mark → Type 0
+AppliesIf (commits tx true) pending marks = is_some (found tx pending) ≡ true → list_any (is_applied tx) marks ≡ true
+AppliesIf event pending marks = Unit {0}
+
+-- such a mark comes from the commit of a record on some key
+pub record IsAppliedFrom (v : TxId) (s : LqhState) (body : Body) : Type 0 where
+  pub own : List ℕ
+  pub event : event_at own s body ≡ commits v true
+  pub there : is_some (found v (cell_at own s.rows).pending) ≡ true
+
+module _ (key : List ℕ) where
+  on_applies : (own : List ℕ) (event : Event) (pending : List PendingRecord) (marks : List Mark) → (same_key own key ≡ true → AppliesIf event pending marks) → AppliesIf (if_on own key event) pending marks
+  on_applies own event pending marks applies = by (same_key own key) refl
+    where
+      by : (b : Bool) → same_key own key ≡ b → AppliesIf (if b then event else rests) pending marks
+      by true e = applies e
+      by false e = tt
+
+  had_applies : (tx : TxId) (own : List ℕ) (o : Option PendingRecord) → is_some o ≡ true → list_any (is_applied tx) (commit.applied_marks tx own (state_by o)) ≡ true
+  had_applies tx own None is = absurd cc
+  had_applies tx own (Some r) is = alone_so (same_tx tx tx) (same_tx-self tx)
+
+  told_applies : (s t : LqhState) (tx : TxId) (own : List ℕ) (epoch : ℕ) (chain : List Member) (at : ℕ) (b : Bool) → same_key own key ≡ true
+      → AppliesIf (commits tx b) (cell_at key s.rows).pending (commit.told_if t tx own epoch chain at (record_state s.rows tx own) b).effects.marks
+  told_applies s t tx own epoch chain at true e = λ is.
+      ap (λ o. list_any (is_applied tx) (commit.applied_marks tx own o)) (state_found s.rows tx own)
+      ∙ had_applies tx own (found tx (cell_at own s.rows).pending) (ap (λ k. is_some (found tx (cell_at k s.rows).pending)) (same own key e) ∙ is)
+  told_applies s t tx own epoch chain at false e = tt
+
+  commit_applies : (s : LqhState) (tx : TxId) (own : List ℕ) (epoch : ℕ) (chain : List Member) (at : ℕ)
+      → AppliesIf (if_on own key (commits tx (at == 0))) (cell_at key s.rows).pending (commit.commit_row s tx own epoch chain at).effects.marks
+  unfolding commit.commit_row
+  commit_applies s tx own epoch chain at =
+      on_applies own (commits tx (at == 0)) (cell_at key s.rows).pending _ (told_applies s (commit.applied s tx own epoch (record_state s.rows tx own)) tx own epoch chain at (at == 0))
+
+  serves_applies : (s : LqhState) (o : Option Request) (pending : List PendingRecord) (marks : List Mark) → AppliesIf (serves_if key s o) pending marks
+  serves_applies s None pending marks = tt
+  serves_applies s (Some q) pending marks = on_applies _ (serves (is_refused (storage_of s) q)) pending marks (λ e. tt)
+
+  expires_applies : (o : Option (TxId × List ℕ)) (pending : List PendingRecord) (marks : List Mark) → AppliesIf (expires_if key o) pending marks
+  expires_applies None pending marks = tt
+  expires_applies (Some wait) pending marks = on_applies wait.1 (expires wait.0) pending marks (λ e. tt)
+
+  pub applies : (s : LqhState) (body : Body) → AppliesIf (event_at key s body) (cell_at key s.rows).pending (lqh_row s body).effects.marks
+  applies s (Chain (LqhKeyReq tx what chain at)) = on_applies _ (asks (record { tx = tx; work = what; chain = chain; at = at }) (is_refused (storage_of s) (record { tx = tx; work = what; chain = chain; at = at }))) (cell_at key s.rows).pending _ (λ e. tt)
+  applies s (Host (Continue work.Granted at)) = serves_applies s (first (operate.is_granted s.locks) s.waiting) _ _
+  applies s (Chain (Commit tx own epoch chain at)) = commit_applies s tx own epoch chain at
+  applies s (Chain (Complete tx own chain at)) = on_applies own (completes tx) (cell_at key s.rows).pending _ (λ e. tt)
+  applies s (Chain (Abort tx own)) = on_applies own (aborts tx) (cell_at key s.rows).pending _ (λ e. tt)
+  applies s (Client (TcCommitAck tx)) = tt
+  applies s (Client (LqhWaitReq tx own)) = tt
+  applies s (Client (DumpReq at)) = tt
+  applies s (Host Round) = tt
+  applies s (Host (Continue work.Expired at)) = expires_applies (expired s.locks) _ _
+  applies s _ = tt
+
+module _ (v : TxId) where
+  had_from : (tx : TxId) (own : List ℕ) (o : Option PendingRecord) → list_any (is_applied v) (commit.applied_marks tx own (state_by o)) ≡ true → (is_some o ≡ true) × (tx ≡ v)
+  had_from tx own None is = absurd cc
+  had_from tx own (Some r) is = (refl, same_tx-is tx v (alone (same_tx tx v) is))
+
+  told_from : (s t : LqhState) (tx : TxId) (own : List ℕ) (epoch : ℕ) (chain : List Member) (at : ℕ) (b : Bool) → (at == 0) ≡ b
+      → list_any (is_applied v) (commit.told_if t tx own epoch chain at (record_state s.rows tx own) b).effects.marks ≡ true → IsAppliedFrom v s (Chain (Commit tx own epoch chain at))
+  told_from s t tx own epoch chain at true first is =
+      let parts = had_from tx own (found tx (cell_at own s.rows).pending) (sym (ap (λ o. list_any (is_applied v) (commit.applied_marks tx own o)) (state_found s.rows tx own)) ∙ is) in
+      record {
+        own = own;
+        event = ap (λ b. if b then commits tx (at == 0) else rests) (same_key-self own) ∙ (λ i. commits (parts.1 i) (first i));
+        there = ap (λ t. is_some (found t (cell_at own s.rows).pending)) (sym parts.1) ∙ parts.0;
+      }
+  told_from s t tx own epoch chain at false first is = absurd cc
+
+  commit_from : (s : LqhState) (tx : TxId) (own : List ℕ) (epoch : ℕ) (chain : List Member) (at : ℕ) → list_any (is_applied v) (commit.commit_row s tx own epoch chain at).effects.marks ≡ true
+      → IsAppliedFrom v s (Chain (Commit tx own epoch chain at))
+  unfolding commit.commit_row
+  commit_from s tx own epoch chain at is = told_from s (commit.applied s tx own epoch (record_state s.rows tx own)) tx own epoch chain at (at == 0) refl is
+
+  complete_none : (s : LqhState) (tx : TxId) (own : List ℕ) (chain : List Member) (at : ℕ) → list_any (is_applied v) (complete.complete_row s tx own chain at).effects.marks ≡ false
+  unfolding complete.complete_row
+  complete_none s tx own chain at = refl
+
+  given_none : (tx : TxId) (own : List ℕ) (had : Option Bool) → list_any (is_applied v) (abort.given_up_marks tx own had) ≡ false
+  given_none tx own None = refl
+  given_none tx own (Some false) = refl
+  given_none tx own (Some true) = refl
+
+  abort_none : (s : LqhState) (tx : TxId) (own : List ℕ) → list_any (is_applied v) (abort.abort_row s tx own).effects.marks ≡ false
+  unfolding abort.abort_row
+  abort_none s tx own = given_none tx own _
+
+  pub applied_from : (s : LqhState) (body : Body) → list_any (is_applied v) (lqh_row s body).effects.marks ≡ true → IsAppliedFrom v s body
+  applied_from s (Chain (LqhKeyReq tx what chain at)) is = never (request_none (is_applied v) (λ tx key. refl) (λ tx key. refl) s (record { tx = tx; work = what; chain = chain; at = at })) is
+  applied_from s (Host (Continue work.Granted at)) is = never (granted_none (is_applied v) (λ tx key. refl) (λ tx key. refl) s) is
+  applied_from s (Chain (Commit tx own epoch chain at)) is = commit_from s tx own epoch chain at is
+  applied_from s (Chain (Complete tx own chain at)) is = never (complete_none s tx own chain at) is
+  applied_from s (Chain (Abort tx own)) is = never (abort_none s tx own) is
+  applied_from s (Client (TcCommitAck tx)) is = absurd cc
+  applied_from s (Client (LqhWaitReq tx own)) is = never (wait_none (is_applied v) (λ tx key. refl) (λ tx key. refl) s tx own) is
+  applied_from s (Client (DumpReq at)) is = never (dump_none (is_applied v) (λ tx key. refl) (λ tx key. refl) s at) is
+  applied_from s (Host Round) is = never (expire_none (is_applied v) (λ tx key. refl) (λ tx key. refl) (expire.aged s)) is
+  applied_from s (Host (Continue work.Expired at)) is = never (expire_none (is_applied v) (λ tx key. refl) (λ tx key. refl) s) is
+  applied_from s _ is = absurd cc

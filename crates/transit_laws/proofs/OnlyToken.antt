@@ -1,0 +1,135 @@
+-- Since the operations of a transaction are under way one at a time, a new part of one is the only one.
+use Rattle.std.proofs.Common.{◌≡◌, ◌≤◌, ◌+◌, ℕ, zero, suc, Bool, true, false, cond, filter, List, [], ◌∷◌, refl, ap, ◌∙◌, subst, arith}
+use Rattle.std.proofs.lemmas.Bool.Decides.{nat_tests}
+use Rattle.std.specs.Prelude.{if◌then◌else◌, nat_lt, is_some, Option, None, Some}
+use Rattle.run_theory.specs.Lists.{Each}
+use Rattle.sig_core.specs.declared.log.LogStep.{LogStep}
+use Rattle.sig_core.specs.declared.member.TxId.{TxId}
+use Rattle.sig_core.specs.declared.signal.Signal.{Signal}
+use Rattle.sig_core.specs.Same.{same_tx}
+use Rattle.lqh_block.specs.declared.request.Request.{Request}
+use Rattle.node_core.specs.declared.host.Host.{Host}
+use Rattle.node_core.specs.declared.host.Host.TheVariants.{Shell, Node}
+use Rattle.tc_block.specs.declared.phase.Phase.{Phase}
+use Rattle.tc_block.specs.declared.phase.Phase.TheVariants.{Open, Verifying, Committing, Completing, Aborting}
+use Rattle.tc_block.specs.declared.transaction.Transaction.{Transaction}
+use Rattle.world_core.specs.Machine.{after, hosts}
+use Rattle.world_core.specs.Start.{Start}
+use Rattle.commit_laws.specs.Replica.{asks_for, is_by}
+use Rattle.commit_laws.specs.ReplicaLaws.{key_in}
+use Rattle.commit_laws.specs.Ways.{is_aborting}
+use Rattle.commit_laws.proofs.Replicas.{nodes_begin}
+use Rattle.answer_laws.proofs.Tally.{one_if, tally}
+use Rattle.answer_laws.proofs.Totals.{total_at}
+use Rattle.transit_laws.specs.GivenUp.{is_given_up}
+use Rattle.transit_laws.specs.Live.{live_at}
+use Rattle.transit_laws.specs.Tokens.{budget, budget_by, budget_of, is_token, tokens_in, waiting_all, waiting_in}
+use Rattle.transit_laws.specs.Transit.{AreInTransit, IsRun, joined, logs_of}
+use Rattle.transit_laws.proofs.OneAtATime.{one_at_a_time}
+use Rattle.transit_laws.proofs.OthersStay.{waits_of}
+use Rattle.transit_laws.proofs.TcCircle.{is_early}
+use Rattle.transit_laws.proofs.TransitLists.{tally_joined}
+use Rattle.transit_laws.proofs.ViewOf.{view_of}
+
+none_counted : {A : Type 0} (p : A → Bool) (xs : List A) → tally p xs ≡ 0 → Each (λ x. p x ≡ false) xs
+none_counted p [] none = tt
+none_counted {A} p (x ∷ xs) none = by (p x) refl (none_counted p xs)
+  where
+    by : (b : Bool) → p x ≡ b → (tally p xs ≡ 0 → Each (λ x. p x ≡ false) xs) → Each (λ x. p x ≡ false) (x ∷ xs)
+    by true e more = absurd (omega (arith, none, ap one_if e))
+    by false e more = (e, more (omega (arith, none)))
+
+pub early_stays : (phase : Phase) → is_early phase ≡ true → is_aborting phase ≡ false
+early_stays Open is = refl
+early_stays Verifying is = refl
+early_stays (Committing epoch awaited) is = absurd cc
+early_stays (Completing epoch awaited) is = absurd cc
+early_stays (Aborting why verifying awaited) is = absurd cc
+
+module _ (tx : TxId) (key : List ℕ) where
+  filtered_none : (xs : List Request) → tally (λ (q : Request). same_tx q.tx tx) xs ≡ 0 → filter (is_by tx) (filter (asks_for key) xs) ≡ []
+  filtered_none [] none = refl
+  filtered_none (q ∷ xs) none = by (same_tx q.tx tx) refl (asks_for key q) (filtered_none xs)
+    where
+      by : (b : Bool) → same_tx q.tx tx ≡ b → (c : Bool) → (tally (λ (q : Request). same_tx q.tx tx) xs ≡ 0 → filter (is_by tx) (filter (asks_for key) xs) ≡ [])
+          → filter (is_by tx) (cond c (q ∷ filter (asks_for key) xs) (filter (asks_for key) xs)) ≡ []
+      by true e c more = absurd (omega (arith, none, ap one_if e))
+      by false e true more = ap (λ b. cond b (q ∷ filter (is_by tx) (filter (asks_for key) xs)) (filter (is_by tx) (filter (asks_for key) xs))) e ∙ more (omega (arith, none, ap one_if e))
+      by false e false more = more (omega (arith, none, ap one_if e))
+
+  host_none : (s : Host) → waiting_in tx s ≡ 0 → waits_of tx (key_in key s) ≡ []
+  host_none (Shell s) none = refl
+  host_none (Node n) none = filtered_none n.lqh.waiting none
+
+  module _ (start : Start) (es : List LogStep) (run : IsRun start es) where
+    none_wait : waiting_all start (logs_of start es) tx ≡ 0 → (h : ℕ) → (view_of start (logs_of start es) tx key).waits h ≡ []
+    none_wait none h = by (nat_lt h (hosts start)) refl
+      where
+        none_begun : (h : ℕ) → 1 ≤ h → waits_of tx (key_in key (after start h [])) ≡ []
+        none_begun zero some = absurd (omega (arith, some))
+        none_begun (suc h) some = ap (waits_of tx) (nodes_begin start h key)
+
+        by : (b : Bool) → nat_lt h (hosts start) ≡ b → waits_of tx (key_in key (after start h (logs_of start es h))) ≡ []
+        by true e =
+            let few : waiting_in tx (after start h (logs_of start es h)) ≤ waiting_all start (logs_of start es) tx =
+            total_at (hosts start) (λ h. waiting_in tx (after start h (logs_of start es h))) h (grind (arith, nat_tests, e)) in
+            host_none (after start h (logs_of start es h)) (omega (arith, few, none))
+        by false e =
+            let high : hosts start ≤ h = grind (arith, nat_tests, e) in
+            ap (λ log. waits_of tx (key_in key (after start h log))) (run.within h high) ∙ none_begun h (omega (arith, high))
+
+    module _ (xs : List Signal) (transit : AreInTransit start es xs) (t : Transaction) (live : live_at start (logs_of start es) tx ≡ Some t) (early : is_early t.phase ≡ true) where
+      allowed : budget start (logs_of start es) tx ≡ one_if (is_some t.asked)
+      allowed = ap (budget_by (is_given_up start (logs_of start es) tx)) live ∙ by (is_given_up start (logs_of start es) tx) ∙ ap (λ b. if b then 1 else one_if (is_some t.asked)) (early_stays t.phase early)
+        where
+          by : (b : Bool) → budget_by b (Some t) ≡ budget_of t
+          by true = refl
+          by false = refl
+
+      bound : tokens_in tx xs + waiting_all start (logs_of start es) tx ≤ one_if (is_some t.asked)
+      bound = subst (λ n. tokens_in tx xs + waiting_all start (logs_of start es) tx ≤ n) allowed (one_at_a_time start es xs tx run transit)
+
+      -- none where nothing is asked
+      pub record NoTokens : Type 0 where
+        pub signals : Each (λ (x : Signal). is_token tx x.body ≡ false) xs
+        pub waits : (h : ℕ) → (view_of start (logs_of start es) tx key).waits h ≡ []
+
+      pub none_asked : t.asked ≡ None → NoTokens
+      none_asked none =
+          let zero_is : one_if (is_some t.asked) ≡ 0 = ap (λ (o : Option _). one_if (is_some o)) none in
+          record {
+            signals = none_counted (λ (x : Signal). is_token tx x.body) xs (omega (arith, bound, zero_is));
+            waits = none_wait (omega (arith, bound, zero_is));
+          }
+
+      one_most : (b : Bool) → one_if b ≤ 1
+      one_most true = omega arith
+      one_most false = omega arith
+
+      -- no other one where one was sent
+      pub record IsOnly (new old : List Signal) : Type 0 where
+        pub signals : Each (λ (x : Signal). is_token tx x.body ≡ false) old
+        pub waits : (h : ℕ) → (view_of start (logs_of start es) tx key).waits h ≡ []
+
+      pub one_sent : (new old : List Signal) → xs ≡ joined new old → 1 ≤ tally (λ (x : Signal). is_token tx x.body) new → IsOnly new old
+      one_sent new old is some =
+          let all : tokens_in tx xs ≡ tally (λ (x : Signal). is_token tx x.body) new + tally (λ (x : Signal). is_token tx x.body) old =
+          ap (tokens_in tx) is ∙ tally_joined (λ (x : Signal). is_token tx x.body) new old in
+          record {
+            signals = none_counted (λ (x : Signal). is_token tx x.body) old (omega (arith, bound, one_most (is_some t.asked), all, some));
+            waits = none_wait (omega (arith, bound, one_most (is_some t.asked), all, some));
+          }
+
+    -- where it isn't live, and wasn't given up, there is none at all
+    pub record NoneAtAll (xs : List Signal) : Type 0 where
+      pub signals : Each (λ (x : Signal). is_token tx x.body ≡ false) xs
+      pub waits : (h : ℕ) → (view_of start (logs_of start es) tx key).waits h ≡ []
+
+    pub none_live : (xs : List Signal) → AreInTransit start es xs → live_at start (logs_of start es) tx ≡ None → is_given_up start (logs_of start es) tx ≡ false → NoneAtAll xs
+    none_live xs transit none kept =
+        let zero_is : budget start (logs_of start es) tx ≡ 0 = λ i. budget_by (kept i) (none i) in
+        let bound : tokens_in tx xs + waiting_all start (logs_of start es) tx ≤ 0 = subst (λ n. tokens_in tx xs + waiting_all start (logs_of start es) tx ≤ n) zero_is (one_at_a_time start es xs tx run transit) in
+        record {
+          signals = none_counted (λ (x : Signal). is_token tx x.body) xs (omega (arith, bound));
+          waits = none_wait (omega (arith, bound));
+        }

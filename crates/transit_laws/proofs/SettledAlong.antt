@@ -1,0 +1,83 @@
+-- Where a transaction is settled for a key that it touched, each record of it on the key is along its chain, and the primary has
+-- one prepared.
+use Rattle.std.proofs.Common.{◌≡◌, ◌⊎◌, ◌≤◌, ◌<◌, ℕ, zero, suc, true, length, List, [], ◌∷◌, refl, sym, ap, ◌∙◌, subst, arith, inl, inr}
+use Rattle.std.specs.Prelude.{if◌then◌else◌, is_some, Option, None, Some}
+use Rattle.std.proofs.lemmas.Bool.{cases_lt}
+use Rattle.sig_core.specs.declared.log.LogStep.{LogStep}
+use Rattle.sig_core.specs.declared.member.TxId.{TxId}
+use Rattle.sig_core.specs.declared.op.Answer.{Answer}
+use Rattle.sig_core.specs.declared.op.Op.{Op}
+use Rattle.sig_core.specs.declared.rows.PendingRecord.{PendingRecord}
+use Rattle.sig_core.specs.Chain.{last_place, primary_of}
+use Rattle.tc_block.specs.declared.touched.Touched.{Touched}
+use Rattle.world_core.specs.Machine.{after}
+use Rattle.world_core.specs.Start.{Start}
+use Rattle.commit_laws.specs.Primary.{HasPrepared}
+use Rattle.commit_laws.specs.Records.{found}
+use Rattle.commit_laws.specs.Replica.{Replica, key_after}
+use Rattle.commit_laws.specs.ReplicaLaws.{event_in, key_in}
+use Rattle.commit_laws.proofs.Replicas.{logs_follow}
+use Rattle.transit_laws.specs.Circle.{Agree, IsReplica, IsSettledFor, at_host, at_primary, primary_along}
+use Rattle.transit_laws.specs.Keyed.{IsWrittenRightly}
+use Rattle.transit_laws.specs.Routes.{IsTouchedRouted, primary, replicas}
+use Rattle.transit_laws.proofs.CarriedOut.{IsAlong, IsUpTo}
+use Rattle.transit_laws.proofs.RecordsFade.{HasRecord}
+use Rattle.transit_laws.proofs.RoutesChain.{replica_at}
+
+-- the key at its primary is the key at the host of the primary
+along_is : (start : Start) (h : ℕ) (key : List ℕ) (log : List LogStep) → (primary_along start h key log).replica ≡ key_in key (after start h log)
+along_is start h key [] = refl
+along_is start h key (e ∷ log) = ap (key_after (event_in key (after start h log) e.taken.to e.taken.body)) (along_is start h key log) ∙ sym (logs_follow start h log e key)
+
+-- whether a host is a replica
+is_replica : (start : Start) (key : List ℕ) (h : ℕ) → IsReplica start key h ⊎ (IsReplica start key h → ⊥)
+is_replica start key zero = inr (λ r. omega (arith, r.node_is, replica_at start key r.at r.inside))
+is_replica start key (suc h) = by (cases_lt h (length (replicas start key)))
+  where
+    by : (h < length (replicas start key)) ⊎ (length (replicas start key) ≤ h) → IsReplica start key (suc h) ⊎ (IsReplica start key (suc h) → ⊥)
+    by (inl low) = inl (record { at = h; inside = low; node_is = omega (arith, replica_at start key h low) })
+    by (inr high) = inr (λ r. omega (arith, high, r.inside, r.node_is, replica_at start key r.at r.inside))
+
+module _ (start : Start) (logs : ℕ → List LogStep) (tx : TxId) (ops : List (Op × Answer)) (u : Touched) (settled : IsSettledFor start logs tx ops u.key) where
+  abbrev here : Option PendingRecord
+  here = found tx (at_primary start logs u.key).replica.cell.pending
+
+  same_here : here ≡ found tx (at_host start logs u.key (primary start u.key)).cell.pending
+  same_here = ap (λ (r : Replica). found tx r.cell.pending) (along_is start (primary start u.key) u.key (logs (primary start u.key)))
+
+  -- a host that has a record is a replica
+  has_place : (h : ℕ) → HasRecord tx (at_host start logs u.key h).cell.pending → IsReplica start u.key h
+  has_place h has = by (is_replica start u.key h)
+    where
+      by : IsReplica start u.key h ⊎ (IsReplica start u.key h → ⊥) → IsReplica start u.key h
+      by (inl r) = r
+      by (inr off) = absurd (let both : None ≡ Some has.record_is = sym (settled.others h off) ∙ has.there in cc)
+
+  -- and then the primary has one prepared
+  primary_has : (h : ℕ) → HasRecord tx (at_host start logs u.key h).cell.pending → HasPrepared tx (at_host start logs u.key (primary start u.key)).cell.pending
+  primary_has h has = by here refl (subst (Agree here) has.there (settled.agreed h (has_place h has)))
+    where
+      by : (o : Option PendingRecord) → here ≡ o → Agree o (Some has.record_is) → HasPrepared tx (at_host start logs u.key (primary start u.key)).cell.pending
+      by None is agree = absurd agree
+      by (Some a) is agree = record { record_is = a; there = sym same_here ∙ is; prepared = agree.1.0 }
+
+  is_along : IsTouchedRouted start u → IsWrittenRightly ops u → IsAlong start logs tx u
+  is_along routed right = record { spread = record { within = λ h p. within h (record { record_is = p.record_is; there = p.there }) }; marked = record { marked = λ h has. inl (primary_has h has) } }
+    where
+      along_all : (h : ℕ) → IsReplica start u.key h → u.chain ≡ replicas start u.key → IsUpTo u.chain (last_place u.chain) h
+      along_all h r all = subst (λ c. IsUpTo c (last_place c) h) (sym all) (record { place = r.at; low = omega (arith, r.inside); is = r.node_is })
+
+      -- a record is of a write
+      was_written : (h : ℕ) → HasRecord tx (at_host start logs u.key h).cell.pending → u.written ≡ true
+      was_written h has =
+          let p = primary_has h has in
+          let some : is_some here ≡ true = ap is_some (same_here ∙ p.there) in
+          right ∙ (sym settled.written ∙ some)
+
+      within : (h : ℕ) → HasRecord tx (at_host start logs u.key h).cell.pending → IsUpTo u.chain (last_place u.chain) h
+      within h has =
+          along_all h (has_place h has) (routed ∙ ap (λ b. if b then replicas start u.key else primary_of (replicas start u.key)) (was_written h has))
+
+pub settled_along : (start : Start) (logs : ℕ → List LogStep) (tx : TxId) (ops : List (Op × Answer)) (u : Touched) → IsSettledFor start logs tx ops u.key → IsTouchedRouted start u → IsWrittenRightly ops u
+    → IsAlong start logs tx u
+settled_along start logs tx ops u settled routed right = is_along start logs tx ops u settled routed right

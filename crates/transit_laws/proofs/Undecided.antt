@@ -1,0 +1,113 @@
+-- Of a transaction that is decided, and isn't given up, nothing is under way.
+use Rattle.std.proofs.Common.{◌≡◌, ℕ, Bool, true, false, List, refl, ap, arith}
+use Rattle.std.specs.List.{list_any}
+use Rattle.std.specs.Prelude.{Option, None, Some}
+use Rattle.run_theory.specs.Lists.{Each}
+use Rattle.sig_core.specs.declared.log.LogStep.{LogStep}
+use Rattle.sig_core.specs.declared.member.TxId.{TxId}
+use Rattle.sig_core.specs.Same.{same_tx}
+use Rattle.tc_block.specs.declared.phase.Phase.{Phase}
+use Rattle.tc_block.specs.declared.phase.Phase.TheVariants.{Open, Verifying, Committing, Completing, Aborting}
+use Rattle.tc_block.specs.declared.transaction.Transaction.{Transaction}
+use Rattle.node_core.specs.declared.host.Host as host
+use Rattle.node_core.specs.declared.host.Host.TheVariants.{Shell, Node}
+use Rattle.world_core.specs.Machine.{after}
+use Rattle.world_core.specs.Start.{Start}
+use Rattle.commit_laws.specs.Phases as phases
+use Rattle.commit_laws.specs.Ways.{back_by, forth_by, is_aborting, sent_ways}
+use Rattle.commit_laws.proofs.Causal.{sent_kinds}
+use Rattle.commit_laws.proofs.HostGoes.{HostKnows}
+use Rattle.commit_laws.proofs.OneWay.{forth_decided, not_apart}
+use Rattle.commit_laws.proofs.TcNumbers.{IsLive, begun_by, verified_by}
+use Rattle.commit_laws.proofs.TcWays.{not_both}
+use Rattle.answer_laws.proofs.TcOps.{may_ask}
+use Rattle.transit_laws.specs.Live.{live_at, of_host, of_live}
+use Rattle.transit_laws.specs.Tokens.{budget_by}
+use Rattle.transit_laws.specs.Transit.{logs_of}
+use Rattle.transit_laws.specs.Undecided.{CarriedOutHaveNone, DecidedHaveNone}
+use Rattle.transit_laws.proofs.GivenUp.{none_is_both}
+use Rattle.transit_laws.proofs.OfLive.{each_found}
+use Rattle.transit_laws.proofs.OneAtATime.{one_at_a_time}
+use Rattle.transit_laws.proofs.TcSound.{IsSoundHost, log_sound}
+use Rattle.transit_laws.proofs.TcTokens.{IsOwned}
+use Rattle.transit_laws.proofs.TcTurns.{idle}
+use Rattle.transit_laws.proofs.Decided.{run_is_causal}
+use Rattle.transit_laws.proofs.Verified.{decided_asked}
+
+-- one that is neither open nor aborted has no operation unanswered
+not_asking : (phase : Phase) → phases.is_open phase ≡ false → is_aborting phase ≡ false → may_ask phase ≡ false
+not_asking Open off other = absurd cc
+not_asking Verifying off other = refl
+not_asking (Committing epoch awaited) off other = refl
+not_asking (Completing epoch awaited) off other = refl
+not_asking (Aborting why verifying awaited) off other = absurd cc
+
+decided_not_asking : (phase : Phase) → phases.is_decided phase ≡ true → may_ask phase ≡ false
+decided_not_asking Open is = absurd cc
+decided_not_asking Verifying is = absurd cc
+decided_not_asking (Committing epoch awaited) is = refl
+decided_not_asking (Completing epoch awaited) is = refl
+decided_not_asking (Aborting why verifying awaited) is = absurd cc
+
+-- at a host that has asked for its epoch, and hasn't given it up, there may be none of it
+module _ (tx : TxId) (h : ℕ) (T D : TxId → Type 0) (begun bs vs : List TxId) where
+  asked_by : (live : List (TxId × Transaction)) (node next at : ℕ) → Each (IsOwned node next bs) live → Each (IsLive h at D vs) live → list_any (same_tx tx) vs ≡ true → list_any (same_tx tx) bs ≡ false
+      → budget_by false (of_live tx live) ≡ 0
+  asked_by live node next at owned all asked off = by (of_live tx live) refl
+    where
+      shut : (t : Transaction) → IsLive h at D vs (tx, t) → (b : Bool) → phases.is_open t.phase ≡ b → b ≡ false
+      shut t is false e = refl
+      shut t is true e = absurd (not_apart tx vs asked (is.unverified e))
+
+      kept : (t : Transaction) → IsOwned node next bs (tx, t) → (b : Bool) → is_aborting t.phase ≡ b → b ≡ false
+      kept t is false e = refl
+      kept t is true e = not_both (list_any (same_tx tx) bs) (is.given e) off
+
+      by : (o : Option Transaction) → of_live tx live ≡ o → budget_by false o ≡ 0
+      by None e = refl
+      by (Some t) e =
+          let own = each_found (IsOwned node next bs) live tx t owned e in
+          let is = each_found (IsLive h at D vs) live tx t all e in
+          idle t.phase t.asked own.right (not_asking t.phase (shut t is (phases.is_open t.phase) refl) (kept t own (is_aborting t.phase) refl))
+
+  none_by : (g : host.Host) → IsSoundHost g bs → HostKnows h T D g begun vs → list_any (same_tx tx) vs ≡ true → list_any (same_tx tx) bs ≡ false → budget_by false (of_host tx g) ≡ 0
+  none_by (Shell s) sound knows asked off = refl
+  none_by (Node n) sound knows asked off = asked_by n.tc.live n.tc.node n.tc.next_seq n.tc.next_seq sound.0.live knows.live asked off
+
+pub decided_have_none : DecidedHaveNone
+decided_have_none start es xs tx run transit decided kept =
+    omega (
+      arith,
+      one_at_a_time start es xs tx run transit,
+      ap (λ b. budget_by b (live_at start logs tx)) kept,
+      none_by tx tx.tc _ _ (sent_kinds start begun_by tx.tc (logs tx.tc)) (sent_ways start back_by tx.tc (logs tx.tc)) (sent_kinds start verified_by tx.tc (logs tx.tc)) (after start tx.tc (logs tx.tc))
+          (log_sound start tx.tc (logs tx.tc)) ((run_is_causal start es run).knows tx.tc) (decided_asked start es run tx decided) kept,
+    )
+  where
+    logs : ℕ → List LogStep
+    logs = logs_of start es
+
+-- one that is carried out
+carried_by : (start : Start) (log : List LogStep) (tx : TxId) (g : host.Host) → after start tx.tc log ≡ g → IsSoundHost g (sent_ways start back_by tx.tc log)
+    → list_any (same_tx tx) (sent_ways start forth_by tx.tc log) ≡ true → budget_by false (of_host tx g) ≡ 0
+carried_by start log tx (Shell s) is sound carried = refl
+carried_by start log tx (Node n) is sound carried = by (of_live tx n.tc.live) refl
+  where
+    by : (o : Option Transaction) → of_live tx n.tc.live ≡ o → budget_by false o ≡ 0
+    by None e = refl
+    by (Some t) e =
+        let own = each_found (IsOwned n.tc.node n.tc.next_seq (sent_ways start back_by tx.tc log)) n.tc.live tx t sound.0.live e in
+        let known = each_found (λ (x : TxId × Transaction). list_any (same_tx x.0) (sent_ways start forth_by tx.tc log) ≡ true → phases.is_decided x.1.phase ≡ true) n.tc.live tx t (forth_decided start tx.tc log n is) e in
+        idle t.phase t.asked own.right (decided_not_asking t.phase (known carried))
+
+pub carried_out_have_none : CarriedOutHaveNone
+carried_out_have_none start es xs tx run transit carried =
+    omega (
+      arith,
+      one_at_a_time start es xs tx run transit,
+      ap (λ b. budget_by b (live_at start logs tx)) (none_is_both start logs tx carried),
+      carried_by start (logs tx.tc) tx (after start tx.tc (logs tx.tc)) refl (log_sound start tx.tc (logs tx.tc)) carried,
+    )
+  where
+    logs : ℕ → List LogStep
+    logs = logs_of start es
