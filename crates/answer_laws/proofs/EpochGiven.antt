@@ -30,8 +30,7 @@ use Rattle.answer_laws.proofs.EpochCounts.{AreFew, SendsFew, counted_of, counts_
 use Rattle.answer_laws.proofs.EpochFlow.{dih_counts, dih_few, dih_gives, dih_plain, dih_stays, is_conf, is_epoch, is_req, lqh_confless, lqh_plain, no_conf, plain_none, req_body, shell_epochs, tc_confless, tc_epochs}
 use Rattle.answer_laws.proofs.EpochLives.{AreCounted, step_counts}
 use Rattle.answer_laws.proofs.Hosts.{shell_after, shell_sends}
-use Rattle.answer_laws.proofs.LinkCounts.{sent_signals, signals, taken_signals}
-use Rattle.answer_laws.proofs.Lives.{all_three}
+use Rattle.answer_laws.proofs.LinkCounts.{all_three, sent_signals, signals, taken_signals}
 use Rattle.answer_laws.proofs.LqhSends.{lqh_kinds}
 use Rattle.answer_laws.proofs.Ops.{same_node}
 use Rattle.answer_laws.proofs.SendKinds.{are_of, is_dih_kind, is_lqh_kind, of_kind}

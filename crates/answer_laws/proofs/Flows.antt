@@ -14,8 +14,7 @@ use Rattle.world_core.specs.Machine.{machine, step_after}
 use Rattle.world_core.specs.Start.{Start}
 use Rattle.answer_laws.proofs.Ahead.{Goes, few_taken}
 use Rattle.answer_laws.proofs.Begins.{given_past}
-use Rattle.answer_laws.proofs.LinkCounts.{signals, taken_signals}
-use Rattle.answer_laws.proofs.Lives.{all_three}
+use Rattle.answer_laws.proofs.LinkCounts.{all_three, signals, taken_signals}
 use Rattle.answer_laws.proofs.LqhOps.{right_of, true_and}
 use Rattle.answer_laws.proofs.Tally.{one_if, tally_past}
 use Rattle.answer_laws.proofs.Totals.{Grown, sent_all, sent_few, taken_all, taken_exact, total_at, total_le, total_less}
