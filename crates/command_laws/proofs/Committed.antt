@@ -19,10 +19,11 @@ use Rattle.node_core.specs.Requests.{is_request}
 use Rattle.node_core.specs.Row.{row}
 use Rattle.world_core.specs.Machine.{after, step_after}
 use Rattle.world_core.specs.Start.{Start}
+use Rattle.answer_laws.proofs.Answers.{each_answered}
 use Rattle.answer_laws.proofs.ApiBegins.{in_middle}
 use Rattle.answer_laws.proofs.Begins.{no_begin}
 use Rattle.answer_laws.proofs.Wishes.{is_tc, sends_of}
-use Rattle.answer_laws.specs.Answered.{AreQuiet, EachIsAnswered, IsOpenAt, is_answered_by, opened_after, opened_in}
+use Rattle.answer_laws.specs.Answered.{AreQuiet, IsOpenAt, is_answered_by, opened_after, opened_in}
 use Rattle.command_laws.proofs.CommitFirst.{IsAsked, commit_first}
 use Rattle.command_laws.proofs.EntryGoes.{HasEnded, commit_goes}
 use Rattle.command_laws.proofs.Entries.{HasOne, IsNamed, NoneBegins, named_found}
@@ -60,7 +61,7 @@ sent_append start test h [] ys log = omega arith
 sent_append start test h (e ∷ xs) ys log =
     omega (arith, sent_append start test h xs ys log, ap (λ l. sends_of test (step_after start h l e).effects.sends) (append_assoc xs ys log))
 
-module _ (answered : EachIsAnswered) (start : Start) (was now : ℕ → List LogStep) (name : ℕ) (t : OpenTransaction) (tx : TxId) (served : IsServed start was now (Commit name))
+module _ (start : Start) (was now : ℕ → List LogStep) (name : ℕ) (t : OpenTransaction) (tx : TxId) (served : IsServed start was now (Commit name))
     (named : named_in (opened_after start was) name ≡ Some t) (ready : t.doing ≡ Ready) (own : t.tx ≡ Some tx) where
   f : IsFirst start was now (Commit name)
   f = request_first start was now (Commit name) served
@@ -74,7 +75,7 @@ module _ (answered : EachIsAnswered) (start : Start) (was now : ℕ → List Log
       (subst (λ body. IsAsked tx name (row (after start 0 (was 0)) client body)) (sym f.body) (commit_first (after start 0 (was 0)) name t tx named ready own (calm_at start was served.before)))
 
   is_open : IsOpenAt tx (after start tx.tc (was tx.tc))
-  is_open = by t.doing t.tx ready own (answered start was t served.before there)
+  is_open = by t.doing t.tx ready own (each_answered start was t served.before there)
     where
       n : IsNamed (opened_after start was) name t
       n = named_found (opened_after start was) name t named
@@ -111,7 +112,7 @@ module _ (answered : EachIsAnswered) (start : Start) (was now : ℕ → List Log
   still_committing : HasOne tx (Some name) Committing (opened_after start now) → ⊥
   still_committing has =
       subst (λ d. is_answered_by start now d has.item.tx → ⊥) (sym has.does) (λ none. by has.item.tx none)
-      (answered start now has.item served.since has.inside)
+      (each_answered start now has.item served.since has.inside)
     where
       by : (o : Option TxId) → is_answered_by start now Committing o → ⊥
       by (Some one) none = none
@@ -132,6 +133,6 @@ module _ (answered : EachIsAnswered) (start : Start) (was now : ℕ → List Log
       by (inl has) = absurd (still_committing (subst (λ log. HasOne tx (Some name) Committing (opened_in (after start 0 log))) (sym f.is) has))
       by (inr ended) = report ended
 
--- commits are committed, where each command is answered
-pub commits_committed : EachIsAnswered → CommitsAreCommitted
-commits_committed answered start was now name t tx served named ready own = committed_told answered start was now name t tx served named ready own
+-- commits are committed
+pub commits_committed : CommitsAreCommitted
+commits_committed start was now name t tx served named ready own = committed_told start was now name t tx served named ready own

@@ -41,7 +41,7 @@ use Rattle.command_laws.proofs.Since.{front_nil, sent_since}
 use Rattle.command_laws.proofs.SinceKinds.{SinceAre}
 use Rattle.command_laws.proofs.WaitKinds.{is_telling_who, is_wait, tells_who}
 use Rattle.command_laws.proofs.WaitSources.{FoundAt, SentBy, came_from, finds_who, is_finding_who, no_find_api, no_tell_api, node_found, node_told, sent_by, shell_none}
-use Rattle.command_laws.specs.Holders.{AbortsAskAtQuiet, HoldersHold, IsBehind, IsBehindAt, IsToldTruly}
+use Rattle.command_laws.specs.Holders.{HoldersHold, IsBehind, IsBehindAt, IsToldTruly}
 use Rattle.command_laws.specs.Served.{IsServed, own_in}
 
 -- the first other holder holds the lock
@@ -207,22 +207,22 @@ module _ (start : Start) (was mid : ℕ → List LogStep) (tx who : TxId) (serve
           let sender = sent_here (is_telling_who tx who) k n.state n.is (sent_by start (is_telling_who tx who) (suc k) (s.newer (suc k)) (was (suc k)) (sent_at (suc k) at)) in
           found_there k sender.step sender.inside (node_told tx who n.state sender.step.taken.to.block sender.step.taken.body sender.waits_kind sender.sends)
 
-module _ (answered : EachIsAnswered) (aborts : AbortsAskAtQuiet) (start : Start) (was mid now : ℕ → List LogStep) (t : OpenTransaction) (first : IsServed start was mid Waits) (second : IsServed start mid now Pending)
+module _ (start : Start) (was mid now : ℕ → List LogStep) (t : OpenTransaction) (first : IsServed start was mid Waits) (second : IsServed start mid now Pending)
     (own_is : own_in (after start 0 (was 0)) ≡ Some t) (waiting : is_unanswered t.doing ≡ true) where
   abbrev who : TxId
-  who = (known_who answered aborts start was mid now t first second own_is waiting).who
+  who = (known_who start was mid now t first second own_is waiting).who
 
   abbrev its : TxId
-  its = (held answered aborts start was mid now t first second own_is waiting).tx
+  its = (held start was mid now t first second own_is waiting).tx
 
   abbrev steps_since : SinceAre start was mid Waits (is_wait its)
-  steps_since = since answered aborts start was mid now t first second own_is waiting
+  steps_since = since start was mid now t first second own_is waiting
 
   -- the step that told it
   telling : Came (is_telling_who its who) (steps_since.newer 0)
   telling =
       came (is_telling_who its who) (steps_since.newer 0)
-      ((stood answered aborts start was mid now t first second own_is waiting).from who (known_who answered aborts start was mid now t first second own_is waiting).is)
+      ((stood start was mid now t first second own_is waiting).from who (known_who start was mid now t first second own_is waiting).is)
 
   inside : IsIn telling.step (steps_since.newer 0 ++ steps_since.first ∷ [])
   inside =
@@ -232,14 +232,14 @@ module _ (answered : EachIsAnswered) (aborts : AbortsAskAtQuiet) (start : Start)
   told_truly : IsToldTruly start mid now t.name its
   told_truly =
       let there = behind_there start was mid its who first steps_since telling.step inside telling.passes in
-      record { ahead = who; node = there.node; low = there.low; key = there.key; behind = there.behind; told = reply_told answered aborts start was mid now t first second own_is waiting }
+      record { ahead = who; node = there.node; low = there.low; key = there.key; behind = there.behind; told = reply_told start was mid now t first second own_is waiting }
 
   pub truly : (tx : TxId) → t.tx ≡ Some tx → IsToldTruly start mid now t.name tx
   truly tx is =
-      let both : Some its ≡ Some tx = sym (held answered aborts start was mid now t first second own_is waiting).is ∙ is in
+      let both : Some its ≡ Some tx = sym (held start was mid now t first second own_is waiting).is ∙ is in
       let which : its ≡ tx = cc in
       subst (IsToldTruly start mid now t.name) which told_truly
 
 -- who is told to hold it does
-pub holders_hold : EachIsAnswered → AbortsAskAtQuiet → HoldersHold
-holders_hold answered aborts start was mid now t tx first second own_is waiting is = truly answered aborts start was mid now t first second own_is waiting tx is
+pub holders_hold : HoldersHold
+holders_hold start was mid now t tx first second own_is waiting is = truly start was mid now t first second own_is waiting tx is

@@ -47,7 +47,7 @@ use Rattle.command_laws.proofs.WaitKinds.{is_telling, is_telling_who, is_wait, n
 use Rattle.command_laws.proofs.WaitsAtQuiet.{WaitsHeld, waits_held}
 use Rattle.command_laws.proofs.WaitSends.{asks_on, finds_on, is_asking, is_finding, is_seeking}
 use Rattle.command_laws.proofs.WaitSends as rows
-use Rattle.command_laws.specs.Holders.{AbortsAskAtQuiet, name_in}
+use Rattle.command_laws.specs.Holders.{name_in}
 use Rattle.command_laws.specs.Served.{HoldersAreTold, IsServed, IsToldHolder, own_in, replies_since}
 
 -- the rows of a node's host are those of the node
@@ -101,7 +101,7 @@ module _ (start : Start) (tx : TxId) where
 at_first : (start : Start) (log : List LogStep) (e : LogStep) (body : Body) → e.taken.to ≡ client → e.taken.body ≡ body → step_after start 0 log e ≡ row (after start 0 log) client body
 at_first start log e body place about = ap (λ (to : Place). row (after start 0 log) to e.taken.body) place ∙ ap (row (after start 0 log) client) about
 
-module _ (answered : EachIsAnswered) (aborts : AbortsAskAtQuiet) (start : Start) (was mid now : ℕ → List LogStep) (t : OpenTransaction) (first : IsServed start was mid Waits) (second : IsServed start mid now Pending)
+module _ (start : Start) (was mid now : ℕ → List LogStep) (t : OpenTransaction) (first : IsServed start was mid Waits) (second : IsServed start mid now Pending)
     (own_is : own_in (after start 0 (was 0)) ≡ Some t) (waits : is_unanswered t.doing ≡ true) where
   pub own : HasOwn t (after start 0 (was 0))
   own = own_found (after start 0 (was 0)) t own_is
@@ -113,7 +113,7 @@ module _ (answered : EachIsAnswered) (aborts : AbortsAskAtQuiet) (start : Start)
   inside = subst (IsIn t) (sym opened_is) (in_middle own.front t own.back)
 
   pub held : WaitsHeld start was t
-  held = waits_held answered aborts start was t first.before inside waits
+  held = waits_held start was t first.before inside waits
 
   abbrev tx : TxId
   tx = held.tx
@@ -265,5 +265,5 @@ module _ (answered : EachIsAnswered) (aborts : AbortsAskAtQuiet) (start : Start)
   holder_told = record { holder = name_in (opened_after start mid) known_who.who; told = reply_told }
 
 -- what the shell is told of its last command, where that waits
-pub holders_are_told : EachIsAnswered → AbortsAskAtQuiet → HoldersAreTold
-holders_are_told answered aborts start was mid now t first second own_is waits = holder_told answered aborts start was mid now t first second own_is waits
+pub holders_are_told : HoldersAreTold
+holders_are_told start was mid now t first second own_is waits = holder_told start was mid now t first second own_is waits

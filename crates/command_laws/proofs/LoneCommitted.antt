@@ -32,6 +32,7 @@ use Rattle.tc_block.specs.declared.transaction.Transaction.{Transaction}
 use Rattle.world_core.proofs.Replies.{replies_grow}
 use Rattle.world_core.specs.Machine.{after, hosts, machine, step_after}
 use Rattle.world_core.specs.Start.{Start}
+use Rattle.answer_laws.proofs.Answers.{each_answered}
 use Rattle.answer_laws.proofs.ApiBegins.{in_middle}
 use Rattle.answer_laws.proofs.LinkCounts.{all_three, signals, steps, taken_steps}
 use Rattle.answer_laws.proofs.Lives.{NodeKeeps, keeps, once_started}
@@ -40,7 +41,7 @@ use Rattle.answer_laws.proofs.TcKeys.{answer_of, is_asked, is_key, key_of_tx}
 use Rattle.answer_laws.proofs.TcLives.{is_keyed, is_start}
 use Rattle.answer_laws.proofs.TcSends.{same_tx-self}
 use Rattle.answer_laws.proofs.Wishes.{is_api, is_tc}
-use Rattle.answer_laws.specs.Answered.{EachIsAnswered, is_answered_by, opened_after, opened_in}
+use Rattle.answer_laws.specs.Answered.{is_answered_by, opened_after, opened_in}
 use Rattle.command_laws.proofs.EntryGoes.{HasEnded, commit_goes}
 use Rattle.command_laws.proofs.Committed.{cut_at_first, sent_append}
 use Rattle.command_laws.proofs.Entries.{HasOne}
@@ -245,7 +246,7 @@ module _ (start : Start) (was now : ℕ → List LogStep) (op : Op) (served : Is
             (first no_tx).lone,
           ))
 
-  module _ (answered : EachIsAnswered) (l : HasLone start f.later (f.first ∷ was 0)) where
+  module _ (l : HasLone start f.later (f.first ∷ was 0)) where
     now_is : now 0 ≡ l.newer ++ l.step ∷ (l.older ++ f.first ∷ was 0)
     now_is = f.is ∙ ap (λ w. w ++ f.first ∷ was 0) l.is ∙ append_assoc l.newer (l.step ∷ l.older) (f.first ∷ was 0)
 
@@ -316,7 +317,7 @@ module _ (start : Start) (was now : ℕ → List LogStep) (op : Op) (served : Is
     still_committing : HasOne l.tx None Committing (opened_after start now) → ⊥
     still_committing has =
         subst (λ d. is_answered_by start now d has.item.tx → ⊥) (sym has.does) (λ none. by has.item.tx none)
-        (answered start now has.item served.since has.inside)
+        (each_answered start now has.item served.since has.inside)
       where
         by : (o : Option TxId) → is_answered_by start now Committing o → ⊥
         by (Some one) none = none
@@ -342,6 +343,6 @@ module _ (start : Start) (was now : ℕ → List LogStep) (op : Op) (served : Is
             let r = reported start was now served.since l.tx None l.newer (l.step ∷ (l.older ++ f.first ∷ was 0)) now_is past plain_newer none_newer ended in
             record { epoch = r.epoch; told = r.told }
 
--- so it is where each command is answered
-pub lone_committed : EachIsAnswered → LoneAreCommitted
-lone_committed each start was now op served answered = lone_told start was now op served each (answered_step start was now op served answered)
+-- so operations alone are committed
+pub lone_committed : LoneAreCommitted
+lone_committed start was now op served answered = lone_told start was now op served (answered_step start was now op served answered)

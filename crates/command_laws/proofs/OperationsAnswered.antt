@@ -32,6 +32,7 @@ use Rattle.node_core.specs.Row.{row}
 use Rattle.world_core.proofs.Stamped.{stamped}
 use Rattle.world_core.specs.Machine.{after, hosts, machine, step_after}
 use Rattle.world_core.specs.Start.{Start}
+use Rattle.answer_laws.proofs.Answers.{each_answered}
 use Rattle.answer_laws.proofs.ApiBegins.{in_middle, same_name-self}
 use Rattle.answer_laws.proofs.Focus.{where_found}
 use Rattle.answer_laws.proofs.Hosts.{node_after, shell_after}
@@ -39,7 +40,7 @@ use Rattle.answer_laws.proofs.Lives.{holds_at, once_started}
 use Rattle.answer_laws.proofs.Tally.{only_one, tally, tally_in}
 use Rattle.answer_laws.proofs.TcLives.{IsOwn}
 use Rattle.answer_laws.proofs.TcSends.{same_tx-self}
-use Rattle.answer_laws.specs.Answered.{EachIsAnswered, IsOpen, IsOpenAt, WaitsForLock, is_answered_by, opened_after, opened_in}
+use Rattle.answer_laws.specs.Answered.{IsOpen, IsOpenAt, WaitsForLock, is_answered_by, opened_after, opened_in}
 use Rattle.transit_laws.proofs.TcSound.{log_sound}
 use Rattle.transit_laws.specs.Live.{of_live}
 use Rattle.command_laws.proofs.ApiChanges.{outcome_in}
@@ -92,7 +93,7 @@ named_one opened name t few inside called =
     own : is_named (Some name) t ≡ true
     own = ap (λ n. same_name n (Some name)) called ∙ same_name-self (Some name)
 
-module _ (each : EachIsAnswered) (start : Start) (was now : ℕ → List LogStep) (name : ℕ) (op : Op) (t : OpenTransaction) (tx : TxId) (served : IsServed start was now (Operate (Some name) op))
+module _ (start : Start) (was now : ℕ → List LogStep) (name : ℕ) (op : Op) (t : OpenTransaction) (tx : TxId) (served : IsServed start was now (Operate (Some name) op))
     (named : named_in (opened_after start was) name ≡ Some t) (ready : t.doing ≡ Ready) (own : t.tx ≡ Some tx) (few : t.operations < 64) where
   f : IsFirst start was now (Operate (Some name) op)
   f = request_first start was now (Operate (Some name) op) served
@@ -107,7 +108,7 @@ module _ (each : EachIsAnswered) (start : Start) (was now : ℕ → List LogStep
   there = subst (λ x. IsIn x (opened_after start was)) n.item (subst (IsIn n.focus.item) (sym n.focus.is) (in_middle n.focus.front n.focus.item n.focus.back))
 
   is_open : IsOpenAt tx (after start tx.tc (was tx.tc))
-  is_open = by t.doing t.tx ready own (each start was t served.before there)
+  is_open = by t.doing t.tx ready own (each_answered start was t served.before there)
     where
       by : (doing : _) (o : Option TxId) → doing ≡ Ready → o ≡ Some tx → is_answered_by start was doing o → IsOpenAt tx (after start tx.tc (was tx.tc))
       by doing o is some all = subst (λ p. is_answered_by start was Ready p) some (subst (λ d. is_answered_by start was d o) is all)
@@ -186,7 +187,7 @@ module _ (each : EachIsAnswered) (start : Start) (was now : ℕ → List LogStep
   still_waits has =
       let s = shell_after start (now 0) in
       let once : tally (is_named (Some name)) (opened_after start now) ≤ 1 = subst (λ g. tally (is_named (Some name)) (opened_in g) ≤ 1) (sym s.is) (s.good.once name) in
-      waits has.item (named_one (opened_after start now) name has.item once has.inside has.called) has.does has.own (by has.item.doing has.item.tx has.does has.own (each start now has.item served.since has.inside))
+      waits has.item (named_one (opened_after start now) name has.item once has.inside has.called) has.does has.own (by has.item.doing has.item.tx has.does has.own (each_answered start now has.item served.since has.inside))
     where
       by : (doing : Doing) (o : Option TxId) → doing ≡ Operating → o ≡ Some tx → is_answered_by start now doing o → WaitsForLock start now tx
       by doing o is some all = subst (λ p. is_answered_by start now Operating p) some (subst (λ d. is_answered_by start now d o) is all)
@@ -223,6 +224,6 @@ module _ (each : EachIsAnswered) (start : Start) (was now : ℕ → List LogStep
       by (inr (inl ended)) = was_ended ended
       by (inr (inr done)) = was_answered done
 
--- operations are answered, where each command is
-pub operations_answered : EachIsAnswered → OperationsAreAnswered
-operations_answered each start was now name op t tx served named ready own few = settled each start was now name op t tx served named ready own few
+-- so it is of each operation that a transaction takes
+pub operations_answered : OperationsAreAnswered
+operations_answered start was now name op t tx served named ready own few = settled start was now name op t tx served named ready own few

@@ -25,6 +25,8 @@ use Rattle.lqh_block.specs.declared.request.Request.{Request}
 use Rattle.lqh_block.specs.Operate.{is_granted}
 use Rattle.lqh_block.specs.Work.{work_key}
 use Rattle.tc_block.specs.declared.phase.Asked.{Asked}
+use Rattle.tc_block.specs.declared.phase.Phase.{Phase}
+use Rattle.tc_block.specs.declared.phase.Phase.TheVariants as phases
 use Rattle.tc_block.specs.declared.transaction.Transaction.{Transaction}
 use Rattle.node_core.specs.declared.host.Host as host
 use Rattle.node_core.specs.declared.host.Host.TheVariants.{Shell, Node}
@@ -34,13 +36,15 @@ use Rattle.world_core.specs.Machine.{after, hosts, machine}
 use Rattle.world_core.specs.Start.{Start}
 use Rattle.commit_laws.specs.Ways.{is_aborting}
 use Rattle.commit_laws.proofs.LiveSplit.{KeysOnce, Live}
+use Rattle.answer_laws.proofs.Aborts.{no_abort}
+use Rattle.answer_laws.proofs.Answers.{each_answered}
 use Rattle.answer_laws.proofs.Commits.{live_low}
 use Rattle.answer_laws.proofs.Serves.{each_served}
 use Rattle.answer_laws.proofs.Tally.{one_if, only_one, tally_in}
 use Rattle.answer_laws.proofs.TcSends.{same_tx-self}
 use Rattle.answer_laws.proofs.Totals.{total, total_at, total_one}
 use Rattle.answer_laws.specs.Answered as answered
-use Rattle.answer_laws.specs.Answered.{AreQuiet, EachIsAnswered, IsLiveAs, IsQueued, IsQueuedAt, IsWaiting, IsWaitingAt, Waits, WaitsForLock, is_answered_by, opened_after}
+use Rattle.answer_laws.specs.Answered.{AreQuiet, IsLiveAs, IsQueued, IsQueuedAt, IsWaiting, IsWaitingAt, Waits, WaitsForLock, is_answered_by, opened_after}
 use Rattle.transit_laws.proofs.OneAtATime.{one_at_a_time}
 use Rattle.transit_laws.proofs.Routes.{signals_are_routed}
 use Rattle.transit_laws.proofs.TcSound.{IsSoundHost, log_sound}
@@ -50,7 +54,6 @@ use Rattle.transit_laws.specs.Live.{of_host, of_live}
 use Rattle.transit_laws.specs.Routes.{IsAskedRouted, IsHostRouted, IsRequestRouted, IsTransactionRouted, replicas}
 use Rattle.transit_laws.specs.Tokens.{budget, budget_by, budget_of, tokens, waiting_all, waiting_in}
 use Rattle.transit_laws.specs.Transit.{AreInTransit, IsRun}
-use Rattle.command_laws.specs.Holders.{AbortsAskAtQuiet}
 use Rattle.command_laws.specs.Served.{EachIsHeldUp, IsHeldUp, IsHeldUpAt}
 
 -- the one of the list that has the key
@@ -135,10 +138,26 @@ pub record WaitsHeld (start : Start) (logs : ℕ → List LogStep) (t : OpenTran
   pub ahead : TxId
   pub held : ahead_at rows.lqh.locks (key_of asked.op) tx ≡ Some ahead
 
-module _ (answered_all : EachIsAnswered) (aborts : AbortsAskAtQuiet) (start : Start) (logs : ℕ → List LogStep) (t : OpenTransaction) (quiet : AreQuiet start logs)
+same_aborting : (phase : Phase) → is_aborting phase ≡ answered.is_aborting phase
+same_aborting (phases.Aborting why verifying awaited) = refl
+same_aborting phases.Open = refl
+same_aborting phases.Verifying = refl
+same_aborting (phases.Committing epoch awaited) = refl
+same_aborting (phases.Completing epoch awaited) = refl
+
+-- a transaction that is aborted at quiet has an operation unanswered
+aborts_ask : (start : Start) (logs : ℕ → List LogStep) (node : ℕ) (tx : TxId) (u : Transaction) → AreQuiet start logs → node ≤ start.nodes → IsLiveAs tx u (after start node (logs node))
+    → is_aborting u.phase ≡ true → is_some u.asked ≡ true
+aborts_ask start logs node tx u quiet low live on = by u.asked refl
+  where
+    by : (o : Option Asked) → u.asked ≡ o → is_some u.asked ≡ true
+    by (Some asked) is = ap is_some is
+    by None is = absurd (let both : true ≡ false = sym on ∙ (same_aborting u.phase ∙ no_abort start logs node tx u quiet low live is) in cc)
+
+module _ (start : Start) (logs : ℕ → List LogStep) (t : OpenTransaction) (quiet : AreQuiet start logs)
     (inside : IsIn t (opened_after start logs)) (waits : is_unanswered t.doing ≡ true) where
   sent : IsSent start logs t
-  sent = by t.doing t.tx refl (answered_all start logs t quiet inside) waits
+  sent = by t.doing t.tx refl (each_answered start logs t quiet inside) waits
     where
       by : (d : Doing) (o : Option TxId) → t.tx ≡ o → is_answered_by start logs d o → is_unanswered d ≡ true → IsSent start logs t
       by (Beginning op) o is a w = absurd a
@@ -255,7 +274,7 @@ module _ (answered_all : EachIsAnswered) (aborts : AbortsAskAtQuiet) (start : St
         not_zero false e = absurd (omega (arith, e))
 
         by : (b : Bool) → is_aborting u.phase ≡ b → (o : Option Asked) → u.asked ≡ o → HasAsked
-        by true e o is = answers o is (ap is_some (sym is) ∙ aborts start logs tx.tc tx u quiet low live e)
+        by true e o is = answers o is (ap is_some (sym is) ∙ aborts_ask start logs tx.tc tx u quiet low live e)
         by false e o is =
             answers o is (ap is_some (sym is) ∙ not_zero (is_some u.asked) (omega (arith, some, waiting_few, ap (λ b. if b then 1 else one_if (is_some u.asked)) e)))
 
@@ -364,11 +383,11 @@ member_at (m ∷ chain) (suc at) low =
     record { member = rest.member; inside = inr rest.inside; is = rest.is }
 
 -- so each transaction whose operation was sent is held up
-pub each_held_up : EachIsAnswered → AbortsAskAtQuiet → EachIsHeldUp
-each_held_up answered_all aborts start logs t quiet inside tx is does = by w.tx w.is refl
+pub each_held_up : EachIsHeldUp
+each_held_up start logs t quiet inside tx is does = by w.tx w.is refl
   where
     w : WaitsHeld start logs t
-    w = waits_held answered_all aborts start logs t quiet inside (ap is_unanswered does)
+    w = waits_held start logs t quiet inside (ap is_unanswered does)
 
     m : MemberAt w.asked.chain w.at
     m = member_at w.asked.chain w.at w.inside

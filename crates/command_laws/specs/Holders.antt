@@ -21,12 +21,6 @@ use Rattle.commit_laws.specs.Ways.{is_aborting}
 use Rattle.answer_laws.specs.Answered.{AreQuiet, IsLiveAs, opened_after}
 use Rattle.command_laws.specs.Served.{IsServed, own_in, replies_since}
 
--- a transaction that is aborted when nothing is under way has an operation unanswered
-abbrev pub AbortsAskAtQuiet : Type 0
-AbortsAskAtQuiet =
-    (start : Start) (logs : ℕ → List LogStep) (node : ℕ) (tx : TxId) (t : Transaction) → AreQuiet start logs → node ≤ start.nodes
-    → IsLiveAs tx t (after start node (logs node)) → is_aborting t.phase ≡ true → is_some t.asked ≡ true
-
 -- the transaction waits in the queue of the key, and that other one holds it
 pub record IsBehind (tx ahead : TxId) (key : List ℕ) (locks : Locks) : Type 0 where
   pub waits_here : waits tx (lock_at locks key).queue ≡ true
