@@ -34,7 +34,6 @@ use Rattle.answer_laws.proofs.ApiBegins.{in_middle}
 use Rattle.answer_laws.proofs.Hosts.{IsNode, node_after}
 use Rattle.answer_laws.proofs.TcSends.{same_tx-self}
 use Rattle.answer_laws.proofs.Wishes.{is_api, is_tc, sends_of}
-use Rattle.answer_laws.specs.Answered.{EachIsAnswered}
 use Rattle.command_laws.proofs.Arrives.{Came, came}
 use Rattle.command_laws.proofs.HoldersTold.{known_who, held, node_stays, reply_told, since, stood}
 use Rattle.command_laws.proofs.Since.{front_nil, sent_since}

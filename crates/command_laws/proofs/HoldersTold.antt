@@ -35,7 +35,7 @@ use Rattle.answer_laws.proofs.SendKinds.{are_of}
 use Rattle.answer_laws.proofs.Tally.{one_if, tally, tally_append}
 use Rattle.answer_laws.proofs.TcSends.{eqb-self, same_tx-self}
 use Rattle.answer_laws.proofs.Wishes.{sends_of, to_node}
-use Rattle.answer_laws.specs.Answered.{EachIsAnswered, opened_after, opened_in}
+use Rattle.answer_laws.specs.Answered.{opened_after, opened_in}
 use Rattle.transit_laws.proofs.TcSound.{IsSoundHost, log_sound}
 use Rattle.command_laws.proofs.Arrives.{Came, passes_on}
 use Rattle.command_laws.proofs.First.{IsFirst, request_first}

@@ -1,5 +1,5 @@
 -- Who holds what the last command waits for.
-use Rattle.std.specs.Prelude.{◌≡◌, ◌≤◌, ◌<◌, ℕ, true, false, is_some, position, List, Option, None, Some}
+use Rattle.std.specs.Prelude.{◌≡◌, ◌<◌, ℕ, true, false, position, List, Option, None, Some}
 use Rattle.run_theory.specs.Lists.{IsIn}
 use Rattle.sig_core.specs.declared.log.LogStep.{LogStep}
 use Rattle.sig_core.specs.declared.member.TxId.{TxId}
@@ -14,11 +14,9 @@ use Rattle.row_locks.specs.Queues.{waits}
 use Rattle.row_locks.specs.Tables.{Locks, lock_at}
 use Rattle.node_core.specs.declared.host.Host.{Host}
 use Rattle.node_core.specs.declared.host.Host.TheVariants.{Shell, Node}
-use Rattle.tc_block.specs.declared.transaction.Transaction.{Transaction}
 use Rattle.world_core.specs.Machine.{after, hosts}
 use Rattle.world_core.specs.Start.{Start}
-use Rattle.commit_laws.specs.Ways.{is_aborting}
-use Rattle.answer_laws.specs.Answered.{AreQuiet, IsLiveAs, opened_after}
+use Rattle.answer_laws.specs.Answered.{opened_after}
 use Rattle.command_laws.specs.Served.{IsServed, own_in, replies_since}
 
 -- the transaction waits in the queue of the key, and that other one holds it
