@@ -28,7 +28,7 @@ use Rattle.answer_laws.proofs.Verified.{no_epoch}
 use Rattle.answer_laws.specs.Answered.{AreQuiet, EachIsAnswered, IsLiveAs, IsOpenAt, IsServed, WaitsForLock, is_aborting, is_answered_by, is_committing, is_completing, is_operating, opened_after}
 
 -- a phase that is none of the others is the open one
-only_open : (phase : Phase) → is_verifying phase ≡ false → is_committing phase ≡ false → is_completing phase ≡ false → is_aborting phase ≡ false → phase ≡ phases.Open
+pub only_open : (phase : Phase) → is_verifying phase ≡ false → is_committing phase ≡ false → is_completing phase ≡ false → is_aborting phase ≡ false → phase ≡ phases.Open
 only_open phases.Open v c d a = refl
 only_open phases.Verifying v c d a = absurd (false≢true (sym v))
 only_open (phases.Committing epoch k) v c d a = absurd (false≢true (sym c))

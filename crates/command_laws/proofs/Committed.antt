@@ -1,6 +1,6 @@
 -- A commit of a transaction that takes commands ends in its being committed.
 use Rattle.std.proofs.Common.{◌≡◌, ◌⊎◌, ◌+◌, ℕ, zero, suc, Bool, true, false, List, [], ◌∷◌, ◌++◌, refl, sym, ap, ◌∙◌, subst, inl, inr, append_assoc, arith}
-use Rattle.std.specs.Prelude.{◌&&◌, Option, None, Some}
+use Rattle.std.specs.Prelude.{Option, None, Some}
 use Rattle.run_theory.specs.Cuts.{IsCut}
 use Rattle.run_theory.specs.Lists.{Each, IsIn}
 use Rattle.run_theory.proofs.Pasts.{each_before, each_from, each_map}
@@ -19,13 +19,12 @@ use Rattle.node_core.specs.Requests.{is_request}
 use Rattle.node_core.specs.Row.{row}
 use Rattle.world_core.specs.Machine.{after, step_after}
 use Rattle.world_core.specs.Start.{Start}
-use Rattle.answer_laws.proofs.Answers.{each_answered}
 use Rattle.answer_laws.proofs.ApiBegins.{in_middle}
 use Rattle.answer_laws.proofs.Begins.{no_begin}
 use Rattle.answer_laws.proofs.Wishes.{is_tc, sends_of}
-use Rattle.answer_laws.specs.Answered.{AreQuiet, IsOpenAt, is_answered_by, opened_after, opened_in}
+use Rattle.answer_laws.specs.Answered.{AreQuiet, EachIsAnswered, IsOpenAt, is_answered_by, opened_after, opened_in}
 use Rattle.command_laws.proofs.CommitFirst.{IsAsked, commit_first}
-use Rattle.command_laws.proofs.EntryGoes.{HasEnded, commit_goes}
+use Rattle.command_laws.proofs.CommitGoes.{HasEnded, commit_goes}
 use Rattle.command_laws.proofs.Entries.{HasOne, IsNamed, NoneBegins, named_found}
 use Rattle.command_laws.proofs.FirmAtQuiet.{firm_at}
 use Rattle.command_laws.proofs.FirmHosts.{back_of, firm_since, is_back, is_push_to, push_of}
@@ -33,6 +32,7 @@ use Rattle.command_laws.proofs.First.{IsFirst, request_first}
 use Rattle.command_laws.proofs.Pushes.{calm_since, node_pushes}
 use Rattle.command_laws.proofs.Reported.{reported}
 use Rattle.command_laws.proofs.Since.{none_taken, sent_since}
+use Rattle.command_laws.proofs.Tests.{and_off, none_at}
 use Rattle.command_laws.specs.Served.{CommitsAreCommitted, IsServed, IsToldCommitted, named_in}
 
 -- at quiet no transaction is beginning
@@ -45,23 +45,19 @@ cut_at_first was now later first is cut zero = record { newer = later ++ first �
 cut_at_first was now later first is cut (suc h) = cut (suc h)
 
 request_pushes_none : (tx : TxId) (to : Place) (body : Body) → is_request body ≡ true → is_push_to tx to body ≡ false
-request_pushes_none tx to body is = by (is_tc to.block) (plain body is)
+request_pushes_none tx to body is = and_off (is_tc to.block) (plain body is)
   where
     plain : (b : Body) → is_request b ≡ true → push_of tx b ≡ false
     plain (Client (TcKeyReq one op)) r = cc
     plain (Client (TcRollbackReq one)) r = cc
     plain _ r = refl
 
-    by : (a : Bool) → push_of tx body ≡ false → (a && push_of tx body) ≡ false
-    by true p = p
-    by false p = refl
-
 pub sent_append : (start : Start) (test : Place → Body → Bool) (h : ℕ) (xs ys log : List LogStep) → sent_since start test h (xs ++ ys) log ≡ sent_since start test h xs (ys ++ log) + sent_since start test h ys log
 sent_append start test h [] ys log = omega arith
 sent_append start test h (e ∷ xs) ys log =
     omega (arith, sent_append start test h xs ys log, ap (λ l. sends_of test (step_after start h l e).effects.sends) (append_assoc xs ys log))
 
-module _ (start : Start) (was now : ℕ → List LogStep) (name : ℕ) (t : OpenTransaction) (tx : TxId) (served : IsServed start was now (Commit name))
+module _ (answered : EachIsAnswered) (start : Start) (was now : ℕ → List LogStep) (name : ℕ) (t : OpenTransaction) (tx : TxId) (served : IsServed start was now (Commit name))
     (named : named_in (opened_after start was) name ≡ Some t) (ready : t.doing ≡ Ready) (own : t.tx ≡ Some tx) where
   f : IsFirst start was now (Commit name)
   f = request_first start was now (Commit name) served
@@ -75,7 +71,7 @@ module _ (start : Start) (was now : ℕ → List LogStep) (name : ℕ) (t : Open
       (subst (λ body. IsAsked tx name (row (after start 0 (was 0)) client body)) (sym f.body) (commit_first (after start 0 (was 0)) name t tx named ready own (calm_at start was served.before)))
 
   is_open : IsOpenAt tx (after start tx.tc (was tx.tc))
-  is_open = by t.doing t.tx ready own (each_answered start was t served.before there)
+  is_open = by t.doing t.tx ready own (answered start was t served.before there)
     where
       n : IsNamed (opened_after start was) name t
       n = named_found (opened_after start was) name t named
@@ -90,17 +86,10 @@ module _ (start : Start) (was now : ℕ → List LogStep) (name : ℕ) (t : Open
   no_pushes zero = omega (arith, sent_append start (is_push_to tx) 0 f.later (f.first ∷ []) (was 0), (calm_since tx start f.later (f.first ∷ was 0) f.plain asked.calm).1, asked.pushes)
   no_pushes (suc h) = node_pushes start tx h (cut (suc h)).newer (was (suc h))
 
-  plain_push : (e : LogStep) → (is_request e.taken.body ≡ false → is_push_to tx e.taken.to e.taken.body ≡ false) → is_push_to tx e.taken.to e.taken.body ≡ false
-  plain_push e none = by (is_request e.taken.body) refl
-    where
-      by : (b : Bool) → is_request e.taken.body ≡ b → is_push_to tx e.taken.to e.taken.body ≡ false
-      by true is = request_pushes_none tx e.taken.to e.taken.body is
-      by false is = none is
-
   none_pushed : (h : ℕ) → Each (λ (e : LogStep). is_push_to tx e.taken.to e.taken.body ≡ false) (cut h).newer
   none_pushed h =
       each_map (λ (e : LogStep). is_request e.taken.body ≡ false → is_push_to tx e.taken.to e.taken.body ≡ false) (λ (e : LogStep). is_push_to tx e.taken.to e.taken.body ≡ false) (cut h).newer
-      plain_push (none_taken start was now served.before served.since cut (is_push_to tx) no_pushes h)
+      (none_at (is_push_to tx) (request_pushes_none tx)) (none_taken start was now served.before served.since cut (is_push_to tx) no_pushes h)
 
   -- nobody reports its abort, and so the shell's host isn't told of one
   no_backs : (h : ℕ) → sent_since start (is_back tx) h (cut h).newer (was h) ≡ 0
@@ -112,7 +101,7 @@ module _ (start : Start) (was now : ℕ → List LogStep) (name : ℕ) (t : Open
   still_committing : HasOne tx (Some name) Committing (opened_after start now) → ⊥
   still_committing has =
       subst (λ d. is_answered_by start now d has.item.tx → ⊥) (sym has.does) (λ none. by has.item.tx none)
-      (each_answered start now has.item served.since has.inside)
+      (answered start now has.item served.since has.inside)
     where
       by : (o : Option TxId) → is_answered_by start now Committing o → ⊥
       by (Some one) none = none
@@ -133,6 +122,6 @@ module _ (start : Start) (was now : ℕ → List LogStep) (name : ℕ) (t : Open
       by (inl has) = absurd (still_committing (subst (λ log. HasOne tx (Some name) Committing (opened_in (after start 0 log))) (sym f.is) has))
       by (inr ended) = report ended
 
--- commits are committed
-pub commits_committed : CommitsAreCommitted
-commits_committed start was now name t tx served named ready own = committed_told start was now name t tx served named ready own
+-- commits are committed, where each command is answered
+pub commits_committed : EachIsAnswered → CommitsAreCommitted
+commits_committed answered start was now name t tx served named ready own = committed_told answered start was now name t tx served named ready own

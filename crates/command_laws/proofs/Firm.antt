@@ -45,9 +45,9 @@ is_push (Client (TcKeyReq tx op)) = true
 is_push (Client (TcRollbackReq tx)) = true
 is_push _ = false
 
-pub has_chains : HasChains is_no_abort
-has_chains =
-    record { commits = λ tx key epoch chain at. refl; completes = λ tx key chain at. refl; aborts = λ tx key. refl; goes_on = λ tx at. refl }
+pub has_chains : (tx : TxId) → HasChains tx is_no_abort
+has_chains tx =
+    record { commits = λ key epoch chain at. refl; completes = λ key chain at. refl; aborts = λ key. refl; goes_on = λ at. refl }
 
 pub fronts : (tx : TxId) (phase : Phase) → are_of is_no_abort (front_sends tx phase) ≡ true
 unfolding front_sends
@@ -68,11 +68,11 @@ module _ (node : ℕ) (view : View) (tx : TxId) (t : Transaction) (firm : is_fir
 
   enters : (phase : Phase) → is_firm phase t.asked ≡ true → StaysFirm (going (entering node view tx t phase))
   unfolding entering
-  enters phase is = record { firm = is; sends = entering_of_kind is_no_abort has_chains view tx node t phase (fronts tx phase) }
+  enters phase is = record { firm = is; sends = entering_of_kind is_no_abort view tx (has_chains tx) node t phase (fronts tx phase) }
 
   go_on_firm : (at : ℕ) → StaysFirm (going (go_on_row node view tx t at))
   unfolding go_on_row
-  go_on_firm at = record { firm = in_if (nat_lt at 512); sends = go_on_of_kind is_no_abort has_chains view tx node t at (fronts tx t.phase) }
+  go_on_firm at = record { firm = in_if (nat_lt at 512); sends = go_on_of_kind is_no_abort view tx (has_chains tx) node t at (fronts tx t.phase) }
     where
       in_if : (b : Bool) → is_firm (go_on_if node view tx t at b).state.phase (go_on_if node view tx t at b).state.asked ≡ true
       in_if true = firm

@@ -10,12 +10,8 @@ use Rattle.sig_core.specs.declared.place.BlockId.{BlockId}
 use Rattle.sig_core.specs.declared.place.BlockId.TheVariants as block
 use Rattle.sig_core.specs.declared.place.Place.{Place}
 use Rattle.sig_core.specs.declared.signal.Body.{Body}
-use Rattle.sig_core.specs.declared.signal.Body.TheVariants.{Host, Client, Chain, Epoch}
-use Rattle.sig_core.specs.declared.signal.chain.ChainSignal.TheVariants.{LqhKeyConf, LqhKeyRef, Committed, Completed, Aborted}
-use Rattle.sig_core.specs.declared.signal.client.ClientSignal.TheVariants.{TcKeyReq, TcCommitReq, TcRollbackRep, TcRollbackReq, TcWaitReq}
-use Rattle.sig_core.specs.declared.signal.epoch.EpochSignal.TheVariants.{DiVerifyConf}
-use Rattle.sig_core.specs.declared.signal.host.HostSignal.TheVariants.{Continue}
-use Rattle.sig_core.specs.declared.signal.host.Work.TheVariants as work
+use Rattle.sig_core.specs.declared.signal.Body.TheVariants.{Client}
+use Rattle.sig_core.specs.declared.signal.client.ClientSignal.TheVariants.{TcKeyReq, TcRollbackRep, TcRollbackReq}
 use Rattle.sig_core.specs.Same.{same_tx}
 use Rattle.sig_core.specs.Step.{Step}
 use Rattle.api_block.specs.Api.{api_row}
@@ -36,11 +32,12 @@ use Rattle.answer_laws.proofs.ApiBegins.{each_at, each_changed, each_less}
 use Rattle.answer_laws.proofs.ApiMoves.{ApiMove, api_moves, begun_as, ends, goes, is_api_kind, opens, refuses, rests}
 use Rattle.answer_laws.proofs.DihSends.{dih_kinds}
 use Rattle.answer_laws.proofs.LqhSends.{lqh_kinds}
-use Rattle.answer_laws.proofs.SendKinds.{are_of, is_dih_kind, is_lqh_kind, is_tc_kind, none_of}
+use Rattle.answer_laws.proofs.SendKinds.{is_dih_kind, is_lqh_kind, none_of}
 use Rattle.answer_laws.proofs.TcLives.{apart}
-use Rattle.answer_laws.proofs.TcSends.{aborted_kinds, answer_kinds, commit_kinds, committed_kinds, completed_kinds, decide_kinds, go_on_kinds, operate_kinds, refuse_kinds, rollback_kinds, tx_in, wait_kinds}
+use Rattle.answer_laws.proofs.TcSends.{tx_in}
 use Rattle.answer_laws.proofs.Wishes.{is_tc, sends_of}
 use Rattle.command_laws.proofs.Firm.{StaysFirm, firm_turn, is_firm, is_no_abort, is_push}
+use Rattle.command_laws.proofs.OwnSends.{is_own_kind, turn_own}
 use Rattle.command_laws.proofs.Since.{sent_since}
 use Rattle.command_laws.proofs.Turns.{TakesTurn, TcShape, is_idle_kind, starts, still, tc_shape, turn_by, turns}
 
@@ -60,21 +57,6 @@ back_of tx _ = false
 
 abbrev pub is_back : TxId → Place → Body → Bool
 is_back tx to body = back_of tx body
-
--- what a turn sends is of its transaction
-pub turn_sends : (s : TcState) (tx : TxId) (body : Body) (t : Transaction) → are_of (is_tc_kind tx) (turn_by s tx body t).step.effects.sends ≡ true
-turn_sends s tx (Host (Continue (work.Transaction one) at)) t = go_on_kinds s.node s.view tx t at
-turn_sends s tx (Client (TcKeyReq one op)) t = operate_kinds s.view tx t op
-turn_sends s tx (Client (TcCommitReq one)) t = decide_kinds s.node tx t
-turn_sends s tx (Client (TcRollbackReq one)) t = rollback_kinds s.node s.view tx t
-turn_sends s tx (Client (TcWaitReq one)) t = wait_kinds tx t
-turn_sends s tx (Chain (LqhKeyConf one key answer)) t = answer_kinds s.view tx t key answer
-turn_sends s tx (Chain (LqhKeyRef one key why)) t = refuse_kinds s.node s.view tx t key why
-turn_sends s tx (Chain (Committed one key)) t = committed_kinds s.node s.view tx t
-turn_sends s tx (Chain (Completed one key)) t = completed_kinds s.node tx t
-turn_sends s tx (Chain (Aborted one key)) t = aborted_kinds s.node tx t
-turn_sends s tx (Epoch (DiVerifyConf one epoch)) t = commit_kinds s.node s.view tx t epoch
-turn_sends s tx _ t = refl
 
 pub each_inserted_value : (P : TxId × Transaction → Type 0) (live : List (TxId × Transaction)) (tx : TxId) (t : Transaction) → ((key : TxId) → P (key, t)) → Each P live → Each P (insert_entry same_tx live tx t)
 each_inserted_value P [] tx t own all = (own tx, tt)
@@ -97,7 +79,7 @@ module _ (tx : TxId) where
   no_back_firm to (Client (TcRollbackRep other cause)) e = cc
   no_back_firm to _ e = refl
 
-  no_back_other : (one : TxId) → same_tx one tx ≡ false → (to : Place) (body : Body) → is_tc_kind one body ≡ true → is_back tx to body ≡ false
+  no_back_other : (one : TxId) → same_tx one tx ≡ false → (to : Place) (body : Body) → is_own_kind one body ≡ true → is_back tx to body ≡ false
   no_back_other one differs to (Client (TcRollbackRep other cause)) e = apart tx one other differs e
   no_back_other one differs to _ e = refl
 
@@ -150,7 +132,7 @@ module _ (tx : TxId) where
         quiet : sends_of (is_back tx) step.effects.sends ≡ 0
         quiet =
             ap (λ effects. sends_of (is_back tx) effects.sends) r.effects
-            ∙ none_of (is_tc_kind (tx_in body)) (is_back tx) (no_back_other (tx_in body) differs) (turn_by s (tx_in body) body r.t).step.effects.sends (turn_sends s (tx_in body) body r.t)
+            ∙ none_of (is_own_kind (tx_in body)) (is_back tx) (no_back_other (tx_in body) differs) (turn_by s (tx_in body) body r.t).step.effects.sends (turn_own s (tx_in body) body r.t)
 
         by : (b : Bool) → (turn_by s (tx_in body) body r.t).over ≡ b → KeepsFirm step.state.live step.effects.sends
         by true over = record {

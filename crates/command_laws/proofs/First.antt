@@ -14,7 +14,6 @@ use Rattle.run_theory.proofs.Growth.{grow}
 use Rattle.run_theory.proofs.Merging.{log_of-append, logs_merged, merged_run}
 use Rattle.run_theory.proofs.Runs.{log_of-other, log_of-own, logs_of_run}
 use Rattle.sig_core.specs.declared.log.LogStep.{LogStep}
-use Rattle.sig_core.specs.declared.place.Place.{Place}
 use Rattle.sig_core.specs.declared.request.ApiReq.{ApiReq}
 use Rattle.sig_core.specs.declared.signal.Body.{Body}
 use Rattle.sig_core.specs.declared.signal.Body.TheVariants.{Host}
@@ -33,7 +32,7 @@ use Rattle.answer_laws.proofs.Tally.{tally_past}
 use Rattle.command_laws.proofs.Since.{all_taken}
 use Rattle.command_laws.specs.Served.{IsServed}
 
-requests_append : (newer log : List LogStep) → requests (newer ++ log) ≡ requests log ++ requests newer
+pub requests_append : (newer log : List LogStep) → requests (newer ++ log) ≡ requests log ++ requests newer
 requests_append [] log = sym (append-nil (requests log))
 requests_append (e ∷ newer) log =
     ap (λ rs. rs ++ option_to_list (request_in e.taken.body)) (requests_append newer log) ∙ append_assoc (requests log) (requests newer) (option_to_list (request_in e.taken.body))
@@ -60,6 +59,11 @@ no_requests (e ∷ log) none = by (request_in e.taken.body) refl (front (request
     by None is both rest = (none_asked e.taken.body is, rest both.0)
     by (Some r) is both rest = let some : r ∷ [] ≡ [] = sym (ap option_to_list is) ∙ both.1 in absurd cc
 
+-- a step that a request makes is one of the shell's host
+pub fits_asked : (start : Start) (h stamp : ℕ) (x : Signal) (b : Bool) → b ≡ true → asked_rightly (first_view start.nodes) b h stamp x → IsAsked (first_view start.nodes) h stamp x
+fits_asked start h stamp x true e asked = asked
+fits_asked start h stamp x false e asked = cc
+
 -- the oldest event of some
 record Oldest (es : List LogStep) : Type 0 where
   newer : List LogStep
@@ -74,7 +78,7 @@ oldest (e ∷ es) = by (oldest es)
     by (inl none) = inr (record { newer = []; first = e; is = ap (λ w. e ∷ w) none })
     by (inr o) = inr (record { newer = e ∷ o.newer; first = o.first; is = ap (λ w. e ∷ w) o.is })
 
-pub run_before : (start : Start) (more es : List LogStep) → Run (machine start) (more ++ es) → Run (machine start) es
+run_before : (start : Start) (more es : List LogStep) → Run (machine start) (more ++ es) → Run (machine start) es
 run_before start [] es run = run
 run_before start (e ∷ more) es run = run_before start more es run.0
 
@@ -92,19 +96,6 @@ pub record IsFirst (start : Start) (was now : ℕ → List LogStep) (request : A
   pub body : first.taken.body ≡ Host (Continue (Request request) 0)
   pub plain : Each (λ (e : LogStep). is_request e.taken.body ≡ false) later
   pub right : AreLogs (machine start) (with_first was first)
-
--- a run to the later logs: it comes to those before, then takes the request, and no other one
-pub record Opens (start : Start) (was now : ℕ → List LogStep) (request : ApiReq) : Type 0 where
-  pub es : List LogStep
-  pub newer : List LogStep
-  pub first : LogStep
-  pub same : log_of (machine start) es ≡ was
-  pub run : Run (machine start) (newer ++ first ∷ es)
-  pub all : log_of (machine start) (newer ++ first ∷ es) ≡ now
-  pub place : first.taken.to ≡ client
-  pub body : first.taken.body ≡ Host (Continue (Request request) 0)
-  pub is : now 0 ≡ log_of (machine start) newer 0 ++ first ∷ was 0
-  pub plain : Each (λ (e : LogStep). is_request e.taken.body ≡ false) (log_of (machine start) newer 0)
 
 module _ (start : Start) (was now : ℕ → List LogStep) (request : ApiReq) (served : IsServed start was now request) where
   -- what comes at a quiet moment is no signal that a link gave
@@ -126,12 +117,8 @@ module _ (start : Start) (was now : ℕ → List LogStep) (request : ApiReq) (se
             all_taken start was now served.before served.since served.cut (λ to body. true) i j low,
           ))
 
-  fits_asked : (h stamp : ℕ) (x : Signal) (b : Bool) → b ≡ true → asked_rightly (first_view start.nodes) b h stamp x → IsAsked (first_view start.nodes) h stamp x
-  fits_asked h stamp x true e asked = asked
-  fits_asked h stamp x false e asked = cc
-
-  at_first : (es newer : List LogStep) (e : LogStep) → log_of (machine start) es ≡ was → Happens (machine start) es e → Run (machine start) (newer ++ e ∷ es) → log_of (machine start) (newer ++ e ∷ es) ≡ now → Opens start was now request
-  at_first es newer e same happens run all = found (fits_asked e.taken.to.node _ e.taken (is_request e.taken.body) (first_asked es e same happens low) happens.step.fits.asked)
+  at_first : (es newer : List LogStep) (e : LogStep) → log_of (machine start) es ≡ was → Happens (machine start) es e → Run (machine start) (e ∷ es) → log_of (machine start) (newer ++ e ∷ es) ≡ now → IsFirst start was now request
+  at_first es newer e same happens run all = found (fits_asked start e.taken.to.node _ e.taken (is_request e.taken.body) (first_asked es e same happens low) happens.step.fits.asked)
     where
       here : (h : ℕ) → now h ≡ log_of (machine start) newer h ++ log_of (machine start) (e ∷ es) h
       here h = ap (λ logs. logs h) (sym all) ∙ log_of-append (machine start) newer (e ∷ es) h
@@ -143,6 +130,10 @@ module _ (start : Start) (was now : ℕ → List LogStep) (request : ApiReq) (se
       own : (h : ℕ) → e.taken.to.node ≡ h → now h ≡ log_of (machine start) newer h ++ e ∷ was h
       own h at = here h ∙ ap (λ log. log_of (machine start) newer h ++ log) (log_of-own (machine start) e es h at ∙ ap (λ logs. e ∷ logs h) same)
 
+      first_logs : e.taken.to.node ≡ 0 → (h : ℕ) → log_of (machine start) (e ∷ es) h ≡ with_first was e h
+      first_logs at zero = log_of-own (machine start) e es 0 at ∙ ap (λ logs. e ∷ logs 0) same
+      first_logs at (suc h) = log_of-other (machine start) e es (suc h) (λ other. absurd (omega (arith, at, other))) ∙ ap (λ logs. logs (suc h)) same
+
       low : e.taken.to.node < hosts start
       low = by (cases_lt e.taken.to.node (hosts start))
         where
@@ -150,7 +141,7 @@ module _ (start : Start) (was now : ℕ → List LogStep) (request : ApiReq) (se
           by (inl under) = under
           by (inr high) = absurd (nonempty _ _ (sym (served.since.within e.taken.to.node high) ∙ own e.taken.to.node refl))
 
-      found : IsAsked (first_view start.nodes) e.taken.to.node (last_stamp (log_of (machine start) es e.taken.to.node)) e.taken → Opens start was now request
+      found : IsAsked (first_view start.nodes) e.taken.to.node (last_stamp (log_of (machine start) es e.taken.to.node)) e.taken → IsFirst start was now request
       found asked =
           let body_is : e.taken.body ≡ Host (Continue (Request asked.request) 0) = ap (λ (x : Signal). x.body) asked.is in
           let log_is = own 0 asked.shell in
@@ -162,20 +153,17 @@ module _ (start : Start) (was now : ℕ → List LogStep) (request : ApiReq) (se
           let none : requests (log_of (machine start) newer 0) ≡ [] = cc in
           let this : asked.request ≡ request = cc in
           record {
-            es = es;
-            newer = newer;
+            later = log_of (machine start) newer 0;
             first = e;
-            same = same;
-            run = run;
-            all = all;
+            is = log_is;
             place = ap (λ (x : Signal). x.to) asked.is;
             body = body_is ∙ ap (λ r. Host (Continue (Request r) 0)) this;
-            is = log_is;
             plain = no_requests (log_of (machine start) newer 0) none;
+            right = subst (AreLogs (machine start)) (fun_ext (first_logs asked.shell)) (logs_of_run (machine start) (e ∷ es) run);
           }
 
-  pub opens : Opens start was now request
-  opens = by (oldest grown.more)
+  pub request_first : IsFirst start was now request
+  request_first = by (oldest grown.more)
     where
       n : ℕ
       n = hosts start
@@ -195,29 +183,11 @@ module _ (start : Start) (was now : ℕ → List LogStep) (request : ApiReq) (se
       longer [] is = cc
       longer (x ∷ xs) is = let rest : xs ≡ xs ++ request ∷ [] = cc in longer xs rest
 
-      by : (grown.more ≡ []) ⊎ Oldest grown.more → Opens start was now request
+      by : (grown.more ≡ []) ⊎ Oldest grown.more → IsFirst start was now request
       by (inl none) =
           absurd (longer (requests (was 0))
           (ap (λ logs. requests (logs 0)) (sym same) ∙ ap (λ m. requests (log_of (machine start) (m ++ es) 0)) (sym none) ∙ ap requests (grown.logs 0) ∙ served.asked))
       by (inr o) =
           let parts : grown.more ++ es ≡ o.newer ++ (o.first ∷ es) = ap (λ m. m ++ es) o.is ∙ append_assoc o.newer (o.first ∷ []) es in
-          let run = subst (Run (machine start)) parts grown.run in
-          at_first es o.newer o.first same (run_before start o.newer (o.first ∷ es) run).1 run (ap (log_of (machine start)) (sym parts) ∙ fun_ext grown.logs)
-
-  pub request_first : IsFirst start was now request
-  request_first = record {
-    later = log_of (machine start) opens.newer 0;
-    first = opens.first;
-    is = opens.is;
-    place = opens.place;
-    body = opens.body;
-    plain = opens.plain;
-    right = subst (AreLogs (machine start)) (fun_ext first_logs) (logs_of_run (machine start) (opens.first ∷ opens.es) (run_before start opens.newer (opens.first ∷ opens.es) opens.run));
-  }
-    where
-      at : opens.first.taken.to.node ≡ 0
-      at = ap (λ (to : Place). to.node) opens.place
-
-      first_logs : (h : ℕ) → log_of (machine start) (opens.first ∷ opens.es) h ≡ with_first was opens.first h
-      first_logs zero = log_of-own (machine start) opens.first opens.es 0 at ∙ ap (λ logs. opens.first ∷ logs 0) opens.same
-      first_logs (suc h) = log_of-other (machine start) opens.first opens.es (suc h) (λ other. absurd (omega (arith, at, other))) ∙ ap (λ logs. logs (suc h)) opens.same
+          let run = run_before start o.newer (o.first ∷ es) (subst (Run (machine start)) parts grown.run) in
+          at_first es o.newer o.first same run.1 run (ap (log_of (machine start)) (sym parts) ∙ fun_ext grown.logs)

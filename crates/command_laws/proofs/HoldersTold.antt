@@ -1,269 +1,264 @@
--- The shell is told who holds what its last command waits for.
-use Rattle.std.proofs.Common.{◌≡◌, ◌⊎◌, ◌<◌, ◌≤◌, ◌+◌, ℕ, zero, suc, Bool, true, false, List, [], ◌∷◌, ◌++◌, length, refl, sym, ap, subst, ◌∙◌, inl, inr, append_assoc, arith}
-use Rattle.std.specs.Prelude.{◌==◌, ◌&&◌, Option, None, Some, drop, if◌then◌else◌, is_some}
-use Rattle.run_theory.specs.Lists.{Each, IsIn, IsPast}
-use Rattle.run_theory.proofs.Pasts.{each_after, past_append, past_self}
+-- The two questions about a command that left something unanswered tell for whom that waits.
+use Rattle.std.proofs.Common.{◌≡◌, ◌<◌, ◌≤◌, ◌+◌, ℕ, zero, suc, Bool, true, false, List, [], ◌∷◌, ◌++◌, length, refl, sym, ap, ◌∙◌, subst, append_assoc, arith}
+use Rattle.std.specs.Prelude.{◌&&◌, Option, None, Some, drop, is_some, option_to_list, slice_get}
+use Rattle.run_theory.specs.Cuts.{IsCut}
+use Rattle.run_theory.specs.Links.{is_from}
+use Rattle.run_theory.specs.Lists.{IsIn}
+use Rattle.run_theory.specs.Runs.{log_of}
+use Rattle.run_theory.proofs.Pasts.{past_self}
 use Rattle.sig_core.specs.declared.log.LogStep.{LogStep}
 use Rattle.sig_core.specs.declared.member.TxId.{TxId}
 use Rattle.sig_core.specs.declared.place.Place.{Place}
-use Rattle.sig_core.specs.declared.reply.ApiReply.TheVariants as reply
+use Rattle.sig_core.specs.declared.reply.ApiReply.TheVariants.{Pending}
 use Rattle.sig_core.specs.declared.reply.Waiting.TheVariants.{HeldBy}
-use Rattle.sig_core.specs.declared.request.ApiReq.TheVariants.{Pending, Waits}
+use Rattle.sig_core.specs.declared.request.ApiReq.TheVariants as request
 use Rattle.sig_core.specs.declared.signal.Body.{Body}
-use Rattle.sig_core.specs.declared.signal.Body.TheVariants.{Host}
-use Rattle.sig_core.specs.declared.signal.host.HostSignal.TheVariants.{Continue}
-use Rattle.sig_core.specs.declared.signal.host.Work.TheVariants.{Request}
 use Rattle.sig_core.specs.Op.{key_of}
 use Rattle.sig_core.specs.Place.{client}
-use Rattle.sig_core.specs.Same.{same_tx}
-use Rattle.sig_core.specs.Step.{Step}
+use Rattle.api_block.specs.declared.opened.Doing.{Doing}
+use Rattle.api_block.specs.declared.opened.Doing.TheVariants.{Beginning, Ready, Operating, Committing}
 use Rattle.api_block.specs.declared.opened.OpenTransaction.{OpenTransaction}
-use Rattle.api_block.specs.Opened.{behind, has_tx, is_named, is_tx, is_unanswered}
+use Rattle.api_block.specs.Opened.{has_tx, if_there, is_tx, is_unanswered, own_place, where_at}
+use Rattle.api_block.specs.State.{ApiState}
 use Rattle.node_core.specs.declared.host.Host as host
 use Rattle.node_core.specs.declared.host.Host.TheVariants.{Shell, Node}
-use Rattle.node_core.specs.declared.node.Node as node
-use Rattle.node_core.specs.Replies.{replies_of}
-use Rattle.node_core.specs.Row.{node_row, row}
-use Rattle.world_core.specs.Machine.{after, hosts, step_after}
+use Rattle.node_core.specs.Replies.{is_left_open, replies_of}
+use Rattle.node_core.specs.Row.{row}
+use Rattle.tc_block.specs.declared.transaction.Transaction.{Transaction}
+use Rattle.world_core.specs.Machine.{after, hosts, machine, step_after}
+use Rattle.world_core.specs.Requests.{request_in, requests}
 use Rattle.world_core.specs.Start.{Start}
-use Rattle.commit_laws.proofs.LiveSplit.{KeysOnce}
 use Rattle.answer_laws.proofs.ApiBegins.{in_middle}
-use Rattle.answer_laws.proofs.Hosts.{shell_after}
+use Rattle.answer_laws.proofs.Commits.{live_low}
+use Rattle.answer_laws.proofs.Hosts.{node_after, shell_after}
 use Rattle.answer_laws.proofs.LinkCounts.{steps}
 use Rattle.answer_laws.proofs.Lives.{holds_at, once_started}
-use Rattle.answer_laws.proofs.SendKinds.{are_of}
-use Rattle.answer_laws.proofs.Tally.{one_if, tally, tally_append}
-use Rattle.answer_laws.proofs.TcSends.{eqb-self, same_tx-self}
+use Rattle.answer_laws.proofs.Tally.{one_if, tally, tally_append, tally_between}
+use Rattle.answer_laws.proofs.TcSends.{same_tx-self}
 use Rattle.answer_laws.proofs.Wishes.{sends_of, to_node}
-use Rattle.answer_laws.specs.Answered.{opened_after, opened_in}
-use Rattle.transit_laws.proofs.TcSound.{IsSoundHost, log_sound}
-use Rattle.command_laws.proofs.Arrives.{Came, passes_on}
-use Rattle.command_laws.proofs.First.{IsFirst, request_first}
-use Rattle.command_laws.proofs.OwnEntry.{Asks, HasOwn, IsOwnAt, Tells, host_waits, own_found, pending_tells, waits_asks}
-use Rattle.command_laws.proofs.OwnEntry as entry
-use Rattle.command_laws.proofs.SinceKinds.{SinceAre, since_are}
+use Rattle.answer_laws.specs.Answered.{EachIsAnswered, IsLiveAs, is_answered_by, opened_after, opened_in}
+use Rattle.transit_laws.specs.Live.{of_live}
+use Rattle.command_laws.proofs.First.{IsFirst, request_first, with_first}
+use Rattle.command_laws.proofs.Since.{all_arrive, sent_since_to, taken_since}
+use Rattle.command_laws.proofs.TellsSince.{OnTc, sound_at}
 use Rattle.command_laws.proofs.Told.{told_since}
-use Rattle.command_laws.proofs.WaitKinds.{is_telling, is_telling_who, is_wait, node_same, wait_closed}
-use Rattle.command_laws.proofs.WaitsAtQuiet.{WaitsHeld, waits_held}
-use Rattle.command_laws.proofs.WaitSends.{asks_on, finds_on, is_asking, is_finding, is_seeking}
-use Rattle.command_laws.proofs.WaitSends as rows
-use Rattle.command_laws.specs.Holders.{name_in}
-use Rattle.command_laws.specs.Served.{HoldersAreTold, IsServed, IsToldHolder, own_in, replies_since}
+use Rattle.command_laws.proofs.WaitApi.{IsAboutOne, IsAsking, IsOwn, TellsHolder, own_found, pending_first, waits_first}
+use Rattle.command_laws.proofs.WaitRows.{in_live, is_found, is_passed, is_probe, is_want}
+use Rattle.command_laws.proofs.WaitRun.{AllHold, all_hold}
+use Rattle.command_laws.specs.Served.{EachIsHeldUp, HoldersAreTold, IsHeldUp, IsHeldUpAt, IsServed, IsToldHolder, own_in}
 
--- the rows of a node's host are those of the node
-node_sends : (test : Place → Body → Bool) (g : host.Host) (n : node.Node) (to : Place) (body : Body) → g ≡ Node n → 1 ≤ sends_of test (node_row n to.block body).effects.sends
-    → 1 ≤ sends_of test (row g to body).effects.sends
-unfolding row
-node_sends test (Shell s) n to body is some = cc
-node_sends test (Node m) n to body is some = let same : m ≡ n = cc in subst (λ (x : node.Node). 1 ≤ sends_of test (node_row x to.block body).effects.sends) (sym same) some
+sent_to_append : (start : Start) (test : Place → Body → Bool) (h j : ℕ) (xs ys log : List LogStep)
+    → sent_since_to start test h j (xs ++ ys) log ≡ sent_since_to start test h j xs (ys ++ log) + sent_since_to start test h j ys log
+sent_to_append start test h j [] ys log = omega arith
+sent_to_append start test h j (e ∷ xs) ys log =
+    omega (arith, sent_to_append start test h j xs ys log, ap (λ l. sends_of (to_node j test) (step_after start h l e).effects.sends) (append_assoc xs ys log))
 
--- the coordinator of a sound host has no transaction twice
-pub keys_once : (g : host.Host) (n : node.Node) (bs : List TxId) → g ≡ Node n → IsSoundHost g bs → KeysOnce n.tc.live
-keys_once (Shell s) n bs is sound = cc
-keys_once (Node m) n bs is sound = let same : m ≡ n = cc in subst (λ (x : node.Node). KeysOnce x.tc.live) same sound.0.once
+taken_few : (start : Start) (test : Place → Body → Bool) (i : ℕ) (newer : List LogStep) → taken_since start test i newer ≤ steps test newer
+taken_few start test i [] = omega arith
+taken_few start test i (e ∷ newer) = omega (arith, taken_few start test i newer, few (is_from (machine start) i e) (test e.taken.to e.taken.body))
+  where
+    few : (a b : Bool) → one_if (a && b) ≤ one_if b
+    few true b = omega arith
+    few false b = omega arith
 
-module _ (start : Start) (tx : TxId) where
-  -- a node stays as it is while only such signals are taken
-  pub node_stays : (h : ℕ) (newer log : List LogStep) (n : node.Node) → Each (λ (e : LogStep). is_wait tx e.taken.body ≡ true) newer → after start h log ≡ Node n → after start h (newer ++ log) ≡ Node n
-  node_stays h [] log n kinds is = is
-  node_stays h (e ∷ newer) log n kinds is =
-      let before = node_stays h newer log n kinds.1 is in
-      node_same tx (after start h (newer ++ log)) n e.taken.to e.taken.body before kinds.0 ∙ before
+-- what is unanswered at quiet is an operation that was sent
+record IsWaiting (t : OpenTransaction) : Type 0 where
+  tx : TxId
+  own : t.tx ≡ Some tx
+  does : t.doing ≡ Operating
 
-  module _ (name : Option ℕ) (front back : List OpenTransaction) (before : tally (is_named name) front ≡ 0) (t : OpenTransaction) (own_tx : t.tx ≡ Some tx)
-      (alone : tally (has_tx tx) front ≡ 0) (itself : has_tx tx t ≡ true) where
-    -- at the shell's host the transaction stands in its place, and once it is told whom it waits for that is known
-    pub record Stands (later log : List LogStep) : Type 0 where
-      pub ahead : Option TxId
-      pub own : IsOwnAt name front (behind t ahead) back (after start 0 (later ++ log))
-      pub told : 1 ≤ steps (is_telling tx) later → is_some ahead ≡ true
-      pub from : (who : TxId) → ahead ≡ Some who → 1 ≤ steps (is_telling_who tx who) later
+is_waiting : (start : Start) (logs : ℕ → List LogStep) (t : OpenTransaction) → is_unanswered t.doing ≡ true → is_answered_by start logs t.doing t.tx → IsWaiting t
+is_waiting start logs t unanswered answered = by t.doing t.tx refl refl unanswered answered
+  where
+    by : (doing : Doing) (o : Option TxId) → t.doing ≡ doing → t.tx ≡ o → is_unanswered doing ≡ true → is_answered_by start logs doing o → IsWaiting t
+    by Operating (Some tx) does own some a = record { tx = tx; own = own; does = does }
+    by Operating None does own some a = absurd a
+    by Ready o does own some a = cc
+    by (Beginning op) (Some tx) does own some a = absurd a
+    by (Beginning op) None does own some a = absurd a
+    by Committing (Some tx) does own some a = absurd a
+    by Committing None does own some a = absurd a
 
-    stands : (later log : List LogStep) → Each (λ (e : LogStep). is_wait tx e.taken.body ≡ true) later → IsOwnAt name front (behind t None) back (after start 0 log) → Stands later log
-    stands [] log kinds own = record { ahead = None; own = own; told = λ some. absurd (omega (arith, some)); from = λ who is. cc }
-    stands (e ∷ later) log kinds own = next (stands later log kinds.1 own)
-      where
-        next : Stands later log → Stands (e ∷ later) log
-        next s = record { ahead = w.ahead; own = w.own; told = λ some. by (is_telling tx e.taken.to e.taken.body) refl some; from = λ who is. source who (w.from who is) }
-          where
-            w : entry.Waits name front back before tx t own_tx alone itself s.ahead (is_telling tx e.taken.to e.taken.body) e.taken.to e.taken.body (row (after start 0 (later ++ log)) e.taken.to e.taken.body).state
-            w = host_waits name front back before tx t own_tx alone itself (after start 0 (later ++ log)) s.ahead e.taken.to e.taken.body s.own kinds.0
+module _ (start : Start) (tx : TxId) (u : Transaction) (logs : ℕ → List LogStep) where
+  -- the transaction as its coordinator has it
+  on_live : (k : ℕ) → IsLiveAs tx u (after start k (logs k)) → OnTc (λ s. of_live tx s.live ≡ Some u) (after start k (logs k))
+  on_live zero live = absurd (subst (IsLiveAs tx u) (shell_after start (logs 0)).is live)
+  on_live (suc h) live =
+      let n = node_after start h (logs (suc h)) in
+      subst (OnTc (λ s. of_live tx s.live ≡ Some u)) (sym n.is)
+      (in_live tx u n.state.tc.live (subst (IsLiveAs tx u) n.is live) (sound_at start tx h (logs (suc h)) n.state n.is).few)
 
-            by : (b : Bool) → is_telling tx e.taken.to e.taken.body ≡ b → 1 ≤ one_if b + steps (is_telling tx) later → is_some w.ahead ≡ true
-            by true is some = w.new is
-            by false is some = w.kept (s.told (omega (arith, some)))
+  not_shell : (P : host.Host → Type 0) → ((s : ApiState) → P (Shell s) → ⊥) → (k : ℕ) → P (after start k (logs k)) → (j : ℕ) × (k ≡ suc j)
+  not_shell P none zero p = absurd (none (shell_after start (logs 0)).state (subst P (shell_after start (logs 0)).is p))
+  not_shell P none (suc h) p = (h, refl)
 
-            source : (who : TxId) → (s.ahead ≡ Some who) ⊎ (is_telling_who tx who e.taken.to e.taken.body ≡ true) → 1 ≤ steps (is_telling_who tx who) (e ∷ later)
-            source who (inl old) = omega (arith, s.from who old)
-            source who (inr new) = omega (arith, ap one_if new)
+module _ (answered : EachIsAnswered) (held_up : EachIsHeldUp) (start : Start) (was mid now : ℕ → List LogStep) (t : OpenTransaction) (first_served : IsServed start was mid request.Waits)
+    (then_served : IsServed start mid now request.Pending) (own : own_in (after start 0 (was 0)) ≡ Some t) (unanswered : is_unanswered t.doing ≡ true) where
+  s : ApiState
+  s = (shell_after start (was 0)).state
 
--- the request is the first step of the shell's host
-at_first : (start : Start) (log : List LogStep) (e : LogStep) (body : Body) → e.taken.to ≡ client → e.taken.body ≡ body → step_after start 0 log e ≡ row (after start 0 log) client body
-at_first start log e body place about = ap (λ (to : Place). row (after start 0 log) to e.taken.body) place ∙ ap (row (after start 0 log) client) about
+  is : after start 0 (was 0) ≡ Shell s
+  unfolding s
+  is = (shell_after start (was 0)).is
 
-module _ (start : Start) (was mid now : ℕ → List LogStep) (t : OpenTransaction) (first : IsServed start was mid Waits) (second : IsServed start mid now Pending)
-    (own_is : own_in (after start 0 (was 0)) ≡ Some t) (waits : is_unanswered t.doing ≡ true) where
-  pub own : HasOwn t (after start 0 (was 0))
-  own = own_found (after start 0 (was 0)) t own_is
+  i : IsOwn s t
+  i = own_found s t (ap own_in (sym is) ∙ own)
 
-  opened_is : opened_after start was ≡ own.front ++ t ∷ own.back
-  opened_is = ap opened_in own.at.is ∙ own.at.here.is
+  in_opened : IsIn t (opened_after start was)
+  in_opened = subst (λ g. IsIn t (opened_in g)) (sym is) (subst (IsIn t) (sym i.first.is) (in_middle i.first.front t i.first.back))
 
-  inside : IsIn t (opened_after start was)
-  inside = subst (IsIn t) (sym opened_is) (in_middle own.front t own.back)
+  w : IsWaiting t
+  w = is_waiting start was t unanswered (answered start was t first_served.before in_opened)
 
-  pub held : WaitsHeld start was t
-  held = waits_held start was t first.before inside waits
+  up : IsHeldUp start was w.tx
+  up = held_up start was t first_served.before in_opened w.tx w.own w.does
 
-  abbrev tx : TxId
-  tx = held.tx
+  live : OnTc (λ c. of_live w.tx c.live ≡ Some up.transaction) (after start w.tx.tc (was w.tx.tc))
+  live = on_live start w.tx up.transaction was w.tx.tc up.live
 
-  pub itself : has_tx held.tx t ≡ true
-  itself = ap (is_tx held.tx) held.is ∙ same_tx-self held.tx
-
-  pub alone : tally (has_tx held.tx) own.front ≡ 0
-  alone =
+  -- no other transaction of the API has its number
+  none : tally (has_tx w.tx) i.first.front ≡ 0
+  none =
+      let h = holds_at start w.tx was first_served.before in
       omega (
         arith,
-        (holds_at start held.tx was first.before).few,
-        once_started start held.tx was first.before,
-        ap (tally (has_tx held.tx)) opened_is,
-        tally_append (has_tx held.tx) own.front (t ∷ own.back),
-        ap one_if itself,
+        h.few,
+        once_started start w.tx was first_served.before,
+        ap (λ g. tally (has_tx w.tx) (opened_in g)) is,
+        tally_between (has_tx w.tx) i.first.front t i.first.back s.opened i.first.is,
+        ap one_if (ap (is_tx w.tx) w.own ∙ same_tx-self w.tx),
+        tally_append (has_tx w.tx) i.first.front i.first.back,
       )
 
-  pub asks : Asks own.name own.front own.back own.none held.tx t (row (after start 0 (was 0)) client (Host (Continue (Request Waits) 0)))
-  asks = waits_asks own.name own.front own.back own.none (after start 0 (was 0)) t held.tx own.at own.called waits held.is
+  f : IsFirst start was mid request.Waits
+  f = request_first start was mid request.Waits first_served
 
-  pub begins : are_of (is_wait held.tx) (row (after start 0 (was 0)) client (Host (Continue (Request Waits) 0))).effects.sends ≡ true
-  begins = ap (λ (effects : _). are_of (is_wait held.tx) effects.sends) asks.sends ∙ ap (λ b. if b then true else false) (same_tx-self held.tx)
+  asking : IsAsking s t w.tx i (step_after start 0 (was 0) f.first)
+  asking =
+      subst (λ (to : Place). IsAsking s t w.tx i (row (after start 0 (was 0)) to f.first.taken.body)) (sym f.place)
+      (subst (λ body. IsAsking s t w.tx i (row (after start 0 (was 0)) client body)) (sym f.body) (waits_first (after start 0 (was 0)) s t w.tx i is unanswered w.own))
 
-  pub since : SinceAre start was mid Waits (is_wait held.tx)
-  since = since_are start was mid Waits first (is_wait held.tx) (wait_closed held.tx) begins
+  abbrev first_cut : IsCut (with_first was f.first) mid
+  first_cut zero = record { newer = f.later; is = f.is }
+  first_cut (suc h) = first_served.cut (suc h)
 
-  -- the log of a node is that before, and such steps
-  node_log : (h : ℕ) (n : node.Node) → after start h (was h) ≡ Node n → mid h ≡ since.newer h ++ was h
-  node_log zero n is = let no : Shell (shell_after start (was 0)).state ≡ Node n = sym (shell_after start (was 0)).is ∙ is in cc
-  node_log (suc h) n is = since.nodes h
+  asked_same : requests (mid 0) ≡ requests (f.first ∷ was 0)
+  asked_same = first_served.asked ∙ ap (λ o. requests (was 0) ++ option_to_list o) (sym (ap request_in f.body))
 
-  -- a node that took such a signal sends what it sends as it was then
-  record TookAt (h : ℕ) (n : node.Node) (test : Place → Body → Bool) : Type 0 where
-    step : LogStep
-    front : List LogStep
-    older : List LogStep
-    is : mid h ≡ front ++ step ∷ older
-    past : IsPast (was h) older
-    state : after start h older ≡ Node n
-    passes : test step.taken.to step.taken.body ≡ true
+  all : AllHold start was first_served.before f.first w.tx up.transaction up.asked up.member up.unanswered up.inside live up.held i.first.front t i.first.back (Some i.name) w.own none asking.plain mid
+  all =
+      all_hold start was first_served.before f.first w.tx up.transaction up.asked up.member up.unanswered up.inside live up.held i.first.front t i.first.back (Some i.name) w.own none asking.plain mid f.right
+      first_served.since first_cut asked_same asking.about
 
-  took : (h : ℕ) (n : node.Node) (test : Place → Body → Bool) → after start h (was h) ≡ Node n → Came test (since.newer h) → TookAt h n test
-  took h n test is c = record {
-    step = c.step;
-    front = c.front;
-    older = c.back ++ was h;
-    is = node_log h n is ∙ ap (λ w. w ++ was h) c.is ∙ append_assoc c.front (c.step ∷ c.back) (was h);
-    past = past_append c.back (was h);
-    state = node_stays start held.tx h c.back (was h) n
-        (each_after (λ (e : LogStep). is_wait held.tx e.taken.body ≡ true) (c.front ++ c.step ∷ []) c.back
-        (subst (Each (λ (e : LogStep). is_wait held.tx e.taken.body ≡ true)) (c.is ∙ sym (append_assoc c.front (c.step ∷ []) c.back)) (since.each h))) is;
-    passes = c.passes;
+  abbrev cut : IsCut was mid
+  cut zero = record { newer = log_of (machine start) all.more 0 ++ f.first ∷ []; is = all.is 0 ∙ sym (append_assoc (log_of (machine start) all.more 0) (f.first ∷ []) (was 0)) }
+  cut (suc h) = record { newer = log_of (machine start) all.more (suc h); is = all.is (suc h) }
+
+  -- the question goes to the coordinator, from there to the node where the lock is, and the answer back
+  module _ (c m : ℕ) (c_is : w.tx.tc ≡ suc c) (m_is : up.member.node ≡ suc m) where
+    c_low : suc c < hosts start
+    c_low = let low = live_low start was w.tx up.transaction first_served.before w.tx.tc up.live in omega (arith, low, c_is)
+
+    m_low : suc m < hosts start
+    m_low = omega (arith, up.low, m_is)
+
+    wanted : 1 ≤ steps (is_want w.tx) (log_of (machine start) all.more (suc c))
+    wanted =
+        omega (
+          arith,
+          asking.wants,
+          ap (λ k. sends_of (to_node k (is_want w.tx)) (step_after start 0 (was 0) f.first).effects.sends) c_is,
+          sent_to_append start (is_want w.tx) 0 (suc c) (log_of (machine start) all.more 0) (f.first ∷ []) (was 0),
+          all_arrive start was mid first_served.before first_served.since cut (is_want w.tx) 0 (suc c) (omega arith) c_low,
+          taken_few start (is_want w.tx) 0 (log_of (machine start) all.more (suc c)),
+        )
+
+    probed : 1 ≤ steps (is_probe w.tx (key_of up.asked.op)) (log_of (machine start) all.more (suc m))
+    probed =
+        omega (
+          arith,
+          wanted,
+          (all.nodes c).wants c_is,
+          ap (λ k. sent_since_to start (is_probe w.tx (key_of up.asked.op)) (suc c) k (log_of (machine start) all.more (suc c)) (was (suc c))) m_is,
+          all_arrive start was mid first_served.before first_served.since cut (is_probe w.tx (key_of up.asked.op)) (suc c) (suc m) c_low m_low,
+          taken_few start (is_probe w.tx (key_of up.asked.op)) (suc c) (log_of (machine start) all.more (suc m)),
+        )
+
+    found : 1 ≤ steps (is_found w.tx) (log_of (machine start) all.more (suc c))
+    found =
+        omega (
+          arith,
+          probed,
+          (all.nodes m).finds m_is,
+          ap (λ k. sent_since_to start (is_found w.tx) (suc m) k (log_of (machine start) all.more (suc m)) (was (suc m))) c_is,
+          all_arrive start was mid first_served.before first_served.since cut (is_found w.tx) (suc m) (suc c) m_low c_low,
+          taken_few start (is_found w.tx) (suc m) (log_of (machine start) all.more (suc c)),
+        )
+
+    passed : 1 ≤ steps (is_passed w.tx) (log_of (machine start) all.more 0)
+    passed =
+        omega (
+          arith,
+          found,
+          (all.nodes c).passes c_is,
+          all_arrive start was mid first_served.before first_served.since cut (is_passed w.tx) (suc c) 0 c_low (omega arith),
+          taken_few start (is_passed w.tx) (suc c) (log_of (machine start) all.more 0 ++ f.first ∷ []),
+          tally_append (λ (e : LogStep). is_passed w.tx e.taken.to e.taken.body) (log_of (machine start) all.more 0) (f.first ∷ []),
+          ap one_if (ap (λ (to : Place). is_passed w.tx to f.first.taken.body) f.place ∙ ap (is_passed w.tx client) f.body),
+        )
+
+  ahead_known : is_some all.shell.ahead ≡ true
+  ahead_known =
+      let c = not_shell start w.tx up.transaction was (IsLiveAs w.tx up.transaction) (λ state p. p) w.tx.tc up.live in
+      let m = not_shell start w.tx up.transaction was (IsHeldUpAt w.tx (key_of up.asked.op)) (λ state p. p) up.member.node up.held in
+      all.shell.known (passed c.0 m.0 c.1 m.1)
+
+  then : IsFirst start mid now request.Pending
+  then = request_first start mid now request.Pending then_served
+
+  about : IsAboutOne i.first.front t i.first.back (Some i.name) all.shell.ahead (after start 0 (mid 0))
+  about = subst (λ log. IsAboutOne i.first.front t i.first.back (Some i.name) all.shell.ahead (after start 0 log)) (sym (all.is 0)) all.shell.about
+
+  tells : TellsHolder t.name (after start 0 (mid 0)) (step_after start 0 (mid 0) then.first)
+  tells =
+      subst (λ (to : Place). TellsHolder t.name (after start 0 (mid 0)) (row (after start 0 (mid 0)) to then.first.taken.body)) (sym then.place)
+      (subst (λ body. TellsHolder t.name (after start 0 (mid 0)) (row (after start 0 (mid 0)) client body)) (sym then.body)
+      (pending_first (after start 0 (mid 0)) i.first.front t i.first.back i.name all.shell.ahead about unanswered i.first.none i.first.passes ahead_known))
+
+  holder_told : IsToldHolder start was mid now
+  holder_told = record {
+    own = t;
+    is = own;
+    holder = tells.holder;
+    told = subst (λ log. IsIn (Pending t.name (HeldBy tells.holder)) (drop (length (replies_of (after start 0 (mid 0)))) (replies_of (after start 0 log)))) (sym then.is)
+        (told_since start (mid 0) (mid 0) then.later then.first (Pending t.name (HeldBy tells.holder)) (past_self (mid 0)) tells.told);
   }
 
-  home_low : held.tx.tc < hosts start
-  home_low = omega (arith, held.home_low)
+-- the own transaction of a host whose last command left it unanswered
+record IsLeft (g : host.Host) : Type 0 where
+  t : OpenTransaction
+  own : own_in g ≡ Some t
+  unanswered : is_unanswered t.doing ≡ true
 
-  replica_low : held.replica < hosts start
-  replica_low = omega (arith, held.low)
+left_own : (g : host.Host) → is_left_open g ≡ true → IsLeft g
+unfolding is_left_open
+left_own (Node n) left = cc
+left_own (Shell s) left = at_place (own_place s) refl left
+  where
+    at_get : (at : ℕ) (x : Option OpenTransaction) → own_place s ≡ Some at → slice_get s.opened at ≡ x → if_there false (λ (y : OpenTransaction). is_unanswered y.doing) x ≡ true → IsLeft (Shell s)
+    at_get at None place get is = cc
+    at_get at (Some y) place get is = record {
+      t = y;
+      own = ap (where_at s.opened None (λ p (x : OpenTransaction). Some x)) place ∙ ap (if_there None (λ (x : OpenTransaction). Some x)) get;
+      unanswered = is;
+    }
 
-  shell_low : 0 < hosts start
-  shell_low = omega arith
+    at_place : (o : Option ℕ) → own_place s ≡ o → where_at s.opened false (λ at (y : OpenTransaction). is_unanswered y.doing) o ≡ true → IsLeft (Shell s)
+    at_place None place is = cc
+    at_place (Some at) place is = at_get at (slice_get s.opened at) place refl is
 
-  once : KeysOnce held.at_home.home.tc.live
-  once = keys_once (after start held.tx.tc (was held.tx.tc)) held.at_home.home _ held.at_home.is (log_sound start held.tx.tc (was held.tx.tc))
-
-  -- the coordinator is asked
-  asked : Came (is_asking held.tx) (since.newer held.tx.tc)
-  asked =
-      passes_on start (is_asking held.tx) was mid Waits first (is_wait held.tx) since 0 held.tx.tc shell_low home_low (since.newer 0) since.first (was 0) since.shell (past_self (was 0))
-      (subst (λ (step : Step host.Host). 1 ≤ sends_of (to_node held.tx.tc (is_asking held.tx)) step.effects.sends)
-      (sym (at_first start (was 0) since.first (Host (Continue (Request Waits) 0)) since.place since.body))
-      (subst (λ (effects : _). 1 ≤ sends_of (to_node held.tx.tc (is_asking held.tx)) effects.sends) (sym asks.sends)
-      (rows.some_sum ((held.tx.tc == held.tx.tc) && same_tx held.tx held.tx) 0 (rows.both (held.tx.tc == held.tx.tc) (same_tx held.tx held.tx) (eqb-self held.tx.tc) (same_tx-self held.tx)))))
-
-  -- it asks the replica
-  sought : Came (is_seeking held.tx (key_of held.asked.op)) (since.newer held.replica)
-  sought =
-      let a = took held.tx.tc held.at_home.home (is_asking held.tx) held.at_home.is asked in
-      passes_on start (is_seeking held.tx (key_of held.asked.op)) was mid Waits first (is_wait held.tx) since held.tx.tc held.replica home_low replica_low a.front a.step a.older a.is a.past
-      (node_sends (to_node held.replica (is_seeking held.tx (key_of held.asked.op))) (after start held.tx.tc a.older) held.at_home.home a.step.taken.to a.step.taken.body a.state
-      (asks_on held.tx held.at_home.home held.transaction held.asked held.at held.replica once held.at_home.live held.asks held.inside held.place a.step.taken.to.block a.step.taken.body a.passes))
-
-  -- which tells who holds the lock
-  found : Came (is_finding held.tx) (since.newer held.tx.tc)
-  found =
-      let a = took held.replica held.rows (is_seeking held.tx (key_of held.asked.op)) held.there sought in
-      passes_on start (is_finding held.tx) was mid Waits first (is_wait held.tx) since held.replica held.tx.tc replica_low home_low a.front a.step a.older a.is a.past
-      (node_sends (to_node held.tx.tc (is_finding held.tx)) (after start held.replica a.older) held.rows a.step.taken.to a.step.taken.body a.state
-      (finds_on held.tx held.rows (key_of held.asked.op) held.ahead held.held a.step.taken.to.block a.step.taken.body a.passes))
-
-  -- and the client is told
-  told : Came (is_telling held.tx) (since.newer 0)
-  told =
-      let a = took held.tx.tc held.at_home.home (is_finding held.tx) held.at_home.is found in
-      passes_on start (is_telling held.tx) was mid Waits first (is_wait held.tx) since held.tx.tc 0 home_low shell_low a.front a.step a.older a.is a.past
-      (node_sends (to_node 0 (is_telling held.tx)) (after start held.tx.tc a.older) held.at_home.home a.step.taken.to a.step.taken.body a.state
-      (rows.passes_on held.tx held.at_home.home held.transaction once held.at_home.live a.step.taken.to.block a.step.taken.body a.passes))
-
-  -- the steps that told it are counted
-  some_told : (test : Place → Body → Bool) (newer front back : List LogStep) (e : LogStep) → newer ≡ front ++ e ∷ back → test e.taken.to e.taken.body ≡ true → 1 ≤ steps test newer
-  some_told test newer front back e is passes =
-      omega (
-        arith,
-        ap (steps test) is,
-        tally_append (λ (x : LogStep). test x.taken.to x.taken.body) front (e ∷ back),
-        ap one_if passes,
-      )
-
-  first_own : IsOwnAt own.name own.front (behind t None) own.back (after start 0 (since.first ∷ was 0))
-  first_own =
-      subst (λ (step : Step host.Host). IsOwnAt own.name own.front (behind t None) own.back step.state) (sym (at_first start (was 0) since.first (Host (Continue (Request Waits) 0)) since.place since.body)) asks.own
-
-  pub stood : Stands start held.tx own.name own.front own.back own.none t held.is alone itself (since.newer 0) (since.first ∷ was 0)
-  stood = stands start held.tx own.name own.front own.back own.none t held.is alone itself (since.newer 0) (since.first ∷ was 0) (since.each 0) first_own
-
-  at_mid : IsOwnAt own.name own.front (behind t stood.ahead) own.back (after start 0 (mid 0))
-  at_mid = subst (λ log. IsOwnAt own.name own.front (behind t stood.ahead) own.back (after start 0 log)) (sym since.shell) stood.own
-
-  known : is_some stood.ahead ≡ true
-  known = stood.told (some_told (is_telling held.tx) (since.newer 0) told.front told.back told.step told.is told.passes)
-
-  -- whom the transaction waits for, as the shell's host knows it
-  pub record IsKnown : Type 0 where
-    pub who : TxId
-    pub is : stood.ahead ≡ Some who
-
-  pub known_who : IsKnown
-  known_who = by stood.ahead refl known
-    where
-      by : (o : Option TxId) → stood.ahead ≡ o → is_some o ≡ true → IsKnown
-      by None is e = cc
-      by (Some who) is e = record { who = who; is = is }
-
-  tells : Tells own.name own.front own.back own.none t.name known_who.who (after start 0 (mid 0)) (row (after start 0 (mid 0)) client (Host (Continue (Request Pending) 0)))
-  tells = pending_tells own.name own.front own.back own.none (after start 0 (mid 0)) (behind t stood.ahead) known_who.who at_mid own.called waits known_who.is
-
-  -- the reply names it
-  pub reply_told : IsIn (reply.Pending t.name (HeldBy (name_in (opened_after start mid) known_who.who))) (replies_since start mid now)
-  reply_told =
-      let f : IsFirst start mid now Pending = request_first start mid now Pending second in
-      let r = reply.Pending t.name (HeldBy (name_in (opened_after start mid) known_who.who)) in
-      subst (λ log. IsIn r (drop (length (replies_of (after start 0 (mid 0)))) (replies_of (after start 0 log)))) (sym f.is)
-      (told_since start (mid 0) (mid 0) f.later f.first r (past_self (mid 0))
-      (ap (λ (step : Step host.Host). replies_of step.state) (at_first start (mid 0) f.first (Host (Continue (Request Pending) 0)) f.place f.body) ∙ tells.told))
-
-  pub holder_told : IsToldHolder start mid now t.name
-  holder_told = record { holder = name_in (opened_after start mid) known_who.who; told = reply_told }
-
--- what the shell is told of its last command, where that waits
-pub holders_are_told : HoldersAreTold
-holders_are_told start was mid now t first second own_is waits = holder_told start was mid now t first second own_is waits
+-- so it is where each command is answered, but for an operation that is held up
+pub holders_told : EachIsAnswered → EachIsHeldUp → HoldersAreTold
+holders_told answered held_up start was mid now first_served then_served left =
+    let own = left_own (after start 0 (was 0)) left in
+    holder_told answered held_up start was mid now own.t first_served then_served own.own own.unanswered

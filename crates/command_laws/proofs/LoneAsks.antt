@@ -50,6 +50,7 @@ use Rattle.command_laws.proofs.ApiChanges.{ApiChange, GoesOnAs, alone, answers, 
 use Rattle.command_laws.proofs.Entries.{HasOne}
 use Rattle.command_laws.proofs.Since.{sent_since}
 use Rattle.command_laws.proofs.TellsOnce.{is_wish_back_to, wish_back_of}
+use Rattle.command_laws.proofs.Tests.{and_off}
 
 -- the answer of an operation alone
 abbrev pub is_lone : ApiReply → Bool
@@ -156,7 +157,7 @@ lone_since start (e ∷ later) log plain = by (lone_since start later log plain.
 
 module _ (tx : TxId) where
   none_news : (to : Place) (body : Body) → is_news_kind body ≡ true → (is_wish_back_to tx to body ≡ false) × (is_key tx to body ≡ false)
-  none_news to body e = (by (is_tc to.block) (wish body e), by (is_tc to.block) (key body e))
+  none_news to body e = (and_off (is_tc to.block) (wish body e), and_off (is_tc to.block) (key body e))
     where
       wish : (b : Body) → is_news_kind b ≡ true → wish_back_of tx b ≡ false
       wish (Client (TcRollbackReq one)) k = cc
@@ -165,10 +166,6 @@ module _ (tx : TxId) where
       key : (b : Body) → is_news_kind b ≡ true → key_of_tx tx b ≡ false
       key (Client (TcKeyReq one op)) k = cc
       key _ k = refl
-
-      by : (a : Bool) {b : Bool} → b ≡ false → (a && b) ≡ false
-      by true p = p
-      by false p = refl
 
   -- no abort is wished for, and an operation is asked for only where the transaction has begun
   pub record AsksOnce (body : Body) (sends : List Outgoing) : Type 0 where

@@ -32,7 +32,6 @@ use Rattle.tc_block.specs.declared.transaction.Transaction.{Transaction}
 use Rattle.world_core.proofs.Replies.{replies_grow}
 use Rattle.world_core.specs.Machine.{after, hosts, machine, step_after}
 use Rattle.world_core.specs.Start.{Start}
-use Rattle.answer_laws.proofs.Answers.{each_answered}
 use Rattle.answer_laws.proofs.ApiBegins.{in_middle}
 use Rattle.answer_laws.proofs.LinkCounts.{all_three, signals, steps, taken_steps}
 use Rattle.answer_laws.proofs.Lives.{NodeKeeps, keeps, once_started}
@@ -41,8 +40,8 @@ use Rattle.answer_laws.proofs.TcKeys.{answer_of, is_asked, is_key, key_of_tx}
 use Rattle.answer_laws.proofs.TcLives.{is_keyed, is_start}
 use Rattle.answer_laws.proofs.TcSends.{same_tx-self}
 use Rattle.answer_laws.proofs.Wishes.{is_api, is_tc}
-use Rattle.answer_laws.specs.Answered.{is_answered_by, opened_after, opened_in}
-use Rattle.command_laws.proofs.EntryGoes.{HasEnded, commit_goes}
+use Rattle.answer_laws.specs.Answered.{EachIsAnswered, is_answered_by, opened_after, opened_in}
+use Rattle.command_laws.proofs.CommitGoes.{HasEnded, commit_goes}
 use Rattle.command_laws.proofs.Committed.{cut_at_first, sent_append}
 use Rattle.command_laws.proofs.Entries.{HasOne}
 use Rattle.command_laws.proofs.FirmHosts.{back_of, is_back}
@@ -54,6 +53,7 @@ use Rattle.command_laws.proofs.Since.{few_taken, front_nil, none_taken, sent_sin
 use Rattle.command_laws.proofs.TellsOnce.{HasTold, IsOneOfThree, is_wish_back_to, wish_back_of}
 use Rattle.command_laws.proofs.TellsSince.{OnTc, away_since, shell_since, since_none, tells_since}
 use Rattle.command_laws.proofs.TurnTells.{is_reply}
+use Rattle.command_laws.proofs.Tests.{and_off, none_at}
 use Rattle.command_laws.specs.Served.{IsAnsweredAlone, IsCommittedAlone, IsServed, LoneAreCommitted}
 
 -- signals that one host alone sent were taken from that host
@@ -85,37 +85,25 @@ request_plain_key tx to body is = plain body (last_of (is_tc to.block) (key_of_t
     plain _ e = cc
 
 no_key_node : (tx : TxId) (to : Place) (body : Body) → is_node_kind body ≡ true → is_key tx to body ≡ false
-no_key_node tx to body e = by (is_tc to.block) (plain body e)
+no_key_node tx to body e = and_off (is_tc to.block) (plain body e)
   where
     plain : (b : Body) → is_node_kind b ≡ true → key_of_tx tx b ≡ false
     plain (Client (TcKeyReq one op)) k = cc
     plain _ k = refl
 
-    by : (a : Bool) → key_of_tx tx body ≡ false → (a && key_of_tx tx body) ≡ false
-    by true p = p
-    by false p = refl
-
 no_wish_node : (tx : TxId) (to : Place) (body : Body) → is_node_kind body ≡ true → is_wish_back_to tx to body ≡ false
-no_wish_node tx to body e = by (is_tc to.block) (plain body e)
+no_wish_node tx to body e = and_off (is_tc to.block) (plain body e)
   where
     plain : (b : Body) → is_node_kind b ≡ true → wish_back_of tx b ≡ false
     plain (Client (TcRollbackReq one)) k = cc
     plain _ k = refl
 
-    by : (a : Bool) → wish_back_of tx body ≡ false → (a && wish_back_of tx body) ≡ false
-    by true p = p
-    by false p = refl
-
 request_plain_wish : (tx : TxId) (to : Place) (body : Body) → is_request body ≡ true → is_wish_back_to tx to body ≡ false
-request_plain_wish tx to body is = by (is_tc to.block) (plain body is)
+request_plain_wish tx to body is = and_off (is_tc to.block) (plain body is)
   where
     plain : (b : Body) → is_request b ≡ true → wish_back_of tx b ≡ false
     plain (Client (TcRollbackReq one)) r = cc
     plain _ r = refl
-
-    by : (a : Bool) → wish_back_of tx body ≡ false → (a && wish_back_of tx body) ≡ false
-    by true p = p
-    by false p = refl
 
 fewer_asked : (tx : TxId) (live : List (TxId × Transaction)) → tally (is_asked tx) live ≤ tally (is_keyed tx) live
 fewer_asked tx [] = omega arith
@@ -145,17 +133,10 @@ module _ (start : Start) (was now : ℕ → List LogStep) (op : Op) (served : Is
         omega (arith, sent_append start (is_wish_back_to tx) 0 f.later (f.first ∷ []) (was 0), (asks_since tx start f.later (f.first ∷ was 0) f.plain).0, first.wishes)
     no_wishes (suc h) = node_since start (is_wish_back_to tx) (no_wish_node tx) h (cut (suc h)).newer (was (suc h))
 
-    plain_wish : (e : LogStep) → (is_request e.taken.body ≡ false → is_wish_back_to tx e.taken.to e.taken.body ≡ false) → is_wish_back_to tx e.taken.to e.taken.body ≡ false
-    plain_wish e none = by (is_request e.taken.body) refl
-      where
-        by : (b : Bool) → is_request e.taken.body ≡ b → is_wish_back_to tx e.taken.to e.taken.body ≡ false
-        by true is = request_plain_wish tx e.taken.to e.taken.body is
-        by false is = none is
-
     none_wished : (h : ℕ) → Each (λ (e : LogStep). is_wish_back_to tx e.taken.to e.taken.body ≡ false) (cut h).newer
     none_wished h =
         each_map (λ (e : LogStep). is_request e.taken.body ≡ false → is_wish_back_to tx e.taken.to e.taken.body ≡ false) (λ (e : LogStep). is_wish_back_to tx e.taken.to e.taken.body ≡ false) (cut h).newer
-        plain_wish (none_taken start was now served.before served.since cut (is_wish_back_to tx) no_wishes h)
+        (none_at (is_wish_back_to tx) (request_plain_wish tx)) (none_taken start was now served.before served.since cut (is_wish_back_to tx) no_wishes h)
 
     -- an operation is asked for at most once since it has begun
     few_keys : (h : ℕ) → steps (is_key tx) (cut (suc h)).newer ≤ steps (is_start tx) f.later
@@ -246,7 +227,7 @@ module _ (start : Start) (was now : ℕ → List LogStep) (op : Op) (served : Is
             (first no_tx).lone,
           ))
 
-  module _ (l : HasLone start f.later (f.first ∷ was 0)) where
+  module _ (answered : EachIsAnswered) (l : HasLone start f.later (f.first ∷ was 0)) where
     now_is : now 0 ≡ l.newer ++ l.step ∷ (l.older ++ f.first ∷ was 0)
     now_is = f.is ∙ ap (λ w. w ++ f.first ∷ was 0) l.is ∙ append_assoc l.newer (l.step ∷ l.older) (f.first ∷ was 0)
 
@@ -317,7 +298,7 @@ module _ (start : Start) (was now : ℕ → List LogStep) (op : Op) (served : Is
     still_committing : HasOne l.tx None Committing (opened_after start now) → ⊥
     still_committing has =
         subst (λ d. is_answered_by start now d has.item.tx → ⊥) (sym has.does) (λ none. by has.item.tx none)
-        (each_answered start now has.item served.since has.inside)
+        (answered start now has.item served.since has.inside)
       where
         by : (o : Option TxId) → is_answered_by start now Committing o → ⊥
         by (Some one) none = none
@@ -343,6 +324,6 @@ module _ (start : Start) (was now : ℕ → List LogStep) (op : Op) (served : Is
             let r = reported start was now served.since l.tx None l.newer (l.step ∷ (l.older ++ f.first ∷ was 0)) now_is past plain_newer none_newer ended in
             record { epoch = r.epoch; told = r.told }
 
--- so operations alone are committed
-pub lone_committed : LoneAreCommitted
-lone_committed start was now op served answered = lone_told start was now op served (answered_step start was now op served answered)
+-- so it is where each command is answered
+pub lone_committed : EachIsAnswered → LoneAreCommitted
+lone_committed each start was now op served answered = lone_told start was now op served each (answered_step start was now op served answered)

@@ -1,7 +1,7 @@
 -- What a transaction sends as it comes to a phase, or goes on with that.
 use Rattle.std.proofs.Common.{◌≡◌, ℕ, Bool, true, false, List, refl}
 use Rattle.std.specs.List.{flat_map}
-use Rattle.std.specs.Prelude.{if◌then◌else◌, drop, length, map, nat_lt, take}
+use Rattle.std.specs.Prelude.{drop, length, map, nat_lt, take}
 use Rattle.sig_core.specs.declared.member.Member.{Member}
 use Rattle.sig_core.specs.declared.member.TxId.{TxId}
 use Rattle.sig_core.specs.declared.outs.Outgoing.{Outgoing}
@@ -19,29 +19,26 @@ use Rattle.tc_block.specs.Chain.{chain_of}
 use Rattle.tc_block.specs.Part.{part_effects, rest_if}
 use Rattle.tc_block.specs.Sends.{abort_of, complete_if, entering, front_sends, go_on_if, go_on_row, key_sends, phase_sends}
 use Rattle.answer_laws.proofs.SendKinds.{are_of, of_append, of_drop, of_flat, of_map, of_take}
+use Rattle.command_laws.proofs.Tests.{one_kind}
 
 -- a kind of signal that has what is sent to replicas, and what goes on with a list
-pub record HasChains (kind : Body → Bool) : Type 0 where
-  pub commits : (tx : TxId) (key : List ℕ) (epoch : ℕ) (chain : List Member) (at : ℕ) → kind (Chain (Commit tx key epoch chain at)) ≡ true
-  pub completes : (tx : TxId) (key : List ℕ) (chain : List Member) (at : ℕ) → kind (Chain (Complete tx key chain at)) ≡ true
-  pub aborts : (tx : TxId) (key : List ℕ) → kind (Chain (Abort tx key)) ≡ true
-  pub goes_on : (tx : TxId) (at : ℕ) → kind (Host (Continue (work.Transaction tx) at)) ≡ true
+pub record HasChains (tx : TxId) (kind : Body → Bool) : Type 0 where
+  pub commits : (key : List ℕ) (epoch : ℕ) (chain : List Member) (at : ℕ) → kind (Chain (Commit tx key epoch chain at)) ≡ true
+  pub completes : (key : List ℕ) (chain : List Member) (at : ℕ) → kind (Chain (Complete tx key chain at)) ≡ true
+  pub aborts : (key : List ℕ) → kind (Chain (Abort tx key)) ≡ true
+  pub goes_on : (at : ℕ) → kind (Host (Continue (work.Transaction tx) at)) ≡ true
 
-module _ (kind : Body → Bool) (has : HasChains kind) (view : View) (tx : TxId) where
-  one_of : (b : Bool) → b ≡ true → (if b then true else false) ≡ true
-  one_of true e = refl
-  one_of false e = cc
-
+module _ (kind : Body → Bool) (view : View) (tx : TxId) (has : HasChains tx kind) where
   pub aborts_of_kind : (key : List ℕ) (members : List Member) → are_of kind (map (abort_of tx key) members) ≡ true
-  aborts_of_kind key members = of_map kind (abort_of tx key) members (λ m. has.aborts tx key)
+  aborts_of_kind key members = of_map kind (abort_of tx key) members (λ m. has.aborts key)
 
   keys_of_kind : (phase : Phase) (t : Touched) → are_of kind (key_sends view tx phase t) ≡ true
   unfolding key_sends
-  keys_of_kind (Committing epoch awaited) t = one_of _ (has.commits tx t.key epoch t.chain _)
+  keys_of_kind (Committing epoch awaited) t = one_kind _ (has.commits t.key epoch t.chain _)
   keys_of_kind (Completing epoch awaited) t = by t.written
     where
       by : (b : Bool) → are_of kind (complete_if tx t b) ≡ true
-      by true = one_of _ (has.completes tx t.key t.chain _)
+      by true = one_kind _ (has.completes t.key t.chain _)
       by false = refl
   keys_of_kind (Aborting why verifying awaited) t = aborts_of_kind t.key (chain_of view t.key)
   keys_of_kind Open t = refl
@@ -57,7 +54,7 @@ module _ (kind : Body → Bool) (has : HasChains kind) (view : View) (tx : TxId)
   part_of_kind node sends at all = of_append kind (take 8 (drop at sends)) _ (of_take kind 8 (drop at sends) (of_drop kind at sends all)) (by (nat_lt _ (length sends)))
     where
       by : (b : Bool) → are_of kind (rest_if node tx at b) ≡ true
-      by true = one_of _ (has.goes_on tx _)
+      by true = one_kind _ (has.goes_on _)
       by false = refl
 
   pub entering_of_kind : (node : ℕ) (t : Transaction) (phase : Phase) → are_of kind (front_sends tx phase) ≡ true → are_of kind (entering node view tx t phase).effects.sends ≡ true

@@ -1,6 +1,6 @@
 -- What the shell's host sends to coordinators, and that nodes send nothing of that.
 use Rattle.std.proofs.Common.{◌≡◌, ℕ, suc, Bool, true, false, List, [], ◌∷◌, ◌++◌, refl, sym, ap, ◌∙◌, subst, arith}
-use Rattle.std.specs.Prelude.{◌&&◌, Option}
+use Rattle.std.specs.Prelude.{Option}
 use Rattle.run_theory.specs.Lists.{Each}
 use Rattle.sig_core.specs.declared.log.LogStep.{LogStep}
 use Rattle.sig_core.specs.declared.member.TxId.{TxId}
@@ -39,6 +39,7 @@ use Rattle.command_laws.proofs.ApiChanges.{ApiChange, answers, api_changes, comm
 use Rattle.command_laws.proofs.Entries.{NoneBegins}
 use Rattle.command_laws.proofs.FirmHosts.{is_push_to, push_of}
 use Rattle.command_laws.proofs.Since.{sent_since}
+use Rattle.command_laws.proofs.Tests.{and_off}
 
 -- all but what the API asks coordinators for
 abbrev pub is_node_kind : Body → Bool
@@ -106,32 +107,24 @@ node_since start test fails h (e ∷ newer) log =
 no_push_node : (tx : TxId) (to : Place) (body : Body) → is_node_kind body ≡ true → is_push_to tx to body ≡ false
 no_push_node tx to (Client (TcKeyReq one op)) e = cc
 no_push_node tx to (Client (TcRollbackReq one)) e = cc
-no_push_node tx to body e = by (is_tc to.block) (plain body e)
+no_push_node tx to body e = and_off (is_tc to.block) (plain body e)
   where
     plain : (b : Body) → is_node_kind b ≡ true → push_of tx b ≡ false
     plain (Client (TcKeyReq one op)) k = cc
     plain (Client (TcRollbackReq one)) k = cc
     plain _ k = refl
 
-    by : (a : Bool) → push_of tx body ≡ false → (a && push_of tx body) ≡ false
-    by true p = p
-    by false p = refl
-
 pub node_pushes : (start : Start) (tx : TxId) (h : ℕ) (newer log : List LogStep) → sent_since start (is_push_to tx) (suc h) newer log ≡ 0
 node_pushes start tx h newer log = node_since start (is_push_to tx) (no_push_node tx) h newer log
 
 module _ (tx : TxId) where
   no_push_news : (to : Place) (body : Body) → is_news_kind body ≡ true → is_push_to tx to body ≡ false
-  no_push_news to body e = by (is_tc to.block) (plain body e)
+  no_push_news to body e = and_off (is_tc to.block) (plain body e)
     where
       plain : (b : Body) → is_news_kind b ≡ true → push_of tx b ≡ false
       plain (Client (TcKeyReq one op)) k = cc
       plain (Client (TcRollbackReq one)) k = cc
       plain _ k = refl
-
-      by : (a : Bool) → push_of tx body ≡ false → (a && push_of tx body) ≡ false
-      by true p = p
-      by false p = refl
 
   -- no transaction begins after the step, and it sends neither an operation nor the wish for an abort
   pub record KeepsCalm (opened : List OpenTransaction) (sends : List Outgoing) : Type 0 where

@@ -36,11 +36,16 @@ module _ (start : Start) (test : Place → Body → Bool) where
   sent_since h [] log = 0
   sent_since h (e ∷ newer) log = sends_of test (step_after start h (newer ++ log) e).effects.sends + sent_since h newer log
 
+  -- those of them that are for host j
+  abbrev pub sent_since_to : ℕ → ℕ → List LogStep → List LogStep → ℕ
+  sent_since_to h j [] log = 0
+  sent_since_to h j (e ∷ newer) log = sends_of (to_node j test) (step_after start h (newer ++ log) e).effects.sends + sent_since_to h j newer log
+
   -- and how many they took from host i
   abbrev pub taken_since : ℕ → List LogStep → ℕ
   taken_since i newer = tally (λ (e : LogStep). is_from (machine start) i e && test e.taken.to e.taken.body) newer
 
-  fewer : (j : ℕ) (sends : List Outgoing) → sends_of (to_node j test) sends ≤ sends_of test sends
+  pub fewer : (j : ℕ) (sends : List Outgoing) → sends_of (to_node j test) sends ≤ sends_of test sends
   fewer j [] = omega arith
   fewer j (o ∷ sends) = omega (arith, fewer j sends, less (o.to.node == j) (test o.to o.body))
     where
@@ -48,10 +53,14 @@ module _ (start : Start) (test : Place → Body → Bool) where
       less true b = omega arith
       less false b = omega arith
 
-  link_sent : (h j : ℕ) (newer log : List LogStep) → signals test (sent (machine start) h j (newer ++ log)) ≤ sent_since h newer log + signals test (sent (machine start) h j log)
+  pub link_sent : (h j : ℕ) (newer log : List LogStep) → signals test (sent (machine start) h j (newer ++ log)) ≤ sent_since h newer log + signals test (sent (machine start) h j log)
   link_sent h j [] log = omega arith
   link_sent h j (e ∷ newer) log =
       omega (arith, link_sent h j newer log, sent_signals start test h j e (newer ++ log), fewer j (step_after start h (newer ++ log) e).effects.sends)
+
+  link_sent_to : (h j : ℕ) (newer log : List LogStep) → signals test (sent (machine start) h j (newer ++ log)) ≡ sent_since_to h j newer log + signals test (sent (machine start) h j log)
+  link_sent_to h j [] log = omega arith
+  link_sent_to h j (e ∷ newer) log = omega (arith, link_sent_to h j newer log, sent_signals start test h j e (newer ++ log))
 
   link_taken : (i : ℕ) (newer log : List LogStep) → signals test (taken (machine start) i (newer ++ log)) ≡ taken_since i newer + signals test (taken (machine start) i log)
   link_taken i [] log = omega arith
@@ -114,3 +123,16 @@ module _ (start : Start) (was now : ℕ → List LogStep) (before : AreQuiet sta
             let zero : taken_since start test i (newer_at j) ≡ 0 = omega (arith, few_taken i j, none i) in
             let off = each_in (λ (f : LogStep). (is_from (machine start) i f && test f.taken.to f.taken.body) ≡ false) e (newer_at j) (none_counted _ (newer_at j) zero) inside in
             ap (λ b. b && test e.taken.to e.taken.body) (sym (from_link i e plain refl)) ∙ off
+
+    -- all that was sent to a host since then was taken there
+    pub all_arrive : (i j : ℕ) → i < hosts start → j < hosts start → sent_since_to start test i j (newer_at i) (was i) ≤ taken_since start test i (newer_at j)
+    all_arrive i j under low =
+        omega (
+          arith,
+          ap (signals test) (since.quiet i j under low),
+          ap (signals test) (before.quiet i j under low),
+          ap (λ log. signals test (sent (machine start) i j log)) (cut i).is,
+          ap (λ log. signals test (taken (machine start) i log)) (cut j).is,
+          link_sent_to start test i j (newer_at i) (was i),
+          link_taken start test i (newer_at j) (was j),
+        )

@@ -8,7 +8,8 @@ use Rattle.run_theory.proofs.Pasts.{each_map}
 use Rattle.sig_core.specs.declared.member.TxId.{TxId}
 use Rattle.sig_core.specs.declared.place.Place.{Place}
 use Rattle.sig_core.specs.declared.signal.Body.{Body}
-use Rattle.sig_core.specs.declared.signal.Body.TheVariants.{Client}
+use Rattle.sig_core.specs.declared.signal.Body.TheVariants.{Client, Chain}
+use Rattle.sig_core.specs.declared.signal.chain.ChainSignal.TheVariants.{Abort}
 use Rattle.sig_core.specs.declared.signal.client.ClientSignal.TheVariants.{TcKeyConf, TcCommitConf, TcRollbackRep}
 use Rattle.sig_core.specs.Same.{same_tx}
 use Rattle.sig_core.specs.Step.{Step}
@@ -18,21 +19,22 @@ use Rattle.tc_block.specs.State.{TcState}
 use Rattle.tc_block.specs.Tc.{begun, next_tx, tc_row}
 use Rattle.tc_block.specs.Turn.{Turn}
 use Rattle.answer_laws.proofs.ApiMoves.{is_api_kind}
-use Rattle.answer_laws.proofs.SendKinds.{is_dih_kind, is_lqh_kind, is_tc_kind, none_of}
+use Rattle.answer_laws.proofs.SendKinds.{is_dih_kind, is_lqh_kind, none_of}
 use Rattle.answer_laws.proofs.Tally.{one_if, tally, tally_between, tally_append}
 use Rattle.answer_laws.proofs.TcLives.{IsOwn, apart, insert_new, is_keyed}
 use Rattle.answer_laws.proofs.TcMoves.{same_tx-is}
 use Rattle.answer_laws.proofs.TcSends.{same_tx-self, tx_in}
 use Rattle.answer_laws.proofs.Wishes.{sends_of}
 use Rattle.transit_laws.specs.Live.{of_live}
-use Rattle.command_laws.proofs.FirmHosts.{turn_sends}
+use Rattle.command_laws.proofs.OwnSends.{is_own_kind, turn_own}
 use Rattle.command_laws.proofs.Turns.{TakesTurn, TcShape, is_idle_kind, starts, still, tc_shape, turn_by, turns}
 
--- what the coordinator tells the client of the transaction, once it has begun
+-- what the coordinator tells the client of the transaction, once it has begun, and replicas of its abort
 abbrev pub told_of : TxId → Body → Bool
 told_of tx (Client (TcKeyConf other answer)) = same_tx other tx
 told_of tx (Client (TcCommitConf other epoch)) = same_tx other tx
 told_of tx (Client (TcRollbackRep other cause)) = same_tx other tx
+told_of tx (Chain (Abort other key)) = same_tx other tx
 told_of tx _ = false
 
 abbrev pub is_told : TxId → Place → Body → Bool
@@ -59,30 +61,35 @@ module _ (tx : TxId) where
   none_idle to (Client (TcKeyConf other answer)) e = cc
   none_idle to (Client (TcCommitConf other epoch)) e = cc
   none_idle to (Client (TcRollbackRep other cause)) e = cc
+  none_idle to (Chain (Abort other key)) e = cc
   none_idle to _ e = refl
 
-  none_other : (one : TxId) → same_tx one tx ≡ false → (to : Place) (body : Body) → is_tc_kind one body ≡ true → is_told tx to body ≡ false
+  none_other : (one : TxId) → same_tx one tx ≡ false → (to : Place) (body : Body) → is_own_kind one body ≡ true → is_told tx to body ≡ false
   none_other one differs to (Client (TcKeyConf other answer)) e = apart tx one other differs e
   none_other one differs to (Client (TcCommitConf other epoch)) e = apart tx one other differs e
   none_other one differs to (Client (TcRollbackRep other cause)) e = apart tx one other differs e
+  none_other one differs to (Chain (Abort other key)) e = apart tx one other differs e
   none_other one differs to _ e = refl
 
   pub none_dih : (to : Place) (body : Body) → is_dih_kind body ≡ true → is_told tx to body ≡ false
   none_dih to (Client (TcKeyConf other answer)) e = cc
   none_dih to (Client (TcCommitConf other epoch)) e = cc
   none_dih to (Client (TcRollbackRep other cause)) e = cc
+  none_dih to (Chain (Abort other key)) e = cc
   none_dih to _ e = refl
 
   pub none_lqh : (to : Place) (body : Body) → is_lqh_kind body ≡ true → is_told tx to body ≡ false
   none_lqh to (Client (TcKeyConf other answer)) e = cc
   none_lqh to (Client (TcCommitConf other epoch)) e = cc
   none_lqh to (Client (TcRollbackRep other cause)) e = cc
+  none_lqh to (Chain (Abort other key)) e = cc
   none_lqh to _ e = refl
 
   pub none_api : (to : Place) (body : Body) → is_api_kind body ≡ true → is_told tx to body ≡ false
   none_api to (Client (TcKeyConf other answer)) e = cc
   none_api to (Client (TcCommitConf other epoch)) e = cc
   none_api to (Client (TcRollbackRep other cause)) e = cc
+  none_api to (Chain (Abort other key)) e = cc
   none_api to _ e = refl
 
   -- the transaction behind others
@@ -143,7 +150,7 @@ module _ (tx : TxId) where
         quiet : sends_of (is_told tx) step.effects.sends ≡ 0
         quiet =
             ap (λ effects. sends_of (is_told tx) effects.sends) r.effects
-            ∙ none_of (is_tc_kind (tx_in body)) (is_told tx) (none_other (tx_in body) differs) (turn_by s (tx_in body) body r.t).step.effects.sends (turn_sends s (tx_in body) body r.t)
+            ∙ none_of (is_own_kind (tx_in body)) (is_told tx) (none_other (tx_in body) differs) (turn_by s (tx_in body) body r.t).step.effects.sends (turn_own s (tx_in body) body r.t)
 
         was : of_live tx s.live ≡ of_live tx (r.front ++ r.back)
         was = ap (of_live tx) r.is ∙ past_other r.front (tx_in body) r.t r.back differs

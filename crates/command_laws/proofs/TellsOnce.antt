@@ -83,7 +83,7 @@ module _ (tx : TxId) where
   push_none (Client (TcRollbackReq other)) wish key = wish
   push_none _ wish key = refl
 
-  live_early : (node next : ℕ) (live : List (TxId × Transaction)) (t : Transaction) → Each (λ (e : TxId × Transaction). IsOwn node next e.0) live → of_live tx live ≡ Some t → tx.seq < next
+  pub live_early : (node next : ℕ) (live : List (TxId × Transaction)) (t : Transaction) → Each (λ (e : TxId × Transaction). IsOwn node next e.0) live → of_live tx live ≡ Some t → tx.seq < next
   live_early node next [] t own is = cc
   live_early node next (e ∷ live) t own is = by (same_tx e.0 tx) refl is (live_early node next live t own.1)
     where

@@ -48,6 +48,15 @@ abbrev pub OnTc : (TcState → Type 0) → host.Host → Type 0
 OnTc P (Shell s) = ⊥
 OnTc P (Node n) = P n.tc
 
+-- a coordinator has no transaction of another node
+pub not_home : (tx : TxId) (node next : ℕ) (live : List (TxId × Transaction)) → Each (λ (e : TxId × Transaction). IsOwn node next e.0) live → tx.tc ≢ node → of_live tx live ≡ None
+not_home tx node next [] own away = refl
+not_home tx node next (e ∷ live) own away = by (same_tx e.0 tx) refl (not_home tx node next live own.1 away)
+  where
+    by : (b : Bool) → same_tx e.0 tx ≡ b → of_live tx live ≡ None → (if b then Some e.1 else of_live tx live) ≡ None
+    by true same rest = absurd (away (ap (λ (v : TxId). v.tc) (sym (same_tx-is e.0 tx same)) ∙ own.0.home))
+    by false differs rest = rest
+
 module _ (start : Start) (tx : TxId) where
   -- after any log a coordinator's transactions are sound
   pub sound_at : (h : ℕ) (log : List LogStep) (n : node.Node) → after start (suc h) log ≡ Node n → IsSound tx n.tc
@@ -80,24 +89,15 @@ module _ (start : Start) (tx : TxId) where
           (host_next (after start (suc h) (newer ++ log)) e.taken.to e.taken.body (λ n is. sound_at h (newer ++ log) n is) wish.0 asked (steps (is_key tx) newer)
           (sent_since start (is_reply tx) (suc h) newer log) (sent_since start (is_back tx) (suc h) newer log) (omega (arith, once)) before)
 
-  -- a coordinator has no transaction of another node
-  not_home : (node next : ℕ) (live : List (TxId × Transaction)) → Each (λ (e : TxId × Transaction). IsOwn node next e.0) live → tx.tc ≢ node → of_live tx live ≡ None
-  not_home node next [] own away = refl
-  not_home node next (e ∷ live) own away = by (same_tx e.0 tx) refl (not_home node next live own.1 away)
-    where
-      by : (b : Bool) → same_tx e.0 tx ≡ b → of_live tx live ≡ None → (if b then Some e.1 else of_live tx live) ≡ None
-      by true same rest = absurd (away (ap (λ (v : TxId). v.tc) (sym (same_tx-is e.0 tx same)) ∙ own.0.home))
-      by false differs rest = rest
-
   away_silent : (s : TcState) (body : Body) → IsSound tx s → tx.tc ≢ s.node → sends_of (is_told tx) (tc_row s body).effects.sends ≡ 0
   away_silent s body sound away = by (tc_goes tx s body sound)
     where
       by : TcGoes tx s body (tc_row s body) → sends_of (is_told tx) (tc_row s body).effects.sends ≡ 0
       by (aside same none more) = none
       by (begins number now none more) = none
-      by (takes t same was sends left more) = absurd (let both : Some t ≡ None = sym was ∙ not_home s.node s.next_seq s.live sound.own away in cc)
+      by (takes t same was sends left more) = absurd (let both : Some t ≡ None = sym was ∙ not_home tx s.node s.next_seq s.live sound.own away in cc)
 
-  node_away : (n : node.Node) (at : BlockId) (body : Body) → IsSound tx n.tc → tx.tc ≢ n.tc.node → sends_of (is_told tx) (node_row n at body).effects.sends ≡ 0
+  pub node_away : (n : node.Node) (at : BlockId) (body : Body) → IsSound tx n.tc → tx.tc ≢ n.tc.node → sends_of (is_told tx) (node_row n at body).effects.sends ≡ 0
   unfolding node_row
   node_away n block.Tc body sound away = away_silent n.tc body sound away
   node_away n block.Dih body sound away = none_of is_dih_kind (is_told tx) (none_dih tx) (dih_row n.dih body).effects.sends (dih_kinds n.dih body)

@@ -56,9 +56,9 @@ TurnTells tx turn =
     ⊎ ((sends_of (is_back tx) turn.step.effects.sends ≡ 0) × IsFirmThen turn)
     ⊎ ((sends_of (is_reply tx) turn.step.effects.sends ≡ 0) × (turn.over ≡ true))
 
-keyless_chains : HasChains is_keyless
-keyless_chains =
-    record { commits = λ tx key epoch chain at. refl; completes = λ tx key chain at. refl; aborts = λ tx key. refl; goes_on = λ tx at. refl }
+keyless_chains : (tx : TxId) → HasChains tx is_keyless
+keyless_chains tx =
+    record { commits = λ key epoch chain at. refl; completes = λ key chain at. refl; aborts = λ key. refl; goes_on = λ at. refl }
 
 front_keyless : (tx : TxId) (phase : Phase) → are_of is_keyless (front_sends tx phase) ≡ true
 unfolding front_sends
@@ -85,7 +85,7 @@ module _ (tx : TxId) where
     stays_silent = silent _ refl refl
 
     enters : (u : Transaction) (phase : Phase) → are_of is_no_abort (entering node view tx u phase).effects.sends ≡ true
-    enters u phase = entering_of_kind is_no_abort has_chains view tx node u phase (fronts tx phase)
+    enters u phase = entering_of_kind is_no_abort view tx (has_chains tx) node u phase (fronts tx phase)
 
     operate_tells : (op : Op) → TurnTells tx (going (operate.operate_row view tx t op))
     unfolding operate.operate_row
@@ -96,7 +96,7 @@ module _ (tx : TxId) where
         plain false = refl
 
     late_silent : (key : List ℕ) → TurnTells tx (going (operate.late_answer view tx t key))
-    late_silent key = silent (going (operate.late_answer view tx t key)) (keyless.late_keyless view tx t key) (aborts_of_kind is_no_abort has_chains view tx key (chain_of view key))
+    late_silent key = silent (going (operate.late_answer view tx t key)) (keyless.late_keyless view tx t key) (aborts_of_kind is_no_abort view tx (has_chains tx) key (chain_of view key))
 
     answer_tells : (key : List ℕ) (answer : Answer) → TurnTells tx (going (operate.answer_row view tx t key answer))
     unfolding operate.answer_row
@@ -124,7 +124,7 @@ module _ (tx : TxId) where
         by : (b : Bool) → TurnTells tx (abort.abort_if node view tx u why b)
         by true = over_by u why (abort.is_verifying u.phase)
         by false =
-            silent (going (entering node view tx u (Aborting why (abort.is_verifying u.phase) (abort.aborts_awaited view u)))) (entering_of_kind is_keyless keyless_chains view tx node u _ (front_keyless tx _))
+            silent (going (entering node view tx u (Aborting why (abort.is_verifying u.phase) (abort.aborts_awaited view u)))) (entering_of_kind is_keyless view tx (keyless_chains tx) node u _ (front_keyless tx _))
             (enters u (Aborting why (abort.is_verifying u.phase) (abort.aborts_awaited view u)))
 
     refuse_tells : (key : List ℕ) (why : AbortCause) → TurnTells tx (abort.refuse_row node view tx t key why)
@@ -225,7 +225,7 @@ module _ (tx : TxId) where
 
 pub turn_tells : (s : TcState) (tx : TxId) (body : Body) (t : Transaction) → is_wish_back body ≡ false → TurnTells tx (turn_by s tx body t)
 turn_tells s tx (Host (Continue (work.Transaction one) at)) t plain =
-    silent tx (going (go_on_row s.node s.view tx t at)) (keyless.go_on_keyless s.node s.view tx t at) (go_on_of_kind is_no_abort has_chains s.view tx s.node t at (fronts tx t.phase))
+    silent tx (going (go_on_row s.node s.view tx t at)) (keyless.go_on_keyless s.node s.view tx t at) (go_on_of_kind is_no_abort s.view tx (has_chains tx) s.node t at (fronts tx t.phase))
 turn_tells s tx (Client (TcKeyReq one op)) t plain = operate_tells tx s.node s.view t op
 turn_tells s tx (Client (TcCommitReq one)) t plain = decide_tells tx s.node s.view t
 turn_tells s tx (Client (TcRollbackReq one)) t plain = cc

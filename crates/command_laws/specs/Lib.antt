@@ -1,3 +1,1 @@
-pub mod Holders
-pub mod Operations
 pub mod Served

@@ -1,5 +1,5 @@
 -- What a command comes to, between two quiet moments.
-use Rattle.std.specs.Prelude.{◌≡◌, ◌++◌, ℕ, true, is_some, List, [], ◌∷◌, drop, length, position, Option, None, Some}
+use Rattle.std.specs.Prelude.{◌≡◌, ◌<◌, ◌≤◌, ◌⊎◌, ◌++◌, ℕ, Bool, true, false, is_some, List, [], ◌∷◌, drop, length, position, Option, None, Some}
 use Rattle.run_theory.specs.Cuts.{IsCut}
 use Rattle.run_theory.specs.Lists.{IsIn, IsPast}
 use Rattle.sig_core.specs.declared.log.LogStep.{LogStep}
@@ -8,7 +8,9 @@ use Rattle.sig_core.specs.declared.member.Member.{Member}
 use Rattle.sig_core.specs.declared.member.TxId.{TxId}
 use Rattle.sig_core.specs.declared.op.Answer.{Answer}
 use Rattle.sig_core.specs.declared.op.Op.{Op}
-use Rattle.sig_core.specs.declared.outcome.Outcome.TheVariants.{Committed}
+use Rattle.sig_core.specs.declared.outcome.AbortCause.{AbortCause}
+use Rattle.sig_core.specs.declared.outcome.AbortCause.TheVariants.{LogFull, TableFull, Timeout}
+use Rattle.sig_core.specs.declared.outcome.Outcome.TheVariants.{Aborted, Committed}
 use Rattle.sig_core.specs.declared.reply.ApiReply.{ApiReply}
 use Rattle.sig_core.specs.declared.reply.ApiReply.TheVariants.{Answered, Ended, Pending}
 use Rattle.sig_core.specs.declared.reply.Waiting.TheVariants.{HeldBy}
@@ -18,17 +20,17 @@ use Rattle.sig_core.specs.declared.request.ApiReq.TheVariants as request
 use Rattle.sig_core.specs.Op.{key_of}
 use Rattle.api_block.specs.declared.opened.Doing.TheVariants.{Operating, Ready}
 use Rattle.api_block.specs.declared.opened.OpenTransaction.{OpenTransaction}
-use Rattle.api_block.specs.Opened.{is_named, is_unanswered, own_place, where_at}
+use Rattle.api_block.specs.Opened.{is_named, own_place, where_at}
 use Rattle.row_locks.specs.Tables.{ahead_at}
 use Rattle.tc_block.specs.declared.phase.Asked.{Asked}
 use Rattle.tc_block.specs.declared.transaction.Transaction.{Transaction}
 use Rattle.node_core.specs.declared.host.Host.{Host}
 use Rattle.node_core.specs.declared.host.Host.TheVariants.{Shell, Node}
-use Rattle.node_core.specs.Replies.{replies_of}
+use Rattle.node_core.specs.Replies.{is_left_open, replies_of}
 use Rattle.world_core.specs.Machine.{after}
 use Rattle.world_core.specs.Requests.{requests}
 use Rattle.world_core.specs.Start.{Start}
-use Rattle.answer_laws.specs.Answered.{AreQuiet, EachAtQuiet, IsLiveAs, opened_after}
+use Rattle.answer_laws.specs.Answered.{AreQuiet, EachAtQuiet, IsLiveAs, WaitsForLock, opened_after}
 
 -- The shell asked for one more thing between two quiet moments: the later logs have those before, and of the shell's requests
 -- this one more.
@@ -101,20 +103,56 @@ pub record IsHeldUp (start : Start) (logs : ℕ → List LogStep) (tx : TxId) : 
   pub unanswered : transaction.asked ≡ Some asked
   pub member : Member
   pub inside : IsIn member asked.chain
+  pub low : member.node ≤ start.nodes
   pub held : IsHeldUpAt tx (key_of asked.op) (after start member.node (logs member.node))
 
 -- so it is at quiet where its operation was sent
 abbrev pub EachIsHeldUp : Type 0
 EachIsHeldUp = EachAtQuiet (λ start logs t. (tx : TxId) → t.tx ≡ Some tx → t.doing ≡ Operating → IsHeldUp start logs tx)
 
--- who holds what the transaction of this name waits for was told since then
-pub record IsToldHolder (start : Start) (was now : ℕ → List LogStep) (name : Option ℕ) : Type 0 where
+-- who holds what the own transaction of then waits for was told since then
+pub record IsToldHolder (start : Start) (was mid now : ℕ → List LogStep) : Type 0 where
+  pub own : OpenTransaction
+  pub is : own_in (after start 0 (was 0)) ≡ Some own
   pub holder : Option ℕ
-  pub told : IsIn (Pending name (HeldBy holder)) (replies_since start was now)
+  pub told : IsIn (Pending own.name (HeldBy holder)) (replies_since start mid now)
 
 -- where a command left something of its own unanswered, the two questions about it tell for whom that waits
 abbrev pub HoldersAreTold : Type 0
 HoldersAreTold =
-    (start : Start) (was mid now : ℕ → List LogStep) (t : OpenTransaction) → IsServed start was mid request.Waits → IsServed start mid now request.Pending
-    → own_in (after start 0 (was 0)) ≡ Some t → is_unanswered t.doing ≡ true
-    → IsToldHolder start mid now t.name
+    (start : Start) (was mid now : ℕ → List LogStep) → IsServed start was mid request.Waits → IsServed start mid now request.Pending → is_left_open (after start 0 (was 0)) ≡ true
+    → IsToldHolder start was mid now
+
+-- there is no room or no time for an operation
+abbrev pub is_refusal : AbortCause → Bool
+is_refusal (LogFull used reserved need) = true
+is_refusal (TableFull rows) = true
+is_refusal Timeout = true
+is_refusal cause = false
+
+-- an operation of the transaction of this name was answered since then
+pub record IsAnsweredAs (start : Start) (was now : ℕ → List LogStep) (name : ℕ) : Type 0 where
+  pub answer : Answer
+  pub told : IsIn (Answered (Some name) answer) (replies_since start was now)
+
+-- it ended since then, for want of room or of time
+pub record IsRefusedAs (start : Start) (was now : ℕ → List LogStep) (name : ℕ) : Type 0 where
+  pub cause : AbortCause
+  pub told : IsIn (Ended (Some name) (Aborted cause)) (replies_since start was now)
+  pub refusal : is_refusal cause ≡ true
+
+-- its operation waits for a lock
+pub record StillWaits (start : Start) (now : ℕ → List LogStep) (name : ℕ) (tx : TxId) : Type 0 where
+  pub item : OpenTransaction
+  pub inside : IsIn item (opened_after start now)
+  pub called : item.name ≡ Some name
+  pub own : item.tx ≡ Some tx
+  pub does : item.doing ≡ Operating
+  pub waits : WaitsForLock start now tx
+
+-- an operation of a transaction that takes commands is answered, or refused for want of room or of time, or waits for a lock
+abbrev pub OperationsAreAnswered : Type 0
+OperationsAreAnswered =
+    (start : Start) (was now : ℕ → List LogStep) (name : ℕ) (op : Op) (t : OpenTransaction) (tx : TxId) → IsServed start was now (Operate (Some name) op)
+    → named_in (opened_after start was) name ≡ Some t → t.doing ≡ Ready → t.tx ≡ Some tx → t.operations < 64
+    → IsAnsweredAs start was now name ⊎ (IsRefusedAs start was now name ⊎ StillWaits start now name tx)

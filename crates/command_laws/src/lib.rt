@@ -1,9 +1,9 @@
 //! What a command comes to, between two quiet moments.
 #![tactic(auto)]
 
-mod laws;
+mod commands;
 
-pub use laws::{
-    commits_are_committed, each_is_held_up, holders_are_told, holders_hold,
+pub use commands::{
+    commits_are_committed, each_operation_is_held_up, holders_are_told,
     lone_operations_are_committed, operations_are_answered,
 };

@@ -453,24 +453,3 @@ forth_decided start h log n is = each_map (IsLive n.tc.node n.tc.next_seq cs bs)
         by : (b : Bool) → is_decided e.1.phase ≡ b → is_decided e.1.phase ≡ true
         by true on = on
         by false off = absurd (not_apart e.0 cs among (live.uncommitted off))
-
--- and one that it took back is being aborted
-pub back_aborting : (start : Start) (h : ℕ) (log : List LogStep) (n : node.Node) → after start h log ≡ Node n
-    → Each (λ (e : TxId × Transaction). list_any (same_tx e.0) (sent_ways start back_by h log) ≡ true → is_aborting e.1.phase ≡ true) n.tc.live
-back_aborting start h log n is = each_map (IsLive n.tc.node n.tc.next_seq cs bs) (λ (e : TxId × Transaction). list_any (same_tx e.0) bs ≡ true → is_aborting e.1.phase ≡ true) n.tc.live known one.live
-  where
-    cs : List TxId
-    cs = sent_ways start forth_by h log
-
-    bs : List TxId
-    bs = sent_ways start back_by h log
-
-    one : IsOneWay n.tc cs bs
-    one = subst (λ s. HostIsOneWay s cs bs) is (log_one start h log)
-
-    known : (e : TxId × Transaction) → IsLive n.tc.node n.tc.next_seq cs bs e → list_any (same_tx e.0) bs ≡ true → is_aborting e.1.phase ≡ true
-    known e live among = by (is_aborting e.1.phase) refl
-      where
-        by : (b : Bool) → is_aborting e.1.phase ≡ b → is_aborting e.1.phase ≡ true
-        by true on = on
-        by false off = absurd (not_apart e.0 bs among (live.unaborted off))

@@ -1,0 +1,244 @@
+-- A step of a node, where no commit or abort of the transaction is wished for.
+use Rattle.std.proofs.Common.{◌≡◌, ◌≢◌, ◌⊎◌, ◌<◌, ◌+◌, ℕ, Bool, true, false, List, [], ◌∷◌, refl, sym, ap, ◌∙◌, subst, inl, inr, arith}
+use Rattle.std.proofs.lemmas.Bool.{cases_eq}
+use Rattle.std.specs.Prelude.{◌&&◌, if◌then◌else◌, Option, None, Some, not}
+use Rattle.sig_core.specs.declared.member.TxId.{TxId}
+use Rattle.sig_core.specs.declared.outs.Outgoing.{Outgoing}
+use Rattle.sig_core.specs.declared.place.Place.{Place}
+use Rattle.sig_core.specs.declared.signal.Body.{Body}
+use Rattle.sig_core.specs.declared.signal.Body.TheVariants.{Client, Chain}
+use Rattle.sig_core.specs.declared.signal.chain.ChainSignal.TheVariants.{Abort, LqhKeyRef}
+use Rattle.sig_core.specs.declared.signal.client.ClientSignal.TheVariants.{TcBeginReq, TcCommitConf, TcCommitReq, TcRollbackRep, TcRollbackReq}
+use Rattle.sig_core.specs.Same.{same_tx}
+use Rattle.sig_core.specs.Step.{Step}
+use Rattle.tc_block.specs.declared.phase.Phase.TheVariants.{Open}
+use Rattle.tc_block.specs.declared.transaction.Transaction.{Transaction}
+use Rattle.tc_block.specs.State.{TcState}
+use Rattle.tc_block.specs.Tc.{begin_if, begin_row, is_full, tc_row}
+use Rattle.tc_block.specs.Turn.{Turn}
+use Rattle.answer_laws.proofs.ApiMoves.{is_api_kind}
+use Rattle.answer_laws.proofs.SendKinds.{are_of, is_dih_kind, is_lqh_kind, is_tc_kind, none_of, of_kind}
+use Rattle.answer_laws.proofs.Tally.{one_if}
+use Rattle.answer_laws.proofs.TcSends.{same_tx-self, tc_kinds, tx_in}
+use Rattle.answer_laws.proofs.Wishes.{is_tc, sends_of}
+use Rattle.transit_laws.specs.Live.{of_live}
+use Rattle.command_laws.proofs.EarlyTurns.{EarlyTurn, IsLeaving, is_no_end, is_past, is_wish, open_turn, past_turn}
+use Rattle.command_laws.proofs.LqhFair.{is_fair}
+use Rattle.command_laws.proofs.TcPath.{IsSound, TcGoes, aside, begins, is_told, left_by, takes, told_of}
+use Rattle.command_laws.proofs.TellsOnce.{live_early}
+use Rattle.command_laws.proofs.TellsSince.{not_home}
+use Rattle.command_laws.proofs.Turns.{turn_by}
+use Rattle.command_laws.specs.Served.{is_refusal}
+
+-- an abort of the transaction, or a refusal for another cause
+abbrev pub is_loss : TxId → Place → Body → Bool
+is_loss tx to body = not (is_fair tx body)
+
+-- all but the report of its commit, or of its abort for another cause
+abbrev pub is_good : TxId → Body → Bool
+is_good tx (Client (TcCommitConf other epoch)) = not (same_tx other tx)
+is_good tx (Client (TcRollbackRep other cause)) = if is_refusal cause then true else not (same_tx other tx)
+is_good tx _ = true
+
+abbrev pub is_bad : TxId → Place → Body → Bool
+is_bad tx to body = not (is_good tx body)
+
+-- its commit or abort is wished for
+abbrev pub wish_of : TxId → Body → Bool
+wish_of tx (Client (TcCommitReq other)) = same_tx other tx
+wish_of tx (Client (TcRollbackReq other)) = same_tx other tx
+wish_of tx _ = false
+
+abbrev pub is_wish_to : TxId → Place → Body → Bool
+is_wish_to tx to body = is_tc to.block && wish_of tx body
+
+-- no operation is refused by it
+abbrev pub is_no_ref : Body → Bool
+is_no_ref (Chain (LqhKeyRef tx key why)) = false
+is_no_ref _ = true
+
+no_ref_tc : (one : TxId) (body : Body) → is_tc_kind one body ≡ true → is_no_ref body ≡ true
+no_ref_tc one (Chain (LqhKeyRef tx key why)) e = cc
+no_ref_tc one _ e = refl
+
+begin_no_ref : (s : TcState) (name : Option ℕ) (b : Bool) → are_of is_no_ref (begin_if s name b).effects.sends ≡ true
+begin_no_ref s name true = refl
+begin_no_ref s name false = refl
+
+pub tc_no_ref : (s : TcState) (body : Body) → are_of is_no_ref (tc_row s body).effects.sends ≡ true
+unfolding begin_row
+tc_no_ref s (Client (TcBeginReq name)) = begin_no_ref s name (is_full s)
+tc_no_ref s body = of_kind (is_tc_kind (tx_in body)) is_no_ref (no_ref_tc (tx_in body)) (tc_row s body).effects.sends (tc_kinds s body refl)
+
+-- the transaction is open
+pub record IsOpenNow (tx : TxId) (s : TcState) : Type 0 where
+  pub t : Transaction
+  pub live : of_live tx s.live ≡ Some t
+  pub phase : t.phase ≡ Open
+
+abbrev pub PastOption : Option Transaction → Type 0
+PastOption None = Unit {0}
+PastOption (Some t) = is_past t.phase ≡ true
+
+-- or it is aborted for want of room or of time, or over
+pub record IsPastNow (tx : TxId) (s : TcState) : Type 0 where
+  pub past : PastOption (of_live tx s.live)
+  pub early : tx.seq < s.next_seq
+
+module _ (tx : TxId) where
+  told_fair : (b : Body) → told_of tx b ≡ false → is_no_ref b ≡ true → is_fair tx b ≡ true
+  told_fair (Chain (Abort other key)) told ref = ap not told
+  told_fair (Chain (LqhKeyRef other key why)) told ref = cc
+  told_fair _ told ref = refl
+
+  told_good : (b : Body) → told_of tx b ≡ false → is_good tx b ≡ true
+  told_good (Client (TcCommitConf other epoch)) told = ap not told
+  told_good (Client (TcRollbackRep other cause)) told = by (is_refusal cause)
+    where
+      by : (b : Bool) → (if b then true else not (same_tx other tx)) ≡ true
+      by true = refl
+      by false = ap not told
+  told_good _ told = refl
+
+  -- what tells nothing of it is good, and aborts nothing
+  none_bad : (xs : List Outgoing) → sends_of (is_told tx) xs ≡ 0 → sends_of (is_bad tx) xs ≡ 0
+  none_bad [] none = refl
+  none_bad (x ∷ xs) none = by (told_of tx x.body) refl (none_bad xs (omega (arith, none)))
+    where
+      by : (b : Bool) → told_of tx x.body ≡ b → sends_of (is_bad tx) xs ≡ 0 → one_if (is_bad tx x.to x.body) + sends_of (is_bad tx) xs ≡ 0
+      by true told rest = absurd (omega (arith, none, ap one_if told))
+      by false told rest = omega (arith, rest, ap (λ b. one_if (not b)) (told_good x.body told))
+
+  none_loss : (xs : List Outgoing) → sends_of (is_told tx) xs ≡ 0 → are_of is_no_ref xs ≡ true → sends_of (is_loss tx) xs ≡ 0
+  none_loss [] none refs = refl
+  none_loss (x ∷ xs) none refs = by (told_of tx x.body) (is_no_ref x.body) refl refl refs (none_loss xs)
+    where
+      by : (a b : Bool) → told_of tx x.body ≡ a → is_no_ref x.body ≡ b → (if b then are_of is_no_ref xs else false) ≡ true
+          → (sends_of (is_told tx) xs ≡ 0 → are_of is_no_ref xs ≡ true → sends_of (is_loss tx) xs ≡ 0) → one_if (is_loss tx x.to x.body) + sends_of (is_loss tx) xs ≡ 0
+      by true b told ref rest more = absurd (omega (arith, none, ap one_if told))
+      by false true told ref rest more = omega (arith, more (omega (arith, none)) rest, ap (λ c. one_if (not c)) (told_fair x.body told ref))
+      by false false told ref rest more = cc
+
+  good_end : (to : Place) (b : Body) → is_no_end b ≡ true → is_bad tx to b ≡ false
+  good_end to (Client (TcCommitConf other epoch)) e = cc
+  good_end to (Client (TcRollbackRep other cause)) e = ap (λ b. not (if b then true else not (same_tx other tx))) e
+  good_end to _ e = refl
+
+  pub fair_loss : (to : Place) (b : Body) → is_fair tx b ≡ true → is_loss tx to b ≡ false
+  fair_loss to b e = ap not e
+
+  pub good_dih : (to : Place) (b : Body) → is_dih_kind b ≡ true → is_bad tx to b ≡ false
+  good_dih to (Client (TcCommitConf other epoch)) e = cc
+  good_dih to (Client (TcRollbackRep other cause)) e = cc
+  good_dih to _ e = refl
+
+  pub good_lqh : (to : Place) (b : Body) → is_lqh_kind b ≡ true → is_bad tx to b ≡ false
+  good_lqh to (Client (TcCommitConf other epoch)) e = cc
+  good_lqh to (Client (TcRollbackRep other cause)) e = cc
+  good_lqh to _ e = refl
+
+  pub loss_dih : (to : Place) (b : Body) → is_dih_kind b ≡ true → is_loss tx to b ≡ false
+  loss_dih to (Chain (Abort other key)) e = cc
+  loss_dih to (Chain (LqhKeyRef other key why)) e = cc
+  loss_dih to _ e = refl
+
+  pub both_api : (to : Place) (b : Body) → is_api_kind b ≡ true → (is_bad tx to b ≡ false) × (is_loss tx to b ≡ false)
+  both_api to (Client (TcCommitConf other epoch)) e = cc
+  both_api to (Client (TcRollbackRep other cause)) e = cc
+  both_api to (Chain (Abort other key)) e = cc
+  both_api to (Chain (LqhKeyRef other key why)) e = cc
+  both_api to _ e = (refl, refl)
+
+  wish_kind : (body : Body) → wish_of tx body ≡ false → tx_in body ≡ tx → is_wish body ≡ false
+  wish_kind (Client (TcCommitReq other)) off same = absurd (let both : false ≡ true = sym off ∙ (ap (λ v. same_tx v tx) same ∙ same_tx-self tx) in cc)
+  wish_kind (Client (TcRollbackReq other)) off same = absurd (let both : false ≡ true = sym off ∙ (ap (λ v. same_tx v tx) same ∙ same_tx-self tx) in cc)
+  wish_kind _ off same = refl
+
+  -- nothing bad is sent, and the coordinator is past it
+  pub record GoesPast (s : TcState) (sends : List Outgoing) : Type 0 where
+    pub good : sends_of (is_bad tx) sends ≡ 0
+    pub past : tx.tc ≡ s.node → IsPastNow tx s
+
+  -- nothing bad is sent, and nothing is aborted, and it is open
+  pub record StaysClean (s : TcState) (sends : List Outgoing) : Type 0 where
+    pub good : sends_of (is_bad tx) sends ≡ 0
+    pub fair : sends_of (is_loss tx) sends ≡ 0
+    pub is_open : tx.tc ≡ s.node → IsOpenNow tx s
+
+  -- or it leaves that state, at its coordinator
+  pub record Leaves (s : TcState) (sends : List Outgoing) : Type 0 where
+    pub good : sends_of (is_bad tx) sends ≡ 0
+    pub home : tx.tc ≡ s.node
+    pub past : IsPastNow tx s
+
+  module _ (s : TcState) (body : Body) (sound : IsSound tx s) (wish : wish_of tx body ≡ false) (step : Step TcState) (node_same : step.state.node ≡ s.node) (refs : are_of is_no_ref step.effects.sends ≡ true) where
+    left_past : (turn : Turn) → (turn.over ≡ false → is_past turn.step.state.phase ≡ true) → PastOption (left_by turn)
+    left_past turn past = by turn.over refl
+      where
+        by : (b : Bool) → turn.over ≡ b → PastOption (if b then None else Some turn.step.state)
+        by true over = tt
+        by false over = past over
+
+    pub clean_goes : is_fair tx body ≡ true → (tx.tc ≡ s.node → IsOpenNow tx s) → TcGoes tx s body step → StaysClean step.state step.effects.sends ⊎ Leaves step.state step.effects.sends
+    clean_goes fair was (aside same none more) =
+        inl (record {
+          good = none_bad step.effects.sends none;
+          fair = none_loss step.effects.sends none refs;
+          is_open = λ at. let o = was (at ∙ node_same) in record { t = o.t; live = same ∙ o.live; phase = o.phase };
+        })
+    clean_goes fair was (begins number now none more) =
+        inl (record {
+          good = none_bad step.effects.sends none;
+          fair = none_loss step.effects.sends none refs;
+          is_open = λ at. let o = was (at ∙ node_same) in absurd (omega (arith, live_early tx s.node s.next_seq s.live o.t sound.own o.live, number));
+        })
+    clean_goes fair was (takes t same live sends left more) = own (cases_home)
+      where
+        home : tx.tc ≡ s.node
+        home = by (cases_eq tx.tc s.node)
+          where
+            by : (tx.tc ≡ s.node) ⊎ (tx.tc ≢ s.node) → tx.tc ≡ s.node
+            by (inl at) = at
+            by (inr away) = absurd (let both : Some t ≡ None = sym live ∙ not_home tx s.node s.next_seq s.live sound.own away in cc)
+
+        is_this : (o : IsOpenNow tx s) → t.phase ≡ Open
+        is_this o = let both : Some t ≡ Some o.t = sym live ∙ o.live in let one : t ≡ o.t = cc in ap (λ (x : Transaction). x.phase) one ∙ o.phase
+
+        cases_home : EarlyTurn tx t (turn_by s tx body t)
+        cases_home = open_turn s tx body t (wish_kind body wish same) same fair (is_this (was home))
+
+        own : EarlyTurn tx t (turn_by s tx body t) → StaysClean step.state step.effects.sends ⊎ Leaves step.state step.effects.sends
+        own (inl q) = inl (record {
+          good = ap (sends_of (is_bad tx)) sends ∙ none_of is_no_end (is_bad tx) good_end (turn_by s tx body t).step.effects.sends q.ends;
+          fair = ap (sends_of (is_loss tx)) sends ∙ none_of (is_fair tx) (is_loss tx) fair_loss (turn_by s tx body t).step.effects.sends q.fair;
+          is_open = λ at. record { t = (turn_by s tx body t).step.state; live = left ∙ ap (λ b. if b then None else Some (turn_by s tx body t).step.state) q.goes; phase = q.now };
+        })
+        own (inr q) = inr (record {
+          good = ap (sends_of (is_bad tx)) sends ∙ none_of is_no_end (is_bad tx) good_end (turn_by s tx body t).step.effects.sends q.ends;
+          home = home ∙ sym node_same;
+          past = record { past = subst PastOption (sym left) (left_past (turn_by s tx body t) q.past); early = omega (arith, live_early tx s.node s.next_seq s.live t sound.own live, more) };
+        })
+
+    pub past_goes : (tx.tc ≡ s.node → IsPastNow tx s) → TcGoes tx s body step → GoesPast step.state step.effects.sends
+    past_goes was (aside same none more) = record {
+      good = none_bad step.effects.sends none;
+      past = λ at. let p = was (at ∙ node_same) in record { past = subst PastOption (sym same) p.past; early = omega (arith, p.early, more) };
+    }
+    past_goes was (begins number now none more) = record {
+      good = none_bad step.effects.sends none;
+      past = λ at. let p = was (at ∙ node_same) in absurd (omega (arith, p.early, number));
+    }
+    past_goes was (takes t same live sends left more) = record {
+      good = ap (sends_of (is_bad tx)) sends ∙ none_of is_no_end (is_bad tx) good_end (turn_by s tx body t).step.effects.sends q.ends;
+      past = λ at. record { past = subst PastOption (sym left) (left_past (turn_by s tx body t) q.past); early = omega (arith, live_early tx s.node s.next_seq s.live t sound.own live, more) };
+    }
+      where
+        home : tx.tc ≡ s.node
+        home = by (cases_eq tx.tc s.node)
+          where
+            by : (tx.tc ≡ s.node) ⊎ (tx.tc ≢ s.node) → tx.tc ≡ s.node
+            by (inl at) = at
+            by (inr away) = absurd (let both : Some t ≡ None = sym live ∙ not_home tx s.node s.next_seq s.live sound.own away in cc)
+
+        q : IsLeaving (turn_by s tx body t)
+        q = past_turn s tx body t (wish_kind body wish same) (subst PastOption live (was home).past)

@@ -1,0 +1,193 @@
+-- The step that asks for an operation, and that no commit or abort of its transaction is wished for then.
+use Rattle.std.proofs.Common.{◌≡◌, ◌<◌, ◌+◌, ℕ, Bool, true, false, List, [], ◌∷◌, ◌++◌, refl, sym, ap, ◌∙◌, subst, arith}
+use Rattle.std.proofs.lemmas.Bool.Decides.{nat_tests}
+use Rattle.std.specs.Prelude.{Some, is_some, nat_lt}
+use Rattle.run_theory.specs.Lists.{Each, IsIn}
+use Rattle.sig_core.specs.declared.log.LogStep.{LogStep}
+use Rattle.sig_core.specs.declared.member.TxId.{TxId}
+use Rattle.sig_core.specs.declared.op.Op.{Op}
+use Rattle.sig_core.specs.declared.outs.Outgoing.{Outgoing}
+use Rattle.sig_core.specs.declared.place.BlockId.{BlockId}
+use Rattle.sig_core.specs.declared.place.BlockId.TheVariants as block
+use Rattle.sig_core.specs.declared.place.Place.{Place}
+use Rattle.sig_core.specs.declared.reply.Refusal.TheVariants.{NotOpen}
+use Rattle.sig_core.specs.declared.request.ApiReq.TheVariants as request
+use Rattle.sig_core.specs.declared.signal.Body.{Body}
+use Rattle.sig_core.specs.declared.signal.Body.TheVariants.{Host, Client}
+use Rattle.sig_core.specs.declared.signal.client.ClientSignal.TheVariants.{TcCommitReq, TcRollbackReq}
+use Rattle.sig_core.specs.declared.signal.host.HostSignal.TheVariants.{Continue}
+use Rattle.sig_core.specs.declared.signal.host.Work.TheVariants as work
+use Rattle.sig_core.specs.Place.{client}
+use Rattle.sig_core.specs.Same.{same_tx}
+use Rattle.sig_core.specs.Step.{Step}
+use Rattle.api_block.specs.declared.opened.Doing.{Doing}
+use Rattle.api_block.specs.declared.opened.Doing.TheVariants.{Operating, Ready}
+use Rattle.api_block.specs.declared.opened.OpenTransaction.{OpenTransaction}
+use Rattle.api_block.specs.Api.{api_row, request_row}
+use Rattle.api_block.specs.Operate.{key_request, operate_by, operate_if, operate_row}
+use Rattle.api_block.specs.Opened.{begins, has_tx, if_there, is_beginning, operating, same_name, where_at}
+use Rattle.api_block.specs.State.{ApiState, about, changing, refused}
+use Rattle.node_core.specs.declared.host.Host as host
+use Rattle.node_core.specs.declared.host.Host.TheVariants.{Shell, Node}
+use Rattle.node_core.specs.Requests.{is_request}
+use Rattle.node_core.specs.Row.{node_row, row, shell_row}
+use Rattle.world_core.specs.Machine.{after}
+use Rattle.world_core.specs.Start.{Start}
+use Rattle.answer_laws.proofs.ApiBegins.{each_at, each_changed, each_less, first_of, in_middle}
+use Rattle.answer_laws.proofs.SendKinds.{none_of}
+use Rattle.answer_laws.proofs.Tally.{one_if}
+use Rattle.answer_laws.proofs.TcMoves.{same_tx-is}
+use Rattle.answer_laws.proofs.Wishes.{is_tc, sends_of}
+use Rattle.answer_laws.specs.Answered.{opened_in}
+use Rattle.command_laws.proofs.ApiChanges.{ApiChange, answers, api_changes, commits, ends, is_news_kind, refuses, rests, starts, waits}
+use Rattle.command_laws.proofs.EarlySteps.{is_wish_to, wish_of}
+use Rattle.command_laws.proofs.Entries.{HasOne, IsNamed, NoneBegins, named_found}
+use Rattle.command_laws.proofs.Pushes.{is_node_kind, node_sends_node}
+use Rattle.command_laws.proofs.Since.{sent_since}
+use Rattle.command_laws.proofs.Tests.{and_off}
+use Rattle.command_laws.specs.Served.{named_in}
+
+module _ (tx : TxId) where
+  -- the transaction has a name, and none is beginning
+  pub record AreNamed (opened : List OpenTransaction) : Type 0 where
+    pub calm : NoneBegins opened
+    pub named : Each (λ (t : OpenTransaction). has_tx tx t ≡ true → is_some t.name ≡ true) opened
+
+  no_wish_news : (to : Place) (body : Body) → is_news_kind body ≡ true → is_wish_to tx to body ≡ false
+  no_wish_news to body e = and_off (is_tc to.block) (plain body e)
+    where
+      plain : (b : Body) → is_news_kind b ≡ true → wish_of tx b ≡ false
+      plain (Client (TcCommitReq one)) k = cc
+      plain (Client (TcRollbackReq one)) k = cc
+      plain _ k = refl
+
+  pub no_wish_node : (to : Place) (body : Body) → is_node_kind body ≡ true → is_wish_to tx to body ≡ false
+  no_wish_node to body e = and_off (is_tc to.block) (plain body e)
+    where
+      plain : (b : Body) → is_node_kind b ≡ true → wish_of tx b ≡ false
+      plain (Client (TcCommitReq one)) k = cc
+      plain (Client (TcRollbackReq one)) k = cc
+      plain _ k = refl
+
+  -- a step keeps that, and wishes for no commit or abort of it
+  pub record KeepsNamed (opened : List OpenTransaction) (sends : List Outgoing) : Type 0 where
+    pub named : AreNamed opened
+    pub wishes : sends_of (is_wish_to tx) sends ≡ 0
+
+  module _ (s : ApiState) (body : Body) (were : AreNamed s.opened) where
+    other_wish : (one : TxId) (b : Bool) → same_tx one tx ≡ b → (b ≡ true → ⊥) → one_if (same_tx one tx) + 0 ≡ 0
+    other_wish one true is none = absurd (none refl)
+    other_wish one false is none = ap (λ c. one_if c + 0) is
+
+    change_named : (step : Step ApiState) → ApiChange s body step → KeepsNamed step.state.opened step.effects.sends
+    change_named step (rests is adds kind) = record {
+      named = record { calm = subst NoneBegins (sym is) were.calm; named = subst (Each (λ (t : OpenTransaction). has_tx tx t ≡ true → is_some t.name ≡ true)) (sym is) were.named };
+      wishes = none_of is_news_kind (is_wish_to tx) no_wish_news step.effects.sends kind;
+    }
+    change_named step (waits one ahead at about is replies sends) = record {
+      named = record {
+        calm = subst NoneBegins (sym is) (each_changed (λ (t : OpenTransaction). is_beginning t.doing ≡ false) at.front at.t _ at.back s.opened at.is were.calm (λ before. before));
+        named = subst (Each (λ (t : OpenTransaction). has_tx tx t ≡ true → is_some t.name ≡ true)) (sym is) (each_changed (λ (t : OpenTransaction). has_tx tx t ≡ true → is_some t.name ≡ true) at.front at.t _ at.back s.opened at.is were.named (λ before. before));
+      };
+      wishes = ap (sends_of (is_wish_to tx)) sends;
+    }
+    change_named step (answers one answer called at about passes does named is replies sends) = record {
+      named = record {
+        calm = subst NoneBegins (sym is) (each_changed (λ (t : OpenTransaction). is_beginning t.doing ≡ false) at.front at.t _ at.back s.opened at.is were.calm (λ before. refl));
+        named = subst (Each (λ (t : OpenTransaction). has_tx tx t ≡ true → is_some t.name ≡ true)) (sym is) (each_changed (λ (t : OpenTransaction). has_tx tx t ≡ true → is_some t.name ≡ true) at.front at.t _ at.back s.opened at.is were.named (λ before. before));
+      };
+      wishes = ap (sends_of (is_wish_to tx)) sends;
+    }
+    change_named step (commits one answer at about passes does named is replies sends) = record {
+      named = record {
+        calm = subst NoneBegins (sym is) (each_changed (λ (t : OpenTransaction). is_beginning t.doing ≡ false) at.front at.t _ at.back s.opened at.is were.calm (λ before. refl));
+        named = subst (Each (λ (t : OpenTransaction). has_tx tx t ≡ true → is_some t.name ≡ true)) (sym is) (each_changed (λ (t : OpenTransaction). has_tx tx t ≡ true → is_some t.name ≡ true) at.front at.t _ at.back s.opened at.is were.named (λ before. before));
+      };
+      wishes = ap (sends_of (is_wish_to tx)) sends ∙ other_wish one (same_tx one tx) refl not_this;
+    }
+      where
+        not_this : same_tx one tx ≡ true → ⊥
+        not_this same =
+            let own : one ≡ tx = same_tx-is one tx same in
+            let has = each_at (λ (t : OpenTransaction). has_tx tx t ≡ true → is_some t.name ≡ true) at.front at.t at.back s.opened at.is were.named (subst (λ v. has_tx v at.t ≡ true) own passes) in
+            let off : false ≡ true = sym (ap is_some named) ∙ has in cc
+    change_named step (ends one end at about passes is replies marks sends) = record {
+      named = record {
+        calm = subst NoneBegins (sym is) (each_less (λ (t : OpenTransaction). is_beginning t.doing ≡ false) at.front at.t at.back s.opened at.is were.calm);
+        named = subst (Each (λ (t : OpenTransaction). has_tx tx t ≡ true → is_some t.name ≡ true)) (sym is) (each_less (λ (t : OpenTransaction). has_tx tx t ≡ true → is_some t.name ≡ true) at.front at.t at.back s.opened at.is were.named);
+      };
+      wishes = none_of is_news_kind (is_wish_to tx) no_wish_news step.effects.sends sends;
+    }
+    change_named step (starts called one at u about passes is goes) =
+        absurd (let off : false ≡ true = sym (each_at (λ (t : OpenTransaction). is_beginning t.doing ≡ false) at.front at.t at.back s.opened at.is were.calm)
+        ∙ first_of (is_beginning at.t.doing) (same_name at.t.name called) (first_of (begins called at.t) _ passes) in cc)
+    change_named step (refuses called at about passes is replies sends) =
+        absurd (let off : false ≡ true = sym (each_at (λ (t : OpenTransaction). is_beginning t.doing ≡ false) at.front at.t at.back s.opened at.is were.calm)
+        ∙ first_of (is_beginning at.t.doing) (same_name at.t.name called) passes in cc)
+
+  shell_named : (s : ApiState) (at : BlockId) (body : Body) → is_request body ≡ false → AreNamed s.opened → KeepsNamed (shell_row s at body).state.opened (shell_row s at body).effects.sends
+  unfolding shell_row
+  shell_named s block.Api body plain were = change_named s body were (api_row s body) (api_changes s body plain)
+  shell_named s _ body plain were = record { named = were; wishes = refl }
+
+  host_named : (g : host.Host) (to : Place) (body : Body) → is_request body ≡ false → AreNamed (opened_in g) → KeepsNamed (opened_in (row g to body).state) (row g to body).effects.sends
+  unfolding row
+  host_named (Shell s) to body plain were = shell_named s to.block body plain were
+  host_named (Node n) to body plain were = record { named = record { calm = tt; named = tt }; wishes = none_of is_node_kind (is_wish_to tx) no_wish_node (node_row n to.block body).effects.sends (node_sends_node n to.block body) }
+
+  -- along steps of the shell's host that aren't requests
+  pub named_since : (start : Start) (later log : List LogStep) → Each (λ (e : LogStep). is_request e.taken.body ≡ false) later → AreNamed (opened_in (after start 0 log))
+      → AreNamed (opened_in (after start 0 (later ++ log))) × (sent_since start (is_wish_to tx) 0 later log ≡ 0)
+  named_since start [] log plain were = (were, refl)
+  named_since start (e ∷ later) log plain were = next (named_since start later log plain.1 were)
+    where
+      next : AreNamed (opened_in (after start 0 (later ++ log))) × (sent_since start (is_wish_to tx) 0 later log ≡ 0)
+          → AreNamed (opened_in (after start 0 (e ∷ (later ++ log)))) × (sent_since start (is_wish_to tx) 0 (e ∷ later) log ≡ 0)
+      next before =
+          let kept = host_named (after start 0 (later ++ log)) e.taken.to e.taken.body plain.0 before.0 in
+          (kept.named, omega (arith, kept.wishes, before.1))
+
+-- the row where the name is found
+operate_found : (s : ApiState) (name : ℕ) (op : Op) (t : OpenTransaction) (tx : TxId) → t.doing ≡ Ready → t.tx ≡ Some tx → t.operations < 64 → (f : IsNamed s.opened name t)
+    → operate_row s name op ≡ key_request (about (changing s f.at (operating t)) (Some (Some name))) tx op
+unfolding operate_row
+operate_found s name op t tx ready own few f =
+    ap (where_at s.opened (refused s (Some name) NotOpen) (λ at (u : OpenTransaction). operate_by s name op at u u.doing u.tx)) f.place
+    ∙ ap (if_there (refused s (Some name) NotOpen) (λ (u : OpenTransaction). operate_by s name op f.at u u.doing u.tx)) f.get
+    ∙ ap (λ (d : Doing). operate_by s name op f.at t d t.tx) ready ∙ ap (operate_by s name op f.at t Ready) own
+    ∙ (let low : nat_lt t.operations 64 ≡ true = grind (arith, nat_tests, few) in ap (operate_if s name op f.at t tx) low)
+
+-- after it the transaction is operating, and its commit or abort isn't wished for
+pub record IsAskedFor (tx : TxId) (name : ℕ) (step : Step host.Host) : Type 0 where
+  pub has : HasOne tx (Some name) Operating (opened_in step.state)
+  pub named : AreNamed tx (opened_in step.state)
+  pub wishes : sends_of (is_wish_to tx) step.effects.sends ≡ 0
+
+pub operate_first : (g : host.Host) (name : ℕ) (op : Op) (t : OpenTransaction) (tx : TxId) → named_in (opened_in g) name ≡ Some t → t.doing ≡ Ready → t.tx ≡ Some tx → t.operations < 64 → AreNamed tx (opened_in g)
+    → IsAskedFor tx name (row g client (Host (Continue (work.Request (request.Operate (Some name) op)) 0)))
+unfolding row shell_row request_row
+operate_first (Shell s) name op t tx is ready own few were = record {
+  has = record {
+    item = operating t;
+    inside = subst (IsIn (operating t)) (sym opened) (in_middle f.focus.front (operating t) f.focus.back);
+    own = own;
+    called = f.called;
+    does = refl;
+  };
+  named = record {
+    calm = subst NoneBegins (sym opened) (each_changed (λ (u : OpenTransaction). is_beginning u.doing ≡ false) f.focus.front f.focus.item (operating t) f.focus.back s.opened f.focus.is were.calm (λ before. refl));
+    named = subst (Each (λ (u : OpenTransaction). has_tx tx u ≡ true → is_some u.name ≡ true)) (sym opened)
+        (each_changed (λ (u : OpenTransaction). has_tx tx u ≡ true → is_some u.name ≡ true) f.focus.front f.focus.item (operating t) f.focus.back s.opened f.focus.is were.named (λ before on. ap is_some f.called));
+  };
+  wishes = ap (λ (step : Step ApiState). sends_of (is_wish_to tx) step.effects.sends) now;
+}
+  where
+    f : IsNamed s.opened name t
+    f = named_found s.opened name t is
+
+    now : operate_row s name op ≡ key_request (about (changing s f.at (operating t)) (Some (Some name))) tx op
+    now = operate_found s name op t tx ready own few f
+
+    opened : (operate_row s name op).state.opened ≡ f.focus.front ++ operating t ∷ f.focus.back
+    opened = ap (λ (step : Step ApiState). step.state.opened) now ∙ f.focus.set (operating t)
+operate_first (Node n) name op t tx is ready own few were = cc

@@ -1,0 +1,147 @@
+-- A transaction whose operation was sent is operating until that is answered, or its end is reported.
+use Rattle.std.proofs.Common.{◌≡◌, ◌⊎◌, ℕ, true, false, List, [], ◌∷◌, ◌++◌, refl, sym, ap, ◌∙◌, subst, inl, inr}
+use Rattle.std.specs.Prelude.{None, Some}
+use Rattle.run_theory.specs.Lists.{Each, IsIn}
+use Rattle.sig_core.specs.declared.log.LogStep.{LogStep}
+use Rattle.sig_core.specs.declared.mark.Mark.TheVariants.{Reported}
+use Rattle.sig_core.specs.declared.member.TxId.{TxId}
+use Rattle.sig_core.specs.declared.op.Answer.{Answer}
+use Rattle.sig_core.specs.declared.place.BlockId.{BlockId}
+use Rattle.sig_core.specs.declared.place.BlockId.TheVariants as block
+use Rattle.sig_core.specs.declared.place.Place.{Place}
+use Rattle.sig_core.specs.declared.reply.ApiReply.TheVariants.{Answered, Ended}
+use Rattle.sig_core.specs.declared.signal.Body.{Body}
+use Rattle.sig_core.specs.Step.{Step}
+use Rattle.api_block.specs.declared.opened.Doing.TheVariants.{Operating}
+use Rattle.api_block.specs.declared.opened.OpenTransaction.{OpenTransaction}
+use Rattle.api_block.specs.Api.{api_row}
+use Rattle.api_block.specs.Opened.{begins, behind, is_beginning, same_name}
+use Rattle.api_block.specs.State.{ApiState}
+use Rattle.node_core.specs.declared.host.Host as host
+use Rattle.node_core.specs.declared.host.Host.TheVariants.{Shell, Node}
+use Rattle.node_core.specs.Replies.{replies_of}
+use Rattle.node_core.specs.Requests.{is_request}
+use Rattle.node_core.specs.Row.{in_shell, row, shell_row}
+use Rattle.world_core.specs.Machine.{after, step_after}
+use Rattle.world_core.specs.Start.{Start}
+use Rattle.answer_laws.proofs.ApiBegins.{first_of, in_middle}
+use Rattle.answer_laws.specs.Answered.{opened_in}
+use Rattle.command_laws.proofs.ApiChanges.{ApiChange, answers, api_changes, commits, ends, refuses, rests, starts, waits}
+use Rattle.command_laws.proofs.CommitGoes.{HasEnded, IsEnding, IsEndingHere}
+use Rattle.command_laws.proofs.Entries.{HasOne, IsApart, here_or_apart, same_number}
+
+-- the step answers the operation of the transaction of this name
+pub record IsAnswering (name : ℕ) (g : host.Host) (step : Step host.Host) : Type 0 where
+  pub answer : Answer
+  pub told : replies_of step.state ≡ replies_of g ++ Answered (Some name) answer ∷ []
+
+record IsAnsweringHere (name : ℕ) (s : ApiState) (step : Step ApiState) : Type 0 where
+  answer : Answer
+  told : step.state.replies ≡ s.replies ++ Answered (Some name) answer ∷ []
+
+module _ (tx : TxId) (name : ℕ) where
+  GoesAnswersOrEnds : ApiState → Body → Step ApiState → Type 0
+  GoesAnswersOrEnds s body step = HasOne tx (Some name) Operating step.state.opened ⊎ (IsAnsweringHere name s step ⊎ IsEndingHere tx (Some name) s body step)
+
+  module _ (s : ApiState) (body : Body) (has : HasOne tx (Some name) Operating s.opened) where
+    as_before : (after : List OpenTransaction) → IsIn has.item after → HasOne tx (Some name) Operating after
+    as_before after inside = record { item = has.item; inside = inside; own = has.own; called = has.called; does = has.does }
+
+    not_beginning : (t : OpenTransaction) → is_beginning t.doing ≡ true → has.item ≡ t → ⊥
+    not_beginning t begins same =
+        let off : false ≡ true = sym (ap is_beginning has.does) ∙ (ap (λ (x : OpenTransaction). is_beginning x.doing) same ∙ begins) in cc
+
+    change_goes : (step : Step ApiState) → ApiChange s body step → GoesAnswersOrEnds s body step
+    unfolding GoesAnswersOrEnds
+    change_goes step (rests is adds kind) = inl (as_before step.state.opened (subst (IsIn has.item) (sym is) has.inside))
+    change_goes step (waits one ahead at about is replies sends) = by (here_or_apart has.item s.opened at has.inside)
+      where
+        by : (has.item ≡ at.t) ⊎ IsApart has.item at.front at.back → GoesAnswersOrEnds s body step
+        by (inl same) = inl (record {
+          item = behind at.t (Some ahead);
+          inside = subst (IsIn (behind at.t (Some ahead))) (sym is) (in_middle at.front (behind at.t (Some ahead)) at.back);
+          own = ap (λ (x : OpenTransaction). x.tx) (sym same) ∙ has.own;
+          called = ap (λ (x : OpenTransaction). x.name) (sym same) ∙ has.called;
+          does = ap (λ (x : OpenTransaction). x.doing) (sym same) ∙ has.does;
+        })
+        by (inr others) = inl (as_before step.state.opened (subst (IsIn has.item) (sym is) (others.kept _)))
+    change_goes step (answers one answer called at about passes does named is replies sends) = by (here_or_apart has.item s.opened at has.inside)
+      where
+        by : (has.item ≡ at.t) ⊎ IsApart has.item at.front at.back → GoesAnswersOrEnds s body step
+        by (inl same) =
+            let names : Some called ≡ Some name = sym named ∙ (ap (λ (x : OpenTransaction). x.name) (sym same) ∙ has.called) in
+            inr (inl (record { answer = answer; told = replies ∙ ap (λ n. s.replies ++ Answered n answer ∷ []) names }))
+        by (inr others) = inl (as_before step.state.opened (subst (IsIn has.item) (sym is) (others.kept _)))
+    change_goes step (commits one answer at about passes does named is replies sends) = by (here_or_apart has.item s.opened at has.inside)
+      where
+        by : (has.item ≡ at.t) ⊎ IsApart has.item at.front at.back → GoesAnswersOrEnds s body step
+        by (inl same) = absurd (let names : None ≡ Some name = sym named ∙ (ap (λ (x : OpenTransaction). x.name) (sym same) ∙ has.called) in cc)
+        by (inr others) = inl (as_before step.state.opened (subst (IsIn has.item) (sym is) (others.kept _)))
+    change_goes step (ends one end at about passes is replies marks sends) = by (here_or_apart has.item s.opened at has.inside)
+      where
+        by : (has.item ≡ at.t) ⊎ IsApart has.item at.front at.back → GoesAnswersOrEnds s body step
+        by (inl same) =
+            let own : one ≡ tx = same_number tx one at.t (ap (λ (x : OpenTransaction). x.tx) (sym same) ∙ has.own) passes in
+            inr (inr (record {
+              outcome = end;
+              about = about ∙ ap (λ t. Some (t, end)) own;
+              told = replies ∙ ap (λ called. s.replies ++ Ended called end ∷ []) (ap (λ (x : OpenTransaction). x.name) (sym same) ∙ has.called);
+              marked = marks ∙ ap (λ t. Reported t end ∷ []) own;
+            }))
+        by (inr others) = inl (as_before step.state.opened (subst (IsIn has.item) (sym is) others.left))
+    change_goes step (starts called one at u about passes is goes) = by (here_or_apart has.item s.opened at has.inside)
+      where
+        by : (has.item ≡ at.t) ⊎ IsApart has.item at.front at.back → GoesAnswersOrEnds s body step
+        by (inl same) = absurd (not_beginning at.t (first_of (is_beginning at.t.doing) (same_name at.t.name called) (first_of (begins called at.t) _ passes)) same)
+        by (inr others) = inl (as_before step.state.opened (subst (IsIn has.item) (sym is) (others.kept u)))
+    change_goes step (refuses called at about passes is replies sends) = by (here_or_apart has.item s.opened at has.inside)
+      where
+        by : (has.item ≡ at.t) ⊎ IsApart has.item at.front at.back → GoesAnswersOrEnds s body step
+        by (inl same) = absurd (not_beginning at.t (first_of (is_beginning at.t.doing) (same_name at.t.name called) passes) same)
+        by (inr others) = inl (as_before step.state.opened (subst (IsIn has.item) (sym is) others.left))
+
+  shell_goes : (s : ApiState) (at : BlockId) (body : Body) → is_request body ≡ false → HasOne tx (Some name) Operating s.opened
+      → HasOne tx (Some name) Operating (shell_row s at body).state.opened ⊎ (IsAnsweringHere name s (shell_row s at body) ⊎ IsEndingHere tx (Some name) s body (shell_row s at body))
+  unfolding shell_row GoesAnswersOrEnds
+  shell_goes s block.Api body plain has = change_goes s body has (api_row s body) (api_changes s body plain)
+  shell_goes s _ body plain has = inl has
+
+  host_goes : (g : host.Host) (to : Place) (body : Body) → is_request body ≡ false → HasOne tx (Some name) Operating (opened_in g)
+      → HasOne tx (Some name) Operating (opened_in (row g to body).state) ⊎ (IsAnswering name g (row g to body) ⊎ IsEnding tx (Some name) g body (row g to body))
+  unfolding row replies_of
+  host_goes (Shell s) to body plain has = by (shell_goes s to.block body plain has)
+    where
+      by : HasOne tx (Some name) Operating (shell_row s to.block body).state.opened ⊎ (IsAnsweringHere name s (shell_row s to.block body) ⊎ IsEndingHere tx (Some name) s body (shell_row s to.block body))
+          → HasOne tx (Some name) Operating (opened_in (in_shell (shell_row s to.block body)).state) ⊎ (IsAnswering name (Shell s) (in_shell (shell_row s to.block body)) ⊎ IsEnding tx (Some name) (Shell s) body (in_shell (shell_row s to.block body)))
+      by (inl goes) = inl goes
+      by (inr (inl answering)) = inr (inl (record { answer = answering.answer; told = answering.told }))
+      by (inr (inr ending)) = inr (inr (record { outcome = ending.outcome; about = ending.about; told = ending.told; marked = ending.marked }))
+  host_goes (Node n) to body plain has = absurd (has.inside)
+
+  -- one of these steps behind a log answered its operation
+  pub record HasAnswered (start : Start) (later log : List LogStep) : Type 0 where
+    pub newer : List LogStep
+    pub step : LogStep
+    pub older : List LogStep
+    pub is : later ≡ newer ++ step ∷ older
+    pub answering : IsAnswering name (after start 0 (older ++ log)) (step_after start 0 (older ++ log) step)
+
+  -- along steps that aren't requests
+  pub operate_goes : (start : Start) (later log : List LogStep) → Each (λ (e : LogStep). is_request e.taken.body ≡ false) later → HasOne tx (Some name) Operating (opened_in (after start 0 log))
+      → HasOne tx (Some name) Operating (opened_in (after start 0 (later ++ log))) ⊎ (HasAnswered start later log ⊎ HasEnded tx (Some name) start later log)
+  operate_goes start [] log plain has = inl has
+  operate_goes start (e ∷ later) log plain has = by (operate_goes start later log plain.1 has)
+    where
+      next : HasOne tx (Some name) Operating (opened_in (row (after start 0 (later ++ log)) e.taken.to e.taken.body).state)
+          ⊎ (IsAnswering name (after start 0 (later ++ log)) (row (after start 0 (later ++ log)) e.taken.to e.taken.body)
+          ⊎ IsEnding tx (Some name) (after start 0 (later ++ log)) e.taken.body (row (after start 0 (later ++ log)) e.taken.to e.taken.body))
+          → HasOne tx (Some name) Operating (opened_in (after start 0 (e ∷ (later ++ log)))) ⊎ (HasAnswered start (e ∷ later) log ⊎ HasEnded tx (Some name) start (e ∷ later) log)
+      next (inl goes) = inl goes
+      next (inr (inl answering)) = inr (inl (record { newer = []; step = e; older = later; is = refl; answering = answering }))
+      next (inr (inr ending)) = inr (inr (record { newer = []; step = e; older = later; is = refl; ending = ending }))
+
+      by : HasOne tx (Some name) Operating (opened_in (after start 0 (later ++ log))) ⊎ (HasAnswered start later log ⊎ HasEnded tx (Some name) start later log)
+          → HasOne tx (Some name) Operating (opened_in (after start 0 (e ∷ (later ++ log)))) ⊎ (HasAnswered start (e ∷ later) log ⊎ HasEnded tx (Some name) start (e ∷ later) log)
+      by (inl goes) = next (host_goes (after start 0 (later ++ log)) e.taken.to e.taken.body plain.0 goes)
+      by (inr (inl a)) = inr (inl (record { newer = e ∷ a.newer; step = a.step; older = a.older; is = ap (λ w. e ∷ w) a.is; answering = a.answering }))
+      by (inr (inr ended)) = inr (inr (record { newer = e ∷ ended.newer; step = ended.step; older = ended.older; is = ap (λ w. e ∷ w) ended.is; ending = ended.ending }))

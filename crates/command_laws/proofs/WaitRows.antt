@@ -1,0 +1,314 @@
+-- What a node does at questions of what a transaction waits for: it changes nothing, and asks, finds or passes on.
+use Rattle.std.proofs.Common.{◌≡◌, ◌≤◌, ◌+◌, ℕ, suc, Bool, true, false, List, [], ◌∷◌, refl, sym, ap, ◌∙◌, subst, inl, inr, arith}
+use Rattle.std.proofs.lemmas.Bool.Decides.{nat_tests}
+use Rattle.std.specs.Map.{keys_of, values_of}
+use Rattle.std.specs.Prelude.{◌==◌, ◌&&◌, Option, None, Some, if◌then◌else◌, is_some, map, nat_eq, not, position, slice_get}
+use Rattle.indexmap.specs.IndexMap.{set_value_at}
+use Rattle.run_theory.specs.Lists.{IsIn}
+use Rattle.sig_core.specs.declared.member.Member.{Member}
+use Rattle.sig_core.specs.declared.member.TxId.{TxId}
+use Rattle.sig_core.specs.declared.outs.Outgoing.{Outgoing}
+use Rattle.sig_core.specs.declared.place.BlockId.{BlockId}
+use Rattle.sig_core.specs.declared.place.BlockId.TheVariants as block
+use Rattle.sig_core.specs.declared.place.Place.{Place}
+use Rattle.sig_core.specs.declared.signal.Body.{Body}
+use Rattle.sig_core.specs.declared.signal.Body.TheVariants.{Client}
+use Rattle.sig_core.specs.declared.signal.client.ClientSignal.TheVariants.{LqhWaitConf, LqhWaitReq, TcWaitConf, TcWaitReq}
+use Rattle.sig_core.specs.Op.{key_of}
+use Rattle.sig_core.specs.Same.{same_key, same_tx}
+use Rattle.sig_core.specs.Step.{Step}
+use Rattle.row_locks.proofs.TxLemmas.{same_tx-swap}
+use Rattle.row_locks.specs.Tables.{ahead_at}
+use Rattle.lqh_block.specs.Lqh.{lqh_row}
+use Rattle.lqh_block.specs.State.{LqhState}
+use Rattle.lqh_block.specs.Wait as lqh
+use Rattle.node_core.specs.declared.node.Node as node
+use Rattle.node_core.specs.Dih.{DihState, dih_row}
+use Rattle.node_core.specs.Row.{node_row}
+use Rattle.tc_block.specs.declared.phase.Asked.{Asked}
+use Rattle.tc_block.specs.declared.transaction.Transaction.{Transaction}
+use Rattle.tc_block.specs.Live.{place_in, step_of, step_place, step_value, stepped}
+use Rattle.tc_block.specs.Operate.{wait_by, wait_row}
+use Rattle.tc_block.specs.Sends.{wait_of, waits_of}
+use Rattle.tc_block.specs.State.{TcState, with_live}
+use Rattle.tc_block.specs.Tc.{pass_if, pass_row, tc_row}
+use Rattle.answer_laws.proofs.LqhOps.{is_lqh, true_and}
+use Rattle.answer_laws.proofs.SendKinds.{are_of, none_of, of_map}
+use Rattle.answer_laws.proofs.Tally.{one_if, tally, tally_in}
+use Rattle.answer_laws.proofs.TcLives.{is_keyed}
+use Rattle.answer_laws.proofs.TcMoves.{same_tx-is}
+use Rattle.answer_laws.proofs.TcSends.{eqb-self, same_tx-self}
+use Rattle.answer_laws.proofs.Wishes.{is_api, is_tc, sends_of, to_node}
+use Rattle.commit_laws.proofs.Firsts.{place_by, position-cons}
+use Rattle.commit_laws.proofs.Keys.{same_key-self}
+use Rattle.commit_laws.proofs.LiveSplit.{split_at}
+use Rattle.transit_laws.specs.Live.{of_live}
+use Rattle.command_laws.proofs.Tests.{one_kind}
+
+-- a question of what the transaction waits for, or an answer to one
+abbrev pub is_wait_of : TxId → Body → Bool
+is_wait_of tx (Client (TcWaitReq other)) = same_tx other tx
+is_wait_of tx (Client (LqhWaitReq other key)) = same_tx other tx
+is_wait_of tx (Client (LqhWaitConf other ahead)) = same_tx other tx
+is_wait_of tx (Client (TcWaitConf other ahead)) = same_tx other tx
+is_wait_of tx _ = false
+
+abbrev pub is_other : TxId → Place → Body → Bool
+is_other tx to body = not (is_wait_of tx body)
+
+-- its coordinator is asked
+abbrev pub want_of : TxId → Body → Bool
+want_of tx (Client (TcWaitReq other)) = same_tx other tx
+want_of tx _ = false
+
+abbrev pub is_want : TxId → Place → Body → Bool
+is_want tx to body = is_tc to.block && want_of tx body
+
+-- the rows of a node are asked, about a key
+abbrev pub probe_of : TxId → List ℕ → Body → Bool
+probe_of tx key (Client (LqhWaitReq other at)) = same_tx other tx && same_key at key
+probe_of tx key _ = false
+
+abbrev pub is_probe : TxId → List ℕ → Place → Body → Bool
+is_probe tx key to body = is_lqh to.block && probe_of tx key body
+
+-- its coordinator is told
+abbrev pub found_of : TxId → Body → Bool
+found_of tx (Client (LqhWaitConf other ahead)) = same_tx other tx
+found_of tx _ = false
+
+abbrev pub is_found : TxId → Place → Body → Bool
+is_found tx to body = is_tc to.block && found_of tx body
+
+-- the API is told
+abbrev pub passed_of : TxId → Body → Bool
+passed_of tx (Client (TcWaitConf other ahead)) = same_tx other tx
+passed_of tx _ = false
+
+abbrev pub is_passed : TxId → Place → Body → Bool
+is_passed tx to body = is_api to.block && passed_of tx body
+
+pub same_key-is : (a b : List ℕ) → same_key a b ≡ true → a ≡ b
+same_key-is [] [] e = refl
+same_key-is [] (y ∷ b) e = cc
+same_key-is (x ∷ a) [] e = cc
+same_key-is (x ∷ a) (y ∷ b) e = by (nat_eq x y) refl e (same_key-is a b)
+  where
+    by : (c : Bool) → nat_eq x y ≡ c → (c && same_key a b) ≡ true → (same_key a b ≡ true → a ≡ b) → x ∷ a ≡ y ∷ b
+    by true is both rest = let first : x ≡ y = grind (arith, nat_tests, is) in ap (λ n. n ∷ a) first ∙ ap (λ w. y ∷ w) (rest both)
+    by false is both rest = cc
+
+-- one of a list stands among what is made of it
+in_made : {A B : Type 0} (g : A → B) (x : A) (xs : List A) → IsIn x xs → IsIn (g x) (map g xs)
+in_made g x [] i = absurd i
+in_made g x (y ∷ xs) (inl same) = inl (ap g same)
+in_made g x (y ∷ xs) (inr i) = inr (in_made g x xs i)
+
+-- where the transaction stands among those of its coordinator
+pub record IsPlacedAt (tx : TxId) (t : Transaction) (live : List (TxId × Transaction)) : Type 0 where
+  pub at : ℕ
+  pub place : position (same_tx tx) (keys_of live) ≡ Some at
+  pub get : slice_get (values_of live) at ≡ Some t
+
+pub placed_at : (tx : TxId) (live : List (TxId × Transaction)) (t : Transaction) → of_live tx live ≡ Some t → IsPlacedAt tx t live
+placed_at tx [] t is = absurd cc
+placed_at tx (e ∷ live) t is = by (same_tx e.0 tx) refl is (placed_at tx live t)
+  where
+    by : (b : Bool) → same_tx e.0 tx ≡ b → (if b then Some e.1 else of_live tx live) ≡ Some t → (of_live tx live ≡ Some t → IsPlacedAt tx t live) → IsPlacedAt tx t (e ∷ live)
+    by true same found rest = record {
+      at = 0;
+      place = position-cons (same_tx tx) e.0 (keys_of live) ∙ ap (λ b. place_by b (position (same_tx tx) (keys_of live))) (same_tx-swap tx e.0 ∙ same);
+      get = found;
+    }
+    by false differs found rest =
+        let r = rest found in
+        record {
+          at = suc r.at;
+          place = position-cons (same_tx tx) e.0 (keys_of live) ∙ ap (λ b. place_by b (position (same_tx tx) (keys_of live))) (same_tx-swap tx e.0 ∙ differs) ∙ ap (place_by false) r.place;
+          get = r.get;
+        }
+
+pub in_live : (tx : TxId) (t : Transaction) (live : List (TxId × Transaction)) → IsIn (tx, t) live → tally (is_keyed tx) live ≤ 1 → of_live tx live ≡ Some t
+in_live tx t [] i few = absurd i
+in_live tx t (e ∷ live) (inl same) few =
+    ap (λ (x : TxId × Transaction). if same_tx x.0 tx then Some x.1 else of_live tx live) (sym same) ∙ ap (λ b. if b then Some t else of_live tx live) (same_tx-self tx)
+in_live tx t (e ∷ live) (inr i) few = by (same_tx e.0 tx) refl (in_live tx t live i)
+  where
+    some : 1 ≤ tally (is_keyed tx) live
+    some = tally_in (is_keyed tx) (tx, t) live i (same_tx-self tx)
+
+    by : (b : Bool) → same_tx e.0 tx ≡ b → (tally (is_keyed tx) live ≤ 1 → of_live tx live ≡ Some t) → (if b then Some e.1 else of_live tx live) ≡ Some t
+    by true same rest = absurd (omega (arith, few, some, ap one_if same))
+    by false differs rest = rest (omega (arith, few))
+
+-- the coordinator at these signals
+module _ (tx : TxId) where
+  no_other : (to : Place) (body : Body) → is_wait_of tx body ≡ true → is_other tx to body ≡ false
+  no_other to body e = ap not e
+
+  -- nothing changes, and no other signals are sent
+  pub record IsQuietStep {S : Type 0} (s : S) (step : Step S) : Type 0 where
+    pub same : step.state ≡ s
+    pub plain : sends_of (is_other tx) step.effects.sends ≡ 0
+
+  of_kind_step : {S : Type 0} (s : S) (step : Step S) → step.state ≡ s → are_of (is_wait_of tx) step.effects.sends ≡ true → IsQuietStep s step
+  of_kind_step s step same kind = record { same = same; plain = none_of (is_wait_of tx) (is_other tx) no_other step.effects.sends kind }
+
+  waits_kind : (one : TxId) (key : List ℕ) (members : List Member) → same_tx one tx ≡ true → are_of (is_wait_of tx) (waits_of one key members) ≡ true
+  waits_kind one key members e = of_map (is_wait_of tx) (wait_of one key) members (λ m. e)
+
+  row_state_same : (one : TxId) (t : Transaction) → (wait_row one t).state ≡ t
+  unfolding wait_row
+  row_state_same one t = by t.asked
+    where
+      by : (o : Option Asked) → (wait_by one t o).state ≡ t
+      by None = refl
+      by (Some asked) = refl
+
+  row_kind : (one : TxId) (t : Transaction) → same_tx one tx ≡ true → are_of (is_wait_of tx) (wait_row one t).effects.sends ≡ true
+  unfolding wait_row
+  row_kind one t e = by t.asked
+    where
+      by : (o : Option Asked) → are_of (is_wait_of tx) (wait_by one t o).effects.sends ≡ true
+      by None = refl
+      by (Some asked) = waits_kind one (key_of asked.op) asked.chain e
+
+  want_step : (s : TcState) (one : TxId) → same_tx one tx ≡ true → IsQuietStep s (step_of s one (wait_row one))
+  want_step s one e = at_place (place_in s one) refl
+    where
+      at_value : (at : ℕ) → place_in s one ≡ Some at → (o : Option Transaction) → slice_get (values_of s.live) at ≡ o → IsQuietStep s (step_value s (wait_row one) at o)
+      at_value at at_is None is = of_kind_step s _ refl refl
+      at_value at at_is (Some t) is =
+          let split = split_at one s.live at t at_is is in
+          let live_same : set_value_at s.live at (wait_row one t).state ≡ s.live = ap (set_value_at s.live at) (row_state_same one t) ∙ split.set t ∙ sym split.is in
+          of_kind_step s (stepped s at (wait_row one t)) (ap (with_live s) live_same) (row_kind one t e)
+
+      at_place : (o : Option ℕ) → place_in s one ≡ o → IsQuietStep s (step_place s (wait_row one) o)
+      at_place None is = of_kind_step s _ refl refl
+      at_place (Some at) is = at_value at is (slice_get (values_of s.live) at) refl
+
+  pass_step : (s : TcState) (one ahead : TxId) (b : Bool) → same_tx one tx ≡ true → IsQuietStep s (pass_if s one ahead b)
+  pass_step s one ahead true e = of_kind_step s (pass_if s one ahead true) refl (one_kind (same_tx one tx) e)
+  pass_step s one ahead false e = of_kind_step s (pass_if s one ahead false) refl refl
+
+  tc_waits : (s : TcState) (body : Body) → is_wait_of tx body ≡ true → IsQuietStep s (tc_row s body)
+  unfolding pass_row
+  tc_waits s (Client (TcWaitReq one)) e = want_step s one e
+  tc_waits s (Client (LqhWaitConf one ahead)) e = pass_step s one ahead (is_some (place_in s one)) e
+  tc_waits s (Client (LqhWaitReq one key)) e = of_kind_step s _ refl refl
+  tc_waits s (Client (TcWaitConf one ahead)) e = of_kind_step s _ refl refl
+  tc_waits s _ e = cc
+
+  dih_waits : (s : DihState) (body : Body) → is_wait_of tx body ≡ true → IsQuietStep s (dih_row s body)
+  dih_waits s (Client (TcWaitReq one)) e = of_kind_step s _ refl refl
+  dih_waits s (Client (LqhWaitConf one ahead)) e = of_kind_step s _ refl refl
+  dih_waits s (Client (LqhWaitReq one key)) e = of_kind_step s _ refl refl
+  dih_waits s (Client (TcWaitConf one ahead)) e = of_kind_step s _ refl refl
+  dih_waits s _ e = cc
+
+  find_step : (s : LqhState) (one : TxId) (o : Option TxId) → same_tx one tx ≡ true → IsQuietStep s (lqh.wait_by s one o)
+  find_step s one None e = of_kind_step s _ refl refl
+  find_step s one (Some ahead) e = of_kind_step s (lqh.wait_by s one (Some ahead)) refl (one_kind (same_tx one tx) e)
+
+  lqh_waits : (s : LqhState) (body : Body) → is_wait_of tx body ≡ true → IsQuietStep s (lqh_row s body)
+  unfolding lqh.wait_row
+  lqh_waits s (Client (TcWaitReq one)) e = of_kind_step s _ refl refl
+  lqh_waits s (Client (LqhWaitConf one ahead)) e = of_kind_step s _ refl refl
+  lqh_waits s (Client (LqhWaitReq one key)) e = find_step s one (ahead_at s.locks key one) e
+  lqh_waits s (Client (TcWaitConf one ahead)) e = of_kind_step s _ refl refl
+  lqh_waits s _ e = cc
+
+  -- a node changes nothing
+  pub node_waits : (n : node.Node) (at : BlockId) (body : Body) → is_wait_of tx body ≡ true → IsQuietStep n (node_row n at body)
+  unfolding node_row
+  node_waits n block.Tc body e = let q = tc_waits n.tc body e in record { same = ap (λ s. record { tc = s; dih = n.dih; lqh = n.lqh }) q.same; plain = q.plain }
+  node_waits n block.Dih body e = let q = dih_waits n.dih body e in record { same = ap (λ s. record { tc = n.tc; dih = s; lqh = n.lqh }) q.same; plain = q.plain }
+  node_waits n block.Lqh body e = let q = lqh_waits n.lqh body e in record { same = ap (λ s. record { tc = n.tc; dih = n.dih; lqh = s }) q.same; plain = q.plain }
+  node_waits n _ body e = record { same = refl; plain = refl }
+
+  -- what it sends on
+  one_or_more : (a b : ℕ) → 1 ≤ a → 1 ≤ a + b
+  one_or_more a b some = omega (arith, some)
+
+  -- a coordinator that has the transaction's operation unanswered asks each node that this was sent along
+  wants_here : (s : TcState) (t : Transaction) (asked : Asked) (member : Member) → of_live tx s.live ≡ Some t → t.asked ≡ Some asked → IsIn member asked.chain
+      → 1 ≤ sends_of (to_node member.node (is_probe tx (key_of asked.op))) (step_of s tx (wait_row tx)).effects.sends
+  unfolding wait_row
+  wants_here s t asked member live unanswered inside =
+      subst (λ (step : Step TcState). 1 ≤ sends_of (to_node member.node (is_probe tx (key_of asked.op))) step.effects.sends) (sym there)
+      (tally_in (λ (x : Outgoing). to_node member.node (is_probe tx (key_of asked.op)) x.to x.body) (wait_of tx (key_of asked.op) member) (waits_of tx (key_of asked.op) asked.chain)
+      (in_made (wait_of tx (key_of asked.op)) member asked.chain inside)
+      (true_and (member.node == member.node) _ (eqb-self member.node) (true_and (same_tx tx tx) (same_key (key_of asked.op) (key_of asked.op)) (same_tx-self tx) (same_key-self (key_of asked.op)))))
+    where
+      p : IsPlacedAt tx t s.live
+      p = placed_at tx s.live t live
+
+      there : step_of s tx (wait_row tx) ≡ stepped s p.at (wait_by tx t (Some asked))
+      there = ap (step_place s (wait_row tx)) p.place ∙ ap (step_value s (wait_row tx) p.at) p.get ∙ ap (λ o. stepped s p.at (wait_by tx t o)) unanswered
+
+  tc_wants : (s : TcState) (t : Transaction) (asked : Asked) (member : Member) → of_live tx s.live ≡ Some t → t.asked ≡ Some asked → IsIn member asked.chain → (body : Body) → want_of tx body ≡ true
+      → 1 ≤ sends_of (to_node member.node (is_probe tx (key_of asked.op))) (tc_row s body).effects.sends
+  tc_wants s t asked member live unanswered inside (Client (TcWaitReq one)) e =
+      subst (λ v. 1 ≤ sends_of (to_node member.node (is_probe tx (key_of asked.op))) (step_of s v (λ w. wait_row v w)).effects.sends) (sym (same_tx-is one tx e)) (wants_here s t asked member live unanswered inside)
+  tc_wants s t asked member live unanswered inside _ e = cc
+
+  pub node_wants : (n : node.Node) (t : Transaction) (asked : Asked) (member : Member) → of_live tx n.tc.live ≡ Some t → t.asked ≡ Some asked → IsIn member asked.chain → (to : Place) (body : Body) → is_want tx to body ≡ true
+      → 1 ≤ sends_of (to_node member.node (is_probe tx (key_of asked.op))) (node_row n to.block body).effects.sends
+  unfolding node_row
+  node_wants n t asked member live unanswered inside to body is = by to.block is
+    where
+      by : (at : BlockId) → (is_tc at && want_of tx body) ≡ true → 1 ≤ sends_of (to_node member.node (is_probe tx (key_of asked.op))) (node_row n at body).effects.sends
+      by block.Tc e = tc_wants n.tc t asked member live unanswered inside body e
+      by _ e = cc
+
+  -- the rows of a node where it is held up tell its coordinator
+  find_one : (s : LqhState) (o : Option TxId) → is_some o ≡ true → 1 ≤ sends_of (to_node tx.tc (is_found tx)) (lqh.wait_by s tx o).effects.sends
+  find_one s None some = cc
+  find_one s (Some ahead) some =
+      omega (arith, ap one_if (true_and (tx.tc == tx.tc) (same_tx tx tx) (eqb-self tx.tc) (same_tx-self tx)))
+
+  lqh_finds : (s : LqhState) (key : List ℕ) → is_some (ahead_at s.locks key tx) ≡ true → (body : Body) → probe_of tx key body ≡ true → 1 ≤ sends_of (to_node tx.tc (is_found tx)) (lqh_row s body).effects.sends
+  unfolding lqh.wait_row
+  lqh_finds s key held (Client (LqhWaitReq one at)) e =
+      let own : one ≡ tx = same_tx-is one tx (first_of (same_tx one tx) (same_key at key) e) in
+      let on : at ≡ key = same_key-is at key (second_of (same_tx one tx) (same_key at key) e) in
+      subst (λ v. 1 ≤ sends_of (to_node tx.tc (is_found tx)) (lqh.wait_by s v (ahead_at s.locks at v)).effects.sends) (sym own)
+      (find_one s (ahead_at s.locks at tx) (ap (λ k. is_some (ahead_at s.locks k tx)) on ∙ held))
+    where
+      first_of : (a b : Bool) → (a && b) ≡ true → a ≡ true
+      first_of true b p = refl
+      first_of false b p = cc
+
+      second_of : (a b : Bool) → (a && b) ≡ true → b ≡ true
+      second_of true b p = p
+      second_of false b p = cc
+  lqh_finds s key held _ e = cc
+
+  pub node_finds : (n : node.Node) (key : List ℕ) → is_some (ahead_at n.lqh.locks key tx) ≡ true → (to : Place) (body : Body) → is_probe tx key to body ≡ true
+      → 1 ≤ sends_of (to_node tx.tc (is_found tx)) (node_row n to.block body).effects.sends
+  unfolding node_row
+  node_finds n key held to body is = by to.block is
+    where
+      by : (at : BlockId) → (is_lqh at && probe_of tx key body) ≡ true → 1 ≤ sends_of (to_node tx.tc (is_found tx)) (node_row n at body).effects.sends
+      by block.Lqh e = lqh_finds n.lqh key held body e
+      by _ e = cc
+
+  -- its coordinator passes that on to the API
+  pass_one : (s : TcState) (ahead : TxId) (b : Bool) → b ≡ true → 1 ≤ sends_of (to_node 0 (is_passed tx)) (pass_if s tx ahead b).effects.sends
+  pass_one s ahead true e = omega (arith, ap one_if (same_tx-self tx))
+  pass_one s ahead false e = cc
+
+  tc_passes : (s : TcState) (t : Transaction) → of_live tx s.live ≡ Some t → (body : Body) → found_of tx body ≡ true → 1 ≤ sends_of (to_node 0 (is_passed tx)) (tc_row s body).effects.sends
+  unfolding pass_row
+  tc_passes s t live (Client (LqhWaitConf one ahead)) e =
+      subst (λ v. 1 ≤ sends_of (to_node 0 (is_passed tx)) (pass_if s v ahead (is_some (place_in s v))).effects.sends) (sym (same_tx-is one tx e))
+      (pass_one s ahead (is_some (place_in s tx)) (ap is_some (placed_at tx s.live t live).place))
+  tc_passes s t live _ e = cc
+
+  pub node_passes : (n : node.Node) (t : Transaction) → of_live tx n.tc.live ≡ Some t → (to : Place) (body : Body) → is_found tx to body ≡ true → 1 ≤ sends_of (to_node 0 (is_passed tx)) (node_row n to.block body).effects.sends
+  unfolding node_row
+  node_passes n t live to body is = by to.block is
+    where
+      by : (at : BlockId) → (is_tc at && found_of tx body) ≡ true → 1 ≤ sends_of (to_node 0 (is_passed tx)) (node_row n at body).effects.sends
+      by block.Tc e = tc_passes n.tc t live body e
+      by _ e = cc

@@ -1,0 +1,31 @@
+//! What is proved of commands.
+ghost use Rattle.command_laws.specs.Served.{CommitsAreCommitted, EachIsHeldUp, HoldersAreTold, LoneAreCommitted, OperationsAreAnswered};
+
+/// A commit of a transaction that takes commands ends in its being committed: the client is told so,
+/// and the step that tells it is marked.
+pub fn commits_are_committed()
+    ensures { CommitsAreCommitted }
+{}
+
+/// An operation alone that is answered ends in its being committed.
+pub fn lone_operations_are_committed()
+    ensures { LoneAreCommitted }
+{}
+
+/// An operation of a transaction that takes commands is answered, or its transaction is aborted for
+/// want of room or of time, or it waits for a lock.
+pub fn operations_are_answered()
+    ensures { OperationsAreAnswered }
+{}
+
+/// Where a command left something of its own unanswered, the two questions about it tell for whom
+/// that waits.
+pub fn holders_are_told()
+    ensures { HoldersAreTold }
+{}
+
+/// When nothing is under way, an operation that was sent is unanswered at its coordinator, and waits
+/// in the queue of its key, behind another transaction, at one of the nodes that it is sent along.
+pub fn each_operation_is_held_up()
+    ensures { EachIsHeldUp }
+{}
