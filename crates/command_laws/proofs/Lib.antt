@@ -36,3 +36,5 @@ pub mod WaitApi
 pub mod WaitHosts
 pub mod WaitRows
 pub mod WaitRun
+pub mod WaitSources
+pub mod WaitsBehind
