@@ -24,6 +24,7 @@ pub mod PhaseSends
 pub mod Places
 pub mod Pushes
 pub mod Reported
+pub mod SampleServed
 pub mod Since
 pub mod TcPath
 pub mod TellsOnce

@@ -322,7 +322,7 @@ module _ (start : Start) (was now : ℕ → List LogStep) (op : Op) (served : Is
         by (inl has) = absurd (still_committing (subst (λ log. HasOne l.tx None Committing (opened_in (after start 0 log))) (sym now_is) has))
         by (inr ended) =
             let r = reported start was now served.since l.tx None l.newer (l.step ∷ (l.older ++ f.first ∷ was 0)) now_is past plain_newer none_newer ended in
-            record { epoch = r.epoch; told = r.told }
+            record { tx = l.tx; epoch = r.epoch; told = r.told; marked = r.marked }
 
 -- so it is where each command is answered
 pub lone_committed : EachIsAnswered → LoneAreCommitted

@@ -77,10 +77,12 @@ pub record IsAnsweredAlone (start : Start) (was now : ℕ → List LogStep) : Ty
   pub answer : Answer
   pub told : IsIn (Answered None answer) (replies_since start was now)
 
--- and one was reported committed
+-- and a transaction of one was reported committed
 pub record IsCommittedAlone (start : Start) (was now : ℕ → List LogStep) : Type 0 where
+  pub tx : TxId
   pub epoch : ℕ
   pub told : IsIn (Ended None (Committed epoch)) (replies_since start was now)
+  pub marked : IsMarked was now tx epoch
 
 -- an operation alone that is answered ends in its being committed
 abbrev pub LoneAreCommitted : Type 0

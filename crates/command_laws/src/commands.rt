@@ -1,4 +1,5 @@
 //! What is proved of commands.
+ghost use Rattle.command_laws.specs.Sample.{SampleIsServed};
 ghost use Rattle.command_laws.specs.Served.{CommitsAreCommitted, EachIsHeldUp, HoldersAreTold, LoneAreCommitted, OperationsAreAnswered};
 
 /// A commit of a transaction that takes commands ends in its being committed: the client is told so,
@@ -28,4 +29,9 @@ pub fn holders_are_told()
 /// in the queue of its key, behind another transaction, at one of the nodes that it is sent along.
 pub fn each_operation_is_held_up()
     ensures { EachIsHeldUp }
+{}
+
+/// There are logs between which a commit was served, of a transaction that takes commands.
+pub fn a_commit_is_served()
+    ensures { SampleIsServed }
 {}

@@ -4,6 +4,6 @@
 mod commands;
 
 pub use commands::{
-    commits_are_committed, each_operation_is_held_up, holders_are_told,
+    a_commit_is_served, commits_are_committed, each_operation_is_held_up, holders_are_told,
     lone_operations_are_committed, operations_are_answered,
 };
