@@ -29,14 +29,13 @@ use Rattle.world_core.proofs.Stamped.{stamped}
 use Rattle.world_core.specs.Machine.{after, machine, step_after}
 use Rattle.world_core.specs.Start.{Start, first_view}
 use Rattle.answer_laws.proofs.Begins.{given_past}
-use Rattle.answer_laws.proofs.Hosts.{node_after}
+use Rattle.answer_laws.proofs.Hosts.{node_after, same_node}
 use Rattle.answer_laws.proofs.Lives.{keeps}
 use Rattle.answer_laws.proofs.LinkCounts.{signals}
 use Rattle.answer_laws.proofs.LqhOps.{is_lqh}
-use Rattle.answer_laws.proofs.Ops.{same_node, tc_view}
 use Rattle.answer_laws.proofs.Tally.{tally, tally_past}
 use Rattle.answer_laws.proofs.TcLives.{IsOwn, is_keyed}
-use Rattle.answer_laws.proofs.TcMoves.{node_moves}
+use Rattle.answer_laws.proofs.TcMoves.{node_moves, tc_view}
 use Rattle.answer_laws.proofs.TcSteps.{of_live}
 use Rattle.answer_laws.proofs.Wishes.{is_tc}
 

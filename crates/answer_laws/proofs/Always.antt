@@ -26,11 +26,11 @@ use Rattle.tc_block.specs.Touched.{fits, place_of, touch, touched_by, unwritten,
 use Rattle.tc_block.specs.Turn.{Turn}
 use Rattle.world_core.specs.Machine.{after}
 use Rattle.world_core.specs.Start.{Start, first_view}
+use Rattle.commit_laws.proofs.Keys.{same_tx-self}
 use Rattle.answer_laws.proofs.Ahead.{AtNode, NextAt, NodeStep, at_node, first_none, next_at, of_dih, of_lqh, of_none, of_tc, tx_at}
 use Rattle.answer_laws.proofs.Tally.{one_if}
 use Rattle.answer_laws.proofs.TcKeys.{key_of_tx}
 use Rattle.answer_laws.proofs.TcOwes.{last_length, set_length}
-use Rattle.answer_laws.proofs.TcSends.{same_tx-self}
 use Rattle.answer_laws.proofs.TcSteps.{TxStep, born, elsewhere, of_live, turned, tx_step}
 use Rattle.answer_laws.proofs.TcTurns.{GivesUp, TurnMove, abort_ends, aborted, aborts, all_completed, answers, asked_to, asks, commits, committed, completed, completes, decides, ends, gives_up, goes_on, keeps, late, refused}
 

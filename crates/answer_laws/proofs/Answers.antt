@@ -21,7 +21,7 @@ use Rattle.world_core.specs.Start.{Start}
 use Rattle.answer_laws.proofs.Aborts.{no_abort}
 use Rattle.answer_laws.proofs.Begins.{no_begin}
 use Rattle.answer_laws.proofs.Commits.{live_low}
-use Rattle.answer_laws.proofs.Heard.{asked_where_operating, closed_where_committing, each_numbered}
+use Rattle.answer_laws.proofs.Heeded.{asked_where_operating, closed_where_committing, each_numbered}
 use Rattle.answer_laws.proofs.Queued.{operations_queue}
 use Rattle.answer_laws.proofs.Serves.{each_served}
 use Rattle.answer_laws.proofs.Verified.{no_epoch}

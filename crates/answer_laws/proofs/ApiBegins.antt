@@ -19,6 +19,7 @@ use Rattle.api_block.specs.Members.{is_at, is_full, least_from, least_node, less
 use Rattle.api_block.specs.Opened.{asked_for, begins, begins_at, has_tx, is_beginning, is_named, is_tx, same_name}
 use Rattle.api_block.specs.Requests.{is_request}
 use Rattle.api_block.specs.State.{ApiState}
+use Rattle.answer_laws.proofs.LqhOps.{left_of, right_of}
 use Rattle.answer_laws.proofs.ApiMoves.{ApiMove, GoesOn, HasBegun, IsNew, IsVoid, begun_as, ended, ends, goes, is_api_kind, opens, refuses, rests}
 use Rattle.answer_laws.proofs.SendKinds.{are_of, none_of}
 use Rattle.answer_laws.proofs.Tally.{Counted, one_if, only_one, counted, tally, tally_append, tally_between}
@@ -44,14 +45,6 @@ same_name-is (Some a) None e = cc
 pub same_name-self : (a : Option ℕ) → same_name a a ≡ true
 same_name-self None = refl
 same_name-self (Some a) = grind (arith, nat_tests)
-
-pub first_of : (a b : Bool) → (a && b) ≡ true → a ≡ true
-first_of true b e = refl
-first_of false b e = e
-
-second_of : (a b : Bool) → (a && b) ≡ true → b ≡ true
-second_of true b e = e
-second_of false b e = cc
 
 -- one item becomes another
 pub each_changed : {A : Type 0} (P : A → Type 0) (front : List A) (x y : A) (back all : List A) → all ≡ front ++ x ∷ back → Each P all → (P x → P y) → Each P (front ++ y ∷ back)
@@ -248,16 +241,16 @@ same_node s from name t good inside passes some = go name refl
     c = counted (begins_at name from) s.opened some
 
     c_begins : begins name c.item ≡ true
-    c_begins = first_of (begins name c.item) (c.item.node == from) c.passes
+    c_begins = left_of (begins name c.item) (c.item.node == from) c.passes
 
     c_node : c.item.node ≡ from
-    c_node = eqb-true c.item.node from (second_of (begins name c.item) (c.item.node == from) c.passes)
+    c_node = eqb-true c.item.node from (right_of (begins name c.item) (c.item.node == from) c.passes)
 
     t_name : same_name t.name name ≡ true
-    t_name = second_of (is_beginning t.doing) (same_name t.name name) passes
+    t_name = right_of (is_beginning t.doing) (same_name t.name name) passes
 
     c_name : same_name c.item.name name ≡ true
-    c_name = second_of (is_beginning c.item.doing) (same_name c.item.name name) c_begins
+    c_name = right_of (is_beginning c.item.doing) (same_name c.item.name name) c_begins
 
     go : (n : Option ℕ) → name ≡ n → t.node ≡ from
     go (Some n) e =
@@ -267,8 +260,8 @@ same_node s from name t good inside passes some = go name refl
     go None e =
         let g = each_in (λ u. IsGood s.view u) t s.opened good.each inside in
         let h = each_in (λ u. IsGood s.view u) c.item s.opened good.each c.inside in
-        let one : least_node s.view.full ≡ Some t.node = g.least (first_of (is_beginning t.doing) (same_name t.name name) passes) (same_name-is t.name name t_name ∙ e) in
-        let other : least_node s.view.full ≡ Some c.item.node = h.least (first_of (is_beginning c.item.doing) (same_name c.item.name name) c_begins) (same_name-is c.item.name name c_name ∙ e) in
+        let one : least_node s.view.full ≡ Some t.node = g.least (left_of (is_beginning t.doing) (same_name t.name name) passes) (same_name-is t.name name t_name ∙ e) in
+        let other : least_node s.view.full ≡ Some c.item.node = h.least (left_of (is_beginning c.item.doing) (same_name c.item.name name) c_begins) (same_name-is c.item.name name c_name ∙ e) in
         let same : t.node ≡ c.item.node = cc in
         same ∙ c_node
 
@@ -341,13 +334,13 @@ count_move s body after sends from name node (begun_as other tx front t u back a
     )
   where
     begins_other : begins other t ≡ true
-    begins_other = first_of (begins other t) (t.node == tx.tc) passes
+    begins_other = left_of (begins other t) (t.node == tx.tc) passes
 
     there : t.node ≡ from
-    there = eqb-true t.node tx.tc (second_of (begins other t) (t.node == tx.tc) passes) ∙ due.told other tx about
+    there = eqb-true t.node tx.tc (right_of (begins other t) (t.node == tx.tc) passes) ∙ due.told other tx about
 
     called : t.name ≡ other
-    called = same_name-is t.name other (second_of (is_beginning t.doing) (same_name t.name other) begins_other)
+    called = same_name-is t.name other (right_of (is_beginning t.doing) (same_name t.name other) begins_other)
 
     swapped : (a b : Bool) → one_if ((true && a) && b) ≡ one_if (b && a)
     swapped true true = refl
@@ -357,7 +350,7 @@ count_move s body after sends from name node (begun_as other tx front t u back a
 
     reply : one_if (begins_at name node t) ≡ one_if ((from == node) && reply_of name body)
     reply =
-        ap (λ b. one_if ((b && same_name t.name name) && (t.node == node))) (first_of (is_beginning t.doing) (same_name t.name other) begins_other)
+        ap (λ b. one_if ((b && same_name t.name name) && (t.node == node))) (left_of (is_beginning t.doing) (same_name t.name other) begins_other)
         ∙ ap (λ n. one_if ((true && same_name n name) && (t.node == node))) called
         ∙ ap (λ n. one_if ((true && same_name other name) && (n == node))) there
         ∙ swapped (same_name other name) (from == node)
@@ -375,7 +368,7 @@ count_move s body after sends from name node (refuses other front t back about p
     there = same_node s from other t good (subst (IsIn t) (sym was) (in_middle front t back)) passes (due.due other (ap (reply_of other) about ∙ same_name-self other))
 
     called : t.name ≡ other
-    called = same_name-is t.name other (second_of (is_beginning t.doing) (same_name t.name other) passes)
+    called = same_name-is t.name other (right_of (is_beginning t.doing) (same_name t.name other) passes)
 
     swapped : (a b : Bool) → one_if ((true && a) && b) ≡ one_if (b && a)
     swapped true true = refl
@@ -385,7 +378,7 @@ count_move s body after sends from name node (refuses other front t back about p
 
     reply : one_if (begins_at name node t) ≡ one_if ((from == node) && reply_of name body)
     reply =
-        ap (λ b. one_if ((b && same_name t.name name) && (t.node == node))) (first_of (is_beginning t.doing) (same_name t.name other) passes)
+        ap (λ b. one_if ((b && same_name t.name name) && (t.node == node))) (left_of (is_beginning t.doing) (same_name t.name other) passes)
         ∙ ap (λ n. one_if ((true && same_name n name) && (t.node == node))) called
         ∙ ap (λ n. one_if ((true && same_name other name) && (n == node))) there
         ∙ swapped (same_name other name) (from == node)

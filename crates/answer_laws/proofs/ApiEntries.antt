@@ -25,7 +25,7 @@ use Rattle.node_core.specs.Row.{shell_row}
 use Rattle.answer_laws.proofs.ApiBegins.{AreGood, IsGood, each_at}
 use Rattle.answer_laws.proofs.ApiTurns.{ApiStep, Changes, IsUnheard, Unheard, absent, answered_last, answered_ready, api_step, begins_ready, begins_working, changes, commits, drops, idle, is_calm, notes, opens, rests, works}
 use Rattle.answer_laws.proofs.SendKinds.{are_of, none_of}
-use Rattle.answer_laws.proofs.Tally.{one_if, tally, tally_append, tally_between, tally_in}
+use Rattle.answer_laws.proofs.Tally.{one_if, tally, tally_append, tally_between, tally_in, none_if}
 use Rattle.answer_laws.proofs.TcKeys.{answer_of, is_key, key_of_tx}
 use Rattle.answer_laws.proofs.TcLives.{start_of}
 use Rattle.answer_laws.proofs.TcMoves.{same_tx-is}
@@ -106,23 +106,19 @@ pub record Asks (tx : TxId) (sends : List Outgoing) (k c : ℕ) : Type 0 where
 asks_none : (tx : TxId) (sends : List Outgoing) → are_of is_calm sends ≡ true → Asks tx sends 0 0
 asks_none tx sends kind = record { keys = calm_keys tx sends kind; commits = calm_commits tx sends kind }
 
-fails : (a : Bool) → one_if (a && false) + 0 ≡ 0
-fails true = refl
-fails false = refl
-
 asks_key : (tx one : TxId) (op : Op) (sends : List Outgoing) → sends ≡ to_place (coordinator_of one) (Client (TcKeyReq one op)) ∷ [] → Asks tx sends (one_if (same_tx one tx)) 0
-asks_key tx one op sends is = record { keys = by (same_tx one tx) refl; commits = ap (commits_to tx) is ∙ fails (one.tc == tx.tc) }
+asks_key tx one op sends is = record { keys = by (same_tx one tx) refl; commits = ap (commits_to tx) is ∙ none_if (one.tc == tx.tc) }
   where
     by : (b : Bool) → same_tx one tx ≡ b → keys_to tx sends ≡ one_if (same_tx one tx)
     by true e = omega (arith, ap (keys_to tx) is, ap one_if (ap (λ b. b && (true && same_tx one tx)) (ap (λ (t : TxId). t.tc == tx.tc) (same_tx-is one tx e) ∙ eqb-self tx.tc)))
-    by false e = omega (arith, ap (keys_to tx) is, ap (λ b. one_if ((one.tc == tx.tc) && (true && b))) e, fails (one.tc == tx.tc), ap one_if e)
+    by false e = omega (arith, ap (keys_to tx) is, ap (λ b. one_if ((one.tc == tx.tc) && (true && b))) e, none_if (one.tc == tx.tc), ap one_if e)
 
 asks_commit : (tx one : TxId) (sends : List Outgoing) → sends ≡ to_place (coordinator_of one) (Client (TcCommitReq one)) ∷ [] → Asks tx sends 0 (one_if (same_tx one tx))
-asks_commit tx one sends is = record { keys = ap (keys_to tx) is ∙ fails (one.tc == tx.tc); commits = by (same_tx one tx) refl }
+asks_commit tx one sends is = record { keys = ap (keys_to tx) is ∙ none_if (one.tc == tx.tc); commits = by (same_tx one tx) refl }
   where
     by : (b : Bool) → same_tx one tx ≡ b → commits_to tx sends ≡ one_if (same_tx one tx)
     by true e = omega (arith, ap (commits_to tx) is, ap one_if (ap (λ b. b && (true && same_tx one tx)) (ap (λ (t : TxId). t.tc == tx.tc) (same_tx-is one tx e) ∙ eqb-self tx.tc)))
-    by false e = omega (arith, ap (commits_to tx) is, ap (λ b. one_if ((one.tc == tx.tc) && (true && b))) e, fails (one.tc == tx.tc), ap one_if e)
+    by false e = omega (arith, ap (commits_to tx) is, ap (λ b. one_if ((one.tc == tx.tc) && (true && b))) e, none_if (one.tc == tx.tc), ap one_if e)
 
 -- how the transaction goes on: what it does before and after, how many operations it has been asked for, and what is asked for
 pub data Moves (tx : TxId) (body : Body) (t u : OpenTransaction) (sends : List Outgoing) : Type 0 where

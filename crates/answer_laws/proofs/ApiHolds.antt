@@ -18,7 +18,8 @@ use Rattle.api_block.specs.State.{ApiState}
 use Rattle.node_core.specs.Row.{shell_row}
 use Rattle.world_core.specs.Machine.{after}
 use Rattle.world_core.specs.Start.{Start}
-use Rattle.answer_laws.proofs.ApiBegins.{AreGood, IsGood, each_at, first_of}
+use Rattle.answer_laws.proofs.LqhOps.{left_of}
+use Rattle.answer_laws.proofs.ApiBegins.{AreGood, IsGood, each_at}
 use Rattle.answer_laws.proofs.ApiMoves.{ApiMove, IsVoid, api_moves, begun_as, ended, ends, goes, opens, refuses, rests}
 use Rattle.answer_laws.proofs.Hosts.{opened_first, opened_next, shell_after}
 use Rattle.answer_laws.proofs.LinkCounts.{steps}
@@ -65,7 +66,7 @@ move_holds tx s body after sends (opens name node op new request is told) good =
     none_ended _ r e = cc
 move_holds tx s body after sends (begun_as name one front t u back about passes begun was is kind) good =
     let g = each_at (λ x. IsGood s.view x) front t back s.opened was good.each in
-    let t_none = not_held s.view tx t g (first_of (is_beginning t.doing) (same_name t.name name) (first_of (begins name t) (t.node == one.tc) passes)) in
+    let t_none = not_held s.view tx t g (left_of (is_beginning t.doing) (same_name t.name name) (left_of (begins name t) (t.node == one.tc) passes)) in
     let now = ap (λ (a : View × List OpenTransaction). tally (has_tx tx) a.1) is in
     record {
       grows = omega (

@@ -31,6 +31,7 @@ use Rattle.api_block.specs.Operate.{answer_by, answer_row, begun_by, begun_row, 
 use Rattle.api_block.specs.Outcome.{abort_report_row, commit_report_row, refuse_row}
 use Rattle.api_block.specs.State.{ApiState}
 use Rattle.api_block.specs.Wait.{behind_row, name_of, pending_by, pending_if, pending_row, waits_if, waits_row}
+use Rattle.answer_laws.proofs.LqhOps.{left_of}
 use Rattle.answer_laws.proofs.Focus.{IsFocus, where_found}
 use Rattle.answer_laws.proofs.Tally.{tally}
 use Rattle.answer_laws.proofs.SendKinds.{are_of}
@@ -202,13 +203,9 @@ request_step s request.Waits n = waits_step s request.Waits n
 request_step s request.Pending n = pending_step s request.Pending n
 request_step s _ n = rests refl refl tt
 
-first_of : (a b : Bool) → (a && b) ≡ true → a ≡ true
-first_of true b e = refl
-first_of false b e = e
-
 module _ (s : ApiState) where
   beginning_of : (name : Option ℕ) (node : ℕ) (t : OpenTransaction) → begins_at name node t ≡ true → is_beginning t.doing ≡ true
-  beginning_of name node t e = first_of (is_beginning t.doing) _ (first_of (is_beginning t.doing && same_name t.name name) _ e)
+  beginning_of name node t e = left_of (is_beginning t.doing) _ (left_of (is_beginning t.doing && same_name t.name name) _ e)
 
   begun_by_step : (name : Option ℕ) (one : TxId) (at : ℕ) (f : IsFocus (begins_at name one.tc) s.opened at) (called : Option ℕ) (doing : Doing) → ApiStep s (Client (TcBeginConf name one)) (begun_by s one at f.item called doing)
   begun_by_step name one at f (Some n) doing = changes f.front f.item _ f.back f.is (f.set _) (begins_ready name one refl (beginning_of name one.tc f.item f.passes) refl refl refl refl)

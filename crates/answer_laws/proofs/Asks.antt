@@ -30,20 +30,22 @@ use Rattle.tc_block.specs.State.{TcState}
 use Rattle.tc_block.specs.Tc.{begin_if, begin_row, is_full, tc_row}
 use Rattle.world_core.specs.Machine.{after, machine}
 use Rattle.world_core.specs.Start.{Start}
+use Rattle.commit_laws.proofs.Keys.{same_tx-self}
+use Rattle.answer_laws.proofs.LqhOps.{right_of}
 use Rattle.answer_laws.proofs.ApiKeys.{api_keys, keys_in, operates}
 use Rattle.answer_laws.proofs.ApiMoves.{ApiMove, api_moves, begun_as, ends, goes, is_api_kind, opens, refuses, rests}
 use Rattle.answer_laws.proofs.Begins.{given_past}
 use Rattle.answer_laws.proofs.DihSends.{dih_kinds}
 use Rattle.answer_laws.proofs.Hosts.{node_after, node_sends, opened_next, shell_after, shell_sends}
 use Rattle.answer_laws.proofs.LinkCounts.{all_three, sent_signals, signals, steps, taken_signals}
-use Rattle.answer_laws.proofs.Lives.{holds_at, last_of, once_started, steps_from}
+use Rattle.answer_laws.proofs.Lives.{holds_at, once_started, steps_from}
 use Rattle.answer_laws.proofs.LqhSends.{lqh_kinds}
 use Rattle.answer_laws.proofs.Ops.{row_effects, row_state}
 use Rattle.answer_laws.proofs.SendKinds.{are_of, is_dih_kind, is_lqh_kind, is_tc_kind, none_of}
-use Rattle.answer_laws.proofs.Tally.{Counted, counted, one_if, only_one, tally, tally_in, tally_past}
+use Rattle.answer_laws.proofs.Tally.{Counted, counted, one_if, only_one, tally, tally_in, tally_past, none_if}
 use Rattle.answer_laws.proofs.TcKeys.{answer_of, answers_in, is_answer, is_asked, is_key, key_of_tx, tc_fair}
 use Rattle.answer_laws.proofs.TcMoves.{end_of, is_end}
-use Rattle.answer_laws.proofs.TcSends.{same_tx-self, tc_kinds, tx_in}
+use Rattle.answer_laws.proofs.TcSends.{tc_kinds, tx_in}
 use Rattle.answer_laws.proofs.Totals.{spread_few, total, total_add, total_at, total_le, total_same}
 use Rattle.answer_laws.proofs.Wishes.{and_false, is_api, is_tc, sends_of, to_node}
 use Rattle.answer_laws.specs.Answered.{AreQuiet, EachAsksWhereOperating, IsLiveAs, is_operating, opened_after, opened_in}
@@ -79,10 +81,6 @@ plain_key tx _ e = cc
 pub plain_answer : (tx : TxId) (body : Body) → answer_of tx body ≡ true → is_request body ≡ false
 plain_answer tx (Client (TcKeyConf other answer)) e = refl
 plain_answer tx _ e = cc
-
-none_if : (a : Bool) → one_if (a && false) + 0 ≡ 0
-none_if true = refl
-none_if false = refl
 
 -- a node sends no operation to a coordinator
 tc_no_key : (tx : TxId) (j : ℕ) (s : TcState) (body : Body) → sends_of (to_node j (is_key tx)) (tc_row s body).effects.sends ≡ 0
@@ -216,7 +214,7 @@ module _ (start : Start) (tx : TxId) where
       from : is_answer tx e.taken.to e.taken.body ≡ true → (is_from (machine start) e.taken.from.0 e && is_answer tx e.taken.to e.taken.body) ≡ true
       from is =
           all_three (is_request e.taken.body) (e.taken.from.0 == e.taken.from.0) (is_answer tx e.taken.to e.taken.body)
-          (plain_answer tx e.taken.body (last_of (is_api e.taken.to.block) (answer_of tx e.taken.body) is)) (grind (arith, nat_tests)) is
+          (plain_answer tx e.taken.body (right_of (is_api e.taken.to.block) (answer_of tx e.taken.body) is)) (grind (arith, nat_tests)) is
 
       more : total n (λ i. signals (is_answer tx) (taken (machine start) i log)) + total n (λ i. one_if (is_from (machine start) i e && is_answer tx e.taken.to e.taken.body)) ≡ total n (λ i. signals (is_answer tx) (taken (machine start) i (e ∷ log)))
       more =
@@ -245,7 +243,7 @@ module _ (start : Start) (tx : TxId) where
           arith,
           node_asked h (logs (suc h)),
           tally_past (λ (x : Signal). is_key tx x.to x.body) (link 0 (suc h)),
-          steps_from start tx (is_key tx) 0 (λ to body e. plain_key tx body (last_of (is_tc to.block) (key_of_tx tx body) e)) (logs (suc h)) others,
+          steps_from start tx (is_key tx) 0 (λ to body e. plain_key tx body (right_of (is_tc to.block) (key_of_tx tx body) e)) (logs (suc h)) others,
         )
       where
         others : (k : ℕ) → k ≢ 0 → signals (is_key tx) (taken (machine start) k (logs (suc h))) ≡ 0
@@ -293,7 +291,7 @@ module _ (start : Start) (tx : TxId) where
                 let has : has_tx tx c.item ≡ true = first (is_tx tx c.item.tx) (is_operating c.item.doing) c.passes in
                 let same : t ≡ c.item =
                 only_one (has_tx tx) (opened_in (after start 0 (logs 0))) t c.item (omega (arith, (holds_at start tx logs quiet).few, once_started start tx logs quiet)) inside c.inside passes has in
-                ap (λ (u : OpenTransaction). is_operating u.doing) same ∙ last_of (is_tx tx c.item.tx) (is_operating c.item.doing) c.passes
+                ap (λ (u : OpenTransaction). is_operating u.doing) same ∙ right_of (is_tx tx c.item.tx) (is_operating c.item.doing) c.passes
               where
                 first : (a b : Bool) → (a && b) ≡ true → a ≡ true
                 first true b e = refl

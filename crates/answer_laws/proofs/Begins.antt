@@ -28,6 +28,7 @@ use Rattle.sig_core.specs.declared.view.View.{View}
 use Rattle.world_core.proofs.Stamped.{stamped}
 use Rattle.world_core.specs.Machine.{after, headed, hosts, machine, step_after}
 use Rattle.world_core.specs.Start.{Start, first_view, members}
+use Rattle.answer_laws.proofs.LqhOps.{right_of}
 use Rattle.answer_laws.proofs.ApiBegins.{IsDue, IsGood, same_name-self}
 use Rattle.answer_laws.proofs.Hosts.{TellsNode, node_after, node_sends, node_tells, opened_first, opened_next, shell_after, shell_count, shell_replies, shell_sends}
 use Rattle.answer_laws.proofs.LinkCounts.{all_three, sent_signals, sent_truths, signals, steps, taken_signals, taken_steps}
@@ -47,10 +48,6 @@ plain_wish name _ e = cc
 
 plain_conf : (name : Option ℕ) (tx : TxId) (body : Body) → body ≡ Client (TcBeginConf name tx) → is_request body ≡ false
 plain_conf name tx body is = ap is_request is
-
-both : (a b : Bool) → (a && b) ≡ true → b ≡ true
-both true b e = e
-both false b e = cc
 
 all_true : (a b c : Bool) → a ≡ true → b ≡ true → c ≡ true → ((a && b) && c) ≡ true
 all_true true true c p q r = r
@@ -141,7 +138,7 @@ module _ (start : Start) where
     where
       from : (i : ℕ) → e.taken.from.0 ≡ i → is_wish name e.taken.to e.taken.body ≡ true → (is_from (machine start) i e && is_wish name e.taken.to e.taken.body) ≡ true
       from i at w =
-          let plain : is_request e.taken.body ≡ false = plain_wish name e.taken.body (both (is_tc e.taken.to.block) (wish_of name e.taken.body) w) in
+          let plain : is_request e.taken.body ≡ false = plain_wish name e.taken.body (right_of (is_tc e.taken.to.block) (wish_of name e.taken.body) w) in
           let here : (e.taken.from.0 == i) ≡ true = grind (arith, nat_tests, at) in
           all_three (is_request e.taken.body) (e.taken.from.0 == i) (is_wish name e.taken.to e.taken.body) plain here w
 

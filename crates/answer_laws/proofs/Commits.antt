@@ -10,12 +10,10 @@ use Rattle.node_core.specs.declared.host.Host.TheVariants.{Node}
 use Rattle.node_core.specs.declared.node.Node as node
 use Rattle.node_core.specs.Fresh.{begun_node, fresh_node}
 use Rattle.node_core.specs.Row.{node_row, row}
-use Rattle.run_theory.proofs.Along.{along_run, of_runs}
 use Rattle.run_theory.proofs.Pasts.{each_in}
-use Rattle.run_theory.proofs.Runs.{log_of-other, log_of-own, log_of-past, logs_of_run}
 use Rattle.run_theory.specs.Links.{is_from, sent, taken}
 use Rattle.run_theory.specs.Lists.{Each, IsIn}
-use Rattle.run_theory.specs.Runs.{AreLogs, Happens, IsWithin, Run, log_of}
+use Rattle.run_theory.specs.Runs.{AreLogs, IsWithin, log_of}
 use Rattle.sig_core.specs.declared.log.LogStep.{LogStep}
 use Rattle.sig_core.specs.declared.member.Member.{Member}
 use Rattle.sig_core.specs.declared.member.TxId.{TxId}
@@ -36,21 +34,21 @@ use Rattle.sig_core.specs.Same.{same_tx}
 use Rattle.tc_block.specs.declared.phase.Phase.{Phase}
 use Rattle.tc_block.specs.declared.phase.Phase.TheVariants.{Open, Verifying, Committing, Completing, Aborting}
 use Rattle.tc_block.specs.declared.transaction.Transaction.{Transaction}
-use Rattle.world_core.proofs.Stamped.{stamped}
 use Rattle.world_core.specs.Machine.{after, machine, step_after}
 use Rattle.world_core.specs.Start.{Start, first_view, members}
+use Rattle.answer_laws.proofs.Ahead.{along}
 use Rattle.answer_laws.proofs.Begins.{given_past}
-use Rattle.answer_laws.proofs.Hosts.{node_after, shell_after}
+use Rattle.answer_laws.proofs.Hosts.{node_after, same_node, shell_after}
 use Rattle.answer_laws.proofs.Lives.{NodeKeeps, keeps}
 use Rattle.answer_laws.proofs.LinkCounts.{sent_signals, signals, taken_signals}
 use Rattle.answer_laws.proofs.LqhOps.{is_good, is_lqh, is_node, left_of, right_of, true_and}
 use Rattle.answer_laws.proofs.NodeOwes.{OwesOf, at_if, came_in, cont_in, tc_owes}
-use Rattle.answer_laws.proofs.Ops.{good_members, row_effects, row_state, same_node, tc_view}
+use Rattle.answer_laws.proofs.Ops.{good_members, row_effects, row_state}
 use Rattle.answer_laws.proofs.Tally.{and_few, one_if, tally, tally_past}
-use Rattle.answer_laws.proofs.PartCounts.{is_cont}
+use Rattle.answer_laws.proofs.PartCounts.{is_cont, cont_block}
 use Rattle.answer_laws.proofs.TcCommits.{chain_at, is_chain, is_commit}
 use Rattle.answer_laws.proofs.TcLives.{IsOwn, is_keyed}
-use Rattle.answer_laws.proofs.TcMoves.{node_moves, same_tx-is}
+use Rattle.answer_laws.proofs.TcMoves.{node_moves, same_tx-is, tc_view}
 use Rattle.answer_laws.proofs.TcOwes.{IsKnown, Owes, begins, goes_on, waits}
 use Rattle.answer_laws.proofs.TcSends.{eqb-self}
 use Rattle.answer_laws.proofs.Totals.{Grown, sent_all, sent_more, taken_all, taken_more, total_le, total_same}
@@ -117,10 +115,6 @@ cont_is n tx a to (Host (Continue (work.Transaction other) at)) e =
     let rest = right_of (is_tc to.block && (to.node == tx.tc)) (same_tx other tx && (at == a)) e in
     ap (λ b. at_if n tx b at) (left_of (same_tx other tx) (at == a) rest) ∙ ap (λ k. Some k) (eqb-true at a (right_of (same_tx other tx) (at == a) rest))
 cont_is n tx a to _ e = cc
-
-no_cont : (tx : TxId) (a : ℕ) (to : Place) (body : Body) → is_tc to.block ≡ false → is_cont tx a to body ≡ false
-no_cont tx a to (Host (Continue (work.Transaction other) at)) e = ap (λ b. (b && (to.node == tx.tc)) && (same_tx other tx && (at == a))) e
-no_cont tx a to _ e = refl
 
 module _ (start : Start) (some_nodes : 1 ≤ start.nodes) (tx : TxId) where
   -- a node after a log, as far as commits go
@@ -192,11 +186,11 @@ module _ (start : Start) (some_nodes : 1 ≤ start.nodes) (tx : TxId) where
       owed (cont_in (start.nodes + 1) tx body) (came_in (start.nodes + 1) tx body) (few_answers (start.nodes + 1) tx to body (ap is_lqh e)) (λ a c. cont_is (start.nodes + 1) tx a to body c)
       ((tc_owes (start.nodes + 1) tx x.tc body known once own good).owes u epoch k i is)
   at_home x to body block.Lqh e known once own good u epoch k i is =
-      kept i (omega (arith, few_along (start.nodes + 1) tx to body (ap is_tc e), lqh_commits (start.nodes + 1) tx x.lqh body)) (λ a. no_cont tx a to body (ap is_tc e))
+      kept i (omega (arith, few_along (start.nodes + 1) tx to body (ap is_tc e), lqh_commits (start.nodes + 1) tx x.lqh body)) (λ a. cont_block tx a to body (ap is_tc e))
   at_home x to body block.Dih e known once own good u epoch k i is =
-      kept i (omega (arith, none_at (start.nodes + 1) tx to body (ap is_lqh e) (ap (λ b. is_tc b && (to.node == tx.tc)) e))) (λ a. no_cont tx a to body (ap is_tc e))
+      kept i (omega (arith, none_at (start.nodes + 1) tx to body (ap is_lqh e) (ap (λ b. is_tc b && (to.node == tx.tc)) e))) (λ a. cont_block tx a to body (ap is_tc e))
   at_home x to body _ e known once own good u epoch k i is =
-      kept i (omega (arith, none_at (start.nodes + 1) tx to body (ap is_lqh e) (ap (λ b. is_tc b && (to.node == tx.tc)) e))) (λ a. no_cont tx a to body (ap is_tc e))
+      kept i (omega (arith, none_at (start.nodes + 1) tx to body (ap is_lqh e) (ap (λ b. is_tc b && (to.node == tx.tc)) e))) (λ a. cont_block tx a to body (ap is_tc e))
 
   away : (x : node.Node) (to : Place) (body : Body) (at : BlockId) → to.block ≡ at → (to.node == tx.tc) ≡ false
       → one_if (is_commit (start.nodes + 1) tx to body) ≤ sends_of (is_commit (start.nodes + 1) tx) (node_row x at body).effects.sends
@@ -457,25 +451,6 @@ module _ (start : Start) (some_nodes : 1 ≤ start.nodes) (tx : TxId) where
             c_few = λ a. tally_past (λ (y : Signal). is_cont tx a y.to y.body) (given_past start tx.tc tx.tc (logs tx.tc) (taken (machine start) tx.tc (logs tx.tc)) (right.linked tx.tc tx.tc));
           }
 
-  log_nil : (newer log : List LogStep) → [] ≡ newer ++ log → log ≡ []
-  log_nil [] log is = sym is
-  log_nil (e ∷ newer) log is = absurd cc
-
-  run_next : tx.tc < start.nodes + 1 → (es : List LogStep) (e : LogStep) → Run (machine start) es → Happens (machine start) es e
-      → (IsWithin (start.nodes + 1) (log_of (machine start) es) → AllOwed (log_of (machine start) es))
-      → IsWithin (start.nodes + 1) (log_of (machine start) (e ∷ es)) → AllOwed (log_of (machine start) (e ∷ es))
-  run_next low es e run happens before in_n =
-      step_next low (log_of (machine start) es) (log_of (machine start) (e ∷ es)) e e.taken.to.node refl (under (cases_lt e.taken.to.node (start.nodes + 1))) (logs_of_run (machine start) es run)
-      (record { own = log_of-own (machine start) e es e.taken.to.node refl; others = λ k differs. log_of-other (machine start) e es k (λ same. differs (sym same)) })
-      (before (λ k high. let past = log_of-past (machine start) e es k in log_nil past.newer (log_of (machine start) es k) (sym (in_n k high) ∙ past.is)))
-    where
-      under : (e.taken.to.node < start.nodes + 1) ⊎ (start.nodes + 1 ≤ e.taken.to.node) → e.taken.to.node < start.nodes + 1
-      under (inl fine) = fine
-      under (inr high) = absurd (nothing (sym (log_of-own (machine start) e es e.taken.to.node refl) ∙ in_n e.taken.to.node high))
-        where
-          nothing : e ∷ log_of (machine start) es e.taken.to.node ≡ [] → ⊥
-          nothing q = cc
-
   fresh_live : (u : Transaction) (h : ℕ) → IsLiveAs tx u (after start (suc h) []) → ⊥
   unfolding fresh_node begun_node
   fresh_live u h live = live
@@ -489,8 +464,7 @@ module _ (start : Start) (some_nodes : 1 ≤ start.nodes) (tx : TxId) where
 
   logs_owed : tx.tc < start.nodes + 1 → (logs : ℕ → List LogStep) → IsWithin (start.nodes + 1) logs → AreLogs (machine start) logs → AllOwed logs
   logs_owed low logs in_n right =
-      of_runs (machine start) (stamped start) (λ ls. IsWithin (start.nodes + 1) ls → AllOwed ls)
-      (along_run (machine start) (λ es. IsWithin (start.nodes + 1) (log_of (machine start) es) → AllOwed (log_of (machine start) es)) (λ w. start_owed) (run_next low)) (start.nodes + 1) logs in_n right in_n
+      along start AllOwed start_owed (λ logs now h e g all. step_next low logs now e h g.at g.low g.before (record { own = g.own; others = g.others }) all) logs in_n right
 
   -- at quiet
   none_commits : (logs : ℕ → List LogStep) → AreQuiet start logs → (h : ℕ) (t : Transaction) (epoch k : ℕ) → h ≤ start.nodes → IsLiveAs tx t (after start h (logs h)) → t.phase ≡ Committing epoch k → ⊥

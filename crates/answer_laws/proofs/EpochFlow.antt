@@ -25,9 +25,9 @@ use Rattle.world_core.specs.Machine.{after}
 use Rattle.answer_laws.proofs.Ahead.{is_dih}
 use Rattle.answer_laws.proofs.ApiMoves.{ApiMove, api_moves, begun_as, ends, goes, is_api_kind, opens, refuses, rests}
 use Rattle.answer_laws.proofs.EpochCounts.{counts_by, ended_by, is_epochless, with_asked}
-use Rattle.answer_laws.proofs.EpochLives.{TurnCounts, asking, ending, gone, unchanged, turn_counts}
+use Rattle.answer_laws.proofs.EpochLives.{TurnCounts, asking, ending, gone, unchanged, turn_counts, rest_plain}
 use Rattle.answer_laws.proofs.SendKinds.{are_of, is_dih_kind, is_lqh_kind, is_tc_kind, none_of, of_kind}
-use Rattle.answer_laws.proofs.Tally.{one_if, tally_append}
+use Rattle.answer_laws.proofs.Tally.{none_if, one_if, tally_append}
 use Rattle.answer_laws.proofs.TcSends.{eqb-self, tc_kinds, tx_in}
 use Rattle.answer_laws.proofs.TcSteps.{TcStep, begins, is_rest_kind, misses, takes, tc_step}
 use Rattle.answer_laws.proofs.TcSteps as steps
@@ -70,22 +70,13 @@ api_plain (Epoch (DiVerifyReq tx ops)) e = cc
 api_plain (Epoch (DiVerifyEnd tx)) e = cc
 api_plain _ e = refl
 
-rest_plain : (body : Body) → is_rest_kind body ≡ true → is_epochless body ≡ true
-rest_plain (Epoch (DiVerifyReq tx ops)) e = cc
-rest_plain (Epoch (DiVerifyEnd tx)) e = cc
-rest_plain _ e = refl
-
 -- a coordinator sends such signals to its own node alone
 pub tc_epochs : (s : TcState) (j : ℕ) → (s.node == j) ≡ false → (body : Body) → sends_of (to_node j is_epoch) (tc_row s body).effects.sends ≡ 0
 tc_epochs s j off body = go (tc_row s body) (tc_step s body)
   where
     go : (step : Step TcState) → TcStep s body step → sends_of (to_node j is_epoch) step.effects.sends ≡ 0
     go step (steps.rests about is kind) = plain_none j step.effects.sends (of_kind is_rest_kind is_epochless rest_plain step.effects.sends kind)
-    go step (begins name about room is) = ap (λ (x : Step TcState). sends_of (to_node j is_epoch) x.effects.sends) is ∙ zero_client (0 == j)
-      where
-        zero_client : (b : Bool) → one_if (b && false) + 0 ≡ 0
-        zero_client true = refl
-        zero_client false = refl
+    go step (begins name about room is) = ap (λ (x : Step TcState). sends_of (to_node j is_epoch) x.effects.sends) is ∙ none_if (0 == j)
     go step (misses about none is) = ap (λ (x : Step TcState). sends_of (to_node j is_epoch) x.effects.sends) is
     go step (takes about t front back was is) =
         ap (λ (x : Step TcState). sends_of (to_node j is_epoch) x.effects.sends) is ∙ by (turn_counts s (tx_in body) t body (turn_row s body t) (turn_moves s body t about))

@@ -29,10 +29,9 @@ use Rattle.answer_laws.proofs.DihSends.{dih_kinds}
 use Rattle.answer_laws.proofs.EpochCounts.{AreFew, SendsFew, counted_of, counts_by, counts_if, is_epochless, is_request, plain_counts, put_counts, put_few, sends_count}
 use Rattle.answer_laws.proofs.EpochFlow.{dih_counts, dih_few, dih_gives, dih_plain, dih_stays, is_conf, is_epoch, is_req, lqh_confless, lqh_plain, no_conf, plain_none, req_body, shell_epochs, tc_confless, tc_epochs}
 use Rattle.answer_laws.proofs.EpochLives.{AreCounted, step_counts}
-use Rattle.answer_laws.proofs.Hosts.{shell_after, shell_sends}
+use Rattle.answer_laws.proofs.Hosts.{same_node, shell_after, shell_sends}
 use Rattle.answer_laws.proofs.LinkCounts.{all_three, sent_signals, signals, taken_signals}
 use Rattle.answer_laws.proofs.LqhSends.{lqh_kinds}
-use Rattle.answer_laws.proofs.Ops.{same_node}
 use Rattle.answer_laws.proofs.SendKinds.{are_of, is_dih_kind, is_lqh_kind, of_kind}
 use Rattle.answer_laws.proofs.Tally.{one_if}
 use Rattle.answer_laws.proofs.TcLives.{IsOwn}

@@ -26,12 +26,13 @@ use Rattle.tc_block.specs.Sends.{abort_of, entering, reported, verify_end}
 use Rattle.tc_block.specs.State.{TcState}
 use Rattle.tc_block.specs.Tc.{is_full, next_tx, tc_row}
 use Rattle.tc_block.specs.Turn.{Turn}
+use Rattle.commit_laws.proofs.Keys.{same_tx-self}
 use Rattle.answer_laws.proofs.EpochCounts.{IsWithout, SendsFew, asked_count, counts_if, ended_by, ended_count, is_epochless, plain_counts, sends_count}
 use Rattle.answer_laws.proofs.PartKinds.{IsPartKind, entering_of, parts_of}
 use Rattle.answer_laws.proofs.SendKinds.{are_of, of_kind, of_map}
 use Rattle.answer_laws.proofs.Tally.{one_if, tally, tally_append, tally_between}
 use Rattle.answer_laws.proofs.TcLives.{IsOwn, insert_new}
-use Rattle.answer_laws.proofs.TcSends.{eqb-self, same_tx-self, tx_in}
+use Rattle.answer_laws.proofs.TcSends.{eqb-self, tx_in}
 use Rattle.answer_laws.proofs.TcSteps.{TcStep, begins, is_rest_kind, misses, rests, takes, tc_step}
 use Rattle.answer_laws.proofs.TcTurns.{GivesUp, IsCommitted, TurnMove, abort_ends, aborted, aborts, all_completed, answers, asked_to, asks, at_last, at_once, commits, committed, completed, completes, decides, ends, gives_up, goes_on, is_wait_kind, keeps, late, refused, turn_moves, turn_row}
 use Rattle.answer_laws.specs.Answered.{is_committing}
@@ -64,7 +65,7 @@ wait_plain (Epoch (DiVerifyReq tx ops)) e = cc
 wait_plain (Epoch _) e = cc
 wait_plain _ e = refl
 
-rest_plain : (body : Body) → is_rest_kind body ≡ true → is_epochless body ≡ true
+pub rest_plain : (body : Body) → is_rest_kind body ≡ true → is_epochless body ≡ true
 rest_plain (Epoch (DiVerifyReq tx ops)) e = cc
 rest_plain (Epoch _) e = cc
 rest_plain _ e = refl

@@ -1,158 +1,84 @@
 -- What the API has asked of a transaction its coordinator has heard, or it is on its way.
-use Rattle.std.proofs.Common.{◌≡◌, ◌≢◌, ◌⊎◌, ℕ, zero, suc, ◌+◌, ◌≤◌, ◌<◌, List, [], ◌∷◌, length, Bool, true, false, refl, ap, sym, ◌∙◌, subst, arith, inl, inr}
-use Rattle.std.specs.Prelude.{◌&&◌, ◌||◌, nat_lt, is_some, if◌then◌else◌, Option, None, Some}
-use Rattle.std.proofs.lemmas.Bool.{cases_eq, false≢true}
-use Rattle.std.proofs.lemmas.Bool.Decides.{nat_tests}
-use Rattle.api_block.specs.declared.opened.Doing.TheVariants.{Operating, Committing}
+use Rattle.std.proofs.Common.{◌≡◌, ◌≢◌, ◌⊎◌, ℕ, suc, ◌+◌, ◌≤◌, ◌<◌, List, [], length, Bool, true, false, refl, ap, sym, ◌∙◌, subst, arith, inl, inr}
+use Rattle.std.specs.Prelude.{◌&&◌, is_some, if◌then◌else◌, Option, None, Some}
+use Rattle.std.proofs.lemmas.Bool.{cases_eq}
 use Rattle.api_block.specs.declared.opened.OpenTransaction.{OpenTransaction}
-use Rattle.api_block.specs.Opened.{has_tx, is_tx}
+use Rattle.api_block.specs.Opened.{has_tx}
 use Rattle.api_block.specs.State.{ApiState}
 use Rattle.lqh_block.specs.Lqh.{lqh_row}
 use Rattle.node_core.specs.declared.host.Host.TheVariants.{Node}
 use Rattle.node_core.specs.declared.node.Node as node
 use Rattle.node_core.specs.Dih.{dih_row}
 use Rattle.node_core.specs.Row.{shell_row}
-use Rattle.run_theory.proofs.Pasts.{each_in}
-use Rattle.run_theory.specs.Lists.{Each, IsIn}
+use Rattle.run_theory.specs.Lists.{Each}
 use Rattle.run_theory.specs.Links.{sent}
-use Rattle.run_theory.specs.Runs.{AreLogs, log_of}
+use Rattle.run_theory.specs.Runs.{AreLogs, IsWithin, log_of}
 use Rattle.sig_core.specs.declared.log.LogStep.{LogStep}
 use Rattle.sig_core.specs.declared.member.TxId.{TxId}
 use Rattle.sig_core.specs.declared.outs.Outgoing.{Outgoing}
-use Rattle.sig_core.specs.declared.place.BlockId.{BlockId}
-use Rattle.sig_core.specs.declared.place.BlockId.TheVariants as block
-use Rattle.sig_core.specs.declared.place.Place.{Place}
-use Rattle.sig_core.specs.declared.signal.Body.{Body}
-use Rattle.sig_core.specs.declared.signal.Body.TheVariants.{Client}
-use Rattle.sig_core.specs.declared.signal.client.ClientSignal.TheVariants.{TcKeyReq, TcCommitReq}
-use Rattle.sig_core.specs.Op.{key_of}
 use Rattle.sig_core.specs.Step.{Step, stay}
-use Rattle.tc_block.specs.declared.phase.Asked.{Asked}
 use Rattle.tc_block.specs.declared.phase.Phase.TheVariants.{Open}
 use Rattle.tc_block.specs.declared.transaction.Transaction.{Transaction}
-use Rattle.tc_block.specs.Operate.{can_operate, fresh, is_ready}
+use Rattle.tc_block.specs.Operate.{fresh}
 use Rattle.tc_block.specs.State.{TcState}
 use Rattle.tc_block.specs.Tc.{tc_row}
-use Rattle.tc_block.specs.Touched.{fits, place_of}
 use Rattle.world_core.specs.Machine.{after, machine}
 use Rattle.world_core.specs.Start.{Start}
 use Rattle.answer_laws.proofs.Ahead.{along, at_node, AtNode, first_none, Goes, next_at, NextAt, no_transaction, NodeStep, of_dih, of_lqh, of_none, of_tc, the_transaction, tx_at}
 use Rattle.answer_laws.proofs.Always.{Touches, turn_touches}
-use Rattle.answer_laws.proofs.ApiEntries.{IsEntryRight, is_commit_req, of_opened, opened_at, shell_entry}
-use Rattle.answer_laws.proofs.Commits.{live_low}
+use Rattle.answer_laws.proofs.ApiEntries.{IsEntryRight, is_commit_req, of_opened, shell_entry}
 use Rattle.answer_laws.proofs.DihSends.{dih_kinds}
-use Rattle.answer_laws.proofs.Hosts.{opened_first, opened_next, shell_after, shell_sends}
-use Rattle.answer_laws.proofs.LinkCounts.{sent_signals, signals, steps, taken_steps}
+use Rattle.answer_laws.proofs.Hosts.{opened_first, opened_next, same_node, shell_after, shell_sends}
+use Rattle.answer_laws.proofs.LinkCounts.{sent_signals, signals, steps}
 use Rattle.answer_laws.proofs.Lives.{keeps}
 use Rattle.answer_laws.proofs.LqhSends.{lqh_kinds}
 use Rattle.answer_laws.proofs.OpenTurns.{OpenTurn, commit_body, is_asked, is_told, open_turn, stays_open}
-use Rattle.answer_laws.proofs.Ops.{same_node}
 use Rattle.answer_laws.proofs.Strangers.{answers_asked, answers_few, apart_answers, commits_few, dih_answers, keys_few, lqh_answers, starts_few, starts_once}
 use Rattle.answer_laws.proofs.Tally.{one_if, tally}
 use Rattle.answer_laws.proofs.TcKeys.{answer_of, answers_in, is_answer, is_key, key_of_tx}
 use Rattle.answer_laws.proofs.TcLives.{is_start, start_of}
-use Rattle.answer_laws.proofs.TcMoves.{same_tx-is}
-use Rattle.answer_laws.proofs.TcSends.{same_tx-self, tx_in}
-use Rattle.answer_laws.proofs.TcSteps.{TxStep, born, elsewhere, left_of_turn, live_early, live_in, next_grows, of_live, turned, tx_step}
-use Rattle.answer_laws.proofs.TcTurns.{IsMissed, is_turn}
-use Rattle.answer_laws.proofs.Wants.{IsAsking, IsHeld, all_right, entry_next, held_few}
+use Rattle.answer_laws.proofs.TcSteps.{TxStep, born, elsewhere, left_of_turn, live_early, next_grows, of_live, turned, tx_step}
+use Rattle.answer_laws.proofs.TcTurns.{IsMissed}
+use Rattle.answer_laws.proofs.Wants.{IsAsking, all_right, entry_next, held_few}
 use Rattle.answer_laws.proofs.Wishes.{is_api, is_tc, second_fails, sends_of, to_node}
-use Rattle.answer_laws.specs.Answered.{AreQuiet, EachAskedWhereOperating, EachClosedWhereCommitting, EachIsNumbered, IsLiveAs, opened_after, opened_in}
-
-some_held : (tx : TxId) (opened : List OpenTransaction) (t : OpenTransaction) → of_opened tx opened ≡ Some t → 1 ≤ tally (has_tx tx) opened
-some_held tx [] t there = absurd cc
-some_held tx (x ∷ opened) t there = go (has_tx tx x) refl there (some_held tx opened t)
-  where
-    go : (b : Bool) → has_tx tx x ≡ b → (if b then Some x else of_opened tx opened) ≡ Some t → (of_opened tx opened ≡ Some t → 1 ≤ tally (has_tx tx) opened) → 1 ≤ one_if (has_tx tx x) + tally (has_tx tx) opened
-    go true is there rest = omega (arith, ap one_if is)
-    go false is there rest = omega (arith, rest there)
-
-api_is : (at : BlockId) → is_api at ≡ true → at ≡ block.Api
-api_is block.Api e = refl
-api_is _ e = cc
-
-shell_stays : (s : ApiState) (at : BlockId) (body : Body) → is_api at ≡ false → shell_row s at body ≡ stay s
-unfolding shell_row
-shell_stays s block.Api body e = cc
-shell_stays s _ body e = refl
-
-has_asked : Transaction → ℕ
-has_asked t = one_if (is_some t.asked)
-
-commit_at : (tx : TxId) (to : Place) (body : Body) → is_commit_req tx to body ≡ (is_tc to.block && commit_body tx body)
-commit_at tx to (Client (TcCommitReq other)) = refl
-commit_at tx to _ = by (is_tc to.block)
-  where
-    by : (b : Bool) → false ≡ (b && false)
-    by true = refl
-    by false = refl
-
-key_turn : (tx : TxId) (body : Body) → key_of_tx tx body ≡ true → (is_turn body ≡ true) × (tx_in body ≡ tx)
-key_turn tx (Client (TcKeyReq other op)) e = (refl, same_tx-is other tx e)
-key_turn tx _ e = cc
-
-commit_turn : (tx : TxId) (body : Body) → commit_body tx body ≡ true → (is_turn body ≡ true) × (tx_in body ≡ tx)
-commit_turn tx (Client (TcCommitReq other)) e = (refl, same_tx-is other tx e)
-commit_turn tx _ e = cc
-
--- an open transaction that has nothing unanswered misses neither
-none_asked : (o : Option Asked) → one_if (is_some o) ≡ 0 → o ≡ None
-none_asked None e = refl
-none_asked (Some a) e = absurd (omega (arith, e))
-
-ready : (t : Transaction) → t.phase ≡ Open → t.asked ≡ None → is_ready t.phase t.asked ≡ true
-ready t p q = ap (λ x. is_ready x t.asked) p ∙ ap (is_ready Open) q
-
-missed_key : (tx : TxId) (t : Transaction) (body : Body) → IsMissed t body → key_of_tx tx body ≡ true → t.phase ≡ Open → t.asked ≡ None → length t.touched < 64 → ⊥
-missed_key tx t (Client (TcKeyReq other op)) missed e p q low = false≢true (sym missed ∙ can)
-  where
-    room : nat_lt (length t.touched) 64 ≡ true
-    room = grind (arith, nat_tests, low)
-
-    can : can_operate t op ≡ true
-    can = ap (λ b. b && fits t.touched (key_of op)) (ready t p q) ∙ (ap (λ b. is_some (place_of t.touched (key_of op)) || b) room ∙ either (is_some (place_of t.touched (key_of op))))
-      where
-        either : (b : Bool) → (b || true) ≡ true
-        either true = refl
-        either false = refl
-missed_key tx t _ missed e p q low = false≢true e
-
-missed_commit : (tx : TxId) (t : Transaction) (body : Body) → IsMissed t body → commit_body tx body ≡ true → t.phase ≡ Open → t.asked ≡ None → ⊥
-missed_commit tx t (Client (TcCommitReq other)) missed e p q = false≢true (sym missed ∙ ready t p q)
-missed_commit tx t _ missed e p q = false≢true e
+use Rattle.answer_laws.specs.Answered.{opened_in}
+use Rattle.answer_laws.proofs.Missed.{some_held, api_is, shell_stays, commit_at, key_turn, commit_turn, none_asked, missed_key, missed_commit}
 
 module _ (start : Start) (tx : TxId) (h : ℕ) (home : tx.tc ≡ suc h) where
   -- what the API has asked for, and was answered; what the coordinator has heard, and has answered
-  abbrev keys_sent : (ℕ → List LogStep) → ℕ
+  abbrev pub keys_sent : (ℕ → List LogStep) → ℕ
   keys_sent logs = signals (is_key tx) (sent (machine start) 0 (suc h) (logs 0))
 
-  abbrev commits_sent : (ℕ → List LogStep) → ℕ
+  abbrev pub commits_sent : (ℕ → List LogStep) → ℕ
   commits_sent logs = signals (is_commit_req tx) (sent (machine start) 0 (suc h) (logs 0))
 
-  abbrev answers_taken : (ℕ → List LogStep) → ℕ
+  abbrev pub answers_taken : (ℕ → List LogStep) → ℕ
   answers_taken logs = steps (is_answer tx) (logs 0)
 
-  abbrev starts_taken : (ℕ → List LogStep) → ℕ
+  abbrev pub starts_taken : (ℕ → List LogStep) → ℕ
   starts_taken logs = steps (is_start tx) (logs 0)
 
-  abbrev keys_taken : List LogStep → ℕ
+  abbrev pub keys_taken : List LogStep → ℕ
   keys_taken log = steps (is_key tx) log
 
-  abbrev commits_taken : List LogStep → ℕ
+  abbrev pub commits_taken : List LogStep → ℕ
   commits_taken log = steps (is_commit_req tx) log
 
-  abbrev answers_sent : List LogStep → ℕ
+  abbrev pub answers_sent : List LogStep → ℕ
   answers_sent log = signals (is_answer tx) (sent (machine start) (suc h) 0 log)
 
-  record IsHeard (log : List LogStep) (t : Transaction) : Type 0 where
-    keys : keys_taken log ≡ one_if (is_some t.asked) + answers_sent log
-    touched : length t.touched ≤ keys_taken log
-    commits : commits_taken log ≡ 0
+  -- What the coordinator of an open transaction has heard: as many operations as it has answered or has unanswered, no fewer
+  -- than it touches keys, and no commit.
+  pub record IsHeard (log : List LogStep) (t : Transaction) : Type 0 where
+    pub keys : keys_taken log ≡ one_if (is_some t.asked) + answers_sent log
+    pub touched : length t.touched ≤ keys_taken log
+    pub commits : commits_taken log ≡ 0
 
-  record AllHeard (logs : ℕ → List LogStep) : Type 0 where
-    asking : IsAsking (of_opened tx (opened_in (after start 0 (logs 0)))) (keys_sent logs) (commits_sent logs) (answers_taken logs) (starts_taken logs)
-    heard : (t : Transaction) → tx_at tx (after start (suc h) (logs (suc h))) ≡ Some t → t.phase ≡ Open → IsHeard (logs (suc h)) t
-    unborn : (x : node.Node) → after start (suc h) (logs (suc h)) ≡ Node x → x.tc.next_seq ≤ tx.seq → answers_sent (logs (suc h)) ≡ 0
+  -- and so for both sides
+  pub record AllHeard (logs : ℕ → List LogStep) : Type 0 where
+    pub asking : IsAsking (of_opened tx (opened_in (after start 0 (logs 0)))) (keys_sent logs) (commits_sent logs) (answers_taken logs) (starts_taken logs)
+    pub heard : (t : Transaction) → tx_at tx (after start (suc h) (logs (suc h))) ≡ Some t → t.phase ≡ Open → IsHeard (logs (suc h)) t
+    pub unborn : (x : node.Node) → after start (suc h) (logs (suc h)) ≡ Node x → x.tc.next_seq ≤ tx.seq → answers_sent (logs (suc h)) ≡ 0
 
   -- no more was taken than was sent, nor answered than asked
   few_answers : (logs : ℕ → List LogStep) → AreLogs (machine start) logs → answers_taken logs ≤ keys_sent logs
@@ -488,65 +414,5 @@ module _ (start : Start) (tx : TxId) (h : ℕ) (home : tx.tc ≡ suc h) where
       no_open : {A : Type 0} (t : OpenTransaction) → None ≡ Some t → A
       no_open t e = absurd cc
 
-  -- at quiet
-  module _ (logs : ℕ → List LogStep) (quiet : AreQuiet start logs) (low : suc h < start.nodes + 1) where
-    all_heard : AllHeard logs
-    all_heard = along start AllHeard first step logs quiet.within quiet.right
-
-    keys_whole : keys_sent logs ≤ keys_taken (logs (suc h))
-    keys_whole = omega (arith, ap (signals (is_key tx)) (quiet.quiet 0 (suc h) (omega arith) low), taken_steps start (is_key tx) 0 (logs (suc h)))
-
-    commits_whole : commits_sent logs ≤ commits_taken (logs (suc h))
-    commits_whole = omega (arith, ap (signals (is_commit_req tx)) (quiet.quiet 0 (suc h) (omega arith) low), taken_steps start (is_commit_req tx) 0 (logs (suc h)))
-
-    answers_whole : answers_sent (logs (suc h)) ≤ answers_taken logs
-    answers_whole = omega (arith, ap (signals (is_answer tx)) (quiet.quiet (suc h) 0 low (omega arith)), taken_steps start (is_answer tx) (suc h) (logs 0))
-
-    held_at : (t : OpenTransaction) → IsIn t (opened_after start logs) → t.tx ≡ Some tx → IsHeld t.operations (keys_sent logs) (commits_sent logs) (answers_taken logs) t.doing
-    held_at t inside is =
-        all_heard.asking.held t (opened_at tx t (opened_in (after start 0 (logs 0))) (omega (arith, held_few start tx (logs 0), starts_once start tx h home logs quiet.right)) inside (ap (is_tx tx) is ∙ same_tx-self tx))
-
-    asked_there : (t : OpenTransaction) (u : Transaction) → IsIn t (opened_after start logs) → t.tx ≡ Some tx → t.doing ≡ Operating → tx_at tx (after start (suc h) (logs (suc h))) ≡ Some u → u.phase ≡ Open → is_some u.asked ≡ true
-    asked_there t u inside is doing at p =
-        let o = all_heard.heard u at p in
-        let k = subst (IsHeld t.operations (keys_sent logs) (commits_sent logs) (answers_taken logs)) doing (held_at t inside is) in
-        on (is_some u.asked) (omega (arith, o.keys, k.0, keys_whole, answers_whole))
-      where
-        on : (b : Bool) → 1 ≤ one_if b → b ≡ true
-        on true e = refl
-        on false e = absurd (omega (arith, e))
-
-    closed_there : (t : OpenTransaction) (u : Transaction) → IsIn t (opened_after start logs) → t.tx ≡ Some tx → t.doing ≡ Committing → tx_at tx (after start (suc h) (logs (suc h))) ≡ Some u → u.phase ≡ Open → ⊥
-    closed_there t u inside is doing at p =
-        let o = all_heard.heard u at p in
-        let k = subst (IsHeld t.operations (keys_sent logs) (commits_sent logs) (answers_taken logs)) doing (held_at t inside is) in
-        omega (arith, o.commits, k.0, commits_whole)
-
-module _ (start : Start) (logs : ℕ → List LogStep) (t : OpenTransaction) (quiet : AreQuiet start logs) (inside : IsIn t (opened_after start logs)) (tx : TxId) (u : Transaction) (is : t.tx ≡ Some tx) where
-  live_at : (h : ℕ) → tx.tc ≡ suc h → IsLiveAs tx u (after start tx.tc (logs tx.tc)) → tx_at tx (after start (suc h) (logs (suc h))) ≡ Some u
-  live_at h home live =
-      let x = at_node start tx h (logs (suc h)) in
-      ap (tx_at tx) x.is ∙ live_in tx u x.state.tc.live x.once (subst (IsLiveAs tx u) x.is (subst (λ c. IsLiveAs tx u (after start c (logs c))) home live))
-
-  pub asked_where : t.doing ≡ Operating → IsLiveAs tx u (after start tx.tc (logs tx.tc)) → u.phase ≡ Open → is_some u.asked ≡ true
-  asked_where doing live p = by tx.tc refl
-    where
-      by : (c : ℕ) → tx.tc ≡ c → is_some u.asked ≡ true
-      by zero home = absurd (subst (IsLiveAs tx u) (shell_after start (logs 0)).is (subst (λ c. IsLiveAs tx u (after start c (logs c))) home live))
-      by (suc h) home = asked_there start tx h home logs quiet (omega (arith, home, live_low start logs tx u quiet tx.tc live)) t u inside is doing (live_at h home live) p
-
-  pub closed_where : t.doing ≡ Committing → IsLiveAs tx u (after start tx.tc (logs tx.tc)) → u.phase ≡ Open → ⊥
-  closed_where doing live p = by tx.tc refl
-    where
-      by : (c : ℕ) → tx.tc ≡ c → ⊥
-      by zero home = subst (IsLiveAs tx u) (shell_after start (logs 0)).is (subst (λ c. IsLiveAs tx u (after start c (logs c))) home live)
-      by (suc h) home = closed_there start tx h home logs quiet (omega (arith, home, live_low start logs tx u quiet tx.tc live)) t u inside is doing (live_at h home live) p
-
-pub asked_where_operating : EachAskedWhereOperating
-asked_where_operating start logs t quiet inside tx u is doing live p = asked_where start logs t quiet inside tx u is doing live p
-
-pub closed_where_committing : EachClosedWhereCommitting
-closed_where_committing start logs t quiet inside tx u is doing live p = closed_where start logs t quiet inside tx u is doing live p
-
-pub each_numbered : EachIsNumbered
-each_numbered start logs t quiet inside = (each_in IsEntryRight t (opened_in (after start 0 (logs 0))) (all_right start (logs 0)) inside).begun
+  pub all_heard : (logs : ℕ → List LogStep) → IsWithin (start.nodes + 1) logs → AreLogs (machine start) logs → AllHeard logs
+  all_heard logs within right = along start AllHeard first step logs within right

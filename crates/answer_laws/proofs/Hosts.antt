@@ -230,6 +230,10 @@ node_tells n block.Dih body = not_kind is_dih_kind n.tc.node (λ name tx. refl) 
 node_tells n block.Lqh body = not_kind is_lqh_kind n.tc.node (λ name tx. refl) (lqh_row n.lqh body).effects.sends (lqh_kinds n.lqh body)
 node_tells n _ body = tt
 
+-- a node is one thing
+pub same_node : (a b : node.Node) → Node a ≡ Node b → a ≡ b
+same_node a b e = cc
+
 -- the shell's host after a log
 pub record IsShell (start : Start) (h : host.Host) : Type 0 where
   pub state : ApiState

@@ -1,3 +1,4 @@
+pub mod AbortCounts
 pub mod Aborts
 pub mod Ahead
 pub mod Always
@@ -19,15 +20,18 @@ pub mod EpochLives
 pub mod Flows
 pub mod Focus
 pub mod Heard
+pub mod Heeded
 pub mod Hosts
 pub mod LinkCounts
 pub mod Lives
 pub mod Lone
 pub mod LqhForth
+pub mod LqhLeaves
 pub mod LqhNode
 pub mod LqhOps
 pub mod LqhSends
 pub mod LqhWaits
+pub mod Missed
 pub mod NodeOps
 pub mod NodeOwes
 pub mod OpenTurns

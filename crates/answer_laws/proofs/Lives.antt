@@ -1,6 +1,6 @@
 -- Each transaction that the API holds as begun is one of its coordinator.
 use Rattle.std.proofs.Common.{◌≡◌, ◌≢◌, ◌⊎◌, ℕ, zero, suc, ◌+◌, ◌<◌, ◌≤◌, List, [], ◌∷◌, ◌++◌, Bool, true, false, refl, ap, sym, ◌∙◌, subst, arith, inl, inr}
-use Rattle.std.specs.Prelude.{◌==◌, ◌&&◌, not, Some, if◌then◌else◌}
+use Rattle.std.specs.Prelude.{◌==◌, ◌&&◌, Some, if◌then◌else◌}
 use Rattle.std.proofs.lemmas.Bool.{cases_eq, cases_lt}
 use Rattle.std.proofs.lemmas.Bool.Decides.{nat_tests}
 use Rattle.run_theory.proofs.Pasts.{each_map}
@@ -25,6 +25,8 @@ use Rattle.node_core.specs.Row.{node_row, row}
 use Rattle.tc_block.specs.State.{TcState}
 use Rattle.world_core.specs.Machine.{after, all_headed, counted as one_counted, headed, machine, sent_count, step_after}
 use Rattle.world_core.specs.Start.{Start, first_view}
+use Rattle.commit_laws.proofs.Keys.{same_tx-self}
+use Rattle.answer_laws.proofs.LqhOps.{right_of, left_of}
 use Rattle.answer_laws.proofs.ApiHolds.{AreHeld, IsOrdered, log_holds}
 use Rattle.answer_laws.proofs.Begins.{given_past, node_told}
 use Rattle.answer_laws.proofs.Hosts.{TellsNode, shell_after, shell_sends, shell_starts}
@@ -32,7 +34,6 @@ use Rattle.answer_laws.proofs.LinkCounts.{all_three, sent_signals, signals, step
 use Rattle.answer_laws.proofs.Tally.{Counted, counted, one_if, tally, tally_in, tally_none, tally_past}
 use Rattle.answer_laws.proofs.TcLives.{IsKept, due_move, is_done, is_keyed, is_start, kept_move, start_of, starts_in}
 use Rattle.answer_laws.proofs.TcMoves.{end_of, ends_in, is_end, node_moves, same_tx-is}
-use Rattle.answer_laws.proofs.TcSends.{same_tx-self}
 use Rattle.answer_laws.proofs.Wishes.{is_api, sends_of, to_node}
 use Rattle.answer_laws.specs.Answered.{AreQuiet, EachHasCoordinator, IsLiveAt, is_completing, opened_after, opened_in}
 
@@ -60,14 +61,6 @@ plain_end : (tx : TxId) (body : Body) → end_of tx body ≡ true → is_request
 plain_end tx (Client (TcCommitConf other epoch)) e = refl
 plain_end tx (Client (TcRollbackRep other cause)) e = refl
 plain_end tx _ e = cc
-
-pub last_of : (a b : Bool) → (a && b) ≡ true → b ≡ true
-last_of true b e = e
-last_of false b e = cc
-
-head_of : (a b : Bool) → (a && b) ≡ true → a ≡ true
-head_of true b e = refl
-head_of false b e = e
 
 -- who tells that a transaction begins is its coordinator
 start_home : (tx : TxId) (h : ℕ) (body : Body) → TellsNode h body → start_of tx body ≡ true → tx.tc ≡ h
@@ -162,7 +155,7 @@ module _ (start : Start) (tx : TxId) where
     where
       fails : (x : Signal) → TellsNode (suc h) x.body → (b : Bool) → is_start tx x.to x.body ≡ b → is_start tx x.to x.body ≡ false
       fails x tells false e = e
-      fails x tells true e = absurd (differs (sym (start_home tx (suc h) x.body tells (last_of (is_api x.to.block) (start_of tx x.body) e))))
+      fails x tells true e = absurd (differs (sym (start_home tx (suc h) x.body tells (right_of (is_api x.to.block) (start_of tx x.body) e))))
 
   other_ends : (h : ℕ) (log : List LogStep) → suc h ≢ tx.tc → signals (is_end tx) (sent (machine start) (suc h) 0 log) ≡ 0
   other_ends h log differs = go (cases_lt 0 (signals (is_end tx) (sent (machine start) (suc h) 0 log)))
@@ -207,9 +200,9 @@ module _ (start : Start) (tx : TxId) where
     where
       from : (k : ℕ) → e.taken.from.0 ≡ k → is_end tx e.taken.to e.taken.body ≡ true → is_from (machine start) k e ≡ true
       from k at is =
-          head_of (is_from (machine start) k e) (is_end tx e.taken.to e.taken.body)
+          left_of (is_from (machine start) k e) (is_end tx e.taken.to e.taken.body)
           (all_three (is_request e.taken.body) (e.taken.from.0 == k) (is_end tx e.taken.to e.taken.body)
-          (plain_end tx e.taken.body (last_of (is_api e.taken.to.block) (end_of tx e.taken.body) is)) (grind (arith, nat_tests, at)) is)
+          (plain_end tx e.taken.body (right_of (is_api e.taken.to.block) (end_of tx e.taken.body) is)) (grind (arith, nat_tests, at)) is)
 
       rest : (b : Bool) → AreOrdered tx (if b then e.taken ∷ taken (machine start) tx.tc log else taken (machine start) tx.tc log) → AreOrdered tx (taken (machine start) tx.tc log)
       rest true o = o.1
@@ -235,7 +228,7 @@ module _ (start : Start) (tx : TxId) where
 
     starts_there : steps (is_start tx) (logs 0) ≤ signals (is_start tx) (taken (machine start) tx.tc (logs 0))
     starts_there =
-        steps_from (is_start tx) tx.tc (λ to body e. plain_start tx body (last_of (is_api to.block) (start_of tx body) e)) (logs 0)
+        steps_from (is_start tx) tx.tc (λ to body e. plain_start tx body (right_of (is_api to.block) (start_of tx body) e)) (logs 0)
         (λ k differs. omega (arith, silent_start k (logs k) differs, tally_past (λ (x : Signal). is_start tx x.to x.body) (link k 0)))
 
     ends_none : (k : ℕ) → k ≢ tx.tc → signals (is_end tx) (taken (machine start) k (logs 0)) ≡ 0

@@ -41,10 +41,10 @@ use Rattle.answer_laws.proofs.Ahead.{along, at_node, AtNode, first_none, Goes, n
 use Rattle.answer_laws.proofs.ApiMoves.{ApiMove, api_moves, begun_as, ends, goes, is_api_kind, opens, refuses, rests}
 use Rattle.answer_laws.proofs.DihSends.{dih_kinds}
 use Rattle.answer_laws.proofs.Flows.{flow_few, flow_sent, flow_taken, flow_took}
-use Rattle.answer_laws.proofs.Hosts.{shell_after, shell_sends}
+use Rattle.answer_laws.proofs.Hosts.{same_node, shell_after, shell_sends}
 use Rattle.answer_laws.proofs.LqhOps.{is_lqh}
-use Rattle.answer_laws.proofs.LqhWaits.{came_to, hops, is_hop, lqh_waits, queued, waiting}
-use Rattle.answer_laws.proofs.Ops.{same_node}
+use Rattle.answer_laws.proofs.LqhLeaves.{lqh_waits}
+use Rattle.answer_laws.proofs.LqhWaits.{came_to, hops, is_hop, queued, waiting}
 use Rattle.answer_laws.proofs.SendKinds.{are_of, is_dih_kind, none_of, of_kind}
 use Rattle.answer_laws.proofs.Tally.{one_if}
 use Rattle.answer_laws.proofs.TcForth.{HopTurn, answer_came, hop_turn, hopless_none, is_hopless}

@@ -25,13 +25,13 @@ use Rattle.tc_block.specs.Operate.{fresh}
 use Rattle.tc_block.specs.State.{TcState}
 use Rattle.tc_block.specs.Tc.{begin_if, begin_row, is_full, next_tx, pass_if, pass_row, tc_row}
 use Rattle.tc_block.specs.Turn.{Turn, going}
+use Rattle.commit_laws.proofs.Keys.{same_tx-self}
 use Rattle.answer_laws.proofs.ApiBegins.{each_at, each_changed, each_less}
 use Rattle.answer_laws.proofs.LqhOps.{ops}
 use Rattle.answer_laws.proofs.Tally.{one_if, tally, tally_append, tally_between}
 use Rattle.answer_laws.proofs.TcLives.{IsOwn, insert_new, is_keyed}
 use Rattle.answer_laws.proofs.TcMoves.{found, IsEntry, same_tx-is, step_is}
 use Rattle.answer_laws.proofs.TcOps.{IsGoodView, TurnAsks, aborted_asks, answer_asks, asks_key, commit_asks, committed_asks, completed_asks, decide_asks, go_on_asks, is_right, operate_asks, refuse_asks, rollback_asks, wait_asks}
-use Rattle.answer_laws.proofs.TcSends.{same_tx-self}
 
 -- each of a coordinator's transactions that has an operation unanswered may have one
 abbrev pub AreRight : List (TxId × Transaction) → Type 0

@@ -28,6 +28,7 @@ use Rattle.tc_block.specs.Sends.{go_on_row}
 use Rattle.tc_block.specs.State.{TcState}
 use Rattle.tc_block.specs.Tc.{begin_if, begin_row, is_full, next_tx, pass_if, pass_row, tc_row}
 use Rattle.tc_block.specs.Turn.{Turn, going}
+use Rattle.commit_laws.proofs.Keys.{same_tx-self}
 use Rattle.answer_laws.proofs.ApiBegins.{each_at, each_changed, each_less, in_middle}
 use Rattle.answer_laws.proofs.NodeOps.{absent_key}
 use Rattle.answer_laws.proofs.Tally.{one_if, tally, tally_between, tally_in}
@@ -35,7 +36,6 @@ use Rattle.answer_laws.proofs.TcCommits.{is_chain}
 use Rattle.answer_laws.proofs.TcLives.{IsOwn, insert_new, is_keyed}
 use Rattle.answer_laws.proofs.TcMoves.{found, IsEntry, same_tx-is, step_is}
 use Rattle.answer_laws.proofs.TcOwes.{IsKnown, Owes, TurnOwes, aborted_owes, answer_owes, commit_owes, committed_owes, completed_owes, decide_owes, go_on_owes, operate_owes, refuse_owes, rollback_owes, wait_owes, waits}
-use Rattle.answer_laws.proofs.TcSends.{same_tx-self}
 
 in_split : {A : Type 0} (x y : A) (front back : List A) → IsIn x (front ++ y ∷ back) → IsIn x (front ++ back) ⊎ (x ≡ y)
 in_split x y [] back (inl e) = inr e

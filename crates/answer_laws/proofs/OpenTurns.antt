@@ -18,30 +18,23 @@ use Rattle.tc_block.specs.Chain.{chain_of}
 use Rattle.tc_block.specs.Complete.{written_count}
 use Rattle.tc_block.specs.State.{TcState}
 use Rattle.tc_block.specs.Turn.{Turn}
+use Rattle.commit_laws.proofs.Keys.{same_tx-self}
 use Rattle.answer_laws.proofs.PartKinds.{IsPartKind, parts_of}
-use Rattle.answer_laws.proofs.SendKinds.{are_of, is_keyless, none_of, of_kind}
+use Rattle.answer_laws.proofs.SendKinds.{is_keyless, of_kind}
 use Rattle.answer_laws.proofs.Tally.{one_if}
-use Rattle.answer_laws.proofs.TcKeys.{answer_of, answers_in, is_answer, key_of_tx}
-use Rattle.answer_laws.proofs.TcSends.{same_tx-self}
+use Rattle.answer_laws.proofs.TcKeys.{answers_in, key_of_tx, no_answers}
 use Rattle.answer_laws.proofs.TcTurns.{abort_ends, aborted, aborts, all_completed, answers, asks, commits, committed, completed, completes, decides, ends, entered_phase, gives_up, goes_on, is_wait_kind, IsMissed, keeps, late, over_not, TurnMove}
-use Rattle.answer_laws.proofs.Wishes.{and_false, is_api, to_node}
 use Rattle.answer_laws.specs.Answered.{is_aborting}
 
 abbrev pub commit_body : TxId → Body → Bool
 commit_body tx (Client (TcCommitReq other)) = same_tx other tx
 commit_body tx _ = false
 
+-- Its operation and the answers that it sends: as before, and why; it was asked for one; or its answer was passed on.
 pub data OpenTurn (tx : TxId) (t : Transaction) (body : Body) (u : Transaction) (sends : List Outgoing) : Type 0 where
   stays_open : u.asked ≡ t.asked → answers_in tx sends ≡ 0 → IsMissed t body ⊎ ((key_of_tx tx body ≡ false) × (commit_body tx body ≡ false)) → OpenTurn tx t body u sends
   is_asked : key_of_tx tx body ≡ true → commit_body tx body ≡ false → t.asked ≡ None → is_some u.asked ≡ true → answers_in tx sends ≡ 0 → OpenTurn tx t body u sends
   is_told : key_of_tx tx body ≡ false → commit_body tx body ≡ false → is_some t.asked ≡ true → u.asked ≡ None → answers_in tx sends ≡ 1 → OpenTurn tx t body u sends
-
-keyless_answers : (tx : TxId) (sends : List Outgoing) → are_of is_keyless sends ≡ true → answers_in tx sends ≡ 0
-keyless_answers tx sends kind = none_of is_keyless (to_node 0 (is_answer tx)) (λ to b k. and_false (to.node == 0) (is_api to.block) (fails b k)) sends kind
-  where
-    fails : (b : Body) → is_keyless b ≡ true → answer_of tx b ≡ false
-    fails (Client (TcKeyConf other answer)) e = absurd (false≢true e)
-    fails _ e = refl
 
 wait_keyless : (b : Body) → is_wait_kind b ≡ true → is_keyless b ≡ true
 wait_keyless (Client (TcKeyConf other answer)) e = absurd (false≢true e)
@@ -89,9 +82,9 @@ module _ (s : TcState) (tx : TxId) (t : Transaction) (body : Body) (turn : Turn)
 
       go : TurnMove s tx t body turn → (t.phase ≡ Open) × OpenTurn tx t body turn.step.state turn.step.effects.sends
       go (keeps sends is kind missed) =
-          (phase_of _ is, stays_open (asked_of _ is) (answers_of _ is ∙ keyless_answers tx sends (of_kind is_wait_kind is_keyless wait_keyless sends kind)) (inl missed))
+          (phase_of _ is, stays_open (asked_of _ is) (answers_of _ is ∙ no_answers tx sends (of_kind is_wait_kind is_keyless wait_keyless sends kind)) (inl missed))
       go (goes_on at about low is) =
-          (phase_of _ is, stays_open (asked_of _ is) (answers_of _ is ∙ keyless_answers tx _ (parts_of is_keyless tx (part_keyless tx) s.node s.view t.phase t.touched at)) (inr (ap (key_of_tx tx) about, ap (commit_body tx) about)))
+          (phase_of _ is, stays_open (asked_of _ is) (answers_of _ is ∙ no_answers tx _ (parts_of is_keyless tx (part_keyless tx) s.node s.view t.phase t.touched at)) (inr (ap (key_of_tx tx) about, ap (commit_body tx) about)))
       go (asks op about p q fit is) =
           (p, is_asked (ap (key_of_tx tx) about ∙ same_tx-self tx) (ap (commit_body tx) about) q (ap is_some (asked_of _ is)) (answers_of _ is ∙ none (node_at (chain_of s.view (key_of op)) 0 == 0)))
         where

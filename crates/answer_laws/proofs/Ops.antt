@@ -1,7 +1,7 @@
 -- An operation that a coordinator's transaction has unanswered is on its way, or waits at a node.
 use Rattle.std.proofs.Common.{◌≡◌, ◌≢◌, ◌⊎◌, ℕ, zero, suc, ◌+◌, ◌≤◌, ◌<◌, List, [], ◌∷◌, ◌++◌, Bool, true, false, refl, ap, sym, ◌∙◌, subst, arith, inl, inr}
-use Rattle.std.specs.Prelude.{◌==◌, ◌&&◌, nat_eq, nat_lt, Some}
-use Rattle.std.proofs.lemmas.Bool.{cases_eq, cases_lt, eqb-true}
+use Rattle.std.specs.Prelude.{◌==◌, ◌&&◌, nat_lt, Some}
+use Rattle.std.proofs.lemmas.Bool.{cases_eq, eqb-true}
 use Rattle.std.proofs.lemmas.Bool.Decides.{nat_tests}
 use Rattle.lqh_block.proofs.IndexLemmas.{same as same_key-is}
 use Rattle.lqh_block.specs.declared.request.Request.{Request}
@@ -11,12 +11,10 @@ use Rattle.node_core.specs.declared.host.Host.TheVariants.{Shell, Node}
 use Rattle.node_core.specs.declared.node.Node as node
 use Rattle.node_core.specs.Fresh.{begun_node, fresh_node}
 use Rattle.node_core.specs.Row.{node_row, row}
-use Rattle.run_theory.proofs.Along.{along_run, of_runs}
 use Rattle.run_theory.proofs.Pasts.{each_in}
-use Rattle.run_theory.proofs.Runs.{log_of-other, log_of-own, log_of-past, logs_of_run}
 use Rattle.run_theory.specs.Links.{taken}
 use Rattle.run_theory.specs.Lists.{Each, IsIn}
-use Rattle.run_theory.specs.Runs.{AreLogs, Happens, IsWithin, Run, log_of}
+use Rattle.run_theory.specs.Runs.{AreLogs, IsWithin, log_of}
 use Rattle.sig_core.specs.declared.log.LogStep.{LogStep}
 use Rattle.sig_core.specs.declared.member.Member.{Member}
 use Rattle.sig_core.specs.declared.member.TxId.{TxId}
@@ -33,37 +31,23 @@ use Rattle.sig_core.specs.Op.{key_of}
 use Rattle.sig_core.specs.Same.{same_key, same_tx}
 use Rattle.tc_block.specs.declared.phase.Asked.{Asked}
 use Rattle.tc_block.specs.declared.transaction.Transaction.{Transaction}
-use Rattle.tc_block.specs.State.{TcState}
-use Rattle.world_core.proofs.Stamped.{stamped}
 use Rattle.world_core.specs.Machine.{after, machine, step_after}
 use Rattle.world_core.specs.Start.{Start, first_view, members}
+use Rattle.commit_laws.proofs.Keys.{same_tx-self, same_key-self}
+use Rattle.answer_laws.proofs.Ahead.{along}
 use Rattle.answer_laws.proofs.Begins.{given_past}
-use Rattle.answer_laws.proofs.Hosts.{node_after, shell_after}
+use Rattle.answer_laws.proofs.Hosts.{node_after, same_node, shell_after}
 use Rattle.answer_laws.proofs.Lives.{NodeKeeps, keeps}
 use Rattle.answer_laws.proofs.LinkCounts.{signals}
 use Rattle.answer_laws.proofs.LqhOps.{came_of, is_good, is_lqh, is_mine, is_node, is_op, left_of, lqh_ops, ops, right_of, true_and}
 use Rattle.answer_laws.proofs.NodeOps.{AreRight, answers_of, is_asking, tc_steps}
 use Rattle.answer_laws.proofs.Tally.{Counted, counted, one_if, tally, tally_in, tally_past}
 use Rattle.answer_laws.proofs.TcLives.{IsOwn, is_keyed}
-use Rattle.answer_laws.proofs.TcMoves.{TcMove, forgets, node_moves, same_tx-is, starts, stays, turns}
+use Rattle.answer_laws.proofs.TcMoves.{node_moves, same_tx-is, tc_view}
 use Rattle.answer_laws.proofs.TcOps.{IsGoodView, asks_key}
-use Rattle.answer_laws.proofs.TcSends.{eqb-self, same_tx-self}
 use Rattle.answer_laws.proofs.Totals.{Grown, IsSome, sent_all, sent_more, taken_all, taken_more, total, total_le, total_one, total_same, total_some}
 use Rattle.answer_laws.proofs.Wishes.{is_tc, sends_of}
 use Rattle.answer_laws.specs.Answered.{AreQuiet, EachOperationWaits, IsLiveAs, IsWaitingAt, Waits}
-
-pub tc_view : (s after : TcState) (sends : List Outgoing) → TcMove s after sends → after.view ≡ s.view
-tc_view s after sends (stays is kind) = ap (λ (t : TcState). t.view) is
-tc_view s after sends (starts name is told) = ap (λ (t : TcState). t.view) is
-tc_view s after sends (turns one t u front back is now kind told) = ap (λ (t : TcState). t.view) now
-tc_view s after sends (forgets one t front back is now kind told) = ap (λ (t : TcState). t.view) now
-
-same_key-self : (key : List ℕ) → same_key key key ≡ true
-same_key-self [] = refl
-same_key-self (byte ∷ key) = true_and (nat_eq byte byte) (same_key key key) (eqb-self byte) (same_key-self key)
-
-pub same_node : (a b : node.Node) → Node a ≡ Node b → a ≡ b
-same_node a b e = cc
 
 pub row_state : (to : Place) (body : Body) (g : host.Host) (s : node.Node) → g ≡ Node s → (row g to body).state ≡ Node (node_row s to.block body).state
 unfolding row
@@ -382,25 +366,6 @@ module _ (start : Start) (some_nodes : 1 ≤ start.nodes) (tx : TxId) (key : Lis
               )
 
   -- along a run
-  log_nil : (newer log : List LogStep) → [] ≡ newer ++ log → log ≡ []
-  log_nil [] log is = sym is
-  log_nil (e ∷ newer) log is = absurd cc
-
-  run_next : tx.tc < start.nodes + 1 → (es : List LogStep) (e : LogStep) → Run (machine start) es → Happens (machine start) es e
-      → (IsWithin (start.nodes + 1) (log_of (machine start) es) → IsUnderWay (log_of (machine start) es))
-      → IsWithin (start.nodes + 1) (log_of (machine start) (e ∷ es)) → IsUnderWay (log_of (machine start) (e ∷ es))
-  run_next low es e run happens before in_n =
-      step_next low (log_of (machine start) es) (log_of (machine start) (e ∷ es)) e e.taken.to.node refl (under (cases_lt e.taken.to.node (start.nodes + 1))) (logs_of_run (machine start) es run)
-      (record { own = log_of-own (machine start) e es e.taken.to.node refl; others = λ k differs. log_of-other (machine start) e es k (λ same. differs (sym same)) })
-      (before (λ k high. let past = log_of-past (machine start) e es k in log_nil past.newer (log_of (machine start) es k) (sym (in_n k high) ∙ past.is)))
-    where
-      under : (e.taken.to.node < start.nodes + 1) ⊎ (start.nodes + 1 ≤ e.taken.to.node) → e.taken.to.node < start.nodes + 1
-      under (inl fine) = fine
-      under (inr high) = absurd (nothing (sym (log_of-own (machine start) e es e.taken.to.node refl) ∙ in_n e.taken.to.node high))
-        where
-          nothing : e ∷ log_of (machine start) es e.taken.to.node ≡ [] → ⊥
-          nothing q = cc
-
   start_way : IsUnderWay (log_of (machine start) [])
   start_way some = none tx.tc refl
     where
@@ -411,8 +376,7 @@ module _ (start : Start) (some_nodes : 1 ≤ start.nodes) (tx : TxId) (key : Lis
 
   logs_way : tx.tc < start.nodes + 1 → (logs : ℕ → List LogStep) → IsWithin (start.nodes + 1) logs → AreLogs (machine start) logs → IsUnderWay logs
   logs_way low logs in_n right =
-      of_runs (machine start) (stamped start) (λ ls. IsWithin (start.nodes + 1) ls → IsUnderWay ls)
-      (along_run (machine start) (λ es. IsWithin (start.nodes + 1) (log_of (machine start) es) → IsUnderWay (log_of (machine start) es)) (λ w. start_way) (run_next low)) (start.nodes + 1) logs in_n right in_n
+      along start IsUnderWay start_way (λ logs now h e g way. step_next low logs now e h g.at g.low g.before (record { own = g.own; others = g.others }) way) logs in_n right
 
   -- at quiet
   module _ (logs : ℕ → List LogStep) (quiet : AreQuiet start logs) where

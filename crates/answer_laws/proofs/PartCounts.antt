@@ -13,15 +13,20 @@ use Rattle.sig_core.specs.declared.signal.host.HostSignal.TheVariants.{Continue}
 use Rattle.sig_core.specs.declared.signal.host.Work.TheVariants as work
 use Rattle.sig_core.specs.Same.{same_tx}
 use Rattle.tc_block.specs.Part.{part_effects, rest_if}
+use Rattle.commit_laws.proofs.Keys.{same_tx-self}
 use Rattle.answer_laws.proofs.LqhOps.{true_and}
 use Rattle.answer_laws.proofs.Tally.{one_if, tally, tally_append}
-use Rattle.answer_laws.proofs.TcSends.{eqb-self, same_tx-self}
+use Rattle.answer_laws.proofs.TcSends.{eqb-self}
 use Rattle.answer_laws.proofs.Wishes.{is_tc, sends_of}
 
 -- its coordinator goes on, at this place
 abbrev pub is_cont : TxId → ℕ → Place → Body → Bool
 is_cont tx a to (Host (Continue (work.Transaction other) at)) = (is_tc to.block && (to.node == tx.tc)) && (same_tx other tx && (at == a))
 is_cont tx a to _ = false
+
+pub cont_block : (tx : TxId) (a : ℕ) (to : Place) (body : Body) → is_tc to.block ≡ false → is_cont tx a to body ≡ false
+cont_block tx a to (Host (Continue (work.Transaction other) at)) e = ap (λ b. (b && (to.node == tx.tc)) && (same_tx other tx && (at == a))) e
+cont_block tx a to _ e = refl
 
 -- a part of a list was sent, from a place on: eight and the signal to go on, or all that is left
 abbrev pub IsPart : (test : Place → Body → Bool) → TxId → (l at : ℕ) → List Outgoing → Type 0

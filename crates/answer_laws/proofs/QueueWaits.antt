@@ -22,8 +22,7 @@ use Rattle.row_locks.specs.Rows.{Asked, RowLock, Served, asked, asked_anew, aske
 use Rattle.row_locks.specs.Tables.{Locks, lock_at, or_unlocked}
 use Rattle.row_locks.proofs.TxLemmas.{same_tx-is}
 use Rattle.lqh_block.proofs.IndexLemmas.{same as same_key-is}
-use Rattle.commit_laws.proofs.Keys.{same_key-self, tied-same_key}
-use Rattle.answer_laws.proofs.TcSends.{same_tx-self}
+use Rattle.commit_laws.proofs.Keys.{same_key-self, tied-same_key, same_tx-self}
 
 or_true : (a : Bool) → (a || true) ≡ true
 or_true true = refl

@@ -28,18 +28,18 @@ use Rattle.sig_core.specs.Same.{same_key, same_tx}
 use Rattle.tc_block.specs.declared.transaction.Transaction.{Transaction}
 use Rattle.world_core.specs.Machine.{after, machine}
 use Rattle.world_core.specs.Start.{Start, first_view}
-use Rattle.commit_laws.proofs.Keys.{same_key-self}
+use Rattle.commit_laws.proofs.Keys.{same_key-self, same_tx-self}
 use Rattle.answer_laws.proofs.Ahead.{AtNode, Goes, NextAt, NodeStep, along, at_node, few_taken, next_at, of_dih, of_lqh, of_none, of_tc, tx_at}
-use Rattle.answer_laws.proofs.Hosts.{shell_after}
+use Rattle.answer_laws.proofs.Hosts.{same_node, shell_after}
 use Rattle.answer_laws.proofs.LinkCounts.{sent_signals, signals, taken_signals}
 use Rattle.answer_laws.proofs.LqhNode.{lqh_node}
 use Rattle.answer_laws.proofs.LqhOps.{is_lqh, true_and}
-use Rattle.answer_laws.proofs.LqhWaits.{granted_is, goes_on, is_more, is_more_body, lqh_waits, queued, waiting}
+use Rattle.answer_laws.proofs.LqhLeaves.{lqh_waits}
+use Rattle.answer_laws.proofs.LqhWaits.{granted_is, goes_on, is_more, is_more_body, queued, waiting}
 use Rattle.answer_laws.proofs.Lone.{IsLone, lone_step, first_lone, one_waits, waiting_at}
-use Rattle.answer_laws.proofs.Ops.{operations_wait, same_node}
+use Rattle.answer_laws.proofs.Ops.{operations_wait}
 use Rattle.answer_laws.proofs.Tally.{one_if, tally_in}
 use Rattle.answer_laws.proofs.TcLives.{IsOwn}
-use Rattle.answer_laws.proofs.TcSends.{same_tx-self}
 use Rattle.answer_laws.proofs.TcSteps.{live_in}
 use Rattle.answer_laws.proofs.Totals.{sent_least}
 use Rattle.answer_laws.proofs.Undecided.{F, forth_at, is_undecided, none_came}

@@ -19,12 +19,13 @@ use Rattle.tc_block.specs.State.{TcState}
 use Rattle.tc_block.specs.Tc.{begin_if, begin_row, is_full, tc_row}
 use Rattle.world_core.specs.Machine.{machine}
 use Rattle.world_core.specs.Start.{Start}
+use Rattle.answer_laws.proofs.LqhOps.{right_of}
 use Rattle.answer_laws.proofs.Ahead.{AtNode, NextAt, NodeStep, at_node, few_taken, next_at, of_dih, of_lqh, of_none, of_tc}
 use Rattle.answer_laws.proofs.ApiEntries.{is_commit_req}
 use Rattle.answer_laws.proofs.Asks.{node_asked, node_silent, plain_answer, plain_key, shell_silent}
 use Rattle.answer_laws.proofs.DihSends.{dih_kinds}
 use Rattle.answer_laws.proofs.LinkCounts.{sent_signals, signals, steps}
-use Rattle.answer_laws.proofs.Lives.{keeps, last_of, plain_start, silent_start, steps_from}
+use Rattle.answer_laws.proofs.Lives.{keeps, plain_start, silent_start, steps_from}
 use Rattle.answer_laws.proofs.LqhSends.{lqh_kinds}
 use Rattle.answer_laws.proofs.SendKinds.{are_of, is_dih_kind, is_lqh_kind, is_tc_kind, none_of}
 use Rattle.answer_laws.proofs.Tally.{one_if}
@@ -150,7 +151,7 @@ module _ (start : Start) (tx : TxId) where
     keys_few =
         omega (
           arith,
-          steps_from start tx (is_key tx) 0 (λ to body e. plain_key tx body (last_of (is_tc to.block) (key_of_tx tx body) e)) (logs (suc h)) others,
+          steps_from start tx (is_key tx) 0 (λ to body e. plain_key tx body (right_of (is_tc to.block) (key_of_tx tx body) e)) (logs (suc h)) others,
           few_taken start logs right (is_key tx) 0 (suc h),
         )
       where
@@ -175,7 +176,7 @@ module _ (start : Start) (tx : TxId) where
     answers_few =
         omega (
           arith,
-          steps_from start tx (is_answer tx) (suc h) (λ to body e. plain_answer tx body (last_of (is_api to.block) (answer_of tx body) e)) (logs 0) others,
+          steps_from start tx (is_answer tx) (suc h) (λ to body e. plain_answer tx body (right_of (is_api to.block) (answer_of tx body) e)) (logs 0) others,
           few_taken start logs right (is_answer tx) (suc h) 0,
         )
       where
@@ -187,7 +188,7 @@ module _ (start : Start) (tx : TxId) where
     starts_few =
         omega (
           arith,
-          steps_from start tx (is_start tx) (suc h) (λ to body e. plain_start tx body (last_of (is_api to.block) (start_of tx body) e)) (logs 0) others,
+          steps_from start tx (is_start tx) (suc h) (λ to body e. plain_start tx body (right_of (is_api to.block) (start_of tx body) e)) (logs 0) others,
           few_taken start logs right (is_start tx) (suc h) 0,
         )
       where

@@ -70,3 +70,7 @@ tally_same p q (x ∷ xs) same = omega (arith, ap one_if same.0, tally_same p q 
 pub tally_none : {A : Type 0} (p : A → Bool) (xs : List A) → Each (λ x. p x ≡ false) xs → tally p xs ≡ 0
 tally_none p [] none = refl
 tally_none p (x ∷ xs) none = omega (arith, ap one_if none.0, tally_none p xs none.1)
+
+pub none_if : (a : Bool) → one_if (a && false) + 0 ≡ 0
+none_if true = refl
+none_if false = refl

@@ -35,12 +35,13 @@ use Rattle.tc_block.specs.Sends.{entering, go_on_if, go_on_row}
 use Rattle.tc_block.specs.State.{TcState}
 use Rattle.tc_block.specs.Tc.{begin_if, begin_row, is_full, next_tx, pass_if, pass_row, tc_row}
 use Rattle.tc_block.specs.Turn.{Turn, asking, going}
+use Rattle.commit_laws.proofs.Keys.{same_tx-self}
 use Rattle.answer_laws.proofs.SendKinds.{SendsOnly, are_of, is_keyless, is_tc_kind, none_of}
 use Rattle.answer_laws.proofs.Tally.{one_if, tally, tally_between}
 use Rattle.answer_laws.proofs.TcKeyless as keyless
 use Rattle.answer_laws.proofs.TcLives.{apart}
 use Rattle.answer_laws.proofs.TcMoves.{IsEntry, found, same_tx-is}
-use Rattle.answer_laws.proofs.TcSends.{TurnSends, aborted_kinds, answer_kinds, commit_kinds, committed_kinds, completed_kinds, decide_kinds, go_on_kinds, operate_kinds, refuse_kinds, rollback_kinds, same_tx-self, wait_kinds}
+use Rattle.answer_laws.proofs.TcSends.{TurnSends, aborted_kinds, answer_kinds, commit_kinds, committed_kinds, completed_kinds, decide_kinds, go_on_kinds, operate_kinds, refuse_kinds, rollback_kinds, wait_kinds}
 use Rattle.answer_laws.proofs.Wishes.{and_false, is_api, is_tc, sends_of, to_node}
 
 -- an operation of the transaction is asked for at its coordinator
@@ -72,7 +73,7 @@ no_answer_keyless : (tx : TxId) (body : Body) → is_keyless body ≡ true → a
 no_answer_keyless tx (Client (TcKeyConf other answer)) e = cc
 no_answer_keyless tx _ e = refl
 
-no_answers : (tx : TxId) (sends : List Outgoing) → are_of is_keyless sends ≡ true → answers_in tx sends ≡ 0
+pub no_answers : (tx : TxId) (sends : List Outgoing) → are_of is_keyless sends ≡ true → answers_in tx sends ≡ 0
 no_answers tx sends kind = none_of is_keyless (to_node 0 (is_answer tx)) (λ to b k. and_false (to.node == 0) (is_api to.block) (no_answer_keyless tx b k)) sends kind
 
 no_answer_other : (tx one : TxId) → same_tx one tx ≡ false → (body : Body) → is_tc_kind one body ≡ true → answer_of tx body ≡ false

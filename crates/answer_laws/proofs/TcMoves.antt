@@ -45,11 +45,12 @@ use Rattle.tc_block.specs.Sends.{entering, front_sends, go_on_if, go_on_row, pha
 use Rattle.tc_block.specs.State.{TcState, with_live}
 use Rattle.tc_block.specs.Tc.{begin_if, begin_row, begun, is_full, next_tx, pass_if, pass_row, tc_row}
 use Rattle.tc_block.specs.Turn.{Turn, asking, going}
+use Rattle.commit_laws.proofs.Keys.{same_tx-self}
 use Rattle.answer_laws.proofs.DihSends.{dih_kinds}
 use Rattle.answer_laws.proofs.LqhSends.{lqh_kinds}
 use Rattle.answer_laws.proofs.SendKinds.{SendsOnly, are_of, is_dih_kind, is_lqh_kind, is_tc_kind, of_kind}
 use Rattle.answer_laws.proofs.Tally.{one_if}
-use Rattle.answer_laws.proofs.TcSends.{TurnSends, aborted_kinds, answer_kinds, commit_kinds, committed_kinds, completed_kinds, decide_kinds, go_on_kinds, operate_kinds, refuse_kinds, rollback_kinds, same_tx-self, wait_kinds}
+use Rattle.answer_laws.proofs.TcSends.{TurnSends, aborted_kinds, answer_kinds, commit_kinds, committed_kinds, completed_kinds, decide_kinds, go_on_kinds, operate_kinds, refuse_kinds, rollback_kinds, wait_kinds}
 use Rattle.answer_laws.proofs.Wishes.{is_api, sends_of, to_node}
 use Rattle.answer_laws.specs.Answered.{is_completing}
 
@@ -365,6 +366,13 @@ tc_moves s (Chain (Completed tx key)) = turn_moves s tx _ (λ t. completed_kinds
 tc_moves s (Chain (Aborted tx key)) = turn_moves s tx _ (λ t. aborted_kinds s.node tx t) (λ t. aborted_told s.node tx t)
 tc_moves s (Epoch (DiVerifyConf tx epoch)) = turn_moves s tx _ (λ t. commit_kinds s.node s.view tx t epoch) (λ t. commit_told s.node s.view tx t epoch)
 tc_moves s _ = stays refl refl
+
+-- no move changes the view
+pub tc_view : (s after : TcState) (sends : List Outgoing) → TcMove s after sends → after.view ≡ s.view
+tc_view s after sends (stays is kind) = ap (λ (t : TcState). t.view) is
+tc_view s after sends (starts name is told) = ap (λ (t : TcState). t.view) is
+tc_view s after sends (turns one t u front back is now kind told) = ap (λ (t : TcState). t.view) now
+tc_view s after sends (forgets one t front back is now kind told) = ap (λ (t : TcState). t.view) now
 
 still_dih : (body : Body) → is_dih_kind body ≡ true → is_still_kind body ≡ true
 still_dih (Client (TcBeginConf name tx)) e = cc

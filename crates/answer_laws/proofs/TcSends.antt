@@ -1,6 +1,6 @@
 -- What the coordinator sends, but for its answer to the wish for a transaction.
 use Rattle.std.proofs.Common.{◌≡◌, ℕ, List, take, drop, length, Bool, true, false, refl, ap, arith}
-use Rattle.std.specs.Prelude.{◌&&◌, nat_eq, if◌then◌else◌, ◌+◌, nat_lt, Option, None, Some, slice_get, is_some}
+use Rattle.std.specs.Prelude.{nat_eq, if◌then◌else◌, ◌+◌, nat_lt, Option, None, Some, slice_get, is_some}
 use Rattle.std.specs.List.{flat_map}
 use Rattle.std.proofs.lemmas.Bool.Decides.{nat_tests}
 use Rattle.std.specs.Map.{values_of}
@@ -19,7 +19,6 @@ use Rattle.sig_core.specs.declared.signal.host.HostSignal.TheVariants.{Continue}
 use Rattle.sig_core.specs.declared.signal.host.Work.TheVariants as work
 use Rattle.sig_core.specs.declared.view.View.{View}
 use Rattle.sig_core.specs.Op.{key_of}
-use Rattle.sig_core.specs.Same.{same_tx}
 use Rattle.sig_core.specs.Step.{Step}
 use Rattle.tc_block.specs.declared.phase.Asked.{Asked}
 use Rattle.tc_block.specs.declared.phase.Phase.{Phase}
@@ -37,6 +36,7 @@ use Rattle.tc_block.specs.Sends.{abort_of, complete_if, entering, front_sends, g
 use Rattle.tc_block.specs.State.{TcState}
 use Rattle.tc_block.specs.Tc.{pass_if, pass_row, tc_row}
 use Rattle.tc_block.specs.Turn.{Turn, asking}
+use Rattle.commit_laws.proofs.Keys.{same_tx-self}
 use Rattle.answer_laws.proofs.SendKinds.{SendsOnly, are_of, is_begin_wish, is_tc_kind, of_append, of_drop, of_flat, of_map, of_take}
 
 -- the transaction that a signal to the coordinator is about
@@ -57,14 +57,6 @@ tx_in _ = record { tc = 0; start = 0; seq = 0 }
 
 pub eqb-self : (n : ℕ) → nat_eq n n ≡ true
 eqb-self n = grind (arith, nat_tests)
-
-pub same_tx-self : (tx : TxId) → same_tx tx tx ≡ true
-same_tx-self tx = all (nat_eq tx.tc tx.tc) (nat_eq tx.start tx.start) (nat_eq tx.seq tx.seq) (eqb-self tx.tc) (eqb-self tx.start) (eqb-self tx.seq)
-  where
-    all : (a b c : Bool) → a ≡ true → b ≡ true → c ≡ true → (a && (b && c)) ≡ true
-    all true true c p q r = r
-    all true false c p q r = cc
-    all false b c p q r = cc
 
 -- a turn of a transaction that sends no others
 abbrev pub TurnSends : TxId → Turn → Type 0

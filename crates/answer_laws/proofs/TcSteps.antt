@@ -30,13 +30,14 @@ use Rattle.tc_block.specs.Sends.{abort_of}
 use Rattle.tc_block.specs.State.{TcState, with_live}
 use Rattle.tc_block.specs.Tc.{begin_if, begin_row, begun, is_full, next_tx, pass_if, pass_row, tc_row}
 use Rattle.tc_block.specs.Turn.{Turn, going}
+use Rattle.commit_laws.proofs.Keys.{same_tx-self}
 use Rattle.answer_laws.proofs.NodeOps.{absent_key}
 use Rattle.answer_laws.proofs.PartKinds.{IsPartKind, entering_of, parts_of}
 use Rattle.answer_laws.proofs.SendKinds.{are_of, of_kind, of_map}
 use Rattle.answer_laws.proofs.Tally.{one_if, tally, tally_append, tally_between, tally_in}
 use Rattle.answer_laws.proofs.TcLives.{IsOwn, apart, insert_new, is_keyed}
 use Rattle.answer_laws.proofs.TcMoves.{found, IsEntry, same_tx-is, step_is}
-use Rattle.answer_laws.proofs.TcSends.{same_tx-self, tx_in}
+use Rattle.answer_laws.proofs.TcSends.{tx_in}
 use Rattle.answer_laws.proofs.TcTurns.{TurnMove, abort_ends, aborted, aborts, all_completed, answers, asks, commits, committed, completed, completes, decides, ends, gives_up, goes_on, is_turn, is_wait_kind, keeps, late, turn_moves, turn_row}
 
 -- the transaction among those that a coordinator hasn't forgotten

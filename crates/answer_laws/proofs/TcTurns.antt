@@ -107,6 +107,9 @@ pub data IsCommitted (t : Transaction) (body : Body) : Type 0 where
   at_once : (tx : TxId) (epoch : ℕ) → t.phase ≡ Verifying → body ≡ Epoch (DiVerifyConf tx epoch) → IsCommitted t body
   at_last : (tx : TxId) (key : List ℕ) → is_committing t.phase ≡ true → body ≡ Chain (Committed tx key) → IsCommitted t body
 
+-- What the signal makes of the transaction, and what is sent then: it stays as it is, and why; it goes on with a list; it asks
+-- for an operation, is answered, or is answered late; it asks for its epoch; it begins to abort, or ends at once; an abort
+-- goes on, or ends; its keys are committed, and completed, or that goes on or ends.
 pub data TurnMove (s : TcState) (tx : TxId) (t : Transaction) (body : Body) (turn : Turn) : Type 0 where
   keeps : (sends : List Outgoing) → turn ≡ going (record { state = t; effects = sends_only sends }) → are_of is_wait_kind sends ≡ true → IsMissed t body → TurnMove s tx t body turn
   goes_on : (at : ℕ) → body ≡ Host (Continue (work.Transaction tx) at) → at < 512

@@ -33,10 +33,9 @@ use Rattle.answer_laws.proofs.Ahead.{along, at_node, AtNode, Goes, next_at, Next
 use Rattle.answer_laws.proofs.ApiMoves.{ApiMove, api_moves, begun_as, ends, goes, is_api_kind, opens, refuses, rests}
 use Rattle.answer_laws.proofs.DihSends.{dih_kinds}
 use Rattle.answer_laws.proofs.Flows.{flow_came, flow_sent}
-use Rattle.answer_laws.proofs.Hosts.{shell_after, shell_sends}
+use Rattle.answer_laws.proofs.Hosts.{same_node, shell_after, shell_sends}
 use Rattle.answer_laws.proofs.LqhForth.{is_back, lqh_back}
 use Rattle.answer_laws.proofs.LqhWaits.{is_forth}
-use Rattle.answer_laws.proofs.Ops.{same_node}
 use Rattle.answer_laws.proofs.SendKinds.{are_of, is_dih_kind, none_of, of_kind}
 use Rattle.answer_laws.proofs.TcForth.{BackTurn, back_turn}
 use Rattle.answer_laws.proofs.TcSteps.{TxStep, born, elsewhere, is_apart, left_of_turn, live_early, live_home, next_grows, of_live, turned, tx_step}
@@ -95,6 +94,7 @@ module _ (start : Start) (tx : TxId) (h : ℕ) (home : tx.tc ≡ suc h) where
   abbrev pub F : (ℕ → List LogStep) → ℕ
   F logs = sent_all start (start.nodes + 1) (forth_at tx) logs
 
+  -- none was sent while the transaction isn't decided
   pub record IsBack (logs : ℕ → List LogStep) : Type 0 where
     pub undecided : (t : Transaction) → tx_at tx (after start (suc h) (logs (suc h))) ≡ Some t → is_decided t.phase ≡ false → F logs ≡ 0
     pub unborn : (x : node.Node) → after start (suc h) (logs (suc h)) ≡ Node x → x.tc.next_seq ≤ tx.seq → F logs ≡ 0

@@ -75,14 +75,15 @@ module _ (start : Start) where
       let s = shell_after start log in
       omega (arith, held_few tx log, (shell_holds tx s.state e.taken.to.block e.taken.body s.good).0, ap (tally (has_tx tx)) (opened_next start e log), ap (λ g. tally (has_tx tx) (opened_in g)) s.is)
 
--- how the transaction stands that the API has asked for so many operations and commits, and that has answered so many
+-- how a transaction stands of which so many operations and commits were asked for, and so many answered
 abbrev pub IsHeld : (operations keys commits answers : ℕ) → Doing → Type 0
 IsHeld o k c a (Beginning op) = Unit {0}
 IsHeld o k c a Ready = (k ≤ a) × ((c ≡ 0) × (k ≤ o))
 IsHeld o k c a Operating = (a + 1 ≤ k) × ((c ≡ 0) × (k ≤ o))
 IsHeld o k c a Committing = (1 ≤ c) × (k ≤ a)
 
--- the API, and a step of it
+-- what the API has of a transaction, after so many operations and commits that it asked for, and so many answers and
+-- beginnings that it took: one operation at a time, no more than 64, and none behind a commit
 pub record IsAsking (before : Option OpenTransaction) (k c a b : ℕ) : Type 0 where
   pub held : (t : OpenTransaction) → before ≡ Some t → IsHeld t.operations k c a t.doing
   pub few : k ≤ 64

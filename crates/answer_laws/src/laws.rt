@@ -43,19 +43,19 @@ pub fn no_abort_is_awaited()
 
 /// When nothing is under way, a transaction whose operation was sent has it unanswered at its coordinator, where that
 /// has the transaction open.
-#[tactic(auto, using(crate::proofs::Heard::asked_where_operating))]
+#[tactic(auto, using(crate::proofs::Heeded::asked_where_operating))]
 pub fn each_operation_is_asked()
     ensures { EachAskedWhereOperating }
 {}
 
 /// When nothing is under way, a transaction whose commit was asked for isn't open at its coordinator.
-#[tactic(auto, using(crate::proofs::Heard::closed_where_committing))]
+#[tactic(auto, using(crate::proofs::Heeded::closed_where_committing))]
 pub fn each_commit_is_heard()
     ensures { EachClosedWhereCommitting }
 {}
 
 /// When nothing is under way, each transaction that has begun is known by its number.
-#[tactic(auto, using(crate::proofs::Heard::each_numbered))]
+#[tactic(auto, using(crate::proofs::Heeded::each_numbered))]
 pub fn each_is_numbered()
     ensures { EachIsNumbered }
 {}

@@ -46,7 +46,7 @@ none_asked (Host (Continue (Request request) at)) none = cc
 none_asked _ none = refl
 
 -- a log without requests
-no_requests : (log : List LogStep) → requests log ≡ [] → Each (λ (e : LogStep). is_request e.taken.body ≡ false) log
+pub no_requests : (log : List LogStep) → requests log ≡ [] → Each (λ (e : LogStep). is_request e.taken.body ≡ false) log
 no_requests [] none = tt
 no_requests (e ∷ log) none = by (request_in e.taken.body) refl (front (requests log) none) (no_requests log)
   where

@@ -1,4 +1,5 @@
 pub mod ApiChanges
+pub mod ComesTo
 pub mod CommitFirst
 pub mod CommitGoes
 pub mod Committed
@@ -23,8 +24,10 @@ pub mod OwnSends
 pub mod PhaseSends
 pub mod Places
 pub mod Pushes
+pub mod QuietCuts
 pub mod Reported
 pub mod SampleServed
+pub mod ServedBetween
 pub mod Since
 pub mod TcPath
 pub mod TellsOnce
@@ -32,6 +35,7 @@ pub mod TellsSince
 pub mod Tests
 pub mod Told
 pub mod TurnTells
+pub mod TurnedDown
 pub mod Turns
 pub mod WaitApi
 pub mod WaitHosts

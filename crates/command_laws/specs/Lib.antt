@@ -1,2 +1,4 @@
+pub mod Answers
+pub mod Between
 pub mod Sample
 pub mod Served

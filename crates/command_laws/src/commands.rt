@@ -1,5 +1,6 @@
 //! What is proved of commands.
 ghost use Rattle.command_laws.specs.Sample.{SampleIsServed};
+ghost use Rattle.command_laws.specs.Answers.{CommitsComeTo, OperationsComeTo};
 ghost use Rattle.command_laws.specs.Served.{CommitsAreCommitted, EachIsHeldUp, HoldersAreTold, LoneAreCommitted, OperationsAreAnswered};
 
 /// A commit of a transaction that takes commands ends in its being committed: the client is told so,
@@ -17,6 +18,17 @@ pub fn lone_operations_are_committed()
 /// want of room or of time, or it waits for a lock.
 pub fn operations_are_answered()
     ensures { OperationsAreAnswered }
+{}
+
+/// Each operation of a transaction with a name is turned down or answered, or its transaction is
+/// aborted for want of room or of time, or it waits for a lock.
+pub fn operations_come_to_something()
+    ensures { OperationsComeTo }
+{}
+
+/// Each commit is turned down or reported.
+pub fn commits_come_to_something()
+    ensures { CommitsComeTo }
 {}
 
 /// Where a command left something of its own unanswered, the two questions about it bring the name,

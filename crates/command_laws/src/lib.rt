@@ -1,9 +1,12 @@
 //! What a command comes to, between two quiet moments.
 #![tactic(auto)]
 
+mod between;
 mod commands;
 
+pub use between::requests_are_served;
 pub use commands::{
-    a_commit_is_served, commits_are_committed, each_operation_is_held_up, holders_are_told,
-    lone_operations_are_committed, operations_are_answered,
+    a_commit_is_served, commits_are_committed, commits_come_to_something,
+    each_operation_is_held_up, holders_are_told, lone_operations_are_committed,
+    operations_are_answered, operations_come_to_something,
 };

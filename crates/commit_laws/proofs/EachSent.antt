@@ -1,19 +1,9 @@
--- What holds of each of some signals.
-use Rattle.std.proofs.Common.{◌≡◌, ℕ, zero, suc, List, [], ◌∷◌, take, drop}
-use Rattle.std.specs.Prelude.{map}
+-- What holds of each item of a list, where items are taken, left out, changed or made into others.
+use Rattle.std.proofs.Common.{◌≡◌, ℕ, zero, suc, List, [], ◌∷◌, take, drop, subst}
+use Rattle.std.specs.Prelude.{map, remove, slice_get, slice_set, Some}
 use Rattle.std.specs.List.{flat_map}
 use Rattle.run_theory.specs.Lists.{Each}
 use Rattle.run_theory.proofs.Pasts.{each_append}
-use Rattle.sig_core.specs.declared.outs.Outgoing.{Outgoing}
-use Rattle.sig_core.specs.Step.{Step}
-use Rattle.commit_laws.specs.Kinds.{kind_of, other}
-
--- none of them is of those by which a transaction comes to be decided and reported
-abbrev pub AreOther : List Outgoing → Type 0
-AreOther sends = Each (λ (o : Outgoing). kind_of o.body ≡ other) sends
-
-abbrev pub SendsOther : {S : Type 0} → Step S → Type 0
-SendsOther step = AreOther step.effects.sends
 
 pub each_take : {A : Type 0} (P : A → Type 0) (n : ℕ) (xs : List A) → Each P xs → Each P (take n xs)
 each_take P zero xs all = tt
@@ -24,6 +14,19 @@ pub each_drop : {A : Type 0} (P : A → Type 0) (n : ℕ) (xs : List A) → Each
 each_drop P zero xs all = all
 each_drop P (suc n) [] all = tt
 each_drop P (suc n) (x ∷ xs) all = each_drop P n xs all.1
+
+pub each_removed : {A : Type 0} (P : A → Type 0) (xs : List A) (at : ℕ) → Each P xs → Each P (remove xs at)
+each_removed P xs at all = each_append P (take at xs) (drop (suc at) xs) (each_take P at xs all) (each_drop P (suc at) xs all)
+
+pub each_get : {A : Type 0} (P : A → Type 0) (xs : List A) (at : ℕ) (x : A) → Each P xs → slice_get xs at ≡ Some x → P x
+each_get P [] at x all is = absurd cc
+each_get P (y ∷ xs) zero x all is = let one : y ≡ x = cc in subst P one all.0
+each_get P (y ∷ xs) (suc at) x all is = each_get P xs at x all.1 is
+
+pub each_set : {A : Type 0} (P : A → Type 0) (xs : List A) (at : ℕ) (x : A) → Each P xs → P x → Each P (slice_set xs at x)
+each_set P [] at x all own = all
+each_set P (y ∷ xs) zero x all own = (own, all.1)
+each_set P (y ∷ xs) (suc at) x all own = (all.0, each_set P xs at x all.1 own)
 
 pub each_mapped : {A B : Type 0} (P : B → Type 0) (f : A → B) (xs : List A) → ((x : A) → P (f x)) → Each P (map f xs)
 each_mapped P f [] all = tt

@@ -5,8 +5,13 @@ pub mod BackupOrder
 pub mod Causal
 pub mod CausalFacts
 pub mod CellsAt
+pub mod EachApi
 pub mod EachEntry
+pub mod EachLqh
 pub mod EachSent
+pub mod EachTc
+pub mod EachTurn
+pub mod EachWaiting
 pub mod Epochs
 pub mod Firsts
 pub mod Holding
@@ -16,6 +21,7 @@ pub mod KeyAfter
 pub mod KeyEnds
 pub mod Keys
 pub mod KeysJoin
+pub mod LiveKeeps
 pub mod LiveSplit
 pub mod LockHolding
 pub mod LockWaiting

@@ -1,8 +1,7 @@
 -- No coordinator takes one transaction both forth and back.
 use Rattle.std.proofs.Common.{◌≡◌, ◌⊎◌, ◌<◌, ℕ, zero, suc, ◌+◌, Bool, true, false, ◌&&◌, List, [], ◌∷◌, ◌++◌, refl, sym, ap, ◌∙◌, subst, inl, inr, arith}
 use Rattle.std.specs.List.{list_any}
-use Rattle.std.specs.Map.{values_of}
-use Rattle.std.specs.Prelude.{◌||◌, Option, None, Some, is_some, slice_get, nat_eq}
+use Rattle.std.specs.Prelude.{◌||◌, Option, nat_eq}
 use Rattle.std.proofs.lemmas.Bool.{and_right, ne_eqb, or_cases}
 use Rattle.run_theory.specs.Lists.{Each}
 use Rattle.run_theory.proofs.Pasts.{each_after, each_append, each_before, each_map}
@@ -13,25 +12,15 @@ use Rattle.sig_core.specs.declared.place.BlockId.{BlockId}
 use Rattle.sig_core.specs.declared.place.BlockId.TheVariants as block
 use Rattle.sig_core.specs.declared.place.Place.{Place}
 use Rattle.sig_core.specs.declared.signal.Body.{Body}
-use Rattle.sig_core.specs.declared.signal.Body.TheVariants.{Host, Client, Chain, Epoch}
-use Rattle.sig_core.specs.declared.signal.chain.ChainSignal.TheVariants.{LqhKeyConf, LqhKeyRef, Committed, Completed, Aborted}
-use Rattle.sig_core.specs.declared.signal.client.ClientSignal.TheVariants.{TcBeginReq, TcKeyReq, TcCommitReq, TcRollbackReq, TcWaitReq, LqhWaitConf}
-use Rattle.sig_core.specs.declared.signal.epoch.EpochSignal.TheVariants.{DiVerifyConf}
-use Rattle.sig_core.specs.declared.signal.host.HostSignal.TheVariants.{Continue}
-use Rattle.sig_core.specs.declared.signal.host.Work.TheVariants as work
 use Rattle.sig_core.specs.Same.{same_tx}
 use Rattle.sig_core.specs.Step.{Step, stay}
 use Rattle.row_locks.proofs.TxLemmas.{same_tx-swap}
-use Rattle.tc_block.specs.Abort.{aborted_row, refuse_row, rollback_row}
-use Rattle.tc_block.specs.Commit as commit
-use Rattle.tc_block.specs.Complete.{completed_row}
 use Rattle.tc_block.specs.declared.phase.Phase.{Phase}
 use Rattle.tc_block.specs.declared.transaction.Transaction.{Transaction}
-use Rattle.tc_block.specs.Live.{place_in, step_of, step_place, step_value, stepped, turn_of, turn_place, turn_value, turned_if, without}
-use Rattle.tc_block.specs.Operate.{answer_row, fresh, operate_row, wait_row}
-use Rattle.tc_block.specs.Sends.{go_on_row}
+use Rattle.tc_block.specs.Live.{stepped, turned_if, without}
+use Rattle.tc_block.specs.Operate.{fresh}
 use Rattle.tc_block.specs.State.{TcState}
-use Rattle.tc_block.specs.Tc.{begin_if, begin_row, is_full, next_tx, pass_if, pass_row, tc_row}
+use Rattle.tc_block.specs.Tc.{begin_if, next_tx, tc_row}
 use Rattle.tc_block.specs.Turn.{Turn}
 use Rattle.node_core.specs.declared.host.Host as host
 use Rattle.node_core.specs.declared.host.Host.TheVariants.{Shell, Node}
@@ -43,9 +32,11 @@ use Rattle.world_core.specs.Start.{Start, started}
 use Rattle.commit_laws.specs.Phases.{is_completing, is_decided}
 use Rattle.commit_laws.specs.Ways.{AreSaid, CoordinatorsGoOneWay, CoordinatorsSay, IsSaid, Way, back, back_by, closes, forth, forth_by, is_aborting, is_forth, neither, put_ways, sent_ways, tc_sends, way_of}
 use Rattle.commit_laws.proofs.Keys.{same_tx-self}
-use Rattle.commit_laws.proofs.LiveSplit.{KeysOnce, Live, Split, each_inserted, once_back, once_front, once_gone, once_inserted, once_set, split_at}
+use Rattle.commit_laws.proofs.LiveSplit.{KeysOnce, Live, Split, each_inserted, once_back, once_front, once_gone, once_inserted, once_set}
 use Rattle.commit_laws.proofs.TcNumbers.{NotIn}
-use Rattle.commit_laws.proofs.TcWays.{AllWays, TellsForth, TurnWays, WayOf, Ways, aborted_ways, aborting_apart, answer_ways, commit_ways, committed_ways, completed_ways, decide_ways, decided_apart, go_on_ways, not_both, operate_ways, refuse_ways, rollback_ways, wait_ways}
+use Rattle.commit_laws.proofs.EachTc.{tc_each}
+use Rattle.commit_laws.proofs.EachTurn.{rows_of}
+use Rattle.commit_laws.proofs.TcWays.{AllWays, TellsForth, TurnWays, WayOf, Ways, aborting_apart, decided_apart, not_both, turn_ways}
 
 -- one of the coordinator's transactions, where these went forth, and those back
 record IsLive (node next : ℕ) (cs bs : List TxId) (e : TxId × Transaction) : Type 0 where
@@ -308,28 +299,6 @@ module _ (s : TcState) (cs bs : List TxId) (n : IsOneWay s cs bs) where
   nothing_stays : StaysOneWay s.node cs bs (stay s)
   nothing_stays = record { one = n; says = tt }
 
-  step_one : (tx : TxId) (row : Transaction → Step Transaction) → ((t : Transaction) → Ways tx t.phase (row t)) → StaysOneWay s.node cs bs (step_of s tx row)
-  step_one tx row ways = at_place (place_in s tx) refl
-    where
-      at_value : (at : ℕ) → place_in s tx ≡ Some at → (t : Option Transaction) → slice_get (values_of s.live) at ≡ t → StaysOneWay s.node cs bs (step_value s row at t)
-      at_value at at_is None is = nothing_stays
-      at_value at at_is (Some t) is = step_stays tx t at (split_at tx s.live at t at_is is) (row t) (ways t)
-
-      at_place : (at : Option ℕ) → place_in s tx ≡ at → StaysOneWay s.node cs bs (step_place s row at)
-      at_place None at_is = nothing_stays
-      at_place (Some at) at_is = at_value at at_is (slice_get (values_of s.live) at) refl
-
-  turn_one : (tx : TxId) (row : Transaction → Turn) → ((t : Transaction) → TurnWays tx t.phase (row t)) → StaysOneWay s.node cs bs (turn_of s tx row)
-  turn_one tx row ways = at_place (place_in s tx) refl
-    where
-      at_value : (at : ℕ) → place_in s tx ≡ Some at → (t : Option Transaction) → slice_get (values_of s.live) at ≡ t → StaysOneWay s.node cs bs (turn_value s row at t)
-      at_value at at_is None is = nothing_stays
-      at_value at at_is (Some t) is = turn_stays tx t at (split_at tx s.live at t at_is is) (row t) (ways t) (row t).over refl
-
-      at_place : (at : Option ℕ) → place_in s tx ≡ at → StaysOneWay s.node cs bs (turn_place s row at)
-      at_place None at_is = nothing_stays
-      at_place (Some at) at_is = at_value at at_is (slice_get (values_of s.live) at) refl
-
   lower_apart : (v : TxId) → v.seq < s.next_seq → same_tx v (next_tx s) ≡ false
   lower_apart v lt =
       let off : nat_eq v.seq s.next_seq ≡ false = ne_eqb v.seq s.next_seq (λ same. omega (arith, lt, same)) in
@@ -338,9 +307,8 @@ module _ (s : TcState) (cs bs : List TxId) (n : IsOneWay s cs bs) where
   lower_none : (xs : List TxId) → Each (λ (v : TxId). v.seq < s.next_seq) xs → NotIn (next_tx s) xs
   lower_none xs all = each_map (λ (v : TxId). v.seq < s.next_seq) (λ v. same_tx v (next_tx s) ≡ false) xs lower_apart all
 
-  begins_one : (name : Option ℕ) (b : Bool) → StaysOneWay s.node cs bs (begin_if s name b)
-  begins_one name true = record { one = n; says = (tt, tt) }
-  begins_one name false = record {
+  begins_one : (name : Option ℕ) → StaysOneWay s.node cs bs (begin_if s name false)
+  begins_one name = record {
     one = record {
       once = once_inserted s.live (next_tx s) fresh (each_map (IsLive s.node s.next_seq cs bs) (λ (x : TxId × Transaction). same_tx x.0 (next_tx s) ≡ false) s.live (λ x is. lower_apart x.0 is.below) n.live) n.once;
       live = each_inserted (IsLive s.node (s.next_seq + 1) cs bs) s.live (next_tx s) fresh
@@ -354,33 +322,16 @@ module _ (s : TcState) (cs bs : List TxId) (n : IsOneWay s cs bs) where
     says = (tt, tt);
   }
 
-  begin_one : (name : Option ℕ) → StaysOneWay s.node cs bs (begin_row s name)
-  unfolding begin_row
-  begin_one name = begins_one name (is_full s)
-
-  pass_if_one : (tx ahead : TxId) (b : Bool) → StaysOneWay s.node cs bs (pass_if s tx ahead b)
-  pass_if_one tx ahead true = record { one = n; says = (tt, tt) }
-  pass_if_one tx ahead false = nothing_stays
-
-  pass_one : (tx ahead : TxId) → StaysOneWay s.node cs bs (pass_row s tx ahead)
-  unfolding pass_row
-  pass_one tx ahead = pass_if_one tx ahead (is_some (place_in s tx))
-
 tc_one : (s : TcState) (cs bs : List TxId) (body : Body) → IsOneWay s cs bs → StaysOneWay s.node cs bs (tc_row s body)
-tc_one s cs bs (Host (Continue (work.Transaction tx) at)) n = step_one s cs bs n tx (λ t. go_on_row s.node s.view tx t at) (λ t. go_on_ways tx s.node s.view t at)
-tc_one s cs bs (Client (TcBeginReq name)) n = begin_one s cs bs n name
-tc_one s cs bs (Client (TcKeyReq tx op)) n = step_one s cs bs n tx (λ t. operate_row s.view tx t op) (λ t. operate_ways tx s.view t op)
-tc_one s cs bs (Client (TcCommitReq tx)) n = step_one s cs bs n tx (λ t. commit.decide_row s.node tx t) (λ t. decide_ways tx s.node t)
-tc_one s cs bs (Client (TcRollbackReq tx)) n = turn_one s cs bs n tx (λ t. rollback_row s.node s.view tx t) (λ t. rollback_ways tx s.node s.view t)
-tc_one s cs bs (Client (TcWaitReq tx)) n = step_one s cs bs n tx (λ t. wait_row tx t) (λ t. wait_ways tx t)
-tc_one s cs bs (Client (LqhWaitConf tx ahead)) n = pass_one s cs bs n tx ahead
-tc_one s cs bs (Chain (LqhKeyConf tx key answer)) n = step_one s cs bs n tx (λ t. answer_row s.view tx t key answer) (λ t. answer_ways tx s.view t key answer)
-tc_one s cs bs (Chain (LqhKeyRef tx key why)) n = turn_one s cs bs n tx (λ t. refuse_row s.node s.view tx t key why) (λ t. refuse_ways tx s.node s.view t key why)
-tc_one s cs bs (Chain (Committed tx key)) n = turn_one s cs bs n tx (λ t. commit.committed_row s.node s.view tx t) (λ t. committed_ways tx s.node s.view t)
-tc_one s cs bs (Chain (Completed tx key)) n = turn_one s cs bs n tx (λ t. completed_row s.node tx t) (λ t. completed_ways tx s.node t)
-tc_one s cs bs (Chain (Aborted tx key)) n = turn_one s cs bs n tx (λ t. aborted_row s.node tx t) (λ t. aborted_ways tx s.node t)
-tc_one s cs bs (Epoch (DiVerifyConf tx epoch)) n = turn_one s cs bs n tx (λ t. commit.commit_row s.node s.view tx t epoch) (λ t. commit_ways tx s.node s.view t epoch)
-tc_one s cs bs _ n = record { one = n; says = tt }
+tc_one s cs bs body n =
+    tc_each (λ tx t turn. TurnWays tx t.phase turn) (StaysOneWay s.node cs bs) s body (record {
+      turns = λ tx t at split. rows_of s.node s.view tx t body (λ turn. TurnWays tx t.phase turn) (turn_ways tx s.node s.view t body);
+      turned = λ tx t at split turn ways. turn_stays s cs bs n tx t at split turn ways turn.over refl;
+      stays = nothing_stays s cs bs n;
+      full = λ name. record { one = n; says = (tt, tt) };
+      begins = begins_one s cs bs n;
+      passes = λ tx ahead. record { one = n; says = (tt, tt) };
+    })
 
 -- so it is of each host, along any log
 abbrev HostIsOneWay : host.Host → List TxId → List TxId → Type 0

@@ -1,13 +1,14 @@
 -- What a transaction does at its coordinator: it never opens again, and it tells of its commit only once it is decided.
-use Rattle.std.proofs.Common.{◌≡◌, ℕ, List, take, drop, length, Bool, true, false, refl}
-use Rattle.std.specs.Prelude.{◌+◌, ◌==◌, nat_lt, Option, None, Some}
+use Rattle.std.proofs.Common.{◌≡◌, ℕ, List, take, drop, length, Bool, true, false, refl, ap}
+use Rattle.std.specs.Prelude.{◌+◌, nat_lt, None, Some}
 use Rattle.std.specs.List.{flat_map}
 use Rattle.sig_core.specs.declared.member.TxId.{TxId}
-use Rattle.sig_core.specs.declared.op.Answer.{Answer}
-use Rattle.sig_core.specs.declared.op.Op.{Op}
 use Rattle.sig_core.specs.declared.outcome.AbortCause.{AbortCause}
-use Rattle.sig_core.specs.declared.outcome.AbortCause.TheVariants as cause
 use Rattle.sig_core.specs.declared.outs.Outgoing.{Outgoing}
+use Rattle.sig_core.specs.declared.signal.Body.{Body}
+use Rattle.sig_core.specs.declared.signal.Body.TheVariants.{Client, Epoch}
+use Rattle.sig_core.specs.declared.signal.client.ClientSignal.TheVariants.{TcCommitReq}
+use Rattle.sig_core.specs.declared.signal.epoch.EpochSignal.TheVariants.{DiVerifyConf}
 use Rattle.sig_core.specs.declared.view.View.{View}
 use Rattle.sig_core.specs.Op.{key_of}
 use Rattle.sig_core.specs.Step.{Step}
@@ -22,14 +23,15 @@ use Rattle.tc_block.specs.Commit as commit
 use Rattle.tc_block.specs.Complete as complete
 use Rattle.tc_block.specs.Operate as operate
 use Rattle.tc_block.specs.Part.{part_effects, rest_if}
-use Rattle.tc_block.specs.Sends.{abort_of, complete_if, entering, front_sends, go_on_if, go_on_row, key_sends, phase_sends, wait_of}
-use Rattle.tc_block.specs.Turn.{Turn, asking}
+use Rattle.tc_block.specs.Sends.{abort_of, complete_if, entering, front_sends, key_sends, phase_sends, wait_of}
+use Rattle.tc_block.specs.Turn.{Turn, asking, going}
 use Rattle.run_theory.specs.Lists.{Each}
 use Rattle.run_theory.proofs.Pasts.{each_append}
 use Rattle.sig_core.specs.Step.{stay}
 use Rattle.commit_laws.specs.Kinds.{Kind, kind_of}
 use Rattle.commit_laws.specs.Kinds as kind
 use Rattle.commit_laws.specs.Phases.{is_decided, is_open}
+use Rattle.commit_laws.proofs.EachTurn.{AbortForms, CommittedForms, TurnForms}
 use Rattle.commit_laws.proofs.EachSent.{each_drop, each_flat, each_mapped, each_take}
 
 -- what a transaction may say where D is known of it once it is decided: that its rows are committed and that it has ended,
@@ -106,26 +108,6 @@ module _ (tx : TxId) (D : Type 0) where
     deciding = known;
   }
 
-  go_on_if_goes : (node : ℕ) (view : View) (t : Transaction) (at : ℕ) (b : Bool) → Known t.phase → Goes tx D t.phase (go_on_if node view tx t at b)
-  go_on_if_goes node view t at true known = record {
-    sends = part_says node (phase_sends view tx t.phase t.touched) at (phase_says view t.phase t.touched known);
-    closed = λ is. is;
-    deciding = known;
-  }
-  go_on_if_goes node view t at false known = stays t known
-
-  pub go_on_goes : (node : ℕ) (view : View) (t : Transaction) (at : ℕ) → Known t.phase → Goes tx D t.phase (go_on_row node view tx t at)
-  unfolding go_on_row
-  go_on_goes node view t at known = go_on_if_goes node view t at (nat_lt at 512) known
-
-  operate_if_goes : (view : View) (t : Transaction) (op : Op) (b : Bool) → Known t.phase → Goes tx D t.phase (operate.operate_if view tx t op b)
-  operate_if_goes view t op true known = record { sends = (tt, tt); closed = λ is. is; deciding = known }
-  operate_if_goes view t op false known = stays t known
-
-  pub operate_goes : (view : View) (t : Transaction) (op : Op) → Known t.phase → Goes tx D t.phase (operate.operate_row view tx t op)
-  unfolding operate.operate_row
-  operate_goes view t op known = operate_if_goes view t op (operate.can_operate t op) known
-
   late_goes : (view : View) (t : Transaction) (key : List ℕ) → Known t.phase → Goes tx D t.phase (operate.late_answer view tx t key)
   late_goes view t key known = record {
     sends = each_mapped (λ (o : Outgoing). SaysOf tx D (kind_of o.body)) (abort_of tx key) (chain_of view key) (λ r. tt);
@@ -133,133 +115,50 @@ module _ (tx : TxId) (D : Type 0) where
     deciding = known;
   }
 
-  answer_by_goes : (view : View) (t : Transaction) (key : List ℕ) (answer : Answer) (asked : Option Asked) (phase : Phase) → Known t.phase
-      → Goes tx D t.phase (operate.answer_by view tx t key answer asked phase)
-  answer_by_goes view t key answer (Some asked) Open known = record { sends = (tt, tt); closed = λ is. is; deciding = known }
-  answer_by_goes view t key answer (Some asked) (Aborting why verifying awaited) known = late_goes view t key known
-  answer_by_goes view t key answer (Some asked) Verifying known = stays t known
-  answer_by_goes view t key answer (Some asked) (Committing epoch awaited) known = stays t known
-  answer_by_goes view t key answer (Some asked) (Completing epoch awaited) known = stays t known
-  answer_by_goes view t key answer None phase known = stays t known
-
-  pub answer_goes : (view : View) (t : Transaction) (key : List ℕ) (answer : Answer) → Known t.phase → Goes tx D t.phase (operate.answer_row view tx t key answer)
-  unfolding operate.answer_row
-  answer_goes view t key answer known = answer_by_goes view t key answer (operate.asked_on t.asked key) t.phase known
-
-  wait_by_goes : (t : Transaction) (asked : Option Asked) → Known t.phase → Goes tx D t.phase (operate.wait_by tx t asked)
-  wait_by_goes t None known = stays t known
-  wait_by_goes t (Some asked) known = record {
+  wait_goes : (t : Transaction) (asked : Asked) → Known t.phase → Goes tx D t.phase (operate.wait_by tx t (Some asked))
+  wait_goes t asked known = record {
     sends = each_mapped (λ (o : Outgoing). SaysOf tx D (kind_of o.body)) (wait_of tx (key_of asked.op)) asked.chain (λ r. tt);
     closed = λ is. is;
     deciding = known;
   }
 
-  pub wait_goes : (t : Transaction) → Known t.phase → Goes tx D t.phase (operate.wait_row tx t)
-  unfolding operate.wait_row
-  wait_goes t known = wait_by_goes t t.asked known
-
-  -- once it is decided
-  all_committed_if_goes : (node : ℕ) (view : View) (t : Transaction) (epoch : ℕ) (b : Bool) → Known t.phase → D → TurnGoes tx D t.phase (complete.all_committed_if node view tx t epoch b)
-  all_committed_if_goes node view t epoch true known d = record { sends = ((refl, d), (tt, tt)); closed = λ is. is; deciding = known }
-  all_committed_if_goes node view t epoch false known d = enters node view t (Completing epoch (complete.written_count t.touched)) refl (λ is. d)
-
-  all_committed_goes : (node : ℕ) (view : View) (t : Transaction) (epoch : ℕ) → Known t.phase → D → TurnGoes tx D t.phase (complete.all_committed node view tx t epoch)
-  unfolding complete.all_committed
-  all_committed_goes node view t epoch known d = all_committed_if_goes node view t epoch (complete.written_count t.touched == 0) known d
-
-  commit_if_goes : (node : ℕ) (view : View) (t : Transaction) (epoch : ℕ) (b : Bool) → Known t.phase → D → TurnGoes tx D t.phase (commit.commit_if node view tx t epoch b)
-  commit_if_goes node view t epoch true known d = all_committed_goes node view t epoch known d
-  commit_if_goes node view t epoch false known d = enters node view t (Committing epoch (length t.touched)) refl (λ is. d)
-
-  commit_by_goes : (node : ℕ) (view : View) (t : Transaction) (epoch : ℕ) (phase : Phase) → Known t.phase → D → TurnGoes tx D t.phase (commit.commit_by node view tx t epoch phase)
-  commit_by_goes node view t epoch Verifying known d = commit_if_goes node view t epoch (length t.touched == 0) known d
-  commit_by_goes node view t epoch Open known d = stays t known
-  commit_by_goes node view t epoch (Committing e awaited) known d = stays t known
-  commit_by_goes node view t epoch (Completing e awaited) known d = stays t known
-  commit_by_goes node view t epoch (Aborting why verifying awaited) known d = stays t known
-
-  pub commit_goes : (node : ℕ) (view : View) (t : Transaction) (epoch : ℕ) → Known t.phase → D → TurnGoes tx D t.phase (commit.commit_row node view tx t epoch)
-  unfolding commit.commit_row
-  commit_goes node view t epoch known d = commit_by_goes node view t epoch t.phase known d
-
-  committed_if_goes : (node : ℕ) (view : View) (t : Transaction) (epoch awaited : ℕ) (b : Bool) → Known t.phase → D → TurnGoes tx D t.phase (commit.committed_if node view tx t epoch awaited b)
-  committed_if_goes node view t epoch awaited true known d = record { sends = tt; closed = λ is. refl; deciding = λ is. d }
-  committed_if_goes node view t epoch awaited false known d = all_committed_goes node view t epoch known d
-
-  committed_by_goes : (node : ℕ) (view : View) (t : Transaction) (phase : Phase) → Known t.phase → Known phase → TurnGoes tx D t.phase (commit.committed_by node view tx t phase)
-  committed_by_goes node view t (Committing epoch awaited) known now = committed_if_goes node view t epoch awaited (nat_lt 1 awaited) known (now refl)
-  committed_by_goes node view t Open known now = stays t known
-  committed_by_goes node view t Verifying known now = stays t known
-  committed_by_goes node view t (Completing epoch awaited) known now = stays t known
-  committed_by_goes node view t (Aborting why verifying awaited) known now = stays t known
-
-  pub committed_goes : (node : ℕ) (view : View) (t : Transaction) → Known t.phase → TurnGoes tx D t.phase (commit.committed_row node view tx t)
-  unfolding commit.committed_row
-  committed_goes node view t known = committed_by_goes node view t t.phase known known
-
-  completed_if_goes : (node : ℕ) (t : Transaction) (epoch awaited : ℕ) (b : Bool) → Known t.phase → D → TurnGoes tx D t.phase (complete.completed_if node tx t epoch awaited b)
-  completed_if_goes node t epoch awaited true known d = record { sends = tt; closed = λ is. refl; deciding = λ is. d }
-  completed_if_goes node t epoch awaited false known d = record { sends = (tt, tt); closed = λ is. is; deciding = known }
-
-  completed_by_goes : (node : ℕ) (t : Transaction) (phase : Phase) → Known t.phase → Known phase → TurnGoes tx D t.phase (complete.completed_by node tx t phase)
-  completed_by_goes node t (Completing epoch awaited) known now = completed_if_goes node t epoch awaited (nat_lt 1 awaited) known (now refl)
-  completed_by_goes node t Open known now = stays t known
-  completed_by_goes node t Verifying known now = stays t known
-  completed_by_goes node t (Committing epoch awaited) known now = stays t known
-  completed_by_goes node t (Aborting why verifying awaited) known now = stays t known
-
-  pub completed_goes : (node : ℕ) (t : Transaction) → Known t.phase → TurnGoes tx D t.phase (complete.completed_row node tx t)
-  unfolding complete.completed_row
-  completed_goes node t known = completed_by_goes node t t.phase known known
-
-  -- where it is aborted
   abort_end_says : (node : ℕ) (why : AbortCause) (b : Bool) → AllSay tx D (abort.abort_end node tx why b)
   abort_end_says node why true = (tt, (tt, tt))
   abort_end_says node why false = (tt, tt)
 
-  abort_if_goes : (node : ℕ) (view : View) (t : Transaction) (why : AbortCause) (b : Bool) → Known t.phase → TurnGoes tx D t.phase (abort.abort_if node view tx t why b)
-  abort_if_goes node view t why true known = record { sends = abort_end_says node why (abort.is_verifying t.phase); closed = λ is. is; deciding = known }
-  abort_if_goes node view t why false known = enters node view t (Aborting why (abort.is_verifying t.phase) (abort.aborts_awaited view t)) refl (λ is. absurd cc)
+  module _ (R : Turn → Type 0) (node : ℕ) (view : View) where
+    committed_goes : (t : Transaction) (epoch : ℕ) → ((turn : Turn) → TurnGoes tx D t.phase turn → R turn) → Known t.phase → D → CommittedForms node view tx t epoch R
+    committed_goes t epoch so known d = record {
+      enters = λ some. so _ (enters node view t (Completing epoch (complete.written_count t.touched)) refl (λ is. d));
+      ends = λ none. so _ (record { sends = ((refl, d), (tt, tt)); closed = λ is. is; deciding = known });
+    }
 
-  abort_goes : (node : ℕ) (view : View) (t : Transaction) (why : AbortCause) → Known t.phase → TurnGoes tx D t.phase (abort.aborted_for node view tx t why)
-  unfolding abort.aborted_for
-  abort_goes node view t why known = abort_if_goes node view t why (abort.aborts_awaited view t == 0) known
+    abort_goes : (t : Transaction) → ((turn : Turn) → TurnGoes tx D t.phase turn → R turn) → Known t.phase → AbortForms node view tx t R
+    abort_goes t so known = record {
+      enters = λ why some. so _ (enters node view t (Aborting why (abort.is_verifying t.phase) (abort.aborts_awaited view t)) refl (λ is. absurd cc));
+      ends = λ why none. so _ (record { sends = abort_end_says node why (abort.is_verifying t.phase); closed = λ is. is; deciding = known });
+    }
 
-  refuse_by_goes : (node : ℕ) (view : View) (t : Transaction) (key : List ℕ) (why : AbortCause) (asked : Option Asked) (phase : Phase) → Known t.phase
-      → TurnGoes tx D t.phase (abort.refuse_by node view tx t key why asked phase)
-  refuse_by_goes node view t key why (Some asked) Open known = abort_goes node view (asking t None) why known
-  refuse_by_goes node view t key why (Some asked) (Aborting other verifying awaited) known = late_goes view t key known
-  refuse_by_goes node view t key why (Some asked) Verifying known = stays t known
-  refuse_by_goes node view t key why (Some asked) (Committing epoch awaited) known = stays t known
-  refuse_by_goes node view t key why (Some asked) (Completing epoch awaited) known = stays t known
-  refuse_by_goes node view t key why None phase known = stays t known
-
-  pub refuse_goes : (node : ℕ) (view : View) (t : Transaction) (key : List ℕ) (why : AbortCause) → Known t.phase → TurnGoes tx D t.phase (abort.refuse_row node view tx t key why)
-  unfolding abort.refuse_row
-  refuse_goes node view t key why known = refuse_by_goes node view t key why (operate.asked_on t.asked key) t.phase known
-
-  rollback_by_goes : (node : ℕ) (view : View) (t : Transaction) (phase : Phase) → Known t.phase → TurnGoes tx D t.phase (abort.rollback_by node view tx t phase)
-  rollback_by_goes node view t Open known = abort_goes node view t cause.Request known
-  rollback_by_goes node view t Verifying known = abort_goes node view t cause.Request known
-  rollback_by_goes node view t (Committing epoch awaited) known = stays t known
-  rollback_by_goes node view t (Completing epoch awaited) known = stays t known
-  rollback_by_goes node view t (Aborting why verifying awaited) known = stays t known
-
-  pub rollback_goes : (node : ℕ) (view : View) (t : Transaction) → Known t.phase → TurnGoes tx D t.phase (abort.rollback_row node view tx t)
-  unfolding abort.rollback_row
-  rollback_goes node view t known = rollback_by_goes node view t t.phase known
-
-  aborted_if_goes : (node : ℕ) (t : Transaction) (why : AbortCause) (verifying : Bool) (awaited : ℕ) (b : Bool) → Known t.phase → TurnGoes tx D t.phase (abort.aborted_if node tx t why verifying awaited b)
-  aborted_if_goes node t why verifying awaited true known = record { sends = tt; closed = λ is. refl; deciding = λ is. absurd cc }
-  aborted_if_goes node t why verifying awaited false known = record { sends = abort_end_says node why verifying; closed = λ is. is; deciding = known }
-
-  aborted_by_goes : (node : ℕ) (t : Transaction) (phase : Phase) → Known t.phase → TurnGoes tx D t.phase (abort.aborted_by node tx t phase)
-  aborted_by_goes node t (Aborting why verifying awaited) known = aborted_if_goes node t why verifying awaited (nat_lt 1 awaited) known
-  aborted_by_goes node t Open known = stays t known
-  aborted_by_goes node t Verifying known = stays t known
-  aborted_by_goes node t (Committing epoch awaited) known = stays t known
-  aborted_by_goes node t (Completing epoch awaited) known = stays t known
-
-  pub aborted_goes : (node : ℕ) (t : Transaction) → Known t.phase → TurnGoes tx D t.phase (abort.aborted_row node tx t)
-  unfolding abort.aborted_row
-  aborted_goes node t known = aborted_by_goes node t t.phase known
+    -- whatever turn it takes, but where it asks for an epoch
+    pub turn_goes : (t : Transaction) (body : Body) → ((turn : Turn) → TurnGoes tx D t.phase turn → R turn)
+        → (body ≡ Client (TcCommitReq tx) → operate.is_ready t.phase t.asked ≡ true → R (going (commit.decide_if node tx t true)))
+        → Known t.phase → ((epoch : ℕ) → body ≡ Epoch (DiVerifyConf tx epoch) → D) → TurnForms node view tx t body R
+    turn_goes t body so asks known told = record {
+      stays = so _ (stays t known);
+      goes_on = λ at. so _ (record { sends = part_says node (phase_sends view tx t.phase t.touched) at (phase_says view t.phase t.touched known); closed = λ is. is; deciding = known });
+      operates = λ op is can. so _ (record { sends = (tt, tt); closed = λ is. is; deciding = known });
+      answers = λ key answer asked is on at. so _ (record { sends = (tt, tt); closed = λ is. is; deciding = known });
+      late = λ key asked why verifying awaited on at. so _ (late_goes view t key known);
+      waits = λ asked on. so _ (wait_goes t asked known);
+      decides = asks;
+      commits = λ epoch is at some. so _ (enters node view t (Committing epoch (length t.touched)) refl (λ on. told epoch is));
+      commits_none = λ epoch is at. committed_goes t epoch so known (told epoch is);
+      committed = λ epoch awaited at more. so _ (record { sends = tt; closed = λ is. refl; deciding = λ is. known (ap is_decided at) });
+      committed_all = λ epoch awaited at. committed_goes t epoch so known (known (ap is_decided at));
+      completed = λ epoch awaited at more. so _ (record { sends = tt; closed = λ is. refl; deciding = λ is. known (ap is_decided at) });
+      completed_all = λ epoch awaited at last. so _ (record { sends = (tt, tt); closed = λ is. is; deciding = known });
+      rolls_back = λ undecided unaborted. abort_goes t so known;
+      refuses = λ asked on at. abort_goes (asking t None) so known;
+      aborted = λ why verifying awaited at more. so _ (record { sends = tt; closed = λ is. refl; deciding = λ is. absurd cc });
+      aborted_all = λ why verifying awaited at last. so _ (record { sends = abort_end_says node why verifying; closed = λ is. is; deciding = known });
+    }

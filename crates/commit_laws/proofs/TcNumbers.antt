@@ -1,20 +1,13 @@
 -- What a coordinator says, transaction by transaction: it begins each once, asks for an epoch of each at most once, and tells
 -- of the commit of those alone that are decided.
 use Rattle.std.proofs.Common.{◌≡◌, ◌<◌, ℕ, ◌+◌, Bool, true, false, ◌&&◌, List, [], ◌∷◌, ◌++◌, refl, sym, ap, ◌∙◌, subst, subst₂, arith}
-use Rattle.std.specs.Map.{values_of}
-use Rattle.std.specs.Prelude.{Option, None, Some, is_some, slice_get, nat_eq}
+use Rattle.std.specs.Prelude.{Option, nat_eq}
 use Rattle.std.proofs.lemmas.Bool.{and_right, ne_eqb}
 use Rattle.run_theory.specs.Lists.{Each}
 use Rattle.run_theory.proofs.Pasts.{each_after, each_append, each_before, each_map}
 use Rattle.sig_core.specs.declared.member.TxId.{TxId}
 use Rattle.sig_core.specs.declared.outs.Outgoing.{Outgoing}
 use Rattle.sig_core.specs.declared.signal.Body.{Body}
-use Rattle.sig_core.specs.declared.signal.Body.TheVariants.{Host, Client, Chain, Epoch}
-use Rattle.sig_core.specs.declared.signal.chain.ChainSignal.TheVariants.{LqhKeyConf, LqhKeyRef, Committed, Completed, Aborted}
-use Rattle.sig_core.specs.declared.signal.client.ClientSignal.TheVariants.{TcBeginReq, TcKeyReq, TcCommitReq, TcRollbackReq, TcWaitReq, LqhWaitConf}
-use Rattle.sig_core.specs.declared.signal.epoch.EpochSignal.TheVariants.{DiVerifyConf}
-use Rattle.sig_core.specs.declared.signal.host.HostSignal.TheVariants.{Continue}
-use Rattle.sig_core.specs.declared.signal.host.Work.TheVariants as work
 use Rattle.sig_core.specs.Place.{epochs}
 use Rattle.sig_core.specs.Same.{same_tx}
 use Rattle.sig_core.specs.Step.{Step, stay}
@@ -24,19 +17,18 @@ use Rattle.tc_block.specs.declared.phase.Phase.{Phase}
 use Rattle.tc_block.specs.declared.phase.Phase.TheVariants.{Open, Verifying, Committing, Completing, Aborting}
 use Rattle.tc_block.specs.declared.transaction.Transaction.{Transaction}
 use Rattle.tc_block.specs.Commit as commit
-use Rattle.tc_block.specs.Live.{place_in, step_of, step_place, step_value, stepped, turn_of, turn_place, turn_value, turned_if, without}
-use Rattle.tc_block.specs.Abort.{aborted_row, refuse_row, rollback_row}
-use Rattle.tc_block.specs.Complete.{completed_row}
-use Rattle.tc_block.specs.Operate.{answer_row, fresh, is_ready, operate_row, wait_row}
-use Rattle.tc_block.specs.Sends.{go_on_row}
+use Rattle.tc_block.specs.Live.{stepped, turned, turned_if, without}
+use Rattle.tc_block.specs.Operate.{fresh, is_ready}
 use Rattle.tc_block.specs.State.{TcState}
-use Rattle.tc_block.specs.Tc.{begin_if, begin_row, is_full, next_tx, pass_if, pass_row, tc_row}
+use Rattle.tc_block.specs.Tc.{begin_if, next_tx, tc_row}
 use Rattle.tc_block.specs.Turn.{Turn, at_phase}
 use Rattle.commit_laws.specs.Kinds.{Kind, kind_of}
 use Rattle.commit_laws.specs.Kinds as kind
 use Rattle.commit_laws.specs.Phases.{is_decided, is_open}
-use Rattle.commit_laws.proofs.LiveSplit.{KeysOnce, Live, Split, each_inserted, once_back, once_front, once_gone, once_inserted, once_set, split_at}
-use Rattle.commit_laws.proofs.TcGoes.{AllSay, Goes, SaysOf, TurnGoes, aborted_goes, answer_goes, commit_goes, committed_goes, completed_goes, go_on_goes, operate_goes, refuse_goes, rollback_goes, wait_goes}
+use Rattle.commit_laws.proofs.LiveSplit.{KeysOnce, Live, Split, each_inserted, once_back, once_front, once_gone, once_inserted, once_set}
+use Rattle.commit_laws.proofs.EachTc.{tc_each}
+use Rattle.commit_laws.proofs.EachTurn.{rows_of}
+use Rattle.commit_laws.proofs.TcGoes.{AllSay, Goes, SaysOf, TurnGoes, turn_goes}
 
 -- the transactions that signals say to have begun, and those for which an epoch is asked, in front of those before
 abbrev pub begun_by : Kind → List TxId → List TxId
@@ -197,9 +189,8 @@ module _ (node : ℕ) (D : TxId → Type 0) (taken : Kind) (s : TcState) (begun_
     turn_stays turn goes false = step_stays turn.step goes
 
     -- it asks for an epoch
-    verify_stays : taken ≡ kind.wanted tx → (b : Bool) → is_ready t.phase t.asked ≡ b → StaysNumbered node D taken begun_yet verified (stepped s at (commit.decide_if s.node tx t b))
-    verify_stays is false ready = step_stays (stay t) (record { sends = tt; closed = λ shut. shut; deciding = own_live.decided })
-    verify_stays is true ready = record {
+    pub verify_stays : taken ≡ kind.wanted tx → is_ready t.phase t.asked ≡ true → StaysNumbered node D taken begun_yet verified (stepped s at (commit.decide_if s.node tx t true))
+    verify_stays is ready = record {
       numbered = record {
         own = n.own;
         once = subst KeysOnce (sym (split.set (at_phase t Verifying))) (once_set split.front split.back tx t (at_phase t Verifying) once_split);
@@ -229,57 +220,14 @@ module _ (node : ℕ) (D : TxId → Type 0) (taken : Kind) (s : TcState) (begun_
         others (x ∷ xs) apart all =
             (record { tc = all.0.tc; below = all.0.below; decided = all.0.decided; unverified = λ is. (same_tx-swap tx x.0 ∙ apart.0, all.0.unverified is) }, others xs apart.1 all.1)
 
-  -- a row of one transaction is one of the coordinator
-  pub step_numbered : (tx : TxId) (row : Transaction → Step Transaction) → ((t : Transaction) → (is_decided t.phase ≡ true → D tx) → Goes tx (D tx) t.phase (row t))
-      → StaysNumbered node D taken begun_yet verified (step_of s tx row)
-  step_numbered tx row goes = at_place (place_in s tx) refl
-    where
-      at_value : (at : ℕ) → place_in s tx ≡ Some at → (t : Option Transaction) → slice_get (values_of s.live) at ≡ t → StaysNumbered node D taken begun_yet verified (step_value s row at t)
-      at_value at at_is None is = nothing_said
-      at_value at at_is (Some t) is =
-          let split = split_at tx s.live at t at_is is in
-          step_stays tx t at split (row t) (goes t (own_live tx t at split).decided)
-
-      at_place : (at : Option ℕ) → place_in s tx ≡ at → StaysNumbered node D taken begun_yet verified (step_place s row at)
-      at_place None at_is = nothing_said
-      at_place (Some at) at_is = at_value at at_is (slice_get (values_of s.live) at) refl
-
-  pub turn_numbered : (tx : TxId) (row : Transaction → Turn) → ((t : Transaction) → (is_decided t.phase ≡ true → D tx) → TurnGoes tx (D tx) t.phase (row t))
-      → StaysNumbered node D taken begun_yet verified (turn_of s tx row)
-  turn_numbered tx row goes = at_place (place_in s tx) refl
-    where
-      at_value : (at : ℕ) → place_in s tx ≡ Some at → (t : Option Transaction) → slice_get (values_of s.live) at ≡ t → StaysNumbered node D taken begun_yet verified (turn_value s row at t)
-      at_value at at_is None is = nothing_said
-      at_value at at_is (Some t) is =
-          let split = split_at tx s.live at t at_is is in
-          turn_stays tx t at split (row t) (goes t (own_live tx t at split).decided) (row t).over
-
-      at_place : (at : Option ℕ) → place_in s tx ≡ at → StaysNumbered node D taken begun_yet verified (turn_place s row at)
-      at_place None at_is = nothing_said
-      at_place (Some at) at_is = at_value at at_is (slice_get (values_of s.live) at) refl
-
-  verify_numbered : (tx : TxId) → taken ≡ kind.wanted tx → StaysNumbered node D taken begun_yet verified (step_of s tx (λ t. commit.decide_row s.node tx t))
-  unfolding commit.decide_row
-  verify_numbered tx wanted = at_place (place_in s tx) refl
-    where
-      at_value : (at : ℕ) → place_in s tx ≡ Some at → (t : Option Transaction) → slice_get (values_of s.live) at ≡ t
-          → StaysNumbered node D taken begun_yet verified (step_value s (λ t. commit.decide_if s.node tx t (is_ready t.phase t.asked)) at t)
-      at_value at at_is None is = nothing_said
-      at_value at at_is (Some t) is = verify_stays tx t at (split_at tx s.live at t at_is is) wanted (is_ready t.phase t.asked) refl
-
-      at_place : (at : Option ℕ) → place_in s tx ≡ at → StaysNumbered node D taken begun_yet verified (step_place s (λ t. commit.decide_if s.node tx t (is_ready t.phase t.asked)) at)
-      at_place None at_is = nothing_said
-      at_place (Some at) at_is = at_value at at_is (slice_get (values_of s.live) at) refl
-
   -- a transaction begins, whose number nobody has
   lower_apart : (v : TxId) → v.seq < s.next_seq → same_tx v (next_tx s) ≡ false
   lower_apart v lt =
       let off : nat_eq v.seq s.next_seq ≡ false = ne_eqb v.seq s.next_seq (λ same. omega (arith, lt, same)) in
       and_right (nat_eq v.tc s.node) (nat_eq v.start s.start && nat_eq v.seq s.next_seq) (and_right (nat_eq v.start s.start) (nat_eq v.seq s.next_seq) off)
 
-  begins_stays : (name : Option ℕ) (b : Bool) → StaysNumbered node D taken begun_yet verified (begin_if s name b)
-  begins_stays name true = record { numbered = n; says = (tt, tt) }
-  begins_stays name false = record {
+  pub begins_stays : (name : Option ℕ) → StaysNumbered node D taken begun_yet verified (begin_if s name false)
+  begins_stays name = record {
     numbered = record {
       own = n.own;
       once = once_inserted s.live (next_tx s) fresh (each_map (IsLive node s.next_seq D verified) (λ (x : TxId × Transaction). same_tx x.0 (next_tx s) ≡ false) s.live (λ x is. lower_apart x.0 is.below) n.live) n.once;
@@ -296,18 +244,6 @@ module _ (node : ℕ) (D : TxId → Type 0) (taken : Kind) (s : TcState) (begun_
     says = (n.own, tt);
   }
 
-  begin_numbered : (name : Option ℕ) → StaysNumbered node D taken begun_yet verified (begin_row s name)
-  unfolding begin_row
-  begin_numbered name = begins_stays name (is_full s)
-
-  pass_stays : (tx ahead : TxId) (b : Bool) → StaysNumbered node D taken begun_yet verified (pass_if s tx ahead b)
-  pass_stays tx ahead true = record { numbered = n; says = (tt, tt) }
-  pass_stays tx ahead false = nothing_said
-
-  pass_numbered : (tx ahead : TxId) → StaysNumbered node D taken begun_yet verified (pass_row s tx ahead)
-  unfolding pass_row
-  pass_numbered tx ahead = pass_stays tx ahead (is_some (place_in s tx))
-
 -- a signal that tells of a decision, or commits a row, tells the truth
 abbrev pub Tells : (TxId → Type 0) → Kind → Type 0
 Tells D (kind.decided tx) = D tx
@@ -316,17 +252,18 @@ Tells D k = Unit {0}
 
 pub tc_numbered : (node : ℕ) (D : TxId → Type 0) (s : TcState) (begun_yet verified : List TxId) (body : Body) → IsNumbered node D s begun_yet verified → Tells D (kind_of body)
     → StaysNumbered node D (kind_of body) begun_yet verified (tc_row s body)
-tc_numbered node D s bs vs (Host (Continue (work.Transaction tx) at)) n tells = step_numbered node D kind.other s bs vs n tx (λ t. go_on_row s.node s.view tx t at) (λ t known. go_on_goes tx (D tx) s.node s.view t at known)
-tc_numbered node D s bs vs (Client (TcBeginReq name)) n tells = begin_numbered node D kind.other s bs vs n name
-tc_numbered node D s bs vs (Client (TcKeyReq tx op)) n tells = step_numbered node D kind.other s bs vs n tx (λ t. operate_row s.view tx t op) (λ t known. operate_goes tx (D tx) s.view t op known)
-tc_numbered node D s bs vs (Client (TcCommitReq tx)) n tells = verify_numbered node D (kind.wanted tx) s bs vs n tx refl
-tc_numbered node D s bs vs (Client (TcRollbackReq tx)) n tells = turn_numbered node D kind.other s bs vs n tx (λ t. rollback_row s.node s.view tx t) (λ t known. rollback_goes tx (D tx) s.node s.view t known)
-tc_numbered node D s bs vs (Client (TcWaitReq tx)) n tells = step_numbered node D kind.other s bs vs n tx (λ t. wait_row tx t) (λ t known. wait_goes tx (D tx) t known)
-tc_numbered node D s bs vs (Client (LqhWaitConf tx ahead)) n tells = pass_numbered node D kind.other s bs vs n tx ahead
-tc_numbered node D s bs vs (Chain (LqhKeyConf tx key answer)) n tells = step_numbered node D kind.other s bs vs n tx (λ t. answer_row s.view tx t key answer) (λ t known. answer_goes tx (D tx) s.view t key answer known)
-tc_numbered node D s bs vs (Chain (LqhKeyRef tx key why)) n tells = turn_numbered node D kind.other s bs vs n tx (λ t. refuse_row s.node s.view tx t key why) (λ t known. refuse_goes tx (D tx) s.node s.view t key why known)
-tc_numbered node D s bs vs (Chain (Committed tx key)) n tells = turn_numbered node D kind.other s bs vs n tx (λ t. commit.committed_row s.node s.view tx t) (λ t known. committed_goes tx (D tx) s.node s.view t known)
-tc_numbered node D s bs vs (Chain (Completed tx key)) n tells = turn_numbered node D kind.other s bs vs n tx (λ t. completed_row s.node tx t) (λ t known. completed_goes tx (D tx) s.node t known)
-tc_numbered node D s bs vs (Chain (Aborted tx key)) n tells = turn_numbered node D kind.other s bs vs n tx (λ t. aborted_row s.node tx t) (λ t known. aborted_goes tx (D tx) s.node t known)
-tc_numbered node D s bs vs (Epoch (DiVerifyConf tx epoch)) n tells = turn_numbered node D (kind.decided tx) s bs vs n tx (λ t. commit.commit_row s.node s.view tx t epoch) (λ t known. commit_goes tx (D tx) s.node s.view t epoch known tells)
-tc_numbered node D s bs vs _ n tells = record { numbered = n; says = tt }
+tc_numbered node D s bs vs body n tells =
+    tc_each Stays (StaysNumbered node D (kind_of body) bs vs) s body (record {
+      turns = λ tx t at split. rows_of s.node s.view tx t body (Stays tx t)
+          (turn_goes tx (D tx) (Stays tx t) s.node s.view t body (λ turn goes at split. turn_stays node D (kind_of body) s bs vs n tx t at split turn goes turn.over)
+          (λ is ready at split. verify_stays node D (kind_of body) s bs vs n tx t at split (ap kind_of is) ready) (own_live node D (kind_of body) s bs vs n tx t at split).decided
+          (λ epoch is. subst (λ b. Tells D (kind_of b)) is tells));
+      turned = λ tx t at split turn stays. stays at split;
+      stays = nothing_said node D (kind_of body) s bs vs n;
+      full = λ name. record { numbered = n; says = (tt, tt) };
+      begins = λ name. begins_stays node D (kind_of body) s bs vs n name;
+      passes = λ tx ahead. record { numbered = n; says = (tt, tt) };
+    })
+  where
+    Stays : TxId → Transaction → Turn → Type 0
+    Stays tx t turn = (at : ℕ) → Split tx t s.live at → StaysNumbered node D (kind_of body) bs vs (turned s at turn)

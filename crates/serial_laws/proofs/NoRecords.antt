@@ -1,5 +1,5 @@
 -- Which events make a record of a transaction, and which end one.
-use Rattle.std.proofs.Common.{◌≡◌, ℕ, Bool, true, false, List, [], ◌∷◌, refl, sym, ap, ◌∙◌, subst}
+use Rattle.std.proofs.Common.{◌≡◌, ℕ, Bool, true, false, List, [], ◌∷◌, refl, sym, ap, ◌∙◌}
 use Rattle.std.specs.Prelude.{if◌then◌else◌, is_some, Option, None, Some}
 use Rattle.run_theory.specs.Lists.{Each}
 use Rattle.sig_core.specs.declared.member.TxId.{TxId}
@@ -20,6 +20,7 @@ use Rattle.lqh_block.specs.Work.{work_mode}
 use Rattle.commit_laws.specs.Firsts.{first}
 use Rattle.commit_laws.specs.Records.{AreOnce, edited, found, put_back, seen_by}
 use Rattle.commit_laws.specs.Replica.{Cell, Event, Replica, aborts, ages, asked_by, asks, commits, completes, expires, is_let_in, key_after, operated, rests, served_by, serves, storing, worked}
+use Rattle.commit_laws.proofs.Waiting.{each-first_item}
 use Rattle.commit_laws.proofs.RecordLemmas.{found-stored}
 use Rattle.row_locks.proofs.TxLemmas.{same_tx-is}
 use Rattle.serial_laws.proofs.RowPrepares.{aborts_none, ages_none, commits_none, completes_none}
@@ -52,19 +53,11 @@ module _ (v : TxId) where
   asked_none r now q refused grant.Granted off none = worked_none r.cell q.tx refused q.work off none
   asked_none r now q refused (grant.Queued ahead) off none = none
 
-  first_each : (P : Request → Type 0) (test : Request → Bool) (xs : List Request) (q : Request) → Each P xs → first test xs ≡ Some q → P q
-  first_each P test [] q all is = absurd cc
-  first_each P test (x ∷ xs) q all is = by (test x) is (first_each P test xs q all.1)
-    where
-      by : (b : Bool) → (if b then Some x else first test xs) ≡ Some q → (first test xs ≡ Some q → P q) → P q
-      by true is more = let one : x ≡ q = cc in subst P one all.0
-      by false is more = more is
-
   served_none : (r : Replica) (refused : Bool) (o : Option Request) → first (is_let_in r.lock) r.waiting ≡ o → Each (λ (q : Request). same_tx q.tx v ≡ false) r.waiting → found v r.cell.pending ≡ None
       → found v (served_by r refused o).cell.pending ≡ None
   served_none r refused None is off none = none
   served_none r refused (Some q) is off none =
-      worked_none r.cell q.tx refused q.work (first_each (λ (q : Request). same_tx q.tx v ≡ false) (is_let_in r.lock) r.waiting q off is) none
+      worked_none r.cell q.tx refused q.work (each-first_item (λ (q : Request). same_tx q.tx v ≡ false) (is_let_in r.lock) r.waiting q off is) none
 
   -- such an event makes no record of this one
   pub none_made : (event : Event) (r : Replica) → IsOfOthers event r.waiting → found v r.cell.pending ≡ None → found v (key_after event r).cell.pending ≡ None

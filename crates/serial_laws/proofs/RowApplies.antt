@@ -1,5 +1,5 @@
 -- What a step of the rows of a node marks as applied: a record that is committed at the first place of its chain.
-use Rattle.std.proofs.Common.{◌≡◌, ◌==◌, ℕ, Bool, true, false, List, refl, sym, ap, ◌∙◌}
+use Rattle.std.proofs.Common.{◌≡◌, ◌==◌, ℕ, Bool, true, false, List, refl, sym, ap, ◌∙◌, subst}
 use Rattle.std.specs.List.{list_any}
 use Rattle.std.specs.Prelude.{if◌then◌else◌, is_some, Option, None, Some}
 use Rattle.sig_core.specs.declared.mark.Mark.{Mark}
@@ -17,11 +17,8 @@ use Rattle.sig_core.specs.Same.{same_key, same_tx}
 use Rattle.row_locks.specs.Rounds.{expired}
 use Rattle.row_locks.proofs.TxLemmas.{same_tx-is}
 use Rattle.lqh_block.proofs.IndexLemmas.{same}
-use Rattle.lqh_block.specs.Abort as abort
 use Rattle.lqh_block.specs.Commit as commit
-use Rattle.lqh_block.specs.Complete as complete
 use Rattle.lqh_block.specs.declared.request.Request.{Request}
-use Rattle.lqh_block.specs.Expire as expire
 use Rattle.lqh_block.specs.Lqh.{lqh_row}
 use Rattle.lqh_block.specs.Operate as operate
 use Rattle.lqh_block.specs.State.{LqhState, storage_of}
@@ -30,7 +27,8 @@ use Rattle.commit_laws.specs.Firsts.{first}
 use Rattle.commit_laws.specs.Records.{found}
 use Rattle.commit_laws.specs.Replica.{Event, aborts, asks, cell_at, commits, completes, event_at, expires, expires_if, if_on, is_refused, rests, serves, serves_if}
 use Rattle.commit_laws.proofs.Keys.{same_key-self, same_tx-self}
-use Rattle.serial_laws.proofs.RowMarks.{alone, alone_so, dump_none, expire_none, granted_none, never, request_none, state_found, wait_none}
+use Rattle.serial_laws.proofs.RowMarks.{alone_so, of_marked, state_found}
+use Rattle.commit_laws.proofs.EachLqh.{lqh_marks_each}
 
 -- what is committed at the first place of its chain is marked as applied, if there is a record
 abbrev pub AppliesIf : Event → List PendingRecord → List Mark → Type 0
@@ -90,48 +88,25 @@ module _ (key : List ℕ) where
   applies s _ = tt
 
 module _ (v : TxId) where
-  had_from : (tx : TxId) (own : List ℕ) (o : Option PendingRecord) → list_any (is_applied v) (commit.applied_marks tx own (state_by o)) ≡ true → (is_some o ≡ true) × (tx ≡ v)
-  had_from tx own None is = absurd cc
-  had_from tx own (Some r) is = (refl, same_tx-is tx v (alone (same_tx tx v) is))
-
-  told_from : (s t : LqhState) (tx : TxId) (own : List ℕ) (epoch : ℕ) (chain : List Member) (at : ℕ) (b : Bool) → (at == 0) ≡ b
-      → list_any (is_applied v) (commit.told_if t tx own epoch chain at (record_state s.rows tx own) b).effects.marks ≡ true → IsAppliedFrom v s (Chain (Commit tx own epoch chain at))
-  told_from s t tx own epoch chain at true first is =
-      let parts = had_from tx own (found tx (cell_at own s.rows).pending) (sym (ap (λ o. list_any (is_applied v) (commit.applied_marks tx own o)) (state_found s.rows tx own)) ∙ is) in
-      record {
-        own = own;
-        event = ap (λ b. if b then commits tx (at == 0) else rests) (same_key-self own) ∙ (λ i. commits (parts.1 i) (first i));
-        there = ap (λ t. is_some (found t (cell_at own s.rows).pending)) (sym parts.1) ∙ parts.0;
-      }
-  told_from s t tx own epoch chain at false first is = absurd cc
-
-  commit_from : (s : LqhState) (tx : TxId) (own : List ℕ) (epoch : ℕ) (chain : List Member) (at : ℕ) → list_any (is_applied v) (commit.commit_row s tx own epoch chain at).effects.marks ≡ true
-      → IsAppliedFrom v s (Chain (Commit tx own epoch chain at))
-  unfolding commit.commit_row
-  commit_from s tx own epoch chain at is = told_from s (commit.applied s tx own epoch (record_state s.rows tx own)) tx own epoch chain at (at == 0) refl is
-
-  complete_none : (s : LqhState) (tx : TxId) (own : List ℕ) (chain : List Member) (at : ℕ) → list_any (is_applied v) (complete.complete_row s tx own chain at).effects.marks ≡ false
-  unfolding complete.complete_row
-  complete_none s tx own chain at = refl
-
-  given_none : (tx : TxId) (own : List ℕ) (had : Option Bool) → list_any (is_applied v) (abort.given_up_marks tx own had) ≡ false
-  given_none tx own None = refl
-  given_none tx own (Some false) = refl
-  given_none tx own (Some true) = refl
-
-  abort_none : (s : LqhState) (tx : TxId) (own : List ℕ) → list_any (is_applied v) (abort.abort_row s tx own).effects.marks ≡ false
-  unfolding abort.abort_row
-  abort_none s tx own = given_none tx own _
+  was_there : (o : Option PendingRecord) (committed : Bool) → state_by o ≡ Some committed → is_some o ≡ true
+  was_there None committed is = absurd cc
+  was_there (Some r) committed is = refl
 
   pub applied_from : (s : LqhState) (body : Body) → list_any (is_applied v) (lqh_row s body).effects.marks ≡ true → IsAppliedFrom v s body
-  applied_from s (Chain (LqhKeyReq tx what chain at)) is = never (request_none (is_applied v) (λ tx key. refl) (λ tx key. refl) s (record { tx = tx; work = what; chain = chain; at = at })) is
-  applied_from s (Host (Continue work.Granted at)) is = never (granted_none (is_applied v) (λ tx key. refl) (λ tx key. refl) s) is
-  applied_from s (Chain (Commit tx own epoch chain at)) is = commit_from s tx own epoch chain at is
-  applied_from s (Chain (Complete tx own chain at)) is = never (complete_none s tx own chain at) is
-  applied_from s (Chain (Abort tx own)) is = never (abort_none s tx own) is
-  applied_from s (Client (TcCommitAck tx)) is = absurd cc
-  applied_from s (Client (LqhWaitReq tx own)) is = never (wait_none (is_applied v) (λ tx key. refl) (λ tx key. refl) s tx own) is
-  applied_from s (Client (DumpReq at)) is = never (dump_none (is_applied v) (λ tx key. refl) (λ tx key. refl) s at) is
-  applied_from s (Host Round) is = never (expire_none (is_applied v) (λ tx key. refl) (λ tx key. refl) (expire.aged s)) is
-  applied_from s (Host (Continue work.Expired at)) is = never (expire_none (is_applied v) (λ tx key. refl) (λ tx key. refl) s) is
-  applied_from s _ is = absurd cc
+  applied_from s body is =
+      of_marked (is_applied v) (lqh_row s body).effects.marks is
+      (lqh_marks_each (λ m. is_applied v m ≡ true → IsAppliedFrom v s body) s body (record {
+        prepared = λ tx own e. absurd cc;
+        applied = λ tx own epoch chain at committed taken first there e. subst (IsAppliedFrom v s) (sym taken) (applied tx own epoch chain at committed first (sym (state_found s.rows tx own) ∙ there) e);
+        completed = λ tx own chain at taken e. absurd cc;
+        given_up = λ tx own taken there e. absurd cc;
+        expired = λ tx own e. absurd cc;
+      }))
+    where
+      applied : (tx : TxId) (own : List ℕ) (epoch : ℕ) (chain : List Member) (at : ℕ) (committed : Bool) → (at == 0) ≡ true
+          → state_by (found tx (cell_at own s.rows).pending) ≡ Some committed → same_tx tx v ≡ true → IsAppliedFrom v s (Chain (Commit tx own epoch chain at))
+      applied tx own epoch chain at committed first there e = record {
+        own = own;
+        event = ap (λ b. if b then commits tx (at == 0) else rests) (same_key-self own) ∙ (λ i. commits (same_tx-is tx v e i) (first i));
+        there = ap (λ t. is_some (found t (cell_at own s.rows).pending)) (sym (same_tx-is tx v e)) ∙ was_there (found tx (cell_at own s.rows).pending) committed there;
+      }

@@ -33,7 +33,8 @@ use Rattle.tc_block.specs.Sends.{abort_of, entering, front_sends, key_sends, pha
 use Rattle.tc_block.specs.Turn.{Turn, asking, at_phase, going}
 use Rattle.commit_laws.proofs.EachSent.{each_flat, each_mapped}
 use Rattle.commit_laws.proofs.TcWays.{not_both}
-use Rattle.answer_laws.proofs.TcSends.{same_tx-self, tx_in}
+use Rattle.commit_laws.proofs.Keys.{same_tx-self}
+use Rattle.answer_laws.proofs.TcSends.{tx_in}
 use Rattle.transit_laws.proofs.Ahead.{wait_silent}
 use Rattle.transit_laws.proofs.TcOwn.{turn_for}
 use Rattle.transit_laws.proofs.TxTurns.{AreSilent}

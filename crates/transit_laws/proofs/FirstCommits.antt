@@ -33,13 +33,14 @@ use Rattle.commit_laws.specs.ReplicaLaws.{event_in, key_in}
 use Rattle.commit_laws.specs.Ways.{tc_sends}
 use Rattle.commit_laws.proofs.Replicas.{logs_follow}
 use Rattle.commit_laws.proofs.TcWays.{not_both}
+use Rattle.commit_laws.proofs.Keys.{same_tx-self}
 use Rattle.answer_laws.proofs.Commits.{node_is}
 use Rattle.answer_laws.proofs.Hosts.{shell_after}
-use Rattle.answer_laws.proofs.Ops.{same_node}
+use Rattle.answer_laws.proofs.Hosts.{same_node}
 use Rattle.answer_laws.proofs.Tally.{one_if}
 use Rattle.answer_laws.proofs.TcLives.{IsOwn}
 use Rattle.answer_laws.proofs.TcOwes.{IsKnown}
-use Rattle.answer_laws.proofs.TcSends.{same_tx-self, tx_in}
+use Rattle.answer_laws.proofs.TcSends.{tx_in}
 use Rattle.transit_laws.specs.Circle.{IsSettled, at_host}
 use Rattle.transit_laws.specs.Completions.{IsCommittedAtAll}
 use Rattle.transit_laws.specs.GivenUp.{is_carried_out, is_given_up}

@@ -26,10 +26,9 @@ use Rattle.node_core.specs.Row.{node_row, row}
 use Rattle.world_core.specs.History.{is_done}
 use Rattle.world_core.specs.Machine.{after}
 use Rattle.world_core.specs.Start.{Start, started}
+use Rattle.commit_laws.proofs.LiveKeeps.{TurnsKeep, live_keeps}
 use Rattle.transit_laws.specs.Keyed.{HasTouched, HasTouchedAsked, IsHostKeyed, IsTouchedRightly, TransactionsAreKeyed}
 use Rattle.transit_laws.specs.Transit.{logs_of}
-use Rattle.transit_laws.proofs.EachLive.{live_keeps}
-use Rattle.transit_laws.proofs.EachTurn.{TurnsKeep, rows_keep}
 use Rattle.transit_laws.proofs.TouchedLists.{touch_apart, touch_more, touch_own, touch_written, undone_written, write_apart, write_touched, write_written}
 
 -- of what is sent nothing is said
@@ -74,10 +73,8 @@ answered_keyed t asked answer.E630 on fine = undone_keyed t asked answer.E630 re
 
 turns_keyed : (view : View) → TurnsKeep (λ t. IsTouchedRightly t) AnySend view
 turns_keyed view = record {
-  begun = record { apart = tt; answered = tt; asked = tt; written = tt };
   phase = λ t phase fine. record { apart = fine.apart; answered = fine.answered; asked = fine.asked; written = fine.written };
   unasked = λ t fine. record { apart = fine.apart; answered = fine.answered; asked = tt; written = fine.written };
-  operated = λ tx t op fine. record { state = operated_keyed t op view tx fine; sends = (tt, tt) };
   answered = λ t asked a is fine. answered_keyed t asked a (subst (HasTouchedAsked t.touched) is fine.asked) fine;
   sends = λ tx t phase fine. any_sends _;
   aborts = λ tx key. any_sends _;
@@ -88,7 +85,8 @@ turns_keyed view = record {
 node_keyed : (n : node.Node) (at : BlockId) (body : Body) → IsHostKeyed (Node n) → IsHostKeyed (Node (node_row n at body).state)
 unfolding node_row
 node_keyed n block.Tc body all =
-    (live_keeps (λ t. IsTouchedRightly t) AnySend n.tc body (rows_keep (λ t. IsTouchedRightly t) AnySend n.tc.view (turns_keyed n.tc.view) n.tc.node) all).live
+    (live_keeps (λ t. IsTouchedRightly t) AnySend n.tc body (record { apart = tt; answered = tt; asked = tt; written = tt }) (turns_keyed n.tc.view)
+    (λ tx t op fine. record { state = operated_keyed t op n.tc.view tx fine; sends = (tt, tt) }) all).live
 node_keyed n block.Dih body all = all
 node_keyed n block.Lqh body all = all
 node_keyed n _ body all = all

@@ -11,8 +11,6 @@ pub mod CommitBegins
 pub mod Completions
 pub mod Decided
 pub mod DecidedSettled
-pub mod EachLive
-pub mod EachTurn
 pub mod FirstCommits
 pub mod GivenUp
 pub mod HostAfter
@@ -41,7 +39,6 @@ pub mod OthersStay
 pub mod Owing
 pub mod PartSends
 pub mod Performing
-pub mod QueueWaits
 pub mod RecordsFade
 pub mod RoutedEvents
 pub mod Routes

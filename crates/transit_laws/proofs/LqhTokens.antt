@@ -47,7 +47,7 @@ use Rattle.answer_laws.proofs.Focus.{IsFocus, found, none_placed}
 use Rattle.answer_laws.proofs.Tally.{one_if, tally, tally_append, tally_between}
 use Rattle.transit_laws.specs.Tokens.{is_token}
 use Rattle.transit_laws.proofs.LqhWaits.{WaitersAsk, aged_asks}
-use Rattle.transit_laws.proofs.QueueWaits.{expired_at}
+use Rattle.answer_laws.proofs.QueueWaits.{expired_queued}
 
 -- how many of these signals ask for a part of an operation of the transaction, or answer one
 abbrev pub tokens_out : TxId → List Outgoing → ℕ
@@ -196,7 +196,7 @@ module _ (tx : TxId) where
 
           there : (o : Option ℕ) → abort.waits_at now other key ≡ o → is_some o ≡ true
           there (Some at) e = refl
-          there None e = absurd (omega (arith, all.asks key other (expired_at s.locks other key is), none_placed (is_for other key) s.waiting e))
+          there None e = absurd (omega (arith, all.asks key other (expired_queued s.locks other key is), none_placed (is_for other key) s.waiting e))
 
       go : (w : Option (TxId × List ℕ)) → expired s.locks ≡ w → Adds s 0 (expire.expire_by s w).state (expire.expire_by s w).effects.sends
       go None is = omega arith

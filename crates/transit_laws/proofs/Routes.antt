@@ -1,19 +1,16 @@
 -- What is sent along chains goes to the places that it is for, along every run.
-use Rattle.std.proofs.Common.{◌≡◌, ◌<◌, ℕ, Bool, true, false, zero, suc, true, false, List, ◌∷◌, length, refl, sym, ◌∙◌, subst, arith}
+use Rattle.std.proofs.Common.{◌≡◌, ◌<◌, ℕ, Bool, true, false, zero, suc, true, false, List, ◌∷◌, length, refl, ◌∙◌, arith}
 use Rattle.run_theory.specs.Lists.{Each}
 use Rattle.run_theory.proofs.Pasts.{each_map}
 use Rattle.sig_core.specs.declared.log.LogStep.{LogStep}
-use Rattle.sig_core.specs.declared.outs.Outgoing.{Outgoing}
 use Rattle.sig_core.specs.declared.place.BlockId.{BlockId}
 use Rattle.sig_core.specs.declared.place.BlockId.TheVariants as block
 use Rattle.sig_core.specs.declared.place.Place.{Place}
 use Rattle.sig_core.specs.declared.signal.Body.{Body}
 use Rattle.sig_core.specs.declared.signal.Body.TheVariants.{Chain}
 use Rattle.sig_core.specs.declared.signal.Signal.{Signal}
-use Rattle.sig_core.specs.declared.view.View.{View}
 use Rattle.sig_core.specs.Step.{Step}
 use Rattle.api_block.specs.Api.{api_row}
-use Rattle.api_block.specs.declared.opened.OpenTransaction.{OpenTransaction}
 use Rattle.api_block.specs.State.{ApiState}
 use Rattle.node_core.specs.declared.host.Host as host
 use Rattle.node_core.specs.declared.host.Host.TheVariants.{Shell, Node}
@@ -24,14 +21,15 @@ use Rattle.node_core.specs.Requests.{is_request}
 use Rattle.node_core.specs.Row.{node_row, row, shell_row}
 use Rattle.world_core.specs.Machine.{after, signals_of}
 use Rattle.world_core.specs.Start.{Start, started}
-use Rattle.answer_laws.proofs.ApiMoves.{ApiMove, api_moves, begun_as, ends, goes, is_api_kind, opens, refuses, rests}
+use Rattle.answer_laws.proofs.ApiMoves.{is_api_kind}
 use Rattle.answer_laws.proofs.DihSends.{dih_kinds}
-use Rattle.answer_laws.proofs.SendKinds.{are_of, each_of, is_dih_kind}
+use Rattle.answer_laws.proofs.SendKinds.{each_of, is_dih_kind}
 use Rattle.transit_laws.specs.Routes.{IsForBlock, IsHostRouted, IsOnWay, IsRouted, SignalsAreForBlocks, SignalsAreRouted, replicas}
 use Rattle.transit_laws.specs.Transit.{AreInTransit, Comes, IsRun, Takes, host_after, joined, logs_of}
-use Rattle.transit_laws.proofs.EachTurn.{is_chain}
+use Rattle.commit_laws.proofs.LiveKeeps.{is_chain}
 use Rattle.transit_laws.proofs.HostAfter.{each_host}
 use Rattle.transit_laws.proofs.RoutesChain.{replicas_length}
+use Rattle.transit_laws.proofs.WaysPassed.{api_each}
 use Rattle.transit_laws.proofs.RoutesLqh.{lqh_routed}
 use Rattle.transit_laws.proofs.RoutesSends.{AreSent, IsSent, plain_sent}
 use Rattle.transit_laws.proofs.RoutesTc.{tc_routed}
@@ -51,19 +49,8 @@ module _ (start : Start) where
   request_plain (Chain c) e = cc
   request_plain _ e = refl
 
-  api_kinds_sent : (sends : List Outgoing) → are_of is_api_kind sends ≡ true → AreSent start sends
-  api_kinds_sent sends e = each_of is_api_kind (λ o. IsSent start o) (λ o is. plain_sent start o.to o.body (api_plain o.body is)) sends e
-
-  move_sent : (s : ApiState) (body : Body) (then_is : View × List OpenTransaction) (sends : List Outgoing) → ApiMove s body then_is sends → AreSent start sends
-  move_sent s body then_is sends (rests is kind void) = api_kinds_sent sends kind
-  move_sent s body then_is sends (opens name at op new request is told) = subst (AreSent start) (sym told) (record { routed = tt; block = tt }, tt)
-  move_sent s body then_is sends (begun_as name tx front t u back about passes begun was is kind) = api_kinds_sent sends kind
-  move_sent s body then_is sends (goes front t u back go void was is kind) = api_kinds_sent sends kind
-  move_sent s body then_is sends (ends tx front t back about passes was is kind) = api_kinds_sent sends kind
-  move_sent s body then_is sends (refuses name front t back about passes was is kind) = api_kinds_sent sends kind
-
   api_sent : (s : ApiState) (body : Body) → AreSent start (api_row s body).effects.sends
-  api_sent s body = move_sent s body _ _ (api_moves s body)
+  api_sent s body = api_each (λ o. IsSent start o) (λ o is. plain_sent start o.to o.body (api_plain o.body is)) (λ name node. record { routed = tt; block = tt }) s body
 
   dih_sent : (s : DihState) (body : Body) → AreSent start (dih_row s body).effects.sends
   dih_sent s body = each_of is_dih_kind (λ o. IsSent start o) (λ o is. plain_sent start o.to o.body (dih_plain o.body is)) (dih_row s body).effects.sends (dih_kinds s body)

@@ -21,7 +21,7 @@ use Rattle.tc_block.specs.Sends.{abort_of, aborts_of, commit_of, complete_if, co
 use Rattle.world_core.specs.Start.{Start}
 use Rattle.commit_laws.proofs.EachSent.{each_mapped}
 use Rattle.transit_laws.specs.Routes.{IsForBlock, IsOnWay, IsRouted, IsTouchedRouted, replicas}
-use Rattle.transit_laws.proofs.EachTurn.{is_chain}
+use Rattle.commit_laws.proofs.LiveKeeps.{is_chain}
 use Rattle.transit_laws.proofs.RoutesChain.{last_inside, primary_length}
 
 -- a signal is routed, and for its block

@@ -1,35 +1,30 @@
 -- Who comes to be aborted is given up in the same turn.
 use Rattle.std.proofs.Common.{◌≡◌, ◌⊎◌, ℕ, zero, suc, ◌+◌, ◌≤◌, List, [], ◌∷◌, ◌++◌, take, length, Bool, true, false, refl, ap, sym, ◌∙◌, subst, arith, inl, inr}
-use Rattle.std.specs.Prelude.{◌==◌, is_some, nat_lt, Option, None, Some}
+use Rattle.std.specs.Prelude.{◌==◌, is_some, Option, None, Some}
 use Rattle.std.specs.List.{flat_map}
 use Rattle.std.proofs.lemmas.Bool.{or_left}
 use Rattle.std.proofs.lemmas.Bool.Decides.{nat_tests}
 use Rattle.sig_core.specs.declared.member.Member.{Member}
 use Rattle.sig_core.specs.declared.member.TxId.{TxId}
-use Rattle.sig_core.specs.declared.op.Answer.{Answer}
-use Rattle.sig_core.specs.declared.op.Op.{Op}
 use Rattle.sig_core.specs.declared.outcome.AbortCause.{AbortCause}
-use Rattle.sig_core.specs.declared.outcome.AbortCause.TheVariants as cause
 use Rattle.sig_core.specs.declared.outs.Outgoing.{Outgoing}
+use Rattle.sig_core.specs.declared.signal.Body.{Body}
 use Rattle.sig_core.specs.declared.view.View.{View}
 use Rattle.sig_core.specs.Op.{key_of}
 use Rattle.sig_core.specs.Same.{same_tx}
 use Rattle.tc_block.specs.declared.phase.Asked.{Asked}
-use Rattle.tc_block.specs.declared.phase.Phase.{Phase}
-use Rattle.tc_block.specs.declared.phase.Phase.TheVariants.{Open, Verifying, Committing, Completing, Aborting}
+use Rattle.tc_block.specs.declared.phase.Phase.TheVariants.{Aborting}
 use Rattle.tc_block.specs.declared.touched.Touched.{Touched}
 use Rattle.tc_block.specs.declared.transaction.Transaction.{Transaction}
 use Rattle.tc_block.specs.Abort as abort
 use Rattle.tc_block.specs.Chain.{chain_of}
-use Rattle.tc_block.specs.Commit as commit
-use Rattle.tc_block.specs.Complete as complete
-use Rattle.tc_block.specs.Operate as operate
 use Rattle.tc_block.specs.Part.{part_effects}
-use Rattle.tc_block.specs.Sends.{aborts_of, entering, front_sends, go_on_if, go_on_row, key_sends, phase_sends}
+use Rattle.tc_block.specs.Sends.{aborts_of, entering, front_sends, key_sends, phase_sends}
 use Rattle.tc_block.specs.Touched.{place_of, touch, touched_by}
-use Rattle.tc_block.specs.Turn.{Turn, asking, going}
+use Rattle.tc_block.specs.Turn.{Turn, asking}
 use Rattle.commit_laws.specs.Ways.{is_aborting}
 use Rattle.commit_laws.proofs.Keys.{same_tx-self}
+use Rattle.commit_laws.proofs.EachTurn.{AbortForms, CommittedForms, TurnForms}
 use Rattle.commit_laws.proofs.OneWay.{back_more}
 use Rattle.transit_laws.proofs.TcTurns.{gives_up}
 
@@ -86,155 +81,42 @@ enters_told tx node view t why verifying awaited has waits = by t.touched t.aske
         subst (λ us. gives_up tx (part_effects node tx (phase_sends view tx (Aborting why verifying awaited) us) 0).sends ≡ true) (sym p)
         (told_first tx u.key view.full (flat_map (key_sends view tx (Aborting why verifying awaited)) touched) _ (some t.touched t.asked waits))
 
-module _ (tx : TxId) (t : Transaction) (has : HasTouched t) where
+module _ (node : ℕ) (view : View) (tx : TxId) (t : Transaction) (has : HasTouched t) where
   -- a turn that leaves the phase, or comes to one in which it isn't aborted
   goes_on : (turn : Turn) → HasTouched turn.step.state → (is_aborting turn.step.state.phase ≡ true → is_aborting t.phase ≡ true) → TurnAborts tx t turn
   goes_on turn touched stays = record { touched = touched; aborts = λ is. inl (stays is) }
 
-  pub go_on_aborts : (node : ℕ) (view : View) (at : ℕ) → TurnAborts tx t (going (go_on_row node view tx t at))
-  unfolding go_on_row
-  go_on_aborts node view at = by (nat_lt at 512)
-    where
-      by : (b : Bool) → TurnAborts tx t (going (go_on_if node view tx t at b))
-      by true = goes_on (going (go_on_if node view tx t at true)) has (λ is. is)
-      by false = goes_on (going (go_on_if node view tx t at false)) has (λ is. is)
+  committed_aborts : (epoch : ℕ) → CommittedForms node view tx t epoch (λ turn. TurnAborts tx t turn)
+  unfolding entering
+  committed_aborts epoch = record { enters = λ some. goes_on _ has (λ is. absurd cc); ends = λ none. goes_on _ has (λ is. is) }
 
-  pub operate_aborts : (view : View) (op : Op) → TurnAborts tx t (going (operate.operate_row view tx t op))
-  unfolding operate.operate_row
-  operate_aborts view op = by (operate.can_operate t op)
-    where
-      by : (b : Bool) → TurnAborts tx t (going (operate.operate_if view tx t op b))
-      by true = goes_on (going (operate.operate_if view tx t op true)) (λ is. touch_some t.touched (key_of op) (chain_of view (key_of op))) (λ is. is)
-      by false = goes_on (going (operate.operate_if view tx t op false)) has (λ is. is)
+  -- an abort of one that isn't aborted
+  begins_abort : (u : Transaction) → HasTouched u → is_aborting u.phase ≡ false → AbortForms node view tx u (λ turn. TurnAborts tx t turn)
+  unfolding entering
+  begins_abort u touched off = record {
+    enters = λ why some. record { touched = touched; aborts = λ is. inr (enters_told tx node view u why (abort.is_verifying u.phase) (abort.aborts_awaited view u) touched some) };
+    ends = λ why none. record { touched = touched; aborts = λ is. absurd (let both : true ≡ false = sym is ∙ off in cc) };
+  }
 
-  none_asked : (touched : List Touched) → false ≡ true → 1 ≤ length touched
-  none_asked touched is = absurd cc
-
-  pub answer_aborts : (view : View) (key : List ℕ) (answer : Answer) → TurnAborts tx t (going (operate.answer_row view tx t key answer))
-  unfolding operate.answer_row
-  answer_aborts view key answer = by (operate.asked_on t.asked key) t.phase
-    where
-      by : (o : Option Asked) (phase : Phase) → TurnAborts tx t (going (operate.answer_by view tx t key answer o phase))
-      by (Some a) Open = goes_on (going (operate.answer_by view tx t key answer (Some a) Open)) (none_asked _) (λ is. is)
-      by (Some a) (Aborting why verifying awaited) = goes_on (going (operate.answer_by view tx t key answer (Some a) (Aborting why verifying awaited))) (none_asked _) (λ is. is)
-      by (Some a) Verifying = goes_on (going (operate.answer_by view tx t key answer (Some a) Verifying)) has (λ is. is)
-      by (Some a) (Committing epoch awaited) = goes_on (going (operate.answer_by view tx t key answer (Some a) (Committing epoch awaited))) has (λ is. is)
-      by (Some a) (Completing epoch awaited) = goes_on (going (operate.answer_by view tx t key answer (Some a) (Completing epoch awaited))) has (λ is. is)
-      by None phase = goes_on (going (operate.answer_by view tx t key answer None phase)) has (λ is. is)
-
-  pub wait_aborts : TurnAborts tx t (going (operate.wait_row tx t))
-  unfolding operate.wait_row
-  wait_aborts = by t.asked
-    where
-      by : (o : Option Asked) → TurnAborts tx t (going (operate.wait_by tx t o))
-      by None = goes_on (going (operate.wait_by tx t None)) has (λ is. is)
-      by (Some a) = goes_on (going (operate.wait_by tx t (Some a))) has (λ is. is)
-
-  pub decide_aborts : (node : ℕ) → TurnAborts tx t (going (commit.decide_row node tx t))
-  unfolding commit.decide_row
-  decide_aborts node = by (operate.is_ready t.phase t.asked)
-    where
-      by : (b : Bool) → TurnAborts tx t (going (commit.decide_if node tx t b))
-      by true = goes_on (going (commit.decide_if node tx t true)) has (λ is. absurd cc)
-      by false = goes_on (going (commit.decide_if node tx t false)) has (λ is. is)
-
-  all_committed_aborts : (node : ℕ) (view : View) (epoch : ℕ) → TurnAborts tx t (complete.all_committed node view tx t epoch)
-  unfolding complete.all_committed entering
-  all_committed_aborts node view epoch = by (complete.written_count t.touched == 0)
-    where
-      by : (b : Bool) → TurnAborts tx t (complete.all_committed_if node view tx t epoch b)
-      by true = goes_on (complete.all_committed_if node view tx t epoch true) has (λ is. is)
-      by false = goes_on (complete.all_committed_if node view tx t epoch false) has (λ is. absurd cc)
-
-  pub commit_aborts : (node : ℕ) (view : View) (epoch : ℕ) → TurnAborts tx t (commit.commit_row node view tx t epoch)
-  unfolding commit.commit_row entering
-  commit_aborts node view epoch = by t.phase
-    where
-      which : (b : Bool) → TurnAborts tx t (commit.commit_if node view tx t epoch b)
-      which true = all_committed_aborts node view epoch
-      which false = goes_on (commit.commit_if node view tx t epoch false) has (λ is. absurd cc)
-
-      by : (phase : Phase) → TurnAborts tx t (commit.commit_by node view tx t epoch phase)
-      by Verifying = which (length t.touched == 0)
-      by Open = goes_on (commit.commit_by node view tx t epoch Open) has (λ is. is)
-      by (Committing other awaited) = goes_on (commit.commit_by node view tx t epoch (Committing other awaited)) has (λ is. is)
-      by (Completing other awaited) = goes_on (commit.commit_by node view tx t epoch (Completing other awaited)) has (λ is. is)
-      by (Aborting why verifying awaited) = goes_on (commit.commit_by node view tx t epoch (Aborting why verifying awaited)) has (λ is. is)
-
-  pub committed_aborts : (node : ℕ) (view : View) → TurnAborts tx t (commit.committed_row node view tx t)
-  unfolding commit.committed_row
-  committed_aborts node view = by t.phase
-    where
-      which : (epoch awaited : ℕ) (b : Bool) → TurnAborts tx t (commit.committed_if node view tx t epoch awaited b)
-      which epoch awaited true = goes_on (commit.committed_if node view tx t epoch awaited true) has (λ is. absurd cc)
-      which epoch awaited false = all_committed_aborts node view epoch
-
-      by : (phase : Phase) → TurnAborts tx t (commit.committed_by node view tx t phase)
-      by (Committing epoch awaited) = which epoch awaited (nat_lt 1 awaited)
-      by Open = goes_on (commit.committed_by node view tx t Open) has (λ is. is)
-      by Verifying = goes_on (commit.committed_by node view tx t Verifying) has (λ is. is)
-      by (Completing other awaited) = goes_on (commit.committed_by node view tx t (Completing other awaited)) has (λ is. is)
-      by (Aborting why verifying awaited) = goes_on (commit.committed_by node view tx t (Aborting why verifying awaited)) has (λ is. is)
-
-  pub completed_aborts : (node : ℕ) → TurnAborts tx t (complete.completed_row node tx t)
-  unfolding complete.completed_row
-  completed_aborts node = by t.phase
-    where
-      which : (epoch awaited : ℕ) (b : Bool) → TurnAborts tx t (complete.completed_if node tx t epoch awaited b)
-      which epoch awaited true = goes_on (complete.completed_if node tx t epoch awaited true) has (λ is. absurd cc)
-      which epoch awaited false = goes_on (complete.completed_if node tx t epoch awaited false) has (λ is. is)
-
-      by : (phase : Phase) → TurnAborts tx t (complete.completed_by node tx t phase)
-      by (Completing epoch awaited) = which epoch awaited (nat_lt 1 awaited)
-      by Open = goes_on (complete.completed_by node tx t Open) has (λ is. is)
-      by Verifying = goes_on (complete.completed_by node tx t Verifying) has (λ is. is)
-      by (Committing other awaited) = goes_on (complete.completed_by node tx t (Committing other awaited)) has (λ is. is)
-      by (Aborting why verifying awaited) = goes_on (complete.completed_by node tx t (Aborting why verifying awaited)) has (λ is. is)
-
-  pub aborted_aborts : (node : ℕ) → TurnAborts tx t (abort.aborted_row node tx t)
-  unfolding abort.aborted_row
-  aborted_aborts node = by t.phase refl
-    where
-      which : (why : AbortCause) (verifying : Bool) (awaited : ℕ) → t.phase ≡ Aborting why verifying awaited → (b : Bool) → TurnAborts tx t (abort.aborted_if node tx t why verifying awaited b)
-      which why verifying awaited p true = goes_on (abort.aborted_if node tx t why verifying awaited true) has (λ is. ap is_aborting p)
-      which why verifying awaited p false = goes_on (abort.aborted_if node tx t why verifying awaited false) has (λ is. is)
-
-      by : (phase : Phase) → t.phase ≡ phase → TurnAborts tx t (abort.aborted_by node tx t phase)
-      by (Aborting why verifying awaited) p = which why verifying awaited p (nat_lt 1 awaited)
-      by Open p = goes_on (abort.aborted_by node tx t Open) has (λ is. is)
-      by Verifying p = goes_on (abort.aborted_by node tx t Verifying) has (λ is. is)
-      by (Committing epoch awaited) p = goes_on (abort.aborted_by node tx t (Committing epoch awaited)) has (λ is. is)
-      by (Completing epoch awaited) p = goes_on (abort.aborted_by node tx t (Completing epoch awaited)) has (λ is. is)
-
--- an abort of one that isn't aborted
-begins_abort : (tx : TxId) (t u : Transaction) → HasTouched u → is_aborting u.phase ≡ false → (node : ℕ) (view : View) (why : AbortCause) → TurnAborts tx t (abort.aborted_for node view tx u why)
-unfolding abort.aborted_for entering
-begins_abort tx t u has off node view why = by (abort.aborts_awaited view u == 0) refl
-  where
-    by : (b : Bool) → (abort.aborts_awaited view u == 0) ≡ b → TurnAborts tx t (abort.abort_if node view tx u why b)
-    by true e = record { touched = has; aborts = λ is. absurd (let both : true ≡ false = sym is ∙ off in cc) }
-    by false e = record { touched = has; aborts = λ is. inr (enters_told tx node view u why (abort.is_verifying u.phase) (abort.aborts_awaited view u) has e) }
-
-module _ (tx : TxId) (t : Transaction) (has : HasTouched t) where
-  pub rollback_aborts : (node : ℕ) (view : View) → TurnAborts tx t (abort.rollback_row node view tx t)
-  unfolding abort.rollback_row
-  rollback_aborts node view = by t.phase refl
-    where
-      by : (phase : Phase) → t.phase ≡ phase → TurnAborts tx t (abort.rollback_by node view tx t phase)
-      by Open p = begins_abort tx t t has (ap is_aborting p) node view cause.Request
-      by Verifying p = begins_abort tx t t has (ap is_aborting p) node view cause.Request
-      by (Committing epoch awaited) p = goes_on tx t has (abort.rollback_by node view tx t (Committing epoch awaited)) has (λ is. is)
-      by (Completing epoch awaited) p = goes_on tx t has (abort.rollback_by node view tx t (Completing epoch awaited)) has (λ is. is)
-      by (Aborting why verifying awaited) p = goes_on tx t has (abort.rollback_by node view tx t (Aborting why verifying awaited)) has (λ is. is)
-
-  pub refuse_aborts : (node : ℕ) (view : View) (key : List ℕ) (why : AbortCause) → TurnAborts tx t (abort.refuse_row node view tx t key why)
-  unfolding abort.refuse_row
-  refuse_aborts node view key why = by (operate.asked_on t.asked key) t.phase refl
-    where
-      by : (o : Option Asked) (phase : Phase) → t.phase ≡ phase → TurnAborts tx t (abort.refuse_by node view tx t key why o phase)
-      by (Some a) Open p = begins_abort tx t (asking t None) (none_asked tx t has _) (ap is_aborting p) node view why
-      by (Some a) (Aborting other verifying awaited) p = goes_on tx t has (abort.refuse_by node view tx t key why (Some a) (Aborting other verifying awaited)) (none_asked tx t has _) (λ is. is)
-      by (Some a) Verifying p = goes_on tx t has (abort.refuse_by node view tx t key why (Some a) Verifying) has (λ is. is)
-      by (Some a) (Committing epoch awaited) p = goes_on tx t has (abort.refuse_by node view tx t key why (Some a) (Committing epoch awaited)) has (λ is. is)
-      by (Some a) (Completing epoch awaited) p = goes_on tx t has (abort.refuse_by node view tx t key why (Some a) (Completing epoch awaited)) has (λ is. is)
-      by None phase p = goes_on tx t has (abort.refuse_by node view tx t key why None phase) has (λ is. is)
+  -- whatever turn it takes
+  pub turn_aborts : (body : Body) → TurnForms node view tx t body (λ turn. TurnAborts tx t turn)
+  unfolding entering
+  turn_aborts body = record {
+    stays = goes_on _ has (λ is. is);
+    goes_on = λ at. goes_on _ has (λ is. is);
+    operates = λ op is can. goes_on _ (λ is. touch_some t.touched (key_of op) (chain_of view (key_of op))) (λ is. is);
+    answers = λ key answer asked is on at. goes_on _ (λ is. absurd cc) (λ is. is);
+    late = λ key asked why verifying awaited on at. goes_on _ (λ is. absurd cc) (λ is. is);
+    waits = λ asked on. goes_on _ has (λ is. is);
+    decides = λ is ready. goes_on _ has (λ is. absurd cc);
+    commits = λ epoch is at some. goes_on _ has (λ is. absurd cc);
+    commits_none = λ epoch is at. committed_aborts epoch;
+    committed = λ epoch awaited at more. goes_on _ has (λ is. absurd cc);
+    committed_all = λ epoch awaited at. committed_aborts epoch;
+    completed = λ epoch awaited at more. goes_on _ has (λ is. absurd cc);
+    completed_all = λ epoch awaited at last. goes_on _ has (λ is. is);
+    rolls_back = λ undecided unaborted. begins_abort t has unaborted;
+    refuses = λ asked on at. begins_abort (asking t None) (λ is. absurd cc) (ap is_aborting at);
+    aborted = λ why verifying awaited at more. goes_on _ has (λ is. ap is_aborting at);
+    aborted_all = λ why verifying awaited at last. goes_on _ has (λ is. is);
+  }

@@ -23,7 +23,7 @@ use Rattle.tc_block.specs.declared.transaction.Transaction.{Transaction}
 use Rattle.tc_block.specs.Abort.{aborted_row, refuse_row, rollback_row}
 use Rattle.tc_block.specs.Commit.{commit_row, committed_row, decide_row}
 use Rattle.tc_block.specs.Complete.{completed_row}
-use Rattle.tc_block.specs.Live.{place_in, step_of, step_place, step_value, turn_of, turn_place, turn_value, turned_if, without}
+use Rattle.tc_block.specs.Live.{place_in, step_of, turn_of, turn_place, turn_value, turned_if, without}
 use Rattle.tc_block.specs.Operate.{answer_row, fresh, operate_row, wait_row}
 use Rattle.tc_block.specs.Sends.{go_on_row}
 use Rattle.tc_block.specs.State.{TcState}
@@ -31,7 +31,7 @@ use Rattle.tc_block.specs.Tc.{begin_if, begin_row, is_full, next_tx, pass_if, pa
 use Rattle.tc_block.specs.Turn.{Turn, going}
 use Rattle.answer_laws.proofs.Tally.{one_if, tally, tally_append, tally_between}
 use Rattle.answer_laws.proofs.TcLives.{IsOwn, insert_new, is_keyed}
-use Rattle.answer_laws.proofs.TcMoves.{IsEntry, found, same_tx-is}
+use Rattle.answer_laws.proofs.TcMoves.{IsEntry, found, same_tx-is, step_is}
 use Rattle.transit_laws.specs.Live.{of_live}
 use Rattle.transit_laws.proofs.LiveAfter.{live_behind, live_end, live_here, live_none, unborn_none}
 use Rattle.transit_laws.proofs.OfLive.{of_other}
@@ -135,21 +135,9 @@ module _ (tx : TxId) where
         go true e = at_entry (found (same_tx one) s.live (grind (arith, nat_tests, e)))
         go false e = record { grows = omega arith; seen = same refl refl }
 
-    -- a step is a turn after which the transaction isn't over
-    step_is : (one : TxId) (row : Transaction → Step Transaction) → step_of s one row ≡ turn_of s one (λ t. going (row t))
-    step_is one row = at_place (place_in s one)
-      where
-        at_value : (at : ℕ) (t : Option Transaction) → step_value s row at t ≡ turn_value s (λ t. going (row t)) at t
-        at_value at None = refl
-        at_value at (Some t) = refl
-
-        at_place : (o : Option ℕ) → step_place s row o ≡ turn_place s (λ t. going (row t)) o
-        at_place None = refl
-        at_place (Some at) = at_value at (slice_get (values_of s.live) at)
-
     step_sees : (one : TxId) (row : Transaction → Step Transaction) (body : Body) → ((t : Transaction) → AskTurn one body t (going (row t))) → ((t : Transaction) → GoesOn one body t (going (row t)))
         → AskSees s body (step_of s one row)
-    step_sees one row body asks goes = subst (AskSees s body) (sym (step_is one row)) (turn_sees one (λ t. going (row t)) body asks goes)
+    step_sees one row body asks goes = subst (AskSees s body) (sym (step_is s one row)) (turn_sees one (λ t. going (row t)) body asks goes)
 
     begin_sees : (name : Option ℕ) (b : Bool) → AskSees s (Client (TcBeginReq name)) (begin_if s name b)
     begin_sees name true = record { grows = omega arith; seen = same refl refl }

@@ -14,8 +14,12 @@ use Rattle.sig_core.specs.declared.outcome.AbortCause.{AbortCause}
 use Rattle.sig_core.specs.declared.outcome.AbortCause.TheVariants as cause
 use Rattle.sig_core.specs.declared.outs.Outgoing.{Outgoing}
 use Rattle.sig_core.specs.declared.signal.Body.{Body}
-use Rattle.sig_core.specs.declared.signal.Body.TheVariants.{Epoch}
+use Rattle.sig_core.specs.declared.signal.Body.TheVariants.{Host, Client, Chain, Epoch}
+use Rattle.sig_core.specs.declared.signal.chain.ChainSignal.TheVariants.{LqhKeyConf, LqhKeyRef, Committed, Completed, Aborted}
+use Rattle.sig_core.specs.declared.signal.client.ClientSignal.TheVariants.{TcKeyReq, TcCommitReq, TcRollbackReq, TcWaitReq}
 use Rattle.sig_core.specs.declared.signal.epoch.EpochSignal.TheVariants.{DiVerifyReq, DiVerifyConf}
+use Rattle.sig_core.specs.declared.signal.host.HostSignal.TheVariants.{Continue}
+use Rattle.sig_core.specs.declared.signal.host.Work.TheVariants as work
 use Rattle.sig_core.specs.declared.view.View.{View}
 use Rattle.sig_core.specs.Op.{key_of}
 use Rattle.sig_core.specs.Place.{epochs}
@@ -38,7 +42,8 @@ use Rattle.tc_block.specs.Turn.{Turn, at_phase, going}
 use Rattle.commit_laws.specs.Kinds.{kind_of}
 use Rattle.commit_laws.specs.Ways.{Way, back, way_of}
 use Rattle.commit_laws.proofs.Keys.{same_tx-self}
-use Rattle.commit_laws.proofs.TcGoes.{AllSay, SaysOf, aborted_goes, answer_goes, commit_goes, committed_goes, completed_goes, go_on_goes, operate_goes, refuse_goes, rollback_goes, wait_goes}
+use Rattle.commit_laws.proofs.EachTurn.{RowsAre, no_view, rows_of}
+use Rattle.commit_laws.proofs.TcGoes.{AllSay, SaysOf, turn_goes}
 use Rattle.transit_laws.proofs.TcCircle.{left_by}
 
 -- the signal asks for an epoch for the transaction, or gives it one
@@ -148,6 +153,13 @@ module _ (tx : TxId) where
     mute_turn : (body : Body) (turn : Turn) → AllSay tx (Unit {0}) turn.step.effects.sends → RestsOn turn → AskTurn tx body t turn
     mute_turn body turn says rests = record { sends = inl (all_mute tx turn.step.effects.sends says); late = λ v none. inl (rests v none) }
 
+    -- no row but that of the wish for a commit asks for anything
+    module _ (node : ℕ) (view : View) where
+      says_rows : (body : Body) → (body ≢ Client (TcCommitReq tx)) → RowsAre node view tx t body (λ turn. AllSay tx (Unit {0}) turn.step.effects.sends)
+      says_rows body other =
+          rows_of node view tx t body (λ turn. AllSay tx (Unit {0}) turn.step.effects.sends)
+          (turn_goes tx (Unit {0}) (λ turn. AllSay tx (Unit {0}) turn.step.effects.sends) node view t body (λ turn goes. goes.sends) (λ is ready. absurd (other is)) (λ is. tt) (λ epoch is. tt))
+
     go_on_rests : (node : ℕ) (view : View) (at : ℕ) → RestsOn (going (go_on_row node view tx t at))
     unfolding go_on_row
     go_on_rests node view at v none = by (nat_lt at 512)
@@ -158,14 +170,14 @@ module _ (tx : TxId) where
 
     pub go_on_asks : (node : ℕ) (view : View) (at : ℕ) (body : Body) → AskTurn tx body t (going (go_on_row node view tx t at))
     go_on_asks node view at body =
-        mute_turn body (going (go_on_row node view tx t at)) (go_on_goes tx (Unit {0}) node view t at (λ is. tt)).sends (go_on_rests node view at)
+        mute_turn body (going (go_on_row node view tx t at)) ((says_rows node view (Host (Continue (work.Transaction tx) at)) (λ is. cc)).goes_on at refl) (go_on_rests node view at)
 
     operate_rests : (view : View) (op : Op) → RestsOn (going (operate.operate_row view tx t op))
     unfolding operate.operate_row
     operate_rests view op v none = ap (λ p. left_by (going (operate.operate_if view tx t op (operate.is_ready p t.asked && fits t.touched (key_of op))))) v
 
     pub operate_asks : (view : View) (op : Op) (body : Body) → AskTurn tx body t (going (operate.operate_row view tx t op))
-    operate_asks view op body = mute_turn body (going (operate.operate_row view tx t op)) (operate_goes tx (Unit {0}) view t op (λ is. tt)).sends (operate_rests view op)
+    operate_asks view op body = mute_turn body (going (operate.operate_row view tx t op)) ((says_rows 0 view (Client (TcKeyReq tx op)) (λ is. cc)).operates op refl) (operate_rests view op)
 
     answer_rests : (view : View) (key : List ℕ) (answer : Answer) → RestsOn (going (operate.answer_row view tx t key answer))
     unfolding operate.answer_row
@@ -176,14 +188,14 @@ module _ (tx : TxId) where
         by (Some asked) = ap (λ p. left_by (going (operate.answer_by view tx t key answer (Some asked) p))) v
 
     pub answer_asks : (view : View) (key : List ℕ) (answer : Answer) (body : Body) → AskTurn tx body t (going (operate.answer_row view tx t key answer))
-    answer_asks view key answer body = mute_turn body (going (operate.answer_row view tx t key answer)) (answer_goes tx (Unit {0}) view t key answer (λ is. tt)).sends (answer_rests view key answer)
+    answer_asks view key answer body = mute_turn body (going (operate.answer_row view tx t key answer)) ((says_rows 0 view (Chain (LqhKeyConf tx key answer)) (λ is. cc)).answers key answer refl) (answer_rests view key answer)
 
     wait_rests : RestsOn (going (operate.wait_row tx t))
     unfolding operate.wait_row
     wait_rests v none = ap (λ o. left_by (going (operate.wait_by tx t o))) none
 
     pub wait_asks : (body : Body) → AskTurn tx body t (going (operate.wait_row tx t))
-    wait_asks body = mute_turn body (going (operate.wait_row tx t)) (wait_goes tx (Unit {0}) t (λ is. tt)).sends wait_rests
+    wait_asks body = mute_turn body (going (operate.wait_row tx t)) ((says_rows 0 no_view (Client (TcWaitReq tx)) (λ is. cc)).waits refl) wait_rests
 
     ready_free : (phase : Phase) (asked : Option Asked) → operate.is_ready phase asked ≡ true → asked ≡ None
     ready_free Open None is = refl
@@ -216,7 +228,7 @@ module _ (tx : TxId) where
 
     pub commit_asks : (node : ℕ) (view : View) (epoch : ℕ) → AskTurn tx (Epoch (DiVerifyConf tx epoch)) t (commit.commit_row node view tx t epoch)
     commit_asks node view epoch = record {
-      sends = inl (all_mute tx (commit.commit_row node view tx t epoch).step.effects.sends (commit_goes tx (Unit {0}) node view t epoch (λ is. tt) tt).sends);
+      sends = inl (all_mute tx (commit.commit_row node view tx t epoch).step.effects.sends ((says_rows node view (Epoch (DiVerifyConf tx epoch)) (λ is. cc)).commits epoch refl));
       late = λ v none. inr (inl (same_tx-self tx));
     }
 
@@ -225,28 +237,28 @@ module _ (tx : TxId) where
     committed_rests node view v none = ap (λ p. left_by (commit.committed_by node view tx t p)) v
 
     pub committed_asks : (node : ℕ) (view : View) (body : Body) → AskTurn tx body t (commit.committed_row node view tx t)
-    committed_asks node view body = mute_turn body (commit.committed_row node view tx t) (committed_goes tx (Unit {0}) node view t (λ is. tt)).sends (committed_rests node view)
+    committed_asks node view body = mute_turn body (commit.committed_row node view tx t) ((says_rows node view (Chain (Committed tx [])) (λ is. cc)).committed [] refl) (committed_rests node view)
 
     completed_rests : (node : ℕ) → RestsOn (complete.completed_row node tx t)
     unfolding complete.completed_row
     completed_rests node v none = ap (λ p. left_by (complete.completed_by node tx t p)) v
 
     pub completed_asks : (node : ℕ) (body : Body) → AskTurn tx body t (complete.completed_row node tx t)
-    completed_asks node body = mute_turn body (complete.completed_row node tx t) (completed_goes tx (Unit {0}) node t (λ is. tt)).sends (completed_rests node)
+    completed_asks node body = mute_turn body (complete.completed_row node tx t) ((says_rows node no_view (Chain (Completed tx [])) (λ is. cc)).completed [] refl) (completed_rests node)
 
     aborted_rests : (node : ℕ) → RestsOn (abort.aborted_row node tx t)
     unfolding abort.aborted_row
     aborted_rests node v none = ap (λ p. left_by (abort.aborted_by node tx t p)) v
 
     pub aborted_asks : (node : ℕ) (body : Body) → AskTurn tx body t (abort.aborted_row node tx t)
-    aborted_asks node body = mute_turn body (abort.aborted_row node tx t) (aborted_goes tx (Unit {0}) node t (λ is. tt)).sends (aborted_rests node)
+    aborted_asks node body = mute_turn body (abort.aborted_row node tx t) ((says_rows node no_view (Chain (Aborted tx [])) (λ is. cc)).aborted [] refl) (aborted_rests node)
 
     refuse_rests : (node : ℕ) (view : View) (key : List ℕ) (why : AbortCause) → RestsOn (abort.refuse_row node view tx t key why)
     unfolding abort.refuse_row
     refuse_rests node view key why v none = ap (λ o. left_by (abort.refuse_by node view tx t key why (operate.asked_on o key) t.phase)) none
 
     pub refuse_asks : (node : ℕ) (view : View) (key : List ℕ) (why : AbortCause) (body : Body) → AskTurn tx body t (abort.refuse_row node view tx t key why)
-    refuse_asks node view key why body = mute_turn body (abort.refuse_row node view tx t key why) (refuse_goes tx (Unit {0}) node view t key why (λ is. tt)).sends (refuse_rests node view key why)
+    refuse_asks node view key why body = mute_turn body (abort.refuse_row node view tx t key why) ((says_rows node view (Chain (LqhKeyRef tx key why)) (λ is. cc)).refuses key why refl) (refuse_rests node view key why)
 
     rollback_back : (node : ℕ) (view : View) → t.phase ≡ Verifying → t.asked ≡ None → GoesBack (abort.rollback_row node view tx t).step.effects.sends
     unfolding abort.rollback_row
@@ -254,6 +266,6 @@ module _ (tx : TxId) where
 
     pub rollback_asks : (node : ℕ) (view : View) (body : Body) → AskTurn tx body t (abort.rollback_row node view tx t)
     rollback_asks node view body = record {
-      sends = inl (all_mute tx (abort.rollback_row node view tx t).step.effects.sends (rollback_goes tx (Unit {0}) node view t (λ is. tt)).sends);
+      sends = inl (all_mute tx (abort.rollback_row node view tx t).step.effects.sends ((says_rows node view (Client (TcRollbackReq tx)) (λ is. cc)).rolls_back refl));
       late = λ v none. inr (inr (rollback_back node view v none));
     }

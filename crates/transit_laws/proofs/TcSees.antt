@@ -27,7 +27,7 @@ use Rattle.tc_block.specs.declared.transaction.Transaction.{Transaction}
 use Rattle.tc_block.specs.Abort.{aborted_row, refuse_row, rollback_row}
 use Rattle.tc_block.specs.Commit.{commit_row, committed_row, decide_row}
 use Rattle.tc_block.specs.Complete.{completed_row}
-use Rattle.tc_block.specs.Live.{place_in, step_of, step_place, step_value, turn_of, turn_place, turn_value, turned_if, without}
+use Rattle.tc_block.specs.Live.{place_in, step_of, turn_of, turn_place, turn_value, turned_if, without}
 use Rattle.tc_block.specs.Operate.{answer_row, can_operate, fresh, operate_if, operate_row, wait_row}
 use Rattle.tc_block.specs.Sends.{go_on_row}
 use Rattle.tc_block.specs.State.{TcState}
@@ -36,7 +36,7 @@ use Rattle.tc_block.specs.Turn.{Turn, going}
 use Rattle.answer_laws.proofs.NodeOps.{absent_key}
 use Rattle.answer_laws.proofs.Tally.{one_if, tally, tally_append, tally_between}
 use Rattle.answer_laws.proofs.TcLives.{IsOwn, insert_new, is_keyed}
-use Rattle.answer_laws.proofs.TcMoves.{IsEntry, found, same_tx-is}
+use Rattle.answer_laws.proofs.TcMoves.{IsEntry, found, same_tx-is, step_is}
 use Rattle.transit_laws.specs.Live.{of_live}
 use Rattle.transit_laws.specs.Tokens.{is_token}
 use Rattle.transit_laws.proofs.KeyTokens.{Token, answers, is_home, performs, put, refuses, token_of, tokens_of}
@@ -137,21 +137,9 @@ module _ (tx : TxId) (key : List ℕ) (h : ℕ) where
         go true e = at_entry (found (same_tx one) s.live (grind (arith, nat_tests, e)))
         go false e = record { grows = omega arith; seen = same refl refl (absent (grind (arith, nat_tests, e)) (same_tx one tx) refl) }
 
-    -- a step is a turn after which the transaction isn't over
-    step_is : (one : TxId) (row : Transaction → Step Transaction) → step_of s one row ≡ turn_of s one (λ t. going (row t))
-    step_is one row = at_place (place_in s one)
-      where
-        at_value : (at : ℕ) (t : Option Transaction) → step_value s row at t ≡ turn_value s (λ t. going (row t)) at t
-        at_value at None = refl
-        at_value at (Some t) = refl
-
-        at_place : (o : Option ℕ) → step_place s row o ≡ turn_place s (λ t. going (row t)) o
-        at_place None = refl
-        at_place (Some at) = at_value at (slice_get (values_of s.live) at)
-
     step_sees : (one : TxId) (row : Transaction → Step Transaction) (body : Body) → (same_tx one tx ≡ false → token_of tx key (coordinator h) body ≡ None)
         → (same_tx one tx ≡ false → (t : Transaction) → tokens_of tx key (row t).effects.sends ≡ []) → ((t : Transaction) → GoesOn one body t (going (row t))) → Sees s body (step_of s one row)
-    step_sees one row body deaf quiet goes = subst (Sees s body) (sym (step_is one row)) (turn_sees one (λ t. going (row t)) body deaf quiet goes)
+    step_sees one row body deaf quiet goes = subst (Sees s body) (sym (step_is s one row)) (turn_sees one (λ t. going (row t)) body deaf quiet goes)
 
     -- where none is asked for or answered
     plain_turn : (one : TxId) (row : Transaction → Turn) (body : Body) → (same_tx one tx ≡ false → token_of tx key (coordinator h) body ≡ None)

@@ -2,8 +2,7 @@
 use Rattle.std.proofs.Common.{◌≡◌, ◌⊎◌, ◌<◌, ℕ, zero, suc, ◌+◌, Bool, true, false, ◌&&◌, List, [], ◌∷◌, ◌++◌, refl, sym, ap, ◌∙◌, subst, arith, inl, inr}
 use Rattle.std.specs.FinMap as finite
 use Rattle.std.specs.List.{list_any}
-use Rattle.std.specs.Map.{values_of}
-use Rattle.std.specs.Prelude.{Option, None, Some, is_some, slice_get, nat_eq}
+use Rattle.std.specs.Prelude.{Option, nat_eq}
 use Rattle.std.proofs.lemmas.Bool.{and_right, ne_eqb}
 use Rattle.run_theory.specs.Lists.{Each}
 use Rattle.run_theory.proofs.Pasts.{each_after, each_append, each_before, each_map}
@@ -14,28 +13,18 @@ use Rattle.sig_core.specs.declared.place.BlockId.{BlockId}
 use Rattle.sig_core.specs.declared.place.BlockId.TheVariants as block
 use Rattle.sig_core.specs.declared.place.Place.{Place}
 use Rattle.sig_core.specs.declared.signal.Body.{Body}
-use Rattle.sig_core.specs.declared.signal.Body.TheVariants.{Host, Client, Chain, Epoch}
-use Rattle.sig_core.specs.declared.signal.chain.ChainSignal.TheVariants.{LqhKeyConf, LqhKeyRef, Committed, Completed, Aborted}
-use Rattle.sig_core.specs.declared.signal.client.ClientSignal.TheVariants.{TcBeginReq, TcKeyReq, TcCommitReq, TcRollbackReq, TcWaitReq, LqhWaitConf}
-use Rattle.sig_core.specs.declared.signal.epoch.EpochSignal.TheVariants.{DiVerifyConf}
-use Rattle.sig_core.specs.declared.signal.host.HostSignal.TheVariants.{Continue}
-use Rattle.sig_core.specs.declared.signal.host.Work.TheVariants as work
 use Rattle.sig_core.specs.Same.{same_tx}
 use Rattle.sig_core.specs.Step.{Step}
 use Rattle.row_locks.specs.Queues.{waits}
 use Rattle.row_locks.specs.Tables.{or_unlocked}
 use Rattle.row_locks.proofs.LocksLemmas.{key_cmp}
-use Rattle.tc_block.specs.Abort.{aborted_row, refuse_row, rollback_row}
-use Rattle.tc_block.specs.Commit as commit
-use Rattle.tc_block.specs.Complete.{completed_row}
 use Rattle.tc_block.specs.declared.phase.Phase.{Phase}
 use Rattle.tc_block.specs.declared.transaction.Transaction.{Transaction}
-use Rattle.tc_block.specs.Live.{place_in, step_of, step_place, step_value, turn_of, turn_place, turn_value, turned_if, without}
-use Rattle.tc_block.specs.Operate.{answer_row, fresh, operate_row, wait_row}
-use Rattle.tc_block.specs.Sends.{go_on_row}
+use Rattle.tc_block.specs.Live.{turned_if, without}
+use Rattle.tc_block.specs.Operate.{fresh}
 use Rattle.tc_block.specs.State.{TcState}
-use Rattle.tc_block.specs.Tc.{begin_if, begin_row, is_full, next_tx, pass_if, pass_row, tc_row}
-use Rattle.tc_block.specs.Turn.{Turn, going}
+use Rattle.tc_block.specs.Tc.{begin_if, next_tx, tc_row}
+use Rattle.tc_block.specs.Turn.{Turn}
 use Rattle.node_core.specs.declared.host.Host as host
 use Rattle.node_core.specs.declared.host.Host.TheVariants.{Shell, Node}
 use Rattle.node_core.specs.declared.node.Node as node
@@ -44,14 +33,16 @@ use Rattle.node_core.specs.Row.{node_row, row}
 use Rattle.world_core.specs.Machine.{after}
 use Rattle.world_core.specs.Start.{Start, started}
 use Rattle.commit_laws.specs.Ways.{Way, back, back_by, closes, forth, is_aborting, neither, put_ways, sent_ways, tc_sends, way_of}
-use Rattle.commit_laws.proofs.LiveSplit.{KeysOnce, Live, Split, each_inserted, once_gone, once_inserted, once_set, split_at}
+use Rattle.commit_laws.proofs.LiveSplit.{KeysOnce, Live, Split, each_inserted, once_gone, once_inserted, once_set}
 use Rattle.commit_laws.proofs.OneWay.{back_more}
-use Rattle.commit_laws.proofs.TcWays.{AllWays, TurnWays, WayOf, Ways, aborted_ways, answer_ways, commit_ways, committed_ways, completed_ways, decide_ways, go_on_ways, operate_ways, refuse_ways, rollback_ways, wait_ways}
+use Rattle.commit_laws.proofs.EachTc.{tc_each}
+use Rattle.commit_laws.proofs.EachTurn.{rows_both, rows_of}
+use Rattle.commit_laws.proofs.TcWays.{AllWays, TurnWays, WayOf, turn_ways}
 use Rattle.answer_laws.proofs.TcOps.{is_right}
 use Rattle.transit_laws.proofs.LqhWaits.{WaitersAsk, lqh_asks}
-use Rattle.transit_laws.proofs.TcAborts.{HasTouched, TurnAborts, aborted_aborts, answer_aborts, commit_aborts, committed_aborts, completed_aborts, decide_aborts, go_on_aborts, operate_aborts, refuse_aborts, rollback_aborts, wait_aborts}
-use Rattle.transit_laws.proofs.TcTokens.{IsOwned, IsSound, now_given_up}
-use Rattle.transit_laws.proofs.TcTurns.{TurnTokens, gives_up, aborted_turn, answer_turn, commit_turn, committed_turn, completed_turn, decide_turn, go_on_turn, operate_turn, refuse_turn, rollback_turn, wait_turn}
+use Rattle.transit_laws.proofs.TcAborts.{TurnAborts, turn_aborts}
+use Rattle.transit_laws.proofs.TcTokens.{IsOwned, IsSound, now_given_up, rows_tokens}
+use Rattle.transit_laws.proofs.TcTurns.{TurnTokens, gives_up}
 
 -- what gives a transaction up is of this one
 abbrev IsBackOf : TxId → Way → Type 0
@@ -87,9 +78,6 @@ record Turns (tx : TxId) (t : Transaction) (turn : Turn) : Type 0 where
   right : is_right turn.step.state.asked turn.step.state.phase ≡ true
   gives : AreBackOf tx turn.step.effects.sends
   aborts : TurnAborts tx t turn
-
-of_step : (tx : TxId) (t : Transaction) (step : Step Transaction) → TurnTokens tx t 1 (going step) → TurnAborts tx t (going step) → Ways tx t.phase step → Turns tx t (going step)
-of_step tx t step is aborts ways = record { right = is.right; gives = of_ways tx step.state.phase step.effects.sends ways.sends; aborts = aborts }
 
 of_turn : (tx : TxId) (t : Transaction) (turn : Turn) → TurnTokens tx t 1 turn → TurnAborts tx t turn → TurnWays tx t.phase turn → Turns tx t turn
 of_turn tx t turn is aborts ways = record { right = is.right; gives = of_ways tx ways.last turn.step.effects.sends ways.sends; aborts = aborts }
@@ -140,31 +128,8 @@ module _ (s : TcState) (bs : List TxId) (n : IsSound s bs) where
       begun = each_back (λ (v : TxId). v.seq < s.next_seq) tx turn.step.effects.sends bs is.gives own.below n.begun;
     }
 
-  step_sound : (tx : TxId) (row : Transaction → Step Transaction) → ((t : Transaction) → is_right t.asked t.phase ≡ true → HasTouched t → Turns tx t (going (row t))) → StaysSound bs (step_of s tx row)
-  step_sound tx row goes = at_place (place_in s tx) refl
-    where
-      at_value : (at : ℕ) → place_in s tx ≡ Some at → (t : Option Transaction) → slice_get (values_of s.live) at ≡ t → StaysSound bs (step_value s row at t)
-      at_value at at_is None is = n
-      at_value at at_is (Some t) is = let split = split_at tx s.live at t at_is is in turn_sound tx t at split (going (row t)) (goes t (own tx t at split).right (own tx t at split).touched) false
-
-      at_place : (at : Option ℕ) → place_in s tx ≡ at → StaysSound bs (step_place s row at)
-      at_place None at_is = n
-      at_place (Some at) at_is = at_value at at_is (slice_get (values_of s.live) at) refl
-
-  sound_turn : (tx : TxId) (row : Transaction → Turn) → ((t : Transaction) → is_right t.asked t.phase ≡ true → HasTouched t → Turns tx t (row t)) → StaysSound bs (turn_of s tx row)
-  sound_turn tx row goes = at_place (place_in s tx) refl
-    where
-      at_value : (at : ℕ) → place_in s tx ≡ Some at → (t : Option Transaction) → slice_get (values_of s.live) at ≡ t → StaysSound bs (turn_value s row at t)
-      at_value at at_is None is = n
-      at_value at at_is (Some t) is = let split = split_at tx s.live at t at_is is in turn_sound tx t at split (row t) (goes t (own tx t at split).right (own tx t at split).touched) (row t).over
-
-      at_place : (at : Option ℕ) → place_in s tx ≡ at → StaysSound bs (turn_place s row at)
-      at_place None at_is = n
-      at_place (Some at) at_is = at_value at at_is (slice_get (values_of s.live) at) refl
-
-  begins_sound : (name : Option ℕ) (b : Bool) → StaysSound bs (begin_if s name b)
-  begins_sound name true = n
-  begins_sound name false = record {
+  begins_sound : (name : Option ℕ) → StaysSound bs (begin_if s name false)
+  begins_sound name = record {
     once = once_inserted s.live (next_tx s) fresh others n.once;
     live = each_inserted (IsOwned s.node (s.next_seq + 1) bs) s.live (next_tx s) fresh others (record { home = refl; below = omega arith; right = refl; touched = λ is. absurd cc; given = λ is. absurd cc })
         (each_map (IsOwned s.node s.next_seq bs) (IsOwned s.node (s.next_seq + 1) bs) s.live (λ x is. record { home = is.home; below = omega (arith, is.below); right = is.right; touched = is.touched; given = is.given }) n.live);
@@ -179,34 +144,23 @@ module _ (s : TcState) (bs : List TxId) (n : IsSound s bs) where
       others : Each (λ (x : TxId × Transaction). same_tx x.0 (next_tx s) ≡ false) s.live
       others = each_map (IsOwned s.node s.next_seq bs) (λ (x : TxId × Transaction). same_tx x.0 (next_tx s) ≡ false) s.live (λ x is. lower x.0 is.below) n.live
 
-  begin_sound : (name : Option ℕ) → StaysSound bs (begin_row s name)
-  unfolding begin_row
-  begin_sound name = begins_sound name (is_full s)
-
-  pass_sound : (tx ahead : TxId) → StaysSound bs (pass_row s tx ahead)
-  unfolding pass_row
-  pass_sound tx ahead = by (is_some (place_in s tx))
-    where
-      by : (b : Bool) → StaysSound bs (pass_if s tx ahead b)
-      by true = n
-      by false = n
-
   -- so is each step
   pub tc_sound : (body : Body) → StaysSound bs (tc_row s body)
-  tc_sound (Host (Continue (work.Transaction tx) at)) = step_sound tx (λ t. go_on_row s.node s.view tx t at) (λ t right has. of_step tx t (go_on_row s.node s.view tx t at) (go_on_turn tx t right s.node s.view at 1) (go_on_aborts tx t has s.node s.view at) (go_on_ways tx s.node s.view t at))
-  tc_sound (Client (TcBeginReq name)) = begin_sound name
-  tc_sound (Client (TcKeyReq tx op)) = step_sound tx (λ t. operate_row s.view tx t op) (λ t right has. of_step tx t (operate_row s.view tx t op) (operate_turn tx t right s.view op 1) (operate_aborts tx t has s.view op) (operate_ways tx s.view t op))
-  tc_sound (Client (TcCommitReq tx)) = step_sound tx (λ t. commit.decide_row s.node tx t) (λ t right has. of_step tx t (commit.decide_row s.node tx t) (decide_turn tx t right s.node 1) (decide_aborts tx t has s.node) (decide_ways tx s.node t))
-  tc_sound (Client (TcRollbackReq tx)) = sound_turn tx (λ t. rollback_row s.node s.view tx t) (λ t right has. of_turn tx t (rollback_row s.node s.view tx t) (rollback_turn tx t right s.node s.view 1) (rollback_aborts tx t has s.node s.view) (rollback_ways tx s.node s.view t))
-  tc_sound (Client (TcWaitReq tx)) = step_sound tx (λ t. wait_row tx t) (λ t right has. of_step tx t (wait_row tx t) (wait_turn tx t right 1) (wait_aborts tx t has) (wait_ways tx t))
-  tc_sound (Client (LqhWaitConf tx ahead)) = pass_sound tx ahead
-  tc_sound (Chain (LqhKeyConf tx key answer)) = step_sound tx (λ t. answer_row s.view tx t key answer) (λ t right has. of_step tx t (answer_row s.view tx t key answer) (answer_turn tx t right s.view key answer 1 (omega arith)) (answer_aborts tx t has s.view key answer) (answer_ways tx s.view t key answer))
-  tc_sound (Chain (LqhKeyRef tx key why)) = sound_turn tx (λ t. refuse_row s.node s.view tx t key why) (λ t right has. of_turn tx t (refuse_row s.node s.view tx t key why) (refuse_turn tx t right s.node s.view key why 1 (omega arith)) (refuse_aborts tx t has s.node s.view key why) (refuse_ways tx s.node s.view t key why))
-  tc_sound (Chain (Committed tx key)) = sound_turn tx (λ t. commit.committed_row s.node s.view tx t) (λ t right has. of_turn tx t (commit.committed_row s.node s.view tx t) (committed_turn tx t right s.node s.view 1) (committed_aborts tx t has s.node s.view) (committed_ways tx s.node s.view t))
-  tc_sound (Chain (Completed tx key)) = sound_turn tx (λ t. completed_row s.node tx t) (λ t right has. of_turn tx t (completed_row s.node tx t) (completed_turn tx t right s.node 1) (completed_aborts tx t has s.node) (completed_ways tx s.node t))
-  tc_sound (Chain (Aborted tx key)) = sound_turn tx (λ t. aborted_row s.node tx t) (λ t right has. of_turn tx t (aborted_row s.node tx t) (aborted_turn tx t right s.node 1) (aborted_aborts tx t has s.node) (aborted_ways tx s.node t))
-  tc_sound (Epoch (DiVerifyConf tx epoch)) = sound_turn tx (λ t. commit.commit_row s.node s.view tx t epoch) (λ t right has. of_turn tx t (commit.commit_row s.node s.view tx t epoch) (commit_turn tx t right s.node s.view epoch 1) (commit_aborts tx t has s.node s.view epoch) (commit_ways tx s.node s.view t epoch))
-  tc_sound _ = n
+  tc_sound body =
+      tc_each (λ tx t turn. Both tx t turn) (StaysSound bs) s body (record {
+        turns = λ tx t at split. rows_both s.node s.view tx t body (λ turn. TurnTokens tx t 1 turn) (λ turn. TurnAborts tx t turn × TurnWays tx t.phase turn) (rows_tokens s.node s.view tx t body (own tx t at split).right 1 (λ key answer is. omega arith) (λ key why is. omega arith))
+            (rows_both s.node s.view tx t body (λ turn. TurnAborts tx t turn) (λ turn. TurnWays tx t.phase turn)
+            (rows_of s.node s.view tx t body (λ turn. TurnAborts tx t turn) (turn_aborts s.node s.view tx t (own tx t at split).touched body))
+            (rows_of s.node s.view tx t body (λ turn. TurnWays tx t.phase turn) (turn_ways tx s.node s.view t body)));
+        turned = λ tx t at split turn both. turn_sound tx t at split turn (of_turn tx t turn both.0 both.1.0 both.1.1) turn.over;
+        stays = n;
+        full = λ name. n;
+        begins = begins_sound;
+        passes = λ tx ahead. n;
+      })
+    where
+      Both : TxId → Transaction → Turn → Type 0
+      Both tx t turn = TurnTokens tx t 1 turn × (TurnAborts tx t turn × TurnWays tx t.phase turn)
 
 -- a node is sound: its coordinator is, and who waits in a queue has a request that waits
 abbrev pub IsSoundHost : host.Host → List TxId → Type 0

@@ -1,35 +1,31 @@
 -- What a coordinator sends of its transactions' operations at each signal, and how many parts of one there may be then.
-use Rattle.std.proofs.Common.{◌≡◌, ◌≢◌, ◌⊎◌, ◌<◌, ℕ, ◌+◌, ◌≤◌, Bool, true, false, ◌&&◌, ◌||◌, List, [], ◌∷◌, ◌++◌, refl, sym, ap, ◌∙◌, subst, arith, inl, inr}
-use Rattle.std.specs.Map.{values_of}
+use Rattle.std.proofs.Common.{◌≡◌, cond, ◌≢◌, ◌⊎◌, ◌<◌, ℕ, ◌+◌, ◌≤◌, Bool, true, false, ◌&&◌, ◌||◌, List, [], ◌∷◌, ◌++◌, refl, sym, ap, ◌∙◌, subst, arith, inl, inr}
 use Rattle.std.specs.List.{list_any}
-use Rattle.std.specs.Prelude.{if◌then◌else◌, Option, None, Some, is_some, slice_get, nat_eq}
+use Rattle.std.specs.Prelude.{if◌then◌else◌, Option, None, Some, nat_eq}
 use Rattle.std.proofs.lemmas.Bool.{and_right, ne_eqb, or_cases, or_left, or_right}
 use Rattle.run_theory.specs.Lists.{Each}
 use Rattle.run_theory.proofs.Pasts.{each_after, each_append, each_map}
 use Rattle.sig_core.specs.declared.member.TxId.{TxId}
+use Rattle.sig_core.specs.declared.op.Answer.{Answer}
+use Rattle.sig_core.specs.declared.outcome.AbortCause.{AbortCause}
 use Rattle.sig_core.specs.declared.outs.Outgoing.{Outgoing}
 use Rattle.sig_core.specs.declared.signal.Body.{Body}
-use Rattle.sig_core.specs.declared.signal.Body.TheVariants.{Host, Client, Chain, Epoch}
-use Rattle.sig_core.specs.declared.signal.chain.ChainSignal.TheVariants.{LqhKeyReq, LqhKeyConf, LqhKeyRef, Committed, Completed, Aborted}
-use Rattle.sig_core.specs.declared.signal.client.ClientSignal.TheVariants.{TcBeginReq, TcKeyReq, TcCommitReq, TcRollbackReq, TcWaitReq, LqhWaitConf}
-use Rattle.sig_core.specs.declared.signal.epoch.EpochSignal.TheVariants.{DiVerifyConf}
-use Rattle.sig_core.specs.declared.signal.host.HostSignal.TheVariants.{Continue}
-use Rattle.sig_core.specs.declared.signal.host.Work.TheVariants as work
+use Rattle.sig_core.specs.declared.signal.Body.TheVariants.{Chain}
+use Rattle.sig_core.specs.declared.signal.chain.ChainSignal.TheVariants.{LqhKeyConf, LqhKeyRef}
+use Rattle.sig_core.specs.declared.view.View.{View}
 use Rattle.sig_core.specs.Same.{same_tx}
 use Rattle.sig_core.specs.Step.{Step}
 use Rattle.row_locks.proofs.TxLemmas.{same_tx-is, same_tx-swap}
-use Rattle.tc_block.specs.Abort.{aborted_row, refuse_row, rollback_row}
-use Rattle.tc_block.specs.Commit as commit
-use Rattle.tc_block.specs.Complete.{completed_row}
 use Rattle.tc_block.specs.declared.transaction.Transaction.{Transaction}
-use Rattle.tc_block.specs.Live.{place_in, step_of, step_place, step_value, turn_of, turn_place, turn_value, turned_if, without}
-use Rattle.tc_block.specs.Operate.{answer_row, fresh, operate_row, wait_row}
-use Rattle.tc_block.specs.Sends.{go_on_row}
+use Rattle.tc_block.specs.Live.{turned_if, without}
+use Rattle.tc_block.specs.Operate.{fresh}
 use Rattle.tc_block.specs.State.{TcState}
-use Rattle.tc_block.specs.Tc.{begin_if, begin_row, begun, is_full, next_tx, pass_if, pass_row, tc_row}
-use Rattle.tc_block.specs.Turn.{Turn, going}
+use Rattle.tc_block.specs.Tc.{begin_if, begun, next_tx, tc_row}
+use Rattle.tc_block.specs.Turn.{Turn}
 use Rattle.commit_laws.specs.Ways.{Way, back, back_by, closes, forth, is_aborting, neither, put_ways, way_of}
-use Rattle.commit_laws.proofs.LiveSplit.{KeysOnce, Live, Split, once_back, once_front, split_at}
+use Rattle.commit_laws.proofs.EachTc.{tc_each}
+use Rattle.commit_laws.proofs.EachTurn.{RowsAre, rows_both}
+use Rattle.commit_laws.proofs.LiveSplit.{KeysOnce, Live, Split, once_back, once_front}
 use Rattle.commit_laws.proofs.OneWay.{back_more}
 use Rattle.answer_laws.proofs.Tally.{one_if}
 use Rattle.answer_laws.proofs.TcOps.{is_right}
@@ -84,6 +80,24 @@ pub record StepTokens (v : TxId) (s : TcState) (bs : List TxId) (came : ℕ) (st
   pub home : (m : ℕ) → m + came ≤ budget_by (list_any (same_tx v) bs) (of_live v s.live)
       → m + tokens_out v step.effects.sends ≤ budget_by (list_any (same_tx v) (put_ways back_by step.effects.sends bs)) (of_live v step.state.live)
   pub away : v.tc ≢ s.node → tokens_out v step.effects.sends ≡ 0
+
+-- each row sends no more than that, if an answer or a refusal came
+pub rows_tokens : (node : ℕ) (view : View) (tx : TxId) (t : Transaction) (body : Body) → is_right t.asked t.phase ≡ true → (came : ℕ)
+    → ((key : List ℕ) (answer : Answer) → body ≡ Chain (LqhKeyConf tx key answer) → 1 ≤ came) → ((key : List ℕ) (why : AbortCause) → body ≡ Chain (LqhKeyRef tx key why) → 1 ≤ came)
+    → RowsAre node view tx t body (λ turn. TurnTokens tx t came turn)
+rows_tokens node view tx t body right came answered refused = record {
+  goes_on = λ at is. go_on_turn tx t right node view at came;
+  operates = λ op is. operate_turn tx t right view op came;
+  decides = λ is. decide_turn tx t right node came;
+  rolls_back = λ is. rollback_turn tx t right node view came;
+  waits = λ is. wait_turn tx t right came;
+  answers = λ key answer is. answer_turn tx t right view key answer came (answered key answer is);
+  refuses = λ key why is. refuse_turn tx t right node view key why came (refused key why is);
+  committed = λ key is. committed_turn tx t right node view came;
+  completed = λ key is. completed_turn tx t right node came;
+  aborted = λ key is. aborted_turn tx t right node came;
+  commits = λ epoch is. commit_turn tx t right node view epoch came;
+}
 
 module _ (v : TxId) (s : TcState) (bs : List TxId) (n : IsSound s bs) where
   -- nothing is sent, and no transaction changes
@@ -185,45 +199,9 @@ module _ (v : TxId) (s : TcState) (bs : List TxId) (n : IsSound s bs) where
               ends,
             )
 
-  -- a row of one transaction is one of the coordinator
-  step_one : (tx : TxId) (row : Transaction → Step Transaction) (came : ℕ)
-      → ((t : Transaction) → is_right t.asked t.phase ≡ true → same_tx tx v ≡ true → TurnTokens tx t came (going (row t)))
-      → ((t : Transaction) → is_right t.asked t.phase ≡ true → TurnTokens tx t 1 (going (row t)))
-      → StepTokens v s bs came (step_of s tx row)
-  step_one tx row came mine turns = at_place (place_in s tx) refl
-    where
-      at_value : (at : ℕ) → place_in s tx ≡ Some at → (t : Option Transaction) → slice_get (values_of s.live) at ≡ t → StepTokens v s bs came (step_value s row at t)
-      at_value at at_is None is = nothing came
-      at_value at at_is (Some t) is =
-          let split = split_at tx s.live at t at_is is in
-          let right = (own tx t at split).right in
-          turn_tokens tx t at split (going (row t)) came (mine t right) (turns t right) false refl
-
-      at_place : (at : Option ℕ) → place_in s tx ≡ at → StepTokens v s bs came (step_place s row at)
-      at_place None at_is = nothing came
-      at_place (Some at) at_is = at_value at at_is (slice_get (values_of s.live) at) refl
-
-  turn_one : (tx : TxId) (row : Transaction → Turn) (came : ℕ)
-      → ((t : Transaction) → is_right t.asked t.phase ≡ true → same_tx tx v ≡ true → TurnTokens tx t came (row t))
-      → ((t : Transaction) → is_right t.asked t.phase ≡ true → TurnTokens tx t 1 (row t))
-      → StepTokens v s bs came (turn_of s tx row)
-  turn_one tx row came mine turns = at_place (place_in s tx) refl
-    where
-      at_value : (at : ℕ) → place_in s tx ≡ Some at → (t : Option Transaction) → slice_get (values_of s.live) at ≡ t → StepTokens v s bs came (turn_value s row at t)
-      at_value at at_is None is = nothing came
-      at_value at at_is (Some t) is =
-          let split = split_at tx s.live at t at_is is in
-          let right = (own tx t at split).right in
-          turn_tokens tx t at split (row t) came (mine t right) (turns t right) (row t).over refl
-
-      at_place : (at : Option ℕ) → place_in s tx ≡ at → StepTokens v s bs came (turn_place s row at)
-      at_place None at_is = nothing came
-      at_place (Some at) at_is = at_value at at_is (slice_get (values_of s.live) at) refl
-
   -- a transaction begins, whose number nobody has
-  begins : (name : Option ℕ) (b : Bool) → StepTokens v s bs 0 (begin_if s name b)
-  begins name true = record { home = λ m low. omega (arith, low); away = λ off. refl }
-  begins name false = record { home = λ m low. by (same_tx (next_tx s) v) refl m low; away = λ off. refl }
+  begins : (name : Option ℕ) → StepTokens v s bs 0 (begin_if s name false)
+  begins name = record { home = λ m low. by (same_tx (next_tx s) v) refl m low; away = λ off. refl }
     where
       lower : (w : TxId) → w.seq < s.next_seq → same_tx w (next_tx s) ≡ false
       lower w lt =
@@ -250,40 +228,32 @@ module _ (v : TxId) (s : TcState) (bs : List TxId) (n : IsSound s bs) where
             ap (budget_by false) (of_none s.live (next_tx s) others),
           )
 
-  begin_one : (name : Option ℕ) → StepTokens v s bs 0 (begin_row s name)
-  unfolding begin_row
-  begin_one name = begins name (is_full s)
-
-  pass_one : (tx ahead : TxId) → StepTokens v s bs 0 (pass_row s tx ahead)
-  unfolding pass_row
-  pass_one tx ahead = by (is_some (place_in s tx))
-    where
-      by : (b : Bool) → StepTokens v s bs 0 (pass_if s tx ahead b)
-      by true = record { home = λ m low. omega (arith, low); away = λ off. refl }
-      by false = nothing 0
-
-  came_one : (tx : TxId) → same_tx tx v ≡ true → 1 ≤ one_if (same_tx tx v)
-  came_one tx e = omega (arith, ap one_if e)
-
   -- what each signal does
   pub tc_tokens : (body : Body) → StepTokens v s bs (one_if (is_token v body)) (tc_row s body)
-  tc_tokens (Host (Continue (work.Transaction tx) at)) =
-      step_one tx (λ t. go_on_row s.node s.view tx t at) 0 (λ t right e. go_on_turn tx t right s.node s.view at 0) (λ t right. go_on_turn tx t right s.node s.view at 1)
-  tc_tokens (Client (TcBeginReq name)) = begin_one name
-  tc_tokens (Client (TcKeyReq tx op)) = step_one tx (λ t. operate_row s.view tx t op) 0 (λ t right e. operate_turn tx t right s.view op 0) (λ t right. operate_turn tx t right s.view op 1)
-  tc_tokens (Client (TcCommitReq tx)) = step_one tx (λ t. commit.decide_row s.node tx t) 0 (λ t right e. decide_turn tx t right s.node 0) (λ t right. decide_turn tx t right s.node 1)
-  tc_tokens (Client (TcRollbackReq tx)) = turn_one tx (λ t. rollback_row s.node s.view tx t) 0 (λ t right e. rollback_turn tx t right s.node s.view 0) (λ t right. rollback_turn tx t right s.node s.view 1)
-  tc_tokens (Client (TcWaitReq tx)) = step_one tx (λ t. wait_row tx t) 0 (λ t right e. wait_turn tx t right 0) (λ t right. wait_turn tx t right 1)
-  tc_tokens (Client (LqhWaitConf tx ahead)) = pass_one tx ahead
-  tc_tokens (Chain (LqhKeyReq tx what chain at)) = record { home = λ m low. omega (arith, low); away = λ off. refl }
-  tc_tokens (Chain (LqhKeyConf tx key answer)) =
-      step_one tx (λ t. answer_row s.view tx t key answer) (one_if (same_tx tx v)) (λ t right e. answer_turn tx t right s.view key answer (one_if (same_tx tx v)) (came_one tx e))
-      (λ t right. answer_turn tx t right s.view key answer 1 (omega arith))
-  tc_tokens (Chain (LqhKeyRef tx key why)) =
-      turn_one tx (λ t. refuse_row s.node s.view tx t key why) (one_if (same_tx tx v)) (λ t right e. refuse_turn tx t right s.node s.view key why (one_if (same_tx tx v)) (came_one tx e))
-      (λ t right. refuse_turn tx t right s.node s.view key why 1 (omega arith))
-  tc_tokens (Chain (Committed tx key)) = turn_one tx (λ t. commit.committed_row s.node s.view tx t) 0 (λ t right e. committed_turn tx t right s.node s.view 0) (λ t right. committed_turn tx t right s.node s.view 1)
-  tc_tokens (Chain (Completed tx key)) = turn_one tx (λ t. completed_row s.node tx t) 0 (λ t right e. completed_turn tx t right s.node 0) (λ t right. completed_turn tx t right s.node 1)
-  tc_tokens (Chain (Aborted tx key)) = turn_one tx (λ t. aborted_row s.node tx t) 0 (λ t right e. aborted_turn tx t right s.node 0) (λ t right. aborted_turn tx t right s.node 1)
-  tc_tokens (Epoch (DiVerifyConf tx epoch)) = turn_one tx (λ t. commit.commit_row s.node s.view tx t epoch) 0 (λ t right e. commit_turn tx t right s.node s.view epoch 0) (λ t right. commit_turn tx t right s.node s.view epoch 1)
-  tc_tokens _ = nothing 0
+  tc_tokens body =
+      tc_each Tokens (StepTokens v s bs (one_if (is_token v body))) s body (record {
+        turns = λ tx t at split. let right = (own tx t at split).right in
+            rows_both s.node s.view tx t body (λ turn. TurnTokens tx t (came tx) turn) (λ turn. TurnTokens tx t 1 turn)
+            (rows_tokens s.node s.view tx t body right (came tx) (λ key answer is. came_some tx (ap (is_token v) is)) (λ key why is. came_some tx (ap (is_token v) is)))
+            (rows_tokens s.node s.view tx t body right 1 (λ key answer is. omega arith) (λ key why is. omega arith));
+        turned = λ tx t at split turn is.
+            turn_tokens tx t at split turn (one_if (is_token v body)) (λ e. subst (λ n. TurnTokens tx t n turn) (ap (λ b. cond b (one_if (is_token v body)) 1) e) is.0) is.1 turn.over refl;
+        stays = nothing (one_if (is_token v body));
+        full = λ name. record { home = λ m low. omega (arith, low); away = λ off. refl };
+        begins = λ name. let none = begins name in record { home = λ m low. none.home m (omega (arith, low)); away = none.away };
+        passes = λ tx ahead. record { home = λ m low. omega (arith, low); away = λ off. refl };
+      })
+    where
+      -- of this transaction so many came; of the others one may have come
+      came : TxId → ℕ
+      came tx = cond (same_tx tx v) (one_if (is_token v body)) 1
+
+      came_some : (tx : TxId) → is_token v body ≡ same_tx tx v → 1 ≤ came tx
+      came_some tx is = by (same_tx tx v) is
+        where
+          by : (b : Bool) → is_token v body ≡ b → 1 ≤ cond b (one_if (is_token v body)) 1
+          by true e = omega (arith, ap one_if e)
+          by false e = omega arith
+
+      Tokens : TxId → Transaction → Turn → Type 0
+      Tokens tx t turn = TurnTokens tx t (came tx) turn × TurnTokens tx t 1 turn

@@ -1,8 +1,8 @@
 -- What a step of a coordinator does to one transaction: it takes its turn, or is left alone.
 use Rattle.std.proofs.Common.{◌≡◌, ℕ, ◌≤◌, List, ◌++◌, length, Bool, true, false, cond, refl, ap, sym, ◌∙◌, subst, arith}
-use Rattle.std.specs.Prelude.{nat_lt, not, Option, None, Some, slice_get, is_some, if◌then◌else◌}
+use Rattle.std.specs.Prelude.{nat_lt, not, Option, None, Some, is_some, if◌then◌else◌}
 use Rattle.std.specs.List.{prefix_len}
-use Rattle.std.specs.Map.{keys_of, values_of}
+use Rattle.std.specs.Map.{keys_of}
 use Rattle.std.proofs.lemmas.Bool.Decides.{nat_tests}
 use Rattle.run_theory.specs.Lists.{Each}
 use Rattle.sig_core.specs.declared.member.TxId.{TxId}
@@ -20,7 +20,7 @@ use Rattle.tc_block.specs.declared.transaction.Transaction.{Transaction}
 use Rattle.tc_block.specs.Abort as abort
 use Rattle.tc_block.specs.Commit as commit
 use Rattle.tc_block.specs.Complete as complete
-use Rattle.tc_block.specs.Live.{place_in, step_of, step_place, step_value, turn_of, turn_place, turn_value, turned_if, without}
+use Rattle.tc_block.specs.Live.{place_in, step_of, turn_of, turn_place, turn_value, turned_if, without}
 use Rattle.tc_block.specs.Operate as operate
 use Rattle.tc_block.specs.Sends.{go_on_row}
 use Rattle.tc_block.specs.State.{TcState}
@@ -29,7 +29,7 @@ use Rattle.tc_block.specs.Turn.{Turn, going}
 use Rattle.answer_laws.proofs.NodeOps.{absent_key}
 use Rattle.answer_laws.proofs.Tally.{one_if, tally, tally_append, tally_between}
 use Rattle.answer_laws.proofs.TcLives.{is_keyed}
-use Rattle.answer_laws.proofs.TcMoves.{IsEntry, found, same_tx-is}
+use Rattle.answer_laws.proofs.TcMoves.{IsEntry, found, same_tx-is, step_is}
 use Rattle.answer_laws.proofs.TcSends.{tx_in}
 use Rattle.transit_laws.specs.Live.{of_live}
 use Rattle.transit_laws.proofs.LiveOf.{of_here, uncounted_others}
@@ -54,17 +54,6 @@ pub data TcTurn (tx : TxId) (s : TcState) (body : Body) (step : Step TcState) : 
 next_other : (tx : TxId) (body : Body) → same_tx (tx_in body) tx ≡ false → is_next tx body ≡ false
 next_other tx (Host (Continue (work.Transaction one) at)) e = e
 next_other tx _ e = refl
-
-step_is : (s : TcState) (one : TxId) (row : Transaction → Step Transaction) → step_of s one row ≡ turn_of s one (λ t. going (row t))
-step_is s one row = at_place (place_in s one)
-  where
-    at_value : (at : ℕ) (t : Option Transaction) → step_value s row at t ≡ turn_value s (λ t. going (row t)) at t
-    at_value at None = refl
-    at_value at (Some t) = refl
-
-    at_place : (o : Option ℕ) → step_place s row o ≡ turn_place s (λ t. going (row t)) o
-    at_place None = refl
-    at_place (Some at) = at_value at (slice_get (values_of s.live) at)
 
 module _ (tx : TxId) (s : TcState) (once : tally (is_keyed tx) s.live ≤ 1) where
   turn_step : (body : Body) (row : Transaction → Turn) → ((t : Transaction) → TurnOwn (tx_in body) (row t))

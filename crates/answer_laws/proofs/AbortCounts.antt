@@ -1,0 +1,102 @@
+-- Aborts of a transaction and their answers, signal by signal.
+use Rattle.std.proofs.Common.{◌≡◌, ◌≢◌, ℕ, ◌≤◌, ◌<◌, List, [], ◌∷◌, Bool, true, false, refl, ap, sym, subst, arith}
+use Rattle.std.specs.Prelude.{◌==◌, ◌&&◌, nat_lt}
+use Rattle.std.proofs.lemmas.Bool.{eqb-true}
+use Rattle.std.proofs.lemmas.Bool.Decides.{nat_tests}
+use Rattle.lqh_block.specs.Abort.{abort_row, refused_by, waits_at}
+use Rattle.lqh_block.specs.Lqh.{lqh_row}
+use Rattle.lqh_block.specs.State.{LqhState, freed_lock, serve_granted}
+use Rattle.sig_core.specs.declared.member.TxId.{TxId}
+use Rattle.sig_core.specs.declared.outs.Outgoing.{Outgoing}
+use Rattle.sig_core.specs.declared.place.Place.{Place}
+use Rattle.sig_core.specs.declared.signal.Body.{Body}
+use Rattle.sig_core.specs.declared.signal.Body.TheVariants.{Host, Chain}
+use Rattle.sig_core.specs.declared.signal.chain.ChainSignal.TheVariants.{Abort, Aborted}
+use Rattle.sig_core.specs.declared.signal.host.HostSignal.TheVariants.{Continue}
+use Rattle.sig_core.specs.declared.signal.host.Work.TheVariants as work
+use Rattle.sig_core.specs.Place.{coordinator_of}
+use Rattle.sig_core.specs.Same.{same_tx}
+use Rattle.sig_core.specs.Step.{to_place}
+use Rattle.answer_laws.proofs.LqhOps.{is_lqh, is_node, left_of, right_of, true_and}
+use Rattle.answer_laws.proofs.Tally.{and_few, one_if, tally_append}
+use Rattle.answer_laws.proofs.TcAborts.{aborted_body, is_abort}
+use Rattle.answer_laws.proofs.PartCounts.{is_cont}
+use Rattle.answer_laws.proofs.TcMoves.{same_tx-is}
+use Rattle.answer_laws.proofs.TcSends.{eqb-self, tx_in}
+use Rattle.answer_laws.proofs.TcTurns.{is_turn}
+use Rattle.answer_laws.proofs.Wishes.{is_tc, sends_of, to_node}
+
+-- what came to the rows of a node
+abbrev pub abort_body : TxId → Body → Bool
+abort_body tx (Chain (Abort other key)) = same_tx other tx
+abort_body tx _ = false
+
+-- a replica answers an abort
+pub lqh_aborts : (n : ℕ) (tx : TxId) (s : LqhState) (body : Body) → one_if (abort_body tx body) ≤ sends_of (is_abort n tx) (lqh_row s body).effects.sends
+unfolding abort_row
+lqh_aborts n tx s (Chain (Abort other key)) = by (same_tx other tx) refl
+  where
+    by : (b : Bool) → same_tx other tx ≡ b → one_if (same_tx other tx) ≤ sends_of (is_abort n tx) (abort_row s other key).effects.sends
+    by false e = omega (arith, ap one_if e)
+    by true e =
+        omega (
+          arith,
+          ap one_if e,
+          tally_append (λ (x : Outgoing). is_abort n tx x.to x.body) (refused_by other key (waits_at s other key)) (to_place (coordinator_of other) (Chain (Aborted other key)) ∷ serve_granted s.node (freed_lock s other key)),
+          ap one_if (true_and (other.tc == tx.tc) (same_tx other tx) (subst (λ (t : TxId). (t.tc == tx.tc) ≡ true) (sym (same_tx-is other tx e)) (eqb-self tx.tc)) e),
+        )
+lqh_aborts n tx s _ = omega arith
+
+pub few_rows : (n : ℕ) (tx : TxId) (to : Place) (body : Body) → is_tc to.block ≡ false → one_if (is_abort n tx to body) ≤ one_if (abort_body tx body)
+few_rows n tx to (Chain (Abort other key)) e = and_few (is_lqh to.block && is_node n to.node) _
+few_rows n tx to (Chain (Aborted other key)) e = omega (arith, ap (λ b. one_if ((b && (to.node == tx.tc)) && same_tx other tx)) e)
+few_rows n tx to _ e = omega arith
+
+pub few_answers : (n : ℕ) (tx : TxId) (to : Place) (body : Body) → is_lqh to.block ≡ false → one_if (is_abort n tx to body) ≤ one_if (aborted_body tx body)
+few_answers n tx to (Chain (Abort other key)) e = omega (arith, ap (λ b. one_if ((b && is_node n to.node) && same_tx other tx)) e)
+few_answers n tx to (Chain (Aborted other key)) e = and_few (is_tc to.block && (to.node == tx.tc)) _
+few_answers n tx to _ e = omega arith
+
+pub none_at : (n : ℕ) (tx : TxId) (to : Place) (body : Body) → is_lqh to.block ≡ false → (is_tc to.block && (to.node == tx.tc)) ≡ false → one_if (is_abort n tx to body) ≡ 0
+none_at n tx to (Chain (Abort other key)) p q = ap (λ b. one_if ((b && is_node n to.node) && same_tx other tx)) p
+none_at n tx to (Chain (Aborted other key)) p q = ap (λ b. one_if (b && same_tx other tx)) q
+none_at n tx to _ p q = refl
+
+pub abort_low : (n : ℕ) (tx : TxId) → tx.tc < n → (to : Place) (body : Body) → is_abort n tx to body ≡ true → to.node < n
+abort_low n tx low to (Chain (Abort other key)) e =
+    grind (arith, nat_tests, right_of (nat_lt 0 to.node) (nat_lt to.node n) (right_of (is_lqh to.block) (is_node n to.node) (left_of (is_lqh to.block && is_node n to.node) _ e)))
+abort_low n tx low to (Chain (Aborted other key)) e =
+    omega (arith, low, eqb-true to.node tx.tc (right_of (is_tc to.block) (to.node == tx.tc) (left_of (is_tc to.block && (to.node == tx.tc)) _ e)))
+abort_low n tx low to _ e = cc
+
+-- an answer, or the signal to go on, is a turn of the transaction
+pub answer_turn : (tx : TxId) (body : Body) → aborted_body tx body ≡ true → (is_turn body ≡ true) × (tx_in body ≡ tx)
+answer_turn tx (Chain (Aborted other key)) e = (refl, same_tx-is other tx e)
+answer_turn tx _ e = cc
+
+pub cont_turn : (tx : TxId) (a : ℕ) (to : Place) (body : Body) → is_cont tx a to body ≡ true → (is_turn body ≡ true) × (tx_in body ≡ tx)
+cont_turn tx a to (Host (Continue (work.Transaction other) at)) e =
+    (refl, same_tx-is other tx (left_of (same_tx other tx) (at == a) (right_of (is_tc to.block && (to.node == tx.tc)) (same_tx other tx && (at == a)) e)))
+cont_turn tx a to _ e = cc
+
+pub cont_place : (tx : TxId) (a at : ℕ) (to : Place) → a ≢ at → is_cont tx a to (Host (Continue (work.Transaction tx) at)) ≡ false
+cont_place tx a at to differs = by (at == a) refl (is_tc to.block && (to.node == tx.tc)) (same_tx tx tx)
+  where
+    by : (x : Bool) → (at == a) ≡ x → (y z : Bool) → (y && (z && x)) ≡ false
+    by true e y z = absurd (differs (sym (eqb-true at a e)))
+    by false e true true = refl
+    by false e true false = refl
+    by false e false z = refl
+
+-- what goes on from a coordinator goes to itself
+pub conts_few : (tx : TxId) (a : ℕ) (xs : List Outgoing) → sends_of (is_cont tx a) xs ≤ sends_of (to_node tx.tc (is_cont tx a)) xs
+conts_few tx a [] = omega arith
+conts_few tx a (o ∷ xs) = omega (arith, conts_few tx a xs, one o.to o.body (is_cont tx a o.to o.body) refl)
+  where
+    at_self : (to : Place) (body : Body) → is_cont tx a to body ≡ true → (to.node == tx.tc) ≡ true
+    at_self to (Host (Continue (work.Transaction other) at)) e = right_of (is_tc to.block) (to.node == tx.tc) (left_of (is_tc to.block && (to.node == tx.tc)) (same_tx other tx && (at == a)) e)
+    at_self to _ e = cc
+
+    one : (to : Place) (body : Body) (b : Bool) → is_cont tx a to body ≡ b → one_if (is_cont tx a to body) ≤ one_if ((to.node == tx.tc) && is_cont tx a to body)
+    one to body false e = omega (arith, ap one_if e)
+    one to body true e = omega (arith, ap one_if (true_and (to.node == tx.tc) (is_cont tx a to body) (at_self to body e) e), ap one_if e)

@@ -1,0 +1,34 @@
+-- What each operation and each commit of a transaction with a name comes to.
+use Rattle.std.proofs.Common.{◌≡◌, ◌⊎◌, ℕ, List, inl, inr}
+use Rattle.std.specs.Prelude.{Some}
+use Rattle.sig_core.specs.declared.log.LogStep.{LogStep}
+use Rattle.sig_core.specs.declared.op.Op.{Op}
+use Rattle.sig_core.specs.declared.request.ApiReq.TheVariants as request
+use Rattle.world_core.specs.Start.{Start}
+use Rattle.answer_laws.proofs.Answers.{each_answered}
+use Rattle.answer_laws.specs.Answered.{opened_after}
+use Rattle.command_laws.proofs.Committed.{commits_committed}
+use Rattle.command_laws.proofs.OperationAnswered.{operations_answered}
+use Rattle.command_laws.proofs.TurnedDown.{TakesCommands, TakesOperations, commit_taken, operation_taken}
+use Rattle.command_laws.specs.Answers.{CommitComesTo, CommitsComeTo, IsLeftWaiting, IsTurnedDown, OperationComesTo, OperationsComeTo}
+use Rattle.command_laws.specs.Served.{IsAnsweredAs, IsRefusedAs, IsServed, StillWaits}
+
+pub operations_come_to : OperationsComeTo
+operations_come_to start was now name op served = by (operation_taken start was now name op served)
+  where
+    left : {A B : Type 0} → (tx : _) → A ⊎ (B ⊎ StillWaits start now name tx) → A ⊎ (B ⊎ IsLeftWaiting start now name)
+    left tx (inl a) = inl a
+    left tx (inr (inl b)) = inr (inl b)
+    left tx (inr (inr waits)) = inr (inr (record { tx = tx; waits = waits }))
+
+    by : IsTurnedDown start was now name ⊎ TakesOperations (opened_after start was) name → OperationComesTo start was now name
+    by (inl turned) = inl turned
+    by (inr t) =
+        inr (left t.takes.tx (operations_answered each_answered start was now name op t.takes.item t.takes.tx served t.takes.named t.takes.ready t.takes.own t.few))
+
+pub commits_come_to : CommitsComeTo
+commits_come_to start was now name served = by (commit_taken start was now name served)
+  where
+    by : IsTurnedDown start was now name ⊎ TakesCommands (opened_after start was) name → CommitComesTo start was now name
+    by (inl turned) = inl turned
+    by (inr t) = inr (record { tx = t.tx; committed = commits_committed each_answered start was now name t.item t.tx served t.named t.ready t.own })

@@ -1,0 +1,8 @@
+//! Each request is served between two quiet moments.
+ghost use Rattle.command_laws.specs.Between.{RequestsAreServed};
+
+/// Where each request is asked for at quiet, one that was driven to quiet is served between two quiet
+/// moments: the one at which it is asked for, and the next one at which a request is, or the end.
+pub fn requests_are_served()
+    ensures { RequestsAreServed }
+{}
