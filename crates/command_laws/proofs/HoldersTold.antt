@@ -1,10 +1,11 @@
 -- The two questions about a command that left something unanswered tell for whom that waits.
-use Rattle.std.proofs.Common.{◌≡◌, ◌<◌, ◌≤◌, ◌+◌, ℕ, zero, suc, Bool, true, false, List, [], ◌∷◌, ◌++◌, length, refl, sym, ap, ◌∙◌, subst, append_assoc, arith}
+use Rattle.std.proofs.Common.{◌≡◌, ◌<◌, ◌≤◌, ◌+◌, ℕ, zero, suc, Bool, true, false, List, [], ◌∷◌, ◌++◌, length, refl, sym, ap, ◌∙◌, subst, inl, inr, append_assoc, arith}
 use Rattle.std.specs.Prelude.{◌&&◌, Option, None, Some, drop, is_some, option_to_list, slice_get}
 use Rattle.run_theory.specs.Cuts.{IsCut}
 use Rattle.run_theory.specs.Links.{is_from}
 use Rattle.run_theory.specs.Lists.{IsIn}
 use Rattle.run_theory.specs.Runs.{log_of}
+use Rattle.run_theory.proofs.Orders.{each_log}
 use Rattle.run_theory.proofs.Pasts.{past_self}
 use Rattle.sig_core.specs.declared.log.LogStep.{LogStep}
 use Rattle.sig_core.specs.declared.member.TxId.{TxId}
@@ -33,7 +34,8 @@ use Rattle.answer_laws.proofs.Commits.{live_low}
 use Rattle.answer_laws.proofs.Hosts.{node_after, shell_after}
 use Rattle.answer_laws.proofs.LinkCounts.{steps}
 use Rattle.answer_laws.proofs.Lives.{holds_at, once_started}
-use Rattle.answer_laws.proofs.Tally.{one_if, tally, tally_append, tally_between}
+use Rattle.answer_laws.proofs.Tally.{Counted, counted, one_if, tally, tally_append, tally_between}
+use Rattle.commit_laws.proofs.Keys.{same_tx-self}
 use Rattle.answer_laws.proofs.Wishes.{sends_of, to_node}
 use Rattle.answer_laws.specs.Answered.{EachIsAnswered, IsLiveAs, is_answered_by, opened_after, opened_in}
 use Rattle.transit_laws.specs.Live.{of_live}
@@ -42,10 +44,10 @@ use Rattle.command_laws.proofs.Since.{all_arrive, sent_since_to, taken_since}
 use Rattle.command_laws.proofs.TellsSince.{OnTc, sound_at}
 use Rattle.command_laws.proofs.Told.{told_since}
 use Rattle.command_laws.proofs.WaitApi.{IsAboutOne, IsAsking, IsOwn, TellsHolder, own_found, pending_first, waits_first}
-use Rattle.command_laws.proofs.WaitRows.{in_live, is_found, is_passed, is_probe, is_want}
+use Rattle.command_laws.proofs.WaitRows.{in_live, is_found, is_passed, is_probe, is_telling_who, is_wait_of, is_want}
+use Rattle.command_laws.proofs.WaitsBehind.{IsBehindThere, behind_there}
 use Rattle.command_laws.proofs.WaitRun.{AllHold, all_hold}
-use Rattle.commit_laws.proofs.Keys.{same_tx-self}
-use Rattle.command_laws.specs.Served.{EachIsHeldUp, HoldersAreTold, IsHeldUp, IsHeldUpAt, IsServed, IsToldHolder, own_in}
+use Rattle.command_laws.specs.Served.{name_in, EachIsHeldUp, HoldersAreTold, IsHeldUp, IsHeldUpAt, IsServed, IsToldHolder, own_in}
 
 sent_to_append : (start : Start) (test : Place → Body → Bool) (h j : ℕ) (xs ys log : List LogStep)
     → sent_since_to start test h j (xs ++ ys) log ≡ sent_since_to start test h j xs (ys ++ log) + sent_since_to start test h j ys log
@@ -219,20 +221,42 @@ module _ (answered : EachIsAnswered) (held_up : EachIsHeldUp) (start : Start) (w
   about : IsAboutOne i.first.front t i.first.back (Some i.name) all.shell.ahead (after start 0 (mid 0))
   about = subst (λ log. IsAboutOne i.first.front t i.first.back (Some i.name) all.shell.ahead (after start 0 log)) (sym (all.is 0)) all.shell.about
 
-  tells : TellsHolder t.name (after start 0 (mid 0)) (step_after start 0 (mid 0) then.first)
+  tells : TellsHolder t.name all.shell.ahead (after start 0 (mid 0)) (step_after start 0 (mid 0) then.first)
   tells =
-      subst (λ (to : Place). TellsHolder t.name (after start 0 (mid 0)) (row (after start 0 (mid 0)) to then.first.taken.body)) (sym then.place)
-      (subst (λ body. TellsHolder t.name (after start 0 (mid 0)) (row (after start 0 (mid 0)) client body)) (sym then.body)
+      subst (λ (to : Place). TellsHolder t.name all.shell.ahead (after start 0 (mid 0)) (row (after start 0 (mid 0)) to then.first.taken.body)) (sym then.place)
+      (subst (λ body. TellsHolder t.name all.shell.ahead (after start 0 (mid 0)) (row (after start 0 (mid 0)) client body)) (sym then.body)
       (pending_first (after start 0 (mid 0)) i.first.front t i.first.back i.name all.shell.ahead about unanswered i.first.none i.first.passes ahead_known))
 
+  -- the signal that told it came from a node where the transaction waits behind that one
+  telling : Counted (λ (e : LogStep). is_telling_who w.tx tells.who e.taken.to e.taken.body) (log_of (machine start) all.more 0)
+  telling = counted (λ (e : LogStep). is_telling_who w.tx tells.who e.taken.to e.taken.body) (log_of (machine start) all.more 0) (all.shell.from tells.who tells.is)
+
+  in_front : (xs ys : List LogStep) (e : LogStep) → IsIn e xs → IsIn e (xs ++ ys)
+  in_front [] ys e inside = absurd inside
+  in_front (x ∷ xs) ys e (inl same) = inl same
+  in_front (x ∷ xs) ys e (inr rest) = inr (in_front xs ys e rest)
+
+  behind : IsBehindThere start was mid w.tx tells.who first_served.before first_served.since cut (λ h. each_log (machine start) (λ (e : LogStep). is_wait_of w.tx e.taken.body ≡ true) all.more (suc h) all.waits)
+  behind =
+      behind_there start was mid w.tx tells.who first_served.before first_served.since cut (λ h. each_log (machine start) (λ (e : LogStep). is_wait_of w.tx e.taken.body ≡ true) all.more (suc h) all.waits)
+      telling.item (in_front (log_of (machine start) all.more 0) (f.first ∷ []) telling.item telling.inside) telling.passes
+
   holder_told : IsToldHolder start was mid now
-  holder_told = record {
-    own = t;
-    is = own;
-    holder = tells.holder;
-    told = subst (λ log. IsIn (Pending t.name (HeldBy tells.holder)) (drop (length (replies_of (after start 0 (mid 0)))) (replies_of (after start 0 log)))) (sym then.is)
-        (told_since start (mid 0) (mid 0) then.later then.first (Pending t.name (HeldBy tells.holder)) (past_self (mid 0)) tells.told);
-  }
+  holder_told =
+      let reply = Pending t.name (HeldBy (name_in (opened_after start mid) tells.who)) in
+      record {
+        own = t;
+        is = own;
+        tx = w.tx;
+        number = w.own;
+        ahead = tells.who;
+        node = behind.node;
+        low = behind.low;
+        key = behind.key;
+        behind = behind.behind;
+        told = subst (λ log. IsIn reply (drop (length (replies_of (after start 0 (mid 0)))) (replies_of (after start 0 log)))) (sym then.is)
+            (told_since start (mid 0) (mid 0) then.later then.first reply (past_self (mid 0)) tells.told);
+      }
 
 -- the own transaction of a host whose last command left it unanswered
 record IsLeft (g : host.Host) : Type 0 where

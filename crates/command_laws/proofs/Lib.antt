@@ -41,3 +41,5 @@ pub mod WaitApi
 pub mod WaitHosts
 pub mod WaitRows
 pub mod WaitRun
+pub mod WaitSources
+pub mod WaitsBehind

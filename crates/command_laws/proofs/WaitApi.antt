@@ -1,5 +1,5 @@
 -- The API while it asks what its own transaction waits for.
-use Rattle.std.proofs.Common.{◌≡◌, ◌≤◌, ◌+◌, ℕ, true, false, List, [], ◌∷◌, ◌++◌, length, refl, sym, ap, ◌∙◌, subst, arith}
+use Rattle.std.proofs.Common.{◌≡◌, ◌⊎◌, ◌≤◌, ◌+◌, ℕ, true, false, List, [], ◌∷◌, ◌++◌, length, refl, sym, ap, ◌∙◌, subst, inl, inr, arith}
 use Rattle.std.specs.Prelude.{◌==◌, ◌&&◌, Option, None, Some, is_some, not, position, slice_get, slice_set}
 use Rattle.sig_core.specs.declared.member.TxId.{TxId}
 use Rattle.sig_core.specs.declared.place.BlockId.{BlockId}
@@ -29,11 +29,12 @@ use Rattle.answer_laws.proofs.LqhOps.{true_and}
 use Rattle.answer_laws.proofs.Tally.{one_if, tally}
 use Rattle.answer_laws.proofs.TcMoves.{same_tx-is}
 use Rattle.answer_laws.proofs.TcSends.{eqb-self}
-use Rattle.answer_laws.proofs.Wishes.{is_api, sends_of, to_node}
-use Rattle.command_laws.proofs.Places.{IsFirstOf, first_there, split_get, split_position, split_set}
-use Rattle.command_laws.proofs.WaitRows.{is_other, is_passed, is_wait_of, is_want, passed_of}
 use Rattle.commit_laws.proofs.Keys.{same_tx-self}
-use Rattle.command_laws.specs.Served.{own_in}
+use Rattle.answer_laws.proofs.Wishes.{is_api, sends_of, to_node}
+use Rattle.answer_laws.specs.Answered.{opened_in}
+use Rattle.command_laws.proofs.Places.{IsFirstOf, first_there, split_get, split_position, split_set}
+use Rattle.command_laws.proofs.WaitRows.{is_other, is_passed, is_telling_who, is_wait_of, is_want, passed_of}
+use Rattle.command_laws.specs.Served.{name_in, own_in}
 
 -- the API's own transaction: the first of the name that the last command is about
 pub record IsOwn (s : ApiState) (t : OpenTransaction) : Type 0 where
@@ -85,6 +86,7 @@ module _ (front : List OpenTransaction) (t : OpenTransaction) (back : List OpenT
       pub plain : sends_of (is_other tx) step.effects.sends ≡ 0
       pub kept : is_some ahead ≡ true → is_some now ≡ true
       pub told : is_passed tx to body ≡ true → is_some now ≡ true
+      pub from : (who : TxId) → now ≡ Some who → (ahead ≡ Some who) ⊎ (is_telling_who tx who to body ≡ true)
 
     shell_waits : (s : ApiState) (ahead : Option TxId) (to : Place) (at : BlockId) (body : Body) → to.block ≡ at → is_wait_of tx body ≡ true → s.own ≡ own → s.opened ≡ front ++ behind t ahead ∷ back
         → StaysAbout ahead to body (row (Shell s) to body)
@@ -98,7 +100,12 @@ module _ (front : List OpenTransaction) (t : OpenTransaction) (back : List OpenT
           plain = refl;
           kept = λ some. some;
           told = λ on. absurd (let both : false ≡ true = sym off ∙ (ap (λ c. is_api c && passed_of tx body) (sym there) ∙ on) in cc);
+          from = λ who is. inl is;
         }
+
+        told_who : (who next one : TxId) → same_tx one tx ≡ true → next ≡ who → Client (TcWaitConf one next) ≡ body → to.block ≡ block.Api → is_telling_who tx who to body ≡ true
+        told_who who next one w which same there =
+            ap (λ c. is_telling_who tx who to c) (sym same) ∙ ap (λ b. is_api b && (same_tx one tx && same_tx next who)) there ∙ ap (λ b. b && same_tx next who) w ∙ ap (λ v. same_tx v who) which ∙ same_tx-self who
 
         api : (b : Body) → b ≡ body → is_wait_of tx b ≡ true → to.block ≡ block.Api → StaysAbout ahead to body (in_shell (shell_row s block.Api b))
         api (Client (TcWaitConf one next)) same w there = record {
@@ -113,6 +120,7 @@ module _ (front : List OpenTransaction) (t : OpenTransaction) (back : List OpenT
           plain = refl;
           kept = λ some. refl;
           told = λ on. refl;
+          from = λ who now_is. inr (told_who who next one w (let which : next ≡ who = cc in which) same there);
         }
         api (Client (TcWaitReq one)) same w there = stays block.Api there (ap (λ b. passed_of tx b) (sym same))
         api (Client (LqhWaitReq one key)) same w there = stays block.Api there (ap (λ b. passed_of tx b) (sym same))
@@ -175,20 +183,22 @@ pending_by_replies s holder None None = refl
 pending_by_replies s holder (Some name) one = refl
 
 -- the question for replies tells the holder
-pub record TellsHolder (name : Option ℕ) (g : host.Host) (step : Step host.Host) : Type 0 where
-  pub holder : Option ℕ
-  pub told : replies_of step.state ≡ replies_of g ++ Pending name (HeldBy holder) ∷ []
+pub record TellsHolder (name : Option ℕ) (ahead : Option TxId) (g : host.Host) (step : Step host.Host) : Type 0 where
+  pub who : TxId
+  pub is : ahead ≡ Some who
+  pub told : replies_of step.state ≡ replies_of g ++ Pending name (HeldBy (name_in (opened_in g) who)) ∷ []
 
 pub pending_first : (g : host.Host) (front : List OpenTransaction) (t : OpenTransaction) (back : List OpenTransaction) (name : Option ℕ) (ahead : Option TxId) → IsAboutOne front t back (Some name) ahead g
     → is_unanswered t.doing ≡ true → tally (is_named name) front ≡ 0 → is_named name t ≡ true → is_some ahead ≡ true
-    → TellsHolder t.name g (row g client (Host (Continue (work.Request request.Pending) 0)))
+    → TellsHolder t.name ahead g (row g client (Host (Continue (work.Request request.Pending) 0)))
 unfolding row shell_row request_row pending_row replies_of
 pending_first g front t back name ahead about waits none named some = by ahead some about
   where
-    by : (a : Option TxId) → is_some a ≡ true → IsAboutOne front t back (Some name) a g → TellsHolder t.name g (row g client (Host (Continue (work.Request request.Pending) 0)))
+    by : (a : Option TxId) → is_some a ≡ true → IsAboutOne front t back (Some name) a g → TellsHolder t.name a g (row g client (Host (Continue (work.Request request.Pending) 0)))
     by None off about = cc
-    by (Some next) on about = subst (λ h. TellsHolder t.name h (row h client (Host (Continue (work.Request request.Pending) 0)))) (sym about.is) (record {
-      holder = name_of about.state next;
+    by (Some next) on about = subst (λ h. TellsHolder t.name (Some next) h (row h client (Host (Continue (work.Request request.Pending) 0)))) (sym about.is) (record {
+      who = next;
+      is = refl;
       told = ap (λ (r : Step ApiState). r.state.replies) now ∙ pending_by_replies about.state (name_of about.state next) t.name t.tx;
     })
       where

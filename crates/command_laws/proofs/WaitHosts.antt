@@ -1,5 +1,5 @@
 -- Each host along steps that take questions of what one transaction waits for, and answers to them.
-use Rattle.std.proofs.Common.{◌≡◌, ◌≤◌, ◌+◌, ℕ, suc, Bool, true, false, List, [], ◌∷◌, ◌++◌, refl, sym, ap, ◌∙◌, subst, arith}
+use Rattle.std.proofs.Common.{◌≡◌, ◌⊎◌, ◌≤◌, ◌+◌, ℕ, suc, Bool, true, false, List, [], ◌∷◌, ◌++◌, refl, sym, ap, ◌∙◌, subst, inl, inr, arith}
 use Rattle.std.specs.Prelude.{Option, None, Some, is_some}
 use Rattle.run_theory.specs.Lists.{IsIn}
 use Rattle.sig_core.specs.declared.log.LogStep.{LogStep}
@@ -27,7 +27,7 @@ use Rattle.transit_laws.specs.Live.{of_live}
 use Rattle.command_laws.proofs.Since.{sent_since, sent_since_to}
 use Rattle.command_laws.proofs.TellsSince.{OnTc}
 use Rattle.command_laws.proofs.WaitApi.{IsAboutOne, StaysAbout, about_waits}
-use Rattle.command_laws.proofs.WaitRows.{is_found, is_other, is_passed, is_probe, is_wait_of, is_want, node_finds, node_passes, node_waits, node_wants}
+use Rattle.command_laws.proofs.WaitRows.{is_found, is_other, is_passed, is_probe, is_telling_who, is_wait_of, is_want, node_finds, node_passes, node_waits, node_wants}
 use Rattle.command_laws.specs.Served.{IsHeldUpAt}
 
 module _ (start : Start) (was : ℕ → List LogStep) (tx : TxId) (u : Transaction) (asked : Asked) (member : Member) (unanswered : u.asked ≡ Some asked) (inside : IsIn member asked.chain)
@@ -95,12 +95,13 @@ module _ (start : Start) (was : ℕ → List LogStep) (tx : TxId) (u : Transacti
       pub ahead : Option TxId
       pub about : IsAboutOne front t back own ahead (after start 0 (newer ++ base))
       pub known : 1 ≤ steps (is_passed tx) newer → is_some ahead ≡ true
+      pub from : (who : TxId) → ahead ≡ Some who → 1 ≤ steps (is_telling_who tx who) newer
 
     pub shell_none : IsAboutOne front t back own None (after start 0 base) → ShellHolds []
-    shell_none about = record { plain = refl; ahead = None; about = about; known = λ some. absurd (omega (arith, some)) }
+    shell_none about = record { plain = refl; ahead = None; about = about; known = λ some. absurd (omega (arith, some)); from = λ who is. cc }
 
     pub shell_next : (e : LogStep) (newer : List LogStep) → is_wait_of tx e.taken.body ≡ true → ShellHolds newer → ShellHolds (e ∷ newer)
-    shell_next e newer is holds = record { plain = omega (arith, holds.plain, stays.plain); ahead = stays.now; about = stays.about; known = λ some. known (is_passed tx e.taken.to e.taken.body) refl some }
+    shell_next e newer is holds = record { plain = omega (arith, holds.plain, stays.plain); ahead = stays.now; about = stays.about; known = λ some. known (is_passed tx e.taken.to e.taken.body) refl some; from = λ who is. source who (stays.from who is) }
       where
         stays : StaysAbout front t back own tx own_tx none holds.ahead e.taken.to e.taken.body (row (after start 0 (newer ++ base)) e.taken.to e.taken.body)
         stays = about_waits front t back own tx own_tx none (after start 0 (newer ++ base)) holds.ahead e.taken.to e.taken.body is holds.about
@@ -108,3 +109,7 @@ module _ (start : Start) (was : ℕ → List LogStep) (tx : TxId) (u : Transacti
         known : (b : Bool) → is_passed tx e.taken.to e.taken.body ≡ b → 1 ≤ one_if (is_passed tx e.taken.to e.taken.body) + steps (is_passed tx) newer → is_some stays.now ≡ true
         known true on some = stays.told on
         known false off some = stays.kept (holds.known (omega (arith, some, ap one_if off)))
+
+        source : (who : TxId) → (holds.ahead ≡ Some who) ⊎ (is_telling_who tx who e.taken.to e.taken.body ≡ true) → 1 ≤ steps (is_telling_who tx who) (e ∷ newer)
+        source who (inl old) = omega (arith, holds.from who old)
+        source who (inr new) = omega (arith, ap one_if new)

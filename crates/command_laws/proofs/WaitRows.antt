@@ -88,6 +88,14 @@ passed_of tx _ = false
 abbrev pub is_passed : TxId → Place → Body → Bool
 is_passed tx to body = is_api to.block && passed_of tx body
 
+-- and of this one
+abbrev pub tells_who : TxId → TxId → Body → Bool
+tells_who tx who (Client (TcWaitConf other ahead)) = same_tx other tx && same_tx ahead who
+tells_who tx who _ = false
+
+abbrev pub is_telling_who : TxId → TxId → Place → Body → Bool
+is_telling_who tx who to body = is_api to.block && tells_who tx who body
+
 pub same_key-is : (a b : List ℕ) → same_key a b ≡ true → a ≡ b
 same_key-is [] [] e = refl
 same_key-is [] (y ∷ b) e = cc

@@ -4,7 +4,7 @@ use Rattle.std.proofs.lemmas.Bool.{cases_eq, cases_lt}
 use Rattle.std.specs.Prelude.{Option, None, Some, not, option_to_list}
 use Rattle.run_theory.specs.Cuts.{IsCut}
 use Rattle.run_theory.specs.Links.{sent, taken}
-use Rattle.run_theory.specs.Lists.{IsIn, IsPast}
+use Rattle.run_theory.specs.Lists.{Each, IsIn, IsPast}
 use Rattle.run_theory.specs.Runs.{AreLogs, Happens, IsWithin, Run, log_of}
 use Rattle.run_theory.proofs.Cuts.{taken_past}
 use Rattle.run_theory.proofs.Growth.{along_cuts}
@@ -58,6 +58,7 @@ module _ (start : Start) (was : ℕ → List LogStep) (before : AreQuiet start w
   -- these logs are those with the request and the steps of some events, which are questions and answers to them
   pub record AllHold (logs : ℕ → List LogStep) : Type 0 where
     pub more : List LogStep
+    pub waits : Each (λ (e : LogStep). is_wait_of tx e.taken.body ≡ true) more
     pub is : (h : ℕ) → logs h ≡ log_of (machine start) more h ++ with_first was first h
     pub shell : ShellHas more
     pub nodes : NodesHold more
@@ -145,7 +146,7 @@ module _ (start : Start) (was : ℕ → List LogStep) (before : AreQuiet start w
         by (inr other) = subst (NodeHolds start was tx u asked member unanswered inside live held h) (sym (log_of-other (machine start) e all.more (suc h) other)) (all.nodes h)
 
     all_more : AllHold (log_of (machine start) (e ∷ es))
-    all_more = record { more = e ∷ all.more; is = log_more; shell = shell_more; nodes = nodes_more }
+    all_more = record { more = e ∷ all.more; waits = (is, all.waits); is = log_more; shell = shell_more; nodes = nodes_more }
 
   -- nothing else is asked for
   not_asked : (es : List LogStep) (e : LogStep) → Happens (machine start) es e → AllHold (log_of (machine start) es) → length (requests (log_of (machine start) (e ∷ es) 0)) ≤ length (requests (first ∷ was 0))
@@ -210,6 +211,7 @@ module _ (start : Start) (was : ℕ → List LogStep) (before : AreQuiet start w
       begin = record {
         holds = λ within few. record {
           more = [];
+          waits = tt;
           is = λ h. refl;
           shell = shell_none start was tx u asked member unanswered inside live held (first ∷ was 0) front t back own own_tx none about;
           nodes = λ h. node_none start was tx u asked member unanswered inside live held h;

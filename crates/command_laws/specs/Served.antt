@@ -18,10 +18,13 @@ use Rattle.sig_core.specs.declared.request.ApiReq.{ApiReq}
 use Rattle.sig_core.specs.declared.request.ApiReq.TheVariants.{Commit, Operate}
 use Rattle.sig_core.specs.declared.request.ApiReq.TheVariants as request
 use Rattle.sig_core.specs.Op.{key_of}
+use Rattle.sig_core.specs.Same.{same_tx}
 use Rattle.api_block.specs.declared.opened.Doing.TheVariants.{Operating, Ready}
 use Rattle.api_block.specs.declared.opened.OpenTransaction.{OpenTransaction}
-use Rattle.api_block.specs.Opened.{is_named, own_place, where_at}
-use Rattle.row_locks.specs.Tables.{ahead_at}
+use Rattle.api_block.specs.Opened.{has_tx, is_named, own_place, where_at}
+use Rattle.row_locks.specs.Holders.{holds}
+use Rattle.row_locks.specs.Queues.{waits}
+use Rattle.row_locks.specs.Tables.{Locks, ahead_at, lock_at}
 use Rattle.tc_block.specs.declared.phase.Asked.{Asked}
 use Rattle.tc_block.specs.declared.transaction.Transaction.{Transaction}
 use Rattle.node_core.specs.declared.host.Host.{Host}
@@ -112,12 +115,32 @@ pub record IsHeldUp (start : Start) (logs : ℕ → List LogStep) (tx : TxId) : 
 abbrev pub EachIsHeldUp : Type 0
 EachIsHeldUp = EachAtQuiet (λ start logs t. (tx : TxId) → t.tx ≡ Some tx → t.doing ≡ Operating → IsHeldUp start logs tx)
 
--- who holds what the own transaction of then waits for was told since then
+-- the transaction waits in the queue of the key, and that other one holds it
+pub record IsBehind (tx ahead : TxId) (key : List ℕ) (locks : Locks) : Type 0 where
+  pub waiting : waits tx (lock_at locks key).queue ≡ true
+  pub held : holds ahead (lock_at locks key).holders ≡ true
+  pub other : same_tx ahead tx ≡ false
+
+abbrev pub IsBehindAt : TxId → TxId → List ℕ → Host → Type 0
+IsBehindAt tx ahead key (Shell s) = ⊥
+IsBehindAt tx ahead key (Node n) = IsBehind tx ahead key n.lqh.locks
+
+-- the name of a transaction, where it has one that the API knows
+abbrev pub name_in : List OpenTransaction → TxId → Option ℕ
+name_in opened tx = where_at opened None (λ at t. t.name) (position (has_tx tx) opened)
+
+-- the name of a transaction was told since then that holds, at a node, the lock of a key for which the own transaction waits
 pub record IsToldHolder (start : Start) (was mid now : ℕ → List LogStep) : Type 0 where
   pub own : OpenTransaction
   pub is : own_in (after start 0 (was 0)) ≡ Some own
-  pub holder : Option ℕ
-  pub told : IsIn (Pending own.name (HeldBy holder)) (replies_since start mid now)
+  pub tx : TxId
+  pub number : own.tx ≡ Some tx
+  pub ahead : TxId
+  pub node : ℕ
+  pub low : node ≤ start.nodes
+  pub key : List ℕ
+  pub behind : IsBehindAt tx ahead key (after start node (mid node))
+  pub told : IsIn (Pending own.name (HeldBy (name_in (opened_after start mid) ahead))) (replies_since start mid now)
 
 -- where a command left something of its own unanswered, the two questions about it tell for whom that waits
 abbrev pub HoldersAreTold : Type 0

@@ -31,8 +31,8 @@ pub fn commits_come_to_something()
     ensures { CommitsComeTo }
 {}
 
-/// Where a command left something of its own unanswered, the two questions about it tell for whom
-/// that waits.
+/// Where a command left something of its own unanswered, the two questions about it bring the name,
+/// where it has one, of a transaction that holds the lock of a key for which the command waits.
 pub fn holders_are_told()
     ensures { HoldersAreTold }
 {}

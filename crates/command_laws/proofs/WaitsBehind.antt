@@ -1,0 +1,206 @@
+-- The transaction that the API is told of holds the lock for which its own one waits.
+use Rattle.std.proofs.Common.{◌≡◌, ◌⊎◌, ◌<◌, ◌≤◌, ℕ, zero, suc, Bool, true, false, List, [], ◌∷◌, ◌++◌, refl, sym, ap, subst, ◌∙◌, inl, inr, append_assoc, arith}
+use Rattle.std.proofs.lemmas.Bool.{cases_lt}
+use Rattle.std.specs.Prelude.{◌&&◌, ◌||◌, IfSome, Some}
+use Rattle.run_theory.specs.Cuts.{IsCut}
+use Rattle.run_theory.specs.Lists.{Each, IsIn}
+use Rattle.run_theory.proofs.Pasts.{each_after, each_in}
+use Rattle.sig_core.specs.declared.log.LogStep.{LogStep}
+use Rattle.sig_core.specs.declared.member.TxId.{TxId}
+use Rattle.sig_core.specs.declared.place.Place.{Place}
+use Rattle.sig_core.specs.declared.signal.Body.{Body}
+use Rattle.sig_core.specs.declared.signal.Body.TheVariants.{Client}
+use Rattle.sig_core.specs.declared.signal.client.ClientSignal.TheVariants.{LqhWaitConf, TcWaitConf}
+use Rattle.sig_core.specs.Same.{same_tx}
+use Rattle.row_locks.proofs.AheadLemmas.{ahead_is_other}
+use Rattle.row_locks.specs.declared.claim.Holder.{Holder}
+use Rattle.row_locks.specs.Holders.{first_other, holds, tx_if}
+use Rattle.row_locks.specs.OrderlyTables.{AreOrderly}
+use Rattle.row_locks.specs.Queues.{waits}
+use Rattle.row_locks.specs.Tables.{Locks, ahead_at, lock_at, some_if}
+use Rattle.node_core.specs.declared.host.Host as host
+use Rattle.node_core.specs.declared.host.Host.TheVariants.{Shell, Node}
+use Rattle.node_core.specs.declared.node.Node as node
+use Rattle.node_core.specs.Requests.{is_request}
+use Rattle.node_core.specs.Row.{node_row, row}
+use Rattle.world_core.specs.Machine.{after, hosts}
+use Rattle.world_core.specs.Start.{Start}
+use Rattle.commit_laws.proofs.Replicas.{logs_keep_well}
+use Rattle.commit_laws.specs.ReplicaLaws.{IsWellHost}
+use Rattle.answer_laws.proofs.ApiBegins.{in_middle}
+use Rattle.answer_laws.proofs.Hosts.{IsNode, node_after}
+use Rattle.answer_laws.proofs.TcSends.{same_tx-self}
+use Rattle.answer_laws.proofs.Wishes.{is_api, is_tc, sends_of}
+use Rattle.answer_laws.specs.Answered.{AreQuiet}
+use Rattle.command_laws.proofs.Since.{front_nil, sent_since}
+use Rattle.command_laws.proofs.WaitRows.{is_telling_who, is_wait_of, node_waits, tells_who}
+use Rattle.command_laws.proofs.WaitSources.{FoundAt, SentBy, came_from, finds_who, is_finding_who, no_find_api, no_tell_api, node_found, node_told, sent_by, shell_none}
+use Rattle.command_laws.specs.Served.{IsBehind, IsBehindAt}
+
+-- the first other holder holds the lock
+first_holds : (tx : TxId) (holders : List Holder) → same_tx (first_other tx holders) tx ≡ false → holds (first_other tx holders) holders ≡ true
+first_holds tx [] apart = absurd (let both : true ≡ false = sym (same_tx-self tx) ∙ apart in cc)
+first_holds tx (h ∷ holders) apart = by (same_tx h.tx tx) apart (first_holds tx holders)
+  where
+    or_last : (a b : Bool) → b ≡ true → (a || b) ≡ true
+    or_last true b e = refl
+    or_last false b e = e
+
+    or_front : (a b : Bool) → a ≡ true → (a || b) ≡ true
+    or_front true b e = refl
+    or_front false b e = cc
+
+    by : (b : Bool) → same_tx (tx_if b (first_other tx holders) h.tx) tx ≡ false → (same_tx (first_other tx holders) tx ≡ false → holds (first_other tx holders) holders ≡ true)
+        → (same_tx h.tx (tx_if b (first_other tx holders) h.tx) || holds (tx_if b (first_other tx holders) h.tx) holders) ≡ true
+    by true off rest = or_last (same_tx h.tx (first_other tx holders)) (holds (first_other tx holders) holders) (rest off)
+    by false off rest = or_front (same_tx h.tx h.tx) (holds h.tx holders) (same_tx-self h.tx)
+
+-- whom a transaction waits behind holds the lock, and is another one
+behind_locks : (locks : Locks) (key : List ℕ) (tx who : TxId) → AreOrderly locks → ahead_at locks key tx ≡ Some who → IsBehind tx who key locks
+behind_locks locks key tx who orderly is = by (waits tx (lock_at locks key).queue) refl is
+  where
+    apart : same_tx who tx ≡ false
+    apart = subst (λ o. IfSome o (λ ahead. same_tx ahead tx ≡ false)) is (ahead_is_other locks key tx orderly)
+
+    by : (b : Bool) → waits tx (lock_at locks key).queue ≡ b → some_if b (first_other tx (lock_at locks key).holders) ≡ Some who → IsBehind tx who key locks
+    by true w e =
+        let first : first_other tx (lock_at locks key).holders ≡ who = cc in
+        record {
+          waiting = w;
+          held = subst (λ v. holds v (lock_at locks key).holders ≡ true) first (first_holds tx (lock_at locks key).holders (ap (λ v. same_tx v tx) first ∙ apart));
+          other = apart;
+        }
+    by false w e = cc
+
+orderly_at : (g : host.Host) (n : node.Node) → g ≡ Node n → IsWellHost g → AreOrderly n.lqh.locks
+orderly_at (Shell s) n is well = cc
+orderly_at (Node m) n is well = let same : m ≡ n = cc in subst (λ (x : node.Node). AreOrderly x.lqh.locks) same well.orderly
+
+row_sends : (test : Place → Body → Bool) (g : host.Host) (n : node.Node) (to : Place) (body : Body) → g ≡ Node n → 1 ≤ sends_of test (row g to body).effects.sends → 1 ≤ sends_of test (node_row n to.block body).effects.sends
+unfolding row
+row_sends test (Shell s) n to body is some = cc
+row_sends test (Node m) n to body is some = let same : m ≡ n = cc in subst (λ (x : node.Node). 1 ≤ sends_of test (node_row x to.block body).effects.sends) same some
+
+-- a request is no such signal
+plain_by : (a : Bool) (test : Body → Bool) (body : Body) → (is_request body ≡ true → test body ≡ false) → (a && test body) ≡ true → is_request body ≡ false
+plain_by a test body off e = by (is_request body) refl
+  where
+    last_of : (x y : Bool) → (x && y) ≡ true → y ≡ true
+    last_of true y p = p
+    last_of false y p = cc
+
+    by : (b : Bool) → is_request body ≡ b → is_request body ≡ false
+    by false is = is
+    by true is = absurd (let both : true ≡ false = sym (last_of a (test body) e) ∙ off is in cc)
+
+plain_tells : (tx who : TxId) (to : Place) (body : Body) → is_telling_who tx who to body ≡ true → is_request body ≡ false
+plain_tells tx who to body e = plain_by (is_api to.block) (tells_who tx who) body (off body) e
+  where
+    off : (b : Body) → is_request b ≡ true → tells_who tx who b ≡ false
+    off (Client (TcWaitConf one ahead)) r = cc
+    off _ r = refl
+
+plain_finds : (tx who : TxId) (to : Place) (body : Body) → is_finding_who tx who to body ≡ true → is_request body ≡ false
+plain_finds tx who to body e = plain_by (is_tc to.block) (finds_who tx who) body (off body) e
+  where
+    off : (b : Body) → is_request b ≡ true → finds_who tx who b ≡ false
+    off (Client (LqhWaitConf one ahead)) r = cc
+    off _ r = refl
+
+some_step : (front : List LogStep) (e : LogStep) (back : List LogStep) → front ++ e ∷ back ≡ [] → ⊥
+some_step [] e back is = cc
+some_step (f ∷ front) e back is = cc
+
+-- a node stays as it is while only questions and answers to them are taken
+row_same : (tx : TxId) (g : host.Host) (n : node.Node) (to : Place) (body : Body) → g ≡ Node n → is_wait_of tx body ≡ true → (row g to body).state ≡ g
+unfolding row
+row_same tx (Shell s) n to body is kind = cc
+row_same tx (Node m) n to body is kind = ap (λ (x : node.Node). Node x) (node_waits tx m to.block body kind).same
+
+node_stays : (start : Start) (tx : TxId) (h : ℕ) (newer log : List LogStep) (n : node.Node) → Each (λ (e : LogStep). is_wait_of tx e.taken.body ≡ true) newer → after start h log ≡ Node n
+    → after start h (newer ++ log) ≡ Node n
+node_stays start tx h [] log n kinds is = is
+node_stays start tx h (e ∷ newer) log n kinds is =
+    let before = node_stays start tx h newer log n kinds.1 is in
+    row_same tx (after start h (newer ++ log)) n e.taken.to e.taken.body before kinds.0 ∙ before
+
+module _ (start : Start) (was mid : ℕ → List LogStep) (tx who : TxId) (before : AreQuiet start was) (since : AreQuiet start mid) (cut : IsCut was mid)
+    (kinds : (h : ℕ) → Each (λ (e : LogStep). is_wait_of tx e.taken.body ≡ true) (cut (suc h)).newer) where
+  -- a step of a node that sent such a signal, as the node was
+  record SentHere (test : Place → Body → Bool) (h : ℕ) (n : node.Node) : Type 0 where
+    step : LogStep
+    inside : IsIn step (cut (suc h)).newer
+    waits_kind : is_wait_of tx step.taken.body ≡ true
+    sends : 1 ≤ sends_of test (node_row n step.taken.to.block step.taken.body).effects.sends
+
+  sent_here : (test : Place → Body → Bool) (h : ℕ) (n : node.Node) → after start (suc h) (was (suc h)) ≡ Node n → SentBy start test (suc h) (cut (suc h)).newer (was (suc h)) → SentHere test h n
+  sent_here test h n is b = record {
+    step = b.step;
+    inside = inside;
+    waits_kind = each_in (λ (e : LogStep). is_wait_of tx e.taken.body ≡ true) b.step (cut (suc h)).newer (kinds h) inside;
+    sends = row_sends test (after start (suc h) (b.back ++ was (suc h))) n b.step.taken.to b.step.taken.body state b.sends;
+  }
+    where
+      inside : IsIn b.step (cut (suc h)).newer
+      inside = subst (IsIn b.step) (sym b.is) (in_middle b.front b.step b.back)
+
+      state : after start (suc h) (b.back ++ was (suc h)) ≡ Node n
+      state =
+          node_stays start tx (suc h) b.back (was (suc h)) n
+          (each_after (λ (e : LogStep). is_wait_of tx e.taken.body ≡ true) (b.front ++ b.step ∷ []) b.back
+          (subst (Each (λ (e : LogStep). is_wait_of tx e.taken.body ≡ true)) (b.is ∙ sym (append_assoc b.front (b.step ∷ []) b.back)) (kinds h))) is
+
+  -- at a node the transaction waits behind that one
+  pub record IsBehindThere : Type 0 where
+    pub node : ℕ
+    pub low : node ≤ start.nodes
+    pub key : List ℕ
+    pub behind : IsBehindAt tx who key (after start node (mid node))
+
+  found_there : (h : ℕ) (e : LogStep) → IsIn e (cut (suc h)).newer → is_finding_who tx who e.taken.to e.taken.body ≡ true → IsBehindThere
+  found_there h e inside passes = by e.taken.from.0 refl
+    where
+      sent_at : (i : ℕ) → e.taken.from.0 ≡ i → 1 ≤ sent_since start (is_finding_who tx who) i (cut i).newer (was i)
+      sent_at i at = came_from start was mid before since cut (is_finding_who tx who) (suc h) e inside (plain_finds tx who e.taken.to e.taken.body passes) passes i at
+
+      by : (i : ℕ) → e.taken.from.0 ≡ i → IsBehindThere
+      by zero at = absurd (omega (arith, sent_at zero at, shell_none start (is_finding_who tx who) (no_find_api tx who) (λ name node. refl) ((cut 0).newer) (was 0)))
+      by (suc k) at = there (cases_lt (suc k) (hosts start))
+        where
+          n : IsNode (suc k) (after start (suc k) (was (suc k)))
+          n = node_after start k (was (suc k))
+
+          b : SentBy start (is_finding_who tx who) (suc k) (cut (suc k)).newer (was (suc k))
+          b = sent_by start (is_finding_who tx who) (suc k) (cut (suc k)).newer (was (suc k)) (sent_at (suc k) at)
+
+          sender : SentHere (is_finding_who tx who) k n.state
+          sender = sent_here (is_finding_who tx who) k n.state n.is b
+
+          found : FoundAt tx who n.state.lqh
+          found = node_found tx who n.state sender.step.taken.to.block sender.step.taken.body sender.waits_kind sender.sends
+
+          now_is : after start (suc k) (mid (suc k)) ≡ Node n.state
+          now_is = ap (after start (suc k)) ((cut (suc k)).is) ∙ node_stays start tx (suc k) (cut (suc k)).newer (was (suc k)) n.state (kinds k) n.is
+
+          there : (suc k < hosts start) ⊎ (hosts start ≤ suc k) → IsBehindThere
+          there (inl low) = record {
+            node = suc k;
+            low = omega (arith, low);
+            key = found.key;
+            behind = subst (IsBehindAt tx who found.key) (sym now_is)
+                (behind_locks n.state.lqh.locks found.key tx who (orderly_at (after start (suc k) (was (suc k))) n.state n.is (logs_keep_well start (suc k) (was (suc k)))) found.is);
+          }
+          there (inr high) = absurd (some_step b.front b.step b.back (sym b.is ∙ front_nil (cut (suc k)).newer (was (suc k)) (sym (since.within (suc k) high) ∙ (cut (suc k)).is)))
+
+  pub behind_there : (e : LogStep) → IsIn e ((cut 0).newer) → is_telling_who tx who e.taken.to e.taken.body ≡ true → IsBehindThere
+  behind_there e inside passes = by e.taken.from.0 refl
+    where
+      sent_at : (i : ℕ) → e.taken.from.0 ≡ i → 1 ≤ sent_since start (is_telling_who tx who) i (cut i).newer (was i)
+      sent_at i at = came_from start was mid before since cut (is_telling_who tx who) 0 e inside (plain_tells tx who e.taken.to e.taken.body passes) passes i at
+
+      by : (i : ℕ) → e.taken.from.0 ≡ i → IsBehindThere
+      by zero at = absurd (omega (arith, sent_at zero at, shell_none start (is_telling_who tx who) (no_tell_api tx who) (λ name node. refl) ((cut 0).newer) (was 0)))
+      by (suc k) at =
+          let n = node_after start k (was (suc k)) in
+          let sender = sent_here (is_telling_who tx who) k n.state n.is (sent_by start (is_telling_who tx who) (suc k) (cut (suc k)).newer (was (suc k)) (sent_at (suc k) at)) in
+          found_there k sender.step sender.inside (node_told tx who n.state sender.step.taken.to.block sender.step.taken.body sender.waits_kind sender.sends)
