@@ -26,6 +26,7 @@ pub mod Places
 pub mod Pushes
 pub mod QuietCuts
 pub mod Reported
+pub mod Requests
 pub mod SampleServed
 pub mod ServedBetween
 pub mod Since

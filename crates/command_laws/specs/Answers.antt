@@ -1,7 +1,7 @@
 -- What each request of the shell comes to.
-use Rattle.std.specs.Prelude.{◌≡◌, ◌<◌, ◌⊎◌, ℕ, true, List, ◌∷◌, ◌++◌, Option, None, Some}
+use Rattle.std.specs.Prelude.{◌≡◌, ◌≤◌, ◌⊎◌, ℕ, true, List, ◌∷◌, ◌++◌, None, Some}
 use Rattle.run_theory.specs.Lists.{IsIn}
-use Rattle.api_block.specs.declared.opened.Doing.TheVariants.{Ready}
+use Rattle.run_theory.specs.Runs.{AreLogs, IsWithin}
 use Rattle.api_block.specs.declared.opened.OpenTransaction.{OpenTransaction}
 use Rattle.sig_core.specs.declared.log.LogStep.{LogStep}
 use Rattle.sig_core.specs.declared.member.TxId.{TxId}
@@ -10,8 +10,14 @@ use Rattle.sig_core.specs.declared.reply.ApiReply.TheVariants.{Refused}
 use Rattle.sig_core.specs.declared.reply.Refusal.{Refusal}
 use Rattle.sig_core.specs.declared.request.ApiReq.{ApiReq}
 use Rattle.sig_core.specs.declared.request.ApiReq.TheVariants as request
+use Rattle.node_core.specs.Replies.{is_left_open}
+use Rattle.world_core.specs.Machine.{after, hosts, machine}
+use Rattle.world_core.specs.Quiet.{IsQuiet}
+use Rattle.world_core.specs.Requests.{AreAskedAtQuiet, request_in}
 use Rattle.world_core.specs.Start.{Start}
-use Rattle.command_laws.specs.Served.{IsAnsweredAs, IsRefusedAs, IsServed, IsToldCommitted, StillWaits, replies_since}
+use Rattle.answer_laws.specs.Answered.{IsAnswered, opened_after}
+use Rattle.command_laws.specs.Between.{IsAskedAgain, IsServedIn}
+use Rattle.command_laws.specs.Served.{IsAnsweredAlone, IsAnsweredAs, IsCommittedAlone, IsRefusedAs, IsServed, IsToldCommitted, IsToldHolder, StillWaits, replies_since}
 
 -- the command was turned down, since it may not be given to the transaction of this name now
 pub record IsTurnedDown (start : Start) (was now : ℕ → List LogStep) (name : ℕ) : Type 0 where
@@ -44,3 +50,28 @@ OperationsComeTo =
 
 abbrev pub CommitsComeTo : Type 0
 CommitsComeTo = (start : Start) (was now : ℕ → List LogStep) (name : ℕ) → IsServed start was now (request.Commit name) → CommitComesTo start was now name
+
+-- What a request comes to between these two moments. A command that left something of its own unanswered is asked about twice:
+-- the second time it is told who holds what it waits for.
+abbrev pub AnswersRequest : Start → (was now : ℕ → List LogStep) → ApiReq → Type 0
+AnswersRequest start was now (request.Operate (Some name) op) = OperationComesTo start was now name
+AnswersRequest start was now (request.Operate None op) = IsAnsweredAlone start was now → IsCommittedAlone start was now
+AnswersRequest start was now (request.Commit name) = CommitComesTo start was now name
+AnswersRequest start was now request.Pending =
+    (first : ℕ → List LogStep) → IsServed start first was request.Waits → is_left_open (after start 0 (first 0)) ≡ true → IsToldHolder start first was now
+AnswersRequest start was now request = Unit {0}
+
+-- The request that comes after `before` in the log of the shell's host is served between two quiet moments of these logs and
+-- answered there; and then each transaction whose end isn't reported takes commands, or its operation waits for a lock.
+pub record IsAnsweredIn (start : Start) (logs : ℕ → List LogStep) (request : ApiReq) (before : List LogStep) : Type 0 where
+  pub moments : IsServedIn start logs request before
+  pub answers : AnswersRequest start moments.was moments.now request
+  pub left : (t : OpenTransaction) → IsIn t (opened_after start moments.now) → IsAnswered start moments.now t
+
+-- So it is of each request, if nothing is under way at the end or another request comes later.
+abbrev pub RequestsAreAnswered : Type 0
+RequestsAreAnswered =
+    (start : Start) (logs : ℕ → List LogStep) → 1 ≤ start.nodes → start.nodes ≤ 8 → AreLogs (machine start) logs → IsWithin (hosts start) logs → AreAskedAtQuiet start logs
+    → (newer : List LogStep) (e : LogStep) (before : List LogStep) (request : ApiReq) → logs 0 ≡ newer ++ e ∷ before → request_in e.taken.body ≡ Some request
+    → IsQuiet (machine start) (hosts start) logs ⊎ IsAskedAgain start newer
+    → IsAnsweredIn start logs request before

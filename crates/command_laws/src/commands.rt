@@ -1,6 +1,6 @@
 //! What is proved of commands.
 ghost use Rattle.command_laws.specs.Sample.{SampleIsServed};
-ghost use Rattle.command_laws.specs.Answers.{CommitsComeTo, OperationsComeTo};
+ghost use Rattle.command_laws.specs.Answers.{CommitsComeTo, OperationsComeTo, RequestsAreAnswered};
 ghost use Rattle.command_laws.specs.Served.{CommitsAreCommitted, EachIsHeldUp, HoldersAreTold, LoneAreCommitted, OperationsAreAnswered};
 
 /// A commit of a transaction that takes commands ends in its being committed: the client is told so,
@@ -46,4 +46,11 @@ pub fn each_operation_is_held_up()
 /// There are logs between which a commit was served, of a transaction that takes commands.
 pub fn a_commit_is_served()
     ensures { SampleIsServed }
+{}
+
+/// Each request of the shell, where each was asked for when nothing was under way, is served between
+/// two quiet moments, and answered there as the laws above say; but for the last one, where something
+/// is under way at the end.
+pub fn requests_are_answered()
+    ensures { RequestsAreAnswered }
 {}

@@ -8,5 +8,5 @@ pub use between::requests_are_served;
 pub use commands::{
     a_commit_is_served, commits_are_committed, commits_come_to_something,
     each_operation_is_held_up, holders_are_told, lone_operations_are_committed,
-    operations_are_answered, operations_come_to_something,
+    operations_are_answered, operations_come_to_something, requests_are_answered,
 };

@@ -1,0 +1,31 @@
+-- Each request is answered.
+use Rattle.std.proofs.Common.{◌≡◌, ◌⊎◌, ℕ, List}
+use Rattle.std.specs.Prelude.{Option, None, Some}
+use Rattle.sig_core.specs.declared.log.LogStep.{LogStep}
+use Rattle.sig_core.specs.declared.request.ApiReq.{ApiReq}
+use Rattle.sig_core.specs.declared.request.ApiReq.TheVariants as request
+use Rattle.world_core.specs.Start.{Start}
+use Rattle.answer_laws.proofs.Answers.{each_answered}
+use Rattle.command_laws.proofs.ComesTo.{commits_come_to, operations_come_to}
+use Rattle.command_laws.proofs.HeldUp.{each_held_up}
+use Rattle.command_laws.proofs.HoldersTold.{holders_told}
+use Rattle.command_laws.proofs.LoneCommitted.{lone_committed}
+use Rattle.command_laws.proofs.ServedBetween.{requests_served}
+use Rattle.command_laws.specs.Answers.{AnswersRequest, RequestsAreAnswered}
+use Rattle.command_laws.specs.Served.{IsServed}
+
+answers_request : (start : Start) (was now : ℕ → List LogStep) (r : ApiReq) → IsServed start was now r → AnswersRequest start was now r
+answers_request start was now (request.Operate (Some name) op) served = operations_come_to start was now name op served
+answers_request start was now (request.Operate None op) served = lone_committed each_answered start was now op served
+answers_request start was now (request.Commit name) served = commits_come_to start was now name served
+answers_request start was now request.Pending served = λ first waits left. holders_told each_answered each_held_up start first was now waits served left
+answers_request start was now _ served = tt
+
+pub requests_answered : RequestsAreAnswered
+requests_answered start logs some few right within asked newer e before r at is on =
+    let moments = requests_served start logs some few right within asked newer e before r at is on in
+    record {
+      moments = moments;
+      answers = answers_request start moments.was moments.now r moments.served;
+      left = λ t inside. each_answered start moments.now t moments.served.since inside;
+    }
