@@ -1,5 +1,5 @@
 -- How a whole session is told: its lines, and then the line of the fault by which it was meant to end.
-use Rattle.std.proofs.Common.{◌≡◌, ℕ, ◌<◌, List, [], ◌∷◌, ◌++◌, length, false, true, refl, ap, sym, subst, ◌∙◌, Bool, arith, lit<}
+use Rattle.std.proofs.Common.{◌≡◌, ◌⊎◌, ℕ, ◌<◌, List, [], ◌∷◌, ◌++◌, length, false, true, refl, ap, sym, subst, ◌∙◌, Bool, arith, inl, inr, lit<}
 use Rattle.std.specs.Prelude.{Option, None, ◌==◌}
 use Rattle.std.specs.Global.{Vec}
 use Rattle.std.specs.Io.KnownBytes.{Appends, Consumes}
@@ -26,6 +26,9 @@ use Rattle.shell_top.proofs.PrintedLemmas.{prints_both}
 use Rattle.world_core.specs.Lives.{fresh_life}
 use Rattle.world_core.specs.Machine.{hosts, machine}
 use Rattle.serial_laws.proofs.EveryCut.{every_cut_serial}
+use Rattle.command_laws.proofs.Requests.{requests_answered}
+use Rattle.command_laws.specs.Between.{IsAskedAgain}
+use Rattle.world_core.specs.Quiet.{IsQuiet}
 use Rattle.sig_core.specs.declared.log.LogStep.{LogStep}
 use Rattle.world_core.specs.Start.{Start, first_view, fresh}
 use Rattle.world_core.specs.World.{Whole, logs_at, new_world}
@@ -58,6 +61,11 @@ starts left written session lives opened =
 pub one_life : (lives before : List Life) (life last : Life) → lives ≡ before ++ life ∷ [] → before ≡ [] → life ≡ last → lives ≡ last ∷ []
 one_life lives before life last are none is = are ∙ ap (λ ls. ls ++ life ∷ []) none ∙ ap (λ l. l ∷ []) is
 
+-- nothing is under way at the end, or another request comes later
+ends_or_goes_on : (e : Ending) (Q A : Type 0) → ((e ≡ ending.NoMemory → ⊥) → Q) → (e ≡ ending.NoMemory → A) → Q ⊎ A
+ends_or_goes_on ending.NoMemory Q A quiet again = inr (again refl)
+ends_or_goes_on _ Q A quiet again = inl (quiet (λ is. absurd cc))
+
 -- what the one life says
 pub is_life : (e : Ending) (commands : List Command) (logs : List HostLog) → AreLived (fresh nodes) e commands (logs_at logs) → IsLife e commands (fresh_life logs)
 is_life e commands logs lived =
@@ -65,6 +73,9 @@ is_life e commands logs lived =
       begins = refl;
       lived = lived;
       serial = λ inside cut closed. every_cut_serial (fresh nodes) inside (logs_at logs) (omega arith) lived.within lived.right cut closed;
+      answered = λ newer step before request at is again.
+          requests_answered (fresh nodes) (logs_at logs) (omega arith) (omega arith) lived.right lived.within lived.at_quiet newer step before request at is
+          (ends_or_goes_on e (IsQuiet (machine (fresh nodes)) (hosts (fresh nodes)) (logs_at logs)) (IsAskedAgain (fresh nodes) newer) lived.quiet again);
       run = merged_run (machine (fresh nodes)) (stamped (fresh nodes)) (hosts (fresh nodes)) (logs_at logs) lived.within lived.right;
     }
 

@@ -1,11 +1,14 @@
 -- What the lives of a session say of it.
-use Rattle.std.specs.Prelude.{◌≡◌, ℕ, Bool, true, false, List, [], ◌∷◌, ◌++◌, reverse}
+use Rattle.std.specs.Prelude.{◌≡◌, ℕ, Bool, true, false, List, [], ◌∷◌, ◌++◌, reverse, Some}
 use Rattle.run_theory.specs.Cuts.{IsCut, IsClosed}
 use Rattle.run_theory.specs.Orders.{LogsRun}
 use Rattle.run_theory.specs.Runs.{AreLogs, IsWithin}
+use Rattle.command_laws.specs.Answers.{IsAnsweredIn}
+use Rattle.command_laws.specs.Between.{IsAskedAgain}
 use Rattle.script_lang.specs.declared.command.Command.{Command}
 use Rattle.sig_core.specs.declared.log.Life.{Life}
 use Rattle.sig_core.specs.declared.log.LogStep.{LogStep}
+use Rattle.sig_core.specs.declared.request.ApiReq.{ApiReq}
 use Rattle.shell_top.specs.Asked.{AreAsked, AreAskedInPart}
 use Rattle.shell_top.specs.declared.ended.Ending.{Ending}
 use Rattle.shell_top.specs.declared.ended.Ending.TheVariants.{NoMemory, Words}
@@ -14,7 +17,7 @@ use Rattle.shell_top.specs.Told.{text_of}
 use Rattle.world_core.specs.Lives.{logs_of, start_of}
 use Rattle.world_core.specs.Machine.{hosts, machine}
 use Rattle.world_core.specs.Quiet.{IsQuiet}
-use Rattle.world_core.specs.Requests.{AreAskedAtQuiet}
+use Rattle.world_core.specs.Requests.{AreAskedAtQuiet, request_in}
 use Rattle.world_core.specs.SerialLaw.{IsSerial}
 use Rattle.world_core.specs.Start.{Start, fresh}
 
@@ -36,13 +39,22 @@ pub record AreLived (start : Start) (ending : Ending) (commands : List Command) 
 abbrev pub nodes : ℕ
 nodes = 2
 
+-- Each request in these logs is served between two quiet moments and answered there as it should be; but for the last one,
+-- where memory was wanting.
+abbrev pub EachIsAnswered : Start → Ending → (ℕ → List LogStep) → Type 0
+EachIsAnswered start ending logs =
+    (newer : List LogStep) (e : LogStep) (before : List LogStep) (request : ApiReq) → logs 0 ≡ newer ++ e ∷ before → request_in e.taken.body ≡ Some request
+    → (ending ≡ NoMemory → IsAskedAgain start newer)
+    → IsAnsweredIn start logs request before
+
 -- What a life says: it begins without rows, in the first epoch; its logs are a run of the machine from there, the requests
--- in them are those of the commands, and every closed cut of them is serial.
+-- in them are those of the commands, every closed cut of them is serial, and each request is answered.
 pub record IsLife (ending : Ending) (commands : List Command) (life : Life) : Type 0 where
   pub begins : start_of nodes life ≡ fresh nodes
   pub lived : AreLived (start_of nodes life) ending commands (logs_of life)
   pub run : LogsRun (machine (start_of nodes life)) (hosts (start_of nodes life)) (logs_of life)
   pub serial : (inside : ℕ → List LogStep) → IsCut inside (logs_of life) → IsClosed (machine (start_of nodes life)) inside → IsSerial (start_of nodes life) inside
+  pub answered : EachIsAnswered (start_of nodes life) ending (logs_of life)
 
 -- the endings that can come before there is a life
 abbrev pub may_be_unborn : Ending → Bool
