@@ -1,17 +1,12 @@
 -- What each operation and each commit of a transaction with a name comes to.
-use Rattle.std.proofs.Common.{◌≡◌, ◌⊎◌, ℕ, List, inl, inr}
-use Rattle.std.specs.Prelude.{Some}
-use Rattle.sig_core.specs.declared.log.LogStep.{LogStep}
-use Rattle.sig_core.specs.declared.op.Op.{Op}
-use Rattle.sig_core.specs.declared.request.ApiReq.TheVariants as request
-use Rattle.world_core.specs.Start.{Start}
+use Rattle.std.proofs.Common.{◌⊎◌, inl, inr}
 use Rattle.answer_laws.proofs.Answers.{each_answered}
 use Rattle.answer_laws.specs.Answered.{opened_after}
 use Rattle.command_laws.proofs.Committed.{commits_committed}
 use Rattle.command_laws.proofs.OperationAnswered.{operations_answered}
 use Rattle.command_laws.proofs.TurnedDown.{TakesCommands, TakesOperations, commit_taken, operation_taken}
 use Rattle.command_laws.specs.Answers.{CommitComesTo, CommitsComeTo, IsLeftWaiting, IsTurnedDown, OperationComesTo, OperationsComeTo}
-use Rattle.command_laws.specs.Served.{IsAnsweredAs, IsRefusedAs, IsServed, StillWaits}
+use Rattle.command_laws.specs.Served.{StillWaits}
 
 pub operations_come_to : OperationsComeTo
 operations_come_to start was now name op served = by (operation_taken start was now name op served)

@@ -28,7 +28,7 @@ use Rattle.api_block.specs.Opened.{if_there, is_named, where_at}
 use Rattle.api_block.specs.Operate.{operate_by, operate_if, operate_row}
 use Rattle.api_block.specs.State.{ApiState, refused}
 use Rattle.node_core.specs.declared.host.Host as host
-use Rattle.node_core.specs.declared.host.Host.TheVariants.{Shell, Node}
+use Rattle.node_core.specs.declared.host.Host.TheVariants.{Shell}
 use Rattle.node_core.specs.Replies.{replies_of}
 use Rattle.node_core.specs.Row.{row, shell_row}
 use Rattle.world_core.specs.Machine.{after}

@@ -1,5 +1,5 @@
 -- How a whole session is told: its lines, and then the line of the fault by which it was meant to end.
-use Rattle.std.proofs.Common.{◌≡◌, ◌⊎◌, ℕ, ◌<◌, List, [], ◌∷◌, ◌++◌, length, false, true, refl, ap, sym, subst, ◌∙◌, Bool, arith, inl, inr, lit<}
+use Rattle.std.proofs.Common.{◌≡◌, ◌⊎◌, ℕ, ◌<◌, List, [], ◌∷◌, ◌++◌, length, false, true, refl, ap, sym, subst, ◌∙◌, Bool, arith, inl, inr}
 use Rattle.std.specs.Prelude.{Option, None, ◌==◌}
 use Rattle.std.specs.Global.{Vec}
 use Rattle.std.specs.Io.KnownBytes.{Appends, Consumes}
@@ -29,8 +29,7 @@ use Rattle.serial_laws.proofs.EveryCut.{every_cut_serial}
 use Rattle.command_laws.proofs.Requests.{requests_answered}
 use Rattle.command_laws.specs.Between.{IsAskedAgain}
 use Rattle.world_core.specs.Quiet.{IsQuiet}
-use Rattle.sig_core.specs.declared.log.LogStep.{LogStep}
-use Rattle.world_core.specs.Start.{Start, first_view, fresh}
+use Rattle.world_core.specs.Start.{first_view, fresh}
 use Rattle.world_core.specs.World.{Whole, logs_at, new_world}
 use Rattle.world_core.specs.WorldOf.{whole_of}
 use Rattle.node_core.proofs.HostLemmas.{fresh_told}

@@ -1,5 +1,5 @@
 -- What the logs say where a session ends.
-use Rattle.std.proofs.Common.{◌≡◌, ℕ, zero, suc, List, [], ◌∷◌, ◌++◌, length, take, reverse, Bool, true, false, refl, ap, sym, subst, ◌∙◌}
+use Rattle.std.proofs.Common.{◌≡◌, ℕ, List, [], ◌∷◌, ◌++◌, length, take, reverse, Bool, true, false, refl, ap, sym, subst, ◌∙◌}
 use Rattle.std.specs.Prelude.{Option, Some, slice_get}
 use Rattle.std.specs.Io.KnownBytes.{Appends}
 use Rattle.std.proofs.lemmas.List.{append-nil, take_at}
@@ -12,7 +12,6 @@ use Rattle.shell_top.specs.declared.ended.Ending.TheVariants as ending
 use Rattle.shell_top.specs.Lived.{AreAskedFor, AreLived}
 use Rattle.shell_top.specs.Printed.{AppendsPart, is_cut_short}
 use Rattle.shell_top.specs.Served.{AreLeft, IsServed}
-use Rattle.shell_top.specs.Told.{text_of}
 use Rattle.shell_top.proofs.PrintedLemmas.{part_behind}
 use Rattle.world_core.specs.Requests.{requests}
 use Rattle.world_core.specs.Start.{Start}

@@ -4,7 +4,7 @@ use Rattle.std.specs.Prelude.{Option, None, Some, MatchOption, position, nat_lt,
 use Rattle.std.proofs.lemmas.Bool.Decides.{nat_tests}
 use Rattle.std.specs.Io.KnownBytes.{Consumes, Appends, IsAtEnd}
 use Rattle.std.proofs.KnownBytes.{Appends-trans, Consumes-trans}
-use Rattle.std.proofs.lemmas.List.{append-nil, take-append-drop, length-append, length-take-le, length-drop, take_at}
+use Rattle.std.proofs.lemmas.List.{append-nil, take-append-drop, length-append, length-take-le, length-drop}
 use Rattle.shell_top.specs.declared.ended.Ending.{Ending}
 use Rattle.shell_top.specs.declared.ended.Ending.TheVariants as ending
 use Rattle.script_lang.specs.declared.fault.LineFault.{LineFault}
@@ -13,11 +13,11 @@ use Rattle.shell_top.specs.declared.script.Parsed.TheVariants as parsed
 use Rattle.sig_core.specs.declared.log.HostLog.{HostLog}
 use Rattle.script_lang.specs.declared.command.Command.{Command}
 use Rattle.shell_top.specs.Lived.{AreLived, nodes}
-use Rattle.shell_top.specs.Printed.{AppendsPart, Prints}
-use Rattle.shell_top.specs.Served.{AreLeft, CommandEnds, IsServed, PrintsCommand, WrittenInPart, WrittenWhole}
+use Rattle.shell_top.specs.Printed.{Prints}
+use Rattle.shell_top.specs.Served.{AreLeft, CommandEnds, PrintsCommand, WrittenInPart, WrittenWhole}
 use Rattle.shell_top.specs.Told.{text_of}
 use Rattle.shell_top.proofs.LivedLemmas.{left_lived, served_lived, told_front, told_part}
-use Rattle.world_core.specs.Start.{Start, fresh}
+use Rattle.world_core.specs.Start.{fresh}
 use Rattle.world_core.specs.World.{Whole, logs_at}
 use Rattle.shell_top.specs.Parsed.{parsed as parsed_line}
 use Rattle.shell_top.specs.Reader.{Reads, IsPartial, is_newline}

@@ -16,7 +16,7 @@ use Rattle.sig_core.specs.declared.signal.Body.TheVariants.{Host}
 use Rattle.sig_core.specs.declared.signal.host.HostSignal.TheVariants.{Continue}
 use Rattle.sig_core.specs.declared.signal.host.Work.TheVariants.{Request}
 use Rattle.shell_top.specs.Arranged.{arranged, name_asked}
-use Rattle.shell_top.specs.Asked.{IsAskedNext, is_served, name_in, questions, requests_of, rounds_behind}
+use Rattle.shell_top.specs.Asked.{IsAskedNext, is_served, name_in, requests_of, rounds_behind}
 use Rattle.shell_top.specs.Text.{reply_lines}
 use Rattle.shell_top.specs.Told.{Telling, begins, begins_by, replies_in, telling, telling_by, text_of}
 use Rattle.world_core.specs.Requests.{request_in, requests}

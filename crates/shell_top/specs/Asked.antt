@@ -1,5 +1,5 @@
 -- What the shell asks for: command after command, and about each that leaves something of its own unanswered.
-use Rattle.std.specs.Prelude.{◌≡◌, ℕ, zero, suc, ◌+◌, ◌-◌, Bool, true, false, List, [], ◌∷◌, ◌++◌, length, reverse, take, drop, slice_get, Option, None, Some}
+use Rattle.std.specs.Prelude.{◌≡◌, ℕ, zero, suc, ◌+◌, ◌-◌, Bool, true, false, List, [], ◌∷◌, ◌++◌, reverse, take, slice_get, Option, None, Some}
 use Rattle.node_core.specs.Replies.{is_left_open}
 use Rattle.node_core.specs.Requests.{is_request}
 use Rattle.run_theory.specs.Lists.{IsPast}
@@ -9,7 +9,7 @@ use Rattle.sig_core.specs.declared.log.LogStep.{LogStep}
 use Rattle.sig_core.specs.declared.request.ApiReq.{ApiReq}
 use Rattle.sig_core.specs.declared.request.ApiReq.TheVariants as request
 use Rattle.world_core.specs.Machine.{after}
-use Rattle.world_core.specs.Requests.{request_in, requests}
+use Rattle.world_core.specs.Requests.{requests}
 use Rattle.world_core.specs.Start.{Start}
 
 -- n rounds more behind the first one, of so many

@@ -1,5 +1,5 @@
 -- What a world has done for the commands that it was asked for.
-use Rattle.std.specs.Prelude.{◌≡◌, ◌⊎◌, ℕ, Bool, true, false, List, [], ◌∷◌, ◌++◌, reverse, take, Option, None, MatchOption}
+use Rattle.std.specs.Prelude.{◌≡◌, ◌⊎◌, ℕ, Bool, true, false, List, [], ◌∷◌, ◌++◌, reverse, take, Option, MatchOption}
 use Rattle.std.specs.Io.KnownBytes.{Appends}
 use Rattle.run_theory.specs.Lists.{IsPast}
 use Rattle.run_theory.specs.Runs.{AreLogs, IsWithin}
@@ -8,7 +8,7 @@ use Rattle.sig_core.specs.declared.log.HostLog.{HostLog}
 use Rattle.sig_core.specs.declared.log.LogStep.{LogStep}
 use Rattle.sig_core.specs.declared.reply.ApiReply.{ApiReply}
 use Rattle.sig_core.specs.declared.request.ApiReq.{ApiReq}
-use Rattle.shell_top.specs.Asked.{AreAsked, IsAskedNext, all_requests, questions, requests_of}
+use Rattle.shell_top.specs.Asked.{AreAsked, IsAskedNext, questions, requests_of}
 use Rattle.shell_top.specs.declared.ended.Ending.{Ending}
 use Rattle.shell_top.specs.declared.ended.Ending.TheVariants.{WriteFault, NoMemory}
 use Rattle.shell_top.specs.Printed.{AppendsPart}

@@ -1,4 +1,3 @@
-use Rattle.shell_top.specs.Asked.{questions, requests_of}
 use Rattle.shell_top.specs.Lived.{nodes}
 use Rattle.world_core.specs.Start.{fresh}
 use Rattle.world_core.specs.WorldOf.{whole_of}

@@ -1,7 +1,4 @@
-use Rattle.std.proofs.Common.{◌≡◌, [], ◌++◌, length}
-use Rattle.shell_top.specs.Lived.{nodes}
-use Rattle.world_core.specs.Driven.{IsSound}
-use Rattle.world_core.specs.Start.{fresh}
+use Rattle.std.proofs.Common.{◌≡◌, ◌++◌, length}
 use Rattle.world_core.specs.World.{replies_of, with_replies}
 use Rattle.world_core.specs.WorldOf.{whole_of}
 use Rattle.shell_top.proofs.taken.take_replies.Given as goal
