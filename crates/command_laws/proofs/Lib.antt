@@ -13,6 +13,7 @@ pub mod FirmHosts
 pub mod First
 pub mod HeldUp
 pub mod HoldersTold
+pub mod LivingTurns
 pub mod LoneAsks
 pub mod LoneCommitted
 pub mod LqhFair
