@@ -13,6 +13,8 @@ pub mod FirmHosts
 pub mod First
 pub mod HeldUp
 pub mod HoldersTold
+pub mod LivingReplies
+pub mod LivingRows
 pub mod LivingTurns
 pub mod LoneAsks
 pub mod LoneCommitted
@@ -24,6 +26,7 @@ pub mod OwnSends
 pub mod PhaseSends
 pub mod Places
 pub mod Pushes
+pub mod RepliesLive
 pub mod Reported
 pub mod SampleServed
 pub mod Since

@@ -264,9 +264,6 @@ module _ (s : TcState) (body : Body) (sound : is_sound body ≡ true) (all : All
   at_turn : (tx : TxId) (step : Step TcState) → TakesTurn s tx (turn_by s tx body) step → TcLives step
   at_turn tx step r = by (turn_by s tx body r.t).over refl
     where
-      Lives : TxId × Transaction → Type 0
-      Lives e = lives_on e.1.phase ≡ true
-
       parts : AllLive (r.front ++ (tx, r.t) ∷ r.back)
       parts = subst AllLive r.is all
 

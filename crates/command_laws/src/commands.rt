@@ -1,4 +1,5 @@
 //! What is proved of commands.
+ghost use Rattle.command_laws.specs.Living.{RepliesAreOfTheLiving};
 ghost use Rattle.command_laws.specs.Sample.{SampleIsServed};
 ghost use Rattle.command_laws.specs.Served.{CommitsAreCommitted, EachIsHeldUp, HoldersAreTold, LoneAreCommitted, OperationsAreAnswered};
 
@@ -29,6 +30,12 @@ pub fn holders_are_told()
 /// in the queue of its key, behind another transaction, at one of the nodes that it is sent along.
 pub fn each_operation_is_held_up()
     ensures { EachIsHeldUp }
+{}
+
+/// As no host stops, no reply tells of one that did: no transaction ends for the failure of a node or
+/// of the cluster, none in an unknown way, and nothing is refused since the cluster is down.
+pub fn no_reply_tells_of_a_stopped_host()
+    ensures { RepliesAreOfTheLiving }
 {}
 
 /// There are logs between which a commit was served, of a transaction that takes commands.
