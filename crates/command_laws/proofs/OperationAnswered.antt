@@ -38,7 +38,7 @@ use Rattle.command_laws.proofs.ApiChanges.{outcome_in}
 use Rattle.command_laws.proofs.CommitGoes.{HasEnded}
 use Rattle.command_laws.proofs.Committed.{calm_at, cut_at_first, sent_append}
 use Rattle.command_laws.proofs.EarlyRun.{no_bad}
-use Rattle.command_laws.proofs.EarlySteps.{IsOpenNow, is_bad, is_good, is_wish_to, wish_of}
+use Rattle.command_laws.proofs.EarlySteps.{IsOpenNow, OpenOption, is_bad, is_good, is_wish_to, wish_of}
 use Rattle.command_laws.proofs.Entries.{HasOne, IsNamed, named_found}
 use Rattle.command_laws.proofs.FirmAtQuiet.{open_at}
 use Rattle.command_laws.proofs.First.{IsFirst, request_first}
@@ -122,7 +122,7 @@ module _ (answered : EachIsAnswered) (start : Start) (was now : ℕ → List Log
   open_was h at =
       let k = keeps start tx h (was (suc h)) in
       let o = open_at start tx (after start (suc h) (was (suc h))) k.state k.is (subst (λ m. IsOpenAt tx (after start m (was m))) at is_open) in
-      subst (OnTc (IsOpenNow tx)) (sym k.is) (record { t = o.transaction; live = in_live tx o.transaction k.state.tc.live o.live (omega (arith, k.keeps.began, k.keeps.once)); phase = o.phase })
+      subst (OnTc (IsOpenNow tx)) (sym k.is) (record { open_now = subst OpenOption (sym (in_live tx o.transaction k.state.tc.live o.live (omega (arith, k.keeps.began, k.keeps.once)))) o.phase })
 
   -- nobody wishes for its commit or abort
   no_wishes : (h : ℕ) → sent_since start (is_wish_to tx) h (cut h).newer (was h) ≡ 0
@@ -187,9 +187,9 @@ module _ (answered : EachIsAnswered) (start : Start) (was now : ℕ → List Log
           (each_in (λ (e : LogStep). is_request e.taken.body ≡ false) ended.step f.later f.plain inside))
 
   operation_answered : IsAnsweredAs start was now name ⊎ (IsRefusedAs start was now name ⊎ StillWaits start now name tx)
-  operation_answered = by (operate_goes tx name start f.later (f.first ∷ was 0) f.plain asked.has)
+  operation_answered = by (operate_goes tx (Some name) start f.later (f.first ∷ was 0) f.plain asked.has)
     where
-      by : HasOne tx (Some name) Operating (opened_in (after start 0 (f.later ++ f.first ∷ was 0))) ⊎ (HasAnswered tx name start f.later (f.first ∷ was 0) ⊎ HasEnded tx (Some name) start f.later (f.first ∷ was 0))
+      by : HasOne tx (Some name) Operating (opened_in (after start 0 (f.later ++ f.first ∷ was 0))) ⊎ (HasAnswered tx (Some name) start f.later (f.first ∷ was 0) ⊎ HasEnded tx (Some name) start f.later (f.first ∷ was 0))
           → IsAnsweredAs start was now name ⊎ (IsRefusedAs start was now name ⊎ StillWaits start now name tx)
       by (inl has) = inr (inr (still_waits (subst (λ log. HasOne tx (Some name) Operating (opened_in (after start 0 log))) (sym f.is) has)))
       by (inr (inl a)) = inl (record { answer = a.answering.answer; told = replied a.newer a.step a.older (Answered (Some name) a.answering.answer) a.is a.answering.told })
