@@ -17,6 +17,7 @@ pub mod LivingReplies
 pub mod LivingRows
 pub mod LivingTurns
 pub mod LoneAsks
+pub mod LoneBegins
 pub mod LoneCommitted
 pub mod LqhFair
 pub mod OperateAsks

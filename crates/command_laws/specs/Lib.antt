@@ -1,3 +1,4 @@
+pub mod Alone
 pub mod Living
 pub mod Sample
 pub mod Served
