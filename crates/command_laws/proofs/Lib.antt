@@ -20,6 +20,7 @@ pub mod LoneAsks
 pub mod LoneBegins
 pub mod LoneCommitted
 pub mod LqhFair
+pub mod LoneWishes
 pub mod OperateAsks
 pub mod OperateGoes
 pub mod OperationAnswered

@@ -30,10 +30,18 @@ use Rattle.command_laws.proofs.ApiChanges.{ApiChange, answers, api_changes, comm
 use Rattle.command_laws.proofs.CommitGoes.{HasEnded, IsEnding, IsEndingHere}
 use Rattle.command_laws.proofs.Entries.{HasOne, IsApart, here_or_apart, same_number}
 
--- the step answers the operation of the transaction of this name
+-- the step answers an operation of a transaction of this name, or of one without a name
 pub record IsAnswering (name : Option ℕ) (g : host.Host) (step : Step host.Host) : Type 0 where
   pub answer : Answer
   pub told : replies_of step.state ≡ replies_of g ++ Answered name answer ∷ []
+
+-- one of these steps behind a log does so
+pub record HasAnswered (name : Option ℕ) (start : Start) (later log : List LogStep) : Type 0 where
+  pub newer : List LogStep
+  pub step : LogStep
+  pub older : List LogStep
+  pub is : later ≡ newer ++ step ∷ older
+  pub answering : IsAnswering name (after start 0 (older ++ log)) (step_after start 0 (older ++ log) step)
 
 record IsAnsweringHere (name : Option ℕ) (s : ApiState) (step : Step ApiState) : Type 0 where
   answer : Answer
@@ -120,30 +128,22 @@ module _ (tx : TxId) (name : Option ℕ) where
       by (inr (inr ending)) = inr (inr (record { outcome = ending.outcome; about = ending.about; told = ending.told; marked = ending.marked }))
   host_goes (Node n) to body plain has = absurd (has.inside)
 
-  -- one of these steps behind a log answered its operation
-  pub record HasAnswered (start : Start) (later log : List LogStep) : Type 0 where
-    pub newer : List LogStep
-    pub step : LogStep
-    pub older : List LogStep
-    pub is : later ≡ newer ++ step ∷ older
-    pub answering : IsAnswering name (after start 0 (older ++ log)) (step_after start 0 (older ++ log) step)
-
   -- along steps that aren't requests
   pub operate_goes : (start : Start) (later log : List LogStep) → Each (λ (e : LogStep). is_request e.taken.body ≡ false) later → HasOne tx name Operating (opened_in (after start 0 log))
-      → HasOne tx name Operating (opened_in (after start 0 (later ++ log))) ⊎ (HasAnswered start later log ⊎ HasEnded tx name start later log)
+      → HasOne tx name Operating (opened_in (after start 0 (later ++ log))) ⊎ (HasAnswered name start later log ⊎ HasEnded tx name start later log)
   operate_goes start [] log plain has = inl has
   operate_goes start (e ∷ later) log plain has = by (operate_goes start later log plain.1 has)
     where
       next : HasOne tx name Operating (opened_in (row (after start 0 (later ++ log)) e.taken.to e.taken.body).state)
           ⊎ (IsAnswering name (after start 0 (later ++ log)) (row (after start 0 (later ++ log)) e.taken.to e.taken.body)
           ⊎ IsEnding tx name (after start 0 (later ++ log)) e.taken.body (row (after start 0 (later ++ log)) e.taken.to e.taken.body))
-          → HasOne tx name Operating (opened_in (after start 0 (e ∷ (later ++ log)))) ⊎ (HasAnswered start (e ∷ later) log ⊎ HasEnded tx name start (e ∷ later) log)
+          → HasOne tx name Operating (opened_in (after start 0 (e ∷ (later ++ log)))) ⊎ (HasAnswered name start (e ∷ later) log ⊎ HasEnded tx name start (e ∷ later) log)
       next (inl goes) = inl goes
       next (inr (inl answering)) = inr (inl (record { newer = []; step = e; older = later; is = refl; answering = answering }))
       next (inr (inr ending)) = inr (inr (record { newer = []; step = e; older = later; is = refl; ending = ending }))
 
-      by : HasOne tx name Operating (opened_in (after start 0 (later ++ log))) ⊎ (HasAnswered start later log ⊎ HasEnded tx name start later log)
-          → HasOne tx name Operating (opened_in (after start 0 (e ∷ (later ++ log)))) ⊎ (HasAnswered start (e ∷ later) log ⊎ HasEnded tx name start (e ∷ later) log)
+      by : HasOne tx name Operating (opened_in (after start 0 (later ++ log))) ⊎ (HasAnswered name start later log ⊎ HasEnded tx name start later log)
+          → HasOne tx name Operating (opened_in (after start 0 (e ∷ (later ++ log)))) ⊎ (HasAnswered name start (e ∷ later) log ⊎ HasEnded tx name start (e ∷ later) log)
       by (inl goes) = next (host_goes (after start 0 (later ++ log)) e.taken.to e.taken.body plain.0 goes)
       by (inr (inl a)) = inr (inl (record { newer = e ∷ a.newer; step = a.step; older = a.older; is = ap (λ w. e ∷ w) a.is; answering = a.answering }))
       by (inr (inr ended)) = inr (inr (record { newer = e ∷ ended.newer; step = ended.step; older = ended.older; is = ap (λ w. e ∷ w) ended.is; ending = ended.ending }))

@@ -189,7 +189,7 @@ module _ (answered : EachIsAnswered) (start : Start) (was now : ℕ → List Log
   operation_answered : IsAnsweredAs start was now name ⊎ (IsRefusedAs start was now name ⊎ StillWaits start now name tx)
   operation_answered = by (operate_goes tx (Some name) start f.later (f.first ∷ was 0) f.plain asked.has)
     where
-      by : HasOne tx (Some name) Operating (opened_in (after start 0 (f.later ++ f.first ∷ was 0))) ⊎ (HasAnswered tx (Some name) start f.later (f.first ∷ was 0) ⊎ HasEnded tx (Some name) start f.later (f.first ∷ was 0))
+      by : HasOne tx (Some name) Operating (opened_in (after start 0 (f.later ++ f.first ∷ was 0))) ⊎ (HasAnswered (Some name) start f.later (f.first ∷ was 0) ⊎ HasEnded tx (Some name) start f.later (f.first ∷ was 0))
           → IsAnsweredAs start was now name ⊎ (IsRefusedAs start was now name ⊎ StillWaits start now name tx)
       by (inl has) = inr (inr (still_waits (subst (λ log. HasOne tx (Some name) Operating (opened_in (after start 0 log))) (sym f.is) has)))
       by (inr (inl a)) = inl (record { answer = a.answering.answer; told = replied a.newer a.step a.older (Answered (Some name) a.answering.answer) a.is a.answering.told })
