@@ -6,6 +6,7 @@ pub mod EarlyNodes
 pub mod EarlyRun
 pub mod EarlySteps
 pub mod EarlyTurns
+pub mod EndsWell
 pub mod Entries
 pub mod Firm
 pub mod FirmAtQuiet
