@@ -17,6 +17,7 @@ pub mod HoldersTold
 pub mod LivingReplies
 pub mod LivingRows
 pub mod LivingTurns
+pub mod LoneAnswered
 pub mod LoneAsks
 pub mod LoneBegins
 pub mod LoneCommitted

@@ -1,4 +1,5 @@
 //! What is proved of commands.
+ghost use Rattle.command_laws.specs.Alone.{LoneOperationsAreAnswered};
 ghost use Rattle.command_laws.specs.Living.{RepliesAreOfTheLiving};
 ghost use Rattle.command_laws.specs.Sample.{SampleIsServed};
 ghost use Rattle.command_laws.specs.Served.{CommitsAreCommitted, EachIsHeldUp, HoldersAreTold, LoneAreCommitted, OperationsAreAnswered};
@@ -18,6 +19,12 @@ pub fn lone_operations_are_committed()
 /// want of room or of time, or it waits for a lock.
 pub fn operations_are_answered()
     ensures { OperationsAreAnswered }
+{}
+
+/// An operation alone is answered, or its transaction is aborted for want of room or of time, or can't
+/// begin since its coordinator has as many as it may have, or it waits for a lock.
+pub fn lone_operations_are_answered()
+    ensures { LoneOperationsAreAnswered }
 {}
 
 /// Where a command left something of its own unanswered, the two questions about it tell for whom
