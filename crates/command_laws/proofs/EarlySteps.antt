@@ -71,11 +71,13 @@ unfolding begin_row
 tc_no_ref s (Client (TcBeginReq name)) = begin_no_ref s name (is_full s)
 tc_no_ref s body = of_kind (is_tc_kind (tx_in body)) is_no_ref (no_ref_tc (tx_in body)) (tc_row s body).effects.sends (tc_kinds s body refl)
 
--- the transaction is open
+abbrev pub OpenOption : Option Transaction → Type 0
+OpenOption None = Unit {0}
+OpenOption (Some t) = t.phase ≡ Open
+
+-- the transaction is open, or isn't there
 pub record IsOpenNow (tx : TxId) (s : TcState) : Type 0 where
-  pub t : Transaction
-  pub live : of_live tx s.live ≡ Some t
-  pub phase : t.phase ≡ Open
+  pub open_now : OpenOption (of_live tx s.live)
 
 abbrev pub PastOption : Option Transaction → Type 0
 PastOption None = Unit {0}
@@ -185,13 +187,13 @@ module _ (tx : TxId) where
         inl (record {
           good = none_bad step.effects.sends none;
           fair = none_loss step.effects.sends none refs;
-          is_open = λ at. let o = was (at ∙ node_same) in record { t = o.t; live = same ∙ o.live; phase = o.phase };
+          is_open = λ at. record { open_now = subst OpenOption (sym same) (was (at ∙ node_same)).open_now };
         })
     clean_goes fair was (begins number now none more) =
         inl (record {
           good = none_bad step.effects.sends none;
           fair = none_loss step.effects.sends none refs;
-          is_open = λ at. let o = was (at ∙ node_same) in absurd (omega (arith, live_early tx s.node s.next_seq s.live o.t sound.own o.live, number));
+          is_open = λ at. record { open_now = subst OpenOption (sym now) refl };
         })
     clean_goes fair was (takes t same live sends left more) = own (cases_home)
       where
@@ -202,17 +204,14 @@ module _ (tx : TxId) where
             by (inl at) = at
             by (inr away) = absurd (let both : Some t ≡ None = sym live ∙ not_home tx s.node s.next_seq s.live sound.own away in cc)
 
-        is_this : (o : IsOpenNow tx s) → t.phase ≡ Open
-        is_this o = let both : Some t ≡ Some o.t = sym live ∙ o.live in let one : t ≡ o.t = cc in ap (λ (x : Transaction). x.phase) one ∙ o.phase
-
         cases_home : EarlyTurn tx t (turn_by s tx body t)
-        cases_home = open_turn s tx body t (wish_kind body wish same) same fair (is_this (was home))
+        cases_home = open_turn s tx body t (wish_kind body wish same) same fair (subst OpenOption live (was home).open_now)
 
         own : EarlyTurn tx t (turn_by s tx body t) → StaysClean step.state step.effects.sends ⊎ Leaves step.state step.effects.sends
         own (inl q) = inl (record {
           good = ap (sends_of (is_bad tx)) sends ∙ none_of is_no_end (is_bad tx) good_end (turn_by s tx body t).step.effects.sends q.ends;
           fair = ap (sends_of (is_loss tx)) sends ∙ none_of (is_fair tx) (is_loss tx) fair_loss (turn_by s tx body t).step.effects.sends q.fair;
-          is_open = λ at. record { t = (turn_by s tx body t).step.state; live = left ∙ ap (λ b. if b then None else Some (turn_by s tx body t).step.state) q.goes; phase = q.now };
+          is_open = λ at. record { open_now = subst OpenOption (sym (left ∙ ap (λ b. if b then None else Some (turn_by s tx body t).step.state) q.goes)) q.now };
         })
         own (inr q) = inr (record {
           good = ap (sends_of (is_bad tx)) sends ∙ none_of is_no_end (is_bad tx) good_end (turn_by s tx body t).step.effects.sends q.ends;

@@ -7,6 +7,7 @@ pub mod EarlyNodes
 pub mod EarlyRun
 pub mod EarlySteps
 pub mod EarlyTurns
+pub mod EndsWell
 pub mod Entries
 pub mod Firm
 pub mod FirmAtQuiet
@@ -14,8 +15,14 @@ pub mod FirmHosts
 pub mod First
 pub mod HeldUp
 pub mod HoldersTold
+pub mod LivingReplies
+pub mod LivingRows
+pub mod LivingTurns
+pub mod LoneAnswered
 pub mod LoneAsks
+pub mod LoneBegins
 pub mod LoneCommitted
+pub mod LoneWishes
 pub mod LqhFair
 pub mod OperateAsks
 pub mod OperateGoes
@@ -25,6 +32,7 @@ pub mod PhaseSends
 pub mod Places
 pub mod Pushes
 pub mod QuietCuts
+pub mod RepliesLive
 pub mod Reported
 pub mod Requests
 pub mod SampleServed

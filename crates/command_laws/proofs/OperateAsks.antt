@@ -54,7 +54,7 @@ module _ (tx : TxId) where
     pub calm : NoneBegins opened
     pub named : Each (λ (t : OpenTransaction). has_tx tx t ≡ true → is_some t.name ≡ true) opened
 
-  no_wish_news : (to : Place) (body : Body) → is_news_kind body ≡ true → is_wish_to tx to body ≡ false
+  pub no_wish_news : (to : Place) (body : Body) → is_news_kind body ≡ true → is_wish_to tx to body ≡ false
   no_wish_news to body e = and_off (is_tc to.block) (plain body e)
     where
       plain : (b : Body) → is_news_kind b ≡ true → wish_of tx b ≡ false

@@ -1,6 +1,6 @@
 -- A transaction whose operation was sent is operating until that is answered, or its end is reported.
 use Rattle.std.proofs.Common.{◌≡◌, ◌⊎◌, ℕ, true, false, List, [], ◌∷◌, ◌++◌, refl, sym, ap, ◌∙◌, subst, inl, inr}
-use Rattle.std.specs.Prelude.{None, Some}
+use Rattle.std.specs.Prelude.{Option, None, Some}
 use Rattle.run_theory.specs.Lists.{Each, IsIn}
 use Rattle.sig_core.specs.declared.log.LogStep.{LogStep}
 use Rattle.sig_core.specs.declared.mark.Mark.TheVariants.{Reported}
@@ -31,21 +31,29 @@ use Rattle.command_laws.proofs.CommitGoes.{HasEnded, IsEnding, IsEndingHere}
 use Rattle.answer_laws.proofs.LqhOps.{left_of}
 use Rattle.command_laws.proofs.Entries.{HasOne, IsApart, here_or_apart, same_number}
 
--- the step answers the operation of the transaction of this name
-pub record IsAnswering (name : ℕ) (g : host.Host) (step : Step host.Host) : Type 0 where
+-- the step answers an operation of a transaction of this name, or of one without a name
+pub record IsAnswering (name : Option ℕ) (g : host.Host) (step : Step host.Host) : Type 0 where
   pub answer : Answer
-  pub told : replies_of step.state ≡ replies_of g ++ Answered (Some name) answer ∷ []
+  pub told : replies_of step.state ≡ replies_of g ++ Answered name answer ∷ []
 
-record IsAnsweringHere (name : ℕ) (s : ApiState) (step : Step ApiState) : Type 0 where
+-- one of these steps behind a log does so
+pub record HasAnswered (name : Option ℕ) (start : Start) (later log : List LogStep) : Type 0 where
+  pub newer : List LogStep
+  pub step : LogStep
+  pub older : List LogStep
+  pub is : later ≡ newer ++ step ∷ older
+  pub answering : IsAnswering name (after start 0 (older ++ log)) (step_after start 0 (older ++ log) step)
+
+record IsAnsweringHere (name : Option ℕ) (s : ApiState) (step : Step ApiState) : Type 0 where
   answer : Answer
-  told : step.state.replies ≡ s.replies ++ Answered (Some name) answer ∷ []
+  told : step.state.replies ≡ s.replies ++ Answered name answer ∷ []
 
-module _ (tx : TxId) (name : ℕ) where
+module _ (tx : TxId) (name : Option ℕ) where
   GoesAnswersOrEnds : ApiState → Body → Step ApiState → Type 0
-  GoesAnswersOrEnds s body step = HasOne tx (Some name) Operating step.state.opened ⊎ (IsAnsweringHere name s step ⊎ IsEndingHere tx (Some name) s body step)
+  GoesAnswersOrEnds s body step = HasOne tx name Operating step.state.opened ⊎ (IsAnsweringHere name s step ⊎ IsEndingHere tx name s body step)
 
-  module _ (s : ApiState) (body : Body) (has : HasOne tx (Some name) Operating s.opened) where
-    as_before : (after : List OpenTransaction) → IsIn has.item after → HasOne tx (Some name) Operating after
+  module _ (s : ApiState) (body : Body) (has : HasOne tx name Operating s.opened) where
+    as_before : (after : List OpenTransaction) → IsIn has.item after → HasOne tx name Operating after
     as_before after inside = record { item = has.item; inside = inside; own = has.own; called = has.called; does = has.does }
 
     not_beginning : (t : OpenTransaction) → is_beginning t.doing ≡ true → has.item ≡ t → ⊥
@@ -70,13 +78,15 @@ module _ (tx : TxId) (name : ℕ) where
       where
         by : (has.item ≡ at.t) ⊎ IsApart has.item at.front at.back → GoesAnswersOrEnds s body step
         by (inl same) =
-            let names : Some called ≡ Some name = sym named ∙ (ap (λ (x : OpenTransaction). x.name) (sym same) ∙ has.called) in
+            let names : Some called ≡ name = sym named ∙ (ap (λ (x : OpenTransaction). x.name) (sym same) ∙ has.called) in
             inr (inl (record { answer = answer; told = replies ∙ ap (λ n. s.replies ++ Answered n answer ∷ []) names }))
         by (inr others) = inl (as_before step.state.opened (subst (IsIn has.item) (sym is) (others.kept _)))
     change_goes step (commits one answer at about passes does named is replies sends) = by (here_or_apart has.item s.opened at has.inside)
       where
         by : (has.item ≡ at.t) ⊎ IsApart has.item at.front at.back → GoesAnswersOrEnds s body step
-        by (inl same) = absurd (let names : None ≡ Some name = sym named ∙ (ap (λ (x : OpenTransaction). x.name) (sym same) ∙ has.called) in cc)
+        by (inl same) =
+            let names : None ≡ name = sym named ∙ (ap (λ (x : OpenTransaction). x.name) (sym same) ∙ has.called) in
+            inr (inl (record { answer = answer; told = replies ∙ ap (λ n. s.replies ++ Answered n answer ∷ []) names }))
         by (inr others) = inl (as_before step.state.opened (subst (IsIn has.item) (sym is) (others.kept _)))
     change_goes step (ends one end at about passes is replies marks sends) = by (here_or_apart has.item s.opened at has.inside)
       where
@@ -101,48 +111,40 @@ module _ (tx : TxId) (name : ℕ) where
         by (inl same) = absurd (not_beginning at.t (left_of (is_beginning at.t.doing) (same_name at.t.name called) passes) same)
         by (inr others) = inl (as_before step.state.opened (subst (IsIn has.item) (sym is) others.left))
 
-  shell_goes : (s : ApiState) (at : BlockId) (body : Body) → is_request body ≡ false → HasOne tx (Some name) Operating s.opened
-      → HasOne tx (Some name) Operating (shell_row s at body).state.opened ⊎ (IsAnsweringHere name s (shell_row s at body) ⊎ IsEndingHere tx (Some name) s body (shell_row s at body))
+  shell_goes : (s : ApiState) (at : BlockId) (body : Body) → is_request body ≡ false → HasOne tx name Operating s.opened
+      → HasOne tx name Operating (shell_row s at body).state.opened ⊎ (IsAnsweringHere name s (shell_row s at body) ⊎ IsEndingHere tx name s body (shell_row s at body))
   unfolding shell_row GoesAnswersOrEnds
   shell_goes s block.Api body plain has = change_goes s body has (api_row s body) (api_changes s body plain)
   shell_goes s _ body plain has = inl has
 
-  host_goes : (g : host.Host) (to : Place) (body : Body) → is_request body ≡ false → HasOne tx (Some name) Operating (opened_in g)
-      → HasOne tx (Some name) Operating (opened_in (row g to body).state) ⊎ (IsAnswering name g (row g to body) ⊎ IsEnding tx (Some name) g body (row g to body))
+  host_goes : (g : host.Host) (to : Place) (body : Body) → is_request body ≡ false → HasOne tx name Operating (opened_in g)
+      → HasOne tx name Operating (opened_in (row g to body).state) ⊎ (IsAnswering name g (row g to body) ⊎ IsEnding tx name g body (row g to body))
   unfolding row replies_of
   host_goes (Shell s) to body plain has = by (shell_goes s to.block body plain has)
     where
-      by : HasOne tx (Some name) Operating (shell_row s to.block body).state.opened ⊎ (IsAnsweringHere name s (shell_row s to.block body) ⊎ IsEndingHere tx (Some name) s body (shell_row s to.block body))
-          → HasOne tx (Some name) Operating (opened_in (in_shell (shell_row s to.block body)).state) ⊎ (IsAnswering name (Shell s) (in_shell (shell_row s to.block body)) ⊎ IsEnding tx (Some name) (Shell s) body (in_shell (shell_row s to.block body)))
+      by : HasOne tx name Operating (shell_row s to.block body).state.opened ⊎ (IsAnsweringHere name s (shell_row s to.block body) ⊎ IsEndingHere tx name s body (shell_row s to.block body))
+          → HasOne tx name Operating (opened_in (in_shell (shell_row s to.block body)).state) ⊎ (IsAnswering name (Shell s) (in_shell (shell_row s to.block body)) ⊎ IsEnding tx name (Shell s) body (in_shell (shell_row s to.block body)))
       by (inl goes) = inl goes
       by (inr (inl answering)) = inr (inl (record { answer = answering.answer; told = answering.told }))
       by (inr (inr ending)) = inr (inr (record { outcome = ending.outcome; about = ending.about; told = ending.told; marked = ending.marked }))
   host_goes (Node n) to body plain has = absurd (has.inside)
 
-  -- one of these steps behind a log answered its operation
-  pub record HasAnswered (start : Start) (later log : List LogStep) : Type 0 where
-    pub newer : List LogStep
-    pub step : LogStep
-    pub older : List LogStep
-    pub is : later ≡ newer ++ step ∷ older
-    pub answering : IsAnswering name (after start 0 (older ++ log)) (step_after start 0 (older ++ log) step)
-
   -- along steps that aren't requests
-  pub operate_goes : (start : Start) (later log : List LogStep) → Each (λ (e : LogStep). is_request e.taken.body ≡ false) later → HasOne tx (Some name) Operating (opened_in (after start 0 log))
-      → HasOne tx (Some name) Operating (opened_in (after start 0 (later ++ log))) ⊎ (HasAnswered start later log ⊎ HasEnded tx (Some name) start later log)
+  pub operate_goes : (start : Start) (later log : List LogStep) → Each (λ (e : LogStep). is_request e.taken.body ≡ false) later → HasOne tx name Operating (opened_in (after start 0 log))
+      → HasOne tx name Operating (opened_in (after start 0 (later ++ log))) ⊎ (HasAnswered name start later log ⊎ HasEnded tx name start later log)
   operate_goes start [] log plain has = inl has
   operate_goes start (e ∷ later) log plain has = by (operate_goes start later log plain.1 has)
     where
-      next : HasOne tx (Some name) Operating (opened_in (row (after start 0 (later ++ log)) e.taken.to e.taken.body).state)
+      next : HasOne tx name Operating (opened_in (row (after start 0 (later ++ log)) e.taken.to e.taken.body).state)
           ⊎ (IsAnswering name (after start 0 (later ++ log)) (row (after start 0 (later ++ log)) e.taken.to e.taken.body)
-          ⊎ IsEnding tx (Some name) (after start 0 (later ++ log)) e.taken.body (row (after start 0 (later ++ log)) e.taken.to e.taken.body))
-          → HasOne tx (Some name) Operating (opened_in (after start 0 (e ∷ (later ++ log)))) ⊎ (HasAnswered start (e ∷ later) log ⊎ HasEnded tx (Some name) start (e ∷ later) log)
+          ⊎ IsEnding tx name (after start 0 (later ++ log)) e.taken.body (row (after start 0 (later ++ log)) e.taken.to e.taken.body))
+          → HasOne tx name Operating (opened_in (after start 0 (e ∷ (later ++ log)))) ⊎ (HasAnswered name start (e ∷ later) log ⊎ HasEnded tx name start (e ∷ later) log)
       next (inl goes) = inl goes
       next (inr (inl answering)) = inr (inl (record { newer = []; step = e; older = later; is = refl; answering = answering }))
       next (inr (inr ending)) = inr (inr (record { newer = []; step = e; older = later; is = refl; ending = ending }))
 
-      by : HasOne tx (Some name) Operating (opened_in (after start 0 (later ++ log))) ⊎ (HasAnswered start later log ⊎ HasEnded tx (Some name) start later log)
-          → HasOne tx (Some name) Operating (opened_in (after start 0 (e ∷ (later ++ log)))) ⊎ (HasAnswered start (e ∷ later) log ⊎ HasEnded tx (Some name) start (e ∷ later) log)
+      by : HasOne tx name Operating (opened_in (after start 0 (later ++ log))) ⊎ (HasAnswered name start later log ⊎ HasEnded tx name start later log)
+          → HasOne tx name Operating (opened_in (after start 0 (e ∷ (later ++ log)))) ⊎ (HasAnswered name start (e ∷ later) log ⊎ HasEnded tx name start (e ∷ later) log)
       by (inl goes) = next (host_goes (after start 0 (later ++ log)) e.taken.to e.taken.body plain.0 goes)
       by (inr (inl a)) = inr (inl (record { newer = e ∷ a.newer; step = a.step; older = a.older; is = ap (λ w. e ∷ w) a.is; answering = a.answering }))
       by (inr (inr ended)) = inr (inr (record { newer = e ∷ ended.newer; step = ended.step; older = ended.older; is = ap (λ w. e ∷ w) ended.is; ending = ended.ending }))

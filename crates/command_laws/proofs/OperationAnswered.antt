@@ -37,7 +37,8 @@ use Rattle.command_laws.proofs.ApiChanges.{outcome_in}
 use Rattle.command_laws.proofs.CommitGoes.{HasEnded}
 use Rattle.command_laws.proofs.Committed.{calm_at, cut_at_first, sent_append}
 use Rattle.command_laws.proofs.EarlyRun.{no_bad}
-use Rattle.command_laws.proofs.EarlySteps.{IsOpenNow, is_bad, is_good, is_wish_to, wish_of}
+use Rattle.command_laws.proofs.EarlySteps.{IsOpenNow, OpenOption, is_bad, is_good, is_wish_to, wish_of}
+use Rattle.command_laws.proofs.EndsWell.{ended_well, replied}
 use Rattle.command_laws.proofs.Entries.{HasOne, IsNamed, named_found}
 use Rattle.command_laws.proofs.FirmAtQuiet.{open_at}
 use Rattle.command_laws.proofs.First.{IsFirst, request_first}
@@ -53,43 +54,10 @@ use Rattle.command_laws.proofs.Tests.{and_off, none_at}
 use Rattle.commit_laws.proofs.Keys.{same_tx-self}
 use Rattle.command_laws.specs.Served.{IsAnsweredAs, IsRefusedAs, IsServed, OperationsAreAnswered, StillWaits, is_refusal, named_in, replies_since}
 
-request_plain_wish : (tx : TxId) (to : Place) (body : Body) → is_request body ≡ true → is_wish_to tx to body ≡ false
-request_plain_wish tx to body is = and_off (is_tc to.block) (plain body is)
-  where
-    plain : (b : Body) → is_request b ≡ true → wish_of tx b ≡ false
-    plain (Client (TcCommitReq one)) r = cc
-    plain (Client (TcRollbackReq one)) r = cc
-    plain _ r = refl
-
--- an end that isn't bad is an abort for want of room or of time
-ends_well : (tx : TxId) (body : Body) (end : Outcome) → outcome_in body ≡ Some (tx, end) → is_good tx body ≡ true → (cause : AbortCause) × ((end ≡ outcome.Aborted cause) × (is_refusal cause ≡ true))
-ends_well tx (Client (TcCommitConf one epoch)) end is good =
-    absurd (let same : same_tx one tx ≡ true = ap (λ (e : OutcomeOf). same_tx e.0 tx) (ending_is (one, outcome.Committed epoch) (tx, end) is) ∙ same_tx-self tx in
-    let off : false ≡ true = sym (ap not same) ∙ good in cc)
-ends_well tx (Client (TcRollbackRep one cause)) end is good = (
-  cause,
-  (
-    ap (λ (e : OutcomeOf). e.1) (sym (ending_is (one, outcome.Aborted cause) (tx, end) is)),
-    by (is_refusal cause) good (ap (λ (e : OutcomeOf). same_tx e.0 tx) (ending_is (one, outcome.Aborted cause) (tx, end) is) ∙ same_tx-self tx),
-  ),
-)
-  where
-    by : (b : Bool) → (if b then true else not (same_tx one tx)) ≡ true → same_tx one tx ≡ true → b ≡ true
-    by true fine same = refl
-    by false fine same = let off : false ≡ true = sym (ap not same) ∙ fine in cc
-ends_well tx _ end is good = cc
-
-is_true : (b : Bool) → not b ≡ false → b ≡ true
-is_true true e = refl
-is_true false e = cc
-
 module _ (answered : EachIsAnswered) (start : Start) (was now : ℕ → List LogStep) (name : ℕ) (op : Op) (t : OpenTransaction) (tx : TxId) (served : IsServed start was now (Operate (Some name) op))
     (named : named_in (opened_after start was) name ≡ Some t) (ready : t.doing ≡ Ready) (own : t.tx ≡ Some tx) (few : t.operations < 64) where
   f : IsFirst start was now (Operate (Some name) op)
   f = request_first start was now (Operate (Some name) op) served
-
-  abbrev cut : IsCut was now
-  cut = cut_at_first was now f.later f.first f.is served.cut
 
   n : IsNamed (opened_after start was) name t
   n = named_found (opened_after start was) name t named
@@ -122,32 +90,11 @@ module _ (answered : EachIsAnswered) (start : Start) (was now : ℕ → List Log
   open_was h at =
       let k = keeps start tx h (was (suc h)) in
       let o = open_at start tx (after start (suc h) (was (suc h))) k.state k.is (subst (λ m. IsOpenAt tx (after start m (was m))) at is_open) in
-      subst (OnTc (IsOpenNow tx)) (sym k.is) (record { t = o.transaction; live = in_live tx o.transaction k.state.tc.live o.live (omega (arith, k.keeps.began, k.keeps.once)); phase = o.phase })
+      subst (OnTc (IsOpenNow tx)) (sym k.is) (record { open_now = subst OpenOption (sym (in_live tx o.transaction k.state.tc.live o.live (omega (arith, k.keeps.began, k.keeps.once)))) o.phase })
 
   -- nobody wishes for its commit or abort
-  no_wishes : (h : ℕ) → sent_since start (is_wish_to tx) h (cut h).newer (was h) ≡ 0
-  no_wishes zero = omega (arith, sent_append start (is_wish_to tx) 0 f.later (f.first ∷ []) (was 0), (named_since tx start f.later (f.first ∷ was 0) f.plain asked.named).1, asked.wishes)
-  no_wishes (suc h) = node_since start (is_wish_to tx) (no_wish_node tx) h (cut (suc h)).newer (was (suc h))
-
-  none_wished : (h : ℕ) → Each (λ (e : LogStep). is_wish_to tx e.taken.to e.taken.body ≡ false) (cut h).newer
-  none_wished h =
-      each_map (λ (e : LogStep). is_request e.taken.body ≡ false → is_wish_to tx e.taken.to e.taken.body ≡ false) (λ (e : LogStep). is_wish_to tx e.taken.to e.taken.body ≡ false) (cut h).newer
-      (none_at (is_wish_to tx) (request_plain_wish tx)) (none_taken start was now served.before served.since cut (is_wish_to tx) no_wishes h)
-
-  none_bad : Each (λ (e : LogStep). is_request e.taken.body ≡ false → is_bad tx e.taken.to e.taken.body ≡ false) (f.later ++ f.first ∷ [])
-  none_bad = none_taken start was now served.before served.since cut (is_bad tx) (no_bad start was now served.before served.since cut tx none_wished open_was) 0
-
-  past_of : (newer : List LogStep) (step : LogStep) (older : List LogStep) → IsPast (was 0) (older ++ f.first ∷ was 0)
-  past_of newer step older = record { newer = older ++ f.first ∷ []; is = sym (append_assoc older (f.first ∷ []) (was 0)) }
-
-  now_of : (newer : List LogStep) (step : LogStep) (older : List LogStep) → f.later ≡ newer ++ step ∷ older → now 0 ≡ newer ++ step ∷ (older ++ f.first ∷ was 0)
-  now_of newer step older is = f.is ∙ ap (λ w. w ++ f.first ∷ was 0) is ∙ append_assoc newer (step ∷ older) (f.first ∷ was 0)
-
-  replied : (newer : List LogStep) (step : LogStep) (older : List LogStep) (reply : ApiReply) → f.later ≡ newer ++ step ∷ older
-      → replies_of (after start 0 (step ∷ (older ++ f.first ∷ was 0))) ≡ replies_of (after start 0 (older ++ f.first ∷ was 0)) ++ reply ∷ [] → IsIn reply (replies_since start was now)
-  replied newer step older reply is told =
-      subst (λ w. IsIn reply (drop (length (replies_of (after start 0 (was 0)))) (replies_of (after start 0 w)))) (sym (now_of newer step older is))
-      (told_since start (was 0) (older ++ f.first ∷ was 0) newer step reply (past_of newer step older) told)
+  no_wishes : sent_since start (is_wish_to tx) 0 (f.later ++ f.first ∷ []) (was 0) ≡ 0
+  no_wishes = omega (arith, sent_append start (is_wish_to tx) 0 f.later (f.first ∷ []) (was 0), (named_since tx start f.later (f.first ∷ was 0) f.plain asked.named).1, asked.wishes)
 
   still_waits : HasOne tx (Some name) Operating (opened_after start now) → StillWaits start now name tx
   still_waits has = record {
@@ -164,35 +111,16 @@ module _ (answered : EachIsAnswered) (start : Start) (was now : ℕ → List Log
 
   refused : HasEnded tx (Some name) start f.later (f.first ∷ was 0) → IsRefusedAs start was now name
   refused ended =
-      let w = ends_well tx ended.step.taken.body ended.ending.outcome ended.ending.about good in
-      record {
-        cause = w.0;
-        told = replied ended.newer ended.step ended.older (Ended (Some name) (outcome.Aborted w.0)) ended.is
-            (ended.ending.told ∙ ap (λ end. replies_of (after start 0 (ended.older ++ f.first ∷ was 0)) ++ Ended (Some name) end ∷ []) w.1.0);
-        refusal = w.1.1;
-      }
-    where
-      inside : IsIn ended.step f.later
-      inside = subst (IsIn ended.step) (sym ended.is) (in_middle ended.newer ended.step ended.older)
-
-      in_newer : IsIn ended.step (f.later ++ f.first ∷ [])
-      in_newer =
-          subst (λ w. IsIn ended.step (w ++ f.first ∷ [])) (sym ended.is)
-          (subst (IsIn ended.step) (sym (append_assoc ended.newer (ended.step ∷ ended.older) (f.first ∷ []))) (in_middle ended.newer ended.step (ended.older ++ f.first ∷ [])))
-
-      good : is_good tx ended.step.taken.body ≡ true
-      good =
-          is_true (is_good tx ended.step.taken.body)
-          (each_in (λ (e : LogStep). is_request e.taken.body ≡ false → is_bad tx e.taken.to e.taken.body ≡ false) ended.step (f.later ++ f.first ∷ []) none_bad in_newer
-          (each_in (λ (e : LogStep). is_request e.taken.body ≡ false) ended.step f.later f.plain inside))
+      let w = ended_well start was now (Operate (Some name) op) served f tx no_wishes open_was (Some name) ended in
+      record { cause = w.cause; told = w.told; refusal = w.refusal }
 
   operation_answered : IsAnsweredAs start was now name ⊎ (IsRefusedAs start was now name ⊎ StillWaits start now name tx)
-  operation_answered = by (operate_goes tx name start f.later (f.first ∷ was 0) f.plain asked.has)
+  operation_answered = by (operate_goes tx (Some name) start f.later (f.first ∷ was 0) f.plain asked.has)
     where
-      by : HasOne tx (Some name) Operating (opened_in (after start 0 (f.later ++ f.first ∷ was 0))) ⊎ (HasAnswered tx name start f.later (f.first ∷ was 0) ⊎ HasEnded tx (Some name) start f.later (f.first ∷ was 0))
+      by : HasOne tx (Some name) Operating (opened_in (after start 0 (f.later ++ f.first ∷ was 0))) ⊎ (HasAnswered (Some name) start f.later (f.first ∷ was 0) ⊎ HasEnded tx (Some name) start f.later (f.first ∷ was 0))
           → IsAnsweredAs start was now name ⊎ (IsRefusedAs start was now name ⊎ StillWaits start now name tx)
       by (inl has) = inr (inr (still_waits (subst (λ log. HasOne tx (Some name) Operating (opened_in (after start 0 log))) (sym f.is) has)))
-      by (inr (inl a)) = inl (record { answer = a.answering.answer; told = replied a.newer a.step a.older (Answered (Some name) a.answering.answer) a.is a.answering.told })
+      by (inr (inl a)) = inl (record { answer = a.answering.answer; told = replied start was now (Operate (Some name) op) served f a.newer a.step a.older (Answered (Some name) a.answering.answer) a.is a.answering.told })
       by (inr (inr ended)) = inr (inl (refused ended))
 
 -- so it is where each command is answered

@@ -102,7 +102,7 @@ module _ (tx : TxId) where
       by true e rest = absurd (omega (arith, none, ap one_if e))
       by false e rest = rest
 
-  none_there : (xs : List (TxId × Transaction)) → tally (is_keyed tx) xs ≡ 0 → of_live tx xs ≡ None
+  pub none_there : (xs : List (TxId × Transaction)) → tally (is_keyed tx) xs ≡ 0 → of_live tx xs ≡ None
   none_there [] none = refl
   none_there (x ∷ xs) none = by (same_tx x.0 tx) refl (none_there xs (omega (arith, none)))
     where

@@ -16,6 +16,7 @@ use Rattle.world_core.specs.Quiet.{IsQuiet}
 use Rattle.world_core.specs.Requests.{AreAskedAtQuiet, request_in}
 use Rattle.world_core.specs.Start.{Start}
 use Rattle.answer_laws.specs.Answered.{IsAnswered, opened_after}
+use Rattle.command_laws.specs.Alone.{IsRefusedAlone, IsTurnedAway, WaitsAlone}
 use Rattle.command_laws.specs.Between.{IsAskedAgain, IsServedIn}
 use Rattle.command_laws.specs.Served.{IsAnsweredAlone, IsAnsweredAs, IsCommittedAlone, IsRefusedAs, IsServed, IsToldCommitted, IsToldHolder, StillWaits, replies_since}
 
@@ -44,6 +45,15 @@ pub record IsReportedCommitted (start : Start) (was now : ℕ → List LogStep) 
 abbrev pub CommitComesTo : Start → (was now : ℕ → List LogStep) → ℕ → Type 0
 CommitComesTo start was now name = IsTurnedDown start was now name ⊎ IsReportedCommitted start was now name
 
+-- an operation alone was answered, and its transaction reported committed
+pub record IsDoneAlone (start : Start) (was now : ℕ → List LogStep) : Type 0 where
+  pub answered : IsAnsweredAlone start was now
+  pub committed : IsCommittedAlone start was now
+
+-- An operation alone is done, or its transaction is aborted for want of room or of time, or can't begin, or it waits for a lock.
+abbrev pub LoneComesTo : Start → (was now : ℕ → List LogStep) → Type 0
+LoneComesTo start was now = IsDoneAlone start was now ⊎ (IsRefusedAlone start was now ⊎ (IsTurnedAway start was now ⊎ WaitsAlone start was now))
+
 abbrev pub OperationsComeTo : Type 0
 OperationsComeTo =
     (start : Start) (was now : ℕ → List LogStep) (name : ℕ) (op : Op) → IsServed start was now (request.Operate (Some name) op) → OperationComesTo start was now name
@@ -55,7 +65,7 @@ CommitsComeTo = (start : Start) (was now : ℕ → List LogStep) (name : ℕ) �
 -- the second time it is told who holds what it waits for.
 abbrev pub AnswersRequest : Start → (was now : ℕ → List LogStep) → ApiReq → Type 0
 AnswersRequest start was now (request.Operate (Some name) op) = OperationComesTo start was now name
-AnswersRequest start was now (request.Operate None op) = IsAnsweredAlone start was now → IsCommittedAlone start was now
+AnswersRequest start was now (request.Operate None op) = LoneComesTo start was now
 AnswersRequest start was now (request.Commit name) = CommitComesTo start was now name
 AnswersRequest start was now request.Pending =
     (first : ℕ → List LogStep) → IsServed start first was request.Waits → is_left_open (after start 0 (first 0)) ≡ true → IsToldHolder start first was now

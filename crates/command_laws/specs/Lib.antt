@@ -1,4 +1,6 @@
+pub mod Alone
 pub mod Answers
 pub mod Between
+pub mod Living
 pub mod Sample
 pub mod Served

@@ -1,4 +1,6 @@
 //! What is proved of commands.
+ghost use Rattle.command_laws.specs.Alone.{LoneOperationsAreAnswered};
+ghost use Rattle.command_laws.specs.Living.{RepliesAreOfTheLiving};
 ghost use Rattle.command_laws.specs.Sample.{SampleIsServed};
 ghost use Rattle.command_laws.specs.Answers.{CommitsComeTo, OperationsComeTo, RequestsAreAnswered};
 ghost use Rattle.command_laws.specs.Served.{CommitsAreCommitted, EachIsHeldUp, HoldersAreTold, LoneAreCommitted, OperationsAreAnswered};
@@ -31,6 +33,12 @@ pub fn commits_come_to_something()
     ensures { CommitsComeTo }
 {}
 
+/// An operation alone is answered, or its transaction is aborted for want of room or of time, or can't
+/// begin since its coordinator has as many as it may have, or it waits for a lock.
+pub fn lone_operations_are_answered()
+    ensures { LoneOperationsAreAnswered }
+{}
+
 /// Where a command left something of its own unanswered, the two questions about it bring the name,
 /// where it has one, of a transaction that holds the lock of a key for which the command waits.
 pub fn holders_are_told()
@@ -41,6 +49,12 @@ pub fn holders_are_told()
 /// in the queue of its key, behind another transaction, at one of the nodes that it is sent along.
 pub fn each_operation_is_held_up()
     ensures { EachIsHeldUp }
+{}
+
+/// As no host stops, no reply tells of one that did: no transaction ends for the failure of a node or
+/// of the cluster, none in an unknown way, and nothing is refused since the cluster is down.
+pub fn no_reply_tells_of_a_stopped_host()
+    ensures { RepliesAreOfTheLiving }
 {}
 
 /// There are logs between which a commit was served, of a transaction that takes commands.

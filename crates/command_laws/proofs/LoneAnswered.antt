@@ -1,0 +1,165 @@
+-- An operation alone is answered, or refused for want of room or of time, or its transaction can't begin, or it waits for a lock.
+use Rattle.std.proofs.Common.{◌≡◌, ◌⊎◌, ◌≤◌, ◌+◌, ℕ, zero, suc, Bool, true, false, List, [], ◌∷◌, ◌++◌, refl, sym, ap, ◌∙◌, subst, inl, inr, append_assoc, arith}
+use Rattle.std.specs.Prelude.{Option, None, Some}
+use Rattle.run_theory.specs.Cuts.{IsCut}
+use Rattle.run_theory.specs.Lists.{Each, IsIn}
+use Rattle.run_theory.proofs.Pasts.{each_before}
+use Rattle.sig_core.specs.declared.log.LogStep.{LogStep}
+use Rattle.sig_core.specs.declared.member.TxId.{TxId}
+use Rattle.sig_core.specs.declared.op.Op.{Op}
+use Rattle.sig_core.specs.declared.place.Place.{Place}
+use Rattle.sig_core.specs.declared.reply.ApiReply.TheVariants.{Answered, Refused}
+use Rattle.sig_core.specs.declared.reply.Refusal.TheVariants.{TooManyOpen}
+use Rattle.sig_core.specs.declared.request.ApiReq.TheVariants.{Operate}
+use Rattle.sig_core.specs.Place.{client}
+use Rattle.api_block.specs.declared.opened.Doing.{Doing}
+use Rattle.api_block.specs.declared.opened.Doing.TheVariants.{Operating}
+use Rattle.api_block.specs.declared.opened.OpenTransaction.{OpenTransaction}
+use Rattle.api_block.specs.Opened.{has_tx, is_beginning}
+use Rattle.node_core.specs.Requests.{is_request}
+use Rattle.node_core.specs.Row.{row}
+use Rattle.world_core.specs.Machine.{after, step_after}
+use Rattle.world_core.specs.Start.{Start}
+use Rattle.answer_laws.proofs.Begins.{no_begin}
+use Rattle.answer_laws.proofs.Hosts.{shell_after}
+use Rattle.answer_laws.proofs.LinkCounts.{steps, taken_steps}
+use Rattle.answer_laws.proofs.Lives.{holds_at, keeps, once_started}
+use Rattle.answer_laws.proofs.Tally.{one_if, tally_append}
+use Rattle.answer_laws.proofs.TcLives.{is_start}
+use Rattle.answer_laws.specs.Answered.{EachIsAnswered, WaitsForLock, is_answered_by, opened_after, opened_in}
+use Rattle.command_laws.proofs.CommitGoes.{HasEnded, IsEnding}
+use Rattle.command_laws.proofs.Committed.{calm_at, sent_append}
+use Rattle.command_laws.proofs.EarlySteps.{IsOpenNow, OpenOption, is_wish_to}
+use Rattle.command_laws.proofs.EndsWell.{ended_well, replied}
+use Rattle.command_laws.proofs.Entries.{HasOne}
+use Rattle.command_laws.proofs.First.{IsFirst, request_first}
+use Rattle.command_laws.proofs.LoneBegins.{HasBegun, IsAlone, IsAskedAlone, WasRefused, alone_first, begin_goes}
+use Rattle.command_laws.proofs.LoneWishes.{wishes_since}
+use Rattle.command_laws.proofs.OperateGoes.{HasAnswered, IsAnswering, operate_goes}
+use Rattle.command_laws.proofs.Since.{all_taken, none_counted, sent_since}
+use Rattle.command_laws.proofs.TcPath.{none_there}
+use Rattle.command_laws.proofs.TellsSince.{OnTc}
+use Rattle.command_laws.specs.Alone.{IsRefusedAlone, IsTurnedAway, LoneOperationsAreAnswered, WaitsAlone}
+use Rattle.command_laws.specs.Served.{IsAnsweredAlone, IsServed}
+
+-- what was so behind some steps and a log was so behind that log
+module _ (start : Start) (newer : List LogStep) (step : LogStep) (older log : List LogStep) where
+  same_log : (some : List LogStep) → some ++ (step ∷ (older ++ log)) ≡ (some ++ step ∷ older) ++ log
+  same_log some = sym (append_assoc some (step ∷ older) log)
+
+  answered_before : (name : Option ℕ) → HasAnswered name start newer (step ∷ (older ++ log)) → HasAnswered name start (newer ++ step ∷ older) log
+  answered_before name a = record {
+    newer = a.newer;
+    step = a.step;
+    older = a.older ++ step ∷ older;
+    is = ap (λ w. w ++ step ∷ older) a.is ∙ append_assoc a.newer (a.step ∷ a.older) (step ∷ older);
+    answering = subst (λ l. IsAnswering name (after start 0 l) (step_after start 0 l a.step)) (same_log a.older) a.answering;
+  }
+
+  ended_before : (tx : TxId) (name : Option ℕ) → HasEnded tx name start newer (step ∷ (older ++ log)) → HasEnded tx name start (newer ++ step ∷ older) log
+  ended_before tx name ended = record {
+    newer = ended.newer;
+    step = ended.step;
+    older = ended.older ++ step ∷ older;
+    is = ap (λ w. w ++ step ∷ older) ended.is ∙ append_assoc ended.newer (ended.step ∷ ended.older) (step ∷ older);
+    ending = subst (λ l. IsEnding tx name (after start 0 l) ended.step.taken.body (step_after start 0 l ended.step)) (same_log ended.older) ended.ending;
+  }
+
+module _ (answered : EachIsAnswered) (start : Start) (was now : ℕ → List LogStep) (op : Op) (served : IsServed start was now (Operate None op)) where
+  abbrev Result : Type 0
+  Result = IsAnsweredAlone start was now ⊎ (IsRefusedAlone start was now ⊎ (IsTurnedAway start was now ⊎ WaitsAlone start was now))
+
+  f : IsFirst start was now (Operate None op)
+  f = request_first start was now (Operate None op) served
+
+  asked : IsAskedAlone op (step_after start 0 (was 0) f.first)
+  asked =
+      subst (λ (to : Place). IsAskedAlone op (row (after start 0 (was 0)) to f.first.taken.body)) (sym f.place)
+      (subst (λ body. IsAskedAlone op (row (after start 0 (was 0)) client body)) (sym f.body)
+      (alone_first start (after start 0 (was 0)) op (shell_after start (was 0)) served.before.some (calm_at start was served.before)))
+
+  answered_alone : HasAnswered None start f.later (f.first ∷ was 0) → IsAnsweredAlone start was now
+  answered_alone a = record {
+    answer = a.answering.answer;
+    told = replied start was now (Operate None op) served f a.newer a.step a.older (Answered None a.answering.answer) a.is a.answering.told;
+  }
+
+  turned_away : WasRefused op start f.later (f.first ∷ was 0) → IsTurnedAway start was now
+  turned_away r = replied start was now (Operate None op) served f r.newer r.step r.older (Refused None TooManyOpen) r.is r.told
+
+  not_beginning : IsAlone op (opened_after start now) → ⊥
+  not_beginning has = let both : true ≡ false = sym (ap is_beginning has.does) ∙ no_begin start now has.item served.since has.inside in cc
+
+  module _ (wishes : (tx : TxId) → sent_since start (is_wish_to tx) 0 f.later (f.first ∷ was 0) ≡ 0) (b : HasBegun op start f.later (f.first ∷ was 0)) where
+    abbrev rest : List LogStep
+    rest = b.older ++ f.first ∷ was 0
+
+    now_is : now 0 ≡ b.newer ++ b.step ∷ rest
+    now_is = f.is ∙ ap (λ w. w ++ f.first ∷ was 0) b.is ∙ append_assoc b.newer (b.step ∷ b.older) (f.first ∷ was 0)
+
+    -- it hadn't begun before
+    unbegun : steps (is_start b.tx) (was 0) ≡ 0
+    unbegun =
+        omega (
+          arith,
+          once_started start b.tx now served.since,
+          ap (steps (is_start b.tx)) now_is,
+          tally_append (λ (e : LogStep). is_start b.tx e.taken.to e.taken.body) b.newer (b.step ∷ rest),
+          tally_append (λ (e : LogStep). is_start b.tx e.taken.to e.taken.body) b.older (f.first ∷ was 0),
+          ap one_if b.begun,
+        )
+
+    no_wishes : sent_since start (is_wish_to b.tx) 0 (f.later ++ f.first ∷ []) (was 0) ≡ 0
+    no_wishes = omega (arith, sent_append start (is_wish_to b.tx) 0 f.later (f.first ∷ []) (was 0), wishes b.tx, asked.wishes b.tx)
+
+    open_was : (h : ℕ) → b.tx.tc ≡ suc h → OnTc (IsOpenNow b.tx) (after start (suc h) (was (suc h)))
+    open_was h at =
+        let k = keeps start b.tx h (was (suc h)) in
+        let sent = all_taken start was now served.before served.since served.cut (is_start b.tx) (suc h) 0 (omega arith) in
+        subst (OnTc (IsOpenNow b.tx)) (sym k.is)
+        (record { open_now = subst OpenOption (sym (none_there b.tx k.state.tc.live (omega (arith, k.keeps.began, sent, taken_steps start (is_start b.tx) (suc h) (was 0), unbegun)))) tt })
+
+    refused : HasEnded b.tx None start f.later (f.first ∷ was 0) → IsRefusedAlone start was now
+    refused ended =
+        let w = ended_well start was now (Operate None op) served f b.tx no_wishes open_was None ended in
+        record { cause = w.cause; told = w.told; refusal = w.refusal }
+
+    waits_alone : HasOne b.tx None Operating (opened_after start now) → WaitsAlone start was now
+    waits_alone has = record {
+      tx = b.tx;
+      item = has.item;
+      inside = has.inside;
+      called = has.called;
+      own = has.own;
+      does = has.does;
+      waits = by has.item.doing has.item.tx has.does has.own (answered start now has.item served.since has.inside);
+      begun_since = none_counted (has_tx b.tx) (opened_after start was) (omega (arith, (holds_at start b.tx was served.before).few, unbegun));
+    }
+      where
+        by : (doing : Doing) (o : Option TxId) → doing ≡ Operating → o ≡ Some b.tx → is_answered_by start now doing o → WaitsForLock start now b.tx
+        by doing o is some all = subst (λ p. is_answered_by start now Operating p) some (subst (λ d. is_answered_by start now d o) is all)
+
+    plain_newer : Each (λ (e : LogStep). is_request e.taken.body ≡ false) b.newer
+    plain_newer = each_before (λ (e : LogStep). is_request e.taken.body ≡ false) b.newer (b.step ∷ b.older) (subst (Each (λ (e : LogStep). is_request e.taken.body ≡ false)) b.is f.plain)
+
+    begun_result : Result
+    begun_result = by (operate_goes b.tx None start b.newer (b.step ∷ rest) plain_newer b.has)
+      where
+        by : HasOne b.tx None Operating (opened_in (after start 0 (b.newer ++ b.step ∷ rest))) ⊎ (HasAnswered None start b.newer (b.step ∷ rest) ⊎ HasEnded b.tx None start b.newer (b.step ∷ rest)) → Result
+        by (inl has) = inr (inr (inr (waits_alone (subst (λ log. HasOne b.tx None Operating (opened_in (after start 0 log))) (sym now_is) has))))
+        by (inr (inl a)) = inl (answered_alone (subst (λ later. HasAnswered None start later (f.first ∷ was 0)) (sym b.is) (answered_before start b.newer b.step b.older (f.first ∷ was 0) None a)))
+        by (inr (inr ended)) = inr (inl (refused (subst (λ later. HasEnded b.tx None start later (f.first ∷ was 0)) (sym b.is) (ended_before start b.newer b.step b.older (f.first ∷ was 0) b.tx None ended))))
+
+  lone_result : Result
+  lone_result = by (wishes_since start f.later (f.first ∷ was 0) f.plain) (begin_goes op start f.later (f.first ∷ was 0) f.plain asked.alone)
+    where
+      by : HasAnswered None start f.later (f.first ∷ was 0) ⊎ ((tx : TxId) → sent_since start (is_wish_to tx) 0 f.later (f.first ∷ was 0) ≡ 0)
+          → IsAlone op (opened_in (after start 0 (f.later ++ f.first ∷ was 0))) ⊎ (HasBegun op start f.later (f.first ∷ was 0) ⊎ WasRefused op start f.later (f.first ∷ was 0)) → Result
+      by (inl a) goes = inl (answered_alone a)
+      by (inr wishes) (inl has) = absurd (not_beginning (subst (λ log. IsAlone op (opened_in (after start 0 log))) (sym f.is) has))
+      by (inr wishes) (inr (inl b)) = begun_result wishes b
+      by (inr wishes) (inr (inr r)) = inr (inr (inl (turned_away r)))
+
+-- so it is where each command is answered
+pub lone_answered : EachIsAnswered → LoneOperationsAreAnswered
+lone_answered each start was now op served = lone_result each start was now op served

@@ -1,0 +1,289 @@
+-- A transaction that was asked for with an operation is beginning until it has begun, and performs that, or is refused.
+use Rattle.std.proofs.Common.{◌≡◌, ◌⊎◌, ◌≤◌, ◌+◌, ℕ, zero, suc, Bool, true, false, List, [], ◌∷◌, ◌++◌, refl, sym, ap, ◌∙◌, subst, inl, inr, arith}
+use Rattle.std.specs.Prelude.{◌&&◌, Option, None, Some, position}
+use Rattle.run_theory.specs.Lists.{Each, IsIn}
+use Rattle.sig_core.specs.declared.log.LogStep.{LogStep}
+use Rattle.sig_core.specs.declared.member.Member.{Member}
+use Rattle.sig_core.specs.declared.member.TxId.{TxId}
+use Rattle.sig_core.specs.declared.op.Op.{Op}
+use Rattle.sig_core.specs.declared.place.BlockId.{BlockId}
+use Rattle.sig_core.specs.declared.place.BlockId.TheVariants as block
+use Rattle.sig_core.specs.declared.place.Place.{Place}
+use Rattle.sig_core.specs.declared.reply.ApiReply.TheVariants.{Refused}
+use Rattle.sig_core.specs.declared.reply.Refusal.TheVariants.{TooManyOpen}
+use Rattle.sig_core.specs.declared.request.ApiReq.TheVariants as request
+use Rattle.sig_core.specs.declared.signal.Body.{Body}
+use Rattle.sig_core.specs.declared.signal.Body.TheVariants.{Host, Client}
+use Rattle.sig_core.specs.declared.signal.client.ClientSignal.TheVariants.{TcBeginConf}
+use Rattle.sig_core.specs.declared.signal.host.HostSignal.TheVariants.{Continue}
+use Rattle.sig_core.specs.declared.signal.host.Work.TheVariants as work
+use Rattle.sig_core.specs.declared.view.View.{View}
+use Rattle.sig_core.specs.Place.{client}
+use Rattle.sig_core.specs.Step.{Step, stay}
+use Rattle.api_block.specs.declared.opened.Doing.{Doing}
+use Rattle.api_block.specs.declared.opened.Doing.TheVariants.{Beginning, Operating}
+use Rattle.api_block.specs.declared.opened.OpenTransaction.{OpenTransaction}
+use Rattle.api_block.specs.Api.{api_row, request_row}
+use Rattle.api_block.specs.Members.{least_node}
+use Rattle.api_block.specs.Opened.{asked_for, begins, begins_at, begun_operating, behind, has_tx, is_beginning, is_tx, same_name, where_at}
+use Rattle.api_block.specs.Operate.{begun_by, begun_row, lone_by, lone_row}
+use Rattle.api_block.specs.State.{ApiState}
+use Rattle.node_core.specs.declared.host.Host as host
+use Rattle.node_core.specs.declared.host.Host.TheVariants.{Shell, Node}
+use Rattle.node_core.specs.Replies.{replies_of}
+use Rattle.node_core.specs.Requests.{is_request}
+use Rattle.node_core.specs.Row.{in_shell, row, shell_row}
+use Rattle.world_core.specs.Machine.{after}
+use Rattle.world_core.specs.Start.{Start, first_view, members}
+use Rattle.answer_laws.proofs.ApiBegins.{in_middle, same_name-is}
+use Rattle.answer_laws.proofs.Focus.{IsFocus, where_found}
+use Rattle.answer_laws.proofs.Hosts.{IsShell}
+use Rattle.answer_laws.proofs.Tally.{one_if, only_one, tally, tally_append, tally_between, tally_none}
+use Rattle.answer_laws.proofs.TcLives.{is_start, start_of}
+use Rattle.answer_laws.proofs.Wishes.{is_api, sends_of}
+use Rattle.answer_laws.specs.Answered.{opened_in}
+use Rattle.command_laws.proofs.ApiChanges.{ApiChange, IsOneOf, answers, api_changes, commits, ends, refuses, rests, starts, waits}
+use Rattle.command_laws.proofs.EarlySteps.{is_wish_to}
+use Rattle.commit_laws.proofs.Keys.{same_tx-self}
+use Rattle.answer_laws.proofs.LqhOps.{left_of}
+use Rattle.command_laws.proofs.Entries.{HasOne, IsApart, NoneBegins, here_or_apart}
+
+abbrev begins_any : OpenTransaction → Bool
+begins_any t = is_beginning t.doing
+
+-- one of these is beginning, with this operation and no name, and no other one is
+pub record IsAlone (op : Op) (opened : List OpenTransaction) : Type 0 where
+  pub item : OpenTransaction
+  pub inside : IsIn item opened
+  pub called : item.name ≡ None
+  pub does : item.doing ≡ Beginning (Some op)
+  pub unborn : item.tx ≡ None
+  pub only : tally begins_any opened ≤ 1
+
+record BeginsHere (body : Body) (opened : List OpenTransaction) : Type 0 where
+  tx : TxId
+  about : body ≡ Client (TcBeginConf None tx)
+  has : HasOne tx None Operating opened
+
+abbrev IsRefusedHere : ApiState → Step ApiState → Type 0
+IsRefusedHere s step = step.state.replies ≡ s.replies ++ Refused None TooManyOpen ∷ []
+
+module _ (op : Op) where
+  AloneGoes : ApiState → Body → Step ApiState → Type 0
+  AloneGoes s body step = IsAlone op step.state.opened ⊎ (BeginsHere body step.state.opened ⊎ IsRefusedHere s step)
+
+  module _ (s : ApiState) (has : IsAlone op s.opened) where
+    -- what is beginning is that one
+    is_that : (t : OpenTransaction) → IsIn t s.opened → is_beginning t.doing ≡ true → t ≡ has.item
+    is_that t inside begins_now = only_one begins_any s.opened t has.item has.only inside has.inside begins_now (ap is_beginning has.does)
+
+    is_inside : (at : IsOneOf s.opened) → IsIn at.t s.opened
+    is_inside at = subst (IsIn at.t) (sym at.is) (in_middle at.front at.t at.back)
+
+    no_name : (t : OpenTransaction) (called : Option ℕ) → t ≡ has.item → same_name t.name called ≡ true → called ≡ None
+    no_name t called same passes = sym (same_name-is t.name called passes) ∙ ap (λ (x : OpenTransaction). x.name) same ∙ has.called
+
+    as_before : (after : List OpenTransaction) → IsIn has.item after → tally begins_any after ≤ 1 → IsAlone op after
+    as_before after inside only = record { item = has.item; inside = inside; called = has.called; does = has.does; unborn = has.unborn; only = only }
+
+    -- no more are beginning where one becomes another
+    fewer : (at : IsOneOf s.opened) (u : OpenTransaction) (after : List OpenTransaction) → after ≡ at.front ++ u ∷ at.back → one_if (is_beginning u.doing) ≤ one_if (is_beginning at.t.doing) → tally begins_any after ≤ 1
+    fewer at u after is less = omega (arith, has.only, tally_between begins_any at.front at.t at.back s.opened at.is, tally_between begins_any at.front u at.back after is, less)
+
+    gone : (at : IsOneOf s.opened) (after : List OpenTransaction) → after ≡ at.front ++ at.back → tally begins_any after ≤ 1
+    gone at after is = omega (arith, has.only, tally_between begins_any at.front at.t at.back s.opened at.is, ap (tally begins_any) is)
+
+    begins_there : (called : Option ℕ) (tx : TxId) → AloneGoes s (Client (TcBeginConf called tx)) (begun_row s called tx)
+    unfolding begun_row AloneGoes
+    begins_there called tx =
+        where_found (begins_at called tx.tc) s.opened (stay s) (λ at t. begun_by s tx at t t.name t.doing) (AloneGoes s (Client (TcBeginConf called tx))) (λ none. inl has) present
+      where
+        present : (at : ℕ) (f : IsFocus (begins_at called tx.tc) s.opened at) → AloneGoes s (Client (TcBeginConf called tx)) (begun_by s tx at f.item f.item.name f.item.doing)
+        present at f =
+            subst (λ n. AloneGoes s (Client (TcBeginConf called tx)) (begun_by s tx at f.item n f.item.doing)) (sym named)
+            (subst (λ d. AloneGoes s (Client (TcBeginConf called tx)) (begun_by s tx at f.item None d)) (sym does) (inr (inl (record { tx = tx; about = ap (λ n. Client (TcBeginConf n tx)) is_none; has = operates }))))
+          where
+            begins_now : begins called f.item ≡ true
+            begins_now = left_of (begins called f.item) _ f.passes
+
+            same : f.item ≡ has.item
+            same = is_that f.item (subst (IsIn f.item) (sym f.is) (in_middle f.front f.item f.back)) (left_of (is_beginning f.item.doing) (same_name f.item.name called) begins_now)
+
+            second_of : (a b : Bool) → (a && b) ≡ true → b ≡ true
+            second_of true b e = e
+            second_of false b e = cc
+
+            is_none : called ≡ None
+            is_none = no_name f.item called same (second_of (is_beginning f.item.doing) (same_name f.item.name called) begins_now)
+
+            named : f.item.name ≡ None
+            named = ap (λ (x : OpenTransaction). x.name) same ∙ has.called
+
+            does : f.item.doing ≡ Beginning (Some op)
+            does = ap (λ (x : OpenTransaction). x.doing) same ∙ has.does
+
+            operates : HasOne tx None Operating (begun_by s tx at f.item None (Beginning (Some op))).state.opened
+            operates = record {
+              item = begun_operating f.item tx;
+              inside = subst (IsIn (begun_operating f.item tx)) (sym (f.set (begun_operating f.item tx))) (in_middle f.front (begun_operating f.item tx) f.back);
+              own = refl;
+              called = named;
+              does = refl;
+            }
+
+    not_busy : (t : OpenTransaction) (doing : Doing) → t.doing ≡ doing → is_beginning doing ≡ false → has.item ≡ t → ⊥
+    not_busy t doing is off same =
+        let both : false ≡ true = sym off ∙ ap is_beginning (sym is) ∙ ap (λ (x : OpenTransaction). is_beginning x.doing) (sym same) ∙ ap is_beginning has.does in cc
+
+    change_goes : (body : Body) → ApiChange s body (api_row s body) → AloneGoes s body (api_row s body)
+    unfolding AloneGoes
+    change_goes body (rests is adds kind) = inl (as_before _ (subst (IsIn has.item) (sym is) has.inside) (omega (arith, has.only, ap (tally begins_any) is)))
+    change_goes body (waits one ahead at about is replies sends) = by (here_or_apart has.item s.opened at has.inside)
+      where
+        by : (has.item ≡ at.t) ⊎ IsApart has.item at.front at.back → AloneGoes s body (api_row s body)
+        by (inl same) = inl (record {
+          item = behind at.t (Some ahead);
+          inside = subst (IsIn (behind at.t (Some ahead))) (sym is) (in_middle at.front (behind at.t (Some ahead)) at.back);
+          called = ap (λ (x : OpenTransaction). x.name) (sym same) ∙ has.called;
+          does = ap (λ (x : OpenTransaction). x.doing) (sym same) ∙ has.does;
+          unborn = ap (λ (x : OpenTransaction). x.tx) (sym same) ∙ has.unborn;
+          only = fewer at (behind at.t (Some ahead)) _ is (omega arith);
+        })
+        by (inr others) = inl (as_before _ (subst (IsIn has.item) (sym is) (others.kept _)) (fewer at (behind at.t (Some ahead)) _ is (omega arith)))
+    change_goes body (answers one answer called at about passes does named is replies sends) = by (here_or_apart has.item s.opened at has.inside)
+      where
+        by : (has.item ≡ at.t) ⊎ IsApart has.item at.front at.back → AloneGoes s body (api_row s body)
+        by (inl same) = absurd (not_busy at.t Operating does refl same)
+        by (inr others) = inl (as_before _ (subst (IsIn has.item) (sym is) (others.kept _)) (fewer at _ _ is (omega arith)))
+    change_goes body (commits one answer at about passes does named is replies sends) = by (here_or_apart has.item s.opened at has.inside)
+      where
+        by : (has.item ≡ at.t) ⊎ IsApart has.item at.front at.back → AloneGoes s body (api_row s body)
+        by (inl same) = absurd (not_busy at.t Operating does refl same)
+        by (inr others) = inl (as_before _ (subst (IsIn has.item) (sym is) (others.kept _)) (fewer at _ _ is (omega arith)))
+    change_goes body (ends one end at about passes is replies marks sends) = by (here_or_apart has.item s.opened at has.inside)
+      where
+        by : (has.item ≡ at.t) ⊎ IsApart has.item at.front at.back → AloneGoes s body (api_row s body)
+        by (inl same) = absurd (let both : false ≡ true = ap (is_tx one) (sym has.unborn) ∙ ap (λ (x : OpenTransaction). is_tx one x.tx) same ∙ passes in cc)
+        by (inr others) = inl (as_before _ (subst (IsIn has.item) (sym is) others.left) (gone at _ is))
+    change_goes body (starts called one at u about passes is goes) = subst (λ b. AloneGoes s b (api_row s b)) (sym about) (begins_there called one)
+    change_goes body (refuses called at about passes is replies sends) =
+        let same = is_that at.t (is_inside at) (left_of (is_beginning at.t.doing) (same_name at.t.name called) passes) in
+        inr (inr (replies ∙ ap (λ n. s.replies ++ Refused n TooManyOpen ∷ []) (no_name at.t called same (last_of (is_beginning at.t.doing) (same_name at.t.name called) passes))))
+      where
+        last_of : (a b : Bool) → (a && b) ≡ true → b ≡ true
+        last_of true b e = e
+        last_of false b e = cc
+
+  -- the step begins the transaction, or refuses it
+  record BeginsNow (to : Place) (body : Body) (opened : List OpenTransaction) : Type 0 where
+    tx : TxId
+    start : is_start tx to body ≡ true
+    has : HasOne tx None Operating opened
+
+  abbrev IsRefusedNow : host.Host → Step host.Host → Type 0
+  IsRefusedNow g step = replies_of step.state ≡ replies_of g ++ Refused None TooManyOpen ∷ []
+
+  shell_goes : (s : ApiState) (at : BlockId) (body : Body) → is_request body ≡ false → IsAlone op s.opened
+      → IsAlone op (shell_row s at body).state.opened ⊎ (((is_api at ≡ true) × BeginsHere body (shell_row s at body).state.opened) ⊎ IsRefusedHere s (shell_row s at body))
+  unfolding shell_row AloneGoes
+  shell_goes s block.Api body plain has = by (change_goes s has body (api_changes s body plain))
+    where
+      by : IsAlone op (api_row s body).state.opened ⊎ (BeginsHere body (api_row s body).state.opened ⊎ IsRefusedHere s (api_row s body))
+          → IsAlone op (api_row s body).state.opened ⊎ (((true ≡ true) × BeginsHere body (api_row s body).state.opened) ⊎ IsRefusedHere s (api_row s body))
+      by (inl goes) = inl goes
+      by (inr (inl begun_here)) = inr (inl (refl, begun_here))
+      by (inr (inr refused_here)) = inr (inr refused_here)
+  shell_goes s _ body plain has = inl has
+
+  begin_told : (tx : TxId) (at : BlockId) (body : Body) → is_api at ≡ true → body ≡ Client (TcBeginConf None tx) → (is_api at && start_of tx body) ≡ true
+  begin_told tx at body api about = ap (λ b. is_api at && start_of tx b) about ∙ ap (λ a. a && start_of tx (Client (TcBeginConf None tx))) api ∙ same_tx-self tx
+
+  host_goes : (g : host.Host) (to : Place) (body : Body) → is_request body ≡ false → IsAlone op (opened_in g)
+      → IsAlone op (opened_in (row g to body).state) ⊎ (BeginsNow to body (opened_in (row g to body).state) ⊎ IsRefusedNow g (row g to body))
+  unfolding row replies_of
+  host_goes (Shell s) to body plain has = by (shell_goes s to.block body plain has)
+    where
+      by : IsAlone op (shell_row s to.block body).state.opened ⊎ (((is_api to.block ≡ true) × BeginsHere body (shell_row s to.block body).state.opened) ⊎ IsRefusedHere s (shell_row s to.block body))
+          → IsAlone op (opened_in (in_shell (shell_row s to.block body)).state) ⊎ (BeginsNow to body (opened_in (in_shell (shell_row s to.block body)).state) ⊎ IsRefusedNow (Shell s) (in_shell (shell_row s to.block body)))
+      by (inl goes) = inl goes
+      by (inr (inl b)) = inr (inl (record { tx = b.1.tx; start = begin_told b.1.tx to.block body b.0 b.1.about; has = b.1.has }))
+      by (inr (inr refused_here)) = inr (inr refused_here)
+  host_goes (Node n) to body plain has = absurd has.inside
+
+  -- in one of these steps behind a log it began
+  pub record HasBegun (start : Start) (later log : List LogStep) : Type 0 where
+    pub newer : List LogStep
+    pub step : LogStep
+    pub older : List LogStep
+    pub is : later ≡ newer ++ step ∷ older
+    pub tx : TxId
+    pub begun : is_start tx step.taken.to step.taken.body ≡ true
+    pub has : HasOne tx None Operating (opened_in (after start 0 (step ∷ (older ++ log))))
+
+  -- or it was refused
+  pub record WasRefused (start : Start) (later log : List LogStep) : Type 0 where
+    pub newer : List LogStep
+    pub step : LogStep
+    pub older : List LogStep
+    pub is : later ≡ newer ++ step ∷ older
+    pub told : replies_of (after start 0 (step ∷ (older ++ log))) ≡ replies_of (after start 0 (older ++ log)) ++ Refused None TooManyOpen ∷ []
+
+  -- along steps that aren't requests
+  pub begin_goes : (start : Start) (later log : List LogStep) → Each (λ (e : LogStep). is_request e.taken.body ≡ false) later → IsAlone op (opened_in (after start 0 log))
+      → IsAlone op (opened_in (after start 0 (later ++ log))) ⊎ (HasBegun start later log ⊎ WasRefused start later log)
+  begin_goes start [] log plain has = inl has
+  begin_goes start (e ∷ later) log plain has = by (begin_goes start later log plain.1 has)
+    where
+      next : IsAlone op (opened_in (row (after start 0 (later ++ log)) e.taken.to e.taken.body).state)
+          ⊎ (BeginsNow e.taken.to e.taken.body (opened_in (row (after start 0 (later ++ log)) e.taken.to e.taken.body).state)
+          ⊎ IsRefusedNow (after start 0 (later ++ log)) (row (after start 0 (later ++ log)) e.taken.to e.taken.body))
+          → IsAlone op (opened_in (after start 0 (e ∷ (later ++ log)))) ⊎ (HasBegun start (e ∷ later) log ⊎ WasRefused start (e ∷ later) log)
+      next (inl goes) = inl goes
+      next (inr (inl b)) = inr (inl (record { newer = []; step = e; older = later; is = refl; tx = b.tx; begun = b.start; has = b.has }))
+      next (inr (inr told)) = inr (inr (record { newer = []; step = e; older = later; is = refl; told = told }))
+
+      by : IsAlone op (opened_in (after start 0 (later ++ log))) ⊎ (HasBegun start later log ⊎ WasRefused start later log)
+          → IsAlone op (opened_in (after start 0 (e ∷ (later ++ log)))) ⊎ (HasBegun start (e ∷ later) log ⊎ WasRefused start (e ∷ later) log)
+      by (inl goes) = next (host_goes (after start 0 (later ++ log)) e.taken.to e.taken.body plain.0 goes)
+      by (inr (inl b)) = inr (inl (record { newer = e ∷ b.newer; step = b.step; older = b.older; is = ap (λ w. e ∷ w) b.is; tx = b.tx; begun = b.begun; has = b.has }))
+      by (inr (inr r)) = inr (inr (record { newer = e ∷ r.newer; step = r.step; older = r.older; is = ap (λ w. e ∷ w) r.is; told = r.told }))
+
+-- there is a least one of some members
+least_there : (xs : List Member) (m : Member) → (node : ℕ) × (least_node (xs ++ m ∷ []) ≡ Some node)
+unfolding least_node
+least_there [] m = (_, refl)
+least_there (x ∷ xs) m = (_, refl)
+
+least_of : (nodes : ℕ) → 1 ≤ nodes → (node : ℕ) × (least_node (members nodes) ≡ Some node)
+least_of zero some = absurd (omega (arith, some))
+least_of (suc n) some = least_there (members n) _
+
+-- the request of an operation alone asks for its transaction
+pub record IsAskedAlone (op : Op) (step : Step host.Host) : Type 0 where
+  pub alone : IsAlone op (opened_in step.state)
+  pub wishes : (tx : TxId) → sends_of (is_wish_to tx) step.effects.sends ≡ 0
+
+pub alone_first : (start : Start) (g : host.Host) (op : Op) → IsShell start g → 1 ≤ start.nodes → NoneBegins (opened_in g)
+    → IsAskedAlone op (row g client (Host (Continue (work.Request (request.Operate None op)) 0)))
+unfolding row shell_row request_row lone_row
+alone_first start (Shell s) op shell some calm = subst (λ o. IsAskedAlone op (in_shell (lone_by s op o))) (sym there) (record {
+  alone = record {
+    item = asked_for None least.0 (Some op);
+    inside = in_middle s.opened (asked_for None least.0 (Some op)) [];
+    called = refl;
+    does = refl;
+    unborn = refl;
+    only = omega (arith, tally_append begins_any s.opened (asked_for None least.0 (Some op) ∷ []), tally_none begins_any s.opened calm);
+  };
+  wishes = λ tx. refl;
+})
+  where
+    least : (node : ℕ) × (least_node (members start.nodes) ≡ Some node)
+    least = least_of start.nodes some
+
+    own : (a b : ApiState) → Shell a ≡ Shell b → a ≡ b
+    own a b e = cc
+
+    there : least_node s.view.full ≡ Some least.0
+    there = ap (λ (t : ApiState). least_node t.view.full) (own s shell.state shell.is) ∙ ap (λ (v : View). least_node v.full) shell.view ∙ least.1
+alone_first start (Node n) op shell some calm = absurd (let is : Node n ≡ Shell shell.state = shell.is in cc)
