@@ -26,6 +26,7 @@ use Rattle.shell_top.proofs.PrintedLemmas.{prints_both}
 use Rattle.world_core.specs.Lives.{fresh_life}
 use Rattle.world_core.specs.Machine.{hosts, machine}
 use Rattle.serial_laws.proofs.EveryCut.{every_cut_serial}
+use Rattle.command_laws.proofs.RepliesLive.{replies_live}
 use Rattle.command_laws.proofs.Requests.{requests_answered}
 use Rattle.command_laws.specs.Between.{IsAskedAgain}
 use Rattle.world_core.specs.Quiet.{IsQuiet}
@@ -75,6 +76,7 @@ is_life e commands logs lived =
       answered = λ newer step before request at is again.
           requests_answered (fresh nodes) (logs_at logs) (omega arith) (omega arith) lived.right lived.within lived.at_quiet newer step before request at is
           (ends_or_goes_on e (IsQuiet (machine (fresh nodes)) (hosts (fresh nodes)) (logs_at logs)) (IsAskedAgain (fresh nodes) newer) lived.quiet again);
+      living = replies_live (fresh nodes) (logs_at logs) lived.within lived.right;
       run = merged_run (machine (fresh nodes)) (stamped (fresh nodes)) (hosts (fresh nodes)) (logs_at logs) lived.within lived.right;
     }
 

@@ -1,13 +1,17 @@
 -- What the lives of a session say of it.
 use Rattle.std.specs.Prelude.{◌≡◌, ℕ, Bool, true, false, List, [], ◌∷◌, ◌++◌, reverse, Some}
 use Rattle.run_theory.specs.Cuts.{IsCut, IsClosed}
+use Rattle.run_theory.specs.Lists.{Each}
 use Rattle.run_theory.specs.Orders.{LogsRun}
 use Rattle.run_theory.specs.Runs.{AreLogs, IsWithin}
 use Rattle.command_laws.specs.Answers.{IsAnsweredIn}
 use Rattle.command_laws.specs.Between.{IsAskedAgain}
+use Rattle.command_laws.specs.Living.{is_of_living}
+use Rattle.node_core.specs.Replies.{replies_of}
 use Rattle.script_lang.specs.declared.command.Command.{Command}
 use Rattle.sig_core.specs.declared.log.Life.{Life}
 use Rattle.sig_core.specs.declared.log.LogStep.{LogStep}
+use Rattle.sig_core.specs.declared.reply.ApiReply.{ApiReply}
 use Rattle.sig_core.specs.declared.request.ApiReq.{ApiReq}
 use Rattle.shell_top.specs.Asked.{AreAsked, AreAskedInPart}
 use Rattle.shell_top.specs.declared.ended.Ending.{Ending}
@@ -15,7 +19,7 @@ use Rattle.shell_top.specs.declared.ended.Ending.TheVariants.{NoMemory, Words}
 use Rattle.shell_top.specs.Printed.{is_cut_short}
 use Rattle.shell_top.specs.Told.{text_of}
 use Rattle.world_core.specs.Lives.{logs_of, start_of}
-use Rattle.world_core.specs.Machine.{hosts, machine}
+use Rattle.world_core.specs.Machine.{after, hosts, machine}
 use Rattle.world_core.specs.Quiet.{IsQuiet}
 use Rattle.world_core.specs.Requests.{AreAskedAtQuiet, request_in}
 use Rattle.world_core.specs.SerialLaw.{IsSerial}
@@ -48,13 +52,15 @@ EachIsAnswered start ending logs =
     → IsAnsweredIn start logs request before
 
 -- What a life says: it begins without rows, in the first epoch; its logs are a run of the machine from there, the requests
--- in them are those of the commands, every closed cut of them is serial, and each request is answered.
+-- in them are those of the commands, every closed cut of them is serial, and each request is answered, with no reply that tells of a host that stopped.
 pub record IsLife (ending : Ending) (commands : List Command) (life : Life) : Type 0 where
   pub begins : start_of nodes life ≡ fresh nodes
   pub lived : AreLived (start_of nodes life) ending commands (logs_of life)
   pub run : LogsRun (machine (start_of nodes life)) (hosts (start_of nodes life)) (logs_of life)
   pub serial : (inside : ℕ → List LogStep) → IsCut inside (logs_of life) → IsClosed (machine (start_of nodes life)) inside → IsSerial (start_of nodes life) inside
   pub answered : EachIsAnswered (start_of nodes life) ending (logs_of life)
+  -- no reply tells of a host that stopped
+  pub living : Each (λ (reply : ApiReply). is_of_living reply ≡ true) (replies_of (after (start_of nodes life) 0 (logs_of life 0)))
 
 -- the endings that can come before there is a life
 abbrev pub may_be_unborn : Ending → Bool
