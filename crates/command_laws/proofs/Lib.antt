@@ -1,3 +1,4 @@
+pub mod AbortTurns
 pub mod ApiChanges
 pub mod CommitFirst
 pub mod CommitGoes
