@@ -1,3 +1,4 @@
+pub mod AbortSteps
 pub mod AbortTurns
 pub mod ApiChanges
 pub mod CommitFirst
