@@ -266,13 +266,13 @@ module _ (tx : TxId) where
         run (e ∷ some) off = next e some log off.0 (run some off.1)
 
   -- the shell's host reports no end
-  api_silent : (s : ApiState) (body : Body) (step : Step ApiState) → ApiMove s body (step.state.view, step.state.opened) step.effects.sends → sends_of (is_wrong tx) step.effects.sends ≡ 0
-  api_silent s body step (rests is kind void) = none_of is_api_kind (is_wrong tx) api_right step.effects.sends kind
-  api_silent s body step (opens name at op new request is told) = ap (sends_of (is_wrong tx)) told
-  api_silent s body step (begun_as name one front t u back about passes begun was is kind) = none_of is_api_kind (is_wrong tx) api_right step.effects.sends kind
-  api_silent s body step (goes front t u back go void was is kind) = none_of is_api_kind (is_wrong tx) api_right step.effects.sends kind
-  api_silent s body step (ends one front t back about passes was is kind) = none_of is_api_kind (is_wrong tx) api_right step.effects.sends kind
-  api_silent s body step (refuses name front t back about passes was is kind) = none_of is_api_kind (is_wrong tx) api_right step.effects.sends kind
+  api_silent : (s : ApiState) (body : Body) (now_it : Step ApiState) → ApiMove s body (now_it.state.view, now_it.state.opened) now_it.effects.sends → sends_of (is_wrong tx) now_it.effects.sends ≡ 0
+  api_silent s body now_it (rests is kind void) = none_of is_api_kind (is_wrong tx) api_right now_it.effects.sends kind
+  api_silent s body now_it (opens name at op new request is told) = ap (sends_of (is_wrong tx)) told
+  api_silent s body now_it (begun_as name one front t u back about passes begun was is kind) = none_of is_api_kind (is_wrong tx) api_right now_it.effects.sends kind
+  api_silent s body now_it (goes front t u back go void was is kind) = none_of is_api_kind (is_wrong tx) api_right now_it.effects.sends kind
+  api_silent s body now_it (ends one front t back about passes was is kind) = none_of is_api_kind (is_wrong tx) api_right now_it.effects.sends kind
+  api_silent s body now_it (refuses name front t back about passes was is kind) = none_of is_api_kind (is_wrong tx) api_right now_it.effects.sends kind
 
   shell_silent : (s : ApiState) (at : BlockId) (body : Body) → sends_of (is_wrong tx) (shell_row s at body).effects.sends ≡ 0
   unfolding shell_row
