@@ -74,7 +74,7 @@ wrong_of tx _ = false
 abbrev pub is_wrong : TxId → Place → Body → Bool
 is_wrong tx to body = wrong_of tx body
 
-abbrev LooseOption : Bool → Option Transaction → Type 0
+abbrev pub LooseOption : Bool → Option Transaction → Type 0
 LooseOption c None = Unit {0}
 LooseOption c (Some t) = (is_loose c t.phase ≡ true) × (t.asked ≡ None)
 

@@ -1,3 +1,5 @@
+pub mod AbortAnswered
+pub mod AbortFirst
 pub mod AbortSteps
 pub mod AbortTurns
 pub mod ApiChanges

@@ -1,4 +1,5 @@
 //! What is proved of commands.
+ghost use Rattle.command_laws.specs.Aborts.{ReadyAbortsAreAnswered};
 ghost use Rattle.command_laws.specs.Alone.{LoneOperationsAreAnswered};
 ghost use Rattle.command_laws.specs.Living.{RepliesAreOfTheLiving};
 ghost use Rattle.command_laws.specs.Sample.{SampleIsServed};
@@ -19,6 +20,11 @@ pub fn lone_operations_are_committed()
 /// want of room or of time, or it waits for a lock.
 pub fn operations_are_answered()
     ensures { OperationsAreAnswered }
+{}
+
+/// An abort of a transaction that takes commands ends in its being aborted at the client's request.
+pub fn aborts_are_answered()
+    ensures { ReadyAbortsAreAnswered }
 {}
 
 /// An operation alone is answered, or its transaction is aborted for want of room or of time, or can't
