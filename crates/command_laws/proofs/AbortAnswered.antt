@@ -1,7 +1,7 @@
 -- An abort of a transaction that takes commands ends in its being aborted at the client's request.
-use Rattle.std.proofs.Common.{◌≡◌, ◌≢◌, ◌⊎◌, ◌<◌, ◌≤◌, ◌+◌, ℕ, zero, suc, Bool, true, false, List, [], ◌∷◌, ◌++◌, refl, sym, ap, ◌∙◌, subst, inl, inr, append_assoc, arith}
+use Rattle.std.proofs.Common.{◌≡◌, ◌⊎◌, ◌<◌, ◌≤◌, ◌+◌, ℕ, zero, suc, Bool, true, false, List, [], ◌∷◌, ◌++◌, refl, sym, ap, ◌∙◌, subst, inl, inr, append_assoc, arith}
 use Rattle.std.proofs.lemmas.Bool.{cases_lt}
-use Rattle.std.specs.Prelude.{◌&&◌, if◌then◌else◌, Option, None, Some, is_some}
+use Rattle.std.specs.Prelude.{if◌then◌else◌, Option, Some, is_some}
 use Rattle.run_theory.specs.Cuts.{IsCut}
 use Rattle.run_theory.specs.Links.{sent}
 use Rattle.run_theory.specs.Lists.{Each, IsIn}
@@ -25,12 +25,9 @@ use Rattle.api_block.specs.declared.opened.Doing.{Doing}
 use Rattle.api_block.specs.declared.opened.Doing.TheVariants.{Ready}
 use Rattle.api_block.specs.declared.opened.OpenTransaction.{OpenTransaction}
 use Rattle.api_block.specs.Opened.{has_tx, is_tx}
-use Rattle.node_core.specs.Fresh.{begun_node, fresh_node}
 use Rattle.node_core.specs.Replies.{replies_of}
 use Rattle.node_core.specs.Requests.{is_request}
 use Rattle.node_core.specs.Row.{row}
-use Rattle.tc_block.specs.declared.transaction.Transaction.{Transaction}
-use Rattle.tc_block.specs.State.{TcState}
 use Rattle.world_core.specs.Machine.{after, hosts, machine, step_after}
 use Rattle.world_core.specs.Start.{Start}
 use Rattle.answer_laws.proofs.ApiBegins.{in_middle}
@@ -42,7 +39,6 @@ use Rattle.answer_laws.proofs.TcLives.{is_keyed, is_start}
 use Rattle.answer_laws.proofs.TcSends.{same_tx-self}
 use Rattle.answer_laws.proofs.Wishes.{is_tc, sends_of, to_node}
 use Rattle.answer_laws.specs.Answered.{EachIsAnswered, IsOpenAt, is_answered_by, opened_after, opened_in}
-use Rattle.transit_laws.specs.Live.{of_live}
 use Rattle.command_laws.proofs.AbortFirst.{IsAbortAsked, abort_first}
 use Rattle.command_laws.proofs.AbortSteps.{IsLooseNow, LooseOption, is_more_to, is_roll_to, is_wrong, more_of, node_run, rolled, shell_run, wrong_of}
 use Rattle.command_laws.proofs.AbortTurns.{is_loose, is_requested}
@@ -59,7 +55,7 @@ use Rattle.command_laws.proofs.HoldersTold.{sent_to_append, taken_few}
 use Rattle.command_laws.proofs.OperateAsks.{AreNamed, named_since}
 use Rattle.command_laws.proofs.Pushes.{calm_since, is_node_kind, node_since}
 use Rattle.command_laws.proofs.Reported.{OutcomeOf, ending_is}
-use Rattle.command_laws.proofs.Since.{all_arrive, none_taken, sent_since, sent_since_to, taken_since}
+use Rattle.command_laws.proofs.Since.{all_arrive, none_taken, sent_since}
 use Rattle.command_laws.proofs.TellsOnce.{live_early}
 use Rattle.command_laws.proofs.TellsSince.{OnTc}
 use Rattle.command_laws.proofs.Tests.{and_off, none_at}

@@ -1,5 +1,5 @@
 -- A step of a host, where neither an operation nor a commit of the transaction is asked for.
-use Rattle.std.proofs.Common.{◌≡◌, ◌≢◌, ◌⊎◌, ◌<◌, ◌≤◌, ◌+◌, ℕ, zero, suc, Bool, true, false, List, [], ◌∷◌, ◌++◌, refl, sym, ap, ◌∙◌, subst, inl, inr, arith}
+use Rattle.std.proofs.Common.{◌≡◌, ◌≢◌, ◌⊎◌, ◌<◌, ◌≤◌, ◌+◌, ℕ, suc, Bool, true, false, List, [], ◌∷◌, ◌++◌, refl, sym, ap, ◌∙◌, subst, inl, inr, arith}
 use Rattle.std.proofs.lemmas.Bool.{cases_eq}
 use Rattle.std.specs.Prelude.{◌&&◌, if◌then◌else◌, Option, None, Some}
 use Rattle.run_theory.specs.Lists.{Each}
@@ -27,7 +27,6 @@ use Rattle.tc_block.specs.declared.transaction.Transaction.{Transaction}
 use Rattle.tc_block.specs.Live.{turn_of}
 use Rattle.tc_block.specs.State.{TcState}
 use Rattle.tc_block.specs.Tc.{tc_row}
-use Rattle.tc_block.specs.Turn.{Turn}
 use Rattle.world_core.specs.Machine.{after, step_after}
 use Rattle.world_core.specs.Start.{Start}
 use Rattle.answer_laws.proofs.ApiMoves.{ApiMove, api_moves, begun_as, ends, goes, is_api_kind, opens, refuses, rests}
