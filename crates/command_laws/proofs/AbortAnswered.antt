@@ -1,11 +1,11 @@
 -- An abort of a transaction that takes commands ends in its being aborted at the client's request.
 use Rattle.std.proofs.Common.{◌≡◌, ◌⊎◌, ◌<◌, ◌≤◌, ◌+◌, ℕ, zero, suc, Bool, true, false, List, [], ◌∷◌, ◌++◌, refl, sym, ap, ◌∙◌, subst, inl, inr, append_assoc, arith}
 use Rattle.std.proofs.lemmas.Bool.{cases_lt}
-use Rattle.std.specs.Prelude.{if◌then◌else◌, Option, Some, is_some}
+use Rattle.std.specs.Prelude.{if◌then◌else◌, Some}
 use Rattle.run_theory.specs.Cuts.{IsCut}
 use Rattle.run_theory.specs.Links.{sent}
 use Rattle.run_theory.specs.Lists.{Each, IsIn}
-use Rattle.run_theory.proofs.Pasts.{each_from, each_in, each_map}
+use Rattle.run_theory.proofs.Pasts.{each_in, each_map}
 use Rattle.sig_core.specs.declared.log.LogStep.{LogStep}
 use Rattle.sig_core.specs.declared.member.TxId.{TxId}
 use Rattle.sig_core.specs.declared.outcome.AbortCause.{AbortCause}
@@ -21,10 +21,8 @@ use Rattle.sig_core.specs.declared.signal.Body.TheVariants.{Client}
 use Rattle.sig_core.specs.declared.signal.client.ClientSignal.TheVariants.{TcCommitConf, TcKeyReq, TcCommitReq, TcRollbackRep}
 use Rattle.sig_core.specs.Place.{client}
 use Rattle.sig_core.specs.Same.{same_tx}
-use Rattle.api_block.specs.declared.opened.Doing.{Doing}
 use Rattle.api_block.specs.declared.opened.Doing.TheVariants.{Ready}
 use Rattle.api_block.specs.declared.opened.OpenTransaction.{OpenTransaction}
-use Rattle.api_block.specs.Opened.{has_tx, is_tx}
 use Rattle.node_core.specs.Replies.{replies_of}
 use Rattle.node_core.specs.Requests.{is_request}
 use Rattle.node_core.specs.Row.{row}
@@ -33,27 +31,28 @@ use Rattle.world_core.specs.Start.{Start}
 use Rattle.answer_laws.proofs.ApiBegins.{in_middle}
 use Rattle.answer_laws.proofs.Hosts.{shell_after}
 use Rattle.answer_laws.proofs.LinkCounts.{signals, steps}
-use Rattle.answer_laws.proofs.Lives.{holds_at, keeps, once_started}
-use Rattle.answer_laws.proofs.Tally.{one_if, only_one, tally_in}
+use Rattle.answer_laws.proofs.Lives.{keeps}
+use Rattle.answer_laws.proofs.Tally.{one_if, tally_in}
 use Rattle.answer_laws.proofs.TcLives.{is_keyed, is_start}
 use Rattle.answer_laws.proofs.TcSends.{same_tx-self}
 use Rattle.answer_laws.proofs.Wishes.{is_tc, sends_of, to_node}
-use Rattle.answer_laws.specs.Answered.{EachIsAnswered, IsOpenAt, is_answered_by, opened_after, opened_in}
+use Rattle.answer_laws.specs.Answered.{EachIsAnswered, IsOpenAt, opened_after, opened_in}
 use Rattle.command_laws.proofs.AbortFirst.{IsAbortAsked, abort_first}
 use Rattle.command_laws.proofs.AbortSteps.{IsLooseNow, LooseOption, is_more_to, is_roll_to, is_wrong, more_of, node_run, rolled, shell_run, wrong_of}
 use Rattle.command_laws.proofs.AbortTurns.{is_loose, is_requested}
 use Rattle.command_laws.proofs.ApiChanges.{outcome_in}
 use Rattle.command_laws.proofs.CommitGoes.{HasEnded, entry_goes}
-use Rattle.command_laws.proofs.Committed.{calm_at, cut_at_first, sent_append}
+use Rattle.command_laws.proofs.Committed.{cut_at_first, sent_append}
 use Rattle.command_laws.proofs.EarlySteps.{is_wish_to}
 use Rattle.command_laws.proofs.EndsWell.{replied}
-use Rattle.command_laws.proofs.Entries.{HasOne, IsNamed, named_found}
+use Rattle.command_laws.proofs.Entries.{HasOne}
 use Rattle.command_laws.proofs.FirmAtQuiet.{open_at}
 use Rattle.command_laws.proofs.FirmHosts.{is_push_to}
 use Rattle.command_laws.proofs.First.{IsFirst, request_first}
 use Rattle.command_laws.proofs.HoldersTold.{sent_to_append, taken_few}
 use Rattle.command_laws.proofs.OperateAsks.{AreNamed, named_since}
 use Rattle.command_laws.proofs.Pushes.{calm_since, is_node_kind, node_since}
+use Rattle.command_laws.proofs.ReadyAtQuiet.{named_at, opens, ready_open}
 use Rattle.command_laws.proofs.Reported.{OutcomeOf, ending_is}
 use Rattle.command_laws.proofs.Since.{all_arrive, none_taken, sent_since}
 use Rattle.command_laws.proofs.TellsOnce.{live_early}
@@ -128,33 +127,16 @@ module _ (answered : EachIsAnswered) (start : Start) (was now : ℕ → List Log
   abbrev cut : IsCut was now
   cut = cut_at_first was now f.later f.first f.is served.cut
 
-  n : IsNamed (opened_after start was) name t
-  n = named_found (opened_after start was) name t named
-
-  there : IsIn t (opened_after start was)
-  there = subst (λ x. IsIn x (opened_after start was)) n.item (subst (IsIn n.focus.item) (sym n.focus.is) (in_middle n.focus.front n.focus.item n.focus.back))
-
-  -- it alone has its number
   were : AreNamed tx (opened_after start was)
-  were = record { calm = calm_at start was served.before; named = each_from (λ (x : OpenTransaction). has_tx tx x ≡ true → is_some x.name ≡ true) (opened_after start was) one }
-    where
-      one : (x : OpenTransaction) → IsIn x (opened_after start was) → has_tx tx x ≡ true → is_some x.name ≡ true
-      one x inside has =
-          let h = holds_at start tx was served.before in
-          let same : x ≡ t = only_one (has_tx tx) (opened_after start was) x t (omega (arith, h.few, once_started start tx was served.before)) inside there has (ap (is_tx tx) own ∙ same_tx-self tx) in
-          ap (λ (y : OpenTransaction). is_some y.name) same ∙ ap is_some n.called
+  were = named_at start was served.before name t tx named own
 
   asked : IsAbortAsked tx name (step_after start 0 (was 0) f.first)
   asked =
       subst (λ (to : Place). IsAbortAsked tx name (row (after start 0 (was 0)) to f.first.taken.body)) (sym f.place)
       (subst (λ body. IsAbortAsked tx name (row (after start 0 (was 0)) client body)) (sym f.body) (abort_first (after start 0 (was 0)) name t tx named ready own were))
 
-  -- one that takes commands is open
-  opens : (logs : ℕ → List LogStep) (doing : Doing) (o : Option TxId) → doing ≡ Ready → o ≡ Some tx → is_answered_by start logs doing o → IsOpenAt tx (after start tx.tc (logs tx.tc))
-  opens logs doing o is some all = subst (λ p. is_answered_by start logs Ready p) some (subst (λ d. is_answered_by start logs d o) is all)
-
   is_open : IsOpenAt tx (after start tx.tc (was tx.tc))
-  is_open = opens was t.doing t.tx ready own (answered start was t served.before there)
+  is_open = ready_open start was served.before name t tx named own answered ready
 
   loose_was : (h : ℕ) → tx.tc ≡ suc h → OnTc (IsLooseNow tx false) (after start (suc h) (was (suc h)))
   loose_was h at =
@@ -257,7 +239,7 @@ module _ (answered : EachIsAnswered) (start : Start) (was now : ℕ → List Log
       cc
 
   still_ready : HasOne tx (Some name) Ready (opened_after start now) → ⊥
-  still_ready has = closed tx.tc refl is_open (opens now has.item.doing has.item.tx has.does has.own (answered start now has.item served.since has.inside))
+  still_ready has = closed tx.tc refl is_open (opens start now tx has.item.doing has.item.tx has.does has.own (answered start now has.item served.since has.inside))
 
   abort_told : IsIn (Ended (Some name) (outcome.Aborted cause.Request)) (replies_since start was now)
   abort_told = by (entry_goes tx (Some name) Ready (λ e. cc) refl start f.later (f.first ∷ was 0) f.plain asked.has)

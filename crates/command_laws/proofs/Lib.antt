@@ -34,6 +34,7 @@ pub mod OwnSends
 pub mod PhaseSends
 pub mod Places
 pub mod Pushes
+pub mod ReadyAtQuiet
 pub mod RepliesLive
 pub mod Reported
 pub mod SampleServed

@@ -1,8 +1,6 @@
 -- An operation of a transaction that takes commands is answered, or refused for want of room or of time, or waits for a lock.
-use Rattle.std.proofs.Common.{◌≡◌, ◌⊎◌, ◌<◌, ℕ, suc, true, List, [], ◌∷◌, ◌++◌, sym, ap, ◌∙◌, subst, inl, inr, arith}
-use Rattle.std.specs.Prelude.{Option, Some, is_some}
-use Rattle.run_theory.specs.Lists.{IsIn}
-use Rattle.run_theory.proofs.Pasts.{each_from}
+use Rattle.std.proofs.Common.{◌≡◌, ◌⊎◌, ◌<◌, ℕ, suc, List, [], ◌∷◌, ◌++◌, sym, subst, inl, inr, arith}
+use Rattle.std.specs.Prelude.{Option, Some}
 use Rattle.sig_core.specs.declared.log.LogStep.{LogStep}
 use Rattle.sig_core.specs.declared.member.TxId.{TxId}
 use Rattle.sig_core.specs.declared.op.Op.{Op}
@@ -13,24 +11,21 @@ use Rattle.sig_core.specs.Place.{client}
 use Rattle.api_block.specs.declared.opened.Doing.{Doing}
 use Rattle.api_block.specs.declared.opened.Doing.TheVariants.{Operating, Ready}
 use Rattle.api_block.specs.declared.opened.OpenTransaction.{OpenTransaction}
-use Rattle.api_block.specs.Opened.{has_tx, is_tx}
 use Rattle.node_core.specs.Row.{row}
 use Rattle.world_core.specs.Machine.{after, step_after}
 use Rattle.world_core.specs.Start.{Start}
-use Rattle.answer_laws.proofs.ApiBegins.{in_middle}
-use Rattle.answer_laws.proofs.Lives.{holds_at, keeps, once_started}
-use Rattle.answer_laws.proofs.Tally.{only_one}
-use Rattle.answer_laws.proofs.TcSends.{same_tx-self}
+use Rattle.answer_laws.proofs.Lives.{keeps}
 use Rattle.answer_laws.specs.Answered.{EachIsAnswered, IsOpenAt, WaitsForLock, is_answered_by, opened_after, opened_in}
 use Rattle.command_laws.proofs.CommitGoes.{HasEnded}
-use Rattle.command_laws.proofs.Committed.{calm_at, sent_append}
+use Rattle.command_laws.proofs.Committed.{sent_append}
 use Rattle.command_laws.proofs.EarlySteps.{IsOpenNow, OpenOption, is_wish_to}
 use Rattle.command_laws.proofs.EndsWell.{ended_well, replied}
-use Rattle.command_laws.proofs.Entries.{HasOne, IsNamed, named_found}
+use Rattle.command_laws.proofs.Entries.{HasOne}
 use Rattle.command_laws.proofs.FirmAtQuiet.{open_at}
 use Rattle.command_laws.proofs.First.{IsFirst, request_first}
 use Rattle.command_laws.proofs.OperateAsks.{AreNamed, IsAskedFor, named_since, operate_first}
 use Rattle.command_laws.proofs.OperateGoes.{HasAnswered, operate_goes}
+use Rattle.command_laws.proofs.ReadyAtQuiet.{named_at, ready_open}
 use Rattle.command_laws.proofs.Since.{sent_since}
 use Rattle.command_laws.proofs.TellsSince.{OnTc}
 use Rattle.command_laws.proofs.WaitRows.{in_live}
@@ -41,21 +36,8 @@ module _ (answered : EachIsAnswered) (start : Start) (was now : ℕ → List Log
   f : IsFirst start was now (Operate (Some name) op)
   f = request_first start was now (Operate (Some name) op) served
 
-  n : IsNamed (opened_after start was) name t
-  n = named_found (opened_after start was) name t named
-
-  there : IsIn t (opened_after start was)
-  there = subst (λ x. IsIn x (opened_after start was)) n.item (subst (IsIn n.focus.item) (sym n.focus.is) (in_middle n.focus.front n.focus.item n.focus.back))
-
-  -- it alone has its number
   were : AreNamed tx (opened_after start was)
-  were = record { calm = calm_at start was served.before; named = each_from (λ (x : OpenTransaction). has_tx tx x ≡ true → is_some x.name ≡ true) (opened_after start was) one }
-    where
-      one : (x : OpenTransaction) → IsIn x (opened_after start was) → has_tx tx x ≡ true → is_some x.name ≡ true
-      one x inside has =
-          let h = holds_at start tx was served.before in
-          let same : x ≡ t = only_one (has_tx tx) (opened_after start was) x t (omega (arith, h.few, once_started start tx was served.before)) inside there has (ap (is_tx tx) own ∙ same_tx-self tx) in
-          ap (λ (y : OpenTransaction). is_some y.name) same ∙ ap is_some n.called
+  were = named_at start was served.before name t tx named own
 
   asked : IsAskedFor tx name (step_after start 0 (was 0) f.first)
   asked =
@@ -63,10 +45,7 @@ module _ (answered : EachIsAnswered) (start : Start) (was now : ℕ → List Log
       (subst (λ body. IsAskedFor tx name (row (after start 0 (was 0)) client body)) (sym f.body) (operate_first (after start 0 (was 0)) name op t tx named ready own few were))
 
   is_open : IsOpenAt tx (after start tx.tc (was tx.tc))
-  is_open = by t.doing t.tx ready own (answered start was t served.before there)
-    where
-      by : (doing : Doing) (o : Option TxId) → doing ≡ Ready → o ≡ Some tx → is_answered_by start was doing o → IsOpenAt tx (after start tx.tc (was tx.tc))
-      by doing o is some all = subst (λ p. is_answered_by start was Ready p) some (subst (λ d. is_answered_by start was d o) is all)
+  is_open = ready_open start was served.before name t tx named own answered ready
 
   open_was : (h : ℕ) → tx.tc ≡ suc h → OnTc (IsOpenNow tx) (after start (suc h) (was (suc h)))
   open_was h at =
