@@ -44,20 +44,29 @@ pub record IsEndingHere (tx : TxId) (name : Option ℕ) (s : ApiState) (body : B
   pub told : step.state.replies ≡ s.replies ++ Ended name outcome ∷ []
   pub marked : step.effects.marks ≡ Reported tx outcome ∷ []
 
-module _ (tx : TxId) (name : Option ℕ) where
-  GoesOrEnds : ApiState → Body → Step ApiState → Type 0
-  GoesOrEnds s body step = HasOne tx name Committing step.state.opened ⊎ IsEndingHere tx name s body step
+-- one of these steps behind a log reported its end
+pub record HasEnded (tx : TxId) (name : Option ℕ) (start : Start) (later log : List LogStep) : Type 0 where
+  pub newer : List LogStep
+  pub step : LogStep
+  pub older : List LogStep
+  pub is : later ≡ newer ++ step ∷ older
+  pub ending : IsEnding tx name (after start 0 (older ++ log)) step.taken.body (step_after start 0 (older ++ log) step)
 
-  module _ (s : ApiState) (body : Body) (has : HasOne tx name Committing s.opened) where
-    as_before : (after : List OpenTransaction) → IsIn has.item after → HasOne tx name Committing after
+-- one that has begun, and has no operation unanswered, does the same until its end is reported
+module _ (tx : TxId) (name : Option ℕ) (stay : Doing) (idle : stay ≡ Operating → ⊥) (begun : is_beginning stay ≡ false) where
+  GoesOrEnds : ApiState → Body → Step ApiState → Type 0
+  GoesOrEnds s body step = HasOne tx name stay step.state.opened ⊎ IsEndingHere tx name s body step
+
+  module _ (s : ApiState) (body : Body) (has : HasOne tx name stay s.opened) where
+    as_before : (after : List OpenTransaction) → IsIn has.item after → HasOne tx name stay after
     as_before after inside = record { item = has.item; inside = inside; own = has.own; called = has.called; does = has.does }
 
-    not_this : (t : OpenTransaction) (doing : Doing) → t.doing ≡ doing → (Committing ≡ doing → ⊥) → has.item ≡ t → ⊥
+    not_this : (t : OpenTransaction) (doing : Doing) → t.doing ≡ doing → (stay ≡ doing → ⊥) → has.item ≡ t → ⊥
     not_this t doing is differs same = differs (sym has.does ∙ ap (λ (x : OpenTransaction). x.doing) same ∙ is)
 
     not_beginning : (t : OpenTransaction) → is_beginning t.doing ≡ true → has.item ≡ t → ⊥
     not_beginning t begins same =
-        let off : false ≡ true = sym (ap is_beginning has.does) ∙ (ap (λ (x : OpenTransaction). is_beginning x.doing) same ∙ begins) in cc
+        let off : false ≡ true = sym begun ∙ sym (ap is_beginning has.does) ∙ (ap (λ (x : OpenTransaction). is_beginning x.doing) same ∙ begins) in cc
 
     change_goes : (step : Step ApiState) → ApiChange s body step → GoesOrEnds s body step
     unfolding GoesOrEnds
@@ -76,12 +85,12 @@ module _ (tx : TxId) (name : Option ℕ) where
     change_goes step (answers one answer called at about passes does named is replies sends) = by (here_or_apart has.item s.opened at has.inside)
       where
         by : (has.item ≡ at.t) ⊎ IsApart has.item at.front at.back → GoesOrEnds s body step
-        by (inl same) = absurd (not_this at.t Operating does (λ e. cc) same)
+        by (inl same) = absurd (not_this at.t Operating does idle same)
         by (inr others) = inl (as_before step.state.opened (subst (IsIn has.item) (sym is) (others.kept _)))
     change_goes step (commits one answer at about passes does named is replies sends) = by (here_or_apart has.item s.opened at has.inside)
       where
         by : (has.item ≡ at.t) ⊎ IsApart has.item at.front at.back → GoesOrEnds s body step
-        by (inl same) = absurd (not_this at.t Operating does (λ e. cc) same)
+        by (inl same) = absurd (not_this at.t Operating does idle same)
         by (inr others) = inl (as_before step.state.opened (subst (IsIn has.item) (sym is) (others.kept _)))
     change_goes step (ends one end at about passes is replies marks sends) = by (here_or_apart has.item s.opened at has.inside)
       where
@@ -106,44 +115,41 @@ module _ (tx : TxId) (name : Option ℕ) where
         by (inl same) = absurd (not_beginning at.t (left_of (is_beginning at.t.doing) (same_name at.t.name called) passes) same)
         by (inr others) = inl (as_before step.state.opened (subst (IsIn has.item) (sym is) others.left))
 
-  shell_goes : (s : ApiState) (at : BlockId) (body : Body) → is_request body ≡ false → HasOne tx name Committing s.opened
-      → HasOne tx name Committing (shell_row s at body).state.opened ⊎ IsEndingHere tx name s body (shell_row s at body)
+  shell_goes : (s : ApiState) (at : BlockId) (body : Body) → is_request body ≡ false → HasOne tx name stay s.opened
+      → HasOne tx name stay (shell_row s at body).state.opened ⊎ IsEndingHere tx name s body (shell_row s at body)
   unfolding shell_row GoesOrEnds
   shell_goes s block.Api body plain has = change_goes s body has (api_row s body) (api_changes s body plain)
   shell_goes s _ body plain has = inl has
 
-  host_goes : (g : host.Host) (to : Place) (body : Body) → is_request body ≡ false → HasOne tx name Committing (opened_in g)
-      → HasOne tx name Committing (opened_in (row g to body).state) ⊎ IsEnding tx name g body (row g to body)
+  host_goes : (g : host.Host) (to : Place) (body : Body) → is_request body ≡ false → HasOne tx name stay (opened_in g)
+      → HasOne tx name stay (opened_in (row g to body).state) ⊎ IsEnding tx name g body (row g to body)
   unfolding row replies_of
   host_goes (Shell s) to body plain has = by (shell_goes s to.block body plain has)
     where
-      by : HasOne tx name Committing (shell_row s to.block body).state.opened ⊎ IsEndingHere tx name s body (shell_row s to.block body)
-          → HasOne tx name Committing (opened_in (row (Shell s) to body).state) ⊎ IsEnding tx name (Shell s) body (row (Shell s) to body)
+      by : HasOne tx name stay (shell_row s to.block body).state.opened ⊎ IsEndingHere tx name s body (shell_row s to.block body)
+          → HasOne tx name stay (opened_in (row (Shell s) to body).state) ⊎ IsEnding tx name (Shell s) body (row (Shell s) to body)
       by (inl goes) = inl goes
       by (inr ending) = inr (record { outcome = ending.outcome; about = ending.about; told = ending.told; marked = ending.marked })
   host_goes (Node n) to body plain has = absurd (has.inside)
 
-  -- one of these steps behind a log reported its end
-  pub record HasEnded (start : Start) (later log : List LogStep) : Type 0 where
-    pub newer : List LogStep
-    pub step : LogStep
-    pub older : List LogStep
-    pub is : later ≡ newer ++ step ∷ older
-    pub ending : IsEnding tx name (after start 0 (older ++ log)) step.taken.body (step_after start 0 (older ++ log) step)
-
   -- along steps that aren't requests
-  pub commit_goes : (start : Start) (later log : List LogStep) → Each (λ (e : LogStep). is_request e.taken.body ≡ false) later → HasOne tx name Committing (opened_in (after start 0 log))
-      → HasOne tx name Committing (opened_in (after start 0 (later ++ log))) ⊎ HasEnded start later log
-  commit_goes start [] log plain has = inl has
-  commit_goes start (e ∷ later) log plain has = by (commit_goes start later log plain.1 has)
+  pub entry_goes : (start : Start) (later log : List LogStep) → Each (λ (e : LogStep). is_request e.taken.body ≡ false) later → HasOne tx name stay (opened_in (after start 0 log))
+      → HasOne tx name stay (opened_in (after start 0 (later ++ log))) ⊎ HasEnded tx name start later log
+  entry_goes start [] log plain has = inl has
+  entry_goes start (e ∷ later) log plain has = by (entry_goes start later log plain.1 has)
     where
-      next : HasOne tx name Committing (opened_in (row (after start 0 (later ++ log)) e.taken.to e.taken.body).state)
+      next : HasOne tx name stay (opened_in (row (after start 0 (later ++ log)) e.taken.to e.taken.body).state)
           ⊎ IsEnding tx name (after start 0 (later ++ log)) e.taken.body (row (after start 0 (later ++ log)) e.taken.to e.taken.body)
-          → HasOne tx name Committing (opened_in (after start 0 (e ∷ (later ++ log)))) ⊎ HasEnded start (e ∷ later) log
+          → HasOne tx name stay (opened_in (after start 0 (e ∷ (later ++ log)))) ⊎ HasEnded tx name start (e ∷ later) log
       next (inl goes) = inl goes
       next (inr ending) = inr (record { newer = []; step = e; older = later; is = refl; ending = ending })
 
-      by : HasOne tx name Committing (opened_in (after start 0 (later ++ log))) ⊎ HasEnded start later log
-          → HasOne tx name Committing (opened_in (after start 0 (e ∷ (later ++ log)))) ⊎ HasEnded start (e ∷ later) log
+      by : HasOne tx name stay (opened_in (after start 0 (later ++ log))) ⊎ HasEnded tx name start later log
+          → HasOne tx name stay (opened_in (after start 0 (e ∷ (later ++ log)))) ⊎ HasEnded tx name start (e ∷ later) log
       by (inl goes) = next (host_goes (after start 0 (later ++ log)) e.taken.to e.taken.body plain.0 goes)
       by (inr ended) = inr (record { newer = e ∷ ended.newer; step = ended.step; older = ended.older; is = ap (λ w. e ∷ w) ended.is; ending = ended.ending })
+
+-- so one that commits
+pub commit_goes : (tx : TxId) (name : Option ℕ) (start : Start) (later log : List LogStep) → Each (λ (e : LogStep). is_request e.taken.body ≡ false) later → HasOne tx name Committing (opened_in (after start 0 log))
+    → HasOne tx name Committing (opened_in (after start 0 (later ++ log))) ⊎ HasEnded tx name start later log
+commit_goes tx name start later log plain has = entry_goes tx name Committing (λ e. cc) refl start later log plain has

@@ -49,13 +49,13 @@ use Rattle.command_laws.proofs.WaitsBehind.{IsBehindThere, behind_there}
 use Rattle.command_laws.proofs.WaitRun.{AllHold, all_hold}
 use Rattle.command_laws.specs.Served.{name_in, EachIsHeldUp, HoldersAreTold, IsHeldUp, IsHeldUpAt, IsServed, IsToldHolder, own_in}
 
-sent_to_append : (start : Start) (test : Place → Body → Bool) (h j : ℕ) (xs ys log : List LogStep)
+pub sent_to_append : (start : Start) (test : Place → Body → Bool) (h j : ℕ) (xs ys log : List LogStep)
     → sent_since_to start test h j (xs ++ ys) log ≡ sent_since_to start test h j xs (ys ++ log) + sent_since_to start test h j ys log
 sent_to_append start test h j [] ys log = omega arith
 sent_to_append start test h j (e ∷ xs) ys log =
     omega (arith, sent_to_append start test h j xs ys log, ap (λ l. sends_of (to_node j test) (step_after start h l e).effects.sends) (append_assoc xs ys log))
 
-taken_few : (start : Start) (test : Place → Body → Bool) (i : ℕ) (newer : List LogStep) → taken_since start test i newer ≤ steps test newer
+pub taken_few : (start : Start) (test : Place → Body → Bool) (i : ℕ) (newer : List LogStep) → taken_since start test i newer ≤ steps test newer
 taken_few start test i [] = omega arith
 taken_few start test i (e ∷ newer) = omega (arith, taken_few start test i newer, few (is_from (machine start) i e) (test e.taken.to e.taken.body))
   where

@@ -1,3 +1,7 @@
+pub mod AbortAnswered
+pub mod AbortFirst
+pub mod AbortSteps
+pub mod AbortTurns
 pub mod ApiChanges
 pub mod ComesTo
 pub mod CommitFirst
@@ -32,6 +36,7 @@ pub mod PhaseSends
 pub mod Places
 pub mod Pushes
 pub mod QuietCuts
+pub mod ReadyAtQuiet
 pub mod RepliesLive
 pub mod Reported
 pub mod Requests

@@ -1,8 +1,7 @@
 -- A transaction is aborted, and its abort reported, for no other cause than those that a node refuses an operation with, and the
 -- client's request.
-use Rattle.std.proofs.Common.{◌≡◌, ℕ, Bool, true, false, List, [], ◌∷◌, ◌++◌, length, refl, sym, ap, ◌∙◌, subst}
-use Rattle.std.specs.Prelude.{◌==◌, if◌then◌else◌, nat_lt, Option, None, Some}
-use Rattle.indexmap.specs.IndexMap.{insert_entry}
+use Rattle.std.proofs.Common.{◌≡◌, ℕ, Bool, true, false, List, ◌∷◌, ◌++◌, length, refl, sym, ap, ◌∙◌, subst}
+use Rattle.std.specs.Prelude.{◌==◌, nat_lt, Option, None, Some}
 use Rattle.run_theory.specs.Lists.{Each}
 use Rattle.run_theory.proofs.Pasts.{each_after, each_append, each_before}
 use Rattle.sig_core.specs.declared.member.TxId.{TxId}
@@ -18,7 +17,6 @@ use Rattle.sig_core.specs.declared.signal.epoch.EpochSignal.TheVariants.{DiVerif
 use Rattle.sig_core.specs.declared.signal.host.HostSignal.TheVariants.{Continue}
 use Rattle.sig_core.specs.declared.signal.host.Work.TheVariants as work
 use Rattle.sig_core.specs.declared.view.View.{View}
-use Rattle.sig_core.specs.Same.{same_tx}
 use Rattle.sig_core.specs.Step.{Step, stay}
 use Rattle.tc_block.specs.Abort as abort
 use Rattle.tc_block.specs.Chain.{chain_of}
@@ -35,6 +33,7 @@ use Rattle.tc_block.specs.Tc.{next_tx, tc_row}
 use Rattle.tc_block.specs.Turn.{Turn, asking, going}
 use Rattle.answer_laws.proofs.SendKinds.{are_of, of_kind, of_map}
 use Rattle.answer_laws.proofs.TcSends.{tx_in}
+use Rattle.command_laws.proofs.FirmHosts.{each_inserted_value}
 use Rattle.command_laws.proofs.PhaseSends.{HasChains, aborts_of_kind, entering_of_kind, go_on_of_kind}
 use Rattle.command_laws.proofs.Tests.{one_kind}
 use Rattle.command_laws.proofs.Turns.{TakesTurn, TcShape, is_idle_kind, starts, still, tc_shape, turn_by, turns}
@@ -242,14 +241,6 @@ turn_lives s tx (Chain (Aborted one key)) t sound fine = aborted s.node s.view t
 turn_lives s tx (Epoch (DiVerifyConf one epoch)) t sound fine = commits s.node s.view tx t fine epoch
 turn_lives s tx _ t sound fine = stays s.node s.view tx t fine
 
-inserted : (live : List (TxId × Transaction)) (tx : TxId) (t : Transaction) → lives_on t.phase ≡ true → AllLive live → AllLive (insert_entry same_tx live tx t)
-inserted [] tx t own all = (own, tt)
-inserted (e ∷ es) tx t own all = by (same_tx tx e.0) (inserted es tx t own all.1)
-  where
-    by : (b : Bool) → AllLive (insert_entry same_tx es tx t) → AllLive (if b then (e.0, t) ∷ es else e ∷ insert_entry same_tx es tx t)
-    by true more = (own, all.1)
-    by false more = (all.0, more)
-
 idle_sound : (body : Body) → is_idle_kind body ≡ true → is_sound body ≡ true
 idle_sound (Client (TcBeginRef name)) e = refl
 idle_sound (Client (TcWaitConf tx ahead)) e = refl
@@ -296,7 +287,7 @@ module _ (s : TcState) (body : Body) (sound : is_sound body ≡ true) (all : All
     sends = of_kind is_idle_kind is_sound idle_sound step.effects.sends kind;
   }
   at_shape tx step (starts name is told) = record {
-    live = subst (λ (state : TcState). AllLive state.live) (sym is) (inserted s.live (next_tx s) operate.fresh refl all);
+    live = subst (λ (state : TcState). AllLive state.live) (sym is) (each_inserted_value (λ (e : TxId × Transaction). lives_on e.1.phase ≡ true) s.live (next_tx s) operate.fresh (λ key. refl) all);
     sends = ap (are_of is_sound) told;
   }
   at_shape tx step (turns r) = at_turn tx step r

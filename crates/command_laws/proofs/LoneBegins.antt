@@ -1,6 +1,6 @@
 -- A transaction that was asked for with an operation is beginning until it has begun, and performs that, or is refused.
-use Rattle.std.proofs.Common.{◌≡◌, ◌⊎◌, ◌≤◌, ◌+◌, ℕ, zero, suc, Bool, true, false, List, [], ◌∷◌, ◌++◌, refl, sym, ap, ◌∙◌, subst, inl, inr, arith}
-use Rattle.std.specs.Prelude.{◌&&◌, Option, None, Some, position}
+use Rattle.std.proofs.Common.{◌≡◌, ◌⊎◌, ◌≤◌, ℕ, zero, suc, Bool, true, false, List, [], ◌∷◌, ◌++◌, refl, sym, ap, ◌∙◌, subst, inl, inr, arith}
+use Rattle.std.specs.Prelude.{◌&&◌, Option, None, Some}
 use Rattle.run_theory.specs.Lists.{Each, IsIn}
 use Rattle.sig_core.specs.declared.log.LogStep.{LogStep}
 use Rattle.sig_core.specs.declared.member.Member.{Member}
@@ -25,7 +25,7 @@ use Rattle.api_block.specs.declared.opened.Doing.TheVariants.{Beginning, Operati
 use Rattle.api_block.specs.declared.opened.OpenTransaction.{OpenTransaction}
 use Rattle.api_block.specs.Api.{api_row, request_row}
 use Rattle.api_block.specs.Members.{least_node}
-use Rattle.api_block.specs.Opened.{asked_for, begins, begins_at, begun_operating, behind, has_tx, is_beginning, is_tx, same_name, where_at}
+use Rattle.api_block.specs.Opened.{asked_for, begins, begins_at, begun_operating, behind, is_beginning, is_tx, same_name}
 use Rattle.api_block.specs.Operate.{begun_by, begun_row, lone_by, lone_row}
 use Rattle.api_block.specs.State.{ApiState}
 use Rattle.node_core.specs.declared.host.Host as host
@@ -34,7 +34,7 @@ use Rattle.node_core.specs.Replies.{replies_of}
 use Rattle.node_core.specs.Requests.{is_request}
 use Rattle.node_core.specs.Row.{in_shell, row, shell_row}
 use Rattle.world_core.specs.Machine.{after}
-use Rattle.world_core.specs.Start.{Start, first_view, members}
+use Rattle.world_core.specs.Start.{Start, members}
 use Rattle.answer_laws.proofs.ApiBegins.{in_middle, same_name-is}
 use Rattle.answer_laws.proofs.Focus.{IsFocus, where_found}
 use Rattle.answer_laws.proofs.Hosts.{IsShell}

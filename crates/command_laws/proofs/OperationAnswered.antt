@@ -1,79 +1,43 @@
 -- An operation of a transaction that takes commands is answered, or refused for want of room or of time, or waits for a lock.
-use Rattle.std.proofs.Common.{◌≡◌, ◌⊎◌, ◌<◌, ℕ, zero, suc, Bool, true, false, List, [], ◌∷◌, ◌++◌, refl, sym, ap, ◌∙◌, subst, inl, inr, append_assoc, arith}
-use Rattle.std.specs.Prelude.{Option, Some, drop, if◌then◌else◌, is_some, length, not}
-use Rattle.run_theory.specs.Cuts.{IsCut}
-use Rattle.run_theory.specs.Lists.{Each, IsIn, IsPast}
-use Rattle.run_theory.proofs.Pasts.{each_from, each_in, each_map}
+use Rattle.std.proofs.Common.{◌≡◌, ◌⊎◌, ◌<◌, ℕ, suc, List, [], ◌∷◌, ◌++◌, sym, subst, inl, inr, arith}
+use Rattle.std.specs.Prelude.{Option, Some}
 use Rattle.sig_core.specs.declared.log.LogStep.{LogStep}
 use Rattle.sig_core.specs.declared.member.TxId.{TxId}
 use Rattle.sig_core.specs.declared.op.Op.{Op}
-use Rattle.sig_core.specs.declared.outcome.AbortCause.{AbortCause}
-use Rattle.sig_core.specs.declared.outcome.Outcome.{Outcome}
-use Rattle.sig_core.specs.declared.outcome.Outcome.TheVariants as outcome
 use Rattle.sig_core.specs.declared.place.Place.{Place}
-use Rattle.sig_core.specs.declared.reply.ApiReply.{ApiReply}
-use Rattle.sig_core.specs.declared.reply.ApiReply.TheVariants.{Answered, Ended}
+use Rattle.sig_core.specs.declared.reply.ApiReply.TheVariants.{Answered}
 use Rattle.sig_core.specs.declared.request.ApiReq.TheVariants.{Operate}
-use Rattle.sig_core.specs.declared.signal.Body.{Body}
-use Rattle.sig_core.specs.declared.signal.Body.TheVariants.{Client}
-use Rattle.sig_core.specs.declared.signal.client.ClientSignal.TheVariants.{TcCommitConf, TcCommitReq, TcRollbackRep, TcRollbackReq}
 use Rattle.sig_core.specs.Place.{client}
-use Rattle.sig_core.specs.Same.{same_tx}
 use Rattle.api_block.specs.declared.opened.Doing.{Doing}
 use Rattle.api_block.specs.declared.opened.Doing.TheVariants.{Operating, Ready}
 use Rattle.api_block.specs.declared.opened.OpenTransaction.{OpenTransaction}
-use Rattle.api_block.specs.Opened.{has_tx, is_tx}
-use Rattle.node_core.specs.Replies.{replies_of}
-use Rattle.node_core.specs.Requests.{is_request}
 use Rattle.node_core.specs.Row.{row}
 use Rattle.world_core.specs.Machine.{after, step_after}
 use Rattle.world_core.specs.Start.{Start}
-use Rattle.answer_laws.proofs.ApiBegins.{in_middle}
-use Rattle.answer_laws.proofs.Lives.{holds_at, keeps, once_started}
-use Rattle.answer_laws.proofs.Tally.{only_one}
-use Rattle.answer_laws.proofs.Wishes.{is_tc}
+use Rattle.answer_laws.proofs.Lives.{keeps}
 use Rattle.answer_laws.specs.Answered.{EachIsAnswered, IsOpenAt, WaitsForLock, is_answered_by, opened_after, opened_in}
-use Rattle.command_laws.proofs.ApiChanges.{outcome_in}
 use Rattle.command_laws.proofs.CommitGoes.{HasEnded}
-use Rattle.command_laws.proofs.Committed.{calm_at, cut_at_first, sent_append}
-use Rattle.command_laws.proofs.EarlyRun.{no_bad}
-use Rattle.command_laws.proofs.EarlySteps.{IsOpenNow, OpenOption, is_bad, is_good, is_wish_to, wish_of}
+use Rattle.command_laws.proofs.Committed.{sent_append}
+use Rattle.command_laws.proofs.EarlySteps.{IsOpenNow, OpenOption, is_wish_to}
 use Rattle.command_laws.proofs.EndsWell.{ended_well, replied}
-use Rattle.command_laws.proofs.Entries.{HasOne, IsNamed, named_found}
+use Rattle.command_laws.proofs.Entries.{HasOne}
 use Rattle.command_laws.proofs.FirmAtQuiet.{open_at}
 use Rattle.command_laws.proofs.First.{IsFirst, request_first}
-use Rattle.command_laws.proofs.OperateAsks.{AreNamed, IsAskedFor, named_since, no_wish_node, operate_first}
+use Rattle.command_laws.proofs.OperateAsks.{AreNamed, IsAskedFor, named_since, operate_first}
 use Rattle.command_laws.proofs.OperateGoes.{HasAnswered, operate_goes}
-use Rattle.command_laws.proofs.Pushes.{node_since}
-use Rattle.command_laws.proofs.Reported.{OutcomeOf, ending_is}
-use Rattle.command_laws.proofs.Since.{none_taken, sent_since}
+use Rattle.command_laws.proofs.ReadyAtQuiet.{named_at, ready_open}
+use Rattle.command_laws.proofs.Since.{sent_since}
 use Rattle.command_laws.proofs.TellsSince.{OnTc}
-use Rattle.command_laws.proofs.Told.{told_since}
 use Rattle.command_laws.proofs.WaitRows.{in_live}
-use Rattle.command_laws.proofs.Tests.{and_off, none_at}
-use Rattle.commit_laws.proofs.Keys.{same_tx-self}
-use Rattle.command_laws.specs.Served.{IsAnsweredAs, IsRefusedAs, IsServed, OperationsAreAnswered, StillWaits, is_refusal, named_in, replies_since}
+use Rattle.command_laws.specs.Served.{IsAnsweredAs, IsRefusedAs, IsServed, OperationsAreAnswered, StillWaits, named_in}
 
 module _ (answered : EachIsAnswered) (start : Start) (was now : ℕ → List LogStep) (name : ℕ) (op : Op) (t : OpenTransaction) (tx : TxId) (served : IsServed start was now (Operate (Some name) op))
     (named : named_in (opened_after start was) name ≡ Some t) (ready : t.doing ≡ Ready) (own : t.tx ≡ Some tx) (few : t.operations < 64) where
   f : IsFirst start was now (Operate (Some name) op)
   f = request_first start was now (Operate (Some name) op) served
 
-  n : IsNamed (opened_after start was) name t
-  n = named_found (opened_after start was) name t named
-
-  there : IsIn t (opened_after start was)
-  there = subst (λ x. IsIn x (opened_after start was)) n.item (subst (IsIn n.focus.item) (sym n.focus.is) (in_middle n.focus.front n.focus.item n.focus.back))
-
-  -- it alone has its number
   were : AreNamed tx (opened_after start was)
-  were = record { calm = calm_at start was served.before; named = each_from (λ (x : OpenTransaction). has_tx tx x ≡ true → is_some x.name ≡ true) (opened_after start was) one }
-    where
-      one : (x : OpenTransaction) → IsIn x (opened_after start was) → has_tx tx x ≡ true → is_some x.name ≡ true
-      one x inside has =
-          let h = holds_at start tx was served.before in
-          let same : x ≡ t = only_one (has_tx tx) (opened_after start was) x t (omega (arith, h.few, once_started start tx was served.before)) inside there has (ap (is_tx tx) own ∙ same_tx-self tx) in
-          ap (λ (y : OpenTransaction). is_some y.name) same ∙ ap is_some n.called
+  were = named_at start was served.before name t tx named own
 
   asked : IsAskedFor tx name (step_after start 0 (was 0) f.first)
   asked =
@@ -81,10 +45,7 @@ module _ (answered : EachIsAnswered) (start : Start) (was now : ℕ → List Log
       (subst (λ body. IsAskedFor tx name (row (after start 0 (was 0)) client body)) (sym f.body) (operate_first (after start 0 (was 0)) name op t tx named ready own few were))
 
   is_open : IsOpenAt tx (after start tx.tc (was tx.tc))
-  is_open = by t.doing t.tx ready own (answered start was t served.before there)
-    where
-      by : (doing : Doing) (o : Option TxId) → doing ≡ Ready → o ≡ Some tx → is_answered_by start was doing o → IsOpenAt tx (after start tx.tc (was tx.tc))
-      by doing o is some all = subst (λ p. is_answered_by start was Ready p) some (subst (λ d. is_answered_by start was d o) is all)
+  is_open = ready_open start was served.before name t tx named own answered ready
 
   open_was : (h : ℕ) → tx.tc ≡ suc h → OnTc (IsOpenNow tx) (after start (suc h) (was (suc h)))
   open_was h at =

@@ -7,6 +7,7 @@ use Rattle.sig_core.specs.declared.request.ApiReq.{ApiReq}
 use Rattle.sig_core.specs.declared.request.ApiReq.TheVariants as request
 use Rattle.world_core.specs.Start.{Start}
 use Rattle.answer_laws.proofs.Answers.{each_answered}
+use Rattle.command_laws.proofs.AbortAnswered.{aborts_answered}
 use Rattle.command_laws.proofs.ComesTo.{commits_come_to, operations_come_to}
 use Rattle.command_laws.proofs.HeldUp.{each_held_up}
 use Rattle.command_laws.proofs.HoldersTold.{holders_told}
@@ -28,6 +29,7 @@ answers_request : (start : Start) (was now : ℕ → List LogStep) (r : ApiReq) 
 answers_request start was now (request.Operate (Some name) op) served = operations_come_to start was now name op served
 answers_request start was now (request.Operate None op) served = lone_comes_to start was now op served
 answers_request start was now (request.Commit name) served = commits_come_to start was now name served
+answers_request start was now (request.Abort name) served = λ tx t. aborts_answered each_answered start was now name t.item tx served t.named t.ready t.own
 answers_request start was now request.Pending served = λ first waits left. holders_told each_answered each_held_up start first was now waits served left
 answers_request start was now _ served = tt
 

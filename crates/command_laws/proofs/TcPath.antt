@@ -118,32 +118,48 @@ module _ (tx : TxId) where
   found_here : (xs : List (TxId × Transaction)) (t : Transaction) (ys : List (TxId × Transaction)) → tally (is_keyed tx) xs ≡ 0 → of_live tx (xs ++ (tx, t) ∷ ys) ≡ Some t
   found_here xs t ys none = behind_none xs ((tx, t) ∷ ys) none ∙ ap (λ b. if b then Some t else of_live tx ys) (same_tx-self tx)
 
+  -- the transaction took a turn
+  pub record Took (s : TcState) (row : Transaction → Turn) (step : Step TcState) : Type 0 where
+    pub t : Transaction
+    pub was : of_live tx s.live ≡ Some t
+    pub sends : step.effects.sends ≡ (row t).step.effects.sends
+    pub left : of_live tx step.state.live ≡ left_by (row t)
+    pub more : s.next_seq ≤ step.state.next_seq
+
+  pub took : (s : TcState) → IsSound tx s → (row : Transaction → Turn) (step : Step TcState) → TakesTurn s tx row step → Took s row step
+  took s sound row step r = by (row r.t).over refl
+    where
+      count : tally (is_keyed tx) (r.front ++ r.back) ≡ 0
+      count = omega (arith, sound.few, tally_between (is_keyed tx) r.front (tx, r.t) r.back s.live r.is, ap one_if (same_tx-self tx))
+
+      front_none : tally (is_keyed tx) r.front ≡ 0
+      front_none = omega (arith, count, tally_append (is_keyed tx) r.front r.back)
+
+      was : of_live tx s.live ≡ Some r.t
+      was = ap (of_live tx) r.is ∙ found_here r.front r.t r.back front_none
+
+      by : (b : Bool) → (row r.t).over ≡ b → Took s row step
+      by true over = record {
+        t = r.t;
+        was = was;
+        sends = ap (λ effects. effects.sends) r.effects;
+        left = ap (λ (state : TcState). of_live tx state.live) (r.ends over) ∙ none_there (r.front ++ r.back) count ∙ sym (ap (λ b. if b then None else Some (row r.t).step.state) over);
+        more = omega (arith, ap (λ (state : TcState). state.next_seq) (r.ends over));
+      }
+      by false over = record {
+        t = r.t;
+        was = was;
+        sends = ap (λ effects. effects.sends) r.effects;
+        left = ap (λ (state : TcState). of_live tx state.live) (r.goes over) ∙ found_here r.front (row r.t).step.state r.back front_none
+            ∙ sym (ap (λ b. if b then None else Some (row r.t).step.state) over);
+        more = omega (arith, ap (λ (state : TcState). state.next_seq) (r.goes over));
+      }
+
   module _ (s : TcState) (body : Body) (sound : IsSound tx s) where
     own_goes : (step : Step TcState) → tx_in body ≡ tx → TakesTurn s (tx_in body) (turn_by s (tx_in body) body) step → TcGoes tx s body step
-    own_goes step same r = with_own (subst (λ one. TakesTurn s one (turn_by s one body) step) same r)
-      where
-        with_own : TakesTurn s tx (turn_by s tx body) step → TcGoes tx s body step
-        with_own r = by (turn_by s tx body r.t).over refl
-          where
-            count : tally (is_keyed tx) (r.front ++ r.back) ≡ 0
-            count = omega (arith, sound.few, tally_between (is_keyed tx) r.front (tx, r.t) r.back s.live r.is, ap one_if (same_tx-self tx))
-
-            front_none : tally (is_keyed tx) r.front ≡ 0
-            front_none = omega (arith, count, tally_append (is_keyed tx) r.front r.back)
-
-            was : of_live tx s.live ≡ Some r.t
-            was = ap (of_live tx) r.is ∙ found_here r.front r.t r.back front_none
-
-            by : (b : Bool) → (turn_by s tx body r.t).over ≡ b → TcGoes tx s body step
-            by true over =
-                takes r.t same was (ap (λ effects. effects.sends) r.effects)
-                (ap (λ (state : TcState). of_live tx state.live) (r.ends over) ∙ none_there (r.front ++ r.back) count ∙ sym (ap (λ b. if b then None else Some (turn_by s tx body r.t).step.state) over))
-                (omega (arith, ap (λ (state : TcState). state.next_seq) (r.ends over)))
-            by false over =
-                takes r.t same was (ap (λ effects. effects.sends) r.effects)
-                (ap (λ (state : TcState). of_live tx state.live) (r.goes over) ∙ found_here r.front (turn_by s tx body r.t).step.state r.back front_none
-                ∙ sym (ap (λ b. if b then None else Some (turn_by s tx body r.t).step.state) over))
-                (omega (arith, ap (λ (state : TcState). state.next_seq) (r.goes over)))
+    own_goes step same r =
+        let k = took s sound (turn_by s tx body) step (subst (λ one. TakesTurn s one (turn_by s one body) step) same r) in
+        takes k.t same k.was k.sends k.left k.more
 
     other_goes : (step : Step TcState) → same_tx (tx_in body) tx ≡ false → TakesTurn s (tx_in body) (turn_by s (tx_in body) body) step → TcGoes tx s body step
     other_goes step differs r = by (turn_by s (tx_in body) body r.t).over refl

@@ -1,5 +1,5 @@
 -- A step of a coordinator is a turn of the transaction that its signal is about.
-use Rattle.std.proofs.Common.{◌≡◌, ℕ, Bool, true, false, List, [], ◌∷◌, ◌++◌, length, cond, refl, sym, ap, ◌∙◌, subst, arith}
+use Rattle.std.proofs.Common.{◌≡◌, ◌⊎◌, ◌≤◌, ℕ, Bool, true, false, List, [], ◌∷◌, ◌++◌, length, cond, refl, sym, ap, ◌∙◌, subst, inl, inr, arith}
 use Rattle.std.proofs.lemmas.Bool.Decides.{nat_tests}
 use Rattle.std.specs.List.{prefix_len}
 use Rattle.std.specs.Map.{keys_of}
@@ -93,9 +93,13 @@ step_shape s tx row = go (nat_lt n (length (keys_of s.live))) refl
         subst (λ o. TcShape s tx (λ t. going (row t)) (step_value s row n o)) (sym f.get) (turns (at_entry f))
     go false e = still refl refl
 
-turn_shape : (s : TcState) (tx : TxId) (row : Transaction → Turn) → TcShape s tx row (turn_of s tx row)
+-- where no transaction of a coordinator has this number
+abbrev pub IsMissing : TcState → TxId → Type 0
+IsMissing s tx = length (keys_of s.live) ≤ prefix_len (λ x. not (same_tx tx x)) (keys_of s.live)
+
+pub turn_takes : (s : TcState) (tx : TxId) (row : Transaction → Turn) → (IsMissing s tx × (turn_of s tx row ≡ stay s)) ⊎ TakesTurn s tx row (turn_of s tx row)
 unfolding without
-turn_shape s tx row = go (nat_lt n (length (keys_of s.live))) refl
+turn_takes s tx row = go (nat_lt n (length (keys_of s.live))) refl
   where
     n : ℕ
     n = prefix_len (λ x. not (same_tx tx x)) (keys_of s.live)
@@ -120,11 +124,19 @@ turn_shape s tx row = go (nat_lt n (length (keys_of s.live))) refl
       effects = refl;
     }
 
-    go : (b : Bool) → nat_lt n (length (keys_of s.live)) ≡ b → TcShape s tx row (turn_place s row (cond b (Some n) None))
+    go : (b : Bool) → nat_lt n (length (keys_of s.live)) ≡ b
+        → (IsMissing s tx × (turn_place s row (cond b (Some n) None) ≡ stay s)) ⊎ TakesTurn s tx row (turn_place s row (cond b (Some n) None))
     go true e =
         let f = found (same_tx tx) s.live (grind (arith, nat_tests, e)) in
-        subst (λ o. TcShape s tx row (turn_value s row n o)) (sym f.get) (turns (over f (row f.value).over refl))
-    go false e = still refl refl
+        subst (λ o. (IsMissing s tx × (turn_value s row n o ≡ stay s)) ⊎ TakesTurn s tx row (turn_value s row n o)) (sym f.get) (inr (over f (row f.value).over refl))
+    go false e = inl (grind (arith, nat_tests, e), refl)
+
+turn_shape : (s : TcState) (tx : TxId) (row : Transaction → Turn) → TcShape s tx row (turn_of s tx row)
+turn_shape s tx row = by (turn_takes s tx row)
+  where
+    by : (IsMissing s tx × (turn_of s tx row ≡ stay s)) ⊎ TakesTurn s tx row (turn_of s tx row) → TcShape s tx row (turn_of s tx row)
+    by (inl missing) = subst (TcShape s tx row) (sym missing.1) (still refl refl)
+    by (inr r) = turns r
 
 begin_shape : (s : TcState) (name : Option ℕ) (tx : TxId) (row : Transaction → Turn) (b : Bool) → TcShape s tx row (begin_if s name b)
 begin_shape s name tx row true = still refl refl

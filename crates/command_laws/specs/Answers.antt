@@ -2,11 +2,14 @@
 use Rattle.std.specs.Prelude.{◌≡◌, ◌≤◌, ◌⊎◌, ℕ, true, List, ◌∷◌, ◌++◌, None, Some}
 use Rattle.run_theory.specs.Lists.{IsIn}
 use Rattle.run_theory.specs.Runs.{AreLogs, IsWithin}
+use Rattle.api_block.specs.declared.opened.Doing.TheVariants.{Ready}
 use Rattle.api_block.specs.declared.opened.OpenTransaction.{OpenTransaction}
 use Rattle.sig_core.specs.declared.log.LogStep.{LogStep}
 use Rattle.sig_core.specs.declared.member.TxId.{TxId}
 use Rattle.sig_core.specs.declared.op.Op.{Op}
-use Rattle.sig_core.specs.declared.reply.ApiReply.TheVariants.{Refused}
+use Rattle.sig_core.specs.declared.outcome.AbortCause.TheVariants as cause
+use Rattle.sig_core.specs.declared.outcome.Outcome.TheVariants.{Aborted}
+use Rattle.sig_core.specs.declared.reply.ApiReply.TheVariants.{Ended, Refused}
 use Rattle.sig_core.specs.declared.reply.Refusal.{Refusal}
 use Rattle.sig_core.specs.declared.request.ApiReq.{ApiReq}
 use Rattle.sig_core.specs.declared.request.ApiReq.TheVariants as request
@@ -18,7 +21,7 @@ use Rattle.world_core.specs.Start.{Start}
 use Rattle.answer_laws.specs.Answered.{IsAnswered, opened_after}
 use Rattle.command_laws.specs.Alone.{IsRefusedAlone, IsTurnedAway, WaitsAlone}
 use Rattle.command_laws.specs.Between.{IsAskedAgain, IsServedIn}
-use Rattle.command_laws.specs.Served.{IsAnsweredAlone, IsAnsweredAs, IsCommittedAlone, IsRefusedAs, IsServed, IsToldCommitted, IsToldHolder, StillWaits, replies_since}
+use Rattle.command_laws.specs.Served.{IsAnsweredAlone, IsAnsweredAs, IsCommittedAlone, IsRefusedAs, IsServed, IsToldCommitted, IsToldHolder, StillWaits, named_in, replies_since}
 
 -- the command was turned down, since it may not be given to the transaction of this name now
 pub record IsTurnedDown (start : Start) (was now : ℕ → List LogStep) (name : ℕ) : Type 0 where
@@ -61,12 +64,24 @@ OperationsComeTo =
 abbrev pub CommitsComeTo : Type 0
 CommitsComeTo = (start : Start) (was now : ℕ → List LogStep) (name : ℕ) → IsServed start was now (request.Commit name) → CommitComesTo start was now name
 
+-- the transaction of this name takes commands
+pub record TakesCommands (start : Start) (logs : ℕ → List LogStep) (name : ℕ) (tx : TxId) : Type 0 where
+  pub item : OpenTransaction
+  pub named : named_in (opened_after start logs) name ≡ Some item
+  pub ready : item.doing ≡ Ready
+  pub own : item.tx ≡ Some tx
+
+-- it was reported aborted, as was asked for
+abbrev pub IsAbortedAs : Start → (was now : ℕ → List LogStep) → ℕ → Type 0
+IsAbortedAs start was now name = IsIn (Ended (Some name) (Aborted cause.Request)) (replies_since start was now)
+
 -- What a request comes to between these two moments. A command that left something of its own unanswered is asked about twice:
 -- the second time it is told who holds what it waits for.
 abbrev pub AnswersRequest : Start → (was now : ℕ → List LogStep) → ApiReq → Type 0
 AnswersRequest start was now (request.Operate (Some name) op) = OperationComesTo start was now name
 AnswersRequest start was now (request.Operate None op) = LoneComesTo start was now
 AnswersRequest start was now (request.Commit name) = CommitComesTo start was now name
+AnswersRequest start was now (request.Abort name) = (tx : TxId) → TakesCommands start was name tx → IsAbortedAs start was now name
 AnswersRequest start was now request.Pending =
     (first : ℕ → List LogStep) → IsServed start first was request.Waits → is_left_open (after start 0 (first 0)) ≡ true → IsToldHolder start first was now
 AnswersRequest start was now request = Unit {0}

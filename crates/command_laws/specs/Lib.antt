@@ -1,3 +1,4 @@
+pub mod Aborts
 pub mod Alone
 pub mod Answers
 pub mod Between

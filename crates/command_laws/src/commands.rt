@@ -1,4 +1,5 @@
 //! What is proved of commands.
+ghost use Rattle.command_laws.specs.Aborts.{ReadyAbortsAreAnswered};
 ghost use Rattle.command_laws.specs.Alone.{LoneOperationsAreAnswered};
 ghost use Rattle.command_laws.specs.Living.{RepliesAreOfTheLiving};
 ghost use Rattle.command_laws.specs.Sample.{SampleIsServed};
@@ -31,6 +32,11 @@ pub fn operations_come_to_something()
 /// Each commit is turned down or reported.
 pub fn commits_come_to_something()
     ensures { CommitsComeTo }
+{}
+
+/// An abort of a transaction that takes commands ends in its being aborted at the client's request.
+pub fn aborts_are_answered()
+    ensures { ReadyAbortsAreAnswered }
 {}
 
 /// An operation alone is answered, or its transaction is aborted for want of room or of time, or can't
