@@ -30,12 +30,11 @@ use Rattle.tc_block.specs.Part.{part_effects, rest_if}
 use Rattle.tc_block.specs.Sends.{entering, front_sends, go_on_if, go_on_row, key_sends, phase_sends, wait_of}
 use Rattle.tc_block.specs.State.{TcState}
 use Rattle.tc_block.specs.Turn.{Turn, asking, going}
-use Rattle.answer_laws.proofs.SendKinds.{are_of, of_append, of_drop, of_map, of_take}
+use Rattle.answer_laws.proofs.SendKinds.{are_of, of_append, of_drop, of_map, of_take, one_kind}
 use Rattle.answer_laws.proofs.TcSends.{tx_in}
 use Rattle.command_laws.proofs.LqhFair.{is_fair}
-use Rattle.command_laws.proofs.PhaseSends.{HasChains, aborts_of_kind, entering_of_kind, go_on_of_kind}
+use Rattle.answer_laws.proofs.PhaseSends.{HasChains, aborts_of_kind, entering_of_kind, go_on_of_kind}
 use Rattle.command_laws.proofs.Turns.{turn_by}
-use Rattle.command_laws.proofs.Tests.{one_kind}
 use Rattle.commit_laws.proofs.Keys.{same_tx-self}
 use Rattle.command_laws.specs.Served.{is_refusal}
 

@@ -24,7 +24,7 @@ use Rattle.tc_block.specs.Sends.{entering, front_sends, go_on_if, go_on_row, wai
 use Rattle.tc_block.specs.State.{TcState}
 use Rattle.tc_block.specs.Turn.{Turn, going}
 use Rattle.answer_laws.proofs.SendKinds.{are_of, of_map}
-use Rattle.command_laws.proofs.PhaseSends.{HasChains, entering_of_kind, go_on_of_kind}
+use Rattle.answer_laws.proofs.PhaseSends.{HasChains, entering_of_kind, go_on_of_kind}
 use Rattle.command_laws.proofs.Turns.{turn_by}
 
 -- it isn't aborted, and has no operation unanswered while it takes them

@@ -33,10 +33,9 @@ use Rattle.tc_block.specs.Sends.{entering, front_sends, go_on_if, go_on_row, wai
 use Rattle.tc_block.specs.State.{TcState}
 use Rattle.tc_block.specs.Tc.{next_tx, tc_row}
 use Rattle.tc_block.specs.Turn.{Turn, asking, going}
-use Rattle.answer_laws.proofs.SendKinds.{are_of, of_kind, of_map}
+use Rattle.answer_laws.proofs.SendKinds.{are_of, of_kind, of_map, one_kind}
 use Rattle.answer_laws.proofs.TcSends.{tx_in}
-use Rattle.command_laws.proofs.PhaseSends.{HasChains, aborts_of_kind, entering_of_kind, go_on_of_kind}
-use Rattle.command_laws.proofs.Tests.{one_kind}
+use Rattle.answer_laws.proofs.PhaseSends.{HasChains, aborts_of_kind, entering_of_kind, go_on_of_kind}
 use Rattle.command_laws.proofs.Turns.{TakesTurn, TcShape, is_idle_kind, starts, still, tc_shape, turn_by, turns}
 use Rattle.command_laws.specs.Living.{is_living}
 

@@ -32,7 +32,7 @@ use Rattle.answer_laws.proofs.TcKeys.{answer_of, is_answer}
 use Rattle.answer_laws.proofs.Wishes.{and_false, is_api, sends_of, to_node}
 use Rattle.command_laws.proofs.Firm.{fronts, has_chains, is_firm, is_no_abort}
 use Rattle.command_laws.proofs.FirmHosts.{is_back, no_back_firm}
-use Rattle.command_laws.proofs.PhaseSends.{HasChains, aborts_of_kind, entering_of_kind, go_on_of_kind}
+use Rattle.answer_laws.proofs.PhaseSends.{HasChains, aborts_of_kind, entering_of_kind, go_on_of_kind}
 use Rattle.command_laws.proofs.Turns.{turn_by}
 
 -- an operation of the transaction is answered to the client
