@@ -56,14 +56,15 @@ module _ (kind : Body → Bool) (tx : TxId) (body : Body) (own : OwnKinds tx kin
   abort_ends why true = of_each kind (abort.abort_end node tx why true) (own.verified, (own.rolled_back why, tt))
   abort_ends why false = one_kind (kind (Client (TcRollbackRep tx why))) (own.rolled_back why)
 
-  aborts : (t : Transaction) → AbortForms node view tx t (TurnOnly kind)
-  aborts t = record { enters = λ why some. enters t _; ends = λ why none. abort_ends why (abort.is_verifying t.phase) }
+  aborts : (t : Transaction) (why : AbortCause) → AbortForms node view tx t why (TurnOnly kind)
+  aborts t why = record { enters = λ some. enters t _; ends = λ none. abort_ends why (abort.is_verifying t.phase) }
 
   commits : (t : Transaction) (epoch : ℕ) → CommittedForms node view tx t epoch (TurnOnly kind)
   commits t epoch = record { enters = λ some. enters t _; ends = λ none. of_each kind (reported tx epoch ∷ verify_end node tx ∷ []) (own.committed epoch, (own.verified, tt)) }
 
-  forms : (t : Transaction) → TurnForms node view tx t body (TurnOnly kind)
-  forms t = record {
+  -- so is each form of turn
+  pub own_forms : (t : Transaction) → TurnForms node view tx t body (TurnOnly kind)
+  own_forms t = record {
     stays = refl;
     goes_on = λ at. rest_of_kind kind view tx own.chains node t at (fronts t.phase);
     operates = λ op is can. one_kind (kind (Chain (LqhKeyReq tx (Operate op) (chain_of view (key_of op)) 0))) (own.operates op (chain_of view (key_of op)));
@@ -77,12 +78,12 @@ module _ (kind : Body → Bool) (tx : TxId) (body : Body) (own : OwnKinds tx kin
     committed_all = λ epoch awaited at. commits t epoch;
     completed = λ epoch awaited at more. refl;
     completed_all = λ epoch awaited at last. one_kind (kind (Epoch (DiVerifyEnd tx))) own.verified;
-    rolls_back = λ undecided unaborted. aborts t;
-    refuses = λ asked on at. aborts (asking t None);
+    rolls_back = λ is undecided unaborted. aborts t _;
+    refuses = λ key why asked is on at. aborts (asking t None) why;
     aborted = λ why verifying awaited at more. refl;
     aborted_all = λ why verifying awaited at last. abort_ends why verifying;
   }
 
-  -- so are the turns that the transaction takes at the signal
+  -- and what the transaction does by the row of the signal
   pub own_kinds : (t : Transaction) → RowsAre node view tx t body (TurnOnly kind)
-  own_kinds t = rows_of node view tx t body (TurnOnly kind) (forms t)
+  own_kinds t = rows_of node view tx t body (TurnOnly kind) (own_forms t)

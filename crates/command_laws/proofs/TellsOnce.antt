@@ -167,12 +167,12 @@ module _ (tx : TxId) where
           by : (b : Bool) → key_of_tx tx body ≡ b → AfterStep step
           by true key = absurd (omega (arith, some.0, has.fair, once, ap one_if key))
           by false key =
-              let stays = firm_turn s tx body t (not_push tx body (push_none body wish key) (ap (λ v. same_tx v tx) same ∙ same_tx-self tx)) (subst IsFirmNow was firm) in
+              let stays = firm_turn s tx body t same (not_push tx body (push_none body wish key) (ap (λ v. same_tx v tx) same ∙ same_tx-self tx)) (subst IsFirmNow was firm) in
               let quiet = none_of is_no_abort (is_back tx) (no_back_firm tx) (turn_by s tx body t).step.effects.sends stays.sends in
               inr (inl ((omega (arith, some.0), omega (arith, some.1, ap (sends_of (is_back tx)) sends, quiet)), (subst IsFirmNow (sym left) (left_firm (turn_by s tx body t) (λ over. stays.firm)), early)))
 
       takes_next : IsOneOfThree a r s → AfterStep step
-      takes_next (inl none) = first_next none (turn_tells s tx body t (wish_kind body wish same))
+      takes_next (inl none) = first_next none (turn_tells s tx body t same)
       takes_next (inr (inl q)) = firm_next q.0 q.1.0
       takes_next (inr (inr q)) = absurd (let both : Some t ≡ None = sym was ∙ q.1.0 in cc)
 

@@ -88,8 +88,8 @@ module _ (P : Transaction → Type 0) (Q : Outgoing → Type 0) (node : ℕ) (vi
   abort_ends why true = (keep.plain _ refl, (keep.plain _ refl, tt))
   abort_ends why false = (keep.plain _ refl, tt)
 
-  abort_keeps : (t : Transaction) → P t → AbortForms node view tx t (λ turn. TurnKeeps P Q turn)
-  abort_keeps t fine = record { enters = λ why some. enters t _ fine; ends = λ why none. record { state = fine; sends = abort_ends why (abort.is_verifying t.phase) } }
+  abort_keeps : (t : Transaction) → P t → (why : AbortCause) → AbortForms node view tx t why (λ turn. TurnKeeps P Q turn)
+  abort_keeps t fine why = record { enters = λ some. enters t _ fine; ends = λ none. record { state = fine; sends = abort_ends why (abort.is_verifying t.phase) } }
 
   -- so each turn does
   pub turn_keeps : (t : Transaction) (body : Body) → P t → ((op : Op) → body ≡ Client (TcKeyReq tx op) → StepKeeps P Q (operate.operating tx t op (chain_of view (key_of op))))
@@ -108,8 +108,8 @@ module _ (P : Transaction → Type 0) (Q : Outgoing → Type 0) (node : ℕ) (vi
     committed_all = λ epoch awaited at. committed_keeps t epoch fine;
     completed = λ epoch awaited at more. record { state = keep.phase t _ fine; sends = tt };
     completed_all = λ epoch awaited at last. record { state = fine; sends = (keep.plain _ refl, tt) };
-    rolls_back = λ undecided unaborted. abort_keeps t fine;
-    refuses = λ asked on at. abort_keeps (asking t None) (keep.unasked t fine);
+    rolls_back = λ is undecided unaborted. abort_keeps t fine _;
+    refuses = λ key why asked is on at. abort_keeps (asking t None) (keep.unasked t fine) why;
     aborted = λ why verifying awaited at more. record { state = keep.phase t _ fine; sends = tt };
     aborted_all = λ why verifying awaited at last. record { state = fine; sends = abort_ends why verifying };
   }
