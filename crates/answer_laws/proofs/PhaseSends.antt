@@ -17,7 +17,7 @@ use Rattle.tc_block.specs.declared.touched.Touched.{Touched}
 use Rattle.tc_block.specs.declared.transaction.Transaction.{Transaction}
 use Rattle.tc_block.specs.Chain.{chain_of}
 use Rattle.tc_block.specs.Part.{part_effects, rest_if}
-use Rattle.tc_block.specs.Sends.{abort_of, complete_if, entering, front_sends, go_on_if, go_on_row, key_sends, phase_sends}
+use Rattle.tc_block.specs.Sends.{abort_of, complete_if, entering, front_sends, go_on_if, key_sends, phase_sends}
 use Rattle.answer_laws.proofs.SendKinds.{are_of, of_append, of_drop, of_flat, of_map, of_take, one_kind}
 
 -- a kind of signal that has what is sent to replicas, and what goes on with a list
@@ -62,11 +62,3 @@ module _ (kind : Body → Bool) (view : View) (tx : TxId) (has : HasChains tx ki
 
   pub rest_of_kind : (node : ℕ) (t : Transaction) (at : ℕ) → are_of kind (front_sends tx t.phase) ≡ true → are_of kind (go_on_if node view tx t at true).effects.sends ≡ true
   rest_of_kind node t at front = part_of_kind node (phase_sends view tx t.phase t.touched) at (phase_of_kind t.phase t.touched front)
-
-  pub go_on_of_kind : (node : ℕ) (t : Transaction) (at : ℕ) → are_of kind (front_sends tx t.phase) ≡ true → are_of kind (go_on_row node view tx t at).effects.sends ≡ true
-  unfolding go_on_row
-  go_on_of_kind node t at front = by (nat_lt at 512)
-    where
-      by : (b : Bool) → are_of kind (go_on_if node view tx t at b).effects.sends ≡ true
-      by true = rest_of_kind node t at front
-      by false = refl

@@ -6,7 +6,7 @@ use Rattle.sig_core.specs.declared.outcome.AbortCause.{AbortCause}
 use Rattle.sig_core.specs.declared.place.Place.{Place}
 use Rattle.sig_core.specs.declared.signal.Body.{Body}
 use Rattle.sig_core.specs.declared.signal.Body.TheVariants.{Client}
-use Rattle.sig_core.specs.declared.signal.client.ClientSignal.TheVariants.{TcKeyConf, TcRollbackReq}
+use Rattle.sig_core.specs.declared.signal.client.ClientSignal.TheVariants.{TcKeyConf}
 use Rattle.sig_core.specs.declared.view.View.{View}
 use Rattle.sig_core.specs.Op.{key_of}
 use Rattle.tc_block.specs.declared.phase.Phase.{Phase}
@@ -32,11 +32,6 @@ use Rattle.command_laws.proofs.Turns.{turn_at, turn_by}
 -- an operation of the transaction is answered to the client
 abbrev pub is_reply : TxId → Place → Body → Bool
 is_reply tx = to_node 0 (is_answer tx)
-
--- an abort is asked for
-abbrev pub is_wish_back : Body → Bool
-is_wish_back (Client (TcRollbackReq tx)) = true
-is_wish_back _ = false
 
 -- it is firm then, and goes on
 pub record IsFirmThen (turn : Turn) : Type 0 where
