@@ -1,8 +1,8 @@
 -- A coordinator answers each operation that it takes once: what it has unanswered and what it has answered it was asked for.
 use Rattle.std.proofs.Common.{◌≡◌, ℕ, ◌+◌, ◌≤◌, List, [], ◌∷◌, ◌++◌, length, Bool, true, false, cond, refl, ap, sym, ◌∙◌, subst, arith}
-use Rattle.std.specs.Prelude.{◌==◌, ◌&&◌, nat_lt, not, is_some, slice_get, Option, None, Some, if◌then◌else◌}
+use Rattle.std.specs.Prelude.{◌==◌, ◌&&◌, nat_lt, not, is_some, Option, None, Some, if◌then◌else◌}
 use Rattle.std.specs.List.{prefix_len}
-use Rattle.std.specs.Map.{keys_of, values_of}
+use Rattle.std.specs.Map.{keys_of}
 use Rattle.std.proofs.lemmas.Bool.Decides.{nat_tests}
 use Rattle.indexmap.specs.IndexMap.{insert_entry}
 use Rattle.sig_core.specs.declared.member.TxId.{TxId}
@@ -28,7 +28,7 @@ use Rattle.tc_block.specs.declared.transaction.Transaction.{Transaction}
 use Rattle.tc_block.specs.Abort as abort
 use Rattle.tc_block.specs.Commit as commit
 use Rattle.tc_block.specs.Complete as complete
-use Rattle.tc_block.specs.Live.{place_in, step_of, step_place, step_value, turn_of, turn_place, turn_value, turned_if, without}
+use Rattle.tc_block.specs.Live.{place_in, step_of, turn_of, turn_place, turn_value, turned_if, without}
 use Rattle.tc_block.specs.Operate as operate
 use Rattle.tc_block.specs.Sends.{entering, go_on_row}
 use Rattle.tc_block.specs.State.{TcState}
@@ -40,7 +40,7 @@ use Rattle.answer_laws.proofs.SendKinds.{SendsOnly, are_of, is_keyless, is_tc_ki
 use Rattle.answer_laws.proofs.Tally.{one_if, tally, tally_between}
 use Rattle.answer_laws.proofs.TcKeyless as keyless
 use Rattle.answer_laws.proofs.TcLives.{apart}
-use Rattle.answer_laws.proofs.TcMoves.{IsEntry, found, same_tx-is}
+use Rattle.answer_laws.proofs.TcMoves.{IsEntry, found, same_tx-is, step_is}
 use Rattle.answer_laws.proofs.TcSends.{TurnSends, aborted_kinds, answer_kinds, commit_kinds, committed_kinds, completed_kinds, decide_kinds, go_on_kinds, operate_kinds, refuse_kinds, rollback_kinds, wait_kinds}
 use Rattle.answer_laws.proofs.Wishes.{and_false, is_api, is_tc, sends_of, to_node}
 
@@ -208,19 +208,8 @@ module _ (tx : TxId) (s : TcState) where
           subst (λ o. Fair (turn_value s row place o) (came tx)) (sym f.get) (over f (row f.value).over (same_tx one tx) refl)
       go false e = omega arith
 
-  step_is : (one : TxId) (row : Transaction → Step Transaction) → step_of s one row ≡ turn_of s one (λ t. going (row t))
-  step_is one row = at_place (place_in s one)
-    where
-      at_value : (at : ℕ) (t : Option Transaction) → step_value s row at t ≡ turn_value s (λ t. going (row t)) at t
-      at_value at None = refl
-      at_value at (Some t) = refl
-
-      at_place : (o : Option ℕ) → step_place s row o ≡ turn_place s (λ t. going (row t)) o
-      at_place None = refl
-      at_place (Some at) = at_value at (slice_get (values_of s.live) at)
-
   step_fair : (one : TxId) (row : Transaction → Step Transaction) (came : TxId → ℕ) → ((t : Transaction) → SendsOnly (is_tc_kind one) (row t)) → ((t : Transaction) → IsFair one t (going (row t)) (came one)) → Fair (step_of s one row) (came tx)
-  step_fair one row came kinds fair = subst (λ st. Fair st (came tx)) (sym (step_is one row)) (turn_fair one (λ t. going (row t)) came kinds fair)
+  step_fair one row came kinds fair = subst (λ st. Fair st (came tx)) (sym (step_is s one row)) (turn_fair one (λ t. going (row t)) came kinds fair)
 
   -- a turn that answers nothing
   still : (one : TxId) (t : Transaction) (turn : Turn) → are_of is_keyless turn.step.effects.sends ≡ true → has_asked turn.step.state ≤ has_asked t → IsFair one t turn 0
