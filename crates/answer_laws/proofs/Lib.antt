@@ -38,6 +38,7 @@ pub mod OpenTurns
 pub mod Ops
 pub mod PartCounts
 pub mod PartKinds
+pub mod PhaseSends
 pub mod QueueWaits
 pub mod Queued
 pub mod Rights
@@ -59,6 +60,7 @@ pub mod TcSends
 pub mod TcSteps
 pub mod TcTurns
 pub mod Totals
+pub mod TurnKinds
 pub mod Undecided
 pub mod Verified
 pub mod Wants

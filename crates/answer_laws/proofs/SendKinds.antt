@@ -85,6 +85,20 @@ the_first : (b first : Bool) → (if b then first else false) ≡ true → b ≡
 the_first true first e = refl
 the_first false first e = e
 
+-- one signal of a kind
+pub one_kind : (b : Bool) → b ≡ true → (if b then true else false) ≡ true
+one_kind true e = refl
+one_kind false e = cc
+
+both_kinds : (b : Bool) {rest : Bool} → b ≡ true → rest ≡ true → (if b then rest else false) ≡ true
+both_kinds true e r = r
+both_kinds false e r = e
+
+-- each is of the kind
+pub of_each : (kind : Body → Bool) (xs : List Outgoing) → Each (λ (o : Outgoing). kind o.body ≡ true) xs → are_of kind xs ≡ true
+of_each kind [] all = refl
+of_each kind (x ∷ xs) all = both_kinds (kind x.body) all.0 (of_each kind xs all.1)
+
 pub of_append : (kind : Body → Bool) (xs ys : List Outgoing) → are_of kind xs ≡ true → are_of kind ys ≡ true → are_of kind (xs ++ ys) ≡ true
 of_append kind [] ys p q = q
 of_append kind (x ∷ xs) ys p q = one_more (kind x.body) (are_of kind xs) (are_of kind (xs ++ ys)) p (λ first. of_append kind xs ys first q)
@@ -102,11 +116,7 @@ of_drop kind (suc n) (x ∷ xs) p = of_drop kind n xs (the_rest (kind x.body) (a
 -- signals that are made of a list's items, one of each
 pub of_map : (kind : Body → Bool) {A : Type 0} (f : A → Outgoing) (xs : List A) → ((x : A) → kind (f x).body ≡ true) → are_of kind (map f xs) ≡ true
 of_map kind f [] plain = refl
-of_map kind f (x ∷ xs) plain = one (kind (f x).body) (plain x) (of_map kind f xs plain)
-  where
-    one : (b : Bool) {rest : Bool} → b ≡ true → rest ≡ true → (if b then rest else false) ≡ true
-    one true e r = r
-    one false e r = e
+of_map kind f (x ∷ xs) plain = both_kinds (kind (f x).body) (plain x) (of_map kind f xs plain)
 
 -- or some of each
 pub of_flat : (kind : Body → Bool) {A : Type 0} (f : A → List Outgoing) (xs : List A) → ((x : A) → are_of kind (f x) ≡ true) → are_of kind (flat_map f xs) ≡ true
@@ -133,8 +143,4 @@ each_of kind P holds (x ∷ xs) e = (holds x (the_first (kind x.body) (are_of ki
 pub of_kind : (kind other : Body → Bool) → ((body : Body) → kind body ≡ true → other body ≡ true) → (xs : List Outgoing) → are_of kind xs ≡ true → are_of other xs ≡ true
 of_kind kind other holds [] e = refl
 of_kind kind other holds (x ∷ xs) e =
-    one (other x.body) (holds x.body (the_first (kind x.body) (are_of kind xs) e)) (of_kind kind other holds xs (the_rest (kind x.body) (are_of kind xs) e))
-  where
-    one : (b : Bool) {rest : Bool} → b ≡ true → rest ≡ true → (if b then rest else false) ≡ true
-    one true e r = r
-    one false e r = e
+    both_kinds (other x.body) (holds x.body (the_first (kind x.body) (are_of kind xs) e)) (of_kind kind other holds xs (the_rest (kind x.body) (are_of kind xs) e))

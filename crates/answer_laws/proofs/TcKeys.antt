@@ -1,15 +1,14 @@
 -- A coordinator answers each operation that it takes once: what it has unanswered and what it has answered it was asked for.
 use Rattle.std.proofs.Common.{◌≡◌, ℕ, ◌+◌, ◌≤◌, List, [], ◌∷◌, ◌++◌, length, Bool, true, false, cond, refl, ap, sym, ◌∙◌, subst, arith}
-use Rattle.std.specs.Prelude.{◌==◌, ◌&&◌, nat_lt, not, is_some, slice_get, Option, None, Some, if◌then◌else◌}
+use Rattle.std.specs.Prelude.{◌==◌, ◌&&◌, nat_lt, not, is_some, Option, None, Some, if◌then◌else◌}
 use Rattle.std.specs.List.{prefix_len}
-use Rattle.std.specs.Map.{keys_of, values_of}
+use Rattle.std.specs.Map.{keys_of}
 use Rattle.std.proofs.lemmas.Bool.Decides.{nat_tests}
 use Rattle.indexmap.specs.IndexMap.{insert_entry}
 use Rattle.sig_core.specs.declared.member.TxId.{TxId}
 use Rattle.sig_core.specs.declared.op.Answer.{Answer}
 use Rattle.sig_core.specs.declared.op.Op.{Op}
 use Rattle.sig_core.specs.declared.outcome.AbortCause.{AbortCause}
-use Rattle.sig_core.specs.declared.outcome.AbortCause.TheVariants as cause
 use Rattle.sig_core.specs.declared.outs.Outgoing.{Outgoing}
 use Rattle.sig_core.specs.declared.place.Place.{Place}
 use Rattle.sig_core.specs.declared.signal.Body.{Body}
@@ -29,18 +28,19 @@ use Rattle.tc_block.specs.declared.transaction.Transaction.{Transaction}
 use Rattle.tc_block.specs.Abort as abort
 use Rattle.tc_block.specs.Commit as commit
 use Rattle.tc_block.specs.Complete as complete
-use Rattle.tc_block.specs.Live.{place_in, step_of, step_place, step_value, turn_of, turn_place, turn_value, turned_if, without}
+use Rattle.tc_block.specs.Live.{place_in, step_of, turn_of, turn_place, turn_value, turned_if, without}
 use Rattle.tc_block.specs.Operate as operate
-use Rattle.tc_block.specs.Sends.{entering, go_on_if, go_on_row}
+use Rattle.tc_block.specs.Sends.{entering, go_on_row}
 use Rattle.tc_block.specs.State.{TcState}
 use Rattle.tc_block.specs.Tc.{begin_if, begin_row, is_full, next_tx, pass_if, pass_row, tc_row}
 use Rattle.tc_block.specs.Turn.{Turn, asking, going}
 use Rattle.commit_laws.proofs.Keys.{same_tx-self}
+use Rattle.commit_laws.proofs.EachTurn.{AbortForms, CommittedForms, RowsAre, rows_of}
 use Rattle.answer_laws.proofs.SendKinds.{SendsOnly, are_of, is_keyless, is_tc_kind, none_of}
 use Rattle.answer_laws.proofs.Tally.{one_if, tally, tally_between}
 use Rattle.answer_laws.proofs.TcKeyless as keyless
 use Rattle.answer_laws.proofs.TcLives.{apart}
-use Rattle.answer_laws.proofs.TcMoves.{IsEntry, found, same_tx-is}
+use Rattle.answer_laws.proofs.TcMoves.{IsEntry, found, same_tx-is, step_is}
 use Rattle.answer_laws.proofs.TcSends.{TurnSends, aborted_kinds, answer_kinds, commit_kinds, committed_kinds, completed_kinds, decide_kinds, go_on_kinds, operate_kinds, refuse_kinds, rollback_kinds, wait_kinds}
 use Rattle.answer_laws.proofs.Wishes.{and_false, is_api, is_tc, sends_of, to_node}
 
@@ -96,128 +96,35 @@ module _ (tx : TxId) (t : Transaction) where
   abbrev StaysAsked : Turn → Type 0
   StaysAsked turn = has_asked turn.step.state ≤ has_asked t
 
-  go_on_stays : (node : ℕ) (view : View) (at : ℕ) → StaysAsked (going (go_on_row node view tx t at))
-  unfolding go_on_row
-  go_on_stays node view at = go (nat_lt at 512)
-    where
-      go : (b : Bool) → StaysAsked (going (go_on_if node view tx t at b))
-      go true = omega arith
-      go false = omega arith
+  abort_stays : (node : ℕ) (view : View) (u : Transaction) (why : AbortCause) → has_asked u ≤ has_asked t → AbortForms node view tx u why StaysAsked
+  unfolding entering
+  abort_stays node view u why less = record { enters = λ some. less; ends = λ none. less }
 
-  wait_stays : StaysAsked (going (operate.wait_row tx t))
-  unfolding operate.wait_row
-  wait_stays = go t.asked
-    where
-      go : (asked : Option Asked) → StaysAsked (going (operate.wait_by tx t asked))
-      go None = omega arith
-      go (Some asked) = omega arith
+  commit_stays : (node : ℕ) (view : View) (epoch : ℕ) → CommittedForms node view tx t epoch StaysAsked
+  unfolding entering
+  commit_stays node view epoch = record { enters = λ some. omega arith; ends = λ none. omega arith }
 
-  decide_stays : (node : ℕ) → StaysAsked (going (commit.decide_row node tx t))
-  unfolding commit.decide_row
-  decide_stays node = go (operate.is_ready t.phase t.asked)
-    where
-      go : (b : Bool) → StaysAsked (going (commit.decide_if node tx t b))
-      go true = omega arith
-      go false = omega arith
-
-  all_committed_stays : (node : ℕ) (view : View) (epoch : ℕ) → StaysAsked (complete.all_committed node view tx t epoch)
-  unfolding complete.all_committed entering
-  all_committed_stays node view epoch = go (complete.written_count t.touched == 0)
-    where
-      go : (b : Bool) → StaysAsked (complete.all_committed_if node view tx t epoch b)
-      go true = omega arith
-      go false = omega arith
-
-  commit_stays : (node : ℕ) (view : View) (epoch : ℕ) → StaysAsked (commit.commit_row node view tx t epoch)
-  unfolding commit.commit_row entering
-  commit_stays node view epoch = by t.phase
-    where
-      which : (b : Bool) → StaysAsked (commit.commit_if node view tx t epoch b)
-      which true = all_committed_stays node view epoch
-      which false = omega arith
-
-      by : (phase : Phase) → StaysAsked (commit.commit_by node view tx t epoch phase)
-      by Verifying = which (length t.touched == 0)
-      by Open = omega arith
-      by (Committing other awaited) = omega arith
-      by (Completing other awaited) = omega arith
-      by (Aborting why verifying awaited) = omega arith
-
-  committed_stays : (node : ℕ) (view : View) → StaysAsked (commit.committed_row node view tx t)
-  unfolding commit.committed_row
-  committed_stays node view = by t.phase
-    where
-      which : (epoch awaited : ℕ) (b : Bool) → StaysAsked (commit.committed_if node view tx t epoch awaited b)
-      which epoch awaited true = omega arith
-      which epoch awaited false = all_committed_stays node view epoch
-
-      by : (phase : Phase) → StaysAsked (commit.committed_by node view tx t phase)
-      by (Committing epoch awaited) = which epoch awaited (nat_lt 1 awaited)
-      by Open = omega arith
-      by Verifying = omega arith
-      by (Completing other awaited) = omega arith
-      by (Aborting why verifying awaited) = omega arith
-
-  completed_stays : (node : ℕ) → StaysAsked (complete.completed_row node tx t)
-  unfolding complete.completed_row
-  completed_stays node = by t.phase
-    where
-      which : (epoch awaited : ℕ) (b : Bool) → StaysAsked (complete.completed_if node tx t epoch awaited b)
-      which epoch awaited true = omega arith
-      which epoch awaited false = omega arith
-
-      by : (phase : Phase) → StaysAsked (complete.completed_by node tx t phase)
-      by (Completing epoch awaited) = which epoch awaited (nat_lt 1 awaited)
-      by Open = omega arith
-      by Verifying = omega arith
-      by (Committing other awaited) = omega arith
-      by (Aborting why verifying awaited) = omega arith
-
-  aborted_stays : (node : ℕ) → StaysAsked (abort.aborted_row node tx t)
-  unfolding abort.aborted_row
-  aborted_stays node = by t.phase
-    where
-      which : (why : AbortCause) (verifying : Bool) (awaited : ℕ) (b : Bool) → StaysAsked (abort.aborted_if node tx t why verifying awaited b)
-      which why verifying awaited true = omega arith
-      which why verifying awaited false = omega arith
-
-      by : (phase : Phase) → StaysAsked (abort.aborted_by node tx t phase)
-      by (Aborting why verifying awaited) = which why verifying awaited (nat_lt 1 awaited)
-      by Open = omega arith
-      by Verifying = omega arith
-      by (Committing epoch awaited) = omega arith
-      by (Completing epoch awaited) = omega arith
-
-  rollback_stays : (node : ℕ) (view : View) → StaysAsked (abort.rollback_row node view tx t)
-  unfolding abort.rollback_row abort.aborted_for entering
-  rollback_stays node view = by t.phase
-    where
-      which : (b : Bool) → StaysAsked (abort.abort_if node view tx t cause.Request b)
-      which true = omega arith
-      which false = omega arith
-
-      by : (phase : Phase) → StaysAsked (abort.rollback_by node view tx t phase)
-      by Open = which (abort.aborts_awaited view t == 0)
-      by Verifying = which (abort.aborts_awaited view t == 0)
-      by (Committing epoch awaited) = omega arith
-      by (Completing epoch awaited) = omega arith
-      by (Aborting why verifying awaited) = omega arith
-
-  refuse_stays : (node : ℕ) (view : View) (at : List ℕ) (why : AbortCause) → StaysAsked (abort.refuse_row node view tx t at why)
-  unfolding abort.refuse_row abort.aborted_for entering
-  refuse_stays node view at why = by (operate.asked_on t.asked at) t.phase
-    where
-      which : (b : Bool) → StaysAsked (abort.abort_if node view tx (asking t None) why b)
-      which true = omega arith
-      which false = omega arith
-
-      by : (o : Option Asked) (phase : Phase) → StaysAsked (abort.refuse_by node view tx t at why o phase)
-      by (Some a) Open = which (abort.aborts_awaited view (asking t None) == 0)
-      by (Some a) (Aborting other verifying awaited) = omega arith
-      by (Some a) Verifying = omega arith
-      by (Some a) (Committing epoch awaited) = omega arith
-      by (Some a) (Completing epoch awaited) = omega arith
-      by None phase = omega arith
+  stays : (node : ℕ) (view : View) (body : Body) → ((op : Op) → body ≡ Client (TcKeyReq tx op) → ⊥) → RowsAre node view tx t body StaysAsked
+  unfolding entering
+  stays node view body other = rows_of node view tx t body StaysAsked (record {
+    stays = omega arith;
+    goes_on = λ at. omega arith;
+    operates = λ op is can. absurd (other op is);
+    answers = λ key answer asked is on at. omega arith;
+    late = λ key asked why verifying awaited on at. omega arith;
+    waits = λ asked on. omega arith;
+    decides = λ is ready. omega arith;
+    commits = λ epoch is at some. omega arith;
+    commits_none = λ epoch is at. commit_stays node view epoch;
+    committed = λ epoch awaited at more. omega arith;
+    committed_all = λ epoch awaited at. commit_stays node view epoch;
+    completed = λ epoch awaited at more. omega arith;
+    completed_all = λ epoch awaited at last. omega arith;
+    rolls_back = λ is undecided unaborted. abort_stays node view t _ (omega arith);
+    refuses = λ key why asked is on at. abort_stays node view (asking t None) why (omega arith);
+    aborted = λ why verifying awaited at more. omega arith;
+    aborted_all = λ why verifying awaited at last. omega arith;
+  })
 
   answer_fair : (view : View) (at : List ℕ) (answer : Answer) → IsFair tx t (going (operate.answer_row view tx t at answer)) 0
   unfolding operate.answer_row
@@ -301,19 +208,8 @@ module _ (tx : TxId) (s : TcState) where
           subst (λ o. Fair (turn_value s row place o) (came tx)) (sym f.get) (over f (row f.value).over (same_tx one tx) refl)
       go false e = omega arith
 
-  step_is : (one : TxId) (row : Transaction → Step Transaction) → step_of s one row ≡ turn_of s one (λ t. going (row t))
-  step_is one row = at_place (place_in s one)
-    where
-      at_value : (at : ℕ) (t : Option Transaction) → step_value s row at t ≡ turn_value s (λ t. going (row t)) at t
-      at_value at None = refl
-      at_value at (Some t) = refl
-
-      at_place : (o : Option ℕ) → step_place s row o ≡ turn_place s (λ t. going (row t)) o
-      at_place None = refl
-      at_place (Some at) = at_value at (slice_get (values_of s.live) at)
-
   step_fair : (one : TxId) (row : Transaction → Step Transaction) (came : TxId → ℕ) → ((t : Transaction) → SendsOnly (is_tc_kind one) (row t)) → ((t : Transaction) → IsFair one t (going (row t)) (came one)) → Fair (step_of s one row) (came tx)
-  step_fair one row came kinds fair = subst (λ st. Fair st (came tx)) (sym (step_is one row)) (turn_fair one (λ t. going (row t)) came kinds fair)
+  step_fair one row came kinds fair = subst (λ st. Fair st (came tx)) (sym (step_is s one row)) (turn_fair one (λ t. going (row t)) came kinds fair)
 
   -- a turn that answers nothing
   still : (one : TxId) (t : Transaction) (turn : Turn) → are_of is_keyless turn.step.effects.sends ≡ true → has_asked turn.step.state ≤ has_asked t → IsFair one t turn 0
@@ -355,17 +251,17 @@ module _ (tx : TxId) (s : TcState) where
 
   pub tc_fair : (body : Body) → Fair (tc_row s body) (one_if (key_of_tx tx body))
   unfolding begin_row pass_row
-  tc_fair (Host (Continue (work.Transaction one) at)) = step_fair one _ (λ x. 0) (λ t. go_on_kinds s.node s.view one t at) (λ t. still one t (going (go_on_row s.node s.view one t at)) (keyless.go_on_keyless s.node s.view one t at) (go_on_stays one t s.node s.view at))
+  tc_fair (Host (Continue (work.Transaction one) at)) = step_fair one _ (λ x. 0) (λ t. go_on_kinds s.node s.view one t at) (λ t. still one t (going (go_on_row s.node s.view one t at)) (keyless.go_on_keyless s.node s.view one t at) ((stays one t s.node s.view (Host (Continue (work.Transaction one) at)) (λ op is. cc)).goes_on at refl))
   tc_fair (Client (TcBeginReq name)) = begin_fair name (is_full s)
   tc_fair (Client (TcKeyReq one op)) = step_fair one _ (λ x. one_if (same_tx one x)) (λ t. operate_kinds s.view one t op) (λ t. operate_fair one op t)
-  tc_fair (Client (TcCommitReq one)) = step_fair one _ (λ x. 0) (λ t. decide_kinds s.node one t) (λ t. still one t (going (commit.decide_row s.node one t)) (keyless.decide_keyless s.node one t) (decide_stays one t s.node))
-  tc_fair (Client (TcRollbackReq one)) = turn_fair one _ (λ x. 0) (λ t. rollback_kinds s.node s.view one t) (λ t. still one t (abort.rollback_row s.node s.view one t) (keyless.rollback_keyless s.node s.view one t) (rollback_stays one t s.node s.view))
-  tc_fair (Client (TcWaitReq one)) = step_fair one _ (λ x. 0) (λ t. wait_kinds one t) (λ t. still one t (going (operate.wait_row one t)) (keyless.wait_keyless one t) (wait_stays one t))
+  tc_fair (Client (TcCommitReq one)) = step_fair one _ (λ x. 0) (λ t. decide_kinds s.node one t) (λ t. still one t (going (commit.decide_row s.node one t)) (keyless.decide_keyless s.node one t) ((stays one t s.node s.view (Client (TcCommitReq one)) (λ op is. cc)).decides refl))
+  tc_fair (Client (TcRollbackReq one)) = turn_fair one _ (λ x. 0) (λ t. rollback_kinds s.node s.view one t) (λ t. still one t (abort.rollback_row s.node s.view one t) (keyless.rollback_keyless s.node s.view one t) ((stays one t s.node s.view (Client (TcRollbackReq one)) (λ op is. cc)).rolls_back refl))
+  tc_fair (Client (TcWaitReq one)) = step_fair one _ (λ x. 0) (λ t. wait_kinds one t) (λ t. still one t (going (operate.wait_row one t)) (keyless.wait_keyless one t) ((stays one t s.node s.view (Client (TcWaitReq one)) (λ op is. cc)).waits refl))
   tc_fair (Client (LqhWaitConf one ahead)) = pass_fair one ahead (is_some (place_in s one))
   tc_fair (Chain (LqhKeyConf one at answer)) = step_fair one _ (λ x. 0) (λ t. answer_kinds s.view one t at answer) (λ t. answer_fair one t s.view at answer)
-  tc_fair (Chain (LqhKeyRef one at why)) = turn_fair one _ (λ x. 0) (λ t. refuse_kinds s.node s.view one t at why) (λ t. still one t (abort.refuse_row s.node s.view one t at why) (keyless.refuse_keyless s.node s.view one t at why) (refuse_stays one t s.node s.view at why))
-  tc_fair (Chain (Committed one at)) = turn_fair one _ (λ x. 0) (λ t. committed_kinds s.node s.view one t) (λ t. still one t (commit.committed_row s.node s.view one t) (keyless.committed_keyless s.node s.view one t) (committed_stays one t s.node s.view))
-  tc_fair (Chain (Completed one at)) = turn_fair one _ (λ x. 0) (λ t. completed_kinds s.node one t) (λ t. still one t (complete.completed_row s.node one t) (keyless.completed_keyless s.node one t) (completed_stays one t s.node))
-  tc_fair (Chain (Aborted one at)) = turn_fair one _ (λ x. 0) (λ t. aborted_kinds s.node one t) (λ t. still one t (abort.aborted_row s.node one t) (keyless.aborted_keyless s.node one t) (aborted_stays one t s.node))
-  tc_fair (Epoch (DiVerifyConf one epoch)) = turn_fair one _ (λ x. 0) (λ t. commit_kinds s.node s.view one t epoch) (λ t. still one t (commit.commit_row s.node s.view one t epoch) (keyless.commit_keyless s.node s.view one t epoch) (commit_stays one t s.node s.view epoch))
+  tc_fair (Chain (LqhKeyRef one at why)) = turn_fair one _ (λ x. 0) (λ t. refuse_kinds s.node s.view one t at why) (λ t. still one t (abort.refuse_row s.node s.view one t at why) (keyless.refuse_keyless s.node s.view one t at why) ((stays one t s.node s.view (Chain (LqhKeyRef one at why)) (λ op is. cc)).refuses at why refl))
+  tc_fair (Chain (Committed one at)) = turn_fair one _ (λ x. 0) (λ t. committed_kinds s.node s.view one t) (λ t. still one t (commit.committed_row s.node s.view one t) (keyless.committed_keyless s.node s.view one t) ((stays one t s.node s.view (Chain (Committed one at)) (λ op is. cc)).committed at refl))
+  tc_fair (Chain (Completed one at)) = turn_fair one _ (λ x. 0) (λ t. completed_kinds s.node one t) (λ t. still one t (complete.completed_row s.node one t) (keyless.completed_keyless s.node one t) ((stays one t s.node s.view (Chain (Completed one at)) (λ op is. cc)).completed at refl))
+  tc_fair (Chain (Aborted one at)) = turn_fair one _ (λ x. 0) (λ t. aborted_kinds s.node one t) (λ t. still one t (abort.aborted_row s.node one t) (keyless.aborted_keyless s.node one t) ((stays one t s.node s.view (Chain (Aborted one at)) (λ op is. cc)).aborted at refl))
+  tc_fair (Epoch (DiVerifyConf one epoch)) = turn_fair one _ (λ x. 0) (λ t. commit_kinds s.node s.view one t epoch) (λ t. still one t (commit.commit_row s.node s.view one t epoch) (keyless.commit_keyless s.node s.view one t epoch) ((stays one t s.node s.view (Epoch (DiVerifyConf one epoch)) (λ op is. cc)).commits epoch refl))
   tc_fair _ = omega arith

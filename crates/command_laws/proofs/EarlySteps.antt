@@ -241,4 +241,4 @@ module _ (tx : TxId) where
             by (inr away) = absurd (let both : Some t ≡ None = sym live ∙ not_home tx s.node s.next_seq s.live sound.own away in cc)
 
         q : IsLeaving (turn_by s tx body t)
-        q = past_turn s tx body t (wish_kind body wish same) (subst PastOption live (was home).past)
+        q = past_turn s tx body t (wish_kind body wish same) same (subst PastOption live (was home).past)

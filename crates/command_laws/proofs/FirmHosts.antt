@@ -110,7 +110,7 @@ module _ (tx : TxId) where
     own_turn step same r = by (turn_by s (tx_in body) body r.t).over refl
       where
         stays : StaysFirm (turn_by s (tx_in body) body r.t)
-        stays = firm_turn s (tx_in body) body r.t (not_push body plain same) (each_at (λ (e : TxId × Transaction). same_tx e.0 tx ≡ true → is_firm e.1.phase e.1.asked ≡ true) r.front (tx_in body, r.t) r.back s.live r.is firm same)
+        stays = firm_turn s (tx_in body) body r.t refl (not_push body plain same) (each_at (λ (e : TxId × Transaction). same_tx e.0 tx ≡ true → is_firm e.1.phase e.1.asked ≡ true) r.front (tx_in body, r.t) r.back s.live r.is firm same)
 
         quiet : sends_of (is_back tx) step.effects.sends ≡ 0
         quiet = ap (λ effects. sends_of (is_back tx) effects.sends) r.effects ∙ none_of is_no_abort (is_back tx) no_back_firm (turn_by s (tx_in body) body r.t).step.effects.sends stays.sends
@@ -132,7 +132,7 @@ module _ (tx : TxId) where
         quiet : sends_of (is_back tx) step.effects.sends ≡ 0
         quiet =
             ap (λ effects. sends_of (is_back tx) effects.sends) r.effects
-            ∙ none_of (is_own_kind (tx_in body)) (is_back tx) (no_back_other (tx_in body) differs) (turn_by s (tx_in body) body r.t).step.effects.sends (turn_own s (tx_in body) body r.t)
+            ∙ none_of (is_own_kind (tx_in body)) (is_back tx) (no_back_other (tx_in body) differs) (turn_by s (tx_in body) body r.t).step.effects.sends (turn_own s (tx_in body) body r.t refl)
 
         by : (b : Bool) → (turn_by s (tx_in body) body r.t).over ≡ b → KeepsFirm step.state.live step.effects.sends
         by true over = record {

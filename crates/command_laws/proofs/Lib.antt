@@ -32,7 +32,6 @@ pub mod OperateAsks
 pub mod OperateGoes
 pub mod OperationAnswered
 pub mod OwnSends
-pub mod PhaseSends
 pub mod Places
 pub mod Pushes
 pub mod QuietCuts

@@ -34,11 +34,12 @@ use Rattle.command_laws.proofs.First.{IsFirst, request_first}
 use Rattle.command_laws.proofs.LoneBegins.{HasBegun, IsAlone, IsAskedAlone, WasRefused, alone_first, begin_goes}
 use Rattle.command_laws.proofs.LoneWishes.{wishes_since}
 use Rattle.command_laws.proofs.OperateGoes.{HasAnswered, IsAnswering, operate_goes}
-use Rattle.command_laws.proofs.Since.{all_taken, none_counted, sent_since}
+use Rattle.command_laws.proofs.Since.{all_taken, sent_since}
 use Rattle.command_laws.proofs.TcPath.{none_there}
 use Rattle.command_laws.proofs.TellsSince.{OnTc}
 use Rattle.command_laws.specs.Alone.{IsRefusedAlone, IsTurnedAway, LoneOperationsAreAnswered, WaitsAlone}
 use Rattle.command_laws.specs.Served.{IsAnsweredAlone, IsServed}
+use Rattle.transit_laws.proofs.Weighing.{none_passes}
 
 -- what was so behind some steps and a log was so behind that log
 module _ (start : Start) (newer : List LogStep) (step : LogStep) (older log : List LogStep) where
@@ -131,7 +132,7 @@ module _ (answered : EachIsAnswered) (start : Start) (was now : ℕ → List Log
       own = has.own;
       does = has.does;
       waits = by has.item.doing has.item.tx has.does has.own (answered start now has.item served.since has.inside);
-      begun_since = none_counted (has_tx b.tx) (opened_after start was) (omega (arith, (holds_at start b.tx was served.before).few, unbegun));
+      begun_since = none_passes (has_tx b.tx) (opened_after start was) (omega (arith, (holds_at start b.tx was served.before).few, unbegun));
     }
       where
         by : (doing : Doing) (o : Option TxId) → doing ≡ Operating → o ≡ Some b.tx → is_answered_by start now doing o → WaitsForLock start now b.tx

@@ -20,15 +20,7 @@ use Rattle.answer_laws.proofs.LinkCounts.{sent_signals, signals, taken_signals}
 use Rattle.answer_laws.proofs.Tally.{one_if, tally, tally_past}
 use Rattle.answer_laws.proofs.Wishes.{sends_of, to_node}
 use Rattle.answer_laws.specs.Answered.{AreQuiet}
-
--- where none is counted each fails
-pub none_counted : {A : Type 0} (p : A → Bool) (xs : List A) → tally p xs ≡ 0 → Each (λ x. p x ≡ false) xs
-none_counted p [] none = tt
-none_counted p (x ∷ xs) none = (by (p x) refl, none_counted p xs (omega (arith, none)))
-  where
-    by : (b : Bool) → p x ≡ b → p x ≡ false
-    by true e = absurd (omega (arith, none, ap one_if e))
-    by false e = e
+use Rattle.transit_laws.proofs.Weighing.{none_passes}
 
 module _ (start : Start) (test : Place → Body → Bool) where
   -- how many signals that pass the test the newer steps of host h sent, behind its log
@@ -121,7 +113,7 @@ module _ (start : Start) (was now : ℕ → List LogStep) (before : AreQuiet sta
         one e inside plain =
             let i = e.taken.from.0 in
             let zero : taken_since start test i (newer_at j) ≡ 0 = omega (arith, few_taken i j, none i) in
-            let off = each_in (λ (f : LogStep). (is_from (machine start) i f && test f.taken.to f.taken.body) ≡ false) e (newer_at j) (none_counted _ (newer_at j) zero) inside in
+            let off = each_in (λ (f : LogStep). (is_from (machine start) i f && test f.taken.to f.taken.body) ≡ false) e (newer_at j) (none_passes _ (newer_at j) zero) inside in
             ap (λ b. b && test e.taken.to e.taken.body) (sym (from_link i e plain refl)) ∙ off
 
     -- all that was sent to a host since then was taken there

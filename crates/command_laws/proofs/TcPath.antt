@@ -167,7 +167,7 @@ module _ (tx : TxId) where
         quiet : sends_of (is_told tx) step.effects.sends ≡ 0
         quiet =
             ap (λ effects. sends_of (is_told tx) effects.sends) r.effects
-            ∙ none_of (is_own_kind (tx_in body)) (is_told tx) (none_other (tx_in body) differs) (turn_by s (tx_in body) body r.t).step.effects.sends (turn_own s (tx_in body) body r.t)
+            ∙ none_of (is_own_kind (tx_in body)) (is_told tx) (none_other (tx_in body) differs) (turn_by s (tx_in body) body r.t).step.effects.sends (turn_own s (tx_in body) body r.t refl)
 
         was : of_live tx s.live ≡ of_live tx (r.front ++ r.back)
         was = ap (of_live tx) r.is ∙ past_other r.front (tx_in body) r.t r.back differs

@@ -35,7 +35,7 @@ use Rattle.command_laws.proofs.FirmHosts.{is_back, no_back_firm, not_push, push_
 use Rattle.command_laws.proofs.TcPath.{IsSound, TcGoes, aside, begins, is_told, left_by, none_dih, none_lqh, takes, tc_goes, told_of}
 use Rattle.command_laws.proofs.Turns.{turn_by}
 use Rattle.commit_laws.proofs.Keys.{same_tx-self}
-use Rattle.command_laws.proofs.TurnTells.{TurnTells, is_reply, is_wish_back, turn_tells}
+use Rattle.command_laws.proofs.TurnTells.{TurnTells, is_reply, turn_tells}
 
 -- where one test implies another, fewer signals pass it
 pub sends_less : (p q : Place → Body → Bool) → ((to : Place) (body : Body) → p to body ≡ true → q to body ≡ true) → (xs : List Outgoing) → sends_of p xs ≤ sends_of q xs
@@ -74,10 +74,6 @@ module _ (tx : TxId) where
   -- where nothing is told of it, it isn't answered, nor is its abort reported
   pub none_told : (xs : List Outgoing) → sends_of (is_told tx) xs ≡ 0 → (sends_of (is_reply tx) xs ≡ 0) × (sends_of (is_back tx) xs ≡ 0)
   none_told xs none = (omega (arith, none, sends_less (is_reply tx) (is_told tx) reply_told xs), omega (arith, none, sends_less (is_back tx) (is_told tx) back_told xs))
-
-  wish_kind : (body : Body) → wish_back_of tx body ≡ false → tx_in body ≡ tx → is_wish_back body ≡ false
-  wish_kind (Client (TcRollbackReq other)) off same = absurd (let both : false ≡ true = sym off ∙ (ap (λ v. same_tx v tx) same ∙ same_tx-self tx) in cc)
-  wish_kind _ off same = refl
 
   push_none : (body : Body) → wish_back_of tx body ≡ false → key_of_tx tx body ≡ false → push_of tx body ≡ false
   push_none (Client (TcKeyReq other op)) wish key = key
@@ -167,12 +163,12 @@ module _ (tx : TxId) where
           by : (b : Bool) → key_of_tx tx body ≡ b → AfterStep step
           by true key = absurd (omega (arith, some.0, has.fair, once, ap one_if key))
           by false key =
-              let stays = firm_turn s tx body t (not_push tx body (push_none body wish key) (ap (λ v. same_tx v tx) same ∙ same_tx-self tx)) (subst IsFirmNow was firm) in
+              let stays = firm_turn s tx body t same (not_push tx body (push_none body wish key) (ap (λ v. same_tx v tx) same ∙ same_tx-self tx)) (subst IsFirmNow was firm) in
               let quiet = none_of is_no_abort (is_back tx) (no_back_firm tx) (turn_by s tx body t).step.effects.sends stays.sends in
               inr (inl ((omega (arith, some.0), omega (arith, some.1, ap (sends_of (is_back tx)) sends, quiet)), (subst IsFirmNow (sym left) (left_firm (turn_by s tx body t) (λ over. stays.firm)), early)))
 
       takes_next : IsOneOfThree a r s → AfterStep step
-      takes_next (inl none) = first_next none (turn_tells s tx body t (wish_kind body wish same))
+      takes_next (inl none) = first_next none (turn_tells s tx body t same)
       takes_next (inr (inl q)) = firm_next q.0 q.1.0
       takes_next (inr (inr q)) = absurd (let both : Some t ≡ None = sym was ∙ q.1.0 in cc)
 

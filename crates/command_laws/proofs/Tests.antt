@@ -1,15 +1,10 @@
 -- Tests put together.
 use Rattle.std.proofs.Common.{◌≡◌, Bool, true, false, refl}
-use Rattle.std.specs.Prelude.{◌&&◌, if◌then◌else◌}
+use Rattle.std.specs.Prelude.{◌&&◌}
 use Rattle.sig_core.specs.declared.log.LogStep.{LogStep}
 use Rattle.sig_core.specs.declared.place.Place.{Place}
 use Rattle.sig_core.specs.declared.signal.Body.{Body}
 use Rattle.node_core.specs.Requests.{is_request}
-
--- one signal of a kind
-pub one_kind : (b : Bool) → b ≡ true → (if b then true else false) ≡ true
-one_kind true e = refl
-one_kind false e = cc
 
 pub and_off : (a : Bool) {b : Bool} → b ≡ false → (a && b) ≡ false
 and_off true p = p

@@ -26,6 +26,7 @@ use Rattle.tc_block.specs.Sends.{go_on_row}
 use Rattle.tc_block.specs.State.{TcState, with_live}
 use Rattle.tc_block.specs.Tc.{begin_if, begin_row, begun, is_full, next_tx, pass_if, pass_row, tc_row}
 use Rattle.tc_block.specs.Turn.{Turn, going}
+use Rattle.commit_laws.proofs.EachTurn.{RowsAre, TurnForms, rows_of}
 use Rattle.answer_laws.proofs.SendKinds.{are_of}
 use Rattle.answer_laws.proofs.TcMoves.{IsEntry, found, same_tx-is}
 use Rattle.answer_laws.proofs.TcSends.{tx_in}
@@ -44,6 +45,24 @@ turn_by s tx (Chain (Completed one key)) t = completed_row s.node tx t
 turn_by s tx (Chain (Aborted one key)) t = aborted_row s.node tx t
 turn_by s tx (Epoch (DiVerifyConf one epoch)) t = commit_row s.node s.view tx t epoch
 turn_by s tx _ t = going (stay t)
+
+-- what holds of each form of turn that the transaction may take at the signal holds of the turn
+pub turn_at : (s : TcState) (tx : TxId) (body : Body) (t : Transaction) (R : Turn → Type 0) → tx_in body ≡ tx → TurnForms s.node s.view tx t body R → R (turn_by s tx body t)
+turn_at s tx body t R same forms = by body same (rows_of s.node s.view tx t body R forms)
+  where
+    by : (b : Body) → tx_in b ≡ tx → RowsAre s.node s.view tx t b R → R (turn_by s tx b t)
+    by (Host (Continue (work.Transaction one) at)) e rows = rows.goes_on at (ap (λ x. Host (Continue (work.Transaction x) at)) e)
+    by (Client (TcKeyReq one op)) e rows = rows.operates op (ap (λ x. Client (TcKeyReq x op)) e)
+    by (Client (TcCommitReq one)) e rows = rows.decides (ap (λ x. Client (TcCommitReq x)) e)
+    by (Client (TcRollbackReq one)) e rows = rows.rolls_back (ap (λ x. Client (TcRollbackReq x)) e)
+    by (Client (TcWaitReq one)) e rows = rows.waits (ap (λ x. Client (TcWaitReq x)) e)
+    by (Chain (LqhKeyConf one key answer)) e rows = rows.answers key answer (ap (λ x. Chain (LqhKeyConf x key answer)) e)
+    by (Chain (LqhKeyRef one key why)) e rows = rows.refuses key why (ap (λ x. Chain (LqhKeyRef x key why)) e)
+    by (Chain (Committed one key)) e rows = rows.committed key (ap (λ x. Chain (Committed x key)) e)
+    by (Chain (Completed one key)) e rows = rows.completed key (ap (λ x. Chain (Completed x key)) e)
+    by (Chain (Aborted one key)) e rows = rows.aborted key (ap (λ x. Chain (Aborted x key)) e)
+    by (Epoch (DiVerifyConf one epoch)) e rows = rows.commits epoch (ap (λ x. Epoch (DiVerifyConf x epoch)) e)
+    by _ e rows = forms.stays
 
 -- what is sent where no transaction takes a turn and none begins
 abbrev pub is_idle_kind : Body → Bool

@@ -33,7 +33,7 @@ use Rattle.tc_block.specs.Sends.{wait_of, waits_of}
 use Rattle.tc_block.specs.State.{TcState, with_live}
 use Rattle.tc_block.specs.Tc.{pass_if, pass_row, tc_row}
 use Rattle.answer_laws.proofs.LqhOps.{is_lqh, true_and}
-use Rattle.answer_laws.proofs.SendKinds.{are_of, none_of, of_map}
+use Rattle.answer_laws.proofs.SendKinds.{are_of, none_of, of_map, one_kind}
 use Rattle.answer_laws.proofs.Tally.{one_if, tally, tally_in}
 use Rattle.answer_laws.proofs.TcLives.{is_keyed}
 use Rattle.answer_laws.proofs.TcMoves.{same_tx-is}
@@ -43,7 +43,6 @@ use Rattle.commit_laws.proofs.Firsts.{place_by, position-cons}
 use Rattle.commit_laws.proofs.Keys.{same_key-self, same_tx-self}
 use Rattle.commit_laws.proofs.LiveSplit.{split_at}
 use Rattle.transit_laws.specs.Live.{of_live}
-use Rattle.command_laws.proofs.Tests.{one_kind}
 
 -- a question of what the transaction waits for, or an answer to one
 abbrev pub is_wait_of : TxId → Body → Bool

@@ -11,7 +11,6 @@ use Rattle.sig_core.specs.declared.member.TxId.{TxId}
 use Rattle.sig_core.specs.declared.op.Answer.{Answer}
 use Rattle.sig_core.specs.declared.op.Answer.TheVariants as answer
 use Rattle.sig_core.specs.declared.op.Op.{Op}
-use Rattle.sig_core.specs.declared.outcome.AbortCause.{AbortCause}
 use Rattle.sig_core.specs.declared.outcome.AbortCause.TheVariants as cause
 use Rattle.sig_core.specs.declared.outs.Outgoing.{Outgoing}
 use Rattle.sig_core.specs.declared.signal.Body.{Body}
@@ -21,7 +20,6 @@ use Rattle.sig_core.specs.declared.signal.chain.RowWork.{RowWork}
 use Rattle.sig_core.specs.declared.signal.chain.RowWork.TheVariants.{Operate, Store}
 use Rattle.sig_core.specs.declared.signal.client.ClientSignal.TheVariants.{LqhWaitReq, LqhWaitConf, DumpReq, DumpConf}
 use Rattle.sig_core.specs.declared.signal.host.HostSignal.TheVariants.{Round, Continue}
-use Rattle.sig_core.specs.declared.signal.host.Work.{Work}
 use Rattle.sig_core.specs.declared.signal.host.Work.TheVariants as work
 use Rattle.sig_core.specs.Chain.{node_at}
 use Rattle.sig_core.specs.Op.{answer_to, image_of, key_of}
@@ -48,7 +46,8 @@ use Rattle.lqh_block.specs.Work.{work_key}
 
 -- what is sent of a request that is performed: it is refused or answered, or its image goes to the next place of its chain
 pub record RequestSends (P : Outgoing → Type 0) (r : Request) : Type 0 where
-  pub refuses : (why : AbortCause) → P (storage.refusal r.tx (work_key r.work) why)
+  pub log_full : (used reserved need : ℕ) → P (storage.refusal r.tx (work_key r.work) (cause.LogFull used reserved need))
+  pub table_full : (rows : ℕ) → P (storage.refusal r.tx (work_key r.work) (cause.TableFull rows))
   pub answers : (a : Answer) → P (storage.confirmed r.tx (work_key r.work) a)
   pub passes : (image : Option (List ℕ)) (next : Member) → slice_get r.chain (r.at + 1) ≡ Some next
       → P (to_place (rows_of next.node) (Chain (LqhKeyReq r.tx (Store (work_key r.work) image) r.chain (r.at + 1))))
@@ -58,7 +57,8 @@ pub record RequestSends (P : Outgoing → Type 0) (r : Request) : Type 0 where
 pub record RowsSend (P : Outgoing → Type 0) (s : LqhState) (body : Body) : Type 0 where
   pub asked : (r : Request) → body ≡ Chain (LqhKeyReq r.tx r.work r.chain r.at) → RequestSends P r
   pub waited : (at : ℕ) (r : Request) → slice_get s.waiting at ≡ Some r → RequestSends P r
-  pub goes_on : (what : Work) → P (go_on s.node what)
+  pub grants_more : P (go_on s.node work.Granted)
+  pub expires_more : P (go_on s.node work.Expired)
   pub commits_on : (tx : TxId) (key : List ℕ) (epoch : ℕ) (chain : List Member) (at : ℕ) → body ≡ Chain (Commit tx key epoch chain at) → (at == 0) ≡ false
       → P (to_place (rows_of (node_at chain (at - 1))) (Chain (Commit tx key epoch chain (at - 1))))
   pub committed : (tx : TxId) (key : List ℕ) → P (to_place (coordinator_of tx) (Chain (Committed tx key)))
@@ -66,7 +66,8 @@ pub record RowsSend (P : Outgoing → Type 0) (s : LqhState) (body : Body) : Typ
       → P (to_place (rows_of (node_at chain (at - 1))) (Chain (Complete tx key chain (at - 1))))
   pub completed : (tx : TxId) (key : List ℕ) → P (to_place (coordinator_of tx) (Chain (Completed tx key)))
   pub aborted : (tx : TxId) (key : List ℕ) → P (to_place (coordinator_of tx) (Chain (Aborted tx key)))
-  pub refuses : (tx : TxId) (key : List ℕ) (why : AbortCause) → P (storage.refusal tx key why)
+  pub gives_up : (tx : TxId) (key : List ℕ) → body ≡ Chain (Abort tx key) → P (storage.refusal tx key cause.Request)
+  pub times_out : (tx : TxId) (key : List ℕ) → P (storage.refusal tx key cause.Timeout)
   pub waits : (tx ahead : TxId) → P (to_place (coordinator_of tx) (Client (LqhWaitConf tx ahead)))
   pub dumps : (rows : List (List ℕ × List ℕ)) (next : Option ℕ) → P (to_place client (Client (DumpConf rows next)))
 
@@ -95,8 +96,8 @@ module _ (P : Outgoing → Type 0) (M : Mark → Type 0) where
     stored s key image is = subst (λ k. StepEach P M (storage.store_if s r.tx k image r.chain r.at (storage.is_log_full s.journal (storage.need_of r.tx k image)) (is_full s.rows k))) is (by _ _)
       where
         by : (log full : Bool) → StepEach P M (storage.store_if s r.tx (work_key r.work) image r.chain r.at log full)
-        by true full = record { sends = (sends.refuses _, tt); marks = tt }
-        by false true = record { sends = (sends.refuses _, tt); marks = tt }
+        by true full = record { sends = (sends.log_full _ _ _, tt); marks = tt }
+        by false true = record { sends = (sends.table_full _, tt); marks = tt }
         by false false = record { sends = (passed image (slice_get r.chain (r.at + 1)) refl, tt); marks = (marks r.tx (work_key r.work), tt) }
 
     operated : (s : StorageState) (op : Op) (a : Answer) → work_key r.work ≡ key_of op → StepEach P M (storage.operate_by s r.tx op r.chain r.at a)
@@ -115,9 +116,13 @@ module _ (P : Outgoing → Type 0) (M : Mark → Type 0) where
         by (Store key image) is = stored s key image is
 
   module _ (s : LqhState) (body : Body) (sends : RowsSend P s body) (marks : RowsMark M s body) where
-    goes_on_if : (what : Work) (b : Bool) → Each P (go_on_if s.node what b)
-    goes_on_if what true = (sends.goes_on what, tt)
-    goes_on_if what false = tt
+    grants_if : (b : Bool) → Each P (go_on_if s.node work.Granted b)
+    grants_if true = (sends.grants_more, tt)
+    grants_if false = tt
+
+    expires_if : (b : Bool) → Each P (go_on_if s.node work.Expired b)
+    expires_if true = (sends.expires_more, tt)
+    expires_if false = tt
 
     requested : (t : LqhState) (r : Request) → RequestSends P r → StepEach P M (operate.request_row t r)
     unfolding operate.request_row
@@ -137,7 +142,7 @@ module _ (P : Outgoing → Type 0) (M : Mark → Type 0) where
             let left = with_waiting s (remove s.waiting at) in
             let own = performed r (sends.waited at r is) marks.prepared (storage_of left) in
             record {
-              sends = each_append P (operate.performed left r).effects.sends (operate.more_granted left) own.sends (goes_on_if work.Granted (is_some (operate.first_granted left.locks left.waiting)));
+              sends = each_append P (operate.performed left r).effects.sends (operate.more_granted left) own.sends (grants_if (is_some (operate.first_granted left.locks left.waiting)));
               marks = own.marks;
             }
 
@@ -155,7 +160,7 @@ module _ (P : Outgoing → Type 0) (M : Mark → Type 0) where
 
         told : (t : LqhState) → t.node ≡ s.node → (had : Option Bool) → record_state s.rows tx key ≡ had → (b : Bool) → (at == 0) ≡ b → StepEach P M (commit.told_if t tx key epoch chain at had b)
         told t same had there true first = record {
-          sends = (sends.committed tx key, subst (λ n. Each P (serve_granted n (freed_lock t tx key))) (sym same) (goes_on_if work.Granted (nat_lt 0 (freed_lock t tx key).granted)));
+          sends = (sends.committed tx key, subst (λ n. Each P (serve_granted n (freed_lock t tx key))) (sym same) (grants_if (nat_lt 0 (freed_lock t tx key).granted)));
           marks = applied_marks had there first;
         }
         told t same had there false first = record { sends = (sends.commits_on tx key epoch chain at is first, tt); marks = tt }
@@ -168,7 +173,7 @@ module _ (P : Outgoing → Type 0) (M : Mark → Type 0) where
     completes : (tx : TxId) (key : List ℕ) (chain : List Member) (at : ℕ) → body ≡ Chain (Complete tx key chain at) → StepEach P M (complete.complete_row s tx key chain at)
     unfolding complete.complete_row
     completes tx key chain at is =
-        record { sends = (by (at == 0) refl, goes_on_if work.Granted (nat_lt 0 (freed_lock s tx key).granted)); marks = (marks.completed tx key chain at is, tt) }
+        record { sends = (by (at == 0) refl, grants_if (nat_lt 0 (freed_lock s tx key).granted)); marks = (marks.completed tx key chain at is, tt) }
       where
         by : (b : Bool) → (at == 0) ≡ b → P (complete.completed_by tx key chain at b)
         by true first = sends.completed tx key
@@ -178,13 +183,13 @@ module _ (P : Outgoing → Type 0) (M : Mark → Type 0) where
     unfolding abort.abort_row
     aborts tx key is = record {
       sends = each_append P (abort.refused_by tx key (abort.waits_at s tx key)) _ (refused (abort.waits_at s tx key))
-          (sends.aborted tx key, goes_on_if work.Granted (nat_lt 0 (freed_lock s tx key).granted));
+          (sends.aborted tx key, grants_if (nat_lt 0 (freed_lock s tx key).granted));
       marks = given_marks (record_state s.rows tx key) refl;
     }
       where
         refused : (at : Option ℕ) → Each P (abort.refused_by tx key at)
         refused None = tt
-        refused (Some at) = (sends.refuses tx key cause.Request, tt)
+        refused (Some at) = (sends.gives_up tx key is, tt)
 
         given_marks : (had : Option Bool) → record_state s.rows tx key ≡ had → Each M (abort.given_up_marks tx key had)
         given_marks None there = tt
@@ -201,9 +206,9 @@ module _ (P : Outgoing → Type 0) (M : Mark → Type 0) where
             let served = unwaited_at t.locks w.1 w.0 in
             record {
               sends = (
-                sends.refuses w.0 w.1 cause.Timeout,
+                sends.times_out w.0 w.1,
                 subst (λ n. Each P (serve_granted n served ++ go_on_if n work.Expired (is_some (expired (with_lock t w.1 served).locks)))) (sym same)
-                    (each_append P (serve_granted s.node served) _ (goes_on_if work.Granted (nat_lt 0 served.granted)) (goes_on_if work.Expired (is_some (expired (with_lock t w.1 served).locks)))),
+                    (each_append P (serve_granted s.node served) _ (grants_if (nat_lt 0 served.granted)) (expires_if (is_some (expired (with_lock t w.1 served).locks)))),
               );
               marks = (marks.expired w.0 w.1, tt);
             }
@@ -236,19 +241,21 @@ module _ (P : Outgoing → Type 0) (M : Mark → Type 0) where
   lqh_each s _ sends marks = record { sends = tt; marks = tt }
 
 request_any : (r : Request) → RequestSends (λ (o : Outgoing). Unit {0}) r
-request_any r = record { refuses = λ why. tt; answers = λ a. tt; passes = λ image next is. tt }
+request_any r = record { log_full = λ used reserved need. tt; table_full = λ rows. tt; answers = λ a. tt; passes = λ image next is. tt }
 
 send_any : (s : LqhState) (body : Body) → RowsSend (λ (o : Outgoing). Unit {0}) s body
 send_any s body = record {
   asked = λ r is. request_any r;
   waited = λ at r is. request_any r;
-  goes_on = λ what. tt;
+  grants_more = tt;
+  expires_more = tt;
   commits_on = λ tx key epoch chain at is behind. tt;
   committed = λ tx key. tt;
   completes_on = λ tx key chain at is behind. tt;
   completed = λ tx key. tt;
   aborted = λ tx key. tt;
-  refuses = λ tx key why. tt;
+  gives_up = λ tx key is. tt;
+  times_out = λ tx key. tt;
   waits = λ tx ahead. tt;
   dumps = λ rows next. tt;
 }

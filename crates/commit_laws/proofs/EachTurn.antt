@@ -37,9 +37,9 @@ abbrev pub no_view : View
 no_view = record { number = 0; full = []; starting = [] }
 
 -- an abort begins, or has nothing to wait for
-pub record AbortForms (node : ℕ) (view : View) (tx : TxId) (t : Transaction) (R : Turn → Type 0) : Type 0 where
-  pub enters : (why : AbortCause) → (abort.aborts_awaited view t == 0) ≡ false → R (going (entering node view tx t (Aborting why (abort.is_verifying t.phase) (abort.aborts_awaited view t))))
-  pub ends : (why : AbortCause) → (abort.aborts_awaited view t == 0) ≡ true → R (abort.abort_if node view tx t why true)
+pub record AbortForms (node : ℕ) (view : View) (tx : TxId) (t : Transaction) (why : AbortCause) (R : Turn → Type 0) : Type 0 where
+  pub enters : (abort.aborts_awaited view t == 0) ≡ false → R (going (entering node view tx t (Aborting why (abort.is_verifying t.phase) (abort.aborts_awaited view t))))
+  pub ends : (abort.aborts_awaited view t == 0) ≡ true → R (abort.abort_if node view tx t why true)
 
 -- all keys are committed: what was written is completed, or nothing was
 pub record CommittedForms (node : ℕ) (view : View) (tx : TxId) (t : Transaction) (epoch : ℕ) (R : Turn → Type 0) : Type 0 where
@@ -68,8 +68,8 @@ pub record TurnForms (node : ℕ) (view : View) (tx : TxId) (t : Transaction) (b
   pub completed : (epoch awaited : ℕ) → t.phase ≡ Completing epoch awaited → nat_lt 1 awaited ≡ true → R (going (stay (at_phase t (Completing epoch (awaited - 1)))))
   pub completed_all : (epoch awaited : ℕ) → t.phase ≡ Completing epoch awaited → nat_lt 1 awaited ≡ false → R (complete.completed_if node tx t epoch awaited false)
   -- it is given up: the client wishes it, or an operation is refused
-  pub rolls_back : is_decided t.phase ≡ false → is_aborting t.phase ≡ false → AbortForms node view tx t R
-  pub refuses : (asked : Asked) → t.asked ≡ Some asked → t.phase ≡ Open → AbortForms node view tx (asking t None) R
+  pub rolls_back : body ≡ Client (TcRollbackReq tx) → is_decided t.phase ≡ false → is_aborting t.phase ≡ false → AbortForms node view tx t cause.Request R
+  pub refuses : (key : List ℕ) (why : AbortCause) (asked : Asked) → body ≡ Chain (LqhKeyRef tx key why) → t.asked ≡ Some asked → t.phase ≡ Open → AbortForms node view tx (asking t None) why R
   -- a replica has aborted a key, the last one or not
   pub aborted : (why : AbortCause) (verifying : Bool) (awaited : ℕ) → t.phase ≡ Aborting why verifying awaited → nat_lt 1 awaited ≡ true
       → R (going (stay (at_phase t (Aborting why verifying (awaited - 1)))))
@@ -183,33 +183,33 @@ module _ (node : ℕ) (view : View) (tx : TxId) (t : Transaction) (body : Body) 
       by (Committing epoch awaited) at = forms.stays
       by (Aborting why verifying awaited) at = forms.stays
 
-  aborts : (u : Transaction) (why : AbortCause) → AbortForms node view tx u R → R (abort.aborted_for node view tx u why)
+  aborts : (u : Transaction) (why : AbortCause) → AbortForms node view tx u why R → R (abort.aborted_for node view tx u why)
   unfolding abort.aborted_for
   aborts u why own = by (abort.aborts_awaited view u == 0) refl
     where
       by : (b : Bool) → (abort.aborts_awaited view u == 0) ≡ b → R (abort.abort_if node view tx u why b)
-      by true none = own.ends why none
-      by false none = own.enters why none
+      by true none = own.ends none
+      by false none = own.enters none
 
-  pub refuses : (key : List ℕ) (why : AbortCause) → R (abort.refuse_row node view tx t key why)
+  pub refuses : (key : List ℕ) (why : AbortCause) → body ≡ Chain (LqhKeyRef tx key why) → R (abort.refuse_row node view tx t key why)
   unfolding abort.refuse_row
-  refuses key why = by (operate.asked_on t.asked key) refl t.phase refl
+  refuses key why is = by (operate.asked_on t.asked key) refl t.phase refl
     where
       by : (o : Option Asked) → operate.asked_on t.asked key ≡ o → (phase : Phase) → t.phase ≡ phase → R (abort.refuse_by node view tx t key why o phase)
-      by (Some asked) on Open at = aborts (asking t None) why (forms.refuses asked (asked_on-is t.asked key asked on) at)
+      by (Some asked) on Open at = aborts (asking t None) why (forms.refuses key why asked is (asked_on-is t.asked key asked on) at)
       by (Some asked) on (Aborting other verifying awaited) at = forms.late key asked other verifying awaited (asked_on-is t.asked key asked on) at
       by (Some asked) on Verifying at = forms.stays
       by (Some asked) on (Committing epoch awaited) at = forms.stays
       by (Some asked) on (Completing epoch awaited) at = forms.stays
       by None on phase at = forms.stays
 
-  pub rolls_back : R (abort.rollback_row node view tx t)
+  pub rolls_back : body ≡ Client (TcRollbackReq tx) → R (abort.rollback_row node view tx t)
   unfolding abort.rollback_row
-  rolls_back = by t.phase refl
+  rolls_back is = by t.phase refl
     where
       by : (phase : Phase) → t.phase ≡ phase → R (abort.rollback_by node view tx t phase)
-      by Open at = aborts t cause.Request (forms.rolls_back (ap is_decided at) (ap is_aborting at))
-      by Verifying at = aborts t cause.Request (forms.rolls_back (ap is_decided at) (ap is_aborting at))
+      by Open at = aborts t cause.Request (forms.rolls_back is (ap is_decided at) (ap is_aborting at))
+      by Verifying at = aborts t cause.Request (forms.rolls_back is (ap is_decided at) (ap is_aborting at))
       by (Committing epoch awaited) at = forms.stays
       by (Completing epoch awaited) at = forms.stays
       by (Aborting why verifying awaited) at = forms.stays
@@ -249,10 +249,10 @@ rows_of node view tx t body R forms = record {
   goes_on = λ at is. goes_on node view tx t body R forms at;
   operates = λ op is. operates node view tx t body R forms op is;
   decides = λ is. decides node view tx t body R forms is;
-  rolls_back = λ is. rolls_back node view tx t body R forms;
+  rolls_back = λ is. rolls_back node view tx t body R forms is;
   waits = λ is. waits node view tx t body R forms;
   answers = λ key answer is. answers node view tx t body R forms key answer is;
-  refuses = λ key why is. refuses node view tx t body R forms key why;
+  refuses = λ key why is. refuses node view tx t body R forms key why is;
   committed = λ key is. committed node view tx t body R forms;
   completed = λ key is. completed node view tx t body R forms;
   aborted = λ key is. aborted node view tx t body R forms;

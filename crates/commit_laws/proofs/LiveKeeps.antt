@@ -1,6 +1,6 @@
 -- What a coordinator keeps of each of its transactions, and of all that it sends, if beginning and answering an operation does.
 use Rattle.std.proofs.Common.{◌≡◌, ℕ, Bool, true, false, List, [], ◌∷◌, ◌++◌, length, take, drop, refl, sym, subst}
-use Rattle.std.specs.Prelude.{◌+◌, nat_lt, None, Some, if◌then◌else◌}
+use Rattle.std.specs.Prelude.{◌+◌, nat_lt, Option, None, Some, if◌then◌else◌}
 use Rattle.indexmap.specs.IndexMap.{insert_entry}
 use Rattle.run_theory.specs.Lists.{Each}
 use Rattle.run_theory.proofs.Pasts.{each_after, each_append, each_before}
@@ -27,7 +27,7 @@ use Rattle.tc_block.specs.Operate as operate
 use Rattle.tc_block.specs.Part.{part_effects, rest_if}
 use Rattle.tc_block.specs.Sends.{aborts_of, entering, phase_sends, wait_of}
 use Rattle.tc_block.specs.State.{TcState}
-use Rattle.tc_block.specs.Tc.{next_tx, tc_row}
+use Rattle.tc_block.specs.Tc.{begin_if, next_tx, pass_if, tc_row}
 use Rattle.tc_block.specs.Turn.{Turn, asking, at_phase}
 use Rattle.commit_laws.proofs.EachSent.{each_drop, each_mapped, each_take}
 use Rattle.commit_laws.proofs.EachTc.{tc_each}
@@ -50,6 +50,12 @@ pub record LiveKeeps (P : Transaction → Type 0) (Q : Outgoing → Type 0) (bef
   pub live : AllAre P step.state.live
   pub sends : Each Q step.effects.sends
   pub view : step.state.view ≡ before
+
+-- what a coordinator sends beside the turns of its transactions
+pub record SendsBeside (Q : Outgoing → Type 0) (s : TcState) : Type 0 where
+  pub full : (name : Option ℕ) → Each Q (begin_if s name true).effects.sends
+  pub begins : (name : Option ℕ) → Each Q (begin_if s name false).effects.sends
+  pub passes : (tx ahead : TxId) → Each Q (pass_if s tx ahead true).effects.sends
 
 -- the signal is about a row at a replica
 abbrev pub is_chain : Body → Bool
@@ -88,8 +94,8 @@ module _ (P : Transaction → Type 0) (Q : Outgoing → Type 0) (node : ℕ) (vi
   abort_ends why true = (keep.plain _ refl, (keep.plain _ refl, tt))
   abort_ends why false = (keep.plain _ refl, tt)
 
-  abort_keeps : (t : Transaction) → P t → AbortForms node view tx t (λ turn. TurnKeeps P Q turn)
-  abort_keeps t fine = record { enters = λ why some. enters t _ fine; ends = λ why none. record { state = fine; sends = abort_ends why (abort.is_verifying t.phase) } }
+  abort_keeps : (t : Transaction) → P t → (why : AbortCause) → AbortForms node view tx t why (λ turn. TurnKeeps P Q turn)
+  abort_keeps t fine why = record { enters = λ some. enters t _ fine; ends = λ none. record { state = fine; sends = abort_ends why (abort.is_verifying t.phase) } }
 
   -- so each turn does
   pub turn_keeps : (t : Transaction) (body : Body) → P t → ((op : Op) → body ≡ Client (TcKeyReq tx op) → StepKeeps P Q (operate.operating tx t op (chain_of view (key_of op))))
@@ -108,8 +114,8 @@ module _ (P : Transaction → Type 0) (Q : Outgoing → Type 0) (node : ℕ) (vi
     committed_all = λ epoch awaited at. committed_keeps t epoch fine;
     completed = λ epoch awaited at more. record { state = keep.phase t _ fine; sends = tt };
     completed_all = λ epoch awaited at last. record { state = fine; sends = (keep.plain _ refl, tt) };
-    rolls_back = λ undecided unaborted. abort_keeps t fine;
-    refuses = λ asked on at. abort_keeps (asking t None) (keep.unasked t fine);
+    rolls_back = λ is undecided unaborted. abort_keeps t fine _;
+    refuses = λ key why asked is on at. abort_keeps (asking t None) (keep.unasked t fine) why;
     aborted = λ why verifying awaited at more. record { state = keep.phase t _ fine; sends = tt };
     aborted_all = λ why verifying awaited at last. record { state = fine; sends = abort_ends why verifying };
   }
@@ -123,19 +129,18 @@ module _ (P : Transaction → Type 0) (Q : Outgoing → Type 0) where
       by true more = (own, all.1)
       by false more = (all.0, more)
 
-  -- whatever the coordinator takes
-  pub live_keeps : (s : TcState) (body : Body) → P operate.fresh → TurnsKeep P Q s.view
-      → ((tx : TxId) (t : Transaction) (op : Op) → P t → StepKeeps P Q (operate.operating tx t op (chain_of s.view (key_of op)))) → AllAre P s.live → LiveKeeps P Q s.view (tc_row s body)
+  -- whatever the coordinator takes, where its turns do so
+  pub live_each : (s : TcState) (body : Body) → P operate.fresh → SendsBeside Q s → ((tx : TxId) (t : Transaction) → P t → TurnForms s.node s.view tx t body (λ turn. TurnKeeps P Q turn))
+      → AllAre P s.live → LiveKeeps P Q s.view (tc_row s body)
   unfolding without
-  live_keeps s body fresh keep operated all =
+  live_each s body fresh beside forms all =
       tc_each (λ tx t turn. TurnKeeps P Q turn) (LiveKeeps P Q s.view) s body (record {
-        turns = λ tx t at split. let fine = own tx t at split in
-            rows_of s.node s.view tx t body (λ turn. TurnKeeps P Q turn) (turn_keeps P Q s.node s.view keep tx t body fine (λ op is. operated tx t op fine));
+        turns = λ tx t at split. rows_of s.node s.view tx t body (λ turn. TurnKeeps P Q turn) (forms tx t (own tx t at split));
         turned = λ tx t at split turn keeps. by tx t at split turn keeps turn.over;
         stays = record { live = all; sends = tt; view = refl };
-        full = λ name. record { live = all; sends = (keep.plain _ refl, tt); view = refl };
-        begins = λ name. record { live = inserted s.live (next_tx s) operate.fresh fresh all; sends = (keep.plain _ refl, tt); view = refl };
-        passes = λ tx ahead. record { live = all; sends = (keep.plain _ refl, tt); view = refl };
+        full = λ name. record { live = all; sends = beside.full name; view = refl };
+        begins = λ name. record { live = inserted s.live (next_tx s) operate.fresh fresh all; sends = beside.begins name; view = refl };
+        passes = λ tx ahead. record { live = all; sends = beside.passes tx ahead; view = refl };
       })
     where
       Own : TxId × Transaction → Type 0
@@ -161,3 +166,9 @@ module _ (P : Transaction → Type 0) (Q : Outgoing → Type 0) where
         sends = keeps.sends;
         view = refl;
       }
+
+  pub live_keeps : (s : TcState) (body : Body) → P operate.fresh → TurnsKeep P Q s.view
+      → ((tx : TxId) (t : Transaction) (op : Op) → P t → StepKeeps P Q (operate.operating tx t op (chain_of s.view (key_of op)))) → AllAre P s.live → LiveKeeps P Q s.view (tc_row s body)
+  live_keeps s body fresh keep operated all =
+      live_each s body fresh (record { full = λ name. (keep.plain _ refl, tt); begins = λ name. (keep.plain _ refl, tt); passes = λ tx ahead. (keep.plain _ refl, tt) })
+      (λ tx t fine. turn_keeps P Q s.node s.view keep tx t body fine (λ op is. operated tx t op fine)) all

@@ -23,16 +23,18 @@ lqh_says s body =
     lqh_sends_each (λ (o : Outgoing). RowsSay (kind_of body) (kind_of o.body)) s body (record {
       asked = λ r is. request r;
       waited = λ at r is. request r;
-      goes_on = λ what. tt;
+      grants_more = tt;
+      expires_more = tt;
       commits_on = λ tx key epoch chain at is behind. ap kind_of is;
       committed = λ tx key. tt;
       completes_on = λ tx key chain at is behind. tt;
       completed = λ tx key. tt;
       aborted = λ tx key. tt;
-      refuses = λ tx key why. tt;
+      gives_up = λ tx key is. tt;
+      times_out = λ tx key. tt;
       waits = λ tx ahead. tt;
       dumps = λ rows next. tt;
     })
   where
     request : (r : Request) → RequestSends (λ (o : Outgoing). RowsSay (kind_of body) (kind_of o.body)) r
-    request r = record { refuses = λ why. tt; answers = λ a. tt; passes = λ image next is. tt }
+    request r = record { log_full = λ used reserved need. tt; table_full = λ rows. tt; answers = λ a. tt; passes = λ image next is. tt }

@@ -133,10 +133,10 @@ module _ (tx : TxId) (D : Type 0) where
       ends = λ none. so _ (record { sends = ((refl, d), (tt, tt)); closed = λ is. is; deciding = known });
     }
 
-    abort_goes : (t : Transaction) → ((turn : Turn) → TurnGoes tx D t.phase turn → R turn) → Known t.phase → AbortForms node view tx t R
-    abort_goes t so known = record {
-      enters = λ why some. so _ (enters node view t (Aborting why (abort.is_verifying t.phase) (abort.aborts_awaited view t)) refl (λ is. absurd cc));
-      ends = λ why none. so _ (record { sends = abort_end_says node why (abort.is_verifying t.phase); closed = λ is. is; deciding = known });
+    abort_goes : (t : Transaction) → ((turn : Turn) → TurnGoes tx D t.phase turn → R turn) → Known t.phase → (why : AbortCause) → AbortForms node view tx t why R
+    abort_goes t so known why = record {
+      enters = λ some. so _ (enters node view t (Aborting why (abort.is_verifying t.phase) (abort.aborts_awaited view t)) refl (λ is. absurd cc));
+      ends = λ none. so _ (record { sends = abort_end_says node why (abort.is_verifying t.phase); closed = λ is. is; deciding = known });
     }
 
     -- whatever turn it takes, but where it asks for an epoch
@@ -157,8 +157,8 @@ module _ (tx : TxId) (D : Type 0) where
       committed_all = λ epoch awaited at. committed_goes t epoch so known (known (ap is_decided at));
       completed = λ epoch awaited at more. so _ (record { sends = tt; closed = λ is. refl; deciding = λ is. known (ap is_decided at) });
       completed_all = λ epoch awaited at last. so _ (record { sends = (tt, tt); closed = λ is. is; deciding = known });
-      rolls_back = λ undecided unaborted. abort_goes t so known;
-      refuses = λ asked on at. abort_goes (asking t None) so known;
+      rolls_back = λ is undecided unaborted. abort_goes t so known _;
+      refuses = λ key why asked is on at. abort_goes (asking t None) so known why;
       aborted = λ why verifying awaited at more. so _ (record { sends = tt; closed = λ is. refl; deciding = λ is. absurd cc });
       aborted_all = λ why verifying awaited at last. so _ (record { sends = abort_end_says node why verifying; closed = λ is. is; deciding = known });
     }

@@ -2,6 +2,7 @@
 use Rattle.std.proofs.Common.{◌≡◌, ℕ, Bool, true, false, [], refl}
 use Rattle.std.specs.Prelude.{None}
 use Rattle.sig_core.specs.declared.member.TxId.{TxId}
+use Rattle.sig_core.specs.declared.outcome.AbortCause.{AbortCause}
 use Rattle.sig_core.specs.declared.signal.Body.{Body}
 use Rattle.sig_core.specs.declared.view.View.{View}
 use Rattle.sig_core.specs.Step.{Step}
@@ -23,9 +24,9 @@ abbrev pub TurnHasNoMarks : Turn → Type 0
 TurnHasNoMarks turn = HasNoMarks turn.step
 
 module _ (node : ℕ) (view : View) (tx : TxId) where
-  abort_marks : (t : Transaction) → AbortForms node view tx t TurnHasNoMarks
+  abort_marks : (t : Transaction) (why : AbortCause) → AbortForms node view tx t why TurnHasNoMarks
   unfolding entering part_effects
-  abort_marks t = record { enters = λ why some. refl; ends = λ why none. refl }
+  abort_marks t why = record { enters = λ some. refl; ends = λ none. refl }
 
   committed_marks : (t : Transaction) (epoch : ℕ) → CommittedForms node view tx t epoch TurnHasNoMarks
   unfolding entering part_effects
@@ -47,8 +48,8 @@ module _ (node : ℕ) (view : View) (tx : TxId) where
     committed_all = λ epoch awaited at. committed_marks t epoch;
     completed = λ epoch awaited at more. refl;
     completed_all = λ epoch awaited at last. refl;
-    rolls_back = λ undecided unaborted. abort_marks t;
-    refuses = λ asked on at. abort_marks (asking t None);
+    rolls_back = λ is undecided unaborted. abort_marks t _;
+    refuses = λ key why asked is on at. abort_marks (asking t None) why;
     aborted = λ why verifying awaited at more. refl;
     aborted_all = λ why verifying awaited at last. refl;
   }

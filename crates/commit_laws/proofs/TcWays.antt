@@ -204,11 +204,11 @@ module _ (tx : TxId) where
     abort_end_ways phase why false on = ((refl, on), tt)
 
     -- from a phase in which nothing is committed
-    abort_ways : (t : Transaction) → is_decided t.phase ≡ false → AbortForms node view tx t (λ turn. TurnWays tx t.phase turn)
-    abort_ways t off = record {
-      enters = λ why some. goes t.phase (entering node view tx t (Aborting why (abort.is_verifying t.phase) (abort.aborts_awaited view t)))
+    abort_ways : (t : Transaction) → is_decided t.phase ≡ false → (why : AbortCause) → AbortForms node view tx t why (λ turn. TurnWays tx t.phase turn)
+    abort_ways t off why = record {
+      enters = λ some. goes t.phase (entering node view tx t (Aborting why (abort.is_verifying t.phase) (abort.aborts_awaited view t)))
           (enters node view t t.phase (Aborting why (abort.is_verifying t.phase) (abort.aborts_awaited view t)) (λ is. not_both (is_decided t.phase) is off) (λ is. refl) (λ is. absurd cc));
-      ends = λ why none. record {
+      ends = λ none. record {
         last = Aborting why (abort.is_verifying t.phase) 0;
         sends = abort_end_ways (Aborting why (abort.is_verifying t.phase) 0) why (abort.is_verifying t.phase) refl;
         forward = λ is. not_both (is_decided t.phase) is off;
@@ -256,8 +256,8 @@ module _ (tx : TxId) where
         stands = λ off. refl;
       };
       completed_all = λ epoch awaited at ends. record { last = t.phase; sends = (tt, tt); forward = λ is. is; backward = λ is. is; told = λ is. inl is; stands = λ off. refl };
-      rolls_back = λ undecided unaborted. abort_ways t undecided;
-      refuses = λ asked on at. abort_ways (asking t None) (ap is_decided at);
+      rolls_back = λ is undecided unaborted. abort_ways t undecided _;
+      refuses = λ key why asked is on at. abort_ways (asking t None) (ap is_decided at) why;
       aborted = λ why verifying awaited at more. record {
         last = Aborting why verifying (awaited - 1);
         sends = tt;

@@ -2,7 +2,7 @@
 use Rattle.std.proofs.Common.{◌≡◌, ◌⊎◌, ◌<◌, ◌≤◌, ℕ, ◌+◌, Bool, true, false, List, [], ◌∷◌, refl, sym, ap, ◌∙◌, arith, inl, inr}
 use Rattle.std.specs.Prelude.{cond, filter, Option, None, Some}
 use Rattle.std.proofs.lemmas.Bool.{cases_lt}
-use Rattle.run_theory.specs.Lists.{Each, IsIn}
+use Rattle.run_theory.specs.Lists.{IsIn}
 use Rattle.run_theory.proofs.Pasts.{each_from}
 use Rattle.sig_core.specs.declared.log.LogStep.{LogStep}
 use Rattle.sig_core.specs.declared.member.TxId.{TxId}
@@ -32,19 +32,12 @@ use Rattle.transit_laws.proofs.OneAtATime.{in_before, none_waits_first, one_at_a
 use Rattle.transit_laws.proofs.TcTurns.{few}
 use Rattle.transit_laws.proofs.TransitRuns.{IsTaking, runs_have_transit, taking}
 use Rattle.transit_laws.proofs.Undecided.{carried_out_have_none, decided_have_none}
-
-none_counted : {A : Type 0} (p : A → Bool) (xs : List A) → tally p xs ≡ 0 → Each (λ x. p x ≡ false) xs
-none_counted p [] none = tt
-none_counted p (x ∷ xs) none = (by (p x) refl, none_counted p xs (omega (arith, none)))
-  where
-    by : (b : Bool) → p x ≡ b → b ≡ false
-    by false e = refl
-    by true e = absurd (omega (arith, none, ap one_if e))
+use Rattle.transit_laws.proofs.Weighing.{none_passes}
 
 -- the requests that wait for a key at a host are some of those that wait there
 none_in : (g : host.Host) (tx : TxId) (key : List ℕ) → waiting_in tx g ≡ 0 → NoneOf tx (key_in key g).waiting
 none_in (Shell s) tx key none = tt
-none_in (Node n) tx key none = each_filter (λ (q : Request). same_tx q.tx tx ≡ false) (asks_for key) n.lqh.waiting (none_counted (λ (q : Request). same_tx q.tx tx) n.lqh.waiting none)
+none_in (Node n) tx key none = each_filter (λ (q : Request). same_tx q.tx tx ≡ false) (asks_for key) n.lqh.waiting (none_passes (λ (q : Request). same_tx q.tx tx) n.lqh.waiting none)
 
 some_in : (g : host.Host) (q : Request) (key : List ℕ) → IsIn q (key_in key g).waiting → 1 ≤ waiting_in q.tx g
 some_in (Shell s) q key inside = absurd inside

@@ -30,14 +30,7 @@ use Rattle.transit_laws.proofs.OthersStay.{waits_of}
 use Rattle.transit_laws.proofs.TcCircle.{is_early}
 use Rattle.transit_laws.proofs.TransitLists.{tally_joined}
 use Rattle.transit_laws.proofs.ViewOf.{view_of}
-
-none_counted : {A : Type 0} (p : A → Bool) (xs : List A) → tally p xs ≡ 0 → Each (λ x. p x ≡ false) xs
-none_counted p [] none = tt
-none_counted {A} p (x ∷ xs) none = by (p x) refl (none_counted p xs)
-  where
-    by : (b : Bool) → p x ≡ b → (tally p xs ≡ 0 → Each (λ x. p x ≡ false) xs) → Each (λ x. p x ≡ false) (x ∷ xs)
-    by true e more = absurd (omega (arith, none, ap one_if e))
-    by false e more = (e, more (omega (arith, none)))
+use Rattle.transit_laws.proofs.Weighing.{none_passes}
 
 pub early_stays : (phase : Phase) → is_early phase ≡ true → is_aborting phase ≡ false
 early_stays Open is = refl
@@ -98,7 +91,7 @@ module _ (tx : TxId) (key : List ℕ) where
       none_asked none =
           let zero_is : one_if (is_some t.asked) ≡ 0 = ap (λ (o : Option _). one_if (is_some o)) none in
           record {
-            signals = none_counted (λ (x : Signal). is_token tx x.body) xs (omega (arith, bound, zero_is));
+            signals = none_passes (λ (x : Signal). is_token tx x.body) xs (omega (arith, bound, zero_is));
             waits = none_wait (omega (arith, bound, zero_is));
           }
 
@@ -116,7 +109,7 @@ module _ (tx : TxId) (key : List ℕ) where
           let all : tokens_in tx xs ≡ tally (λ (x : Signal). is_token tx x.body) new + tally (λ (x : Signal). is_token tx x.body) old =
           ap (tokens_in tx) is ∙ tally_joined (λ (x : Signal). is_token tx x.body) new old in
           record {
-            signals = none_counted (λ (x : Signal). is_token tx x.body) old (omega (arith, bound, one_most (is_some t.asked), all, some));
+            signals = none_passes (λ (x : Signal). is_token tx x.body) old (omega (arith, bound, one_most (is_some t.asked), all, some));
             waits = none_wait (omega (arith, bound, one_most (is_some t.asked), all, some));
           }
 
@@ -130,6 +123,6 @@ module _ (tx : TxId) (key : List ℕ) where
         let zero_is : budget start (logs_of start es) tx ≡ 0 = λ i. budget_by (kept i) (none i) in
         let bound : tokens_in tx xs + waiting_all start (logs_of start es) tx ≤ 0 = subst (λ n. tokens_in tx xs + waiting_all start (logs_of start es) tx ≤ n) zero_is (one_at_a_time start es xs tx run transit) in
         record {
-          signals = none_counted (λ (x : Signal). is_token tx x.body) xs (omega (arith, bound));
+          signals = none_passes (λ (x : Signal). is_token tx x.body) xs (omega (arith, bound));
           waits = none_wait (omega (arith, bound));
         }

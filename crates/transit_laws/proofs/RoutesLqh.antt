@@ -34,7 +34,8 @@ module _ (start : Start) (h : ℕ) where
   -- an image goes to the next place of its chain
   request_sent : (r : Request) → IsRequestRouted start h r → RequestSends (λ (o : Outgoing). IsSent start o) r
   request_sent r is = record {
-    refuses = λ why. record { routed = tt; block = refl };
+    log_full = λ used reserved need. record { routed = tt; block = refl };
+    table_full = λ rows. record { routed = tt; block = refl };
     answers = λ a. record { routed = tt; block = refl };
     passes = λ image next there. record {
       routed = record {
@@ -52,13 +53,15 @@ module _ (start : Start) (h : ℕ) where
       lqh_sends_each (λ (o : Outgoing). IsSent start o) s body (record {
         asked = λ r same. request_sent r (subst (IsRouted start h) same is);
         waited = λ at r there. request_sent r (each_get (λ (q : Request). IsRequestRouted start h q) s.waiting at r all there);
-        goes_on = λ what. record { routed = tt; block = tt };
+        grants_more = record { routed = tt; block = tt };
+        expires_more = record { routed = tt; block = tt };
         commits_on = λ tx key epoch chain at same behind. commit_sent tx key epoch chain at (subst (IsRouted start h) same is);
         committed = λ tx key. record { routed = tt; block = refl };
         completes_on = λ tx key chain at same behind. complete_sent tx key chain at (subst (IsRouted start h) same is);
         completed = λ tx key. record { routed = tt; block = refl };
         aborted = λ tx key. record { routed = tt; block = refl };
-        refuses = λ tx key why. record { routed = tt; block = refl };
+        gives_up = λ tx key given. record { routed = tt; block = refl };
+        times_out = λ tx key. record { routed = tt; block = refl };
         waits = λ tx ahead. record { routed = tt; block = tt };
         dumps = λ rows next. record { routed = tt; block = tt };
       })

@@ -1,6 +1,6 @@
 -- Where a transaction is settled for a key that it touched, each record of it on the key is along its chain, and the primary has
 -- one prepared.
-use Rattle.std.proofs.Common.{◌≡◌, ◌⊎◌, ◌≤◌, ◌<◌, ℕ, zero, suc, true, length, List, [], ◌∷◌, refl, sym, ap, ◌∙◌, subst, arith, inl, inr}
+use Rattle.std.proofs.Common.{◌≡◌, ◌⊎◌, ◌≤◌, ◌<◌, ℕ, zero, suc, true, length, List, refl, sym, ap, ◌∙◌, subst, arith, inl, inr}
 use Rattle.std.specs.Prelude.{if◌then◌else◌, is_some, Option, None, Some}
 use Rattle.std.proofs.lemmas.Bool.{cases_lt}
 use Rattle.sig_core.specs.declared.log.LogStep.{LogStep}
@@ -10,24 +10,17 @@ use Rattle.sig_core.specs.declared.op.Op.{Op}
 use Rattle.sig_core.specs.declared.rows.PendingRecord.{PendingRecord}
 use Rattle.sig_core.specs.Chain.{last_place, primary_of}
 use Rattle.tc_block.specs.declared.touched.Touched.{Touched}
-use Rattle.world_core.specs.Machine.{after}
 use Rattle.world_core.specs.Start.{Start}
 use Rattle.commit_laws.specs.Primary.{HasPrepared}
 use Rattle.commit_laws.specs.Records.{found}
-use Rattle.commit_laws.specs.Replica.{Replica, key_after}
-use Rattle.commit_laws.specs.ReplicaLaws.{event_in, key_in}
-use Rattle.commit_laws.proofs.Replicas.{logs_follow}
-use Rattle.transit_laws.specs.Circle.{Agree, IsReplica, IsSettledFor, at_host, at_primary, primary_along}
+use Rattle.commit_laws.specs.Replica.{Replica}
+use Rattle.transit_laws.specs.Circle.{Agree, IsReplica, IsSettledFor, at_host, at_primary}
 use Rattle.transit_laws.specs.Keyed.{IsWrittenRightly}
 use Rattle.transit_laws.specs.Routes.{IsTouchedRouted, primary, replicas}
 use Rattle.transit_laws.proofs.CarriedOut.{IsAlong, IsUpTo}
+use Rattle.transit_laws.proofs.KeyMoves.{replica_along}
 use Rattle.transit_laws.proofs.RecordsFade.{HasRecord}
 use Rattle.transit_laws.proofs.RoutesChain.{replica_at}
-
--- the key at its primary is the key at the host of the primary
-along_is : (start : Start) (h : ℕ) (key : List ℕ) (log : List LogStep) → (primary_along start h key log).replica ≡ key_in key (after start h log)
-along_is start h key [] = refl
-along_is start h key (e ∷ log) = ap (key_after (event_in key (after start h log) e.taken.to e.taken.body)) (along_is start h key log) ∙ sym (logs_follow start h log e key)
 
 -- whether a host is a replica
 is_replica : (start : Start) (key : List ℕ) (h : ℕ) → IsReplica start key h ⊎ (IsReplica start key h → ⊥)
@@ -43,7 +36,7 @@ module _ (start : Start) (logs : ℕ → List LogStep) (tx : TxId) (ops : List (
   here = found tx (at_primary start logs u.key).replica.cell.pending
 
   same_here : here ≡ found tx (at_host start logs u.key (primary start u.key)).cell.pending
-  same_here = ap (λ (r : Replica). found tx r.cell.pending) (along_is start (primary start u.key) u.key (logs (primary start u.key)))
+  same_here = ap (λ (r : Replica). found tx r.cell.pending) (replica_along start (primary start u.key) u.key (logs (primary start u.key)))
 
   -- a host that has a record is a replica
   has_place : (h : ℕ) → HasRecord tx (at_host start logs u.key h).cell.pending → IsReplica start u.key h

@@ -91,11 +91,11 @@ module _ (node : ℕ) (view : View) (tx : TxId) (t : Transaction) (has : HasTouc
   committed_aborts epoch = record { enters = λ some. goes_on _ has (λ is. absurd cc); ends = λ none. goes_on _ has (λ is. is) }
 
   -- an abort of one that isn't aborted
-  begins_abort : (u : Transaction) → HasTouched u → is_aborting u.phase ≡ false → AbortForms node view tx u (λ turn. TurnAborts tx t turn)
+  begins_abort : (u : Transaction) → HasTouched u → is_aborting u.phase ≡ false → (why : AbortCause) → AbortForms node view tx u why (λ turn. TurnAborts tx t turn)
   unfolding entering
-  begins_abort u touched off = record {
-    enters = λ why some. record { touched = touched; aborts = λ is. inr (enters_told tx node view u why (abort.is_verifying u.phase) (abort.aborts_awaited view u) touched some) };
-    ends = λ why none. record { touched = touched; aborts = λ is. absurd (let both : true ≡ false = sym is ∙ off in cc) };
+  begins_abort u touched off why = record {
+    enters = λ some. record { touched = touched; aborts = λ is. inr (enters_told tx node view u why (abort.is_verifying u.phase) (abort.aborts_awaited view u) touched some) };
+    ends = λ none. record { touched = touched; aborts = λ is. absurd (let both : true ≡ false = sym is ∙ off in cc) };
   }
 
   -- whatever turn it takes
@@ -115,8 +115,8 @@ module _ (node : ℕ) (view : View) (tx : TxId) (t : Transaction) (has : HasTouc
     committed_all = λ epoch awaited at. committed_aborts epoch;
     completed = λ epoch awaited at more. goes_on _ has (λ is. absurd cc);
     completed_all = λ epoch awaited at last. goes_on _ has (λ is. is);
-    rolls_back = λ undecided unaborted. begins_abort t has unaborted;
-    refuses = λ asked on at. begins_abort (asking t None) (λ is. absurd cc) (ap is_aborting at);
+    rolls_back = λ is undecided unaborted. begins_abort t has unaborted _;
+    refuses = λ key why asked is on at. begins_abort (asking t None) (λ is. absurd cc) (ap is_aborting at) why;
     aborted = λ why verifying awaited at more. goes_on _ has (λ is. ap is_aborting at);
     aborted_all = λ why verifying awaited at last. goes_on _ has (λ is. is);
   }

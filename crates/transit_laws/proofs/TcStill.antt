@@ -10,8 +10,8 @@ use Rattle.sig_core.specs.declared.outcome.AbortCause.{AbortCause}
 use Rattle.sig_core.specs.declared.outs.Outgoing.{Outgoing}
 use Rattle.sig_core.specs.declared.signal.Body.{Body}
 use Rattle.sig_core.specs.declared.signal.Body.TheVariants.{Client, Chain, Epoch}
-use Rattle.sig_core.specs.declared.signal.chain.ChainSignal.TheVariants.{LqhKeyConf}
-use Rattle.sig_core.specs.declared.signal.client.ClientSignal.TheVariants.{TcKeyReq, TcCommitReq}
+use Rattle.sig_core.specs.declared.signal.chain.ChainSignal.TheVariants.{LqhKeyConf, LqhKeyRef}
+use Rattle.sig_core.specs.declared.signal.client.ClientSignal.TheVariants.{TcKeyReq, TcCommitReq, TcRollbackReq}
 use Rattle.sig_core.specs.declared.signal.epoch.EpochSignal.TheVariants.{DiVerifyConf}
 use Rattle.sig_core.specs.declared.view.View.{View}
 use Rattle.tc_block.specs.Abort as abort
@@ -123,10 +123,12 @@ module _ (v : TxId) where
     completed_still node t = (turns.completed node no_view tx t _ IsStill (commit_req_still tx node no_view t)).sends
 
     pub refuse_still : (node : ℕ) (view : View) (t : Transaction) (key : List ℕ) (why : AbortCause) → AreStill (abort.refuse_row node view tx t key why).step.effects.sends
-    refuse_still node view t key why = (turns.refuses node view tx t _ IsStill (commit_req_still tx node view t) key why).sends
+    refuse_still node view t key why =
+        (turns.refuses node view tx t (Chain (LqhKeyRef tx key why)) IsStill (turns_still tx node view t (Chain (LqhKeyRef tx key why)) (λ op is. cc)) key why refl).sends
 
     pub rollback_still : (node : ℕ) (view : View) (t : Transaction) → AreStill (abort.rollback_row node view tx t).step.effects.sends
-    rollback_still node view t = (turns.rolls_back node view tx t _ IsStill (commit_req_still tx node view t)).sends
+    rollback_still node view t =
+        (turns.rolls_back node view tx t (Client (TcRollbackReq tx)) IsStill (turns_still tx node view t (Client (TcRollbackReq tx)) (λ op is. cc)) refl).sends
 
     pub aborted_still : (node : ℕ) (t : Transaction) → AreStill (abort.aborted_row node tx t).step.effects.sends
     aborted_still node t = (turns.aborted node no_view tx t _ IsStill (commit_req_still tx node no_view t)).sends

@@ -17,9 +17,8 @@ use Rattle.tc_block.specs.declared.touched.Touched.{Touched}
 use Rattle.tc_block.specs.declared.transaction.Transaction.{Transaction}
 use Rattle.tc_block.specs.Chain.{chain_of}
 use Rattle.tc_block.specs.Part.{part_effects, rest_if}
-use Rattle.tc_block.specs.Sends.{abort_of, complete_if, entering, front_sends, go_on_if, go_on_row, key_sends, phase_sends}
-use Rattle.answer_laws.proofs.SendKinds.{are_of, of_append, of_drop, of_flat, of_map, of_take}
-use Rattle.command_laws.proofs.Tests.{one_kind}
+use Rattle.tc_block.specs.Sends.{abort_of, complete_if, entering, front_sends, go_on_if, key_sends, phase_sends}
+use Rattle.answer_laws.proofs.SendKinds.{are_of, of_append, of_drop, of_flat, of_map, of_take, one_kind}
 
 -- a kind of signal that has what is sent to replicas, and what goes on with a list
 pub record HasChains (tx : TxId) (kind : Body → Bool) : Type 0 where
@@ -61,10 +60,5 @@ module _ (kind : Body → Bool) (view : View) (tx : TxId) (has : HasChains tx ki
   unfolding entering
   entering_of_kind node t phase front = part_of_kind node (phase_sends view tx phase t.touched) 0 (phase_of_kind phase t.touched front)
 
-  pub go_on_of_kind : (node : ℕ) (t : Transaction) (at : ℕ) → are_of kind (front_sends tx t.phase) ≡ true → are_of kind (go_on_row node view tx t at).effects.sends ≡ true
-  unfolding go_on_row
-  go_on_of_kind node t at front = by (nat_lt at 512)
-    where
-      by : (b : Bool) → are_of kind (go_on_if node view tx t at b).effects.sends ≡ true
-      by true = part_of_kind node (phase_sends view tx t.phase t.touched) at (phase_of_kind t.phase t.touched front)
-      by false = refl
+  pub rest_of_kind : (node : ℕ) (t : Transaction) (at : ℕ) → are_of kind (front_sends tx t.phase) ≡ true → are_of kind (go_on_if node view tx t at true).effects.sends ≡ true
+  rest_of_kind node t at front = part_of_kind node (phase_sends view tx t.phase t.touched) at (phase_of_kind t.phase t.touched front)
