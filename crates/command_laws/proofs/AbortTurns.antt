@@ -25,9 +25,8 @@ use Rattle.tc_block.specs.Operate as operate
 use Rattle.tc_block.specs.Sends.{entering, front_sends, go_on_if, go_on_row}
 use Rattle.tc_block.specs.State.{TcState}
 use Rattle.tc_block.specs.Turn.{Turn, going}
-use Rattle.answer_laws.proofs.SendKinds.{are_of}
-use Rattle.command_laws.proofs.PhaseSends.{HasChains, entering_of_kind, go_on_of_kind}
-use Rattle.command_laws.proofs.Tests.{one_kind}
+use Rattle.answer_laws.proofs.SendKinds.{are_of, one_kind}
+use Rattle.answer_laws.proofs.PhaseSends.{HasChains, entering_of_kind, rest_of_kind}
 use Rattle.command_laws.proofs.Turns.{turn_by}
 
 -- the client asked for it
@@ -83,11 +82,15 @@ module _ (c : Bool) (node : ℕ) (view : View) (tx : TxId) (t : Transaction) (fi
 
   goes_on : (at : ℕ) → StaysLoose c (going (go_on_row node view tx t at))
   unfolding go_on_row
-  goes_on at = record { phase = λ on. by (nat_lt at 512); none = same (nat_lt at 512); sends = go_on_of_kind is_mild view tx (chains tx) node t at (fronts c tx t.phase fine) }
+  goes_on at = record { phase = λ on. by (nat_lt at 512); none = same (nat_lt at 512); sends = sent (nat_lt at 512) }
     where
       by : (b : Bool) → is_loose c (go_on_if node view tx t at b).state.phase ≡ true
       by true = fine
       by false = fine
+
+      sent : (b : Bool) → are_of is_mild (go_on_if node view tx t at b).effects.sends ≡ true
+      sent true = rest_of_kind is_mild view tx (chains tx) node t at (fronts c tx t.phase fine)
+      sent false = refl
 
       same : (b : Bool) → (go_on_if node view tx t at b).state.asked ≡ None
       same true = none
