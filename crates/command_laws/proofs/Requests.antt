@@ -8,11 +8,13 @@ use Rattle.sig_core.specs.declared.request.ApiReq.TheVariants as request
 use Rattle.world_core.specs.Start.{Start}
 use Rattle.answer_laws.proofs.Answers.{each_answered}
 use Rattle.command_laws.proofs.AbortAnswered.{aborts_answered}
+use Rattle.command_laws.proofs.Committed.{commits_committed}
 use Rattle.command_laws.proofs.ComesTo.{commits_come_to, operations_come_to}
 use Rattle.command_laws.proofs.HeldUp.{each_held_up}
 use Rattle.command_laws.proofs.HoldersTold.{holders_told}
 use Rattle.command_laws.proofs.LoneAnswered.{lone_answered}
 use Rattle.command_laws.proofs.LoneCommitted.{lone_committed}
+use Rattle.command_laws.proofs.OperationAnswered.{operations_answered}
 use Rattle.command_laws.proofs.ServedBetween.{requests_served}
 use Rattle.command_laws.specs.Alone.{IsRefusedAlone, IsTurnedAway, WaitsAlone}
 use Rattle.command_laws.specs.Answers.{AnswersRequest, LoneComesTo, RequestsAreAnswered}
@@ -26,9 +28,13 @@ lone_comes_to start was now op served = by (lone_answered each_answered start wa
     by (inr other) = inr other
 
 answers_request : (start : Start) (was now : ℕ → List LogStep) (r : ApiReq) → IsServed start was now r → AnswersRequest start was now r
-answers_request start was now (request.Operate (Some name) op) served = operations_come_to start was now name op served
+answers_request start was now (request.Operate (Some name) op) served = (
+  operations_come_to start was now name op served,
+  (λ tx t. operations_answered each_answered start was now name op t.takes.item tx served t.takes.named t.takes.ready t.takes.own t.few),
+)
 answers_request start was now (request.Operate None op) served = lone_comes_to start was now op served
-answers_request start was now (request.Commit name) served = commits_come_to start was now name served
+answers_request start was now (request.Commit name) served =
+    (commits_come_to start was now name served, (λ tx t. commits_committed each_answered start was now name t.item tx served t.named t.ready t.own))
 answers_request start was now (request.Abort name) served = λ tx t. aborts_answered each_answered start was now name t.item tx served t.named t.ready t.own
 answers_request start was now request.Pending served = λ first waits left. holders_told each_answered each_held_up start first was now waits served left
 answers_request start was now _ served = tt

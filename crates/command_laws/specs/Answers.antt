@@ -1,5 +1,5 @@
 -- What each request of the shell comes to.
-use Rattle.std.specs.Prelude.{◌≡◌, ◌≤◌, ◌⊎◌, ℕ, true, List, ◌∷◌, ◌++◌, None, Some}
+use Rattle.std.specs.Prelude.{◌≡◌, ◌<◌, ◌≤◌, ◌⊎◌, ℕ, true, List, ◌∷◌, ◌++◌, None, Some}
 use Rattle.run_theory.specs.Lists.{IsIn}
 use Rattle.run_theory.specs.Runs.{AreLogs, IsWithin}
 use Rattle.api_block.specs.declared.opened.Doing.TheVariants.{Ready}
@@ -71,16 +71,24 @@ pub record TakesCommands (start : Start) (logs : ℕ → List LogStep) (name : �
   pub ready : item.doing ≡ Ready
   pub own : item.tx ≡ Some tx
 
+-- and operations, of which it has had fewer than it may
+pub record TakesOperations (start : Start) (logs : ℕ → List LogStep) (name : ℕ) (tx : TxId) : Type 0 where
+  pub takes : TakesCommands start logs name tx
+  pub few : takes.item.operations < 64
+
 -- it was reported aborted, as was asked for
 abbrev pub IsAbortedAs : Start → (was now : ℕ → List LogStep) → ℕ → Type 0
 IsAbortedAs start was now name = IsIn (Ended (Some name) (Aborted cause.Request)) (replies_since start was now)
 
--- What a request comes to between these two moments. A command that left something of its own unanswered is asked about twice:
+-- What a request comes to between these two moments. A transaction that takes it isn't turned down. A command that left something of its own unanswered is asked about twice:
 -- the second time it is told who holds what it waits for.
 abbrev pub AnswersRequest : Start → (was now : ℕ → List LogStep) → ApiReq → Type 0
-AnswersRequest start was now (request.Operate (Some name) op) = OperationComesTo start was now name
+AnswersRequest start was now (request.Operate (Some name) op) =
+    OperationComesTo start was now name
+    × ((tx : TxId) → TakesOperations start was name tx → IsAnsweredAs start was now name ⊎ (IsRefusedAs start was now name ⊎ StillWaits start now name tx))
 AnswersRequest start was now (request.Operate None op) = LoneComesTo start was now
-AnswersRequest start was now (request.Commit name) = CommitComesTo start was now name
+AnswersRequest start was now (request.Commit name) =
+    CommitComesTo start was now name × ((tx : TxId) → TakesCommands start was name tx → IsToldCommitted start was now name tx)
 AnswersRequest start was now (request.Abort name) = (tx : TxId) → TakesCommands start was name tx → IsAbortedAs start was now name
 AnswersRequest start was now request.Pending =
     (first : ℕ → List LogStep) → IsServed start first was request.Waits → is_left_open (after start 0 (first 0)) ≡ true → IsToldHolder start first was now
