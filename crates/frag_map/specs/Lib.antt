@@ -1,0 +1,5 @@
+pub mod Fragment
+pub mod Groups
+pub mod Layout
+pub mod Replicas
+pub mod Shape
