@@ -10,7 +10,7 @@ use Rattle.sig_core.specs.declared.signal.client.ClientSignal.TheVariants.{TcBeg
 use Rattle.sig_core.specs.declared.signal.host.HostSignal.TheVariants.{Continue}
 use Rattle.sig_core.specs.declared.signal.host.Work.TheVariants.{Request}
 use Rattle.sig_core.specs.Step.{stay}
-use Rattle.api_block.specs.Api.{api_row, request_row}
+use Rattle.api_block.specs.Api.{api_table, request_row}
 use Rattle.api_block.specs.Given.{in_given, step_in_given}
 use Rattle.api_block.specs.Opened.{is_left_open}
 use Rattle.api_block.specs.Requests.{asks_nothing}
@@ -36,7 +36,7 @@ given_request given s _ = refl
 
 -- what the API does at a signal doesn't depend on the replies that it gave
 pub given_row : (given : List ApiReply) (s : ApiState) (body : Body)
-    → api_row (in_given given s) body ≡ record { state = in_given given (api_row s body).state; effects = (api_row s body).effects }
+    → api_table (in_given given s) body ≡ record { state = in_given given (api_table s body).state; effects = (api_table s body).effects }
 given_row given s (Host (Continue (Request request) at)) = given_request given s request
 given_row given s (Client (TcBeginConf name tx)) = begun_given given s name tx
 given_row given s (Client (TcBeginRef name)) = ap (λ (state : ApiState). stay state) (refuse_given given s name)
@@ -66,7 +66,7 @@ asks_at_request s Pending = pending_asks s
 asks_at_request s _ = refl
 
 -- the API sends no request of the shell
-pub api_asks : (s : ApiState) (body : Body) → asks_nothing (api_row s body).effects.sends ≡ true
+pub api_asks : (s : ApiState) (body : Body) → asks_nothing (api_table s body).effects.sends ≡ true
 api_asks s (Host (Continue (Request request) at)) = asks_at_request s request
 api_asks s (Client (TcBeginConf name tx)) = begun_asks s name tx
 api_asks s (Client (TcBeginRef name)) = refl

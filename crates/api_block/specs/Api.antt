@@ -30,13 +30,17 @@ request_row s Pending = pending_row s
 request_row s _ = stay (about s None)
 
 -- what the API does at each signal. It leaves the others alone
-abbrev pub api_row : ApiState → Body → Step ApiState
-api_row s (Host (Continue (Request request) at)) = request_row s request
-api_row s (Client (TcBeginConf name tx)) = begun_row s name tx
-api_row s (Client (TcBeginRef name)) = stay (refuse_row s name)
-api_row s (Client (TcKeyConf tx answer)) = answer_row s tx answer
-api_row s (Client (TcCommitConf tx epoch)) = commit_report_row s tx epoch
-api_row s (Client (TcRollbackRep tx cause)) = abort_report_row s tx cause
-api_row s (Client (TcWaitConf tx ahead)) = stay (behind_row s tx ahead)
-api_row s (Client (DumpConf rows next)) = dumped_row s rows next
-api_row s _ = stay s
+abbrev pub api_table : ApiState → Body → Step ApiState
+api_table s (Host (Continue (Request request) at)) = request_row s request
+api_table s (Client (TcBeginConf name tx)) = begun_row s name tx
+api_table s (Client (TcBeginRef name)) = stay (refuse_row s name)
+api_table s (Client (TcKeyConf tx answer)) = answer_row s tx answer
+api_table s (Client (TcCommitConf tx epoch)) = commit_report_row s tx epoch
+api_table s (Client (TcRollbackRep tx cause)) = abort_report_row s tx cause
+api_table s (Client (TcWaitConf tx ahead)) = stay (behind_row s tx ahead)
+api_table s (Client (DumpConf rows next)) = dumped_row s rows next
+api_table s _ = stay s
+
+-- what the block does at each signal
+abbrev pub api_row : ApiState → Signal → Step ApiState
+api_row s x = api_table s x.body

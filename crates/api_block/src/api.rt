@@ -154,7 +154,7 @@ impl Actor for Api {
     ghost use Rattle.api_block.specs.Api.{api_row};
     ghost use Rattle.api_block.specs.State.{in_view};
 
-    ghost step = { λ s signal. api_row s signal.body };
+    ghost step = { api_row };
 
     ghost installed = { λ s view. stay (in_view s view) };
 

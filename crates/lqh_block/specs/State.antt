@@ -6,7 +6,7 @@ use Rattle.sig_core.specs.declared.signal.Body.TheVariants.{Host}
 use Rattle.sig_core.specs.declared.signal.host.HostSignal.TheVariants.{Continue}
 use Rattle.sig_core.specs.declared.signal.host.Work.{Work}
 use Rattle.sig_core.specs.declared.signal.host.Work.TheVariants.{Granted}
-use Rattle.sig_core.specs.declared.view.View.{View}
+use Rattle.frag_map.specs.Layout.{Layout}
 use Rattle.sig_core.specs.Journal.{JournalState}
 use Rattle.sig_core.specs.Place.{rows_of}
 use Rattle.sig_core.specs.Rows.{RowsState}
@@ -17,11 +17,11 @@ use Rattle.lqh_block.specs.declared.request.Marker.{Marker}
 use Rattle.lqh_block.specs.declared.request.Request.{Request}
 use Rattle.lqh_block.specs.Storage.{StorageState, storage}
 
--- a node's rows: its view, the rows and the journal, the locks, the requests whose lock wasn't granted when they
+-- a node's rows: its layout, the rows and the journal, the locks, the requests whose lock wasn't granted when they
 -- came, the oldest first, and the markers of commits that their clients haven't acknowledged, the oldest first
 pub record LqhState : Type 0 where
   pub node : ℕ
-  pub view : View
+  pub layout : Layout
   pub rows : RowsState
   pub journal : JournalState
   pub locks : Locks
@@ -32,19 +32,19 @@ abbrev pub storage_of : LqhState → StorageState
 storage_of s = storage s.rows s.journal
 
 abbrev pub with_storage : LqhState → StorageState → LqhState
-with_storage s st = record { node = s.node; view = s.view; rows = st.rows; journal = st.journal; locks = s.locks; waiting = s.waiting; markers = s.markers }
+with_storage s st = record { node = s.node; layout = s.layout; rows = st.rows; journal = st.journal; locks = s.locks; waiting = s.waiting; markers = s.markers }
 
 abbrev pub with_rows : LqhState → RowsState → LqhState
-with_rows s rows = record { node = s.node; view = s.view; rows = rows; journal = s.journal; locks = s.locks; waiting = s.waiting; markers = s.markers }
+with_rows s rows = record { node = s.node; layout = s.layout; rows = rows; journal = s.journal; locks = s.locks; waiting = s.waiting; markers = s.markers }
 
 abbrev pub with_locks : LqhState → Locks → LqhState
-with_locks s locks = record { node = s.node; view = s.view; rows = s.rows; journal = s.journal; locks = locks; waiting = s.waiting; markers = s.markers }
+with_locks s locks = record { node = s.node; layout = s.layout; rows = s.rows; journal = s.journal; locks = locks; waiting = s.waiting; markers = s.markers }
 
 abbrev pub with_waiting : LqhState → List Request → LqhState
-with_waiting s waiting = record { node = s.node; view = s.view; rows = s.rows; journal = s.journal; locks = s.locks; waiting = waiting; markers = s.markers }
+with_waiting s waiting = record { node = s.node; layout = s.layout; rows = s.rows; journal = s.journal; locks = s.locks; waiting = waiting; markers = s.markers }
 
 abbrev pub with_markers : LqhState → List Marker → LqhState
-with_markers s markers = record { node = s.node; view = s.view; rows = s.rows; journal = s.journal; locks = s.locks; waiting = s.waiting; markers = markers }
+with_markers s markers = record { node = s.node; layout = s.layout; rows = s.rows; journal = s.journal; locks = s.locks; waiting = s.waiting; markers = markers }
 
 -- a step of the rows and the journal
 abbrev pub in_storage : LqhState → Step StorageState → Step LqhState

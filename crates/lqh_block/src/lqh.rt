@@ -3,6 +3,7 @@ ghost use Rattle.std.specs.Prelude.{◌≡◌, IfOk};
 
 use crate::request::{Marker, Request};
 use crate::storage::Storage;
+use frag_map::Layout;
 use row_locks::LockTable;
 use sig_core::{
     Actor, Body, ChainSignal, ClientSignal, HostSignal, Journal, NoMemory, Outs, Rows, Signal,
@@ -16,7 +17,7 @@ use std::marker::Model;
 #[derive(Drop)]
 pub struct Lqh<R: Rows, J: Journal> {
     pub(crate) node: u8,
-    pub(crate) view: View,
+    pub(crate) layout: Layout,
     pub(crate) storage: Storage<R, J>,
     pub(crate) locks: LockTable,
     /// The requests whose lock wasn't granted when they came, the oldest first.
@@ -34,7 +35,7 @@ impl<R: Rows, J: Journal> Model for Lqh<R, J> {
 
     ghost coded = { Prim.hlevel (codes, locks_code) };
 
-    ghost view = { λ l. record { node = l.node; view = l.view; rows = R.state_of l.storage.rows; journal = J.used_of l.storage.journal; locks = l.locks; waiting = l.waiting.items; markers = l.markers.items } };
+    ghost view = { λ l. record { node = l.node; layout = l.layout; rows = R.state_of l.storage.rows; journal = J.used_of l.storage.journal; locks = l.locks; waiting = l.waiting.items; markers = l.markers.items } };
 }
 
 impl<R: Rows, J: Journal> Lqh<R, J> {
@@ -49,7 +50,7 @@ impl<R: Rows, J: Journal> Lqh<R, J> {
     pub fn new(
         alloc: Global,
         node: u8,
-        view: View,
+        layout: Layout,
         rows: R,
         journal: J,
     ) -> Result<Lqh<R, J>, NoMemory>
@@ -57,12 +58,12 @@ impl<R: Rows, J: Journal> Lqh<R, J> {
         R: Drop,
         J: Drop,
         requires { IsCovered (R.state_of rows) (J.used_of journal) }
-        ensures { IfOk result (λ lqh. lqh ≡ unasked_yet node view (R.state_of rows) (J.used_of journal)) }
+        ensures { IfOk result (λ lqh. lqh ≡ unasked_yet node layout (R.state_of rows) (J.used_of journal)) }
     {
         let locks = LockTable::new(alloc)?;
         Ok(Lqh {
             node,
-            view,
+            layout,
             storage: Storage { rows, journal },
             locks,
             waiting: Vec::new(alloc),
@@ -82,7 +83,7 @@ impl<R: Rows, J: Journal> Actor for Lqh<R, J> {
     ghost use Rattle.sig_core.specs.Step.{stay};
     ghost use Rattle.lqh_block.specs.Lqh.{in_view, lqh_row};
 
-    ghost step = { λ s signal. lqh_row s signal.body };
+    ghost step = { lqh_row };
 
     ghost installed = { λ s view. stay (in_view s view) };
 
@@ -154,6 +155,6 @@ impl<R: Rows, J: Journal> Actor for Lqh<R, J> {
     }
 
     fn install(&mut self, view: &View, _out: &mut Outs) {
-        self.view = *view;
+        self.layout.install(view);
     }
 }

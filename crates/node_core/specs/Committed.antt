@@ -1,10 +1,9 @@
 -- The committed rows of a host.
-use Rattle.std.specs.Prelude.{ℕ, List, Option, None}
+use Rattle.std.specs.Prelude.{ℕ, List, Option}
 use Rattle.sig_core.specs.Rows.{row_of}
 use Rattle.node_core.specs.declared.host.Host.{Host}
-use Rattle.node_core.specs.declared.host.Host.TheVariants.{Shell, Node}
+use Rattle.node_core.specs.Blocks.{lqh_of}
 
--- the committed row of the key; the shell's host has none
+-- the committed row of the key; a host that runs no rows has none
 unfoldable pub row_at : Host → List ℕ → Option (List ℕ)
-row_at (Shell s) key = None
-row_at (Node n) key = row_of n.lqh.rows key
+row_at host key = row_of (lqh_of host).rows key

@@ -4,6 +4,7 @@ use Rattle.sig_core.specs.declared.mark.Mark.TheVariants.{Decided}
 use Rattle.sig_core.specs.declared.member.TxId.{TxId}
 use Rattle.sig_core.specs.declared.signal.Body.{Body}
 use Rattle.sig_core.specs.declared.signal.Body.TheVariants.{Epoch}
+use Rattle.sig_core.specs.declared.signal.Signal.{Signal}
 use Rattle.sig_core.specs.declared.signal.epoch.EpochSignal.TheVariants.{DiVerifyReq, DiVerifyConf, DiVerifyEnd}
 use Rattle.sig_core.specs.Place.{coordinator}
 use Rattle.sig_core.specs.Same.{same_tx}
@@ -39,8 +40,12 @@ end_by s (Some at) = record { node = s.node; epoch = s.epoch; counted = remove s
 unfoldable pub end_row : DihState → TxId → DihState
 end_row s tx = end_by s (position (same_tx tx) s.counted)
 
--- what the block does at each signal. It leaves the others alone
-abbrev pub dih_row : DihState → Body → Step DihState
-dih_row s (Epoch (DiVerifyReq tx ops)) = decide_row s tx
-dih_row s (Epoch (DiVerifyEnd tx)) = stay (end_row s tx)
-dih_row s _ = stay s
+-- what the block does, by what a signal says. It leaves the others alone
+abbrev pub dih_table : DihState → Body → Step DihState
+dih_table s (Epoch (DiVerifyReq tx ops)) = decide_row s tx
+dih_table s (Epoch (DiVerifyEnd tx)) = stay (end_row s tx)
+dih_table s _ = stay s
+
+-- what the block does at each signal
+abbrev pub dih_row : DihState → Signal → Step DihState
+dih_row s x = dih_table s x.body

@@ -1,3 +1,4 @@
+pub mod Blocks
 pub mod Committed
 pub mod Dih
 pub mod Fresh

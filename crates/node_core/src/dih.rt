@@ -93,7 +93,7 @@ impl Actor for Dih {
     ghost use Rattle.sig_core.specs.Step.{stay};
     ghost use Rattle.node_core.specs.Dih.{dih_row};
 
-    ghost step = { λ s signal. dih_row s signal.body };
+    ghost step = { dih_row };
 
     ghost installed = { λ s view. stay s };
 

@@ -1,20 +1,28 @@
 //! A host.
 ghost use Rattle.std.specs.Prelude.{◌≡◌, ◌++◌, [], None, IfOk, OnOk, OnErr, option_to_list};
-ghost use Rattle.node_core.specs.Fresh.{fresh_node, fresh_shell};
+ghost use Rattle.sig_core.specs.Rows.{no_rows, put_row};
+ghost use Rattle.node_core.specs.Fresh.{fresh_part, fresh_shell, own_rows, with_rows};
 ghost use Rattle.node_core.specs.Replies.{is_left_open, replies_of, with_replies};
 
-use crate::node::Node;
+use crate::main_part::MainPart;
+use crate::tc_part::TcPart;
 use api_block::Api;
-use sig_core::{Actor, ApiReply, BlockId, Key, NoMemory, Outs, Signal, Value, View};
+use frag_map::{Layout, holds};
+use lqh_block::{CountJournal, Lqh, MapRows};
+use sig_core::{
+    Actor, ApiReply, BlockId, Key, Member, NoMemory, Outs, Part, Rows, Shape, Signal, Value, View,
+};
 use std::alloc::Global;
 
-/// A unit that takes signals, one after the other.
+/// A unit that takes signals, one after the other: the shell's, or a part of a data node.
 #[derive(Drop)]
 pub enum Host {
     /// The shell's host, with the API.
     Shell(Api),
-    /// A data node.
-    Node(Node),
+    Main(MainPart),
+    Tc(TcPart),
+    /// The rows of a node.
+    Ldm(Lqh<MapRows, CountJournal>),
 }
 
 impl Host {
@@ -29,22 +37,32 @@ impl Host {
         Ok(Host::Shell(Api::new(alloc, view)?))
     }
 
-    /// A node, 1 to 8, that begins a life in this view and epoch, with these rows, whose keys are
-    /// distinct.
+    /// A part of a member, of a node from 1 on, that begins a life in this layout and epoch, with
+    /// those of these rows that its group has. The keys of the rows are distinct.
     ///
     /// # Errors
     /// `NoMemory`.
-    #[tactic(auto, unfolding(crate::specs::Fresh::fresh_node))]
-    pub fn node(
+    #[tactic(auto, unfolding(crate::specs::Fresh::fresh_part))]
+    pub fn part(
         alloc: Global,
-        node: u8,
-        view: &View,
+        part: Part,
+        member: Member,
+        layout: &Layout,
         epoch: u64,
         rows: &[(Key, Value)],
     ) -> Result<Host, NoMemory>
-        ensures { IfOk result (λ host. host ≡ fresh_node node view.now epoch rows.now) }
+        requires { 1 ≤ member.node }
+        ensures { IfOk result (λ host. host ≡ fresh_part part member layout.now epoch rows.now) }
     {
-        Ok(Host::Node(Node::new(alloc, node, view, epoch, rows)?))
+        match part {
+            Part::Main => Ok(Host::Main(MainPart::new(member))),
+            Part::Tc => Ok(Host::Tc(TcPart::new(alloc, member, layout, epoch)?)),
+            Part::Ldm => {
+                let rows = stored(alloc, &layout.shape(), member.node, rows)?;
+                let lqh = Lqh::new(alloc, member.node, *layout, rows, CountJournal::new())?;
+                Ok(Host::Ldm(lqh))
+            }
+        }
     }
 
     /// The next reply for the shell, in order, each once; none where all were given. A node has
@@ -56,7 +74,7 @@ impl Host {
     {
         match self {
             Host::Shell(api) => api.next_reply(),
-            Host::Node(_) => None,
+            _ => None,
         }
     }
 
@@ -67,27 +85,57 @@ impl Host {
     {
         match self {
             Host::Shell(api) => api.is_left_open(),
-            Host::Node(_) => false,
+            _ => false,
         }
     }
+}
+
+/// Of these rows those that a node's group has, put one after the other.
+fn stored(
+    alloc: Global,
+    shape: &Shape,
+    node: u8,
+    rows: &[(Key, Value)],
+) -> Result<MapRows, NoMemory>
+    ensures { IfOk result (λ stored. stored.rows ≡ with_rows no_rows (own_rows shape.now node rows.now)) }
+{
+    let mut stored = MapRows::new(alloc);
+    for row in rows {
+        if holds(shape, node, &row.0) {
+            put(&mut stored, row)?;
+        }
+    }
+    Ok(stored)
+}
+
+/// Puts a row.
+fn put(stored: &mut MapRows, row: &(Key, Value)) -> Result<(), NoMemory>
+    ensures { OnOk result (stored.new.rows ≡ put_row stored.old.rows row.now.0 row.now.1) }
+{
+    stored.put_row(&row.0, &row.1)
 }
 
 impl Actor for Host {
     ghost use Rattle.sig_core.specs.Step.{stay};
     ghost use Rattle.node_core.specs.Row.{row};
 
-    ghost step = { λ s signal. row s signal.to signal.body };
+    ghost step = { row };
 
     ghost installed = { λ s view. stay s };
 
-    #[tactic(auto, unfolding(crate::specs::Row::row, crate::specs::Row::shell_row))]
+    #[tactic(auto, unfolding(crate::specs::Row::row, crate::specs::Row::shell_row, crate::specs::Row::ldm_row))]
     fn handle(&mut self, alloc: Global, signal: &Signal, out: &mut Outs) -> Result<(), NoMemory> {
         match self {
             Host::Shell(api) => match signal.to.block {
                 BlockId::Api => api.handle(alloc, signal, out),
                 _ => Ok(()),
             },
-            Host::Node(node) => node.handle(alloc, signal, out),
+            Host::Main(_) => Ok(()),
+            Host::Tc(part) => part.handle(alloc, signal, out),
+            Host::Ldm(lqh) => match signal.to.block {
+                BlockId::Lqh => lqh.handle(alloc, signal, out),
+                _ => Ok(()),
+            },
         }
     }
 

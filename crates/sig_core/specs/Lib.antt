@@ -4,6 +4,7 @@ pub mod Journal
 pub mod Members
 pub mod Op
 pub mod Outs
+pub mod Part
 pub mod Place
 pub mod Redo
 pub mod Rows

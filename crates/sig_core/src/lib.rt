@@ -40,7 +40,9 @@ pub use no_memory::NoMemory;
 pub use op::{Answer, Op};
 pub use outcome::{AbortCause, Outcome, StopCause};
 pub use outs::{OUTS, Outgoing, Outs};
-pub use place::{BlockId, CLIENT, Place, coordinator, coordinator_of, epochs, rows_of};
+pub use place::{
+    BlockId, CLIENT, Part, Place, coordinator, coordinator_of, epochs, part_of, rows_of,
+};
 pub use redo::Redo;
 pub use reply::{ApiReply, Refusal, Waiting};
 pub use request::{ApiReq, BatchLine};

@@ -1,5 +1,6 @@
 //! Where a signal is for.
 ghost use Rattle.std.specs.Prelude.{◌≡◌};
+ghost use Rattle.sig_core.specs.Part.{part_of};
 ghost use Rattle.sig_core.specs.Place.{coordinator, coordinator_of, epochs, rows_of};
 
 use crate::member::TxId;
@@ -27,6 +28,29 @@ pub enum BlockId {
     Copy,
     /// The disk of the node.
     Files,
+}
+
+/// A part of a data node, which has a host of its own.
+#[derive(Clone, Copy, Debug, PartialEq, Eq)]
+pub enum Part {
+    /// Membership, checkpoints and copying.
+    Main,
+    /// The coordinator, takeover and epochs.
+    Tc,
+    /// The rows and the disk.
+    Ldm,
+}
+
+/// The part of a node that runs a block. No node runs the blocks of the shell host; they count as
+/// main ones.
+pub fn part_of(block: BlockId) -> Part
+    ensures { result ≡ part_of block }
+{
+    match block {
+        BlockId::Tc | BlockId::Takeover | BlockId::Dih => Part::Tc,
+        BlockId::Lqh | BlockId::Files => Part::Ldm,
+        _ => Part::Main,
+    }
 }
 
 /// A block of a node. Node 0 is the shell host's.

@@ -6,7 +6,7 @@ use Rattle.sig_core.specs.declared.outcome.AbortCause.TheVariants.{Request}
 use Rattle.sig_core.specs.declared.outs.Outgoing.{Outgoing}
 use Rattle.sig_core.specs.declared.signal.Body.TheVariants.{Client}
 use Rattle.sig_core.specs.declared.signal.client.ClientSignal.TheVariants.{TcRollbackRep}
-use Rattle.sig_core.specs.declared.view.View.{View}
+use Rattle.frag_map.specs.Layout.{Layout}
 use Rattle.sig_core.specs.Op.{key_of}
 use Rattle.sig_core.specs.Step.{stay, to_place}
 use Rattle.tc_block.specs.declared.phase.Asked.{Asked}
@@ -14,26 +14,26 @@ use Rattle.tc_block.specs.declared.phase.Phase.{Phase}
 use Rattle.tc_block.specs.declared.phase.Phase.TheVariants.{Open, Verifying, Aborting}
 use Rattle.tc_block.specs.declared.touched.Touched.{Touched}
 use Rattle.tc_block.specs.declared.transaction.Transaction.{Transaction}
-use Rattle.tc_block.specs.Chain.{chain_of}
+use Rattle.frag_map.specs.Layout.{chain_of}
 use Rattle.tc_block.specs.Operate.{asked_on, late_answer}
 use Rattle.sig_core.specs.Place.{client}
 use Rattle.tc_block.specs.Sends.{entering, verify_end}
 use Rattle.tc_block.specs.Turn.{Turn, going, ending, at_phase, asking, sends_only}
 
--- how many replicas the keys have in a view, all together
-abbrev pub replica_count : View → List Touched → ℕ
-replica_count view [] = 0
-replica_count view (t ∷ touched) = length (chain_of view t.key) + replica_count view touched
+-- how many replicas the keys have in a layout, all together
+abbrev pub replica_count : Layout → List Touched → ℕ
+replica_count layout [] = 0
+replica_count layout (t ∷ touched) = length (chain_of layout t.key) + replica_count layout touched
 
 -- how many replicas the key of the unanswered operation has, if there is one
-abbrev pub asked_count : View → Option Asked → ℕ
-asked_count view None = 0
-asked_count view (Some asked) = length (chain_of view (key_of asked.op))
+abbrev pub asked_count : Layout → Option Asked → ℕ
+asked_count layout None = 0
+asked_count layout (Some asked) = length (chain_of layout (key_of asked.op))
 
 -- how many `Aborted` an abort waits for: one from every replica of every touched key, and one more from
 -- every replica of the key of the unanswered operation, to which `Abort` goes again at its answer
-abbrev pub aborts_awaited : View → Transaction → ℕ
-aborts_awaited view t = replica_count view t.touched + asked_count view t.asked
+abbrev pub aborts_awaited : Layout → Transaction → ℕ
+aborts_awaited layout t = replica_count layout t.touched + asked_count layout t.asked
 
 -- an epoch was asked for
 abbrev pub is_verifying : Phase → Bool
@@ -50,30 +50,30 @@ abort_end node tx cause true = verify_end node tx ∷ rolled_back tx cause ∷ [
 abort_end node tx cause false = rolled_back tx cause ∷ []
 
 -- an abort begins, or has nothing to wait for
-abbrev pub abort_if : ℕ → View → TxId → Transaction → AbortCause → Bool → Turn
-abort_if node view tx t cause true = ending t (sends_only (abort_end node tx cause (is_verifying t.phase)))
-abort_if node view tx t cause false = going (entering node view tx t (Aborting cause (is_verifying t.phase) (aborts_awaited view t)))
+abbrev pub abort_if : ℕ → Layout → TxId → Transaction → AbortCause → Bool → Turn
+abort_if node layout tx t cause true = ending t (sends_only (abort_end node tx cause (is_verifying t.phase)))
+abort_if node layout tx t cause false = going (entering node layout tx t (Aborting cause (is_verifying t.phase) (aborts_awaited layout t)))
 
-unfoldable pub aborted_for : ℕ → View → TxId → Transaction → AbortCause → Turn
-aborted_for node view tx t cause = abort_if node view tx t cause (aborts_awaited view t == 0)
+unfoldable pub aborted_for : ℕ → Layout → TxId → Transaction → AbortCause → Turn
+aborted_for node layout tx t cause = abort_if node layout tx t cause (aborts_awaited layout t == 0)
 
 -- an operation is refused
-abbrev pub refuse_by : ℕ → View → TxId → Transaction → List ℕ → AbortCause → Option Asked → Phase → Turn
-refuse_by node view tx t key cause (Some asked) Open = aborted_for node view tx (asking t None) cause
-refuse_by node view tx t key cause (Some asked) (Aborting other verifying awaited) = going (late_answer view tx t key)
-refuse_by node view tx t key cause _ _ = going (stay t)
+abbrev pub refuse_by : ℕ → Layout → TxId → Transaction → List ℕ → AbortCause → Option Asked → Phase → Turn
+refuse_by node layout tx t key cause (Some asked) Open = aborted_for node layout tx (asking t None) cause
+refuse_by node layout tx t key cause (Some asked) (Aborting other verifying awaited) = going (late_answer layout tx t key)
+refuse_by node layout tx t key cause _ _ = going (stay t)
 
-unfoldable pub refuse_row : ℕ → View → TxId → Transaction → List ℕ → AbortCause → Turn
-refuse_row node view tx t key cause = refuse_by node view tx t key cause (asked_on t.asked key) t.phase
+unfoldable pub refuse_row : ℕ → Layout → TxId → Transaction → List ℕ → AbortCause → Turn
+refuse_row node layout tx t key cause = refuse_by node layout tx t key cause (asked_on t.asked key) t.phase
 
 -- the client asks for an abort: what is decided, or is aborted already, goes on
-abbrev pub rollback_by : ℕ → View → TxId → Transaction → Phase → Turn
-rollback_by node view tx t Open = aborted_for node view tx t Request
-rollback_by node view tx t Verifying = aborted_for node view tx t Request
-rollback_by node view tx t _ = going (stay t)
+abbrev pub rollback_by : ℕ → Layout → TxId → Transaction → Phase → Turn
+rollback_by node layout tx t Open = aborted_for node layout tx t Request
+rollback_by node layout tx t Verifying = aborted_for node layout tx t Request
+rollback_by node layout tx t _ = going (stay t)
 
-unfoldable pub rollback_row : ℕ → View → TxId → Transaction → Turn
-rollback_row node view tx t = rollback_by node view tx t t.phase
+unfoldable pub rollback_row : ℕ → Layout → TxId → Transaction → Turn
+rollback_row node layout tx t = rollback_by node layout tx t t.phase
 
 -- a replica has aborted a key, the last one or not
 abbrev pub aborted_if : ℕ → TxId → Transaction → AbortCause → Bool → ℕ → Bool → Turn

@@ -3,7 +3,7 @@ use Rattle.std.specs.Prelude.{ℕ, ◌-◌, ◌==◌, Bool, true, false, nat_lt,
 use Rattle.sig_core.specs.declared.member.TxId.{TxId}
 use Rattle.sig_core.specs.declared.signal.Body.TheVariants.{Epoch}
 use Rattle.sig_core.specs.declared.signal.epoch.EpochSignal.TheVariants.{DiVerifyReq}
-use Rattle.sig_core.specs.declared.view.View.{View}
+use Rattle.frag_map.specs.Layout.{Layout}
 use Rattle.sig_core.specs.Step.{Step, stay, sending}
 use Rattle.tc_block.specs.declared.phase.Phase.{Phase}
 use Rattle.tc_block.specs.declared.phase.Phase.TheVariants.{Verifying, Committing}
@@ -23,25 +23,25 @@ unfoldable pub decide_row : ℕ → TxId → Transaction → Step Transaction
 decide_row node tx t = decide_if node tx t (is_ready t.phase t.asked)
 
 -- the epoch is given: all keys are committed in it
-abbrev pub commit_if : ℕ → View → TxId → Transaction → ℕ → Bool → Turn
-commit_if node view tx t epoch true = all_committed node view tx t epoch
-commit_if node view tx t epoch false = going (entering node view tx t (Committing epoch (length t.touched)))
+abbrev pub commit_if : ℕ → Layout → TxId → Transaction → ℕ → Bool → Turn
+commit_if node layout tx t epoch true = all_committed node layout tx t epoch
+commit_if node layout tx t epoch false = going (entering node layout tx t (Committing epoch (length t.touched)))
 
-abbrev pub commit_by : ℕ → View → TxId → Transaction → ℕ → Phase → Turn
-commit_by node view tx t epoch Verifying = commit_if node view tx t epoch (length t.touched == 0)
-commit_by node view tx t epoch _ = going (stay t)
+abbrev pub commit_by : ℕ → Layout → TxId → Transaction → ℕ → Phase → Turn
+commit_by node layout tx t epoch Verifying = commit_if node layout tx t epoch (length t.touched == 0)
+commit_by node layout tx t epoch _ = going (stay t)
 
-unfoldable pub commit_row : ℕ → View → TxId → Transaction → ℕ → Turn
-commit_row node view tx t epoch = commit_by node view tx t epoch t.phase
+unfoldable pub commit_row : ℕ → Layout → TxId → Transaction → ℕ → Turn
+commit_row node layout tx t epoch = commit_by node layout tx t epoch t.phase
 
 -- a key is committed, the last one or not
-abbrev pub committed_if : ℕ → View → TxId → Transaction → ℕ → ℕ → Bool → Turn
-committed_if node view tx t epoch awaited true = going (stay (at_phase t (Committing epoch (awaited - 1))))
-committed_if node view tx t epoch awaited false = all_committed node view tx t epoch
+abbrev pub committed_if : ℕ → Layout → TxId → Transaction → ℕ → ℕ → Bool → Turn
+committed_if node layout tx t epoch awaited true = going (stay (at_phase t (Committing epoch (awaited - 1))))
+committed_if node layout tx t epoch awaited false = all_committed node layout tx t epoch
 
-abbrev pub committed_by : ℕ → View → TxId → Transaction → Phase → Turn
-committed_by node view tx t (Committing epoch awaited) = committed_if node view tx t epoch awaited (nat_lt 1 awaited)
-committed_by node view tx t _ = going (stay t)
+abbrev pub committed_by : ℕ → Layout → TxId → Transaction → Phase → Turn
+committed_by node layout tx t (Committing epoch awaited) = committed_if node layout tx t epoch awaited (nat_lt 1 awaited)
+committed_by node layout tx t _ = going (stay t)
 
-unfoldable pub committed_row : ℕ → View → TxId → Transaction → Turn
-committed_row node view tx t = committed_by node view tx t t.phase
+unfoldable pub committed_row : ℕ → Layout → TxId → Transaction → Turn
+committed_row node layout tx t = committed_by node layout tx t t.phase

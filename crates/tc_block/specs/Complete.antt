@@ -1,7 +1,7 @@
 -- The completion of a transaction: what follows when all its keys are committed.
 use Rattle.std.specs.Prelude.{ℕ, ◌+◌, ◌-◌, ◌==◌, Bool, true, false, nat_lt, List, [], ◌∷◌}
 use Rattle.sig_core.specs.declared.member.TxId.{TxId}
-use Rattle.sig_core.specs.declared.view.View.{View}
+use Rattle.frag_map.specs.Layout.{Layout}
 use Rattle.sig_core.specs.Step.{stay}
 use Rattle.tc_block.specs.declared.phase.Phase.{Phase}
 use Rattle.tc_block.specs.declared.phase.Phase.TheVariants.{Completing}
@@ -20,12 +20,12 @@ written_count [] = 0
 written_count (t ∷ touched) = one_if t.written + written_count touched
 
 -- all keys are committed: the client is told, and what was written is completed
-abbrev pub all_committed_if : ℕ → View → TxId → Transaction → ℕ → Bool → Turn
-all_committed_if node view tx t epoch true = ending t (sends_only (reported tx epoch ∷ verify_end node tx ∷ []))
-all_committed_if node view tx t epoch false = going (entering node view tx t (Completing epoch (written_count t.touched)))
+abbrev pub all_committed_if : ℕ → Layout → TxId → Transaction → ℕ → Bool → Turn
+all_committed_if node layout tx t epoch true = ending t (sends_only (reported tx epoch ∷ verify_end node tx ∷ []))
+all_committed_if node layout tx t epoch false = going (entering node layout tx t (Completing epoch (written_count t.touched)))
 
-unfoldable pub all_committed : ℕ → View → TxId → Transaction → ℕ → Turn
-all_committed node view tx t epoch = all_committed_if node view tx t epoch (written_count t.touched == 0)
+unfoldable pub all_committed : ℕ → Layout → TxId → Transaction → ℕ → Turn
+all_committed node layout tx t epoch = all_committed_if node layout tx t epoch (written_count t.touched == 0)
 
 -- a key is completed, the last one or not
 abbrev pub completed_if : ℕ → TxId → Transaction → ℕ → ℕ → Bool → Turn

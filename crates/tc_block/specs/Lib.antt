@@ -1,5 +1,4 @@
 pub mod Abort
-pub mod Chain
 pub mod Commit
 pub mod Complete
 pub mod Live

@@ -9,7 +9,7 @@ use Rattle.sig_core.specs.declared.signal.Body.TheVariants.{Client, Chain}
 use Rattle.sig_core.specs.declared.signal.chain.ChainSignal.TheVariants.{LqhKeyReq}
 use Rattle.sig_core.specs.declared.signal.chain.RowWork.TheVariants.{Operate}
 use Rattle.sig_core.specs.declared.signal.client.ClientSignal.TheVariants.{TcKeyConf}
-use Rattle.sig_core.specs.declared.view.View.{View}
+use Rattle.frag_map.specs.Layout.{Layout}
 use Rattle.sig_core.specs.Op.{key_of}
 use Rattle.sig_core.specs.Same.{same_key}
 use Rattle.sig_core.specs.Step.{Step, stay, sending}
@@ -19,7 +19,7 @@ use Rattle.tc_block.specs.declared.phase.Phase.TheVariants.{Open, Aborting}
 use Rattle.tc_block.specs.declared.touched.Touched.{Touched}
 use Rattle.tc_block.specs.declared.transaction.Transaction.{Transaction}
 use Rattle.sig_core.specs.Chain.{node_at}
-use Rattle.tc_block.specs.Chain.{chain_of}
+use Rattle.frag_map.specs.Layout.{chain_of}
 use Rattle.sig_core.specs.Place.{client, rows_of}
 use Rattle.tc_block.specs.Sends.{aborts_of, waits_of}
 use Rattle.tc_block.specs.Touched.{fits, touch, write}
@@ -45,13 +45,13 @@ operating tx t op chain =
     (record { ops = t.ops; touched = touch t.touched (key_of op) chain; asked = Some (record { op = op; chain = chain }); phase = t.phase })
     (rows_of (node_at chain 0)) (Chain (LqhKeyReq tx (Operate op) chain 0))
 
-abbrev pub operate_if : View → TxId → Transaction → Op → Bool → Step Transaction
-operate_if view tx t op true = operating tx t op (chain_of view (key_of op))
-operate_if view tx t op false = stay t
+abbrev pub operate_if : Layout → TxId → Transaction → Op → Bool → Step Transaction
+operate_if layout tx t op true = operating tx t op (chain_of layout (key_of op))
+operate_if layout tx t op false = stay t
 
 -- an operation is asked for
-unfoldable pub operate_row : View → TxId → Transaction → Op → Step Transaction
-operate_row view tx t op = operate_if view tx t op (can_operate t op)
+unfoldable pub operate_row : Layout → TxId → Transaction → Op → Step Transaction
+operate_row layout tx t op = operate_if layout tx t op (can_operate t op)
 
 -- the unanswered operation, if it is on this key
 abbrev pub asked_if : Asked → Bool → Option Asked
@@ -78,18 +78,18 @@ answered t asked answer =
     }
 
 -- an answer comes while the transaction is aborted: the operation may have come to a replica behind its `Abort`
-abbrev pub late_answer : View → TxId → Transaction → List ℕ → Step Transaction
-late_answer view tx t key =
-    record { state = asking t None; effects = sends_only (aborts_of tx key (chain_of view key)) }
+abbrev pub late_answer : Layout → TxId → Transaction → List ℕ → Step Transaction
+late_answer layout tx t key =
+    record { state = asking t None; effects = sends_only (aborts_of tx key (chain_of layout key)) }
 
 -- an operation is answered
-abbrev pub answer_by : View → TxId → Transaction → List ℕ → Answer → Option Asked → Phase → Step Transaction
-answer_by view tx t key answer (Some asked) Open = sending (answered t asked answer) client (Client (TcKeyConf tx answer))
-answer_by view tx t key answer (Some asked) (Aborting cause verifying awaited) = late_answer view tx t key
-answer_by view tx t key answer _ _ = stay t
+abbrev pub answer_by : Layout → TxId → Transaction → List ℕ → Answer → Option Asked → Phase → Step Transaction
+answer_by layout tx t key answer (Some asked) Open = sending (answered t asked answer) client (Client (TcKeyConf tx answer))
+answer_by layout tx t key answer (Some asked) (Aborting cause verifying awaited) = late_answer layout tx t key
+answer_by layout tx t key answer _ _ = stay t
 
-unfoldable pub answer_row : View → TxId → Transaction → List ℕ → Answer → Step Transaction
-answer_row view tx t key answer = answer_by view tx t key answer (asked_on t.asked key) t.phase
+unfoldable pub answer_row : Layout → TxId → Transaction → List ℕ → Answer → Step Transaction
+answer_row layout tx t key answer = answer_by layout tx t key answer (asked_on t.asked key) t.phase
 
 -- the replicas are asked what the unanswered operation waits for
 abbrev pub wait_by : TxId → Transaction → Option Asked → Step Transaction

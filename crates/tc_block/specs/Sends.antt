@@ -8,14 +8,14 @@ use Rattle.sig_core.specs.declared.signal.Body.TheVariants.{Client, Chain, Epoch
 use Rattle.sig_core.specs.declared.signal.chain.ChainSignal.TheVariants.{Commit, Complete, Abort}
 use Rattle.sig_core.specs.declared.signal.client.ClientSignal.TheVariants.{TcCommitConf, LqhWaitReq}
 use Rattle.sig_core.specs.declared.signal.epoch.EpochSignal.TheVariants.{DiVerifyEnd}
-use Rattle.sig_core.specs.declared.view.View.{View}
+use Rattle.frag_map.specs.Layout.{Layout}
 use Rattle.sig_core.specs.Step.{Step, stay, to_place}
 use Rattle.tc_block.specs.declared.phase.Phase.{Phase}
 use Rattle.tc_block.specs.declared.phase.Phase.TheVariants.{Open, Verifying, Committing, Completing, Aborting}
 use Rattle.tc_block.specs.declared.touched.Touched.{Touched}
 use Rattle.tc_block.specs.declared.transaction.Transaction.{Transaction}
 use Rattle.sig_core.specs.Chain.{last_place, node_at}
-use Rattle.tc_block.specs.Chain.{chain_of}
+use Rattle.frag_map.specs.Layout.{chain_of}
 use Rattle.tc_block.specs.Part.{part_effects}
 use Rattle.sig_core.specs.Place.{client, epochs, rows_of}
 use Rattle.tc_block.specs.Turn.{at_phase}
@@ -56,12 +56,12 @@ abbrev pub waits_of : TxId → List ℕ → List Member → List Outgoing
 waits_of tx key replicas = map (wait_of tx key) replicas
 
 -- what is sent for one key: to commit each, to complete those that were written, to abort each at every replica
-unfoldable pub key_sends : View → TxId → Phase → Touched → List Outgoing
-key_sends view tx (Committing epoch awaited) t = commit_of tx epoch t ∷ []
-key_sends view tx (Completing epoch awaited) t = complete_if tx t t.written
-key_sends view tx (Aborting cause verifying awaited) t = aborts_of tx t.key (chain_of view t.key)
-key_sends view tx Open t = []
-key_sends view tx Verifying t = []
+unfoldable pub key_sends : Layout → TxId → Phase → Touched → List Outgoing
+key_sends layout tx (Committing epoch awaited) t = commit_of tx epoch t ∷ []
+key_sends layout tx (Completing epoch awaited) t = complete_if tx t t.written
+key_sends layout tx (Aborting cause verifying awaited) t = aborts_of tx t.key (chain_of layout t.key)
+key_sends layout tx Open t = []
+key_sends layout tx Verifying t = []
 
 -- what is sent in front of that: when all is committed the client is told first
 unfoldable pub front_sends : TxId → Phase → List Outgoing
@@ -72,18 +72,18 @@ front_sends tx Open = []
 front_sends tx Verifying = []
 
 -- all that a transaction sends in a phase, in order
-unfoldable pub phase_sends : View → TxId → Phase → List Touched → List Outgoing
-phase_sends view tx phase touched = front_sends tx phase ++ flat_map (key_sends view tx phase) touched
+unfoldable pub phase_sends : Layout → TxId → Phase → List Touched → List Outgoing
+phase_sends layout tx phase touched = front_sends tx phase ++ flat_map (key_sends layout tx phase) touched
 
 -- a transaction comes to a phase, and sends the first part of what it sends in it
-unfoldable pub entering : ℕ → View → TxId → Transaction → Phase → Step Transaction
-entering node view tx t phase = record { state = at_phase t phase; effects = part_effects node tx (phase_sends view tx phase t.touched) 0 }
+unfoldable pub entering : ℕ → Layout → TxId → Transaction → Phase → Step Transaction
+entering node layout tx t phase = record { state = at_phase t phase; effects = part_effects node tx (phase_sends layout tx phase t.touched) 0 }
 
 -- the rest of what a transaction sends in its phase, from a place on. No list has more than 512 signals: `Abort` for 64 keys,
 -- to eight replicas of each
-abbrev pub go_on_if : ℕ → View → TxId → Transaction → ℕ → Bool → Step Transaction
-go_on_if node view tx t at true = record { state = t; effects = part_effects node tx (phase_sends view tx t.phase t.touched) at }
-go_on_if node view tx t at false = stay t
+abbrev pub go_on_if : ℕ → Layout → TxId → Transaction → ℕ → Bool → Step Transaction
+go_on_if node layout tx t at true = record { state = t; effects = part_effects node tx (phase_sends layout tx t.phase t.touched) at }
+go_on_if node layout tx t at false = stay t
 
-unfoldable pub go_on_row : ℕ → View → TxId → Transaction → ℕ → Step Transaction
-go_on_row node view tx t at = go_on_if node view tx t at (nat_lt at 512)
+unfoldable pub go_on_row : ℕ → Layout → TxId → Transaction → ℕ → Step Transaction
+go_on_row node layout tx t at = go_on_if node layout tx t at (nat_lt at 512)

@@ -4,12 +4,15 @@ use Rattle.indexmap.specs.IndexMap.{insert_entry}
 use Rattle.sig_core.specs.declared.member.TxId.{TxId}
 use Rattle.sig_core.specs.declared.signal.Body.{Body}
 use Rattle.sig_core.specs.declared.signal.Body.TheVariants.{Host, Client, Chain, Epoch}
+use Rattle.sig_core.specs.declared.signal.Signal.{Signal}
 use Rattle.sig_core.specs.declared.signal.chain.ChainSignal.TheVariants.{LqhKeyConf, LqhKeyRef, Committed, Completed, Aborted}
 use Rattle.sig_core.specs.declared.signal.client.ClientSignal.TheVariants.{TcBeginReq, TcBeginConf, TcBeginRef, TcKeyReq, TcCommitReq, TcRollbackReq, TcWaitReq, TcWaitConf, LqhWaitConf}
 use Rattle.sig_core.specs.declared.signal.epoch.EpochSignal.TheVariants.{DiVerifyConf}
 use Rattle.sig_core.specs.declared.signal.host.HostSignal.TheVariants.{Continue}
 use Rattle.sig_core.specs.declared.signal.host.Work.TheVariants.{Transaction}
 use Rattle.sig_core.specs.declared.view.View.{View}
+use Rattle.frag_map.specs.Layout.{Layout}
+use Rattle.frag_map.specs.Layout as layouts
 use Rattle.sig_core.specs.Same.{same_tx}
 use Rattle.sig_core.specs.Step.{Step, stay, sending}
 use Rattle.tc_block.specs.Abort.{aborted_row, refuse_row, rollback_row}
@@ -22,8 +25,8 @@ use Rattle.tc_block.specs.Sends.{go_on_row}
 use Rattle.tc_block.specs.State.{TcState}
 
 -- a coordinator that has begun no transaction
-abbrev pub idle : ℕ → ℕ → View → TcState
-idle node start view = record { node = node; start = start; next_seq = 1; view = view; live = [] }
+abbrev pub idle : ℕ → ℕ → Layout → TcState
+idle node start layout = record { node = node; start = start; next_seq = 1; layout = layout; live = [] }
 
 -- the transaction with the next number
 abbrev pub next_tx : TcState → TxId
@@ -40,7 +43,7 @@ begun s =
       node = s.node;
       start = s.start;
       next_seq = s.next_seq + 1;
-      view = s.view;
+      layout = s.layout;
       live = insert_entry same_tx s.live (next_tx s) fresh;
     }
 
@@ -62,21 +65,25 @@ pass_row s tx ahead = pass_if s tx ahead (is_some (place_in s tx))
 
 -- another view is installed
 abbrev pub in_view : TcState → View → TcState
-in_view s view = record { node = s.node; start = s.start; next_seq = s.next_seq; view = view; live = s.live }
+in_view s view = record { node = s.node; start = s.start; next_seq = s.next_seq; layout = layouts.in_view s.layout view; live = s.live }
 
--- what the coordinator does at each signal. It leaves the others alone
-abbrev pub tc_row : TcState → Body → Step TcState
-tc_row s (Host (Continue (Transaction tx) at)) = step_of s tx (λ t. go_on_row s.node s.view tx t at)
-tc_row s (Client (TcBeginReq name)) = begin_row s name
-tc_row s (Client (TcKeyReq tx op)) = step_of s tx (λ t. operate_row s.view tx t op)
-tc_row s (Client (TcCommitReq tx)) = step_of s tx (λ t. decide_row s.node tx t)
-tc_row s (Client (TcRollbackReq tx)) = turn_of s tx (λ t. rollback_row s.node s.view tx t)
-tc_row s (Client (TcWaitReq tx)) = step_of s tx (λ t. wait_row tx t)
-tc_row s (Client (LqhWaitConf tx ahead)) = pass_row s tx ahead
-tc_row s (Chain (LqhKeyConf tx key answer)) = step_of s tx (λ t. answer_row s.view tx t key answer)
-tc_row s (Chain (LqhKeyRef tx key cause)) = turn_of s tx (λ t. refuse_row s.node s.view tx t key cause)
-tc_row s (Chain (Committed tx key)) = turn_of s tx (λ t. committed_row s.node s.view tx t)
-tc_row s (Chain (Completed tx key)) = turn_of s tx (λ t. completed_row s.node tx t)
-tc_row s (Chain (Aborted tx key)) = turn_of s tx (λ t. aborted_row s.node tx t)
-tc_row s (Epoch (DiVerifyConf tx epoch)) = turn_of s tx (λ t. commit_row s.node s.view tx t epoch)
-tc_row s _ = stay s
+-- what the coordinator does, by what a signal says. It leaves the others alone
+abbrev pub tc_table : TcState → Body → Step TcState
+tc_table s (Host (Continue (Transaction tx) at)) = step_of s tx (λ t. go_on_row s.node s.layout tx t at)
+tc_table s (Client (TcBeginReq name)) = begin_row s name
+tc_table s (Client (TcKeyReq tx op)) = step_of s tx (λ t. operate_row s.layout tx t op)
+tc_table s (Client (TcCommitReq tx)) = step_of s tx (λ t. decide_row s.node tx t)
+tc_table s (Client (TcRollbackReq tx)) = turn_of s tx (λ t. rollback_row s.node s.layout tx t)
+tc_table s (Client (TcWaitReq tx)) = step_of s tx (λ t. wait_row tx t)
+tc_table s (Client (LqhWaitConf tx ahead)) = pass_row s tx ahead
+tc_table s (Chain (LqhKeyConf tx key answer)) = step_of s tx (λ t. answer_row s.layout tx t key answer)
+tc_table s (Chain (LqhKeyRef tx key cause)) = turn_of s tx (λ t. refuse_row s.node s.layout tx t key cause)
+tc_table s (Chain (Committed tx key)) = turn_of s tx (λ t. committed_row s.node s.layout tx t)
+tc_table s (Chain (Completed tx key)) = turn_of s tx (λ t. completed_row s.node tx t)
+tc_table s (Chain (Aborted tx key)) = turn_of s tx (λ t. aborted_row s.node tx t)
+tc_table s (Epoch (DiVerifyConf tx epoch)) = turn_of s tx (λ t. commit_row s.node s.layout tx t epoch)
+tc_table s _ = stay s
+
+-- what the coordinator does at each signal
+abbrev pub tc_row : TcState → Signal → Step TcState
+tc_row s x = tc_table s x.body

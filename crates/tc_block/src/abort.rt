@@ -4,12 +4,12 @@ ghost use Rattle.sig_core.specs.Step.{HasRoom, IsTaken, joined};
 ghost use Rattle.tc_block.specs.Abort.{abort_end, aborted_for, aborted_row, aborts_awaited, asked_count, is_verifying, refuse_row, replica_count, rollback_row};
 ghost use Rattle.tc_block.specs.Turn.{sends_only};
 
-use crate::chain::chain_of;
 use crate::complete::send_verify_end;
 use crate::phase::{Asked, Phase};
 use crate::touched::Touched;
 use crate::transaction::Transaction;
-use sig_core::{AbortCause, Body, CLIENT, ClientSignal, Key, Outs, TxId, View};
+use frag_map::Layout;
+use sig_core::{AbortCause, Body, CLIENT, ClientSignal, Key, Outs, TxId};
 
 impl Transaction {
     /// An operation is refused: the transaction is aborted. While it is, the operation's key is
@@ -18,15 +18,15 @@ impl Transaction {
     pub fn refuse(
         &mut self,
         node: u8,
-        view: &View,
+        layout: &Layout,
         tx: TxId,
         key: &Key,
         cause: AbortCause,
         out: &mut Outs,
     ) -> bool
         requires { HasRoom out.old }
-        ensures taken { IsTaken (refuse_row node view.now tx self.old key.now cause).step self.new out.old out.new }
-        ensures over { result ≡ (refuse_row node view.now tx self.old key.now cause).over }
+        ensures taken { IsTaken (refuse_row node layout.now tx self.old key.now cause).step self.new out.old out.new }
+        ensures over { result ≡ (refuse_row node layout.now tx self.old key.now cause).over }
     {
         let Some(_) = self.asked_on(key) else {
             return false;
@@ -34,14 +34,14 @@ impl Transaction {
         match self.phase {
             Phase::Open => {
                 self.asked = None;
-                self.abort(node, view, tx, cause, out)
+                self.abort(node, layout, tx, cause, out)
             }
             Phase::Aborting {
                 cause: _,
                 verifying: _,
                 awaited: _,
             } => {
-                self.answer_late(view, tx, key, out);
+                self.answer_late(layout, tx, key, out);
                 false
             }
             _ => false,
@@ -51,26 +51,26 @@ impl Transaction {
     /// The client asks for an abort. What is decided, or is aborted already, goes on. Answers
     /// whether the transaction is over then.
     #[tactic(auto, unfolding(crate::specs::Abort::rollback_row))]
-    pub fn rollback(&mut self, node: u8, view: &View, tx: TxId, out: &mut Outs) -> bool
+    pub fn rollback(&mut self, node: u8, layout: &Layout, tx: TxId, out: &mut Outs) -> bool
         requires { HasRoom out.old }
-        ensures taken { IsTaken (rollback_row node view.now tx self.old).step self.new out.old out.new }
-        ensures over { result ≡ (rollback_row node view.now tx self.old).over }
+        ensures taken { IsTaken (rollback_row node layout.now tx self.old).step self.new out.old out.new }
+        ensures over { result ≡ (rollback_row node layout.now tx self.old).over }
     {
         match self.phase {
-            Phase::Open | Phase::Verifying => self.abort(node, view, tx, AbortCause::Request, out),
+            Phase::Open | Phase::Verifying => self.abort(node, layout, tx, AbortCause::Request, out),
             _ => false,
         }
     }
 
     // Begins to abort, or ends at once where there is nothing to wait for.
     #[tactic(auto, unfolding(crate::specs::Abort::aborted_for))]
-    fn abort(&mut self, node: u8, view: &View, tx: TxId, cause: AbortCause, out: &mut Outs) -> bool
+    fn abort(&mut self, node: u8, layout: &Layout, tx: TxId, cause: AbortCause, out: &mut Outs) -> bool
         requires { HasRoom out.old }
-        ensures taken { IsTaken (aborted_for node view.now tx self.old cause).step self.new out.old out.new }
-        ensures over { result ≡ (aborted_for node view.now tx self.old cause).over }
+        ensures taken { IsTaken (aborted_for node layout.now tx self.old cause).step self.new out.old out.new }
+        ensures over { result ≡ (aborted_for node layout.now tx self.old cause).over }
     {
         let verifying = is_verifying(self.phase);
-        let awaited = self.aborts_awaited(view);
+        let awaited = self.aborts_awaited(layout);
         if awaited == 0 {
             end_abort(node, tx, cause, verifying, out);
             true
@@ -80,16 +80,16 @@ impl Transaction {
                 verifying,
                 awaited,
             };
-            self.enter(node, view, tx, phase, out);
+            self.enter(node, layout, tx, phase, out);
             false
         }
     }
 
     // How many `Aborted` an abort waits for: those of the unanswered operation come twice.
-    fn aborts_awaited(&self, view: &View) -> usize
-        ensures { result ≡ aborts_awaited view.now self.now }
+    fn aborts_awaited(&self, layout: &Layout) -> usize
+        ensures { result ≡ aborts_awaited layout.now self.now }
     {
-        replica_count(view, self.touched.as_slice()) + asked_count(view, &self.asked)
+        replica_count(layout, self.touched.as_slice()) + asked_count(layout, &self.asked)
     }
 
     /// A replica has aborted a key: when all have, the client is told. Answers whether the
@@ -146,26 +146,26 @@ fn is_verifying(phase: Phase) -> bool
     }
 }
 
-// How many replicas the keys have in a view, all together.
-fn replica_count(view: &View, touched: &[Touched]) -> usize
+// How many replicas the keys have in a layout, all together.
+fn replica_count(layout: &Layout, touched: &[Touched]) -> usize
     requires { length touched.now ≤ 64 }
-    ensures count { result ≡ replica_count view.now touched.now }
+    ensures count { result ≡ replica_count layout.now touched.now }
     ensures few { result ≤ 512 }
 {
     let mut count = 0;
     for t in touched {
-        count += chain_of(view, &t.key).as_slice().len();
+        count += layout.chain_of(&t.key).as_slice().len();
     }
     count
 }
 
 // How many replicas the key of the unanswered operation has, if there is one.
-fn asked_count(view: &View, asked: &Option<Asked>) -> usize
-    ensures count { result ≡ asked_count view.now asked.now }
+fn asked_count(layout: &Layout, asked: &Option<Asked>) -> usize
+    ensures count { result ≡ asked_count layout.now asked.now }
     ensures few { result ≤ 8 }
 {
     match asked {
-        Some(asked) => chain_of(view, asked.op.key()).as_slice().len(),
+        Some(asked) => layout.chain_of(asked.op.key()).as_slice().len(),
         None => 0,
     }
 }

@@ -5,7 +5,8 @@ ghost use Rattle.tc_block.specs.Commit.{commit_if, commit_row, committed_row, de
 
 use crate::phase::Phase;
 use crate::transaction::Transaction;
-use sig_core::{Body, EpochSignal, NoMemory, Outs, Seq, TxId, View, epochs};
+use frag_map::Layout;
+use sig_core::{Body, EpochSignal, NoMemory, Outs, Seq, TxId, epochs};
 use std::alloc::Global;
 
 impl Transaction {
@@ -40,29 +41,29 @@ impl Transaction {
     /// The epoch is given, and all keys are committed in it. Answers whether the transaction is
     /// over then.
     #[tactic(auto, unfolding(crate::specs::Commit::commit_row))]
-    pub fn commit(&mut self, node: u8, view: &View, tx: TxId, epoch: u64, out: &mut Outs) -> bool
+    pub fn commit(&mut self, node: u8, layout: &Layout, tx: TxId, epoch: u64, out: &mut Outs) -> bool
         requires { HasRoom out.old }
-        ensures taken { IsTaken (commit_row node view.now tx self.old epoch).step self.new out.old out.new }
-        ensures over { result ≡ (commit_row node view.now tx self.old epoch).over }
+        ensures taken { IsTaken (commit_row node layout.now tx self.old epoch).step self.new out.old out.new }
+        ensures over { result ≡ (commit_row node layout.now tx self.old epoch).over }
     {
         if let Phase::Verifying = self.phase {
-            self.commit_all(node, view, tx, epoch, out)
+            self.commit_all(node, layout, tx, epoch, out)
         } else {
             false
         }
     }
 
     // Commits all keys, if there are any.
-    fn commit_all(&mut self, node: u8, view: &View, tx: TxId, epoch: u64, out: &mut Outs) -> bool
+    fn commit_all(&mut self, node: u8, layout: &Layout, tx: TxId, epoch: u64, out: &mut Outs) -> bool
         requires { HasRoom out.old }
-        ensures taken { IsTaken (commit_if node view.now tx self.old epoch (length self.old.touched == 0)).step self.new out.old out.new }
-        ensures over { result ≡ (commit_if node view.now tx self.old epoch (length self.old.touched == 0)).over }
+        ensures taken { IsTaken (commit_if node layout.now tx self.old epoch (length self.old.touched == 0)).step self.new out.old out.new }
+        ensures over { result ≡ (commit_if node layout.now tx self.old epoch (length self.old.touched == 0)).over }
     {
         let awaited = self.touched.as_slice().len();
         if awaited == 0 {
-            self.complete(node, view, tx, epoch, out)
+            self.complete(node, layout, tx, epoch, out)
         } else {
-            self.enter(node, view, tx, Phase::Committing { epoch, awaited }, out);
+            self.enter(node, layout, tx, Phase::Committing { epoch, awaited }, out);
             false
         }
     }
@@ -70,10 +71,10 @@ impl Transaction {
     /// A key is committed: when all are, the client is told, and what was written is completed.
     /// Answers whether the transaction is over then.
     #[tactic(auto, unfolding(crate::specs::Commit::committed_row))]
-    pub fn committed(&mut self, node: u8, view: &View, tx: TxId, out: &mut Outs) -> bool
+    pub fn committed(&mut self, node: u8, layout: &Layout, tx: TxId, out: &mut Outs) -> bool
         requires { HasRoom out.old }
-        ensures taken { IsTaken (committed_row node view.now tx self.old).step self.new out.old out.new }
-        ensures over { result ≡ (committed_row node view.now tx self.old).over }
+        ensures taken { IsTaken (committed_row node layout.now tx self.old).step self.new out.old out.new }
+        ensures over { result ≡ (committed_row node layout.now tx self.old).over }
     {
         if let Phase::Committing { epoch, awaited } = self.phase {
             if awaited > 1 {
@@ -83,7 +84,7 @@ impl Transaction {
                 };
                 false
             } else {
-                self.complete(node, view, tx, epoch, out)
+                self.complete(node, layout, tx, epoch, out)
             }
         } else {
             false

@@ -7,16 +7,17 @@ ghost use Rattle.tc_block.specs.Sends.{verify_end};
 use crate::phase::Phase;
 use crate::touched::Touched;
 use crate::transaction::Transaction;
-use sig_core::{Body, CLIENT, ClientSignal, EpochSignal, Outs, TxId, View, epochs};
+use frag_map::Layout;
+use sig_core::{Body, CLIENT, ClientSignal, EpochSignal, Outs, TxId, epochs};
 
 impl Transaction {
     /// All keys are committed: tells the client, and completes what was written. Answers whether the
     /// transaction is over then.
     #[tactic(auto, unfolding(crate::specs::Complete::all_committed))]
-    pub fn complete(&mut self, node: u8, view: &View, tx: TxId, epoch: u64, out: &mut Outs) -> bool
+    pub fn complete(&mut self, node: u8, layout: &Layout, tx: TxId, epoch: u64, out: &mut Outs) -> bool
         requires { HasRoom out.old }
-        ensures taken { IsTaken (all_committed node view.now tx self.old epoch).step self.new out.old out.new }
-        ensures over { result ≡ (all_committed node view.now tx self.old epoch).over }
+        ensures taken { IsTaken (all_committed node layout.now tx self.old epoch).step self.new out.old out.new }
+        ensures over { result ≡ (all_committed node layout.now tx self.old epoch).over }
     {
         let awaited = written_count(self.touched.as_slice());
         if awaited == 0 {
@@ -27,7 +28,7 @@ impl Transaction {
             send_verify_end(node, tx, out);
             true
         } else {
-            self.enter(node, view, tx, Phase::Completing { epoch, awaited }, out);
+            self.enter(node, layout, tx, Phase::Completing { epoch, awaited }, out);
             false
         }
     }

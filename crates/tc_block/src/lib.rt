@@ -2,7 +2,6 @@
 #![tactic(auto)]
 
 mod abort;
-mod chain;
 mod commit;
 mod complete;
 mod part;

@@ -6,14 +6,11 @@ ghost use Rattle.tc_block.specs.Part.{all_offered, part_effects, so_far};
 ghost use Rattle.tc_block.specs.Sends.{aborts_of, commit_of, complete_if, front_sends, key_sends, phase_sends, waits_of};
 ghost use Rattle.tc_block.specs.Turn.{sends_only};
 
-use crate::chain::chain_of;
 use crate::part::{PART, Part};
 use crate::phase::Phase;
 use crate::touched::Touched;
-use sig_core::{
-    Body, CLIENT, ChainSignal, ClientSignal, HostSignal, Key, Members, Outs, TxId, View, Work,
-    coordinator, last_place, node_at, rows_of,
-};
+use frag_map::Layout;
+use sig_core::{Body, CLIENT, ChainSignal, ClientSignal, HostSignal, Key, Members, Outs, TxId, Work, coordinator, last_place, node_at, rows_of};
 
 /// The most signals that a list of sends has: `Abort` for 64 keys, to eight replicas of each.
 pub const SENDS: u64 = 512;
@@ -22,7 +19,7 @@ pub const SENDS: u64 = 512;
 /// is left the signal by which the coordinator goes on with it.
 pub fn send_part(
     node: u8,
-    view: &View,
+    layout: &Layout,
     tx: TxId,
     phase: Phase,
     touched: &[Touched],
@@ -31,10 +28,10 @@ pub fn send_part(
 )
     requires room { HasRoom out.old }
     requires place { at < 2 ^ 32 }
-    ensures { out.new ≡ joined out.old (part_effects node tx (phase_sends view.now tx phase touched.now) at) }
+    ensures { out.new ≡ joined out.old (part_effects node tx (phase_sends layout.now tx phase touched.now) at) }
 {
     let mut part = Part::new(at);
-    offer_all(view, tx, phase, touched, &mut part, out);
+    offer_all(layout, tx, phase, touched, &mut part, out);
     if part.more {
         let work = Work::Transaction(tx);
         let next = at + PART as u64;
@@ -48,7 +45,7 @@ pub fn send_part(
 // All that is sent.
 #[tactic(auto, using(crate::proofs::PartLemmas::parts), unfolding(crate::specs::Sends::phase_sends))]
 fn offer_all(
-    view: &View,
+    layout: &Layout,
     tx: TxId,
     phase: Phase,
     touched: &[Touched],
@@ -56,11 +53,11 @@ fn offer_all(
     out: &mut Outs,
 )
     requires { length out.old.sends + part.old.room ≤ 15 }
-    ensures offered { so_far part.new out.new ≡ all_offered (so_far part.old out.old) (phase_sends view.now tx phase touched.now) }
+    ensures offered { so_far part.new out.new ≡ all_offered (so_far part.old out.old) (phase_sends layout.now tx phase touched.now) }
     ensures fits { length out.new.sends + part.new.room ≤ 15 }
 {
     offer_front(tx, phase, part, out);
-    offer_keys(view, tx, phase, touched, part, out);
+    offer_keys(layout, tx, phase, touched, part, out);
 }
 
 // What is sent in front.
@@ -79,7 +76,7 @@ fn offer_front(tx: TxId, phase: Phase, part: &mut Part, out: &mut Outs)
 // What is sent for each key.
 #[tactic(auto, using(crate::proofs::PartLemmas::parts))]
 fn offer_keys(
-    view: &View,
+    layout: &Layout,
     tx: TxId,
     phase: Phase,
     touched: &[Touched],
@@ -87,19 +84,19 @@ fn offer_keys(
     out: &mut Outs,
 )
     requires { length out.old.sends + part.old.room ≤ 15 }
-    ensures offered { so_far part.new out.new ≡ all_offered (so_far part.old out.old) (flat_map (key_sends view.now tx phase) touched.now) }
+    ensures offered { so_far part.new out.new ≡ all_offered (so_far part.old out.old) (flat_map (key_sends layout.now tx phase) touched.now) }
     ensures fits { length out.new.sends + part.new.room ≤ 15 }
 {
     for t in touched {
-        offer_key(view, tx, phase, t, part, out);
+        offer_key(layout, tx, phase, t, part, out);
     }
 }
 
 // What is sent for one key.
 #[tactic(auto, unfolding(crate::specs::Sends::key_sends))]
-fn offer_key(view: &View, tx: TxId, phase: Phase, t: &Touched, part: &mut Part, out: &mut Outs)
+fn offer_key(layout: &Layout, tx: TxId, phase: Phase, t: &Touched, part: &mut Part, out: &mut Outs)
     requires { length out.old.sends + part.old.room ≤ 15 }
-    ensures offered { so_far part.new out.new ≡ all_offered (so_far part.old out.old) (key_sends view.now tx phase t.now) }
+    ensures offered { so_far part.new out.new ≡ all_offered (so_far part.old out.old) (key_sends layout.now tx phase t.now) }
     ensures fits { length out.new.sends + part.new.room ≤ 15 }
 {
     match phase {
@@ -112,7 +109,7 @@ fn offer_key(view: &View, tx: TxId, phase: Phase, t: &Touched, part: &mut Part, 
             cause: _,
             verifying: _,
             awaited: _,
-        } => offer_aborts(tx, &t.key, &chain_of(view, &t.key), part, out),
+        } => offer_aborts(tx, &t.key, &layout.chain_of(&t.key), part, out),
         Phase::Open | Phase::Verifying => {}
     }
 }

@@ -9,6 +9,7 @@ ghost use Rattle.tc_block.specs.Operate.{answer_row, operate_row, wait_row};
 ghost use Rattle.tc_block.specs.Sends.{go_on_row};
 
 use crate::transaction::Transaction;
+use frag_map::Layout;
 use indexmap::IndexMap;
 use sig_core::{
     AbortCause, Actor, Answer, Body, CLIENT, ChainSignal, ClientSignal, EpochSignal, HostSignal,
@@ -27,7 +28,7 @@ pub struct Tc {
     start: u32,
     /// The number of the next transaction, from 1.
     next_seq: u64,
-    view: View,
+    layout: Layout,
     /// The transactions that aren't forgotten, in the order in which they began.
     live: IndexMap<TxId, Transaction>,
 }
@@ -37,7 +38,7 @@ impl Model for Tc {
 
     ghost Value = { TcState };
 
-    ghost view = { λ t. record { node = t.node; start = t.start; next_seq = t.next_seq; view = t.view; live = t.live.entries } };
+    ghost view = { λ t. record { node = t.node; start = t.start; next_seq = t.next_seq; layout = t.layout; live = t.live.entries } };
 }
 
 impl Tc {
@@ -48,15 +49,15 @@ impl Tc {
     ///
     /// # Errors
     /// `NoMemory`.
-    pub fn new(alloc: Global, node: u8, start: u32, view: View) -> Result<Tc, NoMemory>
-        ensures { IfOk result (λ tc. tc ≡ idle node start view) }
+    pub fn new(alloc: Global, node: u8, start: u32, layout: Layout) -> Result<Tc, NoMemory>
+        ensures { IfOk result (λ tc. tc ≡ idle node start layout) }
     {
         let live = IndexMap::with_capacity(alloc, TRANSACTIONS)?;
         Ok(Tc {
             node,
             start,
             next_seq: 1,
-            view,
+            layout,
             live,
         })
     }
@@ -92,14 +93,14 @@ impl Tc {
     #[tactic(auto, using(crate::proofs::LiveLemmas::live))]
     fn operate(&mut self, tx: TxId, op: &Op, out: &mut Outs) -> Result<(), NoMemory>
         requires { HasRoom out.old }
-        ensures ok { OnOk result (IsTaken (step_of self.old tx (λ t. operate_row self.old.view tx t op.now)) self.new out.old out.new) }
+        ensures ok { OnOk result (IsTaken (step_of self.old tx (λ t. operate_row self.old.layout tx t op.now)) self.new out.old out.new) }
         ensures err { OnErr result (IsUntouched self.old self.new out.old out.new) }
     {
         let Some(at) = self.live.get_index_of(&tx) else {
             return Ok(());
         };
         let t = &mut self.live[at];
-        t.operate(&self.view, tx, op, out)
+        t.operate(&self.layout, tx, op, out)
     }
 
     #[tactic(auto, using(crate::proofs::LiveLemmas::live))]
@@ -111,26 +112,26 @@ impl Tc {
         out: &mut Outs,
     ) -> Result<(), NoMemory>
         requires { HasRoom out.old }
-        ensures ok { OnOk result (IsTaken (step_of self.old tx (λ t. answer_row self.old.view tx t key.now answer.now)) self.new out.old out.new) }
+        ensures ok { OnOk result (IsTaken (step_of self.old tx (λ t. answer_row self.old.layout tx t key.now answer.now)) self.new out.old out.new) }
         ensures err { OnErr result (IsUntouched self.old self.new out.old out.new) }
     {
         let Some(at) = self.live.get_index_of(&tx) else {
             return Ok(());
         };
         let t = &mut self.live[at];
-        t.answer(&self.view, tx, key, answer, out)
+        t.answer(&self.layout, tx, key, answer, out)
     }
 
     #[tactic(auto, using(crate::proofs::LiveLemmas::live))]
     fn refuse(&mut self, tx: TxId, key: &Key, cause: AbortCause, out: &mut Outs)
         requires { HasRoom out.old }
-        ensures { IsTaken (turn_of self.old tx (λ t. refuse_row self.old.node self.old.view tx t key.now cause)) self.new out.old out.new }
+        ensures { IsTaken (turn_of self.old tx (λ t. refuse_row self.old.node self.old.layout tx t key.now cause)) self.new out.old out.new }
     {
         let Some(at) = self.live.get_index_of(&tx) else {
             return;
         };
         let t = &mut self.live[at];
-        let over = t.refuse(self.node, &self.view, tx, key, cause, out);
+        let over = t.refuse(self.node, &self.layout, tx, key, cause, out);
         if over {
             self.forget(at);
         }
@@ -152,13 +153,13 @@ impl Tc {
     #[tactic(auto, using(crate::proofs::LiveLemmas::live))]
     fn commit(&mut self, tx: TxId, epoch: u64, out: &mut Outs)
         requires { HasRoom out.old }
-        ensures { IsTaken (turn_of self.old tx (λ t. commit_row self.old.node self.old.view tx t epoch)) self.new out.old out.new }
+        ensures { IsTaken (turn_of self.old tx (λ t. commit_row self.old.node self.old.layout tx t epoch)) self.new out.old out.new }
     {
         let Some(at) = self.live.get_index_of(&tx) else {
             return;
         };
         let t = &mut self.live[at];
-        let over = t.commit(self.node, &self.view, tx, epoch, out);
+        let over = t.commit(self.node, &self.layout, tx, epoch, out);
         if over {
             self.forget(at);
         }
@@ -167,13 +168,13 @@ impl Tc {
     #[tactic(auto, using(crate::proofs::LiveLemmas::live))]
     fn committed(&mut self, tx: TxId, out: &mut Outs)
         requires { HasRoom out.old }
-        ensures { IsTaken (turn_of self.old tx (λ t. committed_row self.old.node self.old.view tx t)) self.new out.old out.new }
+        ensures { IsTaken (turn_of self.old tx (λ t. committed_row self.old.node self.old.layout tx t)) self.new out.old out.new }
     {
         let Some(at) = self.live.get_index_of(&tx) else {
             return;
         };
         let t = &mut self.live[at];
-        let over = t.committed(self.node, &self.view, tx, out);
+        let over = t.committed(self.node, &self.layout, tx, out);
         if over {
             self.forget(at);
         }
@@ -197,13 +198,13 @@ impl Tc {
     #[tactic(auto, using(crate::proofs::LiveLemmas::live))]
     fn rollback(&mut self, tx: TxId, out: &mut Outs)
         requires { HasRoom out.old }
-        ensures { IsTaken (turn_of self.old tx (λ t. rollback_row self.old.node self.old.view tx t)) self.new out.old out.new }
+        ensures { IsTaken (turn_of self.old tx (λ t. rollback_row self.old.node self.old.layout tx t)) self.new out.old out.new }
     {
         let Some(at) = self.live.get_index_of(&tx) else {
             return;
         };
         let t = &mut self.live[at];
-        let over = t.rollback(self.node, &self.view, tx, out);
+        let over = t.rollback(self.node, &self.layout, tx, out);
         if over {
             self.forget(at);
         }
@@ -239,13 +240,13 @@ impl Tc {
     #[tactic(auto, using(crate::proofs::LiveLemmas::live))]
     fn go_on(&self, tx: TxId, at: u64, out: &mut Outs)
         requires { HasRoom out.old }
-        ensures { IsTaken (step_of self.now tx (λ t. go_on_row self.now.node self.now.view tx t at)) self.now out.old out.new }
+        ensures { IsTaken (step_of self.now tx (λ t. go_on_row self.now.node self.now.layout tx t at)) self.now out.old out.new }
     {
         let Some(place) = self.live.get_index_of(&tx) else {
             return;
         };
         let t = &self.live[place];
-        t.go_on(self.node, &self.view, tx, at, out);
+        t.go_on(self.node, &self.layout, tx, at, out);
     }
 
     // Forgets the transaction at a place.
@@ -271,7 +272,7 @@ impl Actor for Tc {
     ghost use Rattle.sig_core.specs.Step.{stay};
     ghost use Rattle.tc_block.specs.Tc.{in_view, tc_row};
 
-    ghost step = { λ s signal. tc_row s signal.body };
+    ghost step = { tc_row };
 
     ghost installed = { λ s view. stay (in_view s view) };
 
@@ -329,6 +330,6 @@ impl Actor for Tc {
     }
 
     fn install(&mut self, view: &View, _out: &mut Outs) {
-        self.view = *view;
+        self.layout.install(view);
     }
 }

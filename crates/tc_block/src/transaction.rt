@@ -2,14 +2,11 @@
 ghost use Rattle.std.specs.Prelude.{◌≡◌, OnOk, OnErr};
 ghost use Rattle.sig_core.specs.Step.{HasRoom, IsTaken, IsUntouched};
 
-use crate::chain::chain_of;
 use crate::phase::{Asked, Phase};
 use crate::sends::{SENDS, send_aborts, send_part, send_waits};
 use crate::touched::{TouchedKeys, same_key};
-use sig_core::{
-    Answer, Body, CLIENT, ChainSignal, ClientSignal, Key, NoMemory, Op, Outs, RowWork, Seq, TxId,
-    View, node_at, rows_of,
-};
+use frag_map::Layout;
+use sig_core::{Answer, Body, CLIENT, ChainSignal, ClientSignal, Key, NoMemory, Op, Outs, RowWork, Seq, TxId, node_at, rows_of};
 use std::alloc::Global;
 
 /// A transaction that has begun and isn't forgotten.
@@ -64,17 +61,17 @@ impl Transaction {
     #[tactic(auto, unfolding(crate::specs::Operate::operate_row))]
     pub fn operate(
         &mut self,
-        view: &View,
+        layout: &Layout,
         tx: TxId,
         op: &Op,
         out: &mut Outs,
     ) -> Result<(), NoMemory>
         requires { HasRoom out.old }
-        ensures ok { OnOk result (IsTaken (operate_row view.now tx self.old op.now) self.new out.old out.new) }
+        ensures ok { OnOk result (IsTaken (operate_row layout.now tx self.old op.now) self.new out.old out.new) }
         ensures err { OnErr result (IsUntouched self.old self.new out.old out.new) }
     {
         if self.can_operate(op) {
-            let chain = &chain_of(view, op.key());
+            let chain = &layout.chain_of(op.key());
             self.touched.touch(op.key(), chain)?;
             self.asked = Some(Asked {
                 op: *op,
@@ -110,14 +107,14 @@ impl Transaction {
     #[tactic(auto, unfolding(crate::specs::Operate::answer_row))]
     pub fn answer(
         &mut self,
-        view: &View,
+        layout: &Layout,
         tx: TxId,
         key: &Key,
         answer: &Answer,
         out: &mut Outs,
     ) -> Result<(), NoMemory>
         requires { HasRoom out.old }
-        ensures ok { OnOk result (IsTaken (answer_row view.now tx self.old key.now answer.now) self.new out.old out.new) }
+        ensures ok { OnOk result (IsTaken (answer_row layout.now tx self.old key.now answer.now) self.new out.old out.new) }
         ensures err { OnErr result (IsUntouched self.old self.new out.old out.new) }
     {
         let Some(asked) = self.asked_on(key) else {
@@ -138,7 +135,7 @@ impl Transaction {
                 verifying: _,
                 awaited: _,
             } => {
-                self.answer_late(view, tx, key, out);
+                self.answer_late(layout, tx, key, out);
                 Ok(())
             }
             _ => Ok(()),
@@ -159,12 +156,12 @@ impl Transaction {
     }
 
     /// The unanswered operation is answered while the transaction is aborted.
-    pub fn answer_late(&mut self, view: &View, tx: TxId, key: &Key, out: &mut Outs)
+    pub fn answer_late(&mut self, layout: &Layout, tx: TxId, key: &Key, out: &mut Outs)
         requires { HasRoom out.old }
-        ensures { IsTaken (late_answer view.now tx self.old key.now) self.new out.old out.new }
+        ensures { IsTaken (late_answer layout.now tx self.old key.now) self.new out.old out.new }
     {
         self.asked = None;
-        send_aborts(tx, key, &chain_of(view, key), out);
+        send_aborts(tx, key, &layout.chain_of(key), out);
     }
 
     /// Asks the replicas of the unanswered operation what it waits for.
@@ -180,23 +177,23 @@ impl Transaction {
 
     /// Comes to a phase, and sends the first part of what is sent in it.
     #[tactic(auto, unfolding(crate::specs::Sends::entering))]
-    pub fn enter(&mut self, node: u8, view: &View, tx: TxId, phase: Phase, out: &mut Outs)
+    pub fn enter(&mut self, node: u8, layout: &Layout, tx: TxId, phase: Phase, out: &mut Outs)
         requires { HasRoom out.old }
-        ensures { IsTaken (entering node view.now tx self.old phase) self.new out.old out.new }
+        ensures { IsTaken (entering node layout.now tx self.old phase) self.new out.old out.new }
     {
         self.phase = phase;
-        send_part(node, view, tx, phase, self.touched.as_slice(), 0, out);
+        send_part(node, layout, tx, phase, self.touched.as_slice(), 0, out);
     }
 
     /// Goes on with a list of sends, from this place on.
     #[tactic(auto, unfolding(crate::specs::Sends::go_on_row))]
-    pub fn go_on(&self, node: u8, view: &View, tx: TxId, at: u64, out: &mut Outs)
+    pub fn go_on(&self, node: u8, layout: &Layout, tx: TxId, at: u64, out: &mut Outs)
         requires { HasRoom out.old }
-        ensures { IsTaken (go_on_row node view.now tx self.now at) self.now out.old out.new }
+        ensures { IsTaken (go_on_row node layout.now tx self.now at) self.now out.old out.new }
     {
         if at < SENDS {
             let touched = self.touched.as_slice();
-            send_part(node, view, tx, self.phase, touched, at, out);
+            send_part(node, layout, tx, self.phase, touched, at, out);
         }
     }
 }

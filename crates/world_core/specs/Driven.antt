@@ -3,10 +3,11 @@ use Rattle.std.specs.Prelude.{◌≡◌, ℕ, Bool, true, false, List, ◌++◌,
 use Rattle.node_core.specs.Requests.{is_request}
 use Rattle.run_theory.specs.Lists.{IsPast}
 use Rattle.run_theory.specs.Runs.{AreLogs, IsWithin}
-use Rattle.sig_core.specs.declared.log.LogStep.{LogStep}
+use Rattle.world_core.specs.Steps.{HostStep}
 use Rattle.sig_core.specs.declared.reply.ApiReply.{ApiReply}
 use Rattle.sig_core.specs.declared.request.ApiReq.{ApiReq}
-use Rattle.world_core.specs.Machine.{hosts, machine}
+use Rattle.world_core.specs.Hosts.{hosts}
+use Rattle.world_core.specs.Machine.{machine}
 use Rattle.world_core.specs.Requests.{AreAskedAtQuiet, requests}
 use Rattle.world_core.specs.Right.{IsRight}
 use Rattle.world_core.specs.Start.{Start}
@@ -23,7 +24,7 @@ pub record IsWorld (w : Whole) : Type 0 where
   pub sound : IsSound start w
 
 -- Logs that have grown by steps that no request made.
-pub record HaveGrown (start : Start) (old new : ℕ → List LogStep) : Type 0 where
+pub record HaveGrown (start : Start) (old new : ℕ → List HostStep) : Type 0 where
   pub more : (h : ℕ) → IsPast (old h) (new h)
   pub right : AreLogs (machine start) new
   pub within : IsWithin (hosts start) new
@@ -37,9 +38,9 @@ pub record IsDriven (start : Start) (w t : Whole) : Type 0 where
 
 -- The shell asked for something, in a step of host 0.
 pub record HasAsked (start : Start) (request : ApiReq) (w t : Whole) : Type 0 where
-  pub asking : LogStep
+  pub asking : HostStep
   pub next : logs_at t.logs 0 ≡ asking ∷ logs_at w.logs 0
-  pub asks : is_request asking.taken.body ≡ true
+  pub asks : is_request asking.step.taken.body ≡ true
   pub right : (given : List ApiReply) → IsRight start given w → IsRight start given t
   pub more : (h : ℕ) → IsPast (logs_at w.logs h) (logs_at t.logs h)
   pub logs : AreLogs (machine start) (logs_at t.logs)

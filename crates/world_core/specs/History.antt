@@ -2,7 +2,7 @@
 use Rattle.std.specs.List.{list_any}
 use Rattle.std.specs.Prelude.{ℕ, Bool, true, false, List, filter, if◌then◌else◌}
 use Rattle.sig_core.specs.declared.entry.Entry.{Entry}
-use Rattle.sig_core.specs.declared.log.LogStep.{LogStep}
+use Rattle.world_core.specs.Steps.{HostStep}
 use Rattle.sig_core.specs.declared.mark.Mark.{Mark}
 use Rattle.sig_core.specs.declared.mark.Mark.TheVariants.{Applied, Reported}
 use Rattle.sig_core.specs.declared.member.TxId.{TxId}
@@ -32,9 +32,9 @@ is_reported tx (Reported other (Committed epoch)) = same_tx other tx
 is_reported tx mark = false
 
 -- an entry is kept: where it writes, if it was applied, and else if it was reported
-abbrev pub is_kept : ℕ → (ℕ → List LogStep) → Entry → Bool
+abbrev pub is_kept : ℕ → (ℕ → List HostStep) → Entry → Bool
 is_kept n logs entry = if writes entry then have_mark (is_applied entry.tx) n logs else have_mark (is_reported entry.tx) n logs
 
 -- the history of a cut of the hosts below n
-abbrev pub history : ℕ → (ℕ → List LogStep) → List Entry
+abbrev pub history : ℕ → (ℕ → List HostStep) → List Entry
 history n logs = filter (is_kept n logs) (entries n logs)

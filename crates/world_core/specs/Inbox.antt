@@ -2,7 +2,7 @@
 use Rattle.std.specs.Prelude.{◌≡◌, ℕ, nat_lt, Bool, if◌then◌else◌, List, [], ◌∷◌, ◌++◌, is_some, length, position, slice_index_or, slice_set, Option, None, Some}
 use Rattle.sig_core.specs.declared.outs.Outgoing.{Outgoing}
 use Rattle.sig_core.specs.declared.signal.Signal.{Signal}
-use Rattle.sig_core.specs.declared.view.View.{View}
+use Rattle.world_core.specs.Hosts.{Membership}
 use Rattle.world_core.specs.Machine.{headed, one_more}
 
 -- the signals on a link, the oldest first, and how many were put on it
@@ -28,11 +28,11 @@ is_taken link signal left = link ≡ record { signals = signal ∷ left.signals;
 abbrev pub link_from : List LinkState → ℕ → LinkState
 link_from inbox from = slice_index_or inbox from new_link
 
--- what a step of a host sends goes on the link from it, with the sender's view
-abbrev pub with_sent : List LinkState → View → ℕ → ℕ → Outgoing → List LinkState
-with_sent inbox view from stamp sent =
+-- what a step of a host sends goes on the link from it
+abbrev pub with_sent : List LinkState → Membership → ℕ → ℕ → Outgoing → List LinkState
+with_sent inbox who from stamp sent =
     if nat_lt from (length inbox)
-    then slice_set inbox from (behind (link_from inbox from) (headed view from stamp (link_from inbox from).sent sent))
+    then slice_set inbox from (behind (link_from inbox from) (headed who from stamp (link_from inbox from).sent sent))
     else inbox
 
 -- a link of the inbox has a signal

@@ -1,6 +1,8 @@
+pub mod At
 pub mod Driven
 pub mod Entries
 pub mod History
+pub mod Hosts
 pub mod Inbox
 pub mod Lives
 pub mod Machine
@@ -12,6 +14,7 @@ pub mod Rest
 pub mod Right
 pub mod SerialLaw
 pub mod Start
+pub mod Steps
 pub mod Strict
 pub mod Views
 pub mod World

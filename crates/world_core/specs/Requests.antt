@@ -2,13 +2,14 @@
 use Rattle.std.specs.Prelude.{◌≡◌, ℕ, true, List, [], ◌∷◌, ◌++◌, Option, None, Some, option_to_list}
 use Rattle.run_theory.specs.Cuts.{IsCut}
 use Rattle.run_theory.specs.Runs.{AreLogs}
-use Rattle.sig_core.specs.declared.log.LogStep.{LogStep}
+use Rattle.world_core.specs.Steps.{HostStep}
 use Rattle.sig_core.specs.declared.request.ApiReq.{ApiReq}
 use Rattle.sig_core.specs.declared.signal.Body.{Body}
 use Rattle.sig_core.specs.declared.signal.Body.TheVariants.{Host}
 use Rattle.sig_core.specs.declared.signal.host.HostSignal.TheVariants.{Continue}
 use Rattle.sig_core.specs.declared.signal.host.Work.TheVariants.{Request}
-use Rattle.world_core.specs.Machine.{hosts, machine}
+use Rattle.world_core.specs.Hosts.{hosts}
+use Rattle.world_core.specs.Machine.{machine}
 use Rattle.world_core.specs.Quiet.{IsQuiet}
 use Rattle.world_core.specs.Start.{Start}
 
@@ -17,21 +18,21 @@ request_in (Host (Continue (Request request) at)) = Some request
 request_in body = None
 
 -- the requests in a log of host 0, in the order of time
-abbrev pub requests : List LogStep → List ApiReq
+abbrev pub requests : List HostStep → List ApiReq
 requests [] = []
-requests (e ∷ log) = requests log ++ option_to_list (request_in e.taken.body)
+requests (e ∷ log) = requests log ++ option_to_list (request_in e.step.taken.body)
 
 -- The cut of the logs before the step of host 0 that comes after `before`: it is right and quiet, so that it has of each
 -- log all the steps that don't follow from that step, and no others.
-pub record QuietBefore (start : Start) (logs : ℕ → List LogStep) (before : List LogStep) : Type 0 where
-  pub inside : ℕ → List LogStep
+pub record QuietBefore (start : Start) (logs : ℕ → List HostStep) (before : List HostStep) : Type 0 where
+  pub inside : ℕ → List HostStep
   pub cut : IsCut inside logs
   pub at : inside 0 ≡ before
   pub right : AreLogs (machine start) inside
   pub quiet : IsQuiet (machine start) (hosts start) inside
 
 -- the cut before each request is quiet
-abbrev pub AreAskedAtQuiet : Start → (ℕ → List LogStep) → Type 0
+abbrev pub AreAskedAtQuiet : Start → (ℕ → List HostStep) → Type 0
 AreAskedAtQuiet start logs =
-    (newer : List LogStep) (e : LogStep) (before : List LogStep) → logs 0 ≡ newer ++ e ∷ before → (machine start).asked e ≡ true
+    (newer : List HostStep) (e : HostStep) (before : List HostStep) → logs 0 ≡ newer ++ e ∷ before → (machine start).asked e ≡ true
     → QuietBefore start logs before

@@ -1,20 +1,23 @@
 -- The serial law: what the history of a cut is worth.
 use Rattle.std.specs.Prelude.{◌≡◌, ◌≤◌, ℕ, true, List, [], ◌∷◌}
 use Rattle.std.specs.FinMap as map
-use Rattle.node_core.specs.Committed.{row_at}
+use Rattle.frag_map.specs.Groups.{is_viable}
+use Rattle.frag_map.specs.Shape.{IsShape}
 use Rattle.run_theory.specs.Cuts.{IsCut, IsClosed}
-use Rattle.run_theory.specs.Lists.{Each, IsIn}
+use Rattle.run_theory.specs.Lists.{Each}
 use Rattle.run_theory.specs.Runs.{AreLogs, IsWithin}
 use Rattle.serial_model.specs.Legal.{IsLegal, fold, rows_of}
 use Rattle.sig_core.specs.declared.entry.Entry.{Entry}
-use Rattle.sig_core.specs.declared.log.LogStep.{LogStep}
+use Rattle.world_core.specs.Steps.{HostStep}
 use Rattle.sig_core.specs.declared.member.Member.{Member}
+use Rattle.world_core.specs.At.{row_in}
 use Rattle.world_core.specs.History.{history}
-use Rattle.world_core.specs.Machine.{after, hosts, machine}
-use Rattle.world_core.specs.Rest.{IsAtRest}
+use Rattle.world_core.specs.Hosts.{hosts}
+use Rattle.world_core.specs.Machine.{machine}
+use Rattle.world_core.specs.Rest.{IsAtRest, IsLiveReplica}
 use Rattle.world_core.specs.Start.{Start}
 use Rattle.world_core.specs.Strict.{IsStrictOrder}
-use Rattle.world_core.specs.Views.{greatest_view, is_viable, live_nodes}
+use Rattle.world_core.specs.Views.{greatest_view}
 
 -- epochs never fall along a list
 abbrev pub AreEpochsOrdered : List Entry → Type 0
@@ -23,17 +26,16 @@ AreEpochsOrdered (a ∷ rest) = Each (λ (b : Entry). a.epoch ≤ b.epoch) rest 
 
 -- The history of these logs is a serial history: every answer in it is right, it keeps to strict order, epochs never
 -- fall along it, the greatest view is viable, and every live replica has its rows of each key at rest.
-pub record IsSerial (start : Start) (logs : ℕ → List LogStep) : Type 0 where
+pub record IsSerial (start : Start) (logs : ℕ → List HostStep) : Type 0 where
   pub legal : IsLegal (rows_of start.rows) (history (hosts start) logs)
   pub strict : IsStrictOrder start (logs 0) (history (hosts start) logs)
   pub epochs : AreEpochsOrdered (history (hosts start) logs)
-  -- each node is a replica of one and the same group
-  pub viable : is_viable 1 start.nodes (greatest_view start logs) ≡ true
-  pub rows : (key : List ℕ) → IsAtRest start logs key → (member : Member) → IsIn member (live_nodes start logs)
-      → row_at (after start member.node (logs member.node)) key ≡ map.get (fold (rows_of start.rows) (history (hosts start) logs)) key
+  pub viable : is_viable start.shape (greatest_view start logs) ≡ true
+  pub rows : (key : List ℕ) → IsAtRest start logs key → (member : Member) → IsLiveReplica start logs key member
+      → row_in start logs member.node key ≡ map.get (fold (rows_of start.rows) (history (hosts start) logs)) key
 
--- The history of every closed cut of right logs is a serial history, where there is a node: a view of nobody isn't viable.
+-- The history of every closed cut of right logs is a serial history.
 abbrev pub EveryCutIsSerial : Type 0
 EveryCutIsSerial =
-    (start : Start) (inside logs : ℕ → List LogStep) → 1 ≤ start.nodes → IsWithin (hosts start) logs → AreLogs (machine start) logs → IsCut inside logs
+    (start : Start) (inside logs : ℕ → List HostStep) → IsShape start.shape → IsWithin (hosts start) logs → AreLogs (machine start) logs → IsCut inside logs
     → IsClosed (machine start) inside → IsSerial start inside

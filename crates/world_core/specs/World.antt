@@ -1,5 +1,6 @@
 -- A world: the hosts, the links between them, and what each host has done.
-use Rattle.std.specs.Prelude.{◌≡◌, ◌<◌, ℕ, zero, suc, ◌+◌, max, Bool, false, List, [], ◌∷◌, ◌++◌, length, replicate, reverse, slice_index_or, slice_set}
+use Rattle.std.specs.Prelude.{◌≡◌, ◌<◌, ℕ, zero, suc, ◌+◌, max, Bool, false, List, [], ◌∷◌, ◌++◌, length, map, replicate, reverse, slice_index_or, slice_set}
+use Rattle.frag_map.specs.Layout.{nowhere}
 use Rattle.node_core.specs.declared.host.Host.{Host}
 use Rattle.node_core.specs.Fresh.{fresh_shell}
 use Rattle.node_core.specs.Replies as host
@@ -8,17 +9,17 @@ use Rattle.sig_core.specs.declared.log.HostLog.{HostLog}
 use Rattle.sig_core.specs.declared.log.LogStep.{LogStep}
 use Rattle.sig_core.specs.declared.reply.ApiReply.{ApiReply}
 use Rattle.sig_core.specs.declared.request.ApiReq.{ApiReq}
-use Rattle.sig_core.specs.declared.signal.Signal.{Signal}
-use Rattle.sig_core.specs.declared.view.View.{View}
 use Rattle.sig_core.specs.Step.{Step}
 use Rattle.world_core.specs.Inbox.{new_link}
-use Rattle.world_core.specs.Machine.{hosts, request_signal}
+use Rattle.world_core.specs.Hosts.{Membership, first_membership, hosts, started}
+use Rattle.world_core.specs.Machine.{request_signal}
 use Rattle.world_core.specs.Network.{AreIdle, AreLinks, Links, put_all}
-use Rattle.world_core.specs.Start.{Start, first_view, started}
+use Rattle.world_core.specs.Start.{Start}
+use Rattle.world_core.specs.Steps.{Addressed, HostStep}
 
--- the view that all hosts have, the hosts, the links to each, the stamp of each host's last step, and the log of each
+-- who is there, the hosts, the links to each, the stamp of each host's last step, and the log of each
 pub record Whole : Type 0 where
-  pub view : View
+  pub who : Membership
   pub bodies : List Host
   pub links : Links
   pub stamps : List ℕ
@@ -26,18 +27,22 @@ pub record Whole : Type 0 where
 
 -- a host of a world; where there is none, one that has done nothing
 abbrev pub body_at : List Host → ℕ → Host
-body_at bodies h = slice_index_or bodies h (fresh_shell (first_view 0))
+body_at bodies h = slice_index_or bodies h (fresh_shell nowhere.view)
 
 -- a log without steps
 abbrev pub no_steps : ℕ → HostLog
 no_steps h = record { host = record { 0 = h }; made = 0; steps = [] }
 
+-- a step, with its host
+abbrev pub of_host : ℕ → LogStep → HostStep
+of_host h step = record { host = h; step = step }
+
 -- the steps of a host, the oldest first, and its log, the newest first
 abbrev pub steps_of : List HostLog → ℕ → List LogStep
 steps_of logs h = (slice_index_or logs h (no_steps 0)).steps
 
-abbrev pub logs_at : List HostLog → ℕ → List LogStep
-logs_at logs h = reverse (steps_of logs h)
+abbrev pub logs_at : List HostLog → ℕ → List HostStep
+logs_at logs h = map (of_host h) (reverse (steps_of logs h))
 
 -- one more step of a host
 abbrev pub with_step : List HostLog → ℕ → LogStep → List HostLog
@@ -47,19 +52,19 @@ with_step logs h e = slice_set logs h (record (slice_index_or logs h (no_steps 0
 abbrev pub next_stamp : List ℕ → ℕ → ℕ → ℕ
 next_stamp stamps h sent_at = max (slice_index_or stamps h 0) sent_at + 1
 
-abbrev pub moved_by : Whole → Signal → ℕ → Step Host → Whole
+abbrev pub moved_by : Whole → Addressed → ℕ → Step Host → Whole
 moved_by w x stamp step =
     record {
-      view = w.view;
-      bodies = slice_set w.bodies x.to.node step.state;
-      links = put_all w.links w.view x.to.node stamp step.effects.sends;
-      stamps = slice_set w.stamps x.to.node stamp;
-      logs = with_step w.logs x.to.node (record { stamp = stamp; taken = x; marks = step.effects.marks });
+      who = w.who;
+      bodies = slice_set w.bodies x.to step.state;
+      links = put_all w.links w.who x.to stamp step.effects.sends;
+      stamps = slice_set w.stamps x.to stamp;
+      logs = with_step w.logs x.to (record { stamp = stamp; taken = x.signal; marks = step.effects.marks });
     }
 
 -- a host takes a signal that is on no link any more: it does what its row says, and the step is in its log
-abbrev pub moved : Whole → Signal → Whole
-moved w x = moved_by w x (next_stamp w.stamps x.to.node x.stamp) (row (body_at w.bodies x.to.node) x.to x.body)
+abbrev pub moved : Whole → Addressed → Whole
+moved w x = moved_by w x (next_stamp w.stamps x.to x.signal.stamp) (row (body_at w.bodies x.to) x.signal)
 
 -- the host is there
 pub record CanTake (w : Whole) (h : ℕ) : Type 0 where
@@ -76,7 +81,7 @@ pub record IsOf (n : ℕ) (w : Whole) : Type 0 where
 
 -- the shell asks for something
 abbrev pub asked : Whole → ApiReq → Whole
-asked w request = moved w (request_signal w.view (slice_index_or w.stamps 0 0) request)
+asked w request = moved w (record { to = 0; signal = request_signal w.who (slice_index_or w.stamps 0 0) request })
 
 -- nothing is under way
 abbrev pub IsQuiet : Whole → Type 0
@@ -91,7 +96,7 @@ for_each (suc n) thing = for_each n thing ++ thing n ∷ []
 abbrev pub new_world : Start → Whole
 new_world start =
     record {
-      view = first_view start.nodes;
+      who = first_membership start;
       bodies = for_each (hosts start) (started start);
       links = replicate (hosts start) (replicate (hosts start) new_link);
       stamps = replicate (hosts start) 0;
