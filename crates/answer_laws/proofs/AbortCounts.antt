@@ -4,7 +4,7 @@ use Rattle.std.specs.Prelude.{◌==◌, ◌&&◌, nat_lt}
 use Rattle.std.proofs.lemmas.Bool.{eqb-true}
 use Rattle.std.proofs.lemmas.Bool.Decides.{nat_tests}
 use Rattle.lqh_block.specs.Abort.{abort_row, refused_by, waits_at}
-use Rattle.lqh_block.specs.Lqh.{lqh_row}
+use Rattle.lqh_block.specs.Lqh.{lqh_table}
 use Rattle.lqh_block.specs.State.{LqhState, freed_lock, serve_granted}
 use Rattle.sig_core.specs.declared.member.TxId.{TxId}
 use Rattle.sig_core.specs.declared.outs.Outgoing.{Outgoing}
@@ -32,7 +32,7 @@ abort_body tx (Chain (Abort other key)) = same_tx other tx
 abort_body tx _ = false
 
 -- a replica answers an abort
-pub lqh_aborts : (n : ℕ) (tx : TxId) (s : LqhState) (body : Body) → one_if (abort_body tx body) ≤ sends_of (is_abort n tx) (lqh_row s body).effects.sends
+pub lqh_aborts : (n : ℕ) (tx : TxId) (s : LqhState) (body : Body) → one_if (abort_body tx body) ≤ sends_of (is_abort n tx) (lqh_table s body).effects.sends
 unfolding abort_row
 lqh_aborts n tx s (Chain (Abort other key)) = by (same_tx other tx) refl
   where

@@ -3,7 +3,7 @@ use Rattle.std.proofs.Common.{◌≡◌, ◌⊎◌, ℕ, suc, ◌+◌, ◌≤◌
 use Rattle.std.specs.Prelude.{◌||◌, nat_lt, is_some, if◌then◌else◌, Option, None, Some}
 use Rattle.std.proofs.lemmas.Bool.Decides.{nat_tests}
 use Rattle.node_core.specs.declared.node.Node as node
-use Rattle.sig_core.specs.declared.log.LogStep.{LogStep}
+use Rattle.world_core.specs.Steps.{HostStep}
 use Rattle.sig_core.specs.declared.member.Member.{Member}
 use Rattle.sig_core.specs.declared.member.TxId.{TxId}
 use Rattle.sig_core.specs.declared.op.Answer.{Answer}
@@ -16,16 +16,17 @@ use Rattle.tc_block.specs.declared.touched.Touched.{Touched}
 use Rattle.tc_block.specs.declared.transaction.Transaction.{Transaction}
 use Rattle.tc_block.specs.declared.phase.Phase.TheVariants.{Committing, Completing, Aborting}
 use Rattle.tc_block.specs.Abort.{aborts_awaited, is_verifying}
-use Rattle.tc_block.specs.Chain.{chain_of}
+use Rattle.frag_map.specs.Layout.{chain_of}
 use Rattle.tc_block.specs.Complete.{written_count}
 use Rattle.tc_block.specs.Operate.{fresh, touched_after}
 use Rattle.tc_block.specs.Sends.{entering}
 use Rattle.tc_block.specs.State.{TcState}
-use Rattle.tc_block.specs.Tc.{tc_row}
+use Rattle.tc_block.specs.Tc.{tc_table}
 use Rattle.tc_block.specs.Touched.{fits, place_of, touch, touched_by, unwritten, written, written_by}
 use Rattle.tc_block.specs.Turn.{Turn}
 use Rattle.world_core.specs.Machine.{after}
-use Rattle.world_core.specs.Start.{Start, first_view}
+use Rattle.frag_map.specs.Layout.{first_layout}
+use Rattle.world_core.specs.Start.{Start}
 use Rattle.commit_laws.proofs.Keys.{same_tx-self}
 use Rattle.answer_laws.proofs.Ahead.{AtNode, NextAt, NodeStep, at_node, first_none, next_at, of_dih, of_lqh, of_none, of_tc, tx_at}
 use Rattle.answer_laws.proofs.Tally.{one_if}
@@ -37,9 +38,9 @@ use Rattle.answer_laws.proofs.TcTurns.{GivesUp, TurnMove, abort_ends, aborted, a
 -- what holds of a transaction that begins, and is kept by each turn
 pub record IsStable (start : Start) (tx : TxId) (h : ℕ) (P : Transaction → Type 0) : Type 0 where
   pub begins : P fresh
-  pub turns : (s : TcState) (t : Transaction) (body : Body) (turn : Turn) → s.node ≡ suc h → s.view ≡ first_view start.nodes → TurnMove s tx t body turn → turn.over ≡ false → P t → P turn.step.state
+  pub turns : (s : TcState) (t : Transaction) (body : Body) (turn : Turn) → s.node ≡ suc h → s.layout ≡ first_layout start.shape → TurnMove s tx t body turn → turn.over ≡ false → P t → P turn.step.state
 
-pub always : (start : Start) (tx : TxId) (h : ℕ) (P : Transaction → Type 0) → IsStable start tx h P → (log : List LogStep) (t : Transaction) → tx_at tx (after start (suc h) log) ≡ Some t → P t
+pub always : (start : Start) (tx : TxId) (h : ℕ) (P : Transaction → Type 0) → IsStable start tx h P → (log : List HostStep) (t : Transaction) → tx_at tx (after start (suc h) log) ≡ Some t → P t
 always start tx h P stable [] t at = absurd (none (sym (first_none start tx h) ∙ at))
   where
     none : None ≡ Some t → ⊥
@@ -69,16 +70,16 @@ always start tx h P stable (e ∷ log) t at = next (always start tx h P stable l
         same : n.now.tc ≡ x.state.tc → P t
         same is = before t (sym (ap (λ (s : TcState). of_live tx s.live) is) ∙ now)
 
-        finish : NodeStep x.state e.taken.to.block e.taken.body n.now n.sends → P t
+        finish : NodeStep x.state e.step.taken.to.block e.step.taken.body n.now n.sends → P t
         finish (of_dih a is sends) = same (ap (λ (y : node.Node). y.tc) is)
         finish (of_lqh a is sends) = same (ap (λ (y : node.Node). y.tc) is)
         finish (of_none a b c is sends) = same (ap (λ (y : node.Node). y.tc) is)
-        finish (of_tc a is sends) = by (tx_step tx x.state.tc e.taken.body x.once x.own)
+        finish (of_tc a is sends) = by (tx_step tx x.state.tc e.step.taken.body x.once x.own)
           where
-            tc_is : of_live tx n.now.tc.live ≡ of_live tx (tc_row x.state.tc e.taken.body).state.live
+            tc_is : of_live tx n.now.tc.live ≡ of_live tx (tc_table x.state.tc e.step.taken.body).state.live
             tc_is = ap (λ (y : node.Node). of_live tx y.tc.live) is
 
-            by : TxStep tx x.state.tc e.taken.body (tc_row x.state.tc e.taken.body) → P t
+            by : TxStep tx x.state.tc e.step.taken.body (tc_table x.state.tc e.step.taken.body) → P t
             by (elsewhere live kind absent) = before t (sym (tc_is ∙ live) ∙ now)
             by (born name about one none there told) = the_one fresh (sym (tc_is ∙ there) ∙ now) stable.begins
             by (turned u turn about one there move left told) = which turn.over refl
@@ -90,7 +91,7 @@ always start tx h P stable (e ∷ log) t at = next (always start tx h P stable l
                     none e = cc
                 which false over =
                     the_one turn.step.state (sym (tc_is ∙ (left ∙ ap (λ b. if b then None else Some turn.step.state) over)) ∙ now)
-                    (stable.turns x.state.tc u e.taken.body turn x.number x.view move over (before u there))
+                    (stable.turns x.state.tc u e.step.taken.body turn x.number x.layout move over (before u there))
 
 -- the keys that a transaction touches: one more where it is asked for an operation, and then no more than 64
 pub record Touches (tx : TxId) (t : Transaction) (body : Body) (u : Transaction) : Type 0 where
@@ -130,7 +131,7 @@ turn_touches s tx t body turn move = go move
         let now = ap (λ (x : Turn). length x.step.state.touched) is in
         record { few = λ low. omega (arith, low, now, e); more = omega (arith, now, e) }
 
-    entered : (w : Transaction) (phase : Phase) → length (entering s.node s.view tx w phase).state.touched ≡ length w.touched
+    entered : (w : Transaction) (phase : Phase) → length (entering s.node s.layout tx w phase).state.touched ≡ length w.touched
     entered w phase = refl
 
     given : (w : Transaction) → GivesUp t body w → length w.touched ≡ length t.touched
@@ -140,19 +141,19 @@ turn_touches s tx t body turn move = go move
     go : TurnMove s tx t body turn → Touches tx t body turn.step.state
     go (keeps sends is kind missed) = alike _ is refl
     go (goes_on at about low is) = alike _ is refl
-    go (asks op about p q fit is) = by (touch_length t.touched (key_of op) (chain_of s.view (key_of op)) fit)
+    go (asks op about p q fit is) = by (touch_length t.touched (key_of op) (chain_of s.layout (key_of op)) fit)
       where
-        now : length turn.step.state.touched ≡ length (touch t.touched (key_of op) (chain_of s.view (key_of op)))
+        now : length turn.step.state.touched ≡ length (touch t.touched (key_of op) (chain_of s.layout (key_of op)))
         now = ap (λ (x : Turn). length x.step.state.touched) is
 
-        by : (length (touch t.touched (key_of op) (chain_of s.view (key_of op))) ≤ length t.touched)
-            ⊎ ((length t.touched < 64) × (length (touch t.touched (key_of op) (chain_of s.view (key_of op))) ≡ length t.touched + 1)) → Touches tx t body turn.step.state
+        by : (length (touch t.touched (key_of op) (chain_of s.layout (key_of op))) ≤ length t.touched)
+            ⊎ ((length t.touched < 64) × (length (touch t.touched (key_of op) (chain_of s.layout (key_of op))) ≡ length t.touched + 1)) → Touches tx t body turn.step.state
         by (inl less) = record { few = λ low. omega (arith, low, now, less); more = omega (arith, now, less) }
         by (inr one) = record { few = λ low. omega (arith, now, one.0, one.1); more = omega (arith, now, one.1, ap one_if (ap (key_of_tx tx) about ∙ same_tx-self tx)) }
     go (answers key a asked about p q is) = alike _ is (after_length a t.touched asked.op asked.chain)
     go (late key asked about p q is) = alike _ is refl
     go (decides about p q is) = alike _ is refl
-    go (aborts w why gives some is) = alike _ is (entered w (Aborting why (is_verifying w.phase) (aborts_awaited s.view w)) ∙ given w gives)
+    go (aborts w why gives some is) = alike _ is (entered w (Aborting why (is_verifying w.phase) (aborts_awaited s.layout w)) ∙ given w gives)
     go (gives_up w why gives is none) = alike _ is (given w gives)
     go (aborted key why v k about p low is) = alike _ is refl
     go (abort_ends key why v k about p low is) = alike _ is refl
@@ -163,7 +164,7 @@ turn_touches s tx t body turn move = go move
     go (completed epoch k p is) = alike _ is refl
     go (all_completed epoch k p is) = alike _ is refl
 
-pub few_touched : (start : Start) (tx : TxId) (h : ℕ) (log : List LogStep) (t : Transaction) → tx_at tx (after start (suc h) log) ≡ Some t → length t.touched ≤ 64
+pub few_touched : (start : Start) (tx : TxId) (h : ℕ) (log : List HostStep) (t : Transaction) → tx_at tx (after start (suc h) log) ≡ Some t → length t.touched ≤ 64
 few_touched start tx h =
     always start tx h (λ t. length t.touched ≤ 64)
-    (record { begins = omega arith; turns = λ s t body turn number view move over few. (turn_touches s tx t body turn move).few few })
+    (record { begins = omega arith; turns = λ s t body turn number layout move over few. (turn_touches s tx t body turn move).few few })

@@ -9,7 +9,7 @@ use Rattle.api_block.specs.Opened.{is_beginning}
 use Rattle.node_core.specs.declared.host.Host.{Host}
 use Rattle.node_core.specs.declared.host.Host.TheVariants.{Shell, Node}
 use Rattle.run_theory.specs.Lists.{IsIn}
-use Rattle.sig_core.specs.declared.log.LogStep.{LogStep}
+use Rattle.world_core.specs.Steps.{HostStep}
 use Rattle.sig_core.specs.declared.member.TxId.{TxId}
 use Rattle.tc_block.specs.declared.phase.Asked.{Asked}
 use Rattle.tc_block.specs.declared.phase.Phase.{Phase}
@@ -35,7 +35,7 @@ only_open (phases.Committing epoch k) v c d a = absurd (false≢true (sym c))
 only_open (phases.Completing epoch k) v c d a = absurd (false≢true (sym d))
 only_open (phases.Aborting why w k) v c d a = absurd (false≢true (sym a))
 
-module _ (start : Start) (logs : ℕ → List LogStep) (t : OpenTransaction) (quiet : AreQuiet start logs) (inside : IsIn t (opened_after start logs)) where
+module _ (start : Start) (logs : ℕ → List HostStep) (t : OpenTransaction) (quiet : AreQuiet start logs) (inside : IsIn t (opened_after start logs)) where
   module _ (tx : TxId) (is : t.tx ≡ Some tx) where
     served : IsServed start logs t tx
     served = each_served start logs t quiet inside tx is
@@ -43,7 +43,7 @@ module _ (start : Start) (logs : ℕ → List LogStep) (t : OpenTransaction) (qu
     u : Transaction
     u = served.transaction
 
-    low : tx.tc ≤ start.nodes
+    low : tx.tc ≤ start.shape.nodes
     low = live_low start logs tx served.transaction quiet tx.tc served.live
 
     -- where it has nothing unanswered it is open

@@ -2,7 +2,7 @@
 use Rattle.std.proofs.Common.{◌≡◌, ◌⊎◌, ℕ, ◌+◌, ◌≤◌, List, [], ◌∷◌, ◌++◌, Bool, true, false, refl, ap, sym, ◌∙◌, subst, arith, inl, inr}
 use Rattle.std.specs.Prelude.{◌==◌, ◌&&◌, Some}
 use Rattle.std.proofs.lemmas.Bool.{false≢true}
-use Rattle.sig_core.specs.declared.log.LogStep.{LogStep}
+use Rattle.world_core.specs.Steps.{HostStep}
 use Rattle.sig_core.specs.declared.member.TxId.{TxId}
 use Rattle.sig_core.specs.declared.outs.Outgoing.{Outgoing}
 use Rattle.sig_core.specs.declared.place.BlockId.{BlockId}
@@ -118,34 +118,34 @@ shell_holds tx s block.Api body good = let h = move_holds tx s body _ _ (api_mov
 shell_holds tx s _ body good = (omega arith, λ e. absurd (false≢true e))
 
 -- in a log of the shell's host, what has ended has begun before
-abbrev pub IsOrdered : TxId → List LogStep → Type 0
+abbrev pub IsOrdered : TxId → List HostStep → Type 0
 IsOrdered tx [] = Unit {0}
-IsOrdered tx (e ∷ log) = (is_end tx e.taken.to e.taken.body ≡ true → 1 ≤ steps (is_start tx) log) × IsOrdered tx log
+IsOrdered tx (e ∷ log) = (is_end tx e.step.taken ≡ true → 1 ≤ steps (is_start tx) log) × IsOrdered tx log
 
-ordered_some : (tx : TxId) (log : List LogStep) → IsOrdered tx log → 1 ≤ steps (is_end tx) log → 1 ≤ steps (is_start tx) log
+ordered_some : (tx : TxId) (log : List HostStep) → IsOrdered tx log → 1 ≤ steps (is_end tx) log → 1 ≤ steps (is_start tx) log
 ordered_some tx [] ordered some = absurd (omega (arith, some))
-ordered_some tx (e ∷ log) ordered some = go (is_end tx e.taken.to e.taken.body) refl (ordered_some tx log ordered.1)
+ordered_some tx (e ∷ log) ordered some = go (is_end tx e.step.taken) refl (ordered_some tx log ordered.1)
   where
-    go : (b : Bool) → is_end tx e.taken.to e.taken.body ≡ b → (1 ≤ steps (is_end tx) log → 1 ≤ steps (is_start tx) log) → 1 ≤ steps (is_start tx) (e ∷ log)
+    go : (b : Bool) → is_end tx e.step.taken ≡ b → (1 ≤ steps (is_end tx) log → 1 ≤ steps (is_start tx) log) → 1 ≤ steps (is_start tx) (e ∷ log)
     go true is rest = omega (arith, ordered.0 is)
     go false is rest = omega (arith, rest (omega (arith, some, ap one_if is)))
 
 -- what the API holds was told to have begun, and its end wasn't told
-pub record AreHeld (tx : TxId) (held : ℕ) (log : List LogStep) : Type 0 where
+pub record AreHeld (tx : TxId) (held : ℕ) (log : List HostStep) : Type 0 where
   pub few : held ≤ steps (is_start tx) log
   pub none : 1 ≤ steps (is_end tx) log → held ≡ 0
 
 module _ (start : Start) where
-  pub log_holds : (tx : TxId) (log : List LogStep) → steps (is_start tx) log ≤ 1 → IsOrdered tx log → AreHeld tx (tally (has_tx tx) (opened_in (after start 0 log))) log
+  pub log_holds : (tx : TxId) (log : List HostStep) → steps (is_start tx) log ≤ 1 → IsOrdered tx log → AreHeld tx (tally (has_tx tx) (opened_in (after start 0 log))) log
   log_holds tx [] once ordered = record { few = omega (arith, ap (tally (has_tx tx)) (opened_first start)); none = λ e. absurd (omega (arith, e)) }
   log_holds tx (e ∷ log) once ordered =
-      next (log_holds tx log (omega (arith, once)) ordered.1) (shell_holds tx (shell_after start log).state e.taken.to.block e.taken.body (shell_after start log).good)
+      next (log_holds tx log (omega (arith, once)) ordered.1) (shell_holds tx (shell_after start log).state e.step.taken.to.block e.step.taken.body (shell_after start log).good)
     where
       before : ℕ
       before = tally (has_tx tx) (shell_after start log).state.opened
 
       now : ℕ
-      now = tally (has_tx tx) (shell_row (shell_after start log).state e.taken.to.block e.taken.body).state.opened
+      now = tally (has_tx tx) (shell_row (shell_after start log).state e.step.taken.to.block e.step.taken.body).state.opened
 
       is_before : tally (has_tx tx) (opened_in (after start 0 log)) ≡ before
       is_before = ap (λ g. tally (has_tx tx) (opened_in g)) (shell_after start log).is
@@ -154,18 +154,18 @@ module _ (start : Start) where
       is_now = ap (tally (has_tx tx)) (opened_next start e log)
 
       next : AreHeld tx (tally (has_tx tx) (opened_in (after start 0 log))) log
-          → (now ≤ before + one_if (is_start tx e.taken.to e.taken.body)) × (is_end tx e.taken.to e.taken.body ≡ true → (now + 1 ≤ before) ⊎ (now ≡ 0))
+          → (now ≤ before + one_if (is_start tx e.step.taken)) × (is_end tx e.step.taken ≡ true → (now + 1 ≤ before) ⊎ (now ≡ 0))
           → AreHeld tx (tally (has_tx tx) (opened_in (after start 0 (e ∷ log)))) (e ∷ log)
-      next held step = record { few = omega (arith, held.few, step.0, is_before, is_now); none = λ some. by (is_end tx e.taken.to e.taken.body) refl some }
+      next held step = record { few = omega (arith, held.few, step.0, is_before, is_now); none = λ some. by (is_end tx e.step.taken) refl some }
         where
-          fewer : is_end tx e.taken.to e.taken.body ≡ true → tally (has_tx tx) (opened_in (after start 0 (e ∷ log))) ≡ 0
+          fewer : is_end tx e.step.taken ≡ true → tally (has_tx tx) (opened_in (after start 0 (e ∷ log))) ≡ 0
           fewer is = which (step.1 is)
             where
               which : (now + 1 ≤ before) ⊎ (now ≡ 0) → tally (has_tx tx) (opened_in (after start 0 (e ∷ log))) ≡ 0
               which (inl less) = omega (arith, less, held.few, once, is_before, is_now)
               which (inr zero) = omega (arith, zero, is_now)
 
-          by : (b : Bool) → is_end tx e.taken.to e.taken.body ≡ b → 1 ≤ steps (is_end tx) (e ∷ log) → tally (has_tx tx) (opened_in (after start 0 (e ∷ log))) ≡ 0
+          by : (b : Bool) → is_end tx e.step.taken ≡ b → 1 ≤ steps (is_end tx) (e ∷ log) → tally (has_tx tx) (opened_in (after start 0 (e ∷ log))) ≡ 0
           by true is some = fewer is
           by false is some =
               let ended_before : 1 ≤ steps (is_end tx) log = omega (arith, some, ap one_if is) in

@@ -22,7 +22,7 @@ use Rattle.api_block.specs.declared.members.News.TheVariants as news
 use Rattle.api_block.specs.declared.opened.Doing.{Doing}
 use Rattle.api_block.specs.declared.opened.Doing.TheVariants.{Beginning, Ready, Operating, Committing}
 use Rattle.api_block.specs.declared.opened.OpenTransaction.{OpenTransaction}
-use Rattle.api_block.specs.Api.{api_row, request_row}
+use Rattle.api_block.specs.Api.{api_table, request_row}
 use Rattle.api_block.specs.Commands.{abort_by, abort_row, begin_at, begin_if, begin_row, commit_by, commit_row, dump_if, dump_row, node_for, tick_row, ticked_if}
 use Rattle.api_block.specs.Dump.{dumped_by, dumped_next, dumped_row}
 use Rattle.api_block.specs.Members.{everyone, is_full, least_node, telling_all}
@@ -297,7 +297,7 @@ module _ (tx : TxId) (s : ApiState) where
           on (Some at) = omega arith
           on None = omega arith
 
-pub api_keys : (tx : TxId) (s : ApiState) (body : Body) → FairStep tx s body (api_row s body)
+pub api_keys : (tx : TxId) (s : ApiState) (body : Body) → FairStep tx s body (api_table s body)
 api_keys tx s (Host (Continue (work.Request r) at)) = request_keys tx s r at
 api_keys tx s (Client (TcBeginConf name one)) = begun_keys tx s name one
 api_keys tx s (Client (TcBeginRef name)) = refuse_keys tx s name

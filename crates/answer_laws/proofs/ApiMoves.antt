@@ -23,7 +23,7 @@ use Rattle.api_block.specs.declared.members.News.TheVariants as news
 use Rattle.api_block.specs.declared.opened.Doing.{Doing}
 use Rattle.api_block.specs.declared.opened.Doing.TheVariants.{Beginning, Ready, Operating}
 use Rattle.api_block.specs.declared.opened.OpenTransaction.{OpenTransaction}
-use Rattle.api_block.specs.Api.{api_row, request_row}
+use Rattle.api_block.specs.Api.{api_table, request_row}
 use Rattle.api_block.specs.Commands.{abort_by, abort_row, begin_at, begin_if, begin_row, commit_by, commit_row, dump_if, dump_row, node_for, tick_row, ticked_if}
 use Rattle.api_block.specs.Dump.{dumped_by, dumped_next, dumped_row}
 use Rattle.api_block.specs.Members.{everyone, is_full, least_node, telling_all}
@@ -301,7 +301,7 @@ module _ (s : ApiState) where
   dumped_moves rows next = dumped_by_moves rows next s.dump
 
 -- every step of the API is such a move
-pub api_moves : (s : ApiState) (body : Body) → Moves s body (api_row s body)
+pub api_moves : (s : ApiState) (body : Body) → Moves s body (api_table s body)
 api_moves s (Host (Continue (work.Request r) at)) = request_moves s r at
 api_moves s (Client (TcBeginConf name tx)) = begun_moves s name tx
 api_moves s (Client (TcBeginRef name)) = refuse_moves s name

@@ -5,7 +5,7 @@ use Rattle.std.proofs.lemmas.Bool.{cases_lt}
 use Rattle.std.proofs.lemmas.Bool.Decides.{nat_tests}
 use Rattle.run_theory.specs.Links.{is_from, sent, taken}
 use Rattle.run_theory.specs.Lists.{IsIn, IsPast}
-use Rattle.sig_core.specs.declared.log.LogStep.{LogStep}
+use Rattle.world_core.specs.Steps.{HostStep}
 use Rattle.sig_core.specs.declared.member.TxId.{TxId}
 use Rattle.sig_core.specs.declared.outs.Outgoing.{Outgoing}
 use Rattle.sig_core.specs.declared.place.BlockId.{BlockId}
@@ -18,16 +18,16 @@ use Rattle.sig_core.specs.declared.view.View.{View}
 use Rattle.api_block.specs.declared.opened.OpenTransaction.{OpenTransaction}
 use Rattle.api_block.specs.Opened.{has_tx, is_tx}
 use Rattle.api_block.specs.State.{ApiState}
-use Rattle.lqh_block.specs.Lqh.{lqh_row}
+use Rattle.lqh_block.specs.Lqh.{lqh_table}
 use Rattle.node_core.specs.declared.host.Host as host
 use Rattle.node_core.specs.declared.host.Host.TheVariants.{Shell, Node}
 use Rattle.node_core.specs.declared.node.Node as node
-use Rattle.node_core.specs.Dih.{dih_row}
+use Rattle.node_core.specs.Dih.{dih_table}
 use Rattle.node_core.specs.Fresh.{begun_node, fresh_node}
 use Rattle.node_core.specs.Requests.{is_request}
 use Rattle.node_core.specs.Row.{node_row, shell_row}
 use Rattle.tc_block.specs.State.{TcState}
-use Rattle.tc_block.specs.Tc.{begin_if, begin_row, is_full, tc_row}
+use Rattle.tc_block.specs.Tc.{begin_if, begin_row, is_full, tc_table}
 use Rattle.world_core.specs.Machine.{after, machine}
 use Rattle.world_core.specs.Start.{Start}
 use Rattle.commit_laws.proofs.Keys.{same_tx-self}
@@ -83,7 +83,7 @@ plain_answer tx (Client (TcKeyConf other answer)) e = refl
 plain_answer tx _ e = cc
 
 -- a node sends no operation to a coordinator
-tc_no_key : (tx : TxId) (j : ℕ) (s : TcState) (body : Body) → sends_of (to_node j (is_key tx)) (tc_row s body).effects.sends ≡ 0
+tc_no_key : (tx : TxId) (j : ℕ) (s : TcState) (body : Body) → sends_of (to_node j (is_key tx)) (tc_table s body).effects.sends ≡ 0
 unfolding begin_row
 tc_no_key tx j s (Client (TcBeginReq name)) = go (is_full s)
   where
@@ -91,13 +91,13 @@ tc_no_key tx j s (Client (TcBeginReq name)) = go (is_full s)
     go true = none_if (0 == j)
     go false = none_if (0 == j)
 tc_no_key tx j s body =
-    none_of (is_tc_kind (tx_in body)) (to_node j (is_key tx)) (λ to b k. and_false (to.node == j) (is_tc to.block) (no_key_tc tx (tx_in body) b k)) (tc_row s body).effects.sends (tc_kinds s body refl)
+    none_of (is_tc_kind (tx_in body)) (to_node j (is_key tx)) (λ to b k. and_false (to.node == j) (is_tc to.block) (no_key_tc tx (tx_in body) b k)) (tc_table s body).effects.sends (tc_kinds s body refl)
 
 node_no_key : (tx : TxId) (j : ℕ) (x : node.Node) (at : BlockId) (body : Body) → sends_of (to_node j (is_key tx)) (node_row x at body).effects.sends ≡ 0
 unfolding node_row
 node_no_key tx j x block.Tc body = tc_no_key tx j x.tc body
-node_no_key tx j x block.Dih body = none_of is_dih_kind (to_node j (is_key tx)) (λ to b k. and_false (to.node == j) (is_tc to.block) (no_key_dih tx b k)) (dih_row x.dih body).effects.sends (dih_kinds x.dih body)
-node_no_key tx j x block.Lqh body = none_of is_lqh_kind (to_node j (is_key tx)) (λ to b k. and_false (to.node == j) (is_tc to.block) (no_key_lqh tx b k)) (lqh_row x.lqh body).effects.sends (lqh_kinds x.lqh body)
+node_no_key tx j x block.Dih body = none_of is_dih_kind (to_node j (is_key tx)) (λ to b k. and_false (to.node == j) (is_tc to.block) (no_key_dih tx b k)) (dih_table x.dih body).effects.sends (dih_kinds x.dih body)
+node_no_key tx j x block.Lqh body = none_of is_lqh_kind (to_node j (is_key tx)) (λ to b k. and_false (to.node == j) (is_tc to.block) (no_key_lqh tx b k)) (lqh_table x.lqh body).effects.sends (lqh_kinds x.lqh body)
 node_no_key tx j x _ body = refl
 
 -- what a node has unanswered, or answers, it had unanswered, or it came
@@ -106,9 +106,9 @@ node_fair : (tx : TxId) (x : node.Node) (at : BlockId) (body : Body)
 unfolding node_row
 node_fair tx x block.Tc body = tc_fair tx x.tc body
 node_fair tx x block.Dih body =
-    omega (arith, none_of is_dih_kind (to_node 0 (is_answer tx)) (λ to b k. and_false (to.node == 0) (is_api to.block) (no_answer_dih tx b k)) (dih_row x.dih body).effects.sends (dih_kinds x.dih body))
+    omega (arith, none_of is_dih_kind (to_node 0 (is_answer tx)) (λ to b k. and_false (to.node == 0) (is_api to.block) (no_answer_dih tx b k)) (dih_table x.dih body).effects.sends (dih_kinds x.dih body))
 node_fair tx x block.Lqh body =
-    omega (arith, none_of is_lqh_kind (to_node 0 (is_answer tx)) (λ to b k. and_false (to.node == 0) (is_api to.block) (no_answer_lqh tx b k)) (lqh_row x.lqh body).effects.sends (lqh_kinds x.lqh body))
+    omega (arith, none_of is_lqh_kind (to_node 0 (is_answer tx)) (λ to b k. and_false (to.node == 0) (is_api to.block) (no_answer_lqh tx b k)) (lqh_table x.lqh body).effects.sends (lqh_kinds x.lqh body))
 node_fair tx x _ body = omega arith
 
 -- the API answers nothing
@@ -145,38 +145,38 @@ module _ (start : Start) (tx : TxId) where
   fresh_asked h = refl
 
   -- what is asked or answered was asked for
-  pub node_asked : (h : ℕ) (log : List LogStep) → asked_at (after start (suc h) log) + signals (is_answer tx) (sent (machine start) (suc h) 0 log) ≤ steps (is_key tx) log
+  pub node_asked : (h : ℕ) (log : List HostStep) → asked_at (after start (suc h) log) + signals (is_answer tx) (sent (machine start) (suc h) 0 log) ≤ steps (is_key tx) log
   node_asked h [] = omega (arith, fresh_asked h)
   node_asked h (e ∷ log) =
       let x = node_after start h log in
       omega (
         arith,
         node_asked h log,
-        node_fair tx x.state e.taken.to.block e.taken.body,
+        node_fair tx x.state e.step.taken.to.block e.step.taken.body,
         ap asked_at x.is,
-        ap asked_at (row_state e.taken.to e.taken.body (after start (suc h) log) x.state x.is),
+        ap asked_at (row_state e.step.taken (after start (suc h) log) x.state x.is),
         sent_signals start (is_answer tx) (suc h) 0 e log,
-        ap (answers_in tx) (row_effects e.taken.to e.taken.body (after start (suc h) log) x.state x.is),
+        ap (answers_in tx) (row_effects e.step.taken (after start (suc h) log) x.state x.is),
       )
 
-  pub shell_silent : (log : List LogStep) → signals (is_answer tx) (sent (machine start) 0 0 log) ≡ 0
+  pub shell_silent : (log : List HostStep) → signals (is_answer tx) (sent (machine start) 0 0 log) ≡ 0
   shell_silent [] = refl
   shell_silent (e ∷ log) =
-      omega (arith, shell_silent log, sent_signals start (is_answer tx) 0 0 e log, shell_answers tx (shell_after start log).state e.taken.to.block e.taken.body, ap (answers_in tx) (shell_sends start e log))
+      omega (arith, shell_silent log, sent_signals start (is_answer tx) 0 0 e log, shell_answers tx (shell_after start log).state e.step.taken.to.block e.step.taken.body, ap (answers_in tx) (shell_sends start e log))
 
-  pub node_silent : (h j : ℕ) (log : List LogStep) → signals (is_key tx) (sent (machine start) (suc h) j log) ≡ 0
+  pub node_silent : (h j : ℕ) (log : List HostStep) → signals (is_key tx) (sent (machine start) (suc h) j log) ≡ 0
   node_silent h j [] = refl
   node_silent h j (e ∷ log) =
       omega (
         arith,
         node_silent h j log,
         sent_signals start (is_key tx) (suc h) j e log,
-        node_no_key tx j (node_after start h log).state e.taken.to.block e.taken.body,
+        node_no_key tx j (node_after start h log).state e.step.taken.to.block e.step.taken.body,
         ap (sends_of (to_node j (is_key tx))) (node_sends start h e log),
       )
 
   -- what the API has sent is answered or over, or operates
-  shell_operates : (n : ℕ) (log : List LogStep)
+  shell_operates : (n : ℕ) (log : List HostStep)
       → total n (λ j. signals (is_key tx) (sent (machine start) 0 j log)) ≤ tally (operates tx) (opened_in (after start 0 log)) + (steps (is_answer tx) log + steps (is_end tx) log)
   shell_operates n [] = zeros n
     where
@@ -187,8 +187,8 @@ module _ (start : Start) (tx : TxId) where
       omega (
         arith,
         shell_operates n log,
-        shell_fair tx s e.taken.to.block e.taken.body,
-        spread_few n (is_key tx) (shell_row s e.taken.to.block e.taken.body).effects.sends,
+        shell_fair tx s e.step.taken.to.block e.step.taken.body,
+        spread_few n (is_key tx) (shell_row s e.step.taken.to.block e.step.taken.body).effects.sends,
         total_now,
         ap (λ g. tally (operates tx) (opened_in g)) (shell_after start log).is,
         ap (tally (operates tx)) (opened_next start e log),
@@ -198,41 +198,41 @@ module _ (start : Start) (tx : TxId) where
       s = (shell_after start log).state
 
       total_now : total n (λ j. signals (is_key tx) (sent (machine start) 0 j (e ∷ log)))
-          ≡ total n (λ j. sends_of (to_node j (is_key tx)) (shell_row s e.taken.to.block e.taken.body).effects.sends) + total n (λ j. signals (is_key tx) (sent (machine start) 0 j log))
+          ≡ total n (λ j. sends_of (to_node j (is_key tx)) (shell_row s e.step.taken.to.block e.step.taken.body).effects.sends) + total n (λ j. signals (is_key tx) (sent (machine start) 0 j log))
       total_now =
           total_same n (λ j. signals (is_key tx) (sent (machine start) 0 j (e ∷ log)))
-          (λ j. sends_of (to_node j (is_key tx)) (shell_row s e.taken.to.block e.taken.body).effects.sends + signals (is_key tx) (sent (machine start) 0 j log))
+          (λ j. sends_of (to_node j (is_key tx)) (shell_row s e.step.taken.to.block e.step.taken.body).effects.sends + signals (is_key tx) (sent (machine start) 0 j log))
           (λ j low. sent_signals start (is_key tx) 0 j e log ∙ ap (λ xs. sends_of (to_node j (is_key tx)) xs + signals (is_key tx) (sent (machine start) 0 j log)) (shell_sends start e log))
-          ∙ total_add n (λ j. sends_of (to_node j (is_key tx)) (shell_row s e.taken.to.block e.taken.body).effects.sends) (λ j. signals (is_key tx) (sent (machine start) 0 j log))
+          ∙ total_add n (λ j. sends_of (to_node j (is_key tx)) (shell_row s e.step.taken.to.block e.step.taken.body).effects.sends) (λ j. signals (is_key tx) (sent (machine start) 0 j log))
 
   -- steps that took an answer took it from some host
-  steps_total : (n : ℕ) (log : List LogStep) → ((k : ℕ) → n ≤ k → signals (is_answer tx) (taken (machine start) k log) ≡ 0) → steps (is_answer tx) log ≤ total n (λ i. signals (is_answer tx) (taken (machine start) i log))
+  steps_total : (n : ℕ) (log : List HostStep) → ((k : ℕ) → n ≤ k → signals (is_answer tx) (taken (machine start) k log) ≡ 0) → steps (is_answer tx) log ≤ total n (λ i. signals (is_answer tx) (taken (machine start) i log))
   steps_total n [] none = omega arith
   steps_total n (e ∷ log) none =
-      go (is_answer tx e.taken.to e.taken.body) refl (steps_total n log (λ k high. omega (arith, none k high, taken_signals start (is_answer tx) k e log)))
+      go (is_answer tx e.step.taken) refl (steps_total n log (λ k high. omega (arith, none k high, taken_signals start (is_answer tx) k e log)))
     where
-      from : is_answer tx e.taken.to e.taken.body ≡ true → (is_from (machine start) e.taken.from.0 e && is_answer tx e.taken.to e.taken.body) ≡ true
+      from : is_answer tx e.step.taken ≡ true → (is_from (machine start) e.step.taken.from.0 e && is_answer tx e.step.taken) ≡ true
       from is =
-          all_three (is_request e.taken.body) (e.taken.from.0 == e.taken.from.0) (is_answer tx e.taken.to e.taken.body)
-          (plain_answer tx e.taken.body (right_of (is_api e.taken.to.block) (answer_of tx e.taken.body) is)) (grind (arith, nat_tests)) is
+          all_three (is_request e.step.taken.body) (e.step.taken.from.0 == e.step.taken.from.0) (is_answer tx e.step.taken)
+          (plain_answer tx e.step.taken.body (right_of (is_api e.step.taken.to.block) (answer_of tx e.step.taken.body) is)) (grind (arith, nat_tests)) is
 
-      more : total n (λ i. signals (is_answer tx) (taken (machine start) i log)) + total n (λ i. one_if (is_from (machine start) i e && is_answer tx e.taken.to e.taken.body)) ≡ total n (λ i. signals (is_answer tx) (taken (machine start) i (e ∷ log)))
+      more : total n (λ i. signals (is_answer tx) (taken (machine start) i log)) + total n (λ i. one_if (is_from (machine start) i e && is_answer tx e.step.taken)) ≡ total n (λ i. signals (is_answer tx) (taken (machine start) i (e ∷ log)))
       more =
-          sym (total_same n (λ i. signals (is_answer tx) (taken (machine start) i (e ∷ log))) (λ i. signals (is_answer tx) (taken (machine start) i log) + one_if (is_from (machine start) i e && is_answer tx e.taken.to e.taken.body))
+          sym (total_same n (λ i. signals (is_answer tx) (taken (machine start) i (e ∷ log))) (λ i. signals (is_answer tx) (taken (machine start) i log) + one_if (is_from (machine start) i e && is_answer tx e.step.taken))
           (λ i low. omega (arith, taken_signals start (is_answer tx) i e log))
-          ∙ total_add n (λ i. signals (is_answer tx) (taken (machine start) i log)) (λ i. one_if (is_from (machine start) i e && is_answer tx e.taken.to e.taken.body)))
+          ∙ total_add n (λ i. signals (is_answer tx) (taken (machine start) i log)) (λ i. one_if (is_from (machine start) i e && is_answer tx e.step.taken)))
 
-      go : (b : Bool) → is_answer tx e.taken.to e.taken.body ≡ b → steps (is_answer tx) log ≤ total n (λ i. signals (is_answer tx) (taken (machine start) i log))
+      go : (b : Bool) → is_answer tx e.step.taken ≡ b → steps (is_answer tx) log ≤ total n (λ i. signals (is_answer tx) (taken (machine start) i log))
           → one_if b + steps (is_answer tx) log ≤ total n (λ i. signals (is_answer tx) (taken (machine start) i (e ∷ log)))
       go false is less = omega (arith, less, more)
-      go true is less = at (cases_lt e.taken.from.0 n)
+      go true is less = at (cases_lt e.step.taken.from.0 n)
         where
-          at : (e.taken.from.0 < n) ⊎ (n ≤ e.taken.from.0) → one_if true + steps (is_answer tx) log ≤ total n (λ i. signals (is_answer tx) (taken (machine start) i (e ∷ log)))
-          at (inl low) = omega (arith, less, more, total_at n (λ i. one_if (is_from (machine start) i e && is_answer tx e.taken.to e.taken.body)) e.taken.from.0 low, ap one_if (from is))
-          at (inr high) = absurd (omega (arith, none e.taken.from.0 high, taken_signals start (is_answer tx) e.taken.from.0 e log, ap one_if (from is)))
+          at : (e.step.taken.from.0 < n) ⊎ (n ≤ e.step.taken.from.0) → one_if true + steps (is_answer tx) log ≤ total n (λ i. signals (is_answer tx) (taken (machine start) i (e ∷ log)))
+          at (inl low) = omega (arith, less, more, total_at n (λ i. one_if (is_from (machine start) i e && is_answer tx e.step.taken)) e.step.taken.from.0 low, ap one_if (from is))
+          at (inr high) = absurd (omega (arith, none e.step.taken.from.0 high, taken_signals start (is_answer tx) e.step.taken.from.0 e log, ap one_if (from is)))
 
   -- at quiet
-  module _ (logs : ℕ → List LogStep) (quiet : AreQuiet start logs) where
+  module _ (logs : ℕ → List HostStep) (quiet : AreQuiet start logs) where
     link : (i j : ℕ) → IsPast (taken (machine start) i (logs j)) (sent (machine start) i j (logs i))
     link i j = given_past start i j (logs i) (taken (machine start) i (logs j)) (quiet.right.linked i j)
 
@@ -250,28 +250,28 @@ module _ (start : Start) (tx : TxId) where
         others zero differs = absurd (differs refl)
         others (suc k) differs = omega (arith, node_silent k (suc h) (logs (suc k)), tally_past (λ (x : Signal). is_key tx x.to x.body) (link (suc k) (suc h)))
 
-    all_asked : total (start.nodes + 1) (λ i. asked_at (after start i (logs i))) + total (start.nodes + 1) (λ i. signals (is_answer tx) (sent (machine start) i 0 (logs i)))
-        ≤ total (start.nodes + 1) (λ i. signals (is_key tx) (sent (machine start) 0 i (logs 0)))
+    all_asked : total (hosts start) (λ i. asked_at (after start i (logs i))) + total (hosts start) (λ i. signals (is_answer tx) (sent (machine start) i 0 (logs i)))
+        ≤ total (hosts start) (λ i. signals (is_key tx) (sent (machine start) 0 i (logs 0)))
     all_asked =
         omega (
           arith,
-          total_add (start.nodes + 1) (λ i. asked_at (after start i (logs i))) (λ i. signals (is_answer tx) (sent (machine start) i 0 (logs i))),
-          total_le (start.nodes + 1) (λ i. asked_at (after start i (logs i)) + signals (is_answer tx) (sent (machine start) i 0 (logs i))) (λ i. signals (is_key tx) (sent (machine start) 0 i (logs 0))) (λ i low. each_asked i),
+          total_add (hosts start) (λ i. asked_at (after start i (logs i))) (λ i. signals (is_answer tx) (sent (machine start) i 0 (logs i))),
+          total_le (hosts start) (λ i. asked_at (after start i (logs i)) + signals (is_answer tx) (sent (machine start) i 0 (logs i))) (λ i. signals (is_key tx) (sent (machine start) 0 i (logs 0))) (λ i low. each_asked i),
         )
 
-    answers_few : steps (is_answer tx) (logs 0) ≤ total (start.nodes + 1) (λ i. signals (is_answer tx) (sent (machine start) i 0 (logs i)))
+    answers_few : steps (is_answer tx) (logs 0) ≤ total (hosts start) (λ i. signals (is_answer tx) (sent (machine start) i 0 (logs i)))
     answers_few =
         omega (
           arith,
-          steps_total (start.nodes + 1) (logs 0) beyond,
-          total_le (start.nodes + 1) (λ i. signals (is_answer tx) (taken (machine start) i (logs 0))) (λ i. signals (is_answer tx) (sent (machine start) i 0 (logs i))) (λ i low. tally_past (λ (x : Signal). is_answer tx x.to x.body) (link i 0)),
+          steps_total (hosts start) (logs 0) beyond,
+          total_le (hosts start) (λ i. signals (is_answer tx) (taken (machine start) i (logs 0))) (λ i. signals (is_answer tx) (sent (machine start) i 0 (logs i))) (λ i low. tally_past (λ (x : Signal). is_answer tx x.to x.body) (link i 0)),
         )
       where
-        beyond : (k : ℕ) → start.nodes + 1 ≤ k → signals (is_answer tx) (taken (machine start) k (logs 0)) ≡ 0
+        beyond : (k : ℕ) → hosts start ≤ k → signals (is_answer tx) (taken (machine start) k (logs 0)) ≡ 0
         beyond k high = omega (arith, tally_past (λ (x : Signal). is_answer tx x.to x.body) (link k 0), ap (λ log. signals (is_answer tx) (sent (machine start) k 0 log)) (quiet.within k high))
 
     asks_where : (t : OpenTransaction) → IsIn t (opened_after start logs) → t.tx ≡ Some tx → 1 ≤ asked_at (after start tx.tc (logs tx.tc)) → is_operating t.doing ≡ true
-    asks_where t inside is asks = at_low (cases_lt tx.tc (start.nodes + 1))
+    asks_where t inside is asks = at_low (cases_lt tx.tc (hosts start))
       where
         passes : has_tx tx t ≡ true
         passes = ap (is_tx tx) is ∙ same_tx-self tx
@@ -297,16 +297,16 @@ module _ (start : Start) (tx : TxId) where
                 first true b e = refl
                 first false b e = e
 
-        at_low : (tx.tc < start.nodes + 1) ⊎ (start.nodes + 1 ≤ tx.tc) → is_operating t.doing ≡ true
+        at_low : (tx.tc < hosts start) ⊎ (hosts start ≤ tx.tc) → is_operating t.doing ≡ true
         at_low (inl low) =
             the_one (omega (
               arith,
               asks,
               all_asked,
               answers_few,
-              shell_operates (start.nodes + 1) (logs 0),
+              shell_operates (hosts start) (logs 0),
               not_ended (cases_lt 0 (steps (is_end tx) (logs 0))),
-              total_at (start.nodes + 1) (λ i. asked_at (after start i (logs i))) tx.tc low,
+              total_at (hosts start) (λ i. asked_at (after start i (logs i))) tx.tc low,
             ))
         at_low (inr high) = beyond tx.tc refl
           where

@@ -4,7 +4,7 @@ use Rattle.std.specs.Prelude.{◌==◌, ◌&&◌, not, nat_lt, Option, None, Som
 use Rattle.std.proofs.lemmas.Bool.Decides.{nat_tests}
 use Rattle.api_block.specs.declared.opened.OpenTransaction.{OpenTransaction}
 use Rattle.api_block.specs.State.{ApiState}
-use Rattle.node_core.specs.Dih.{DihState, decide_if, decide_row, dih_row, end_by, end_row}
+use Rattle.node_core.specs.Dih.{DihState, decide_if, decide_row, dih_table, end_by, end_row}
 use Rattle.node_core.specs.Row.{shell_row}
 use Rattle.sig_core.specs.declared.member.TxId.{TxId}
 use Rattle.sig_core.specs.declared.outs.Outgoing.{Outgoing}
@@ -20,7 +20,7 @@ use Rattle.sig_core.specs.Same.{same_tx}
 use Rattle.sig_core.specs.Step.{Step}
 use Rattle.tc_block.specs.Sends.{verify_end}
 use Rattle.tc_block.specs.State.{TcState}
-use Rattle.tc_block.specs.Tc.{begin_if, begin_row, is_full, tc_row}
+use Rattle.tc_block.specs.Tc.{begin_if, begin_row, is_full, tc_table}
 use Rattle.world_core.specs.Machine.{after}
 use Rattle.answer_laws.proofs.Ahead.{is_dih}
 use Rattle.answer_laws.proofs.ApiMoves.{ApiMove, api_moves, begun_as, ends, goes, is_api_kind, opens, refuses, rests}
@@ -71,8 +71,8 @@ api_plain (Epoch (DiVerifyEnd tx)) e = cc
 api_plain _ e = refl
 
 -- a coordinator sends such signals to its own node alone
-pub tc_epochs : (s : TcState) (j : ℕ) → (s.node == j) ≡ false → (body : Body) → sends_of (to_node j is_epoch) (tc_row s body).effects.sends ≡ 0
-tc_epochs s j off body = go (tc_row s body) (tc_step s body)
+pub tc_epochs : (s : TcState) (j : ℕ) → (s.node == j) ≡ false → (body : Body) → sends_of (to_node j is_epoch) (tc_table s body).effects.sends ≡ 0
+tc_epochs s j off body = go (tc_table s body) (tc_step s body)
   where
     go : (step : Step TcState) → TcStep s body step → sends_of (to_node j is_epoch) step.effects.sends ≡ 0
     go step (steps.rests about is kind) = plain_none j step.effects.sends (of_kind is_rest_kind is_epochless rest_plain step.effects.sends kind)
@@ -113,7 +113,7 @@ shell_epochs j s block.Api body = move_epochs j s body _ _ (api_moves s body)
 shell_epochs j s _ body = refl
 
 -- what the block makes of its transactions
-pub dih_counts : (s : DihState) (body : Body) → (dih_row s body).state.counted ≡ counts_by body s.counted
+pub dih_counts : (s : DihState) (body : Body) → (dih_table s body).state.counted ≡ counts_by body s.counted
 unfolding decide_row end_row
 dih_counts s (Epoch (DiVerifyReq tx ops)) = by (nat_lt (length s.counted) 64)
   where
@@ -127,7 +127,7 @@ dih_counts s (Epoch (DiVerifyEnd tx)) = by (position (same_tx tx) s.counted)
     by (Some at) = refl
 dih_counts s _ = refl
 
-pub dih_stays : (s : DihState) (body : Body) → (dih_row s body).state.node ≡ s.node
+pub dih_stays : (s : DihState) (body : Body) → (dih_table s body).state.node ≡ s.node
 unfolding decide_row end_row
 dih_stays s (Epoch (DiVerifyReq tx ops)) = by (nat_lt (length s.counted) 64)
   where
@@ -146,7 +146,7 @@ abbrev pub req_body : TxId → Body → Bool
 req_body tx (Epoch (DiVerifyReq other ops)) = same_tx other tx
 req_body tx _ = false
 
-pub dih_few : (tx : TxId) (s : DihState) (body : Body) → sends_of (to_node s.node (is_conf tx)) (dih_row s body).effects.sends ≤ one_if (req_body tx body)
+pub dih_few : (tx : TxId) (s : DihState) (body : Body) → sends_of (to_node s.node (is_conf tx)) (dih_table s body).effects.sends ≤ one_if (req_body tx body)
 unfolding decide_row end_row
 dih_few tx s (Epoch (DiVerifyReq other ops)) = by (nat_lt (length s.counted) 64)
   where
@@ -156,7 +156,7 @@ dih_few tx s (Epoch (DiVerifyReq other ops)) = by (nat_lt (length s.counted) 64)
 dih_few tx s (Epoch (DiVerifyEnd other)) = omega arith
 dih_few tx s _ = omega arith
 
-pub dih_gives : (tx : TxId) (s : DihState) (body : Body) → (req_body tx body ≡ true → length s.counted < 64) → one_if (req_body tx body) ≤ sends_of (to_node s.node (is_conf tx)) (dih_row s body).effects.sends
+pub dih_gives : (tx : TxId) (s : DihState) (body : Body) → (req_body tx body ≡ true → length s.counted < 64) → one_if (req_body tx body) ≤ sends_of (to_node s.node (is_conf tx)) (dih_table s body).effects.sends
 unfolding decide_row end_row
 dih_gives tx s (Epoch (DiVerifyReq other ops)) few = by (same_tx other tx) refl (nat_lt (length s.counted) 64) refl
   where
@@ -176,7 +176,7 @@ pub lqh_confless : (tx : TxId) (to : Place) (body : Body) → is_lqh_kind body �
 lqh_confless tx to (Epoch (DiVerifyConf other epoch)) e = cc
 lqh_confless tx to _ e = refl
 
-pub tc_confless : (j : ℕ) (tx : TxId) (s : TcState) (body : Body) → sends_of (to_node j (is_conf tx)) (tc_row s body).effects.sends ≡ 0
+pub tc_confless : (j : ℕ) (tx : TxId) (s : TcState) (body : Body) → sends_of (to_node j (is_conf tx)) (tc_table s body).effects.sends ≡ 0
 unfolding begin_row
 tc_confless j tx s (Client (TcBeginReq other)) = by (is_full s)
   where
@@ -187,7 +187,7 @@ tc_confless j tx s (Client (TcBeginReq other)) = by (is_full s)
     by : (b : Bool) → sends_of (to_node j (is_conf tx)) (begin_if s other b).effects.sends ≡ 0
     by true = none (0 == j)
     by false = none (0 == j)
-tc_confless j tx s body = no_conf j tx (is_tc_kind (tx_in body)) (fails (tx_in body)) (tc_row s body).effects.sends (tc_kinds s body refl)
+tc_confless j tx s body = no_conf j tx (is_tc_kind (tx_in body)) (fails (tx_in body)) (tc_table s body).effects.sends (tc_kinds s body refl)
   where
     fails : (one : TxId) (to : Place) (body : Body) → is_tc_kind one body ≡ true → is_conf tx to body ≡ false
     fails one to (Epoch (DiVerifyConf other epoch)) e = cc

@@ -20,11 +20,11 @@ use Rattle.tc_block.specs.declared.phase.Phase.{Phase}
 use Rattle.tc_block.specs.declared.phase.Phase.TheVariants.{Open, Verifying, Committing, Completing, Aborting}
 use Rattle.tc_block.specs.declared.transaction.Transaction.{Transaction}
 use Rattle.tc_block.specs.Abort as abort
-use Rattle.tc_block.specs.Chain.{chain_of}
+use Rattle.frag_map.specs.Layout.{chain_of}
 use Rattle.tc_block.specs.Operate.{fresh}
 use Rattle.tc_block.specs.Sends.{abort_of, entering, reported, verify_end}
 use Rattle.tc_block.specs.State.{TcState}
-use Rattle.tc_block.specs.Tc.{is_full, next_tx, tc_row}
+use Rattle.tc_block.specs.Tc.{is_full, next_tx, tc_table}
 use Rattle.tc_block.specs.Turn.{Turn}
 use Rattle.commit_laws.proofs.Keys.{same_tx-self}
 use Rattle.answer_laws.proofs.EpochCounts.{IsWithout, SendsFew, asked_count, counts_if, ended_by, ended_count, is_epochless, plain_counts, sends_count}
@@ -107,20 +107,20 @@ module _ (s : TcState) (tx : TxId) (t : Transaction) (body : Body) (turn : Turn)
   end_counts u why true e = ending refl e [] (abort.rolled_back tx why ∷ []) refl refl refl
   end_counts u why false e = gone refl e refl
 
-  entered : (w : Transaction) (phase : Phase) → is_counted phase ≡ is_counted t.phase → TurnCounts s.node tx t (record { step = entering s.node s.view tx w phase; over = false })
+  entered : (w : Transaction) (phase : Phase) → is_counted phase ≡ is_counted t.phase → TurnCounts s.node tx t (record { step = entering s.node s.layout tx w phase; over = false })
   unfolding entering
-  entered w phase e = unchanged refl e (entering_of is_epochless tx (plain_part tx) s.node s.view w phase)
+  entered w phase e = unchanged refl e (entering_of is_epochless tx (plain_part tx) s.node s.layout w phase)
 
   pub turn_counts : TurnMove s tx t body turn → TurnCounts s.node tx t turn
   turn_counts (keeps sends is kind missed) = back_to _ is (unchanged refl refl (of_kind is_wait_kind is_epochless wait_plain sends kind))
-  turn_counts (goes_on at about low is) = back_to _ is (unchanged refl refl (parts_of is_epochless tx (plain_part tx) s.node s.view t.phase t.touched at))
+  turn_counts (goes_on at about low is) = back_to _ is (unchanged refl refl (parts_of is_epochless tx (plain_part tx) s.node s.layout t.phase t.touched at))
   turn_counts (asks op about p q fit is) = back_to _ is (unchanged refl refl refl)
   turn_counts (answers key answer asked about p q is) = back_to _ is (unchanged refl refl refl)
-  turn_counts (late key asked about p q is) = back_to _ is (unchanged refl refl (of_map is_epochless (abort_of tx key) (chain_of s.view key) (λ r. refl)))
+  turn_counts (late key asked about p q is) = back_to _ is (unchanged refl refl (of_map is_epochless (abort_of tx key) (chain_of s.layout key) (λ r. refl)))
   turn_counts (decides about p q is) = back_to _ is (asking t.ops refl (ap is_counted p) refl refl)
   turn_counts (aborts w why gives some is) =
       let g = given_phase t body w gives in
-      back_to _ is (entered w (Aborting why (abort.is_verifying w.phase) (abort.aborts_awaited s.view w)) (ap abort.is_verifying g.0 ∙ sym g.1))
+      back_to _ is (entered w (Aborting why (abort.is_verifying w.phase) (abort.aborts_awaited s.layout w)) (ap abort.is_verifying g.0 ∙ sym g.1))
   turn_counts (gives_up w why gives is none) =
       let g = given_phase t body w gives in
       back_to _ is (end_counts w why (abort.is_verifying w.phase) (g.1 ∙ sym (ap abort.is_verifying g.0)))
@@ -351,5 +351,5 @@ module _ (s : TcState) (body : Body) (c : List TxId) (k : AreCounted s c) (owned
               count_append s.node before (verify_end s.node one ∷ behind) c
               ∙ (ap (λ d. sends_count s.node (verify_end s.node one ∷ behind) d) first.0 ∙ ((last _).0 ∙ ended_is c))
 
-  pub step_counts : StepCounts s (tc_row s body).state (tc_row s body).effects.sends c
-  step_counts = step_of_counts (tc_row s body) (tc_step s body)
+  pub step_counts : StepCounts s (tc_table s body).state (tc_table s body).effects.sends c
+  step_counts = step_of_counts (tc_table s body) (tc_step s body)

@@ -6,7 +6,7 @@ use Rattle.api_block.specs.declared.opened.OpenTransaction.{OpenTransaction}
 use Rattle.api_block.specs.Opened.{is_tx}
 use Rattle.run_theory.proofs.Pasts.{each_in}
 use Rattle.run_theory.specs.Lists.{IsIn}
-use Rattle.sig_core.specs.declared.log.LogStep.{LogStep}
+use Rattle.world_core.specs.Steps.{HostStep}
 use Rattle.sig_core.specs.declared.member.TxId.{TxId}
 use Rattle.tc_block.specs.declared.phase.Phase.TheVariants.{Open}
 use Rattle.tc_block.specs.declared.transaction.Transaction.{Transaction}
@@ -28,7 +28,7 @@ use Rattle.answer_laws.proofs.Heard.{AllHeard, all_heard, answers_sent, answers_
 
 module _ (start : Start) (tx : TxId) (h : ℕ) (home : tx.tc ≡ suc h) where
   -- at quiet
-  module _ (logs : ℕ → List LogStep) (quiet : AreQuiet start logs) (low : suc h < start.nodes + 1) where
+  module _ (logs : ℕ → List HostStep) (quiet : AreQuiet start logs) (low : suc h < hosts start) where
     heard : AllHeard start tx h home logs
     heard = all_heard start tx h home logs quiet.within quiet.right
 
@@ -61,7 +61,7 @@ module _ (start : Start) (tx : TxId) (h : ℕ) (home : tx.tc ≡ suc h) where
         let k = subst (IsHeld t.operations (keys_sent start tx h home logs) (commits_sent start tx h home logs) (answers_taken start tx h home logs)) doing (held_at t inside is) in
         omega (arith, o.commits, k.0, commits_whole)
 
-module _ (start : Start) (logs : ℕ → List LogStep) (t : OpenTransaction) (quiet : AreQuiet start logs) (inside : IsIn t (opened_after start logs)) (tx : TxId) (u : Transaction) (is : t.tx ≡ Some tx) where
+module _ (start : Start) (logs : ℕ → List HostStep) (t : OpenTransaction) (quiet : AreQuiet start logs) (inside : IsIn t (opened_after start logs)) (tx : TxId) (u : Transaction) (is : t.tx ≡ Some tx) where
   live_at : (h : ℕ) → tx.tc ≡ suc h → IsLiveAs tx u (after start tx.tc (logs tx.tc)) → tx_at tx (after start (suc h) (logs (suc h))) ≡ Some u
   live_at h home live =
       let x = at_node start tx h (logs (suc h)) in

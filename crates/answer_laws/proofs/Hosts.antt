@@ -4,7 +4,7 @@ use Rattle.std.specs.Prelude.{◌==◌, ◌&&◌, Option, None, Some, slice_get}
 use Rattle.std.specs.Map.{values_of}
 use Rattle.std.proofs.lemmas.Bool.{false≢true}
 use Rattle.run_theory.specs.Lists.{Each}
-use Rattle.sig_core.specs.declared.log.LogStep.{LogStep}
+use Rattle.world_core.specs.Steps.{HostStep}
 use Rattle.sig_core.specs.declared.member.TxId.{TxId}
 use Rattle.sig_core.specs.declared.outs.Outgoing.{Outgoing}
 use Rattle.sig_core.specs.declared.place.BlockId.{BlockId}
@@ -21,20 +21,21 @@ use Rattle.sig_core.specs.Step.{Step}
 use Rattle.api_block.specs.declared.opened.OpenTransaction.{OpenTransaction}
 use Rattle.api_block.specs.Opened.{begins_at}
 use Rattle.api_block.specs.State.{ApiState, idle}
-use Rattle.lqh_block.specs.Lqh.{lqh_row}
+use Rattle.lqh_block.specs.Lqh.{lqh_table}
 use Rattle.node_core.specs.declared.host.Host as host
 use Rattle.node_core.specs.declared.host.Host.TheVariants.{Shell, Node}
 use Rattle.node_core.specs.declared.node.Node as node
-use Rattle.node_core.specs.Dih.{dih_row}
+use Rattle.node_core.specs.Dih.{dih_table}
 use Rattle.node_core.specs.Fresh.{begun_node, fresh_node, fresh_shell}
 use Rattle.node_core.specs.Row.{node_row, row, shell_row}
 use Rattle.tc_block.specs.declared.transaction.Transaction.{Transaction}
 use Rattle.tc_block.specs.Live.{place_in, step_of, step_place, step_value, turn_of, turn_place, turn_value, turned_if}
 use Rattle.tc_block.specs.State.{TcState}
-use Rattle.tc_block.specs.Tc.{begin_if, begin_row, is_full, next_tx, pass_if, pass_row, tc_row}
+use Rattle.tc_block.specs.Tc.{begin_if, begin_row, is_full, next_tx, pass_if, pass_row, tc_table}
 use Rattle.tc_block.specs.Turn.{Turn}
 use Rattle.world_core.specs.Machine.{after, step_after}
-use Rattle.world_core.specs.Start.{Start, first_view}
+use Rattle.frag_map.specs.Layout.{first_view}
+use Rattle.world_core.specs.Start.{Start}
 use Rattle.answer_laws.proofs.ApiBegins.{AreGood, IsDue, count_move, good_move}
 use Rattle.answer_laws.proofs.ApiMoves.{ApiMove, api_moves, begun_as, ends, goes, is_api_kind, opens, refuses, rests}
 use Rattle.answer_laws.proofs.DihSends.{dih_kinds}
@@ -178,7 +179,7 @@ pass_node : (s : TcState) (tx ahead : TxId) (b : Bool) → (pass_if s tx ahead b
 pass_node s tx ahead true = refl
 pass_node s tx ahead false = refl
 
-tc_node : (s : TcState) (body : Body) → (tc_row s body).state.node ≡ s.node
+tc_node : (s : TcState) (body : Body) → (tc_table s body).state.node ≡ s.node
 unfolding begin_row pass_row
 tc_node s (Host (Continue (work.Transaction tx) at)) = step_node s tx _
 tc_node s (Client (TcBeginReq name)) = begin_node s name (is_full s)
@@ -218,16 +219,16 @@ begin_tells s name false = (λ other tx is. ap (λ (t : TxId). t.tc) (sym (the_t
     the_tx : (other : Option ℕ) (tx : TxId) → Client (TcBeginConf name (next_tx s)) ≡ Client (TcBeginConf other tx) → next_tx s ≡ tx
     the_tx other tx is = cc
 
-tc_tells : (s : TcState) (body : Body) → Each (λ (o : Outgoing). TellsNode s.node o.body) (tc_row s body).effects.sends
+tc_tells : (s : TcState) (body : Body) → Each (λ (o : Outgoing). TellsNode s.node o.body) (tc_table s body).effects.sends
 unfolding begin_row
 tc_tells s (Client (TcBeginReq name)) = begin_tells s name (is_full s)
-tc_tells s body = not_kind (is_tc_kind (tx_in body)) s.node (λ name tx. refl) (tc_row s body).effects.sends (tc_kinds s body refl)
+tc_tells s body = not_kind (is_tc_kind (tx_in body)) s.node (λ name tx. refl) (tc_table s body).effects.sends (tc_kinds s body refl)
 
 pub node_tells : (n : node.Node) (at : BlockId) (body : Body) → Each (λ (o : Outgoing). TellsNode n.tc.node o.body) (node_row n at body).effects.sends
 unfolding node_row
 node_tells n block.Tc body = tc_tells n.tc body
-node_tells n block.Dih body = not_kind is_dih_kind n.tc.node (λ name tx. refl) (dih_row n.dih body).effects.sends (dih_kinds n.dih body)
-node_tells n block.Lqh body = not_kind is_lqh_kind n.tc.node (λ name tx. refl) (lqh_row n.lqh body).effects.sends (lqh_kinds n.lqh body)
+node_tells n block.Dih body = not_kind is_dih_kind n.tc.node (λ name tx. refl) (dih_table n.dih body).effects.sends (dih_kinds n.dih body)
+node_tells n block.Lqh body = not_kind is_lqh_kind n.tc.node (λ name tx. refl) (lqh_table n.lqh body).effects.sends (lqh_kinds n.lqh body)
 node_tells n _ body = tt
 
 -- a node is one thing
@@ -238,7 +239,7 @@ same_node a b e = cc
 pub record IsShell (start : Start) (h : host.Host) : Type 0 where
   pub state : ApiState
   pub is : h ≡ Shell state
-  pub view : state.view ≡ first_view start.nodes
+  pub view : state.view ≡ first_view start.shape.nodes
   pub good : AreGood state.view state.opened
 
 -- a node
@@ -248,44 +249,44 @@ pub record IsNode (place : ℕ) (h : host.Host) : Type 0 where
   pub number : state.tc.node ≡ place
 
 module _ (start : Start) where
-  pub shell_after : (log : List LogStep) → IsShell start (after start 0 log)
+  pub shell_after : (log : List HostStep) → IsShell start (after start 0 log)
   unfolding fresh_shell row
-  shell_after [] = record { state = idle (first_view start.nodes); is = refl; view = refl; good = record { each = tt; once = λ n. omega arith } }
+  shell_after [] = record { state = idle (first_view start.shape.nodes); is = refl; view = refl; good = record { each = tt; once = λ n. omega arith } }
   shell_after (e ∷ log) =
       let s = shell_after log in
       record {
-        state = (shell_row s.state e.taken.to.block e.taken.body).state;
-        is = ap (λ h. (row h e.taken.to e.taken.body).state) s.is;
-        view = shell_view s.state e.taken.to.block e.taken.body ∙ s.view;
-        good = shell_good s.state e.taken.to.block e.taken.body s.good;
+        state = (shell_row s.state e.step.taken.to.block e.step.taken.body).state;
+        is = ap (λ h. (row h e.step.taken).state) s.is;
+        view = shell_view s.state e.step.taken.to.block e.step.taken.body ∙ s.view;
+        good = shell_good s.state e.step.taken.to.block e.step.taken.body s.good;
       }
 
-  pub node_after : (h : ℕ) (log : List LogStep) → IsNode (suc h) (after start (suc h) log)
+  pub node_after : (h : ℕ) (log : List HostStep) → IsNode (suc h) (after start (suc h) log)
   unfolding fresh_node begun_node row
-  node_after h [] = record { state = begun_node (h + 1) (first_view start.nodes) start.epoch start.rows; is = refl; number = omega arith }
+  node_after h [] = record { state = begun_node (h + 1) (first_view start.shape.nodes) start.epoch start.rows; is = refl; number = omega arith }
   node_after h (e ∷ log) =
       let n = node_after h log in
       record {
-        state = (node_row n.state e.taken.to.block e.taken.body).state;
-        is = ap (λ g. (row g e.taken.to e.taken.body).state) n.is;
-        number = node_node n.state e.taken.to.block e.taken.body ∙ n.number;
+        state = (node_row n.state e.step.taken.to.block e.step.taken.body).state;
+        is = ap (λ g. (row g e.step.taken).state) n.is;
+        number = node_node n.state e.step.taken.to.block e.step.taken.body ∙ n.number;
       }
 
   -- what they send
-  pub shell_sends : (e : LogStep) (log : List LogStep) → (step_after start 0 log e).effects.sends ≡ (shell_row (shell_after log).state e.taken.to.block e.taken.body).effects.sends
+  pub shell_sends : (e : HostStep) (log : List HostStep) → (step_after start 0 log e).effects.sends ≡ (shell_row (shell_after log).state e.step.taken.to.block e.step.taken.body).effects.sends
   unfolding row
-  shell_sends e log = ap (λ h. (row h e.taken.to e.taken.body).effects.sends) (shell_after log).is
+  shell_sends e log = ap (λ h. (row h e.step.taken).effects.sends) (shell_after log).is
 
-  pub node_sends : (h : ℕ) (e : LogStep) (log : List LogStep)
-      → (step_after start (suc h) log e).effects.sends ≡ (node_row (node_after h log).state e.taken.to.block e.taken.body).effects.sends
+  pub node_sends : (h : ℕ) (e : HostStep) (log : List HostStep)
+      → (step_after start (suc h) log e).effects.sends ≡ (node_row (node_after h log).state e.step.taken.to.block e.step.taken.body).effects.sends
   unfolding row
-  node_sends h e log = ap (λ g. (row g e.taken.to e.taken.body).effects.sends) (node_after h log).is
+  node_sends h e log = ap (λ g. (row g e.step.taken).effects.sends) (node_after h log).is
 
   -- what the shell's host has opened: nothing at first, and then what its steps leave
   pub opened_first : opened_in (after start 0 []) ≡ []
   unfolding fresh_shell
   opened_first = refl
 
-  pub opened_next : (e : LogStep) (log : List LogStep) → opened_in (after start 0 (e ∷ log)) ≡ (shell_row (shell_after log).state e.taken.to.block e.taken.body).state.opened
+  pub opened_next : (e : HostStep) (log : List HostStep) → opened_in (after start 0 (e ∷ log)) ≡ (shell_row (shell_after log).state e.step.taken.to.block e.step.taken.body).state.opened
   unfolding row
-  opened_next e log = ap (λ h. opened_in (row h e.taken.to e.taken.body).state) (shell_after log).is
+  opened_next e log = ap (λ h. opened_in (row h e.step.taken).state) (shell_after log).is

@@ -3,14 +3,15 @@ use Rattle.std.proofs.Common.{◌≡◌, ℕ, ◌+◌, ◌≤◌, List, [], ◌�
 use Rattle.std.specs.Prelude.{◌==◌, ◌&&◌, if◌then◌else◌, not}
 use Rattle.run_theory.specs.Links.{is_from, put, sent, taken}
 use Rattle.run_theory.specs.Lists.{Each}
-use Rattle.sig_core.specs.declared.log.LogStep.{LogStep}
+use Rattle.world_core.specs.Steps.{HostStep}
 use Rattle.sig_core.specs.declared.outs.Outgoing.{Outgoing}
 use Rattle.sig_core.specs.declared.place.Place.{Place}
 use Rattle.sig_core.specs.declared.signal.Body.{Body}
 use Rattle.sig_core.specs.declared.signal.Signal.{Signal}
 use Rattle.sig_core.specs.declared.view.View.{View}
 use Rattle.world_core.specs.Machine.{all_headed, counted, headed, machine, sent_count, step_after}
-use Rattle.world_core.specs.Start.{Start, first_view}
+use Rattle.frag_map.specs.Layout.{first_view}
+use Rattle.world_core.specs.Start.{Start}
 use Rattle.answer_laws.proofs.Tally.{one_if, tally}
 use Rattle.answer_laws.proofs.Wishes.{sends_of, to_node}
 
@@ -25,8 +26,8 @@ abbrev pub signals : (Place → Body → Bool) → List Signal → ℕ
 signals test xs = tally (λ (x : Signal). test x.to x.body) xs
 
 -- how many steps of a log took one that does
-abbrev pub steps : (Place → Body → Bool) → List LogStep → ℕ
-steps test log = tally (λ (e : LogStep). test e.taken.to e.taken.body) log
+abbrev pub steps : (Place → Body → Bool) → List HostStep → ℕ
+steps test log = tally (λ (e : HostStep). test e.step.taken) log
 
 module _ (start : Start) where
   put_signals : (test : Place → Body → Bool) (j : ℕ) (view : View) (h stamp : ℕ) (count : ℕ → ℕ) (sends : List Outgoing) (before : List Signal)
@@ -45,16 +46,16 @@ module _ (start : Start) where
       first x false = omega arith
 
   -- one more step of the sender
-  pub sent_signals : (test : Place → Body → Bool) (i j : ℕ) (e : LogStep) (log : List LogStep)
+  pub sent_signals : (test : Place → Body → Bool) (i j : ℕ) (e : HostStep) (log : List HostStep)
       → signals test (sent (machine start) i j (e ∷ log)) ≡ sends_of (to_node j test) (step_after start i log e).effects.sends + signals test (sent (machine start) i j log)
-  sent_signals test i j e log = put_signals test j (first_view start.nodes) i e.stamp (sent_count start i log) (step_after start i log e).effects.sends (sent (machine start) i j log)
+  sent_signals test i j e log = put_signals test j (first_view start.shape.nodes) i e.step.stamp (sent_count start i log) (step_after start i log e).effects.sends (sent (machine start) i j log)
 
   -- one more step of the taker
-  pub taken_signals : (test : Place → Body → Bool) (i : ℕ) (e : LogStep) (log : List LogStep)
-      → signals test (taken (machine start) i (e ∷ log)) ≡ one_if (is_from (machine start) i e && test e.taken.to e.taken.body) + signals test (taken (machine start) i log)
+  pub taken_signals : (test : Place → Body → Bool) (i : ℕ) (e : HostStep) (log : List HostStep)
+      → signals test (taken (machine start) i (e ∷ log)) ≡ one_if (is_from (machine start) i e && test e.step.taken) + signals test (taken (machine start) i log)
   taken_signals test i e log = go (is_from (machine start) i e)
     where
-      go : (b : Bool) → signals test (if b then e.taken ∷ taken (machine start) i log else taken (machine start) i log) ≡ one_if (b && test e.taken.to e.taken.body) + signals test (taken (machine start) i log)
+      go : (b : Bool) → signals test (if b then e.step.taken ∷ taken (machine start) i log else taken (machine start) i log) ≡ one_if (b && test e.step.taken) + signals test (taken (machine start) i log)
       go true = refl
       go false = omega arith
 
@@ -70,16 +71,16 @@ module _ (start : Start) where
       first false = rest
 
   pub sent_truths : (P : Signal → Type 0) (i j : ℕ)
-      → ((e : LogStep) (log : List LogStep) → Each (λ (o : Outgoing). (number : ℕ) → P (headed (first_view start.nodes) i e.stamp number o)) (step_after start i log e).effects.sends)
-      → (log : List LogStep) → Each P (sent (machine start) i j log)
+      → ((e : HostStep) (log : List HostStep) → Each (λ (o : Outgoing). (number : ℕ) → P (headed (first_view start.shape.nodes) i e.step.stamp number o)) (step_after start i log e).effects.sends)
+      → (log : List HostStep) → Each P (sent (machine start) i j log)
   sent_truths P i j all [] = tt
   sent_truths P i j all (e ∷ log) =
-      put_truths P j (first_view start.nodes) i e.stamp (sent_count start i log) (step_after start i log e).effects.sends (sent (machine start) i j log) (all e log) (sent_truths P i j all log)
+      put_truths P j (first_view start.shape.nodes) i e.step.stamp (sent_count start i log) (step_after start i log e).effects.sends (sent (machine start) i j log) (all e log) (sent_truths P i j all log)
 
   -- no more are taken from a link than are taken
-  pub taken_steps : (test : Place → Body → Bool) (i : ℕ) (log : List LogStep) → signals test (taken (machine start) i log) ≤ steps test log
+  pub taken_steps : (test : Place → Body → Bool) (i : ℕ) (log : List HostStep) → signals test (taken (machine start) i log) ≤ steps test log
   taken_steps test i [] = omega arith
-  taken_steps test i (e ∷ log) = omega (arith, taken_signals test i e log, taken_steps test i log, less (is_from (machine start) i e) (test e.taken.to e.taken.body))
+  taken_steps test i (e ∷ log) = omega (arith, taken_signals test i e log, taken_steps test i log, less (is_from (machine start) i e) (test e.step.taken))
     where
       less : (a b : Bool) → one_if (a && b) ≤ one_if b
       less true b = omega arith

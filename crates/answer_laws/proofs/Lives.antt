@@ -6,7 +6,7 @@ use Rattle.std.proofs.lemmas.Bool.Decides.{nat_tests}
 use Rattle.run_theory.proofs.Pasts.{each_map}
 use Rattle.run_theory.specs.Links.{is_from, put, sent, taken}
 use Rattle.run_theory.specs.Lists.{IsIn, IsPast}
-use Rattle.sig_core.specs.declared.log.LogStep.{LogStep}
+use Rattle.world_core.specs.Steps.{HostStep}
 use Rattle.sig_core.specs.declared.member.TxId.{TxId}
 use Rattle.sig_core.specs.declared.outs.Outgoing.{Outgoing}
 use Rattle.sig_core.specs.declared.place.Place.{Place}
@@ -24,7 +24,8 @@ use Rattle.node_core.specs.Requests.{is_request}
 use Rattle.node_core.specs.Row.{node_row, row}
 use Rattle.tc_block.specs.State.{TcState}
 use Rattle.world_core.specs.Machine.{after, all_headed, counted as one_counted, headed, machine, sent_count, step_after}
-use Rattle.world_core.specs.Start.{Start, first_view}
+use Rattle.frag_map.specs.Layout.{first_view}
+use Rattle.world_core.specs.Start.{Start}
 use Rattle.commit_laws.proofs.Keys.{same_tx-self}
 use Rattle.answer_laws.proofs.LqhOps.{right_of, left_of}
 use Rattle.answer_laws.proofs.ApiHolds.{AreHeld, IsOrdered, log_holds}
@@ -69,7 +70,7 @@ start_home tx h _ tells e = cc
 
 module _ (start : Start) (tx : TxId) where
   -- a node after a log, with what is so of the transaction there
-  pub record NodeKeeps (h : ℕ) (log : List LogStep) : Type 0 where
+  pub record NodeKeeps (h : ℕ) (log : List HostStep) : Type 0 where
     pub state : node.Node
     pub is : after start (suc h) log ≡ Node state
     pub keeps : IsKept tx state.tc (signals (is_start tx) (sent (machine start) (suc h) 0 log)) (signals (is_end tx) (sent (machine start) (suc h) 0 log))
@@ -95,10 +96,10 @@ module _ (start : Start) (tx : TxId) where
       later true some = omega (arith, due (omega (arith, some)))
       later false some = due (omega (arith, some))
 
-  pub keeps : (h : ℕ) (log : List LogStep) → NodeKeeps h log
+  pub keeps : (h : ℕ) (log : List HostStep) → NodeKeeps h log
   unfolding fresh_node begun_node row
   keeps h [] = record {
-    state = begun_node (h + 1) (first_view start.nodes) start.epoch start.rows;
+    state = begun_node (h + 1) (first_view start.shape.nodes) start.epoch start.rows;
     is = refl;
     keeps = record { began = omega arith; order = λ e. e; kept = λ e. e; told = λ e. e; once = omega arith; unborn = λ e. refl; own = tt };
     ordered = tt;
@@ -107,19 +108,19 @@ module _ (start : Start) (tx : TxId) where
     where
       next : NodeKeeps h log → NodeKeeps h (e ∷ log)
       next k = record {
-        state = (node_row k.state e.taken.to.block e.taken.body).state;
-        is = ap (λ g. (row g e.taken.to e.taken.body).state) k.is;
+        state = (node_row k.state e.step.taken.to.block e.step.taken.body).state;
+        is = ap (λ g. (row g e.step.taken).state) k.is;
         keeps = subst (λ n. IsKept tx tc n (signals (is_end tx) (sent (machine start) (suc h) 0 (e ∷ log)))) (sym starts_now)
-            (subst (λ n. IsKept tx tc (starts_in tx sends + begun) n) (sym ends_now) (kept_move tx k.state.tc tc sends begun ended (node_moves k.state e.taken.to.block e.taken.body) k.keeps));
-        ordered = put_ordered (first_view start.nodes) (suc h) e.stamp (sent_count start (suc h) log) (step_after start (suc h) log e).effects.sends (sent (machine start) (suc h) 0 log) k.ordered
-            (λ some. due_move tx k.state.tc tc sends begun ended (node_moves k.state e.taken.to.block e.taken.body) k.keeps (subst (λ xs. 1 ≤ ends_in tx xs) same some));
+            (subst (λ n. IsKept tx tc (starts_in tx sends + begun) n) (sym ends_now) (kept_move tx k.state.tc tc sends begun ended (node_moves k.state e.step.taken.to.block e.step.taken.body) k.keeps));
+        ordered = put_ordered (first_view start.shape.nodes) (suc h) e.step.stamp (sent_count start (suc h) log) (step_after start (suc h) log e).effects.sends (sent (machine start) (suc h) 0 log) k.ordered
+            (λ some. due_move tx k.state.tc tc sends begun ended (node_moves k.state e.step.taken.to.block e.step.taken.body) k.keeps (subst (λ xs. 1 ≤ ends_in tx xs) same some));
       }
         where
           tc : TcState
-          tc = (node_row k.state e.taken.to.block e.taken.body).state.tc
+          tc = (node_row k.state e.step.taken.to.block e.step.taken.body).state.tc
 
           sends : List Outgoing
-          sends = (node_row k.state e.taken.to.block e.taken.body).effects.sends
+          sends = (node_row k.state e.step.taken.to.block e.step.taken.body).effects.sends
 
           begun : ℕ
           begun = signals (is_start tx) (sent (machine start) (suc h) 0 log)
@@ -128,7 +129,7 @@ module _ (start : Start) (tx : TxId) where
           ended = signals (is_end tx) (sent (machine start) (suc h) 0 log)
 
           same : (step_after start (suc h) log e).effects.sends ≡ sends
-          same = ap (λ g. (row g e.taken.to e.taken.body).effects.sends) k.is
+          same = ap (λ g. (row g e.step.taken).effects.sends) k.is
 
           starts_now : signals (is_start tx) (sent (machine start) (suc h) 0 (e ∷ log)) ≡ starts_in tx sends + begun
           starts_now = omega (arith, sent_signals start (is_start tx) (suc h) 0 e log, ap (starts_in tx) same)
@@ -137,17 +138,17 @@ module _ (start : Start) (tx : TxId) where
           ends_now = omega (arith, sent_signals start (is_end tx) (suc h) 0 e log, ap (ends_in tx) same)
 
   -- the shell's host tells neither
-  shell_silent : (log : List LogStep) → (signals (is_start tx) (sent (machine start) 0 0 log) ≡ 0) × (signals (is_end tx) (sent (machine start) 0 0 log) ≡ 0)
+  shell_silent : (log : List HostStep) → (signals (is_start tx) (sent (machine start) 0 0 log) ≡ 0) × (signals (is_end tx) (sent (machine start) 0 0 log) ≡ 0)
   shell_silent [] = (refl, refl)
   shell_silent (e ∷ log) =
       let before = shell_silent log in
-      let now = shell_starts tx 0 (shell_after start log).state e.taken.to.block e.taken.body in (
+      let now = shell_starts tx 0 (shell_after start log).state e.step.taken.to.block e.step.taken.body in (
         omega (arith, sent_signals start (is_start tx) 0 0 e log, before.0, now.0, ap (sends_of (to_node 0 (is_start tx))) (shell_sends start e log)),
         omega (arith, sent_signals start (is_end tx) 0 0 e log, before.1, now.1, ap (sends_of (to_node 0 (is_end tx))) (shell_sends start e log)),
       )
 
   -- nor does another node than that of its coordinator
-  other_silent : (h : ℕ) (log : List LogStep) → suc h ≢ tx.tc → signals (is_start tx) (sent (machine start) (suc h) 0 log) ≡ 0
+  other_silent : (h : ℕ) (log : List HostStep) → suc h ≢ tx.tc → signals (is_start tx) (sent (machine start) (suc h) 0 log) ≡ 0
   other_silent h log differs =
       tally_none (λ (x : Signal). is_start tx x.to x.body) (sent (machine start) (suc h) 0 log)
       (each_map (λ (x : Signal). TellsNode (suc h) x.body) (λ (x : Signal). is_start tx x.to x.body ≡ false) (sent (machine start) (suc h) 0 log) (λ x tells. fails x tells (is_start tx x.to x.body) refl)
@@ -157,7 +158,7 @@ module _ (start : Start) (tx : TxId) where
       fails x tells false e = e
       fails x tells true e = absurd (differs (sym (start_home tx (suc h) x.body tells (right_of (is_api x.to.block) (start_of tx x.body) e))))
 
-  other_ends : (h : ℕ) (log : List LogStep) → suc h ≢ tx.tc → signals (is_end tx) (sent (machine start) (suc h) 0 log) ≡ 0
+  other_ends : (h : ℕ) (log : List HostStep) → suc h ≢ tx.tc → signals (is_end tx) (sent (machine start) (suc h) 0 log) ≡ 0
   other_ends h log differs = go (cases_lt 0 (signals (is_end tx) (sent (machine start) (suc h) 0 log)))
     where
       go : (0 < signals (is_end tx) (sent (machine start) (suc h) 0 log)) ⊎ (signals (is_end tx) (sent (machine start) (suc h) 0 log) ≤ 0) → signals (is_end tx) (sent (machine start) (suc h) 0 log) ≡ 0
@@ -165,64 +166,64 @@ module _ (start : Start) (tx : TxId) where
       go (inr none) = omega (arith, none)
 
   -- neither is told by another host
-  pub silent_start : (i : ℕ) (log : List LogStep) → i ≢ tx.tc → signals (is_start tx) (sent (machine start) i 0 log) ≡ 0
+  pub silent_start : (i : ℕ) (log : List HostStep) → i ≢ tx.tc → signals (is_start tx) (sent (machine start) i 0 log) ≡ 0
   silent_start zero log differs = (shell_silent log).0
   silent_start (suc h) log differs = other_silent h log differs
 
-  silent_end : (i : ℕ) (log : List LogStep) → i ≢ tx.tc → signals (is_end tx) (sent (machine start) i 0 log) ≡ 0
+  silent_end : (i : ℕ) (log : List HostStep) → i ≢ tx.tc → signals (is_end tx) (sent (machine start) i 0 log) ≡ 0
   silent_end zero log differs = (shell_silent log).1
   silent_end (suc h) log differs = other_ends h log differs
 
   -- steps that took a signal which one host alone sends took it from that host
   pub steps_from : (test : Place → Body → Bool) (i : ℕ) → ((to : Place) (body : Body) → test to body ≡ true → is_request body ≡ false)
-      → (log : List LogStep) → ((k : ℕ) → k ≢ i → signals test (taken (machine start) k log) ≡ 0) → steps test log ≤ signals test (taken (machine start) i log)
+      → (log : List HostStep) → ((k : ℕ) → k ≢ i → signals test (taken (machine start) k log) ≡ 0) → steps test log ≤ signals test (taken (machine start) i log)
   steps_from test i plain [] none = omega arith
   steps_from test i plain (e ∷ log) none =
-      go (test e.taken.to e.taken.body) refl (steps_from test i plain log (λ k differs. omega (arith, none k differs, taken_signals start test k e log)))
+      go (test e.step.taken) refl (steps_from test i plain log (λ k differs. omega (arith, none k differs, taken_signals start test k e log)))
     where
-      from : (k : ℕ) → e.taken.from.0 ≡ k → test e.taken.to e.taken.body ≡ true → (is_from (machine start) k e && test e.taken.to e.taken.body) ≡ true
+      from : (k : ℕ) → e.step.taken.from.0 ≡ k → test e.step.taken ≡ true → (is_from (machine start) k e && test e.step.taken) ≡ true
       from k at is =
-          all_three (is_request e.taken.body) (e.taken.from.0 == k) (test e.taken.to e.taken.body) (plain e.taken.to e.taken.body is) (grind (arith, nat_tests, at)) is
+          all_three (is_request e.step.taken.body) (e.step.taken.from.0 == k) (test e.step.taken) (plain e.step.taken is) (grind (arith, nat_tests, at)) is
 
-      go : (b : Bool) → test e.taken.to e.taken.body ≡ b → steps test log ≤ signals test (taken (machine start) i log) → one_if b + steps test log ≤ signals test (taken (machine start) i (e ∷ log))
+      go : (b : Bool) → test e.step.taken ≡ b → steps test log ≤ signals test (taken (machine start) i log) → one_if b + steps test log ≤ signals test (taken (machine start) i (e ∷ log))
       go false is less = omega (arith, less, taken_signals start test i e log)
-      go true is less = at (cases_eq e.taken.from.0 i)
+      go true is less = at (cases_eq e.step.taken.from.0 i)
         where
-          at : (e.taken.from.0 ≡ i) ⊎ (e.taken.from.0 ≢ i) → one_if true + steps test log ≤ signals test (taken (machine start) i (e ∷ log))
+          at : (e.step.taken.from.0 ≡ i) ⊎ (e.step.taken.from.0 ≢ i) → one_if true + steps test log ≤ signals test (taken (machine start) i (e ∷ log))
           at (inl same) = omega (arith, less, taken_signals start test i e log, ap one_if (from i same is))
-          at (inr differs) = absurd (omega (arith, none e.taken.from.0 differs, taken_signals start test e.taken.from.0 e log, ap one_if (from e.taken.from.0 refl is)))
+          at (inr differs) = absurd (omega (arith, none e.step.taken.from.0 differs, taken_signals start test e.step.taken.from.0 e log, ap one_if (from e.step.taken.from.0 refl is)))
 
   -- a log of the shell's host that has taken signals in order
-  log_ordered : (log : List LogStep) → ((k : ℕ) → k ≢ tx.tc → signals (is_end tx) (taken (machine start) k log) ≡ 0) → AreOrdered tx (taken (machine start) tx.tc log) → IsOrdered tx log
+  log_ordered : (log : List HostStep) → ((k : ℕ) → k ≢ tx.tc → signals (is_end tx) (taken (machine start) k log) ≡ 0) → AreOrdered tx (taken (machine start) tx.tc log) → IsOrdered tx log
   log_ordered [] none ordered = tt
   log_ordered (e ∷ log) none ordered =
-      (λ is. due is (cases_eq e.taken.from.0 tx.tc), log_ordered log (λ k differs. omega (arith, none k differs, taken_signals start (is_end tx) k e log)) (rest (is_from (machine start) tx.tc e) ordered))
+      (λ is. due is (cases_eq e.step.taken.from.0 tx.tc), log_ordered log (λ k differs. omega (arith, none k differs, taken_signals start (is_end tx) k e log)) (rest (is_from (machine start) tx.tc e) ordered))
     where
-      from : (k : ℕ) → e.taken.from.0 ≡ k → is_end tx e.taken.to e.taken.body ≡ true → is_from (machine start) k e ≡ true
+      from : (k : ℕ) → e.step.taken.from.0 ≡ k → is_end tx e.step.taken ≡ true → is_from (machine start) k e ≡ true
       from k at is =
-          left_of (is_from (machine start) k e) (is_end tx e.taken.to e.taken.body)
-          (all_three (is_request e.taken.body) (e.taken.from.0 == k) (is_end tx e.taken.to e.taken.body)
-          (plain_end tx e.taken.body (right_of (is_api e.taken.to.block) (end_of tx e.taken.body) is)) (grind (arith, nat_tests, at)) is)
+          left_of (is_from (machine start) k e) (is_end tx e.step.taken)
+          (all_three (is_request e.step.taken.body) (e.step.taken.from.0 == k) (is_end tx e.step.taken)
+          (plain_end tx e.step.taken.body (right_of (is_api e.step.taken.to.block) (end_of tx e.step.taken.body) is)) (grind (arith, nat_tests, at)) is)
 
-      rest : (b : Bool) → AreOrdered tx (if b then e.taken ∷ taken (machine start) tx.tc log else taken (machine start) tx.tc log) → AreOrdered tx (taken (machine start) tx.tc log)
+      rest : (b : Bool) → AreOrdered tx (if b then e.step.taken ∷ taken (machine start) tx.tc log else taken (machine start) tx.tc log) → AreOrdered tx (taken (machine start) tx.tc log)
       rest true o = o.1
       rest false o = o
 
-      due : is_end tx e.taken.to e.taken.body ≡ true → (e.taken.from.0 ≡ tx.tc) ⊎ (e.taken.from.0 ≢ tx.tc) → 1 ≤ steps (is_start tx) log
+      due : is_end tx e.step.taken ≡ true → (e.step.taken.from.0 ≡ tx.tc) ⊎ (e.step.taken.from.0 ≢ tx.tc) → 1 ≤ steps (is_start tx) log
       due is (inl same) =
-          let here : AreOrdered tx (e.taken ∷ taken (machine start) tx.tc log) =
-          subst (λ b. AreOrdered tx (if b then e.taken ∷ taken (machine start) tx.tc log else taken (machine start) tx.tc log)) (from tx.tc same is) ordered in
+          let here : AreOrdered tx (e.step.taken ∷ taken (machine start) tx.tc log) =
+          subst (λ b. AreOrdered tx (if b then e.step.taken ∷ taken (machine start) tx.tc log else taken (machine start) tx.tc log)) (from tx.tc same is) ordered in
           omega (arith, here.0 is, taken_steps start (is_start tx) tx.tc log)
       due is (inr differs) =
           absurd (omega (
             arith,
-            none e.taken.from.0 differs,
-            taken_signals start (is_end tx) e.taken.from.0 e log,
-            ap one_if (ap (λ b. b && is_end tx e.taken.to e.taken.body) (from e.taken.from.0 refl is) ∙ is),
+            none e.step.taken.from.0 differs,
+            taken_signals start (is_end tx) e.step.taken.from.0 e log,
+            ap one_if (ap (λ b. b && is_end tx e.step.taken) (from e.step.taken.from.0 refl is) ∙ is),
           ))
 
   -- at quiet
-  module _ (logs : ℕ → List LogStep) (quiet : AreQuiet start logs) where
+  module _ (logs : ℕ → List HostStep) (quiet : AreQuiet start logs) where
     link : (i j : ℕ) → IsPast (taken (machine start) i (logs j)) (sent (machine start) i j (logs i))
     link i j = given_past start i j (logs i) (taken (machine start) i (logs j)) (quiet.right.linked i j)
 
@@ -243,7 +244,7 @@ module _ (start : Start) (tx : TxId) where
     once_sent (suc h) = (keeps h (logs (suc h))).keeps.once
 
     -- what is live at the coordinator
-    live_at : (i : ℕ) → tx.tc ≡ i → i < start.nodes + 1 → 1 ≤ signals (is_start tx) (sent (machine start) i 0 (logs i)) → signals (is_end tx) (sent (machine start) i 0 (logs i)) ≡ 0
+    live_at : (i : ℕ) → tx.tc ≡ i → i < hosts start → 1 ≤ signals (is_start tx) (sent (machine start) i 0 (logs i)) → signals (is_end tx) (sent (machine start) i 0 (logs i)) ≡ 0
         → IsLiveAt tx (after start i (logs i))
     live_at zero at low some none = absurd (omega (arith, some, (shell_silent (logs 0)).0))
     live_at (suc h) at low some none =
@@ -280,7 +281,7 @@ module _ (start : Start) (tx : TxId) where
         (log_ordered (logs 0) ends_none (ordered_past tx (taken (machine start) tx.tc (logs 0)) (sent (machine start) tx.tc 0 (logs tx.tc)) (link tx.tc 0) (ordered_sent tx.tc)))
 
     held_live : (t : OpenTransaction) → IsIn t (opened_after start logs) → t.tx ≡ Some tx → IsLiveAt tx (after start tx.tc (logs tx.tc))
-    held_live t inside is = at_low (cases_lt tx.tc (start.nodes + 1))
+    held_live t inside is = at_low (cases_lt tx.tc (hosts start))
       where
         passes : has_tx tx t ≡ true
         passes = ap (is_tx tx) is ∙ same_tx-self tx
@@ -299,7 +300,7 @@ module _ (start : Start) (tx : TxId) where
         some : 1 ≤ signals (is_start tx) (sent (machine start) tx.tc 0 (logs tx.tc))
         some = omega (arith, held, holds.few, starts_there, taken_few)
 
-        none : tx.tc < start.nodes + 1
+        none : tx.tc < hosts start
             → (0 < signals (is_end tx) (sent (machine start) tx.tc 0 (logs tx.tc))) ⊎ (signals (is_end tx) (sent (machine start) tx.tc 0 (logs tx.tc)) ≤ 0)
             → signals (is_end tx) (sent (machine start) tx.tc 0 (logs tx.tc)) ≡ 0
         none low (inr few) = omega (arith, few)
@@ -308,7 +309,7 @@ module _ (start : Start) (tx : TxId) where
             omega (arith, ended, ap (signals (is_end tx)) (quiet.quiet tx.tc 0 low (omega arith)), taken_steps start (is_end tx) tx.tc (logs 0)) in
             absurd (omega (arith, held, holds.none told))
 
-        at_low : (tx.tc < start.nodes + 1) ⊎ (start.nodes + 1 ≤ tx.tc) → IsLiveAt tx (after start tx.tc (logs tx.tc))
+        at_low : (tx.tc < hosts start) ⊎ (hosts start ≤ tx.tc) → IsLiveAt tx (after start tx.tc (logs tx.tc))
         at_low (inl low) = live_at tx.tc refl low some (none low (cases_lt 0 (signals (is_end tx) (sent (machine start) tx.tc 0 (logs tx.tc)))))
         at_low (inr high) = absurd (omega (arith, some, ap (λ log. signals (is_start tx) (sent (machine start) tx.tc 0 log)) (quiet.within tx.tc high)))
 

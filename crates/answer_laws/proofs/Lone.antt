@@ -5,7 +5,7 @@ use Rattle.std.proofs.lemmas.Bool.{cases_eq, false≢true}
 use Rattle.std.specs.Cmp.Lexicographic.{slice_cmp}
 use Rattle.std.specs.FinMap as finite
 use Rattle.std.specs.Ordering.{nat_cmp}
-use Rattle.lqh_block.specs.Lqh.{lqh_row}
+use Rattle.lqh_block.specs.Lqh.{lqh_table}
 use Rattle.lqh_block.specs.Work.{work_key}
 use Rattle.row_locks.specs.Queues.{waits}
 use Rattle.row_locks.specs.Tables.{or_unlocked}
@@ -13,12 +13,12 @@ use Rattle.lqh_block.specs.State.{LqhState}
 use Rattle.node_core.specs.declared.host.Host as host
 use Rattle.node_core.specs.declared.host.Host.TheVariants.{Shell, Node}
 use Rattle.node_core.specs.declared.node.Node as node
-use Rattle.node_core.specs.Dih.{dih_row}
+use Rattle.node_core.specs.Dih.{dih_table}
 use Rattle.node_core.specs.Fresh.{begun_node, fresh_node}
 use Rattle.node_core.specs.Requests.{is_request}
 use Rattle.node_core.specs.Row.{shell_row}
 use Rattle.run_theory.specs.Runs.{AreLogs, IsWithin, log_of}
-use Rattle.sig_core.specs.declared.log.LogStep.{LogStep}
+use Rattle.world_core.specs.Steps.{HostStep}
 use Rattle.sig_core.specs.declared.member.TxId.{TxId}
 use Rattle.sig_core.specs.declared.outs.Outgoing.{Outgoing}
 use Rattle.sig_core.specs.declared.place.BlockId.{BlockId}
@@ -32,11 +32,12 @@ use Rattle.sig_core.specs.Same.{same_key, same_tx}
 use Rattle.tc_block.specs.declared.phase.Phase.TheVariants.{Open}
 use Rattle.tc_block.specs.declared.transaction.Transaction.{Transaction}
 use Rattle.tc_block.specs.State.{TcState}
-use Rattle.tc_block.specs.Tc.{tc_row}
+use Rattle.tc_block.specs.Tc.{tc_table}
 use Rattle.api_block.specs.declared.opened.OpenTransaction.{OpenTransaction}
 use Rattle.api_block.specs.State.{ApiState}
 use Rattle.world_core.specs.Machine.{after, machine}
-use Rattle.world_core.specs.Start.{Start, first_view}
+use Rattle.frag_map.specs.Layout.{first_view}
+use Rattle.world_core.specs.Start.{Start}
 use Rattle.answer_laws.proofs.Ahead.{along, at_node, AtNode, first_none, Goes, next_at, NextAt, no_transaction, NodeStep, of_dih, of_lqh, of_none, of_tc, the_transaction, tx_at}
 use Rattle.answer_laws.proofs.ApiMoves.{ApiMove, api_moves, begun_as, ends, goes, is_api_kind, opens, refuses, rests}
 use Rattle.answer_laws.proofs.DihSends.{dih_kinds}
@@ -117,15 +118,15 @@ shell_hops tx key s _ body = refl
 
 module _ (start : Start) (tx : TxId) (key : List ℕ) where
   -- who is in the queue of a node waits there
-  record QueueIs (h : ℕ) (log : List LogStep) : Type 0 where
+  record QueueIs (h : ℕ) (log : List HostStep) : Type 0 where
     state : node.Node
     is : after start (suc h) log ≡ Node state
     there : queued tx key state.lqh ≡ true → 1 ≤ waiting tx key state.lqh
 
-  queue_is : (h : ℕ) (log : List LogStep) → QueueIs h log
+  queue_is : (h : ℕ) (log : List HostStep) → QueueIs h log
   unfolding fresh_node begun_node
   queue_is h [] = record {
-    state = begun_node (h + 1) (first_view start.nodes) start.epoch start.rows;
+    state = begun_node (h + 1) (first_view start.shape.nodes) start.epoch start.rows;
     is = refl;
     there = λ on. absurd (false≢true (sym (ap (λ o. waits tx (or_unlocked o).queue) (finite.get-empty (slice_cmp nat_cmp) key)) ∙ on));
   }
@@ -137,48 +138,48 @@ module _ (start : Start) (tx : TxId) (key : List ℕ) where
           n : NextAt start h e log k.state
           n = next_at start h e log k.state k.is
 
-          by : NodeStep k.state e.taken.to.block e.taken.body n.now n.sends → queued tx key n.now.lqh ≡ true → 1 ≤ waiting tx key n.now.lqh
+          by : NodeStep k.state e.step.taken.to.block e.step.taken.body n.now n.sends → queued tx key n.now.lqh ≡ true → 1 ≤ waiting tx key n.now.lqh
           by (of_tc at is sends) = subst (λ (s : LqhState). queued tx key s ≡ true → 1 ≤ waiting tx key s) (sym (ap (λ (y : node.Node). y.lqh) is)) k.there
           by (of_dih at is sends) = subst (λ (s : LqhState). queued tx key s ≡ true → 1 ≤ waiting tx key s) (sym (ap (λ (y : node.Node). y.lqh) is)) k.there
           by (of_none a b c is sends) = subst (λ (s : LqhState). queued tx key s ≡ true → 1 ≤ waiting tx key s) (sym (ap (λ (y : node.Node). y.lqh) is)) k.there
-          by (of_lqh at is sends) = subst (λ (s : LqhState). queued tx key s ≡ true → 1 ≤ waiting tx key s) (sym (ap (λ (y : node.Node). y.lqh) is)) ((lqh_waits tx key k.state.lqh e.taken.body).there k.there)
+          by (of_lqh at is sends) = subst (λ (s : LqhState). queued tx key s ≡ true → 1 ≤ waiting tx key s) (sym (ap (λ (y : node.Node). y.lqh) is)) ((lqh_waits tx key k.state.lqh e.step.taken.body).there k.there)
 
   abbrev pub waiting_at : host.Host → ℕ
   waiting_at (Shell s) = 0
   waiting_at (Node x) = waiting tx key x.lqh
 
-  abbrev pub S : (ℕ → List LogStep) → ℕ
-  S logs = sent_all start (start.nodes + 1) (is_hop tx key) logs
+  abbrev pub S : (ℕ → List HostStep) → ℕ
+  S logs = sent_all start (hosts start) (is_hop tx key) logs
 
-  abbrev pub T : (ℕ → List LogStep) → ℕ
-  T logs = taken_all start (start.nodes + 1) (is_hop tx key) logs
+  abbrev pub T : (ℕ → List HostStep) → ℕ
+  T logs = taken_all start (hosts start) (is_hop tx key) logs
 
-  abbrev pub W : (ℕ → List LogStep) → ℕ
-  W logs = total (start.nodes + 1) (λ i. waiting_at (after start i (logs i)))
+  abbrev pub W : (ℕ → List HostStep) → ℕ
+  W logs = total (hosts start) (λ i. waiting_at (after start i (logs i)))
 
-  took : (logs now : ℕ → List LogStep) (h : ℕ) (e : LogStep) → Goes start logs now h e → T logs + one_if (is_hop tx key e.taken.to e.taken.body) ≤ T now
-  took logs now h e g = by (is_hop tx key e.taken.to e.taken.body) refl
+  took : (logs now : ℕ → List HostStep) (h : ℕ) (e : HostStep) → Goes start logs now h e → T logs + one_if (is_hop tx key e.step.taken) ≤ T now
+  took logs now h e g = by (is_hop tx key e.step.taken) refl
     where
-      by : (b : Bool) → is_hop tx key e.taken.to e.taken.body ≡ b → T logs + one_if (is_hop tx key e.taken.to e.taken.body) ≤ T now
-      by true is = omega (arith, ap one_if is, flow_took start (is_hop tx key) logs now h e g (plain_hop tx key e.taken.to e.taken.body is) is)
+      by : (b : Bool) → is_hop tx key e.step.taken ≡ b → T logs + one_if (is_hop tx key e.step.taken) ≤ T now
+      by true is = omega (arith, ap one_if is, flow_took start (is_hop tx key) logs now h e g (plain_hop tx key e.step.taken is) is)
       by false is = omega (arith, ap one_if is, flow_taken start (is_hop tx key) logs now h e g)
 
-  waits_now : (logs now : ℕ → List LogStep) (h : ℕ) (e : LogStep) → Goes start logs now h e → W now + waiting_at (after start h (logs h)) ≡ W logs + waiting_at (after start h (now h))
+  waits_now : (logs now : ℕ → List HostStep) (h : ℕ) (e : HostStep) → Goes start logs now h e → W now + waiting_at (after start h (logs h)) ≡ W logs + waiting_at (after start h (now h))
   waits_now logs now h e g =
-      total_one (start.nodes + 1) (λ k. waiting_at (after start k (logs k))) (λ k. waiting_at (after start k (now k))) h g.low (λ k differs. ap (λ log. waiting_at (after start k log)) (g.others k differs))
+      total_one (hosts start) (λ k. waiting_at (after start k (logs k))) (λ k. waiting_at (after start k (now k))) h g.low (λ k differs. ap (λ log. waiting_at (after start k log)) (g.others k differs))
 
   -- a step that gives no more to the links and the rows than it takes from them
-  abbrev Balanced : (ℕ → List LogStep) → (ℕ → List LogStep) → Type 0
+  abbrev Balanced : (ℕ → List HostStep) → (ℕ → List HostStep) → Type 0
   Balanced logs now = S now + W now + T logs ≤ S logs + W logs + T now
 
   -- each step is, but for one of the coordinator
-  shell_balanced : (logs now : ℕ → List LogStep) (e : LogStep) → Goes start logs now 0 e → Balanced logs now
+  shell_balanced : (logs now : ℕ → List HostStep) (e : HostStep) → Goes start logs now 0 e → Balanced logs now
   shell_balanced logs now e g =
       omega (
         arith,
         flow_sent start (is_hop tx key) logs now 0 e g,
         ap (hops tx key) (shell_sends start e (logs 0)),
-        shell_hops tx key (shell_after start (logs 0)).state e.taken.to.block e.taken.body,
+        shell_hops tx key (shell_after start (logs 0)).state e.step.taken.to.block e.step.taken.body,
         waits_now logs now 0 e g,
         ap waiting_at (shell_after start (logs 0)).is,
         ap waiting_at (shell_after start (now 0)).is,
@@ -186,8 +187,8 @@ module _ (start : Start) (tx : TxId) (key : List ℕ) where
       )
 
   -- a step of the rows of a node
-  rows_balanced : (logs now : ℕ → List LogStep) (i : ℕ) (e : LogStep) → Goes start logs now (suc i) e → (x : node.Node) → after start (suc i) (logs (suc i)) ≡ Node x → (n : NextAt start i e (logs (suc i)) x)
-      → e.taken.to.block ≡ block.Lqh → n.now.lqh ≡ (lqh_row x.lqh e.taken.body).state → n.sends ≡ (lqh_row x.lqh e.taken.body).effects.sends → Balanced logs now
+  rows_balanced : (logs now : ℕ → List HostStep) (i : ℕ) (e : HostStep) → Goes start logs now (suc i) e → (x : node.Node) → after start (suc i) (logs (suc i)) ≡ Node x → (n : NextAt start i e (logs (suc i)) x)
+      → e.step.taken.to.block ≡ block.Lqh → n.now.lqh ≡ (lqh_table x.lqh e.step.taken.body).state → n.sends ≡ (lqh_table x.lqh e.step.taken.body).effects.sends → Balanced logs now
   rows_balanced logs now i e g x x_is n at rows_are sends =
       let q = queue_is i (logs (suc i)) in
       let there : queued tx key x.lqh ≡ true → 1 ≤ waiting tx key x.lqh = subst (λ (y : node.Node). queued tx key y.lqh ≡ true → 1 ≤ waiting tx key y.lqh) (same_node q.state x (sym q.is ∙ x_is)) q.there in
@@ -195,17 +196,17 @@ module _ (start : Start) (tx : TxId) (key : List ℕ) where
         arith,
         flow_sent start (is_hop tx key) logs now (suc i) e g,
         ap (hops tx key) (n.sent_is ∙ sends),
-        (lqh_waits tx key x.lqh e.taken.body).few there,
+        (lqh_waits tx key x.lqh e.step.taken.body).few there,
         waits_now logs now (suc i) e g,
         ap waiting_at x_is,
         ap waiting_at (ap (after start (suc i)) g.own ∙ n.is),
         ap (waiting tx key) rows_are,
         took logs now (suc i) e g,
-        rows_came tx key e.taken.to e.taken.body (ap is_lqh at),
+        rows_came tx key e.step.taken (ap is_lqh at),
       )
 
   -- a step that sends none of these
-  still_balanced : (logs now : ℕ → List LogStep) (i : ℕ) (e : LogStep) → Goes start logs now (suc i) e → (x : node.Node) → after start (suc i) (logs (suc i)) ≡ Node x → (n : NextAt start i e (logs (suc i)) x)
+  still_balanced : (logs now : ℕ → List HostStep) (i : ℕ) (e : HostStep) → Goes start logs now (suc i) e → (x : node.Node) → after start (suc i) (logs (suc i)) ≡ Node x → (n : NextAt start i e (logs (suc i)) x)
       → n.now.lqh ≡ x.lqh → hops tx key n.sends ≡ 0 → Balanced logs now
   still_balanced logs now i e g x x_is n rows_are none =
       omega (
@@ -221,21 +222,21 @@ module _ (start : Start) (tx : TxId) (key : List ℕ) where
       )
 
   -- what of a transaction's operations on the key waits or is on its way
-  pub record IsLone (h : ℕ) (logs : ℕ → List LogStep) : Type 0 where
+  pub record IsLone (h : ℕ) (logs : ℕ → List HostStep) : Type 0 where
     pub few : S logs + W logs ≤ T logs + 1
     pub opened : (t : Transaction) → tx_at tx (after start (suc h) (logs (suc h))) ≡ Some t → t.phase ≡ Open → S logs + W logs ≤ T logs + one_if (asks_key key t.asked)
     pub unborn : (x : node.Node) → after start (suc h) (logs (suc h)) ≡ Node x → x.tc.next_seq ≤ tx.seq → S logs + W logs ≤ T logs
 
   module _ (h : ℕ) (home : tx.tc ≡ suc h) where
     -- a balanced step of another host
-    other_lone : (logs now : ℕ → List LogStep) → now (suc h) ≡ logs (suc h) → Balanced logs now → IsLone h logs → IsLone h now
+    other_lone : (logs now : ℕ → List HostStep) → now (suc h) ≡ logs (suc h) → Balanced logs now → IsLone h logs → IsLone h now
     other_lone logs now same bal k = record {
       few = omega (arith, k.few, bal);
       opened = λ t at p. omega (arith, k.opened t (ap (λ log. tx_at tx (after start (suc h) log)) (sym same) ∙ at) p, bal);
       unborn = λ x x_is early. omega (arith, k.unborn x (ap (after start (suc h)) (sym same) ∙ x_is) early, bal);
     }
 
-    own_lone : (logs now : ℕ → List LogStep) (e : LogStep) → Goes start logs now (suc h) e → IsLone h logs → IsLone h now
+    own_lone : (logs now : ℕ → List HostStep) (e : HostStep) → Goes start logs now (suc h) e → IsLone h logs → IsLone h now
     own_lone logs now e g k = finish n.step
       where
         x : AtNode start tx h (logs (suc h))
@@ -266,30 +267,30 @@ module _ (start : Start) (tx : TxId) (key : List ℕ) where
         quiet : n.now.tc ≡ x.state.tc → Balanced logs now → IsLone h now
         quiet same bal = kept (ap (λ (s : TcState). of_live tx s.live) same) (omega (arith, ap (λ (s : TcState). s.next_seq) same)) bal
 
-        finish : NodeStep x.state e.taken.to.block e.taken.body n.now n.sends → IsLone h now
+        finish : NodeStep x.state e.step.taken.to.block e.step.taken.body n.now n.sends → IsLone h now
         finish (of_dih at is sends) =
             quiet (ap (λ (y : node.Node). y.tc) is)
             (still_balanced logs now h e g x.state x.is n (ap (λ (y : node.Node). y.lqh) is)
-            (ap (hops tx key) sends ∙ hopless_none tx key (dih_row x.state.dih e.taken.body).effects.sends (of_kind is_dih_kind is_hopless dih_hopless (dih_row x.state.dih e.taken.body).effects.sends (dih_kinds x.state.dih e.taken.body))))
+            (ap (hops tx key) sends ∙ hopless_none tx key (dih_table x.state.dih e.step.taken.body).effects.sends (of_kind is_dih_kind is_hopless dih_hopless (dih_table x.state.dih e.step.taken.body).effects.sends (dih_kinds x.state.dih e.step.taken.body))))
         finish (of_none tc lqh dih is sends) =
             quiet (ap (λ (y : node.Node). y.tc) is) (still_balanced logs now h e g x.state x.is n (ap (λ (y : node.Node). y.lqh) is) (ap (hops tx key) sends))
         finish (of_lqh at is sends) =
             quiet (ap (λ (y : node.Node). y.tc) is) (rows_balanced logs now h e g x.state x.is n at (ap (λ (y : node.Node). y.lqh) is) sends)
-        finish (of_tc at is sends) = by (tx_step tx x.state.tc e.taken.body x.once x.own)
+        finish (of_tc at is sends) = by (tx_step tx x.state.tc e.step.taken.body x.once x.own)
           where
-            tc_is : n.now.tc ≡ (tc_row x.state.tc e.taken.body).state
+            tc_is : n.now.tc ≡ (tc_table x.state.tc e.step.taken.body).state
             tc_is = ap (λ (y : node.Node). y.tc) is
 
             grows : x.state.tc.next_seq ≤ n.now.tc.next_seq
-            grows = omega (arith, next_grows x.state.tc e.taken.body, ap (λ (s : TcState). s.next_seq) tc_is)
+            grows = omega (arith, next_grows x.state.tc e.step.taken.body, ap (λ (s : TcState). s.next_seq) tc_is)
 
             rows_same : n.now.lqh ≡ x.state.lqh
             rows_same = ap (λ (y : node.Node). y.lqh) is
 
-            by : TxStep tx x.state.tc e.taken.body (tc_row x.state.tc e.taken.body) → IsLone h now
+            by : TxStep tx x.state.tc e.step.taken.body (tc_table x.state.tc e.step.taken.body) → IsLone h now
             by (elsewhere same kind absent) =
                 kept (ap (λ (s : TcState). of_live tx s.live) tc_is ∙ same) grows
-                (still_balanced logs now h e g x.state x.is n rows_same (ap (hops tx key) sends ∙ apart_hops tx key (tc_row x.state.tc e.taken.body).effects.sends kind))
+                (still_balanced logs now h e g x.state x.is n rows_same (ap (hops tx key) sends ∙ apart_hops tx key (tc_table x.state.tc e.step.taken.body).effects.sends kind))
             by (born name about one none there told) =
                 let bal = still_balanced logs now h e g x.state x.is n rows_same (ap (hops tx key) sends ∙ ap (hops tx key) told) in
                 let before = k.unborn x.state x.is (omega (arith, ap (λ (v : TxId). v.seq) one)) in
@@ -304,8 +305,8 @@ module _ (start : Start) (tx : TxId) (key : List ℕ) where
               unborn = λ y y_is early. absurd (omega (arith, early, number_of y y_is, grows, live_early tx x.state.tc t there x.own));
             }
               where
-                turns : HopTurn x.state.tc tx key t e.taken.body turn
-                turns = hop_turn x.state.tc tx key t e.taken.body turn move
+                turns : HopTurn x.state.tc tx key t e.step.taken.body turn
+                turns = hop_turn x.state.tc tx key t e.step.taken.body turn move
 
                 sent : S now ≤ S logs + hops tx key turn.step.effects.sends
                 sent = omega (arith, flow_sent start (is_hop tx key) logs now (suc h) e g, ap (hops tx key) (n.sent_is ∙ (sends ∙ told)))
@@ -313,8 +314,8 @@ module _ (start : Start) (tx : TxId) (key : List ℕ) where
                 waits : W now ≡ W logs
                 waits = omega (arith, waits_now logs now (suc h) e g, ap waiting_at x.is, ap waiting_at now_is, ap (waiting tx key) rows_same)
 
-                taken_now : T logs + answer_came tx key e.taken.body ≤ T now
-                taken_now = omega (arith, took logs now (suc h) e g, answers_came tx key e.taken.to e.taken.body (ap is_tc at))
+                taken_now : T logs + answer_came tx key e.step.taken.body ≤ T now
+                taken_now = omega (arith, took logs now (suc h) e g, answers_came tx key e.step.taken (ap is_tc at))
 
                 few_now : (hops tx key turn.step.effects.sends ≡ 0) ⊎ ((t.phase ≡ Open) × ((asks_key key t.asked ≡ false) × (hops tx key turn.step.effects.sends ≤ 1))) → S now + W now ≤ T now + 1
                 few_now (inl none) = omega (arith, k.few, sent, none, waits, taken_now)
@@ -331,7 +332,7 @@ module _ (start : Start) (tx : TxId) (key : List ℕ) where
                     omega (arith, k.opened t (was_at (Some t) there) o.0, o.1, sent, waits, taken_now, ap (λ (v : Transaction). one_if (asks_key key v.asked)) same)
 
     -- another node's step
-    node_balanced : (logs now : ℕ → List LogStep) (i : ℕ) (e : LogStep) → Goes start logs now (suc i) e → suc i ≢ suc h → Balanced logs now
+    node_balanced : (logs now : ℕ → List HostStep) (i : ℕ) (e : HostStep) → Goes start logs now (suc i) e → suc i ≢ suc h → Balanced logs now
     node_balanced logs now i e g differs = finish n.step
       where
         x : AtNode start tx i (logs (suc i))
@@ -340,20 +341,20 @@ module _ (start : Start) (tx : TxId) (key : List ℕ) where
         n : NextAt start i e (logs (suc i)) x.state
         n = next_at start i e (logs (suc i)) x.state x.is
 
-        of_tc_step : TxStep tx x.state.tc e.taken.body (tc_row x.state.tc e.taken.body) → hops tx key (tc_row x.state.tc e.taken.body).effects.sends ≡ 0
-        of_tc_step (elsewhere live kind off) = apart_hops tx key (tc_row x.state.tc e.taken.body).effects.sends kind
+        of_tc_step : TxStep tx x.state.tc e.step.taken.body (tc_table x.state.tc e.step.taken.body) → hops tx key (tc_table x.state.tc e.step.taken.body).effects.sends ≡ 0
+        of_tc_step (elsewhere live kind off) = apart_hops tx key (tc_table x.state.tc e.step.taken.body).effects.sends kind
         of_tc_step (born name about one none there told) = absurd (differs (sym x.number ∙ (sym (ap (λ (v : TxId). v.tc) one) ∙ home)))
         of_tc_step (turned t turn about one there move left told) = absurd (differs (sym x.number ∙ (sym (live_home tx x.state.tc t there x.own) ∙ home)))
 
-        finish : NodeStep x.state e.taken.to.block e.taken.body n.now n.sends → Balanced logs now
+        finish : NodeStep x.state e.step.taken.to.block e.step.taken.body n.now n.sends → Balanced logs now
         finish (of_dih at is sends) =
             still_balanced logs now i e g x.state x.is n (ap (λ (y : node.Node). y.lqh) is)
-            (ap (hops tx key) sends ∙ hopless_none tx key (dih_row x.state.dih e.taken.body).effects.sends (of_kind is_dih_kind is_hopless dih_hopless (dih_row x.state.dih e.taken.body).effects.sends (dih_kinds x.state.dih e.taken.body)))
+            (ap (hops tx key) sends ∙ hopless_none tx key (dih_table x.state.dih e.step.taken.body).effects.sends (of_kind is_dih_kind is_hopless dih_hopless (dih_table x.state.dih e.step.taken.body).effects.sends (dih_kinds x.state.dih e.step.taken.body)))
         finish (of_none tc lqh dih is sends) = still_balanced logs now i e g x.state x.is n (ap (λ (y : node.Node). y.lqh) is) (ap (hops tx key) sends)
         finish (of_lqh at is sends) = rows_balanced logs now i e g x.state x.is n at (ap (λ (y : node.Node). y.lqh) is) sends
-        finish (of_tc at is sends) = still_balanced logs now i e g x.state x.is n (ap (λ (y : node.Node). y.lqh) is) (ap (hops tx key) sends ∙ of_tc_step (tx_step tx x.state.tc e.taken.body x.once x.own))
+        finish (of_tc at is sends) = still_balanced logs now i e g x.state x.is n (ap (λ (y : node.Node). y.lqh) is) (ap (hops tx key) sends ∙ of_tc_step (tx_step tx x.state.tc e.step.taken.body x.once x.own))
 
-    pub lone_step : (logs now : ℕ → List LogStep) (i : ℕ) (e : LogStep) → Goes start logs now i e → IsLone h logs → IsLone h now
+    pub lone_step : (logs now : ℕ → List HostStep) (i : ℕ) (e : HostStep) → Goes start logs now i e → IsLone h logs → IsLone h now
     lone_step logs now zero e g k = other_lone logs now (g.others (suc h) (λ z. absurd (omega (arith, z)))) (shell_balanced logs now e g) k
     lone_step logs now (suc i) e g k = by (cases_eq (suc i) (suc h))
       where
@@ -368,17 +369,17 @@ module _ (start : Start) (tx : TxId) (key : List ℕ) where
 
     pub first_lone : IsLone h (log_of (machine start) [])
     first_lone =
-        let s : S (log_of (machine start) []) ≡ 0 = total_zero (start.nodes + 1) _ (λ i. total_zero (start.nodes + 1) _ (λ j. refl)) in
-        let w : W (log_of (machine start) []) ≡ 0 = total_zero (start.nodes + 1) _ first_waits in
+        let s : S (log_of (machine start) []) ≡ 0 = total_zero (hosts start) _ (λ i. total_zero (hosts start) _ (λ j. refl)) in
+        let w : W (log_of (machine start) []) ≡ 0 = total_zero (hosts start) _ first_waits in
         record {
           few = omega (arith, s, w);
           opened = λ t at p. no_transaction t (sym (first_none start tx h) ∙ at);
           unborn = λ x x_is early. omega (arith, s, w);
         }
 
-    pub is_lone : (logs : ℕ → List LogStep) → IsWithin (start.nodes + 1) logs → AreLogs (machine start) logs → IsLone h logs
+    pub is_lone : (logs : ℕ → List HostStep) → IsWithin (hosts start) logs → AreLogs (machine start) logs → IsLone h logs
     is_lone logs within right = along start (IsLone h) first_lone lone_step logs within right
 
     -- so no more than one waits at a node
-    pub one_waits : (logs : ℕ → List LogStep) → AreLogs (machine start) logs → IsLone h logs → (i : ℕ) → i < start.nodes + 1 → waiting_at (after start i (logs i)) ≤ 1
-    one_waits logs right k i low = omega (arith, k.few, flow_few start (is_hop tx key) logs right, total_at (start.nodes + 1) (λ j. waiting_at (after start j (logs j))) i low)
+    pub one_waits : (logs : ℕ → List HostStep) → AreLogs (machine start) logs → IsLone h logs → (i : ℕ) → i < hosts start → waiting_at (after start i (logs i)) ≤ 1
+    one_waits logs right k i low = omega (arith, k.few, flow_few start (is_hop tx key) logs right, total_at (hosts start) (λ j. waiting_at (after start j (logs j))) i low)

@@ -28,7 +28,7 @@ use Rattle.lqh_block.specs.Complete as complete
 use Rattle.lqh_block.specs.declared.request.Request.{Request}
 use Rattle.lqh_block.specs.Dump as dump
 use Rattle.lqh_block.specs.Expire as expire
-use Rattle.lqh_block.specs.Lqh.{lqh_row}
+use Rattle.lqh_block.specs.Lqh.{lqh_table}
 use Rattle.lqh_block.specs.State.{LqhState, freed_lock, go_on_if, serve_granted, with_lock, with_waiting}
 use Rattle.lqh_block.specs.Wait as wait
 use Rattle.lqh_block.specs.Work.{is_for, work_key}
@@ -395,7 +395,7 @@ module _ (tx : TxId) (key : List ℕ) where
   unfolding wait.acknowledged
   ack_waits s other = quiet_waits s (Client (TcCommitAck other)) (wait.acknowledged s other) [] refl refl refl refl
 
-  pub lqh_waits : (s : LqhState) (body : Body) → RowWaits tx key s body (lqh_row s body).state (lqh_row s body).effects.sends
+  pub lqh_waits : (s : LqhState) (body : Body) → RowWaits tx key s body (lqh_table s body).state (lqh_table s body).effects.sends
   lqh_waits s (Chain (LqhKeyReq other what chain at)) = request_waits tx key s (record { tx = other; work = what; chain = chain; at = at })
   lqh_waits s (Host (Continue work.Granted at)) = granted_waits tx key s at
   lqh_waits s (Chain (Commit other at_key epoch chain at)) = commit_waits s other at_key epoch chain at

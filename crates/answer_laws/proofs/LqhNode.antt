@@ -20,7 +20,7 @@ use Rattle.lqh_block.specs.Complete as complete
 use Rattle.lqh_block.specs.declared.request.Request.{Request}
 use Rattle.lqh_block.specs.Dump as dump
 use Rattle.lqh_block.specs.Expire as expire
-use Rattle.lqh_block.specs.Lqh.{lqh_row}
+use Rattle.lqh_block.specs.Lqh.{lqh_table}
 use Rattle.lqh_block.specs.Operate as operate
 use Rattle.lqh_block.specs.State.{LqhState, with_lock}
 use Rattle.lqh_block.specs.Wait as wait
@@ -98,7 +98,7 @@ ack_node : (s : LqhState) (tx : TxId) → (wait.acknowledged s tx).node ≡ s.no
 unfolding wait.acknowledged
 ack_node s tx = refl
 
-pub lqh_node : (s : LqhState) (body : Body) → (lqh_row s body).state.node ≡ s.node
+pub lqh_node : (s : LqhState) (body : Body) → (lqh_table s body).state.node ≡ s.node
 lqh_node s (Chain (LqhKeyReq tx what chain at)) = request_node s (record { tx = tx; work = what; chain = chain; at = at })
 lqh_node s (Host (Continue work.Granted at)) = granted_node s
 lqh_node s (Chain (Commit tx key epoch chain at)) = commit_node s tx key epoch chain at

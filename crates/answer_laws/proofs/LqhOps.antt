@@ -38,7 +38,7 @@ use Rattle.lqh_block.specs.Complete as complete
 use Rattle.lqh_block.specs.declared.request.Request.{Request}
 use Rattle.lqh_block.specs.Dump as dump
 use Rattle.lqh_block.specs.Expire as expire
-use Rattle.lqh_block.specs.Lqh.{lqh_row}
+use Rattle.lqh_block.specs.Lqh.{lqh_table}
 use Rattle.lqh_block.specs.Operate as operate
 use Rattle.lqh_block.specs.State.{LqhState, freed_lock, serve_granted, storage_of, with_lock, with_waiting}
 use Rattle.lqh_block.specs.Storage as storage
@@ -305,7 +305,7 @@ module _ (n : ℕ) (tx : TxId) (key : List ℕ) where
   came_of (Chain (LqhKeyReq other what chain at)) = one_if (mine (record { tx = other; work = what; chain = chain; at = at }))
   came_of _ = 0
 
-  pub lqh_ops : (s : LqhState) (body : Body) → tally mine s.waiting + came_of body ≤ tally mine (lqh_row s body).state.waiting + ops (lqh_row s body).effects.sends
+  pub lqh_ops : (s : LqhState) (body : Body) → tally mine s.waiting + came_of body ≤ tally mine (lqh_table s body).state.waiting + ops (lqh_table s body).effects.sends
   lqh_ops s (Chain (LqhKeyReq other what chain at)) = request_ops s (record { tx = other; work = what; chain = chain; at = at })
   lqh_ops s (Host (Continue work.Granted at)) = granted_ops s
   lqh_ops s (Chain (Commit other at_key epoch chain at)) = commit_ops s other at_key epoch chain at

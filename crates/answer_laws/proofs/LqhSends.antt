@@ -3,14 +3,14 @@ use Rattle.std.proofs.Common.{◌≡◌, true, refl}
 use Rattle.sig_core.specs.declared.outs.Outgoing.{Outgoing}
 use Rattle.sig_core.specs.declared.signal.Body.{Body}
 use Rattle.lqh_block.specs.declared.request.Request.{Request}
-use Rattle.lqh_block.specs.Lqh.{lqh_row}
+use Rattle.lqh_block.specs.Lqh.{lqh_table}
 use Rattle.lqh_block.specs.State.{LqhState}
 use Rattle.commit_laws.proofs.EachLqh.{RequestSends, lqh_sends_each}
 use Rattle.answer_laws.proofs.SendKinds.{SendsOnly, is_lqh_kind, of_each}
 
-pub lqh_kinds : (s : LqhState) (body : Body) → SendsOnly is_lqh_kind (lqh_row s body)
+pub lqh_kinds : (s : LqhState) (body : Body) → SendsOnly is_lqh_kind (lqh_table s body)
 lqh_kinds s body =
-    of_each is_lqh_kind (lqh_row s body).effects.sends
+    of_each is_lqh_kind (lqh_table s body).effects.sends
     (lqh_sends_each (λ (o : Outgoing). is_lqh_kind o.body ≡ true) s body (record {
       asked = λ r is. request r;
       waited = λ at r is. request r;

@@ -23,7 +23,7 @@ use Rattle.tc_block.specs.declared.transaction.Transaction.{Transaction}
 use Rattle.tc_block.specs.Live.{place_in, step_of, turn_of, turn_place, turn_value, turned_if, without}
 use Rattle.tc_block.specs.Operate.{fresh}
 use Rattle.tc_block.specs.State.{TcState}
-use Rattle.tc_block.specs.Tc.{begin_if, begin_row, is_full, next_tx, pass_if, pass_row, tc_row}
+use Rattle.tc_block.specs.Tc.{begin_if, begin_row, is_full, next_tx, pass_if, pass_row, tc_table}
 use Rattle.tc_block.specs.Turn.{Turn, going}
 use Rattle.commit_laws.proofs.Keys.{same_tx-self}
 use Rattle.answer_laws.proofs.ApiBegins.{each_at, each_changed, each_less}
@@ -194,23 +194,23 @@ module _ (n : ℕ) (tx : TxId) (key : List ℕ) where
   differs_none : (one : TxId) (at : List ℕ) → same_tx one tx ≡ false → one_if (same_tx one tx && same_key at key) ≡ 0
   differs_none one at e = ap (λ b. one_if (b && same_key at key)) e
 
-  pub tc_steps : (s : TcState) (body : Body) → AreRight s.live → tally (is_keyed tx) s.live ≤ 1 → Each (λ (e : TxId × Transaction). IsOwn s.node s.next_seq e.0) s.live → IsGoodView n s.view
-      → Steps s (tc_row s body) (answers_of body)
+  pub tc_steps : (s : TcState) (body : Body) → AreRight s.live → tally (is_keyed tx) s.live ≤ 1 → Each (λ (e : TxId × Transaction). IsOwn s.node s.next_seq e.0) s.live → IsGoodView n s.layout
+      → Steps s (tc_table s body) (answers_of body)
   unfolding begin_row pass_row
-  tc_steps s (Host (Continue (work.Transaction one) at)) right once own good = quiet_steps s right once one _ (λ t r. go_on_asks n one key t r s.node s.view at)
+  tc_steps s (Host (Continue (work.Transaction one) at)) right once own good = quiet_steps s right once one _ (λ t r. go_on_asks n one key t r s.node s.layout at)
   tc_steps s (Client (TcBeginReq name)) right once own good = begin_steps s right once own name (is_full s)
-  tc_steps s (Client (TcKeyReq one op)) right once own good = quiet_steps s right once one _ (λ t r. operate_asks n one key t r s.view op good)
+  tc_steps s (Client (TcKeyReq one op)) right once own good = quiet_steps s right once one _ (λ t r. operate_asks n one key t r s.layout op good)
   tc_steps s (Client (TcCommitReq one)) right once own good = quiet_steps s right once one _ (λ t r. decide_asks n one key t r s.node)
-  tc_steps s (Client (TcRollbackReq one)) right once own good = turn_steps s right once one _ (λ x. 0) (λ e. refl) (λ t r. rollback_asks n one key t r s.node s.view)
+  tc_steps s (Client (TcRollbackReq one)) right once own good = turn_steps s right once one _ (λ x. 0) (λ e. refl) (λ t r. rollback_asks n one key t r s.node s.layout)
   tc_steps s (Client (TcWaitReq one)) right once own good = quiet_steps s right once one _ (λ t r. wait_asks n one key t r)
   tc_steps s (Client (LqhWaitConf one ahead)) right once own good = pass_steps s right once one ahead (is_some (place_in s one))
   tc_steps s (Chain (LqhKeyConf one at answer)) right once own good =
       subst (λ st. Steps s st (one_if (same_tx one tx && same_key at key))) (sym (step_is s one _))
-      (turn_steps s right once one _ (λ x. one_if (same_tx one x && same_key at key)) (differs_none one at) (λ t r. answer_asks n one key t r s.view at answer))
+      (turn_steps s right once one _ (λ x. one_if (same_tx one x && same_key at key)) (differs_none one at) (λ t r. answer_asks n one key t r s.layout at answer))
   tc_steps s (Chain (LqhKeyRef one at why)) right once own good =
-      turn_steps s right once one _ (λ x. one_if (same_tx one x && same_key at key)) (differs_none one at) (λ t r. refuse_asks n one key t r s.node s.view at why)
-  tc_steps s (Chain (Committed one at)) right once own good = turn_steps s right once one _ (λ x. 0) (λ e. refl) (λ t r. committed_asks n one key t r s.node s.view)
+      turn_steps s right once one _ (λ x. one_if (same_tx one x && same_key at key)) (differs_none one at) (λ t r. refuse_asks n one key t r s.node s.layout at why)
+  tc_steps s (Chain (Committed one at)) right once own good = turn_steps s right once one _ (λ x. 0) (λ e. refl) (λ t r. committed_asks n one key t r s.node s.layout)
   tc_steps s (Chain (Completed one at)) right once own good = turn_steps s right once one _ (λ x. 0) (λ e. refl) (λ t r. completed_asks n one key t r s.node)
   tc_steps s (Chain (Aborted one at)) right once own good = turn_steps s right once one _ (λ x. 0) (λ e. refl) (λ t r. aborted_asks n one key t r s.node)
-  tc_steps s (Epoch (DiVerifyConf one epoch)) right once own good = turn_steps s right once one _ (λ x. 0) (λ e. refl) (λ t r. commit_asks n one key t r s.node s.view epoch)
+  tc_steps s (Epoch (DiVerifyConf one epoch)) right once own good = turn_steps s right once one _ (λ x. 0) (λ e. refl) (λ t r. commit_asks n one key t r s.node s.layout epoch)
   tc_steps s _ right once own good = record { right = right; asks = λ some. inl (some, refl) }

@@ -11,12 +11,12 @@ use Rattle.sig_core.specs.declared.signal.chain.ChainSignal.TheVariants.{Commit,
 use Rattle.sig_core.specs.declared.signal.client.ClientSignal.TheVariants.{TcCommitConf}
 use Rattle.sig_core.specs.declared.signal.host.HostSignal.TheVariants.{Continue}
 use Rattle.sig_core.specs.declared.signal.host.Work.TheVariants as work
-use Rattle.sig_core.specs.declared.view.View.{View}
+use Rattle.frag_map.specs.Layout.{Layout}
 use Rattle.tc_block.specs.declared.phase.Phase.{Phase}
 use Rattle.tc_block.specs.declared.phase.Phase.TheVariants.{Open, Verifying, Committing, Completing, Aborting}
 use Rattle.tc_block.specs.declared.touched.Touched.{Touched}
 use Rattle.tc_block.specs.declared.transaction.Transaction.{Transaction}
-use Rattle.tc_block.specs.Chain.{chain_of}
+use Rattle.frag_map.specs.Layout.{chain_of}
 use Rattle.tc_block.specs.Part.{part_effects, rest_if}
 use Rattle.tc_block.specs.Sends.{abort_of, complete_if, entering, front_sends, key_sends, phase_sends}
 use Rattle.answer_laws.proofs.SendKinds.{are_of, of_append, of_drop, of_flat, of_map, of_take}
@@ -57,22 +57,22 @@ module _ (kind : Body → Bool) (tx : TxId) (p : IsPartKind kind tx) where
   complete_of t true = one_of _ (p.complete _ _ _)
   complete_of t false = refl
 
-  key_of : (view : View) (phase : Phase) (t : Touched) → are_of kind (key_sends view tx phase t) ≡ true
+  key_of : (layout : Layout) (phase : Phase) (t : Touched) → are_of kind (key_sends layout tx phase t) ≡ true
   unfolding key_sends
-  key_of view Open t = refl
-  key_of view Verifying t = refl
-  key_of view (Committing epoch awaited) t = one_of _ (p.commit _ _ _ _)
-  key_of view (Completing epoch awaited) t = complete_of t t.written
-  key_of view (Aborting why verifying awaited) t = of_map kind (abort_of tx t.key) (chain_of view t.key) (λ r. p.abort t.key)
+  key_of layout Open t = refl
+  key_of layout Verifying t = refl
+  key_of layout (Committing epoch awaited) t = one_of _ (p.commit _ _ _ _)
+  key_of layout (Completing epoch awaited) t = complete_of t t.written
+  key_of layout (Aborting why verifying awaited) t = of_map kind (abort_of tx t.key) (chain_of layout t.key) (λ r. p.abort t.key)
 
-  phase_of : (view : View) (phase : Phase) (touched : List Touched) → are_of kind (phase_sends view tx phase touched) ≡ true
+  phase_of : (layout : Layout) (phase : Phase) (touched : List Touched) → are_of kind (phase_sends layout tx phase touched) ≡ true
   unfolding phase_sends
-  phase_of view phase touched = of_append kind (front_sends tx phase) (flat_map (key_sends view tx phase) touched) (front_of phase) (of_flat kind (key_sends view tx phase) touched (key_of view phase))
+  phase_of layout phase touched = of_append kind (front_sends tx phase) (flat_map (key_sends layout tx phase) touched) (front_of phase) (of_flat kind (key_sends layout tx phase) touched (key_of layout phase))
 
   -- a part of a list, and the first part
-  pub parts_of : (node : ℕ) (view : View) (phase : Phase) (touched : List Touched) (at : ℕ) → are_of kind (part_effects node tx (phase_sends view tx phase touched) at).sends ≡ true
-  parts_of node view phase touched at = part_of kind tx p.cont node (phase_sends view tx phase touched) at (phase_of view phase touched)
+  pub parts_of : (node : ℕ) (layout : Layout) (phase : Phase) (touched : List Touched) (at : ℕ) → are_of kind (part_effects node tx (phase_sends layout tx phase touched) at).sends ≡ true
+  parts_of node layout phase touched at = part_of kind tx p.cont node (phase_sends layout tx phase touched) at (phase_of layout phase touched)
 
-  pub entering_of : (node : ℕ) (view : View) (t : Transaction) (phase : Phase) → are_of kind (entering node view tx t phase).effects.sends ≡ true
+  pub entering_of : (node : ℕ) (layout : Layout) (t : Transaction) (phase : Phase) → are_of kind (entering node layout tx t phase).effects.sends ≡ true
   unfolding entering
-  entering_of node view t phase = parts_of node view phase t.touched 0
+  entering_of node layout t phase = parts_of node layout phase t.touched 0

@@ -3,7 +3,7 @@ use Rattle.std.proofs.Common.{◌≡◌, ◌≢◌, ◌⊎◌, ℕ, zero, suc, �
 use Rattle.std.specs.Prelude.{◌==◌, ◌&&◌, not, Some}
 use Rattle.std.proofs.lemmas.Bool.{cases_eq, false≢true}
 use Rattle.lqh_block.specs.declared.request.Request.{Request}
-use Rattle.lqh_block.specs.Lqh.{lqh_row}
+use Rattle.lqh_block.specs.Lqh.{lqh_table}
 use Rattle.lqh_block.specs.State.{LqhState}
 use Rattle.lqh_block.specs.Work.{work_key}
 use Rattle.node_core.specs.declared.host.Host as host
@@ -15,7 +15,7 @@ use Rattle.run_theory.proofs.Pasts.{each_in}
 use Rattle.run_theory.specs.Links.{is_from, sent, taken}
 use Rattle.run_theory.specs.Lists.{IsIn}
 use Rattle.run_theory.specs.Runs.{log_of}
-use Rattle.sig_core.specs.declared.log.LogStep.{LogStep}
+use Rattle.world_core.specs.Steps.{HostStep}
 use Rattle.sig_core.specs.declared.member.TxId.{TxId}
 use Rattle.sig_core.specs.declared.outs.Outgoing.{Outgoing}
 use Rattle.sig_core.specs.declared.place.Place.{Place}
@@ -27,7 +27,8 @@ use Rattle.sig_core.specs.Op.{key_of}
 use Rattle.sig_core.specs.Same.{same_key, same_tx}
 use Rattle.tc_block.specs.declared.transaction.Transaction.{Transaction}
 use Rattle.world_core.specs.Machine.{after, machine}
-use Rattle.world_core.specs.Start.{Start, first_view}
+use Rattle.frag_map.specs.Layout.{first_view}
+use Rattle.world_core.specs.Start.{Start}
 use Rattle.commit_laws.proofs.Keys.{same_key-self, same_tx-self}
 use Rattle.answer_laws.proofs.Ahead.{AtNode, Goes, NextAt, NodeStep, along, at_node, few_taken, next_at, of_dih, of_lqh, of_none, of_tc, tx_at}
 use Rattle.answer_laws.proofs.Hosts.{same_node, shell_after}
@@ -77,23 +78,23 @@ more_own node (o ∷ xs) = omega (arith, more_own node xs, one o.to o.body (is_m
     one to body false e = omega (arith, ap one_if e)
     one to body true e = omega (arith, ap one_if (true_and (to.node == node) (is_more node to body) (at_self to body e) e), ap one_if e)
 
-module _ (start : Start) (tx : TxId) (key : List ℕ) (h : ℕ) (home : tx.tc ≡ suc h) (i : ℕ) (low : suc i < start.nodes + 1) where
+module _ (start : Start) (tx : TxId) (key : List ℕ) (h : ℕ) (home : tx.tc ≡ suc h) (i : ℕ) (low : suc i < hosts start) where
   -- the signals by which the rows of a node go on
-  abbrev more_sent : List LogStep → ℕ
+  abbrev more_sent : List HostStep → ℕ
   more_sent log = signals (is_more (suc i)) (sent (machine start) (suc i) (suc i) log)
 
-  abbrev more_taken : List LogStep → ℕ
+  abbrev more_taken : List HostStep → ℕ
   more_taken log = signals (is_more (suc i)) (taken (machine start) (suc i) log)
 
   -- the rows of the node
-  record RowsAre (log : List LogStep) : Type 0 where
+  record RowsAre (log : List HostStep) : Type 0 where
     state : node.Node
     is : after start (suc i) log ≡ Node state
     number : state.lqh.node ≡ suc i
 
-  rows_are : (log : List LogStep) → RowsAre log
+  rows_are : (log : List HostStep) → RowsAre log
   unfolding fresh_node begun_node
-  rows_are [] = record { state = begun_node (i + 1) (first_view start.nodes) start.epoch start.rows; is = refl; number = omega arith }
+  rows_are [] = record { state = begun_node (i + 1) (first_view start.shape.nodes) start.epoch start.rows; is = refl; number = omega arith }
   rows_are (e ∷ log) = next (rows_are log)
     where
       next : RowsAre log → RowsAre (e ∷ log)
@@ -102,18 +103,18 @@ module _ (start : Start) (tx : TxId) (key : List ℕ) (h : ℕ) (home : tx.tc �
           n : NextAt start i e log k.state
           n = next_at start i e log k.state k.is
 
-          by : NodeStep k.state e.taken.to.block e.taken.body n.now n.sends → n.now.lqh.node ≡ suc i
+          by : NodeStep k.state e.step.taken.to.block e.step.taken.body n.now n.sends → n.now.lqh.node ≡ suc i
           by (of_tc at is sends) = ap (λ (y : node.Node). y.lqh.node) is ∙ k.number
           by (of_dih at is sends) = ap (λ (y : node.Node). y.lqh.node) is ∙ k.number
           by (of_none a b c is sends) = ap (λ (y : node.Node). y.lqh.node) is ∙ k.number
-          by (of_lqh at is sends) = ap (λ (y : node.Node). y.lqh.node) is ∙ (lqh_node k.state.lqh e.taken.body ∙ k.number)
+          by (of_lqh at is sends) = ap (λ (y : node.Node). y.lqh.node) is ∙ (lqh_node k.state.lqh e.step.taken.body ∙ k.number)
 
   -- where none of its rows was committed or completed: a request that waits and isn't in the queue is gone on with
-  record IsServed (logs : ℕ → List LogStep) : Type 0 where
+  record IsServed (logs : ℕ → List HostStep) : Type 0 where
     lone : IsLone start tx key h logs
     served : F start tx h home logs ≡ 0 → (x : node.Node) → after start (suc i) (logs (suc i)) ≡ Node x → 1 ≤ waiting tx key x.lqh → queued tx key x.lqh ≡ false → more_taken (logs (suc i)) + 1 ≤ more_sent (logs (suc i))
 
-  own_served : (logs now : ℕ → List LogStep) (e : LogStep) → Goes start logs now (suc i) e → IsServed logs → (F start tx h home now ≡ 0 → F start tx h home logs ≡ 0)
+  own_served : (logs now : ℕ → List HostStep) (e : HostStep) → Goes start logs now (suc i) e → IsServed logs → (F start tx h home now ≡ 0 → F start tx h home logs ≡ 0)
       → F start tx h home now ≡ 0 → (y : node.Node) → after start (suc i) (now (suc i)) ≡ Node y → 1 ≤ waiting tx key y.lqh → queued tx key y.lqh ≡ false → more_taken (now (suc i)) + 1 ≤ more_sent (now (suc i))
   own_served logs now e g k before none y y_is some off = finish n.step
     where
@@ -142,7 +143,7 @@ module _ (start : Start) (tx : TxId) (key : List ℕ) (h : ℕ) (home : tx.tc �
             more_own (suc i) n.sends,
           )
 
-      taken_now : more_taken (now (suc i)) ≡ one_if (is_from (machine start) (suc i) e && is_more (suc i) e.taken.to e.taken.body) + more_taken (logs (suc i))
+      taken_now : more_taken (now (suc i)) ≡ one_if (is_from (machine start) (suc i) e && is_more (suc i) e.step.taken) + more_taken (logs (suc i))
       taken_now = ap more_taken g.own ∙ taken_signals start (is_more (suc i)) (suc i) e (logs (suc i))
 
       off_taken : (a : Bool) {b : Bool} → b ≡ false → one_if (a && b) ≡ 0
@@ -154,14 +155,14 @@ module _ (start : Start) (tx : TxId) (key : List ℕ) (h : ℕ) (home : tx.tc �
       taken_few = by (is_from (machine start) (suc i) e) refl
         where
           by : (b : Bool) → is_from (machine start) (suc i) e ≡ b → more_taken (now (suc i)) ≤ more_sent (logs (suc i))
-          by false f = omega (arith, taken_now, ap (λ b. one_if (b && is_more (suc i) e.taken.to e.taken.body)) f, few_taken start logs g.before (is_more (suc i)) (suc i) (suc i))
-          by true f = which (is_more (suc i) e.taken.to e.taken.body) refl
+          by false f = omega (arith, taken_now, ap (λ b. one_if (b && is_more (suc i) e.step.taken)) f, few_taken start logs g.before (is_more (suc i)) (suc i) (suc i))
+          by true f = which (is_more (suc i) e.step.taken) refl
             where
-              which : (c : Bool) → is_more (suc i) e.taken.to e.taken.body ≡ c → more_taken (now (suc i)) ≤ more_sent (logs (suc i))
+              which : (c : Bool) → is_more (suc i) e.step.taken ≡ c → more_taken (now (suc i)) ≤ more_sent (logs (suc i))
               which false m = omega (arith, taken_now, off_taken (is_from (machine start) (suc i) e) m, few_taken start logs g.before (is_more (suc i)) (suc i) (suc i))
-              which true m = flow_grows start (is_more (suc i)) logs now (suc i) e g (plain_more (suc i) e.taken.to e.taken.body m) m f
+              which true m = flow_grows start (is_more (suc i)) logs now (suc i) e g (plain_more (suc i) e.step.taken m) m f
 
-      kept : n.now.lqh ≡ x.state.lqh → is_more (suc i) e.taken.to e.taken.body ≡ false → more_taken (now (suc i)) + 1 ≤ more_sent (now (suc i))
+      kept : n.now.lqh ≡ x.state.lqh → is_more (suc i) e.step.taken ≡ false → more_taken (now (suc i)) + 1 ≤ more_sent (now (suc i))
       kept same still =
           omega (
             arith,
@@ -171,35 +172,35 @@ module _ (start : Start) (tx : TxId) (key : List ℕ) (h : ℕ) (home : tx.tc �
             k.served (before none) x.state x.is (subst (λ (s : LqhState). 1 ≤ waiting tx key s) same some_now) (ap (queued tx key) (sym same) ∙ off_now),
           )
 
-      finish : NodeStep x.state e.taken.to.block e.taken.body n.now n.sends → more_taken (now (suc i)) + 1 ≤ more_sent (now (suc i))
-      finish (of_tc at is sends) = kept (ap (λ (z : node.Node). z.lqh) is) (more_lqh (suc i) e.taken.to e.taken.body (ap is_lqh at))
-      finish (of_dih at is sends) = kept (ap (λ (z : node.Node). z.lqh) is) (more_lqh (suc i) e.taken.to e.taken.body (ap is_lqh at))
-      finish (of_none tc lqh dih is sends) = kept (ap (λ (z : node.Node). z.lqh) is) (more_lqh (suc i) e.taken.to e.taken.body lqh)
+      finish : NodeStep x.state e.step.taken.to.block e.step.taken.body n.now n.sends → more_taken (now (suc i)) + 1 ≤ more_sent (now (suc i))
+      finish (of_tc at is sends) = kept (ap (λ (z : node.Node). z.lqh) is) (more_lqh (suc i) e.step.taken (ap is_lqh at))
+      finish (of_dih at is sends) = kept (ap (λ (z : node.Node). z.lqh) is) (more_lqh (suc i) e.step.taken (ap is_lqh at))
+      finish (of_none tc lqh dih is sends) = kept (ap (λ (z : node.Node). z.lqh) is) (more_lqh (suc i) e.step.taken lqh)
       finish (of_lqh at is sends) =
-          by ((lqh_waits tx key x.state.lqh e.taken.body).served one (none_came start tx h home logs now (suc i) e g (before none)) (subst (λ (s : LqhState). 1 ≤ waiting tx key s) rows some_now) (ap (queued tx key) (sym rows) ∙ off_now))
+          by ((lqh_waits tx key x.state.lqh e.step.taken.body).served one (none_came start tx h home logs now (suc i) e g (before none)) (subst (λ (s : LqhState). 1 ≤ waiting tx key s) rows some_now) (ap (queued tx key) (sym rows) ∙ off_now))
         where
-          rows : n.now.lqh ≡ (lqh_row x.state.lqh e.taken.body).state
+          rows : n.now.lqh ≡ (lqh_table x.state.lqh e.step.taken.body).state
           rows = ap (λ (z : node.Node). z.lqh) is
 
           one : waiting tx key x.state.lqh ≤ 1
           one = subst (λ (g : host.Host). waiting_at start tx key g ≤ 1) x.is (one_waits start tx key h home logs g.before k.lone (suc i) low)
 
-          by : ((1 ≤ waiting tx key x.state.lqh) × ((queued tx key x.state.lqh ≡ false) × (is_more_body e.taken.body ≡ false))) ⊎ (1 ≤ goes_on tx key x.state.lqh.node (lqh_row x.state.lqh e.taken.body).effects.sends)
+          by : ((1 ≤ waiting tx key x.state.lqh) × ((queued tx key x.state.lqh ≡ false) × (is_more_body e.step.taken.body ≡ false))) ⊎ (1 ≤ goes_on tx key x.state.lqh.node (lqh_table x.state.lqh e.step.taken.body).effects.sends)
               → more_taken (now (suc i)) + 1 ≤ more_sent (now (suc i))
           by (inl p) =
-              omega (arith, sent_now, taken_now, off_taken (is_from (machine start) (suc i) e) (still (is_more (suc i) e.taken.to e.taken.body) refl), k.served (before none) x.state x.is p.0 p.1.0)
+              omega (arith, sent_now, taken_now, off_taken (is_from (machine start) (suc i) e) (still (is_more (suc i) e.step.taken) refl), k.served (before none) x.state x.is p.0 p.1.0)
             where
-              still : (b : Bool) → is_more (suc i) e.taken.to e.taken.body ≡ b → is_more (suc i) e.taken.to e.taken.body ≡ false
+              still : (b : Bool) → is_more (suc i) e.step.taken ≡ b → is_more (suc i) e.step.taken ≡ false
               still false q = q
-              still true q = absurd (false≢true (sym p.1.1 ∙ more_at (suc i) e.taken.to e.taken.body q))
+              still true q = absurd (false≢true (sym p.1.1 ∙ more_at (suc i) e.step.taken q))
           by (inr more) =
-              omega (arith, sent_now, taken_few, more, ap (λ j. goes_on tx key j (lqh_row x.state.lqh e.taken.body).effects.sends) x.number, ap (goes_on tx key (suc i)) sends)
+              omega (arith, sent_now, taken_few, more, ap (λ j. goes_on tx key j (lqh_table x.state.lqh e.step.taken.body).effects.sends) x.number, ap (goes_on tx key (suc i)) sends)
 
   -- what was sent stays sent
-  before_none : (logs now : ℕ → List LogStep) (j : ℕ) (e : LogStep) → Goes start logs now j e → F start tx h home now ≡ 0 → F start tx h home logs ≡ 0
-  before_none logs now j e g none = omega (arith, none, sent_least start (start.nodes + 1) (forth_at tx) logs now j e g.low (record { own = g.own; others = g.others }))
+  before_none : (logs now : ℕ → List HostStep) (j : ℕ) (e : HostStep) → Goes start logs now j e → F start tx h home now ≡ 0 → F start tx h home logs ≡ 0
+  before_none logs now j e g none = omega (arith, none, sent_least start (hosts start) (forth_at tx) logs now j e g.low (record { own = g.own; others = g.others }))
 
-  step : (logs now : ℕ → List LogStep) (j : ℕ) (e : LogStep) → Goes start logs now j e → IsServed logs → IsServed now
+  step : (logs now : ℕ → List HostStep) (j : ℕ) (e : HostStep) → Goes start logs now j e → IsServed logs → IsServed now
   step logs now j e g k = record { lone = lone_step start tx key h home logs now j e g k.lone; served = by (cases_eq j (suc i)) }
     where
       by : (j ≡ suc i) ⊎ (j ≢ suc i) → F start tx h home now ≡ 0 → (y : node.Node) → after start (suc i) (now (suc i)) ≡ Node y → 1 ≤ waiting tx key y.lqh → queued tx key y.lqh ≡ false
@@ -211,13 +212,13 @@ module _ (start : Start) (tx : TxId) (key : List ℕ) (h : ℕ) (home : tx.tc �
 
   first_none_waits : (y : node.Node) → after start (suc i) [] ≡ Node y → waiting tx key y.lqh ≡ 0
   unfolding fresh_node begun_node
-  first_none_waits y y_is = ap (λ (z : node.Node). waiting tx key z.lqh) (same_node y (begun_node (i + 1) (first_view start.nodes) start.epoch start.rows) (sym y_is))
+  first_none_waits y y_is = ap (λ (z : node.Node). waiting tx key z.lqh) (same_node y (begun_node (i + 1) (first_view start.shape.nodes) start.epoch start.rows) (sym y_is))
 
   first : IsServed (log_of (machine start) [])
   first = record { lone = first_lone start tx key h home; served = λ none y y_is some off. absurd (omega (arith, some, first_none_waits y y_is)) }
 
   -- at quiet who waits is in the queue
-  all_queued : (logs : ℕ → List LogStep) → AreQuiet start logs → F start tx h home logs ≡ 0 → (y : node.Node) → after start (suc i) (logs (suc i)) ≡ Node y → 1 ≤ waiting tx key y.lqh → queued tx key y.lqh ≡ true
+  all_queued : (logs : ℕ → List HostStep) → AreQuiet start logs → F start tx h home logs ≡ 0 → (y : node.Node) → after start (suc i) (logs (suc i)) ≡ Node y → 1 ≤ waiting tx key y.lqh → queued tx key y.lqh ≡ true
   all_queued logs quiet none y y_is some = by (queued tx key y.lqh) refl
     where
       by : (b : Bool) → queued tx key y.lqh ≡ b → queued tx key y.lqh ≡ true
@@ -230,8 +231,8 @@ module _ (start : Start) (tx : TxId) (key : List ℕ) (h : ℕ) (home : tx.tc �
           ))
 
 -- who is known to wait is in the queue
-module _ (start : Start) (logs : ℕ → List LogStep) (quiet : AreQuiet start logs) (tx : TxId) (key : List ℕ) (h : ℕ) (home : tx.tc ≡ suc h) (none : F start tx h home logs ≡ 0) where
-  there_queued : (i : ℕ) → suc i ≤ start.nodes → IsWaitingAt tx key (after start (suc i) (logs (suc i))) → IsQueuedAt tx (after start (suc i) (logs (suc i)))
+module _ (start : Start) (logs : ℕ → List HostStep) (quiet : AreQuiet start logs) (tx : TxId) (key : List ℕ) (h : ℕ) (home : tx.tc ≡ suc h) (none : F start tx h home logs ≡ 0) where
+  there_queued : (i : ℕ) → suc i ≤ start.shape.nodes → IsWaitingAt tx key (after start (suc i) (logs (suc i))) → IsQueuedAt tx (after start (suc i) (logs (suc i)))
   there_queued i low w = subst (IsQueuedAt tx) (sym x.is) (here (subst (IsWaitingAt tx key) x.is w))
     where
       x : AtNode start tx i (logs (suc i))

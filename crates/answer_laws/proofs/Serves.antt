@@ -5,7 +5,7 @@ use Rattle.api_block.specs.declared.opened.OpenTransaction.{OpenTransaction}
 use Rattle.node_core.specs.declared.host.Host.{Host}
 use Rattle.node_core.specs.declared.host.Host.TheVariants.{Shell, Node}
 use Rattle.run_theory.specs.Lists.{IsIn}
-use Rattle.sig_core.specs.declared.log.LogStep.{LogStep}
+use Rattle.world_core.specs.Steps.{HostStep}
 use Rattle.sig_core.specs.declared.member.TxId.{TxId}
 use Rattle.world_core.specs.Machine.{after}
 use Rattle.world_core.specs.Start.{Start}
@@ -15,7 +15,7 @@ use Rattle.answer_laws.proofs.Lives.{each_lives}
 use Rattle.answer_laws.proofs.Ops.{operations_wait}
 use Rattle.answer_laws.specs.Answered.{AreQuiet, EachIsServed, IsLiveAs, IsLiveAt, IsServed, opened_after}
 
-module _ (start : Start) (logs : ℕ → List LogStep) (t : OpenTransaction) (quiet : AreQuiet start logs) (inside : IsIn t (opened_after start logs)) (tx : TxId) (is : t.tx ≡ Some tx) where
+module _ (start : Start) (logs : ℕ → List HostStep) (t : OpenTransaction) (quiet : AreQuiet start logs) (inside : IsIn t (opened_after start logs)) (tx : TxId) (is : t.tx ≡ Some tx) where
   served : (g : Host) → after start tx.tc (logs tx.tc) ≡ g → IsLiveAt tx g → IsServed start logs t tx
   served (Shell s) at l = absurd l
   served (Node n) at l =

@@ -2,12 +2,12 @@
 use Rattle.std.proofs.Common.{◌≡◌, ◌≢◌, ℕ, zero, suc, ◌+◌, ◌≤◌, List, [], ◌∷◌, Bool, true, false, refl, ap, sym, ◌∙◌, arith}
 use Rattle.std.specs.Prelude.{◌==◌, ◌&&◌, not, Option}
 use Rattle.std.proofs.lemmas.Bool.{false≢true}
-use Rattle.lqh_block.specs.Lqh.{lqh_row}
-use Rattle.node_core.specs.Dih.{dih_row}
+use Rattle.lqh_block.specs.Lqh.{lqh_table}
+use Rattle.node_core.specs.Dih.{dih_table}
 use Rattle.node_core.specs.Requests.{is_request}
 use Rattle.run_theory.specs.Links.{sent, taken}
 use Rattle.run_theory.specs.Runs.{AreLogs}
-use Rattle.sig_core.specs.declared.log.LogStep.{LogStep}
+use Rattle.world_core.specs.Steps.{HostStep}
 use Rattle.sig_core.specs.declared.member.TxId.{TxId}
 use Rattle.sig_core.specs.declared.outs.Outgoing.{Outgoing}
 use Rattle.sig_core.specs.declared.place.Place.{Place}
@@ -16,7 +16,7 @@ use Rattle.sig_core.specs.declared.signal.Body.TheVariants.{Client}
 use Rattle.sig_core.specs.declared.signal.client.ClientSignal.TheVariants.{TcBeginReq, TcKeyConf, TcCommitReq}
 use Rattle.sig_core.specs.Same.{same_tx}
 use Rattle.tc_block.specs.State.{TcState}
-use Rattle.tc_block.specs.Tc.{begin_if, begin_row, is_full, tc_row}
+use Rattle.tc_block.specs.Tc.{begin_if, begin_row, is_full, tc_table}
 use Rattle.world_core.specs.Machine.{machine}
 use Rattle.world_core.specs.Start.{Start}
 use Rattle.answer_laws.proofs.LqhOps.{right_of}
@@ -95,17 +95,17 @@ begin_commits tx j s name false = none (0 == j)
     none true = refl
     none false = refl
 
-tc_commitless : (tx : TxId) (j : ℕ) (s : TcState) (body : Body) → sends_of (to_node j (is_commit_req tx)) (tc_row s body).effects.sends ≡ 0
+tc_commitless : (tx : TxId) (j : ℕ) (s : TcState) (body : Body) → sends_of (to_node j (is_commit_req tx)) (tc_table s body).effects.sends ≡ 0
 unfolding begin_row
 tc_commitless tx j s (Client (TcBeginReq name)) = begin_commits tx j s name (is_full s)
-tc_commitless tx j s body = commit_tc tx (tx_in body) j (tc_row s body).effects.sends (tc_kinds s body refl)
+tc_commitless tx j s body = commit_tc tx (tx_in body) j (tc_table s body).effects.sends (tc_kinds s body refl)
 
 plain_commit : (tx : TxId) (to : Place) (body : Body) → is_commit_req tx to body ≡ true → is_request body ≡ false
 plain_commit tx to (Client (TcCommitReq other)) e = refl
 plain_commit tx to _ e = cc
 
 module _ (start : Start) (tx : TxId) where
-  node_commitless : (k j : ℕ) (log : List LogStep) → signals (is_commit_req tx) (sent (machine start) (suc k) j log) ≡ 0
+  node_commitless : (k j : ℕ) (log : List HostStep) → signals (is_commit_req tx) (sent (machine start) (suc k) j log) ≡ 0
   node_commitless k j [] = refl
   node_commitless k j (e ∷ log) =
       omega (arith, node_commitless k j log, sent_signals start (is_commit_req tx) (suc k) j e log, ap (sends_of (to_node j (is_commit_req tx))) n.sent_is, by n.step)
@@ -116,14 +116,14 @@ module _ (start : Start) (tx : TxId) where
       n : NextAt start k e log x.state
       n = next_at start k e log x.state x.is
 
-      by : NodeStep x.state e.taken.to.block e.taken.body n.now n.sends → sends_of (to_node j (is_commit_req tx)) n.sends ≡ 0
-      by (of_tc at is sends) = ap (sends_of (to_node j (is_commit_req tx))) sends ∙ tc_commitless tx j x.state.tc e.taken.body
-      by (of_dih at is sends) = ap (sends_of (to_node j (is_commit_req tx))) sends ∙ commit_dih tx j (dih_row x.state.dih e.taken.body).effects.sends (dih_kinds x.state.dih e.taken.body)
-      by (of_lqh at is sends) = ap (sends_of (to_node j (is_commit_req tx))) sends ∙ commit_lqh tx j (lqh_row x.state.lqh e.taken.body).effects.sends (lqh_kinds x.state.lqh e.taken.body)
+      by : NodeStep x.state e.step.taken.to.block e.step.taken.body n.now n.sends → sends_of (to_node j (is_commit_req tx)) n.sends ≡ 0
+      by (of_tc at is sends) = ap (sends_of (to_node j (is_commit_req tx))) sends ∙ tc_commitless tx j x.state.tc e.step.taken.body
+      by (of_dih at is sends) = ap (sends_of (to_node j (is_commit_req tx))) sends ∙ commit_dih tx j (dih_table x.state.dih e.step.taken.body).effects.sends (dih_kinds x.state.dih e.step.taken.body)
+      by (of_lqh at is sends) = ap (sends_of (to_node j (is_commit_req tx))) sends ∙ commit_lqh tx j (lqh_table x.state.lqh e.step.taken.body).effects.sends (lqh_kinds x.state.lqh e.step.taken.body)
       by (of_none a b c is sends) = ap (sends_of (to_node j (is_commit_req tx))) sends
 
   -- no other node answers its operations
-  node_answerless : (k : ℕ) (log : List LogStep) → suc k ≢ tx.tc → signals (is_answer tx) (sent (machine start) (suc k) 0 log) ≡ 0
+  node_answerless : (k : ℕ) (log : List HostStep) → suc k ≢ tx.tc → signals (is_answer tx) (sent (machine start) (suc k) 0 log) ≡ 0
   node_answerless k [] differs = refl
   node_answerless k (e ∷ log) differs =
       omega (arith, node_answerless k log differs, sent_signals start (is_answer tx) (suc k) 0 e log, ap (answers_in tx) n.sent_is, by n.step)
@@ -134,18 +134,18 @@ module _ (start : Start) (tx : TxId) where
       n : NextAt start k e log x.state
       n = next_at start k e log x.state x.is
 
-      of_tc_step : TxStep tx x.state.tc e.taken.body (tc_row x.state.tc e.taken.body) → answers_in tx (tc_row x.state.tc e.taken.body).effects.sends ≡ 0
-      of_tc_step (elsewhere live kind off) = apart_answers tx (tc_row x.state.tc e.taken.body).effects.sends kind
+      of_tc_step : TxStep tx x.state.tc e.step.taken.body (tc_table x.state.tc e.step.taken.body) → answers_in tx (tc_table x.state.tc e.step.taken.body).effects.sends ≡ 0
+      of_tc_step (elsewhere live kind off) = apart_answers tx (tc_table x.state.tc e.step.taken.body).effects.sends kind
       of_tc_step (born name about one none there told) = absurd (differs (sym x.number ∙ sym (ap (λ (v : TxId). v.tc) one)))
       of_tc_step (turned t turn about one there move left told) = absurd (differs (sym x.number ∙ sym (live_home tx x.state.tc t there x.own)))
 
-      by : NodeStep x.state e.taken.to.block e.taken.body n.now n.sends → answers_in tx n.sends ≡ 0
-      by (of_tc at is sends) = ap (answers_in tx) sends ∙ of_tc_step (tx_step tx x.state.tc e.taken.body x.once x.own)
-      by (of_dih at is sends) = ap (answers_in tx) sends ∙ dih_answers tx (dih_row x.state.dih e.taken.body).effects.sends (dih_kinds x.state.dih e.taken.body)
-      by (of_lqh at is sends) = ap (answers_in tx) sends ∙ lqh_answers tx (lqh_row x.state.lqh e.taken.body).effects.sends (lqh_kinds x.state.lqh e.taken.body)
+      by : NodeStep x.state e.step.taken.to.block e.step.taken.body n.now n.sends → answers_in tx n.sends ≡ 0
+      by (of_tc at is sends) = ap (answers_in tx) sends ∙ of_tc_step (tx_step tx x.state.tc e.step.taken.body x.once x.own)
+      by (of_dih at is sends) = ap (answers_in tx) sends ∙ dih_answers tx (dih_table x.state.dih e.step.taken.body).effects.sends (dih_kinds x.state.dih e.step.taken.body)
+      by (of_lqh at is sends) = ap (answers_in tx) sends ∙ lqh_answers tx (lqh_table x.state.lqh e.step.taken.body).effects.sends (lqh_kinds x.state.lqh e.step.taken.body)
       by (of_none a b c is sends) = ap (answers_in tx) sends
 
-  module _ (h : ℕ) (home : tx.tc ≡ suc h) (logs : ℕ → List LogStep) (right : AreLogs (machine start) logs) where
+  module _ (h : ℕ) (home : tx.tc ≡ suc h) (logs : ℕ → List HostStep) (right : AreLogs (machine start) logs) where
     -- what the coordinator took of it the API has sent
     pub keys_few : steps (is_key tx) (logs (suc h)) ≤ signals (is_key tx) (sent (machine start) 0 (suc h) (logs 0))
     keys_few =

@@ -11,7 +11,7 @@ use Rattle.sig_core.specs.declared.place.Place.{Place}
 use Rattle.sig_core.specs.declared.signal.Body.{Body}
 use Rattle.sig_core.specs.declared.signal.Body.TheVariants.{Chain}
 use Rattle.sig_core.specs.declared.signal.chain.ChainSignal.TheVariants.{Commit, Committed}
-use Rattle.sig_core.specs.declared.view.View.{View}
+use Rattle.frag_map.specs.Layout.{Layout}
 use Rattle.sig_core.specs.Chain.{last_place, node_at}
 use Rattle.sig_core.specs.Same.{same_tx}
 use Rattle.tc_block.specs.declared.phase.Phase.TheVariants.{Committing}
@@ -51,22 +51,22 @@ module _ (n : ℕ) (tx : TxId) where
       (true_and (same_tx tx tx) (is_good n t.chain && nat_lt (last_place t.chain) (length t.chain)) (same_tx-self tx)
       (true_and (is_good n t.chain) (nat_lt (last_place t.chain) (length t.chain)) chain (grind (arith, nat_tests, low))))
 
-  commits : View → ℕ → ℕ → List Touched → List Outgoing
-  commits view epoch awaited touched = flat_map (key_sends view tx (Committing epoch awaited)) touched
+  commits : Layout → ℕ → ℕ → List Touched → List Outgoing
+  commits layout epoch awaited touched = flat_map (key_sends layout tx (Committing epoch awaited)) touched
 
-  all_commits : (view : View) (epoch awaited : ℕ) (touched : List Touched) → Each (λ (t : Touched). is_chain n t.chain ≡ true) touched
-      → (Each (λ x. passes x ≡ true) (flat_map (key_sends view tx (Committing epoch awaited)) touched)) × (length (flat_map (key_sends view tx (Committing epoch awaited)) touched) ≡ length touched)
+  all_commits : (layout : Layout) (epoch awaited : ℕ) (touched : List Touched) → Each (λ (t : Touched). is_chain n t.chain ≡ true) touched
+      → (Each (λ x. passes x ≡ true) (flat_map (key_sends layout tx (Committing epoch awaited)) touched)) × (length (flat_map (key_sends layout tx (Committing epoch awaited)) touched) ≡ length touched)
   unfolding key_sends
-  all_commits view epoch awaited [] good = (tt, refl)
-  all_commits view epoch awaited (t ∷ touched) good =
-      let rest = all_commits view epoch awaited touched good.1 in
+  all_commits layout epoch awaited [] good = (tt, refl)
+  all_commits layout epoch awaited (t ∷ touched) good =
+      let rest = all_commits layout epoch awaited touched good.1 in
       ((commit_passes epoch t good.0, rest.0), omega (arith, rest.1))
 
   -- a part of what it sends: eight and the signal to go on, or all that is left
-  pub part_law : (node : ℕ) (view : View) (epoch awaited at : ℕ) (touched : List Touched) → node ≡ tx.tc → Each (λ (t : Touched). is_chain n t.chain ≡ true) touched
-      → IsPart (is_commit n tx) tx (length touched) at (part_effects node tx (phase_sends view tx (Committing epoch awaited) touched) at).sends
+  pub part_law : (node : ℕ) (layout : Layout) (epoch awaited at : ℕ) (touched : List Touched) → node ≡ tx.tc → Each (λ (t : Touched). is_chain n t.chain ≡ true) touched
+      → IsPart (is_commit n tx) tx (length touched) at (part_effects node tx (phase_sends layout tx (Committing epoch awaited) touched) at).sends
   unfolding phase_sends front_sends
-  part_law node view epoch awaited at touched home good =
-      let all = all_commits view epoch awaited touched good in
-      subst (λ l. IsPart (is_commit n tx) tx l at (part_effects node tx (flat_map (key_sends view tx (Committing epoch awaited)) touched) at).sends) all.1
-      (part_is (is_commit n tx) node tx (flat_map (key_sends view tx (Committing epoch awaited)) touched) at home all.0)
+  part_law node layout epoch awaited at touched home good =
+      let all = all_commits layout epoch awaited touched good in
+      subst (λ l. IsPart (is_commit n tx) tx l at (part_effects node tx (flat_map (key_sends layout tx (Committing epoch awaited)) touched) at).sends) all.1
+      (part_is (is_commit n tx) node tx (flat_map (key_sends layout tx (Committing epoch awaited)) touched) at home all.0)

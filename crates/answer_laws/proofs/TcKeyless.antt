@@ -10,10 +10,10 @@ use Rattle.sig_core.specs.declared.signal.client.ClientSignal.TheVariants.{TcKey
 use Rattle.sig_core.specs.declared.signal.epoch.EpochSignal.TheVariants.{DiVerifyConf}
 use Rattle.sig_core.specs.declared.signal.host.HostSignal.TheVariants.{Continue}
 use Rattle.sig_core.specs.declared.signal.host.Work.TheVariants as work
-use Rattle.sig_core.specs.declared.view.View.{View}
+use Rattle.frag_map.specs.Layout.{Layout}
 use Rattle.tc_block.specs.declared.transaction.Transaction.{Transaction}
 use Rattle.tc_block.specs.Abort as abort
-use Rattle.tc_block.specs.Chain.{chain_of}
+use Rattle.frag_map.specs.Layout.{chain_of}
 use Rattle.tc_block.specs.Commit as commit
 use Rattle.tc_block.specs.Complete as complete
 use Rattle.tc_block.specs.Operate as operate
@@ -31,7 +31,7 @@ abbrev is_answered : Body → Bool
 is_answered (Chain (LqhKeyConf tx key answer)) = true
 is_answered _ = false
 
-module _ (node : ℕ) (view : View) (tx : TxId) (t : Transaction) where
+module _ (node : ℕ) (layout : Layout) (tx : TxId) (t : Transaction) where
   own : (body : Body) → is_answered body ≡ false → OwnKinds tx is_keyless body
   own body other = record {
     chains = record { commits = λ key epoch chain at. refl; completes = λ key chain at. refl; aborts = λ key. refl; goes_on = λ at. refl };
@@ -45,17 +45,17 @@ module _ (node : ℕ) (view : View) (tx : TxId) (t : Transaction) where
   }
 
   -- what it does at any other signal
-  turn_keyless : (body : Body) → is_answered body ≡ false → RowsAre node view tx t body TurnKeyless
-  turn_keyless body other = own_kinds is_keyless tx body (own body other) node view t
+  turn_keyless : (body : Body) → is_answered body ≡ false → RowsAre node layout tx t body TurnKeyless
+  turn_keyless body other = own_kinds is_keyless tx body (own body other) node layout t
 
-pub late_keyless : (view : View) (tx : TxId) (t : Transaction) (key : List ℕ) → SendsOnly is_keyless (operate.late_answer view tx t key)
-late_keyless view tx t key = of_map is_keyless (abort_of tx key) (chain_of view key) (λ r. refl)
+pub late_keyless : (layout : Layout) (tx : TxId) (t : Transaction) (key : List ℕ) → SendsOnly is_keyless (operate.late_answer layout tx t key)
+late_keyless layout tx t key = of_map is_keyless (abort_of tx key) (chain_of layout key) (λ r. refl)
 
-pub go_on_keyless : (node : ℕ) (view : View) (tx : TxId) (t : Transaction) (at : ℕ) → SendsOnly is_keyless (go_on_row node view tx t at)
-go_on_keyless node view tx t at = (turn_keyless node view tx t (Host (Continue (work.Transaction tx) at)) refl).goes_on at refl
+pub go_on_keyless : (node : ℕ) (layout : Layout) (tx : TxId) (t : Transaction) (at : ℕ) → SendsOnly is_keyless (go_on_row node layout tx t at)
+go_on_keyless node layout tx t at = (turn_keyless node layout tx t (Host (Continue (work.Transaction tx) at)) refl).goes_on at refl
 
-pub operate_keyless : (view : View) (tx : TxId) (t : Transaction) (op : Op) → SendsOnly is_keyless (operate.operate_row view tx t op)
-operate_keyless view tx t op = (turn_keyless 0 view tx t (Client (TcKeyReq tx op)) refl).operates op refl
+pub operate_keyless : (layout : Layout) (tx : TxId) (t : Transaction) (op : Op) → SendsOnly is_keyless (operate.operate_row layout tx t op)
+operate_keyless layout tx t op = (turn_keyless 0 layout tx t (Client (TcKeyReq tx op)) refl).operates op refl
 
 pub wait_keyless : (tx : TxId) (t : Transaction) → SendsOnly is_keyless (operate.wait_row tx t)
 wait_keyless tx t = (turn_keyless 0 no_view tx t (Client (TcWaitReq tx)) refl).waits refl
@@ -63,20 +63,20 @@ wait_keyless tx t = (turn_keyless 0 no_view tx t (Client (TcWaitReq tx)) refl).w
 pub decide_keyless : (node : ℕ) (tx : TxId) (t : Transaction) → SendsOnly is_keyless (commit.decide_row node tx t)
 decide_keyless node tx t = (turn_keyless node no_view tx t (Client (TcCommitReq tx)) refl).decides refl
 
-pub commit_keyless : (node : ℕ) (view : View) (tx : TxId) (t : Transaction) (epoch : ℕ) → TurnKeyless (commit.commit_row node view tx t epoch)
-commit_keyless node view tx t epoch = (turn_keyless node view tx t (Epoch (DiVerifyConf tx epoch)) refl).commits epoch refl
+pub commit_keyless : (node : ℕ) (layout : Layout) (tx : TxId) (t : Transaction) (epoch : ℕ) → TurnKeyless (commit.commit_row node layout tx t epoch)
+commit_keyless node layout tx t epoch = (turn_keyless node layout tx t (Epoch (DiVerifyConf tx epoch)) refl).commits epoch refl
 
-pub committed_keyless : (node : ℕ) (view : View) (tx : TxId) (t : Transaction) → TurnKeyless (commit.committed_row node view tx t)
-committed_keyless node view tx t = (turn_keyless node view tx t (Chain (Committed tx [])) refl).committed [] refl
+pub committed_keyless : (node : ℕ) (layout : Layout) (tx : TxId) (t : Transaction) → TurnKeyless (commit.committed_row node layout tx t)
+committed_keyless node layout tx t = (turn_keyless node layout tx t (Chain (Committed tx [])) refl).committed [] refl
 
 pub completed_keyless : (node : ℕ) (tx : TxId) (t : Transaction) → TurnKeyless (complete.completed_row node tx t)
 completed_keyless node tx t = (turn_keyless node no_view tx t (Chain (Completed tx [])) refl).completed [] refl
 
-pub refuse_keyless : (node : ℕ) (view : View) (tx : TxId) (t : Transaction) (key : List ℕ) (why : AbortCause) → TurnKeyless (abort.refuse_row node view tx t key why)
-refuse_keyless node view tx t key why = (turn_keyless node view tx t (Chain (LqhKeyRef tx key why)) refl).refuses key why refl
+pub refuse_keyless : (node : ℕ) (layout : Layout) (tx : TxId) (t : Transaction) (key : List ℕ) (why : AbortCause) → TurnKeyless (abort.refuse_row node layout tx t key why)
+refuse_keyless node layout tx t key why = (turn_keyless node layout tx t (Chain (LqhKeyRef tx key why)) refl).refuses key why refl
 
-pub rollback_keyless : (node : ℕ) (view : View) (tx : TxId) (t : Transaction) → TurnKeyless (abort.rollback_row node view tx t)
-rollback_keyless node view tx t = (turn_keyless node view tx t (Client (TcRollbackReq tx)) refl).rolls_back refl
+pub rollback_keyless : (node : ℕ) (layout : Layout) (tx : TxId) (t : Transaction) → TurnKeyless (abort.rollback_row node layout tx t)
+rollback_keyless node layout tx t = (turn_keyless node layout tx t (Client (TcRollbackReq tx)) refl).rolls_back refl
 
 pub aborted_keyless : (node : ℕ) (tx : TxId) (t : Transaction) → TurnKeyless (abort.aborted_row node tx t)
 aborted_keyless node tx t = (turn_keyless node no_view tx t (Chain (Aborted tx [])) refl).aborted [] refl

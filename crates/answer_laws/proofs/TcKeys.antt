@@ -18,7 +18,7 @@ use Rattle.sig_core.specs.declared.signal.client.ClientSignal.TheVariants.{TcBeg
 use Rattle.sig_core.specs.declared.signal.epoch.EpochSignal.TheVariants.{DiVerifyConf}
 use Rattle.sig_core.specs.declared.signal.host.HostSignal.TheVariants.{Continue}
 use Rattle.sig_core.specs.declared.signal.host.Work.TheVariants as work
-use Rattle.sig_core.specs.declared.view.View.{View}
+use Rattle.frag_map.specs.Layout.{Layout}
 use Rattle.sig_core.specs.Same.{same_tx}
 use Rattle.sig_core.specs.Step.{Step}
 use Rattle.tc_block.specs.declared.phase.Asked.{Asked}
@@ -32,7 +32,7 @@ use Rattle.tc_block.specs.Live.{place_in, step_of, turn_of, turn_place, turn_val
 use Rattle.tc_block.specs.Operate as operate
 use Rattle.tc_block.specs.Sends.{entering, go_on_row}
 use Rattle.tc_block.specs.State.{TcState}
-use Rattle.tc_block.specs.Tc.{begin_if, begin_row, is_full, next_tx, pass_if, pass_row, tc_row}
+use Rattle.tc_block.specs.Tc.{begin_if, begin_row, is_full, next_tx, pass_if, pass_row, tc_table}
 use Rattle.tc_block.specs.Turn.{Turn, asking, going}
 use Rattle.commit_laws.proofs.Keys.{same_tx-self}
 use Rattle.commit_laws.proofs.EachTurn.{AbortForms, CommittedForms, RowsAre, rows_of}
@@ -96,17 +96,17 @@ module _ (tx : TxId) (t : Transaction) where
   abbrev StaysAsked : Turn → Type 0
   StaysAsked turn = has_asked turn.step.state ≤ has_asked t
 
-  abort_stays : (node : ℕ) (view : View) (u : Transaction) (why : AbortCause) → has_asked u ≤ has_asked t → AbortForms node view tx u why StaysAsked
+  abort_stays : (node : ℕ) (layout : Layout) (u : Transaction) (why : AbortCause) → has_asked u ≤ has_asked t → AbortForms node layout tx u why StaysAsked
   unfolding entering
-  abort_stays node view u why less = record { enters = λ some. less; ends = λ none. less }
+  abort_stays node layout u why less = record { enters = λ some. less; ends = λ none. less }
 
-  commit_stays : (node : ℕ) (view : View) (epoch : ℕ) → CommittedForms node view tx t epoch StaysAsked
+  commit_stays : (node : ℕ) (layout : Layout) (epoch : ℕ) → CommittedForms node layout tx t epoch StaysAsked
   unfolding entering
-  commit_stays node view epoch = record { enters = λ some. omega arith; ends = λ none. omega arith }
+  commit_stays node layout epoch = record { enters = λ some. omega arith; ends = λ none. omega arith }
 
-  stays : (node : ℕ) (view : View) (body : Body) → ((op : Op) → body ≡ Client (TcKeyReq tx op) → ⊥) → RowsAre node view tx t body StaysAsked
+  stays : (node : ℕ) (layout : Layout) (body : Body) → ((op : Op) → body ≡ Client (TcKeyReq tx op) → ⊥) → RowsAre node layout tx t body StaysAsked
   unfolding entering
-  stays node view body other = rows_of node view tx t body StaysAsked (record {
+  stays node layout body other = rows_of node layout tx t body StaysAsked (record {
     stays = omega arith;
     goes_on = λ at. omega arith;
     operates = λ op is can. absurd (other op is);
@@ -115,20 +115,20 @@ module _ (tx : TxId) (t : Transaction) where
     waits = λ asked on. omega arith;
     decides = λ is ready. omega arith;
     commits = λ epoch is at some. omega arith;
-    commits_none = λ epoch is at. commit_stays node view epoch;
+    commits_none = λ epoch is at. commit_stays node layout epoch;
     committed = λ epoch awaited at more. omega arith;
-    committed_all = λ epoch awaited at. commit_stays node view epoch;
+    committed_all = λ epoch awaited at. commit_stays node layout epoch;
     completed = λ epoch awaited at more. omega arith;
     completed_all = λ epoch awaited at last. omega arith;
-    rolls_back = λ is undecided unaborted. abort_stays node view t _ (omega arith);
-    refuses = λ key why asked is on at. abort_stays node view (asking t None) why (omega arith);
+    rolls_back = λ is undecided unaborted. abort_stays node layout t _ (omega arith);
+    refuses = λ key why asked is on at. abort_stays node layout (asking t None) why (omega arith);
     aborted = λ why verifying awaited at more. omega arith;
     aborted_all = λ why verifying awaited at last. omega arith;
   })
 
-  answer_fair : (view : View) (at : List ℕ) (answer : Answer) → IsFair tx t (going (operate.answer_row view tx t at answer)) 0
+  answer_fair : (layout : Layout) (at : List ℕ) (answer : Answer) → IsFair tx t (going (operate.answer_row layout tx t at answer)) 0
   unfolding operate.answer_row
-  answer_fair view at answer = by (operate.asked_on t.asked at) t.phase refl
+  answer_fair layout at answer = by (operate.asked_on t.asked at) t.phase refl
     where
       was : (o : Option Asked) (a : Asked) → operate.asked_on o at ≡ Some a → one_if (is_some o) ≡ 1
       was None a e = absurd (no_some e)
@@ -137,10 +137,10 @@ module _ (tx : TxId) (t : Transaction) where
           no_some q = cc
       was (Some b) a e = refl
 
-      late : answers_in tx (operate.late_answer view tx t at).effects.sends ≡ 0
-      late = no_answers tx (operate.late_answer view tx t at).effects.sends (keyless.late_keyless view tx t at)
+      late : answers_in tx (operate.late_answer layout tx t at).effects.sends ≡ 0
+      late = no_answers tx (operate.late_answer layout tx t at).effects.sends (keyless.late_keyless layout tx t at)
 
-      by : (o : Option Asked) (phase : Phase) → operate.asked_on t.asked at ≡ o → IsFair tx t (going (operate.answer_by view tx t at answer o phase)) 0
+      by : (o : Option Asked) (phase : Phase) → operate.asked_on t.asked at ≡ o → IsFair tx t (going (operate.answer_by layout tx t at answer o phase)) 0
       by (Some a) Open e = omega (arith, was t.asked a e, one_most (same_tx tx tx))
       by (Some a) (Aborting why verifying awaited) e = omega (arith, late)
       by (Some a) Verifying e = omega arith
@@ -240,28 +240,28 @@ module _ (tx : TxId) (s : TcState) where
   pass_fair one ahead true = omega arith
   pass_fair one ahead false = omega arith
 
-  operate_fair : (one : TxId) (op : Op) (t : Transaction) → IsFair one t (going (operate.operate_row s.view one t op)) (one_if (same_tx one one))
+  operate_fair : (one : TxId) (op : Op) (t : Transaction) → IsFair one t (going (operate.operate_row s.layout one t op)) (one_if (same_tx one one))
   operate_fair one op t =
       omega (
         arith,
-        no_answers one (operate.operate_row s.view one t op).effects.sends (keyless.operate_keyless s.view one t op),
-        one_most (is_some (operate.operate_row s.view one t op).state.asked),
+        no_answers one (operate.operate_row s.layout one t op).effects.sends (keyless.operate_keyless s.layout one t op),
+        one_most (is_some (operate.operate_row s.layout one t op).state.asked),
         ap one_if (same_tx-self one),
       )
 
-  pub tc_fair : (body : Body) → Fair (tc_row s body) (one_if (key_of_tx tx body))
+  pub tc_fair : (body : Body) → Fair (tc_table s body) (one_if (key_of_tx tx body))
   unfolding begin_row pass_row
-  tc_fair (Host (Continue (work.Transaction one) at)) = step_fair one _ (λ x. 0) (λ t. go_on_kinds s.node s.view one t at) (λ t. still one t (going (go_on_row s.node s.view one t at)) (keyless.go_on_keyless s.node s.view one t at) ((stays one t s.node s.view (Host (Continue (work.Transaction one) at)) (λ op is. cc)).goes_on at refl))
+  tc_fair (Host (Continue (work.Transaction one) at)) = step_fair one _ (λ x. 0) (λ t. go_on_kinds s.node s.layout one t at) (λ t. still one t (going (go_on_row s.node s.layout one t at)) (keyless.go_on_keyless s.node s.layout one t at) ((stays one t s.node s.layout (Host (Continue (work.Transaction one) at)) (λ op is. cc)).goes_on at refl))
   tc_fair (Client (TcBeginReq name)) = begin_fair name (is_full s)
-  tc_fair (Client (TcKeyReq one op)) = step_fair one _ (λ x. one_if (same_tx one x)) (λ t. operate_kinds s.view one t op) (λ t. operate_fair one op t)
-  tc_fair (Client (TcCommitReq one)) = step_fair one _ (λ x. 0) (λ t. decide_kinds s.node one t) (λ t. still one t (going (commit.decide_row s.node one t)) (keyless.decide_keyless s.node one t) ((stays one t s.node s.view (Client (TcCommitReq one)) (λ op is. cc)).decides refl))
-  tc_fair (Client (TcRollbackReq one)) = turn_fair one _ (λ x. 0) (λ t. rollback_kinds s.node s.view one t) (λ t. still one t (abort.rollback_row s.node s.view one t) (keyless.rollback_keyless s.node s.view one t) ((stays one t s.node s.view (Client (TcRollbackReq one)) (λ op is. cc)).rolls_back refl))
-  tc_fair (Client (TcWaitReq one)) = step_fair one _ (λ x. 0) (λ t. wait_kinds one t) (λ t. still one t (going (operate.wait_row one t)) (keyless.wait_keyless one t) ((stays one t s.node s.view (Client (TcWaitReq one)) (λ op is. cc)).waits refl))
+  tc_fair (Client (TcKeyReq one op)) = step_fair one _ (λ x. one_if (same_tx one x)) (λ t. operate_kinds s.layout one t op) (λ t. operate_fair one op t)
+  tc_fair (Client (TcCommitReq one)) = step_fair one _ (λ x. 0) (λ t. decide_kinds s.node one t) (λ t. still one t (going (commit.decide_row s.node one t)) (keyless.decide_keyless s.node one t) ((stays one t s.node s.layout (Client (TcCommitReq one)) (λ op is. cc)).decides refl))
+  tc_fair (Client (TcRollbackReq one)) = turn_fair one _ (λ x. 0) (λ t. rollback_kinds s.node s.layout one t) (λ t. still one t (abort.rollback_row s.node s.layout one t) (keyless.rollback_keyless s.node s.layout one t) ((stays one t s.node s.layout (Client (TcRollbackReq one)) (λ op is. cc)).rolls_back refl))
+  tc_fair (Client (TcWaitReq one)) = step_fair one _ (λ x. 0) (λ t. wait_kinds one t) (λ t. still one t (going (operate.wait_row one t)) (keyless.wait_keyless one t) ((stays one t s.node s.layout (Client (TcWaitReq one)) (λ op is. cc)).waits refl))
   tc_fair (Client (LqhWaitConf one ahead)) = pass_fair one ahead (is_some (place_in s one))
-  tc_fair (Chain (LqhKeyConf one at answer)) = step_fair one _ (λ x. 0) (λ t. answer_kinds s.view one t at answer) (λ t. answer_fair one t s.view at answer)
-  tc_fair (Chain (LqhKeyRef one at why)) = turn_fair one _ (λ x. 0) (λ t. refuse_kinds s.node s.view one t at why) (λ t. still one t (abort.refuse_row s.node s.view one t at why) (keyless.refuse_keyless s.node s.view one t at why) ((stays one t s.node s.view (Chain (LqhKeyRef one at why)) (λ op is. cc)).refuses at why refl))
-  tc_fair (Chain (Committed one at)) = turn_fair one _ (λ x. 0) (λ t. committed_kinds s.node s.view one t) (λ t. still one t (commit.committed_row s.node s.view one t) (keyless.committed_keyless s.node s.view one t) ((stays one t s.node s.view (Chain (Committed one at)) (λ op is. cc)).committed at refl))
-  tc_fair (Chain (Completed one at)) = turn_fair one _ (λ x. 0) (λ t. completed_kinds s.node one t) (λ t. still one t (complete.completed_row s.node one t) (keyless.completed_keyless s.node one t) ((stays one t s.node s.view (Chain (Completed one at)) (λ op is. cc)).completed at refl))
-  tc_fair (Chain (Aborted one at)) = turn_fair one _ (λ x. 0) (λ t. aborted_kinds s.node one t) (λ t. still one t (abort.aborted_row s.node one t) (keyless.aborted_keyless s.node one t) ((stays one t s.node s.view (Chain (Aborted one at)) (λ op is. cc)).aborted at refl))
-  tc_fair (Epoch (DiVerifyConf one epoch)) = turn_fair one _ (λ x. 0) (λ t. commit_kinds s.node s.view one t epoch) (λ t. still one t (commit.commit_row s.node s.view one t epoch) (keyless.commit_keyless s.node s.view one t epoch) ((stays one t s.node s.view (Epoch (DiVerifyConf one epoch)) (λ op is. cc)).commits epoch refl))
+  tc_fair (Chain (LqhKeyConf one at answer)) = step_fair one _ (λ x. 0) (λ t. answer_kinds s.layout one t at answer) (λ t. answer_fair one t s.layout at answer)
+  tc_fair (Chain (LqhKeyRef one at why)) = turn_fair one _ (λ x. 0) (λ t. refuse_kinds s.node s.layout one t at why) (λ t. still one t (abort.refuse_row s.node s.layout one t at why) (keyless.refuse_keyless s.node s.layout one t at why) ((stays one t s.node s.layout (Chain (LqhKeyRef one at why)) (λ op is. cc)).refuses at why refl))
+  tc_fair (Chain (Committed one at)) = turn_fair one _ (λ x. 0) (λ t. committed_kinds s.node s.layout one t) (λ t. still one t (commit.committed_row s.node s.layout one t) (keyless.committed_keyless s.node s.layout one t) ((stays one t s.node s.layout (Chain (Committed one at)) (λ op is. cc)).committed at refl))
+  tc_fair (Chain (Completed one at)) = turn_fair one _ (λ x. 0) (λ t. completed_kinds s.node one t) (λ t. still one t (complete.completed_row s.node one t) (keyless.completed_keyless s.node one t) ((stays one t s.node s.layout (Chain (Completed one at)) (λ op is. cc)).completed at refl))
+  tc_fair (Chain (Aborted one at)) = turn_fair one _ (λ x. 0) (λ t. aborted_kinds s.node one t) (λ t. still one t (abort.aborted_row s.node one t) (keyless.aborted_keyless s.node one t) ((stays one t s.node s.layout (Chain (Aborted one at)) (λ op is. cc)).aborted at refl))
+  tc_fair (Epoch (DiVerifyConf one epoch)) = turn_fair one _ (λ x. 0) (λ t. commit_kinds s.node s.layout one t epoch) (λ t. still one t (commit.commit_row s.node s.layout one t epoch) (keyless.commit_keyless s.node s.layout one t epoch) ((stays one t s.node s.layout (Epoch (DiVerifyConf one epoch)) (λ op is. cc)).commits epoch refl))
   tc_fair _ = omega arith

@@ -113,7 +113,7 @@ kept_same tx s b e x y p q k = record {
 
 -- a transaction begins
 kept_start : (tx : TxId) (s : TcState) (b e : ℕ) → IsKept tx s b e
-    → IsKept tx (record { node = s.node; start = s.start; next_seq = s.next_seq + 1; view = s.view; live = s.live ++ (next_tx s, fresh) ∷ [] }) (one_if (same_tx (next_tx s) tx) + b) e
+    → IsKept tx (record { node = s.node; start = s.start; next_seq = s.next_seq + 1; layout = s.layout; live = s.live ++ (next_tx s, fresh) ∷ [] }) (one_if (same_tx (next_tx s) tx) + b) e
 kept_start tx s b e k = go (same_tx (next_tx s) tx) refl
   where
     keyed : tally (is_keyed tx) (s.live ++ (next_tx s, fresh) ∷ []) ≡ tally (is_keyed tx) s.live + (one_if (same_tx (next_tx s) tx) + 0)
@@ -127,7 +127,7 @@ kept_start tx s b e k = go (same_tx (next_tx s) tx) refl
     done = omega (arith, tally_append (is_done tx) s.live ((next_tx s, fresh) ∷ []), none (same_tx (next_tx s) tx))
 
     go : (m : Bool) → same_tx (next_tx s) tx ≡ m
-        → IsKept tx (record { node = s.node; start = s.start; next_seq = s.next_seq + 1; view = s.view; live = s.live ++ (next_tx s, fresh) ∷ [] }) (one_if (same_tx (next_tx s) tx) + b) e
+        → IsKept tx (record { node = s.node; start = s.start; next_seq = s.next_seq + 1; layout = s.layout; live = s.live ++ (next_tx s, fresh) ∷ [] }) (one_if (same_tx (next_tx s) tx) + b) e
     go true same =
         let seq : s.next_seq ≡ tx.seq = ap (λ (x : TxId). x.seq) (same_tx-is (next_tx s) tx same) in
         let zero_b : b ≡ 0 = k.unborn (omega (arith, seq)) in
@@ -159,7 +159,7 @@ kept_start tx s b e k = go (same_tx (next_tx s) tx) refl
 kept_live : (tx : TxId) (s : TcState) (live : List (TxId × Transaction)) (b e x y : ℕ) → IsKept tx s b e → x ≡ 0
     → tally (is_keyed tx) live ≤ tally (is_keyed tx) s.live → (1 ≤ y → 1 ≤ tally (is_keyed tx) s.live)
     → (1 ≤ tally (is_keyed tx) s.live → 1 ≤ tally (is_keyed tx) live + (y + e)) → (1 ≤ tally (is_done tx) live → 1 ≤ y + e) → Each (λ (z : TxId × Transaction). IsOwn s.node s.next_seq z.0) live
-    → IsKept tx (record { node = s.node; start = s.start; next_seq = s.next_seq; view = s.view; live = live }) (x + b) (y + e)
+    → IsKept tx (record { node = s.node; start = s.start; next_seq = s.next_seq; layout = s.layout; live = live }) (x + b) (y + e)
 kept_live tx s live b e x y k p fewer due left told own = record {
   began = omega (arith, k.began, fewer, p);
   order = λ h. omega (arith, which h, p);
@@ -190,7 +190,7 @@ kept_live tx s live b e x y k p fewer due left told own = record {
 -- one of its transactions takes a turn
 kept_turn : (tx one : TxId) (s : TcState) (t u : Transaction) (front back : List (TxId × Transaction)) (sends : List Outgoing) (b e : ℕ) → IsKept tx s b e
     → s.live ≡ front ++ (one, t) ∷ back → are_of (is_tc_kind one) sends ≡ true → (is_completing u.phase ≡ true → (is_completing t.phase ≡ true) ⊎ (1 ≤ ends_in one sends))
-    → IsKept tx (record { node = s.node; start = s.start; next_seq = s.next_seq; view = s.view; live = front ++ (one, u) ∷ back }) (starts_in tx sends + b) (ends_in tx sends + e)
+    → IsKept tx (record { node = s.node; start = s.start; next_seq = s.next_seq; layout = s.layout; live = front ++ (one, u) ∷ back }) (starts_in tx sends + b) (ends_in tx sends + e)
 kept_turn tx one s t u front back sends b e k is kind told =
     kept_live tx s (front ++ (one, u) ∷ back) b e (starts_in tx sends) (ends_in tx sends) k (no_starts tx one sends kind)
     (omega (arith, keyed)) (due (same_tx one tx) refl) (λ h. omega (arith, h, keyed)) (done (same_tx one tx) refl)
@@ -234,7 +234,7 @@ kept_turn tx one s t u front back sends b e k is kind told =
 -- or is forgotten
 kept_forget : (tx one : TxId) (s : TcState) (t : Transaction) (front back : List (TxId × Transaction)) (sends : List Outgoing) (b e : ℕ) → IsKept tx s b e
     → s.live ≡ front ++ (one, t) ∷ back → are_of (is_tc_kind one) sends ≡ true → (is_completing t.phase ≡ true) ⊎ (1 ≤ ends_in one sends)
-    → IsKept tx (record { node = s.node; start = s.start; next_seq = s.next_seq; view = s.view; live = front ++ back }) (starts_in tx sends + b) (ends_in tx sends + e)
+    → IsKept tx (record { node = s.node; start = s.start; next_seq = s.next_seq; layout = s.layout; live = front ++ back }) (starts_in tx sends + b) (ends_in tx sends + e)
 kept_forget tx one s t front back sends b e k is kind told =
     kept_live tx s (front ++ back) b e (starts_in tx sends) (ends_in tx sends) k (no_starts tx one sends kind)
     (omega (arith, keyed)) (due (same_tx one tx) refl) (left (same_tx one tx) refl)
@@ -273,13 +273,13 @@ kept_move tx s after sends b e (turns one t u front back is now kind told) k =
 kept_move tx s after sends b e (forgets one t front back is now kind told) k =
     subst (λ a. IsKept tx a (starts_in tx sends + b) (ends_in tx sends + e)) (sym now) (kept_forget tx one s t front back sends b e k is kind told)
 kept_move tx s after sends b e (starts name is told) k =
-    subst (λ a. IsKept tx a (starts_in tx sends + b) (ends_in tx sends + e)) (sym (is ∙ ap (λ live. record { node = s.node; start = s.start; next_seq = s.next_seq + 1; view = s.view; live = live })
+    subst (λ a. IsKept tx a (starts_in tx sends + b) (ends_in tx sends + e)) (sym (is ∙ ap (λ live. record { node = s.node; start = s.start; next_seq = s.next_seq + 1; layout = s.layout; live = live })
     (insert_new s.live (next_tx s) fresh (each_map (λ (x : TxId × Transaction). IsOwn s.node s.next_seq x.0) (λ (x : TxId × Transaction). x.0.seq < s.next_seq) s.live (λ x o. o.early) k.own))))
     (subst (λ n. IsKept tx grown n (ends_in tx sends + e)) (sym begins)
     (subst (λ n. IsKept tx grown (one_if (same_tx (next_tx s) tx) + b) n) (sym ends) (kept_start tx s b e k)))
   where
     grown : TcState
-    grown = record { node = s.node; start = s.start; next_seq = s.next_seq + 1; view = s.view; live = s.live ++ (next_tx s, fresh) ∷ [] }
+    grown = record { node = s.node; start = s.start; next_seq = s.next_seq + 1; layout = s.layout; live = s.live ++ (next_tx s, fresh) ∷ [] }
 
     begins : starts_in tx sends + b ≡ one_if (same_tx (next_tx s) tx) + b
     begins = omega (arith, ap (starts_in tx) told)

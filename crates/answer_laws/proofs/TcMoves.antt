@@ -23,13 +23,13 @@ use Rattle.sig_core.specs.declared.signal.client.ClientSignal.TheVariants.{TcBeg
 use Rattle.sig_core.specs.declared.signal.epoch.EpochSignal.TheVariants.{DiVerifyConf}
 use Rattle.sig_core.specs.declared.signal.host.HostSignal.TheVariants.{Continue}
 use Rattle.sig_core.specs.declared.signal.host.Work.TheVariants as work
-use Rattle.sig_core.specs.declared.view.View.{View}
+use Rattle.frag_map.specs.Layout.{Layout}
 use Rattle.sig_core.specs.Place.{client}
 use Rattle.sig_core.specs.Same.{same_tx}
 use Rattle.sig_core.specs.Step.{Step, to_place}
-use Rattle.lqh_block.specs.Lqh.{lqh_row}
+use Rattle.lqh_block.specs.Lqh.{lqh_table}
 use Rattle.node_core.specs.declared.node.Node as node
-use Rattle.node_core.specs.Dih.{dih_row}
+use Rattle.node_core.specs.Dih.{dih_table}
 use Rattle.node_core.specs.Row.{node_row}
 use Rattle.tc_block.specs.declared.phase.Asked.{Asked}
 use Rattle.tc_block.specs.declared.phase.Phase.{Phase}
@@ -43,7 +43,7 @@ use Rattle.tc_block.specs.Operate as operate
 use Rattle.tc_block.specs.Part.{part_effects}
 use Rattle.tc_block.specs.Sends.{entering, front_sends, go_on_if, go_on_row, phase_sends}
 use Rattle.tc_block.specs.State.{TcState, with_live}
-use Rattle.tc_block.specs.Tc.{begin_if, begin_row, begun, is_full, next_tx, pass_if, pass_row, tc_row}
+use Rattle.tc_block.specs.Tc.{begin_if, begin_row, begun, is_full, next_tx, pass_if, pass_row, tc_table}
 use Rattle.tc_block.specs.Turn.{Turn, asking, going}
 use Rattle.commit_laws.proofs.Keys.{same_tx-self}
 use Rattle.answer_laws.proofs.DihSends.{dih_kinds}
@@ -84,27 +84,27 @@ same_tx-is a b e = go (nat_eq a.tc b.tc) (nat_eq a.start b.start) (nat_eq a.seq 
 abbrev IsTold : TxId → Transaction → Turn → Type 0
 IsTold tx t turn = (turn.over || is_completing turn.step.state.phase) ≡ true → (is_completing t.phase ≡ true) ⊎ (1 ≤ ends_in tx turn.step.effects.sends)
 
-go_on_told : (node : ℕ) (view : View) (tx : TxId) (t : Transaction) (at : ℕ) → IsTold tx t (going (go_on_row node view tx t at))
+go_on_told : (node : ℕ) (layout : Layout) (tx : TxId) (t : Transaction) (at : ℕ) → IsTold tx t (going (go_on_row node layout tx t at))
 unfolding go_on_row
-go_on_told node view tx t at e = go (nat_lt at 512) e
+go_on_told node layout tx t at e = go (nat_lt at 512) e
   where
-    go : (b : Bool) → is_completing (go_on_if node view tx t at b).state.phase ≡ true → (is_completing t.phase ≡ true) ⊎ (1 ≤ ends_in tx (go_on_if node view tx t at (nat_lt at 512)).effects.sends)
+    go : (b : Bool) → is_completing (go_on_if node layout tx t at b).state.phase ≡ true → (is_completing t.phase ≡ true) ⊎ (1 ≤ ends_in tx (go_on_if node layout tx t at (nat_lt at 512)).effects.sends)
     go true e = inl e
     go false e = inl e
 
-operate_told : (view : View) (tx : TxId) (t : Transaction) (op : Op) → IsTold tx t (going (operate.operate_row view tx t op))
+operate_told : (layout : Layout) (tx : TxId) (t : Transaction) (op : Op) → IsTold tx t (going (operate.operate_row layout tx t op))
 unfolding operate.operate_row
-operate_told view tx t op e = inl (go (operate.can_operate t op) e)
+operate_told layout tx t op e = inl (go (operate.can_operate t op) e)
   where
-    go : (b : Bool) → is_completing (operate.operate_if view tx t op b).state.phase ≡ true → is_completing t.phase ≡ true
+    go : (b : Bool) → is_completing (operate.operate_if layout tx t op b).state.phase ≡ true → is_completing t.phase ≡ true
     go true e = e
     go false e = e
 
-answer_told : (view : View) (tx : TxId) (t : Transaction) (key : List ℕ) (answer : Answer) → IsTold tx t (going (operate.answer_row view tx t key answer))
+answer_told : (layout : Layout) (tx : TxId) (t : Transaction) (key : List ℕ) (answer : Answer) → IsTold tx t (going (operate.answer_row layout tx t key answer))
 unfolding operate.answer_row
-answer_told view tx t key answer e = inl (go (operate.asked_on t.asked key) t.phase e)
+answer_told layout tx t key answer e = inl (go (operate.asked_on t.asked key) t.phase e)
   where
-    go : (asked : Option Asked) (phase : Phase) → is_completing (operate.answer_by view tx t key answer asked phase).state.phase ≡ true → is_completing t.phase ≡ true
+    go : (asked : Option Asked) (phase : Phase) → is_completing (operate.answer_by layout tx t key answer asked phase).state.phase ≡ true → is_completing t.phase ≡ true
     go (Some asked) Open e = e
     go (Some asked) (Aborting why verifying awaited) e = e
     go (Some asked) Verifying e = e
@@ -128,38 +128,38 @@ decide_told node tx t e = inl (go (operate.is_ready t.phase t.asked) e)
     go true e = absurd (false≢true e)
     go false e = e
 
-all_committed_told : (node : ℕ) (view : View) (tx : TxId) (t : Transaction) (epoch : ℕ) → 1 ≤ ends_in tx (complete.all_committed node view tx t epoch).step.effects.sends
+all_committed_told : (node : ℕ) (layout : Layout) (tx : TxId) (t : Transaction) (epoch : ℕ) → 1 ≤ ends_in tx (complete.all_committed node layout tx t epoch).step.effects.sends
 unfolding complete.all_committed entering part_effects phase_sends front_sends
-all_committed_told node view tx t epoch = go (complete.written_count t.touched == 0)
+all_committed_told node layout tx t epoch = go (complete.written_count t.touched == 0)
   where
-    go : (b : Bool) → 1 ≤ ends_in tx (complete.all_committed_if node view tx t epoch b).step.effects.sends
+    go : (b : Bool) → 1 ≤ ends_in tx (complete.all_committed_if node layout tx t epoch b).step.effects.sends
     go true = omega (arith, ap one_if (same_tx-self tx))
     go false = omega (arith, ap one_if (same_tx-self tx))
 
-commit_told : (node : ℕ) (view : View) (tx : TxId) (t : Transaction) (epoch : ℕ) → IsTold tx t (commit.commit_row node view tx t epoch)
+commit_told : (node : ℕ) (layout : Layout) (tx : TxId) (t : Transaction) (epoch : ℕ) → IsTold tx t (commit.commit_row node layout tx t epoch)
 unfolding commit.commit_row entering
-commit_told node view tx t epoch = by t.phase refl
+commit_told node layout tx t epoch = by t.phase refl
   where
-    which : (b : Bool) → IsTold tx t (commit.commit_if node view tx t epoch b)
-    which true e = inr (all_committed_told node view tx t epoch)
+    which : (b : Bool) → IsTold tx t (commit.commit_if node layout tx t epoch b)
+    which true e = inr (all_committed_told node layout tx t epoch)
     which false e = absurd (false≢true e)
 
-    by : (phase : Phase) → t.phase ≡ phase → IsTold tx t (commit.commit_by node view tx t epoch phase)
+    by : (phase : Phase) → t.phase ≡ phase → IsTold tx t (commit.commit_by node layout tx t epoch phase)
     by Verifying p e = which (length t.touched == 0) e
     by Open p e = inl e
     by (Committing other awaited) p e = inl e
     by (Completing other awaited) p e = inl e
     by (Aborting why verifying awaited) p e = inl e
 
-committed_told : (node : ℕ) (view : View) (tx : TxId) (t : Transaction) → IsTold tx t (commit.committed_row node view tx t)
+committed_told : (node : ℕ) (layout : Layout) (tx : TxId) (t : Transaction) → IsTold tx t (commit.committed_row node layout tx t)
 unfolding commit.committed_row
-committed_told node view tx t = by t.phase
+committed_told node layout tx t = by t.phase
   where
-    which : (epoch awaited : ℕ) (b : Bool) → IsTold tx t (commit.committed_if node view tx t epoch awaited b)
+    which : (epoch awaited : ℕ) (b : Bool) → IsTold tx t (commit.committed_if node layout tx t epoch awaited b)
     which epoch awaited true e = absurd (false≢true e)
-    which epoch awaited false e = inr (all_committed_told node view tx t epoch)
+    which epoch awaited false e = inr (all_committed_told node layout tx t epoch)
 
-    by : (phase : Phase) → IsTold tx t (commit.committed_by node view tx t phase)
+    by : (phase : Phase) → IsTold tx t (commit.committed_by node layout tx t phase)
     by (Committing epoch awaited) e = which epoch awaited (nat_lt 1 awaited) e
     by Open e = inl e
     by Verifying e = inl e
@@ -185,33 +185,33 @@ abort_end_told node tx why true = omega (arith, ap one_if (same_tx-self tx), non
     none false = refl
 abort_end_told node tx why false = omega (arith, ap one_if (same_tx-self tx))
 
-abort_told : (node : ℕ) (view : View) (tx : TxId) (t : Transaction) (why : AbortCause) → IsTold tx t (abort.aborted_for node view tx t why)
+abort_told : (node : ℕ) (layout : Layout) (tx : TxId) (t : Transaction) (why : AbortCause) → IsTold tx t (abort.aborted_for node layout tx t why)
 unfolding abort.aborted_for entering
-abort_told node view tx t why = which (abort.aborts_awaited view t == 0)
+abort_told node layout tx t why = which (abort.aborts_awaited layout t == 0)
   where
-    which : (b : Bool) → IsTold tx t (abort.abort_if node view tx t why b)
+    which : (b : Bool) → IsTold tx t (abort.abort_if node layout tx t why b)
     which true e = inr (abort_end_told node tx why (abort.is_verifying t.phase))
     which false e = absurd (false≢true e)
 
-refuse_told : (node : ℕ) (view : View) (tx : TxId) (t : Transaction) (key : List ℕ) (why : AbortCause) → IsTold tx t (abort.refuse_row node view tx t key why)
+refuse_told : (node : ℕ) (layout : Layout) (tx : TxId) (t : Transaction) (key : List ℕ) (why : AbortCause) → IsTold tx t (abort.refuse_row node layout tx t key why)
 unfolding abort.refuse_row
-refuse_told node view tx t key why = by (operate.asked_on t.asked key) t.phase
+refuse_told node layout tx t key why = by (operate.asked_on t.asked key) t.phase
   where
-    by : (asked : Option Asked) (phase : Phase) → IsTold tx t (abort.refuse_by node view tx t key why asked phase)
-    by (Some asked) Open e = abort_told node view tx (asking t None) why e
+    by : (asked : Option Asked) (phase : Phase) → IsTold tx t (abort.refuse_by node layout tx t key why asked phase)
+    by (Some asked) Open e = abort_told node layout tx (asking t None) why e
     by (Some asked) (Aborting other verifying awaited) e = inl e
     by (Some asked) Verifying e = inl e
     by (Some asked) (Committing epoch awaited) e = inl e
     by (Some asked) (Completing epoch awaited) e = inl e
     by None phase e = inl e
 
-rollback_told : (node : ℕ) (view : View) (tx : TxId) (t : Transaction) → IsTold tx t (abort.rollback_row node view tx t)
+rollback_told : (node : ℕ) (layout : Layout) (tx : TxId) (t : Transaction) → IsTold tx t (abort.rollback_row node layout tx t)
 unfolding abort.rollback_row
-rollback_told node view tx t = by t.phase
+rollback_told node layout tx t = by t.phase
   where
-    by : (phase : Phase) → IsTold tx t (abort.rollback_by node view tx t phase)
-    by Open e = abort_told node view tx t cause.Request e
-    by Verifying e = abort_told node view tx t cause.Request e
+    by : (phase : Phase) → IsTold tx t (abort.rollback_by node layout tx t phase)
+    by Open e = abort_told node layout tx t cause.Request e
+    by Verifying e = abort_told node layout tx t cause.Request e
     by (Committing epoch awaited) e = inl e
     by (Completing epoch awaited) e = inl e
     by (Aborting why verifying awaited) e = inl e
@@ -350,29 +350,29 @@ pass_moves s tx ahead true = stays refl refl
 pass_moves s tx ahead false = stays refl refl
 
 -- every step of a coordinator is such a move
-pub tc_moves : (s : TcState) (body : Body) → Moves s (tc_row s body)
+pub tc_moves : (s : TcState) (body : Body) → Moves s (tc_table s body)
 unfolding begin_row pass_row
-tc_moves s (Host (Continue (work.Transaction tx) at)) = step_moves s tx _ (λ t. go_on_kinds s.node s.view tx t at) (λ t. go_on_told s.node s.view tx t at)
+tc_moves s (Host (Continue (work.Transaction tx) at)) = step_moves s tx _ (λ t. go_on_kinds s.node s.layout tx t at) (λ t. go_on_told s.node s.layout tx t at)
 tc_moves s (Client (TcBeginReq name)) = begin_moves s name (is_full s)
-tc_moves s (Client (TcKeyReq tx op)) = step_moves s tx _ (λ t. operate_kinds s.view tx t op) (λ t. operate_told s.view tx t op)
+tc_moves s (Client (TcKeyReq tx op)) = step_moves s tx _ (λ t. operate_kinds s.layout tx t op) (λ t. operate_told s.layout tx t op)
 tc_moves s (Client (TcCommitReq tx)) = step_moves s tx _ (λ t. decide_kinds s.node tx t) (λ t. decide_told s.node tx t)
-tc_moves s (Client (TcRollbackReq tx)) = turn_moves s tx _ (λ t. rollback_kinds s.node s.view tx t) (λ t. rollback_told s.node s.view tx t)
+tc_moves s (Client (TcRollbackReq tx)) = turn_moves s tx _ (λ t. rollback_kinds s.node s.layout tx t) (λ t. rollback_told s.node s.layout tx t)
 tc_moves s (Client (TcWaitReq tx)) = step_moves s tx _ (λ t. wait_kinds tx t) (λ t. wait_told tx t)
 tc_moves s (Client (LqhWaitConf tx ahead)) = pass_moves s tx ahead (is_some (place_in s tx))
-tc_moves s (Chain (LqhKeyConf tx key answer)) = step_moves s tx _ (λ t. answer_kinds s.view tx t key answer) (λ t. answer_told s.view tx t key answer)
-tc_moves s (Chain (LqhKeyRef tx key why)) = turn_moves s tx _ (λ t. refuse_kinds s.node s.view tx t key why) (λ t. refuse_told s.node s.view tx t key why)
-tc_moves s (Chain (Committed tx key)) = turn_moves s tx _ (λ t. committed_kinds s.node s.view tx t) (λ t. committed_told s.node s.view tx t)
+tc_moves s (Chain (LqhKeyConf tx key answer)) = step_moves s tx _ (λ t. answer_kinds s.layout tx t key answer) (λ t. answer_told s.layout tx t key answer)
+tc_moves s (Chain (LqhKeyRef tx key why)) = turn_moves s tx _ (λ t. refuse_kinds s.node s.layout tx t key why) (λ t. refuse_told s.node s.layout tx t key why)
+tc_moves s (Chain (Committed tx key)) = turn_moves s tx _ (λ t. committed_kinds s.node s.layout tx t) (λ t. committed_told s.node s.layout tx t)
 tc_moves s (Chain (Completed tx key)) = turn_moves s tx _ (λ t. completed_kinds s.node tx t) (λ t. completed_told s.node tx t)
 tc_moves s (Chain (Aborted tx key)) = turn_moves s tx _ (λ t. aborted_kinds s.node tx t) (λ t. aborted_told s.node tx t)
-tc_moves s (Epoch (DiVerifyConf tx epoch)) = turn_moves s tx _ (λ t. commit_kinds s.node s.view tx t epoch) (λ t. commit_told s.node s.view tx t epoch)
+tc_moves s (Epoch (DiVerifyConf tx epoch)) = turn_moves s tx _ (λ t. commit_kinds s.node s.layout tx t epoch) (λ t. commit_told s.node s.layout tx t epoch)
 tc_moves s _ = stays refl refl
 
--- no move changes the view
-pub tc_view : (s after : TcState) (sends : List Outgoing) → TcMove s after sends → after.view ≡ s.view
-tc_view s after sends (stays is kind) = ap (λ (t : TcState). t.view) is
-tc_view s after sends (starts name is told) = ap (λ (t : TcState). t.view) is
-tc_view s after sends (turns one t u front back is now kind told) = ap (λ (t : TcState). t.view) now
-tc_view s after sends (forgets one t front back is now kind told) = ap (λ (t : TcState). t.view) now
+-- no move changes the layout
+pub tc_view : (s after : TcState) (sends : List Outgoing) → TcMove s after sends → after.layout ≡ s.layout
+tc_view s after sends (stays is kind) = ap (λ (t : TcState). t.layout) is
+tc_view s after sends (starts name is told) = ap (λ (t : TcState). t.layout) is
+tc_view s after sends (turns one t u front back is now kind told) = ap (λ (t : TcState). t.layout) now
+tc_view s after sends (forgets one t front back is now kind told) = ap (λ (t : TcState). t.layout) now
 
 still_dih : (body : Body) → is_dih_kind body ≡ true → is_still_kind body ≡ true
 still_dih (Client (TcBeginConf name tx)) e = cc
@@ -390,6 +390,6 @@ still_lqh _ e = refl
 pub node_moves : (n : node.Node) (at : BlockId) (body : Body) → TcMove n.tc (node_row n at body).state.tc (node_row n at body).effects.sends
 unfolding node_row
 node_moves n block.Tc body = tc_moves n.tc body
-node_moves n block.Dih body = stays refl (of_kind is_dih_kind is_still_kind still_dih (dih_row n.dih body).effects.sends (dih_kinds n.dih body))
-node_moves n block.Lqh body = stays refl (of_kind is_lqh_kind is_still_kind still_lqh (lqh_row n.lqh body).effects.sends (lqh_kinds n.lqh body))
+node_moves n block.Dih body = stays refl (of_kind is_dih_kind is_still_kind still_dih (dih_table n.dih body).effects.sends (dih_kinds n.dih body))
+node_moves n block.Lqh body = stays refl (of_kind is_lqh_kind is_still_kind still_lqh (lqh_table n.lqh body).effects.sends (lqh_kinds n.lqh body))
 node_moves n _ body = stays refl refl

@@ -8,7 +8,7 @@ use Rattle.sig_core.specs.declared.op.Answer.{Answer}
 use Rattle.sig_core.specs.declared.op.Op.{Op}
 use Rattle.sig_core.specs.declared.outcome.AbortCause.{AbortCause}
 use Rattle.sig_core.specs.declared.outcome.AbortCause.TheVariants as cause
-use Rattle.sig_core.specs.declared.view.View.{View}
+use Rattle.frag_map.specs.Layout.{Layout}
 use Rattle.sig_core.specs.Chain.{node_at}
 use Rattle.sig_core.specs.Op.{key_of}
 use Rattle.sig_core.specs.Same.{same_key, same_tx}
@@ -17,7 +17,7 @@ use Rattle.tc_block.specs.declared.phase.Phase.{Phase}
 use Rattle.tc_block.specs.declared.phase.Phase.TheVariants.{Open, Verifying, Committing, Completing, Aborting}
 use Rattle.tc_block.specs.declared.transaction.Transaction.{Transaction}
 use Rattle.tc_block.specs.Abort as abort
-use Rattle.tc_block.specs.Chain.{chain_of}
+use Rattle.frag_map.specs.Layout.{chain_of}
 use Rattle.tc_block.specs.Commit as commit
 use Rattle.tc_block.specs.Complete as complete
 use Rattle.tc_block.specs.Operate as operate
@@ -42,10 +42,10 @@ abbrev pub is_right : Option Asked → Phase → Bool
 is_right None phase = true
 is_right (Some asked) phase = may_ask phase
 
--- a view whose members are nodes, of which there are some
-pub record IsGoodView (n : ℕ) (view : View) : Type 0 where
-  pub good : is_good n view.full ≡ true
-  pub first : is_node n (node_at view.full 0) ≡ true
+-- a layout whose members are nodes, of which there are some
+pub record IsGoodView (n : ℕ) (layout : Layout) : Type 0 where
+  pub good : is_good n layout.full ≡ true
+  pub first : is_node n (node_at layout.full 0) ≡ true
 
 right_asking : (asked : Option Asked) (phase : Phase) → may_ask phase ≡ true → is_right asked phase ≡ true
 right_asking None phase e = refl
@@ -75,24 +75,24 @@ module _ (n : ℕ) (tx : TxId) (key : List ℕ) where
   KeepsAsked t turn = TurnAsks t turn 0
 
   module _ (t : Transaction) (right : is_right t.asked t.phase ≡ true) where
-    pub go_on_asks : (node : ℕ) (view : View) (at : ℕ) → KeepsAsked t (going (go_on_row node view tx t at))
+    pub go_on_asks : (node : ℕ) (layout : Layout) (at : ℕ) → KeepsAsked t (going (go_on_row node layout tx t at))
     unfolding go_on_row
-    go_on_asks node view at = go (nat_lt at 512)
+    go_on_asks node layout at = go (nat_lt at 512)
       where
-        go : (b : Bool) → KeepsAsked t (going (go_on_if node view tx t at b))
+        go : (b : Bool) → KeepsAsked t (going (go_on_if node layout tx t at b))
         go true = record { right = right; asks = λ e. inl (e, refl) }
         go false = record { right = right; asks = λ e. inl (e, refl) }
 
-    pub operate_asks : (view : View) (op : Op) → IsGoodView n view → KeepsAsked t (going (operate.operate_row view tx t op))
+    pub operate_asks : (layout : Layout) (op : Op) → IsGoodView n layout → KeepsAsked t (going (operate.operate_row layout tx t op))
     unfolding operate.operate_row chain_of
-    operate_asks view op good = go (operate.can_operate t op) refl
+    operate_asks layout op good = go (operate.can_operate t op) refl
       where
-        go : (b : Bool) → operate.can_operate t op ≡ b → KeepsAsked t (going (operate.operate_if view tx t op b))
+        go : (b : Bool) → operate.can_operate t op ≡ b → KeepsAsked t (going (operate.operate_if layout tx t op b))
         go false e = record { right = right; asks = λ e. inl (e, refl) }
         go true e = record {
           right = (ready_asks t.phase t.asked (left_of (operate.is_ready t.phase t.asked) _ e)).0;
           asks = λ asked. inr (
-              let one = true_and (is_node n (node_at view.full 0)) _ good.first (true_and (same_tx tx tx) _ (same_tx-self tx) (true_and (same_key (key_of op) key) (is_good n view.full) asked good.good)) in
+              let one = true_and (is_node n (node_at layout.full 0)) _ good.first (true_and (same_tx tx tx) _ (same_tx-self tx) (true_and (same_key (key_of op) key) (is_good n layout.full) asked good.good)) in
               omega (arith, ap one_if one)
               );
         }
@@ -116,39 +116,39 @@ module _ (n : ℕ) (tx : TxId) (key : List ℕ) where
         }
         go false e = record { right = right; asks = λ e. inl (e, refl) }
 
-    all_committed_asks : (node : ℕ) (view : View) (epoch : ℕ) → is_right t.asked (Completing 0 0) ≡ true → KeepsAsked t (complete.all_committed node view tx t epoch)
+    all_committed_asks : (node : ℕ) (layout : Layout) (epoch : ℕ) → is_right t.asked (Completing 0 0) ≡ true → KeepsAsked t (complete.all_committed node layout tx t epoch)
     unfolding complete.all_committed entering
-    all_committed_asks node view epoch none = go (complete.written_count t.touched == 0)
+    all_committed_asks node layout epoch none = go (complete.written_count t.touched == 0)
       where
-        go : (b : Bool) → KeepsAsked t (complete.all_committed_if node view tx t epoch b)
+        go : (b : Bool) → KeepsAsked t (complete.all_committed_if node layout tx t epoch b)
         go true = record { right = right; asks = λ e. inl (e, refl) }
         go false = record { right = right_as t.asked (Completing 0 0) (Completing epoch _) refl none; asks = λ e. inl (e, refl) }
 
-    pub commit_asks : (node : ℕ) (view : View) (epoch : ℕ) → KeepsAsked t (commit.commit_row node view tx t epoch)
+    pub commit_asks : (node : ℕ) (layout : Layout) (epoch : ℕ) → KeepsAsked t (commit.commit_row node layout tx t epoch)
     unfolding commit.commit_row entering
-    commit_asks node view epoch = by t.phase refl
+    commit_asks node layout epoch = by t.phase refl
       where
-        which : t.phase ≡ Verifying → (b : Bool) → KeepsAsked t (commit.commit_if node view tx t epoch b)
-        which p true = all_committed_asks node view epoch (right_as t.asked Verifying (Completing 0 0) refl (subst (λ q. is_right t.asked q ≡ true) p right))
+        which : t.phase ≡ Verifying → (b : Bool) → KeepsAsked t (commit.commit_if node layout tx t epoch b)
+        which p true = all_committed_asks node layout epoch (right_as t.asked Verifying (Completing 0 0) refl (subst (λ q. is_right t.asked q ≡ true) p right))
         which p false = record { right = right_as t.asked Verifying (Committing epoch _) refl (subst (λ q. is_right t.asked q ≡ true) p right); asks = λ e. inl (e, refl) }
 
-        by : (phase : Phase) → t.phase ≡ phase → KeepsAsked t (commit.commit_by node view tx t epoch phase)
+        by : (phase : Phase) → t.phase ≡ phase → KeepsAsked t (commit.commit_by node layout tx t epoch phase)
         by Verifying p = which p (length t.touched == 0)
         by Open p = record { right = right; asks = λ e. inl (e, refl) }
         by (Committing other awaited) p = record { right = right; asks = λ e. inl (e, refl) }
         by (Completing other awaited) p = record { right = right; asks = λ e. inl (e, refl) }
         by (Aborting why verifying awaited) p = record { right = right; asks = λ e. inl (e, refl) }
 
-    pub committed_asks : (node : ℕ) (view : View) → KeepsAsked t (commit.committed_row node view tx t)
+    pub committed_asks : (node : ℕ) (layout : Layout) → KeepsAsked t (commit.committed_row node layout tx t)
     unfolding commit.committed_row
-    committed_asks node view = by t.phase refl
+    committed_asks node layout = by t.phase refl
       where
-        which : (epoch awaited : ℕ) → t.phase ≡ Committing epoch awaited → (b : Bool) → KeepsAsked t (commit.committed_if node view tx t epoch awaited b)
+        which : (epoch awaited : ℕ) → t.phase ≡ Committing epoch awaited → (b : Bool) → KeepsAsked t (commit.committed_if node layout tx t epoch awaited b)
         which epoch awaited p true =
             record { right = right_as t.asked (Committing epoch awaited) (Committing epoch _) refl (subst (λ q. is_right t.asked q ≡ true) p right); asks = λ e. inl (e, refl) }
-        which epoch awaited p false = all_committed_asks node view epoch (right_as t.asked (Committing epoch awaited) (Completing 0 0) refl (subst (λ q. is_right t.asked q ≡ true) p right))
+        which epoch awaited p false = all_committed_asks node layout epoch (right_as t.asked (Committing epoch awaited) (Completing 0 0) refl (subst (λ q. is_right t.asked q ≡ true) p right))
 
-        by : (phase : Phase) → t.phase ≡ phase → KeepsAsked t (commit.committed_by node view tx t phase)
+        by : (phase : Phase) → t.phase ≡ phase → KeepsAsked t (commit.committed_by node layout tx t phase)
         by (Committing epoch awaited) p = which epoch awaited p (nat_lt 1 awaited)
         by Open p = record { right = right; asks = λ e. inl (e, refl) }
         by Verifying p = record { right = right; asks = λ e. inl (e, refl) }
@@ -186,17 +186,17 @@ module _ (n : ℕ) (tx : TxId) (key : List ℕ) where
         by (Committing epoch awaited) = record { right = right; asks = λ e. inl (e, refl) }
         by (Completing epoch awaited) = record { right = right; asks = λ e. inl (e, refl) }
 
-    pub rollback_asks : (node : ℕ) (view : View) → KeepsAsked t (abort.rollback_row node view tx t)
+    pub rollback_asks : (node : ℕ) (layout : Layout) → KeepsAsked t (abort.rollback_row node layout tx t)
     unfolding abort.rollback_row abort.aborted_for entering
-    rollback_asks node view = by t.phase
+    rollback_asks node layout = by t.phase
       where
-        which : (b : Bool) → KeepsAsked t (abort.abort_if node view tx t cause.Request b)
+        which : (b : Bool) → KeepsAsked t (abort.abort_if node layout tx t cause.Request b)
         which true = record { right = right; asks = λ e. inl (e, refl) }
         which false = record { right = right_asking t.asked _ refl; asks = λ e. inl (e, refl) }
 
-        by : (phase : Phase) → KeepsAsked t (abort.rollback_by node view tx t phase)
-        by Open = which (abort.aborts_awaited view t == 0)
-        by Verifying = which (abort.aborts_awaited view t == 0)
+        by : (phase : Phase) → KeepsAsked t (abort.rollback_by node layout tx t phase)
+        by Open = which (abort.aborts_awaited layout t == 0)
+        by Verifying = which (abort.aborts_awaited layout t == 0)
         by (Committing epoch awaited) = record { right = right; asks = λ e. inl (e, refl) }
         by (Completing epoch awaited) = record { right = right; asks = λ e. inl (e, refl) }
         by (Aborting why verifying awaited) = record { right = right; asks = λ e. inl (e, refl) }
@@ -237,11 +237,11 @@ module _ (n : ℕ) (tx : TxId) (key : List ℕ) where
         fails true = refl
         fails false = refl
 
-    pub answer_asks : (view : View) (at : List ℕ) (answer : Answer) → TurnAsks t (going (operate.answer_row view tx t at answer)) (one_if (same_tx tx tx && same_key at key))
+    pub answer_asks : (layout : Layout) (at : List ℕ) (answer : Answer) → TurnAsks t (going (operate.answer_row layout tx t at answer)) (one_if (same_tx tx tx && same_key at key))
     unfolding operate.answer_row
-    answer_asks view at answer = go (operate.asked_on t.asked at) t.phase refl refl
+    answer_asks layout at answer = go (operate.asked_on t.asked at) t.phase refl refl
       where
-        go : (o : Option Asked) (phase : Phase) → operate.asked_on t.asked at ≡ o → t.phase ≡ phase → TurnAsks t (going (operate.answer_by view tx t at answer o phase)) (one_if (same_tx tx tx && same_key at key))
+        go : (o : Option Asked) (phase : Phase) → operate.asked_on t.asked at ≡ o → t.phase ≡ phase → TurnAsks t (going (operate.answer_by layout tx t at answer o phase)) (one_if (same_tx tx tx && same_key at key))
         go (Some a) Open on p = record { right = refl; asks = λ e. absurd (false≢true e) }
         go (Some a) (Aborting why verifying awaited) on p = record { right = refl; asks = λ e. absurd (false≢true e) }
         go (Some a) Verifying on p = absurd (not_asked at a Verifying p refl on)
@@ -249,16 +249,16 @@ module _ (n : ℕ) (tx : TxId) (key : List ℕ) where
         go (Some a) (Completing epoch awaited) on p = absurd (not_asked at a (Completing epoch awaited) p refl on)
         go None phase on p = stay_asks at on
 
-    pub refuse_asks : (node : ℕ) (view : View) (at : List ℕ) (why : AbortCause) → TurnAsks t (abort.refuse_row node view tx t at why) (one_if (same_tx tx tx && same_key at key))
+    pub refuse_asks : (node : ℕ) (layout : Layout) (at : List ℕ) (why : AbortCause) → TurnAsks t (abort.refuse_row node layout tx t at why) (one_if (same_tx tx tx && same_key at key))
     unfolding abort.refuse_row abort.aborted_for entering
-    refuse_asks node view at why = go (operate.asked_on t.asked at) t.phase refl refl
+    refuse_asks node layout at why = go (operate.asked_on t.asked at) t.phase refl refl
       where
-        which : (b : Bool) → TurnAsks t (abort.abort_if node view tx (asking t None) why b) (one_if (same_tx tx tx && same_key at key))
+        which : (b : Bool) → TurnAsks t (abort.abort_if node layout tx (asking t None) why b) (one_if (same_tx tx tx && same_key at key))
         which true = record { right = refl; asks = λ e. absurd (false≢true e) }
         which false = record { right = refl; asks = λ e. absurd (false≢true e) }
 
-        go : (o : Option Asked) (phase : Phase) → operate.asked_on t.asked at ≡ o → t.phase ≡ phase → TurnAsks t (abort.refuse_by node view tx t at why o phase) (one_if (same_tx tx tx && same_key at key))
-        go (Some a) Open on p = which (abort.aborts_awaited view (asking t None) == 0)
+        go : (o : Option Asked) (phase : Phase) → operate.asked_on t.asked at ≡ o → t.phase ≡ phase → TurnAsks t (abort.refuse_by node layout tx t at why o phase) (one_if (same_tx tx tx && same_key at key))
+        go (Some a) Open on p = which (abort.aborts_awaited layout (asking t None) == 0)
         go (Some a) (Aborting other verifying awaited) on p = record { right = refl; asks = λ e. absurd (false≢true e) }
         go (Some a) Verifying on p = absurd (not_asked at a Verifying p refl on)
         go (Some a) (Committing epoch awaited) on p = absurd (not_asked at a (Committing epoch awaited) p refl on)

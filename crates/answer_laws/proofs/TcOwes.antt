@@ -13,7 +13,7 @@ use Rattle.sig_core.specs.declared.op.Op.{Op}
 use Rattle.sig_core.specs.declared.outcome.AbortCause.{AbortCause}
 use Rattle.sig_core.specs.declared.outcome.AbortCause.TheVariants as cause
 use Rattle.sig_core.specs.declared.outs.Outgoing.{Outgoing}
-use Rattle.sig_core.specs.declared.view.View.{View}
+use Rattle.frag_map.specs.Layout.{Layout}
 use Rattle.sig_core.specs.Chain.{primary_of}
 use Rattle.sig_core.specs.Op.{key_of}
 use Rattle.sig_core.specs.Same.{same_key}
@@ -23,7 +23,7 @@ use Rattle.tc_block.specs.declared.phase.Phase.TheVariants.{Open, Verifying, Com
 use Rattle.tc_block.specs.declared.touched.Touched.{Touched}
 use Rattle.tc_block.specs.declared.transaction.Transaction.{Transaction}
 use Rattle.tc_block.specs.Abort as abort
-use Rattle.tc_block.specs.Chain.{chain_of}
+use Rattle.frag_map.specs.Layout.{chain_of}
 use Rattle.tc_block.specs.Commit as commit
 use Rattle.tc_block.specs.Complete as complete
 use Rattle.tc_block.specs.Operate as operate
@@ -121,34 +121,34 @@ module _ (n : ℕ) (tx : TxId) (t : Transaction) (known : IsKnown n t) where
   none_owes : (sends : List Outgoing) → TurnOwes n tx t (going (record { state = asking t None; effects = record { sends = sends; marks = [] } })) 0 None
   none_owes sends = record { known = known_none; owes = λ epoch k over is. waits epoch k is refl (omega arith) refl }
 
-  pub go_on_owes : (node : ℕ) (view : View) (at : ℕ) → node ≡ tx.tc → TurnOwes n tx t (going (go_on_row node view tx t at)) 0 (Some at)
+  pub go_on_owes : (node : ℕ) (layout : Layout) (at : ℕ) → node ≡ tx.tc → TurnOwes n tx t (going (go_on_row node layout tx t at)) 0 (Some at)
   unfolding go_on_row
-  go_on_owes node view at home = go (nat_lt at 512) refl
+  go_on_owes node layout at home = go (nat_lt at 512) refl
     where
-      go : (b : Bool) → nat_lt at 512 ≡ b → TurnOwes n tx t (going (go_on_if node view tx t at b)) 0 (Some at)
+      go : (b : Bool) → nat_lt at 512 ≡ b → TurnOwes n tx t (going (go_on_if node layout tx t at b)) 0 (Some at)
       go true e = record {
         known = known;
-        owes = λ epoch k over is. goes_on epoch at refl refl is refl (inr (subst (λ phase. ((at + 8 < length t.touched) × (8 ≤ sends_of (is_commit n tx) (part_effects node tx (phase_sends view tx phase t.touched) at).sends) × (1 ≤ sends_of (is_cont tx (at + 8)) (part_effects node tx (phase_sends view tx phase t.touched) at).sends)) ⊎ (length t.touched ≤ at + sends_of (is_commit n tx) (part_effects node tx (phase_sends view tx phase t.touched) at).sends)) (sym is) (part_law n tx node view epoch k at t.touched home known.chains)));
+        owes = λ epoch k over is. goes_on epoch at refl refl is refl (inr (subst (λ phase. ((at + 8 < length t.touched) × (8 ≤ sends_of (is_commit n tx) (part_effects node tx (phase_sends layout tx phase t.touched) at).sends) × (1 ≤ sends_of (is_cont tx (at + 8)) (part_effects node tx (phase_sends layout tx phase t.touched) at).sends)) ⊎ (length t.touched ≤ at + sends_of (is_commit n tx) (part_effects node tx (phase_sends layout tx phase t.touched) at).sends)) (sym is) (part_law n tx node layout epoch k at t.touched home known.chains)));
       }
       go false e = record { known = known; owes = λ epoch k over is. goes_on epoch at refl refl is refl (inl (far e)) }
         where
           far : nat_lt at 512 ≡ false → 512 ≤ at
           far q = grind (arith, nat_tests, q)
 
-  pub operate_owes : (view : View) (op : Op) → is_chain n view.full ≡ true → TurnOwes n tx t (going (operate.operate_row view tx t op)) 0 None
+  pub operate_owes : (layout : Layout) (op : Op) → is_chain n layout.full ≡ true → TurnOwes n tx t (going (operate.operate_row layout tx t op)) 0 None
   unfolding operate.operate_row chain_of
-  operate_owes view op good = go (operate.can_operate t op) refl
+  operate_owes layout op good = go (operate.can_operate t op) refl
     where
-      go : (b : Bool) → operate.can_operate t op ≡ b → TurnOwes n tx t (going (operate.operate_if view tx t op b)) 0 None
+      go : (b : Bool) → operate.can_operate t op ≡ b → TurnOwes n tx t (going (operate.operate_if layout tx t op b)) 0 None
       go false e = stay_owes []
       go true e =
-          let touched = touch_known n t.touched (key_of op) view.full good (right_of (operate.is_ready t.phase t.asked) (fits t.touched (key_of op)) e) known.few known.chains in
+          let touched = touch_known n t.touched (key_of op) layout.full good (right_of (operate.is_ready t.phase t.asked) (fits t.touched (key_of op)) e) known.few known.chains in
           record {
             known = record { chains = touched.0; few = touched.1; asked = λ a q. subst (λ (x : Asked). is_chain n x.chain ≡ true) (the_one a q) good; some = known.some };
             owes = λ epoch k over is. absurd (ready epoch k is (left_of (operate.is_ready t.phase t.asked) (fits t.touched (key_of op)) e));
           }
         where
-          the_one : (a : Asked) → Some (record { op = op; chain = view.full }) ≡ Some a → record { op = op; chain = view.full } ≡ a
+          the_one : (a : Asked) → Some (record { op = op; chain = layout.full }) ≡ Some a → record { op = op; chain = layout.full } ≡ a
           the_one a q = cc
 
           ready : (epoch k : ℕ) → t.phase ≡ Committing epoch k → operate.is_ready t.phase t.asked ≡ true → ⊥
@@ -173,9 +173,9 @@ module _ (n : ℕ) (tx : TxId) (t : Transaction) (known : IsKnown n t) where
           other : (epoch k : ℕ) → Verifying ≡ Committing epoch k → ⊥
           other epoch k is = cc
 
-  pub answer_owes : (view : View) (at : List ℕ) (a : Answer) → TurnOwes n tx t (going (operate.answer_row view tx t at a)) 0 None
+  pub answer_owes : (layout : Layout) (at : List ℕ) (a : Answer) → TurnOwes n tx t (going (operate.answer_row layout tx t at a)) 0 None
   unfolding operate.answer_row
-  answer_owes view at a = go (operate.asked_on t.asked at) t.phase refl refl
+  answer_owes layout at a = go (operate.asked_on t.asked at) t.phase refl refl
     where
       open_phase : (epoch k : ℕ) → Open ≡ Committing epoch k → ⊥
       open_phase epoch k is = cc
@@ -188,7 +188,7 @@ module _ (n : ℕ) (tx : TxId) (t : Transaction) (known : IsKnown n t) where
           by true q = q
           by false q = cc
 
-      go : (o : Option Asked) (phase : Phase) → operate.asked_on t.asked at ≡ o → t.phase ≡ phase → TurnOwes n tx t (going (operate.answer_by view tx t at a o phase)) 0 None
+      go : (o : Option Asked) (phase : Phase) → operate.asked_on t.asked at ≡ o → t.phase ≡ phase → TurnOwes n tx t (going (operate.answer_by layout tx t at a o phase)) 0 None
       go (Some b) Open on p =
           let touched = after_known n a t.touched b.op b.chain (known.asked b (was t.asked b on)) known.few known.chains in
           record {
@@ -214,23 +214,23 @@ module _ (n : ℕ) (tx : TxId) (t : Transaction) (known : IsKnown n t) where
   completing : (other awaited epoch k : ℕ) → Completing other awaited ≡ Committing epoch k → ⊥
   completing other awaited epoch k is = cc
 
-  all_committed_owes : (node : ℕ) (view : View) (epoch came : ℕ) → TurnOwes n tx t (complete.all_committed node view tx t epoch) came None
+  all_committed_owes : (node : ℕ) (layout : Layout) (epoch came : ℕ) → TurnOwes n tx t (complete.all_committed node layout tx t epoch) came None
   unfolding complete.all_committed entering
-  all_committed_owes node view epoch came = go (complete.written_count t.touched == 0)
+  all_committed_owes node layout epoch came = go (complete.written_count t.touched == 0)
     where
-      go : (b : Bool) → TurnOwes n tx t (complete.all_committed_if node view tx t epoch b) came None
+      go : (b : Bool) → TurnOwes n tx t (complete.all_committed_if node layout tx t epoch b) came None
       go true = leaves_owes _ came known (λ e k over is. true≢false over)
       go false = leaves_owes _ came (known_phase _ (λ e k is. absurd (completing _ _ e k is))) (λ e k over is. completing _ _ e k is)
 
-  pub commit_owes : (node : ℕ) (view : View) (epoch : ℕ) → node ≡ tx.tc → TurnOwes n tx t (commit.commit_row node view tx t epoch) 0 None
+  pub commit_owes : (node : ℕ) (layout : Layout) (epoch : ℕ) → node ≡ tx.tc → TurnOwes n tx t (commit.commit_row node layout tx t epoch) 0 None
   unfolding commit.commit_row entering
-  commit_owes node view epoch home = by t.phase
+  commit_owes node layout epoch home = by t.phase
     where
-      which : (b : Bool) → (length t.touched == 0) ≡ b → TurnOwes n tx t (commit.commit_if node view tx t epoch b) 0 None
-      which true e = all_committed_owes node view epoch 0
+      which : (b : Bool) → (length t.touched == 0) ≡ b → TurnOwes n tx t (commit.commit_if node layout tx t epoch b) 0 None
+      which true e = all_committed_owes node layout epoch 0
       which false e = record {
         known = known_phase (Committing epoch (length t.touched)) (λ f k is. omega (arith, the_k f k is, more));
-        owes = λ f k over is. begins refl refl (the_k f k is) (from_start (length t.touched) _ _ (part_law n tx node view epoch (length t.touched) 0 t.touched home known.chains));
+        owes = λ f k over is. begins refl refl (the_k f k is) (from_start (length t.touched) _ _ (part_law n tx node layout epoch (length t.touched) 0 t.touched home known.chains));
       }
         where
           the_k : (f k : ℕ) → Committing epoch (length t.touched) ≡ Committing f k → k ≡ length t.touched
@@ -240,18 +240,18 @@ module _ (n : ℕ) (tx : TxId) (t : Transaction) (known : IsKnown n t) where
           more : 1 ≤ length t.touched
           more = grind (arith, nat_tests, e)
 
-      by : (phase : Phase) → TurnOwes n tx t (commit.commit_by node view tx t epoch phase) 0 None
+      by : (phase : Phase) → TurnOwes n tx t (commit.commit_by node layout tx t epoch phase) 0 None
       by Verifying = which (length t.touched == 0) refl
       by Open = stay_owes []
       by (Committing other awaited) = stay_owes []
       by (Completing other awaited) = stay_owes []
       by (Aborting why verifying awaited) = stay_owes []
 
-  pub committed_owes : (node : ℕ) (view : View) → TurnOwes n tx t (commit.committed_row node view tx t) 1 None
+  pub committed_owes : (node : ℕ) (layout : Layout) → TurnOwes n tx t (commit.committed_row node layout tx t) 1 None
   unfolding commit.committed_row
-  committed_owes node view = by t.phase refl
+  committed_owes node layout = by t.phase refl
     where
-      which : (epoch awaited : ℕ) → t.phase ≡ Committing epoch awaited → (b : Bool) → nat_lt 1 awaited ≡ b → TurnOwes n tx t (commit.committed_if node view tx t epoch awaited b) 1 None
+      which : (epoch awaited : ℕ) → t.phase ≡ Committing epoch awaited → (b : Bool) → nat_lt 1 awaited ≡ b → TurnOwes n tx t (commit.committed_if node layout tx t epoch awaited b) 1 None
       which epoch awaited p true e = record {
         known = known_phase (Committing epoch (awaited - 1)) (λ f k is. omega (arith, the_k f k is, more));
         owes = λ f k over is. waits epoch awaited p refl (omega (arith, the_k f k is, more)) refl;
@@ -263,9 +263,9 @@ module _ (n : ℕ) (tx : TxId) (t : Transaction) (known : IsKnown n t) where
           the_k : (f k : ℕ) → Committing epoch (awaited - 1) ≡ Committing f k → k ≡ awaited - 1
           the_k f k is =
               let same : awaited - 1 ≡ k = cc in sym same
-      which epoch awaited p false e = all_committed_owes node view epoch 1
+      which epoch awaited p false e = all_committed_owes node layout epoch 1
 
-      by : (phase : Phase) → t.phase ≡ phase → TurnOwes n tx t (commit.committed_by node view tx t phase) 1 None
+      by : (phase : Phase) → t.phase ≡ phase → TurnOwes n tx t (commit.committed_by node layout tx t phase) 1 None
       by (Committing epoch awaited) p = which epoch awaited p (nat_lt 1 awaited) refl
       by Open p = leaves_owes _ 1 known (λ e k over is. other e k (sym p ∙ is))
         where
@@ -308,31 +308,31 @@ module _ (n : ℕ) (tx : TxId) (t : Transaction) (known : IsKnown n t) where
       by (Committing epoch awaited) = stay_owes []
       by (Completing epoch awaited) = stay_owes []
 
-  pub rollback_owes : (node : ℕ) (view : View) → TurnOwes n tx t (abort.rollback_row node view tx t) 0 None
+  pub rollback_owes : (node : ℕ) (layout : Layout) → TurnOwes n tx t (abort.rollback_row node layout tx t) 0 None
   unfolding abort.rollback_row abort.aborted_for entering
-  rollback_owes node view = by t.phase
+  rollback_owes node layout = by t.phase
     where
-      which : (b : Bool) → TurnOwes n tx t (abort.abort_if node view tx t cause.Request b) 0 None
+      which : (b : Bool) → TurnOwes n tx t (abort.abort_if node layout tx t cause.Request b) 0 None
       which true = leaves_owes _ 0 known (λ e k over is. true≢false over)
       which false = leaves_owes _ 0 (known_phase _ (λ e k is. absurd (aborting _ _ _ e k is))) (λ e k over is. aborting _ _ _ e k is)
 
-      by : (phase : Phase) → TurnOwes n tx t (abort.rollback_by node view tx t phase) 0 None
-      by Open = which (abort.aborts_awaited view t == 0)
-      by Verifying = which (abort.aborts_awaited view t == 0)
+      by : (phase : Phase) → TurnOwes n tx t (abort.rollback_by node layout tx t phase) 0 None
+      by Open = which (abort.aborts_awaited layout t == 0)
+      by Verifying = which (abort.aborts_awaited layout t == 0)
       by (Committing epoch awaited) = stay_owes []
       by (Completing epoch awaited) = stay_owes []
       by (Aborting why verifying awaited) = stay_owes []
 
-  pub refuse_owes : (node : ℕ) (view : View) (at : List ℕ) (why : AbortCause) → TurnOwes n tx t (abort.refuse_row node view tx t at why) 0 None
+  pub refuse_owes : (node : ℕ) (layout : Layout) (at : List ℕ) (why : AbortCause) → TurnOwes n tx t (abort.refuse_row node layout tx t at why) 0 None
   unfolding abort.refuse_row abort.aborted_for entering
-  refuse_owes node view at why = by (operate.asked_on t.asked at) t.phase
+  refuse_owes node layout at why = by (operate.asked_on t.asked at) t.phase
     where
-      which : (b : Bool) → TurnOwes n tx t (abort.abort_if node view tx (asking t None) why b) 0 None
+      which : (b : Bool) → TurnOwes n tx t (abort.abort_if node layout tx (asking t None) why b) 0 None
       which true = leaves_owes _ 0 known_none (λ e k over is. true≢false over)
       which false = leaves_owes _ 0 (record { chains = known.chains; few = known.few; asked = known_none.asked; some = λ e k is. absurd (aborting _ _ _ e k is) }) (λ e k over is. aborting _ _ _ e k is)
 
-      by : (o : Option Asked) (phase : Phase) → TurnOwes n tx t (abort.refuse_by node view tx t at why o phase) 0 None
-      by (Some b) Open = which (abort.aborts_awaited view (asking t None) == 0)
+      by : (o : Option Asked) (phase : Phase) → TurnOwes n tx t (abort.refuse_by node layout tx t at why o phase) 0 None
+      by (Some b) Open = which (abort.aborts_awaited layout (asking t None) == 0)
       by (Some b) (Aborting other verifying awaited) = none_owes _
       by (Some b) Verifying = stay_owes []
       by (Some b) (Committing epoch awaited) = stay_owes []

@@ -14,7 +14,7 @@ use Rattle.sig_core.specs.declared.signal.client.ClientSignal.TheVariants.{TcBeg
 use Rattle.sig_core.specs.declared.signal.epoch.EpochSignal.TheVariants.{DiVerifyConf}
 use Rattle.sig_core.specs.declared.signal.host.HostSignal.TheVariants.{Continue}
 use Rattle.sig_core.specs.declared.signal.host.Work.TheVariants as work
-use Rattle.sig_core.specs.declared.view.View.{View}
+use Rattle.frag_map.specs.Layout.{Layout}
 use Rattle.sig_core.specs.Step.{Step}
 use Rattle.tc_block.specs.declared.transaction.Transaction.{Transaction}
 use Rattle.tc_block.specs.Abort as abort
@@ -24,7 +24,7 @@ use Rattle.tc_block.specs.Live.{place_in, step_of, step_place, step_value, turn_
 use Rattle.tc_block.specs.Operate as operate
 use Rattle.tc_block.specs.Sends.{go_on_row}
 use Rattle.tc_block.specs.State.{TcState}
-use Rattle.tc_block.specs.Tc.{pass_if, pass_row, tc_row}
+use Rattle.tc_block.specs.Tc.{pass_if, pass_row, tc_table}
 use Rattle.tc_block.specs.Turn.{Turn}
 use Rattle.commit_laws.proofs.Keys.{same_tx-self}
 use Rattle.commit_laws.proofs.EachTurn.{RowsAre, no_view}
@@ -54,7 +54,7 @@ eqb-self n = grind (arith, nat_tests)
 abbrev pub TurnSends : TxId → Turn → Type 0
 TurnSends tx turn = SendsOnly (is_tc_kind tx) turn.step
 
-module _ (node : ℕ) (view : View) (tx : TxId) (t : Transaction) where
+module _ (node : ℕ) (layout : Layout) (tx : TxId) (t : Transaction) where
   own : (body : Body) → OwnKinds tx (is_tc_kind tx) body
   own body = record {
     chains = record { commits = λ key epoch chain at. refl; completes = λ key chain at. refl; aborts = λ key. refl; goes_on = λ at. refl };
@@ -68,17 +68,17 @@ module _ (node : ℕ) (view : View) (tx : TxId) (t : Transaction) where
   }
 
   -- what it does at a signal
-  pub turn_sends : (body : Body) → RowsAre node view tx t body (TurnSends tx)
-  turn_sends body = own_kinds (is_tc_kind tx) tx body (own body) node view t
+  pub turn_sends : (body : Body) → RowsAre node layout tx t body (TurnSends tx)
+  turn_sends body = own_kinds (is_tc_kind tx) tx body (own body) node layout t
 
-pub go_on_kinds : (node : ℕ) (view : View) (tx : TxId) (t : Transaction) (at : ℕ) → SendsOnly (is_tc_kind tx) (go_on_row node view tx t at)
-go_on_kinds node view tx t at = (turn_sends node view tx t (Host (Continue (work.Transaction tx) at))).goes_on at refl
+pub go_on_kinds : (node : ℕ) (layout : Layout) (tx : TxId) (t : Transaction) (at : ℕ) → SendsOnly (is_tc_kind tx) (go_on_row node layout tx t at)
+go_on_kinds node layout tx t at = (turn_sends node layout tx t (Host (Continue (work.Transaction tx) at))).goes_on at refl
 
-pub operate_kinds : (view : View) (tx : TxId) (t : Transaction) (op : Op) → SendsOnly (is_tc_kind tx) (operate.operate_row view tx t op)
-operate_kinds view tx t op = (turn_sends 0 view tx t (Client (TcKeyReq tx op))).operates op refl
+pub operate_kinds : (layout : Layout) (tx : TxId) (t : Transaction) (op : Op) → SendsOnly (is_tc_kind tx) (operate.operate_row layout tx t op)
+operate_kinds layout tx t op = (turn_sends 0 layout tx t (Client (TcKeyReq tx op))).operates op refl
 
-pub answer_kinds : (view : View) (tx : TxId) (t : Transaction) (key : List ℕ) (answer : Answer) → SendsOnly (is_tc_kind tx) (operate.answer_row view tx t key answer)
-answer_kinds view tx t key answer = (turn_sends 0 view tx t (Chain (LqhKeyConf tx key answer))).answers key answer refl
+pub answer_kinds : (layout : Layout) (tx : TxId) (t : Transaction) (key : List ℕ) (answer : Answer) → SendsOnly (is_tc_kind tx) (operate.answer_row layout tx t key answer)
+answer_kinds layout tx t key answer = (turn_sends 0 layout tx t (Chain (LqhKeyConf tx key answer))).answers key answer refl
 
 pub wait_kinds : (tx : TxId) (t : Transaction) → SendsOnly (is_tc_kind tx) (operate.wait_row tx t)
 wait_kinds tx t = (turn_sends 0 no_view tx t (Client (TcWaitReq tx))).waits refl
@@ -86,20 +86,20 @@ wait_kinds tx t = (turn_sends 0 no_view tx t (Client (TcWaitReq tx))).waits refl
 pub decide_kinds : (node : ℕ) (tx : TxId) (t : Transaction) → SendsOnly (is_tc_kind tx) (commit.decide_row node tx t)
 decide_kinds node tx t = (turn_sends node no_view tx t (Client (TcCommitReq tx))).decides refl
 
-pub commit_kinds : (node : ℕ) (view : View) (tx : TxId) (t : Transaction) (epoch : ℕ) → TurnSends tx (commit.commit_row node view tx t epoch)
-commit_kinds node view tx t epoch = (turn_sends node view tx t (Epoch (DiVerifyConf tx epoch))).commits epoch refl
+pub commit_kinds : (node : ℕ) (layout : Layout) (tx : TxId) (t : Transaction) (epoch : ℕ) → TurnSends tx (commit.commit_row node layout tx t epoch)
+commit_kinds node layout tx t epoch = (turn_sends node layout tx t (Epoch (DiVerifyConf tx epoch))).commits epoch refl
 
-pub committed_kinds : (node : ℕ) (view : View) (tx : TxId) (t : Transaction) → TurnSends tx (commit.committed_row node view tx t)
-committed_kinds node view tx t = (turn_sends node view tx t (Chain (Committed tx []))).committed [] refl
+pub committed_kinds : (node : ℕ) (layout : Layout) (tx : TxId) (t : Transaction) → TurnSends tx (commit.committed_row node layout tx t)
+committed_kinds node layout tx t = (turn_sends node layout tx t (Chain (Committed tx []))).committed [] refl
 
 pub completed_kinds : (node : ℕ) (tx : TxId) (t : Transaction) → TurnSends tx (complete.completed_row node tx t)
 completed_kinds node tx t = (turn_sends node no_view tx t (Chain (Completed tx []))).completed [] refl
 
-pub refuse_kinds : (node : ℕ) (view : View) (tx : TxId) (t : Transaction) (key : List ℕ) (why : AbortCause) → TurnSends tx (abort.refuse_row node view tx t key why)
-refuse_kinds node view tx t key why = (turn_sends node view tx t (Chain (LqhKeyRef tx key why))).refuses key why refl
+pub refuse_kinds : (node : ℕ) (layout : Layout) (tx : TxId) (t : Transaction) (key : List ℕ) (why : AbortCause) → TurnSends tx (abort.refuse_row node layout tx t key why)
+refuse_kinds node layout tx t key why = (turn_sends node layout tx t (Chain (LqhKeyRef tx key why))).refuses key why refl
 
-pub rollback_kinds : (node : ℕ) (view : View) (tx : TxId) (t : Transaction) → TurnSends tx (abort.rollback_row node view tx t)
-rollback_kinds node view tx t = (turn_sends node view tx t (Client (TcRollbackReq tx))).rolls_back refl
+pub rollback_kinds : (node : ℕ) (layout : Layout) (tx : TxId) (t : Transaction) → TurnSends tx (abort.rollback_row node layout tx t)
+rollback_kinds node layout tx t = (turn_sends node layout tx t (Client (TcRollbackReq tx))).rolls_back refl
 
 pub aborted_kinds : (node : ℕ) (tx : TxId) (t : Transaction) → TurnSends tx (abort.aborted_row node tx t)
 aborted_kinds node tx t = (turn_sends node no_view tx t (Chain (Aborted tx []))).aborted [] refl
@@ -139,18 +139,18 @@ turn_kinds s tx row asks = at_place (place_in s tx)
     at_place None = refl
     at_place (Some at) = at_value at (slice_get (values_of s.live) at)
 
-pub tc_kinds : (s : TcState) (body : Body) → is_begin_wish body ≡ false → SendsOnly (is_tc_kind (tx_in body)) (tc_row s body)
-tc_kinds s (Host (Continue (work.Transaction tx) at)) other = step_kinds s tx _ (λ t. go_on_kinds s.node s.view tx t at)
+pub tc_kinds : (s : TcState) (body : Body) → is_begin_wish body ≡ false → SendsOnly (is_tc_kind (tx_in body)) (tc_table s body)
+tc_kinds s (Host (Continue (work.Transaction tx) at)) other = step_kinds s tx _ (λ t. go_on_kinds s.node s.layout tx t at)
 tc_kinds s (Client (TcBeginReq name)) other = cc
-tc_kinds s (Client (TcKeyReq tx op)) other = step_kinds s tx _ (λ t. operate_kinds s.view tx t op)
+tc_kinds s (Client (TcKeyReq tx op)) other = step_kinds s tx _ (λ t. operate_kinds s.layout tx t op)
 tc_kinds s (Client (TcCommitReq tx)) other = step_kinds s tx _ (λ t. decide_kinds s.node tx t)
-tc_kinds s (Client (TcRollbackReq tx)) other = turn_kinds s tx _ (λ t. rollback_kinds s.node s.view tx t)
+tc_kinds s (Client (TcRollbackReq tx)) other = turn_kinds s tx _ (λ t. rollback_kinds s.node s.layout tx t)
 tc_kinds s (Client (TcWaitReq tx)) other = step_kinds s tx _ (λ t. wait_kinds tx t)
 tc_kinds s (Client (LqhWaitConf tx ahead)) other = pass_kinds s tx ahead
-tc_kinds s (Chain (LqhKeyConf tx key answer)) other = step_kinds s tx _ (λ t. answer_kinds s.view tx t key answer)
-tc_kinds s (Chain (LqhKeyRef tx key why)) other = turn_kinds s tx _ (λ t. refuse_kinds s.node s.view tx t key why)
-tc_kinds s (Chain (Committed tx key)) other = turn_kinds s tx _ (λ t. committed_kinds s.node s.view tx t)
+tc_kinds s (Chain (LqhKeyConf tx key answer)) other = step_kinds s tx _ (λ t. answer_kinds s.layout tx t key answer)
+tc_kinds s (Chain (LqhKeyRef tx key why)) other = turn_kinds s tx _ (λ t. refuse_kinds s.node s.layout tx t key why)
+tc_kinds s (Chain (Committed tx key)) other = turn_kinds s tx _ (λ t. committed_kinds s.node s.layout tx t)
 tc_kinds s (Chain (Completed tx key)) other = turn_kinds s tx _ (λ t. completed_kinds s.node tx t)
 tc_kinds s (Chain (Aborted tx key)) other = turn_kinds s tx _ (λ t. aborted_kinds s.node tx t)
-tc_kinds s (Epoch (DiVerifyConf tx epoch)) other = turn_kinds s tx _ (λ t. commit_kinds s.node s.view tx t epoch)
+tc_kinds s (Epoch (DiVerifyConf tx epoch)) other = turn_kinds s tx _ (λ t. commit_kinds s.node s.layout tx t epoch)
 tc_kinds s _ other = refl

@@ -17,18 +17,18 @@ use Rattle.sig_core.specs.declared.signal.client.ClientSignal.TheVariants.{TcBeg
 use Rattle.sig_core.specs.declared.signal.epoch.EpochSignal.TheVariants.{DiVerifyReq, DiVerifyConf, DiVerifyEnd}
 use Rattle.sig_core.specs.declared.signal.host.HostSignal.TheVariants.{Continue}
 use Rattle.sig_core.specs.declared.signal.host.Work.TheVariants as work
-use Rattle.sig_core.specs.declared.view.View.{View}
+use Rattle.frag_map.specs.Layout.{Layout}
 use Rattle.sig_core.specs.Place.{client}
 use Rattle.sig_core.specs.Same.{same_tx}
 use Rattle.sig_core.specs.Step.{Step, sending, stay}
 use Rattle.tc_block.specs.declared.transaction.Transaction.{Transaction}
 use Rattle.tc_block.specs.Abort as abort
-use Rattle.tc_block.specs.Chain.{chain_of}
+use Rattle.frag_map.specs.Layout.{chain_of}
 use Rattle.tc_block.specs.Live.{place_in, step_of, turn_of, turn_place, turn_value, turned_if, without}
 use Rattle.tc_block.specs.Operate.{fresh}
 use Rattle.tc_block.specs.Sends.{abort_of}
 use Rattle.tc_block.specs.State.{TcState, with_live}
-use Rattle.tc_block.specs.Tc.{begin_if, begin_row, begun, is_full, next_tx, pass_if, pass_row, tc_row}
+use Rattle.tc_block.specs.Tc.{begin_if, begin_row, begun, is_full, next_tx, pass_if, pass_row, tc_table}
 use Rattle.tc_block.specs.Turn.{Turn, going}
 use Rattle.commit_laws.proofs.Keys.{same_tx-self}
 use Rattle.answer_laws.proofs.NodeOps.{absent_key}
@@ -131,9 +131,9 @@ end_said : (node : ℕ) (tx : TxId) (why : AbortCause) (b : Bool) → are_of (is
 end_said node tx why true = one_said tx _ (one_said tx true refl)
 end_said node tx why false = one_said tx true refl
 
-abort_said : (node : ℕ) (tx : TxId) (view : View) (w : Transaction) (why : AbortCause) (b : Bool) → are_of (is_said tx) (abort.abort_if node view tx w why b).step.effects.sends ≡ true
-abort_said node tx view w why true = end_said node tx why (abort.is_verifying w.phase)
-abort_said node tx view w why false = entering_of (is_said tx) tx (said_part tx) node view w _
+abort_said : (node : ℕ) (tx : TxId) (layout : Layout) (w : Transaction) (why : AbortCause) (b : Bool) → are_of (is_said tx) (abort.abort_if node layout tx w why b).step.effects.sends ≡ true
+abort_said node tx layout w why true = end_said node tx why (abort.is_verifying w.phase)
+abort_said node tx layout w why false = entering_of (is_said tx) tx (said_part tx) node layout w _
 
 -- all that a transaction sends is said of it
 move_said : (s : TcState) (tx : TxId) (t : Transaction) (body : Body) (turn : Turn) → TurnMove s tx t body turn → are_of (is_said tx) turn.step.effects.sends ≡ true
@@ -144,18 +144,18 @@ move_said s tx t body turn move = go move
 
     go : TurnMove s tx t body turn → are_of (is_said tx) turn.step.effects.sends ≡ true
     go (keeps sends is kind missed) = said turn _ is (of_kind is_wait_kind (is_said tx) (wait_said tx) sends kind)
-    go (goes_on at about low is) = said turn _ is (parts_of (is_said tx) tx (said_part tx) s.node s.view t.phase t.touched at)
+    go (goes_on at about low is) = said turn _ is (parts_of (is_said tx) tx (said_part tx) s.node s.layout t.phase t.touched at)
     go (asks op about p q fit is) = said turn _ is (one_said tx true refl)
     go (answers key answer asked about p q is) = said turn _ is (one_said tx true refl)
-    go (late key asked about p q is) = said turn _ is (of_map (is_said tx) (abort_of tx key) (chain_of s.view key) (λ r. same_tx-self tx))
+    go (late key asked about p q is) = said turn _ is (of_map (is_said tx) (abort_of tx key) (chain_of s.layout key) (λ r. same_tx-self tx))
     go (decides about p q is) = said turn _ is (one_said tx true refl)
-    go (aborts w why gives some is) = said turn _ is (abort_said s.node tx s.view w why false)
-    go (gives_up w why gives is none) = said turn _ is (abort_said s.node tx s.view w why true)
+    go (aborts w why gives some is) = said turn _ is (abort_said s.node tx s.layout w why false)
+    go (gives_up w why gives is none) = said turn _ is (abort_said s.node tx s.layout w why true)
     go (aborted key why v k about p low is) = said turn _ is refl
     go (abort_ends key why v k about p low is) = said turn _ is (end_said s.node tx why v)
-    go (commits epoch about p is) = said turn _ is (entering_of (is_said tx) tx (said_part tx) s.node s.view t _)
+    go (commits epoch about p is) = said turn _ is (entering_of (is_said tx) tx (said_part tx) s.node s.layout t _)
     go (committed epoch k p is) = said turn _ is refl
-    go (completes epoch p is) = said turn _ is (entering_of (is_said tx) tx (said_part tx) s.node s.view t _)
+    go (completes epoch p is) = said turn _ is (entering_of (is_said tx) tx (said_part tx) s.node s.layout t _)
     go (ends epoch p is) = said turn _ is (one_said tx _ (one_said tx true refl))
     go (completed epoch k p is) = said turn _ is refl
     go (all_completed epoch k p is) = said turn _ is (one_said tx true refl)
@@ -205,7 +205,7 @@ taken_step s body row is same =
     subst (TcStep s body) (sym (step_is s (tx_in body) row ∙ ap (turn_of s (tx_in body)) (λ i t. same t i))) (taken_turn s body is)
 
 -- each step of a coordinator is one of these
-pub tc_step : (s : TcState) (body : Body) → TcStep s body (tc_row s body)
+pub tc_step : (s : TcState) (body : Body) → TcStep s body (tc_table s body)
 unfolding begin_row pass_row
 tc_step s (Client (TcBeginReq name)) = go (is_full s) refl
   where
@@ -356,12 +356,12 @@ module _ (tx : TxId) (s : TcState) (body : Body) (once : tally (is_keyed tx) s.l
           kept true = live_none tx (front ++ back) (omega (arith, once, counted, ap one_if same))
           kept false = ap (λ k. of_live tx (front ++ (k, turn.step.state) ∷ back)) one ∙ live_here tx front turn.step.state back none
 
-  pub tx_step : TxStep tx s body (tc_row s body)
-  tx_step = tx_of (tc_row s body) (tc_step s body)
+  pub tx_step : TxStep tx s body (tc_table s body)
+  tx_step = tx_of (tc_table s body) (tc_step s body)
 
 -- numbers rise, and one that is live has one
-pub next_grows : (s : TcState) (body : Body) → s.next_seq ≤ (tc_row s body).state.next_seq
-next_grows s body = go (tc_row s body) (tc_step s body)
+pub next_grows : (s : TcState) (body : Body) → s.next_seq ≤ (tc_table s body).state.next_seq
+next_grows s body = go (tc_table s body) (tc_step s body)
   where
     go : (step : Step TcState) → TcStep s body step → s.next_seq ≤ step.state.next_seq
     go step (rests about is kind) = omega (arith, ap (λ (x : TcState). x.next_seq) is)

@@ -16,7 +16,7 @@ use Rattle.sig_core.specs.declared.signal.client.ClientSignal.TheVariants.{TcKey
 use Rattle.sig_core.specs.declared.signal.epoch.EpochSignal.TheVariants.{DiVerifyReq, DiVerifyConf}
 use Rattle.sig_core.specs.declared.signal.host.HostSignal.TheVariants.{Continue}
 use Rattle.sig_core.specs.declared.signal.host.Work.TheVariants as work
-use Rattle.sig_core.specs.declared.view.View.{View}
+use Rattle.frag_map.specs.Layout.{Layout}
 use Rattle.sig_core.specs.Op.{key_of}
 use Rattle.sig_core.specs.Place.{client, epochs}
 use Rattle.sig_core.specs.Same.{same_key}
@@ -26,7 +26,7 @@ use Rattle.tc_block.specs.declared.phase.Phase.{Phase}
 use Rattle.tc_block.specs.declared.phase.Phase.TheVariants.{Open, Verifying, Committing, Completing, Aborting}
 use Rattle.tc_block.specs.declared.transaction.Transaction.{Transaction}
 use Rattle.tc_block.specs.Abort as abort
-use Rattle.tc_block.specs.Chain.{chain_of}
+use Rattle.frag_map.specs.Layout.{chain_of}
 use Rattle.tc_block.specs.Commit as commit
 use Rattle.tc_block.specs.Complete as complete
 use Rattle.tc_block.specs.Operate as operate
@@ -42,17 +42,17 @@ use Rattle.answer_laws.specs.Answered.{is_aborting, is_committing}
 
 -- what the transaction's row makes of it at a signal about it
 abbrev pub turn_row : TcState → Body → Transaction → Turn
-turn_row s (Host (Continue (work.Transaction tx) at)) t = going (go_on_row s.node s.view tx t at)
-turn_row s (Client (TcKeyReq tx op)) t = going (operate.operate_row s.view tx t op)
+turn_row s (Host (Continue (work.Transaction tx) at)) t = going (go_on_row s.node s.layout tx t at)
+turn_row s (Client (TcKeyReq tx op)) t = going (operate.operate_row s.layout tx t op)
 turn_row s (Client (TcCommitReq tx)) t = going (commit.decide_row s.node tx t)
-turn_row s (Client (TcRollbackReq tx)) t = abort.rollback_row s.node s.view tx t
+turn_row s (Client (TcRollbackReq tx)) t = abort.rollback_row s.node s.layout tx t
 turn_row s (Client (TcWaitReq tx)) t = going (operate.wait_row tx t)
-turn_row s (Chain (LqhKeyConf tx key answer)) t = going (operate.answer_row s.view tx t key answer)
-turn_row s (Chain (LqhKeyRef tx key why)) t = abort.refuse_row s.node s.view tx t key why
-turn_row s (Chain (Committed tx key)) t = commit.committed_row s.node s.view tx t
+turn_row s (Chain (LqhKeyConf tx key answer)) t = going (operate.answer_row s.layout tx t key answer)
+turn_row s (Chain (LqhKeyRef tx key why)) t = abort.refuse_row s.node s.layout tx t key why
+turn_row s (Chain (Committed tx key)) t = commit.committed_row s.node s.layout tx t
 turn_row s (Chain (Completed tx key)) t = complete.completed_row s.node tx t
 turn_row s (Chain (Aborted tx key)) t = abort.aborted_row s.node tx t
-turn_row s (Epoch (DiVerifyConf tx epoch)) t = commit.commit_row s.node s.view tx t epoch
+turn_row s (Epoch (DiVerifyConf tx epoch)) t = commit.commit_row s.node s.layout tx t epoch
 turn_row s _ t = going (stay t)
 
 -- the signal is about a transaction
@@ -113,21 +113,21 @@ pub data IsCommitted (t : Transaction) (body : Body) : Type 0 where
 pub data TurnMove (s : TcState) (tx : TxId) (t : Transaction) (body : Body) (turn : Turn) : Type 0 where
   keeps : (sends : List Outgoing) → turn ≡ going (record { state = t; effects = sends_only sends }) → are_of is_wait_kind sends ≡ true → IsMissed t body → TurnMove s tx t body turn
   goes_on : (at : ℕ) → body ≡ Host (Continue (work.Transaction tx) at) → at < 512
-      → turn ≡ going (record { state = t; effects = part_effects s.node tx (phase_sends s.view tx t.phase t.touched) at }) → TurnMove s tx t body turn
-  asks : (op : Op) → body ≡ Client (TcKeyReq tx op) → t.phase ≡ Open → t.asked ≡ None → fits t.touched (key_of op) ≡ true → turn ≡ going (operate.operating tx t op (chain_of s.view (key_of op))) → TurnMove s tx t body turn
+      → turn ≡ going (record { state = t; effects = part_effects s.node tx (phase_sends s.layout tx t.phase t.touched) at }) → TurnMove s tx t body turn
+  asks : (op : Op) → body ≡ Client (TcKeyReq tx op) → t.phase ≡ Open → t.asked ≡ None → fits t.touched (key_of op) ≡ true → turn ≡ going (operate.operating tx t op (chain_of s.layout (key_of op))) → TurnMove s tx t body turn
   answers : (key : List ℕ) (answer : Answer) (asked : Asked) → body ≡ Chain (LqhKeyConf tx key answer) → t.phase ≡ Open → IsAnswered t key asked
       → turn ≡ going (sending (operate.answered t asked answer) client (Client (TcKeyConf tx answer))) → TurnMove s tx t body turn
-  late : (key : List ℕ) (asked : Asked) → is_row_answer body ≡ true → is_aborting t.phase ≡ true → IsAnswered t key asked → turn ≡ going (operate.late_answer s.view tx t key) → TurnMove s tx t body turn
+  late : (key : List ℕ) (asked : Asked) → is_row_answer body ≡ true → is_aborting t.phase ≡ true → IsAnswered t key asked → turn ≡ going (operate.late_answer s.layout tx t key) → TurnMove s tx t body turn
   decides : body ≡ Client (TcCommitReq tx) → t.phase ≡ Open → t.asked ≡ None → turn ≡ going (sending (at_phase t Verifying) (epochs s.node) (Epoch (DiVerifyReq tx t.ops))) → TurnMove s tx t body turn
-  aborts : (w : Transaction) (why : AbortCause) → GivesUp t body w → 1 ≤ abort.aborts_awaited s.view w → turn ≡ abort.abort_if s.node s.view tx w why false → TurnMove s tx t body turn
-  gives_up : (w : Transaction) (why : AbortCause) → GivesUp t body w → turn ≡ abort.abort_if s.node s.view tx w why true → abort.aborts_awaited s.view w ≡ 0 → TurnMove s tx t body turn
+  aborts : (w : Transaction) (why : AbortCause) → GivesUp t body w → 1 ≤ abort.aborts_awaited s.layout w → turn ≡ abort.abort_if s.node s.layout tx w why false → TurnMove s tx t body turn
+  gives_up : (w : Transaction) (why : AbortCause) → GivesUp t body w → turn ≡ abort.abort_if s.node s.layout tx w why true → abort.aborts_awaited s.layout w ≡ 0 → TurnMove s tx t body turn
   aborted : (key : List ℕ) (why : AbortCause) (v : Bool) (k : ℕ) → body ≡ Chain (Aborted tx key) → t.phase ≡ Aborting why v k → 1 < k
       → turn ≡ going (stay (at_phase t (Aborting why v (k - 1)))) → TurnMove s tx t body turn
   abort_ends : (key : List ℕ) (why : AbortCause) (v : Bool) (k : ℕ) → body ≡ Chain (Aborted tx key) → t.phase ≡ Aborting why v k → k ≤ 1
       → turn ≡ ending t (sends_only (abort.abort_end s.node tx why v)) → TurnMove s tx t body turn
-  commits : (epoch : ℕ) → body ≡ Epoch (DiVerifyConf tx epoch) → t.phase ≡ Verifying → turn ≡ going (entering s.node s.view tx t (Committing epoch (length t.touched))) → TurnMove s tx t body turn
+  commits : (epoch : ℕ) → body ≡ Epoch (DiVerifyConf tx epoch) → t.phase ≡ Verifying → turn ≡ going (entering s.node s.layout tx t (Committing epoch (length t.touched))) → TurnMove s tx t body turn
   committed : (epoch k : ℕ) → t.phase ≡ Committing epoch k → turn ≡ going (stay (at_phase t (Committing epoch (k - 1)))) → TurnMove s tx t body turn
-  completes : (epoch : ℕ) → IsCommitted t body → turn ≡ going (entering s.node s.view tx t (Completing epoch (complete.written_count t.touched))) → TurnMove s tx t body turn
+  completes : (epoch : ℕ) → IsCommitted t body → turn ≡ going (entering s.node s.layout tx t (Completing epoch (complete.written_count t.touched))) → TurnMove s tx t body turn
   ends : (epoch : ℕ) → IsCommitted t body → turn ≡ ending t (sends_only (reported tx epoch ∷ verify_end s.node tx ∷ [])) → TurnMove s tx t body turn
   completed : (epoch k : ℕ) → t.phase ≡ Completing epoch k → turn ≡ going (stay (at_phase t (Completing epoch (k - 1)))) → TurnMove s tx t body turn
   all_completed : (epoch k : ℕ) → t.phase ≡ Completing epoch k → turn ≡ ending t (sends_only (verify_end s.node tx ∷ [])) → TurnMove s tx t body turn
@@ -137,9 +137,9 @@ pub over_not : {A : Type 0} (turn other : Turn) → turn ≡ other → other.ove
 over_not turn other is o e = absurd (false≢true (sym e ∙ (ap (λ (x : Turn). x.over) is ∙ o)))
 
 -- a transaction that comes to a phase is in it
-pub entered_phase : (node : ℕ) (view : View) (tx : TxId) (w : Transaction) (phase : Phase) → (entering node view tx w phase).state.phase ≡ phase
+pub entered_phase : (node : ℕ) (layout : Layout) (tx : TxId) (w : Transaction) (phase : Phase) → (entering node layout tx w phase).state.phase ≡ phase
 unfolding entering
-entered_phase node view tx w phase = refl
+entered_phase node layout tx w phase = refl
 
 asked_is : (o : Option Asked) (key : List ℕ) (b : Asked) → operate.asked_on o key ≡ Some b → (o ≡ Some b) × (same_key (key_of b.op) key ≡ true)
 asked_is None key b e = absurd cc
@@ -152,11 +152,11 @@ asked_is (Some c) key b e = by (same_key (key_of c.op) key) refl e
     by false p q = absurd cc
 
 module _ (s : TcState) (tx : TxId) (t : Transaction) where
-  go_on_move : (at : ℕ) → TurnMove s tx t (Host (Continue (work.Transaction tx) at)) (going (go_on_row s.node s.view tx t at))
+  go_on_move : (at : ℕ) → TurnMove s tx t (Host (Continue (work.Transaction tx) at)) (going (go_on_row s.node s.layout tx t at))
   unfolding go_on_row
   go_on_move at = go (nat_lt at 512) refl
     where
-      go : (b : Bool) → nat_lt at 512 ≡ b → TurnMove s tx t (Host (Continue (work.Transaction tx) at)) (going (go_on_if s.node s.view tx t at b))
+      go : (b : Bool) → nat_lt at 512 ≡ b → TurnMove s tx t (Host (Continue (work.Transaction tx) at)) (going (go_on_if s.node s.layout tx t at b))
       go true e = goes_on at refl (grind (arith, nat_tests, e)) refl
       go false e = keeps [] refl refl (grind (arith, nat_tests, e))
 
@@ -176,11 +176,11 @@ module _ (s : TcState) (tx : TxId) (t : Transaction) where
   last_is true b e = e
   last_is false b e = absurd cc
 
-  operate_move : (op : Op) → TurnMove s tx t (Client (TcKeyReq tx op)) (going (operate.operate_row s.view tx t op))
+  operate_move : (op : Op) → TurnMove s tx t (Client (TcKeyReq tx op)) (going (operate.operate_row s.layout tx t op))
   unfolding operate.operate_row
   operate_move op = go (operate.can_operate t op) refl
     where
-      go : (b : Bool) → operate.can_operate t op ≡ b → TurnMove s tx t (Client (TcKeyReq tx op)) (going (operate.operate_if s.view tx t op b))
+      go : (b : Bool) → operate.can_operate t op ≡ b → TurnMove s tx t (Client (TcKeyReq tx op)) (going (operate.operate_if s.layout tx t op b))
       go true e = let r = ready_is t.phase t.asked (first_is (operate.is_ready t.phase t.asked) _ e) in asks op refl r.0 r.1 (last_is (operate.is_ready t.phase t.asked) _ e) refl
       go false e = keeps [] refl refl e
 
@@ -192,19 +192,19 @@ module _ (s : TcState) (tx : TxId) (t : Transaction) where
       go true e = let r = ready_is t.phase t.asked e in decides refl r.0 r.1 refl
       go false e = keeps [] refl refl e
 
-  abort_move : (w : Transaction) (why : AbortCause) (body : Body) → GivesUp t body w → TurnMove s tx t body (abort.aborted_for s.node s.view tx w why)
+  abort_move : (w : Transaction) (why : AbortCause) (body : Body) → GivesUp t body w → TurnMove s tx t body (abort.aborted_for s.node s.layout tx w why)
   unfolding abort.aborted_for
-  abort_move w why body gives = go (abort.aborts_awaited s.view w == 0) refl
+  abort_move w why body gives = go (abort.aborts_awaited s.layout w == 0) refl
     where
-      go : (b : Bool) → (abort.aborts_awaited s.view w == 0) ≡ b → TurnMove s tx t body (abort.abort_if s.node s.view tx w why b)
+      go : (b : Bool) → (abort.aborts_awaited s.layout w == 0) ≡ b → TurnMove s tx t body (abort.abort_if s.node s.layout tx w why b)
       go true e = gives_up w why gives refl (grind (arith, nat_tests, e))
       go false e = aborts w why gives (grind (arith, nat_tests, e)) refl
 
-  rollback_move : TurnMove s tx t (Client (TcRollbackReq tx)) (abort.rollback_row s.node s.view tx t)
+  rollback_move : TurnMove s tx t (Client (TcRollbackReq tx)) (abort.rollback_row s.node s.layout tx t)
   unfolding abort.rollback_row
   rollback_move = by t.phase refl
     where
-      by : (phase : Phase) → t.phase ≡ phase → TurnMove s tx t (Client (TcRollbackReq tx)) (abort.rollback_by s.node s.view tx t phase)
+      by : (phase : Phase) → t.phase ≡ phase → TurnMove s tx t (Client (TcRollbackReq tx)) (abort.rollback_by s.node s.layout tx t phase)
       by Open p = abort_move t cause.Request _ (asked_to (inl p) tx refl refl)
       by Verifying p = abort_move t cause.Request _ (asked_to (inr p) tx refl refl)
       by (Committing epoch awaited) p = keeps [] refl refl tt
@@ -219,11 +219,11 @@ module _ (s : TcState) (tx : TxId) (t : Transaction) where
       go None = keeps [] refl refl tt
       go (Some asked) = keeps (waits_of tx (key_of asked.op) asked.chain) refl (of_map is_wait_kind _ asked.chain (λ m. refl)) tt
 
-  answer_move : (key : List ℕ) (answer : Answer) → TurnMove s tx t (Chain (LqhKeyConf tx key answer)) (going (operate.answer_row s.view tx t key answer))
+  answer_move : (key : List ℕ) (answer : Answer) → TurnMove s tx t (Chain (LqhKeyConf tx key answer)) (going (operate.answer_row s.layout tx t key answer))
   unfolding operate.answer_row
   answer_move key answer = by (operate.asked_on t.asked key) t.phase refl refl
     where
-      by : (o : Option Asked) (phase : Phase) → operate.asked_on t.asked key ≡ o → t.phase ≡ phase → TurnMove s tx t (Chain (LqhKeyConf tx key answer)) (going (operate.answer_by s.view tx t key answer o phase))
+      by : (o : Option Asked) (phase : Phase) → operate.asked_on t.asked key ≡ o → t.phase ≡ phase → TurnMove s tx t (Chain (LqhKeyConf tx key answer)) (going (operate.answer_by s.layout tx t key answer o phase))
       by (Some b) Open on p = let r = asked_is t.asked key b on in answers key answer b refl p (record { is = r.0; on = r.1 }) refl
       by (Some b) (Aborting why verifying awaited) on p = let r = asked_is t.asked key b on in late key b refl (ap is_aborting p) (record { is = r.0; on = r.1 }) refl
       by (Some b) Verifying on p = keeps [] refl refl (inr (ap may_ask p))
@@ -231,11 +231,11 @@ module _ (s : TcState) (tx : TxId) (t : Transaction) where
       by (Some b) (Completing epoch awaited) on p = keeps [] refl refl (inr (ap may_ask p))
       by None phase on p = keeps [] refl refl (inl on)
 
-  refuse_move : (key : List ℕ) (why : AbortCause) → TurnMove s tx t (Chain (LqhKeyRef tx key why)) (abort.refuse_row s.node s.view tx t key why)
+  refuse_move : (key : List ℕ) (why : AbortCause) → TurnMove s tx t (Chain (LqhKeyRef tx key why)) (abort.refuse_row s.node s.layout tx t key why)
   unfolding abort.refuse_row
   refuse_move key why = by (operate.asked_on t.asked key) t.phase refl refl
     where
-      by : (o : Option Asked) (phase : Phase) → operate.asked_on t.asked key ≡ o → t.phase ≡ phase → TurnMove s tx t (Chain (LqhKeyRef tx key why)) (abort.refuse_by s.node s.view tx t key why o phase)
+      by : (o : Option Asked) (phase : Phase) → operate.asked_on t.asked key ≡ o → t.phase ≡ phase → TurnMove s tx t (Chain (LqhKeyRef tx key why)) (abort.refuse_by s.node s.layout tx t key why o phase)
       by (Some b) Open on p = let r = asked_is t.asked key b on in abort_move (asking t None) why _ (refused tx key why b p refl (record { is = r.0; on = r.1 }) refl)
       by (Some b) (Aborting other verifying awaited) on p = let r = asked_is t.asked key b on in late key b refl (ap is_aborting p) (record { is = r.0; on = r.1 }) refl
       by (Some b) Verifying on p = keeps [] refl refl (inr (ap may_ask p))
@@ -243,38 +243,38 @@ module _ (s : TcState) (tx : TxId) (t : Transaction) where
       by (Some b) (Completing epoch awaited) on p = keeps [] refl refl (inr (ap may_ask p))
       by None phase on p = keeps [] refl refl (inl on)
 
-  all_committed_move : (epoch : ℕ) (body : Body) → IsCommitted t body → TurnMove s tx t body (complete.all_committed s.node s.view tx t epoch)
+  all_committed_move : (epoch : ℕ) (body : Body) → IsCommitted t body → TurnMove s tx t body (complete.all_committed s.node s.layout tx t epoch)
   unfolding complete.all_committed
   all_committed_move epoch body is = go (complete.written_count t.touched == 0)
     where
-      go : (b : Bool) → TurnMove s tx t body (complete.all_committed_if s.node s.view tx t epoch b)
+      go : (b : Bool) → TurnMove s tx t body (complete.all_committed_if s.node s.layout tx t epoch b)
       go true = ends epoch is refl
       go false = completes epoch is refl
 
-  commit_move : (epoch : ℕ) → TurnMove s tx t (Epoch (DiVerifyConf tx epoch)) (commit.commit_row s.node s.view tx t epoch)
+  commit_move : (epoch : ℕ) → TurnMove s tx t (Epoch (DiVerifyConf tx epoch)) (commit.commit_row s.node s.layout tx t epoch)
   unfolding commit.commit_row
   commit_move epoch = by t.phase refl
     where
-      which : t.phase ≡ Verifying → (b : Bool) → TurnMove s tx t (Epoch (DiVerifyConf tx epoch)) (commit.commit_if s.node s.view tx t epoch b)
+      which : t.phase ≡ Verifying → (b : Bool) → TurnMove s tx t (Epoch (DiVerifyConf tx epoch)) (commit.commit_if s.node s.layout tx t epoch b)
       which p true = all_committed_move epoch _ (at_once tx epoch p refl)
       which p false = commits epoch refl p refl
 
-      by : (phase : Phase) → t.phase ≡ phase → TurnMove s tx t (Epoch (DiVerifyConf tx epoch)) (commit.commit_by s.node s.view tx t epoch phase)
+      by : (phase : Phase) → t.phase ≡ phase → TurnMove s tx t (Epoch (DiVerifyConf tx epoch)) (commit.commit_by s.node s.layout tx t epoch phase)
       by Verifying p = which p (length t.touched == 0)
       by Open p = keeps [] refl refl (ap abort.is_verifying p)
       by (Committing other awaited) p = keeps [] refl refl (ap abort.is_verifying p)
       by (Completing other awaited) p = keeps [] refl refl (ap abort.is_verifying p)
       by (Aborting why verifying awaited) p = keeps [] refl refl (ap abort.is_verifying p)
 
-  committed_move : (key : List ℕ) → TurnMove s tx t (Chain (Committed tx key)) (commit.committed_row s.node s.view tx t)
+  committed_move : (key : List ℕ) → TurnMove s tx t (Chain (Committed tx key)) (commit.committed_row s.node s.layout tx t)
   unfolding commit.committed_row
   committed_move key = by t.phase refl
     where
-      which : (epoch k : ℕ) → t.phase ≡ Committing epoch k → (b : Bool) → TurnMove s tx t (Chain (Committed tx key)) (commit.committed_if s.node s.view tx t epoch k b)
+      which : (epoch k : ℕ) → t.phase ≡ Committing epoch k → (b : Bool) → TurnMove s tx t (Chain (Committed tx key)) (commit.committed_if s.node s.layout tx t epoch k b)
       which epoch k p true = committed epoch k p refl
       which epoch k p false = all_committed_move epoch _ (at_last tx key (ap is_committing p) refl)
 
-      by : (phase : Phase) → t.phase ≡ phase → TurnMove s tx t (Chain (Committed tx key)) (commit.committed_by s.node s.view tx t phase)
+      by : (phase : Phase) → t.phase ≡ phase → TurnMove s tx t (Chain (Committed tx key)) (commit.committed_by s.node s.layout tx t phase)
       by (Committing epoch k) p = which epoch k p (nat_lt 1 k)
       by Open p = keeps [] refl refl tt
       by Verifying p = keeps [] refl refl tt

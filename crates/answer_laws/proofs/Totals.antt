@@ -4,7 +4,7 @@ use Rattle.std.specs.Prelude.{◌==◌, ◌&&◌, not}
 use Rattle.std.proofs.lemmas.Bool.{cases_eq, eqb-true}
 use Rattle.std.proofs.lemmas.Bool.Decides.{nat_tests}
 use Rattle.run_theory.specs.Links.{is_from, sent, taken}
-use Rattle.sig_core.specs.declared.log.LogStep.{LogStep}
+use Rattle.world_core.specs.Steps.{HostStep}
 use Rattle.sig_core.specs.declared.outs.Outgoing.{Outgoing}
 use Rattle.sig_core.specs.declared.place.Place.{Place}
 use Rattle.sig_core.specs.declared.signal.Body.{Body}
@@ -135,18 +135,18 @@ spread n test low (x ∷ xs) =
 
 module _ (start : Start) (n : ℕ) (test : Place → Body → Bool) where
   -- all that the hosts below n have sent to each other, and taken from each other
-  abbrev pub sent_all : (ℕ → List LogStep) → ℕ
+  abbrev pub sent_all : (ℕ → List HostStep) → ℕ
   sent_all logs = total n (λ i. total n (λ j. signals test (sent (machine start) i j (logs i))))
 
-  abbrev pub taken_all : (ℕ → List LogStep) → ℕ
+  abbrev pub taken_all : (ℕ → List HostStep) → ℕ
   taken_all logs = total n (λ i. total n (λ j. signals test (taken (machine start) i (logs j))))
 
   -- host h makes a step
-  pub record Grown (logs now : ℕ → List LogStep) (h : ℕ) (e : LogStep) : Type 0 where
+  pub record Grown (logs now : ℕ → List HostStep) (h : ℕ) (e : HostStep) : Type 0 where
     pub own : now h ≡ e ∷ logs h
     pub others : (k : ℕ) → k ≢ h → now k ≡ logs k
 
-  pub sent_more : ((to : Place) (body : Body) → test to body ≡ true → to.node < n) → (logs now : ℕ → List LogStep) (h : ℕ) (e : LogStep) → h < n → Grown logs now h e
+  pub sent_more : ((to : Place) (body : Body) → test to body ≡ true → to.node < n) → (logs now : ℕ → List HostStep) (h : ℕ) (e : HostStep) → h < n → Grown logs now h e
       → sent_all now ≡ sent_all logs + sends_of test (step_after start h (logs h) e).effects.sends
   sent_more low logs now h e under grown =
       omega (arith, total_one n old new h under (λ k differs. ap (λ log. total n (λ j. signals test (sent (machine start) k j log))) (grown.others k differs)), here)
@@ -166,7 +166,7 @@ module _ (start : Start) (n : ℕ) (test : Place → Body → Bool) where
           ∙ ap (λ m. m + old h) (spread n test low (step_after start h (logs h) e).effects.sends)
 
   -- no more was sent than before and with this step
-  pub sent_few : (logs now : ℕ → List LogStep) (h : ℕ) (e : LogStep) → h < n → Grown logs now h e → sent_all now ≤ sent_all logs + sends_of test (step_after start h (logs h) e).effects.sends
+  pub sent_few : (logs now : ℕ → List HostStep) (h : ℕ) (e : HostStep) → h < n → Grown logs now h e → sent_all now ≤ sent_all logs + sends_of test (step_after start h (logs h) e).effects.sends
   sent_few logs now h e under grown =
       omega (arith, total_one n old new h under (λ k differs. ap (λ log. total n (λ j. signals test (sent (machine start) k j log))) (grown.others k differs)), here, spread_few n test (step_after start h (logs h) e).effects.sends)
     where
@@ -184,7 +184,7 @@ module _ (start : Start) (n : ℕ) (test : Place → Body → Bool) where
           ∙ total_add n (λ j. sends_of (to_node j test) (step_after start h (logs h) e).effects.sends) (λ j. signals test (sent (machine start) h j (logs h)))
 
   -- nor less than before
-  pub sent_least : (logs now : ℕ → List LogStep) (h : ℕ) (e : LogStep) → h < n → Grown logs now h e → sent_all logs ≤ sent_all now
+  pub sent_least : (logs now : ℕ → List HostStep) (h : ℕ) (e : HostStep) → h < n → Grown logs now h e → sent_all logs ≤ sent_all now
   sent_least logs now h e under grown =
       omega (
         arith,
@@ -195,16 +195,16 @@ module _ (start : Start) (n : ℕ) (test : Place → Body → Bool) where
       )
 
   -- what was taken before, and what this step took
-  pub taken_exact : (logs now : ℕ → List LogStep) (h : ℕ) (e : LogStep) → h < n → Grown logs now h e
-      → taken_all now ≡ taken_all logs + total n (λ i. one_if (is_from (machine start) i e && test e.taken.to e.taken.body))
+  pub taken_exact : (logs now : ℕ → List HostStep) (h : ℕ) (e : HostStep) → h < n → Grown logs now h e
+      → taken_all now ≡ taken_all logs + total n (λ i. one_if (is_from (machine start) i e && test e.step.taken))
   taken_exact logs now h e under grown =
       omega (
         arith,
-        total_same n (λ i. total n (λ j. signals test (taken (machine start) i (now j)))) (λ i. total n (λ j. signals test (taken (machine start) i (logs j))) + one_if (is_from (machine start) i e && test e.taken.to e.taken.body)) (λ i low. row i),
-        total_add n (λ i. total n (λ j. signals test (taken (machine start) i (logs j)))) (λ i. one_if (is_from (machine start) i e && test e.taken.to e.taken.body)),
+        total_same n (λ i. total n (λ j. signals test (taken (machine start) i (now j)))) (λ i. total n (λ j. signals test (taken (machine start) i (logs j))) + one_if (is_from (machine start) i e && test e.step.taken)) (λ i low. row i),
+        total_add n (λ i. total n (λ j. signals test (taken (machine start) i (logs j)))) (λ i. one_if (is_from (machine start) i e && test e.step.taken)),
       )
     where
-      row : (i : ℕ) → total n (λ j. signals test (taken (machine start) i (now j))) ≡ total n (λ j. signals test (taken (machine start) i (logs j))) + one_if (is_from (machine start) i e && test e.taken.to e.taken.body)
+      row : (i : ℕ) → total n (λ j. signals test (taken (machine start) i (now j))) ≡ total n (λ j. signals test (taken (machine start) i (logs j))) + one_if (is_from (machine start) i e && test e.step.taken)
       row i =
           omega (
             arith,
@@ -214,16 +214,16 @@ module _ (start : Start) (n : ℕ) (test : Place → Body → Bool) where
             taken_signals start test i e (logs h),
           )
 
-  pub taken_more : (logs now : ℕ → List LogStep) (h : ℕ) (e : LogStep) → h < n → Grown logs now h e → taken_all now ≤ taken_all logs + one_if (test e.taken.to e.taken.body)
+  pub taken_more : (logs now : ℕ → List HostStep) (h : ℕ) (e : HostStep) → h < n → Grown logs now h e → taken_all now ≤ taken_all logs + one_if (test e.step.taken)
   taken_more logs now h e under grown = omega (arith, taken_exact logs now h e under grown, few)
     where
-      few : total n (λ i. one_if (is_from (machine start) i e && test e.taken.to e.taken.body)) ≤ one_if (test e.taken.to e.taken.body)
+      few : total n (λ i. one_if (is_from (machine start) i e && test e.step.taken)) ≤ one_if (test e.step.taken)
       few = go (not ((machine start).asked e)) refl
         where
-          go : (b : Bool) → not ((machine start).asked e) ≡ b → total n (λ i. one_if ((not ((machine start).asked e) && (e.taken.from.0 == i)) && test e.taken.to e.taken.body)) ≤ one_if (test e.taken.to e.taken.body)
-          go true is = subst (λ b. total n (λ i. one_if ((b && (e.taken.from.0 == i)) && test e.taken.to e.taken.body)) ≤ one_if (test e.taken.to e.taken.body)) (sym is) (unit_few n e.taken.from.0 (test e.taken.to e.taken.body))
-          go false is = subst (λ b. total n (λ i. one_if ((b && (e.taken.from.0 == i)) && test e.taken.to e.taken.body)) ≤ one_if (test e.taken.to e.taken.body)) (sym is) (zeros n)
+          go : (b : Bool) → not ((machine start).asked e) ≡ b → total n (λ i. one_if ((not ((machine start).asked e) && (e.step.taken.from.0 == i)) && test e.step.taken)) ≤ one_if (test e.step.taken)
+          go true is = subst (λ b. total n (λ i. one_if ((b && (e.step.taken.from.0 == i)) && test e.step.taken)) ≤ one_if (test e.step.taken)) (sym is) (unit_few n e.step.taken.from.0 (test e.step.taken))
+          go false is = subst (λ b. total n (λ i. one_if ((b && (e.step.taken.from.0 == i)) && test e.step.taken)) ≤ one_if (test e.step.taken)) (sym is) (zeros n)
             where
-              zeros : (m : ℕ) → total m (λ i. 0) ≤ one_if (test e.taken.to e.taken.body)
+              zeros : (m : ℕ) → total m (λ i. 0) ≤ one_if (test e.step.taken)
               zeros zero = omega arith
               zeros (suc m) = omega (arith, zeros m)

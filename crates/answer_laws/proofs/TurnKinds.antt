@@ -12,10 +12,10 @@ use Rattle.sig_core.specs.declared.signal.chain.ChainSignal.TheVariants.{LqhKeyR
 use Rattle.sig_core.specs.declared.signal.chain.RowWork.TheVariants.{Operate}
 use Rattle.sig_core.specs.declared.signal.client.ClientSignal.TheVariants.{LqhWaitReq, TcCommitConf, TcKeyConf, TcRollbackRep}
 use Rattle.sig_core.specs.declared.signal.epoch.EpochSignal.TheVariants.{DiVerifyEnd, DiVerifyReq}
-use Rattle.sig_core.specs.declared.view.View.{View}
+use Rattle.frag_map.specs.Layout.{Layout}
 use Rattle.sig_core.specs.Op.{key_of}
 use Rattle.tc_block.specs.Abort as abort
-use Rattle.tc_block.specs.Chain.{chain_of}
+use Rattle.frag_map.specs.Layout.{chain_of}
 use Rattle.tc_block.specs.declared.phase.Phase.{Phase}
 use Rattle.tc_block.specs.declared.phase.Phase.TheVariants.{Open, Verifying, Committing, Completing, Aborting}
 use Rattle.tc_block.specs.declared.transaction.Transaction.{Transaction}
@@ -40,7 +40,7 @@ pub record OwnKinds (tx : TxId) (kind : Body → Bool) (body : Body) : Type 0 wh
 abbrev pub TurnOnly : (Body → Bool) → Turn → Type 0
 TurnOnly kind turn = SendsOnly kind turn.step
 
-module _ (kind : Body → Bool) (tx : TxId) (body : Body) (own : OwnKinds tx kind body) (node : ℕ) (view : View) where
+module _ (kind : Body → Bool) (tx : TxId) (body : Body) (own : OwnKinds tx kind body) (node : ℕ) (layout : Layout) where
   fronts : (phase : Phase) → are_of kind (front_sends tx phase) ≡ true
   unfolding front_sends
   fronts (Completing epoch awaited) = one_kind (kind (Client (TcCommitConf tx epoch))) (own.committed epoch)
@@ -49,27 +49,27 @@ module _ (kind : Body → Bool) (tx : TxId) (body : Body) (own : OwnKinds tx kin
   fronts Open = refl
   fronts Verifying = refl
 
-  enters : (t : Transaction) (phase : Phase) → SendsOnly kind (entering node view tx t phase)
-  enters t phase = entering_of_kind kind view tx own.chains node t phase (fronts phase)
+  enters : (t : Transaction) (phase : Phase) → SendsOnly kind (entering node layout tx t phase)
+  enters t phase = entering_of_kind kind layout tx own.chains node t phase (fronts phase)
 
   abort_ends : (why : AbortCause) (verifying : Bool) → are_of kind (abort.abort_end node tx why verifying) ≡ true
   abort_ends why true = of_each kind (abort.abort_end node tx why true) (own.verified, (own.rolled_back why, tt))
   abort_ends why false = one_kind (kind (Client (TcRollbackRep tx why))) (own.rolled_back why)
 
-  aborts : (t : Transaction) (why : AbortCause) → AbortForms node view tx t why (TurnOnly kind)
+  aborts : (t : Transaction) (why : AbortCause) → AbortForms node layout tx t why (TurnOnly kind)
   aborts t why = record { enters = λ some. enters t _; ends = λ none. abort_ends why (abort.is_verifying t.phase) }
 
-  commits : (t : Transaction) (epoch : ℕ) → CommittedForms node view tx t epoch (TurnOnly kind)
+  commits : (t : Transaction) (epoch : ℕ) → CommittedForms node layout tx t epoch (TurnOnly kind)
   commits t epoch = record { enters = λ some. enters t _; ends = λ none. of_each kind (reported tx epoch ∷ verify_end node tx ∷ []) (own.committed epoch, (own.verified, tt)) }
 
   -- so is each form of turn
-  pub own_forms : (t : Transaction) → TurnForms node view tx t body (TurnOnly kind)
+  pub own_forms : (t : Transaction) → TurnForms node layout tx t body (TurnOnly kind)
   own_forms t = record {
     stays = refl;
-    goes_on = λ at. rest_of_kind kind view tx own.chains node t at (fronts t.phase);
-    operates = λ op is can. one_kind (kind (Chain (LqhKeyReq tx (Operate op) (chain_of view (key_of op)) 0))) (own.operates op (chain_of view (key_of op)));
+    goes_on = λ at. rest_of_kind kind layout tx own.chains node t at (fronts t.phase);
+    operates = λ op is can. one_kind (kind (Chain (LqhKeyReq tx (Operate op) (chain_of layout (key_of op)) 0))) (own.operates op (chain_of layout (key_of op)));
     answers = λ key answer asked is on at. one_kind (kind (Client (TcKeyConf tx answer))) (own.answers key answer is);
-    late = λ key asked why verifying awaited on at. aborts_of_kind kind view tx own.chains key (chain_of view key);
+    late = λ key asked why verifying awaited on at. aborts_of_kind kind layout tx own.chains key (chain_of layout key);
     waits = λ asked on. of_map kind (wait_of tx (key_of asked.op)) asked.chain (λ r. own.waits (key_of asked.op));
     decides = λ is ready. one_kind (kind (Epoch (DiVerifyReq tx t.ops))) (own.verifies t.ops);
     commits = λ epoch is at some. enters t _;
@@ -85,5 +85,5 @@ module _ (kind : Body → Bool) (tx : TxId) (body : Body) (own : OwnKinds tx kin
   }
 
   -- and what the transaction does by the row of the signal
-  pub own_kinds : (t : Transaction) → RowsAre node view tx t body (TurnOnly kind)
-  own_kinds t = rows_of node view tx t body (TurnOnly kind) (own_forms t)
+  pub own_kinds : (t : Transaction) → RowsAre node layout tx t body (TurnOnly kind)
+  own_kinds t = rows_of node layout tx t body (TurnOnly kind) (own_forms t)

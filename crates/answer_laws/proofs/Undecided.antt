@@ -4,15 +4,15 @@ use Rattle.std.specs.Prelude.{not, if◌then◌else◌, Option, None, Some}
 use Rattle.std.proofs.lemmas.Bool.{cases_eq, false≢true}
 use Rattle.api_block.specs.declared.opened.OpenTransaction.{OpenTransaction}
 use Rattle.api_block.specs.State.{ApiState}
-use Rattle.lqh_block.specs.Lqh.{lqh_row}
+use Rattle.lqh_block.specs.Lqh.{lqh_table}
 use Rattle.lqh_block.specs.State.{LqhState}
 use Rattle.node_core.specs.declared.host.Host.TheVariants.{Node}
 use Rattle.node_core.specs.declared.node.Node as node
-use Rattle.node_core.specs.Dih.{dih_row}
+use Rattle.node_core.specs.Dih.{dih_table}
 use Rattle.node_core.specs.Requests.{is_request}
 use Rattle.node_core.specs.Row.{shell_row}
 use Rattle.run_theory.specs.Runs.{AreLogs, IsWithin, log_of}
-use Rattle.sig_core.specs.declared.log.LogStep.{LogStep}
+use Rattle.world_core.specs.Steps.{HostStep}
 use Rattle.sig_core.specs.declared.member.TxId.{TxId}
 use Rattle.sig_core.specs.declared.outs.Outgoing.{Outgoing}
 use Rattle.sig_core.specs.declared.place.BlockId.{BlockId}
@@ -25,7 +25,7 @@ use Rattle.sig_core.specs.declared.view.View.{View}
 use Rattle.sig_core.specs.Same.{same_tx}
 use Rattle.tc_block.specs.declared.transaction.Transaction.{Transaction}
 use Rattle.tc_block.specs.State.{TcState}
-use Rattle.tc_block.specs.Tc.{tc_row}
+use Rattle.tc_block.specs.Tc.{tc_table}
 use Rattle.world_core.specs.Machine.{after, machine, step_after}
 use Rattle.world_core.specs.Start.{Start}
 use Rattle.commit_laws.specs.Phases.{is_decided}
@@ -91,29 +91,29 @@ shell_back tx s block.Api body = move_back tx s body _ _ (api_moves s body)
 shell_back tx s _ body = refl
 
 module _ (start : Start) (tx : TxId) (h : ℕ) (home : tx.tc ≡ suc h) where
-  abbrev pub F : (ℕ → List LogStep) → ℕ
-  F logs = sent_all start (start.nodes + 1) (forth_at tx) logs
+  abbrev pub F : (ℕ → List HostStep) → ℕ
+  F logs = sent_all start (hosts start) (forth_at tx) logs
 
   -- none was sent while the transaction isn't decided
-  pub record IsBack (logs : ℕ → List LogStep) : Type 0 where
+  pub record IsBack (logs : ℕ → List HostStep) : Type 0 where
     pub undecided : (t : Transaction) → tx_at tx (after start (suc h) (logs (suc h))) ≡ Some t → is_decided t.phase ≡ false → F logs ≡ 0
     pub unborn : (x : node.Node) → after start (suc h) (logs (suc h)) ≡ Node x → x.tc.next_seq ≤ tx.seq → F logs ≡ 0
 
   -- where none was sent none comes
-  pub none_came : (logs now : ℕ → List LogStep) (i : ℕ) (e : LogStep) → Goes start logs now i e → F logs ≡ 0 → is_forth tx e.taken.body ≡ false
-  none_came logs now i e g none = by (is_forth tx e.taken.body) refl
+  pub none_came : (logs now : ℕ → List HostStep) (i : ℕ) (e : HostStep) → Goes start logs now i e → F logs ≡ 0 → is_forth tx e.step.taken.body ≡ false
+  none_came logs now i e g none = by (is_forth tx e.step.taken.body) refl
     where
-      by : (b : Bool) → is_forth tx e.taken.body ≡ b → is_forth tx e.taken.body ≡ false
+      by : (b : Bool) → is_forth tx e.step.taken.body ≡ b → is_forth tx e.step.taken.body ≡ false
       by false is = is
-      by true is = absurd (omega (arith, none, flow_came start (forth_at tx) logs now i e g (plain_forth tx e.taken.body is) is))
+      by true is = absurd (omega (arith, none, flow_came start (forth_at tx) logs now i e g (plain_forth tx e.step.taken.body is) is))
 
-  sent_now : (logs now : ℕ → List LogStep) (i : ℕ) (e : LogStep) → Goes start logs now i e → F logs ≡ 0 → sends_of (forth_at tx) (step_after start i (logs i) e).effects.sends ≡ 0 → F now ≡ 0
+  sent_now : (logs now : ℕ → List HostStep) (i : ℕ) (e : HostStep) → Goes start logs now i e → F logs ≡ 0 → sends_of (forth_at tx) (step_after start i (logs i) e).effects.sends ≡ 0 → F now ≡ 0
   sent_now logs now i e g none quiet = omega (arith, none, quiet, flow_sent start (forth_at tx) logs now i e g)
 
-  rows_quiet : (logs now : ℕ → List LogStep) (i : ℕ) (e : LogStep) → Goes start logs now i e → F logs ≡ 0 → (s : LqhState) (sends : List Outgoing) → sends ≡ (lqh_row s e.taken.body).effects.sends → sends_of (forth_at tx) sends ≡ 0
-  rows_quiet logs now i e g none s sends is = ap (sends_of (forth_at tx)) is ∙ back_none tx (lqh_row s e.taken.body).effects.sends (lqh_back tx s e.taken.body (none_came logs now i e g none))
+  rows_quiet : (logs now : ℕ → List HostStep) (i : ℕ) (e : HostStep) → Goes start logs now i e → F logs ≡ 0 → (s : LqhState) (sends : List Outgoing) → sends ≡ (lqh_table s e.step.taken.body).effects.sends → sends_of (forth_at tx) sends ≡ 0
+  rows_quiet logs now i e g none s sends is = ap (sends_of (forth_at tx)) is ∙ back_none tx (lqh_table s e.step.taken.body).effects.sends (lqh_back tx s e.step.taken.body (none_came logs now i e g none))
 
-  own_back : (logs now : ℕ → List LogStep) (e : LogStep) → Goes start logs now (suc h) e → IsBack logs → IsBack now
+  own_back : (logs now : ℕ → List HostStep) (e : HostStep) → Goes start logs now (suc h) e → IsBack logs → IsBack now
   own_back logs now e g k = finish n.step
     where
       x : AtNode start tx h (logs (suc h))
@@ -146,24 +146,24 @@ module _ (start : Start) (tx : TxId) (h : ℕ) (home : tx.tc ≡ suc h) where
       still : n.now.tc ≡ x.state.tc → (F logs ≡ 0 → sends_of (forth_at tx) n.sends ≡ 0) → IsBack now
       still same quiet = kept (ap (λ (s : TcState). of_live tx s.live) same) (omega (arith, ap (λ (s : TcState). s.next_seq) same)) quiet
 
-      finish : NodeStep x.state e.taken.to.block e.taken.body n.now n.sends → IsBack now
+      finish : NodeStep x.state e.step.taken.to.block e.step.taken.body n.now n.sends → IsBack now
       finish (of_dih at is sends) =
           still (ap (λ (y : node.Node). y.tc) is)
-          (λ none. ap (sends_of (forth_at tx)) sends ∙ back_none tx (dih_row x.state.dih e.taken.body).effects.sends (of_kind is_dih_kind (is_back tx) (dih_back tx) (dih_row x.state.dih e.taken.body).effects.sends (dih_kinds x.state.dih e.taken.body)))
+          (λ none. ap (sends_of (forth_at tx)) sends ∙ back_none tx (dih_table x.state.dih e.step.taken.body).effects.sends (of_kind is_dih_kind (is_back tx) (dih_back tx) (dih_table x.state.dih e.step.taken.body).effects.sends (dih_kinds x.state.dih e.step.taken.body)))
       finish (of_none tc lqh dih is sends) = still (ap (λ (y : node.Node). y.tc) is) (λ none. ap (sends_of (forth_at tx)) sends)
       finish (of_lqh at is sends) = still (ap (λ (y : node.Node). y.tc) is) (λ none. rows_quiet logs now (suc h) e g none x.state.lqh n.sends sends)
-      finish (of_tc at is sends) = by (tx_step tx x.state.tc e.taken.body x.once x.own)
+      finish (of_tc at is sends) = by (tx_step tx x.state.tc e.step.taken.body x.once x.own)
         where
-          tc_is : n.now.tc ≡ (tc_row x.state.tc e.taken.body).state
+          tc_is : n.now.tc ≡ (tc_table x.state.tc e.step.taken.body).state
           tc_is = ap (λ (y : node.Node). y.tc) is
 
           grows : x.state.tc.next_seq ≤ n.now.tc.next_seq
-          grows = omega (arith, next_grows x.state.tc e.taken.body, ap (λ (s : TcState). s.next_seq) tc_is)
+          grows = omega (arith, next_grows x.state.tc e.step.taken.body, ap (λ (s : TcState). s.next_seq) tc_is)
 
-          by : TxStep tx x.state.tc e.taken.body (tc_row x.state.tc e.taken.body) → IsBack now
+          by : TxStep tx x.state.tc e.step.taken.body (tc_table x.state.tc e.step.taken.body) → IsBack now
           by (elsewhere same kind absent) =
               kept (ap (λ (s : TcState). of_live tx s.live) tc_is ∙ same) grows
-              (λ none. ap (sends_of (forth_at tx)) sends ∙ back_none tx (tc_row x.state.tc e.taken.body).effects.sends (of_kind (is_apart tx) (is_back tx) (apart_back tx) (tc_row x.state.tc e.taken.body).effects.sends kind))
+              (λ none. ap (sends_of (forth_at tx)) sends ∙ back_none tx (tc_table x.state.tc e.step.taken.body).effects.sends (of_kind (is_apart tx) (is_back tx) (apart_back tx) (tc_table x.state.tc e.step.taken.body).effects.sends kind))
           by (born name about one none there told) =
               let before = k.unborn x.state x.is (omega (arith, ap (λ (v : TxId). v.seq) one)) in
               let after_it = none_now before (ap (sends_of (forth_at tx)) sends ∙ ap (sends_of (forth_at tx)) told) in
@@ -173,8 +173,8 @@ module _ (start : Start) (tx : TxId) (h : ℕ) (home : tx.tc ≡ suc h) where
             unborn = λ y y_is early. absurd (omega (arith, early, number_of y y_is, grows, live_early tx x.state.tc t there x.own));
           }
             where
-              turns : BackTurn x.state.tc tx [] t e.taken.body turn
-              turns = back_turn x.state.tc tx [] t e.taken.body turn move
+              turns : BackTurn x.state.tc tx [] t e.step.taken.body turn
+              turns = back_turn x.state.tc tx [] t e.step.taken.body turn move
 
               now_live : of_live tx n.now.tc.live ≡ left_of_turn turn
               now_live = ap (λ (s : TcState). of_live tx s.live) tc_is ∙ left
@@ -187,9 +187,9 @@ module _ (start : Start) (tx : TxId) (h : ℕ) (home : tx.tc ≡ suc h) where
                   none_now (k.undecided t (was_at (Some t) there) o.0) (ap (sends_of (forth_at tx)) (sends ∙ told) ∙ back_none tx turn.step.effects.sends o.1)
 
   -- another host sends none where none was sent
-  other_quiet : (logs now : ℕ → List LogStep) (i : ℕ) (e : LogStep) → Goes start logs now i e → i ≢ suc h → F logs ≡ 0 → sends_of (forth_at tx) (step_after start i (logs i) e).effects.sends ≡ 0
+  other_quiet : (logs now : ℕ → List HostStep) (i : ℕ) (e : HostStep) → Goes start logs now i e → i ≢ suc h → F logs ≡ 0 → sends_of (forth_at tx) (step_after start i (logs i) e).effects.sends ≡ 0
   other_quiet logs now zero e g differs none =
-      ap (sends_of (forth_at tx)) (shell_sends start e (logs 0)) ∙ shell_back tx (shell_after start (logs 0)).state e.taken.to.block e.taken.body
+      ap (sends_of (forth_at tx)) (shell_sends start e (logs 0)) ∙ shell_back tx (shell_after start (logs 0)).state e.step.taken.to.block e.step.taken.body
   other_quiet logs now (suc i) e g differs none = ap (sends_of (forth_at tx)) n.sent_is ∙ by n.step
     where
       x : AtNode start tx i (logs (suc i))
@@ -198,19 +198,19 @@ module _ (start : Start) (tx : TxId) (h : ℕ) (home : tx.tc ≡ suc h) where
       n : NextAt start i e (logs (suc i)) x.state
       n = next_at start i e (logs (suc i)) x.state x.is
 
-      of_tc_step : TxStep tx x.state.tc e.taken.body (tc_row x.state.tc e.taken.body) → sends_of (forth_at tx) (tc_row x.state.tc e.taken.body).effects.sends ≡ 0
-      of_tc_step (elsewhere live kind off) = back_none tx (tc_row x.state.tc e.taken.body).effects.sends (of_kind (is_apart tx) (is_back tx) (apart_back tx) (tc_row x.state.tc e.taken.body).effects.sends kind)
+      of_tc_step : TxStep tx x.state.tc e.step.taken.body (tc_table x.state.tc e.step.taken.body) → sends_of (forth_at tx) (tc_table x.state.tc e.step.taken.body).effects.sends ≡ 0
+      of_tc_step (elsewhere live kind off) = back_none tx (tc_table x.state.tc e.step.taken.body).effects.sends (of_kind (is_apart tx) (is_back tx) (apart_back tx) (tc_table x.state.tc e.step.taken.body).effects.sends kind)
       of_tc_step (born name about one absent there told) = absurd (differs (sym x.number ∙ (sym (ap (λ (v : TxId). v.tc) one) ∙ home)))
       of_tc_step (turned t turn about one there move left told) = absurd (differs (sym x.number ∙ (sym (live_home tx x.state.tc t there x.own) ∙ home)))
 
-      by : NodeStep x.state e.taken.to.block e.taken.body n.now n.sends → sends_of (forth_at tx) n.sends ≡ 0
+      by : NodeStep x.state e.step.taken.to.block e.step.taken.body n.now n.sends → sends_of (forth_at tx) n.sends ≡ 0
       by (of_dih at is sends) =
-          ap (sends_of (forth_at tx)) sends ∙ back_none tx (dih_row x.state.dih e.taken.body).effects.sends (of_kind is_dih_kind (is_back tx) (dih_back tx) (dih_row x.state.dih e.taken.body).effects.sends (dih_kinds x.state.dih e.taken.body))
+          ap (sends_of (forth_at tx)) sends ∙ back_none tx (dih_table x.state.dih e.step.taken.body).effects.sends (of_kind is_dih_kind (is_back tx) (dih_back tx) (dih_table x.state.dih e.step.taken.body).effects.sends (dih_kinds x.state.dih e.step.taken.body))
       by (of_none tc lqh dih is sends) = ap (sends_of (forth_at tx)) sends
       by (of_lqh at is sends) = rows_quiet logs now (suc i) e g none x.state.lqh n.sends sends
-      by (of_tc at is sends) = ap (sends_of (forth_at tx)) sends ∙ of_tc_step (tx_step tx x.state.tc e.taken.body x.once x.own)
+      by (of_tc at is sends) = ap (sends_of (forth_at tx)) sends ∙ of_tc_step (tx_step tx x.state.tc e.step.taken.body x.once x.own)
 
-  step : (logs now : ℕ → List LogStep) (i : ℕ) (e : LogStep) → Goes start logs now i e → IsBack logs → IsBack now
+  step : (logs now : ℕ → List HostStep) (i : ℕ) (e : HostStep) → Goes start logs now i e → IsBack logs → IsBack now
   step logs now i e g k = by (cases_eq i (suc h))
     where
       by : (i ≡ suc h) ⊎ (i ≢ suc h) → IsBack now
@@ -228,8 +228,8 @@ module _ (start : Start) (tx : TxId) (h : ℕ) (home : tx.tc ≡ suc h) where
 
   first : IsBack (log_of (machine start) [])
   first =
-      let none : F (log_of (machine start) []) ≡ 0 = total_zero (start.nodes + 1) _ (λ i. total_zero (start.nodes + 1) _ (λ j. refl)) in
+      let none : F (log_of (machine start) []) ≡ 0 = total_zero (hosts start) _ (λ i. total_zero (hosts start) _ (λ j. refl)) in
       record { undecided = λ t at off. none; unborn = λ y y_is early. none }
 
-  pub is_undecided : (logs : ℕ → List LogStep) → IsWithin (start.nodes + 1) logs → AreLogs (machine start) logs → IsBack logs
+  pub is_undecided : (logs : ℕ → List HostStep) → IsWithin (hosts start) logs → AreLogs (machine start) logs → IsBack logs
   is_undecided logs within right = along start IsBack first step logs within right

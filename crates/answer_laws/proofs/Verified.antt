@@ -2,13 +2,13 @@
 use Rattle.std.proofs.Common.{◌≡◌, ◌≢◌, ◌⊎◌, ℕ, zero, suc, ◌+◌, ◌≤◌, List, [], length, Bool, true, false, refl, ap, sym, ◌∙◌, subst, arith, inl, inr}
 use Rattle.std.specs.Prelude.{◌-◌, ◌==◌, ◌&&◌, not, if◌then◌else◌, Option, None, Some}
 use Rattle.std.proofs.lemmas.Bool.{cases_eq, false≢true}
-use Rattle.lqh_block.specs.Lqh.{lqh_row}
+use Rattle.lqh_block.specs.Lqh.{lqh_table}
 use Rattle.node_core.specs.declared.host.Host.TheVariants.{Node}
 use Rattle.node_core.specs.declared.node.Node as node
-use Rattle.node_core.specs.Dih.{dih_row}
+use Rattle.node_core.specs.Dih.{dih_table}
 use Rattle.run_theory.specs.Links.{is_from}
 use Rattle.run_theory.specs.Runs.{log_of}
-use Rattle.sig_core.specs.declared.log.LogStep.{LogStep}
+use Rattle.world_core.specs.Steps.{HostStep}
 use Rattle.sig_core.specs.declared.member.TxId.{TxId}
 use Rattle.sig_core.specs.declared.outcome.AbortCause.{AbortCause}
 use Rattle.sig_core.specs.declared.outs.Outgoing.{Outgoing}
@@ -24,7 +24,7 @@ use Rattle.tc_block.specs.Abort.{aborts_awaited, is_verifying}
 use Rattle.tc_block.specs.Complete.{written_count}
 use Rattle.tc_block.specs.Operate.{fresh}
 use Rattle.tc_block.specs.State.{TcState}
-use Rattle.tc_block.specs.Tc.{tc_row}
+use Rattle.tc_block.specs.Tc.{tc_table}
 use Rattle.tc_block.specs.Turn.{Turn}
 use Rattle.world_core.specs.Machine.{after, machine}
 use Rattle.world_core.specs.Start.{Start}
@@ -121,13 +121,13 @@ module _ (s : TcState) (tx : TxId) (t : Transaction) (body : Body) (turn : Turn)
       go (decides about p q is) =
           verifies p (phase_is _ is) (ap (conf_body tx) about)
           (omega (arith, ap (λ (x : Turn). sends_of (to_node s.node (is_req tx)) x.step.effects.sends) is, ap one_if (ap (λ b. b && (true && same_tx tx tx)) (eqb-self s.node) ∙ same_tx-self tx)))
-      go (aborts w why gives some is) = leaves _ (Aborting why (is_verifying w.phase) (aborts_awaited s.view w)) is (entered_phase s.node s.view tx w _) (aborting_no why _ _).0 (aborting_no why _ _).1
+      go (aborts w why gives some is) = leaves _ (Aborting why (is_verifying w.phase) (aborts_awaited s.layout w)) is (entered_phase s.node s.layout tx w _) (aborting_no why _ _).0 (aborting_no why _ _).1
       go (gives_up w why gives is none) = over_not turn _ is refl e
       go (aborted key why v k about p low is) = leaves _ (Aborting why v (k - 1)) is refl (aborting_no why _ _).0 (aborting_no why _ _).1
       go (abort_ends key why v k about p low is) = over_not turn _ is refl e
-      go (commits epoch about p is) = leaves _ (Committing epoch (length t.touched)) is (entered_phase s.node s.view tx t _) (committing_no _ _).0 (committing_no _ _).1
+      go (commits epoch about p is) = leaves _ (Committing epoch (length t.touched)) is (entered_phase s.node s.layout tx t _) (committing_no _ _).0 (committing_no _ _).1
       go (committed epoch k p is) = leaves _ (Committing epoch (k - 1)) is refl (committing_no _ _).0 (committing_no _ _).1
-      go (completes epoch p is) = leaves _ (Completing epoch (written_count t.touched)) is (entered_phase s.node s.view tx t _) (completing_no _ _).0 (completing_no _ _).1
+      go (completes epoch p is) = leaves _ (Completing epoch (written_count t.touched)) is (entered_phase s.node s.layout tx t _) (completing_no _ _).0 (completing_no _ _).1
       go (ends epoch p is) = over_not turn _ is refl e
       go (completed epoch k p is) = leaves _ (Completing epoch (k - 1)) is refl (completing_no _ _).0 (completing_no _ _).1
       go (all_completed epoch k p is) = over_not turn _ is refl e
@@ -145,19 +145,19 @@ apart_req j tx sends kind = none_of (is_apart tx) (to_node j (is_req tx)) (λ to
     fails to _ e = refl
 
 module _ (start : Start) (tx : TxId) (h : ℕ) where
-  abbrev reqs : List LogStep → ℕ
+  abbrev reqs : List HostStep → ℕ
   reqs log = signals (is_req tx) (own_sent start h log)
 
-  abbrev confs : List LogStep → ℕ
+  abbrev confs : List HostStep → ℕ
   confs log = signals (is_conf tx) (own_taken start h log)
 
   -- it has asked for an epoch where it isn't open, and wasn't given one where it verifies
-  record IsAsked (logs : ℕ → List LogStep) : Type 0 where
+  record IsAsked (logs : ℕ → List HostStep) : Type 0 where
     opened : (t : Transaction) → tx_at tx (after start (suc h) (logs (suc h))) ≡ Some t → t.phase ≡ Open → reqs (logs (suc h)) ≡ 0
     verifying : (t : Transaction) → tx_at tx (after start (suc h) (logs (suc h))) ≡ Some t → t.phase ≡ Verifying → (1 ≤ reqs (logs (suc h))) × (confs (logs (suc h)) ≡ 0)
     unborn : (x : node.Node) → after start (suc h) (logs (suc h)) ≡ Node x → x.tc.next_seq ≤ tx.seq → reqs (logs (suc h)) ≡ 0
 
-  own_step : (logs now : ℕ → List LogStep) (e : LogStep) → Goes start logs now (suc h) e → IsAsked logs → IsAsked now
+  own_step : (logs now : ℕ → List HostStep) (e : HostStep) → Goes start logs now (suc h) e → IsAsked logs → IsAsked now
   own_step logs now e g k = finish n.step
     where
       x : AtNode start tx h (logs (suc h))
@@ -172,10 +172,10 @@ module _ (start : Start) (tx : TxId) (h : ℕ) where
       reqs_now : reqs (now (suc h)) ≡ sends_of (to_node (suc h) (is_req tx)) n.sends + reqs (logs (suc h))
       reqs_now = ap reqs g.own ∙ (sent_signals start (is_req tx) (suc h) (suc h) e (logs (suc h)) ∙ ap (λ xs. sends_of (to_node (suc h) (is_req tx)) xs + reqs (logs (suc h))) n.sent_is)
 
-      confs_now : confs (now (suc h)) ≡ one_if (is_from (machine start) (suc h) e && is_conf tx e.taken.to e.taken.body) + confs (logs (suc h))
+      confs_now : confs (now (suc h)) ≡ one_if (is_from (machine start) (suc h) e && is_conf tx e.step.taken) + confs (logs (suc h))
       confs_now = ap confs g.own ∙ taken_signals start (is_conf tx) (suc h) e (logs (suc h))
 
-      confs_same : is_conf tx e.taken.to e.taken.body ≡ false → confs (now (suc h)) ≡ confs (logs (suc h))
+      confs_same : is_conf tx e.step.taken ≡ false → confs (now (suc h)) ≡ confs (logs (suc h))
       confs_same off = omega (arith, confs_now, ap one_if (second_fails (is_from (machine start) (suc h) e) off))
 
       was_at : (o : Option Transaction) → of_live tx x.state.tc.live ≡ o → tx_at tx (after start (suc h) (logs (suc h))) ≡ o
@@ -195,14 +195,14 @@ module _ (start : Start) (tx : TxId) (h : ℕ) where
             few_taken start logs g.before (is_req tx) (suc h) (suc h),
           )
 
-      conf_off : (b : Bool) → is_conf tx e.taken.to e.taken.body ≡ b → (conf_body tx e.taken.body ≡ false) ⊎ (is_tc e.taken.to.block ≡ false) → is_conf tx e.taken.to e.taken.body ≡ false
+      conf_off : (b : Bool) → is_conf tx e.step.taken ≡ b → (conf_body tx e.step.taken.body ≡ false) ⊎ (is_tc e.step.taken.to.block ≡ false) → is_conf tx e.step.taken ≡ false
       conf_off false q why = q
-      conf_off true q (inl off) = absurd (false≢true (sym off ∙ (conf_at tx e.taken.to e.taken.body q).1))
-      conf_off true q (inr off) = absurd (false≢true (sym off ∙ (conf_at tx e.taken.to e.taken.body q).0))
+      conf_off true q (inl off) = absurd (false≢true (sym off ∙ (conf_at tx e.step.taken q).1))
+      conf_off true q (inr off) = absurd (false≢true (sym off ∙ (conf_at tx e.step.taken q).0))
 
       -- where the coordinator's transaction stays as it is, and isn't given an epoch
       kept : of_live tx n.now.tc.live ≡ of_live tx x.state.tc.live → x.state.tc.next_seq ≤ n.now.tc.next_seq → sends_of (to_node (suc h) (is_req tx)) n.sends ≡ 0
-          → ((t : Transaction) → of_live tx x.state.tc.live ≡ Some t → is_conf tx e.taken.to e.taken.body ≡ false) → IsAsked now
+          → ((t : Transaction) → of_live tx x.state.tc.live ≡ Some t → is_conf tx e.step.taken ≡ false) → IsAsked now
       kept same more none off = record {
         opened = λ t at p. omega (arith, reqs_now, none, k.opened t (was_at (Some t) (sym same ∙ now_at t at)) p);
         verifying = λ t at p.
@@ -212,37 +212,37 @@ module _ (start : Start) (tx : TxId) (h : ℕ) where
         unborn = λ y is early. omega (arith, reqs_now, none, k.unborn x.state x.is (omega (arith, more, early, ap (λ (z : node.Node). z.tc.next_seq) (same_node y n.now (sym is ∙ now_is)))));
       }
 
-      quiet : n.now.tc ≡ x.state.tc → is_tc e.taken.to.block ≡ false → sends_of (to_node (suc h) (is_req tx)) n.sends ≡ 0 → IsAsked now
+      quiet : n.now.tc ≡ x.state.tc → is_tc e.step.taken.to.block ≡ false → sends_of (to_node (suc h) (is_req tx)) n.sends ≡ 0 → IsAsked now
       quiet same off none =
-          kept (ap (λ (s : TcState). of_live tx s.live) same) (omega (arith, ap (λ (s : TcState). s.next_seq) same)) none (λ t at. conf_off (is_conf tx e.taken.to e.taken.body) refl (inr off))
+          kept (ap (λ (s : TcState). of_live tx s.live) same) (omega (arith, ap (λ (s : TcState). s.next_seq) same)) none (λ t at. conf_off (is_conf tx e.step.taken) refl (inr off))
 
-      finish : NodeStep x.state e.taken.to.block e.taken.body n.now n.sends → IsAsked now
+      finish : NodeStep x.state e.step.taken.to.block e.step.taken.body n.now n.sends → IsAsked now
       finish (of_dih at is sends) =
           quiet (ap (λ (y : node.Node). y.tc) is) (ap is_tc at)
-          (ap (sends_of (to_node (suc h) (is_req tx))) sends ∙ req_plain (suc h) tx (dih_row x.state.dih e.taken.body).effects.sends (of_kind is_dih_kind is_epochless dih_plain (dih_row x.state.dih e.taken.body).effects.sends (dih_kinds x.state.dih e.taken.body)))
+          (ap (sends_of (to_node (suc h) (is_req tx))) sends ∙ req_plain (suc h) tx (dih_table x.state.dih e.step.taken.body).effects.sends (of_kind is_dih_kind is_epochless dih_plain (dih_table x.state.dih e.step.taken.body).effects.sends (dih_kinds x.state.dih e.step.taken.body)))
       finish (of_lqh at is sends) =
           quiet (ap (λ (y : node.Node). y.tc) is) (ap is_tc at)
-          (ap (sends_of (to_node (suc h) (is_req tx))) sends ∙ req_plain (suc h) tx (lqh_row x.state.lqh e.taken.body).effects.sends (of_kind is_lqh_kind is_epochless lqh_plain (lqh_row x.state.lqh e.taken.body).effects.sends (lqh_kinds x.state.lqh e.taken.body)))
+          (ap (sends_of (to_node (suc h) (is_req tx))) sends ∙ req_plain (suc h) tx (lqh_table x.state.lqh e.step.taken.body).effects.sends (of_kind is_lqh_kind is_epochless lqh_plain (lqh_table x.state.lqh e.step.taken.body).effects.sends (lqh_kinds x.state.lqh e.step.taken.body)))
       finish (of_none tc lqh dih is sends) = quiet (ap (λ (y : node.Node). y.tc) is) tc (ap (sends_of (to_node (suc h) (is_req tx))) sends)
-      finish (of_tc at is sends) = by (tx_step tx x.state.tc e.taken.body x.once x.own)
+      finish (of_tc at is sends) = by (tx_step tx x.state.tc e.step.taken.body x.once x.own)
         where
-          tc_is : n.now.tc ≡ (tc_row x.state.tc e.taken.body).state
+          tc_is : n.now.tc ≡ (tc_table x.state.tc e.step.taken.body).state
           tc_is = ap (λ (y : node.Node). y.tc) is
 
           grows : x.state.tc.next_seq ≤ n.now.tc.next_seq
-          grows = omega (arith, next_grows x.state.tc e.taken.body, ap (λ (s : TcState). s.next_seq) tc_is)
+          grows = omega (arith, next_grows x.state.tc e.step.taken.body, ap (λ (s : TcState). s.next_seq) tc_is)
 
-          sent_req : sends_of (to_node (suc h) (is_req tx)) n.sends ≡ sends_of (to_node (suc h) (is_req tx)) (tc_row x.state.tc e.taken.body).effects.sends
+          sent_req : sends_of (to_node (suc h) (is_req tx)) n.sends ≡ sends_of (to_node (suc h) (is_req tx)) (tc_table x.state.tc e.step.taken.body).effects.sends
           sent_req = ap (sends_of (to_node (suc h) (is_req tx))) sends
 
-          by : TxStep tx x.state.tc e.taken.body (tc_row x.state.tc e.taken.body) → IsAsked now
+          by : TxStep tx x.state.tc e.step.taken.body (tc_table x.state.tc e.step.taken.body) → IsAsked now
           by (elsewhere same kind absent) =
-              kept (ap (λ (s : TcState). of_live tx s.live) tc_is ∙ same) grows (sent_req ∙ apart_req (suc h) tx _ kind) (λ t there. off t there (is_conf tx e.taken.to e.taken.body) refl)
+              kept (ap (λ (s : TcState). of_live tx s.live) tc_is ∙ same) grows (sent_req ∙ apart_req (suc h) tx _ kind) (λ t there. off t there (is_conf tx e.step.taken) refl)
             where
-              off : (t : Transaction) → of_live tx x.state.tc.live ≡ Some t → (b : Bool) → is_conf tx e.taken.to e.taken.body ≡ b → is_conf tx e.taken.to e.taken.body ≡ false
+              off : (t : Transaction) → of_live tx x.state.tc.live ≡ Some t → (b : Bool) → is_conf tx e.step.taken ≡ b → is_conf tx e.step.taken ≡ false
               off t there false q = q
               off t there true q =
-                  let c = conf_turn tx e.taken.body (conf_at tx e.taken.to e.taken.body q).1 in
+                  let c = conf_turn tx e.step.taken.body (conf_at tx e.step.taken q).1 in
                   absurd (no_transaction t (sym (absent c.0 c.1) ∙ there))
           by (born name about one none there told) = record {
             opened = λ t now_there p. omega (arith, reqs_now, zero_req, unborn_now);
@@ -284,25 +284,25 @@ module _ (start : Start) (tx : TxId) (h : ℕ) where
                 verifying = λ u at p. absurd (no_transaction u (sym (now_live ∙ ap (λ b. if b then None else Some turn.step.state) over) ∙ now_at u at));
                 unborn = late_unborn;
               }
-              which false over = moved (phase_move x.state.tc tx t e.taken.body turn move over)
+              which false over = moved (phase_move x.state.tc tx t e.step.taken.body turn move over)
                 where
                   u_is : (u : Transaction) → tx_at tx (after start (suc h) (now (suc h))) ≡ Some u → u.phase ≡ turn.step.state.phase
                   u_is u at = ap (λ (v : Transaction). v.phase) (sym (the_transaction turn.step.state u (sym (now_live ∙ ap (λ b. if b then None else Some turn.step.state) over) ∙ now_at u at)))
 
-                  moved : PhaseMove tx x.state.tc.node t e.taken.body turn.step.state turn.step.effects.sends → IsAsked now
+                  moved : PhaseMove tx x.state.tc.node t e.step.taken.body turn.step.state turn.step.effects.sends → IsAsked now
                   moved (rests same off none) = record {
                     opened = λ u at p. omega (arith, reqs_now, sends_are, none, k.opened t (was_at (Some t) there) (sym same ∙ (sym (u_is u at) ∙ p)));
                     verifying = λ u at p.
                         let was = sym same ∙ (sym (u_is u at) ∙ p) in
                         let v = k.verifying t (was_at (Some t) there) was in
-                        (omega (arith, reqs_now, v.0), confs_same (conf_off (is_conf tx e.taken.to e.taken.body) refl (inl (off was))) ∙ v.1);
+                        (omega (arith, reqs_now, v.0), confs_same (conf_off (is_conf tx e.step.taken) refl (inl (off was))) ∙ v.1);
                     unborn = late_unborn;
                   }
                   moved (verifies was becomes off some) = record {
                     opened = λ u at p. absurd (verifying_not (sym becomes ∙ (sym (u_is u at) ∙ p)));
                     verifying = λ u at p. (
                       omega (arith, reqs_now, sends_are, some),
-                      confs_same (conf_off (is_conf tx e.taken.to e.taken.body) refl (inl off)) ∙ none_given (k.opened t (was_at (Some t) there) was),
+                      confs_same (conf_off (is_conf tx e.step.taken) refl (inl off)) ∙ none_given (k.opened t (was_at (Some t) there) was),
                     );
                     unborn = late_unborn;
                   }
@@ -315,7 +315,7 @@ module _ (start : Start) (tx : TxId) (h : ℕ) where
                     unborn = late_unborn;
                   }
 
-  step : (logs now : ℕ → List LogStep) (i : ℕ) (e : LogStep) → Goes start logs now i e → IsAsked logs → IsAsked now
+  step : (logs now : ℕ → List HostStep) (i : ℕ) (e : HostStep) → Goes start logs now i e → IsAsked logs → IsAsked now
   step logs now i e g k = by (cases_eq (suc h) i)
     where
       by : (suc h ≡ i) ⊎ (suc h ≢ i) → IsAsked now
@@ -335,11 +335,11 @@ module _ (start : Start) (tx : TxId) (h : ℕ) where
     unborn = λ y y_is early. refl;
   }
 
-  asked : (logs : ℕ → List LogStep) → AreQuiet start logs → IsAsked logs
+  asked : (logs : ℕ → List HostStep) → AreQuiet start logs → IsAsked logs
   asked logs quiet = along start IsAsked first step logs quiet.within quiet.right
 
   -- at quiet
-  none_verifies : (logs : ℕ → List LogStep) → AreQuiet start logs → suc h ≤ start.nodes → (t : Transaction) → tx_at tx (after start (suc h) (logs (suc h))) ≡ Some t → t.phase ≡ Verifying → ⊥
+  none_verifies : (logs : ℕ → List HostStep) → AreQuiet start logs → suc h ≤ start.shape.nodes → (t : Transaction) → tx_at tx (after start (suc h) (logs (suc h))) ≡ Some t → t.phase ≡ Verifying → ⊥
   none_verifies logs quiet low t at p =
       omega (arith, v.0, v.1, d.gives few tx, ap (signals (is_req tx)) whole, ap (signals (is_conf tx)) whole)
     where

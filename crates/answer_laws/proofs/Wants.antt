@@ -12,7 +12,7 @@ use Rattle.node_core.specs.Row.{shell_row}
 use Rattle.run_theory.proofs.Pasts.{each_append}
 use Rattle.run_theory.specs.Lists.{Each}
 use Rattle.run_theory.specs.Links.{sent}
-use Rattle.sig_core.specs.declared.log.LogStep.{LogStep}
+use Rattle.world_core.specs.Steps.{HostStep}
 use Rattle.sig_core.specs.declared.member.TxId.{TxId}
 use Rattle.sig_core.specs.declared.outs.Outgoing.{Outgoing}
 use Rattle.sig_core.specs.declared.place.BlockId.{BlockId}
@@ -62,18 +62,18 @@ shell_right s block.Api body right = step_right s body _ (api_step s body) right
 shell_right s _ body right = right
 
 module _ (start : Start) where
-  pub all_right : (log : List LogStep) → Each IsEntryRight (opened_in (after start 0 log))
+  pub all_right : (log : List HostStep) → Each IsEntryRight (opened_in (after start 0 log))
   all_right [] = subst (Each IsEntryRight) (sym (opened_first start)) tt
   all_right (e ∷ log) =
       subst (Each IsEntryRight) (sym (opened_next start e log))
-      (shell_right (shell_after start log).state e.taken.to.block e.taken.body (subst (Each IsEntryRight) (ap opened_in (shell_after start log).is) (all_right log)))
+      (shell_right (shell_after start log).state e.step.taken.to.block e.step.taken.body (subst (Each IsEntryRight) (ap opened_in (shell_after start log).is) (all_right log)))
 
   -- what the API has of a transaction it was told to have begun
-  pub held_few : (tx : TxId) (log : List LogStep) → tally (has_tx tx) (opened_in (after start 0 log)) ≤ steps (is_start tx) log
+  pub held_few : (tx : TxId) (log : List HostStep) → tally (has_tx tx) (opened_in (after start 0 log)) ≤ steps (is_start tx) log
   held_few tx [] = omega (arith, ap (tally (has_tx tx)) (opened_first start))
   held_few tx (e ∷ log) =
       let s = shell_after start log in
-      omega (arith, held_few tx log, (shell_holds tx s.state e.taken.to.block e.taken.body s.good).0, ap (tally (has_tx tx)) (opened_next start e log), ap (λ g. tally (has_tx tx) (opened_in g)) s.is)
+      omega (arith, held_few tx log, (shell_holds tx s.state e.step.taken.to.block e.step.taken.body s.good).0, ap (tally (has_tx tx)) (opened_next start e log), ap (λ g. tally (has_tx tx) (opened_in g)) s.is)
 
 -- how a transaction stands of which so many operations and commits were asked for, and so many answered
 abbrev pub IsHeld : (operations keys commits answers : ℕ) → Doing → Type 0

@@ -6,7 +6,7 @@ use Rattle.run_theory.specs.Cuts.{IsCut}
 use Rattle.run_theory.specs.Links.{sent}
 use Rattle.run_theory.specs.Lists.{Each, IsIn}
 use Rattle.run_theory.proofs.Pasts.{each_in, each_map}
-use Rattle.sig_core.specs.declared.log.LogStep.{LogStep}
+use Rattle.world_core.specs.Steps.{HostStep}
 use Rattle.sig_core.specs.declared.member.TxId.{TxId}
 use Rattle.sig_core.specs.declared.outcome.AbortCause.{AbortCause}
 use Rattle.sig_core.specs.declared.outcome.AbortCause.TheVariants as cause
@@ -26,7 +26,8 @@ use Rattle.api_block.specs.declared.opened.OpenTransaction.{OpenTransaction}
 use Rattle.node_core.specs.Replies.{replies_of}
 use Rattle.node_core.specs.Requests.{is_request}
 use Rattle.node_core.specs.Row.{row}
-use Rattle.world_core.specs.Machine.{after, hosts, machine, step_after}
+use Rattle.world_core.specs.Hosts.{hosts}
+use Rattle.world_core.specs.Machine.{after, machine, step_after}
 use Rattle.world_core.specs.Start.{Start}
 use Rattle.answer_laws.proofs.ApiBegins.{in_middle}
 use Rattle.answer_laws.proofs.Hosts.{shell_after}
@@ -90,7 +91,7 @@ fewer_sent : (tx : TxId) (sends : List Outgoing) → sends_of (is_more_to tx) se
 fewer_sent tx [] = omega arith
 fewer_sent tx (o ∷ sends) = omega (arith, fewer_sent tx sends, more_less tx o.to o.body)
 
-fewer_since : (start : Start) (tx : TxId) (h : ℕ) (newer log : List LogStep) → sent_since start (is_more_to tx) h newer log ≤ sent_since start (is_wish_to tx) h newer log + sent_since start (is_push_to tx) h newer log
+fewer_since : (start : Start) (tx : TxId) (h : ℕ) (newer log : List HostStep) → sent_since start (is_more_to tx) h newer log ≤ sent_since start (is_wish_to tx) h newer log + sent_since start (is_push_to tx) h newer log
 fewer_since start tx h [] log = omega arith
 fewer_since start tx h (e ∷ newer) log = omega (arith, fewer_since start tx h newer log, fewer_sent tx (step_after start h (newer ++ log) e).effects.sends)
 
@@ -111,15 +112,15 @@ more_node tx to body e = and_off (is_tc to.block) (plain body e)
     plain _ k = refl
 
 -- where the wish came in one of these steps it was asked for
-was_rolled : (tx : TxId) (newer : List LogStep) → 1 ≤ steps (is_roll_to tx) newer → rolled tx newer ≡ true
+was_rolled : (tx : TxId) (newer : List HostStep) → 1 ≤ steps (is_roll_to tx) newer → rolled tx newer ≡ true
 was_rolled tx [] some = absurd (omega (arith, some))
-was_rolled tx (e ∷ newer) some = by (is_roll_to tx e.taken.to e.taken.body) refl (was_rolled tx newer)
+was_rolled tx (e ∷ newer) some = by (is_roll_to tx e.step.taken) refl (was_rolled tx newer)
   where
-    by : (b : Bool) → is_roll_to tx e.taken.to e.taken.body ≡ b → (1 ≤ steps (is_roll_to tx) newer → rolled tx newer ≡ true) → (if b then true else rolled tx newer) ≡ true
+    by : (b : Bool) → is_roll_to tx e.step.taken ≡ b → (1 ≤ steps (is_roll_to tx) newer → rolled tx newer ≡ true) → (if b then true else rolled tx newer) ≡ true
     by true is rest = refl
     by false is rest = rest (omega (arith, some, ap one_if is))
 
-module _ (answered : EachIsAnswered) (start : Start) (was now : ℕ → List LogStep) (name : ℕ) (t : OpenTransaction) (tx : TxId) (served : IsServed start was now (Abort name))
+module _ (answered : EachIsAnswered) (start : Start) (was now : ℕ → List HostStep) (name : ℕ) (t : OpenTransaction) (tx : TxId) (served : IsServed start was now (Abort name))
     (named : named_in (opened_after start was) name ≡ Some t) (ready : t.doing ≡ Ready) (own : t.tx ≡ Some tx) where
   f : IsFirst start was now (Abort name)
   f = request_first start was now (Abort name) served
@@ -132,7 +133,7 @@ module _ (answered : EachIsAnswered) (start : Start) (was now : ℕ → List Log
 
   asked : IsAbortAsked tx name (step_after start 0 (was 0) f.first)
   asked =
-      subst (λ (to : Place). IsAbortAsked tx name (row (after start 0 (was 0)) to f.first.taken.body)) (sym f.place)
+      subst (λ (to : Place). IsAbortAsked tx name (row (after start 0 (was 0)) to f.first.step.taken.body)) (sym f.place)
       (subst (λ body. IsAbortAsked tx name (row (after start 0 (was 0)) client body)) (sym f.body) (abort_first (after start 0 (was 0)) name t tx named ready own were))
 
   is_open : IsOpenAt tx (after start tx.tc (was tx.tc))
@@ -158,9 +159,9 @@ module _ (answered : EachIsAnswered) (start : Start) (was now : ℕ → List Log
       )
   no_more (suc h) = node_since start (is_more_to tx) (more_node tx) h (cut (suc h)).newer (was (suc h))
 
-  none_more : (h : ℕ) → Each (λ (e : LogStep). is_more_to tx e.taken.to e.taken.body ≡ false) (cut h).newer
+  none_more : (h : ℕ) → Each (λ (e : HostStep). is_more_to tx e.step.taken ≡ false) (cut h).newer
   none_more h =
-      each_map (λ (e : LogStep). is_request e.taken.body ≡ false → is_more_to tx e.taken.to e.taken.body ≡ false) (λ (e : LogStep). is_more_to tx e.taken.to e.taken.body ≡ false) (cut h).newer
+      each_map (λ (e : HostStep). is_request e.step.taken.body ≡ false → is_more_to tx e.step.taken ≡ false) (λ (e : HostStep). is_more_to tx e.step.taken ≡ false) (cut h).newer
       (none_at (is_more_to tx) (more_request tx)) (none_taken start was now served.before served.since cut (is_more_to tx) no_more h)
 
   run : (h : ℕ) → (sent_since start (is_wrong tx) (suc h) (cut (suc h)).newer (was (suc h)) ≡ 0)
@@ -171,13 +172,13 @@ module _ (answered : EachIsAnswered) (start : Start) (was now : ℕ → List Log
   no_wrong zero = shell_run tx start (cut 0).newer (was 0)
   no_wrong (suc h) = (run h).0
 
-  none_wrong : Each (λ (e : LogStep). is_request e.taken.body ≡ false → is_wrong tx e.taken.to e.taken.body ≡ false) (f.later ++ f.first ∷ [])
+  none_wrong : Each (λ (e : HostStep). is_request e.step.taken.body ≡ false → is_wrong tx e.step.taken ≡ false) (f.later ++ f.first ∷ [])
   none_wrong = none_taken start was now served.before served.since cut (is_wrong tx) no_wrong 0
 
   ended_right : HasEnded tx (Some name) start f.later (f.first ∷ was 0) → IsIn (Ended (Some name) (outcome.Aborted cause.Request)) (replies_since start was now)
   ended_right ended =
       replied start was now (Abort name) served f ended.newer ended.step ended.older (Ended (Some name) (outcome.Aborted cause.Request)) ended.is
-      (ended.ending.told ∙ ap (λ end. replies_of (after start 0 (ended.older ++ f.first ∷ was 0)) ++ Ended (Some name) end ∷ []) (ends_right tx ended.step.taken.body ended.ending.outcome ended.ending.about right))
+      (ended.ending.told ∙ ap (λ end. replies_of (after start 0 (ended.older ++ f.first ∷ was 0)) ++ Ended (Some name) end ∷ []) (ends_right tx ended.step.step.taken.body ended.ending.outcome ended.ending.about right))
     where
       inside : IsIn ended.step f.later
       inside = subst (IsIn ended.step) (sym ended.is) (in_middle ended.newer ended.step ended.older)
@@ -187,13 +188,13 @@ module _ (answered : EachIsAnswered) (start : Start) (was now : ℕ → List Log
           subst (λ w. IsIn ended.step (w ++ f.first ∷ [])) (sym ended.is)
           (subst (IsIn ended.step) (sym (append_assoc ended.newer (ended.step ∷ ended.older) (f.first ∷ []))) (in_middle ended.newer ended.step (ended.older ++ f.first ∷ [])))
 
-      right : wrong_of tx ended.step.taken.body ≡ false
+      right : wrong_of tx ended.step.step.taken.body ≡ false
       right =
-          each_in (λ (e : LogStep). is_request e.taken.body ≡ false → is_wrong tx e.taken.to e.taken.body ≡ false) ended.step (f.later ++ f.first ∷ []) none_wrong in_newer
-          (each_in (λ (e : LogStep). is_request e.taken.body ≡ false) ended.step f.later f.plain inside)
+          each_in (λ (e : HostStep). is_request e.step.taken.body ≡ false → is_wrong tx e.step.taken ≡ false) ended.step (f.later ++ f.first ∷ []) none_wrong in_newer
+          (each_in (λ (e : HostStep). is_request e.step.taken.body ≡ false) ended.step f.later f.plain inside)
 
   -- the shell's host has no coordinator
-  no_shell : (logs : ℕ → List LogStep) → IsOpenAt tx (after start 0 (logs 0)) → ⊥
+  no_shell : (logs : ℕ → List HostStep) → IsOpenAt tx (after start 0 (logs 0)) → ⊥
   no_shell logs o = subst (IsOpenAt tx) (shell_after start (logs 0)).is o
 
   -- its coordinator is one of the nodes

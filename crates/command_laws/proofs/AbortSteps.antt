@@ -3,7 +3,7 @@ use Rattle.std.proofs.Common.{◌≡◌, ◌≢◌, ◌⊎◌, ◌<◌, ◌≤�
 use Rattle.std.proofs.lemmas.Bool.{cases_eq}
 use Rattle.std.specs.Prelude.{◌&&◌, if◌then◌else◌, Option, None, Some}
 use Rattle.run_theory.specs.Lists.{Each}
-use Rattle.sig_core.specs.declared.log.LogStep.{LogStep}
+use Rattle.world_core.specs.Steps.{HostStep}
 use Rattle.sig_core.specs.declared.member.TxId.{TxId}
 use Rattle.sig_core.specs.declared.outs.Outgoing.{Outgoing}
 use Rattle.sig_core.specs.declared.place.BlockId.{BlockId}
@@ -14,19 +14,19 @@ use Rattle.sig_core.specs.declared.signal.Body.TheVariants.{Client}
 use Rattle.sig_core.specs.declared.signal.client.ClientSignal.TheVariants.{TcCommitConf, TcKeyReq, TcCommitReq, TcRollbackReq, TcRollbackRep}
 use Rattle.sig_core.specs.Same.{same_tx}
 use Rattle.sig_core.specs.Step.{Step, stay}
-use Rattle.api_block.specs.Api.{api_row}
+use Rattle.api_block.specs.Api.{api_table}
 use Rattle.api_block.specs.State.{ApiState}
-use Rattle.lqh_block.specs.Lqh.{lqh_row}
+use Rattle.lqh_block.specs.Lqh.{lqh_table}
 use Rattle.node_core.specs.declared.host.Host as host
 use Rattle.node_core.specs.declared.host.Host.TheVariants.{Shell, Node}
 use Rattle.node_core.specs.declared.node.Node as node
-use Rattle.node_core.specs.Dih.{dih_row}
+use Rattle.node_core.specs.Dih.{dih_table}
 use Rattle.node_core.specs.Row.{node_row, row, shell_row}
 use Rattle.tc_block.specs.Abort.{rollback_row}
 use Rattle.tc_block.specs.declared.transaction.Transaction.{Transaction}
 use Rattle.tc_block.specs.Live.{turn_of}
 use Rattle.tc_block.specs.State.{TcState}
-use Rattle.tc_block.specs.Tc.{tc_row}
+use Rattle.tc_block.specs.Tc.{tc_table}
 use Rattle.world_core.specs.Machine.{after, step_after}
 use Rattle.world_core.specs.Start.{Start}
 use Rattle.answer_laws.proofs.ApiMoves.{ApiMove, api_moves, begun_as, ends, goes, is_api_kind, opens, refuses, rests}
@@ -139,9 +139,9 @@ module _ (tx : TxId) where
     silent : sends_of (is_wrong tx) sends ≡ 0
     loose : tx.tc ≡ s.node → IsLooseNow tx c s
 
-  module _ (c : Bool) (s : TcState) (body : Body) (sound : IsSound tx s) (plain : more_of tx body ≡ false) (node_same : (tc_row s body).state.node ≡ s.node) (was : tx.tc ≡ s.node → IsLooseNow tx c s) where
+  module _ (c : Bool) (s : TcState) (body : Body) (sound : IsSound tx s) (plain : more_of tx body ≡ false) (node_same : (tc_table s body).state.node ≡ s.node) (was : tx.tc ≡ s.node → IsLooseNow tx c s) where
     abbrev step : Step TcState
-    step = tc_row s body
+    step = tc_table s body
 
     abbrev then_c : Bool
     then_c = if roll_of tx body then true else c
@@ -184,9 +184,9 @@ module _ (tx : TxId) where
     rolls : roll_of tx body ≡ true → (of_live tx s.live ≡ None) ⊎ Took tx s (turn_by s tx body) step
     rolls e = on body e
       where
-        on : (b : Body) → roll_of tx b ≡ true → (of_live tx s.live ≡ None) ⊎ Took tx s (turn_by s tx b) (tc_row s b)
+        on : (b : Body) → roll_of tx b ≡ true → (of_live tx s.live ≡ None) ⊎ Took tx s (turn_by s tx b) (tc_table s b)
         on (Client (TcRollbackReq one)) is =
-            subst (λ v. (of_live tx s.live ≡ None) ⊎ Took tx s (turn_by s tx (Client (TcRollbackReq one))) (tc_row s (Client (TcRollbackReq v)))) (sym (same_tx-is one tx is))
+            subst (λ v. (of_live tx s.live ≡ None) ⊎ Took tx s (turn_by s tx (Client (TcRollbackReq one))) (tc_table s (Client (TcRollbackReq v)))) (sym (same_tx-is one tx is))
             (by (turn_takes s tx (λ t. rollback_row s.node s.view tx t)))
           where
             by : (IsMissing s tx × (turn_of s tx (λ t. rollback_row s.node s.view tx t) ≡ stay s)) ⊎ TakesTurn s tx (λ t. rollback_row s.node s.view tx t) (turn_of s tx (λ t. rollback_row s.node s.view tx t))
@@ -219,21 +219,21 @@ module _ (tx : TxId) where
       → (tx.tc ≡ n.tc.node → IsLooseNow tx c n.tc) → LooseStep (if is_tc at && roll_of tx body then true else c) (node_row n at body).state.tc (node_row n at body).effects.sends
   unfolding node_row
   node_loose c n block.Tc body sound plain same was = loose_goes c n.tc body sound plain same was (tc_goes tx n.tc body sound)
-  node_loose c n block.Dih body sound plain same was = record { silent = none_of is_dih_kind (is_wrong tx) dih_right (dih_row n.dih body).effects.sends (dih_kinds n.dih body); loose = was }
-  node_loose c n block.Lqh body sound plain same was = record { silent = none_of is_lqh_kind (is_wrong tx) lqh_right (lqh_row n.lqh body).effects.sends (lqh_kinds n.lqh body); loose = was }
+  node_loose c n block.Dih body sound plain same was = record { silent = none_of is_dih_kind (is_wrong tx) dih_right (dih_table n.dih body).effects.sends (dih_kinds n.dih body); loose = was }
+  node_loose c n block.Lqh body sound plain same was = record { silent = none_of is_lqh_kind (is_wrong tx) lqh_right (lqh_table n.lqh body).effects.sends (lqh_kinds n.lqh body); loose = was }
   node_loose c n _ body sound plain same was = record { silent = refl; loose = was }
 
   -- the abort was asked for in one of these steps
-  abbrev pub rolled : List LogStep → Bool
+  abbrev pub rolled : List HostStep → Bool
   rolled [] = false
-  rolled (e ∷ newer) = if is_roll_to tx e.taken.to e.taken.body then true else rolled newer
+  rolled (e ∷ newer) = if is_roll_to tx e.step.taken then true else rolled newer
 
   module _ (start : Start) (h : ℕ) where
-    record NodeRun (newer log : List LogStep) : Type 0 where
+    record NodeRun (newer log : List HostStep) : Type 0 where
       silent : sent_since start (is_wrong tx) (suc h) newer log ≡ 0
       loose : tx.tc ≡ suc h → OnTc (IsLooseNow tx (rolled newer)) (after start (suc h) (newer ++ log))
 
-    next : (e : LogStep) (newer log : List LogStep) → is_more_to tx e.taken.to e.taken.body ≡ false → NodeRun newer log → NodeRun (e ∷ newer) log
+    next : (e : HostStep) (newer log : List HostStep) → is_more_to tx e.step.taken ≡ false → NodeRun newer log → NodeRun (e ∷ newer) log
     next e newer log plain before = record {
       silent = omega (arith, before.silent, ap (sends_of (is_wrong tx)) sends_are, q.silent);
       loose = λ at. subst (OnTc (IsLooseNow tx (rolled (e ∷ newer)))) (sym now_is) (q.loose (at ∙ sym number_now));
@@ -242,26 +242,26 @@ module _ (tx : TxId) where
         here : IsNode (suc h) (after start (suc h) (newer ++ log))
         here = node_after start h (newer ++ log)
 
-        now_is : after start (suc h) (e ∷ (newer ++ log)) ≡ Node (node_row here.state e.taken.to.block e.taken.body).state
-        now_is = row_state e.taken.to e.taken.body (after start (suc h) (newer ++ log)) here.state here.is
+        now_is : after start (suc h) (e ∷ (newer ++ log)) ≡ Node (node_row here.state e.step.taken.to.block e.step.taken.body).state
+        now_is = row_state e.step.taken (after start (suc h) (newer ++ log)) here.state here.is
 
-        sends_are : (step_after start (suc h) (newer ++ log) e).effects.sends ≡ (node_row here.state e.taken.to.block e.taken.body).effects.sends
-        sends_are = row_effects e.taken.to e.taken.body (after start (suc h) (newer ++ log)) here.state here.is
+        sends_are : (step_after start (suc h) (newer ++ log) e).effects.sends ≡ (node_row here.state e.step.taken.to.block e.step.taken.body).effects.sends
+        sends_are = row_effects e.step.taken (after start (suc h) (newer ++ log)) here.state here.is
 
-        number_now : (node_row here.state e.taken.to.block e.taken.body).state.tc.node ≡ suc h
+        number_now : (node_row here.state e.step.taken.to.block e.step.taken.body).state.tc.node ≡ suc h
         number_now =
             let after_it = node_after start h (e ∷ (newer ++ log)) in
-            ap (λ (m : node.Node). m.tc.node) (same_node (node_row here.state e.taken.to.block e.taken.body).state after_it.state (sym now_is ∙ after_it.is)) ∙ after_it.number
+            ap (λ (m : node.Node). m.tc.node) (same_node (node_row here.state e.step.taken.to.block e.step.taken.body).state after_it.state (sym now_is ∙ after_it.is)) ∙ after_it.number
 
-        q : LooseStep (rolled (e ∷ newer)) (node_row here.state e.taken.to.block e.taken.body).state.tc (node_row here.state e.taken.to.block e.taken.body).effects.sends
-        q = node_loose (rolled newer) here.state e.taken.to.block e.taken.body (sound_at start tx h (newer ++ log) here.state here.is) plain (number_now ∙ sym here.number)
+        q : LooseStep (rolled (e ∷ newer)) (node_row here.state e.step.taken.to.block e.step.taken.body).state.tc (node_row here.state e.step.taken.to.block e.step.taken.body).effects.sends
+        q = node_loose (rolled newer) here.state e.step.taken.to.block e.step.taken.body (sound_at start tx h (newer ++ log) here.state here.is) plain (number_now ∙ sym here.number)
             (λ at. subst (OnTc (IsLooseNow tx (rolled newer))) here.is (before.loose (at ∙ here.number)))
 
-    pub node_run : (newer log : List LogStep) → Each (λ (e : LogStep). is_more_to tx e.taken.to e.taken.body ≡ false) newer → (tx.tc ≡ suc h → OnTc (IsLooseNow tx false) (after start (suc h) log))
+    pub node_run : (newer log : List HostStep) → Each (λ (e : HostStep). is_more_to tx e.step.taken ≡ false) newer → (tx.tc ≡ suc h → OnTc (IsLooseNow tx false) (after start (suc h) log))
         → (sent_since start (is_wrong tx) (suc h) newer log ≡ 0) × (tx.tc ≡ suc h → OnTc (IsLooseNow tx (rolled newer)) (after start (suc h) (newer ++ log)))
     node_run newer log plain was = let r = run newer plain in (r.silent, r.loose)
       where
-        run : (some : List LogStep) → Each (λ (e : LogStep). is_more_to tx e.taken.to e.taken.body ≡ false) some → NodeRun some log
+        run : (some : List HostStep) → Each (λ (e : HostStep). is_more_to tx e.step.taken ≡ false) some → NodeRun some log
         run [] off = record { silent = refl; loose = was }
         run (e ∷ some) off = next e some log off.0 (run some off.1)
 
@@ -276,7 +276,7 @@ module _ (tx : TxId) where
 
   shell_silent : (s : ApiState) (at : BlockId) (body : Body) → sends_of (is_wrong tx) (shell_row s at body).effects.sends ≡ 0
   unfolding shell_row
-  shell_silent s block.Api body = api_silent s body (api_row s body) (api_moves s body)
+  shell_silent s block.Api body = api_silent s body (api_table s body) (api_moves s body)
   shell_silent s _ body = refl
 
   host_silent : (g : host.Host) (s : ApiState) (to : Place) (body : Body) → g ≡ Shell s → sends_of (is_wrong tx) (row g to body).effects.sends ≡ 0
@@ -284,8 +284,8 @@ module _ (tx : TxId) where
   host_silent (Shell t) s to body is = shell_silent t to.block body
   host_silent (Node n) s to body is = cc
 
-  pub shell_run : (start : Start) (newer log : List LogStep) → sent_since start (is_wrong tx) 0 newer log ≡ 0
+  pub shell_run : (start : Start) (newer log : List HostStep) → sent_since start (is_wrong tx) 0 newer log ≡ 0
   shell_run start [] log = refl
   shell_run start (e ∷ newer) log =
       let s = shell_after start (newer ++ log) in
-      omega (arith, shell_run start newer log, host_silent (after start 0 (newer ++ log)) s.state e.taken.to e.taken.body s.is)
+      omega (arith, shell_run start newer log, host_silent (after start 0 (newer ++ log)) s.state e.step.taken s.is)

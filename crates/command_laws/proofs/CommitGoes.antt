@@ -2,7 +2,7 @@
 use Rattle.std.proofs.Common.{◌≡◌, ◌⊎◌, ℕ, true, false, List, [], ◌∷◌, ◌++◌, refl, sym, ap, ◌∙◌, subst, inl, inr}
 use Rattle.std.specs.Prelude.{Option, Some}
 use Rattle.run_theory.specs.Lists.{Each, IsIn}
-use Rattle.sig_core.specs.declared.log.LogStep.{LogStep}
+use Rattle.world_core.specs.Steps.{HostStep}
 use Rattle.sig_core.specs.declared.mark.Mark.TheVariants.{Reported}
 use Rattle.sig_core.specs.declared.member.TxId.{TxId}
 use Rattle.sig_core.specs.declared.outcome.Outcome.{Outcome}
@@ -15,7 +15,7 @@ use Rattle.sig_core.specs.Step.{Step}
 use Rattle.api_block.specs.declared.opened.Doing.{Doing}
 use Rattle.api_block.specs.declared.opened.Doing.TheVariants.{Operating, Committing}
 use Rattle.api_block.specs.declared.opened.OpenTransaction.{OpenTransaction}
-use Rattle.api_block.specs.Api.{api_row}
+use Rattle.api_block.specs.Api.{api_table}
 use Rattle.api_block.specs.Opened.{begins, behind, is_beginning, same_name}
 use Rattle.api_block.specs.State.{ApiState}
 use Rattle.node_core.specs.declared.host.Host as host
@@ -45,10 +45,10 @@ pub record IsEndingHere (tx : TxId) (name : Option ℕ) (s : ApiState) (body : B
   pub marked : step.effects.marks ≡ Reported tx outcome ∷ []
 
 -- one of these steps behind a log reported its end
-pub record HasEnded (tx : TxId) (name : Option ℕ) (start : Start) (later log : List LogStep) : Type 0 where
-  pub newer : List LogStep
-  pub step : LogStep
-  pub older : List LogStep
+pub record HasEnded (tx : TxId) (name : Option ℕ) (start : Start) (later log : List HostStep) : Type 0 where
+  pub newer : List HostStep
+  pub step : HostStep
+  pub older : List HostStep
   pub is : later ≡ newer ++ step ∷ older
   pub ending : IsEnding tx name (after start 0 (older ++ log)) step.taken.body (step_after start 0 (older ++ log) step)
 
@@ -118,7 +118,7 @@ module _ (tx : TxId) (name : Option ℕ) (stay : Doing) (idle : stay ≡ Operati
   shell_goes : (s : ApiState) (at : BlockId) (body : Body) → is_request body ≡ false → HasOne tx name stay s.opened
       → HasOne tx name stay (shell_row s at body).state.opened ⊎ IsEndingHere tx name s body (shell_row s at body)
   unfolding shell_row GoesOrEnds
-  shell_goes s block.Api body plain has = change_goes s body has (api_row s body) (api_changes s body plain)
+  shell_goes s block.Api body plain has = change_goes s body has (api_table s body) (api_changes s body plain)
   shell_goes s _ body plain has = inl has
 
   host_goes : (g : host.Host) (to : Place) (body : Body) → is_request body ≡ false → HasOne tx name stay (opened_in g)
@@ -133,23 +133,23 @@ module _ (tx : TxId) (name : Option ℕ) (stay : Doing) (idle : stay ≡ Operati
   host_goes (Node n) to body plain has = absurd (has.inside)
 
   -- along steps that aren't requests
-  pub entry_goes : (start : Start) (later log : List LogStep) → Each (λ (e : LogStep). is_request e.taken.body ≡ false) later → HasOne tx name stay (opened_in (after start 0 log))
+  pub entry_goes : (start : Start) (later log : List HostStep) → Each (λ (e : HostStep). is_request e.step.taken.body ≡ false) later → HasOne tx name stay (opened_in (after start 0 log))
       → HasOne tx name stay (opened_in (after start 0 (later ++ log))) ⊎ HasEnded tx name start later log
   entry_goes start [] log plain has = inl has
   entry_goes start (e ∷ later) log plain has = by (entry_goes start later log plain.1 has)
     where
-      next : HasOne tx name stay (opened_in (row (after start 0 (later ++ log)) e.taken.to e.taken.body).state)
-          ⊎ IsEnding tx name (after start 0 (later ++ log)) e.taken.body (row (after start 0 (later ++ log)) e.taken.to e.taken.body)
+      next : HasOne tx name stay (opened_in (row (after start 0 (later ++ log)) e.step.taken).state)
+          ⊎ IsEnding tx name (after start 0 (later ++ log)) e.step.taken.body (row (after start 0 (later ++ log)) e.step.taken)
           → HasOne tx name stay (opened_in (after start 0 (e ∷ (later ++ log)))) ⊎ HasEnded tx name start (e ∷ later) log
       next (inl goes) = inl goes
       next (inr ending) = inr (record { newer = []; step = e; older = later; is = refl; ending = ending })
 
       by : HasOne tx name stay (opened_in (after start 0 (later ++ log))) ⊎ HasEnded tx name start later log
           → HasOne tx name stay (opened_in (after start 0 (e ∷ (later ++ log)))) ⊎ HasEnded tx name start (e ∷ later) log
-      by (inl goes) = next (host_goes (after start 0 (later ++ log)) e.taken.to e.taken.body plain.0 goes)
+      by (inl goes) = next (host_goes (after start 0 (later ++ log)) e.step.taken plain.0 goes)
       by (inr ended) = inr (record { newer = e ∷ ended.newer; step = ended.step; older = ended.older; is = ap (λ w. e ∷ w) ended.is; ending = ended.ending })
 
 -- so one that commits
-pub commit_goes : (tx : TxId) (name : Option ℕ) (start : Start) (later log : List LogStep) → Each (λ (e : LogStep). is_request e.taken.body ≡ false) later → HasOne tx name Committing (opened_in (after start 0 log))
+pub commit_goes : (tx : TxId) (name : Option ℕ) (start : Start) (later log : List HostStep) → Each (λ (e : HostStep). is_request e.step.taken.body ≡ false) later → HasOne tx name Committing (opened_in (after start 0 log))
     → HasOne tx name Committing (opened_in (after start 0 (later ++ log))) ⊎ HasEnded tx name start later log
 commit_goes tx name start later log plain has = entry_goes tx name Committing (λ e. cc) refl start later log plain has

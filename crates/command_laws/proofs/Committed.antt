@@ -4,7 +4,7 @@ use Rattle.std.specs.Prelude.{Option, None, Some}
 use Rattle.run_theory.specs.Cuts.{IsCut}
 use Rattle.run_theory.specs.Lists.{Each, IsIn}
 use Rattle.run_theory.proofs.Pasts.{each_before, each_from, each_map}
-use Rattle.sig_core.specs.declared.log.LogStep.{LogStep}
+use Rattle.world_core.specs.Steps.{HostStep}
 use Rattle.sig_core.specs.declared.member.TxId.{TxId}
 use Rattle.sig_core.specs.declared.place.Place.{Place}
 use Rattle.sig_core.specs.declared.request.ApiReq.TheVariants.{Commit}
@@ -36,11 +36,11 @@ use Rattle.command_laws.proofs.Tests.{and_off, none_at}
 use Rattle.command_laws.specs.Served.{CommitsAreCommitted, IsServed, IsToldCommitted, named_in}
 
 -- at quiet no transaction is beginning
-pub calm_at : (start : Start) (logs : ℕ → List LogStep) → AreQuiet start logs → NoneBegins (opened_after start logs)
+pub calm_at : (start : Start) (logs : ℕ → List HostStep) → AreQuiet start logs → NoneBegins (opened_after start logs)
 calm_at start logs quiet = each_from (λ (t : OpenTransaction). is_beginning t.doing ≡ false) (opened_after start logs) (λ t inside. no_begin start logs t quiet inside)
 
 -- the cut, with the steps of the shell's host as they were found
-abbrev pub cut_at_first : (was now : ℕ → List LogStep) (later : List LogStep) (first : LogStep) → now 0 ≡ later ++ first ∷ was 0 → IsCut was now → IsCut was now
+abbrev pub cut_at_first : (was now : ℕ → List HostStep) (later : List HostStep) (first : HostStep) → now 0 ≡ later ++ first ∷ was 0 → IsCut was now → IsCut was now
 cut_at_first was now later first is cut zero = record { newer = later ++ first ∷ []; is = is ∙ sym (append_assoc later (first ∷ []) (was 0)) }
 cut_at_first was now later first is cut (suc h) = cut (suc h)
 
@@ -52,12 +52,12 @@ request_pushes_none tx to body is = and_off (is_tc to.block) (plain body is)
     plain (Client (TcRollbackReq one)) r = cc
     plain _ r = refl
 
-pub sent_append : (start : Start) (test : Place → Body → Bool) (h : ℕ) (xs ys log : List LogStep) → sent_since start test h (xs ++ ys) log ≡ sent_since start test h xs (ys ++ log) + sent_since start test h ys log
+pub sent_append : (start : Start) (test : Place → Body → Bool) (h : ℕ) (xs ys log : List HostStep) → sent_since start test h (xs ++ ys) log ≡ sent_since start test h xs (ys ++ log) + sent_since start test h ys log
 sent_append start test h [] ys log = omega arith
 sent_append start test h (e ∷ xs) ys log =
     omega (arith, sent_append start test h xs ys log, ap (λ l. sends_of test (step_after start h l e).effects.sends) (append_assoc xs ys log))
 
-module _ (answered : EachIsAnswered) (start : Start) (was now : ℕ → List LogStep) (name : ℕ) (t : OpenTransaction) (tx : TxId) (served : IsServed start was now (Commit name))
+module _ (answered : EachIsAnswered) (start : Start) (was now : ℕ → List HostStep) (name : ℕ) (t : OpenTransaction) (tx : TxId) (served : IsServed start was now (Commit name))
     (named : named_in (opened_after start was) name ≡ Some t) (ready : t.doing ≡ Ready) (own : t.tx ≡ Some tx) where
   f : IsFirst start was now (Commit name)
   f = request_first start was now (Commit name) served
@@ -67,7 +67,7 @@ module _ (answered : EachIsAnswered) (start : Start) (was now : ℕ → List Log
 
   asked : IsAsked tx name (step_after start 0 (was 0) f.first)
   asked =
-      subst (λ (to : Place). IsAsked tx name (row (after start 0 (was 0)) to f.first.taken.body)) (sym f.place)
+      subst (λ (to : Place). IsAsked tx name (row (after start 0 (was 0)) to f.first.step.taken.body)) (sym f.place)
       (subst (λ body. IsAsked tx name (row (after start 0 (was 0)) client body)) (sym f.body) (commit_first (after start 0 (was 0)) name t tx named ready own (calm_at start was served.before)))
 
   is_open : IsOpenAt tx (after start tx.tc (was tx.tc))
@@ -86,16 +86,16 @@ module _ (answered : EachIsAnswered) (start : Start) (was now : ℕ → List Log
   no_pushes zero = omega (arith, sent_append start (is_push_to tx) 0 f.later (f.first ∷ []) (was 0), (calm_since tx start f.later (f.first ∷ was 0) f.plain asked.calm).1, asked.pushes)
   no_pushes (suc h) = node_pushes start tx h (cut (suc h)).newer (was (suc h))
 
-  none_pushed : (h : ℕ) → Each (λ (e : LogStep). is_push_to tx e.taken.to e.taken.body ≡ false) (cut h).newer
+  none_pushed : (h : ℕ) → Each (λ (e : HostStep). is_push_to tx e.step.taken ≡ false) (cut h).newer
   none_pushed h =
-      each_map (λ (e : LogStep). is_request e.taken.body ≡ false → is_push_to tx e.taken.to e.taken.body ≡ false) (λ (e : LogStep). is_push_to tx e.taken.to e.taken.body ≡ false) (cut h).newer
+      each_map (λ (e : HostStep). is_request e.step.taken.body ≡ false → is_push_to tx e.step.taken ≡ false) (λ (e : HostStep). is_push_to tx e.step.taken ≡ false) (cut h).newer
       (none_at (is_push_to tx) (request_pushes_none tx)) (none_taken start was now served.before served.since cut (is_push_to tx) no_pushes h)
 
   -- nobody reports its abort, and so the shell's host isn't told of one
   no_backs : (h : ℕ) → sent_since start (is_back tx) h (cut h).newer (was h) ≡ 0
   no_backs h = (firm_since tx start h (cut h).newer (was h) (firm_at start tx was is_open h) (none_pushed h)).1
 
-  none_told : Each (λ (e : LogStep). is_request e.taken.body ≡ false → back_of tx e.taken.body ≡ false) (f.later ++ f.first ∷ [])
+  none_told : Each (λ (e : HostStep). is_request e.step.taken.body ≡ false → back_of tx e.step.taken.body ≡ false) (f.later ++ f.first ∷ [])
   none_told = none_taken start was now served.before served.since cut (is_back tx) no_backs 0
 
   still_committing : HasOne tx (Some name) Committing (opened_after start now) → ⊥
@@ -112,8 +112,8 @@ module _ (answered : EachIsAnswered) (start : Start) (was now : ℕ → List Log
       let r = reported start was now served.since tx (Some name) f.later (f.first ∷ was 0) f.is (record { newer = f.first ∷ []; is = refl }) f.plain none_later ended in
       record { epoch = r.epoch; told = r.told; marked = r.marked }
     where
-      none_later : Each (λ (e : LogStep). is_request e.taken.body ≡ false → back_of tx e.taken.body ≡ false) f.later
-      none_later = each_before (λ (e : LogStep). is_request e.taken.body ≡ false → back_of tx e.taken.body ≡ false) f.later (f.first ∷ []) none_told
+      none_later : Each (λ (e : HostStep). is_request e.step.taken.body ≡ false → back_of tx e.step.taken.body ≡ false) f.later
+      none_later = each_before (λ (e : HostStep). is_request e.step.taken.body ≡ false → back_of tx e.step.taken.body ≡ false) f.later (f.first ∷ []) none_told
 
   committed_told : IsToldCommitted start was now name tx
   committed_told = by (commit_goes tx (Some name) start f.later (f.first ∷ was 0) f.plain asked.has)

@@ -14,7 +14,7 @@ use Rattle.sig_core.specs.Step.{Step}
 use Rattle.tc_block.specs.declared.phase.Phase.TheVariants.{Open}
 use Rattle.tc_block.specs.declared.transaction.Transaction.{Transaction}
 use Rattle.tc_block.specs.State.{TcState}
-use Rattle.tc_block.specs.Tc.{begin_if, begin_row, is_full, tc_row}
+use Rattle.tc_block.specs.Tc.{begin_if, begin_row, is_full, tc_table}
 use Rattle.tc_block.specs.Turn.{Turn}
 use Rattle.answer_laws.proofs.ApiMoves.{is_api_kind}
 use Rattle.answer_laws.proofs.SendKinds.{are_of, is_dih_kind, is_lqh_kind, is_tc_kind, none_of, of_kind}
@@ -66,10 +66,10 @@ begin_no_ref : (s : TcState) (name : Option ℕ) (b : Bool) → are_of is_no_ref
 begin_no_ref s name true = refl
 begin_no_ref s name false = refl
 
-pub tc_no_ref : (s : TcState) (body : Body) → are_of is_no_ref (tc_row s body).effects.sends ≡ true
+pub tc_no_ref : (s : TcState) (body : Body) → are_of is_no_ref (tc_table s body).effects.sends ≡ true
 unfolding begin_row
 tc_no_ref s (Client (TcBeginReq name)) = begin_no_ref s name (is_full s)
-tc_no_ref s body = of_kind (is_tc_kind (tx_in body)) is_no_ref (no_ref_tc (tx_in body)) (tc_row s body).effects.sends (tc_kinds s body refl)
+tc_no_ref s body = of_kind (is_tc_kind (tx_in body)) is_no_ref (no_ref_tc (tx_in body)) (tc_table s body).effects.sends (tc_kinds s body refl)
 
 abbrev pub OpenOption : Option Transaction → Type 0
 OpenOption None = Unit {0}

@@ -3,7 +3,7 @@ use Rattle.std.proofs.Common.{◌≡◌, ◌≢◌, ◌⊎◌, ℕ, zero, suc, t
 use Rattle.std.proofs.lemmas.Bool.{cases_eq}
 use Rattle.run_theory.specs.Lists.{IsIn}
 use Rattle.run_theory.proofs.Pasts.{each_from, each_in}
-use Rattle.sig_core.specs.declared.log.LogStep.{LogStep}
+use Rattle.world_core.specs.Steps.{HostStep}
 use Rattle.sig_core.specs.declared.member.TxId.{TxId}
 use Rattle.sig_core.specs.Same.{same_tx}
 use Rattle.node_core.specs.declared.host.Host as host
@@ -25,7 +25,7 @@ use Rattle.command_laws.proofs.FirmHosts.{FirmHost}
 
 module _ (start : Start) (tx : TxId) where
   -- the transactions of a coordinator that have this number are one, and at their coordinator's node
-  module _ (h : ℕ) (log : List LogStep) where
+  module _ (h : ℕ) (log : List HostStep) where
     abbrev pub kept : NodeKeeps start tx h log
     kept = keeps start tx h log
 
@@ -42,7 +42,7 @@ module _ (start : Start) (tx : TxId) where
   open_at (Node m) n is o = subst (λ s. IsOpen tx s) (ap (λ (k : node.Node). k.tc) (same_node m n is)) o
   open_at (Shell s) n is o = cc
 
-  pub firm_at : (logs : ℕ → List LogStep) → IsOpenAt tx (after start tx.tc (logs tx.tc)) → (h : ℕ) → FirmHost tx (after start h (logs h))
+  pub firm_at : (logs : ℕ → List HostStep) → IsOpenAt tx (after start tx.tc (logs tx.tc)) → (h : ℕ) → FirmHost tx (after start h (logs h))
   firm_at logs open_there zero = subst (FirmHost tx) (sym (shell_after start (logs 0)).is) tt
   firm_at logs open_there (suc h) = by (cases_eq tx.tc (suc h))
     where

@@ -3,7 +3,7 @@ use Rattle.std.proofs.Common.{◌≡◌, ℕ, Bool, true, false, List, [], ◌�
 use Rattle.std.specs.Prelude.{◌&&◌, if◌then◌else◌}
 use Rattle.indexmap.specs.IndexMap.{insert_entry}
 use Rattle.run_theory.specs.Lists.{Each}
-use Rattle.sig_core.specs.declared.log.LogStep.{LogStep}
+use Rattle.world_core.specs.Steps.{HostStep}
 use Rattle.sig_core.specs.declared.member.TxId.{TxId}
 use Rattle.sig_core.specs.declared.outs.Outgoing.{Outgoing}
 use Rattle.sig_core.specs.declared.place.BlockId.{BlockId}
@@ -14,18 +14,18 @@ use Rattle.sig_core.specs.declared.signal.Body.TheVariants.{Client}
 use Rattle.sig_core.specs.declared.signal.client.ClientSignal.TheVariants.{TcKeyReq, TcRollbackRep, TcRollbackReq}
 use Rattle.sig_core.specs.Same.{same_tx}
 use Rattle.sig_core.specs.Step.{Step}
-use Rattle.api_block.specs.Api.{api_row}
+use Rattle.api_block.specs.Api.{api_table}
 use Rattle.api_block.specs.State.{ApiState}
-use Rattle.lqh_block.specs.Lqh.{lqh_row}
+use Rattle.lqh_block.specs.Lqh.{lqh_table}
 use Rattle.node_core.specs.declared.host.Host as host
 use Rattle.node_core.specs.declared.host.Host.TheVariants.{Shell, Node}
 use Rattle.node_core.specs.declared.node.Node as node
-use Rattle.node_core.specs.Dih.{dih_row}
+use Rattle.node_core.specs.Dih.{dih_table}
 use Rattle.node_core.specs.Row.{node_row, row, shell_row}
 use Rattle.tc_block.specs.declared.transaction.Transaction.{Transaction}
 use Rattle.tc_block.specs.Operate.{fresh}
 use Rattle.tc_block.specs.State.{TcState}
-use Rattle.tc_block.specs.Tc.{tc_row}
+use Rattle.tc_block.specs.Tc.{tc_table}
 use Rattle.world_core.specs.Machine.{after}
 use Rattle.world_core.specs.Start.{Start}
 use Rattle.answer_laws.proofs.ApiBegins.{each_at, each_changed, each_less}
@@ -164,9 +164,9 @@ module _ (tx : TxId) where
 
   node_firm : (n : node.Node) (at : BlockId) (body : Body) → (is_tc at && push_of tx body) ≡ false → AllFirm n.tc.live → KeepsFirm (node_row n at body).state.tc.live (node_row n at body).effects.sends
   unfolding node_row
-  node_firm n block.Tc body plain firm = shape_firm n.tc body plain firm (tc_row n.tc body) (tc_shape n.tc body)
-  node_firm n block.Dih body plain firm = record { firm = firm; silent = none_of is_dih_kind (is_back tx) no_back_dih (dih_row n.dih body).effects.sends (dih_kinds n.dih body) }
-  node_firm n block.Lqh body plain firm = record { firm = firm; silent = none_of is_lqh_kind (is_back tx) no_back_lqh (lqh_row n.lqh body).effects.sends (lqh_kinds n.lqh body) }
+  node_firm n block.Tc body plain firm = shape_firm n.tc body plain firm (tc_table n.tc body) (tc_shape n.tc body)
+  node_firm n block.Dih body plain firm = record { firm = firm; silent = none_of is_dih_kind (is_back tx) no_back_dih (dih_table n.dih body).effects.sends (dih_kinds n.dih body) }
+  node_firm n block.Lqh body plain firm = record { firm = firm; silent = none_of is_lqh_kind (is_back tx) no_back_lqh (lqh_table n.lqh body).effects.sends (lqh_kinds n.lqh body) }
   node_firm n _ body plain firm = record { firm = firm; silent = refl }
 
   api_silent : (s : ApiState) (body : Body) (step : Step ApiState) → ApiMove s body (step.state.view, step.state.opened) step.effects.sends → sends_of (is_back tx) step.effects.sends ≡ 0
@@ -179,7 +179,7 @@ module _ (tx : TxId) where
 
   shell_silent : (s : ApiState) (at : BlockId) (body : Body) → sends_of (is_back tx) (shell_row s at body).effects.sends ≡ 0
   unfolding shell_row
-  shell_silent s block.Api body = api_silent s body (api_row s body) (api_moves s body)
+  shell_silent s block.Api body = api_silent s body (api_table s body) (api_moves s body)
   shell_silent s _ body = refl
 
   host_firm : (g : host.Host) (to : Place) (body : Body) → is_push_to tx to body ≡ false → FirmHost g → FirmHost (row g to body).state × (sends_of (is_back tx) (row g to body).effects.sends ≡ 0)
@@ -188,12 +188,12 @@ module _ (tx : TxId) where
   host_firm (Node n) to body plain firm = let kept = node_firm n to.block body plain firm in (kept.firm, kept.silent)
 
   -- so no host reports it in steps that take neither an operation of the transaction nor the wish for its abort
-  pub firm_since : (start : Start) (h : ℕ) (newer log : List LogStep) → FirmHost (after start h log) → Each (λ (e : LogStep). is_push_to tx e.taken.to e.taken.body ≡ false) newer
+  pub firm_since : (start : Start) (h : ℕ) (newer log : List HostStep) → FirmHost (after start h log) → Each (λ (e : HostStep). is_push_to tx e.step.taken ≡ false) newer
       → FirmHost (after start h (newer ++ log)) × (sent_since start (is_back tx) h newer log ≡ 0)
   firm_since start h [] log firm plain = (firm, refl)
   firm_since start h (e ∷ newer) log firm plain = next (firm_since start h newer log firm plain.1)
     where
       next : FirmHost (after start h (newer ++ log)) × (sent_since start (is_back tx) h newer log ≡ 0) → FirmHost (after start h (e ∷ (newer ++ log))) × (sent_since start (is_back tx) h (e ∷ newer) log ≡ 0)
       next before =
-          let step = host_firm (after start h (newer ++ log)) e.taken.to e.taken.body plain.0 before.0 in
+          let step = host_firm (after start h (newer ++ log)) e.step.taken plain.0 before.0 in
           (step.0, omega (arith, step.1, before.1))

@@ -7,7 +7,7 @@ use Rattle.run_theory.specs.Orders.{merged}
 use Rattle.run_theory.specs.Runs.{IsWithin}
 use Rattle.run_theory.proofs.Merging.{logs_merged, merged_run}
 use Rattle.run_theory.proofs.Pasts.{each_in}
-use Rattle.sig_core.specs.declared.log.LogStep.{LogStep}
+use Rattle.world_core.specs.Steps.{HostStep}
 use Rattle.sig_core.specs.declared.member.Member.{Member}
 use Rattle.sig_core.specs.declared.member.TxId.{TxId}
 use Rattle.sig_core.specs.Chain.{node_at}
@@ -23,7 +23,8 @@ use Rattle.node_core.specs.declared.host.Host.TheVariants.{Shell, Node}
 use Rattle.tc_block.specs.declared.phase.Asked.{Asked}
 use Rattle.tc_block.specs.declared.transaction.Transaction.{Transaction}
 use Rattle.world_core.proofs.Stamped.{stamped}
-use Rattle.world_core.specs.Machine.{after, hosts, machine}
+use Rattle.world_core.specs.Hosts.{hosts}
+use Rattle.world_core.specs.Machine.{after, machine}
 use Rattle.world_core.specs.Start.{Start}
 use Rattle.answer_laws.proofs.Aborts.{no_abort}
 use Rattle.answer_laws.proofs.Answers.{only_open}
@@ -84,8 +85,8 @@ few_budget true None = omega arith
 few_budget false None = omega arith
 
 -- the run that these logs are
-module _ (start : Start) (logs : ℕ → List LogStep) (quiet : AreQuiet start logs) where
-  es : List LogStep
+module _ (start : Start) (logs : ℕ → List HostStep) (quiet : AreQuiet start logs) where
+  es : List HostStep
   es = merged (machine start) (hosts start) logs
 
   same : logs_of start es ≡ logs
@@ -120,7 +121,7 @@ module _ (start : Start) (logs : ℕ → List LogStep) (quiet : AreQuiet start l
     served : IsServed start logs t tx
     served = each_served start logs t quiet inside tx own
 
-    low : tx.tc ≤ start.nodes
+    low : tx.tc ≤ start.shape.nodes
     low = live_low start logs tx served.transaction quiet tx.tc served.live
 
     -- its operation is unanswered at its coordinator

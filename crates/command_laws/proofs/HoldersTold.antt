@@ -7,7 +7,7 @@ use Rattle.run_theory.specs.Lists.{IsIn}
 use Rattle.run_theory.specs.Runs.{log_of}
 use Rattle.run_theory.proofs.Orders.{each_log}
 use Rattle.run_theory.proofs.Pasts.{past_self}
-use Rattle.sig_core.specs.declared.log.LogStep.{LogStep}
+use Rattle.world_core.specs.Steps.{HostStep}
 use Rattle.sig_core.specs.declared.member.TxId.{TxId}
 use Rattle.sig_core.specs.declared.place.Place.{Place}
 use Rattle.sig_core.specs.declared.reply.ApiReply.TheVariants.{Pending}
@@ -26,7 +26,8 @@ use Rattle.node_core.specs.declared.host.Host.TheVariants.{Shell, Node}
 use Rattle.node_core.specs.Replies.{is_left_open, replies_of}
 use Rattle.node_core.specs.Row.{row}
 use Rattle.tc_block.specs.declared.transaction.Transaction.{Transaction}
-use Rattle.world_core.specs.Machine.{after, hosts, machine, step_after}
+use Rattle.world_core.specs.Hosts.{hosts}
+use Rattle.world_core.specs.Machine.{after, machine, step_after}
 use Rattle.world_core.specs.Requests.{request_in, requests}
 use Rattle.world_core.specs.Start.{Start}
 use Rattle.answer_laws.proofs.ApiBegins.{in_middle}
@@ -49,15 +50,15 @@ use Rattle.command_laws.proofs.WaitsBehind.{IsBehindThere, behind_there}
 use Rattle.command_laws.proofs.WaitRun.{AllHold, all_hold}
 use Rattle.command_laws.specs.Served.{name_in, EachIsHeldUp, HoldersAreTold, IsHeldUp, IsHeldUpAt, IsServed, IsToldHolder, own_in}
 
-pub sent_to_append : (start : Start) (test : Place → Body → Bool) (h j : ℕ) (xs ys log : List LogStep)
+pub sent_to_append : (start : Start) (test : Place → Body → Bool) (h j : ℕ) (xs ys log : List HostStep)
     → sent_since_to start test h j (xs ++ ys) log ≡ sent_since_to start test h j xs (ys ++ log) + sent_since_to start test h j ys log
 sent_to_append start test h j [] ys log = omega arith
 sent_to_append start test h j (e ∷ xs) ys log =
     omega (arith, sent_to_append start test h j xs ys log, ap (λ l. sends_of (to_node j test) (step_after start h l e).effects.sends) (append_assoc xs ys log))
 
-pub taken_few : (start : Start) (test : Place → Body → Bool) (i : ℕ) (newer : List LogStep) → taken_since start test i newer ≤ steps test newer
+pub taken_few : (start : Start) (test : Place → Body → Bool) (i : ℕ) (newer : List HostStep) → taken_since start test i newer ≤ steps test newer
 taken_few start test i [] = omega arith
-taken_few start test i (e ∷ newer) = omega (arith, taken_few start test i newer, few (is_from (machine start) i e) (test e.taken.to e.taken.body))
+taken_few start test i (e ∷ newer) = omega (arith, taken_few start test i newer, few (is_from (machine start) i e) (test e.step.taken))
   where
     few : (a b : Bool) → one_if (a && b) ≤ one_if b
     few true b = omega arith
@@ -69,7 +70,7 @@ record IsWaiting (t : OpenTransaction) : Type 0 where
   own : t.tx ≡ Some tx
   does : t.doing ≡ Operating
 
-is_waiting : (start : Start) (logs : ℕ → List LogStep) (t : OpenTransaction) → is_unanswered t.doing ≡ true → is_answered_by start logs t.doing t.tx → IsWaiting t
+is_waiting : (start : Start) (logs : ℕ → List HostStep) (t : OpenTransaction) → is_unanswered t.doing ≡ true → is_answered_by start logs t.doing t.tx → IsWaiting t
 is_waiting start logs t unanswered answered = by t.doing t.tx refl refl unanswered answered
   where
     by : (doing : Doing) (o : Option TxId) → t.doing ≡ doing → t.tx ≡ o → is_unanswered doing ≡ true → is_answered_by start logs doing o → IsWaiting t
@@ -81,7 +82,7 @@ is_waiting start logs t unanswered answered = by t.doing t.tx refl refl unanswer
     by Committing (Some tx) does own some a = absurd a
     by Committing None does own some a = absurd a
 
-module _ (start : Start) (tx : TxId) (u : Transaction) (logs : ℕ → List LogStep) where
+module _ (start : Start) (tx : TxId) (u : Transaction) (logs : ℕ → List HostStep) where
   -- the transaction as its coordinator has it
   on_live : (k : ℕ) → IsLiveAs tx u (after start k (logs k)) → OnTc (λ s. of_live tx s.live ≡ Some u) (after start k (logs k))
   on_live zero live = absurd (subst (IsLiveAs tx u) (shell_after start (logs 0)).is live)
@@ -94,7 +95,7 @@ module _ (start : Start) (tx : TxId) (u : Transaction) (logs : ℕ → List LogS
   not_shell P none zero p = absurd (none (shell_after start (logs 0)).state (subst P (shell_after start (logs 0)).is p))
   not_shell P none (suc h) p = (h, refl)
 
-module _ (answered : EachIsAnswered) (held_up : EachIsHeldUp) (start : Start) (was mid now : ℕ → List LogStep) (t : OpenTransaction) (first_served : IsServed start was mid request.Waits)
+module _ (answered : EachIsAnswered) (held_up : EachIsHeldUp) (start : Start) (was mid now : ℕ → List HostStep) (t : OpenTransaction) (first_served : IsServed start was mid request.Waits)
     (then_served : IsServed start mid now request.Pending) (own : own_in (after start 0 (was 0)) ≡ Some t) (unanswered : is_unanswered t.doing ≡ true) where
   s : ApiState
   s = (shell_after start (was 0)).state
@@ -137,7 +138,7 @@ module _ (answered : EachIsAnswered) (held_up : EachIsHeldUp) (start : Start) (w
 
   asking : IsAsking s t w.tx i (step_after start 0 (was 0) f.first)
   asking =
-      subst (λ (to : Place). IsAsking s t w.tx i (row (after start 0 (was 0)) to f.first.taken.body)) (sym f.place)
+      subst (λ (to : Place). IsAsking s t w.tx i (row (after start 0 (was 0)) to f.first.step.taken.body)) (sym f.place)
       (subst (λ body. IsAsking s t w.tx i (row (after start 0 (was 0)) client body)) (sym f.body) (waits_first (after start 0 (was 0)) s t w.tx i is unanswered w.own))
 
   abbrev first_cut : IsCut (with_first was f.first) mid
@@ -205,8 +206,8 @@ module _ (answered : EachIsAnswered) (held_up : EachIsHeldUp) (start : Start) (w
           (all.nodes c).passes c_is,
           all_arrive start was mid first_served.before first_served.since cut (is_passed w.tx) (suc c) 0 c_low (omega arith),
           taken_few start (is_passed w.tx) (suc c) (log_of (machine start) all.more 0 ++ f.first ∷ []),
-          tally_append (λ (e : LogStep). is_passed w.tx e.taken.to e.taken.body) (log_of (machine start) all.more 0) (f.first ∷ []),
-          ap one_if (ap (λ (to : Place). is_passed w.tx to f.first.taken.body) f.place ∙ ap (is_passed w.tx client) f.body),
+          tally_append (λ (e : HostStep). is_passed w.tx e.step.taken) (log_of (machine start) all.more 0) (f.first ∷ []),
+          ap one_if (ap (λ (to : Place). is_passed w.tx to f.first.step.taken.body) f.place ∙ ap (is_passed w.tx client) f.body),
         )
 
   ahead_known : is_some all.shell.ahead ≡ true
@@ -223,22 +224,22 @@ module _ (answered : EachIsAnswered) (held_up : EachIsHeldUp) (start : Start) (w
 
   tells : TellsHolder t.name all.shell.ahead (after start 0 (mid 0)) (step_after start 0 (mid 0) then.first)
   tells =
-      subst (λ (to : Place). TellsHolder t.name all.shell.ahead (after start 0 (mid 0)) (row (after start 0 (mid 0)) to then.first.taken.body)) (sym then.place)
+      subst (λ (to : Place). TellsHolder t.name all.shell.ahead (after start 0 (mid 0)) (row (after start 0 (mid 0)) to then.first.step.taken.body)) (sym then.place)
       (subst (λ body. TellsHolder t.name all.shell.ahead (after start 0 (mid 0)) (row (after start 0 (mid 0)) client body)) (sym then.body)
       (pending_first (after start 0 (mid 0)) i.first.front t i.first.back i.name all.shell.ahead about unanswered i.first.none i.first.passes ahead_known))
 
   -- the signal that told it came from a node where the transaction waits behind that one
-  telling : Counted (λ (e : LogStep). is_telling_who w.tx tells.who e.taken.to e.taken.body) (log_of (machine start) all.more 0)
-  telling = counted (λ (e : LogStep). is_telling_who w.tx tells.who e.taken.to e.taken.body) (log_of (machine start) all.more 0) (all.shell.from tells.who tells.is)
+  telling : Counted (λ (e : HostStep). is_telling_who w.tx tells.who e.step.taken) (log_of (machine start) all.more 0)
+  telling = counted (λ (e : HostStep). is_telling_who w.tx tells.who e.step.taken) (log_of (machine start) all.more 0) (all.shell.from tells.who tells.is)
 
-  in_front : (xs ys : List LogStep) (e : LogStep) → IsIn e xs → IsIn e (xs ++ ys)
+  in_front : (xs ys : List HostStep) (e : HostStep) → IsIn e xs → IsIn e (xs ++ ys)
   in_front [] ys e inside = absurd inside
   in_front (x ∷ xs) ys e (inl same) = inl same
   in_front (x ∷ xs) ys e (inr rest) = inr (in_front xs ys e rest)
 
-  behind : IsBehindThere start was mid w.tx tells.who first_served.before first_served.since cut (λ h. each_log (machine start) (λ (e : LogStep). is_wait_of w.tx e.taken.body ≡ true) all.more (suc h) all.waits)
+  behind : IsBehindThere start was mid w.tx tells.who first_served.before first_served.since cut (λ h. each_log (machine start) (λ (e : HostStep). is_wait_of w.tx e.step.taken.body ≡ true) all.more (suc h) all.waits)
   behind =
-      behind_there start was mid w.tx tells.who first_served.before first_served.since cut (λ h. each_log (machine start) (λ (e : LogStep). is_wait_of w.tx e.taken.body ≡ true) all.more (suc h) all.waits)
+      behind_there start was mid w.tx tells.who first_served.before first_served.since cut (λ h. each_log (machine start) (λ (e : HostStep). is_wait_of w.tx e.step.taken.body ≡ true) all.more (suc h) all.waits)
       telling.item (in_front (log_of (machine start) all.more 0) (f.first ∷ []) telling.item telling.inside) telling.passes
 
   holder_told : IsToldHolder start was mid now

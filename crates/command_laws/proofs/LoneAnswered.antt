@@ -3,7 +3,7 @@ use Rattle.std.proofs.Common.{◌≡◌, ◌⊎◌, ℕ, suc, true, false, List,
 use Rattle.std.specs.Prelude.{Option, None, Some}
 use Rattle.run_theory.specs.Lists.{Each}
 use Rattle.run_theory.proofs.Pasts.{each_before}
-use Rattle.sig_core.specs.declared.log.LogStep.{LogStep}
+use Rattle.world_core.specs.Steps.{HostStep}
 use Rattle.sig_core.specs.declared.member.TxId.{TxId}
 use Rattle.sig_core.specs.declared.op.Op.{Op}
 use Rattle.sig_core.specs.declared.place.Place.{Place}
@@ -42,8 +42,8 @@ use Rattle.command_laws.specs.Served.{IsAnsweredAlone, IsServed}
 use Rattle.transit_laws.proofs.Weighing.{none_passes}
 
 -- what was so behind some steps and a log was so behind that log
-module _ (start : Start) (newer : List LogStep) (step : LogStep) (older log : List LogStep) where
-  same_log : (some : List LogStep) → some ++ (step ∷ (older ++ log)) ≡ (some ++ step ∷ older) ++ log
+module _ (start : Start) (newer : List HostStep) (step : HostStep) (older log : List HostStep) where
+  same_log : (some : List HostStep) → some ++ (step ∷ (older ++ log)) ≡ (some ++ step ∷ older) ++ log
   same_log some = sym (append_assoc some (step ∷ older) log)
 
   answered_before : (name : Option ℕ) → HasAnswered name start newer (step ∷ (older ++ log)) → HasAnswered name start (newer ++ step ∷ older) log
@@ -61,10 +61,10 @@ module _ (start : Start) (newer : List LogStep) (step : LogStep) (older log : Li
     step = ended.step;
     older = ended.older ++ step ∷ older;
     is = ap (λ w. w ++ step ∷ older) ended.is ∙ append_assoc ended.newer (ended.step ∷ ended.older) (step ∷ older);
-    ending = subst (λ l. IsEnding tx name (after start 0 l) ended.step.taken.body (step_after start 0 l ended.step)) (same_log ended.older) ended.ending;
+    ending = subst (λ l. IsEnding tx name (after start 0 l) ended.step.step.taken.body (step_after start 0 l ended.step)) (same_log ended.older) ended.ending;
   }
 
-module _ (answered : EachIsAnswered) (start : Start) (was now : ℕ → List LogStep) (op : Op) (served : IsServed start was now (Operate None op)) where
+module _ (answered : EachIsAnswered) (start : Start) (was now : ℕ → List HostStep) (op : Op) (served : IsServed start was now (Operate None op)) where
   abbrev Result : Type 0
   Result = IsAnsweredAlone start was now ⊎ (IsRefusedAlone start was now ⊎ (IsTurnedAway start was now ⊎ WaitsAlone start was now))
 
@@ -73,7 +73,7 @@ module _ (answered : EachIsAnswered) (start : Start) (was now : ℕ → List Log
 
   asked : IsAskedAlone op (step_after start 0 (was 0) f.first)
   asked =
-      subst (λ (to : Place). IsAskedAlone op (row (after start 0 (was 0)) to f.first.taken.body)) (sym f.place)
+      subst (λ (to : Place). IsAskedAlone op (row (after start 0 (was 0)) to f.first.step.taken.body)) (sym f.place)
       (subst (λ body. IsAskedAlone op (row (after start 0 (was 0)) client body)) (sym f.body)
       (alone_first start (after start 0 (was 0)) op (shell_after start (was 0)) served.before.some (calm_at start was served.before)))
 
@@ -90,7 +90,7 @@ module _ (answered : EachIsAnswered) (start : Start) (was now : ℕ → List Log
   not_beginning has = let both : true ≡ false = sym (ap is_beginning has.does) ∙ no_begin start now has.item served.since has.inside in cc
 
   module _ (wishes : (tx : TxId) → sent_since start (is_wish_to tx) 0 f.later (f.first ∷ was 0) ≡ 0) (b : HasBegun op start f.later (f.first ∷ was 0)) where
-    abbrev rest : List LogStep
+    abbrev rest : List HostStep
     rest = b.older ++ f.first ∷ was 0
 
     now_is : now 0 ≡ b.newer ++ b.step ∷ rest
@@ -103,8 +103,8 @@ module _ (answered : EachIsAnswered) (start : Start) (was now : ℕ → List Log
           arith,
           once_started start b.tx now served.since,
           ap (steps (is_start b.tx)) now_is,
-          tally_append (λ (e : LogStep). is_start b.tx e.taken.to e.taken.body) b.newer (b.step ∷ rest),
-          tally_append (λ (e : LogStep). is_start b.tx e.taken.to e.taken.body) b.older (f.first ∷ was 0),
+          tally_append (λ (e : HostStep). is_start b.tx e.step.taken) b.newer (b.step ∷ rest),
+          tally_append (λ (e : HostStep). is_start b.tx e.step.taken) b.older (f.first ∷ was 0),
           ap one_if b.begun,
         )
 
@@ -138,8 +138,8 @@ module _ (answered : EachIsAnswered) (start : Start) (was now : ℕ → List Log
         by : (doing : Doing) (o : Option TxId) → doing ≡ Operating → o ≡ Some b.tx → is_answered_by start now doing o → WaitsForLock start now b.tx
         by doing o is some all = subst (λ p. is_answered_by start now Operating p) some (subst (λ d. is_answered_by start now d o) is all)
 
-    plain_newer : Each (λ (e : LogStep). is_request e.taken.body ≡ false) b.newer
-    plain_newer = each_before (λ (e : LogStep). is_request e.taken.body ≡ false) b.newer (b.step ∷ b.older) (subst (Each (λ (e : LogStep). is_request e.taken.body ≡ false)) b.is f.plain)
+    plain_newer : Each (λ (e : HostStep). is_request e.step.taken.body ≡ false) b.newer
+    plain_newer = each_before (λ (e : HostStep). is_request e.step.taken.body ≡ false) b.newer (b.step ∷ b.older) (subst (Each (λ (e : HostStep). is_request e.step.taken.body ≡ false)) b.is f.plain)
 
     begun_result : Result
     begun_result = by (operate_goes b.tx None start b.newer (b.step ∷ rest) plain_newer b.has)

@@ -3,7 +3,7 @@ use Rattle.std.proofs.Common.{◌≡◌, ◌⊎◌, ◌≤◌, ℕ, Bool, true, 
 use Rattle.std.specs.Prelude.{◌&&◌, Option, None, Some}
 use Rattle.run_theory.specs.Lists.{Each, IsIn}
 use Rattle.run_theory.proofs.Pasts.{each_map}
-use Rattle.sig_core.specs.declared.log.LogStep.{LogStep}
+use Rattle.world_core.specs.Steps.{HostStep}
 use Rattle.sig_core.specs.declared.member.TxId.{TxId}
 use Rattle.sig_core.specs.declared.op.Answer.{Answer}
 use Rattle.sig_core.specs.declared.op.Op.{Op}
@@ -24,7 +24,7 @@ use Rattle.sig_core.specs.Place.{client}
 use Rattle.sig_core.specs.Step.{Step}
 use Rattle.api_block.specs.declared.opened.Doing.TheVariants.{Committing}
 use Rattle.api_block.specs.declared.opened.OpenTransaction.{OpenTransaction}
-use Rattle.api_block.specs.Api.{api_row, request_row}
+use Rattle.api_block.specs.Api.{api_table, request_row}
 use Rattle.api_block.specs.Members.{least_node}
 use Rattle.api_block.specs.Opened.{answered, has_tx, is_tx}
 use Rattle.api_block.specs.Operate.{lone_by, lone_row}
@@ -114,10 +114,10 @@ module _ (s : ApiState) (body : Body) where
 shell_lone : (s : ApiState) (at : BlockId) (body : Body) → is_request body ≡ false
     → ((is_api at ≡ true) × IsLoneStep body (shell_row s at body).state.opened) ⊎ (tally is_lone (shell_row s at body).state.replies ≡ tally is_lone s.replies)
 unfolding shell_row
-shell_lone s block.Api body plain = by (change_lone s body (api_row s body) (api_changes s body plain))
+shell_lone s block.Api body plain = by (change_lone s body (api_table s body) (api_changes s body plain))
   where
-    by : IsLoneStep body (api_row s body).state.opened ⊎ (tally is_lone (api_row s body).state.replies ≡ tally is_lone s.replies)
-        → ((true ≡ true) × IsLoneStep body (api_row s body).state.opened) ⊎ (tally is_lone (api_row s body).state.replies ≡ tally is_lone s.replies)
+    by : IsLoneStep body (api_table s body).state.opened ⊎ (tally is_lone (api_table s body).state.replies ≡ tally is_lone s.replies)
+        → ((true ≡ true) × IsLoneStep body (api_table s body).state.opened) ⊎ (tally is_lone (api_table s body).state.replies ≡ tally is_lone s.replies)
     by (inl lone) = inl (refl, lone)
     by (inr same) = inr same
 shell_lone s _ body plain = inr refl
@@ -129,22 +129,22 @@ host_lone (Shell s) to body plain = shell_lone s to.block body plain
 host_lone (Node n) to body plain = inr refl
 
 -- one of these steps behind a log answers an operation alone
-pub record HasLone (start : Start) (later log : List LogStep) : Type 0 where
-  pub newer : List LogStep
-  pub step : LogStep
-  pub older : List LogStep
+pub record HasLone (start : Start) (later log : List HostStep) : Type 0 where
+  pub newer : List HostStep
+  pub step : HostStep
+  pub older : List HostStep
   pub is : later ≡ newer ++ step ∷ older
   pub tx : TxId
   pub block : is_api step.taken.to.block ≡ true
   pub lone : AnswersLone tx step.taken.body (opened_in (after start 0 (step ∷ (older ++ log))))
 
-pub lone_since : (start : Start) (later log : List LogStep) → Each (λ (e : LogStep). is_request e.taken.body ≡ false) later
+pub lone_since : (start : Start) (later log : List HostStep) → Each (λ (e : HostStep). is_request e.step.taken.body ≡ false) later
     → HasLone start later log ⊎ (tally is_lone (replies_of (after start 0 (later ++ log))) ≡ tally is_lone (replies_of (after start 0 log)))
 lone_since start [] log plain = inr refl
 lone_since start (e ∷ later) log plain = by (lone_since start later log plain.1)
   where
     next : tally is_lone (replies_of (after start 0 (later ++ log))) ≡ tally is_lone (replies_of (after start 0 log))
-        → ((is_api e.taken.to.block ≡ true) × IsLoneStep e.taken.body (opened_in (after start 0 (e ∷ (later ++ log)))))
+        → ((is_api e.step.taken.to.block ≡ true) × IsLoneStep e.step.taken.body (opened_in (after start 0 (e ∷ (later ++ log)))))
         ⊎ (tally is_lone (replies_of (after start 0 (e ∷ (later ++ log)))) ≡ tally is_lone (replies_of (after start 0 (later ++ log))))
         → HasLone start (e ∷ later) log ⊎ (tally is_lone (replies_of (after start 0 (e ∷ (later ++ log)))) ≡ tally is_lone (replies_of (after start 0 log)))
     next before (inl lone) = inl (record { newer = []; step = e; older = later; is = refl; tx = lone.1.0; block = lone.0; lone = lone.1.1 })
@@ -153,7 +153,7 @@ lone_since start (e ∷ later) log plain = by (lone_since start later log plain.
     by : HasLone start later log ⊎ (tally is_lone (replies_of (after start 0 (later ++ log))) ≡ tally is_lone (replies_of (after start 0 log)))
         → HasLone start (e ∷ later) log ⊎ (tally is_lone (replies_of (after start 0 (e ∷ (later ++ log)))) ≡ tally is_lone (replies_of (after start 0 log)))
     by (inl h) = inl (record { newer = e ∷ h.newer; step = h.step; older = h.older; is = ap (λ w. e ∷ w) h.is; tx = h.tx; block = h.block; lone = h.lone })
-    by (inr before) = next before (host_lone (after start 0 (later ++ log)) e.taken.to e.taken.body plain.0)
+    by (inr before) = next before (host_lone (after start 0 (later ++ log)) e.step.taken plain.0)
 
 module _ (tx : TxId) where
   none_news : (to : Place) (body : Body) → is_news_kind body ≡ true → (is_wish_back_to tx to body ≡ false) × (is_key tx to body ≡ false)
@@ -205,7 +205,7 @@ module _ (tx : TxId) where
   shell_asks : (s : ApiState) (at : BlockId) (body : Body) → is_request body ≡ false
       → (sends_of (is_wish_back_to tx) (shell_row s at body).effects.sends ≡ 0) × (sends_of (is_key tx) (shell_row s at body).effects.sends ≤ one_if (is_api at && start_of tx body))
   unfolding shell_row
-  shell_asks s block.Api body plain = let asks = change_asks s body (api_row s body) (api_changes s body plain) in (asks.wishes, asks.keys)
+  shell_asks s block.Api body plain = let asks = change_asks s body (api_table s body) (api_changes s body plain) in (asks.wishes, asks.keys)
   shell_asks s _ body plain = (refl, omega arith)
 
   host_asks : (g : host.Host) (s : ApiState) (to : Place) (body : Body) → g ≡ Shell s → is_request body ≡ false
@@ -214,13 +214,13 @@ module _ (tx : TxId) where
   host_asks (Shell t) s to body is plain = shell_asks t to.block body plain
   host_asks (Node n) s to body is plain = cc
 
-  pub asks_since : (start : Start) (later log : List LogStep) → Each (λ (e : LogStep). is_request e.taken.body ≡ false) later
+  pub asks_since : (start : Start) (later log : List HostStep) → Each (λ (e : HostStep). is_request e.step.taken.body ≡ false) later
       → (sent_since start (is_wish_back_to tx) 0 later log ≡ 0) × (sent_since start (is_key tx) 0 later log ≤ steps (is_start tx) later)
   asks_since start [] log plain = (refl, omega arith)
   asks_since start (e ∷ later) log plain =
       let rest = asks_since start later log plain.1 in
       let s = shell_after start (later ++ log) in
-      let here = host_asks (after start 0 (later ++ log)) s.state e.taken.to e.taken.body s.is plain.0 in
+      let here = host_asks (after start 0 (later ++ log)) s.state e.step.taken s.is plain.0 in
       (omega (arith, rest.0, here.0), omega (arith, rest.1, here.1))
 
 -- the request of an operation alone asks for a transaction alone, and answers none

@@ -2,7 +2,7 @@
 use Rattle.std.proofs.Common.{◌≡◌, ◌⊎◌, ◌≤◌, ℕ, zero, suc, Bool, true, false, List, [], ◌∷◌, ◌++◌, refl, sym, ap, ◌∙◌, subst, inl, inr, arith}
 use Rattle.std.specs.Prelude.{◌&&◌, Option, None, Some}
 use Rattle.run_theory.specs.Lists.{Each, IsIn}
-use Rattle.sig_core.specs.declared.log.LogStep.{LogStep}
+use Rattle.world_core.specs.Steps.{HostStep}
 use Rattle.sig_core.specs.declared.member.Member.{Member}
 use Rattle.sig_core.specs.declared.member.TxId.{TxId}
 use Rattle.sig_core.specs.declared.op.Op.{Op}
@@ -23,7 +23,7 @@ use Rattle.sig_core.specs.Step.{Step, stay}
 use Rattle.api_block.specs.declared.opened.Doing.{Doing}
 use Rattle.api_block.specs.declared.opened.Doing.TheVariants.{Beginning, Operating}
 use Rattle.api_block.specs.declared.opened.OpenTransaction.{OpenTransaction}
-use Rattle.api_block.specs.Api.{api_row, request_row}
+use Rattle.api_block.specs.Api.{api_table, request_row}
 use Rattle.api_block.specs.Members.{least_node}
 use Rattle.api_block.specs.Opened.{asked_for, begins, begins_at, begun_operating, behind, is_beginning, is_tx, same_name}
 use Rattle.api_block.specs.Operate.{begun_by, begun_row, lone_by, lone_row}
@@ -34,7 +34,8 @@ use Rattle.node_core.specs.Replies.{replies_of}
 use Rattle.node_core.specs.Requests.{is_request}
 use Rattle.node_core.specs.Row.{in_shell, row, shell_row}
 use Rattle.world_core.specs.Machine.{after}
-use Rattle.world_core.specs.Start.{Start, members}
+use Rattle.frag_map.specs.Layout.{members}
+use Rattle.world_core.specs.Start.{Start}
 use Rattle.answer_laws.proofs.ApiBegins.{in_middle, same_name-is}
 use Rattle.answer_laws.proofs.Focus.{IsFocus, where_found}
 use Rattle.answer_laws.proofs.Hosts.{IsShell}
@@ -135,12 +136,12 @@ module _ (op : Op) where
     not_busy t doing is off same =
         let both : false ≡ true = sym off ∙ ap is_beginning (sym is) ∙ ap (λ (x : OpenTransaction). is_beginning x.doing) (sym same) ∙ ap is_beginning has.does in cc
 
-    change_goes : (body : Body) → ApiChange s body (api_row s body) → AloneGoes s body (api_row s body)
+    change_goes : (body : Body) → ApiChange s body (api_table s body) → AloneGoes s body (api_table s body)
     unfolding AloneGoes
     change_goes body (rests is adds kind) = inl (as_before _ (subst (IsIn has.item) (sym is) has.inside) (omega (arith, has.only, ap (tally begins_any) is)))
     change_goes body (waits one ahead at about is replies sends) = by (here_or_apart has.item s.opened at has.inside)
       where
-        by : (has.item ≡ at.t) ⊎ IsApart has.item at.front at.back → AloneGoes s body (api_row s body)
+        by : (has.item ≡ at.t) ⊎ IsApart has.item at.front at.back → AloneGoes s body (api_table s body)
         by (inl same) = inl (record {
           item = behind at.t (Some ahead);
           inside = subst (IsIn (behind at.t (Some ahead))) (sym is) (in_middle at.front (behind at.t (Some ahead)) at.back);
@@ -152,20 +153,20 @@ module _ (op : Op) where
         by (inr others) = inl (as_before _ (subst (IsIn has.item) (sym is) (others.kept _)) (fewer at (behind at.t (Some ahead)) _ is (omega arith)))
     change_goes body (answers one answer called at about passes does named is replies sends) = by (here_or_apart has.item s.opened at has.inside)
       where
-        by : (has.item ≡ at.t) ⊎ IsApart has.item at.front at.back → AloneGoes s body (api_row s body)
+        by : (has.item ≡ at.t) ⊎ IsApart has.item at.front at.back → AloneGoes s body (api_table s body)
         by (inl same) = absurd (not_busy at.t Operating does refl same)
         by (inr others) = inl (as_before _ (subst (IsIn has.item) (sym is) (others.kept _)) (fewer at _ _ is (omega arith)))
     change_goes body (commits one answer at about passes does named is replies sends) = by (here_or_apart has.item s.opened at has.inside)
       where
-        by : (has.item ≡ at.t) ⊎ IsApart has.item at.front at.back → AloneGoes s body (api_row s body)
+        by : (has.item ≡ at.t) ⊎ IsApart has.item at.front at.back → AloneGoes s body (api_table s body)
         by (inl same) = absurd (not_busy at.t Operating does refl same)
         by (inr others) = inl (as_before _ (subst (IsIn has.item) (sym is) (others.kept _)) (fewer at _ _ is (omega arith)))
     change_goes body (ends one end at about passes is replies marks sends) = by (here_or_apart has.item s.opened at has.inside)
       where
-        by : (has.item ≡ at.t) ⊎ IsApart has.item at.front at.back → AloneGoes s body (api_row s body)
+        by : (has.item ≡ at.t) ⊎ IsApart has.item at.front at.back → AloneGoes s body (api_table s body)
         by (inl same) = absurd (let both : false ≡ true = ap (is_tx one) (sym has.unborn) ∙ ap (λ (x : OpenTransaction). is_tx one x.tx) same ∙ passes in cc)
         by (inr others) = inl (as_before _ (subst (IsIn has.item) (sym is) others.left) (gone at _ is))
-    change_goes body (starts called one at u about passes is goes) = subst (λ b. AloneGoes s b (api_row s b)) (sym about) (begins_there called one)
+    change_goes body (starts called one at u about passes is goes) = subst (λ b. AloneGoes s b (api_table s b)) (sym about) (begins_there called one)
     change_goes body (refuses called at about passes is replies sends) =
         let same = is_that at.t (is_inside at) (left_of (is_beginning at.t.doing) (same_name at.t.name called) passes) in
         inr (inr (replies ∙ ap (λ n. s.replies ++ Refused n TooManyOpen ∷ []) (no_name at.t called same (last_of (is_beginning at.t.doing) (same_name at.t.name called) passes))))
@@ -188,8 +189,8 @@ module _ (op : Op) where
   unfolding shell_row AloneGoes
   shell_goes s block.Api body plain has = by (change_goes s has body (api_changes s body plain))
     where
-      by : IsAlone op (api_row s body).state.opened ⊎ (BeginsHere body (api_row s body).state.opened ⊎ IsRefusedHere s (api_row s body))
-          → IsAlone op (api_row s body).state.opened ⊎ (((true ≡ true) × BeginsHere body (api_row s body).state.opened) ⊎ IsRefusedHere s (api_row s body))
+      by : IsAlone op (api_table s body).state.opened ⊎ (BeginsHere body (api_table s body).state.opened ⊎ IsRefusedHere s (api_table s body))
+          → IsAlone op (api_table s body).state.opened ⊎ (((true ≡ true) × BeginsHere body (api_table s body).state.opened) ⊎ IsRefusedHere s (api_table s body))
       by (inl goes) = inl goes
       by (inr (inl begun_here)) = inr (inl (refl, begun_here))
       by (inr (inr refused_here)) = inr (inr refused_here)
@@ -211,32 +212,32 @@ module _ (op : Op) where
   host_goes (Node n) to body plain has = absurd has.inside
 
   -- in one of these steps behind a log it began
-  pub record HasBegun (start : Start) (later log : List LogStep) : Type 0 where
-    pub newer : List LogStep
-    pub step : LogStep
-    pub older : List LogStep
+  pub record HasBegun (start : Start) (later log : List HostStep) : Type 0 where
+    pub newer : List HostStep
+    pub step : HostStep
+    pub older : List HostStep
     pub is : later ≡ newer ++ step ∷ older
     pub tx : TxId
     pub begun : is_start tx step.taken.to step.taken.body ≡ true
     pub has : HasOne tx None Operating (opened_in (after start 0 (step ∷ (older ++ log))))
 
   -- or it was refused
-  pub record WasRefused (start : Start) (later log : List LogStep) : Type 0 where
-    pub newer : List LogStep
-    pub step : LogStep
-    pub older : List LogStep
+  pub record WasRefused (start : Start) (later log : List HostStep) : Type 0 where
+    pub newer : List HostStep
+    pub step : HostStep
+    pub older : List HostStep
     pub is : later ≡ newer ++ step ∷ older
     pub told : replies_of (after start 0 (step ∷ (older ++ log))) ≡ replies_of (after start 0 (older ++ log)) ++ Refused None TooManyOpen ∷ []
 
   -- along steps that aren't requests
-  pub begin_goes : (start : Start) (later log : List LogStep) → Each (λ (e : LogStep). is_request e.taken.body ≡ false) later → IsAlone op (opened_in (after start 0 log))
+  pub begin_goes : (start : Start) (later log : List HostStep) → Each (λ (e : HostStep). is_request e.step.taken.body ≡ false) later → IsAlone op (opened_in (after start 0 log))
       → IsAlone op (opened_in (after start 0 (later ++ log))) ⊎ (HasBegun start later log ⊎ WasRefused start later log)
   begin_goes start [] log plain has = inl has
   begin_goes start (e ∷ later) log plain has = by (begin_goes start later log plain.1 has)
     where
-      next : IsAlone op (opened_in (row (after start 0 (later ++ log)) e.taken.to e.taken.body).state)
-          ⊎ (BeginsNow e.taken.to e.taken.body (opened_in (row (after start 0 (later ++ log)) e.taken.to e.taken.body).state)
-          ⊎ IsRefusedNow (after start 0 (later ++ log)) (row (after start 0 (later ++ log)) e.taken.to e.taken.body))
+      next : IsAlone op (opened_in (row (after start 0 (later ++ log)) e.step.taken).state)
+          ⊎ (BeginsNow e.step.taken (opened_in (row (after start 0 (later ++ log)) e.step.taken).state)
+          ⊎ IsRefusedNow (after start 0 (later ++ log)) (row (after start 0 (later ++ log)) e.step.taken))
           → IsAlone op (opened_in (after start 0 (e ∷ (later ++ log)))) ⊎ (HasBegun start (e ∷ later) log ⊎ WasRefused start (e ∷ later) log)
       next (inl goes) = inl goes
       next (inr (inl b)) = inr (inl (record { newer = []; step = e; older = later; is = refl; tx = b.tx; begun = b.start; has = b.has }))
@@ -244,7 +245,7 @@ module _ (op : Op) where
 
       by : IsAlone op (opened_in (after start 0 (later ++ log))) ⊎ (HasBegun start later log ⊎ WasRefused start later log)
           → IsAlone op (opened_in (after start 0 (e ∷ (later ++ log)))) ⊎ (HasBegun start (e ∷ later) log ⊎ WasRefused start (e ∷ later) log)
-      by (inl goes) = next (host_goes (after start 0 (later ++ log)) e.taken.to e.taken.body plain.0 goes)
+      by (inl goes) = next (host_goes (after start 0 (later ++ log)) e.step.taken plain.0 goes)
       by (inr (inl b)) = inr (inl (record { newer = e ∷ b.newer; step = b.step; older = b.older; is = ap (λ w. e ∷ w) b.is; tx = b.tx; begun = b.begun; has = b.has }))
       by (inr (inr r)) = inr (inr (record { newer = e ∷ r.newer; step = r.step; older = r.older; is = ap (λ w. e ∷ w) r.is; told = r.told }))
 
@@ -263,7 +264,7 @@ pub record IsAskedAlone (op : Op) (step : Step host.Host) : Type 0 where
   pub alone : IsAlone op (opened_in step.state)
   pub wishes : (tx : TxId) → sends_of (is_wish_to tx) step.effects.sends ≡ 0
 
-pub alone_first : (start : Start) (g : host.Host) (op : Op) → IsShell start g → 1 ≤ start.nodes → NoneBegins (opened_in g)
+pub alone_first : (start : Start) (g : host.Host) (op : Op) → IsShell start g → 1 ≤ start.shape.nodes → NoneBegins (opened_in g)
     → IsAskedAlone op (row g client (Host (Continue (work.Request (request.Operate None op)) 0)))
 unfolding row shell_row request_row lone_row
 alone_first start (Shell s) op shell some calm = subst (λ o. IsAskedAlone op (in_shell (lone_by s op o))) (sym there) (record {
@@ -278,8 +279,8 @@ alone_first start (Shell s) op shell some calm = subst (λ o. IsAskedAlone op (i
   wishes = λ tx. refl;
 })
   where
-    least : (node : ℕ) × (least_node (members start.nodes) ≡ Some node)
-    least = least_of start.nodes some
+    least : (node : ℕ) × (least_node (members start.shape.nodes) ≡ Some node)
+    least = least_of start.shape.nodes some
 
     own : (a b : ApiState) → Shell a ≡ Shell b → a ≡ b
     own a b e = cc

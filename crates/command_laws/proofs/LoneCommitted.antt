@@ -10,7 +10,7 @@ use Rattle.run_theory.specs.Lists.{Each, IsIn, IsPast}
 use Rattle.run_theory.specs.Logs.{IsLog}
 use Rattle.run_theory.proofs.Links.{log_after}
 use Rattle.run_theory.proofs.Pasts.{each_before, each_in, each_map}
-use Rattle.sig_core.specs.declared.log.LogStep.{LogStep}
+use Rattle.world_core.specs.Steps.{HostStep}
 use Rattle.sig_core.specs.declared.member.TxId.{TxId}
 use Rattle.sig_core.specs.declared.op.Op.{Op}
 use Rattle.sig_core.specs.declared.place.Place.{Place}
@@ -30,7 +30,8 @@ use Rattle.node_core.specs.Requests.{is_request}
 use Rattle.node_core.specs.Row.{row}
 use Rattle.tc_block.specs.declared.transaction.Transaction.{Transaction}
 use Rattle.world_core.proofs.Replies.{replies_grow}
-use Rattle.world_core.specs.Machine.{after, hosts, machine, step_after}
+use Rattle.world_core.specs.Hosts.{hosts}
+use Rattle.world_core.specs.Machine.{after, machine, step_after}
 use Rattle.world_core.specs.Start.{Start}
 use Rattle.answer_laws.proofs.ApiBegins.{in_middle}
 use Rattle.answer_laws.proofs.LinkCounts.{all_three, signals, steps, taken_steps}
@@ -57,21 +58,21 @@ use Rattle.commit_laws.proofs.Keys.{same_tx-self}
 use Rattle.command_laws.specs.Served.{IsAnsweredAlone, IsCommittedAlone, IsServed, LoneAreCommitted}
 
 -- signals that one host alone sent were taken from that host
-pub steps_from_one : (start : Start) (test : Place → Body → Bool) (i : ℕ) → ((to : Place) (body : Body) → test to body ≡ true → is_request body ≡ false) → (newer : List LogStep)
+pub steps_from_one : (start : Start) (test : Place → Body → Bool) (i : ℕ) → ((to : Place) (body : Body) → test to body ≡ true → is_request body ≡ false) → (newer : List HostStep)
     → ((k : ℕ) → k ≢ i → taken_since start test k newer ≡ 0) → steps test newer ≤ taken_since start test i newer
 steps_from_one start test i plain [] none = omega arith
-steps_from_one start test i plain (e ∷ newer) none = by (test e.taken.to e.taken.body) refl (steps_from_one start test i plain newer (λ k differs. omega (arith, none k differs)))
+steps_from_one start test i plain (e ∷ newer) none = by (test e.step.taken) refl (steps_from_one start test i plain newer (λ k differs. omega (arith, none k differs)))
   where
-    from : (k : ℕ) → e.taken.from.0 ≡ k → test e.taken.to e.taken.body ≡ true → (is_from (machine start) k e && test e.taken.to e.taken.body) ≡ true
-    from k at is = all_three (is_request e.taken.body) (e.taken.from.0 == k) (test e.taken.to e.taken.body) (plain e.taken.to e.taken.body is) (grind (arith, nat_tests, at)) is
+    from : (k : ℕ) → e.step.taken.from.0 ≡ k → test e.step.taken ≡ true → (is_from (machine start) k e && test e.step.taken) ≡ true
+    from k at is = all_three (is_request e.step.taken.body) (e.step.taken.from.0 == k) (test e.step.taken) (plain e.step.taken is) (grind (arith, nat_tests, at)) is
 
-    by : (b : Bool) → test e.taken.to e.taken.body ≡ b → steps test newer ≤ taken_since start test i newer → one_if b + steps test newer ≤ taken_since start test i (e ∷ newer)
+    by : (b : Bool) → test e.step.taken ≡ b → steps test newer ≤ taken_since start test i newer → one_if b + steps test newer ≤ taken_since start test i (e ∷ newer)
     by false is less = omega (arith, less)
-    by true is less = at (cases_eq e.taken.from.0 i)
+    by true is less = at (cases_eq e.step.taken.from.0 i)
       where
-        at : (e.taken.from.0 ≡ i) ⊎ (e.taken.from.0 ≢ i) → one_if true + steps test newer ≤ taken_since start test i (e ∷ newer)
+        at : (e.step.taken.from.0 ≡ i) ⊎ (e.step.taken.from.0 ≢ i) → one_if true + steps test newer ≤ taken_since start test i (e ∷ newer)
         at (inl same) = omega (arith, less, ap one_if (from i same is))
-        at (inr differs) = absurd (omega (arith, none e.taken.from.0 differs, ap one_if (from e.taken.from.0 refl is)))
+        at (inr differs) = absurd (omega (arith, none e.step.taken.from.0 differs, ap one_if (from e.step.taken.from.0 refl is)))
 
 request_plain_key : (tx : TxId) (to : Place) (body : Body) → is_key tx to body ≡ true → is_request body ≡ false
 request_plain_key tx to body is = plain body (last_of (is_tc to.block) (key_of_tx tx body) is)
@@ -114,7 +115,7 @@ fewer_asked tx (e ∷ live) = omega (arith, fewer_asked tx live, few (same_tx e.
     few true false = omega arith
     few false b = omega arith
 
-module _ (start : Start) (was now : ℕ → List LogStep) (op : Op) (served : IsServed start was now (Operate None op)) where
+module _ (start : Start) (was now : ℕ → List HostStep) (op : Op) (served : IsServed start was now (Operate None op)) where
   f : IsFirst start was now (Operate None op)
   f = request_first start was now (Operate None op) served
 
@@ -124,7 +125,7 @@ module _ (start : Start) (was now : ℕ → List LogStep) (op : Op) (served : Is
   module _ (tx : TxId) where
     first : LoneFirst tx (after start 0 (was 0)) (step_after start 0 (was 0) f.first)
     first =
-        subst (λ (to : Place). LoneFirst tx (after start 0 (was 0)) (row (after start 0 (was 0)) to f.first.taken.body)) (sym f.place)
+        subst (λ (to : Place). LoneFirst tx (after start 0 (was 0)) (row (after start 0 (was 0)) to f.first.step.taken.body)) (sym f.place)
         (subst (λ body. LoneFirst tx (after start 0 (was 0)) (row (after start 0 (was 0)) client body)) (sym f.body) (lone_first tx (after start 0 (was 0)) op))
 
     -- nobody wishes for its abort
@@ -133,9 +134,9 @@ module _ (start : Start) (was now : ℕ → List LogStep) (op : Op) (served : Is
         omega (arith, sent_append start (is_wish_back_to tx) 0 f.later (f.first ∷ []) (was 0), (asks_since tx start f.later (f.first ∷ was 0) f.plain).0, first.wishes)
     no_wishes (suc h) = node_since start (is_wish_back_to tx) (no_wish_node tx) h (cut (suc h)).newer (was (suc h))
 
-    none_wished : (h : ℕ) → Each (λ (e : LogStep). is_wish_back_to tx e.taken.to e.taken.body ≡ false) (cut h).newer
+    none_wished : (h : ℕ) → Each (λ (e : HostStep). is_wish_back_to tx e.step.taken ≡ false) (cut h).newer
     none_wished h =
-        each_map (λ (e : LogStep). is_request e.taken.body ≡ false → is_wish_back_to tx e.taken.to e.taken.body ≡ false) (λ (e : LogStep). is_wish_back_to tx e.taken.to e.taken.body ≡ false) (cut h).newer
+        each_map (λ (e : HostStep). is_request e.step.taken.body ≡ false → is_wish_back_to tx e.step.taken ≡ false) (λ (e : HostStep). is_wish_back_to tx e.step.taken ≡ false) (cut h).newer
         (none_at (is_wish_back_to tx) (request_plain_wish tx)) (none_taken start was now served.before served.since cut (is_wish_back_to tx) no_wishes h)
 
     -- an operation is asked for at most once since it has begun
@@ -161,7 +162,7 @@ module _ (start : Start) (was now : ℕ → List LogStep) (op : Op) (served : Is
           arith,
           once_started start tx now served.since,
           ap (steps (is_start tx)) f.is,
-          tally_append (λ (e : LogStep). is_start tx e.taken.to e.taken.body) f.later (f.first ∷ was 0),
+          tally_append (λ (e : HostStep). is_start tx e.step.taken) f.later (f.first ∷ was 0),
         )
 
     module _ (h : ℕ) (low : suc h < hosts start) where
@@ -242,9 +243,9 @@ module _ (start : Start) (was now : ℕ → List LogStep) (op : Op) (served : Is
     logged : IsLog (machine start) 0 (l.step ∷ (l.older ++ f.first ∷ was 0))
     logged = log_after (machine start) 0 l.newer (l.step ∷ (l.older ++ f.first ∷ was 0)) (subst (IsLog (machine start) 0) now_is (served.since.right.local 0))
 
-    is_answer_here : is_reply l.tx l.step.taken.to l.step.taken.body ≡ true
+    is_answer_here : is_reply l.tx l.step.step.taken ≡ true
     is_answer_here =
-        all (l.step.taken.to.node == 0) (is_api l.step.taken.to.block) (answer_of l.tx l.step.taken.body) (grind (arith, nat_tests, logged.0.at)) l.block
+        all (l.step.host == 0) (is_api l.step.step.taken.to.block) (answer_of l.tx l.step.step.taken.body) (grind (arith, nat_tests, logged.0.at)) l.block
         (ap (answer_of l.tx) l.lone.about ∙ same_tx-self l.tx)
       where
         all : (a b c : Bool) → a ≡ true → b ≡ true → c ≡ true → (a && (b && c)) ≡ true
@@ -252,17 +253,17 @@ module _ (start : Start) (was now : ℕ → List LogStep) (op : Op) (served : Is
         all true false c p q r = cc
         all false b c p q r = cc
 
-    plain_step : is_request l.step.taken.body ≡ false
-    plain_step = each_in (λ (e : LogStep). is_request e.taken.body ≡ false) l.step f.later f.plain in_later
+    plain_step : is_request l.step.step.taken.body ≡ false
+    plain_step = each_in (λ (e : HostStep). is_request e.step.taken.body ≡ false) l.step f.later f.plain in_later
 
-    was_sent : (i : ℕ) → l.step.taken.from.0 ≡ i → 1 ≤ sent_since start (is_reply l.tx) i (cut i).newer (was i)
+    was_sent : (i : ℕ) → l.step.step.taken.from.0 ≡ i → 1 ≤ sent_since start (is_reply l.tx) i (cut i).newer (was i)
     was_sent i at =
-        let here = all_three (is_request l.step.taken.body) (l.step.taken.from.0 == i) (is_reply l.tx l.step.taken.to l.step.taken.body) plain_step (grind (arith, nat_tests, at)) is_answer_here in
-        let taken = tally_in (λ (e : LogStep). is_from (machine start) i e && is_reply l.tx e.taken.to e.taken.body) l.step (f.later ++ f.first ∷ []) in_newer here in
+        let here = all_three (is_request l.step.step.taken.body) (l.step.step.taken.from.0 == i) (is_reply l.tx l.step.step.taken) plain_step (grind (arith, nat_tests, at)) is_answer_here in
+        let taken = tally_in (λ (e : HostStep). is_from (machine start) i e && is_reply l.tx e.step.taken) l.step (f.later ++ f.first ∷ []) in_newer here in
         omega (arith, taken, few_taken start was now served.before served.since cut (is_reply l.tx) i 0)
 
     -- its coordinator answered it, and so no host reports its abort
-    no_backs_at : (k : ℕ) → l.step.taken.from.0 ≡ k → (h : ℕ) → sent_since start (is_back l.tx) h (cut h).newer (was h) ≡ 0
+    no_backs_at : (k : ℕ) → l.step.step.taken.from.0 ≡ k → (h : ℕ) → sent_since start (is_back l.tx) h (cut h).newer (was h) ≡ 0
     no_backs_at k at zero = (since_none start l.tx 0 (cut 0).newer (was 0) (shell_since start l.tx (cut 0).newer (was 0))).1
     no_backs_at zero at (suc h) = absurd (omega (arith, was_sent zero at, (since_none start l.tx 0 (cut 0).newer (was 0) (shell_since start l.tx (cut 0).newer (was 0))).0))
     no_backs_at (suc k) at (suc h) = home (cases_eq l.tx.tc (suc k)) (cases_eq l.tx.tc (suc h))
@@ -289,8 +290,8 @@ module _ (start : Start) (was now : ℕ → List LogStep) (op : Op) (served : Is
         home (inl own) (inr differs) = (away h differs).1
         home (inl own) (inl same) = here h (sym own ∙ same) (cases_lt (suc h) (hosts start))
 
-    none_back : Each (λ (e : LogStep). is_request e.taken.body ≡ false → back_of l.tx e.taken.body ≡ false) (f.later ++ f.first ∷ [])
-    none_back = none_taken start was now served.before served.since cut (is_back l.tx) (no_backs_at l.step.taken.from.0 refl) 0
+    none_back : Each (λ (e : HostStep). is_request e.step.taken.body ≡ false → back_of l.tx e.step.taken.body ≡ false) (f.later ++ f.first ∷ [])
+    none_back = none_taken start was now served.before served.since cut (is_back l.tx) (no_backs_at l.step.step.taken.from.0 refl) 0
 
     later_is : f.later ++ f.first ∷ [] ≡ l.newer ++ (l.step ∷ l.older ++ f.first ∷ [])
     later_is = ap (λ w. w ++ f.first ∷ []) l.is ∙ append_assoc l.newer (l.step ∷ l.older) (f.first ∷ [])
@@ -304,13 +305,13 @@ module _ (start : Start) (was now : ℕ → List LogStep) (op : Op) (served : Is
         by (Some one) none = none
         by None none = none
 
-    plain_newer : Each (λ (e : LogStep). is_request e.taken.body ≡ false) l.newer
-    plain_newer = each_before (λ (e : LogStep). is_request e.taken.body ≡ false) l.newer (l.step ∷ l.older) (subst (Each (λ (e : LogStep). is_request e.taken.body ≡ false)) l.is f.plain)
+    plain_newer : Each (λ (e : HostStep). is_request e.step.taken.body ≡ false) l.newer
+    plain_newer = each_before (λ (e : HostStep). is_request e.step.taken.body ≡ false) l.newer (l.step ∷ l.older) (subst (Each (λ (e : HostStep). is_request e.step.taken.body ≡ false)) l.is f.plain)
 
-    none_newer : Each (λ (e : LogStep). is_request e.taken.body ≡ false → back_of l.tx e.taken.body ≡ false) l.newer
+    none_newer : Each (λ (e : HostStep). is_request e.step.taken.body ≡ false → back_of l.tx e.step.taken.body ≡ false) l.newer
     none_newer =
-        each_before (λ (e : LogStep). is_request e.taken.body ≡ false → back_of l.tx e.taken.body ≡ false) l.newer (l.step ∷ l.older ++ f.first ∷ [])
-        (subst (Each (λ (e : LogStep). is_request e.taken.body ≡ false → back_of l.tx e.taken.body ≡ false)) later_is none_back)
+        each_before (λ (e : HostStep). is_request e.step.taken.body ≡ false → back_of l.tx e.step.taken.body ≡ false) l.newer (l.step ∷ l.older ++ f.first ∷ [])
+        (subst (Each (λ (e : HostStep). is_request e.step.taken.body ≡ false → back_of l.tx e.step.taken.body ≡ false)) later_is none_back)
 
     lone_told : IsCommittedAlone start was now
     lone_told = by (commit_goes l.tx None start l.newer (l.step ∷ (l.older ++ f.first ∷ was 0)) plain_newer l.lone.has)

@@ -2,7 +2,7 @@
 use Rattle.std.proofs.Common.{◌≡◌, ◌⊎◌, false, List, [], ◌∷◌, ◌++◌, refl, ap, inl, inr, arith}
 use Rattle.std.specs.Prelude.{None}
 use Rattle.run_theory.specs.Lists.{Each}
-use Rattle.sig_core.specs.declared.log.LogStep.{LogStep}
+use Rattle.world_core.specs.Steps.{HostStep}
 use Rattle.sig_core.specs.declared.member.TxId.{TxId}
 use Rattle.sig_core.specs.declared.op.Answer.{Answer}
 use Rattle.sig_core.specs.declared.outs.Outgoing.{Outgoing}
@@ -13,7 +13,7 @@ use Rattle.sig_core.specs.declared.reply.ApiReply.TheVariants.{Answered}
 use Rattle.sig_core.specs.declared.signal.Body.{Body}
 use Rattle.sig_core.specs.Step.{Step}
 use Rattle.api_block.specs.declared.opened.OpenTransaction.{OpenTransaction}
-use Rattle.api_block.specs.Api.{api_row}
+use Rattle.api_block.specs.Api.{api_table}
 use Rattle.api_block.specs.State.{ApiState}
 use Rattle.node_core.specs.declared.host.Host as host
 use Rattle.node_core.specs.declared.host.Host.TheVariants.{Shell, Node}
@@ -55,7 +55,7 @@ change_none s body step (refuses called at about passes is replies sends) = inr 
 
 shell_none : (s : ApiState) (at : BlockId) (body : Body) → is_request body ≡ false → TellsLone s (shell_row s at body) ⊎ WishNone (shell_row s at body).effects.sends
 unfolding shell_row
-shell_none s block.Api body plain = change_none s body (api_row s body) (api_changes s body plain)
+shell_none s block.Api body plain = change_none s body (api_table s body) (api_changes s body plain)
 shell_none s _ body plain = inr (λ tx. refl)
 
 host_none : (g : host.Host) (s : ApiState) (to : Place) (body : Body) → g ≡ Shell s → is_request body ≡ false → IsAnswering None g (row g to body) ⊎ WishNone (row g to body).effects.sends
@@ -69,7 +69,7 @@ host_none (Shell t) s to body is plain = by (shell_none t to.block body plain)
 host_none (Node n) s to body is plain = cc
 
 -- along steps of the shell's host that aren't requests
-pub wishes_since : (start : Start) (later log : List LogStep) → Each (λ (e : LogStep). is_request e.taken.body ≡ false) later
+pub wishes_since : (start : Start) (later log : List HostStep) → Each (λ (e : HostStep). is_request e.step.taken.body ≡ false) later
     → HasAnswered None start later log ⊎ ((tx : TxId) → sent_since start (is_wish_to tx) 0 later log ≡ 0)
 wishes_since start [] log plain = inr (λ tx. refl)
 wishes_since start (e ∷ later) log plain = by (wishes_since start later log plain.1)
@@ -84,4 +84,4 @@ wishes_since start (e ∷ later) log plain = by (wishes_since start later log pl
     by (inl a) = inl (record { newer = e ∷ a.newer; step = a.step; older = a.older; is = ap (λ w. e ∷ w) a.is; answering = a.answering })
     by (inr before) =
         let s = shell_after start (later ++ log) in
-        next before (host_none (after start 0 (later ++ log)) s.state e.taken.to e.taken.body s.is plain.0)
+        next before (host_none (after start 0 (later ++ log)) s.state e.step.taken s.is plain.0)

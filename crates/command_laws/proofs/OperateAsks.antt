@@ -3,7 +3,7 @@ use Rattle.std.proofs.Common.{◌≡◌, ◌<◌, ◌+◌, ℕ, Bool, true, fals
 use Rattle.std.proofs.lemmas.Bool.Decides.{nat_tests}
 use Rattle.std.specs.Prelude.{Some, is_some, nat_lt}
 use Rattle.run_theory.specs.Lists.{Each, IsIn}
-use Rattle.sig_core.specs.declared.log.LogStep.{LogStep}
+use Rattle.world_core.specs.Steps.{HostStep}
 use Rattle.sig_core.specs.declared.member.TxId.{TxId}
 use Rattle.sig_core.specs.declared.op.Op.{Op}
 use Rattle.sig_core.specs.declared.outs.Outgoing.{Outgoing}
@@ -23,7 +23,7 @@ use Rattle.sig_core.specs.Step.{Step}
 use Rattle.api_block.specs.declared.opened.Doing.{Doing}
 use Rattle.api_block.specs.declared.opened.Doing.TheVariants.{Operating, Ready}
 use Rattle.api_block.specs.declared.opened.OpenTransaction.{OpenTransaction}
-use Rattle.api_block.specs.Api.{api_row, request_row}
+use Rattle.api_block.specs.Api.{api_table, request_row}
 use Rattle.api_block.specs.Operate.{key_request, operate_by, operate_if, operate_row}
 use Rattle.api_block.specs.Opened.{begins, has_tx, if_there, is_beginning, operating, same_name, where_at}
 use Rattle.api_block.specs.State.{ApiState, about, changing, refused}
@@ -128,7 +128,7 @@ module _ (tx : TxId) where
 
   shell_named : (s : ApiState) (at : BlockId) (body : Body) → is_request body ≡ false → AreNamed s.opened → KeepsNamed (shell_row s at body).state.opened (shell_row s at body).effects.sends
   unfolding shell_row
-  shell_named s block.Api body plain were = change_named s body were (api_row s body) (api_changes s body plain)
+  shell_named s block.Api body plain were = change_named s body were (api_table s body) (api_changes s body plain)
   shell_named s _ body plain were = record { named = were; wishes = refl }
 
   host_named : (g : host.Host) (to : Place) (body : Body) → is_request body ≡ false → AreNamed (opened_in g) → KeepsNamed (opened_in (row g to body).state) (row g to body).effects.sends
@@ -137,7 +137,7 @@ module _ (tx : TxId) where
   host_named (Node n) to body plain were = record { named = record { calm = tt; named = tt }; wishes = none_of is_node_kind (is_wish_to tx) no_wish_node (node_row n to.block body).effects.sends (node_sends_node n to.block body) }
 
   -- along steps of the shell's host that aren't requests
-  pub named_since : (start : Start) (later log : List LogStep) → Each (λ (e : LogStep). is_request e.taken.body ≡ false) later → AreNamed (opened_in (after start 0 log))
+  pub named_since : (start : Start) (later log : List HostStep) → Each (λ (e : HostStep). is_request e.step.taken.body ≡ false) later → AreNamed (opened_in (after start 0 log))
       → AreNamed (opened_in (after start 0 (later ++ log))) × (sent_since start (is_wish_to tx) 0 later log ≡ 0)
   named_since start [] log plain were = (were, refl)
   named_since start (e ∷ later) log plain were = next (named_since start later log plain.1 were)
@@ -145,7 +145,7 @@ module _ (tx : TxId) where
       next : AreNamed (opened_in (after start 0 (later ++ log))) × (sent_since start (is_wish_to tx) 0 later log ≡ 0)
           → AreNamed (opened_in (after start 0 (e ∷ (later ++ log)))) × (sent_since start (is_wish_to tx) 0 (e ∷ later) log ≡ 0)
       next before =
-          let kept = host_named (after start 0 (later ++ log)) e.taken.to e.taken.body plain.0 before.0 in
+          let kept = host_named (after start 0 (later ++ log)) e.step.taken plain.0 before.0 in
           (kept.named, omega (arith, kept.wishes, before.1))
 
 -- the row where the name is found

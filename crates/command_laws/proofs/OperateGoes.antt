@@ -2,7 +2,7 @@
 use Rattle.std.proofs.Common.{◌≡◌, ◌⊎◌, ℕ, true, false, List, [], ◌∷◌, ◌++◌, refl, sym, ap, ◌∙◌, subst, inl, inr}
 use Rattle.std.specs.Prelude.{Option, None, Some}
 use Rattle.run_theory.specs.Lists.{Each, IsIn}
-use Rattle.sig_core.specs.declared.log.LogStep.{LogStep}
+use Rattle.world_core.specs.Steps.{HostStep}
 use Rattle.sig_core.specs.declared.mark.Mark.TheVariants.{Reported}
 use Rattle.sig_core.specs.declared.member.TxId.{TxId}
 use Rattle.sig_core.specs.declared.op.Answer.{Answer}
@@ -14,7 +14,7 @@ use Rattle.sig_core.specs.declared.signal.Body.{Body}
 use Rattle.sig_core.specs.Step.{Step}
 use Rattle.api_block.specs.declared.opened.Doing.TheVariants.{Operating}
 use Rattle.api_block.specs.declared.opened.OpenTransaction.{OpenTransaction}
-use Rattle.api_block.specs.Api.{api_row}
+use Rattle.api_block.specs.Api.{api_table}
 use Rattle.api_block.specs.Opened.{begins, behind, is_beginning, same_name}
 use Rattle.api_block.specs.State.{ApiState}
 use Rattle.node_core.specs.declared.host.Host as host
@@ -37,10 +37,10 @@ pub record IsAnswering (name : Option ℕ) (g : host.Host) (step : Step host.Hos
   pub told : replies_of step.state ≡ replies_of g ++ Answered name answer ∷ []
 
 -- one of these steps behind a log does so
-pub record HasAnswered (name : Option ℕ) (start : Start) (later log : List LogStep) : Type 0 where
-  pub newer : List LogStep
-  pub step : LogStep
-  pub older : List LogStep
+pub record HasAnswered (name : Option ℕ) (start : Start) (later log : List HostStep) : Type 0 where
+  pub newer : List HostStep
+  pub step : HostStep
+  pub older : List HostStep
   pub is : later ≡ newer ++ step ∷ older
   pub answering : IsAnswering name (after start 0 (older ++ log)) (step_after start 0 (older ++ log) step)
 
@@ -114,7 +114,7 @@ module _ (tx : TxId) (name : Option ℕ) where
   shell_goes : (s : ApiState) (at : BlockId) (body : Body) → is_request body ≡ false → HasOne tx name Operating s.opened
       → HasOne tx name Operating (shell_row s at body).state.opened ⊎ (IsAnsweringHere name s (shell_row s at body) ⊎ IsEndingHere tx name s body (shell_row s at body))
   unfolding shell_row GoesAnswersOrEnds
-  shell_goes s block.Api body plain has = change_goes s body has (api_row s body) (api_changes s body plain)
+  shell_goes s block.Api body plain has = change_goes s body has (api_table s body) (api_changes s body plain)
   shell_goes s _ body plain has = inl has
 
   host_goes : (g : host.Host) (to : Place) (body : Body) → is_request body ≡ false → HasOne tx name Operating (opened_in g)
@@ -130,14 +130,14 @@ module _ (tx : TxId) (name : Option ℕ) where
   host_goes (Node n) to body plain has = absurd (has.inside)
 
   -- along steps that aren't requests
-  pub operate_goes : (start : Start) (later log : List LogStep) → Each (λ (e : LogStep). is_request e.taken.body ≡ false) later → HasOne tx name Operating (opened_in (after start 0 log))
+  pub operate_goes : (start : Start) (later log : List HostStep) → Each (λ (e : HostStep). is_request e.step.taken.body ≡ false) later → HasOne tx name Operating (opened_in (after start 0 log))
       → HasOne tx name Operating (opened_in (after start 0 (later ++ log))) ⊎ (HasAnswered name start later log ⊎ HasEnded tx name start later log)
   operate_goes start [] log plain has = inl has
   operate_goes start (e ∷ later) log plain has = by (operate_goes start later log plain.1 has)
     where
-      next : HasOne tx name Operating (opened_in (row (after start 0 (later ++ log)) e.taken.to e.taken.body).state)
-          ⊎ (IsAnswering name (after start 0 (later ++ log)) (row (after start 0 (later ++ log)) e.taken.to e.taken.body)
-          ⊎ IsEnding tx name (after start 0 (later ++ log)) e.taken.body (row (after start 0 (later ++ log)) e.taken.to e.taken.body))
+      next : HasOne tx name Operating (opened_in (row (after start 0 (later ++ log)) e.step.taken).state)
+          ⊎ (IsAnswering name (after start 0 (later ++ log)) (row (after start 0 (later ++ log)) e.step.taken)
+          ⊎ IsEnding tx name (after start 0 (later ++ log)) e.step.taken.body (row (after start 0 (later ++ log)) e.step.taken))
           → HasOne tx name Operating (opened_in (after start 0 (e ∷ (later ++ log)))) ⊎ (HasAnswered name start (e ∷ later) log ⊎ HasEnded tx name start (e ∷ later) log)
       next (inl goes) = inl goes
       next (inr (inl answering)) = inr (inl (record { newer = []; step = e; older = later; is = refl; answering = answering }))
@@ -145,6 +145,6 @@ module _ (tx : TxId) (name : Option ℕ) where
 
       by : HasOne tx name Operating (opened_in (after start 0 (later ++ log))) ⊎ (HasAnswered name start later log ⊎ HasEnded tx name start later log)
           → HasOne tx name Operating (opened_in (after start 0 (e ∷ (later ++ log)))) ⊎ (HasAnswered name start (e ∷ later) log ⊎ HasEnded tx name start (e ∷ later) log)
-      by (inl goes) = next (host_goes (after start 0 (later ++ log)) e.taken.to e.taken.body plain.0 goes)
+      by (inl goes) = next (host_goes (after start 0 (later ++ log)) e.step.taken plain.0 goes)
       by (inr (inl a)) = inr (inl (record { newer = e ∷ a.newer; step = a.step; older = a.older; is = ap (λ w. e ∷ w) a.is; answering = a.answering }))
       by (inr (inr ended)) = inr (inr (record { newer = e ∷ ended.newer; step = ended.step; older = ended.older; is = ap (λ w. e ∷ w) ended.is; ending = ended.ending }))

@@ -1,7 +1,7 @@
 -- An operation of a transaction that takes commands is answered, or refused for want of room or of time, or waits for a lock.
 use Rattle.std.proofs.Common.{◌≡◌, ◌⊎◌, ◌<◌, ℕ, suc, List, [], ◌∷◌, ◌++◌, sym, subst, inl, inr, arith}
 use Rattle.std.specs.Prelude.{Option, Some}
-use Rattle.sig_core.specs.declared.log.LogStep.{LogStep}
+use Rattle.world_core.specs.Steps.{HostStep}
 use Rattle.sig_core.specs.declared.member.TxId.{TxId}
 use Rattle.sig_core.specs.declared.op.Op.{Op}
 use Rattle.sig_core.specs.declared.place.Place.{Place}
@@ -31,7 +31,7 @@ use Rattle.command_laws.proofs.TellsSince.{OnTc}
 use Rattle.command_laws.proofs.WaitRows.{in_live}
 use Rattle.command_laws.specs.Served.{IsAnsweredAs, IsRefusedAs, IsServed, OperationsAreAnswered, StillWaits, named_in}
 
-module _ (answered : EachIsAnswered) (start : Start) (was now : ℕ → List LogStep) (name : ℕ) (op : Op) (t : OpenTransaction) (tx : TxId) (served : IsServed start was now (Operate (Some name) op))
+module _ (answered : EachIsAnswered) (start : Start) (was now : ℕ → List HostStep) (name : ℕ) (op : Op) (t : OpenTransaction) (tx : TxId) (served : IsServed start was now (Operate (Some name) op))
     (named : named_in (opened_after start was) name ≡ Some t) (ready : t.doing ≡ Ready) (own : t.tx ≡ Some tx) (few : t.operations < 64) where
   f : IsFirst start was now (Operate (Some name) op)
   f = request_first start was now (Operate (Some name) op) served
@@ -41,7 +41,7 @@ module _ (answered : EachIsAnswered) (start : Start) (was now : ℕ → List Log
 
   asked : IsAskedFor tx name (step_after start 0 (was 0) f.first)
   asked =
-      subst (λ (to : Place). IsAskedFor tx name (row (after start 0 (was 0)) to f.first.taken.body)) (sym f.place)
+      subst (λ (to : Place). IsAskedFor tx name (row (after start 0 (was 0)) to f.first.step.taken.body)) (sym f.place)
       (subst (λ body. IsAskedFor tx name (row (after start 0 (was 0)) client body)) (sym f.body) (operate_first (after start 0 (was 0)) name op t tx named ready own few were))
 
   is_open : IsOpenAt tx (after start tx.tc (was tx.tc))

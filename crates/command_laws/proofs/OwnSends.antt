@@ -48,4 +48,4 @@ own tx body = record {
     self = same_tx-self tx
 
 pub turn_own : (s : TcState) (tx : TxId) (body : Body) (t : Transaction) → tx_in body ≡ tx → are_of (is_own_kind tx) (turn_by s tx body t).step.effects.sends ≡ true
-turn_own s tx body t same = turn_at s tx body t (TurnOnly (is_own_kind tx)) same (own_forms (is_own_kind tx) tx body (own tx body) s.node s.view t)
+turn_own s tx body t same = turn_at s tx body t (TurnOnly (is_own_kind tx)) same (own_forms (is_own_kind tx) tx body (own tx body) s.node s.layout t)

@@ -3,7 +3,7 @@ use Rattle.std.proofs.Common.{◌≡◌, ℕ, true, List, sym, ap, ◌∙◌, su
 use Rattle.std.specs.Prelude.{Option, Some, is_some}
 use Rattle.run_theory.specs.Lists.{IsIn}
 use Rattle.run_theory.proofs.Pasts.{each_from}
-use Rattle.sig_core.specs.declared.log.LogStep.{LogStep}
+use Rattle.world_core.specs.Steps.{HostStep}
 use Rattle.sig_core.specs.declared.member.TxId.{TxId}
 use Rattle.api_block.specs.declared.opened.Doing.{Doing}
 use Rattle.api_block.specs.declared.opened.Doing.TheVariants.{Ready}
@@ -22,10 +22,10 @@ use Rattle.commit_laws.proofs.Keys.{same_tx-self}
 use Rattle.command_laws.specs.Served.{named_in}
 
 -- one that takes commands is open
-pub opens : (start : Start) (logs : ℕ → List LogStep) (tx : TxId) (doing : Doing) (o : Option TxId) → doing ≡ Ready → o ≡ Some tx → is_answered_by start logs doing o → IsOpenAt tx (after start tx.tc (logs tx.tc))
+pub opens : (start : Start) (logs : ℕ → List HostStep) (tx : TxId) (doing : Doing) (o : Option TxId) → doing ≡ Ready → o ≡ Some tx → is_answered_by start logs doing o → IsOpenAt tx (after start tx.tc (logs tx.tc))
 opens start logs tx doing o is some all = subst (λ p. is_answered_by start logs Ready p) some (subst (λ d. is_answered_by start logs d o) is all)
 
-module _ (start : Start) (logs : ℕ → List LogStep) (quiet : AreQuiet start logs) (name : ℕ) (t : OpenTransaction) (tx : TxId) (named : named_in (opened_after start logs) name ≡ Some t) (own : t.tx ≡ Some tx) where
+module _ (start : Start) (logs : ℕ → List HostStep) (quiet : AreQuiet start logs) (name : ℕ) (t : OpenTransaction) (tx : TxId) (named : named_in (opened_after start logs) name ≡ Some t) (own : t.tx ≡ Some tx) where
   n : IsNamed (opened_after start logs) name t
   n = named_found (opened_after start logs) name t named
 

@@ -6,7 +6,7 @@ use Rattle.run_theory.specs.Lists.{Each}
 use Rattle.run_theory.specs.Runs.{log_of}
 use Rattle.run_theory.proofs.Along.{along_signals_of_logs}
 use Rattle.run_theory.proofs.Runs.{log_of-other, log_of-own}
-use Rattle.sig_core.specs.declared.log.LogStep.{LogStep}
+use Rattle.world_core.specs.Steps.{HostStep}
 use Rattle.sig_core.specs.declared.outs.Outgoing.{Outgoing}
 use Rattle.sig_core.specs.declared.place.BlockId.{BlockId}
 use Rattle.sig_core.specs.declared.place.BlockId.TheVariants as block
@@ -19,19 +19,22 @@ use Rattle.sig_core.specs.declared.signal.client.ClientSignal.TheVariants.{TcRol
 use Rattle.sig_core.specs.declared.signal.Signal.{Signal}
 use Rattle.sig_core.specs.declared.view.View.{View}
 use Rattle.sig_core.specs.Step.{Step}
-use Rattle.api_block.specs.Api.{api_row}
+use Rattle.api_block.specs.Api.{api_table}
 use Rattle.api_block.specs.State.{ApiState}
 use Rattle.node_core.specs.declared.host.Host as host
 use Rattle.node_core.specs.declared.host.Host.TheVariants.{Shell, Node}
 use Rattle.node_core.specs.declared.node.Node as node
-use Rattle.node_core.specs.Dih.{dih_row}
+use Rattle.node_core.specs.Dih.{dih_table}
 use Rattle.node_core.specs.Fresh.{begun_node, fresh_node, fresh_shell}
 use Rattle.node_core.specs.Replies.{replies_of}
 use Rattle.node_core.specs.Requests.{is_request}
 use Rattle.node_core.specs.Row.{node_row, row, shell_row}
 use Rattle.world_core.proofs.Stamped.{stamped}
-use Rattle.world_core.specs.Machine.{after, all_headed, counted, hosts, machine, sent_count, signals_of, step_after}
-use Rattle.world_core.specs.Start.{Start, first_view, started}
+use Rattle.world_core.specs.Hosts.{hosts}
+use Rattle.world_core.specs.Machine.{after, all_headed, counted, machine, sent_count, signals_of, step_after}
+use Rattle.frag_map.specs.Layout.{first_view}
+use Rattle.world_core.specs.Hosts.{started}
+use Rattle.world_core.specs.Start.{Start}
 use Rattle.answer_laws.proofs.ApiMoves.{ApiMove, api_moves, begun_as, ends, goes, is_api_kind, opens, refuses, rests}
 use Rattle.answer_laws.proofs.DihSends.{dih_kinds}
 use Rattle.answer_laws.proofs.SendKinds.{are_of, each_of, is_dih_kind, of_kind}
@@ -80,7 +83,7 @@ shell_lives s _ body sound all = all
 
 shell_sound : (s : ApiState) (at : BlockId) (body : Body) → are_of is_sound (shell_row s at body).effects.sends ≡ true
 unfolding shell_row
-shell_sound s block.Api body = api_sends s body (api_row s body) (api_moves s body)
+shell_sound s block.Api body = api_sends s body (api_table s body) (api_moves s body)
 shell_sound s _ body = refl
 
 node_lives : (n : node.Node) (at : BlockId) (body : Body) → is_sound body ≡ true → AllLive n.tc.live → AllLive (node_row n at body).state.tc.live
@@ -93,7 +96,7 @@ node_lives n _ body sound all = all
 node_sound : (n : node.Node) (at : BlockId) (body : Body) → is_sound body ≡ true → AllLive n.tc.live → are_of is_sound (node_row n at body).effects.sends ≡ true
 unfolding node_row
 node_sound n block.Tc body sound all = (tc_lives n.tc body sound all).sends
-node_sound n block.Dih body sound all = of_kind is_dih_kind is_sound dih_sound (dih_row n.dih body).effects.sends (dih_kinds n.dih body)
+node_sound n block.Dih body sound all = of_kind is_dih_kind is_sound dih_sound (dih_table n.dih body).effects.sends (dih_kinds n.dih body)
 node_sound n block.Lqh body sound all = lqh_sound n.lqh body
 node_sound n _ body sound all = refl
 
@@ -112,28 +115,28 @@ module _ (start : Start) where
   fresh_lives zero = tt
   fresh_lives (suc h) = tt
 
-  abbrev Sound : Signal → (ℕ → List LogStep) → Type 0
+  abbrev Sound : Signal → (ℕ → List HostStep) → Type 0
   Sound x logs = is_sound x.body ≡ true
 
-  abbrev AllHosts : (ℕ → List LogStep) → Type 0
+  abbrev AllHosts : (ℕ → List HostStep) → Type 0
   AllHosts logs = (h : ℕ) → HostLives (after start h (logs h))
 
-  module _ (es : List LogStep) (e : LogStep) (come : Comes (machine start) Sound AllHosts es e) where
+  module _ (es : List HostStep) (e : HostStep) (come : Comes (machine start) Sound AllHosts es e) where
     abbrev h : ℕ
-    h = e.taken.to.node
+    h = e.host
 
-    abbrev log : List LogStep
+    abbrev log : List HostStep
     log = log_of (machine start) es h
 
-    sound : is_sound e.taken.body ≡ true
-    sound = by (is_request e.taken.body) refl
+    sound : is_sound e.step.taken.body ≡ true
+    sound = by (is_request e.step.taken.body) refl
       where
-        by : (b : Bool) → is_request e.taken.body ≡ b → is_sound e.taken.body ≡ true
-        by true is = request_sound e.taken.body is
+        by : (b : Bool) → is_request e.step.taken.body ≡ b → is_sound e.step.taken.body ≡ true
+        by true is = request_sound e.step.taken.body is
         by false is = come.told is
 
     lives : StepLives (step_after start h log e)
-    lives = row_lives (after start h log) e.taken.to e.taken.body sound (come.all.law h)
+    lives = row_lives (after start h log) e.step.taken sound (come.all.law h)
 
     now_lives : AllHosts (log_of (machine start) (e ∷ es))
     now_lives g = by (cases_eq h g)
@@ -146,7 +149,7 @@ module _ (start : Start) where
 
     sends_sound : Each (λ (x : Signal). is_sound x.body ≡ true) (signals_of start h log e)
     sends_sound =
-        headed_sound (first_view start.nodes) h e.stamp (sent_count start h log) (step_after start h log e).effects.sends
+        headed_sound (first_view start.shape.nodes) h e.step.stamp (sent_count start h log) (step_after start h log e).effects.sends
         (each_of is_sound (λ (o : Outgoing). is_sound o.body ≡ true) (λ o is. is) (step_after start h log e).effects.sends lives.sends)
 
   living_kept : IsKept (machine start) Sound AllHosts

@@ -1,7 +1,7 @@
 -- Each request is answered.
 use Rattle.std.proofs.Common.{◌⊎◌, ℕ, List, inl, inr}
 use Rattle.std.specs.Prelude.{None, Some}
-use Rattle.sig_core.specs.declared.log.LogStep.{LogStep}
+use Rattle.world_core.specs.Steps.{HostStep}
 use Rattle.sig_core.specs.declared.op.Op.{Op}
 use Rattle.sig_core.specs.declared.request.ApiReq.{ApiReq}
 use Rattle.sig_core.specs.declared.request.ApiReq.TheVariants as request
@@ -20,14 +20,14 @@ use Rattle.command_laws.specs.Alone.{IsRefusedAlone, IsTurnedAway, WaitsAlone}
 use Rattle.command_laws.specs.Answers.{AnswersRequest, LoneComesTo, RequestsAreAnswered}
 use Rattle.command_laws.specs.Served.{IsAnsweredAlone, IsServed}
 
-lone_comes_to : (start : Start) (was now : ℕ → List LogStep) (op : Op) → IsServed start was now (request.Operate None op) → LoneComesTo start was now
+lone_comes_to : (start : Start) (was now : ℕ → List HostStep) (op : Op) → IsServed start was now (request.Operate None op) → LoneComesTo start was now
 lone_comes_to start was now op served = by (lone_answered each_answered start was now op served)
   where
     by : IsAnsweredAlone start was now ⊎ (IsRefusedAlone start was now ⊎ (IsTurnedAway start was now ⊎ WaitsAlone start was now)) → LoneComesTo start was now
     by (inl answered) = inl (record { answered = answered; committed = lone_committed each_answered start was now op served answered })
     by (inr other) = inr other
 
-answers_request : (start : Start) (was now : ℕ → List LogStep) (r : ApiReq) → IsServed start was now r → AnswersRequest start was now r
+answers_request : (start : Start) (was now : ℕ → List HostStep) (r : ApiReq) → IsServed start was now r → AnswersRequest start was now r
 answers_request start was now (request.Operate (Some name) op) served = (
   operations_come_to start was now name op served,
   (λ tx t. operations_answered each_answered start was now name op t.takes.item tx served t.takes.named t.takes.ready t.takes.own t.few),

@@ -16,7 +16,7 @@ use Rattle.sig_core.specs.Step.{Step}
 use Rattle.tc_block.specs.declared.transaction.Transaction.{Transaction}
 use Rattle.tc_block.specs.Operate.{fresh}
 use Rattle.tc_block.specs.State.{TcState}
-use Rattle.tc_block.specs.Tc.{begun, next_tx, tc_row}
+use Rattle.tc_block.specs.Tc.{begun, next_tx, tc_table}
 use Rattle.tc_block.specs.Turn.{Turn}
 use Rattle.answer_laws.proofs.ApiMoves.{is_api_kind}
 use Rattle.answer_laws.proofs.SendKinds.{is_dih_kind, is_lqh_kind, none_of}
@@ -220,5 +220,5 @@ module _ (tx : TxId) where
         by true same = own_goes step (same_tx-is (tx_in body) tx same) r
         by false differs = other_goes step differs r
 
-    pub tc_goes : TcGoes tx s body (tc_row s body)
-    tc_goes = shape_goes (tc_row s body) (tc_shape s body)
+    pub tc_goes : TcGoes tx s body (tc_table s body)
+    tc_goes = shape_goes (tc_table s body) (tc_shape s body)

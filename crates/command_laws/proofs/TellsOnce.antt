@@ -12,13 +12,13 @@ use Rattle.sig_core.specs.declared.signal.Body.TheVariants.{Client}
 use Rattle.sig_core.specs.declared.signal.client.ClientSignal.TheVariants.{TcKeyConf, TcKeyReq, TcRollbackRep, TcRollbackReq}
 use Rattle.sig_core.specs.Same.{same_tx}
 use Rattle.sig_core.specs.Step.{Step}
-use Rattle.lqh_block.specs.Lqh.{lqh_row}
+use Rattle.lqh_block.specs.Lqh.{lqh_table}
 use Rattle.node_core.specs.declared.node.Node as node
-use Rattle.node_core.specs.Dih.{dih_row}
+use Rattle.node_core.specs.Dih.{dih_table}
 use Rattle.node_core.specs.Row.{node_row}
 use Rattle.tc_block.specs.declared.transaction.Transaction.{Transaction}
 use Rattle.tc_block.specs.State.{TcState}
-use Rattle.tc_block.specs.Tc.{tc_row}
+use Rattle.tc_block.specs.Tc.{tc_table}
 use Rattle.tc_block.specs.Turn.{Turn}
 use Rattle.answer_laws.proofs.DihSends.{dih_kinds}
 use Rattle.answer_laws.proofs.LqhSends.{lqh_kinds}
@@ -177,9 +177,9 @@ module _ (tx : TxId) where
     goes_next step (begins number now none more) = begins_next step number none has.three
     goes_next step (takes t same was sends left more) = takes_next step t same was sends left more has.three
 
-    tc_next : HasTold asked (keys + one_if (key_of_tx tx body)) (sends_of (is_reply tx) (tc_row s body).effects.sends + a) (sends_of (is_back tx) (tc_row s body).effects.sends + r) (tc_row s body).state
+    tc_next : HasTold asked (keys + one_if (key_of_tx tx body)) (sends_of (is_reply tx) (tc_table s body).effects.sends + a) (sends_of (is_back tx) (tc_table s body).effects.sends + r) (tc_table s body).state
     unfolding AfterStep
-    tc_next = record { fair = omega (arith, has.fair, tc_fair tx s body); three = goes_next (tc_row s body) (tc_goes tx s body sound) }
+    tc_next = record { fair = omega (arith, has.fair, tc_fair tx s body); three = goes_next (tc_table s body) (tc_goes tx s body sound) }
 
   same_counts : (asked keys a r a_more r_more : ℕ) (s : TcState) → a_more ≡ 0 → r_more ≡ 0 → HasTold asked keys a r s → HasTold asked (keys + 0) (a_more + a) (r_more + r) s
   same_counts asked keys a r a_more r_more s p q has =
@@ -193,9 +193,9 @@ module _ (tx : TxId) where
   unfolding node_row
   node_next n block.Tc body sound wish asked keys a r once has = tc_next n.tc body sound wish asked keys a r once has
   node_next n block.Dih body sound wish asked keys a r once has =
-      let none = none_told (dih_row n.dih body).effects.sends (none_of is_dih_kind (is_told tx) (none_dih tx) (dih_row n.dih body).effects.sends (dih_kinds n.dih body)) in
+      let none = none_told (dih_table n.dih body).effects.sends (none_of is_dih_kind (is_told tx) (none_dih tx) (dih_table n.dih body).effects.sends (dih_kinds n.dih body)) in
       same_counts asked keys a r _ _ n.tc none.0 none.1 has
   node_next n block.Lqh body sound wish asked keys a r once has =
-      let none = none_told (lqh_row n.lqh body).effects.sends (none_of is_lqh_kind (is_told tx) (none_lqh tx) (lqh_row n.lqh body).effects.sends (lqh_kinds n.lqh body)) in
+      let none = none_told (lqh_table n.lqh body).effects.sends (none_of is_lqh_kind (is_told tx) (none_lqh tx) (lqh_table n.lqh body).effects.sends (lqh_kinds n.lqh body)) in
       same_counts asked keys a r _ _ n.tc none.0 none.1 has
   node_next n _ body sound wish asked keys a r once has = same_counts asked keys a r 0 0 n.tc refl refl has

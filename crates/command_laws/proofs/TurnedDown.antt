@@ -4,7 +4,7 @@ use Rattle.std.proofs.lemmas.Bool.Decides.{nat_tests}
 use Rattle.std.specs.Prelude.{drop, length, nat_lt, position, slice_get, Option, None, Some}
 use Rattle.run_theory.proofs.Pasts.{past_self}
 use Rattle.run_theory.specs.Lists.{IsIn}
-use Rattle.sig_core.specs.declared.log.LogStep.{LogStep}
+use Rattle.world_core.specs.Steps.{HostStep}
 use Rattle.sig_core.specs.declared.member.TxId.{TxId}
 use Rattle.sig_core.specs.declared.op.Op.{Op}
 use Rattle.sig_core.specs.declared.place.Place.{Place}
@@ -127,7 +127,7 @@ unfolding row shell_row request_row
 shell_operates s name op = refused_at s (operate_row s name op).state name (TakesOperations s.opened name) (operate_ends s name op)
 
 -- what the first step replies is told since then
-module _ (start : Start) (was now : ℕ → List LogStep) (name : ℕ) (r : ApiReq) (served : IsServed start was now r) (T : Type 0) where
+module _ (start : Start) (was now : ℕ → List HostStep) (name : ℕ) (r : ApiReq) (served : IsServed start was now r) (T : Type 0) where
   turned_or : EndsAt name T (after start 0 (was 0)) r → IsTurnedDown start was now name ⊎ T
   turned_or (inr t) = inr t
   turned_or (inl refused) = inl (record { refusal = refused.refusal; told = told })
@@ -136,21 +136,21 @@ module _ (start : Start) (was now : ℕ → List LogStep) (name : ℕ) (r : ApiR
       f = request_first start was now r served
 
       state : after start 0 (f.first ∷ was 0) ≡ (row (after start 0 (was 0)) client (Host (Continue (work.Request r) 0))).state
-      state = ap (λ (p : Place). (row (after start 0 (was 0)) p f.first.taken.body).state) f.place ∙ ap (λ (b : Body). (row (after start 0 (was 0)) client b).state) f.body
+      state = ap (λ (p : Place). (row (after start 0 (was 0)) p f.first.step.taken.body).state) f.place ∙ ap (λ (b : Body). (row (after start 0 (was 0)) client b).state) f.body
 
       told : IsIn (Refused (Some name) refused.refusal) (replies_since start was now)
       told =
           subst (λ log. IsIn (Refused (Some name) refused.refusal) (drop (length (replies_of (after start 0 (was 0)))) (replies_of (after start 0 log)))) (sym f.is)
           (told_since start (was 0) (was 0) f.later f.first (Refused (Some name) refused.refusal) (past_self (was 0)) (ap replies_of state ∙ refused.replies))
 
-pub commit_taken : (start : Start) (was now : ℕ → List LogStep) (name : ℕ) → IsServed start was now (request.Commit name)
+pub commit_taken : (start : Start) (was now : ℕ → List HostStep) (name : ℕ) → IsServed start was now (request.Commit name)
     → IsTurnedDown start was now name ⊎ TakesCommands (opened_in (after start 0 (was 0))) name
 commit_taken start was now name served =
     let g = shell_after start (was 0) in
     turned_or start was now name (request.Commit name) served (TakesCommands (opened_in (after start 0 (was 0))) name)
     (subst (λ h. EndsAt name (TakesCommands (opened_in h) name) h (request.Commit name)) (sym g.is) (shell_commits g.state name))
 
-pub operation_taken : (start : Start) (was now : ℕ → List LogStep) (name : ℕ) (op : Op) → IsServed start was now (request.Operate (Some name) op)
+pub operation_taken : (start : Start) (was now : ℕ → List HostStep) (name : ℕ) (op : Op) → IsServed start was now (request.Operate (Some name) op)
     → IsTurnedDown start was now name ⊎ TakesOperations (opened_in (after start 0 (was 0))) name
 operation_taken start was now name op served =
     let g = shell_after start (was 0) in

@@ -2,7 +2,7 @@
 use Rattle.std.proofs.Common.{◌≡◌, ◌⊎◌, ◌≤◌, ◌+◌, ℕ, suc, Bool, true, false, List, [], ◌∷◌, ◌++◌, refl, sym, ap, ◌∙◌, subst, inl, inr, arith}
 use Rattle.std.specs.Prelude.{Option, None, Some, is_some}
 use Rattle.run_theory.specs.Lists.{IsIn}
-use Rattle.sig_core.specs.declared.log.LogStep.{LogStep}
+use Rattle.world_core.specs.Steps.{HostStep}
 use Rattle.sig_core.specs.declared.member.Member.{Member}
 use Rattle.sig_core.specs.declared.member.TxId.{TxId}
 use Rattle.sig_core.specs.declared.place.Place.{Place}
@@ -30,10 +30,10 @@ use Rattle.command_laws.proofs.WaitApi.{IsAboutOne, StaysAbout, about_waits}
 use Rattle.command_laws.proofs.WaitRows.{is_found, is_other, is_passed, is_probe, is_telling_who, is_wait_of, is_want, node_finds, node_passes, node_waits, node_wants}
 use Rattle.command_laws.specs.Served.{IsHeldUpAt}
 
-module _ (start : Start) (was : ℕ → List LogStep) (tx : TxId) (u : Transaction) (asked : Asked) (member : Member) (unanswered : u.asked ≡ Some asked) (inside : IsIn member asked.chain)
+module _ (start : Start) (was : ℕ → List HostStep) (tx : TxId) (u : Transaction) (asked : Asked) (member : Member) (unanswered : u.asked ≡ Some asked) (inside : IsIn member asked.chain)
     (live : OnTc (λ s. of_live tx s.live ≡ Some u) (after start tx.tc (was tx.tc))) (held : IsHeldUpAt tx (key_of asked.op) (after start member.node (was member.node))) where
   -- a node is as it was, and sends on what it takes of these
-  pub record NodeHolds (h : ℕ) (newer : List LogStep) : Type 0 where
+  pub record NodeHolds (h : ℕ) (newer : List HostStep) : Type 0 where
     pub plain : sent_since start (is_other tx) (suc h) newer (was (suc h)) ≡ 0
     pub same : after start (suc h) (newer ++ was (suc h)) ≡ after start (suc h) (was (suc h))
     pub wants : tx.tc ≡ suc h → steps (is_want tx) newer ≤ sent_since_to start (is_probe tx (key_of asked.op)) (suc h) member.node newer (was (suc h))
@@ -73,7 +73,7 @@ module _ (start : Start) (was : ℕ → List LogStep) (tx : TxId) (u : Transacti
       there : member.node ≡ suc h → is_some (ahead_at n.lqh.locks (key_of asked.op) tx) ≡ true
       there at = subst (IsHeldUpAt tx (key_of asked.op)) (ap (λ k. after start k (was k)) at ∙ is) held
 
-  pub node_next : (h : ℕ) (e : LogStep) (newer : List LogStep) → is_wait_of tx e.taken.body ≡ true → NodeHolds h newer → NodeHolds h (e ∷ newer)
+  pub node_next : (h : ℕ) (e : HostStep) (newer : List HostStep) → is_wait_of tx e.step.taken.body ≡ true → NodeHolds h newer → NodeHolds h (e ∷ newer)
   node_next h e newer is holds = record {
     plain = omega (arith, holds.plain, steps_on.plain);
     same = steps_on.same ∙ holds.same;
@@ -85,12 +85,12 @@ module _ (start : Start) (was : ℕ → List LogStep) (tx : TxId) (u : Transacti
       n : IsNode (suc h) (after start (suc h) (was (suc h)))
       n = node_after start h (was (suc h))
 
-      steps_on : NodeSteps h (after start (suc h) (newer ++ was (suc h))) e.taken.to e.taken.body
-      steps_on = subst (λ g. NodeSteps h g e.taken.to e.taken.body) (sym (holds.same ∙ n.is)) (node_steps h n.state e.taken.to e.taken.body n.is is)
+      steps_on : NodeSteps h (after start (suc h) (newer ++ was (suc h))) e.step.taken
+      steps_on = subst (λ g. NodeSteps h g e.step.taken) (sym (holds.same ∙ n.is)) (node_steps h n.state e.step.taken n.is is)
 
-  module _ (base : List LogStep) (front : List OpenTransaction) (t : OpenTransaction) (back : List OpenTransaction) (own : Option (Option ℕ)) (own_tx : t.tx ≡ Some tx) (none : tally (has_tx tx) front ≡ 0) where
+  module _ (base : List HostStep) (front : List OpenTransaction) (t : OpenTransaction) (back : List OpenTransaction) (own : Option (Option ℕ)) (own_tx : t.tx ≡ Some tx) (none : tally (has_tx tx) front ≡ 0) where
     -- the shell's host has the transaction, and knows for whom it waits once it was told
-    pub record ShellHolds (newer : List LogStep) : Type 0 where
+    pub record ShellHolds (newer : List HostStep) : Type 0 where
       pub plain : sent_since start (is_other tx) 0 newer base ≡ 0
       pub ahead : Option TxId
       pub about : IsAboutOne front t back own ahead (after start 0 (newer ++ base))
@@ -100,16 +100,16 @@ module _ (start : Start) (was : ℕ → List LogStep) (tx : TxId) (u : Transacti
     pub shell_none : IsAboutOne front t back own None (after start 0 base) → ShellHolds []
     shell_none about = record { plain = refl; ahead = None; about = about; known = λ some. absurd (omega (arith, some)); from = λ who is. cc }
 
-    pub shell_next : (e : LogStep) (newer : List LogStep) → is_wait_of tx e.taken.body ≡ true → ShellHolds newer → ShellHolds (e ∷ newer)
-    shell_next e newer is holds = record { plain = omega (arith, holds.plain, stays.plain); ahead = stays.now; about = stays.about; known = λ some. known (is_passed tx e.taken.to e.taken.body) refl some; from = λ who is. source who (stays.from who is) }
+    pub shell_next : (e : HostStep) (newer : List HostStep) → is_wait_of tx e.step.taken.body ≡ true → ShellHolds newer → ShellHolds (e ∷ newer)
+    shell_next e newer is holds = record { plain = omega (arith, holds.plain, stays.plain); ahead = stays.now; about = stays.about; known = λ some. known (is_passed tx e.step.taken) refl some; from = λ who is. source who (stays.from who is) }
       where
-        stays : StaysAbout front t back own tx own_tx none holds.ahead e.taken.to e.taken.body (row (after start 0 (newer ++ base)) e.taken.to e.taken.body)
-        stays = about_waits front t back own tx own_tx none (after start 0 (newer ++ base)) holds.ahead e.taken.to e.taken.body is holds.about
+        stays : StaysAbout front t back own tx own_tx none holds.ahead e.step.taken (row (after start 0 (newer ++ base)) e.step.taken)
+        stays = about_waits front t back own tx own_tx none (after start 0 (newer ++ base)) holds.ahead e.step.taken is holds.about
 
-        known : (b : Bool) → is_passed tx e.taken.to e.taken.body ≡ b → 1 ≤ one_if (is_passed tx e.taken.to e.taken.body) + steps (is_passed tx) newer → is_some stays.now ≡ true
+        known : (b : Bool) → is_passed tx e.step.taken ≡ b → 1 ≤ one_if (is_passed tx e.step.taken) + steps (is_passed tx) newer → is_some stays.now ≡ true
         known true on some = stays.told on
         known false off some = stays.kept (holds.known (omega (arith, some, ap one_if off)))
 
-        source : (who : TxId) → (holds.ahead ≡ Some who) ⊎ (is_telling_who tx who e.taken.to e.taken.body ≡ true) → 1 ≤ steps (is_telling_who tx who) (e ∷ newer)
+        source : (who : TxId) → (holds.ahead ≡ Some who) ⊎ (is_telling_who tx who e.step.taken ≡ true) → 1 ≤ steps (is_telling_who tx who) (e ∷ newer)
         source who (inl old) = omega (arith, holds.from who old)
         source who (inr new) = omega (arith, ap one_if new)

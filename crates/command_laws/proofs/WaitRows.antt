@@ -19,11 +19,11 @@ use Rattle.sig_core.specs.Same.{same_key, same_tx}
 use Rattle.sig_core.specs.Step.{Step}
 use Rattle.row_locks.proofs.TxLemmas.{same_tx-swap}
 use Rattle.row_locks.specs.Tables.{ahead_at}
-use Rattle.lqh_block.specs.Lqh.{lqh_row}
+use Rattle.lqh_block.specs.Lqh.{lqh_table}
 use Rattle.lqh_block.specs.State.{LqhState}
 use Rattle.lqh_block.specs.Wait as lqh
 use Rattle.node_core.specs.declared.node.Node as node
-use Rattle.node_core.specs.Dih.{DihState, dih_row}
+use Rattle.node_core.specs.Dih.{DihState, dih_table}
 use Rattle.node_core.specs.Row.{node_row}
 use Rattle.tc_block.specs.declared.phase.Asked.{Asked}
 use Rattle.tc_block.specs.declared.transaction.Transaction.{Transaction}
@@ -31,7 +31,7 @@ use Rattle.tc_block.specs.Live.{place_in, step_of, step_place, step_value, stepp
 use Rattle.tc_block.specs.Operate.{wait_by, wait_row}
 use Rattle.tc_block.specs.Sends.{wait_of, waits_of}
 use Rattle.tc_block.specs.State.{TcState, with_live}
-use Rattle.tc_block.specs.Tc.{pass_if, pass_row, tc_row}
+use Rattle.tc_block.specs.Tc.{pass_if, pass_row, tc_table}
 use Rattle.answer_laws.proofs.LqhOps.{is_lqh, true_and}
 use Rattle.answer_laws.proofs.SendKinds.{are_of, none_of, of_map, one_kind}
 use Rattle.answer_laws.proofs.Tally.{one_if, tally, tally_in}
@@ -198,7 +198,7 @@ module _ (tx : TxId) where
   pass_step s one ahead true e = of_kind_step s (pass_if s one ahead true) refl (one_kind (same_tx one tx) e)
   pass_step s one ahead false e = of_kind_step s (pass_if s one ahead false) refl refl
 
-  tc_waits : (s : TcState) (body : Body) → is_wait_of tx body ≡ true → IsQuietStep s (tc_row s body)
+  tc_waits : (s : TcState) (body : Body) → is_wait_of tx body ≡ true → IsQuietStep s (tc_table s body)
   unfolding pass_row
   tc_waits s (Client (TcWaitReq one)) e = want_step s one e
   tc_waits s (Client (LqhWaitConf one ahead)) e = pass_step s one ahead (is_some (place_in s one)) e
@@ -206,7 +206,7 @@ module _ (tx : TxId) where
   tc_waits s (Client (TcWaitConf one ahead)) e = of_kind_step s _ refl refl
   tc_waits s _ e = cc
 
-  dih_waits : (s : DihState) (body : Body) → is_wait_of tx body ≡ true → IsQuietStep s (dih_row s body)
+  dih_waits : (s : DihState) (body : Body) → is_wait_of tx body ≡ true → IsQuietStep s (dih_table s body)
   dih_waits s (Client (TcWaitReq one)) e = of_kind_step s _ refl refl
   dih_waits s (Client (LqhWaitConf one ahead)) e = of_kind_step s _ refl refl
   dih_waits s (Client (LqhWaitReq one key)) e = of_kind_step s _ refl refl
@@ -217,7 +217,7 @@ module _ (tx : TxId) where
   find_step s one None e = of_kind_step s _ refl refl
   find_step s one (Some ahead) e = of_kind_step s (lqh.wait_by s one (Some ahead)) refl (one_kind (same_tx one tx) e)
 
-  lqh_waits : (s : LqhState) (body : Body) → is_wait_of tx body ≡ true → IsQuietStep s (lqh_row s body)
+  lqh_waits : (s : LqhState) (body : Body) → is_wait_of tx body ≡ true → IsQuietStep s (lqh_table s body)
   unfolding lqh.wait_row
   lqh_waits s (Client (TcWaitReq one)) e = of_kind_step s _ refl refl
   lqh_waits s (Client (LqhWaitConf one ahead)) e = of_kind_step s _ refl refl
@@ -254,7 +254,7 @@ module _ (tx : TxId) where
       there = ap (step_place s (wait_row tx)) p.place ∙ ap (step_value s (wait_row tx) p.at) p.get ∙ ap (λ o. stepped s p.at (wait_by tx t o)) unanswered
 
   tc_wants : (s : TcState) (t : Transaction) (asked : Asked) (member : Member) → of_live tx s.live ≡ Some t → t.asked ≡ Some asked → IsIn member asked.chain → (body : Body) → want_of tx body ≡ true
-      → 1 ≤ sends_of (to_node member.node (is_probe tx (key_of asked.op))) (tc_row s body).effects.sends
+      → 1 ≤ sends_of (to_node member.node (is_probe tx (key_of asked.op))) (tc_table s body).effects.sends
   tc_wants s t asked member live unanswered inside (Client (TcWaitReq one)) e =
       subst (λ v. 1 ≤ sends_of (to_node member.node (is_probe tx (key_of asked.op))) (step_of s v (λ w. wait_row v w)).effects.sends) (sym (same_tx-is one tx e)) (wants_here s t asked member live unanswered inside)
   tc_wants s t asked member live unanswered inside _ e = cc
@@ -274,7 +274,7 @@ module _ (tx : TxId) where
   find_one s (Some ahead) some =
       omega (arith, ap one_if (true_and (tx.tc == tx.tc) (same_tx tx tx) (eqb-self tx.tc) (same_tx-self tx)))
 
-  lqh_finds : (s : LqhState) (key : List ℕ) → is_some (ahead_at s.locks key tx) ≡ true → (body : Body) → probe_of tx key body ≡ true → 1 ≤ sends_of (to_node tx.tc (is_found tx)) (lqh_row s body).effects.sends
+  lqh_finds : (s : LqhState) (key : List ℕ) → is_some (ahead_at s.locks key tx) ≡ true → (body : Body) → probe_of tx key body ≡ true → 1 ≤ sends_of (to_node tx.tc (is_found tx)) (lqh_table s body).effects.sends
   unfolding lqh.wait_row
   lqh_finds s key held (Client (LqhWaitReq one at)) e =
       let own : one ≡ tx = same_tx-is one tx (first_of (same_tx one tx) (same_key at key) e) in
@@ -305,7 +305,7 @@ module _ (tx : TxId) where
   pass_one s ahead true e = omega (arith, ap one_if (same_tx-self tx))
   pass_one s ahead false e = cc
 
-  tc_passes : (s : TcState) (t : Transaction) → of_live tx s.live ≡ Some t → (body : Body) → found_of tx body ≡ true → 1 ≤ sends_of (to_node 0 (is_passed tx)) (tc_row s body).effects.sends
+  tc_passes : (s : TcState) (t : Transaction) → of_live tx s.live ≡ Some t → (body : Body) → found_of tx body ≡ true → 1 ≤ sends_of (to_node 0 (is_passed tx)) (tc_table s body).effects.sends
   unfolding pass_row
   tc_passes s t live (Client (LqhWaitConf one ahead)) e =
       subst (λ v. 1 ≤ sends_of (to_node 0 (is_passed tx)) (pass_if s v ahead (is_some (place_in s v))).effects.sends) (sym (same_tx-is one tx e))

@@ -7,7 +7,7 @@ use Rattle.std.specs.Prelude.{◌==◌, ◌&&◌, Option, None, Some, is_some, s
 use Rattle.run_theory.specs.Cuts.{IsCut}
 use Rattle.run_theory.specs.Links.{is_from}
 use Rattle.run_theory.specs.Lists.{IsIn}
-use Rattle.sig_core.specs.declared.log.LogStep.{LogStep}
+use Rattle.world_core.specs.Steps.{HostStep}
 use Rattle.sig_core.specs.declared.member.TxId.{TxId}
 use Rattle.sig_core.specs.declared.outs.Outgoing.{Outgoing}
 use Rattle.sig_core.specs.declared.place.BlockId.{BlockId}
@@ -19,15 +19,15 @@ use Rattle.sig_core.specs.declared.signal.client.ClientSignal.TheVariants.{TcBeg
 use Rattle.sig_core.specs.Place.{coordinator}
 use Rattle.sig_core.specs.Same.{same_tx}
 use Rattle.row_locks.specs.Tables.{ahead_at}
-use Rattle.api_block.specs.Api.{api_row}
+use Rattle.api_block.specs.Api.{api_table}
 use Rattle.api_block.specs.State.{ApiState}
-use Rattle.lqh_block.specs.Lqh.{lqh_row}
+use Rattle.lqh_block.specs.Lqh.{lqh_table}
 use Rattle.lqh_block.specs.State.{LqhState}
 use Rattle.lqh_block.specs.Wait as rows
 use Rattle.node_core.specs.declared.host.Host as host
 use Rattle.node_core.specs.declared.host.Host.TheVariants.{Shell, Node}
 use Rattle.node_core.specs.declared.node.Node as node
-use Rattle.node_core.specs.Dih.{dih_row}
+use Rattle.node_core.specs.Dih.{dih_table}
 use Rattle.node_core.specs.Requests.{is_request}
 use Rattle.node_core.specs.Row.{node_row, row, shell_row}
 use Rattle.tc_block.specs.declared.phase.Asked.{Asked}
@@ -35,7 +35,7 @@ use Rattle.tc_block.specs.declared.transaction.Transaction.{Transaction}
 use Rattle.tc_block.specs.Live.{place_in, step_of, step_place, step_value}
 use Rattle.tc_block.specs.Operate.{wait_by, wait_row}
 use Rattle.tc_block.specs.State.{TcState}
-use Rattle.tc_block.specs.Tc.{pass_if, pass_row, tc_row}
+use Rattle.tc_block.specs.Tc.{pass_if, pass_row, tc_table}
 use Rattle.world_core.specs.Machine.{after, machine, step_after}
 use Rattle.world_core.specs.Start.{Start}
 use Rattle.answer_laws.proofs.ApiMoves.{is_api_kind}
@@ -54,14 +54,14 @@ use Rattle.command_laws.proofs.Since.{few_taken, sent_since}
 use Rattle.command_laws.proofs.WaitRows.{is_telling_who, is_wait_of, tells_who}
 
 -- a step of these sends what passes the test
-pub record SentBy (start : Start) (test : Place → Body → Bool) (h : ℕ) (newer log : List LogStep) : Type 0 where
-  pub step : LogStep
-  pub front : List LogStep
-  pub back : List LogStep
+pub record SentBy (start : Start) (test : Place → Body → Bool) (h : ℕ) (newer log : List HostStep) : Type 0 where
+  pub step : HostStep
+  pub front : List HostStep
+  pub back : List HostStep
   pub is : newer ≡ front ++ step ∷ back
   pub sends : 1 ≤ sends_of test (step_after start h (back ++ log) step).effects.sends
 
-pub sent_by : (start : Start) (test : Place → Body → Bool) (h : ℕ) (newer log : List LogStep) → 1 ≤ sent_since start test h newer log → SentBy start test h newer log
+pub sent_by : (start : Start) (test : Place → Body → Bool) (h : ℕ) (newer log : List HostStep) → 1 ≤ sent_since start test h newer log → SentBy start test h newer log
 sent_by start test h [] log some = absurd (omega (arith, some))
 sent_by start test h (e ∷ newer) log some = by (cases_lt 0 (sends_of test (step_after start h (newer ++ log) e).effects.sends)) (sent_by start test h newer log)
   where
@@ -73,18 +73,18 @@ sent_by start test h (e ∷ newer) log some = by (cases_lt 0 (sends_of test (ste
         record { step = r.step; front = e ∷ r.front; back = r.back; is = ap (λ w. e ∷ w) r.is; sends = r.sends }
 
 -- what was taken from a link since a quiet moment was sent since by its host
-pub came_from : (start : Start) (was now : ℕ → List LogStep) (before : AreQuiet start was) (since : AreQuiet start now) (cut : IsCut was now) (test : Place → Body → Bool) (j : ℕ) (e : LogStep) → IsIn e (cut j).newer
-    → is_request e.taken.body ≡ false → test e.taken.to e.taken.body ≡ true → (i : ℕ) → e.taken.from.0 ≡ i → 1 ≤ sent_since start test i (cut i).newer (was i)
+pub came_from : (start : Start) (was now : ℕ → List HostStep) (before : AreQuiet start was) (since : AreQuiet start now) (cut : IsCut was now) (test : Place → Body → Bool) (j : ℕ) (e : HostStep) → IsIn e (cut j).newer
+    → is_request e.step.taken.body ≡ false → test e.step.taken ≡ true → (i : ℕ) → e.step.taken.from.0 ≡ i → 1 ≤ sent_since start test i (cut i).newer (was i)
 came_from start was now before since cut test j e inside plain passes i at =
-    let here = all_three (is_request e.taken.body) (e.taken.from.0 == i) (test e.taken.to e.taken.body) plain (grind (arith, nat_tests, at)) passes in
-    omega (arith, tally_in (λ (x : LogStep). is_from (machine start) i x && test x.taken.to x.taken.body) e (cut j).newer inside here, few_taken start was now before since cut test i j)
+    let here = all_three (is_request e.step.taken.body) (e.step.taken.from.0 == i) (test e.step.taken) plain (grind (arith, nat_tests, at)) passes in
+    omega (arith, tally_in (λ (x : HostStep). is_from (machine start) i x && test x.taken.to x.taken.body) e (cut j).newer inside here, few_taken start was now before since cut test i j)
 
 -- what the API never sends the shell's host doesn't
 shell_row_none : (test : Place → Body → Bool) → ((to : Place) (body : Body) → is_api_kind body ≡ true → test to body ≡ false) → ((name : Option ℕ) (at : ℕ) → test (coordinator at) (Client (TcBeginReq name)) ≡ false)
     → (s : ApiState) (at : BlockId) (body : Body) → sends_of test (shell_row s at body).effects.sends ≡ 0
 unfolding shell_row
 shell_row_none test fails begins s block.Api body =
-    tally_none (λ (o : Outgoing). test o.to o.body) (api_row s body).effects.sends (api_each (λ (o : Outgoing). test o.to o.body ≡ false) (λ o e. fails o.to o.body e) (λ name at. begins name at) s body)
+    tally_none (λ (o : Outgoing). test o.to o.body) (api_table s body).effects.sends (api_each (λ (o : Outgoing). test o.to o.body ≡ false) (λ o e. fails o.to o.body e) (λ name at. begins name at) s body)
 shell_row_none test fails begins s _ body = refl
 
 host_none : (test : Place → Body → Bool) → ((to : Place) (body : Body) → is_api_kind body ≡ true → test to body ≡ false) → ((name : Option ℕ) (at : ℕ) → test (coordinator at) (Client (TcBeginReq name)) ≡ false)
@@ -94,11 +94,11 @@ host_none test fails begins (Shell u) s to body is = shell_row_none test fails b
 host_none test fails begins (Node n) s to body is = cc
 
 pub shell_none : (start : Start) (test : Place → Body → Bool) → ((to : Place) (body : Body) → is_api_kind body ≡ true → test to body ≡ false)
-    → ((name : Option ℕ) (at : ℕ) → test (coordinator at) (Client (TcBeginReq name)) ≡ false) → (newer log : List LogStep) → sent_since start test 0 newer log ≡ 0
+    → ((name : Option ℕ) (at : ℕ) → test (coordinator at) (Client (TcBeginReq name)) ≡ false) → (newer log : List HostStep) → sent_since start test 0 newer log ≡ 0
 shell_none start test fails begins [] log = refl
 shell_none start test fails begins (e ∷ newer) log =
     let s = shell_after start (newer ++ log) in
-    omega (arith, shell_none start test fails begins newer log, host_none test fails begins (after start 0 (newer ++ log)) s.state e.taken.to e.taken.body s.is)
+    omega (arith, shell_none start test fails begins newer log, host_none test fails begins (after start 0 (newer ++ log)) s.state e.step.taken s.is)
 
 -- a node answers that the transaction waits behind this one
 abbrev pub finds_who : TxId → TxId → Body → Bool
@@ -199,7 +199,7 @@ module _ (tx who : TxId) where
   passes_told s one ahead true some = one_passes (same_tx one tx && same_tx ahead who) some
   passes_told s one ahead false some = none_sent some
 
-  tc_told : (s : TcState) (body : Body) → is_wait_of tx body ≡ true → 1 ≤ sends_of (is_telling_who tx who) (tc_row s body).effects.sends → finds_who tx who body ≡ true
+  tc_told : (s : TcState) (body : Body) → is_wait_of tx body ≡ true → 1 ≤ sends_of (is_telling_who tx who) (tc_table s body).effects.sends → finds_who tx who body ≡ true
   unfolding pass_row
   tc_told s (Client (TcWaitReq one)) own some = absurd (omega (arith, some, none_of is_seek (is_telling_who tx who) no_tell_seek (step_of s one (λ t. wait_row one t)).effects.sends (seeks_only s one)))
   tc_told s (Client (LqhWaitReq one key)) own some = none_sent some
@@ -211,8 +211,8 @@ module _ (tx who : TxId) where
   pub node_told : (n : node.Node) (at : BlockId) (body : Body) → is_wait_of tx body ≡ true → 1 ≤ sends_of (is_telling_who tx who) (node_row n at body).effects.sends → (is_tc at && finds_who tx who body) ≡ true
   unfolding node_row
   node_told n block.Tc body own some = tc_told n.tc body own some
-  node_told n block.Dih body own some = absurd (omega (arith, some, none_of is_dih_kind (is_telling_who tx who) no_tell_dih (dih_row n.dih body).effects.sends (dih_kinds n.dih body)))
-  node_told n block.Lqh body own some = absurd (omega (arith, some, none_of is_lqh_kind (is_telling_who tx who) no_tell_lqh (lqh_row n.lqh body).effects.sends (lqh_kinds n.lqh body)))
+  node_told n block.Dih body own some = absurd (omega (arith, some, none_of is_dih_kind (is_telling_who tx who) no_tell_dih (dih_table n.dih body).effects.sends (dih_kinds n.dih body)))
+  node_told n block.Lqh body own some = absurd (omega (arith, some, none_of is_lqh_kind (is_telling_who tx who) no_tell_lqh (lqh_table n.lqh body).effects.sends (lqh_kinds n.lqh body)))
   node_told n _ body own some = none_sent some
 
   -- the transaction waits behind it here
@@ -229,7 +229,7 @@ module _ (tx who : TxId) where
       by true false p q e = cc
       by false b p q e = cc
 
-  lqh_found : (s : LqhState) (body : Body) → is_wait_of tx body ≡ true → 1 ≤ sends_of (is_finding_who tx who) (lqh_row s body).effects.sends → FoundAt s
+  lqh_found : (s : LqhState) (body : Body) → is_wait_of tx body ≡ true → 1 ≤ sends_of (is_finding_who tx who) (lqh_table s body).effects.sends → FoundAt s
   unfolding rows.wait_row
   lqh_found s (Client (TcWaitReq one)) own some = none_sent some
   lqh_found s (Client (LqhWaitReq one key)) own some = waits_found s one key (ahead_at s.locks key one) refl some
@@ -237,11 +237,11 @@ module _ (tx who : TxId) where
   lqh_found s (Client (TcWaitConf one ahead)) own some = none_sent some
   lqh_found s _ own some = cc
 
-  no_begin : (body : Body) → is_wait_of tx body ≡ true → (s : TcState) → sends_of (is_finding_who tx who) (tc_row s body).effects.sends ≡ 0
-  no_begin (Client (TcWaitReq one)) own s = none_of (is_tc_kind one) (is_finding_who tx who) (no_find_tc one) (tc_row s (Client (TcWaitReq one))).effects.sends (tc_kinds s (Client (TcWaitReq one)) refl)
+  no_begin : (body : Body) → is_wait_of tx body ≡ true → (s : TcState) → sends_of (is_finding_who tx who) (tc_table s body).effects.sends ≡ 0
+  no_begin (Client (TcWaitReq one)) own s = none_of (is_tc_kind one) (is_finding_who tx who) (no_find_tc one) (tc_table s (Client (TcWaitReq one))).effects.sends (tc_kinds s (Client (TcWaitReq one)) refl)
   no_begin (Client (LqhWaitReq one key)) own s = refl
   no_begin (Client (LqhWaitConf one ahead)) own s =
-      none_of (is_tc_kind one) (is_finding_who tx who) (no_find_tc one) (tc_row s (Client (LqhWaitConf one ahead))).effects.sends (tc_kinds s (Client (LqhWaitConf one ahead)) refl)
+      none_of (is_tc_kind one) (is_finding_who tx who) (no_find_tc one) (tc_table s (Client (LqhWaitConf one ahead))).effects.sends (tc_kinds s (Client (LqhWaitConf one ahead)) refl)
   no_begin (Client (TcWaitConf one ahead)) own s = refl
   no_begin _ own s = cc
 
@@ -249,6 +249,6 @@ module _ (tx who : TxId) where
   pub node_found : (n : node.Node) (at : BlockId) (body : Body) → is_wait_of tx body ≡ true → 1 ≤ sends_of (is_finding_who tx who) (node_row n at body).effects.sends → FoundAt n.lqh
   unfolding node_row
   node_found n block.Tc body own some = absurd (omega (arith, some, no_begin body own n.tc))
-  node_found n block.Dih body own some = absurd (omega (arith, some, none_of is_dih_kind (is_finding_who tx who) no_find_dih (dih_row n.dih body).effects.sends (dih_kinds n.dih body)))
+  node_found n block.Dih body own some = absurd (omega (arith, some, none_of is_dih_kind (is_finding_who tx who) no_find_dih (dih_table n.dih body).effects.sends (dih_kinds n.dih body)))
   node_found n block.Lqh body own some = lqh_found n.lqh body own some
   node_found n _ body own some = none_sent some

@@ -5,7 +5,7 @@ use Rattle.std.specs.Prelude.{◌&&◌, ◌||◌, IfSome, Some}
 use Rattle.run_theory.specs.Cuts.{IsCut}
 use Rattle.run_theory.specs.Lists.{Each, IsIn}
 use Rattle.run_theory.proofs.Pasts.{each_after, each_in}
-use Rattle.sig_core.specs.declared.log.LogStep.{LogStep}
+use Rattle.world_core.specs.Steps.{HostStep}
 use Rattle.sig_core.specs.declared.member.TxId.{TxId}
 use Rattle.sig_core.specs.declared.place.Place.{Place}
 use Rattle.sig_core.specs.declared.signal.Body.{Body}
@@ -23,7 +23,8 @@ use Rattle.node_core.specs.declared.host.Host.TheVariants.{Shell, Node}
 use Rattle.node_core.specs.declared.node.Node as node
 use Rattle.node_core.specs.Requests.{is_request}
 use Rattle.node_core.specs.Row.{node_row, row}
-use Rattle.world_core.specs.Machine.{after, hosts}
+use Rattle.world_core.specs.Hosts.{hosts}
+use Rattle.world_core.specs.Machine.{after}
 use Rattle.world_core.specs.Start.{Start}
 use Rattle.commit_laws.proofs.Replicas.{logs_keep_well}
 use Rattle.commit_laws.specs.ReplicaLaws.{IsWellHost}
@@ -107,7 +108,7 @@ plain_finds tx who to body e = plain_by (is_tc to.block) (finds_who tx who) body
     off (Client (LqhWaitConf one ahead)) r = cc
     off _ r = refl
 
-some_step : (front : List LogStep) (e : LogStep) (back : List LogStep) → front ++ e ∷ back ≡ [] → ⊥
+some_step : (front : List HostStep) (e : HostStep) (back : List HostStep) → front ++ e ∷ back ≡ [] → ⊥
 some_step [] e back is = cc
 some_step (f ∷ front) e back is = cc
 
@@ -117,18 +118,18 @@ unfolding row
 row_same tx (Shell s) n to body is kind = cc
 row_same tx (Node m) n to body is kind = ap (λ (x : node.Node). Node x) (node_waits tx m to.block body kind).same
 
-node_stays : (start : Start) (tx : TxId) (h : ℕ) (newer log : List LogStep) (n : node.Node) → Each (λ (e : LogStep). is_wait_of tx e.taken.body ≡ true) newer → after start h log ≡ Node n
+node_stays : (start : Start) (tx : TxId) (h : ℕ) (newer log : List HostStep) (n : node.Node) → Each (λ (e : HostStep). is_wait_of tx e.step.taken.body ≡ true) newer → after start h log ≡ Node n
     → after start h (newer ++ log) ≡ Node n
 node_stays start tx h [] log n kinds is = is
 node_stays start tx h (e ∷ newer) log n kinds is =
     let before = node_stays start tx h newer log n kinds.1 is in
-    row_same tx (after start h (newer ++ log)) n e.taken.to e.taken.body before kinds.0 ∙ before
+    row_same tx (after start h (newer ++ log)) n e.step.taken before kinds.0 ∙ before
 
-module _ (start : Start) (was mid : ℕ → List LogStep) (tx who : TxId) (before : AreQuiet start was) (since : AreQuiet start mid) (cut : IsCut was mid)
-    (kinds : (h : ℕ) → Each (λ (e : LogStep). is_wait_of tx e.taken.body ≡ true) (cut (suc h)).newer) where
+module _ (start : Start) (was mid : ℕ → List HostStep) (tx who : TxId) (before : AreQuiet start was) (since : AreQuiet start mid) (cut : IsCut was mid)
+    (kinds : (h : ℕ) → Each (λ (e : HostStep). is_wait_of tx e.step.taken.body ≡ true) (cut (suc h)).newer) where
   -- a step of a node that sent such a signal, as the node was
   record SentHere (test : Place → Body → Bool) (h : ℕ) (n : node.Node) : Type 0 where
-    step : LogStep
+    step : HostStep
     inside : IsIn step (cut (suc h)).newer
     waits_kind : is_wait_of tx step.taken.body ≡ true
     sends : 1 ≤ sends_of test (node_row n step.taken.to.block step.taken.body).effects.sends
@@ -137,8 +138,8 @@ module _ (start : Start) (was mid : ℕ → List LogStep) (tx who : TxId) (befor
   sent_here test h n is b = record {
     step = b.step;
     inside = inside;
-    waits_kind = each_in (λ (e : LogStep). is_wait_of tx e.taken.body ≡ true) b.step (cut (suc h)).newer (kinds h) inside;
-    sends = row_sends test (after start (suc h) (b.back ++ was (suc h))) n b.step.taken.to b.step.taken.body state b.sends;
+    waits_kind = each_in (λ (e : HostStep). is_wait_of tx e.step.taken.body ≡ true) b.step (cut (suc h)).newer (kinds h) inside;
+    sends = row_sends test (after start (suc h) (b.back ++ was (suc h))) n b.step.step.taken state b.sends;
   }
     where
       inside : IsIn b.step (cut (suc h)).newer
@@ -147,23 +148,23 @@ module _ (start : Start) (was mid : ℕ → List LogStep) (tx who : TxId) (befor
       state : after start (suc h) (b.back ++ was (suc h)) ≡ Node n
       state =
           node_stays start tx (suc h) b.back (was (suc h)) n
-          (each_after (λ (e : LogStep). is_wait_of tx e.taken.body ≡ true) (b.front ++ b.step ∷ []) b.back
-          (subst (Each (λ (e : LogStep). is_wait_of tx e.taken.body ≡ true)) (b.is ∙ sym (append_assoc b.front (b.step ∷ []) b.back)) (kinds h))) is
+          (each_after (λ (e : HostStep). is_wait_of tx e.step.taken.body ≡ true) (b.front ++ b.step ∷ []) b.back
+          (subst (Each (λ (e : HostStep). is_wait_of tx e.step.taken.body ≡ true)) (b.is ∙ sym (append_assoc b.front (b.step ∷ []) b.back)) (kinds h))) is
 
   -- at a node the transaction waits behind that one
   pub record IsBehindThere : Type 0 where
     pub node : ℕ
-    pub low : node ≤ start.nodes
+    pub low : node ≤ start.shape.nodes
     pub key : List ℕ
     pub behind : IsBehindAt tx who key (after start node (mid node))
 
-  found_there : (h : ℕ) (e : LogStep) → IsIn e (cut (suc h)).newer → is_finding_who tx who e.taken.to e.taken.body ≡ true → IsBehindThere
-  found_there h e inside passes = by e.taken.from.0 refl
+  found_there : (h : ℕ) (e : HostStep) → IsIn e (cut (suc h)).newer → is_finding_who tx who e.step.taken ≡ true → IsBehindThere
+  found_there h e inside passes = by e.step.taken.from.0 refl
     where
-      sent_at : (i : ℕ) → e.taken.from.0 ≡ i → 1 ≤ sent_since start (is_finding_who tx who) i (cut i).newer (was i)
-      sent_at i at = came_from start was mid before since cut (is_finding_who tx who) (suc h) e inside (plain_finds tx who e.taken.to e.taken.body passes) passes i at
+      sent_at : (i : ℕ) → e.step.taken.from.0 ≡ i → 1 ≤ sent_since start (is_finding_who tx who) i (cut i).newer (was i)
+      sent_at i at = came_from start was mid before since cut (is_finding_who tx who) (suc h) e inside (plain_finds tx who e.step.taken passes) passes i at
 
-      by : (i : ℕ) → e.taken.from.0 ≡ i → IsBehindThere
+      by : (i : ℕ) → e.step.taken.from.0 ≡ i → IsBehindThere
       by zero at = absurd (omega (arith, sent_at zero at, shell_none start (is_finding_who tx who) (no_find_api tx who) (λ name node. refl) ((cut 0).newer) (was 0)))
       by (suc k) at = there (cases_lt (suc k) (hosts start))
         where
@@ -177,7 +178,7 @@ module _ (start : Start) (was mid : ℕ → List LogStep) (tx who : TxId) (befor
           sender = sent_here (is_finding_who tx who) k n.state n.is b
 
           found : FoundAt tx who n.state.lqh
-          found = node_found tx who n.state sender.step.taken.to.block sender.step.taken.body sender.waits_kind sender.sends
+          found = node_found tx who n.state sender.step.step.taken.to.block sender.step.step.taken.body sender.waits_kind sender.sends
 
           now_is : after start (suc k) (mid (suc k)) ≡ Node n.state
           now_is = ap (after start (suc k)) ((cut (suc k)).is) ∙ node_stays start tx (suc k) (cut (suc k)).newer (was (suc k)) n.state (kinds k) n.is
@@ -192,15 +193,15 @@ module _ (start : Start) (was mid : ℕ → List LogStep) (tx who : TxId) (befor
           }
           there (inr high) = absurd (some_step b.front b.step b.back (sym b.is ∙ front_nil (cut (suc k)).newer (was (suc k)) (sym (since.within (suc k) high) ∙ (cut (suc k)).is)))
 
-  pub behind_there : (e : LogStep) → IsIn e ((cut 0).newer) → is_telling_who tx who e.taken.to e.taken.body ≡ true → IsBehindThere
-  behind_there e inside passes = by e.taken.from.0 refl
+  pub behind_there : (e : HostStep) → IsIn e ((cut 0).newer) → is_telling_who tx who e.step.taken ≡ true → IsBehindThere
+  behind_there e inside passes = by e.step.taken.from.0 refl
     where
-      sent_at : (i : ℕ) → e.taken.from.0 ≡ i → 1 ≤ sent_since start (is_telling_who tx who) i (cut i).newer (was i)
-      sent_at i at = came_from start was mid before since cut (is_telling_who tx who) 0 e inside (plain_tells tx who e.taken.to e.taken.body passes) passes i at
+      sent_at : (i : ℕ) → e.step.taken.from.0 ≡ i → 1 ≤ sent_since start (is_telling_who tx who) i (cut i).newer (was i)
+      sent_at i at = came_from start was mid before since cut (is_telling_who tx who) 0 e inside (plain_tells tx who e.step.taken passes) passes i at
 
-      by : (i : ℕ) → e.taken.from.0 ≡ i → IsBehindThere
+      by : (i : ℕ) → e.step.taken.from.0 ≡ i → IsBehindThere
       by zero at = absurd (omega (arith, sent_at zero at, shell_none start (is_telling_who tx who) (no_tell_api tx who) (λ name node. refl) ((cut 0).newer) (was 0)))
       by (suc k) at =
           let n = node_after start k (was (suc k)) in
           let sender = sent_here (is_telling_who tx who) k n.state n.is (sent_by start (is_telling_who tx who) (suc k) (cut (suc k)).newer (was (suc k)) (sent_at (suc k) at)) in
-          found_there k sender.step sender.inside (node_told tx who n.state sender.step.taken.to.block sender.step.taken.body sender.waits_kind sender.sends)
+          found_there k sender.step sender.inside (node_told tx who n.state sender.step.step.taken.to.block sender.step.step.taken.body sender.waits_kind sender.sends)

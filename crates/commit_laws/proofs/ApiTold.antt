@@ -10,7 +10,7 @@ use Rattle.sig_core.specs.declared.outcome.Outcome.TheVariants as outcome
 use Rattle.sig_core.specs.declared.outs.Outgoing.{Outgoing}
 use Rattle.sig_core.specs.declared.signal.Body.{Body}
 use Rattle.sig_core.specs.Step.{Step}
-use Rattle.api_block.specs.Api.{api_row}
+use Rattle.api_block.specs.Api.{api_table}
 use Rattle.api_block.specs.declared.opened.OpenTransaction.{OpenTransaction}
 use Rattle.api_block.specs.State.{ApiState}
 use Rattle.commit_laws.specs.Kinds.{Kind, kind_of}
@@ -47,13 +47,13 @@ abbrev pub TellsBegun : (TxId → Type 0) → Kind → Type 0
 TellsBegun T (kind.begun tx) = T tx
 TellsBegun T k = Unit {0}
 
-pub api_goes : (T : TxId → Type 0) (s : ApiState) (body : Body) → AreTold T s.opened → TellsBegun T (kind_of body) → ApiGoes T (kind_of body) (api_row s body)
+pub api_goes : (T : TxId → Type 0) (s : ApiState) (body : Body) → AreTold T s.opened → TellsBegun T (kind_of body) → ApiGoes T (kind_of body) (api_table s body)
 api_goes T s body told tells = record { told = each.opened; says = each.sends; reports = each.marks }
   where
     known : (t : OpenTransaction) (tx : TxId) → ToldOf T t.tx → t.tx ≡ Some tx → T tx
     known t tx own is = subst (ToldOf T) is own
 
-    each : ApiEach (λ (t : OpenTransaction). ToldOf T t.tx) (λ (o : Outgoing). ApiSays T (kind_of o.body)) (Reports (kind_of body)) (api_row s body)
+    each : ApiEach (λ (t : OpenTransaction). ToldOf T t.tx) (λ (o : Outgoing). ApiSays T (kind_of o.body)) (Reports (kind_of body)) (api_table s body)
     each =
         api_each (λ (t : OpenTransaction). ToldOf T t.tx) (λ (o : Outgoing). ApiSays T (kind_of o.body)) (Reports (kind_of body)) s body (record {
           asked = λ name node op. tt;

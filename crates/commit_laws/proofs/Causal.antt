@@ -11,7 +11,7 @@ use Rattle.run_theory.proofs.Links.{signal_below, step_above}
 use Rattle.run_theory.proofs.Orders.{each_next}
 use Rattle.run_theory.proofs.Pasts.{each_map}
 use Rattle.run_theory.proofs.Runs.{log_of-other, log_of-own, log_of-past}
-use Rattle.sig_core.specs.declared.log.LogStep.{LogStep}
+use Rattle.world_core.specs.Steps.{HostStep}
 use Rattle.sig_core.specs.declared.member.TxId.{TxId}
 use Rattle.sig_core.specs.declared.outs.Outgoing.{Outgoing}
 use Rattle.sig_core.specs.declared.place.Place.{Place}
@@ -26,8 +26,11 @@ use Rattle.node_core.specs.Fresh.{begun_node, fresh_node, fresh_shell}
 use Rattle.node_core.specs.Requests.{is_request}
 use Rattle.node_core.specs.Row.{row}
 use Rattle.world_core.specs.History.{is_reported}
-use Rattle.world_core.specs.Machine.{after, all_headed, counted, headed, hosts, last_stamp, machine, sent_count, signals_of, step_after}
-use Rattle.world_core.specs.Start.{Start, first_view, started}
+use Rattle.world_core.specs.Hosts.{hosts}
+use Rattle.world_core.specs.Machine.{after, all_headed, counted, headed, last_stamp, machine, sent_count, signals_of, step_after}
+use Rattle.frag_map.specs.Layout.{first_view}
+use Rattle.world_core.specs.Hosts.{started}
+use Rattle.world_core.specs.Start.{Start}
 use Rattle.world_core.proofs.SentFacts.{last_is}
 use Rattle.world_core.proofs.Stamped.{stamped}
 use Rattle.commit_laws.specs.Causes.{IsDecidedBelow, IsToldBelow, is_decision}
@@ -77,29 +80,29 @@ knows_more h T D T' D' (Node n) bs vs f g knows = record {
 
 module _ (start : Start) where
   -- all that host h, with this log, said to have begun, or asked for an epoch for
-  abbrev pub sent_kinds : (Kind → List TxId → List TxId) → ℕ → List LogStep → List TxId
+  abbrev pub sent_kinds : (Kind → List TxId → List TxId) → ℕ → List HostStep → List TxId
   sent_kinds f h [] = []
   sent_kinds f h (e ∷ log) = put_kinds f (step_after start h log e).effects.sends (sent_kinds f h log)
 
-  abbrev pub ToldBy : (ℕ → List LogStep) → List LogStep → TxId → Type 0
+  abbrev pub ToldBy : (ℕ → List HostStep) → List HostStep → TxId → Type 0
   ToldBy logs log tx = IsToldBelow logs tx (last_stamp log + 1)
 
-  abbrev pub DecidedBy : (ℕ → List LogStep) → List LogStep → TxId → Type 0
+  abbrev pub DecidedBy : (ℕ → List HostStep) → List HostStep → TxId → Type 0
   DecidedBy logs log tx = IsDecidedBelow logs tx (last_stamp log + 1)
 
-  abbrev pub KnowsBy : (ℕ → List LogStep) → ℕ → List LogStep → Type 0
+  abbrev pub KnowsBy : (ℕ → List HostStep) → ℕ → List HostStep → Type 0
   KnowsBy logs h log = HostKnows h (ToldBy logs log) (DecidedBy logs log) (after start h log) (sent_kinds begun_by h log) (sent_kinds verified_by h log)
 
-  pub record AreCausal (logs : ℕ → List LogStep) : Type 0 where
+  pub record AreCausal (logs : ℕ → List HostStep) : Type 0 where
     pub knows : (h : ℕ) → KnowsBy logs h (logs h)
     pub decisions : (h : ℕ) → Each (DecidesRightly logs) (logs h)
     pub reports : Each (ReportsRightly logs) (logs 0)
     pub begins : Each BeginsRightly (logs 0)
     pub commits : (h : ℕ) → Each (CommitsRightly logs) (logs h)
 
-  kind_is : (h : ℕ) (log : List LogStep) → IsOf h (after start h log)
+  kind_is : (h : ℕ) (log : List HostStep) → IsOf h (after start h log)
   kind_is h [] = started_kind start h
-  kind_is h (e ∷ log) = row_kind h (after start h log) e.taken.to e.taken.body (kind_is h log)
+  kind_is h (e ∷ log) = row_kind h (after start h log) e.step.taken (kind_is h log)
 
   started_knows : (h : ℕ) → KnowsBy (log_of (machine start) []) h []
   unfolding fresh_shell fresh_node begun_node
@@ -115,15 +118,15 @@ module _ (start : Start) where
   }
 
   -- one event more
-  module _ (es : List LogStep) (e : LogStep) (come : Comes (machine start) SignalSays AreCausal es e) where
-    abbrev before : ℕ → List LogStep
+  module _ (es : List HostStep) (e : HostStep) (come : Comes (machine start) SignalSays AreCausal es e) where
+    abbrev before : ℕ → List HostStep
     before = log_of (machine start) es
 
-    abbrev now : ℕ → List LogStep
+    abbrev now : ℕ → List HostStep
     now = log_of (machine start) (e ∷ es)
 
     abbrev h : ℕ
-    h = e.taken.to.node
+    h = e.host
 
     grown : (g : ℕ) → IsPast (before g) (now g)
     grown g = log_of-past (machine start) e es g
@@ -134,30 +137,30 @@ module _ (start : Start) where
     here : IsIn e (now h)
     here = subst (IsIn e) (sym own_log) (inl refl)
 
-    later : e.taken.stamp + 1 ≤ e.stamp
+    later : e.step.taken.stamp + 1 ≤ e.step.stamp
     later = let below = signal_below (machine start) h (before h) e come.happens.step in omega (arith, below)
 
-    after_last : last_stamp (before h) + 1 ≤ e.stamp + 1
+    after_last : last_stamp (before h) + 1 ≤ e.step.stamp + 1
     after_last = let above = step_above (machine start) h (before h) e come.happens.step in omega (arith, above, last_is start h (before h))
 
     -- what the taken signal says
-    taken_says : (k : Kind) → kind_of e.taken.body ≡ k → (k ≡ kind.other → ⊥) → Says before e.taken k
-    taken_says k is real = by (is_request e.taken.body) refl
+    taken_says : (k : Kind) → kind_of e.step.taken.body ≡ k → (k ≡ kind.other → ⊥) → Says before e.step.taken k
+    taken_says k is real = by (is_request e.step.taken.body) refl
       where
-        by : (b : Bool) → is_request e.taken.body ≡ b → Says before e.taken k
-        by true asked = absurd (real (sym is ∙ request_other e.taken.body asked))
-        by false asked = subst (Says before e.taken) is (come.told asked)
+        by : (b : Bool) → is_request e.step.taken.body ≡ b → Says before e.step.taken k
+        by true asked = absurd (real (sym is ∙ request_other e.step.taken.body asked))
+        by false asked = subst (Says before e.step.taken) is (come.told asked)
 
-    tells_decided : (k : Kind) → kind_of e.taken.body ≡ k → Tells (λ tx. IsDecidedBelow now tx (e.stamp + 1)) k
-    tells_decided (kind.decided tx) is = decided_more before now tx (e.taken.stamp + 1) (e.stamp + 1) grown (omega (arith, later)) (taken_says (kind.decided tx) is (λ same. absurd cc))
-    tells_decided (kind.committing tx) is = decided_more before now tx (e.taken.stamp + 1) (e.stamp + 1) grown (omega (arith, later)) (taken_says (kind.committing tx) is (λ same. absurd cc))
+    tells_decided : (k : Kind) → kind_of e.step.taken.body ≡ k → Tells (λ tx. IsDecidedBelow now tx (e.step.stamp + 1)) k
+    tells_decided (kind.decided tx) is = decided_more before now tx (e.step.taken.stamp + 1) (e.step.stamp + 1) grown (omega (arith, later)) (taken_says (kind.decided tx) is (λ same. absurd cc))
+    tells_decided (kind.committing tx) is = decided_more before now tx (e.step.taken.stamp + 1) (e.step.stamp + 1) grown (omega (arith, later)) (taken_says (kind.committing tx) is (λ same. absurd cc))
     tells_decided (kind.begun tx) is = tt
     tells_decided (kind.wanted tx) is = tt
     tells_decided (kind.verified tx) is = tt
     tells_decided (kind.ended tx) is = tt
     tells_decided kind.other is = tt
 
-    tells_begun : h ≡ 0 → (body : Body) → e.taken.body ≡ body → TellsBegun (λ tx. IsToldBelow now tx (e.stamp + 1)) (kind_of body)
+    tells_begun : h ≡ 0 → (body : Body) → e.step.taken.body ≡ body → TellsBegun (λ tx. IsToldBelow now tx (e.step.stamp + 1)) (kind_of body)
     tells_begun at (Client (TcBeginConf name tx)) is = record { name = name; step = e; inside = subst (λ g. IsIn e (now g)) at here; told = is; below = omega arith }
     tells_begun at (Client (TcCommitReq tx)) is = tt
     tells_begun at (Client (TcCommitConf tx epoch)) is = tt
@@ -166,23 +169,23 @@ module _ (start : Start) where
     tells_begun at (Epoch (DiVerifyConf tx epoch)) is = tt
     tells_begun at _ is = tt
 
-    tells_if : (s : Host) → (g : ℕ) → h ≡ g → IsOf g s → TellsIf s (λ tx. IsToldBelow now tx (e.stamp + 1)) (kind_of e.taken.body)
-    tells_if (Shell s) zero at is = tells_begun at e.taken.body refl
+    tells_if : (s : Host) → (g : ℕ) → h ≡ g → IsOf g s → TellsIf s (λ tx. IsToldBelow now tx (e.step.stamp + 1)) (kind_of e.step.taken.body)
+    tells_if (Shell s) zero at is = tells_begun at e.step.taken.body refl
     tells_if (Shell s) (suc g) at is = absurd is
     tells_if (Node n) g at is = tt
 
-    goes : HostGoes h (λ tx. IsToldBelow now tx (e.stamp + 1)) (λ tx. IsDecidedBelow now tx (e.stamp + 1)) (kind_of e.taken.body) (sent_kinds begun_by h (before h)) (sent_kinds verified_by h (before h))
+    goes : HostGoes h (λ tx. IsToldBelow now tx (e.step.stamp + 1)) (λ tx. IsDecidedBelow now tx (e.step.stamp + 1)) (kind_of e.step.taken.body) (sent_kinds begun_by h (before h)) (sent_kinds verified_by h (before h))
         (step_after start h (before h) e)
     goes =
-        host_goes h (λ tx. IsToldBelow now tx (e.stamp + 1)) (λ tx. IsDecidedBelow now tx (e.stamp + 1)) (after start h (before h)) e.taken.to e.taken.body
+        host_goes h (λ tx. IsToldBelow now tx (e.step.stamp + 1)) (λ tx. IsDecidedBelow now tx (e.step.stamp + 1)) (after start h (before h)) e.step.taken
         (sent_kinds begun_by h (before h)) (sent_kinds verified_by h (before h))
-        (knows_more h (ToldBy before (before h)) (DecidedBy before (before h)) (λ tx. IsToldBelow now tx (e.stamp + 1)) (λ tx. IsDecidedBelow now tx (e.stamp + 1)) (after start h (before h))
+        (knows_more h (ToldBy before (before h)) (DecidedBy before (before h)) (λ tx. IsToldBelow now tx (e.step.stamp + 1)) (λ tx. IsDecidedBelow now tx (e.step.stamp + 1)) (after start h (before h))
         (sent_kinds begun_by h (before h)) (sent_kinds verified_by h (before h))
-        (λ tx is. told_more before now tx (last_stamp (before h) + 1) (e.stamp + 1) grown after_last is)
-        (λ tx is. decided_more before now tx (last_stamp (before h) + 1) (e.stamp + 1) grown after_last is) (come.all.law.knows h))
-        (tells_decided (kind_of e.taken.body) refl) (tells_if (after start h (before h)) h refl (kind_is h (before h)))
+        (λ tx is. told_more before now tx (last_stamp (before h) + 1) (e.step.stamp + 1) grown after_last is)
+        (λ tx is. decided_more before now tx (last_stamp (before h) + 1) (e.step.stamp + 1) grown after_last is) (come.all.law.knows h))
+        (tells_decided (kind_of e.step.taken.body) refl) (tells_if (after start h (before h)) h refl (kind_is h (before h)))
 
-    own_marks : e.marks ≡ (step_after start h (before h) e).effects.marks
+    own_marks : e.step.marks ≡ (step_after start h (before h) e).effects.marks
     own_marks = come.happens.step.fits.marks
 
     knows_now : (g : ℕ) → KnowsBy now g (now g)
@@ -199,35 +202,35 @@ module _ (start : Start) where
 
     decides_now : DecidesRightly now e
     decides_now tx marked =
-        let took : kind_of e.taken.body ≡ kind.verified tx =
-        decision_of (kind_of e.taken.body) (step_after start h (before h) e).effects.marks tx goes.decides (ap (list_any (is_decision tx)) (sym own_marks) ∙ marked) in
+        let took : kind_of e.step.taken.body ≡ kind.verified tx =
+        decision_of (kind_of e.step.taken.body) (step_after start h (before h) e).effects.marks tx goes.decides (ap (list_any (is_decision tx)) (sym own_marks) ∙ marked) in
         let says = taken_says (kind.verified tx) took (λ same. absurd cc) in
-        record { told = told_more before now tx (e.taken.stamp + 1) e.stamp grown later says.0; from = says.1; to = says.2; took = took }
+        record { told = told_more before now tx (e.step.taken.stamp + 1) e.step.stamp grown later says.0; from = says.1; to = says.2; took = took }
 
     decisions_now : (g : ℕ) → Each (DecidesRightly now) (now g)
     decisions_now g =
         each_next (machine start) (DecidesRightly now) es e g decides_now
         (each_map (DecidesRightly before) (DecidesRightly now) (before g)
-        (λ f rightly tx marked. let is = rightly tx marked in record { told = told_more before now tx f.stamp f.stamp grown (omega arith) is.told; from = is.from; to = is.to; took = is.took })
+        (λ f rightly tx marked. let is = rightly tx marked in record { told = told_more before now tx f.step.stamp f.step.stamp grown (omega arith) is.told; from = is.from; to = is.to; took = is.took })
         (come.all.law.decisions g))
 
-    reports_of : (s : Host) → IsOf 0 s → ReportsIf s (kind_of e.taken.body) (step_after start h (before h) e).effects.marks → Each (Reports (kind_of e.taken.body)) (step_after start h (before h) e).effects.marks
+    reports_of : (s : Host) → IsOf 0 s → ReportsIf s (kind_of e.step.taken.body) (step_after start h (before h) e).effects.marks → Each (Reports (kind_of e.step.taken.body)) (step_after start h (before h) e).effects.marks
     reports_of (Shell s) is reports = reports
     reports_of (Node n) is reports = absurd is
 
     report_now : h ≡ 0 → ReportsRightly now e
     report_now at tx marked =
-        let state : IsOf 0 (step_after start h (before h) e).state = subst (λ g. IsOf g (step_after start h (before h) e).state) at (row_kind h (after start h (before h)) e.taken.to e.taken.body (kind_is h (before h))) in
-        let took : kind_of e.taken.body ≡ kind.ended tx =
-        report_of (kind_of e.taken.body) (step_after start h (before h) e).effects.marks tx (reports_of (step_after start h (before h) e).state state goes.reports)
+        let state : IsOf 0 (step_after start h (before h) e).state = subst (λ g. IsOf g (step_after start h (before h) e).state) at (row_kind h (after start h (before h)) e.step.taken (kind_is h (before h))) in
+        let took : kind_of e.step.taken.body ≡ kind.ended tx =
+        report_of (kind_of e.step.taken.body) (step_after start h (before h) e).effects.marks tx (reports_of (step_after start h (before h) e).state state goes.reports)
         (ap (list_any (is_reported tx)) (sym own_marks) ∙ marked) in
-        decided_more before now tx (e.taken.stamp + 1) e.stamp grown later (taken_says (kind.ended tx) took (λ same. absurd cc))
+        decided_more before now tx (e.step.taken.stamp + 1) e.step.stamp grown later (taken_says (kind.ended tx) took (λ same. absurd cc))
 
     reports_now : Each (ReportsRightly now) (now 0)
     reports_now = by (cases_eq h 0)
       where
         old : Each (ReportsRightly now) (before 0)
-        old = each_map (ReportsRightly before) (ReportsRightly now) (before 0) (λ f rightly tx marked. decided_more before now tx f.stamp f.stamp grown (omega arith) (rightly tx marked)) come.all.law.reports
+        old = each_map (ReportsRightly before) (ReportsRightly now) (before 0) (λ f rightly tx marked. decided_more before now tx f.step.stamp f.step.stamp grown (omega arith) (rightly tx marked)) come.all.law.reports
 
         by : (h ≡ 0) ⊎ (h ≢ 0) → Each (ReportsRightly now) (now 0)
         by (inl at) = subst (Each (ReportsRightly now)) (sym (log_of-own (machine start) e es 0 at)) (report_now at, old)
@@ -239,20 +242,20 @@ module _ (start : Start) where
     commits_now : (g : ℕ) → Each (CommitsRightly now) (now g)
     commits_now g =
         each_next (machine start) (CommitsRightly now) es e g
-        (λ tx took. decided_more before now tx (e.taken.stamp + 1) e.stamp grown later (taken_says (kind.committing tx) took (λ same. absurd cc)))
-        (each_map (CommitsRightly before) (CommitsRightly now) (before g) (λ f rightly tx took. decided_more before now tx f.stamp f.stamp grown (omega arith) (rightly tx took)) (come.all.law.commits g))
+        (λ tx took. decided_more before now tx (e.step.taken.stamp + 1) e.step.stamp grown later (taken_says (kind.committing tx) took (λ same. absurd cc)))
+        (each_map (CommitsRightly before) (CommitsRightly now) (before g) (λ f rightly tx took. decided_more before now tx f.step.stamp f.step.stamp grown (omega arith) (rightly tx took)) (come.all.law.commits g))
 
     pub causal_step : AreCausal now
     causal_step = record { knows = knows_now; decisions = decisions_now; reports = reports_now; begins = begins_now; commits = commits_now }
 
     -- what it sends says the truth
     one_says : (number : ℕ) (o : Outgoing) (k : Kind)
-        → HostSays h (λ tx. IsToldBelow now tx (e.stamp + 1)) (λ tx. IsDecidedBelow now tx (e.stamp + 1)) (kind_of e.taken.body) (step_after start h (before h) e).effects.marks o k
-        → Says now (headed (first_view start.nodes) h e.stamp number o) k
+        → HostSays h (λ tx. IsToldBelow now tx (e.step.stamp + 1)) (λ tx. IsDecidedBelow now tx (e.step.stamp + 1)) (kind_of e.step.taken.body) (step_after start h (before h) e).effects.marks o k
+        → Says now (headed (first_view start.shape.nodes) h e.step.stamp number o) k
     one_says number o (kind.begun tx) says = sym says
     one_says number o (kind.wanted tx) says = says
     one_says number o (kind.verified tx) says = (
-      told_more before now tx (e.taken.stamp + 1) (e.stamp + 1) grown (omega (arith, later)) (taken_says (kind.wanted tx) says.0 (λ same. absurd cc)),
+      told_more before now tx (e.step.taken.stamp + 1) (e.step.stamp + 1) grown (omega (arith, later)) (taken_says (kind.wanted tx) says.0 (λ same. absurd cc)),
       sym says.1,
       ap (λ (to : Place). to.node) says.2 ∙ sym says.1,
     )
@@ -262,8 +265,8 @@ module _ (start : Start) where
     one_says number o kind.other says = tt
 
     all_say : (count : ℕ → ℕ) (sends : List Outgoing)
-        → Each (λ (o : Outgoing). HostSays h (λ tx. IsToldBelow now tx (e.stamp + 1)) (λ tx. IsDecidedBelow now tx (e.stamp + 1)) (kind_of e.taken.body) (step_after start h (before h) e).effects.marks o (kind_of o.body)) sends
-        → Each (λ x. SignalSays x now) (all_headed (first_view start.nodes) h e.stamp count sends)
+        → Each (λ (o : Outgoing). HostSays h (λ tx. IsToldBelow now tx (e.step.stamp + 1)) (λ tx. IsDecidedBelow now tx (e.step.stamp + 1)) (kind_of e.step.taken.body) (step_after start h (before h) e).effects.marks o (kind_of o.body)) sends
+        → Each (λ x. SignalSays x now) (all_headed (first_view start.shape.nodes) h e.step.stamp count sends)
     all_say count [] all = tt
     all_say count (o ∷ more) all = (one_says (count o.to.node) o (kind_of o.body) all.0, all_say (counted o.to.node count) more all.1)
 
@@ -280,6 +283,6 @@ module _ (start : Start) where
   }
 
   -- so it is of every closed cut
-  pub cuts_are_causal : (inside logs : ℕ → List LogStep) → IsClosedCut start inside logs → AreCausal inside
+  pub cuts_are_causal : (inside logs : ℕ → List HostStep) → IsClosedCut start inside logs → AreCausal inside
   cuts_are_causal inside logs is =
       (along_signals_of_cuts (machine start) (stamped start) SignalSays AreCausal causal_kept (hosts start) inside logs is.within is.right is.cut is.closed).law

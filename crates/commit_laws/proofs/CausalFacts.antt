@@ -4,7 +4,7 @@ use Rattle.std.proofs.lemmas.Bool.{or_cases}
 use Rattle.std.specs.List.{list_any}
 use Rattle.run_theory.specs.Lists.{Each, IsPast}
 use Rattle.run_theory.proofs.Pasts.{in_past}
-use Rattle.sig_core.specs.declared.log.LogStep.{LogStep}
+use Rattle.world_core.specs.Steps.{HostStep}
 use Rattle.sig_core.specs.declared.mark.Mark.{Mark}
 use Rattle.sig_core.specs.declared.mark.Mark.TheVariants as mark
 use Rattle.sig_core.specs.declared.member.TxId.{TxId}
@@ -35,10 +35,10 @@ request_other (Chain (Commit tx key epoch chain at)) is = absurd cc
 request_other _ is = refl
 
 -- facts stay as logs grow, and as the limit does
-pub told_more : (small large : ℕ → List LogStep) (tx : TxId) (a b : ℕ) → ((h : ℕ) → IsPast (small h) (large h)) → a ≤ b → IsToldBelow small tx a → IsToldBelow large tx b
+pub told_more : (small large : ℕ → List HostStep) (tx : TxId) (a b : ℕ) → ((h : ℕ) → IsPast (small h) (large h)) → a ≤ b → IsToldBelow small tx a → IsToldBelow large tx b
 told_more small large tx a b past le is = record { name = is.name; step = is.step; inside = in_past is.step (past 0) is.inside; told = is.told; below = omega (arith, is.below, le) }
 
-pub decided_more : (small large : ℕ → List LogStep) (tx : TxId) (a b : ℕ) → ((h : ℕ) → IsPast (small h) (large h)) → a ≤ b → IsDecidedBelow small tx a → IsDecidedBelow large tx b
+pub decided_more : (small large : ℕ → List HostStep) (tx : TxId) (a b : ℕ) → ((h : ℕ) → IsPast (small h) (large h)) → a ≤ b → IsDecidedBelow small tx a → IsDecidedBelow large tx b
 decided_more small large tx a b past le is = record {
   host = is.host;
   step = is.step;
@@ -48,7 +48,7 @@ decided_more small large tx a b past le is = record {
 }
 
 -- what a signal tells of the logs
-abbrev pub Says : (ℕ → List LogStep) → Signal → Kind → Type 0
+abbrev pub Says : (ℕ → List HostStep) → Signal → Kind → Type 0
 Says logs x (kind.begun tx) = x.from.0 ≡ tx.tc
 Says logs x (kind.wanted tx) = IsToldBelow logs tx (x.stamp + 1)
 Says logs x (kind.verified tx) = IsToldBelow logs tx (x.stamp + 1) × (x.from.0 ≡ tx.tc) × (x.to.node ≡ tx.tc)
@@ -57,10 +57,10 @@ Says logs x (kind.committing tx) = IsDecidedBelow logs tx (x.stamp + 1)
 Says logs x (kind.ended tx) = IsDecidedBelow logs tx (x.stamp + 1)
 Says logs x kind.other = Unit {0}
 
-abbrev pub SignalSays : Signal → (ℕ → List LogStep) → Type 0
+abbrev pub SignalSays : Signal → (ℕ → List HostStep) → Type 0
 SignalSays x logs = Says logs x (kind_of x.body)
 
-pub says_more : (small large : ℕ → List LogStep) (x : Signal) (k : Kind) → ((h : ℕ) → IsPast (small h) (large h)) → Says small x k → Says large x k
+pub says_more : (small large : ℕ → List HostStep) (x : Signal) (k : Kind) → ((h : ℕ) → IsPast (small h) (large h)) → Says small x k → Says large x k
 says_more small large x (kind.begun tx) past says = says
 says_more small large x (kind.wanted tx) past says = told_more small large tx (x.stamp + 1) (x.stamp + 1) past (omega arith) says
 says_more small large x (kind.verified tx) past says = (told_more small large tx (x.stamp + 1) (x.stamp + 1) past (omega arith) says.0, says.1, says.2)
@@ -70,23 +70,23 @@ says_more small large x (kind.ended tx) past says = decided_more small large tx 
 says_more small large x kind.other past says = tt
 
 -- a decision in a step, and a report
-pub record DecidesAt (logs : ℕ → List LogStep) (e : LogStep) (tx : TxId) : Type 0 where
-  pub told : IsToldBelow logs tx e.stamp
-  pub from : e.taken.from.0 ≡ tx.tc
-  pub to : e.taken.to.node ≡ tx.tc
-  pub took : kind_of e.taken.body ≡ kind.verified tx
+pub record DecidesAt (logs : ℕ → List HostStep) (e : HostStep) (tx : TxId) : Type 0 where
+  pub told : IsToldBelow logs tx e.step.stamp
+  pub from : e.step.taken.from.0 ≡ tx.tc
+  pub to : e.host ≡ tx.tc
+  pub took : kind_of e.step.taken.body ≡ kind.verified tx
 
-abbrev pub DecidesRightly : (ℕ → List LogStep) → LogStep → Type 0
-DecidesRightly logs e = (tx : TxId) → list_any (is_decision tx) e.marks ≡ true → DecidesAt logs e tx
+abbrev pub DecidesRightly : (ℕ → List HostStep) → HostStep → Type 0
+DecidesRightly logs e = (tx : TxId) → list_any (is_decision tx) e.step.marks ≡ true → DecidesAt logs e tx
 
-abbrev pub ReportsRightly : (ℕ → List LogStep) → LogStep → Type 0
-ReportsRightly logs e = (tx : TxId) → list_any (is_reported tx) e.marks ≡ true → IsDecidedBelow logs tx e.stamp
+abbrev pub ReportsRightly : (ℕ → List HostStep) → HostStep → Type 0
+ReportsRightly logs e = (tx : TxId) → list_any (is_reported tx) e.step.marks ≡ true → IsDecidedBelow logs tx e.step.stamp
 
-abbrev pub CommitsRightly : (ℕ → List LogStep) → LogStep → Type 0
-CommitsRightly logs e = (tx : TxId) → kind_of e.taken.body ≡ kind.committing tx → IsDecidedBelow logs tx e.stamp
+abbrev pub CommitsRightly : (ℕ → List HostStep) → HostStep → Type 0
+CommitsRightly logs e = (tx : TxId) → kind_of e.step.taken.body ≡ kind.committing tx → IsDecidedBelow logs tx e.step.stamp
 
-abbrev pub BeginsRightly : LogStep → Type 0
-BeginsRightly e = (tx : TxId) → kind_of e.taken.body ≡ kind.begun tx → e.taken.from.0 ≡ tx.tc
+abbrev pub BeginsRightly : HostStep → Type 0
+BeginsRightly e = (tx : TxId) → kind_of e.step.taken.body ≡ kind.begun tx → e.step.taken.from.0 ≡ tx.tc
 
 pub decision_of : (taken : Kind) (marks : List Mark) (tx : TxId) → Each (Decides taken) marks → list_any (is_decision tx) marks ≡ true → taken ≡ kind.verified tx
 decision_of taken [] tx all is = absurd cc

@@ -8,16 +8,18 @@ use Rattle.run_theory.specs.Runs.{AreLogs}
 use Rattle.run_theory.proofs.Cuts.{logs_of_closed}
 use Rattle.run_theory.proofs.Pasts.{each_map}
 use Rattle.sig_core.specs.declared.entry.Entry.{Entry}
-use Rattle.sig_core.specs.declared.log.LogStep.{LogStep}
+use Rattle.world_core.specs.Steps.{HostStep}
 use Rattle.sig_core.specs.declared.mark.Mark.{Mark}
 use Rattle.sig_core.specs.declared.mark.Mark.TheVariants as mark
 use Rattle.sig_core.specs.declared.member.Member.{Member}
 use Rattle.sig_core.specs.declared.view.View.{View}
 use Rattle.world_core.specs.Entries.{entries_in, entries_of}
 use Rattle.world_core.specs.History.{history}
-use Rattle.world_core.specs.Machine.{after, hosts, machine}
+use Rattle.world_core.specs.Hosts.{hosts}
+use Rattle.world_core.specs.Machine.{after, machine}
 use Rattle.world_core.specs.SerialLaw.{AreEpochsOrdered}
-use Rattle.world_core.specs.Start.{Start, first_view, members}
+use Rattle.frag_map.specs.Layout.{first_view, members}
+use Rattle.world_core.specs.Start.{Start}
 use Rattle.world_core.specs.Views.{greatest_below, greatest_in, greatest_of, group_of, is_viable}
 use Rattle.world_core.proofs.Stamped.{stamped}
 use Rattle.commit_laws.specs.Laws.{EpochsNeverFall, GreatestViewIsFirst, GreatestViewIsViable, IsClosedCut}
@@ -26,10 +28,10 @@ use Rattle.commit_laws.proofs.HostMarks.{AreMarks, IsIn, decides, plain, row_epo
 use Rattle.commit_laws.proofs.PlainMarks.{ArePlain}
 
 -- a closed cut of right logs is right logs itself
-pub inside_right : (start : Start) (inside logs : ℕ → List LogStep) → IsClosedCut start inside logs → AreLogs (machine start) inside
+pub inside_right : (start : Start) (inside logs : ℕ → List HostStep) → IsClosedCut start inside logs → AreLogs (machine start) inside
 inside_right start inside logs is = logs_of_closed (machine start) (stamped start) inside logs is.right is.cut is.closed
 
-pub plain_entries : (P : Entry → Type 0) (h stamp : ℕ) (log : List LogStep) (marks : List Mark) (before : List Entry) → ArePlain marks → Each P before → Each P (entries_in h stamp log marks before)
+pub plain_entries : (P : Entry → Type 0) (h stamp : ℕ) (log : List HostStep) (marks : List Mark) (before : List Entry) → ArePlain marks → Each P before → Each P (entries_in h stamp log marks before)
 plain_entries P h stamp log [] before all each = each
 plain_entries P h stamp log (mark.Decided tx epoch ∷ marks) before all each = absurd cc
 plain_entries P h stamp log (m ∷ marks) before all each = plain_entries P h stamp log marks before all.1 each
@@ -49,29 +51,29 @@ one_epoch epoch [] all = tt
 one_epoch epoch (a ∷ xs) all = (each_map (λ (b : Entry). b.epoch ≡ epoch) (λ b. a.epoch ≤ b.epoch) xs (λ b is. omega (arith, is, all.0)) all.1, one_epoch epoch xs all.1)
 
 module _ (start : Start) where
-  epoch_stays : (h : ℕ) (log : List LogStep) → IsIn start.epoch (after start h log)
+  epoch_stays : (h : ℕ) (log : List HostStep) → IsIn start.epoch (after start h log)
   epoch_stays h [] = started_epoch start h
-  epoch_stays h (e ∷ log) = row_epoch start.epoch (after start h log) e.taken.to e.taken.body (epoch_stays h log)
+  epoch_stays h (e ∷ log) = row_epoch start.epoch (after start h log) e.step.taken (epoch_stays h log)
 
   -- the marks of a step are those of its row
-  pub step_marks : (h : ℕ) (log : List LogStep) (e : LogStep) → IsStep (machine start) h log e → AreMarks start.epoch e.marks
-  step_marks h log e is = subst (AreMarks start.epoch) (sym is.fits.marks) (row_marks start.epoch (after start h log) e.taken.to e.taken.body (epoch_stays h log))
+  pub step_marks : (h : ℕ) (log : List HostStep) (e : HostStep) → IsStep (machine start) h log e → AreMarks start.epoch e.step.marks
+  step_marks h log e is = subst (AreMarks start.epoch) (sym is.fits.marks) (row_marks start.epoch (after start h log) e.step.taken (epoch_stays h log))
 
-  step_epochs : (h : ℕ) (log : List LogStep) (e : LogStep) → AreMarks start.epoch e.marks → Each (λ b. b.epoch ≡ start.epoch) (entries_of h log)
+  step_epochs : (h : ℕ) (log : List HostStep) (e : HostStep) → AreMarks start.epoch e.step.marks → Each (λ b. b.epoch ≡ start.epoch) (entries_of h log)
       → Each (λ b. b.epoch ≡ start.epoch) (entries_of h (e ∷ log))
-  step_epochs h log e (plain all) before = plain_entries (λ b. b.epoch ≡ start.epoch) h e.stamp (e ∷ log) e.marks (entries_of h log) all before
+  step_epochs h log e (plain all) before = plain_entries (λ b. b.epoch ≡ start.epoch) h e.step.stamp (e ∷ log) e.step.marks (entries_of h log) all before
   step_epochs h log e (decides tx is) before =
-      subst (λ w. Each (λ b. b.epoch ≡ start.epoch) (entries_in h e.stamp (e ∷ log) w (entries_of h log))) (sym is) (refl, before)
+      subst (λ w. Each (λ b. b.epoch ≡ start.epoch) (entries_in h e.step.stamp (e ∷ log) w (entries_of h log))) (sym is) (refl, before)
 
-  log_epochs : (h : ℕ) (log : List LogStep) → IsLog (machine start) h log → Each (λ b. b.epoch ≡ start.epoch) (entries_of h log)
+  log_epochs : (h : ℕ) (log : List HostStep) → IsLog (machine start) h log → Each (λ b. b.epoch ≡ start.epoch) (entries_of h log)
   log_epochs h [] l = tt
   log_epochs h (e ∷ log) l = step_epochs h log e (step_marks h log e l.0) (log_epochs h log l.1)
 
-  log_greatest : (h : ℕ) (log : List LogStep) (view : View) → IsLog (machine start) h log → greatest_of log view ≡ view
+  log_greatest : (h : ℕ) (log : List HostStep) (view : View) → IsLog (machine start) h log → greatest_of log view ≡ view
   log_greatest h [] view l = refl
-  log_greatest h (e ∷ log) view l = marks_greatest start.epoch e.marks (greatest_of log view) (step_marks h log e l.0) ∙ log_greatest h log view l.1
+  log_greatest h (e ∷ log) view l = marks_greatest start.epoch e.step.marks (greatest_of log view) (step_marks h log e l.0) ∙ log_greatest h log view l.1
 
-  logs_greatest : (n : ℕ) (logs : ℕ → List LogStep) (view : View) → AreLogs (machine start) logs → greatest_below n logs view ≡ view
+  logs_greatest : (n : ℕ) (logs : ℕ → List HostStep) (view : View) → AreLogs (machine start) logs → greatest_below n logs view ≡ view
   logs_greatest zero logs view a = refl
   logs_greatest (suc n) logs view a = log_greatest n (logs n) (greatest_below n logs view) (a.local n) ∙ logs_greatest n logs view a
 
@@ -81,7 +83,7 @@ epochs_ordered start inside logs is =
     (each_kept (λ b. b.epoch ≡ start.epoch) (hosts start) inside (λ h. log_epochs start h (inside h) ((inside_right start inside logs is).local h)))
 
 pub view_first : GreatestViewIsFirst
-view_first start inside logs is = logs_greatest start (hosts start) inside (first_view start.nodes) (inside_right start inside logs is)
+view_first start inside logs is = logs_greatest start (hosts start) inside (first_view start.shape.nodes) (inside_right start inside logs is)
 
 any_or : (b one both : Bool) → (b || one) ≡ true → (one ≡ true → both ≡ true) → (b || both) ≡ true
 any_or true one both is more = refl
@@ -104,4 +106,4 @@ viable zero pos = absurd (omega (arith, pos))
 viable (suc n) pos = rw (first_there (suc n) n) refl
 
 pub view_viable : GreatestViewIsViable
-view_viable start inside logs pos is = ap (is_viable 1 start.nodes) (view_first start inside logs is) ∙ viable start.nodes pos
+view_viable start inside logs pos is = ap (is_viable 1 start.shape.nodes) (view_first start inside logs is) ∙ viable start.shape.nodes pos

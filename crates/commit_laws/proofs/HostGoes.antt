@@ -21,7 +21,7 @@ use Rattle.api_block.specs.State.{ApiState}
 use Rattle.node_core.specs.declared.host.Host.{Host}
 use Rattle.node_core.specs.declared.host.Host.TheVariants.{Shell, Node}
 use Rattle.node_core.specs.declared.node.Node as node
-use Rattle.node_core.specs.Dih.{DihState, decide_if, decide_row, dih_row}
+use Rattle.node_core.specs.Dih.{DihState, decide_if, decide_row, dih_table}
 use Rattle.node_core.specs.Row.{node_row, row, shell_row}
 use Rattle.commit_laws.specs.Causes.{is_decision}
 use Rattle.commit_laws.specs.Kinds.{Kind, kind_of}
@@ -164,7 +164,7 @@ module _ (h : ℕ) (T D : TxId → Type 0) where
   unfolding decide_row
   verify_goes s tx = decide_goes s tx (nat_lt (length s.counted) 64)
 
-  dih_goes : (s : DihState) (body : Body) → DihGoes (kind_of body) (dih_row s body)
+  dih_goes : (s : DihState) (body : Body) → DihGoes (kind_of body) (dih_table s body)
   dih_goes s (Epoch (DiVerifyReq tx ops)) = verify_goes s tx
   dih_goes s _ = record { says = tt; begun_same = λ before. refl; verified_same = λ before. refl; decides = tt }
 

@@ -15,10 +15,11 @@ use Rattle.api_block.specs.State.{ApiState}
 use Rattle.node_core.specs.declared.host.Host.{Host}
 use Rattle.node_core.specs.declared.host.Host.TheVariants.{Shell, Node}
 use Rattle.node_core.specs.declared.node.Node as node
-use Rattle.node_core.specs.Dih.{DihState, decide_if, decide_row, dih_row, end_by, end_row}
+use Rattle.node_core.specs.Dih.{DihState, decide_if, decide_row, dih_table, end_by, end_row}
 use Rattle.node_core.specs.Fresh.{begun_node, fresh_node, fresh_shell}
 use Rattle.node_core.specs.Row.{node_row, row, shell_row}
-use Rattle.world_core.specs.Start.{Start, started}
+use Rattle.world_core.specs.Hosts.{started}
+use Rattle.world_core.specs.Start.{Start}
 use Rattle.commit_laws.proofs.ApiMarks.{api_marks}
 use Rattle.commit_laws.proofs.LqhMarks.{lqh_marks}
 use Rattle.commit_laws.proofs.PlainMarks.{ArePlain, none_plain}
@@ -42,7 +43,7 @@ verify_marks : (s : DihState) (tx : TxId) → AreMarks s.epoch (decide_row s tx)
 unfolding decide_row
 verify_marks s tx = decide_marks s tx (nat_lt (length s.counted) 64)
 
-dih_marks : (s : DihState) (body : Body) → AreMarks s.epoch (dih_row s body).effects.marks
+dih_marks : (s : DihState) (body : Body) → AreMarks s.epoch (dih_table s body).effects.marks
 dih_marks s (Epoch (DiVerifyReq tx ops)) = verify_marks s tx
 dih_marks s _ = plain tt
 
@@ -62,7 +63,7 @@ end_epoch : (s : DihState) (tx : TxId) → (end_row s tx).epoch ≡ s.epoch
 unfolding end_row
 end_epoch s tx = end_epoch_by s (position (same_tx tx) s.counted)
 
-dih_epoch : (s : DihState) (body : Body) → (dih_row s body).state.epoch ≡ s.epoch
+dih_epoch : (s : DihState) (body : Body) → (dih_table s body).state.epoch ≡ s.epoch
 dih_epoch s (Epoch (DiVerifyReq tx ops)) = verify_epoch s tx
 dih_epoch s (Epoch (DiVerifyEnd tx)) = end_epoch s tx
 dih_epoch s _ = refl

@@ -2,12 +2,12 @@
 use Rattle.std.proofs.Common.{◌≡◌, true, refl}
 use Rattle.sig_core.specs.declared.mark.Mark.{Mark}
 use Rattle.sig_core.specs.declared.signal.Body.{Body}
-use Rattle.lqh_block.specs.Lqh.{lqh_row}
+use Rattle.lqh_block.specs.Lqh.{lqh_table}
 use Rattle.lqh_block.specs.State.{LqhState}
 use Rattle.commit_laws.proofs.EachLqh.{lqh_marks_each}
 use Rattle.commit_laws.proofs.PlainMarks.{HasPlainMarks, is_plain}
 
-pub lqh_marks : (s : LqhState) (body : Body) → HasPlainMarks (lqh_row s body)
+pub lqh_marks : (s : LqhState) (body : Body) → HasPlainMarks (lqh_table s body)
 lqh_marks s body =
     lqh_marks_each (λ (m : Mark). is_plain m ≡ true) s body (record {
       prepared = λ tx key. refl;

@@ -3,7 +3,7 @@ use Rattle.std.proofs.Common.{◌≡◌, ap, List}
 use Rattle.sig_core.specs.declared.outs.Outgoing.{Outgoing}
 use Rattle.sig_core.specs.declared.signal.Body.{Body}
 use Rattle.lqh_block.specs.declared.request.Request.{Request}
-use Rattle.lqh_block.specs.Lqh.{lqh_row}
+use Rattle.lqh_block.specs.Lqh.{lqh_table}
 use Rattle.lqh_block.specs.State.{LqhState}
 use Rattle.run_theory.specs.Lists.{Each}
 use Rattle.commit_laws.specs.Kinds.{Kind, committing, kind_of, other}
@@ -18,7 +18,7 @@ RowsSay taken _ = ⊥
 abbrev pub AllRowsSay : Kind → List Outgoing → Type 0
 AllRowsSay taken sends = Each (λ (o : Outgoing). RowsSay taken (kind_of o.body)) sends
 
-pub lqh_says : (s : LqhState) (body : Body) → AllRowsSay (kind_of body) (lqh_row s body).effects.sends
+pub lqh_says : (s : LqhState) (body : Body) → AllRowsSay (kind_of body) (lqh_table s body).effects.sends
 lqh_says s body =
     lqh_sends_each (λ (o : Outgoing). RowsSay (kind_of body) (kind_of o.body)) s body (record {
       asked = λ r is. request r;

@@ -5,7 +5,7 @@ use Rattle.std.specs.Prelude.{◌||◌, Option, nat_eq}
 use Rattle.std.proofs.lemmas.Bool.{and_right, ne_eqb, or_cases}
 use Rattle.run_theory.specs.Lists.{Each}
 use Rattle.run_theory.proofs.Pasts.{each_after, each_append, each_before, each_map}
-use Rattle.sig_core.specs.declared.log.LogStep.{LogStep}
+use Rattle.world_core.specs.Steps.{HostStep}
 use Rattle.sig_core.specs.declared.member.TxId.{TxId}
 use Rattle.sig_core.specs.declared.outs.Outgoing.{Outgoing}
 use Rattle.sig_core.specs.declared.place.BlockId.{BlockId}
@@ -20,7 +20,7 @@ use Rattle.tc_block.specs.declared.transaction.Transaction.{Transaction}
 use Rattle.tc_block.specs.Live.{stepped, turned_if, without}
 use Rattle.tc_block.specs.Operate.{fresh}
 use Rattle.tc_block.specs.State.{TcState}
-use Rattle.tc_block.specs.Tc.{begin_if, next_tx, tc_row}
+use Rattle.tc_block.specs.Tc.{begin_if, next_tx, tc_table}
 use Rattle.tc_block.specs.Turn.{Turn}
 use Rattle.node_core.specs.declared.host.Host as host
 use Rattle.node_core.specs.declared.host.Host.TheVariants.{Shell, Node}
@@ -28,7 +28,8 @@ use Rattle.node_core.specs.declared.node.Node as node
 use Rattle.node_core.specs.Fresh.{begun_node, fresh_node, fresh_shell}
 use Rattle.node_core.specs.Row.{node_row, row}
 use Rattle.world_core.specs.Machine.{after}
-use Rattle.world_core.specs.Start.{Start, started}
+use Rattle.world_core.specs.Hosts.{started}
+use Rattle.world_core.specs.Start.{Start}
 use Rattle.commit_laws.specs.Phases.{is_completing, is_decided}
 use Rattle.commit_laws.specs.Ways.{AreSaid, CoordinatorsGoOneWay, CoordinatorsSay, IsSaid, Way, back, back_by, closes, forth, forth_by, is_aborting, is_forth, neither, put_ways, sent_ways, tc_sends, way_of}
 use Rattle.commit_laws.proofs.Keys.{same_tx-self}
@@ -322,10 +323,10 @@ module _ (s : TcState) (cs bs : List TxId) (n : IsOneWay s cs bs) where
     says = (tt, tt);
   }
 
-tc_one : (s : TcState) (cs bs : List TxId) (body : Body) → IsOneWay s cs bs → StaysOneWay s.node cs bs (tc_row s body)
+tc_one : (s : TcState) (cs bs : List TxId) (body : Body) → IsOneWay s cs bs → StaysOneWay s.node cs bs (tc_table s body)
 tc_one s cs bs body n =
     tc_each (λ tx t turn. TurnWays tx t.phase turn) (StaysOneWay s.node cs bs) s body (record {
-      turns = λ tx t at split. rows_of s.node s.view tx t body (λ turn. TurnWays tx t.phase turn) (turn_ways tx s.node s.view t body);
+      turns = λ tx t at split. rows_of s.node s.layout tx t body (λ turn. TurnWays tx t.phase turn) (turn_ways tx s.node s.layout t body);
       turned = λ tx t at split turn ways. turn_stays s cs bs n tx t at split turn ways turn.over refl;
       stays = nothing_stays s cs bs n;
       full = λ name. record { one = n; says = (tt, tt) };
@@ -361,9 +362,9 @@ unfolding fresh_shell fresh_node begun_node
 started_one start zero = (refl, refl)
 started_one start (suc h) = record { once = tt; live = tt; cs_below = tt; bs_below = tt; apart = tt }
 
-log_one : (start : Start) (h : ℕ) (log : List LogStep) → HostIsOneWay (after start h log) (sent_ways start forth_by h log) (sent_ways start back_by h log)
+log_one : (start : Start) (h : ℕ) (log : List HostStep) → HostIsOneWay (after start h log) (sent_ways start forth_by h log) (sent_ways start back_by h log)
 log_one start h [] = started_one start h
-log_one start h (e ∷ log) = (host_one (after start h log) e.taken.to e.taken.body (sent_ways start forth_by h log) (sent_ways start back_by h log) (log_one start h log)).one
+log_one start h (e ∷ log) = (host_one (after start h log) e.step.taken (sent_ways start forth_by h log) (sent_ways start back_by h log) (log_one start h log)).one
 
 one_apart : (s : host.Host) (cs bs : List TxId) → HostIsOneWay s cs bs → Each (λ tx. NotIn tx bs) cs
 one_apart (Shell s) cs bs is = subst (Each (λ tx. NotIn tx bs)) (sym is.0) tt
@@ -373,7 +374,7 @@ pub coordinators_one_way : CoordinatorsGoOneWay
 coordinators_one_way start h log = one_apart (after start h log) (sent_ways start forth_by h log) (sent_ways start back_by h log) (log_one start h log)
 
 pub coordinators_say : CoordinatorsSay
-coordinators_say start h log e = (host_one (after start h log) e.taken.to e.taken.body (sent_ways start forth_by h log) (sent_ways start back_by h log) (log_one start h log)).says
+coordinators_say start h log e = (host_one (after start h log) e.step.taken (sent_ways start forth_by h log) (sent_ways start back_by h log) (log_one start h log)).says
 
 -- who is among those that went forth isn't apart from all of them
 pub not_apart : (tx : TxId) (cs : List TxId) → list_any (same_tx tx) cs ≡ true → NotIn tx cs → ⊥
@@ -385,7 +386,7 @@ not_apart tx (v ∷ cs) among off = by (or_cases (same_tx tx v) (list_any (same_
     by (inr more) rest = rest more
 
 -- one that a coordinator took forth knows that it is decided
-pub forth_decided : (start : Start) (h : ℕ) (log : List LogStep) (n : node.Node) → after start h log ≡ Node n
+pub forth_decided : (start : Start) (h : ℕ) (log : List HostStep) (n : node.Node) → after start h log ≡ Node n
     → Each (λ (e : TxId × Transaction). list_any (same_tx e.0) (sent_ways start forth_by h log) ≡ true → is_decided e.1.phase ≡ true) n.tc.live
 forth_decided start h log n is = each_map (IsLive n.tc.node n.tc.next_seq cs bs) (λ (e : TxId × Transaction). list_any (same_tx e.0) cs ≡ true → is_decided e.1.phase ≡ true) n.tc.live known one.live
   where

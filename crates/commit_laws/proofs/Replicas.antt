@@ -44,7 +44,9 @@ use Rattle.node_core.specs.declared.node.Node as node
 use Rattle.node_core.specs.Fresh.{begun_node, fresh_node, fresh_shell, with_rows}
 use Rattle.node_core.specs.Row.{node_row, row}
 use Rattle.world_core.specs.Machine.{after}
-use Rattle.world_core.specs.Start.{Start, first_view, started}
+use Rattle.frag_map.specs.Layout.{first_view}
+use Rattle.world_core.specs.Hosts.{started}
+use Rattle.world_core.specs.Start.{Start}
 use Rattle.commit_laws.specs.Placed.{AreApart, IsPlaced, has_place}
 use Rattle.commit_laws.specs.Replica.{at_key, key_after}
 use Rattle.commit_laws.specs.ReplicaLaws.{KeysHaveRows, LogsFollowEvents, NodesBeginAtRest, event_for, event_in, key_in, IsWell, IsWellHost, KeysBeginAtRest, LogsKeepWell, SignalsAreEvents, SignalsKeepWell}
@@ -226,7 +228,7 @@ row_well (Node n) to body well = node_well n to.block body well
 
 pub logs_keep_well : LogsKeepWell
 logs_keep_well start h [] = started_well start h
-logs_keep_well start h (e ∷ log) = row_well (after start h log) e.taken.to e.taken.body (logs_keep_well start h log)
+logs_keep_well start h (e ∷ log) = row_well (after start h log) e.step.taken (logs_keep_well start h log)
 
 -- a host's step is one of each of its keys
 node_event : (n : node.Node) (at : BlockId) (body : Body) (key : List ℕ) → IsWell n.lqh → at_key key (node_row n at body).state.lqh ≡ key_after (event_for key n.lqh at body) (at_key key n.lqh)
@@ -242,11 +244,11 @@ host_event (Shell s) to body key well = refl
 host_event (Node n) to body key well = node_event n to.block body key well
 
 pub logs_follow : LogsFollowEvents
-logs_follow start h log e key = host_event (after start h log) e.taken.to e.taken.body key (logs_keep_well start h log)
+logs_follow start h log e key = host_event (after start h log) e.step.taken key (logs_keep_well start h log)
 
 pub nodes_begin : NodesBeginAtRest
 unfolding fresh_node
-nodes_begin start h key = keys_begin_at_rest (h + 1) (first_view start.nodes) start.epoch start.rows key
+nodes_begin start h key = keys_begin_at_rest (h + 1) (first_view start.shape.nodes) start.epoch start.rows key
 
 pub keys_have_rows : KeysHaveRows
 unfolding committed.row_at

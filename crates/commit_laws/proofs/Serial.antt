@@ -2,7 +2,7 @@
 use Rattle.std.proofs.Common.{sym, ◌∙◌}
 use Rattle.serial_model.specs.Legal.{rows_of}
 use Rattle.world_core.specs.History.{history}
-use Rattle.world_core.specs.Machine.{hosts}
+use Rattle.world_core.specs.Hosts.{hosts}
 use Rattle.commit_laws.specs.Laws.{KeysMakeSerial}
 use Rattle.commit_laws.proofs.Epochs.{epochs_ordered, view_viable}
 use Rattle.commit_laws.proofs.KeysJoin.{keys_join, rows_join}

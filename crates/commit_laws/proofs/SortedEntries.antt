@@ -5,7 +5,7 @@ use Rattle.std.proofs.lemmas.Bool.{eqb-true, ltb-false, ltb-true}
 use Rattle.run_theory.specs.Lists.{Each, IsIn}
 use Rattle.run_theory.proofs.Pasts.{each_in, each_map}
 use Rattle.sig_core.specs.declared.entry.Entry.{Entry}
-use Rattle.sig_core.specs.declared.log.LogStep.{LogStep}
+use Rattle.world_core.specs.Steps.{HostStep}
 use Rattle.world_core.specs.Entries.{entries, entries_of, insert, insert_all, is_before}
 use Rattle.world_core.specs.History.{history, is_kept}
 use Rattle.world_core.specs.Strict.{StandsBefore}
@@ -64,11 +64,11 @@ module _ (number : ℕ) where
   sorted_all (a ∷ more) into all views sorted =
       sorted_insert a (insert_all more into) all.0 (views_all more into all.1 views) (sorted_all more into all.1 views sorted)
 
-  views_entries : (n : ℕ) (logs : ℕ → List LogStep) → ((h : ℕ) → Each InView (entries_of h (logs h))) → Each InView (entries n logs)
+  views_entries : (n : ℕ) (logs : ℕ → List HostStep) → ((h : ℕ) → Each InView (entries_of h (logs h))) → Each InView (entries n logs)
   views_entries zero logs all = tt
   views_entries (suc n) logs all = views_all (entries_of n (logs n)) (entries n logs) (all n) (views_entries n logs all)
 
-  sorted_entries : (n : ℕ) (logs : ℕ → List LogStep) → ((h : ℕ) → Each InView (entries_of h (logs h))) → AreSorted (entries n logs)
+  sorted_entries : (n : ℕ) (logs : ℕ → List HostStep) → ((h : ℕ) → Each InView (entries_of h (logs h))) → AreSorted (entries n logs)
   sorted_entries zero logs all = tt
   sorted_entries (suc n) logs all = sorted_all (entries_of n (logs n)) (entries n logs) (all n) (views_entries n logs all) (sorted_entries n logs all)
 
@@ -80,7 +80,7 @@ module _ (number : ℕ) where
       go true more = (each_filter (λ (b : Entry). x.stamp ≤ b.stamp) p xs sorted.0, more)
       go false more = more
 
-  pub sorted_history : (n : ℕ) (logs : ℕ → List LogStep) → ((h : ℕ) → Each InView (entries_of h (logs h))) → AreSorted (history n logs)
+  pub sorted_history : (n : ℕ) (logs : ℕ → List HostStep) → ((h : ℕ) → Each InView (entries_of h (logs h))) → AreSorted (history n logs)
   sorted_history n logs all = sorted_filter (is_kept n logs) (entries n logs) (sorted_entries n logs all)
 
 -- an entry of a list, and what is in front of it and behind it
@@ -98,13 +98,13 @@ splits b (x ∷ xs) (inr rest) = let more = splits b xs rest in record { front =
 pub stands_before : (a b : Entry) (xs : List Entry) → AreSorted xs → IsIn a xs → IsIn b xs → a.stamp < b.stamp → StandsBefore a b xs
 stands_before a b [] sorted left right lt = absurd left
 stands_before a b (x ∷ xs) sorted (inl same) (inl other) lt =
-    absurd (let one : a.stamp ≡ b.stamp = ap (λ (e : Entry). e.stamp) (same ∙ sym other) in omega (arith, one, lt))
+    absurd (let one : a.stamp ≡ b.stamp = ap (λ (e : Entry). e.step.stamp) (same ∙ sym other) in omega (arith, one, lt))
 stands_before a b (x ∷ xs) sorted (inl same) (inr rest) lt =
     let split = splits b xs rest in
     record { front = []; between = split.front; back = split.back; is = ap (λ y. y ∷ xs) (sym same) ∙ ap (λ ys. a ∷ ys) split.is }
 stands_before a b (x ∷ xs) sorted (inr rest) (inl other) lt =
-    absurd (let le : x.stamp ≤ a.stamp = each_in (λ (e : Entry). x.stamp ≤ e.stamp) a xs sorted.0 rest in
-    let one : b.stamp ≡ x.stamp = ap (λ (e : Entry). e.stamp) other in omega (arith, one, le, lt))
+    absurd (let le : x.stamp ≤ a.stamp = each_in (λ (e : Entry). x.stamp ≤ e.step.stamp) a xs sorted.0 rest in
+    let one : b.stamp ≡ x.stamp = ap (λ (e : Entry). e.step.stamp) other in omega (arith, one, le, lt))
 stands_before a b (x ∷ xs) sorted (inr left) (inr right) lt =
     let more = stands_before a b xs sorted.1 left right lt in
     record { front = x ∷ more.front; between = more.between; back = more.back; is = ap (λ ys. x ∷ ys) more.is }

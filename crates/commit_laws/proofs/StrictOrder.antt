@@ -8,7 +8,7 @@ use Rattle.run_theory.specs.Runs.{AreLogs}
 use Rattle.run_theory.proofs.Links.{log_after, stamps_below, step_above}
 use Rattle.run_theory.proofs.Pasts.{each_in, each_map, in_append}
 use Rattle.sig_core.specs.declared.entry.Entry.{Entry}
-use Rattle.sig_core.specs.declared.log.LogStep.{LogStep}
+use Rattle.world_core.specs.Steps.{HostStep}
 use Rattle.sig_core.specs.declared.mark.Mark.{Mark}
 use Rattle.sig_core.specs.declared.mark.Mark.TheVariants as mark
 use Rattle.sig_core.specs.declared.member.TxId.{TxId}
@@ -21,9 +21,11 @@ use Rattle.sig_core.specs.Same.{same_tx}
 use Rattle.node_core.specs.Requests.{is_request}
 use Rattle.world_core.specs.Entries.{entries_in, entries_of, installed_in, view_at}
 use Rattle.world_core.specs.History.{history, is_reported}
-use Rattle.world_core.specs.Machine.{hosts, machine}
+use Rattle.world_core.specs.Hosts.{hosts}
+use Rattle.world_core.specs.Machine.{machine}
 use Rattle.world_core.specs.Marks.{has_mark}
-use Rattle.world_core.specs.Start.{Start, first_number}
+use Rattle.frag_map.specs.Layout.{first_number}
+use Rattle.world_core.specs.Start.{Start}
 use Rattle.world_core.specs.Strict.{IsStrictOrder}
 use Rattle.commit_laws.specs.Causes.{is_decision}
 use Rattle.commit_laws.specs.Kinds.{Kind, kind_of}
@@ -60,9 +62,9 @@ verified_asked (Chain (Commit other key epoch chain at)) tx is = absurd cc
 verified_asked _ tx is = absurd cc
 
 -- the step of an entry
-pub record IsEntryOf (h : ℕ) (log : List LogStep) (b : Entry) : Type 0 where
+pub record IsEntryOf (h : ℕ) (log : List HostStep) (b : Entry) : Type 0 where
   pub view : b.view ≡ first_number
-  pub step : LogStep
+  pub step : HostStep
   pub inside : IsIn step log
   pub marked : list_any (is_decision b.tx) step.marks ≡ true
   pub stamp : b.stamp ≡ step.stamp
@@ -77,36 +79,36 @@ step_installed epoch marks number (plain all) = plain_installed marks number all
 step_installed epoch marks number (decides tx is) = ap (λ w. installed_in w number) is
 
 -- a reported transaction was so in a step
-record HasReport (tx : TxId) (log : List LogStep) : Type 0 where
-  step : LogStep
+record HasReport (tx : TxId) (log : List HostStep) : Type 0 where
+  step : HostStep
   inside : IsIn step log
   marked : list_any (is_reported tx) step.marks ≡ true
 
-has_report : (tx : TxId) (log : List LogStep) → has_mark (is_reported tx) log ≡ true → HasReport tx log
+has_report : (tx : TxId) (log : List HostStep) → has_mark (is_reported tx) log ≡ true → HasReport tx log
 has_report tx [] is = absurd cc
-has_report tx (e ∷ log) is = by (or_cases (list_any (is_reported tx) e.marks) (has_mark (is_reported tx) log) is) (has_report tx log)
+has_report tx (e ∷ log) is = by (or_cases (list_any (is_reported tx) e.step.marks) (has_mark (is_reported tx) log) is) (has_report tx log)
   where
-    by : (list_any (is_reported tx) e.marks ≡ true) ⊎ (has_mark (is_reported tx) log ≡ true) → (has_mark (is_reported tx) log ≡ true → HasReport tx log) → HasReport tx (e ∷ log)
+    by : (list_any (is_reported tx) e.step.marks ≡ true) ⊎ (has_mark (is_reported tx) log ≡ true) → (has_mark (is_reported tx) log ≡ true → HasReport tx log) → HasReport tx (e ∷ log)
     by (inl own) more = record { step = e; inside = inl refl; marked = own }
     by (inr rest) more = let report = more rest in record { step = report.step; inside = inr report.inside; marked = report.marked }
 
 module _ (start : Start) where
-  pub view_stays : (h : ℕ) (log : List LogStep) → IsLog (machine start) h log → view_at log ≡ first_number
+  pub view_stays : (h : ℕ) (log : List HostStep) → IsLog (machine start) h log → view_at log ≡ first_number
   view_stays h [] l = refl
-  view_stays h (e ∷ log) l = step_installed start.epoch e.marks (view_at log) (step_marks start h log e l.0) ∙ view_stays h log l.1
+  view_stays h (e ∷ log) l = step_installed start.epoch e.step.marks (view_at log) (step_marks start h log e l.0) ∙ view_stays h log l.1
 
-  entry_more : (h : ℕ) (e : LogStep) (log : List LogStep) (b : Entry) → IsEntryOf h log b → IsEntryOf h (e ∷ log) b
+  entry_more : (h : ℕ) (e : HostStep) (log : List HostStep) (b : Entry) → IsEntryOf h log b → IsEntryOf h (e ∷ log) b
   entry_more h e log b is = record { view = is.view; step = is.step; inside = inr is.inside; marked = is.marked; stamp = is.stamp }
 
-  pub entries_are : (h : ℕ) (log : List LogStep) → IsLog (machine start) h log → Each (IsEntryOf h log) (entries_of h log)
+  pub entries_are : (h : ℕ) (log : List HostStep) → IsLog (machine start) h log → Each (IsEntryOf h log) (entries_of h log)
   entries_are h [] l = tt
   entries_are h (e ∷ log) l =
       by (step_marks start h log e l.0) (each_map (IsEntryOf h log) (IsEntryOf h (e ∷ log)) (entries_of h log) (entry_more h e log) (entries_are h log l.1))
     where
-      by : AreMarks start.epoch e.marks → Each (IsEntryOf h (e ∷ log)) (entries_of h log) → Each (IsEntryOf h (e ∷ log)) (entries_of h (e ∷ log))
-      by (plain all) before = plain_entries (IsEntryOf h (e ∷ log)) h e.stamp (e ∷ log) e.marks (entries_of h log) all before
+      by : AreMarks start.epoch e.step.marks → Each (IsEntryOf h (e ∷ log)) (entries_of h log) → Each (IsEntryOf h (e ∷ log)) (entries_of h (e ∷ log))
+      by (plain all) before = plain_entries (IsEntryOf h (e ∷ log)) h e.step.stamp (e ∷ log) e.step.marks (entries_of h log) all before
       by (decides tx is) before =
-          subst (λ w. Each (IsEntryOf h (e ∷ log)) (entries_in h e.stamp (e ∷ log) w (entries_of h log))) (sym is) (
+          subst (λ w. Each (IsEntryOf h (e ∷ log)) (entries_in h e.step.stamp (e ∷ log) w (entries_of h log))) (sym is) (
             record {
               view = view_stays h (e ∷ log) l;
               step = e;
@@ -122,43 +124,43 @@ module _ (start : Start) where
           itself false same = same
 
   -- the entries of a cut, each with its host
-  record HasHost (logs : ℕ → List LogStep) (b : Entry) : Type 0 where
+  record HasHost (logs : ℕ → List HostStep) (b : Entry) : Type 0 where
     host : ℕ
     is : IsEntryOf host (logs host) b
 
   -- stamps rise along a log
-  stamp_above : (h : ℕ) (newer : List LogStep) (e : LogStep) (older : List LogStep) (f : LogStep) → IsLog (machine start) h (newer ++ e ∷ older) → IsIn f older → f.stamp < e.stamp
+  stamp_above : (h : ℕ) (newer : List HostStep) (e : HostStep) (older : List HostStep) (f : HostStep) → IsLog (machine start) h (newer ++ e ∷ older) → IsIn f older → f.step.stamp < e.step.stamp
   stamp_above h newer e older f l inside =
       let whole = log_after (machine start) h newer (e ∷ older) l in
       let above = step_above (machine start) h older e whole.0 in
-      let below : f.stamp ≤ last (machine start) h older = each_in (λ (g : LogStep). g.stamp ≤ last (machine start) h older) f older (stamps_below (machine start) h older whole.1) inside in
+      let below : f.step.stamp ≤ last (machine start) h older = each_in (λ (g : HostStep). g.step.stamp ≤ last (machine start) h older) f older (stamps_below (machine start) h older whole.1) inside in
       omega (arith, above, below)
 
-  module _ (logs : ℕ → List LogStep) (right : AreLogs (machine start) logs) (causal : AreCausal start logs) where
-    decided_at : (h : ℕ) (e : LogStep) (tx : TxId) → IsIn e (logs h) → list_any (is_decision tx) e.marks ≡ true → DecidesAt logs e tx
+  module _ (logs : ℕ → List HostStep) (right : AreLogs (machine start) logs) (causal : AreCausal start logs) where
+    decided_at : (h : ℕ) (e : HostStep) (tx : TxId) → IsIn e (logs h) → list_any (is_decision tx) e.step.marks ≡ true → DecidesAt logs e tx
     decided_at h e tx inside marked = each_in (DecidesRightly logs) e (logs h) (causal.decisions h) inside tx marked
 
     -- the step of a decision is one of the coordinator's host
-    at_home : (h : ℕ) (e : LogStep) (tx : TxId) → IsIn e (logs h) → DecidesAt logs e tx → IsIn e (logs tx.tc)
+    at_home : (h : ℕ) (e : HostStep) (tx : TxId) → IsIn e (logs h) → DecidesAt logs e tx → IsIn e (logs tx.tc)
     at_home h e tx inside is = subst (λ g. IsIn e (logs g)) (sym (host_of (logs h) (right.local h) inside) ∙ is.to) inside
       where
-        host_of : (log : List LogStep) → IsLog (machine start) h log → IsIn e log → e.taken.to.node ≡ h
+        host_of : (log : List HostStep) → IsLog (machine start) h log → IsIn e log → e.host ≡ h
         host_of [] l inside = absurd inside
-        host_of (f ∷ log) l (inl same) = ap (λ (g : LogStep). g.taken.to.node) same ∙ l.0.at
+        host_of (f ∷ log) l (inl same) = ap (λ (g : HostStep). g.host) same ∙ l.0.at
         host_of (f ∷ log) l (inr rest) = host_of log l.1 rest
 
-    takes_verified : (e : LogStep) (tx : TxId) → DecidesAt logs e tx → Takes start verified_of verified_by verified_reads tx.tc tx e
-    takes_verified e tx is = record { from = is.from; asked = verified_asked e.taken.body tx is.took; of = ap verified_of is.took }
+    takes_verified : (e : HostStep) (tx : TxId) → DecidesAt logs e tx → Takes start verified_of verified_by verified_reads tx.tc tx e
+    takes_verified e tx is = record { from = is.from; asked = verified_asked e.step.taken.body tx is.took; of = ap verified_of is.took }
 
     -- a transaction is decided in one step
-    pub one_decided : (tx : TxId) (g h : ℕ) (a b : LogStep) → IsIn a (logs g) → IsIn b (logs h) → list_any (is_decision tx) a.marks ≡ true → list_any (is_decision tx) b.marks ≡ true → a ≡ b
+    pub one_decided : (tx : TxId) (g h : ℕ) (a b : HostStep) → IsIn a (logs g) → IsIn b (logs h) → list_any (is_decision tx) a.marks ≡ true → list_any (is_decision tx) b.marks ≡ true → a ≡ b
     one_decided tx g h a b left other marked too =
         let at_a = decided_at g a tx left marked in
         let at_b = decided_at h b tx other too in
         one_verified start logs right causal tx a b (at_home g a tx left at_a) (at_home h b tx other at_b) (takes_verified a tx at_a) (takes_verified b tx at_b)
 
-    takes_begun : (e : LogStep) (tx : TxId) → IsIn e (logs 0) → kind_of e.taken.body ≡ kind.begun tx → Takes start begun_of begun_by begun_reads tx.tc tx e
-    takes_begun e tx inside is = record { from = each_in _ e (logs 0) causal.begins inside tx is; asked = begun_asked e.taken.body tx is; of = ap begun_of is }
+    takes_begun : (e : HostStep) (tx : TxId) → IsIn e (logs 0) → kind_of e.step.taken.body ≡ kind.begun tx → Takes start begun_of begun_by begun_reads tx.tc tx e
+    takes_begun e tx inside is = record { from = each_in _ e (logs 0) causal.begins inside tx is; asked = begun_asked e.step.taken.body tx is; of = ap begun_of is }
 
     strictly : IsStrictOrder start (logs 0) (history (hosts start) logs)
     strictly a b before in_a in_b asked reported =
@@ -180,14 +182,14 @@ module _ (start : Start) where
             let behind : IsIn report.step (asked.between ++ asked.asking ∷ before) = in_append report.step asked.between (asked.asking ∷ before) (inr report.inside) in
             let inside : IsIn report.step (logs 0) = subst (IsIn report.step) (sym parts) (in_append report.step asked.newer (asked.told ∷ (asked.between ++ asked.asking ∷ before)) (inr behind)) in
             let told_inside : IsIn asked.told (logs 0) = subst (IsIn asked.told) (sym parts) (in_append asked.told asked.newer (asked.told ∷ (asked.between ++ asked.asking ∷ before)) (inl refl)) in
-            let first : report.step.stamp < asked.told.stamp = stamp_above 0 [] asked.told (asked.between ++ asked.asking ∷ before) report.step whole behind in
+            let first : report.step.step.stamp < asked.told.step.stamp = stamp_above 0 [] asked.told (asked.between ++ asked.asking ∷ before) report.step whole behind in
             let decided = each_in _ report.step (logs 0) causal.reports inside a.tx report.marked in
             let own : decided.step ≡ of_a.is.step = one_decided a.tx decided.host of_a.host decided.step of_a.is.step decided.inside of_a.is.inside decided.marked of_a.is.marked in
             let at_b = decided_at of_b.host of_b.is.step b.tx of_b.is.inside of_b.is.marked in
             let begun : at_b.told.step ≡ asked.told = one_begun start logs right causal b.tx at_b.told.step asked.told at_b.told.inside told_inside
             (takes_begun at_b.told.step b.tx at_b.told.inside (ap kind_of at_b.told.told)) (takes_begun asked.told b.tx told_inside (ap kind_of asked.begun)) in
-            let one : a.stamp ≡ decided.step.stamp = of_a.is.stamp ∙ ap (λ (e : LogStep). e.stamp) (sym own) in
-            let two : at_b.told.step.stamp ≡ asked.told.stamp = ap (λ (e : LogStep). e.stamp) begun in
+            let one : a.stamp ≡ decided.step.step.stamp = of_a.is.stamp ∙ ap (λ (e : HostStep). e.step.stamp) (sym own) in
+            let two : at_b.told.step.step.stamp ≡ asked.told.step.stamp = ap (λ (e : HostStep). e.step.stamp) begun in
             omega (arith, one, decided.below, first, two, at_b.told.below, of_b.is.stamp)
 
 pub histories_strict : HistoriesAreStrict

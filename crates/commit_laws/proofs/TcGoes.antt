@@ -9,7 +9,7 @@ use Rattle.sig_core.specs.declared.signal.Body.{Body}
 use Rattle.sig_core.specs.declared.signal.Body.TheVariants.{Client, Epoch}
 use Rattle.sig_core.specs.declared.signal.client.ClientSignal.TheVariants.{TcCommitReq}
 use Rattle.sig_core.specs.declared.signal.epoch.EpochSignal.TheVariants.{DiVerifyConf}
-use Rattle.sig_core.specs.declared.view.View.{View}
+use Rattle.frag_map.specs.Layout.{Layout}
 use Rattle.sig_core.specs.Op.{key_of}
 use Rattle.sig_core.specs.Step.{Step}
 use Rattle.tc_block.specs.declared.phase.Asked.{Asked}
@@ -18,7 +18,7 @@ use Rattle.tc_block.specs.declared.phase.Phase.TheVariants.{Open, Verifying, Com
 use Rattle.tc_block.specs.declared.touched.Touched.{Touched}
 use Rattle.tc_block.specs.declared.transaction.Transaction.{Transaction}
 use Rattle.tc_block.specs.Abort as abort
-use Rattle.tc_block.specs.Chain.{chain_of}
+use Rattle.frag_map.specs.Layout.{chain_of}
 use Rattle.tc_block.specs.Commit as commit
 use Rattle.tc_block.specs.Complete as complete
 use Rattle.tc_block.specs.Operate as operate
@@ -85,32 +85,32 @@ module _ (tx : TxId) (D : Type 0) where
   complete_says t true = (tt, tt)
   complete_says t false = tt
 
-  key_says : (view : View) (phase : Phase) (t : Touched) → Known phase → AllSay tx D (key_sends view tx phase t)
+  key_says : (layout : Layout) (phase : Phase) (t : Touched) → Known phase → AllSay tx D (key_sends layout tx phase t)
   unfolding key_sends
-  key_says view Open t known = tt
-  key_says view Verifying t known = tt
-  key_says view (Committing epoch awaited) t known = ((refl, known refl), tt)
-  key_says view (Completing epoch awaited) t known = complete_says t t.written
-  key_says view (Aborting why verifying awaited) t known = each_mapped (λ (o : Outgoing). SaysOf tx D (kind_of o.body)) (abort_of tx t.key) (chain_of view t.key) (λ r. tt)
+  key_says layout Open t known = tt
+  key_says layout Verifying t known = tt
+  key_says layout (Committing epoch awaited) t known = ((refl, known refl), tt)
+  key_says layout (Completing epoch awaited) t known = complete_says t t.written
+  key_says layout (Aborting why verifying awaited) t known = each_mapped (λ (o : Outgoing). SaysOf tx D (kind_of o.body)) (abort_of tx t.key) (chain_of layout t.key) (λ r. tt)
 
-  phase_says : (view : View) (phase : Phase) (touched : List Touched) → Known phase → AllSay tx D (phase_sends view tx phase touched)
+  phase_says : (layout : Layout) (phase : Phase) (touched : List Touched) → Known phase → AllSay tx D (phase_sends layout tx phase touched)
   unfolding phase_sends
-  phase_says view phase touched known =
-      each_append (λ (o : Outgoing). SaysOf tx D (kind_of o.body)) (front_sends tx phase) (flat_map (key_sends view tx phase) touched) (front_says phase known)
-      (each_flat (λ (o : Outgoing). SaysOf tx D (kind_of o.body)) (key_sends view tx phase) touched (λ t. key_says view phase t known))
+  phase_says layout phase touched known =
+      each_append (λ (o : Outgoing). SaysOf tx D (kind_of o.body)) (front_sends tx phase) (flat_map (key_sends layout tx phase) touched) (front_says phase known)
+      (each_flat (λ (o : Outgoing). SaysOf tx D (kind_of o.body)) (key_sends layout tx phase) touched (λ t. key_says layout phase t known))
 
   -- it enters a phase that isn't the open one
-  enters : (node : ℕ) (view : View) (t : Transaction) (phase : Phase) → is_open phase ≡ false → Known phase → Goes tx D t.phase (entering node view tx t phase)
+  enters : (node : ℕ) (layout : Layout) (t : Transaction) (phase : Phase) → is_open phase ≡ false → Known phase → Goes tx D t.phase (entering node layout tx t phase)
   unfolding entering
-  enters node view t phase shut known = record {
-    sends = part_says node (phase_sends view tx phase t.touched) 0 (phase_says view phase t.touched known);
+  enters node layout t phase shut known = record {
+    sends = part_says node (phase_sends layout tx phase t.touched) 0 (phase_says layout phase t.touched known);
     closed = λ is. shut;
     deciding = known;
   }
 
-  late_goes : (view : View) (t : Transaction) (key : List ℕ) → Known t.phase → Goes tx D t.phase (operate.late_answer view tx t key)
-  late_goes view t key known = record {
-    sends = each_mapped (λ (o : Outgoing). SaysOf tx D (kind_of o.body)) (abort_of tx key) (chain_of view key) (λ r. tt);
+  late_goes : (layout : Layout) (t : Transaction) (key : List ℕ) → Known t.phase → Goes tx D t.phase (operate.late_answer layout tx t key)
+  late_goes layout t key known = record {
+    sends = each_mapped (λ (o : Outgoing). SaysOf tx D (kind_of o.body)) (abort_of tx key) (chain_of layout key) (λ r. tt);
     closed = λ is. is;
     deciding = known;
   }
@@ -126,32 +126,32 @@ module _ (tx : TxId) (D : Type 0) where
   abort_end_says node why true = (tt, (tt, tt))
   abort_end_says node why false = (tt, tt)
 
-  module _ (R : Turn → Type 0) (node : ℕ) (view : View) where
-    committed_goes : (t : Transaction) (epoch : ℕ) → ((turn : Turn) → TurnGoes tx D t.phase turn → R turn) → Known t.phase → D → CommittedForms node view tx t epoch R
+  module _ (R : Turn → Type 0) (node : ℕ) (layout : Layout) where
+    committed_goes : (t : Transaction) (epoch : ℕ) → ((turn : Turn) → TurnGoes tx D t.phase turn → R turn) → Known t.phase → D → CommittedForms node layout tx t epoch R
     committed_goes t epoch so known d = record {
-      enters = λ some. so _ (enters node view t (Completing epoch (complete.written_count t.touched)) refl (λ is. d));
+      enters = λ some. so _ (enters node layout t (Completing epoch (complete.written_count t.touched)) refl (λ is. d));
       ends = λ none. so _ (record { sends = ((refl, d), (tt, tt)); closed = λ is. is; deciding = known });
     }
 
-    abort_goes : (t : Transaction) → ((turn : Turn) → TurnGoes tx D t.phase turn → R turn) → Known t.phase → (why : AbortCause) → AbortForms node view tx t why R
+    abort_goes : (t : Transaction) → ((turn : Turn) → TurnGoes tx D t.phase turn → R turn) → Known t.phase → (why : AbortCause) → AbortForms node layout tx t why R
     abort_goes t so known why = record {
-      enters = λ some. so _ (enters node view t (Aborting why (abort.is_verifying t.phase) (abort.aborts_awaited view t)) refl (λ is. absurd cc));
+      enters = λ some. so _ (enters node layout t (Aborting why (abort.is_verifying t.phase) (abort.aborts_awaited layout t)) refl (λ is. absurd cc));
       ends = λ none. so _ (record { sends = abort_end_says node why (abort.is_verifying t.phase); closed = λ is. is; deciding = known });
     }
 
     -- whatever turn it takes, but where it asks for an epoch
     pub turn_goes : (t : Transaction) (body : Body) → ((turn : Turn) → TurnGoes tx D t.phase turn → R turn)
         → (body ≡ Client (TcCommitReq tx) → operate.is_ready t.phase t.asked ≡ true → R (going (commit.decide_if node tx t true)))
-        → Known t.phase → ((epoch : ℕ) → body ≡ Epoch (DiVerifyConf tx epoch) → D) → TurnForms node view tx t body R
+        → Known t.phase → ((epoch : ℕ) → body ≡ Epoch (DiVerifyConf tx epoch) → D) → TurnForms node layout tx t body R
     turn_goes t body so asks known told = record {
       stays = so _ (stays t known);
-      goes_on = λ at. so _ (record { sends = part_says node (phase_sends view tx t.phase t.touched) at (phase_says view t.phase t.touched known); closed = λ is. is; deciding = known });
+      goes_on = λ at. so _ (record { sends = part_says node (phase_sends layout tx t.phase t.touched) at (phase_says layout t.phase t.touched known); closed = λ is. is; deciding = known });
       operates = λ op is can. so _ (record { sends = (tt, tt); closed = λ is. is; deciding = known });
       answers = λ key answer asked is on at. so _ (record { sends = (tt, tt); closed = λ is. is; deciding = known });
-      late = λ key asked why verifying awaited on at. so _ (late_goes view t key known);
+      late = λ key asked why verifying awaited on at. so _ (late_goes layout t key known);
       waits = λ asked on. so _ (wait_goes t asked known);
       decides = asks;
-      commits = λ epoch is at some. so _ (enters node view t (Committing epoch (length t.touched)) refl (λ on. told epoch is));
+      commits = λ epoch is at some. so _ (enters node layout t (Committing epoch (length t.touched)) refl (λ on. told epoch is));
       commits_none = λ epoch is at. committed_goes t epoch so known (told epoch is);
       committed = λ epoch awaited at more. so _ (record { sends = tt; closed = λ is. refl; deciding = λ is. known (ap is_decided at) });
       committed_all = λ epoch awaited at. committed_goes t epoch so known (known (ap is_decided at));

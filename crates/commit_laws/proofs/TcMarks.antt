@@ -4,14 +4,14 @@ use Rattle.std.specs.Prelude.{None}
 use Rattle.sig_core.specs.declared.member.TxId.{TxId}
 use Rattle.sig_core.specs.declared.outcome.AbortCause.{AbortCause}
 use Rattle.sig_core.specs.declared.signal.Body.{Body}
-use Rattle.sig_core.specs.declared.view.View.{View}
+use Rattle.frag_map.specs.Layout.{Layout}
 use Rattle.sig_core.specs.Step.{Step}
 use Rattle.tc_block.specs.declared.transaction.Transaction.{Transaction}
 use Rattle.tc_block.specs.Live.{turned_if}
 use Rattle.tc_block.specs.Part.{part_effects}
 use Rattle.tc_block.specs.Sends.{entering}
 use Rattle.tc_block.specs.State.{TcState}
-use Rattle.tc_block.specs.Tc.{tc_row}
+use Rattle.tc_block.specs.Tc.{tc_table}
 use Rattle.tc_block.specs.Turn.{Turn, asking}
 use Rattle.commit_laws.proofs.EachTc.{tc_each}
 use Rattle.commit_laws.proofs.EachTurn.{AbortForms, CommittedForms, TurnForms, rows_of}
@@ -23,16 +23,16 @@ HasNoMarks step = step.effects.marks ≡ []
 abbrev pub TurnHasNoMarks : Turn → Type 0
 TurnHasNoMarks turn = HasNoMarks turn.step
 
-module _ (node : ℕ) (view : View) (tx : TxId) where
-  abort_marks : (t : Transaction) (why : AbortCause) → AbortForms node view tx t why TurnHasNoMarks
+module _ (node : ℕ) (layout : Layout) (tx : TxId) where
+  abort_marks : (t : Transaction) (why : AbortCause) → AbortForms node layout tx t why TurnHasNoMarks
   unfolding entering part_effects
   abort_marks t why = record { enters = λ some. refl; ends = λ none. refl }
 
-  committed_marks : (t : Transaction) (epoch : ℕ) → CommittedForms node view tx t epoch TurnHasNoMarks
+  committed_marks : (t : Transaction) (epoch : ℕ) → CommittedForms node layout tx t epoch TurnHasNoMarks
   unfolding entering part_effects
   committed_marks t epoch = record { enters = λ some. refl; ends = λ none. refl }
 
-  turn_marks : (t : Transaction) (body : Body) → TurnForms node view tx t body TurnHasNoMarks
+  turn_marks : (t : Transaction) (body : Body) → TurnForms node layout tx t body TurnHasNoMarks
   unfolding entering part_effects
   turn_marks t body = record {
     stays = refl;
@@ -54,10 +54,10 @@ module _ (node : ℕ) (view : View) (tx : TxId) where
     aborted_all = λ why verifying awaited at last. refl;
   }
 
-pub tc_marks : (s : TcState) (body : Body) → HasNoMarks (tc_row s body)
+pub tc_marks : (s : TcState) (body : Body) → HasNoMarks (tc_table s body)
 tc_marks s body =
     tc_each (λ tx t turn. TurnHasNoMarks turn) HasNoMarks s body (record {
-      turns = λ tx t at split. rows_of s.node s.view tx t body TurnHasNoMarks (turn_marks s.node s.view tx t body);
+      turns = λ tx t at split. rows_of s.node s.layout tx t body TurnHasNoMarks (turn_marks s.node s.layout tx t body);
       turned = λ tx t at split turn none. over at turn none turn.over;
       stays = refl;
       full = λ name. refl;

@@ -20,7 +20,7 @@ use Rattle.tc_block.specs.Commit as commit
 use Rattle.tc_block.specs.Live.{stepped, turned, turned_if, without}
 use Rattle.tc_block.specs.Operate.{fresh, is_ready}
 use Rattle.tc_block.specs.State.{TcState}
-use Rattle.tc_block.specs.Tc.{begin_if, next_tx, tc_row}
+use Rattle.tc_block.specs.Tc.{begin_if, next_tx, tc_table}
 use Rattle.tc_block.specs.Turn.{Turn, at_phase}
 use Rattle.commit_laws.specs.Kinds.{Kind, kind_of}
 use Rattle.commit_laws.specs.Kinds as kind
@@ -251,11 +251,11 @@ Tells D (kind.committing tx) = D tx
 Tells D k = Unit {0}
 
 pub tc_numbered : (node : ℕ) (D : TxId → Type 0) (s : TcState) (begun_yet verified : List TxId) (body : Body) → IsNumbered node D s begun_yet verified → Tells D (kind_of body)
-    → StaysNumbered node D (kind_of body) begun_yet verified (tc_row s body)
+    → StaysNumbered node D (kind_of body) begun_yet verified (tc_table s body)
 tc_numbered node D s bs vs body n tells =
     tc_each Stays (StaysNumbered node D (kind_of body) bs vs) s body (record {
-      turns = λ tx t at split. rows_of s.node s.view tx t body (Stays tx t)
-          (turn_goes tx (D tx) (Stays tx t) s.node s.view t body (λ turn goes at split. turn_stays node D (kind_of body) s bs vs n tx t at split turn goes turn.over)
+      turns = λ tx t at split. rows_of s.node s.layout tx t body (Stays tx t)
+          (turn_goes tx (D tx) (Stays tx t) s.node s.layout t body (λ turn goes at split. turn_stays node D (kind_of body) s bs vs n tx t at split turn goes turn.over)
           (λ is ready at split. verify_stays node D (kind_of body) s bs vs n tx t at split (ap kind_of is) ready) (own_live node D (kind_of body) s bs vs n tx t at split).decided
           (λ epoch is. subst (λ b. Tells D (kind_of b)) is tells));
       turned = λ tx t at split turn stays. stays at split;

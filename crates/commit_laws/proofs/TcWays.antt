@@ -9,7 +9,7 @@ use Rattle.sig_core.specs.declared.outs.Outgoing.{Outgoing}
 use Rattle.sig_core.specs.declared.signal.Body.{Body}
 use Rattle.sig_core.specs.declared.signal.Body.TheVariants.{Client}
 use Rattle.sig_core.specs.declared.signal.client.ClientSignal.TheVariants.{TcKeyConf}
-use Rattle.sig_core.specs.declared.view.View.{View}
+use Rattle.frag_map.specs.Layout.{Layout}
 use Rattle.sig_core.specs.Op.{key_of}
 use Rattle.sig_core.specs.Place.{client}
 use Rattle.sig_core.specs.Step.{Step, sending}
@@ -19,7 +19,7 @@ use Rattle.tc_block.specs.declared.phase.Phase.TheVariants.{Open, Verifying, Com
 use Rattle.tc_block.specs.declared.touched.Touched.{Touched}
 use Rattle.tc_block.specs.declared.transaction.Transaction.{Transaction}
 use Rattle.tc_block.specs.Abort as abort
-use Rattle.tc_block.specs.Chain.{chain_of}
+use Rattle.frag_map.specs.Layout.{chain_of}
 use Rattle.tc_block.specs.Commit as commit
 use Rattle.tc_block.specs.Complete as complete
 use Rattle.tc_block.specs.Operate as operate
@@ -116,26 +116,26 @@ module _ (tx : TxId) where
   complete_ways phase t true on = ((refl, on), tt)
   complete_ways phase t false on = tt
 
-  key_ways : (view : View) (phase : Phase) (t : Touched) → AllWays tx phase (key_sends view tx phase t)
+  key_ways : (layout : Layout) (phase : Phase) (t : Touched) → AllWays tx phase (key_sends layout tx phase t)
   unfolding key_sends
-  key_ways view Open t = tt
-  key_ways view Verifying t = tt
-  key_ways view (Committing epoch awaited) t = ((refl, refl), tt)
-  key_ways view (Completing epoch awaited) t = complete_ways (Completing epoch awaited) t t.written refl
-  key_ways view (Aborting why verifying awaited) t =
-      each_mapped (λ (o : Outgoing). WayOf tx (Aborting why verifying awaited) (way_of o.body)) (abort_of tx t.key) (chain_of view t.key) (λ r. (refl, refl))
+  key_ways layout Open t = tt
+  key_ways layout Verifying t = tt
+  key_ways layout (Committing epoch awaited) t = ((refl, refl), tt)
+  key_ways layout (Completing epoch awaited) t = complete_ways (Completing epoch awaited) t t.written refl
+  key_ways layout (Aborting why verifying awaited) t =
+      each_mapped (λ (o : Outgoing). WayOf tx (Aborting why verifying awaited) (way_of o.body)) (abort_of tx t.key) (chain_of layout t.key) (λ r. (refl, refl))
 
-  phase_ways : (view : View) (phase : Phase) (touched : List Touched) → AllWays tx phase (phase_sends view tx phase touched)
+  phase_ways : (layout : Layout) (phase : Phase) (touched : List Touched) → AllWays tx phase (phase_sends layout tx phase touched)
   unfolding phase_sends
-  phase_ways view phase touched =
-      each_append (λ (o : Outgoing). WayOf tx phase (way_of o.body)) (front_sends tx phase) (flat_map (key_sends view tx phase) touched) (front_ways phase)
-      (each_flat (λ (o : Outgoing). WayOf tx phase (way_of o.body)) (key_sends view tx phase) touched (key_ways view phase))
+  phase_ways layout phase touched =
+      each_append (λ (o : Outgoing). WayOf tx phase (way_of o.body)) (front_sends tx phase) (flat_map (key_sends layout tx phase) touched) (front_ways phase)
+      (each_flat (λ (o : Outgoing). WayOf tx phase (way_of o.body)) (key_sends layout tx phase) touched (key_ways layout phase))
 
-  enters : (node : ℕ) (view : View) (t : Transaction) (before phase : Phase) → (is_decided before ≡ true → is_decided phase ≡ true) → (is_aborting before ≡ true → is_aborting phase ≡ true)
-      → TellsForth tx before phase (part_effects node tx (phase_sends view tx phase t.touched) 0).sends → Ways tx before (entering node view tx t phase)
+  enters : (node : ℕ) (layout : Layout) (t : Transaction) (before phase : Phase) → (is_decided before ≡ true → is_decided phase ≡ true) → (is_aborting before ≡ true → is_aborting phase ≡ true)
+      → TellsForth tx before phase (part_effects node tx (phase_sends layout tx phase t.touched) 0).sends → Ways tx before (entering node layout tx t phase)
   unfolding entering
-  enters node view t before phase forward backward told = record {
-    sends = part_ways phase node (phase_sends view tx phase t.touched) 0 (phase_ways view phase t.touched);
+  enters node layout t before phase forward backward told = record {
+    sends = part_ways phase node (phase_sends layout tx phase t.touched) 0 (phase_ways layout phase t.touched);
     forward = forward;
     backward = backward;
     told = told;
@@ -144,16 +144,16 @@ module _ (tx : TxId) where
   tells_first : (epoch : ℕ) (more : List Outgoing) → list_any (λ (o : Outgoing). is_forth tx (way_of o.body)) (reported tx epoch ∷ more) ≡ true
   tells_first epoch more = ap (λ b. b || list_any (λ (o : Outgoing). is_forth tx (way_of o.body)) more) (same_tx-self tx)
 
-  completing_tells : (node : ℕ) (view : View) (touched : List Touched) (epoch awaited : ℕ)
-      → list_any (λ (o : Outgoing). is_forth tx (way_of o.body)) (part_effects node tx (phase_sends view tx (Completing epoch awaited) touched) 0).sends ≡ true
+  completing_tells : (node : ℕ) (layout : Layout) (touched : List Touched) (epoch awaited : ℕ)
+      → list_any (λ (o : Outgoing). is_forth tx (way_of o.body)) (part_effects node tx (phase_sends layout tx (Completing epoch awaited) touched) 0).sends ≡ true
   unfolding part_effects phase_sends front_sends
-  completing_tells node view touched epoch awaited =
-      tells_first epoch (take 7 (flat_map (key_sends view tx (Completing epoch awaited)) touched) ++ rest node tx (phase_sends view tx (Completing epoch awaited) touched) 0)
+  completing_tells node layout touched epoch awaited =
+      tells_first epoch (take 7 (flat_map (key_sends layout tx (Completing epoch awaited)) touched) ++ rest node tx (phase_sends layout tx (Completing epoch awaited) touched) 0)
 
   -- an answer that comes late sends aborts again
-  late_ways : (view : View) (t : Transaction) (key : List ℕ) → is_aborting t.phase ≡ true → Ways tx t.phase (operate.late_answer view tx t key)
-  late_ways view t key is = record {
-    sends = each_mapped (λ (o : Outgoing). WayOf tx t.phase (way_of o.body)) (abort_of tx key) (chain_of view key) (λ r. (refl, is));
+  late_ways : (layout : Layout) (t : Transaction) (key : List ℕ) → is_aborting t.phase ≡ true → Ways tx t.phase (operate.late_answer layout tx t key)
+  late_ways layout t key is = record {
+    sends = each_mapped (λ (o : Outgoing). WayOf tx t.phase (way_of o.body)) (abort_of tx key) (chain_of layout key) (λ r. (refl, is));
     forward = λ is. is;
     backward = λ is. is;
     told = λ is. inl is;
@@ -182,13 +182,13 @@ module _ (tx : TxId) where
       unaborted (Committing epoch awaited) asked is = refl
       unaborted (Completing epoch awaited) asked is = refl
 
-  module _ (node : ℕ) (view : View) where
+  module _ (node : ℕ) (layout : Layout) where
     -- from a phase in which nothing is aborted
-    committed_ways : (t : Transaction) (epoch : ℕ) → is_aborting t.phase ≡ false → CommittedForms node view tx t epoch (λ turn. TurnWays tx t.phase turn)
+    committed_ways : (t : Transaction) (epoch : ℕ) → is_aborting t.phase ≡ false → CommittedForms node layout tx t epoch (λ turn. TurnWays tx t.phase turn)
     committed_ways t epoch off = record {
-      enters = λ some. goes t.phase (entering node view tx t (Completing epoch (complete.written_count t.touched)))
-          (enters node view t t.phase (Completing epoch (complete.written_count t.touched)) (λ is. refl) (λ is. not_both (is_aborting t.phase) is off)
-          (λ is. inr (completing_tells node view t.touched epoch (complete.written_count t.touched))));
+      enters = λ some. goes t.phase (entering node layout tx t (Completing epoch (complete.written_count t.touched)))
+          (enters node layout t t.phase (Completing epoch (complete.written_count t.touched)) (λ is. refl) (λ is. not_both (is_aborting t.phase) is off)
+          (λ is. inr (completing_tells node layout t.touched epoch (complete.written_count t.touched))));
       ends = λ none. record {
         last = Completing epoch 0;
         sends = ((refl, refl), (tt, tt));
@@ -204,10 +204,10 @@ module _ (tx : TxId) where
     abort_end_ways phase why false on = ((refl, on), tt)
 
     -- from a phase in which nothing is committed
-    abort_ways : (t : Transaction) → is_decided t.phase ≡ false → (why : AbortCause) → AbortForms node view tx t why (λ turn. TurnWays tx t.phase turn)
+    abort_ways : (t : Transaction) → is_decided t.phase ≡ false → (why : AbortCause) → AbortForms node layout tx t why (λ turn. TurnWays tx t.phase turn)
     abort_ways t off why = record {
-      enters = λ some. goes t.phase (entering node view tx t (Aborting why (abort.is_verifying t.phase) (abort.aborts_awaited view t)))
-          (enters node view t t.phase (Aborting why (abort.is_verifying t.phase) (abort.aborts_awaited view t)) (λ is. not_both (is_decided t.phase) is off) (λ is. refl) (λ is. absurd cc));
+      enters = λ some. goes t.phase (entering node layout tx t (Aborting why (abort.is_verifying t.phase) (abort.aborts_awaited layout t)))
+          (enters node layout t t.phase (Aborting why (abort.is_verifying t.phase) (abort.aborts_awaited layout t)) (λ is. not_both (is_decided t.phase) is off) (λ is. refl) (λ is. absurd cc));
       ends = λ none. record {
         last = Aborting why (abort.is_verifying t.phase) 0;
         sends = abort_end_ways (Aborting why (abort.is_verifying t.phase) 0) why (abort.is_verifying t.phase) refl;
@@ -219,15 +219,15 @@ module _ (tx : TxId) where
     }
 
     -- whatever turn it takes
-    pub turn_ways : (t : Transaction) (body : Body) → TurnForms node view tx t body (λ turn. TurnWays tx t.phase turn)
+    pub turn_ways : (t : Transaction) (body : Body) → TurnForms node layout tx t body (λ turn. TurnWays tx t.phase turn)
     turn_ways t body = record {
       stays = still t;
-      goes_on = λ at. goes t.phase (go_on_if node view tx t at true)
-          (record { sends = part_ways t.phase node (phase_sends view tx t.phase t.touched) at (phase_ways view t.phase t.touched); forward = λ is. is; backward = λ is. is; told = λ is. inl is });
-      operates = λ op is can. goes t.phase (operate.operating tx t op (chain_of view (key_of op))) (record { sends = (tt, tt); forward = λ is. is; backward = λ is. is; told = λ is. inl is });
+      goes_on = λ at. goes t.phase (go_on_if node layout tx t at true)
+          (record { sends = part_ways t.phase node (phase_sends layout tx t.phase t.touched) at (phase_ways layout t.phase t.touched); forward = λ is. is; backward = λ is. is; told = λ is. inl is });
+      operates = λ op is can. goes t.phase (operate.operating tx t op (chain_of layout (key_of op))) (record { sends = (tt, tt); forward = λ is. is; backward = λ is. is; told = λ is. inl is });
       answers = λ key answer asked is on at. goes t.phase (sending (operate.answered t asked answer) client (Client (TcKeyConf tx answer)))
           (record { sends = (tt, tt); forward = λ is. is; backward = λ is. is; told = λ is. inl is });
-      late = λ key asked why verifying awaited on at. goes t.phase (operate.late_answer view tx t key) (late_ways view t key (ap is_aborting at));
+      late = λ key asked why verifying awaited on at. goes t.phase (operate.late_answer layout tx t key) (late_ways layout t key (ap is_aborting at));
       waits = λ asked on. goes t.phase (operate.wait_by tx t (Some asked)) (record {
         sends = each_mapped (λ (o : Outgoing). WayOf tx t.phase (way_of o.body)) (wait_of tx (key_of asked.op)) asked.chain (λ r. tt);
         forward = λ is. is;
@@ -235,8 +235,8 @@ module _ (tx : TxId) where
         told = λ is. inl is;
       });
       decides = λ is ready. goes t.phase (commit.decide_if node tx t true) (decide_ways node t ready);
-      commits = λ epoch is at some. goes t.phase (entering node view tx t (Committing epoch (length t.touched)))
-          (enters node view t t.phase (Committing epoch (length t.touched)) (λ is. refl) (λ is. not_both (is_aborting t.phase) is (ap is_aborting at)) (λ is. absurd cc));
+      commits = λ epoch is at some. goes t.phase (entering node layout tx t (Committing epoch (length t.touched)))
+          (enters node layout t t.phase (Committing epoch (length t.touched)) (λ is. refl) (λ is. not_both (is_aborting t.phase) is (ap is_aborting at)) (λ is. absurd cc));
       commits_none = λ epoch is at. committed_ways t epoch (ap is_aborting at);
       committed = λ epoch awaited at more. record {
         last = Committing epoch (awaited - 1);

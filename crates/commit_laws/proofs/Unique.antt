@@ -8,7 +8,7 @@ use Rattle.run_theory.specs.Lists.{Each, IsIn, IsPast}
 use Rattle.run_theory.specs.Runs.{AreLogs}
 use Rattle.run_theory.proofs.LinkFacts.{link_projects}
 use Rattle.run_theory.proofs.Runs.{taken-step}
-use Rattle.sig_core.specs.declared.log.LogStep.{LogStep}
+use Rattle.world_core.specs.Steps.{HostStep}
 use Rattle.sig_core.specs.declared.member.TxId.{TxId}
 use Rattle.sig_core.specs.declared.outs.Outgoing.{Outgoing}
 use Rattle.sig_core.specs.declared.signal.Signal.{Signal}
@@ -18,7 +18,8 @@ use Rattle.node_core.specs.declared.host.Host.{Host}
 use Rattle.node_core.specs.declared.host.Host.TheVariants.{Shell, Node}
 use Rattle.node_core.specs.Requests.{is_request}
 use Rattle.world_core.specs.Machine.{after, all_headed, counted, headed, machine, sent_count, step_after}
-use Rattle.world_core.specs.Start.{Start, first_view}
+use Rattle.frag_map.specs.Layout.{first_view}
+use Rattle.world_core.specs.Start.{Start}
 use Rattle.commit_laws.specs.Kinds.{Kind, kind_of}
 use Rattle.commit_laws.specs.Kinds as kind
 use Rattle.commit_laws.proofs.Causal.{AreCausal, sent_kinds}
@@ -110,34 +111,34 @@ module _ (start : Start) (read : Kind → Option TxId) (add : Kind → List TxId
       by false None is = sub
       by false (Some tx) is = inl sub
 
-  sent_sub : (h j : ℕ) (log : List LogStep) → Sub (filter_map read_of (sent (machine start) h j log)) (sent_kinds start add h log)
+  sent_sub : (h j : ℕ) (log : List HostStep) → Sub (filter_map read_of (sent (machine start) h j log)) (sent_kinds start add h log)
   sent_sub h j [] = refl
   sent_sub h j (e ∷ log) =
-      put_sub (first_view start.nodes) h j e.stamp (sent_count start h log) (step_after start h log e).effects.sends (sent (machine start) h j log) (sent_kinds start add h log) (sent_sub h j log)
+      put_sub (first_view start.shape.nodes) h j e.step.stamp (sent_count start h log) (step_after start h log e).effects.sends (sent (machine start) h j log) (sent_kinds start add h log) (sent_sub h j log)
 
-  no_closing : (j : ℕ) (log : List LogStep) (x : Signal) → IsClosingOf (machine start) j log x → read_of x ≡ None
+  no_closing : (j : ℕ) (log : List HostStep) (x : Signal) → IsClosingOf (machine start) j log x → read_of x ≡ None
   no_closing j [] x c = absurd c
   no_closing j (e ∷ log) x c = absurd cc
 
   -- so what was taken of it is apart
-  taken_apart : (logs : ℕ → List LogStep) → AreLogs (machine start) logs → (i j : ℕ) → AreApart (sent_kinds start add i (logs i)) → AreApart (filter_map read_of (taken (machine start) i (logs j)))
+  taken_apart : (logs : ℕ → List HostStep) → AreLogs (machine start) logs → (i j : ℕ) → AreApart (sent_kinds start add i (logs i)) → AreApart (filter_map read_of (taken (machine start) i (logs j)))
   taken_apart logs right i j apart =
       apart_past (filter_map read_of (taken (machine start) i (logs j))) (filter_map read_of (sent (machine start) i j (logs i)))
       (link_projects (machine start) logs right i j read_of (λ x c. no_closing j (logs i) x c))
       (apart_sub (filter_map read_of (sent (machine start) i j (logs i))) (sent_kinds start add i (logs i)) (sent_sub i j (logs i)) apart)
 
   -- the step took one of the kind, of this transaction, from host i
-  pub record Takes (i : ℕ) (tx : TxId) (e : LogStep) : Type 0 where
-    pub from : e.taken.from.0 ≡ i
-    pub asked : is_request e.taken.body ≡ false
-    pub of : read (kind_of e.taken.body) ≡ Some tx
+  pub record Takes (i : ℕ) (tx : TxId) (e : HostStep) : Type 0 where
+    pub from : e.step.taken.from.0 ≡ i
+    pub asked : is_request e.step.taken.body ≡ false
+    pub of : read (kind_of e.step.taken.body) ≡ Some tx
 
-  taken_here : (i : ℕ) (tx : TxId) (e : LogStep) (log : List LogStep) → Takes i tx e → filter_map read_of (taken (machine start) i (e ∷ log)) ≡ tx ∷ filter_map read_of (taken (machine start) i log)
+  taken_here : (i : ℕ) (tx : TxId) (e : HostStep) (log : List HostStep) → Takes i tx e → filter_map read_of (taken (machine start) i (e ∷ log)) ≡ tx ∷ filter_map read_of (taken (machine start) i log)
   taken_here i tx e log takes =
       ap (filter_map read_of) (taken-step (machine start) i e log takes.asked takes.from)
       ∙ ap (λ o. cons_option o (filter_map read_of (taken (machine start) i log))) takes.of
 
-  taken_in : (P : TxId → Type 0) (i : ℕ) (tx : TxId) (e : LogStep) (log : List LogStep) → IsIn e log → Takes i tx e → Each P (filter_map read_of (taken (machine start) i log)) → P tx
+  taken_in : (P : TxId → Type 0) (i : ℕ) (tx : TxId) (e : HostStep) (log : List HostStep) → IsIn e log → Takes i tx e → Each P (filter_map read_of (taken (machine start) i log)) → P tx
   taken_in P i tx e [] inside takes all = absurd inside
   taken_in P i tx e (f ∷ log) (inl same) takes all =
       let part : Each P (tx ∷ filter_map read_of (taken (machine start) i log)) = subst (Each P) (taken_here i tx f log (subst (Takes i tx) same takes)) all in part.0
@@ -147,11 +148,11 @@ module _ (start : Start) (read : Kind → Option TxId) (add : Kind → List TxId
       less_by None all = all
       less_by (Some t) all = all.1
 
-      less : (b : Bool) → Each P (filter_map read_of (if b then f.taken ∷ taken (machine start) i log else taken (machine start) i log)) → Each P (filter_map read_of (taken (machine start) i log))
-      less true all = less_by (read_of f.taken) all
+      less : (b : Bool) → Each P (filter_map read_of (if b then f.step.taken ∷ taken (machine start) i log else taken (machine start) i log)) → Each P (filter_map read_of (taken (machine start) i log))
+      less true all = less_by (read_of f.step.taken) all
       less false all = all
 
-  pub one_taken : (i : ℕ) (tx : TxId) (a b : LogStep) (log : List LogStep) → AreApart (filter_map read_of (taken (machine start) i log)) → IsIn a log → IsIn b log → Takes i tx a → Takes i tx b → a ≡ b
+  pub one_taken : (i : ℕ) (tx : TxId) (a b : HostStep) (log : List HostStep) → AreApart (filter_map read_of (taken (machine start) i log)) → IsIn a log → IsIn b log → Takes i tx a → Takes i tx b → a ≡ b
   one_taken i tx a b [] apart left right at_a at_b = absurd left
   one_taken i tx a b (e ∷ log) apart (inl same) (inl other) at_a at_b = same ∙ sym other
   one_taken i tx a b (e ∷ log) apart (inl same) (inr rest) at_a at_b = absurd (twice (subst (Takes i tx) same at_a))
@@ -174,8 +175,8 @@ module _ (start : Start) (read : Kind → Option TxId) (add : Kind → List TxId
       less_by None all = all
       less_by (Some t) all = all.1
 
-      less : (c : Bool) → AreApart (filter_map read_of (if c then e.taken ∷ taken (machine start) i log else taken (machine start) i log)) → AreApart (filter_map read_of (taken (machine start) i log))
-      less true all = less_by (read_of e.taken) all
+      less : (c : Bool) → AreApart (filter_map read_of (if c then e.step.taken ∷ taken (machine start) i log else taken (machine start) i log)) → AreApart (filter_map read_of (taken (machine start) i log))
+      less true all = less_by (read_of e.step.taken) all
       less false all = all
 
 -- each host said of each transaction once that it has begun, and asked for its epoch at most once
@@ -183,13 +184,13 @@ knows_apart : (h : ℕ) (T D : TxId → Type 0) (s : Host) (bs vs : List TxId) �
 knows_apart h T D (Shell s) bs vs knows = (subst AreApart (sym knows.1) tt, subst AreApart (sym knows.2) tt)
 knows_apart h T D (Node n) bs vs knows = (knows.begun_apart, knows.verified_apart)
 
-module _ (start : Start) (logs : ℕ → List LogStep) (right : AreLogs (machine start) logs) (causal : AreCausal start logs) where
-  pub one_begun : (tx : TxId) (a b : LogStep) → IsIn a (logs 0) → IsIn b (logs 0) → Takes start begun_of begun_by begun_reads tx.tc tx a → Takes start begun_of begun_by begun_reads tx.tc tx b → a ≡ b
+module _ (start : Start) (logs : ℕ → List HostStep) (right : AreLogs (machine start) logs) (causal : AreCausal start logs) where
+  pub one_begun : (tx : TxId) (a b : HostStep) → IsIn a (logs 0) → IsIn b (logs 0) → Takes start begun_of begun_by begun_reads tx.tc tx a → Takes start begun_of begun_by begun_reads tx.tc tx b → a ≡ b
   one_begun tx a b left other at_a at_b =
       one_taken start begun_of begun_by begun_reads tx.tc tx a b (logs 0)
       (taken_apart start begun_of begun_by begun_reads logs right tx.tc 0 (knows_apart tx.tc _ _ (after start tx.tc (logs tx.tc)) _ _ (causal.knows tx.tc)).0) left other at_a at_b
 
-  pub one_verified : (tx : TxId) (a b : LogStep) → IsIn a (logs tx.tc) → IsIn b (logs tx.tc) → Takes start verified_of verified_by verified_reads tx.tc tx a
+  pub one_verified : (tx : TxId) (a b : HostStep) → IsIn a (logs tx.tc) → IsIn b (logs tx.tc) → Takes start verified_of verified_by verified_reads tx.tc tx a
       → Takes start verified_of verified_by verified_reads tx.tc tx b → a ≡ b
   one_verified tx a b left other at_a at_b =
       one_taken start verified_of verified_by verified_reads tx.tc tx a b (logs tx.tc)

@@ -2,7 +2,7 @@
 use Rattle.std.specs.List.{list_any}
 use Rattle.std.specs.Prelude.{◌≡◌, ◌<◌, ℕ, Bool, true, false, List, Option}
 use Rattle.run_theory.specs.Lists.{IsIn}
-use Rattle.sig_core.specs.declared.log.LogStep.{LogStep}
+use Rattle.world_core.specs.Steps.{HostStep}
 use Rattle.sig_core.specs.declared.mark.Mark.{Mark}
 use Rattle.sig_core.specs.declared.mark.Mark.TheVariants.{Decided}
 use Rattle.sig_core.specs.declared.member.TxId.{TxId}
@@ -16,17 +16,17 @@ is_decision tx (Decided other epoch) = same_tx other tx
 is_decision tx mark = false
 
 -- it was decided in a step with a lesser stamp
-pub record IsDecidedBelow (logs : ℕ → List LogStep) (tx : TxId) (limit : ℕ) : Type 0 where
+pub record IsDecidedBelow (logs : ℕ → List HostStep) (tx : TxId) (limit : ℕ) : Type 0 where
   pub host : ℕ
-  pub step : LogStep
+  pub step : HostStep
   pub inside : IsIn step (logs host)
   pub marked : list_any (is_decision tx) step.marks ≡ true
   pub below : step.stamp < limit
 
 -- the shell's host was told that it has begun in a step with a lesser stamp
-pub record IsToldBelow (logs : ℕ → List LogStep) (tx : TxId) (limit : ℕ) : Type 0 where
+pub record IsToldBelow (logs : ℕ → List HostStep) (tx : TxId) (limit : ℕ) : Type 0 where
   pub name : Option ℕ
-  pub step : LogStep
+  pub step : HostStep
   pub inside : IsIn step (logs 0)
   pub told : step.taken.body ≡ Client (TcBeginConf name tx)
   pub below : step.stamp < limit

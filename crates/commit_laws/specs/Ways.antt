@@ -1,12 +1,16 @@
 -- Which way a transaction goes at its coordinator: its rows are committed, or aborted, and its client is told so.
+use Rattle.node_core.specs.Blocks.{tc_of}
+use Rattle.sig_core.specs.declared.place.BlockId.TheVariants as block
+use Rattle.sig_core.specs.declared.signal.Signal.{Signal}
+use Rattle.node_core.specs.declared.tc_part.TcPart.{TcPart}
+use Rattle.node_core.specs.declared.host.Host.TheVariants.{Tc}
 use Rattle.std.specs.List.{list_any}
 use Rattle.std.specs.Prelude.{◌≡◌, ℕ, Bool, true, false, List, [], ◌∷◌}
 use Rattle.run_theory.specs.Lists.{Each}
-use Rattle.sig_core.specs.declared.log.LogStep.{LogStep}
+use Rattle.world_core.specs.Steps.{HostStep}
 use Rattle.sig_core.specs.declared.member.TxId.{TxId}
 use Rattle.sig_core.specs.declared.outs.Outgoing.{Outgoing}
 use Rattle.sig_core.specs.declared.place.BlockId.{BlockId}
-use Rattle.sig_core.specs.declared.place.BlockId.TheVariants.{Tc}
 use Rattle.sig_core.specs.declared.signal.Body.{Body}
 use Rattle.sig_core.specs.declared.signal.Body.TheVariants.{Client, Chain}
 use Rattle.sig_core.specs.declared.signal.chain.ChainSignal.TheVariants.{Commit, Complete, Abort}
@@ -16,7 +20,6 @@ use Rattle.tc_block.specs.declared.phase.Phase.{Phase}
 use Rattle.tc_block.specs.declared.phase.Phase.TheVariants.{Aborting}
 use Rattle.tc_block.specs.Tc.{tc_row}
 use Rattle.node_core.specs.declared.host.Host.{Host}
-use Rattle.node_core.specs.declared.host.Host.TheVariants.{Shell, Node}
 use Rattle.world_core.specs.Machine.{after}
 use Rattle.world_core.specs.Start.{Start}
 
@@ -59,19 +62,23 @@ put_ways f [] before = before
 put_ways f (o ∷ more) before = put_ways f more (f (way_of o.body) before)
 
 -- what the coordinator of a host sends at a signal; the other blocks send none of its own
-abbrev pub tc_sends : Host → BlockId → Body → List Outgoing
-tc_sends (Node n) Tc body = (tc_row n.tc body).effects.sends
-tc_sends host block body = []
+abbrev pub sends_for : TcPart → BlockId → Signal → List Outgoing
+sends_for p block.Tc x = (tc_row p.tc x).effects.sends
+sends_for p _ x = []
+
+abbrev pub tc_sends : Host → Signal → List Outgoing
+tc_sends (Tc p) x = sends_for p x.to.block x
+tc_sends host x = []
 
 -- the transactions that the coordinator of host h, with this log, took forth, or back
-abbrev pub sent_ways : Start → (Way → List TxId → List TxId) → ℕ → List LogStep → List TxId
+abbrev pub sent_ways : Start → (Way → List TxId → List TxId) → ℕ → List HostStep → List TxId
 sent_ways start f h [] = []
-sent_ways start f h (e ∷ log) = put_ways f (tc_sends (after start h log) e.taken.to.block e.taken.body) (sent_ways start f h log)
+sent_ways start f h (e ∷ log) = put_ways f (tc_sends (after start h log) e.step.taken) (sent_ways start f h log)
 
 -- no coordinator takes one transaction both forth and back, whatever its host takes
 abbrev pub CoordinatorsGoOneWay : Type 0
 CoordinatorsGoOneWay =
-    (start : Start) (h : ℕ) (log : List LogStep)
+    (start : Start) (h : ℕ) (log : List HostStep)
     → Each (λ tx. Each (λ v. same_tx v tx ≡ false) (sent_ways start back_by h log)) (sent_ways start forth_by h log)
 
 -- of what a coordinator of this node sends, each transaction is its own and is among those that it took that way
@@ -82,11 +89,10 @@ IsSaid node cs bs (closes tx) = (tx.tc ≡ node) × (list_any (same_tx tx) cs �
 IsSaid node cs bs neither = Unit {0}
 
 abbrev pub AreSaid : Host → List TxId → List TxId → List Outgoing → Type 0
-AreSaid (Shell s) cs bs sends = Unit {0}
-AreSaid (Node n) cs bs sends = Each (λ (o : Outgoing). IsSaid n.tc.node cs bs (way_of o.body)) sends
+AreSaid host cs bs sends = Each (λ (o : Outgoing). IsSaid (tc_of host).node cs bs (way_of o.body)) sends
 
 -- so it is of what each step sends; and a row is completed only of a transaction that went forth
 abbrev pub CoordinatorsSay : Type 0
 CoordinatorsSay =
-    (start : Start) (h : ℕ) (log : List LogStep) (e : LogStep)
-    → AreSaid (after start h log) (sent_ways start forth_by h (e ∷ log)) (sent_ways start back_by h (e ∷ log)) (tc_sends (after start h log) e.taken.to.block e.taken.body)
+    (start : Start) (h : ℕ) (log : List HostStep) (e : HostStep)
+    → AreSaid (after start h log) (sent_ways start forth_by h (e ∷ log)) (sent_ways start back_by h (e ∷ log)) (tc_sends (after start h log) e.step.taken)

@@ -8,12 +8,13 @@ use Rattle.run_theory.specs.Lists.{IsIn, IsPast}
 use Rattle.run_theory.proofs.Pasts.{past_less, past_self}
 use Rattle.serial_model.specs.Legal.{rows_of}
 use Rattle.sig_core.specs.declared.entry.Entry.{Entry}
-use Rattle.sig_core.specs.declared.log.LogStep.{LogStep}
+use Rattle.world_core.specs.Steps.{HostStep}
 use Rattle.sig_core.specs.declared.member.Member.{Member}
 use Rattle.sig_core.specs.declared.member.TxId.{TxId}
 use Rattle.row_locks.proofs.TableLawLemmas.{unlocked_orderly}
 use Rattle.world_core.specs.Entries.{entries}
-use Rattle.world_core.specs.Machine.{after, hosts, machine}
+use Rattle.world_core.specs.Hosts.{hosts}
+use Rattle.world_core.specs.Machine.{after, machine}
 use Rattle.world_core.specs.Start.{Start}
 use Rattle.world_core.specs.Views.{live_nodes}
 use Rattle.sig_core.specs.declared.view.View.{View}
@@ -71,9 +72,9 @@ rest_backup decided final row = record {
   led = λ clean. refl;
 }
 
-module _ (start : Start) (end : List LogStep) (run : IsRun start end) (turn : IsByTurn (machine start) end) (owed : AreOwed) where
+module _ (start : Start) (end : List HostStep) (run : IsRun start end) (turn : IsByTurn (machine start) end) (owed : AreOwed) where
   -- what holds at each time
-  record Holds (es : List LogStep) : Type 0 where
+  record Holds (es : List HostStep) : Type 0 where
     keys : (key : List ℕ) → IsGoodWith start (decided_at start end es) (is_final start end) (history_at start end es) (logs_of start es) key
     writers : AreWriters start end es
     unfinished : AreUnfinished start es
@@ -102,7 +103,7 @@ module _ (start : Start) (end : List LogStep) (run : IsRun start end) (turn : Is
     unfinished = λ key h v node is. absurd (none_first key h v node is);
   }
 
-  keys_next : (es : List LogStep) (e : LogStep) (past : IsPast (e ∷ es) end) (come : Comes start es e) (behind : ComesAfter (machine start) e es) → Holds es → StepKind start end run turn owed es e past come behind
+  keys_next : (es : List HostStep) (e : HostStep) (past : IsPast (e ∷ es) end) (come : Comes start es e) (behind : ComesAfter (machine start) e es) → Holds es → StepKind start end run turn owed es e past come behind
       → (key : List ℕ) → IsGoodWith start (decided_at start end (e ∷ es)) (is_final start end) (history_at start end (e ∷ es)) (logs_of start (e ∷ es)) key
   keys_next es e past come behind holds (quiet same history) key =
       subst (λ d. IsGoodWith start d (is_final start end) (history_at start end (e ∷ es)) (logs_of start (e ∷ es)) key) (sym same)
@@ -124,7 +125,7 @@ module _ (start : Start) (end : List LogStep) (run : IsRun start end) (turn : Is
       by false off =
           moved (history_at start end es) (unkept_good start (decided_at start end es) (is_final start end) (history_at start end es) (logs_of start es) key tx (holds.keys key) off) (d.unkept off)
 
-  holds_next : (es : List LogStep) (e : LogStep) (past : IsPast (e ∷ es) end) (come : Comes start es e) (behind : ComesAfter (machine start) e es) → Holds es → Holds (e ∷ es)
+  holds_next : (es : List HostStep) (e : HostStep) (past : IsPast (e ∷ es) end) (come : Comes start es e) (behind : ComesAfter (machine start) e es) → Holds es → Holds (e ∷ es)
   holds_next es e past come behind holds =
       let kind = step_kind start end run turn owed es e past come behind in
       record {
@@ -134,7 +135,7 @@ module _ (start : Start) (end : List LogStep) (run : IsRun start end) (turn : Is
             (λ key g node. once_at start (decided_at start end es) (is_final start end) (history_at start end es) (logs_of start es) key g node (holds.keys key)) holds.unfinished;
       }
 
-  holds_at : (es : List LogStep) → IsPast es end → Holds es
+  holds_at : (es : List HostStep) → IsPast es end → Holds es
   holds_at [] past = holds_first
   holds_at (e ∷ es) past =
       holds_next es e past (part_comes start es end e past run) (part_turn start (e ∷ es) end past turn).0 (holds_at es (past_less e past))

@@ -5,7 +5,7 @@ use Rattle.std.specs.FinMap as map
 use Rattle.std.specs.Prelude.{is_some, Option, None, Some}
 use Rattle.serial_model.specs.Legal.{rows_of}
 use Rattle.sig_core.specs.declared.entry.Entry.{Entry}
-use Rattle.sig_core.specs.declared.log.LogStep.{LogStep}
+use Rattle.world_core.specs.Steps.{HostStep}
 use Rattle.sig_core.specs.declared.member.TxId.{TxId}
 use Rattle.sig_core.specs.declared.op.Answer.{Answer}
 use Rattle.sig_core.specs.declared.op.Op.{Op}
@@ -38,7 +38,7 @@ order_with decided now final value r order to = record {
   led = to.led;
 }
 
-module _ (start : Start) (decided final : TxId → Bool) (history : List Entry) (logs : ℕ → List LogStep) (key : List ℕ) (tx : TxId) (good : IsGoodWith start decided final history logs key) where
+module _ (start : Start) (decided final : TxId → Bool) (history : List Entry) (logs : ℕ → List HostStep) (key : List ℕ) (tx : TxId) (good : IsGoodWith start decided final history logs key) where
   abbrev now : TxId → Bool
   now = ended_too decided tx
 

@@ -6,7 +6,7 @@ use Rattle.std.specs.Prelude.{is_some, Some}
 use Rattle.run_theory.specs.Lists.{Each, IsPast}
 use Rattle.run_theory.proofs.Pasts.{each_map, past_less}
 use Rattle.run_theory.proofs.Runs.{log_of-own}
-use Rattle.sig_core.specs.declared.log.LogStep.{LogStep}
+use Rattle.world_core.specs.Steps.{HostStep}
 use Rattle.sig_core.specs.declared.member.TxId.{TxId}
 use Rattle.sig_core.specs.declared.rows.PendingRecord.{PendingRecord}
 use Rattle.lqh_block.specs.declared.request.Request.{Request}
@@ -34,16 +34,16 @@ use Rattle.serial_laws.proofs.RowApplies.{AppliesIf}
 use Rattle.serial_laws.proofs.Turns.{IsByTurn}
 
 -- Who is decided and has a record has an entry that writes, and so has who is marked as applied.
-pub record AreWriters (start : Start) (end es : List LogStep) : Type 0 where
+pub record AreWriters (start : Start) (end es : List HostStep) : Type 0 where
   pub recorded : (key : List ℕ) (h : ℕ) (v : TxId) → IsNodeOf start h → decided_at start end es v ≡ true
       → is_some (found v (at_host start (logs_of start es) key h).cell.pending) ≡ true → IsWriter start es v
   pub applied : (h : ℕ) (v : TxId) → IsNodeOf start h → has_mark (is_applied v) (logs_of start es h) ≡ true → IsWriter start es v
 
-module _ (start : Start) (end : List LogStep) (run : IsRun start end) (turn : IsByTurn (machine start) end) (owed : AreOwed) (es : List LogStep) (e : LogStep) (past : IsPast (e ∷ es) end) (key : List ℕ) where
+module _ (start : Start) (end : List HostStep) (run : IsRun start end) (turn : IsByTurn (machine start) end) (owed : AreOwed) (es : List HostStep) (e : HostStep) (past : IsPast (e ∷ es) end) (key : List ℕ) where
   abbrev h : ℕ
-  h = e.taken.to.node
+  h = e.host
 
-  abbrev before : ℕ → List LogStep
+  abbrev before : ℕ → List HostStep
   before = logs_of start es
 
   abbrev decided : TxId → Bool
@@ -114,10 +114,10 @@ module _ (start : Start) (end : List LogStep) (run : IsRun start end) (turn : Is
       → HasPrepared tx (at_host start before key h).cell.pending → final tx ≡ true
   commit_final come writers node tx is carries has =
       let some : is_some (found tx (at_host start before key h).cell.pending) ≡ true = ap is_some has.there in
-      let applies = subst (λ event. AppliesIf event (at_host start before key h).cell.pending (step_after start h (before h) e).effects.marks) is (host_applies key (after start h (before h)) e.taken.to e.taken.body) in
-      let marked : list_any (is_applied tx) e.marks ≡ true = ap (list_any (is_applied tx)) come.happens.step.fits.marks ∙ applies some in
+      let applies = subst (λ event. AppliesIf event (at_host start before key h).cell.pending (step_after start h (before h) e).effects.marks) is (host_applies key (after start h (before h)) e.step.taken) in
+      let marked : list_any (is_applied tx) e.step.marks ≡ true = ap (list_any (is_applied tx)) come.happens.step.fits.marks ∙ applies some in
       let now : has_mark (is_applied tx) (logs_of start (e ∷ es) h) ≡ true =
-      ap (has_mark (is_applied tx)) (log_of-own (machine start) e es h refl) ∙ or_left (list_any (is_applied tx) e.marks) (has_mark (is_applied tx) (before h)) marked in
+      ap (has_mark (is_applied tx)) (log_of-own (machine start) e es h refl) ∙ or_left (list_any (is_applied tx) e.step.marks) (has_mark (is_applied tx) (before h)) marked in
       writer_final start end run turn owed es (e ∷ es) tx h earlier past (writers.recorded key h tx node (carried tx carries) some) node.below now
 
   -- a completion is of one that was applied at the primary

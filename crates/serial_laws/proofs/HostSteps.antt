@@ -3,7 +3,7 @@ use Rattle.std.proofs.Common.{◌≡◌, ℕ, suc, Bool, true, false, List, [], 
 use Rattle.std.specs.List.{list_any}
 use Rattle.std.specs.Prelude.{is_some, length, nat_lt, None}
 use Rattle.std.proofs.lemmas.Bool.{or_from}
-use Rattle.sig_core.specs.declared.log.LogStep.{LogStep}
+use Rattle.world_core.specs.Steps.{HostStep}
 use Rattle.sig_core.specs.declared.mark.Mark.{Mark}
 use Rattle.sig_core.specs.declared.mark.Mark.TheVariants as mark
 use Rattle.sig_core.specs.declared.member.TxId.{TxId}
@@ -16,7 +16,7 @@ use Rattle.sig_core.specs.declared.signal.epoch.EpochSignal.TheVariants.{DiVerif
 use Rattle.node_core.specs.declared.host.Host.{Host}
 use Rattle.node_core.specs.declared.host.Host.TheVariants.{Shell, Node}
 use Rattle.node_core.specs.declared.node.Node as node
-use Rattle.node_core.specs.Dih.{DihState, decide_if, decide_row, dih_row}
+use Rattle.node_core.specs.Dih.{DihState, decide_if, decide_row, dih_table}
 use Rattle.node_core.specs.Fresh.{fresh_node}
 use Rattle.node_core.specs.Row.{node_row, row}
 use Rattle.world_core.specs.History.{is_applied}
@@ -41,10 +41,10 @@ unfolding row
 row_node (Shell s) to body is = absurd is
 row_node (Node n) to body is = tt
 
-pub after_node : (start : Start) (h : ℕ) (log : List LogStep) → IsNode (after start (suc h) log)
+pub after_node : (start : Start) (h : ℕ) (log : List HostStep) → IsNode (after start (suc h) log)
 unfolding fresh_node
 after_node start h [] = tt
-after_node start h (e ∷ log) = row_node (after start (suc h) log) e.taken.to e.taken.body (after_node start h log)
+after_node start h (e ∷ log) = row_node (after start (suc h) log) e.step.taken (after_node start h log)
 
 -- the block of epochs marks decisions alone
 module _ (test : Mark → Bool) (decides : (tx : TxId) (epoch : ℕ) → test (mark.Decided tx epoch) ≡ false) where
@@ -56,7 +56,7 @@ module _ (test : Mark → Bool) (decides : (tx : TxId) (epoch : ℕ) → test (m
   unfolding decide_row
   decide_none s tx = decide_none_if s tx (nat_lt (length s.counted) 64)
 
-  dih_none : (s : DihState) (body : Body) → list_any test (dih_row s body).effects.marks ≡ false
+  dih_none : (s : DihState) (body : Body) → list_any test (dih_table s body).effects.marks ≡ false
   dih_none s (Epoch (DiVerifyReq tx ops)) = decide_none s tx
   dih_none s _ = refl
 

@@ -3,7 +3,7 @@ use Rattle.std.proofs.Common.{◌≡◌, ◌≢◌, ◌⊎◌, ℕ, Bool, List, 
 use Rattle.std.proofs.lemmas.Bool.{cases_eq}
 use Rattle.run_theory.proofs.Runs.{log_of-other, log_of-own}
 use Rattle.sig_core.specs.declared.entry.Entry.{Entry}
-use Rattle.sig_core.specs.declared.log.LogStep.{LogStep}
+use Rattle.world_core.specs.Steps.{HostStep}
 use Rattle.sig_core.specs.declared.member.TxId.{TxId}
 use Rattle.std.specs.FinMap as map
 use Rattle.std.specs.Prelude.{Option}
@@ -25,13 +25,13 @@ use Rattle.transit_laws.specs.Routes.{primary}
 use Rattle.transit_laws.specs.Transit.{logs_of}
 use Rattle.serial_laws.proofs.Members.{IsNodeOf}
 
-along_replica : (start : Start) (h : ℕ) (key : List ℕ) (log : List LogStep) → (primary_along start h key log).replica ≡ key_in key (after start h log)
+along_replica : (start : Start) (h : ℕ) (key : List ℕ) (log : List HostStep) → (primary_along start h key log).replica ≡ key_in key (after start h log)
 along_replica start h key [] = refl
 along_replica start h key (e ∷ log) =
-    ap (key_after (event_in key (after start h log) e.taken.to e.taken.body)) (along_replica start h key log) ∙ sym (logs_follow start h log e key)
+    ap (key_after (event_in key (after start h log) e.step.taken)) (along_replica start h key log) ∙ sym (logs_follow start h log e key)
 
 -- the primary is one of the hosts
-pub primary_replica : (start : Start) (logs : ℕ → List LogStep) (key : List ℕ) → (at_primary start logs key).replica ≡ at_host start logs key (primary start key)
+pub primary_replica : (start : Start) (logs : ℕ → List HostStep) (key : List ℕ) → (at_primary start logs key).replica ≡ at_host start logs key (primary start key)
 primary_replica start logs key = along_replica start (primary start key) key (logs (primary start key))
 
 -- A primary of a key: in good order, and led to this value.
@@ -46,25 +46,25 @@ pub record IsBackupWith (decided final : TxId → Bool) (value : Option (List �
 
 -- One key of all nodes, with these decided and these final: the primary is in good order and led to what the history makes of
 -- the row; the history is right; and each backup is in good order and led to the same.
-pub record IsGoodWith (start : Start) (decided final : TxId → Bool) (history : List Entry) (logs : ℕ → List LogStep) (key : List ℕ) : Type 0 where
+pub record IsGoodWith (start : Start) (decided final : TxId → Bool) (history : List Entry) (logs : ℕ → List HostStep) (key : List ℕ) : Type 0 where
   pub first : IsPrimaryWith (kept_of decided final) (row_at_end key (map.get (rows_of start.rows) key) history) (at_primary start logs key)
   pub right : IsRightAt key (map.get (rows_of start.rows) key) history
   pub backups : (g : ℕ) → IsNodeOf start g → g ≢ primary start key
       → IsBackupWith decided final (row_at_end key (map.get (rows_of start.rows) key) history) (at_host start logs key g)
 
-module _ (start : Start) (es : List LogStep) (e : LogStep) (key : List ℕ) where
+module _ (start : Start) (es : List HostStep) (e : HostStep) (key : List ℕ) where
   abbrev h : ℕ
-  h = e.taken.to.node
+  h = e.host
 
-  abbrev before : ℕ → List LogStep
+  abbrev before : ℕ → List HostStep
   before = logs_of start es
 
-  abbrev now : ℕ → List LogStep
+  abbrev now : ℕ → List HostStep
   now = logs_of start (e ∷ es)
 
   -- what the event is to the key
   abbrev pub event_of : Event
-  event_of = event_in key (after start h (before h)) e.taken.to e.taken.body
+  event_of = event_in key (after start h (before h)) e.step.taken
 
   pub host_own : at_host start now key h ≡ key_after event_of (at_host start before key h)
   host_own = ap (λ log. key_in key (after start h log)) (log_of-own (machine start) e es h refl) ∙ logs_follow start h (before h) e key
@@ -75,7 +75,7 @@ module _ (start : Start) (es : List LogStep) (e : LogStep) (key : List ℕ) wher
   primary_own : h ≡ primary start key → at_primary start now key ≡ primary_after event_of (at_primary start before key)
   primary_own at =
       ap (primary_along start (primary start key) key) (log_of-own (machine start) e es (primary start key) at)
-      ∙ ap (λ g. primary_after (event_in key (after start g (before g)) e.taken.to e.taken.body) (at_primary start before key)) (sym at)
+      ∙ ap (λ g. primary_after (event_in key (after start g (before g)) e.step.taken) (at_primary start before key)) (sym at)
 
   primary_other : h ≢ primary start key → at_primary start now key ≡ at_primary start before key
   primary_other off = ap (primary_along start (primary start key) key) (log_of-other (machine start) e es (primary start key) off)

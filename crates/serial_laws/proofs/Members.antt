@@ -9,9 +9,10 @@ use Rattle.run_theory.specs.Lists.{Each, IsIn}
 use Rattle.run_theory.proofs.Pasts.{each_append, each_in, each_map}
 use Rattle.sig_core.specs.Chain.{node_at, node_of}
 use Rattle.sig_core.specs.declared.member.Member.{Member}
-use Rattle.tc_block.specs.Chain.{chain_of}
-use Rattle.world_core.specs.Machine.{hosts}
-use Rattle.world_core.specs.Start.{Start, members}
+use Rattle.frag_map.specs.Layout.{chain_of}
+use Rattle.world_core.specs.Hosts.{hosts}
+use Rattle.frag_map.specs.Layout.{members}
+use Rattle.world_core.specs.Start.{Start}
 use Rattle.transit_laws.specs.Circle.{IsReplica}
 use Rattle.transit_laws.specs.Routes.{primary, replicas}
 
@@ -42,27 +43,27 @@ node_of_members n at below =
     ap node_of (slice_get-get_or (members n) at (record { node = 0; start = 0 }) (omega (arith, below, members_length n)))
     ∙ ap (λ (m : Member). m.node) (member_at n at (record { node = 0; start = 0 }) below)
 
-replicas_are : (start : Start) (key : List ℕ) → replicas start key ≡ members start.nodes
+replicas_are : (start : Start) (key : List ℕ) → replicas start key ≡ members start.shape.nodes
 unfolding chain_of
 replicas_are start key = refl
 
 pub node_replica : (start : Start) (key : List ℕ) (h : ℕ) → IsNodeOf start h → IsReplica start key h
 node_replica start key h is =
-    let lower : (h - 1) < start.nodes = omega (arith, is.some, is.below) in
+    let lower : (h - 1) < start.shape.nodes = omega (arith, is.some, is.below) in
     record {
       at = h - 1;
-      inside = subst (λ w. (h - 1) < length w) (sym (replicas_are start key)) (omega (arith, lower, members_length start.nodes));
-      node_is = ap (λ w. node_at w (h - 1)) (replicas_are start key) ∙ node_of_members start.nodes (h - 1) lower ∙ (let pos = is.some in omega (arith, pos));
+      inside = subst (λ w. (h - 1) < length w) (sym (replicas_are start key)) (omega (arith, lower, members_length start.shape.nodes));
+      node_is = ap (λ w. node_at w (h - 1)) (replicas_are start key) ∙ node_of_members start.shape.nodes (h - 1) lower ∙ (let pos = is.some in omega (arith, pos));
     }
 
-pub primary_node : (start : Start) (key : List ℕ) → 0 < start.nodes → IsNodeOf start (primary start key)
+pub primary_node : (start : Start) (key : List ℕ) → 0 < start.shape.nodes → IsNodeOf start (primary start key)
 primary_node start key pos =
-    let one : primary start key ≡ 0 + 1 = ap (λ w. node_at w 0) (replicas_are start key) ∙ node_of_members start.nodes 0 pos in
+    let one : primary start key ≡ 0 + 1 = ap (λ w. node_at w 0) (replicas_are start key) ∙ node_of_members start.shape.nodes 0 pos in
     record { some = omega (arith, one); below = omega (arith, one, pos) }
 
-pub member_node : (start : Start) (member : Member) → IsIn member (members start.nodes) → IsNodeOf start member.node
+pub member_node : (start : Start) (member : Member) → IsIn member (members start.shape.nodes) → IsNodeOf start member.node
 member_node start member inside =
-    let parts = each_in (λ (m : Member). (0 < m.node) × (m.node ≤ start.nodes)) member (members start.nodes) (all start.nodes) inside in
+    let parts = each_in (λ (m : Member). (0 < m.node) × (m.node ≤ start.shape.nodes)) member (members start.shape.nodes) (all start.shape.nodes) inside in
     record { some = parts.0; below = omega (arith, parts.1) }
   where
     all : (n : ℕ) → Each (λ (m : Member). (0 < m.node) × (m.node ≤ n)) (members n)

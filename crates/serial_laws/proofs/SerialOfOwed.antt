@@ -4,8 +4,9 @@ use Rattle.run_theory.specs.Orders.{merged}
 use Rattle.run_theory.specs.Runs.{IsWithin}
 use Rattle.run_theory.proofs.Along.{within_cut}
 use Rattle.run_theory.proofs.Merging.{logs_merged, merged_run, of_hosts}
-use Rattle.sig_core.specs.declared.log.LogStep.{LogStep}
-use Rattle.world_core.specs.Machine.{hosts, machine}
+use Rattle.world_core.specs.Steps.{HostStep}
+use Rattle.world_core.specs.Hosts.{hosts}
+use Rattle.world_core.specs.Machine.{machine}
 use Rattle.world_core.proofs.Stamped.{stamped}
 use Rattle.commit_laws.specs.Laws.{AreKeysRight, IsClosedCut}
 use Rattle.commit_laws.proofs.Epochs.{inside_right}
@@ -20,7 +21,7 @@ serial_of_owed owed start inside logs some within right cut closed =
     let is : IsClosedCut start inside logs = record { within = within; right = right; cut = cut; closed = closed } in
     let own = inside_right start inside logs is in
     let below = within_cut (machine start) (stamped start) (hosts start) inside logs within cut in
-    let end : List LogStep = merged (machine start) (hosts start) inside in
+    let end : List HostStep = merged (machine start) (hosts start) inside in
     let same = logs_merged (machine start) (hosts start) inside below own in
     let run : IsRun start end = record {
       some = omega (arith, some);

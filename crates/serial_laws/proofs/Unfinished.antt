@@ -5,7 +5,7 @@ use Rattle.std.specs.List.{list_any}
 use Rattle.std.specs.Prelude.{if◌then◌else◌, is_some, Option, None, Some}
 use Rattle.run_theory.proofs.Runs.{log_of-other, log_of-own}
 use Rattle.sig_core.specs.declared.entry.Entry.{Entry}
-use Rattle.sig_core.specs.declared.log.LogStep.{LogStep}
+use Rattle.world_core.specs.Steps.{HostStep}
 use Rattle.sig_core.specs.declared.member.TxId.{TxId}
 use Rattle.sig_core.specs.declared.rows.PendingRecord.{PendingRecord}
 use Rattle.world_core.specs.Machine.{after, machine}
@@ -30,28 +30,28 @@ use Rattle.serial_laws.proofs.RowMarks.{EndsPart}
 use Rattle.serial_laws.proofs.WriterSteps.{node_at_host}
 
 -- a write of the key was prepared in this log, and isn't done with
-pub record IsUnfinished (key : List ℕ) (v : TxId) (log : List LogStep) : Type 0 where
-  pub newer : List LogStep
-  pub step : LogStep
-  pub older : List LogStep
+pub record IsUnfinished (key : List ℕ) (v : TxId) (log : List HostStep) : Type 0 where
+  pub newer : List HostStep
+  pub step : HostStep
+  pub older : List HostStep
   pub is : log ≡ newer ++ step ∷ older
   pub prepared : list_any (is_prepared v key) step.marks ≡ true
   pub undone : has_mark (is_done v key) newer ≡ false
 
 -- so it is where there is a record
-abbrev pub AreUnfinished : Start → List LogStep → Type 0
+abbrev pub AreUnfinished : Start → List HostStep → Type 0
 AreUnfinished start es =
     (key : List ℕ) (h : ℕ) (v : TxId) → IsNodeOf start h → is_some (found v (at_host start (logs_of start es) key h).cell.pending) ≡ true → IsUnfinished key v (logs_of start es h)
 
 -- where all is done with there is none
-pub settled_empty : (key : List ℕ) (log : List LogStep) (pending : List PendingRecord) → IsSettled key log → ((v : TxId) → is_some (found v pending) ≡ true → IsUnfinished key v log) → pending ≡ []
+pub settled_empty : (key : List ℕ) (log : List HostStep) (pending : List PendingRecord) → IsSettled key log → ((v : TxId) → is_some (found v pending) ≡ true → IsUnfinished key v log) → pending ≡ []
 settled_empty key log [] settled unfinished = refl
 settled_empty key log (r ∷ rest) settled unfinished =
     let is = unfinished r.tx (ap (λ b. is_some (if b then Some r else found r.tx rest)) (same_tx-self r.tx)) in
     absurd (let both : false ≡ true = sym is.undone ∙ settled is.newer is.step is.older r.tx is.is is.prepared in cc)
 
 -- no transaction has two records at a node
-pub once_at : (start : Start) (decided final : TxId → Bool) (history : List Entry) (logs : ℕ → List LogStep) (key : List ℕ) (g : ℕ) → IsNodeOf start g
+pub once_at : (start : Start) (decided final : TxId → Bool) (history : List Entry) (logs : ℕ → List HostStep) (key : List ℕ) (g : ℕ) → IsNodeOf start g
     → IsGoodWith start decided final history logs key → AreOnce (at_host start logs key g).cell.pending
 once_at start decided final history logs key g node good = by (cases_eq g (primary start key))
   where
@@ -61,14 +61,14 @@ once_at start decided final history logs key g node good = by (cases_eq g (prima
         (subst (λ (r : Replica). AreOnce r.cell.pending) (primary_replica start logs key) good.first.order.good.once)
     by (inr off) = (good.backups g node off).order.sound.once
 
-module _ (start : Start) (owed : AreOwed) (es : List LogStep) (e : LogStep) (come : Comes start es e) where
+module _ (start : Start) (owed : AreOwed) (es : List HostStep) (e : HostStep) (come : Comes start es e) where
   abbrev h : ℕ
-  h = e.taken.to.node
+  h = e.host
 
-  abbrev before : ℕ → List LogStep
+  abbrev before : ℕ → List HostStep
   before = logs_of start es
 
-  abbrev now : ℕ → List LogStep
+  abbrev now : ℕ → List HostStep
   now = logs_of start (e ∷ es)
 
   -- what ends a part in the key drops its record
@@ -107,7 +107,7 @@ module _ (start : Start) (owed : AreOwed) (es : List LogStep) (e : LogStep) (com
             older = before h;
             is = refl;
             prepared = ap (list_any (is_prepared v key)) come.happens.step.fits.marks
-                ∙ host_new v key (after start h (before h)) e.taken.to e.taken.body (node_at_host start h (before h) node) (logs_keep_well start h (before h))
+                ∙ host_new v key (after start h (before h)) e.step.taken (node_at_host start h (before h) node) (logs_keep_well start h (before h))
                 (sym (ap (λ log. is_some (found v (key_in key (after start h log)).cell.pending)) (log_of-own (machine start) e es h refl)) ∙ is) none;
             undone = refl;
           }
@@ -119,13 +119,13 @@ module _ (start : Start) (owed : AreOwed) (es : List LogStep) (e : LogStep) (com
                 older = old.older;
                 is = ap (λ w. e ∷ w) old.is;
                 prepared = old.prepared;
-                undone = or_from (list_any (is_done v key) e.marks) (has_mark (is_done v key) old.newer) (not_done (list_any (is_done v key) e.marks) refl) old.undone;
+                undone = or_from (list_any (is_done v key) e.step.marks) (has_mark (is_done v key) old.newer) (not_done (list_any (is_done v key) e.step.marks) refl) old.undone;
               }
             where
-              not_done : (b : Bool) → list_any (is_done v key) e.marks ≡ b → list_any (is_done v key) e.marks ≡ false
+              not_done : (b : Bool) → list_any (is_done v key) e.step.marks ≡ b → list_any (is_done v key) e.step.marks ≡ false
               not_done false off = off
               not_done true done =
-                  let ends = host_done v key (after start h (before h)) e.taken.to e.taken.body (node_at_host start h (before h) node) (sym (ap (list_any (is_done v key)) come.happens.step.fits.marks) ∙ done) in
+                  let ends = host_done v key (after start h (before h)) e.step.taken (node_at_host start h (before h) node) (sym (ap (list_any (is_done v key)) come.happens.step.fits.marks) ∙ done) in
                   let none = gone key v (event_of start es e key) r (once key h node) there ends (owed.events start es e key come) in
                   absurd (let both : false ≡ true = sym (ap is_some (ap (λ (r : Replica). found v r.cell.pending) (host_own start es e key) ∙ none)) ∙ is in cc)
 

@@ -6,7 +6,7 @@ use Rattle.std.specs.Prelude.{zero, suc, is_some, Option, None, Some}
 use Rattle.run_theory.specs.Lists.{Each, IsPast}
 use Rattle.run_theory.proofs.Pasts.{each_map, past_less, past_more, past_self}
 use Rattle.run_theory.proofs.Runs.{log_of-other, log_of-own}
-use Rattle.sig_core.specs.declared.log.LogStep.{LogStep}
+use Rattle.world_core.specs.Steps.{HostStep}
 use Rattle.sig_core.specs.declared.member.TxId.{TxId}
 use Rattle.sig_core.specs.declared.op.Answer.{Answer}
 use Rattle.sig_core.specs.declared.op.Op.{Op}
@@ -36,7 +36,7 @@ use Rattle.serial_laws.proofs.StepKinds.{StepKind, decision, quiet}
 use Rattle.serial_laws.proofs.Turns.{ComesAfter, IsByTurn}
 
 -- the host of a node has one
-pub node_at_host : (start : Start) (h : ℕ) (log : List LogStep) → IsNodeOf start h → IsNode (after start h log)
+pub node_at_host : (start : Start) (h : ℕ) (log : List HostStep) → IsNodeOf start h → IsNode (after start h log)
 node_at_host start zero log is = absurd (omega (arith, is.some))
 node_at_host start (suc h) log is = after_node start h log
 
@@ -61,15 +61,15 @@ agree_some None None same is = is
 agree_some None (Some b) same is = absurd same
 agree_some (Some a) other same is = refl
 
-module _ (start : Start) (end : List LogStep) (run : IsRun start end) (turn : IsByTurn (machine start) end) (owed : AreOwed) (es : List LogStep) (e : LogStep) (past : IsPast (e ∷ es) end) (come : Comes start es e)
+module _ (start : Start) (end : List HostStep) (run : IsRun start end) (turn : IsByTurn (machine start) end) (owed : AreOwed) (es : List HostStep) (e : HostStep) (past : IsPast (e ∷ es) end) (come : Comes start es e)
     (behind : ComesAfter (machine start) e es) (writers : AreWriters start end es) where
   abbrev h : ℕ
-  h = e.taken.to.node
+  h = e.host
 
-  abbrev before : ℕ → List LogStep
+  abbrev before : ℕ → List HostStep
   before = logs_of start es
 
-  abbrev now : ℕ → List LogStep
+  abbrev now : ℕ → List HostStep
   now = logs_of start (e ∷ es)
 
   earlier : IsPast es end
@@ -146,17 +146,17 @@ module _ (start : Start) (end : List LogStep) (run : IsRun start end) (turn : Is
   applied_now : (g : ℕ) (v : TxId) → IsNodeOf start g → has_mark (is_applied v) (now g) ≡ true → IsWriter start (e ∷ es) v
   applied_now g v node is = by (cases_eq h g)
     where
-      new : IsNodeOf start h → list_any (is_applied v) e.marks ≡ true → IsWriter start (e ∷ es) v
+      new : IsNodeOf start h → list_any (is_applied v) e.step.marks ≡ true → IsWriter start (e ∷ es) v
       new own marked =
-          let from = host_applied v (after start h (before h)) e.taken.to e.taken.body (node_at_host start h (before h) own) (sym (ap (list_any (is_applied v)) come.happens.step.fits.marks) ∙ marked) in
+          let from = host_applied v (after start h (before h)) e.step.taken (node_at_host start h (before h) own) (sym (ap (list_any (is_applied v)) come.happens.step.fits.marks) ∙ marked) in
           let carries = subst (IsOwed start before from.own h) from.event (owed.events start es e from.own come) in
           grown v (writers.recorded from.own h v own (carried_at start end run turn owed es v earlier carries.1.1) from.there)
 
       by : (h ≡ g) ⊎ (h ≢ g) → IsWriter start (e ∷ es) v
       by (inl at) =
-          split (or_cases (list_any (is_applied v) e.marks) (has_mark (is_applied v) (before g)) (sym (ap (has_mark (is_applied v)) (log_of-own (machine start) e es g at)) ∙ is))
+          split (or_cases (list_any (is_applied v) e.step.marks) (has_mark (is_applied v) (before g)) (sym (ap (has_mark (is_applied v)) (log_of-own (machine start) e es g at)) ∙ is))
         where
-          split : (list_any (is_applied v) e.marks ≡ true) ⊎ (has_mark (is_applied v) (before g) ≡ true) → IsWriter start (e ∷ es) v
+          split : (list_any (is_applied v) e.step.marks ≡ true) ⊎ (has_mark (is_applied v) (before g) ≡ true) → IsWriter start (e ∷ es) v
           split (inl marked) = new (subst (IsNodeOf start) (sym at) node) marked
           split (inr old) = grown v (writers.applied g v node old)
       by (inr off) = grown v (writers.applied g v node (sym (ap (has_mark (is_applied v)) (log_of-other (machine start) e es g off)) ∙ is))

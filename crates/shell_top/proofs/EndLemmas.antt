@@ -24,13 +24,15 @@ use Rattle.shell_top.specs.Session.{AreLinesDone, IsSession, IsUnderWay}
 use Rattle.shell_top.specs.Text.{fault_line, reply_lines}
 use Rattle.shell_top.proofs.PrintedLemmas.{prints_both}
 use Rattle.world_core.specs.Lives.{fresh_life}
-use Rattle.world_core.specs.Machine.{hosts, machine}
+use Rattle.world_core.specs.Hosts.{hosts}
+use Rattle.world_core.specs.Machine.{machine}
 use Rattle.serial_laws.proofs.EveryCut.{every_cut_serial}
 use Rattle.command_laws.proofs.RepliesLive.{replies_live}
 use Rattle.command_laws.proofs.Requests.{requests_answered}
 use Rattle.command_laws.specs.Between.{IsAskedAgain}
 use Rattle.world_core.specs.Quiet.{IsQuiet}
-use Rattle.world_core.specs.Start.{first_view, fresh}
+use Rattle.frag_map.specs.Layout.{first_view}
+use Rattle.world_core.specs.Start.{fresh}
 use Rattle.world_core.specs.World.{Whole, logs_at, new_world}
 use Rattle.world_core.specs.WorldOf.{whole_of}
 use Rattle.node_core.proofs.HostLemmas.{fresh_told}

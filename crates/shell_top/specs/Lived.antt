@@ -10,7 +10,7 @@ use Rattle.command_laws.specs.Living.{is_of_living}
 use Rattle.node_core.specs.Replies.{replies_of}
 use Rattle.script_lang.specs.declared.command.Command.{Command}
 use Rattle.sig_core.specs.declared.log.Life.{Life}
-use Rattle.sig_core.specs.declared.log.LogStep.{LogStep}
+use Rattle.world_core.specs.Steps.{HostStep}
 use Rattle.sig_core.specs.declared.reply.ApiReply.{ApiReply}
 use Rattle.sig_core.specs.declared.request.ApiReq.{ApiReq}
 use Rattle.shell_top.specs.Asked.{AreAsked, AreAskedInPart}
@@ -19,20 +19,21 @@ use Rattle.shell_top.specs.declared.ended.Ending.TheVariants.{NoMemory, Words}
 use Rattle.shell_top.specs.Printed.{is_cut_short}
 use Rattle.shell_top.specs.Told.{text_of}
 use Rattle.world_core.specs.Lives.{logs_of, start_of}
-use Rattle.world_core.specs.Machine.{after, hosts, machine}
+use Rattle.world_core.specs.Hosts.{hosts}
+use Rattle.world_core.specs.Machine.{after, machine}
 use Rattle.world_core.specs.Quiet.{IsQuiet}
 use Rattle.world_core.specs.Requests.{AreAskedAtQuiet, request_in}
 use Rattle.world_core.specs.SerialLaw.{IsSerial}
 use Rattle.world_core.specs.Start.{Start, fresh}
 
 -- all commands were asked for, or, where the session was cut short, a first part of what is asked for them
-abbrev pub AreAskedFor : Start → Bool → List Command → List LogStep → Type 0
+abbrev pub AreAskedFor : Start → Bool → List Command → List HostStep → Type 0
 AreAskedFor start false commands log = AreAsked start (reverse commands) log
 AreAskedFor start true commands log = AreAskedInPart start commands log
 
 -- The logs of a life in which the shell asked for the commands, each at quiet, unless the session was cut short. At its
 -- end nothing was under way, unless memory was wanting.
-pub record AreLived (start : Start) (ending : Ending) (commands : List Command) (logs : ℕ → List LogStep) : Type 0 where
+pub record AreLived (start : Start) (ending : Ending) (commands : List Command) (logs : ℕ → List HostStep) : Type 0 where
   pub right : AreLogs (machine start) logs
   pub within : IsWithin (hosts start) logs
   pub asked : AreAskedFor start (is_cut_short ending) commands (logs 0)
@@ -45,9 +46,9 @@ nodes = 2
 
 -- Each request in these logs is served between two quiet moments and answered there as it should be; but for the last one,
 -- where memory was wanting.
-abbrev pub EachIsAnswered : Start → Ending → (ℕ → List LogStep) → Type 0
+abbrev pub EachIsAnswered : Start → Ending → (ℕ → List HostStep) → Type 0
 EachIsAnswered start ending logs =
-    (newer : List LogStep) (e : LogStep) (before : List LogStep) (request : ApiReq) → logs 0 ≡ newer ++ e ∷ before → request_in e.taken.body ≡ Some request
+    (newer : List HostStep) (e : HostStep) (before : List HostStep) (request : ApiReq) → logs 0 ≡ newer ++ e ∷ before → request_in e.step.taken.body ≡ Some request
     → (ending ≡ NoMemory → IsAskedAgain start newer)
     → IsAnsweredIn start logs request before
 
@@ -57,7 +58,7 @@ pub record IsLife (ending : Ending) (commands : List Command) (life : Life) : Ty
   pub begins : start_of nodes life ≡ fresh nodes
   pub lived : AreLived (start_of nodes life) ending commands (logs_of life)
   pub run : LogsRun (machine (start_of nodes life)) (hosts (start_of nodes life)) (logs_of life)
-  pub serial : (inside : ℕ → List LogStep) → IsCut inside (logs_of life) → IsClosed (machine (start_of nodes life)) inside → IsSerial (start_of nodes life) inside
+  pub serial : (inside : ℕ → List HostStep) → IsCut inside (logs_of life) → IsClosed (machine (start_of nodes life)) inside → IsSerial (start_of nodes life) inside
   pub answered : EachIsAnswered (start_of nodes life) ending (logs_of life)
   -- no reply tells of a host that stopped
   pub living : Each (λ (reply : ApiReply). is_of_living reply ≡ true) (replies_of (after (start_of nodes life) 0 (logs_of life 0)))

@@ -7,7 +7,7 @@ use Rattle.std.proofs.lemmas.List.{append-nil}
 use Rattle.lqh_block.proofs.IndexLemmas as keys
 use Rattle.run_theory.specs.Lists.{Each}
 use Rattle.run_theory.proofs.Pasts.{each_map}
-use Rattle.sig_core.specs.declared.log.LogStep.{LogStep}
+use Rattle.world_core.specs.Steps.{Addressed, HostStep}
 use Rattle.sig_core.specs.declared.member.Member.{Member}
 use Rattle.sig_core.specs.declared.member.TxId.{TxId}
 use Rattle.sig_core.specs.declared.outs.Outgoing.{Outgoing}
@@ -18,11 +18,10 @@ use Rattle.sig_core.specs.declared.signal.Body.TheVariants.{Host, Chain}
 use Rattle.sig_core.specs.declared.signal.chain.ChainSignal.TheVariants.{Commit}
 use Rattle.sig_core.specs.declared.signal.host.HostSignal.TheVariants.{Continue}
 use Rattle.sig_core.specs.declared.signal.host.Work.TheVariants as work
-use Rattle.sig_core.specs.declared.signal.Signal.{Signal}
 use Rattle.sig_core.specs.Chain.{node_at, primary_of}
 use Rattle.sig_core.specs.Same.{same_tx}
 use Rattle.api_block.specs.State.{ApiState}
-use Rattle.lqh_block.specs.Lqh.{lqh_row}
+use Rattle.lqh_block.specs.Lqh.{lqh_table}
 use Rattle.lqh_block.specs.State.{LqhState}
 use Rattle.tc_block.specs.declared.transaction.Transaction.{Transaction}
 use Rattle.tc_block.specs.Operate.{fresh}
@@ -73,7 +72,7 @@ pub record NodeFacts (tx : TxId) (h : ℕ) (n : node.Node) : Type 0 where
   pub once : tally (is_keyed tx) n.tc.live ≤ 1
   pub own : Each (λ (e : TxId × Transaction). IsOwn n.tc.node n.tc.next_seq e.0) n.tc.live
 
-pub node_facts : (start : Start) (tx : TxId) (h : ℕ) (log : List LogStep) (n : node.Node) → after start h log ≡ Node n → NodeFacts tx h n
+pub node_facts : (start : Start) (tx : TxId) (h : ℕ) (log : List HostStep) (n : node.Node) → after start h log ≡ Node n → NodeFacts tx h n
 node_facts start tx zero log n is = absurd (other (shell_after start log).state (sym (shell_after start log).is ∙ is))
   where
     other : (s : ApiState) → Shell s ≡ Node n → ⊥
@@ -97,19 +96,19 @@ begun_older tx s own older =
     by true e = absurd (omega (arith, older, ap (λ (t : TxId). t.seq) (same_tx-is (next_tx s) tx e)))
     by false e = e
 
-module _ (start : Start) (es : List LogStep) (e : LogStep) (come : Comes start es e) where
+module _ (start : Start) (es : List HostStep) (e : HostStep) (come : Comes start es e) where
   -- a commit that comes is at the place of its chain that it is for
   pub record IsAtPlace (chain : List Member) (at : ℕ) : Type 0 where
-    pub node_is : e.taken.to.node ≡ node_at chain at
-    pub above : 0 < e.taken.to.node
+    pub node_is : e.host ≡ node_at chain at
+    pub above : 0 < e.host
 
-  pub commit_place : (one : TxId) (own : List ℕ) (epoch : ℕ) (chain : List Member) (at : ℕ) → e.taken.body ≡ Chain (Commit one own epoch chain at) → IsAtPlace chain at
-  commit_place one own epoch chain at is = by (subst (IsRouted start e.taken.to.node) is (coming_are_routed start es e come).routed)
+  pub commit_place : (one : TxId) (own : List ℕ) (epoch : ℕ) (chain : List Member) (at : ℕ) → e.step.taken.body ≡ Chain (Commit one own epoch chain at) → IsAtPlace chain at
+  commit_place one own epoch chain at is = by (subst (IsRouted start e.host) is (coming_are_routed start es e come).routed)
     where
-      by : IsCommitRouted start e.taken.to.node own chain at → IsAtPlace chain at
+      by : IsCommitRouted start e.host own chain at → IsAtPlace chain at
       by r = record { node_is = r.sent.node_is; above = which r.along }
         where
-          which : (chain ≡ replicas start own) ⊎ (chain ≡ primary_of (replicas start own)) → 0 < e.taken.to.node
+          which : (chain ≡ replicas start own) ⊎ (chain ≡ primary_of (replicas start own)) → 0 < e.host
           which (inl all) =
               let low = (replicas_are_nodes start own at (omega (arith, r.sent.inside, ap length all))).0 in
               omega (arith, low, r.sent.node_is, ap (λ c. node_at c at) all)
@@ -123,20 +122,20 @@ module _ (start : Start) (es : List LogStep) (e : LogStep) (come : Comes start e
               one_long [] = omega arith
               one_long (m ∷ c) = omega arith
 
-              go : (k : ℕ) → k < length chain → e.taken.to.node ≡ node_at chain k → 0 < e.taken.to.node
+              go : (k : ℕ) → k < length chain → e.host ≡ node_at chain k → 0 < e.host
               go zero inside is_node =
                   let low = (replicas_are_nodes start own 0 (omega (arith, inside, ap length first, short (replicas start own)))).0 in
                   omega (arith, low, is_node, ap (λ c. node_at c 0) first, primary_first (replicas start own))
               go (suc k) inside is_node = absurd (omega (arith, inside, ap length first, one_long (replicas start own)))
 
-  module _ (before between : List Signal) (takes : Takes e before between) (tx : TxId) (carried : is_carried_out start (logs_of start es) tx ≡ true) (none : tokens start (logs_of start es) before tx ≡ 0) where
+  module _ (before between : List Addressed) (takes : Takes e before between) (tx : TxId) (carried : is_carried_out start (logs_of start es) tx ≡ true) (none : tokens start (logs_of start es) before tx ≡ 0) where
     abbrev h : ℕ
-    h = e.taken.to.node
+    h = e.host
 
-    abbrev logs : ℕ → List LogStep
+    abbrev logs : ℕ → List HostStep
     logs k = logs_of start es k
 
-    abbrev now : ℕ → List LogStep
+    abbrev now : ℕ → List HostStep
     now k = logs_of start (e ∷ es) k
 
     abbrev g : host.Host
@@ -145,7 +144,7 @@ module _ (start : Start) (es : List LogStep) (e : LogStep) (come : Comes start e
     abbrev sends : List Outgoing
     sends = (step_after start h (logs_of start es h) e).effects.sends
 
-    abbrev later : List Signal
+    abbrev later : List Addressed
     later = joined (signals_of start h (logs_of start es h) e) between
 
     no_abort : NoAbort e tx
@@ -164,7 +163,7 @@ module _ (start : Start) (es : List LogStep) (e : LogStep) (come : Comes start e
     pub fades : StepFades start (logs_of start es) (logs_of start (e ∷ es)) e tx
     fades = step_fades start es e come before between takes tx none no_abort ends
 
-    out : (w : Place → Body → ℕ) → (is_request e.taken.body ≡ true → w e.taken.to e.taken.body ≡ 0) → in_transit w before ≡ w e.taken.to e.taken.body + in_transit w between
+    out : (w : Place → Body → ℕ) → (is_request e.step.taken.body ≡ true → w e.step.taken ≡ 0) → in_transit w before ≡ w e.step.taken + in_transit w between
     out w free = takes_weigh w e before between free takes
 
     into : (w : Place → Body → ℕ) → in_transit w later ≡ in_sends w sends + in_transit w between
@@ -174,9 +173,9 @@ module _ (start : Start) (es : List LogStep) (e : LogStep) (come : Comes start e
     live_was : h ≡ tx.tc → live_at start (logs_of start es) tx ≡ of_host tx g
     live_was same = subst (λ k. of_host tx (after start k (logs_of start es k)) ≡ of_host tx g) same refl
 
-    live_now : h ≡ tx.tc → live_at start (logs_of start (e ∷ es)) tx ≡ of_host tx (row g e.taken.to e.taken.body).state
+    live_now : h ≡ tx.tc → live_at start (logs_of start (e ∷ es)) tx ≡ of_host tx (row g e.step.taken).state
     live_now same =
-        subst (λ k. of_host tx (after start k (logs_of start (e ∷ es) k)) ≡ of_host tx (row g e.taken.to e.taken.body).state) same
+        subst (λ k. of_host tx (after start k (logs_of start (e ∷ es) k)) ≡ of_host tx (row g e.step.taken).state) same
         (ap (λ log. of_host tx (after start h log)) (now_own start es e come))
 
     live_far : h ≢ tx.tc → live_at start (logs_of start (e ∷ es)) tx ≡ live_at start (logs_of start es) tx
@@ -186,12 +185,12 @@ module _ (start : Start) (es : List LogStep) (e : LogStep) (come : Comes start e
     far_test differs = grind (arith, nat_tests, differs)
 
     module _ (c : IsCarried start (logs_of start es) before tx) where
-      told_taken : TellsOf start (logs_of start es) tx e.taken.body
-      told_taken = by (is_request e.taken.body) refl
+      told_taken : TellsOf start (logs_of start es) tx e.step.taken.body
+      told_taken = by (is_request e.step.taken.body) refl
         where
-          by : (b : Bool) → is_request e.taken.body ≡ b → TellsOf start (logs_of start es) tx e.taken.body
-          by true is = part_tells tx (IsSpread start (logs_of start es) tx) (IsCommittedAtAll start (logs_of start es) tx) e.taken.body (request_part tx e.taken.body is)
-          by false is = each_taken (λ (x : Signal). TellsOf start (logs_of start es) tx x.body) e before between is takes c.told
+          by : (b : Bool) → is_request e.step.taken.body ≡ b → TellsOf start (logs_of start es) tx e.step.taken.body
+          by true is = part_tells tx (IsSpread start (logs_of start es) tx) (IsCommittedAtAll start (logs_of start es) tx) e.step.taken.body (request_part tx e.step.taken.body is)
+          by false is = each_taken (λ (x : Addressed). TellsOf start (logs_of start es) tx x.signal.body) e before between is takes c.told
 
       old_now : tx.seq < next_number (after start tx.tc (logs_of start (e ∷ es) tx.tc))
       old_now = by (cases_eq h tx.tc)
@@ -201,14 +200,14 @@ module _ (start : Start) (es : List LogStep) (e : LogStep) (come : Comes start e
           by (inl same) =
               subst (λ k. tx.seq < next_number (after start k (logs_of start (e ∷ es) k))) same
               (subst (λ log. tx.seq < next_number (after start h log)) (sym (now_own start es e come))
-              (omega (arith, number_rises g e.taken.to e.taken.body, subst (λ k. tx.seq < next_number (after start k (logs_of start es k))) (sym same) c.old)))
+              (omega (arith, number_rises g e.step.taken, subst (λ k. tx.seq < next_number (after start k (logs_of start es k))) (sym same) c.old)))
 
-      all_told : Each (λ (o : Outgoing). TellsOf start (logs_of start (e ∷ es)) tx o.body) sends → Each (λ (x : Signal). TellsOf start (logs_of start (e ∷ es)) tx x.body) later
+      all_told : Each (λ (o : Outgoing). TellsOf start (logs_of start (e ∷ es)) tx o.body) sends → Each (λ (x : Addressed). TellsOf start (logs_of start (e ∷ es)) tx x.signal.body) later
       all_told sent =
           each_joins (λ to b. TellsOf start (logs_of start (e ∷ es)) tx b) start h (logs_of start es h) e between sent
-          (each_map (λ (x : Signal). TellsOf start (logs_of start es) tx x.body) (λ (x : Signal). TellsOf start (logs_of start (e ∷ es)) tx x.body) between
-          (λ x tells. tells_stay start (logs_of start es) (logs_of start (e ∷ es)) e tx fades x.body tells)
-          (each_between (λ (x : Signal). TellsOf start (logs_of start es) tx x.body) e before between takes c.told))
+          (each_map (λ (x : Addressed). TellsOf start (logs_of start es) tx x.signal.body) (λ (x : Addressed). TellsOf start (logs_of start (e ∷ es)) tx x.signal.body) between
+          (λ x tells. tells_stay start (logs_of start es) (logs_of start (e ∷ es)) e tx fades x.signal.body tells)
+          (each_between (λ (x : Addressed). TellsOf start (logs_of start es) tx x.signal.body) e before between takes c.told))
 
       abbrev Goes : Transaction → Type 0
       Goes t = IsAhead start (logs_of start es) before tx t.touched t.phase → IsAhead start (logs_of start (e ∷ es)) later tx t.touched t.phase
@@ -228,7 +227,7 @@ module _ (start : Start) (es : List LogStep) (e : LogStep) (come : Comes start e
 
       -- where nothing of it is sent
       quiet_now : AreSilent tx sends → live_at start (logs_of start (e ∷ es)) tx ≡ live_at start (logs_of start es) tx
-          → ((t : Transaction) → live_at start (logs_of start es) tx ≡ Some t → (key : List ℕ) (i : ℕ) → cover tx key i e.taken.to e.taken.body ≡ 0)
+          → ((t : Transaction) → live_at start (logs_of start es) tx ≡ Some t → (key : List ℕ) (i : ℕ) → cover tx key i e.step.taken ≡ 0)
           → IsCarried start (logs_of start (e ∷ es)) later tx
       quiet_now silent same none_led =
           carried_now (parts_tell start (logs_of start es) (logs_of start (e ∷ es)) e before between later sends tx fades out into (silent_parts start (logs_of start es) (logs_of start (e ∷ es)) e before between later sends tx fades out into silent))
@@ -242,10 +241,10 @@ module _ (start : Start) (es : List LogStep) (e : LogStep) (come : Comes start e
           other same = cc
 
       -- no commit comes to the shell's host
-      shell_cover : (s : ApiState) → g ≡ Shell s → h ≢ tx.tc → (key : List ℕ) (i : ℕ) (b : Body) → e.taken.body ≡ b → cover tx key i e.taken.to b ≡ 0
+      shell_cover : (s : ApiState) → g ≡ Shell s → h ≢ tx.tc → (key : List ℕ) (i : ℕ) (b : Body) → e.step.taken.body ≡ b → cover tx key i e.step.taken.to b ≡ 0
       shell_cover s is differs key i (Chain (Commit one own epoch chain at)) body_is = absurd (omega (arith, (commit_place one own epoch chain at body_is).above, shell_is_first s h is))
       shell_cover s is differs key i (Host (Continue (work.Transaction one) at)) body_is =
-          ap (λ b. one_if ((is_tc e.taken.to.block && b) && (same_tx one tx && nat_le at i))) (far_test differs) ∙ off (is_tc e.taken.to.block)
+          ap (λ b. one_if ((is_tc e.step.taken.to.block && b) && (same_tx one tx && nat_le at i))) (far_test differs) ∙ off (is_tc e.step.taken.to.block)
         where
           off : (x : Bool) → one_if ((x && false) && (same_tx one tx && nat_le at i)) ≡ 0
           off true = refl
@@ -257,7 +256,7 @@ module _ (start : Start) (es : List LogStep) (e : LogStep) (come : Comes start e
       some_none t (Some u) is none_is = absurd cc
 
       -- the last commit of a key leaves it done
-      last_commit : e.taken.to.block ≡ block.Lqh → (key : List ℕ) → IsLast tx key e.taken.body → IsDone start (logs_of start (e ∷ es)) tx key
+      last_commit : e.step.taken.to.block ≡ block.Lqh → (key : List ℕ) → IsLast tx key e.step.taken.body → IsDone start (logs_of start (e ∷ es)) tx key
       last_commit home key l = record { none = λ k p. nobody k p (spread.within k (subst (λ q. HasPrepared tx (at_host start (logs_of start es) q k).cell.pending) (sym own_key) (fades.prepared key k p))) }
         where
           own_key : l.own ≡ key
@@ -273,7 +272,7 @@ module _ (start : Start) (es : List LogStep) (e : LogStep) (come : Comes start e
               fades.committed key l.one l.own l.epoch l.chain l.at l.is home l.same_one l.same_own (subst (λ j. HasPrepared tx (at_host start (logs_of start (e ∷ es)) key j).cell.pending) here p)
 
       -- and each other one leaves it at the places in front
-      commit_before : e.taken.to.block ≡ block.Lqh → (one : TxId) (own : List ℕ) (epoch : ℕ) (chain : List Member) (at : ℕ) → e.taken.body ≡ Chain (Commit one own epoch chain at) → same_tx one tx ≡ true → (at == 0) ≡ false
+      commit_before : e.step.taken.to.block ≡ block.Lqh → (one : TxId) (own : List ℕ) (epoch : ℕ) (chain : List Member) (at : ℕ) → e.step.taken.body ≡ Chain (Commit one own epoch chain at) → same_tx one tx ≡ true → (at == 0) ≡ false
           → IsSpread start (logs_of start es) tx own chain at → IsSpread start (logs_of start (e ∷ es)) tx own chain (at - 1)
       commit_before home one own epoch chain at is same not_last spread = record { within = λ k p. before_it k p (spread.within k (fades.prepared own k p)) }
         where
@@ -289,66 +288,66 @@ module _ (start : Start) (es : List LogStep) (e : LogStep) (come : Comes start e
                   let here : k ≡ h = sym up.is ∙ (ap (node_at chain) (omega (arith, high, up.low)) ∙ sym (commit_place one own epoch chain at is).node_is) in
                   absurd (fades.committed own one own epoch chain at is home same (same_key-self own) (subst (λ j. HasPrepared tx (at_host start (logs_of start (e ∷ es)) own j).cell.pending) here p))
 
-      rows_now : (s : LqhState) → e.taken.to.block ≡ block.Lqh → of_host tx (row g e.taken.to e.taken.body).state ≡ of_host tx g → sends ≡ (lqh_row s e.taken.body).effects.sends → IsCarried start (logs_of start (e ∷ es)) later tx
+      rows_now : (s : LqhState) → e.step.taken.to.block ≡ block.Lqh → of_host tx (row g e.step.taken).state ≡ of_host tx g → sends ≡ (lqh_table s e.step.taken.body).effects.sends → IsCarried start (logs_of start (e ∷ es)) later tx
       rows_now s home same sent = carried_now told (same_live (is_same (cases_eq h tx.tc)) stays_so)
         where
           told : Each (λ (o : Outgoing). TellsOf start (logs_of start (e ∷ es)) tx o.body) sends
           told =
               subst (Each (λ (o : Outgoing). TellsOf start (logs_of start (e ∷ es)) tx o.body)) (sym sent)
-              (lqh_tells s tx (IsSpread start (logs_of start es) tx) (IsSpread start (logs_of start (e ∷ es)) tx) (IsCommittedAtAll start (logs_of start (e ∷ es)) tx) e.taken.body
+              (lqh_tells s tx (IsSpread start (logs_of start es) tx) (IsSpread start (logs_of start (e ∷ es)) tx) (IsCommittedAtAll start (logs_of start (e ∷ es)) tx) e.step.taken.body
               (tells_too tx (IsSpread start (logs_of start es) tx) (IsSpread start (logs_of start es) tx) (IsCommittedAtAll start (logs_of start es) tx) (IsCommittedAtAll start (logs_of start (e ∷ es)) tx) (λ key chain at d. d)
-              (λ key d. committed_stays start (logs_of start es) (logs_of start (e ∷ es)) e tx fades key d) e.taken.body told_taken)
+              (λ key d. committed_stays start (logs_of start es) (logs_of start (e ∷ es)) e tx fades key d) e.step.taken.body told_taken)
               (commit_before home))
 
           is_same : (h ≡ tx.tc) ⊎ (h ≢ tx.tc) → live_at start (logs_of start (e ∷ es)) tx ≡ live_at start (logs_of start es) tx
           is_same (inl own) = live_now own ∙ (same ∙ sym (live_was own))
           is_same (inr differs) = live_far differs
 
-          leads : (key : List ℕ) (i : ℕ) → (cover tx key i e.taken.to e.taken.body ≤ in_sends (cover tx key i) sends) ⊎ IsDone start (logs_of start (e ∷ es)) tx key
-          leads key i = by (lqh_covers s tx key i e.taken.to e.taken.body home)
+          leads : (key : List ℕ) (i : ℕ) → (cover tx key i e.step.taken ≤ in_sends (cover tx key i) sends) ⊎ IsDone start (logs_of start (e ∷ es)) tx key
+          leads key i = by (lqh_covers s tx key i e.step.taken home)
             where
-              by : (cover tx key i e.taken.to e.taken.body ≤ in_sends (cover tx key i) (lqh_row s e.taken.body).effects.sends) ⊎ IsLast tx key e.taken.body
-                  → (cover tx key i e.taken.to e.taken.body ≤ in_sends (cover tx key i) sends) ⊎ IsDone start (logs_of start (e ∷ es)) tx key
+              by : (cover tx key i e.step.taken ≤ in_sends (cover tx key i) (lqh_table s e.step.taken.body).effects.sends) ⊎ IsLast tx key e.step.taken.body
+                  → (cover tx key i e.step.taken ≤ in_sends (cover tx key i) sends) ⊎ IsDone start (logs_of start (e ∷ es)) tx key
               by (inl less) = inl (omega (arith, less, ap (in_sends (cover tx key i)) sent))
               by (inr l) = inr (last_commit home key l)
 
           stays_so : (t : Transaction) → live_at start (logs_of start es) tx ≡ Some t → Goes t
           stays_so t is =
               ahead_stays start (logs_of start es) (logs_of start (e ∷ es)) e before between later sends tx fades out into t.touched t.phase
-              (omega (arith, lqh_weighs s tx (length t.touched) e.taken.to e.taken.body, ap (in_sends (weight tx (length t.touched))) sent)) (λ front u back split. leads u.key (length front))
+              (omega (arith, lqh_weighs s tx (length t.touched) e.step.taken, ap (in_sends (weight tx (length t.touched))) sent)) (λ front u back split. leads u.key (length front))
 
       facts : (n : node.Node) → g ≡ Node n → NodeFacts tx h n
       facts n is = node_facts start tx h (logs_of start es h) n is
 
-      next_now : HostStep tx g e.taken.to e.taken.body (row g e.taken.to e.taken.body).state sends → IsCarried start (logs_of start (e ∷ es)) later tx
+      next_now : HostStep tx g e.step.taken (row g e.step.taken).state sends → IsCarried start (logs_of start (e ∷ es)) later tx
       next_now (rows s home same sent) = rows_now s home same sent
       next_now (shell s is gone silent) = by (cases_eq h tx.tc)
         where
           by : (h ≡ tx.tc) ⊎ (h ≢ tx.tc) → IsCarried start (logs_of start (e ∷ es)) later tx
-          by (inr differs) = quiet_now silent (live_far differs) (λ t there key i. shell_cover s is differs key i e.taken.body refl)
+          by (inr differs) = quiet_now silent (live_far differs) (λ t there key i. shell_cover s is differs key i e.step.taken.body refl)
           by (inl own) =
               quiet_now silent (live_now own ∙ (gone ∙ sym (live_was own ∙ ap (of_host tx) is)))
               (λ t there key i. some_none t (live_at start (logs_of start es) tx) there (live_was own ∙ ap (of_host tx) is))
       next_now (aside n is same silent off none_next) = by (cases_eq h tx.tc)
         where
           by : (h ≡ tx.tc) ⊎ (h ≢ tx.tc) → IsCarried start (logs_of start (e ∷ es)) later tx
-          by (inr differs) = quiet_now silent (live_far differs) (λ t there key i. away_cover tx key i e.taken.to e.taken.body off (far_test differs))
+          by (inr differs) = quiet_now silent (live_far differs) (λ t there key i. away_cover tx key i e.step.taken off (far_test differs))
           by (inl own) =
               quiet_now silent (live_now own ∙ (same ∙ sym (live_was own)))
-              (λ t there key i. aside_cover tx key i e.taken.to e.taken.body off (λ next tc. some_none t (of_host tx g) (sym (live_was own) ∙ there) (none_next next tc)))
+              (λ t there key i. aside_cover tx key i e.step.taken off (λ next tc. some_none t (of_host tx g) (sym (live_was own) ∙ there) (none_next next tc)))
       next_now (begins n is at left silent not_next) = by (cases_eq h tx.tc)
         where
-          off : is_lqh e.taken.to.block ≡ false
+          off : is_lqh e.step.taken.to.block ≡ false
           off = ap is_lqh at
 
           older : h ≡ tx.tc → tx.seq < n.tc.next_seq
           older own = subst (λ (x : host.Host). tx.seq < next_number x) is (subst (λ k. tx.seq < next_number (after start k (logs_of start es k))) (sym own) c.old)
 
           by : (h ≡ tx.tc) ⊎ (h ≢ tx.tc) → IsCarried start (logs_of start (e ∷ es)) later tx
-          by (inr differs) = quiet_now silent (live_far differs) (λ t there key i. away_cover tx key i e.taken.to e.taken.body off (far_test differs))
+          by (inr differs) = quiet_now silent (live_far differs) (λ t there key i. away_cover tx key i e.step.taken off (far_test differs))
           by (inl own) =
               quiet_now silent (live_now own ∙ (left ∙ (begun_older tx n.tc (facts n is).own (older own) ∙ sym (live_was own ∙ ap (of_host tx) is))))
-              (λ t there key i. aside_cover tx key i e.taken.to e.taken.body off (λ next tc. not_both (is_next tx e.taken.body) next not_next))
+              (λ t there key i. aside_cover tx key i e.step.taken off (λ next tc. not_both (is_next tx e.step.taken.body) next not_next))
       next_now (turns n t is at was own_body sent left) = by (cases_eq h tx.tc)
         where
           by : (h ≡ tx.tc) ⊎ (h ≢ tx.tc) → IsCarried start (logs_of start (e ∷ es)) later tx
@@ -362,4 +361,4 @@ module _ (start : Start) (es : List LogStep) (e : LogStep) (come : Comes start e
               carried_now leaves.told (subst (IsLiveAhead start (logs_of start (e ∷ es)) later tx) (sym (live_now own ∙ left)) leaves.live)
 
       pub carried_next : IsCarried start (logs_of start (e ∷ es)) later tx
-      carried_next = next_now (host_step tx g e.taken.to e.taken.body (λ n is. (facts n is).once))
+      carried_next = next_now (host_step tx g e.step.taken (λ n is. (facts n is).once))

@@ -3,13 +3,12 @@ use Rattle.std.proofs.Common.{◌≡◌, ◌⊎◌, ◌≤◌, ◌<◌, ℕ, tru
 use Rattle.std.specs.Prelude.{Option, None, Some}
 use Rattle.run_theory.specs.Lists.{Each}
 use Rattle.run_theory.proofs.Pasts.{each_map}
-use Rattle.sig_core.specs.declared.log.LogStep.{LogStep}
+use Rattle.world_core.specs.Steps.{Addressed, HostStep}
 use Rattle.sig_core.specs.declared.member.Member.{Member}
 use Rattle.sig_core.specs.declared.member.TxId.{TxId}
 use Rattle.sig_core.specs.declared.signal.Body.{Body}
 use Rattle.sig_core.specs.declared.signal.Body.TheVariants.{Chain}
 use Rattle.sig_core.specs.declared.signal.chain.ChainSignal.TheVariants.{Commit, Complete}
-use Rattle.sig_core.specs.declared.signal.Signal.{Signal}
 use Rattle.sig_core.specs.Chain.{last_place, node_at}
 use Rattle.tc_block.specs.declared.phase.Phase.{Phase}
 use Rattle.tc_block.specs.declared.phase.Phase.TheVariants.{Open, Verifying, Committing, Completing, Aborting}
@@ -37,48 +36,48 @@ pub record IsUpTo (chain : List Member) (at h : ℕ) : Type 0 where
   pub is : node_at chain place ≡ h
 
 -- a record of the transaction on the key is prepared at no host
-pub record IsDone (start : Start) (logs : ℕ → List LogStep) (tx : TxId) (key : List ℕ) : Type 0 where
+pub record IsDone (start : Start) (logs : ℕ → List HostStep) (tx : TxId) (key : List ℕ) : Type 0 where
   pub none : (h : ℕ) → HasPrepared tx (at_host start logs key h).cell.pending → ⊥
 
 -- or at these places of a chain alone
-pub record IsSpread (start : Start) (logs : ℕ → List LogStep) (tx : TxId) (key : List ℕ) (chain : List Member) (at : ℕ) : Type 0 where
+pub record IsSpread (start : Start) (logs : ℕ → List HostStep) (tx : TxId) (key : List ℕ) (chain : List Member) (at : ℕ) : Type 0 where
   pub within : (h : ℕ) → HasPrepared tx (at_host start logs key h).cell.pending → IsUpTo chain at h
 
 -- where there is one, the primary has it prepared or has marked its commit
-pub record IsMarked (start : Start) (logs : ℕ → List LogStep) (tx : TxId) (key : List ℕ) : Type 0 where
+pub record IsMarked (start : Start) (logs : ℕ → List HostStep) (tx : TxId) (key : List ℕ) : Type 0 where
   pub marked : (h : ℕ) → HasRecord tx (at_host start logs key h).cell.pending
       → HasPrepared tx (at_host start logs key (primary start key)).cell.pending ⊎ (has_mark (is_applied tx) (logs (primary start key)) ≡ true)
 
 -- a key that it touched
-pub record IsAlong (start : Start) (logs : ℕ → List LogStep) (tx : TxId) (u : Touched) : Type 0 where
+pub record IsAlong (start : Start) (logs : ℕ → List HostStep) (tx : TxId) (u : Touched) : Type 0 where
   pub spread : IsSpread start logs tx u.key u.chain (last_place u.chain)
   pub marked : IsMarked start logs tx u.key
 
 -- It commits, and awaits so many: no more are on their way, and for each key one is, unless the key is done.
-pub record IsGoing (start : Start) (logs : ℕ → List LogStep) (xs : List Signal) (tx : TxId) (touched : List Touched) (awaited : ℕ) : Type 0 where
+pub record IsGoing (start : Start) (logs : ℕ → List HostStep) (xs : List Addressed) (tx : TxId) (touched : List Touched) (awaited : ℕ) : Type 0 where
   pub few : length touched ≤ 512
   pub weighs : in_transit (weight tx (length touched)) xs ≤ awaited
   pub along : Each (IsAlong start logs tx) touched
   pub covered : (front : List Touched) (u : Touched) (back : List Touched) → touched ≡ front ++ u ∷ back → (1 ≤ in_transit (cover tx u.key (length front)) xs) ⊎ IsDone start logs tx u.key
 
-abbrev pub IsAhead : Start → (ℕ → List LogStep) → List Signal → TxId → List Touched → Phase → Type 0
+abbrev pub IsAhead : Start → (ℕ → List HostStep) → List Addressed → TxId → List Touched → Phase → Type 0
 IsAhead start logs xs tx touched (Committing epoch awaited) = IsGoing start logs xs tx touched awaited
 IsAhead start logs xs tx touched (Completing epoch awaited) = Each (λ (u : Touched). IsCommittedAtAll start logs tx u.key) touched
 IsAhead start logs xs tx touched Open = ⊥
 IsAhead start logs xs tx touched Verifying = ⊥
 IsAhead start logs xs tx touched (Aborting why verifying awaited) = ⊥
 
-abbrev pub IsLiveAhead : Start → (ℕ → List LogStep) → List Signal → TxId → Option Transaction → Type 0
+abbrev pub IsLiveAhead : Start → (ℕ → List HostStep) → List Addressed → TxId → Option Transaction → Type 0
 IsLiveAhead start logs xs tx None = Unit {0}
 IsLiveAhead start logs xs tx (Some t) = IsAhead start logs xs tx t.touched t.phase
 
 -- what a signal in transit tells: a commit how far its key is committed, a completion that its key is
-abbrev pub TellsOf : Start → (ℕ → List LogStep) → TxId → Body → Type 0
+abbrev pub TellsOf : Start → (ℕ → List HostStep) → TxId → Body → Type 0
 TellsOf start logs tx body = Tells tx (IsSpread start logs tx) (IsCommittedAtAll start logs tx) body
 
-pub record IsCarried (start : Start) (logs : ℕ → List LogStep) (xs : List Signal) (tx : TxId) : Type 0 where
+pub record IsCarried (start : Start) (logs : ℕ → List HostStep) (xs : List Addressed) (tx : TxId) : Type 0 where
   pub old : tx.seq < next_number (after start tx.tc (logs tx.tc))
-  pub told : Each (λ (x : Signal). TellsOf start logs tx x.body) xs
+  pub told : Each (λ (x : Addressed). TellsOf start logs tx x.signal.body) xs
   pub live : IsLiveAhead start logs xs tx (live_at start logs tx)
 
 pub tells_too : (tx : TxId) (C C2 : List ℕ → List Member → ℕ → Type 0) (D D2 : List ℕ → Type 0) → ((key : List ℕ) (chain : List Member) (at : ℕ) → C key chain at → C2 key chain at)
@@ -88,7 +87,7 @@ tells_too tx C C2 D D2 c d (Chain (Complete other key chain at)) tells = λ e. d
 tells_too tx C C2 D D2 c d _ tells = tt
 
 -- a key that is done and marked is committed
-pub at_all : (start : Start) (logs : ℕ → List LogStep) (tx : TxId) (key : List ℕ) → IsMarked start logs tx key → IsDone start logs tx key → IsCommittedAtAll start logs tx key
+pub at_all : (start : Start) (logs : ℕ → List HostStep) (tx : TxId) (key : List ℕ) → IsMarked start logs tx key → IsDone start logs tx key → IsCommittedAtAll start logs tx key
 at_all start logs tx key m d = record { committed = d.none; applied = λ h r is. by (m.marked h (record { record_is = r; there = is })) }
   where
     by : HasPrepared tx (at_host start logs key (primary start key)).cell.pending ⊎ (has_mark (is_applied tx) (logs (primary start key)) ≡ true) → has_mark (is_applied tx) (logs (primary start key)) ≡ true
@@ -96,7 +95,7 @@ at_all start logs tx key m d = record { committed = d.none; applied = λ h r is.
     by (inr is) = is
 
 -- all that stays so in a step
-module _ (start : Start) (logs now : ℕ → List LogStep) (e : LogStep) (tx : TxId) (f : StepFades start logs now e tx) where
+module _ (start : Start) (logs now : ℕ → List HostStep) (e : HostStep) (tx : TxId) (f : StepFades start logs now e tx) where
   pub done_stays : (key : List ℕ) → IsDone start logs tx key → IsDone start now tx key
   done_stays key d = record { none = λ h p. d.none h (f.prepared key h p) }
 
@@ -109,7 +108,7 @@ module _ (start : Start) (logs now : ℕ → List LogStep) (e : LogStep) (tx : T
       by : HasPrepared tx (at_host start logs key (primary start key)).cell.pending ⊎ (has_mark (is_applied tx) (logs (primary start key)) ≡ true)
           → HasPrepared tx (at_host start now key (primary start key)).cell.pending ⊎ (has_mark (is_applied tx) (now (primary start key)) ≡ true)
       by (inl p) = f.at_primary key p
-      by (inr is) = inr (f.marks (primary start key) is)
+      by (inr is) = inr (f.step.marks (primary start key) is)
 
   pub along_stays : (touched : List Touched) → Each (IsAlong start logs tx) touched → Each (IsAlong start now tx) touched
   along_stays touched all =
@@ -119,7 +118,7 @@ module _ (start : Start) (logs now : ℕ → List LogStep) (e : LogStep) (tx : T
   pub committed_stays : (key : List ℕ) → IsCommittedAtAll start logs tx key → IsCommittedAtAll start now tx key
   committed_stays key c = record {
     committed = λ h p. c.committed h (f.prepared key h p);
-    applied = λ h r is. let was = f.there key h (record { record_is = r; there = is }) in f.marks (primary start key) (c.applied h was.record_is was.there);
+    applied = λ h r is. let was = f.there key h (record { record_is = r; there = is }) in f.step.marks (primary start key) (c.applied h was.record_is was.there);
   }
 
   pub tells_stay : (body : Body) → TellsOf start logs tx body → TellsOf start now tx body

@@ -5,7 +5,7 @@ use Rattle.std.proofs.lemmas.Bool.{cases_lt}
 use Rattle.std.proofs.lemmas.Bool.Decides.{nat_tests}
 use Rattle.run_theory.specs.Lists.{Each}
 use Rattle.run_theory.proofs.Pasts.{each_map}
-use Rattle.sig_core.specs.declared.log.LogStep.{LogStep}
+use Rattle.world_core.specs.Steps.{Addressed, HostStep}
 use Rattle.sig_core.specs.declared.member.TxId.{TxId}
 use Rattle.sig_core.specs.declared.outs.Outgoing.{Outgoing}
 use Rattle.sig_core.specs.declared.place.BlockId.TheVariants as block
@@ -15,8 +15,7 @@ use Rattle.sig_core.specs.declared.signal.Body.TheVariants.{Host, Chain}
 use Rattle.sig_core.specs.declared.signal.chain.ChainSignal.TheVariants.{Committed}
 use Rattle.sig_core.specs.declared.signal.host.HostSignal.TheVariants.{Continue}
 use Rattle.sig_core.specs.declared.signal.host.Work.TheVariants as work
-use Rattle.sig_core.specs.declared.signal.Signal.{Signal}
-use Rattle.sig_core.specs.declared.view.View.{View}
+use Rattle.frag_map.specs.Layout.{Layout}
 use Rattle.sig_core.specs.Chain.{last_place}
 use Rattle.sig_core.specs.Same.{same_tx}
 use Rattle.tc_block.specs.declared.phase.Phase.{Phase}
@@ -64,33 +63,33 @@ late_cover tx key i to one at late = by (is_tc to.block && (to.node == tx.tc)) (
     by true false = refl
     by false b = refl
 
-module _ (start : Start) (logs now : ℕ → List LogStep) (e : LogStep) (before between after : List Signal) (sends : List Outgoing) (tx : TxId) (f : StepFades start logs now e tx)
-    (out : (w : Place → Body → ℕ) → (is_request e.taken.body ≡ true → w e.taken.to e.taken.body ≡ 0) → in_transit w before ≡ w e.taken.to e.taken.body + in_transit w between)
+module _ (start : Start) (logs now : ℕ → List HostStep) (e : HostStep) (before between after : List Addressed) (sends : List Outgoing) (tx : TxId) (f : StepFades start logs now e tx)
+    (out : (w : Place → Body → ℕ) → (is_request e.step.taken.body ≡ true → w e.step.taken ≡ 0) → in_transit w before ≡ w e.step.taken + in_transit w between)
     (into : (w : Place → Body → ℕ) → in_transit w after ≡ in_sends w sends + in_transit w between) where
   abbrev Leads : List Touched → Type 0
   Leads touched =
       (front : List Touched) (u : Touched) (back : List Touched) → touched ≡ front ++ u ∷ back
-      → (cover tx u.key (length front) e.taken.to e.taken.body ≤ in_sends (cover tx u.key (length front)) sends) ⊎ IsDone start now tx u.key
+      → (cover tx u.key (length front) e.step.taken ≤ in_sends (cover tx u.key (length front)) sends) ⊎ IsDone start now tx u.key
 
-  weight_free : (count : ℕ) → is_request e.taken.body ≡ true → weight tx count e.taken.to e.taken.body ≡ 0
-  weight_free count is = part_weight tx count e.taken.to e.taken.body (request_part tx e.taken.body is)
+  weight_free : (count : ℕ) → is_request e.step.taken.body ≡ true → weight tx count e.step.taken ≡ 0
+  weight_free count is = part_weight tx count e.step.taken (request_part tx e.step.taken.body is)
 
-  cover_free : (key : List ℕ) (i : ℕ) → is_request e.taken.body ≡ true → cover tx key i e.taken.to e.taken.body ≡ 0
-  cover_free key i is = part_cover tx key i e.taken.to e.taken.body (request_part tx e.taken.body is)
+  cover_free : (key : List ℕ) (i : ℕ) → is_request e.step.taken.body ≡ true → cover tx key i e.step.taken ≡ 0
+  cover_free key i is = part_cover tx key i e.step.taken (request_part tx e.step.taken.body is)
 
   covered_stays : (touched : List Touched) → Leads touched → ((front : List Touched) (u : Touched) (back : List Touched) → touched ≡ front ++ u ∷ back → (1 ≤ in_transit (cover tx u.key (length front)) before) ⊎ IsDone start logs tx u.key)
       → (front : List Touched) (u : Touched) (back : List Touched) → touched ≡ front ++ u ∷ back → (1 ≤ in_transit (cover tx u.key (length front)) after) ⊎ IsDone start now tx u.key
   covered_stays touched leads was front u back is = by (was front u back is) (leads front u back is)
     where
       by : (1 ≤ in_transit (cover tx u.key (length front)) before) ⊎ IsDone start logs tx u.key
-          → (cover tx u.key (length front) e.taken.to e.taken.body ≤ in_sends (cover tx u.key (length front)) sends) ⊎ IsDone start now tx u.key
+          → (cover tx u.key (length front) e.step.taken ≤ in_sends (cover tx u.key (length front)) sends) ⊎ IsDone start now tx u.key
           → (1 ≤ in_transit (cover tx u.key (length front)) after) ⊎ IsDone start now tx u.key
       by (inr d) more = inr (done_stays start logs now e tx f u.key d)
       by (inl some) (inr d) = inr d
       by (inl some) (inl less) = inl (omega (arith, some, less, out (cover tx u.key (length front)) (cover_free u.key (length front)), into (cover tx u.key (length front))))
 
   -- where what is sent weighs no more than what came, and leads where that led
-  pub ahead_stays : (touched : List Touched) (phase : Phase) → in_sends (weight tx (length touched)) sends ≤ weight tx (length touched) e.taken.to e.taken.body → Leads touched
+  pub ahead_stays : (touched : List Touched) (phase : Phase) → in_sends (weight tx (length touched)) sends ≤ weight tx (length touched) e.step.taken → Leads touched
       → IsAhead start logs before tx touched phase → IsAhead start now after tx touched phase
   ahead_stays touched (Committing epoch awaited) less leads g = record {
     few = g.few;
@@ -119,7 +118,7 @@ module _ (start : Start) (logs now : ℕ → List LogStep) (e : LogStep) (before
 
   -- where nothing of it is sent, and what came led to nothing
   pub silent_stays : (touched : List Touched) (phase : Phase) → AreSilent tx sends
-      → ((front : List Touched) (u : Touched) (back : List Touched) → touched ≡ front ++ u ∷ back → cover tx u.key (length front) e.taken.to e.taken.body ≡ 0)
+      → ((front : List Touched) (u : Touched) (back : List Touched) → touched ≡ front ++ u ∷ back → cover tx u.key (length front) e.step.taken ≡ 0)
       → IsAhead start logs before tx touched phase → IsAhead start now after tx touched phase
   silent_stays touched phase silent none g =
       ahead_stays touched phase (omega (arith, parts_light (length touched) (silent_parts silent))) (λ front u back is. inl (omega (arith, none front u back is))) g
@@ -137,17 +136,17 @@ module _ (start : Start) (logs now : ℕ → List LogStep) (e : LogStep) (before
       subst (λ b. IsLiveAhead start now after tx (if b then None else Some turn.step.state)) (sym over)
       (subst (λ (v : Transaction). IsAhead start now after tx v.touched v.phase) (sym is) g)
 
-  module _ (node : ℕ) (view : View) (t : Transaction) (home : node ≡ tx.tc) (at_tc : e.taken.to.block ≡ block.Tc) (own : same_tx (tx_in e.taken.body) tx ≡ true) where
-    off_rows : is_lqh e.taken.to.block ≡ false
+  module _ (node : ℕ) (layout : Layout) (t : Transaction) (home : node ≡ tx.tc) (at_tc : e.step.taken.to.block ≡ block.Tc) (own : same_tx (tx_in e.step.taken.body) tx ≡ true) where
+    off_rows : is_lqh e.step.taken.to.block ≡ false
     off_rows = ap is_lqh at_tc
 
-    next_none : is_next tx e.taken.body ≡ false → (key : List ℕ) (i : ℕ) → cover tx key i e.taken.to e.taken.body ≡ 0
-    next_none none key i = aside_cover tx key i e.taken.to e.taken.body off_rows (λ next tc. let both : true ≡ false = sym next ∙ none in absurd cc)
+    next_none : is_next tx e.step.taken.body ≡ false → (key : List ℕ) (i : ℕ) → cover tx key i e.step.taken ≡ 0
+    next_none none key i = aside_cover tx key i e.step.taken off_rows (λ next tc. let both : true ≡ false = sym next ∙ none in absurd cc)
 
-    own_cont : (one : TxId) (at : ℕ) → e.taken.body ≡ Host (Continue (work.Transaction one) at) → same_tx one tx ≡ true
+    own_cont : (one : TxId) (at : ℕ) → e.step.taken.body ≡ Host (Continue (work.Transaction one) at) → same_tx one tx ≡ true
     own_cont one at is = ap (λ b. same_tx (tx_in b) tx) (sym is) ∙ own
 
-    own_answer : (one : TxId) (key : List ℕ) → e.taken.body ≡ Chain (Committed one key) → same_tx one tx ≡ true
+    own_answer : (one : TxId) (key : List ℕ) → e.step.taken.body ≡ Chain (Committed one key) → same_tx one tx ≡ true
     own_answer one key is = ap (λ b. same_tx (tx_in b) tx) (sym is) ∙ own
 
     module _ (turn : Turn) (sent : sends ≡ turn.step.effects.sends) where
@@ -162,20 +161,20 @@ module _ (start : Start) (logs now : ℕ → List LogStep) (e : LogStep) (before
         going_now = subst (IsAhead start logs before tx t.touched) (sym phase) g
 
         -- the answer of a commit weighs one and leads nowhere
-        answer_weighs : (one : TxId) (key : List ℕ) → e.taken.body ≡ Chain (Committed one key) → (count : ℕ) → weight tx count e.taken.to e.taken.body ≡ 1
-        answer_weighs one key is count = ap (weight tx count e.taken.to) is ∙ ap one_if (own_answer one key is)
+        answer_weighs : (one : TxId) (key : List ℕ) → e.step.taken.body ≡ Chain (Committed one key) → (count : ℕ) → weight tx count e.step.taken ≡ 1
+        answer_weighs one key is count = ap (weight tx count e.step.taken.to) is ∙ ap one_if (own_answer one key is)
 
-        answer_covers : (one : TxId) (own_key : List ℕ) → e.taken.body ≡ Chain (Committed one own_key) → (key : List ℕ) (i : ℕ) → cover tx key i e.taken.to e.taken.body ≡ 0
-        answer_covers one own_key is key i = ap (cover tx key i e.taken.to) is
+        answer_covers : (one : TxId) (own_key : List ℕ) → e.step.taken.body ≡ Chain (Committed one own_key) → (key : List ℕ) (i : ℕ) → cover tx key i e.step.taken ≡ 0
+        answer_covers one own_key is key i = ap (cover tx key i e.step.taken.to) is
 
         -- with the last answer nothing more is on its way
-        last_done : (one : TxId) (own_key : List ℕ) → e.taken.body ≡ Chain (Committed one own_key) → awaited ≤ 1 → (front : List Touched) (u : Touched) (back : List Touched) → t.touched ≡ front ++ u ∷ back → IsDone start logs tx u.key
+        last_done : (one : TxId) (own_key : List ℕ) → e.step.taken.body ≡ Chain (Committed one own_key) → awaited ≤ 1 → (front : List Touched) (u : Touched) (back : List Touched) → t.touched ≡ front ++ u ∷ back → IsDone start logs tx u.key
         last_done one own_key is last front u back split = by (g.covered front u back split)
           where
             fewer : in_transit (cover tx u.key (length front)) between ≤ in_transit (weight tx (length t.touched)) between
             fewer =
-                weigh_less (λ (x : Signal). cover tx u.key (length front) x.to x.body) (λ (x : Signal). weight tx (length t.touched) x.to x.body) between
-                (λ x. cover_weight tx u.key (length front) (length t.touched) x.to x.body (shorter front u back t.touched split))
+                weigh_less (λ (x : Addressed). cover tx u.key (length front) x.signal.to x.signal.body) (λ (x : Addressed). weight tx (length t.touched) x.signal.to x.signal.body) between
+                (λ x. cover_weight tx u.key (length front) (length t.touched) x.signal.to x.signal.body (shorter front u back t.touched split))
 
             by : (1 ≤ in_transit (cover tx u.key (length front)) before) ⊎ IsDone start logs tx u.key → IsDone start logs tx u.key
             by (inr d) = d
@@ -192,7 +191,7 @@ module _ (start : Start) (logs now : ℕ → List LogStep) (e : LogStep) (before
                   out (cover tx u.key (length front)) (cover_free u.key (length front)),
                 ))
 
-        all_done : (one : TxId) (own_key : List ℕ) → e.taken.body ≡ Chain (Committed one own_key) → awaited ≤ 1 → Each (λ (u : Touched). IsCommittedAtAll start now tx u.key) t.touched
+        all_done : (one : TxId) (own_key : List ℕ) → e.step.taken.body ≡ Chain (Committed one own_key) → awaited ≤ 1 → Each (λ (u : Touched). IsCommittedAtAll start now tx u.key) t.touched
         all_done one own_key is last = both t.touched g.along done
           where
             done : Each (λ (u : Touched). IsDone start logs tx u.key) t.touched
@@ -203,52 +202,52 @@ module _ (start : Start) (logs now : ℕ → List LogStep) (e : LogStep) (before
             both (u ∷ us) a d = (committed_stays start logs now e tx f u.key (at_all start logs tx u.key a.0.marked d.0), both us a.1 d.1)
 
         abbrev PartOf : ℕ → List Outgoing
-        PartOf at = (part_effects node tx (phase_sends view tx (Committing epoch awaited) t.touched) at).sends
+        PartOf at = (part_effects node tx (phase_sends layout tx (Committing epoch awaited) t.touched) at).sends
 
-        sent_part : (at : ℕ) → turn.step.effects.sends ≡ (part_effects node tx (phase_sends view tx t.phase t.touched) at).sends → sends ≡ PartOf at
-        sent_part at is = sent ∙ is ∙ ap (λ ph. (part_effects node tx (phase_sends view tx ph t.touched) at).sends) phase
+        sent_part : (at : ℕ) → turn.step.effects.sends ≡ (part_effects node tx (phase_sends layout tx t.phase t.touched) at).sends → sends ≡ PartOf at
+        sent_part at is = sent ∙ is ∙ ap (λ ph. (part_effects node tx (phase_sends layout tx ph t.touched) at).sends) phase
 
-        part_leads : (one : TxId) (at : ℕ) → e.taken.body ≡ Host (Continue (work.Transaction one) at) → sends ≡ PartOf at → Leads t.touched
+        part_leads : (one : TxId) (at : ℕ) → e.step.taken.body ≡ Host (Continue (work.Transaction one) at) → sends ≡ PartOf at → Leads t.touched
         part_leads one at is part front u back split = inl (by (cases_lt (length front) at))
           where
             few : (b : Bool) → one_if b ≤ 1
             few true = omega arith
             few false = omega arith
 
-            by : (length front < at) ⊎ (at ≤ length front) → cover tx u.key (length front) e.taken.to e.taken.body ≤ in_sends (cover tx u.key (length front)) sends
-            by (inl late) = omega (arith, ap (cover tx u.key (length front) e.taken.to) is, late_cover tx u.key (length front) e.taken.to one at late)
+            by : (length front < at) ⊎ (at ≤ length front) → cover tx u.key (length front) e.step.taken ≤ in_sends (cover tx u.key (length front)) sends
+            by (inl late) = omega (arith, ap (cover tx u.key (length front) e.step.taken.to) is, late_cover tx u.key (length front) e.step.taken.to one at late)
             by (inr low) =
                 omega (
                   arith,
-                  few (covers tx u.key (length front) e.taken.to e.taken.body),
+                  few (covers tx u.key (length front) e.step.taken),
                   ap (in_sends (cover tx u.key (length front))) part,
-                  ap (λ us. in_sends (cover tx u.key (length front)) (part_effects node tx (phase_sends view tx (Committing epoch awaited) us) at).sends) split,
-                  part_covers tx node view epoch awaited at front u back home low,
+                  ap (λ us. in_sends (cover tx u.key (length front)) (part_effects node tx (phase_sends layout tx (Committing epoch awaited) us) at).sends) split,
+                  part_covers tx node layout epoch awaited at front u back home low,
                 )
 
-        part_light : (one : TxId) (at : ℕ) → e.taken.body ≡ Host (Continue (work.Transaction one) at) → sends ≡ PartOf at
-            → in_sends (weight tx (length t.touched)) sends ≤ weight tx (length t.touched) e.taken.to e.taken.body
+        part_light : (one : TxId) (at : ℕ) → e.step.taken.body ≡ Host (Continue (work.Transaction one) at) → sends ≡ PartOf at
+            → in_sends (weight tx (length t.touched)) sends ≤ weight tx (length t.touched) e.step.taken
         part_light one at is part =
             omega (
               arith,
               ap (in_sends (weight tx (length t.touched))) part,
-              part_weighs tx node view epoch awaited at t.touched,
-              ap (weight tx (length t.touched) e.taken.to) is,
+              part_weighs tx node layout epoch awaited at t.touched,
+              ap (weight tx (length t.touched) e.step.taken.to) is,
               ap (λ b. if b then length t.touched - at else 0) (own_cont one at is),
             )
 
         spread_now : Each (λ (u : Touched). IsSpread start now tx u.key u.chain (last_place u.chain)) t.touched
         spread_now = each_map (IsAlong start now tx) (λ (u : Touched). IsSpread start now tx u.key u.chain (last_place u.chain)) t.touched (λ u a. a.spread) (along_stays start logs now e tx f t.touched g.along)
 
-        stop_leads : (one : TxId) (at : ℕ) → e.taken.body ≡ Host (Continue (work.Transaction one) at) → 512 ≤ at → Leads t.touched
+        stop_leads : (one : TxId) (at : ℕ) → e.step.taken.body ≡ Host (Continue (work.Transaction one) at) → 512 ≤ at → Leads t.touched
         stop_leads one at is high front u back split =
             inl (omega (
               arith,
-              ap (cover tx u.key (length front) e.taken.to) is,
-              late_cover tx u.key (length front) e.taken.to one at (omega (arith, high, g.few, shorter front u back t.touched split)),
+              ap (cover tx u.key (length front) e.step.taken.to) is,
+              late_cover tx u.key (length front) e.step.taken.to one at (omega (arith, high, g.few, shorter front u back t.touched split)),
             ))
 
-        committing_leaves : FromCommitting node view tx t awaited e.taken.body turn → TurnLeaves turn
+        committing_leaves : FromCommitting node layout tx t awaited e.step.taken.body turn → TurnLeaves turn
         committing_leaves (ahead.rests over st silent none) = record {
           live = state_leaves turn t over st (silent_stays t.touched t.phase (sent_silent silent) (λ front u back is. next_none none u.key (length front)) going_now);
           told = parts_tell (silent_parts (sent_silent silent));
@@ -261,7 +260,7 @@ module _ (start : Start) (logs now : ℕ → List LogStep) (e : LogStep) (before
         committing_leaves (ahead.goes_on one at is over st part) = record {
           live = state_leaves turn t over st (ahead_stays t.touched t.phase (part_light one at is (sent_part at part)) (part_leads one at is (sent_part at part)) going_now);
           told = subst (Each (λ (o : Outgoing). TellsOf start now tx o.body)) (sym (sent_part at part))
-              (commits_tell tx node view (IsSpread start now tx) (IsCommittedAtAll start now tx) epoch awaited at t.touched spread_now);
+              (commits_tell tx node layout (IsSpread start now tx) (IsCommittedAtAll start now tx) epoch awaited at t.touched spread_now);
         }
         committing_leaves (ahead.counts one key ep is less over st nil) = record {
           live = state_leaves turn (at_phase t (Committing ep (awaited - 1))) over st (record {
@@ -283,14 +282,14 @@ module _ (start : Start) (logs now : ℕ → List LogStep) (e : LogStep) (before
         committing_leaves (ahead.completes one key ep next is last over st part) = record {
           live = state_leaves turn (at_phase t (Completing ep next)) over st (all_done one key is last);
           told = subst (Each (λ (o : Outgoing). TellsOf start now tx o.body)) (sym (sent ∙ part))
-              (completions_tell tx node view (IsSpread start now tx) (IsCommittedAtAll start now tx) ep next 0 t.touched (all_done one key is last));
+              (completions_tell tx node layout (IsSpread start now tx) (IsCommittedAtAll start now tx) ep next 0 t.touched (all_done one key is last));
         }
         committing_leaves (ahead.ends over none) = record {
           live = over_leaves turn over;
           told = parts_tell (subst (Each (λ (o : Outgoing). is_part tx o.body ≡ false)) (sym sent) none);
         }
 
-      completing_leaves : Each (λ (u : Touched). IsCommittedAtAll start logs tx u.key) t.touched → FromCompleting node view tx t turn → TurnLeaves turn
+      completing_leaves : Each (λ (u : Touched). IsCommittedAtAll start logs tx u.key) t.touched → FromCompleting node layout tx t turn → TurnLeaves turn
       completing_leaves all (ahead.still ep next over st silent) = record {
         live = state_leaves turn (at_phase t (Completing ep next)) over st
             (each_map (λ (u : Touched). IsCommittedAtAll start logs tx u.key) (λ (u : Touched). IsCommittedAtAll start now tx u.key) t.touched (λ u c. committed_stays start logs now e tx f u.key c) all);
@@ -301,17 +300,17 @@ module _ (start : Start) (logs now : ℕ → List LogStep) (e : LogStep) (before
           record {
             live = state_leaves turn (at_phase t (Completing ep next)) over st still_all;
             told = subst (Each (λ (o : Outgoing). TellsOf start now tx o.body)) (sym (sent ∙ part))
-                (completions_tell tx node view (IsSpread start now tx) (IsCommittedAtAll start now tx) ep next at t.touched still_all);
+                (completions_tell tx node layout (IsSpread start now tx) (IsCommittedAtAll start now tx) ep next at t.touched still_all);
           }
       completing_leaves all (ahead.over over silent) = record { live = over_leaves turn over; told = parts_tell (silent_parts (sent_silent silent)) }
 
     -- a turn of a transaction that is carried out
-    pub turn_leaves : IsAhead start logs before tx t.touched t.phase → sends ≡ (turn_for node view tx e.taken.body t).step.effects.sends → TurnLeaves (turn_for node view tx e.taken.body t)
+    pub turn_leaves : IsAhead start logs before tx t.touched t.phase → sends ≡ (turn_for node layout tx e.step.taken.body t).step.effects.sends → TurnLeaves (turn_for node layout tx e.step.taken.body t)
     turn_leaves g sent = by t.phase refl g
       where
-        by : (phase : Phase) → t.phase ≡ phase → IsAhead start logs before tx t.touched phase → TurnLeaves (turn_for node view tx e.taken.body t)
-        by (Committing epoch awaited) is g = committing_leaves (turn_for node view tx e.taken.body t) sent epoch awaited is g (from_committing node view tx t epoch awaited is e.taken.body)
-        by (Completing epoch awaited) is g = completing_leaves (turn_for node view tx e.taken.body t) sent g (from_completing node view tx t epoch awaited is e.taken.body)
+        by : (phase : Phase) → t.phase ≡ phase → IsAhead start logs before tx t.touched phase → TurnLeaves (turn_for node layout tx e.step.taken.body t)
+        by (Committing epoch awaited) is g = committing_leaves (turn_for node layout tx e.step.taken.body t) sent epoch awaited is g (from_committing node layout tx t epoch awaited is e.step.taken.body)
+        by (Completing epoch awaited) is g = completing_leaves (turn_for node layout tx e.step.taken.body t) sent g (from_completing node layout tx t epoch awaited is e.step.taken.body)
         by Open is g = absurd g
         by Verifying is g = absurd g
         by (Aborting why verifying awaited) is g = absurd g

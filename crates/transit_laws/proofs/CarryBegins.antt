@@ -3,7 +3,7 @@
 use Rattle.std.proofs.Common.{◌≡◌, ◌≢◌, ◌⊎◌, ℕ, true, false, ◌||◌, List, [], ◌∷◌, refl, sym, ap, ◌∙◌, subst, inl, inr}
 use Rattle.std.specs.List.{list_any}
 use Rattle.std.proofs.lemmas.Bool.{cases_eq, or_left}
-use Rattle.sig_core.specs.declared.log.LogStep.{LogStep}
+use Rattle.world_core.specs.Steps.{HostStep}
 use Rattle.sig_core.specs.declared.member.TxId.{TxId}
 use Rattle.sig_core.specs.declared.outs.Outgoing.{Outgoing}
 use Rattle.sig_core.specs.declared.place.BlockId.{BlockId}
@@ -73,15 +73,15 @@ tc_sends_none (Node n) block.Lqh b off = refl
 tc_sends_none (Node n) block.Dih b off = refl
 tc_sends_none (Node n) _ b off = refl
 
-module _ (start : Start) (es : List LogStep) (e : LogStep) (come : Comes start es e) (tx : TxId) where
+module _ (start : Start) (es : List HostStep) (e : HostStep) (come : Comes start es e) (tx : TxId) where
   abbrev h : ℕ
-  h = e.taken.to.node
+  h = e.host
 
   abbrev g : host.Host
   g = after start h (logs_of start es h)
 
   abbrev said : List Outgoing
-  said = tc_sends g e.taken.to.block e.taken.body
+  said = tc_sends g e.step.taken.to.block e.step.taken.body
 
   -- the coordinator's step
   pub carried_home : h ≡ tx.tc → is_carried_out start (logs_of start (e ∷ es)) tx ≡ list_any (same_tx tx) (put_ways forth_by said (sent_ways start forth_by h (logs_of start es h)))
@@ -106,13 +106,13 @@ module _ (start : Start) (es : List LogStep) (e : LogStep) (come : Comes start e
       by (inl same) = carried_home same ∙ (silent_forth tx said (sent_ways start forth_by h (logs_of start es h)) silent ∙ sym (carried_was same))
       by (inr differs) = ap (λ log. list_any (same_tx tx) (sent_ways start forth_by tx.tc log)) (now_other start es e come tx.tc differs)
 
-  pub said_none : ((e.taken.to.block ≡ block.Tc) → ⊥) → AreSilent tx said
-  said_none off = subst (AreSilent tx) (sym (tc_sends_none g e.taken.to.block e.taken.body off)) tt
+  pub said_none : ((e.step.taken.to.block ≡ block.Tc) → ⊥) → AreSilent tx said
+  said_none off = subst (AreSilent tx) (sym (tc_sends_none g e.step.taken.to.block e.step.taken.body off)) tt
 
-  pub said_is : (n : node.Node) → g ≡ Node n → e.taken.to.block ≡ block.Tc → said ≡ (row g e.taken.to e.taken.body).effects.sends
-  said_is n is at = ap (λ x. tc_sends x e.taken.to.block e.taken.body) is ∙ (tc_sends_are n e.taken.to e.taken.body at ∙ sym (ap (λ x. (row x e.taken.to e.taken.body).effects.sends) is))
+  pub said_is : (n : node.Node) → g ≡ Node n → e.step.taken.to.block ≡ block.Tc → said ≡ (row g e.step.taken).effects.sends
+  said_is n is at = ap (λ x. tc_sends x e.step.taken.to.block e.step.taken.body) is ∙ (tc_sends_are n e.step.taken at ∙ sym (ap (λ x. (row x e.step.taken).effects.sends) is))
 
-  pub said_shell : (x : host.Host) → ((n : node.Node) → x ≡ Node n → ⊥) → tc_sends x e.taken.to.block e.taken.body ≡ []
+  pub said_shell : (x : host.Host) → ((n : node.Node) → x ≡ Node n → ⊥) → tc_sends x e.step.taken.to.block e.step.taken.body ≡ []
   said_shell (Shell s) none = refl
   said_shell (Node n) none = absurd (none n refl)
 

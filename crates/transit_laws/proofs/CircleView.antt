@@ -24,7 +24,7 @@ use Rattle.transit_laws.proofs.KeyTokens.{Token, answers, performs, refuses}
 use Rattle.transit_laws.proofs.OthersStay.{filter-end}
 
 -- what its primary answered, and whether it ended there; at each host its record and its requests that wait
-pub record View : Type 0 where
+pub record Layout : Type 0 where
   pub made : List (Op × Answer)
   pub ended : Bool
   pub rec : ℕ → Option PendingRecord
@@ -38,7 +38,7 @@ pub record HasIt (image : Option (List ℕ)) (o : Option PendingRecord) : Type 0
   pub image_is : is_record.image ≡ image
 
 -- one has the records and answers of the other
-pub record IsAs (v w : View) : Type 0 where
+pub record IsAs (v w : Layout) : Type 0 where
   pub made : w.made ≡ v.made
   pub ended : w.ended ≡ v.ended
   pub rec : (h : ℕ) → w.rec h ≡ v.rec h
@@ -52,7 +52,7 @@ is_write op = is_done op.1
 
 module _ (start : Start) (key : List ℕ) where
   -- the key is settled for these operations
-  pub record Settles (v : View) (ops : List (Op × Answer)) : Type 0 where
+  pub record Settles (v : Layout) (ops : List (Op × Answer)) : Type 0 where
     pub made : v.made ≡ ops_on key ops
     pub alive : v.ended ≡ false
     pub agreed : (h : ℕ) → IsReplica start key h → Agree (v.rec (primary start key)) (v.rec h)
@@ -60,7 +60,7 @@ module _ (start : Start) (key : List ℕ) where
     pub written : is_some (v.rec (primary start key)) ≡ list_any (λ (op : Op × Answer). is_done op.1) (ops_on key ops)
 
   -- an operation's image is prepared at the places below this one
-  pub record Stores (v : View) (at : ℕ) (image : Option (List ℕ)) (op : Op) (ops : List (Op × Answer)) : Type 0 where
+  pub record Stores (v : Layout) (at : ℕ) (image : Option (List ℕ)) (op : Op) (ops : List (Op × Answer)) : Type 0 where
     pub made : v.made ≡ ops_on key (ops ++ (op, Done) ∷ [])
     pub alive : v.ended ≡ false
     pub prepared : (j : ℕ) → j < at → HasIt image (v.rec (node_at (replicas start key) j))
@@ -77,25 +77,25 @@ module _ (start : Start) (key : List ℕ) where
     pub op : Op
     pub asks : IsAsked t op
 
-  pub record IsStoring (v : View) (t : Transaction) (image : Option (List ℕ)) (at : ℕ) : Type 0 where
+  pub record IsStoring (v : Layout) (t : Transaction) (image : Option (List ℕ)) (at : ℕ) : Type 0 where
     pub op : Op
     pub asks : IsAsked t op
     pub stores : Stores v at image op t.ops
 
-  pub record IsAnswered (v : View) (t : Transaction) (answer : Answer) : Type 0 where
+  pub record IsAnswered (v : Layout) (t : Transaction) (answer : Answer) : Type 0 where
     pub op : Op
     pub asks : IsAsked t op
     pub settles : Settles v (t.ops ++ (op, answer) ∷ [])
 
   -- what a token tells
-  abbrev pub Tells : View → Transaction → Token → Type 0
+  abbrev pub Tells : Layout → Transaction → Token → Type 0
   Tells v t (performs (Operate op) at) = Settles v t.ops × IsAsked t op
   Tells v t (performs (Store own image) at) = IsStoring v t image at
   Tells v t (answers answer) = IsAnswered v t answer
   Tells v t refuses = IsAskedHere t ⊎ Settles v t.ops
 
   -- the same of what is as before
-  pub settles_as : (v w : View) (ops : List (Op × Answer)) → IsAs v w → Settles v ops → Settles w ops
+  pub settles_as : (v w : Layout) (ops : List (Op × Answer)) → IsAs v w → Settles v ops → Settles w ops
   settles_as v w ops like s = record {
     made = like.made ∙ s.made;
     alive = like.ended ∙ s.alive;
@@ -107,7 +107,7 @@ module _ (start : Start) (key : List ℕ) where
   has_as : (image : Option (List ℕ)) (a b : Option PendingRecord) → b ≡ a → HasIt image a → HasIt image b
   has_as image a b is has = record { is_record = has.is_record; there = is ∙ has.there; alive = has.alive; image_is = has.image_is }
 
-  stores_as : (v w : View) (at : ℕ) (image : Option (List ℕ)) (op : Op) (ops : List (Op × Answer)) → IsAs v w → Stores v at image op ops → Stores w at image op ops
+  stores_as : (v w : Layout) (at : ℕ) (image : Option (List ℕ)) (op : Op) (ops : List (Op × Answer)) → IsAs v w → Stores v at image op ops → Stores w at image op ops
   stores_as v w at image op ops like s = record {
     made = like.made ∙ s.made;
     alive = like.ended ∙ s.alive;
@@ -115,7 +115,7 @@ module _ (start : Start) (key : List ℕ) where
     others = λ h off. like.rec h ∙ s.others h off;
   }
 
-  pub tells_as : (v w : View) (t : Transaction) (token : Token) → IsAs v w → Tells v t token → Tells w t token
+  pub tells_as : (v w : Layout) (t : Transaction) (token : Token) → IsAs v w → Tells v t token → Tells w t token
   tells_as v w t (performs (Operate op) at) like tells = (settles_as v w t.ops like tells.0, tells.1)
   tells_as v w t (performs (Store own image) at) like tells = record { op = tells.op; asks = tells.asks; stores = stores_as v w at image tells.op t.ops like tells.stores }
   tells_as v w t (answers answer) like tells = record { op = tells.op; asks = tells.asks; settles = settles_as v w (t.ops ++ (tells.op, answer) ∷ []) like tells.settles }
@@ -129,7 +129,7 @@ module _ (start : Start) (key : List ℕ) where
   pub ops_other : (ops : List (Op × Answer)) (op : Op × Answer) → same_key (key_of op.0) key ≡ false → ops_on key (ops ++ op ∷ []) ≡ ops_on key ops
   ops_other ops op off = filter-end (λ (op : Op × Answer). same_key (key_of op.0) key) ops op false off
 
-  pub settles_other : (v : View) (ops : List (Op × Answer)) (op : Op × Answer) → same_key (key_of op.0) key ≡ false → Settles v ops → Settles v (ops ++ op ∷ [])
+  pub settles_other : (v : Layout) (ops : List (Op × Answer)) (op : Op × Answer) → same_key (key_of op.0) key ≡ false → Settles v ops → Settles v (ops ++ op ∷ [])
   settles_other v ops op off s = record {
     made = s.made ∙ sym (ops_other ops op off);
     alive = s.alive;
@@ -154,7 +154,7 @@ module _ (start : Start) (key : List ℕ) where
   or_true false b is = ap (λ b. b || false) is
 
   -- The primary answers an operation that isn't a write that takes effect.
-  pub answers_settle : (v w : View) (ops : List (Op × Answer)) (op : Op) (answer : Answer) → Settles v ops → same_key (key_of op) key ≡ true → is_done answer ≡ false
+  pub answers_settle : (v w : Layout) (ops : List (Op × Answer)) (op : Op) (answer : Answer) → Settles v ops → same_key (key_of op) key ≡ true → is_done answer ≡ false
       → w.made ≡ v.made ++ (op, answer) ∷ [] → w.ended ≡ v.ended → ((h : ℕ) → w.rec h ≡ v.rec h) → Settles w (ops ++ (op, answer) ∷ [])
   answers_settle v w ops op answer s here plain made ended rec = record {
     made = made ∙ ap (λ xs. xs ++ (op, answer) ∷ []) s.made ∙ sym (ops_own ops (op, answer) here);
@@ -166,7 +166,7 @@ module _ (start : Start) (key : List ℕ) where
   }
 
   -- It prepares the image of a write.
-  pub writes_store : (v w : View) (ops : List (Op × Answer)) (op : Op) (image : Option (List ℕ)) → Settles v ops → same_key (key_of op) key ≡ true → 0 < length (replicas start key)
+  pub writes_store : (v w : Layout) (ops : List (Op × Answer)) (op : Op) (image : Option (List ℕ)) → Settles v ops → same_key (key_of op) key ≡ true → 0 < length (replicas start key)
       → w.made ≡ v.made ++ (op, Done) ∷ [] → w.ended ≡ v.ended → HasIt image (w.rec (primary start key)) → ((h : ℕ) → h ≢ primary start key → w.rec h ≡ v.rec h)
       → Stores w 1 image op ops
   writes_store v w ops op image s here some made ended has rec = record {
@@ -177,7 +177,7 @@ module _ (start : Start) (key : List ℕ) where
   }
 
   -- The next place prepares it too.
-  pub next_stores : (v w : View) (at : ℕ) (ops : List (Op × Answer)) (op : Op) (image : Option (List ℕ)) (h : ℕ) → Stores v at image op ops → at < length (replicas start key) → h ≡ node_at (replicas start key) at
+  pub next_stores : (v w : Layout) (at : ℕ) (ops : List (Op × Answer)) (op : Op) (image : Option (List ℕ)) (h : ℕ) → Stores v at image op ops → at < length (replicas start key) → h ≡ node_at (replicas start key) at
       → w.made ≡ v.made → w.ended ≡ v.ended → HasIt image (w.rec h) → ((g : ℕ) → g ≢ h → w.rec g ≡ v.rec g)
       → Stores w (at + 1) image op ops
   next_stores v w at ops op image h s inside place made ended has rec = record {
@@ -196,7 +196,7 @@ module _ (start : Start) (key : List ℕ) where
           below (inr differs) = omega (arith, low, differs)
 
   -- At the last place the write is done.
-  pub last_settles : (v : View) (at : ℕ) (ops : List (Op × Answer)) (op : Op) (image : Option (List ℕ)) → Stores v at image op ops → same_key (key_of op) key ≡ true → 0 < at → length (replicas start key) ≤ at
+  pub last_settles : (v : Layout) (at : ℕ) (ops : List (Op × Answer)) (op : Op) (image : Option (List ℕ)) → Stores v at image op ops → same_key (key_of op) key ≡ true → 0 < at → length (replicas start key) ≤ at
       → Settles v (ops ++ (op, Done) ∷ [])
   last_settles v at ops op image s here some past = record {
     made = s.made;

@@ -16,7 +16,7 @@ use Rattle.sig_core.specs.declared.signal.client.ClientSignal.TheVariants.{TcKey
 use Rattle.sig_core.specs.declared.signal.epoch.EpochSignal.TheVariants.{DiVerifyConf}
 use Rattle.sig_core.specs.declared.signal.host.HostSignal.TheVariants.{Continue}
 use Rattle.sig_core.specs.declared.signal.host.Work.TheVariants as work
-use Rattle.sig_core.specs.declared.view.View.{View}
+use Rattle.frag_map.specs.Layout.{Layout}
 use Rattle.sig_core.specs.Same.{same_tx}
 use Rattle.tc_block.specs.declared.phase.Asked.{Asked}
 use Rattle.tc_block.specs.declared.phase.Phase.{Phase}
@@ -24,7 +24,7 @@ use Rattle.tc_block.specs.declared.phase.Phase.TheVariants.{Open, Verifying, Com
 use Rattle.tc_block.specs.declared.touched.Touched.{Touched}
 use Rattle.tc_block.specs.declared.transaction.Transaction.{Transaction}
 use Rattle.tc_block.specs.Abort as abort
-use Rattle.tc_block.specs.Chain.{chain_of}
+use Rattle.frag_map.specs.Layout.{chain_of}
 use Rattle.tc_block.specs.Commit as commit
 use Rattle.tc_block.specs.Complete as complete
 use Rattle.tc_block.specs.Operate as operate
@@ -52,53 +52,53 @@ pub record Aborts (tx : TxId) (sends : List Outgoing) : Type 0 where
   pub is : sends ≡ first ∷ more
   pub aborts : is_back tx first.body ≡ true
 
-pub data Begins (node : ℕ) (view : View) (tx : TxId) (t : Transaction) (turn : Turn) : Type 0 where
-  silent : AreSilent tx turn.step.effects.sends → Begins node view tx t turn
-  ends : turn.over ≡ true → Each (λ (o : Outgoing). is_part tx o.body ≡ false) turn.step.effects.sends → Begins node view tx t turn
-  backs : Aborts tx turn.step.effects.sends → Begins node view tx t turn
+pub data Begins (node : ℕ) (layout : Layout) (tx : TxId) (t : Transaction) (turn : Turn) : Type 0 where
+  silent : AreSilent tx turn.step.effects.sends → Begins node layout tx t turn
+  ends : turn.over ≡ true → Each (λ (o : Outgoing). is_part tx o.body ≡ false) turn.step.effects.sends → Begins node layout tx t turn
+  backs : Aborts tx turn.step.effects.sends → Begins node layout tx t turn
   commits : (epoch : ℕ) → t.phase ≡ Verifying → turn.over ≡ false → turn.step.state ≡ at_phase t (Committing epoch (length t.touched))
-      → turn.step.effects.sends ≡ (part_effects node tx (phase_sends view tx (Committing epoch (length t.touched)) t.touched) 0).sends → Begins node view tx t turn
+      → turn.step.effects.sends ≡ (part_effects node tx (phase_sends layout tx (Committing epoch (length t.touched)) t.touched) 0).sends → Begins node layout tx t turn
 
-module _ (node : ℕ) (view : View) (tx : TxId) where
+module _ (node : ℕ) (layout : Layout) (tx : TxId) where
   -- what an abort sends first
   all_back : (why : AbortCause) (verifying : Bool) (awaited : ℕ) (touched : List Touched)
-      → Each (λ (o : Outgoing). is_back tx o.body ≡ true) (phase_sends view tx (Aborting why verifying awaited) touched)
+      → Each (λ (o : Outgoing). is_back tx o.body ≡ true) (phase_sends layout tx (Aborting why verifying awaited) touched)
   unfolding phase_sends front_sends key_sends
   all_back why verifying awaited touched =
-      each_flat (λ (o : Outgoing). is_back tx o.body ≡ true) (key_sends view tx (Aborting why verifying awaited)) touched
-      (λ u. each_mapped (λ (o : Outgoing). is_back tx o.body ≡ true) (abort_of tx u.key) (chain_of view u.key) (λ r. same_tx-self tx))
+      each_flat (λ (o : Outgoing). is_back tx o.body ≡ true) (key_sends layout tx (Aborting why verifying awaited)) touched
+      (λ u. each_mapped (λ (o : Outgoing). is_back tx o.body ≡ true) (abort_of tx u.key) (chain_of layout u.key) (λ r. same_tx-self tx))
 
-  part_back : (t : Transaction) (turn : Turn) (xs : List Outgoing) → Each (λ (o : Outgoing). is_back tx o.body ≡ true) xs → turn.step.effects.sends ≡ (part_effects node tx xs 0).sends → Begins node view tx t turn
+  part_back : (t : Transaction) (turn : Turn) (xs : List Outgoing) → Each (λ (o : Outgoing). is_back tx o.body ≡ true) xs → turn.step.effects.sends ≡ (part_effects node tx xs 0).sends → Begins node layout tx t turn
   unfolding part_effects
   part_back t turn [] all is = silent (subst (AreSilent tx) (sym is) tt)
   part_back t turn (x ∷ xs) all is =
       backs (record { first = x; more = take 7 xs ++ rest_if node tx 0 (nat_lt (0 + 8) (length (x ∷ xs))); is = is; aborts = all.0 })
 
-  enter_back : (t own : Transaction) (why : AbortCause) (verifying : Bool) (awaited : ℕ) → Begins node view tx own (going (entering node view tx t (Aborting why verifying awaited)))
+  enter_back : (t own : Transaction) (why : AbortCause) (verifying : Bool) (awaited : ℕ) → Begins node layout tx own (going (entering node layout tx t (Aborting why verifying awaited)))
   unfolding entering
-  enter_back t own why verifying awaited = part_back own _ (phase_sends view tx (Aborting why verifying awaited) t.touched) (all_back why verifying awaited t.touched) refl
+  enter_back t own why verifying awaited = part_back own _ (phase_sends layout tx (Aborting why verifying awaited) t.touched) (all_back why verifying awaited t.touched) refl
 
   end_silent : (why : AbortCause) (b : Bool) → AreSilent tx (abort.abort_end node tx why b)
   end_silent why true = (refl, (refl, tt))
   end_silent why false = (refl, tt)
 
-  abort_begins : (t own : Transaction) (why : AbortCause) → Begins node view tx own (abort.aborted_for node view tx t why)
+  abort_begins : (t own : Transaction) (why : AbortCause) → Begins node layout tx own (abort.aborted_for node layout tx t why)
   unfolding abort.aborted_for
-  abort_begins t own why = by (abort.aborts_awaited view t == 0)
+  abort_begins t own why = by (abort.aborts_awaited layout t == 0)
     where
-      by : (b : Bool) → Begins node view tx own (abort.abort_if node view tx t why b)
+      by : (b : Bool) → Begins node layout tx own (abort.abort_if node layout tx t why b)
       by true = silent (end_silent why (abort.is_verifying t.phase))
-      by false = enter_back t own why (abort.is_verifying t.phase) (abort.aborts_awaited view t)
+      by false = enter_back t own why (abort.is_verifying t.phase) (abort.aborts_awaited layout t)
 
   module _ (t : Transaction) where
     abbrev B : Turn → Type 0
-    B turn = Begins node view tx t turn
+    B turn = Begins node layout tx t turn
 
-    operate_begins : (op : Op) → B (going (operate.operate_row view tx t op))
+    operate_begins : (op : Op) → B (going (operate.operate_row layout tx t op))
     unfolding operate.operate_row
     operate_begins op = by (operate.can_operate t op)
       where
-        by : (b : Bool) → B (going (operate.operate_if view tx t op b))
+        by : (b : Bool) → B (going (operate.operate_if layout tx t op b))
         by true = silent (refl, tt)
         by false = silent tt
 
@@ -110,14 +110,14 @@ module _ (node : ℕ) (view : View) (tx : TxId) where
         by true = silent (refl, tt)
         by false = silent tt
 
-    late_silent : (key : List ℕ) → AreSilent tx (operate.late_answer view tx t key).effects.sends
-    late_silent key = each_mapped (λ (o : Outgoing). is_sign tx o.body ≡ false) (abort_of tx key) (chain_of view key) (λ r. refl)
+    late_silent : (key : List ℕ) → AreSilent tx (operate.late_answer layout tx t key).effects.sends
+    late_silent key = each_mapped (λ (o : Outgoing). is_sign tx o.body ≡ false) (abort_of tx key) (chain_of layout key) (λ r. refl)
 
-    answer_begins : (key : List ℕ) (answer : Answer) → B (going (operate.answer_row view tx t key answer))
+    answer_begins : (key : List ℕ) (answer : Answer) → B (going (operate.answer_row layout tx t key answer))
     unfolding operate.answer_row
     answer_begins key answer = by (operate.asked_on t.asked key) t.phase
       where
-        by : (asked : Option Asked) (phase : Phase) → B (going (operate.answer_by view tx t key answer asked phase))
+        by : (asked : Option Asked) (phase : Phase) → B (going (operate.answer_by layout tx t key answer asked phase))
         by (Some asked) Open = silent (refl, tt)
         by (Some asked) (Aborting why verifying awaited) = silent (late_silent key)
         by (Some asked) Verifying = silent tt
@@ -125,11 +125,11 @@ module _ (node : ℕ) (view : View) (tx : TxId) where
         by (Some asked) (Completing epoch awaited) = silent tt
         by None phase = silent tt
 
-    refuse_begins : (key : List ℕ) (why : AbortCause) → B (abort.refuse_row node view tx t key why)
+    refuse_begins : (key : List ℕ) (why : AbortCause) → B (abort.refuse_row node layout tx t key why)
     unfolding abort.refuse_row
     refuse_begins key why = by (operate.asked_on t.asked key) t.phase
       where
-        by : (asked : Option Asked) (phase : Phase) → B (abort.refuse_by node view tx t key why asked phase)
+        by : (asked : Option Asked) (phase : Phase) → B (abort.refuse_by node layout tx t key why asked phase)
         by (Some asked) Open = abort_begins (asking t None) t why
         by (Some asked) (Aborting other verifying awaited) = silent (late_silent key)
         by (Some asked) Verifying = silent tt
@@ -137,11 +137,11 @@ module _ (node : ℕ) (view : View) (tx : TxId) where
         by (Some asked) (Completing epoch awaited) = silent tt
         by None phase = silent tt
 
-    rollback_begins : B (abort.rollback_row node view tx t)
+    rollback_begins : B (abort.rollback_row node layout tx t)
     unfolding abort.rollback_row
     rollback_begins = by t.phase
       where
-        by : (phase : Phase) → B (abort.rollback_by node view tx t phase)
+        by : (phase : Phase) → B (abort.rollback_by node layout tx t phase)
         by Open = abort_begins t t cause.Request
         by Verifying = abort_begins t t cause.Request
         by (Committing epoch awaited) = silent tt
@@ -186,31 +186,31 @@ module _ (node : ℕ) (view : View) (tx : TxId) where
         some : (n : ℕ) → (suc n == 0) ≡ true → ⊥
         some n q = omega (arith, eqb-true (suc n) 0 q)
 
-    commit_begins : (epoch : ℕ) → B (commit.commit_row node view tx t epoch)
+    commit_begins : (epoch : ℕ) → B (commit.commit_row node layout tx t epoch)
     unfolding commit.commit_row complete.all_committed entering
     commit_begins epoch = by t.phase refl
       where
-        all : (b : Bool) → b ≡ true → B (complete.all_committed_if node view tx t epoch b)
+        all : (b : Bool) → b ≡ true → B (complete.all_committed_if node layout tx t epoch b)
         all true e = ends refl (refl, (refl, tt))
         all false e = absurd cc
 
-        which : t.phase ≡ Verifying → (b : Bool) → (length t.touched == 0) ≡ b → B (commit.commit_if node view tx t epoch b)
+        which : t.phase ≡ Verifying → (b : Bool) → (length t.touched == 0) ≡ b → B (commit.commit_if node layout tx t epoch b)
         which is true e = all (complete.written_count t.touched == 0) (none_written t.touched e)
         which is false e = commits epoch is refl refl refl
 
-        by : (phase : Phase) → t.phase ≡ phase → B (commit.commit_by node view tx t epoch phase)
+        by : (phase : Phase) → t.phase ≡ phase → B (commit.commit_by node layout tx t epoch phase)
         by Verifying is = which is (length t.touched == 0) refl
         by Open is = silent tt
         by (Committing e awaited) is = silent tt
         by (Completing e awaited) is = silent tt
         by (Aborting why verifying awaited) is = silent tt
 
-    pub turn_begins : (body : Body) → same_tx (tx_in body) tx ≡ true → is_part tx body ≡ false → B (turn_for node view tx body t)
+    pub turn_begins : (body : Body) → same_tx (tx_in body) tx ≡ true → is_part tx body ≡ false → B (turn_for node layout tx body t)
     turn_begins (Host (Continue (work.Transaction one) at)) same none = not_both (same_tx one tx) same none
     turn_begins (Client (TcKeyReq one op)) same none = operate_begins op
     turn_begins (Client (TcCommitReq one)) same none = decide_begins
     turn_begins (Client (TcRollbackReq one)) same none = rollback_begins
-    turn_begins (Client (TcWaitReq one)) same none = silent (wait_silent node view tx t)
+    turn_begins (Client (TcWaitReq one)) same none = silent (wait_silent node layout tx t)
     turn_begins (Chain (LqhKeyConf one key answer)) same none = answer_begins key answer
     turn_begins (Chain (LqhKeyRef one key why)) same none = refuse_begins key why
     turn_begins (Chain (Committed one key)) same none = not_both (same_tx one tx) same none

@@ -2,9 +2,8 @@
 use Rattle.std.proofs.Common.{◌≡◌, ℕ, Bool, true, false, List, ◌∷◌, refl, ap, subst}
 use Rattle.run_theory.proofs.Runs.{log_of-past}
 use Rattle.run_theory.specs.Lists.{IsPast}
-use Rattle.sig_core.specs.declared.log.LogStep.{LogStep}
+use Rattle.world_core.specs.Steps.{Addressed, HostStep}
 use Rattle.sig_core.specs.declared.member.TxId.{TxId}
-use Rattle.sig_core.specs.declared.signal.Signal.{Signal}
 use Rattle.node_core.specs.Requests.{is_request}
 use Rattle.world_core.specs.Machine.{machine, signals_of}
 use Rattle.world_core.specs.Start.{Start}
@@ -25,20 +24,20 @@ use Rattle.transit_laws.proofs.Weighing.{each_taken, in_transit}
 
 -- Along a run: of a transaction that is carried out all holds that is to hold; and where one is neither carried out nor given up,
 -- nothing is on its way that commits or completes its rows.
-pub record IsUnderWay (start : Start) (tx : TxId) (es : List LogStep) (xs : List Signal) : Type 0 where
+pub record IsUnderWay (start : Start) (tx : TxId) (es : List HostStep) (xs : List Addressed) : Type 0 where
   pub carried : is_carried_out start (logs_of start es) tx ≡ true → IsCarried start (logs_of start es) xs tx
   pub silent : is_carried_out start (logs_of start es) tx ≡ false → is_given_up start (logs_of start es) tx ≡ false → in_transit (part tx) xs ≡ 0
 
 module _ (start : Start) (tx : TxId) where
-  next : (es : List LogStep) (e : LogStep) (before between : List Signal) → Comes start es e → AreInTransit start es before → IsUnderWay start tx es before → Takes e before between
-      → IsUnderWay start tx (e ∷ es) (joined (signals_of start e.taken.to.node (logs_of start es e.taken.to.node) e) between)
+  next : (es : List HostStep) (e : HostStep) (before between : List Addressed) → Comes start es e → AreInTransit start es before → IsUnderWay start tx es before → Takes e before between
+      → IsUnderWay start tx (e ∷ es) (joined (signals_of start e.host (logs_of start es e.host) e) between)
   next es e before between come transit u takes = by (is_carried_out start (logs_of start es) tx) refl (is_given_up start (logs_of start es) tx) refl
     where
       past : (h : ℕ) → IsPast (logs_of start es h) (logs_of start (e ∷ es) h)
       past h = log_of-past (machine start) e es h
 
       by : (c : Bool) → is_carried_out start (logs_of start es) tx ≡ c → (g : Bool) → is_given_up start (logs_of start es) tx ≡ g
-          → IsUnderWay start tx (e ∷ es) (joined (signals_of start e.taken.to.node (logs_of start es e.taken.to.node) e) between)
+          → IsUnderWay start tx (e ∷ es) (joined (signals_of start e.host (logs_of start es e.host) e) between)
       by true is g free = record {
         carried = λ now. carried_next start es e come before between takes tx is (carried_out_have_none start es before tx come.before transit is) (u.carried is);
         silent = λ off given. not_both (is_carried_out start (logs_of start (e ∷ es)) tx) (carried_more start (logs_of start es) (logs_of start (e ∷ es)) tx past is) off;
@@ -53,7 +52,7 @@ module _ (start : Start) (tx : TxId) where
             silent = λ off free. not_both (is_given_up start (logs_of start (e ∷ es)) tx) given_now free;
           }
 
-  pub under_way : (es : List LogStep) (xs : List Signal) → IsRun start es → AreInTransit start es xs → IsUnderWay start tx es xs
+  pub under_way : (es : List HostStep) (xs : List Addressed) → IsRun start es → AreInTransit start es xs → IsUnderWay start tx es xs
   under_way es xs run transit = along_transit start (IsUnderWay start tx) (record { carried = λ is. absurd cc; silent = λ off free. refl }) next es xs run transit
 
 pub completions_follow_commits : CompletionsFollowCommits
@@ -62,4 +61,4 @@ completions_follow_commits start es e tx key chain at come is =
     let carried = completions_are_of_carried_out start es e tx key chain at come is in
     let told = ((under_way start tx es t.before come.before t.transit).carried carried).told in
     subst (TellsOf start (logs_of start es) tx) is
-    (each_taken (λ (x : Signal). TellsOf start (logs_of start es) tx x.body) e t.before t.between (ap is_request is) t.takes told) (same_tx-self tx)
+    (each_taken (λ (x : Addressed). TellsOf start (logs_of start es) tx x.signal.body) e t.before t.between (ap is_request is) t.takes told) (same_tx-self tx)

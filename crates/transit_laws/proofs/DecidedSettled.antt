@@ -3,6 +3,7 @@ use Rattle.std.proofs.Common.{◌≡◌, List, [], ◌∷◌, ◌++◌, refl, sy
 use Rattle.run_theory.proofs.Pasts.{each_in}
 use Rattle.run_theory.proofs.Runs.{log_of-own}
 use Rattle.run_theory.specs.Lists.{IsIn}
+use Rattle.world_core.specs.Steps.{Addressed}
 use Rattle.sig_core.specs.declared.member.TxId.{TxId}
 use Rattle.sig_core.specs.declared.op.Answer.{Answer}
 use Rattle.sig_core.specs.declared.op.Op.{Op}
@@ -11,7 +12,6 @@ use Rattle.sig_core.specs.declared.signal.Body.TheVariants.{Client, Chain, Epoch
 use Rattle.sig_core.specs.declared.signal.chain.ChainSignal.TheVariants.{Commit}
 use Rattle.sig_core.specs.declared.signal.client.ClientSignal.TheVariants.{TcBeginConf, TcCommitReq, TcCommitConf}
 use Rattle.sig_core.specs.declared.signal.epoch.EpochSignal.TheVariants.{DiVerifyReq, DiVerifyConf}
-use Rattle.sig_core.specs.declared.signal.Signal.{Signal}
 use Rattle.node_core.specs.Requests.{is_request}
 use Rattle.world_core.specs.Machine.{machine}
 use Rattle.commit_laws.proofs.CausalFacts.{DecidesAt, DecidesRightly}
@@ -39,28 +39,28 @@ asks_for tx (Client (TcCommitConf other epoch)) is = absurd cc
 asks_for tx (Chain (Commit other key epoch chain at)) is = absurd cc
 asks_for tx _ is = absurd cc
 
-taken_in : (x : Signal) (front back : List Signal) → IsIn x (front ++ x ∷ back)
+taken_in : (x : Addressed) (front back : List Addressed) → IsIn x (front ++ x ∷ back)
 taken_in x [] back = inl refl
 taken_in x (y ∷ front) back = inr (taken_in x front back)
 
 pub decided_settled : DecidedAreSettled
-decided_settled start es e tx come marked kept = from (asks_for tx e.taken.body at.took)
+decided_settled start es e tx come marked kept = from (asks_for tx e.step.taken.body at.took)
   where
     at : DecidesAt (logs_of start (e ∷ es)) e tx
     at =
-        each_in (DecidesRightly (logs_of start (e ∷ es))) e (logs_of start (e ∷ es) e.taken.to.node)
-        ((run_is_causal start (e ∷ es) come.now).decisions e.taken.to.node)
-        (subst (IsIn e) (sym (log_of-own (machine start) e es e.taken.to.node refl)) (inl refl)) tx marked
+        each_in (DecidesRightly (logs_of start (e ∷ es))) e (logs_of start (e ∷ es) e.host)
+        ((run_is_causal start (e ∷ es) come.now).decisions e.host)
+        (subst (IsIn e) (sym (log_of-own (machine start) e es e.host refl)) (inl refl)) tx marked
 
-    from : AsksFor tx e.taken.body → IsDecidedWith start (logs_of start es) e tx
+    from : AsksFor tx e.step.taken.body → IsDecidedWith start (logs_of start es) e tx
     from asks =
         let all = runs_have_transit start (e ∷ es) come.now in
         let before = all.1.0 in
         let in_transit = all.1.1.0 in
         let taken = all.1.1.1.takes.signal (ap is_request asks.is) in
-        let own : IsOfWaiting start (logs_of start es) e.taken.body =
-        each_in (λ (x : Signal). IsOfWaiting start (logs_of start es) x.body) e.taken before (who_asks_waits start es before come.before in_transit)
-        (subst (IsIn e.taken) (sym taken.is) (taken_in e.taken taken.front taken.back)) in
+        let own : IsOfWaiting start (logs_of start es) e.step.taken.body =
+        each_in (λ (x : Addressed). IsOfWaiting start (logs_of start es) x.signal.body) e.step.taken before (who_asks_waits start es before come.before in_transit)
+        (subst (IsIn e.step.taken) (sym taken.is) (taken_in e.step.taken taken.front taken.back)) in
         let has = subst (IsOfWaiting start (logs_of start es)) asks.is own kept in
         record {
           ops = asks.ops;

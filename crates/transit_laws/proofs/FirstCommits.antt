@@ -4,14 +4,13 @@ use Rattle.std.specs.Prelude.{if◌then◌else◌, None, Some}
 use Rattle.std.proofs.lemmas.Bool.{cases_eq}
 use Rattle.run_theory.specs.Lists.{Each}
 use Rattle.run_theory.proofs.Pasts.{each_map}
-use Rattle.sig_core.specs.declared.log.LogStep.{LogStep}
+use Rattle.world_core.specs.Steps.{Addressed, HostStep}
 use Rattle.sig_core.specs.declared.member.TxId.{TxId}
 use Rattle.sig_core.specs.declared.outs.Outgoing.{Outgoing}
 use Rattle.sig_core.specs.declared.place.BlockId.{BlockId}
 use Rattle.sig_core.specs.declared.place.BlockId.TheVariants as block
 use Rattle.sig_core.specs.declared.place.Place.{Place}
 use Rattle.sig_core.specs.declared.signal.Body.{Body}
-use Rattle.sig_core.specs.declared.signal.Signal.{Signal}
 use Rattle.sig_core.specs.Chain.{last_place}
 use Rattle.sig_core.specs.Same.{same_tx}
 use Rattle.api_block.specs.State.{ApiState}
@@ -81,7 +80,7 @@ off_part tx b none = by (is_part tx b) refl
     by false e = e
 
 -- no transaction touches more keys than this
-few_touched : (start : Start) (tx : TxId) → 1 ≤ start.nodes → (h : ℕ) (log : List LogStep) (n : node.Node) → after start h log ≡ Node n → Each (λ (e : TxId × Transaction). length e.1.touched ≤ 64) n.tc.live
+few_touched : (start : Start) (tx : TxId) → 1 ≤ start.shape.nodes → (h : ℕ) (log : List HostStep) (n : node.Node) → after start h log ≡ Node n → Each (λ (e : TxId × Transaction). length e.1.touched ≤ 64) n.tc.live
 few_touched start tx some zero log n is = absurd (other (shell_after start log).state (sym (shell_after start log).is ∙ is))
   where
     other : (s : ApiState) → Shell s ≡ Node n → ⊥
@@ -89,7 +88,7 @@ few_touched start tx some zero log n is = absurd (other (shell_after start log).
 few_touched start tx some (suc h) log n is =
     let known = node_is start some tx h log in
     subst (λ (m : node.Node). Each (λ (e : TxId × Transaction). length e.1.touched ≤ 64) m.tc.live) (same_node known.state n (sym known.is ∙ is))
-    (each_map (λ (e : TxId × Transaction). IsKnown (start.nodes + 1) e.1) (λ (e : TxId × Transaction). length e.1.touched ≤ 64) known.state.tc.live (λ e k. k.few) known.known)
+    (each_map (λ (e : TxId × Transaction). IsKnown (hosts start) e.1) (λ (e : TxId × Transaction). length e.1.touched ≤ 64) known.state.tc.live (λ e k. k.few) known.known)
 
 is_home : (b : BlockId) → (b ≡ block.Tc) ⊎ ((b ≡ block.Tc) → ⊥)
 is_home block.Tc = inl refl
@@ -98,10 +97,10 @@ is_home block.Dih = inr (λ e. cc)
 is_home block.Api = inr (λ e. cc)
 is_home _ = inr (λ e. cc)
 
-module _ (start : Start) (es : List LogStep) (e : LogStep) (come : Comes start es e) (before between : List Signal) (transit : AreInTransit start es before) (takes : Takes e before between)
+module _ (start : Start) (es : List HostStep) (e : HostStep) (come : Comes start es e) (before between : List Addressed) (transit : AreInTransit start es before) (takes : Takes e before between)
     (tx : TxId) (uncarried : is_carried_out start (logs_of start es) tx ≡ false) (ungiven : is_given_up start (logs_of start es) tx ≡ false) (none : in_transit (part tx) before ≡ 0) where
   abbrev h : ℕ
-  h = e.taken.to.node
+  h = e.host
 
   abbrev g : host.Host
   g = after start h (logs_of start es h)
@@ -109,19 +108,19 @@ module _ (start : Start) (es : List LogStep) (e : LogStep) (come : Comes start e
   abbrev sends : List Outgoing
   sends = (step_after start h (logs_of start es h) e).effects.sends
 
-  abbrev later : List Signal
+  abbrev later : List Addressed
   later = joined (signals_of start h (logs_of start es h) e) between
 
-  out : in_transit (part tx) before ≡ part tx e.taken.to e.taken.body + in_transit (part tx) between
-  out = takes_weigh (part tx) e before between (λ is. ap one_if (request_part tx e.taken.body is)) takes
+  out : in_transit (part tx) before ≡ part tx e.step.taken + in_transit (part tx) between
+  out = takes_weigh (part tx) e before between (λ is. ap one_if (request_part tx e.step.taken.body is)) takes
 
-  no_part : is_part tx e.taken.body ≡ false
-  no_part = off_part tx e.taken.body (omega (arith, out, none))
+  no_part : is_part tx e.step.taken.body ≡ false
+  no_part = off_part tx e.step.taken.body (omega (arith, out, none))
 
-  between_none : Each (λ (x : Signal). is_part tx x.body ≡ false) between
+  between_none : Each (λ (x : Addressed). is_part tx x.signal.body ≡ false) between
   between_none =
-      each_map (λ (x : Signal). one_if (is_part tx x.body) ≡ 0) (λ (x : Signal). is_part tx x.body ≡ false) between (λ x z. off_part tx x.body z)
-      (none_weighs (λ (x : Signal). one_if (is_part tx x.body)) between (omega (arith, out, none)))
+      each_map (λ (x : Addressed). one_if (is_part tx x.signal.body) ≡ 0) (λ (x : Addressed). is_part tx x.signal.body ≡ false) between (λ x z. off_part tx x.signal.body z)
+      (none_weighs (λ (x : Addressed). one_if (is_part tx x.signal.body)) between (omega (arith, out, none)))
 
   -- what the step leaves
   pub record IsFirst : Type 0 where
@@ -149,26 +148,26 @@ module _ (start : Start) (es : List LogStep) (e : LogStep) (come : Comes start e
   light_of silent = each_map (λ (o : Outgoing). is_sign tx o.body ≡ false) (λ (o : Outgoing). is_part tx o.body ≡ false) sends (λ o f. sign_part tx o.body f) silent
 
   node_unsaid : (n : node.Node) → g ≡ Node n → AreSilent tx sends → IsFirst
-  node_unsaid n is silent = by (is_home e.taken.to.block)
+  node_unsaid n is silent = by (is_home e.step.taken.to.block)
     where
-      by : (e.taken.to.block ≡ block.Tc) ⊎ ((e.taken.to.block ≡ block.Tc) → ⊥) → IsFirst
+      by : (e.step.taken.to.block ≡ block.Tc) ⊎ ((e.step.taken.to.block ≡ block.Tc) → ⊥) → IsFirst
       by (inl at) = unsaid (light_of silent) (carried_silent start es e come tx (subst (AreSilent tx) (sym (said_is start es e come tx n is at)) silent))
       by (inr off) = unsaid (light_of silent) (carried_silent start es e come tx (said_none start es e come tx off))
 
-  told_later : Each (λ (o : Outgoing). TellsOf start (logs_of start (e ∷ es)) tx o.body) sends → Each (λ (x : Signal). TellsOf start (logs_of start (e ∷ es)) tx x.body) later
+  told_later : Each (λ (o : Outgoing). TellsOf start (logs_of start (e ∷ es)) tx o.body) sends → Each (λ (x : Addressed). TellsOf start (logs_of start (e ∷ es)) tx x.signal.body) later
   told_later sent =
       each_joins (λ to b. TellsOf start (logs_of start (e ∷ es)) tx b) start h (logs_of start es h) e between sent
-      (each_map (λ (x : Signal). is_part tx x.body ≡ false) (λ (x : Signal). TellsOf start (logs_of start (e ∷ es)) tx x.body) between
-      (λ x f. part_tells tx (IsSpread start (logs_of start (e ∷ es)) tx) (IsCommittedAtAll start (logs_of start (e ∷ es)) tx) x.body f) between_none)
+      (each_map (λ (x : Addressed). is_part tx x.signal.body ≡ false) (λ (x : Addressed). TellsOf start (logs_of start (e ∷ es)) tx x.signal.body) between
+      (λ x f. part_tells tx (IsSpread start (logs_of start (e ∷ es)) tx) (IsCommittedAtAll start (logs_of start (e ∷ es)) tx) x.signal.body f) between_none)
 
   -- a turn of the transaction
-  module _ (n : node.Node) (t : Transaction) (is : g ≡ Node n) (at : e.taken.to.block ≡ block.Tc) (was : of_host tx g ≡ Some t) (own : same_tx (tx_in e.taken.body) tx ≡ true)
-      (sent : sends ≡ (turn_for n.tc.node n.tc.view tx e.taken.body t).step.effects.sends) (left : of_host tx (row g e.taken.to e.taken.body).state ≡ left_by (turn_for n.tc.node n.tc.view tx e.taken.body t)) where
+  module _ (n : node.Node) (t : Transaction) (is : g ≡ Node n) (at : e.step.taken.to.block ≡ block.Tc) (was : of_host tx g ≡ Some t) (own : same_tx (tx_in e.step.taken.body) tx ≡ true)
+      (sent : sends ≡ (turn_for n.tc.node n.tc.view tx e.step.taken.body t).step.effects.sends) (left : of_host tx (row g e.step.taken).state ≡ left_by (turn_for n.tc.node n.tc.view tx e.step.taken.body t)) where
     facts : NodeFacts tx h n
     facts = node_facts start tx h (logs_of start es h) n is
 
     abbrev turn_is : Turn
-    turn_is = turn_for n.tc.node n.tc.view tx e.taken.body t
+    turn_is = turn_for n.tc.node n.tc.view tx e.step.taken.body t
 
     -- what holds of each of the coordinator's transactions holds of it
     of_is : (P : TxId → Transaction → Type 0) → Each (λ (x : TxId × Transaction). P x.0 x.1) n.tc.live → P tx t
@@ -185,7 +184,7 @@ module _ (start : Start) (es : List LogStep) (e : LogStep) (come : Comes start e
 
     live_now : live_at start (logs_of start (e ∷ es)) tx ≡ left_by turn_is
     live_now =
-        subst (λ k. of_host tx (after start k (logs_of start (e ∷ es) k)) ≡ of_host tx (row g e.taken.to e.taken.body).state) same
+        subst (λ k. of_host tx (after start k (logs_of start (e ∷ es) k)) ≡ of_host tx (row g e.step.taken).state) same
         (ap (λ log. of_host tx (after start h log)) (now_own start es e come)) ∙ left
 
     live_was : live_at start (logs_of start es) tx ≡ Some t
@@ -195,13 +194,13 @@ module _ (start : Start) (es : List LogStep) (e : LogStep) (come : Comes start e
     old_now =
         subst (λ k. tx.seq < next_number (after start k (logs_of start (e ∷ es) k))) same
         (subst (λ log. tx.seq < next_number (after start h log)) (sym (now_own start es e come))
-        (omega (arith, number_rises g e.taken.to e.taken.body, ap next_number is, own_is.early)))
+        (omega (arith, number_rises g e.step.taken, ap next_number is, own_is.early)))
 
     -- no row is touched
     at_same : (key : List ℕ) (k : ℕ) → at_host start (logs_of start (e ∷ es)) key k ≡ at_host start (logs_of start es) key k
     at_same key k = by (cases_eq h k)
       where
-        rest : (x : host.Host) → x ≡ Node n → (b : BlockId) → b ≡ block.Tc → event_in key x (record { node = e.taken.to.node; block = b }) e.taken.body ≡ rests
+        rest : (x : host.Host) → x ≡ Node n → (b : BlockId) → b ≡ block.Tc → event_in key x (record { node = e.host; block = b }) e.step.taken.body ≡ rests
         rest (Shell s) x_is b b_is = absurd (let other : Shell s ≡ Node n = x_is in cc)
         rest (Node m) x_is block.Tc b_is = refl
         rest (Node m) x_is block.Lqh b_is = absurd cc
@@ -212,7 +211,7 @@ module _ (start : Start) (es : List LogStep) (e : LogStep) (come : Comes start e
         by (inr differs) = ap (λ log. key_in key (after start k log)) (now_other start es e come k differs)
         by (inl own_host) =
             subst (λ j. at_host start (logs_of start (e ∷ es)) key j ≡ at_host start (logs_of start es) key j) own_host
-            (ap (λ log. key_in key (after start h log)) (now_own start es e come) ∙ (logs_follow start h (logs_of start es h) e key ∙ ap (λ ev. key_after ev (key_in key g)) (rest g is e.taken.to.block at)))
+            (ap (λ log. key_in key (after start h log)) (now_own start es e come) ∙ (logs_follow start h (logs_of start es h) e key ∙ ap (λ ev. key_after ev (key_in key g)) (rest g is e.step.taken.to.block at)))
 
     fades : StepFades start (logs_of start es) (logs_of start (e ∷ es)) e tx
     fades = record {
@@ -267,8 +266,8 @@ module _ (start : Start) (es : List LogStep) (e : LogStep) (come : Comes start e
             joins_weigh (weight tx (length t.touched)) start h (logs_of start es h) e between,
             ap (in_sends (weight tx (length t.touched))) part_is,
             part_weighs tx n.tc.node n.tc.view epoch (length t.touched) 0 t.touched,
-            weigh_none (λ (x : Signal). weight tx (length t.touched) x.to x.body) between
-                (each_map (λ (x : Signal). is_part tx x.body ≡ false) (λ (x : Signal). weight tx (length t.touched) x.to x.body ≡ 0) between (λ x f. part_weight tx (length t.touched) x.to x.body f) between_none),
+            weigh_none (λ (x : Addressed). weight tx (length t.touched) x.signal.to x.signal.body) between
+                (each_map (λ (x : Addressed). is_part tx x.signal.body ≡ false) (λ (x : Addressed). weight tx (length t.touched) x.signal.to x.signal.body ≡ 0) between (λ x f. part_weight tx (length t.touched) x.signal.to x.signal.body f) between_none),
           );
           along = along phase;
           covered = λ front u back split. inl (omega (
@@ -280,7 +279,7 @@ module _ (start : Start) (es : List LogStep) (e : LogStep) (come : Comes start e
           ));
         }
 
-    said_sends : tc_sends g e.taken.to.block e.taken.body ≡ sends
+    said_sends : tc_sends g e.step.taken.to.block e.step.taken.body ≡ sends
     said_sends = said_is start es e come tx n is at
 
     -- with keys it is carried out then; without one there is nothing to send
@@ -319,17 +318,17 @@ module _ (start : Start) (es : List LogStep) (e : LogStep) (come : Comes start e
     }
 
     its_turn : IsFirst
-    its_turn = turn_first (turn_begins n.tc.node n.tc.view tx t e.taken.body own no_part)
+    its_turn = turn_first (turn_begins n.tc.node n.tc.view tx t e.step.taken.body own no_part)
 
-  first_by : HostStep tx g e.taken.to e.taken.body (row g e.taken.to e.taken.body).state sends → IsFirst
+  first_by : HostStep tx g e.step.taken (row g e.step.taken).state sends → IsFirst
   first_by (shell s is gone silent) =
       unsaid (light_of silent) (carried_silent start es e come tx (subst (AreSilent tx) (sym (said_shell start es e come tx g (λ n q. let other : Shell s ≡ Node n = sym is ∙ q in absurd cc))) tt))
   first_by (aside n is same silent off next) = node_unsaid n is silent
   first_by (begins n is at left silent next) = node_unsaid n is silent
   first_by (rows s at same sent) =
-      unsaid (subst (Each (λ (o : Outgoing). is_part tx o.body ≡ false)) (sym sent) (lqh_silent s tx e.taken.body no_part))
+      unsaid (subst (Each (λ (o : Outgoing). is_part tx o.body ≡ false)) (sym sent) (lqh_silent s tx e.step.taken.body no_part))
       (carried_silent start es e come tx (said_none start es e come tx (λ q. let other : block.Lqh ≡ block.Tc = sym at ∙ q in absurd cc)))
   first_by (turns n t is at was own sent left) = its_turn n t is at was own sent left
 
   pub first_next : IsFirst
-  first_next = first_by (host_step tx g e.taken.to e.taken.body (λ n is. (node_facts start tx h (logs_of start es h) n is).once))
+  first_next = first_by (host_step tx g e.step.taken (λ n is. (node_facts start tx h (logs_of start es h) n is).once))

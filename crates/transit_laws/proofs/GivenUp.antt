@@ -4,7 +4,7 @@ use Rattle.std.proofs.lemmas.Bool.{or_cases}
 use Rattle.std.specs.List.{list_any}
 use Rattle.std.specs.Prelude.{◌||◌}
 use Rattle.run_theory.specs.Lists.{Each}
-use Rattle.sig_core.specs.declared.log.LogStep.{LogStep}
+use Rattle.world_core.specs.Steps.{HostStep}
 use Rattle.sig_core.specs.declared.mark.Mark.{Mark}
 use Rattle.sig_core.specs.declared.mark.Mark.TheVariants.{Applied, Reported}
 use Rattle.sig_core.specs.declared.member.TxId.{TxId}
@@ -12,7 +12,7 @@ use Rattle.sig_core.specs.declared.outcome.Outcome.TheVariants as outcome
 use Rattle.sig_core.specs.Same.{same_tx}
 use Rattle.row_locks.proofs.TxLemmas.{same_tx-is, same_tx-swap}
 use Rattle.world_core.specs.History.{is_applied, is_reported}
-use Rattle.world_core.specs.Machine.{hosts}
+use Rattle.world_core.specs.Hosts.{hosts}
 use Rattle.world_core.specs.Marks.{has_mark, have_mark}
 use Rattle.world_core.specs.Start.{Start}
 use Rattle.commit_laws.specs.Ways.{back_by, forth_by, sent_ways, way_of}
@@ -56,7 +56,7 @@ completions_are_of_carried_out start es e tx key chain at come is =
     let t = taking start es e come in
     subst (λ w. IsTold start (logs_of start es) w) (ap way_of is) (taken_told start es e t.before t.between come t.transit t.takes)
 
-module _ (start : Start) (logs : ℕ → List LogStep) (tx : TxId) where
+module _ (start : Start) (logs : ℕ → List HostStep) (tx : TxId) where
   -- a mark that passes a test is of a transaction that is carried out, if each such mark is
   abbrev Shows : (Mark → Bool) → Type 0
   Shows test = (m : Mark) → test m ≡ true → IsMarkTold start logs m → is_carried_out start logs tx ≡ true
@@ -69,15 +69,15 @@ module _ (start : Start) (logs : ℕ → List LogStep) (tx : TxId) where
       by (inl own) rest = shows m own all.0
       by (inr more) rest = rest more
 
-  log_carried : (test : Mark → Bool) → Shows test → (log : List LogStep) → Each (λ (e : LogStep). Each (IsMarkTold start logs) e.marks) log → has_mark test log ≡ true → is_carried_out start logs tx ≡ true
+  log_carried : (test : Mark → Bool) → Shows test → (log : List HostStep) → Each (λ (e : HostStep). Each (IsMarkTold start logs) e.step.marks) log → has_mark test log ≡ true → is_carried_out start logs tx ≡ true
   log_carried test shows [] all is = absurd cc
-  log_carried test shows (e ∷ log) all is = by (or_cases (list_any test e.marks) (has_mark test log) is) (log_carried test shows log all.1)
+  log_carried test shows (e ∷ log) all is = by (or_cases (list_any test e.step.marks) (has_mark test log) is) (log_carried test shows log all.1)
     where
-      by : (list_any test e.marks ≡ true) ⊎ (has_mark test log ≡ true) → (has_mark test log ≡ true → is_carried_out start logs tx ≡ true) → is_carried_out start logs tx ≡ true
-      by (inl own) rest = marked_carried test shows e.marks all.0 own
+      by : (list_any test e.step.marks ≡ true) ⊎ (has_mark test log ≡ true) → (has_mark test log ≡ true → is_carried_out start logs tx ≡ true) → is_carried_out start logs tx ≡ true
+      by (inl own) rest = marked_carried test shows e.step.marks all.0 own
       by (inr more) rest = rest more
 
-  hosts_carried : (test : Mark → Bool) → Shows test → (n : ℕ) → ((h : ℕ) → Each (λ (e : LogStep). Each (IsMarkTold start logs) e.marks) (logs h)) → have_mark test n logs ≡ true → is_carried_out start logs tx ≡ true
+  hosts_carried : (test : Mark → Bool) → Shows test → (n : ℕ) → ((h : ℕ) → Each (λ (e : HostStep). Each (IsMarkTold start logs) e.step.marks) (logs h)) → have_mark test n logs ≡ true → is_carried_out start logs tx ≡ true
   hosts_carried test shows zero all is = absurd cc
   hosts_carried test shows (suc n) all is = by (or_cases (has_mark test (logs n)) (have_mark test n logs) is) (hosts_carried test shows n all)
     where
@@ -94,13 +94,13 @@ module _ (start : Start) (logs : ℕ → List LogStep) (tx : TxId) where
   reported_shows (Reported other (outcome.Aborted why)) own told = absurd cc
   reported_shows _ own told = absurd cc
 
-  kept_carried : ((h : ℕ) → Each (λ (e : LogStep). Each (IsMarkTold start logs) e.marks) (logs h))
+  kept_carried : ((h : ℕ) → Each (λ (e : HostStep). Each (IsMarkTold start logs) e.step.marks) (logs h))
       → (have_mark (is_applied tx) (hosts start) logs ≡ true) ⊎ (have_mark (is_reported tx) (hosts start) logs ≡ true) → is_carried_out start logs tx ≡ true
   kept_carried all (inl is) = hosts_carried (is_applied tx) applied_shows (hosts start) all is
   kept_carried all (inr is) = hosts_carried (is_reported tx) reported_shows (hosts start) all is
 
 -- what was applied or reported committed is carried out
-pub kept_are_carried_out : (start : Start) (es : List LogStep) (tx : TxId) → IsRun start es
+pub kept_are_carried_out : (start : Start) (es : List HostStep) (tx : TxId) → IsRun start es
     → (have_mark (is_applied tx) (hosts start) (logs_of start es) || have_mark (is_reported tx) (hosts start) (logs_of start es)) ≡ true
     → is_carried_out start (logs_of start es) tx ≡ true
 kept_are_carried_out start es tx run kept =

@@ -14,19 +14,19 @@ use Rattle.sig_core.specs.declared.signal.Body.{Body}
 use Rattle.sig_core.specs.declared.signal.Body.TheVariants.{Epoch}
 use Rattle.sig_core.specs.declared.signal.epoch.EpochSignal.TheVariants.{DiVerifyReq, DiVerifyConf}
 use Rattle.sig_core.specs.Same.{same_tx}
-use Rattle.api_block.specs.Api.{api_row}
+use Rattle.api_block.specs.Api.{api_table}
 use Rattle.api_block.specs.State.{ApiState}
-use Rattle.lqh_block.specs.Lqh.{lqh_row}
+use Rattle.lqh_block.specs.Lqh.{lqh_table}
 use Rattle.lqh_block.specs.State.{LqhState}
 use Rattle.tc_block.specs.declared.transaction.Transaction.{Transaction}
 use Rattle.tc_block.specs.Operate.{fresh}
 use Rattle.tc_block.specs.State.{TcState}
-use Rattle.tc_block.specs.Tc.{next_tx, tc_row}
+use Rattle.tc_block.specs.Tc.{next_tx, tc_table}
 use Rattle.tc_block.specs.Turn.{Turn}
 use Rattle.node_core.specs.declared.host.Host.{Host}
 use Rattle.node_core.specs.declared.host.Host.TheVariants.{Shell, Node}
 use Rattle.node_core.specs.declared.node.Node as node
-use Rattle.node_core.specs.Dih.{DihState, decide_if, decide_row, dih_row}
+use Rattle.node_core.specs.Dih.{DihState, decide_if, decide_row, dih_table}
 use Rattle.node_core.specs.Row.{node_row, row, shell_row}
 use Rattle.commit_laws.specs.Ways.{tc_sends}
 use Rattle.answer_laws.proofs.LqhSends.{lqh_kinds}
@@ -77,16 +77,16 @@ module _ (tx : TxId) where
   mute_pass : (body : Body) (sends : List Outgoing) → AreMute sends → PassesOn body sends
   mute_pass body sends mute = none_pass body sends (mute_none tx sends mute)
 
-  api_pass : (s : ApiState) (body : Body) → PassesOn body (api_row s body).effects.sends
-  api_pass s body = mute_pass body (api_row s body).effects.sends (api_each (λ (o : Outgoing). is_mute o.body ≡ true) (λ o is. plain o.body is) (λ name node. refl) s body)
+  api_pass : (s : ApiState) (body : Body) → PassesOn body (api_table s body).effects.sends
+  api_pass s body = mute_pass body (api_table s body).effects.sends (api_each (λ (o : Outgoing). is_mute o.body ≡ true) (λ o is. plain o.body is) (λ name node. refl) s body)
     where
       plain : (b : Body) → is_api_kind b ≡ true → is_mute b ≡ true
       plain (Epoch (DiVerifyReq other ops)) is = absurd cc
       plain (Epoch (DiVerifyConf other epoch)) is = absurd cc
       plain _ is = refl
 
-  lqh_pass : (s : LqhState) (body : Body) → PassesOn body (lqh_row s body).effects.sends
-  lqh_pass s body = mute_pass body (lqh_row s body).effects.sends (each_of is_lqh_kind (λ (o : Outgoing). is_mute o.body ≡ true) (λ o is. plain o.body is) (lqh_row s body).effects.sends (lqh_kinds s body))
+  lqh_pass : (s : LqhState) (body : Body) → PassesOn body (lqh_table s body).effects.sends
+  lqh_pass s body = mute_pass body (lqh_table s body).effects.sends (each_of is_lqh_kind (λ (o : Outgoing). is_mute o.body ≡ true) (λ o is. plain o.body is) (lqh_table s body).effects.sends (lqh_kinds s body))
     where
       plain : (b : Body) → is_lqh_kind b ≡ true → is_mute b ≡ true
       plain (Epoch (DiVerifyReq other ops)) is = absurd cc
@@ -101,7 +101,7 @@ module _ (tx : TxId) where
   unfolding decide_row
   verify_pass s one ops = decide_pass s one ops (nat_lt (length s.counted) 64)
 
-  dih_pass : (s : DihState) (body : Body) → PassesOn body (dih_row s body).effects.sends
+  dih_pass : (s : DihState) (body : Body) → PassesOn body (dih_table s body).effects.sends
   dih_pass s (Epoch (DiVerifyReq one ops)) = verify_pass s one ops
   dih_pass s _ = none_pass _ [] refl
 
@@ -118,7 +118,7 @@ module _ (tx : TxId) where
         → tc_sends s at body ≡ turn.step.effects.sends → (IsUnborn tx.seq after → IsUnborn tx.seq s) → AskTurn tx body t turn → GoesOn tx body t turn → HostAsks s at body after sends
     begun : (n : node.Node) → s ≡ Node n → next_tx n.tc ≡ tx → of_host tx after ≡ Some fresh → in_sends (ask tx) sends ≡ 0 → HostAsks s at body after sends
 
-  tc_step : (n : node.Node) (body : Body) (after : TcState) (sends : List Outgoing) → (tc_row n.tc body).effects.sends ≡ sends → n.tc.next_seq ≤ after.next_seq → AskSeen tx n.tc body after sends
+  tc_step : (n : node.Node) (body : Body) (after : TcState) (sends : List Outgoing) → (tc_table n.tc body).effects.sends ≡ sends → n.tc.next_seq ≤ after.next_seq → AskSeen tx n.tc body after sends
       → HostAsks (Node n) block.Tc body (Node (record { tc = after; dih = n.dih; lqh = n.lqh })) sends
   tc_step n body after sends own grows (asks.same live none) = leaves (record { passes = none_pass body sends none; live = live; unborn = λ low. omega (arith, low, grows) })
   tc_step n body after sends own grows (asks.turned t turn was is sent ask_turn goes) = turned n t turn refl was is sent (own ∙ sent) (λ low. omega (arith, low, grows)) ask_turn goes
@@ -128,7 +128,7 @@ module _ (tx : TxId) where
   unfolding node_row
   node_asks n block.Tc body home =
       let sees = tc_ask_sees tx n.tc home.own home.once body in
-      tc_step n body (tc_row n.tc body).state (tc_row n.tc body).effects.sends refl sees.grows sees.seen
+      tc_step n body (tc_table n.tc body).state (tc_table n.tc body).effects.sends refl sees.grows sees.seen
   node_asks n block.Dih body home = leaves (record { passes = dih_pass n.dih body; live = refl; unborn = λ low. low })
   node_asks n block.Lqh body home = leaves (record { passes = lqh_pass n.lqh body; live = refl; unborn = λ low. low })
   node_asks n _ body home = leaves (record { passes = none_pass body [] refl; live = refl; unborn = λ low. low })

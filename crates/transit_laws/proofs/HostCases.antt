@@ -3,7 +3,7 @@ use Rattle.std.proofs.Common.{◌≡◌, ◌⊎◌, ◌≤◌, inl, inr, ℕ, ze
 use Rattle.std.proofs.lemmas.Bool.{and_parts, eqb-true}
 use Rattle.std.specs.Prelude.{if◌then◌else◌, nat_eq, None, Some}
 use Rattle.run_theory.specs.Lists.{Each}
-use Rattle.sig_core.specs.declared.log.LogStep.{LogStep}
+use Rattle.world_core.specs.Steps.{HostStep}
 use Rattle.sig_core.specs.declared.member.TxId.{TxId}
 use Rattle.sig_core.specs.declared.outs.Outgoing.{Outgoing}
 use Rattle.sig_core.specs.declared.place.BlockId.{BlockId}
@@ -16,16 +16,16 @@ use Rattle.sig_core.specs.Same.{same_key, same_tx}
 use Rattle.api_block.specs.State.{ApiState}
 use Rattle.row_locks.proofs.TxLemmas.{same_tx-is}
 use Rattle.lqh_block.specs.declared.request.Request.{Request}
-use Rattle.lqh_block.specs.Lqh.{lqh_row}
+use Rattle.lqh_block.specs.Lqh.{lqh_table}
 use Rattle.lqh_block.specs.State.{LqhState}
 use Rattle.lqh_block.specs.Work.{work_key}
 use Rattle.node_core.specs.declared.host.Host as host
 use Rattle.node_core.specs.declared.host.Host.TheVariants.{Shell, Node}
 use Rattle.node_core.specs.declared.node.Node as node
-use Rattle.node_core.specs.Dih.{dih_row}
+use Rattle.node_core.specs.Dih.{dih_table}
 use Rattle.node_core.specs.Row.{in_lqh, in_node, in_tc, node_row, row, shell_row}
 use Rattle.tc_block.specs.declared.transaction.Transaction.{Transaction}
-use Rattle.tc_block.specs.Tc.{tc_row}
+use Rattle.tc_block.specs.Tc.{tc_table}
 use Rattle.world_core.specs.Machine.{after}
 use Rattle.world_core.specs.Start.{Start}
 use Rattle.commit_laws.specs.Replica.{event_at, rests}
@@ -68,11 +68,11 @@ host_case (Node n) to = by to.block refl
     by block.Files is = at_other n refl (ap is_rows is) (ap is_tc is)
 
 -- what the rows and the coordinator do
-pub row_rows : (s : host.Host) (n : node.Node) (to : Place) (body : Body) → s ≡ Node n → to.block ≡ block.Lqh → row s to body ≡ in_node (in_lqh n (lqh_row n.lqh body))
+pub row_rows : (s : host.Host) (n : node.Node) (to : Place) (body : Body) → s ≡ Node n → to.block ≡ block.Lqh → row s to body ≡ in_node (in_lqh n (lqh_table n.lqh body))
 unfolding row node_row
 row_rows s n to body is at = ap (λ s. row s to body) is ∙ ap (λ b. in_node (node_row n b body)) at
 
-pub row_tc : (s : host.Host) (n : node.Node) (to : Place) (body : Body) → s ≡ Node n → to.block ≡ block.Tc → row s to body ≡ in_node (in_tc n (tc_row n.tc body))
+pub row_tc : (s : host.Host) (n : node.Node) (to : Place) (body : Body) → s ≡ Node n → to.block ≡ block.Tc → row s to body ≡ in_node (in_tc n (tc_table n.tc body))
 unfolding row node_row
 row_tc s n to body is at = ap (λ s. row s to body) is ∙ ap (λ b. in_node (node_row n b body)) at
 
@@ -116,7 +116,7 @@ node_bystander tx n to body block.Dih at off apart = record {
   live = ap (λ b. of_host tx (in_node (node_row n b body)).state) at;
   unborn = subst (λ b. IsUnborn tx (in_node (node_row n b body)).state → IsUnborn tx (Node n)) (sym at) (λ is. is);
   sends = subst (λ b. AreStill tx (in_node (node_row n b body)).effects.sends) (sym at)
-      (each_of is_dih_kind (λ (o : Outgoing). is_token tx o.body ≡ false) (dih_plain tx) (dih_row n.dih body).effects.sends (dih_kinds n.dih body));
+      (each_of is_dih_kind (λ (o : Outgoing). is_token tx o.body ≡ false) (dih_plain tx) (dih_table n.dih body).effects.sends (dih_kinds n.dih body));
 }
 node_bystander tx n to body b at off apart = record {
   live = ap (λ b. of_host tx (in_node (node_row n b body)).state) at;
@@ -159,7 +159,7 @@ shell_node a n is = cc
 node_same : (m n : node.Node) → Node m ≡ Node n → m ≡ n
 node_same m n is = cc
 
-pub node_facts : (start : Start) (tx : TxId) (h : ℕ) (log : List LogStep) (n : node.Node) → after start h log ≡ Node n → NodeFacts tx h n
+pub node_facts : (start : Start) (tx : TxId) (h : ℕ) (log : List HostStep) (n : node.Node) → after start h log ≡ Node n → NodeFacts tx h n
 node_facts start tx zero log n is = absurd (shell_node (shell_after start log).state n (sym (shell_after start log).is ∙ is))
 node_facts start tx (suc h) log n is =
     let k = keeps start tx h log in
@@ -171,7 +171,7 @@ node_facts start tx (suc h) log n is =
     }
 
 -- the shell's host is host 0
-pub shell_zero : (start : Start) (h : ℕ) (log : List LogStep) (a : ApiState) → after start h log ≡ Shell a → h ≡ 0
+pub shell_zero : (start : Start) (h : ℕ) (log : List HostStep) (a : ApiState) → after start h log ≡ Shell a → h ≡ 0
 shell_zero start zero log a is = refl
 shell_zero start (suc h) log a is = absurd (shell_node a (node_after start h log).state (sym is ∙ (node_after start h log).is))
 

@@ -23,7 +23,7 @@ use Rattle.row_locks.proofs.TxLemmas.{same_tx-is}
 use Rattle.row_locks.specs.Rounds.{expired}
 use Rattle.lqh_block.specs.Commit as commit
 use Rattle.lqh_block.specs.declared.request.Request.{Request}
-use Rattle.lqh_block.specs.Lqh.{lqh_row}
+use Rattle.lqh_block.specs.Lqh.{lqh_table}
 use Rattle.lqh_block.specs.Operate.{is_granted}
 use Rattle.lqh_block.specs.State.{LqhState}
 use Rattle.lqh_block.specs.Work.{work_key}
@@ -139,7 +139,7 @@ module _ (tx : TxId) where
   lqh_primary : (s : LqhState) (body : Body) (key : List ℕ) → Fading tx (event_at key s body) (at_key key s).cell.pending (key_after (event_at key s body) (at_key key s)).cell.pending
       → ((one : TxId) (own : List ℕ) (epoch : ℕ) (chain : List Member) (at : ℕ) → body ≡ Chain (Commit one own epoch chain at) → own ≡ key → (at == 0) ≡ true)
       → HasPrepared tx (at_key key s).cell.pending
-      → HasPrepared tx (key_after (event_at key s body) (at_key key s)).cell.pending ⊎ (list_any (is_applied tx) (lqh_row s body).effects.marks ≡ true)
+      → HasPrepared tx (key_after (event_at key s body) (at_key key s)).cell.pending ⊎ (list_any (is_applied tx) (lqh_table s body).effects.marks ≡ true)
   lqh_primary s body key (stays is) ends h = inl (record { record_is = h.record_is; there = is ∙ h.there; prepared = h.prepared })
   lqh_primary s body key (is_completed is) ends h =
       inl (record { record_is = h.record_is; there = is ∙ ap now h.there ∙ ap (λ b. if b then None else Some h.record_is) h.prepared; prepared = h.prepared })

@@ -11,7 +11,7 @@ use Rattle.sig_core.specs.declared.signal.host.HostSignal.TheVariants.{Round}
 use Rattle.sig_core.specs.declared.view.View.{View}
 use Rattle.api_block.specs.declared.opened.OpenTransaction.{OpenTransaction}
 use Rattle.api_block.specs.State.{ApiState}
-use Rattle.node_core.specs.Dih.{DihState, dih_row}
+use Rattle.node_core.specs.Dih.{DihState, dih_table}
 use Rattle.node_core.specs.Row.{shell_row}
 use Rattle.answer_laws.proofs.ApiMoves.{ApiMove, api_moves, begun_as, ends, goes, is_api_kind, opens, refuses, rests}
 use Rattle.answer_laws.proofs.DihSends.{dih_kinds}
@@ -50,5 +50,5 @@ module _ (tx : TxId) where
   shell_silent s block.Api body = move_silent s body _ _ (api_moves s body)
   shell_silent s _ body = tt
 
-  pub dih_silent : (s : DihState) (body : Body) → AreSilent tx (dih_row s body).effects.sends
-  dih_silent s body = plain_silent tx (dih_row s body).effects.sends (of_kind is_dih_kind is_plain dih_plain (dih_row s body).effects.sends (dih_kinds s body))
+  pub dih_silent : (s : DihState) (body : Body) → AreSilent tx (dih_table s body).effects.sends
+  dih_silent s body = plain_silent tx (dih_table s body).effects.sends (of_kind is_dih_kind is_plain dih_plain (dih_table s body).effects.sends (dih_kinds s body))

@@ -13,7 +13,7 @@ use Rattle.sig_core.specs.declared.signal.host.HostSignal.TheVariants.{Continue}
 use Rattle.sig_core.specs.declared.signal.host.Work.TheVariants as work
 use Rattle.sig_core.specs.Same.{same_key, same_tx}
 use Rattle.api_block.specs.State.{ApiState}
-use Rattle.lqh_block.specs.Lqh.{lqh_row}
+use Rattle.lqh_block.specs.Lqh.{lqh_table}
 use Rattle.lqh_block.specs.State.{LqhState}
 use Rattle.node_core.specs.declared.host.Host as host
 use Rattle.node_core.specs.declared.host.Host.TheVariants.{Shell, Node}
@@ -21,7 +21,7 @@ use Rattle.node_core.specs.declared.node.Node as node
 use Rattle.node_core.specs.Row.{node_row, row}
 use Rattle.tc_block.specs.declared.transaction.Transaction.{Transaction}
 use Rattle.tc_block.specs.State.{TcState}
-use Rattle.tc_block.specs.Tc.{begun, tc_row}
+use Rattle.tc_block.specs.Tc.{begun, tc_table}
 use Rattle.answer_laws.proofs.LqhOps.{is_lqh}
 use Rattle.answer_laws.proofs.Tally.{one_if, tally}
 use Rattle.answer_laws.proofs.TcLives.{is_keyed}
@@ -41,7 +41,7 @@ use Rattle.transit_laws.proofs.TxTurns as turn
 pub data HostStep (tx : TxId) (g : host.Host) (to : Place) (b : Body) (next : host.Host) (sends : List Outgoing) : Type 0 where
   shell : (s : ApiState) → g ≡ Shell s → of_host tx next ≡ None → AreSilent tx sends → HostStep tx g to b next sends
   aside : (n : node.Node) → g ≡ Node n → of_host tx next ≡ of_host tx g → AreSilent tx sends → is_lqh to.block ≡ false → (is_next tx b ≡ true → is_tc to.block ≡ true → of_host tx g ≡ None) → HostStep tx g to b next sends
-  rows : (s : LqhState) → to.block ≡ block.Lqh → of_host tx next ≡ of_host tx g → sends ≡ (lqh_row s b).effects.sends → HostStep tx g to b next sends
+  rows : (s : LqhState) → to.block ≡ block.Lqh → of_host tx next ≡ of_host tx g → sends ≡ (lqh_table s b).effects.sends → HostStep tx g to b next sends
   begins : (n : node.Node) → g ≡ Node n → to.block ≡ block.Tc → of_host tx next ≡ of_live tx (begun n.tc).live → AreSilent tx sends → is_next tx b ≡ false → HostStep tx g to b next sends
   turns : (n : node.Node) (t : Transaction) → g ≡ Node n → to.block ≡ block.Tc → of_host tx g ≡ Some t → same_tx (tx_in b) tx ≡ true → sends ≡ (turn_for n.tc.node n.tc.view tx b t).step.effects.sends
       → of_host tx next ≡ left_by (turn_for n.tc.node n.tc.view tx b t) → HostStep tx g to b next sends
@@ -54,7 +54,7 @@ module _ (tx : TxId) where
   node_step n to b once block.Dih e = aside n refl refl (dih_silent tx n.dih b) (ap is_lqh e) (λ next home. absurd (let both : false ≡ true = sym (ap is_tc e) ∙ home in cc))
   node_step n to b once block.Tc e = by (tc_turn tx n.tc once b)
     where
-      by : TcTurn tx n.tc b (tc_row n.tc b) → HostStep tx (Node n) to b (Node (node_row n block.Tc b).state) (node_row n block.Tc b).effects.sends
+      by : TcTurn tx n.tc b (tc_table n.tc b) → HostStep tx (Node n) to b (Node (node_row n block.Tc b).state) (node_row n block.Tc b).effects.sends
       by (turn.idle same silent next) = aside n refl same silent (ap is_lqh e) (λ nx home. next nx)
       by (turn.begins is silent none) = begins n refl e (ap (λ (s : TcState). of_live tx s.live) is) silent none
       by (turn.turns t was same sent left) = turns n t refl e was same sent left

@@ -16,7 +16,7 @@ use Rattle.api_block.specs.State.{ApiState}
 use Rattle.node_core.specs.declared.host.Host as host
 use Rattle.node_core.specs.declared.host.Host.TheVariants.{Shell, Node}
 use Rattle.node_core.specs.declared.node.Node as node
-use Rattle.node_core.specs.Dih.{dih_row}
+use Rattle.node_core.specs.Dih.{dih_table}
 use Rattle.node_core.specs.Row.{node_row, row, shell_row}
 use Rattle.commit_laws.specs.Ways.{back_by, put_ways, tc_sends}
 use Rattle.answer_laws.proofs.ApiMoves.{ApiMove, api_moves, begun_as, ends, goes, is_api_kind, opens, refuses, rests}
@@ -81,7 +81,7 @@ module _ (tx : TxId) where
         away = λ off. omega (arith, step.away off);
       }
   node_kept bs n block.Dih body is =
-      let none = none_of is_dih_kind (λ to b. is_token tx b) (λ to b k. no_dih b k) (dih_row n.dih body).effects.sends (dih_kinds n.dih body) in
+      let none = none_of is_dih_kind (λ to b. is_token tx b) (λ to b k. no_dih b k) (dih_table n.dih body).effects.sends (dih_kinds n.dih body) in
       record { home = λ m low. omega (arith, low, none); away = λ off. omega (arith, none) }
   node_kept bs n block.Lqh body is =
       let few = lqh_tokens tx n.lqh body is.1 in

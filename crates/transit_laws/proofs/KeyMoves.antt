@@ -3,7 +3,7 @@ use Rattle.std.proofs.Common.{◌≡◌, ◌⊎◌, ◌≢◌, ℕ, false, List,
 use Rattle.std.proofs.lemmas.Bool.{cases_eq}
 use Rattle.std.specs.Prelude.{Some}
 use Rattle.run_theory.proofs.Runs.{log_of-other, log_of-own}
-use Rattle.sig_core.specs.declared.log.LogStep.{LogStep}
+use Rattle.world_core.specs.Steps.{HostStep}
 use Rattle.sig_core.specs.declared.member.TxId.{TxId}
 use Rattle.world_core.specs.Machine.{after, machine}
 use Rattle.world_core.specs.Start.{Start}
@@ -20,32 +20,32 @@ use Rattle.transit_laws.proofs.OthersStay.{ended_stays, event_of, is_of, made_st
 use Rattle.transit_laws.proofs.ViewOf.{view_of}
 
 -- the replica beside its answers
-pub replica_along : (start : Start) (h : ℕ) (key : List ℕ) (log : List LogStep) → (primary_along start h key log).replica ≡ key_in key (after start h log)
+pub replica_along : (start : Start) (h : ℕ) (key : List ℕ) (log : List HostStep) → (primary_along start h key log).replica ≡ key_in key (after start h log)
 replica_along start h key [] = refl
 replica_along start h key (e ∷ log) =
-    ap (key_after (event_in key (after start h log) e.taken.to e.taken.body)) (replica_along start h key log) ∙ sym (logs_follow start h log e key)
+    ap (key_after (event_in key (after start h log) e.step.taken)) (replica_along start h key log) ∙ sym (logs_follow start h log e key)
 
 -- one has the requests that wait of the other, too
 pub record IsLike (v w : View) : Type 0 where
   pub likewise : IsAs v w
   pub waits : (h : ℕ) → w.waits h ≡ v.waits h
 
-module _ (start : Start) (es : List LogStep) (e : LogStep) (tx : TxId) (key : List ℕ) where
-  abbrev logs : ℕ → List LogStep
+module _ (start : Start) (es : List HostStep) (e : HostStep) (tx : TxId) (key : List ℕ) where
+  abbrev logs : ℕ → List HostStep
   logs = logs_of start es
 
-  abbrev now : ℕ → List LogStep
+  abbrev now : ℕ → List HostStep
   now = logs_of start (e ∷ es)
 
   -- the host of the step, the key there before it, and the event of the key
   abbrev pub host_of : ℕ
-  host_of = e.taken.to.node
+  host_of = e.host
 
   abbrev pub before_here : Replica
   before_here = at_host start logs key host_of
 
   abbrev pub event_here : Event
-  event_here = event_in key (after start host_of (logs host_of)) e.taken.to e.taken.body
+  event_here = event_in key (after start host_of (logs host_of)) e.step.taken
 
   -- what the primary had answered, were it here
   abbrev pub answered_here : AtPrimary

@@ -33,7 +33,7 @@ use Rattle.lqh_block.specs.Complete as complete
 use Rattle.lqh_block.specs.declared.request.Request.{Request}
 use Rattle.lqh_block.specs.Dump as dump
 use Rattle.lqh_block.specs.Expire as expire
-use Rattle.lqh_block.specs.Lqh.{lqh_row}
+use Rattle.lqh_block.specs.Lqh.{lqh_table}
 use Rattle.lqh_block.specs.Operate as operate
 use Rattle.lqh_block.specs.State.{LqhState, freed_lock, go_on_if, serve_granted, storage_of, with_lock, with_waiting}
 use Rattle.lqh_block.specs.Storage as storage
@@ -261,7 +261,7 @@ module _ (tx : TxId) (key : List ℕ) where
   unfolding dump.dump_row
   dump_none s at = refl
 
-  pub lqh_tokens : (s : LqhState) (body : Body) → is_abort tx body ≡ false → tokens_of tx key (lqh_row s body).effects.sends ≡ event_tokens tx (event_at key s body) (at_key key s)
+  pub lqh_tokens : (s : LqhState) (body : Body) → is_abort tx body ≡ false → tokens_of tx key (lqh_table s body).effects.sends ≡ event_tokens tx (event_at key s body) (at_key key s)
   lqh_tokens s (Chain (LqhKeyReq v what chain at)) off = request_tokens s (record { tx = v; work = what; chain = chain; at = at })
   lqh_tokens s (Host (Continue work.Granted at)) off = granted_tokens s
   lqh_tokens s (Chain (Commit v own epoch chain at)) off = commit_none s v own epoch chain at ∙ sym (none_if own (commits v (at == 0)) (at_key key s) refl)

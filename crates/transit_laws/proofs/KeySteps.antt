@@ -4,14 +4,13 @@ use Rattle.std.proofs.lemmas.Bool.{cases_eq}
 use Rattle.std.specs.Prelude.{if◌then◌else◌, Option, None, Some}
 use Rattle.run_theory.specs.Lists.{Each}
 use Rattle.run_theory.proofs.Pasts.{each_map}
-use Rattle.sig_core.specs.declared.log.LogStep.{LogStep}
+use Rattle.world_core.specs.Steps.{Addressed, HostStep}
 use Rattle.sig_core.specs.declared.member.TxId.{TxId}
 use Rattle.sig_core.specs.declared.op.Answer.{Answer}
 use Rattle.sig_core.specs.declared.op.Op.{Op}
 use Rattle.sig_core.specs.declared.outs.Outgoing.{Outgoing}
 use Rattle.sig_core.specs.declared.signal.chain.RowWork.{RowWork}
 use Rattle.sig_core.specs.declared.signal.chain.RowWork.TheVariants.{Operate, Store}
-use Rattle.sig_core.specs.declared.signal.Signal.{Signal}
 use Rattle.sig_core.specs.Chain.{node_at}
 use Rattle.sig_core.specs.Same.{same_tx}
 use Rattle.row_locks.specs.declared.mode.Lock.{Lock}
@@ -22,7 +21,8 @@ use Rattle.lqh_block.specs.Work.{work_key, work_mode}
 use Rattle.node_core.specs.Requests.{is_request}
 use Rattle.tc_block.specs.declared.transaction.Transaction.{Transaction}
 use Rattle.world_core.specs.Machine.{sent_count, signals_of, step_after}
-use Rattle.world_core.specs.Start.{Start, first_view}
+use Rattle.frag_map.specs.Layout.{first_view}
+use Rattle.world_core.specs.Start.{Start}
 use Rattle.commit_laws.specs.Firsts.{first}
 use Rattle.commit_laws.specs.PrimaryEvents.{ended_after, made_after, made_by, made_if, made_served}
 use Rattle.commit_laws.specs.Records.{found}
@@ -77,7 +77,7 @@ each-first_by {A} P p other (y ∷ xs) x all is passes = by (other y) is (p y) r
     by false is true e all more = more all.1 is passes
     by false is false e all more = more all is passes
 
-module _ (start : Start) (es : List LogStep) (e : LogStep) (tx : TxId) (key : List ℕ) (come : Comes start es e) (before between : List Signal) (transit : AreInTransit start es before)
+module _ (start : Start) (es : List HostStep) (e : HostStep) (tx : TxId) (key : List ℕ) (come : Comes start es e) (before between : List Addressed) (transit : AreInTransit start es before)
     (takes : Takes e before between) (t : Transaction) (live : live_at start (logs_of start (e ∷ es)) tx ≡ Some t) (early : is_early t.phase ≡ true) where
   abbrev n : ℕ
   n = host_of start es e tx key
@@ -91,7 +91,7 @@ module _ (start : Start) (es : List LogStep) (e : LogStep) (tx : TxId) (key : Li
   abbrev sends : List Outgoing
   sends = (step_after start n (logs_of start es n) e).effects.sends
 
-  abbrev sent : List Signal
+  abbrev sent : List Addressed
   sent = signals_of start n (logs_of start es n) e
 
   abbrev made : TxId → List (Op × Answer)
@@ -111,7 +111,7 @@ module _ (start : Start) (es : List LogStep) (e : LogStep) (tx : TxId) (key : Li
       → IsOnly tx key start (e ∷ es) come.now (joined sent between) transit_now t live early sent between
   only token is =
       one_sent tx key start (e ∷ es) come.now (joined sent between) transit_now t live early sent between refl
-      (subst (λ k. 1 ≤ k) (sym (tally_headed (is_token tx) (first_view start.nodes) n e.stamp (sent_count start n (logs_of start es n)) sends)) (sent_some tx key sends token [] is))
+      (subst (λ k. 1 ≤ k) (sym (tally_headed (is_token tx) (first_view start.shape.nodes) n e.step.stamp (sent_count start n (logs_of start es n)) sends)) (sent_some tx key sends token [] is))
 
   ended_same : ended_after event (answered_here start es e tx key) tx ≡ (at_primary start (logs_of start es) key).ended tx → (view_now start es e tx key).ended ≡ (view_before start es e tx key).ended
   ended_same is = by (cases_eq n (primary start key))
@@ -121,9 +121,9 @@ module _ (start : Start) (es : List LogStep) (e : LogStep) (tx : TxId) (key : Li
       by (inr off) = ended_other start es e tx key off
 
   -- an event that isn't of the transaction
-  pub off_going : is_of tx (event_of event r) ≡ false → token_of tx key e.taken.to e.taken.body ≡ None → tokens_of tx key sends ≡ event_tokens tx event r → Going → GoesOn
+  pub off_going : is_of tx (event_of event r) ≡ false → token_of tx key e.step.taken ≡ None → tokens_of tx key sends ≡ event_tokens tx event r → Going → GoesOn
   off_going off taken is going =
-      rests_going start tx key (view_before start es e tx key) (view_now start es e tx key) t e before between takes (first_view start.nodes) n e.stamp (sent_count start n (logs_of start es n)) sends going
+      rests_going start tx key (view_before start es e tx key) (view_now start es e tx key) t e before between takes (first_view start.shape.nodes) n e.step.stamp (sent_count start n (logs_of start es n)) sends going
       (others_like start es e tx key off) (inl taken) (is ∙ off_tokens tx event r off)
 
   -- a request that is performed
@@ -134,7 +134,7 @@ module _ (start : Start) (es : List LogStep) (e : LogStep) (tx : TxId) (key : Li
       → tokens_of tx key sends ≡ work_token r.cell tx q.chain q.at refused q.work ∷ []
       → Tells start key (view_before start es e tx key) t (performs q.work q.at) → Going → GoesOn
   performs_going q refused routed own here made_is ended_is is told going =
-      sent_going start tx key (view_now start es e tx key) t between (first_view start.nodes) n e.stamp (sent_count start n (logs_of start es n)) sends token going.asked now one.signals one.waits
+      sent_going start tx key (view_now start es e tx key) t between (first_view start.shape.nodes) n e.step.stamp (sent_count start n (logs_of start es n)) sends token going.asked now one.signals one.waits
       (performed_tells start tx key (view_before start es e tx key) (view_now start es e tx key) t n r.cell q.work refused made q.at
       (subst (λ chain. q.at < length chain) chain_is routed.sent.inside) (routed.sent.node_is ∙ ap (λ chain. node_at chain q.at) chain_is) routed.work performed told)
     where
@@ -168,8 +168,8 @@ module _ (start : Start) (es : List LogStep) (e : LogStep) (tx : TxId) (key : Li
   own_token v token is = ap (λ b. if b then token ∷ [] else []) (is_own v is)
 
   -- a request that comes: it is performed, or waits
-  pub asked_going : (q : Request) (refused : Bool) → event ≡ asks q refused → q.tx ≡ tx → work_key q.work ≡ key → IsRequestRouted start n q → is_request e.taken.body ≡ false
-      → token_of tx key e.taken.to e.taken.body ≡ Some (performs q.work q.at) → tokens_of tx key sends ≡ event_tokens tx event r → Going → GoesOn
+  pub asked_going : (q : Request) (refused : Bool) → event ≡ asks q refused → q.tx ≡ tx → work_key q.work ≡ key → IsRequestRouted start n q → is_request e.step.taken.body ≡ false
+      → token_of tx key e.step.taken ≡ Some (performs q.work q.at) → tokens_of tx key sends ≡ event_tokens tx event r → Going → GoesOn
   asked_going q refused event_is q_is own routed given taken is going = by (asked r.lock q.tx (work_mode q.work)).answer refl
     where
       by : (a : Lock) → (asked r.lock q.tx (work_mode q.work)).answer ≡ a → GoesOn
@@ -185,7 +185,7 @@ module _ (start : Start) (es : List LogStep) (e : LogStep) (tx : TxId) (key : Li
           (subst (Told tx key (Tells start key (view_before start es e tx key) t)) taken (each_taken (SignalTells start tx key (view_before start es e tx key) t) e before between given takes going.signals))
           going
       by (Queued ahead) a_is =
-          queued_going start tx key (view_before start es e tx key) (view_now start es e tx key) t e before between takes (first_view start.nodes) n e.stamp (sent_count start n (logs_of start es n)) sends going
+          queued_going start tx key (view_before start es e tx key) (view_now start es e tx key) t e before between takes (first_view start.shape.nodes) n e.step.stamp (sent_count start n (logs_of start es n)) sends going
           (view_as start es e tx key
           (ap (λ event. found tx (key_after event r).cell.pending) event_is ∙ ap (λ a. found tx (asked_by r (asked r.lock q.tx (work_mode q.work)).lock q refused a).cell.pending) a_is)
           (ap (λ event. made_after event (answered_here start es e tx key) tx) event_is ∙ ap (λ a. made_if (answered_here start es e tx key) q refused a tx) a_is)
@@ -210,9 +210,9 @@ module _ (start : Start) (es : List LogStep) (e : LogStep) (tx : TxId) (key : Li
       going
 
   -- a wait that ends
-  pub expired_going : (event ≡ expires tx) ⊎ (event ≡ ages (Some tx)) → token_of tx key e.taken.to e.taken.body ≡ None → tokens_of tx key sends ≡ event_tokens tx event r → Going → GoesOn
+  pub expired_going : (event ≡ expires tx) ⊎ (event ≡ ages (Some tx)) → token_of tx key e.step.taken ≡ None → tokens_of tx key sends ≡ event_tokens tx event r → Going → GoesOn
   expired_going event_is taken is going =
-      sent_going start tx key (view_now start es e tx key) t between (first_view start.nodes) n e.stamp (sent_count start n (logs_of start es n)) sends refuses going.asked now one.signals one.waits
+      sent_going start tx key (view_now start es e tx key) t between (first_view start.shape.nodes) n e.step.stamp (sent_count start n (logs_of start es n)) sends refuses going.asked now one.signals one.waits
       (by (waits_of tx r) refl)
     where
       now : tokens_of tx key sends ≡ refuses ∷ []
@@ -238,8 +238,8 @@ module _ (start : Start) (es : List LogStep) (e : LogStep) (tx : TxId) (key : Li
       by [] waits_is =
           inr (settles_as start key (view_before start es e tx key) (view_now start es e tx key) t.ops like
           (going.settled
-          (takes_more (λ (x : Signal). token_of tx key x.to x.body ≡ None) e before between takes
-          (each_map (λ (x : Signal). is_token tx x.body ≡ false) (λ (x : Signal). token_of tx key x.to x.body ≡ None) between (λ x off. uncounted tx key x.to x.body off) one.signals) taken)
+          (takes_more (λ (x : Addressed). token_of tx key x.signal.to x.signal.body ≡ None) e before between takes
+          (each_map (λ (x : Addressed). is_token tx x.signal.body ≡ false) (λ (x : Addressed). token_of tx key x.signal.to x.signal.body ≡ None) between (λ x off. uncounted tx key x.signal.to x.signal.body off) one.signals) taken)
           (λ h. idle h (cases_eq n h))))
         where
           idle : (h : ℕ) → (n ≡ h) ⊎ (n ≢ h) → (view_before start es e tx key).waits h ≡ []

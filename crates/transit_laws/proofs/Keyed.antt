@@ -3,7 +3,7 @@ use Rattle.std.proofs.Common.{◌≡◌, ℕ, zero, suc, false, List, [], ◌∷
 use Rattle.std.specs.Prelude.{None}
 use Rattle.run_theory.specs.Lists.{Each}
 use Rattle.run_theory.proofs.Pasts.{each_append, each_map}
-use Rattle.sig_core.specs.declared.log.LogStep.{LogStep}
+use Rattle.world_core.specs.Steps.{HostStep}
 use Rattle.sig_core.specs.declared.op.Answer.{Answer}
 use Rattle.sig_core.specs.declared.op.Answer.TheVariants as answer
 use Rattle.sig_core.specs.declared.op.Op.{Op}
@@ -12,9 +12,9 @@ use Rattle.sig_core.specs.declared.place.BlockId.{BlockId}
 use Rattle.sig_core.specs.declared.place.BlockId.TheVariants as block
 use Rattle.sig_core.specs.declared.place.Place.{Place}
 use Rattle.sig_core.specs.declared.signal.Body.{Body}
-use Rattle.sig_core.specs.declared.view.View.{View}
+use Rattle.frag_map.specs.Layout.{Layout}
 use Rattle.sig_core.specs.Op.{key_of}
-use Rattle.tc_block.specs.Chain.{chain_of}
+use Rattle.frag_map.specs.Layout.{chain_of}
 use Rattle.tc_block.specs.declared.phase.Asked.{Asked}
 use Rattle.tc_block.specs.declared.transaction.Transaction.{Transaction}
 use Rattle.tc_block.specs.Operate.{answered, operating}
@@ -25,7 +25,8 @@ use Rattle.node_core.specs.Fresh.{begun_node, fresh_node, fresh_shell}
 use Rattle.node_core.specs.Row.{node_row, row}
 use Rattle.world_core.specs.History.{is_done}
 use Rattle.world_core.specs.Machine.{after}
-use Rattle.world_core.specs.Start.{Start, started}
+use Rattle.world_core.specs.Hosts.{started}
+use Rattle.world_core.specs.Start.{Start}
 use Rattle.commit_laws.proofs.LiveKeeps.{TurnsKeep, live_keeps}
 use Rattle.transit_laws.specs.Keyed.{HasTouched, HasTouchedAsked, IsHostKeyed, IsTouchedRightly, TransactionsAreKeyed}
 use Rattle.transit_laws.specs.Transit.{logs_of}
@@ -39,12 +40,12 @@ any_sends : (sends : List Outgoing) → Each AnySend sends
 any_sends [] = tt
 any_sends (o ∷ sends) = (tt, any_sends sends)
 
-operated_keyed : (t : Transaction) (op : Op) (view : View) (tx : _) → IsTouchedRightly t → IsTouchedRightly (operating tx t op (chain_of view (key_of op))).state
-operated_keyed t op view tx fine = record {
-  apart = touch_apart t.touched (key_of op) (chain_of view (key_of op)) fine.apart;
-  answered = each_map (λ (o : Op × Answer). HasTouched t.touched (key_of o.0)) _ t.ops (λ o has. touch_more t.touched (key_of op) (key_of o.0) (chain_of view (key_of op)) has) fine.answered;
-  asked = touch_own t.touched (key_of op) (chain_of view (key_of op));
-  written = touch_written t.touched (key_of op) (chain_of view (key_of op)) t.ops fine.answered fine.written;
+operated_keyed : (t : Transaction) (op : Op) (layout : Layout) (tx : _) → IsTouchedRightly t → IsTouchedRightly (operating tx t op (chain_of layout (key_of op))).state
+operated_keyed t op layout tx fine = record {
+  apart = touch_apart t.touched (key_of op) (chain_of layout (key_of op)) fine.apart;
+  answered = each_map (λ (o : Op × Answer). HasTouched t.touched (key_of o.0)) _ t.ops (λ o has. touch_more t.touched (key_of op) (key_of o.0) (chain_of layout (key_of op)) has) fine.answered;
+  asked = touch_own t.touched (key_of op) (chain_of layout (key_of op));
+  written = touch_written t.touched (key_of op) (chain_of layout (key_of op)) t.ops fine.answered fine.written;
 }
 
 -- an answer other than `Done` changes no key
@@ -71,8 +72,8 @@ answered_keyed t asked answer.Missing on fine = undone_keyed t asked answer.Miss
 answered_keyed t asked answer.E626 on fine = undone_keyed t asked answer.E626 refl on fine
 answered_keyed t asked answer.E630 on fine = undone_keyed t asked answer.E630 refl on fine
 
-turns_keyed : (view : View) → TurnsKeep (λ t. IsTouchedRightly t) AnySend view
-turns_keyed view = record {
+turns_keyed : (layout : Layout) → TurnsKeep (λ t. IsTouchedRightly t) AnySend layout
+turns_keyed layout = record {
   phase = λ t phase fine. record { apart = fine.apart; answered = fine.answered; asked = fine.asked; written = fine.written };
   unasked = λ t fine. record { apart = fine.apart; answered = fine.answered; asked = tt; written = fine.written };
   answered = λ t asked a is fine. answered_keyed t asked a (subst (HasTouchedAsked t.touched) is fine.asked) fine;
@@ -85,8 +86,8 @@ turns_keyed view = record {
 node_keyed : (n : node.Node) (at : BlockId) (body : Body) → IsHostKeyed (Node n) → IsHostKeyed (Node (node_row n at body).state)
 unfolding node_row
 node_keyed n block.Tc body all =
-    (live_keeps (λ t. IsTouchedRightly t) AnySend n.tc body (record { apart = tt; answered = tt; asked = tt; written = tt }) (turns_keyed n.tc.view)
-    (λ tx t op fine. record { state = operated_keyed t op n.tc.view tx fine; sends = (tt, tt) }) all).live
+    (live_keeps (λ t. IsTouchedRightly t) AnySend n.tc body (record { apart = tt; answered = tt; asked = tt; written = tt }) (turns_keyed n.tc.layout)
+    (λ tx t op fine. record { state = operated_keyed t op n.tc.layout tx fine; sends = (tt, tt) }) all).live
 node_keyed n block.Dih body all = all
 node_keyed n block.Lqh body all = all
 node_keyed n _ body all = all
@@ -101,9 +102,9 @@ unfolding fresh_shell fresh_node begun_node
 started_keyed start zero = tt
 started_keyed start (suc h) = tt
 
-pub log_keyed : (start : Start) (h : ℕ) (log : List LogStep) → IsHostKeyed (after start h log)
+pub log_keyed : (start : Start) (h : ℕ) (log : List HostStep) → IsHostKeyed (after start h log)
 log_keyed start h [] = started_keyed start h
-log_keyed start h (e ∷ log) = host_keyed (after start h log) e.taken.to e.taken.body (log_keyed start h log)
+log_keyed start h (e ∷ log) = host_keyed (after start h log) e.step.taken (log_keyed start h log)
 
 pub transactions_are_keyed : TransactionsAreKeyed
 transactions_are_keyed start es h run = log_keyed start h (logs_of start es h)

@@ -27,7 +27,7 @@ use Rattle.lqh_block.specs.Complete as complete
 use Rattle.lqh_block.specs.declared.request.Request.{Request}
 use Rattle.lqh_block.specs.Dump as dump
 use Rattle.lqh_block.specs.Expire as expire
-use Rattle.lqh_block.specs.Lqh.{lqh_row}
+use Rattle.lqh_block.specs.Lqh.{lqh_table}
 use Rattle.lqh_block.specs.Operate as operate
 use Rattle.lqh_block.specs.State.{LqhState, freed_lock, go_on, go_on_if, serve_granted, storage_of, with_lock, with_waiting}
 use Rattle.lqh_block.specs.Storage as storage
@@ -171,7 +171,7 @@ is_row_end (Chain (Commit tx key epoch chain at)) = true
 is_row_end (Chain (Complete tx key chain at)) = true
 is_row_end _ = false
 
-other_plain : (s : LqhState) (body : Body) → is_row_end body ≡ false → SendsOnly is_plain (lqh_row s body)
+other_plain : (s : LqhState) (body : Body) → is_row_end body ≡ false → SendsOnly is_plain (lqh_table s body)
 other_plain s (Chain (LqhKeyReq tx what chain at)) e = request_plain s (record { tx = tx; work = what; chain = chain; at = at })
 other_plain s (Host (Continue work.Granted at)) e = granted_row_plain s
 other_plain s (Chain (Commit tx key epoch chain at)) e = absurd cc
@@ -196,8 +196,8 @@ pub record IsLast (tx : TxId) (key : List ℕ) (body : Body) : Type 0 where
   pub last : (at == 0) ≡ true
 
 module _ (s : LqhState) (tx : TxId) where
-  other_silent : (body : Body) → is_row_end body ≡ false → AreSilent tx (lqh_row s body).effects.sends
-  other_silent body e = plain_silent tx (lqh_row s body).effects.sends (other_plain s body e)
+  other_silent : (body : Body) → is_row_end body ≡ false → AreSilent tx (lqh_table s body).effects.sends
+  other_silent body e = plain_silent tx (lqh_table s body).effects.sends (other_plain s body e)
 
   -- behind a commit or a completion the replica goes on with who is granted the lock
   serving_none : (w : Outgoing → ℕ) (node : ℕ) (b : Bool) → ((o : Outgoing) → is_plain o.body ≡ true → w o ≡ 0) → weigh w (go_on_if node work.Granted b) ≡ 0
@@ -241,13 +241,13 @@ module _ (s : LqhState) (tx : TxId) where
         by true = plain (to_place (coordinator_of other) (Chain (Completed other key))) refl
         by false = next
 
-  rest_weighs : (count : ℕ) (body : Body) → is_row_end body ≡ false → in_sends (weight tx count) (lqh_row s body).effects.sends ≡ 0
+  rest_weighs : (count : ℕ) (body : Body) → is_row_end body ≡ false → in_sends (weight tx count) (lqh_table s body).effects.sends ≡ 0
   rest_weighs count body e =
-      weigh_none (λ (o : Outgoing). weight tx count o.to o.body) (lqh_row s body).effects.sends
-      (each_map (λ (o : Outgoing). is_sign tx o.body ≡ false) (λ (o : Outgoing). weight tx count o.to o.body ≡ 0) (lqh_row s body).effects.sends (λ o f. part_weight tx count o.to o.body (sign_part tx o.body f)) (other_silent body e))
+      weigh_none (λ (o : Outgoing). weight tx count o.to o.body) (lqh_table s body).effects.sends
+      (each_map (λ (o : Outgoing). is_sign tx o.body ≡ false) (λ (o : Outgoing). weight tx count o.to o.body ≡ 0) (lqh_table s body).effects.sends (λ o f. part_weight tx count o.to o.body (sign_part tx o.body f)) (other_silent body e))
 
   -- what a replica sends on weighs no more
-  pub lqh_weighs : (count : ℕ) (to : Place) (body : Body) → in_sends (weight tx count) (lqh_row s body).effects.sends ≤ weight tx count to body
+  pub lqh_weighs : (count : ℕ) (to : Place) (body : Body) → in_sends (weight tx count) (lqh_table s body).effects.sends ≤ weight tx count to body
   lqh_weighs count to (Chain (Commit other key epoch chain at)) =
       omega (arith, commit_weigh other key epoch chain at (λ o. weight tx count o.to o.body) (λ o e. part_weight tx count o.to o.body (plain_part o e)), by (at == 0))
     where
@@ -264,7 +264,7 @@ module _ (s : LqhState) (tx : TxId) where
 
   -- each commit that isn't the last of its key leads to another
   pub lqh_covers : (key : List ℕ) (i : ℕ) (to : Place) (body : Body) → to.block ≡ block.Lqh
-      → (cover tx key i to body ≤ in_sends (cover tx key i) (lqh_row s body).effects.sends) ⊎ IsLast tx key body
+      → (cover tx key i to body ≤ in_sends (cover tx key i) (lqh_table s body).effects.sends) ⊎ IsLast tx key body
   lqh_covers key i to (Chain (Commit other own epoch chain at)) home = by (at == 0) refl (same_tx other tx) refl (same_key own key) refl
     where
       Sent : ℕ
@@ -298,17 +298,17 @@ module _ (s : LqhState) (tx : TxId) where
   -- what signals tell goes on
   pub lqh_tells : (C C2 : List ℕ → List Member → ℕ → Type 0) (D : List ℕ → Type 0) (body : Body) → Tells tx C D body
       → ((one : TxId) (own : List ℕ) (epoch : ℕ) (chain : List Member) (at : ℕ) → body ≡ Chain (Commit one own epoch chain at) → same_tx one tx ≡ true → (at == 0) ≡ false → C own chain at → C2 own chain (at - 1))
-      → Each (λ (o : Outgoing). Tells tx C2 D o.body) (lqh_row s body).effects.sends
+      → Each (λ (o : Outgoing). Tells tx C2 D o.body) (lqh_table s body).effects.sends
   lqh_tells C C2 D (Chain (Commit other own epoch chain at)) tells next =
       commit_each other own epoch chain at (λ o. Tells tx C2 D o.body) (λ o e. part_tells tx C2 D o.body (plain_part o e)) (λ e. tt)
       (λ e same. next other own epoch chain at refl same e (tells same))
   lqh_tells C C2 D (Chain (Complete other own chain at)) tells next =
       complete_each other own 0 chain at (λ o. Tells tx C2 D o.body) (λ o e. part_tells tx C2 D o.body (plain_part o e)) (λ same. tells same)
   lqh_tells C C2 D body tells next =
-      each_map (λ (o : Outgoing). is_sign tx o.body ≡ false) (λ (o : Outgoing). Tells tx C2 D o.body) (lqh_row s body).effects.sends (λ o e. part_tells tx C2 D o.body (sign_part tx o.body e)) (other_silent body refl)
+      each_map (λ (o : Outgoing). is_sign tx o.body ≡ false) (λ (o : Outgoing). Tells tx C2 D o.body) (lqh_table s body).effects.sends (λ o e. part_tells tx C2 D o.body (sign_part tx o.body e)) (other_silent body refl)
 
   -- where none of the transaction comes none is sent
-  pub lqh_silent : (body : Body) → is_part tx body ≡ false → Each (λ (o : Outgoing). is_part tx o.body ≡ false) (lqh_row s body).effects.sends
+  pub lqh_silent : (body : Body) → is_part tx body ≡ false → Each (λ (o : Outgoing). is_part tx o.body ≡ false) (lqh_table s body).effects.sends
   lqh_silent (Chain (Commit other own epoch chain at)) e = commit_each other own epoch chain at (λ o. is_part tx o.body ≡ false) plain_part (λ l. e) (λ l. e)
   lqh_silent (Chain (Complete other own chain at)) e = complete_each other own 0 chain at (λ o. is_part tx o.body ≡ false) plain_part e
-  lqh_silent body e = each_map (λ (o : Outgoing). is_sign tx o.body ≡ false) (λ (o : Outgoing). is_part tx o.body ≡ false) (lqh_row s body).effects.sends (λ o f. sign_part tx o.body f) (other_silent body refl)
+  lqh_silent body e = each_map (λ (o : Outgoing). is_sign tx o.body ≡ false) (λ (o : Outgoing). is_part tx o.body ≡ false) (lqh_table s body).effects.sends (λ o f. sign_part tx o.body f) (other_silent body refl)

@@ -36,7 +36,7 @@ use Rattle.lqh_block.specs.Complete as complete
 use Rattle.lqh_block.specs.declared.request.Request.{Request}
 use Rattle.lqh_block.specs.Dump as dump
 use Rattle.lqh_block.specs.Expire as expire
-use Rattle.lqh_block.specs.Lqh.{lqh_row}
+use Rattle.lqh_block.specs.Lqh.{lqh_table}
 use Rattle.lqh_block.specs.Operate as operate
 use Rattle.lqh_block.specs.State.{LqhState, freed_lock, go_on_if, serve_granted, storage_of, with_lock, with_waiting}
 use Rattle.lqh_block.specs.Storage as storage
@@ -121,7 +121,7 @@ module _ (tx : TxId) where
             perform_tokens (storage_of left) f.item,
             tally_between is_own f.front f.item f.back s.waiting f.is,
             ap (tally is_own) f.removed,
-            tally_append (λ (x : Outgoing). is_token tx x.body) (operate.performed left f.item).effects.sends (operate.more_granted left),
+            tally_append (λ (x : Outgoing). is_token tx x.signal.body) (operate.performed left f.item).effects.sends (operate.more_granted left),
             go_on_tokens left.node work.Granted (is_some (operate.first_granted left.locks left.waiting)),
           )
 
@@ -165,7 +165,7 @@ module _ (tx : TxId) where
         unasked_tokens s other key,
         refused_tokens other key (abort.waits_at s other key),
         given (record_state s.rows other key),
-        tally_append (λ (x : Outgoing). is_token tx x.body) (abort.refused_by other key (abort.waits_at s other key)) (to_place (coordinator_of other) (Chain (Aborted other key)) ∷ serve_granted s.node (freed_lock s other key)),
+        tally_append (λ (x : Outgoing). is_token tx x.signal.body) (abort.refused_by other key (abort.waits_at s other key)) (to_place (coordinator_of other) (Chain (Aborted other key)) ∷ serve_granted s.node (freed_lock s other key)),
         served_tokens s.node (freed_lock s other key),
       )
     where
@@ -186,7 +186,7 @@ module _ (tx : TxId) where
             arith,
             unasked_tokens now other key,
             ap (λ b. one_if (b && same_tx other tx)) (there (abort.waits_at now other key) refl),
-            tally_append (λ (x : Outgoing). is_token tx x.body) (serve_granted s.node (unwaited_at s.locks key other)) (expire.more_expired now),
+            tally_append (λ (x : Outgoing). is_token tx x.signal.body) (serve_granted s.node (unwaited_at s.locks key other)) (expire.more_expired now),
             served_tokens s.node (unwaited_at s.locks key other),
             go_on_tokens now.node work.Expired (is_some (expired now.locks)),
           )
@@ -241,7 +241,7 @@ module _ (tx : TxId) where
 
   -- what came is one at most
   pub lqh_tokens : (s : LqhState) (body : Body) → WaitersAsk s
-      → tokens_out tx (lqh_row s body).effects.sends + tally is_own (lqh_row s body).state.waiting ≤ tally is_own s.waiting + one_if (is_token tx body)
+      → tokens_out tx (lqh_table s body).effects.sends + tally is_own (lqh_table s body).state.waiting ≤ tally is_own s.waiting + one_if (is_token tx body)
   lqh_tokens s (Chain (LqhKeyReq other what chain at)) all = request_tokens s (record { tx = other; work = what; chain = chain; at = at })
   lqh_tokens s (Chain (LqhKeyConf other key answer)) all = omega arith
   lqh_tokens s (Chain (LqhKeyRef other key why)) all = omega arith

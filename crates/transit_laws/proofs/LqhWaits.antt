@@ -6,7 +6,7 @@ use Rattle.row_locks.specs.Queues.{waits}
 use Rattle.row_locks.specs.Rows.{RowLock}
 use Rattle.row_locks.specs.Tables.{lock_at}
 use Rattle.lqh_block.specs.Expire as expire
-use Rattle.lqh_block.specs.Lqh.{lqh_row}
+use Rattle.lqh_block.specs.Lqh.{lqh_table}
 use Rattle.lqh_block.specs.State.{LqhState}
 use Rattle.commit_laws.proofs.LocksAt.{lock-aged}
 use Rattle.answer_laws.proofs.LqhLeaves.{lqh_waits}
@@ -20,5 +20,5 @@ pub aged_asks : (s : LqhState) → WaitersAsk s → WaitersAsk (expire.aged s)
 aged_asks s all = record { asks = λ key tx is. all.asks key tx (sym (waits_aged tx (lock_at s.locks key).queue) ∙ (ap (λ (l : RowLock). waits tx l.queue) (sym (lock-aged s.locks key)) ∙ is)) }
 
 -- a signal keeps that
-pub lqh_asks : (s : LqhState) (body : Body) → WaitersAsk s → WaitersAsk (lqh_row s body).state
+pub lqh_asks : (s : LqhState) (body : Body) → WaitersAsk s → WaitersAsk (lqh_table s body).state
 lqh_asks s body all = record { asks = λ key tx is. (lqh_waits tx key s body).there (all.asks key tx) is }

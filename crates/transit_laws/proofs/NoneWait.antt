@@ -4,14 +4,14 @@ use Rattle.std.specs.Prelude.{cond, filter, Option, None, Some}
 use Rattle.std.proofs.lemmas.Bool.{cases_lt}
 use Rattle.run_theory.specs.Lists.{IsIn}
 use Rattle.run_theory.proofs.Pasts.{each_from}
-use Rattle.sig_core.specs.declared.log.LogStep.{LogStep}
+use Rattle.world_core.specs.Steps.{Addressed, HostStep}
 use Rattle.sig_core.specs.declared.member.TxId.{TxId}
-use Rattle.sig_core.specs.declared.signal.Signal.{Signal}
 use Rattle.sig_core.specs.Same.{same_tx}
 use Rattle.lqh_block.specs.declared.request.Request.{Request}
 use Rattle.node_core.specs.declared.host.Host as host
 use Rattle.node_core.specs.declared.host.Host.TheVariants.{Shell, Node}
-use Rattle.world_core.specs.Machine.{after, hosts}
+use Rattle.world_core.specs.Hosts.{hosts}
+use Rattle.world_core.specs.Machine.{after}
 use Rattle.world_core.specs.Start.{Start}
 use Rattle.commit_laws.specs.PrimaryEvents.{NoneOf}
 use Rattle.commit_laws.specs.Replica.{asks_for}
@@ -53,8 +53,8 @@ some_in (Node n) q key inside = by n.lqh.waiting inside
         which true (inr rest) more = omega (arith, more rest)
         which false rest more = omega (arith, more rest)
 
-module _ (start : Start) (es : List LogStep) (run : IsRun start es) where
-  abbrev logs : ℕ → List LogStep
+module _ (start : Start) (es : List HostStep) (run : IsRun start es) where
+  abbrev logs : ℕ → List HostStep
   logs = logs_of start es
 
   -- what waits at a host is part of what waits
@@ -77,10 +77,10 @@ module _ (start : Start) (es : List LogStep) (run : IsRun start es) where
       by false None = omega arith
 
   -- it isn't decided where some of it is under way, unless it is given up
-  undecided_if : (tx : TxId) (xs : List Signal) → AreInTransit start es xs → 1 ≤ tokens start logs xs tx → IsUndecided start logs tx
-  undecided_if tx xs transit some = by (is_given_up start logs tx) (is_decided logs tx) refl refl
+  undecided_if : (tx : TxId) (xs : List Addressed) → AreInTransit start es xs → 1 ≤ tokens start logs xs tx → IsUndecided start logs tx
+  undecided_if tx xs transit some = by (is_given_up start logs tx) (is_decided start logs tx) refl refl
     where
-      by : (b c : Bool) → is_given_up start logs tx ≡ b → is_decided logs tx ≡ c → IsUndecided start logs tx
+      by : (b c : Bool) → is_given_up start logs tx ≡ b → is_decided start logs tx ≡ c → IsUndecided start logs tx
       by true c e f = inl e
       by false false e f = inr f
       by false true e f = absurd (omega (arith, some, decided_have_none start es xs tx run transit f e))
@@ -91,7 +91,7 @@ none_wait_where_carried_out start es tx key h run carried =
     none_at start es run tx key h (omega (arith, carried_out_have_none start es xs tx run transit carried))
 
 -- the step takes one
-taken_some : (start : Start) (es : List LogStep) (e : LogStep) (tx : TxId) (come : Comes start es e) (t : IsTaking start es e) → is_token tx e.taken.body ≡ true → 1 ≤ tokens_in tx t.before
+taken_some : (start : Start) (es : List HostStep) (e : HostStep) (tx : TxId) (come : Comes start es e) (t : IsTaking start es e) → is_token tx e.step.taken.body ≡ true → 1 ≤ tokens_in tx t.before
 taken_some start es e tx come t is = omega (arith, in_before start tx es e t.before t.between come t.takes, ap one_if is)
 
 pub none_wait_beside : NoneWaitBeside

@@ -3,19 +3,19 @@ use Rattle.std.proofs.Common.{◌≡◌, ◌≢◌, ◌⊎◌, ◌<◌, ℕ, zer
 use Rattle.std.specs.List.{list_any}
 use Rattle.std.proofs.lemmas.Bool.{cases_eq, cases_lt}
 use Rattle.run_theory.proofs.Runs.{log_of-other, log_of-own}
-use Rattle.sig_core.specs.declared.log.LogStep.{LogStep}
+use Rattle.world_core.specs.Steps.{Addressed, HostStep}
 use Rattle.sig_core.specs.declared.member.TxId.{TxId}
 use Rattle.sig_core.specs.declared.outs.Outgoing.{Outgoing}
 use Rattle.sig_core.specs.declared.place.Place.{Place}
 use Rattle.sig_core.specs.declared.signal.Body.{Body}
 use Rattle.sig_core.specs.declared.signal.Body.TheVariants.{Chain}
 use Rattle.sig_core.specs.declared.signal.chain.ChainSignal.TheVariants.{LqhKeyReq, LqhKeyConf, LqhKeyRef}
-use Rattle.sig_core.specs.declared.signal.Signal.{Signal}
 use Rattle.sig_core.specs.Same.{same_tx}
 use Rattle.node_core.specs.declared.host.Host.TheVariants.{Node}
 use Rattle.node_core.specs.Fresh.{begun_node, fresh_node}
 use Rattle.node_core.specs.Requests.{is_request}
-use Rattle.world_core.specs.Machine.{after, hosts, machine, signals_of, step_after}
+use Rattle.world_core.specs.Hosts.{hosts}
+use Rattle.world_core.specs.Machine.{after, machine, signals_of, step_after}
 use Rattle.world_core.specs.Start.{Start}
 use Rattle.commit_laws.specs.Ways.{back_by, sent_ways}
 use Rattle.answer_laws.proofs.Hosts.{node_after, shell_after}
@@ -35,15 +35,15 @@ tally_weighs p [] = refl
 tally_weighs p (x ∷ xs) = ap (λ m. one_if (p x) + m) (tally_weighs p xs)
 
 -- the host of a step is one of those that there are
-pub comes_low : (start : Start) (es : List LogStep) (e : LogStep) → Comes start es e → e.taken.to.node < hosts start
-comes_low start es e come = by (cases_lt e.taken.to.node (hosts start))
+pub comes_low : (start : Start) (es : List HostStep) (e : HostStep) → Comes start es e → e.host < hosts start
+comes_low start es e come = by (cases_lt e.host (hosts start))
   where
-    nothing : e ∷ logs_of start es e.taken.to.node ≡ [] → ⊥
+    nothing : e ∷ logs_of start es e.host ≡ [] → ⊥
     nothing q = cc
 
-    by : (e.taken.to.node < hosts start) ⊎ (hosts start ≤ e.taken.to.node) → e.taken.to.node < hosts start
+    by : (e.host < hosts start) ⊎ (hosts start ≤ e.host) → e.host < hosts start
     by (inl low) = low
-    by (inr high) = absurd (nothing (sym (log_of-own (machine start) e es e.taken.to.node refl) ∙ come.now.within e.taken.to.node high))
+    by (inr high) = absurd (nothing (sym (log_of-own (machine start) e es e.host refl) ∙ come.now.within e.host high))
 
 module _ (start : Start) (tx : TxId) where
   abbrev weight : Place → Body → ℕ
@@ -55,14 +55,14 @@ module _ (start : Start) (tx : TxId) where
   free (Chain (LqhKeyRef other key cause)) e = absurd cc
   free _ e = refl
 
-  module _ (es : List LogStep) (e : LogStep) (before between : List Signal) (come : Comes start es e) (takes : Takes e before between) where
+  module _ (es : List HostStep) (e : HostStep) (before between : List Addressed) (come : Comes start es e) (takes : Takes e before between) where
     abbrev h : ℕ
-    h = e.taken.to.node
+    h = e.host
 
-    abbrev was : ℕ → List LogStep
+    abbrev was : ℕ → List HostStep
     was = logs_of start es
 
-    abbrev now : ℕ → List LogStep
+    abbrev now : ℕ → List HostStep
     now = logs_of start (e ∷ es)
 
     own_log : now h ≡ e ∷ was h
@@ -75,9 +75,9 @@ module _ (start : Start) (tx : TxId) where
     out = tokens_out tx (step_after start h (was h) e).effects.sends
 
     abbrev came : ℕ
-    came = one_if (is_token tx e.taken.body)
+    came = one_if (is_token tx e.step.taken.body)
 
-    abbrev joined_now : List Signal
+    abbrev joined_now : List Addressed
     joined_now = joined (signals_of start h (was h) e) between
 
     -- in transit then are those that were left and those that are sent
@@ -85,17 +85,17 @@ module _ (start : Start) (tx : TxId) where
     in_before =
         omega (
           arith,
-          tally_weighs (λ (x : Signal). is_token tx x.body) before,
-          tally_weighs (λ (x : Signal). is_token tx x.body) between,
-          takes_weigh weight e before between (free e.taken.body) takes,
+          tally_weighs (λ (x : Addressed). is_token tx x.signal.body) before,
+          tally_weighs (λ (x : Addressed). is_token tx x.signal.body) between,
+          takes_weigh weight e before between (free e.step.taken.body) takes,
         )
 
     in_now : tokens_in tx joined_now ≡ out + tokens_in tx between
     in_now =
         omega (
           arith,
-          tally_weighs (λ (x : Signal). is_token tx x.body) joined_now,
-          tally_weighs (λ (x : Signal). is_token tx x.body) between,
+          tally_weighs (λ (x : Addressed). is_token tx x.signal.body) joined_now,
+          tally_weighs (λ (x : Addressed). is_token tx x.signal.body) between,
           tally_weighs (λ (o : Outgoing). is_token tx o.body) (step_after start h (was h) e).effects.sends,
           joins_weigh weight start h (was h) e between,
         )
@@ -118,10 +118,10 @@ module _ (start : Start) (tx : TxId) where
     waiting_some : waits_was ≤ waiting_all start was tx
     waiting_some = total_at (hosts start) (λ k. waiting_in tx (after start k (was k))) h (comes_low start es e come)
 
-    kept : Kept tx h (sent_ways start back_by h (was h)) (after start h (was h)) e.taken.to e.taken.body
-    kept = at_host h (was h) e.taken.to e.taken.body (log_sound start h (was h))
+    kept : Kept tx h (sent_ways start back_by h (was h)) (after start h (was h)) e.step.taken
+    kept = at_host h (was h) e.step.taken (log_sound start h (was h))
       where
-        at_host : (k : ℕ) (log : List LogStep) (to : Place) (body : Body) → IsSoundHost (after start k log) (sent_ways start back_by k log)
+        at_host : (k : ℕ) (log : List HostStep) (to : Place) (body : Body) → IsSoundHost (after start k log) (sent_ways start back_by k log)
             → Kept tx k (sent_ways start back_by k log) (after start k log) to body
         at_host zero log to body sound =
             let s = shell_after start log in
@@ -132,7 +132,7 @@ module _ (start : Start) (tx : TxId) where
             (subst (λ j. Kept tx j (sent_ways start back_by (suc k) log) (Node n.state) to body) n.number
             (node_step_kept tx (sent_ways start back_by (suc k) log) n.state to body (subst (λ g. IsSoundHost g (sent_ways start back_by (suc k) log)) n.is sound)))
 
-    abbrev budget_here : ℕ → List LogStep → ℕ
+    abbrev budget_here : ℕ → List HostStep → ℕ
     budget_here k log = budget_by (list_any (same_tx tx) (sent_ways start back_by k log)) (of_host tx (after start k log))
 
     step_one : tokens start was before tx ≤ budget start was tx → tokens start now joined_now tx ≤ budget start now tx

@@ -3,9 +3,8 @@ use Rattle.std.proofs.Common.{◌≡◌, ◌≤◌, ◌+◌, ℕ, zero, suc, Boo
 use Rattle.std.proofs.lemmas.Bool.Decides.{nat_tests}
 use Rattle.std.specs.Prelude.{if◌then◌else◌, nat_lt, is_some, Option, None, Some}
 use Rattle.run_theory.specs.Lists.{Each}
-use Rattle.sig_core.specs.declared.log.LogStep.{LogStep}
+use Rattle.world_core.specs.Steps.{Addressed, HostStep}
 use Rattle.sig_core.specs.declared.member.TxId.{TxId}
-use Rattle.sig_core.specs.declared.signal.Signal.{Signal}
 use Rattle.sig_core.specs.Same.{same_tx}
 use Rattle.lqh_block.specs.declared.request.Request.{Request}
 use Rattle.node_core.specs.declared.host.Host.{Host}
@@ -13,7 +12,8 @@ use Rattle.node_core.specs.declared.host.Host.TheVariants.{Shell, Node}
 use Rattle.tc_block.specs.declared.phase.Phase.{Phase}
 use Rattle.tc_block.specs.declared.phase.Phase.TheVariants.{Open, Verifying, Committing, Completing, Aborting}
 use Rattle.tc_block.specs.declared.transaction.Transaction.{Transaction}
-use Rattle.world_core.specs.Machine.{after, hosts}
+use Rattle.world_core.specs.Hosts.{hosts}
+use Rattle.world_core.specs.Machine.{after}
 use Rattle.world_core.specs.Start.{Start}
 use Rattle.commit_laws.specs.Replica.{asks_for, is_by}
 use Rattle.commit_laws.specs.ReplicaLaws.{key_in}
@@ -54,7 +54,7 @@ module _ (tx : TxId) (key : List ℕ) where
   host_none (Shell s) none = refl
   host_none (Node n) none = filtered_none n.lqh.waiting none
 
-  module _ (start : Start) (es : List LogStep) (run : IsRun start es) where
+  module _ (start : Start) (es : List HostStep) (run : IsRun start es) where
     none_wait : waiting_all start (logs_of start es) tx ≡ 0 → (h : ℕ) → (view_of start (logs_of start es) tx key).waits h ≡ []
     none_wait none h = by (nat_lt h (hosts start)) refl
       where
@@ -71,7 +71,7 @@ module _ (tx : TxId) (key : List ℕ) where
             let high : hosts start ≤ h = grind (arith, nat_tests, e) in
             ap (λ log. waits_of tx (key_in key (after start h log))) (run.within h high) ∙ none_begun h (omega (arith, high))
 
-    module _ (xs : List Signal) (transit : AreInTransit start es xs) (t : Transaction) (live : live_at start (logs_of start es) tx ≡ Some t) (early : is_early t.phase ≡ true) where
+    module _ (xs : List Addressed) (transit : AreInTransit start es xs) (t : Transaction) (live : live_at start (logs_of start es) tx ≡ Some t) (early : is_early t.phase ≡ true) where
       allowed : budget start (logs_of start es) tx ≡ one_if (is_some t.asked)
       allowed = ap (budget_by (is_given_up start (logs_of start es) tx)) live ∙ by (is_given_up start (logs_of start es) tx) ∙ ap (λ b. if b then 1 else one_if (is_some t.asked)) (early_stays t.phase early)
         where
@@ -84,14 +84,14 @@ module _ (tx : TxId) (key : List ℕ) where
 
       -- none where nothing is asked
       pub record NoTokens : Type 0 where
-        pub signals : Each (λ (x : Signal). is_token tx x.body ≡ false) xs
+        pub signals : Each (λ (x : Addressed). is_token tx x.signal.body ≡ false) xs
         pub waits : (h : ℕ) → (view_of start (logs_of start es) tx key).waits h ≡ []
 
       pub none_asked : t.asked ≡ None → NoTokens
       none_asked none =
           let zero_is : one_if (is_some t.asked) ≡ 0 = ap (λ (o : Option _). one_if (is_some o)) none in
           record {
-            signals = none_passes (λ (x : Signal). is_token tx x.body) xs (omega (arith, bound, zero_is));
+            signals = none_passes (λ (x : Addressed). is_token tx x.signal.body) xs (omega (arith, bound, zero_is));
             waits = none_wait (omega (arith, bound, zero_is));
           }
 
@@ -100,29 +100,29 @@ module _ (tx : TxId) (key : List ℕ) where
       one_most false = omega arith
 
       -- no other one where one was sent
-      pub record IsOnly (new old : List Signal) : Type 0 where
-        pub signals : Each (λ (x : Signal). is_token tx x.body ≡ false) old
+      pub record IsOnly (new old : List Addressed) : Type 0 where
+        pub signals : Each (λ (x : Addressed). is_token tx x.signal.body ≡ false) old
         pub waits : (h : ℕ) → (view_of start (logs_of start es) tx key).waits h ≡ []
 
-      pub one_sent : (new old : List Signal) → xs ≡ joined new old → 1 ≤ tally (λ (x : Signal). is_token tx x.body) new → IsOnly new old
+      pub one_sent : (new old : List Addressed) → xs ≡ joined new old → 1 ≤ tally (λ (x : Addressed). is_token tx x.signal.body) new → IsOnly new old
       one_sent new old is some =
-          let all : tokens_in tx xs ≡ tally (λ (x : Signal). is_token tx x.body) new + tally (λ (x : Signal). is_token tx x.body) old =
-          ap (tokens_in tx) is ∙ tally_joined (λ (x : Signal). is_token tx x.body) new old in
+          let all : tokens_in tx xs ≡ tally (λ (x : Addressed). is_token tx x.signal.body) new + tally (λ (x : Addressed). is_token tx x.signal.body) old =
+          ap (tokens_in tx) is ∙ tally_joined (λ (x : Addressed). is_token tx x.signal.body) new old in
           record {
-            signals = none_passes (λ (x : Signal). is_token tx x.body) old (omega (arith, bound, one_most (is_some t.asked), all, some));
+            signals = none_passes (λ (x : Addressed). is_token tx x.signal.body) old (omega (arith, bound, one_most (is_some t.asked), all, some));
             waits = none_wait (omega (arith, bound, one_most (is_some t.asked), all, some));
           }
 
     -- where it isn't live, and wasn't given up, there is none at all
-    pub record NoneAtAll (xs : List Signal) : Type 0 where
-      pub signals : Each (λ (x : Signal). is_token tx x.body ≡ false) xs
+    pub record NoneAtAll (xs : List Addressed) : Type 0 where
+      pub signals : Each (λ (x : Addressed). is_token tx x.signal.body ≡ false) xs
       pub waits : (h : ℕ) → (view_of start (logs_of start es) tx key).waits h ≡ []
 
-    pub none_live : (xs : List Signal) → AreInTransit start es xs → live_at start (logs_of start es) tx ≡ None → is_given_up start (logs_of start es) tx ≡ false → NoneAtAll xs
+    pub none_live : (xs : List Addressed) → AreInTransit start es xs → live_at start (logs_of start es) tx ≡ None → is_given_up start (logs_of start es) tx ≡ false → NoneAtAll xs
     none_live xs transit none kept =
         let zero_is : budget start (logs_of start es) tx ≡ 0 = λ i. budget_by (kept i) (none i) in
         let bound : tokens_in tx xs + waiting_all start (logs_of start es) tx ≤ 0 = subst (λ n. tokens_in tx xs + waiting_all start (logs_of start es) tx ≤ n) zero_is (one_at_a_time start es xs tx run transit) in
         record {
-          signals = none_passes (λ (x : Signal). is_token tx x.body) xs (omega (arith, bound));
+          signals = none_passes (λ (x : Addressed). is_token tx x.signal.body) xs (omega (arith, bound));
           waits = none_wait (omega (arith, bound));
         }

@@ -3,7 +3,7 @@ use Rattle.std.proofs.Common.{◌≡◌, ℕ, Bool, true, false, List, refl, sym
 use Rattle.std.proofs.lemmas.Bool.{eqb-true}
 use Rattle.std.proofs.lemmas.Bool.Decides.{nat_tests}
 use Rattle.std.specs.Prelude.{◌==◌, if◌then◌else◌, Option, None, Some}
-use Rattle.sig_core.specs.declared.log.LogStep.{LogStep}
+use Rattle.world_core.specs.Steps.{HostStep}
 use Rattle.sig_core.specs.declared.member.Member.{Member}
 use Rattle.sig_core.specs.declared.member.TxId.{TxId}
 use Rattle.sig_core.specs.declared.place.BlockId.{BlockId}
@@ -41,9 +41,9 @@ use Rattle.transit_laws.proofs.GivenUp.{aborts_are_of_given_up, commits_are_of_c
 use Rattle.transit_laws.proofs.NoneWait.{comers_are_undecided, none_wait_beside, none_wait_where_carried_out}
 use Rattle.transit_laws.proofs.RoutedEvents.{commits_end_at_primary, requests_are_for_replicas}
 
-module _ (start : Start) (es : List LogStep) (e : LogStep) (key : List ℕ) (come : Comes start es e) where
+module _ (start : Start) (es : List HostStep) (e : HostStep) (key : List ℕ) (come : Comes start es e) where
   abbrev Owed : Event → Type 0
-  Owed event = IsOwed start (logs_of start es) key e.taken.to.node event
+  Owed event = IsOwed start (logs_of start es) key e.host event
 
   -- an event of another key owes nothing
   owed_if : (own : List ℕ) (event : Event) → (own ≡ key → Owed event) → Owed (if_on own key event)
@@ -61,7 +61,7 @@ module _ (start : Start) (es : List LogStep) (e : LogStep) (key : List ℕ) (com
   expires_owed None = tt
   expires_owed (Some wait) = owed_if wait.1 _ (λ own. tt)
 
-  asked : (tx : TxId) (w : RowWork) (chain : List Member) (at : ℕ) (refused : Bool) → e.taken.body ≡ Chain (LqhKeyReq tx w chain at) → work_key w ≡ key
+  asked : (tx : TxId) (w : RowWork) (chain : List Member) (at : ℕ) (refused : Bool) → e.step.taken.body ≡ Chain (LqhKeyReq tx w chain at) → work_key w ≡ key
       → Owed (asks (record { tx = tx; work = w; chain = chain; at = at }) refused)
   asked tx w chain at refused is own =
       let parts = requests_are_for_replicas start es e tx w chain at come is in
@@ -71,13 +71,13 @@ module _ (start : Start) (es : List LogStep) (e : LogStep) (key : List ℕ) (com
           operation = λ here. parts.0 (here ∙ ap (primary start) (sym own));
           image = λ off. parts.1 (λ here. off (here ∙ ap (primary start) own));
         },
-        (none_wait_beside start es e tx key e.taken.to.node come plain token, comers_are_undecided start es e tx come plain token),
+        (none_wait_beside start es e tx key e.host come plain token, comers_are_undecided start es e tx come plain token),
       )
 
-  committed : (tx : TxId) (epoch : ℕ) (chain : List Member) (at : ℕ) → e.taken.body ≡ Chain (Commit tx key epoch chain at) → Owed (commits tx (at == 0))
+  committed : (tx : TxId) (epoch : ℕ) (chain : List Member) (at : ℕ) → e.step.taken.body ≡ Chain (Commit tx key epoch chain at) → Owed (commits tx (at == 0))
   committed tx epoch chain at is = by (at == 0) refl (commits_are_of_carried_out start es e tx key epoch chain at come is)
     where
-      here : (e.taken.to.node == primary start key) ≡ (at == 0)
+      here : (e.host == primary start key) ≡ (at == 0)
       here = sym (commits_end_at_primary start es e tx key epoch chain at come is)
 
       equal : (one other : ℕ) → one ≡ other → (one == other) ≡ true
@@ -85,31 +85,31 @@ module _ (start : Start) (es : List LogStep) (e : LogStep) (key : List ℕ) (com
 
       by : (b : Bool) → (at == 0) ≡ b → is_carried_out start (logs_of start es) tx ≡ true → Owed (commits tx b)
       by true at_first out = (
-        eqb-true e.taken.to.node (primary start key) (here ∙ at_first),
-        (none_wait_where_carried_out start es tx key e.taken.to.node come.before out, record { decided = commits_are_decided start es e tx key epoch chain at come is; carried = out }),
+        eqb-true e.host (primary start key) (here ∙ at_first),
+        (none_wait_where_carried_out start es tx key e.host come.before out, record { decided = commits_are_decided start es e tx key epoch chain at come is; carried = out }),
       )
       by false later out = (
-        (λ same. true≢false (sym (equal e.taken.to.node (primary start key) same) ∙ (here ∙ later))),
+        (λ same. true≢false (sym (equal e.host (primary start key) same) ∙ (here ∙ later))),
         record { decided = commits_are_decided start es e tx key epoch chain at come is; carried = out },
       )
 
-  at_block : (s : LqhState) (b : BlockId) (body : Body) → e.taken.body ≡ body → Owed (event_for key s b body)
+  at_block : (s : LqhState) (b : BlockId) (body : Body) → e.step.taken.body ≡ body → Owed (event_for key s b body)
   at_block s Lqh (Chain (LqhKeyReq tx w chain at)) is = owed_if (work_key w) _ (asked tx w chain at (is_refused (storage_of s) (record { tx = tx; work = w; chain = chain; at = at })) is)
   at_block s Lqh (Host (Continue Granted at)) is = served s (first (is_granted s.locks) s.waiting)
   at_block s Lqh (Chain (Commit tx own epoch chain at)) is =
       owed_if own _ (λ same. committed tx epoch chain at (is ∙ ap (λ k. Chain (Commit tx k epoch chain at)) same))
   at_block s Lqh (Chain (Complete tx own chain at)) is =
       owed_if own _ (λ same. let now = is ∙ ap (λ k. Chain (Complete tx k chain at)) same in
-      (none_wait_where_carried_out start es tx key e.taken.to.node come.before (completions_are_of_carried_out start es e tx key chain at come now), completions_follow_commits start es e tx key chain at come now))
+      (none_wait_where_carried_out start es tx key e.host come.before (completions_are_of_carried_out start es e tx key chain at come now), completions_follow_commits start es e tx key chain at come now))
   at_block s Lqh (Chain (Abort tx own)) is = owed_if own _ (λ same. aborts_are_of_given_up start es e tx own come is)
   at_block s Lqh (Host Round) is = tt
   at_block s Lqh (Host (Continue Expired at)) is = expires_owed (expired s.locks)
   at_block s Lqh _ is = tt
   at_block s _ body is = tt
 
-  at_any : (g : host.Host) → Owed (event_in key g e.taken.to e.taken.body)
+  at_any : (g : host.Host) → Owed (event_in key g e.step.taken)
   at_any (Shell s) = tt
-  at_any (Node n) = at_block n.lqh e.taken.to.block e.taken.body refl
+  at_any (Node n) = at_block n.lqh e.step.taken.to.block e.step.taken.body refl
 
 pub events_owed : EventsAreOwed
-events_owed start es e key come = at_any start es e key come (after start e.taken.to.node (logs_of start es e.taken.to.node))
+events_owed start es e key come = at_any start es e key come (after start e.host (logs_of start es e.host))

@@ -9,7 +9,7 @@ use Rattle.run_theory.proofs.Pasts.{each_append}
 use Rattle.sig_core.specs.declared.member.Member.{Member}
 use Rattle.sig_core.specs.declared.member.TxId.{TxId}
 use Rattle.sig_core.specs.declared.outs.Outgoing.{Outgoing}
-use Rattle.sig_core.specs.declared.view.View.{View}
+use Rattle.frag_map.specs.Layout.{Layout}
 use Rattle.sig_core.specs.Chain.{last_place}
 use Rattle.sig_core.specs.Same.{same_key, same_tx}
 use Rattle.tc_block.specs.declared.phase.Phase.TheVariants.{Committing, Completing}
@@ -43,17 +43,17 @@ pub length_middle : {A : Type 0} (front : List A) (x : A) (back : List A) → le
 length_middle [] x back = omega arith
 length_middle (y ∷ front) x back = omega (arith, length_middle front x back)
 
-module _ (tx : TxId) (node : ℕ) (view : View) where
-  commits_are : (epoch awaited : ℕ) (touched : List Touched) → phase_sends view tx (Committing epoch awaited) touched ≡ map (commit_of tx epoch) touched
+module _ (tx : TxId) (node : ℕ) (layout : Layout) where
+  commits_are : (epoch awaited : ℕ) (touched : List Touched) → phase_sends layout tx (Committing epoch awaited) touched ≡ map (commit_of tx epoch) touched
   unfolding phase_sends front_sends key_sends
   commits_are epoch awaited touched = all touched
     where
-      all : (us : List Touched) → flat_map (key_sends view tx (Committing epoch awaited)) us ≡ map (commit_of tx epoch) us
+      all : (us : List Touched) → flat_map (key_sends layout tx (Committing epoch awaited)) us ≡ map (commit_of tx epoch) us
       all [] = refl
       all (u ∷ us) = ap (λ os. commit_of tx epoch u ∷ os) (all us)
 
   pub part_weighs : (epoch awaited at : ℕ) (touched : List Touched)
-      → in_sends (weight tx (length touched)) (part_effects node tx (phase_sends view tx (Committing epoch awaited) touched) at).sends ≤ length touched - at
+      → in_sends (weight tx (length touched)) (part_effects node tx (phase_sends layout tx (Committing epoch awaited) touched) at).sends ≤ length touched - at
   unfolding part_effects
   part_weighs epoch awaited at touched =
       subst (λ xs. in_sends (weight tx (length touched)) (take 8 (drop at xs) ++ rest_if node tx at (nat_lt (at + 8) (length xs))) ≤ length touched - at) (sym (commits_are epoch awaited touched))
@@ -84,7 +84,7 @@ module _ (tx : TxId) (node : ℕ) (view : View) where
       by false e = omega (arith, weigh_append w (take 8 (drop at xs)) (rest_if node tx at false), part_is)
 
   pub part_covers : (epoch awaited at : ℕ) (front : List Touched) (u : Touched) (back : List Touched) → node ≡ tx.tc → at ≤ length front
-      → 1 ≤ in_sends (cover tx u.key (length front)) (part_effects node tx (phase_sends view tx (Committing epoch awaited) (front ++ u ∷ back)) at).sends
+      → 1 ≤ in_sends (cover tx u.key (length front)) (part_effects node tx (phase_sends layout tx (Committing epoch awaited) (front ++ u ∷ back)) at).sends
   unfolding part_effects
   part_covers epoch awaited at front u back home low =
       subst (λ xs. 1 ≤ in_sends (cover tx u.key (length front)) (take 8 (drop at xs) ++ rest_if node tx at (nat_lt (at + 8) (length xs)))) (sym (commits_are epoch awaited (front ++ u ∷ back)))
@@ -142,13 +142,13 @@ module _ (tx : TxId) (node : ℕ) (view : View) where
     pub more : List Outgoing
     pub is : sends ≡ first ∷ more
 
-  pub first_commit : (epoch awaited : ℕ) (u : Touched) (us : List Touched) → Starts (commit_of tx epoch u) (part_effects node tx (phase_sends view tx (Committing epoch awaited) (u ∷ us)) 0).sends
+  pub first_commit : (epoch awaited : ℕ) (u : Touched) (us : List Touched) → Starts (commit_of tx epoch u) (part_effects node tx (phase_sends layout tx (Committing epoch awaited) (u ∷ us)) 0).sends
   unfolding part_effects
   first_commit epoch awaited u us =
       subst (λ xs. Starts (commit_of tx epoch u) (take 8 (drop 0 xs) ++ rest_if node tx 0 (nat_lt (0 + 8) (length xs)))) (sym (commits_are epoch awaited (u ∷ us)))
       (record { more = take 7 (map (commit_of tx epoch) us) ++ rest_if node tx 0 (nat_lt (0 + 8) (length (map (commit_of tx epoch) (u ∷ us)))); is = refl })
 
-  pub no_commits : (epoch awaited : ℕ) → (part_effects node tx (phase_sends view tx (Committing epoch awaited) []) 0).sends ≡ []
+  pub no_commits : (epoch awaited : ℕ) → (part_effects node tx (phase_sends layout tx (Committing epoch awaited) []) 0).sends ≡ []
   unfolding part_effects
   no_commits epoch awaited = ap (λ xs. take 8 (drop 0 xs) ++ rest_if node tx 0 (nat_lt (0 + 8) (length xs))) (commits_are epoch awaited [])
 
@@ -167,23 +167,23 @@ module _ (tx : TxId) (node : ℕ) (view : View) where
         (rest_tells at (nat_lt (at + 8) (length xs)))
 
     pub commits_tell : (epoch awaited at : ℕ) (touched : List Touched) → Each (λ (u : Touched). C u.key u.chain (last_place u.chain)) touched
-        → Each SoTells (part_effects node tx (phase_sends view tx (Committing epoch awaited) touched) at).sends
+        → Each SoTells (part_effects node tx (phase_sends layout tx (Committing epoch awaited) touched) at).sends
     commits_tell epoch awaited at touched all =
-        part_tells (phase_sends view tx (Committing epoch awaited) touched) at (subst (Each SoTells) (sym (commits_are epoch awaited touched)) (each touched all))
+        part_tells (phase_sends layout tx (Committing epoch awaited) touched) at (subst (Each SoTells) (sym (commits_are epoch awaited touched)) (each touched all))
       where
         each : (us : List Touched) → Each (λ (u : Touched). C u.key u.chain (last_place u.chain)) us → Each SoTells (map (commit_of tx epoch) us)
         each [] all = tt
         each (u ∷ us) all = (λ e. all.0, each us all.1)
 
     pub completions_tell : (epoch awaited at : ℕ) (touched : List Touched) → Each (λ (u : Touched). D u.key) touched
-        → Each SoTells (part_effects node tx (phase_sends view tx (Completing epoch awaited) touched) at).sends
+        → Each SoTells (part_effects node tx (phase_sends layout tx (Completing epoch awaited) touched) at).sends
     unfolding phase_sends front_sends key_sends
-    completions_tell epoch awaited at touched all = part_tells (phase_sends view tx (Completing epoch awaited) touched) at (tt, each touched all)
+    completions_tell epoch awaited at touched all = part_tells (phase_sends layout tx (Completing epoch awaited) touched) at (tt, each touched all)
       where
         one : (u : Touched) → D u.key → (b : Bool) → Each SoTells (complete_if tx u b)
         one u d true = (λ e. d, tt)
         one u d false = tt
 
-        each : (us : List Touched) → Each (λ (u : Touched). D u.key) us → Each SoTells (flat_map (key_sends view tx (Completing epoch awaited)) us)
+        each : (us : List Touched) → Each (λ (u : Touched). D u.key) us → Each SoTells (flat_map (key_sends layout tx (Completing epoch awaited)) us)
         each [] all = tt
-        each (u ∷ us) all = each_append SoTells (complete_if tx u u.written) (flat_map (key_sends view tx (Completing epoch awaited)) us) (one u all.0 u.written) (each us all.1)
+        each (u ∷ us) all = each_append SoTells (complete_if tx u u.written) (flat_map (key_sends layout tx (Completing epoch awaited)) us) (one u all.0 u.written) (each us all.1)

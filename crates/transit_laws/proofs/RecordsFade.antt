@@ -2,7 +2,7 @@
 use Rattle.std.proofs.Common.{◌≡◌, ℕ, zero, suc, Bool, true, false, List, [], ◌∷◌, refl, sym, ap, ◌∙◌, subst}
 use Rattle.std.specs.Prelude.{if◌then◌else◌, Option, None, Some}
 use Rattle.run_theory.specs.Lists.{Each}
-use Rattle.sig_core.specs.declared.log.LogStep.{LogStep}
+use Rattle.world_core.specs.Steps.{HostStep}
 use Rattle.sig_core.specs.declared.member.TxId.{TxId}
 use Rattle.sig_core.specs.declared.op.Answer.{Answer}
 use Rattle.sig_core.specs.declared.op.Answer.TheVariants.{Done, Found, Missing, E626, E630}
@@ -101,12 +101,12 @@ once_after (expires tx) r once = once
 once_after (ages None) r once = once
 once_after (ages (Some tx)) r once = once
 
-pub once_at : (start : Start) (key : List ℕ) (h : ℕ) (log : List LogStep) → AreOnce (key_in key (after start h log)).cell.pending
+pub once_at : (start : Start) (key : List ℕ) (h : ℕ) (log : List HostStep) → AreOnce (key_in key (after start h log)).cell.pending
 once_at start key zero [] = subst (λ g. AreOnce (key_in key g).cell.pending) (sym (shell_after start []).is) tt
 once_at start key (suc h) [] = subst (λ (r : Replica). AreOnce r.cell.pending) (sym (nodes_begin start h key)) tt
 once_at start key h (e ∷ log) =
     subst (λ (r : Replica). AreOnce r.cell.pending) (sym (logs_follow start h log e key))
-    (once_after (event_in key (after start h log) e.taken.to e.taken.body) (key_in key (after start h log)) (once_at start key h log))
+    (once_after (event_in key (after start h log) e.step.taken) (key_in key (after start h log)) (once_at start key h log))
 
 -- the event neither asks for anything of the transaction nor aborts it
 abbrev pub IsHarmless : TxId → Replica → Event → Type 0

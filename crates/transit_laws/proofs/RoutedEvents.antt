@@ -54,12 +54,12 @@ coming_are_routed start es e comes =
 
 pub requests_are_for_replicas : RequestsAreForReplicas
 requests_are_for_replicas start es e tx work chain at comes is =
-    let routed : IsRequestRouted start e.taken.to.node (record { tx = tx; work = work; chain = chain; at = at }) =
-    subst (IsRouted start e.taken.to.node) is (coming_are_routed start es e comes).routed in
+    let routed : IsRequestRouted start e.host (record { tx = tx; work = work; chain = chain; at = at }) =
+    subst (IsRouted start e.host) is (coming_are_routed start es e comes).routed in
     let some = places_some start es comes.before in
-    for_replica start some e.taken.to.node (work_key work) work at routed.work (place_of start some e.taken.to.node (work_key work) chain at routed.chain routed.sent)
+    for_replica start some e.host (work_key work) work at routed.work (place_of start some e.host (work_key work) chain at routed.chain routed.sent)
 
 pub commits_end_at_primary : CommitsEndAtPrimary
 commits_end_at_primary start es e tx key epoch chain at comes is =
-    let routed : IsCommitRouted start e.taken.to.node key chain at = subst (IsRouted start e.taken.to.node) is (coming_are_routed start es e comes).routed in
-    at_primary start (places_some start es comes.before) e.taken.to.node key chain at routed
+    let routed : IsCommitRouted start e.host key chain at = subst (IsRouted start e.host) is (coming_are_routed start es e comes).routed in
+    at_primary start (places_some start es comes.before) e.host key chain at routed

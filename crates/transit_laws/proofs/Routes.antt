@@ -2,25 +2,25 @@
 use Rattle.std.proofs.Common.{◌≡◌, ◌<◌, ℕ, Bool, true, false, zero, suc, true, false, List, ◌∷◌, length, refl, ◌∙◌, arith}
 use Rattle.run_theory.specs.Lists.{Each}
 use Rattle.run_theory.proofs.Pasts.{each_map}
-use Rattle.sig_core.specs.declared.log.LogStep.{LogStep}
+use Rattle.world_core.specs.Steps.{Addressed, HostStep}
 use Rattle.sig_core.specs.declared.place.BlockId.{BlockId}
 use Rattle.sig_core.specs.declared.place.BlockId.TheVariants as block
 use Rattle.sig_core.specs.declared.place.Place.{Place}
 use Rattle.sig_core.specs.declared.signal.Body.{Body}
 use Rattle.sig_core.specs.declared.signal.Body.TheVariants.{Chain}
-use Rattle.sig_core.specs.declared.signal.Signal.{Signal}
 use Rattle.sig_core.specs.Step.{Step}
-use Rattle.api_block.specs.Api.{api_row}
+use Rattle.api_block.specs.Api.{api_table}
 use Rattle.api_block.specs.State.{ApiState}
 use Rattle.node_core.specs.declared.host.Host as host
 use Rattle.node_core.specs.declared.host.Host.TheVariants.{Shell, Node}
 use Rattle.node_core.specs.declared.node.Node as node
-use Rattle.node_core.specs.Dih.{DihState, dih_row}
+use Rattle.node_core.specs.Dih.{DihState, dih_table}
 use Rattle.node_core.specs.Fresh.{begun_node, fresh_node, fresh_shell}
 use Rattle.node_core.specs.Requests.{is_request}
 use Rattle.node_core.specs.Row.{node_row, row, shell_row}
 use Rattle.world_core.specs.Machine.{after, signals_of}
-use Rattle.world_core.specs.Start.{Start, started}
+use Rattle.world_core.specs.Hosts.{started}
+use Rattle.world_core.specs.Start.{Start}
 use Rattle.answer_laws.proofs.ApiMoves.{is_api_kind}
 use Rattle.answer_laws.proofs.DihSends.{dih_kinds}
 use Rattle.answer_laws.proofs.SendKinds.{each_of, is_dih_kind}
@@ -49,11 +49,11 @@ module _ (start : Start) where
   request_plain (Chain c) e = cc
   request_plain _ e = refl
 
-  api_sent : (s : ApiState) (body : Body) → AreSent start (api_row s body).effects.sends
+  api_sent : (s : ApiState) (body : Body) → AreSent start (api_table s body).effects.sends
   api_sent s body = api_each (λ o. IsSent start o) (λ o is. plain_sent start o.to o.body (api_plain o.body is)) (λ name node. record { routed = tt; block = tt }) s body
 
-  dih_sent : (s : DihState) (body : Body) → AreSent start (dih_row s body).effects.sends
-  dih_sent s body = each_of is_dih_kind (λ o. IsSent start o) (λ o is. plain_sent start o.to o.body (dih_plain o.body is)) (dih_row s body).effects.sends (dih_kinds s body)
+  dih_sent : (s : DihState) (body : Body) → AreSent start (dih_table s body).effects.sends
+  dih_sent s body = each_of is_dih_kind (λ o. IsSent start o) (λ o is. plain_sent start o.to o.body (dih_plain o.body is)) (dih_table s body).effects.sends (dih_kinds s body)
 
   -- a step of a host
   record HostRoutes (h : ℕ) (step : Step host.Host) : Type 0 where
@@ -88,34 +88,34 @@ module _ (start : Start) where
   started_routed zero = tt
   started_routed (suc h) = (refl, (tt, tt))
 
-  pub record AllRouted (es : List LogStep) (xs : List Signal) : Type 0 where
-    pub signals : Each (λ (x : Signal). IsOnWay start x.to x.body) xs
+  pub record AllRouted (es : List HostStep) (xs : List Addressed) : Type 0 where
+    pub signals : Each (λ (x : Addressed). IsOnWay start x.signal.to x.signal.body) xs
     pub hosts : (h : ℕ) → IsHostRouted start h (host_after start es h)
 
   -- so is what a step takes
-  pub took_routed : (es : List LogStep) (e : LogStep) (before between : List Signal) → AllRouted es before → Takes e before between → IsOnWay start e.taken.to e.taken.body
-  took_routed es e before between all takes = by (is_request e.taken.body) refl
+  pub took_routed : (es : List HostStep) (e : HostStep) (before between : List Addressed) → AllRouted es before → Takes e before between → IsOnWay start e.step.taken
+  took_routed es e before between all takes = by (is_request e.step.taken.body) refl
     where
-      by : (b : Bool) → is_request e.taken.body ≡ b → IsOnWay start e.taken.to e.taken.body
-      by true is = plain_sent start e.taken.to e.taken.body (request_plain e.taken.body is)
-      by false is = each_taken (λ (x : Signal). IsOnWay start x.to x.body) e before between is takes all.signals
+      by : (b : Bool) → is_request e.step.taken.body ≡ b → IsOnWay start e.step.taken
+      by true is = plain_sent start e.step.taken (request_plain e.step.taken.body is)
+      by false is = each_taken (λ (x : Addressed). IsOnWay start x.signal.to x.signal.body) e before between is takes all.signals
 
-  pub places_some : (es : List LogStep) → IsRun start es → (key : List ℕ) → 0 < length (replicas start key)
+  pub places_some : (es : List HostStep) → IsRun start es → (key : List ℕ) → 0 < length (replicas start key)
   places_some es run key = omega (arith, run.some, replicas_length start key)
 
-  next_routed : (es : List LogStep) (e : LogStep) (before between : List Signal) → Comes start es e → AllRouted es before → Takes e before between
-      → AllRouted (e ∷ es) (joined (signals_of start e.taken.to.node (logs_of start es e.taken.to.node) e) between)
+  next_routed : (es : List HostStep) (e : HostStep) (before between : List Addressed) → Comes start es e → AllRouted es before → Takes e before between
+      → AllRouted (e ∷ es) (joined (signals_of start e.host (logs_of start es e.host) e) between)
   next_routed es e before between comes all takes =
-      let h = e.taken.to.node in
+      let h = e.host in
       let log = logs_of start es h in
       let is = took_routed es e before between all takes in
-      let step = host_routes (places_some es comes.before) h (after start h log) e.taken.to e.taken.body is.routed (all.hosts h) in
+      let step = host_routes (places_some es comes.before) h (after start h log) e.step.taken is.routed (all.hosts h) in
       record {
-        signals = each_joins (λ to body. IsOnWay start to body) start h log e between step.sends (each_between (λ (x : Signal). IsOnWay start x.to x.body) e before between takes all.signals);
+        signals = each_joins (λ to body. IsOnWay start to body) start h log e between step.sends (each_between (λ (x : Addressed). IsOnWay start x.signal.to x.signal.body) e before between takes all.signals);
         hosts = each_host start (λ g s. IsHostRouted start g s) es e step.state all.hosts;
       }
 
-  pub all_routed : (es : List LogStep) (xs : List Signal) → IsRun start es → AreInTransit start es xs → AllRouted es xs
+  pub all_routed : (es : List HostStep) (xs : List Addressed) → IsRun start es → AreInTransit start es xs → AllRouted es xs
   all_routed =
       along_transit start (λ es xs. AllRouted es xs) (record { signals = tt; hosts = started_routed })
       (λ es e before between comes transit all takes. next_routed es e before between comes all takes)
@@ -123,8 +123,8 @@ module _ (start : Start) where
 pub signals_are_routed : SignalsAreRouted
 signals_are_routed start es xs run transit =
     let all = all_routed start es xs run transit in
-    record { signals = each_map (λ (x : Signal). IsOnWay start x.to x.body) (λ (x : Signal). IsRouted start x.to.node x.body) xs (λ x is. is.routed) all.signals; hosts = all.hosts }
+    record { signals = each_map (λ (x : Addressed). IsOnWay start x.signal.to x.signal.body) (λ (x : Addressed). IsRouted start x.signal.to.node x.signal.body) xs (λ x is. is.routed) all.signals; hosts = all.hosts }
 
 pub signals_are_for_blocks : SignalsAreForBlocks
 signals_are_for_blocks start es xs run transit =
-    each_map (λ (x : Signal). IsOnWay start x.to x.body) (λ (x : Signal). IsForBlock x.to x.body) xs (λ x is. is.block) (all_routed start es xs run transit).signals
+    each_map (λ (x : Addressed). IsOnWay start x.signal.to x.signal.body) (λ (x : Addressed). IsForBlock x.signal.to x.signal.body) xs (λ x is. is.block) (all_routed start es xs run transit).signals

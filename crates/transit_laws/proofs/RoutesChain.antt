@@ -4,8 +4,9 @@ use Rattle.std.proofs.lemmas.Bool.{cases_lt}
 use Rattle.std.specs.Prelude.{Some, slice_get}
 use Rattle.sig_core.specs.declared.member.Member.{Member}
 use Rattle.sig_core.specs.Chain.{last_place, node_at, node_of, primary_of}
-use Rattle.tc_block.specs.Chain.{chain_of}
-use Rattle.world_core.specs.Start.{Start, members}
+use Rattle.frag_map.specs.Layout.{chain_of}
+use Rattle.frag_map.specs.Layout.{members}
+use Rattle.world_core.specs.Start.{Start}
 use Rattle.transit_laws.specs.Routes.{ReplicasAreApart, ReplicasAreNodes, replicas}
 
 get_front : {A : Type 0} (xs ys : List A) (i : ℕ) → i < length xs → slice_get (xs ++ ys) i ≡ slice_get xs i
@@ -34,14 +35,14 @@ member_at (suc n) i low = by (cases_lt i n) (member_at n i)
         let same : length (members n) ≡ i = omega (arith, low, past, members_length n) in
         subst (λ k. node_at (members n ++ last ∷ []) k ≡ k + 1) same (ap node_of (get_next (members n) last) ∙ omega (arith, members_length n))
 
-pub replicas_length : (start : Start) (key : List ℕ) → length (replicas start key) ≡ start.nodes
+pub replicas_length : (start : Start) (key : List ℕ) → length (replicas start key) ≡ start.shape.nodes
 unfolding chain_of
-replicas_length start key = members_length start.nodes
+replicas_length start key = members_length start.shape.nodes
 
 -- the node at a place
 pub replica_at : (start : Start) (key : List ℕ) (at : ℕ) → at < length (replicas start key) → node_at (replicas start key) at ≡ at + 1
 unfolding chain_of
-replica_at start key at inside = member_at start.nodes at (omega (arith, inside, members_length start.nodes))
+replica_at start key at inside = member_at start.shape.nodes at (omega (arith, inside, members_length start.shape.nodes))
 
 pub replicas_are_apart : ReplicasAreApart
 replicas_are_apart start key one other here there same = omega (arith, same, replica_at start key one here, replica_at start key other there)

@@ -13,7 +13,7 @@ use Rattle.sig_core.specs.Chain.{node_at, node_of}
 use Rattle.sig_core.specs.Place.{rows_of}
 use Rattle.sig_core.specs.Step.{Step, to_place}
 use Rattle.lqh_block.specs.declared.request.Request.{Request}
-use Rattle.lqh_block.specs.Lqh.{lqh_row}
+use Rattle.lqh_block.specs.Lqh.{lqh_table}
 use Rattle.lqh_block.specs.State.{LqhState}
 use Rattle.world_core.specs.Start.{Start}
 use Rattle.commit_laws.proofs.EachLqh.{RequestSends, lqh_sends_each}
@@ -48,7 +48,7 @@ module _ (start : Start) (h : ℕ) where
   }
 
   -- and a commit or a completion to the place in front
-  sent_on : (s : LqhState) (body : Body) → IsRouted start h body → AreWaiting s.waiting → AreSent start (lqh_row s body).effects.sends
+  sent_on : (s : LqhState) (body : Body) → IsRouted start h body → AreWaiting s.waiting → AreSent start (lqh_table s body).effects.sends
   sent_on s body is all =
       lqh_sends_each (λ (o : Outgoing). IsSent start o) s body (record {
         asked = λ r same. request_sent r (subst (IsRouted start h) same is);
@@ -75,5 +75,5 @@ module _ (start : Start) (h : ℕ) where
       complete_sent tx key chain at is = record { routed = record { along = is.along; sent = record { inside = omega (arith, is.sent.inside); node_is = refl } }; block = refl }
 
   -- whatever they take
-  pub lqh_routed : (s : LqhState) (body : Body) → IsRouted start h body → AreWaiting s.waiting → RowsRoute (lqh_row s body)
+  pub lqh_routed : (s : LqhState) (body : Body) → IsRouted start h body → AreWaiting s.waiting → RowsRoute (lqh_table s body)
   lqh_routed s body is all = record { waiting = waiting_each (λ (q : Request). IsRequestRouted start h q) s body (λ r same. subst (IsRouted start h) same is) all; sends = sent_on s body is all }

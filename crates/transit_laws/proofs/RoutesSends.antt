@@ -11,12 +11,12 @@ use Rattle.sig_core.specs.declared.outs.Outgoing.{Outgoing}
 use Rattle.sig_core.specs.declared.place.Place.{Place}
 use Rattle.sig_core.specs.declared.signal.Body.{Body}
 use Rattle.sig_core.specs.declared.signal.Body.TheVariants.{Chain}
-use Rattle.sig_core.specs.declared.view.View.{View}
+use Rattle.frag_map.specs.Layout.{Layout}
 use Rattle.sig_core.specs.Chain.{primary_of}
 use Rattle.tc_block.specs.declared.phase.Phase.{Phase}
 use Rattle.tc_block.specs.declared.phase.Phase.TheVariants.{Open, Verifying, Committing, Completing, Aborting}
 use Rattle.tc_block.specs.declared.touched.Touched.{Touched}
-use Rattle.tc_block.specs.Chain.{chain_of}
+use Rattle.frag_map.specs.Layout.{chain_of}
 use Rattle.tc_block.specs.Sends.{abort_of, aborts_of, commit_of, complete_if, complete_of, front_sends, key_sends, phase_sends}
 use Rattle.world_core.specs.Start.{Start}
 use Rattle.commit_laws.proofs.EachSent.{each_mapped}
@@ -81,13 +81,13 @@ module _ (start : Start) (some : (key : List ℕ) → 0 < length (replicas start
   pub aborts_sent : (key : List ℕ) (chain : List Member) → AreSent start (aborts_of tx key chain)
   aborts_sent key chain = each_mapped (λ (o : Outgoing). IsSent start o) (abort_of tx key) chain (λ r. record { routed = tt; block = refl })
 
-  key_sent : (view : View) (phase : Phase) (t : Touched) → IsTouchedRouted start t → AreSent start (key_sends view tx phase t)
+  key_sent : (layout : Layout) (phase : Phase) (t : Touched) → IsTouchedRouted start t → AreSent start (key_sends layout tx phase t)
   unfolding key_sends
-  key_sent view Open t is = tt
-  key_sent view Verifying t is = tt
-  key_sent view (Committing epoch awaited) t is = (commit_sent epoch t is, tt)
-  key_sent view (Completing epoch awaited) t is = complete_if_sent t t.written is
-  key_sent view (Aborting why verifying awaited) t is = aborts_sent t.key (chain_of view t.key)
+  key_sent layout Open t is = tt
+  key_sent layout Verifying t is = tt
+  key_sent layout (Committing epoch awaited) t is = (commit_sent epoch t is, tt)
+  key_sent layout (Completing epoch awaited) t is = complete_if_sent t t.written is
+  key_sent layout (Aborting why verifying awaited) t is = aborts_sent t.key (chain_of layout t.key)
 
   front_sent : (phase : Phase) → AreSent start (front_sends tx phase)
   unfolding front_sends
@@ -97,8 +97,8 @@ module _ (start : Start) (some : (key : List ℕ) → 0 < length (replicas start
   front_sent (Completing epoch awaited) = (record { routed = tt; block = tt }, tt)
   front_sent (Aborting why verifying awaited) = tt
 
-  pub phase_sent : (view : View) (phase : Phase) (touched : List Touched) → Each (IsTouchedRouted start) touched → AreSent start (phase_sends view tx phase touched)
+  pub phase_sent : (layout : Layout) (phase : Phase) (touched : List Touched) → Each (IsTouchedRouted start) touched → AreSent start (phase_sends layout tx phase touched)
   unfolding phase_sends
-  phase_sent view phase touched all =
-      each_append (λ (o : Outgoing). IsSent start o) (front_sends tx phase) (flat_map (key_sends view tx phase) touched) (front_sent phase)
-      (each_flat_of (IsTouchedRouted start) (λ (o : Outgoing). IsSent start o) (key_sends view tx phase) touched (λ t is. key_sent view phase t is) all)
+  phase_sent layout phase touched all =
+      each_append (λ (o : Outgoing). IsSent start o) (front_sends tx phase) (flat_map (key_sends layout tx phase) touched) (front_sent phase)
+      (each_flat_of (IsTouchedRouted start) (λ (o : Outgoing). IsSent start o) (key_sends layout tx phase) touched (λ t is. key_sent layout phase t is) all)

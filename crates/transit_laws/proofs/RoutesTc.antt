@@ -12,12 +12,13 @@ use Rattle.sig_core.specs.declared.signal.Body.{Body}
 use Rattle.sig_core.specs.Op.{key_of}
 use Rattle.tc_block.specs.declared.touched.Touched.{Touched}
 use Rattle.tc_block.specs.declared.transaction.Transaction.{Transaction}
-use Rattle.tc_block.specs.Chain.{chain_of}
+use Rattle.frag_map.specs.Layout.{chain_of}
 use Rattle.tc_block.specs.Operate.{operating, touched_after}
 use Rattle.tc_block.specs.State.{TcState}
-use Rattle.tc_block.specs.Tc.{tc_row}
+use Rattle.tc_block.specs.Tc.{tc_table}
 use Rattle.tc_block.specs.Touched.{place_of, touched_by, unwritten, written, written_by}
-use Rattle.world_core.specs.Start.{Start, first_view}
+use Rattle.frag_map.specs.Layout.{first_layout}
+use Rattle.world_core.specs.Start.{Start}
 use Rattle.commit_laws.proofs.EachSent.{each_set}
 use Rattle.commit_laws.proofs.LiveKeeps.{AllAre, LiveKeeps, StepKeeps, TurnsKeep, live_keeps}
 use Rattle.transit_laws.specs.Routes.{IsAskedRouted, IsTouchedRouted, IsTransactionRouted, replicas}
@@ -41,13 +42,13 @@ module _ (start : Start) (some : (key : List ℕ) → 0 < length (replicas start
   answered_routed t fine answer.E626 op chain is = fine.touched
   answered_routed t fine answer.E630 op chain is = fine.touched
 
-  turns_routed : TurnsKeep (λ t. IsTransactionRouted start t) (λ o. IsSent start o) (first_view start.nodes)
+  turns_routed : TurnsKeep (λ t. IsTransactionRouted start t) (λ o. IsSent start o) (first_layout start.shape)
   turns_routed = record {
     phase = λ t phase fine. record { touched = fine.touched; asked = fine.asked };
     unasked = λ t fine. record { touched = fine.touched; asked = tt };
     answered = λ t asked answer is fine. record { touched = answered_routed t fine answer asked.op asked.chain (subst (IsAskedRouted start) is fine.asked); asked = tt };
-    sends = λ tx t phase fine. phase_sent start some tx (first_view start.nodes) phase t.touched fine.touched;
-    aborts = λ tx key. aborts_sent start some tx key (chain_of (first_view start.nodes) key);
+    sends = λ tx t phase fine. phase_sent start some tx (first_layout start.shape) phase t.touched fine.touched;
+    aborts = λ tx key. aborts_sent start some tx key (chain_of (first_layout start.shape) key);
     plain = λ o e. plain_sent start o.to o.body e;
   }
 
@@ -59,8 +60,8 @@ module _ (start : Start) (some : (key : List ℕ) → 0 < length (replicas start
   }
 
   -- whatever it takes
-  pub tc_routed : (s : TcState) (body : Body) → s.view ≡ first_view start.nodes → AllAre (λ t. IsTransactionRouted start t) s.live
-      → LiveKeeps (λ t. IsTransactionRouted start t) (λ o. IsSent start o) s.view (tc_row s body)
+  pub tc_routed : (s : TcState) (body : Body) → s.layout ≡ first_layout start.shape → AllAre (λ t. IsTransactionRouted start t) s.live
+      → LiveKeeps (λ t. IsTransactionRouted start t) (λ o. IsSent start o) s.layout (tc_table s body)
   tc_routed s body is all =
       live_keeps (λ t. IsTransactionRouted start t) (λ o. IsSent start o) s body (record { touched = tt; asked = tt })
       (subst (λ v. TurnsKeep (λ t. IsTransactionRouted start t) (λ o. IsSent start o) v) (sym is) turns_routed)

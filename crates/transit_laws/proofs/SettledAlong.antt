@@ -3,7 +3,7 @@
 use Rattle.std.proofs.Common.{◌≡◌, ◌⊎◌, ◌≤◌, ◌<◌, ℕ, zero, suc, true, length, List, refl, sym, ap, ◌∙◌, subst, arith, inl, inr}
 use Rattle.std.specs.Prelude.{if◌then◌else◌, is_some, Option, None, Some}
 use Rattle.std.proofs.lemmas.Bool.{cases_lt}
-use Rattle.sig_core.specs.declared.log.LogStep.{LogStep}
+use Rattle.world_core.specs.Steps.{HostStep}
 use Rattle.sig_core.specs.declared.member.TxId.{TxId}
 use Rattle.sig_core.specs.declared.op.Answer.{Answer}
 use Rattle.sig_core.specs.declared.op.Op.{Op}
@@ -31,7 +31,7 @@ is_replica start key (suc h) = by (cases_lt h (length (replicas start key)))
     by (inl low) = inl (record { at = h; inside = low; node_is = omega (arith, replica_at start key h low) })
     by (inr high) = inr (λ r. omega (arith, high, r.inside, r.node_is, replica_at start key r.at r.inside))
 
-module _ (start : Start) (logs : ℕ → List LogStep) (tx : TxId) (ops : List (Op × Answer)) (u : Touched) (settled : IsSettledFor start logs tx ops u.key) where
+module _ (start : Start) (logs : ℕ → List HostStep) (tx : TxId) (ops : List (Op × Answer)) (u : Touched) (settled : IsSettledFor start logs tx ops u.key) where
   abbrev here : Option PendingRecord
   here = found tx (at_primary start logs u.key).replica.cell.pending
 
@@ -71,6 +71,6 @@ module _ (start : Start) (logs : ℕ → List LogStep) (tx : TxId) (ops : List (
       within h has =
           along_all h (has_place h has) (routed ∙ ap (λ b. if b then replicas start u.key else primary_of (replicas start u.key)) (was_written h has))
 
-pub settled_along : (start : Start) (logs : ℕ → List LogStep) (tx : TxId) (ops : List (Op × Answer)) (u : Touched) → IsSettledFor start logs tx ops u.key → IsTouchedRouted start u → IsWrittenRightly ops u
+pub settled_along : (start : Start) (logs : ℕ → List HostStep) (tx : TxId) (ops : List (Op × Answer)) (u : Touched) → IsSettledFor start logs tx ops u.key → IsTouchedRouted start u → IsWrittenRightly ops u
     → IsAlong start logs tx u
 settled_along start logs tx ops u settled routed right = is_along start logs tx ops u settled routed right

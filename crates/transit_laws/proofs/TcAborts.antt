@@ -9,7 +9,7 @@ use Rattle.sig_core.specs.declared.member.TxId.{TxId}
 use Rattle.sig_core.specs.declared.outcome.AbortCause.{AbortCause}
 use Rattle.sig_core.specs.declared.outs.Outgoing.{Outgoing}
 use Rattle.sig_core.specs.declared.signal.Body.{Body}
-use Rattle.sig_core.specs.declared.view.View.{View}
+use Rattle.frag_map.specs.Layout.{Layout}
 use Rattle.sig_core.specs.Op.{key_of}
 use Rattle.sig_core.specs.Same.{same_tx}
 use Rattle.tc_block.specs.declared.phase.Asked.{Asked}
@@ -17,7 +17,7 @@ use Rattle.tc_block.specs.declared.phase.Phase.TheVariants.{Aborting}
 use Rattle.tc_block.specs.declared.touched.Touched.{Touched}
 use Rattle.tc_block.specs.declared.transaction.Transaction.{Transaction}
 use Rattle.tc_block.specs.Abort as abort
-use Rattle.tc_block.specs.Chain.{chain_of}
+use Rattle.frag_map.specs.Layout.{chain_of}
 use Rattle.tc_block.specs.Part.{part_effects}
 use Rattle.tc_block.specs.Sends.{aborts_of, entering, front_sends, key_sends, phase_sends}
 use Rattle.tc_block.specs.Touched.{place_of, touch, touched_by}
@@ -51,60 +51,60 @@ told_first : (tx : TxId) (key : List ℕ) (chain : List Member) (others behind :
 told_first tx key [] others behind some = absurd (omega (arith, some))
 told_first tx key (m ∷ chain) others behind some = back_more (same_tx tx) (take 7 (aborts_of tx key chain ++ others) ++ behind) (tx ∷ []) (or_left (same_tx tx tx) false (same_tx-self tx))
 
-no_replicas : (view : View) (touched : List Touched) → length view.full ≡ 0 → abort.replica_count view touched ≡ 0
+no_replicas : (layout : Layout) (touched : List Touched) → length layout.full ≡ 0 → abort.replica_count layout touched ≡ 0
 unfolding chain_of
-no_replicas view [] none = refl
-no_replicas view (u ∷ touched) none = omega (arith, none, no_replicas view touched none)
+no_replicas layout [] none = refl
+no_replicas layout (u ∷ touched) none = omega (arith, none, no_replicas layout touched none)
 
 -- an abort that has something to wait for
-enters_told : (tx : TxId) (node : ℕ) (view : View) (t : Transaction) (why : AbortCause) (verifying : Bool) (awaited : ℕ) → HasTouched t → (abort.aborts_awaited view t == 0) ≡ false
-    → gives_up tx (entering node view tx t (Aborting why verifying awaited)).effects.sends ≡ true
+enters_told : (tx : TxId) (node : ℕ) (layout : Layout) (t : Transaction) (why : AbortCause) (verifying : Bool) (awaited : ℕ) → HasTouched t → (abort.aborts_awaited layout t == 0) ≡ false
+    → gives_up tx (entering node layout tx t (Aborting why verifying awaited)).effects.sends ≡ true
 unfolding entering part_effects phase_sends front_sends key_sends chain_of
-enters_told tx node view t why verifying awaited has waits = by t.touched t.asked refl refl
+enters_told tx node layout t why verifying awaited has waits = by t.touched t.asked refl refl
   where
-    asked_none : (o : Option Asked) → length view.full ≡ 0 → abort.asked_count view o ≡ 0
+    asked_none : (o : Option Asked) → length layout.full ≡ 0 → abort.asked_count layout o ≡ 0
     asked_none None none = refl
     asked_none (Some a) none = none
 
-    some : (touched : List Touched) (o : Option Asked) → (abort.replica_count view touched + abort.asked_count view o == 0) ≡ false → 1 ≤ length view.full
-    some touched o waits = go (length view.full) refl
+    some : (touched : List Touched) (o : Option Asked) → (abort.replica_count layout touched + abort.asked_count layout o == 0) ≡ false → 1 ≤ length layout.full
+    some touched o waits = go (length layout.full) refl
       where
-        go : (n : ℕ) → length view.full ≡ n → 1 ≤ n
-        go zero e = absurd (grind (arith, nat_tests, waits, no_replicas view touched e, asked_none o e))
+        go : (n : ℕ) → length layout.full ≡ n → 1 ≤ n
+        go zero e = absurd (grind (arith, nat_tests, waits, no_replicas layout touched e, asked_none o e))
         go (suc n) e = omega arith
 
     by : (touched : List Touched) (o : Option Asked) → t.touched ≡ touched → t.asked ≡ o
-        → gives_up tx (part_effects node tx (phase_sends view tx (Aborting why verifying awaited) t.touched) 0).sends ≡ true
-    by [] None p q = absurd (grind (arith, nat_tests, waits, ap (abort.replica_count view) p, ap (abort.asked_count view) q))
+        → gives_up tx (part_effects node tx (phase_sends layout tx (Aborting why verifying awaited) t.touched) 0).sends ≡ true
+    by [] None p q = absurd (grind (arith, nat_tests, waits, ap (abort.replica_count layout) p, ap (abort.asked_count layout) q))
     by [] (Some a) p q = absurd (omega (arith, has (ap is_some q), ap length p))
     by (u ∷ touched) o p q =
-        subst (λ us. gives_up tx (part_effects node tx (phase_sends view tx (Aborting why verifying awaited) us) 0).sends ≡ true) (sym p)
-        (told_first tx u.key view.full (flat_map (key_sends view tx (Aborting why verifying awaited)) touched) _ (some t.touched t.asked waits))
+        subst (λ us. gives_up tx (part_effects node tx (phase_sends layout tx (Aborting why verifying awaited) us) 0).sends ≡ true) (sym p)
+        (told_first tx u.key layout.full (flat_map (key_sends layout tx (Aborting why verifying awaited)) touched) _ (some t.touched t.asked waits))
 
-module _ (node : ℕ) (view : View) (tx : TxId) (t : Transaction) (has : HasTouched t) where
+module _ (node : ℕ) (layout : Layout) (tx : TxId) (t : Transaction) (has : HasTouched t) where
   -- a turn that leaves the phase, or comes to one in which it isn't aborted
   goes_on : (turn : Turn) → HasTouched turn.step.state → (is_aborting turn.step.state.phase ≡ true → is_aborting t.phase ≡ true) → TurnAborts tx t turn
   goes_on turn touched stays = record { touched = touched; aborts = λ is. inl (stays is) }
 
-  committed_aborts : (epoch : ℕ) → CommittedForms node view tx t epoch (λ turn. TurnAborts tx t turn)
+  committed_aborts : (epoch : ℕ) → CommittedForms node layout tx t epoch (λ turn. TurnAborts tx t turn)
   unfolding entering
   committed_aborts epoch = record { enters = λ some. goes_on _ has (λ is. absurd cc); ends = λ none. goes_on _ has (λ is. is) }
 
   -- an abort of one that isn't aborted
-  begins_abort : (u : Transaction) → HasTouched u → is_aborting u.phase ≡ false → (why : AbortCause) → AbortForms node view tx u why (λ turn. TurnAborts tx t turn)
+  begins_abort : (u : Transaction) → HasTouched u → is_aborting u.phase ≡ false → (why : AbortCause) → AbortForms node layout tx u why (λ turn. TurnAborts tx t turn)
   unfolding entering
   begins_abort u touched off why = record {
-    enters = λ some. record { touched = touched; aborts = λ is. inr (enters_told tx node view u why (abort.is_verifying u.phase) (abort.aborts_awaited view u) touched some) };
+    enters = λ some. record { touched = touched; aborts = λ is. inr (enters_told tx node layout u why (abort.is_verifying u.phase) (abort.aborts_awaited layout u) touched some) };
     ends = λ none. record { touched = touched; aborts = λ is. absurd (let both : true ≡ false = sym is ∙ off in cc) };
   }
 
   -- whatever turn it takes
-  pub turn_aborts : (body : Body) → TurnForms node view tx t body (λ turn. TurnAborts tx t turn)
+  pub turn_aborts : (body : Body) → TurnForms node layout tx t body (λ turn. TurnAborts tx t turn)
   unfolding entering
   turn_aborts body = record {
     stays = goes_on _ has (λ is. is);
     goes_on = λ at. goes_on _ has (λ is. is);
-    operates = λ op is can. goes_on _ (λ is. touch_some t.touched (key_of op) (chain_of view (key_of op))) (λ is. is);
+    operates = λ op is can. goes_on _ (λ is. touch_some t.touched (key_of op) (chain_of layout (key_of op))) (λ is. is);
     answers = λ key answer asked is on at. goes_on _ (λ is. absurd cc) (λ is. is);
     late = λ key asked why verifying awaited on at. goes_on _ (λ is. absurd cc) (λ is. is);
     waits = λ asked on. goes_on _ has (λ is. is);

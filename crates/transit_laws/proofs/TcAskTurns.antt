@@ -27,7 +27,7 @@ use Rattle.tc_block.specs.Live.{place_in, step_of, turn_of, turn_place, turn_val
 use Rattle.tc_block.specs.Operate.{answer_row, fresh, operate_row, wait_row}
 use Rattle.tc_block.specs.Sends.{go_on_row}
 use Rattle.tc_block.specs.State.{TcState}
-use Rattle.tc_block.specs.Tc.{begin_if, begin_row, is_full, next_tx, pass_if, pass_row, tc_row}
+use Rattle.tc_block.specs.Tc.{begin_if, begin_row, is_full, next_tx, pass_if, pass_row, tc_table}
 use Rattle.tc_block.specs.Turn.{Turn, going}
 use Rattle.answer_laws.proofs.Tally.{one_if, tally, tally_append, tally_between}
 use Rattle.answer_laws.proofs.TcLives.{IsOwn, insert_new, is_keyed}
@@ -160,28 +160,28 @@ module _ (tx : TxId) where
     pass_sees one ahead true = record { grows = omega arith; seen = same refl refl }
     pass_sees one ahead false = record { grows = omega arith; seen = same refl refl }
 
-    pub tc_ask_sees : (body : Body) → AskSees s body (tc_row s body)
+    pub tc_ask_sees : (body : Body) → AskSees s body (tc_table s body)
     unfolding begin_row pass_row
     tc_ask_sees (Host (Continue (work.Transaction one) at)) =
-        step_sees one (λ t. go_on_row s.node s.view one t at) (Host (Continue (work.Transaction one) at)) (λ t. go_on_asks one t s.node s.view at (Host (Continue (work.Transaction one) at))) (λ t. go_on_going one t s.node s.view at)
+        step_sees one (λ t. go_on_row s.node s.layout one t at) (Host (Continue (work.Transaction one) at)) (λ t. go_on_asks one t s.node s.layout at (Host (Continue (work.Transaction one) at))) (λ t. go_on_going one t s.node s.layout at)
     tc_ask_sees (Client (TcBeginReq name)) = begin_sees name (is_full s)
     tc_ask_sees (Client (TcKeyReq one op)) =
-        step_sees one (λ t. operate_row s.view one t op) (Client (TcKeyReq one op)) (λ t. operate_asks one t s.view op (Client (TcKeyReq one op))) (λ t. operate_going one t s.view op)
+        step_sees one (λ t. operate_row s.layout one t op) (Client (TcKeyReq one op)) (λ t. operate_asks one t s.layout op (Client (TcKeyReq one op))) (λ t. operate_going one t s.layout op)
     tc_ask_sees (Client (TcCommitReq one)) = step_sees one (λ t. decide_row s.node one t) (Client (TcCommitReq one)) (λ t. decide_asks one t s.node (Client (TcCommitReq one))) (λ t. decide_going one t s.node)
     tc_ask_sees (Client (TcRollbackReq one)) =
-        turn_sees one (λ t. rollback_row s.node s.view one t) (Client (TcRollbackReq one)) (λ t. rollback_asks one t s.node s.view (Client (TcRollbackReq one))) (λ t. rollback_going one t s.node s.view)
+        turn_sees one (λ t. rollback_row s.node s.layout one t) (Client (TcRollbackReq one)) (λ t. rollback_asks one t s.node s.layout (Client (TcRollbackReq one))) (λ t. rollback_going one t s.node s.layout)
     tc_ask_sees (Client (TcWaitReq one)) = step_sees one (λ t. wait_row one t) (Client (TcWaitReq one)) (λ t. wait_asks one t (Client (TcWaitReq one))) (λ t. wait_going one t)
     tc_ask_sees (Client (LqhWaitConf one ahead)) = pass_sees one ahead (is_some (place_in s one))
     tc_ask_sees (Chain (LqhKeyConf one at answer)) =
-        step_sees one (λ t. answer_row s.view one t at answer) (Chain (LqhKeyConf one at answer)) (λ t. answer_asks one t s.view at answer (Chain (LqhKeyConf one at answer))) (λ t. answer_going one t s.view at answer)
+        step_sees one (λ t. answer_row s.layout one t at answer) (Chain (LqhKeyConf one at answer)) (λ t. answer_asks one t s.layout at answer (Chain (LqhKeyConf one at answer))) (λ t. answer_going one t s.layout at answer)
     tc_ask_sees (Chain (LqhKeyRef one at why)) =
-        turn_sees one (λ t. refuse_row s.node s.view one t at why) (Chain (LqhKeyRef one at why)) (λ t. refuse_asks one t s.node s.view at why (Chain (LqhKeyRef one at why))) (λ t. refuse_going one t s.node s.view at why)
+        turn_sees one (λ t. refuse_row s.node s.layout one t at why) (Chain (LqhKeyRef one at why)) (λ t. refuse_asks one t s.node s.layout at why (Chain (LqhKeyRef one at why))) (λ t. refuse_going one t s.node s.layout at why)
     tc_ask_sees (Chain (Committed one at)) =
-        turn_sees one (λ t. committed_row s.node s.view one t) (Chain (Committed one at)) (λ t. committed_asks one t s.node s.view (Chain (Committed one at))) (λ t. committed_going one t s.node s.view at)
+        turn_sees one (λ t. committed_row s.node s.layout one t) (Chain (Committed one at)) (λ t. committed_asks one t s.node s.layout (Chain (Committed one at))) (λ t. committed_going one t s.node s.layout at)
     tc_ask_sees (Chain (Completed one at)) =
         turn_sees one (λ t. completed_row s.node one t) (Chain (Completed one at)) (λ t. completed_asks one t s.node (Chain (Completed one at))) (λ t. completed_going one t s.node at)
     tc_ask_sees (Chain (Aborted one at)) =
         turn_sees one (λ t. aborted_row s.node one t) (Chain (Aborted one at)) (λ t. aborted_asks one t s.node (Chain (Aborted one at))) (λ t. aborted_going one t s.node at)
     tc_ask_sees (Epoch (DiVerifyConf one epoch)) =
-        turn_sees one (λ t. commit_row s.node s.view one t epoch) (Epoch (DiVerifyConf one epoch)) (λ t. commit_asks one t s.node s.view epoch) (λ t. commit_going one t s.node s.view epoch)
+        turn_sees one (λ t. commit_row s.node s.layout one t epoch) (Epoch (DiVerifyConf one epoch)) (λ t. commit_asks one t s.node s.layout epoch) (λ t. commit_going one t s.node s.layout epoch)
     tc_ask_sees _ = quiet_sees _

@@ -20,13 +20,13 @@ use Rattle.sig_core.specs.declared.signal.client.ClientSignal.TheVariants.{TcKey
 use Rattle.sig_core.specs.declared.signal.epoch.EpochSignal.TheVariants.{DiVerifyReq, DiVerifyConf}
 use Rattle.sig_core.specs.declared.signal.host.HostSignal.TheVariants.{Continue}
 use Rattle.sig_core.specs.declared.signal.host.Work.TheVariants as work
-use Rattle.sig_core.specs.declared.view.View.{View}
+use Rattle.frag_map.specs.Layout.{Layout}
 use Rattle.sig_core.specs.Op.{key_of}
 use Rattle.sig_core.specs.Place.{epochs}
 use Rattle.sig_core.specs.Same.{same_tx}
 use Rattle.sig_core.specs.Step.{to_place}
 use Rattle.tc_block.specs.Abort as abort
-use Rattle.tc_block.specs.Chain.{chain_of}
+use Rattle.frag_map.specs.Layout.{chain_of}
 use Rattle.tc_block.specs.Commit as commit
 use Rattle.tc_block.specs.Complete as complete
 use Rattle.tc_block.specs.Operate as operate
@@ -102,17 +102,17 @@ record IsBackFirst (tx : TxId) (sends : List Outgoing) : Type 0 where
   goes : is_back tx (way_of first.body) ≡ true
 
 -- what aborts a transaction begins with an abort
-aborts_first : (view : View) (tx : TxId) (why : AbortCause) (verifying : Bool) (awaited : ℕ) (touched : List Touched) → abort.replica_count view touched ≢ 0
-    → IsBackFirst tx (flat_map (key_sends view tx (Aborting why verifying awaited)) touched)
+aborts_first : (layout : Layout) (tx : TxId) (why : AbortCause) (verifying : Bool) (awaited : ℕ) (touched : List Touched) → abort.replica_count layout touched ≢ 0
+    → IsBackFirst tx (flat_map (key_sends layout tx (Aborting why verifying awaited)) touched)
 unfolding key_sends
-aborts_first view tx why verifying awaited [] some = absurd (some refl)
-aborts_first view tx why verifying awaited (u ∷ touched) some = by (chain_of view u.key) refl (aborts_first view tx why verifying awaited touched)
+aborts_first layout tx why verifying awaited [] some = absurd (some refl)
+aborts_first layout tx why verifying awaited (u ∷ touched) some = by (chain_of layout u.key) refl (aborts_first layout tx why verifying awaited touched)
   where
     others : List Outgoing
-    others = flat_map (key_sends view tx (Aborting why verifying awaited)) touched
+    others = flat_map (key_sends layout tx (Aborting why verifying awaited)) touched
 
-    by : (chain : List Member) → chain_of view u.key ≡ chain → (abort.replica_count view touched ≢ 0 → IsBackFirst tx others)
-        → IsBackFirst tx (key_sends view tx (Aborting why verifying awaited) u ++ others)
+    by : (chain : List Member) → chain_of layout u.key ≡ chain → (abort.replica_count layout touched ≢ 0 → IsBackFirst tx others)
+        → IsBackFirst tx (key_sends layout tx (Aborting why verifying awaited) u ++ others)
     by [] is rest =
         let more = rest (λ none. some (omega (arith, none, ap length is))) in
         record { first = more.first; more = more.more; is = ap (λ (c : List Member). map (abort_of tx u.key) c ++ others) is ∙ more.is; goes = more.goes }
@@ -133,16 +133,16 @@ module _ (tx : TxId) where
   end_back node why true = ap (λ b. b || false) (same_tx-self tx)
   end_back node why false = ap (λ b. b || false) (same_tx-self tx)
 
-  abort_back : (node : ℕ) (view : View) (t : Transaction) (why : AbortCause) → t.asked ≡ None → GoesBack (abort.aborted_for node view tx t why).step.effects.sends
+  abort_back : (node : ℕ) (layout : Layout) (t : Transaction) (why : AbortCause) → t.asked ≡ None → GoesBack (abort.aborted_for node layout tx t why).step.effects.sends
   unfolding abort.aborted_for entering phase_sends front_sends
-  abort_back node view t why none = by (abort.aborts_awaited view t == 0) refl
+  abort_back node layout t why none = by (abort.aborts_awaited layout t == 0) refl
     where
-      by : (b : Bool) → (abort.aborts_awaited view t == 0) ≡ b → GoesBack (abort.abort_if node view tx t why b).step.effects.sends
+      by : (b : Bool) → (abort.aborts_awaited layout t == 0) ≡ b → GoesBack (abort.abort_if node layout tx t why b).step.effects.sends
       by true is = end_back node why (abort.is_verifying t.phase)
       by false is =
-          part_back node (flat_map (key_sends view tx (Aborting why (abort.is_verifying t.phase) (abort.aborts_awaited view t))) t.touched)
-          (aborts_first view tx why (abort.is_verifying t.phase) (abort.aborts_awaited view t) t.touched
-          (λ zero_is. absurd (grind (arith, nat_tests, is, zero_is, ap (abort.asked_count view) none))))
+          part_back node (flat_map (key_sends layout tx (Aborting why (abort.is_verifying t.phase) (abort.aborts_awaited layout t))) t.touched)
+          (aborts_first layout tx why (abort.is_verifying t.phase) (abort.aborts_awaited layout t) t.touched
+          (λ zero_is. absurd (grind (arith, nat_tests, is, zero_is, ap (abort.asked_count layout) none))))
 
   module _ (t : Transaction) where
     -- if it waits for its epoch, it is as before
@@ -154,41 +154,41 @@ module _ (tx : TxId) where
     mute_turn body turn says rests = record { sends = inl (all_mute tx turn.step.effects.sends says); late = λ v none. inl (rests v none) }
 
     -- no row but that of the wish for a commit asks for anything
-    module _ (node : ℕ) (view : View) where
-      says_rows : (body : Body) → (body ≢ Client (TcCommitReq tx)) → RowsAre node view tx t body (λ turn. AllSay tx (Unit {0}) turn.step.effects.sends)
+    module _ (node : ℕ) (layout : Layout) where
+      says_rows : (body : Body) → (body ≢ Client (TcCommitReq tx)) → RowsAre node layout tx t body (λ turn. AllSay tx (Unit {0}) turn.step.effects.sends)
       says_rows body other =
-          rows_of node view tx t body (λ turn. AllSay tx (Unit {0}) turn.step.effects.sends)
-          (turn_goes tx (Unit {0}) (λ turn. AllSay tx (Unit {0}) turn.step.effects.sends) node view t body (λ turn goes. goes.sends) (λ is ready. absurd (other is)) (λ is. tt) (λ epoch is. tt))
+          rows_of node layout tx t body (λ turn. AllSay tx (Unit {0}) turn.step.effects.sends)
+          (turn_goes tx (Unit {0}) (λ turn. AllSay tx (Unit {0}) turn.step.effects.sends) node layout t body (λ turn goes. goes.sends) (λ is ready. absurd (other is)) (λ is. tt) (λ epoch is. tt))
 
-    go_on_rests : (node : ℕ) (view : View) (at : ℕ) → RestsOn (going (go_on_row node view tx t at))
+    go_on_rests : (node : ℕ) (layout : Layout) (at : ℕ) → RestsOn (going (go_on_row node layout tx t at))
     unfolding go_on_row
-    go_on_rests node view at v none = by (nat_lt at 512)
+    go_on_rests node layout at v none = by (nat_lt at 512)
       where
-        by : (b : Bool) → left_by (going (go_on_if node view tx t at b)) ≡ Some t
+        by : (b : Bool) → left_by (going (go_on_if node layout tx t at b)) ≡ Some t
         by true = refl
         by false = refl
 
-    pub go_on_asks : (node : ℕ) (view : View) (at : ℕ) (body : Body) → AskTurn tx body t (going (go_on_row node view tx t at))
-    go_on_asks node view at body =
-        mute_turn body (going (go_on_row node view tx t at)) ((says_rows node view (Host (Continue (work.Transaction tx) at)) (λ is. cc)).goes_on at refl) (go_on_rests node view at)
+    pub go_on_asks : (node : ℕ) (layout : Layout) (at : ℕ) (body : Body) → AskTurn tx body t (going (go_on_row node layout tx t at))
+    go_on_asks node layout at body =
+        mute_turn body (going (go_on_row node layout tx t at)) ((says_rows node layout (Host (Continue (work.Transaction tx) at)) (λ is. cc)).goes_on at refl) (go_on_rests node layout at)
 
-    operate_rests : (view : View) (op : Op) → RestsOn (going (operate.operate_row view tx t op))
+    operate_rests : (layout : Layout) (op : Op) → RestsOn (going (operate.operate_row layout tx t op))
     unfolding operate.operate_row
-    operate_rests view op v none = ap (λ p. left_by (going (operate.operate_if view tx t op (operate.is_ready p t.asked && fits t.touched (key_of op))))) v
+    operate_rests layout op v none = ap (λ p. left_by (going (operate.operate_if layout tx t op (operate.is_ready p t.asked && fits t.touched (key_of op))))) v
 
-    pub operate_asks : (view : View) (op : Op) (body : Body) → AskTurn tx body t (going (operate.operate_row view tx t op))
-    operate_asks view op body = mute_turn body (going (operate.operate_row view tx t op)) ((says_rows 0 view (Client (TcKeyReq tx op)) (λ is. cc)).operates op refl) (operate_rests view op)
+    pub operate_asks : (layout : Layout) (op : Op) (body : Body) → AskTurn tx body t (going (operate.operate_row layout tx t op))
+    operate_asks layout op body = mute_turn body (going (operate.operate_row layout tx t op)) ((says_rows 0 layout (Client (TcKeyReq tx op)) (λ is. cc)).operates op refl) (operate_rests layout op)
 
-    answer_rests : (view : View) (key : List ℕ) (answer : Answer) → RestsOn (going (operate.answer_row view tx t key answer))
+    answer_rests : (layout : Layout) (key : List ℕ) (answer : Answer) → RestsOn (going (operate.answer_row layout tx t key answer))
     unfolding operate.answer_row
-    answer_rests view key answer v none = by (operate.asked_on t.asked key)
+    answer_rests layout key answer v none = by (operate.asked_on t.asked key)
       where
-        by : (asked : Option Asked) → left_by (going (operate.answer_by view tx t key answer asked t.phase)) ≡ Some t
+        by : (asked : Option Asked) → left_by (going (operate.answer_by layout tx t key answer asked t.phase)) ≡ Some t
         by None = refl
-        by (Some asked) = ap (λ p. left_by (going (operate.answer_by view tx t key answer (Some asked) p))) v
+        by (Some asked) = ap (λ p. left_by (going (operate.answer_by layout tx t key answer (Some asked) p))) v
 
-    pub answer_asks : (view : View) (key : List ℕ) (answer : Answer) (body : Body) → AskTurn tx body t (going (operate.answer_row view tx t key answer))
-    answer_asks view key answer body = mute_turn body (going (operate.answer_row view tx t key answer)) ((says_rows 0 view (Chain (LqhKeyConf tx key answer)) (λ is. cc)).answers key answer refl) (answer_rests view key answer)
+    pub answer_asks : (layout : Layout) (key : List ℕ) (answer : Answer) (body : Body) → AskTurn tx body t (going (operate.answer_row layout tx t key answer))
+    answer_asks layout key answer body = mute_turn body (going (operate.answer_row layout tx t key answer)) ((says_rows 0 layout (Chain (LqhKeyConf tx key answer)) (λ is. cc)).answers key answer refl) (answer_rests layout key answer)
 
     wait_rests : RestsOn (going (operate.wait_row tx t))
     unfolding operate.wait_row
@@ -226,18 +226,18 @@ module _ (tx : TxId) where
         }
         by false is = record { sends = inl tt; late = λ v none. inl refl }
 
-    pub commit_asks : (node : ℕ) (view : View) (epoch : ℕ) → AskTurn tx (Epoch (DiVerifyConf tx epoch)) t (commit.commit_row node view tx t epoch)
-    commit_asks node view epoch = record {
-      sends = inl (all_mute tx (commit.commit_row node view tx t epoch).step.effects.sends ((says_rows node view (Epoch (DiVerifyConf tx epoch)) (λ is. cc)).commits epoch refl));
+    pub commit_asks : (node : ℕ) (layout : Layout) (epoch : ℕ) → AskTurn tx (Epoch (DiVerifyConf tx epoch)) t (commit.commit_row node layout tx t epoch)
+    commit_asks node layout epoch = record {
+      sends = inl (all_mute tx (commit.commit_row node layout tx t epoch).step.effects.sends ((says_rows node layout (Epoch (DiVerifyConf tx epoch)) (λ is. cc)).commits epoch refl));
       late = λ v none. inr (inl (same_tx-self tx));
     }
 
-    committed_rests : (node : ℕ) (view : View) → RestsOn (commit.committed_row node view tx t)
+    committed_rests : (node : ℕ) (layout : Layout) → RestsOn (commit.committed_row node layout tx t)
     unfolding commit.committed_row
-    committed_rests node view v none = ap (λ p. left_by (commit.committed_by node view tx t p)) v
+    committed_rests node layout v none = ap (λ p. left_by (commit.committed_by node layout tx t p)) v
 
-    pub committed_asks : (node : ℕ) (view : View) (body : Body) → AskTurn tx body t (commit.committed_row node view tx t)
-    committed_asks node view body = mute_turn body (commit.committed_row node view tx t) ((says_rows node view (Chain (Committed tx [])) (λ is. cc)).committed [] refl) (committed_rests node view)
+    pub committed_asks : (node : ℕ) (layout : Layout) (body : Body) → AskTurn tx body t (commit.committed_row node layout tx t)
+    committed_asks node layout body = mute_turn body (commit.committed_row node layout tx t) ((says_rows node layout (Chain (Committed tx [])) (λ is. cc)).committed [] refl) (committed_rests node layout)
 
     completed_rests : (node : ℕ) → RestsOn (complete.completed_row node tx t)
     unfolding complete.completed_row
@@ -253,19 +253,19 @@ module _ (tx : TxId) where
     pub aborted_asks : (node : ℕ) (body : Body) → AskTurn tx body t (abort.aborted_row node tx t)
     aborted_asks node body = mute_turn body (abort.aborted_row node tx t) ((says_rows node no_view (Chain (Aborted tx [])) (λ is. cc)).aborted [] refl) (aborted_rests node)
 
-    refuse_rests : (node : ℕ) (view : View) (key : List ℕ) (why : AbortCause) → RestsOn (abort.refuse_row node view tx t key why)
+    refuse_rests : (node : ℕ) (layout : Layout) (key : List ℕ) (why : AbortCause) → RestsOn (abort.refuse_row node layout tx t key why)
     unfolding abort.refuse_row
-    refuse_rests node view key why v none = ap (λ o. left_by (abort.refuse_by node view tx t key why (operate.asked_on o key) t.phase)) none
+    refuse_rests node layout key why v none = ap (λ o. left_by (abort.refuse_by node layout tx t key why (operate.asked_on o key) t.phase)) none
 
-    pub refuse_asks : (node : ℕ) (view : View) (key : List ℕ) (why : AbortCause) (body : Body) → AskTurn tx body t (abort.refuse_row node view tx t key why)
-    refuse_asks node view key why body = mute_turn body (abort.refuse_row node view tx t key why) ((says_rows node view (Chain (LqhKeyRef tx key why)) (λ is. cc)).refuses key why refl) (refuse_rests node view key why)
+    pub refuse_asks : (node : ℕ) (layout : Layout) (key : List ℕ) (why : AbortCause) (body : Body) → AskTurn tx body t (abort.refuse_row node layout tx t key why)
+    refuse_asks node layout key why body = mute_turn body (abort.refuse_row node layout tx t key why) ((says_rows node layout (Chain (LqhKeyRef tx key why)) (λ is. cc)).refuses key why refl) (refuse_rests node layout key why)
 
-    rollback_back : (node : ℕ) (view : View) → t.phase ≡ Verifying → t.asked ≡ None → GoesBack (abort.rollback_row node view tx t).step.effects.sends
+    rollback_back : (node : ℕ) (layout : Layout) → t.phase ≡ Verifying → t.asked ≡ None → GoesBack (abort.rollback_row node layout tx t).step.effects.sends
     unfolding abort.rollback_row
-    rollback_back node view v none = subst (λ p. GoesBack (abort.rollback_by node view tx t p).step.effects.sends) (sym v) (abort_back node view t cause.Request none)
+    rollback_back node layout v none = subst (λ p. GoesBack (abort.rollback_by node layout tx t p).step.effects.sends) (sym v) (abort_back node layout t cause.Request none)
 
-    pub rollback_asks : (node : ℕ) (view : View) (body : Body) → AskTurn tx body t (abort.rollback_row node view tx t)
-    rollback_asks node view body = record {
-      sends = inl (all_mute tx (abort.rollback_row node view tx t).step.effects.sends ((says_rows node view (Client (TcRollbackReq tx)) (λ is. cc)).rolls_back refl));
-      late = λ v none. inr (inr (rollback_back node view v none));
+    pub rollback_asks : (node : ℕ) (layout : Layout) (body : Body) → AskTurn tx body t (abort.rollback_row node layout tx t)
+    rollback_asks node layout body = record {
+      sends = inl (all_mute tx (abort.rollback_row node layout tx t).step.effects.sends ((says_rows node layout (Client (TcRollbackReq tx)) (λ is. cc)).rolls_back refl));
+      late = λ v none. inr (inr (rollback_back node layout v none));
     }

@@ -17,7 +17,7 @@ use Rattle.sig_core.specs.declared.signal.client.ClientSignal.TheVariants.{TcKey
 use Rattle.sig_core.specs.declared.signal.epoch.EpochSignal.TheVariants.{DiVerifyConf}
 use Rattle.sig_core.specs.declared.signal.host.HostSignal.TheVariants.{Continue}
 use Rattle.sig_core.specs.declared.signal.host.Work.TheVariants as work
-use Rattle.sig_core.specs.declared.view.View.{View}
+use Rattle.frag_map.specs.Layout.{Layout}
 use Rattle.sig_core.specs.Chain.{node_at}
 use Rattle.sig_core.specs.Op.{key_of}
 use Rattle.sig_core.specs.Place.{rows_of}
@@ -27,7 +27,7 @@ use Rattle.tc_block.specs.declared.phase.Phase.{Phase}
 use Rattle.tc_block.specs.declared.phase.Phase.TheVariants.{Open, Verifying, Committing, Completing, Aborting}
 use Rattle.tc_block.specs.declared.transaction.Transaction.{Transaction}
 use Rattle.tc_block.specs.Abort as abort
-use Rattle.tc_block.specs.Chain.{chain_of}
+use Rattle.frag_map.specs.Layout.{chain_of}
 use Rattle.tc_block.specs.Commit as commit
 use Rattle.tc_block.specs.Complete as complete
 use Rattle.tc_block.specs.Operate as operate
@@ -91,40 +91,40 @@ module _ (tx : TxId) (t : Transaction) where
   over_goes : (body : Body) (turn : Turn) → turn.over ≡ true → GoesOn tx body t turn
   over_goes body turn over u is early = absurd (let none : None ≡ Some u = sym (ap (λ b. if b then None else Some turn.step.state) over) ∙ is in cc)
 
-  go_on_same : (node : ℕ) (view : View) (at : ℕ) → (go_on_row node view tx t at).state ≡ t
+  go_on_same : (node : ℕ) (layout : Layout) (at : ℕ) → (go_on_row node layout tx t at).state ≡ t
   unfolding go_on_row
-  go_on_same node view at = by (nat_lt at 512)
+  go_on_same node layout at = by (nat_lt at 512)
     where
-      by : (b : Bool) → (go_on_if node view tx t at b).state ≡ t
+      by : (b : Bool) → (go_on_if node layout tx t at b).state ≡ t
       by true = refl
       by false = refl
 
-  pub go_on_going : (node : ℕ) (view : View) (at : ℕ) → GoesOn tx (Host (Continue (work.Transaction tx) at)) t (going (go_on_row node view tx t at))
-  go_on_going node view at u is early =
-      let same : (go_on_row node view tx t at).state ≡ u = cc in
-      rests (sym same ∙ go_on_same node view at) (go_on_still tx tx node view t at) tt
+  pub go_on_going : (node : ℕ) (layout : Layout) (at : ℕ) → GoesOn tx (Host (Continue (work.Transaction tx) at)) t (going (go_on_row node layout tx t at))
+  go_on_going node layout at u is early =
+      let same : (go_on_row node layout tx t at).state ≡ u = cc in
+      rests (sym same ∙ go_on_same node layout at) (go_on_still tx tx node layout t at) tt
 
-  pub operate_going : (view : View) (op : Op) → GoesOn tx (Client (TcKeyReq tx op)) t (going (operate.operate_row view tx t op))
+  pub operate_going : (layout : Layout) (op : Op) → GoesOn tx (Client (TcKeyReq tx op)) t (going (operate.operate_row layout tx t op))
   unfolding operate.operate_row
-  operate_going view op = by (operate.can_operate t op) refl
+  operate_going layout op = by (operate.can_operate t op) refl
     where
-      by : (b : Bool) → operate.can_operate t op ≡ b → GoesOn tx (Client (TcKeyReq tx op)) t (going (operate.operate_if view tx t op b))
+      by : (b : Bool) → operate.can_operate t op ≡ b → GoesOn tx (Client (TcKeyReq tx op)) t (going (operate.operate_if layout tx t op b))
       by false e u is early = rest_goes (Client (TcKeyReq tx op)) [] tt tt u is early
       by true e u is early =
           let ready = ready_is t.phase t.asked (and_parts (operate.is_ready t.phase t.asked) (fits t.touched (key_of op)) e).0 in
-          let same : (operate.operating tx t op (chain_of view (key_of op))).state ≡ u = cc in
-          operates op (chain_of view (key_of op)) ready.1 ready.0 (ap (λ (w : Transaction). w.ops) (sym same)) (ap (λ (w : Transaction). w.asked) (sym same))
+          let same : (operate.operating tx t op (chain_of layout (key_of op))).state ≡ u = cc in
+          operates op (chain_of layout (key_of op)) ready.1 ready.0 (ap (λ (w : Transaction). w.ops) (sym same)) (ap (λ (w : Transaction). w.asked) (sym same))
           (ap (λ (w : Transaction). w.phase) (sym same) ∙ ready.0) refl
 
-  pub answer_going : (view : View) (own : List ℕ) (answer : Answer) → GoesOn tx (Chain (LqhKeyConf tx own answer)) t (going (operate.answer_row view tx t own answer))
+  pub answer_going : (layout : Layout) (own : List ℕ) (answer : Answer) → GoesOn tx (Chain (LqhKeyConf tx own answer)) t (going (operate.answer_row layout tx t own answer))
   unfolding operate.answer_row
-  answer_going view own answer = by (asked_on t.asked own) t.phase refl refl
+  answer_going layout own answer = by (asked_on t.asked own) t.phase refl refl
     where
-      by : (asked : Option Asked) (phase : Phase) → asked_on t.asked own ≡ asked → t.phase ≡ phase → GoesOn tx (Chain (LqhKeyConf tx own answer)) t (going (operate.answer_by view tx t own answer asked phase))
+      by : (asked : Option Asked) (phase : Phase) → asked_on t.asked own ≡ asked → t.phase ≡ phase → GoesOn tx (Chain (LqhKeyConf tx own answer)) t (going (operate.answer_by layout tx t own answer asked phase))
       by (Some asked) Open on p u is early =
           let same : operate.answered t asked answer ≡ u = cc in
           notes asked answer own refl on p (ap (λ (w : Transaction). w.ops) (sym same)) (ap (λ (w : Transaction). w.asked) (sym same)) (ap (λ (w : Transaction). w.phase) (sym same) ∙ p) (refl, tt)
-      by (Some asked) (Aborting why verifying awaited) on p u is early = closed_goes (Chain (LqhKeyConf tx own answer)) (going (operate.late_answer view tx t own)) (ap is_early p) u is early
+      by (Some asked) (Aborting why verifying awaited) on p u is early = closed_goes (Chain (LqhKeyConf tx own answer)) (going (operate.late_answer layout tx t own)) (ap is_early p) u is early
       by (Some asked) Verifying on p u is early = rest_goes (Chain (LqhKeyConf tx own answer)) [] tt (inr p) u is early
       by (Some asked) (Committing epoch awaited) on p u is early = closed_goes (Chain (LqhKeyConf tx own answer)) (going (stay t)) (ap is_early p) u is early
       by (Some asked) (Completing epoch awaited) on p u is early = closed_goes (Chain (LqhKeyConf tx own answer)) (going (stay t)) (ap is_early p) u is early
@@ -155,38 +155,38 @@ module _ (tx : TxId) (t : Transaction) where
           verifies ready.1 ready.0 (ap (λ (w : Transaction). w.ops) (sym same)) (ap (λ (w : Transaction). w.asked) (sym same) ∙ ready.1) (ap (λ (w : Transaction). w.phase) (sym same)) (refl, tt)
 
   -- all is committed
-  all_going : (body : Body) (node : ℕ) (view : View) (epoch : ℕ) → GoesOn tx body t (complete.all_committed node view tx t epoch)
+  all_going : (body : Body) (node : ℕ) (layout : Layout) (epoch : ℕ) → GoesOn tx body t (complete.all_committed node layout tx t epoch)
   unfolding complete.all_committed entering
-  all_going body node view epoch = by (complete.written_count t.touched == 0)
+  all_going body node layout epoch = by (complete.written_count t.touched == 0)
     where
-      by : (b : Bool) → GoesOn tx body t (complete.all_committed_if node view tx t epoch b)
-      by true = over_goes body (complete.all_committed_if node view tx t epoch true) refl
-      by false = closed_goes body (complete.all_committed_if node view tx t epoch false) refl
+      by : (b : Bool) → GoesOn tx body t (complete.all_committed_if node layout tx t epoch b)
+      by true = over_goes body (complete.all_committed_if node layout tx t epoch true) refl
+      by false = closed_goes body (complete.all_committed_if node layout tx t epoch false) refl
 
-  pub commit_going : (node : ℕ) (view : View) (epoch : ℕ) → GoesOn tx (Epoch (DiVerifyConf tx epoch)) t (commit.commit_row node view tx t epoch)
+  pub commit_going : (node : ℕ) (layout : Layout) (epoch : ℕ) → GoesOn tx (Epoch (DiVerifyConf tx epoch)) t (commit.commit_row node layout tx t epoch)
   unfolding commit.commit_row entering
-  commit_going node view epoch = by t.phase
+  commit_going node layout epoch = by t.phase
     where
-      which : (b : Bool) → GoesOn tx (Epoch (DiVerifyConf tx epoch)) t (commit.commit_if node view tx t epoch b)
-      which true = all_going (Epoch (DiVerifyConf tx epoch)) node view epoch
-      which false = closed_goes (Epoch (DiVerifyConf tx epoch)) (commit.commit_if node view tx t epoch false) refl
+      which : (b : Bool) → GoesOn tx (Epoch (DiVerifyConf tx epoch)) t (commit.commit_if node layout tx t epoch b)
+      which true = all_going (Epoch (DiVerifyConf tx epoch)) node layout epoch
+      which false = closed_goes (Epoch (DiVerifyConf tx epoch)) (commit.commit_if node layout tx t epoch false) refl
 
-      by : (phase : Phase) → GoesOn tx (Epoch (DiVerifyConf tx epoch)) t (commit.commit_by node view tx t epoch phase)
+      by : (phase : Phase) → GoesOn tx (Epoch (DiVerifyConf tx epoch)) t (commit.commit_by node layout tx t epoch phase)
       by Verifying = which (length t.touched == 0)
       by Open = rest_goes (Epoch (DiVerifyConf tx epoch)) [] tt tt
       by (Committing other awaited) = rest_goes (Epoch (DiVerifyConf tx epoch)) [] tt tt
       by (Completing other awaited) = rest_goes (Epoch (DiVerifyConf tx epoch)) [] tt tt
       by (Aborting why verifying awaited) = rest_goes (Epoch (DiVerifyConf tx epoch)) [] tt tt
 
-  pub committed_going : (node : ℕ) (view : View) (own : List ℕ) → GoesOn tx (Chain (Committed tx own)) t (commit.committed_row node view tx t)
+  pub committed_going : (node : ℕ) (layout : Layout) (own : List ℕ) → GoesOn tx (Chain (Committed tx own)) t (commit.committed_row node layout tx t)
   unfolding commit.committed_row
-  committed_going node view own = by t.phase
+  committed_going node layout own = by t.phase
     where
-      which : (epoch awaited : ℕ) (b : Bool) → GoesOn tx (Chain (Committed tx own)) t (commit.committed_if node view tx t epoch awaited b)
-      which epoch awaited true = closed_goes (Chain (Committed tx own)) (commit.committed_if node view tx t epoch awaited true) refl
-      which epoch awaited false = all_going (Chain (Committed tx own)) node view epoch
+      which : (epoch awaited : ℕ) (b : Bool) → GoesOn tx (Chain (Committed tx own)) t (commit.committed_if node layout tx t epoch awaited b)
+      which epoch awaited true = closed_goes (Chain (Committed tx own)) (commit.committed_if node layout tx t epoch awaited true) refl
+      which epoch awaited false = all_going (Chain (Committed tx own)) node layout epoch
 
-      by : (phase : Phase) → GoesOn tx (Chain (Committed tx own)) t (commit.committed_by node view tx t phase)
+      by : (phase : Phase) → GoesOn tx (Chain (Committed tx own)) t (commit.committed_by node layout tx t phase)
       by (Committing epoch awaited) = which epoch awaited (nat_lt 1 awaited)
       by Open = rest_goes (Chain (Committed tx own)) [] tt tt
       by Verifying = rest_goes (Chain (Committed tx own)) [] tt tt
@@ -209,33 +209,33 @@ module _ (tx : TxId) (t : Transaction) where
       by (Aborting why verifying awaited) = rest_goes (Chain (Completed tx own)) [] tt tt
 
   -- aborts
-  aborted_for_going : (body : Body) (node : ℕ) (view : View) (w : Transaction) (why : AbortCause) → GoesOn tx body t (abort.aborted_for node view tx w why)
+  aborted_for_going : (body : Body) (node : ℕ) (layout : Layout) (w : Transaction) (why : AbortCause) → GoesOn tx body t (abort.aborted_for node layout tx w why)
   unfolding abort.aborted_for entering
-  aborted_for_going body node view w why = by (abort.aborts_awaited view w == 0)
+  aborted_for_going body node layout w why = by (abort.aborts_awaited layout w == 0)
     where
-      by : (b : Bool) → GoesOn tx body t (abort.abort_if node view tx w why b)
-      by true = over_goes body (abort.abort_if node view tx w why true) refl
-      by false = closed_goes body (abort.abort_if node view tx w why false) refl
+      by : (b : Bool) → GoesOn tx body t (abort.abort_if node layout tx w why b)
+      by true = over_goes body (abort.abort_if node layout tx w why true) refl
+      by false = closed_goes body (abort.abort_if node layout tx w why false) refl
 
-  pub refuse_going : (node : ℕ) (view : View) (own : List ℕ) (why : AbortCause) → GoesOn tx (Chain (LqhKeyRef tx own why)) t (abort.refuse_row node view tx t own why)
+  pub refuse_going : (node : ℕ) (layout : Layout) (own : List ℕ) (why : AbortCause) → GoesOn tx (Chain (LqhKeyRef tx own why)) t (abort.refuse_row node layout tx t own why)
   unfolding abort.refuse_row
-  refuse_going node view own why = by (asked_on t.asked own) t.phase refl refl
+  refuse_going node layout own why = by (asked_on t.asked own) t.phase refl refl
     where
-      by : (asked : Option Asked) (phase : Phase) → asked_on t.asked own ≡ asked → t.phase ≡ phase → GoesOn tx (Chain (LqhKeyRef tx own why)) t (abort.refuse_by node view tx t own why asked phase)
-      by (Some asked) Open on p = aborted_for_going (Chain (LqhKeyRef tx own why)) node view (asking t None) why
-      by (Some asked) (Aborting other verifying awaited) on p = closed_goes (Chain (LqhKeyRef tx own why)) (going (operate.late_answer view tx t own)) (ap is_early p)
+      by : (asked : Option Asked) (phase : Phase) → asked_on t.asked own ≡ asked → t.phase ≡ phase → GoesOn tx (Chain (LqhKeyRef tx own why)) t (abort.refuse_by node layout tx t own why asked phase)
+      by (Some asked) Open on p = aborted_for_going (Chain (LqhKeyRef tx own why)) node layout (asking t None) why
+      by (Some asked) (Aborting other verifying awaited) on p = closed_goes (Chain (LqhKeyRef tx own why)) (going (operate.late_answer layout tx t own)) (ap is_early p)
       by (Some asked) Verifying on p = rest_goes (Chain (LqhKeyRef tx own why)) [] tt (inr p)
       by (Some asked) (Committing epoch awaited) on p = closed_goes (Chain (LqhKeyRef tx own why)) (going (stay t)) (ap is_early p)
       by (Some asked) (Completing epoch awaited) on p = closed_goes (Chain (LqhKeyRef tx own why)) (going (stay t)) (ap is_early p)
       by None phase on p = rest_goes (Chain (LqhKeyRef tx own why)) [] tt (inl on)
 
-  pub rollback_going : (node : ℕ) (view : View) → GoesOn tx (Client (TcRollbackReq tx)) t (abort.rollback_row node view tx t)
+  pub rollback_going : (node : ℕ) (layout : Layout) → GoesOn tx (Client (TcRollbackReq tx)) t (abort.rollback_row node layout tx t)
   unfolding abort.rollback_row
-  rollback_going node view = by t.phase
+  rollback_going node layout = by t.phase
     where
-      by : (phase : Phase) → GoesOn tx (Client (TcRollbackReq tx)) t (abort.rollback_by node view tx t phase)
-      by Open = aborted_for_going (Client (TcRollbackReq tx)) node view t cause.Request
-      by Verifying = aborted_for_going (Client (TcRollbackReq tx)) node view t cause.Request
+      by : (phase : Phase) → GoesOn tx (Client (TcRollbackReq tx)) t (abort.rollback_by node layout tx t phase)
+      by Open = aborted_for_going (Client (TcRollbackReq tx)) node layout t cause.Request
+      by Verifying = aborted_for_going (Client (TcRollbackReq tx)) node layout t cause.Request
       by (Committing epoch awaited) = rest_goes (Client (TcRollbackReq tx)) [] tt tt
       by (Completing epoch awaited) = rest_goes (Client (TcRollbackReq tx)) [] tt tt
       by (Aborting why verifying awaited) = rest_goes (Client (TcRollbackReq tx)) [] tt tt

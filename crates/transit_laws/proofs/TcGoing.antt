@@ -4,7 +4,7 @@ use Rattle.std.proofs.lemmas.Bool.{and_parts}
 use Rattle.std.specs.Prelude.{if◌then◌else◌, Option, None, Some}
 use Rattle.run_theory.specs.Lists.{Each}
 use Rattle.run_theory.proofs.Pasts.{each_map}
-use Rattle.sig_core.specs.declared.log.LogStep.{LogStep}
+use Rattle.world_core.specs.Steps.{Addressed, HostStep}
 use Rattle.sig_core.specs.declared.member.Member.{Member}
 use Rattle.sig_core.specs.declared.member.TxId.{TxId}
 use Rattle.sig_core.specs.declared.op.Answer.{Answer}
@@ -15,7 +15,6 @@ use Rattle.sig_core.specs.declared.signal.Body.{Body}
 use Rattle.sig_core.specs.declared.signal.Body.TheVariants.{Chain}
 use Rattle.sig_core.specs.declared.signal.chain.ChainSignal.TheVariants.{LqhKeyReq, LqhKeyConf, LqhKeyRef}
 use Rattle.sig_core.specs.declared.signal.chain.RowWork.TheVariants.{Operate}
-use Rattle.sig_core.specs.declared.signal.Signal.{Signal}
 use Rattle.sig_core.specs.Chain.{node_at}
 use Rattle.sig_core.specs.Op.{key_of}
 use Rattle.sig_core.specs.Place.{coordinator, rows_of}
@@ -28,14 +27,15 @@ use Rattle.tc_block.specs.declared.phase.Phase.TheVariants.{Open, Verifying}
 use Rattle.tc_block.specs.declared.transaction.Transaction.{Transaction}
 use Rattle.tc_block.specs.Operate.{asked_if, asked_on, fresh}
 use Rattle.world_core.specs.Machine.{sent_count, signals_of, step_after}
-use Rattle.world_core.specs.Start.{Start, first_view}
+use Rattle.frag_map.specs.Layout.{first_layout}
+use Rattle.world_core.specs.Start.{Start}
 use Rattle.commit_laws.proofs.Keys.{same_tx-self}
 use Rattle.transit_laws.specs.Live.{live_at}
 use Rattle.transit_laws.specs.Tokens.{is_token}
 use Rattle.transit_laws.specs.Transit.{AreInTransit, Comes, Takes, joined, logs_of}
 use Rattle.transit_laws.proofs.CircleKept.{IsGoing, SignalTells, cleared_going, rests_going, sent_going}
 use Rattle.transit_laws.proofs.Circles.{IsPristine, pristine_as, pristine_settles}
-use Rattle.transit_laws.proofs.CircleView.{IsAnswered, IsAsked, Settles, Tells, View, settles_as, settles_other}
+use Rattle.transit_laws.proofs.CircleView.{IsAnswered, IsAsked, Settles, Tells, Layout, settles_as, settles_other}
 use Rattle.transit_laws.proofs.KeyMoves.{IsLike, host_of, view_before, view_now}
 use Rattle.transit_laws.proofs.KeyTokens.{Token, answers, home_is, is_home, performs, put, put_if, refuses, some_if, token_of, tokens_of}
 use Rattle.transit_laws.proofs.OnlyToken.{NoTokens, none_asked}
@@ -73,7 +73,7 @@ module _ (start : Start) (key : List ℕ) where
       some_none is = cc
 
   -- where a part of an operation is taken that answers none the key is settled
-  deaf_settles : (tx : TxId) (h : ℕ) (v : View) (t : Transaction) (body : Body) (token : Token) → IsDeaf t body → token_of tx key (coordinator h) body ≡ Some token → Tells start key v t token
+  deaf_settles : (tx : TxId) (h : ℕ) (v : Layout) (t : Transaction) (body : Body) (token : Token) → IsDeaf t body → token_of tx key (coordinator h) body ≡ Some token → Tells start key v t token
       → (t.phase ≡ Verifying → t.asked ≡ None) → Settles start key v t.ops
   deaf_settles tx h v t (Chain (LqhKeyReq w what chain at)) token deaf is tells closed = absurd cc
   deaf_settles tx h v t (Chain (LqhKeyConf w own answer)) token deaf is tells closed =
@@ -91,43 +91,43 @@ module _ (start : Start) (key : List ℕ) where
       by here (inr settled) = settled
   deaf_settles tx h v t _ token deaf is tells closed = absurd cc
 
-module _ (start : Start) (es : List LogStep) (e : LogStep) (tx : TxId) (key : List ℕ) (come : Comes start es e) (before between : List Signal) (transit : AreInTransit start es before)
-    (takes : Takes e before between) (home : e.taken.to ≡ coordinator tx.tc) (quiet : IsLike (view_before start es e tx key) (view_now start es e tx key)) where
+module _ (start : Start) (es : List HostStep) (e : HostStep) (tx : TxId) (key : List ℕ) (come : Comes start es e) (before between : List Addressed) (transit : AreInTransit start es before)
+    (takes : Takes e before between) (home : e.step.taken.to ≡ coordinator tx.tc) (quiet : IsLike (view_before start es e tx key) (view_now start es e tx key)) where
   abbrev n : ℕ
   n = host_of start es e tx key
 
   abbrev sends : List Outgoing
   sends = (step_after start n (logs_of start es n) e).effects.sends
 
-  abbrev sent : List Signal
+  abbrev sent : List Addressed
   sent = signals_of start n (logs_of start es n) e
 
-  abbrev v : View
+  abbrev v : Layout
   v = view_before start es e tx key
 
-  abbrev w : View
+  abbrev w : Layout
   w = view_now start es e tx key
 
   transit_now : AreInTransit start (e ∷ es) (joined sent between)
   transit_now = (before, (transit, record { between = between; takes = takes; is = refl }))
 
-  taken_is : token_of tx key e.taken.to e.taken.body ≡ token_of tx key (coordinator tx.tc) e.taken.body
-  taken_is = ap (λ to. token_of tx key to e.taken.body) home
+  taken_is : token_of tx key e.step.taken ≡ token_of tx key (coordinator tx.tc) e.step.taken.body
+  taken_is = ap (λ to. token_of tx key to e.step.taken.body) home
 
   -- no part is sent, and the key is settled where one is taken
-  pub rest_goes : (t : Transaction) → IsGoing start tx key v t before → tokens_of tx key sends ≡ [] → (token_of tx key e.taken.to e.taken.body ≡ None) ⊎ Settles start key v t.ops → IsGoing start tx key w t (joined sent between)
-  rest_goes t going none taken = rests_going start tx key v w t e before between takes (first_view start.nodes) n e.stamp (sent_count start n (logs_of start es n)) sends going quiet taken none
+  pub rest_goes : (t : Transaction) → IsGoing start tx key v t before → tokens_of tx key sends ≡ [] → (token_of tx key e.step.taken ≡ None) ⊎ Settles start key v t.ops → IsGoing start tx key w t (joined sent between)
+  rest_goes t going none taken = rests_going start tx key v w t e before between takes (first_layout start.shape) n e.step.stamp (sent_count start n (logs_of start es n)) sends going quiet taken none
 
   -- it rests
-  deaf_goes : (t : Transaction) → IsGoing start tx key v t before → tokens_of tx key sends ≡ [] → IsDeaf t e.taken.body → IsGoing start tx key w t (joined sent between)
-  deaf_goes t going none deaf = rest_goes t going none (by (token_of tx key (coordinator tx.tc) e.taken.body) refl)
+  deaf_goes : (t : Transaction) → IsGoing start tx key v t before → tokens_of tx key sends ≡ [] → IsDeaf t e.step.taken.body → IsGoing start tx key w t (joined sent between)
+  deaf_goes t going none deaf = rest_goes t going none (by (token_of tx key (coordinator tx.tc) e.step.taken.body) refl)
     where
-      by : (o : Option Token) → token_of tx key (coordinator tx.tc) e.taken.body ≡ o → (token_of tx key e.taken.to e.taken.body ≡ None) ⊎ Settles start key v t.ops
+      by : (o : Option Token) → token_of tx key (coordinator tx.tc) e.step.taken.body ≡ o → (token_of tx key e.step.taken ≡ None) ⊎ Settles start key v t.ops
       by None is = inl (taken_is ∙ is)
       by (Some token) is =
-          inr (deaf_settles start key tx tx.tc v t e.taken.body token deaf is
+          inr (deaf_settles start key tx tx.tc v t e.step.taken.body token deaf is
           (subst (Told tx key (Tells start key v t)) (taken_is ∙ is)
-          (each_taken (SignalTells start tx key v t) e before between (token_given tx key (coordinator tx.tc) e.taken.body token is) takes going.signals))
+          (each_taken (SignalTells start tx key v t) e before between (token_given tx key (coordinator tx.tc) e.step.taken.body token is) takes going.signals))
           going.asked)
 
   -- nothing is asked before it
@@ -140,7 +140,7 @@ module _ (start : Start) (es : List LogStep) (e : LogStep) (tx : TxId) (key : Li
     idle_settles =
         settles_as start key v w t.ops quiet.likewise
         (going.settled
-        (each_map (λ (x : Signal). is_token tx x.body ≡ false) (λ (x : Signal). token_of tx key x.to x.body ≡ None) before (λ x off. uncounted tx key x.to x.body off) zero.signals) zero.waits)
+        (each_map (λ (x : Addressed). is_token tx x.signal.body ≡ false) (λ (x : Addressed). token_of tx key x.signal.to x.signal.body ≡ None) before (λ x off. uncounted tx key x.signal.to x.signal.body off) zero.signals) zero.waits)
 
     -- an operation is sent
     operate_goes : (u : Transaction) (op : Op) (chain : List Member) → u.ops ≡ t.ops → u.asked ≡ Some (record { op = op; chain = chain }) → u.phase ≡ Open
@@ -153,8 +153,8 @@ module _ (start : Start) (es : List LogStep) (e : LogStep) (tx : TxId) (key : Li
         settled : Settles start key w u.ops
         settled = subst (Settles start key w) (sym ops_is) idle_settles
 
-        left : Each (λ (x : Signal). is_token tx x.body ≡ false) between
-        left = each_between (λ (x : Signal). is_token tx x.body ≡ false) e before between takes zero.signals
+        left : Each (λ (x : Addressed). is_token tx x.signal.body ≡ false) between
+        left = each_between (λ (x : Addressed). is_token tx x.signal.body ≡ false) e before between takes zero.signals
 
         waits : (g : ℕ) → w.waits g ≡ []
         waits g = quiet.waits g ∙ zero.waits g
@@ -165,13 +165,13 @@ module _ (start : Start) (es : List LogStep) (e : LogStep) (tx : TxId) (key : Li
 
         by : (b : Bool) → same_key (key_of op) key ≡ b → IsGoing start tx key w u (joined sent between)
         by true here =
-            sent_going start tx key w u between (first_view start.nodes) n e.stamp (sent_count start n (logs_of start es n)) sends (performs (Operate op) 0) closed (tokens true here) left waits
+            sent_going start tx key w u between (first_layout start.shape) n e.step.stamp (sent_count start n (logs_of start es n)) sends (performs (Operate op) 0) closed (tokens true here) left waits
             (settled, record { asked = record { op = op; chain = chain }; is = asked_is; op_is = refl; here = here })
         by false off =
             cleared_going start tx key w u (joined sent between) closed
-            (joined_each (λ (x : Signal). token_of tx key x.to x.body ≡ None) sent between
-            (headed_each (λ to body. token_of tx key to body ≡ None) (first_view start.nodes) n e.stamp (sent_count start n (logs_of start es n)) sends (sent_none tx key sends (tokens false off)))
-            (each_map (λ (x : Signal). is_token tx x.body ≡ false) (λ (x : Signal). token_of tx key x.to x.body ≡ None) between (λ x off. uncounted tx key x.to x.body off) left))
+            (joined_each (λ (x : Addressed). token_of tx key x.signal.to x.signal.body ≡ None) sent between
+            (headed_each (λ to body. token_of tx key to body ≡ None) (first_layout start.shape) n e.step.stamp (sent_count start n (logs_of start es n)) sends (sent_none tx key sends (tokens false off)))
+            (each_map (λ (x : Addressed). is_token tx x.signal.body ≡ false) (λ (x : Addressed). token_of tx key x.signal.to x.signal.body ≡ None) between (λ x off. uncounted tx key x.signal.to x.signal.body off) left))
             waits settled
 
   -- nothing is asked behind it
@@ -179,19 +179,19 @@ module _ (start : Start) (es : List LogStep) (e : LogStep) (tx : TxId) (key : Li
     then : NoTokens tx key start (e ∷ es) come.now (joined sent between) transit_now u live early
     then = none_asked tx key start (e ∷ es) come.now (joined sent between) transit_now u live early none
 
-    none_then : Each (λ (x : Signal). token_of tx key x.to x.body ≡ None) (joined sent between)
+    none_then : Each (λ (x : Addressed). token_of tx key x.signal.to x.signal.body ≡ None) (joined sent between)
     none_then =
-        each_map (λ (x : Signal). is_token tx x.body ≡ false) (λ (x : Signal). token_of tx key x.to x.body ≡ None) (joined sent between) (λ x off. uncounted tx key x.to x.body off) then.signals
+        each_map (λ (x : Addressed). is_token tx x.signal.body ≡ false) (λ (x : Addressed). token_of tx key x.signal.to x.signal.body ≡ None) (joined sent between) (λ x off. uncounted tx key x.signal.to x.signal.body off) then.signals
 
     idle_goes : Settles start key w u.ops → IsGoing start tx key w u (joined sent between)
     idle_goes settled = cleared_going start tx key w u (joined sent between) (λ verifying. none) none_then then.waits settled
 
     -- an answer is noted
-    note_goes : (t : Transaction) (asked : Asked) (answer : Answer) (own : List ℕ) → IsGoing start tx key v t before → e.taken.body ≡ Chain (LqhKeyConf tx own answer) → asked_on t.asked own ≡ Some asked
+    note_goes : (t : Transaction) (asked : Asked) (answer : Answer) (own : List ℕ) → IsGoing start tx key v t before → e.step.taken.body ≡ Chain (LqhKeyConf tx own answer) → asked_on t.asked own ≡ Some asked
         → u.ops ≡ t.ops ++ (asked.op, answer) ∷ [] → IsGoing start tx key w u (joined sent between)
     note_goes t asked answer own going body_is on ops_is = idle_goes (subst (Settles start key w) (sym ops_is) (by (same_key own key) refl))
       where
-        token : (b : Bool) → same_key own key ≡ b → token_of tx key e.taken.to e.taken.body ≡ (if b then Some (answers answer) else None)
+        token : (b : Bool) → same_key own key ≡ b → token_of tx key e.step.taken ≡ (if b then Some (answers answer) else None)
         token b e_is =
             taken_is ∙ ap (token_of tx key (coordinator tx.tc)) body_is
             ∙ (λ i. if home_is tx i && (same_tx-self tx i && e_is i) then Some (answers answer) else None)
@@ -222,12 +222,12 @@ module _ (start : Start) (es : List LogStep) (e : LogStep) (tx : TxId) (key : Li
             settles_as start key v w (t.ops ++ (asked.op, answer) ∷ []) quiet.likewise
             (settles_other start key v t.ops (asked.op, answer) (ap (λ k. same_key k key) (same (key_of asked.op) own asks.1) ∙ off)
             (going.settled
-            (takes_more (λ (x : Signal). token_of tx key x.to x.body ≡ None) e before between takes (joined_old (λ (x : Signal). token_of tx key x.to x.body ≡ None) sent between none_then) (token false off))
+            (takes_more (λ (x : Addressed). token_of tx key x.signal.to x.signal.body ≡ None) e before between takes (joined_old (λ (x : Addressed). token_of tx key x.signal.to x.signal.body ≡ None) sent between none_then) (token false off))
             (λ g. sym (quiet.waits g) ∙ then.waits g)))
 
   -- a row of the coordinator
   pub row_goes : (t u : Transaction) → live_at start (logs_of start es) tx ≡ Some t → live_at start (logs_of start (e ∷ es)) tx ≡ Some u → is_early u.phase ≡ true
-      → (is_early t.phase ≡ true → IsGoing start tx key v t before) → Going tx e.taken.body t u sends → IsGoing start tx key w u (joined sent between)
+      → (is_early t.phase ≡ true → IsGoing start tx key v t before) → Going tx e.step.taken.body t u sends → IsGoing start tx key w u (joined sent between)
   row_goes t u live now early going (rests same_is none deaf) =
       subst (λ x. IsGoing start tx key w x (joined sent between)) (sym same_is)
       (deaf_goes t (going (ap (λ (x : Transaction). is_early x.phase) (sym same_is) ∙ early)) (no_tokens tx key sends none) deaf)

@@ -16,7 +16,7 @@ use Rattle.sig_core.specs.declared.signal.client.ClientSignal.TheVariants.{TcCom
 use Rattle.sig_core.specs.declared.signal.epoch.EpochSignal.TheVariants.{DiVerifyConf}
 use Rattle.sig_core.specs.declared.signal.host.HostSignal.TheVariants.{Continue}
 use Rattle.sig_core.specs.declared.signal.host.Work.TheVariants as work
-use Rattle.sig_core.specs.declared.view.View.{View}
+use Rattle.frag_map.specs.Layout.{Layout}
 use Rattle.sig_core.specs.Op.{key_of}
 use Rattle.sig_core.specs.Same.{same_tx}
 use Rattle.sig_core.specs.Step.{stay}
@@ -26,7 +26,7 @@ use Rattle.tc_block.specs.declared.phase.Phase.TheVariants.{Open, Verifying, Com
 use Rattle.tc_block.specs.declared.touched.Touched.{Touched}
 use Rattle.tc_block.specs.declared.transaction.Transaction.{Transaction}
 use Rattle.tc_block.specs.Abort as abort
-use Rattle.tc_block.specs.Chain.{chain_of}
+use Rattle.frag_map.specs.Layout.{chain_of}
 use Rattle.tc_block.specs.Commit as commit
 use Rattle.tc_block.specs.Complete as complete
 use Rattle.tc_block.specs.Operate as operate
@@ -60,19 +60,19 @@ pub own_silent : (one tx : TxId) (sends : List Outgoing) → same_tx one tx ≡ 
 own_silent one tx sends differs own = each_of (is_own one) (λ o. is_sign tx o.body ≡ false) (λ o e. own_sign one tx differs o.body e) sends own
 
 -- the turn that a signal for it gives to a transaction
-abbrev pub turn_for : ℕ → View → TxId → Body → Transaction → Turn
-turn_for node view tx (Host (Continue (work.Transaction one) at)) t = going (go_on_row node view tx t at)
-turn_for node view tx (Client (TcKeyReq one op)) t = going (operate.operate_row view tx t op)
-turn_for node view tx (Client (TcCommitReq one)) t = going (commit.decide_row node tx t)
-turn_for node view tx (Client (TcRollbackReq one)) t = abort.rollback_row node view tx t
-turn_for node view tx (Client (TcWaitReq one)) t = going (operate.wait_row tx t)
-turn_for node view tx (Chain (LqhKeyConf one key answer)) t = going (operate.answer_row view tx t key answer)
-turn_for node view tx (Chain (LqhKeyRef one key why)) t = abort.refuse_row node view tx t key why
-turn_for node view tx (Chain (Committed one key)) t = commit.committed_row node view tx t
-turn_for node view tx (Chain (Completed one key)) t = complete.completed_row node tx t
-turn_for node view tx (Chain (Aborted one key)) t = abort.aborted_row node tx t
-turn_for node view tx (Epoch (DiVerifyConf one epoch)) t = commit.commit_row node view tx t epoch
-turn_for node view tx _ t = going (stay t)
+abbrev pub turn_for : ℕ → Layout → TxId → Body → Transaction → Turn
+turn_for node layout tx (Host (Continue (work.Transaction one) at)) t = going (go_on_row node layout tx t at)
+turn_for node layout tx (Client (TcKeyReq one op)) t = going (operate.operate_row layout tx t op)
+turn_for node layout tx (Client (TcCommitReq one)) t = going (commit.decide_row node tx t)
+turn_for node layout tx (Client (TcRollbackReq one)) t = abort.rollback_row node layout tx t
+turn_for node layout tx (Client (TcWaitReq one)) t = going (operate.wait_row tx t)
+turn_for node layout tx (Chain (LqhKeyConf one key answer)) t = going (operate.answer_row layout tx t key answer)
+turn_for node layout tx (Chain (LqhKeyRef one key why)) t = abort.refuse_row node layout tx t key why
+turn_for node layout tx (Chain (Committed one key)) t = commit.committed_row node layout tx t
+turn_for node layout tx (Chain (Completed one key)) t = complete.completed_row node tx t
+turn_for node layout tx (Chain (Aborted one key)) t = abort.aborted_row node tx t
+turn_for node layout tx (Epoch (DiVerifyConf one epoch)) t = commit.commit_row node layout tx t epoch
+turn_for node layout tx _ t = going (stay t)
 
 -- a turn of a transaction that sends no others
 abbrev pub TurnOwn : TxId → Turn → Type 0
@@ -100,54 +100,54 @@ complete_own : (tx : TxId) (t : Touched) (b : Bool) → are_of (is_own tx) (comp
 complete_own tx t true = ap (λ b. if b then true else false) (same_tx-self tx)
 complete_own tx t false = refl
 
-key_own : (view : View) (tx : TxId) (phase : Phase) (t : Touched) → are_of (is_own tx) (key_sends view tx phase t) ≡ true
+key_own : (layout : Layout) (tx : TxId) (phase : Phase) (t : Touched) → are_of (is_own tx) (key_sends layout tx phase t) ≡ true
 unfolding key_sends
-key_own view tx Open t = refl
-key_own view tx Verifying t = refl
-key_own view tx (Committing epoch awaited) t = ap (λ b. if b then true else false) (same_tx-self tx)
-key_own view tx (Completing epoch awaited) t = complete_own tx t t.written
-key_own view tx (Aborting why verifying awaited) t = of_map (is_own tx) (abort_of tx t.key) (chain_of view t.key) (λ r. refl)
+key_own layout tx Open t = refl
+key_own layout tx Verifying t = refl
+key_own layout tx (Committing epoch awaited) t = ap (λ b. if b then true else false) (same_tx-self tx)
+key_own layout tx (Completing epoch awaited) t = complete_own tx t t.written
+key_own layout tx (Aborting why verifying awaited) t = of_map (is_own tx) (abort_of tx t.key) (chain_of layout t.key) (λ r. refl)
 
-phase_own : (view : View) (tx : TxId) (phase : Phase) (touched : List Touched) → are_of (is_own tx) (phase_sends view tx phase touched) ≡ true
+phase_own : (layout : Layout) (tx : TxId) (phase : Phase) (touched : List Touched) → are_of (is_own tx) (phase_sends layout tx phase touched) ≡ true
 unfolding phase_sends
-phase_own view tx phase touched =
-    of_append (is_own tx) (front_sends tx phase) (flat_map (key_sends view tx phase) touched) (front_own tx phase) (of_flat (is_own tx) (key_sends view tx phase) touched (key_own view tx phase))
+phase_own layout tx phase touched =
+    of_append (is_own tx) (front_sends tx phase) (flat_map (key_sends layout tx phase) touched) (front_own tx phase) (of_flat (is_own tx) (key_sends layout tx phase) touched (key_own layout tx phase))
 
-entering_own : (node : ℕ) (view : View) (tx : TxId) (t : Transaction) (phase : Phase) → SendsOnly (is_own tx) (entering node view tx t phase)
+entering_own : (node : ℕ) (layout : Layout) (tx : TxId) (t : Transaction) (phase : Phase) → SendsOnly (is_own tx) (entering node layout tx t phase)
 unfolding entering
-entering_own node view tx t phase = part_own node tx (phase_sends view tx phase t.touched) 0 (phase_own view tx phase t.touched)
+entering_own node layout tx t phase = part_own node tx (phase_sends layout tx phase t.touched) 0 (phase_own layout tx phase t.touched)
 
-go_on_own_if : (node : ℕ) (view : View) (tx : TxId) (t : Transaction) (at : ℕ) (b : Bool) → SendsOnly (is_own tx) (go_on_if node view tx t at b)
-go_on_own_if node view tx t at true = part_own node tx (phase_sends view tx t.phase t.touched) at (phase_own view tx t.phase t.touched)
-go_on_own_if node view tx t at false = refl
+go_on_own_if : (node : ℕ) (layout : Layout) (tx : TxId) (t : Transaction) (at : ℕ) (b : Bool) → SendsOnly (is_own tx) (go_on_if node layout tx t at b)
+go_on_own_if node layout tx t at true = part_own node tx (phase_sends layout tx t.phase t.touched) at (phase_own layout tx t.phase t.touched)
+go_on_own_if node layout tx t at false = refl
 
-go_on_own : (node : ℕ) (view : View) (tx : TxId) (t : Transaction) (at : ℕ) → SendsOnly (is_own tx) (go_on_row node view tx t at)
+go_on_own : (node : ℕ) (layout : Layout) (tx : TxId) (t : Transaction) (at : ℕ) → SendsOnly (is_own tx) (go_on_row node layout tx t at)
 unfolding go_on_row
-go_on_own node view tx t at = go_on_own_if node view tx t at (nat_lt at 512)
+go_on_own node layout tx t at = go_on_own_if node layout tx t at (nat_lt at 512)
 
-operate_own_if : (view : View) (tx : TxId) (t : Transaction) (op : Op) (b : Bool) → SendsOnly (is_own tx) (operate.operate_if view tx t op b)
-operate_own_if view tx t op true = refl
-operate_own_if view tx t op false = refl
+operate_own_if : (layout : Layout) (tx : TxId) (t : Transaction) (op : Op) (b : Bool) → SendsOnly (is_own tx) (operate.operate_if layout tx t op b)
+operate_own_if layout tx t op true = refl
+operate_own_if layout tx t op false = refl
 
-operate_own : (view : View) (tx : TxId) (t : Transaction) (op : Op) → SendsOnly (is_own tx) (operate.operate_row view tx t op)
+operate_own : (layout : Layout) (tx : TxId) (t : Transaction) (op : Op) → SendsOnly (is_own tx) (operate.operate_row layout tx t op)
 unfolding operate.operate_row
-operate_own view tx t op = operate_own_if view tx t op _
+operate_own layout tx t op = operate_own_if layout tx t op _
 
-late_own : (view : View) (tx : TxId) (t : Transaction) (key : List ℕ) → SendsOnly (is_own tx) (operate.late_answer view tx t key)
-late_own view tx t key = of_map (is_own tx) (abort_of tx key) (chain_of view key) (λ r. refl)
+late_own : (layout : Layout) (tx : TxId) (t : Transaction) (key : List ℕ) → SendsOnly (is_own tx) (operate.late_answer layout tx t key)
+late_own layout tx t key = of_map (is_own tx) (abort_of tx key) (chain_of layout key) (λ r. refl)
 
-answer_own_by : (view : View) (tx : TxId) (t : Transaction) (key : List ℕ) (answer : Answer) (asked : Option Asked) (phase : Phase)
-    → SendsOnly (is_own tx) (operate.answer_by view tx t key answer asked phase)
-answer_own_by view tx t key answer (Some asked) Open = refl
-answer_own_by view tx t key answer (Some asked) (Aborting why verifying awaited) = late_own view tx t key
-answer_own_by view tx t key answer (Some asked) Verifying = refl
-answer_own_by view tx t key answer (Some asked) (Committing epoch awaited) = refl
-answer_own_by view tx t key answer (Some asked) (Completing epoch awaited) = refl
-answer_own_by view tx t key answer None phase = refl
+answer_own_by : (layout : Layout) (tx : TxId) (t : Transaction) (key : List ℕ) (answer : Answer) (asked : Option Asked) (phase : Phase)
+    → SendsOnly (is_own tx) (operate.answer_by layout tx t key answer asked phase)
+answer_own_by layout tx t key answer (Some asked) Open = refl
+answer_own_by layout tx t key answer (Some asked) (Aborting why verifying awaited) = late_own layout tx t key
+answer_own_by layout tx t key answer (Some asked) Verifying = refl
+answer_own_by layout tx t key answer (Some asked) (Committing epoch awaited) = refl
+answer_own_by layout tx t key answer (Some asked) (Completing epoch awaited) = refl
+answer_own_by layout tx t key answer None phase = refl
 
-answer_own : (view : View) (tx : TxId) (t : Transaction) (key : List ℕ) (answer : Answer) → SendsOnly (is_own tx) (operate.answer_row view tx t key answer)
+answer_own : (layout : Layout) (tx : TxId) (t : Transaction) (key : List ℕ) (answer : Answer) → SendsOnly (is_own tx) (operate.answer_row layout tx t key answer)
 unfolding operate.answer_row
-answer_own view tx t key answer = answer_own_by view tx t key answer _ _
+answer_own layout tx t key answer = answer_own_by layout tx t key answer _ _
 
 wait_own_by : (tx : TxId) (t : Transaction) (asked : Option Asked) → SendsOnly (is_own tx) (operate.wait_by tx t asked)
 wait_own_by tx t None = refl
@@ -165,43 +165,43 @@ decide_own : (node : ℕ) (tx : TxId) (t : Transaction) → SendsOnly (is_own tx
 unfolding commit.decide_row
 decide_own node tx t = decide_own_if node tx t _
 
-all_committed_own_if : (node : ℕ) (view : View) (tx : TxId) (t : Transaction) (epoch : ℕ) (b : Bool) → TurnOwn tx (complete.all_committed_if node view tx t epoch b)
-all_committed_own_if node view tx t epoch true = ap (λ b. if b then true else false) (same_tx-self tx)
-all_committed_own_if node view tx t epoch false = entering_own node view tx t _
+all_committed_own_if : (node : ℕ) (layout : Layout) (tx : TxId) (t : Transaction) (epoch : ℕ) (b : Bool) → TurnOwn tx (complete.all_committed_if node layout tx t epoch b)
+all_committed_own_if node layout tx t epoch true = ap (λ b. if b then true else false) (same_tx-self tx)
+all_committed_own_if node layout tx t epoch false = entering_own node layout tx t _
 
-all_committed_own : (node : ℕ) (view : View) (tx : TxId) (t : Transaction) (epoch : ℕ) → TurnOwn tx (complete.all_committed node view tx t epoch)
+all_committed_own : (node : ℕ) (layout : Layout) (tx : TxId) (t : Transaction) (epoch : ℕ) → TurnOwn tx (complete.all_committed node layout tx t epoch)
 unfolding complete.all_committed
-all_committed_own node view tx t epoch = all_committed_own_if node view tx t epoch _
+all_committed_own node layout tx t epoch = all_committed_own_if node layout tx t epoch _
 
-commit_own_if : (node : ℕ) (view : View) (tx : TxId) (t : Transaction) (epoch : ℕ) (b : Bool) → TurnOwn tx (commit.commit_if node view tx t epoch b)
-commit_own_if node view tx t epoch true = all_committed_own node view tx t epoch
-commit_own_if node view tx t epoch false = entering_own node view tx t _
+commit_own_if : (node : ℕ) (layout : Layout) (tx : TxId) (t : Transaction) (epoch : ℕ) (b : Bool) → TurnOwn tx (commit.commit_if node layout tx t epoch b)
+commit_own_if node layout tx t epoch true = all_committed_own node layout tx t epoch
+commit_own_if node layout tx t epoch false = entering_own node layout tx t _
 
-commit_own_by : (node : ℕ) (view : View) (tx : TxId) (t : Transaction) (epoch : ℕ) (phase : Phase) → TurnOwn tx (commit.commit_by node view tx t epoch phase)
-commit_own_by node view tx t epoch Verifying = commit_own_if node view tx t epoch _
-commit_own_by node view tx t epoch Open = refl
-commit_own_by node view tx t epoch (Committing e awaited) = refl
-commit_own_by node view tx t epoch (Completing e awaited) = refl
-commit_own_by node view tx t epoch (Aborting why verifying awaited) = refl
+commit_own_by : (node : ℕ) (layout : Layout) (tx : TxId) (t : Transaction) (epoch : ℕ) (phase : Phase) → TurnOwn tx (commit.commit_by node layout tx t epoch phase)
+commit_own_by node layout tx t epoch Verifying = commit_own_if node layout tx t epoch _
+commit_own_by node layout tx t epoch Open = refl
+commit_own_by node layout tx t epoch (Committing e awaited) = refl
+commit_own_by node layout tx t epoch (Completing e awaited) = refl
+commit_own_by node layout tx t epoch (Aborting why verifying awaited) = refl
 
-commit_own : (node : ℕ) (view : View) (tx : TxId) (t : Transaction) (epoch : ℕ) → TurnOwn tx (commit.commit_row node view tx t epoch)
+commit_own : (node : ℕ) (layout : Layout) (tx : TxId) (t : Transaction) (epoch : ℕ) → TurnOwn tx (commit.commit_row node layout tx t epoch)
 unfolding commit.commit_row
-commit_own node view tx t epoch = commit_own_by node view tx t epoch t.phase
+commit_own node layout tx t epoch = commit_own_by node layout tx t epoch t.phase
 
-committed_own_if : (node : ℕ) (view : View) (tx : TxId) (t : Transaction) (epoch awaited : ℕ) (b : Bool) → TurnOwn tx (commit.committed_if node view tx t epoch awaited b)
-committed_own_if node view tx t epoch awaited true = refl
-committed_own_if node view tx t epoch awaited false = all_committed_own node view tx t epoch
+committed_own_if : (node : ℕ) (layout : Layout) (tx : TxId) (t : Transaction) (epoch awaited : ℕ) (b : Bool) → TurnOwn tx (commit.committed_if node layout tx t epoch awaited b)
+committed_own_if node layout tx t epoch awaited true = refl
+committed_own_if node layout tx t epoch awaited false = all_committed_own node layout tx t epoch
 
-committed_own_by : (node : ℕ) (view : View) (tx : TxId) (t : Transaction) (phase : Phase) → TurnOwn tx (commit.committed_by node view tx t phase)
-committed_own_by node view tx t (Committing epoch awaited) = committed_own_if node view tx t epoch awaited _
-committed_own_by node view tx t Open = refl
-committed_own_by node view tx t Verifying = refl
-committed_own_by node view tx t (Completing epoch awaited) = refl
-committed_own_by node view tx t (Aborting why verifying awaited) = refl
+committed_own_by : (node : ℕ) (layout : Layout) (tx : TxId) (t : Transaction) (phase : Phase) → TurnOwn tx (commit.committed_by node layout tx t phase)
+committed_own_by node layout tx t (Committing epoch awaited) = committed_own_if node layout tx t epoch awaited _
+committed_own_by node layout tx t Open = refl
+committed_own_by node layout tx t Verifying = refl
+committed_own_by node layout tx t (Completing epoch awaited) = refl
+committed_own_by node layout tx t (Aborting why verifying awaited) = refl
 
-committed_own : (node : ℕ) (view : View) (tx : TxId) (t : Transaction) → TurnOwn tx (commit.committed_row node view tx t)
+committed_own : (node : ℕ) (layout : Layout) (tx : TxId) (t : Transaction) → TurnOwn tx (commit.committed_row node layout tx t)
 unfolding commit.committed_row
-committed_own node view tx t = committed_own_by node view tx t t.phase
+committed_own node layout tx t = committed_own_by node layout tx t t.phase
 
 completed_own_if : (node : ℕ) (tx : TxId) (t : Transaction) (epoch awaited : ℕ) (b : Bool) → TurnOwn tx (complete.completed_if node tx t epoch awaited b)
 completed_own_if node tx t epoch awaited true = refl
@@ -222,37 +222,37 @@ abort_end_own : (node : ℕ) (tx : TxId) (why : AbortCause) (b : Bool) → are_o
 abort_end_own node tx why true = refl
 abort_end_own node tx why false = refl
 
-abort_own_if : (node : ℕ) (view : View) (tx : TxId) (t : Transaction) (why : AbortCause) (b : Bool) → TurnOwn tx (abort.abort_if node view tx t why b)
-abort_own_if node view tx t why true = abort_end_own node tx why (abort.is_verifying t.phase)
-abort_own_if node view tx t why false = entering_own node view tx t _
+abort_own_if : (node : ℕ) (layout : Layout) (tx : TxId) (t : Transaction) (why : AbortCause) (b : Bool) → TurnOwn tx (abort.abort_if node layout tx t why b)
+abort_own_if node layout tx t why true = abort_end_own node tx why (abort.is_verifying t.phase)
+abort_own_if node layout tx t why false = entering_own node layout tx t _
 
-abort_own : (node : ℕ) (view : View) (tx : TxId) (t : Transaction) (why : AbortCause) → TurnOwn tx (abort.aborted_for node view tx t why)
+abort_own : (node : ℕ) (layout : Layout) (tx : TxId) (t : Transaction) (why : AbortCause) → TurnOwn tx (abort.aborted_for node layout tx t why)
 unfolding abort.aborted_for
-abort_own node view tx t why = abort_own_if node view tx t why _
+abort_own node layout tx t why = abort_own_if node layout tx t why _
 
-refuse_own_by : (node : ℕ) (view : View) (tx : TxId) (t : Transaction) (key : List ℕ) (why : AbortCause) (asked : Option Asked) (phase : Phase)
-    → TurnOwn tx (abort.refuse_by node view tx t key why asked phase)
-refuse_own_by node view tx t key why (Some asked) Open = abort_own node view tx (asking t None) why
-refuse_own_by node view tx t key why (Some asked) (Aborting other verifying awaited) = late_own view tx t key
-refuse_own_by node view tx t key why (Some asked) Verifying = refl
-refuse_own_by node view tx t key why (Some asked) (Committing epoch awaited) = refl
-refuse_own_by node view tx t key why (Some asked) (Completing epoch awaited) = refl
-refuse_own_by node view tx t key why None phase = refl
+refuse_own_by : (node : ℕ) (layout : Layout) (tx : TxId) (t : Transaction) (key : List ℕ) (why : AbortCause) (asked : Option Asked) (phase : Phase)
+    → TurnOwn tx (abort.refuse_by node layout tx t key why asked phase)
+refuse_own_by node layout tx t key why (Some asked) Open = abort_own node layout tx (asking t None) why
+refuse_own_by node layout tx t key why (Some asked) (Aborting other verifying awaited) = late_own layout tx t key
+refuse_own_by node layout tx t key why (Some asked) Verifying = refl
+refuse_own_by node layout tx t key why (Some asked) (Committing epoch awaited) = refl
+refuse_own_by node layout tx t key why (Some asked) (Completing epoch awaited) = refl
+refuse_own_by node layout tx t key why None phase = refl
 
-refuse_own : (node : ℕ) (view : View) (tx : TxId) (t : Transaction) (key : List ℕ) (why : AbortCause) → TurnOwn tx (abort.refuse_row node view tx t key why)
+refuse_own : (node : ℕ) (layout : Layout) (tx : TxId) (t : Transaction) (key : List ℕ) (why : AbortCause) → TurnOwn tx (abort.refuse_row node layout tx t key why)
 unfolding abort.refuse_row
-refuse_own node view tx t key why = refuse_own_by node view tx t key why _ _
+refuse_own node layout tx t key why = refuse_own_by node layout tx t key why _ _
 
-rollback_own_by : (node : ℕ) (view : View) (tx : TxId) (t : Transaction) (phase : Phase) → TurnOwn tx (abort.rollback_by node view tx t phase)
-rollback_own_by node view tx t Open = abort_own node view tx t cause.Request
-rollback_own_by node view tx t Verifying = abort_own node view tx t cause.Request
-rollback_own_by node view tx t (Committing epoch awaited) = refl
-rollback_own_by node view tx t (Completing epoch awaited) = refl
-rollback_own_by node view tx t (Aborting why verifying awaited) = refl
+rollback_own_by : (node : ℕ) (layout : Layout) (tx : TxId) (t : Transaction) (phase : Phase) → TurnOwn tx (abort.rollback_by node layout tx t phase)
+rollback_own_by node layout tx t Open = abort_own node layout tx t cause.Request
+rollback_own_by node layout tx t Verifying = abort_own node layout tx t cause.Request
+rollback_own_by node layout tx t (Committing epoch awaited) = refl
+rollback_own_by node layout tx t (Completing epoch awaited) = refl
+rollback_own_by node layout tx t (Aborting why verifying awaited) = refl
 
-rollback_own : (node : ℕ) (view : View) (tx : TxId) (t : Transaction) → TurnOwn tx (abort.rollback_row node view tx t)
+rollback_own : (node : ℕ) (layout : Layout) (tx : TxId) (t : Transaction) → TurnOwn tx (abort.rollback_row node layout tx t)
 unfolding abort.rollback_row
-rollback_own node view tx t = rollback_own_by node view tx t t.phase
+rollback_own node layout tx t = rollback_own_by node layout tx t t.phase
 
 aborted_own_if : (node : ℕ) (tx : TxId) (t : Transaction) (why : AbortCause) (verifying : Bool) (awaited : ℕ) (b : Bool) → TurnOwn tx (abort.aborted_if node tx t why verifying awaited b)
 aborted_own_if node tx t why verifying awaited true = refl
@@ -270,16 +270,16 @@ unfolding abort.aborted_row
 aborted_own node tx t = aborted_own_by node tx t t.phase
 
 -- each turn
-pub turn_own : (node : ℕ) (view : View) (tx : TxId) (body : Body) (t : Transaction) → TurnOwn tx (turn_for node view tx body t)
-turn_own node view tx (Host (Continue (work.Transaction one) at)) t = go_on_own node view tx t at
-turn_own node view tx (Client (TcKeyReq one op)) t = operate_own view tx t op
-turn_own node view tx (Client (TcCommitReq one)) t = decide_own node tx t
-turn_own node view tx (Client (TcRollbackReq one)) t = rollback_own node view tx t
-turn_own node view tx (Client (TcWaitReq one)) t = wait_own tx t
-turn_own node view tx (Chain (LqhKeyConf one key answer)) t = answer_own view tx t key answer
-turn_own node view tx (Chain (LqhKeyRef one key why)) t = refuse_own node view tx t key why
-turn_own node view tx (Chain (Committed one key)) t = committed_own node view tx t
-turn_own node view tx (Chain (Completed one key)) t = completed_own node tx t
-turn_own node view tx (Chain (Aborted one key)) t = aborted_own node tx t
-turn_own node view tx (Epoch (DiVerifyConf one epoch)) t = commit_own node view tx t epoch
-turn_own node view tx _ t = refl
+pub turn_own : (node : ℕ) (layout : Layout) (tx : TxId) (body : Body) (t : Transaction) → TurnOwn tx (turn_for node layout tx body t)
+turn_own node layout tx (Host (Continue (work.Transaction one) at)) t = go_on_own node layout tx t at
+turn_own node layout tx (Client (TcKeyReq one op)) t = operate_own layout tx t op
+turn_own node layout tx (Client (TcCommitReq one)) t = decide_own node tx t
+turn_own node layout tx (Client (TcRollbackReq one)) t = rollback_own node layout tx t
+turn_own node layout tx (Client (TcWaitReq one)) t = wait_own tx t
+turn_own node layout tx (Chain (LqhKeyConf one key answer)) t = answer_own layout tx t key answer
+turn_own node layout tx (Chain (LqhKeyRef one key why)) t = refuse_own node layout tx t key why
+turn_own node layout tx (Chain (Committed one key)) t = committed_own node layout tx t
+turn_own node layout tx (Chain (Completed one key)) t = completed_own node tx t
+turn_own node layout tx (Chain (Aborted one key)) t = aborted_own node tx t
+turn_own node layout tx (Epoch (DiVerifyConf one epoch)) t = commit_own node layout tx t epoch
+turn_own node layout tx _ t = refl

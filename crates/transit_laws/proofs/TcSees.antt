@@ -18,7 +18,7 @@ use Rattle.sig_core.specs.declared.signal.client.ClientSignal.TheVariants.{TcBeg
 use Rattle.sig_core.specs.declared.signal.epoch.EpochSignal.TheVariants.{DiVerifyConf}
 use Rattle.sig_core.specs.declared.signal.host.HostSignal.TheVariants.{Continue}
 use Rattle.sig_core.specs.declared.signal.host.Work.TheVariants as work
-use Rattle.sig_core.specs.declared.view.View.{View}
+use Rattle.frag_map.specs.Layout.{Layout}
 use Rattle.sig_core.specs.Op.{key_of}
 use Rattle.sig_core.specs.Place.{coordinator}
 use Rattle.sig_core.specs.Same.{same_key, same_tx}
@@ -31,7 +31,7 @@ use Rattle.tc_block.specs.Live.{place_in, step_of, turn_of, turn_place, turn_val
 use Rattle.tc_block.specs.Operate.{answer_row, can_operate, fresh, operate_if, operate_row, wait_row}
 use Rattle.tc_block.specs.Sends.{go_on_row}
 use Rattle.tc_block.specs.State.{TcState}
-use Rattle.tc_block.specs.Tc.{begin_if, begin_row, is_full, next_tx, pass_if, pass_row, tc_row}
+use Rattle.tc_block.specs.Tc.{begin_if, begin_row, is_full, next_tx, pass_if, pass_row, tc_table}
 use Rattle.tc_block.specs.Turn.{Turn, going}
 use Rattle.answer_laws.proofs.NodeOps.{absent_key}
 use Rattle.answer_laws.proofs.Tally.{one_if, tally, tally_append, tally_between}
@@ -151,11 +151,11 @@ module _ (tx : TxId) (key : List ℕ) (h : ℕ) where
     plain_step one row body deaf quiet goes = step_sees one row body deaf (λ off t. no_tokens tx key (row t).effects.sends (quiet t)) goes
 
     -- an operation of another one
-    operate_other : (one : TxId) (view : View) (op : Op) → same_tx one tx ≡ false → (t : Transaction) → tokens_of tx key (operate_row view one t op).effects.sends ≡ []
+    operate_other : (one : TxId) (layout : Layout) (op : Op) → same_tx one tx ≡ false → (t : Transaction) → tokens_of tx key (operate_row layout one t op).effects.sends ≡ []
     unfolding operate_row
-    operate_other one view op off t = by (can_operate t op)
+    operate_other one layout op off t = by (can_operate t op)
       where
-        by : (b : Bool) → tokens_of tx key (operate_if view one t op b).effects.sends ≡ []
+        by : (b : Bool) → tokens_of tx key (operate_if layout one t op b).effects.sends ≡ []
         by false = refl
         by true = ap (λ w. put w []) (other_none true (same_tx one tx) (same_key (key_of op) key) (performs (Operate op) 0) off)
 
@@ -180,30 +180,30 @@ module _ (tx : TxId) (key : List ℕ) (h : ℕ) where
     pass_sees one ahead true = record { grows = omega arith; seen = same refl refl (λ t is. refl) }
     pass_sees one ahead false = record { grows = omega arith; seen = same refl refl (λ t is. refl) }
 
-    pub tc_sees : (body : Body) → Sees s body (tc_row s body)
+    pub tc_sees : (body : Body) → Sees s body (tc_table s body)
     unfolding begin_row pass_row
     tc_sees (Host (Continue (work.Transaction one) at)) =
-        plain_step one (λ t. go_on_row s.node s.view one t at) (Host (Continue (work.Transaction one) at)) (λ off. refl) (λ t. go_on_still tx one s.node s.view t at) (λ t. go_on_going one t s.node s.view at)
+        plain_step one (λ t. go_on_row s.node s.layout one t at) (Host (Continue (work.Transaction one) at)) (λ off. refl) (λ t. go_on_still tx one s.node s.layout t at) (λ t. go_on_going one t s.node s.layout at)
     tc_sees (Client (TcBeginReq name)) = begin_sees name (is_full s)
-    tc_sees (Client (TcKeyReq one op)) = step_sees one (λ t. operate_row s.view one t op) (Client (TcKeyReq one op)) (λ off. refl) (operate_other one s.view op) (λ t. operate_going one t s.view op)
+    tc_sees (Client (TcKeyReq one op)) = step_sees one (λ t. operate_row s.layout one t op) (Client (TcKeyReq one op)) (λ off. refl) (operate_other one s.layout op) (λ t. operate_going one t s.layout op)
     tc_sees (Client (TcCommitReq one)) = plain_step one (λ t. decide_row s.node one t) (Client (TcCommitReq one)) (λ off. refl) (λ t. decide_still tx one s.node t) (λ t. decide_going one t s.node)
     tc_sees (Client (TcRollbackReq one)) =
-        plain_turn one (λ t. rollback_row s.node s.view one t) (Client (TcRollbackReq one)) (λ off. refl) (λ t. rollback_still tx one s.node s.view t) (λ t. rollback_going one t s.node s.view)
+        plain_turn one (λ t. rollback_row s.node s.layout one t) (Client (TcRollbackReq one)) (λ off. refl) (λ t. rollback_still tx one s.node s.layout t) (λ t. rollback_going one t s.node s.layout)
     tc_sees (Client (TcWaitReq one)) = plain_step one (λ t. wait_row one t) (Client (TcWaitReq one)) (λ off. refl) (λ t. wait_still tx one t) (λ t. wait_going one t)
     tc_sees (Client (LqhWaitConf one ahead)) = pass_sees one ahead (is_some (place_in s one))
     tc_sees (Chain (LqhKeyConf one at answer)) =
-        plain_step one (λ t. answer_row s.view one t at answer) (Chain (LqhKeyConf one at answer)) (λ off. other_none (is_home one (coordinator h)) (same_tx one tx) (same_key at key) (answers answer) off)
-        (λ t. answer_still tx one s.view t at answer) (λ t. answer_going one t s.view at answer)
+        plain_step one (λ t. answer_row s.layout one t at answer) (Chain (LqhKeyConf one at answer)) (λ off. other_none (is_home one (coordinator h)) (same_tx one tx) (same_key at key) (answers answer) off)
+        (λ t. answer_still tx one s.layout t at answer) (λ t. answer_going one t s.layout at answer)
     tc_sees (Chain (LqhKeyRef one at why)) =
-        plain_turn one (λ t. refuse_row s.node s.view one t at why) (Chain (LqhKeyRef one at why)) (λ off. other_none (is_home one (coordinator h)) (same_tx one tx) (same_key at key) refuses off)
-        (λ t. refuse_still tx one s.node s.view t at why) (λ t. refuse_going one t s.node s.view at why)
+        plain_turn one (λ t. refuse_row s.node s.layout one t at why) (Chain (LqhKeyRef one at why)) (λ off. other_none (is_home one (coordinator h)) (same_tx one tx) (same_key at key) refuses off)
+        (λ t. refuse_still tx one s.node s.layout t at why) (λ t. refuse_going one t s.node s.layout at why)
     tc_sees (Chain (Committed one at)) =
-        plain_turn one (λ t. committed_row s.node s.view one t) (Chain (Committed one at)) (λ off. refl) (λ t. committed_still tx one s.node s.view t) (λ t. committed_going one t s.node s.view at)
+        plain_turn one (λ t. committed_row s.node s.layout one t) (Chain (Committed one at)) (λ off. refl) (λ t. committed_still tx one s.node s.layout t) (λ t. committed_going one t s.node s.layout at)
     tc_sees (Chain (Completed one at)) =
         plain_turn one (λ t. completed_row s.node one t) (Chain (Completed one at)) (λ off. refl) (λ t. completed_still tx one s.node t) (λ t. completed_going one t s.node at)
     tc_sees (Chain (Aborted one at)) =
         plain_turn one (λ t. aborted_row s.node one t) (Chain (Aborted one at)) (λ off. refl) (λ t. aborted_still tx one s.node t) (λ t. aborted_going one t s.node at)
     tc_sees (Epoch (DiVerifyConf one epoch)) =
-        plain_turn one (λ t. commit_row s.node s.view one t epoch) (Epoch (DiVerifyConf one epoch)) (λ off. refl) (λ t. commit_still tx one s.node s.view t epoch) (λ t. commit_going one t s.node s.view epoch)
+        plain_turn one (λ t. commit_row s.node s.layout one t epoch) (Epoch (DiVerifyConf one epoch)) (λ off. refl) (λ t. commit_still tx one s.node s.layout t epoch) (λ t. commit_going one t s.node s.layout epoch)
     tc_sees (Chain (LqhKeyReq one what chain at)) = quiet_sees (Chain (LqhKeyReq one what chain at)) refl
     tc_sees _ = quiet_sees _ refl

@@ -6,7 +6,7 @@ use Rattle.std.specs.Prelude.{Option, nat_eq}
 use Rattle.std.proofs.lemmas.Bool.{and_right, ne_eqb}
 use Rattle.run_theory.specs.Lists.{Each}
 use Rattle.run_theory.proofs.Pasts.{each_after, each_append, each_before, each_map}
-use Rattle.sig_core.specs.declared.log.LogStep.{LogStep}
+use Rattle.world_core.specs.Steps.{HostStep}
 use Rattle.sig_core.specs.declared.member.TxId.{TxId}
 use Rattle.sig_core.specs.declared.outs.Outgoing.{Outgoing}
 use Rattle.sig_core.specs.declared.place.BlockId.{BlockId}
@@ -23,7 +23,7 @@ use Rattle.tc_block.specs.declared.transaction.Transaction.{Transaction}
 use Rattle.tc_block.specs.Live.{turned_if, without}
 use Rattle.tc_block.specs.Operate.{fresh}
 use Rattle.tc_block.specs.State.{TcState}
-use Rattle.tc_block.specs.Tc.{begin_if, next_tx, tc_row}
+use Rattle.tc_block.specs.Tc.{begin_if, next_tx, tc_table}
 use Rattle.tc_block.specs.Turn.{Turn}
 use Rattle.node_core.specs.declared.host.Host as host
 use Rattle.node_core.specs.declared.host.Host.TheVariants.{Shell, Node}
@@ -31,7 +31,8 @@ use Rattle.node_core.specs.declared.node.Node as node
 use Rattle.node_core.specs.Fresh.{begun_node, fresh_node, fresh_shell}
 use Rattle.node_core.specs.Row.{node_row, row}
 use Rattle.world_core.specs.Machine.{after}
-use Rattle.world_core.specs.Start.{Start, started}
+use Rattle.world_core.specs.Hosts.{started}
+use Rattle.world_core.specs.Start.{Start}
 use Rattle.commit_laws.specs.Ways.{Way, back, back_by, closes, forth, is_aborting, neither, put_ways, sent_ways, tc_sends, way_of}
 use Rattle.commit_laws.proofs.LiveSplit.{KeysOnce, Live, Split, each_inserted, once_gone, once_inserted, once_set}
 use Rattle.commit_laws.proofs.OneWay.{back_more}
@@ -145,13 +146,13 @@ module _ (s : TcState) (bs : List TxId) (n : IsSound s bs) where
       others = each_map (IsOwned s.node s.next_seq bs) (λ (x : TxId × Transaction). same_tx x.0 (next_tx s) ≡ false) s.live (λ x is. lower x.0 is.below) n.live
 
   -- so is each step
-  pub tc_sound : (body : Body) → StaysSound bs (tc_row s body)
+  pub tc_sound : (body : Body) → StaysSound bs (tc_table s body)
   tc_sound body =
       tc_each (λ tx t turn. Both tx t turn) (StaysSound bs) s body (record {
-        turns = λ tx t at split. rows_both s.node s.view tx t body (λ turn. TurnTokens tx t 1 turn) (λ turn. TurnAborts tx t turn × TurnWays tx t.phase turn) (rows_tokens s.node s.view tx t body (own tx t at split).right 1 (λ key answer is. omega arith) (λ key why is. omega arith))
-            (rows_both s.node s.view tx t body (λ turn. TurnAborts tx t turn) (λ turn. TurnWays tx t.phase turn)
-            (rows_of s.node s.view tx t body (λ turn. TurnAborts tx t turn) (turn_aborts s.node s.view tx t (own tx t at split).touched body))
-            (rows_of s.node s.view tx t body (λ turn. TurnWays tx t.phase turn) (turn_ways tx s.node s.view t body)));
+        turns = λ tx t at split. rows_both s.node s.layout tx t body (λ turn. TurnTokens tx t 1 turn) (λ turn. TurnAborts tx t turn × TurnWays tx t.phase turn) (rows_tokens s.node s.layout tx t body (own tx t at split).right 1 (λ key answer is. omega arith) (λ key why is. omega arith))
+            (rows_both s.node s.layout tx t body (λ turn. TurnAborts tx t turn) (λ turn. TurnWays tx t.phase turn)
+            (rows_of s.node s.layout tx t body (λ turn. TurnAborts tx t turn) (turn_aborts s.node s.layout tx t (own tx t at split).touched body))
+            (rows_of s.node s.layout tx t body (λ turn. TurnWays tx t.phase turn) (turn_ways tx s.node s.layout t body)));
         turned = λ tx t at split turn both. turn_sound tx t at split turn (of_turn tx t turn both.0 both.1.0 both.1.1) turn.over;
         stays = n;
         full = λ name. n;
@@ -186,6 +187,6 @@ started_sound start zero = tt
 started_sound start (suc h) = (record { once = tt; live = tt; begun = tt }, record { asks = λ key tx is. absurd (let both : true ≡ false = sym is ∙ ap (λ o. waits tx (or_unlocked o).queue) (finite.get-empty key_cmp key) in cc) })
 
 -- so it is along any log
-pub log_sound : (start : Start) (h : ℕ) (log : List LogStep) → IsSoundHost (after start h log) (sent_ways start back_by h log)
+pub log_sound : (start : Start) (h : ℕ) (log : List HostStep) → IsSoundHost (after start h log) (sent_ways start back_by h log)
 log_sound start h [] = started_sound start h
-log_sound start h (e ∷ log) = host_sound (after start h log) e.taken.to e.taken.body (sent_ways start back_by h log) (log_sound start h log)
+log_sound start h (e ∷ log) = host_sound (after start h log) e.step.taken (sent_ways start back_by h log) (log_sound start h log)

@@ -12,7 +12,7 @@ use Rattle.sig_core.specs.declared.outs.Outgoing.{Outgoing}
 use Rattle.sig_core.specs.declared.signal.Body.{Body}
 use Rattle.sig_core.specs.declared.signal.Body.TheVariants.{Chain}
 use Rattle.sig_core.specs.declared.signal.chain.ChainSignal.TheVariants.{LqhKeyConf, LqhKeyRef}
-use Rattle.sig_core.specs.declared.view.View.{View}
+use Rattle.frag_map.specs.Layout.{Layout}
 use Rattle.sig_core.specs.Same.{same_tx}
 use Rattle.sig_core.specs.Step.{Step}
 use Rattle.row_locks.proofs.TxLemmas.{same_tx-is, same_tx-swap}
@@ -20,7 +20,7 @@ use Rattle.tc_block.specs.declared.transaction.Transaction.{Transaction}
 use Rattle.tc_block.specs.Live.{turned_if, without}
 use Rattle.tc_block.specs.Operate.{fresh}
 use Rattle.tc_block.specs.State.{TcState}
-use Rattle.tc_block.specs.Tc.{begin_if, begun, next_tx, tc_row}
+use Rattle.tc_block.specs.Tc.{begin_if, begun, next_tx, tc_table}
 use Rattle.tc_block.specs.Turn.{Turn}
 use Rattle.commit_laws.specs.Ways.{Way, back, back_by, closes, forth, is_aborting, neither, put_ways, way_of}
 use Rattle.commit_laws.proofs.EachTc.{tc_each}
@@ -82,21 +82,21 @@ pub record StepTokens (v : TxId) (s : TcState) (bs : List TxId) (came : ℕ) (st
   pub away : v.tc ≢ s.node → tokens_out v step.effects.sends ≡ 0
 
 -- each row sends no more than that, if an answer or a refusal came
-pub rows_tokens : (node : ℕ) (view : View) (tx : TxId) (t : Transaction) (body : Body) → is_right t.asked t.phase ≡ true → (came : ℕ)
+pub rows_tokens : (node : ℕ) (layout : Layout) (tx : TxId) (t : Transaction) (body : Body) → is_right t.asked t.phase ≡ true → (came : ℕ)
     → ((key : List ℕ) (answer : Answer) → body ≡ Chain (LqhKeyConf tx key answer) → 1 ≤ came) → ((key : List ℕ) (why : AbortCause) → body ≡ Chain (LqhKeyRef tx key why) → 1 ≤ came)
-    → RowsAre node view tx t body (λ turn. TurnTokens tx t came turn)
-rows_tokens node view tx t body right came answered refused = record {
-  goes_on = λ at is. go_on_turn tx t right node view at came;
-  operates = λ op is. operate_turn tx t right view op came;
+    → RowsAre node layout tx t body (λ turn. TurnTokens tx t came turn)
+rows_tokens node layout tx t body right came answered refused = record {
+  goes_on = λ at is. go_on_turn tx t right node layout at came;
+  operates = λ op is. operate_turn tx t right layout op came;
   decides = λ is. decide_turn tx t right node came;
-  rolls_back = λ is. rollback_turn tx t right node view came;
+  rolls_back = λ is. rollback_turn tx t right node layout came;
   waits = λ is. wait_turn tx t right came;
-  answers = λ key answer is. answer_turn tx t right view key answer came (answered key answer is);
-  refuses = λ key why is. refuse_turn tx t right node view key why came (refused key why is);
-  committed = λ key is. committed_turn tx t right node view came;
+  answers = λ key answer is. answer_turn tx t right layout key answer came (answered key answer is);
+  refuses = λ key why is. refuse_turn tx t right node layout key why came (refused key why is);
+  committed = λ key is. committed_turn tx t right node layout came;
   completed = λ key is. completed_turn tx t right node came;
   aborted = λ key is. aborted_turn tx t right node came;
-  commits = λ epoch is. commit_turn tx t right node view epoch came;
+  commits = λ epoch is. commit_turn tx t right node layout epoch came;
 }
 
 module _ (v : TxId) (s : TcState) (bs : List TxId) (n : IsSound s bs) where
@@ -229,13 +229,13 @@ module _ (v : TxId) (s : TcState) (bs : List TxId) (n : IsSound s bs) where
           )
 
   -- what each signal does
-  pub tc_tokens : (body : Body) → StepTokens v s bs (one_if (is_token v body)) (tc_row s body)
+  pub tc_tokens : (body : Body) → StepTokens v s bs (one_if (is_token v body)) (tc_table s body)
   tc_tokens body =
       tc_each Tokens (StepTokens v s bs (one_if (is_token v body))) s body (record {
         turns = λ tx t at split. let right = (own tx t at split).right in
-            rows_both s.node s.view tx t body (λ turn. TurnTokens tx t (came tx) turn) (λ turn. TurnTokens tx t 1 turn)
-            (rows_tokens s.node s.view tx t body right (came tx) (λ key answer is. came_some tx (ap (is_token v) is)) (λ key why is. came_some tx (ap (is_token v) is)))
-            (rows_tokens s.node s.view tx t body right 1 (λ key answer is. omega arith) (λ key why is. omega arith));
+            rows_both s.node s.layout tx t body (λ turn. TurnTokens tx t (came tx) turn) (λ turn. TurnTokens tx t 1 turn)
+            (rows_tokens s.node s.layout tx t body right (came tx) (λ key answer is. came_some tx (ap (is_token v) is)) (λ key why is. came_some tx (ap (is_token v) is)))
+            (rows_tokens s.node s.layout tx t body right 1 (λ key answer is. omega arith) (λ key why is. omega arith));
         turned = λ tx t at split turn is.
             turn_tokens tx t at split turn (one_if (is_token v body)) (λ e. subst (λ n. TurnTokens tx t n turn) (ap (λ b. cond b (one_if (is_token v body)) 1) e) is.0) is.1 turn.over refl;
         stays = nothing (one_if (is_token v body));

@@ -9,7 +9,7 @@ use Rattle.sig_core.specs.declared.op.Op.{Op}
 use Rattle.sig_core.specs.declared.outcome.AbortCause.{AbortCause}
 use Rattle.sig_core.specs.declared.outcome.AbortCause.TheVariants as cause
 use Rattle.sig_core.specs.declared.outs.Outgoing.{Outgoing}
-use Rattle.sig_core.specs.declared.view.View.{View}
+use Rattle.frag_map.specs.Layout.{Layout}
 use Rattle.sig_core.specs.Op.{key_of}
 use Rattle.sig_core.specs.Same.{same_tx}
 use Rattle.tc_block.specs.declared.phase.Asked.{Asked}
@@ -17,7 +17,7 @@ use Rattle.tc_block.specs.declared.phase.Phase.{Phase}
 use Rattle.tc_block.specs.declared.phase.Phase.TheVariants.{Open, Verifying, Committing, Completing, Aborting}
 use Rattle.tc_block.specs.declared.transaction.Transaction.{Transaction}
 use Rattle.tc_block.specs.Abort as abort
-use Rattle.tc_block.specs.Chain.{chain_of}
+use Rattle.frag_map.specs.Layout.{chain_of}
 use Rattle.tc_block.specs.Commit as commit
 use Rattle.tc_block.specs.Complete as complete
 use Rattle.tc_block.specs.Operate as operate
@@ -100,26 +100,26 @@ module _ (tx : TxId) (t : Transaction) (right : is_right t.asked t.phase ≡ tru
     others = λ v apart. still_out v turn.step.effects.sends (still v);
   }
 
-  pub go_on_turn : (node : ℕ) (view : View) (at came : ℕ) → TurnTokens tx t came (going (go_on_row node view tx t at))
+  pub go_on_turn : (node : ℕ) (layout : Layout) (at came : ℕ) → TurnTokens tx t came (going (go_on_row node layout tx t at))
   unfolding go_on_row
-  go_on_turn node view at came =
-      still_turn came (going (go_on_row node view tx t at)) (go_on_asks 0 tx [] t right node view at).right (λ v. go_on_still v tx node view t at) (by (nat_lt at 512))
+  go_on_turn node layout at came =
+      still_turn came (going (go_on_row node layout tx t at)) (go_on_asks 0 tx [] t right node layout at).right (λ v. go_on_still v tx node layout t at) (by (nat_lt at 512))
     where
-      by : (b : Bool) (m : ℕ) → m + came ≤ budget_of t → m ≤ budget_of (go_on_if node view tx t at b).state
+      by : (b : Bool) (m : ℕ) → m + came ≤ budget_of t → m ≤ budget_of (go_on_if node layout tx t at b).state
       by true m low = omega (arith, low)
       by false m low = omega (arith, low)
 
-  pub operate_turn : (view : View) (op : Op) (came : ℕ) → TurnTokens tx t came (going (operate.operate_row view tx t op))
+  pub operate_turn : (layout : Layout) (op : Op) (came : ℕ) → TurnTokens tx t came (going (operate.operate_row layout tx t op))
   unfolding operate.operate_row
-  operate_turn view op came = by (operate.can_operate t op) refl
+  operate_turn layout op came = by (operate.can_operate t op) refl
     where
-      by : (b : Bool) → operate.can_operate t op ≡ b → TurnTokens tx t came (going (operate.operate_if view tx t op b))
-      by false e = still_turn came (going (operate.operate_if view tx t op false)) right (λ v. tt) (λ m low. omega (arith, low))
+      by : (b : Bool) → operate.can_operate t op ≡ b → TurnTokens tx t came (going (operate.operate_if layout tx t op b))
+      by false e = still_turn came (going (operate.operate_if layout tx t op false)) right (λ v. tt) (λ m low. omega (arith, low))
       by true e =
           let ready = (and_parts (operate.is_ready t.phase t.asked) _ e).0 in
           record {
             right = ready_may t.phase t.asked ready;
-            own = λ m low. omega (arith, low, ready_none t.phase t.asked ready, one_asked t.phase (record { op = op; chain = chain_of view (key_of op) }), ap one_if (same_tx-self tx));
+            own = λ m low. omega (arith, low, ready_none t.phase t.asked ready, one_asked t.phase (record { op = op; chain = chain_of layout (key_of op) }), ap one_if (same_tx-self tx));
             others = λ v apart. omega (arith, ap one_if apart);
           }
 
@@ -127,15 +127,15 @@ module _ (tx : TxId) (t : Transaction) (right : is_right t.asked t.phase ≡ tru
   nothing_left : (came : ℕ) → 1 ≤ came → (turn : Turn) (m : ℕ) → m + came ≤ budget_of t → m ≤ budget_after tx turn
   nothing_left came some turn m low = omega (arith, low, some, few t.phase t.asked)
 
-  pub answer_turn : (view : View) (key : List ℕ) (answer : Answer) (came : ℕ) → 1 ≤ came → TurnTokens tx t came (going (operate.answer_row view tx t key answer))
-  answer_turn view key answer came some =
-      still_turn came (going (operate.answer_row view tx t key answer)) (answer_asks 0 tx [] t right view key answer).right (λ v. answer_still v tx view t key answer)
-      (nothing_left came some (going (operate.answer_row view tx t key answer)))
+  pub answer_turn : (layout : Layout) (key : List ℕ) (answer : Answer) (came : ℕ) → 1 ≤ came → TurnTokens tx t came (going (operate.answer_row layout tx t key answer))
+  answer_turn layout key answer came some =
+      still_turn came (going (operate.answer_row layout tx t key answer)) (answer_asks 0 tx [] t right layout key answer).right (λ v. answer_still v tx layout t key answer)
+      (nothing_left came some (going (operate.answer_row layout tx t key answer)))
 
-  pub refuse_turn : (node : ℕ) (view : View) (key : List ℕ) (why : AbortCause) (came : ℕ) → 1 ≤ came → TurnTokens tx t came (abort.refuse_row node view tx t key why)
-  refuse_turn node view key why came some =
-      still_turn came (abort.refuse_row node view tx t key why) (refuse_asks 0 tx [] t right node view key why).right (λ v. refuse_still v tx node view t key why)
-      (nothing_left came some (abort.refuse_row node view tx t key why))
+  pub refuse_turn : (node : ℕ) (layout : Layout) (key : List ℕ) (why : AbortCause) (came : ℕ) → 1 ≤ came → TurnTokens tx t came (abort.refuse_row node layout tx t key why)
+  refuse_turn node layout key why came some =
+      still_turn came (abort.refuse_row node layout tx t key why) (refuse_asks 0 tx [] t right node layout key why).right (λ v. refuse_still v tx node layout t key why)
+      (nothing_left came some (abort.refuse_row node layout tx t key why))
 
   pub wait_turn : (came : ℕ) → TurnTokens tx t came (going (operate.wait_row tx t))
   unfolding operate.wait_row
@@ -158,25 +158,25 @@ module _ (tx : TxId) (t : Transaction) (right : is_right t.asked t.phase ≡ tru
   none_idle : (came : ℕ) → may_ask t.phase ≡ false → (turn : Turn) (m : ℕ) → m + came ≤ budget_of t → m ≤ budget_after tx turn
   none_idle came off turn m low = omega (arith, low, idle t.phase t.asked right off)
 
-  pub commit_turn : (node : ℕ) (view : View) (epoch came : ℕ) → TurnTokens tx t came (commit.commit_row node view tx t epoch)
+  pub commit_turn : (node : ℕ) (layout : Layout) (epoch came : ℕ) → TurnTokens tx t came (commit.commit_row node layout tx t epoch)
   unfolding commit.commit_row
-  commit_turn node view epoch came =
-      still_turn came (commit.commit_row node view tx t epoch) (commit_asks 0 tx [] t right node view epoch).right (λ v. commit_still v tx node view t epoch) (by t.phase refl)
+  commit_turn node layout epoch came =
+      still_turn came (commit.commit_row node layout tx t epoch) (commit_asks 0 tx [] t right node layout epoch).right (λ v. commit_still v tx node layout t epoch) (by t.phase refl)
     where
-      by : (phase : Phase) → t.phase ≡ phase → (m : ℕ) → m + came ≤ budget_of t → m ≤ budget_after tx (commit.commit_by node view tx t epoch phase)
-      by Verifying p m low = none_idle came (ap may_ask p) (commit.commit_by node view tx t epoch Verifying) m low
+      by : (phase : Phase) → t.phase ≡ phase → (m : ℕ) → m + came ≤ budget_of t → m ≤ budget_after tx (commit.commit_by node layout tx t epoch phase)
+      by Verifying p m low = none_idle came (ap may_ask p) (commit.commit_by node layout tx t epoch Verifying) m low
       by Open p m low = omega (arith, low)
       by (Committing other awaited) p m low = omega (arith, low)
       by (Completing other awaited) p m low = omega (arith, low)
       by (Aborting why verifying awaited) p m low = omega (arith, low)
 
-  pub committed_turn : (node : ℕ) (view : View) (came : ℕ) → TurnTokens tx t came (commit.committed_row node view tx t)
+  pub committed_turn : (node : ℕ) (layout : Layout) (came : ℕ) → TurnTokens tx t came (commit.committed_row node layout tx t)
   unfolding commit.committed_row
-  committed_turn node view came =
-      still_turn came (commit.committed_row node view tx t) (committed_asks 0 tx [] t right node view).right (λ v. committed_still v tx node view t) (by t.phase refl)
+  committed_turn node layout came =
+      still_turn came (commit.committed_row node layout tx t) (committed_asks 0 tx [] t right node layout).right (λ v. committed_still v tx node layout t) (by t.phase refl)
     where
-      by : (phase : Phase) → t.phase ≡ phase → (m : ℕ) → m + came ≤ budget_of t → m ≤ budget_after tx (commit.committed_by node view tx t phase)
-      by (Committing epoch awaited) p m low = none_idle came (ap may_ask p) (commit.committed_by node view tx t (Committing epoch awaited)) m low
+      by : (phase : Phase) → t.phase ≡ phase → (m : ℕ) → m + came ≤ budget_of t → m ≤ budget_after tx (commit.committed_by node layout tx t phase)
+      by (Committing epoch awaited) p m low = none_idle came (ap may_ask p) (commit.committed_by node layout tx t (Committing epoch awaited)) m low
       by Open p m low = omega (arith, low)
       by Verifying p m low = omega (arith, low)
       by (Completing other awaited) p m low = omega (arith, low)
@@ -199,22 +199,22 @@ module _ (tx : TxId) (t : Transaction) (right : is_right t.asked t.phase ≡ tru
   end_gives_up node why true = or_left (same_tx tx tx) false (same_tx-self tx)
   end_gives_up node why false = or_left (same_tx tx tx) false (same_tx-self tx)
 
-  one_then : (node : ℕ) (view : View) (why : AbortCause) → budget_after tx (abort.aborted_for node view tx t why) ≡ 1
+  one_then : (node : ℕ) (layout : Layout) (why : AbortCause) → budget_after tx (abort.aborted_for node layout tx t why) ≡ 1
   unfolding abort.aborted_for entering
-  one_then node view why = by (abort.aborts_awaited view t == 0)
+  one_then node layout why = by (abort.aborts_awaited layout t == 0)
     where
-      by : (b : Bool) → budget_after tx (abort.abort_if node view tx t why b) ≡ 1
+      by : (b : Bool) → budget_after tx (abort.abort_if node layout tx t why b) ≡ 1
       by true = ap one_if (end_gives_up node why (abort.is_verifying t.phase))
       by false = refl
 
-  pub rollback_turn : (node : ℕ) (view : View) (came : ℕ) → TurnTokens tx t came (abort.rollback_row node view tx t)
+  pub rollback_turn : (node : ℕ) (layout : Layout) (came : ℕ) → TurnTokens tx t came (abort.rollback_row node layout tx t)
   unfolding abort.rollback_row
-  rollback_turn node view came =
-      still_turn came (abort.rollback_row node view tx t) (rollback_asks 0 tx [] t right node view).right (λ v. rollback_still v tx node view t) (by t.phase)
+  rollback_turn node layout came =
+      still_turn came (abort.rollback_row node layout tx t) (rollback_asks 0 tx [] t right node layout).right (λ v. rollback_still v tx node layout t) (by t.phase)
     where
-      by : (phase : Phase) (m : ℕ) → m + came ≤ budget_of t → m ≤ budget_after tx (abort.rollback_by node view tx t phase)
-      by Open m low = omega (arith, low, few t.phase t.asked, one_then node view cause.Request)
-      by Verifying m low = omega (arith, low, few t.phase t.asked, one_then node view cause.Request)
+      by : (phase : Phase) (m : ℕ) → m + came ≤ budget_of t → m ≤ budget_after tx (abort.rollback_by node layout tx t phase)
+      by Open m low = omega (arith, low, few t.phase t.asked, one_then node layout cause.Request)
+      by Verifying m low = omega (arith, low, few t.phase t.asked, one_then node layout cause.Request)
       by (Committing epoch awaited) m low = omega (arith, low)
       by (Completing epoch awaited) m low = omega (arith, low)
       by (Aborting why verifying awaited) m low = omega (arith, low)

@@ -6,13 +6,13 @@ use Rattle.std.proofs.lemmas.List.{append_assoc, append_cancel_right}
 use Rattle.run_theory.proofs.Runs.{if_false, if_true, log_of-other, log_of-own, taken-asked, taken-other, taken-step}
 use Rattle.run_theory.specs.Links.{put, sent, taken}
 use Rattle.run_theory.specs.Lists.{Each, IsPast}
-use Rattle.sig_core.specs.declared.log.LogStep.{LogStep}
+use Rattle.world_core.specs.Steps.{Addressed, HostStep}
 use Rattle.sig_core.specs.declared.outs.Outgoing.{Outgoing}
-use Rattle.sig_core.specs.declared.signal.Signal.{Signal}
 use Rattle.sig_core.specs.declared.view.View.{View}
 use Rattle.node_core.specs.Requests.{is_request}
 use Rattle.world_core.specs.Machine.{all_headed, counted, machine, sent_count, signals_of, step_after}
-use Rattle.world_core.specs.Start.{Start, first_view}
+use Rattle.frag_map.specs.Layout.{first_view}
+use Rattle.world_core.specs.Start.{Start}
 use Rattle.answer_laws.proofs.Begins.{given_past}
 use Rattle.transit_laws.specs.Transit.{AreInTransit, Comes, IsRun, RunsHaveTransit, Takes, joined, logs_of}
 use Rattle.transit_laws.proofs.Transit.{comes, earlier}
@@ -59,7 +59,7 @@ last_chosen {A} p (y ∷ ys) newer x is = by (p y) refl newer is (last_chosen p 
 
 -- the signal is on this link
 abbrev pub is_on : ℕ → ℕ → Signal → Bool
-is_on i j x = (x.from.0 == i) && (x.to.node == j)
+is_on i j x = (x.signal.from.0 == i) && (x.signal.to.node == j)
 
 and_false : (a b : Bool) → b ≡ false → (a && b) ≡ false
 and_false true b off = off
@@ -67,12 +67,12 @@ and_false false b off = refl
 
 module _ (start : Start) where
   -- what is in transit on each link was sent on it behind what was taken
-  pub record HaveLinks (logs : ℕ → List LogStep) (xs : List Signal) : Type 0 where
+  pub record HaveLinks (logs : ℕ → List HostStep) (xs : List Addressed) : Type 0 where
     pub links : (i j : ℕ) → sent (machine start) i j (logs i) ≡ chosen (is_on i j) xs ++ taken (machine start) i (logs j)
 
-  put_behind : (j : ℕ) (sends xs ys : List Signal) → put (machine start) j sends (xs ++ ys) ≡ put (machine start) j sends xs ++ ys
+  put_behind : (j : ℕ) (sends xs ys : List Addressed) → put (machine start) j sends (xs ++ ys) ≡ put (machine start) j sends xs ++ ys
   put_behind j [] xs ys = refl
-  put_behind j (x ∷ sends) xs ys = by (x.to.node == j) (put_behind j sends (x ∷ xs) ys) (put_behind j sends xs ys)
+  put_behind j (x ∷ sends) xs ys = by (x.signal.to.node == j) (put_behind j sends (x ∷ xs) ys) (put_behind j sends xs ys)
     where
       by : (b : Bool) → put (machine start) j sends (x ∷ (xs ++ ys)) ≡ put (machine start) j sends (x ∷ xs) ++ ys → put (machine start) j sends (xs ++ ys) ≡ put (machine start) j sends xs ++ ys
           → put (machine start) j sends (if b then x ∷ (xs ++ ys) else xs ++ ys) ≡ put (machine start) j sends (if b then x ∷ xs else xs) ++ ys
@@ -80,36 +80,36 @@ module _ (start : Start) where
       by false one other = other
 
   -- what a host sends joins its links alone
-  joined_own : (h j : ℕ) (sends xs : List Signal) → Each (λ (x : Signal). x.from.0 ≡ h) sends
+  joined_own : (h j : ℕ) (sends xs : List Addressed) → Each (λ (x : Addressed). x.signal.from.0 ≡ h) sends
       → chosen (is_on h j) (joined sends xs) ≡ put (machine start) j sends (chosen (is_on h j) xs)
   joined_own h j [] xs own = refl
   joined_own h j (x ∷ sends) xs own =
       joined_own h j sends (x ∷ xs) own.1
-      ∙ ap (λ b. put (machine start) j sends (if b && (x.to.node == j) then x ∷ chosen (is_on h j) xs else chosen (is_on h j) xs)) (eq-eqb x.from.0 h own.0)
+      ∙ ap (λ b. put (machine start) j sends (if b && (x.signal.to.node == j) then x ∷ chosen (is_on h j) xs else chosen (is_on h j) xs)) (eq-eqb x.signal.from.0 h own.0)
 
-  joined_other : (h i j : ℕ) (sends xs : List Signal) → h ≢ i → Each (λ (x : Signal). x.from.0 ≡ h) sends → chosen (is_on i j) (joined sends xs) ≡ chosen (is_on i j) xs
+  joined_other : (h i j : ℕ) (sends xs : List Addressed) → h ≢ i → Each (λ (x : Addressed). x.signal.from.0 ≡ h) sends → chosen (is_on i j) (joined sends xs) ≡ chosen (is_on i j) xs
   joined_other h i j [] xs differs own = refl
   joined_other h i j (x ∷ sends) xs differs own =
       joined_other h i j sends (x ∷ xs) differs own.1
-      ∙ ap (λ b. if b && (x.to.node == j) then x ∷ chosen (is_on i j) xs else chosen (is_on i j) xs) (ne_eqb x.from.0 i (λ is. differs (sym own.0 ∙ is)))
+      ∙ ap (λ b. if b && (x.signal.to.node == j) then x ∷ chosen (is_on i j) xs else chosen (is_on i j) xs) (ne_eqb x.signal.from.0 i (λ is. differs (sym own.0 ∙ is)))
 
-  headed_from : (view : View) (h stamp : ℕ) (count : ℕ → ℕ) (sends : List Outgoing) → Each (λ (x : Signal). x.from.0 ≡ h) (all_headed view h stamp count sends)
+  headed_from : (view : View) (h stamp : ℕ) (count : ℕ → ℕ) (sends : List Outgoing) → Each (λ (x : Addressed). x.signal.from.0 ≡ h) (all_headed view h stamp count sends)
   headed_from view h stamp count [] = tt
   headed_from view h stamp count (o ∷ more) = (refl, headed_from view h stamp (counted o.to.node count) more)
 
   -- the part of a step that takes
-  record IsBetween (es : List LogStep) (e : LogStep) (before between : List Signal) : Type 0 where
+  record IsBetween (es : List HostStep) (e : HostStep) (before between : List Addressed) : Type 0 where
     takes : Takes e before between
     links : (i j : ℕ) → sent (machine start) i j (logs_of start es i) ≡ chosen (is_on i j) between ++ taken (machine start) i (logs_of start (e ∷ es) j)
 
-  module _ (es : List LogStep) (e : LogStep) (come : Comes start es e) (before : List Signal) (held : HaveLinks (logs_of start es) before) where
+  module _ (es : List HostStep) (e : HostStep) (come : Comes start es e) (before : List Addressed) (held : HaveLinks (logs_of start es) before) where
     abbrev h : ℕ
-    h = e.taken.to.node
+    h = e.host
 
-    abbrev old : ℕ → List LogStep
+    abbrev old : ℕ → List HostStep
     old = logs_of start es
 
-    abbrev now : ℕ → List LogStep
+    abbrev now : ℕ → List HostStep
     now = logs_of start (e ∷ es)
 
     own_now : now h ≡ e ∷ old h
@@ -123,40 +123,40 @@ module _ (start : Start) where
         by (inl at) = subst (λ k. taken (machine start) i (now k) ≡ taken (machine start) i (old k)) at (ap (taken (machine start) i) own_now ∙ none at)
         by (inr off) = ap (taken (machine start) i) (log_of-other (machine start) e es j off)
 
-    asks : is_request e.taken.body ≡ true → IsBetween es e before before
+    asks : is_request e.step.taken.body ≡ true → IsBetween es e before before
     asks request = record {
       takes = record { request = λ is. refl; signal = λ off. absurd (let both : true ≡ false = sym request ∙ off in cc) };
       links = λ i j. held.links i j ∙ ap (λ w. chosen (is_on i j) before ++ w) (sym (taken_same i j (λ at. taken-asked (machine start) i e (old h) request)));
     }
 
     abbrev from : ℕ
-    from = e.taken.from.0
+    from = e.step.taken.from.0
 
     -- the signal is the oldest on its link
-    module _ (signal : is_request e.taken.body ≡ false) where
-      given : IsPast (e.taken ∷ taken (machine start) from (old h)) (sent (machine start) from h (old from))
-      given = given_past start from h (old from) (e.taken ∷ taken (machine start) from (old h)) (come.happens.takes signal)
+    module _ (signal : is_request e.step.taken.body ≡ false) where
+      given : IsPast (e.step.taken ∷ taken (machine start) from (old h)) (sent (machine start) from h (old from))
+      given = given_past start from h (old from) (e.step.taken ∷ taken (machine start) from (old h)) (come.happens.takes signal)
 
-      oldest : chosen (is_on from h) before ≡ given.newer ++ e.taken ∷ []
+      oldest : chosen (is_on from h) before ≡ given.newer ++ e.step.taken ∷ []
       oldest =
-          append_cancel_right (chosen (is_on from h) before) (given.newer ++ e.taken ∷ []) (taken (machine start) from (old h))
-          (sym (held.links from h) ∙ (given.is ∙ sym (append_assoc given.newer (e.taken ∷ []) (taken (machine start) from (old h)))))
+          append_cancel_right (chosen (is_on from h) before) (given.newer ++ e.step.taken ∷ []) (taken (machine start) from (old h))
+          (sym (held.links from h) ∙ (given.is ∙ sym (append_assoc given.newer (e.step.taken ∷ []) (taken (machine start) from (old h)))))
 
-      found : IsLast (is_on from h) before given.newer e.taken
-      found = last_chosen (is_on from h) before given.newer e.taken oldest
+      found : IsLast (is_on from h) before given.newer e.step.taken
+      found = last_chosen (is_on from h) before given.newer e.step.taken oldest
 
-      links_off : (i j : ℕ) → is_on i j e.taken ≡ false → taken (machine start) i (now j) ≡ taken (machine start) i (old j)
+      links_off : (i j : ℕ) → is_on i j e.step.taken ≡ false → taken (machine start) i (now j) ≡ taken (machine start) i (old j)
           → sent (machine start) i j (old i) ≡ chosen (is_on i j) (found.front ++ found.back) ++ taken (machine start) i (now j)
       links_off i j off same =
           held.links i j
           ∙ (ap (λ w. chosen (is_on i j) w ++ taken (machine start) i (old j)) found.is
-          ∙ (ap (λ w. w ++ taken (machine start) i (old j)) (chosen_without (is_on i j) found.front e.taken found.back off)
+          ∙ (ap (λ w. w ++ taken (machine start) i (old j)) (chosen_without (is_on i j) found.front e.step.taken found.back off)
           ∙ ap (λ w. chosen (is_on i j) (found.front ++ found.back) ++ w) (sym same)))
 
       links_on : sent (machine start) from h (old from) ≡ chosen (is_on from h) (found.front ++ found.back) ++ taken (machine start) from (now h)
       links_on =
           given.is
-          ∙ (ap (λ w. w ++ (e.taken ∷ taken (machine start) from (old h))) (sym found.left)
+          ∙ (ap (λ w. w ++ (e.step.taken ∷ taken (machine start) from (old h))) (sym found.left)
           ∙ ap (λ w. chosen (is_on from h) (found.front ++ found.back) ++ w) (sym (ap (taken (machine start) from) own_now ∙ taken-step (machine start) from e (old h) signal refl)))
 
       links_between : (i j : ℕ) → sent (machine start) i j (old i) ≡ chosen (is_on i j) (found.front ++ found.back) ++ taken (machine start) i (now j)
@@ -178,13 +178,13 @@ module _ (start : Start) where
         links = links_between;
       }
 
-    abbrev sends : List Signal
+    abbrev sends : List Addressed
     sends = signals_of start h (old h) e
 
-    from_here : Each (λ (x : Signal). x.from.0 ≡ h) sends
-    from_here = headed_from (first_view start.nodes) h e.stamp (sent_count start h (old h)) (step_after start h (old h) e).effects.sends
+    from_here : Each (λ (x : Addressed). x.signal.from.0 ≡ h) sends
+    from_here = headed_from (first_view start.shape.nodes) h e.step.stamp (sent_count start h (old h)) (step_after start h (old h) e).effects.sends
 
-    sends_join : (between : List Signal) → IsBetween es e before between → HaveLinks now (joined sends between)
+    sends_join : (between : List Addressed) → IsBetween es e before between → HaveLinks now (joined sends between)
     sends_join between is = record { links = λ i j. by i j (cases_eq h i) }
       where
         own : (j : ℕ) → sent (machine start) h j (now h) ≡ chosen (is_on h j) (joined sends between) ++ taken (machine start) h (now j)
@@ -202,26 +202,26 @@ module _ (start : Start) where
             ∙ ap (λ w. w ++ taken (machine start) i (now j)) (sym (joined_other h i j sends between off from_here)))
 
   -- some list that has the links in it
-  record HasTransit (es : List LogStep) : Type 0 where
-    xs : List Signal
+  record HasTransit (es : List HostStep) : Type 0 where
+    xs : List Addressed
     transit : AreInTransit start es xs
     links : HaveLinks (logs_of start es) xs
 
-  passes : (es : List LogStep) (e : LogStep) → Comes start es e → (was : HasTransit es) → (between : List Signal) → IsBetween es e was.xs between → HasTransit (e ∷ es)
+  passes : (es : List HostStep) (e : HostStep) → Comes start es e → (was : HasTransit es) → (between : List Addressed) → IsBetween es e was.xs between → HasTransit (e ∷ es)
   passes es e come was between is = record {
-    xs = joined (signals_of start e.taken.to.node (logs_of start es e.taken.to.node) e) between;
+    xs = joined (signals_of start e.host (logs_of start es e.host) e) between;
     transit = (was.xs, (was.transit, record { between = between; takes = is.takes; is = refl }));
     links = sends_join es e come was.xs was.links between is;
   }
 
-  has_next : (es : List LogStep) (e : LogStep) → Comes start es e → HasTransit es → HasTransit (e ∷ es)
-  has_next es e come was = by (is_request e.taken.body) refl
+  has_next : (es : List HostStep) (e : HostStep) → Comes start es e → HasTransit es → HasTransit (e ∷ es)
+  has_next es e come was = by (is_request e.step.taken.body) refl
     where
-      by : (b : Bool) → is_request e.taken.body ≡ b → HasTransit (e ∷ es)
+      by : (b : Bool) → is_request e.step.taken.body ≡ b → HasTransit (e ∷ es)
       by true request = passes es e come was was.xs (asks es e come was.xs was.links request)
       by false signal = passes es e come was _ (gives es e come was.xs was.links signal)
 
-  has_transit : (es : List LogStep) → IsRun start es → HasTransit es
+  has_transit : (es : List HostStep) → IsRun start es → HasTransit es
   has_transit [] run = record { xs = []; transit = refl; links = record { links = λ i j. refl } }
   has_transit (e ∷ es) run = has_next es e (comes start es e run) (has_transit es (earlier start es e run))
 
@@ -231,13 +231,13 @@ runs_have_transit start es run =
     (has.xs, has.transit)
 
 -- what an event that comes takes, of what is in transit then
-pub record IsTaking (start : Start) (es : List LogStep) (e : LogStep) : Type 0 where
-  pub before : List Signal
+pub record IsTaking (start : Start) (es : List HostStep) (e : HostStep) : Type 0 where
+  pub before : List Addressed
   pub transit : AreInTransit start es before
-  pub between : List Signal
+  pub between : List Addressed
   pub takes : Takes e before between
 
-pub taking : (start : Start) (es : List LogStep) (e : LogStep) → Comes start es e → IsTaking start es e
+pub taking : (start : Start) (es : List HostStep) (e : HostStep) → Comes start es e → IsTaking start es e
 taking start es e come =
     let (xs, (before, (rest, passes))) = runs_have_transit start (e ∷ es) come.now in
     record { before = before; transit = rest; between = passes.between; takes = passes.takes }

@@ -24,7 +24,7 @@ use Rattle.tc_block.specs.Live.{place_in, step_of, turn_of, turn_place, turn_val
 use Rattle.tc_block.specs.Operate as operate
 use Rattle.tc_block.specs.Sends.{go_on_row}
 use Rattle.tc_block.specs.State.{TcState}
-use Rattle.tc_block.specs.Tc.{begin_if, begin_row, begun, is_full, pass_if, pass_row, tc_row}
+use Rattle.tc_block.specs.Tc.{begin_if, begin_row, begun, is_full, pass_if, pass_row, tc_table}
 use Rattle.tc_block.specs.Turn.{Turn, going}
 use Rattle.answer_laws.proofs.NodeOps.{absent_key}
 use Rattle.answer_laws.proofs.Tally.{one_if, tally, tally_append, tally_between}
@@ -48,8 +48,8 @@ left_by turn = if turn.over then None else Some turn.step.state
 pub data TcTurn (tx : TxId) (s : TcState) (body : Body) (step : Step TcState) : Type 0 where
   idle : of_live tx step.state.live ≡ of_live tx s.live → AreSilent tx step.effects.sends → (is_next tx body ≡ true → of_live tx s.live ≡ None) → TcTurn tx s body step
   begins : step.state ≡ begun s → AreSilent tx step.effects.sends → is_next tx body ≡ false → TcTurn tx s body step
-  turns : (t : Transaction) → of_live tx s.live ≡ Some t → same_tx (tx_in body) tx ≡ true → step.effects.sends ≡ (turn_for s.node s.view tx body t).step.effects.sends
-      → of_live tx step.state.live ≡ left_by (turn_for s.node s.view tx body t) → TcTurn tx s body step
+  turns : (t : Transaction) → of_live tx s.live ≡ Some t → same_tx (tx_in body) tx ≡ true → step.effects.sends ≡ (turn_for s.node s.layout tx body t).step.effects.sends
+      → of_live tx step.state.live ≡ left_by (turn_for s.node s.layout tx body t) → TcTurn tx s body step
 
 next_other : (tx : TxId) (body : Body) → same_tx (tx_in body) tx ≡ false → is_next tx body ≡ false
 next_other tx (Host (Continue (work.Transaction one) at)) e = e
@@ -57,7 +57,7 @@ next_other tx _ e = refl
 
 module _ (tx : TxId) (s : TcState) (once : tally (is_keyed tx) s.live ≤ 1) where
   turn_step : (body : Body) (row : Transaction → Turn) → ((t : Transaction) → TurnOwn (tx_in body) (row t))
-      → (same_tx (tx_in body) tx ≡ true → (t : Transaction) → row t ≡ turn_for s.node s.view tx body t) → TcTurn tx s body (turn_of s (tx_in body) row)
+      → (same_tx (tx_in body) tx ≡ true → (t : Transaction) → row t ≡ turn_for s.node s.layout tx body t) → TcTurn tx s body (turn_of s (tx_in body) row)
   unfolding without
   turn_step body row own mine = go (nat_lt place (length (keys_of s.live))) refl
     where
@@ -84,7 +84,7 @@ module _ (tx : TxId) (s : TcState) (once : tally (is_keyed tx) s.live ≤ 1) whe
       was f e = ap (of_live tx) f.is ∙ of_here tx f.key f.value f.front f.back (front_none f e) (keyed f true e)
 
       left : (f : IsEntry (same_tx one) s.live place) (b : Bool) → same_tx one tx ≡ true → (row f.value).over ≡ b
-          → (if b then None else Some (row f.value).step.state) ≡ left_by (turn_for s.node s.view tx body f.value)
+          → (if b then None else Some (row f.value).step.state) ≡ left_by (turn_for s.node s.layout tx body f.value)
       left f b e o = ap (λ c. if c then None else Some (row f.value).step.state) (sym o) ∙ ap left_by (mine e f.value)
 
       over : (f : IsEntry (same_tx one) s.live place) (m b : Bool) → same_tx one tx ≡ m → (row f.value).over ≡ b → TcTurn tx s body (turned_if s place (row f.value) b)
@@ -117,7 +117,7 @@ module _ (tx : TxId) (s : TcState) (once : tally (is_keyed tx) s.live ≤ 1) whe
       go false e = idle refl tt (none (same_tx one tx) refl (grind (arith, nat_tests, e)))
 
   plain_step : (body : Body) (row : Transaction → Step Transaction) → ((t : Transaction) → TurnOwn (tx_in body) (going (row t)))
-      → (same_tx (tx_in body) tx ≡ true → (t : Transaction) → going (row t) ≡ turn_for s.node s.view tx body t) → TcTurn tx s body (step_of s (tx_in body) row)
+      → (same_tx (tx_in body) tx ≡ true → (t : Transaction) → going (row t) ≡ turn_for s.node s.layout tx body t) → TcTurn tx s body (step_of s (tx_in body) row)
   plain_step body row own mine = subst (TcTurn tx s body) (sym (step_is s (tx_in body) row)) (turn_step body (λ t. going (row t)) own mine)
 
   begin_step : (name : Option ℕ) (b : Bool) → TcTurn tx s (Client (TcBeginReq name)) (begin_if s name b)
@@ -128,41 +128,41 @@ module _ (tx : TxId) (s : TcState) (once : tally (is_keyed tx) s.live ≤ 1) whe
   pass_step one ahead true = idle refl (refl, tt) (λ e. cc)
   pass_step one ahead false = idle refl tt (λ e. cc)
 
-  pub tc_turn : (body : Body) → TcTurn tx s body (tc_row s body)
+  pub tc_turn : (body : Body) → TcTurn tx s body (tc_table s body)
   unfolding begin_row pass_row
   tc_turn (Host (Continue (work.Transaction one) at)) =
-      plain_step (Host (Continue (work.Transaction one) at)) (λ t. go_on_row s.node s.view one t at) (λ t. turn_own s.node s.view one (Host (Continue (work.Transaction one) at)) t)
-      (λ e t. ap (λ x. going (go_on_row s.node s.view x t at)) (same_tx-is one tx e))
+      plain_step (Host (Continue (work.Transaction one) at)) (λ t. go_on_row s.node s.layout one t at) (λ t. turn_own s.node s.layout one (Host (Continue (work.Transaction one) at)) t)
+      (λ e t. ap (λ x. going (go_on_row s.node s.layout x t at)) (same_tx-is one tx e))
   tc_turn (Client (TcBeginReq name)) = begin_step name (is_full s)
   tc_turn (Client (TcKeyReq one op)) =
-      plain_step (Client (TcKeyReq one op)) (λ t. operate.operate_row s.view one t op) (λ t. turn_own s.node s.view one (Client (TcKeyReq one op)) t)
-      (λ e t. ap (λ x. going (operate.operate_row s.view x t op)) (same_tx-is one tx e))
+      plain_step (Client (TcKeyReq one op)) (λ t. operate.operate_row s.layout one t op) (λ t. turn_own s.node s.layout one (Client (TcKeyReq one op)) t)
+      (λ e t. ap (λ x. going (operate.operate_row s.layout x t op)) (same_tx-is one tx e))
   tc_turn (Client (TcCommitReq one)) =
-      plain_step (Client (TcCommitReq one)) (λ t. commit.decide_row s.node one t) (λ t. turn_own s.node s.view one (Client (TcCommitReq one)) t)
+      plain_step (Client (TcCommitReq one)) (λ t. commit.decide_row s.node one t) (λ t. turn_own s.node s.layout one (Client (TcCommitReq one)) t)
       (λ e t. ap (λ x. going (commit.decide_row s.node x t)) (same_tx-is one tx e))
   tc_turn (Client (TcRollbackReq one)) =
-      turn_step (Client (TcRollbackReq one)) (λ t. abort.rollback_row s.node s.view one t) (λ t. turn_own s.node s.view one (Client (TcRollbackReq one)) t)
-      (λ e t. ap (λ x. abort.rollback_row s.node s.view x t) (same_tx-is one tx e))
+      turn_step (Client (TcRollbackReq one)) (λ t. abort.rollback_row s.node s.layout one t) (λ t. turn_own s.node s.layout one (Client (TcRollbackReq one)) t)
+      (λ e t. ap (λ x. abort.rollback_row s.node s.layout x t) (same_tx-is one tx e))
   tc_turn (Client (TcWaitReq one)) =
-      plain_step (Client (TcWaitReq one)) (λ t. operate.wait_row one t) (λ t. turn_own s.node s.view one (Client (TcWaitReq one)) t)
+      plain_step (Client (TcWaitReq one)) (λ t. operate.wait_row one t) (λ t. turn_own s.node s.layout one (Client (TcWaitReq one)) t)
       (λ e t. ap (λ x. going (operate.wait_row x t)) (same_tx-is one tx e))
   tc_turn (Client (LqhWaitConf one ahead)) = pass_step one ahead (is_some (place_in s one))
   tc_turn (Chain (LqhKeyConf one key answer)) =
-      plain_step (Chain (LqhKeyConf one key answer)) (λ t. operate.answer_row s.view one t key answer) (λ t. turn_own s.node s.view one (Chain (LqhKeyConf one key answer)) t)
-      (λ e t. ap (λ x. going (operate.answer_row s.view x t key answer)) (same_tx-is one tx e))
+      plain_step (Chain (LqhKeyConf one key answer)) (λ t. operate.answer_row s.layout one t key answer) (λ t. turn_own s.node s.layout one (Chain (LqhKeyConf one key answer)) t)
+      (λ e t. ap (λ x. going (operate.answer_row s.layout x t key answer)) (same_tx-is one tx e))
   tc_turn (Chain (LqhKeyRef one key why)) =
-      turn_step (Chain (LqhKeyRef one key why)) (λ t. abort.refuse_row s.node s.view one t key why) (λ t. turn_own s.node s.view one (Chain (LqhKeyRef one key why)) t)
-      (λ e t. ap (λ x. abort.refuse_row s.node s.view x t key why) (same_tx-is one tx e))
+      turn_step (Chain (LqhKeyRef one key why)) (λ t. abort.refuse_row s.node s.layout one t key why) (λ t. turn_own s.node s.layout one (Chain (LqhKeyRef one key why)) t)
+      (λ e t. ap (λ x. abort.refuse_row s.node s.layout x t key why) (same_tx-is one tx e))
   tc_turn (Chain (Committed one key)) =
-      turn_step (Chain (Committed one key)) (λ t. commit.committed_row s.node s.view one t) (λ t. turn_own s.node s.view one (Chain (Committed one key)) t)
-      (λ e t. ap (λ x. commit.committed_row s.node s.view x t) (same_tx-is one tx e))
+      turn_step (Chain (Committed one key)) (λ t. commit.committed_row s.node s.layout one t) (λ t. turn_own s.node s.layout one (Chain (Committed one key)) t)
+      (λ e t. ap (λ x. commit.committed_row s.node s.layout x t) (same_tx-is one tx e))
   tc_turn (Chain (Completed one key)) =
-      turn_step (Chain (Completed one key)) (λ t. complete.completed_row s.node one t) (λ t. turn_own s.node s.view one (Chain (Completed one key)) t)
+      turn_step (Chain (Completed one key)) (λ t. complete.completed_row s.node one t) (λ t. turn_own s.node s.layout one (Chain (Completed one key)) t)
       (λ e t. ap (λ x. complete.completed_row s.node x t) (same_tx-is one tx e))
   tc_turn (Chain (Aborted one key)) =
-      turn_step (Chain (Aborted one key)) (λ t. abort.aborted_row s.node one t) (λ t. turn_own s.node s.view one (Chain (Aborted one key)) t)
+      turn_step (Chain (Aborted one key)) (λ t. abort.aborted_row s.node one t) (λ t. turn_own s.node s.layout one (Chain (Aborted one key)) t)
       (λ e t. ap (λ x. abort.aborted_row s.node x t) (same_tx-is one tx e))
   tc_turn (Epoch (DiVerifyConf one epoch)) =
-      turn_step (Epoch (DiVerifyConf one epoch)) (λ t. commit.commit_row s.node s.view one t epoch) (λ t. turn_own s.node s.view one (Epoch (DiVerifyConf one epoch)) t)
-      (λ e t. ap (λ x. commit.commit_row s.node s.view x t epoch) (same_tx-is one tx e))
+      turn_step (Epoch (DiVerifyConf one epoch)) (λ t. commit.commit_row s.node s.layout one t epoch) (λ t. turn_own s.node s.layout one (Epoch (DiVerifyConf one epoch)) t)
+      (λ e t. ap (λ x. commit.commit_row s.node s.layout x t epoch) (same_tx-is one tx e))
   tc_turn _ = idle refl tt (λ e. cc)

@@ -3,7 +3,7 @@ use Rattle.std.proofs.Common.{◌≡◌, ℕ, Bool, true, false, List, refl, ap,
 use Rattle.std.specs.List.{list_any}
 use Rattle.std.specs.Prelude.{Option, None, Some}
 use Rattle.run_theory.specs.Lists.{Each}
-use Rattle.sig_core.specs.declared.log.LogStep.{LogStep}
+use Rattle.world_core.specs.Steps.{HostStep}
 use Rattle.sig_core.specs.declared.member.TxId.{TxId}
 use Rattle.sig_core.specs.Same.{same_tx}
 use Rattle.tc_block.specs.declared.phase.Phase.{Phase}
@@ -84,11 +84,11 @@ decided_have_none start es xs tx run transit decided kept =
           (log_sound start tx.tc (logs tx.tc)) ((run_is_causal start es run).knows tx.tc) (decided_asked start es run tx decided) kept,
     )
   where
-    logs : ℕ → List LogStep
+    logs : ℕ → List HostStep
     logs = logs_of start es
 
 -- one that is carried out
-carried_by : (start : Start) (log : List LogStep) (tx : TxId) (g : host.Host) → after start tx.tc log ≡ g → IsSoundHost g (sent_ways start back_by tx.tc log)
+carried_by : (start : Start) (log : List HostStep) (tx : TxId) (g : host.Host) → after start tx.tc log ≡ g → IsSoundHost g (sent_ways start back_by tx.tc log)
     → list_any (same_tx tx) (sent_ways start forth_by tx.tc log) ≡ true → budget_by false (of_host tx g) ≡ 0
 carried_by start log tx (Shell s) is sound carried = refl
 carried_by start log tx (Node n) is sound carried = by (of_live tx n.tc.live) refl
@@ -109,5 +109,5 @@ carried_out_have_none start es xs tx run transit carried =
       carried_by start (logs tx.tc) tx (after start tx.tc (logs tx.tc)) refl (log_sound start tx.tc (logs tx.tc)) carried,
     )
   where
-    logs : ℕ → List LogStep
+    logs : ℕ → List HostStep
     logs = logs_of start es

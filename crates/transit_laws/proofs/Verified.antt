@@ -7,17 +7,17 @@ use Rattle.run_theory.specs.Lists.{IsIn, IsPast}
 use Rattle.run_theory.proofs.LinkFacts.{stamps_rise}
 use Rattle.run_theory.proofs.Pasts.{each_past, past_more, past_self}
 use Rattle.run_theory.proofs.Runs.{logs_of_run}
-use Rattle.sig_core.specs.declared.log.LogStep.{LogStep}
+use Rattle.world_core.specs.Steps.{Addressed, HostStep}
 use Rattle.sig_core.specs.declared.mark.Mark.{Mark}
 use Rattle.sig_core.specs.declared.member.TxId.{TxId}
 use Rattle.sig_core.specs.declared.outs.Outgoing.{Outgoing}
-use Rattle.sig_core.specs.declared.signal.Signal.{Signal}
 use Rattle.sig_core.specs.declared.view.View.{View}
 use Rattle.sig_core.specs.Same.{same_tx}
 use Rattle.node_core.specs.Requests.{is_request}
 use Rattle.world_core.specs.Machine.{all_headed, counted, machine, sent_count, signals_of, step_after}
 use Rattle.world_core.specs.Marks.{has_mark}
-use Rattle.world_core.specs.Start.{Start, first_view}
+use Rattle.frag_map.specs.Layout.{first_view}
+use Rattle.world_core.specs.Start.{Start}
 use Rattle.world_core.proofs.Stamped.{stamped}
 use Rattle.commit_laws.specs.Causes.{is_decision}
 use Rattle.commit_laws.specs.Kinds.{Kind, kind_of}
@@ -44,67 +44,67 @@ verified_more p (o ∷ more) vs is = verified_more p more (verified_by (kind_of 
     by (kind.ended tx) = is
     by kind.other = is
 
-newer_verified : (start : Start) (p : TxId → Bool) (h : ℕ) (newer log : List LogStep) → list_any p (sent_kinds start verified_by h log) ≡ true → list_any p (sent_kinds start verified_by h (newer ++ log)) ≡ true
+newer_verified : (start : Start) (p : TxId → Bool) (h : ℕ) (newer log : List HostStep) → list_any p (sent_kinds start verified_by h log) ≡ true → list_any p (sent_kinds start verified_by h (newer ++ log)) ≡ true
 newer_verified start p h [] log is = is
 newer_verified start p h (e ∷ newer) log is =
     verified_more p (step_after start h (newer ++ log) e).effects.sends (sent_kinds start verified_by h (newer ++ log)) (newer_verified start p h newer log is)
 
 -- one of the signals that a step sends asks for it
-sent_verified : (view : View) (h stamp : ℕ) (count : ℕ → ℕ) (sends : List Outgoing) (vs : List TxId) (x : Signal) (tx : TxId) → IsIn x (all_headed view h stamp count sends) → kind_of x.body ≡ kind.verified tx
+sent_verified : (view : View) (h stamp : ℕ) (count : ℕ → ℕ) (sends : List Outgoing) (vs : List TxId) (x : Addressed) (tx : TxId) → IsIn x (all_headed view h stamp count sends) → kind_of x.signal.body ≡ kind.verified tx
     → list_any (same_tx tx) (put_kinds verified_by sends vs) ≡ true
 sent_verified view h stamp count [] vs x tx inside is = absurd inside
 sent_verified view h stamp count (o ∷ more) vs x tx (inl same) is =
     verified_more (same_tx tx) more (verified_by (kind_of o.body) vs)
-    (ap (λ k. list_any (same_tx tx) (verified_by k vs)) (ap (λ (y : Signal). kind_of y.body) (sym same) ∙ is) ∙ or_left (same_tx tx tx) (list_any (same_tx tx) vs) (same_tx-self tx))
+    (ap (λ k. list_any (same_tx tx) (verified_by k vs)) (ap (λ (y : Addressed). kind_of y.body) (sym same) ∙ is) ∙ or_left (same_tx tx tx) (list_any (same_tx tx) vs) (same_tx-self tx))
 sent_verified view h stamp count (o ∷ more) vs x tx (inr rest) is =
     sent_verified view h stamp (counted o.to.node count) more (verified_by (kind_of o.body) vs) x tx rest is
 
 -- the step of a mark
-pub record Marked (test : Mark → Bool) (log : List LogStep) : Type 0 where
-  pub step : LogStep
-  pub older : List LogStep
+pub record Marked (test : Mark → Bool) (log : List HostStep) : Type 0 where
+  pub step : HostStep
+  pub older : List HostStep
   pub past : IsPast (step ∷ older) log
   pub marked : list_any test step.marks ≡ true
 
-pub marked_step : (test : Mark → Bool) (log : List LogStep) → has_mark test log ≡ true → Marked test log
+pub marked_step : (test : Mark → Bool) (log : List HostStep) → has_mark test log ≡ true → Marked test log
 marked_step test [] has = absurd cc
-marked_step test (e ∷ log) has = by (or_cases (list_any test e.marks) (has_mark test log) has) (marked_step test log)
+marked_step test (e ∷ log) has = by (or_cases (list_any test e.step.marks) (has_mark test log) has) (marked_step test log)
   where
     later : Marked test log → Marked test (e ∷ log)
     later m = record { step = m.step; older = m.older; past = past_more e m.past; marked = m.marked }
 
-    by : (list_any test e.marks ≡ true) ⊎ (has_mark test log ≡ true) → (has_mark test log ≡ true → Marked test log) → Marked test (e ∷ log)
+    by : (list_any test e.step.marks ≡ true) ⊎ (has_mark test log ≡ true) → (has_mark test log ≡ true → Marked test log) → Marked test (e ∷ log)
     by (inl own) more = record { step = e; older = log; past = past_self (e ∷ log); marked = own }
     by (inr rest) more = later (more rest)
 
-module _ (start : Start) (es : List LogStep) (run : IsRun start es) (tx : TxId) where
-  abbrev logs : ℕ → List LogStep
+module _ (start : Start) (es : List HostStep) (run : IsRun start es) (tx : TxId) where
+  abbrev logs : ℕ → List HostStep
   logs = logs_of start es
 
-  abbrev asked_of : ℕ → List LogStep → Bool
+  abbrev asked_of : ℕ → List HostStep → Bool
   asked_of h log = list_any (same_tx tx) (sent_kinds start verified_by h log)
 
-  sent_asked : (x : Signal) → kind_of x.body ≡ kind.verified tx → IsSentBy (machine start) x.from.0 tx.tc (logs x.from.0) x → asked_of x.from.0 (logs x.from.0) ≡ true
+  sent_asked : (x : Addressed) → kind_of x.signal.body ≡ kind.verified tx → IsSentBy (machine start) x.signal.from.0 tx.tc (logs x.signal.from.0) x → asked_of x.signal.from.0 (logs x.signal.from.0) ≡ true
   sent_asked x is s = by s.sends
     where
-      here : IsIn x (signals_of start x.from.0 s.before s.step) → asked_of x.from.0 (s.step ∷ s.before) ≡ true
+      here : IsIn x (signals_of start x.signal.from.0 s.before s.step) → asked_of x.signal.from.0 (s.step ∷ s.before) ≡ true
       here inside =
-          sent_verified (first_view start.nodes) x.from.0 s.step.stamp (sent_count start x.from.0 s.before) (step_after start x.from.0 s.before s.step).effects.sends (sent_kinds start verified_by x.from.0 s.before) x tx inside is
+          sent_verified (first_view start.shape.nodes) x.signal.from.0 s.step.step.stamp (sent_count start x.signal.from.0 s.before) (step_after start x.signal.from.0 s.before s.step).effects.sends (sent_kinds start verified_by x.signal.from.0 s.before) x tx inside is
 
-      by : (IsIn x (signals_of start x.from.0 s.before s.step) × (x.to.node ≡ tx.tc)) ⊎ ((false ≡ true) × (x ≡ (machine start).closing s.step tx.tc)) → asked_of x.from.0 (logs x.from.0) ≡ true
+      by : (IsIn x (signals_of start x.signal.from.0 s.before s.step) × (x.signal.to.node ≡ tx.tc)) ⊎ ((false ≡ true) × (x ≡ (machine start).closing s.step tx.tc)) → asked_of x.signal.from.0 (logs x.signal.from.0) ≡ true
       by (inl sends) =
-          subst (λ log. asked_of x.from.0 log ≡ true) (sym s.past.is) (newer_verified start (same_tx tx) x.from.0 s.past.newer (s.step ∷ s.before) (here sends.0))
+          subst (λ log. asked_of x.signal.from.0 log ≡ true) (sym s.past.is) (newer_verified start (same_tx tx) x.signal.from.0 s.past.newer (s.step ∷ s.before) (here sends.0))
       by (inr stops) = absurd (let never = stops.0 in cc)
 
   -- its coordinator has asked for it
-  pub decided_asked : is_decided logs tx ≡ true → asked_of tx.tc (logs tx.tc) ≡ true
+  pub decided_asked : is_decided start logs tx ≡ true → asked_of tx.tc (logs tx.tc) ≡ true
   decided_asked decided =
       let m = marked_step (is_decision tx) (logs tx.tc) decided in
       took m ((each_past (DecidesRightly logs) m.past ((run_is_causal start es run).decisions tx.tc)).0 tx m.marked)
     where
       took : (m : Marked (is_decision tx) (logs tx.tc)) → DecidesAt logs m.step tx → asked_of tx.tc (logs tx.tc) ≡ true
-      took m d = subst (λ k. asked_of k (logs k) ≡ true) d.from (by (is_request m.step.taken.body) refl)
+      took m d = subst (λ k. asked_of k (logs k) ≡ true) d.from (by (is_request m.step.step.taken.body) refl)
         where
-          by : (b : Bool) → is_request m.step.taken.body ≡ b → asked_of m.step.taken.from.0 (logs m.step.taken.from.0) ≡ true
-          by true asked = absurd (let both : kind.verified tx ≡ kind.other = sym d.took ∙ request_other m.step.taken.body asked in cc)
-          by false asked = sent_asked m.step.taken d.took (stamps_rise (machine start) (stamped start) logs (logs_of_run (machine start) es run.run) tx.tc m.step m.older m.past asked).0
+          by : (b : Bool) → is_request m.step.step.taken.body ≡ b → asked_of m.step.step.taken.from.0 (logs m.step.step.taken.from.0) ≡ true
+          by true asked = absurd (let both : kind.verified tx ≡ kind.other = sym d.took ∙ request_other m.step.step.taken.body asked in cc)
+          by false asked = sent_asked m.step.step.taken d.took (stamps_rise (machine start) (stamped start) logs (logs_of_run (machine start) es run.run) tx.tc m.step m.older m.past asked).0

@@ -4,9 +4,8 @@ use Rattle.std.specs.List.{list_any}
 use Rattle.std.specs.Prelude.{is_some, None, Some}
 use Rattle.run_theory.proofs.Runs.{log_of-past}
 use Rattle.run_theory.proofs.Pasts.{each_map}
-use Rattle.sig_core.specs.declared.log.LogStep.{LogStep}
+use Rattle.world_core.specs.Steps.{Addressed, HostStep}
 use Rattle.sig_core.specs.declared.member.TxId.{TxId}
-use Rattle.sig_core.specs.declared.signal.Signal.{Signal}
 use Rattle.sig_core.specs.Same.{same_tx}
 use Rattle.node_core.specs.declared.host.Host.{Host}
 use Rattle.node_core.specs.declared.host.Host.TheVariants.{Shell, Node}
@@ -14,7 +13,8 @@ use Rattle.node_core.specs.Fresh.{begun_node, fresh_node, fresh_shell}
 use Rattle.tc_block.specs.declared.phase.Phase.TheVariants.{Verifying}
 use Rattle.tc_block.specs.declared.transaction.Transaction.{Transaction}
 use Rattle.world_core.specs.Machine.{after, machine, signals_of}
-use Rattle.world_core.specs.Start.{Start, started}
+use Rattle.world_core.specs.Hosts.{started}
+use Rattle.world_core.specs.Start.{Start}
 use Rattle.commit_laws.specs.Records.{found}
 use Rattle.commit_laws.specs.Replica.{Replica}
 use Rattle.commit_laws.specs.ReplicaLaws.{key_in}
@@ -44,7 +44,7 @@ use Rattle.transit_laws.proofs.ViewOf.{view_of}
 use Rattle.transit_laws.proofs.Ways.{carried_more, given_more}
 
 -- who waits for its epoch isn't carried out
-undone : (start : Start) (logs : ℕ → List LogStep) (tx : TxId) (t : Transaction) → live_at start logs tx ≡ Some t → t.phase ≡ Verifying → is_carried_out start logs tx ≡ false
+undone : (start : Start) (logs : ℕ → List HostStep) (tx : TxId) (t : Transaction) → live_at start logs tx ≡ Some t → t.phase ≡ Verifying → is_carried_out start logs tx ≡ false
 undone start logs tx t live verifying = by (after start tx.tc (logs tx.tc)) refl
   where
     by : (s : Host) → after start tx.tc (logs tx.tc) ≡ s → is_carried_out start logs tx ≡ false
@@ -76,7 +76,7 @@ first_circles start tx key = record {
 }
 
 -- who isn't given up, or carried out, wasn't before
-kept_before : (start : Start) (es : List LogStep) (e : LogStep) (tx : TxId) → is_given_up start (logs_of start (e ∷ es)) tx ≡ false → is_given_up start (logs_of start es) tx ≡ false
+kept_before : (start : Start) (es : List HostStep) (e : HostStep) (tx : TxId) → is_given_up start (logs_of start (e ∷ es)) tx ≡ false → is_given_up start (logs_of start es) tx ≡ false
 kept_before start es e tx now = by (is_given_up start (logs_of start es) tx) refl
   where
     by : (b : Bool) → is_given_up start (logs_of start es) tx ≡ b → b ≡ false
@@ -84,7 +84,7 @@ kept_before start es e tx now = by (is_given_up start (logs_of start es) tx) ref
     by true was =
         absurd (let both : true ≡ false = sym (given_more start (logs_of start es) (logs_of start (e ∷ es)) tx (log_of-past (machine start) e es) was) ∙ now in cc)
 
-undone_before : (start : Start) (es : List LogStep) (e : LogStep) (tx : TxId) → is_carried_out start (logs_of start (e ∷ es)) tx ≡ false → is_carried_out start (logs_of start es) tx ≡ false
+undone_before : (start : Start) (es : List HostStep) (e : HostStep) (tx : TxId) → is_carried_out start (logs_of start (e ∷ es)) tx ≡ false → is_carried_out start (logs_of start es) tx ≡ false
 undone_before start es e tx now = by (is_carried_out start (logs_of start es) tx) refl
   where
     by : (b : Bool) → is_carried_out start (logs_of start es) tx ≡ b → b ≡ false
@@ -93,14 +93,14 @@ undone_before start es e tx now = by (is_carried_out start (logs_of start es) tx
         absurd (let both : true ≡ false = sym (carried_more start (logs_of start es) (logs_of start (e ∷ es)) tx (log_of-past (machine start) e es) was) ∙ now in cc)
 
 -- after every run
-abbrev Circles : Start → TxId → List ℕ → List LogStep → List Signal → Type 0
+abbrev Circles : Start → TxId → List ℕ → List HostStep → List Addressed → Type 0
 Circles start tx key es xs = is_given_up start (logs_of start es) tx ≡ false → is_carried_out start (logs_of start es) tx ≡ false → IsCircling start tx key es xs
 
-all_circles : (start : Start) (tx : TxId) (key : List ℕ) (es : List LogStep) (xs : List Signal) → IsRun start es → AreInTransit start es xs → Circles start tx key es xs
+all_circles : (start : Start) (tx : TxId) (key : List ℕ) (es : List HostStep) (xs : List Addressed) → IsRun start es → AreInTransit start es xs → Circles start tx key es xs
 all_circles start tx key = along_transit start (Circles start tx key) (λ kept waits. first_circles start tx key) next
   where
-    next : (es : List LogStep) (e : LogStep) (before between : List Signal) → Comes start es e → AreInTransit start es before → Circles start tx key es before → Takes e before between
-        → Circles start tx key (e ∷ es) (joined (signals_of start e.taken.to.node (logs_of start es e.taken.to.node) e) between)
+    next : (es : List HostStep) (e : HostStep) (before between : List Addressed) → Comes start es e → AreInTransit start es before → Circles start tx key es before → Takes e before between
+        → Circles start tx key (e ∷ es) (joined (signals_of start e.host (logs_of start es e.host) e) between)
     next es e before between come transit circles takes kept waits =
         let kept_then = kept_before start es e tx kept in
         let waits_then = undone_before start es e tx waits in
@@ -116,7 +116,7 @@ verified_settled start es xs tx t run transit kept live verifying = record { ask
     settled key =
         let zero_tokens = none_asked tx key start es run xs transit t live (ap is_early verifying) ((goes key).asked verifying) in
         let s = (goes key).settled
-        (each_map (λ (x : Signal). is_token tx x.body ≡ false) (λ (x : Signal). token_of tx key x.to x.body ≡ None) xs (λ x off. uncounted tx key x.to x.body off) zero_tokens.signals) zero_tokens.waits in
+        (each_map (λ (x : Addressed). is_token tx x.signal.body ≡ false) (λ (x : Addressed). token_of tx key x.signal.to x.signal.body ≡ None) xs (λ x off. uncounted tx key x.signal.to x.signal.body off) zero_tokens.signals) zero_tokens.waits in
         told key s
       where
         told : (key : List ℕ) → Settles start key (view_of start (logs_of start es) tx key) t.ops → IsSettledFor start (logs_of start es) tx t.ops key

@@ -1,6 +1,6 @@
 -- What the logs have of one transaction on one key.
 use Rattle.std.proofs.Common.{ℕ, List}
-use Rattle.sig_core.specs.declared.log.LogStep.{LogStep}
+use Rattle.world_core.specs.Steps.{HostStep}
 use Rattle.sig_core.specs.declared.member.TxId.{TxId}
 use Rattle.world_core.specs.Start.{Start}
 use Rattle.commit_laws.specs.Records.{found}
@@ -8,7 +8,7 @@ use Rattle.transit_laws.specs.Circle.{at_host, at_primary}
 use Rattle.transit_laws.proofs.CircleView.{View}
 use Rattle.transit_laws.proofs.OthersStay.{waits_of}
 
-abbrev pub view_of : Start → (ℕ → List LogStep) → TxId → List ℕ → View
+abbrev pub view_of : Start → (ℕ → List HostStep) → TxId → List ℕ → View
 view_of start logs tx key =
     record {
       made = (at_primary start logs key).made tx;

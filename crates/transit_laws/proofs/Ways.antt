@@ -5,7 +5,7 @@ use Rattle.run_theory.specs.Lists.{Each, IsPast}
 use Rattle.run_theory.proofs.Orders.{each_next}
 use Rattle.run_theory.proofs.Pasts.{each_map}
 use Rattle.run_theory.proofs.Runs.{log_of-own, log_of-past}
-use Rattle.sig_core.specs.declared.log.LogStep.{LogStep}
+use Rattle.world_core.specs.Steps.{Addressed, HostStep}
 use Rattle.sig_core.specs.declared.mark.Mark.{Mark}
 use Rattle.sig_core.specs.declared.mark.Mark.TheVariants.{Applied, Reported}
 use Rattle.sig_core.specs.declared.member.TxId.{TxId}
@@ -18,7 +18,6 @@ use Rattle.sig_core.specs.declared.signal.Body.{Body}
 use Rattle.sig_core.specs.declared.signal.Body.TheVariants.{Client, Chain}
 use Rattle.sig_core.specs.declared.signal.chain.ChainSignal.TheVariants.{Commit, Complete, Abort}
 use Rattle.sig_core.specs.declared.signal.client.ClientSignal.TheVariants.{TcCommitConf, TcRollbackRep}
-use Rattle.sig_core.specs.declared.signal.Signal.{Signal}
 use Rattle.sig_core.specs.Same.{same_tx}
 use Rattle.api_block.specs.State.{ApiState}
 use Rattle.node_core.specs.declared.host.Host.{Host}
@@ -39,7 +38,7 @@ use Rattle.transit_laws.proofs.WaysPassed.{IsPassed, api_passed, dih_passed, lqh
 use Rattle.transit_laws.proofs.Weighing.{each_between, each_joins, each_taken}
 
 -- the block of coordinators of host h has the number of the host
-pub number_of : (start : Start) (h : ℕ) (log : List LogStep) (n : node.Node) → after start h log ≡ Node n → n.tc.node ≡ h
+pub number_of : (start : Start) (h : ℕ) (log : List HostStep) (n : node.Node) → after start h log ≡ Node n → n.tc.node ≡ h
 number_of start zero log n is = absurd (other (shell_after start log).state (sym (shell_after start log).is ∙ is))
   where
     other : (s : ApiState) → Shell s ≡ Node n → ⊥
@@ -63,75 +62,75 @@ request_silent _ is = refl
 
 module _ (start : Start) where
   -- who went a way by some log went it by each longer one
-  newer_forth : (p : TxId → Bool) (h : ℕ) (newer log : List LogStep) → list_any p (sent_ways start forth_by h log) ≡ true → list_any p (sent_ways start forth_by h (newer ++ log)) ≡ true
+  newer_forth : (p : TxId → Bool) (h : ℕ) (newer log : List HostStep) → list_any p (sent_ways start forth_by h log) ≡ true → list_any p (sent_ways start forth_by h (newer ++ log)) ≡ true
   newer_forth p h [] log is = is
   newer_forth p h (e ∷ newer) log is =
-      forth_more p (tc_sends (after start h (newer ++ log)) e.taken.to.block e.taken.body) (sent_ways start forth_by h (newer ++ log)) (newer_forth p h newer log is)
+      forth_more p (tc_sends (after start h (newer ++ log)) e.step.taken.to.block e.step.taken.body) (sent_ways start forth_by h (newer ++ log)) (newer_forth p h newer log is)
 
-  newer_back : (p : TxId → Bool) (h : ℕ) (newer log : List LogStep) → list_any p (sent_ways start back_by h log) ≡ true → list_any p (sent_ways start back_by h (newer ++ log)) ≡ true
+  newer_back : (p : TxId → Bool) (h : ℕ) (newer log : List HostStep) → list_any p (sent_ways start back_by h log) ≡ true → list_any p (sent_ways start back_by h (newer ++ log)) ≡ true
   newer_back p h [] log is = is
   newer_back p h (e ∷ newer) log is =
-      back_more p (tc_sends (after start h (newer ++ log)) e.taken.to.block e.taken.body) (sent_ways start back_by h (newer ++ log)) (newer_back p h newer log is)
+      back_more p (tc_sends (after start h (newer ++ log)) e.step.taken.to.block e.step.taken.body) (sent_ways start back_by h (newer ++ log)) (newer_back p h newer log is)
 
-  pub carried_more : (small large : ℕ → List LogStep) (tx : TxId) → ((h : ℕ) → IsPast (small h) (large h)) → is_carried_out start small tx ≡ true → is_carried_out start large tx ≡ true
+  pub carried_more : (small large : ℕ → List HostStep) (tx : TxId) → ((h : ℕ) → IsPast (small h) (large h)) → is_carried_out start small tx ≡ true → is_carried_out start large tx ≡ true
   carried_more small large tx past is =
       let p = past tx.tc in
       subst (λ log. list_any (same_tx tx) (sent_ways start forth_by tx.tc log) ≡ true) (sym p.is) (newer_forth (same_tx tx) tx.tc p.newer (small tx.tc) is)
 
-  pub given_more : (small large : ℕ → List LogStep) (tx : TxId) → ((h : ℕ) → IsPast (small h) (large h)) → is_given_up start small tx ≡ true → is_given_up start large tx ≡ true
+  pub given_more : (small large : ℕ → List HostStep) (tx : TxId) → ((h : ℕ) → IsPast (small h) (large h)) → is_given_up start small tx ≡ true → is_given_up start large tx ≡ true
   given_more small large tx past is =
       let p = past tx.tc in
       subst (λ log. list_any (same_tx tx) (sent_ways start back_by tx.tc log) ≡ true) (sym p.is) (newer_back (same_tx tx) tx.tc p.newer (small tx.tc) is)
 
   -- what a signal of this way tells of the logs
-  abbrev pub IsTold : (ℕ → List LogStep) → Way → Type 0
+  abbrev pub IsTold : (ℕ → List HostStep) → Way → Type 0
   IsTold logs (forth tx) = is_carried_out start logs tx ≡ true
   IsTold logs (back tx) = is_given_up start logs tx ≡ true
   IsTold logs (closes tx) = is_carried_out start logs tx ≡ true
   IsTold logs neither = Unit {0}
 
   -- and a mark
-  abbrev pub IsMarkTold : (ℕ → List LogStep) → Mark → Type 0
+  abbrev pub IsMarkTold : (ℕ → List HostStep) → Mark → Type 0
   IsMarkTold logs (Applied tx key) = is_carried_out start logs tx ≡ true
   IsMarkTold logs (Reported tx (outcome.Committed epoch)) = is_carried_out start logs tx ≡ true
   IsMarkTold logs mark = Unit {0}
 
-  pub record AllTold (logs : ℕ → List LogStep) (xs : List Signal) : Type 0 where
-    pub signals : Each (λ (x : Signal). IsTold logs (way_of x.body)) xs
-    pub marks : (h : ℕ) → Each (λ (e : LogStep). Each (IsMarkTold logs) e.marks) (logs h)
+  pub record AllTold (logs : ℕ → List HostStep) (xs : List Addressed) : Type 0 where
+    pub signals : Each (λ (x : Addressed). IsTold logs (way_of x.signal.body)) xs
+    pub marks : (h : ℕ) → Each (λ (e : HostStep). Each (IsMarkTold logs) e.step.marks) (logs h)
 
-  told_more : (small large : ℕ → List LogStep) → ((h : ℕ) → IsPast (small h) (large h)) → (w : Way) → IsTold small w → IsTold large w
+  told_more : (small large : ℕ → List HostStep) → ((h : ℕ) → IsPast (small h) (large h)) → (w : Way) → IsTold small w → IsTold large w
   told_more small large past (forth tx) is = carried_more small large tx past is
   told_more small large past (back tx) is = given_more small large tx past is
   told_more small large past (closes tx) is = carried_more small large tx past is
   told_more small large past neither is = tt
 
-  mark_more : (small large : ℕ → List LogStep) → ((h : ℕ) → IsPast (small h) (large h)) → (m : Mark) → IsMarkTold small m → IsMarkTold large m
+  mark_more : (small large : ℕ → List HostStep) → ((h : ℕ) → IsPast (small h) (large h)) → (m : Mark) → IsMarkTold small m → IsMarkTold large m
   mark_more small large past (Applied tx key) is = carried_more small large tx past is
   mark_more small large past (Reported tx (outcome.Committed epoch)) is = carried_more small large tx past is
   mark_more small large past _ is = tt
 
   -- what is passed on, and marked, is told where what was taken is
-  passed_told : (logs : ℕ → List LogStep) (taken w : Way) → IsTold logs taken → IsPassed taken w → IsTold logs w
+  passed_told : (logs : ℕ → List HostStep) (taken w : Way) → IsTold logs taken → IsPassed taken w → IsTold logs w
   passed_told logs taken (forth tx) told is = subst (IsTold logs) is told
   passed_told logs taken (back tx) told is = absurd is
   passed_told logs taken (closes tx) told is = subst (IsTold logs) is told
   passed_told logs taken neither told is = tt
 
-  all_passed : (logs : ℕ → List LogStep) (taken : Way) (sends : List Outgoing) → IsTold logs taken → Each (λ (o : Outgoing). IsPassed taken (way_of o.body)) sends
+  all_passed : (logs : ℕ → List HostStep) (taken : Way) (sends : List Outgoing) → IsTold logs taken → Each (λ (o : Outgoing). IsPassed taken (way_of o.body)) sends
       → Each (λ (o : Outgoing). IsTold logs (way_of o.body)) sends
   all_passed logs taken sends told all =
       each_map (λ (o : Outgoing). IsPassed taken (way_of o.body)) (λ (o : Outgoing). IsTold logs (way_of o.body)) sends (λ o is. passed_told logs taken (way_of o.body) told is) all
 
-  marked_told : (logs : ℕ → List LogStep) (taken : Way) (m : Mark) → IsTold logs taken → IsMarked taken m → IsMarkTold logs m
+  marked_told : (logs : ℕ → List HostStep) (taken : Way) (m : Mark) → IsTold logs taken → IsMarked taken m → IsMarkTold logs m
   marked_told logs taken (Applied tx key) told is = subst (IsTold logs) is told
   marked_told logs taken (Reported tx (outcome.Committed epoch)) told is = subst (IsTold logs) is told
   marked_told logs taken _ told is = tt
 
-  all_marked : (logs : ℕ → List LogStep) (taken : Way) (marks : List Mark) → IsTold logs taken → Each (IsMarked taken) marks → Each (IsMarkTold logs) marks
+  all_marked : (logs : ℕ → List HostStep) (taken : Way) (marks : List Mark) → IsTold logs taken → Each (IsMarked taken) marks → Each (IsMarkTold logs) marks
   all_marked logs taken marks told all = each_map (IsMarked taken) (IsMarkTold logs) marks (λ m is. marked_told logs taken m told is) all
 
-  node_sends_told : (logs : ℕ → List LogStep) (n : node.Node) (at : BlockId) (body : Body) → IsTold logs (way_of body) → Each (λ (o : Outgoing). IsTold logs (way_of o.body)) (tc_sends (Node n) at body)
+  node_sends_told : (logs : ℕ → List HostStep) (n : node.Node) (at : BlockId) (body : Body) → IsTold logs (way_of body) → Each (λ (o : Outgoing). IsTold logs (way_of o.body)) (tc_sends (Node n) at body)
       → Each (λ (o : Outgoing). IsTold logs (way_of o.body)) (node_row n at body).effects.sends
   unfolding node_row
   node_sends_told logs n block.Tc body told own = own
@@ -139,13 +138,13 @@ module _ (start : Start) where
   node_sends_told logs n block.Lqh body told own = all_passed logs (way_of body) _ told (lqh_passed n.lqh body)
   node_sends_told logs n _ body told own = tt
 
-  shell_sends_told : (logs : ℕ → List LogStep) (s : ApiState) (at : BlockId) (body : Body) → IsTold logs (way_of body)
+  shell_sends_told : (logs : ℕ → List HostStep) (s : ApiState) (at : BlockId) (body : Body) → IsTold logs (way_of body)
       → Each (λ (o : Outgoing). IsTold logs (way_of o.body)) (shell_row s at body).effects.sends
   unfolding shell_row
   shell_sends_told logs s block.Api body told = all_passed logs (way_of body) _ told (api_passed s body)
   shell_sends_told logs s _ body told = tt
 
-  row_sends_told : (logs : ℕ → List LogStep) (s : Host) (to : Place) (body : Body) → IsTold logs (way_of body) → Each (λ (o : Outgoing). IsTold logs (way_of o.body)) (tc_sends s to.block body)
+  row_sends_told : (logs : ℕ → List HostStep) (s : Host) (to : Place) (body : Body) → IsTold logs (way_of body) → Each (λ (o : Outgoing). IsTold logs (way_of o.body)) (tc_sends s to.block body)
       → Each (λ (o : Outgoing). IsTold logs (way_of o.body)) (row s to body).effects.sends
   unfolding row
   row_sends_told logs (Shell s) to body told own = shell_sends_told logs s to.block body told
@@ -168,14 +167,14 @@ module _ (start : Start) where
   row_marked (Shell s) to body = shell_marked s to.block body
   row_marked (Node n) to body = node_marked n to.block body
 
-  module _ (es : List LogStep) (e : LogStep) (before between : List Signal) (come : Comes start es e) (held : AllTold (logs_of start es) before) (takes : Takes e before between) where
+  module _ (es : List HostStep) (e : HostStep) (before between : List Addressed) (come : Comes start es e) (held : AllTold (logs_of start es) before) (takes : Takes e before between) where
     abbrev h : ℕ
-    h = e.taken.to.node
+    h = e.host
 
-    abbrev old : ℕ → List LogStep
+    abbrev old : ℕ → List HostStep
     old = logs_of start es
 
-    abbrev now : ℕ → List LogStep
+    abbrev now : ℕ → List HostStep
     now = logs_of start (e ∷ es)
 
     past : (g : ℕ) → IsPast (old g) (now g)
@@ -184,15 +183,15 @@ module _ (start : Start) where
     own_now : now h ≡ e ∷ old h
     own_now = log_of-own (machine start) e es h refl
 
-    taken_old : IsTold old (way_of e.taken.body)
-    taken_old = by (is_request e.taken.body) refl
+    taken_old : IsTold old (way_of e.step.taken.body)
+    taken_old = by (is_request e.step.taken.body) refl
       where
-        by : (b : Bool) → is_request e.taken.body ≡ b → IsTold old (way_of e.taken.body)
-        by true is = subst (IsTold old) (sym (request_silent e.taken.body is)) tt
-        by false is = each_taken (λ (x : Signal). IsTold old (way_of x.body)) e before between is takes held.signals
+        by : (b : Bool) → is_request e.step.taken.body ≡ b → IsTold old (way_of e.step.taken.body)
+        by true is = subst (IsTold old) (sym (request_silent e.step.taken.body is)) tt
+        by false is = each_taken (λ (x : Addressed). IsTold old (way_of x.signal.body)) e before between is takes held.signals
 
-    taken_now : IsTold now (way_of e.taken.body)
-    taken_now = told_more old now past (way_of e.taken.body) taken_old
+    taken_now : IsTold now (way_of e.step.taken.body)
+    taken_now = told_more old now past (way_of e.step.taken.body) taken_old
 
     -- what a coordinator says
     said_told : (k : ℕ) → k ≡ h → (w : Way) → IsSaid k (sent_ways start forth_by h (e ∷ old h)) (sent_ways start back_by h (e ∷ old h)) w → IsTold now w
@@ -207,38 +206,38 @@ module _ (start : Start) where
         (subst (λ log. list_any (same_tx tx) (sent_ways start forth_by h log) ≡ true) (sym own_now) said.1)
     said_told k at neither said = tt
 
-    tc_told : (s : Host) → ((n : node.Node) → s ≡ Node n → n.tc.node ≡ h) → AreSaid s (sent_ways start forth_by h (e ∷ old h)) (sent_ways start back_by h (e ∷ old h)) (tc_sends s e.taken.to.block e.taken.body)
-        → Each (λ (o : Outgoing). IsTold now (way_of o.body)) (tc_sends s e.taken.to.block e.taken.body)
+    tc_told : (s : Host) → ((n : node.Node) → s ≡ Node n → n.tc.node ≡ h) → AreSaid s (sent_ways start forth_by h (e ∷ old h)) (sent_ways start back_by h (e ∷ old h)) (tc_sends s e.step.taken.to.block e.step.taken.body)
+        → Each (λ (o : Outgoing). IsTold now (way_of o.body)) (tc_sends s e.step.taken.to.block e.step.taken.body)
     tc_told (Shell s) number said = tt
     tc_told (Node n) number said =
         each_map (λ (o : Outgoing). IsSaid n.tc.node (sent_ways start forth_by h (e ∷ old h)) (sent_ways start back_by h (e ∷ old h)) (way_of o.body)) (λ (o : Outgoing). IsTold now (way_of o.body))
-        (tc_sends (Node n) e.taken.to.block e.taken.body) (λ o is. said_told n.tc.node (number n refl) (way_of o.body) is) said
+        (tc_sends (Node n) e.step.taken.to.block e.step.taken.body) (λ o is. said_told n.tc.node (number n refl) (way_of o.body) is) said
 
     sends_told : Each (λ (o : Outgoing). IsTold now (way_of o.body)) (step_after start h (old h) e).effects.sends
     sends_told =
-        row_sends_told now (after start h (old h)) e.taken.to e.taken.body taken_now
+        row_sends_told now (after start h (old h)) e.step.taken taken_now
         (tc_told (after start h (old h)) (λ n is. number_of start h (old h) n is) (coordinators_say start h (old h) e))
 
-    marks_now : Each (IsMarkTold now) e.marks
+    marks_now : Each (IsMarkTold now) e.step.marks
     marks_now =
         subst (Each (IsMarkTold now)) (sym come.happens.step.fits.marks)
-        (all_marked now (way_of e.taken.body) (step_after start h (old h) e).effects.marks taken_now (row_marked (after start h (old h)) e.taken.to e.taken.body))
+        (all_marked now (way_of e.step.taken.body) (step_after start h (old h) e).effects.marks taken_now (row_marked (after start h (old h)) e.step.taken))
 
     told_next : AllTold now (joined (signals_of start h (old h) e) between)
     told_next = record {
       signals = each_joins (λ to body. IsTold now (way_of body)) start h (old h) e between sends_told
-          (each_map (λ (x : Signal). IsTold old (way_of x.body)) (λ (x : Signal). IsTold now (way_of x.body)) between (λ x is. told_more old now past (way_of x.body) is)
-          (each_between (λ (x : Signal). IsTold old (way_of x.body)) e before between takes held.signals));
-      marks = λ g. each_next (machine start) (λ (f : LogStep). Each (IsMarkTold now) f.marks) es e g marks_now
-          (each_map (λ (f : LogStep). Each (IsMarkTold old) f.marks) (λ (f : LogStep). Each (IsMarkTold now) f.marks) (old g)
-          (λ f all. each_map (IsMarkTold old) (IsMarkTold now) f.marks (λ m is. mark_more old now past m is) all) (held.marks g));
+          (each_map (λ (x : Addressed). IsTold old (way_of x.signal.body)) (λ (x : Addressed). IsTold now (way_of x.signal.body)) between (λ x is. told_more old now past (way_of x.signal.body) is)
+          (each_between (λ (x : Addressed). IsTold old (way_of x.signal.body)) e before between takes held.signals));
+      marks = λ g. each_next (machine start) (λ (f : HostStep). Each (IsMarkTold now) f.step.marks) es e g marks_now
+          (each_map (λ (f : HostStep). Each (IsMarkTold old) f.step.marks) (λ (f : HostStep). Each (IsMarkTold now) f.step.marks) (old g)
+          (λ f all. each_map (IsMarkTold old) (IsMarkTold now) f.step.marks (λ m is. mark_more old now past m is) all) (held.step.marks g));
     }
 
-  pub all_told : (es : List LogStep) (xs : List Signal) → IsRun start es → AreInTransit start es xs → AllTold (logs_of start es) xs
+  pub all_told : (es : List HostStep) (xs : List Addressed) → IsRun start es → AreInTransit start es xs → AllTold (logs_of start es) xs
   all_told es xs run transit =
       along_transit start (λ es xs. AllTold (logs_of start es) xs) (record { signals = tt; marks = λ h. tt })
       (λ es e before between come rest held takes. told_next es e before between come held takes) es xs run transit
 
   -- and so of what an event takes
-  pub taken_told : (es : List LogStep) (e : LogStep) (before between : List Signal) → Comes start es e → AreInTransit start es before → Takes e before between → IsTold (logs_of start es) (way_of e.taken.body)
+  pub taken_told : (es : List HostStep) (e : HostStep) (before between : List Addressed) → Comes start es e → AreInTransit start es before → Takes e before between → IsTold (logs_of start es) (way_of e.step.taken.body)
   taken_told es e before between come transit takes = taken_old es e before between come (all_told es before come.before transit) takes

@@ -8,7 +8,7 @@ use Rattle.sig_core.specs.declared.signal.Body.TheVariants.{Client, Chain}
 use Rattle.sig_core.specs.declared.signal.chain.ChainSignal.TheVariants.{Commit, Complete, Abort}
 use Rattle.sig_core.specs.declared.signal.client.ClientSignal.TheVariants.{TcBeginReq, TcCommitConf, TcRollbackRep}
 use Rattle.lqh_block.specs.declared.request.Request.{Request}
-use Rattle.lqh_block.specs.Lqh.{lqh_row}
+use Rattle.lqh_block.specs.Lqh.{lqh_table}
 use Rattle.lqh_block.specs.State.{LqhState}
 use Rattle.run_theory.specs.Lists.{Each}
 use Rattle.commit_laws.proofs.EachLqh.{RequestSends, lqh_sends_each}
@@ -16,10 +16,10 @@ use Rattle.commit_laws.specs.Ways.{Way, back, closes, forth, neither, way_of}
 use Rattle.answer_laws.proofs.ApiMoves.{ApiMove, api_moves, begun_as, ends, goes, is_api_kind, opens, refuses, rests}
 use Rattle.answer_laws.proofs.DihSends.{dih_kinds}
 use Rattle.answer_laws.proofs.SendKinds.{each_of, is_dih_kind}
-use Rattle.api_block.specs.Api.{api_row}
+use Rattle.api_block.specs.Api.{api_table}
 use Rattle.api_block.specs.declared.opened.OpenTransaction.{OpenTransaction}
 use Rattle.api_block.specs.State.{ApiState}
-use Rattle.node_core.specs.Dih.{DihState, dih_row}
+use Rattle.node_core.specs.Dih.{DihState, dih_table}
 use Rattle.sig_core.specs.declared.view.View.{View}
 use Rattle.sig_core.specs.Place.{coordinator}
 use Rattle.sig_core.specs.Step.{to_place}
@@ -34,7 +34,7 @@ IsPassed taken neither = Unit {0}
 abbrev pub ArePassed : Way → List Outgoing → Type 0
 ArePassed taken sends = Each (λ (o : Outgoing). IsPassed taken (way_of o.body)) sends
 
-pub lqh_passed : (s : LqhState) (body : Body) → ArePassed (way_of body) (lqh_row s body).effects.sends
+pub lqh_passed : (s : LqhState) (body : Body) → ArePassed (way_of body) (lqh_table s body).effects.sends
 lqh_passed s body =
     lqh_sends_each (λ (o : Outgoing). IsPassed (way_of body) (way_of o.body)) s body (record {
       asked = λ r is. request r;
@@ -57,8 +57,8 @@ lqh_passed s body =
 
 -- what the API sends
 pub api_each : (P : Outgoing → Type 0) → ((o : Outgoing) → is_api_kind o.body ≡ true → P o) → ((name : Option ℕ) (node : ℕ) → P (to_place (coordinator node) (Client (TcBeginReq name))))
-    → (s : ApiState) (body : Body) → Each P (api_row s body).effects.sends
-api_each P kinds begins s body = by (api_row s body).effects.sends (api_moves s body)
+    → (s : ApiState) (body : Body) → Each P (api_table s body).effects.sends
+api_each P kinds begins s body = by (api_table s body).effects.sends (api_moves s body)
   where
     by : {after : View × List OpenTransaction} (sends : List Outgoing) → ApiMove s body after sends → Each P sends
     by sends (rests is kind void) = each_of is_api_kind P kinds sends kind
@@ -68,7 +68,7 @@ api_each P kinds begins s body = by (api_row s body).effects.sends (api_moves s 
     by sends (ends tx front t rear about passes was is kind) = each_of is_api_kind P kinds sends kind
     by sends (refuses name front t rear about passes was is kind) = each_of is_api_kind P kinds sends kind
 
-pub api_passed : (s : ApiState) (body : Body) → ArePassed (way_of body) (api_row s body).effects.sends
+pub api_passed : (s : ApiState) (body : Body) → ArePassed (way_of body) (api_table s body).effects.sends
 api_passed s body = api_each (λ (o : Outgoing). IsPassed (way_of body) (way_of o.body)) (λ o is. plain o.body is) (λ name node. tt) s body
   where
     plain : (b : Body) → is_api_kind b ≡ true → IsPassed (way_of body) (way_of b)
@@ -79,8 +79,8 @@ api_passed s body = api_each (λ (o : Outgoing). IsPassed (way_of body) (way_of 
     plain (Client (TcRollbackRep tx cause)) is = absurd cc
     plain _ is = tt
 
-pub dih_passed : (s : DihState) (body : Body) → ArePassed (way_of body) (dih_row s body).effects.sends
-dih_passed s body = each_of is_dih_kind (λ (o : Outgoing). IsPassed (way_of body) (way_of o.body)) (λ o is. plain o.body is) (dih_row s body).effects.sends (dih_kinds s body)
+pub dih_passed : (s : DihState) (body : Body) → ArePassed (way_of body) (dih_table s body).effects.sends
+dih_passed s body = each_of is_dih_kind (λ (o : Outgoing). IsPassed (way_of body) (way_of o.body)) (λ o is. plain o.body is) (dih_table s body).effects.sends (dih_kinds s body)
   where
     plain : (b : Body) → is_dih_kind b ≡ true → IsPassed (way_of body) (way_of b)
     plain (Chain (Commit tx key epoch chain at)) is = absurd cc

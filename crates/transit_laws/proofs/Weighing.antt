@@ -2,15 +2,15 @@
 use Rattle.std.proofs.Common.{◌≡◌, ℕ, ◌+◌, ◌≤◌, List, [], ◌∷◌, ◌++◌, Bool, true, false, refl, ap, sym, subst, arith}
 use Rattle.run_theory.specs.Lists.{Each}
 use Rattle.run_theory.proofs.Pasts.{each_after, each_append, each_before}
-use Rattle.sig_core.specs.declared.log.LogStep.{LogStep}
+use Rattle.world_core.specs.Steps.{Addressed, HostStep}
 use Rattle.sig_core.specs.declared.outs.Outgoing.{Outgoing}
 use Rattle.sig_core.specs.declared.place.Place.{Place}
 use Rattle.sig_core.specs.declared.signal.Body.{Body}
-use Rattle.sig_core.specs.declared.signal.Signal.{Signal}
 use Rattle.sig_core.specs.declared.view.View.{View}
 use Rattle.node_core.specs.Requests.{is_request}
 use Rattle.world_core.specs.Machine.{all_headed, counted, sent_count, signals_of, step_after}
-use Rattle.world_core.specs.Start.{Start, first_view}
+use Rattle.frag_map.specs.Layout.{first_view}
+use Rattle.world_core.specs.Start.{Start}
 use Rattle.answer_laws.proofs.Tally.{one_if, tally}
 use Rattle.transit_laws.specs.Transit.{IsTaken, Takes, joined}
 
@@ -45,8 +45,8 @@ none_passes p (x ∷ xs) none = by (p x) refl (none_passes p xs)
     by false e rest = (e, rest (omega (arith, none)))
 
 -- what signals weigh in transit, and as they are sent
-abbrev pub in_transit : (Place → Body → ℕ) → List Signal → ℕ
-in_transit w xs = weigh (λ (x : Signal). w x.to x.body) xs
+abbrev pub in_transit : (Place → Body → ℕ) → List Addressed → ℕ
+in_transit w xs = weigh (λ (x : Addressed). w x.signal.to x.signal.body) xs
 
 abbrev pub in_sends : (Place → Body → ℕ) → List Outgoing → ℕ
 in_sends w os = weigh (λ (o : Outgoing). w o.to o.body) os
@@ -55,61 +55,61 @@ headed_weigh : (w : Place → Body → ℕ) (view : View) (h stamp : ℕ) (count
 headed_weigh w view h stamp count [] = refl
 headed_weigh w view h stamp count (o ∷ os) = ap (λ m. w o.to o.body + m) (headed_weigh w view h stamp (counted o.to.node count) os)
 
-joined_weigh : (w : Place → Body → ℕ) (xs ys : List Signal) → in_transit w (joined xs ys) ≡ in_transit w xs + in_transit w ys
+joined_weigh : (w : Place → Body → ℕ) (xs ys : List Addressed) → in_transit w (joined xs ys) ≡ in_transit w xs + in_transit w ys
 joined_weigh w [] ys = omega arith
 joined_weigh w (x ∷ xs) ys = omega (arith, joined_weigh w xs (x ∷ ys))
 
 -- what is in transit behind a step
-pub joins_weigh : (w : Place → Body → ℕ) (start : Start) (h : ℕ) (log : List LogStep) (e : LogStep) (between : List Signal)
+pub joins_weigh : (w : Place → Body → ℕ) (start : Start) (h : ℕ) (log : List HostStep) (e : HostStep) (between : List Addressed)
     → in_transit w (joined (signals_of start h log e) between) ≡ in_sends w (step_after start h log e).effects.sends + in_transit w between
 joins_weigh w start h log e between =
-    omega (arith, joined_weigh w (signals_of start h log e) between, headed_weigh w (first_view start.nodes) h e.stamp (sent_count start h log) (step_after start h log e).effects.sends)
+    omega (arith, joined_weigh w (signals_of start h log e) between, headed_weigh w (first_view start.shape.nodes) h e.step.stamp (sent_count start h log) (step_after start h log e).effects.sends)
 
 -- and what was taken from it
-pub takes_weigh : (w : Place → Body → ℕ) (e : LogStep) (before between : List Signal) → (is_request e.taken.body ≡ true → w e.taken.to e.taken.body ≡ 0) → Takes e before between
-    → in_transit w before ≡ w e.taken.to e.taken.body + in_transit w between
-takes_weigh w e before between free takes = by (is_request e.taken.body) refl
+pub takes_weigh : (w : Place → Body → ℕ) (e : HostStep) (before between : List Addressed) → (is_request e.step.taken.body ≡ true → w e.step.taken ≡ 0) → Takes e before between
+    → in_transit w before ≡ w e.step.taken + in_transit w between
+takes_weigh w e before between free takes = by (is_request e.step.taken.body) refl
   where
     f : Signal → ℕ
-    f x = w x.to x.body
+    f x = w x.signal.to x.signal.body
 
-    one : IsTaken e.taken before between → in_transit w before ≡ w e.taken.to e.taken.body + in_transit w between
-    one t = omega (arith, ap (weigh f) t.is, ap (weigh f) t.left, weigh_append f t.front (e.taken ∷ t.back), weigh_append f t.front t.back)
+    one : IsTaken e.step.taken before between → in_transit w before ≡ w e.step.taken + in_transit w between
+    one t = omega (arith, ap (weigh f) t.is, ap (weigh f) t.left, weigh_append f t.front (e.step.taken ∷ t.back), weigh_append f t.front t.back)
 
-    by : (b : Bool) → is_request e.taken.body ≡ b → in_transit w before ≡ w e.taken.to e.taken.body + in_transit w between
+    by : (b : Bool) → is_request e.step.taken.body ≡ b → in_transit w before ≡ w e.step.taken + in_transit w between
     by true is = omega (arith, free is, ap (in_transit w) (takes.request is))
     by false is = one (takes.signal is)
 
 -- what holds of each signal
-pub each_between : (P : Signal → Type 0) (e : LogStep) (before between : List Signal) → Takes e before between → Each P before → Each P between
-each_between P e before between takes all = by (is_request e.taken.body) refl
+pub each_between : (P : Signal → Type 0) (e : HostStep) (before between : List Addressed) → Takes e before between → Each P before → Each P between
+each_between P e before between takes all = by (is_request e.step.taken.body) refl
   where
-    one : IsTaken e.taken before between → Each P between
+    one : IsTaken e.step.taken before between → Each P between
     one t =
-        let parts : Each P (t.front ++ e.taken ∷ t.back) = subst (Each P) t.is all in
-        subst (Each P) (sym t.left) (each_append P t.front t.back (each_before P t.front (e.taken ∷ t.back) parts) (each_after P t.front (e.taken ∷ t.back) parts).1)
+        let parts : Each P (t.front ++ e.step.taken ∷ t.back) = subst (Each P) t.is all in
+        subst (Each P) (sym t.left) (each_append P t.front t.back (each_before P t.front (e.step.taken ∷ t.back) parts) (each_after P t.front (e.step.taken ∷ t.back) parts).1)
 
-    by : (b : Bool) → is_request e.taken.body ≡ b → Each P between
+    by : (b : Bool) → is_request e.step.taken.body ≡ b → Each P between
     by true is = subst (Each P) (sym (takes.request is)) all
     by false is = one (takes.signal is)
 
-pub each_taken : (P : Signal → Type 0) (e : LogStep) (before between : List Signal) → is_request e.taken.body ≡ false → Takes e before between → Each P before → P e.taken
+pub each_taken : (P : Signal → Type 0) (e : HostStep) (before between : List Addressed) → is_request e.step.taken.body ≡ false → Takes e before between → Each P before → P e.step.taken
 each_taken P e before between is takes all =
     let t = takes.signal is in
-    (each_after P t.front (e.taken ∷ t.back) (subst (Each P) t.is all)).0
+    (each_after P t.front (e.step.taken ∷ t.back) (subst (Each P) t.is all)).0
 
 pub headed_each : (P : Place → Body → Type 0) (view : View) (h stamp : ℕ) (count : ℕ → ℕ) (os : List Outgoing) → Each (λ (o : Outgoing). P o.to o.body) os
-    → Each (λ (x : Signal). P x.to x.body) (all_headed view h stamp count os)
+    → Each (λ (x : Addressed). P x.signal.to x.signal.body) (all_headed view h stamp count os)
 headed_each P view h stamp count [] all = tt
 headed_each P view h stamp count (o ∷ os) all = (all.0, headed_each P view h stamp (counted o.to.node count) os all.1)
 
-pub joined_each : (P : Signal → Type 0) (xs ys : List Signal) → Each P xs → Each P ys → Each P (joined xs ys)
+pub joined_each : (P : Signal → Type 0) (xs ys : List Addressed) → Each P xs → Each P ys → Each P (joined xs ys)
 joined_each P [] ys all others = others
 joined_each P (x ∷ xs) ys all others = joined_each P xs (x ∷ ys) all.1 (all.0, others)
 
-pub each_joins : (P : Place → Body → Type 0) (start : Start) (h : ℕ) (log : List LogStep) (e : LogStep) (between : List Signal)
-    → Each (λ (o : Outgoing). P o.to o.body) (step_after start h log e).effects.sends → Each (λ (x : Signal). P x.to x.body) between
-    → Each (λ (x : Signal). P x.to x.body) (joined (signals_of start h log e) between)
+pub each_joins : (P : Place → Body → Type 0) (start : Start) (h : ℕ) (log : List HostStep) (e : HostStep) (between : List Addressed)
+    → Each (λ (o : Outgoing). P o.to o.body) (step_after start h log e).effects.sends → Each (λ (x : Addressed). P x.signal.to x.signal.body) between
+    → Each (λ (x : Addressed). P x.signal.to x.signal.body) (joined (signals_of start h log e) between)
 each_joins P start h log e between sent rest =
-    joined_each (λ (x : Signal). P x.to x.body) (signals_of start h log e) between
-    (headed_each P (first_view start.nodes) h e.stamp (sent_count start h log) (step_after start h log e).effects.sends sent) rest
+    joined_each (λ (x : Addressed). P x.signal.to x.signal.body) (signals_of start h log e) between
+    (headed_each P (first_view start.shape.nodes) h e.step.stamp (sent_count start h log) (step_after start h log e).effects.sends sent) rest

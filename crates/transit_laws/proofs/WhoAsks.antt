@@ -6,7 +6,7 @@ use Rattle.std.specs.Prelude.{◌||◌, Option, None, Some}
 use Rattle.run_theory.specs.Lists.{Each, IsIn}
 use Rattle.run_theory.proofs.Pasts.{each_from, each_in, each_map}
 use Rattle.run_theory.proofs.Runs.{log_of-other, log_of-own, log_of-past}
-use Rattle.sig_core.specs.declared.log.LogStep.{LogStep}
+use Rattle.world_core.specs.Steps.{Addressed, HostStep}
 use Rattle.sig_core.specs.declared.member.TxId.{TxId}
 use Rattle.sig_core.specs.declared.op.Answer.{Answer}
 use Rattle.sig_core.specs.declared.op.Op.{Op}
@@ -14,7 +14,6 @@ use Rattle.sig_core.specs.declared.outs.Outgoing.{Outgoing}
 use Rattle.sig_core.specs.declared.signal.Body.{Body}
 use Rattle.sig_core.specs.declared.signal.Body.TheVariants.{Epoch}
 use Rattle.sig_core.specs.declared.signal.epoch.EpochSignal.TheVariants.{DiVerifyReq, DiVerifyConf}
-use Rattle.sig_core.specs.declared.signal.Signal.{Signal}
 use Rattle.sig_core.specs.Same.{same_tx}
 use Rattle.tc_block.specs.Abort.{is_verifying}
 use Rattle.tc_block.specs.declared.phase.Phase.{Phase}
@@ -30,7 +29,8 @@ use Rattle.node_core.specs.Fresh.{begun_node, fresh_node, fresh_shell}
 use Rattle.node_core.specs.Requests.{is_request}
 use Rattle.node_core.specs.Row.{row}
 use Rattle.world_core.specs.Machine.{after, machine, signals_of, step_after}
-use Rattle.world_core.specs.Start.{Start, started}
+use Rattle.world_core.specs.Hosts.{started}
+use Rattle.world_core.specs.Start.{Start}
 use Rattle.commit_laws.specs.Ways.{Way, back, back_by, closes, forth, neither, put_ways, sent_ways, tc_sends, way_of}
 use Rattle.commit_laws.proofs.Keys.{same_tx-self}
 use Rattle.commit_laws.proofs.OneWay.{back_more}
@@ -93,37 +93,37 @@ weigh_in f x (y ∷ ys) (inr i) = omega (arith, weigh_in f x ys i)
 
 module _ (start : Start) (tx : TxId) where
   -- so many signals ask for an epoch for it or give it one
-  abbrev asking : List Signal → ℕ
+  abbrev asking : List Addressed → ℕ
   asking xs = in_transit (ask tx) xs
 
   -- it waits for its epoch: one is on its way at most, asked for with its operations
-  record IsWaiting (t : Transaction) (xs : List Signal) : Type 0 where
+  record IsWaiting (t : Transaction) (xs : List Addressed) : Type 0 where
     few : asking xs ≤ 1
     free : t.asked ≡ None
-    ops : Each (λ (x : Signal). OpsOf tx t.ops x.body) xs
+    ops : Each (λ (x : Addressed). OpsOf tx t.ops x.signal.body) xs
 
-  record IsAllowed (t : Transaction) (xs : List Signal) : Type 0 where
+  record IsAllowed (t : Transaction) (xs : List Addressed) : Type 0 where
     waits : t.phase ≡ Verifying → IsWaiting t xs
     none : is_verifying t.phase ≡ false → asking xs ≡ 0
 
-  abbrev Allowed : Option Transaction → List Signal → Type 0
+  abbrev Allowed : Option Transaction → List Addressed → Type 0
   Allowed None xs = asking xs ≡ 0
   Allowed (Some t) xs = IsAllowed t xs
 
-  record Holds (logs : ℕ → List LogStep) (xs : List Signal) : Type 0 where
+  record Holds (logs : ℕ → List HostStep) (xs : List Addressed) : Type 0 where
     unborn : IsUnborn tx.seq (after start tx.tc (logs tx.tc)) → asking xs ≡ 0
     free : is_given_up start logs tx ≡ false → Allowed (live_at start logs tx) xs
 
   -- fewer signals are allowed too
-  less_allowed : (o : Option Transaction) (xs ys : List Signal) → asking ys ≤ asking xs
-      → ((ops : List (Op × Answer)) → Each (λ (x : Signal). OpsOf tx ops x.body) xs → Each (λ (x : Signal). OpsOf tx ops x.body) ys) → Allowed o xs → Allowed o ys
+  less_allowed : (o : Option Transaction) (xs ys : List Addressed) → asking ys ≤ asking xs
+      → ((ops : List (Op × Answer)) → Each (λ (x : Addressed). OpsOf tx ops x.signal.body) xs → Each (λ (x : Addressed). OpsOf tx ops x.signal.body) ys) → Allowed o xs → Allowed o ys
   less_allowed None xs ys low more is = omega (arith, low, is)
   less_allowed (Some t) xs ys low more is = record {
     waits = λ v. let w = is.waits v in record { few = omega (arith, low, w.few); free = w.free; ops = more t.ops w.ops };
     none = λ off. omega (arith, low, is.none off);
   }
 
-  home_of : (h : ℕ) (log : List LogStep) (n : node.Node) → after start h log ≡ Node n → IsHome tx n.tc
+  home_of : (h : ℕ) (log : List HostStep) (n : node.Node) → after start h log ≡ Node n → IsHome tx n.tc
   home_of zero log n is = absurd (other (shell_after start log).state (sym (shell_after start log).is ∙ is))
     where
       other : (s : ApiState) → Shell s ≡ Node n → ⊥
@@ -136,33 +136,33 @@ module _ (start : Start) (tx : TxId) where
       the_same : (m : node.Node) → Node m ≡ Node n → m ≡ n
       the_same m same = cc
 
-  module _ (es : List LogStep) (e : LogStep) (before between : List Signal) (come : Comes start es e) (held : Holds (logs_of start es) before) (takes : Takes e before between) where
+  module _ (es : List HostStep) (e : HostStep) (before between : List Addressed) (come : Comes start es e) (held : Holds (logs_of start es) before) (takes : Takes e before between) where
     abbrev h : ℕ
-    h = e.taken.to.node
+    h = e.host
 
-    abbrev old : ℕ → List LogStep
+    abbrev old : ℕ → List HostStep
     old = logs_of start es
 
-    abbrev now : ℕ → List LogStep
+    abbrev now : ℕ → List HostStep
     now = logs_of start (e ∷ es)
 
     abbrev s : Host
     s = after start h (old h)
 
     abbrev later : Host
-    later = (row s e.taken.to e.taken.body).state
+    later = (row s e.step.taken).state
 
     abbrev sends : List Outgoing
     sends = (step_after start h (old h) e).effects.sends
 
-    abbrev then_is : List Signal
+    abbrev then_is : List Addressed
     then_is = joined (signals_of start h (old h) e) between
 
     own_now : now h ≡ e ∷ old h
     own_now = log_of-own (machine start) e es h refl
 
-    taken_weighs : asking before ≡ one_if (is_ask tx e.taken.body) + asking between
-    taken_weighs = takes_weigh (ask tx) e before between (λ is. no_request tx e.taken.body is) takes
+    taken_weighs : asking before ≡ one_if (is_ask tx e.step.taken.body) + asking between
+    taken_weighs = takes_weigh (ask tx) e before between (λ is. no_request tx e.step.taken.body is) takes
 
     now_weighs : asking then_is ≡ in_sends (ask tx) sends + asking between
     now_weighs = joins_weigh (ask tx) start h (old h) e between
@@ -175,12 +175,12 @@ module _ (start : Start) (tx : TxId) where
         by false is = is
         by true is = absurd (let both : true ≡ false = sym (given_more start old now tx (λ g. log_of-past (machine start) e es g) is) ∙ off in cc)
 
-    ops_now : (ops : List (Op × Answer)) → Each (λ (o : Outgoing). OpsOf tx ops o.body) sends → Each (λ (x : Signal). OpsOf tx ops x.body) between → Each (λ (x : Signal). OpsOf tx ops x.body) then_is
+    ops_now : (ops : List (Op × Answer)) → Each (λ (o : Outgoing). OpsOf tx ops o.body) sends → Each (λ (x : Addressed). OpsOf tx ops x.signal.body) between → Each (λ (x : Addressed). OpsOf tx ops x.signal.body) then_is
     ops_now ops sent rest = each_joins (λ to body. OpsOf tx ops body) start h (old h) e between sent rest
 
-    none_between : (ops : List (Op × Answer)) → asking between ≡ 0 → Each (λ (x : Signal). OpsOf tx ops x.body) between
+    none_between : (ops : List (Op × Answer)) → asking between ≡ 0 → Each (λ (x : Addressed). OpsOf tx ops x.signal.body) between
     none_between ops none =
-        each_map (λ (x : Signal). ask tx x.to x.body ≡ 0) (λ (x : Signal). OpsOf tx ops x.body) between (λ x is. zero_ops tx ops x.body is) (none_weighs (λ (x : Signal). ask tx x.to x.body) between none)
+        each_map (λ (x : Addressed). ask tx x.signal.to x.signal.body ≡ 0) (λ (x : Addressed). OpsOf tx ops x.signal.body) between (λ x is. zero_ops tx ops x.signal.body is) (none_weighs (λ (x : Addressed). ask tx x.signal.to x.signal.body) between none)
 
     -- the host of its coordinator, if it is the one that steps, and if it isn't
     here_now : h ≡ tx.tc → after start tx.tc (now tx.tc) ≡ later
@@ -193,11 +193,11 @@ module _ (start : Start) (tx : TxId) where
     away off = ap (after start tx.tc) (log_of-other (machine start) e es tx.tc off)
 
     -- a step that leaves it alone
-    leaves_hold : Leaves tx s e.taken.body later sends → Holds now then_is
+    leaves_hold : Leaves tx s e.step.taken.body later sends → Holds now then_is
     leaves_hold is = record {
       unborn = λ low. omega (arith, fewer, held.unborn (unborn_old (cases_eq h tx.tc) low));
       free = λ off. subst (λ o. Allowed o then_is) (sym (live_same (cases_eq h tx.tc)))
-          (less_allowed (live_at start old tx) before then_is fewer (λ ops all. ops_now ops (is.passes.ops ops) (each_between (λ (x : Signal). OpsOf tx ops x.body) e before between takes all)) (held.free (not_before off)));
+          (less_allowed (live_at start old tx) before then_is fewer (λ ops all. ops_now ops (is.passes.ops ops) (each_between (λ (x : Addressed). OpsOf tx ops x.signal.body) e before between takes all)) (held.free (not_before off)));
     }
       where
         fewer : asking then_is ≤ asking before
@@ -229,8 +229,8 @@ module _ (start : Start) (tx : TxId) where
 
     -- a turn of it
     module _ (n : node.Node) (t : Transaction) (turn : Turn) (is : s ≡ Node n) (was : of_live tx n.tc.live ≡ Some t) (live : of_host tx later ≡ left_by turn) (sent : sends ≡ turn.step.effects.sends)
-        (said : tc_sends s e.taken.to.block e.taken.body ≡ turn.step.effects.sends) (unborn_was : IsUnborn tx.seq later → IsUnborn tx.seq s)
-        (ask_turn : AskTurn tx e.taken.body t turn) (goes : GoesOn tx e.taken.body t turn) where
+        (said : tc_sends s e.step.taken.to.block e.step.taken.body ≡ turn.step.effects.sends) (unborn_was : IsUnborn tx.seq later → IsUnborn tx.seq s)
+        (ask_turn : AskTurn tx e.step.taken.body t turn) (goes : GoesOn tx e.step.taken.body t turn) where
       home_is : IsHome tx n.tc
       home_is = home_of h (old h) n is
 
@@ -256,7 +256,7 @@ module _ (start : Start) (tx : TxId) where
         no_back : list_any (λ (o : Outgoing). is_back tx (way_of o.body)) turn.step.effects.sends ≡ true → ⊥
         no_back goes_back =
             let given : list_any (same_tx tx) (sent_ways start back_by h (e ∷ old h)) ≡ true =
-            back_in tx (tc_sends s e.taken.to.block e.taken.body) (sent_ways start back_by h (old h)) (subst (λ w. list_any (λ (o : Outgoing). is_back tx (way_of o.body)) w ≡ true) (sym said) goes_back) in
+            back_in tx (tc_sends s e.step.taken.to.block e.step.taken.body) (sent_ways start back_by h (old h)) (subst (λ w. list_any (λ (o : Outgoing). is_back tx (way_of o.body)) w ≡ true) (sym said) goes_back) in
             let up : is_given_up start now tx ≡ true =
             subst (λ k. list_any (same_tx tx) (sent_ways start back_by k (now k)) ≡ true) home (subst (λ log. list_any (same_tx tx) (sent_ways start back_by h log) ≡ true) (sym own_now) given) in
             let both : true ≡ false = sym up ∙ off in cc
@@ -268,10 +268,10 @@ module _ (start : Start) (tx : TxId) where
         waited : t.phase ≡ Verifying → AreMute turn.step.effects.sends → (left_by turn ≡ Some t) ⊎ (asking then_is ≡ 0)
         waited v mute = by (ask_turn.late v (allowed.waits v).free)
           where
-            by : (left_by turn ≡ Some t) ⊎ ((is_conf tx e.taken.body ≡ true) ⊎ (list_any (λ (o : Outgoing). is_back tx (way_of o.body)) turn.step.effects.sends ≡ true))
+            by : (left_by turn ≡ Some t) ⊎ ((is_conf tx e.step.taken.body ≡ true) ⊎ (list_any (λ (o : Outgoing). is_back tx (way_of o.body)) turn.step.effects.sends ≡ true))
                 → (left_by turn ≡ Some t) ⊎ (asking then_is ≡ 0)
             by (inl stays) = inl stays
-            by (inr (inl conf)) = inr (omega (arith, taken_weighs, now_weighs, mute_weighs mute, (allowed.waits v).few, ap one_if (conf_asks tx e.taken.body conf)))
+            by (inr (inl conf)) = inr (omega (arith, taken_weighs, now_weighs, mute_weighs mute, (allowed.waits v).few, ap one_if (conf_asks tx e.step.taken.body conf)))
             by (inr (inr goes_back)) = absurd (no_back goes_back)
 
         -- where it doesn't wait any more nothing is left
@@ -308,13 +308,13 @@ module _ (start : Start) (tx : TxId) where
             open_waits : u.phase ≡ Open → ⊥
             open_waits o = let both : Open ≡ Verifying = sym o ∙ v in cc
 
-            by : Going tx e.taken.body t u turn.step.effects.sends → IsWaiting u then_is
+            by : Going tx e.step.taken.body t u turn.step.effects.sends → IsWaiting u then_is
             by (rests same quiet deaf) =
                 let w : IsWaiting u before = subst (λ x. IsWaiting x before) (sym same) (allowed.waits (ap (λ (x : Transaction). x.phase) (sym same) ∙ v)) in
                 record {
                   few = omega (arith, taken_weighs, now_weighs, mute_weighs mute, w.few);
                   free = w.free;
-                  ops = ops_now u.ops (none_ops tx u.ops sends (mute_weighs mute)) (each_between (λ (x : Signal). OpsOf tx u.ops x.body) e before between takes w.ops);
+                  ops = ops_now u.ops (none_ops tx u.ops sends (mute_weighs mute)) (each_between (λ (x : Addressed). OpsOf tx u.ops x.signal.body) e before between takes w.ops);
                 }
             by (operates op chain free open_was ops asked phase sent_is) = absurd (open_waits phase)
             by (notes asked answer own body_is on open_was ops free phase quiet) = absurd (open_waits phase)
@@ -350,9 +350,9 @@ module _ (start : Start) (tx : TxId) where
       }
 
     holds_next : Holds now then_is
-    holds_next = by (host_asks tx s e.taken.to e.taken.body (λ n is. home_of h (old h) n is))
+    holds_next = by (host_asks tx s e.step.taken (λ n is. home_of h (old h) n is))
       where
-        by : HostAsks tx s e.taken.to.block e.taken.body later sends → Holds now then_is
+        by : HostAsks tx s e.step.taken.to.block e.step.taken.body later sends → Holds now then_is
         by (asks.leaves is) = leaves_hold is
         by (asks.turned n t turn is was live sent said unborn_was ask_turn goes) = turned_holds n t turn is was live sent said unborn_was ask_turn goes
         by (asks.begun n is next live none) = begun_holds n is next live none
@@ -365,17 +365,17 @@ module _ (start : Start) (tx : TxId) where
   holds_first : Holds (logs_of start []) []
   holds_first = record { unborn = λ low. refl; free = λ off. subst (λ o. Allowed o []) (sym (started_free tx.tc)) refl }
 
-  all_hold : (es : List LogStep) (xs : List Signal) → IsRun start es → AreInTransit start es xs → Holds (logs_of start es) xs
+  all_hold : (es : List HostStep) (xs : List Addressed) → IsRun start es → AreInTransit start es xs → Holds (logs_of start es) xs
   all_hold es xs run transit =
       along_transit start (λ es xs. Holds (logs_of start es) xs) holds_first (λ es e before between come rest held takes. holds_next es e before between come held takes) es xs run transit
 
   -- whose epoch is asked for waits
-  waits_with : (logs : ℕ → List LogStep) (xs : List Signal) (x : Signal) (ops : List (Op × Answer)) → Holds logs xs → IsIn x xs → x.body ≡ Epoch (DiVerifyReq tx ops) → is_given_up start logs tx ≡ false
+  waits_with : (logs : ℕ → List HostStep) (xs : List Addressed) (x : Addressed) (ops : List (Op × Answer)) → Holds logs xs → IsIn x xs → x.signal.body ≡ Epoch (DiVerifyReq tx ops) → is_given_up start logs tx ≡ false
       → WaitsWith start logs tx ops
   waits_with logs xs x ops holds inside is off = by (live_at start logs tx) refl (holds.free off)
     where
       some : 1 ≤ asking xs
-      some = omega (arith, weigh_in (λ (y : Signal). ask tx y.to y.body) x xs inside, ap (λ b. one_if (is_ask tx b)) is, ap one_if (same_tx-self tx))
+      some = omega (arith, weigh_in (λ (y : Addressed). ask tx y.to y.body) x xs inside, ap (λ b. one_if (is_ask tx b)) is, ap one_if (same_tx-self tx))
 
       phase_is : (t : Transaction) → IsAllowed t xs → (b : Bool) → is_verifying t.phase ≡ b → t.phase ≡ Verifying
       phase_is t allowed true v = verifying_is t.phase v
@@ -385,12 +385,12 @@ module _ (start : Start) (tx : TxId) where
       by None live none = absurd (omega (arith, some, none))
       by (Some t) live allowed =
           let v = phase_is t allowed (is_verifying t.phase) refl in
-          let own : OpsOf tx t.ops x.body = each_in (λ (y : Signal). OpsOf tx t.ops y.body) x xs (allowed.waits v).ops inside in
+          let own : OpsOf tx t.ops x.signal.body = each_in (λ (y : Addressed). OpsOf tx t.ops y.body) x xs (allowed.waits v).ops inside in
           record { transaction = t; live = live; phase = v; ops_are = sym (subst (OpsOf tx t.ops) is own (same_tx-self tx)) }
 
 pub who_asks_waits : WhoAsksWaits
-who_asks_waits start es xs run transit = each_from (λ (x : Signal). IsOfWaiting start (logs_of start es) x.body) xs (λ x inside. by x inside x.body refl)
+who_asks_waits start es xs run transit = each_from (λ (x : Addressed). IsOfWaiting start (logs_of start es) x.signal.body) xs (λ x inside. by x inside x.signal.body refl)
   where
-    by : (x : Signal) → IsIn x xs → (body : Body) → x.body ≡ body → IsOfWaiting start (logs_of start es) body
+    by : (x : Addressed) → IsIn x xs → (body : Body) → x.signal.body ≡ body → IsOfWaiting start (logs_of start es) body
     by x inside (Epoch (DiVerifyReq tx ops)) is = λ off. waits_with start tx (logs_of start es) xs x ops (all_hold start tx es xs run transit) inside is off
     by x inside _ is = tt

@@ -1,6 +1,6 @@
 -- Rows are committed of transactions that the nodes of their coordinators have decided.
 use Rattle.std.specs.Prelude.{◌≡◌, ℕ, true, List}
-use Rattle.sig_core.specs.declared.log.LogStep.{LogStep}
+use Rattle.world_core.specs.Steps.{HostStep}
 use Rattle.sig_core.specs.declared.member.Member.{Member}
 use Rattle.sig_core.specs.declared.member.TxId.{TxId}
 use Rattle.sig_core.specs.declared.signal.Body.TheVariants.{Chain}
@@ -12,6 +12,6 @@ use Rattle.transit_laws.specs.Transit.{Comes, logs_of}
 -- where a commit comes, the transaction was decided at the node of its coordinator
 abbrev pub CommitsAreDecided : Type 0
 CommitsAreDecided =
-    (start : Start) (es : List LogStep) (e : LogStep) (tx : TxId) (key : List ℕ) (epoch : ℕ) (chain : List Member) (at : ℕ) → Comes start es e
-    → e.taken.body ≡ Chain (Commit tx key epoch chain at)
-    → is_decided (logs_of start es) tx ≡ true
+    (start : Start) (es : List HostStep) (e : HostStep) (tx : TxId) (key : List ℕ) (epoch : ℕ) (chain : List Member) (at : ℕ) → Comes start es e
+    → e.step.taken.body ≡ Chain (Commit tx key epoch chain at)
+    → is_decided start (logs_of start es) tx ≡ true

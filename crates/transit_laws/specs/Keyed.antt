@@ -1,8 +1,9 @@
 -- The keys that a transaction has touched, and what was answered on them.
+use Rattle.node_core.specs.Blocks.{tc_of}
 use Rattle.std.specs.List.{list_any}
 use Rattle.std.specs.Prelude.{◌≡◌, ℕ, false, true, List, [], ◌∷◌, Option, None, Some}
 use Rattle.run_theory.specs.Lists.{Each}
-use Rattle.sig_core.specs.declared.log.LogStep.{LogStep}
+use Rattle.world_core.specs.Steps.{HostStep}
 use Rattle.sig_core.specs.declared.member.TxId.{TxId}
 use Rattle.sig_core.specs.declared.op.Answer.{Answer}
 use Rattle.sig_core.specs.declared.op.Op.{Op}
@@ -13,7 +14,6 @@ use Rattle.tc_block.specs.declared.touched.Touched.{Touched}
 use Rattle.tc_block.specs.declared.transaction.Transaction.{Transaction}
 use Rattle.tc_block.specs.Touched.{is_on}
 use Rattle.node_core.specs.declared.host.Host.{Host}
-use Rattle.node_core.specs.declared.host.Host.TheVariants.{Shell, Node}
 use Rattle.world_core.specs.History.{is_done}
 use Rattle.world_core.specs.Start.{Start}
 use Rattle.commit_laws.specs.OneKey.{ops_on}
@@ -44,9 +44,8 @@ pub record IsTouchedRightly (t : Transaction) : Type 0 where
   pub written : Each (IsWrittenRightly t.ops) t.touched
 
 abbrev pub IsHostKeyed : Host → Type 0
-IsHostKeyed (Shell s) = Unit {0}
-IsHostKeyed (Node n) = Each (λ (e : TxId × Transaction). IsTouchedRightly e.1) n.tc.live
+IsHostKeyed host = Each (λ (e : TxId × Transaction). IsTouchedRightly e.1) (tc_of host).live
 
 -- so it is of each transaction that a coordinator has
 abbrev pub TransactionsAreKeyed : Type 0
-TransactionsAreKeyed = (start : Start) (es : List LogStep) (h : ℕ) → IsRun start es → IsHostKeyed (host_after start es h)
+TransactionsAreKeyed = (start : Start) (es : List HostStep) (h : ℕ) → IsRun start es → IsHostKeyed (host_after start es h)

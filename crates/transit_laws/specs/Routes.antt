@@ -1,7 +1,11 @@
 -- Signals along chains: where they are sent, and what they ask for there.
+use Rattle.frag_map.specs.Layout.{holds}
+use Rattle.frag_map.specs.Shape.{IsShape}
+use Rattle.world_core.specs.Hosts.{rows_host}
+use Rattle.node_core.specs.Blocks.{has_tc, lqh_of, tc_of}
 use Rattle.std.specs.Prelude.{◌≡◌, ◌≢◌, ◌<◌, ◌⊎◌, ◌==◌, if◌then◌else◌, ℕ, length, List, Option, None, Some}
 use Rattle.run_theory.specs.Lists.{Each}
-use Rattle.sig_core.specs.declared.log.LogStep.{LogStep}
+use Rattle.world_core.specs.Steps.{Addressed, HostStep}
 use Rattle.sig_core.specs.declared.member.Member.{Member}
 use Rattle.sig_core.specs.declared.member.TxId.{TxId}
 use Rattle.sig_core.specs.declared.place.BlockId.TheVariants.{Lqh}
@@ -11,31 +15,33 @@ use Rattle.sig_core.specs.declared.signal.Body.TheVariants.{Chain}
 use Rattle.sig_core.specs.declared.signal.chain.ChainSignal.TheVariants.{LqhKeyReq, LqhKeyConf, LqhKeyRef, Commit, Committed, Complete, Completed, Abort, Aborted}
 use Rattle.sig_core.specs.declared.signal.chain.RowWork.{RowWork}
 use Rattle.sig_core.specs.declared.signal.chain.RowWork.TheVariants.{Operate, Store}
-use Rattle.sig_core.specs.declared.signal.Signal.{Signal}
 use Rattle.sig_core.specs.Chain.{node_at, primary_of}
 use Rattle.sig_core.specs.Op.{key_of}
 use Rattle.sig_core.specs.Place.{coordinator_of}
 use Rattle.lqh_block.specs.declared.request.Request.{Request}
 use Rattle.lqh_block.specs.Work.{work_key}
-use Rattle.tc_block.specs.Chain.{chain_of}
+use Rattle.frag_map.specs.Layout.{chain_of}
 use Rattle.tc_block.specs.declared.phase.Asked.{Asked}
 use Rattle.tc_block.specs.declared.touched.Touched.{Touched}
 use Rattle.tc_block.specs.declared.transaction.Transaction.{Transaction}
 use Rattle.node_core.specs.declared.host.Host.{Host}
-use Rattle.node_core.specs.declared.host.Host.TheVariants.{Shell, Node}
-use Rattle.world_core.specs.Machine.{hosts}
-use Rattle.world_core.specs.Start.{Start, first_view}
+use Rattle.world_core.specs.Hosts.{hosts}
+use Rattle.frag_map.specs.Layout.{first_layout}
+use Rattle.world_core.specs.Start.{Start}
 use Rattle.commit_laws.specs.BackupEvents.{IsOfImage}
 use Rattle.commit_laws.specs.PrimaryEvents.{IsOfOperation}
 use Rattle.transit_laws.specs.Transit.{AreInTransit, Comes, IsRun, host_after}
 
--- the replicas of a key, the primary first; no other view than the first is installed by now
+-- the replicas of a key, the primary first; no other layout than the first is installed by now
 abbrev pub replicas : Start → List ℕ → List Member
-replicas start key = chain_of (first_view start.nodes) key
+replicas start key = chain_of (first_layout start.shape) key
 
--- the node of the primary
+-- the node of the primary, and the host of its rows
 abbrev pub primary : Start → List ℕ → ℕ
 primary start key = node_at (replicas start key) 0
+
+abbrev pub primary_host : Start → List ℕ → ℕ
+primary_host start key = rows_host start (primary start key)
 
 -- an operation is for the first place of a chain, and an image for a later one
 abbrev pub IsWorkAt : ℕ → RowWork → Type 0
@@ -82,29 +88,34 @@ pub record IsTransactionRouted (start : Start) (t : Transaction) : Type 0 where
   pub asked : IsAskedRouted start t.asked
 
 -- what waits at a host, and what its coordinator has
-abbrev pub IsHostRouted : Start → ℕ → Host → Type 0
-IsHostRouted start h (Shell s) = Unit {0}
-IsHostRouted start h (Node n) =
-    (n.tc.view ≡ first_view start.nodes) × (Each (λ (q : Request). IsRequestRouted start h q) n.lqh.waiting × Each (λ (e : TxId × Transaction). IsTransactionRouted start e.1) n.tc.live)
+pub record IsHostRouted (start : Start) (host : Host) : Type 0 where
+  pub layout : has_tc host ≡ true → (tc_of host).layout ≡ first_layout start.shape
+  pub waiting : Each (λ (q : Request). IsRequestRouted start (lqh_of host).node q) (lqh_of host).waiting
+  pub live : Each (λ (e : TxId × Transaction). IsTransactionRouted start e.1) (tc_of host).live
 
 -- so it is after every run of some nodes
-pub record AreRouted (start : Start) (es : List LogStep) (xs : List Signal) : Type 0 where
-  pub signals : Each (λ (x : Signal). IsRouted start x.to.node x.body) xs
-  pub hosts : (h : ℕ) → IsHostRouted start h (host_after start es h)
+pub record AreRouted (start : Start) (es : List HostStep) (xs : List Addressed) : Type 0 where
+  pub signals : Each (λ (x : Addressed). IsRouted start x.signal.to.node x.signal.body) xs
+  pub hosts : (h : ℕ) → IsHostRouted start (host_after start es h)
 
 abbrev pub SignalsAreRouted : Type 0
-SignalsAreRouted = (start : Start) (es : List LogStep) (xs : List Signal) → IsRun start es → AreInTransit start es xs → AreRouted start es xs
+SignalsAreRouted = (start : Start) (es : List HostStep) (xs : List Addressed) → IsRun start es → AreInTransit start es xs → AreRouted start es xs
 
 -- no node stands twice among the replicas
 abbrev pub ReplicasAreApart : Type 0
 ReplicasAreApart =
-    (start : Start) (key : List ℕ) (one other : ℕ) → one < length (replicas start key) → other < length (replicas start key)
+    (start : Start) (key : List ℕ) (one other : ℕ) → IsShape start.shape → one < length (replicas start key) → other < length (replicas start key)
     → node_at (replicas start key) one ≡ node_at (replicas start key) other → one ≡ other
 
--- the replicas are the nodes, from 1
+-- the replicas are nodes of the key's group
+pub record IsNodeFor (start : Start) (node : ℕ) (key : List ℕ) : Type 0 where
+  pub from : 1 ≤ node
+  pub to : node ≤ start.shape.nodes
+  pub holding : holds start.shape node key ≡ true
+
 abbrev pub ReplicasAreNodes : Type 0
 ReplicasAreNodes =
-    (start : Start) (key : List ℕ) (at : ℕ) → at < length (replicas start key) → (0 < node_at (replicas start key) at) × (node_at (replicas start key) at < hosts start)
+    (start : Start) (key : List ℕ) (at : ℕ) → IsShape start.shape → at < length (replicas start key) → IsNodeFor start (node_at (replicas start key) at) key
 
 -- what asks a replica for something is for the rows of a node, and its answer for the coordinator of the transaction
 abbrev pub IsForBlock : Place → Body → Type 0
@@ -121,22 +132,22 @@ IsForBlock to body = Unit {0}
 
 abbrev pub SignalsAreForBlocks : Type 0
 SignalsAreForBlocks =
-    (start : Start) (es : List LogStep) (xs : List Signal) → IsRun start es → AreInTransit start es xs
-    → Each (λ (x : Signal). IsForBlock x.to x.body) xs
+    (start : Start) (es : List HostStep) (xs : List Addressed) → IsRun start es → AreInTransit start es xs
+    → Each (λ (x : Addressed). IsForBlock x.signal.to x.signal.body) xs
 
 -- a request comes to the primary with an operation, and to each other replica with an image
 abbrev pub RequestsAreForReplicas : Type 0
 RequestsAreForReplicas =
-    (start : Start) (es : List LogStep) (e : LogStep) (tx : TxId) (work : RowWork) (chain : List Member) (at : ℕ) → Comes start es e
-    → e.taken.body ≡ Chain (LqhKeyReq tx work chain at)
-    → (e.taken.to.node ≡ primary start (work_key work) → IsOfOperation work) × (e.taken.to.node ≢ primary start (work_key work) → IsOfImage work)
+    (start : Start) (es : List HostStep) (e : HostStep) (tx : TxId) (work : RowWork) (chain : List Member) (at : ℕ) → Comes start es e
+    → e.step.taken.body ≡ Chain (LqhKeyReq tx work chain at)
+    → (e.host ≡ primary_host start (work_key work) → IsOfOperation work) × (e.host ≢ primary_host start (work_key work) → IsOfImage work)
 
 -- a commit is at the first place of its chain just where it comes to the primary
 abbrev pub CommitsEndAtPrimary : Type 0
 CommitsEndAtPrimary =
-    (start : Start) (es : List LogStep) (e : LogStep) (tx : TxId) (key : List ℕ) (epoch : ℕ) (chain : List Member) (at : ℕ) → Comes start es e
-    → e.taken.body ≡ Chain (Commit tx key epoch chain at)
-    → (at == 0) ≡ (e.taken.to.node == primary start key)
+    (start : Start) (es : List HostStep) (e : HostStep) (tx : TxId) (key : List ℕ) (epoch : ℕ) (chain : List Member) (at : ℕ) → Comes start es e
+    → e.step.taken.body ≡ Chain (Commit tx key epoch chain at)
+    → (at == 0) ≡ (e.host == primary_host start key)
 
 -- a signal for this place is routed, and for its block
 pub record IsOnWay (start : Start) (to : Place) (body : Body) : Type 0 where
@@ -145,4 +156,4 @@ pub record IsOnWay (start : Start) (to : Place) (body : Body) : Type 0 where
 
 -- so is each that comes to a host
 abbrev pub ComingAreRouted : Type 0
-ComingAreRouted = (start : Start) (es : List LogStep) (e : LogStep) → Comes start es e → IsOnWay start e.taken.to e.taken.body
+ComingAreRouted = (start : Start) (es : List HostStep) (e : HostStep) → Comes start es e → IsOnWay start e.step.taken.to e.step.taken.body
