@@ -1,1 +1,4 @@
-mod NumberLemmas
+mod GroupLemmas
+mod ListLemmas
+mod ShapeLemmas
+mod TurnLemmas

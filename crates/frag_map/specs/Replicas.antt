@@ -1,5 +1,5 @@
 -- The replicas of a fragment in a view, the primary first.
-use Rattle.std.specs.Prelude.{ℕ, zero, suc, ◌+◌, ◌*◌, ◌/◌, ◌%◌, ◌==◌, ◌&&◌, not, nat_lt, Bool, if◌then◌else◌, List, [], ◌∷◌, ◌++◌, filter, take}
+use Rattle.std.specs.Prelude.{ℕ, zero, suc, ◌+◌, ◌*◌, ◌/◌, ◌%◌, ◌==◌, ◌&&◌, nat_lt, Bool, if◌then◌else◌, List, [], ◌∷◌, ◌++◌, filter, take}
 use Rattle.std.specs.List.{list_any}
 use Rattle.sig_core.specs.declared.member.Member.{Member}
 use Rattle.sig_core.specs.declared.view.Shape.{Shape}
@@ -35,12 +35,16 @@ is_of_group shape group member = group_of shape member.node == group
 abbrev pub is_later : Member → Bool
 is_later member = nat_lt 0 member.start
 
+-- it is of the group, and started later
+abbrev pub is_later_of_group : Shape → ℕ → Member → Bool
+is_later_of_group shape group member = is_of_group shape group member && is_later member
+
 -- all replicas of a fragment: of the nodes of its group those that are full since the life began, in turn; then the other
 -- full ones, and then the starting ones, each by age
 abbrev pub all_replicas : Shape → View → ℕ → List Member
 all_replicas shape view fragment =
     in_turn shape view fragment shape.replicas
-    ++ filter (λ member. is_of_group shape (group_of_fragment shape fragment) member && is_later member) view.full
+    ++ filter (is_later_of_group shape (group_of_fragment shape fragment)) view.full
     ++ filter (is_of_group shape (group_of_fragment shape fragment)) view.starting
 
 -- The replicas of a fragment, the primary first. A view has no more than eight members, and so there are no more.

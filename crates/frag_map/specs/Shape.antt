@@ -1,5 +1,5 @@
 -- Shapes of clusters.
-use Rattle.std.specs.Prelude.{◌≡◌, ◌≤◌, ℕ, ◌/◌, ◌%◌}
+use Rattle.std.specs.Prelude.{◌≡◌, ◌≤◌, ℕ, ◌-◌, ◌/◌, ◌%◌}
 use Rattle.sig_core.specs.declared.view.Shape.{Shape}
 
 -- A cluster may be laid out so: 1 to 8 nodes, 1 to 4 replicas of each row, which divide the number of nodes, and 1 to 32

@@ -10,7 +10,7 @@ use sig_core::{Key, Shape};
 
 /// The fragment of a key, from 0: the first four bytes of its MD5 digest, as a number with the
 /// highest byte first, modulo the number of fragments.
-#[tactic(auto, unfolding(crate::specs::Fragment::frag_of), using(crate::proofs::NumberLemmas::number))]
+#[tactic(auto, unfolding(crate::specs::Fragment::frag_of))]
 pub fn frag_of(key: &Key, shape: &Shape) -> u8
     requires { IsShape shape.now }
     ensures value { result ≡ frag_of shape.now key.now }

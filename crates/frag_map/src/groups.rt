@@ -8,7 +8,7 @@ use crate::shape::{group_of, groups};
 use sig_core::{Member, Shape, View};
 
 /// The least group without a full member, from 0. A view that has none is viable.
-#[tactic(auto, unfolding(crate::specs::Groups::lost_group))]
+#[tactic(auto, unfolding(crate::specs::Groups::lost_group), using(crate::proofs::GroupLemmas::left))]
 pub fn lost_group(view: &View, shape: &Shape) -> Option<u8>
     requires { IsShape shape.now }
     ensures { result ≡ lost_group shape.now view.now }
@@ -22,7 +22,7 @@ pub fn lost_group(view: &View, shape: &Shape) -> Option<u8>
 }
 
 /// Whether all nodes of some group are full members.
-#[tactic(auto, unfolding(crate::specs::Groups::whole_group))]
+#[tactic(auto, unfolding(crate::specs::Groups::whole_group), using(crate::proofs::GroupLemmas::left))]
 pub fn whole_group(view: &View, shape: &Shape) -> bool
     requires { IsShape shape.now }
     ensures { result ≡ whole_group shape.now view.now }

@@ -1,7 +1,7 @@
 //! The replicas of a fragment in a view, the primary first.
-ghost use Rattle.std.specs.Prelude.{◌≡◌, ◌<◌, ◌&&◌, [], ◌∷◌, ◌++◌, filter, take};
+ghost use Rattle.std.specs.Prelude.{◌≡◌, ◌<◌, ◌≤◌, [], ◌∷◌, ◌++◌, filter, length, take};
 ghost use Rattle.std.specs.List.{list_any};
-ghost use Rattle.frag_map.specs.Replicas.{first_start, in_turn, is_later, is_member, is_of_group, node_in_turn, replicas_of};
+ghost use Rattle.frag_map.specs.Replicas.{first_start, in_turn, is_later_of_group, is_member, is_of_group, node_in_turn, replicas_of};
 ghost use Rattle.frag_map.specs.Fragment.{group_of_fragment};
 ghost use Rattle.frag_map.specs.Shape.{IsShape};
 
@@ -13,7 +13,7 @@ use sig_core::{MEMBERS, Member, Members, Shape, View};
 /// The replicas of a fragment, the primary first: of the nodes of its group those that are full
 /// members since the life began, in turn; then the other full ones, and then the starting ones,
 /// each by age.
-#[tactic(auto, unfolding(crate::specs::Replicas::replicas_of))]
+#[tactic(auto, unfolding(crate::specs::Replicas::replicas_of), using(crate::proofs::ListLemmas::lists))]
 pub fn replicas_of(view: &View, fragment: u8, shape: &Shape) -> Members
     requires shape { IsShape shape.now }
     requires fragment { fragment < shape.now.fragments }
@@ -27,6 +27,7 @@ pub fn replicas_of(view: &View, fragment: u8, shape: &Shape) -> Members
 }
 
 // The node whose turn it is, of a fragment of this group.
+#[tactic(auto, using(crate::proofs::ShapeLemmas::seats))]
 fn node_in_turn(turn: u8, fragment: u8, shape: &Shape) -> u8
     requires shape { IsShape shape.now }
     requires fragment { fragment < shape.now.fragments }
@@ -38,6 +39,7 @@ fn node_in_turn(turn: u8, fragment: u8, shape: &Shape) -> u8
 }
 
 // The nodes of a fragment's group that are full members since the life began, in turn.
+#[tactic(auto, using(crate::proofs::ListLemmas::lists))]
 fn members_in_turn(view: &View, fragment: u8, shape: &Shape) -> Members
     requires shape { IsShape shape.now }
     requires fragment { fragment < shape.now.fragments }
@@ -58,24 +60,24 @@ fn members_in_turn(view: &View, fragment: u8, shape: &Shape) -> Members
 fn is_among(member: Member, members: &Members) -> bool
     ensures { result ≡ list_any (is_member member) members.now }
 {
-    for other in members.as_slice() {
-        if is_same(member, *other) {
-            return true;
-        }
-    }
-    false
+    members
+        .as_slice()
+        .iter()
+        .any(|other| is_same(member, other))
 }
 
-fn is_same(one: Member, other: Member) -> bool
-    ensures { result ≡ is_member one other }
+fn is_same(one: Member, other: &Member) -> bool
+    ensures { result ≡ is_member one other.now }
 {
     one.node == other.node && one.start == other.start
 }
 
 // Adds those of the group that started later than the life.
+#[tactic(auto, using(crate::proofs::ListLemmas::lists))]
 fn add_later(replicas: &mut Members, full: &Members, group: u8, shape: &Shape)
-    requires { IsShape shape.now }
-    ensures { replicas.new ≡ take 8 (replicas.old ++ filter (λ m. is_of_group shape.now group m && is_later m) full.now) }
+    requires few { length replicas.old ≤ 8 }
+    requires shape { IsShape shape.now }
+    ensures { replicas.new ≡ take 8 (replicas.old ++ filter (is_later_of_group shape.now group) full.now) }
 {
     for member in full.as_slice() {
         if is_later_of_group(*member, group, shape) {
@@ -87,14 +89,16 @@ fn add_later(replicas: &mut Members, full: &Members, group: u8, shape: &Shape)
 // Whether the member is of the group, and started later than the life.
 fn is_later_of_group(member: Member, group: u8, shape: &Shape) -> bool
     requires { IsShape shape.now }
-    ensures { result ≡ (is_of_group shape.now group member && is_later member) }
+    ensures { result ≡ is_later_of_group shape.now group member }
 {
     is_of_group(member, group, shape) && 0 < member.start
 }
 
 // Adds those of the group.
+#[tactic(auto, using(crate::proofs::ListLemmas::lists))]
 fn add_group(replicas: &mut Members, starting: &Members, group: u8, shape: &Shape)
-    requires { IsShape shape.now }
+    requires few { length replicas.old ≤ 8 }
+    requires shape { IsShape shape.now }
     ensures { replicas.new ≡ take 8 (replicas.old ++ filter (is_of_group shape.now group) starting.now) }
 {
     for member in starting.as_slice() {
@@ -105,6 +109,7 @@ fn add_group(replicas: &mut Members, starting: &Members, group: u8, shape: &Shap
 }
 
 // Adds a member, where there is room.
+#[tactic(auto, using(crate::proofs::ListLemmas::lists))]
 fn add(replicas: &mut Members, member: Member)
     ensures { replicas.new ≡ take 8 (replicas.old ++ member ∷ []) }
 {

@@ -26,6 +26,7 @@ pub fn group_of(node: u8, shape: &Shape) -> u8
 }
 
 /// How many groups of nodes there are, 1 to 8.
+#[tactic(auto, using(crate::proofs::ShapeLemmas::seats))]
 pub fn groups(shape: &Shape) -> u8
     requires { IsShape shape.now }
     ensures value { result ≡ groups shape.now }

@@ -1,0 +1,9 @@
+use Rattle.std.proofs.Common.{arith, ◌≤◌, [], ◌∷◌, length, sym}
+use Rattle.frag_map.proofs.ListLemmas.{take_full}
+use Rattle.frag_map.proofs.replicas.add.Goals as goal
+
+-- nothing is added where there is no room
+pub returns-else-as_slice-lt-MEMBERS : goal.returns-else-as_slice-lt-MEMBERS
+returns-else-as_slice-lt-MEMBERS c =
+    let full : 8 ≤ length c.args.replicas.now = grind arith in
+    sym (take_full 8 c.args.replicas.now (c.args.member ∷ []) full c.as_slice.ensures.most)
