@@ -12,12 +12,11 @@ use Rattle.sig_core.specs.declared.outs.Outgoing.{Outgoing}
 use Rattle.sig_core.specs.declared.signal.Body.{Body}
 use Rattle.sig_core.specs.declared.signal.Body.TheVariants.{Client, Chain}
 use Rattle.sig_core.specs.declared.signal.client.ClientSignal.TheVariants.{TcKeyReq}
-use Rattle.frag_map.specs.Layout.{Layout}
 use Rattle.sig_core.specs.Op.{key_of}
 use Rattle.sig_core.specs.Same.{same_tx}
 use Rattle.sig_core.specs.Step.{Step}
+use Rattle.frag_map.specs.Layout.{Layout, chain_of}
 use Rattle.tc_block.specs.Abort as abort
-use Rattle.frag_map.specs.Layout.{chain_of}
 use Rattle.tc_block.specs.declared.phase.Asked.{Asked}
 use Rattle.tc_block.specs.declared.phase.Phase.{Phase}
 use Rattle.tc_block.specs.declared.phase.Phase.TheVariants.{Verifying}
@@ -29,10 +28,10 @@ use Rattle.tc_block.specs.Sends.{aborts_of, entering, phase_sends, wait_of}
 use Rattle.tc_block.specs.State.{TcState}
 use Rattle.tc_block.specs.Tc.{begin_if, next_tx, pass_if, tc_table}
 use Rattle.tc_block.specs.Turn.{Turn, asking, at_phase}
-use Rattle.commit_laws.proofs.EachSent.{each_drop, each_mapped, each_take}
-use Rattle.commit_laws.proofs.EachTc.{tc_each}
-use Rattle.commit_laws.proofs.EachTurn.{AbortForms, CommittedForms, TurnForms, rows_of}
-use Rattle.commit_laws.proofs.LiveSplit.{Live, Split}
+use Rattle.run_theory.proofs.EachSent.{each_drop, each_mapped, each_take}
+use Rattle.tc_block.proofs.EachTc.{tc_each}
+use Rattle.tc_block.proofs.EachTurn.{AbortForms, CommittedForms, TurnForms, rows_of}
+use Rattle.tc_block.proofs.LiveSplit.{Live, Split}
 
 -- a step of a transaction leaves it so, and sends only such signals
 pub record StepKeeps (P : Transaction → Type 0) (Q : Outgoing → Type 0) (step : Step Transaction) : Type 0 where

@@ -36,10 +36,10 @@ use Rattle.api_block.specs.Operate.{answer_by, answer_row, begun_by, begun_row, 
 use Rattle.api_block.specs.Outcome.{abort_report_row, commit_report_row, over, refuse_row}
 use Rattle.api_block.specs.State.{ApiState, changing}
 use Rattle.api_block.specs.Wait.{behind_row, name_of, pending_by, pending_if, pending_row, waits_if, waits_row}
-use Rattle.row_locks.proofs.TxLemmas.{same_tx-is}
-use Rattle.commit_laws.specs.Firsts.{first}
-use Rattle.commit_laws.proofs.Firsts.{first-get, first_passes, get_by}
-use Rattle.commit_laws.proofs.EachSent.{each_get, each_mapped, each_removed, each_set}
+use Rattle.sig_core.proofs.TxLemmas.{same_tx-is}
+use Rattle.sig_core.specs.Firsts.{first}
+use Rattle.sig_core.proofs.Firsts.{first-get, first_passes, get_by}
+use Rattle.run_theory.proofs.EachSent.{each_get, each_mapped, each_removed, each_set}
 
 -- K is of each transaction that is opened, P of each signal that is sent, and M of each mark. A transaction that is opened
 -- changes in all but its number, which it has once it has begun; and what is sent of one is of its number

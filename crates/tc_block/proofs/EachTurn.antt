@@ -13,13 +13,12 @@ use Rattle.sig_core.specs.declared.signal.client.ClientSignal.TheVariants.{TcKey
 use Rattle.sig_core.specs.declared.signal.epoch.EpochSignal.TheVariants.{DiVerifyConf}
 use Rattle.sig_core.specs.declared.signal.host.HostSignal.TheVariants.{Continue}
 use Rattle.sig_core.specs.declared.signal.host.Work.TheVariants as work
-use Rattle.frag_map.specs.Layout.{Layout}
 use Rattle.sig_core.specs.Op.{key_of}
 use Rattle.sig_core.specs.Place.{client}
 use Rattle.sig_core.specs.Same.{same_key}
 use Rattle.sig_core.specs.Step.{sending, stay}
+use Rattle.frag_map.specs.Layout.{Layout, chain_of}
 use Rattle.tc_block.specs.Abort as abort
-use Rattle.frag_map.specs.Layout.{chain_of}
 use Rattle.tc_block.specs.Commit as commit
 use Rattle.tc_block.specs.Complete as complete
 use Rattle.tc_block.specs.declared.phase.Asked.{Asked}
@@ -29,12 +28,7 @@ use Rattle.tc_block.specs.declared.transaction.Transaction.{Transaction}
 use Rattle.tc_block.specs.Operate as operate
 use Rattle.tc_block.specs.Sends.{entering, go_on_if, go_on_row}
 use Rattle.tc_block.specs.Turn.{Turn, asking, at_phase, going}
-use Rattle.commit_laws.specs.Phases.{is_decided}
-use Rattle.commit_laws.specs.Ways.{is_aborting}
-
--- for the rows that look at no layout
-abbrev pub no_view : Layout
-no_view = record { number = 0; full = []; starting = [] }
+use Rattle.tc_block.specs.Phases.{is_aborting, is_decided}
 
 -- an abort begins, or has nothing to wait for
 pub record AbortForms (node : ℕ) (layout : Layout) (tx : TxId) (t : Transaction) (why : AbortCause) (R : Turn → Type 0) : Type 0 where

@@ -21,8 +21,8 @@ use Rattle.tc_block.specs.Sends.{go_on_row}
 use Rattle.tc_block.specs.State.{TcState}
 use Rattle.tc_block.specs.Tc.{begin_if, begin_row, is_full, pass_if, pass_row, tc_table}
 use Rattle.tc_block.specs.Turn.{Turn, going}
-use Rattle.commit_laws.proofs.EachTurn.{RowsAre}
-use Rattle.commit_laws.proofs.LiveSplit.{Split, split_at}
+use Rattle.tc_block.proofs.EachTurn.{RowsAre}
+use Rattle.tc_block.proofs.LiveSplit.{Split, split_at}
 
 -- R is of each turn that a transaction of the coordinator may take at the signal, and S of the step that it makes; and of
 -- the other steps

@@ -26,7 +26,7 @@ use Rattle.lqh_block.specs.Lqh.{lqh_table}
 use Rattle.lqh_block.specs.Operate as operate
 use Rattle.lqh_block.specs.State.{LqhState, with_lock}
 use Rattle.lqh_block.specs.Wait as wait
-use Rattle.commit_laws.proofs.EachSent.{each_removed}
+use Rattle.run_theory.proofs.EachSent.{each_removed}
 
 module _ (P : Request → Type 0) where
   abbrev AreWaiting : LqhState → Type 0
