@@ -34,7 +34,7 @@ use Rattle.tc_block.specs.declared.transaction.Transaction.{Transaction}
 use Rattle.world_core.specs.Machine.{after, machine, step_after}
 use Rattle.frag_map.specs.Layout.{first_layout, members}
 use Rattle.world_core.specs.Start.{Start}
-use Rattle.commit_laws.proofs.Keys.{same_tx-self, same_key-self}
+use Rattle.sig_core.proofs.Keys.{same_tx-self, same_key-self}
 use Rattle.answer_laws.proofs.Ahead.{along}
 use Rattle.answer_laws.proofs.Begins.{given_past}
 use Rattle.answer_laws.proofs.Hosts.{node_after, same_node, shell_after}
