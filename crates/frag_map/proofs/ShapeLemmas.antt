@@ -1,8 +1,8 @@
 -- Arithmetic of the places of nodes.
 use Rattle.std.proofs.Common.{◌≡◌, ◌≤◌, ◌<◌, ℕ, ◌+◌, ◌-◌, ◌*◌, ◌/◌, ◌%◌, List, ap, ◌∙◌, arith}
-use Rattle.std.proofs.lemmas.Nat.{div-add-mod', div-mul-add, div_below, mod_below, mul-add-lt}
+use Rattle.std.proofs.lemmas.Nat.{div-add-mod', div-mul-add, mod_below, mul-add-lt}
 use Rattle.sig_core.specs.declared.view.Shape.{Shape}
-use Rattle.frag_map.specs.Fragment.{frag_of, group_of_fragment, group_of_key}
+use Rattle.frag_map.specs.Fragment.{group_of_fragment}
 use Rattle.frag_map.specs.Shape.{IsShape, group_of, groups}
 
 -- the groups have all nodes
@@ -18,17 +18,6 @@ pub ruleset seats = (groups-all, groups-some)
 -- a fragment is of one of the groups
 pub fragment_group_below : (shape : Shape) → IsShape shape → (fragment : ℕ) → group_of_fragment shape fragment < groups shape
 fragment_group_below shape is fragment = mod_below fragment (groups shape) (groups-some shape is)
-
--- and so is a key
-pub key_group_below : (shape : Shape) → IsShape shape → (key : List ℕ) → group_of_key shape key < groups shape
-key_group_below shape is key = fragment_group_below shape is (frag_of shape key)
-
--- and a node
-pub node_group_below : (shape : Shape) → IsShape shape → (node : ℕ) → 1 ≤ node → node ≤ shape.nodes → group_of shape node < groups shape
-node_group_below shape is node some few =
-    let all = groups-all shape is in
-    let low : node - 1 < groups shape * shape.replicas = omega (arith, all, some, few) in
-    div_below (node - 1) shape.replicas (groups shape) is.replicas_some low
 
 -- a place in a group is that of a node
 pub seat_below : (shape : Shape) → IsShape shape → (group seat : ℕ) → group < groups shape → seat < shape.replicas
