@@ -111,7 +111,7 @@ chain_is shape is key =
     let fragment = frag_of shape key in
     let order = in_order shape fragment shape.replicas in
     rw (all_in_turn shape is fragment shape.replicas, none_later shape (group_of_fragment shape fragment) shape.nodes, append-nil order, append-nil order)
-        (take_all 8 order (omega (arith, length-order shape fragment shape.replicas, is.replicas_few)))
+    (take_all 8 order (omega (arith, length-order shape fragment shape.replicas, is.replicas_few)))
 
 -- each replica of a row once
 pub first_length : (shape : Shape) → IsShape shape → (key : List ℕ) → length (chain_of (first_layout shape) key) ≡ shape.replicas
@@ -141,7 +141,7 @@ pub first_apart : (shape : Shape) → IsShape shape → (key : List ℕ) (one ot
 first_apart shape is key one other one_inside other_inside same =
     let fragment = frag_of shape key in
     let turns : node_in_turn shape fragment one ≡ node_in_turn shape fragment other =
-        sym (node_is shape is key one one_inside) ∙ same ∙ node_is shape is key other other_inside in
+    sym (node_is shape is key one one_inside) ∙ same ∙ node_is shape is key other other_inside in
     let seats : seat_in_turn shape fragment one ≡ seat_in_turn shape fragment other = omega (arith, turns) in
     let long = first_length shape is key in
     around_apart shape.replicas (fragment / groups shape) one other (omega (arith, one_inside, long)) (omega (arith, other_inside, long)) seats
@@ -161,8 +161,8 @@ pub first_group : (shape : Shape) → IsShape shape → (key : List ℕ) (at : �
 first_group shape is key at inside =
     let fragment = frag_of shape key in
     eq-eqb _ _
-        (ap (group_of shape) (node_is shape is key at inside)
-        ∙ group_of-seat shape (group_of_fragment shape fragment) (seat_in_turn shape fragment at) (seat_low shape is fragment at))
+    (ap (group_of shape) (node_is shape is key at inside)
+    ∙ group_of-seat shape (group_of_fragment shape fragment) (seat_in_turn shape fragment at) (seat_low shape is fragment at))
 
 -- all nodes of that group have a replica
 pub first_all : (shape : Shape) → IsShape shape → (key : List ℕ) (node : ℕ) → 1 ≤ node → node ≤ shape.nodes → holds shape node key ≡ true
@@ -183,7 +183,7 @@ manned : (shape : Shape) → IsShape shape → (group : ℕ) → group < groups 
 manned shape is group low =
     let node = group * shape.replicas + 0 + 1 in
     any_members (is_of_group shape group) shape.nodes node (omega arith) (seat_below shape is group 0 low is.replicas_some)
-        (eq-eqb _ group (group_of-seat shape group 0 is.replicas_some))
+    (eq-eqb _ group (group_of-seat shape group 0 is.replicas_some))
 
 none_lost : (shape : Shape) → IsShape shape → (group n : ℕ) → group + n ≤ groups shape → lost_from shape (first_view shape.nodes) group n ≡ None
 none_lost shape is group zero fits = refl
