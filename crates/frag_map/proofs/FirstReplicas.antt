@@ -1,8 +1,7 @@
 -- The replicas of a key in the first view of a cluster: the nodes of the key's group, each once.
-use Rattle.std.proofs.Common.{◌≡◌, ◌≤◌, ◌<◌, ◌⊎◌, inl, inr, ℕ, zero, suc, ◌+◌, ◌-◌, ◌*◌, ◌/◌, ◌%◌, Bool, true, false, List, [], ◌∷◌, ◌++◌, length, take, get_or, refl, ap, sym, subst, ◌∙◌, arith}
-use Rattle.std.specs.Prelude.{◌==◌, ◌&&◌, ◌||◌, Option, None, Some, filter, is_some, not, slice_get, if◌then◌else◌}
+use Rattle.std.proofs.Common.{◌≡◌, ◌≤◌, ◌<◌, ◌⊎◌, inl, inr, ℕ, zero, suc, ◌+◌, ◌-◌, ◌*◌, ◌/◌, ◌%◌, Bool, true, false, List, [], ◌∷◌, ◌++◌, length, get_or, refl, ap, sym, subst, ◌∙◌, arith}
+use Rattle.std.specs.Prelude.{◌&&◌, ◌||◌, None, filter, is_some, not}
 use Rattle.std.specs.List.{All, list_any}
-use Rattle.std.proofs.Math.Numerals.{add-one}
 use Rattle.std.proofs.lemmas.Bool.{cases_lt, eq-eqb, eqb-true}
 use Rattle.std.proofs.lemmas.List.{append-nil, get_or_append_left, get_or_default, get_or_push, length_push, take_all}
 use Rattle.std.proofs.lemmas.List.Elements.{filter-append}
@@ -11,7 +10,6 @@ use Rattle.std.proofs.lemmas.Nat.{div-add-mod', div_below, mod_below}
 use Rattle.std.proofs.lemmas.Option.{slice_get-get_or}
 use Rattle.sig_core.specs.declared.member.Member.{Member}
 use Rattle.sig_core.specs.declared.view.Shape.{Shape}
-use Rattle.sig_core.specs.declared.view.View.{View}
 use Rattle.sig_core.specs.Chain.{node_at, node_of}
 use Rattle.sig_core.specs.Members.{nobody}
 use Rattle.frag_map.specs.Fragment.{frag_of, group_of_fragment, group_of_key}
