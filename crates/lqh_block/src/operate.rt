@@ -8,6 +8,7 @@ ghost use Rattle.lqh_block.specs.State.{go_on, go_on_if, sends_only, with_waitin
 use crate::lqh::Lqh;
 use crate::request::Request;
 use crate::work::{work_key, work_mode};
+use frag_map::frag_of;
 use row_locks::{Lock, LockTable};
 use sig_core::{Body, HostSignal, Journal, NoMemory, Outs, Rows, Work, rows_of};
 
@@ -27,8 +28,9 @@ impl<R: Rows, J: Journal> Lqh<R, J> {
         self.waiting.reserve(1)?;
         let key = work_key(&request.work);
         let mode = work_mode(&request.work);
+        let fragment = frag_of(key, &self.layout.shape());
         match self.locks.request(request.tx, key, mode)? {
-            Lock::Granted => self.storage.perform(request, out),
+            Lock::Granted => self.storage.perform(request, fragment, out),
             Lock::Queued { ahead: _ } => self.waiting.push_reserved(*request),
         }
         Ok(())
@@ -64,7 +66,8 @@ impl<R: Rows, J: Journal> Lqh<R, J> {
     {
         self.storage.make_room(request)?;
         self.waiting.remove(at);
-        self.storage.perform(request, out);
+        let fragment = frag_of(work_key(&request.work), &self.layout.shape());
+        self.storage.perform(request, fragment, out);
         self.go_on_granted(out);
         Ok(())
     }

@@ -41,9 +41,10 @@ impl<R: Rows, J: Journal> Storage<R, J> {
         Ok(())
     }
 
-    /// Performs a request whose lock is granted, in memory that was made for it.
+    /// Performs a request whose lock is granted, in memory that was made for it. The journal is told
+    /// the fragment of its row.
     #[tactic(auto, unfolding(crate::specs::Storage::perform))]
-    pub fn perform(&mut self, request: &Request, out: &mut Outs)
+    pub fn perform(&mut self, request: &Request, fragment: u8, out: &mut Outs)
         requires room { HasRoom out.old }
         requires rows { R.has_room self.old.rows (work_key request.now.work) }
         requires journal { J.has_room self.old.journal (need_of request.now.tx (work_key request.now.work) (work_image request.now.work)) }
@@ -52,15 +53,17 @@ impl<R: Rows, J: Journal> Storage<R, J> {
     {
         let chain = &request.chain;
         match &request.work {
-            RowWork::Operate(op) => self.operate(request.tx, op, chain, request.at, out),
+            RowWork::Operate(op) => {
+                self.operate(request.tx, op, fragment, chain, request.at, out);
+            }
             RowWork::Store(key, image) => {
-                self.store(request.tx, key, image, chain, request.at, out);
+                self.store(request.tx, key, image, fragment, chain, request.at, out);
             }
         }
     }
 
     // Answers an operation; a write that takes effect is prepared first.
-    fn operate(&mut self, tx: TxId, op: &Op, chain: &Members, at: u8, out: &mut Outs)
+    fn operate(&mut self, tx: TxId, op: &Op, fragment: u8, chain: &Members, at: u8, out: &mut Outs)
         requires room { HasRoom out.old }
         requires rows { R.has_room self.old.rows (key_of op.now) }
         requires journal { J.has_room self.old.journal (need_of tx (key_of op.now) (image_of op.now)) }
@@ -70,7 +73,7 @@ impl<R: Rows, J: Journal> Storage<R, J> {
         let key = op.key();
         let answer = op.answer_to(&self.rows.seen(tx, key));
         match answer {
-            Answer::Done => self.store(tx, key, &op.image(), chain, at, out),
+            Answer::Done => self.store(tx, key, &op.image(), fragment, chain, at, out),
             Answer::Found(_) | Answer::Missing | Answer::E626 | Answer::E630 => {
                 confirm(tx, key, &answer, out);
             }
@@ -84,6 +87,7 @@ impl<R: Rows, J: Journal> Storage<R, J> {
         tx: TxId,
         key: &Key,
         image: &Option<Value>,
+        fragment: u8,
         chain: &Members,
         at: u8,
         out: &mut Outs,
@@ -117,7 +121,7 @@ impl<R: Rows, J: Journal> Storage<R, J> {
         }
         match self.rows.prepare_image(tx, key, image) {
             Ok(()) => {
-                journal_image(&mut self.journal, tx, key, image, had);
+                journal_image(&mut self.journal, tx, key, image, fragment, had);
                 out.mark(Mark::Prepared { tx, key: *key });
                 pass_on(tx, key, image, chain, at, out);
             }
@@ -169,11 +173,13 @@ const SPARED: u64 = 8;
 
 // Appends the record of a prepared image, in bytes that are kept free. Those for its end are kept
 // once, where the transaction had a prepared record already.
+#[tactic(auto, unfolding(sig_core::specs::Redo::size_of))]
 fn journal_image<J: Journal>(
     journal: &mut J,
     tx: TxId,
     key: &Key,
     image: &Option<Value>,
+    fragment: u8,
     had: Option<bool>,
 )
     requires { need_of tx key.now image.now ≤ (J.used_of journal.old).reserved }
@@ -181,7 +187,7 @@ fn journal_image<J: Journal>(
 {
     let prepare = Redo::Prepare {
         tx,
-        fragment: 0,
+        fragment,
         key: *key,
         image: *image,
     };

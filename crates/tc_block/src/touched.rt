@@ -33,7 +33,7 @@ impl Model for TouchedKeys {
 
     ghost Value = { List Touched };
 
-    ghost layout = { λ t. t.keys.items };
+    ghost view = { λ t. t.keys.items };
 
     ghost invariant = { λ t. length t.keys.items ≤ 64 };
 }

@@ -1,10 +1,11 @@
 //! Conversations of the rows of node 1, with the coordinator of that node and the rows of node 2.
 ghost use Rattle.std.specs.Prelude.{◌≡◌, []};
 
-use super::heard::{Heard, body_of, both};
+use super::heard::{Heard, body_of};
 use super::text::shown;
 use crate::{CountJournal, Lqh, MapRows};
-use sig_core::{Actor, HostId, Journal, Member, Members, Outs, Signal, View, rows_of};
+use frag_map::Layout;
+use sig_core::{Actor, HostId, Journal, Member, Outs, Shape, Signal, rows_of};
 use std::alloc::Global;
 use std::process::Abort;
 use std::test::Fail;
@@ -12,12 +13,12 @@ use std::test::Fail;
 /// The rows of a node, in memory.
 pub type Node = Lqh<MapRows, CountJournal>;
 
-fn view() -> View {
-    View {
-        number: 1,
-        full: both(),
-        starting: Members::new(),
-    }
+fn layout() -> Layout {
+    Layout::first(Shape {
+        nodes: 2,
+        replicas: 2,
+        fragments: 1,
+    })
 }
 
 /// The rows of node 1, over these.
@@ -25,7 +26,7 @@ fn view() -> View {
 pub fn node(alloc: Global, rows: MapRows, journal: CountJournal) -> Result<Node, Fail>
     requires { rows.rows.pending ≡ [] }
 {
-    Ok(Lqh::new(alloc, 1, view(), rows, journal)?)
+    Ok(Lqh::new(alloc, 1, layout(), rows, journal)?)
 }
 
 fn signal(heard: Heard) -> Result<Signal, Fail> {
@@ -35,7 +36,7 @@ fn signal(heard: Heard) -> Result<Signal, Fail> {
         to: rows_of(1),
         seq: 0,
         stamp: 0,
-        view: view(),
+        view: *layout().view(),
         body: body_of(heard)?,
     })
 }

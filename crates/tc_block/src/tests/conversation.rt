@@ -2,21 +2,19 @@
 use super::heard::{Heard, body_of};
 use super::text::shown;
 use crate::Tc;
-use sig_core::{Actor, BlockId, HostId, Member, Members, NoMemory, Outs, Place, Signal, View};
+use frag_map::Layout;
+use sig_core::{Actor, BlockId, HostId, Member, Members, NoMemory, Outs, Place, Shape, Signal};
 use std::alloc::Global;
 use std::process::Abort;
 use std::test::Fail;
 
-// Nodes 1 and 2, node 1 the older.
-fn both() -> View {
-    let mut full = Members::new();
-    full.push(Member { node: 1, start: 0 });
-    full.push(Member { node: 2, start: 0 });
-    View {
-        number: 1,
-        full,
-        starting: Members::new(),
-    }
+// Nodes 1 and 2 have the same rows, and node 1 is the primary of each.
+fn both() -> Layout {
+    Layout::first(Shape {
+        nodes: 2,
+        replicas: 2,
+        fragments: 1,
+    })
 }
 
 fn signal(heard: Heard) -> Result<Signal, Fail> {
@@ -29,7 +27,7 @@ fn signal(heard: Heard) -> Result<Signal, Fail> {
         },
         seq: 0,
         stamp: 0,
-        view: both(),
+        view: *both().view(),
         body: body_of(heard)?,
     })
 }
@@ -264,7 +262,7 @@ fn operations_go_along_the_installed_view(rt: HostRuntime) -> Result<(), Fail> {
     let alloc = rt.alloc();
     let mut tc = Tc::new(alloc, 1, 0, both())?;
     talk(&rt, alloc, &mut tc, &[(Heard::Begin, "api0 begun 1")])?;
-    let mut view = both();
+    let mut view = *both().view();
     view.number = 2;
     view.full = Members::new();
     view.full.push(Member { node: 2, start: 0 });

@@ -7,7 +7,7 @@ use Rattle.tc_block.proofs.sends.offer_keys.Given as goal
 -- what is left leads to the same as all did
 abbrev pub invariant-loop-t : goal.invariant-loop-t
 invariant-loop-t l = record {
-  left : all_offered (so_far l.part l.out) (flat_map (key_sends l.view l.tx l.phase) (drop l.t-index l.touched))
-      ≡ all_offered (so_far l.initial.part l.initial.out) (flat_map (key_sends l.view l.tx l.phase) l.touched);
+  left : all_offered (so_far l.part l.out) (flat_map (key_sends l.layout l.tx l.phase) (drop l.t-index l.touched))
+      ≡ all_offered (so_far l.initial.part l.initial.out) (flat_map (key_sends l.layout l.tx l.phase) l.touched);
   fits : length l.out.sends + l.part.room ≤ 15;
 }
