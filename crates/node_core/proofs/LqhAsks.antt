@@ -29,7 +29,7 @@ use Rattle.lqh_block.specs.Complete as complete
 use Rattle.lqh_block.specs.declared.request.Request.{Request}
 use Rattle.lqh_block.specs.Dump as dump
 use Rattle.lqh_block.specs.Expire as expire
-use Rattle.lqh_block.specs.Lqh.{lqh_row}
+use Rattle.lqh_block.specs.Lqh.{lqh_table}
 use Rattle.lqh_block.specs.Operate as operate
 use Rattle.lqh_block.specs.State.{LqhState, freed_lock, go_on_if, serve_granted, storage_of, with_lock, with_waiting}
 use Rattle.lqh_block.specs.Storage as storage
@@ -153,7 +153,7 @@ dump_asks : (s : LqhState) (at : ℕ) → AsksNothing (dump.dump_row s at)
 unfolding dump.dump_row
 dump_asks s at = refl
 
-pub lqh_asks : (s : LqhState) (body : Body) → AsksNothing (lqh_row s body)
+pub lqh_asks : (s : LqhState) (body : Body) → AsksNothing (lqh_table s body)
 lqh_asks s (Chain (LqhKeyReq tx what chain at)) = request_asks s (record { tx = tx; work = what; chain = chain; at = at })
 lqh_asks s (Host (Continue work.Granted at)) = granted_row_asks s
 lqh_asks s (Chain (Commit tx key epoch chain at)) = commit_asks s tx key epoch chain at
