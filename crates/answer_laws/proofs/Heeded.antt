@@ -12,7 +12,7 @@ use Rattle.tc_block.specs.declared.phase.Phase.TheVariants.{Open}
 use Rattle.tc_block.specs.declared.transaction.Transaction.{Transaction}
 use Rattle.world_core.specs.Machine.{after}
 use Rattle.world_core.specs.Start.{Start}
-use Rattle.commit_laws.proofs.Keys.{same_tx-self}
+use Rattle.sig_core.proofs.Keys.{same_tx-self}
 use Rattle.answer_laws.proofs.Ahead.{at_node, tx_at}
 use Rattle.answer_laws.proofs.ApiEntries.{IsEntryRight, is_commit_req, opened_at}
 use Rattle.answer_laws.proofs.Commits.{live_low}

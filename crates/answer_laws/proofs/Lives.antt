@@ -25,7 +25,7 @@ use Rattle.node_core.specs.Row.{node_row, row}
 use Rattle.tc_block.specs.State.{TcState}
 use Rattle.world_core.specs.Machine.{after, all_headed, counted as one_counted, headed, machine, sent_count, step_after}
 use Rattle.world_core.specs.Start.{Start, first_view}
-use Rattle.commit_laws.proofs.Keys.{same_tx-self}
+use Rattle.sig_core.proofs.Keys.{same_tx-self}
 use Rattle.answer_laws.proofs.LqhOps.{right_of, left_of}
 use Rattle.answer_laws.proofs.ApiHolds.{AreHeld, IsOrdered, log_holds}
 use Rattle.answer_laws.proofs.Begins.{given_past, node_told}

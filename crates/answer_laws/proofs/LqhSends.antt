@@ -5,7 +5,7 @@ use Rattle.sig_core.specs.declared.signal.Body.{Body}
 use Rattle.lqh_block.specs.declared.request.Request.{Request}
 use Rattle.lqh_block.specs.Lqh.{lqh_row}
 use Rattle.lqh_block.specs.State.{LqhState}
-use Rattle.commit_laws.proofs.EachLqh.{RequestSends, lqh_sends_each}
+use Rattle.lqh_block.proofs.EachLqh.{RequestSends, lqh_sends_each}
 use Rattle.answer_laws.proofs.SendKinds.{SendsOnly, is_lqh_kind, of_each}
 
 pub lqh_kinds : (s : LqhState) (body : Body) → SendsOnly is_lqh_kind (lqh_row s body)

@@ -28,7 +28,7 @@ use Rattle.tc_block.specs.Sends.{go_on_row}
 use Rattle.tc_block.specs.State.{TcState}
 use Rattle.tc_block.specs.Tc.{begin_if, begin_row, is_full, next_tx, pass_if, pass_row, tc_row}
 use Rattle.tc_block.specs.Turn.{Turn, going}
-use Rattle.commit_laws.proofs.Keys.{same_tx-self}
+use Rattle.sig_core.proofs.Keys.{same_tx-self}
 use Rattle.answer_laws.proofs.ApiBegins.{each_at, each_changed, each_less, in_middle}
 use Rattle.answer_laws.proofs.NodeOps.{absent_key}
 use Rattle.answer_laws.proofs.Tally.{one_if, tally, tally_between, tally_in}

@@ -18,7 +18,7 @@ use Rattle.tc_block.specs.Chain.{chain_of}
 use Rattle.tc_block.specs.Complete.{written_count}
 use Rattle.tc_block.specs.State.{TcState}
 use Rattle.tc_block.specs.Turn.{Turn}
-use Rattle.commit_laws.proofs.Keys.{same_tx-self}
+use Rattle.sig_core.proofs.Keys.{same_tx-self}
 use Rattle.answer_laws.proofs.PartKinds.{IsPartKind, parts_of}
 use Rattle.answer_laws.proofs.SendKinds.{is_keyless, of_kind}
 use Rattle.answer_laws.proofs.Tally.{one_if}

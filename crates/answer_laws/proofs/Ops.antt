@@ -33,7 +33,7 @@ use Rattle.tc_block.specs.declared.phase.Asked.{Asked}
 use Rattle.tc_block.specs.declared.transaction.Transaction.{Transaction}
 use Rattle.world_core.specs.Machine.{after, machine, step_after}
 use Rattle.world_core.specs.Start.{Start, first_view, members}
-use Rattle.commit_laws.proofs.Keys.{same_tx-self, same_key-self}
+use Rattle.sig_core.proofs.Keys.{same_tx-self, same_key-self}
 use Rattle.answer_laws.proofs.Ahead.{along}
 use Rattle.answer_laws.proofs.Begins.{given_past}
 use Rattle.answer_laws.proofs.Hosts.{node_after, same_node, shell_after}

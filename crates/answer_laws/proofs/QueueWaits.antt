@@ -20,9 +20,9 @@ use Rattle.row_locks.specs.Queues.{aged_all, raised, raised_if, wait_of, waits, 
 use Rattle.row_locks.specs.Rounds.{expired, expired_in, first_expired, found_at, found_if, is_expired}
 use Rattle.row_locks.specs.Rows.{Asked, RowLock, Served, asked, asked_anew, asked_by, is_quiet, released, served, served_if, unwaited}
 use Rattle.row_locks.specs.Tables.{Locks, lock_at, or_unlocked}
-use Rattle.row_locks.proofs.TxLemmas.{same_tx-is}
+use Rattle.sig_core.proofs.TxLemmas.{same_tx-is}
 use Rattle.lqh_block.proofs.IndexLemmas.{same as same_key-is}
-use Rattle.commit_laws.proofs.Keys.{same_key-self, tied-same_key, same_tx-self}
+use Rattle.sig_core.proofs.Keys.{same_key-self, tied-same_key, same_tx-self}
 
 or_true : (a : Bool) → (a || true) ≡ true
 or_true true = refl

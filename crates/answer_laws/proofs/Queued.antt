@@ -28,7 +28,7 @@ use Rattle.sig_core.specs.Same.{same_key, same_tx}
 use Rattle.tc_block.specs.declared.transaction.Transaction.{Transaction}
 use Rattle.world_core.specs.Machine.{after, machine}
 use Rattle.world_core.specs.Start.{Start, first_view}
-use Rattle.commit_laws.proofs.Keys.{same_key-self, same_tx-self}
+use Rattle.sig_core.proofs.Keys.{same_key-self, same_tx-self}
 use Rattle.answer_laws.proofs.Ahead.{AtNode, Goes, NextAt, NodeStep, along, at_node, few_taken, next_at, of_dih, of_lqh, of_none, of_tc, tx_at}
 use Rattle.answer_laws.proofs.Hosts.{same_node, shell_after}
 use Rattle.answer_laws.proofs.LinkCounts.{sent_signals, signals, taken_signals}

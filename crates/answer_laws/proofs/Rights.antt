@@ -16,7 +16,7 @@ use Rattle.tc_block.specs.State.{TcState}
 use Rattle.tc_block.specs.Turn.{Turn}
 use Rattle.world_core.specs.Machine.{after}
 use Rattle.world_core.specs.Start.{Start}
-use Rattle.commit_laws.specs.Phases.{is_decided}
+use Rattle.tc_block.specs.Phases.{is_decided}
 use Rattle.answer_laws.proofs.Ahead.{tx_at}
 use Rattle.answer_laws.proofs.Always.{always}
 use Rattle.answer_laws.proofs.TcOps.{is_right, may_ask}

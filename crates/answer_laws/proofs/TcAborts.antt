@@ -28,7 +28,7 @@ use Rattle.tc_block.specs.Part.{part_effects}
 use Rattle.tc_block.specs.Sends.{aborts_of, entering, front_sends, key_sends, phase_sends}
 use Rattle.tc_block.specs.State.{TcState}
 use Rattle.tc_block.specs.Turn.{Turn}
-use Rattle.commit_laws.proofs.Keys.{same_tx-self}
+use Rattle.sig_core.proofs.Keys.{same_tx-self}
 use Rattle.answer_laws.proofs.LqhOps.{is_good, is_lqh, is_node, left_of, right_of, true_and}
 use Rattle.answer_laws.proofs.Tally.{one_if}
 use Rattle.answer_laws.proofs.PartCounts.{IsPart, all_counted, is_cont, part_is}

@@ -18,7 +18,7 @@ use Rattle.tc_block.specs.declared.phase.Phase.TheVariants.{Committing}
 use Rattle.tc_block.specs.declared.touched.Touched.{Touched}
 use Rattle.tc_block.specs.Part.{part_effects}
 use Rattle.tc_block.specs.Sends.{commit_of, front_sends, key_sends, phase_sends}
-use Rattle.commit_laws.proofs.Keys.{same_tx-self}
+use Rattle.sig_core.proofs.Keys.{same_tx-self}
 use Rattle.answer_laws.proofs.LqhOps.{is_good, is_lqh, is_node, left_of, right_of, true_and}
 use Rattle.answer_laws.proofs.PartCounts.{IsPart, part_is}
 use Rattle.answer_laws.proofs.Wishes.{is_tc}

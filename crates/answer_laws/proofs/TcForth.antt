@@ -25,8 +25,8 @@ use Rattle.tc_block.specs.Part.{part_effects}
 use Rattle.tc_block.specs.Sends.{abort_of, entering, front_sends, key_sends, phase_sends}
 use Rattle.tc_block.specs.State.{TcState}
 use Rattle.tc_block.specs.Turn.{Turn}
-use Rattle.commit_laws.specs.Phases.{is_decided}
-use Rattle.commit_laws.proofs.Keys.{same_tx-self}
+use Rattle.tc_block.specs.Phases.{is_decided}
+use Rattle.sig_core.proofs.Keys.{same_tx-self}
 use Rattle.answer_laws.proofs.LqhForth.{is_back}
 use Rattle.answer_laws.proofs.LqhWaits.{hops, is_hop}
 use Rattle.answer_laws.proofs.PartKinds.{IsPartKind, entering_of, part_of, parts_of}

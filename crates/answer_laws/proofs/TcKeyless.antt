@@ -19,7 +19,8 @@ use Rattle.tc_block.specs.Complete as complete
 use Rattle.tc_block.specs.Operate as operate
 use Rattle.tc_block.specs.Sends.{abort_of, go_on_row}
 use Rattle.tc_block.specs.Turn.{Turn}
-use Rattle.commit_laws.proofs.EachTurn.{RowsAre, no_view}
+use Rattle.frag_map.specs.Layout.{nowhere}
+use Rattle.tc_block.proofs.EachTurn.{RowsAre}
 use Rattle.answer_laws.proofs.SendKinds.{SendsOnly, is_keyless, of_map}
 use Rattle.answer_laws.proofs.TurnKinds.{OwnKinds, own_kinds}
 
@@ -58,10 +59,10 @@ pub operate_keyless : (view : View) (tx : TxId) (t : Transaction) (op : Op) → 
 operate_keyless view tx t op = (turn_keyless 0 view tx t (Client (TcKeyReq tx op)) refl).operates op refl
 
 pub wait_keyless : (tx : TxId) (t : Transaction) → SendsOnly is_keyless (operate.wait_row tx t)
-wait_keyless tx t = (turn_keyless 0 no_view tx t (Client (TcWaitReq tx)) refl).waits refl
+wait_keyless tx t = (turn_keyless 0 nowhere tx t (Client (TcWaitReq tx)) refl).waits refl
 
 pub decide_keyless : (node : ℕ) (tx : TxId) (t : Transaction) → SendsOnly is_keyless (commit.decide_row node tx t)
-decide_keyless node tx t = (turn_keyless node no_view tx t (Client (TcCommitReq tx)) refl).decides refl
+decide_keyless node tx t = (turn_keyless node nowhere tx t (Client (TcCommitReq tx)) refl).decides refl
 
 pub commit_keyless : (node : ℕ) (view : View) (tx : TxId) (t : Transaction) (epoch : ℕ) → TurnKeyless (commit.commit_row node view tx t epoch)
 commit_keyless node view tx t epoch = (turn_keyless node view tx t (Epoch (DiVerifyConf tx epoch)) refl).commits epoch refl
@@ -70,7 +71,7 @@ pub committed_keyless : (node : ℕ) (view : View) (tx : TxId) (t : Transaction)
 committed_keyless node view tx t = (turn_keyless node view tx t (Chain (Committed tx [])) refl).committed [] refl
 
 pub completed_keyless : (node : ℕ) (tx : TxId) (t : Transaction) → TurnKeyless (complete.completed_row node tx t)
-completed_keyless node tx t = (turn_keyless node no_view tx t (Chain (Completed tx [])) refl).completed [] refl
+completed_keyless node tx t = (turn_keyless node nowhere tx t (Chain (Completed tx [])) refl).completed [] refl
 
 pub refuse_keyless : (node : ℕ) (view : View) (tx : TxId) (t : Transaction) (key : List ℕ) (why : AbortCause) → TurnKeyless (abort.refuse_row node view tx t key why)
 refuse_keyless node view tx t key why = (turn_keyless node view tx t (Chain (LqhKeyRef tx key why)) refl).refuses key why refl
@@ -79,4 +80,4 @@ pub rollback_keyless : (node : ℕ) (view : View) (tx : TxId) (t : Transaction) 
 rollback_keyless node view tx t = (turn_keyless node view tx t (Client (TcRollbackReq tx)) refl).rolls_back refl
 
 pub aborted_keyless : (node : ℕ) (tx : TxId) (t : Transaction) → TurnKeyless (abort.aborted_row node tx t)
-aborted_keyless node tx t = (turn_keyless node no_view tx t (Chain (Aborted tx [])) refl).aborted [] refl
+aborted_keyless node tx t = (turn_keyless node nowhere tx t (Chain (Aborted tx [])) refl).aborted [] refl

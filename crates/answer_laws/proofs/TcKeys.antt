@@ -34,8 +34,8 @@ use Rattle.tc_block.specs.Sends.{entering, go_on_row}
 use Rattle.tc_block.specs.State.{TcState}
 use Rattle.tc_block.specs.Tc.{begin_if, begin_row, is_full, next_tx, pass_if, pass_row, tc_row}
 use Rattle.tc_block.specs.Turn.{Turn, asking, going}
-use Rattle.commit_laws.proofs.Keys.{same_tx-self}
-use Rattle.commit_laws.proofs.EachTurn.{AbortForms, CommittedForms, RowsAre, rows_of}
+use Rattle.sig_core.proofs.Keys.{same_tx-self}
+use Rattle.tc_block.proofs.EachTurn.{AbortForms, CommittedForms, RowsAre, rows_of}
 use Rattle.answer_laws.proofs.SendKinds.{SendsOnly, are_of, is_keyless, is_tc_kind, none_of}
 use Rattle.answer_laws.proofs.Tally.{one_if, tally, tally_between}
 use Rattle.answer_laws.proofs.TcKeyless as keyless

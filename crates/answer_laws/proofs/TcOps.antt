@@ -23,7 +23,7 @@ use Rattle.tc_block.specs.Complete as complete
 use Rattle.tc_block.specs.Operate as operate
 use Rattle.tc_block.specs.Sends.{entering, go_on_if, go_on_row}
 use Rattle.tc_block.specs.Turn.{Turn, asking, going}
-use Rattle.commit_laws.proofs.Keys.{same_tx-self}
+use Rattle.sig_core.proofs.Keys.{same_tx-self}
 use Rattle.answer_laws.proofs.LqhOps.{is_good, is_node, left_of, ops, true_and}
 use Rattle.answer_laws.proofs.Tally.{one_if}
 

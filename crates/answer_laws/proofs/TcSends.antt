@@ -26,8 +26,9 @@ use Rattle.tc_block.specs.Sends.{go_on_row}
 use Rattle.tc_block.specs.State.{TcState}
 use Rattle.tc_block.specs.Tc.{pass_if, pass_row, tc_row}
 use Rattle.tc_block.specs.Turn.{Turn}
-use Rattle.commit_laws.proofs.Keys.{same_tx-self}
-use Rattle.commit_laws.proofs.EachTurn.{RowsAre, no_view}
+use Rattle.sig_core.proofs.Keys.{same_tx-self}
+use Rattle.frag_map.specs.Layout.{nowhere}
+use Rattle.tc_block.proofs.EachTurn.{RowsAre}
 use Rattle.answer_laws.proofs.SendKinds.{SendsOnly, is_begin_wish, is_tc_kind}
 use Rattle.answer_laws.proofs.TurnKinds.{OwnKinds, own_kinds}
 
@@ -81,10 +82,10 @@ pub answer_kinds : (view : View) (tx : TxId) (t : Transaction) (key : List ℕ) 
 answer_kinds view tx t key answer = (turn_sends 0 view tx t (Chain (LqhKeyConf tx key answer))).answers key answer refl
 
 pub wait_kinds : (tx : TxId) (t : Transaction) → SendsOnly (is_tc_kind tx) (operate.wait_row tx t)
-wait_kinds tx t = (turn_sends 0 no_view tx t (Client (TcWaitReq tx))).waits refl
+wait_kinds tx t = (turn_sends 0 nowhere tx t (Client (TcWaitReq tx))).waits refl
 
 pub decide_kinds : (node : ℕ) (tx : TxId) (t : Transaction) → SendsOnly (is_tc_kind tx) (commit.decide_row node tx t)
-decide_kinds node tx t = (turn_sends node no_view tx t (Client (TcCommitReq tx))).decides refl
+decide_kinds node tx t = (turn_sends node nowhere tx t (Client (TcCommitReq tx))).decides refl
 
 pub commit_kinds : (node : ℕ) (view : View) (tx : TxId) (t : Transaction) (epoch : ℕ) → TurnSends tx (commit.commit_row node view tx t epoch)
 commit_kinds node view tx t epoch = (turn_sends node view tx t (Epoch (DiVerifyConf tx epoch))).commits epoch refl
@@ -93,7 +94,7 @@ pub committed_kinds : (node : ℕ) (view : View) (tx : TxId) (t : Transaction) �
 committed_kinds node view tx t = (turn_sends node view tx t (Chain (Committed tx []))).committed [] refl
 
 pub completed_kinds : (node : ℕ) (tx : TxId) (t : Transaction) → TurnSends tx (complete.completed_row node tx t)
-completed_kinds node tx t = (turn_sends node no_view tx t (Chain (Completed tx []))).completed [] refl
+completed_kinds node tx t = (turn_sends node nowhere tx t (Chain (Completed tx []))).completed [] refl
 
 pub refuse_kinds : (node : ℕ) (view : View) (tx : TxId) (t : Transaction) (key : List ℕ) (why : AbortCause) → TurnSends tx (abort.refuse_row node view tx t key why)
 refuse_kinds node view tx t key why = (turn_sends node view tx t (Chain (LqhKeyRef tx key why))).refuses key why refl
@@ -102,7 +103,7 @@ pub rollback_kinds : (node : ℕ) (view : View) (tx : TxId) (t : Transaction) �
 rollback_kinds node view tx t = (turn_sends node view tx t (Client (TcRollbackReq tx))).rolls_back refl
 
 pub aborted_kinds : (node : ℕ) (tx : TxId) (t : Transaction) → TurnSends tx (abort.aborted_row node tx t)
-aborted_kinds node tx t = (turn_sends node no_view tx t (Chain (Aborted tx []))).aborted [] refl
+aborted_kinds node tx t = (turn_sends node nowhere tx t (Chain (Aborted tx []))).aborted [] refl
 
 pass_kinds_if : (s : TcState) (tx ahead : TxId) (b : Bool) → SendsOnly (is_tc_kind tx) (pass_if s tx ahead b)
 pass_kinds_if s tx ahead true = refl

@@ -21,7 +21,7 @@ use Rattle.tc_block.specs.declared.phase.Phase.TheVariants.{Open, Verifying, Com
 use Rattle.tc_block.specs.declared.transaction.Transaction.{Transaction}
 use Rattle.tc_block.specs.Sends.{entering, front_sends, reported, verify_end, wait_of}
 use Rattle.tc_block.specs.Turn.{Turn, asking}
-use Rattle.commit_laws.proofs.EachTurn.{AbortForms, CommittedForms, RowsAre, TurnForms, rows_of}
+use Rattle.tc_block.proofs.EachTurn.{AbortForms, CommittedForms, RowsAre, TurnForms, rows_of}
 use Rattle.answer_laws.proofs.PhaseSends.{HasChains, aborts_of_kind, entering_of_kind, rest_of_kind}
 use Rattle.answer_laws.proofs.SendKinds.{SendsOnly, are_of, of_each, of_map, one_kind}
 

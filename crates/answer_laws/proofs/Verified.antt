@@ -28,7 +28,7 @@ use Rattle.tc_block.specs.Tc.{tc_row}
 use Rattle.tc_block.specs.Turn.{Turn}
 use Rattle.world_core.specs.Machine.{after, machine}
 use Rattle.world_core.specs.Start.{Start}
-use Rattle.commit_laws.proofs.Keys.{same_tx-self}
+use Rattle.sig_core.proofs.Keys.{same_tx-self}
 use Rattle.answer_laws.proofs.Ahead.{along, at_node, AtNode, few_taken, first_none, Goes, is_dih, next_at, NextAt, no_transaction, NodeStep, of_dih, of_lqh, of_none, of_tc, the_transaction, tx_at}
 use Rattle.answer_laws.proofs.DihSends.{dih_kinds}
 use Rattle.answer_laws.proofs.EpochCounts.{AreFew, is_epochless}

@@ -59,7 +59,7 @@ use Rattle.command_laws.proofs.TellsSince.{OnTc}
 use Rattle.command_laws.proofs.Tests.{and_off, none_at}
 use Rattle.command_laws.proofs.WaitRows.{in_live}
 use Rattle.command_laws.specs.Aborts.{ReadyAbortsAreAnswered}
-use Rattle.commit_laws.proofs.Keys.{same_tx-self}
+use Rattle.sig_core.proofs.Keys.{same_tx-self}
 use Rattle.command_laws.specs.Served.{IsServed, named_in, replies_since}
 
 -- an end that isn't wrong is an abort at the client's request

@@ -29,7 +29,7 @@ use Rattle.answer_laws.specs.Answered.{opened_in}
 use Rattle.command_laws.proofs.AbortSteps.{is_more_to, is_roll_to}
 use Rattle.command_laws.proofs.Entries.{HasOne, IsNamed, named_found}
 use Rattle.command_laws.proofs.OperateAsks.{AreNamed}
-use Rattle.commit_laws.proofs.Keys.{same_tx-self}
+use Rattle.sig_core.proofs.Keys.{same_tx-self}
 use Rattle.command_laws.specs.Served.{named_in}
 
 -- the row where the name is found

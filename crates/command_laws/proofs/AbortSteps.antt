@@ -45,7 +45,7 @@ use Rattle.command_laws.proofs.AbortTurns.{StaysLoose, is_loose, is_mild, is_mor
 use Rattle.command_laws.proofs.Since.{sent_since}
 use Rattle.command_laws.proofs.TcPath.{IsSound, TcGoes, Took, aside, begins, is_told, left_by, none_there, takes, tc_goes, told_of, took}
 use Rattle.command_laws.proofs.TellsSince.{OnTc, not_home, sound_at}
-use Rattle.commit_laws.proofs.Keys.{same_tx-self}
+use Rattle.sig_core.proofs.Keys.{same_tx-self}
 use Rattle.command_laws.proofs.Turns.{IsMissing, TakesTurn, turn_by, turn_takes}
 
 -- an operation of the transaction, or the wish for its commit

@@ -28,7 +28,7 @@ use Rattle.command_laws.proofs.TcPath.{IsSound, TcGoes, aside, begins, is_told, 
 use Rattle.command_laws.proofs.TellsOnce.{live_early}
 use Rattle.command_laws.proofs.TellsSince.{not_home}
 use Rattle.command_laws.proofs.Turns.{turn_by}
-use Rattle.commit_laws.proofs.Keys.{same_tx-self}
+use Rattle.sig_core.proofs.Keys.{same_tx-self}
 use Rattle.command_laws.specs.Served.{is_refusal}
 
 -- an abort of the transaction, or a refusal for another cause

@@ -36,7 +36,7 @@ use Rattle.command_laws.proofs.Since.{none_taken, sent_since}
 use Rattle.command_laws.proofs.TellsSince.{OnTc}
 use Rattle.command_laws.proofs.Told.{told_since}
 use Rattle.command_laws.proofs.Tests.{and_off, none_at}
-use Rattle.commit_laws.proofs.Keys.{same_tx-self}
+use Rattle.sig_core.proofs.Keys.{same_tx-self}
 use Rattle.command_laws.specs.Served.{IsServed, is_refusal, replies_since}
 
 request_plain_wish : (tx : TxId) (to : Place) (body : Body) → is_request body ≡ true → is_wish_to tx to body ≡ false

@@ -15,7 +15,7 @@ use Rattle.tc_block.specs.declared.transaction.Transaction.{Transaction}
 use Rattle.tc_block.specs.Sends.{entering, front_sends, wait_of}
 use Rattle.tc_block.specs.State.{TcState}
 use Rattle.tc_block.specs.Turn.{Turn, going}
-use Rattle.commit_laws.proofs.EachTurn.{CommittedForms, TurnForms}
+use Rattle.tc_block.proofs.EachTurn.{CommittedForms, TurnForms}
 use Rattle.answer_laws.proofs.SendKinds.{are_of, of_map}
 use Rattle.answer_laws.proofs.TcSends.{tx_in}
 use Rattle.answer_laws.proofs.PhaseSends.{HasChains, entering_of_kind, rest_of_kind}

@@ -20,7 +20,7 @@ use Rattle.answer_laws.proofs.TcLives.{IsOwn, is_keyed}
 use Rattle.answer_laws.proofs.TcMoves.{same_tx-is}
 use Rattle.answer_laws.specs.Answered.{IsOpen, IsOpenAt}
 use Rattle.command_laws.proofs.Firm.{is_firm}
-use Rattle.commit_laws.proofs.Keys.{same_tx-self}
+use Rattle.sig_core.proofs.Keys.{same_tx-self}
 use Rattle.command_laws.proofs.FirmHosts.{FirmHost}
 
 module _ (start : Start) (tx : TxId) where

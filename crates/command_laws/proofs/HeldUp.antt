@@ -36,7 +36,7 @@ use Rattle.answer_laws.proofs.Tally.{one_if, only_one, tally_in}
 use Rattle.answer_laws.proofs.Totals.{total, total_at}
 use Rattle.answer_laws.proofs.Verified.{no_epoch}
 use Rattle.answer_laws.specs.Answered.{AreQuiet, IsLiveAs, IsQueuedAt, IsServed, IsWaitingAt, Waits, WaitsForLock, opened_after}
-use Rattle.commit_laws.specs.Ways.{is_aborting}
+use Rattle.tc_block.specs.Phases.{is_aborting}
 use Rattle.transit_laws.proofs.OneAtATime.{one_at_a_time}
 use Rattle.transit_laws.proofs.Routes.{signals_are_routed}
 use Rattle.transit_laws.proofs.TransitRuns.{runs_have_transit}
@@ -45,7 +45,7 @@ use Rattle.transit_laws.specs.Live.{live_at}
 use Rattle.transit_laws.specs.Routes.{IsAskedRouted, IsHostRouted, IsRequestRouted, IsTransactionRouted, replicas}
 use Rattle.transit_laws.specs.Tokens.{budget_by, waiting_all, waiting_in}
 use Rattle.transit_laws.specs.Transit.{IsRun, logs_of}
-use Rattle.commit_laws.proofs.Keys.{same_tx-self}
+use Rattle.sig_core.proofs.Keys.{same_tx-self}
 use Rattle.command_laws.specs.Served.{EachIsHeldUp, IsHeldUp, IsHeldUpAt}
 
 -- two of them are no more than all

@@ -33,7 +33,7 @@ use Rattle.api_block.specs.Operate.{answer_by, answer_row, begun_by, begun_row, 
 use Rattle.api_block.specs.Outcome.{abort_report_row, acknowledging, commit_report_row, ending, over, refuse_row, unknown}
 use Rattle.api_block.specs.State.{ApiState, changing, refused}
 use Rattle.api_block.specs.Wait.{behind_row, name_of, pending_by, pending_if, pending_row, waits_if, waits_row}
-use Rattle.commit_laws.proofs.EachSent.{each_mapped}
+use Rattle.run_theory.proofs.EachSent.{each_mapped}
 use Rattle.command_laws.proofs.LivingTurns.{is_sound}
 use Rattle.command_laws.specs.Living.{is_living, is_of_living}
 

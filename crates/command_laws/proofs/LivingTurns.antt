@@ -24,9 +24,9 @@ use Rattle.tc_block.specs.Sends.{abort_of, entering, front_sends, go_on_if, wait
 use Rattle.tc_block.specs.State.{TcState}
 use Rattle.tc_block.specs.Tc.{tc_row}
 use Rattle.tc_block.specs.Turn.{Turn, asking, going}
-use Rattle.commit_laws.proofs.EachSent.{each_mapped}
-use Rattle.commit_laws.proofs.EachTurn.{AbortForms, CommittedForms, TurnForms}
-use Rattle.commit_laws.proofs.LiveKeeps.{LiveKeeps, TurnKeeps, live_each}
+use Rattle.run_theory.proofs.EachSent.{each_mapped}
+use Rattle.tc_block.proofs.EachTurn.{AbortForms, CommittedForms, TurnForms}
+use Rattle.tc_block.proofs.LiveKeeps.{LiveKeeps, TurnKeeps, live_each}
 use Rattle.answer_laws.proofs.SendKinds.{each_of, of_each, are_of}
 use Rattle.answer_laws.proofs.PhaseSends.{HasChains, entering_of_kind, rest_of_kind}
 use Rattle.command_laws.specs.Living.{is_living}

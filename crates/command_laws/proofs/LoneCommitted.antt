@@ -53,7 +53,7 @@ use Rattle.command_laws.proofs.TellsOnce.{HasTold, IsOneOfThree, is_wish_back_to
 use Rattle.command_laws.proofs.TellsSince.{OnTc, away_since, shell_since, since_none, tells_since}
 use Rattle.command_laws.proofs.TurnTells.{is_reply}
 use Rattle.command_laws.proofs.Tests.{and_off, none_at}
-use Rattle.commit_laws.proofs.Keys.{same_tx-self}
+use Rattle.sig_core.proofs.Keys.{same_tx-self}
 use Rattle.command_laws.specs.Served.{IsAnsweredAlone, IsCommittedAlone, IsServed, LoneAreCommitted}
 
 -- signals that one host alone sent were taken from that host

@@ -10,7 +10,7 @@ use Rattle.sig_core.specs.Same.{same_tx}
 use Rattle.lqh_block.specs.declared.request.Request.{Request}
 use Rattle.lqh_block.specs.Lqh.{lqh_row}
 use Rattle.lqh_block.specs.State.{LqhState}
-use Rattle.commit_laws.proofs.EachLqh.{RequestSends, lqh_sends_each}
+use Rattle.lqh_block.proofs.EachLqh.{RequestSends, lqh_sends_each}
 use Rattle.answer_laws.proofs.SendKinds.{SendsOnly, of_each}
 use Rattle.command_laws.specs.Served.{is_refusal}
 

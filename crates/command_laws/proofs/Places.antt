@@ -2,7 +2,7 @@
 use Rattle.std.proofs.Common.{◌≡◌, ℕ, suc, Bool, true, false, List, [], ◌∷◌, ◌++◌, length, refl, sym, ap, ◌∙◌, arith}
 use Rattle.std.specs.Prelude.{Option, None, Some, position, slice_get, slice_set}
 use Rattle.answer_laws.proofs.Tally.{one_if, tally}
-use Rattle.commit_laws.proofs.Firsts.{place_by, position-cons}
+use Rattle.sig_core.proofs.Firsts.{place_by, position-cons}
 
 module _ {X : Type 0} where
   -- none of the front passes

@@ -26,7 +26,7 @@ use Rattle.command_laws.proofs.ApiChanges.{outcome_in}
 use Rattle.command_laws.proofs.CommitGoes.{HasEnded}
 use Rattle.command_laws.proofs.FirmHosts.{back_of}
 use Rattle.command_laws.proofs.Told.{told_since}
-use Rattle.commit_laws.proofs.Keys.{same_tx-self}
+use Rattle.sig_core.proofs.Keys.{same_tx-self}
 use Rattle.command_laws.specs.Served.{IsMarked, replies_since}
 
 abbrev pub OutcomeOf : Type 0

@@ -27,7 +27,7 @@ use Rattle.answer_laws.proofs.TcSends.{tx_in}
 use Rattle.answer_laws.proofs.Wishes.{sends_of}
 use Rattle.transit_laws.specs.Live.{of_live}
 use Rattle.command_laws.proofs.OwnSends.{is_own_kind, turn_own}
-use Rattle.commit_laws.proofs.Keys.{same_tx-self}
+use Rattle.sig_core.proofs.Keys.{same_tx-self}
 use Rattle.command_laws.proofs.Turns.{TakesTurn, TcShape, is_idle_kind, starts, still, tc_shape, turn_by, turns}
 
 -- what the coordinator tells the client of the transaction, once it has begun, and replicas of its abort

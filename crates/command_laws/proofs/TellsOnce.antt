@@ -34,7 +34,7 @@ use Rattle.command_laws.proofs.Firm.{firm_turn, is_firm, is_no_abort}
 use Rattle.command_laws.proofs.FirmHosts.{is_back, no_back_firm, not_push, push_of}
 use Rattle.command_laws.proofs.TcPath.{IsSound, TcGoes, aside, begins, is_told, left_by, none_dih, none_lqh, takes, tc_goes, told_of}
 use Rattle.command_laws.proofs.Turns.{turn_by}
-use Rattle.commit_laws.proofs.Keys.{same_tx-self}
+use Rattle.sig_core.proofs.Keys.{same_tx-self}
 use Rattle.command_laws.proofs.TurnTells.{TurnTells, is_reply, turn_tells}
 
 -- where one test implies another, fewer signals pass it

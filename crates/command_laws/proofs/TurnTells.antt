@@ -18,7 +18,7 @@ use Rattle.tc_block.specs.Operate as operate
 use Rattle.tc_block.specs.Sends.{entering, front_sends, go_on_if, wait_of}
 use Rattle.tc_block.specs.State.{TcState}
 use Rattle.tc_block.specs.Turn.{Turn, asking, going}
-use Rattle.commit_laws.proofs.EachTurn.{AbortForms, CommittedForms, TurnForms}
+use Rattle.tc_block.proofs.EachTurn.{AbortForms, CommittedForms, TurnForms}
 use Rattle.answer_laws.proofs.SendKinds.{are_of, is_keyless, none_of, of_map}
 use Rattle.answer_laws.proofs.TcKeyless as keyless
 use Rattle.answer_laws.proofs.TcSends.{tx_in}

@@ -26,7 +26,7 @@ use Rattle.tc_block.specs.Sends.{go_on_row}
 use Rattle.tc_block.specs.State.{TcState, with_live}
 use Rattle.tc_block.specs.Tc.{begin_if, begin_row, begun, is_full, next_tx, pass_if, pass_row, tc_row}
 use Rattle.tc_block.specs.Turn.{Turn, going}
-use Rattle.commit_laws.proofs.EachTurn.{RowsAre, TurnForms, rows_of}
+use Rattle.tc_block.proofs.EachTurn.{RowsAre, TurnForms, rows_of}
 use Rattle.answer_laws.proofs.SendKinds.{are_of}
 use Rattle.answer_laws.proofs.TcMoves.{IsEntry, found, same_tx-is}
 use Rattle.answer_laws.proofs.TcSends.{tx_in}

@@ -29,7 +29,7 @@ use Rattle.answer_laws.proofs.LqhOps.{true_and}
 use Rattle.answer_laws.proofs.Tally.{one_if, tally}
 use Rattle.answer_laws.proofs.TcMoves.{same_tx-is}
 use Rattle.answer_laws.proofs.TcSends.{eqb-self}
-use Rattle.commit_laws.proofs.Keys.{same_tx-self}
+use Rattle.sig_core.proofs.Keys.{same_tx-self}
 use Rattle.answer_laws.proofs.Wishes.{is_api, sends_of, to_node}
 use Rattle.answer_laws.specs.Answered.{opened_in}
 use Rattle.command_laws.proofs.Places.{IsFirstOf, first_there, split_get, split_position, split_set}

@@ -17,7 +17,7 @@ use Rattle.sig_core.specs.declared.signal.client.ClientSignal.TheVariants.{LqhWa
 use Rattle.sig_core.specs.Op.{key_of}
 use Rattle.sig_core.specs.Same.{same_key, same_tx}
 use Rattle.sig_core.specs.Step.{Step}
-use Rattle.row_locks.proofs.TxLemmas.{same_tx-swap}
+use Rattle.sig_core.proofs.TxLemmas.{same_tx-swap}
 use Rattle.row_locks.specs.Tables.{ahead_at}
 use Rattle.lqh_block.specs.Lqh.{lqh_row}
 use Rattle.lqh_block.specs.State.{LqhState}
@@ -39,9 +39,9 @@ use Rattle.answer_laws.proofs.TcLives.{is_keyed}
 use Rattle.answer_laws.proofs.TcMoves.{same_tx-is}
 use Rattle.answer_laws.proofs.TcSends.{eqb-self}
 use Rattle.answer_laws.proofs.Wishes.{is_api, is_tc, sends_of, to_node}
-use Rattle.commit_laws.proofs.Firsts.{place_by, position-cons}
-use Rattle.commit_laws.proofs.Keys.{same_key-self, same_tx-self}
-use Rattle.commit_laws.proofs.LiveSplit.{split_at}
+use Rattle.sig_core.proofs.Firsts.{place_by, position-cons}
+use Rattle.sig_core.proofs.Keys.{same_key-self, same_tx-self}
+use Rattle.tc_block.proofs.LiveSplit.{split_at}
 use Rattle.transit_laws.specs.Live.{of_live}
 
 -- a question of what the transaction waits for, or an answer to one

@@ -29,7 +29,7 @@ use Rattle.commit_laws.proofs.Replicas.{logs_keep_well}
 use Rattle.commit_laws.specs.ReplicaLaws.{IsWellHost}
 use Rattle.answer_laws.proofs.ApiBegins.{in_middle}
 use Rattle.answer_laws.proofs.Hosts.{IsNode, node_after}
-use Rattle.commit_laws.proofs.Keys.{same_tx-self}
+use Rattle.sig_core.proofs.Keys.{same_tx-self}
 use Rattle.answer_laws.proofs.Wishes.{is_api, is_tc, sends_of}
 use Rattle.answer_laws.specs.Answered.{AreQuiet}
 use Rattle.command_laws.proofs.Since.{front_nil, sent_since}

@@ -4,7 +4,7 @@ use Rattle.sig_core.specs.declared.mark.Mark.{Mark}
 use Rattle.sig_core.specs.declared.signal.Body.{Body}
 use Rattle.api_block.specs.Api.{api_row}
 use Rattle.api_block.specs.State.{ApiState}
-use Rattle.commit_laws.proofs.EachApi.{api_marks_each}
+use Rattle.api_block.proofs.EachApi.{api_marks_each}
 use Rattle.commit_laws.proofs.PlainMarks.{HasPlainMarks, is_plain}
 
 pub api_marks : (s : ApiState) (body : Body) → HasPlainMarks (api_row s body)

@@ -15,7 +15,7 @@ use Rattle.api_block.specs.declared.opened.OpenTransaction.{OpenTransaction}
 use Rattle.api_block.specs.State.{ApiState}
 use Rattle.commit_laws.specs.Kinds.{Kind, kind_of}
 use Rattle.commit_laws.specs.Kinds as kind
-use Rattle.commit_laws.proofs.EachApi.{ApiEach, api_each}
+use Rattle.api_block.proofs.EachApi.{ApiEach, api_each}
 
 module _ (T : TxId → Type 0) where
   -- the transaction, once it is known, was told to have begun

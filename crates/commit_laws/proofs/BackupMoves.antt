@@ -12,13 +12,13 @@ use Rattle.sig_core.specs.Same.{same_tx}
 use Rattle.row_locks.specs.declared.claim.Holder.{Holder}
 use Rattle.row_locks.specs.declared.mode.Mode.TheVariants.{Exclusive}
 use Rattle.row_locks.specs.Holders.{holds_enough}
-use Rattle.row_locks.proofs.TxLemmas.{same_tx-is, same_tx-swap}
+use Rattle.sig_core.proofs.TxLemmas.{same_tx-is, same_tx-swap}
 use Rattle.commit_laws.specs.Backup.{Backup, HasImage, IsLedUnlessSpoilt, IsSound, committed_at, is_spoilt, kept_of}
 use Rattle.commit_laws.specs.BackupLaws.{AbortsMove, CommitsMove, CompletionsMove, DecisionsMove, GrantsMove, ImagesMove, Moves, UnkeptDecisionsMove}
 use Rattle.commit_laws.specs.Primary.{HoldOn, ended_too}
 use Rattle.commit_laws.specs.Records.{AreOnce, as_committed, committed_row, edited, found, if_committed, kept_row, put_back, unless_committed}
 use Rattle.commit_laws.proofs.Holding.{holds_so, only_holder}
-use Rattle.commit_laws.proofs.Keys.{same_tx-self}
+use Rattle.sig_core.proofs.Keys.{same_tx-self}
 use Rattle.commit_laws.proofs.PrimaryValue.{all_committed}
 use Rattle.commit_laws.proofs.RecordLemmas.{KeepsTx, OnlyOf, committed_keeps, each-edited, each-stored, each_apart, each_both, each_found, if_keeps, if_same, kept_row-aborted, kept_row-committed, kept_row-completed, kept_row-one, kept_row-others, kept_row-stored, none_first, once-edited, once-stored, unless_keeps, unless_same}
 

@@ -13,18 +13,18 @@ use Rattle.row_locks.specs.Holders.{holds_enough}
 use Rattle.row_locks.specs.Queues.{waits}
 use Rattle.row_locks.specs.Rows.{RowLock, asked, grown_old, released, unwaited}
 use Rattle.row_locks.proofs.OrderlyLemmas.{asked_orderly, grown_old_orderly, released_orderly, unwaited_orderly}
-use Rattle.row_locks.proofs.TxLemmas.{same_tx-swap}
+use Rattle.sig_core.proofs.TxLemmas.{same_tx-swap}
 use Rattle.lqh_block.specs.declared.request.Request.{Request}
 use Rattle.lqh_block.specs.Work.{work_mode}
 use Rattle.commit_laws.specs.Backup.{Backup, IsSound}
 use Rattle.commit_laws.specs.BackupEvents.{FairEventsKeepAt, IsFairAt, IsImage, IsInOrderAt, IsOfImage, KeepsAt, backup_of}
 use Rattle.commit_laws.specs.BackupLaws.{Moves}
-use Rattle.commit_laws.specs.Firsts.{drop_first, first}
+use Rattle.sig_core.specs.Firsts.{drop_first, first}
 use Rattle.commit_laws.specs.LockLaws.{is_attended}
 use Rattle.commit_laws.specs.PrimaryEvents.{NoneOf}
 use Rattle.commit_laws.specs.Replica.{Cell, Replica, aborts, ageing, ages, asked_by, asks, commits, completes, expires, expiring, is_by, is_let_in, key_after, rests, served_by, serves, worked}
 use Rattle.commit_laws.proofs.BackupMoves.{aborts_move, commits_move, completions_move, grants_move, images_move}
-use Rattle.commit_laws.proofs.Firsts.{first_passes}
+use Rattle.sig_core.proofs.Firsts.{first_passes}
 use Rattle.commit_laws.proofs.LockHolding.{expiries_hold_on, grants_hold, releases_hold_on, requests_hold_on}
 use Rattle.commit_laws.proofs.LockWaiting.{attended_hold, expiries_attend, queued_wait, releases_attend, requests_attend, rounds_attend}
 use Rattle.commit_laws.proofs.Waiting.{alone-drop_first, alone-end, each-drop_first, each-first_item, none-dropped}

@@ -12,12 +12,12 @@ use Rattle.sig_core.specs.Rows as rows
 use Rattle.sig_core.specs.Rows.{RowsState, abort_record, commit_by, commit_if, commit_record, complete_record, drop_if, dropping, freed, get_at, is_as, is_full, is_idle, is_of, is_on, record_at, record_of, row_of, seen, set_row, with_place}
 use Rattle.sig_core.specs.Same.{same_key, same_tx}
 use Rattle.lqh_block.proofs.IndexLemmas.{same}
-use Rattle.commit_laws.specs.Firsts.{first}
+use Rattle.sig_core.specs.Firsts.{first}
 use Rattle.commit_laws.specs.Placed.{AreApart, IsPlaced, has_place}
 use Rattle.commit_laws.specs.Records.{as_committed, committed_row, edited, if_committed, put_back, unless_committed}
 use Rattle.commit_laws.specs.Replica.{Cell, aborting, cell_at, committing, completing, storing}
-use Rattle.commit_laws.proofs.Firsts.{drop_by, first-drop, first-get, first-set, get_by, set_by}
-use Rattle.commit_laws.proofs.Keys.{same_key-swap}
+use Rattle.sig_core.proofs.Firsts.{drop_by, first-drop, first-get, first-set, get_by, set_by}
+use Rattle.sig_core.proofs.Keys.{same_key-swap}
 use Rattle.commit_laws.proofs.PlacesAt.{apart-freed, apart-set_row, apart-with_place, has-freed, has-own_place, has-set_row, has-with_place, row-freed, row-set_row, row-with_place, row_at, row_of-at}
 use Rattle.commit_laws.proofs.RecordsAt.{KeepsKey, each-edited_in, each-first, each-recorded, edited_in, edited_in-drop, edited_in-keep, edited_in-none, edited_in-set, first-found, on, on-edited, on-edited_other, on-storing, on-storing_other, record_of-first}
 

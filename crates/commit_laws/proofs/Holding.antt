@@ -9,7 +9,7 @@ use Rattle.row_locks.specs.declared.mode.Mode.TheVariants.{Shared, Exclusive}
 use Rattle.row_locks.specs.Holders.{agrees_with, holds, holds_enough}
 use Rattle.row_locks.specs.Modes.{agree, is_enough}
 use Rattle.row_locks.specs.Orderly.{are_agreed}
-use Rattle.row_locks.proofs.TxLemmas.{same_tx-is}
+use Rattle.sig_core.proofs.TxLemmas.{same_tx-is}
 
 -- no mode agrees with the exclusive one
 none_agrees : (b : Bool) (mode : Mode) → (b || agree mode Exclusive) ≡ true → b ≡ true

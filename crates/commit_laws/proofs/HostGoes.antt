@@ -28,7 +28,7 @@ use Rattle.commit_laws.specs.Kinds.{Kind, kind_of}
 use Rattle.commit_laws.specs.Kinds as kind
 use Rattle.commit_laws.proofs.ApiMarks.{api_marks}
 use Rattle.commit_laws.proofs.ApiTold.{ApiSays, AreTold, Reports, TellsBegun, api_goes}
-use Rattle.commit_laws.proofs.Keys.{same_tx-self}
+use Rattle.sig_core.proofs.Keys.{same_tx-self}
 use Rattle.commit_laws.proofs.LqhMarks.{lqh_marks}
 use Rattle.commit_laws.proofs.LqhOther.{RowsSay, lqh_says}
 use Rattle.commit_laws.proofs.PlainMarks.{ArePlain, is_plain}

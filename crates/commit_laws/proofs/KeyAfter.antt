@@ -14,11 +14,11 @@ use Rattle.lqh_block.specs.declared.request.Request.{Request}
 use Rattle.lqh_block.specs.Operate as operate
 use Rattle.lqh_block.specs.State.{LqhState, storage_of, with_waiting}
 use Rattle.lqh_block.specs.Work.{work_key, work_mode}
-use Rattle.commit_laws.specs.Firsts.{drop_first, first}
+use Rattle.sig_core.specs.Firsts.{drop_first, first}
 use Rattle.commit_laws.specs.Replica.{Event, Replica, asked_by, asks, asks_for, at_key, cell_at, if_on, is_let_in, is_refused, key_after, rests, served_by, serves, serves_if, worked}
 use Rattle.commit_laws.proofs.PerformedAt.{cell-performed}
-use Rattle.commit_laws.proofs.Firsts.{drop_by, first-drop, first-get, get_by}
-use Rattle.commit_laws.proofs.Keys.{same_key-self}
+use Rattle.sig_core.proofs.Firsts.{drop_by, first-drop, first-get, get_by}
+use Rattle.sig_core.proofs.Keys.{same_key-self}
 use Rattle.commit_laws.proofs.LocksAt.{lock-inserted}
 
 pub replica_is : (r p : Replica) → r.cell ≡ p.cell → r.lock ≡ p.lock → r.waiting ≡ p.waiting → r ≡ p

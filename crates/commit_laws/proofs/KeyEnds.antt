@@ -20,11 +20,11 @@ use Rattle.lqh_block.specs.Expire as expire
 use Rattle.lqh_block.specs.State.{LqhState, unlocked, with_lock, with_waiting}
 use Rattle.lqh_block.specs.Storage as storage
 use Rattle.lqh_block.specs.Work.{is_for, work_key}
-use Rattle.commit_laws.specs.Firsts.{drop_first}
+use Rattle.sig_core.specs.Firsts.{drop_first}
 use Rattle.commit_laws.specs.Placed.{IsPlaced}
 use Rattle.commit_laws.specs.Replica.{aborting, ageing, aborts, ages, asks_for, at_key, cell_at, committing, commits, completes, completing, expired_by, expires, expires_if, if_on, is_by, key_after, rests}
 use Rattle.commit_laws.proofs.CellsAt.{cell-aborted, cell-committed, cell-completed}
-use Rattle.commit_laws.proofs.Firsts.{drop_by, filter-drop_first, filter-drop_other, first-drop}
+use Rattle.sig_core.proofs.Firsts.{drop_by, filter-drop_first, filter-drop_other, first-drop}
 use Rattle.commit_laws.proofs.KeyAfter.{is_if, on_other, on_own, replica_is}
 use Rattle.commit_laws.proofs.LocksAt.{lock-aged, lock-kept}
 

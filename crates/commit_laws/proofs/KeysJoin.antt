@@ -14,7 +14,7 @@ use Rattle.serial_model.specs.Serial.{perform, perform_on}
 use Rattle.lqh_block.proofs.IndexLemmas.{same}
 use Rattle.commit_laws.specs.Laws.{KeysJoin, RowsJoin}
 use Rattle.commit_laws.specs.OneKey.{AreRight, IsRightAt, ops_on, row_after, row_after_all, row_at_end}
-use Rattle.commit_laws.proofs.Keys.{same_key-self, same_key-swap, tied-same_key}
+use Rattle.sig_core.proofs.Keys.{same_key-self, same_key-swap, tied-same_key}
 
 -- the model's answer is the one that the row gets
 perform_answer : (op : Op) (row : Option (List ℕ)) (rows : Rows) → (perform_on op row rows).answer ≡ answer_to op row

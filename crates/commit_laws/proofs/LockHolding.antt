@@ -15,10 +15,10 @@ use Rattle.row_locks.specs.Queues.{waits, without}
 use Rattle.row_locks.specs.Rows.{RowLock, asked, asked_anew, asked_by, is_quiet, released, served, served_if, unwaited}
 use Rattle.row_locks.proofs.NeedLemmas.{enough_shared, need-hold, need-others, need-without}
 use Rattle.row_locks.proofs.OrderlyLemmas.{asked_orderly, gone-without, released_orderly, unwaited_orderly, waiting-without}
-use Rattle.row_locks.proofs.TxLemmas.{same_tx-is}
+use Rattle.sig_core.proofs.TxLemmas.{same_tx-is}
 use Rattle.commit_laws.specs.LockLaws.{ExpiriesHoldOn, GrantsHold, ReleasesHoldOn, RequestsHoldOn}
 use Rattle.commit_laws.specs.Primary.{HoldOn}
-use Rattle.commit_laws.proofs.Keys.{same_tx-self}
+use Rattle.sig_core.proofs.Keys.{same_tx-self}
 
 -- the exclusive mode is enough for any
 enough_any : (a m : Mode) → is_enough a Exclusive ≡ true → is_enough a m ≡ true

@@ -14,9 +14,9 @@ use Rattle.row_locks.specs.Queues.{raised, raised_if, wait_of, waits, without, a
 use Rattle.row_locks.specs.Rows.{asked, asked_anew, asked_by, is_quiet, served, served_if}
 use Rattle.row_locks.proofs.NeedLemmas.{need-hold, need-others, need-without}
 use Rattle.row_locks.proofs.OrderlyLemmas.{gone-without, waiting-without}
-use Rattle.row_locks.proofs.TxLemmas.{same_tx-is}
+use Rattle.sig_core.proofs.TxLemmas.{same_tx-is}
 use Rattle.commit_laws.specs.LockLaws.{AttendedHold, ExpiriesAttend, QueuedWait, ReleasesAttend, RequestsAttend, RoundsAttend, is_attended, waits_enough}
-use Rattle.commit_laws.proofs.Keys.{same_tx-self}
+use Rattle.sig_core.proofs.Keys.{same_tx-self}
 use Rattle.commit_laws.proofs.LockHolding.{asked_keeps, enough_others, enough_own, enough_self, hold_keeps}
 
 stronger_enough : (a b : Mode) → is_enough (stronger a b) b ≡ true

@@ -12,7 +12,7 @@ use Rattle.row_locks.specs.Rounds.{map_locks, round_later}
 use Rattle.row_locks.specs.Rows.{RowLock, grown_old, is_quiet, unlocked}
 use Rattle.row_locks.specs.Tables.{Locks, is_free, is_idle, kept, kept_if, lock_at, or_unlocked}
 use Rattle.row_locks.proofs.LocksLemmas.{find-lookup, get-locks, key_cmp}
-use Rattle.commit_laws.proofs.Keys.{same_key-swap, tied-same_key}
+use Rattle.sig_core.proofs.Keys.{same_key-swap, tied-same_key}
 
 -- one lock has come to be another
 pub lock-inserted : (locks : Locks) (key q : List ℕ) (lock : RowLock) → lock_at (finite.insert locks key lock) q ≡ (if same_key key q then lock else lock_at locks q)

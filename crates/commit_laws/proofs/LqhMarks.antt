@@ -4,7 +4,7 @@ use Rattle.sig_core.specs.declared.mark.Mark.{Mark}
 use Rattle.sig_core.specs.declared.signal.Body.{Body}
 use Rattle.lqh_block.specs.Lqh.{lqh_row}
 use Rattle.lqh_block.specs.State.{LqhState}
-use Rattle.commit_laws.proofs.EachLqh.{lqh_marks_each}
+use Rattle.lqh_block.proofs.EachLqh.{lqh_marks_each}
 use Rattle.commit_laws.proofs.PlainMarks.{HasPlainMarks, is_plain}
 
 pub lqh_marks : (s : LqhState) (body : Body) → HasPlainMarks (lqh_row s body)

@@ -7,7 +7,7 @@ use Rattle.lqh_block.specs.Lqh.{lqh_row}
 use Rattle.lqh_block.specs.State.{LqhState}
 use Rattle.run_theory.specs.Lists.{Each}
 use Rattle.commit_laws.specs.Kinds.{Kind, committing, kind_of, other}
-use Rattle.commit_laws.proofs.EachLqh.{RequestSends, lqh_sends_each}
+use Rattle.lqh_block.proofs.EachLqh.{RequestSends, lqh_sends_each}
 
 -- where a commit goes on to the next place, it is the one that was taken
 abbrev pub RowsSay : Kind → Kind → Type 0

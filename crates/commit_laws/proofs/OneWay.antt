@@ -14,7 +14,7 @@ use Rattle.sig_core.specs.declared.place.Place.{Place}
 use Rattle.sig_core.specs.declared.signal.Body.{Body}
 use Rattle.sig_core.specs.Same.{same_tx}
 use Rattle.sig_core.specs.Step.{Step, stay}
-use Rattle.row_locks.proofs.TxLemmas.{same_tx-swap}
+use Rattle.sig_core.proofs.TxLemmas.{same_tx-swap}
 use Rattle.tc_block.specs.declared.phase.Phase.{Phase}
 use Rattle.tc_block.specs.declared.transaction.Transaction.{Transaction}
 use Rattle.tc_block.specs.Live.{stepped, turned_if, without}
@@ -29,13 +29,14 @@ use Rattle.node_core.specs.Fresh.{begun_node, fresh_node, fresh_shell}
 use Rattle.node_core.specs.Row.{node_row, row}
 use Rattle.world_core.specs.Machine.{after}
 use Rattle.world_core.specs.Start.{Start, started}
-use Rattle.commit_laws.specs.Phases.{is_completing, is_decided}
-use Rattle.commit_laws.specs.Ways.{AreSaid, CoordinatorsGoOneWay, CoordinatorsSay, IsSaid, Way, back, back_by, closes, forth, forth_by, is_aborting, is_forth, neither, put_ways, sent_ways, tc_sends, way_of}
-use Rattle.commit_laws.proofs.Keys.{same_tx-self}
-use Rattle.commit_laws.proofs.LiveSplit.{KeysOnce, Live, Split, each_inserted, once_back, once_front, once_gone, once_inserted, once_set}
+use Rattle.tc_block.specs.Phases.{is_completing, is_decided}
+use Rattle.tc_block.specs.Phases.{is_aborting}
+use Rattle.commit_laws.specs.Ways.{AreSaid, CoordinatorsGoOneWay, CoordinatorsSay, IsSaid, Way, back, back_by, closes, forth, forth_by, is_forth, neither, put_ways, sent_ways, tc_sends, way_of}
+use Rattle.sig_core.proofs.Keys.{same_tx-self}
+use Rattle.tc_block.proofs.LiveSplit.{KeysOnce, Live, Split, each_inserted, once_back, once_front, once_gone, once_inserted, once_set}
 use Rattle.commit_laws.proofs.TcNumbers.{NotIn}
-use Rattle.commit_laws.proofs.EachTc.{tc_each}
-use Rattle.commit_laws.proofs.EachTurn.{rows_of}
+use Rattle.tc_block.proofs.EachTc.{tc_each}
+use Rattle.tc_block.proofs.EachTurn.{rows_of}
 use Rattle.commit_laws.proofs.TcWays.{AllWays, TellsForth, TurnWays, WayOf, Ways, aborting_apart, decided_apart, not_both, turn_ways}
 
 -- one of the coordinator's transactions, where these went forth, and those back

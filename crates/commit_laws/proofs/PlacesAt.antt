@@ -7,8 +7,8 @@ use Rattle.sig_core.specs.Rows.{RowsState, freed, freed_by, freed_if, is_at, is_
 use Rattle.sig_core.specs.Same.{same_key}
 use Rattle.lqh_block.proofs.IndexLemmas.{same}
 use Rattle.commit_laws.specs.Placed.{AreApart, has_place}
-use Rattle.commit_laws.proofs.Firsts.{first-set, place_by, position-cons, set_by, set_first}
-use Rattle.commit_laws.proofs.Keys.{same_key-self, same_key-swap}
+use Rattle.sig_core.proofs.Firsts.{first-set, place_by, position-cons, set_by, set_first}
+use Rattle.sig_core.proofs.Keys.{same_key-self, same_key-swap}
 
 -- the row of the key
 abbrev pub row_at : List (Option Slot) → List ℕ → Option (List ℕ)

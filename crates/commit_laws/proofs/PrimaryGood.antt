@@ -17,13 +17,13 @@ use Rattle.sig_core.specs.Same.{same_tx}
 use Rattle.row_locks.specs.declared.claim.Holder.{Holder}
 use Rattle.row_locks.specs.declared.mode.Mode.TheVariants.{Exclusive}
 use Rattle.row_locks.specs.Holders.{holds, holds_enough}
-use Rattle.row_locks.proofs.TxLemmas.{same_tx-is, same_tx-swap}
+use Rattle.sig_core.proofs.TxLemmas.{same_tx-is, same_tx-swap}
 use Rattle.lqh_block.specs.Work.{op_mode}
 use Rattle.commit_laws.specs.OneKey.{AreRight, row_after, row_after_all, row_by}
 use Rattle.commit_laws.specs.Primary.{HasPrepared, HoldOn, IsGood, IsOwned, Primary, answered, ended_too, ended_with, seen_at, stored_by}
 use Rattle.commit_laws.specs.PrimaryLaws.{AbortsKeepGood, CommitsKeepGood, CompletionsKeepGood, GrantsKeepGood, OperationsKeepGood}
 use Rattle.commit_laws.specs.Records.{AreOnce, as_committed, committed_row, edited, found, if_committed, seen_by, unless_committed}
-use Rattle.commit_laws.proofs.Keys.{same_tx-self}
+use Rattle.sig_core.proofs.Keys.{same_tx-self}
 use Rattle.commit_laws.proofs.Holding.{holds_so, only_holder}
 use Rattle.commit_laws.proofs.RecordLemmas.{KeepsTx, committed_keeps, each-edited, each-stored, each_apart, each_both, each_found, found-edited, found-stored, if_keeps, once-edited, once-stored, unless_keeps}
 

@@ -17,7 +17,7 @@ use Rattle.commit_laws.specs.OneKey.{AreRight, row_after_all}
 use Rattle.commit_laws.specs.Primary.{IsGood, IsLedTo, IsOwned, Primary, seen_at, stored_by}
 use Rattle.commit_laws.specs.PrimaryLaws.{AbortsKeepValue, CommitsKeepValue, CompletionsKeepValue, DecisionsAreRight, IsDecidedRightly, OperationsKeepValue}
 use Rattle.commit_laws.specs.Records.{AreOnce, as_committed, committed_row, edited, found, is_kept, kept_row, seen_by}
-use Rattle.commit_laws.proofs.Keys.{same_tx-self}
+use Rattle.sig_core.proofs.Keys.{same_tx-self}
 use Rattle.commit_laws.proofs.Holding.{holds_so, only_holder}
 use Rattle.commit_laws.proofs.RecordLemmas.{OnlyOf, each-edited, each_found, kept_row-aborted, kept_row-committed, kept_row-completed, kept_row-one, kept_row-others, kept_row-stored, kept_row-unkept}
 

@@ -7,8 +7,8 @@ use Rattle.sig_core.specs.declared.member.TxId.{TxId}
 use Rattle.sig_core.specs.declared.rows.PendingRecord.{PendingRecord}
 use Rattle.sig_core.specs.Rows.{committed}
 use Rattle.sig_core.specs.Same.{same_tx}
-use Rattle.row_locks.proofs.TxLemmas.{same_tx-is, same_tx-swap}
-use Rattle.commit_laws.proofs.Keys.{same_tx-self}
+use Rattle.sig_core.proofs.TxLemmas.{same_tx-is, same_tx-swap}
+use Rattle.sig_core.proofs.Keys.{same_tx-self}
 use Rattle.commit_laws.specs.Records.{AreOnce, as_committed, edited, found, if_committed, is_kept, kept_row, put_back, stored, unless_committed}
 
 -- an edit leaves the record to its transaction

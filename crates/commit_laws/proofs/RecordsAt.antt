@@ -8,10 +8,10 @@ use Rattle.sig_core.specs.declared.rows.PendingRecord.{PendingRecord}
 use Rattle.sig_core.specs.Rows.{RowsState, get_at, is_of, is_on, record_at, record_of, recorded_by}
 use Rattle.sig_core.specs.Same.{same_key, same_tx}
 use Rattle.lqh_block.proofs.IndexLemmas.{same}
-use Rattle.commit_laws.specs.Firsts.{drop_first, first}
+use Rattle.sig_core.specs.Firsts.{drop_first, first}
 use Rattle.commit_laws.specs.Records.{edited, found, put_back, stored}
-use Rattle.commit_laws.proofs.Keys.{same_key-self}
-use Rattle.commit_laws.proofs.Firsts.{first-get, get_by, place_by, position-cons, set_first}
+use Rattle.sig_core.proofs.Keys.{same_key-self}
+use Rattle.sig_core.proofs.Firsts.{first-get, get_by, place_by, position-cons, set_first}
 
 -- those on the key
 abbrev pub on : List ℕ → List PendingRecord → List PendingRecord

@@ -52,7 +52,7 @@ use Rattle.commit_laws.proofs.CellsAt.{placed-aborted, placed-committed, placed-
 use Rattle.commit_laws.proofs.PerformedAt.{placed-performed}
 use Rattle.commit_laws.proofs.KeyAfter.{granted_event, replica_is, request_event}
 use Rattle.commit_laws.proofs.KeyEnds.{abort_event, applied_locks, applied_rows, commit_event, complete_event, expire_event, given_locks, given_rows, round_event, unasked_is}
-use Rattle.commit_laws.proofs.Keys.{same_key-swap, tied-same_key}
+use Rattle.sig_core.proofs.Keys.{same_key-swap, tied-same_key}
 use Rattle.commit_laws.proofs.PlacesAt.{apart-set_row, apart-with_place, has-own_place, row-set_row, row-with_place, row_at, row_of-at}
 
 acknowledged_same : (s : LqhState) (tx : TxId) (key : List ℕ) → at_key key (wait.acknowledged s tx) ≡ at_key key s

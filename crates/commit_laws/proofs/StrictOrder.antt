@@ -34,7 +34,7 @@ use Rattle.commit_laws.proofs.CausalFacts.{CommitsRightly, DecidesAt, DecidesRig
 use Rattle.commit_laws.proofs.EachEntry.{each_kept}
 use Rattle.commit_laws.proofs.Epochs.{inside_right, plain_entries, step_marks}
 use Rattle.commit_laws.proofs.HostMarks.{AreMarks, decides, plain}
-use Rattle.commit_laws.proofs.Keys.{same_tx-self}
+use Rattle.sig_core.proofs.Keys.{same_tx-self}
 use Rattle.commit_laws.proofs.PlainMarks.{ArePlain}
 use Rattle.commit_laws.proofs.SortedEntries.{sorted_history, stands_before}
 use Rattle.commit_laws.proofs.Unique.{Takes, begun_of, begun_reads, one_begun, one_verified, verified_of, verified_reads}

@@ -30,9 +30,9 @@ use Rattle.run_theory.proofs.Pasts.{each_append}
 use Rattle.sig_core.specs.Step.{stay}
 use Rattle.commit_laws.specs.Kinds.{Kind, kind_of}
 use Rattle.commit_laws.specs.Kinds as kind
-use Rattle.commit_laws.specs.Phases.{is_decided, is_open}
-use Rattle.commit_laws.proofs.EachTurn.{AbortForms, CommittedForms, TurnForms}
-use Rattle.commit_laws.proofs.EachSent.{each_drop, each_flat, each_mapped, each_take}
+use Rattle.tc_block.specs.Phases.{is_decided, is_open}
+use Rattle.tc_block.proofs.EachTurn.{AbortForms, CommittedForms, TurnForms}
+use Rattle.run_theory.proofs.EachSent.{each_drop, each_flat, each_mapped, each_take}
 
 -- what a transaction may say where D is known of it once it is decided: that its rows are committed and that it has ended,
 -- and nothing of the rest

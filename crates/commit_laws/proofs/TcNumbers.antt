@@ -11,7 +11,7 @@ use Rattle.sig_core.specs.declared.signal.Body.{Body}
 use Rattle.sig_core.specs.Place.{epochs}
 use Rattle.sig_core.specs.Same.{same_tx}
 use Rattle.sig_core.specs.Step.{Step, stay}
-use Rattle.row_locks.proofs.TxLemmas.{same_tx-swap}
+use Rattle.sig_core.proofs.TxLemmas.{same_tx-swap}
 use Rattle.tc_block.specs.declared.phase.Asked.{Asked}
 use Rattle.tc_block.specs.declared.phase.Phase.{Phase}
 use Rattle.tc_block.specs.declared.phase.Phase.TheVariants.{Open, Verifying, Committing, Completing, Aborting}
@@ -24,10 +24,10 @@ use Rattle.tc_block.specs.Tc.{begin_if, next_tx, tc_row}
 use Rattle.tc_block.specs.Turn.{Turn, at_phase}
 use Rattle.commit_laws.specs.Kinds.{Kind, kind_of}
 use Rattle.commit_laws.specs.Kinds as kind
-use Rattle.commit_laws.specs.Phases.{is_decided, is_open}
-use Rattle.commit_laws.proofs.LiveSplit.{KeysOnce, Live, Split, each_inserted, once_back, once_front, once_gone, once_inserted, once_set}
-use Rattle.commit_laws.proofs.EachTc.{tc_each}
-use Rattle.commit_laws.proofs.EachTurn.{rows_of}
+use Rattle.tc_block.specs.Phases.{is_decided, is_open}
+use Rattle.tc_block.proofs.LiveSplit.{KeysOnce, Live, Split, each_inserted, once_back, once_front, once_gone, once_inserted, once_set}
+use Rattle.tc_block.proofs.EachTc.{tc_each}
+use Rattle.tc_block.proofs.EachTurn.{rows_of}
 use Rattle.commit_laws.proofs.TcGoes.{AllSay, Goes, SaysOf, TurnGoes, turn_goes}
 
 -- the transactions that signals say to have begun, and those for which an epoch is asked, in front of those before

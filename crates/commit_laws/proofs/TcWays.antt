@@ -29,11 +29,12 @@ use Rattle.tc_block.specs.Turn.{Turn, asking, going}
 use Rattle.run_theory.specs.Lists.{Each}
 use Rattle.run_theory.proofs.Pasts.{each_append}
 use Rattle.sig_core.specs.Step.{stay}
-use Rattle.commit_laws.specs.Phases.{is_completing, is_decided}
-use Rattle.commit_laws.specs.Ways.{Way, back, closes, forth, is_aborting, is_forth, neither, way_of}
-use Rattle.commit_laws.proofs.Keys.{same_tx-self}
-use Rattle.commit_laws.proofs.EachTurn.{AbortForms, CommittedForms, TurnForms}
-use Rattle.commit_laws.proofs.EachSent.{each_drop, each_flat, each_mapped, each_take}
+use Rattle.tc_block.specs.Phases.{is_completing, is_decided}
+use Rattle.tc_block.specs.Phases.{is_aborting}
+use Rattle.commit_laws.specs.Ways.{Way, back, closes, forth, is_forth, neither, way_of}
+use Rattle.sig_core.proofs.Keys.{same_tx-self}
+use Rattle.tc_block.proofs.EachTurn.{AbortForms, CommittedForms, TurnForms}
+use Rattle.run_theory.proofs.EachSent.{each_drop, each_flat, each_mapped, each_take}
 
 -- what a transaction in this phase sends
 abbrev pub WayOf : TxId → Phase → Way → Type 0

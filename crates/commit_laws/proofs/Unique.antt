@@ -23,7 +23,7 @@ use Rattle.commit_laws.specs.Kinds.{Kind, kind_of}
 use Rattle.commit_laws.specs.Kinds as kind
 use Rattle.commit_laws.proofs.Causal.{AreCausal, sent_kinds}
 use Rattle.commit_laws.proofs.HostGoes.{HostKnows}
-use Rattle.commit_laws.proofs.Keys.{same_tx-self}
+use Rattle.sig_core.proofs.Keys.{same_tx-self}
 use Rattle.commit_laws.proofs.TcNumbers.{AreApart, begun_by, put_kinds, verified_by}
 
 -- the first of the list is kept, and of the rest this holds

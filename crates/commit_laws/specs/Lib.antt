@@ -2,12 +2,10 @@ pub mod Backup
 pub mod BackupEvents
 pub mod BackupLaws
 pub mod Causes
-pub mod Firsts
 pub mod Kinds
 pub mod Laws
 pub mod LockLaws
 pub mod OneKey
-pub mod Phases
 pub mod Placed
 pub mod Primary
 pub mod PrimaryEvents

@@ -15,7 +15,7 @@ use Rattle.row_locks.specs.Orderly.{IsOrderly}
 use Rattle.row_locks.specs.Rows.{asked}
 use Rattle.lqh_block.specs.declared.request.Request.{Request}
 use Rattle.lqh_block.specs.Work.{work_mode}
-use Rattle.commit_laws.specs.Firsts.{first}
+use Rattle.sig_core.specs.Firsts.{first}
 use Rattle.commit_laws.specs.LockLaws.{is_attended}
 use Rattle.commit_laws.specs.Primary.{HasPrepared, IsGood, IsLedTo, Primary, ended_too, noted}
 use Rattle.commit_laws.specs.Records.{found, seen_by}

@@ -27,7 +27,7 @@ use Rattle.lqh_block.specs.Operate.{is_granted}
 use Rattle.lqh_block.specs.State.{LqhState, storage_of}
 use Rattle.lqh_block.specs.Storage.{StorageState, is_log_full, need_of}
 use Rattle.lqh_block.specs.Work.{work_image, work_key, work_mode}
-use Rattle.commit_laws.specs.Firsts.{drop_first, first}
+use Rattle.sig_core.specs.Firsts.{drop_first, first}
 use Rattle.commit_laws.specs.Records.{as_committed, committed_row, edited, found, if_committed, seen_by, stored, unless_committed}
 
 -- the row of a key, and the records on it, the oldest first

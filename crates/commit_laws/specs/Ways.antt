@@ -12,8 +12,6 @@ use Rattle.sig_core.specs.declared.signal.Body.TheVariants.{Client, Chain}
 use Rattle.sig_core.specs.declared.signal.chain.ChainSignal.TheVariants.{Commit, Complete, Abort}
 use Rattle.sig_core.specs.declared.signal.client.ClientSignal.TheVariants.{TcCommitConf, TcRollbackRep}
 use Rattle.sig_core.specs.Same.{same_tx}
-use Rattle.tc_block.specs.declared.phase.Phase.{Phase}
-use Rattle.tc_block.specs.declared.phase.Phase.TheVariants.{Aborting}
 use Rattle.tc_block.specs.Tc.{tc_row}
 use Rattle.node_core.specs.declared.host.Host.{Host}
 use Rattle.node_core.specs.declared.host.Host.TheVariants.{Shell, Node}
@@ -35,11 +33,6 @@ way_of (Chain (Complete tx key chain at)) = closes tx
 way_of (Client (TcCommitConf tx epoch)) = forth tx
 way_of (Client (TcRollbackRep tx cause)) = back tx
 way_of body = neither
-
--- it is being aborted
-abbrev pub is_aborting : Phase → Bool
-is_aborting (Aborting cause verifying awaited) = true
-is_aborting phase = false
 
 abbrev pub is_forth : TxId → Way → Bool
 is_forth tx (forth other) = same_tx tx other

@@ -1,5 +1,7 @@
 pub mod DueLemmas
 pub mod DumpLemmas
+pub mod EachLqh
+pub mod EachWaiting
 pub mod EffectLemmas
 pub mod IndexLemmas
 pub mod PlaceLemmas

@@ -15,7 +15,7 @@ use Rattle.row_locks.specs.Rows.{RowLock, asked_by, asked_anew, is_quiet}
 use Rattle.row_locks.specs.Orderly.{IsOrderly, is_first_held_up, none_holds, are_raises_first, test_if}
 use Rattle.row_locks.specs.OrderlyTables.{AreOrderly}
 use Rattle.row_locks.specs.Tables.{Locks, lock_at, is_free, ahead_at, some_if, asked_at}
-use Rattle.row_locks.proofs.TxLemmas.{same_tx-is, same_tx-swap, apart_too}
+use Rattle.sig_core.proofs.TxLemmas.{same_tx-is, same_tx-swap, apart_too}
 use Rattle.row_locks.proofs.TableLawLemmas.{held-quiet, free_disagreed}
 
 or_rest : (a b : Bool) → a ≡ false → (a || b) ≡ true → b ≡ true

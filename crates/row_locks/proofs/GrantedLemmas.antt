@@ -13,7 +13,7 @@ use Rattle.row_locks.specs.Orderly.{are_waiting_once}
 use Rattle.row_locks.specs.OrderlyTables.{AreOrderly}
 use Rattle.row_locks.specs.Serving.{granted_to, last, GrantsFirst}
 use Rattle.row_locks.specs.Tables.{Locks, lock_at, released_at, unwaited_at}
-use Rattle.row_locks.proofs.TxLemmas.{same_tx-swap}
+use Rattle.sig_core.proofs.TxLemmas.{same_tx-swap}
 use Rattle.row_locks.proofs.OrderlyLemmas.{waiting-without}
 
 -- the holders that don't wait in this queue

@@ -9,5 +9,4 @@ pub mod RoundLemmas
 pub mod RowLemmas
 pub mod ServingLemmas
 pub mod TableLawLemmas
-pub mod TxLemmas
 pub mod WithinLemmas

@@ -11,7 +11,7 @@ use Rattle.row_locks.specs.Holders.{unless_gone, others, holds, holds_enough, ho
 use Rattle.row_locks.specs.Queues.{waits, without, raised, raised_if, aged_all}
 use Rattle.row_locks.specs.Rows.{is_quiet}
 use Rattle.row_locks.specs.Orderly.{none_has_enough}
-use Rattle.row_locks.proofs.TxLemmas.{same_tx-swap, same_tx-is, apart_too}
+use Rattle.sig_core.proofs.TxLemmas.{same_tx-swap, same_tx-is, apart_too}
 
 -- who holds a lock has what a shared request asks
 

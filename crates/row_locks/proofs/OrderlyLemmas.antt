@@ -11,7 +11,7 @@ use Rattle.row_locks.specs.Holders.{unless_gone, others, agrees_with, holds, hol
 use Rattle.row_locks.specs.Queues.{waits, without, wait_of, raised, raised_if, aged_all}
 use Rattle.row_locks.specs.Rows.{RowLock, served, served_if, asked, asked_by, asked_anew, anew, is_quiet, released, unwaited, unqueued, grown_old}
 use Rattle.row_locks.specs.Orderly.{IsOrderly, are_held_once, are_agreed, are_waiting_once, is_first_held_up, none_holds, are_raises_first, test_if, none_has_enough, are_within_rounds}
-use Rattle.row_locks.proofs.TxLemmas.{same_tx-swap, apart_too}
+use Rattle.sig_core.proofs.TxLemmas.{same_tx-swap, apart_too}
 use Rattle.row_locks.proofs.NeedLemmas.{enough_shared, need-others, need-hold, need-without, need-aged, need-raised, need-end, need-quiet}
 use Rattle.row_locks.proofs.WithinLemmas.{within-without, within-aged, within-raised, within-end}
 

@@ -12,7 +12,7 @@ use Rattle.row_locks.specs.Queues.{waits}
 use Rattle.row_locks.specs.Rows.{Served, served, served_if}
 use Rattle.row_locks.specs.Orderly.{are_waiting_once, none_has_enough}
 use Rattle.row_locks.specs.Serving.{granted_to, shared_run}
-use Rattle.row_locks.proofs.TxLemmas.{same_tx-swap}
+use Rattle.sig_core.proofs.TxLemmas.{same_tx-swap}
 use Rattle.row_locks.proofs.NeedLemmas.{enough_shared, need-last}
 use Rattle.row_locks.proofs.OrderlyLemmas.{agrees-last}
 

@@ -11,3 +11,4 @@ pub mod HostFacts
 pub mod Channels
 pub mod Drops
 pub mod Sorting
+pub mod EachSent

@@ -11,7 +11,7 @@ use Rattle.sig_core.specs.declared.op.Answer.{Answer}
 use Rattle.sig_core.specs.declared.op.Op.{Op}
 use Rattle.sig_core.specs.declared.rows.PendingRecord.{PendingRecord}
 use Rattle.sig_core.specs.Same.{same_tx}
-use Rattle.row_locks.proofs.TxLemmas.{same_tx-is, same_tx-swap}
+use Rattle.sig_core.proofs.TxLemmas.{same_tx-is, same_tx-swap}
 use Rattle.world_core.specs.Start.{Start}
 use Rattle.commit_laws.specs.Backup.{HasImage, kept_of}
 use Rattle.commit_laws.specs.BackupEvents.{IsInOrderAt, backup_of}
@@ -23,7 +23,7 @@ use Rattle.commit_laws.specs.PrimaryLaws.{IsDecidedRightly}
 use Rattle.commit_laws.specs.Records.{found}
 use Rattle.commit_laws.specs.Replica.{Replica}
 use Rattle.commit_laws.proofs.BackupMoves.{decisions_move, kept_row-same, unkept_decisions_move}
-use Rattle.commit_laws.proofs.Keys.{same_tx-self}
+use Rattle.sig_core.proofs.Keys.{same_tx-self}
 use Rattle.commit_laws.proofs.PrimaryValue.{decisions_right, only_of, prepared_holds}
 use Rattle.commit_laws.proofs.RecordLemmas.{kept_row-one}
 use Rattle.transit_laws.specs.Circle.{Agree, IsSettledFor, at_host, at_primary}

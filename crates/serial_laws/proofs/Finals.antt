@@ -13,7 +13,7 @@ use Rattle.sig_core.specs.declared.log.LogStep.{LogStep}
 use Rattle.sig_core.specs.declared.mark.Mark.TheVariants as mark
 use Rattle.sig_core.specs.declared.member.TxId.{TxId}
 use Rattle.sig_core.specs.Same.{same_tx}
-use Rattle.row_locks.proofs.TxLemmas.{same_tx-is}
+use Rattle.sig_core.proofs.TxLemmas.{same_tx-is}
 use Rattle.world_core.specs.Entries.{entries}
 use Rattle.world_core.specs.History.{is_applied, is_kept, is_reported, writes}
 use Rattle.world_core.specs.Machine.{hosts, machine}
@@ -24,7 +24,7 @@ use Rattle.commit_laws.specs.Causes.{is_decision}
 use Rattle.commit_laws.specs.OneKey.{row_at_end}
 use Rattle.commit_laws.specs.Primary.{ended_too}
 use Rattle.commit_laws.proofs.HostMarks.{AreMarks, decides, plain}
-use Rattle.commit_laws.proofs.Keys.{same_tx-self}
+use Rattle.sig_core.proofs.Keys.{same_tx-self}
 use Rattle.commit_laws.proofs.PlainMarks.{ArePlain}
 use Rattle.transit_laws.specs.GivenUp.{is_given_up}
 use Rattle.transit_laws.specs.Owed.{IsCarriedOut, IsUndecided, is_decided}

@@ -15,7 +15,7 @@ use Rattle.sig_core.specs.declared.mark.Mark.{Mark}
 use Rattle.sig_core.specs.declared.mark.Mark.TheVariants as mark
 use Rattle.sig_core.specs.declared.member.TxId.{TxId}
 use Rattle.sig_core.specs.Same.{same_tx}
-use Rattle.row_locks.proofs.TxLemmas.{same_tx-is, same_tx-swap}
+use Rattle.sig_core.proofs.TxLemmas.{same_tx-is, same_tx-swap}
 use Rattle.world_core.specs.Entries.{entries}
 use Rattle.world_core.specs.Machine.{hosts, machine}
 use Rattle.world_core.specs.Marks.{has_mark}
@@ -23,7 +23,7 @@ use Rattle.world_core.specs.Start.{Start}
 use Rattle.commit_laws.specs.Causes.{is_decision}
 use Rattle.commit_laws.proofs.CausalFacts.{DecidesAt, DecidesRightly}
 use Rattle.commit_laws.proofs.HostMarks.{AreMarks, decides, plain}
-use Rattle.commit_laws.proofs.Keys.{same_tx-self}
+use Rattle.sig_core.proofs.Keys.{same_tx-self}
 use Rattle.commit_laws.proofs.PlainMarks.{ArePlain}
 use Rattle.commit_laws.proofs.StrictOrder.{one_decided}
 use Rattle.transit_laws.specs.Owed.{is_decided}

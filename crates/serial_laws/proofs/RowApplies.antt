@@ -15,7 +15,7 @@ use Rattle.sig_core.specs.declared.signal.host.Work.TheVariants as work
 use Rattle.sig_core.specs.Rows.{record_state, state_by}
 use Rattle.sig_core.specs.Same.{same_key, same_tx}
 use Rattle.row_locks.specs.Rounds.{expired}
-use Rattle.row_locks.proofs.TxLemmas.{same_tx-is}
+use Rattle.sig_core.proofs.TxLemmas.{same_tx-is}
 use Rattle.lqh_block.proofs.IndexLemmas.{same}
 use Rattle.lqh_block.specs.Commit as commit
 use Rattle.lqh_block.specs.declared.request.Request.{Request}
@@ -23,12 +23,12 @@ use Rattle.lqh_block.specs.Lqh.{lqh_row}
 use Rattle.lqh_block.specs.Operate as operate
 use Rattle.lqh_block.specs.State.{LqhState, storage_of}
 use Rattle.world_core.specs.History.{is_applied}
-use Rattle.commit_laws.specs.Firsts.{first}
+use Rattle.sig_core.specs.Firsts.{first}
 use Rattle.commit_laws.specs.Records.{found}
 use Rattle.commit_laws.specs.Replica.{Event, aborts, asks, cell_at, commits, completes, event_at, expires, expires_if, if_on, is_refused, rests, serves, serves_if}
-use Rattle.commit_laws.proofs.Keys.{same_key-self, same_tx-self}
+use Rattle.sig_core.proofs.Keys.{same_key-self, same_tx-self}
 use Rattle.serial_laws.proofs.RowMarks.{alone_so, of_marked, state_found}
-use Rattle.commit_laws.proofs.EachLqh.{lqh_marks_each}
+use Rattle.lqh_block.proofs.EachLqh.{lqh_marks_each}
 
 -- what is committed at the first place of its chain is marked as applied, if there is a record
 abbrev pub AppliesIf : Event → List PendingRecord → List Mark → Type 0

@@ -10,7 +10,7 @@ use Rattle.sig_core.specs.declared.rows.PendingRecord.{PendingRecord}
 use Rattle.sig_core.specs.declared.signal.Body.{Body}
 use Rattle.sig_core.specs.Rows.{RowsState, record_state, state_by}
 use Rattle.sig_core.specs.Same.{same_key, same_tx}
-use Rattle.row_locks.proofs.TxLemmas.{same_tx-is}
+use Rattle.sig_core.proofs.TxLemmas.{same_tx-is}
 use Rattle.lqh_block.proofs.IndexLemmas.{same}
 use Rattle.lqh_block.specs.Lqh.{lqh_row}
 use Rattle.lqh_block.specs.State.{LqhState}
@@ -19,7 +19,7 @@ use Rattle.world_core.specs.Rest.{is_done}
 use Rattle.commit_laws.specs.Primary.{HasPrepared}
 use Rattle.commit_laws.specs.Records.{found}
 use Rattle.commit_laws.specs.Replica.{Event, aborts, cell_at, completes, event_at, if_on, rests}
-use Rattle.commit_laws.proofs.EachLqh.{lqh_marks_each}
+use Rattle.lqh_block.proofs.EachLqh.{lqh_marks_each}
 use Rattle.commit_laws.proofs.RecordsAt.{first-found, record_of-first}
 
 -- a mark that stands alone

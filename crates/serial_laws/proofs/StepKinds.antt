@@ -28,7 +28,7 @@ use Rattle.commit_laws.specs.Primary.{ended_too}
 use Rattle.commit_laws.specs.Replica.{rests}
 use Rattle.commit_laws.specs.ReplicaLaws.{event_for, event_in}
 use Rattle.commit_laws.proofs.HostMarks.{AreMarks, decides, plain}
-use Rattle.commit_laws.proofs.Keys.{same_tx-self}
+use Rattle.sig_core.proofs.Keys.{same_tx-self}
 use Rattle.transit_laws.specs.Circle.{IsSettledFor}
 use Rattle.transit_laws.specs.GivenUp.{is_given_up}
 use Rattle.transit_laws.specs.Transit.{Comes, IsRun, logs_of}

@@ -15,7 +15,7 @@ use Rattle.world_core.specs.Start.{Start}
 use Rattle.commit_laws.specs.Records.{AreOnce, found, if_committed, unless_committed}
 use Rattle.commit_laws.specs.Replica.{Event, Replica, aborts, ages, asks, commits, completes, expires, key_after, rests, serves}
 use Rattle.commit_laws.specs.ReplicaLaws.{key_in}
-use Rattle.commit_laws.proofs.Keys.{same_tx-self}
+use Rattle.sig_core.proofs.Keys.{same_tx-self}
 use Rattle.commit_laws.proofs.Replicas.{logs_keep_well}
 use Rattle.transit_laws.specs.Circle.{at_host}
 use Rattle.transit_laws.specs.Owed.{IsOwed}

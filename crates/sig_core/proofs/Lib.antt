@@ -1,2 +1,5 @@
+pub mod Firsts
+pub mod Keys
 pub mod TableLemmas
+pub mod TxLemmas
 pub mod WordLemmas

@@ -1,5 +1,6 @@
 pub mod Chain
 pub mod Filled
+pub mod Firsts
 pub mod Journal
 pub mod Members
 pub mod Op

@@ -1,2 +1,6 @@
+pub mod EachTc
+pub mod EachTurn
+pub mod LiveKeeps
 pub mod LiveLemmas
+pub mod LiveSplit
 pub mod PartLemmas

@@ -4,6 +4,7 @@ pub mod Complete
 pub mod Live
 pub mod Operate
 pub mod Part
+pub mod Phases
 pub mod Sends
 pub mod State
 pub mod Tc

@@ -30,8 +30,8 @@ use Rattle.tc_block.specs.Part.{part_effects}
 use Rattle.tc_block.specs.Sends.{entering, go_on_if, go_on_row, phase_sends, wait_of}
 use Rattle.tc_block.specs.Touched.{fits}
 use Rattle.tc_block.specs.Turn.{Turn, at_phase, going}
-use Rattle.commit_laws.proofs.EachSent.{each_mapped}
-use Rattle.commit_laws.specs.Phases.{is_decided}
+use Rattle.run_theory.proofs.EachSent.{each_mapped}
+use Rattle.tc_block.specs.Phases.{is_decided}
 use Rattle.transit_laws.proofs.TcOwn.{turn_for}
 use Rattle.transit_laws.proofs.TxTurns.{AreSilent}
 use Rattle.transit_laws.proofs.TxSignals.{is_next, is_part, is_sign}

@@ -44,7 +44,7 @@ use Rattle.answer_laws.proofs.Tally.{one_if, tally}
 use Rattle.answer_laws.proofs.TcLives.{IsOwn, insert_new, is_keyed}
 use Rattle.answer_laws.proofs.TcMoves.{same_tx-is}
 use Rattle.answer_laws.proofs.Wishes.{is_tc}
-use Rattle.commit_laws.proofs.Keys.{same_key-self}
+use Rattle.sig_core.proofs.Keys.{same_key-self}
 use Rattle.commit_laws.proofs.TcWays.{not_both}
 use Rattle.transit_laws.specs.Circle.{at_host}
 use Rattle.transit_laws.specs.Completions.{IsCommittedAtAll}

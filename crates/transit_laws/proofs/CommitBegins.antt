@@ -31,9 +31,9 @@ use Rattle.tc_block.specs.Operate as operate
 use Rattle.tc_block.specs.Part.{part_effects, rest_if}
 use Rattle.tc_block.specs.Sends.{abort_of, entering, front_sends, key_sends, phase_sends}
 use Rattle.tc_block.specs.Turn.{Turn, asking, at_phase, going}
-use Rattle.commit_laws.proofs.EachSent.{each_flat, each_mapped}
+use Rattle.run_theory.proofs.EachSent.{each_flat, each_mapped}
 use Rattle.commit_laws.proofs.TcWays.{not_both}
-use Rattle.commit_laws.proofs.Keys.{same_tx-self}
+use Rattle.sig_core.proofs.Keys.{same_tx-self}
 use Rattle.answer_laws.proofs.TcSends.{tx_in}
 use Rattle.transit_laws.proofs.Ahead.{wait_silent}
 use Rattle.transit_laws.proofs.TcOwn.{turn_for}

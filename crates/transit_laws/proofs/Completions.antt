@@ -8,7 +8,7 @@ use Rattle.sig_core.specs.declared.signal.Signal.{Signal}
 use Rattle.node_core.specs.Requests.{is_request}
 use Rattle.world_core.specs.Machine.{machine, signals_of}
 use Rattle.world_core.specs.Start.{Start}
-use Rattle.commit_laws.proofs.Keys.{same_tx-self}
+use Rattle.sig_core.proofs.Keys.{same_tx-self}
 use Rattle.commit_laws.proofs.TcWays.{not_both}
 use Rattle.transit_laws.specs.Completions.{CompletionsFollowCommits}
 use Rattle.transit_laws.specs.GivenUp.{is_carried_out, is_given_up}

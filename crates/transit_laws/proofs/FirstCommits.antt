@@ -33,7 +33,7 @@ use Rattle.commit_laws.specs.ReplicaLaws.{event_in, key_in}
 use Rattle.commit_laws.specs.Ways.{tc_sends}
 use Rattle.commit_laws.proofs.Replicas.{logs_follow}
 use Rattle.commit_laws.proofs.TcWays.{not_both}
-use Rattle.commit_laws.proofs.Keys.{same_tx-self}
+use Rattle.sig_core.proofs.Keys.{same_tx-self}
 use Rattle.answer_laws.proofs.Commits.{node_is}
 use Rattle.answer_laws.proofs.Hosts.{shell_after}
 use Rattle.answer_laws.proofs.Hosts.{same_node}

@@ -10,7 +10,7 @@ use Rattle.sig_core.specs.declared.mark.Mark.TheVariants.{Applied, Reported}
 use Rattle.sig_core.specs.declared.member.TxId.{TxId}
 use Rattle.sig_core.specs.declared.outcome.Outcome.TheVariants as outcome
 use Rattle.sig_core.specs.Same.{same_tx}
-use Rattle.row_locks.proofs.TxLemmas.{same_tx-is, same_tx-swap}
+use Rattle.sig_core.proofs.TxLemmas.{same_tx-is, same_tx-swap}
 use Rattle.world_core.specs.History.{is_applied, is_reported}
 use Rattle.world_core.specs.Machine.{hosts}
 use Rattle.world_core.specs.Marks.{has_mark, have_mark}

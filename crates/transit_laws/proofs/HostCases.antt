@@ -14,7 +14,7 @@ use Rattle.sig_core.specs.declared.signal.Body.TheVariants.{Chain}
 use Rattle.sig_core.specs.declared.signal.chain.ChainSignal.TheVariants.{LqhKeyReq, LqhKeyConf, LqhKeyRef}
 use Rattle.sig_core.specs.Same.{same_key, same_tx}
 use Rattle.api_block.specs.State.{ApiState}
-use Rattle.row_locks.proofs.TxLemmas.{same_tx-is}
+use Rattle.sig_core.proofs.TxLemmas.{same_tx-is}
 use Rattle.lqh_block.specs.declared.request.Request.{Request}
 use Rattle.lqh_block.specs.Lqh.{lqh_row}
 use Rattle.lqh_block.specs.State.{LqhState}

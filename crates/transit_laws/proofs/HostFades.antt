@@ -19,7 +19,7 @@ use Rattle.sig_core.specs.declared.signal.host.HostSignal.TheVariants.{Round, Co
 use Rattle.sig_core.specs.declared.signal.host.Work.TheVariants as work
 use Rattle.sig_core.specs.Rows.{record_of, record_state, state_by}
 use Rattle.sig_core.specs.Same.{same_key, same_tx}
-use Rattle.row_locks.proofs.TxLemmas.{same_tx-is}
+use Rattle.sig_core.proofs.TxLemmas.{same_tx-is}
 use Rattle.row_locks.specs.Rounds.{expired}
 use Rattle.lqh_block.specs.Commit as commit
 use Rattle.lqh_block.specs.declared.request.Request.{Request}
@@ -32,7 +32,7 @@ use Rattle.node_core.specs.declared.host.Host.TheVariants.{Shell, Node}
 use Rattle.node_core.specs.Requests.{is_request}
 use Rattle.node_core.specs.Row.{node_row, row}
 use Rattle.world_core.specs.History.{is_applied}
-use Rattle.commit_laws.specs.Firsts.{first}
+use Rattle.sig_core.specs.Firsts.{first}
 use Rattle.commit_laws.specs.Primary.{HasPrepared}
 use Rattle.commit_laws.specs.Records.{found}
 use Rattle.commit_laws.specs.Replica.{Event, Replica, asks_for, at_key, cell_at, commits, event_at, expires_if, if_on, key_after, rests, serves_if}

@@ -40,12 +40,12 @@ use Rattle.lqh_block.specs.Storage as storage
 use Rattle.lqh_block.specs.Storage.{StorageState}
 use Rattle.lqh_block.specs.Wait as wait
 use Rattle.lqh_block.specs.Work.{work_key, work_mode}
-use Rattle.commit_laws.specs.Firsts.{first}
+use Rattle.sig_core.specs.Firsts.{first}
 use Rattle.commit_laws.specs.Records.{found, seen_by}
 use Rattle.commit_laws.specs.Replica.{Event, Replica, aborts, ages, asks, at_key, cell_at, commits, completes, event_at, expired_by, expires, expires_if, if_on, is_refused, rests, serves, serves_if}
-use Rattle.commit_laws.proofs.Firsts.{first-get, get_by}
+use Rattle.sig_core.proofs.Firsts.{first-get, get_by}
 use Rattle.commit_laws.proofs.KeyAfter.{first_here}
-use Rattle.commit_laws.proofs.Keys.{same_key-self}
+use Rattle.sig_core.proofs.Keys.{same_key-self}
 use Rattle.commit_laws.proofs.PerformedAt.{seen-cell}
 use Rattle.transit_laws.proofs.KeyTokens.{Token, answers, asked_tokens, event_tokens, expired_tokens, is_home, operated_token, passed_token, performed_token, performs, put, put_home, put_if, refuses, served_tokens, stored_token, tokens-append, tokens_of, work_token}
 

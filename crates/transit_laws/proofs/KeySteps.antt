@@ -23,12 +23,12 @@ use Rattle.node_core.specs.Requests.{is_request}
 use Rattle.tc_block.specs.declared.transaction.Transaction.{Transaction}
 use Rattle.world_core.specs.Machine.{sent_count, signals_of, step_after}
 use Rattle.world_core.specs.Start.{Start, first_view}
-use Rattle.commit_laws.specs.Firsts.{first}
+use Rattle.sig_core.specs.Firsts.{first}
 use Rattle.commit_laws.specs.PrimaryEvents.{ended_after, made_after, made_by, made_if, made_served}
 use Rattle.commit_laws.specs.Records.{found}
 use Rattle.commit_laws.specs.Replica.{Cell, Event, Replica, ages, asked_by, asks, expires, is_by, is_let_in, key_after, rests, served_by, serves, worked}
 use Rattle.commit_laws.specs.Replica as replica
-use Rattle.commit_laws.proofs.Keys.{same_tx-self}
+use Rattle.sig_core.proofs.Keys.{same_tx-self}
 use Rattle.transit_laws.specs.Circle.{at_primary}
 use Rattle.transit_laws.specs.Live.{live_at}
 use Rattle.transit_laws.specs.Routes.{IsRequestRouted, primary, replicas}

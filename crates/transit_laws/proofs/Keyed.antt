@@ -26,7 +26,7 @@ use Rattle.node_core.specs.Row.{node_row, row}
 use Rattle.world_core.specs.History.{is_done}
 use Rattle.world_core.specs.Machine.{after}
 use Rattle.world_core.specs.Start.{Start, started}
-use Rattle.commit_laws.proofs.LiveKeeps.{TurnsKeep, live_keeps}
+use Rattle.tc_block.proofs.LiveKeeps.{TurnsKeep, live_keeps}
 use Rattle.transit_laws.specs.Keyed.{HasTouched, HasTouchedAsked, IsHostKeyed, IsTouchedRightly, TransactionsAreKeyed}
 use Rattle.transit_laws.specs.Transit.{logs_of}
 use Rattle.transit_laws.proofs.TouchedLists.{touch_apart, touch_more, touch_own, touch_written, undone_written, write_apart, write_touched, write_written}

@@ -4,7 +4,7 @@ use Rattle.std.specs.Prelude.{if◌then◌else◌, None, Some}
 use Rattle.run_theory.specs.Lists.{Each}
 use Rattle.sig_core.specs.declared.member.TxId.{TxId}
 use Rattle.sig_core.specs.Same.{same_tx}
-use Rattle.row_locks.proofs.TxLemmas.{same_tx-is}
+use Rattle.sig_core.proofs.TxLemmas.{same_tx-is}
 use Rattle.tc_block.specs.declared.transaction.Transaction.{Transaction}
 use Rattle.answer_laws.proofs.Tally.{tally}
 use Rattle.answer_laws.proofs.TcLives.{is_keyed}

@@ -10,7 +10,7 @@ use Rattle.sig_core.specs.declared.signal.host.HostSignal.TheVariants.{Round, Co
 use Rattle.sig_core.specs.declared.signal.host.Work.TheVariants as work
 use Rattle.sig_core.specs.Place.{rows_of}
 use Rattle.sig_core.specs.Same.{same_key, same_tx}
-use Rattle.row_locks.proofs.TxLemmas.{same_tx-is}
+use Rattle.sig_core.proofs.TxLemmas.{same_tx-is}
 use Rattle.row_locks.specs.Rounds.{expired}
 use Rattle.lqh_block.proofs.IndexLemmas.{same}
 use Rattle.lqh_block.specs.declared.request.Request.{Request}
@@ -18,7 +18,7 @@ use Rattle.lqh_block.specs.Expire.{aged}
 use Rattle.lqh_block.specs.Operate.{is_granted}
 use Rattle.lqh_block.specs.State.{LqhState, storage_of}
 use Rattle.lqh_block.specs.Work.{work_key}
-use Rattle.commit_laws.specs.Firsts.{first}
+use Rattle.sig_core.specs.Firsts.{first}
 use Rattle.commit_laws.specs.Replica.{Event, Replica, aborts, ages, asks, at_key, commits, completes, event_at, expired_by, expires, expires_if, if_on, is_let_in, is_refused, rests, serves, serves_if}
 use Rattle.transit_laws.proofs.KeyTokens.{performs, token_of}
 use Rattle.transit_laws.proofs.OthersStay.{event_of, is_of, of_first}

@@ -29,7 +29,7 @@ use Rattle.row_locks.specs.declared.mode.Lock.TheVariants.{Granted, Queued}
 use Rattle.row_locks.specs.Rounds.{expired}
 use Rattle.row_locks.specs.Rows.{Served}
 use Rattle.row_locks.specs.Tables.{ahead_at, unwaited_at}
-use Rattle.row_locks.proofs.TxLemmas.{same_tx-is}
+use Rattle.sig_core.proofs.TxLemmas.{same_tx-is}
 use Rattle.lqh_block.specs.Abort as abort
 use Rattle.lqh_block.specs.Commit as commit
 use Rattle.lqh_block.specs.Complete as complete

@@ -17,7 +17,7 @@ use Rattle.commit_laws.specs.PrimaryEvents.{NoneOf}
 use Rattle.commit_laws.specs.Replica.{asks_for}
 use Rattle.commit_laws.specs.ReplicaLaws.{key_in}
 use Rattle.commit_laws.proofs.EachEntry.{each_filter}
-use Rattle.commit_laws.proofs.Keys.{same_tx-self}
+use Rattle.sig_core.proofs.Keys.{same_tx-self}
 use Rattle.answer_laws.proofs.Tally.{one_if, tally}
 use Rattle.answer_laws.proofs.Totals.{total_at}
 use Rattle.transit_laws.specs.Beside.{ComersAreUndecided, NoneWaitBeside, NoneWaitWhereCarriedOut}

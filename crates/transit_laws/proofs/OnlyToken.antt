@@ -17,7 +17,7 @@ use Rattle.world_core.specs.Machine.{after, hosts}
 use Rattle.world_core.specs.Start.{Start}
 use Rattle.commit_laws.specs.Replica.{asks_for, is_by}
 use Rattle.commit_laws.specs.ReplicaLaws.{key_in}
-use Rattle.commit_laws.specs.Ways.{is_aborting}
+use Rattle.tc_block.specs.Phases.{is_aborting}
 use Rattle.commit_laws.proofs.Replicas.{nodes_begin}
 use Rattle.answer_laws.proofs.Tally.{one_if, tally}
 use Rattle.answer_laws.proofs.Totals.{total_at}

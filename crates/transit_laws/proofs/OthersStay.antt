@@ -10,18 +10,18 @@ use Rattle.sig_core.specs.declared.signal.chain.RowWork.TheVariants.{Operate, St
 use Rattle.sig_core.specs.Op.{answer_to, image_of, key_of}
 use Rattle.sig_core.specs.Rows.{prepared}
 use Rattle.sig_core.specs.Same.{same_tx}
-use Rattle.row_locks.proofs.TxLemmas.{same_tx-is}
+use Rattle.sig_core.proofs.TxLemmas.{same_tx-is}
 use Rattle.row_locks.specs.declared.mode.Lock.{Lock}
 use Rattle.row_locks.specs.declared.mode.Lock.TheVariants.{Granted, Queued}
 use Rattle.row_locks.specs.Rows.{RowLock, asked}
 use Rattle.lqh_block.specs.declared.request.Request.{Request}
 use Rattle.lqh_block.specs.Work.{work_mode}
-use Rattle.commit_laws.specs.Firsts.{drop_first, first}
+use Rattle.sig_core.specs.Firsts.{drop_first, first}
 use Rattle.commit_laws.specs.Primary.{noted}
 use Rattle.commit_laws.specs.PrimaryEvents.{AtPrimary, ended_after, made_after, made_by, made_if, made_served, noted_unless}
 use Rattle.commit_laws.specs.Records.{as_committed, found, if_committed, seen_by, unless_committed}
 use Rattle.commit_laws.specs.Replica.{Cell, Event, Replica, aborts, ages, asked_by, asks, commits, completes, expires, is_by, is_let_in, key_after, operated, rests, served_by, serves, storing, worked}
-use Rattle.commit_laws.proofs.Firsts.{filter-drop_other}
+use Rattle.sig_core.proofs.Firsts.{filter-drop_other}
 use Rattle.commit_laws.proofs.RecordLemmas.{committed_keeps, found-edited, found-stored, if_keeps, unless_keeps}
 
 -- the transaction that an event is of, if it is of one

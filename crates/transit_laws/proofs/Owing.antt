@@ -26,8 +26,8 @@ use Rattle.node_core.specs.declared.host.Host as host
 use Rattle.node_core.specs.declared.host.Host.TheVariants.{Shell, Node}
 use Rattle.world_core.specs.Machine.{after}
 use Rattle.world_core.specs.Start.{Start}
-use Rattle.commit_laws.proofs.Keys.{same_tx-self}
-use Rattle.commit_laws.specs.Firsts.{first}
+use Rattle.sig_core.proofs.Keys.{same_tx-self}
+use Rattle.sig_core.specs.Firsts.{first}
 use Rattle.commit_laws.specs.Replica.{Event, asks, commits, expires_if, if_on, is_refused, rests, serves_if}
 use Rattle.commit_laws.specs.ReplicaLaws.{event_for, event_in}
 use Rattle.transit_laws.specs.GivenUp.{is_carried_out}

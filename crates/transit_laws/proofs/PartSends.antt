@@ -16,8 +16,8 @@ use Rattle.tc_block.specs.declared.phase.Phase.TheVariants.{Committing, Completi
 use Rattle.tc_block.specs.declared.touched.Touched.{Touched}
 use Rattle.tc_block.specs.Part.{part_effects, rest_if}
 use Rattle.tc_block.specs.Sends.{commit_of, complete_if, front_sends, key_sends, phase_sends}
-use Rattle.commit_laws.proofs.EachSent.{each_drop, each_mapped, each_take}
-use Rattle.commit_laws.proofs.Keys.{same_key-self, same_tx-self}
+use Rattle.run_theory.proofs.EachSent.{each_drop, each_mapped, each_take}
+use Rattle.sig_core.proofs.Keys.{same_key-self, same_tx-self}
 use Rattle.answer_laws.proofs.LqhOps.{true_and}
 use Rattle.answer_laws.proofs.Tally.{one_if}
 use Rattle.answer_laws.proofs.TcSends.{eqb-self}

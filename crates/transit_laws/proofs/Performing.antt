@@ -22,7 +22,7 @@ use Rattle.commit_laws.specs.Primary.{noted}
 use Rattle.commit_laws.specs.PrimaryEvents.{made_by, noted_unless}
 use Rattle.commit_laws.specs.Records.{found, seen_by, stored}
 use Rattle.commit_laws.specs.Replica.{Cell, operated, storing, worked}
-use Rattle.commit_laws.proofs.Keys.{same_tx-self}
+use Rattle.sig_core.proofs.Keys.{same_tx-self}
 use Rattle.commit_laws.proofs.RecordLemmas.{found-stored}
 use Rattle.transit_laws.specs.Routes.{IsWorkAt, primary, replicas}
 use Rattle.transit_laws.proofs.CircleView.{HasIt, IsAsked, IsStoring, Settles, Stores, Tells, View, answers_settle, last_settles, next_stores, writes_store}

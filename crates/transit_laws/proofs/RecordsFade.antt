@@ -12,7 +12,7 @@ use Rattle.sig_core.specs.declared.signal.chain.RowWork.TheVariants.{Operate, St
 use Rattle.sig_core.specs.Op.{answer_to, image_of, key_of}
 use Rattle.sig_core.specs.Rows.{committed, prepared}
 use Rattle.sig_core.specs.Same.{same_tx}
-use Rattle.row_locks.proofs.TxLemmas.{same_tx-is}
+use Rattle.sig_core.proofs.TxLemmas.{same_tx-is}
 use Rattle.row_locks.specs.declared.mode.Lock.{Lock}
 use Rattle.row_locks.specs.declared.mode.Lock.TheVariants.{Granted, Queued}
 use Rattle.row_locks.specs.Rows.{asked}
@@ -20,7 +20,7 @@ use Rattle.lqh_block.specs.declared.request.Request.{Request}
 use Rattle.lqh_block.specs.Work.{work_mode}
 use Rattle.world_core.specs.Machine.{after}
 use Rattle.world_core.specs.Start.{Start}
-use Rattle.commit_laws.specs.Firsts.{first}
+use Rattle.sig_core.specs.Firsts.{first}
 use Rattle.commit_laws.specs.Primary.{HasPrepared}
 use Rattle.commit_laws.specs.Records.{AreOnce, as_committed, edited, found, if_committed, put_back, seen_by, unless_committed}
 use Rattle.commit_laws.specs.Replica.{Cell, Event, Replica, aborts, ages, asked_by, asks, commits, completes, expires, is_let_in, key_after, operated, rests, served_by, serves, storing, worked}

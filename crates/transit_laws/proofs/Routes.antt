@@ -26,7 +26,7 @@ use Rattle.answer_laws.proofs.DihSends.{dih_kinds}
 use Rattle.answer_laws.proofs.SendKinds.{each_of, is_dih_kind}
 use Rattle.transit_laws.specs.Routes.{IsForBlock, IsHostRouted, IsOnWay, IsRouted, SignalsAreForBlocks, SignalsAreRouted, replicas}
 use Rattle.transit_laws.specs.Transit.{AreInTransit, Comes, IsRun, Takes, host_after, joined, logs_of}
-use Rattle.commit_laws.proofs.LiveKeeps.{is_chain}
+use Rattle.tc_block.proofs.LiveKeeps.{is_chain}
 use Rattle.transit_laws.proofs.HostAfter.{each_host}
 use Rattle.transit_laws.proofs.RoutesChain.{replicas_length}
 use Rattle.transit_laws.proofs.WaysPassed.{api_each}

@@ -16,9 +16,9 @@ use Rattle.lqh_block.specs.declared.request.Request.{Request}
 use Rattle.lqh_block.specs.Lqh.{lqh_row}
 use Rattle.lqh_block.specs.State.{LqhState}
 use Rattle.world_core.specs.Start.{Start}
-use Rattle.commit_laws.proofs.EachLqh.{RequestSends, lqh_sends_each}
-use Rattle.commit_laws.proofs.EachSent.{each_get}
-use Rattle.commit_laws.proofs.EachWaiting.{waiting_each}
+use Rattle.lqh_block.proofs.EachLqh.{RequestSends, lqh_sends_each}
+use Rattle.run_theory.proofs.EachSent.{each_get}
+use Rattle.lqh_block.proofs.EachWaiting.{waiting_each}
 use Rattle.transit_laws.specs.Routes.{IsCommitRouted, IsCompletionRouted, IsRequestRouted, IsRouted}
 use Rattle.transit_laws.proofs.RoutesSends.{AreSent, IsSent}
 

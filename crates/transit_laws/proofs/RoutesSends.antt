@@ -19,9 +19,9 @@ use Rattle.tc_block.specs.declared.touched.Touched.{Touched}
 use Rattle.tc_block.specs.Chain.{chain_of}
 use Rattle.tc_block.specs.Sends.{abort_of, aborts_of, commit_of, complete_if, complete_of, front_sends, key_sends, phase_sends}
 use Rattle.world_core.specs.Start.{Start}
-use Rattle.commit_laws.proofs.EachSent.{each_mapped}
+use Rattle.run_theory.proofs.EachSent.{each_mapped}
 use Rattle.transit_laws.specs.Routes.{IsForBlock, IsOnWay, IsRouted, IsTouchedRouted, replicas}
-use Rattle.commit_laws.proofs.LiveKeeps.{is_chain}
+use Rattle.tc_block.proofs.LiveKeeps.{is_chain}
 use Rattle.transit_laws.proofs.RoutesChain.{last_inside, primary_length}
 
 -- a signal is routed, and for its block

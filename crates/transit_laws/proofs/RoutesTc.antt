@@ -18,8 +18,8 @@ use Rattle.tc_block.specs.State.{TcState}
 use Rattle.tc_block.specs.Tc.{tc_row}
 use Rattle.tc_block.specs.Touched.{place_of, touched_by, unwritten, written, written_by}
 use Rattle.world_core.specs.Start.{Start, first_view}
-use Rattle.commit_laws.proofs.EachSent.{each_set}
-use Rattle.commit_laws.proofs.LiveKeeps.{AllAre, LiveKeeps, StepKeeps, TurnsKeep, live_keeps}
+use Rattle.run_theory.proofs.EachSent.{each_set}
+use Rattle.tc_block.proofs.LiveKeeps.{AllAre, LiveKeeps, StepKeeps, TurnsKeep, live_keeps}
 use Rattle.transit_laws.specs.Routes.{IsAskedRouted, IsTouchedRouted, IsTransactionRouted, replicas}
 use Rattle.transit_laws.proofs.RoutesSends.{IsSent, aborts_sent, phase_sent, plain_sent}
 

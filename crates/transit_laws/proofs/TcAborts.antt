@@ -22,9 +22,9 @@ use Rattle.tc_block.specs.Part.{part_effects}
 use Rattle.tc_block.specs.Sends.{aborts_of, entering, front_sends, key_sends, phase_sends}
 use Rattle.tc_block.specs.Touched.{place_of, touch, touched_by}
 use Rattle.tc_block.specs.Turn.{Turn, asking}
-use Rattle.commit_laws.specs.Ways.{is_aborting}
-use Rattle.commit_laws.proofs.Keys.{same_tx-self}
-use Rattle.commit_laws.proofs.EachTurn.{AbortForms, CommittedForms, TurnForms}
+use Rattle.tc_block.specs.Phases.{is_aborting}
+use Rattle.sig_core.proofs.Keys.{same_tx-self}
+use Rattle.tc_block.proofs.EachTurn.{AbortForms, CommittedForms, TurnForms}
 use Rattle.commit_laws.proofs.OneWay.{back_more}
 use Rattle.transit_laws.proofs.TcTurns.{gives_up}
 

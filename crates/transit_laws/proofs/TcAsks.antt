@@ -41,8 +41,8 @@ use Rattle.tc_block.specs.declared.transaction.Transaction.{Transaction}
 use Rattle.tc_block.specs.Turn.{Turn, at_phase, going}
 use Rattle.commit_laws.specs.Kinds.{kind_of}
 use Rattle.commit_laws.specs.Ways.{Way, back, way_of}
-use Rattle.commit_laws.proofs.Keys.{same_tx-self}
-use Rattle.commit_laws.proofs.EachTurn.{RowsAre, no_view, rows_of}
+use Rattle.sig_core.proofs.Keys.{same_tx-self}
+use Rattle.tc_block.proofs.EachTurn.{RowsAre, nowhere, rows_of}
 use Rattle.commit_laws.proofs.TcGoes.{AllSay, SaysOf, turn_goes}
 use Rattle.transit_laws.proofs.TcCircle.{left_by}
 
@@ -195,7 +195,7 @@ module _ (tx : TxId) where
     wait_rests v none = ap (λ o. left_by (going (operate.wait_by tx t o))) none
 
     pub wait_asks : (body : Body) → AskTurn tx body t (going (operate.wait_row tx t))
-    wait_asks body = mute_turn body (going (operate.wait_row tx t)) ((says_rows 0 no_view (Client (TcWaitReq tx)) (λ is. cc)).waits refl) wait_rests
+    wait_asks body = mute_turn body (going (operate.wait_row tx t)) ((says_rows 0 nowhere (Client (TcWaitReq tx)) (λ is. cc)).waits refl) wait_rests
 
     ready_free : (phase : Phase) (asked : Option Asked) → operate.is_ready phase asked ≡ true → asked ≡ None
     ready_free Open None is = refl
@@ -244,14 +244,14 @@ module _ (tx : TxId) where
     completed_rests node v none = ap (λ p. left_by (complete.completed_by node tx t p)) v
 
     pub completed_asks : (node : ℕ) (body : Body) → AskTurn tx body t (complete.completed_row node tx t)
-    completed_asks node body = mute_turn body (complete.completed_row node tx t) ((says_rows node no_view (Chain (Completed tx [])) (λ is. cc)).completed [] refl) (completed_rests node)
+    completed_asks node body = mute_turn body (complete.completed_row node tx t) ((says_rows node nowhere (Chain (Completed tx [])) (λ is. cc)).completed [] refl) (completed_rests node)
 
     aborted_rests : (node : ℕ) → RestsOn (abort.aborted_row node tx t)
     unfolding abort.aborted_row
     aborted_rests node v none = ap (λ p. left_by (abort.aborted_by node tx t p)) v
 
     pub aborted_asks : (node : ℕ) (body : Body) → AskTurn tx body t (abort.aborted_row node tx t)
-    aborted_asks node body = mute_turn body (abort.aborted_row node tx t) ((says_rows node no_view (Chain (Aborted tx [])) (λ is. cc)).aborted [] refl) (aborted_rests node)
+    aborted_asks node body = mute_turn body (abort.aborted_row node tx t) ((says_rows node nowhere (Chain (Aborted tx [])) (λ is. cc)).aborted [] refl) (aborted_rests node)
 
     refuse_rests : (node : ℕ) (view : View) (key : List ℕ) (why : AbortCause) → RestsOn (abort.refuse_row node view tx t key why)
     unfolding abort.refuse_row

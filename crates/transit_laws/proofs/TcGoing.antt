@@ -29,7 +29,7 @@ use Rattle.tc_block.specs.declared.transaction.Transaction.{Transaction}
 use Rattle.tc_block.specs.Operate.{asked_if, asked_on, fresh}
 use Rattle.world_core.specs.Machine.{sent_count, signals_of, step_after}
 use Rattle.world_core.specs.Start.{Start, first_view}
-use Rattle.commit_laws.proofs.Keys.{same_tx-self}
+use Rattle.sig_core.proofs.Keys.{same_tx-self}
 use Rattle.transit_laws.specs.Live.{live_at}
 use Rattle.transit_laws.specs.Tokens.{is_token}
 use Rattle.transit_laws.specs.Transit.{AreInTransit, Comes, Takes, joined, logs_of}

@@ -33,7 +33,7 @@ use Rattle.tc_block.specs.Operate as operate
 use Rattle.tc_block.specs.Part.{part_effects, rest_if}
 use Rattle.tc_block.specs.Sends.{abort_of, complete_if, entering, front_sends, go_on_if, go_on_row, key_sends, phase_sends, wait_of}
 use Rattle.tc_block.specs.Turn.{Turn, asking, going}
-use Rattle.commit_laws.proofs.Keys.{same_tx-self}
+use Rattle.sig_core.proofs.Keys.{same_tx-self}
 use Rattle.answer_laws.proofs.SendKinds.{SendsOnly, are_of, each_of, of_append, of_drop, of_flat, of_map, of_take}
 use Rattle.answer_laws.proofs.TcLives.{apart}
 use Rattle.transit_laws.proofs.TxSignals.{is_sign}

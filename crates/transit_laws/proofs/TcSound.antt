@@ -32,11 +32,12 @@ use Rattle.node_core.specs.Fresh.{begun_node, fresh_node, fresh_shell}
 use Rattle.node_core.specs.Row.{node_row, row}
 use Rattle.world_core.specs.Machine.{after}
 use Rattle.world_core.specs.Start.{Start, started}
-use Rattle.commit_laws.specs.Ways.{Way, back, back_by, closes, forth, is_aborting, neither, put_ways, sent_ways, tc_sends, way_of}
-use Rattle.commit_laws.proofs.LiveSplit.{KeysOnce, Live, Split, each_inserted, once_gone, once_inserted, once_set}
+use Rattle.tc_block.specs.Phases.{is_aborting}
+use Rattle.commit_laws.specs.Ways.{Way, back, back_by, closes, forth, neither, put_ways, sent_ways, tc_sends, way_of}
+use Rattle.tc_block.proofs.LiveSplit.{KeysOnce, Live, Split, each_inserted, once_gone, once_inserted, once_set}
 use Rattle.commit_laws.proofs.OneWay.{back_more}
-use Rattle.commit_laws.proofs.EachTc.{tc_each}
-use Rattle.commit_laws.proofs.EachTurn.{rows_both, rows_of}
+use Rattle.tc_block.proofs.EachTc.{tc_each}
+use Rattle.tc_block.proofs.EachTurn.{rows_both, rows_of}
 use Rattle.commit_laws.proofs.TcWays.{AllWays, TurnWays, WayOf, turn_ways}
 use Rattle.answer_laws.proofs.TcOps.{is_right}
 use Rattle.transit_laws.proofs.LqhWaits.{WaitersAsk, lqh_asks}

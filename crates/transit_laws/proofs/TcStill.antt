@@ -25,10 +25,10 @@ use Rattle.tc_block.specs.declared.transaction.Transaction.{Transaction}
 use Rattle.tc_block.specs.Operate as operate
 use Rattle.tc_block.specs.Sends.{abort_of, aborts_of, complete_if, front_sends, go_on_row, key_sends, phase_sends}
 use Rattle.tc_block.specs.Turn.{Turn}
-use Rattle.commit_laws.proofs.EachSent.{each_flat, each_mapped}
-use Rattle.commit_laws.proofs.EachTurn as turns
-use Rattle.commit_laws.proofs.EachTurn.{TurnForms, no_view}
-use Rattle.commit_laws.proofs.LiveKeeps.{TurnKeeps, TurnsKeep, is_chain, turn_keeps}
+use Rattle.run_theory.proofs.EachSent.{each_flat, each_mapped}
+use Rattle.tc_block.proofs.EachTurn as turns
+use Rattle.tc_block.proofs.EachTurn.{TurnForms, nowhere}
+use Rattle.tc_block.proofs.LiveKeeps.{TurnKeeps, TurnsKeep, is_chain, turn_keeps}
 use Rattle.answer_laws.proofs.Tally.{tally_none}
 use Rattle.transit_laws.specs.Tokens.{is_token}
 use Rattle.transit_laws.proofs.LqhTokens.{tokens_out}
@@ -107,10 +107,10 @@ module _ (v : TxId) where
         (turns.answers 0 view tx t (Chain (LqhKeyConf tx key answer)) IsStill (turns_still tx 0 view t (Chain (LqhKeyConf tx key answer)) (λ op is. cc)) key answer refl).sends
 
     pub wait_still : (t : Transaction) → AreStill (operate.wait_row tx t).effects.sends
-    wait_still t = (turns.waits 0 no_view tx t _ IsStill (commit_req_still tx 0 no_view t)).sends
+    wait_still t = (turns.waits 0 nowhere tx t _ IsStill (commit_req_still tx 0 nowhere t)).sends
 
     pub decide_still : (node : ℕ) (t : Transaction) → AreStill (commit.decide_row node tx t).effects.sends
-    decide_still node t = (turns.decides node no_view tx t _ IsStill (commit_req_still tx node no_view t) refl).sends
+    decide_still node t = (turns.decides node nowhere tx t _ IsStill (commit_req_still tx node nowhere t) refl).sends
 
     pub commit_still : (node : ℕ) (view : View) (t : Transaction) (epoch : ℕ) → AreStill (commit.commit_row node view tx t epoch).step.effects.sends
     commit_still node view t epoch =
@@ -120,7 +120,7 @@ module _ (v : TxId) where
     committed_still node view t = (turns.committed node view tx t _ IsStill (commit_req_still tx node view t)).sends
 
     pub completed_still : (node : ℕ) (t : Transaction) → AreStill (complete.completed_row node tx t).step.effects.sends
-    completed_still node t = (turns.completed node no_view tx t _ IsStill (commit_req_still tx node no_view t)).sends
+    completed_still node t = (turns.completed node nowhere tx t _ IsStill (commit_req_still tx node nowhere t)).sends
 
     pub refuse_still : (node : ℕ) (view : View) (t : Transaction) (key : List ℕ) (why : AbortCause) → AreStill (abort.refuse_row node view tx t key why).step.effects.sends
     refuse_still node view t key why =
@@ -131,4 +131,4 @@ module _ (v : TxId) where
         (turns.rolls_back node view tx t (Client (TcRollbackReq tx)) IsStill (turns_still tx node view t (Client (TcRollbackReq tx)) (λ op is. cc)) refl).sends
 
     pub aborted_still : (node : ℕ) (t : Transaction) → AreStill (abort.aborted_row node tx t).step.effects.sends
-    aborted_still node t = (turns.aborted node no_view tx t _ IsStill (commit_req_still tx node no_view t)).sends
+    aborted_still node t = (turns.aborted node nowhere tx t _ IsStill (commit_req_still tx node nowhere t)).sends

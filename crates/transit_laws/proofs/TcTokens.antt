@@ -15,17 +15,18 @@ use Rattle.sig_core.specs.declared.signal.chain.ChainSignal.TheVariants.{LqhKeyC
 use Rattle.sig_core.specs.declared.view.View.{View}
 use Rattle.sig_core.specs.Same.{same_tx}
 use Rattle.sig_core.specs.Step.{Step}
-use Rattle.row_locks.proofs.TxLemmas.{same_tx-is, same_tx-swap}
+use Rattle.sig_core.proofs.TxLemmas.{same_tx-is, same_tx-swap}
 use Rattle.tc_block.specs.declared.transaction.Transaction.{Transaction}
 use Rattle.tc_block.specs.Live.{turned_if, without}
 use Rattle.tc_block.specs.Operate.{fresh}
 use Rattle.tc_block.specs.State.{TcState}
 use Rattle.tc_block.specs.Tc.{begin_if, begun, next_tx, tc_row}
 use Rattle.tc_block.specs.Turn.{Turn}
-use Rattle.commit_laws.specs.Ways.{Way, back, back_by, closes, forth, is_aborting, neither, put_ways, way_of}
-use Rattle.commit_laws.proofs.EachTc.{tc_each}
-use Rattle.commit_laws.proofs.EachTurn.{RowsAre, rows_both}
-use Rattle.commit_laws.proofs.LiveSplit.{KeysOnce, Live, Split, once_back, once_front}
+use Rattle.tc_block.specs.Phases.{is_aborting}
+use Rattle.commit_laws.specs.Ways.{Way, back, back_by, closes, forth, neither, put_ways, way_of}
+use Rattle.tc_block.proofs.EachTc.{tc_each}
+use Rattle.tc_block.proofs.EachTurn.{RowsAre, rows_both}
+use Rattle.tc_block.proofs.LiveSplit.{KeysOnce, Live, Split, once_back, once_front}
 use Rattle.commit_laws.proofs.OneWay.{back_more}
 use Rattle.answer_laws.proofs.Tally.{one_if}
 use Rattle.answer_laws.proofs.TcOps.{is_right}

@@ -17,8 +17,8 @@ use Rattle.tc_block.specs.declared.touched.Touched.{Touched}
 use Rattle.tc_block.specs.Touched.{is_on, place_of, touch, touched_by, unwritten, write, written, written_by}
 use Rattle.world_core.specs.History.{is_done}
 use Rattle.commit_laws.specs.OneKey.{ops_on}
-use Rattle.commit_laws.proofs.Firsts.{first-set, place_by, position-cons, set_by, set_first}
-use Rattle.commit_laws.proofs.Keys.{same_key-self, same_key-swap}
+use Rattle.sig_core.proofs.Firsts.{first-set, place_by, position-cons, set_by, set_first}
+use Rattle.sig_core.proofs.Keys.{same_key-self, same_key-swap}
 use Rattle.transit_laws.specs.Keyed.{AreApart, HasTouched, IsWrittenRightly}
 
 -- an item has a place where one passes

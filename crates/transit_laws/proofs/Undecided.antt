@@ -13,8 +13,9 @@ use Rattle.node_core.specs.declared.host.Host as host
 use Rattle.node_core.specs.declared.host.Host.TheVariants.{Shell, Node}
 use Rattle.world_core.specs.Machine.{after}
 use Rattle.world_core.specs.Start.{Start}
-use Rattle.commit_laws.specs.Phases as phases
-use Rattle.commit_laws.specs.Ways.{back_by, forth_by, is_aborting, sent_ways}
+use Rattle.tc_block.specs.Phases as phases
+use Rattle.tc_block.specs.Phases.{is_aborting}
+use Rattle.commit_laws.specs.Ways.{back_by, forth_by, sent_ways}
 use Rattle.commit_laws.proofs.Causal.{sent_kinds}
 use Rattle.commit_laws.proofs.HostGoes.{HostKnows}
 use Rattle.commit_laws.proofs.OneWay.{forth_decided, not_apart}

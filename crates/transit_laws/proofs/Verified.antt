@@ -24,7 +24,7 @@ use Rattle.commit_laws.specs.Kinds.{Kind, kind_of}
 use Rattle.commit_laws.specs.Kinds as kind
 use Rattle.commit_laws.proofs.Causal.{sent_kinds}
 use Rattle.commit_laws.proofs.CausalFacts.{DecidesAt, DecidesRightly, request_other}
-use Rattle.commit_laws.proofs.Keys.{same_tx-self}
+use Rattle.sig_core.proofs.Keys.{same_tx-self}
 use Rattle.commit_laws.proofs.TcNumbers.{put_kinds, verified_by}
 use Rattle.transit_laws.specs.Owed.{is_decided}
 use Rattle.transit_laws.specs.Transit.{IsRun, logs_of}

@@ -18,7 +18,7 @@ use Rattle.world_core.specs.Start.{Start, started}
 use Rattle.commit_laws.specs.Records.{found}
 use Rattle.commit_laws.specs.Replica.{Replica}
 use Rattle.commit_laws.specs.ReplicaLaws.{key_in}
-use Rattle.commit_laws.specs.Phases.{is_decided}
+use Rattle.tc_block.specs.Phases.{is_decided}
 use Rattle.commit_laws.specs.Ways.{forth_by, sent_ways}
 use Rattle.commit_laws.proofs.OneWay.{forth_decided}
 use Rattle.commit_laws.proofs.Replicas.{nodes_begin}

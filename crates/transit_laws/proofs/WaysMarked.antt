@@ -17,8 +17,8 @@ use Rattle.tc_block.specs.State.{TcState}
 use Rattle.tc_block.specs.Tc.{tc_row}
 use Rattle.node_core.specs.Dih.{DihState, decide_if, decide_row, dih_row}
 use Rattle.run_theory.specs.Lists.{Each}
-use Rattle.commit_laws.proofs.EachApi.{api_marks_each}
-use Rattle.commit_laws.proofs.EachLqh.{lqh_marks_each}
+use Rattle.api_block.proofs.EachApi.{api_marks_each}
+use Rattle.lqh_block.proofs.EachLqh.{lqh_marks_each}
 use Rattle.commit_laws.specs.Ways.{Way, forth, neither, way_of}
 use Rattle.commit_laws.proofs.TcMarks.{tc_marks}
 

@@ -11,7 +11,7 @@ use Rattle.lqh_block.specs.declared.request.Request.{Request}
 use Rattle.lqh_block.specs.Lqh.{lqh_row}
 use Rattle.lqh_block.specs.State.{LqhState}
 use Rattle.run_theory.specs.Lists.{Each}
-use Rattle.commit_laws.proofs.EachLqh.{RequestSends, lqh_sends_each}
+use Rattle.lqh_block.proofs.EachLqh.{RequestSends, lqh_sends_each}
 use Rattle.commit_laws.specs.Ways.{Way, back, closes, forth, neither, way_of}
 use Rattle.answer_laws.proofs.ApiMoves.{ApiMove, api_moves, begun_as, ends, goes, is_api_kind, opens, refuses, rests}
 use Rattle.answer_laws.proofs.DihSends.{dih_kinds}

@@ -32,7 +32,7 @@ use Rattle.node_core.specs.Row.{row}
 use Rattle.world_core.specs.Machine.{after, machine, signals_of, step_after}
 use Rattle.world_core.specs.Start.{Start, started}
 use Rattle.commit_laws.specs.Ways.{Way, back, back_by, closes, forth, neither, put_ways, sent_ways, tc_sends, way_of}
-use Rattle.commit_laws.proofs.Keys.{same_tx-self}
+use Rattle.sig_core.proofs.Keys.{same_tx-self}
 use Rattle.commit_laws.proofs.OneWay.{back_more}
 use Rattle.api_block.specs.State.{ApiState}
 use Rattle.answer_laws.proofs.Hosts.{shell_after}

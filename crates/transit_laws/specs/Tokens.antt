@@ -13,7 +13,7 @@ use Rattle.node_core.specs.declared.host.Host.{Host}
 use Rattle.node_core.specs.declared.host.Host.TheVariants.{Shell, Node}
 use Rattle.world_core.specs.Machine.{after, hosts}
 use Rattle.world_core.specs.Start.{Start}
-use Rattle.commit_laws.specs.Ways.{is_aborting}
+use Rattle.tc_block.specs.Phases.{is_aborting}
 use Rattle.answer_laws.proofs.Tally.{one_if, tally}
 use Rattle.answer_laws.proofs.Totals.{total}
 use Rattle.transit_laws.specs.GivenUp.{is_given_up}

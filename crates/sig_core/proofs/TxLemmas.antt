@@ -3,7 +3,7 @@ use Rattle.std.proofs.Common.{◌≡◌, ℕ, Bool, true, false, ◌&&◌, nat_e
 use Rattle.std.proofs.lemmas.Bool.{and_parts, eqb-true}
 use Rattle.std.specs.Cmp.{nat_eq_equiv}
 use Rattle.sig_core.specs.declared.member.TxId.{TxId}
-use Rattle.row_locks.specs.Modes.{same_tx}
+use Rattle.sig_core.specs.Same.{same_tx}
 
 and_swap : (a b c x y z : Bool) → a ≡ x → b ≡ y → c ≡ z → (a && (b && c)) ≡ (x && (y && z))
 and_swap a b c x y z p q r = λ i. p i && (q i && r i)

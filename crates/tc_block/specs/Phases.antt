@@ -1,7 +1,7 @@
 -- How far a transaction has come at its coordinator.
 use Rattle.std.specs.Prelude.{Bool, true, false}
 use Rattle.tc_block.specs.declared.phase.Phase.{Phase}
-use Rattle.tc_block.specs.declared.phase.Phase.TheVariants.{Open, Committing, Completing}
+use Rattle.tc_block.specs.declared.phase.Phase.TheVariants.{Open, Committing, Completing, Aborting}
 
 -- it takes operations, and hasn't asked for an epoch
 abbrev pub is_open : Phase → Bool
@@ -18,3 +18,8 @@ is_decided phase = false
 abbrev pub is_completing : Phase → Bool
 is_completing (Completing epoch awaited) = true
 is_completing phase = false
+
+-- it is being aborted
+abbrev pub is_aborting : Phase → Bool
+is_aborting (Aborting cause verifying awaited) = true
+is_aborting phase = false

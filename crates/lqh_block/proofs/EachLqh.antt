@@ -36,7 +36,7 @@ use Rattle.lqh_block.specs.Complete as complete
 use Rattle.lqh_block.specs.declared.request.Request.{Request}
 use Rattle.lqh_block.specs.Dump as dump
 use Rattle.lqh_block.specs.Expire as expire
-use Rattle.lqh_block.specs.Lqh.{lqh_row}
+use Rattle.lqh_block.specs.Lqh.{lqh_table}
 use Rattle.lqh_block.specs.Operate as operate
 use Rattle.lqh_block.specs.State.{LqhState, freed_lock, go_on, go_on_if, serve_granted, storage_of, with_lock, with_waiting}
 use Rattle.lqh_block.specs.Storage as storage
@@ -226,7 +226,7 @@ module _ (P : Outgoing → Type 0) (M : Mark → Type 0) where
     dumps at = record { sends = (sends.dumps _ _, tt); marks = tt }
 
   -- whatever the rows take
-  pub lqh_each : (s : LqhState) (body : Body) → RowsSend P s body → RowsMark M s body → StepEach P M (lqh_row s body)
+  pub lqh_each : (s : LqhState) (body : Body) → RowsSend P s body → RowsMark M s body → StepEach P M (lqh_table s body)
   lqh_each s (Chain (LqhKeyReq tx what chain at)) sends marks =
       let r : Request = record { tx = tx; work = what; chain = chain; at = at } in
       requested s (Chain (LqhKeyReq tx what chain at)) sends marks s r (sends.asked r refl)
@@ -270,9 +270,9 @@ mark_any s body = record {
 }
 
 -- what is sent, whatever is marked
-pub lqh_sends_each : (P : Outgoing → Type 0) (s : LqhState) (body : Body) → RowsSend P s body → Each P (lqh_row s body).effects.sends
+pub lqh_sends_each : (P : Outgoing → Type 0) (s : LqhState) (body : Body) → RowsSend P s body → Each P (lqh_table s body).effects.sends
 lqh_sends_each P s body sends = (lqh_each P (λ (m : Mark). Unit {0}) s body sends (mark_any s body)).sends
 
 -- what is marked, whatever is sent
-pub lqh_marks_each : (M : Mark → Type 0) (s : LqhState) (body : Body) → RowsMark M s body → Each M (lqh_row s body).effects.marks
+pub lqh_marks_each : (M : Mark → Type 0) (s : LqhState) (body : Body) → RowsMark M s body → Each M (lqh_table s body).effects.marks
 lqh_marks_each M s body marks = (lqh_each (λ (o : Outgoing). Unit {0}) M s body (send_any s body) marks).marks

@@ -12,12 +12,11 @@ use Rattle.sig_core.specs.declared.outs.Outgoing.{Outgoing}
 use Rattle.sig_core.specs.declared.signal.Body.{Body}
 use Rattle.sig_core.specs.declared.signal.Body.TheVariants.{Client, Chain}
 use Rattle.sig_core.specs.declared.signal.client.ClientSignal.TheVariants.{TcKeyReq}
-use Rattle.sig_core.specs.declared.view.View.{View}
 use Rattle.sig_core.specs.Op.{key_of}
 use Rattle.sig_core.specs.Same.{same_tx}
 use Rattle.sig_core.specs.Step.{Step}
+use Rattle.frag_map.specs.Layout.{Layout, chain_of}
 use Rattle.tc_block.specs.Abort as abort
-use Rattle.tc_block.specs.Chain.{chain_of}
 use Rattle.tc_block.specs.declared.phase.Asked.{Asked}
 use Rattle.tc_block.specs.declared.phase.Phase.{Phase}
 use Rattle.tc_block.specs.declared.phase.Phase.TheVariants.{Verifying}
@@ -27,12 +26,12 @@ use Rattle.tc_block.specs.Operate as operate
 use Rattle.tc_block.specs.Part.{part_effects, rest_if}
 use Rattle.tc_block.specs.Sends.{aborts_of, entering, phase_sends, wait_of}
 use Rattle.tc_block.specs.State.{TcState}
-use Rattle.tc_block.specs.Tc.{begin_if, next_tx, pass_if, tc_row}
+use Rattle.tc_block.specs.Tc.{begin_if, next_tx, pass_if, tc_table}
 use Rattle.tc_block.specs.Turn.{Turn, asking, at_phase}
-use Rattle.commit_laws.proofs.EachSent.{each_drop, each_mapped, each_take}
-use Rattle.commit_laws.proofs.EachTc.{tc_each}
-use Rattle.commit_laws.proofs.EachTurn.{AbortForms, CommittedForms, TurnForms, rows_of}
-use Rattle.commit_laws.proofs.LiveSplit.{Live, Split}
+use Rattle.run_theory.proofs.EachSent.{each_drop, each_mapped, each_take}
+use Rattle.tc_block.proofs.EachTc.{tc_each}
+use Rattle.tc_block.proofs.EachTurn.{AbortForms, CommittedForms, TurnForms, rows_of}
+use Rattle.tc_block.proofs.LiveSplit.{Live, Split}
 
 -- a step of a transaction leaves it so, and sends only such signals
 pub record StepKeeps (P : Transaction → Type 0) (Q : Outgoing → Type 0) (step : Step Transaction) : Type 0 where
@@ -46,10 +45,10 @@ abbrev pub AllAre : (Transaction → Type 0) → Live → Type 0
 AllAre P live = Each (λ (e : TxId × Transaction). P e.1) live
 
 -- a step of the coordinator that leaves each transaction so
-pub record LiveKeeps (P : Transaction → Type 0) (Q : Outgoing → Type 0) (before : View) (step : Step TcState) : Type 0 where
+pub record LiveKeeps (P : Transaction → Type 0) (Q : Outgoing → Type 0) (before : Layout) (step : Step TcState) : Type 0 where
   pub live : AllAre P step.state.live
   pub sends : Each Q step.effects.sends
-  pub view : step.state.view ≡ before
+  pub layout : step.state.layout ≡ before
 
 -- what a coordinator sends beside the turns of its transactions
 pub record SendsBeside (Q : Outgoing → Type 0) (s : TcState) : Type 0 where
@@ -64,15 +63,15 @@ is_chain body = false
 
 -- what holds of a transaction whatever its phase, and stays when an operation is answered; and what holds of all that it sends
 -- but for operations
-pub record TurnsKeep (P : Transaction → Type 0) (Q : Outgoing → Type 0) (view : View) : Type 0 where
+pub record TurnsKeep (P : Transaction → Type 0) (Q : Outgoing → Type 0) (layout : Layout) : Type 0 where
   pub phase : (t : Transaction) (phase : Phase) → P t → P (at_phase t phase)
   pub unasked : (t : Transaction) → P t → P (asking t None)
   pub answered : (t : Transaction) (asked : Asked) (answer : Answer) → t.asked ≡ Some asked → P t → P (operate.answered t asked answer)
-  pub sends : (tx : TxId) (t : Transaction) (phase : Phase) → P t → Each Q (phase_sends view tx phase t.touched)
-  pub aborts : (tx : TxId) (key : List ℕ) → Each Q (aborts_of tx key (chain_of view key))
+  pub sends : (tx : TxId) (t : Transaction) (phase : Phase) → P t → Each Q (phase_sends layout tx phase t.touched)
+  pub aborts : (tx : TxId) (key : List ℕ) → Each Q (aborts_of tx key (chain_of layout key))
   pub plain : (o : Outgoing) → is_chain o.body ≡ false → Q o
 
-module _ (P : Transaction → Type 0) (Q : Outgoing → Type 0) (node : ℕ) (view : View) (keep : TurnsKeep P Q view) (tx : TxId) where
+module _ (P : Transaction → Type 0) (Q : Outgoing → Type 0) (node : ℕ) (layout : Layout) (keep : TurnsKeep P Q layout) (tx : TxId) where
   rest_keeps : (at : ℕ) (b : Bool) → Each Q (rest_if node tx at b)
   rest_keeps at true = (keep.plain _ refl, tt)
   rest_keeps at false = tt
@@ -83,26 +82,26 @@ module _ (P : Transaction → Type 0) (Q : Outgoing → Type 0) (node : ℕ) (vi
       each_append Q (take 8 (drop at sends)) (rest_if node tx at (nat_lt (at + 8) (length sends))) (each_take Q 8 (drop at sends) (each_drop Q at sends all))
       (rest_keeps at (nat_lt (at + 8) (length sends)))
 
-  enters : (t : Transaction) (phase : Phase) → P t → StepKeeps P Q (entering node view tx t phase)
+  enters : (t : Transaction) (phase : Phase) → P t → StepKeeps P Q (entering node layout tx t phase)
   unfolding entering
-  enters t phase fine = record { state = keep.phase t phase fine; sends = part_keeps (phase_sends view tx phase t.touched) 0 (keep.sends tx t phase fine) }
+  enters t phase fine = record { state = keep.phase t phase fine; sends = part_keeps (phase_sends layout tx phase t.touched) 0 (keep.sends tx t phase fine) }
 
-  committed_keeps : (t : Transaction) (epoch : ℕ) → P t → CommittedForms node view tx t epoch (λ turn. TurnKeeps P Q turn)
+  committed_keeps : (t : Transaction) (epoch : ℕ) → P t → CommittedForms node layout tx t epoch (λ turn. TurnKeeps P Q turn)
   committed_keeps t epoch fine = record { enters = λ some. enters t _ fine; ends = λ none. record { state = fine; sends = (keep.plain _ refl, (keep.plain _ refl, tt)) } }
 
   abort_ends : (why : AbortCause) (b : Bool) → Each Q (abort.abort_end node tx why b)
   abort_ends why true = (keep.plain _ refl, (keep.plain _ refl, tt))
   abort_ends why false = (keep.plain _ refl, tt)
 
-  abort_keeps : (t : Transaction) → P t → (why : AbortCause) → AbortForms node view tx t why (λ turn. TurnKeeps P Q turn)
+  abort_keeps : (t : Transaction) → P t → (why : AbortCause) → AbortForms node layout tx t why (λ turn. TurnKeeps P Q turn)
   abort_keeps t fine why = record { enters = λ some. enters t _ fine; ends = λ none. record { state = fine; sends = abort_ends why (abort.is_verifying t.phase) } }
 
   -- so each turn does
-  pub turn_keeps : (t : Transaction) (body : Body) → P t → ((op : Op) → body ≡ Client (TcKeyReq tx op) → StepKeeps P Q (operate.operating tx t op (chain_of view (key_of op))))
-      → TurnForms node view tx t body (λ turn. TurnKeeps P Q turn)
+  pub turn_keeps : (t : Transaction) (body : Body) → P t → ((op : Op) → body ≡ Client (TcKeyReq tx op) → StepKeeps P Q (operate.operating tx t op (chain_of layout (key_of op))))
+      → TurnForms node layout tx t body (λ turn. TurnKeeps P Q turn)
   turn_keeps t body fine operated = record {
     stays = record { state = fine; sends = tt };
-    goes_on = λ at. record { state = fine; sends = part_keeps (phase_sends view tx t.phase t.touched) at (keep.sends tx t t.phase fine) };
+    goes_on = λ at. record { state = fine; sends = part_keeps (phase_sends layout tx t.phase t.touched) at (keep.sends tx t t.phase fine) };
     operates = λ op is can. operated op is;
     answers = λ key answer asked is on at. record { state = keep.answered t asked answer on fine; sends = (keep.plain _ refl, tt) };
     late = λ key asked why verifying awaited on at. record { state = keep.unasked t fine; sends = keep.aborts tx key };
@@ -130,17 +129,17 @@ module _ (P : Transaction → Type 0) (Q : Outgoing → Type 0) where
       by false more = (all.0, more)
 
   -- whatever the coordinator takes, where its turns do so
-  pub live_each : (s : TcState) (body : Body) → P operate.fresh → SendsBeside Q s → ((tx : TxId) (t : Transaction) → P t → TurnForms s.node s.view tx t body (λ turn. TurnKeeps P Q turn))
-      → AllAre P s.live → LiveKeeps P Q s.view (tc_row s body)
+  pub live_each : (s : TcState) (body : Body) → P operate.fresh → SendsBeside Q s → ((tx : TxId) (t : Transaction) → P t → TurnForms s.node s.layout tx t body (λ turn. TurnKeeps P Q turn))
+      → AllAre P s.live → LiveKeeps P Q s.layout (tc_table s body)
   unfolding without
   live_each s body fresh beside forms all =
-      tc_each (λ tx t turn. TurnKeeps P Q turn) (LiveKeeps P Q s.view) s body (record {
-        turns = λ tx t at split. rows_of s.node s.view tx t body (λ turn. TurnKeeps P Q turn) (forms tx t (own tx t at split));
+      tc_each (λ tx t turn. TurnKeeps P Q turn) (LiveKeeps P Q s.layout) s body (record {
+        turns = λ tx t at split. rows_of s.node s.layout tx t body (λ turn. TurnKeeps P Q turn) (forms tx t (own tx t at split));
         turned = λ tx t at split turn keeps. by tx t at split turn keeps turn.over;
-        stays = record { live = all; sends = tt; view = refl };
-        full = λ name. record { live = all; sends = beside.full name; view = refl };
-        begins = λ name. record { live = inserted s.live (next_tx s) operate.fresh fresh all; sends = beside.begins name; view = refl };
-        passes = λ tx ahead. record { live = all; sends = beside.passes tx ahead; view = refl };
+        stays = record { live = all; sends = tt; layout = refl };
+        full = λ name. record { live = all; sends = beside.full name; layout = refl };
+        begins = λ name. record { live = inserted s.live (next_tx s) operate.fresh fresh all; sends = beside.begins name; layout = refl };
+        passes = λ tx ahead. record { live = all; sends = beside.passes tx ahead; layout = refl };
       })
     where
       Own : TxId × Transaction → Type 0
@@ -152,23 +151,23 @@ module _ (P : Transaction → Type 0) (Q : Outgoing → Type 0) where
       own : (tx : TxId) (t : Transaction) (at : ℕ) → Split tx t s.live at → P t
       own tx t at split = (each_after Own split.front ((tx, t) ∷ split.back) (all_split tx t at split)).0
 
-      by : (tx : TxId) (t : Transaction) (at : ℕ) → Split tx t s.live at → (turn : Turn) → TurnKeeps P Q turn → (b : Bool) → LiveKeeps P Q s.view (turned_if s at turn b)
+      by : (tx : TxId) (t : Transaction) (at : ℕ) → Split tx t s.live at → (turn : Turn) → TurnKeeps P Q turn → (b : Bool) → LiveKeeps P Q s.layout (turned_if s at turn b)
       by tx t at split turn keeps true = record {
         live = subst (Each Own) (sym split.gone)
             (each_append Own split.front split.back (each_before Own split.front ((tx, t) ∷ split.back) (all_split tx t at split)) (each_after Own split.front ((tx, t) ∷ split.back) (all_split tx t at split)).1);
         sends = keeps.sends;
-        view = refl;
+        layout = refl;
       }
       by tx t at split turn keeps false = record {
         live = subst (Each Own) (sym (split.set turn.step.state))
             (each_append Own split.front ((tx, turn.step.state) ∷ split.back) (each_before Own split.front ((tx, t) ∷ split.back) (all_split tx t at split))
             (keeps.state, (each_after Own split.front ((tx, t) ∷ split.back) (all_split tx t at split)).1));
         sends = keeps.sends;
-        view = refl;
+        layout = refl;
       }
 
-  pub live_keeps : (s : TcState) (body : Body) → P operate.fresh → TurnsKeep P Q s.view
-      → ((tx : TxId) (t : Transaction) (op : Op) → P t → StepKeeps P Q (operate.operating tx t op (chain_of s.view (key_of op)))) → AllAre P s.live → LiveKeeps P Q s.view (tc_row s body)
+  pub live_keeps : (s : TcState) (body : Body) → P operate.fresh → TurnsKeep P Q s.layout
+      → ((tx : TxId) (t : Transaction) (op : Op) → P t → StepKeeps P Q (operate.operating tx t op (chain_of s.layout (key_of op)))) → AllAre P s.live → LiveKeeps P Q s.layout (tc_table s body)
   live_keeps s body fresh keep operated all =
       live_each s body fresh (record { full = λ name. (keep.plain _ refl, tt); begins = λ name. (keep.plain _ refl, tt); passes = λ tx ahead. (keep.plain _ refl, tt) })
-      (λ tx t fine. turn_keeps P Q s.node s.view keep tx t body fine (λ op is. operated tx t op fine)) all
+      (λ tx t fine. turn_keeps P Q s.node s.layout keep tx t body fine (λ op is. operated tx t op fine)) all

@@ -4,7 +4,7 @@ use Rattle.std.proofs.Common.{◌≡◌, ℕ, suc, ◌+◌, Bool, true, false, c
 use Rattle.std.specs.List.{position_or_len}
 use Rattle.std.specs.Prelude.{if◌then◌else◌, Option, None, Some, position, remove, slice_get, slice_set}
 use Rattle.std.proofs.lemmas.Bool.Decides.{nat_tests}
-use Rattle.commit_laws.specs.Firsts.{drop_first, first}
+use Rattle.sig_core.specs.Firsts.{drop_first, first}
 
 -- a place behind the first one
 abbrev pub place_by : Bool → Option ℕ → Option ℕ

@@ -22,7 +22,7 @@ use Rattle.sig_core.specs.declared.signal.host.HostSignal.TheVariants.{Continue,
 use Rattle.sig_core.specs.declared.signal.host.Work.TheVariants.{Request}
 use Rattle.sig_core.specs.Place.{coordinator, coordinator_of, rows_of}
 use Rattle.sig_core.specs.Step.{Step, stay, to_place}
-use Rattle.api_block.specs.Api.{api_row, request_row}
+use Rattle.api_block.specs.Api.{api_table, request_row}
 use Rattle.api_block.specs.Commands.{abort_by, abort_row, begin_at, begin_if, begin_row, commit_by, commit_row, dump_if, dump_row, node_for, tick_row, ticked_if}
 use Rattle.api_block.specs.declared.dump.Dump.{Dump}
 use Rattle.api_block.specs.declared.members.News.TheVariants as news
@@ -36,10 +36,10 @@ use Rattle.api_block.specs.Operate.{answer_by, answer_row, begun_by, begun_row, 
 use Rattle.api_block.specs.Outcome.{abort_report_row, commit_report_row, over, refuse_row}
 use Rattle.api_block.specs.State.{ApiState, changing}
 use Rattle.api_block.specs.Wait.{behind_row, name_of, pending_by, pending_if, pending_row, waits_if, waits_row}
-use Rattle.row_locks.proofs.TxLemmas.{same_tx-is}
-use Rattle.commit_laws.specs.Firsts.{first}
-use Rattle.commit_laws.proofs.Firsts.{first-get, first_passes, get_by}
-use Rattle.commit_laws.proofs.EachSent.{each_get, each_mapped, each_removed, each_set}
+use Rattle.sig_core.proofs.TxLemmas.{same_tx-is}
+use Rattle.sig_core.specs.Firsts.{first}
+use Rattle.sig_core.proofs.Firsts.{first-get, first_passes, get_by}
+use Rattle.run_theory.proofs.EachSent.{each_get, each_mapped, each_removed, each_set}
 
 -- K is of each transaction that is opened, P of each signal that is sent, and M of each mark. A transaction that is opened
 -- changes in all but its number, which it has once it has begun; and what is sent of one is of its number
@@ -290,7 +290,7 @@ module _ (K : OpenTransaction → Type 0) (P : Outgoing → Type 0) (M : Mark �
   request_each _ = record { opened = all; sends = tt; marks = tt }
 
 -- whatever the API takes
-pub api_each : (K : OpenTransaction → Type 0) (P : Outgoing → Type 0) (M : Mark → Type 0) (s : ApiState) (body : Body) → ApiForms K P M body → Each K s.opened → ApiEach K P M (api_row s body)
+pub api_each : (K : OpenTransaction → Type 0) (P : Outgoing → Type 0) (M : Mark → Type 0) (s : ApiState) (body : Body) → ApiForms K P M body → Each K s.opened → ApiEach K P M (api_table s body)
 api_each K P M s (Host (Continue (Request request) at)) forms all = request_each K P M _ forms s all request
 api_each K P M s (Client (TcBeginConf name tx)) forms all = begun_each K P M _ forms s all name tx refl
 api_each K P M s (Client (TcBeginRef name)) forms all = refused_each K P M _ forms s all name
@@ -303,7 +303,7 @@ api_each K P M s _ forms all = record { opened = all; sends = tt; marks = tt }
 
 -- what is marked, whatever is sent
 pub api_marks_each : (M : Mark → Type 0) (s : ApiState) (body : Body) → ((tx : TxId) (epoch : ℕ) → body ≡ Client (TcCommitConf tx epoch) → M (Reported tx (outcome.Committed epoch)))
-    → ((tx : TxId) (why : AbortCause) → body ≡ Client (TcRollbackRep tx why) → M (Reported tx (outcome.Aborted why))) → Each M (api_row s body).effects.marks
+    → ((tx : TxId) (why : AbortCause) → body ≡ Client (TcRollbackRep tx why) → M (Reported tx (outcome.Aborted why))) → Each M (api_table s body).effects.marks
 api_marks_each M s body committed aborted =
     (api_each (λ (t : OpenTransaction). Unit {0}) (λ (o : Outgoing). Unit {0}) M s body (record {
       asked = λ name node op. tt;

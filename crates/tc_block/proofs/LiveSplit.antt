@@ -7,9 +7,9 @@ use Rattle.run_theory.specs.Lists.{Each}
 use Rattle.run_theory.proofs.Pasts.{each_after, each_append, each_before}
 use Rattle.sig_core.specs.declared.member.TxId.{TxId}
 use Rattle.sig_core.specs.Same.{same_tx}
-use Rattle.row_locks.proofs.TxLemmas.{same_tx-is, same_tx-swap}
+use Rattle.sig_core.proofs.TxLemmas.{same_tx-is, same_tx-swap}
 use Rattle.tc_block.specs.declared.transaction.Transaction.{Transaction}
-use Rattle.commit_laws.proofs.Firsts.{place_by, position-cons}
+use Rattle.sig_core.proofs.Firsts.{place_by, position-cons}
 
 abbrev pub Live : Type 0
 Live = List (TxId × Transaction)

@@ -13,13 +13,12 @@ use Rattle.sig_core.specs.declared.signal.client.ClientSignal.TheVariants.{TcKey
 use Rattle.sig_core.specs.declared.signal.epoch.EpochSignal.TheVariants.{DiVerifyConf}
 use Rattle.sig_core.specs.declared.signal.host.HostSignal.TheVariants.{Continue}
 use Rattle.sig_core.specs.declared.signal.host.Work.TheVariants as work
-use Rattle.sig_core.specs.declared.view.View.{View}
 use Rattle.sig_core.specs.Op.{key_of}
 use Rattle.sig_core.specs.Place.{client}
 use Rattle.sig_core.specs.Same.{same_key}
 use Rattle.sig_core.specs.Step.{sending, stay}
+use Rattle.frag_map.specs.Layout.{Layout, chain_of}
 use Rattle.tc_block.specs.Abort as abort
-use Rattle.tc_block.specs.Chain.{chain_of}
 use Rattle.tc_block.specs.Commit as commit
 use Rattle.tc_block.specs.Complete as complete
 use Rattle.tc_block.specs.declared.phase.Asked.{Asked}
@@ -29,47 +28,42 @@ use Rattle.tc_block.specs.declared.transaction.Transaction.{Transaction}
 use Rattle.tc_block.specs.Operate as operate
 use Rattle.tc_block.specs.Sends.{entering, go_on_if, go_on_row}
 use Rattle.tc_block.specs.Turn.{Turn, asking, at_phase, going}
-use Rattle.commit_laws.specs.Phases.{is_decided}
-use Rattle.commit_laws.specs.Ways.{is_aborting}
-
--- for the rows that look at no view
-abbrev pub no_view : View
-no_view = record { number = 0; full = []; starting = [] }
+use Rattle.tc_block.specs.Phases.{is_aborting, is_decided}
 
 -- an abort begins, or has nothing to wait for
-pub record AbortForms (node : ℕ) (view : View) (tx : TxId) (t : Transaction) (why : AbortCause) (R : Turn → Type 0) : Type 0 where
-  pub enters : (abort.aborts_awaited view t == 0) ≡ false → R (going (entering node view tx t (Aborting why (abort.is_verifying t.phase) (abort.aborts_awaited view t))))
-  pub ends : (abort.aborts_awaited view t == 0) ≡ true → R (abort.abort_if node view tx t why true)
+pub record AbortForms (node : ℕ) (layout : Layout) (tx : TxId) (t : Transaction) (why : AbortCause) (R : Turn → Type 0) : Type 0 where
+  pub enters : (abort.aborts_awaited layout t == 0) ≡ false → R (going (entering node layout tx t (Aborting why (abort.is_verifying t.phase) (abort.aborts_awaited layout t))))
+  pub ends : (abort.aborts_awaited layout t == 0) ≡ true → R (abort.abort_if node layout tx t why true)
 
 -- all keys are committed: what was written is completed, or nothing was
-pub record CommittedForms (node : ℕ) (view : View) (tx : TxId) (t : Transaction) (epoch : ℕ) (R : Turn → Type 0) : Type 0 where
-  pub enters : (complete.written_count t.touched == 0) ≡ false → R (going (entering node view tx t (Completing epoch (complete.written_count t.touched))))
-  pub ends : (complete.written_count t.touched == 0) ≡ true → R (complete.all_committed_if node view tx t epoch true)
+pub record CommittedForms (node : ℕ) (layout : Layout) (tx : TxId) (t : Transaction) (epoch : ℕ) (R : Turn → Type 0) : Type 0 where
+  pub enters : (complete.written_count t.touched == 0) ≡ false → R (going (entering node layout tx t (Completing epoch (complete.written_count t.touched))))
+  pub ends : (complete.written_count t.touched == 0) ≡ true → R (complete.all_committed_if node layout tx t epoch true)
 
 -- the turns that the transaction may take at this signal
-pub record TurnForms (node : ℕ) (view : View) (tx : TxId) (t : Transaction) (body : Body) (R : Turn → Type 0) : Type 0 where
+pub record TurnForms (node : ℕ) (layout : Layout) (tx : TxId) (t : Transaction) (body : Body) (R : Turn → Type 0) : Type 0 where
   -- it does nothing, or sends more of what it sends in its phase
   pub stays : R (going (stay t))
-  pub goes_on : (at : ℕ) → R (going (go_on_if node view tx t at true))
+  pub goes_on : (at : ℕ) → R (going (go_on_if node layout tx t at true))
   -- an operation goes to its primary, is answered, or is answered when the transaction is aborted already
-  pub operates : (op : Op) → body ≡ Client (TcKeyReq tx op) → operate.can_operate t op ≡ true → R (going (operate.operating tx t op (chain_of view (key_of op))))
+  pub operates : (op : Op) → body ≡ Client (TcKeyReq tx op) → operate.can_operate t op ≡ true → R (going (operate.operating tx t op (chain_of layout (key_of op))))
   pub answers : (key : List ℕ) (answer : Answer) (asked : Asked) → body ≡ Chain (LqhKeyConf tx key answer) → t.asked ≡ Some asked → t.phase ≡ Open
       → R (going (sending (operate.answered t asked answer) client (Client (TcKeyConf tx answer))))
-  pub late : (key : List ℕ) (asked : Asked) (why : AbortCause) (verifying : Bool) (awaited : ℕ) → t.asked ≡ Some asked → t.phase ≡ Aborting why verifying awaited → R (going (operate.late_answer view tx t key))
+  pub late : (key : List ℕ) (asked : Asked) (why : AbortCause) (verifying : Bool) (awaited : ℕ) → t.asked ≡ Some asked → t.phase ≡ Aborting why verifying awaited → R (going (operate.late_answer layout tx t key))
   -- the replicas are asked what it waits for
   pub waits : (asked : Asked) → t.asked ≡ Some asked → R (going (operate.wait_by tx t (Some asked)))
   -- it asks for an epoch, and has one
   pub decides : body ≡ Client (TcCommitReq tx) → operate.is_ready t.phase t.asked ≡ true → R (going (commit.decide_if node tx t true))
-  pub commits : (epoch : ℕ) → body ≡ Epoch (DiVerifyConf tx epoch) → t.phase ≡ Verifying → (length t.touched == 0) ≡ false → R (going (entering node view tx t (Committing epoch (length t.touched))))
-  pub commits_none : (epoch : ℕ) → body ≡ Epoch (DiVerifyConf tx epoch) → t.phase ≡ Verifying → CommittedForms node view tx t epoch R
+  pub commits : (epoch : ℕ) → body ≡ Epoch (DiVerifyConf tx epoch) → t.phase ≡ Verifying → (length t.touched == 0) ≡ false → R (going (entering node layout tx t (Committing epoch (length t.touched))))
+  pub commits_none : (epoch : ℕ) → body ≡ Epoch (DiVerifyConf tx epoch) → t.phase ≡ Verifying → CommittedForms node layout tx t epoch R
   -- a key is committed, the last one or not, and so with completions
   pub committed : (epoch awaited : ℕ) → t.phase ≡ Committing epoch awaited → nat_lt 1 awaited ≡ true → R (going (stay (at_phase t (Committing epoch (awaited - 1)))))
-  pub committed_all : (epoch awaited : ℕ) → t.phase ≡ Committing epoch awaited → CommittedForms node view tx t epoch R
+  pub committed_all : (epoch awaited : ℕ) → t.phase ≡ Committing epoch awaited → CommittedForms node layout tx t epoch R
   pub completed : (epoch awaited : ℕ) → t.phase ≡ Completing epoch awaited → nat_lt 1 awaited ≡ true → R (going (stay (at_phase t (Completing epoch (awaited - 1)))))
   pub completed_all : (epoch awaited : ℕ) → t.phase ≡ Completing epoch awaited → nat_lt 1 awaited ≡ false → R (complete.completed_if node tx t epoch awaited false)
   -- it is given up: the client wishes it, or an operation is refused
-  pub rolls_back : body ≡ Client (TcRollbackReq tx) → is_decided t.phase ≡ false → is_aborting t.phase ≡ false → AbortForms node view tx t cause.Request R
-  pub refuses : (key : List ℕ) (why : AbortCause) (asked : Asked) → body ≡ Chain (LqhKeyRef tx key why) → t.asked ≡ Some asked → t.phase ≡ Open → AbortForms node view tx (asking t None) why R
+  pub rolls_back : body ≡ Client (TcRollbackReq tx) → is_decided t.phase ≡ false → is_aborting t.phase ≡ false → AbortForms node layout tx t cause.Request R
+  pub refuses : (key : List ℕ) (why : AbortCause) (asked : Asked) → body ≡ Chain (LqhKeyRef tx key why) → t.asked ≡ Some asked → t.phase ≡ Open → AbortForms node layout tx (asking t None) why R
   -- a replica has aborted a key, the last one or not
   pub aborted : (why : AbortCause) (verifying : Bool) (awaited : ℕ) → t.phase ≡ Aborting why verifying awaited → nat_lt 1 awaited ≡ true
       → R (going (stay (at_phase t (Aborting why verifying (awaited - 1)))))
@@ -85,20 +79,20 @@ asked_on-is (Some a) key asked is = by (same_key (key_of a.op) key) is
     by true e = e
     by false e = cc
 
-module _ (node : ℕ) (view : View) (tx : TxId) (t : Transaction) (body : Body) (R : Turn → Type 0) (forms : TurnForms node view tx t body R) where
-  pub goes_on : (at : ℕ) → R (going (go_on_row node view tx t at))
+module _ (node : ℕ) (layout : Layout) (tx : TxId) (t : Transaction) (body : Body) (R : Turn → Type 0) (forms : TurnForms node layout tx t body R) where
+  pub goes_on : (at : ℕ) → R (going (go_on_row node layout tx t at))
   unfolding go_on_row
   goes_on at = by (nat_lt at 512)
     where
-      by : (b : Bool) → R (going (go_on_if node view tx t at b))
+      by : (b : Bool) → R (going (go_on_if node layout tx t at b))
       by true = forms.goes_on at
       by false = forms.stays
 
-  pub operates : (op : Op) → body ≡ Client (TcKeyReq tx op) → R (going (operate.operate_row view tx t op))
+  pub operates : (op : Op) → body ≡ Client (TcKeyReq tx op) → R (going (operate.operate_row layout tx t op))
   unfolding operate.operate_row
   operates op is = by (operate.can_operate t op) refl
     where
-      by : (b : Bool) → operate.can_operate t op ≡ b → R (going (operate.operate_if view tx t op b))
+      by : (b : Bool) → operate.can_operate t op ≡ b → R (going (operate.operate_if layout tx t op b))
       by true can = forms.operates op is can
       by false can = forms.stays
 
@@ -118,11 +112,11 @@ module _ (node : ℕ) (view : View) (tx : TxId) (t : Transaction) (body : Body) 
       by None on = forms.stays
       by (Some asked) on = forms.waits asked on
 
-  pub answers : (key : List ℕ) (answer : Answer) → body ≡ Chain (LqhKeyConf tx key answer) → R (going (operate.answer_row view tx t key answer))
+  pub answers : (key : List ℕ) (answer : Answer) → body ≡ Chain (LqhKeyConf tx key answer) → R (going (operate.answer_row layout tx t key answer))
   unfolding operate.answer_row
   answers key answer is = by (operate.asked_on t.asked key) refl t.phase refl
     where
-      by : (o : Option Asked) → operate.asked_on t.asked key ≡ o → (phase : Phase) → t.phase ≡ phase → R (going (operate.answer_by view tx t key answer o phase))
+      by : (o : Option Asked) → operate.asked_on t.asked key ≡ o → (phase : Phase) → t.phase ≡ phase → R (going (operate.answer_by layout tx t key answer o phase))
       by (Some asked) on Open at = forms.answers key answer asked is (asked_on-is t.asked key asked on) at
       by (Some asked) on (Aborting why verifying awaited) at = forms.late key asked why verifying awaited (asked_on-is t.asked key asked on) at
       by (Some asked) on Verifying at = forms.stays
@@ -130,38 +124,38 @@ module _ (node : ℕ) (view : View) (tx : TxId) (t : Transaction) (body : Body) 
       by (Some asked) on (Completing epoch awaited) at = forms.stays
       by None on phase at = forms.stays
 
-  all_committed : (epoch : ℕ) → CommittedForms node view tx t epoch R → R (complete.all_committed node view tx t epoch)
+  all_committed : (epoch : ℕ) → CommittedForms node layout tx t epoch R → R (complete.all_committed node layout tx t epoch)
   unfolding complete.all_committed
   all_committed epoch own = by (complete.written_count t.touched == 0) refl
     where
-      by : (b : Bool) → (complete.written_count t.touched == 0) ≡ b → R (complete.all_committed_if node view tx t epoch b)
+      by : (b : Bool) → (complete.written_count t.touched == 0) ≡ b → R (complete.all_committed_if node layout tx t epoch b)
       by true none = own.ends none
       by false none = own.enters none
 
-  pub commits : (epoch : ℕ) → body ≡ Epoch (DiVerifyConf tx epoch) → R (commit.commit_row node view tx t epoch)
+  pub commits : (epoch : ℕ) → body ≡ Epoch (DiVerifyConf tx epoch) → R (commit.commit_row node layout tx t epoch)
   unfolding commit.commit_row
   commits epoch is = by t.phase refl
     where
-      which : t.phase ≡ Verifying → (b : Bool) → (length t.touched == 0) ≡ b → R (commit.commit_if node view tx t epoch b)
+      which : t.phase ≡ Verifying → (b : Bool) → (length t.touched == 0) ≡ b → R (commit.commit_if node layout tx t epoch b)
       which at true none = all_committed epoch (forms.commits_none epoch is at)
       which at false none = forms.commits epoch is at none
 
-      by : (phase : Phase) → t.phase ≡ phase → R (commit.commit_by node view tx t epoch phase)
+      by : (phase : Phase) → t.phase ≡ phase → R (commit.commit_by node layout tx t epoch phase)
       by Verifying at = which at (length t.touched == 0) refl
       by Open at = forms.stays
       by (Committing other awaited) at = forms.stays
       by (Completing other awaited) at = forms.stays
       by (Aborting why verifying awaited) at = forms.stays
 
-  pub committed : R (commit.committed_row node view tx t)
+  pub committed : R (commit.committed_row node layout tx t)
   unfolding commit.committed_row
   committed = by t.phase refl
     where
-      which : (epoch awaited : ℕ) → t.phase ≡ Committing epoch awaited → (b : Bool) → nat_lt 1 awaited ≡ b → R (commit.committed_if node view tx t epoch awaited b)
+      which : (epoch awaited : ℕ) → t.phase ≡ Committing epoch awaited → (b : Bool) → nat_lt 1 awaited ≡ b → R (commit.committed_if node layout tx t epoch awaited b)
       which epoch awaited at true more = forms.committed epoch awaited at more
       which epoch awaited at false more = all_committed epoch (forms.committed_all epoch awaited at)
 
-      by : (phase : Phase) → t.phase ≡ phase → R (commit.committed_by node view tx t phase)
+      by : (phase : Phase) → t.phase ≡ phase → R (commit.committed_by node layout tx t phase)
       by (Committing epoch awaited) at = which epoch awaited at (nat_lt 1 awaited) refl
       by Open at = forms.stays
       by Verifying at = forms.stays
@@ -183,19 +177,19 @@ module _ (node : ℕ) (view : View) (tx : TxId) (t : Transaction) (body : Body) 
       by (Committing epoch awaited) at = forms.stays
       by (Aborting why verifying awaited) at = forms.stays
 
-  aborts : (u : Transaction) (why : AbortCause) → AbortForms node view tx u why R → R (abort.aborted_for node view tx u why)
+  aborts : (u : Transaction) (why : AbortCause) → AbortForms node layout tx u why R → R (abort.aborted_for node layout tx u why)
   unfolding abort.aborted_for
-  aborts u why own = by (abort.aborts_awaited view u == 0) refl
+  aborts u why own = by (abort.aborts_awaited layout u == 0) refl
     where
-      by : (b : Bool) → (abort.aborts_awaited view u == 0) ≡ b → R (abort.abort_if node view tx u why b)
+      by : (b : Bool) → (abort.aborts_awaited layout u == 0) ≡ b → R (abort.abort_if node layout tx u why b)
       by true none = own.ends none
       by false none = own.enters none
 
-  pub refuses : (key : List ℕ) (why : AbortCause) → body ≡ Chain (LqhKeyRef tx key why) → R (abort.refuse_row node view tx t key why)
+  pub refuses : (key : List ℕ) (why : AbortCause) → body ≡ Chain (LqhKeyRef tx key why) → R (abort.refuse_row node layout tx t key why)
   unfolding abort.refuse_row
   refuses key why is = by (operate.asked_on t.asked key) refl t.phase refl
     where
-      by : (o : Option Asked) → operate.asked_on t.asked key ≡ o → (phase : Phase) → t.phase ≡ phase → R (abort.refuse_by node view tx t key why o phase)
+      by : (o : Option Asked) → operate.asked_on t.asked key ≡ o → (phase : Phase) → t.phase ≡ phase → R (abort.refuse_by node layout tx t key why o phase)
       by (Some asked) on Open at = aborts (asking t None) why (forms.refuses key why asked is (asked_on-is t.asked key asked on) at)
       by (Some asked) on (Aborting other verifying awaited) at = forms.late key asked other verifying awaited (asked_on-is t.asked key asked on) at
       by (Some asked) on Verifying at = forms.stays
@@ -203,11 +197,11 @@ module _ (node : ℕ) (view : View) (tx : TxId) (t : Transaction) (body : Body) 
       by (Some asked) on (Completing epoch awaited) at = forms.stays
       by None on phase at = forms.stays
 
-  pub rolls_back : body ≡ Client (TcRollbackReq tx) → R (abort.rollback_row node view tx t)
+  pub rolls_back : body ≡ Client (TcRollbackReq tx) → R (abort.rollback_row node layout tx t)
   unfolding abort.rollback_row
   rolls_back is = by t.phase refl
     where
-      by : (phase : Phase) → t.phase ≡ phase → R (abort.rollback_by node view tx t phase)
+      by : (phase : Phase) → t.phase ≡ phase → R (abort.rollback_by node layout tx t phase)
       by Open at = aborts t cause.Request (forms.rolls_back is (ap is_decided at) (ap is_aborting at))
       by Verifying at = aborts t cause.Request (forms.rolls_back is (ap is_decided at) (ap is_aborting at))
       by (Committing epoch awaited) at = forms.stays
@@ -231,38 +225,38 @@ module _ (node : ℕ) (view : View) (tx : TxId) (t : Transaction) (body : Body) 
       by (Completing epoch awaited) at = forms.stays
 
 -- what the transaction does by the row of this signal
-pub record RowsAre (node : ℕ) (view : View) (tx : TxId) (t : Transaction) (body : Body) (R : Turn → Type 0) : Type 0 where
-  pub goes_on : (at : ℕ) → body ≡ Host (Continue (work.Transaction tx) at) → R (going (go_on_row node view tx t at))
-  pub operates : (op : Op) → body ≡ Client (TcKeyReq tx op) → R (going (operate.operate_row view tx t op))
+pub record RowsAre (node : ℕ) (layout : Layout) (tx : TxId) (t : Transaction) (body : Body) (R : Turn → Type 0) : Type 0 where
+  pub goes_on : (at : ℕ) → body ≡ Host (Continue (work.Transaction tx) at) → R (going (go_on_row node layout tx t at))
+  pub operates : (op : Op) → body ≡ Client (TcKeyReq tx op) → R (going (operate.operate_row layout tx t op))
   pub decides : body ≡ Client (TcCommitReq tx) → R (going (commit.decide_row node tx t))
-  pub rolls_back : body ≡ Client (TcRollbackReq tx) → R (abort.rollback_row node view tx t)
+  pub rolls_back : body ≡ Client (TcRollbackReq tx) → R (abort.rollback_row node layout tx t)
   pub waits : body ≡ Client (TcWaitReq tx) → R (going (operate.wait_row tx t))
-  pub answers : (key : List ℕ) (answer : Answer) → body ≡ Chain (LqhKeyConf tx key answer) → R (going (operate.answer_row view tx t key answer))
-  pub refuses : (key : List ℕ) (why : AbortCause) → body ≡ Chain (LqhKeyRef tx key why) → R (abort.refuse_row node view tx t key why)
-  pub committed : (key : List ℕ) → body ≡ Chain (Committed tx key) → R (commit.committed_row node view tx t)
+  pub answers : (key : List ℕ) (answer : Answer) → body ≡ Chain (LqhKeyConf tx key answer) → R (going (operate.answer_row layout tx t key answer))
+  pub refuses : (key : List ℕ) (why : AbortCause) → body ≡ Chain (LqhKeyRef tx key why) → R (abort.refuse_row node layout tx t key why)
+  pub committed : (key : List ℕ) → body ≡ Chain (Committed tx key) → R (commit.committed_row node layout tx t)
   pub completed : (key : List ℕ) → body ≡ Chain (Completed tx key) → R (complete.completed_row node tx t)
   pub aborted : (key : List ℕ) → body ≡ Chain (Aborted tx key) → R (abort.aborted_row node tx t)
-  pub commits : (epoch : ℕ) → body ≡ Epoch (DiVerifyConf tx epoch) → R (commit.commit_row node view tx t epoch)
+  pub commits : (epoch : ℕ) → body ≡ Epoch (DiVerifyConf tx epoch) → R (commit.commit_row node layout tx t epoch)
 
-pub rows_of : (node : ℕ) (view : View) (tx : TxId) (t : Transaction) (body : Body) (R : Turn → Type 0) → TurnForms node view tx t body R → RowsAre node view tx t body R
-rows_of node view tx t body R forms = record {
-  goes_on = λ at is. goes_on node view tx t body R forms at;
-  operates = λ op is. operates node view tx t body R forms op is;
-  decides = λ is. decides node view tx t body R forms is;
-  rolls_back = λ is. rolls_back node view tx t body R forms is;
-  waits = λ is. waits node view tx t body R forms;
-  answers = λ key answer is. answers node view tx t body R forms key answer is;
-  refuses = λ key why is. refuses node view tx t body R forms key why is;
-  committed = λ key is. committed node view tx t body R forms;
-  completed = λ key is. completed node view tx t body R forms;
-  aborted = λ key is. aborted node view tx t body R forms;
-  commits = λ epoch is. commits node view tx t body R forms epoch is;
+pub rows_of : (node : ℕ) (layout : Layout) (tx : TxId) (t : Transaction) (body : Body) (R : Turn → Type 0) → TurnForms node layout tx t body R → RowsAre node layout tx t body R
+rows_of node layout tx t body R forms = record {
+  goes_on = λ at is. goes_on node layout tx t body R forms at;
+  operates = λ op is. operates node layout tx t body R forms op is;
+  decides = λ is. decides node layout tx t body R forms is;
+  rolls_back = λ is. rolls_back node layout tx t body R forms is;
+  waits = λ is. waits node layout tx t body R forms;
+  answers = λ key answer is. answers node layout tx t body R forms key answer is;
+  refuses = λ key why is. refuses node layout tx t body R forms key why is;
+  committed = λ key is. committed node layout tx t body R forms;
+  completed = λ key is. completed node layout tx t body R forms;
+  aborted = λ key is. aborted node layout tx t body R forms;
+  commits = λ epoch is. commits node layout tx t body R forms epoch is;
 }
 
 -- two predicates together
-pub rows_both : (node : ℕ) (view : View) (tx : TxId) (t : Transaction) (body : Body) (P Q : Turn → Type 0) → RowsAre node view tx t body P → RowsAre node view tx t body Q
-    → RowsAre node view tx t body (λ turn. P turn × Q turn)
-rows_both node view tx t body P Q p q = record {
+pub rows_both : (node : ℕ) (layout : Layout) (tx : TxId) (t : Transaction) (body : Body) (P Q : Turn → Type 0) → RowsAre node layout tx t body P → RowsAre node layout tx t body Q
+    → RowsAre node layout tx t body (λ turn. P turn × Q turn)
+rows_both node layout tx t body P Q p q = record {
   goes_on = λ at is. (p.goes_on at is, q.goes_on at is);
   operates = λ op is. (p.operates op is, q.operates op is);
   decides = λ is. (p.decides is, q.decides is);

@@ -19,15 +19,15 @@ use Rattle.tc_block.specs.Live.{place_in, step_of, step_place, step_value, turn_
 use Rattle.tc_block.specs.Operate.{answer_row, operate_row, wait_row}
 use Rattle.tc_block.specs.Sends.{go_on_row}
 use Rattle.tc_block.specs.State.{TcState}
-use Rattle.tc_block.specs.Tc.{begin_if, begin_row, is_full, pass_if, pass_row, tc_row}
+use Rattle.tc_block.specs.Tc.{begin_if, begin_row, is_full, pass_if, pass_row, tc_table}
 use Rattle.tc_block.specs.Turn.{Turn, going}
-use Rattle.commit_laws.proofs.EachTurn.{RowsAre}
-use Rattle.commit_laws.proofs.LiveSplit.{Split, split_at}
+use Rattle.tc_block.proofs.EachTurn.{RowsAre}
+use Rattle.tc_block.proofs.LiveSplit.{Split, split_at}
 
 -- R is of each turn that a transaction of the coordinator may take at the signal, and S of the step that it makes; and of
 -- the other steps
 pub record TcForms (s : TcState) (body : Body) (R : TxId → Transaction → Turn → Type 0) (S : Step TcState → Type 0) : Type 0 where
-  pub turns : (tx : TxId) (t : Transaction) (at : ℕ) → Split tx t s.live at → RowsAre s.node s.view tx t body (R tx t)
+  pub turns : (tx : TxId) (t : Transaction) (at : ℕ) → Split tx t s.live at → RowsAre s.node s.layout tx t body (R tx t)
   pub turned : (tx : TxId) (t : Transaction) (at : ℕ) → Split tx t s.live at → (turn : Turn) → R tx t turn → S (turned s at turn)
   pub stays : S (stay s)
   pub full : (name : Option ℕ) → S (begin_if s name true)
@@ -35,7 +35,7 @@ pub record TcForms (s : TcState) (body : Body) (R : TxId → Transaction → Tur
   pub passes : (tx ahead : TxId) → S (pass_if s tx ahead true)
 
 module _ (s : TcState) (body : Body) (R : TxId → Transaction → Turn → Type 0) (S : Step TcState → Type 0) (forms : TcForms s body R S) where
-  step_each : (tx : TxId) (row : Transaction → Step Transaction) → ((t : Transaction) → RowsAre s.node s.view tx t body (R tx t) → R tx t (going (row t))) → S (step_of s tx row)
+  step_each : (tx : TxId) (row : Transaction → Step Transaction) → ((t : Transaction) → RowsAre s.node s.layout tx t body (R tx t) → R tx t (going (row t))) → S (step_of s tx row)
   step_each tx row each = at_place (place_in s tx) refl
     where
       at_value : (at : ℕ) → place_in s tx ≡ Some at → (t : Option Transaction) → slice_get (values_of s.live) at ≡ t → S (step_value s row at t)
@@ -46,7 +46,7 @@ module _ (s : TcState) (body : Body) (R : TxId → Transaction → Turn → Type
       at_place None at_is = forms.stays
       at_place (Some at) at_is = at_value at at_is (slice_get (values_of s.live) at) refl
 
-  turn_each : (tx : TxId) (row : Transaction → Turn) → ((t : Transaction) → RowsAre s.node s.view tx t body (R tx t) → R tx t (row t)) → S (turn_of s tx row)
+  turn_each : (tx : TxId) (row : Transaction → Turn) → ((t : Transaction) → RowsAre s.node s.layout tx t body (R tx t) → R tx t (row t)) → S (turn_of s tx row)
   turn_each tx row each = at_place (place_in s tx) refl
     where
       at_value : (at : ℕ) → place_in s tx ≡ Some at → (t : Option Transaction) → slice_get (values_of s.live) at ≡ t → S (turn_value s row at t)
@@ -75,18 +75,18 @@ module _ (s : TcState) (body : Body) (R : TxId → Transaction → Turn → Type
 
 module _ (R : TxId → Transaction → Turn → Type 0) (S : Step TcState → Type 0) (s : TcState) where
   -- whatever the coordinator takes
-  pub tc_each : (body : Body) → TcForms s body R S → S (tc_row s body)
-  tc_each (Host (Continue (work.Transaction tx) at)) forms = step_each s _ R S forms tx (λ t. go_on_row s.node s.view tx t at) (λ t own. own.goes_on at refl)
+  pub tc_each : (body : Body) → TcForms s body R S → S (tc_table s body)
+  tc_each (Host (Continue (work.Transaction tx) at)) forms = step_each s _ R S forms tx (λ t. go_on_row s.node s.layout tx t at) (λ t own. own.goes_on at refl)
   tc_each (Client (TcBeginReq name)) forms = begins s _ R S forms name
-  tc_each (Client (TcKeyReq tx op)) forms = step_each s _ R S forms tx (λ t. operate_row s.view tx t op) (λ t own. own.operates op refl)
+  tc_each (Client (TcKeyReq tx op)) forms = step_each s _ R S forms tx (λ t. operate_row s.layout tx t op) (λ t own. own.operates op refl)
   tc_each (Client (TcCommitReq tx)) forms = step_each s _ R S forms tx (λ t. commit.decide_row s.node tx t) (λ t own. own.decides refl)
-  tc_each (Client (TcRollbackReq tx)) forms = turn_each s _ R S forms tx (λ t. rollback_row s.node s.view tx t) (λ t own. own.rolls_back refl)
+  tc_each (Client (TcRollbackReq tx)) forms = turn_each s _ R S forms tx (λ t. rollback_row s.node s.layout tx t) (λ t own. own.rolls_back refl)
   tc_each (Client (TcWaitReq tx)) forms = step_each s _ R S forms tx (λ t. wait_row tx t) (λ t own. own.waits refl)
   tc_each (Client (LqhWaitConf tx ahead)) forms = passes s _ R S forms tx ahead
-  tc_each (Chain (LqhKeyConf tx key answer)) forms = step_each s _ R S forms tx (λ t. answer_row s.view tx t key answer) (λ t own. own.answers key answer refl)
-  tc_each (Chain (LqhKeyRef tx key why)) forms = turn_each s _ R S forms tx (λ t. refuse_row s.node s.view tx t key why) (λ t own. own.refuses key why refl)
-  tc_each (Chain (Committed tx key)) forms = turn_each s _ R S forms tx (λ t. commit.committed_row s.node s.view tx t) (λ t own. own.committed key refl)
+  tc_each (Chain (LqhKeyConf tx key answer)) forms = step_each s _ R S forms tx (λ t. answer_row s.layout tx t key answer) (λ t own. own.answers key answer refl)
+  tc_each (Chain (LqhKeyRef tx key why)) forms = turn_each s _ R S forms tx (λ t. refuse_row s.node s.layout tx t key why) (λ t own. own.refuses key why refl)
+  tc_each (Chain (Committed tx key)) forms = turn_each s _ R S forms tx (λ t. commit.committed_row s.node s.layout tx t) (λ t own. own.committed key refl)
   tc_each (Chain (Completed tx key)) forms = turn_each s _ R S forms tx (λ t. completed_row s.node tx t) (λ t own. own.completed key refl)
   tc_each (Chain (Aborted tx key)) forms = turn_each s _ R S forms tx (λ t. aborted_row s.node tx t) (λ t own. own.aborted key refl)
-  tc_each (Epoch (DiVerifyConf tx epoch)) forms = turn_each s _ R S forms tx (λ t. commit.commit_row s.node s.view tx t epoch) (λ t own. own.commits epoch refl)
+  tc_each (Epoch (DiVerifyConf tx epoch)) forms = turn_each s _ R S forms tx (λ t. commit.commit_row s.node s.layout tx t epoch) (λ t own. own.commits epoch refl)
   tc_each _ forms = forms.stays

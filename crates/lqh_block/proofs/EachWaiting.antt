@@ -22,11 +22,11 @@ use Rattle.lqh_block.specs.Complete as complete
 use Rattle.lqh_block.specs.declared.request.Request.{Request}
 use Rattle.lqh_block.specs.Dump as dump
 use Rattle.lqh_block.specs.Expire as expire
-use Rattle.lqh_block.specs.Lqh.{lqh_row}
+use Rattle.lqh_block.specs.Lqh.{lqh_table}
 use Rattle.lqh_block.specs.Operate as operate
 use Rattle.lqh_block.specs.State.{LqhState, with_lock}
 use Rattle.lqh_block.specs.Wait as wait
-use Rattle.commit_laws.proofs.EachSent.{each_removed}
+use Rattle.run_theory.proofs.EachSent.{each_removed}
 
 module _ (P : Request → Type 0) where
   abbrev AreWaiting : LqhState → Type 0
@@ -98,7 +98,7 @@ module _ (P : Request → Type 0) where
       by (Some ahead) = all
 
   -- whatever the rows take
-  pub waiting_each : (s : LqhState) (body : Body) → ((r : Request) → body ≡ Chain (LqhKeyReq r.tx r.work r.chain r.at) → P r) → AreWaiting s → AreWaiting (lqh_row s body).state
+  pub waiting_each : (s : LqhState) (body : Body) → ((r : Request) → body ≡ Chain (LqhKeyReq r.tx r.work r.chain r.at) → P r) → AreWaiting s → AreWaiting (lqh_table s body).state
   unfolding wait.acknowledged dump.dump_row
   waiting_each s (Chain (LqhKeyReq tx what chain at)) own all = let r : Request = record { tx = tx; work = what; chain = chain; at = at } in requested s r (own r refl) all
   waiting_each s (Host (Continue work.Granted at)) own all = granted s all
