@@ -5,7 +5,7 @@ use Rattle.sig_core.specs.declared.member.TxId.{TxId}
 use Rattle.sig_core.specs.declared.signal.Body.{Body}
 use Rattle.sig_core.specs.declared.signal.Body.TheVariants.{Epoch}
 use Rattle.sig_core.specs.declared.signal.epoch.EpochSignal.TheVariants.{DiVerifyReq}
-use Rattle.node_core.specs.Dih.{DihState, decide_if, decide_row, dih_row}
+use Rattle.node_core.specs.Dih.{DihState, decide_if, decide_row, dih_table}
 use Rattle.node_core.proofs.Quiet.{AsksNothing}
 
 decide_asks : (s : DihState) (tx : TxId) (b : Bool) → AsksNothing (decide_if s tx b)
@@ -16,6 +16,6 @@ verify_asks : (s : DihState) (tx : TxId) → AsksNothing (decide_row s tx)
 unfolding decide_row
 verify_asks s tx = decide_asks s tx (nat_lt (length s.counted) 64)
 
-pub dih_asks : (s : DihState) (body : Body) → AsksNothing (dih_row s body)
+pub dih_asks : (s : DihState) (body : Body) → AsksNothing (dih_table s body)
 dih_asks s (Epoch (DiVerifyReq tx ops)) = verify_asks s tx
 dih_asks s _ = refl

@@ -1,18 +1,32 @@
 -- Rows that are put one after the other.
-use Rattle.std.proofs.Common.{◌≡◌, ℕ, ◌+◌, ◌<◌, List, [], ◌∷◌, length, drop, refl, ap, sym, ◌∙◌, arith}
+use Rattle.std.proofs.Common.{◌≡◌, ℕ, ◌+◌, ◌<◌, List, [], ◌∷◌, Bool, true, false, length, drop, refl, ap, sym, ◌∙◌, arith}
 use Rattle.std.proofs.lemmas.List.{drop_more}
-use Rattle.std.specs.Prelude.{slice_index_or}
+use Rattle.std.specs.Prelude.{if◌then◌else◌, slice_index_or}
+use Rattle.sig_core.specs.declared.view.Shape.{Shape}
 use Rattle.sig_core.specs.Journal.{JournalState}
 use Rattle.sig_core.specs.Rows.{RowsState, no_rows, put_row}
+use Rattle.frag_map.specs.Layout.{holds}
 use Rattle.lqh_block.specs.Due.{IsCovered, due_of}
-use Rattle.node_core.specs.Fresh.{with_rows}
+use Rattle.node_core.specs.Fresh.{own_rows, with_rows}
+
+-- the group's part of one row, and then of others
+own_more : (shape : Shape) (node : ℕ) (s : RowsState) (row : List ℕ × List ℕ) (rows : List (List ℕ × List ℕ))
+    → with_rows (with_rows s (own_rows shape node (row ∷ []))) (own_rows shape node rows) ≡ with_rows s (own_rows shape node (row ∷ rows))
+own_more shape node s row rows = go (holds shape node row.0)
+  where
+    go : (b : Bool) → with_rows (with_rows s (if b then row ∷ [] else [])) (own_rows shape node rows)
+        ≡ with_rows s (if b then row ∷ own_rows shape node rows else own_rows shape node rows)
+    go true = refl
+    go false = refl
 
 -- one row more, and those behind it
-pub row_put : (before after all : RowsState) (rows : List (List ℕ × List ℕ)) (i : ℕ) (row : List ℕ × List ℕ) → i < length rows → row ≡ slice_index_or rows i row
-    → after ≡ put_row before row.0 row.1 → with_rows before (drop i rows) ≡ all → with_rows after (drop (i + 1) rows) ≡ all
-row_put before after all rows i row low is put left =
-    ap (λ s. with_rows s (drop (i + 1) rows)) put
-    ∙ sym (ap (with_rows before) (drop_more rows i row low) ∙ ap (λ r. with_rows (put_row before r.0 r.1) (drop (i + 1) rows)) (sym is))
+pub row_put : (shape : Shape) (node : ℕ) (before after all : RowsState) (rows : List (List ℕ × List ℕ)) (i : ℕ) (row : List ℕ × List ℕ) → i < length rows
+    → row ≡ slice_index_or rows i row → after ≡ with_rows before (own_rows shape node (row ∷ [])) → with_rows before (own_rows shape node (drop i rows)) ≡ all
+    → with_rows after (own_rows shape node (drop (i + 1) rows)) ≡ all
+row_put shape node before after all rows i row low is put left =
+    ap (λ s. with_rows s (own_rows shape node (drop (i + 1) rows))) put
+    ∙ own_more shape node before row (drop (i + 1) rows)
+    ∙ sym (ap (λ rs. with_rows before (own_rows shape node rs)) (drop_more rows i row low) ∙ ap (λ r. with_rows before (own_rows shape node (r ∷ drop (i + 1) rows))) (sym is))
     ∙ left
 
 -- no record is at work on them

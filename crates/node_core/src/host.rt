@@ -1,6 +1,7 @@
 //! A host.
-ghost use Rattle.std.specs.Prelude.{◌≡◌, ◌++◌, [], None, IfOk, OnOk, OnErr, option_to_list};
-ghost use Rattle.sig_core.specs.Rows.{no_rows, put_row};
+ghost use Rattle.std.specs.Prelude.{◌≡◌, ◌∷◌, ◌++◌, [], None, IfOk, OnOk, OnErr, option_to_list};
+ghost use Rattle.frag_map.specs.Shape.{IsShape};
+ghost use Rattle.sig_core.specs.Rows.{no_rows};
 ghost use Rattle.node_core.specs.Fresh.{fresh_part, fresh_shell, own_rows, with_rows};
 ghost use Rattle.node_core.specs.Replies.{is_left_open, replies_of, with_replies};
 
@@ -37,8 +38,8 @@ impl Host {
         Ok(Host::Shell(Api::new(alloc, view)?))
     }
 
-    /// A part of a member, of a node from 1 on, that begins a life in this layout and epoch, with
-    /// those of these rows that its group has. The keys of the rows are distinct.
+    /// A part of a member that begins a life in this layout and epoch, with those of these rows
+    /// that its group has. The keys of the rows are distinct.
     ///
     /// # Errors
     /// `NoMemory`.
@@ -51,7 +52,6 @@ impl Host {
         epoch: u64,
         rows: &[(Key, Value)],
     ) -> Result<Host, NoMemory>
-        requires { 1 ≤ member.node }
         ensures { IfOk result (λ host. host ≡ fresh_part part member layout.now epoch rows.now) }
     {
         match part {
@@ -97,22 +97,30 @@ fn stored(
     node: u8,
     rows: &[(Key, Value)],
 ) -> Result<MapRows, NoMemory>
+    requires { IsShape shape.now }
     ensures { IfOk result (λ stored. stored.rows ≡ with_rows no_rows (own_rows shape.now node rows.now)) }
 {
     let mut stored = MapRows::new(alloc);
     for row in rows {
-        if holds(shape, node, &row.0) {
-            put(&mut stored, row)?;
-        }
+        put(&mut stored, shape, node, row)?;
     }
     Ok(stored)
 }
 
-/// Puts a row.
-fn put(stored: &mut MapRows, row: &(Key, Value)) -> Result<(), NoMemory>
-    ensures { OnOk result (stored.new.rows ≡ put_row stored.old.rows row.now.0 row.now.1) }
+/// Puts a row, if the node's group has it.
+fn put(
+    stored: &mut MapRows,
+    shape: &Shape,
+    node: u8,
+    row: &(Key, Value),
+) -> Result<(), NoMemory>
+    requires { IsShape shape.now }
+    ensures { OnOk result (stored.new.rows ≡ with_rows stored.old.rows (own_rows shape.now node (row.now ∷ []))) }
 {
-    stored.put_row(&row.0, &row.1)
+    if holds(node, &row.0, shape) {
+        stored.put_row(&row.0, &row.1)?;
+    }
+    Ok(())
 }
 
 impl Actor for Host {

@@ -1,21 +1,19 @@
 use crate::Host;
+use frag_map::{Layout, first_view};
 use sig_core::{
-    Actor, BlockId, Body, ClientSignal, HostId, Key, Member, Members, NoMemory, Outs, Place,
-    Signal, Value, View,
+    Actor, BlockId, Body, ClientSignal, HostId, Key, Member, NoMemory, Outs, Part, Place, Shape,
+    Signal, Value,
 };
 use std::alloc::Global;
 use std::test::Fail;
 
-// Node 1 alone.
-fn one() -> View {
-    let mut full = Members::new();
-    full.push(Member { node: 1, start: 0 });
-    View {
-        number: 1,
-        full,
-        starting: Members::new(),
-    }
-}
+const ONE: Shape = Shape {
+    nodes: 1,
+    replicas: 1,
+    fragments: 1,
+};
+
+const FIRST: Member = Member { node: 1, start: 0 };
 
 fn signal(block: BlockId) -> Signal {
     Signal {
@@ -24,7 +22,7 @@ fn signal(block: BlockId) -> Signal {
         to: Place { node: 1, block },
         seq: 0,
         stamp: 0,
-        view: one(),
+        view: first_view(1),
         body: Body::Client(ClientSignal::DumpReq { at: 0 }),
     }
 }
@@ -40,13 +38,15 @@ fn answers(alloc: Global, host: &mut Host, block: BlockId) -> Result<bool, NoMem
 fn a_signal_goes_to_the_block_that_it_is_for(rt: HostRuntime) -> Result<(), Fail> {
     let alloc = rt.alloc();
     let rows = [(Key::new(b"a")?, Value::new(b"1")?)];
-    let mut node = Host::node(alloc, 1, &one(), 1, &rows)?;
-    for (block, sends) in [
-        (BlockId::Lqh, true),
-        (BlockId::Tc, false),
-        (BlockId::Api, false),
+    let layout = Layout::first(ONE);
+    for (part, block, sends) in [
+        (Part::Ldm, BlockId::Lqh, true),
+        (Part::Ldm, BlockId::Tc, false),
+        (Part::Tc, BlockId::Lqh, false),
+        (Part::Main, BlockId::Lqh, false),
     ] {
-        assert_eq!(rt; answers(alloc, &mut node, block)?, sends);
+        let mut host = Host::part(alloc, part, FIRST, &layout, 1, &rows)?;
+        assert_eq!(rt; answers(alloc, &mut host, block)?, sends);
     }
     Ok(())
 }
@@ -54,7 +54,7 @@ fn a_signal_goes_to_the_block_that_it_is_for(rt: HostRuntime) -> Result<(), Fail
 #[test]
 fn a_shell_has_no_rows_and_begins_with_no_reply(rt: HostRuntime) -> Result<(), Fail> {
     let alloc = rt.alloc();
-    let mut shell = Host::shell(alloc, &one())?;
+    let mut shell = Host::shell(alloc, &first_view(1))?;
     assert!(rt; !answers(alloc, &mut shell, BlockId::Lqh)?);
     assert!(rt; shell.next_reply().is_none());
     assert!(rt; !shell.is_left_open());
