@@ -18,7 +18,8 @@ use Rattle.sig_core.specs.Place.{coordinator_of}
 use Rattle.sig_core.specs.Same.{same_tx}
 use Rattle.sig_core.specs.Step.{to_place}
 use Rattle.answer_laws.proofs.LqhOps.{is_lqh, is_node, left_of, right_of, true_and}
-use Rattle.answer_laws.proofs.Tally.{and_few, one_if, tally_append}
+use Rattle.commit_laws.proofs.Tally.{and_few, tally_append}
+use Rattle.commit_laws.specs.Counts.{one_if}
 use Rattle.answer_laws.proofs.TcAborts.{aborted_body, is_abort}
 use Rattle.answer_laws.proofs.PartCounts.{is_cont}
 use Rattle.answer_laws.proofs.TcMoves.{same_tx-is}

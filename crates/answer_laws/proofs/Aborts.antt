@@ -35,12 +35,14 @@ use Rattle.answer_laws.proofs.Hosts.{shell_after}
 use Rattle.answer_laws.proofs.LinkCounts.{sent_signals, signals, taken_signals}
 use Rattle.answer_laws.proofs.LqhOps.{is_good, is_lqh, is_node}
 use Rattle.answer_laws.proofs.Ops.{good_members}
-use Rattle.answer_laws.proofs.Tally.{and_few, one_if}
+use Rattle.commit_laws.proofs.Tally.{and_few}
+use Rattle.commit_laws.specs.Counts.{one_if}
 use Rattle.answer_laws.proofs.TcAborts.{AbortMove, abort_move, aborted_body, begins, continues, is_abort, waits}
 use Rattle.answer_laws.proofs.PartCounts.{IsPart, is_cont, cont_block}
 use Rattle.answer_laws.proofs.TcLives.{IsOwn}
 use Rattle.answer_laws.proofs.TcSteps.{TxStep, born, elsewhere, live_in, of_live, turned, tx_step}
-use Rattle.answer_laws.proofs.Totals.{Grown, sent_all, sent_more, taken_all, taken_more, total_le, total_same}
+use Rattle.answer_laws.proofs.Totals.{Grown, sent_all, sent_more, taken_all, taken_more}
+use Rattle.commit_laws.proofs.Sums.{total_le, total_same}
 use Rattle.answer_laws.proofs.Wishes.{is_tc, sends_of, to_node}
 use Rattle.answer_laws.specs.Answered.{AreQuiet, IsLiveAs, is_aborting, NoAbortIsAwaited}
 use Rattle.answer_laws.proofs.AbortCounts.{lqh_aborts, few_rows, few_answers, none_at, abort_low, answer_turn, cont_turn, cont_place, conts_few}

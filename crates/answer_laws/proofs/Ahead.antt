@@ -34,7 +34,8 @@ use Rattle.answer_laws.proofs.Hosts.{node_after, same_node}
 use Rattle.answer_laws.proofs.Lives.{keeps}
 use Rattle.answer_laws.proofs.LinkCounts.{signals}
 use Rattle.answer_laws.proofs.LqhOps.{is_lqh}
-use Rattle.answer_laws.proofs.Tally.{tally, tally_past}
+use Rattle.commit_laws.proofs.Tally.{tally_past}
+use Rattle.commit_laws.specs.Counts.{tally}
 use Rattle.answer_laws.proofs.TcLives.{IsOwn, is_keyed}
 use Rattle.answer_laws.proofs.TcMoves.{node_moves, tc_view}
 use Rattle.answer_laws.proofs.TcSteps.{of_live}

@@ -29,7 +29,7 @@ use Rattle.frag_map.specs.Layout.{first_layout}
 use Rattle.world_core.specs.Start.{Start}
 use Rattle.sig_core.proofs.Keys.{same_tx-self}
 use Rattle.answer_laws.proofs.Ahead.{AtNode, NextAt, NodeStep, at_node, first_none, next_at, of_dih, of_lqh, of_none, of_tc, tx_at}
-use Rattle.answer_laws.proofs.Tally.{one_if}
+use Rattle.commit_laws.specs.Counts.{one_if}
 use Rattle.answer_laws.proofs.TcKeys.{key_of_tx}
 use Rattle.answer_laws.proofs.TcOwes.{last_length, set_length}
 use Rattle.answer_laws.proofs.TcSteps.{TxStep, born, elsewhere, of_live, turned, tx_step}

@@ -22,7 +22,8 @@ use Rattle.api_block.specs.State.{ApiState}
 use Rattle.answer_laws.proofs.LqhOps.{left_of, right_of}
 use Rattle.answer_laws.proofs.ApiMoves.{ApiMove, GoesOn, HasBegun, IsNew, IsVoid, begun_as, ended, ends, goes, is_api_kind, opens, refuses, rests}
 use Rattle.answer_laws.proofs.SendKinds.{are_of, none_of}
-use Rattle.answer_laws.proofs.Tally.{Counted, one_if, only_one, counted, tally, tally_append, tally_between}
+use Rattle.commit_laws.proofs.Tally.{Counted, counted, only_one, tally_append, tally_between}
+use Rattle.commit_laws.specs.Counts.{one_if, tally}
 use Rattle.answer_laws.proofs.Wishes.{and_false, is_tc, is_wish, reply_of, sends_of, to_node, wish_of}
 
 -- a beginning transaction isn't one that a coordinator has, and is asked for at a full member; one without a name at the least

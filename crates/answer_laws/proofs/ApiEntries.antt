@@ -25,7 +25,8 @@ use Rattle.node_core.specs.Row.{shell_row}
 use Rattle.answer_laws.proofs.ApiBegins.{AreGood, IsGood, each_at}
 use Rattle.answer_laws.proofs.ApiTurns.{ApiStep, Changes, IsUnheard, Unheard, absent, answered_last, answered_ready, api_step, begins_ready, begins_working, changes, commits, drops, idle, is_calm, notes, opens, rests, works}
 use Rattle.answer_laws.proofs.SendKinds.{are_of, none_of}
-use Rattle.answer_laws.proofs.Tally.{one_if, tally, tally_append, tally_between, tally_in, none_if}
+use Rattle.commit_laws.proofs.Tally.{none_if, tally_append, tally_between, tally_in}
+use Rattle.commit_laws.specs.Counts.{one_if, tally}
 use Rattle.answer_laws.proofs.TcKeys.{answer_of, is_key, key_of_tx}
 use Rattle.answer_laws.proofs.TcLives.{start_of}
 use Rattle.answer_laws.proofs.TcMoves.{same_tx-is}

@@ -23,7 +23,8 @@ use Rattle.answer_laws.proofs.ApiBegins.{AreGood, IsGood, each_at}
 use Rattle.answer_laws.proofs.ApiMoves.{ApiMove, IsVoid, api_moves, begun_as, ended, ends, goes, opens, refuses, rests}
 use Rattle.answer_laws.proofs.Hosts.{opened_first, opened_next, shell_after}
 use Rattle.answer_laws.proofs.LinkCounts.{steps}
-use Rattle.answer_laws.proofs.Tally.{one_if, tally, tally_append, tally_between}
+use Rattle.commit_laws.proofs.Tally.{tally_append, tally_between}
+use Rattle.commit_laws.specs.Counts.{one_if, tally}
 use Rattle.answer_laws.proofs.TcLives.{is_start, start_of}
 use Rattle.answer_laws.proofs.TcMoves.{end_of, is_end, same_tx-is}
 use Rattle.answer_laws.proofs.Wishes.{is_api}

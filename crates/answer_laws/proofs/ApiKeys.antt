@@ -32,7 +32,8 @@ use Rattle.api_block.specs.Outcome.{abort_report_row, commit_report_row, refuse_
 use Rattle.api_block.specs.State.{ApiState}
 use Rattle.api_block.specs.Wait.{behind_row, name_of, pending_by, pending_if, pending_row, waits_if, waits_row}
 use Rattle.answer_laws.proofs.Focus.{IsFocus, where_found}
-use Rattle.answer_laws.proofs.Tally.{one_if, tally, tally_append, tally_between}
+use Rattle.commit_laws.proofs.Tally.{tally_append, tally_between}
+use Rattle.commit_laws.specs.Counts.{one_if, tally}
 use Rattle.answer_laws.proofs.TcKeys.{answer_of, is_key}
 use Rattle.answer_laws.proofs.TcMoves.{end_of, same_tx-is}
 use Rattle.answer_laws.proofs.Wishes.{sends_of}

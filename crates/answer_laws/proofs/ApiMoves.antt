@@ -35,7 +35,7 @@ use Rattle.api_block.specs.State.{ApiState}
 use Rattle.api_block.specs.Wait.{behind_row, name_of, pending_by, pending_if, pending_row, waits_if, waits_row}
 use Rattle.answer_laws.proofs.Focus.{IsFocus, none_placed, where_found}
 use Rattle.answer_laws.proofs.SendKinds.{are_of}
-use Rattle.answer_laws.proofs.Tally.{tally}
+use Rattle.commit_laws.specs.Counts.{tally}
 
 -- what the API sends, but for the wish for a transaction
 abbrev pub is_api_kind : Body → Bool

@@ -33,7 +33,7 @@ use Rattle.api_block.specs.State.{ApiState}
 use Rattle.api_block.specs.Wait.{behind_row, name_of, pending_by, pending_if, pending_row, waits_if, waits_row}
 use Rattle.answer_laws.proofs.LqhOps.{left_of}
 use Rattle.answer_laws.proofs.Focus.{IsFocus, where_found}
-use Rattle.answer_laws.proofs.Tally.{tally}
+use Rattle.commit_laws.specs.Counts.{tally}
 use Rattle.answer_laws.proofs.SendKinds.{are_of}
 use Rattle.answer_laws.proofs.TcKeys.{answer_of}
 use Rattle.answer_laws.specs.Answered.{is_operating}

@@ -42,11 +42,14 @@ use Rattle.answer_laws.proofs.Lives.{holds_at, once_started, steps_from}
 use Rattle.answer_laws.proofs.LqhSends.{lqh_kinds}
 use Rattle.answer_laws.proofs.Ops.{row_effects, row_state}
 use Rattle.answer_laws.proofs.SendKinds.{are_of, is_dih_kind, is_lqh_kind, is_tc_kind, none_of}
-use Rattle.answer_laws.proofs.Tally.{Counted, counted, one_if, only_one, tally, tally_in, tally_past, none_if}
+use Rattle.commit_laws.proofs.Tally.{Counted, counted, none_if, only_one, tally_in, tally_past}
+use Rattle.commit_laws.specs.Counts.{one_if, tally}
 use Rattle.answer_laws.proofs.TcKeys.{answer_of, answers_in, is_answer, is_asked, is_key, key_of_tx, tc_fair}
 use Rattle.answer_laws.proofs.TcMoves.{end_of, is_end}
 use Rattle.answer_laws.proofs.TcSends.{tc_kinds, tx_in}
-use Rattle.answer_laws.proofs.Totals.{spread_few, total, total_add, total_at, total_le, total_same}
+use Rattle.answer_laws.proofs.Totals.{spread_few}
+use Rattle.commit_laws.proofs.Sums.{total_add, total_at, total_le, total_same}
+use Rattle.commit_laws.specs.Counts.{total}
 use Rattle.answer_laws.proofs.Wishes.{and_false, is_api, is_tc, sends_of, to_node}
 use Rattle.answer_laws.specs.Answered.{AreQuiet, EachAsksWhereOperating, IsLiveAs, is_operating, opened_after, opened_in}
 

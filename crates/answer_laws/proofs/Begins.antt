@@ -34,7 +34,8 @@ use Rattle.answer_laws.proofs.LqhOps.{right_of}
 use Rattle.answer_laws.proofs.ApiBegins.{IsDue, IsGood, same_name-self}
 use Rattle.answer_laws.proofs.Hosts.{TellsNode, node_after, node_sends, node_tells, opened_first, opened_next, shell_after, shell_count, shell_replies, shell_sends}
 use Rattle.answer_laws.proofs.LinkCounts.{all_three, sent_signals, sent_truths, signals, steps, taken_signals, taken_steps}
-use Rattle.answer_laws.proofs.Tally.{one_if, tally, tally_in, tally_past}
+use Rattle.commit_laws.proofs.Tally.{tally_in, tally_past}
+use Rattle.commit_laws.specs.Counts.{one_if, tally}
 use Rattle.answer_laws.proofs.Wishes.{is_api, is_reply, is_tc, is_wish, node_replies, node_wishes, reply_of, sends_of, to_node, wish_of}
 use Rattle.answer_laws.specs.Answered.{AreQuiet, NoBeginIsLost, opened_after, opened_in}
 

@@ -45,14 +45,16 @@ use Rattle.answer_laws.proofs.LinkCounts.{sent_signals, signals, taken_signals}
 use Rattle.answer_laws.proofs.LqhOps.{is_good, is_lqh, is_node, left_of, right_of, true_and}
 use Rattle.answer_laws.proofs.NodeOwes.{OwesOf, at_if, came_in, cont_in, tc_owes}
 use Rattle.answer_laws.proofs.Ops.{good_members, row_effects, row_state}
-use Rattle.answer_laws.proofs.Tally.{and_few, one_if, tally, tally_past}
+use Rattle.commit_laws.proofs.Tally.{and_few, tally_past}
+use Rattle.commit_laws.specs.Counts.{one_if, tally}
 use Rattle.answer_laws.proofs.PartCounts.{is_cont, cont_block}
 use Rattle.answer_laws.proofs.TcCommits.{chain_at, is_chain, is_commit}
 use Rattle.answer_laws.proofs.TcLives.{IsOwn, is_keyed}
 use Rattle.answer_laws.proofs.TcMoves.{node_moves, same_tx-is, tc_view}
 use Rattle.answer_laws.proofs.TcOwes.{IsKnown, Owes, begins, goes_on, waits}
 use Rattle.answer_laws.proofs.TcSends.{eqb-self}
-use Rattle.answer_laws.proofs.Totals.{Grown, sent_all, sent_more, taken_all, taken_more, total_le, total_same}
+use Rattle.answer_laws.proofs.Totals.{Grown, sent_all, sent_more, taken_all, taken_more}
+use Rattle.commit_laws.proofs.Sums.{total_le, total_same}
 use Rattle.answer_laws.proofs.Wishes.{is_tc, sends_of, to_node}
 use Rattle.answer_laws.specs.Answered.{AreQuiet, IsLiveAs, NoCommitIsAwaited, is_committing}
 

@@ -18,7 +18,8 @@ use Rattle.world_core.specs.Start.{Start}
 use Rattle.answer_laws.proofs.Ahead.{is_dih}
 use Rattle.answer_laws.proofs.Focus.{IsFocus, absent, found}
 use Rattle.answer_laws.proofs.SendKinds.{are_of}
-use Rattle.answer_laws.proofs.Tally.{one_if, tally, tally_between}
+use Rattle.commit_laws.proofs.Tally.{tally_between}
+use Rattle.commit_laws.specs.Counts.{one_if, tally}
 use Rattle.answer_laws.proofs.TcMoves.{same_tx-is}
 
 -- what the block of epochs makes of the transactions that it counts

@@ -34,7 +34,7 @@ use Rattle.answer_laws.proofs.Hosts.{same_node, shell_after, shell_sends}
 use Rattle.answer_laws.proofs.LinkCounts.{all_three, sent_signals, signals, taken_signals}
 use Rattle.answer_laws.proofs.LqhSends.{lqh_kinds}
 use Rattle.answer_laws.proofs.SendKinds.{are_of, is_dih_kind, is_lqh_kind, of_kind}
-use Rattle.answer_laws.proofs.Tally.{one_if}
+use Rattle.commit_laws.specs.Counts.{one_if}
 use Rattle.answer_laws.proofs.TcLives.{IsOwn}
 use Rattle.answer_laws.proofs.Wishes.{second_fails, sends_of, to_node}
 

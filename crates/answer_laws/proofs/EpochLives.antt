@@ -30,7 +30,8 @@ use Rattle.sig_core.proofs.Keys.{same_tx-self}
 use Rattle.answer_laws.proofs.EpochCounts.{IsWithout, SendsFew, asked_count, counts_if, ended_by, ended_count, is_epochless, plain_counts, sends_count}
 use Rattle.answer_laws.proofs.PartKinds.{IsPartKind, entering_of, parts_of}
 use Rattle.answer_laws.proofs.SendKinds.{are_of, of_kind, of_map}
-use Rattle.answer_laws.proofs.Tally.{one_if, tally, tally_append, tally_between}
+use Rattle.commit_laws.proofs.Tally.{tally_append, tally_between}
+use Rattle.commit_laws.specs.Counts.{one_if, tally}
 use Rattle.answer_laws.proofs.TcLives.{IsOwn, insert_new}
 use Rattle.answer_laws.proofs.TcSends.{eqb-self, tx_in}
 use Rattle.answer_laws.proofs.TcSteps.{TcStep, begins, is_rest_kind, misses, rests, takes, tc_step}

@@ -16,8 +16,10 @@ use Rattle.answer_laws.proofs.Ahead.{Goes, few_taken}
 use Rattle.answer_laws.proofs.Begins.{given_past}
 use Rattle.answer_laws.proofs.LinkCounts.{all_three, signals, taken_signals}
 use Rattle.answer_laws.proofs.LqhOps.{right_of, true_and}
-use Rattle.answer_laws.proofs.Tally.{one_if, tally_past}
-use Rattle.answer_laws.proofs.Totals.{Grown, sent_all, sent_few, taken_all, taken_exact, total_at, total_le, total_less}
+use Rattle.commit_laws.proofs.Tally.{tally_past}
+use Rattle.commit_laws.specs.Counts.{one_if}
+use Rattle.answer_laws.proofs.Totals.{Grown, sent_all, sent_few, taken_all, taken_exact}
+use Rattle.commit_laws.proofs.Sums.{total_at, total_le, total_less}
 use Rattle.answer_laws.proofs.Wishes.{sends_of}
 
 module _ (start : Start) (test : Place → Body → Bool) (logs now : ℕ → List HostStep) (h : ℕ) (e : HostStep) (g : Goes start logs now h e) where

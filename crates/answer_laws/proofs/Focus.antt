@@ -6,7 +6,7 @@ use Rattle.std.proofs.Math.Numerals.{one-add}
 use Rattle.std.proofs.lemmas.Bool.Decides.{nat_tests}
 use Rattle.api_block.specs.declared.opened.OpenTransaction.{OpenTransaction}
 use Rattle.api_block.specs.Opened.{if_there, where_at}
-use Rattle.answer_laws.proofs.Tally.{tally}
+use Rattle.commit_laws.specs.Counts.{tally}
 
 -- at this place of a list an item passes a test
 pub record IsFocus {A : Type 0} (p : A → Bool) (xs : List A) (at : ℕ) : Type 0 where

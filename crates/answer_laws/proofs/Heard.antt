@@ -34,7 +34,7 @@ use Rattle.answer_laws.proofs.Lives.{keeps}
 use Rattle.answer_laws.proofs.LqhSends.{lqh_kinds}
 use Rattle.answer_laws.proofs.OpenTurns.{OpenTurn, commit_body, is_asked, is_told, open_turn, stays_open}
 use Rattle.answer_laws.proofs.Strangers.{answers_asked, answers_few, apart_answers, commits_few, dih_answers, keys_few, lqh_answers, starts_few, starts_once}
-use Rattle.answer_laws.proofs.Tally.{one_if, tally}
+use Rattle.commit_laws.specs.Counts.{one_if, tally}
 use Rattle.answer_laws.proofs.TcKeys.{answer_of, answers_in, is_answer, is_key, key_of_tx}
 use Rattle.answer_laws.proofs.TcLives.{is_start, start_of}
 use Rattle.answer_laws.proofs.TcSteps.{TxStep, born, elsewhere, left_of_turn, live_early, next_grows, of_live, turned, tx_step}

@@ -19,7 +19,7 @@ use Rattle.answer_laws.proofs.Commits.{live_low}
 use Rattle.answer_laws.proofs.Hosts.{shell_after}
 use Rattle.answer_laws.proofs.LinkCounts.{signals, taken_steps}
 use Rattle.answer_laws.proofs.Strangers.{starts_once}
-use Rattle.answer_laws.proofs.Tally.{one_if}
+use Rattle.commit_laws.specs.Counts.{one_if}
 use Rattle.answer_laws.proofs.TcKeys.{is_answer, is_key}
 use Rattle.answer_laws.proofs.TcSteps.{live_in}
 use Rattle.answer_laws.proofs.Wants.{IsHeld, all_right, held_few}

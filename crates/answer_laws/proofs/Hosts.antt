@@ -41,7 +41,7 @@ use Rattle.answer_laws.proofs.ApiMoves.{ApiMove, api_moves, begun_as, ends, goes
 use Rattle.answer_laws.proofs.DihSends.{dih_kinds}
 use Rattle.answer_laws.proofs.LqhSends.{lqh_kinds}
 use Rattle.answer_laws.proofs.SendKinds.{are_of, each_of, is_dih_kind, is_lqh_kind, is_tc_kind, none_of}
-use Rattle.answer_laws.proofs.Tally.{one_if, tally}
+use Rattle.commit_laws.specs.Counts.{one_if, tally}
 use Rattle.answer_laws.proofs.TcLives.{is_start, start_of}
 use Rattle.answer_laws.proofs.TcMoves.{end_of, is_end}
 use Rattle.answer_laws.proofs.TcSends.{tc_kinds, tx_in}

@@ -46,7 +46,6 @@ pub mod SampleQuiet
 pub mod SendKinds
 pub mod Serves
 pub mod Strangers
-pub mod Tally
 pub mod TcAborts
 pub mod TcCommits
 pub mod TcForth

@@ -12,7 +12,7 @@ use Rattle.sig_core.specs.declared.view.View.{View}
 use Rattle.world_core.specs.Machine.{all_headed, counted, headed, machine, sent_count, step_after}
 use Rattle.frag_map.specs.Layout.{first_view}
 use Rattle.world_core.specs.Start.{Start}
-use Rattle.answer_laws.proofs.Tally.{one_if, tally}
+use Rattle.commit_laws.specs.Counts.{one_if, tally}
 use Rattle.answer_laws.proofs.Wishes.{sends_of, to_node}
 
 -- what a link gave, which is no request, and passes a test

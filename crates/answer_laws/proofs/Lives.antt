@@ -32,7 +32,8 @@ use Rattle.answer_laws.proofs.ApiHolds.{AreHeld, IsOrdered, log_holds}
 use Rattle.answer_laws.proofs.Begins.{given_past, node_told}
 use Rattle.answer_laws.proofs.Hosts.{TellsNode, shell_after, shell_sends, shell_starts}
 use Rattle.answer_laws.proofs.LinkCounts.{all_three, sent_signals, signals, steps, taken_signals, taken_steps}
-use Rattle.answer_laws.proofs.Tally.{Counted, counted, one_if, tally, tally_in, tally_none, tally_past}
+use Rattle.commit_laws.proofs.Tally.{Counted, counted, tally_in, tally_none, tally_past}
+use Rattle.commit_laws.specs.Counts.{one_if, tally}
 use Rattle.answer_laws.proofs.TcLives.{IsKept, due_move, is_done, is_keyed, is_start, kept_move, start_of, starts_in}
 use Rattle.answer_laws.proofs.TcMoves.{end_of, ends_in, is_end, node_moves, same_tx-is}
 use Rattle.answer_laws.proofs.Wishes.{is_api, sends_of, to_node}

@@ -47,12 +47,14 @@ use Rattle.answer_laws.proofs.LqhOps.{is_lqh}
 use Rattle.answer_laws.proofs.LqhLeaves.{lqh_waits}
 use Rattle.answer_laws.proofs.LqhWaits.{came_to, hops, is_hop, queued, waiting}
 use Rattle.answer_laws.proofs.SendKinds.{are_of, is_dih_kind, none_of, of_kind}
-use Rattle.answer_laws.proofs.Tally.{one_if}
+use Rattle.commit_laws.specs.Counts.{one_if}
 use Rattle.answer_laws.proofs.TcForth.{HopTurn, answer_came, hop_turn, hopless_none, is_hopless}
 use Rattle.answer_laws.proofs.TcOps.{asks_key}
 use Rattle.answer_laws.proofs.TcSteps.{TxStep, born, elsewhere, is_apart, left_of_turn, live_early, live_home, next_grows, of_live, turned, tx_step}
 use Rattle.answer_laws.proofs.TcTurns.{is_turn}
-use Rattle.answer_laws.proofs.Totals.{sent_all, taken_all, total, total_at, total_one, total_zero}
+use Rattle.answer_laws.proofs.Totals.{sent_all, taken_all}
+use Rattle.commit_laws.proofs.Sums.{total_at, total_one, total_zero}
+use Rattle.commit_laws.specs.Counts.{total}
 use Rattle.answer_laws.proofs.Wishes.{is_tc}
 
 plain_hop : (tx : TxId) (key : List ℕ) (to : Place) (body : Body) → is_hop tx key to body ≡ true → is_request body ≡ false

@@ -36,7 +36,8 @@ use Rattle.commit_laws.proofs.LocksAt.{lock-aged, lock-kept}
 use Rattle.answer_laws.proofs.Focus.{IsFocus, absent, found}
 use Rattle.answer_laws.proofs.LqhOps.{left_of, right_of, true_and}
 use Rattle.answer_laws.proofs.QueueWaits.{LeftWaits, expired_queued, released_waits, unwaited_waits, waits_aged}
-use Rattle.answer_laws.proofs.Tally.{one_if, tally, tally_append, tally_between}
+use Rattle.commit_laws.proofs.Tally.{tally_append, tally_between}
+use Rattle.commit_laws.specs.Counts.{one_if, tally}
 use Rattle.answer_laws.proofs.TcMoves.{same_tx-is}
 use Rattle.answer_laws.proofs.LqhWaits.{RowWaits, came_to, goes_append, goes_on, granted_waits, hops, is_forth, is_hop, is_more, is_more_body, more_one, no_hops_expired, no_hops_more, own, queued, request_waits, waiting}
 

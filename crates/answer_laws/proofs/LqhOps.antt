@@ -46,7 +46,8 @@ use Rattle.lqh_block.specs.Storage.{StorageState}
 use Rattle.lqh_block.specs.Wait as wait
 use Rattle.lqh_block.specs.Work.{is_for, work_key}
 use Rattle.answer_laws.proofs.Focus.{IsFocus, found}
-use Rattle.answer_laws.proofs.Tally.{one_if, tally, tally_append, tally_between}
+use Rattle.commit_laws.proofs.Tally.{tally_append, tally_between}
+use Rattle.commit_laws.specs.Counts.{one_if, tally}
 use Rattle.answer_laws.proofs.TcMoves.{same_tx-is}
 use Rattle.answer_laws.proofs.TcSends.{eqb-self}
 use Rattle.answer_laws.proofs.Wishes.{is_tc, sends_of}

@@ -38,7 +38,8 @@ use Rattle.commit_laws.proofs.LocksAt.{lock-inserted}
 use Rattle.answer_laws.proofs.Focus.{IsFocus, absent, found}
 use Rattle.answer_laws.proofs.LqhOps.{is_lqh, left_of, right_of, true_and}
 use Rattle.answer_laws.proofs.QueueWaits.{AskedWaits, asked_waits}
-use Rattle.answer_laws.proofs.Tally.{Counted, counted, one_if, tally, tally_append, tally_between, tally_in}
+use Rattle.commit_laws.proofs.Tally.{Counted, counted, tally_append, tally_between, tally_in}
+use Rattle.commit_laws.specs.Counts.{one_if, tally}
 use Rattle.answer_laws.proofs.TcMoves.{same_tx-is}
 use Rattle.answer_laws.proofs.TcSends.{eqb-self}
 use Rattle.answer_laws.proofs.Wishes.{is_tc, sends_of}

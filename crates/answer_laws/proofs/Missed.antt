@@ -23,7 +23,7 @@ use Rattle.tc_block.specs.Operate.{can_operate, is_ready}
 use Rattle.tc_block.specs.Touched.{fits, place_of}
 use Rattle.answer_laws.proofs.ApiEntries.{is_commit_req, of_opened}
 use Rattle.answer_laws.proofs.OpenTurns.{commit_body}
-use Rattle.answer_laws.proofs.Tally.{one_if, tally}
+use Rattle.commit_laws.specs.Counts.{one_if, tally}
 use Rattle.answer_laws.proofs.TcKeys.{key_of_tx}
 use Rattle.answer_laws.proofs.TcMoves.{same_tx-is}
 use Rattle.answer_laws.proofs.TcSends.{tx_in}

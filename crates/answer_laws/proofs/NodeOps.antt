@@ -28,7 +28,8 @@ use Rattle.tc_block.specs.Turn.{Turn, going}
 use Rattle.sig_core.proofs.Keys.{same_tx-self}
 use Rattle.answer_laws.proofs.ApiBegins.{each_at, each_changed, each_less}
 use Rattle.answer_laws.proofs.LqhOps.{ops}
-use Rattle.answer_laws.proofs.Tally.{one_if, tally, tally_append, tally_between}
+use Rattle.commit_laws.proofs.Tally.{tally_append, tally_between}
+use Rattle.commit_laws.specs.Counts.{one_if, tally}
 use Rattle.answer_laws.proofs.TcLives.{IsOwn, insert_new, is_keyed}
 use Rattle.answer_laws.proofs.TcMoves.{found, IsEntry, same_tx-is, step_is}
 use Rattle.answer_laws.proofs.TcOps.{IsGoodView, TurnAsks, aborted_asks, answer_asks, asks_key, commit_asks, committed_asks, completed_asks, decide_asks, go_on_asks, is_right, operate_asks, refuse_asks, rollback_asks, wait_asks}

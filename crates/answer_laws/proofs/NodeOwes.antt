@@ -31,7 +31,8 @@ use Rattle.tc_block.specs.Turn.{Turn, going}
 use Rattle.sig_core.proofs.Keys.{same_tx-self}
 use Rattle.answer_laws.proofs.ApiBegins.{each_at, each_changed, each_less, in_middle}
 use Rattle.answer_laws.proofs.NodeOps.{absent_key}
-use Rattle.answer_laws.proofs.Tally.{one_if, tally, tally_between, tally_in}
+use Rattle.commit_laws.proofs.Tally.{tally_between, tally_in}
+use Rattle.commit_laws.specs.Counts.{one_if, tally}
 use Rattle.answer_laws.proofs.TcCommits.{is_chain}
 use Rattle.answer_laws.proofs.TcLives.{IsOwn, insert_new, is_keyed}
 use Rattle.answer_laws.proofs.TcMoves.{found, IsEntry, same_tx-is, step_is}

@@ -21,7 +21,7 @@ use Rattle.tc_block.specs.Turn.{Turn}
 use Rattle.sig_core.proofs.Keys.{same_tx-self}
 use Rattle.answer_laws.proofs.PartKinds.{IsPartKind, parts_of}
 use Rattle.answer_laws.proofs.SendKinds.{is_keyless, of_kind}
-use Rattle.answer_laws.proofs.Tally.{one_if}
+use Rattle.commit_laws.specs.Counts.{one_if}
 use Rattle.answer_laws.proofs.TcKeys.{answers_in, key_of_tx, no_answers}
 use Rattle.answer_laws.proofs.TcTurns.{abort_ends, aborted, aborts, all_completed, answers, asks, commits, committed, completed, completes, decides, ends, entered_phase, gives_up, goes_on, is_wait_kind, IsMissed, keeps, late, over_not, TurnMove}
 use Rattle.answer_laws.specs.Answered.{is_aborting}

@@ -42,11 +42,14 @@ use Rattle.answer_laws.proofs.Lives.{NodeKeeps, keeps}
 use Rattle.answer_laws.proofs.LinkCounts.{signals}
 use Rattle.answer_laws.proofs.LqhOps.{came_of, is_good, is_lqh, is_mine, is_node, is_op, left_of, lqh_ops, ops, right_of, true_and}
 use Rattle.answer_laws.proofs.NodeOps.{AreRight, answers_of, is_asking, tc_steps}
-use Rattle.answer_laws.proofs.Tally.{Counted, counted, one_if, tally, tally_in, tally_past}
+use Rattle.commit_laws.proofs.Tally.{Counted, counted, tally_in, tally_past}
+use Rattle.commit_laws.specs.Counts.{one_if, tally}
 use Rattle.answer_laws.proofs.TcLives.{IsOwn, is_keyed}
 use Rattle.answer_laws.proofs.TcMoves.{node_moves, same_tx-is, tc_view}
 use Rattle.answer_laws.proofs.TcOps.{IsGoodView, asks_key}
-use Rattle.answer_laws.proofs.Totals.{Grown, IsSome, sent_all, sent_more, taken_all, taken_more, total, total_le, total_one, total_same, total_some}
+use Rattle.answer_laws.proofs.Totals.{Grown, sent_all, sent_more, taken_all, taken_more}
+use Rattle.commit_laws.proofs.Sums.{IsSome, total_le, total_one, total_same, total_some}
+use Rattle.commit_laws.specs.Counts.{total}
 use Rattle.answer_laws.proofs.Wishes.{is_tc, sends_of}
 use Rattle.answer_laws.specs.Answered.{AreQuiet, EachOperationWaits, IsLiveAs, IsWaitingAt, Waits}
 

@@ -15,7 +15,8 @@ use Rattle.sig_core.specs.Same.{same_tx}
 use Rattle.tc_block.specs.Part.{part_effects, rest_if}
 use Rattle.sig_core.proofs.Keys.{same_tx-self}
 use Rattle.answer_laws.proofs.LqhOps.{true_and}
-use Rattle.answer_laws.proofs.Tally.{one_if, tally, tally_append}
+use Rattle.commit_laws.proofs.Tally.{tally_append}
+use Rattle.commit_laws.specs.Counts.{one_if, tally}
 use Rattle.answer_laws.proofs.TcSends.{eqb-self}
 use Rattle.answer_laws.proofs.Wishes.{is_tc, sends_of}
 

@@ -39,7 +39,8 @@ use Rattle.answer_laws.proofs.LqhLeaves.{lqh_waits}
 use Rattle.answer_laws.proofs.LqhWaits.{granted_is, goes_on, is_more, is_more_body, queued, waiting}
 use Rattle.answer_laws.proofs.Lone.{IsLone, lone_step, first_lone, one_waits, waiting_at}
 use Rattle.answer_laws.proofs.Ops.{operations_wait}
-use Rattle.answer_laws.proofs.Tally.{one_if, tally_in}
+use Rattle.commit_laws.proofs.Tally.{tally_in}
+use Rattle.commit_laws.specs.Counts.{one_if}
 use Rattle.answer_laws.proofs.TcLives.{IsOwn}
 use Rattle.answer_laws.proofs.TcSteps.{live_in}
 use Rattle.answer_laws.proofs.Totals.{sent_least}

@@ -28,7 +28,7 @@ use Rattle.answer_laws.proofs.LinkCounts.{sent_signals, signals, steps}
 use Rattle.answer_laws.proofs.Lives.{keeps, plain_start, silent_start, steps_from}
 use Rattle.answer_laws.proofs.LqhSends.{lqh_kinds}
 use Rattle.answer_laws.proofs.SendKinds.{are_of, is_dih_kind, is_lqh_kind, is_tc_kind, none_of}
-use Rattle.answer_laws.proofs.Tally.{one_if}
+use Rattle.commit_laws.specs.Counts.{one_if}
 use Rattle.answer_laws.proofs.TcKeys.{answer_of, answers_in, is_answer, is_key, key_of_tx}
 use Rattle.answer_laws.proofs.TcLives.{is_start, start_of}
 use Rattle.answer_laws.proofs.TcSends.{tc_kinds, tx_in}

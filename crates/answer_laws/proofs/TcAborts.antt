@@ -30,7 +30,7 @@ use Rattle.tc_block.specs.State.{TcState}
 use Rattle.tc_block.specs.Turn.{Turn}
 use Rattle.sig_core.proofs.Keys.{same_tx-self}
 use Rattle.answer_laws.proofs.LqhOps.{is_good, is_lqh, is_node, left_of, right_of, true_and}
-use Rattle.answer_laws.proofs.Tally.{one_if}
+use Rattle.commit_laws.specs.Counts.{one_if}
 use Rattle.answer_laws.proofs.PartCounts.{IsPart, all_counted, is_cont, part_is}
 use Rattle.answer_laws.proofs.TcTurns.{abort_ends, aborted, aborts, all_completed, answers, asked_to, asks, commits, committed, completed, completes, decides, ends, entered_phase, gives_up, GivesUp, goes_on, is_row_answer, IsMissed, keeps, late, over_not, refused, TurnMove}
 use Rattle.answer_laws.proofs.Wishes.{is_tc, sends_of}

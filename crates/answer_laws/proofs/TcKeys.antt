@@ -37,7 +37,8 @@ use Rattle.tc_block.specs.Turn.{Turn, asking, going}
 use Rattle.sig_core.proofs.Keys.{same_tx-self}
 use Rattle.tc_block.proofs.EachTurn.{AbortForms, CommittedForms, RowsAre, rows_of}
 use Rattle.answer_laws.proofs.SendKinds.{SendsOnly, are_of, is_keyless, is_tc_kind, none_of}
-use Rattle.answer_laws.proofs.Tally.{one_if, tally, tally_between}
+use Rattle.commit_laws.proofs.Tally.{tally_between}
+use Rattle.commit_laws.specs.Counts.{one_if, tally}
 use Rattle.answer_laws.proofs.TcKeyless as keyless
 use Rattle.answer_laws.proofs.TcLives.{apart}
 use Rattle.answer_laws.proofs.TcMoves.{IsEntry, found, same_tx-is, step_is}

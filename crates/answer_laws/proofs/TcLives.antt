@@ -17,7 +17,8 @@ use Rattle.tc_block.specs.State.{TcState}
 use Rattle.tc_block.specs.Tc.{next_tx}
 use Rattle.answer_laws.proofs.ApiBegins.{each_changed, each_less}
 use Rattle.answer_laws.proofs.SendKinds.{are_of, is_tc_kind, none_of}
-use Rattle.answer_laws.proofs.Tally.{one_if, tally, tally_append, tally_between}
+use Rattle.commit_laws.proofs.Tally.{tally_append, tally_between}
+use Rattle.commit_laws.specs.Counts.{one_if, tally}
 use Rattle.answer_laws.proofs.TcMoves.{TcMove, end_of, ends_in, forgets, is_end, is_still_kind, same_tx-is, starts, stays, turns}
 use Rattle.answer_laws.proofs.Wishes.{and_false, is_api, sends_of, to_node}
 use Rattle.answer_laws.specs.Answered.{is_completing}

@@ -25,7 +25,7 @@ use Rattle.tc_block.specs.Sends.{entering, go_on_if, go_on_row}
 use Rattle.tc_block.specs.Turn.{Turn, asking, going}
 use Rattle.sig_core.proofs.Keys.{same_tx-self}
 use Rattle.answer_laws.proofs.LqhOps.{is_good, is_node, left_of, ops, true_and}
-use Rattle.answer_laws.proofs.Tally.{one_if}
+use Rattle.commit_laws.specs.Counts.{one_if}
 
 -- the unanswered operation is on the key
 abbrev pub asks_key : List ℕ → Option Asked → Bool

@@ -34,7 +34,8 @@ use Rattle.sig_core.proofs.Keys.{same_tx-self}
 use Rattle.answer_laws.proofs.NodeOps.{absent_key}
 use Rattle.answer_laws.proofs.PartKinds.{IsPartKind, entering_of, parts_of}
 use Rattle.answer_laws.proofs.SendKinds.{are_of, of_kind, of_map}
-use Rattle.answer_laws.proofs.Tally.{one_if, tally, tally_append, tally_between, tally_in}
+use Rattle.commit_laws.proofs.Tally.{tally_append, tally_between, tally_in}
+use Rattle.commit_laws.specs.Counts.{one_if, tally}
 use Rattle.answer_laws.proofs.TcLives.{IsOwn, apart, insert_new, is_keyed}
 use Rattle.answer_laws.proofs.TcMoves.{found, IsEntry, same_tx-is, step_is}
 use Rattle.answer_laws.proofs.TcSends.{tx_in}

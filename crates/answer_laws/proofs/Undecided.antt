@@ -39,7 +39,8 @@ use Rattle.answer_laws.proofs.LqhWaits.{is_forth}
 use Rattle.answer_laws.proofs.SendKinds.{are_of, is_dih_kind, none_of, of_kind}
 use Rattle.answer_laws.proofs.TcForth.{BackTurn, back_turn}
 use Rattle.answer_laws.proofs.TcSteps.{TxStep, born, elsewhere, is_apart, left_of_turn, live_early, live_home, next_grows, of_live, turned, tx_step}
-use Rattle.answer_laws.proofs.Totals.{sent_all, total_zero}
+use Rattle.answer_laws.proofs.Totals.{sent_all}
+use Rattle.commit_laws.proofs.Sums.{total_zero}
 use Rattle.answer_laws.proofs.Wishes.{sends_of}
 
 abbrev pub forth_at : TxId → Place → Body → Bool

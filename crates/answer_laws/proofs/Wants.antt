@@ -27,7 +27,7 @@ use Rattle.answer_laws.proofs.ApiHolds.{shell_holds}
 use Rattle.answer_laws.proofs.ApiTurns.{ApiStep, Changes, answered_last, answered_ready, api_step, begins_ready, begins_working, changes, commits, drops, notes, opens, rests, works}
 use Rattle.answer_laws.proofs.Hosts.{opened_first, opened_next, shell_after}
 use Rattle.answer_laws.proofs.LinkCounts.{steps}
-use Rattle.answer_laws.proofs.Tally.{one_if, tally}
+use Rattle.commit_laws.specs.Counts.{one_if, tally}
 use Rattle.answer_laws.proofs.TcKeys.{answer_of}
 use Rattle.answer_laws.proofs.TcLives.{is_start, start_of}
 use Rattle.answer_laws.specs.Answered.{is_operating, opened_in}

@@ -19,7 +19,7 @@ use Rattle.tc_block.specs.Tc.{begin_if, begin_row, is_full, tc_table}
 use Rattle.answer_laws.proofs.DihSends.{dih_kinds}
 use Rattle.answer_laws.proofs.LqhSends.{lqh_kinds}
 use Rattle.answer_laws.proofs.SendKinds.{is_dih_kind, is_lqh_kind, is_tc_kind, none_of}
-use Rattle.answer_laws.proofs.Tally.{one_if, tally}
+use Rattle.commit_laws.specs.Counts.{one_if, tally}
 use Rattle.answer_laws.proofs.TcSends.{tc_kinds, tx_in}
 
 abbrev pub is_tc : BlockId → Bool

@@ -2,7 +2,7 @@
 use Rattle.frag_map.specs.Shape.{IsShape}
 use Rattle.world_core.specs.Hosts.{home, rows_host}
 use Rattle.node_core.specs.Blocks.{api_of, lqh_of, tc_of}
-use Rattle.std.specs.Prelude.{◌≡◌, ◌≤◌, ℕ, Bool, true, false, is_some, List, [], Option, None, Some}
+use Rattle.std.specs.Prelude.{◌≡◌, ◌≤◌, ℕ, Bool, true, false, is_some, List, [], Option, None, Some, ◌<◌}
 use Rattle.api_block.specs.declared.opened.Doing.{Doing}
 use Rattle.api_block.specs.declared.opened.Doing.TheVariants.{Ready, Operating, Committing}
 use Rattle.api_block.specs.declared.opened.OpenTransaction.{OpenTransaction}

@@ -33,7 +33,8 @@ use Rattle.answer_laws.proofs.ApiBegins.{in_middle}
 use Rattle.answer_laws.proofs.Hosts.{shell_after}
 use Rattle.answer_laws.proofs.LinkCounts.{signals, steps}
 use Rattle.answer_laws.proofs.Lives.{keeps}
-use Rattle.answer_laws.proofs.Tally.{one_if, tally_in}
+use Rattle.commit_laws.proofs.Tally.{tally_in}
+use Rattle.commit_laws.specs.Counts.{one_if}
 use Rattle.answer_laws.proofs.TcLives.{is_keyed, is_start}
 use Rattle.answer_laws.proofs.Wishes.{is_tc, sends_of, to_node}
 use Rattle.answer_laws.specs.Answered.{EachIsAnswered, IsOpenAt, opened_after, opened_in}

@@ -36,7 +36,7 @@ use Rattle.answer_laws.proofs.LqhSends.{lqh_kinds}
 use Rattle.answer_laws.proofs.NodeOps.{absent_key}
 use Rattle.answer_laws.proofs.Ops.{row_effects, row_state}
 use Rattle.answer_laws.proofs.SendKinds.{is_dih_kind, is_lqh_kind, none_of}
-use Rattle.answer_laws.proofs.Tally.{one_if}
+use Rattle.commit_laws.specs.Counts.{one_if}
 use Rattle.answer_laws.proofs.TcMoves.{same_tx-is}
 use Rattle.answer_laws.proofs.TcSends.{tx_in}
 use Rattle.answer_laws.proofs.Wishes.{is_tc, sends_of}

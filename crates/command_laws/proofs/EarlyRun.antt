@@ -26,7 +26,8 @@ use Rattle.world_core.specs.Start.{Start}
 use Rattle.answer_laws.proofs.ApiBegins.{in_middle}
 use Rattle.answer_laws.proofs.Begins.{given_past}
 use Rattle.answer_laws.proofs.LinkCounts.{signals}
-use Rattle.answer_laws.proofs.Tally.{one_if, tally_past}
+use Rattle.commit_laws.proofs.Tally.{tally_past}
+use Rattle.commit_laws.specs.Counts.{one_if}
 use Rattle.answer_laws.proofs.Wishes.{sends_of}
 use Rattle.answer_laws.specs.Answered.{AreQuiet}
 use Rattle.command_laws.proofs.EarlyNodes.{CleanStep, clean_step, past_step, shell_step}

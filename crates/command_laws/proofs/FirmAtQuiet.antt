@@ -15,7 +15,7 @@ use Rattle.world_core.specs.Machine.{after}
 use Rattle.world_core.specs.Start.{Start}
 use Rattle.answer_laws.proofs.Hosts.{node_after, same_node, shell_after}
 use Rattle.answer_laws.proofs.Lives.{NodeKeeps, keeps}
-use Rattle.answer_laws.proofs.Tally.{only_one}
+use Rattle.commit_laws.proofs.Tally.{only_one}
 use Rattle.answer_laws.proofs.TcLives.{IsOwn, is_keyed}
 use Rattle.answer_laws.proofs.TcMoves.{same_tx-is}
 use Rattle.answer_laws.specs.Answered.{IsOpen, IsOpenAt}

@@ -30,7 +30,7 @@ use Rattle.frag_map.specs.Layout.{first_view}
 use Rattle.world_core.specs.Start.{Start}
 use Rattle.answer_laws.proofs.Begins.{given_past}
 use Rattle.answer_laws.proofs.LinkCounts.{signals}
-use Rattle.answer_laws.proofs.Tally.{tally_past}
+use Rattle.commit_laws.proofs.Tally.{tally_past}
 use Rattle.command_laws.proofs.Since.{all_taken}
 use Rattle.command_laws.specs.Served.{IsServed}
 

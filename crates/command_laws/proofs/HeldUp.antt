@@ -33,8 +33,10 @@ use Rattle.answer_laws.proofs.Heeded.{asked_where_operating}
 use Rattle.answer_laws.proofs.Ops.{operations_wait}
 use Rattle.answer_laws.proofs.Queued.{operations_queue}
 use Rattle.answer_laws.proofs.Serves.{each_served}
-use Rattle.answer_laws.proofs.Tally.{one_if, only_one, tally_in}
-use Rattle.answer_laws.proofs.Totals.{total, total_at}
+use Rattle.commit_laws.proofs.Tally.{only_one, tally_in}
+use Rattle.commit_laws.specs.Counts.{one_if}
+use Rattle.commit_laws.proofs.Sums.{total_at}
+use Rattle.commit_laws.specs.Counts.{total}
 use Rattle.answer_laws.proofs.Verified.{no_epoch}
 use Rattle.answer_laws.specs.Answered.{AreQuiet, IsLiveAs, IsQueuedAt, IsServed, IsWaitingAt, Waits, WaitsForLock, opened_after}
 use Rattle.tc_block.specs.Phases.{is_aborting}

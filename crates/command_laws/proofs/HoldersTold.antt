@@ -35,7 +35,8 @@ use Rattle.answer_laws.proofs.Commits.{live_low}
 use Rattle.answer_laws.proofs.Hosts.{node_after, shell_after}
 use Rattle.answer_laws.proofs.LinkCounts.{steps}
 use Rattle.answer_laws.proofs.Lives.{holds_at, once_started}
-use Rattle.answer_laws.proofs.Tally.{Counted, counted, one_if, tally, tally_append, tally_between}
+use Rattle.commit_laws.proofs.Tally.{Counted, counted, tally_append, tally_between}
+use Rattle.commit_laws.specs.Counts.{one_if, tally}
 use Rattle.sig_core.proofs.Keys.{same_tx-self}
 use Rattle.answer_laws.proofs.Wishes.{sends_of, to_node}
 use Rattle.answer_laws.specs.Answered.{EachIsAnswered, IsLiveAs, is_answered_by, opened_after, opened_in}

@@ -22,7 +22,8 @@ use Rattle.answer_laws.proofs.Begins.{no_begin}
 use Rattle.answer_laws.proofs.Hosts.{shell_after}
 use Rattle.answer_laws.proofs.LinkCounts.{steps, taken_steps}
 use Rattle.answer_laws.proofs.Lives.{holds_at, keeps, once_started}
-use Rattle.answer_laws.proofs.Tally.{one_if, tally_append}
+use Rattle.commit_laws.proofs.Tally.{tally_append}
+use Rattle.commit_laws.specs.Counts.{one_if}
 use Rattle.answer_laws.proofs.TcLives.{is_start}
 use Rattle.answer_laws.specs.Answered.{EachIsAnswered, WaitsForLock, is_answered_by, opened_after, opened_in}
 use Rattle.command_laws.proofs.CommitGoes.{HasEnded, IsEnding}

@@ -40,7 +40,8 @@ use Rattle.answer_laws.proofs.ApiBegins.{in_middle}
 use Rattle.answer_laws.proofs.Hosts.{shell_after}
 use Rattle.answer_laws.proofs.LinkCounts.{steps}
 use Rattle.answer_laws.proofs.SendKinds.{are_of, none_of}
-use Rattle.answer_laws.proofs.Tally.{one_if, tally, tally_append, tally_none}
+use Rattle.commit_laws.proofs.Tally.{tally_append, tally_none}
+use Rattle.commit_laws.specs.Counts.{one_if, tally}
 use Rattle.answer_laws.proofs.TcKeys.{is_key, key_of_tx}
 use Rattle.answer_laws.proofs.TcLives.{is_start, start_of}
 use Rattle.answer_laws.proofs.TcMoves.{same_tx-is}

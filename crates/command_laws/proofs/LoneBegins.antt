@@ -39,7 +39,8 @@ use Rattle.world_core.specs.Start.{Start}
 use Rattle.answer_laws.proofs.ApiBegins.{in_middle, same_name-is}
 use Rattle.answer_laws.proofs.Focus.{IsFocus, where_found}
 use Rattle.answer_laws.proofs.Hosts.{IsShell}
-use Rattle.answer_laws.proofs.Tally.{one_if, only_one, tally, tally_append, tally_between, tally_none}
+use Rattle.commit_laws.proofs.Tally.{only_one, tally_append, tally_between, tally_none}
+use Rattle.commit_laws.specs.Counts.{one_if, tally}
 use Rattle.answer_laws.proofs.TcLives.{is_start, start_of}
 use Rattle.answer_laws.proofs.Wishes.{is_api, sends_of}
 use Rattle.answer_laws.specs.Answered.{opened_in}

@@ -36,7 +36,8 @@ use Rattle.world_core.specs.Start.{Start}
 use Rattle.answer_laws.proofs.ApiBegins.{in_middle}
 use Rattle.answer_laws.proofs.LinkCounts.{all_three, signals, steps, taken_steps}
 use Rattle.answer_laws.proofs.Lives.{NodeKeeps, keeps, once_started}
-use Rattle.answer_laws.proofs.Tally.{one_if, tally, tally_append, tally_in}
+use Rattle.commit_laws.proofs.Tally.{tally_append, tally_in}
+use Rattle.commit_laws.specs.Counts.{one_if, tally}
 use Rattle.answer_laws.proofs.TcKeys.{answer_of, is_asked, is_key, key_of_tx}
 use Rattle.answer_laws.proofs.TcLives.{is_keyed, is_start}
 use Rattle.answer_laws.proofs.Wishes.{is_api, is_tc}

@@ -35,7 +35,7 @@ use Rattle.world_core.specs.Machine.{after}
 use Rattle.world_core.specs.Start.{Start}
 use Rattle.answer_laws.proofs.ApiBegins.{each_at, each_changed, each_less, in_middle}
 use Rattle.answer_laws.proofs.SendKinds.{none_of}
-use Rattle.answer_laws.proofs.Tally.{one_if}
+use Rattle.commit_laws.specs.Counts.{one_if}
 use Rattle.answer_laws.proofs.TcMoves.{same_tx-is}
 use Rattle.answer_laws.proofs.Wishes.{is_tc, sends_of}
 use Rattle.answer_laws.specs.Answered.{opened_in}

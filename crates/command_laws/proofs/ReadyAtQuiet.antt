@@ -13,7 +13,7 @@ use Rattle.world_core.specs.Machine.{after}
 use Rattle.world_core.specs.Start.{Start}
 use Rattle.answer_laws.proofs.ApiBegins.{in_middle}
 use Rattle.answer_laws.proofs.Lives.{holds_at, once_started}
-use Rattle.answer_laws.proofs.Tally.{only_one}
+use Rattle.commit_laws.proofs.Tally.{only_one}
 use Rattle.answer_laws.specs.Answered.{AreQuiet, EachIsAnswered, IsOpenAt, is_answered_by, opened_after}
 use Rattle.command_laws.proofs.Committed.{calm_at}
 use Rattle.command_laws.proofs.Entries.{IsNamed, named_found}

@@ -18,7 +18,8 @@ use Rattle.world_core.specs.Machine.{machine, step_after}
 use Rattle.world_core.specs.Start.{Start}
 use Rattle.answer_laws.proofs.Begins.{given_past}
 use Rattle.answer_laws.proofs.LinkCounts.{sent_signals, signals, taken_signals}
-use Rattle.answer_laws.proofs.Tally.{one_if, tally, tally_past}
+use Rattle.commit_laws.proofs.Tally.{tally_past}
+use Rattle.commit_laws.specs.Counts.{one_if, tally}
 use Rattle.answer_laws.proofs.Wishes.{sends_of, to_node}
 use Rattle.answer_laws.specs.Answered.{AreQuiet}
 use Rattle.transit_laws.proofs.Weighing.{none_passes}

@@ -26,7 +26,7 @@ use Rattle.node_core.specs.declared.host.Host.TheVariants.{Shell}
 use Rattle.node_core.specs.Replies.{replies_of}
 use Rattle.node_core.specs.Row.{in_shell, row, shell_row}
 use Rattle.answer_laws.proofs.LqhOps.{true_and}
-use Rattle.answer_laws.proofs.Tally.{one_if, tally}
+use Rattle.commit_laws.specs.Counts.{one_if, tally}
 use Rattle.answer_laws.proofs.TcMoves.{same_tx-is}
 use Rattle.answer_laws.proofs.TcSends.{eqb-self}
 use Rattle.sig_core.proofs.Keys.{same_tx-self}

@@ -21,7 +21,7 @@ use Rattle.world_core.specs.Machine.{after}
 use Rattle.world_core.specs.Start.{Start}
 use Rattle.answer_laws.proofs.Hosts.{IsNode, node_after}
 use Rattle.answer_laws.proofs.LinkCounts.{steps}
-use Rattle.answer_laws.proofs.Tally.{one_if, tally}
+use Rattle.commit_laws.specs.Counts.{one_if, tally}
 use Rattle.answer_laws.proofs.Wishes.{sends_of, to_node}
 use Rattle.transit_laws.specs.Live.{of_live}
 use Rattle.command_laws.proofs.Since.{sent_since, sent_since_to}

@@ -34,7 +34,8 @@ use Rattle.tc_block.specs.State.{TcState, with_live}
 use Rattle.tc_block.specs.Tc.{pass_if, pass_row, tc_table}
 use Rattle.answer_laws.proofs.LqhOps.{is_lqh, true_and}
 use Rattle.answer_laws.proofs.SendKinds.{are_of, none_of, of_map, one_kind}
-use Rattle.answer_laws.proofs.Tally.{one_if, tally, tally_in}
+use Rattle.commit_laws.proofs.Tally.{tally_in}
+use Rattle.commit_laws.specs.Counts.{one_if, tally}
 use Rattle.answer_laws.proofs.TcLives.{is_keyed}
 use Rattle.answer_laws.proofs.TcMoves.{same_tx-is}
 use Rattle.answer_laws.proofs.TcSends.{eqb-self}

@@ -31,7 +31,8 @@ use Rattle.frag_map.specs.Layout.{first_view}
 use Rattle.world_core.specs.Start.{Start}
 use Rattle.answer_laws.proofs.Begins.{given_past}
 use Rattle.answer_laws.proofs.LinkCounts.{sent_signals, signals}
-use Rattle.answer_laws.proofs.Tally.{one_if, tally, tally_past}
+use Rattle.commit_laws.proofs.Tally.{tally_past}
+use Rattle.commit_laws.specs.Counts.{one_if, tally}
 use Rattle.answer_laws.proofs.Wishes.{sends_of}
 use Rattle.answer_laws.specs.Answered.{AreQuiet}
 use Rattle.transit_laws.specs.Live.{of_live}

@@ -44,7 +44,8 @@ use Rattle.answer_laws.proofs.Hosts.{shell_after}
 use Rattle.answer_laws.proofs.LinkCounts.{all_three}
 use Rattle.answer_laws.proofs.LqhSends.{lqh_kinds}
 use Rattle.answer_laws.proofs.SendKinds.{are_of, is_dih_kind, is_lqh_kind, is_tc_kind, none_of, of_map}
-use Rattle.answer_laws.proofs.Tally.{one_if, tally_in, tally_none}
+use Rattle.commit_laws.proofs.Tally.{tally_in, tally_none}
+use Rattle.commit_laws.specs.Counts.{one_if}
 use Rattle.answer_laws.proofs.TcMoves.{same_tx-is}
 use Rattle.answer_laws.proofs.TcSends.{tc_kinds}
 use Rattle.answer_laws.proofs.Wishes.{is_api, is_tc, sends_of}

@@ -31,6 +31,8 @@ pub mod Replicas
 pub mod Serial
 pub mod SortedEntries
 pub mod StrictOrder
+pub mod Sums
+pub mod Tally
 pub mod TcGoes
 pub mod TcMarks
 pub mod TcNumbers

@@ -20,13 +20,13 @@ pub record IsDecidedBelow (logs : ℕ → List HostStep) (tx : TxId) (limit : �
   pub host : ℕ
   pub step : HostStep
   pub inside : IsIn step (logs host)
-  pub marked : list_any (is_decision tx) step.marks ≡ true
-  pub below : step.stamp < limit
+  pub marked : list_any (is_decision tx) step.step.marks ≡ true
+  pub below : step.step.stamp < limit
 
 -- the shell's host was told that it has begun in a step with a lesser stamp
 pub record IsToldBelow (logs : ℕ → List HostStep) (tx : TxId) (limit : ℕ) : Type 0 where
   pub name : Option ℕ
   pub step : HostStep
   pub inside : IsIn step (logs 0)
-  pub told : step.taken.body ≡ Client (TcBeginConf name tx)
-  pub below : step.stamp < limit
+  pub told : step.step.taken.body ≡ Client (TcBeginConf name tx)
+  pub below : step.step.stamp < limit

@@ -19,12 +19,12 @@ use Rattle.sig_core.specs.Table.{Rows}
 use Rattle.world_core.specs.History.{history}
 use Rattle.world_core.specs.Hosts.{hosts}
 use Rattle.world_core.specs.Machine.{after, machine}
-use Rattle.world_core.specs.Rest.{IsAtRest}
+use Rattle.world_core.specs.Rest.{IsAtRest, IsLiveReplica}
 use Rattle.world_core.specs.SerialLaw.{AreEpochsOrdered, IsSerial}
 use Rattle.frag_map.specs.Layout.{first_view}
 use Rattle.world_core.specs.Start.{Start}
 use Rattle.world_core.specs.Strict.{IsStrictOrder}
-use Rattle.world_core.specs.Views.{greatest_view, is_viable, live_nodes}
+use Rattle.world_core.specs.Views.{greatest_view}
 use Rattle.commit_laws.specs.Causes.{IsDecidedBelow}
 use Rattle.commit_laws.specs.OneKey.{IsRightAt, row_at_end}
 

@@ -2,6 +2,7 @@ pub mod Backup
 pub mod BackupEvents
 pub mod BackupLaws
 pub mod Causes
+pub mod Counts
 pub mod Kinds
 pub mod Laws
 pub mod LockLaws

@@ -6,7 +6,7 @@ use Rattle.world_core.specs.Hosts.{rows_host, started}
 use Rattle.frag_map.specs.Layout.{Layout, holds}
 use Rattle.node_core.specs.declared.host.Host.TheVariants.{Ldm}
 use Rattle.node_core.specs.Blocks.{lqh_of}
-use Rattle.std.specs.Prelude.{◌≡◌, ℕ, suc, List, [], ◌∷◌, Option, None}
+use Rattle.std.specs.Prelude.{◌≡◌, ℕ, suc, List, [], ◌∷◌, Option, None, true, ◌≤◌}
 use Rattle.std.specs.FinMap as map
 use Rattle.world_core.specs.Steps.{HostStep}
 use Rattle.sig_core.specs.declared.place.BlockId.{BlockId}
@@ -21,8 +21,7 @@ use Rattle.lqh_block.specs.Lqh.{lqh_table}
 use Rattle.lqh_block.specs.State.{LqhState}
 use Rattle.node_core.specs.Committed.{row_at}
 use Rattle.node_core.specs.declared.host.Host.{Host}
-use Rattle.node_core.specs.declared.host.Host.TheVariants.{Shell, Node}
-use Rattle.node_core.specs.Fresh.{begun_node}
+use Rattle.node_core.specs.Fresh.{fresh_part}
 use Rattle.world_core.specs.Machine.{after}
 use Rattle.world_core.specs.Start.{Start}
 use Rattle.commit_laws.specs.Placed.{IsPlaced}
@@ -53,15 +52,15 @@ LogsKeepWell = (start : Start) (h : ℕ) (log : List HostStep) → IsWellHost (a
 abbrev pub at_rest : Option (List ℕ) → Replica
 at_rest row = record { cell = record { row = row; pending = [] }; lock = unlocked; waiting = [] }
 
+-- one key of a host; one that runs no rows has none
+abbrev pub key_in : List ℕ → Host → Replica
+key_in key host = at_key key (lqh_of host)
+
 -- at first each key has its row of the start, and nothing is at work on it
 abbrev pub KeysBeginAtRest : Type 0
 KeysBeginAtRest =
     (member : Member) (layout : Layout) (epoch : ℕ) (rows : List (List ℕ × List ℕ)) (key : List ℕ) → holds layout.shape member.node key ≡ true
     → key_in key (fresh_part part.Ldm member layout epoch rows) ≡ at_rest (map.get (rows_of rows) key)
-
--- one key of a host; one that runs no rows has none
-abbrev pub key_in : List ℕ → Host → Replica
-key_in key host = at_key key (lqh_of host)
 
 -- what a signal is to the key: only those for the rows of the node are events
 abbrev pub event_for : List ℕ → LqhState → BlockId → Body → Event

@@ -28,7 +28,7 @@ use Rattle.tc_block.specs.Turn.{Turn, at_phase}
 use Rattle.node_core.specs.Requests.{is_request}
 use Rattle.world_core.specs.Start.{Start}
 use Rattle.answer_laws.proofs.LqhOps.{is_lqh}
-use Rattle.answer_laws.proofs.Tally.{one_if}
+use Rattle.commit_laws.specs.Counts.{one_if}
 use Rattle.answer_laws.proofs.TcSends.{tx_in}
 use Rattle.answer_laws.proofs.Wishes.{is_tc}
 use Rattle.transit_laws.specs.Completions.{IsCommittedAtAll}

@@ -36,7 +36,7 @@ use Rattle.sig_core.proofs.Keys.{same_tx-self}
 use Rattle.answer_laws.proofs.Commits.{node_is}
 use Rattle.answer_laws.proofs.Hosts.{shell_after}
 use Rattle.answer_laws.proofs.Hosts.{same_node}
-use Rattle.answer_laws.proofs.Tally.{one_if}
+use Rattle.commit_laws.specs.Counts.{one_if}
 use Rattle.answer_laws.proofs.TcLives.{IsOwn}
 use Rattle.answer_laws.proofs.TcOwes.{IsKnown}
 use Rattle.answer_laws.proofs.TcSends.{tx_in}

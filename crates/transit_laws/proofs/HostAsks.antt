@@ -32,7 +32,7 @@ use Rattle.commit_laws.specs.Ways.{tc_sends}
 use Rattle.answer_laws.proofs.LqhSends.{lqh_kinds}
 use Rattle.answer_laws.proofs.SendKinds.{each_of, is_lqh_kind}
 use Rattle.answer_laws.proofs.ApiMoves.{is_api_kind}
-use Rattle.answer_laws.proofs.Tally.{one_if, tally}
+use Rattle.commit_laws.specs.Counts.{one_if, tally}
 use Rattle.answer_laws.proofs.TcLives.{IsOwn, is_keyed}
 use Rattle.transit_laws.specs.Live.{of_host, of_live}
 use Rattle.transit_laws.proofs.TcAsks.{AreMute, AskTurn, is_ask, is_mute}

@@ -35,7 +35,7 @@ use Rattle.answer_laws.proofs.DihSends.{dih_kinds}
 use Rattle.answer_laws.proofs.Hosts.{node_after, shell_after}
 use Rattle.answer_laws.proofs.Lives.{keeps}
 use Rattle.answer_laws.proofs.SendKinds.{each_of, is_dih_kind}
-use Rattle.answer_laws.proofs.Tally.{tally}
+use Rattle.commit_laws.specs.Counts.{tally}
 use Rattle.answer_laws.proofs.TcLives.{IsOwn, is_keyed}
 use Rattle.transit_laws.specs.Live.{of_host}
 use Rattle.transit_laws.specs.Tokens.{is_token}

@@ -23,7 +23,7 @@ use Rattle.tc_block.specs.declared.transaction.Transaction.{Transaction}
 use Rattle.tc_block.specs.State.{TcState}
 use Rattle.tc_block.specs.Tc.{begun, tc_table}
 use Rattle.answer_laws.proofs.LqhOps.{is_lqh}
-use Rattle.answer_laws.proofs.Tally.{one_if, tally}
+use Rattle.commit_laws.specs.Counts.{one_if, tally}
 use Rattle.answer_laws.proofs.TcLives.{is_keyed}
 use Rattle.answer_laws.proofs.TcMoves.{TcMove, forgets, node_moves, starts, stays}
 use Rattle.answer_laws.proofs.TcMoves as moves

@@ -22,7 +22,7 @@ use Rattle.commit_laws.specs.Ways.{back_by, put_ways, tc_sends}
 use Rattle.answer_laws.proofs.ApiMoves.{ApiMove, api_moves, begun_as, ends, goes, is_api_kind, opens, refuses, rests}
 use Rattle.answer_laws.proofs.DihSends.{dih_kinds}
 use Rattle.answer_laws.proofs.SendKinds.{are_of, is_dih_kind, none_of}
-use Rattle.answer_laws.proofs.Tally.{one_if}
+use Rattle.commit_laws.specs.Counts.{one_if}
 use Rattle.transit_laws.specs.Live.{of_host}
 use Rattle.transit_laws.specs.Tokens.{budget_by, is_token, waiting_in}
 use Rattle.transit_laws.proofs.LqhTokens.{lqh_tokens, tokens_out}

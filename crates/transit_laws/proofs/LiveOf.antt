@@ -6,7 +6,7 @@ use Rattle.sig_core.specs.declared.member.TxId.{TxId}
 use Rattle.sig_core.specs.Same.{same_tx}
 use Rattle.sig_core.proofs.TxLemmas.{same_tx-is}
 use Rattle.tc_block.specs.declared.transaction.Transaction.{Transaction}
-use Rattle.answer_laws.proofs.Tally.{tally}
+use Rattle.commit_laws.specs.Counts.{tally}
 use Rattle.answer_laws.proofs.TcLives.{is_keyed}
 use Rattle.transit_laws.specs.Live.{of_live}
 use Rattle.transit_laws.proofs.OfLive.{AreOthers, of_between}

@@ -44,7 +44,7 @@ use Rattle.sig_core.specs.Step.{to_place}
 use Rattle.sig_core.specs.Same.{same_key, same_tx}
 use Rattle.answer_laws.proofs.SendKinds.{SendsOnly, are_of, each_of, of_append}
 use Rattle.answer_laws.proofs.LqhOps.{is_lqh}
-use Rattle.answer_laws.proofs.Tally.{one_if}
+use Rattle.commit_laws.specs.Counts.{one_if}
 use Rattle.answer_laws.proofs.Wishes.{is_tc}
 use Rattle.transit_laws.proofs.TxTurns.{AreSilent}
 use Rattle.transit_laws.proofs.TxSignals.{Tells, cover, is_part, is_sign, part_cover, part_tells, part_weight, sign_part, weight}

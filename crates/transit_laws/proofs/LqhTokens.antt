@@ -44,7 +44,8 @@ use Rattle.lqh_block.specs.Storage.{StorageState}
 use Rattle.lqh_block.specs.Wait as wait
 use Rattle.lqh_block.specs.Work.{is_for, work_key}
 use Rattle.answer_laws.proofs.Focus.{IsFocus, found, none_placed}
-use Rattle.answer_laws.proofs.Tally.{one_if, tally, tally_append, tally_between}
+use Rattle.commit_laws.proofs.Tally.{tally_append, tally_between}
+use Rattle.commit_laws.specs.Counts.{one_if, tally}
 use Rattle.transit_laws.specs.Tokens.{is_token}
 use Rattle.transit_laws.proofs.LqhWaits.{WaitersAsk, aged_asks}
 use Rattle.answer_laws.proofs.QueueWaits.{expired_queued}

@@ -18,8 +18,8 @@ use Rattle.commit_laws.specs.Replica.{asks_for}
 use Rattle.commit_laws.specs.ReplicaLaws.{key_in}
 use Rattle.commit_laws.proofs.EachEntry.{each_filter}
 use Rattle.sig_core.proofs.Keys.{same_tx-self}
-use Rattle.answer_laws.proofs.Tally.{one_if, tally}
-use Rattle.answer_laws.proofs.Totals.{total_at}
+use Rattle.commit_laws.specs.Counts.{one_if, tally}
+use Rattle.commit_laws.proofs.Sums.{total_at}
 use Rattle.transit_laws.specs.Beside.{ComersAreUndecided, NoneWaitBeside, NoneWaitWhereCarriedOut}
 use Rattle.transit_laws.specs.Circle.{at_host}
 use Rattle.transit_laws.specs.GivenUp.{is_given_up}

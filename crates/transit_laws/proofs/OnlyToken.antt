@@ -19,8 +19,8 @@ use Rattle.commit_laws.specs.Replica.{asks_for, is_by}
 use Rattle.commit_laws.specs.ReplicaLaws.{key_in}
 use Rattle.tc_block.specs.Phases.{is_aborting}
 use Rattle.commit_laws.proofs.Replicas.{nodes_begin}
-use Rattle.answer_laws.proofs.Tally.{one_if, tally}
-use Rattle.answer_laws.proofs.Totals.{total_at}
+use Rattle.commit_laws.specs.Counts.{one_if, tally}
+use Rattle.commit_laws.proofs.Sums.{total_at}
 use Rattle.transit_laws.specs.GivenUp.{is_given_up}
 use Rattle.transit_laws.specs.Live.{live_at}
 use Rattle.transit_laws.specs.Tokens.{budget, budget_by, budget_of, is_token, tokens_in, waiting_all, waiting_in}

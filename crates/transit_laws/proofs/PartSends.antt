@@ -19,7 +19,7 @@ use Rattle.tc_block.specs.Sends.{commit_of, complete_if, front_sends, key_sends,
 use Rattle.run_theory.proofs.EachSent.{each_drop, each_mapped, each_take}
 use Rattle.sig_core.proofs.Keys.{same_key-self, same_tx-self}
 use Rattle.answer_laws.proofs.LqhOps.{true_and}
-use Rattle.answer_laws.proofs.Tally.{one_if}
+use Rattle.commit_laws.specs.Counts.{one_if}
 use Rattle.answer_laws.proofs.TcSends.{eqb-self}
 use Rattle.transit_laws.proofs.TxSignals.{Tells, cover, weight}
 use Rattle.transit_laws.proofs.Weighing.{in_sends, weigh, weigh_append}

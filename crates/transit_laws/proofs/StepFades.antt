@@ -23,7 +23,7 @@ use Rattle.commit_laws.specs.Primary.{HasPrepared}
 use Rattle.commit_laws.specs.Replica.{Event, Replica, key_after}
 use Rattle.commit_laws.specs.ReplicaLaws.{event_in, key_in}
 use Rattle.commit_laws.proofs.Replicas.{logs_follow}
-use Rattle.answer_laws.proofs.Totals.{total_at}
+use Rattle.commit_laws.proofs.Sums.{total_at}
 use Rattle.transit_laws.specs.Circle.{at_host}
 use Rattle.transit_laws.specs.Routes.{primary}
 use Rattle.transit_laws.specs.Tokens.{is_token, tokens, waiting_in}

@@ -29,7 +29,7 @@ use Rattle.run_theory.proofs.EachSent.{each_flat, each_mapped}
 use Rattle.tc_block.proofs.EachTurn as turns
 use Rattle.tc_block.proofs.EachTurn.{TurnForms, nowhere}
 use Rattle.tc_block.proofs.LiveKeeps.{TurnKeeps, TurnsKeep, is_chain, turn_keeps}
-use Rattle.answer_laws.proofs.Tally.{tally_none}
+use Rattle.commit_laws.proofs.Tally.{tally_none}
 use Rattle.transit_laws.specs.Tokens.{is_token}
 use Rattle.transit_laws.proofs.LqhTokens.{tokens_out}
 

@@ -28,7 +28,7 @@ use Rattle.tc_block.proofs.EachTc.{tc_each}
 use Rattle.tc_block.proofs.EachTurn.{RowsAre, rows_both}
 use Rattle.tc_block.proofs.LiveSplit.{KeysOnce, Live, Split, once_back, once_front}
 use Rattle.commit_laws.proofs.OneWay.{back_more}
-use Rattle.answer_laws.proofs.Tally.{one_if}
+use Rattle.commit_laws.specs.Counts.{one_if}
 use Rattle.answer_laws.proofs.TcOps.{is_right}
 use Rattle.transit_laws.specs.Live.{of_live}
 use Rattle.transit_laws.specs.Tokens.{budget_by, budget_of, is_token}

@@ -26,7 +26,7 @@ use Rattle.tc_block.specs.Turn.{Turn, going}
 use Rattle.tc_block.specs.Phases.{is_aborting}
 use Rattle.commit_laws.specs.Ways.{back_by, put_ways}
 use Rattle.sig_core.proofs.Keys.{same_tx-self}
-use Rattle.answer_laws.proofs.Tally.{one_if}
+use Rattle.commit_laws.specs.Counts.{one_if}
 use Rattle.answer_laws.proofs.TcOps.{aborted_asks, answer_asks, commit_asks, committed_asks, completed_asks, decide_asks, go_on_asks, is_right, may_ask, refuse_asks, rollback_asks, wait_asks}
 use Rattle.transit_laws.specs.Tokens.{budget_of}
 use Rattle.transit_laws.proofs.LqhTokens.{tokens_out}

@@ -15,7 +15,7 @@ use Rattle.sig_core.specs.Same.{same_key, same_tx}
 use Rattle.lqh_block.specs.Work.{work_key}
 use Rattle.node_core.specs.Requests.{is_request}
 use Rattle.world_core.specs.Machine.{all_headed, counted}
-use Rattle.answer_laws.proofs.Tally.{one_if, tally}
+use Rattle.commit_laws.specs.Counts.{one_if, tally}
 use Rattle.transit_laws.specs.Tokens.{is_token}
 use Rattle.transit_laws.specs.Transit.{Takes, joined}
 use Rattle.transit_laws.proofs.KeyTokens.{Token, answers, is_home, is_rows, performs, put, refuses, token_of, tokens_of}

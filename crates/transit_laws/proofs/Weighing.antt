@@ -11,7 +11,7 @@ use Rattle.node_core.specs.Requests.{is_request}
 use Rattle.world_core.specs.Machine.{all_headed, counted, sent_count, signals_of, step_after}
 use Rattle.frag_map.specs.Layout.{first_view}
 use Rattle.world_core.specs.Start.{Start}
-use Rattle.answer_laws.proofs.Tally.{one_if, tally}
+use Rattle.commit_laws.specs.Counts.{one_if, tally}
 use Rattle.transit_laws.specs.Transit.{IsTaken, Takes, joined}
 
 -- the sum of f over a list

@@ -3,7 +3,7 @@ use Rattle.frag_map.specs.Layout.{holds}
 use Rattle.frag_map.specs.Shape.{IsShape}
 use Rattle.world_core.specs.Hosts.{rows_host}
 use Rattle.node_core.specs.Blocks.{has_tc, lqh_of, tc_of}
-use Rattle.std.specs.Prelude.{◌≡◌, ◌≢◌, ◌<◌, ◌⊎◌, ◌==◌, if◌then◌else◌, ℕ, length, List, Option, None, Some}
+use Rattle.std.specs.Prelude.{◌≡◌, ◌≢◌, ◌<◌, ◌⊎◌, ◌==◌, if◌then◌else◌, ℕ, length, List, Option, None, Some, true, ◌≤◌}
 use Rattle.run_theory.specs.Lists.{Each}
 use Rattle.world_core.specs.Steps.{Addressed, HostStep}
 use Rattle.sig_core.specs.declared.member.Member.{Member}

@@ -2,17 +2,11 @@
 use Rattle.std.proofs.Common.{◌≡◌, ℕ, ◌+◌, ◌≤◌, List, [], ◌∷◌, ◌++◌, Bool, true, false, cond, refl, ap, sym, ◌∙◌, arith, inl, inr}
 use Rattle.std.specs.Prelude.{◌&&◌}
 use Rattle.run_theory.specs.Lists.{Each, IsIn, IsPast}
-
-abbrev pub one_if : Bool → ℕ
-one_if b = cond b 1 0
+use Rattle.commit_laws.specs.Counts.{one_if, tally}
 
 pub and_few : (a b : Bool) → one_if (a && b) ≤ one_if b
 and_few true b = omega arith
 and_few false b = omega arith
-
-abbrev pub tally : {A : Type 0} → (A → Bool) → List A → ℕ
-tally p [] = 0
-tally p (x ∷ xs) = one_if (p x) + tally p xs
 
 pub tally_append : {A : Type 0} (p : A → Bool) (xs ys : List A) → tally p (xs ++ ys) ≡ tally p xs + tally p ys
 tally_append p [] ys = omega arith
