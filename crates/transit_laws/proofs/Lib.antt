@@ -1,3 +1,4 @@
+pub mod Addressed
 pub mod Ahead
 pub mod CarriedNext
 pub mod CarriedOut
