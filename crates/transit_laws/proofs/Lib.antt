@@ -12,6 +12,7 @@ pub mod Completions
 pub mod Decided
 pub mod DecidedSettled
 pub mod FirstCommits
+pub mod FreshHosts
 pub mod GivenUp
 pub mod HostAfter
 pub mod HostAsks
@@ -54,6 +55,7 @@ pub mod TcAsks
 pub mod TcCircle
 pub mod TcGoing
 pub mod TcOwn
+pub mod TcSaid
 pub mod TcSees
 pub mod TcSound
 pub mod TcStill
