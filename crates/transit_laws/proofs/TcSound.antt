@@ -172,8 +172,11 @@ host_sound : (s : Host) (x : Signal) (bs : List TxId) → IsSound (tc_of s) bs �
 host_sound s x bs is = by (tc_says s x)
   where
     by : TcSays s x (row s x) → IsSound (tc_of (row s x).state) (put_ways back_by (tc_sends s x) bs)
-    by (takes step) = subst (λ sends. IsSound (tc_of (row s x).state) (put_ways back_by sends bs)) (sym step.says) (subst (λ t. IsSound t (put_ways back_by (tc_row (tc_of s) x).effects.sends bs)) (sym step.state) (tc_sound (tc_of s) bs is x.body))
-    by (rests step) = subst (λ sends. IsSound (tc_of (row s x).state) (put_ways back_by sends bs)) (sym step.says) (subst (λ t. IsSound t bs) (sym step.state) is)
+    by (takes step says) =
+        subst (λ sends. IsSound (tc_of (row s x).state) (put_ways back_by sends bs)) (sym says)
+        (subst (λ t. IsSound t (put_ways back_by (tc_row (tc_of s) x).effects.sends bs)) (sym step.state) (tc_sound (tc_of s) bs is x.body))
+    by (rests state says) =
+        subst (λ sends. IsSound (tc_of (row s x).state) (put_ways back_by sends bs)) (sym says) (subst (λ t. IsSound t bs) (sym state) is)
 
 started_sound : (start : Start) (h : ℕ) → IsSoundHost (started start h) []
 started_sound start h = record {
