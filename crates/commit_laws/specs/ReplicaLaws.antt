@@ -6,14 +6,12 @@ use Rattle.world_core.specs.Hosts.{rows_host, started}
 use Rattle.frag_map.specs.Layout.{Layout, holds}
 use Rattle.node_core.specs.declared.host.Host.TheVariants.{Ldm}
 use Rattle.node_core.specs.Blocks.{lqh_of}
-use Rattle.std.specs.Prelude.{◌≡◌, ℕ, suc, List, [], ◌∷◌, Option, None, true, ◌≤◌}
+use Rattle.std.specs.Prelude.{◌≡◌, ℕ, List, [], ◌∷◌, Option, true, ◌≤◌}
 use Rattle.std.specs.FinMap as map
 use Rattle.world_core.specs.Steps.{HostStep}
 use Rattle.sig_core.specs.declared.place.BlockId.{BlockId}
 use Rattle.sig_core.specs.declared.place.BlockId.TheVariants.{Lqh}
-use Rattle.sig_core.specs.declared.place.Place.{Place}
 use Rattle.sig_core.specs.declared.signal.Body.{Body}
-use Rattle.sig_core.specs.declared.view.View.{View}
 use Rattle.serial_model.specs.Legal.{rows_of}
 use Rattle.row_locks.specs.OrderlyTables.{AreOrderly}
 use Rattle.row_locks.specs.Rows.{unlocked}
