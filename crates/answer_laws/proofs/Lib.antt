@@ -22,6 +22,7 @@ pub mod Focus
 pub mod Heard
 pub mod Heeded
 pub mod HostSteps
+pub mod HostTurns
 pub mod Hosts
 pub mod LinkCounts
 pub mod Lives
