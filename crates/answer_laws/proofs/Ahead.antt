@@ -2,7 +2,7 @@
 use Rattle.std.proofs.Common.{◌≡◌, ◌≢◌, ◌⊎◌, ℕ, zero, suc, ◌+◌, ◌≤◌, ◌<◌, List, [], ◌∷◌, ◌++◌, Bool, true, false, refl, ap, sym, ◌∙◌, subst, arith, inl, inr}
 use Rattle.std.specs.Prelude.{◌/◌, ◌%◌, Option, None, Some, slice_index_or}
 use Rattle.std.proofs.lemmas.Bool.{cases_lt, false≢true}
-use Rattle.node_core.proofs.HostCases.{tc_stays}
+use Rattle.node_core.proofs.HostCases.{IsRowsStep, tc_stays}
 use Rattle.node_core.specs.Blocks.{has_tc, tc_of}
 use Rattle.node_core.specs.declared.host.Host.{Host}
 use Rattle.node_core.specs.Fresh.{fresh_part, fresh_shell}
@@ -35,7 +35,7 @@ use Rattle.world_core.specs.Machine.{after, machine, step_after}
 use Rattle.world_core.specs.Start.{Start, made}
 use Rattle.world_core.specs.Steps.{Addressed, HostStep}
 pub use Rattle.answer_laws.proofs.HostTurns.{tx_at}
-use Rattle.answer_laws.proofs.HostTurns.{HostTurn, host_turn, tx_runs}
+use Rattle.answer_laws.proofs.HostTurns.{HostTurn, IsAside, aside, host_turn, in_rows, starting, turning, tx_runs}
 use Rattle.answer_laws.proofs.LinkCounts.{signals}
 use Rattle.answer_laws.proofs.TcLives.{IsKept, IsOwn, is_keyed, kept_move, starts_in}
 use Rattle.answer_laws.proofs.TcMoves.{TcMove, ends_in, forgets, host_moves, starts, stays, tc_view, turns}
@@ -91,6 +91,7 @@ module _ (start : Start) where
     pub low : h < hosts start
     pub before : AreLogs (machine start) logs
     pub right : AreLogs (machine start) now
+    pub was_within : IsWithin (hosts start) logs
     pub within : IsWithin (hosts start) now
     pub own : now h ≡ e ∷ logs h
     pub others : (k : ℕ) → k ≢ h → now k ≡ logs k
@@ -118,13 +119,17 @@ module _ (start : Start) where
             low = under (cases_lt e.host (hosts start));
             before = logs_of_run (machine start) es run;
             right = logs_of_run (machine start) (e ∷ es) (run, happens);
+            was_within = was;
             within = in_now;
             own = log_of-own (machine start) e es e.host refl;
             others = λ k differs. log_of-other (machine start) e es k (λ same. differs (sym same));
             takes = happens.takes;
           })
-          (before (λ k high. let past = log_of-past (machine start) e es k in log_nil past.newer (log_of (machine start) es k) (sym (in_now k high) ∙ past.is)))
+          (before was)
         where
+          was : IsWithin (hosts start) (log_of (machine start) es)
+          was k high = let past = log_of-past (machine start) e es k in log_nil past.newer (log_of (machine start) es k) (sym (in_now k high) ∙ past.is)
+
           under : (e.host < hosts start) ⊎ (hosts start ≤ e.host) → e.host < hosts start
           under (inl fine) = fine
           under (inr high) = absurd (nothing (sym (log_of-own (machine start) e es e.host refl) ∙ in_now e.host high))
@@ -216,3 +221,15 @@ module _ (start : Start) where
   -- a step of a host, as far as a transaction of its coordinator goes
   pub turn_at : (tx : TxId) (h : ℕ) (log : List HostStep) (e : HostStep) → HostTurn tx (after start h log) e.step.taken (step_after start h log e)
   turn_at tx h log e = let x = at_tc tx h log in host_turn tx (after start h log) e.step.taken x.once x.own
+
+  -- at another host than its home it is left as it is
+  pub other_turn : (tx : TxId) (h : ℕ) (log : List HostStep) (e : HostStep) → h < hosts start → h ≢ home start tx
+      → IsRowsStep (after start h log) e.step.taken (step_after start h log e) ⊎ IsAside tx (after start h log) e.step.taken (step_after start h log e)
+  other_turn tx h log e low differs = by (turn_at tx h log e)
+    where
+      by : HostTurn tx (after start h log) e.step.taken (step_after start h log e)
+          → IsRowsStep (after start h log) e.step.taken (step_after start h log e) ⊎ IsAside tx (after start h log) e.step.taken (step_after start h log e)
+      by (in_rows step) = inl step
+      by (aside step) = inr step
+      by (starting step) = absurd (differs (sym (ap (home start) step.one ∙ (tc_is h log low step.runs).is)))
+      by (turning step) = absurd (differs (sym (at_home tx h log step.was low step.there)))
