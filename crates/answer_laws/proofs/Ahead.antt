@@ -11,7 +11,7 @@ use Rattle.node_core.specs.Row.{row}
 use Rattle.run_theory.proofs.Along.{along_run, of_runs}
 use Rattle.run_theory.proofs.Runs.{log_of-other, log_of-own, log_of-past, logs_of_run}
 use Rattle.run_theory.specs.Links.{IsGiven, sent, taken}
-use Rattle.run_theory.specs.Lists.{Each, IsPast}
+use Rattle.run_theory.specs.Lists.{Each, IsIn, IsPast}
 use Rattle.run_theory.specs.Runs.{AreLogs, Happens, IsWithin, Run, log_of}
 use Rattle.sig_core.specs.declared.member.Member.{Member}
 use Rattle.sig_core.specs.declared.member.TxId.{TxId}
@@ -39,7 +39,7 @@ use Rattle.answer_laws.proofs.HostTurns.{HostTurn, IsAside, aside, host_turn, in
 use Rattle.answer_laws.proofs.LinkCounts.{signals}
 use Rattle.answer_laws.proofs.TcLives.{IsKept, IsOwn, is_keyed, kept_move, starts_in}
 use Rattle.answer_laws.proofs.TcMoves.{TcMove, ends_in, forgets, host_moves, starts, stays, tc_view, turns}
-use Rattle.answer_laws.proofs.TcSteps.{live_home}
+use Rattle.answer_laws.proofs.TcSteps.{live_home, live_in}
 use Rattle.commit_laws.proofs.Tally.{tally_past}
 use Rattle.commit_laws.specs.Counts.{tally}
 
@@ -177,6 +177,10 @@ module _ (start : Start) where
 
   pub at_tc : (tx : TxId) (h : ℕ) (log : List HostStep) → AtTc tx h log
   at_tc tx h log = let k = kept_tc tx h log in record { once = omega (arith, k.keeps.began, k.keeps.once); own = k.keeps.own }
+
+  -- one that is live is the transaction there
+  pub live_tx : (tx : TxId) (h : ℕ) (log : List HostStep) (t : Transaction) → IsIn (tx, t) (tc_of (after start h log)).live → tx_at tx (after start h log) ≡ Some t
+  live_tx tx h log t live = live_in tx t (tc_of (after start h log)).live (at_tc tx h log).once live
 
   -- a coordinator has the layout of the start
   started_layout : (h : ℕ) → has_tc (started start h) ≡ true → (tc_of (started start h)).layout ≡ first_layout start.shape
