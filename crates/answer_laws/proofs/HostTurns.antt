@@ -133,7 +133,7 @@ idle_absent tx (Shell s) at off on = refl
 idle_absent tx (Main m) at off on = refl
 idle_absent tx (Ldm s) at off on = refl
 
-idle_unheard : (s : Host) (at : BlockId) → runs s at ≡ false → is_lqh at ≡ true → has_lqh s ≡ false
+pub idle_unheard : (s : Host) (at : BlockId) → runs s at ≡ false → is_lqh at ≡ true → has_lqh s ≡ false
 idle_unheard (Ldm s) block.Lqh off on = absurd (true≢false off)
 idle_unheard (Ldm s) _ off on = absurd (false≢true on)
 idle_unheard (Shell s) at off on = refl
