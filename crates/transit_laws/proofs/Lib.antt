@@ -1,3 +1,4 @@
+pub mod AbortsFirst
 pub mod Ahead
 pub mod CarriedNext
 pub mod CarriedOut

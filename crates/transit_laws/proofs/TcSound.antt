@@ -132,7 +132,7 @@ module _ (s : TcState) (bs : List TxId) (n : IsSound s bs) where
   begins_sound : (name : Option ℕ) → StaysSound bs (begin_if s name false)
   begins_sound name = record {
     once = once_inserted s.live (next_tx s) fresh others n.once;
-    live = each_inserted (IsOwned s.node (s.next_seq + 1) bs) s.live (next_tx s) fresh others (record { home = refl; below = omega arith; right = refl; touched = λ is. absurd cc; given = λ is. absurd cc })
+    live = each_inserted (IsOwned s.node (s.next_seq + 1) bs) s.live (next_tx s) fresh others (record { home = refl; below = omega arith; right = refl; touched = tt; given = λ is. absurd cc })
         (each_map (IsOwned s.node s.next_seq bs) (IsOwned s.node (s.next_seq + 1) bs) s.live (λ x is. record { home = is.home; below = omega (arith, is.below); right = is.right; touched = is.touched; given = is.given }) n.live);
     begun = each_map (λ (v : TxId). v.seq < s.next_seq) (λ (v : TxId). v.seq < s.next_seq + 1) bs (λ v lt. omega (arith, lt)) n.begun;
   }

@@ -191,7 +191,7 @@ module _ (start : Start) where
           (each_between (λ (x : Addressed). IsTold old (way_of x.signal.body)) e before between takes held.signals));
       marks = λ g. each_next (machine start) (λ (f : HostStep). Each (IsMarkTold now) f.step.marks) es e g marks_now
           (each_map (λ (f : HostStep). Each (IsMarkTold old) f.step.marks) (λ (f : HostStep). Each (IsMarkTold now) f.step.marks) (old g)
-          (λ f all. each_map (IsMarkTold old) (IsMarkTold now) f.step.marks (λ m is. mark_more old now past m is) all) (held.step.marks g));
+          (λ f all. each_map (IsMarkTold old) (IsMarkTold now) f.step.marks (λ m is. mark_more old now past m is) all) (held.marks g));
     }
 
   pub all_told : (es : List HostStep) (xs : List Addressed) → IsRun start es → AreInTransit start es xs → AllTold (logs_of start es) xs
