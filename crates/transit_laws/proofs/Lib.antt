@@ -47,6 +47,7 @@ pub mod RoutesChain
 pub mod RoutesLqh
 pub mod RoutesSends
 pub mod RoutesTc
+pub mod RowsNodes
 pub mod SettledAlong
 pub mod StepFades
 pub mod TcAborts
