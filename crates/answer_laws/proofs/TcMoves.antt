@@ -13,11 +13,10 @@ use Rattle.sig_core.specs.declared.op.Op.{Op}
 use Rattle.sig_core.specs.declared.outcome.AbortCause.{AbortCause}
 use Rattle.sig_core.specs.declared.outcome.AbortCause.TheVariants as cause
 use Rattle.sig_core.specs.declared.outs.Outgoing.{Outgoing}
-use Rattle.sig_core.specs.declared.place.BlockId.{BlockId}
-use Rattle.sig_core.specs.declared.place.BlockId.TheVariants as block
 use Rattle.sig_core.specs.declared.place.Place.{Place}
 use Rattle.sig_core.specs.declared.signal.Body.{Body}
 use Rattle.sig_core.specs.declared.signal.Body.TheVariants.{Host, Client, Chain, Epoch}
+use Rattle.sig_core.specs.declared.signal.Signal.{Signal}
 use Rattle.sig_core.specs.declared.signal.chain.ChainSignal.TheVariants.{LqhKeyConf, LqhKeyRef, Committed, Completed, Aborted}
 use Rattle.sig_core.specs.declared.signal.client.ClientSignal.TheVariants.{TcBeginReq, TcBeginConf, TcKeyReq, TcCommitReq, TcCommitConf, TcRollbackReq, TcRollbackRep, TcWaitReq, LqhWaitConf}
 use Rattle.sig_core.specs.declared.signal.epoch.EpochSignal.TheVariants.{DiVerifyConf}
@@ -26,11 +25,17 @@ use Rattle.sig_core.specs.declared.signal.host.Work.TheVariants as work
 use Rattle.frag_map.specs.Layout.{Layout}
 use Rattle.sig_core.specs.Place.{client}
 use Rattle.sig_core.specs.Same.{same_tx}
+use Rattle.sig_core.specs.declared.view.View.{View}
 use Rattle.sig_core.specs.Step.{Step, to_place}
+use Rattle.api_block.specs.Api.{api_table}
+use Rattle.api_block.specs.declared.opened.OpenTransaction.{OpenTransaction}
+use Rattle.api_block.specs.State.{ApiState}
 use Rattle.lqh_block.specs.Lqh.{lqh_table}
-use Rattle.node_core.specs.declared.node.Node as node
+use Rattle.node_core.proofs.HostCases.{BlockCase, api_takes, block_case, dih_takes, none_takes, rows_take, tc_takes}
+use Rattle.node_core.specs.Blocks.{api_of, dih_of, lqh_of, tc_of}
+use Rattle.node_core.specs.declared.host.Host as host
 use Rattle.node_core.specs.Dih.{dih_table}
-use Rattle.node_core.specs.Row.{node_row}
+use Rattle.node_core.specs.Row.{row}
 use Rattle.tc_block.specs.declared.phase.Asked.{Asked}
 use Rattle.tc_block.specs.declared.phase.Phase.{Phase}
 use Rattle.tc_block.specs.declared.phase.Phase.TheVariants.{Open, Verifying, Committing, Completing, Aborting}
@@ -46,6 +51,7 @@ use Rattle.tc_block.specs.State.{TcState, with_live}
 use Rattle.tc_block.specs.Tc.{begin_if, begin_row, begun, is_full, next_tx, pass_if, pass_row, tc_table}
 use Rattle.tc_block.specs.Turn.{Turn, asking, going}
 use Rattle.sig_core.proofs.Keys.{same_tx-self}
+use Rattle.answer_laws.proofs.ApiMoves.{ApiMove, api_moves, begun_as, ends, goes, is_api_kind, opens, refuses, rests}
 use Rattle.answer_laws.proofs.DihSends.{dih_kinds}
 use Rattle.answer_laws.proofs.LqhSends.{lqh_kinds}
 use Rattle.answer_laws.proofs.SendKinds.{SendsOnly, are_of, is_dih_kind, is_lqh_kind, is_tc_kind, of_kind}
@@ -374,6 +380,20 @@ tc_view s after sends (starts name is told) = ap (λ (t : TcState). t.layout) is
 tc_view s after sends (turns one t u front back is now kind told) = ap (λ (t : TcState). t.layout) now
 tc_view s after sends (forgets one t front back is now kind told) = ap (λ (t : TcState). t.layout) now
 
+still_api : (body : Body) → is_api_kind body ≡ true → is_still_kind body ≡ true
+still_api (Client (TcBeginConf name tx)) e = cc
+still_api (Client (TcCommitConf tx epoch)) e = cc
+still_api (Client (TcRollbackRep tx cause)) e = cc
+still_api _ e = refl
+
+move_still : (s : ApiState) (body : Body) (after : View × List OpenTransaction) (sends : List Outgoing) → ApiMove s body after sends → are_of is_still_kind sends ≡ true
+move_still s body after sends (rests is kind void) = of_kind is_api_kind is_still_kind still_api sends kind
+move_still s body after sends (opens other at op new request is told) = ap (are_of is_still_kind) told
+move_still s body after sends (begun_as other one front t u back about passes begun was is kind) = of_kind is_api_kind is_still_kind still_api sends kind
+move_still s body after sends (goes front t u back go void was is kind) = of_kind is_api_kind is_still_kind still_api sends kind
+move_still s body after sends (ends one front t back about passes was is kind) = of_kind is_api_kind is_still_kind still_api sends kind
+move_still s body after sends (refuses other front t back about passes was is kind) = of_kind is_api_kind is_still_kind still_api sends kind
+
 still_dih : (body : Body) → is_dih_kind body ≡ true → is_still_kind body ≡ true
 still_dih (Client (TcBeginConf name tx)) e = cc
 still_dih (Client (TcCommitConf tx epoch)) e = cc
@@ -386,10 +406,22 @@ still_lqh (Client (TcCommitConf tx epoch)) e = cc
 still_lqh (Client (TcRollbackRep tx cause)) e = cc
 still_lqh _ e = refl
 
--- every step of a node is such a move of its coordinator
-pub node_moves : (n : node.Node) (at : BlockId) (body : Body) → TcMove n.tc (node_row n at body).state.tc (node_row n at body).effects.sends
-unfolding node_row
-node_moves n block.Tc body = tc_moves n.tc body
-node_moves n block.Dih body = stays refl (of_kind is_dih_kind is_still_kind still_dih (dih_table n.dih body).effects.sends (dih_kinds n.dih body))
-node_moves n block.Lqh body = stays refl (of_kind is_lqh_kind is_still_kind still_lqh (lqh_table n.lqh body).effects.sends (lqh_kinds n.lqh body))
-node_moves n _ body = stays refl refl
+-- every step of a host is such a move of its coordinator
+pub host_moves : (s : host.Host) (x : Signal) → TcMove (tc_of s) (tc_of (row s x).state) (row s x).effects.sends
+host_moves s x = go (row s x) (block_case s x)
+  where
+    go : (t : Step host.Host) → BlockCase s x t → TcMove (tc_of s) (tc_of t.state) t.effects.sends
+    go t (tc_takes step) =
+        subst (λ u. TcMove (tc_of s) u t.effects.sends) (sym step.state)
+        (subst (λ f. TcMove (tc_of s) (tc_table (tc_of s) x.body).state f.sends) (sym step.effects) (tc_moves (tc_of s) x.body))
+    go t (api_takes step) =
+        stays step.tc (ap (λ f. are_of is_still_kind f.sends) step.effects ∙ move_still (api_of s) x.body _ _ (api_moves (api_of s) x.body))
+    go t (dih_takes step) =
+        stays step.tc
+        (ap (λ f. are_of is_still_kind f.sends) step.effects
+        ∙ of_kind is_dih_kind is_still_kind still_dih (dih_table (dih_of s) x.body).effects.sends (dih_kinds (dih_of s) x.body))
+    go t (rows_take step) =
+        stays step.tc
+        (ap (λ f. are_of is_still_kind f.sends) step.effects
+        ∙ of_kind is_lqh_kind is_still_kind still_lqh (lqh_table (lqh_of s) x.body).effects.sends (lqh_kinds (lqh_of s) x.body))
+    go t (none_takes step) = stays (ap (λ u. tc_of u.state) step.is) (ap (λ u. are_of is_still_kind u.effects.sends) step.is)

@@ -10,10 +10,9 @@ use Rattle.sig_core.specs.declared.signal.Body.{Body}
 use Rattle.sig_core.specs.declared.signal.Body.TheVariants.{Client}
 use Rattle.sig_core.specs.declared.signal.client.ClientSignal.TheVariants.{TcBeginReq, TcBeginConf, TcBeginRef}
 use Rattle.api_block.specs.Opened.{same_name}
-use Rattle.node_core.specs.declared.node.Node as node
-use Rattle.node_core.specs.Dih.{dih_table}
-use Rattle.node_core.specs.Row.{node_row}
+use Rattle.node_core.specs.Dih.{DihState, dih_table}
 use Rattle.lqh_block.specs.Lqh.{lqh_table}
+use Rattle.lqh_block.specs.State.{LqhState}
 use Rattle.tc_block.specs.State.{TcState}
 use Rattle.tc_block.specs.Tc.{begin_if, begin_row, is_full, tc_table}
 use Rattle.answer_laws.proofs.DihSends.{dih_kinds}
@@ -96,53 +95,38 @@ begin_replies : (name : Option ℕ) (s : TcState) (other : Option ℕ) (b : Bool
 begin_replies name s other true = omega arith
 begin_replies name s other false = omega arith
 
-tc_replies : (name : Option ℕ) (s : TcState) (body : Body) → sends_of (to_node 0 (is_reply name)) (tc_table s body).effects.sends ≡ one_if (wish_of name body)
+-- a coordinator replies to each wish that it takes, and to nothing else
+pub tc_replies : (name : Option ℕ) (s : TcState) (body : Body) → sends_of (to_node 0 (is_reply name)) (tc_table s body).effects.sends ≡ one_if (wish_of name body)
 unfolding begin_row
 tc_replies name s (Client (TcBeginReq other)) = begin_replies name s other (is_full s)
 tc_replies name s body =
     none_of (is_tc_kind (tx_in body)) (to_node 0 (is_reply name)) (λ to b k. and_false (to.node == 0) (is_api to.block) (no_reply_tc name (tx_in body) b k))
     (tc_table s body).effects.sends (tc_kinds s body refl)
 
--- a node replies to each wish that it takes, and to nothing else
-pub node_replies : (name : Option ℕ) (n : node.Node) (at : BlockId) (body : Body)
-    → sends_of (to_node 0 (is_reply name)) (node_row n at body).effects.sends ≡ one_if (is_tc at && wish_of name body)
-unfolding node_row
-node_replies name n block.Tc body = tc_replies name n.tc body
-node_replies name n block.Dih body =
+-- epochs and rows reply to none
+pub dih_replies : (name : Option ℕ) (s : DihState) (body : Body) → sends_of (to_node 0 (is_reply name)) (dih_table s body).effects.sends ≡ 0
+dih_replies name s body =
     none_of is_dih_kind (to_node 0 (is_reply name)) (λ to b k. and_false (to.node == 0) (is_api to.block) (no_reply_dih name b k))
-    (dih_table n.dih body).effects.sends (dih_kinds n.dih body)
-node_replies name n block.Lqh body =
+    (dih_table s body).effects.sends (dih_kinds s body)
+
+pub lqh_replies : (name : Option ℕ) (s : LqhState) (body : Body) → sends_of (to_node 0 (is_reply name)) (lqh_table s body).effects.sends ≡ 0
+lqh_replies name s body =
     none_of is_lqh_kind (to_node 0 (is_reply name)) (λ to b k. and_false (to.node == 0) (is_api to.block) (no_reply_lqh name b k))
-    (lqh_table n.lqh body).effects.sends (lqh_kinds n.lqh body)
-node_replies name n _ body = refl
+    (lqh_table s body).effects.sends (lqh_kinds s body)
 
-begin_wishes : (name : Option ℕ) (j : ℕ) (s : TcState) (other : Option ℕ) (b : Bool) → sends_of (to_node j (is_wish name)) (begin_if s other b).effects.sends ≡ 0
-begin_wishes name j s other true = none_at (0 == j)
-  where
-    none_at : (b : Bool) → one_if (b && false) + 0 ≡ 0
-    none_at true = refl
-    none_at false = refl
-begin_wishes name j s other false = none_at (0 == j)
-  where
-    none_at : (b : Bool) → one_if (b && false) + 0 ≡ 0
-    none_at true = refl
-    none_at false = refl
+-- none of them wishes for one
+begin_wishes : (name : Option ℕ) (s : TcState) (other : Option ℕ) (b : Bool) → sends_of (is_wish name) (begin_if s other b).effects.sends ≡ 0
+begin_wishes name s other true = refl
+begin_wishes name s other false = refl
 
-tc_wishes : (name : Option ℕ) (j : ℕ) (s : TcState) (body : Body) → sends_of (to_node j (is_wish name)) (tc_table s body).effects.sends ≡ 0
+pub tc_wishes : (name : Option ℕ) (s : TcState) (body : Body) → sends_of (is_wish name) (tc_table s body).effects.sends ≡ 0
 unfolding begin_row
-tc_wishes name j s (Client (TcBeginReq other)) = begin_wishes name j s other (is_full s)
-tc_wishes name j s body =
-    none_of (is_tc_kind (tx_in body)) (to_node j (is_wish name)) (λ to b k. and_false (to.node == j) (is_tc to.block) (no_wish_tc name (tx_in body) b k))
-    (tc_table s body).effects.sends (tc_kinds s body refl)
+tc_wishes name s (Client (TcBeginReq other)) = begin_wishes name s other (is_full s)
+tc_wishes name s body =
+    none_of (is_tc_kind (tx_in body)) (is_wish name) (λ to b k. second_fails (is_tc to.block) (no_wish_tc name (tx_in body) b k)) (tc_table s body).effects.sends (tc_kinds s body refl)
 
--- a node wishes for none
-pub node_wishes : (name : Option ℕ) (j : ℕ) (n : node.Node) (at : BlockId) (body : Body) → sends_of (to_node j (is_wish name)) (node_row n at body).effects.sends ≡ 0
-unfolding node_row
-node_wishes name j n block.Tc body = tc_wishes name j n.tc body
-node_wishes name j n block.Dih body =
-    none_of is_dih_kind (to_node j (is_wish name)) (λ to b k. and_false (to.node == j) (is_tc to.block) (no_wish_dih name b k))
-    (dih_table n.dih body).effects.sends (dih_kinds n.dih body)
-node_wishes name j n block.Lqh body =
-    none_of is_lqh_kind (to_node j (is_wish name)) (λ to b k. and_false (to.node == j) (is_tc to.block) (no_wish_lqh name b k))
-    (lqh_table n.lqh body).effects.sends (lqh_kinds n.lqh body)
-node_wishes name j n _ body = refl
+pub dih_wishes : (name : Option ℕ) (s : DihState) (body : Body) → sends_of (is_wish name) (dih_table s body).effects.sends ≡ 0
+dih_wishes name s body = none_of is_dih_kind (is_wish name) (λ to b k. second_fails (is_tc to.block) (no_wish_dih name b k)) (dih_table s body).effects.sends (dih_kinds s body)
+
+pub lqh_wishes : (name : Option ℕ) (s : LqhState) (body : Body) → sends_of (is_wish name) (lqh_table s body).effects.sends ≡ 0
+lqh_wishes name s body = none_of is_lqh_kind (is_wish name) (λ to b k. second_fails (is_tc to.block) (no_wish_lqh name b k)) (lqh_table s body).effects.sends (lqh_kinds s body)

@@ -13,21 +13,29 @@ around-before size from at low =
 around-past : (size from at : ℕ) → at < size → size ≤ at + from % size → (at + from) % size ≡ at + from % size - size
 around-past size from at inside past =
     let turned = mod_below from size (omega (arith, inside)) in
-    let is : at + from ≡ (from / size + 1) * size + (at + from % size - size) = omega (arith, div-add-mod' from size, past) in
-    ap (λ n. n % size) is ∙ mod-mul-add (from / size + 1) size (at + from % size - size) (omega (arith, turned, inside, past))
+    let is : at + from ≡ (from / size + 1) * size + (at + from % size - size) =
+    omega (arith, div-add-mod' from size, past) in
+    ap (λ n. n % size) is
+    ∙ mod-mul-add (from / size + 1) size (at + from % size - size) (omega (arith, turned, inside, past))
 
 -- two steps that come to one place are one
-pub around_apart : (size from one other : ℕ) → one < size → other < size → (one + from) % size ≡ (other + from) % size → one ≡ other
-around_apart size from one other one_low other_low same = by (cases_lt (one + from % size) size) (cases_lt (other + from % size) size)
+pub around_apart : (size from one other : ℕ) → one < size → other < size
+    → (one + from) % size ≡ (other + from) % size → one ≡ other
+around_apart size from one other one_low other_low same =
+    by (cases_lt (one + from % size) size) (cases_lt (other + from % size) size)
   where
     turned : from % size < size
     turned = mod_below from size (omega (arith, one_low))
 
-    by : (one + from % size < size) ⊎ (size ≤ one + from % size) → (other + from % size < size) ⊎ (size ≤ other + from % size) → one ≡ other
+    by : (one + from % size < size) ⊎ (size ≤ one + from % size)
+        → (other + from % size < size) ⊎ (size ≤ other + from % size) → one ≡ other
     by (inl a) (inl b) = omega (arith, same, around-before size from one a, around-before size from other b)
-    by (inl a) (inr b) = omega (arith, same, turned, other_low, around-before size from one a, around-past size from other other_low b)
-    by (inr a) (inl b) = omega (arith, same, turned, one_low, around-past size from one one_low a, around-before size from other b)
-    by (inr a) (inr b) = omega (arith, same, a, b, around-past size from one one_low a, around-past size from other other_low b)
+    by (inl a) (inr b) =
+        omega (arith, same, turned, other_low, around-before size from one a, around-past size from other other_low b)
+    by (inr a) (inl b) =
+        omega (arith, same, turned, one_low, around-past size from one one_low a, around-before size from other b)
+    by (inr a) (inr b) =
+        omega (arith, same, a, b, around-past size from one one_low a, around-past size from other other_low b)
 
 -- a step that comes to a place
 pub record Reaches (size from place : ℕ) : Type 0 where
@@ -51,4 +59,5 @@ around_all size from place low = by (cases_lt place (from % size))
     by (inr a) =
         let step = place - from % size in
         let before : step + from % size < size = omega (arith, a, low) in
-        record { step = step; inside = omega (arith, low); comes = omega (arith, a, around-before size from step before) }
+        let comes : (step + from) % size ≡ place = omega (arith, a, around-before size from step before) in
+        record { step = step; inside = omega (arith, low); comes = comes }

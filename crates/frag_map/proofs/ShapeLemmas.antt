@@ -16,7 +16,8 @@ groups-some shape is = grind (arith, groups-all shape is)
 pub ruleset seats = (groups-all, groups-some)
 
 -- a fragment is of one of the groups
-pub fragment_group_below : (shape : Shape) → IsShape shape → (fragment : ℕ) → group_of_fragment shape fragment < groups shape
+pub fragment_group_below : (shape : Shape) → IsShape shape → (fragment : ℕ)
+    → group_of_fragment shape fragment < groups shape
 fragment_group_below shape is fragment = mod_below fragment (groups shape) (groups-some shape is)
 
 -- a place in a group is that of a node
@@ -26,7 +27,8 @@ seat_below shape is group seat group_low seat_low =
     grind (arith, mul-add-lt group shape.replicas seat (groups shape) group_low seat_low, groups-all shape is)
 
 -- and the node is of that group
-pub group_of-seat : (shape : Shape) (group seat : ℕ) → seat < shape.replicas → group_of shape (group * shape.replicas + seat + 1) ≡ group
+pub group_of-seat : (shape : Shape) (group seat : ℕ) → seat < shape.replicas
+    → group_of shape (group * shape.replicas + seat + 1) ≡ group
 group_of-seat shape group seat low =
     let before : group * shape.replicas + seat + 1 - 1 ≡ group * shape.replicas + seat = omega arith in
     ap (λ n. n / shape.replicas) before ∙ div-mul-add group shape.replicas seat low

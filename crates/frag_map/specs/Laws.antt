@@ -14,7 +14,8 @@ first_chain shape key = chain_of (first_layout shape) key
 -- no two replicas are on one node
 abbrev pub ReplicasAreApart : Type 0
 ReplicasAreApart =
-    (shape : Shape) → IsShape shape → (key : List ℕ) (one other : ℕ) → one < length (first_chain shape key) → other < length (first_chain shape key)
+    (shape : Shape) → IsShape shape → (key : List ℕ) (one other : ℕ)
+    → one < length (first_chain shape key) → other < length (first_chain shape key)
     → node_at (first_chain shape key) one ≡ node_at (first_chain shape key) other → one ≡ other
 
 -- each replica is on a node of the group that has the key
@@ -32,8 +33,8 @@ pub record HasReplica (chain : List Member) (node : ℕ) : Type 0 where
 -- each node of that group has a replica
 abbrev pub GroupHasAllReplicas : Type 0
 GroupHasAllReplicas =
-    (shape : Shape) → IsShape shape → (key : List ℕ) (node : ℕ) → 1 ≤ node → node ≤ shape.nodes → holds shape node key ≡ true
-    → HasReplica (first_chain shape key) node
+    (shape : Shape) → IsShape shape → (key : List ℕ) (node : ℕ) → 1 ≤ node → node ≤ shape.nodes
+    → holds shape node key ≡ true → HasReplica (first_chain shape key) node
 
 -- the first view is viable
 abbrev pub FirstViewIsViable : Type 0

@@ -13,7 +13,9 @@ pub mod Completions
 pub mod Decided
 pub mod DecidedSettled
 pub mod FirstCommits
+pub mod FreshHosts
 pub mod GivenUp
+pub mod HomeHosts
 pub mod HostAfter
 pub mod HostAsks
 pub mod HostCases
@@ -56,6 +58,7 @@ pub mod TcAsks
 pub mod TcCircle
 pub mod TcGoing
 pub mod TcOwn
+pub mod TcSaid
 pub mod TcSees
 pub mod TcSound
 pub mod TcStill

@@ -11,23 +11,25 @@ use Rattle.sig_core.specs.declared.signal.Body.{Body}
 use Rattle.sig_core.specs.declared.signal.Body.TheVariants.{Chain}
 use Rattle.sig_core.specs.declared.signal.chain.ChainSignal.TheVariants.{LqhKeyReq, LqhKeyConf, LqhKeyRef}
 use Rattle.sig_core.specs.Same.{same_tx}
-use Rattle.node_core.specs.declared.host.Host.TheVariants.{Node}
-use Rattle.node_core.specs.Fresh.{begun_node, fresh_node}
+use Rattle.lqh_block.specs.declared.request.Request.{Request}
+use Rattle.lqh_block.specs.State.{LqhState}
+use Rattle.node_core.specs.Blocks.{has_tc, tc_of}
 use Rattle.node_core.specs.Requests.{is_request}
-use Rattle.world_core.specs.Hosts.{hosts}
+use Rattle.world_core.specs.Hosts.{home, hosts, tc_host}
 use Rattle.world_core.specs.Machine.{after, machine, signals_of, step_after}
 use Rattle.world_core.specs.Start.{Start}
 use Rattle.commit_laws.specs.Ways.{back_by, sent_ways}
-use Rattle.answer_laws.proofs.Hosts.{node_after, shell_after}
 use Rattle.commit_laws.specs.Counts.{one_if, tally}
 use Rattle.commit_laws.proofs.Sums.{total_at, total_one}
 use Rattle.commit_laws.specs.Counts.{total}
 use Rattle.transit_laws.specs.Live.{of_host}
 use Rattle.transit_laws.specs.Tokens.{OneAtATime, budget, budget_by, is_token, tokens, tokens_in, waiting_all, waiting_in}
 use Rattle.transit_laws.specs.Transit.{Comes, Takes, joined, logs_of}
-use Rattle.transit_laws.proofs.HostTokens.{Kept, node_step_kept, shell_kept}
+use Rattle.transit_laws.proofs.FreshHosts.{started_unasked}
+use Rattle.transit_laws.proofs.HomeHosts.{tc_home}
+use Rattle.transit_laws.proofs.HostTokens.{Kept, host_kept}
 use Rattle.transit_laws.proofs.LqhTokens.{tokens_out}
-use Rattle.transit_laws.proofs.TcSound.{IsSoundHost, log_sound}
+use Rattle.transit_laws.proofs.TcSound.{log_sound}
 use Rattle.transit_laws.proofs.Transit.{along_transit}
 use Rattle.transit_laws.proofs.Weighing.{joins_weigh, takes_weigh, weigh}
 
@@ -119,41 +121,29 @@ module _ (start : Start) (tx : TxId) where
     waiting_some : waits_was ≤ waiting_all start was tx
     waiting_some = total_at (hosts start) (λ k. waiting_in tx (after start k (was k))) h (comes_low start es e come)
 
-    kept : Kept tx h (sent_ways start back_by h (was h)) (after start h (was h)) e.step.taken
-    kept = at_host h (was h) e.step.taken (log_sound start h (was h))
-      where
-        at_host : (k : ℕ) (log : List HostStep) (to : Place) (body : Body) → IsSoundHost (after start k log) (sent_ways start back_by k log)
-            → Kept tx k (sent_ways start back_by k log) (after start k log) to body
-        at_host zero log to body sound =
-            let s = shell_after start log in
-            subst (λ g. Kept tx zero (sent_ways start back_by zero log) g to body) (sym s.is) (shell_kept tx (sent_ways start back_by zero log) s.state to body zero)
-        at_host (suc k) log to body sound =
-            let n = node_after start k log in
-            subst (λ g. Kept tx (suc k) (sent_ways start back_by (suc k) log) g to body) (sym n.is)
-            (subst (λ j. Kept tx j (sent_ways start back_by (suc k) log) (Node n.state) to body) n.number
-            (node_step_kept tx (sent_ways start back_by (suc k) log) n.state to body (subst (λ g. IsSoundHost g (sent_ways start back_by (suc k) log)) n.is sound)))
+    kept : Kept tx (sent_ways start back_by h (was h)) (after start h (was h)) e.step.taken
+    kept = host_kept tx (sent_ways start back_by h (was h)) (after start h (was h)) e.step.taken (log_sound start h (was h))
+
+    -- away from its host is away from its coordinator
+    away : home start tx ≢ h → has_tc (after start h (was h)) ≡ true → tx.tc ≢ (tc_of (after start h (was h))).node
+    away off runs own = off (ap (tc_host start) own ∙ tc_home start h (was h) (comes_low start es e come) runs)
 
     abbrev budget_here : ℕ → List HostStep → ℕ
     budget_here k log = budget_by (list_any (same_tx tx) (sent_ways start back_by k log)) (of_host tx (after start k log))
 
     step_one : tokens start was before tx ≤ budget start was tx → tokens start now joined_now tx ≤ budget start now tx
-    step_one low = by (cases_eq tx.tc h)
+    step_one low = by (cases_eq (home start tx) h)
       where
-        by : (tx.tc ≡ h) ⊎ (tx.tc ≢ h) → tokens start now joined_now tx ≤ budget start now tx
-        by (inr off) = omega (arith, low, in_before, in_now, waiting_now, kept.away off, ap (budget_here tx.tc) (other_log tx.tc off))
+        by : (home start tx ≡ h) ⊎ (home start tx ≢ h) → tokens start now joined_now tx ≤ budget start now tx
+        by (inr off) = omega (arith, low, in_before, in_now, waiting_now, kept.away (away off), ap (budget_here (home start tx)) (other_log (home start tx) off))
         by (inl at) =
             let here : budget start was tx ≡ budget_here h (was h) = ap (λ k. budget_here k (was k)) at in
             let there : budget start now tx ≡ budget_here h (e ∷ was h) = ap (λ k. budget_here k (now k)) at ∙ ap (budget_here h) own_log in
             let rest : ℕ = tokens_in tx between + (waiting_all start was tx - waits_was) in
             omega (arith, kept.home rest (omega (arith, low, in_before, here, waiting_some)), in_now, waiting_now, waiting_some, there)
 
-  fresh_waits : (k : ℕ) → waiting_in tx (after start (suc k) []) ≡ 0
-  unfolding fresh_node begun_node
-  fresh_waits k = refl
-
   pub none_waits_first : (k : ℕ) → waiting_in tx (after start k []) ≡ 0
-  none_waits_first zero = ap (waiting_in tx) (shell_after start []).is
-  none_waits_first (suc k) = fresh_waits k
+  none_waits_first k = let fresh = started_unasked start k in ap (λ (l : LqhState). tally (λ (q : Request). same_tx q.tx tx) l.waiting) fresh.is
 
   none_first : tokens start (logs_of start []) [] tx ≤ budget start (logs_of start []) tx
   none_first = omega (arith, none (hosts start))

@@ -20,13 +20,12 @@ use Rattle.sig_core.specs.declared.signal.client.ClientSignal.TheVariants.{TcKey
 use Rattle.sig_core.specs.declared.signal.epoch.EpochSignal.TheVariants.{DiVerifyReq, DiVerifyConf}
 use Rattle.sig_core.specs.declared.signal.host.HostSignal.TheVariants.{Continue}
 use Rattle.sig_core.specs.declared.signal.host.Work.TheVariants as work
-use Rattle.frag_map.specs.Layout.{Layout}
+use Rattle.frag_map.specs.Layout.{Layout, chain_of, nowhere}
 use Rattle.sig_core.specs.Op.{key_of}
 use Rattle.sig_core.specs.Place.{epochs}
 use Rattle.sig_core.specs.Same.{same_tx}
 use Rattle.sig_core.specs.Step.{to_place}
 use Rattle.tc_block.specs.Abort as abort
-use Rattle.frag_map.specs.Layout.{chain_of}
 use Rattle.tc_block.specs.Commit as commit
 use Rattle.tc_block.specs.Complete as complete
 use Rattle.tc_block.specs.Operate as operate
@@ -42,7 +41,7 @@ use Rattle.tc_block.specs.Turn.{Turn, at_phase, going}
 use Rattle.commit_laws.specs.Kinds.{kind_of}
 use Rattle.commit_laws.specs.Ways.{Way, back, way_of}
 use Rattle.sig_core.proofs.Keys.{same_tx-self}
-use Rattle.tc_block.proofs.EachTurn.{RowsAre, nowhere, rows_of}
+use Rattle.tc_block.proofs.EachTurn.{RowsAre, rows_of}
 use Rattle.commit_laws.proofs.TcGoes.{AllSay, SaysOf, turn_goes}
 use Rattle.transit_laws.proofs.TcCircle.{left_by}
 
