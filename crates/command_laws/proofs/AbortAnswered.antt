@@ -115,9 +115,9 @@ more_node tx to body e = and_off (is_tc to.block) (plain body e)
 -- where the wish came in one of these steps it was asked for
 was_rolled : (tx : TxId) (newer : List HostStep) → 1 ≤ steps (is_roll_to tx) newer → rolled tx newer ≡ true
 was_rolled tx [] some = absurd (omega (arith, some))
-was_rolled tx (e ∷ newer) some = by (is_roll_to tx e.step.taken) refl (was_rolled tx newer)
+was_rolled tx (e ∷ newer) some = by (is_roll_to tx e.step.taken.to e.step.taken.body) refl (was_rolled tx newer)
   where
-    by : (b : Bool) → is_roll_to tx e.step.taken ≡ b → (1 ≤ steps (is_roll_to tx) newer → rolled tx newer ≡ true) → (if b then true else rolled tx newer) ≡ true
+    by : (b : Bool) → is_roll_to tx e.step.taken.to e.step.taken.body ≡ b → (1 ≤ steps (is_roll_to tx) newer → rolled tx newer ≡ true) → (if b then true else rolled tx newer) ≡ true
     by true is rest = refl
     by false is rest = rest (omega (arith, some, ap one_if is))
 
@@ -160,9 +160,9 @@ module _ (answered : EachIsAnswered) (start : Start) (was now : ℕ → List Hos
       )
   no_more (suc h) = node_since start (is_more_to tx) (more_node tx) h (cut (suc h)).newer (was (suc h))
 
-  none_more : (h : ℕ) → Each (λ (e : HostStep). is_more_to tx e.step.taken ≡ false) (cut h).newer
+  none_more : (h : ℕ) → Each (λ (e : HostStep). is_more_to tx e.step.taken.to e.step.taken.body ≡ false) (cut h).newer
   none_more h =
-      each_map (λ (e : HostStep). is_request e.step.taken.body ≡ false → is_more_to tx e.step.taken ≡ false) (λ (e : HostStep). is_more_to tx e.step.taken ≡ false) (cut h).newer
+      each_map (λ (e : HostStep). is_request e.step.taken.body ≡ false → is_more_to tx e.step.taken.to e.step.taken.body ≡ false) (λ (e : HostStep). is_more_to tx e.step.taken.to e.step.taken.body ≡ false) (cut h).newer
       (none_at (is_more_to tx) (more_request tx)) (none_taken start was now served.before served.since cut (is_more_to tx) no_more h)
 
   run : (h : ℕ) → (sent_since start (is_wrong tx) (suc h) (cut (suc h)).newer (was (suc h)) ≡ 0)
@@ -173,7 +173,7 @@ module _ (answered : EachIsAnswered) (start : Start) (was now : ℕ → List Hos
   no_wrong zero = shell_run tx start (cut 0).newer (was 0)
   no_wrong (suc h) = (run h).0
 
-  none_wrong : Each (λ (e : HostStep). is_request e.step.taken.body ≡ false → is_wrong tx e.step.taken ≡ false) (f.later ++ f.first ∷ [])
+  none_wrong : Each (λ (e : HostStep). is_request e.step.taken.body ≡ false → is_wrong tx e.step.taken.to e.step.taken.body ≡ false) (f.later ++ f.first ∷ [])
   none_wrong = none_taken start was now served.before served.since cut (is_wrong tx) no_wrong 0
 
   ended_right : HasEnded tx (Some name) start f.later (f.first ∷ was 0) → IsIn (Ended (Some name) (outcome.Aborted cause.Request)) (replies_since start was now)
@@ -191,7 +191,7 @@ module _ (answered : EachIsAnswered) (start : Start) (was now : ℕ → List Hos
 
       right : wrong_of tx ended.step.step.taken.body ≡ false
       right =
-          each_in (λ (e : HostStep). is_request e.step.taken.body ≡ false → is_wrong tx e.step.taken ≡ false) ended.step (f.later ++ f.first ∷ []) none_wrong in_newer
+          each_in (λ (e : HostStep). is_request e.step.taken.body ≡ false → is_wrong tx e.step.taken.to e.step.taken.body ≡ false) ended.step (f.later ++ f.first ∷ []) none_wrong in_newer
           (each_in (λ (e : HostStep). is_request e.step.taken.body ≡ false) ended.step f.later f.plain inside)
 
   -- the shell's host has no coordinator

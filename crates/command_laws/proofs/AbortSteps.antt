@@ -226,14 +226,14 @@ module _ (tx : TxId) where
   -- the abort was asked for in one of these steps
   abbrev pub rolled : List HostStep → Bool
   rolled [] = false
-  rolled (e ∷ newer) = if is_roll_to tx e.step.taken then true else rolled newer
+  rolled (e ∷ newer) = if is_roll_to tx e.step.taken.to e.step.taken.body then true else rolled newer
 
   module _ (start : Start) (h : ℕ) where
     record NodeRun (newer log : List HostStep) : Type 0 where
       silent : sent_since start (is_wrong tx) (suc h) newer log ≡ 0
       loose : tx.tc ≡ suc h → OnTc (IsLooseNow tx (rolled newer)) (after start (suc h) (newer ++ log))
 
-    next : (e : HostStep) (newer log : List HostStep) → is_more_to tx e.step.taken ≡ false → NodeRun newer log → NodeRun (e ∷ newer) log
+    next : (e : HostStep) (newer log : List HostStep) → is_more_to tx e.step.taken.to e.step.taken.body ≡ false → NodeRun newer log → NodeRun (e ∷ newer) log
     next e newer log plain before = record {
       silent = omega (arith, before.silent, ap (sends_of (is_wrong tx)) sends_are, q.silent);
       loose = λ at. subst (OnTc (IsLooseNow tx (rolled (e ∷ newer)))) (sym now_is) (q.loose (at ∙ sym number_now));
@@ -257,11 +257,11 @@ module _ (tx : TxId) where
         q = node_loose (rolled newer) here.state e.step.taken.to.block e.step.taken.body (sound_at start tx h (newer ++ log) here.state here.is) plain (number_now ∙ sym here.number)
             (λ at. subst (OnTc (IsLooseNow tx (rolled newer))) here.is (before.loose (at ∙ here.number)))
 
-    pub node_run : (newer log : List HostStep) → Each (λ (e : HostStep). is_more_to tx e.step.taken ≡ false) newer → (tx.tc ≡ suc h → OnTc (IsLooseNow tx false) (after start (suc h) log))
+    pub node_run : (newer log : List HostStep) → Each (λ (e : HostStep). is_more_to tx e.step.taken.to e.step.taken.body ≡ false) newer → (tx.tc ≡ suc h → OnTc (IsLooseNow tx false) (after start (suc h) log))
         → (sent_since start (is_wrong tx) (suc h) newer log ≡ 0) × (tx.tc ≡ suc h → OnTc (IsLooseNow tx (rolled newer)) (after start (suc h) (newer ++ log)))
     node_run newer log plain was = let r = run newer plain in (r.silent, r.loose)
       where
-        run : (some : List HostStep) → Each (λ (e : HostStep). is_more_to tx e.step.taken ≡ false) some → NodeRun some log
+        run : (some : List HostStep) → Each (λ (e : HostStep). is_more_to tx e.step.taken.to e.step.taken.body ≡ false) some → NodeRun some log
         run [] off = record { silent = refl; loose = was }
         run (e ∷ some) off = next e some log off.0 (run some off.1)
 

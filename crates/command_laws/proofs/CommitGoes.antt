@@ -50,7 +50,7 @@ pub record HasEnded (tx : TxId) (name : Option ℕ) (start : Start) (later log :
   pub step : HostStep
   pub older : List HostStep
   pub is : later ≡ newer ++ step ∷ older
-  pub ending : IsEnding tx name (after start 0 (older ++ log)) step.taken.body (step_after start 0 (older ++ log) step)
+  pub ending : IsEnding tx name (after start 0 (older ++ log)) step.step.taken.body (step_after start 0 (older ++ log) step)
 
 -- one that has begun, and has no operation unanswered, does the same until its end is reported
 module _ (tx : TxId) (name : Option ℕ) (stay : Doing) (idle : stay ≡ Operating → ⊥) (begun : is_beginning stay ≡ false) where

@@ -86,9 +86,9 @@ module _ (answered : EachIsAnswered) (start : Start) (was now : ℕ → List Hos
   no_pushes zero = omega (arith, sent_append start (is_push_to tx) 0 f.later (f.first ∷ []) (was 0), (calm_since tx start f.later (f.first ∷ was 0) f.plain asked.calm).1, asked.pushes)
   no_pushes (suc h) = node_pushes start tx h (cut (suc h)).newer (was (suc h))
 
-  none_pushed : (h : ℕ) → Each (λ (e : HostStep). is_push_to tx e.step.taken ≡ false) (cut h).newer
+  none_pushed : (h : ℕ) → Each (λ (e : HostStep). is_push_to tx e.step.taken.to e.step.taken.body ≡ false) (cut h).newer
   none_pushed h =
-      each_map (λ (e : HostStep). is_request e.step.taken.body ≡ false → is_push_to tx e.step.taken ≡ false) (λ (e : HostStep). is_push_to tx e.step.taken ≡ false) (cut h).newer
+      each_map (λ (e : HostStep). is_request e.step.taken.body ≡ false → is_push_to tx e.step.taken.to e.step.taken.body ≡ false) (λ (e : HostStep). is_push_to tx e.step.taken.to e.step.taken.body ≡ false) (cut h).newer
       (none_at (is_push_to tx) (request_pushes_none tx)) (none_taken start was now served.before served.since cut (is_push_to tx) no_pushes h)
 
   -- nobody reports its abort, and so the shell's host isn't told of one

@@ -60,7 +60,7 @@ module _ (tx : TxId) where
   node_past n block.Lqh body sound wish same was = record { good = none_of is_lqh_kind (is_bad tx) (good_lqh tx) (lqh_table n.lqh body).effects.sends (lqh_kinds n.lqh body); past = was }
   node_past n _ body sound wish same was = record { good = refl; past = was }
 
-  module _ (start : Start) (h : ℕ) (log : List HostStep) (e : HostStep) (wish : is_wish_to tx e.step.taken ≡ false) where
+  module _ (start : Start) (h : ℕ) (log : List HostStep) (e : HostStep) (wish : is_wish_to tx e.step.taken.to e.step.taken.body ≡ false) where
     abbrev here : IsNode (suc h) (after start (suc h) log)
     here = node_after start h log
 

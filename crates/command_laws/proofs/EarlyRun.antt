@@ -42,7 +42,7 @@ request_fair tx (Chain (LqhKeyRef other key why)) e = cc
 request_fair tx _ e = refl
 
 module _ (start : Start) (was now : ℕ → List HostStep) (before : AreQuiet start was) (since : AreQuiet start now) (cut : IsCut was now) (tx : TxId)
-    (wishes : (h : ℕ) → Each (λ (e : HostStep). is_wish_to tx e.step.taken ≡ false) (cut h).newer)
+    (wishes : (h : ℕ) → Each (λ (e : HostStep). is_wish_to tx e.step.taken.to e.step.taken.body ≡ false) (cut h).newer)
     (open_was : (h : ℕ) → tx.tc ≡ suc h → OnTc (IsOpenNow tx) (after start (suc h) (was (suc h)))) where
   -- the steps of a host among these events
   abbrev newer_in : List HostStep → ℕ → List HostStep
@@ -87,9 +87,9 @@ module _ (start : Start) (was now : ℕ → List HostStep) (before : AreQuiet st
         append_cancel_right (cut e.host).newer ((inside e.host).newer ++ e ∷ newer_in all.more e.host) (was e.host)
         (sym (cut e.host).is ∙ is_now ∙ sym (append_assoc (inside e.host).newer (e ∷ newer_in all.more e.host) (was e.host)))
 
-    no_wish : is_wish_to tx e.step.taken ≡ false
+    no_wish : is_wish_to tx e.step.taken.to e.step.taken.body ≡ false
     no_wish =
-        each_in (λ (x : HostStep). is_wish_to tx x.taken.to x.taken.body ≡ false) e (cut e.host).newer (wishes e.host)
+        each_in (λ (x : HostStep). is_wish_to tx x.step.taken.to x.step.taken.body ≡ false) e (cut e.host).newer (wishes e.host)
         (subst (IsIn e) (sym is_newer) (in_middle (inside e.host).newer e (newer_in all.more e.host)))
 
     low : e.host < hosts start
@@ -129,21 +129,21 @@ module _ (start : Start) (was now : ℕ → List HostStep) (before : AreQuiet st
     comes_fair : IsClean all.more → is_fair tx e.step.taken.body ≡ true
     comes_fair clean = by (is_request e.step.taken.body) refl
       where
-        signal : is_request e.step.taken.body ≡ false → (b : Bool) → is_loss tx e.step.taken ≡ b → b ≡ false
+        signal : is_request e.step.taken.body ≡ false → (b : Bool) → is_loss tx e.step.taken.to e.step.taken.body ≡ b → b ≡ false
         signal plain false is = refl
         signal plain true is =
             absurd (omega (
               arith,
               ap one_if is,
               tally_past (λ (x : Signal). is_loss tx x.to x.body)
-                  (given_past start e.step.taken.from.0 e.host (log_of (machine start) es e.step.taken.from.0) (e.step.taken ∷ taken (machine start) e.step.taken.from.0 (log_of (machine start) es e.host)) (happens.takes plain)),
+                  (given_past start e.step.taken.from.0 e.host (log_of (machine start) es e.step.taken.from.0) (record { to = e.host; signal = e.step.taken } ∷ taken (machine start) e.step.taken.from.0 (log_of (machine start) es e.host)) (happens.takes plain)),
               few_losses clean e.step.taken.from.0,
               tally_past (λ (x : Signal). is_loss tx x.to x.body) (taken_past (machine start) e.step.taken.from.0 (past_was e.host)),
             ))
 
         by : (b : Bool) → is_request e.step.taken.body ≡ b → is_fair tx e.step.taken.body ≡ true
         by true is = request_fair tx e.step.taken.body is
-        by false is = is_true (is_fair tx e.step.taken.body) (signal is (is_loss tx e.step.taken) refl)
+        by false is = is_true (is_fair tx e.step.taken.body) (signal is (is_loss tx e.step.taken.to e.step.taken.body) refl)
 
     log_more : (h : ℕ) → log_of (machine start) (e ∷ es) h ≡ newer_in (e ∷ all.more) h ++ was h
     log_more h = by (cases_eq e.host h)
@@ -160,7 +160,7 @@ module _ (start : Start) (was now : ℕ → List HostStep) (before : AreQuiet st
         by (inl at) = subst (P h) (sym (log_of-own (machine start) e all.more h at)) (step h at (old h))
         by (inr other) = subst (P h) (sym (log_of-other (machine start) e all.more h other)) (old h)
 
-    no_wish_at : (h : ℕ) → e.host ≡ h → is_wish_to tx e.step.taken ≡ false
+    no_wish_at : (h : ℕ) → e.host ≡ h → is_wish_to tx e.step.taken.to e.step.taken.body ≡ false
     no_wish_at h at = no_wish
 
     from_gone : IsGone all.more → AllHold (log_of (machine start) (e ∷ es))

@@ -99,12 +99,12 @@ module _ (start : Start) (was now : ℕ → List HostStep) (asked : ApiReq) (ser
     no_wishes zero = wishes
     no_wishes (suc h) = node_since start (is_wish_to tx) (no_wish_node tx) h (cut (suc h)).newer (was (suc h))
 
-    none_wished : (h : ℕ) → Each (λ (e : HostStep). is_wish_to tx e.step.taken ≡ false) (cut h).newer
+    none_wished : (h : ℕ) → Each (λ (e : HostStep). is_wish_to tx e.step.taken.to e.step.taken.body ≡ false) (cut h).newer
     none_wished h =
-        each_map (λ (e : HostStep). is_request e.step.taken.body ≡ false → is_wish_to tx e.step.taken ≡ false) (λ (e : HostStep). is_wish_to tx e.step.taken ≡ false) (cut h).newer
+        each_map (λ (e : HostStep). is_request e.step.taken.body ≡ false → is_wish_to tx e.step.taken.to e.step.taken.body ≡ false) (λ (e : HostStep). is_wish_to tx e.step.taken.to e.step.taken.body ≡ false) (cut h).newer
         (none_at (is_wish_to tx) (request_plain_wish tx)) (none_taken start was now served.before served.since cut (is_wish_to tx) no_wishes h)
 
-    none_bad : Each (λ (e : HostStep). is_request e.step.taken.body ≡ false → is_bad tx e.step.taken ≡ false) (f.later ++ f.first ∷ [])
+    none_bad : Each (λ (e : HostStep). is_request e.step.taken.body ≡ false → is_bad tx e.step.taken.to e.step.taken.body ≡ false) (f.later ++ f.first ∷ [])
     none_bad = none_taken start was now served.before served.since cut (is_bad tx) (no_bad start was now served.before served.since cut tx none_wished open_was) 0
 
     pub ended_well : (name : Option ℕ) → HasEnded tx name start f.later (f.first ∷ was 0) → EndsWell start was now name
@@ -128,5 +128,5 @@ module _ (start : Start) (was now : ℕ → List HostStep) (asked : ApiReq) (ser
         good : is_good tx ended.step.step.taken.body ≡ true
         good =
             is_true (is_good tx ended.step.step.taken.body)
-            (each_in (λ (e : HostStep). is_request e.step.taken.body ≡ false → is_bad tx e.step.taken ≡ false) ended.step (f.later ++ f.first ∷ []) none_bad in_newer
+            (each_in (λ (e : HostStep). is_request e.step.taken.body ≡ false → is_bad tx e.step.taken.to e.step.taken.body ≡ false) ended.step (f.later ++ f.first ∷ []) none_bad in_newer
             (each_in (λ (e : HostStep). is_request e.step.taken.body ≡ false) ended.step f.later f.plain inside))

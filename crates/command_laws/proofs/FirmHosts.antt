@@ -188,7 +188,7 @@ module _ (tx : TxId) where
   host_firm (Node n) to body plain firm = let kept = node_firm n to.block body plain firm in (kept.firm, kept.silent)
 
   -- so no host reports it in steps that take neither an operation of the transaction nor the wish for its abort
-  pub firm_since : (start : Start) (h : ℕ) (newer log : List HostStep) → FirmHost (after start h log) → Each (λ (e : HostStep). is_push_to tx e.step.taken ≡ false) newer
+  pub firm_since : (start : Start) (h : ℕ) (newer log : List HostStep) → FirmHost (after start h log) → Each (λ (e : HostStep). is_push_to tx e.step.taken.to e.step.taken.body ≡ false) newer
       → FirmHost (after start h (newer ++ log)) × (sent_since start (is_back tx) h newer log ≡ 0)
   firm_since start h [] log firm plain = (firm, refl)
   firm_since start h (e ∷ newer) log firm plain = next (firm_since start h newer log firm plain.1)

@@ -109,7 +109,7 @@ module _ (start : Start) (was now : ℕ → List HostStep) (request : ApiReq) (s
       by false is =
           let i = e.step.taken.from.0 in
           let j = e.host in
-          let past = given_past start i j (log_of (machine start) es i) (e.step.taken ∷ taken (machine start) i (log_of (machine start) es j)) (happens.takes is) in
+          let past = given_past start i j (log_of (machine start) es i) (record { to = e.host; signal = e.step.taken } ∷ taken (machine start) i (log_of (machine start) es j)) (happens.takes is) in
           let more = tally_past (λ (x : Signal). true) past in
           absurd (omega (
             arith,

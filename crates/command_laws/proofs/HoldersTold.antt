@@ -59,7 +59,7 @@ sent_to_append start test h j (e ∷ xs) ys log =
 
 pub taken_few : (start : Start) (test : Place → Body → Bool) (i : ℕ) (newer : List HostStep) → taken_since start test i newer ≤ steps test newer
 taken_few start test i [] = omega arith
-taken_few start test i (e ∷ newer) = omega (arith, taken_few start test i newer, few (is_from (machine start) i e) (test e.step.taken))
+taken_few start test i (e ∷ newer) = omega (arith, taken_few start test i newer, few (is_from (machine start) i e) (test e.step.taken.to e.step.taken.body))
   where
     few : (a b : Bool) → one_if (a && b) ≤ one_if b
     few true b = omega arith
@@ -207,7 +207,7 @@ module _ (answered : EachIsAnswered) (held_up : EachIsHeldUp) (start : Start) (w
           (all.nodes c).passes c_is,
           all_arrive start was mid first_served.before first_served.since cut (is_passed w.tx) (suc c) 0 c_low (omega arith),
           taken_few start (is_passed w.tx) (suc c) (log_of (machine start) all.more 0 ++ f.first ∷ []),
-          tally_append (λ (e : HostStep). is_passed w.tx e.step.taken) (log_of (machine start) all.more 0) (f.first ∷ []),
+          tally_append (λ (e : HostStep). is_passed w.tx e.step.taken.to e.step.taken.body) (log_of (machine start) all.more 0) (f.first ∷ []),
           ap one_if (ap (λ (to : Place). is_passed w.tx to f.first.step.taken.body) f.place ∙ ap (is_passed w.tx client) f.body),
         )
 
@@ -230,8 +230,8 @@ module _ (answered : EachIsAnswered) (held_up : EachIsHeldUp) (start : Start) (w
       (pending_first (after start 0 (mid 0)) i.first.front t i.first.back i.name all.shell.ahead about unanswered i.first.none i.first.passes ahead_known))
 
   -- the signal that told it came from a node where the transaction waits behind that one
-  telling : Counted (λ (e : HostStep). is_telling_who w.tx tells.who e.step.taken) (log_of (machine start) all.more 0)
-  telling = counted (λ (e : HostStep). is_telling_who w.tx tells.who e.step.taken) (log_of (machine start) all.more 0) (all.shell.from tells.who tells.is)
+  telling : Counted (λ (e : HostStep). is_telling_who w.tx tells.who e.step.taken.to e.step.taken.body) (log_of (machine start) all.more 0)
+  telling = counted (λ (e : HostStep). is_telling_who w.tx tells.who e.step.taken.to e.step.taken.body) (log_of (machine start) all.more 0) (all.shell.from tells.who tells.is)
 
   in_front : (xs ys : List HostStep) (e : HostStep) → IsIn e xs → IsIn e (xs ++ ys)
   in_front [] ys e inside = absurd inside

@@ -19,6 +19,9 @@ pub mod FirmHosts
 pub mod First
 pub mod HeldUp
 pub mod HoldersTold
+pub mod HostKinds
+pub mod HostSends
+pub mod HostSteps
 pub mod LivingReplies
 pub mod LivingRows
 pub mod LivingTurns

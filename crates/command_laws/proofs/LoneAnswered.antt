@@ -104,8 +104,8 @@ module _ (answered : EachIsAnswered) (start : Start) (was now : ℕ → List Hos
           arith,
           once_started start b.tx now served.since,
           ap (steps (is_start b.tx)) now_is,
-          tally_append (λ (e : HostStep). is_start b.tx e.step.taken) b.newer (b.step ∷ rest),
-          tally_append (λ (e : HostStep). is_start b.tx e.step.taken) b.older (f.first ∷ was 0),
+          tally_append (λ (e : HostStep). is_start b.tx e.step.taken.to e.step.taken.body) b.newer (b.step ∷ rest),
+          tally_append (λ (e : HostStep). is_start b.tx e.step.taken.to e.step.taken.body) b.older (f.first ∷ was 0),
           ap one_if b.begun,
         )
 

@@ -136,8 +136,8 @@ pub record HasLone (start : Start) (later log : List HostStep) : Type 0 where
   pub older : List HostStep
   pub is : later ≡ newer ++ step ∷ older
   pub tx : TxId
-  pub block : is_api step.taken.to.block ≡ true
-  pub lone : AnswersLone tx step.taken.body (opened_in (after start 0 (step ∷ (older ++ log))))
+  pub block : is_api step.step.taken.to.block ≡ true
+  pub lone : AnswersLone tx step.step.taken.body (opened_in (after start 0 (step ∷ (older ++ log))))
 
 pub lone_since : (start : Start) (later log : List HostStep) → Each (λ (e : HostStep). is_request e.step.taken.body ≡ false) later
     → HasLone start later log ⊎ (tally is_lone (replies_of (after start 0 (later ++ log))) ≡ tally is_lone (replies_of (after start 0 log)))

@@ -219,7 +219,7 @@ module _ (op : Op) where
     pub older : List HostStep
     pub is : later ≡ newer ++ step ∷ older
     pub tx : TxId
-    pub begun : is_start tx step.taken.to step.taken.body ≡ true
+    pub begun : is_start tx step.step.taken.to step.step.taken.body ≡ true
     pub has : HasOne tx None Operating (opened_in (after start 0 (step ∷ (older ++ log))))
 
   -- or it was refused

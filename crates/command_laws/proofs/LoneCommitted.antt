@@ -62,12 +62,12 @@ use Rattle.command_laws.specs.Served.{IsAnsweredAlone, IsCommittedAlone, IsServe
 pub steps_from_one : (start : Start) (test : Place → Body → Bool) (i : ℕ) → ((to : Place) (body : Body) → test to body ≡ true → is_request body ≡ false) → (newer : List HostStep)
     → ((k : ℕ) → k ≢ i → taken_since start test k newer ≡ 0) → steps test newer ≤ taken_since start test i newer
 steps_from_one start test i plain [] none = omega arith
-steps_from_one start test i plain (e ∷ newer) none = by (test e.step.taken) refl (steps_from_one start test i plain newer (λ k differs. omega (arith, none k differs)))
+steps_from_one start test i plain (e ∷ newer) none = by (test e.step.taken.to e.step.taken.body) refl (steps_from_one start test i plain newer (λ k differs. omega (arith, none k differs)))
   where
-    from : (k : ℕ) → e.step.taken.from.0 ≡ k → test e.step.taken ≡ true → (is_from (machine start) k e && test e.step.taken) ≡ true
-    from k at is = all_three (is_request e.step.taken.body) (e.step.taken.from.0 == k) (test e.step.taken) (plain e.step.taken is) (grind (arith, nat_tests, at)) is
+    from : (k : ℕ) → e.step.taken.from.0 ≡ k → test e.step.taken.to e.step.taken.body ≡ true → (is_from (machine start) k e && test e.step.taken.to e.step.taken.body) ≡ true
+    from k at is = all_three (is_request e.step.taken.body) (e.step.taken.from.0 == k) (test e.step.taken.to e.step.taken.body) (plain e.step.taken is) (grind (arith, nat_tests, at)) is
 
-    by : (b : Bool) → test e.step.taken ≡ b → steps test newer ≤ taken_since start test i newer → one_if b + steps test newer ≤ taken_since start test i (e ∷ newer)
+    by : (b : Bool) → test e.step.taken.to e.step.taken.body ≡ b → steps test newer ≤ taken_since start test i newer → one_if b + steps test newer ≤ taken_since start test i (e ∷ newer)
     by false is less = omega (arith, less)
     by true is less = at (cases_eq e.step.taken.from.0 i)
       where
@@ -135,9 +135,9 @@ module _ (start : Start) (was now : ℕ → List HostStep) (op : Op) (served : I
         omega (arith, sent_append start (is_wish_back_to tx) 0 f.later (f.first ∷ []) (was 0), (asks_since tx start f.later (f.first ∷ was 0) f.plain).0, first.wishes)
     no_wishes (suc h) = node_since start (is_wish_back_to tx) (no_wish_node tx) h (cut (suc h)).newer (was (suc h))
 
-    none_wished : (h : ℕ) → Each (λ (e : HostStep). is_wish_back_to tx e.step.taken ≡ false) (cut h).newer
+    none_wished : (h : ℕ) → Each (λ (e : HostStep). is_wish_back_to tx e.step.taken.to e.step.taken.body ≡ false) (cut h).newer
     none_wished h =
-        each_map (λ (e : HostStep). is_request e.step.taken.body ≡ false → is_wish_back_to tx e.step.taken ≡ false) (λ (e : HostStep). is_wish_back_to tx e.step.taken ≡ false) (cut h).newer
+        each_map (λ (e : HostStep). is_request e.step.taken.body ≡ false → is_wish_back_to tx e.step.taken.to e.step.taken.body ≡ false) (λ (e : HostStep). is_wish_back_to tx e.step.taken.to e.step.taken.body ≡ false) (cut h).newer
         (none_at (is_wish_back_to tx) (request_plain_wish tx)) (none_taken start was now served.before served.since cut (is_wish_back_to tx) no_wishes h)
 
     -- an operation is asked for at most once since it has begun
@@ -163,7 +163,7 @@ module _ (start : Start) (was now : ℕ → List HostStep) (op : Op) (served : I
           arith,
           once_started start tx now served.since,
           ap (steps (is_start tx)) f.is,
-          tally_append (λ (e : HostStep). is_start tx e.step.taken) f.later (f.first ∷ was 0),
+          tally_append (λ (e : HostStep). is_start tx e.step.taken.to e.step.taken.body) f.later (f.first ∷ was 0),
         )
 
     module _ (h : ℕ) (low : suc h < hosts start) where
@@ -244,7 +244,7 @@ module _ (start : Start) (was now : ℕ → List HostStep) (op : Op) (served : I
     logged : IsLog (machine start) 0 (l.step ∷ (l.older ++ f.first ∷ was 0))
     logged = log_after (machine start) 0 l.newer (l.step ∷ (l.older ++ f.first ∷ was 0)) (subst (IsLog (machine start) 0) now_is (served.since.right.local 0))
 
-    is_answer_here : is_reply l.tx l.step.step.taken ≡ true
+    is_answer_here : is_reply l.tx l.step.step.taken.to l.step.step.taken.body ≡ true
     is_answer_here =
         all (l.step.host == 0) (is_api l.step.step.taken.to.block) (answer_of l.tx l.step.step.taken.body) (grind (arith, nat_tests, logged.0.at)) l.block
         (ap (answer_of l.tx) l.lone.about ∙ same_tx-self l.tx)
@@ -259,8 +259,8 @@ module _ (start : Start) (was now : ℕ → List HostStep) (op : Op) (served : I
 
     was_sent : (i : ℕ) → l.step.step.taken.from.0 ≡ i → 1 ≤ sent_since start (is_reply l.tx) i (cut i).newer (was i)
     was_sent i at =
-        let here = all_three (is_request l.step.step.taken.body) (l.step.step.taken.from.0 == i) (is_reply l.tx l.step.step.taken) plain_step (grind (arith, nat_tests, at)) is_answer_here in
-        let taken = tally_in (λ (e : HostStep). is_from (machine start) i e && is_reply l.tx e.step.taken) l.step (f.later ++ f.first ∷ []) in_newer here in
+        let here = all_three (is_request l.step.step.taken.body) (l.step.step.taken.from.0 == i) (is_reply l.tx l.step.step.taken.to l.step.step.taken.body) plain_step (grind (arith, nat_tests, at)) is_answer_here in
+        let taken = tally_in (λ (e : HostStep). is_from (machine start) i e && is_reply l.tx e.step.taken.to e.step.taken.body) l.step (f.later ++ f.first ∷ []) in_newer here in
         omega (arith, taken, few_taken start was now served.before served.since cut (is_reply l.tx) i 0)
 
     -- its coordinator answered it, and so no host reports its abort

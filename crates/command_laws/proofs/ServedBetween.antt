@@ -38,7 +38,7 @@ record FirstAsked (newer : List HostStep) : Type 0 where
   next : HostStep
   between : List HostStep
   is : newer ≡ later ++ next ∷ between
-  asks : is_request next.taken.body ≡ true
+  asks : is_request next.step.taken.body ≡ true
   none : requests between ≡ []
 
 first_asked : (newer : List HostStep) → (requests newer ≡ []) ⊎ FirstAsked newer

@@ -37,7 +37,7 @@ module _ (start : Start) (test : Place → Body → Bool) where
 
   -- and how many they took from host i
   abbrev pub taken_since : ℕ → List HostStep → ℕ
-  taken_since i newer = tally (λ (e : HostStep). is_from (machine start) i e && test e.step.taken) newer
+  taken_since i newer = tally (λ (e : HostStep). is_from (machine start) i e && test e.step.taken.to e.step.taken.body) newer
 
   pub fewer : (j : ℕ) (sends : List Outgoing) → sends_of (to_node j test) sends ≤ sends_of test sends
   fewer j [] = omega arith
@@ -108,15 +108,15 @@ module _ (start : Start) (was now : ℕ → List HostStep) (before : AreQuiet st
 
     -- what no host has sent since then none has taken
     pub none_taken : ((i : ℕ) → sent_since start test i (newer_at i) (was i) ≡ 0) → (j : ℕ)
-        → Each (λ (e : HostStep). is_request e.step.taken.body ≡ false → test e.step.taken ≡ false) (newer_at j)
+        → Each (λ (e : HostStep). is_request e.step.taken.body ≡ false → test e.step.taken.to e.step.taken.body ≡ false) (newer_at j)
     none_taken none j = each_from _ (newer_at j) one
       where
-        one : (e : HostStep) → IsIn e (newer_at j) → is_request e.step.taken.body ≡ false → test e.step.taken ≡ false
+        one : (e : HostStep) → IsIn e (newer_at j) → is_request e.step.taken.body ≡ false → test e.step.taken.to e.step.taken.body ≡ false
         one e inside plain =
             let i = e.step.taken.from.0 in
             let zero : taken_since start test i (newer_at j) ≡ 0 = omega (arith, few_taken i j, none i) in
-            let off = each_in (λ (f : HostStep). (is_from (machine start) i f && test f.step.taken) ≡ false) e (newer_at j) (none_passes _ (newer_at j) zero) inside in
-            ap (λ b. b && test e.step.taken) (sym (from_link i e plain refl)) ∙ off
+            let off = each_in (λ (f : HostStep). (is_from (machine start) i f && test f.step.taken.to f.step.taken.body) ≡ false) e (newer_at j) (none_passes _ (newer_at j) zero) inside in
+            ap (λ b. b && test e.step.taken.to e.step.taken.body) (sym (from_link i e plain refl)) ∙ off
 
     -- all that was sent to a host since then was taken there
     pub all_arrive : (i j : ℕ) → i < hosts start → j < hosts start → sent_since_to start test i j (newer_at i) (was i) ≤ taken_since start test i (newer_at j)

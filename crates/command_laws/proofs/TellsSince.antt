@@ -72,13 +72,13 @@ module _ (start : Start) (tx : TxId) where
   host_next (Node n) to body sound wish asked keys a r once has = node_next tx n to.block body (sound n refl) wish asked keys a r once has
 
   -- along steps without a wish for an abort, where at most one operation is unanswered or comes
-  pub tells_since : (h : ℕ) (newer log : List HostStep) (asked : ℕ) → Each (λ (e : HostStep). is_wish_back_to tx e.step.taken ≡ false) newer → asked + steps (is_key tx) newer ≤ 1
+  pub tells_since : (h : ℕ) (newer log : List HostStep) (asked : ℕ) → Each (λ (e : HostStep). is_wish_back_to tx e.step.taken.to e.step.taken.body ≡ false) newer → asked + steps (is_key tx) newer ≤ 1
       → OnTc (HasTold tx asked 0 0 0) (after start (suc h) log)
       → OnTc (HasTold tx asked (steps (is_key tx) newer) (sent_since start (is_reply tx) (suc h) newer log) (sent_since start (is_back tx) (suc h) newer log)) (after start (suc h) (newer ++ log))
   tells_since h [] log asked wish once has = has
   tells_since h (e ∷ newer) log asked wish once has = next (tells_since h newer log asked wish.1 (omega (arith, once)) has)
     where
-      turned : one_if (is_key tx e.step.taken) + steps (is_key tx) newer ≡ steps (is_key tx) newer + one_if (is_key tx e.step.taken)
+      turned : one_if (is_key tx e.step.taken.to e.step.taken.body) + steps (is_key tx) newer ≡ steps (is_key tx) newer + one_if (is_key tx e.step.taken.to e.step.taken.body)
       turned = omega arith
 
       next : OnTc (HasTold tx asked (steps (is_key tx) newer) (sent_since start (is_reply tx) (suc h) newer log) (sent_since start (is_back tx) (suc h) newer log)) (after start (suc h) (newer ++ log))

@@ -101,15 +101,15 @@ module _ (start : Start) (was : ℕ → List HostStep) (tx : TxId) (u : Transact
     shell_none about = record { plain = refl; ahead = None; about = about; known = λ some. absurd (omega (arith, some)); from = λ who is. cc }
 
     pub shell_next : (e : HostStep) (newer : List HostStep) → is_wait_of tx e.step.taken.body ≡ true → ShellHolds newer → ShellHolds (e ∷ newer)
-    shell_next e newer is holds = record { plain = omega (arith, holds.plain, stays.plain); ahead = stays.now; about = stays.about; known = λ some. known (is_passed tx e.step.taken) refl some; from = λ who is. source who (stays.from who is) }
+    shell_next e newer is holds = record { plain = omega (arith, holds.plain, stays.plain); ahead = stays.now; about = stays.about; known = λ some. known (is_passed tx e.step.taken.to e.step.taken.body) refl some; from = λ who is. source who (stays.from who is) }
       where
         stays : StaysAbout front t back own tx own_tx none holds.ahead e.step.taken (row (after start 0 (newer ++ base)) e.step.taken)
         stays = about_waits front t back own tx own_tx none (after start 0 (newer ++ base)) holds.ahead e.step.taken is holds.about
 
-        known : (b : Bool) → is_passed tx e.step.taken ≡ b → 1 ≤ one_if (is_passed tx e.step.taken) + steps (is_passed tx) newer → is_some stays.now ≡ true
+        known : (b : Bool) → is_passed tx e.step.taken.to e.step.taken.body ≡ b → 1 ≤ one_if (is_passed tx e.step.taken.to e.step.taken.body) + steps (is_passed tx) newer → is_some stays.now ≡ true
         known true on some = stays.told on
         known false off some = stays.kept (holds.known (omega (arith, some, ap one_if off)))
 
-        source : (who : TxId) → (holds.ahead ≡ Some who) ⊎ (is_telling_who tx who e.step.taken ≡ true) → 1 ≤ steps (is_telling_who tx who) (e ∷ newer)
+        source : (who : TxId) → (holds.ahead ≡ Some who) ⊎ (is_telling_who tx who e.step.taken.to e.step.taken.body ≡ true) → 1 ≤ steps (is_telling_who tx who) (e ∷ newer)
         source who (inl old) = omega (arith, holds.from who old)
         source who (inr new) = omega (arith, ap one_if new)

@@ -108,16 +108,16 @@ module _ (start : Start) (was : ℕ → List HostStep) (before : AreQuiet start 
   -- so what comes is a question or an answer to one
   comes_wait : (es : List HostStep) (e : HostStep) → Happens (machine start) es e → AllHold (log_of (machine start) es) → IsWithin (hosts start) (log_of (machine start) es) → e.host < hosts start → is_request e.step.taken.body ≡ false
       → is_wait_of tx e.step.taken.body ≡ true
-  comes_wait es e happens all within low plain = is_wait (is_wait_of tx e.step.taken.body) (by (is_other tx e.step.taken) refl)
+  comes_wait es e happens all within low plain = is_wait (is_wait_of tx e.step.taken.body) (by (is_other tx e.step.taken.to e.step.taken.body) refl)
     where
-      by : (b : Bool) → is_other tx e.step.taken ≡ b → b ≡ false
+      by : (b : Bool) → is_other tx e.step.taken.to e.step.taken.body ≡ b → b ≡ false
       by false is = refl
       by true is =
           absurd (omega (
             arith,
             ap one_if is,
             tally_past (λ (x : Signal). is_other tx x.to x.body)
-                (given_past start e.step.taken.from.0 e.host (log_of (machine start) es e.step.taken.from.0) (e.step.taken ∷ taken (machine start) e.step.taken.from.0 (log_of (machine start) es e.host)) (happens.takes plain)),
+                (given_past start e.step.taken.from.0 e.host (log_of (machine start) es e.step.taken.from.0) (record { to = e.host; signal = e.step.taken } ∷ taken (machine start) e.step.taken.from.0 (log_of (machine start) es e.host)) (happens.takes plain)),
             few_others (log_of (machine start) es) all e.step.taken.from.0 e.host low within,
             tally_past (λ (x : Signal). is_other tx x.to x.body) (taken_past (machine start) e.step.taken.from.0 (past_was (log_of (machine start) es) all e.host)),
           ))

@@ -75,10 +75,10 @@ sent_by start test h (e ∷ newer) log some = by (cases_lt 0 (sends_of test (ste
 
 -- what was taken from a link since a quiet moment was sent since by its host
 pub came_from : (start : Start) (was now : ℕ → List HostStep) (before : AreQuiet start was) (since : AreQuiet start now) (cut : IsCut was now) (test : Place → Body → Bool) (j : ℕ) (e : HostStep) → IsIn e (cut j).newer
-    → is_request e.step.taken.body ≡ false → test e.step.taken ≡ true → (i : ℕ) → e.step.taken.from.0 ≡ i → 1 ≤ sent_since start test i (cut i).newer (was i)
+    → is_request e.step.taken.body ≡ false → test e.step.taken.to e.step.taken.body ≡ true → (i : ℕ) → e.step.taken.from.0 ≡ i → 1 ≤ sent_since start test i (cut i).newer (was i)
 came_from start was now before since cut test j e inside plain passes i at =
-    let here = all_three (is_request e.step.taken.body) (e.step.taken.from.0 == i) (test e.step.taken) plain (grind (arith, nat_tests, at)) passes in
-    omega (arith, tally_in (λ (x : HostStep). is_from (machine start) i x && test x.taken.to x.taken.body) e (cut j).newer inside here, few_taken start was now before since cut test i j)
+    let here = all_three (is_request e.step.taken.body) (e.step.taken.from.0 == i) (test e.step.taken.to e.step.taken.body) plain (grind (arith, nat_tests, at)) passes in
+    omega (arith, tally_in (λ (x : HostStep). is_from (machine start) i x && test x.step.taken.to x.step.taken.body) e (cut j).newer inside here, few_taken start was now before since cut test i j)
 
 -- what the API never sends the shell's host doesn't
 shell_row_none : (test : Place → Body → Bool) → ((to : Place) (body : Body) → is_api_kind body ≡ true → test to body ≡ false) → ((name : Option ℕ) (at : ℕ) → test (coordinator at) (Client (TcBeginReq name)) ≡ false)

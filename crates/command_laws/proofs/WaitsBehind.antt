@@ -131,7 +131,7 @@ module _ (start : Start) (was mid : ℕ → List HostStep) (tx who : TxId) (befo
   record SentHere (test : Place → Body → Bool) (h : ℕ) (n : node.Node) : Type 0 where
     step : HostStep
     inside : IsIn step (cut (suc h)).newer
-    waits_kind : is_wait_of tx step.taken.body ≡ true
+    waits_kind : is_wait_of tx step.step.taken.body ≡ true
     sends : 1 ≤ sends_of test (node_row n step.taken.to.block step.taken.body).effects.sends
 
   sent_here : (test : Place → Body → Bool) (h : ℕ) (n : node.Node) → after start (suc h) (was (suc h)) ≡ Node n → SentBy start test (suc h) (cut (suc h)).newer (was (suc h)) → SentHere test h n
@@ -158,7 +158,7 @@ module _ (start : Start) (was mid : ℕ → List HostStep) (tx who : TxId) (befo
     pub key : List ℕ
     pub behind : IsBehindAt tx who key (after start node (mid node))
 
-  found_there : (h : ℕ) (e : HostStep) → IsIn e (cut (suc h)).newer → is_finding_who tx who e.step.taken ≡ true → IsBehindThere
+  found_there : (h : ℕ) (e : HostStep) → IsIn e (cut (suc h)).newer → is_finding_who tx who e.step.taken.to e.step.taken.body ≡ true → IsBehindThere
   found_there h e inside passes = by e.step.taken.from.0 refl
     where
       sent_at : (i : ℕ) → e.step.taken.from.0 ≡ i → 1 ≤ sent_since start (is_finding_who tx who) i (cut i).newer (was i)
@@ -193,7 +193,7 @@ module _ (start : Start) (was mid : ℕ → List HostStep) (tx who : TxId) (befo
           }
           there (inr high) = absurd (some_step b.front b.step b.back (sym b.is ∙ front_nil (cut (suc k)).newer (was (suc k)) (sym (since.within (suc k) high) ∙ (cut (suc k)).is)))
 
-  pub behind_there : (e : HostStep) → IsIn e ((cut 0).newer) → is_telling_who tx who e.step.taken ≡ true → IsBehindThere
+  pub behind_there : (e : HostStep) → IsIn e ((cut 0).newer) → is_telling_who tx who e.step.taken.to e.step.taken.body ≡ true → IsBehindThere
   behind_there e inside passes = by e.step.taken.from.0 refl
     where
       sent_at : (i : ℕ) → e.step.taken.from.0 ≡ i → 1 ≤ sent_since start (is_telling_who tx who) i (cut i).newer (was i)

@@ -9,18 +9,16 @@ use Rattle.sig_core.specs.declared.op.Answer.TheVariants.{Done}
 use Rattle.sig_core.specs.declared.op.Op.{Op}
 use Rattle.sig_core.specs.declared.rows.PendingRecord.{PendingRecord}
 use Rattle.sig_core.specs.declared.signal.chain.RowWork.TheVariants.{Operate, Store}
-use Rattle.sig_core.specs.Chain.{node_at}
 use Rattle.sig_core.specs.Op.{key_of}
 use Rattle.sig_core.specs.Same.{same_key}
 use Rattle.lqh_block.specs.declared.request.Request.{Request}
 use Rattle.tc_block.specs.declared.phase.Asked.{Asked}
 use Rattle.tc_block.specs.declared.transaction.Transaction.{Transaction}
 use Rattle.world_core.specs.History.{is_done}
-use Rattle.world_core.specs.Hosts.{rows_host}
 use Rattle.world_core.specs.Start.{Start}
 use Rattle.commit_laws.specs.OneKey.{ops_on}
 use Rattle.transit_laws.specs.Circle.{Agree, IsReplica}
-use Rattle.transit_laws.specs.Routes.{primary_host, replicas}
+use Rattle.transit_laws.specs.Routes.{primary_host, replica_host, replicas}
 use Rattle.transit_laws.proofs.KeyTokens.{Token, answers, performs, refuses}
 use Rattle.transit_laws.proofs.OthersStay.{filter-end}
 
@@ -30,10 +28,6 @@ pub record View : Type 0 where
   pub ended : Bool
   pub rec : ℕ → Option PendingRecord
   pub waits : ℕ → List Request
-
--- the host of the replica at a place of the key's chain
-abbrev pub replica_host : Start → List ℕ → ℕ → ℕ
-replica_host start key at = rows_host start (node_at (replicas start key) at)
 
 -- it has an image prepared
 pub record HasIt (image : Option (List ℕ)) (o : Option PendingRecord) : Type 0 where

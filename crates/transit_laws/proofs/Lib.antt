@@ -1,4 +1,5 @@
 pub mod AbortsFirst
+pub mod Addressed
 pub mod Ahead
 pub mod CarriedNext
 pub mod CarriedOut
@@ -49,6 +50,8 @@ pub mod RoutesChain
 pub mod RoutesLqh
 pub mod RoutesSends
 pub mod RoutesTc
+pub mod RowsEvents
+pub mod RowsNodes
 pub mod SettledAlong
 pub mod StepFades
 pub mod TcAborts

@@ -23,8 +23,8 @@ use Rattle.commit_laws.specs.Records.{found, seen_by, stored}
 use Rattle.commit_laws.specs.Replica.{Cell, operated, storing, worked}
 use Rattle.sig_core.proofs.Keys.{same_tx-self}
 use Rattle.commit_laws.proofs.RecordLemmas.{found-stored}
-use Rattle.transit_laws.specs.Routes.{IsWorkAt, primary_host, replicas}
-use Rattle.transit_laws.proofs.CircleView.{HasIt, IsAsked, IsStoring, Settles, Stores, Tells, View, answers_settle, last_settles, next_stores, replica_host, writes_store}
+use Rattle.transit_laws.specs.Routes.{IsWorkAt, primary_host, replica_host, replicas}
+use Rattle.transit_laws.proofs.CircleView.{HasIt, IsAsked, IsStoring, Settles, Stores, Tells, View, answers_settle, last_settles, next_stores, writes_store}
 use Rattle.transit_laws.proofs.KeyTokens.{answers, operated_token, passed_token, performs, stored_token, work_token}
 
 not_none : (xs : List Member) (at : ℕ) → slice_get xs at ≡ None → at < length xs → ⊥
