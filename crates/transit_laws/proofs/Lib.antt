@@ -16,7 +16,6 @@ pub mod DecidedSettled
 pub mod FirstCommits
 pub mod FreshHosts
 pub mod GivenUp
-pub mod HomeHosts
 pub mod HostAfter
 pub mod HostAsks
 pub mod HostCases

@@ -12,13 +12,13 @@ use Rattle.sig_core.specs.declared.signal.Body.TheVariants.{Chain}
 use Rattle.sig_core.specs.declared.signal.chain.ChainSignal.TheVariants.{LqhKeyReq, LqhKeyConf, LqhKeyRef}
 use Rattle.sig_core.specs.Same.{same_tx}
 use Rattle.lqh_block.specs.declared.request.Request.{Request}
-use Rattle.lqh_block.specs.State.{LqhState}
 use Rattle.node_core.specs.Blocks.{has_tc, tc_of}
 use Rattle.node_core.specs.Requests.{is_request}
 use Rattle.world_core.specs.Hosts.{home, hosts, tc_host}
 use Rattle.world_core.specs.Machine.{after, machine, signals_of, step_after}
 use Rattle.world_core.specs.Start.{Start}
 use Rattle.commit_laws.specs.Ways.{back_by, sent_ways}
+use Rattle.answer_laws.proofs.HostSteps.{at_own_node, first_waiting}
 use Rattle.commit_laws.specs.Counts.{one_if, tally}
 use Rattle.commit_laws.proofs.Sums.{total_at, total_one}
 use Rattle.commit_laws.specs.Counts.{total}
@@ -26,8 +26,6 @@ use Rattle.transit_laws.specs.Live.{of_host}
 use Rattle.transit_laws.specs.Tokens.{OneAtATime, budget, budget_by, is_token, tokens, tokens_in, waiting_all, waiting_in}
 use Rattle.transit_laws.specs.Transit.{Comes, Takes, joined, logs_of}
 use Rattle.transit_laws.proofs.Addressed.{comes_below}
-use Rattle.transit_laws.proofs.FreshHosts.{started_unasked}
-use Rattle.transit_laws.proofs.HomeHosts.{tc_home}
 use Rattle.transit_laws.proofs.HostTokens.{Kept, host_kept}
 use Rattle.transit_laws.proofs.LqhTokens.{tokens_out}
 use Rattle.transit_laws.proofs.TcSound.{log_sound}
@@ -116,7 +114,7 @@ module _ (start : Start) (tx : TxId) where
 
     -- away from its host is away from its coordinator
     away : home start tx ≢ h → has_tc (after start h (was h)) ≡ true → tx.tc ≢ (tc_of (after start h (was h))).node
-    away off runs own = off (ap (tc_host start) own ∙ tc_home start h (was h) (comes_below start es e come) runs)
+    away off runs own = off (ap (tc_host start) own ∙ sym (at_own_node start h (was h) (comes_below start es e come) runs).is)
 
     abbrev budget_here : ℕ → List HostStep → ℕ
     budget_here k log = budget_by (list_any (same_tx tx) (sent_ways start back_by k log)) (of_host tx (after start k log))
@@ -133,7 +131,7 @@ module _ (start : Start) (tx : TxId) where
             omega (arith, kept.home rest (omega (arith, low, in_before, here, waiting_some)), in_now, waiting_now, waiting_some, there)
 
   pub none_waits_first : (k : ℕ) → waiting_in tx (after start k []) ≡ 0
-  none_waits_first k = let fresh = started_unasked start k in ap (λ (l : LqhState). tally (λ (q : Request). same_tx q.tx tx) l.waiting) fresh.is
+  none_waits_first k = ap (tally (λ (q : Request). same_tx q.tx tx)) (first_waiting start k)
 
   none_first : tokens start (logs_of start []) [] tx ≤ budget start (logs_of start []) tx
   none_first = omega (arith, none (hosts start))
