@@ -1,21 +1,19 @@
 -- The block of epochs gives one to each transaction that asks, since it never counts 64 when it is asked.
 use Rattle.std.proofs.Common.{◌≡◌, ℕ, ◌+◌, ◌≤◌, ◌<◌, List, ◌∷◌, length, Bool, true, false, refl, ap, ◌∙◌, arith}
-use Rattle.std.specs.Prelude.{◌==◌, ◌&&◌, not, nat_lt, Option, None, Some, position}
+use Rattle.std.specs.Prelude.{◌&&◌, not, nat_lt, Option, None, Some, position}
 use Rattle.std.proofs.lemmas.Bool.Decides.{nat_tests}
 use Rattle.api_block.specs.declared.opened.OpenTransaction.{OpenTransaction}
 use Rattle.api_block.specs.State.{ApiState}
 use Rattle.node_core.specs.Dih.{DihState, decide_if, decide_row, dih_table, end_by, end_row}
-use Rattle.node_core.specs.Row.{shell_row}
 use Rattle.sig_core.specs.declared.member.TxId.{TxId}
 use Rattle.sig_core.specs.declared.outs.Outgoing.{Outgoing}
-use Rattle.sig_core.specs.declared.place.BlockId.{BlockId}
-use Rattle.sig_core.specs.declared.place.BlockId.TheVariants as block
 use Rattle.sig_core.specs.declared.place.Place.{Place}
 use Rattle.sig_core.specs.declared.signal.Body.{Body}
 use Rattle.sig_core.specs.declared.signal.Body.TheVariants.{Client, Epoch}
 use Rattle.sig_core.specs.declared.signal.client.ClientSignal.TheVariants.{TcBeginReq}
 use Rattle.sig_core.specs.declared.signal.epoch.EpochSignal.TheVariants.{DiVerifyReq, DiVerifyConf, DiVerifyEnd}
 use Rattle.sig_core.specs.declared.view.View.{View}
+use Rattle.sig_core.specs.Place.{client, coordinator, epochs}
 use Rattle.sig_core.specs.Same.{same_tx}
 use Rattle.sig_core.specs.Step.{Step}
 use Rattle.tc_block.specs.Sends.{verify_end}
@@ -23,17 +21,17 @@ use Rattle.tc_block.specs.State.{TcState}
 use Rattle.tc_block.specs.Tc.{begin_if, begin_row, is_full, tc_table}
 use Rattle.world_core.specs.Machine.{after}
 use Rattle.answer_laws.proofs.Ahead.{is_dih}
-use Rattle.answer_laws.proofs.ApiMoves.{ApiMove, api_moves, begun_as, ends, goes, is_api_kind, opens, refuses, rests}
+use Rattle.answer_laws.proofs.ApiMoves.{ApiMove, begun_as, ends, goes, is_api_kind, opens, refuses, rests}
 use Rattle.answer_laws.proofs.EpochCounts.{counts_by, ended_by, is_epochless, with_asked}
 use Rattle.answer_laws.proofs.EpochLives.{TurnCounts, asking, ending, gone, unchanged, turn_counts, rest_plain}
 use Rattle.answer_laws.proofs.SendKinds.{are_of, is_dih_kind, is_lqh_kind, is_tc_kind, none_of, of_kind}
-use Rattle.commit_laws.proofs.Tally.{none_if, tally_append}
+use Rattle.commit_laws.proofs.Tally.{and_few, none_if, tally_append}
 use Rattle.commit_laws.specs.Counts.{one_if}
-use Rattle.answer_laws.proofs.TcSends.{eqb-self, tc_kinds, tx_in}
+use Rattle.answer_laws.proofs.TcSends.{tc_kinds, tx_in}
 use Rattle.answer_laws.proofs.TcSteps.{TcStep, begins, is_rest_kind, misses, takes, tc_step}
 use Rattle.answer_laws.proofs.TcSteps as steps
 use Rattle.answer_laws.proofs.TcTurns.{turn_moves, turn_row}
-use Rattle.answer_laws.proofs.Wishes.{and_false, is_tc, second_fails, sends_of, to_node}
+use Rattle.answer_laws.proofs.Wishes.{and_false, is_tc, second_fails, sends_of}
 
 -- a transaction asks for an epoch, and is given one
 abbrev pub is_req : TxId → Place → Body → Bool

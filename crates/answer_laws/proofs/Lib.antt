@@ -21,6 +21,8 @@ pub mod Flows
 pub mod Focus
 pub mod Heard
 pub mod Heeded
+pub mod HostSteps
+pub mod HostTurns
 pub mod Hosts
 pub mod LinkCounts
 pub mod Lives

@@ -95,7 +95,7 @@ module _ (start : Start) where
       less false b = omega arith
 
   -- the shell's host is the one of node 0
-  at_shell : (to : Place) → (host_for start to == 0) ≡ (to.node == 0)
+  pub at_shell : (to : Place) → (host_for start to == 0) ≡ (to.node == 0)
   unfolding receiver
   at_shell to = go (to.node == 0)
     where
