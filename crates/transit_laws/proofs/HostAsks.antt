@@ -31,9 +31,9 @@ use Rattle.commit_laws.specs.Ways.{tc_sends}
 use Rattle.answer_laws.proofs.LqhSends.{lqh_kinds}
 use Rattle.answer_laws.proofs.SendKinds.{each_of, is_lqh_kind}
 use Rattle.answer_laws.proofs.ApiMoves.{is_api_kind}
-use Rattle.commit_laws.specs.Counts.{one_if, tally}
-use Rattle.answer_laws.proofs.TcLives.{IsOwn, is_keyed}
+use Rattle.commit_laws.specs.Counts.{one_if}
 use Rattle.transit_laws.specs.Live.{of_host, of_live}
+use Rattle.transit_laws.proofs.HomeSteps.{IsHome}
 use Rattle.transit_laws.proofs.TcAsks.{AreMute, AskTurn, is_ask, is_mute}
 use Rattle.transit_laws.proofs.TcAskTurns as asks
 use Rattle.transit_laws.proofs.TcAskTurns.{AskSeen, AskSees, ask, mute_none, tc_ask_sees}
@@ -45,11 +45,6 @@ use Rattle.transit_laws.proofs.Weighing.{in_sends, none_weighs}
 -- the number of the transaction isn't given yet
 abbrev pub IsUnborn : ℕ → Host → Type 0
 IsUnborn seq host = (tc_of host).next_seq ≤ seq
-
--- a coordinator's transactions have its numbers, and this one stands there once at most
-pub record IsHome (tx : TxId) (s : TcState) : Type 0 where
-  pub own : Each (λ (e : TxId × Transaction). IsOwn s.node s.next_seq e.0) s.live
-  pub once : tally (is_keyed tx) s.live ≤ 1
 
 module _ (tx : TxId) where
   -- an epoch is asked for with these operations, if for this transaction

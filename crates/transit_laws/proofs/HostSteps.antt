@@ -2,6 +2,7 @@
 use Rattle.std.proofs.Common.{◌≡◌, ◌⊎◌, ℕ, ◌≤◌, List, Bool, true, false, refl, ap, sym, ◌∙◌, subst, arith}
 use Rattle.std.proofs.lemmas.Bool.{false≢true}
 use Rattle.std.specs.Prelude.{◌==◌, ◌&&◌, nat_le, None, Some}
+use Rattle.sig_core.specs.declared.member.Member.{Member}
 use Rattle.sig_core.specs.declared.member.TxId.{TxId}
 use Rattle.sig_core.specs.declared.place.BlockId.{BlockId}
 use Rattle.sig_core.specs.declared.place.BlockId.TheVariants as block
@@ -120,14 +121,21 @@ module _ (tx : TxId) where
       by true p false q = rest (to.node == tx.tc)
   aside_cover key i to _ off none = refl
 
-  pub away_cover : (key : List ℕ) (i : ℕ) (to : Place) (b : Body) → is_lqh to.block ≡ false → (to.node == tx.tc) ≡ false → cover tx key i to b ≡ 0
+  pub away_cover : (key : List ℕ) (i : ℕ) (to : Place) (b : Body) → is_lqh to.block ≡ false → (is_tc to.block && (to.node == tx.tc)) ≡ false → cover tx key i to b ≡ 0
   away_cover key i to (body.Chain (Commit other own epoch chain at)) off far = ap (λ l. one_if (l && (same_tx other tx && same_key own key))) off
-  away_cover key i to (body.Host (Continue (work.Transaction other) at)) off far = ap (λ h. one_if ((is_tc to.block && h) && (same_tx other tx && nat_le at i))) far ∙ by (is_tc to.block)
-    where
-      by : (x : Bool) → one_if ((x && false) && (same_tx other tx && nat_le at i)) ≡ 0
-      by true = refl
-      by false = refl
+  away_cover key i to (body.Host (Continue (work.Transaction other) at)) off far = ap (λ h. one_if (h && (same_tx other tx && nat_le at i))) far
   away_cover key i to _ off far = refl
+
+  -- nor does another signal than a commit for rows
+  pub rows_cover : (key : List ℕ) (i : ℕ) (to : Place) (b : Body) → is_lqh to.block ≡ true
+      → ((one : TxId) (own : List ℕ) (epoch : ℕ) (chain : List Member) (at : ℕ) → b ≡ body.Chain (Commit one own epoch chain at) → ⊥) → cover tx key i to b ≡ 0
+  rows_cover key i to (body.Chain (Commit other own epoch chain at)) is none = absurd (none other own epoch chain at refl)
+  rows_cover key i to (body.Host (Continue (work.Transaction other) at)) is none = ap (λ h. one_if ((h && (to.node == tx.tc)) && (same_tx other tx && nat_le at i))) (by to.block is)
+    where
+      by : (b : BlockId) → is_lqh b ≡ true → is_tc b ≡ false
+      by block.Tc is = absurd cc
+      by _ is = refl
+  rows_cover key i to _ is none = refl
 
 -- the number of the next transaction of a host's coordinator
 abbrev pub next_number : Host → ℕ

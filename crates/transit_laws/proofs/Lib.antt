@@ -16,6 +16,7 @@ pub mod DecidedSettled
 pub mod FirstCommits
 pub mod FreshHosts
 pub mod GivenUp
+pub mod HomeSteps
 pub mod HostAfter
 pub mod HostAsks
 pub mod HostCases

@@ -12,13 +12,12 @@ use Rattle.sig_core.specs.declared.signal.Body.TheVariants.{Chain}
 use Rattle.sig_core.specs.declared.signal.chain.ChainSignal.TheVariants.{LqhKeyReq, LqhKeyConf, LqhKeyRef}
 use Rattle.sig_core.specs.Same.{same_tx}
 use Rattle.lqh_block.specs.declared.request.Request.{Request}
-use Rattle.node_core.specs.Blocks.{has_tc, tc_of}
 use Rattle.node_core.specs.Requests.{is_request}
-use Rattle.world_core.specs.Hosts.{home, hosts, tc_host}
+use Rattle.world_core.specs.Hosts.{home, hosts}
 use Rattle.world_core.specs.Machine.{after, machine, signals_of, step_after}
 use Rattle.world_core.specs.Start.{Start}
 use Rattle.commit_laws.specs.Ways.{back_by, sent_ways}
-use Rattle.answer_laws.proofs.HostSteps.{at_own_node, first_waiting}
+use Rattle.answer_laws.proofs.HostSteps.{first_waiting}
 use Rattle.commit_laws.specs.Counts.{one_if, tally}
 use Rattle.commit_laws.proofs.Sums.{total_at, total_one}
 use Rattle.commit_laws.specs.Counts.{total}
@@ -26,6 +25,7 @@ use Rattle.transit_laws.specs.Live.{of_host}
 use Rattle.transit_laws.specs.Tokens.{OneAtATime, budget, budget_by, is_token, tokens, tokens_in, waiting_all, waiting_in}
 use Rattle.transit_laws.specs.Transit.{Comes, Takes, joined, logs_of}
 use Rattle.transit_laws.proofs.Addressed.{comes_below}
+use Rattle.transit_laws.proofs.HomeSteps.{own_home}
 use Rattle.transit_laws.proofs.HostTokens.{Kept, host_kept}
 use Rattle.transit_laws.proofs.LqhTokens.{tokens_out}
 use Rattle.transit_laws.proofs.TcSound.{log_sound}
@@ -112,10 +112,6 @@ module _ (start : Start) (tx : TxId) where
     kept : Kept tx (sent_ways start back_by h (was h)) (after start h (was h)) e.step.taken
     kept = host_kept tx (sent_ways start back_by h (was h)) (after start h (was h)) e.step.taken (log_sound start h (was h))
 
-    -- away from its host is away from its coordinator
-    away : home start tx ≢ h → has_tc (after start h (was h)) ≡ true → tx.tc ≢ (tc_of (after start h (was h))).node
-    away off runs own = off (ap (tc_host start) own ∙ sym (at_own_node start h (was h) (comes_below start es e come) runs).is)
-
     abbrev budget_here : ℕ → List HostStep → ℕ
     budget_here k log = budget_by (list_any (same_tx tx) (sent_ways start back_by k log)) (of_host tx (after start k log))
 
@@ -123,7 +119,7 @@ module _ (start : Start) (tx : TxId) where
     step_one low = by (cases_eq (home start tx) h)
       where
         by : (home start tx ≡ h) ⊎ (home start tx ≢ h) → tokens start now joined_now tx ≤ budget start now tx
-        by (inr off) = omega (arith, low, in_before, in_now, waiting_now, kept.away (away off), ap (budget_here (home start tx)) (other_log (home start tx) off))
+        by (inr off) = omega (arith, low, in_before, in_now, waiting_now, kept.away (λ runs own. off (sym (own_home start es e come tx runs own))), ap (budget_here (home start tx)) (other_log (home start tx) off))
         by (inl at) =
             let here : budget start was tx ≡ budget_here h (was h) = ap (λ k. budget_here k (was k)) at in
             let there : budget start now tx ≡ budget_here h (e ∷ was h) = ap (λ k. budget_here k (now k)) at ∙ ap (budget_here h) own_log in

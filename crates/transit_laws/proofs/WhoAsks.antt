@@ -5,7 +5,7 @@ use Rattle.std.specs.List.{list_any}
 use Rattle.std.specs.Prelude.{◌||◌, Option, None, Some}
 use Rattle.run_theory.specs.Lists.{Each, IsIn}
 use Rattle.run_theory.proofs.Pasts.{each_from, each_in, each_map}
-use Rattle.run_theory.proofs.Runs.{log_of-other, log_of-own, log_of-past}
+use Rattle.run_theory.proofs.Runs.{log_of-own, log_of-past}
 use Rattle.world_core.specs.Steps.{Addressed, HostStep}
 use Rattle.sig_core.specs.declared.member.TxId.{TxId}
 use Rattle.sig_core.specs.declared.op.Answer.{Answer}
@@ -27,21 +27,20 @@ use Rattle.node_core.specs.Blocks.{has_tc, tc_of}
 use Rattle.node_core.specs.Requests.{is_request}
 use Rattle.node_core.specs.Row.{row}
 use Rattle.world_core.specs.Machine.{after, machine, signals_of, step_after}
-use Rattle.world_core.specs.Hosts.{home, tc_host}
+use Rattle.world_core.specs.Hosts.{home}
 use Rattle.world_core.specs.Start.{Start}
 use Rattle.commit_laws.specs.Ways.{Way, back, back_by, closes, forth, neither, put_ways, sent_ways, tc_sends, way_of}
 use Rattle.sig_core.proofs.Keys.{same_tx-self}
 use Rattle.commit_laws.proofs.OneWay.{back_more}
-use Rattle.answer_laws.proofs.HostSteps.{at_own_node, first_live}
-use Rattle.answer_laws.proofs.Lives.{keeps}
+use Rattle.answer_laws.proofs.HostSteps.{first_live}
 use Rattle.commit_laws.specs.Counts.{one_if}
 use Rattle.transit_laws.specs.Circle.{IsOfWaiting, WaitsWith, WhoAsksWaits}
 use Rattle.transit_laws.specs.GivenUp.{is_given_up}
 use Rattle.transit_laws.specs.Live.{live_at, of_host, of_live}
 use Rattle.transit_laws.specs.Transit.{AreInTransit, Comes, IsRun, Takes, joined, logs_of}
-use Rattle.transit_laws.proofs.Addressed.{comes_below}
 use Rattle.transit_laws.proofs.HostAsks as asks
-use Rattle.transit_laws.proofs.HostAsks.{HostAsks, IsHome, IsUnborn, Leaves, OpsOf, host_asks, none_ops, zero_ops}
+use Rattle.transit_laws.proofs.HostAsks.{HostAsks, IsUnborn, Leaves, OpsOf, host_asks, none_ops, zero_ops}
+use Rattle.transit_laws.proofs.HomeSteps.{IsHome, all_home, away, here_now, here_was, own_home}
 use Rattle.transit_laws.proofs.LiveAfter.{live_none, strange_none, unborn_none}
 use Rattle.transit_laws.proofs.TcAsks.{AreMute, AskTurn, IsAsking, is_ask, is_back, is_conf}
 use Rattle.transit_laws.proofs.TcAskTurns.{ask, mute_none}
@@ -121,9 +120,6 @@ module _ (start : Start) (tx : TxId) where
     none = λ off. omega (arith, low, is.none off);
   }
 
-  home_of : (h : ℕ) (log : List HostStep) → IsHome tx (tc_of (after start h log))
-  home_of h log = let k = keeps start tx h log in record { own = k.keeps.own; once = omega (arith, k.keeps.began, k.keeps.once) }
-
   module _ (es : List HostStep) (e : HostStep) (before between : List Addressed) (come : Comes start es e) (held : Holds (logs_of start es) before) (takes : Takes e before between) where
     abbrev h : ℕ
     h = e.host
@@ -173,16 +169,6 @@ module _ (start : Start) (tx : TxId) where
     abbrev at_home : ℕ
     at_home = home start tx
 
-    -- the host of its coordinator, if it is the one that steps, and if it isn't
-    here_now : h ≡ at_home → after start at_home (now at_home) ≡ later
-    here_now at = subst (λ k. after start k (now k) ≡ later) at (ap (after start h) own_now)
-
-    here_old : h ≡ at_home → after start at_home (old at_home) ≡ s
-    here_old at = subst (λ k. after start k (old k) ≡ s) at refl
-
-    away : h ≢ at_home → after start at_home (now at_home) ≡ after start at_home (old at_home)
-    away off = ap (after start at_home) (log_of-other (machine start) e es at_home off)
-
     -- a step that leaves it alone
     leaves_hold : Leaves tx s e.step.taken.body later sends → Holds now then_is
     leaves_hold is = record {
@@ -195,39 +181,35 @@ module _ (start : Start) (tx : TxId) where
         fewer = omega (arith, taken_weighs, now_weighs, is.passes.few)
 
         unborn_old : (h ≡ at_home) ⊎ (h ≢ at_home) → IsUnborn tx.seq (after start at_home (now at_home)) → IsUnborn tx.seq (after start at_home (old at_home))
-        unborn_old (inl at) low = subst (IsUnborn tx.seq) (sym (here_old at)) (is.unborn (subst (IsUnborn tx.seq) (here_now at) low))
-        unborn_old (inr off) low = subst (IsUnborn tx.seq) (away off) low
+        unborn_old (inl at) low = subst (IsUnborn tx.seq) (sym (here_was start es e come tx at)) (is.unborn (subst (IsUnborn tx.seq) (here_now start es e come tx at) low))
+        unborn_old (inr off) low = subst (IsUnborn tx.seq) (away start es e come tx off) low
 
         live_same : (h ≡ at_home) ⊎ (h ≢ at_home) → live_at start now tx ≡ live_at start old tx
-        live_same (inl at) = ap (of_host tx) (here_now at) ∙ (is.live ∙ ap (of_host tx) (sym (here_old at)))
-        live_same (inr off) = ap (of_host tx) (away off)
-
-    -- the host of its coordinator steps
-    own_home : has_tc s ≡ true → tx.tc ≡ (tc_of s).node → h ≡ at_home
-    own_home runs own = let at = at_own_node start h (old h) (comes_below start es e come) runs in at.is ∙ ap (tc_host start) (sym own)
+        live_same (inl at) = ap (of_host tx) (here_now start es e come tx at) ∙ (is.live ∙ ap (of_host tx) (sym (here_was start es e come tx at)))
+        live_same (inr off) = ap (of_host tx) (away start es e come tx off)
 
     -- its beginning
     begun_holds : has_tc s ≡ true → next_tx (tc_of s) ≡ tx → of_host tx later ≡ Some fresh → in_sends (ask tx) sends ≡ 0 → Holds now then_is
     begun_holds runs next live none = record {
       unborn = λ low. nothing;
-      free = λ off. subst (λ o. Allowed o then_is) (sym (ap (of_host tx) (here_now its_home) ∙ live)) (record { waits = λ v. absurd cc; none = λ open_is. nothing });
+      free = λ off. subst (λ o. Allowed o then_is) (sym (ap (of_host tx) (here_now start es e come tx its_home) ∙ live)) (record { waits = λ v. absurd cc; none = λ open_is. nothing });
     }
       where
         its_home : h ≡ at_home
-        its_home = own_home runs (ap (λ (v : TxId). v.tc) (sym next))
+        its_home = own_home start es e come tx runs (ap (λ (v : TxId). v.tc) (sym next))
 
         low : IsUnborn tx.seq s
         low = omega (arith, ap (λ (v : TxId). v.seq) next)
 
         nothing : asking then_is ≡ 0
-        nothing = omega (arith, taken_weighs, now_weighs, none, held.unborn (subst (IsUnborn tx.seq) (sym (here_old its_home)) low))
+        nothing = omega (arith, taken_weighs, now_weighs, none, held.unborn (subst (IsUnborn tx.seq) (sym (here_was start es e come tx its_home)) low))
 
     -- a turn of it
     module _ (runs : has_tc s ≡ true) (t : Transaction) (turn : Turn) (was : of_host tx s ≡ Some t) (live : of_host tx later ≡ left_by turn) (sent : sends ≡ turn.step.effects.sends)
         (said : tc_sends s e.step.taken ≡ turn.step.effects.sends) (unborn_was : IsUnborn tx.seq later → IsUnborn tx.seq s)
         (ask_turn : AskTurn tx e.step.taken.body t turn) (goes : GoesOn tx e.step.taken.body t turn) where
       home_is : IsHome tx (tc_of s)
-      home_is = home_of h (old h)
+      home_is = all_home start tx h (old h)
 
       not_none : of_host tx s ≡ None → ⊥
       not_none none = let both : None ≡ Some t = sym none ∙ was in cc
@@ -236,7 +218,7 @@ module _ (start : Start) (tx : TxId) where
       its_home = by (cases_eq tx.tc (tc_of s).node)
         where
           by : (tx.tc ≡ (tc_of s).node) ⊎ (tx.tc ≢ (tc_of s).node) → h ≡ at_home
-          by (inl at) = own_home runs at
+          by (inl at) = own_home start es e come tx runs at
           by (inr off) = absurd (not_none (live_none tx (tc_of s).live (strange_none tx (tc_of s).node (tc_of s).next_seq (tc_of s).live home_is.own off)))
 
       born : IsUnborn tx.seq later → ⊥
@@ -246,7 +228,7 @@ module _ (start : Start) (tx : TxId) where
       module _ (off : is_given_up start now tx ≡ false) where
         allowed : IsAllowed t before
         allowed =
-            subst (λ o. Allowed o before) (ap (of_host tx) (here_old its_home) ∙ was) (held.free (not_before off))
+            subst (λ o. Allowed o before) (ap (of_host tx) (here_was start es e come tx its_home) ∙ was) (held.free (not_before off))
 
         no_back : list_any (λ (o : Outgoing). is_back tx (way_of o.body)) turn.step.effects.sends ≡ true → ⊥
         no_back goes_back =
@@ -340,12 +322,12 @@ module _ (start : Start) (tx : TxId) where
 
       turned_holds : Holds now then_is
       turned_holds = record {
-        unborn = λ low. absurd (born (subst (IsUnborn tx.seq) (here_now its_home) low));
-        free = λ off. subst (λ o. Allowed o then_is) (sym (ap (of_host tx) (here_now its_home) ∙ live)) (allowed_now off);
+        unborn = λ low. absurd (born (subst (IsUnborn tx.seq) (here_now start es e come tx its_home) low));
+        free = λ off. subst (λ o. Allowed o then_is) (sym (ap (of_host tx) (here_now start es e come tx its_home) ∙ live)) (allowed_now off);
       }
 
     holds_next : Holds now then_is
-    holds_next = by (host_asks tx s e.step.taken (home_of h (old h)))
+    holds_next = by (host_asks tx s e.step.taken (all_home start tx h (old h)))
       where
         by : HostAsks tx s e.step.taken later sends → Holds now then_is
         by (asks.leaves is) = leaves_hold is
