@@ -1,5 +1,6 @@
 pub mod Addressed
 pub mod Ahead
+pub mod Bystanders
 pub mod CarriedNext
 pub mod CarriedOut
 pub mod CarriedTurn
@@ -18,7 +19,6 @@ pub mod GivenUp
 pub mod HomeHosts
 pub mod HostAfter
 pub mod HostAsks
-pub mod HostCases
 pub mod HostFades
 pub mod HostParts
 pub mod HostSteps
@@ -29,6 +29,7 @@ pub mod KeySteps
 pub mod KeyTokens
 pub mod Keyed
 pub mod LiveAfter
+pub mod LiveFacts
 pub mod LiveOf
 pub mod LqhCases
 pub mod LqhParts
