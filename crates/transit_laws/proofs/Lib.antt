@@ -1,3 +1,4 @@
+pub mod AbortsFirst
 pub mod Addressed
 pub mod Ahead
 pub mod Bystanders
@@ -16,7 +17,6 @@ pub mod DecidedSettled
 pub mod FirstCommits
 pub mod FreshHosts
 pub mod GivenUp
-pub mod HomeHosts
 pub mod HostAfter
 pub mod HostAsks
 pub mod HostFades
@@ -50,6 +50,7 @@ pub mod RoutesChain
 pub mod RoutesLqh
 pub mod RoutesSends
 pub mod RoutesTc
+pub mod RowsEvents
 pub mod RowsNodes
 pub mod SettledAlong
 pub mod StepFades
