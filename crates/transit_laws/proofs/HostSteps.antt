@@ -53,7 +53,7 @@ pub data TxStep (tx : TxId) (s : Host) (x : Signal) (t : Step Host) : Type 0 whe
       → of_host tx t.state ≡ left_by (turn_for (tc_of s).node (tc_of s).layout tx x.body u) → TxStep tx s x t
 
 -- a host that doesn't run a block has nothing of it
-runs_rows : (s : Host) (b : BlockId) → is_lqh b ≡ true → runs s b ≡ has_lqh s
+pub runs_rows : (s : Host) (b : BlockId) → is_lqh b ≡ true → runs s b ≡ has_lqh s
 runs_rows (Shell a) block.Lqh is = refl
 runs_rows (Main m) block.Lqh is = refl
 runs_rows (Tc p) block.Lqh is = refl

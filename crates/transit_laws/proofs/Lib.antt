@@ -1,6 +1,7 @@
 pub mod AbortsFirst
 pub mod Addressed
 pub mod Ahead
+pub mod Bystanders
 pub mod CarriedNext
 pub mod CarriedOut
 pub mod CarriedTurn
@@ -19,7 +20,6 @@ pub mod GivenUp
 pub mod HomeSteps
 pub mod HostAfter
 pub mod HostAsks
-pub mod HostCases
 pub mod HostFades
 pub mod HostParts
 pub mod HostSteps
@@ -30,6 +30,7 @@ pub mod KeySteps
 pub mod KeyTokens
 pub mod Keyed
 pub mod LiveAfter
+pub mod LiveFacts
 pub mod LiveOf
 pub mod LqhCases
 pub mod LqhParts

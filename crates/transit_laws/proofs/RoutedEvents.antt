@@ -1,5 +1,5 @@
 -- What comes to a host is for it: operations to the primary, images to the others, and commits to the primary last.
-use Rattle.std.proofs.Common.{◌≡◌, ◌≢◌, ◌⊎◌, ◌==◌, ◌<◌, ℕ, List, ◌∷◌, length, sym, ap, ◌∙◌, subst, arith, inl, inr, eq-eqb, ne_eqb}
+use Rattle.std.proofs.Common.{◌≡◌, ◌≢◌, ◌⊎◌, ◌==◌, ◌<◌, ℕ, true, List, ◌∷◌, length, sym, ap, ◌∙◌, subst, arith, inl, inr, eq-eqb, ne_eqb}
 use Rattle.std.proofs.lemmas.Bool.{cases_eq}
 use Rattle.sig_core.specs.declared.member.Member.{Member}
 use Rattle.sig_core.specs.declared.signal.chain.RowWork.{RowWork}
@@ -7,14 +7,18 @@ use Rattle.sig_core.specs.declared.signal.chain.RowWork.TheVariants.{Operate, St
 use Rattle.sig_core.specs.Chain.{node_at, primary_of}
 use Rattle.frag_map.specs.Shape.{IsShape}
 use Rattle.lqh_block.specs.Work.{work_key}
+use Rattle.node_core.specs.Blocks.{has_lqh}
+use Rattle.world_core.proofs.HostNumbers.{rows_run}
 use Rattle.world_core.specs.Hosts.{rows_host}
+use Rattle.world_core.specs.Machine.{after}
 use Rattle.world_core.specs.Start.{Start}
+use Rattle.world_core.specs.Steps.{HostStep}
 use Rattle.commit_laws.specs.BackupEvents.{IsOfImage}
 use Rattle.commit_laws.specs.PrimaryEvents.{IsOfOperation}
 use Rattle.transit_laws.specs.Routes.{ComingAreRouted, CommitsEndAtPrimary, IsCommitRouted, IsForBlock, IsRequestRouted, IsRouted, IsSentTo, IsWorkAt, RequestsAreForReplicas, primary_host, replica_host, replicas}
 use Rattle.transit_laws.proofs.Addressed.{rows_addressed}
 use Rattle.transit_laws.proofs.Routes.{all_routed, took_routed}
-use Rattle.transit_laws.proofs.RoutesChain.{hosts_are_apart, primary_first, primary_length, replicas_some}
+use Rattle.transit_laws.proofs.RoutesChain.{hosts_are_apart, primary_first, primary_length, replicas_are_nodes, replicas_some}
 use Rattle.transit_laws.proofs.TransitRuns.{taking}
 
 -- two tests of numbers that pass together
@@ -37,6 +41,13 @@ placed start h node key chain at here along sent = record {
   inside = subst (λ (c : List Member). at < length c) along sent.inside;
   host_is = here ∙ ap (rows_host start) (sent.node_is ∙ ap (λ c. node_at c at) along);
 }
+
+-- which runs rows
+pub placed_runs : (start : Start) (h : ℕ) (key : List ℕ) (at : ℕ) (log : List HostStep) → IsShape start.shape → IsPlaced start h key at
+    → has_lqh (after start h log) ≡ true
+placed_runs start h key at log shape place =
+    let node = replicas_are_nodes start key at shape place.inside in
+    ap (λ h. has_lqh (after start h log)) place.host_is ∙ rows_run start (node_at (replicas start key) at) log node.from node.to
 
 module _ (start : Start) (shape : IsShape start.shape) where
   for_replica : (h : ℕ) (key : List ℕ) (work : RowWork) (at : ℕ) → IsWorkAt at work → IsPlaced start h key at

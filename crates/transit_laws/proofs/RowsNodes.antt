@@ -1,11 +1,10 @@
 -- The rows of a host are those of its node.
-use Rattle.std.proofs.Common.{◌≡◌, ◌<◌, ◌≤◌, ℕ, true, List, [], ◌∷◌, refl, sym, ap, ◌∙◌, subst}
+use Rattle.std.proofs.Common.{◌≡◌, ◌<◌, ◌≤◌, ℕ, true, List, sym, ap, ◌∙◌, subst}
 use Rattle.sig_core.specs.declared.place.BlockId.TheVariants.{Lqh}
 use Rattle.sig_core.specs.declared.place.Part.TheVariants as part
 use Rattle.sig_core.specs.Place.{rows_of}
 use Rattle.frag_map.specs.Layout.{first_layout}
 use Rattle.frag_map.specs.Replicas.{first_start}
-use Rattle.node_core.proofs.HostCases.{keeps_rows}
 use Rattle.node_core.specs.Blocks.{has_lqh, lqh_of}
 use Rattle.node_core.specs.Fresh.{fresh_part}
 use Rattle.world_core.proofs.HostNumbers.{rows_found, rows_started}
@@ -13,6 +12,7 @@ use Rattle.world_core.specs.Hosts.{hosts, rows_host, started}
 use Rattle.world_core.specs.Machine.{after}
 use Rattle.world_core.specs.Start.{Start}
 use Rattle.world_core.specs.Steps.{HostStep}
+use Rattle.answer_laws.proofs.HostSteps.{rows_along}
 use Rattle.answer_laws.proofs.LqhNode.{lqh_node}
 use Rattle.transit_laws.specs.Transit.{Comes, host_after, logs_of}
 use Rattle.transit_laws.proofs.Addressed.{comes_below, rows_addressed, same_nodes}
@@ -28,15 +28,12 @@ module _ (start : Start) where
   unfolding fresh_part
   begun node some low = ap (λ s. (lqh_of s).node) (rows_started start node some low)
 
-  stays : (h : ℕ) (log : List HostStep) (node : ℕ) → (lqh_of (started start h)).node ≡ node → (lqh_of (after start h log)).node ≡ node
-  stays h [] node is = is
-  stays h (e ∷ log) node is = keeps_rows (λ l. l.node ≡ node) (λ l x was. lqh_node l x.body ∙ was) (after start h log) e.step.taken (stays h log node is)
-
   pub rows_node : (h : ℕ) (log : List HostStep) → h < hosts start → has_lqh (after start h log) ≡ true → IsRowsHost start h (lqh_of (after start h log)).node
   rows_node h log low runs =
       let found = rows_found start h log low runs in
       let begun_as : (lqh_of (started start h)).node ≡ found.node = ap (λ g. (lqh_of (started start g)).node) found.is ∙ begun found.node found.some found.low in
-      subst (IsRowsHost start h) (sym (stays h log found.node begun_as)) (record { some = found.some; low = found.low; is = found.is })
+      let stays = rows_along start (λ l. l.node ≡ found.node) (λ l x was. lqh_node l x.body ∙ was) h begun_as log in
+      subst (IsRowsHost start h) (sym stays) (record { some = found.some; low = found.low; is = found.is })
 
   -- what comes to rows is for their node
   pub rows_come : (es : List HostStep) (e : HostStep) → Comes start es e → has_lqh (host_after start es e.host) ≡ true → e.step.taken.to.block ≡ Lqh
