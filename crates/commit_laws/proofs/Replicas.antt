@@ -221,7 +221,7 @@ started_row shape node s table (r ∷ rows) key held same =
     go true is own without = own put
     go false is own without = without (same ∙ other is (same_key r.0 key) refl ∙ sym inserted)
 
-started_pending : (s : RowsState) (rows : List (List ℕ × List ℕ)) → (with_rows s rows).pending ≡ s.pending
+pub started_pending : (s : RowsState) (rows : List (List ℕ × List ℕ)) → (with_rows s rows).pending ≡ s.pending
 started_pending s [] = refl
 started_pending s (r ∷ rows) = started_pending (put_row s r.0 r.1) rows
 
