@@ -34,13 +34,14 @@ abbrev pub api_seen : Step Host → Step ApiState
 api_seen t = record { state = api_of t.state; effects = t.effects }
 
 -- what holds of each step of the API, and of none, holds of each step of the shell's host
-pub api_host : (R : Step ApiState → Type 0) (g : Host) (x : Signal) → has_api g ≡ true → R (api_row (api_of g) x) → R (stay (api_of g)) → R (api_seen (row g x))
+pub api_host : (R : Step ApiState → Type 0) (g : Host) (x : Signal) → has_api g ≡ true → (x.to.block ≡ block.Api → R (api_row (api_of g) x)) → R (stay (api_of g))
+    → R (api_seen (row g x))
 api_host R g x has moves rests = go (row g x) (block_case g x)
   where
     go : (t : Step Host) → BlockCase g x t → R (api_seen t)
     go t (api_takes step) =
         subst (λ (u : ApiState). R (record { state = u; effects = t.effects })) (sym step.state)
-        (subst (λ (f : Effects). R (record { state = (api_row (api_of g) x).state; effects = f })) (sym step.effects) moves)
+        (subst (λ (f : Effects). R (record { state = (api_row (api_of g) x).state; effects = f })) (sym step.effects) (moves step.at))
     go t (tc_takes step) = absurd (api_alone g has step.runs)
     go t (dih_takes step) = absurd (api_alone g has step.runs)
     go t (rows_take step) = absurd (api_no_rows g has step.runs)
