@@ -114,12 +114,12 @@ host_lone : (g : host.Host) (x : Signal) → has_api g ≡ true → is_request x
     → ((is_api x.to.block ≡ true) × IsLoneStep x.body (opened_in (row g x).state)) ⊎ (tally is_lone (replies_of (row g x).state) ≡ tally is_lone (replies_of g))
 host_lone g x has plain =
     by (api_host (λ (step : Step ApiState). ((is_api x.to.block ≡ true) × IsLoneStep x.body step.state.opened) ⊎ (tally is_lone step.state.replies ≡ tally is_lone (api_of g).replies)) g x has
-    (λ at. step_goes at (change_lone (api_of g) x.body (api_row (api_of g) x) (api_changes (api_of g) x.body plain))) (inr refl))
+    (λ at. step_goes (api_row (api_of g) x).state at (change_lone (api_of g) x.body (api_row (api_of g) x) (api_changes (api_of g) x.body plain))) (inr refl))
   where
-    step_goes : {s : ApiState} → x.to.block ≡ block.Api → IsLoneStep x.body s.opened ⊎ (tally is_lone s.replies ≡ tally is_lone (api_of g).replies)
+    step_goes : (s : ApiState) → x.to.block ≡ block.Api → IsLoneStep x.body s.opened ⊎ (tally is_lone s.replies ≡ tally is_lone (api_of g).replies)
         → ((is_api x.to.block ≡ true) × IsLoneStep x.body s.opened) ⊎ (tally is_lone s.replies ≡ tally is_lone (api_of g).replies)
-    step_goes at (inl lone) = inl (ap is_api at, lone)
-    step_goes at (inr same) = inr same
+    step_goes s at (inl lone) = inl (ap is_api at, lone)
+    step_goes s at (inr same) = inr same
 
     by : ((is_api x.to.block ≡ true) × IsLoneStep x.body (api_of (row g x).state).opened) ⊎ (tally is_lone (api_of (row g x).state).replies ≡ tally is_lone (api_of g).replies)
         → ((is_api x.to.block ≡ true) × IsLoneStep x.body (opened_in (row g x).state)) ⊎ (tally is_lone (replies_of (row g x).state) ≡ tally is_lone (replies_of g))

@@ -1,5 +1,5 @@
 -- No commit or abort is wished for until an operation alone is answered.
-use Rattle.std.proofs.Common.{◌≡◌, sym, ap, ◌∙◌, ◌⊎◌, false, List, [], ◌∷◌, ◌++◌, refl, ap, inl, inr, arith}
+use Rattle.std.proofs.Common.{◌≡◌, sym, ap, ◌∙◌, ◌⊎◌, false, List, [], ◌∷◌, ◌++◌, refl, ap, inl, inr, arith, true}
 use Rattle.std.specs.Prelude.{None}
 use Rattle.run_theory.specs.Lists.{Each}
 use Rattle.world_core.specs.Steps.{HostStep}
