@@ -20,12 +20,15 @@ use Rattle.node_core.specs.Row.{row}
 use Rattle.answer_laws.proofs.ApiBegins.{in_middle}
 use Rattle.commit_laws.specs.Counts.{one_if}
 use Rattle.answer_laws.proofs.TcSends.{eqb-self}
-use Rattle.answer_laws.proofs.Wishes.{sends_of, to_node}
+use Rattle.answer_laws.proofs.Wishes.{sends_of}
 use Rattle.command_laws.proofs.AbortSteps.{is_more_to, is_roll_to}
 use Rattle.command_laws.proofs.Entries.{HasOne, IsNamed, named_found}
 use Rattle.command_laws.proofs.OperateAsks.{AreNamed}
 use Rattle.sig_core.proofs.Keys.{same_tx-self}
 use Rattle.command_laws.specs.Served.{named_in}
+use Rattle.answer_laws.proofs.LinkCounts.{to_host}
+use Rattle.world_core.specs.Start.{Start}
+use Rattle.world_core.specs.Hosts.{home}
 
 -- the row where the name is found
 abort_found : (s : ApiState) (name : ℕ) (t : OpenTransaction) (tx : TxId) → t.tx ≡ Some tx → (f : IsNamed s.opened name t)
@@ -42,16 +45,16 @@ counts true false p q = cc
 counts false b p q = cc
 
 -- after it the transaction takes commands as before, and the wish is sent
-pub record IsAbortAsked (tx : TxId) (name : ℕ) (step : Step ApiState) : Type 0 where
+pub record IsAbortAsked (start : Start) (tx : TxId) (name : ℕ) (step : Step ApiState) : Type 0 where
   pub has : HasOne tx (Some name) Ready step.state.opened
   pub named : AreNamed tx step.state.opened
   pub more : sends_of (is_more_to tx) step.effects.sends ≡ 0
-  pub rolls : 1 ≤ sends_of (to_node tx.tc (is_roll_to tx)) step.effects.sends
+  pub rolls : 1 ≤ sends_of (to_host start (home start tx) (is_roll_to tx)) step.effects.sends
 
-pub abort_first : (s : ApiState) (name : ℕ) (t : OpenTransaction) (tx : TxId) → named_in s.opened name ≡ Some t → t.doing ≡ Ready → t.tx ≡ Some tx → AreNamed tx s.opened
-    → IsAbortAsked tx name (request_row s (request.Abort name))
+pub abort_first : (start : Start) (s : ApiState) (name : ℕ) (t : OpenTransaction) (tx : TxId) → named_in s.opened name ≡ Some t → t.doing ≡ Ready → t.tx ≡ Some tx → AreNamed tx s.opened
+    → IsAbortAsked start tx name (request_row s (request.Abort name))
 unfolding request_row
-abort_first s name t tx is ready own were = record {
+abort_first start s name t tx is ready own were = record {
   has = record {
     item = t;
     inside = subst (IsIn t) (sym opened) (subst (λ x. IsIn x s.opened) f.item (subst (IsIn f.focus.item) (sym f.focus.is) (in_middle f.focus.front f.focus.item f.focus.back)));
@@ -61,7 +64,7 @@ abort_first s name t tx is ready own were = record {
   };
   named = subst (AreNamed tx) (sym opened) were;
   more = ap (λ (step : Step ApiState). sends_of (is_more_to tx) step.effects.sends) now;
-  rolls = subst (λ (step : Step ApiState). 1 ≤ sends_of (to_node tx.tc (is_roll_to tx)) step.effects.sends) (sym now) (counts (tx.tc == tx.tc) (same_tx tx tx) (eqb-self tx.tc) (same_tx-self tx));
+  rolls = subst (λ (step : Step ApiState). 1 ≤ sends_of (to_host start (home start tx) (is_roll_to tx)) step.effects.sends) (sym now) (counts (home start tx == home start tx) (same_tx tx tx) (eqb-self (home start tx)) (same_tx-self tx));
 }
   where
     f : IsNamed s.opened name t
