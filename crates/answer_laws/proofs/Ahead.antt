@@ -2,7 +2,7 @@
 use Rattle.std.proofs.Common.{◌≡◌, ◌≢◌, ◌⊎◌, ℕ, zero, suc, ◌+◌, ◌≤◌, ◌<◌, List, [], ◌∷◌, ◌++◌, Bool, true, false, refl, ap, sym, ◌∙◌, subst, arith, inl, inr}
 use Rattle.std.specs.Prelude.{◌/◌, ◌%◌, Option, None, Some, slice_index_or}
 use Rattle.std.proofs.lemmas.Bool.{cases_lt, false≢true}
-use Rattle.node_core.proofs.HostCases.{tc_stays}
+use Rattle.node_core.proofs.HostCases.{IsRowsStep, tc_stays}
 use Rattle.node_core.specs.Blocks.{has_tc, tc_of}
 use Rattle.node_core.specs.declared.host.Host.{Host}
 use Rattle.node_core.specs.Fresh.{fresh_part, fresh_shell}
@@ -11,7 +11,7 @@ use Rattle.node_core.specs.Row.{row}
 use Rattle.run_theory.proofs.Along.{along_run, of_runs}
 use Rattle.run_theory.proofs.Runs.{log_of-other, log_of-own, log_of-past, logs_of_run}
 use Rattle.run_theory.specs.Links.{IsGiven, sent, taken}
-use Rattle.run_theory.specs.Lists.{Each, IsPast}
+use Rattle.run_theory.specs.Lists.{Each, IsIn, IsPast}
 use Rattle.run_theory.specs.Runs.{AreLogs, Happens, IsWithin, Run, log_of}
 use Rattle.sig_core.specs.declared.member.Member.{Member}
 use Rattle.sig_core.specs.declared.member.TxId.{TxId}
@@ -35,11 +35,11 @@ use Rattle.world_core.specs.Machine.{after, machine, step_after}
 use Rattle.world_core.specs.Start.{Start, made}
 use Rattle.world_core.specs.Steps.{Addressed, HostStep}
 pub use Rattle.answer_laws.proofs.HostTurns.{tx_at}
-use Rattle.answer_laws.proofs.HostTurns.{HostTurn, host_turn, tx_runs}
+use Rattle.answer_laws.proofs.HostTurns.{HostTurn, IsAside, aside, host_turn, in_rows, starting, turning, tx_runs}
 use Rattle.answer_laws.proofs.LinkCounts.{signals}
 use Rattle.answer_laws.proofs.TcLives.{IsKept, IsOwn, is_keyed, kept_move, starts_in}
 use Rattle.answer_laws.proofs.TcMoves.{TcMove, ends_in, forgets, host_moves, starts, stays, tc_view, turns}
-use Rattle.answer_laws.proofs.TcSteps.{live_home}
+use Rattle.answer_laws.proofs.TcSteps.{live_home, live_in}
 use Rattle.commit_laws.proofs.Tally.{tally_past}
 use Rattle.commit_laws.specs.Counts.{tally}
 
@@ -91,6 +91,7 @@ module _ (start : Start) where
     pub low : h < hosts start
     pub before : AreLogs (machine start) logs
     pub right : AreLogs (machine start) now
+    pub was_within : IsWithin (hosts start) logs
     pub within : IsWithin (hosts start) now
     pub own : now h ≡ e ∷ logs h
     pub others : (k : ℕ) → k ≢ h → now k ≡ logs k
@@ -118,13 +119,17 @@ module _ (start : Start) where
             low = under (cases_lt e.host (hosts start));
             before = logs_of_run (machine start) es run;
             right = logs_of_run (machine start) (e ∷ es) (run, happens);
+            was_within = was;
             within = in_now;
             own = log_of-own (machine start) e es e.host refl;
             others = λ k differs. log_of-other (machine start) e es k (λ same. differs (sym same));
             takes = happens.takes;
           })
-          (before (λ k high. let past = log_of-past (machine start) e es k in log_nil past.newer (log_of (machine start) es k) (sym (in_now k high) ∙ past.is)))
+          (before was)
         where
+          was : IsWithin (hosts start) (log_of (machine start) es)
+          was k high = let past = log_of-past (machine start) e es k in log_nil past.newer (log_of (machine start) es k) (sym (in_now k high) ∙ past.is)
+
           under : (e.host < hosts start) ⊎ (hosts start ≤ e.host) → e.host < hosts start
           under (inl fine) = fine
           under (inr high) = absurd (nothing (sym (log_of-own (machine start) e es e.host refl) ∙ in_now e.host high))
@@ -173,6 +178,10 @@ module _ (start : Start) where
   pub at_tc : (tx : TxId) (h : ℕ) (log : List HostStep) → AtTc tx h log
   at_tc tx h log = let k = kept_tc tx h log in record { once = omega (arith, k.keeps.began, k.keeps.once); own = k.keeps.own }
 
+  -- one that is live is the transaction there
+  pub live_tx : (tx : TxId) (h : ℕ) (log : List HostStep) (t : Transaction) → IsIn (tx, t) (tc_of (after start h log)).live → tx_at tx (after start h log) ≡ Some t
+  live_tx tx h log t live = live_in tx t (tc_of (after start h log)).live (at_tc tx h log).once live
+
   -- a coordinator has the layout of the start
   started_layout : (h : ℕ) → has_tc (started start h) ≡ true → (tc_of (started start h)).layout ≡ first_layout start.shape
   unfolding started fresh_shell
@@ -216,3 +225,15 @@ module _ (start : Start) where
   -- a step of a host, as far as a transaction of its coordinator goes
   pub turn_at : (tx : TxId) (h : ℕ) (log : List HostStep) (e : HostStep) → HostTurn tx (after start h log) e.step.taken (step_after start h log e)
   turn_at tx h log e = let x = at_tc tx h log in host_turn tx (after start h log) e.step.taken x.once x.own
+
+  -- at another host than its home it is left as it is
+  pub other_turn : (tx : TxId) (h : ℕ) (log : List HostStep) (e : HostStep) → h < hosts start → h ≢ home start tx
+      → IsRowsStep (after start h log) e.step.taken (step_after start h log e) ⊎ IsAside tx (after start h log) e.step.taken (step_after start h log e)
+  other_turn tx h log e low differs = by (turn_at tx h log e)
+    where
+      by : HostTurn tx (after start h log) e.step.taken (step_after start h log e)
+          → IsRowsStep (after start h log) e.step.taken (step_after start h log e) ⊎ IsAside tx (after start h log) e.step.taken (step_after start h log e)
+      by (in_rows step) = inl step
+      by (aside step) = inr step
+      by (starting step) = absurd (differs (sym (ap (home start) step.one ∙ (tc_is h log low step.runs).is)))
+      by (turning step) = absurd (differs (sym (at_home tx h log step.was low step.there)))

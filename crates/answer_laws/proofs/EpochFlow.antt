@@ -163,10 +163,6 @@ pub no_conf : (at : Place → Bool) (tx : TxId) (kind : Body → Bool) → ((to 
     → sends_of (at_place at (is_conf tx)) sends ≡ 0
 no_conf at tx kind fails sends e = none_of kind (at_place at (is_conf tx)) (λ to body k. second_fails (at to) (fails to body k)) sends e
 
-pub lqh_confless : (tx : TxId) (to : Place) (body : Body) → is_lqh_kind body ≡ true → is_conf tx to body ≡ false
-lqh_confless tx to (Epoch (DiVerifyConf other epoch)) e = cc
-lqh_confless tx to _ e = refl
-
 pub tc_confless : (at : Place → Bool) (tx : TxId) (s : TcState) (body : Body) → sends_of (at_place at (is_conf tx)) (tc_table s body).effects.sends ≡ 0
 unfolding begin_row
 tc_confless at tx s (Client (TcBeginReq other)) = by (is_full s)

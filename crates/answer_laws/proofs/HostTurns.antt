@@ -1,5 +1,5 @@
 -- A step of a host, as far as one transaction of its coordinator goes.
-use Rattle.std.proofs.Common.{◌≡◌, ◌+◌, ℕ, ◌≤◌, List, ◌∷◌, [], Bool, true, false, refl, ap, sym, ◌∙◌, subst, arith}
+use Rattle.std.proofs.Common.{◌≡◌, ◌⊎◌, inl, inr, ℕ, ◌≤◌, List, ◌∷◌, [], Bool, true, false, refl, ap, sym, ◌∙◌, arith}
 use Rattle.std.specs.Prelude.{Option, None, Some}
 use Rattle.std.proofs.lemmas.Bool.{false≢true, true≢false}
 use Rattle.api_block.specs.Api.{api_table}
@@ -133,12 +133,27 @@ idle_absent tx (Shell s) at off on = refl
 idle_absent tx (Main m) at off on = refl
 idle_absent tx (Ldm s) at off on = refl
 
-idle_unheard : (s : Host) (at : BlockId) → runs s at ≡ false → is_lqh at ≡ true → has_lqh s ≡ false
+pub idle_unheard : (s : Host) (at : BlockId) → runs s at ≡ false → is_lqh at ≡ true → has_lqh s ≡ false
 idle_unheard (Ldm s) block.Lqh off on = absurd (true≢false off)
 idle_unheard (Ldm s) _ off on = absurd (false≢true on)
 idle_unheard (Shell s) at off on = refl
 idle_unheard (Main m) at off on = refl
 idle_unheard (Tc p) at off on = refl
+
+-- of a host that runs rows: the step is theirs, or the signal is for another block
+pub rows_turn : (s : Host) (x : Signal) → has_lqh s ≡ true → IsRowsStep s x (row s x) ⊎ ((lqh_of (row s x).state ≡ lqh_of s) × (is_lqh x.to.block ≡ false))
+rows_turn s x on = by (row s x) (block_case s x)
+  where
+    by : (t : Step Host) → BlockCase s x t → IsRowsStep s x t ⊎ ((lqh_of t.state ≡ lqh_of s) × (is_lqh x.to.block ≡ false))
+    by t (rows_take step) = inl step
+    by t (api_takes step) = inr (step.rows, ap is_lqh step.at)
+    by t (tc_takes step) = inr (step.rows, ap is_lqh step.at)
+    by t (dih_takes step) = inr (step.rows, ap is_lqh step.at)
+    by t (none_takes step) = inr (ap (λ u. lqh_of u.state) step.is, off (is_lqh x.to.block) refl)
+      where
+        off : (b : Bool) → is_lqh x.to.block ≡ b → is_lqh x.to.block ≡ false
+        off false e = e
+        off true e = absurd (true≢false (sym on ∙ idle_unheard s x.to.block step.runs e))
 
 module _ (tx : TxId) (s : Host) (x : Signal) (once : tally (is_keyed tx) (tc_of s).live ≤ 1) (own : Each (λ (e : TxId × Transaction). IsOwn (tc_of s).node (tc_of s).next_seq e.0) (tc_of s).live) where
   -- a step of another block than the coordinator and the rows

@@ -17,6 +17,7 @@ pub mod EpochCounts
 pub mod EpochFlow
 pub mod EpochGiven
 pub mod EpochLives
+pub mod FirstChains
 pub mod Flows
 pub mod Focus
 pub mod Heard

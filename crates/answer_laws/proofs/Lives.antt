@@ -29,7 +29,7 @@ use Rattle.answer_laws.proofs.LqhOps.{right_of, left_of}
 use Rattle.answer_laws.proofs.ApiHolds.{AreHeld, IsOrdered, log_holds}
 use Rattle.answer_laws.proofs.Hosts.{IsHome, TellsHome, told}
 use Rattle.answer_laws.proofs.HostSteps.{at_own_node, first_live, live_runs}
-use Rattle.answer_laws.proofs.LinkCounts.{all_three, sent_to_shell, shell_signals, signals, steps, taken_signals, taken_steps, to_host}
+use Rattle.answer_laws.proofs.LinkCounts.{all_three, sent_to_shell, shell_signals, signals, steps, steps_from, taken_signals, taken_steps, to_host}
 use Rattle.commit_laws.proofs.Tally.{Counted, counted, tally_in, tally_none, tally_past}
 use Rattle.commit_laws.specs.Counts.{one_if, tally}
 use Rattle.answer_laws.proofs.TcLives.{IsKept, IsOwn, due_move, is_done, is_keyed, is_start, kept_move, start_of, starts_in}
@@ -156,25 +156,6 @@ module _ (start : Start) (tx : TxId) where
       go (inl some) = absurd (omega (arith, (keeps h log).keeps.order (omega (arith, some)), silent_start h log low differs))
       go (inr none) = omega (arith, none)
 
-  -- steps that took a signal which one host alone sends took it from that host
-  pub steps_from : (test : Place → Body → Bool) (i : ℕ) → ((to : Place) (body : Body) → test to body ≡ true → is_request body ≡ false)
-      → (log : List HostStep) → ((k : ℕ) → k ≢ i → signals test (taken (machine start) k log) ≡ 0) → steps test log ≤ signals test (taken (machine start) i log)
-  steps_from test i plain [] none = omega arith
-  steps_from test i plain (e ∷ log) none =
-      go (test e.step.taken.to e.step.taken.body) refl (steps_from test i plain log (λ k differs. omega (arith, none k differs, taken_signals start test k e log)))
-    where
-      from : (k : ℕ) → e.step.taken.from.0 ≡ k → test e.step.taken.to e.step.taken.body ≡ true → (is_from (machine start) k e && test e.step.taken.to e.step.taken.body) ≡ true
-      from k at is =
-          all_three (is_request e.step.taken.body) (e.step.taken.from.0 == k) (test e.step.taken.to e.step.taken.body) (plain e.step.taken.to e.step.taken.body is) (grind (arith, nat_tests, at)) is
-
-      go : (b : Bool) → test e.step.taken.to e.step.taken.body ≡ b → steps test log ≤ signals test (taken (machine start) i log) → one_if b + steps test log ≤ signals test (taken (machine start) i (e ∷ log))
-      go false is less = omega (arith, less, taken_signals start test i e log)
-      go true is less = at (cases_eq e.step.taken.from.0 i)
-        where
-          at : (e.step.taken.from.0 ≡ i) ⊎ (e.step.taken.from.0 ≢ i) → one_if true + steps test log ≤ signals test (taken (machine start) i (e ∷ log))
-          at (inl same) = omega (arith, less, taken_signals start test i e log, ap one_if (from i same is))
-          at (inr differs) = absurd (omega (arith, none e.step.taken.from.0 differs, taken_signals start test e.step.taken.from.0 e log, ap one_if (from e.step.taken.from.0 refl is)))
-
   -- a log of the shell's host that has taken signals in order
   log_ordered : (log : List HostStep) → ((k : ℕ) → k ≢ home start tx → signals (is_end tx) (taken (machine start) k log) ≡ 0) → AreOrdered tx (taken (machine start) (home start tx) log) → IsOrdered tx log
   log_ordered [] none ordered = tt
@@ -223,7 +204,7 @@ module _ (start : Start) (tx : TxId) where
 
     starts_there : steps (is_start tx) (logs 0) ≤ signals (is_start tx) (taken (machine start) (home start tx) (logs 0))
     starts_there =
-        steps_from (is_start tx) (home start tx) (λ to body e. plain_start tx body (right_of (is_api to.block) (start_of tx body) e)) (logs 0) (none_sent (is_start tx) silent_start)
+        steps_from start (is_start tx) (home start tx) (λ to body e. plain_start tx body (right_of (is_api to.block) (start_of tx body) e)) (logs 0) (none_sent (is_start tx) silent_start)
 
     -- what is live at the coordinator
     live_at : (h : ℕ) → 1 ≤ signals (is_start tx) (sent (machine start) h 0 (logs h)) → signals (is_end tx) (sent (machine start) h 0 (logs h)) ≡ 0 → IsLiveAt tx (after start h (logs h))

@@ -18,6 +18,7 @@ use Rattle.tc_block.specs.declared.touched.Touched.{Touched}
 use Rattle.tc_block.specs.declared.transaction.Transaction.{Transaction}
 use Rattle.tc_block.specs.Part.{part_effects}
 use Rattle.tc_block.specs.Sends.{commit_of, phase_sends}
+use Rattle.tc_block.specs.State.{TcState}
 use Rattle.tc_block.specs.Turn.{Turn, at_phase}
 use Rattle.tc_block.specs.State.{TcState}
 use Rattle.node_core.proofs.HostCases.{IsTcStep}
@@ -35,7 +36,7 @@ use Rattle.commit_laws.proofs.TcWays.{not_both}
 use Rattle.sig_core.proofs.Keys.{same_tx-self}
 use Rattle.commit_laws.specs.Counts.{one_if}
 use Rattle.answer_laws.proofs.TcLives.{IsOwn}
-use Rattle.answer_laws.proofs.TcOwes.{IsKnown}
+use Rattle.answer_laws.proofs.TcSteps as answered
 use Rattle.answer_laws.proofs.TcSends.{tx_in}
 use Rattle.transit_laws.specs.Circle.{IsSettled, at_host}
 use Rattle.transit_laws.specs.Completions.{IsCommittedAtAll}
@@ -58,7 +59,7 @@ use Rattle.transit_laws.proofs.PartSends.{commits_tell, first_commit, no_commits
 use Rattle.transit_laws.proofs.RecordsFade.{HasRecord}
 use Rattle.transit_laws.proofs.Routes.{signals_are_routed}
 use Rattle.transit_laws.proofs.SettledAlong.{settled_along}
-use Rattle.transit_laws.proofs.StepFades.{StepFades, marks_at, now_other, now_own}
+use Rattle.transit_laws.proofs.StepFades.{StepFades, marks_at}
 use Rattle.transit_laws.proofs.TcOwn.{turn_for}
 use Rattle.transit_laws.proofs.TcSaid.{tc_silent, tc_speaks}
 use Rattle.transit_laws.proofs.TxSignals.{cover, is_part, is_sign, part_tells, part_weight, request_part, sign_part, weight}
