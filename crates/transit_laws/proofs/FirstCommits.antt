@@ -18,7 +18,6 @@ use Rattle.tc_block.specs.declared.touched.Touched.{Touched}
 use Rattle.tc_block.specs.declared.transaction.Transaction.{Transaction}
 use Rattle.tc_block.specs.Part.{part_effects}
 use Rattle.tc_block.specs.Sends.{commit_of, phase_sends}
-use Rattle.tc_block.specs.State.{TcState}
 use Rattle.tc_block.specs.Turn.{Turn, at_phase}
 use Rattle.tc_block.specs.State.{TcState}
 use Rattle.node_core.proofs.HostCases.{IsTcStep}
@@ -35,14 +34,16 @@ use Rattle.commit_laws.specs.Ways.{tc_sends}
 use Rattle.commit_laws.proofs.TcWays.{not_both}
 use Rattle.sig_core.proofs.Keys.{same_tx-self}
 use Rattle.commit_laws.specs.Counts.{one_if}
+use Rattle.answer_laws.proofs.Always.{few_touched}
 use Rattle.answer_laws.proofs.TcLives.{IsOwn}
 use Rattle.answer_laws.proofs.TcSteps as answered
+use Rattle.answer_laws.proofs.TcOwes.{IsKnown}
 use Rattle.answer_laws.proofs.TcSends.{tx_in}
 use Rattle.transit_laws.specs.Circle.{IsSettled, at_host}
 use Rattle.transit_laws.specs.Completions.{IsCommittedAtAll}
 use Rattle.transit_laws.specs.GivenUp.{is_carried_out, is_given_up}
 use Rattle.transit_laws.specs.Keyed.{IsTouchedRightly, IsWrittenRightly}
-use Rattle.transit_laws.specs.Live.{live_at, of_host}
+use Rattle.transit_laws.specs.Live.{live_at, of_host, of_live}
 use Rattle.transit_laws.specs.Routes.{IsTouchedRouted, IsTransactionRouted, primary_host}
 use Rattle.transit_laws.specs.Transit.{AreInTransit, Comes, Takes, joined, logs_of}
 use Rattle.transit_laws.proofs.CarriedOut.{IsAlong, IsCarried, IsGoing, IsLiveAhead, IsSpread, TellsOf, along_stays}
@@ -59,7 +60,7 @@ use Rattle.transit_laws.proofs.PartSends.{commits_tell, first_commit, no_commits
 use Rattle.transit_laws.proofs.RecordsFade.{HasRecord}
 use Rattle.transit_laws.proofs.Routes.{signals_are_routed}
 use Rattle.transit_laws.proofs.SettledAlong.{settled_along}
-use Rattle.transit_laws.proofs.StepFades.{StepFades, marks_at}
+use Rattle.transit_laws.proofs.StepFades.{StepFades, marks_at, now_other, now_own}
 use Rattle.transit_laws.proofs.TcOwn.{turn_for}
 use Rattle.transit_laws.proofs.TcSaid.{tc_silent, tc_speaks}
 use Rattle.transit_laws.proofs.TxSignals.{cover, is_part, is_sign, part_tells, part_weight, request_part, sign_part, weight}
@@ -78,9 +79,10 @@ off_part tx b none = by (is_part tx b) refl
     by true e = absurd (omega (arith, none, ap one_if e))
     by false e = e
 
--- no transaction touches more keys than this
-few_touched : (start : Start) (tx : TxId) (h : ℕ) (log : List HostStep) → Each (λ (e : TxId × Transaction). length e.1.touched ≤ 64) (tc_of (after start h log)).live
-few_touched start tx h log = ?
+-- it is found alike
+found_alike : (tx : TxId) (live : List (TxId × Transaction)) → answered.of_live tx live ≡ of_live tx live
+found_alike tx [] = refl
+found_alike tx (x ∷ live) = ap (λ o. if same_tx x.0 tx then Some x.1 else o) (found_alike tx live)
 
 module _ (start : Start) (es : List HostStep) (e : HostStep) (come : Comes start es e) (before between : List Addressed) (transit : AreInTransit start es before) (takes : Takes e before between)
     (tx : TxId) (uncarried : is_carried_out start (logs_of start es) tx ≡ false) (ungiven : is_given_up start (logs_of start es) tx ≡ false) (none : in_transit (part tx) before ≡ 0) where
@@ -213,7 +215,7 @@ module _ (start : Start) (es : List HostStep) (e : HostStep) (come : Comes start
         all (u ∷ us) r k = (settled_along start (logs_of start es) tx t.ops u (settled.settled u.key) r.0 k.0, all us r.1 k.1)
 
     few : length t.touched ≤ 64
-    few = of_is (λ one u. length u.touched ≤ 64) (few_touched start tx h (logs_of start es h))
+    few = few_touched start tx h (logs_of start es h) t (found_alike tx s.live ∙ was)
 
     abbrev PartOf : ℕ → List Outgoing
     PartOf epoch = (part_effects s.node tx (phase_sends s.layout tx (Committing epoch (length t.touched)) t.touched) 0).sends
