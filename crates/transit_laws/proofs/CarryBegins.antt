@@ -1,35 +1,30 @@
 -- The step by which a transaction comes to be carried out: its coordinator sends the first commits, or all is over at once. Before
 -- it, and unless the transaction is given up, nothing is on its way that commits or completes its rows.
-use Rattle.std.proofs.Common.{◌≡◌, ◌≢◌, ◌⊎◌, ℕ, Bool, true, false, ◌||◌, List, [], ◌∷◌, refl, sym, ap, ◌∙◌, subst, inl, inr}
+use Rattle.std.proofs.Common.{◌≡◌, ◌≢◌, ◌⊎◌, ℕ, true, false, ◌||◌, List, [], ◌∷◌, refl, sym, ap, ◌∙◌, subst, inl, inr}
 use Rattle.std.specs.List.{list_any}
-use Rattle.std.proofs.lemmas.Bool.{cases_eq, false≢true, or_left}
+use Rattle.std.proofs.lemmas.Bool.{cases_eq, or_left}
 use Rattle.world_core.specs.Steps.{HostStep}
 use Rattle.sig_core.specs.declared.member.TxId.{TxId}
 use Rattle.sig_core.specs.declared.outs.Outgoing.{Outgoing}
-use Rattle.sig_core.specs.declared.place.BlockId.{BlockId}
-use Rattle.sig_core.specs.declared.place.BlockId.TheVariants as block
 use Rattle.sig_core.specs.declared.signal.Body.{Body}
 use Rattle.sig_core.specs.declared.signal.Body.TheVariants.{Client, Chain}
 use Rattle.sig_core.specs.declared.signal.chain.ChainSignal.TheVariants.{Abort, Commit, Complete}
 use Rattle.sig_core.specs.declared.signal.client.ClientSignal.TheVariants.{TcCommitConf, TcRollbackRep}
 use Rattle.sig_core.specs.Same.{same_tx}
+use Rattle.sig_core.specs.Step.{Effects}
 use Rattle.sig_core.proofs.TxLemmas.{same_tx-swap}
-use Rattle.sig_core.specs.declared.signal.Signal.{Signal}
-use Rattle.sig_core.specs.Step.{Effects, Step}
-use Rattle.node_core.proofs.HostCases.{IsTcStep}
 use Rattle.node_core.specs.declared.host.Host.{Host}
-use Rattle.node_core.specs.declared.host.Host.TheVariants.{Shell, Main, Tc, Ldm}
-use Rattle.node_core.specs.Blocks.{has_lqh}
-use Rattle.node_core.specs.Row.{row, tc_part_row}
+use Rattle.node_core.specs.Row.{row}
 use Rattle.world_core.specs.Hosts.{home}
 use Rattle.world_core.specs.Machine.{after}
 use Rattle.world_core.specs.Start.{Start}
-use Rattle.commit_laws.specs.Ways.{Way, back_by, forth_by, put_ways, sends_for, sent_ways, tc_sends, way_of}
+use Rattle.commit_laws.specs.Ways.{Way, back_by, forth_by, put_ways, sent_ways, tc_sends, way_of}
 use Rattle.commit_laws.proofs.OneWay.{back_more, forth_more}
 use Rattle.transit_laws.specs.GivenUp.{is_carried_out, is_given_up}
 use Rattle.transit_laws.specs.Transit.{Comes, logs_of}
 use Rattle.transit_laws.proofs.CommitBegins.{Aborts, is_back}
 use Rattle.transit_laws.proofs.StepFades.{now_other, now_own}
+use Rattle.transit_laws.proofs.TcSaid.{TcSays, rests, takes, tc_says}
 use Rattle.transit_laws.proofs.TxSignals.{is_commit, is_sign}
 use Rattle.transit_laws.proofs.TxTurns.{AreSilent}
 
@@ -63,34 +58,12 @@ module _ (tx : TxId) where
   forth_first sends first more cs is commits =
       ap (λ os. list_any (same_tx tx) (put_ways forth_by os cs)) is ∙ forth_more (same_tx tx) more (forth_by (way_of first.body) cs) (forth_one first.body cs commits)
 
--- What the coordinator sends in a step is all that is sent, where the signal is for it and the host runs it, and nothing else.
-said_or : (s : Host) (x : Signal) → (tc_sends s x ≡ (row s x).effects.sends) ⊎ (tc_sends s x ≡ [])
-unfolding row tc_part_row
-said_or (Tc p) x = by x.to.block
-  where
-    by : (b : BlockId) → (sends_for p b x ≡ (tc_part_row p b x).effects.sends) ⊎ (sends_for p b x ≡ [])
-    by block.Tc = inl refl
-    by _ = inr refl
-said_or _ x = inr refl
-
-said_all : (s : Host) (x : Signal) (t : Step Host) → IsTcStep s x t → tc_sends s x ≡ t.effects.sends
-said_all (Tc p) x t step = ap (λ b. sends_for p b x) step.at ∙ sym (ap (λ (f : Effects). f.sends) step.effects)
-said_all (Shell a) x t step = absurd (false≢true step.runs)
-said_all (Main m) x t step = absurd (false≢true step.runs)
-said_all (Ldm l) x t step = absurd (false≢true step.runs)
-
-said_not : (s : Host) (x : Signal) → has_lqh s ≡ true → tc_sends s x ≡ []
-said_not (Ldm l) x runs = refl
-said_not (Shell a) x runs = refl
-said_not (Main m) x runs = refl
-said_not (Tc p) x runs = absurd (false≢true runs)
-
 module _ (start : Start) (es : List HostStep) (e : HostStep) (come : Comes start es e) (tx : TxId) where
   abbrev h : ℕ
   h = e.host
 
-  abbrev own_home : ℕ
-  own_home = home start tx
+  abbrev at_home : ℕ
+  at_home = home start tx
 
   abbrev g : Host
   g = after start h (logs_of start es h)
@@ -98,42 +71,36 @@ module _ (start : Start) (es : List HostStep) (e : HostStep) (come : Comes start
   abbrev said : List Outgoing
   said = tc_sends g e.step.taken
 
-  -- the ways that its coordinator went
-  abbrev went : (Way → List TxId → List TxId) → ℕ → List HostStep → Bool
-  went f k log = list_any (same_tx tx) (sent_ways start f k log)
+  -- the transactions that its coordinator took this way, before and behind the step
+  ways_was : (f : Way → List TxId → List TxId) → h ≡ at_home → sent_ways start f at_home (logs_of start es at_home) ≡ sent_ways start f h (logs_of start es h)
+  ways_was f same = subst (λ k. sent_ways start f k (logs_of start es k) ≡ sent_ways start f h (logs_of start es h)) same refl
 
-  -- the coordinator's step
-  went_home : (f : Way → List TxId → List TxId) → h ≡ own_home
-      → went f own_home (logs_of start (e ∷ es) own_home) ≡ list_any (same_tx tx) (put_ways f said (sent_ways start f h (logs_of start es h)))
-  went_home f same =
-      subst (λ k. went f k (logs_of start (e ∷ es) k) ≡ list_any (same_tx tx) (put_ways f said (sent_ways start f h (logs_of start es h)))) same
-      (ap (went f h) (now_own start es e come))
+  ways_now : (f : Way → List TxId → List TxId) → h ≡ at_home → sent_ways start f at_home (logs_of start (e ∷ es) at_home) ≡ put_ways f said (sent_ways start f h (logs_of start es h))
+  ways_now f same =
+      subst (λ k. sent_ways start f k (logs_of start (e ∷ es) k) ≡ put_ways f said (sent_ways start f h (logs_of start es h))) same
+      (ap (sent_ways start f h) (now_own start es e come))
 
   -- a step that says nothing of it takes it nowhere
   pub carried_silent : AreSilent tx said → is_carried_out start (logs_of start (e ∷ es)) tx ≡ is_carried_out start (logs_of start es) tx
-  carried_silent silent = by (cases_eq h own_home)
+  carried_silent silent = by (cases_eq h at_home)
     where
-      by : (h ≡ own_home) ⊎ (h ≢ own_home) → is_carried_out start (logs_of start (e ∷ es)) tx ≡ is_carried_out start (logs_of start es) tx
+      by : (h ≡ at_home) ⊎ (h ≢ at_home) → is_carried_out start (logs_of start (e ∷ es)) tx ≡ is_carried_out start (logs_of start es) tx
       by (inl same) =
-          went_home forth_by same ∙ silent_forth tx said (sent_ways start forth_by h (logs_of start es h)) silent
-          ∙ subst (λ k. went forth_by h (logs_of start es h) ≡ went forth_by k (logs_of start es k)) same refl
-      by (inr differs) = ap (went forth_by own_home) (now_other start es e come own_home differs)
+          ap (list_any (same_tx tx)) (ways_now forth_by same) ∙ (silent_forth tx said (sent_ways start forth_by h (logs_of start es h)) silent
+          ∙ ap (list_any (same_tx tx)) (sym (ways_was forth_by same)))
+      by (inr differs) = ap (λ log. list_any (same_tx tx) (sent_ways start forth_by at_home log)) (now_other start es e come at_home differs)
 
+  -- where nothing of it is sent nothing is said of it
   pub said_silent : AreSilent tx (row g e.step.taken).effects.sends → AreSilent tx said
-  said_silent silent = by (said_or g e.step.taken)
+  said_silent silent = by (tc_says g e.step.taken)
     where
-      by : (said ≡ (row g e.step.taken).effects.sends) ⊎ (said ≡ []) → AreSilent tx said
-      by (inl is) = subst (AreSilent tx) (sym is) silent
-      by (inr none) = subst (AreSilent tx) (sym none) tt
+      by : TcSays g e.step.taken (row g e.step.taken) → AreSilent tx said
+      by (takes step says) = subst (AreSilent tx) (ap (λ (f : Effects). f.sends) step.effects ∙ sym says) silent
+      by (rests same says) = subst (AreSilent tx) (sym says) tt
 
-  pub said_by_rows : has_lqh g ≡ true → AreSilent tx said
-  said_by_rows runs = subst (AreSilent tx) (sym (said_not g e.step.taken runs)) tt
+  pub given_first : h ≡ at_home → Aborts tx said → is_given_up start (logs_of start (e ∷ es)) tx ≡ true
+  given_first same aborts = ap (list_any (same_tx tx)) (ways_now back_by same) ∙ back_first tx said (sent_ways start back_by h (logs_of start es h)) aborts
 
-  pub said_is : IsTcStep g e.step.taken (row g e.step.taken) → said ≡ (row g e.step.taken).effects.sends
-  said_is step = said_all g e.step.taken (row g e.step.taken) step
-
-  pub given_first : h ≡ own_home → Aborts tx said → is_given_up start (logs_of start (e ∷ es)) tx ≡ true
-  given_first same aborts = went_home back_by same ∙ back_first tx said (sent_ways start back_by h (logs_of start es h)) aborts
-
-  pub carried_first : h ≡ own_home → (first : Outgoing) (more : List Outgoing) → said ≡ first ∷ more → is_commit tx first.body ≡ true → is_carried_out start (logs_of start (e ∷ es)) tx ≡ true
-  carried_first same first more is commits = went_home forth_by same ∙ forth_first tx said first more (sent_ways start forth_by h (logs_of start es h)) is commits
+  pub carried_first : h ≡ at_home → (first : Outgoing) (more : List Outgoing) → said ≡ first ∷ more → is_commit tx first.body ≡ true → is_carried_out start (logs_of start (e ∷ es)) tx ≡ true
+  carried_first same first more is commits =
+      ap (list_any (same_tx tx)) (ways_now forth_by same) ∙ forth_first tx said first more (sent_ways start forth_by h (logs_of start es h)) is commits

@@ -18,11 +18,11 @@ use Rattle.tc_block.specs.declared.touched.Touched.{Touched}
 use Rattle.tc_block.specs.declared.transaction.Transaction.{Transaction}
 use Rattle.tc_block.specs.Part.{part_effects}
 use Rattle.tc_block.specs.Sends.{commit_of, phase_sends}
-use Rattle.tc_block.specs.State.{TcState}
 use Rattle.tc_block.specs.Turn.{Turn, at_phase}
+use Rattle.tc_block.specs.State.{TcState}
 use Rattle.node_core.proofs.HostCases.{IsTcStep}
-use Rattle.node_core.specs.declared.host.Host.{Host}
 use Rattle.node_core.specs.Blocks.{lqh_of, tc_of}
+use Rattle.node_core.specs.declared.host.Host.{Host}
 use Rattle.node_core.specs.Row.{row}
 use Rattle.world_core.specs.Hosts.{home}
 use Rattle.world_core.specs.Machine.{after, signals_of, step_after}
@@ -33,10 +33,11 @@ use Rattle.commit_laws.specs.ReplicaLaws.{key_in}
 use Rattle.commit_laws.specs.Ways.{tc_sends}
 use Rattle.commit_laws.proofs.TcWays.{not_both}
 use Rattle.sig_core.proofs.Keys.{same_tx-self}
-use Rattle.answer_laws.proofs.Always.{few_touched}
 use Rattle.commit_laws.specs.Counts.{one_if}
+use Rattle.answer_laws.proofs.Always.{few_touched}
 use Rattle.answer_laws.proofs.TcLives.{IsOwn}
 use Rattle.answer_laws.proofs.TcSteps as answered
+use Rattle.answer_laws.proofs.TcOwes.{IsKnown}
 use Rattle.answer_laws.proofs.TcSends.{tx_in}
 use Rattle.transit_laws.specs.Circle.{IsSettled, at_host}
 use Rattle.transit_laws.specs.Completions.{IsCommittedAtAll}
@@ -46,12 +47,11 @@ use Rattle.transit_laws.specs.Live.{live_at, of_host, of_live}
 use Rattle.transit_laws.specs.Routes.{IsTouchedRouted, IsTransactionRouted, primary_host}
 use Rattle.transit_laws.specs.Transit.{AreInTransit, Comes, Takes, joined, logs_of}
 use Rattle.transit_laws.proofs.CarriedOut.{IsAlong, IsCarried, IsGoing, IsLiveAhead, IsSpread, TellsOf, along_stays}
-use Rattle.transit_laws.proofs.CarryBegins.{carried_first, carried_silent, given_first, said_by_rows, said_is, said_silent}
+use Rattle.transit_laws.proofs.CarryBegins.{carried_first, carried_silent, given_first, said_silent}
 use Rattle.transit_laws.proofs.CommitBegins.{Aborts, Begins, turn_begins}
 use Rattle.transit_laws.proofs.CommitBegins as turn
 use Rattle.transit_laws.proofs.GivenUp.{none_is_both}
 use Rattle.transit_laws.proofs.HomeSteps.{all_home, here_now, here_was, own_home}
-use Rattle.transit_laws.proofs.HostAfter.{each_host}
 use Rattle.transit_laws.proofs.HostSteps.{TxStep, aside, begins, next_number, number_rises, rows, turns, tx_step}
 use Rattle.transit_laws.proofs.Keyed.{log_keyed}
 use Rattle.transit_laws.proofs.LiveOf.{of_each}
@@ -60,8 +60,9 @@ use Rattle.transit_laws.proofs.PartSends.{commits_tell, first_commit, no_commits
 use Rattle.transit_laws.proofs.RecordsFade.{HasRecord}
 use Rattle.transit_laws.proofs.Routes.{signals_are_routed}
 use Rattle.transit_laws.proofs.SettledAlong.{settled_along}
-use Rattle.transit_laws.proofs.StepFades.{StepFades, marks_at}
+use Rattle.transit_laws.proofs.StepFades.{StepFades, marks_at, now_other, now_own}
 use Rattle.transit_laws.proofs.TcOwn.{turn_for}
+use Rattle.transit_laws.proofs.TcSaid.{tc_silent, tc_speaks}
 use Rattle.transit_laws.proofs.TxSignals.{cover, is_part, is_sign, part_tells, part_weight, request_part, sign_part, weight}
 use Rattle.transit_laws.proofs.TxTurns.{AreSilent, left_by}
 use Rattle.transit_laws.proofs.VerifiedSettled.{verified_settled}
@@ -87,6 +88,9 @@ module _ (start : Start) (es : List HostStep) (e : HostStep) (come : Comes start
     (tx : TxId) (uncarried : is_carried_out start (logs_of start es) tx ≡ false) (ungiven : is_given_up start (logs_of start es) tx ≡ false) (none : in_transit (part tx) before ≡ 0) where
   abbrev h : ℕ
   h = e.host
+
+  abbrev at_home : ℕ
+  at_home = home start tx
 
   abbrev g : Host
   g = after start h (logs_of start es h)
@@ -133,8 +137,8 @@ module _ (start : Start) (es : List HostStep) (e : HostStep) (come : Comes start
   light_of : AreSilent tx sends → Each (λ (o : Outgoing). is_part tx o.body ≡ false) sends
   light_of silent = each_map (λ (o : Outgoing). is_sign tx o.body ≡ false) (λ (o : Outgoing). is_part tx o.body ≡ false) sends (λ o f. sign_part tx o.body f) silent
 
-  silent_unsaid : AreSilent tx sends → IsFirst
-  silent_unsaid silent = unsaid (light_of silent) (carried_silent start es e come tx (said_silent start es e come tx silent))
+  quiet_first : AreSilent tx sends → IsFirst
+  quiet_first silent = unsaid (light_of silent) (carried_silent start es e come tx (said_silent start es e come tx silent))
 
   told_later : Each (λ (o : Outgoing). TellsOf start (logs_of start (e ∷ es)) tx o.body) sends → Each (λ (x : Addressed). TellsOf start (logs_of start (e ∷ es)) tx x.signal.body) later
   told_later sent =
@@ -159,8 +163,11 @@ module _ (start : Start) (es : List HostStep) (e : HostStep) (come : Comes start
     own_is : IsOwn s.node s.next_seq tx
     own_is = of_is (λ one u. IsOwn s.node s.next_seq one) (all_home start tx h (logs_of start es h)).own
 
-    same : h ≡ home start tx
+    same : h ≡ at_home
     same = own_home start es e come tx step.runs own_is.home
+
+    node_is : s.node ≡ tx.tc
+    node_is = sym own_is.home
 
     live_now : live_at start (logs_of start (e ∷ es)) tx ≡ left_by turn_is
     live_now = ap (of_host tx) (here_now start es e come tx same) ∙ left
@@ -168,13 +175,18 @@ module _ (start : Start) (es : List HostStep) (e : HostStep) (come : Comes start
     live_was : live_at start (logs_of start es) tx ≡ Some t
     live_was = ap (of_host tx) (here_was start es e come tx same) ∙ was
 
-    old_now : tx.seq < next_number (after start (home start tx) (logs_of start (e ∷ es) (home start tx)))
-    old_now = omega (arith, number_rises g e.step.taken, ap next_number (here_now start es e come tx same), own_is.early)
+    old_now : tx.seq < next_number (after start at_home (logs_of start (e ∷ es) at_home))
+    old_now = subst (λ x. tx.seq < next_number x) (sym (here_now start es e come tx same)) (omega (arith, number_rises g e.step.taken, own_is.early))
 
     -- no row is touched
     at_same : (key : List ℕ) (k : ℕ) → at_host start (logs_of start (e ∷ es)) key k ≡ at_host start (logs_of start es) key k
-    at_same key k =
-        each_host start (λ k x. key_in key x ≡ at_host start (logs_of start es) key k) es e (ap (at_key key) step.rows) (λ k. refl) k
+    at_same key k = by (cases_eq h k)
+      where
+        by : (h ≡ k) ⊎ (h ≢ k) → at_host start (logs_of start (e ∷ es)) key k ≡ at_host start (logs_of start es) key k
+        by (inr differs) = ap (λ log. key_in key (after start k log)) (now_other start es e come k differs)
+        by (inl own_host) =
+            subst (λ j. at_host start (logs_of start (e ∷ es)) key j ≡ at_host start (logs_of start es) key j) own_host
+            (ap (λ log. key_in key (after start h log)) (now_own start es e come) ∙ ap (at_key key) step.rows)
 
     fades : StepFades start (logs_of start es) (logs_of start (e ∷ es)) e tx
     fades = record {
@@ -238,12 +250,12 @@ module _ (start : Start) (es : List HostStep) (e : HostStep) (come : Comes start
             joins_weigh (cover tx u.key (length front)) start h (logs_of start es h) e between,
             ap (in_sends (cover tx u.key (length front))) part_is,
             ap (λ us. in_sends (cover tx u.key (length front)) (part_effects s.node tx (phase_sends s.layout tx (Committing epoch (length t.touched)) us) 0).sends) split,
-            part_covers tx s.node s.layout epoch (length t.touched) 0 front u back (sym own_is.home) (omega arith),
+            part_covers tx s.node s.layout epoch (length t.touched) 0 front u back node_is (omega arith),
           ));
         }
 
     said_sends : tc_sends g e.step.taken ≡ sends
-    said_sends = said_is start es e come tx step
+    said_sends = tc_speaks g e.step.taken step.runs step.at ∙ sym (ap (λ (f : Effects). f.sends) step.effects)
 
     -- with keys it is carried out then; without one there is nothing to send
     none_unless : (epoch : ℕ) (us : List Touched) → t.touched ≡ us → sends ≡ PartOf epoch → is_carried_out start (logs_of start (e ∷ es)) tx ≡ false → in_transit (part tx) later ≡ 0
@@ -256,7 +268,7 @@ module _ (start : Start) (es : List HostStep) (e : HostStep) (come : Comes start
         (said_sends ∙ (part_is ∙ (ap (λ vs. (part_effects s.node tx (phase_sends s.layout tx (Committing epoch (length t.touched)) vs) 0).sends) some_touched ∙ first.is))) (same_tx-self tx)) off
 
     turn_first : Begins s.node s.layout tx t turn_is → IsFirst
-    turn_first (turn.silent silent) = silent_unsaid (subst (AreSilent tx) (sym sent) silent)
+    turn_first (turn.silent silent) = quiet_first (subst (AreSilent tx) (sym sent) silent)
     turn_first (turn.ends over light) =
         let sends_light = subst (Each (λ (o : Outgoing). is_part tx o.body ≡ false)) (sym sent) light in
         record {
@@ -284,11 +296,11 @@ module _ (start : Start) (es : List HostStep) (e : HostStep) (come : Comes start
     its_turn = turn_first (turn_begins s.node s.layout tx t e.step.taken.body own no_part)
 
   first_by : TxStep tx g e.step.taken (row g e.step.taken) → IsFirst
-  first_by (aside same silent missed) = silent_unsaid silent
-  first_by (begins step left silent next) = silent_unsaid silent
+  first_by (aside same silent missed) = quiet_first silent
+  first_by (begins step left silent next) = quiet_first silent
   first_by (rows step) =
       unsaid (subst (λ (f : Effects). Each (λ (o : Outgoing). is_part tx o.body ≡ false) f.sends) (sym step.effects) (lqh_silent (lqh_of g) tx e.step.taken.body no_part))
-      (carried_silent start es e come tx (said_by_rows start es e come tx step.runs))
+      (carried_silent start es e come tx (subst (AreSilent tx) (sym (tc_silent g e.step.taken (λ at. let other : block.Lqh ≡ block.Tc = sym step.at ∙ at in cc))) tt))
   first_by (turns t step was own sent left) = its_turn t step was own sent left
 
   pub first_next : IsFirst
