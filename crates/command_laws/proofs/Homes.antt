@@ -15,6 +15,8 @@ use Rattle.answer_laws.specs.Answered.{AreQuiet}
 use Rattle.answer_laws.proofs.TcLives.{is_start}
 use Rattle.answer_laws.proofs.LinkCounts.{steps}
 use Rattle.row_locks.specs.Tables.{ahead_at}
+use Rattle.answer_laws.proofs.TcLives.{is_keyed}
+use Rattle.commit_laws.specs.Counts.{tally}
 
 module _ (start : Start) (tx : TxId) (h : ℕ) (log : List HostStep) where
   pub sound_at : IsSound tx (tc_of (after start h log))
@@ -46,3 +48,7 @@ ahead_rows start h log low key tx who is = ?
 -- the rows of a node stay its
 pub rows_node : (start : Start) (node : ℕ) → 1 ≤ node → node ≤ start.shape.nodes → (log : List HostStep) → (lqh_of (after start (rows_host start node) log)).node ≡ node
 rows_node start node from low log = ?
+
+-- what a coordinator has at quiet the shell's host was told of
+pub lives_begun : (start : Start) (logs : ℕ → List HostStep) → AreQuiet start logs → (tx : TxId) (h : ℕ) → h < hosts start → tally (is_keyed tx) (tc_of (after start h (logs h))).live ≤ steps (is_start tx) (logs 0)
+lives_begun start logs quiet tx h low = ?
