@@ -1,50 +1,47 @@
--- Laws that each step of a host keeps, and what is known of a node after a log.
-use Rattle.std.proofs.Common.{◌≡◌, ◌≢◌, ◌⊎◌, ℕ, suc, ◌+◌, ◌≤◌, ◌<◌, List, [], ◌∷◌, ◌++◌, Bool, true, false, refl, ap, sym, ◌∙◌, arith, inl, inr}
-use Rattle.std.specs.Prelude.{Option, None, Some}
-use Rattle.std.proofs.lemmas.Bool.{cases_lt}
-use Rattle.node_core.specs.declared.host.Host as host
-use Rattle.node_core.specs.declared.host.Host.TheVariants.{Shell, Node}
-use Rattle.node_core.specs.declared.node.Node as node
-use Rattle.node_core.specs.Dih.{dih_table}
-use Rattle.node_core.specs.Fresh.{begun_node, fresh_node}
-use Rattle.node_core.specs.Row.{node_row, row}
-use Rattle.lqh_block.specs.Lqh.{lqh_table}
+-- Laws that each step of a host keeps, and what is known of a coordinator after a log.
+use Rattle.std.proofs.Common.{◌≡◌, ◌≢◌, ◌⊎◌, ℕ, zero, suc, ◌+◌, ◌≤◌, ◌<◌, List, [], ◌∷◌, ◌++◌, Bool, true, false, refl, ap, sym, ◌∙◌, subst, arith, inl, inr}
+use Rattle.std.specs.Prelude.{◌/◌, ◌%◌, Option, None, Some, slice_index_or}
+use Rattle.std.proofs.lemmas.Bool.{cases_lt, false≢true}
+use Rattle.node_core.proofs.HostCases.{IsRowsStep, tc_stays}
+use Rattle.node_core.specs.Blocks.{has_tc, tc_of}
+use Rattle.node_core.specs.declared.host.Host.{Host}
+use Rattle.node_core.specs.Fresh.{fresh_part, fresh_shell}
+use Rattle.node_core.specs.Requests.{is_request}
+use Rattle.node_core.specs.Row.{row}
 use Rattle.run_theory.proofs.Along.{along_run, of_runs}
 use Rattle.run_theory.proofs.Runs.{log_of-other, log_of-own, log_of-past, logs_of_run}
-use Rattle.node_core.specs.Requests.{is_request}
 use Rattle.run_theory.specs.Links.{IsGiven, sent, taken}
-use Rattle.run_theory.specs.Lists.{Each, IsPast}
+use Rattle.run_theory.specs.Lists.{Each, IsIn, IsPast}
 use Rattle.run_theory.specs.Runs.{AreLogs, Happens, IsWithin, Run, log_of}
-use Rattle.world_core.specs.Steps.{HostStep}
+use Rattle.sig_core.specs.declared.member.Member.{Member}
 use Rattle.sig_core.specs.declared.member.TxId.{TxId}
 use Rattle.sig_core.specs.declared.outs.Outgoing.{Outgoing}
 use Rattle.sig_core.specs.declared.place.BlockId.{BlockId}
 use Rattle.sig_core.specs.declared.place.BlockId.TheVariants as block
+use Rattle.sig_core.specs.declared.place.Part.{Part}
+use Rattle.sig_core.specs.declared.place.Part.TheVariants.{Main, Tc, Ldm}
 use Rattle.sig_core.specs.declared.place.Place.{Place}
 use Rattle.sig_core.specs.declared.signal.Body.{Body}
-use Rattle.sig_core.specs.declared.signal.Signal.{Signal}
+use Rattle.sig_core.specs.Members.{nobody}
+use Rattle.sig_core.specs.Place.{coordinator}
 use Rattle.tc_block.specs.declared.transaction.Transaction.{Transaction}
-use Rattle.tc_block.specs.Tc.{tc_table}
+use Rattle.tc_block.specs.State.{TcState}
+use Rattle.frag_map.specs.Layout.{Layout, first_layout}
+use Rattle.frag_map.specs.Replicas.{first_start}
+use Rattle.world_core.proofs.HostNumbers.{IsNodes, addressed_rightly, given_past, tc_found, tc_started}
 use Rattle.world_core.proofs.Stamped.{stamped}
+use Rattle.world_core.specs.Hosts.{home, host_for, hosts, started, tc_host}
 use Rattle.world_core.specs.Machine.{after, machine, step_after}
-use Rattle.frag_map.specs.Layout.{first_layout}
-use Rattle.world_core.specs.Start.{Start}
-use Rattle.answer_laws.proofs.Begins.{given_past}
-use Rattle.answer_laws.proofs.Hosts.{node_after, same_node}
-use Rattle.answer_laws.proofs.Lives.{keeps}
+use Rattle.world_core.specs.Start.{Start, made}
+use Rattle.world_core.specs.Steps.{Addressed, HostStep}
+pub use Rattle.answer_laws.proofs.HostTurns.{tx_at}
+use Rattle.answer_laws.proofs.HostTurns.{HostTurn, IsAside, aside, host_turn, in_rows, starting, turning, tx_runs}
 use Rattle.answer_laws.proofs.LinkCounts.{signals}
-use Rattle.answer_laws.proofs.LqhOps.{is_lqh}
+use Rattle.answer_laws.proofs.TcLives.{IsKept, IsOwn, is_keyed, kept_move, starts_in}
+use Rattle.answer_laws.proofs.TcMoves.{TcMove, ends_in, forgets, host_moves, starts, stays, tc_view, turns}
+use Rattle.answer_laws.proofs.TcSteps.{live_home, live_in}
 use Rattle.commit_laws.proofs.Tally.{tally_past}
 use Rattle.commit_laws.specs.Counts.{tally}
-use Rattle.answer_laws.proofs.TcLives.{IsOwn, is_keyed}
-use Rattle.answer_laws.proofs.TcMoves.{node_moves, tc_view}
-use Rattle.answer_laws.proofs.TcSteps.{of_live}
-use Rattle.answer_laws.proofs.Wishes.{is_tc}
-
--- the transaction at a host's coordinator
-abbrev pub tx_at : TxId → host.Host → Option Transaction
-tx_at tx (Shell s) = None
-tx_at tx (Node n) = of_live tx n.tc.live
 
 abbrev pub is_dih : BlockId → Bool
 is_dih block.Dih = true
@@ -56,19 +53,36 @@ the_transaction t u e = cc
 pub no_transaction : {A : Type 0} (t : Transaction) → None ≡ Some t → A
 no_transaction t e = absurd cc
 
--- a step of a node is one of its blocks
-pub data NodeStep (x : node.Node) (at : BlockId) (body : Body) (now : node.Node) (sends : List Outgoing) : Type 0 where
-  of_tc : at ≡ block.Tc → now ≡ record { tc = (tc_table x.tc body).state; dih = x.dih; lqh = x.lqh } → sends ≡ (tc_table x.tc body).effects.sends → NodeStep x at body now sends
-  of_dih : at ≡ block.Dih → now ≡ record { tc = x.tc; dih = (dih_table x.dih body).state; lqh = x.lqh } → sends ≡ (dih_table x.dih body).effects.sends → NodeStep x at body now sends
-  of_lqh : at ≡ block.Lqh → now ≡ record { tc = x.tc; dih = x.dih; lqh = (lqh_table x.lqh body).state } → sends ≡ (lqh_table x.lqh body).effects.sends → NodeStep x at body now sends
-  of_none : is_tc at ≡ false → is_lqh at ≡ false → is_dih at ≡ false → now ≡ x → sends ≡ [] → NodeStep x at body now sends
+-- no move changes whose coordinator it is
+pub tc_number : (s after : TcState) (sends : List Outgoing) → TcMove s after sends → after.node ≡ s.node
+tc_number s after sends (stays is kind) = ap (λ (t : TcState). t.node) is
+tc_number s after sends (starts name is told) = ap (λ (t : TcState). t.node) is
+tc_number s after sends (turns one t u front back is now kind told) = ap (λ (t : TcState). t.node) now
+tc_number s after sends (forgets one t front back is now kind told) = ap (λ (t : TcState). t.node) now
 
-pub node_step : (x : node.Node) (at : BlockId) (body : Body) → NodeStep x at body (node_row x at body).state (node_row x at body).effects.sends
-unfolding node_row
-node_step x block.Tc body = of_tc refl refl refl
-node_step x block.Dih body = of_dih refl refl refl
-node_step x block.Lqh body = of_lqh refl refl refl
-node_step x _ body = of_none refl refl refl refl refl
+-- a part that begins has no transactions, and those that coordinate have the layout
+part_kept : (tx : TxId) (of : Part) (member : Member) (layout : Layout) (epoch : ℕ) (rows : List (List ℕ × List ℕ)) → IsKept tx (tc_of (fresh_part of member layout epoch rows)) 0 0
+unfolding fresh_part
+part_kept tx Main member layout epoch rows = record { began = omega arith; order = λ e. e; kept = λ e. e; told = λ e. e; once = omega arith; unborn = λ e. refl; own = tt }
+part_kept tx Tc member layout epoch rows = record { began = omega arith; order = λ e. e; kept = λ e. e; told = λ e. e; once = omega arith; unborn = λ e. refl; own = tt }
+part_kept tx Ldm member layout epoch rows = record { began = omega arith; order = λ e. e; kept = λ e. e; told = λ e. e; once = omega arith; unborn = λ e. refl; own = tt }
+
+part_layout : (of : Part) (member : Member) (layout : Layout) (epoch : ℕ) (rows : List (List ℕ × List ℕ)) → has_tc (fresh_part of member layout epoch rows) ≡ true
+    → (tc_of (fresh_part of member layout epoch rows)).layout ≡ layout
+unfolding fresh_part
+part_layout Main member layout epoch rows on = absurd (false≢true on)
+part_layout Tc member layout epoch rows on = refl
+part_layout Ldm member layout epoch rows on = absurd (false≢true on)
+
+part_node : (member : Member) (layout : Layout) (epoch : ℕ) (rows : List (List ℕ × List ℕ)) → (tc_of (fresh_part Tc member layout epoch rows)).node ≡ member.node
+unfolding fresh_part
+part_node member layout epoch rows = refl
+
+part_none : (tx : TxId) (of : Part) (member : Member) (layout : Layout) (epoch : ℕ) (rows : List (List ℕ × List ℕ)) → tx_at tx (fresh_part of member layout epoch rows) ≡ None
+unfolding fresh_part
+part_none tx Main member layout epoch rows = refl
+part_none tx Tc member layout epoch rows = refl
+part_none tx Ldm member layout epoch rows = refl
 
 module _ (start : Start) where
   -- host h makes the step e behind these logs
@@ -77,10 +91,11 @@ module _ (start : Start) where
     pub low : h < hosts start
     pub before : AreLogs (machine start) logs
     pub right : AreLogs (machine start) now
+    pub was_within : IsWithin (hosts start) logs
     pub within : IsWithin (hosts start) now
     pub own : now h ≡ e ∷ logs h
     pub others : (k : ℕ) → k ≢ h → now k ≡ logs k
-    pub takes : is_request e.step.taken.body ≡ false → IsGiven (machine start) e.step.taken.from.0 h (logs e.step.taken.from.0) (e.step.taken ∷ taken (machine start) e.step.taken.from.0 (logs h))
+    pub takes : is_request e.step.taken.body ≡ false → IsGiven (machine start) e.step.taken.from.0 h (logs e.step.taken.from.0) (record { to = e.host; signal = e.step.taken } ∷ taken (machine start) e.step.taken.from.0 (logs h))
 
   log_nil : (newer log : List HostStep) → [] ≡ newer ++ log → log ≡ []
   log_nil [] log is = sym is
@@ -104,13 +119,17 @@ module _ (start : Start) where
             low = under (cases_lt e.host (hosts start));
             before = logs_of_run (machine start) es run;
             right = logs_of_run (machine start) (e ∷ es) (run, happens);
+            was_within = was;
             within = in_now;
             own = log_of-own (machine start) e es e.host refl;
             others = λ k differs. log_of-other (machine start) e es k (λ same. differs (sym same));
             takes = happens.takes;
           })
-          (before (λ k high. let past = log_of-past (machine start) e es k in log_nil past.newer (log_of (machine start) es k) (sym (in_now k high) ∙ past.is)))
+          (before was)
         where
+          was : IsWithin (hosts start) (log_of (machine start) es)
+          was k high = let past = log_of-past (machine start) e es k in log_nil past.newer (log_of (machine start) es k) (sym (in_now k high) ∙ past.is)
+
           under : (e.host < hosts start) ⊎ (hosts start ≤ e.host) → e.host < hosts start
           under (inl fine) = fine
           under (inr high) = absurd (nothing (sym (log_of-own (machine start) e es e.host refl) ∙ in_now e.host high))
@@ -124,72 +143,97 @@ module _ (start : Start) where
 
   pub few_taken : (logs : ℕ → List HostStep) → AreLogs (machine start) logs → (test : Place → Body → Bool) (i j : ℕ)
       → signals test (taken (machine start) i (logs j)) ≤ signals test (sent (machine start) i j (logs i))
-  few_taken logs right test i j = tally_past (λ (x : Signal). test x.to x.body) (link logs right i j)
+  few_taken logs right test i j = tally_past (λ (x : Addressed). test x.signal.to x.signal.body) (link logs right i j)
 
-  -- a node after a log, with what is known of a transaction there
-  pub record AtNode (tx : TxId) (h : ℕ) (log : List HostStep) : Type 0 where
-    pub state : node.Node
-    pub is : after start (suc h) log ≡ Node state
-    pub layout : state.tc.layout ≡ first_layout start.shape
-    pub number : state.tc.node ≡ suc h
-    pub once : tally (is_keyed tx) state.tc.live ≤ 1
-    pub own : Each (λ (e : TxId × Transaction). IsOwn state.tc.node state.tc.next_seq e.0) state.tc.live
+  -- each step is one of the host of its signal's place
+  pub addressed : (logs now : ℕ → List HostStep) (h : ℕ) (e : HostStep) → Goes logs now h e → host_for start e.step.taken.to ≡ h
+  addressed logs now h e g = (subst (Each (λ (d : HostStep). host_for start d.step.taken.to ≡ h)) g.own (addressed_rightly start now g.right h)).0
 
-  first_node : (h : ℕ) → after start (suc h) [] ≡ Node (begun_node (h + 1) (first_layout start.shape) start.epoch start.rows)
-  unfolding fresh_node
-  first_node h = refl
+  -- what is known of a transaction at the coordinator of a host, after a log
+  pub record AtTc (tx : TxId) (h : ℕ) (log : List HostStep) : Type 0 where
+    pub once : tally (is_keyed tx) (tc_of (after start h log)).live ≤ 1
+    pub own : Each (λ (e : TxId × Transaction). IsOwn (tc_of (after start h log)).node (tc_of (after start h log)).next_seq e.0) (tc_of (after start h log)).live
 
-  first_view_is : (h : ℕ) → (begun_node (h + 1) (first_layout start.shape) start.epoch start.rows).tc.layout ≡ first_layout start.shape
-  unfolding begun_node
-  first_view_is h = refl
+  record KeptTc (tx : TxId) (h : ℕ) (log : List HostStep) : Type 0 where
+    begun : ℕ
+    ended : ℕ
+    keeps : IsKept tx (tc_of (after start h log)) begun ended
 
-  next_node : (h : ℕ) (e : HostStep) (log : List HostStep) (x : node.Node) → after start (suc h) log ≡ Node x → after start (suc h) (e ∷ log) ≡ Node (node_row x e.step.taken.to.block e.step.taken.body).state
-  unfolding row
-  next_node h e log x is = ap (λ g. (row g e.step.taken).state) is
+  started_kept : (tx : TxId) (h : ℕ) → IsKept tx (tc_of (started start h)) 0 0
+  unfolding started fresh_shell
+  started_kept tx zero = record { began = omega arith; order = λ e. e; kept = λ e. e; told = λ e. e; once = omega arith; unborn = λ e. refl; own = tt }
+  started_kept tx (suc k) = part_kept tx _ _ _ _ _
 
-  pub next_sends : (h : ℕ) (e : HostStep) (log : List HostStep) (x : node.Node) → after start (suc h) log ≡ Node x → (step_after start (suc h) log e).effects.sends ≡ (node_row x e.step.taken.to.block e.step.taken.body).effects.sends
-  unfolding row
-  next_sends h e log x is = ap (λ g. (row g e.step.taken).effects.sends) is
-
-  pub view_after : (h : ℕ) (log : List HostStep) (x : node.Node) → after start (suc h) log ≡ Node x → x.tc.layout ≡ first_layout start.shape
-  view_after h [] x is = ap (λ (y : node.Node). y.tc.layout) (same_node x _ (sym is ∙ first_node h)) ∙ first_view_is h
-  view_after h (e ∷ log) x is =
-      let n = node_after start h log in
-      ap (λ (y : node.Node). y.tc.layout) (same_node x (node_row n.state e.step.taken.to.block e.step.taken.body).state (sym is ∙ next_node h e log n.state n.is))
-      ∙ tc_view n.state.tc (node_row n.state e.step.taken.to.block e.step.taken.body).state.tc _ (node_moves n.state e.step.taken.to.block e.step.taken.body)
-      ∙ view_after h log n.state n.is
-
-  pub at_node : (tx : TxId) (h : ℕ) (log : List HostStep) → AtNode tx h log
-  at_node tx h log =
-      let k = keeps start tx h log in
-      let n = node_after start h log in
+  kept_tc : (tx : TxId) (h : ℕ) (log : List HostStep) → KeptTc tx h log
+  kept_tc tx h [] = record { begun = 0; ended = 0; keeps = started_kept tx h }
+  kept_tc tx h (e ∷ log) =
+      let k = kept_tc tx h log in
+      let t = row (after start h log) e.step.taken in
       record {
-        state = k.state;
-        is = k.is;
-        layout = view_after h log k.state k.is;
-        number = ap (λ (y : node.Node). y.tc.node) (same_node k.state n.state (sym k.is ∙ n.is)) ∙ n.number;
-        once = omega (arith, k.keeps.began, k.keeps.once);
-        own = k.keeps.own;
+        begun = starts_in tx t.effects.sends + k.begun;
+        ended = ends_in tx t.effects.sends + k.ended;
+        keeps = kept_move tx (tc_of (after start h log)) (tc_of t.state) t.effects.sends k.begun k.ended (host_moves (after start h log) e.step.taken) k.keeps;
       }
 
-  -- the node's next state and what it sends
-  pub record NextAt (h : ℕ) (e : HostStep) (log : List HostStep) (x : node.Node) : Type 0 where
-    pub now : node.Node
-    pub is : after start (suc h) (e ∷ log) ≡ Node now
-    pub sends : List Outgoing
-    pub sent_is : (step_after start (suc h) log e).effects.sends ≡ sends
-    pub step : NodeStep x e.step.taken.to.block e.step.taken.body now sends
+  pub at_tc : (tx : TxId) (h : ℕ) (log : List HostStep) → AtTc tx h log
+  at_tc tx h log = let k = kept_tc tx h log in record { once = omega (arith, k.keeps.began, k.keeps.once); own = k.keeps.own }
 
-  pub next_at : (h : ℕ) (e : HostStep) (log : List HostStep) (x : node.Node) → after start (suc h) log ≡ Node x → NextAt h e log x
-  next_at h e log x is = record {
-    now = (node_row x e.step.taken.to.block e.step.taken.body).state;
-    is = next_node h e log x is;
-    sends = (node_row x e.step.taken.to.block e.step.taken.body).effects.sends;
-    sent_is = next_sends h e log x is;
-    step = node_step x e.step.taken.to.block e.step.taken.body;
-  }
+  -- one that is live is the transaction there
+  pub live_tx : (tx : TxId) (h : ℕ) (log : List HostStep) (t : Transaction) → IsIn (tx, t) (tc_of (after start h log)).live → tx_at tx (after start h log) ≡ Some t
+  live_tx tx h log t live = live_in tx t (tc_of (after start h log)).live (at_tc tx h log).once live
+
+  -- a coordinator has the layout of the start
+  started_layout : (h : ℕ) → has_tc (started start h) ≡ true → (tc_of (started start h)).layout ≡ first_layout start.shape
+  unfolding started fresh_shell
+  started_layout zero on = absurd (false≢true on)
+  started_layout (suc k) on = part_layout _ _ _ _ _ on
+
+  pub layout_after : (h : ℕ) (log : List HostStep) → has_tc (after start h log) ≡ true → (tc_of (after start h log)).layout ≡ first_layout start.shape
+  layout_after h [] on = started_layout h on
+  layout_after h (e ∷ log) on =
+      tc_view (tc_of (after start h log)) _ _ (host_moves (after start h log) e.step.taken) ∙ layout_after h log (sym (tc_stays (after start h log) e.step.taken) ∙ on)
+
+  -- it is that of its node
+  same_number : (h : ℕ) (log : List HostStep) → (tc_of (after start h log)).node ≡ (tc_of (started start h)).node
+  same_number h [] = refl
+  same_number h (e ∷ log) = tc_number (tc_of (after start h log)) _ _ (host_moves (after start h log) e.step.taken) ∙ same_number h log
+
+  -- a coordinator's node and host
+  pub record IsTcOf (h : ℕ) (s : TcState) : Type 0 where
+    pub is : tc_host start s.node ≡ h
+    pub some : 1 ≤ s.node
+    pub few : s.node ≤ start.shape.nodes
+
+  pub tc_is : (h : ℕ) (log : List HostStep) → h < hosts start → has_tc (after start h log) ≡ true → IsTcOf h (tc_of (after start h log))
+  tc_is h log low on =
+      let n = tc_found start h log low on in
+      let number : (tc_of (after start h log)).node ≡ n.node =
+      same_number h log ∙ ap (λ k. (tc_of (started start k)).node) n.is ∙ ap (λ g. (tc_of g).node) (tc_started start n.node n.some n.low) ∙ part_node (first_start n.node) (first_layout start.shape) start.epoch start.rows in
+      record { is = ap (tc_host start) number ∙ sym n.is; some = omega (arith, number, n.some); few = omega (arith, number, n.low) }
+
+  -- a transaction is at its home
+  pub at_home : (tx : TxId) (h : ℕ) (log : List HostStep) (t : Transaction) → h < hosts start → tx_at tx (after start h log) ≡ Some t → home start tx ≡ h
+  at_home tx h log t low at =
+      ap (tc_host start) (live_home tx (tc_of (after start h log)) t at (at_tc tx h log).own) ∙ (tc_is h log low (tx_runs tx (after start h log) t at)).is
 
   -- none is there at the start
-  pub first_none : (tx : TxId) (h : ℕ) → tx_at tx (after start (suc h) []) ≡ None
-  unfolding fresh_node begun_node
-  first_none tx h = refl
+  pub first_none : (tx : TxId) (h : ℕ) → tx_at tx (after start h []) ≡ None
+  unfolding started fresh_shell
+  first_none tx zero = refl
+  first_none tx (suc k) = part_none tx _ _ _ _ _
+
+  -- a step of a host, as far as a transaction of its coordinator goes
+  pub turn_at : (tx : TxId) (h : ℕ) (log : List HostStep) (e : HostStep) → HostTurn tx (after start h log) e.step.taken (step_after start h log e)
+  turn_at tx h log e = let x = at_tc tx h log in host_turn tx (after start h log) e.step.taken x.once x.own
+
+  -- at another host than its home it is left as it is
+  pub other_turn : (tx : TxId) (h : ℕ) (log : List HostStep) (e : HostStep) → h < hosts start → h ≢ home start tx
+      → IsRowsStep (after start h log) e.step.taken (step_after start h log e) ⊎ IsAside tx (after start h log) e.step.taken (step_after start h log e)
+  other_turn tx h log e low differs = by (turn_at tx h log e)
+    where
+      by : HostTurn tx (after start h log) e.step.taken (step_after start h log e)
+          → IsRowsStep (after start h log) e.step.taken (step_after start h log e) ⊎ IsAside tx (after start h log) e.step.taken (step_after start h log e)
+      by (in_rows step) = inl step
+      by (aside step) = inr step
+      by (starting step) = absurd (differs (sym (ap (home start) step.one ∙ (tc_is h log low step.runs).is)))
+      by (turning step) = absurd (differs (sym (at_home tx h log step.was low step.there)))

@@ -1,8 +1,8 @@
 -- What is so of a coordinator's transaction whatever turns it takes; so it touches no more than 64 keys.
-use Rattle.std.proofs.Common.{◌≡◌, ◌⊎◌, ℕ, suc, ◌+◌, ◌≤◌, ◌<◌, List, [], ◌∷◌, length, Bool, true, false, refl, ap, sym, ◌∙◌, subst, arith, inl, inr}
+use Rattle.std.proofs.Common.{◌≡◌, ◌⊎◌, ℕ, ◌+◌, ◌≤◌, ◌<◌, List, [], ◌∷◌, length, Bool, true, false, refl, ap, sym, ◌∙◌, subst, arith, inl, inr}
 use Rattle.std.specs.Prelude.{◌||◌, nat_lt, is_some, if◌then◌else◌, Option, None, Some}
 use Rattle.std.proofs.lemmas.Bool.Decides.{nat_tests}
-use Rattle.node_core.specs.declared.node.Node as node
+use Rattle.node_core.specs.Blocks.{tc_of}
 use Rattle.world_core.specs.Steps.{HostStep}
 use Rattle.sig_core.specs.declared.member.Member.{Member}
 use Rattle.sig_core.specs.declared.member.TxId.{TxId}
@@ -16,82 +16,44 @@ use Rattle.tc_block.specs.declared.touched.Touched.{Touched}
 use Rattle.tc_block.specs.declared.transaction.Transaction.{Transaction}
 use Rattle.tc_block.specs.declared.phase.Phase.TheVariants.{Committing, Completing, Aborting}
 use Rattle.tc_block.specs.Abort.{aborts_awaited, is_verifying}
-use Rattle.frag_map.specs.Layout.{chain_of}
 use Rattle.tc_block.specs.Complete.{written_count}
 use Rattle.tc_block.specs.Operate.{fresh, touched_after}
 use Rattle.tc_block.specs.Sends.{entering}
 use Rattle.tc_block.specs.State.{TcState}
-use Rattle.tc_block.specs.Tc.{tc_table}
 use Rattle.tc_block.specs.Touched.{fits, place_of, touch, touched_by, unwritten, written, written_by}
 use Rattle.tc_block.specs.Turn.{Turn}
-use Rattle.world_core.specs.Machine.{after}
-use Rattle.frag_map.specs.Layout.{first_layout}
+use Rattle.world_core.specs.Machine.{after, step_after}
+use Rattle.frag_map.specs.Layout.{chain_of, first_layout}
 use Rattle.world_core.specs.Start.{Start}
 use Rattle.sig_core.proofs.Keys.{same_tx-self}
-use Rattle.answer_laws.proofs.Ahead.{AtNode, NextAt, NodeStep, at_node, first_none, next_at, of_dih, of_lqh, of_none, of_tc, tx_at}
+use Rattle.answer_laws.proofs.Ahead.{first_none, layout_after, no_transaction, the_transaction, turn_at, tx_at}
+use Rattle.answer_laws.proofs.HostTurns.{HostTurn, aside, in_rows, starting, turning}
 use Rattle.commit_laws.specs.Counts.{one_if}
 use Rattle.answer_laws.proofs.TcKeys.{key_of_tx}
 use Rattle.answer_laws.proofs.TcOwes.{last_length, set_length}
-use Rattle.answer_laws.proofs.TcSteps.{TxStep, born, elsewhere, of_live, turned, tx_step}
+use Rattle.answer_laws.proofs.TcSteps.{of_live}
 use Rattle.answer_laws.proofs.TcTurns.{GivesUp, TurnMove, abort_ends, aborted, aborts, all_completed, answers, asked_to, asks, commits, committed, completed, completes, decides, ends, gives_up, goes_on, keeps, late, refused}
 
 -- what holds of a transaction that begins, and is kept by each turn
-pub record IsStable (start : Start) (tx : TxId) (h : ℕ) (P : Transaction → Type 0) : Type 0 where
+pub record IsStable (start : Start) (tx : TxId) (P : Transaction → Type 0) : Type 0 where
   pub begins : P fresh
-  pub turns : (s : TcState) (t : Transaction) (body : Body) (turn : Turn) → s.node ≡ suc h → s.layout ≡ first_layout start.shape → TurnMove s tx t body turn → turn.over ≡ false → P t → P turn.step.state
+  pub turns : (s : TcState) (t : Transaction) (body : Body) (turn : Turn) → s.layout ≡ first_layout start.shape → TurnMove s tx t body turn → turn.over ≡ false → P t → P turn.step.state
 
-pub always : (start : Start) (tx : TxId) (h : ℕ) (P : Transaction → Type 0) → IsStable start tx h P → (log : List HostStep) (t : Transaction) → tx_at tx (after start (suc h) log) ≡ Some t → P t
-always start tx h P stable [] t at = absurd (none (sym (first_none start tx h) ∙ at))
+pub always : (start : Start) (tx : TxId) (h : ℕ) (P : Transaction → Type 0) → IsStable start tx P → (log : List HostStep) (t : Transaction) → tx_at tx (after start h log) ≡ Some t → P t
+always start tx h P stable [] t at = no_transaction t (sym (first_none start tx h) ∙ at)
+always start tx h P stable (e ∷ log) t at = next (always start tx h P stable log) (turn_at start tx h log e)
   where
-    none : None ≡ Some t → ⊥
-    none e = cc
-always start tx h P stable (e ∷ log) t at = next (always start tx h P stable log)
-  where
-    next : ((u : Transaction) → tx_at tx (after start (suc h) log) ≡ Some u → P u) → P t
-    next earlier = finish n.step
+    next : ((u : Transaction) → tx_at tx (after start h log) ≡ Some u → P u) → HostTurn tx (after start h log) e.step.taken (step_after start h log e) → P t
+    next before (in_rows step) = before t (ap (λ (s : TcState). of_live tx s.live) (sym step.tc) ∙ at)
+    next before (aside step) = before t (sym step.same ∙ at)
+    next before (starting step) = subst P (the_transaction fresh t (sym step.there ∙ at)) stable.begins
+    next before (turning step) = which step.turn.over refl
       where
-        x : AtNode start tx h log
-        x = at_node start tx h log
-
-        n : NextAt start h e log x.state
-        n = next_at start h e log x.state x.is
-
-        now : of_live tx n.now.tc.live ≡ Some t
-        now = sym (ap (tx_at tx) n.is) ∙ at
-
-        before : (u : Transaction) → of_live tx x.state.tc.live ≡ Some u → P u
-        before u there = earlier u (ap (tx_at tx) x.is ∙ there)
-
-        the_one : (u : Transaction) → Some u ≡ Some t → P u → P t
-        the_one u e p =
-            let alike : u ≡ t = cc in
-            subst P alike p
-
-        same : n.now.tc ≡ x.state.tc → P t
-        same is = before t (sym (ap (λ (s : TcState). of_live tx s.live) is) ∙ now)
-
-        finish : NodeStep x.state e.step.taken.to.block e.step.taken.body n.now n.sends → P t
-        finish (of_dih a is sends) = same (ap (λ (y : node.Node). y.tc) is)
-        finish (of_lqh a is sends) = same (ap (λ (y : node.Node). y.tc) is)
-        finish (of_none a b c is sends) = same (ap (λ (y : node.Node). y.tc) is)
-        finish (of_tc a is sends) = by (tx_step tx x.state.tc e.step.taken.body x.once x.own)
-          where
-            tc_is : of_live tx n.now.tc.live ≡ of_live tx (tc_table x.state.tc e.step.taken.body).state.live
-            tc_is = ap (λ (y : node.Node). of_live tx y.tc.live) is
-
-            by : TxStep tx x.state.tc e.step.taken.body (tc_table x.state.tc e.step.taken.body) → P t
-            by (elsewhere live kind absent) = before t (sym (tc_is ∙ live) ∙ now)
-            by (born name about one none there told) = the_one fresh (sym (tc_is ∙ there) ∙ now) stable.begins
-            by (turned u turn about one there move left told) = which turn.over refl
-              where
-                which : (b : Bool) → turn.over ≡ b → P t
-                which true over = absurd (none (sym (tc_is ∙ (left ∙ ap (λ b. if b then None else Some turn.step.state) over)) ∙ now))
-                  where
-                    none : None ≡ Some t → ⊥
-                    none e = cc
-                which false over =
-                    the_one turn.step.state (sym (tc_is ∙ (left ∙ ap (λ b. if b then None else Some turn.step.state) over)) ∙ now)
-                    (stable.turns x.state.tc u e.step.taken.body turn x.number x.layout move over (before u there))
+        which : (b : Bool) → step.turn.over ≡ b → P t
+        which true over = no_transaction t (sym (step.left ∙ ap (λ b. if b then None else Some step.turn.step.state) over) ∙ at)
+        which false over =
+            subst P (the_transaction step.turn.step.state t (sym (step.left ∙ ap (λ b. if b then None else Some step.turn.step.state) over) ∙ at))
+            (stable.turns (tc_of (after start h log)) step.was e.step.taken.body step.turn (layout_after start h log step.runs) step.move over (before step.was step.there))
 
 -- the keys that a transaction touches: one more where it is asked for an operation, and then no more than 64
 pub record Touches (tx : TxId) (t : Transaction) (body : Body) (u : Transaction) : Type 0 where
@@ -164,7 +126,7 @@ turn_touches s tx t body turn move = go move
     go (completed epoch k p is) = alike _ is refl
     go (all_completed epoch k p is) = alike _ is refl
 
-pub few_touched : (start : Start) (tx : TxId) (h : ℕ) (log : List HostStep) (t : Transaction) → tx_at tx (after start (suc h) log) ≡ Some t → length t.touched ≤ 64
+pub few_touched : (start : Start) (tx : TxId) (h : ℕ) (log : List HostStep) (t : Transaction) → tx_at tx (after start h log) ≡ Some t → length t.touched ≤ 64
 few_touched start tx h =
     always start tx h (λ t. length t.touched ≤ 64)
-    (record { begins = omega arith; turns = λ s t body turn number layout move over few. (turn_touches s tx t body turn move).few few })
+    (record { begins = omega arith; turns = λ s t body turn layout move over few. (turn_touches s tx t body turn move).few few })

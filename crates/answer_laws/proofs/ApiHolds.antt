@@ -8,6 +8,7 @@ use Rattle.sig_core.specs.declared.outs.Outgoing.{Outgoing}
 use Rattle.sig_core.specs.declared.place.BlockId.{BlockId}
 use Rattle.sig_core.specs.declared.place.BlockId.TheVariants as block
 use Rattle.sig_core.specs.declared.signal.Body.{Body}
+use Rattle.sig_core.specs.declared.signal.Signal.{Signal}
 use Rattle.sig_core.specs.declared.signal.Body.TheVariants.{Client}
 use Rattle.sig_core.specs.declared.signal.client.ClientSignal.TheVariants.{TcCommitConf, TcRollbackRep}
 use Rattle.sig_core.specs.declared.view.View.{View}
@@ -111,23 +112,23 @@ move_holds tx s body after sends (refuses name front t back about passes was is 
     }
 
 -- a step of the shell's host
-pub shell_holds : (tx : TxId) (s : ApiState) (at : BlockId) (body : Body) → AreGood s.view s.opened
-    → (tally (has_tx tx) (shell_row s at body).state.opened ≤ tally (has_tx tx) s.opened + one_if (is_api at && start_of tx body))
-    × ((is_api at && end_of tx body) ≡ true → (tally (has_tx tx) (shell_row s at body).state.opened + 1 ≤ tally (has_tx tx) s.opened) ⊎ (tally (has_tx tx) (shell_row s at body).state.opened ≡ 0))
+pub shell_holds : (tx : TxId) (s : ApiState) (at : BlockId) (x : Signal) → AreGood s.view s.opened
+    → (tally (has_tx tx) (shell_row s at x).state.opened ≤ tally (has_tx tx) s.opened + one_if (is_api at && start_of tx x.body))
+    × ((is_api at && end_of tx x.body) ≡ true → (tally (has_tx tx) (shell_row s at x).state.opened + 1 ≤ tally (has_tx tx) s.opened) ⊎ (tally (has_tx tx) (shell_row s at x).state.opened ≡ 0))
 unfolding shell_row
-shell_holds tx s block.Api body good = let h = move_holds tx s body _ _ (api_moves s body) good in (h.grows, h.ends)
-shell_holds tx s _ body good = (omega arith, λ e. absurd (false≢true e))
+shell_holds tx s block.Api x good = let h = move_holds tx s x.body _ _ (api_moves s x.body) good in (h.grows, h.ends)
+shell_holds tx s _ x good = (omega arith, λ e. absurd (false≢true e))
 
 -- in a log of the shell's host, what has ended has begun before
 abbrev pub IsOrdered : TxId → List HostStep → Type 0
 IsOrdered tx [] = Unit {0}
-IsOrdered tx (e ∷ log) = (is_end tx e.step.taken ≡ true → 1 ≤ steps (is_start tx) log) × IsOrdered tx log
+IsOrdered tx (e ∷ log) = (is_end tx e.step.taken.to e.step.taken.body ≡ true → 1 ≤ steps (is_start tx) log) × IsOrdered tx log
 
 ordered_some : (tx : TxId) (log : List HostStep) → IsOrdered tx log → 1 ≤ steps (is_end tx) log → 1 ≤ steps (is_start tx) log
 ordered_some tx [] ordered some = absurd (omega (arith, some))
-ordered_some tx (e ∷ log) ordered some = go (is_end tx e.step.taken) refl (ordered_some tx log ordered.1)
+ordered_some tx (e ∷ log) ordered some = go (is_end tx e.step.taken.to e.step.taken.body) refl (ordered_some tx log ordered.1)
   where
-    go : (b : Bool) → is_end tx e.step.taken ≡ b → (1 ≤ steps (is_end tx) log → 1 ≤ steps (is_start tx) log) → 1 ≤ steps (is_start tx) (e ∷ log)
+    go : (b : Bool) → is_end tx e.step.taken.to e.step.taken.body ≡ b → (1 ≤ steps (is_end tx) log → 1 ≤ steps (is_start tx) log) → 1 ≤ steps (is_start tx) (e ∷ log)
     go true is rest = omega (arith, ordered.0 is)
     go false is rest = omega (arith, rest (omega (arith, some, ap one_if is)))
 
@@ -140,13 +141,13 @@ module _ (start : Start) where
   pub log_holds : (tx : TxId) (log : List HostStep) → steps (is_start tx) log ≤ 1 → IsOrdered tx log → AreHeld tx (tally (has_tx tx) (opened_in (after start 0 log))) log
   log_holds tx [] once ordered = record { few = omega (arith, ap (tally (has_tx tx)) (opened_first start)); none = λ e. absurd (omega (arith, e)) }
   log_holds tx (e ∷ log) once ordered =
-      next (log_holds tx log (omega (arith, once)) ordered.1) (shell_holds tx (shell_after start log).state e.step.taken.to.block e.step.taken.body (shell_after start log).good)
+      next (log_holds tx log (omega (arith, once)) ordered.1) (shell_holds tx (shell_after start log).state e.step.taken.to.block e.step.taken (shell_after start log).good)
     where
       before : ℕ
       before = tally (has_tx tx) (shell_after start log).state.opened
 
       now : ℕ
-      now = tally (has_tx tx) (shell_row (shell_after start log).state e.step.taken.to.block e.step.taken.body).state.opened
+      now = tally (has_tx tx) (shell_row (shell_after start log).state e.step.taken.to.block e.step.taken).state.opened
 
       is_before : tally (has_tx tx) (opened_in (after start 0 log)) ≡ before
       is_before = ap (λ g. tally (has_tx tx) (opened_in g)) (shell_after start log).is
@@ -155,18 +156,18 @@ module _ (start : Start) where
       is_now = ap (tally (has_tx tx)) (opened_next start e log)
 
       next : AreHeld tx (tally (has_tx tx) (opened_in (after start 0 log))) log
-          → (now ≤ before + one_if (is_start tx e.step.taken)) × (is_end tx e.step.taken ≡ true → (now + 1 ≤ before) ⊎ (now ≡ 0))
+          → (now ≤ before + one_if (is_start tx e.step.taken.to e.step.taken.body)) × (is_end tx e.step.taken.to e.step.taken.body ≡ true → (now + 1 ≤ before) ⊎ (now ≡ 0))
           → AreHeld tx (tally (has_tx tx) (opened_in (after start 0 (e ∷ log)))) (e ∷ log)
-      next held step = record { few = omega (arith, held.few, step.0, is_before, is_now); none = λ some. by (is_end tx e.step.taken) refl some }
+      next held step = record { few = omega (arith, held.few, step.0, is_before, is_now); none = λ some. by (is_end tx e.step.taken.to e.step.taken.body) refl some }
         where
-          fewer : is_end tx e.step.taken ≡ true → tally (has_tx tx) (opened_in (after start 0 (e ∷ log))) ≡ 0
+          fewer : is_end tx e.step.taken.to e.step.taken.body ≡ true → tally (has_tx tx) (opened_in (after start 0 (e ∷ log))) ≡ 0
           fewer is = which (step.1 is)
             where
               which : (now + 1 ≤ before) ⊎ (now ≡ 0) → tally (has_tx tx) (opened_in (after start 0 (e ∷ log))) ≡ 0
               which (inl less) = omega (arith, less, held.few, once, is_before, is_now)
               which (inr zero) = omega (arith, zero, is_now)
 
-          by : (b : Bool) → is_end tx e.step.taken ≡ b → 1 ≤ steps (is_end tx) (e ∷ log) → tally (has_tx tx) (opened_in (after start 0 (e ∷ log))) ≡ 0
+          by : (b : Bool) → is_end tx e.step.taken.to e.step.taken.body ≡ b → 1 ≤ steps (is_end tx) (e ∷ log) → tally (has_tx tx) (opened_in (after start 0 (e ∷ log))) ≡ 0
           by true is some = fewer is
           by false is some =
               let ended_before : 1 ≤ steps (is_end tx) log = omega (arith, some, ap one_if is) in

@@ -6,14 +6,14 @@ use Rattle.std.proofs.lemmas.Bool.Decides.{nat_tests}
 use Rattle.node_core.specs.Requests.{is_request}
 use Rattle.run_theory.specs.Links.{is_from, sent, taken}
 use Rattle.run_theory.specs.Runs.{AreLogs}
-use Rattle.world_core.specs.Steps.{HostStep}
+use Rattle.world_core.specs.Steps.{Addressed, HostStep}
 use Rattle.sig_core.specs.declared.place.Place.{Place}
 use Rattle.sig_core.specs.declared.signal.Body.{Body}
-use Rattle.sig_core.specs.declared.signal.Signal.{Signal}
+use Rattle.world_core.proofs.HostNumbers.{given_past}
+use Rattle.world_core.specs.Hosts.{hosts}
 use Rattle.world_core.specs.Machine.{machine, step_after}
 use Rattle.world_core.specs.Start.{Start}
 use Rattle.answer_laws.proofs.Ahead.{Goes, few_taken}
-use Rattle.answer_laws.proofs.Begins.{given_past}
 use Rattle.answer_laws.proofs.LinkCounts.{all_three, signals, taken_signals}
 use Rattle.answer_laws.proofs.LqhOps.{right_of, true_and}
 use Rattle.commit_laws.proofs.Tally.{tally_past}
@@ -32,14 +32,14 @@ module _ (start : Start) (test : Place → Body → Bool) (logs now : ℕ → Li
   pub flow_taken : taken_all start (hosts start) test logs ≤ taken_all start (hosts start) test now
   flow_taken = omega (arith, taken_exact start (hosts start) test logs now h e g.low grown)
 
-  module _ (plain : is_request e.step.taken.body ≡ false) (passes : test e.step.taken ≡ true) where
+  module _ (plain : is_request e.step.taken.body ≡ false) (passes : test e.step.taken.to e.step.taken.body ≡ true) where
     -- the link that it was taken from had it
     coming : signals test (taken (machine start) e.step.taken.from.0 (logs h)) + 1 ≤ signals test (sent (machine start) e.step.taken.from.0 h (logs e.step.taken.from.0))
     coming =
         omega (
           arith,
           ap one_if passes,
-          tally_past (λ (x : Signal). test x.to x.body) (given_past start e.step.taken.from.0 h (logs e.step.taken.from.0) (e.step.taken ∷ taken (machine start) e.step.taken.from.0 (logs h)) (g.takes plain)),
+          tally_past (λ (x : Addressed). test x.signal.to x.signal.body) (given_past start e.step.taken.from.0 h (logs e.step.taken.from.0) (record { to = e.host; signal = e.step.taken } ∷ taken (machine start) e.step.taken.from.0 (logs h)) (g.takes plain)),
         )
 
     from_low : e.step.taken.from.0 < hosts start
@@ -57,8 +57,8 @@ module _ (start : Start) (test : Place → Body → Bool) (logs now : ℕ → Li
         omega (
           arith,
           taken_exact start (hosts start) test logs now h e g.low grown,
-          total_at (hosts start) (λ i. one_if (is_from (machine start) i e && test e.step.taken)) e.step.taken.from.0 from_low,
-          ap one_if (all_three (is_request e.step.taken.body) (e.step.taken.from.0 == e.step.taken.from.0) (test e.step.taken) plain (grind (arith, nat_tests)) passes),
+          total_at (hosts start) (λ i. one_if (is_from (machine start) i e && test e.step.taken.to e.step.taken.body)) e.step.taken.from.0 from_low,
+          ap one_if (all_three (is_request e.step.taken.body) (e.step.taken.from.0 == e.step.taken.from.0) (test e.step.taken.to e.step.taken.body) plain (grind (arith, nat_tests)) passes),
         )
 
     -- which was on its way
@@ -72,14 +72,14 @@ pub flow_few : (start : Start) (test : Place → Body → Bool) (logs : ℕ → 
 flow_few start test logs right = total_le (hosts start) _ _ (λ i low. total_le (hosts start) _ _ (λ j under. few_taken start logs right test i j))
 
 -- with one that is taken from a host's own link no more is taken than had been sent before
-pub flow_grows : (start : Start) (test : Place → Body → Bool) (logs now : ℕ → List HostStep) (h : ℕ) (e : HostStep) → Goes start logs now h e → is_request e.step.taken.body ≡ false → test e.step.taken ≡ true
+pub flow_grows : (start : Start) (test : Place → Body → Bool) (logs now : ℕ → List HostStep) (h : ℕ) (e : HostStep) → Goes start logs now h e → is_request e.step.taken.body ≡ false → test e.step.taken.to e.step.taken.body ≡ true
     → is_from (machine start) h e ≡ true → signals test (taken (machine start) h (now h)) ≤ signals test (sent (machine start) h h (logs h))
 flow_grows start test logs now h e g plain passes from =
     omega (
       arith,
       ap (λ log. signals test (taken (machine start) h log)) g.own,
       taken_signals start test h e (logs h),
-      ap one_if (true_and (is_from (machine start) h e) (test e.step.taken) from passes),
+      ap one_if (true_and (is_from (machine start) h e) (test e.step.taken.to e.step.taken.body) from passes),
       subst (λ j. signals test (taken (machine start) j (logs h)) + 1 ≤ signals test (sent (machine start) j h (logs j))) same (coming start test logs now h e g plain passes),
     )
   where

@@ -17,10 +17,13 @@ pub mod EpochCounts
 pub mod EpochFlow
 pub mod EpochGiven
 pub mod EpochLives
+pub mod FirstChains
 pub mod Flows
 pub mod Focus
 pub mod Heard
 pub mod Heeded
+pub mod HostSteps
+pub mod HostTurns
 pub mod Hosts
 pub mod LinkCounts
 pub mod Lives

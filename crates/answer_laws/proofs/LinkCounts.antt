@@ -1,7 +1,9 @@
 -- How many signals of a kind were sent over a link and taken from it.
-use Rattle.std.proofs.Common.{◌≡◌, ℕ, ◌+◌, ◌≤◌, List, [], ◌∷◌, length, Bool, true, false, refl, ap, arith}
+use Rattle.std.proofs.Common.{◌≡◌, ◌≢◌, ◌⊎◌, inl, inr, ℕ, ◌+◌, ◌≤◌, List, [], ◌∷◌, length, Bool, true, false, refl, ap, arith}
 use Rattle.std.specs.Prelude.{◌==◌, ◌*◌, ◌&&◌, if◌then◌else◌, not, position, Option, None, Some}
+use Rattle.std.proofs.lemmas.Bool.{cases_eq}
 use Rattle.std.proofs.lemmas.Bool.Decides.{nat_tests}
+use Rattle.node_core.specs.Requests.{is_request}
 use Rattle.run_theory.specs.Links.{is_from, put, sent, taken}
 use Rattle.run_theory.specs.Lists.{Each}
 use Rattle.world_core.specs.Steps.{Addressed, HostStep}
@@ -16,6 +18,7 @@ use Rattle.frag_map.specs.Replicas.{is_member}
 use Rattle.sig_core.specs.Part.{part_of}
 use Rattle.world_core.specs.Hosts.{first_membership, host_at, host_by, host_for, member_of, receiver}
 use Rattle.world_core.specs.Start.{Start, made}
+use Rattle.commit_laws.proofs.Tally.{and_few}
 use Rattle.commit_laws.specs.Counts.{one_if, tally}
 use Rattle.answer_laws.proofs.Wishes.{sends_of, to_node}
 
@@ -88,14 +91,10 @@ module _ (start : Start) where
   -- no more are taken from a link than are taken
   pub taken_steps : (test : Place → Body → Bool) (i : ℕ) (log : List HostStep) → signals test (taken (machine start) i log) ≤ steps test log
   taken_steps test i [] = omega arith
-  taken_steps test i (e ∷ log) = omega (arith, taken_signals test i e log, taken_steps test i log, less (is_from (machine start) i e) (test e.step.taken.to e.step.taken.body))
-    where
-      less : (a b : Bool) → one_if (a && b) ≤ one_if b
-      less true b = omega arith
-      less false b = omega arith
+  taken_steps test i (e ∷ log) = omega (arith, taken_signals test i e log, taken_steps test i log, and_few (is_from (machine start) i e) (test e.step.taken.to e.step.taken.body))
 
   -- the shell's host is the one of node 0
-  at_shell : (to : Place) → (host_for start to == 0) ≡ (to.node == 0)
+  pub at_shell : (to : Place) → (host_for start to == 0) ≡ (to.node == 0)
   unfolding receiver
   at_shell to = go (to.node == 0)
     where
@@ -121,3 +120,27 @@ module _ (start : Start) where
   pub shell_signals : (test : Place → Body → Bool) (i : ℕ) (e : HostStep) (log : List HostStep)
       → signals test (sent (machine start) i 0 (e ∷ log)) ≡ sends_of (to_node 0 test) (step_after start i log e).effects.sends + signals test (sent (machine start) i 0 log)
   shell_signals test i e log = omega (arith, sent_signals test i 0 e log, sent_to_shell test (step_after start i log e).effects.sends)
+
+  -- to one host no more is sent than to all
+  pub few_sends : (j : ℕ) (test : Place → Body → Bool) (sends : List Outgoing) → sends_of (to_host start j test) sends ≤ sends_of test sends
+  few_sends j test [] = omega arith
+  few_sends j test (x ∷ xs) = omega (arith, few_sends j test xs, and_few (host_for start x.to == j) (test x.to x.body))
+
+  -- steps that took a signal which one host alone sends took it from that host
+  pub steps_from : (test : Place → Body → Bool) (i : ℕ) → ((to : Place) (body : Body) → test to body ≡ true → is_request body ≡ false)
+      → (log : List HostStep) → ((k : ℕ) → k ≢ i → signals test (taken (machine start) k log) ≡ 0) → steps test log ≤ signals test (taken (machine start) i log)
+  steps_from test i plain [] none = omega arith
+  steps_from test i plain (e ∷ log) none =
+      go (test e.step.taken.to e.step.taken.body) refl (steps_from test i plain log (λ k differs. omega (arith, none k differs, taken_signals test k e log)))
+    where
+      from : (k : ℕ) → e.step.taken.from.0 ≡ k → test e.step.taken.to e.step.taken.body ≡ true → (is_from (machine start) k e && test e.step.taken.to e.step.taken.body) ≡ true
+      from k at is =
+          all_three (is_request e.step.taken.body) (e.step.taken.from.0 == k) (test e.step.taken.to e.step.taken.body) (plain e.step.taken.to e.step.taken.body is) (grind (arith, nat_tests, at)) is
+
+      go : (b : Bool) → test e.step.taken.to e.step.taken.body ≡ b → steps test log ≤ signals test (taken (machine start) i log) → one_if b + steps test log ≤ signals test (taken (machine start) i (e ∷ log))
+      go false is less = omega (arith, less, taken_signals test i e log)
+      go true is less = at (cases_eq e.step.taken.from.0 i)
+        where
+          at : (e.step.taken.from.0 ≡ i) ⊎ (e.step.taken.from.0 ≢ i) → one_if true + steps test log ≤ signals test (taken (machine start) i (e ∷ log))
+          at (inl same) = omega (arith, less, taken_signals test i e log, ap one_if (from i same is))
+          at (inr differs) = absurd (omega (arith, none e.step.taken.from.0 differs, taken_signals test e.step.taken.from.0 e log, ap one_if (from e.step.taken.from.0 refl is)))

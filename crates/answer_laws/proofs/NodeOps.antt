@@ -1,4 +1,4 @@
--- What a step of a node does to an operation of a transaction: it is kept at the replicas, or was answered.
+-- What a step of a coordinator does to an operation of a transaction: it is kept at the replicas, or was answered.
 use Rattle.std.proofs.Common.{◌≡◌, ◌⊎◌, ℕ, suc, ◌+◌, ◌≤◌, ◌<◌, List, [], ◌∷◌, ◌++◌, length, Bool, true, false, cond, refl, ap, sym, ◌∙◌, subst, arith, inl, inr}
 use Rattle.std.specs.Prelude.{◌&&◌, nat_lt, not, is_some, Option, None, Some}
 use Rattle.std.specs.List.{prefix_len}
@@ -32,7 +32,7 @@ use Rattle.commit_laws.proofs.Tally.{tally_append, tally_between}
 use Rattle.commit_laws.specs.Counts.{one_if, tally}
 use Rattle.answer_laws.proofs.TcLives.{IsOwn, insert_new, is_keyed}
 use Rattle.answer_laws.proofs.TcMoves.{found, IsEntry, same_tx-is, step_is}
-use Rattle.answer_laws.proofs.TcOps.{IsGoodView, TurnAsks, aborted_asks, answer_asks, asks_key, commit_asks, committed_asks, completed_asks, decide_asks, go_on_asks, is_right, operate_asks, refuse_asks, rollback_asks, wait_asks}
+use Rattle.answer_laws.proofs.TcOps.{IsGoodLayout, TurnAsks, aborted_asks, answer_asks, asks_key, commit_asks, committed_asks, completed_asks, decide_asks, go_on_asks, is_right, operate_asks, refuse_asks, rollback_asks, wait_asks}
 
 -- each of a coordinator's transactions that has an operation unanswered may have one
 abbrev pub AreRight : List (TxId × Transaction) → Type 0
@@ -195,7 +195,7 @@ module _ (n : ℕ) (tx : TxId) (key : List ℕ) where
   differs_none : (one : TxId) (at : List ℕ) → same_tx one tx ≡ false → one_if (same_tx one tx && same_key at key) ≡ 0
   differs_none one at e = ap (λ b. one_if (b && same_key at key)) e
 
-  pub tc_steps : (s : TcState) (body : Body) → AreRight s.live → tally (is_keyed tx) s.live ≤ 1 → Each (λ (e : TxId × Transaction). IsOwn s.node s.next_seq e.0) s.live → IsGoodView n s.layout
+  pub tc_steps : (s : TcState) (body : Body) → AreRight s.live → tally (is_keyed tx) s.live ≤ 1 → Each (λ (e : TxId × Transaction). IsOwn s.node s.next_seq e.0) s.live → IsGoodLayout n s.layout
       → Steps s (tc_table s body) (answers_of body)
   unfolding begin_row pass_row
   tc_steps s (Host (Continue (work.Transaction one) at)) right once own good = quiet_steps s right once one _ (λ t r. go_on_asks n one key t r s.node s.layout at)

@@ -69,12 +69,12 @@ turn_right s tx t body turn move over r = go move
     go (all_completed epoch k p is) = as_is _ is r
 
 -- such a transaction is open, or is aborted
-pub asked_may : (start : Start) (tx : TxId) (h : ℕ) (log : List HostStep) (t : Transaction) → tx_at tx (after start (suc h) log) ≡ Some t → is_right t.asked t.phase ≡ true
+pub asked_may : (start : Start) (tx : TxId) (h : ℕ) (log : List HostStep) (t : Transaction) → tx_at tx (after start h log) ≡ Some t → is_right t.asked t.phase ≡ true
 asked_may start tx h =
     always start tx h (λ t. is_right t.asked t.phase ≡ true)
-    (record { begins = refl; turns = λ s t body turn number layout move over r. turn_right s tx t body turn move over r })
+    (record { begins = refl; turns = λ s t body turn layout move over r. turn_right s tx t body turn move over r })
 
-pub asked_undecided : (start : Start) (tx : TxId) (h : ℕ) (log : List HostStep) (t : Transaction) (asked : Asked) → tx_at tx (after start (suc h) log) ≡ Some t → t.asked ≡ Some asked → is_decided t.phase ≡ false
+pub asked_undecided : (start : Start) (tx : TxId) (h : ℕ) (log : List HostStep) (t : Transaction) (asked : Asked) → tx_at tx (after start h log) ≡ Some t → t.asked ≡ Some asked → is_decided t.phase ≡ false
 asked_undecided start tx h log t asked at is = by t.phase (ap (λ o. is_right o t.phase) (sym is) ∙ asked_may start tx h log t at)
   where
     by : (phase : Phase) → may_ask phase ≡ true → is_decided phase ≡ false

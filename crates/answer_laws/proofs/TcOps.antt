@@ -8,7 +8,7 @@ use Rattle.sig_core.specs.declared.op.Answer.{Answer}
 use Rattle.sig_core.specs.declared.op.Op.{Op}
 use Rattle.sig_core.specs.declared.outcome.AbortCause.{AbortCause}
 use Rattle.sig_core.specs.declared.outcome.AbortCause.TheVariants as cause
-use Rattle.frag_map.specs.Layout.{Layout}
+use Rattle.frag_map.specs.Layout.{Layout, chain_of}
 use Rattle.sig_core.specs.Chain.{node_at}
 use Rattle.sig_core.specs.Op.{key_of}
 use Rattle.sig_core.specs.Same.{same_key, same_tx}
@@ -17,7 +17,6 @@ use Rattle.tc_block.specs.declared.phase.Phase.{Phase}
 use Rattle.tc_block.specs.declared.phase.Phase.TheVariants.{Open, Verifying, Committing, Completing, Aborting}
 use Rattle.tc_block.specs.declared.transaction.Transaction.{Transaction}
 use Rattle.tc_block.specs.Abort as abort
-use Rattle.frag_map.specs.Layout.{chain_of}
 use Rattle.tc_block.specs.Commit as commit
 use Rattle.tc_block.specs.Complete as complete
 use Rattle.tc_block.specs.Operate as operate
@@ -42,10 +41,10 @@ abbrev pub is_right : Option Asked → Phase → Bool
 is_right None phase = true
 is_right (Some asked) phase = may_ask phase
 
--- a layout whose members are nodes, of which there are some
-pub record IsGoodView (n : ℕ) (layout : Layout) : Type 0 where
-  pub good : is_good n layout.full ≡ true
-  pub first : is_node n (node_at layout.full 0) ≡ true
+-- a layout in which each key has replicas, all on nodes
+pub record IsGoodLayout (n : ℕ) (layout : Layout) : Type 0 where
+  pub good : (key : List ℕ) → is_good n (chain_of layout key) ≡ true
+  pub first : (key : List ℕ) → is_node n (node_at (chain_of layout key) 0) ≡ true
 
 right_asking : (asked : Option Asked) (phase : Phase) → may_ask phase ≡ true → is_right asked phase ≡ true
 right_asking None phase e = refl
@@ -83,8 +82,8 @@ module _ (n : ℕ) (tx : TxId) (key : List ℕ) where
         go true = record { right = right; asks = λ e. inl (e, refl) }
         go false = record { right = right; asks = λ e. inl (e, refl) }
 
-    pub operate_asks : (layout : Layout) (op : Op) → IsGoodView n layout → KeepsAsked t (going (operate.operate_row layout tx t op))
-    unfolding operate.operate_row chain_of
+    pub operate_asks : (layout : Layout) (op : Op) → IsGoodLayout n layout → KeepsAsked t (going (operate.operate_row layout tx t op))
+    unfolding operate.operate_row
     operate_asks layout op good = go (operate.can_operate t op) refl
       where
         go : (b : Bool) → operate.can_operate t op ≡ b → KeepsAsked t (going (operate.operate_if layout tx t op b))
@@ -92,7 +91,8 @@ module _ (n : ℕ) (tx : TxId) (key : List ℕ) where
         go true e = record {
           right = (ready_asks t.phase t.asked (left_of (operate.is_ready t.phase t.asked) _ e)).0;
           asks = λ asked. inr (
-              let one = true_and (is_node n (node_at layout.full 0)) _ good.first (true_and (same_tx tx tx) _ (same_tx-self tx) (true_and (same_key (key_of op) key) (is_good n layout.full) asked good.good)) in
+              let chain = chain_of layout (key_of op) in
+              let one = true_and (is_node n (node_at chain 0)) _ (good.first (key_of op)) (true_and (same_tx tx tx) _ (same_tx-self tx) (true_and (same_key (key_of op) key) (is_good n chain) asked (good.good (key_of op)))) in
               omega (arith, ap one_if one)
               );
         }

@@ -4,7 +4,7 @@ use Rattle.std.proofs.lemmas.Bool.{or_cases}
 use Rattle.std.specs.List.{list_any}
 use Rattle.run_theory.specs.Lists.{Each, IsPast}
 use Rattle.run_theory.proofs.Pasts.{in_past}
-use Rattle.world_core.specs.Steps.{HostStep}
+use Rattle.world_core.specs.Steps.{Addressed, HostStep}
 use Rattle.sig_core.specs.declared.mark.Mark.{Mark}
 use Rattle.sig_core.specs.declared.mark.Mark.TheVariants as mark
 use Rattle.sig_core.specs.declared.member.TxId.{TxId}
@@ -12,12 +12,13 @@ use Rattle.sig_core.specs.declared.outcome.Outcome.TheVariants as outcome
 use Rattle.sig_core.specs.declared.signal.Body.{Body}
 use Rattle.sig_core.specs.declared.signal.Body.TheVariants.{Client, Chain, Epoch}
 use Rattle.sig_core.specs.declared.signal.chain.ChainSignal.TheVariants.{Commit}
-use Rattle.sig_core.specs.declared.signal.Signal.{Signal}
 use Rattle.sig_core.specs.declared.signal.client.ClientSignal.TheVariants.{TcBeginConf, TcCommitReq, TcCommitConf}
 use Rattle.sig_core.specs.declared.signal.epoch.EpochSignal.TheVariants.{DiVerifyReq, DiVerifyConf}
 use Rattle.sig_core.proofs.TxLemmas.{same_tx-is}
 use Rattle.node_core.specs.Requests.{is_request}
 use Rattle.world_core.specs.History.{is_reported}
+use Rattle.world_core.specs.Hosts.{home}
+use Rattle.world_core.specs.Start.{Start}
 use Rattle.commit_laws.specs.Causes.{IsDecidedBelow, IsToldBelow, is_decision}
 use Rattle.commit_laws.specs.Kinds.{Kind, kind_of}
 use Rattle.commit_laws.specs.Kinds as kind
@@ -47,46 +48,48 @@ decided_more small large tx a b past le is = record {
   below = omega (arith, is.below, le);
 }
 
--- what a signal tells of the logs
-abbrev pub Says : (ℕ → List HostStep) → Signal → Kind → Type 0
-Says logs x (kind.begun tx) = x.from.0 ≡ tx.tc
-Says logs x (kind.wanted tx) = IsToldBelow logs tx (x.stamp + 1)
-Says logs x (kind.verified tx) = IsToldBelow logs tx (x.stamp + 1) × (x.from.0 ≡ tx.tc) × (x.to.node ≡ tx.tc)
-Says logs x (kind.decided tx) = IsDecidedBelow logs tx (x.stamp + 1)
-Says logs x (kind.committing tx) = IsDecidedBelow logs tx (x.stamp + 1)
-Says logs x (kind.ended tx) = IsDecidedBelow logs tx (x.stamp + 1)
-Says logs x kind.other = Unit {0}
+module _ (start : Start) where
+  -- what a signal tells of the logs
+  abbrev pub Says : (ℕ → List HostStep) → Addressed → Kind → Type 0
+  Says logs x (kind.begun tx) = x.signal.from.0 ≡ home start tx
+  Says logs x (kind.wanted tx) = IsToldBelow logs tx (x.signal.stamp + 1)
+  Says logs x (kind.verified tx) = IsToldBelow logs tx (x.signal.stamp + 1) × (x.signal.from.0 ≡ home start tx) × (x.to ≡ home start tx)
+  Says logs x (kind.decided tx) = IsDecidedBelow logs tx (x.signal.stamp + 1)
+  Says logs x (kind.committing tx) = IsDecidedBelow logs tx (x.signal.stamp + 1)
+  Says logs x (kind.ended tx) = IsDecidedBelow logs tx (x.signal.stamp + 1)
+  Says logs x kind.other = Unit {0}
 
-abbrev pub SignalSays : Signal → (ℕ → List HostStep) → Type 0
-SignalSays x logs = Says logs x (kind_of x.body)
+  abbrev pub SignalSays : Addressed → (ℕ → List HostStep) → Type 0
+  SignalSays x logs = Says logs x (kind_of x.signal.body)
 
-pub says_more : (small large : ℕ → List HostStep) (x : Signal) (k : Kind) → ((h : ℕ) → IsPast (small h) (large h)) → Says small x k → Says large x k
-says_more small large x (kind.begun tx) past says = says
-says_more small large x (kind.wanted tx) past says = told_more small large tx (x.stamp + 1) (x.stamp + 1) past (omega arith) says
-says_more small large x (kind.verified tx) past says = (told_more small large tx (x.stamp + 1) (x.stamp + 1) past (omega arith) says.0, says.1, says.2)
-says_more small large x (kind.decided tx) past says = decided_more small large tx (x.stamp + 1) (x.stamp + 1) past (omega arith) says
-says_more small large x (kind.committing tx) past says = decided_more small large tx (x.stamp + 1) (x.stamp + 1) past (omega arith) says
-says_more small large x (kind.ended tx) past says = decided_more small large tx (x.stamp + 1) (x.stamp + 1) past (omega arith) says
-says_more small large x kind.other past says = tt
+  pub says_more : (small large : ℕ → List HostStep) (x : Addressed) (k : Kind) → ((h : ℕ) → IsPast (small h) (large h)) → Says small x k → Says large x k
+  says_more small large x (kind.begun tx) past says = says
+  says_more small large x (kind.wanted tx) past says = told_more small large tx (x.signal.stamp + 1) (x.signal.stamp + 1) past (omega arith) says
+  says_more small large x (kind.verified tx) past says = (told_more small large tx (x.signal.stamp + 1) (x.signal.stamp + 1) past (omega arith) says.0, says.1, says.2)
+  says_more small large x (kind.decided tx) past says = decided_more small large tx (x.signal.stamp + 1) (x.signal.stamp + 1) past (omega arith) says
+  says_more small large x (kind.committing tx) past says = decided_more small large tx (x.signal.stamp + 1) (x.signal.stamp + 1) past (omega arith) says
+  says_more small large x (kind.ended tx) past says = decided_more small large tx (x.signal.stamp + 1) (x.signal.stamp + 1) past (omega arith) says
+  says_more small large x kind.other past says = tt
 
--- a decision in a step, and a report
-pub record DecidesAt (logs : ℕ → List HostStep) (e : HostStep) (tx : TxId) : Type 0 where
-  pub told : IsToldBelow logs tx e.step.stamp
-  pub from : e.step.taken.from.0 ≡ tx.tc
-  pub to : e.host ≡ tx.tc
-  pub took : kind_of e.step.taken.body ≡ kind.verified tx
+  -- a decision in a step
+  pub record DecidesAt (logs : ℕ → List HostStep) (e : HostStep) (tx : TxId) : Type 0 where
+    pub told : IsToldBelow logs tx e.step.stamp
+    pub from : e.step.taken.from.0 ≡ home start tx
+    pub to : e.host ≡ home start tx
+    pub took : kind_of e.step.taken.body ≡ kind.verified tx
 
-abbrev pub DecidesRightly : (ℕ → List HostStep) → HostStep → Type 0
-DecidesRightly logs e = (tx : TxId) → list_any (is_decision tx) e.step.marks ≡ true → DecidesAt logs e tx
+  abbrev pub DecidesRightly : (ℕ → List HostStep) → HostStep → Type 0
+  DecidesRightly logs e = (tx : TxId) → list_any (is_decision tx) e.step.marks ≡ true → DecidesAt logs e tx
 
+  abbrev pub BeginsRightly : HostStep → Type 0
+  BeginsRightly e = (tx : TxId) → kind_of e.step.taken.body ≡ kind.begun tx → e.step.taken.from.0 ≡ home start tx
+
+-- and a report
 abbrev pub ReportsRightly : (ℕ → List HostStep) → HostStep → Type 0
 ReportsRightly logs e = (tx : TxId) → list_any (is_reported tx) e.step.marks ≡ true → IsDecidedBelow logs tx e.step.stamp
 
 abbrev pub CommitsRightly : (ℕ → List HostStep) → HostStep → Type 0
 CommitsRightly logs e = (tx : TxId) → kind_of e.step.taken.body ≡ kind.committing tx → IsDecidedBelow logs tx e.step.stamp
-
-abbrev pub BeginsRightly : HostStep → Type 0
-BeginsRightly e = (tx : TxId) → kind_of e.step.taken.body ≡ kind.begun tx → e.step.taken.from.0 ≡ tx.tc
 
 pub decision_of : (taken : Kind) (marks : List Mark) (tx : TxId) → Each (Decides taken) marks → list_any (is_decision tx) marks ≡ true → taken ≡ kind.verified tx
 decision_of taken [] tx all is = absurd cc

@@ -1,7 +1,5 @@
 -- Epochs never fall along the history, and the first view is the only one.
-use Rattle.std.proofs.Common.{◌≡◌, ◌≤◌, ◌<◌, ℕ, zero, suc, Bool, true, false, List, [], ◌∷◌, ◌++◌, refl, sym, ap, ◌∙◌, subst, arith}
-use Rattle.std.specs.List.{list_any}
-use Rattle.std.specs.Prelude.{◌/◌, ◌==◌, ◌||◌}
+use Rattle.std.proofs.Common.{◌≡◌, ◌≤◌, ℕ, zero, suc, List, [], ◌∷◌, refl, sym, ap, ◌∙◌, subst, arith}
 use Rattle.run_theory.specs.Lists.{Each}
 use Rattle.run_theory.specs.Logs.{IsLog, IsStep}
 use Rattle.run_theory.specs.Runs.{AreLogs}
@@ -11,21 +9,23 @@ use Rattle.sig_core.specs.declared.entry.Entry.{Entry}
 use Rattle.world_core.specs.Steps.{HostStep}
 use Rattle.sig_core.specs.declared.mark.Mark.{Mark}
 use Rattle.sig_core.specs.declared.mark.Mark.TheVariants as mark
-use Rattle.sig_core.specs.declared.member.Member.{Member}
 use Rattle.sig_core.specs.declared.view.View.{View}
 use Rattle.world_core.specs.Entries.{entries_in, entries_of}
 use Rattle.world_core.specs.History.{history}
 use Rattle.world_core.specs.Hosts.{hosts}
 use Rattle.world_core.specs.Machine.{after, machine}
 use Rattle.world_core.specs.SerialLaw.{AreEpochsOrdered}
-use Rattle.frag_map.specs.Layout.{first_view, members}
+use Rattle.frag_map.specs.Groups.{is_viable}
+use Rattle.frag_map.specs.Layout.{first_view}
+use Rattle.frag_map.proofs.FirstReplicas.{first_viable}
 use Rattle.world_core.specs.Start.{Start}
-use Rattle.world_core.specs.Views.{greatest_below, greatest_in, greatest_of, group_of, is_viable}
+use Rattle.world_core.specs.Views.{greatest_below, greatest_in, greatest_of}
 use Rattle.world_core.proofs.Stamped.{stamped}
 use Rattle.commit_laws.specs.Laws.{EpochsNeverFall, GreatestViewIsFirst, GreatestViewIsViable, IsClosedCut}
 use Rattle.commit_laws.proofs.EachEntry.{each_kept}
-use Rattle.commit_laws.proofs.HostMarks.{AreMarks, IsIn, decides, plain, row_epoch, row_marks, started_epoch}
+use Rattle.commit_laws.proofs.HostMarks.{AreMarks, IsIn, decides, plain, row_epoch, row_marks}
 use Rattle.commit_laws.proofs.PlainMarks.{ArePlain}
+use Rattle.commit_laws.proofs.StartedHosts.{started_epoch}
 
 -- a closed cut of right logs is right logs itself
 pub inside_right : (start : Start) (inside logs : ℕ → List HostStep) → IsClosedCut start inside logs → AreLogs (machine start) inside
@@ -85,25 +85,5 @@ epochs_ordered start inside logs is =
 pub view_first : GreatestViewIsFirst
 view_first start inside logs is = logs_greatest start (hosts start) inside (first_view start.shape.nodes) (inside_right start inside logs is)
 
-any_or : (b one both : Bool) → (b || one) ≡ true → (one ≡ true → both ≡ true) → (b || both) ≡ true
-any_or true one both is more = refl
-any_or false one both is more = more is
-
-any_append : {A : Type 0} (test : A → Bool) (xs ys : List A) → list_any test xs ≡ true → list_any test (xs ++ ys) ≡ true
-any_append test [] ys is = absurd cc
-any_append test (x ∷ xs) ys is = any_or (test x) (list_any test xs) (list_any test (xs ++ ys)) is (any_append test xs ys)
-
--- node 1 is one of so many, and of group 0
-first_there : (replicas n : ℕ) → list_any (λ (m : Member). group_of replicas m.node == 0) (members (suc n)) ≡ true
-first_there replicas zero = group_zero replicas
-  where
-    group_zero : (replicas : ℕ) → ((0 / replicas == 0) || false) ≡ true
-    group_zero replicas = grind arith
-first_there replicas (suc n) = any_append (λ (m : Member). group_of replicas m.node == 0) (members (suc n)) _ (first_there replicas n)
-
-viable : (n : ℕ) → 0 < n → is_viable 1 n (first_view n) ≡ true
-viable zero pos = absurd (omega (arith, pos))
-viable (suc n) pos = rw (first_there (suc n) n) refl
-
 pub view_viable : GreatestViewIsViable
-view_viable start inside logs pos is = ap (is_viable 1 start.shape.nodes) (view_first start inside logs is) ∙ viable start.shape.nodes pos
+view_viable start inside logs shape is = ap (is_viable start.shape) (view_first start inside logs is) ∙ first_viable start.shape shape

@@ -1,5 +1,5 @@
 -- What a host says and marks of how transactions come to be decided.
-use Rattle.std.proofs.Common.{◌≡◌, ℕ, Bool, true, false, List, [], ◌∷◌, ◌||◌, refl, sym, ap, ◌∙◌, subst, subst₂}
+use Rattle.std.proofs.Common.{◌≡◌, ◌⊎◌, inl, inr, ℕ, Bool, true, false, List, [], ◌∷◌, ◌||◌, refl, sym, ap, ◌∙◌, subst}
 use Rattle.std.specs.List.{list_any}
 use Rattle.std.specs.Prelude.{nat_lt, length}
 use Rattle.run_theory.specs.Lists.{Each}
@@ -8,21 +8,25 @@ use Rattle.sig_core.specs.declared.mark.Mark.{Mark}
 use Rattle.sig_core.specs.declared.mark.Mark.TheVariants as mark
 use Rattle.sig_core.specs.declared.member.TxId.{TxId}
 use Rattle.sig_core.specs.declared.outs.Outgoing.{Outgoing}
-use Rattle.sig_core.specs.declared.place.BlockId.{BlockId}
 use Rattle.sig_core.specs.declared.place.BlockId.TheVariants as block
-use Rattle.sig_core.specs.declared.place.Place.{Place}
 use Rattle.sig_core.specs.declared.signal.Body.{Body}
 use Rattle.sig_core.specs.declared.signal.Body.TheVariants.{Epoch}
+use Rattle.sig_core.specs.declared.signal.Signal.{Signal}
 use Rattle.sig_core.specs.declared.signal.epoch.EpochSignal.TheVariants.{DiVerifyReq}
 use Rattle.sig_core.specs.Place.{epochs}
 use Rattle.sig_core.specs.Same.{same_tx}
-use Rattle.sig_core.specs.Step.{Step}
+use Rattle.sig_core.specs.Step.{Effects, Step, stay}
+use Rattle.api_block.specs.Api.{api_table}
 use Rattle.api_block.specs.State.{ApiState}
+use Rattle.lqh_block.specs.Lqh.{lqh_table}
+use Rattle.tc_block.specs.State.{TcState}
+use Rattle.tc_block.specs.Tc.{tc_table}
 use Rattle.node_core.specs.declared.host.Host.{Host}
-use Rattle.node_core.specs.declared.host.Host.TheVariants.{Shell, Node}
-use Rattle.node_core.specs.declared.node.Node as node
+use Rattle.node_core.specs.declared.host.Host.TheVariants.{Shell, Main, Tc, Ldm}
+use Rattle.node_core.specs.Blocks.{api_of, dih_of, has_api, has_lqh, has_tc, lqh_of, tc_of}
 use Rattle.node_core.specs.Dih.{DihState, decide_if, decide_row, dih_table}
-use Rattle.node_core.specs.Row.{node_row, row, shell_row}
+use Rattle.node_core.specs.Row.{row}
+use Rattle.node_core.proofs.HostCases.{BlockCase, IsApiStep, IsDihStep, IsRowsStep, IsTcStep, api_takes, block_case, dih_takes, none_takes, rows_take, tc_takes}
 use Rattle.commit_laws.specs.Causes.{is_decision}
 use Rattle.commit_laws.specs.Kinds.{Kind, kind_of}
 use Rattle.commit_laws.specs.Kinds as kind
@@ -35,40 +39,40 @@ use Rattle.commit_laws.proofs.PlainMarks.{ArePlain, is_plain}
 use Rattle.commit_laws.proofs.TcMarks.{tc_marks}
 use Rattle.commit_laws.proofs.TcNumbers.{AllSayAt, IsNumbered, SaysAt, Tells, begun_by, put_kinds, tc_numbered, verified_by}
 
--- what a signal of host h says, of a step that took this and has these marks
-abbrev pub HostSays : ℕ → (T D : TxId → Type 0) → Kind → List Mark → Outgoing → Kind → Type 0
-HostSays h T D taken marks o (kind.begun tx) = tx.tc ≡ h
-HostSays h T D taken marks o (kind.wanted tx) = T tx
-HostSays h T D taken marks o (kind.verified tx) = (taken ≡ kind.wanted tx) × (tx.tc ≡ h) × (o.to ≡ epochs h)
-HostSays h T D taken marks o (kind.decided tx) = list_any (is_decision tx) marks ≡ true
-HostSays h T D taken marks o (kind.committing tx) = D tx
-HostSays h T D taken marks o (kind.ended tx) = D tx
-HostSays h T D taken marks o kind.other = Unit {0}
+-- what a signal of a host says, of a step that took this and has these marks
+abbrev pub HostSays : (Own T D : TxId → Type 0) → Kind → List Mark → Outgoing → Kind → Type 0
+HostSays Own T D taken marks o (kind.begun tx) = Own tx
+HostSays Own T D taken marks o (kind.wanted tx) = T tx
+HostSays Own T D taken marks o (kind.verified tx) = (taken ≡ kind.wanted tx) × Own tx × (o.to ≡ epochs tx.tc)
+HostSays Own T D taken marks o (kind.decided tx) = list_any (is_decision tx) marks ≡ true
+HostSays Own T D taken marks o (kind.committing tx) = D tx
+HostSays Own T D taken marks o (kind.ended tx) = D tx
+HostSays Own T D taken marks o kind.other = Unit {0}
 
 -- a decision is one of a transaction for which an epoch was asked
 abbrev pub Decides : Kind → Mark → Type 0
 Decides taken (mark.Decided tx epoch) = taken ≡ kind.verified tx
 Decides taken m = Unit {0}
 
-abbrev pub ReportsIf : Host → Kind → List Mark → Type 0
-ReportsIf (Shell s) taken marks = Each (Reports taken) marks
-ReportsIf (Node n) taken marks = Unit {0}
+-- what is true of a host with the coordinator of this node, which said these to have begun and asked for an epoch for those
+pub record HostKnows (node : ℕ) (T D : TxId → Type 0) (s : Host) (begun_yet verified : List TxId) : Type 0 where
+  pub told : AreTold T (api_of s).opened
+  pub numbered : IsNumbered node D (tc_of s) begun_yet verified
 
--- what is true of host h, which said these to have begun and asked for an epoch for those
-abbrev pub HostKnows : ℕ → (T D : TxId → Type 0) → Host → List TxId → List TxId → Type 0
-HostKnows h T D (Shell s) begun_yet verified = AreTold T s.opened × (begun_yet ≡ []) × (verified ≡ [])
-HostKnows h T D (Node n) begun_yet verified = IsNumbered h D n.tc begun_yet verified
-
--- the shell's host was told of a beginning truly
-abbrev pub TellsIf : Host → (TxId → Type 0) → Kind → Type 0
-TellsIf (Shell s) T taken = TellsBegun T taken
-TellsIf (Node n) T taken = Unit {0}
-
-pub record HostGoes (h : ℕ) (T D : TxId → Type 0) (taken : Kind) (begun_yet verified : List TxId) (step : Step Host) : Type 0 where
-  pub knows : HostKnows h T D step.state (put_kinds begun_by step.effects.sends begun_yet) (put_kinds verified_by step.effects.sends verified)
-  pub says : Each (λ (o : Outgoing). HostSays h T D taken step.effects.marks o (kind_of o.body)) step.effects.sends
+-- a step that took this, of a host that was of this kind
+pub record HostGoes (node : ℕ) (Own T D : TxId → Type 0) (before : Host) (taken : Kind) (begun_yet verified : List TxId) (step : Step Host) : Type 0 where
+  pub knows : HostKnows node T D step.state (put_kinds begun_by step.effects.sends begun_yet) (put_kinds verified_by step.effects.sends verified)
+  pub says : Each (λ (o : Outgoing). HostSays Own T D taken step.effects.marks o (kind_of o.body)) step.effects.sends
   pub decides : Each (Decides taken) step.effects.marks
-  pub reports : ReportsIf step.state taken step.effects.marks
+  pub reports : has_api before ≡ true → Each (Reports taken) step.effects.marks
+
+-- the shell's host runs nothing else
+api_alone : (s : Host) → has_api s ≡ true → (has_lqh s ≡ true) ⊎ (has_tc s ≡ true) → ⊥
+api_alone (Shell a) api (inl rows) = cc
+api_alone (Shell a) api (inr tc) = cc
+api_alone (Main m) api other = cc
+api_alone (Tc p) api other = cc
+api_alone (Ldm l) api other = cc
 
 plain_decides : (taken : Kind) (marks : List Mark) → ArePlain marks → Each (Decides taken) marks
 plain_decides taken marks plain = each_map (λ m. is_plain m ≡ true) (Decides taken) marks by plain
@@ -92,12 +96,12 @@ rows_none f none committing taken (o ∷ more) before all = ap (put_kinds f more
     by (kind.ended tx) says = absurd says
     by kind.other says = none before
 
-module _ (h : ℕ) (T D : TxId → Type 0) where
+module _ (node : ℕ) (Own T D : TxId → Type 0) where
   rows_say : (taken : Kind) → Tells D taken → (marks : List Mark) (sends : List Outgoing) → Each (λ (o : Outgoing). RowsSay taken (kind_of o.body)) sends
-      → Each (λ (o : Outgoing). HostSays h T D taken marks o (kind_of o.body)) sends
-  rows_say taken tells marks sends all = each_map (λ (o : Outgoing). RowsSay taken (kind_of o.body)) (λ (o : Outgoing). HostSays h T D taken marks o (kind_of o.body)) sends (λ o. by o (kind_of o.body)) all
+      → Each (λ (o : Outgoing). HostSays Own T D taken marks o (kind_of o.body)) sends
+  rows_say taken tells marks sends all = each_map (λ (o : Outgoing). RowsSay taken (kind_of o.body)) (λ (o : Outgoing). HostSays Own T D taken marks o (kind_of o.body)) sends (λ o. by o (kind_of o.body)) all
     where
-      by : (o : Outgoing) (k : Kind) → RowsSay taken k → HostSays h T D taken marks o k
+      by : (o : Outgoing) (k : Kind) → RowsSay taken k → HostSays Own T D taken marks o k
       by o (kind.begun tx) says = absurd says
       by o (kind.wanted tx) says = absurd says
       by o (kind.verified tx) says = absurd says
@@ -106,23 +110,24 @@ module _ (h : ℕ) (T D : TxId → Type 0) where
       by o (kind.ended tx) says = absurd says
       by o kind.other says = tt
 
-  tc_says : (taken : Kind) (marks : List Mark) (sends : List Outgoing) → AllSayAt h D taken sends → Each (λ (o : Outgoing). HostSays h T D taken marks o (kind_of o.body)) sends
-  tc_says taken marks sends all = each_map (λ (o : Outgoing). SaysAt h D taken o (kind_of o.body)) (λ (o : Outgoing). HostSays h T D taken marks o (kind_of o.body)) sends (λ o. by o (kind_of o.body)) all
+  tc_says : (taken : Kind) (marks : List Mark) (sends : List Outgoing) → ((tx : TxId) → tx.tc ≡ node → Own tx) → AllSayAt node D taken sends
+      → Each (λ (o : Outgoing). HostSays Own T D taken marks o (kind_of o.body)) sends
+  tc_says taken marks sends own all = each_map (λ (o : Outgoing). SaysAt node D taken o (kind_of o.body)) (λ (o : Outgoing). HostSays Own T D taken marks o (kind_of o.body)) sends (λ o. by o (kind_of o.body)) all
     where
-      by : (o : Outgoing) (k : Kind) → SaysAt h D taken o k → HostSays h T D taken marks o k
-      by o (kind.begun tx) says = says
+      by : (o : Outgoing) (k : Kind) → SaysAt node D taken o k → HostSays Own T D taken marks o k
+      by o (kind.begun tx) says = own tx says
       by o (kind.wanted tx) says = absurd says
-      by o (kind.verified tx) says = says
+      by o (kind.verified tx) says = (says.0, own tx says.1, says.2 ∙ ap epochs (sym says.1))
       by o (kind.decided tx) says = absurd says
       by o (kind.committing tx) says = says
       by o (kind.ended tx) says = says
       by o kind.other says = tt
 
   api_says : (taken : Kind) (marks : List Mark) (sends : List Outgoing) → Each (λ (o : Outgoing). ApiSays T (kind_of o.body)) sends
-      → Each (λ (o : Outgoing). HostSays h T D taken marks o (kind_of o.body)) sends
-  api_says taken marks sends all = each_map (λ (o : Outgoing). ApiSays T (kind_of o.body)) (λ (o : Outgoing). HostSays h T D taken marks o (kind_of o.body)) sends (λ o. by o (kind_of o.body)) all
+      → Each (λ (o : Outgoing). HostSays Own T D taken marks o (kind_of o.body)) sends
+  api_says taken marks sends all = each_map (λ (o : Outgoing). ApiSays T (kind_of o.body)) (λ (o : Outgoing). HostSays Own T D taken marks o (kind_of o.body)) sends (λ o. by o (kind_of o.body)) all
     where
-      by : (o : Outgoing) (k : Kind) → ApiSays T k → HostSays h T D taken marks o k
+      by : (o : Outgoing) (k : Kind) → ApiSays T k → HostSays Own T D taken marks o k
       by o (kind.begun tx) says = absurd says
       by o (kind.wanted tx) says = says
       by o (kind.verified tx) says = absurd says
@@ -147,7 +152,7 @@ module _ (h : ℕ) (T D : TxId → Type 0) where
 
   -- the block of epochs
   record DihGoes (taken : Kind) (step : Step DihState) : Type 0 where
-    says : Each (λ (o : Outgoing). HostSays h T D taken step.effects.marks o (kind_of o.body)) step.effects.sends
+    says : Each (λ (o : Outgoing). HostSays Own T D taken step.effects.marks o (kind_of o.body)) step.effects.sends
     begun_same : (before : List TxId) → put_kinds begun_by step.effects.sends before ≡ before
     verified_same : (before : List TxId) → put_kinds verified_by step.effects.sends before ≡ before
     decides : Each (Decides taken) step.effects.marks
@@ -168,54 +173,96 @@ module _ (h : ℕ) (T D : TxId → Type 0) where
   dih_goes s (Epoch (DiVerifyReq tx ops)) = verify_goes s tx
   dih_goes s _ = record { says = tt; begun_same = λ before. refl; verified_same = λ before. refl; decides = tt }
 
-  node_goes : (n : node.Node) (at : BlockId) (body : Body) (begun_yet verified : List TxId) → IsNumbered h D n.tc begun_yet verified → Tells D (kind_of body)
-      → HostGoes h T D (kind_of body) begun_yet verified (record { state = Node (node_row n at body).state; effects = (node_row n at body).effects })
-  unfolding node_row
-  node_goes n block.Tc body begun_yet verified numbered tells =
-      let goes = tc_numbered h D n.tc begun_yet verified body numbered tells in
-      record {
-        knows = goes.numbered;
-        says = tc_says (kind_of body) (node_row n block.Tc body).effects.marks (node_row n block.Tc body).effects.sends goes.says;
-        decides = subst (Each (Decides (kind_of body))) (sym (tc_marks n.tc body)) tt;
-        reports = tt;
-      }
-  node_goes n block.Dih body begun_yet verified numbered tells =
-      let goes = dih_goes n.dih body in
-      record {
-        knows = subst₂ (IsNumbered h D n.tc) (sym (goes.begun_same begun_yet)) (sym (goes.verified_same verified)) numbered;
-        says = goes.says;
-        decides = goes.decides;
-        reports = tt;
-      }
-  node_goes n block.Lqh body begun_yet verified numbered tells =
-      let none = lqh_says n.lqh body in
-      record {
-        knows = subst₂ (IsNumbered h D n.tc) (sym (rows_none begun_by (λ before. refl) (λ tx before. refl) (kind_of body) (node_row n block.Lqh body).effects.sends begun_yet none)) (sym (rows_none verified_by (λ before. refl) (λ tx before. refl) (kind_of body) (node_row n block.Lqh body).effects.sends verified none)) numbered;
-        says = rows_say (kind_of body) tells (node_row n block.Lqh body).effects.marks (node_row n block.Lqh body).effects.sends none;
-        decides = plain_decides (kind_of body) _ (lqh_marks n.lqh body);
-        reports = tt;
-      }
-  node_goes n _ body begun_yet verified numbered tells = record { knows = numbered; says = tt; decides = tt; reports = tt }
+  -- the step of each block
+  module _ (s : Host) (x : Signal) (begun_yet verified : List TxId) (knows : HostKnows node T D s begun_yet verified) (tells : Tells D (kind_of x.body)) where
+    abbrev Goes : Step Host → Type 0
+    Goes step = HostGoes node Own T D s (kind_of x.body) begun_yet verified step
 
-  shell_goes : (s : ApiState) (at : BlockId) (body : Body) (begun_yet verified : List TxId) → HostKnows h T D (Shell s) begun_yet verified → TellsBegun T (kind_of body)
-      → HostGoes h T D (kind_of body) begun_yet verified (record { state = Shell (shell_row s at body).state; effects = (shell_row s at body).effects })
-  unfolding shell_row
-  shell_goes s block.Api body begun_yet verified knows tells =
-      let goes = api_goes T s body knows.0 tells in
-      record {
-        knows = (
-          goes.told,
-          api_none begun_by (λ before. refl) (λ tx before. refl) _ begun_yet goes.says ∙ knows.1,
-          api_none verified_by (λ before. refl) (λ tx before. refl) _ verified goes.says ∙ knows.2,
-        );
-        says = api_says (kind_of body) (shell_row s block.Api body).effects.marks (shell_row s block.Api body).effects.sends goes.says;
-        decides = plain_decides (kind_of body) _ (api_marks s body);
-        reports = goes.reports;
-      }
-  shell_goes s _ body begun_yet verified knows tells = record { knows = knows; says = tt; decides = tt; reports = tt }
+    -- what the API is told and the coordinator numbers, as it was
+    told_still : (now : ApiState) → now ≡ api_of s → AreTold T now.opened
+    told_still now same = subst (λ (a : ApiState). AreTold T a.opened) (sym same) knows.told
 
-  pub host_goes : (s : Host) (to : Place) (body : Body) (begun_yet verified : List TxId) → HostKnows h T D s begun_yet verified → Tells D (kind_of body) → TellsIf s T (kind_of body)
-      → HostGoes h T D (kind_of body) begun_yet verified (row s to body)
-  unfolding row
-  host_goes (Shell s) to body begun_yet verified knows tells begins = shell_goes s to.block body begun_yet verified knows begins
-  host_goes (Node n) to body begun_yet verified knows tells begins = node_goes n to.block body begun_yet verified knows tells
+    numbered_still : (now : TcState) (bs vs : List TxId) → now ≡ tc_of s → bs ≡ begun_yet → vs ≡ verified → IsNumbered node D now bs vs
+    numbered_still now bs vs same bs_same vs_same = rw (same, bs_same, vs_same) knows.numbered
+
+    api_step_goes : (step : Step Host) → TellsBegun T (kind_of x.body) → IsApiStep s x step → Goes step
+    api_step_goes step begins is =
+        let goes = api_goes T (api_of s) x.body knows.told begins in
+        let effects : step.effects ≡ (api_table (api_of s) x.body).effects = is.effects in
+        record {
+          knows = record {
+            told = subst (λ (a : ApiState). AreTold T a.opened) (sym is.state) goes.told;
+            numbered = numbered_still (tc_of step.state) _ _ is.tc
+                (ap (λ (f : Effects). put_kinds begun_by f.sends begun_yet) effects ∙ api_none begun_by (λ before. refl) (λ tx before. refl) _ begun_yet goes.says)
+                (ap (λ (f : Effects). put_kinds verified_by f.sends verified) effects ∙ api_none verified_by (λ before. refl) (λ tx before. refl) _ verified goes.says);
+          };
+          says = subst (λ (f : Effects). Each (λ (o : Outgoing). HostSays Own T D (kind_of x.body) f.marks o (kind_of o.body)) f.sends) (sym effects)
+              (api_says (kind_of x.body) (api_table (api_of s) x.body).effects.marks (api_table (api_of s) x.body).effects.sends goes.says);
+          decides = subst (λ (f : Effects). Each (Decides (kind_of x.body)) f.marks) (sym effects) (plain_decides (kind_of x.body) _ (api_marks (api_of s) x.body));
+          reports = λ runs. subst (λ (f : Effects). Each (Reports (kind_of x.body)) f.marks) (sym effects) goes.reports;
+        }
+
+    tc_step_goes : (step : Step Host) → ((tx : TxId) → tx.tc ≡ node → Own tx) → IsTcStep s x step → Goes step
+    tc_step_goes step own is =
+        let goes = tc_numbered node D (tc_of s) begun_yet verified x.body knows.numbered tells in
+        let effects : step.effects ≡ (tc_table (tc_of s) x.body).effects = is.effects in
+        let none : step.effects.marks ≡ [] = ap (λ (f : Effects). f.marks) effects ∙ tc_marks (tc_of s) x.body in
+        record {
+          knows = record {
+            told = told_still (api_of step.state) is.api;
+            numbered = subst (λ (f : Effects). IsNumbered node D (tc_of step.state) (put_kinds begun_by f.sends begun_yet) (put_kinds verified_by f.sends verified)) (sym effects)
+                (rw is.state goes.numbered);
+          };
+          says = subst (λ (f : Effects). Each (λ (o : Outgoing). HostSays Own T D (kind_of x.body) step.effects.marks o (kind_of o.body)) f.sends) (sym effects)
+              (tc_says (kind_of x.body) step.effects.marks _ own goes.says);
+          decides = subst (Each (Decides (kind_of x.body))) (sym none) tt;
+          reports = λ runs. subst (Each (Reports (kind_of x.body))) (sym none) tt;
+        }
+
+    dih_step_goes : (step : Step Host) → IsDihStep s x step → Goes step
+    dih_step_goes step is =
+        let goes = dih_goes (dih_of s) x.body in
+        let effects : step.effects ≡ (dih_table (dih_of s) x.body).effects = is.effects in
+        record {
+          knows = record {
+            told = told_still (api_of step.state) is.api;
+            numbered = numbered_still (tc_of step.state) _ _ is.tc
+                (ap (λ (f : Effects). put_kinds begun_by f.sends begun_yet) effects ∙ goes.begun_same begun_yet)
+                (ap (λ (f : Effects). put_kinds verified_by f.sends verified) effects ∙ goes.verified_same verified);
+          };
+          says = subst (λ (f : Effects). Each (λ (o : Outgoing). HostSays Own T D (kind_of x.body) f.marks o (kind_of o.body)) f.sends) (sym effects) goes.says;
+          decides = subst (λ (f : Effects). Each (Decides (kind_of x.body)) f.marks) (sym effects) goes.decides;
+          reports = λ runs. absurd (api_alone s runs (inr is.runs));
+        }
+
+    rows_step_goes : (step : Step Host) → IsRowsStep s x step → Goes step
+    rows_step_goes step is =
+        let none = lqh_says (lqh_of s) x.body in
+        let effects : step.effects ≡ (lqh_table (lqh_of s) x.body).effects = is.effects in
+        record {
+          knows = record {
+            told = told_still (api_of step.state) is.api;
+            numbered = numbered_still (tc_of step.state) _ _ is.tc
+                (ap (λ (f : Effects). put_kinds begun_by f.sends begun_yet) effects ∙ rows_none begun_by (λ before. refl) (λ tx before. refl) (kind_of x.body) _ begun_yet none)
+                (ap (λ (f : Effects). put_kinds verified_by f.sends verified) effects ∙ rows_none verified_by (λ before. refl) (λ tx before. refl) (kind_of x.body) _ verified none);
+          };
+          says = subst (λ (f : Effects). Each (λ (o : Outgoing). HostSays Own T D (kind_of x.body) step.effects.marks o (kind_of o.body)) f.sends) (sym effects)
+              (rows_say (kind_of x.body) tells step.effects.marks _ none);
+          decides = subst (λ (f : Effects). Each (Decides (kind_of x.body)) f.marks) (sym effects) (plain_decides (kind_of x.body) _ (lqh_marks (lqh_of s) x.body));
+          reports = λ runs. absurd (api_alone s runs (inl is.runs));
+        }
+
+    idle_goes : (step : Step Host) → step ≡ stay s → Goes step
+    idle_goes step is = subst Goes (sym is) (record { knows = knows; says = tt; decides = tt; reports = λ runs. tt })
+
+  pub host_goes : (s : Host) (x : Signal) (begun_yet verified : List TxId) → HostKnows node T D s begun_yet verified → Tells D (kind_of x.body)
+      → (has_api s ≡ true → TellsBegun T (kind_of x.body)) → (has_tc s ≡ true → x.to.block ≡ block.Tc → (tx : TxId) → tx.tc ≡ node → Own tx)
+      → HostGoes node Own T D s (kind_of x.body) begun_yet verified (row s x)
+  host_goes s x begun_yet verified knows tells begins own = go (block_case s x)
+    where
+      go : BlockCase s x (row s x) → HostGoes node Own T D s (kind_of x.body) begun_yet verified (row s x)
+      go (api_takes is) = api_step_goes s x begun_yet verified knows tells (row s x) (begins is.runs) is
+      go (tc_takes is) = tc_step_goes s x begun_yet verified knows tells (row s x) (own is.runs is.at) is
+      go (dih_takes is) = dih_step_goes s x begun_yet verified knows tells (row s x) is
+      go (rows_take is) = rows_step_goes s x begun_yet verified knows tells (row s x) is
+      go (none_takes is) = idle_goes s x begun_yet verified knows tells (row s x) is.is

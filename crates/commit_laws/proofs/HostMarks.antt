@@ -1,25 +1,19 @@
 -- What marks the row of a host has: nobody installs a view, and all is decided in one epoch.
-use Rattle.std.proofs.Common.{◌≡◌, ℕ, Bool, true, false, List, [], ◌∷◌, refl, ◌∙◌, subst}
-use Rattle.std.specs.Prelude.{zero, suc, nat_lt, length, position, Option, None, Some}
+use Rattle.std.proofs.Common.{◌≡◌, ℕ, Bool, true, false, List, [], ◌∷◌, refl, sym, ◌∙◌, subst}
+use Rattle.std.specs.Prelude.{nat_lt, length, position, Option, None, Some}
 use Rattle.sig_core.specs.declared.mark.Mark.{Mark}
 use Rattle.sig_core.specs.declared.mark.Mark.TheVariants.{Decided}
 use Rattle.sig_core.specs.declared.member.TxId.{TxId}
-use Rattle.sig_core.specs.declared.place.BlockId.{BlockId}
-use Rattle.sig_core.specs.declared.place.BlockId.TheVariants as block
-use Rattle.sig_core.specs.declared.place.Place.{Place}
 use Rattle.sig_core.specs.declared.signal.Body.{Body}
 use Rattle.sig_core.specs.declared.signal.Body.TheVariants.{Epoch}
+use Rattle.sig_core.specs.declared.signal.Signal.{Signal}
 use Rattle.sig_core.specs.declared.signal.epoch.EpochSignal.TheVariants.{DiVerifyReq, DiVerifyEnd}
 use Rattle.sig_core.specs.Same.{same_tx}
-use Rattle.api_block.specs.State.{ApiState}
 use Rattle.node_core.specs.declared.host.Host.{Host}
-use Rattle.node_core.specs.declared.host.Host.TheVariants.{Shell, Node}
-use Rattle.node_core.specs.declared.node.Node as node
+use Rattle.node_core.specs.Blocks.{api_of, dih_of, has_tc, lqh_of, tc_of}
 use Rattle.node_core.specs.Dih.{DihState, decide_if, decide_row, dih_table, end_by, end_row}
-use Rattle.node_core.specs.Fresh.{begun_node, fresh_node, fresh_shell}
-use Rattle.node_core.specs.Row.{node_row, row, shell_row}
-use Rattle.world_core.specs.Hosts.{started}
-use Rattle.world_core.specs.Start.{Start}
+use Rattle.node_core.specs.Row.{row}
+use Rattle.node_core.proofs.HostCases.{keeps_dih, of_effects, tc_stays}
 use Rattle.commit_laws.proofs.ApiMarks.{api_marks}
 use Rattle.commit_laws.proofs.LqhMarks.{lqh_marks}
 use Rattle.commit_laws.proofs.PlainMarks.{ArePlain, none_plain}
@@ -30,10 +24,9 @@ pub data AreMarks (epoch : ℕ) (marks : List Mark) : Type 0 where
   plain : ArePlain marks → AreMarks epoch marks
   decides : (tx : TxId) → marks ≡ Decided tx epoch ∷ [] → AreMarks epoch marks
 
--- the host is in this epoch; the shell's is in none
+-- the host is in this epoch, if it has epochs
 abbrev pub IsIn : ℕ → Host → Type 0
-IsIn epoch (Shell s) = Unit {0}
-IsIn epoch (Node n) = n.dih.epoch ≡ epoch
+IsIn epoch s = has_tc s ≡ true → (dih_of s).epoch ≡ epoch
 
 decide_marks : (s : DihState) (tx : TxId) (b : Bool) → AreMarks s.epoch (decide_if s tx b).effects.marks
 decide_marks s tx true = decides tx refl
@@ -68,37 +61,16 @@ dih_epoch s (Epoch (DiVerifyReq tx ops)) = verify_epoch s tx
 dih_epoch s (Epoch (DiVerifyEnd tx)) = end_epoch s tx
 dih_epoch s _ = refl
 
-node_marks : (n : node.Node) (at : BlockId) (body : Body) → AreMarks n.dih.epoch (node_row n at body).effects.marks
-unfolding node_row
-node_marks n block.Tc body = plain (none_plain _ (tc_marks n.tc body))
-node_marks n block.Dih body = dih_marks n.dih body
-node_marks n block.Lqh body = plain (lqh_marks n.lqh body)
-node_marks n _ body = plain tt
-
-node_epoch : (n : node.Node) (at : BlockId) (body : Body) → (node_row n at body).state.dih.epoch ≡ n.dih.epoch
-unfolding node_row
-node_epoch n block.Tc body = refl
-node_epoch n block.Dih body = dih_epoch n.dih body
-node_epoch n block.Lqh body = refl
-node_epoch n _ body = refl
-
-shell_marks : (s : ApiState) (at : BlockId) (body : Body) → ArePlain (shell_row s at body).effects.marks
-unfolding shell_row
-shell_marks s block.Api body = api_marks s body
-shell_marks s _ body = tt
-
-pub row_marks : (epoch : ℕ) (s : Host) (to : Place) (body : Body) → IsIn epoch s → AreMarks epoch (row s to body).effects.marks
-unfolding row
-row_marks epoch (Shell s) to body there = plain (shell_marks s to.block body)
-row_marks epoch (Node n) to body there = subst (λ k. AreMarks k (node_row n to.block body).effects.marks) there (node_marks n to.block body)
+pub row_marks : (epoch : ℕ) (s : Host) (x : Signal) → IsIn epoch s → AreMarks epoch (row s x).effects.marks
+row_marks epoch s x there =
+    of_effects (λ f. AreMarks epoch f.marks) s x (plain tt) (record {
+      api = λ runs at. plain (api_marks (api_of s) x.body);
+      tc = λ runs at. plain (none_plain _ (tc_marks (tc_of s) x.body));
+      dih = λ runs at. subst (λ k. AreMarks k (dih_table (dih_of s) x.body).effects.marks) (there runs) (dih_marks (dih_of s) x.body);
+      rows = λ runs at. plain (lqh_marks (lqh_of s) x.body);
+    })
 
 -- the epoch stays
-pub row_epoch : (epoch : ℕ) (s : Host) (to : Place) (body : Body) → IsIn epoch s → IsIn epoch (row s to body).state
-unfolding row
-row_epoch epoch (Shell s) to body there = tt
-row_epoch epoch (Node n) to body there = node_epoch n to.block body ∙ there
-
-pub started_epoch : (start : Start) (h : ℕ) → IsIn start.epoch (started start h)
-unfolding fresh_shell fresh_node begun_node
-started_epoch start zero = tt
-started_epoch start (suc h) = refl
+pub row_epoch : (epoch : ℕ) (s : Host) (x : Signal) → IsIn epoch s → IsIn epoch (row s x).state
+row_epoch epoch s x there runs =
+    keeps_dih (λ (d : DihState). d.epoch ≡ epoch) (λ d y is. dih_epoch d y.body ∙ is) s x (there (sym (tc_stays s x) ∙ runs))

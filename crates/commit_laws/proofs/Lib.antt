@@ -30,6 +30,7 @@ pub mod RecordsAt
 pub mod Replicas
 pub mod Serial
 pub mod SortedEntries
+pub mod StartedHosts
 pub mod StrictOrder
 pub mod Sums
 pub mod Tally

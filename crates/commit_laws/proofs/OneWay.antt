@@ -1,5 +1,5 @@
 -- No coordinator takes one transaction both forth and back.
-use Rattle.std.proofs.Common.{◌≡◌, ◌⊎◌, ◌<◌, ℕ, zero, suc, ◌+◌, Bool, true, false, ◌&&◌, List, [], ◌∷◌, ◌++◌, refl, sym, ap, ◌∙◌, subst, inl, inr, arith}
+use Rattle.std.proofs.Common.{◌≡◌, ◌⊎◌, ◌<◌, ℕ, ◌+◌, Bool, true, false, ◌&&◌, List, [], ◌∷◌, ◌++◌, refl, sym, ap, ◌∙◌, subst, inl, inr, arith}
 use Rattle.std.specs.List.{list_any}
 use Rattle.std.specs.Prelude.{◌||◌, Option, nat_eq}
 use Rattle.std.proofs.lemmas.Bool.{and_right, ne_eqb, or_cases}
@@ -10,8 +10,8 @@ use Rattle.sig_core.specs.declared.member.TxId.{TxId}
 use Rattle.sig_core.specs.declared.outs.Outgoing.{Outgoing}
 use Rattle.sig_core.specs.declared.place.BlockId.{BlockId}
 use Rattle.sig_core.specs.declared.place.BlockId.TheVariants as block
-use Rattle.sig_core.specs.declared.place.Place.{Place}
 use Rattle.sig_core.specs.declared.signal.Body.{Body}
+use Rattle.sig_core.specs.declared.signal.Signal.{Signal}
 use Rattle.sig_core.specs.Same.{same_tx}
 use Rattle.sig_core.specs.Step.{Step, stay}
 use Rattle.sig_core.proofs.TxLemmas.{same_tx-swap}
@@ -23,18 +23,19 @@ use Rattle.tc_block.specs.State.{TcState}
 use Rattle.tc_block.specs.Tc.{begin_if, next_tx, tc_table}
 use Rattle.tc_block.specs.Turn.{Turn}
 use Rattle.node_core.specs.declared.host.Host as host
-use Rattle.node_core.specs.declared.host.Host.TheVariants.{Shell, Node}
-use Rattle.node_core.specs.declared.node.Node as node
-use Rattle.node_core.specs.Fresh.{begun_node, fresh_node, fresh_shell}
-use Rattle.node_core.specs.Row.{node_row, row}
+use Rattle.node_core.specs.declared.host.Host.TheVariants.{Shell, Main, Tc, Ldm}
+use Rattle.node_core.specs.declared.tc_part.TcPart.{TcPart}
+use Rattle.node_core.specs.Blocks.{tc_of}
+use Rattle.node_core.specs.Row.{row, tc_part_row}
 use Rattle.world_core.specs.Machine.{after}
 use Rattle.world_core.specs.Hosts.{started}
 use Rattle.world_core.specs.Start.{Start}
 use Rattle.tc_block.specs.Phases.{is_completing, is_decided}
 use Rattle.tc_block.specs.Phases.{is_aborting}
-use Rattle.commit_laws.specs.Ways.{AreSaid, CoordinatorsGoOneWay, CoordinatorsSay, IsSaid, Way, back, back_by, closes, forth, forth_by, is_forth, neither, put_ways, sent_ways, tc_sends, way_of}
+use Rattle.commit_laws.specs.Ways.{AreSaid, CoordinatorsGoOneWay, CoordinatorsSay, IsSaid, Way, back, back_by, closes, forth, forth_by, is_forth, neither, put_ways, sends_for, sent_ways, tc_sends, way_of}
 use Rattle.sig_core.proofs.Keys.{same_tx-self}
 use Rattle.tc_block.proofs.LiveSplit.{KeysOnce, Live, Split, each_inserted, once_back, once_front, once_gone, once_inserted, once_set}
+use Rattle.commit_laws.proofs.StartedHosts.{none_live}
 use Rattle.commit_laws.proofs.TcNumbers.{NotIn}
 use Rattle.tc_block.proofs.EachTc.{tc_each}
 use Rattle.tc_block.proofs.EachTurn.{rows_of}
@@ -335,44 +336,40 @@ tc_one s cs bs body n =
       passes = λ tx ahead. record { one = n; says = (tt, tt) };
     })
 
--- so it is of each host, along any log
-abbrev HostIsOneWay : host.Host → List TxId → List TxId → Type 0
-HostIsOneWay (Shell s) cs bs = (cs ≡ []) × (bs ≡ [])
-HostIsOneWay (Node n) cs bs = IsOneWay n.tc cs bs
-
 -- a step of a host, and what its coordinator sends
 record HostStays (before after : host.Host) (cs bs : List TxId) (sends : List Outgoing) : Type 0 where
-  one : HostIsOneWay after (put_ways forth_by sends cs) (put_ways back_by sends bs)
+  one : IsOneWay (tc_of after) (put_ways forth_by sends cs) (put_ways back_by sends bs)
   says : AreSaid before (put_ways forth_by sends cs) (put_ways back_by sends bs) sends
 
-node_one : (n : node.Node) (at : BlockId) (body : Body) (cs bs : List TxId) → IsOneWay n.tc cs bs
-    → HostStays (Node n) (Node (node_row n at body).state) cs bs (tc_sends (Node n) at body)
-unfolding node_row
-node_one n block.Tc body cs bs is = let stays = tc_one n.tc cs bs body is in record { one = stays.one; says = stays.says }
-node_one n block.Dih body cs bs is = record { one = is; says = tt }
-node_one n block.Lqh body cs bs is = record { one = is; says = tt }
-node_one n _ body cs bs is = record { one = is; says = tt }
+part_one : (p : TcPart) (at : BlockId) (x : Signal) (cs bs : List TxId) → IsOneWay p.tc cs bs
+    → HostStays (Tc p) (Tc (tc_part_row p at x).state) cs bs (sends_for p at x)
+unfolding tc_part_row
+part_one p block.Tc x cs bs is = let stays = tc_one p.tc cs bs x.body is in record { one = stays.one; says = stays.says }
+part_one p block.Dih x cs bs is = record { one = is; says = tt }
+part_one p _ x cs bs is = record { one = is; says = tt }
 
-host_one : (s : host.Host) (to : Place) (body : Body) (cs bs : List TxId) → HostIsOneWay s cs bs → HostStays s (row s to body).state cs bs (tc_sends s to.block body)
+host_one : (s : host.Host) (x : Signal) (cs bs : List TxId) → IsOneWay (tc_of s) cs bs → HostStays s (row s x).state cs bs (tc_sends s x)
 unfolding row
-host_one (Shell s) to body cs bs is = record { one = is; says = tt }
-host_one (Node n) to body cs bs is = node_one n to.block body cs bs is
+host_one (Shell a) x cs bs is = record { one = is; says = tt }
+host_one (Main m) x cs bs is = record { one = is; says = tt }
+host_one (Tc p) x cs bs is = part_one p x.to.block x cs bs is
+host_one (Ldm l) x cs bs is = record { one = is; says = tt }
 
-started_one : (start : Start) (h : ℕ) → HostIsOneWay (started start h) [] []
-unfolding fresh_shell fresh_node begun_node
-started_one start zero = (refl, refl)
-started_one start (suc h) = record { once = tt; live = tt; cs_below = tt; bs_below = tt; apart = tt }
+started_one : (s : TcState) → s.live ≡ [] → IsOneWay s [] []
+started_one s none = record {
+  once = subst KeysOnce (sym none) tt;
+  live = subst (Each (IsLive s.node s.next_seq [] [])) (sym none) tt;
+  cs_below = tt;
+  bs_below = tt;
+  apart = tt;
+}
 
-log_one : (start : Start) (h : ℕ) (log : List HostStep) → HostIsOneWay (after start h log) (sent_ways start forth_by h log) (sent_ways start back_by h log)
-log_one start h [] = started_one start h
+log_one : (start : Start) (h : ℕ) (log : List HostStep) → IsOneWay (tc_of (after start h log)) (sent_ways start forth_by h log) (sent_ways start back_by h log)
+log_one start h [] = started_one (tc_of (started start h)) (none_live start h)
 log_one start h (e ∷ log) = (host_one (after start h log) e.step.taken (sent_ways start forth_by h log) (sent_ways start back_by h log) (log_one start h log)).one
 
-one_apart : (s : host.Host) (cs bs : List TxId) → HostIsOneWay s cs bs → Each (λ tx. NotIn tx bs) cs
-one_apart (Shell s) cs bs is = subst (Each (λ tx. NotIn tx bs)) (sym is.0) tt
-one_apart (Node n) cs bs is = is.apart
-
 pub coordinators_one_way : CoordinatorsGoOneWay
-coordinators_one_way start h log = one_apart (after start h log) (sent_ways start forth_by h log) (sent_ways start back_by h log) (log_one start h log)
+coordinators_one_way start h log = (log_one start h log).apart
 
 pub coordinators_say : CoordinatorsSay
 coordinators_say start h log e = (host_one (after start h log) e.step.taken (sent_ways start forth_by h log) (sent_ways start back_by h log) (log_one start h log)).says
@@ -387,20 +384,21 @@ not_apart tx (v ∷ cs) among off = by (or_cases (same_tx tx v) (list_any (same_
     by (inr more) rest = rest more
 
 -- one that a coordinator took forth knows that it is decided
-pub forth_decided : (start : Start) (h : ℕ) (log : List HostStep) (n : node.Node) → after start h log ≡ Node n
-    → Each (λ (e : TxId × Transaction). list_any (same_tx e.0) (sent_ways start forth_by h log) ≡ true → is_decided e.1.phase ≡ true) n.tc.live
-forth_decided start h log n is = each_map (IsLive n.tc.node n.tc.next_seq cs bs) (λ (e : TxId × Transaction). list_any (same_tx e.0) cs ≡ true → is_decided e.1.phase ≡ true) n.tc.live known one.live
+pub forth_decided : (start : Start) (h : ℕ) (log : List HostStep)
+    → Each (λ (e : TxId × Transaction). list_any (same_tx e.0) (sent_ways start forth_by h log) ≡ true → is_decided e.1.phase ≡ true) (tc_of (after start h log)).live
+forth_decided start h log =
+    each_map (IsLive s.node s.next_seq cs bs) (λ (e : TxId × Transaction). list_any (same_tx e.0) cs ≡ true → is_decided e.1.phase ≡ true) s.live known (log_one start h log).live
   where
+    s : TcState
+    s = tc_of (after start h log)
+
     cs : List TxId
     cs = sent_ways start forth_by h log
 
     bs : List TxId
     bs = sent_ways start back_by h log
 
-    one : IsOneWay n.tc cs bs
-    one = subst (λ s. HostIsOneWay s cs bs) is (log_one start h log)
-
-    known : (e : TxId × Transaction) → IsLive n.tc.node n.tc.next_seq cs bs e → list_any (same_tx e.0) cs ≡ true → is_decided e.1.phase ≡ true
+    known : (e : TxId × Transaction) → IsLive s.node s.next_seq cs bs e → list_any (same_tx e.0) cs ≡ true → is_decided e.1.phase ≡ true
     known e live among = by (is_decided e.1.phase) refl
       where
         by : (b : Bool) → is_decided e.1.phase ≡ b → is_decided e.1.phase ≡ true

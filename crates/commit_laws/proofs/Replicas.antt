@@ -1,5 +1,6 @@
 -- A replica is its keys.
-use Rattle.std.proofs.Common.{◌≡◌, ◌==◌, ◌+◌, ℕ, zero, suc, Bool, true, false, cond, List, [], ◌∷◌, filter, refl, sym, ap, ◌∙◌, subst}
+use Rattle.std.proofs.Common.{◌≡◌, ◌==◌, ◌%◌, ℕ, zero, suc, Bool, true, false, cond, List, [], ◌∷◌, filter, refl, sym, ap, ◌∙◌, subst}
+use Rattle.std.proofs.lemmas.Bool.{false≢true}
 use Rattle.std.specs.Cmp.Lexicographic.{nat_list_cmp_total}
 use Rattle.std.specs.FinMap as map
 use Rattle.std.specs.Prelude.{if◌then◌else◌, Option, None, Some, slice_get}
@@ -8,15 +9,17 @@ use Rattle.sig_core.specs.declared.member.Member.{Member}
 use Rattle.sig_core.specs.declared.member.TxId.{TxId}
 use Rattle.sig_core.specs.declared.place.BlockId.{BlockId}
 use Rattle.sig_core.specs.declared.place.BlockId.TheVariants as block
-use Rattle.sig_core.specs.declared.place.Place.{Place}
-use Rattle.sig_core.specs.declared.signal.Body.{Body}
+use Rattle.sig_core.specs.declared.place.Part.{Part}
+use Rattle.sig_core.specs.declared.place.Part.TheVariants as part
 use Rattle.sig_core.specs.declared.signal.Body.TheVariants.{Host, Client, Chain}
 use Rattle.sig_core.specs.declared.signal.chain.ChainSignal.TheVariants.{LqhKeyReq, Commit, Complete, Abort}
+use Rattle.sig_core.specs.declared.signal.Signal.{Signal}
 use Rattle.sig_core.specs.declared.signal.client.ClientSignal.TheVariants.{TcCommitAck, LqhWaitReq, DumpReq}
 use Rattle.sig_core.specs.declared.signal.host.HostSignal.TheVariants.{Round, Continue}
 use Rattle.sig_core.specs.declared.signal.host.Work.TheVariants as work
 use Rattle.sig_core.specs.Rows.{RowsState, is_on, no_rows, put_row, record_state, with_place}
 use Rattle.sig_core.specs.declared.rows.PendingRecord.{PendingRecord}
+use Rattle.sig_core.specs.declared.view.Shape.{Shape}
 use Rattle.sig_core.specs.Same.{same_key}
 use Rattle.sig_core.specs.Table.{Rows}
 use Rattle.serial_model.specs.Legal.{rows_over}
@@ -27,26 +30,30 @@ use Rattle.row_locks.specs.Rounds.{expired}
 use Rattle.row_locks.specs.Tables.{ahead_at, or_unlocked}
 use Rattle.row_locks.proofs.LocksLemmas.{key_cmp}
 use Rattle.row_locks.proofs.TableLawLemmas.{age_round_orderly, empty_orderly, release_orderly, request_orderly, unwait_orderly}
+use Rattle.lqh_block.proofs.IndexLemmas.{same as same_key-is}
 use Rattle.lqh_block.specs.declared.request.Request.{Request}
 use Rattle.lqh_block.specs.Abort as abort
 use Rattle.lqh_block.specs.Commit as commit
 use Rattle.lqh_block.specs.Complete as complete
 use Rattle.lqh_block.specs.Dump as dump
 use Rattle.lqh_block.specs.Expire as expire
+use Rattle.lqh_block.specs.Lqh.{unasked_yet}
 use Rattle.lqh_block.specs.Operate as operate
 use Rattle.lqh_block.specs.State.{LqhState, storage_of, unlocked}
 use Rattle.lqh_block.specs.Wait as wait
 use Rattle.lqh_block.specs.Work.{work_key, work_mode}
 use Rattle.node_core.specs.Committed as committed
 use Rattle.node_core.specs.declared.host.Host as host
-use Rattle.node_core.specs.declared.host.Host.TheVariants.{Shell, Node}
-use Rattle.node_core.specs.declared.node.Node as node
-use Rattle.node_core.specs.Fresh.{begun_node, fresh_node, fresh_shell, with_rows}
-use Rattle.node_core.specs.Row.{node_row, row}
+use Rattle.node_core.specs.declared.host.Host.TheVariants.{Shell, Main, Tc, Ldm}
+use Rattle.node_core.specs.Fresh.{fresh_part, fresh_shell, own_rows, with_rows}
+use Rattle.node_core.specs.Row.{ldm_row, row}
+use Rattle.node_core.proofs.HostCases.{keeps_rows}
 use Rattle.world_core.specs.Machine.{after}
-use Rattle.frag_map.specs.Layout.{first_view}
-use Rattle.world_core.specs.Hosts.{started}
-use Rattle.world_core.specs.Start.{Start}
+use Rattle.frag_map.specs.Layout.{Layout, first_layout, holds, nowhere}
+use Rattle.frag_map.specs.Replicas.{first_start}
+use Rattle.world_core.specs.Hosts.{member_at, part_by, started}
+use Rattle.world_core.proofs.HostNumbers.{rows_started}
+use Rattle.world_core.specs.Start.{Start, made}
 use Rattle.commit_laws.specs.Placed.{AreApart, IsPlaced, has_place}
 use Rattle.commit_laws.specs.Replica.{at_key, key_after}
 use Rattle.commit_laws.specs.ReplicaLaws.{KeysHaveRows, LogsFollowEvents, NodesBeginAtRest, event_for, event_in, key_in, IsWell, IsWellHost, KeysBeginAtRest, LogsKeepWell, SignalsAreEvents, SignalsKeepWell}
@@ -180,77 +187,93 @@ put_placed s [] apart none = record { apart = apart; placed = subst (Each (λ (r
 put_placed s (r ∷ rows) apart none =
     put_placed (put_row s r.0 r.1) rows (apart-set_row (with_place s.places r.0) r.0 (Some r.1) (apart-with_place s.places r.0 apart)) none
 
-started_row : (s : RowsState) (table : Rows) (rows : List (List ℕ × List ℕ)) (key : List ℕ) → ((q : List ℕ) → row_at s.places q ≡ map.get table q)
-    → row_at (with_rows s rows).places key ≡ map.get (rows_over table rows) key
-started_row s table [] key same = same key
-started_row s table (r ∷ rows) key same = started_row (put_row s r.0 r.1) (map.insert table r.0 r.1) rows key one
+-- a key of the group has of its rows what it has of all rows
+started_row : (shape : Shape) (node : ℕ) (s : RowsState) (table : Rows) (rows : List (List ℕ × List ℕ)) (key : List ℕ) → holds shape node key ≡ true
+    → row_at s.places key ≡ map.get table key → row_at (with_rows s (own_rows shape node rows)).places key ≡ map.get (rows_over table rows) key
+started_row shape node s table [] key held same = same
+started_row shape node s table (r ∷ rows) key held same =
+    go (holds shape node r.0) refl (started_row shape node (put_row s r.0 r.1) (map.insert table r.0 r.1) rows key held)
+    (started_row shape node s (map.insert table r.0 r.1) rows key held)
   where
-    by : (q : List ℕ) (b : Bool) → (if b then Some r.1 else row_at s.places q) ≡ cond b (Some r.1) (map.get table q)
-    by q true = refl
-    by q false = same q
+    by : (b : Bool) → (if b then Some r.1 else row_at s.places key) ≡ cond b (Some r.1) (map.get table key)
+    by true = refl
+    by false = same
 
-    one : (q : List ℕ) → row_at (put_row s r.0 r.1).places q ≡ map.get (map.insert table r.0 r.1) q
-    one q =
-        row-set_row (with_place s.places r.0) r.0 q (Some r.1) (has-own_place s.places r.0)
-        ∙ ap (λ w. if same_key r.0 q then Some r.1 else w) (row-with_place s.places r.0 q) ∙ by q (same_key r.0 q)
-        ∙ sym (map.get-insert nat_list_cmp_total table r.0 r.1 q ∙ ap (λ b. cond b (Some r.1) (map.get table q)) (tied-same_key q r.0 ∙ same_key-swap q r.0))
+    inserted : map.get (map.insert table r.0 r.1) key ≡ cond (same_key r.0 key) (Some r.1) (map.get table key)
+    inserted = map.get-insert nat_list_cmp_total table r.0 r.1 key ∙ ap (λ b. cond b (Some r.1) (map.get table key)) (tied-same_key key r.0 ∙ same_key-swap key r.0)
 
-started_pending : (s : RowsState) (rows : List (List ℕ × List ℕ)) → (with_rows s rows).pending ≡ s.pending
+    put : row_at (put_row s r.0 r.1).places key ≡ map.get (map.insert table r.0 r.1) key
+    put =
+        row-set_row (with_place s.places r.0) r.0 key (Some r.1) (has-own_place s.places r.0)
+        ∙ ap (λ w. if same_key r.0 key then Some r.1 else w) (row-with_place s.places r.0 key) ∙ by (same_key r.0 key) ∙ sym inserted
+
+    -- a row of another group isn't the key's
+    other : holds shape node r.0 ≡ false → (b : Bool) → same_key r.0 key ≡ b → map.get table key ≡ cond b (Some r.1) (map.get table key)
+    other off true own = absurd (false≢true (sym off ∙ ap (holds shape node) (same_key-is r.0 key own) ∙ held))
+    other off false own = refl
+
+    go : (b : Bool) → holds shape node r.0 ≡ b
+        → (row_at (put_row s r.0 r.1).places key ≡ map.get (map.insert table r.0 r.1) key
+        → row_at (with_rows (put_row s r.0 r.1) (own_rows shape node rows)).places key ≡ map.get (rows_over (map.insert table r.0 r.1) rows) key)
+        → (row_at s.places key ≡ map.get (map.insert table r.0 r.1) key
+        → row_at (with_rows s (own_rows shape node rows)).places key ≡ map.get (rows_over (map.insert table r.0 r.1) rows) key)
+        → row_at (with_rows s (if b then r ∷ own_rows shape node rows else own_rows shape node rows)).places key ≡ map.get (rows_over (map.insert table r.0 r.1) rows) key
+    go true is own without = own put
+    go false is own without = without (same ∙ other is (same_key r.0 key) refl ∙ sym inserted)
+
+pub started_pending : (s : RowsState) (rows : List (List ℕ × List ℕ)) → (with_rows s rows).pending ≡ s.pending
 started_pending s [] = refl
 started_pending s (r ∷ rows) = started_pending (put_row s r.0 r.1) rows
 
 pub keys_begin_at_rest : KeysBeginAtRest
-unfolding begun_node
-keys_begin_at_rest node view epoch rows key =
+unfolding fresh_part
+keys_begin_at_rest member layout epoch rows key held =
+    let own = own_rows layout.shape member.node rows in
     replica_is _ _
     (λ i. record {
-      row = (row_of-at (with_rows no_rows rows) key ∙ started_row no_rows map.empty rows key (λ q. sym (map.get-empty key_cmp q))) i;
-      pending = ap (filter (is_on key)) (started_pending no_rows rows) i;
+      row = (row_of-at (with_rows no_rows own) key ∙ started_row layout.shape member.node no_rows map.empty rows key held (sym (map.get-empty key_cmp key))) i;
+      pending = ap (filter (is_on key)) (started_pending no_rows own) i;
     })
     (ap or_unlocked (map.get-empty key_cmp key)) refl
 
+idle_well : (node : ℕ) (layout : Layout) (rows : List (List ℕ × List ℕ)) → IsWell (unasked_yet node layout (with_rows no_rows rows) (record { used = 0; reserved = 0 }))
+idle_well node layout rows = record { placed = put_placed no_rows rows tt refl; orderly = empty_orderly }
+
+part_well : (of : Part) (member : Member) (layout : Layout) (epoch : ℕ) (rows : List (List ℕ × List ℕ)) → IsWellHost (fresh_part of member layout epoch rows)
+unfolding fresh_part
+part_well part.Main member layout epoch rows = idle_well 0 nowhere []
+part_well part.Tc member layout epoch rows = idle_well 0 nowhere []
+part_well part.Ldm member layout epoch rows = idle_well member.node layout (own_rows layout.shape member.node rows)
+
 started_well : (start : Start) (h : ℕ) → IsWellHost (started start h)
-unfolding fresh_shell fresh_node begun_node
-started_well start zero = tt
-started_well start (suc h) = record { placed = put_placed no_rows start.rows tt refl; orderly = empty_orderly }
-
-node_well : (n : node.Node) (at : BlockId) (body : Body) → IsWell n.lqh → IsWell (node_row n at body).state.lqh
-unfolding node_row
-node_well n block.Lqh body well = signals_keep_well n.lqh body well
-node_well n block.Tc body well = well
-node_well n block.Dih body well = well
-node_well n _ body well = well
-
-row_well : (s : host.Host) (to : Place) (body : Body) → IsWellHost s → IsWellHost (row s to body).state
-unfolding row
-row_well (Shell s) to body well = tt
-row_well (Node n) to body well = node_well n to.block body well
+unfolding fresh_shell started
+started_well start zero = idle_well 0 nowhere []
+started_well start (suc h) = part_well (part_by (h % 3)) (member_at (made start) (suc h)) (first_layout start.shape) start.epoch start.rows
 
 pub logs_keep_well : LogsKeepWell
 logs_keep_well start h [] = started_well start h
-logs_keep_well start h (e ∷ log) = row_well (after start h log) e.step.taken (logs_keep_well start h log)
+logs_keep_well start h (e ∷ log) = keeps_rows IsWell (λ s x well. signals_keep_well s x.body well) (after start h log) e.step.taken (logs_keep_well start h log)
 
 -- a host's step is one of each of its keys
-node_event : (n : node.Node) (at : BlockId) (body : Body) (key : List ℕ) → IsWell n.lqh → at_key key (node_row n at body).state.lqh ≡ key_after (event_for key n.lqh at body) (at_key key n.lqh)
-unfolding node_row
-node_event n block.Lqh body key well = signals_are_events n.lqh body key well
-node_event n block.Tc body key well = refl
-node_event n block.Dih body key well = refl
-node_event n _ body key well = refl
+ldm_event : (s : LqhState) (at : BlockId) (x : Signal) (key : List ℕ) → IsWell s → at_key key (ldm_row s at x).state ≡ key_after (event_for key s at x.body) (at_key key s)
+unfolding ldm_row
+ldm_event s block.Lqh x key well = signals_are_events s x.body key well
+ldm_event s _ x key well = refl
 
-host_event : (s : host.Host) (to : Place) (body : Body) (key : List ℕ) → IsWellHost s → key_in key (row s to body).state ≡ key_after (event_in key s to body) (key_in key s)
+host_event : (s : host.Host) (x : Signal) (key : List ℕ) → IsWellHost s → key_in key (row s x).state ≡ key_after (event_in key s x) (key_in key s)
 unfolding row
-host_event (Shell s) to body key well = refl
-host_event (Node n) to body key well = node_event n to.block body key well
+host_event (Shell a) x key well = refl
+host_event (Main m) x key well = refl
+host_event (Tc p) x key well = refl
+host_event (Ldm s) x key well = ldm_event s x.to.block x key well
 
 pub logs_follow : LogsFollowEvents
 logs_follow start h log e key = host_event (after start h log) e.step.taken key (logs_keep_well start h log)
 
 pub nodes_begin : NodesBeginAtRest
-unfolding fresh_node
-nodes_begin start h key = keys_begin_at_rest (h + 1) (first_view start.shape.nodes) start.epoch start.rows key
+nodes_begin start node key some few held =
+    ap (key_in key) (rows_started start node some few) ∙ keys_begin_at_rest (first_start node) (first_layout start.shape) start.epoch start.rows key held
 
 pub keys_have_rows : KeysHaveRows
 unfolding committed.row_at
-keys_have_rows (Shell s) key = refl
-keys_have_rows (Node n) key = refl
+keys_have_rows s key = refl

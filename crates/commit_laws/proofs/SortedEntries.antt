@@ -98,13 +98,13 @@ splits b (x ∷ xs) (inr rest) = let more = splits b xs rest in record { front =
 pub stands_before : (a b : Entry) (xs : List Entry) → AreSorted xs → IsIn a xs → IsIn b xs → a.stamp < b.stamp → StandsBefore a b xs
 stands_before a b [] sorted left right lt = absurd left
 stands_before a b (x ∷ xs) sorted (inl same) (inl other) lt =
-    absurd (let one : a.stamp ≡ b.stamp = ap (λ (e : Entry). e.step.stamp) (same ∙ sym other) in omega (arith, one, lt))
+    absurd (let one : a.stamp ≡ b.stamp = ap (λ (e : Entry). e.stamp) (same ∙ sym other) in omega (arith, one, lt))
 stands_before a b (x ∷ xs) sorted (inl same) (inr rest) lt =
     let split = splits b xs rest in
     record { front = []; between = split.front; back = split.back; is = ap (λ y. y ∷ xs) (sym same) ∙ ap (λ ys. a ∷ ys) split.is }
 stands_before a b (x ∷ xs) sorted (inr rest) (inl other) lt =
-    absurd (let le : x.stamp ≤ a.stamp = each_in (λ (e : Entry). x.stamp ≤ e.step.stamp) a xs sorted.0 rest in
-    let one : b.stamp ≡ x.stamp = ap (λ (e : Entry). e.step.stamp) other in omega (arith, one, le, lt))
+    absurd (let le : x.stamp ≤ a.stamp = each_in (λ (e : Entry). x.stamp ≤ e.stamp) a xs sorted.0 rest in
+    let one : b.stamp ≡ x.stamp = ap (λ (e : Entry). e.stamp) other in omega (arith, one, le, lt))
 stands_before a b (x ∷ xs) sorted (inr left) (inr right) lt =
     let more = stands_before a b xs sorted.1 left right lt in
     record { front = x ∷ more.front; between = more.between; back = more.back; is = ap (λ ys. x ∷ ys) more.is }

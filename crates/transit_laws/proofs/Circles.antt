@@ -5,35 +5,36 @@ use Rattle.world_core.specs.Steps.{Addressed, HostStep}
 use Rattle.sig_core.specs.declared.member.TxId.{TxId}
 use Rattle.sig_core.specs.declared.rows.PendingRecord.{PendingRecord}
 use Rattle.node_core.specs.declared.host.Host.{Host}
-use Rattle.node_core.specs.declared.host.Host.TheVariants.{Shell, Node}
+use Rattle.node_core.specs.Blocks.{tc_of}
 use Rattle.tc_block.specs.declared.transaction.Transaction.{Transaction}
+use Rattle.world_core.specs.Hosts.{home}
 use Rattle.world_core.specs.Start.{Start}
 use Rattle.transit_laws.specs.Circle.{Agree}
 use Rattle.transit_laws.specs.Live.{live_at}
-use Rattle.transit_laws.specs.Routes.{primary}
+use Rattle.transit_laws.specs.Routes.{primary_host}
 use Rattle.transit_laws.specs.Transit.{host_after, logs_of}
 use Rattle.transit_laws.proofs.CircleKept.{IsGoing}
-use Rattle.transit_laws.proofs.CircleView.{IsAs, Settles, Layout}
+use Rattle.transit_laws.proofs.CircleView.{IsAs, Settles, View}
 use Rattle.transit_laws.proofs.TcCircle.{is_early}
 use Rattle.transit_laws.proofs.ViewOf.{view_of}
 
 -- nothing was done for it
-pub record IsPristine (v : Layout) : Type 0 where
+pub record IsPristine (v : View) : Type 0 where
   pub made : v.made ≡ []
   pub alive : v.ended ≡ false
   pub none : (h : ℕ) → v.rec h ≡ None
 
-pub pristine_as : (v w : Layout) → IsAs v w → IsPristine v → IsPristine w
+pub pristine_as : (v w : View) → IsAs v w → IsPristine v → IsPristine w
 pristine_as v w like p = record { made = like.made ∙ p.made; alive = like.ended ∙ p.alive; none = λ h. like.rec h ∙ p.none h }
 
 -- so the key is settled
-pub pristine_settles : (start : Start) (key : List ℕ) (v : Layout) → IsPristine v → Settles start key v []
+pub pristine_settles : (start : Start) (key : List ℕ) (v : View) → IsPristine v → Settles start key v []
 pristine_settles start key v p = record {
   made = p.made;
   alive = p.alive;
-  agreed = λ h is. agree (v.rec (primary start key)) (v.rec h) (p.none (primary start key)) (p.none h);
+  agreed = λ h is. agree (v.rec (primary_host start key)) (v.rec h) (p.none (primary_host start key)) (p.none h);
   others = λ h off. p.none h;
-  written = ap is_some (p.none (primary start key));
+  written = ap is_some (p.none (primary_host start key));
 }
   where
     agree : (a b : Option PendingRecord) → a ≡ None → b ≡ None → Agree a b
@@ -41,10 +42,9 @@ pristine_settles start key v p = record {
 
 -- its number isn't given yet by its coordinator
 abbrev pub IsUnborn : TxId → Host → Type 0
-IsUnborn tx (Shell s) = ⊥
-IsUnborn tx (Node n) = n.tc.next_seq ≤ tx.seq
+IsUnborn tx host = (tc_of host).next_seq ≤ tx.seq
 
 -- Before it begins nothing is done for it; and while it is open, or waits for its epoch, it goes on.
 pub record IsCircling (start : Start) (tx : TxId) (key : List ℕ) (es : List HostStep) (xs : List Addressed) : Type 0 where
-  pub pristine : IsUnborn tx (host_after start es tx.tc) → IsPristine (view_of start (logs_of start es) tx key)
+  pub pristine : IsUnborn tx (host_after start es (home start tx)) → IsPristine (view_of start (logs_of start es) tx key)
   pub going : (t : Transaction) → live_at start (logs_of start es) tx ≡ Some t → is_early t.phase ≡ true → IsGoing start tx key (view_of start (logs_of start es) tx key) t xs

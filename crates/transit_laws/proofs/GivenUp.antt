@@ -12,7 +12,7 @@ use Rattle.sig_core.specs.declared.outcome.Outcome.TheVariants as outcome
 use Rattle.sig_core.specs.Same.{same_tx}
 use Rattle.sig_core.proofs.TxLemmas.{same_tx-is, same_tx-swap}
 use Rattle.world_core.specs.History.{is_applied, is_reported}
-use Rattle.world_core.specs.Hosts.{hosts}
+use Rattle.world_core.specs.Hosts.{home, hosts}
 use Rattle.world_core.specs.Marks.{has_mark, have_mark}
 use Rattle.world_core.specs.Start.{Start}
 use Rattle.commit_laws.specs.Ways.{back_by, forth_by, sent_ways, way_of}
@@ -37,9 +37,9 @@ none_among tx (v ∷ xs) none = ap (λ b. b || list_any (same_tx tx) xs) (same_t
 
 pub none_is_both : NoneIsBoth
 none_is_both start logs tx carried =
-    let forth_ones : List TxId = sent_ways start forth_by tx.tc (logs tx.tc) in
-    let back_ones : List TxId = sent_ways start back_by tx.tc (logs tx.tc) in
-    none_among tx back_ones (each_among (λ v. Each (λ w. same_tx w v ≡ false) back_ones) tx forth_ones (coordinators_one_way start tx.tc (logs tx.tc)) carried)
+    let forth_ones : List TxId = sent_ways start forth_by (home start tx) (logs (home start tx)) in
+    let back_ones : List TxId = sent_ways start back_by (home start tx) (logs (home start tx)) in
+    none_among tx back_ones (each_among (λ v. Each (λ w. same_tx w v ≡ false) back_ones) tx forth_ones (coordinators_one_way start (home start tx) (logs (home start tx))) carried)
 
 pub aborts_are_of_given_up : AbortsAreOfGivenUp
 aborts_are_of_given_up start es e tx key come is =

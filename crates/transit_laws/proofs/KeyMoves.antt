@@ -13,7 +13,7 @@ use Rattle.commit_laws.specs.Replica.{Event, Replica, ages, expires, key_after}
 use Rattle.commit_laws.specs.ReplicaLaws.{event_in, key_in}
 use Rattle.commit_laws.proofs.Replicas.{logs_follow}
 use Rattle.transit_laws.specs.Circle.{at_host, at_primary, primary_along}
-use Rattle.transit_laws.specs.Routes.{primary}
+use Rattle.transit_laws.specs.Routes.{primary_host}
 use Rattle.transit_laws.specs.Transit.{logs_of}
 use Rattle.transit_laws.proofs.CircleView.{IsAs, View}
 use Rattle.transit_laws.proofs.OthersStay.{ended_stays, event_of, is_of, made_stays, others_stay, waits_of}
@@ -81,32 +81,32 @@ module _ (start : Start) (es : List HostStep) (e : HostStep) (tx : TxId) (key : 
       ∙ ap (λ r. primary_after event_here (record { replica = r; made = (primary_along start host_of key (logs host_of)).made; ended = (primary_along start host_of key (logs host_of)).ended }))
       (replica_along start host_of key (logs host_of)))
 
-  pub made_here : host_of ≡ primary start key → view_now.made ≡ made_after event_here answered_here tx
-  made_here is = ap (λ (p : AtPrimary). p.made tx) (along_here (primary start key) is)
+  pub made_here : host_of ≡ primary_host start key → view_now.made ≡ made_after event_here answered_here tx
+  made_here is = ap (λ (p : AtPrimary). p.made tx) (along_here (primary_host start key) is)
 
-  pub ended_here : host_of ≡ primary start key → view_now.ended ≡ ended_after event_here answered_here tx
-  ended_here is = ap (λ (p : AtPrimary). p.ended tx) (along_here (primary start key) is)
+  pub ended_here : host_of ≡ primary_host start key → view_now.ended ≡ ended_after event_here answered_here tx
+  ended_here is = ap (λ (p : AtPrimary). p.ended tx) (along_here (primary_host start key) is)
 
-  pub made_other : host_of ≢ primary start key → view_now.made ≡ view_before.made
-  made_other off = ap (λ log. (primary_along start (primary start key) key log).made tx) (other_log (primary start key) off)
+  pub made_other : host_of ≢ primary_host start key → view_now.made ≡ view_before.made
+  made_other off = ap (λ log. (primary_along start (primary_host start key) key log).made tx) (other_log (primary_host start key) off)
 
-  pub ended_other : host_of ≢ primary start key → view_now.ended ≡ view_before.ended
-  ended_other off = ap (λ log. (primary_along start (primary start key) key log).ended tx) (other_log (primary start key) off)
+  pub ended_other : host_of ≢ primary_host start key → view_now.ended ≡ view_before.ended
+  ended_other off = ap (λ log. (primary_along start (primary_host start key) key log).ended tx) (other_log (primary_host start key) off)
 
   -- where the event leaves alone what is here of the transaction, but for the requests that wait
   pub view_as : found tx (key_after event_here before_here).cell.pending ≡ found tx before_here.cell.pending
       → made_after event_here answered_here tx ≡ (at_primary start logs key).made tx → ended_after event_here answered_here tx ≡ (at_primary start logs key).ended tx → IsAs view_before view_now
   view_as found_is made_is ended_is = record {
-    made = made (cases_eq host_of (primary start key));
-    ended = ended (cases_eq host_of (primary start key));
+    made = made (cases_eq host_of (primary_host start key));
+    ended = ended (cases_eq host_of (primary_host start key));
     rec = λ h. rec h (cases_eq host_of h);
   }
     where
-      made : (host_of ≡ primary start key) ⊎ (host_of ≢ primary start key) → view_now.made ≡ view_before.made
+      made : (host_of ≡ primary_host start key) ⊎ (host_of ≢ primary_host start key) → view_now.made ≡ view_before.made
       made (inl is) = made_here is ∙ made_is
       made (inr off) = made_other off
 
-      ended : (host_of ≡ primary start key) ⊎ (host_of ≢ primary start key) → view_now.ended ≡ view_before.ended
+      ended : (host_of ≡ primary_host start key) ⊎ (host_of ≢ primary_host start key) → view_now.ended ≡ view_before.ended
       ended (inl is) = ended_here is ∙ ended_is
       ended (inr off) = ended_other off
 

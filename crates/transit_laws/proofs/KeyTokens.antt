@@ -108,7 +108,7 @@ event_tokens tx event r = []
 
 pub tokens-append : (tx : TxId) (key : List ℕ) (xs ys : List Outgoing) → tokens_of tx key (xs ++ ys) ≡ tokens_of tx key xs ++ tokens_of tx key ys
 tokens-append tx key [] ys = refl
-tokens-append tx key (x ∷ xs) ys = ap (put (token_of tx key x.signal.to x.signal.body)) (tokens-append tx key xs ys) ∙ by (token_of tx key x.signal.to x.signal.body)
+tokens-append tx key (x ∷ xs) ys = ap (put (token_of tx key x.to x.body)) (tokens-append tx key xs ys) ∙ by (token_of tx key x.to x.body)
   where
     by : (o : Option Token) → put o (tokens_of tx key xs ++ tokens_of tx key ys) ≡ put o (tokens_of tx key xs) ++ tokens_of tx key ys
     by None = refl

@@ -1,33 +1,28 @@
 -- Each transaction of a coordinator has touched its keys rightly, along every run.
-use Rattle.std.proofs.Common.{◌≡◌, ℕ, zero, suc, false, List, [], ◌∷◌, ◌++◌, refl, subst}
+use Rattle.std.proofs.Common.{◌≡◌, ℕ, false, List, [], ◌∷◌, ◌++◌, refl, subst, sym}
 use Rattle.std.specs.Prelude.{None}
 use Rattle.run_theory.specs.Lists.{Each}
 use Rattle.run_theory.proofs.Pasts.{each_append, each_map}
 use Rattle.world_core.specs.Steps.{HostStep}
+use Rattle.sig_core.specs.declared.member.TxId.{TxId}
 use Rattle.sig_core.specs.declared.op.Answer.{Answer}
 use Rattle.sig_core.specs.declared.op.Answer.TheVariants as answer
 use Rattle.sig_core.specs.declared.op.Op.{Op}
 use Rattle.sig_core.specs.declared.outs.Outgoing.{Outgoing}
-use Rattle.sig_core.specs.declared.place.BlockId.{BlockId}
-use Rattle.sig_core.specs.declared.place.BlockId.TheVariants as block
-use Rattle.sig_core.specs.declared.place.Place.{Place}
-use Rattle.sig_core.specs.declared.signal.Body.{Body}
-use Rattle.frag_map.specs.Layout.{Layout}
+use Rattle.sig_core.specs.declared.signal.Signal.{Signal}
+use Rattle.frag_map.specs.Layout.{Layout, chain_of}
 use Rattle.sig_core.specs.Op.{key_of}
-use Rattle.frag_map.specs.Layout.{chain_of}
 use Rattle.tc_block.specs.declared.phase.Asked.{Asked}
 use Rattle.tc_block.specs.declared.transaction.Transaction.{Transaction}
 use Rattle.tc_block.specs.Operate.{answered, operating}
-use Rattle.node_core.specs.declared.host.Host.{Host}
-use Rattle.node_core.specs.declared.host.Host.TheVariants.{Shell, Node}
-use Rattle.node_core.specs.declared.node.Node as node
-use Rattle.node_core.specs.Fresh.{begun_node, fresh_node, fresh_shell}
-use Rattle.node_core.specs.Row.{node_row, row}
+use Rattle.tc_block.specs.State.{TcState}
+use Rattle.tc_block.specs.Tc.{tc_row}
+use Rattle.node_core.proofs.HostCases.{keeps_tc}
 use Rattle.world_core.specs.History.{is_done}
 use Rattle.world_core.specs.Machine.{after}
-use Rattle.world_core.specs.Hosts.{started}
 use Rattle.world_core.specs.Start.{Start}
 use Rattle.tc_block.proofs.LiveKeeps.{TurnsKeep, live_keeps}
+use Rattle.answer_laws.proofs.HostSteps.{first_live}
 use Rattle.transit_laws.specs.Keyed.{HasTouched, HasTouchedAsked, IsHostKeyed, IsTouchedRightly, TransactionsAreKeyed}
 use Rattle.transit_laws.specs.Transit.{logs_of}
 use Rattle.transit_laws.proofs.TouchedLists.{touch_apart, touch_more, touch_own, touch_written, undone_written, write_apart, write_touched, write_written}
@@ -40,7 +35,7 @@ any_sends : (sends : List Outgoing) → Each AnySend sends
 any_sends [] = tt
 any_sends (o ∷ sends) = (tt, any_sends sends)
 
-operated_keyed : (t : Transaction) (op : Op) (layout : Layout) (tx : _) → IsTouchedRightly t → IsTouchedRightly (operating tx t op (chain_of layout (key_of op))).state
+operated_keyed : (t : Transaction) (op : Op) (layout : Layout) (tx : TxId) → IsTouchedRightly t → IsTouchedRightly (operating tx t op (chain_of layout (key_of op))).state
 operated_keyed t op layout tx fine = record {
   apart = touch_apart t.touched (key_of op) (chain_of layout (key_of op)) fine.apart;
   answered = each_map (λ (o : Op × Answer). HasTouched t.touched (key_of o.0)) _ t.ops (λ o has. touch_more t.touched (key_of op) (key_of o.0) (chain_of layout (key_of op)) has) fine.answered;
@@ -83,28 +78,15 @@ turns_keyed layout = record {
 }
 
 -- so it is of each host, along any log
-node_keyed : (n : node.Node) (at : BlockId) (body : Body) → IsHostKeyed (Node n) → IsHostKeyed (Node (node_row n at body).state)
-unfolding node_row
-node_keyed n block.Tc body all =
-    (live_keeps (λ t. IsTouchedRightly t) AnySend n.tc body (record { apart = tt; answered = tt; asked = tt; written = tt }) (turns_keyed n.tc.layout)
-    (λ tx t op fine. record { state = operated_keyed t op n.tc.layout tx fine; sends = (tt, tt) }) all).live
-node_keyed n block.Dih body all = all
-node_keyed n block.Lqh body all = all
-node_keyed n _ body all = all
-
-host_keyed : (s : Host) (to : Place) (body : Body) → IsHostKeyed s → IsHostKeyed (row s to body).state
-unfolding row
-host_keyed (Shell s) to body is = tt
-host_keyed (Node n) to body is = node_keyed n to.block body is
-
-started_keyed : (start : Start) (h : ℕ) → IsHostKeyed (started start h)
-unfolding fresh_shell fresh_node begun_node
-started_keyed start zero = tt
-started_keyed start (suc h) = tt
+tc_keyed : (s : TcState) (x : Signal) → Each (λ (e : TxId × Transaction). IsTouchedRightly e.1) s.live → Each (λ (e : TxId × Transaction). IsTouchedRightly e.1) (tc_row s x).state.live
+tc_keyed s x all =
+    (live_keeps (λ t. IsTouchedRightly t) AnySend s x.body (record { apart = tt; answered = tt; asked = tt; written = tt }) (turns_keyed s.layout)
+    (λ tx t op fine. record { state = operated_keyed t op s.layout tx fine; sends = (tt, tt) }) all).live
 
 pub log_keyed : (start : Start) (h : ℕ) (log : List HostStep) → IsHostKeyed (after start h log)
-log_keyed start h [] = started_keyed start h
-log_keyed start h (e ∷ log) = host_keyed (after start h log) e.step.taken (log_keyed start h log)
+log_keyed start h [] = subst (Each (λ (e : TxId × Transaction). IsTouchedRightly e.1)) (sym (first_live start h)) tt
+log_keyed start h (e ∷ log) =
+    keeps_tc (λ s. Each (λ (e : TxId × Transaction). IsTouchedRightly e.1) s.live) tc_keyed (after start h log) e.step.taken (log_keyed start h log)
 
 pub transactions_are_keyed : TransactionsAreKeyed
 transactions_are_keyed start es h run = log_keyed start h (logs_of start es h)

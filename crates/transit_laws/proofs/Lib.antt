@@ -1,4 +1,7 @@
+pub mod AbortsFirst
+pub mod Addressed
 pub mod Ahead
+pub mod Bystanders
 pub mod CarriedNext
 pub mod CarriedOut
 pub mod CarriedTurn
@@ -12,10 +15,11 @@ pub mod Completions
 pub mod Decided
 pub mod DecidedSettled
 pub mod FirstCommits
+pub mod FreshHosts
 pub mod GivenUp
+pub mod HomeSteps
 pub mod HostAfter
 pub mod HostAsks
-pub mod HostCases
 pub mod HostFades
 pub mod HostParts
 pub mod HostSteps
@@ -26,6 +30,7 @@ pub mod KeySteps
 pub mod KeyTokens
 pub mod Keyed
 pub mod LiveAfter
+pub mod LiveFacts
 pub mod LiveOf
 pub mod LqhCases
 pub mod LqhParts
@@ -46,6 +51,8 @@ pub mod RoutesChain
 pub mod RoutesLqh
 pub mod RoutesSends
 pub mod RoutesTc
+pub mod RowsEvents
+pub mod RowsNodes
 pub mod SettledAlong
 pub mod StepFades
 pub mod TcAborts
@@ -54,6 +61,7 @@ pub mod TcAsks
 pub mod TcCircle
 pub mod TcGoing
 pub mod TcOwn
+pub mod TcSaid
 pub mod TcSees
 pub mod TcSound
 pub mod TcStill

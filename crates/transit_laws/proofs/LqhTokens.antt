@@ -122,7 +122,7 @@ module _ (tx : TxId) where
             perform_tokens (storage_of left) f.item,
             tally_between is_own f.front f.item f.back s.waiting f.is,
             ap (tally is_own) f.removed,
-            tally_append (λ (x : Outgoing). is_token tx x.signal.body) (operate.performed left f.item).effects.sends (operate.more_granted left),
+            tally_append (λ (x : Outgoing). is_token tx x.body) (operate.performed left f.item).effects.sends (operate.more_granted left),
             go_on_tokens left.node work.Granted (is_some (operate.first_granted left.locks left.waiting)),
           )
 
@@ -166,7 +166,7 @@ module _ (tx : TxId) where
         unasked_tokens s other key,
         refused_tokens other key (abort.waits_at s other key),
         given (record_state s.rows other key),
-        tally_append (λ (x : Outgoing). is_token tx x.signal.body) (abort.refused_by other key (abort.waits_at s other key)) (to_place (coordinator_of other) (Chain (Aborted other key)) ∷ serve_granted s.node (freed_lock s other key)),
+        tally_append (λ (x : Outgoing). is_token tx x.body) (abort.refused_by other key (abort.waits_at s other key)) (to_place (coordinator_of other) (Chain (Aborted other key)) ∷ serve_granted s.node (freed_lock s other key)),
         served_tokens s.node (freed_lock s other key),
       )
     where
@@ -187,7 +187,7 @@ module _ (tx : TxId) where
             arith,
             unasked_tokens now other key,
             ap (λ b. one_if (b && same_tx other tx)) (there (abort.waits_at now other key) refl),
-            tally_append (λ (x : Outgoing). is_token tx x.signal.body) (serve_granted s.node (unwaited_at s.locks key other)) (expire.more_expired now),
+            tally_append (λ (x : Outgoing). is_token tx x.body) (serve_granted s.node (unwaited_at s.locks key other)) (expire.more_expired now),
             served_tokens s.node (unwaited_at s.locks key other),
             go_on_tokens now.node work.Expired (is_some (expired now.locks)),
           )

@@ -1,7 +1,7 @@
 -- The operations of a transaction are under way one at a time.
-use Rattle.std.proofs.Common.{◌≡◌, ◌≢◌, ◌⊎◌, ◌<◌, ℕ, zero, suc, ◌+◌, ◌-◌, ◌≤◌, Bool, true, List, [], ◌∷◌, refl, sym, ap, ◌∙◌, subst, arith, inl, inr}
+use Rattle.std.proofs.Common.{◌≡◌, ◌≢◌, ◌⊎◌, ℕ, zero, suc, ◌+◌, ◌-◌, ◌≤◌, Bool, true, List, [], ◌∷◌, refl, sym, ap, ◌∙◌, subst, arith, inl, inr}
 use Rattle.std.specs.List.{list_any}
-use Rattle.std.proofs.lemmas.Bool.{cases_eq, cases_lt}
+use Rattle.std.proofs.lemmas.Bool.{cases_eq}
 use Rattle.run_theory.proofs.Runs.{log_of-other, log_of-own}
 use Rattle.world_core.specs.Steps.{Addressed, HostStep}
 use Rattle.sig_core.specs.declared.member.TxId.{TxId}
@@ -11,40 +11,30 @@ use Rattle.sig_core.specs.declared.signal.Body.{Body}
 use Rattle.sig_core.specs.declared.signal.Body.TheVariants.{Chain}
 use Rattle.sig_core.specs.declared.signal.chain.ChainSignal.TheVariants.{LqhKeyReq, LqhKeyConf, LqhKeyRef}
 use Rattle.sig_core.specs.Same.{same_tx}
-use Rattle.node_core.specs.declared.host.Host.TheVariants.{Node}
-use Rattle.node_core.specs.Fresh.{begun_node, fresh_node}
+use Rattle.lqh_block.specs.declared.request.Request.{Request}
 use Rattle.node_core.specs.Requests.{is_request}
-use Rattle.world_core.specs.Hosts.{hosts}
+use Rattle.world_core.specs.Hosts.{home, hosts}
 use Rattle.world_core.specs.Machine.{after, machine, signals_of, step_after}
 use Rattle.world_core.specs.Start.{Start}
 use Rattle.commit_laws.specs.Ways.{back_by, sent_ways}
-use Rattle.answer_laws.proofs.Hosts.{node_after, shell_after}
+use Rattle.answer_laws.proofs.HostSteps.{first_waiting}
 use Rattle.commit_laws.specs.Counts.{one_if, tally}
 use Rattle.commit_laws.proofs.Sums.{total_at, total_one}
 use Rattle.commit_laws.specs.Counts.{total}
 use Rattle.transit_laws.specs.Live.{of_host}
 use Rattle.transit_laws.specs.Tokens.{OneAtATime, budget, budget_by, is_token, tokens, tokens_in, waiting_all, waiting_in}
 use Rattle.transit_laws.specs.Transit.{Comes, Takes, joined, logs_of}
-use Rattle.transit_laws.proofs.HostTokens.{Kept, node_step_kept, shell_kept}
+use Rattle.transit_laws.proofs.Addressed.{comes_below}
+use Rattle.transit_laws.proofs.HomeSteps.{own_home}
+use Rattle.transit_laws.proofs.HostTokens.{Kept, host_kept}
 use Rattle.transit_laws.proofs.LqhTokens.{tokens_out}
-use Rattle.transit_laws.proofs.TcSound.{IsSoundHost, log_sound}
+use Rattle.transit_laws.proofs.TcSound.{log_sound}
 use Rattle.transit_laws.proofs.Transit.{along_transit}
 use Rattle.transit_laws.proofs.Weighing.{joins_weigh, takes_weigh, weigh}
 
 tally_weighs : {A : Type 0} (p : A → Bool) (xs : List A) → tally p xs ≡ weigh (λ x. one_if (p x)) xs
 tally_weighs p [] = refl
 tally_weighs p (x ∷ xs) = ap (λ m. one_if (p x) + m) (tally_weighs p xs)
-
--- the host of a step is one of those that there are
-pub comes_low : (start : Start) (es : List HostStep) (e : HostStep) → Comes start es e → e.host < hosts start
-comes_low start es e come = by (cases_lt e.host (hosts start))
-  where
-    nothing : e ∷ logs_of start es e.host ≡ [] → ⊥
-    nothing q = cc
-
-    by : (e.host < hosts start) ⊎ (hosts start ≤ e.host) → e.host < hosts start
-    by (inl low) = low
-    by (inr high) = absurd (nothing (sym (log_of-own (machine start) e es e.host refl) ∙ come.now.within e.host high))
 
 module _ (start : Start) (tx : TxId) where
   abbrev weight : Place → Body → ℕ
@@ -111,49 +101,33 @@ module _ (start : Start) (tx : TxId) where
     waiting_now =
         omega (
           arith,
-          total_one (hosts start) (λ k. waiting_in tx (after start k (was k))) (λ k. waiting_in tx (after start k (now k))) h (comes_low start es e come)
+          total_one (hosts start) (λ k. waiting_in tx (after start k (was k))) (λ k. waiting_in tx (after start k (now k))) h (comes_below start es e come)
               (λ k off. ap (λ log. waiting_in tx (after start k log)) (other_log k off)),
           ap (λ log. waiting_in tx (after start h log)) own_log,
         )
 
     waiting_some : waits_was ≤ waiting_all start was tx
-    waiting_some = total_at (hosts start) (λ k. waiting_in tx (after start k (was k))) h (comes_low start es e come)
+    waiting_some = total_at (hosts start) (λ k. waiting_in tx (after start k (was k))) h (comes_below start es e come)
 
-    kept : Kept tx h (sent_ways start back_by h (was h)) (after start h (was h)) e.step.taken
-    kept = at_host h (was h) e.step.taken (log_sound start h (was h))
-      where
-        at_host : (k : ℕ) (log : List HostStep) (to : Place) (body : Body) → IsSoundHost (after start k log) (sent_ways start back_by k log)
-            → Kept tx k (sent_ways start back_by k log) (after start k log) to body
-        at_host zero log to body sound =
-            let s = shell_after start log in
-            subst (λ g. Kept tx zero (sent_ways start back_by zero log) g to body) (sym s.is) (shell_kept tx (sent_ways start back_by zero log) s.state to body zero)
-        at_host (suc k) log to body sound =
-            let n = node_after start k log in
-            subst (λ g. Kept tx (suc k) (sent_ways start back_by (suc k) log) g to body) (sym n.is)
-            (subst (λ j. Kept tx j (sent_ways start back_by (suc k) log) (Node n.state) to body) n.number
-            (node_step_kept tx (sent_ways start back_by (suc k) log) n.state to body (subst (λ g. IsSoundHost g (sent_ways start back_by (suc k) log)) n.is sound)))
+    kept : Kept tx (sent_ways start back_by h (was h)) (after start h (was h)) e.step.taken
+    kept = host_kept tx (sent_ways start back_by h (was h)) (after start h (was h)) e.step.taken (log_sound start h (was h))
 
     abbrev budget_here : ℕ → List HostStep → ℕ
     budget_here k log = budget_by (list_any (same_tx tx) (sent_ways start back_by k log)) (of_host tx (after start k log))
 
     step_one : tokens start was before tx ≤ budget start was tx → tokens start now joined_now tx ≤ budget start now tx
-    step_one low = by (cases_eq tx.tc h)
+    step_one low = by (cases_eq (home start tx) h)
       where
-        by : (tx.tc ≡ h) ⊎ (tx.tc ≢ h) → tokens start now joined_now tx ≤ budget start now tx
-        by (inr off) = omega (arith, low, in_before, in_now, waiting_now, kept.away off, ap (budget_here tx.tc) (other_log tx.tc off))
+        by : (home start tx ≡ h) ⊎ (home start tx ≢ h) → tokens start now joined_now tx ≤ budget start now tx
+        by (inr off) = omega (arith, low, in_before, in_now, waiting_now, kept.away (λ runs own. off (sym (own_home start es e come tx runs own))), ap (budget_here (home start tx)) (other_log (home start tx) off))
         by (inl at) =
             let here : budget start was tx ≡ budget_here h (was h) = ap (λ k. budget_here k (was k)) at in
             let there : budget start now tx ≡ budget_here h (e ∷ was h) = ap (λ k. budget_here k (now k)) at ∙ ap (budget_here h) own_log in
             let rest : ℕ = tokens_in tx between + (waiting_all start was tx - waits_was) in
             omega (arith, kept.home rest (omega (arith, low, in_before, here, waiting_some)), in_now, waiting_now, waiting_some, there)
 
-  fresh_waits : (k : ℕ) → waiting_in tx (after start (suc k) []) ≡ 0
-  unfolding fresh_node begun_node
-  fresh_waits k = refl
-
   pub none_waits_first : (k : ℕ) → waiting_in tx (after start k []) ≡ 0
-  none_waits_first zero = ap (waiting_in tx) (shell_after start []).is
-  none_waits_first (suc k) = fresh_waits k
+  none_waits_first k = ap (tally (λ (q : Request). same_tx q.tx tx)) (first_waiting start k)
 
   none_first : tokens start (logs_of start []) [] tx ≤ budget start (logs_of start []) tx
   none_first = omega (arith, none (hosts start))

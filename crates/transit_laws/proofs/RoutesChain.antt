@@ -1,57 +1,32 @@
--- The replicas of a key are the nodes from 1 on, each once.
-use Rattle.std.proofs.Common.{◌≡◌, ◌⊎◌, ◌<◌, ◌≤◌, ℕ, zero, suc, ◌+◌, List, [], ◌∷◌, ◌++◌, length, refl, ap, ◌∙◌, subst, arith, inl, inr, length-append}
-use Rattle.std.proofs.lemmas.Bool.{cases_lt}
-use Rattle.std.specs.Prelude.{Some, slice_get}
+-- The replicas of a key: each once, on nodes of its group, and each with a host of its own.
+use Rattle.std.proofs.Common.{◌≡◌, ◌<◌, ℕ, List, [], ◌∷◌, length, refl, arith}
 use Rattle.sig_core.specs.declared.member.Member.{Member}
-use Rattle.sig_core.specs.Chain.{last_place, node_at, node_of, primary_of}
-use Rattle.frag_map.specs.Layout.{chain_of}
-use Rattle.frag_map.specs.Layout.{members}
+use Rattle.sig_core.specs.Chain.{last_place, node_at, primary_of}
+use Rattle.frag_map.proofs.FirstReplicas.{first_apart, first_group, first_length, first_nodes}
+use Rattle.frag_map.specs.Shape.{IsShape}
+use Rattle.world_core.proofs.HostNumbers.{rows_host_apart}
 use Rattle.world_core.specs.Start.{Start}
-use Rattle.transit_laws.specs.Routes.{ReplicasAreApart, ReplicasAreNodes, replicas}
+use Rattle.transit_laws.specs.Routes.{ReplicasAreApart, ReplicasAreNodes, replica_host, replicas}
 
-get_front : {A : Type 0} (xs ys : List A) (i : ℕ) → i < length xs → slice_get (xs ++ ys) i ≡ slice_get xs i
-get_front [] ys i low = absurd (omega (arith, low))
-get_front (x ∷ xs) ys zero low = refl
-get_front (x ∷ xs) ys (suc i) low = get_front xs ys i (omega (arith, low))
-
-get_next : {A : Type 0} (xs : List A) (y : A) → slice_get (xs ++ y ∷ []) (length xs) ≡ Some y
-get_next [] y = refl
-get_next (x ∷ xs) y = get_next xs y
-
-members_length : (n : ℕ) → length (members n) ≡ n
-members_length zero = refl
-members_length (suc n) = omega (arith, length-append (members n) (record { node = n + 1; start = 0 } ∷ []), members_length n)
-
-member_at : (n i : ℕ) → i < n → node_at (members n) i ≡ i + 1
-member_at zero i low = absurd (omega (arith, low))
-member_at (suc n) i low = by (cases_lt i n) (member_at n i)
-  where
-    last : Member
-    last = record { node = n + 1; start = 0 }
-
-    by : (i < n) ⊎ (n ≤ i) → (i < n → node_at (members n) i ≡ i + 1) → node_at (members (suc n)) i ≡ i + 1
-    by (inl less) rest = ap node_of (get_front (members n) (last ∷ []) i (omega (arith, less, members_length n))) ∙ rest less
-    by (inr past) rest =
-        let same : length (members n) ≡ i = omega (arith, low, past, members_length n) in
-        subst (λ k. node_at (members n ++ last ∷ []) k ≡ k + 1) same (ap node_of (get_next (members n) last) ∙ omega (arith, members_length n))
-
-pub replicas_length : (start : Start) (key : List ℕ) → length (replicas start key) ≡ start.shape.nodes
-unfolding chain_of
-replicas_length start key = members_length start.shape.nodes
-
--- the node at a place
-pub replica_at : (start : Start) (key : List ℕ) (at : ℕ) → at < length (replicas start key) → node_at (replicas start key) at ≡ at + 1
-unfolding chain_of
-replica_at start key at inside = member_at start.shape.nodes at (omega (arith, inside, members_length start.shape.nodes))
+pub replicas_some : (start : Start) → IsShape start.shape → (key : List ℕ) → 0 < length (replicas start key)
+replicas_some start is key = omega (arith, is.replicas_some, first_length start.shape is key)
 
 pub replicas_are_apart : ReplicasAreApart
-replicas_are_apart start key one other here there same = omega (arith, same, replica_at start key one here, replica_at start key other there)
+replicas_are_apart start key one other is here there same = first_apart start.shape is key one other here there same
 
 pub replicas_are_nodes : ReplicasAreNodes
-replicas_are_nodes start key at inside = (
-  omega (arith, replica_at start key at inside),
-  omega (arith, replica_at start key at inside, inside, replicas_length start key),
-)
+replicas_are_nodes start key at is inside =
+    let nodes = first_nodes start.shape is key at inside in
+    record { from = nodes.0; to = nodes.1; holding = first_group start.shape is key at inside }
+
+-- no two have one host
+pub hosts_are_apart : (start : Start) (key : List ℕ) (one other : ℕ) → IsShape start.shape → one < length (replicas start key)
+    → other < length (replicas start key) → replica_host start key one ≡ replica_host start key other → one ≡ other
+hosts_are_apart start key one other is here there same =
+    let a = replicas_are_nodes start key one is here in
+    let b = replicas_are_nodes start key other is there in
+    replicas_are_apart start key one other is here there
+    (rows_host_apart start (node_at (replicas start key) one) (node_at (replicas start key) other) a.from a.to b.from b.to same)
 
 -- the primary alone
 pub primary_length : (chain : List Member) → 0 < length chain → length (primary_of chain) ≡ 1

@@ -1,5 +1,5 @@
 -- Each step of a coordinator leaves it sound.
-use Rattle.std.proofs.Common.{◌≡◌, ◌⊎◌, ◌<◌, ℕ, zero, suc, ◌+◌, Bool, true, false, ◌&&◌, List, [], ◌∷◌, ◌++◌, refl, sym, ap, ◌∙◌, subst, arith, inl, inr}
+use Rattle.std.proofs.Common.{◌≡◌, ◌⊎◌, ◌<◌, ℕ, ◌+◌, Bool, true, false, ◌&&◌, List, [], ◌∷◌, ◌++◌, refl, sym, ap, ◌∙◌, subst, arith, inl, inr}
 use Rattle.std.specs.FinMap as finite
 use Rattle.std.specs.List.{list_any}
 use Rattle.std.specs.Prelude.{Option, nat_eq}
@@ -9,10 +9,8 @@ use Rattle.run_theory.proofs.Pasts.{each_after, each_append, each_before, each_m
 use Rattle.world_core.specs.Steps.{HostStep}
 use Rattle.sig_core.specs.declared.member.TxId.{TxId}
 use Rattle.sig_core.specs.declared.outs.Outgoing.{Outgoing}
-use Rattle.sig_core.specs.declared.place.BlockId.{BlockId}
-use Rattle.sig_core.specs.declared.place.BlockId.TheVariants as block
-use Rattle.sig_core.specs.declared.place.Place.{Place}
 use Rattle.sig_core.specs.declared.signal.Body.{Body}
+use Rattle.sig_core.specs.declared.signal.Signal.{Signal}
 use Rattle.sig_core.specs.Same.{same_tx}
 use Rattle.sig_core.specs.Step.{Step}
 use Rattle.row_locks.specs.Queues.{waits}
@@ -23,13 +21,12 @@ use Rattle.tc_block.specs.declared.transaction.Transaction.{Transaction}
 use Rattle.tc_block.specs.Live.{turned_if, without}
 use Rattle.tc_block.specs.Operate.{fresh}
 use Rattle.tc_block.specs.State.{TcState}
-use Rattle.tc_block.specs.Tc.{begin_if, next_tx, tc_table}
+use Rattle.tc_block.specs.Tc.{begin_if, next_tx, tc_row, tc_table}
 use Rattle.tc_block.specs.Turn.{Turn}
-use Rattle.node_core.specs.declared.host.Host as host
-use Rattle.node_core.specs.declared.host.Host.TheVariants.{Shell, Node}
-use Rattle.node_core.specs.declared.node.Node as node
-use Rattle.node_core.specs.Fresh.{begun_node, fresh_node, fresh_shell}
-use Rattle.node_core.specs.Row.{node_row, row}
+use Rattle.node_core.specs.declared.host.Host.{Host}
+use Rattle.node_core.specs.Blocks.{lqh_of, tc_of}
+use Rattle.node_core.specs.Row.{row}
+use Rattle.node_core.proofs.HostCases.{keeps_rows}
 use Rattle.world_core.specs.Machine.{after}
 use Rattle.world_core.specs.Hosts.{started}
 use Rattle.world_core.specs.Start.{Start}
@@ -40,9 +37,12 @@ use Rattle.commit_laws.proofs.OneWay.{back_more}
 use Rattle.tc_block.proofs.EachTc.{tc_each}
 use Rattle.tc_block.proofs.EachTurn.{rows_both, rows_of}
 use Rattle.commit_laws.proofs.TcWays.{AllWays, TurnWays, WayOf, turn_ways}
+use Rattle.answer_laws.proofs.HostSteps.{first_live}
 use Rattle.answer_laws.proofs.TcOps.{is_right}
+use Rattle.transit_laws.proofs.FreshHosts.{started_unasked}
 use Rattle.transit_laws.proofs.LqhWaits.{WaitersAsk, lqh_asks}
 use Rattle.transit_laws.proofs.TcAborts.{TurnAborts, turn_aborts}
+use Rattle.transit_laws.proofs.TcSaid.{TcSays, rests, takes, tc_says}
 use Rattle.transit_laws.proofs.TcTokens.{IsOwned, IsSound, now_given_up, rows_tokens}
 use Rattle.transit_laws.proofs.TcTurns.{TurnTokens, gives_up}
 
@@ -133,7 +133,7 @@ module _ (s : TcState) (bs : List TxId) (n : IsSound s bs) where
   begins_sound : (name : Option ℕ) → StaysSound bs (begin_if s name false)
   begins_sound name = record {
     once = once_inserted s.live (next_tx s) fresh others n.once;
-    live = each_inserted (IsOwned s.node (s.next_seq + 1) bs) s.live (next_tx s) fresh others (record { home = refl; below = omega arith; right = refl; touched = λ is. absurd cc; given = λ is. absurd cc })
+    live = each_inserted (IsOwned s.node (s.next_seq + 1) bs) s.live (next_tx s) fresh others (record { home = refl; below = omega arith; right = refl; touched = tt; given = λ is. absurd cc })
         (each_map (IsOwned s.node s.next_seq bs) (IsOwned s.node (s.next_seq + 1) bs) s.live (λ x is. record { home = is.home; below = omega (arith, is.below); right = is.right; touched = is.touched; given = is.given }) n.live);
     begun = each_map (λ (v : TxId). v.seq < s.next_seq) (λ (v : TxId). v.seq < s.next_seq + 1) bs (λ v lt. omega (arith, lt)) n.begun;
   }
@@ -164,30 +164,34 @@ module _ (s : TcState) (bs : List TxId) (n : IsSound s bs) where
       Both : TxId → Transaction → Turn → Type 0
       Both tx t turn = TurnTokens tx t 1 turn × (TurnAborts tx t turn × TurnWays tx t.phase turn)
 
--- a node is sound: its coordinator is, and who waits in a queue has a request that waits
-abbrev pub IsSoundHost : host.Host → List TxId → Type 0
-IsSoundHost (Shell s) bs = Unit {0}
-IsSoundHost (Node n) bs = IsSound n.tc bs × WaitersAsk n.lqh
+-- a host is sound: its coordinator is, and who waits in a queue of its rows has a request that waits
+pub record IsSoundHost (s : Host) (bs : List TxId) : Type 0 where
+  pub tc : IsSound (tc_of s) bs
+  pub asks : WaitersAsk (lqh_of s)
 
-node_sound : (n : node.Node) (at : BlockId) (body : Body) (bs : List TxId) → IsSound n.tc bs × WaitersAsk n.lqh
-    → IsSound (node_row n at body).state.tc (put_ways back_by (tc_sends (Node n) at body) bs) × WaitersAsk (node_row n at body).state.lqh
-unfolding node_row
-node_sound n block.Tc body bs is = (tc_sound n.tc bs is.0 body, is.1)
-node_sound n block.Dih body bs is = is
-node_sound n block.Lqh body bs is = (is.0, lqh_asks n.lqh body is.1)
-node_sound n _ body bs is = is
-
-host_sound : (s : host.Host) (to : Place) (body : Body) (bs : List TxId) → IsSoundHost s bs → IsSoundHost (row s to body).state (put_ways back_by (tc_sends s to.block body) bs)
-unfolding row
-host_sound (Shell s) to body bs is = tt
-host_sound (Node n) to body bs is = node_sound n to.block body bs is
+host_sound : (s : Host) (x : Signal) (bs : List TxId) → IsSound (tc_of s) bs → IsSound (tc_of (row s x).state) (put_ways back_by (tc_sends s x) bs)
+host_sound s x bs is = by (tc_says s x)
+  where
+    by : TcSays s x (row s x) → IsSound (tc_of (row s x).state) (put_ways back_by (tc_sends s x) bs)
+    by (takes step says) =
+        subst (λ sends. IsSound (tc_of (row s x).state) (put_ways back_by sends bs)) (sym says)
+        (subst (λ t. IsSound t (put_ways back_by (tc_row (tc_of s) x).effects.sends bs)) (sym step.state) (tc_sound (tc_of s) bs is x.body))
+    by (rests state says) =
+        subst (λ sends. IsSound (tc_of (row s x).state) (put_ways back_by sends bs)) (sym says) (subst (λ t. IsSound t bs) (sym state) is)
 
 started_sound : (start : Start) (h : ℕ) → IsSoundHost (started start h) []
-unfolding fresh_shell fresh_node begun_node
-started_sound start zero = tt
-started_sound start (suc h) = (record { once = tt; live = tt; begun = tt }, record { asks = λ key tx is. absurd (let both : true ≡ false = sym is ∙ ap (λ o. waits tx (or_unlocked o).queue) (finite.get-empty key_cmp key) in cc) })
+started_sound start h = record {
+  tc = record { once = subst KeysOnce (sym (first_live start h)) tt; live = subst (Each (IsOwned (tc_of (started start h)).node (tc_of (started start h)).next_seq [])) (sym (first_live start h)) tt; begun = tt };
+  asks = let unasked = started_unasked start h in subst (λ l. WaitersAsk l) (sym unasked.is)
+      (record { asks = λ key tx is. absurd (let both : true ≡ false = sym is ∙ ap (λ o. waits tx (or_unlocked o).queue) (finite.get-empty key_cmp key) in cc) });
+}
 
 -- so it is along any log
 pub log_sound : (start : Start) (h : ℕ) (log : List HostStep) → IsSoundHost (after start h log) (sent_ways start back_by h log)
 log_sound start h [] = started_sound start h
-log_sound start h (e ∷ log) = host_sound (after start h log) e.step.taken (sent_ways start back_by h log) (log_sound start h log)
+log_sound start h (e ∷ log) =
+    let is = log_sound start h log in
+    record {
+      tc = host_sound (after start h log) e.step.taken (sent_ways start back_by h log) is.tc;
+      asks = keeps_rows WaitersAsk (λ l x. lqh_asks l x.body) (after start h log) e.step.taken is.asks;
+    }

@@ -13,9 +13,8 @@ use Rattle.sig_core.specs.declared.signal.Body.TheVariants.{Client, Chain, Epoch
 use Rattle.sig_core.specs.declared.signal.chain.ChainSignal.TheVariants.{LqhKeyConf, LqhKeyRef}
 use Rattle.sig_core.specs.declared.signal.client.ClientSignal.TheVariants.{TcKeyReq, TcCommitReq, TcRollbackReq}
 use Rattle.sig_core.specs.declared.signal.epoch.EpochSignal.TheVariants.{DiVerifyConf}
-use Rattle.frag_map.specs.Layout.{Layout}
+use Rattle.frag_map.specs.Layout.{Layout, chain_of, nowhere}
 use Rattle.tc_block.specs.Abort as abort
-use Rattle.frag_map.specs.Layout.{chain_of}
 use Rattle.tc_block.specs.Commit as commit
 use Rattle.tc_block.specs.Complete as complete
 use Rattle.tc_block.specs.declared.phase.Phase.{Phase}
@@ -27,7 +26,7 @@ use Rattle.tc_block.specs.Sends.{abort_of, aborts_of, complete_if, front_sends, 
 use Rattle.tc_block.specs.Turn.{Turn}
 use Rattle.run_theory.proofs.EachSent.{each_flat, each_mapped}
 use Rattle.tc_block.proofs.EachTurn as turns
-use Rattle.tc_block.proofs.EachTurn.{TurnForms, nowhere}
+use Rattle.tc_block.proofs.EachTurn.{TurnForms}
 use Rattle.tc_block.proofs.LiveKeeps.{TurnKeeps, TurnsKeep, is_chain, turn_keeps}
 use Rattle.commit_laws.proofs.Tally.{tally_none}
 use Rattle.transit_laws.specs.Tokens.{is_token}

@@ -15,7 +15,7 @@ older_nil (e ∷ newer) log is = absurd cc
 pub earlier : (start : Start) (es : List HostStep) (e : HostStep) → IsRun start (e ∷ es) → IsRun start es
 earlier start es e now =
     record {
-      some = now.some;
+      shape = now.shape;
       run = now.run.0;
       within = λ h high. let past = log_of-past (machine start) e es h in older_nil past.newer (log_of (machine start) es h) (sym (now.within h high) ∙ past.is);
     }

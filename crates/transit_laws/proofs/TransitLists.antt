@@ -10,31 +10,31 @@ use Rattle.sig_core.specs.declared.place.Place.{Place}
 use Rattle.sig_core.specs.declared.signal.Body.{Body}
 use Rattle.sig_core.specs.declared.signal.Body.TheVariants.{Chain}
 use Rattle.sig_core.specs.declared.signal.chain.ChainSignal.TheVariants.{LqhKeyReq, LqhKeyConf, LqhKeyRef}
-use Rattle.sig_core.specs.declared.view.View.{View}
 use Rattle.sig_core.specs.Same.{same_key, same_tx}
 use Rattle.lqh_block.specs.Work.{work_key}
 use Rattle.node_core.specs.Requests.{is_request}
-use Rattle.world_core.specs.Machine.{all_headed, counted}
+use Rattle.world_core.specs.Hosts.{Membership, receiver}
+use Rattle.world_core.specs.Machine.{all_addressed, counted}
 use Rattle.commit_laws.specs.Counts.{one_if, tally}
 use Rattle.transit_laws.specs.Tokens.{is_token}
-use Rattle.transit_laws.specs.Transit.{Takes, joined}
+use Rattle.transit_laws.specs.Transit.{Takes, joined, taken_by}
 use Rattle.transit_laws.proofs.KeyTokens.{Token, answers, is_home, is_rows, performs, put, refuses, token_of, tokens_of}
 
 -- what holds of all holds of those before, and of those that join
-pub joined_old : (P : Signal → Type 0) (xs ys : List Addressed) → Each P (joined xs ys) → Each P ys
+pub joined_old : (P : Addressed → Type 0) (xs ys : List Addressed) → Each P (joined xs ys) → Each P ys
 joined_old P [] ys all = all
 joined_old P (x ∷ xs) ys all = (joined_old P xs (x ∷ ys) all).1
 
-pub joined_new : (P : Signal → Type 0) (xs ys : List Addressed) → Each P (joined xs ys) → Each P xs
+pub joined_new : (P : Addressed → Type 0) (xs ys : List Addressed) → Each P (joined xs ys) → Each P xs
 joined_new P [] ys all = tt
 joined_new P (x ∷ xs) ys all = ((joined_old P xs (x ∷ ys) all).0, joined_new P xs (x ∷ ys) all)
 
-pub tally_joined : (p : Signal → Bool) (xs ys : List Addressed) → tally p (joined xs ys) ≡ tally p xs + tally p ys
+pub tally_joined : (p : Addressed → Bool) (xs ys : List Addressed) → tally p (joined xs ys) ≡ tally p xs + tally p ys
 tally_joined p [] ys = omega arith
 tally_joined p (x ∷ xs) ys = omega (arith, tally_joined p xs (x ∷ ys))
 
 -- what holds of the signal that is taken and of those that are left holds of all
-pub takes_more : (P : Signal → Type 0) (e : HostStep) (before between : List Addressed) → Takes e before between → Each P between → P e.step.taken → Each P before
+pub takes_more : (P : Addressed → Type 0) (e : HostStep) (before between : List Addressed) → Takes e before between → Each P between → P (taken_by e) → Each P before
 takes_more P e before between takes all it = by (is_request e.step.taken.body) refl
   where
     by : (b : Bool) → is_request e.step.taken.body ≡ b → Each P before
@@ -42,17 +42,17 @@ takes_more P e before between takes all it = by (is_request e.step.taken.body) r
     by false given =
         let taken = takes.signal given in
         let split = subst (Each P) taken.left all in
-        subst (Each P) (sym taken.is) (each_append P taken.front (e.step.taken ∷ taken.back) (each_before P taken.front taken.back split) (it, each_after P taken.front taken.back split))
+        subst (Each P) (sym taken.is) (each_append P taken.front (taken_by e ∷ taken.back) (each_before P taken.front taken.back split) (it, each_after P taken.front taken.back split))
 
 -- what is sent is what is in transit then
-pub sent_each : (Q : Place → Body → Type 0) (view : View) (h stamp : ℕ) (count : ℕ → ℕ) (sends : List Outgoing) → Each (λ (x : Addressed). Q x.signal.to x.signal.body) (all_headed view h stamp count sends)
+pub sent_each : (Q : Place → Body → Type 0) (who : Membership) (h stamp : ℕ) (count : ℕ → ℕ) (sends : List Outgoing) → Each (λ (x : Addressed). Q x.signal.to x.signal.body) (all_addressed who h stamp count sends)
     → Each (λ (o : Outgoing). Q o.to o.body) sends
-sent_each Q view h stamp count [] all = tt
-sent_each Q view h stamp count (o ∷ more) all = (all.0, sent_each Q view h stamp (counted o.to.node count) more all.1)
+sent_each Q who h stamp count [] all = tt
+sent_each Q who h stamp count (o ∷ more) all = (all.0, sent_each Q who h stamp (counted (receiver who o.to) count) more all.1)
 
-pub tally_headed : (p : Body → Bool) (view : View) (h stamp : ℕ) (count : ℕ → ℕ) (sends : List Outgoing) → tally (λ (x : Addressed). p x.signal.body) (all_headed view h stamp count sends) ≡ tally (λ (o : Outgoing). p o.body) sends
-tally_headed p view h stamp count [] = refl
-tally_headed p view h stamp count (o ∷ more) = omega (arith, tally_headed p view h stamp (counted o.to.node count) more)
+pub tally_headed : (p : Body → Bool) (who : Membership) (h stamp : ℕ) (count : ℕ → ℕ) (sends : List Outgoing) → tally (λ (x : Addressed). p x.signal.body) (all_addressed who h stamp count sends) ≡ tally (λ (o : Outgoing). p o.body) sends
+tally_headed p who h stamp count [] = refl
+tally_headed p who h stamp count (o ∷ more) = omega (arith, tally_headed p who h stamp (counted (receiver who o.to) count) more)
 
 module _ (tx : TxId) (key : List ℕ) where
   -- what is so of a token, if there is one

@@ -1,20 +1,18 @@
 -- After each run some signals are in transit: of each link those that were sent and weren't taken.
 use Rattle.std.proofs.Common.{◌≡◌, ◌≢◌, ◌⊎◌, ℕ, Bool, true, false, List, [], ◌∷◌, ◌++◌, refl, sym, ap, ◌∙◌, subst, inl, inr}
-use Rattle.std.proofs.lemmas.Bool.{cases_eq, eq-eqb, ne_eqb}
+use Rattle.std.proofs.lemmas.Bool.{cases_eq, eq-eqb, false≢true, ne_eqb}
 use Rattle.std.specs.Prelude.{◌==◌, ◌&&◌, if◌then◌else◌}
 use Rattle.std.proofs.lemmas.List.{append_assoc, append_cancel_right}
 use Rattle.run_theory.proofs.Runs.{if_false, if_true, log_of-other, log_of-own, taken-asked, taken-other, taken-step}
-use Rattle.run_theory.specs.Links.{put, sent, taken}
+use Rattle.run_theory.specs.Links.{IsGiven, put, sent, taken}
 use Rattle.run_theory.specs.Lists.{Each, IsPast}
 use Rattle.world_core.specs.Steps.{Addressed, HostStep}
 use Rattle.sig_core.specs.declared.outs.Outgoing.{Outgoing}
-use Rattle.sig_core.specs.declared.view.View.{View}
 use Rattle.node_core.specs.Requests.{is_request}
-use Rattle.world_core.specs.Machine.{all_headed, counted, machine, sent_count, signals_of, step_after}
-use Rattle.frag_map.specs.Layout.{first_view}
+use Rattle.world_core.specs.Hosts.{Membership, first_membership, receiver}
+use Rattle.world_core.specs.Machine.{all_addressed, counted, machine, sent_count, signals_of, step_after}
 use Rattle.world_core.specs.Start.{Start}
-use Rattle.answer_laws.proofs.Begins.{given_past}
-use Rattle.transit_laws.specs.Transit.{AreInTransit, Comes, IsRun, RunsHaveTransit, Takes, joined, logs_of}
+use Rattle.transit_laws.specs.Transit.{AreInTransit, Comes, IsRun, RunsHaveTransit, Takes, joined, logs_of, taken_by}
 use Rattle.transit_laws.proofs.Transit.{comes, earlier}
 
 -- the items that pass a test, in order
@@ -58,21 +56,27 @@ last_chosen {A} p (y ∷ ys) newer x is = by (p y) refl newer is (last_chosen p 
         behind now now (more now x both) (λ zs left. if_false (y ∷ chosen p zs) (chosen p zs) fails ∙ left)
 
 -- the signal is on this link
-abbrev pub is_on : ℕ → ℕ → Signal → Bool
-is_on i j x = (x.signal.from.0 == i) && (x.signal.to.node == j)
+abbrev pub is_on : ℕ → ℕ → Addressed → Bool
+is_on i j x = (x.signal.from.0 == i) && (x.to == j)
 
 and_false : (a b : Bool) → b ≡ false → (a && b) ≡ false
 and_false true b off = off
 and_false false b off = refl
 
 module _ (start : Start) where
+  -- no host stops, so that a link gives what was sent on it
+  given_past : (i j : ℕ) (log : List HostStep) (xs : List Addressed) → IsGiven (machine start) i j log xs → IsPast xs (sent (machine start) i j log)
+  given_past i j log xs (inl past) = past
+  given_past i j [] xs (inr closing) = absurd closing
+  given_past i j (e ∷ log) xs (inr closing) = absurd (false≢true closing.stops)
+
   -- what is in transit on each link was sent on it behind what was taken
   pub record HaveLinks (logs : ℕ → List HostStep) (xs : List Addressed) : Type 0 where
     pub links : (i j : ℕ) → sent (machine start) i j (logs i) ≡ chosen (is_on i j) xs ++ taken (machine start) i (logs j)
 
   put_behind : (j : ℕ) (sends xs ys : List Addressed) → put (machine start) j sends (xs ++ ys) ≡ put (machine start) j sends xs ++ ys
   put_behind j [] xs ys = refl
-  put_behind j (x ∷ sends) xs ys = by (x.signal.to.node == j) (put_behind j sends (x ∷ xs) ys) (put_behind j sends xs ys)
+  put_behind j (x ∷ sends) xs ys = by (x.to == j) (put_behind j sends (x ∷ xs) ys) (put_behind j sends xs ys)
     where
       by : (b : Bool) → put (machine start) j sends (x ∷ (xs ++ ys)) ≡ put (machine start) j sends (x ∷ xs) ++ ys → put (machine start) j sends (xs ++ ys) ≡ put (machine start) j sends xs ++ ys
           → put (machine start) j sends (if b then x ∷ (xs ++ ys) else xs ++ ys) ≡ put (machine start) j sends (if b then x ∷ xs else xs) ++ ys
@@ -85,17 +89,17 @@ module _ (start : Start) where
   joined_own h j [] xs own = refl
   joined_own h j (x ∷ sends) xs own =
       joined_own h j sends (x ∷ xs) own.1
-      ∙ ap (λ b. put (machine start) j sends (if b && (x.signal.to.node == j) then x ∷ chosen (is_on h j) xs else chosen (is_on h j) xs)) (eq-eqb x.signal.from.0 h own.0)
+      ∙ ap (λ b. put (machine start) j sends (if b && (x.to == j) then x ∷ chosen (is_on h j) xs else chosen (is_on h j) xs)) (eq-eqb x.signal.from.0 h own.0)
 
   joined_other : (h i j : ℕ) (sends xs : List Addressed) → h ≢ i → Each (λ (x : Addressed). x.signal.from.0 ≡ h) sends → chosen (is_on i j) (joined sends xs) ≡ chosen (is_on i j) xs
   joined_other h i j [] xs differs own = refl
   joined_other h i j (x ∷ sends) xs differs own =
       joined_other h i j sends (x ∷ xs) differs own.1
-      ∙ ap (λ b. if b && (x.signal.to.node == j) then x ∷ chosen (is_on i j) xs else chosen (is_on i j) xs) (ne_eqb x.signal.from.0 i (λ is. differs (sym own.0 ∙ is)))
+      ∙ ap (λ b. if b && (x.to == j) then x ∷ chosen (is_on i j) xs else chosen (is_on i j) xs) (ne_eqb x.signal.from.0 i (λ is. differs (sym own.0 ∙ is)))
 
-  headed_from : (view : View) (h stamp : ℕ) (count : ℕ → ℕ) (sends : List Outgoing) → Each (λ (x : Addressed). x.signal.from.0 ≡ h) (all_headed view h stamp count sends)
-  headed_from view h stamp count [] = tt
-  headed_from view h stamp count (o ∷ more) = (refl, headed_from view h stamp (counted o.to.node count) more)
+  headed_from : (who : Membership) (h stamp : ℕ) (count : ℕ → ℕ) (sends : List Outgoing) → Each (λ (x : Addressed). x.signal.from.0 ≡ h) (all_addressed who h stamp count sends)
+  headed_from who h stamp count [] = tt
+  headed_from who h stamp count (o ∷ more) = (refl, headed_from who h stamp (counted (receiver who o.to) count) more)
 
   -- the part of a step that takes
   record IsBetween (es : List HostStep) (e : HostStep) (before between : List Addressed) : Type 0 where
@@ -134,29 +138,29 @@ module _ (start : Start) where
 
     -- the signal is the oldest on its link
     module _ (signal : is_request e.step.taken.body ≡ false) where
-      given : IsPast (e.step.taken ∷ taken (machine start) from (old h)) (sent (machine start) from h (old from))
-      given = given_past start from h (old from) (e.step.taken ∷ taken (machine start) from (old h)) (come.happens.takes signal)
+      given : IsPast (taken_by e ∷ taken (machine start) from (old h)) (sent (machine start) from h (old from))
+      given = given_past from h (old from) (taken_by e ∷ taken (machine start) from (old h)) (come.happens.takes signal)
 
-      oldest : chosen (is_on from h) before ≡ given.newer ++ e.step.taken ∷ []
+      oldest : chosen (is_on from h) before ≡ given.newer ++ taken_by e ∷ []
       oldest =
-          append_cancel_right (chosen (is_on from h) before) (given.newer ++ e.step.taken ∷ []) (taken (machine start) from (old h))
-          (sym (held.links from h) ∙ (given.is ∙ sym (append_assoc given.newer (e.step.taken ∷ []) (taken (machine start) from (old h)))))
+          append_cancel_right (chosen (is_on from h) before) (given.newer ++ taken_by e ∷ []) (taken (machine start) from (old h))
+          (sym (held.links from h) ∙ (given.is ∙ sym (append_assoc given.newer (taken_by e ∷ []) (taken (machine start) from (old h)))))
 
-      found : IsLast (is_on from h) before given.newer e.step.taken
-      found = last_chosen (is_on from h) before given.newer e.step.taken oldest
+      found : IsLast (is_on from h) before given.newer (taken_by e)
+      found = last_chosen (is_on from h) before given.newer (taken_by e) oldest
 
-      links_off : (i j : ℕ) → is_on i j e.step.taken ≡ false → taken (machine start) i (now j) ≡ taken (machine start) i (old j)
+      links_off : (i j : ℕ) → is_on i j (taken_by e) ≡ false → taken (machine start) i (now j) ≡ taken (machine start) i (old j)
           → sent (machine start) i j (old i) ≡ chosen (is_on i j) (found.front ++ found.back) ++ taken (machine start) i (now j)
       links_off i j off same =
           held.links i j
           ∙ (ap (λ w. chosen (is_on i j) w ++ taken (machine start) i (old j)) found.is
-          ∙ (ap (λ w. w ++ taken (machine start) i (old j)) (chosen_without (is_on i j) found.front e.step.taken found.back off)
+          ∙ (ap (λ w. w ++ taken (machine start) i (old j)) (chosen_without (is_on i j) found.front (taken_by e) found.back off)
           ∙ ap (λ w. chosen (is_on i j) (found.front ++ found.back) ++ w) (sym same)))
 
       links_on : sent (machine start) from h (old from) ≡ chosen (is_on from h) (found.front ++ found.back) ++ taken (machine start) from (now h)
       links_on =
           given.is
-          ∙ (ap (λ w. w ++ (e.step.taken ∷ taken (machine start) from (old h))) (sym found.left)
+          ∙ (ap (λ w. w ++ (taken_by e ∷ taken (machine start) from (old h))) (sym found.left)
           ∙ ap (λ w. chosen (is_on from h) (found.front ++ found.back) ++ w) (sym (ap (taken (machine start) from) own_now ∙ taken-step (machine start) from e (old h) signal refl)))
 
       links_between : (i j : ℕ) → sent (machine start) i j (old i) ≡ chosen (is_on i j) (found.front ++ found.back) ++ taken (machine start) i (now j)
@@ -182,7 +186,7 @@ module _ (start : Start) where
     sends = signals_of start h (old h) e
 
     from_here : Each (λ (x : Addressed). x.signal.from.0 ≡ h) sends
-    from_here = headed_from (first_view start.shape.nodes) h e.step.stamp (sent_count start h (old h)) (step_after start h (old h) e).effects.sends
+    from_here = headed_from (first_membership start) h e.step.stamp (sent_count start h (old h)) (step_after start h (old h) e).effects.sends
 
     sends_join : (between : List Addressed) → IsBetween es e before between → HaveLinks now (joined sends between)
     sends_join between is = record { links = λ i j. by i j (cases_eq h i) }

@@ -1,5 +1,5 @@
 -- Along every run: what is in transit, and what was marked, is of a transaction that its coordinator took that way.
-use Rattle.std.proofs.Common.{◌≡◌, ℕ, zero, suc, Bool, true, false, List, [], ◌∷◌, ◌++◌, refl, sym, ap, ◌∙◌, subst}
+use Rattle.std.proofs.Common.{◌≡◌, ℕ, Bool, true, false, List, [], ◌∷◌, ◌++◌, refl, sym, ap, ◌∙◌, subst}
 use Rattle.std.specs.List.{list_any}
 use Rattle.run_theory.specs.Lists.{Each, IsPast}
 use Rattle.run_theory.proofs.Orders.{each_next}
@@ -11,45 +11,31 @@ use Rattle.sig_core.specs.declared.mark.Mark.TheVariants.{Applied, Reported}
 use Rattle.sig_core.specs.declared.member.TxId.{TxId}
 use Rattle.sig_core.specs.declared.outcome.Outcome.TheVariants as outcome
 use Rattle.sig_core.specs.declared.outs.Outgoing.{Outgoing}
-use Rattle.sig_core.specs.declared.place.BlockId.{BlockId}
-use Rattle.sig_core.specs.declared.place.BlockId.TheVariants as block
-use Rattle.sig_core.specs.declared.place.Place.{Place}
 use Rattle.sig_core.specs.declared.signal.Body.{Body}
 use Rattle.sig_core.specs.declared.signal.Body.TheVariants.{Client, Chain}
 use Rattle.sig_core.specs.declared.signal.chain.ChainSignal.TheVariants.{Commit, Complete, Abort}
 use Rattle.sig_core.specs.declared.signal.client.ClientSignal.TheVariants.{TcCommitConf, TcRollbackRep}
 use Rattle.sig_core.specs.Same.{same_tx}
-use Rattle.api_block.specs.State.{ApiState}
+use Rattle.tc_block.specs.Tc.{tc_row}
+use Rattle.node_core.proofs.HostCases.{each_mark, each_send}
+use Rattle.node_core.specs.Blocks.{api_of, dih_of, lqh_of, tc_of}
 use Rattle.node_core.specs.declared.host.Host.{Host}
-use Rattle.node_core.specs.declared.host.Host.TheVariants.{Shell, Node}
-use Rattle.node_core.specs.declared.node.Node as node
 use Rattle.node_core.specs.Requests.{is_request}
-use Rattle.node_core.specs.Row.{node_row, row, shell_row}
-use Rattle.world_core.specs.Machine.{after, machine, signals_of, step_after}
+use Rattle.node_core.specs.Row.{row}
+use Rattle.world_core.specs.Hosts.{home, tc_host}
+use Rattle.world_core.specs.Machine.{after, machine, signals_of}
 use Rattle.world_core.specs.Start.{Start}
 use Rattle.commit_laws.specs.Ways.{AreSaid, IsSaid, Way, back, back_by, closes, forth, forth_by, neither, sent_ways, tc_sends, way_of}
 use Rattle.commit_laws.proofs.OneWay.{back_more, coordinators_say, forth_more}
-use Rattle.answer_laws.proofs.Hosts.{node_after, shell_after}
+use Rattle.answer_laws.proofs.HostSteps.{at_own_node}
 use Rattle.transit_laws.specs.GivenUp.{is_carried_out, is_given_up}
 use Rattle.transit_laws.specs.Transit.{AreInTransit, Comes, IsRun, Takes, joined, logs_of}
+use Rattle.transit_laws.proofs.Addressed.{comes_below}
+use Rattle.transit_laws.proofs.TcSaid.{tc_speaks}
 use Rattle.transit_laws.proofs.Transit.{along_transit}
 use Rattle.transit_laws.proofs.WaysMarked.{IsMarked, api_marked, dih_marked, lqh_marked, tc_marked}
 use Rattle.transit_laws.proofs.WaysPassed.{IsPassed, api_passed, dih_passed, lqh_passed}
 use Rattle.transit_laws.proofs.Weighing.{each_between, each_joins, each_taken}
-
--- the block of coordinators of host h has the number of the host
-pub number_of : (start : Start) (h : ℕ) (log : List HostStep) (n : node.Node) → after start h log ≡ Node n → n.tc.node ≡ h
-number_of start zero log n is = absurd (other (shell_after start log).state (sym (shell_after start log).is ∙ is))
-  where
-    other : (s : ApiState) → Shell s ≡ Node n → ⊥
-    other s same = cc
-number_of start (suc h) log n is =
-    let known = node_after start h log in
-    let same : known.state ≡ n = the_same known.state (sym known.is ∙ is) in
-    ap (λ (m : node.Node). m.tc.node) (sym same) ∙ known.number
-  where
-    the_same : (m : node.Node) → Node m ≡ Node n → m ≡ n
-    the_same m same = cc
 
 -- a request goes no way
 request_silent : (body : Body) → is_request body ≡ true → way_of body ≡ neither
@@ -65,22 +51,22 @@ module _ (start : Start) where
   newer_forth : (p : TxId → Bool) (h : ℕ) (newer log : List HostStep) → list_any p (sent_ways start forth_by h log) ≡ true → list_any p (sent_ways start forth_by h (newer ++ log)) ≡ true
   newer_forth p h [] log is = is
   newer_forth p h (e ∷ newer) log is =
-      forth_more p (tc_sends (after start h (newer ++ log)) e.step.taken.to.block e.step.taken.body) (sent_ways start forth_by h (newer ++ log)) (newer_forth p h newer log is)
+      forth_more p (tc_sends (after start h (newer ++ log)) e.step.taken) (sent_ways start forth_by h (newer ++ log)) (newer_forth p h newer log is)
 
   newer_back : (p : TxId → Bool) (h : ℕ) (newer log : List HostStep) → list_any p (sent_ways start back_by h log) ≡ true → list_any p (sent_ways start back_by h (newer ++ log)) ≡ true
   newer_back p h [] log is = is
   newer_back p h (e ∷ newer) log is =
-      back_more p (tc_sends (after start h (newer ++ log)) e.step.taken.to.block e.step.taken.body) (sent_ways start back_by h (newer ++ log)) (newer_back p h newer log is)
+      back_more p (tc_sends (after start h (newer ++ log)) e.step.taken) (sent_ways start back_by h (newer ++ log)) (newer_back p h newer log is)
 
   pub carried_more : (small large : ℕ → List HostStep) (tx : TxId) → ((h : ℕ) → IsPast (small h) (large h)) → is_carried_out start small tx ≡ true → is_carried_out start large tx ≡ true
   carried_more small large tx past is =
-      let p = past tx.tc in
-      subst (λ log. list_any (same_tx tx) (sent_ways start forth_by tx.tc log) ≡ true) (sym p.is) (newer_forth (same_tx tx) tx.tc p.newer (small tx.tc) is)
+      let p = past (home start tx) in
+      subst (λ log. list_any (same_tx tx) (sent_ways start forth_by (home start tx) log) ≡ true) (sym p.is) (newer_forth (same_tx tx) (home start tx) p.newer (small (home start tx)) is)
 
   pub given_more : (small large : ℕ → List HostStep) (tx : TxId) → ((h : ℕ) → IsPast (small h) (large h)) → is_given_up start small tx ≡ true → is_given_up start large tx ≡ true
   given_more small large tx past is =
-      let p = past tx.tc in
-      subst (λ log. list_any (same_tx tx) (sent_ways start back_by tx.tc log) ≡ true) (sym p.is) (newer_back (same_tx tx) tx.tc p.newer (small tx.tc) is)
+      let p = past (home start tx) in
+      subst (λ log. list_any (same_tx tx) (sent_ways start back_by (home start tx) log) ≡ true) (sym p.is) (newer_back (same_tx tx) (home start tx) p.newer (small (home start tx)) is)
 
   -- what a signal of this way tells of the logs
   abbrev pub IsTold : (ℕ → List HostStep) → Way → Type 0
@@ -130,43 +116,6 @@ module _ (start : Start) where
   all_marked : (logs : ℕ → List HostStep) (taken : Way) (marks : List Mark) → IsTold logs taken → Each (IsMarked taken) marks → Each (IsMarkTold logs) marks
   all_marked logs taken marks told all = each_map (IsMarked taken) (IsMarkTold logs) marks (λ m is. marked_told logs taken m told is) all
 
-  node_sends_told : (logs : ℕ → List HostStep) (n : node.Node) (at : BlockId) (body : Body) → IsTold logs (way_of body) → Each (λ (o : Outgoing). IsTold logs (way_of o.body)) (tc_sends (Node n) at body)
-      → Each (λ (o : Outgoing). IsTold logs (way_of o.body)) (node_row n at body).effects.sends
-  unfolding node_row
-  node_sends_told logs n block.Tc body told own = own
-  node_sends_told logs n block.Dih body told own = all_passed logs (way_of body) _ told (dih_passed n.dih body)
-  node_sends_told logs n block.Lqh body told own = all_passed logs (way_of body) _ told (lqh_passed n.lqh body)
-  node_sends_told logs n _ body told own = tt
-
-  shell_sends_told : (logs : ℕ → List HostStep) (s : ApiState) (at : BlockId) (body : Body) → IsTold logs (way_of body)
-      → Each (λ (o : Outgoing). IsTold logs (way_of o.body)) (shell_row s at body).effects.sends
-  unfolding shell_row
-  shell_sends_told logs s block.Api body told = all_passed logs (way_of body) _ told (api_passed s body)
-  shell_sends_told logs s _ body told = tt
-
-  row_sends_told : (logs : ℕ → List HostStep) (s : Host) (to : Place) (body : Body) → IsTold logs (way_of body) → Each (λ (o : Outgoing). IsTold logs (way_of o.body)) (tc_sends s to.block body)
-      → Each (λ (o : Outgoing). IsTold logs (way_of o.body)) (row s to body).effects.sends
-  unfolding row
-  row_sends_told logs (Shell s) to body told own = shell_sends_told logs s to.block body told
-  row_sends_told logs (Node n) to body told own = node_sends_told logs n to.block body told own
-
-  node_marked : (n : node.Node) (at : BlockId) (body : Body) → Each (IsMarked (way_of body)) (node_row n at body).effects.marks
-  unfolding node_row
-  node_marked n block.Tc body = tc_marked n.tc body
-  node_marked n block.Dih body = dih_marked n.dih body
-  node_marked n block.Lqh body = lqh_marked n.lqh body
-  node_marked n _ body = tt
-
-  shell_marked : (s : ApiState) (at : BlockId) (body : Body) → Each (IsMarked (way_of body)) (shell_row s at body).effects.marks
-  unfolding shell_row
-  shell_marked s block.Api body = api_marked s body
-  shell_marked s _ body = tt
-
-  row_marked : (s : Host) (to : Place) (body : Body) → Each (IsMarked (way_of body)) (row s to body).effects.marks
-  unfolding row
-  row_marked (Shell s) to body = shell_marked s to.block body
-  row_marked (Node n) to body = node_marked n to.block body
-
   module _ (es : List HostStep) (e : HostStep) (before between : List Addressed) (come : Comes start es e) (held : AllTold (logs_of start es) before) (takes : Takes e before between) where
     abbrev h : ℕ
     h = e.host
@@ -194,34 +143,46 @@ module _ (start : Start) where
     taken_now = told_more old now past (way_of e.step.taken.body) taken_old
 
     -- what a coordinator says
-    said_told : (k : ℕ) → k ≡ h → (w : Way) → IsSaid k (sent_ways start forth_by h (e ∷ old h)) (sent_ways start back_by h (e ∷ old h)) w → IsTold now w
-    said_told k at (forth tx) said =
-        subst (λ g. list_any (same_tx tx) (sent_ways start forth_by g (now g)) ≡ true) (sym (said.0 ∙ at))
-        (subst (λ log. list_any (same_tx tx) (sent_ways start forth_by h log) ≡ true) (sym own_now) said.1)
-    said_told k at (back tx) said =
-        subst (λ g. list_any (same_tx tx) (sent_ways start back_by g (now g)) ≡ true) (sym (said.0 ∙ at))
-        (subst (λ log. list_any (same_tx tx) (sent_ways start back_by h log) ≡ true) (sym own_now) said.1)
-    said_told k at (closes tx) said =
-        subst (λ g. list_any (same_tx tx) (sent_ways start forth_by g (now g)) ≡ true) (sym (said.0 ∙ at))
-        (subst (λ log. list_any (same_tx tx) (sent_ways start forth_by h log) ≡ true) (sym own_now) said.1)
-    said_told k at neither said = tt
+    said_told : (node : ℕ) → tc_host start node ≡ h → (w : Way) → IsSaid node (sent_ways start forth_by h (e ∷ old h)) (sent_ways start back_by h (e ∷ old h)) w → IsTold now w
+    said_told node at w said = by w said
+      where
+        here : (f : Way → List TxId → List TxId) (tx : TxId) → tx.tc ≡ node → list_any (same_tx tx) (sent_ways start f h (e ∷ old h)) ≡ true
+            → list_any (same_tx tx) (sent_ways start f (home start tx) (now (home start tx))) ≡ true
+        here f tx own is =
+            subst (λ g. list_any (same_tx tx) (sent_ways start f g (now g)) ≡ true) (sym (ap (tc_host start) own ∙ at))
+            (subst (λ log. list_any (same_tx tx) (sent_ways start f h log) ≡ true) (sym own_now) is)
 
-    tc_told : (s : Host) → ((n : node.Node) → s ≡ Node n → n.tc.node ≡ h) → AreSaid s (sent_ways start forth_by h (e ∷ old h)) (sent_ways start back_by h (e ∷ old h)) (tc_sends s e.step.taken.to.block e.step.taken.body)
-        → Each (λ (o : Outgoing). IsTold now (way_of o.body)) (tc_sends s e.step.taken.to.block e.step.taken.body)
-    tc_told (Shell s) number said = tt
-    tc_told (Node n) number said =
-        each_map (λ (o : Outgoing). IsSaid n.tc.node (sent_ways start forth_by h (e ∷ old h)) (sent_ways start back_by h (e ∷ old h)) (way_of o.body)) (λ (o : Outgoing). IsTold now (way_of o.body))
-        (tc_sends (Node n) e.step.taken.to.block e.step.taken.body) (λ o is. said_told n.tc.node (number n refl) (way_of o.body) is) said
+        by : (w : Way) → IsSaid node (sent_ways start forth_by h (e ∷ old h)) (sent_ways start back_by h (e ∷ old h)) w → IsTold now w
+        by (forth tx) said = here forth_by tx said.0 said.1
+        by (back tx) said = here back_by tx said.0 said.1
+        by (closes tx) said = here forth_by tx said.0 said.1
+        by neither said = tt
 
-    sends_told : Each (λ (o : Outgoing). IsTold now (way_of o.body)) (step_after start h (old h) e).effects.sends
+    abbrev g : Host
+    g = after start h (old h)
+
+    sends_told : Each (λ (o : Outgoing). IsTold now (way_of o.body)) (row g e.step.taken).effects.sends
     sends_told =
-        row_sends_told now (after start h (old h)) e.step.taken taken_now
-        (tc_told (after start h (old h)) (λ n is. number_of start h (old h) n is) (coordinators_say start h (old h) e))
+        each_send (λ (o : Outgoing). IsTold now (way_of o.body)) g e.step.taken (record {
+          api = λ runs at. all_passed now (way_of e.step.taken.body) _ taken_now (api_passed (api_of g) e.step.taken.body);
+          tc = λ runs at.
+              each_map (λ (o : Outgoing). IsSaid (tc_of g).node (sent_ways start forth_by h (e ∷ old h)) (sent_ways start back_by h (e ∷ old h)) (way_of o.body)) (λ (o : Outgoing). IsTold now (way_of o.body))
+              (tc_row (tc_of g) e.step.taken).effects.sends (λ o is. said_told (tc_of g).node (sym (at_own_node start h (old h) (comes_below start es e come) runs).is) (way_of o.body) is)
+              (subst (λ sends. AreSaid g (sent_ways start forth_by h (e ∷ old h)) (sent_ways start back_by h (e ∷ old h)) sends) (tc_speaks g e.step.taken runs at) (coordinators_say start h (old h) e));
+          dih = λ runs at. all_passed now (way_of e.step.taken.body) _ taken_now (dih_passed (dih_of g) e.step.taken.body);
+          rows = λ runs at. all_passed now (way_of e.step.taken.body) _ taken_now (lqh_passed (lqh_of g) e.step.taken.body);
+        })
 
     marks_now : Each (IsMarkTold now) e.step.marks
     marks_now =
         subst (Each (IsMarkTold now)) (sym come.happens.step.fits.marks)
-        (all_marked now (way_of e.step.taken.body) (step_after start h (old h) e).effects.marks taken_now (row_marked (after start h (old h)) e.step.taken))
+        (all_marked now (way_of e.step.taken.body) (row g e.step.taken).effects.marks taken_now
+        (each_mark (IsMarked (way_of e.step.taken.body)) g e.step.taken (record {
+          api = λ runs at. api_marked (api_of g) e.step.taken.body;
+          tc = λ runs at. tc_marked (tc_of g) e.step.taken.body;
+          dih = λ runs at. dih_marked (dih_of g) e.step.taken.body;
+          rows = λ runs at. lqh_marked (lqh_of g) e.step.taken.body;
+        })))
 
     told_next : AllTold now (joined (signals_of start h (old h) e) between)
     told_next = record {
@@ -230,7 +191,7 @@ module _ (start : Start) where
           (each_between (λ (x : Addressed). IsTold old (way_of x.signal.body)) e before between takes held.signals));
       marks = λ g. each_next (machine start) (λ (f : HostStep). Each (IsMarkTold now) f.step.marks) es e g marks_now
           (each_map (λ (f : HostStep). Each (IsMarkTold old) f.step.marks) (λ (f : HostStep). Each (IsMarkTold now) f.step.marks) (old g)
-          (λ f all. each_map (IsMarkTold old) (IsMarkTold now) f.step.marks (λ m is. mark_more old now past m is) all) (held.step.marks g));
+          (λ f all. each_map (IsMarkTold old) (IsMarkTold now) f.step.marks (λ m is. mark_more old now past m is) all) (held.marks g));
     }
 
   pub all_told : (es : List HostStep) (xs : List Addressed) → IsRun start es → AreInTransit start es xs → AllTold (logs_of start es) xs

@@ -6,13 +6,12 @@ use Rattle.world_core.specs.Steps.{Addressed, HostStep}
 use Rattle.sig_core.specs.declared.outs.Outgoing.{Outgoing}
 use Rattle.sig_core.specs.declared.place.Place.{Place}
 use Rattle.sig_core.specs.declared.signal.Body.{Body}
-use Rattle.sig_core.specs.declared.view.View.{View}
 use Rattle.node_core.specs.Requests.{is_request}
-use Rattle.world_core.specs.Machine.{all_headed, counted, sent_count, signals_of, step_after}
-use Rattle.frag_map.specs.Layout.{first_view}
+use Rattle.world_core.specs.Hosts.{Membership, first_membership, receiver}
+use Rattle.world_core.specs.Machine.{all_addressed, counted, sent_count, signals_of, step_after}
 use Rattle.world_core.specs.Start.{Start}
 use Rattle.commit_laws.specs.Counts.{one_if, tally}
-use Rattle.transit_laws.specs.Transit.{IsTaken, Takes, joined}
+use Rattle.transit_laws.specs.Transit.{IsTaken, Takes, joined, taken_by}
 
 -- the sum of f over a list
 abbrev pub weigh : {A : Type 0} → (A → ℕ) → List A → ℕ
@@ -51,9 +50,9 @@ in_transit w xs = weigh (λ (x : Addressed). w x.signal.to x.signal.body) xs
 abbrev pub in_sends : (Place → Body → ℕ) → List Outgoing → ℕ
 in_sends w os = weigh (λ (o : Outgoing). w o.to o.body) os
 
-headed_weigh : (w : Place → Body → ℕ) (view : View) (h stamp : ℕ) (count : ℕ → ℕ) (os : List Outgoing) → in_transit w (all_headed view h stamp count os) ≡ in_sends w os
-headed_weigh w view h stamp count [] = refl
-headed_weigh w view h stamp count (o ∷ os) = ap (λ m. w o.to o.body + m) (headed_weigh w view h stamp (counted o.to.node count) os)
+headed_weigh : (w : Place → Body → ℕ) (who : Membership) (h stamp : ℕ) (count : ℕ → ℕ) (os : List Outgoing) → in_transit w (all_addressed who h stamp count os) ≡ in_sends w os
+headed_weigh w who h stamp count [] = refl
+headed_weigh w who h stamp count (o ∷ os) = ap (λ m. w o.to o.body + m) (headed_weigh w who h stamp (counted (receiver who o.to) count) os)
 
 joined_weigh : (w : Place → Body → ℕ) (xs ys : List Addressed) → in_transit w (joined xs ys) ≡ in_transit w xs + in_transit w ys
 joined_weigh w [] ys = omega arith
@@ -63,47 +62,47 @@ joined_weigh w (x ∷ xs) ys = omega (arith, joined_weigh w xs (x ∷ ys))
 pub joins_weigh : (w : Place → Body → ℕ) (start : Start) (h : ℕ) (log : List HostStep) (e : HostStep) (between : List Addressed)
     → in_transit w (joined (signals_of start h log e) between) ≡ in_sends w (step_after start h log e).effects.sends + in_transit w between
 joins_weigh w start h log e between =
-    omega (arith, joined_weigh w (signals_of start h log e) between, headed_weigh w (first_view start.shape.nodes) h e.step.stamp (sent_count start h log) (step_after start h log e).effects.sends)
+    omega (arith, joined_weigh w (signals_of start h log e) between, headed_weigh w (first_membership start) h e.step.stamp (sent_count start h log) (step_after start h log e).effects.sends)
 
 -- and what was taken from it
-pub takes_weigh : (w : Place → Body → ℕ) (e : HostStep) (before between : List Addressed) → (is_request e.step.taken.body ≡ true → w e.step.taken ≡ 0) → Takes e before between
-    → in_transit w before ≡ w e.step.taken + in_transit w between
+pub takes_weigh : (w : Place → Body → ℕ) (e : HostStep) (before between : List Addressed) → (is_request e.step.taken.body ≡ true → w e.step.taken.to e.step.taken.body ≡ 0) → Takes e before between
+    → in_transit w before ≡ w e.step.taken.to e.step.taken.body + in_transit w between
 takes_weigh w e before between free takes = by (is_request e.step.taken.body) refl
   where
-    f : Signal → ℕ
+    f : Addressed → ℕ
     f x = w x.signal.to x.signal.body
 
-    one : IsTaken e.step.taken before between → in_transit w before ≡ w e.step.taken + in_transit w between
-    one t = omega (arith, ap (weigh f) t.is, ap (weigh f) t.left, weigh_append f t.front (e.step.taken ∷ t.back), weigh_append f t.front t.back)
+    one : IsTaken (taken_by e) before between → in_transit w before ≡ w e.step.taken.to e.step.taken.body + in_transit w between
+    one t = omega (arith, ap (weigh f) t.is, ap (weigh f) t.left, weigh_append f t.front (taken_by e ∷ t.back), weigh_append f t.front t.back)
 
-    by : (b : Bool) → is_request e.step.taken.body ≡ b → in_transit w before ≡ w e.step.taken + in_transit w between
+    by : (b : Bool) → is_request e.step.taken.body ≡ b → in_transit w before ≡ w e.step.taken.to e.step.taken.body + in_transit w between
     by true is = omega (arith, free is, ap (in_transit w) (takes.request is))
     by false is = one (takes.signal is)
 
 -- what holds of each signal
-pub each_between : (P : Signal → Type 0) (e : HostStep) (before between : List Addressed) → Takes e before between → Each P before → Each P between
+pub each_between : (P : Addressed → Type 0) (e : HostStep) (before between : List Addressed) → Takes e before between → Each P before → Each P between
 each_between P e before between takes all = by (is_request e.step.taken.body) refl
   where
-    one : IsTaken e.step.taken before between → Each P between
+    one : IsTaken (taken_by e) before between → Each P between
     one t =
-        let parts : Each P (t.front ++ e.step.taken ∷ t.back) = subst (Each P) t.is all in
-        subst (Each P) (sym t.left) (each_append P t.front t.back (each_before P t.front (e.step.taken ∷ t.back) parts) (each_after P t.front (e.step.taken ∷ t.back) parts).1)
+        let parts : Each P (t.front ++ taken_by e ∷ t.back) = subst (Each P) t.is all in
+        subst (Each P) (sym t.left) (each_append P t.front t.back (each_before P t.front (taken_by e ∷ t.back) parts) (each_after P t.front (taken_by e ∷ t.back) parts).1)
 
     by : (b : Bool) → is_request e.step.taken.body ≡ b → Each P between
     by true is = subst (Each P) (sym (takes.request is)) all
     by false is = one (takes.signal is)
 
-pub each_taken : (P : Signal → Type 0) (e : HostStep) (before between : List Addressed) → is_request e.step.taken.body ≡ false → Takes e before between → Each P before → P e.step.taken
+pub each_taken : (P : Addressed → Type 0) (e : HostStep) (before between : List Addressed) → is_request e.step.taken.body ≡ false → Takes e before between → Each P before → P (taken_by e)
 each_taken P e before between is takes all =
     let t = takes.signal is in
-    (each_after P t.front (e.step.taken ∷ t.back) (subst (Each P) t.is all)).0
+    (each_after P t.front (taken_by e ∷ t.back) (subst (Each P) t.is all)).0
 
-pub headed_each : (P : Place → Body → Type 0) (view : View) (h stamp : ℕ) (count : ℕ → ℕ) (os : List Outgoing) → Each (λ (o : Outgoing). P o.to o.body) os
-    → Each (λ (x : Addressed). P x.signal.to x.signal.body) (all_headed view h stamp count os)
-headed_each P view h stamp count [] all = tt
-headed_each P view h stamp count (o ∷ os) all = (all.0, headed_each P view h stamp (counted o.to.node count) os all.1)
+pub headed_each : (P : Place → Body → Type 0) (who : Membership) (h stamp : ℕ) (count : ℕ → ℕ) (os : List Outgoing) → Each (λ (o : Outgoing). P o.to o.body) os
+    → Each (λ (x : Addressed). P x.signal.to x.signal.body) (all_addressed who h stamp count os)
+headed_each P who h stamp count [] all = tt
+headed_each P who h stamp count (o ∷ os) all = (all.0, headed_each P who h stamp (counted (receiver who o.to) count) os all.1)
 
-pub joined_each : (P : Signal → Type 0) (xs ys : List Addressed) → Each P xs → Each P ys → Each P (joined xs ys)
+pub joined_each : (P : Addressed → Type 0) (xs ys : List Addressed) → Each P xs → Each P ys → Each P (joined xs ys)
 joined_each P [] ys all others = others
 joined_each P (x ∷ xs) ys all others = joined_each P xs (x ∷ ys) all.1 (all.0, others)
 
@@ -112,4 +111,4 @@ pub each_joins : (P : Place → Body → Type 0) (start : Start) (h : ℕ) (log 
     → Each (λ (x : Addressed). P x.signal.to x.signal.body) (joined (signals_of start h log e) between)
 each_joins P start h log e between sent rest =
     joined_each (λ (x : Addressed). P x.signal.to x.signal.body) (signals_of start h log e) between
-    (headed_each P (first_view start.shape.nodes) h e.step.stamp (sent_count start h log) (step_after start h log e).effects.sends sent) rest
+    (headed_each P (first_membership start) h e.step.stamp (sent_count start h log) (step_after start h log e).effects.sends sent) rest

@@ -43,6 +43,10 @@ primary start key = node_at (replicas start key) 0
 abbrev pub primary_host : Start → List ℕ → ℕ
 primary_host start key = rows_host start (primary start key)
 
+-- the host of the rows at a place of its chain
+abbrev pub replica_host : Start → List ℕ → ℕ → ℕ
+replica_host start key at = rows_host start (node_at (replicas start key) at)
+
 -- an operation is for the first place of a chain, and an image for a later one
 abbrev pub IsWorkAt : ℕ → RowWork → Type 0
 IsWorkAt at (Operate op) = at ≡ 0

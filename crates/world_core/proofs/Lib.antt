@@ -1,5 +1,6 @@
 pub mod AskDriven
 pub mod FreshWorld
+pub mod HostNumbers
 pub mod LinkIndex
 pub mod LogIndex
 pub mod MoveRight

@@ -37,8 +37,8 @@ number_of Ldm = 3
 
 -- the host of a part of the member at this place, from 0; of a member that isn't made, this one, which nobody is
 abbrev pub host_at : ℕ → Part → Option ℕ → ℕ
-host_at nobody part None = nobody
-host_at nobody part (Some place) = place * 3 + number_of part
+host_at absent part None = absent
+host_at absent part (Some place) = place * 3 + number_of part
 
 abbrev pub host_of : List Member → Part → Member → ℕ
 host_of made part member = host_at (length made * 3 + 1) part (position (is_member member) made)

@@ -1,7 +1,7 @@
 //! The machine of the kernel, and the world in which one thread drives it.
 #![tactic(auto)]
 
-mod first;
+mod hosts;
 mod inbox;
 mod logs;
 mod network;

@@ -5,7 +5,7 @@ ghost use Rattle.world_core.specs.Network.{put_all};
 ghost use Rattle.world_core.specs.Start.{first_view, fresh, started};
 ghost use Rattle.world_core.specs.World.{for_each};
 
-use crate::first::first_view;
+use crate::hosts::Membership;
 use crate::logs::Logs;
 use crate::network::Network;
 use node_core::Host;
@@ -22,8 +22,8 @@ const STAMPS_END: u64 = 1 << 59;
 /// All hosts, the links between them, and the log of each.
 #[derive(Drop)]
 pub struct World {
-    view: View,
-    /// Host 0, the shell's, and those of the nodes, in their order.
+    who: Membership,
+    /// Host 0, the shell's, and behind it three of each member, in their order.
     bodies: Vec<Host>,
     network: Network,
     outs: Outs,

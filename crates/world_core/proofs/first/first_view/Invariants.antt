@@ -1,7 +1,0 @@
-use Rattle.std.proofs.Common.{◌≡◌, length}
-use Rattle.world_core.specs.Start.{members}
-use Rattle.world_core.proofs.first.first_view.Given as goal
-
--- the members before the next one
-abbrev pub invariant-loop-before : goal.invariant-loop-before
-invariant-loop-before l = (l.full ≡ members l.before) × (length l.full ≡ l.before)
