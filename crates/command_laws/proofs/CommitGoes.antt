@@ -6,23 +6,19 @@ use Rattle.world_core.specs.Steps.{HostStep}
 use Rattle.sig_core.specs.declared.mark.Mark.TheVariants.{Reported}
 use Rattle.sig_core.specs.declared.member.TxId.{TxId}
 use Rattle.sig_core.specs.declared.outcome.Outcome.{Outcome}
-use Rattle.sig_core.specs.declared.place.BlockId.{BlockId}
-use Rattle.sig_core.specs.declared.place.BlockId.TheVariants as block
-use Rattle.sig_core.specs.declared.place.Place.{Place}
 use Rattle.sig_core.specs.declared.reply.ApiReply.TheVariants.{Ended}
 use Rattle.sig_core.specs.declared.signal.Body.{Body}
 use Rattle.sig_core.specs.Step.{Step}
 use Rattle.api_block.specs.declared.opened.Doing.{Doing}
 use Rattle.api_block.specs.declared.opened.Doing.TheVariants.{Operating, Committing}
 use Rattle.api_block.specs.declared.opened.OpenTransaction.{OpenTransaction}
-use Rattle.api_block.specs.Api.{api_table}
+use Rattle.api_block.specs.Api.{api_row}
 use Rattle.api_block.specs.Opened.{begins, behind, is_beginning, same_name}
 use Rattle.api_block.specs.State.{ApiState}
 use Rattle.node_core.specs.declared.host.Host as host
-use Rattle.node_core.specs.declared.host.Host.TheVariants.{Shell, Node}
 use Rattle.node_core.specs.Replies.{replies_of}
 use Rattle.node_core.specs.Requests.{is_request}
-use Rattle.node_core.specs.Row.{row, shell_row}
+use Rattle.node_core.specs.Row.{row}
 use Rattle.world_core.specs.Machine.{after, step_after}
 use Rattle.world_core.specs.Start.{Start}
 use Rattle.answer_laws.proofs.ApiBegins.{in_middle}
@@ -30,6 +26,10 @@ use Rattle.answer_laws.specs.Answered.{opened_in}
 use Rattle.command_laws.proofs.ApiChanges.{ApiChange, answers, api_changes, commits, ends, outcome_in, refuses, rests, starts, waits}
 use Rattle.answer_laws.proofs.LqhOps.{left_of}
 use Rattle.command_laws.proofs.Entries.{HasOne, IsApart, here_or_apart, same_number}
+use Rattle.sig_core.specs.declared.signal.Signal.{Signal}
+use Rattle.node_core.specs.Blocks.{api_of, has_api}
+use Rattle.command_laws.proofs.HostKinds.{replies_are, shell_runs}
+use Rattle.command_laws.proofs.HostSteps.{api_host, api_seen}
 
 -- the step reports the end of the transaction of this name
 pub record IsEnding (tx : TxId) (name : Option ℕ) (g : host.Host) (body : Body) (step : Step host.Host) : Type 0 where
@@ -43,6 +43,14 @@ pub record IsEndingHere (tx : TxId) (name : Option ℕ) (s : ApiState) (body : B
   pub about : outcome_in body ≡ Some (tx, outcome)
   pub told : step.state.replies ≡ s.replies ++ Ended name outcome ∷ []
   pub marked : step.effects.marks ≡ Reported tx outcome ∷ []
+
+pub ending_of : (tx : TxId) (name : Option ℕ) (g : host.Host) (body : Body) (step : Step host.Host) → IsEndingHere tx name (api_of g) body (api_seen step) → IsEnding tx name g body step
+ending_of tx name g body step ending = record {
+  outcome = ending.outcome;
+  about = ending.about;
+  told = replies_are step.state ∙ ending.told ∙ ap (λ rs. rs ++ Ended name ending.outcome ∷ []) (sym (replies_are g));
+  marked = ending.marked;
+}
 
 -- one of these steps behind a log reported its end
 pub record HasEnded (tx : TxId) (name : Option ℕ) (start : Start) (later log : List HostStep) : Type 0 where
@@ -115,22 +123,16 @@ module _ (tx : TxId) (name : Option ℕ) (stay : Doing) (idle : stay ≡ Operati
         by (inl same) = absurd (not_beginning at.t (left_of (is_beginning at.t.doing) (same_name at.t.name called) passes) same)
         by (inr others) = inl (as_before step.state.opened (subst (IsIn has.item) (sym is) others.left))
 
-  shell_goes : (s : ApiState) (at : BlockId) (body : Body) → is_request body ≡ false → HasOne tx name stay s.opened
-      → HasOne tx name stay (shell_row s at body).state.opened ⊎ IsEndingHere tx name s body (shell_row s at body)
-  unfolding shell_row GoesOrEnds
-  shell_goes s block.Api body plain has = change_goes s body has (api_table s body) (api_changes s body plain)
-  shell_goes s _ body plain has = inl has
-
-  host_goes : (g : host.Host) (to : Place) (body : Body) → is_request body ≡ false → HasOne tx name stay (opened_in g)
-      → HasOne tx name stay (opened_in (row g to body).state) ⊎ IsEnding tx name g body (row g to body)
-  unfolding row replies_of
-  host_goes (Shell s) to body plain has = by (shell_goes s to.block body plain has)
+  host_goes : (g : host.Host) (x : Signal) → has_api g ≡ true → is_request x.body ≡ false → HasOne tx name stay (opened_in g)
+      → HasOne tx name stay (opened_in (row g x).state) ⊎ IsEnding tx name g x.body (row g x)
+  unfolding GoesOrEnds
+  host_goes g x has plain had =
+      by (api_host (GoesOrEnds (api_of g) x.body) g x has (λ at. change_goes (api_of g) x.body had (api_row (api_of g) x) (api_changes (api_of g) x.body plain)) (inl had))
     where
-      by : HasOne tx name stay (shell_row s to.block body).state.opened ⊎ IsEndingHere tx name s body (shell_row s to.block body)
-          → HasOne tx name stay (opened_in (row (Shell s) to body).state) ⊎ IsEnding tx name (Shell s) body (row (Shell s) to body)
+      by : HasOne tx name stay (opened_in (row g x).state) ⊎ IsEndingHere tx name (api_of g) x.body (api_seen (row g x))
+          → HasOne tx name stay (opened_in (row g x).state) ⊎ IsEnding tx name g x.body (row g x)
       by (inl goes) = inl goes
-      by (inr ending) = inr (record { outcome = ending.outcome; about = ending.about; told = ending.told; marked = ending.marked })
-  host_goes (Node n) to body plain has = absurd (has.inside)
+      by (inr ending) = inr (ending_of tx name g x.body (row g x) ending)
 
   -- along steps that aren't requests
   pub entry_goes : (start : Start) (later log : List HostStep) → Each (λ (e : HostStep). is_request e.step.taken.body ≡ false) later → HasOne tx name stay (opened_in (after start 0 log))
@@ -146,7 +148,7 @@ module _ (tx : TxId) (name : Option ℕ) (stay : Doing) (idle : stay ≡ Operati
 
       by : HasOne tx name stay (opened_in (after start 0 (later ++ log))) ⊎ HasEnded tx name start later log
           → HasOne tx name stay (opened_in (after start 0 (e ∷ (later ++ log)))) ⊎ HasEnded tx name start (e ∷ later) log
-      by (inl goes) = next (host_goes (after start 0 (later ++ log)) e.step.taken plain.0 goes)
+      by (inl goes) = next (host_goes (after start 0 (later ++ log)) e.step.taken (shell_runs start (later ++ log)) plain.0 goes)
       by (inr ended) = inr (record { newer = e ∷ ended.newer; step = ended.step; older = ended.older; is = ap (λ w. e ∷ w) ended.is; ending = ended.ending })
 
 -- so one that commits

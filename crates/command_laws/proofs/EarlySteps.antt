@@ -1,6 +1,5 @@
 -- A step of a node, where no commit or abort of the transaction is wished for.
-use Rattle.std.proofs.Common.{◌≡◌, ◌≢◌, ◌⊎◌, ◌<◌, ◌+◌, ℕ, Bool, true, false, List, [], ◌∷◌, refl, sym, ap, ◌∙◌, subst, inl, inr, arith}
-use Rattle.std.proofs.lemmas.Bool.{cases_eq}
+use Rattle.std.proofs.Common.{◌≡◌, ◌⊎◌, ◌<◌, ◌+◌, ℕ, Bool, true, false, List, [], ◌∷◌, refl, sym, ap, ◌∙◌, subst, inl, inr, arith}
 use Rattle.std.specs.Prelude.{◌&&◌, if◌then◌else◌, Option, None, Some, not}
 use Rattle.sig_core.specs.declared.member.TxId.{TxId}
 use Rattle.sig_core.specs.declared.outs.Outgoing.{Outgoing}
@@ -26,7 +25,6 @@ use Rattle.command_laws.proofs.EarlyTurns.{EarlyTurn, IsLeaving, is_no_end, is_p
 use Rattle.command_laws.proofs.LqhFair.{is_fair}
 use Rattle.command_laws.proofs.TcPath.{IsSound, TcGoes, aside, begins, is_told, left_by, takes, told_of}
 use Rattle.command_laws.proofs.TellsOnce.{live_early}
-use Rattle.command_laws.proofs.TellsSince.{not_home}
 use Rattle.command_laws.proofs.Turns.{turn_by}
 use Rattle.sig_core.proofs.Keys.{same_tx-self}
 use Rattle.command_laws.specs.Served.{is_refusal}
@@ -158,23 +156,24 @@ module _ (tx : TxId) where
   wish_kind _ off same = refl
 
   -- nothing bad is sent, and the coordinator is past it
-  pub record GoesPast (s : TcState) (sends : List Outgoing) : Type 0 where
+  pub record GoesPast (Home : Type 0) (s : TcState) (sends : List Outgoing) : Type 0 where
     pub good : sends_of (is_bad tx) sends ≡ 0
-    pub past : tx.tc ≡ s.node → IsPastNow tx s
+    pub past : Home → IsPastNow tx s
 
   -- nothing bad is sent, and nothing is aborted, and it is open
-  pub record StaysClean (s : TcState) (sends : List Outgoing) : Type 0 where
+  pub record StaysClean (Home : Type 0) (s : TcState) (sends : List Outgoing) : Type 0 where
     pub good : sends_of (is_bad tx) sends ≡ 0
     pub fair : sends_of (is_loss tx) sends ≡ 0
-    pub is_open : tx.tc ≡ s.node → IsOpenNow tx s
+    pub is_open : Home → IsOpenNow tx s
 
   -- or it leaves that state, at its coordinator
-  pub record Leaves (s : TcState) (sends : List Outgoing) : Type 0 where
+  pub record Leaves (Home : Type 0) (s : TcState) (sends : List Outgoing) : Type 0 where
     pub good : sends_of (is_bad tx) sends ≡ 0
-    pub home : tx.tc ≡ s.node
+    pub home : Home
     pub past : IsPastNow tx s
 
-  module _ (s : TcState) (body : Body) (sound : IsSound tx s) (wish : wish_of tx body ≡ false) (step : Step TcState) (node_same : step.state.node ≡ s.node) (refs : are_of is_no_ref step.effects.sends ≡ true) where
+  module _ (s : TcState) (body : Body) (sound : IsSound tx s) (wish : wish_of tx body ≡ false) (step : Step TcState) (refs : are_of is_no_ref step.effects.sends ≡ true)
+      (Home : Type 0) (home_of : (t : Transaction) → of_live tx s.live ≡ Some t → Home) where
     left_past : (turn : Turn) → (turn.over ≡ false → is_past turn.step.state.phase ≡ true) → PastOption (left_by turn)
     left_past turn past = by turn.over refl
       where
@@ -182,12 +181,12 @@ module _ (tx : TxId) where
         by true over = tt
         by false over = past over
 
-    pub clean_goes : is_fair tx body ≡ true → (tx.tc ≡ s.node → IsOpenNow tx s) → TcGoes tx s body step → StaysClean step.state step.effects.sends ⊎ Leaves step.state step.effects.sends
+    pub clean_goes : is_fair tx body ≡ true → (Home → IsOpenNow tx s) → TcGoes tx s body step → StaysClean Home step.state step.effects.sends ⊎ Leaves Home step.state step.effects.sends
     clean_goes fair was (aside same none more) =
         inl (record {
           good = none_bad step.effects.sends none;
           fair = none_loss step.effects.sends none refs;
-          is_open = λ at. record { open_now = subst OpenOption (sym same) (was (at ∙ node_same)).open_now };
+          is_open = λ at. record { open_now = subst OpenOption (sym same) (was at).open_now };
         })
     clean_goes fair was (begins number now none more) =
         inl (record {
@@ -197,17 +196,10 @@ module _ (tx : TxId) where
         })
     clean_goes fair was (takes t same live sends left more) = own (cases_home)
       where
-        home : tx.tc ≡ s.node
-        home = by (cases_eq tx.tc s.node)
-          where
-            by : (tx.tc ≡ s.node) ⊎ (tx.tc ≢ s.node) → tx.tc ≡ s.node
-            by (inl at) = at
-            by (inr away) = absurd (let both : Some t ≡ None = sym live ∙ not_home tx s.node s.next_seq s.live sound.own away in cc)
-
         cases_home : EarlyTurn tx t (turn_by s tx body t)
-        cases_home = open_turn s tx body t (wish_kind body wish same) same fair (subst OpenOption live (was home).open_now)
+        cases_home = open_turn s tx body t (wish_kind body wish same) same fair (subst OpenOption live (was (home_of t live)).open_now)
 
-        own : EarlyTurn tx t (turn_by s tx body t) → StaysClean step.state step.effects.sends ⊎ Leaves step.state step.effects.sends
+        own : EarlyTurn tx t (turn_by s tx body t) → StaysClean Home step.state step.effects.sends ⊎ Leaves Home step.state step.effects.sends
         own (inl q) = inl (record {
           good = ap (sends_of (is_bad tx)) sends ∙ none_of is_no_end (is_bad tx) good_end (turn_by s tx body t).step.effects.sends q.ends;
           fair = ap (sends_of (is_loss tx)) sends ∙ none_of (is_fair tx) (is_loss tx) fair_loss (turn_by s tx body t).step.effects.sends q.fair;
@@ -215,30 +207,23 @@ module _ (tx : TxId) where
         })
         own (inr q) = inr (record {
           good = ap (sends_of (is_bad tx)) sends ∙ none_of is_no_end (is_bad tx) good_end (turn_by s tx body t).step.effects.sends q.ends;
-          home = home ∙ sym node_same;
+          home = home_of t live;
           past = record { past = subst PastOption (sym left) (left_past (turn_by s tx body t) q.past); early = omega (arith, live_early tx s.node s.next_seq s.live t sound.own live, more) };
         })
 
-    pub past_goes : (tx.tc ≡ s.node → IsPastNow tx s) → TcGoes tx s body step → GoesPast step.state step.effects.sends
+    pub past_goes : (Home → IsPastNow tx s) → TcGoes tx s body step → GoesPast Home step.state step.effects.sends
     past_goes was (aside same none more) = record {
       good = none_bad step.effects.sends none;
-      past = λ at. let p = was (at ∙ node_same) in record { past = subst PastOption (sym same) p.past; early = omega (arith, p.early, more) };
+      past = λ at. let p = was at in record { past = subst PastOption (sym same) p.past; early = omega (arith, p.early, more) };
     }
     past_goes was (begins number now none more) = record {
       good = none_bad step.effects.sends none;
-      past = λ at. let p = was (at ∙ node_same) in absurd (omega (arith, p.early, number));
+      past = λ at. let p = was at in absurd (omega (arith, p.early, number));
     }
     past_goes was (takes t same live sends left more) = record {
       good = ap (sends_of (is_bad tx)) sends ∙ none_of is_no_end (is_bad tx) good_end (turn_by s tx body t).step.effects.sends q.ends;
       past = λ at. record { past = subst PastOption (sym left) (left_past (turn_by s tx body t) q.past); early = omega (arith, live_early tx s.node s.next_seq s.live t sound.own live, more) };
     }
       where
-        home : tx.tc ≡ s.node
-        home = by (cases_eq tx.tc s.node)
-          where
-            by : (tx.tc ≡ s.node) ⊎ (tx.tc ≢ s.node) → tx.tc ≡ s.node
-            by (inl at) = at
-            by (inr away) = absurd (let both : Some t ≡ None = sym live ∙ not_home tx s.node s.next_seq s.live sound.own away in cc)
-
         q : IsLeaving (turn_by s tx body t)
-        q = past_turn s tx body t (wish_kind body wish same) same (subst PastOption live (was home).past)
+        q = past_turn s tx body t (wish_kind body wish same) same (subst PastOption live (was (home_of t live)).past)

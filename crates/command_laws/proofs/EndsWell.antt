@@ -38,6 +38,7 @@ use Rattle.command_laws.proofs.Told.{told_since}
 use Rattle.command_laws.proofs.Tests.{and_off, none_at}
 use Rattle.sig_core.proofs.Keys.{same_tx-self}
 use Rattle.command_laws.specs.Served.{IsServed, is_refusal, replies_since}
+use Rattle.world_core.specs.Hosts.{home}
 
 request_plain_wish : (tx : TxId) (to : Place) (body : Body) → is_request body ≡ true → is_wish_to tx to body ≡ false
 request_plain_wish tx to body is = and_off (is_tc to.block) (plain body is)
@@ -93,7 +94,7 @@ module _ (start : Start) (was now : ℕ → List HostStep) (asked : ApiReq) (ser
       (told_since start (was 0) (older ++ f.first ∷ was 0) newer step reply (past_of older) told)
 
   module _ (tx : TxId) (wishes : sent_since start (is_wish_to tx) 0 (f.later ++ f.first ∷ []) (was 0) ≡ 0)
-      (open_was : (h : ℕ) → tx.tc ≡ suc h → OnTc (IsOpenNow tx) (after start (suc h) (was (suc h)))) where
+      (open_was : (h : ℕ) → home start tx ≡ h → OnTc (IsOpenNow tx) (after start h (was h))) where
     -- nobody wishes for its commit or abort
     no_wishes : (h : ℕ) → sent_since start (is_wish_to tx) h (cut h).newer (was h) ≡ 0
     no_wishes zero = wishes
@@ -102,10 +103,10 @@ module _ (start : Start) (was now : ℕ → List HostStep) (asked : ApiReq) (ser
     none_wished : (h : ℕ) → Each (λ (e : HostStep). is_wish_to tx e.step.taken.to e.step.taken.body ≡ false) (cut h).newer
     none_wished h =
         each_map (λ (e : HostStep). is_request e.step.taken.body ≡ false → is_wish_to tx e.step.taken.to e.step.taken.body ≡ false) (λ (e : HostStep). is_wish_to tx e.step.taken.to e.step.taken.body ≡ false) (cut h).newer
-        (none_at (is_wish_to tx) (request_plain_wish tx)) (none_taken start was now served.before served.since cut (is_wish_to tx) no_wishes h)
+        (none_at (is_wish_to tx) (request_plain_wish tx)) (none_taken start was now served.before served.since cut (is_wish_to tx) (λ i low. no_wishes i) h)
 
     none_bad : Each (λ (e : HostStep). is_request e.step.taken.body ≡ false → is_bad tx e.step.taken.to e.step.taken.body ≡ false) (f.later ++ f.first ∷ [])
-    none_bad = none_taken start was now served.before served.since cut (is_bad tx) (no_bad start was now served.before served.since cut tx none_wished open_was) 0
+    none_bad = none_taken start was now served.before served.since cut (is_bad tx) (λ i low. no_bad start was now served.before served.since cut tx none_wished open_was i) 0
 
     pub ended_well : (name : Option ℕ) → HasEnded tx name start f.later (f.first ∷ was 0) → EndsWell start was now name
     ended_well name ended =

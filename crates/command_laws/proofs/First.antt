@@ -13,7 +13,7 @@ use Rattle.run_theory.specs.Runs.{AreLogs, Happens, Run, log_of}
 use Rattle.run_theory.proofs.Growth.{grow}
 use Rattle.run_theory.proofs.Merging.{log_of-append, logs_merged, merged_run}
 use Rattle.run_theory.proofs.Runs.{log_of-other, log_of-own, logs_of_run}
-use Rattle.world_core.specs.Steps.{HostStep}
+use Rattle.world_core.specs.Steps.{Addressed, HostStep}
 use Rattle.sig_core.specs.declared.request.ApiReq.{ApiReq}
 use Rattle.sig_core.specs.declared.signal.Body.{Body}
 use Rattle.sig_core.specs.declared.signal.Body.TheVariants.{Host}
@@ -24,15 +24,19 @@ use Rattle.sig_core.specs.Place.{client}
 use Rattle.node_core.specs.Requests.{is_request}
 use Rattle.world_core.proofs.Stamped.{stamped}
 use Rattle.world_core.specs.Hosts.{hosts}
-use Rattle.world_core.specs.Machine.{IsAsked, asked_rightly, last_stamp, machine}
+use Rattle.world_core.specs.Machine.{IsAsked, after, asked_rightly, last_stamp, machine, step_after}
 use Rattle.world_core.specs.Requests.{request_in, requests}
-use Rattle.frag_map.specs.Layout.{first_view}
 use Rattle.world_core.specs.Start.{Start}
 use Rattle.answer_laws.proofs.Begins.{given_past}
 use Rattle.answer_laws.proofs.LinkCounts.{signals}
 use Rattle.commit_laws.proofs.Tally.{tally_past}
 use Rattle.command_laws.proofs.Since.{all_taken}
 use Rattle.command_laws.specs.Served.{IsServed}
+use Rattle.world_core.specs.Hosts.{first_membership}
+use Rattle.command_laws.proofs.HostSteps.{api_seen, request_step}
+use Rattle.command_laws.proofs.HostKinds.{shell_runs}
+use Rattle.node_core.specs.Blocks.{api_of}
+use Rattle.api_block.specs.Api.{request_row}
 
 pub requests_append : (newer log : List HostStep) → requests (newer ++ log) ≡ requests log ++ requests newer
 requests_append [] log = sym (append-nil (requests log))
@@ -62,7 +66,7 @@ no_requests (e ∷ log) none = by (request_in e.step.taken.body) refl (front (re
     by (Some r) is both rest = let some : r ∷ [] ≡ [] = sym (ap option_to_list is) ∙ both.1 in absurd cc
 
 -- a step that a request makes is one of the shell's host
-pub fits_asked : (start : Start) (h stamp : ℕ) (x : Signal) (b : Bool) → b ≡ true → asked_rightly (first_view start.shape.nodes) b h stamp x → IsAsked (first_view start.shape.nodes) h stamp x
+pub fits_asked : (start : Start) (h stamp : ℕ) (x : Signal) (b : Bool) → b ≡ true → asked_rightly (first_membership start) b h stamp x → IsAsked (first_membership start) h stamp x
 fits_asked start h stamp x true e asked = asked
 fits_asked start h stamp x false e asked = cc
 
@@ -99,6 +103,11 @@ pub record IsFirst (start : Start) (was now : ℕ → List HostStep) (request : 
   pub plain : Each (λ (e : HostStep). is_request e.step.taken.body ≡ false) later
   pub right : AreLogs (machine start) (with_first was first)
 
+-- it is what the API does at the request
+pub first_step : (start : Start) (was now : ℕ → List HostStep) (request : ApiReq) (f : IsFirst start was now request)
+    → api_seen (step_after start 0 (was 0) f.first) ≡ request_row (api_of (after start 0 (was 0))) request
+first_step start was now request f = request_step (after start 0 (was 0)) f.first.step.taken request (shell_runs start (was 0)) f.place f.body
+
 module _ (start : Start) (was now : ℕ → List HostStep) (request : ApiReq) (served : IsServed start was now request) where
   -- what comes at a quiet moment is no signal that a link gave
   first_asked : (es : List HostStep) (e : HostStep) → log_of (machine start) es ≡ was → Happens (machine start) es e → e.host < hosts start → is_request e.step.taken.body ≡ true
@@ -110,7 +119,7 @@ module _ (start : Start) (was now : ℕ → List HostStep) (request : ApiReq) (s
           let i = e.step.taken.from.0 in
           let j = e.host in
           let past = given_past start i j (log_of (machine start) es i) (record { to = e.host; signal = e.step.taken } ∷ taken (machine start) i (log_of (machine start) es j)) (happens.takes is) in
-          let more = tally_past (λ (x : Signal). true) past in
+          let more = tally_past (λ (x : Addressed). true) past in
           absurd (omega (
             arith,
             more,
@@ -143,7 +152,7 @@ module _ (start : Start) (was now : ℕ → List HostStep) (request : ApiReq) (s
           by (inl under) = under
           by (inr high) = absurd (nonempty _ _ (sym (served.since.within e.host high) ∙ own e.host refl))
 
-      found : IsAsked (first_view start.shape.nodes) e.host (last_stamp (log_of (machine start) es e.host)) e.step.taken → IsFirst start was now request
+      found : IsAsked (first_membership start) e.host (last_stamp (log_of (machine start) es e.host)) e.step.taken → IsFirst start was now request
       found asked =
           let body_is : e.step.taken.body ≡ Host (Continue (Request asked.request) 0) = ap (λ (x : Signal). x.body) asked.is in
           let log_is = own 0 asked.shell in

@@ -5,7 +5,7 @@ use Rattle.frag_map.specs.Layout.{Layout}
 use Rattle.node_core.proofs.HostCases.{api_stays, runs}
 use Rattle.node_core.specs.declared.host.Host.{Host}
 use Rattle.node_core.specs.declared.host.Host.TheVariants.{Shell, Main, Tc, Ldm}
-use Rattle.node_core.specs.Blocks.{api_of, has_api, has_lqh, has_tc}
+use Rattle.node_core.specs.Blocks.{api_of, has_api, has_lqh, has_tc, tc_of}
 use Rattle.node_core.specs.Fresh.{fresh_part, fresh_shell}
 use Rattle.node_core.specs.Replies.{replies_of}
 use Rattle.sig_core.specs.declared.member.Member.{Member}
@@ -29,6 +29,19 @@ runs_api (Shell s) = refl
 runs_api (Main m) = refl
 runs_api (Tc p) = refl
 runs_api (Ldm l) = refl
+
+pub runs_tc : (g : Host) → runs g block.Tc ≡ has_tc g
+runs_tc (Shell s) = refl
+runs_tc (Main m) = refl
+runs_tc (Tc p) = refl
+runs_tc (Ldm l) = refl
+
+-- without a coordinator there are no transactions
+pub no_tc : (g : Host) → has_tc g ≡ false → (tc_of g).live ≡ []
+no_tc (Shell s) none = refl
+no_tc (Main m) none = refl
+no_tc (Tc p) none = cc
+no_tc (Ldm l) none = refl
 
 -- the replies of a host are those of its API
 pub replies_are : (g : Host) → replies_of g ≡ (api_of g).replies

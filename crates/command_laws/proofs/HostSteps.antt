@@ -26,7 +26,7 @@ use Rattle.answer_laws.proofs.DihSends.{dih_kinds}
 use Rattle.answer_laws.proofs.LqhSends.{lqh_kinds}
 use Rattle.answer_laws.proofs.SendKinds.{is_dih_kind, is_lqh_kind, none_of}
 use Rattle.answer_laws.proofs.Wishes.{sends_of}
-use Rattle.command_laws.proofs.HostKinds.{api_alone, api_no_rows, runs_api}
+use Rattle.command_laws.proofs.HostKinds.{api_alone, api_no_rows, runs_api, runs_tc}
 use Rattle.command_laws.proofs.HostSends.{IsOfTc, api_silent}
 
 -- a host's step, as one of its API
@@ -34,13 +34,14 @@ abbrev pub api_seen : Step Host → Step ApiState
 api_seen t = record { state = api_of t.state; effects = t.effects }
 
 -- what holds of each step of the API, and of none, holds of each step of the shell's host
-pub api_host : (R : Step ApiState → Type 0) (g : Host) (x : Signal) → has_api g ≡ true → R (api_row (api_of g) x) → R (stay (api_of g)) → R (api_seen (row g x))
+pub api_host : (R : Step ApiState → Type 0) (g : Host) (x : Signal) → has_api g ≡ true → (x.to.block ≡ block.Api → R (api_row (api_of g) x)) → R (stay (api_of g))
+    → R (api_seen (row g x))
 api_host R g x has moves rests = go (row g x) (block_case g x)
   where
     go : (t : Step Host) → BlockCase g x t → R (api_seen t)
     go t (api_takes step) =
         subst (λ (u : ApiState). R (record { state = u; effects = t.effects })) (sym step.state)
-        (subst (λ (f : Effects). R (record { state = (api_row (api_of g) x).state; effects = f })) (sym step.effects) moves)
+        (subst (λ (f : Effects). R (record { state = (api_row (api_of g) x).state; effects = f })) (sym step.effects) (moves step.at))
     go t (tc_takes step) = absurd (api_alone g has step.runs)
     go t (dih_takes step) = absurd (api_alone g has step.runs)
     go t (rows_take step) = absurd (api_no_rows g has step.runs)
@@ -77,22 +78,25 @@ SendsNoTc sends = (test : Place → Body → Bool) → IsOfTc test → sends_of 
 -- what holds of each step of a coordinator, and where nothing changes there and nothing of the kind is sent, holds of each
 -- step of a host
 pub tc_host : (R : Step TcState → Type 0) (g : Host) (x : Signal) → (has_tc g ≡ true → x.to.block ≡ block.Tc → R (tc_row (tc_of g) x))
-    → ((effects : Effects) → SendsNoTc effects.sends → R (record { state = tc_of g; effects = effects })) → R (tc_seen (row g x))
+    → ((effects : Effects) → SendsNoTc effects.sends → (x.to.block ≡ block.Tc → has_tc g ≡ false) → R (record { state = tc_of g; effects = effects })) → R (tc_seen (row g x))
 tc_host R g x moves rests = go (row g x) (block_case g x)
   where
-    at_rest : (t : Step Host) (f : Effects) → tc_of t.state ≡ tc_of g → t.effects ≡ f → SendsNoTc f.sends → R (tc_seen t)
-    at_rest t f same effects none =
+    at_rest : (t : Step Host) (f : Effects) → tc_of t.state ≡ tc_of g → t.effects ≡ f → SendsNoTc f.sends → (x.to.block ≡ block.Tc → has_tc g ≡ false) → R (tc_seen t)
+    at_rest t f same effects none off =
         subst (λ (u : TcState). R (record { state = u; effects = t.effects })) (sym same)
-        (subst (λ (e : Effects). R (record { state = tc_of g; effects = e })) (sym effects) (rests f none))
+        (subst (λ (e : Effects). R (record { state = tc_of g; effects = e })) (sym effects) (rests f none off))
 
     go : (t : Step Host) → BlockCase g x t → R (tc_seen t)
     go t (tc_takes step) =
         subst (λ (u : TcState). R (record { state = u; effects = t.effects })) (sym step.state)
         (subst (λ (f : Effects). R (record { state = (tc_row (tc_of g) x).state; effects = f })) (sym step.effects) (moves step.runs step.at))
-    go t (api_takes step) = at_rest t _ step.tc step.effects (λ test only. api_silent test only.api (api_of g) x.body)
+    go t (api_takes step) = at_rest t _ step.tc step.effects (λ test only. api_silent test only.api (api_of g) x.body) (λ at. absurd (let both : _ ≡ block.Tc = sym step.at ∙ at in cc))
     go t (dih_takes step) =
         at_rest t _ step.tc step.effects (λ test only. none_of is_dih_kind test only.dih (dih_table (dih_of g) x.body).effects.sends (dih_kinds (dih_of g) x.body))
+        (λ at. absurd (let both : _ ≡ block.Tc = sym step.at ∙ at in cc))
     go t (rows_take step) =
         at_rest t _ step.tc step.effects (λ test only. none_of is_lqh_kind test only.lqh (lqh_table (lqh_of g) x.body).effects.sends (lqh_kinds (lqh_of g) x.body))
+        (λ at. absurd (let both : _ ≡ block.Tc = sym step.at ∙ at in cc))
     go t (none_takes step) =
         at_rest t nothing (ap (λ (u : Step Host). tc_of u.state) step.is) (ap (λ (u : Step Host). u.effects) step.is) (λ test only. refl)
+        (λ at. sym (runs_tc g) ∙ ap (runs g) (sym at) ∙ step.runs)

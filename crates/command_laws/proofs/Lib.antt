@@ -19,6 +19,7 @@ pub mod FirmHosts
 pub mod First
 pub mod HeldUp
 pub mod HoldersTold
+pub mod Homes
 pub mod HostKinds
 pub mod HostSends
 pub mod HostSteps

@@ -1,27 +1,23 @@
 -- An operation alone is answered, or refused for want of room or of time, or its transaction can't begin, or it waits for a lock.
-use Rattle.std.proofs.Common.{◌≡◌, ◌⊎◌, ℕ, suc, true, false, List, [], ◌∷◌, ◌++◌, sym, ap, ◌∙◌, subst, inl, inr, append_assoc, arith}
+use Rattle.std.proofs.Common.{◌≡◌, ◌⊎◌, ℕ, true, false, List, [], ◌∷◌, ◌++◌, sym, ap, ◌∙◌, subst, inl, inr, append_assoc, arith}
 use Rattle.std.specs.Prelude.{Option, None, Some}
 use Rattle.run_theory.specs.Lists.{Each}
 use Rattle.run_theory.proofs.Pasts.{each_before}
 use Rattle.world_core.specs.Steps.{HostStep}
 use Rattle.sig_core.specs.declared.member.TxId.{TxId}
 use Rattle.sig_core.specs.declared.op.Op.{Op}
-use Rattle.sig_core.specs.declared.place.Place.{Place}
 use Rattle.sig_core.specs.declared.reply.ApiReply.TheVariants.{Answered, Refused}
 use Rattle.sig_core.specs.declared.reply.Refusal.TheVariants.{TooManyOpen}
 use Rattle.sig_core.specs.declared.request.ApiReq.TheVariants.{Operate}
-use Rattle.sig_core.specs.Place.{client}
 use Rattle.api_block.specs.declared.opened.Doing.{Doing}
 use Rattle.api_block.specs.declared.opened.Doing.TheVariants.{Operating}
 use Rattle.api_block.specs.Opened.{has_tx, is_beginning}
 use Rattle.node_core.specs.Requests.{is_request}
-use Rattle.node_core.specs.Row.{row}
 use Rattle.world_core.specs.Machine.{after, step_after}
 use Rattle.world_core.specs.Start.{Start}
 use Rattle.answer_laws.proofs.Begins.{no_begin}
-use Rattle.answer_laws.proofs.Hosts.{shell_after}
-use Rattle.answer_laws.proofs.LinkCounts.{steps, taken_steps}
-use Rattle.answer_laws.proofs.Lives.{holds_at, keeps, once_started}
+use Rattle.answer_laws.proofs.LinkCounts.{steps}
+use Rattle.answer_laws.proofs.Lives.{holds_at, once_started}
 use Rattle.commit_laws.proofs.Tally.{tally_append}
 use Rattle.commit_laws.specs.Counts.{one_if}
 use Rattle.answer_laws.proofs.TcLives.{is_start}
@@ -31,16 +27,19 @@ use Rattle.command_laws.proofs.Committed.{calm_at, sent_append}
 use Rattle.command_laws.proofs.EarlySteps.{IsOpenNow, OpenOption, is_wish_to}
 use Rattle.command_laws.proofs.EndsWell.{ended_well, replied}
 use Rattle.command_laws.proofs.Entries.{HasOne}
-use Rattle.command_laws.proofs.First.{IsFirst, request_first}
+use Rattle.command_laws.proofs.First.{IsFirst, first_step, request_first}
 use Rattle.command_laws.proofs.LoneBegins.{HasBegun, IsAlone, IsAskedAlone, WasRefused, alone_first, begin_goes}
 use Rattle.command_laws.proofs.LoneWishes.{wishes_since}
 use Rattle.command_laws.proofs.OperateGoes.{HasAnswered, IsAnswering, operate_goes}
-use Rattle.command_laws.proofs.Since.{all_taken, sent_since}
-use Rattle.command_laws.proofs.TcPath.{none_there}
+use Rattle.command_laws.proofs.Since.{sent_since}
 use Rattle.command_laws.proofs.TellsSince.{OnTc}
 use Rattle.command_laws.specs.Alone.{IsRefusedAlone, IsTurnedAway, LoneOperationsAreAnswered, WaitsAlone}
 use Rattle.command_laws.specs.Served.{IsAnsweredAlone, IsServed}
 use Rattle.transit_laws.proofs.Weighing.{none_passes}
+use Rattle.command_laws.proofs.Homes.{unborn_there, view_at}
+use Rattle.world_core.specs.Hosts.{home}
+use Rattle.command_laws.proofs.HostSteps.{api_seen}
+use Rattle.node_core.specs.Blocks.{api_of}
 
 -- what was so behind some steps and a log was so behind that log
 module _ (start : Start) (newer : List HostStep) (step : HostStep) (older log : List HostStep) where
@@ -72,11 +71,8 @@ module _ (answered : EachIsAnswered) (start : Start) (was now : ℕ → List Hos
   f : IsFirst start was now (Operate None op)
   f = request_first start was now (Operate None op) served
 
-  asked : IsAskedAlone op (step_after start 0 (was 0) f.first)
-  asked =
-      subst (λ (to : Place). IsAskedAlone op (row (after start 0 (was 0)) to f.first.step.taken.body)) (sym f.place)
-      (subst (λ body. IsAskedAlone op (row (after start 0 (was 0)) client body)) (sym f.body)
-      (alone_first start (after start 0 (was 0)) op (shell_after start (was 0)) served.before.some (calm_at start was served.before)))
+  asked : IsAskedAlone op (api_seen (step_after start 0 (was 0) f.first))
+  asked = subst (IsAskedAlone op) (sym (first_step start was now (Operate None op) f)) (alone_first start (api_of (after start 0 (was 0))) op (view_at start (was 0)) served.before.shape.nodes_some (calm_at start was served.before))
 
   answered_alone : HasAnswered None start f.later (f.first ∷ was 0) → IsAnsweredAlone start was now
   answered_alone a = record {
@@ -112,12 +108,8 @@ module _ (answered : EachIsAnswered) (start : Start) (was now : ℕ → List Hos
     no_wishes : sent_since start (is_wish_to b.tx) 0 (f.later ++ f.first ∷ []) (was 0) ≡ 0
     no_wishes = omega (arith, sent_append start (is_wish_to b.tx) 0 f.later (f.first ∷ []) (was 0), wishes b.tx, asked.wishes b.tx)
 
-    open_was : (h : ℕ) → b.tx.tc ≡ suc h → OnTc (IsOpenNow b.tx) (after start (suc h) (was (suc h)))
-    open_was h at =
-        let k = keeps start b.tx h (was (suc h)) in
-        let sent = all_taken start was now served.before served.since served.cut (is_start b.tx) (suc h) 0 (omega arith) in
-        subst (OnTc (IsOpenNow b.tx)) (sym k.is)
-        (record { open_now = subst OpenOption (sym (none_there b.tx k.state.tc.live (omega (arith, k.keeps.began, sent, taken_steps start (is_start b.tx) (suc h) (was 0), unbegun)))) tt })
+    open_was : (h : ℕ) → home start b.tx ≡ h → OnTc (IsOpenNow b.tx) (after start h (was h))
+    open_was h at = record { open_now = subst OpenOption (sym (unborn_there start was served.before b.tx unbegun h)) tt }
 
     refused : HasEnded b.tx None start f.later (f.first ∷ was 0) → IsRefusedAlone start was now
     refused ended =

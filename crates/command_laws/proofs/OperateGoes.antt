@@ -6,30 +6,30 @@ use Rattle.world_core.specs.Steps.{HostStep}
 use Rattle.sig_core.specs.declared.mark.Mark.TheVariants.{Reported}
 use Rattle.sig_core.specs.declared.member.TxId.{TxId}
 use Rattle.sig_core.specs.declared.op.Answer.{Answer}
-use Rattle.sig_core.specs.declared.place.BlockId.{BlockId}
-use Rattle.sig_core.specs.declared.place.BlockId.TheVariants as block
-use Rattle.sig_core.specs.declared.place.Place.{Place}
 use Rattle.sig_core.specs.declared.reply.ApiReply.TheVariants.{Answered, Ended}
 use Rattle.sig_core.specs.declared.signal.Body.{Body}
 use Rattle.sig_core.specs.Step.{Step}
 use Rattle.api_block.specs.declared.opened.Doing.TheVariants.{Operating}
 use Rattle.api_block.specs.declared.opened.OpenTransaction.{OpenTransaction}
-use Rattle.api_block.specs.Api.{api_table}
+use Rattle.api_block.specs.Api.{api_row}
 use Rattle.api_block.specs.Opened.{begins, behind, is_beginning, same_name}
 use Rattle.api_block.specs.State.{ApiState}
 use Rattle.node_core.specs.declared.host.Host as host
-use Rattle.node_core.specs.declared.host.Host.TheVariants.{Shell, Node}
 use Rattle.node_core.specs.Replies.{replies_of}
 use Rattle.node_core.specs.Requests.{is_request}
-use Rattle.node_core.specs.Row.{in_shell, row, shell_row}
+use Rattle.node_core.specs.Row.{row}
 use Rattle.world_core.specs.Machine.{after, step_after}
 use Rattle.world_core.specs.Start.{Start}
 use Rattle.answer_laws.proofs.ApiBegins.{in_middle}
 use Rattle.answer_laws.specs.Answered.{opened_in}
 use Rattle.command_laws.proofs.ApiChanges.{ApiChange, answers, api_changes, commits, ends, refuses, rests, starts, waits}
-use Rattle.command_laws.proofs.CommitGoes.{HasEnded, IsEnding, IsEndingHere}
+use Rattle.command_laws.proofs.CommitGoes.{ending_of, HasEnded, IsEnding, IsEndingHere}
 use Rattle.answer_laws.proofs.LqhOps.{left_of}
 use Rattle.command_laws.proofs.Entries.{HasOne, IsApart, here_or_apart, same_number}
+use Rattle.sig_core.specs.declared.signal.Signal.{Signal}
+use Rattle.node_core.specs.Blocks.{api_of, has_api}
+use Rattle.command_laws.proofs.HostKinds.{replies_are, shell_runs}
+use Rattle.command_laws.proofs.HostSteps.{api_host, api_seen}
 
 -- the step answers an operation of a transaction of this name, or of one without a name
 pub record IsAnswering (name : Option ℕ) (g : host.Host) (step : Step host.Host) : Type 0 where
@@ -111,23 +111,20 @@ module _ (tx : TxId) (name : Option ℕ) where
         by (inl same) = absurd (not_beginning at.t (left_of (is_beginning at.t.doing) (same_name at.t.name called) passes) same)
         by (inr others) = inl (as_before step.state.opened (subst (IsIn has.item) (sym is) others.left))
 
-  shell_goes : (s : ApiState) (at : BlockId) (body : Body) → is_request body ≡ false → HasOne tx name Operating s.opened
-      → HasOne tx name Operating (shell_row s at body).state.opened ⊎ (IsAnsweringHere name s (shell_row s at body) ⊎ IsEndingHere tx name s body (shell_row s at body))
-  unfolding shell_row GoesAnswersOrEnds
-  shell_goes s block.Api body plain has = change_goes s body has (api_table s body) (api_changes s body plain)
-  shell_goes s _ body plain has = inl has
-
-  host_goes : (g : host.Host) (to : Place) (body : Body) → is_request body ≡ false → HasOne tx name Operating (opened_in g)
-      → HasOne tx name Operating (opened_in (row g to body).state) ⊎ (IsAnswering name g (row g to body) ⊎ IsEnding tx name g body (row g to body))
-  unfolding row replies_of
-  host_goes (Shell s) to body plain has = by (shell_goes s to.block body plain has)
+  host_goes : (g : host.Host) (x : Signal) → has_api g ≡ true → is_request x.body ≡ false → HasOne tx name Operating (opened_in g)
+      → HasOne tx name Operating (opened_in (row g x).state) ⊎ (IsAnswering name g (row g x) ⊎ IsEnding tx name g x.body (row g x))
+  unfolding GoesAnswersOrEnds
+  host_goes g x has plain had =
+      by (api_host (GoesAnswersOrEnds (api_of g) x.body) g x has (λ at. change_goes (api_of g) x.body had (api_row (api_of g) x) (api_changes (api_of g) x.body plain)) (inl had))
     where
-      by : HasOne tx name Operating (shell_row s to.block body).state.opened ⊎ (IsAnsweringHere name s (shell_row s to.block body) ⊎ IsEndingHere tx name s body (shell_row s to.block body))
-          → HasOne tx name Operating (opened_in (in_shell (shell_row s to.block body)).state) ⊎ (IsAnswering name (Shell s) (in_shell (shell_row s to.block body)) ⊎ IsEnding tx name (Shell s) body (in_shell (shell_row s to.block body)))
+      by : HasOne tx name Operating (opened_in (row g x).state) ⊎ (IsAnsweringHere name (api_of g) (api_seen (row g x)) ⊎ IsEndingHere tx name (api_of g) x.body (api_seen (row g x)))
+          → HasOne tx name Operating (opened_in (row g x).state) ⊎ (IsAnswering name g (row g x) ⊎ IsEnding tx name g x.body (row g x))
       by (inl goes) = inl goes
-      by (inr (inl answering)) = inr (inl (record { answer = answering.answer; told = answering.told }))
-      by (inr (inr ending)) = inr (inr (record { outcome = ending.outcome; about = ending.about; told = ending.told; marked = ending.marked }))
-  host_goes (Node n) to body plain has = absurd (has.inside)
+      by (inr (inl answering)) = inr (inl (record {
+        answer = answering.answer;
+        told = replies_are (row g x).state ∙ answering.told ∙ ap (λ rs. rs ++ Answered name answering.answer ∷ []) (sym (replies_are g));
+      }))
+      by (inr (inr ending)) = inr (inr (ending_of tx name g x.body (row g x) ending))
 
   -- along steps that aren't requests
   pub operate_goes : (start : Start) (later log : List HostStep) → Each (λ (e : HostStep). is_request e.step.taken.body ≡ false) later → HasOne tx name Operating (opened_in (after start 0 log))
@@ -145,6 +142,6 @@ module _ (tx : TxId) (name : Option ℕ) where
 
       by : HasOne tx name Operating (opened_in (after start 0 (later ++ log))) ⊎ (HasAnswered name start later log ⊎ HasEnded tx name start later log)
           → HasOne tx name Operating (opened_in (after start 0 (e ∷ (later ++ log)))) ⊎ (HasAnswered name start (e ∷ later) log ⊎ HasEnded tx name start (e ∷ later) log)
-      by (inl goes) = next (host_goes (after start 0 (later ++ log)) e.step.taken plain.0 goes)
+      by (inl goes) = next (host_goes (after start 0 (later ++ log)) e.step.taken (shell_runs start (later ++ log)) plain.0 goes)
       by (inr (inl a)) = inr (inl (record { newer = e ∷ a.newer; step = a.step; older = a.older; is = ap (λ w. e ∷ w) a.is; answering = a.answering }))
       by (inr (inr ended)) = inr (inr (record { newer = e ∷ ended.newer; step = ended.step; older = ended.older; is = ap (λ w. e ∷ w) ended.is; ending = ended.ending }))

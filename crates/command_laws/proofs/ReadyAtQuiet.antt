@@ -20,9 +20,10 @@ use Rattle.command_laws.proofs.Entries.{IsNamed, named_found}
 use Rattle.command_laws.proofs.OperateAsks.{AreNamed}
 use Rattle.sig_core.proofs.Keys.{same_tx-self}
 use Rattle.command_laws.specs.Served.{named_in}
+use Rattle.world_core.specs.Hosts.{home}
 
 -- one that takes commands is open
-pub opens : (start : Start) (logs : ℕ → List HostStep) (tx : TxId) (doing : Doing) (o : Option TxId) → doing ≡ Ready → o ≡ Some tx → is_answered_by start logs doing o → IsOpenAt tx (after start tx.tc (logs tx.tc))
+pub opens : (start : Start) (logs : ℕ → List HostStep) (tx : TxId) (doing : Doing) (o : Option TxId) → doing ≡ Ready → o ≡ Some tx → is_answered_by start logs doing o → IsOpenAt tx (after start (home start tx) (logs (home start tx)))
 opens start logs tx doing o is some all = subst (λ p. is_answered_by start logs Ready p) some (subst (λ d. is_answered_by start logs d o) is all)
 
 module _ (start : Start) (logs : ℕ → List HostStep) (quiet : AreQuiet start logs) (name : ℕ) (t : OpenTransaction) (tx : TxId) (named : named_in (opened_after start logs) name ≡ Some t) (own : t.tx ≡ Some tx) where
@@ -42,5 +43,5 @@ module _ (start : Start) (logs : ℕ → List HostStep) (quiet : AreQuiet start 
           let same : x ≡ t = only_one (has_tx tx) (opened_after start logs) x t (omega (arith, h.few, once_started start tx logs quiet)) inside there has (ap (is_tx tx) own ∙ same_tx-self tx) in
           ap (λ (y : OpenTransaction). is_some y.name) same ∙ ap is_some n.called
 
-  pub ready_open : EachIsAnswered → t.doing ≡ Ready → IsOpenAt tx (after start tx.tc (logs tx.tc))
+  pub ready_open : EachIsAnswered → t.doing ≡ Ready → IsOpenAt tx (after start (home start tx) (logs (home start tx)))
   ready_open answered ready = opens start logs tx t.doing t.tx ready own (answered start logs t quiet there)

@@ -7,22 +7,21 @@ use Rattle.run_theory.specs.Links.{is_from, sent, taken}
 use Rattle.run_theory.specs.Lists.{Each, IsIn}
 use Rattle.run_theory.proofs.Pasts.{each_from, each_in}
 use Rattle.std.proofs.lemmas.Bool.{cases_lt}
-use Rattle.world_core.specs.Steps.{HostStep}
 use Rattle.sig_core.specs.declared.outs.Outgoing.{Outgoing}
 use Rattle.sig_core.specs.declared.place.Place.{Place}
 use Rattle.sig_core.specs.declared.signal.Body.{Body}
-use Rattle.sig_core.specs.declared.signal.Signal.{Signal}
 use Rattle.node_core.specs.Requests.{is_request}
-use Rattle.world_core.specs.Hosts.{hosts}
 use Rattle.world_core.specs.Machine.{machine, step_after}
 use Rattle.world_core.specs.Start.{Start}
 use Rattle.answer_laws.proofs.Begins.{given_past}
-use Rattle.answer_laws.proofs.LinkCounts.{sent_signals, signals, taken_signals}
 use Rattle.commit_laws.proofs.Tally.{tally_past}
 use Rattle.commit_laws.specs.Counts.{one_if, tally}
-use Rattle.answer_laws.proofs.Wishes.{sends_of, to_node}
+use Rattle.answer_laws.proofs.Wishes.{sends_of}
 use Rattle.answer_laws.specs.Answered.{AreQuiet}
 use Rattle.transit_laws.proofs.Weighing.{none_passes}
+use Rattle.answer_laws.proofs.LinkCounts.{sent_signals, signals, taken_signals, to_host}
+use Rattle.world_core.specs.Steps.{Addressed, HostStep}
+use Rattle.world_core.specs.Hosts.{host_for, hosts}
 
 module _ (start : Start) (test : Place → Body → Bool) where
   -- how many signals that pass the test the newer steps of host h sent, behind its log
@@ -33,15 +32,15 @@ module _ (start : Start) (test : Place → Body → Bool) where
   -- those of them that are for host j
   abbrev pub sent_since_to : ℕ → ℕ → List HostStep → List HostStep → ℕ
   sent_since_to h j [] log = 0
-  sent_since_to h j (e ∷ newer) log = sends_of (to_node j test) (step_after start h (newer ++ log) e).effects.sends + sent_since_to h j newer log
+  sent_since_to h j (e ∷ newer) log = sends_of (to_host start j test) (step_after start h (newer ++ log) e).effects.sends + sent_since_to h j newer log
 
   -- and how many they took from host i
   abbrev pub taken_since : ℕ → List HostStep → ℕ
   taken_since i newer = tally (λ (e : HostStep). is_from (machine start) i e && test e.step.taken.to e.step.taken.body) newer
 
-  pub fewer : (j : ℕ) (sends : List Outgoing) → sends_of (to_node j test) sends ≤ sends_of test sends
+  pub fewer : (j : ℕ) (sends : List Outgoing) → sends_of (to_host start j test) sends ≤ sends_of test sends
   fewer j [] = omega arith
-  fewer j (o ∷ sends) = omega (arith, fewer j sends, less (o.to.node == j) (test o.to o.body))
+  fewer j (o ∷ sends) = omega (arith, fewer j sends, less (host_for start o.to == j) (test o.to o.body))
     where
       less : (a b : Bool) → one_if (a && b) ≤ one_if b
       less true b = omega arith
@@ -86,7 +85,7 @@ module _ (start : Start) (was now : ℕ → List HostStep) (before : AreQuiet st
         by (inl low) =
             omega (
               arith,
-              tally_past (λ (x : Signal). test x.to x.body) (given_past start i j (now i) (taken (machine start) i (now j)) (since.right.linked i j)),
+              tally_past (λ (x : Addressed). test x.signal.to x.signal.body) (given_past start i j (now i) (taken (machine start) i (now j)) (since.right.linked i j)),
               ap (λ log. signals test (sent (machine start) i j log)) (cut i).is,
               ap (λ log. signals test (taken (machine start) i log)) (cut j).is,
               link_sent start test i j (newer_at i) (was i),
@@ -106,15 +105,23 @@ module _ (start : Start) (was now : ℕ → List HostStep) (before : AreQuiet st
         go false false p q = cc
         go true b p q = cc
 
+    -- a host that isn't there sends nothing
+    pub none_sent : ((i : ℕ) → i < hosts start → sent_since start test i (newer_at i) (was i) ≡ 0) → (i : ℕ) → sent_since start test i (newer_at i) (was i) ≡ 0
+    none_sent none i = by (cases_lt i (hosts start))
+      where
+        by : (i < hosts start) ⊎ (hosts start ≤ i) → sent_since start test i (newer_at i) (was i) ≡ 0
+        by (inl low) = none i low
+        by (inr high) = ap (λ newer. sent_since start test i newer (was i)) (front_nil (newer_at i) (was i) (sym (since.within i high) ∙ (cut i).is))
+
     -- what no host has sent since then none has taken
-    pub none_taken : ((i : ℕ) → sent_since start test i (newer_at i) (was i) ≡ 0) → (j : ℕ)
+    pub none_taken : ((i : ℕ) → i < hosts start → sent_since start test i (newer_at i) (was i) ≡ 0) → (j : ℕ)
         → Each (λ (e : HostStep). is_request e.step.taken.body ≡ false → test e.step.taken.to e.step.taken.body ≡ false) (newer_at j)
     none_taken none j = each_from _ (newer_at j) one
       where
         one : (e : HostStep) → IsIn e (newer_at j) → is_request e.step.taken.body ≡ false → test e.step.taken.to e.step.taken.body ≡ false
         one e inside plain =
             let i = e.step.taken.from.0 in
-            let zero : taken_since start test i (newer_at j) ≡ 0 = omega (arith, few_taken i j, none i) in
+            let zero : taken_since start test i (newer_at j) ≡ 0 = omega (arith, few_taken i j, none_sent none i) in
             let off = each_in (λ (f : HostStep). (is_from (machine start) i f && test f.step.taken.to f.step.taken.body) ≡ false) e (newer_at j) (none_passes _ (newer_at j) zero) inside in
             ap (λ b. b && test e.step.taken.to e.step.taken.body) (sym (from_link i e plain refl)) ∙ off
 

@@ -30,6 +30,7 @@ use Rattle.transit_laws.specs.Live.{of_live}
 use Rattle.command_laws.proofs.OwnSends.{is_own_kind, turn_own}
 use Rattle.sig_core.proofs.Keys.{same_tx-self}
 use Rattle.command_laws.proofs.Turns.{TakesTurn, TcShape, is_idle_kind, starts, still, tc_shape, turn_by, turns}
+use Rattle.command_laws.proofs.HostSends.{IsOfTc}
 
 -- what the coordinator tells the client of the transaction, once it has begun, and replicas of its abort
 abbrev pub told_of : TxId → Body → Bool
@@ -93,6 +94,9 @@ module _ (tx : TxId) where
   none_api to (Client (TcRollbackRep other cause)) e = cc
   none_api to (Chain (Abort other key)) e = cc
   none_api to _ e = refl
+
+  pub told_tc : IsOfTc (is_told tx)
+  told_tc = record { api = record { kinds = none_api; begins = λ name node. refl }; dih = none_dih; lqh = none_lqh }
 
   -- the transaction behind others
   behind_none : (xs ys : List (TxId × Transaction)) → tally (is_keyed tx) xs ≡ 0 → of_live tx (xs ++ ys) ≡ of_live tx ys

@@ -197,7 +197,7 @@ module _ (node : ℕ) (Own T D : TxId → Type 0) where
                 (ap (λ (f : Effects). put_kinds verified_by f.sends verified) effects ∙ api_none verified_by (λ before. refl) (λ tx before. refl) _ verified goes.says);
           };
           says = subst (λ (f : Effects). Each (λ (o : Outgoing). HostSays Own T D (kind_of x.body) f.marks o (kind_of o.body)) f.sends) (sym effects)
-              (api_says (kind_of x.body) _ _ goes.says);
+              (api_says (kind_of x.body) (api_table (api_of s) x.body).effects.marks (api_table (api_of s) x.body).effects.sends goes.says);
           decides = subst (λ (f : Effects). Each (Decides (kind_of x.body)) f.marks) (sym effects) (plain_decides (kind_of x.body) _ (api_marks (api_of s) x.body));
           reports = λ runs. subst (λ (f : Effects). Each (Reports (kind_of x.body)) f.marks) (sym effects) goes.reports;
         }
@@ -211,7 +211,7 @@ module _ (node : ℕ) (Own T D : TxId → Type 0) where
           knows = record {
             told = told_still (api_of step.state) is.api;
             numbered = subst (λ (f : Effects). IsNumbered node D (tc_of step.state) (put_kinds begun_by f.sends begun_yet) (put_kinds verified_by f.sends verified)) (sym effects)
-                (subst (λ t. IsNumbered node D t _ _) (sym is.state) goes.numbered);
+                (rw is.state goes.numbered);
           };
           says = subst (λ (f : Effects). Each (λ (o : Outgoing). HostSays Own T D (kind_of x.body) step.effects.marks o (kind_of o.body)) f.sends) (sym effects)
               (tc_says (kind_of x.body) step.effects.marks _ own goes.says);

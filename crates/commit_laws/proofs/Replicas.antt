@@ -1,5 +1,5 @@
 -- A replica is its keys.
-use Rattle.std.proofs.Common.{◌≡◌, ◌==◌, ◌+◌, ◌%◌, ℕ, zero, suc, Bool, true, false, cond, List, [], ◌∷◌, filter, refl, sym, ap, ◌∙◌, subst}
+use Rattle.std.proofs.Common.{◌≡◌, ◌==◌, ◌%◌, ℕ, zero, suc, Bool, true, false, cond, List, [], ◌∷◌, filter, refl, sym, ap, ◌∙◌, subst}
 use Rattle.std.proofs.lemmas.Bool.{false≢true}
 use Rattle.std.specs.Cmp.Lexicographic.{nat_list_cmp_total}
 use Rattle.std.specs.FinMap as map
@@ -11,7 +11,6 @@ use Rattle.sig_core.specs.declared.place.BlockId.{BlockId}
 use Rattle.sig_core.specs.declared.place.BlockId.TheVariants as block
 use Rattle.sig_core.specs.declared.place.Part.{Part}
 use Rattle.sig_core.specs.declared.place.Part.TheVariants as part
-use Rattle.sig_core.specs.declared.signal.Body.{Body}
 use Rattle.sig_core.specs.declared.signal.Body.TheVariants.{Host, Client, Chain}
 use Rattle.sig_core.specs.declared.signal.chain.ChainSignal.TheVariants.{LqhKeyReq, Commit, Complete, Abort}
 use Rattle.sig_core.specs.declared.signal.Signal.{Signal}
@@ -46,14 +45,13 @@ use Rattle.lqh_block.specs.Work.{work_key, work_mode}
 use Rattle.node_core.specs.Committed as committed
 use Rattle.node_core.specs.declared.host.Host as host
 use Rattle.node_core.specs.declared.host.Host.TheVariants.{Shell, Main, Tc, Ldm}
-use Rattle.node_core.specs.Blocks.{lqh_of}
 use Rattle.node_core.specs.Fresh.{fresh_part, fresh_shell, own_rows, with_rows}
 use Rattle.node_core.specs.Row.{ldm_row, row}
 use Rattle.node_core.proofs.HostCases.{keeps_rows}
 use Rattle.world_core.specs.Machine.{after}
 use Rattle.frag_map.specs.Layout.{Layout, first_layout, holds, nowhere}
 use Rattle.frag_map.specs.Replicas.{first_start}
-use Rattle.world_core.specs.Hosts.{member_at, part_by, rows_host, started}
+use Rattle.world_core.specs.Hosts.{member_at, part_by, started}
 use Rattle.world_core.proofs.HostNumbers.{rows_started}
 use Rattle.world_core.specs.Start.{Start, made}
 use Rattle.commit_laws.specs.Placed.{AreApart, IsPlaced, has_place}
@@ -216,14 +214,14 @@ started_row shape node s table (r ∷ rows) key held same =
 
     go : (b : Bool) → holds shape node r.0 ≡ b
         → (row_at (put_row s r.0 r.1).places key ≡ map.get (map.insert table r.0 r.1) key
-            → row_at (with_rows (put_row s r.0 r.1) (own_rows shape node rows)).places key ≡ map.get (rows_over (map.insert table r.0 r.1) rows) key)
+        → row_at (with_rows (put_row s r.0 r.1) (own_rows shape node rows)).places key ≡ map.get (rows_over (map.insert table r.0 r.1) rows) key)
         → (row_at s.places key ≡ map.get (map.insert table r.0 r.1) key
-            → row_at (with_rows s (own_rows shape node rows)).places key ≡ map.get (rows_over (map.insert table r.0 r.1) rows) key)
+        → row_at (with_rows s (own_rows shape node rows)).places key ≡ map.get (rows_over (map.insert table r.0 r.1) rows) key)
         → row_at (with_rows s (if b then r ∷ own_rows shape node rows else own_rows shape node rows)).places key ≡ map.get (rows_over (map.insert table r.0 r.1) rows) key
     go true is own without = own put
     go false is own without = without (same ∙ other is (same_key r.0 key) refl ∙ sym inserted)
 
-started_pending : (s : RowsState) (rows : List (List ℕ × List ℕ)) → (with_rows s rows).pending ≡ s.pending
+pub started_pending : (s : RowsState) (rows : List (List ℕ × List ℕ)) → (with_rows s rows).pending ≡ s.pending
 started_pending s [] = refl
 started_pending s (r ∷ rows) = started_pending (put_row s r.0 r.1) rows
 

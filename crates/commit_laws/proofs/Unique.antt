@@ -8,22 +8,17 @@ use Rattle.run_theory.specs.Lists.{Each, IsIn, IsPast}
 use Rattle.run_theory.specs.Runs.{AreLogs}
 use Rattle.run_theory.proofs.LinkFacts.{link_projects}
 use Rattle.run_theory.proofs.Runs.{taken-step}
-use Rattle.world_core.specs.Steps.{HostStep}
+use Rattle.world_core.specs.Steps.{Addressed, HostStep}
 use Rattle.sig_core.specs.declared.member.TxId.{TxId}
 use Rattle.sig_core.specs.declared.outs.Outgoing.{Outgoing}
-use Rattle.sig_core.specs.declared.signal.Signal.{Signal}
-use Rattle.sig_core.specs.declared.view.View.{View}
 use Rattle.sig_core.specs.Same.{same_tx}
-use Rattle.node_core.specs.declared.host.Host.{Host}
-use Rattle.node_core.specs.declared.host.Host.TheVariants.{Shell, Node}
 use Rattle.node_core.specs.Requests.{is_request}
-use Rattle.world_core.specs.Machine.{after, all_headed, counted, headed, machine, sent_count, step_after}
-use Rattle.frag_map.specs.Layout.{first_view}
+use Rattle.world_core.specs.Hosts.{Membership, first_membership, home, receiver}
+use Rattle.world_core.specs.Machine.{addressed, all_addressed, counted, machine, sent_count, step_after}
 use Rattle.world_core.specs.Start.{Start}
 use Rattle.commit_laws.specs.Kinds.{Kind, kind_of}
 use Rattle.commit_laws.specs.Kinds as kind
 use Rattle.commit_laws.proofs.Causal.{AreCausal, sent_kinds}
-use Rattle.commit_laws.proofs.HostGoes.{HostKnows}
 use Rattle.sig_core.proofs.Keys.{same_tx-self}
 use Rattle.commit_laws.proofs.TcNumbers.{AreApart, begun_by, put_kinds, verified_by}
 
@@ -94,18 +89,21 @@ verified_reads = record { adds = adds; none = refl }
     adds kind.other before = refl
 
 module _ (start : Start) (read : Kind → Option TxId) (add : Kind → List TxId → List TxId) (reads : Reads read add) where
-  abbrev pub read_of : Signal → Option TxId
-  read_of x = read (kind_of x.body)
+  abbrev pub read_of : Addressed → Option TxId
+  read_of x = read (kind_of x.signal.body)
 
   -- what a link was given of the kind is part of what its sender said of it
-  put_sub : (view : View) (h j stamp : ℕ) (count : ℕ → ℕ) (sends : List Outgoing) (before : List Signal) (all : List TxId) → Sub (filter_map read_of before) all
-      → Sub (filter_map read_of (put (machine start) j (all_headed view h stamp count sends) before)) (put_kinds add sends all)
-  put_sub view h j stamp count [] before all sub = sub
-  put_sub view h j stamp count (o ∷ more) before all sub =
-      put_sub view h j stamp (counted o.to.node count) more (if o.to.node == j then headed view h stamp (count o.to.node) o ∷ before else before) (add (kind_of o.body) all)
-      (subst (Sub (filter_map read_of (if o.to.node == j then headed view h stamp (count o.to.node) o ∷ before else before))) (sym (reads.adds (kind_of o.body) all)) (by (o.to.node == j) (read (kind_of o.body)) refl))
+  put_sub : (who : Membership) (h j stamp : ℕ) (count : ℕ → ℕ) (sends : List Outgoing) (before : List Addressed) (all : List TxId) → Sub (filter_map read_of before) all
+      → Sub (filter_map read_of (put (machine start) j (all_addressed who h stamp count sends) before)) (put_kinds add sends all)
+  put_sub who h j stamp count [] before all sub = sub
+  put_sub who h j stamp count (o ∷ more) before all sub =
+      put_sub who h j stamp (counted (receiver who o.to) count) more (if receiver who o.to == j then one ∷ before else before) (add (kind_of o.body) all)
+      (subst (Sub (filter_map read_of (if receiver who o.to == j then one ∷ before else before))) (sym (reads.adds (kind_of o.body) all)) (by (receiver who o.to == j) (read (kind_of o.body)) refl))
     where
-      by : (b : Bool) (r : Option TxId) → read (kind_of o.body) ≡ r → Sub (filter_map read_of (if b then headed view h stamp (count o.to.node) o ∷ before else before)) (cons_option r all)
+      one : Addressed
+      one = addressed who h stamp (count (receiver who o.to)) o
+
+      by : (b : Bool) (r : Option TxId) → read (kind_of o.body) ≡ r → Sub (filter_map read_of (if b then one ∷ before else before)) (cons_option r all)
       by true None is = subst (λ w. Sub (cons_option w (filter_map read_of before)) all) (sym is) sub
       by true (Some tx) is = subst (λ w. Sub (cons_option w (filter_map read_of before)) (tx ∷ all)) (sym is) (inr (record { more = filter_map read_of before; is = refl; rest = sub }))
       by false None is = sub
@@ -114,9 +112,9 @@ module _ (start : Start) (read : Kind → Option TxId) (add : Kind → List TxId
   sent_sub : (h j : ℕ) (log : List HostStep) → Sub (filter_map read_of (sent (machine start) h j log)) (sent_kinds start add h log)
   sent_sub h j [] = refl
   sent_sub h j (e ∷ log) =
-      put_sub (first_view start.shape.nodes) h j e.step.stamp (sent_count start h log) (step_after start h log e).effects.sends (sent (machine start) h j log) (sent_kinds start add h log) (sent_sub h j log)
+      put_sub (first_membership start) h j e.step.stamp (sent_count start h log) (step_after start h log e).effects.sends (sent (machine start) h j log) (sent_kinds start add h log) (sent_sub h j log)
 
-  no_closing : (j : ℕ) (log : List HostStep) (x : Signal) → IsClosingOf (machine start) j log x → read_of x ≡ None
+  no_closing : (j : ℕ) (log : List HostStep) (x : Addressed) → IsClosingOf (machine start) j log x → read_of x ≡ None
   no_closing j [] x c = absurd c
   no_closing j (e ∷ log) x c = absurd cc
 
@@ -148,8 +146,8 @@ module _ (start : Start) (read : Kind → Option TxId) (add : Kind → List TxId
       less_by None all = all
       less_by (Some t) all = all.1
 
-      less : (b : Bool) → Each P (filter_map read_of (if b then f.step.taken ∷ taken (machine start) i log else taken (machine start) i log)) → Each P (filter_map read_of (taken (machine start) i log))
-      less true all = less_by (read_of f.step.taken) all
+      less : (b : Bool) → Each P (filter_map read_of (if b then (machine start).signal f ∷ taken (machine start) i log else taken (machine start) i log)) → Each P (filter_map read_of (taken (machine start) i log))
+      less true all = less_by (read_of ((machine start).signal f)) all
       less false all = all
 
   pub one_taken : (i : ℕ) (tx : TxId) (a b : HostStep) (log : List HostStep) → AreApart (filter_map read_of (taken (machine start) i log)) → IsIn a log → IsIn b log → Takes i tx a → Takes i tx b → a ≡ b
@@ -175,23 +173,20 @@ module _ (start : Start) (read : Kind → Option TxId) (add : Kind → List TxId
       less_by None all = all
       less_by (Some t) all = all.1
 
-      less : (c : Bool) → AreApart (filter_map read_of (if c then e.step.taken ∷ taken (machine start) i log else taken (machine start) i log)) → AreApart (filter_map read_of (taken (machine start) i log))
-      less true all = less_by (read_of e.step.taken) all
+      less : (c : Bool) → AreApart (filter_map read_of (if c then (machine start).signal e ∷ taken (machine start) i log else taken (machine start) i log)) → AreApart (filter_map read_of (taken (machine start) i log))
+      less true all = less_by (read_of ((machine start).signal e)) all
       less false all = all
 
 -- each host said of each transaction once that it has begun, and asked for its epoch at most once
-knows_apart : (h : ℕ) (T D : TxId → Type 0) (s : Host) (bs vs : List TxId) → HostKnows h T D s bs vs → AreApart bs × AreApart vs
-knows_apart h T D (Shell s) bs vs knows = (subst AreApart (sym knows.1) tt, subst AreApart (sym knows.2) tt)
-knows_apart h T D (Node n) bs vs knows = (knows.begun_apart, knows.verified_apart)
-
 module _ (start : Start) (logs : ℕ → List HostStep) (right : AreLogs (machine start) logs) (causal : AreCausal start logs) where
-  pub one_begun : (tx : TxId) (a b : HostStep) → IsIn a (logs 0) → IsIn b (logs 0) → Takes start begun_of begun_by begun_reads tx.tc tx a → Takes start begun_of begun_by begun_reads tx.tc tx b → a ≡ b
+  pub one_begun : (tx : TxId) (a b : HostStep) → IsIn a (logs 0) → IsIn b (logs 0) → Takes start begun_of begun_by begun_reads (home start tx) tx a
+      → Takes start begun_of begun_by begun_reads (home start tx) tx b → a ≡ b
   one_begun tx a b left other at_a at_b =
-      one_taken start begun_of begun_by begun_reads tx.tc tx a b (logs 0)
-      (taken_apart start begun_of begun_by begun_reads logs right tx.tc 0 (knows_apart tx.tc _ _ (after start tx.tc (logs tx.tc)) _ _ (causal.knows tx.tc)).0) left other at_a at_b
+      one_taken start begun_of begun_by begun_reads (home start tx) tx a b (logs 0)
+      (taken_apart start begun_of begun_by begun_reads logs right (home start tx) 0 (causal.knows (home start tx)).numbered.begun_apart) left other at_a at_b
 
-  pub one_verified : (tx : TxId) (a b : HostStep) → IsIn a (logs tx.tc) → IsIn b (logs tx.tc) → Takes start verified_of verified_by verified_reads tx.tc tx a
-      → Takes start verified_of verified_by verified_reads tx.tc tx b → a ≡ b
+  pub one_verified : (tx : TxId) (a b : HostStep) → IsIn a (logs (home start tx)) → IsIn b (logs (home start tx)) → Takes start verified_of verified_by verified_reads (home start tx) tx a
+      → Takes start verified_of verified_by verified_reads (home start tx) tx b → a ≡ b
   one_verified tx a b left other at_a at_b =
-      one_taken start verified_of verified_by verified_reads tx.tc tx a b (logs tx.tc)
-      (taken_apart start verified_of verified_by verified_reads logs right tx.tc tx.tc (knows_apart tx.tc _ _ (after start tx.tc (logs tx.tc)) _ _ (causal.knows tx.tc)).1) left other at_a at_b
+      one_taken start verified_of verified_by verified_reads (home start tx) tx a b (logs (home start tx))
+      (taken_apart start verified_of verified_by verified_reads logs right (home start tx) (home start tx) (causal.knows (home start tx)).numbered.verified_apart) left other at_a at_b

@@ -2,12 +2,11 @@
 use Rattle.world_core.specs.At.{row_in}
 use Rattle.frag_map.specs.Shape.{IsShape}
 use Rattle.frag_map.specs.Groups.{is_viable}
-use Rattle.std.specs.Prelude.{◌≡◌, ◌<◌, ℕ, true, List}
+use Rattle.std.specs.Prelude.{◌≡◌, ℕ, true, List}
 use Rattle.std.specs.FinMap as map
 use Rattle.run_theory.specs.Cuts.{IsCut, IsClosed}
 use Rattle.run_theory.specs.Lists.{IsIn}
 use Rattle.run_theory.specs.Runs.{AreLogs, IsWithin}
-use Rattle.node_core.specs.Committed.{row_at}
 use Rattle.serial_model.specs.Legal.{IsLegal, fold, rows_of}
 use Rattle.sig_core.specs.declared.entry.Entry.{Entry}
 use Rattle.world_core.specs.Steps.{HostStep}
@@ -18,7 +17,7 @@ use Rattle.sig_core.specs.declared.signal.chain.ChainSignal.TheVariants.{Commit}
 use Rattle.sig_core.specs.Table.{Rows}
 use Rattle.world_core.specs.History.{history}
 use Rattle.world_core.specs.Hosts.{hosts}
-use Rattle.world_core.specs.Machine.{after, machine}
+use Rattle.world_core.specs.Machine.{machine}
 use Rattle.world_core.specs.Rest.{IsAtRest, IsLiveReplica}
 use Rattle.world_core.specs.SerialLaw.{AreEpochsOrdered, IsSerial}
 use Rattle.frag_map.specs.Layout.{first_view}

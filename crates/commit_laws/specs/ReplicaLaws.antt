@@ -6,14 +6,12 @@ use Rattle.world_core.specs.Hosts.{rows_host, started}
 use Rattle.frag_map.specs.Layout.{Layout, holds}
 use Rattle.node_core.specs.declared.host.Host.TheVariants.{Ldm}
 use Rattle.node_core.specs.Blocks.{lqh_of}
-use Rattle.std.specs.Prelude.{◌≡◌, ℕ, suc, List, [], ◌∷◌, Option, None, true, ◌≤◌}
+use Rattle.std.specs.Prelude.{◌≡◌, ℕ, List, [], ◌∷◌, Option, true, ◌≤◌}
 use Rattle.std.specs.FinMap as map
 use Rattle.world_core.specs.Steps.{HostStep}
 use Rattle.sig_core.specs.declared.place.BlockId.{BlockId}
 use Rattle.sig_core.specs.declared.place.BlockId.TheVariants.{Lqh}
-use Rattle.sig_core.specs.declared.place.Place.{Place}
 use Rattle.sig_core.specs.declared.signal.Body.{Body}
-use Rattle.sig_core.specs.declared.view.View.{View}
 use Rattle.serial_model.specs.Legal.{rows_of}
 use Rattle.row_locks.specs.OrderlyTables.{AreOrderly}
 use Rattle.row_locks.specs.Rows.{unlocked}
@@ -56,7 +54,7 @@ at_rest row = record { cell = record { row = row; pending = [] }; lock = unlocke
 abbrev pub key_in : List ℕ → Host → Replica
 key_in key host = at_key key (lqh_of host)
 
--- at first each key has its row of the start, and nothing is at work on it
+-- at first each key of a node's group has its row of the start, and nothing is at work on it
 abbrev pub KeysBeginAtRest : Type 0
 KeysBeginAtRest =
     (member : Member) (layout : Layout) (epoch : ℕ) (rows : List (List ℕ × List ℕ)) (key : List ℕ) → holds layout.shape member.node key ≡ true
@@ -77,7 +75,7 @@ LogsFollowEvents =
     (start : Start) (h : ℕ) (log : List HostStep) (e : HostStep) (key : List ℕ)
     → key_in key (after start h (e ∷ log)) ≡ key_after (event_in key (after start h log) e.step.taken) (key_in key (after start h log))
 
--- the key is at rest at first, with its row of the start
+-- at a node of its group the key is at rest at first, with its row of the start
 abbrev pub NodesBeginAtRest : Type 0
 NodesBeginAtRest =
     (start : Start) (node : ℕ) (key : List ℕ) → 1 ≤ node → node ≤ start.shape.nodes → holds start.shape node key ≡ true

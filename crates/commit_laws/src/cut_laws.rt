@@ -6,8 +6,8 @@ pub fn epochs_never_fall()
     ensures { EpochsNeverFall }
 {}
 
-/// In a closed cut nobody has installed another view than the first one. That is viable where there
-/// is a node.
+/// In a closed cut nobody has installed another view than the first one. That is viable, whatever
+/// the shape of the cluster: it has a full member of each group.
 pub fn greatest_view_is_viable()
     ensures first { GreatestViewIsFirst }
     ensures viable { GreatestViewIsViable }
@@ -25,8 +25,8 @@ pub fn commits_are_of_decided()
     ensures { CommitsAreOfDecided }
 {}
 
-/// A closed cut whose history is right for each key alone, and whose live replicas have its row of
-/// each key at rest, is serial, where there is a node.
+/// A closed cut whose history is right for each key alone, and whose live replicas of each key at
+/// rest have its row, is serial, whatever the shape of the cluster.
 pub fn right_keys_make_cuts_serial()
     ensures { KeysMakeSerial }
 {}

@@ -1,4 +1,4 @@
--- A decision, at one key of all nodes: it is right, and the key is led to what it makes of the row.
+-- A decision, at one key of all its replicas: it is right, and the key is led to what it makes of the row.
 use Rattle.std.proofs.Common.{◌≡◌, ◌⊎◌, ℕ, Bool, true, false, ◌&&◌, ◌||◌, List, [], ◌∷◌, ◌++◌, refl, sym, ap, ◌∙◌, subst, inl, inr}
 use Rattle.std.proofs.lemmas.Bool.{and_left, and_right}
 use Rattle.std.specs.FinMap as map
@@ -26,10 +26,9 @@ use Rattle.commit_laws.proofs.BackupMoves.{decisions_move, kept_row-same, unkept
 use Rattle.sig_core.proofs.Keys.{same_tx-self}
 use Rattle.commit_laws.proofs.PrimaryValue.{decisions_right, only_of, prepared_holds}
 use Rattle.commit_laws.proofs.RecordLemmas.{kept_row-one}
-use Rattle.transit_laws.specs.Circle.{Agree, IsSettledFor, at_host, at_primary}
+use Rattle.transit_laws.specs.Circle.{Agree, IsReplica, IsSettledFor, at_host, at_primary}
 use Rattle.serial_laws.proofs.Folds.{end_last, none_done, right_last}
 use Rattle.serial_laws.proofs.KeySteps.{IsBackupWith, IsGoodWith}
-use Rattle.serial_laws.proofs.Members.{IsNodeOf, node_replica}
 
 -- what a decision makes of the order of a backup
 order_with : (decided now : TxId → Bool) (final : TxId → Bool) (value : Option (List ℕ)) (r : Replica) → IsInOrderAt decided r → IsDecidedTo now final (backup_of r) value → IsBackupWith now final value r
@@ -110,9 +109,9 @@ module _ (start : Start) (decided final : TxId → Bool) (history : List Entry) 
     agrees (Some a) (Some b) same stay image r is =
         inl (record { is_record = b; there = is; waits = same.1.1; image_is = sym same.0 ∙ image a refl same.1.0 })
 
-    told : (g : ℕ) → IsNodeOf start g → HasImage tx after (at_host start logs key g).cell.pending ⊎ ((found tx (at_host start logs key g).cell.pending ≡ None) × (after ≡ value))
+    told : (g : ℕ) → IsReplica start key g → HasImage tx after (at_host start logs key g).cell.pending ⊎ ((found tx (at_host start logs key g).cell.pending ≡ None) × (after ≡ value))
     told g node =
-        agrees (found tx p.replica.cell.pending) (found tx (at_host start logs key g).cell.pending) (settled.agreed g (node_replica start key g node)) stays
+        agrees (found tx p.replica.cell.pending) (found tx (at_host start logs key g).cell.pending) (settled.agreed g node) stays
         image_is (at_host start logs key g) refl
 
     -- the history with its entry behind is right, and the key is led to the new value

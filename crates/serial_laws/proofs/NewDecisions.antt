@@ -17,7 +17,7 @@ use Rattle.sig_core.specs.declared.member.TxId.{TxId}
 use Rattle.sig_core.specs.Same.{same_tx}
 use Rattle.sig_core.proofs.TxLemmas.{same_tx-is, same_tx-swap}
 use Rattle.world_core.specs.Entries.{entries}
-use Rattle.world_core.specs.Hosts.{hosts}
+use Rattle.world_core.specs.Hosts.{home, hosts}
 use Rattle.world_core.specs.Machine.{machine}
 use Rattle.world_core.specs.Marks.{has_mark}
 use Rattle.world_core.specs.Start.{Start}
@@ -39,7 +39,7 @@ use Rattle.serial_laws.proofs.Turns.{ComesAfter, IsByTurn}
 pub record HasMarked (test : Mark → Bool) (log : List HostStep) : Type 0 where
   pub step : HostStep
   pub inside : IsIn step log
-  pub marked : list_any test step.marks ≡ true
+  pub marked : list_any test step.step.marks ≡ true
 
 pub marked_step : (test : Mark → Bool) (log : List HostStep) → has_mark test log ≡ true → HasMarked test log
 marked_step test [] is = absurd cc
@@ -74,37 +74,37 @@ module _ (start : Start) (es : List HostStep) (e : HostStep) (come : Comes start
   here : IsIn e (now h)
   here = subst (IsIn e) (sym own) (inl refl)
 
-  pub decides_at : (tx : TxId) → list_any (is_decision tx) e.step.marks ≡ true → DecidesAt now e tx
-  decides_at tx marked = each_in (DecidesRightly now) e (now h) ((run_is_causal start (e ∷ es) come.now).decisions h) here tx marked
+  pub decides_at : (tx : TxId) → list_any (is_decision tx) e.step.marks ≡ true → DecidesAt start now e tx
+  decides_at tx marked = each_in (DecidesRightly start now) e (now h) ((run_is_causal start (e ∷ es) come.now).decisions h) here tx marked
 
   -- what it decides wasn't decided before
-  pub new_decided : (tx : TxId) → list_any (is_decision tx) e.step.marks ≡ true → is_decided before tx ≡ false
-  new_decided tx marked = by (is_decided before tx) refl
+  pub new_decided : (tx : TxId) → list_any (is_decision tx) e.step.marks ≡ true → is_decided start before tx ≡ false
+  new_decided tx marked = by (is_decided start before tx) refl
     where
-      by : (b : Bool) → is_decided before tx ≡ b → is_decided before tx ≡ false
+      by : (b : Bool) → is_decided start before tx ≡ b → is_decided start before tx ≡ false
       by false is = is
       by true is =
-          let old = marked_step (is_decision tx) (before tx.tc) is in
+          let old = marked_step (is_decision tx) (before (home start tx)) is in
           let same : old.step ≡ e =
-          one_decided start now (run_logs start (e ∷ es) come.now) (run_is_causal start (e ∷ es) come.now) tx tx.tc h old.step e
-          (in_past old.step (log_of-past (machine start) e es tx.tc) old.inside) here old.marked marked in
-          let after : is_after (machine start) e old.step ≡ true = each_in (λ f. is_after (machine start) e f ≡ true) old.step (before tx.tc) (each_log (machine start) (λ f. is_after (machine start) e f ≡ true) es tx.tc turn) old.inside in
+          one_decided start now (run_logs start (e ∷ es) come.now) (run_is_causal start (e ∷ es) come.now) tx (home start tx) h old.step e
+          (in_past old.step (log_of-past (machine start) e es (home start tx)) old.inside) here old.marked marked in
+          let after : is_after (machine start) e old.step ≡ true = each_in (λ f. is_after (machine start) e f ≡ true) old.step (before (home start tx)) (each_log (machine start) (λ f. is_after (machine start) e f ≡ true) es (home start tx) turn) old.inside in
           absurd (let both : false ≡ true = sym (not_after_self e.step.stamp h) ∙ subst (λ f. is_after (machine start) e f ≡ true) same after in cc)
 
   pub decided_now : (tx : TxId) → list_any (is_decision tx) e.step.marks ≡ true → is_decided start now tx ≡ true
   decided_now tx marked =
-      let home : h ≡ tx.tc = (decides_at tx marked).to in
-      subst (λ g. has_mark (is_decision tx) (now g) ≡ true) home (ap (has_mark (is_decision tx)) own ∙ or_left (list_any (is_decision tx) e.step.marks) (has_mark (is_decision tx) (before h)) marked)
+      let at_home : h ≡ home start tx = (decides_at tx marked).to in
+      subst (λ g. has_mark (is_decision tx) (now g) ≡ true) at_home (ap (has_mark (is_decision tx)) own ∙ or_left (list_any (is_decision tx) e.step.marks) (has_mark (is_decision tx) (before h)) marked)
 
   -- and nothing else is decided newly
-  pub decided_other : (v : TxId) → list_any (is_decision v) e.step.marks ≡ false → is_decided start now v ≡ is_decided before v
-  decided_other v none = by (cases_eq h v.tc)
+  pub decided_other : (v : TxId) → list_any (is_decision v) e.step.marks ≡ false → is_decided start now v ≡ is_decided start before v
+  decided_other v none = by (cases_eq h (home start v))
     where
-      by : (h ≡ v.tc) ⊎ (h ≢ v.tc) → has_mark (is_decision v) (now v.tc) ≡ has_mark (is_decision v) (before v.tc)
+      by : (h ≡ home start v) ⊎ (h ≢ home start v) → has_mark (is_decision v) (now (home start v)) ≡ has_mark (is_decision v) (before (home start v))
       by (inl at) =
           subst (λ g. has_mark (is_decision v) (now g) ≡ has_mark (is_decision v) (before g)) at
           (ap (has_mark (is_decision v)) own ∙ ap (λ b. b || has_mark (is_decision v) (before h)) none)
-      by (inr off) = ap (has_mark (is_decision v)) (other_log start es e come turn v.tc off)
+      by (inr off) = ap (has_mark (is_decision v)) (other_log start es e come turn (home start v) off)
 
 -- no transaction has two entries
 abbrev pub AreOnceEach : List Entry → Type 0
@@ -143,14 +143,14 @@ entries_next start es e come turn are (plain all) =
       once = subst AreOnceEach (sym same) are.once;
       decided = subst (Each (λ (b : Entry). is_decided start (logs_of start (e ∷ es)) b.tx ≡ true)) (sym same)
           (each_map (λ (b : Entry). is_decided start (logs_of start es) b.tx ≡ true) (λ (b : Entry). is_decided start (logs_of start (e ∷ es)) b.tx ≡ true) (entries (hosts start) (logs_of start es))
-          (λ b is. mark_past (is_decision b.tx) (logs_of start es b.tx.tc) (logs_of start (e ∷ es) b.tx.tc) (log_of-past (machine start) e es b.tx.tc) is) are.decided);
+          (λ b is. mark_past (is_decision b.tx) (logs_of start es (home start b.tx)) (logs_of start (e ∷ es) (home start b.tx)) (log_of-past (machine start) e es (home start b.tx)) is) are.decided);
     }
 entries_next start es e come turn are (decides tx is) =
     let marked = decision_is tx start.epoch e.step.marks is in
     let more = entries_decided start es e come turn tx is in
     let new = new_decided start es e come turn tx marked in
     let stays : (b : Entry) → is_decided start (logs_of start es) b.tx ≡ true → is_decided start (logs_of start (e ∷ es)) b.tx ≡ true =
-    λ b old. mark_past (is_decision b.tx) (logs_of start es b.tx.tc) (logs_of start (e ∷ es) b.tx.tc) (log_of-past (machine start) e es b.tx.tc) old in
+    λ b old. mark_past (is_decision b.tx) (logs_of start es (home start b.tx)) (logs_of start (e ∷ es) (home start b.tx)) (log_of-past (machine start) e es (home start b.tx)) old in
     record {
       once = subst AreOnceEach (sym more)
           (once_last (entries (hosts start) (logs_of start es)) (new_entry start es e come turn tx) are.once

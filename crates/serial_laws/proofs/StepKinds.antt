@@ -13,13 +13,13 @@ use Rattle.sig_core.specs.declared.op.Answer.{Answer}
 use Rattle.sig_core.specs.declared.op.Op.{Op}
 use Rattle.sig_core.specs.declared.place.BlockId.{BlockId}
 use Rattle.sig_core.specs.declared.place.BlockId.TheVariants as block
-use Rattle.sig_core.specs.declared.place.Place.{Place}
+use Rattle.sig_core.specs.declared.signal.Signal.{Signal}
 use Rattle.sig_core.specs.declared.signal.Body.TheVariants.{Epoch}
 use Rattle.sig_core.specs.declared.signal.epoch.EpochSignal.TheVariants.{DiVerifyReq}
 use Rattle.sig_core.specs.Same.{same_tx}
 use Rattle.lqh_block.specs.State.{LqhState}
 use Rattle.node_core.specs.declared.host.Host.{Host}
-use Rattle.node_core.specs.declared.host.Host.TheVariants.{Shell, Node}
+use Rattle.node_core.specs.declared.host.Host.TheVariants.{Ldm}
 use Rattle.world_core.specs.Entries.{else_of, entries, ops_of, verified_by}
 use Rattle.world_core.specs.Hosts.{hosts}
 use Rattle.world_core.specs.Machine.{after, machine}
@@ -48,9 +48,9 @@ verify_rests : (key : List ℕ) (s : LqhState) (at : BlockId) (tx : TxId) (ops :
 verify_rests key s block.Lqh tx ops = refl
 verify_rests key s _ tx ops = refl
 
-verify_event : (key : List ℕ) (s : Host) (to : Place) (tx : TxId) (ops : List (Op × Answer)) → event_in key s to (Epoch (DiVerifyReq tx ops)) ≡ rests
-verify_event key (Shell s) to tx ops = refl
-verify_event key (Node n) to tx ops = verify_rests key n.lqh to.block tx ops
+verify_event : (key : List ℕ) (s : Host) (x : Signal) (tx : TxId) (ops : List (Op × Answer)) → x.body ≡ Epoch (DiVerifyReq tx ops) → event_in key s x ≡ rests
+verify_event key (Ldm s) x tx ops is = ap (event_for key s x.to.block) is ∙ verify_rests key s x.to.block tx ops
+verify_event key _ x tx ops is = refl
 
 module _ (start : Start) (end : List HostStep) (run : IsRun start end) (turn : IsByTurn (machine start) end) (owed : AreOwed) (es : List HostStep) (e : HostStep) (past : IsPast (e ∷ es) end) (come : Comes start es e)
     (behind : ComesAfter (machine start) e es) where
@@ -113,9 +113,7 @@ module _ (start : Start) (end : List HostStep) (run : IsRun start end) (turn : I
           ops_are = ap (λ body. else_of (verified_by tx body) (ops_of tx (logs_of start es e.host))) found.request
               ∙ ap (λ b. else_of (if b then Some found.ops else None) (ops_of tx (logs_of start es e.host))) (same_tx-self tx);
           settled = found.settled;
-          rests = λ key.
-              ap (event_in key (after start e.host (logs_of start es e.host)) e.step.taken.to) found.request
-              ∙ verify_event key (after start e.host (logs_of start es e.host)) e.step.taken.to tx found.ops;
+          rests = λ key. verify_event key (after start e.host (logs_of start es e.host)) e.step.taken tx found.ops found.request;
           new = and_left _ (not (is_given start end tx)) (new_decided start es e come behind tx marked);
           decided = newly_decided start end run turn owed es e past come behind tx is alive;
           inside = there;

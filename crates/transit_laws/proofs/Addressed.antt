@@ -7,9 +7,8 @@ use Rattle.sig_core.specs.declared.outs.Outgoing.{Outgoing}
 use Rattle.sig_core.specs.declared.place.BlockId.{BlockId}
 use Rattle.sig_core.specs.declared.place.BlockId.TheVariants.{Tc, Lqh}
 use Rattle.sig_core.specs.declared.place.Place.{Place}
-use Rattle.sig_core.specs.Place.{coordinator, rows_of}
 use Rattle.world_core.proofs.HostNumbers.{addressed_rightly, beyond_host, host_below, host_some, same_node}
-use Rattle.world_core.specs.Hosts.{Membership, first_membership, host_for, receiver, rows_host, tc_host}
+use Rattle.world_core.specs.Hosts.{Membership, first_membership, host_for, hosts, receiver, rows_host, tc_host}
 use Rattle.world_core.specs.Machine.{all_addressed, counted, machine, sent_count, signals_of, step_after}
 use Rattle.world_core.specs.Start.{Start}
 use Rattle.world_core.specs.Steps.{Addressed, HostStep}
@@ -45,6 +44,14 @@ module _ (start : Start) where
   comes_addressed es e comes =
       let all = addressed_rightly start (logs_of start (e ∷ es)) (logs_of_run (machine start) (e ∷ es) comes.now.run) e.host in
       sym (subst (Each (λ (d : HostStep). host_for start d.step.taken.to ≡ e.host)) (log_of-own (machine start) e es e.host refl) all).0
+
+  -- it is one of the hosts that there are
+  pub comes_below : (es : List HostStep) (e : HostStep) → Comes start es e → e.host < hosts start
+  comes_below es e comes = by (cases_lt e.host (hosts start))
+    where
+      by : (e.host < hosts start) ⊎ (hosts start ≤ e.host) → e.host < hosts start
+      by (inl low) = low
+      by (inr high) = absurd (let none : e ∷ logs_of start es e.host ≡ [] = sym (log_of-own (machine start) e es e.host refl) ∙ comes.now.within e.host high in cc)
 
   zero_host : (block : BlockId) → host_for start (record { node = 0; block = block }) ≡ 0
   unfolding receiver

@@ -1,6 +1,6 @@
 -- A transaction that is carried out stays so in each step of a run.
-use Rattle.std.proofs.Common.{◌≡◌, ◌≢◌, ◌⊎◌, ◌≤◌, ◌<◌, ◌+◌, ◌-◌, ℕ, zero, suc, Bool, true, false, length, List, [], ◌∷◌, refl, sym, ap, ◌∙◌, subst, arith, inl, inr}
-use Rattle.std.specs.Prelude.{◌==◌, ◌&&◌, nat_le, Option, None, Some}
+use Rattle.std.proofs.Common.{◌≡◌, ◌≢◌, ◌⊎◌, ◌≤◌, ◌<◌, ◌+◌, ◌-◌, ℕ, Bool, true, false, length, List, [], ◌∷◌, refl, sym, ap, ◌∙◌, subst, arith, inl, inr}
+use Rattle.std.specs.Prelude.{◌==◌, ◌&&◌, Option, None, Some}
 use Rattle.std.proofs.lemmas.Bool.{cases_eq, cases_lt, eqb-true}
 use Rattle.std.proofs.lemmas.Bool.Decides.{nat_tests}
 use Rattle.std.proofs.lemmas.List.{append-nil}
@@ -11,36 +11,33 @@ use Rattle.world_core.specs.Steps.{Addressed, HostStep}
 use Rattle.sig_core.specs.declared.member.Member.{Member}
 use Rattle.sig_core.specs.declared.member.TxId.{TxId}
 use Rattle.sig_core.specs.declared.outs.Outgoing.{Outgoing}
+use Rattle.sig_core.specs.declared.place.BlockId.{BlockId}
 use Rattle.sig_core.specs.declared.place.BlockId.TheVariants as block
 use Rattle.sig_core.specs.declared.place.Place.{Place}
 use Rattle.sig_core.specs.declared.signal.Body.{Body}
-use Rattle.sig_core.specs.declared.signal.Body.TheVariants.{Host, Chain}
+use Rattle.sig_core.specs.declared.signal.Body.TheVariants.{Chain}
 use Rattle.sig_core.specs.declared.signal.chain.ChainSignal.TheVariants.{Commit}
-use Rattle.sig_core.specs.declared.signal.host.HostSignal.TheVariants.{Continue}
-use Rattle.sig_core.specs.declared.signal.host.Work.TheVariants as work
 use Rattle.sig_core.specs.Chain.{node_at, primary_of}
 use Rattle.sig_core.specs.Same.{same_tx}
-use Rattle.api_block.specs.State.{ApiState}
+use Rattle.sig_core.specs.Step.{Effects}
 use Rattle.lqh_block.specs.Lqh.{lqh_table}
 use Rattle.lqh_block.specs.State.{LqhState}
 use Rattle.tc_block.specs.declared.transaction.Transaction.{Transaction}
 use Rattle.tc_block.specs.Operate.{fresh}
 use Rattle.tc_block.specs.State.{TcState}
 use Rattle.tc_block.specs.Tc.{begun, next_tx}
-use Rattle.node_core.specs.declared.host.Host as host
-use Rattle.node_core.specs.declared.host.Host.TheVariants.{Shell, Node}
-use Rattle.node_core.specs.declared.node.Node as node
+use Rattle.node_core.proofs.HostCases.{IsRowsStep}
+use Rattle.node_core.specs.Blocks.{has_lqh, lqh_of, tc_of}
+use Rattle.node_core.specs.declared.host.Host.{Host}
 use Rattle.node_core.specs.Requests.{is_request}
 use Rattle.node_core.specs.Row.{row}
+use Rattle.world_core.proofs.HostNumbers.{rows_run}
+use Rattle.world_core.specs.Hosts.{home, rows_host, tc_host}
 use Rattle.world_core.specs.Machine.{after, signals_of, step_after}
 use Rattle.world_core.specs.Start.{Start}
 use Rattle.commit_laws.specs.Primary.{HasPrepared}
-use Rattle.answer_laws.proofs.Hosts.{node_after, shell_after}
-use Rattle.answer_laws.proofs.Lives.{keeps}
 use Rattle.answer_laws.proofs.LqhOps.{is_lqh}
-use Rattle.answer_laws.proofs.Hosts.{same_node}
-use Rattle.commit_laws.specs.Counts.{one_if, tally}
-use Rattle.answer_laws.proofs.TcLives.{IsOwn, insert_new, is_keyed}
+use Rattle.answer_laws.proofs.TcLives.{IsOwn, insert_new}
 use Rattle.answer_laws.proofs.TcMoves.{same_tx-is}
 use Rattle.answer_laws.proofs.Wishes.{is_tc}
 use Rattle.sig_core.proofs.Keys.{same_key-self}
@@ -49,42 +46,25 @@ use Rattle.transit_laws.specs.Circle.{at_host}
 use Rattle.transit_laws.specs.Completions.{IsCommittedAtAll}
 use Rattle.transit_laws.specs.GivenUp.{is_carried_out, is_given_up}
 use Rattle.transit_laws.specs.Live.{live_at, of_host, of_live}
-use Rattle.transit_laws.specs.Routes.{IsCommitRouted, IsRouted, replicas}
+use Rattle.transit_laws.specs.Routes.{IsCommitRouted, IsForBlock, IsNodeFor, IsOnWay, IsRouted, replicas}
 use Rattle.transit_laws.specs.Tokens.{tokens}
 use Rattle.transit_laws.specs.Transit.{Comes, Takes, joined, logs_of}
+use Rattle.transit_laws.proofs.Addressed.{rows_addressed, tc_addressed}
 use Rattle.transit_laws.proofs.CarriedOut.{IsAhead, IsCarried, IsDone, IsLiveAhead, IsSpread, IsUpTo, TellsOf, committed_stays, tells_stay, tells_too}
-use Rattle.transit_laws.proofs.CarriedTurn.{ahead_stays, parts_tell, silent_parts, silent_stays, turn_leaves}
+use Rattle.transit_laws.proofs.CarriedTurn.{TurnLeaves, ahead_stays, parts_tell, silent_parts, silent_stays, turn_leaves}
 use Rattle.transit_laws.proofs.GivenUp.{aborts_are_of_given_up, none_is_both}
-use Rattle.transit_laws.proofs.HostSteps.{HostStep, aside_cover, aside, away_cover, begins, host_step, next_number, number_rises, rows, shell, turns}
+use Rattle.transit_laws.proofs.HomeSteps.{IsHome, all_home, away, here_now, here_was, own_home}
+use Rattle.transit_laws.proofs.HostSteps.{IsMissed, TxStep, aside, aside_cover, away_cover, begins, next_number, number_rises, rows, rows_cover, turns, tx_step}
 use Rattle.transit_laws.proofs.LiveOf.{of_each}
 use Rattle.transit_laws.proofs.OfLive.{of_other}
 use Rattle.transit_laws.proofs.LqhParts.{IsLast, lqh_covers, lqh_tells, lqh_weighs}
 use Rattle.transit_laws.proofs.RoutedEvents.{coming_are_routed, commits_end_at_primary}
-use Rattle.transit_laws.proofs.RoutesChain.{primary_first, replicas_are_nodes}
-use Rattle.transit_laws.proofs.StepFades.{EndsAtPrimary, NoAbort, StepFades, now_other, now_own, step_fades}
+use Rattle.transit_laws.proofs.RoutesChain.{primary_first, primary_length, replicas_are_nodes, replicas_some}
+use Rattle.transit_laws.proofs.StepFades.{EndsAtPrimary, NoAbort, StepFades, step_fades}
+use Rattle.transit_laws.proofs.TcOwn.{turn_for}
 use Rattle.transit_laws.proofs.TxSignals.{cover, is_next, part_tells, request_part, weight}
 use Rattle.transit_laws.proofs.TxTurns.{AreSilent}
 use Rattle.transit_laws.proofs.Weighing.{each_between, each_joins, each_taken, in_sends, in_transit, joins_weigh, takes_weigh}
-
--- what is so of the transactions of a node after any log
-pub record NodeFacts (tx : TxId) (h : ℕ) (n : node.Node) : Type 0 where
-  pub number : n.tc.node ≡ h
-  pub once : tally (is_keyed tx) n.tc.live ≤ 1
-  pub own : Each (λ (e : TxId × Transaction). IsOwn n.tc.node n.tc.next_seq e.0) n.tc.live
-
-pub node_facts : (start : Start) (tx : TxId) (h : ℕ) (log : List HostStep) (n : node.Node) → after start h log ≡ Node n → NodeFacts tx h n
-node_facts start tx zero log n is = absurd (other (shell_after start log).state (sym (shell_after start log).is ∙ is))
-  where
-    other : (s : ApiState) → Shell s ≡ Node n → ⊥
-    other s same = cc
-node_facts start tx (suc h) log n is =
-    let k = keeps start tx h log in
-    let known = node_after start h log in
-    record {
-      number = ap (λ (m : node.Node). m.tc.node) (sym (same_node known.state n (sym known.is ∙ is))) ∙ known.number;
-      once = subst (λ (m : node.Node). tally (is_keyed tx) m.tc.live ≤ 1) (same_node k.state n (sym k.is ∙ is)) (omega (arith, k.keeps.began, k.keeps.once));
-      own = subst (λ (m : node.Node). Each (λ (e : TxId × Transaction). IsOwn m.tc.node m.tc.next_seq e.0) m.tc.live) (same_node k.state n (sym k.is ∙ is)) k.keeps.own;
-    }
 
 -- one that is older isn't the one that begins
 begun_older : (tx : TxId) (s : TcState) → Each (λ (e : TxId × Transaction). IsOwn s.node s.next_seq e.0) s.live → tx.seq < s.next_seq → of_live tx (begun s).live ≡ of_live tx s.live
@@ -97,36 +77,35 @@ begun_older tx s own older =
     by false e = e
 
 module _ (start : Start) (es : List HostStep) (e : HostStep) (come : Comes start es e) where
-  -- a commit that comes is at the place of its chain that it is for
+  -- a commit that comes is at the place of its chain that it is for, and that host runs rows
   pub record IsAtPlace (chain : List Member) (at : ℕ) : Type 0 where
-    pub node_is : e.host ≡ node_at chain at
-    pub above : 0 < e.host
+    pub host_is : rows_host start (node_at chain at) ≡ e.host
+    pub runs : has_lqh (after start e.host (logs_of start es e.host)) ≡ true
 
   pub commit_place : (one : TxId) (own : List ℕ) (epoch : ℕ) (chain : List Member) (at : ℕ) → e.step.taken.body ≡ Chain (Commit one own epoch chain at) → IsAtPlace chain at
-  commit_place one own epoch chain at is = by (subst (IsRouted start e.host) is (coming_are_routed start es e come).routed)
+  commit_place one own epoch chain at is = by (subst (IsRouted start e.step.taken.to.node) is coming.routed)
     where
-      by : IsCommitRouted start e.host own chain at → IsAtPlace chain at
-      by r = record { node_is = r.sent.node_is; above = which r.along }
+      coming : IsOnWay start e.step.taken.to e.step.taken.body
+      coming = coming_are_routed start es e come
+
+      place : (node : ℕ) → e.host ≡ rows_host start node → IsNodeFor start node own → node ≡ node_at chain at → IsAtPlace chain at
+      place node here of node_is = record {
+        host_is = ap (rows_host start) (sym node_is) ∙ sym here;
+        runs = subst (λ k. has_lqh (after start k (logs_of start es k)) ≡ true) (sym here) (rows_run start node (logs_of start es (rows_host start node)) of.from of.to);
+      }
+
+      by : IsCommitRouted start e.step.taken.to.node own chain at → IsAtPlace chain at
+      by r = place e.step.taken.to.node (rows_addressed start es e come (subst (IsForBlock e.step.taken.to) is coming.block)) (which r.along) r.sent.node_is
         where
-          which : (chain ≡ replicas start own) ⊎ (chain ≡ primary_of (replicas start own)) → 0 < e.host
+          which : (chain ≡ replicas start own) ⊎ (chain ≡ primary_of (replicas start own)) → IsNodeFor start e.step.taken.to.node own
           which (inl all) =
-              let low = (replicas_are_nodes start own at (omega (arith, r.sent.inside, ap length all))).0 in
-              omega (arith, low, r.sent.node_is, ap (λ c. node_at c at) all)
-          which (inr first) = go at r.sent.inside r.sent.node_is
-            where
-              short : (c : List Member) → length (primary_of c) ≤ length c
-              short [] = omega arith
-              short (m ∷ c) = omega arith
-
-              one_long : (c : List Member) → length (primary_of c) ≤ 1
-              one_long [] = omega arith
-              one_long (m ∷ c) = omega arith
-
-              go : (k : ℕ) → k < length chain → e.host ≡ node_at chain k → 0 < e.host
-              go zero inside is_node =
-                  let low = (replicas_are_nodes start own 0 (omega (arith, inside, ap length first, short (replicas start own)))).0 in
-                  omega (arith, low, is_node, ap (λ c. node_at c 0) first, primary_first (replicas start own))
-              go (suc k) inside is_node = absurd (omega (arith, inside, ap length first, one_long (replicas start own)))
+              subst (λ node. IsNodeFor start node own) (sym (r.sent.node_is ∙ ap (λ c. node_at c at) all))
+              (replicas_are_nodes start own at come.before.shape (omega (arith, r.sent.inside, ap length all)))
+          which (inr alone) =
+              let some = replicas_some start come.before.shape own in
+              let first : at ≡ 0 = omega (arith, r.sent.inside, ap length alone, primary_length (replicas start own) some) in
+              subst (λ node. IsNodeFor start node own) (sym (r.sent.node_is ∙ (ap (λ c. node_at c at) alone ∙ (ap (node_at (primary_of (replicas start own))) first ∙ primary_first (replicas start own)))))
+              (replicas_are_nodes start own 0 come.before.shape some)
 
   module _ (before between : List Addressed) (takes : Takes e before between) (tx : TxId) (carried : is_carried_out start (logs_of start es) tx ≡ true) (none : tokens start (logs_of start es) before tx ≡ 0) where
     abbrev h : ℕ
@@ -138,7 +117,7 @@ module _ (start : Start) (es : List HostStep) (e : HostStep) (come : Comes start
     abbrev now : ℕ → List HostStep
     now k = logs_of start (e ∷ es) k
 
-    abbrev g : host.Host
+    abbrev g : Host
     g = after start h (logs_of start es h)
 
     abbrev sends : List Outgoing
@@ -163,26 +142,36 @@ module _ (start : Start) (es : List HostStep) (e : HostStep) (come : Comes start
     pub fades : StepFades start (logs_of start es) (logs_of start (e ∷ es)) e tx
     fades = step_fades start es e come before between takes tx none no_abort ends
 
-    out : (w : Place → Body → ℕ) → (is_request e.step.taken.body ≡ true → w e.step.taken ≡ 0) → in_transit w before ≡ w e.step.taken + in_transit w between
+    out : (w : Place → Body → ℕ) → (is_request e.step.taken.body ≡ true → w e.step.taken.to e.step.taken.body ≡ 0) → in_transit w before ≡ w e.step.taken.to e.step.taken.body + in_transit w between
     out w free = takes_weigh w e before between free takes
 
     into : (w : Place → Body → ℕ) → in_transit w later ≡ in_sends w sends + in_transit w between
     into w = joins_weigh w start h (logs_of start es h) e between
 
+    abbrev at_home : ℕ
+    at_home = home start tx
+
     -- the transaction at its coordinator, before and behind the step
-    live_was : h ≡ tx.tc → live_at start (logs_of start es) tx ≡ of_host tx g
-    live_was same = subst (λ k. of_host tx (after start k (logs_of start es k)) ≡ of_host tx g) same refl
+    live_was : h ≡ at_home → live_at start (logs_of start es) tx ≡ of_host tx g
+    live_was same = ap (of_host tx) (here_was start es e come tx same)
 
-    live_now : h ≡ tx.tc → live_at start (logs_of start (e ∷ es)) tx ≡ of_host tx (row g e.step.taken).state
-    live_now same =
-        subst (λ k. of_host tx (after start k (logs_of start (e ∷ es) k)) ≡ of_host tx (row g e.step.taken).state) same
-        (ap (λ log. of_host tx (after start h log)) (now_own start es e come))
+    live_now : h ≡ at_home → live_at start (logs_of start (e ∷ es)) tx ≡ of_host tx (row g e.step.taken).state
+    live_now same = ap (of_host tx) (here_now start es e come tx same)
 
-    live_far : h ≢ tx.tc → live_at start (logs_of start (e ∷ es)) tx ≡ live_at start (logs_of start es) tx
-    live_far differs = ap (λ log. of_host tx (after start tx.tc log)) (now_other start es e come tx.tc differs)
+    live_far : h ≢ at_home → live_at start (logs_of start (e ∷ es)) tx ≡ live_at start (logs_of start es) tx
+    live_far differs = ap (of_host tx) (away start es e come tx differs)
 
-    far_test : h ≢ tx.tc → (h == tx.tc) ≡ false
-    far_test differs = grind (arith, nat_tests, differs)
+    -- a step elsewhere takes no signal for its coordinator
+    far_test : h ≢ at_home → (is_tc e.step.taken.to.block && (e.step.taken.to.node == tx.tc)) ≡ false
+    far_test differs = by e.step.taken.to.block refl
+      where
+        node_test : e.step.taken.to.block ≡ block.Tc → (b : Bool) → (e.step.taken.to.node == tx.tc) ≡ b → b ≡ false
+        node_test at true same = absurd (differs (tc_addressed start es e come at ∙ ap (tc_host start) (eqb-true e.step.taken.to.node tx.tc same)))
+        node_test at false same = refl
+
+        by : (b : BlockId) → e.step.taken.to.block ≡ b → (is_tc b && (e.step.taken.to.node == tx.tc)) ≡ false
+        by block.Tc at = node_test at (e.step.taken.to.node == tx.tc) refl
+        by _ at = refl
 
     module _ (c : IsCarried start (logs_of start es) before tx) where
       told_taken : TellsOf start (logs_of start es) tx e.step.taken.body
@@ -192,15 +181,14 @@ module _ (start : Start) (es : List HostStep) (e : HostStep) (come : Comes start
           by true is = part_tells tx (IsSpread start (logs_of start es) tx) (IsCommittedAtAll start (logs_of start es) tx) e.step.taken.body (request_part tx e.step.taken.body is)
           by false is = each_taken (λ (x : Addressed). TellsOf start (logs_of start es) tx x.signal.body) e before between is takes c.told
 
-      old_now : tx.seq < next_number (after start tx.tc (logs_of start (e ∷ es) tx.tc))
-      old_now = by (cases_eq h tx.tc)
+      old_now : tx.seq < next_number (after start at_home (logs_of start (e ∷ es) at_home))
+      old_now = by (cases_eq h at_home)
         where
-          by : (h ≡ tx.tc) ⊎ (h ≢ tx.tc) → tx.seq < next_number (after start tx.tc (logs_of start (e ∷ es) tx.tc))
-          by (inr differs) = subst (λ log. tx.seq < next_number (after start tx.tc log)) (sym (now_other start es e come tx.tc differs)) c.old
+          by : (h ≡ at_home) ⊎ (h ≢ at_home) → tx.seq < next_number (after start at_home (logs_of start (e ∷ es) at_home))
+          by (inr differs) = subst (λ x. tx.seq < next_number x) (sym (away start es e come tx differs)) c.old
           by (inl same) =
-              subst (λ k. tx.seq < next_number (after start k (logs_of start (e ∷ es) k))) same
-              (subst (λ log. tx.seq < next_number (after start h log)) (sym (now_own start es e come))
-              (omega (arith, number_rises g e.step.taken, subst (λ k. tx.seq < next_number (after start k (logs_of start es k))) (sym same) c.old)))
+              subst (λ x. tx.seq < next_number x) (sym (here_now start es e come tx same))
+              (omega (arith, number_rises g e.step.taken, subst (λ x. tx.seq < next_number x) (here_was start es e come tx same) c.old))
 
       all_told : Each (λ (o : Outgoing). TellsOf start (logs_of start (e ∷ es)) tx o.body) sends → Each (λ (x : Addressed). TellsOf start (logs_of start (e ∷ es)) tx x.signal.body) later
       all_told sent =
@@ -227,29 +215,22 @@ module _ (start : Start) (es : List HostStep) (e : HostStep) (come : Comes start
 
       -- where nothing of it is sent
       quiet_now : AreSilent tx sends → live_at start (logs_of start (e ∷ es)) tx ≡ live_at start (logs_of start es) tx
-          → ((t : Transaction) → live_at start (logs_of start es) tx ≡ Some t → (key : List ℕ) (i : ℕ) → cover tx key i e.step.taken ≡ 0)
+          → ((t : Transaction) → live_at start (logs_of start es) tx ≡ Some t → (key : List ℕ) (i : ℕ) → cover tx key i e.step.taken.to e.step.taken.body ≡ 0)
           → IsCarried start (logs_of start (e ∷ es)) later tx
       quiet_now silent same none_led =
           carried_now (parts_tell start (logs_of start es) (logs_of start (e ∷ es)) e before between later sends tx fades out into (silent_parts start (logs_of start es) (logs_of start (e ∷ es)) e before between later sends tx fades out into silent))
           (same_live same (λ t is. silent_stays start (logs_of start es) (logs_of start (e ∷ es)) e before between later sends tx fades out into t.touched t.phase silent (λ front u back split. none_led t is u.key (length front))))
 
-      shell_is_first : (s : ApiState) (k : ℕ) → after start k (logs_of start es k) ≡ Shell s → k ≡ 0
-      shell_is_first s zero is = refl
-      shell_is_first s (suc k) is = absurd (other (sym (node_after start k (logs_of start es (suc k))).is ∙ is))
+      -- where the step leaves it alone the signal leads to no commit
+      missed_cover : IsMissed tx g e.step.taken → (is_lqh e.step.taken.to.block ≡ false → (key : List ℕ) (i : ℕ) → cover tx key i e.step.taken.to e.step.taken.body ≡ 0)
+          → (key : List ℕ) (i : ℕ) → cover tx key i e.step.taken.to e.step.taken.body ≡ 0
+      missed_cover missed off_rows key i = by (is_lqh e.step.taken.to.block) refl
         where
-          other : Node (node_after start k (logs_of start es (suc k))).state ≡ Shell s → ⊥
-          other same = cc
-
-      -- no commit comes to the shell's host
-      shell_cover : (s : ApiState) → g ≡ Shell s → h ≢ tx.tc → (key : List ℕ) (i : ℕ) (b : Body) → e.step.taken.body ≡ b → cover tx key i e.step.taken.to b ≡ 0
-      shell_cover s is differs key i (Chain (Commit one own epoch chain at)) body_is = absurd (omega (arith, (commit_place one own epoch chain at body_is).above, shell_is_first s h is))
-      shell_cover s is differs key i (Host (Continue (work.Transaction one) at)) body_is =
-          ap (λ b. one_if ((is_tc e.step.taken.to.block && b) && (same_tx one tx && nat_le at i))) (far_test differs) ∙ off (is_tc e.step.taken.to.block)
-        where
-          off : (x : Bool) → one_if ((x && false) && (same_tx one tx && nat_le at i)) ≡ 0
-          off true = refl
-          off false = refl
-      shell_cover s is differs key i _ body_is = refl
+          by : (b : Bool) → is_lqh e.step.taken.to.block ≡ b → cover tx key i e.step.taken.to e.step.taken.body ≡ 0
+          by false off = off_rows off key i
+          by true at =
+              rows_cover tx key i e.step.taken.to e.step.taken.body at
+              (λ one own epoch chain place is. let both : true ≡ false = sym (commit_place one own epoch chain place is).runs ∙ missed.rows at in cc)
 
       some_none : {A : Type 0} (t : Transaction) (o : Option Transaction) → o ≡ Some t → o ≡ None → A
       some_none t None is none_is = absurd cc
@@ -265,10 +246,10 @@ module _ (start : Start) (es : List HostStep) (e : HostStep) (come : Comes start
           spread : IsSpread start (logs_of start es) tx l.own l.chain l.at
           spread = subst (λ b. TellsOf start (logs_of start es) tx b) l.is told_taken l.same_one
 
-          nobody : (k : ℕ) → HasPrepared tx (at_host start (logs_of start (e ∷ es)) key k).cell.pending → IsUpTo l.chain l.at k → ⊥
+          nobody : (k : ℕ) → HasPrepared tx (at_host start (logs_of start (e ∷ es)) key k).cell.pending → IsUpTo start l.chain l.at k → ⊥
           nobody k p up =
               let here : k ≡ h =
-              sym up.is ∙ (ap (node_at l.chain) (omega (arith, up.low, eqb-true l.at 0 l.last)) ∙ sym (commit_place l.one l.own l.epoch l.chain l.at l.is).node_is) in
+              sym up.is ∙ (ap (λ p. rows_host start (node_at l.chain p)) (omega (arith, up.low, eqb-true l.at 0 l.last)) ∙ (commit_place l.one l.own l.epoch l.chain l.at l.is).host_is) in
               fades.committed key l.one l.own l.epoch l.chain l.at l.is home l.same_one l.same_own (subst (λ j. HasPrepared tx (at_host start (logs_of start (e ∷ es)) key j).cell.pending) here p)
 
       -- and each other one leaves it at the places in front
@@ -279,86 +260,95 @@ module _ (start : Start) (es : List HostStep) (e : HostStep) (come : Comes start
           some : 1 ≤ at
           some = grind (arith, nat_tests, not_last)
 
-          before_it : (k : ℕ) → HasPrepared tx (at_host start (logs_of start (e ∷ es)) own k).cell.pending → IsUpTo chain at k → IsUpTo chain (at - 1) k
+          before_it : (k : ℕ) → HasPrepared tx (at_host start (logs_of start (e ∷ es)) own k).cell.pending → IsUpTo start chain at k → IsUpTo start chain (at - 1) k
           before_it k p up = by (cases_lt up.place at)
             where
-              by : (up.place < at) ⊎ (at ≤ up.place) → IsUpTo chain (at - 1) k
+              by : (up.place < at) ⊎ (at ≤ up.place) → IsUpTo start chain (at - 1) k
               by (inl low) = record { place = up.place; low = omega (arith, low); is = up.is }
               by (inr high) =
-                  let here : k ≡ h = sym up.is ∙ (ap (node_at chain) (omega (arith, high, up.low)) ∙ sym (commit_place one own epoch chain at is).node_is) in
+                  let here : k ≡ h = sym up.is ∙ (ap (λ p. rows_host start (node_at chain p)) (omega (arith, high, up.low)) ∙ (commit_place one own epoch chain at is).host_is) in
                   absurd (fades.committed own one own epoch chain at is home same (same_key-self own) (subst (λ j. HasPrepared tx (at_host start (logs_of start (e ∷ es)) own j).cell.pending) here p))
 
-      rows_now : (s : LqhState) → e.step.taken.to.block ≡ block.Lqh → of_host tx (row g e.step.taken).state ≡ of_host tx g → sends ≡ (lqh_table s e.step.taken.body).effects.sends → IsCarried start (logs_of start (e ∷ es)) later tx
-      rows_now s home same sent = carried_now told (same_live (is_same (cases_eq h tx.tc)) stays_so)
+      rows_now : IsRowsStep g e.step.taken (row g e.step.taken) → IsCarried start (logs_of start (e ∷ es)) later tx
+      rows_now step = carried_now told (same_live (is_same (cases_eq h at_home)) stays_so)
         where
+          s : LqhState
+          s = lqh_of g
+
+          rows_at : e.step.taken.to.block ≡ block.Lqh
+          rows_at = step.at
+
+          same : of_host tx (row g e.step.taken).state ≡ of_host tx g
+          same = ap (λ (t : TcState). of_live tx t.live) step.tc
+
+          sent : sends ≡ (lqh_table s e.step.taken.body).effects.sends
+          sent = ap (λ (f : Effects). f.sends) step.effects
+
           told : Each (λ (o : Outgoing). TellsOf start (logs_of start (e ∷ es)) tx o.body) sends
           told =
               subst (Each (λ (o : Outgoing). TellsOf start (logs_of start (e ∷ es)) tx o.body)) (sym sent)
               (lqh_tells s tx (IsSpread start (logs_of start es) tx) (IsSpread start (logs_of start (e ∷ es)) tx) (IsCommittedAtAll start (logs_of start (e ∷ es)) tx) e.step.taken.body
               (tells_too tx (IsSpread start (logs_of start es) tx) (IsSpread start (logs_of start es) tx) (IsCommittedAtAll start (logs_of start es) tx) (IsCommittedAtAll start (logs_of start (e ∷ es)) tx) (λ key chain at d. d)
               (λ key d. committed_stays start (logs_of start es) (logs_of start (e ∷ es)) e tx fades key d) e.step.taken.body told_taken)
-              (commit_before home))
+              (commit_before rows_at))
 
-          is_same : (h ≡ tx.tc) ⊎ (h ≢ tx.tc) → live_at start (logs_of start (e ∷ es)) tx ≡ live_at start (logs_of start es) tx
+          is_same : (h ≡ at_home) ⊎ (h ≢ at_home) → live_at start (logs_of start (e ∷ es)) tx ≡ live_at start (logs_of start es) tx
           is_same (inl own) = live_now own ∙ (same ∙ sym (live_was own))
           is_same (inr differs) = live_far differs
 
-          leads : (key : List ℕ) (i : ℕ) → (cover tx key i e.step.taken ≤ in_sends (cover tx key i) sends) ⊎ IsDone start (logs_of start (e ∷ es)) tx key
-          leads key i = by (lqh_covers s tx key i e.step.taken home)
+          leads : (key : List ℕ) (i : ℕ) → (cover tx key i e.step.taken.to e.step.taken.body ≤ in_sends (cover tx key i) sends) ⊎ IsDone start (logs_of start (e ∷ es)) tx key
+          leads key i = by (lqh_covers s tx key i e.step.taken.to e.step.taken.body rows_at)
             where
-              by : (cover tx key i e.step.taken ≤ in_sends (cover tx key i) (lqh_table s e.step.taken.body).effects.sends) ⊎ IsLast tx key e.step.taken.body
-                  → (cover tx key i e.step.taken ≤ in_sends (cover tx key i) sends) ⊎ IsDone start (logs_of start (e ∷ es)) tx key
+              by : (cover tx key i e.step.taken.to e.step.taken.body ≤ in_sends (cover tx key i) (lqh_table s e.step.taken.body).effects.sends) ⊎ IsLast tx key e.step.taken.body
+                  → (cover tx key i e.step.taken.to e.step.taken.body ≤ in_sends (cover tx key i) sends) ⊎ IsDone start (logs_of start (e ∷ es)) tx key
               by (inl less) = inl (omega (arith, less, ap (in_sends (cover tx key i)) sent))
-              by (inr l) = inr (last_commit home key l)
+              by (inr l) = inr (last_commit rows_at key l)
 
           stays_so : (t : Transaction) → live_at start (logs_of start es) tx ≡ Some t → Goes t
           stays_so t is =
               ahead_stays start (logs_of start es) (logs_of start (e ∷ es)) e before between later sends tx fades out into t.touched t.phase
-              (omega (arith, lqh_weighs s tx (length t.touched) e.step.taken, ap (in_sends (weight tx (length t.touched))) sent)) (λ front u back split. leads u.key (length front))
+              (omega (arith, lqh_weighs s tx (length t.touched) e.step.taken.to e.step.taken.body, ap (in_sends (weight tx (length t.touched))) sent)) (λ front u back split. leads u.key (length front))
 
-      facts : (n : node.Node) → g ≡ Node n → NodeFacts tx h n
-      facts n is = node_facts start tx h (logs_of start es h) n is
+      facts : IsHome tx (tc_of g)
+      facts = all_home start tx h (logs_of start es h)
 
-      next_now : HostStep tx g e.step.taken (row g e.step.taken).state sends → IsCarried start (logs_of start (e ∷ es)) later tx
-      next_now (rows s home same sent) = rows_now s home same sent
-      next_now (shell s is gone silent) = by (cases_eq h tx.tc)
+      next_now : TxStep tx g e.step.taken (row g e.step.taken) → IsCarried start (logs_of start (e ∷ es)) later tx
+      next_now (rows step) = rows_now step
+      next_now (aside same silent missed) = by (cases_eq h at_home)
         where
-          by : (h ≡ tx.tc) ⊎ (h ≢ tx.tc) → IsCarried start (logs_of start (e ∷ es)) later tx
-          by (inr differs) = quiet_now silent (live_far differs) (λ t there key i. shell_cover s is differs key i e.step.taken.body refl)
-          by (inl own) =
-              quiet_now silent (live_now own ∙ (gone ∙ sym (live_was own ∙ ap (of_host tx) is)))
-              (λ t there key i. some_none t (live_at start (logs_of start es) tx) there (live_was own ∙ ap (of_host tx) is))
-      next_now (aside n is same silent off none_next) = by (cases_eq h tx.tc)
-        where
-          by : (h ≡ tx.tc) ⊎ (h ≢ tx.tc) → IsCarried start (logs_of start (e ∷ es)) later tx
-          by (inr differs) = quiet_now silent (live_far differs) (λ t there key i. away_cover tx key i e.step.taken off (far_test differs))
+          by : (h ≡ at_home) ⊎ (h ≢ at_home) → IsCarried start (logs_of start (e ∷ es)) later tx
+          by (inr differs) =
+              quiet_now silent (live_far differs)
+              (λ t there key i. missed_cover missed (λ off k p. away_cover tx k p e.step.taken.to e.step.taken.body off (far_test differs)) key i)
           by (inl own) =
               quiet_now silent (live_now own ∙ (same ∙ sym (live_was own)))
-              (λ t there key i. aside_cover tx key i e.step.taken off (λ next tc. some_none t (of_host tx g) (sym (live_was own) ∙ there) (none_next next tc)))
-      next_now (begins n is at left silent not_next) = by (cases_eq h tx.tc)
+              (λ t there key i. missed_cover missed (λ off k p. aside_cover tx k p e.step.taken.to e.step.taken.body off (λ next tc. some_none t (of_host tx g) (sym (live_was own) ∙ there) (missed.next next tc))) key i)
+      next_now (begins step left silent not_next) = by (cases_eq h at_home)
         where
           off : is_lqh e.step.taken.to.block ≡ false
-          off = ap is_lqh at
+          off = ap is_lqh step.at
 
-          older : h ≡ tx.tc → tx.seq < n.tc.next_seq
-          older own = subst (λ (x : host.Host). tx.seq < next_number x) is (subst (λ k. tx.seq < next_number (after start k (logs_of start es k))) (sym own) c.old)
+          older : h ≡ at_home → tx.seq < next_number g
+          older own = subst (λ x. tx.seq < next_number x) (here_was start es e come tx own) c.old
 
-          by : (h ≡ tx.tc) ⊎ (h ≢ tx.tc) → IsCarried start (logs_of start (e ∷ es)) later tx
-          by (inr differs) = quiet_now silent (live_far differs) (λ t there key i. away_cover tx key i e.step.taken off (far_test differs))
+          by : (h ≡ at_home) ⊎ (h ≢ at_home) → IsCarried start (logs_of start (e ∷ es)) later tx
+          by (inr differs) = quiet_now silent (live_far differs) (λ t there key i. away_cover tx key i e.step.taken.to e.step.taken.body off (far_test differs))
           by (inl own) =
-              quiet_now silent (live_now own ∙ (left ∙ (begun_older tx n.tc (facts n is).own (older own) ∙ sym (live_was own ∙ ap (of_host tx) is))))
-              (λ t there key i. aside_cover tx key i e.step.taken off (λ next tc. not_both (is_next tx e.step.taken.body) next not_next))
-      next_now (turns n t is at was own_body sent left) = by (cases_eq h tx.tc)
+              quiet_now silent (live_now own ∙ (left ∙ (begun_older tx (tc_of g) facts.own (older own) ∙ sym (live_was own))))
+              (λ t there key i. aside_cover tx key i e.step.taken.to e.step.taken.body off (λ next tc. not_both (is_next tx e.step.taken.body) next not_next))
+      next_now (turns t step was own_body sent left) = carried_now leaves.told (subst (IsLiveAhead start (logs_of start (e ∷ es)) later tx) (sym (live_now own ∙ left)) leaves.live)
         where
-          by : (h ≡ tx.tc) ⊎ (h ≢ tx.tc) → IsCarried start (logs_of start (e ∷ es)) later tx
-          by (inr differs) =
-              let own = of_each (λ one u. IsOwn n.tc.node n.tc.next_seq one) tx n.tc.live t (facts n is).own (sym (ap (of_host tx) is) ∙ was) in
-              absurd (differs (sym (facts n is).number ∙ sym own.home))
-          by (inl own) =
-              let ahead : IsAhead start (logs_of start es) before tx t.touched t.phase = subst (IsLiveAhead start (logs_of start es) before tx) (live_was own ∙ was) c.live in
-              let leaves =
-              turn_leaves start (logs_of start es) (logs_of start (e ∷ es)) e before between later sends tx fades out into n.tc.node n.tc.view t ((facts n is).number ∙ own) at own_body ahead sent in
-              carried_now leaves.told (subst (IsLiveAhead start (logs_of start (e ∷ es)) later tx) (sym (live_now own ∙ left)) leaves.live)
+          node_is : tx.tc ≡ (tc_of g).node
+          node_is = (of_each (λ one u. IsOwn (tc_of g).node (tc_of g).next_seq one) tx (tc_of g).live t facts.own was).home
+
+          own : h ≡ at_home
+          own = own_home start es e come tx step.runs node_is
+
+          ahead : IsAhead start (logs_of start es) before tx t.touched t.phase
+          ahead = subst (IsLiveAhead start (logs_of start es) before tx) (live_was own ∙ was) c.live
+
+          leaves : TurnLeaves start (logs_of start es) (logs_of start (e ∷ es)) e before between later sends tx fades out into (turn_for (tc_of g).node (tc_of g).layout tx e.step.taken.body t)
+          leaves = turn_leaves start (logs_of start es) (logs_of start (e ∷ es)) e before between later sends tx fades out into (tc_of g).node (tc_of g).layout t (sym node_is) step.at own_body ahead sent
 
       pub carried_next : IsCarried start (logs_of start (e ∷ es)) later tx
-      carried_next = next_now (host_step tx g e.step.taken (λ n is. (facts n is).once))
+      carried_next = next_now (tx_step tx g e.step.taken facts.once)

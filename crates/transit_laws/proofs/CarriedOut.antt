@@ -15,6 +15,7 @@ use Rattle.tc_block.specs.declared.phase.Phase.TheVariants.{Open, Verifying, Com
 use Rattle.tc_block.specs.declared.touched.Touched.{Touched}
 use Rattle.tc_block.specs.declared.transaction.Transaction.{Transaction}
 use Rattle.world_core.specs.History.{is_applied}
+use Rattle.world_core.specs.Hosts.{home, rows_host}
 use Rattle.world_core.specs.Machine.{after}
 use Rattle.world_core.specs.Marks.{has_mark}
 use Rattle.world_core.specs.Start.{Start}
@@ -22,18 +23,18 @@ use Rattle.commit_laws.specs.Primary.{HasPrepared}
 use Rattle.transit_laws.specs.Circle.{at_host}
 use Rattle.transit_laws.specs.Completions.{IsCommittedAtAll}
 use Rattle.transit_laws.specs.Live.{live_at}
-use Rattle.transit_laws.specs.Routes.{primary}
+use Rattle.transit_laws.specs.Routes.{primary_host}
 use Rattle.transit_laws.proofs.HostSteps.{next_number}
 use Rattle.transit_laws.proofs.RecordsFade.{HasRecord}
 use Rattle.transit_laws.proofs.StepFades.{StepFades}
 use Rattle.transit_laws.proofs.TxSignals.{Tells, cover, weight}
 use Rattle.transit_laws.proofs.Weighing.{in_transit}
 
--- the host is at one of these places of a chain
-pub record IsUpTo (chain : List Member) (at h : ℕ) : Type 0 where
+-- the host is that of one of these places of a chain
+pub record IsUpTo (start : Start) (chain : List Member) (at h : ℕ) : Type 0 where
   pub place : ℕ
   pub low : place ≤ at
-  pub is : node_at chain place ≡ h
+  pub is : rows_host start (node_at chain place) ≡ h
 
 -- a record of the transaction on the key is prepared at no host
 pub record IsDone (start : Start) (logs : ℕ → List HostStep) (tx : TxId) (key : List ℕ) : Type 0 where
@@ -41,12 +42,12 @@ pub record IsDone (start : Start) (logs : ℕ → List HostStep) (tx : TxId) (ke
 
 -- or at these places of a chain alone
 pub record IsSpread (start : Start) (logs : ℕ → List HostStep) (tx : TxId) (key : List ℕ) (chain : List Member) (at : ℕ) : Type 0 where
-  pub within : (h : ℕ) → HasPrepared tx (at_host start logs key h).cell.pending → IsUpTo chain at h
+  pub within : (h : ℕ) → HasPrepared tx (at_host start logs key h).cell.pending → IsUpTo start chain at h
 
 -- where there is one, the primary has it prepared or has marked its commit
 pub record IsMarked (start : Start) (logs : ℕ → List HostStep) (tx : TxId) (key : List ℕ) : Type 0 where
   pub marked : (h : ℕ) → HasRecord tx (at_host start logs key h).cell.pending
-      → HasPrepared tx (at_host start logs key (primary start key)).cell.pending ⊎ (has_mark (is_applied tx) (logs (primary start key)) ≡ true)
+      → HasPrepared tx (at_host start logs key (primary_host start key)).cell.pending ⊎ (has_mark (is_applied tx) (logs (primary_host start key)) ≡ true)
 
 -- a key that it touched
 pub record IsAlong (start : Start) (logs : ℕ → List HostStep) (tx : TxId) (u : Touched) : Type 0 where
@@ -76,7 +77,7 @@ abbrev pub TellsOf : Start → (ℕ → List HostStep) → TxId → Body → Typ
 TellsOf start logs tx body = Tells tx (IsSpread start logs tx) (IsCommittedAtAll start logs tx) body
 
 pub record IsCarried (start : Start) (logs : ℕ → List HostStep) (xs : List Addressed) (tx : TxId) : Type 0 where
-  pub old : tx.seq < next_number (after start tx.tc (logs tx.tc))
+  pub old : tx.seq < next_number (after start (home start tx) (logs (home start tx)))
   pub told : Each (λ (x : Addressed). TellsOf start logs tx x.signal.body) xs
   pub live : IsLiveAhead start logs xs tx (live_at start logs tx)
 
@@ -90,8 +91,8 @@ tells_too tx C C2 D D2 c d _ tells = tt
 pub at_all : (start : Start) (logs : ℕ → List HostStep) (tx : TxId) (key : List ℕ) → IsMarked start logs tx key → IsDone start logs tx key → IsCommittedAtAll start logs tx key
 at_all start logs tx key m d = record { committed = d.none; applied = λ h r is. by (m.marked h (record { record_is = r; there = is })) }
   where
-    by : HasPrepared tx (at_host start logs key (primary start key)).cell.pending ⊎ (has_mark (is_applied tx) (logs (primary start key)) ≡ true) → has_mark (is_applied tx) (logs (primary start key)) ≡ true
-    by (inl p) = absurd (d.none (primary start key) p)
+    by : HasPrepared tx (at_host start logs key (primary_host start key)).cell.pending ⊎ (has_mark (is_applied tx) (logs (primary_host start key)) ≡ true) → has_mark (is_applied tx) (logs (primary_host start key)) ≡ true
+    by (inl p) = absurd (d.none (primary_host start key) p)
     by (inr is) = is
 
 -- all that stays so in a step
@@ -105,10 +106,10 @@ module _ (start : Start) (logs now : ℕ → List HostStep) (e : HostStep) (tx :
   pub marked_stays : (key : List ℕ) → IsMarked start logs tx key → IsMarked start now tx key
   marked_stays key m = record { marked = λ h r. by (m.marked h (f.there key h r)) }
     where
-      by : HasPrepared tx (at_host start logs key (primary start key)).cell.pending ⊎ (has_mark (is_applied tx) (logs (primary start key)) ≡ true)
-          → HasPrepared tx (at_host start now key (primary start key)).cell.pending ⊎ (has_mark (is_applied tx) (now (primary start key)) ≡ true)
+      by : HasPrepared tx (at_host start logs key (primary_host start key)).cell.pending ⊎ (has_mark (is_applied tx) (logs (primary_host start key)) ≡ true)
+          → HasPrepared tx (at_host start now key (primary_host start key)).cell.pending ⊎ (has_mark (is_applied tx) (now (primary_host start key)) ≡ true)
       by (inl p) = f.at_primary key p
-      by (inr is) = inr (f.step.marks (primary start key) is)
+      by (inr is) = inr (f.marks (primary_host start key) is)
 
   pub along_stays : (touched : List Touched) → Each (IsAlong start logs tx) touched → Each (IsAlong start now tx) touched
   along_stays touched all =
@@ -118,7 +119,7 @@ module _ (start : Start) (logs now : ℕ → List HostStep) (e : HostStep) (tx :
   pub committed_stays : (key : List ℕ) → IsCommittedAtAll start logs tx key → IsCommittedAtAll start now tx key
   committed_stays key c = record {
     committed = λ h p. c.committed h (f.prepared key h p);
-    applied = λ h r is. let was = f.there key h (record { record_is = r; there = is }) in f.step.marks (primary start key) (c.applied h was.record_is was.there);
+    applied = λ h r is. let was = f.there key h (record { record_is = r; there = is }) in f.marks (primary_host start key) (c.applied h was.record_is was.there);
   }
 
   pub tells_stay : (body : Body) → TellsOf start logs tx body → TellsOf start now tx body

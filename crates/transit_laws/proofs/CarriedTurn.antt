@@ -64,32 +64,32 @@ late_cover tx key i to one at late = by (is_tc to.block && (to.node == tx.tc)) (
     by false b = refl
 
 module _ (start : Start) (logs now : ℕ → List HostStep) (e : HostStep) (before between after : List Addressed) (sends : List Outgoing) (tx : TxId) (f : StepFades start logs now e tx)
-    (out : (w : Place → Body → ℕ) → (is_request e.step.taken.body ≡ true → w e.step.taken ≡ 0) → in_transit w before ≡ w e.step.taken + in_transit w between)
+    (out : (w : Place → Body → ℕ) → (is_request e.step.taken.body ≡ true → w e.step.taken.to e.step.taken.body ≡ 0) → in_transit w before ≡ w e.step.taken.to e.step.taken.body + in_transit w between)
     (into : (w : Place → Body → ℕ) → in_transit w after ≡ in_sends w sends + in_transit w between) where
   abbrev Leads : List Touched → Type 0
   Leads touched =
       (front : List Touched) (u : Touched) (back : List Touched) → touched ≡ front ++ u ∷ back
-      → (cover tx u.key (length front) e.step.taken ≤ in_sends (cover tx u.key (length front)) sends) ⊎ IsDone start now tx u.key
+      → (cover tx u.key (length front) e.step.taken.to e.step.taken.body ≤ in_sends (cover tx u.key (length front)) sends) ⊎ IsDone start now tx u.key
 
-  weight_free : (count : ℕ) → is_request e.step.taken.body ≡ true → weight tx count e.step.taken ≡ 0
-  weight_free count is = part_weight tx count e.step.taken (request_part tx e.step.taken.body is)
+  weight_free : (count : ℕ) → is_request e.step.taken.body ≡ true → weight tx count e.step.taken.to e.step.taken.body ≡ 0
+  weight_free count is = part_weight tx count e.step.taken.to e.step.taken.body (request_part tx e.step.taken.body is)
 
-  cover_free : (key : List ℕ) (i : ℕ) → is_request e.step.taken.body ≡ true → cover tx key i e.step.taken ≡ 0
-  cover_free key i is = part_cover tx key i e.step.taken (request_part tx e.step.taken.body is)
+  cover_free : (key : List ℕ) (i : ℕ) → is_request e.step.taken.body ≡ true → cover tx key i e.step.taken.to e.step.taken.body ≡ 0
+  cover_free key i is = part_cover tx key i e.step.taken.to e.step.taken.body (request_part tx e.step.taken.body is)
 
   covered_stays : (touched : List Touched) → Leads touched → ((front : List Touched) (u : Touched) (back : List Touched) → touched ≡ front ++ u ∷ back → (1 ≤ in_transit (cover tx u.key (length front)) before) ⊎ IsDone start logs tx u.key)
       → (front : List Touched) (u : Touched) (back : List Touched) → touched ≡ front ++ u ∷ back → (1 ≤ in_transit (cover tx u.key (length front)) after) ⊎ IsDone start now tx u.key
   covered_stays touched leads was front u back is = by (was front u back is) (leads front u back is)
     where
       by : (1 ≤ in_transit (cover tx u.key (length front)) before) ⊎ IsDone start logs tx u.key
-          → (cover tx u.key (length front) e.step.taken ≤ in_sends (cover tx u.key (length front)) sends) ⊎ IsDone start now tx u.key
+          → (cover tx u.key (length front) e.step.taken.to e.step.taken.body ≤ in_sends (cover tx u.key (length front)) sends) ⊎ IsDone start now tx u.key
           → (1 ≤ in_transit (cover tx u.key (length front)) after) ⊎ IsDone start now tx u.key
       by (inr d) more = inr (done_stays start logs now e tx f u.key d)
       by (inl some) (inr d) = inr d
       by (inl some) (inl less) = inl (omega (arith, some, less, out (cover tx u.key (length front)) (cover_free u.key (length front)), into (cover tx u.key (length front))))
 
   -- where what is sent weighs no more than what came, and leads where that led
-  pub ahead_stays : (touched : List Touched) (phase : Phase) → in_sends (weight tx (length touched)) sends ≤ weight tx (length touched) e.step.taken → Leads touched
+  pub ahead_stays : (touched : List Touched) (phase : Phase) → in_sends (weight tx (length touched)) sends ≤ weight tx (length touched) e.step.taken.to e.step.taken.body → Leads touched
       → IsAhead start logs before tx touched phase → IsAhead start now after tx touched phase
   ahead_stays touched (Committing epoch awaited) less leads g = record {
     few = g.few;
@@ -118,7 +118,7 @@ module _ (start : Start) (logs now : ℕ → List HostStep) (e : HostStep) (befo
 
   -- where nothing of it is sent, and what came led to nothing
   pub silent_stays : (touched : List Touched) (phase : Phase) → AreSilent tx sends
-      → ((front : List Touched) (u : Touched) (back : List Touched) → touched ≡ front ++ u ∷ back → cover tx u.key (length front) e.step.taken ≡ 0)
+      → ((front : List Touched) (u : Touched) (back : List Touched) → touched ≡ front ++ u ∷ back → cover tx u.key (length front) e.step.taken.to e.step.taken.body ≡ 0)
       → IsAhead start logs before tx touched phase → IsAhead start now after tx touched phase
   silent_stays touched phase silent none g =
       ahead_stays touched phase (omega (arith, parts_light (length touched) (silent_parts silent))) (λ front u back is. inl (omega (arith, none front u back is))) g
@@ -140,8 +140,8 @@ module _ (start : Start) (logs now : ℕ → List HostStep) (e : HostStep) (befo
     off_rows : is_lqh e.step.taken.to.block ≡ false
     off_rows = ap is_lqh at_tc
 
-    next_none : is_next tx e.step.taken.body ≡ false → (key : List ℕ) (i : ℕ) → cover tx key i e.step.taken ≡ 0
-    next_none none key i = aside_cover tx key i e.step.taken off_rows (λ next tc. let both : true ≡ false = sym next ∙ none in absurd cc)
+    next_none : is_next tx e.step.taken.body ≡ false → (key : List ℕ) (i : ℕ) → cover tx key i e.step.taken.to e.step.taken.body ≡ 0
+    next_none none key i = aside_cover tx key i e.step.taken.to e.step.taken.body off_rows (λ next tc. let both : true ≡ false = sym next ∙ none in absurd cc)
 
     own_cont : (one : TxId) (at : ℕ) → e.step.taken.body ≡ Host (Continue (work.Transaction one) at) → same_tx one tx ≡ true
     own_cont one at is = ap (λ b. same_tx (tx_in b) tx) (sym is) ∙ own
@@ -161,10 +161,10 @@ module _ (start : Start) (logs now : ℕ → List HostStep) (e : HostStep) (befo
         going_now = subst (IsAhead start logs before tx t.touched) (sym phase) g
 
         -- the answer of a commit weighs one and leads nowhere
-        answer_weighs : (one : TxId) (key : List ℕ) → e.step.taken.body ≡ Chain (Committed one key) → (count : ℕ) → weight tx count e.step.taken ≡ 1
+        answer_weighs : (one : TxId) (key : List ℕ) → e.step.taken.body ≡ Chain (Committed one key) → (count : ℕ) → weight tx count e.step.taken.to e.step.taken.body ≡ 1
         answer_weighs one key is count = ap (weight tx count e.step.taken.to) is ∙ ap one_if (own_answer one key is)
 
-        answer_covers : (one : TxId) (own_key : List ℕ) → e.step.taken.body ≡ Chain (Committed one own_key) → (key : List ℕ) (i : ℕ) → cover tx key i e.step.taken ≡ 0
+        answer_covers : (one : TxId) (own_key : List ℕ) → e.step.taken.body ≡ Chain (Committed one own_key) → (key : List ℕ) (i : ℕ) → cover tx key i e.step.taken.to e.step.taken.body ≡ 0
         answer_covers one own_key is key i = ap (cover tx key i e.step.taken.to) is
 
         -- with the last answer nothing more is on its way
@@ -214,19 +214,19 @@ module _ (start : Start) (logs now : ℕ → List HostStep) (e : HostStep) (befo
             few true = omega arith
             few false = omega arith
 
-            by : (length front < at) ⊎ (at ≤ length front) → cover tx u.key (length front) e.step.taken ≤ in_sends (cover tx u.key (length front)) sends
+            by : (length front < at) ⊎ (at ≤ length front) → cover tx u.key (length front) e.step.taken.to e.step.taken.body ≤ in_sends (cover tx u.key (length front)) sends
             by (inl late) = omega (arith, ap (cover tx u.key (length front) e.step.taken.to) is, late_cover tx u.key (length front) e.step.taken.to one at late)
             by (inr low) =
                 omega (
                   arith,
-                  few (covers tx u.key (length front) e.step.taken),
+                  few (covers tx u.key (length front) e.step.taken.to e.step.taken.body),
                   ap (in_sends (cover tx u.key (length front))) part,
                   ap (λ us. in_sends (cover tx u.key (length front)) (part_effects node tx (phase_sends layout tx (Committing epoch awaited) us) at).sends) split,
                   part_covers tx node layout epoch awaited at front u back home low,
                 )
 
         part_light : (one : TxId) (at : ℕ) → e.step.taken.body ≡ Host (Continue (work.Transaction one) at) → sends ≡ PartOf at
-            → in_sends (weight tx (length t.touched)) sends ≤ weight tx (length t.touched) e.step.taken
+            → in_sends (weight tx (length t.touched)) sends ≤ weight tx (length t.touched) e.step.taken.to e.step.taken.body
         part_light one at is part =
             omega (
               arith,

@@ -11,6 +11,7 @@ use Rattle.run_theory.proofs.Runs.{log_of-other, log_of-own, logs_of_run}
 use Rattle.world_core.specs.Steps.{HostStep}
 use Rattle.sig_core.specs.declared.mark.Mark.{Mark}
 use Rattle.sig_core.specs.declared.member.TxId.{TxId}
+use Rattle.world_core.specs.Hosts.{home}
 use Rattle.world_core.specs.Machine.{machine}
 use Rattle.world_core.specs.Marks.{has_mark}
 use Rattle.world_core.specs.Start.{Start}
@@ -77,9 +78,9 @@ module _ (start : Start) (es : List HostStep) (e : HostStep) (come : Comes start
       let right = run_is_causal start (e ∷ es) come.now in
       let local = logs_of_run (machine start) (e ∷ es) come.now.run in
       let at : is.step.host ≡ is.host = each_in (λ (f : HostStep). f.host ≡ is.host) is.step (now is.host) (log_home start is.host (now is.host) (local.local is.host)) is.inside in
-      let decides : DecidesRightly now is.step = each_in (DecidesRightly now) is.step (now is.host) (right.decisions is.host) is.inside in
-      let home : is.host ≡ tx.tc = sym at ∙ (decides tx is.marked).to in
-      subst (λ k. has_mark (is_decision tx) (old k) ≡ true) home (in_mark (is_decision tx) is.step (old is.host) (before_it is.step is.host is.below is.inside) is.marked)
+      let decides : DecidesRightly start now is.step = each_in (DecidesRightly start now) is.step (now is.host) (right.decisions is.host) is.inside in
+      let home_is : is.host ≡ home start tx = sym at ∙ (decides tx is.marked).to in
+      subst (λ k. has_mark (is_decision tx) (old k) ≡ true) home_is (in_mark (is_decision tx) is.step (old is.host) (before_it is.step is.host is.below is.inside) is.marked)
 
   -- the newest step took a commit
   taken_decided : ((other : TxId) → kind_of e.step.taken.body ≡ kind.committing other → IsDecidedBelow now other e.step.stamp) → kind_of e.step.taken.body ≡ kind.committing tx → is_decided old tx ≡ true

@@ -1,5 +1,5 @@
 -- What a step of a host does to one transaction as to its epoch.
-use Rattle.std.proofs.Common.{◌≡◌, ℕ, ◌≤◌, List, [], Bool, true, false, refl, ap, ◌∙◌, arith}
+use Rattle.std.proofs.Common.{◌≡◌, ℕ, ◌≤◌, List, [], Bool, true, false, refl, sym, ap, ◌∙◌, subst, arith}
 use Rattle.std.specs.Prelude.{length, nat_lt, Some}
 use Rattle.run_theory.specs.Lists.{Each}
 use Rattle.run_theory.proofs.Pasts.{each_map}
@@ -7,13 +7,12 @@ use Rattle.sig_core.specs.declared.member.TxId.{TxId}
 use Rattle.sig_core.specs.declared.op.Answer.{Answer}
 use Rattle.sig_core.specs.declared.op.Op.{Op}
 use Rattle.sig_core.specs.declared.outs.Outgoing.{Outgoing}
-use Rattle.sig_core.specs.declared.place.BlockId.{BlockId}
-use Rattle.sig_core.specs.declared.place.BlockId.TheVariants as block
-use Rattle.sig_core.specs.declared.place.Place.{Place}
 use Rattle.sig_core.specs.declared.signal.Body.{Body}
 use Rattle.sig_core.specs.declared.signal.Body.TheVariants.{Epoch}
 use Rattle.sig_core.specs.declared.signal.epoch.EpochSignal.TheVariants.{DiVerifyReq, DiVerifyConf}
+use Rattle.sig_core.specs.declared.signal.Signal.{Signal}
 use Rattle.sig_core.specs.Same.{same_tx}
+use Rattle.sig_core.specs.Step.{Effects, Step, nothing}
 use Rattle.api_block.specs.Api.{api_table}
 use Rattle.api_block.specs.State.{ApiState}
 use Rattle.lqh_block.specs.Lqh.{lqh_table}
@@ -21,36 +20,31 @@ use Rattle.lqh_block.specs.State.{LqhState}
 use Rattle.tc_block.specs.declared.transaction.Transaction.{Transaction}
 use Rattle.tc_block.specs.Operate.{fresh}
 use Rattle.tc_block.specs.State.{TcState}
-use Rattle.tc_block.specs.Tc.{next_tx, tc_table}
+use Rattle.tc_block.specs.Tc.{next_tx, tc_row}
 use Rattle.tc_block.specs.Turn.{Turn}
 use Rattle.node_core.specs.declared.host.Host.{Host}
-use Rattle.node_core.specs.declared.host.Host.TheVariants.{Shell, Node}
-use Rattle.node_core.specs.declared.node.Node as node
+use Rattle.node_core.proofs.HostCases.{BlockCase, IsTcStep, api_takes, block_case, dih_takes, none_takes, rows_take, tc_takes}
+use Rattle.node_core.specs.Blocks.{api_of, dih_of, has_tc, lqh_of, tc_of}
 use Rattle.node_core.specs.Dih.{DihState, decide_if, decide_row, dih_table}
-use Rattle.node_core.specs.Row.{node_row, row, shell_row}
+use Rattle.node_core.specs.Row.{row}
 use Rattle.commit_laws.specs.Ways.{tc_sends}
 use Rattle.answer_laws.proofs.LqhSends.{lqh_kinds}
 use Rattle.answer_laws.proofs.SendKinds.{each_of, is_lqh_kind}
 use Rattle.answer_laws.proofs.ApiMoves.{is_api_kind}
-use Rattle.commit_laws.specs.Counts.{one_if, tally}
-use Rattle.answer_laws.proofs.TcLives.{IsOwn, is_keyed}
+use Rattle.commit_laws.specs.Counts.{one_if}
 use Rattle.transit_laws.specs.Live.{of_host, of_live}
+use Rattle.transit_laws.proofs.HomeSteps.{IsHome}
 use Rattle.transit_laws.proofs.TcAsks.{AreMute, AskTurn, is_ask, is_mute}
 use Rattle.transit_laws.proofs.TcAskTurns as asks
 use Rattle.transit_laws.proofs.TcAskTurns.{AskSeen, AskSees, ask, mute_none, tc_ask_sees}
 use Rattle.transit_laws.proofs.TcCircle.{GoesOn, left_by}
+use Rattle.transit_laws.proofs.TcSaid.{tc_speaks}
 use Rattle.transit_laws.proofs.WaysPassed.{api_each}
 use Rattle.transit_laws.proofs.Weighing.{in_sends, none_weighs}
 
 -- the number of the transaction isn't given yet
 abbrev pub IsUnborn : ℕ → Host → Type 0
-IsUnborn seq (Shell s) = ⊥
-IsUnborn seq (Node n) = n.tc.next_seq ≤ seq
-
--- a coordinator's transactions have its numbers, and this one stands there once at most
-pub record IsHome (tx : TxId) (s : TcState) : Type 0 where
-  pub own : Each (λ (e : TxId × Transaction). IsOwn s.node s.next_seq e.0) s.live
-  pub once : tally (is_keyed tx) s.live ≤ 1
+IsUnborn seq host = (tc_of host).next_seq ≤ seq
 
 module _ (tx : TxId) where
   -- an epoch is asked for with these operations, if for this transaction
@@ -112,33 +106,46 @@ module _ (tx : TxId) where
     pub unborn : IsUnborn tx.seq after → IsUnborn tx.seq s
 
   -- or gives it a turn, or begins it
-  pub data HostAsks (s : Host) (at : BlockId) (body : Body) (after : Host) (sends : List Outgoing) : Type 0 where
-    leaves : Leaves s body after sends → HostAsks s at body after sends
-    turned : (n : node.Node) (t : Transaction) (turn : Turn) → s ≡ Node n → of_live tx n.tc.live ≡ Some t → of_host tx after ≡ left_by turn → sends ≡ turn.step.effects.sends
-        → tc_sends s at body ≡ turn.step.effects.sends → (IsUnborn tx.seq after → IsUnborn tx.seq s) → AskTurn tx body t turn → GoesOn tx body t turn → HostAsks s at body after sends
-    begun : (n : node.Node) → s ≡ Node n → next_tx n.tc ≡ tx → of_host tx after ≡ Some fresh → in_sends (ask tx) sends ≡ 0 → HostAsks s at body after sends
+  pub data HostAsks (s : Host) (x : Signal) (after : Host) (sends : List Outgoing) : Type 0 where
+    leaves : Leaves s x.body after sends → HostAsks s x after sends
+    turned : has_tc s ≡ true → (t : Transaction) (turn : Turn) → of_host tx s ≡ Some t → of_host tx after ≡ left_by turn → sends ≡ turn.step.effects.sends
+        → tc_sends s x ≡ turn.step.effects.sends → (IsUnborn tx.seq after → IsUnborn tx.seq s) → AskTurn tx x.body t turn → GoesOn tx x.body t turn → HostAsks s x after sends
+    begun : has_tc s ≡ true → next_tx (tc_of s) ≡ tx → of_host tx after ≡ Some fresh → in_sends (ask tx) sends ≡ 0 → HostAsks s x after sends
 
-  tc_step : (n : node.Node) (body : Body) (after : TcState) (sends : List Outgoing) → (tc_table n.tc body).effects.sends ≡ sends → n.tc.next_seq ≤ after.next_seq → AskSeen tx n.tc body after sends
-      → HostAsks (Node n) block.Tc body (Node (record { tc = after; dih = n.dih; lqh = n.lqh })) sends
-  tc_step n body after sends own grows (asks.same live none) = leaves (record { passes = none_pass body sends none; live = live; unborn = λ low. omega (arith, low, grows) })
-  tc_step n body after sends own grows (asks.turned t turn was is sent ask_turn goes) = turned n t turn refl was is sent (own ∙ sent) (λ low. omega (arith, low, grows)) ask_turn goes
-  tc_step n body after sends own grows (asks.begun next is none) = begun n refl next is none
+  module _ (s : Host) (x : Signal) where
+    -- a step of another block leaves it
+    other_leaves : (t : Step Host) → tc_of t.state ≡ tc_of s → (effects : Effects) → t.effects ≡ effects → PassesOn x.body effects.sends → HostAsks s x t.state t.effects.sends
+    other_leaves t same effects is passes = leaves (record {
+      passes = subst (λ (f : Effects). PassesOn x.body f.sends) (sym is) passes;
+      live = ap (λ (c : TcState). of_live tx c.live) same;
+      unborn = λ low. omega (arith, low, ap (λ (c : TcState). c.next_seq) same);
+    })
 
-  node_asks : (n : node.Node) (at : BlockId) (body : Body) → IsHome tx n.tc → HostAsks (Node n) at body (Node (node_row n at body).state) (node_row n at body).effects.sends
-  unfolding node_row
-  node_asks n block.Tc body home =
-      let sees = tc_ask_sees tx n.tc home.own home.once body in
-      tc_step n body (tc_table n.tc body).state (tc_table n.tc body).effects.sends refl sees.grows sees.seen
-  node_asks n block.Dih body home = leaves (record { passes = dih_pass n.dih body; live = refl; unborn = λ low. low })
-  node_asks n block.Lqh body home = leaves (record { passes = lqh_pass n.lqh body; live = refl; unborn = λ low. low })
-  node_asks n _ body home = leaves (record { passes = none_pass body [] refl; live = refl; unborn = λ low. low })
+    tc_step : (t : Step Host) → IsTcStep s x t → AskSees tx (tc_of s) x.body (tc_row (tc_of s) x) → HostAsks s x t.state t.effects.sends
+    tc_step t step sees = by sees.seen
+      where
+        now : of_host tx t.state ≡ of_live tx (tc_row (tc_of s) x).state.live
+        now = ap (λ (c : TcState). of_live tx c.live) step.state
 
-  shell_asks : (s : ApiState) (at : BlockId) (body : Body) → HostAsks (Shell s) at body (Shell (shell_row s at body).state) (shell_row s at body).effects.sends
-  unfolding shell_row
-  shell_asks s block.Api body = leaves (record { passes = api_pass s body; live = refl; unborn = λ low. low })
-  shell_asks s _ body = leaves (record { passes = none_pass body [] refl; live = refl; unborn = λ low. low })
+        sent : t.effects.sends ≡ (tc_row (tc_of s) x).effects.sends
+        sent = ap (λ (f : Effects). f.sends) step.effects
 
-  pub host_asks : (s : Host) (to : Place) (body : Body) → ((n : node.Node) → s ≡ Node n → IsHome tx n.tc) → HostAsks s to.block body (row s to body).state (row s to body).effects.sends
-  unfolding row
-  host_asks (Shell s) to body home = shell_asks s to.block body
-  host_asks (Node n) to body home = node_asks n to.block body (home n refl)
+        unborn : IsUnborn tx.seq t.state → IsUnborn tx.seq s
+        unborn low = omega (arith, low, sees.grows, ap (λ (c : TcState). c.next_seq) step.state)
+
+        by : AskSeen tx (tc_of s) x.body (tc_row (tc_of s) x).state (tc_row (tc_of s) x).effects.sends → HostAsks s x t.state t.effects.sends
+        by (asks.same live none) = leaves (record { passes = none_pass x.body t.effects.sends (ap (in_sends (ask tx)) sent ∙ none); live = now ∙ live; unborn = unborn })
+        by (asks.turned u turn was is told ask_turn goes) =
+            turned step.runs u turn was (now ∙ is) (sent ∙ told) (tc_speaks s x step.runs step.at ∙ told) unborn ask_turn goes
+        by (asks.begun next is none) = begun step.runs next (now ∙ is) (ap (in_sends (ask tx)) sent ∙ none)
+
+    asks_by : (t : Step Host) → IsHome tx (tc_of s) → BlockCase s x t → HostAsks s x t.state t.effects.sends
+    asks_by t home (api_takes step) = other_leaves t step.tc (api_table (api_of s) x.body).effects step.effects (api_pass (api_of s) x.body)
+    asks_by t home (tc_takes step) = tc_step t step (tc_ask_sees tx (tc_of s) home.own home.once x.body)
+    asks_by t home (dih_takes step) = other_leaves t step.tc (dih_table (dih_of s) x.body).effects step.effects (dih_pass (dih_of s) x.body)
+    asks_by t home (rows_take step) = other_leaves t step.tc (lqh_table (lqh_of s) x.body).effects step.effects (lqh_pass (lqh_of s) x.body)
+    asks_by t home (none_takes step) =
+        other_leaves t (ap (λ (u : Step Host). tc_of u.state) step.is) nothing (ap (λ (u : Step Host). u.effects) step.is) (none_pass x.body [] refl)
+
+    pub host_asks : IsHome tx (tc_of s) → HostAsks s x (row s x).state (row s x).effects.sends
+    host_asks home = asks_by (row s x) home (block_case s x)

@@ -8,17 +8,17 @@ use Rattle.run_theory.specs.Lists.{Each}
 use Rattle.sig_core.specs.declared.mark.Mark.{Mark}
 use Rattle.sig_core.specs.declared.member.Member.{Member}
 use Rattle.sig_core.specs.declared.member.TxId.{TxId}
-use Rattle.sig_core.specs.declared.place.BlockId.{BlockId}
 use Rattle.sig_core.specs.declared.place.BlockId.TheVariants as block
-use Rattle.sig_core.specs.declared.place.Place.{Place}
 use Rattle.sig_core.specs.declared.rows.PendingRecord.{PendingRecord}
 use Rattle.sig_core.specs.declared.signal.Body.{Body}
 use Rattle.sig_core.specs.declared.signal.Body.TheVariants.{Host, Chain}
+use Rattle.sig_core.specs.declared.signal.Signal.{Signal}
 use Rattle.sig_core.specs.declared.signal.chain.ChainSignal.TheVariants.{LqhKeyReq, LqhKeyConf, LqhKeyRef, Commit, Complete, Abort}
 use Rattle.sig_core.specs.declared.signal.host.HostSignal.TheVariants.{Round, Continue}
 use Rattle.sig_core.specs.declared.signal.host.Work.TheVariants as work
 use Rattle.sig_core.specs.Rows.{record_of, record_state, state_by}
 use Rattle.sig_core.specs.Same.{same_key, same_tx}
+use Rattle.sig_core.specs.Step.{Effects}
 use Rattle.sig_core.proofs.TxLemmas.{same_tx-is}
 use Rattle.row_locks.specs.Rounds.{expired}
 use Rattle.lqh_block.specs.Commit as commit
@@ -28,9 +28,10 @@ use Rattle.lqh_block.specs.Operate.{is_granted}
 use Rattle.lqh_block.specs.State.{LqhState}
 use Rattle.lqh_block.specs.Work.{work_key}
 use Rattle.node_core.specs.declared.host.Host as host
-use Rattle.node_core.specs.declared.host.Host.TheVariants.{Shell, Node}
+use Rattle.node_core.specs.declared.host.Host.TheVariants.{Ldm}
+use Rattle.node_core.specs.Blocks.{lqh_of}
 use Rattle.node_core.specs.Requests.{is_request}
-use Rattle.node_core.specs.Row.{node_row, row}
+use Rattle.node_core.specs.Row.{row}
 use Rattle.world_core.specs.History.{is_applied}
 use Rattle.sig_core.specs.Firsts.{first}
 use Rattle.commit_laws.specs.Primary.{HasPrepared}
@@ -41,6 +42,7 @@ use Rattle.commit_laws.proofs.EachEntry.{each_filter}
 use Rattle.commit_laws.proofs.RecordsAt.{first-found, record_of-first}
 use Rattle.transit_laws.specs.Tokens.{is_token, waiting_in}
 use Rattle.transit_laws.proofs.RecordsFade.{Fading, IsHarmless, commit_ends, is_committed, is_completed, stays}
+use Rattle.transit_laws.proofs.RowsEvents.{EventCase, event_case, no_event, of_rows, rows_event}
 use Rattle.transit_laws.proofs.Weighing.{none_passes}
 
 module _ (tx : TxId) where
@@ -77,16 +79,13 @@ module _ (tx : TxId) where
       by (Some wait) = harmless_if wait.1 key _ (at_key key s) (λ e. tt)
   harmless_at key s _ token none aborts_not = tt
 
-  pub harmless_in : (key : List ℕ) (g : host.Host) (to : Place) (body : Body) → is_token tx body ≡ false → waiting_in tx g ≡ 0
-      → ((one : TxId) (own : List ℕ) → body ≡ Chain (Abort one own) → same_tx one tx ≡ false) → IsHarmless tx (key_in key g) (event_in key g to body)
-  harmless_in key (Shell s) to body token none aborts_not = tt
-  harmless_in key (Node n) to body token none aborts_not = by to.block
+  pub harmless_in : (key : List ℕ) (g : host.Host) (x : Signal) → is_token tx x.body ≡ false → waiting_in tx g ≡ 0
+      → ((one : TxId) (own : List ℕ) → x.body ≡ Chain (Abort one own) → same_tx one tx ≡ false) → IsHarmless tx (key_in key g) (event_in key g x)
+  harmless_in key g x token none aborts_not = by (event_case key g x)
     where
-      by : (at : BlockId) → IsHarmless tx (at_key key n.lqh) (event_in key (Node n) (record { node = to.node; block = at }) body)
-      by block.Lqh = harmless_at key n.lqh body token (none_passes (λ (q : Request). same_tx q.tx tx) n.lqh.waiting none) aborts_not
-      by block.Tc = tt
-      by block.Dih = tt
-      by _ = tt
+      by : EventCase key g x (row g x) → IsHarmless tx (key_in key g) (event_in key g x)
+      by (of_rows step is) = subst (IsHarmless tx (key_in key g)) (sym is) (harmless_at key (lqh_of g) x.body token (none_passes (λ (q : Request). same_tx q.tx tx) (lqh_of g).waiting none) aborts_not)
+      by (no_event is) = subst (IsHarmless tx (key_in key g)) (sym is) tt
 
   -- only a commit is one
   no_if : (own key : List ℕ) (event : Event) (v : TxId) (last : Bool) → (event ≡ commits v last → ⊥) → if_on own key event ≡ commits v last → ⊥
@@ -161,31 +160,28 @@ module _ (tx : TxId) where
           none r = cc
   lqh_primary s body key (is_committed v last event_is same is) ends h = absurd (no_commits key s body v last refl event_is)
 
-  pub primary_step : (g : host.Host) (to : Place) (body : Body) (key : List ℕ) → Fading tx (event_in key g to body) (key_in key g).cell.pending (key_after (event_in key g to body) (key_in key g)).cell.pending
-      → ((one : TxId) (own : List ℕ) (epoch : ℕ) (chain : List Member) (at : ℕ) → body ≡ Chain (Commit one own epoch chain at) → own ≡ key → (at == 0) ≡ true)
+  -- a record that was prepared stays so, or its commit is marked
+  abbrev pub StaysOrMarks : Replica → Event → List Mark → Type 0
+  StaysOrMarks r event marks = HasPrepared tx (key_after event r).cell.pending ⊎ (list_any (is_applied tx) marks ≡ true)
+
+  pub primary_step : (g : host.Host) (x : Signal) (key : List ℕ) → Fading tx (event_in key g x) (key_in key g).cell.pending (key_after (event_in key g x) (key_in key g)).cell.pending
+      → ((one : TxId) (own : List ℕ) (epoch : ℕ) (chain : List Member) (at : ℕ) → x.body ≡ Chain (Commit one own epoch chain at) → own ≡ key → (at == 0) ≡ true)
       → HasPrepared tx (key_in key g).cell.pending
-      → HasPrepared tx (key_after (event_in key g to body) (key_in key g)).cell.pending ⊎ (list_any (is_applied tx) (row g to body).effects.marks ≡ true)
-  unfolding row node_row
-  primary_step (Shell s) to body key f ends h = inl h
-  primary_step (Node n) to body key f ends h = by to.block f
+      → StaysOrMarks (key_in key g) (event_in key g x) (row g x).effects.marks
+  primary_step g x key f ends h = by (event_case key g x)
     where
-      by : (at : BlockId) → Fading tx (event_in key (Node n) (record { node = to.node; block = at }) body) (at_key key n.lqh).cell.pending (key_after (event_in key (Node n) (record { node = to.node; block = at }) body) (at_key key n.lqh)).cell.pending
-          → HasPrepared tx (key_after (event_in key (Node n) (record { node = to.node; block = at }) body) (at_key key n.lqh)).cell.pending ⊎ (list_any (is_applied tx) (node_row n at body).effects.marks ≡ true)
-      by block.Lqh f = lqh_primary n.lqh body key f ends h
-      by block.Tc f = inl h
-      by block.Dih f = inl h
-      by _ f = inl h
+      by : EventCase key g x (row g x) → StaysOrMarks (key_in key g) (event_in key g x) (row g x).effects.marks
+      by (of_rows step is) =
+          subst (λ event. StaysOrMarks (key_in key g) event (row g x).effects.marks) (sym is)
+          (subst (λ (effects : Effects). StaysOrMarks (key_in key g) (event_at key (lqh_of g) x.body) effects.marks) (sym step.effects)
+          (lqh_primary (lqh_of g) x.body key (subst (λ event. Fading tx event (key_in key g).cell.pending (key_after event (key_in key g)).cell.pending) is f) ends h))
+      by (no_event is) = subst (λ event. StaysOrMarks (key_in key g) event (row g x).effects.marks) (sym is) (inl h)
 
   -- where the last commit comes nothing stays prepared
-  pub last_step : (g : host.Host) (to : Place) (one : TxId) (own key : List ℕ) (epoch : ℕ) (chain : List Member) (at : ℕ) → to.block ≡ block.Lqh → same_tx one tx ≡ true → same_key own key ≡ true
-      → HasPrepared tx (key_after (event_in key g to (Chain (Commit one own epoch chain at))) (key_in key g)).cell.pending → ⊥
-  last_step (Shell s) to one own key epoch chain at home same same_own h = let none : None ≡ Some h.record_is = h.there in cc
-  last_step (Node n) to one own key epoch chain at home same same_own h =
-      commit_ends tx one (at == 0) (at_key key n.lqh) same
-      (subst (λ (ev : Event). HasPrepared tx (key_after ev (at_key key n.lqh)).cell.pending) (is_there to.block home ∙ ap (λ b. if b then commits one (at == 0) else rests) same_own) h)
-    where
-      is_there : (b : BlockId) → b ≡ block.Lqh → event_in key (Node n) (record { node = to.node; block = b }) (Chain (Commit one own epoch chain at)) ≡ if_on own key (commits one (at == 0))
-      is_there block.Lqh e = refl
-      is_there block.Tc e = cc
-      is_there block.Dih e = cc
-      is_there _ e = cc
+  pub last_step : (g : host.Host) (x : Signal) (one : TxId) (own key : List ℕ) (epoch : ℕ) (chain : List Member) (at : ℕ) → x.body ≡ Chain (Commit one own epoch chain at)
+      → x.to.block ≡ block.Lqh → same_tx one tx ≡ true → same_key own key ≡ true → HasPrepared tx (key_after (event_in key g x) (key_in key g)).cell.pending → ⊥
+  last_step (Ldm s) x one own key epoch chain at is home same same_own h =
+      commit_ends tx one (at == 0) (at_key key s) same
+      (subst (λ (ev : Event). HasPrepared tx (key_after ev (at_key key s)).cell.pending)
+      (rows_event key (Ldm s) x refl home ∙ ap (event_at key s) is ∙ ap (λ b. if b then commits one (at == 0) else rests) same_own) h)
+  last_step _ x one own key epoch chain at is home same same_own h = let none : None ≡ Some h.record_is = h.there in cc

@@ -1,18 +1,16 @@
--- The shell's host and the block of epochs commit and complete no rows.
+-- The API and the block of epochs commit and complete no rows.
 use Rattle.std.proofs.Common.{◌≡◌, List, true, refl, sym, subst}
 use Rattle.sig_core.specs.declared.member.TxId.{TxId}
 use Rattle.sig_core.specs.declared.outs.Outgoing.{Outgoing}
-use Rattle.sig_core.specs.declared.place.BlockId.{BlockId}
-use Rattle.sig_core.specs.declared.place.BlockId.TheVariants as block
 use Rattle.sig_core.specs.declared.signal.Body.{Body}
 use Rattle.sig_core.specs.declared.signal.Body.TheVariants.{Host, Client, Epoch}
 use Rattle.sig_core.specs.declared.signal.client.ClientSignal.TheVariants.{TcKeyReq, TcCommitReq, TcRollbackReq, TcWaitReq, TcCommitAck, DumpReq}
 use Rattle.sig_core.specs.declared.signal.host.HostSignal.TheVariants.{Round}
 use Rattle.sig_core.specs.declared.view.View.{View}
 use Rattle.api_block.specs.declared.opened.OpenTransaction.{OpenTransaction}
+use Rattle.api_block.specs.Api.{api_table}
 use Rattle.api_block.specs.State.{ApiState}
 use Rattle.node_core.specs.Dih.{DihState, dih_table}
-use Rattle.node_core.specs.Row.{shell_row}
 use Rattle.answer_laws.proofs.ApiMoves.{ApiMove, api_moves, begun_as, ends, goes, is_api_kind, opens, refuses, rests}
 use Rattle.answer_laws.proofs.DihSends.{dih_kinds}
 use Rattle.answer_laws.proofs.SendKinds.{are_of, is_dih_kind, of_kind}
@@ -34,21 +32,19 @@ dih_plain (Epoch x) e = refl
 dih_plain _ e = cc
 
 module _ (tx : TxId) where
-  api_silent : (sends : List Outgoing) → are_of is_api_kind sends ≡ true → AreSilent tx sends
-  api_silent sends kind = plain_silent tx sends (of_kind is_api_kind is_plain api_plain sends kind)
+  kind_silent : (sends : List Outgoing) → are_of is_api_kind sends ≡ true → AreSilent tx sends
+  kind_silent sends kind = plain_silent tx sends (of_kind is_api_kind is_plain api_plain sends kind)
 
   move_silent : (s : ApiState) (body : Body) (after : View × List OpenTransaction) (sends : List Outgoing) → ApiMove s body after sends → AreSilent tx sends
-  move_silent s body after sends (rests is kind void) = api_silent sends kind
+  move_silent s body after sends (rests is kind void) = kind_silent sends kind
   move_silent s body after sends (opens other at op new request is told) = subst (AreSilent tx) (sym told) (refl, tt)
-  move_silent s body after sends (begun_as other one front t u back about passes begun was is kind) = api_silent sends kind
-  move_silent s body after sends (goes front t u back go void was is kind) = api_silent sends kind
-  move_silent s body after sends (ends one front t back about passes was is kind) = api_silent sends kind
-  move_silent s body after sends (refuses other front t back about passes was is kind) = api_silent sends kind
+  move_silent s body after sends (begun_as other one front t u back about passes begun was is kind) = kind_silent sends kind
+  move_silent s body after sends (goes front t u back go void was is kind) = kind_silent sends kind
+  move_silent s body after sends (ends one front t back about passes was is kind) = kind_silent sends kind
+  move_silent s body after sends (refuses other front t back about passes was is kind) = kind_silent sends kind
 
-  pub shell_silent : (s : ApiState) (at : BlockId) (body : Body) → AreSilent tx (shell_row s at body).effects.sends
-  unfolding shell_row
-  shell_silent s block.Api body = move_silent s body _ _ (api_moves s body)
-  shell_silent s _ body = tt
+  pub api_silent : (s : ApiState) (body : Body) → AreSilent tx (api_table s body).effects.sends
+  api_silent s body = move_silent s body _ _ (api_moves s body)
 
   pub dih_silent : (s : DihState) (body : Body) → AreSilent tx (dih_table s body).effects.sends
   dih_silent s body = plain_silent tx (dih_table s body).effects.sends (of_kind is_dih_kind is_plain dih_plain (dih_table s body).effects.sends (dih_kinds s body))

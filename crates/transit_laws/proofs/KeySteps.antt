@@ -11,7 +11,6 @@ use Rattle.sig_core.specs.declared.op.Op.{Op}
 use Rattle.sig_core.specs.declared.outs.Outgoing.{Outgoing}
 use Rattle.sig_core.specs.declared.signal.chain.RowWork.{RowWork}
 use Rattle.sig_core.specs.declared.signal.chain.RowWork.TheVariants.{Operate, Store}
-use Rattle.sig_core.specs.Chain.{node_at}
 use Rattle.sig_core.specs.Same.{same_tx}
 use Rattle.row_locks.specs.declared.mode.Lock.{Lock}
 use Rattle.row_locks.specs.declared.mode.Lock.TheVariants.{Granted, Queued}
@@ -20,8 +19,8 @@ use Rattle.lqh_block.specs.declared.request.Request.{Request}
 use Rattle.lqh_block.specs.Work.{work_key, work_mode}
 use Rattle.node_core.specs.Requests.{is_request}
 use Rattle.tc_block.specs.declared.transaction.Transaction.{Transaction}
+use Rattle.world_core.specs.Hosts.{first_membership, rows_host}
 use Rattle.world_core.specs.Machine.{sent_count, signals_of, step_after}
-use Rattle.frag_map.specs.Layout.{first_view}
 use Rattle.world_core.specs.Start.{Start}
 use Rattle.sig_core.specs.Firsts.{first}
 use Rattle.commit_laws.specs.PrimaryEvents.{ended_after, made_after, made_by, made_if, made_served}
@@ -31,7 +30,7 @@ use Rattle.commit_laws.specs.Replica as replica
 use Rattle.sig_core.proofs.Keys.{same_tx-self}
 use Rattle.transit_laws.specs.Circle.{at_primary}
 use Rattle.transit_laws.specs.Live.{live_at}
-use Rattle.transit_laws.specs.Routes.{IsRequestRouted, primary, replicas}
+use Rattle.transit_laws.specs.Routes.{IsRequestRouted, primary_host, replicas}
 use Rattle.transit_laws.specs.Tokens.{is_token}
 use Rattle.transit_laws.specs.Transit.{AreInTransit, Comes, Takes, joined, logs_of}
 use Rattle.transit_laws.proofs.CircleKept.{IsGoing, SignalTells, queued_going, rests_going, sent_going}
@@ -41,6 +40,7 @@ use Rattle.transit_laws.proofs.KeyTokens.{Token, asked_tokens, event_tokens, if_
 use Rattle.transit_laws.proofs.OnlyToken.{IsOnly, one_sent}
 use Rattle.transit_laws.proofs.OthersStay.{event_of, filter-end, is_of, of_first, waits_of}
 use Rattle.transit_laws.proofs.Performing.{IsPerformed, performed_tells}
+use Rattle.transit_laws.proofs.RoutedEvents.{IsPlaced, placed}
 use Rattle.transit_laws.proofs.TcCircle.{is_early}
 use Rattle.transit_laws.proofs.TransitLists.{Told, sent_some, takes_more, tally_headed, uncounted}
 use Rattle.transit_laws.proofs.Weighing.{each_taken}
@@ -111,35 +111,38 @@ module _ (start : Start) (es : List HostStep) (e : HostStep) (tx : TxId) (key : 
       → IsOnly tx key start (e ∷ es) come.now (joined sent between) transit_now t live early sent between
   only token is =
       one_sent tx key start (e ∷ es) come.now (joined sent between) transit_now t live early sent between refl
-      (subst (λ k. 1 ≤ k) (sym (tally_headed (is_token tx) (first_view start.shape.nodes) n e.step.stamp (sent_count start n (logs_of start es n)) sends)) (sent_some tx key sends token [] is))
+      (subst (λ k. 1 ≤ k) (sym (tally_headed (is_token tx) (first_membership start) n e.step.stamp (sent_count start n (logs_of start es n)) sends)) (sent_some tx key sends token [] is))
 
   ended_same : ended_after event (answered_here start es e tx key) tx ≡ (at_primary start (logs_of start es) key).ended tx → (view_now start es e tx key).ended ≡ (view_before start es e tx key).ended
-  ended_same is = by (cases_eq n (primary start key))
+  ended_same is = by (cases_eq n (primary_host start key))
     where
-      by : (n ≡ primary start key) ⊎ (n ≢ primary start key) → (view_now start es e tx key).ended ≡ (view_before start es e tx key).ended
+      by : (n ≡ primary_host start key) ⊎ (n ≢ primary_host start key) → (view_now start es e tx key).ended ≡ (view_before start es e tx key).ended
       by (inl at) = ended_here start es e tx key at ∙ is
       by (inr off) = ended_other start es e tx key off
 
   -- an event that isn't of the transaction
-  pub off_going : is_of tx (event_of event r) ≡ false → token_of tx key e.step.taken ≡ None → tokens_of tx key sends ≡ event_tokens tx event r → Going → GoesOn
+  pub off_going : is_of tx (event_of event r) ≡ false → token_of tx key e.step.taken.to e.step.taken.body ≡ None → tokens_of tx key sends ≡ event_tokens tx event r → Going → GoesOn
   off_going off taken is going =
-      rests_going start tx key (view_before start es e tx key) (view_now start es e tx key) t e before between takes (first_view start.shape.nodes) n e.step.stamp (sent_count start n (logs_of start es n)) sends going
+      rests_going start tx key (view_before start es e tx key) (view_now start es e tx key) t e before between takes (first_membership start) n e.step.stamp (sent_count start n (logs_of start es n)) sends going
       (others_like start es e tx key off) (inl taken) (is ∙ off_tokens tx event r off)
 
   -- a request that is performed
-  performs_going : (q : Request) (refused : Bool) → IsRequestRouted start n q → work_key q.work ≡ key
+  performs_going : (q : Request) (refused : Bool) (node : ℕ) → n ≡ rows_host start node → IsRequestRouted start node q → work_key q.work ≡ key
       → found tx (key_after event r).cell.pending ≡ found tx (worked r.cell tx refused q.work).pending
       → made_after event (answered_here start es e tx key) tx ≡ made_by made r.cell tx refused q.work tx
       → ended_after event (answered_here start es e tx key) tx ≡ (at_primary start (logs_of start es) key).ended tx
       → tokens_of tx key sends ≡ work_token r.cell tx q.chain q.at refused q.work ∷ []
       → Tells start key (view_before start es e tx key) t (performs q.work q.at) → Going → GoesOn
-  performs_going q refused routed own here made_is ended_is is told going =
-      sent_going start tx key (view_now start es e tx key) t between (first_view start.shape.nodes) n e.step.stamp (sent_count start n (logs_of start es n)) sends token going.asked now one.signals one.waits
+  performs_going q refused node at_node routed own here made_is ended_is is told going =
+      sent_going start tx key (view_now start es e tx key) t between (first_membership start) n e.step.stamp (sent_count start n (logs_of start es n)) sends token going.asked now one.signals one.waits
       (performed_tells start tx key (view_before start es e tx key) (view_now start es e tx key) t n r.cell q.work refused made q.at
-      (subst (λ chain. q.at < length chain) chain_is routed.sent.inside) (routed.sent.node_is ∙ ap (λ chain. node_at chain q.at) chain_is) routed.work performed told)
+      place.inside place.host_is routed.work performed told)
     where
       chain_is : q.chain ≡ replicas start key
       chain_is = routed.chain ∙ ap (replicas start) own
+
+      place : IsPlaced start n key q.at
+      place = placed start n node key q.chain q.at at_node chain_is routed.sent
 
       token : Token
       token = work_token r.cell tx (replicas start key) q.at refused q.work
@@ -168,13 +171,13 @@ module _ (start : Start) (es : List HostStep) (e : HostStep) (tx : TxId) (key : 
   own_token v token is = ap (λ b. if b then token ∷ [] else []) (is_own v is)
 
   -- a request that comes: it is performed, or waits
-  pub asked_going : (q : Request) (refused : Bool) → event ≡ asks q refused → q.tx ≡ tx → work_key q.work ≡ key → IsRequestRouted start n q → is_request e.step.taken.body ≡ false
-      → token_of tx key e.step.taken ≡ Some (performs q.work q.at) → tokens_of tx key sends ≡ event_tokens tx event r → Going → GoesOn
-  asked_going q refused event_is q_is own routed given taken is going = by (asked r.lock q.tx (work_mode q.work)).answer refl
+  pub asked_going : (q : Request) (refused : Bool) (node : ℕ) → event ≡ asks q refused → q.tx ≡ tx → work_key q.work ≡ key → n ≡ rows_host start node → IsRequestRouted start node q → is_request e.step.taken.body ≡ false
+      → token_of tx key e.step.taken.to e.step.taken.body ≡ Some (performs q.work q.at) → tokens_of tx key sends ≡ event_tokens tx event r → Going → GoesOn
+  asked_going q refused node event_is q_is own at_node routed given taken is going = by (asked r.lock q.tx (work_mode q.work)).answer refl
     where
       by : (a : Lock) → (asked r.lock q.tx (work_mode q.work)).answer ≡ a → GoesOn
       by Granted a_is =
-          performs_going q refused routed own
+          performs_going q refused node at_node routed own
           (ap (λ event. found tx (key_after event r).cell.pending) event_is ∙ ap (λ a. found tx (asked_by r (asked r.lock q.tx (work_mode q.work)).lock q refused a).cell.pending) a_is
           ∙ ap (λ v. found tx (worked r.cell v refused q.work).pending) q_is)
           (ap (λ event. made_after event (answered_here start es e tx key) tx) event_is ∙ ap (λ a. made_if (answered_here start es e tx key) q refused a tx) a_is
@@ -185,7 +188,7 @@ module _ (start : Start) (es : List HostStep) (e : HostStep) (tx : TxId) (key : 
           (subst (Told tx key (Tells start key (view_before start es e tx key) t)) taken (each_taken (SignalTells start tx key (view_before start es e tx key) t) e before between given takes going.signals))
           going
       by (Queued ahead) a_is =
-          queued_going start tx key (view_before start es e tx key) (view_now start es e tx key) t e before between takes (first_view start.shape.nodes) n e.step.stamp (sent_count start n (logs_of start es n)) sends going
+          queued_going start tx key (view_before start es e tx key) (view_now start es e tx key) t e before between takes (first_membership start) n e.step.stamp (sent_count start n (logs_of start es n)) sends going
           (view_as start es e tx key
           (ap (λ event. found tx (key_after event r).cell.pending) event_is ∙ ap (λ a. found tx (asked_by r (asked r.lock q.tx (work_mode q.work)).lock q refused a).cell.pending) a_is)
           (ap (λ event. made_after event (answered_here start es e tx key) tx) event_is ∙ ap (λ a. made_if (answered_here start es e tx key) q refused a tx) a_is)
@@ -196,10 +199,11 @@ module _ (start : Start) (es : List HostStep) (e : HostStep) (tx : TxId) (key : 
           (waits_other start es e tx key) (is ∙ ap (λ event. event_tokens tx event r) event_is ∙ ap (asked_tokens tx r q refused) a_is)
 
   -- one that waited
-  pub served_going : (q : Request) (refused : Bool) → event ≡ serves refused → first (is_let_in r.lock) r.waiting ≡ Some q → q.tx ≡ tx → work_key q.work ≡ key → IsRequestRouted start n q
+  pub served_going : (q : Request) (refused : Bool) (node : ℕ) → event ≡ serves refused → first (is_let_in r.lock) r.waiting ≡ Some q → q.tx ≡ tx → work_key q.work ≡ key
+      → n ≡ rows_host start node → IsRequestRouted start node q
       → tokens_of tx key sends ≡ event_tokens tx event r → Going → GoesOn
-  served_going q refused event_is first_is q_is own routed is going =
-      performs_going q refused routed own
+  served_going q refused node event_is first_is q_is own at_node routed is going =
+      performs_going q refused node at_node routed own
       (ap (λ event. found tx (key_after event r).cell.pending) event_is ∙ ap (λ o. found tx (served_by r refused o).cell.pending) first_is ∙ ap (λ v. found tx (worked r.cell v refused q.work).pending) q_is)
       (ap (λ event. made_after event (answered_here start es e tx key) tx) event_is ∙ ap (λ o. made_served (answered_here start es e tx key) refused o tx) first_is
       ∙ ap (λ v. made_by made r.cell v refused q.work tx) q_is)
@@ -210,9 +214,9 @@ module _ (start : Start) (es : List HostStep) (e : HostStep) (tx : TxId) (key : 
       going
 
   -- a wait that ends
-  pub expired_going : (event ≡ expires tx) ⊎ (event ≡ ages (Some tx)) → token_of tx key e.step.taken ≡ None → tokens_of tx key sends ≡ event_tokens tx event r → Going → GoesOn
+  pub expired_going : (event ≡ expires tx) ⊎ (event ≡ ages (Some tx)) → token_of tx key e.step.taken.to e.step.taken.body ≡ None → tokens_of tx key sends ≡ event_tokens tx event r → Going → GoesOn
   expired_going event_is taken is going =
-      sent_going start tx key (view_now start es e tx key) t between (first_view start.shape.nodes) n e.step.stamp (sent_count start n (logs_of start es n)) sends refuses going.asked now one.signals one.waits
+      sent_going start tx key (view_now start es e tx key) t between (first_membership start) n e.step.stamp (sent_count start n (logs_of start es n)) sends refuses going.asked now one.signals one.waits
       (by (waits_of tx r) refl)
     where
       now : tokens_of tx key sends ≡ refuses ∷ []

@@ -22,9 +22,9 @@ use Rattle.world_core.specs.History.{is_done}
 use Rattle.world_core.specs.Machine.{after}
 use Rattle.world_core.specs.Start.{Start}
 use Rattle.tc_block.proofs.LiveKeeps.{TurnsKeep, live_keeps}
+use Rattle.answer_laws.proofs.HostSteps.{first_live}
 use Rattle.transit_laws.specs.Keyed.{HasTouched, HasTouchedAsked, IsHostKeyed, IsTouchedRightly, TransactionsAreKeyed}
 use Rattle.transit_laws.specs.Transit.{logs_of}
-use Rattle.transit_laws.proofs.FreshHosts.{started_idle}
 use Rattle.transit_laws.proofs.TouchedLists.{touch_apart, touch_more, touch_own, touch_written, undone_written, write_apart, write_touched, write_written}
 
 -- of what is sent nothing is said
@@ -84,9 +84,7 @@ tc_keyed s x all =
     (λ tx t op fine. record { state = operated_keyed t op s.layout tx fine; sends = (tt, tt) }) all).live
 
 pub log_keyed : (start : Start) (h : ℕ) (log : List HostStep) → IsHostKeyed (after start h log)
-log_keyed start h [] =
-    let idle = started_idle start h in
-    subst (λ (s : TcState). Each (λ (e : TxId × Transaction). IsTouchedRightly e.1) s.live) (sym idle.is) tt
+log_keyed start h [] = subst (Each (λ (e : TxId × Transaction). IsTouchedRightly e.1)) (sym (first_live start h)) tt
 log_keyed start h (e ∷ log) =
     keeps_tc (λ s. Each (λ (e : TxId × Transaction). IsTouchedRightly e.1) s.live) tc_keyed (after start h log) e.step.taken (log_keyed start h log)
 

@@ -1,5 +1,7 @@
+pub mod AbortsFirst
 pub mod Addressed
 pub mod Ahead
+pub mod Bystanders
 pub mod CarriedNext
 pub mod CarriedOut
 pub mod CarriedTurn
@@ -15,10 +17,9 @@ pub mod DecidedSettled
 pub mod FirstCommits
 pub mod FreshHosts
 pub mod GivenUp
-pub mod HomeHosts
+pub mod HomeSteps
 pub mod HostAfter
 pub mod HostAsks
-pub mod HostCases
 pub mod HostFades
 pub mod HostParts
 pub mod HostSteps
@@ -29,6 +30,7 @@ pub mod KeySteps
 pub mod KeyTokens
 pub mod Keyed
 pub mod LiveAfter
+pub mod LiveFacts
 pub mod LiveOf
 pub mod LqhCases
 pub mod LqhParts
@@ -49,6 +51,8 @@ pub mod RoutesChain
 pub mod RoutesLqh
 pub mod RoutesSends
 pub mod RoutesTc
+pub mod RowsEvents
+pub mod RowsNodes
 pub mod SettledAlong
 pub mod StepFades
 pub mod TcAborts

@@ -8,8 +8,8 @@ use Rattle.world_core.specs.Steps.{Addressed, HostStep}
 use Rattle.sig_core.specs.declared.member.TxId.{TxId}
 use Rattle.sig_core.specs.Same.{same_tx}
 use Rattle.lqh_block.specs.declared.request.Request.{Request}
-use Rattle.node_core.specs.declared.host.Host as host
-use Rattle.node_core.specs.declared.host.Host.TheVariants.{Shell, Node}
+use Rattle.node_core.specs.Blocks.{lqh_of}
+use Rattle.node_core.specs.declared.host.Host.{Host}
 use Rattle.world_core.specs.Hosts.{hosts}
 use Rattle.world_core.specs.Machine.{after}
 use Rattle.world_core.specs.Start.{Start}
@@ -35,13 +35,12 @@ use Rattle.transit_laws.proofs.Undecided.{carried_out_have_none, decided_have_no
 use Rattle.transit_laws.proofs.Weighing.{none_passes}
 
 -- the requests that wait for a key at a host are some of those that wait there
-none_in : (g : host.Host) (tx : TxId) (key : List ℕ) → waiting_in tx g ≡ 0 → NoneOf tx (key_in key g).waiting
-none_in (Shell s) tx key none = tt
-none_in (Node n) tx key none = each_filter (λ (q : Request). same_tx q.tx tx ≡ false) (asks_for key) n.lqh.waiting (none_passes (λ (q : Request). same_tx q.tx tx) n.lqh.waiting none)
+none_in : (g : Host) (tx : TxId) (key : List ℕ) → waiting_in tx g ≡ 0 → NoneOf tx (key_in key g).waiting
+none_in g tx key none =
+    each_filter (λ (q : Request). same_tx q.tx tx ≡ false) (asks_for key) (lqh_of g).waiting (none_passes (λ (q : Request). same_tx q.tx tx) (lqh_of g).waiting none)
 
-some_in : (g : host.Host) (q : Request) (key : List ℕ) → IsIn q (key_in key g).waiting → 1 ≤ waiting_in q.tx g
-some_in (Shell s) q key inside = absurd inside
-some_in (Node n) q key inside = by n.lqh.waiting inside
+some_in : (g : Host) (q : Request) (key : List ℕ) → IsIn q (key_in key g).waiting → 1 ≤ waiting_in q.tx g
+some_in g q key inside = by (lqh_of g).waiting inside
   where
     by : (xs : List Request) → IsIn q (filter (asks_for key) xs) → 1 ≤ tally (λ (r : Request). same_tx r.tx q.tx) xs
     by [] inside = absurd inside

@@ -1,7 +1,7 @@
 -- The operations of a transaction are under way one at a time.
-use Rattle.std.proofs.Common.{◌≡◌, ◌≢◌, ◌⊎◌, ◌<◌, ℕ, zero, suc, ◌+◌, ◌-◌, ◌≤◌, Bool, true, List, [], ◌∷◌, refl, sym, ap, ◌∙◌, subst, arith, inl, inr}
+use Rattle.std.proofs.Common.{◌≡◌, ◌≢◌, ◌⊎◌, ℕ, zero, suc, ◌+◌, ◌-◌, ◌≤◌, Bool, true, List, [], ◌∷◌, refl, sym, ap, ◌∙◌, subst, arith, inl, inr}
 use Rattle.std.specs.List.{list_any}
-use Rattle.std.proofs.lemmas.Bool.{cases_eq, cases_lt}
+use Rattle.std.proofs.lemmas.Bool.{cases_eq}
 use Rattle.run_theory.proofs.Runs.{log_of-other, log_of-own}
 use Rattle.world_core.specs.Steps.{Addressed, HostStep}
 use Rattle.sig_core.specs.declared.member.TxId.{TxId}
@@ -12,21 +12,20 @@ use Rattle.sig_core.specs.declared.signal.Body.TheVariants.{Chain}
 use Rattle.sig_core.specs.declared.signal.chain.ChainSignal.TheVariants.{LqhKeyReq, LqhKeyConf, LqhKeyRef}
 use Rattle.sig_core.specs.Same.{same_tx}
 use Rattle.lqh_block.specs.declared.request.Request.{Request}
-use Rattle.lqh_block.specs.State.{LqhState}
-use Rattle.node_core.specs.Blocks.{has_tc, tc_of}
 use Rattle.node_core.specs.Requests.{is_request}
-use Rattle.world_core.specs.Hosts.{home, hosts, tc_host}
+use Rattle.world_core.specs.Hosts.{home, hosts}
 use Rattle.world_core.specs.Machine.{after, machine, signals_of, step_after}
 use Rattle.world_core.specs.Start.{Start}
 use Rattle.commit_laws.specs.Ways.{back_by, sent_ways}
+use Rattle.answer_laws.proofs.HostSteps.{first_waiting}
 use Rattle.commit_laws.specs.Counts.{one_if, tally}
 use Rattle.commit_laws.proofs.Sums.{total_at, total_one}
 use Rattle.commit_laws.specs.Counts.{total}
 use Rattle.transit_laws.specs.Live.{of_host}
 use Rattle.transit_laws.specs.Tokens.{OneAtATime, budget, budget_by, is_token, tokens, tokens_in, waiting_all, waiting_in}
 use Rattle.transit_laws.specs.Transit.{Comes, Takes, joined, logs_of}
-use Rattle.transit_laws.proofs.FreshHosts.{started_unasked}
-use Rattle.transit_laws.proofs.HomeHosts.{tc_home}
+use Rattle.transit_laws.proofs.Addressed.{comes_below}
+use Rattle.transit_laws.proofs.HomeSteps.{own_home}
 use Rattle.transit_laws.proofs.HostTokens.{Kept, host_kept}
 use Rattle.transit_laws.proofs.LqhTokens.{tokens_out}
 use Rattle.transit_laws.proofs.TcSound.{log_sound}
@@ -36,17 +35,6 @@ use Rattle.transit_laws.proofs.Weighing.{joins_weigh, takes_weigh, weigh}
 tally_weighs : {A : Type 0} (p : A → Bool) (xs : List A) → tally p xs ≡ weigh (λ x. one_if (p x)) xs
 tally_weighs p [] = refl
 tally_weighs p (x ∷ xs) = ap (λ m. one_if (p x) + m) (tally_weighs p xs)
-
--- the host of a step is one of those that there are
-pub comes_low : (start : Start) (es : List HostStep) (e : HostStep) → Comes start es e → e.host < hosts start
-comes_low start es e come = by (cases_lt e.host (hosts start))
-  where
-    nothing : e ∷ logs_of start es e.host ≡ [] → ⊥
-    nothing q = cc
-
-    by : (e.host < hosts start) ⊎ (hosts start ≤ e.host) → e.host < hosts start
-    by (inl low) = low
-    by (inr high) = absurd (nothing (sym (log_of-own (machine start) e es e.host refl) ∙ come.now.within e.host high))
 
 module _ (start : Start) (tx : TxId) where
   abbrev weight : Place → Body → ℕ
@@ -113,20 +101,16 @@ module _ (start : Start) (tx : TxId) where
     waiting_now =
         omega (
           arith,
-          total_one (hosts start) (λ k. waiting_in tx (after start k (was k))) (λ k. waiting_in tx (after start k (now k))) h (comes_low start es e come)
+          total_one (hosts start) (λ k. waiting_in tx (after start k (was k))) (λ k. waiting_in tx (after start k (now k))) h (comes_below start es e come)
               (λ k off. ap (λ log. waiting_in tx (after start k log)) (other_log k off)),
           ap (λ log. waiting_in tx (after start h log)) own_log,
         )
 
     waiting_some : waits_was ≤ waiting_all start was tx
-    waiting_some = total_at (hosts start) (λ k. waiting_in tx (after start k (was k))) h (comes_low start es e come)
+    waiting_some = total_at (hosts start) (λ k. waiting_in tx (after start k (was k))) h (comes_below start es e come)
 
     kept : Kept tx (sent_ways start back_by h (was h)) (after start h (was h)) e.step.taken
     kept = host_kept tx (sent_ways start back_by h (was h)) (after start h (was h)) e.step.taken (log_sound start h (was h))
-
-    -- away from its host is away from its coordinator
-    away : home start tx ≢ h → has_tc (after start h (was h)) ≡ true → tx.tc ≢ (tc_of (after start h (was h))).node
-    away off runs own = off (ap (tc_host start) own ∙ tc_home start h (was h) (comes_low start es e come) runs)
 
     abbrev budget_here : ℕ → List HostStep → ℕ
     budget_here k log = budget_by (list_any (same_tx tx) (sent_ways start back_by k log)) (of_host tx (after start k log))
@@ -135,7 +119,7 @@ module _ (start : Start) (tx : TxId) where
     step_one low = by (cases_eq (home start tx) h)
       where
         by : (home start tx ≡ h) ⊎ (home start tx ≢ h) → tokens start now joined_now tx ≤ budget start now tx
-        by (inr off) = omega (arith, low, in_before, in_now, waiting_now, kept.away (away off), ap (budget_here (home start tx)) (other_log (home start tx) off))
+        by (inr off) = omega (arith, low, in_before, in_now, waiting_now, kept.away (λ runs own. off (sym (own_home start es e come tx runs own))), ap (budget_here (home start tx)) (other_log (home start tx) off))
         by (inl at) =
             let here : budget start was tx ≡ budget_here h (was h) = ap (λ k. budget_here k (was k)) at in
             let there : budget start now tx ≡ budget_here h (e ∷ was h) = ap (λ k. budget_here k (now k)) at ∙ ap (budget_here h) own_log in
@@ -143,7 +127,7 @@ module _ (start : Start) (tx : TxId) where
             omega (arith, kept.home rest (omega (arith, low, in_before, here, waiting_some)), in_now, waiting_now, waiting_some, there)
 
   pub none_waits_first : (k : ℕ) → waiting_in tx (after start k []) ≡ 0
-  none_waits_first k = let fresh = started_unasked start k in ap (λ (l : LqhState). tally (λ (q : Request). same_tx q.tx tx) l.waiting) fresh.is
+  none_waits_first k = ap (tally (λ (q : Request). same_tx q.tx tx)) (first_waiting start k)
 
   none_first : tokens start (logs_of start []) [] tx ≤ budget start (logs_of start []) tx
   none_first = omega (arith, none (hosts start))

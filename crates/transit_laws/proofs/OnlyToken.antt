@@ -1,5 +1,5 @@
 -- Since the operations of a transaction are under way one at a time, a new part of one is the only one.
-use Rattle.std.proofs.Common.{◌≡◌, ◌≤◌, ◌+◌, ℕ, zero, suc, Bool, true, false, cond, filter, List, [], ◌∷◌, refl, ap, ◌∙◌, subst, arith}
+use Rattle.std.proofs.Common.{◌≡◌, ◌≤◌, ◌+◌, ℕ, Bool, true, false, cond, filter, List, [], ◌∷◌, refl, ap, ◌∙◌, subst, arith}
 use Rattle.std.proofs.lemmas.Bool.Decides.{nat_tests}
 use Rattle.std.specs.Prelude.{if◌then◌else◌, nat_lt, is_some, Option, None, Some}
 use Rattle.run_theory.specs.Lists.{Each}
@@ -8,7 +8,7 @@ use Rattle.sig_core.specs.declared.member.TxId.{TxId}
 use Rattle.sig_core.specs.Same.{same_tx}
 use Rattle.lqh_block.specs.declared.request.Request.{Request}
 use Rattle.node_core.specs.declared.host.Host.{Host}
-use Rattle.node_core.specs.declared.host.Host.TheVariants.{Shell, Node}
+use Rattle.node_core.specs.Blocks.{lqh_of}
 use Rattle.tc_block.specs.declared.phase.Phase.{Phase}
 use Rattle.tc_block.specs.declared.phase.Phase.TheVariants.{Open, Verifying, Committing, Completing, Aborting}
 use Rattle.tc_block.specs.declared.transaction.Transaction.{Transaction}
@@ -18,9 +18,9 @@ use Rattle.world_core.specs.Start.{Start}
 use Rattle.commit_laws.specs.Replica.{asks_for, is_by}
 use Rattle.commit_laws.specs.ReplicaLaws.{key_in}
 use Rattle.tc_block.specs.Phases.{is_aborting}
-use Rattle.commit_laws.proofs.Replicas.{nodes_begin}
 use Rattle.commit_laws.specs.Counts.{one_if, tally}
 use Rattle.commit_laws.proofs.Sums.{total_at}
+use Rattle.answer_laws.proofs.HostSteps.{first_waiting}
 use Rattle.transit_laws.specs.GivenUp.{is_given_up}
 use Rattle.transit_laws.specs.Live.{live_at}
 use Rattle.transit_laws.specs.Tokens.{budget, budget_by, budget_of, is_token, tokens_in, waiting_all, waiting_in}
@@ -51,16 +51,14 @@ module _ (tx : TxId) (key : List ℕ) where
       by false e false more = more (omega (arith, none, ap one_if e))
 
   host_none : (s : Host) → waiting_in tx s ≡ 0 → waits_of tx (key_in key s) ≡ []
-  host_none (Shell s) none = refl
-  host_none (Node n) none = filtered_none n.lqh.waiting none
+  host_none s none = filtered_none (lqh_of s).waiting none
 
   module _ (start : Start) (es : List HostStep) (run : IsRun start es) where
     none_wait : waiting_all start (logs_of start es) tx ≡ 0 → (h : ℕ) → (view_of start (logs_of start es) tx key).waits h ≡ []
     none_wait none h = by (nat_lt h (hosts start)) refl
       where
-        none_begun : (h : ℕ) → 1 ≤ h → waits_of tx (key_in key (after start h [])) ≡ []
-        none_begun zero some = absurd (omega (arith, some))
-        none_begun (suc h) some = ap (waits_of tx) (nodes_begin start h key)
+        none_begun : (h : ℕ) → waits_of tx (key_in key (after start h [])) ≡ []
+        none_begun h = ap (λ waiting. filter (is_by tx) (filter (asks_for key) waiting)) (first_waiting start h)
 
         by : (b : Bool) → nat_lt h (hosts start) ≡ b → waits_of tx (key_in key (after start h (logs_of start es h))) ≡ []
         by true e =
@@ -69,7 +67,7 @@ module _ (tx : TxId) (key : List ℕ) where
             host_none (after start h (logs_of start es h)) (omega (arith, few, none))
         by false e =
             let high : hosts start ≤ h = grind (arith, nat_tests, e) in
-            ap (λ log. waits_of tx (key_in key (after start h log))) (run.within h high) ∙ none_begun h (omega (arith, high))
+            ap (λ log. waits_of tx (key_in key (after start h log))) (run.within h high) ∙ none_begun h
 
     module _ (xs : List Addressed) (transit : AreInTransit start es xs) (t : Transaction) (live : live_at start (logs_of start es) tx ≡ Some t) (early : is_early t.phase ≡ true) where
       allowed : budget start (logs_of start es) tx ≡ one_if (is_some t.asked)

@@ -1,5 +1,5 @@
 -- The record of a transaction of which nothing more is asked: it is committed and completed, and no other comes.
-use Rattle.std.proofs.Common.{◌≡◌, ℕ, zero, suc, Bool, true, false, List, [], ◌∷◌, refl, sym, ap, ◌∙◌, subst}
+use Rattle.std.proofs.Common.{◌≡◌, ℕ, Bool, true, false, List, [], ◌∷◌, refl, sym, ap, ◌∙◌, subst}
 use Rattle.std.specs.Prelude.{if◌then◌else◌, Option, None, Some}
 use Rattle.run_theory.specs.Lists.{Each}
 use Rattle.world_core.specs.Steps.{HostStep}
@@ -26,9 +26,9 @@ use Rattle.commit_laws.specs.Records.{AreOnce, as_committed, edited, found, if_c
 use Rattle.commit_laws.specs.Replica.{Cell, Event, Replica, aborts, ages, asked_by, asks, commits, completes, expires, is_let_in, key_after, operated, rests, served_by, serves, storing, worked}
 use Rattle.commit_laws.specs.ReplicaLaws.{event_in, key_in}
 use Rattle.commit_laws.proofs.RecordLemmas.{committed_keeps, found-edited, found-stored, if_keeps, once-edited, once-stored, unless_keeps}
-use Rattle.commit_laws.proofs.Replicas.{logs_follow, nodes_begin}
+use Rattle.commit_laws.proofs.Replicas.{logs_follow}
 use Rattle.commit_laws.proofs.Waiting.{each-first_item}
-use Rattle.answer_laws.proofs.Hosts.{shell_after}
+use Rattle.transit_laws.proofs.FreshHosts.{none_pending}
 
 -- the record after a commit, and after a completion
 abbrev pub now_committed : Option PendingRecord → Option PendingRecord
@@ -102,8 +102,7 @@ once_after (ages None) r once = once
 once_after (ages (Some tx)) r once = once
 
 pub once_at : (start : Start) (key : List ℕ) (h : ℕ) (log : List HostStep) → AreOnce (key_in key (after start h log)).cell.pending
-once_at start key zero [] = subst (λ g. AreOnce (key_in key g).cell.pending) (sym (shell_after start []).is) tt
-once_at start key (suc h) [] = subst (λ (r : Replica). AreOnce r.cell.pending) (sym (nodes_begin start h key)) tt
+once_at start key h [] = subst AreOnce (sym (none_pending start h key)) tt
 once_at start key h (e ∷ log) =
     subst (λ (r : Replica). AreOnce r.cell.pending) (sym (logs_follow start h log e key))
     (once_after (event_in key (after start h log) e.step.taken) (key_in key (after start h log)) (once_at start key h log))

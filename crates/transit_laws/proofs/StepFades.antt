@@ -25,11 +25,11 @@ use Rattle.commit_laws.specs.ReplicaLaws.{event_in, key_in}
 use Rattle.commit_laws.proofs.Replicas.{logs_follow}
 use Rattle.commit_laws.proofs.Sums.{total_at}
 use Rattle.transit_laws.specs.Circle.{at_host}
-use Rattle.transit_laws.specs.Routes.{primary}
+use Rattle.transit_laws.specs.Routes.{primary_host}
 use Rattle.transit_laws.specs.Tokens.{is_token, tokens, waiting_in}
 use Rattle.transit_laws.specs.Transit.{Comes, Takes, logs_of}
 use Rattle.transit_laws.proofs.HostFades.{harmless_in, last_step, primary_step, request_token}
-use Rattle.transit_laws.proofs.OneAtATime.{comes_low}
+use Rattle.transit_laws.proofs.Addressed.{comes_below}
 use Rattle.transit_laws.proofs.RecordsFade.{Fading, HasRecord, fades_prepared, fades_there, fading, once_at}
 use Rattle.transit_laws.proofs.Weighing.{each_taken, none_passes}
 
@@ -38,8 +38,8 @@ use Rattle.transit_laws.proofs.Weighing.{each_taken, none_passes}
 pub record StepFades (start : Start) (logs now : ℕ → List HostStep) (e : HostStep) (tx : TxId) : Type 0 where
   pub prepared : (key : List ℕ) (h : ℕ) → HasPrepared tx (at_host start now key h).cell.pending → HasPrepared tx (at_host start logs key h).cell.pending
   pub there : (key : List ℕ) (h : ℕ) → HasRecord tx (at_host start now key h).cell.pending → HasRecord tx (at_host start logs key h).cell.pending
-  pub at_primary : (key : List ℕ) → HasPrepared tx (at_host start logs key (primary start key)).cell.pending
-      → HasPrepared tx (at_host start now key (primary start key)).cell.pending ⊎ (has_mark (is_applied tx) (now (primary start key)) ≡ true)
+  pub at_primary : (key : List ℕ) → HasPrepared tx (at_host start logs key (primary_host start key)).cell.pending
+      → HasPrepared tx (at_host start now key (primary_host start key)).cell.pending ⊎ (has_mark (is_applied tx) (now (primary_host start key)) ≡ true)
   pub committed : (key : List ℕ) (one : TxId) (own : List ℕ) (epoch : ℕ) (chain : List Member) (at : ℕ) → e.step.taken.body ≡ Chain (Commit one own epoch chain at) → e.step.taken.to.block ≡ block.Lqh
       → same_tx one tx ≡ true → same_key own key ≡ true → HasPrepared tx (at_host start now key e.host).cell.pending → ⊥
   pub marks : (h : ℕ) → has_mark (is_applied tx) (logs h) ≡ true → has_mark (is_applied tx) (now h) ≡ true
@@ -47,7 +47,7 @@ pub record StepFades (start : Start) (logs now : ℕ → List HostStep) (e : Hos
 -- a commit at the primary is at the first place of its chain
 abbrev pub EndsAtPrimary : Start → HostStep → Type 0
 EndsAtPrimary start e =
-    (one : TxId) (own : List ℕ) (epoch : ℕ) (chain : List Member) (at : ℕ) → e.step.taken.body ≡ Chain (Commit one own epoch chain at) → (at == 0) ≡ (e.host == primary start own)
+    (one : TxId) (own : List ℕ) (epoch : ℕ) (chain : List Member) (at : ℕ) → e.step.taken.body ≡ Chain (Commit one own epoch chain at) → (at == 0) ≡ (e.host == primary_host start own)
 
 abbrev pub NoAbort : HostStep → TxId → Type 0
 NoAbort e tx = (one : TxId) (own : List ℕ) → e.step.taken.body ≡ Chain (Abort one own) → same_tx one tx ≡ false
@@ -72,7 +72,7 @@ module _ (start : Start) (es : List HostStep) (e : HostStep) (come : Comes start
 
   module _ (before between : List Addressed) (takes : Takes e before between) (tx : TxId) (none : tokens start (logs_of start es) before tx ≡ 0) (no_abort : NoAbort e tx) (ends : EndsAtPrimary start e) where
     wait_none : waiting_in tx (after start h (logs_of start es h)) ≡ 0
-    wait_none = omega (arith, none, total_at (hosts start) (λ k. waiting_in tx (after start k (logs_of start es k))) h (comes_low start es e come))
+    wait_none = omega (arith, none, total_at (hosts start) (λ k. waiting_in tx (after start k (logs_of start es k))) h (comes_below start es e come))
 
     token_none : is_token tx e.step.taken.body ≡ false
     token_none = by (is_request e.step.taken.body) refl
@@ -118,21 +118,21 @@ module _ (start : Start) (es : List HostStep) (e : HostStep) (come : Comes start
         (subst (λ (r : Replica). HasRecord tx r.cell.pending) (now_is key) (subst (λ j. HasRecord tx (at_host start (logs_of start (e ∷ es)) key j).cell.pending) (sym same) p)))
     there_at key k (inr differs) p = subst (λ (r : Replica). HasRecord tx r.cell.pending) (now_same key k differs) p
 
-    is_first : (key : List ℕ) → h ≡ primary start key → (one : TxId) (own : List ℕ) (epoch : ℕ) (chain : List Member) (at : ℕ) → e.step.taken.body ≡ Chain (Commit one own epoch chain at) → own ≡ key → (at == 0) ≡ true
+    is_first : (key : List ℕ) → h ≡ primary_host start key → (one : TxId) (own : List ℕ) (epoch : ℕ) (chain : List Member) (at : ℕ) → e.step.taken.body ≡ Chain (Commit one own epoch chain at) → own ≡ key → (at == 0) ≡ true
     is_first key same one own epoch chain at is own_is =
-        ends one own epoch chain at is ∙ ap (λ q. h == primary start q) own_is ∙ here same
+        ends one own epoch chain at is ∙ ap (λ q. h == primary_host start q) own_is ∙ here same
       where
-        here : h ≡ primary start key → (h == primary start key) ≡ true
+        here : h ≡ primary_host start key → (h == primary_host start key) ≡ true
         here q = grind (arith, nat_tests, q)
 
-    primary_at : (key : List ℕ) → (h ≡ primary start key) ⊎ (h ≢ primary start key) → HasPrepared tx (at_host start (logs_of start es) key (primary start key)).cell.pending
-        → HasPrepared tx (at_host start (logs_of start (e ∷ es)) key (primary start key)).cell.pending ⊎ (has_mark (is_applied tx) (logs_of start (e ∷ es) (primary start key)) ≡ true)
-    primary_at key (inr differs) p = inl (subst (λ (r : Replica). HasPrepared tx r.cell.pending) (sym (now_same key (primary start key) differs)) p)
+    primary_at : (key : List ℕ) → (h ≡ primary_host start key) ⊎ (h ≢ primary_host start key) → HasPrepared tx (at_host start (logs_of start es) key (primary_host start key)).cell.pending
+        → HasPrepared tx (at_host start (logs_of start (e ∷ es)) key (primary_host start key)).cell.pending ⊎ (has_mark (is_applied tx) (logs_of start (e ∷ es) (primary_host start key)) ≡ true)
+    primary_at key (inr differs) p = inl (subst (λ (r : Replica). HasPrepared tx r.cell.pending) (sym (now_same key (primary_host start key) differs)) p)
     primary_at key (inl same) p =
         which (primary_step tx g e.step.taken key (fading_at key) (is_first key same) (subst (λ j. HasPrepared tx (at_host start (logs_of start es) key j).cell.pending) (sym same) p))
       where
         which : HasPrepared tx (key_after (event key) (key_in key g)).cell.pending ⊎ (list_any (is_applied tx) (step_after start h (logs_of start es h) e).effects.marks ≡ true)
-            → HasPrepared tx (at_host start (logs_of start (e ∷ es)) key (primary start key)).cell.pending ⊎ (has_mark (is_applied tx) (logs_of start (e ∷ es) (primary start key)) ≡ true)
+            → HasPrepared tx (at_host start (logs_of start (e ∷ es)) key (primary_host start key)).cell.pending ⊎ (has_mark (is_applied tx) (logs_of start (e ∷ es) (primary_host start key)) ≡ true)
         which (inl q) =
             inl (subst (λ j. HasPrepared tx (at_host start (logs_of start (e ∷ es)) key j).cell.pending) same (subst (λ (r : Replica). HasPrepared tx r.cell.pending) (sym (now_is key)) q))
         which (inr q) = inr (subst (λ j. has_mark (is_applied tx) (logs_of start (e ∷ es) j) ≡ true) same (marks_own q))
@@ -141,9 +141,8 @@ module _ (start : Start) (es : List HostStep) (e : HostStep) (come : Comes start
     step_fades = record {
       prepared = λ key k. prepared_at key k (cases_eq h k);
       there = λ key k. there_at key k (cases_eq h k);
-      at_primary = λ key. primary_at key (cases_eq h (primary start key));
+      at_primary = λ key. primary_at key (cases_eq h (primary_host start key));
       committed = λ key one own epoch chain at is home same same_own p.
-          last_step tx g e.step.taken.to one own key epoch chain at home same same_own
-          (subst (λ b. HasPrepared tx (key_after (event_in key g e.step.taken.to b) (key_in key g)).cell.pending) is (subst (λ (r : Replica). HasPrepared tx r.cell.pending) (now_is key) p));
+          last_step tx g e.step.taken one own key epoch chain at is home same same_own (subst (λ (r : Replica). HasPrepared tx r.cell.pending) (now_is key) p);
       marks = λ k. marks_at tx k (cases_eq h k);
     }

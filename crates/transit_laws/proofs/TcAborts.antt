@@ -1,89 +1,53 @@
 -- Who comes to be aborted is given up in the same turn.
-use Rattle.std.proofs.Common.{◌≡◌, ◌⊎◌, ℕ, zero, suc, ◌+◌, ◌≤◌, List, [], ◌∷◌, ◌++◌, take, length, Bool, true, false, refl, ap, sym, ◌∙◌, subst, arith, inl, inr}
-use Rattle.std.specs.Prelude.{◌==◌, is_some, Option, None, Some}
-use Rattle.std.specs.List.{flat_map}
+use Rattle.std.proofs.Common.{◌≡◌, ◌⊎◌, ℕ, List, [], ◌++◌, take, Bool, true, false, refl, ap, sym, ◌∙◌, subst, arith, inl, inr}
+use Rattle.std.specs.Prelude.{◌==◌, None}
+use Rattle.std.specs.List.{list_any}
 use Rattle.std.proofs.lemmas.Bool.{or_left}
 use Rattle.std.proofs.lemmas.Bool.Decides.{nat_tests}
-use Rattle.sig_core.specs.declared.member.Member.{Member}
 use Rattle.sig_core.specs.declared.member.TxId.{TxId}
 use Rattle.sig_core.specs.declared.outcome.AbortCause.{AbortCause}
 use Rattle.sig_core.specs.declared.outs.Outgoing.{Outgoing}
 use Rattle.sig_core.specs.declared.signal.Body.{Body}
-use Rattle.frag_map.specs.Layout.{Layout}
+use Rattle.frag_map.specs.Layout.{Layout, chain_of}
 use Rattle.sig_core.specs.Op.{key_of}
 use Rattle.sig_core.specs.Same.{same_tx}
-use Rattle.tc_block.specs.declared.phase.Asked.{Asked}
 use Rattle.tc_block.specs.declared.phase.Phase.TheVariants.{Aborting}
-use Rattle.tc_block.specs.declared.touched.Touched.{Touched}
 use Rattle.tc_block.specs.declared.transaction.Transaction.{Transaction}
 use Rattle.tc_block.specs.Abort as abort
-use Rattle.frag_map.specs.Layout.{chain_of}
 use Rattle.tc_block.specs.Part.{part_effects}
-use Rattle.tc_block.specs.Sends.{aborts_of, entering, front_sends, key_sends, phase_sends}
-use Rattle.tc_block.specs.Touched.{place_of, touch, touched_by}
+use Rattle.tc_block.specs.Sends.{entering, front_sends, phase_sends}
 use Rattle.tc_block.specs.Turn.{Turn, asking}
 use Rattle.tc_block.specs.Phases.{is_aborting}
 use Rattle.sig_core.proofs.Keys.{same_tx-self}
 use Rattle.tc_block.proofs.EachTurn.{AbortForms, CommittedForms, TurnForms}
+use Rattle.commit_laws.specs.Ways.{back_by, way_of}
 use Rattle.commit_laws.proofs.OneWay.{back_more}
+use Rattle.transit_laws.specs.Keyed.{HasTouchedAsked}
+use Rattle.transit_laws.proofs.AbortsFirst.{IsBackFirst, aborts_first, asked_count_few}
 use Rattle.transit_laws.proofs.TcTurns.{gives_up}
-
--- who has an operation unanswered has touched a key
-abbrev pub HasTouched : Transaction → Type 0
-HasTouched t = is_some t.asked ≡ true → 1 ≤ length t.touched
+use Rattle.transit_laws.proofs.TouchedLists.{touch_own}
 
 -- a turn after which it is aborted: it was so, or it is given up
 pub record TurnAborts (tx : TxId) (t : Transaction) (turn : Turn) : Type 0 where
-  pub touched : HasTouched turn.step.state
+  pub touched : HasTouchedAsked turn.step.state.touched turn.step.state.asked
   pub aborts : is_aborting turn.step.state.phase ≡ true → (is_aborting t.phase ≡ true) ⊎ (gives_up tx turn.step.effects.sends ≡ true)
 
--- a key that is touched stands in the list
-touch_some : (touched : List Touched) (key : List ℕ) (chain : List Member) → 1 ≤ length (touch touched key chain)
-touch_some [] key chain = omega arith
-touch_some (u ∷ touched) key chain = by (place_of (u ∷ touched) key)
-  where
-    by : (o : Option ℕ) → 1 ≤ length (touched_by (u ∷ touched) key chain o)
-    by None = omega arith
-    by (Some at) = omega arith
-
--- the first of some replicas is told to abort
-told_first : (tx : TxId) (key : List ℕ) (chain : List Member) (others behind : List Outgoing) → 1 ≤ length chain → gives_up tx (take 8 (aborts_of tx key chain ++ others) ++ behind) ≡ true
-told_first tx key [] others behind some = absurd (omega (arith, some))
-told_first tx key (m ∷ chain) others behind some = back_more (same_tx tx) (take 7 (aborts_of tx key chain ++ others) ++ behind) (tx ∷ []) (or_left (same_tx tx tx) false (same_tx-self tx))
-
-no_replicas : (layout : Layout) (touched : List Touched) → length layout.full ≡ 0 → abort.replica_count layout touched ≡ 0
-unfolding chain_of
-no_replicas layout [] none = refl
-no_replicas layout (u ∷ touched) none = omega (arith, none, no_replicas layout touched none)
-
 -- an abort that has something to wait for
-enters_told : (tx : TxId) (node : ℕ) (layout : Layout) (t : Transaction) (why : AbortCause) (verifying : Bool) (awaited : ℕ) → HasTouched t → (abort.aborts_awaited layout t == 0) ≡ false
-    → gives_up tx (entering node layout tx t (Aborting why verifying awaited)).effects.sends ≡ true
-unfolding entering part_effects phase_sends front_sends key_sends chain_of
-enters_told tx node layout t why verifying awaited has waits = by t.touched t.asked refl refl
+enters_told : (tx : TxId) (node : ℕ) (layout : Layout) (t : Transaction) (why : AbortCause) (verifying : Bool) (awaited : ℕ) → HasTouchedAsked t.touched t.asked
+    → (abort.aborts_awaited layout t == 0) ≡ false → gives_up tx (entering node layout tx t (Aborting why verifying awaited)).effects.sends ≡ true
+unfolding entering part_effects phase_sends front_sends
+enters_told tx node layout t why verifying awaited has waits =
+    told _ (aborts_first layout tx why verifying awaited t.touched (λ none. absurd (grind (arith, nat_tests, waits, none, asked_count_few layout t.touched t.asked has))))
   where
-    asked_none : (o : Option Asked) → length layout.full ≡ 0 → abort.asked_count layout o ≡ 0
-    asked_none None none = refl
-    asked_none (Some a) none = none
+    told : {sends : List Outgoing} (behind : List Outgoing) → IsBackFirst tx sends → gives_up tx (take 8 sends ++ behind) ≡ true
+    told {sends} behind f =
+        subst (λ all. gives_up tx (take 8 all ++ behind) ≡ true) (sym f.is)
+        (back_more (same_tx tx) (take 7 f.more ++ behind) (back_by (way_of f.first.body) [])
+        (ap (λ w. list_any (same_tx tx) (back_by w [])) f.goes ∙ or_left (same_tx tx tx) false (same_tx-self tx)))
 
-    some : (touched : List Touched) (o : Option Asked) → (abort.replica_count layout touched + abort.asked_count layout o == 0) ≡ false → 1 ≤ length layout.full
-    some touched o waits = go (length layout.full) refl
-      where
-        go : (n : ℕ) → length layout.full ≡ n → 1 ≤ n
-        go zero e = absurd (grind (arith, nat_tests, waits, no_replicas layout touched e, asked_none o e))
-        go (suc n) e = omega arith
-
-    by : (touched : List Touched) (o : Option Asked) → t.touched ≡ touched → t.asked ≡ o
-        → gives_up tx (part_effects node tx (phase_sends layout tx (Aborting why verifying awaited) t.touched) 0).sends ≡ true
-    by [] None p q = absurd (grind (arith, nat_tests, waits, ap (abort.replica_count layout) p, ap (abort.asked_count layout) q))
-    by [] (Some a) p q = absurd (omega (arith, has (ap is_some q), ap length p))
-    by (u ∷ touched) o p q =
-        subst (λ us. gives_up tx (part_effects node tx (phase_sends layout tx (Aborting why verifying awaited) us) 0).sends ≡ true) (sym p)
-        (told_first tx u.key layout.full (flat_map (key_sends layout tx (Aborting why verifying awaited)) touched) _ (some t.touched t.asked waits))
-
-module _ (node : ℕ) (layout : Layout) (tx : TxId) (t : Transaction) (has : HasTouched t) where
+module _ (node : ℕ) (layout : Layout) (tx : TxId) (t : Transaction) (has : HasTouchedAsked t.touched t.asked) where
   -- a turn that leaves the phase, or comes to one in which it isn't aborted
-  goes_on : (turn : Turn) → HasTouched turn.step.state → (is_aborting turn.step.state.phase ≡ true → is_aborting t.phase ≡ true) → TurnAborts tx t turn
+  goes_on : (turn : Turn) → HasTouchedAsked turn.step.state.touched turn.step.state.asked → (is_aborting turn.step.state.phase ≡ true → is_aborting t.phase ≡ true) → TurnAborts tx t turn
   goes_on turn touched stays = record { touched = touched; aborts = λ is. inl (stays is) }
 
   committed_aborts : (epoch : ℕ) → CommittedForms node layout tx t epoch (λ turn. TurnAborts tx t turn)
@@ -91,7 +55,7 @@ module _ (node : ℕ) (layout : Layout) (tx : TxId) (t : Transaction) (has : Has
   committed_aborts epoch = record { enters = λ some. goes_on _ has (λ is. absurd cc); ends = λ none. goes_on _ has (λ is. is) }
 
   -- an abort of one that isn't aborted
-  begins_abort : (u : Transaction) → HasTouched u → is_aborting u.phase ≡ false → (why : AbortCause) → AbortForms node layout tx u why (λ turn. TurnAborts tx t turn)
+  begins_abort : (u : Transaction) → HasTouchedAsked u.touched u.asked → is_aborting u.phase ≡ false → (why : AbortCause) → AbortForms node layout tx u why (λ turn. TurnAborts tx t turn)
   unfolding entering
   begins_abort u touched off why = record {
     enters = λ some. record { touched = touched; aborts = λ is. inr (enters_told tx node layout u why (abort.is_verifying u.phase) (abort.aborts_awaited layout u) touched some) };
@@ -104,9 +68,9 @@ module _ (node : ℕ) (layout : Layout) (tx : TxId) (t : Transaction) (has : Has
   turn_aborts body = record {
     stays = goes_on _ has (λ is. is);
     goes_on = λ at. goes_on _ has (λ is. is);
-    operates = λ op is can. goes_on _ (λ is. touch_some t.touched (key_of op) (chain_of layout (key_of op))) (λ is. is);
-    answers = λ key answer asked is on at. goes_on _ (λ is. absurd cc) (λ is. is);
-    late = λ key asked why verifying awaited on at. goes_on _ (λ is. absurd cc) (λ is. is);
+    operates = λ op is can. goes_on _ (touch_own t.touched (key_of op) (chain_of layout (key_of op))) (λ is. is);
+    answers = λ key answer asked is on at. goes_on _ tt (λ is. is);
+    late = λ key asked why verifying awaited on at. goes_on _ tt (λ is. is);
     waits = λ asked on. goes_on _ has (λ is. is);
     decides = λ is ready. goes_on _ has (λ is. absurd cc);
     commits = λ epoch is at some. goes_on _ has (λ is. absurd cc);
@@ -116,7 +80,7 @@ module _ (node : ℕ) (layout : Layout) (tx : TxId) (t : Transaction) (has : Has
     completed = λ epoch awaited at more. goes_on _ has (λ is. absurd cc);
     completed_all = λ epoch awaited at last. goes_on _ has (λ is. is);
     rolls_back = λ is undecided unaborted. begins_abort t has unaborted _;
-    refuses = λ key why asked is on at. begins_abort (asking t None) (λ is. absurd cc) (ap is_aborting at) why;
+    refuses = λ key why asked is on at. begins_abort (asking t None) tt (ap is_aborting at) why;
     aborted = λ why verifying awaited at more. goes_on _ has (λ is. ap is_aborting at);
     aborted_all = λ why verifying awaited at last. goes_on _ has (λ is. is);
   }

@@ -2,11 +2,10 @@
 -- one or is given up.
 use Rattle.std.proofs.Common.{◌≡◌, ◌≢◌, ◌⊎◌, ℕ, ◌==◌, Bool, true, false, ◌&&◌, ◌||◌, List, [], ◌∷◌, ◌++◌, length, take, refl, sym, ap, ◌∙◌, subst, inl, inr, arith}
 use Rattle.std.specs.List.{flat_map, list_any}
-use Rattle.std.specs.Prelude.{map, nat_lt, Option, None, Some}
+use Rattle.std.specs.Prelude.{nat_lt, Option, None, Some}
 use Rattle.std.proofs.lemmas.Bool.Decides.{nat_tests}
 use Rattle.run_theory.specs.Lists.{Each}
 use Rattle.run_theory.proofs.Pasts.{each_map}
-use Rattle.sig_core.specs.declared.member.Member.{Member}
 use Rattle.sig_core.specs.declared.member.TxId.{TxId}
 use Rattle.sig_core.specs.declared.op.Answer.{Answer}
 use Rattle.sig_core.specs.declared.op.Op.{Op}
@@ -30,12 +29,11 @@ use Rattle.tc_block.specs.Commit as commit
 use Rattle.tc_block.specs.Complete as complete
 use Rattle.tc_block.specs.Operate as operate
 use Rattle.tc_block.specs.Part.{part_effects, rest}
-use Rattle.tc_block.specs.Sends.{abort_of, entering, front_sends, go_on_if, go_on_row, key_sends, phase_sends}
+use Rattle.tc_block.specs.Sends.{entering, front_sends, go_on_if, go_on_row, key_sends, phase_sends}
 use Rattle.tc_block.specs.Touched.{fits}
 use Rattle.tc_block.specs.declared.phase.Asked.{Asked}
 use Rattle.tc_block.specs.declared.phase.Phase.{Phase}
 use Rattle.tc_block.specs.declared.phase.Phase.TheVariants.{Open, Verifying, Committing, Completing, Aborting}
-use Rattle.tc_block.specs.declared.touched.Touched.{Touched}
 use Rattle.tc_block.specs.declared.transaction.Transaction.{Transaction}
 use Rattle.tc_block.specs.Turn.{Turn, at_phase, going}
 use Rattle.commit_laws.specs.Kinds.{kind_of}
@@ -43,6 +41,7 @@ use Rattle.commit_laws.specs.Ways.{Way, back, way_of}
 use Rattle.sig_core.proofs.Keys.{same_tx-self}
 use Rattle.tc_block.proofs.EachTurn.{RowsAre, rows_of}
 use Rattle.commit_laws.proofs.TcGoes.{AllSay, SaysOf, turn_goes}
+use Rattle.transit_laws.proofs.AbortsFirst.{IsBackFirst, aborts_first}
 use Rattle.transit_laws.proofs.TcCircle.{left_by}
 
 -- the signal asks for an epoch for the transaction, or gives it one
@@ -93,31 +92,6 @@ mute_of tx _ says = refl
 all_mute : (tx : TxId) (sends : List Outgoing) → AllSay tx (Unit {0}) sends → AreMute sends
 all_mute tx sends all = each_map (λ (o : Outgoing). SaysOf tx (Unit {0}) (kind_of o.body)) (λ (o : Outgoing). is_mute o.body ≡ true) sends (λ o says. mute_of tx o.body says) all
 
--- a list whose first signal takes the transaction back
-record IsBackFirst (tx : TxId) (sends : List Outgoing) : Type 0 where
-  first : Outgoing
-  more : List Outgoing
-  is : sends ≡ first ∷ more
-  goes : is_back tx (way_of first.body) ≡ true
-
--- what aborts a transaction begins with an abort
-aborts_first : (layout : Layout) (tx : TxId) (why : AbortCause) (verifying : Bool) (awaited : ℕ) (touched : List Touched) → abort.replica_count layout touched ≢ 0
-    → IsBackFirst tx (flat_map (key_sends layout tx (Aborting why verifying awaited)) touched)
-unfolding key_sends
-aborts_first layout tx why verifying awaited [] some = absurd (some refl)
-aborts_first layout tx why verifying awaited (u ∷ touched) some = by (chain_of layout u.key) refl (aborts_first layout tx why verifying awaited touched)
-  where
-    others : List Outgoing
-    others = flat_map (key_sends layout tx (Aborting why verifying awaited)) touched
-
-    by : (chain : List Member) → chain_of layout u.key ≡ chain → (abort.replica_count layout touched ≢ 0 → IsBackFirst tx others)
-        → IsBackFirst tx (key_sends layout tx (Aborting why verifying awaited) u ++ others)
-    by [] is rest =
-        let more = rest (λ none. some (omega (arith, none, ap length is))) in
-        record { first = more.first; more = more.more; is = ap (λ (c : List Member). map (abort_of tx u.key) c ++ others) is ∙ more.is; goes = more.goes }
-    by (m ∷ chain) is rest =
-        record { first = abort_of tx u.key m; more = map (abort_of tx u.key) chain ++ others; is = ap (λ (c : List Member). map (abort_of tx u.key) c ++ others) is; goes = same_tx-self tx }
-
 module _ (tx : TxId) where
   abbrev GoesBack : List Outgoing → Type 0
   GoesBack sends = list_any (λ (o : Outgoing). is_back tx (way_of o.body)) sends ≡ true
@@ -126,7 +100,7 @@ module _ (tx : TxId) where
   unfolding part_effects
   part_back node sends f =
       subst (λ all. GoesBack (take 8 all ++ rest node tx sends 0)) (sym f.is)
-      (ap (λ b. b || list_any (λ (o : Outgoing). is_back tx (way_of o.body)) (take 7 f.more ++ rest node tx sends 0)) f.goes)
+      (ap (λ b. b || list_any (λ (o : Outgoing). is_back tx (way_of o.body)) (take 7 f.more ++ rest node tx sends 0)) (ap (is_back tx) f.goes ∙ same_tx-self tx))
 
   end_back : (node : ℕ) (why : AbortCause) (b : Bool) → GoesBack (abort.abort_end node tx why b)
   end_back node why true = ap (λ b. b || false) (same_tx-self tx)

@@ -26,8 +26,8 @@ use Rattle.tc_block.specs.declared.phase.Asked.{Asked}
 use Rattle.tc_block.specs.declared.phase.Phase.TheVariants.{Open, Verifying}
 use Rattle.tc_block.specs.declared.transaction.Transaction.{Transaction}
 use Rattle.tc_block.specs.Operate.{asked_if, asked_on, fresh}
+use Rattle.world_core.specs.Hosts.{first_membership}
 use Rattle.world_core.specs.Machine.{sent_count, signals_of, step_after}
-use Rattle.frag_map.specs.Layout.{first_layout}
 use Rattle.world_core.specs.Start.{Start}
 use Rattle.sig_core.proofs.Keys.{same_tx-self}
 use Rattle.transit_laws.specs.Live.{live_at}
@@ -35,7 +35,7 @@ use Rattle.transit_laws.specs.Tokens.{is_token}
 use Rattle.transit_laws.specs.Transit.{AreInTransit, Comes, Takes, joined, logs_of}
 use Rattle.transit_laws.proofs.CircleKept.{IsGoing, SignalTells, cleared_going, rests_going, sent_going}
 use Rattle.transit_laws.proofs.Circles.{IsPristine, pristine_as, pristine_settles}
-use Rattle.transit_laws.proofs.CircleView.{IsAnswered, IsAsked, Settles, Tells, Layout, settles_as, settles_other}
+use Rattle.transit_laws.proofs.CircleView.{IsAnswered, IsAsked, Settles, Tells, View, settles_as, settles_other}
 use Rattle.transit_laws.proofs.KeyMoves.{IsLike, host_of, view_before, view_now}
 use Rattle.transit_laws.proofs.KeyTokens.{Token, answers, home_is, is_home, performs, put, put_if, refuses, some_if, token_of, tokens_of}
 use Rattle.transit_laws.proofs.OnlyToken.{NoTokens, none_asked}
@@ -73,7 +73,7 @@ module _ (start : Start) (key : List ℕ) where
       some_none is = cc
 
   -- where a part of an operation is taken that answers none the key is settled
-  deaf_settles : (tx : TxId) (h : ℕ) (v : Layout) (t : Transaction) (body : Body) (token : Token) → IsDeaf t body → token_of tx key (coordinator h) body ≡ Some token → Tells start key v t token
+  deaf_settles : (tx : TxId) (h : ℕ) (v : View) (t : Transaction) (body : Body) (token : Token) → IsDeaf t body → token_of tx key (coordinator h) body ≡ Some token → Tells start key v t token
       → (t.phase ≡ Verifying → t.asked ≡ None) → Settles start key v t.ops
   deaf_settles tx h v t (Chain (LqhKeyReq w what chain at)) token deaf is tells closed = absurd cc
   deaf_settles tx h v t (Chain (LqhKeyConf w own answer)) token deaf is tells closed =
@@ -102,27 +102,27 @@ module _ (start : Start) (es : List HostStep) (e : HostStep) (tx : TxId) (key : 
   abbrev sent : List Addressed
   sent = signals_of start n (logs_of start es n) e
 
-  abbrev v : Layout
+  abbrev v : View
   v = view_before start es e tx key
 
-  abbrev w : Layout
+  abbrev w : View
   w = view_now start es e tx key
 
   transit_now : AreInTransit start (e ∷ es) (joined sent between)
   transit_now = (before, (transit, record { between = between; takes = takes; is = refl }))
 
-  taken_is : token_of tx key e.step.taken ≡ token_of tx key (coordinator tx.tc) e.step.taken.body
+  taken_is : token_of tx key e.step.taken.to e.step.taken.body ≡ token_of tx key (coordinator tx.tc) e.step.taken.body
   taken_is = ap (λ to. token_of tx key to e.step.taken.body) home
 
   -- no part is sent, and the key is settled where one is taken
-  pub rest_goes : (t : Transaction) → IsGoing start tx key v t before → tokens_of tx key sends ≡ [] → (token_of tx key e.step.taken ≡ None) ⊎ Settles start key v t.ops → IsGoing start tx key w t (joined sent between)
-  rest_goes t going none taken = rests_going start tx key v w t e before between takes (first_layout start.shape) n e.step.stamp (sent_count start n (logs_of start es n)) sends going quiet taken none
+  pub rest_goes : (t : Transaction) → IsGoing start tx key v t before → tokens_of tx key sends ≡ [] → (token_of tx key e.step.taken.to e.step.taken.body ≡ None) ⊎ Settles start key v t.ops → IsGoing start tx key w t (joined sent between)
+  rest_goes t going none taken = rests_going start tx key v w t e before between takes (first_membership start) n e.step.stamp (sent_count start n (logs_of start es n)) sends going quiet taken none
 
   -- it rests
   deaf_goes : (t : Transaction) → IsGoing start tx key v t before → tokens_of tx key sends ≡ [] → IsDeaf t e.step.taken.body → IsGoing start tx key w t (joined sent between)
   deaf_goes t going none deaf = rest_goes t going none (by (token_of tx key (coordinator tx.tc) e.step.taken.body) refl)
     where
-      by : (o : Option Token) → token_of tx key (coordinator tx.tc) e.step.taken.body ≡ o → (token_of tx key e.step.taken ≡ None) ⊎ Settles start key v t.ops
+      by : (o : Option Token) → token_of tx key (coordinator tx.tc) e.step.taken.body ≡ o → (token_of tx key e.step.taken.to e.step.taken.body ≡ None) ⊎ Settles start key v t.ops
       by None is = inl (taken_is ∙ is)
       by (Some token) is =
           inr (deaf_settles start key tx tx.tc v t e.step.taken.body token deaf is
@@ -165,12 +165,12 @@ module _ (start : Start) (es : List HostStep) (e : HostStep) (tx : TxId) (key : 
 
         by : (b : Bool) → same_key (key_of op) key ≡ b → IsGoing start tx key w u (joined sent between)
         by true here =
-            sent_going start tx key w u between (first_layout start.shape) n e.step.stamp (sent_count start n (logs_of start es n)) sends (performs (Operate op) 0) closed (tokens true here) left waits
+            sent_going start tx key w u between (first_membership start) n e.step.stamp (sent_count start n (logs_of start es n)) sends (performs (Operate op) 0) closed (tokens true here) left waits
             (settled, record { asked = record { op = op; chain = chain }; is = asked_is; op_is = refl; here = here })
         by false off =
             cleared_going start tx key w u (joined sent between) closed
             (joined_each (λ (x : Addressed). token_of tx key x.signal.to x.signal.body ≡ None) sent between
-            (headed_each (λ to body. token_of tx key to body ≡ None) (first_layout start.shape) n e.step.stamp (sent_count start n (logs_of start es n)) sends (sent_none tx key sends (tokens false off)))
+            (headed_each (λ to body. token_of tx key to body ≡ None) (first_membership start) n e.step.stamp (sent_count start n (logs_of start es n)) sends (sent_none tx key sends (tokens false off)))
             (each_map (λ (x : Addressed). is_token tx x.signal.body ≡ false) (λ (x : Addressed). token_of tx key x.signal.to x.signal.body ≡ None) between (λ x off. uncounted tx key x.signal.to x.signal.body off) left))
             waits settled
 
@@ -191,7 +191,7 @@ module _ (start : Start) (es : List HostStep) (e : HostStep) (tx : TxId) (key : 
         → u.ops ≡ t.ops ++ (asked.op, answer) ∷ [] → IsGoing start tx key w u (joined sent between)
     note_goes t asked answer own going body_is on ops_is = idle_goes (subst (Settles start key w) (sym ops_is) (by (same_key own key) refl))
       where
-        token : (b : Bool) → same_key own key ≡ b → token_of tx key e.step.taken ≡ (if b then Some (answers answer) else None)
+        token : (b : Bool) → same_key own key ≡ b → token_of tx key e.step.taken.to e.step.taken.body ≡ (if b then Some (answers answer) else None)
         token b e_is =
             taken_is ∙ ap (token_of tx key (coordinator tx.tc)) body_is
             ∙ (λ i. if home_is tx i && (same_tx-self tx i && e_is i) then Some (answers answer) else None)

@@ -37,8 +37,9 @@ use Rattle.commit_laws.proofs.OneWay.{back_more}
 use Rattle.tc_block.proofs.EachTc.{tc_each}
 use Rattle.tc_block.proofs.EachTurn.{rows_both, rows_of}
 use Rattle.commit_laws.proofs.TcWays.{AllWays, TurnWays, WayOf, turn_ways}
+use Rattle.answer_laws.proofs.HostSteps.{first_live}
 use Rattle.answer_laws.proofs.TcOps.{is_right}
-use Rattle.transit_laws.proofs.FreshHosts.{started_idle, started_unasked}
+use Rattle.transit_laws.proofs.FreshHosts.{started_unasked}
 use Rattle.transit_laws.proofs.LqhWaits.{WaitersAsk, lqh_asks}
 use Rattle.transit_laws.proofs.TcAborts.{TurnAborts, turn_aborts}
 use Rattle.transit_laws.proofs.TcSaid.{TcSays, rests, takes, tc_says}
@@ -132,7 +133,7 @@ module _ (s : TcState) (bs : List TxId) (n : IsSound s bs) where
   begins_sound : (name : Option ℕ) → StaysSound bs (begin_if s name false)
   begins_sound name = record {
     once = once_inserted s.live (next_tx s) fresh others n.once;
-    live = each_inserted (IsOwned s.node (s.next_seq + 1) bs) s.live (next_tx s) fresh others (record { home = refl; below = omega arith; right = refl; touched = λ is. absurd cc; given = λ is. absurd cc })
+    live = each_inserted (IsOwned s.node (s.next_seq + 1) bs) s.live (next_tx s) fresh others (record { home = refl; below = omega arith; right = refl; touched = tt; given = λ is. absurd cc })
         (each_map (IsOwned s.node s.next_seq bs) (IsOwned s.node (s.next_seq + 1) bs) s.live (λ x is. record { home = is.home; below = omega (arith, is.below); right = is.right; touched = is.touched; given = is.given }) n.live);
     begun = each_map (λ (v : TxId). v.seq < s.next_seq) (λ (v : TxId). v.seq < s.next_seq + 1) bs (λ v lt. omega (arith, lt)) n.begun;
   }
@@ -180,7 +181,7 @@ host_sound s x bs is = by (tc_says s x)
 
 started_sound : (start : Start) (h : ℕ) → IsSoundHost (started start h) []
 started_sound start h = record {
-  tc = let idle = started_idle start h in subst (λ t. IsSound t []) (sym idle.is) (record { once = tt; live = tt; begun = tt });
+  tc = record { once = subst KeysOnce (sym (first_live start h)) tt; live = subst (Each (IsOwned (tc_of (started start h)).node (tc_of (started start h)).next_seq [])) (sym (first_live start h)) tt; begun = tt };
   asks = let unasked = started_unasked start h in subst (λ l. WaitersAsk l) (sym unasked.is)
       (record { asks = λ key tx is. absurd (let both : true ≡ false = sym is ∙ ap (λ o. waits tx (or_unlocked o).queue) (finite.get-empty key_cmp key) in cc) });
 }

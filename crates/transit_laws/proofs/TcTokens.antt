@@ -30,11 +30,11 @@ use Rattle.tc_block.proofs.LiveSplit.{KeysOnce, Live, Split, once_back, once_fro
 use Rattle.commit_laws.proofs.OneWay.{back_more}
 use Rattle.commit_laws.specs.Counts.{one_if}
 use Rattle.answer_laws.proofs.TcOps.{is_right}
+use Rattle.transit_laws.specs.Keyed.{HasTouchedAsked}
 use Rattle.transit_laws.specs.Live.{of_live}
 use Rattle.transit_laws.specs.Tokens.{budget_by, budget_of, is_token}
 use Rattle.transit_laws.proofs.LqhTokens.{tokens_out}
 use Rattle.transit_laws.proofs.OfLive.{AreOthers, of_between, of_inserted, of_none, of_other}
-use Rattle.transit_laws.proofs.TcAborts.{HasTouched}
 use Rattle.transit_laws.proofs.TcTurns.{TurnTokens, aborted_turn, answer_turn, commit_turn, committed_turn, completed_turn, decide_turn, gives_up, go_on_turn, operate_turn, refuse_turn, rollback_turn, wait_turn}
 
 -- one of the coordinator's transactions: its number is of this node, and below the next one, and it is given up if it is aborted
@@ -42,7 +42,7 @@ pub record IsOwned (node next : ℕ) (bs : List TxId) (e : TxId × Transaction) 
   pub home : e.0.tc ≡ node
   pub below : e.0.seq < next
   pub right : is_right e.1.asked e.1.phase ≡ true
-  pub touched : HasTouched e.1
+  pub touched : HasTouchedAsked e.1.touched e.1.asked
   pub given : is_aborting e.1.phase ≡ true → list_any (same_tx e.0) bs ≡ true
 
 -- a coordinator that has given these transactions up

@@ -9,17 +9,17 @@ use Rattle.sig_core.specs.Same.{same_tx}
 use Rattle.tc_block.specs.declared.phase.Phase.{Phase}
 use Rattle.tc_block.specs.declared.phase.Phase.TheVariants.{Open, Verifying, Committing, Completing, Aborting}
 use Rattle.tc_block.specs.declared.transaction.Transaction.{Transaction}
-use Rattle.node_core.specs.declared.host.Host as host
-use Rattle.node_core.specs.declared.host.Host.TheVariants.{Shell, Node}
+use Rattle.node_core.specs.Blocks.{tc_of}
+use Rattle.world_core.specs.Hosts.{home}
 use Rattle.world_core.specs.Machine.{after}
 use Rattle.world_core.specs.Start.{Start}
+use Rattle.tc_block.specs.State.{TcState}
 use Rattle.tc_block.specs.Phases as phases
 use Rattle.tc_block.specs.Phases.{is_aborting}
 use Rattle.commit_laws.specs.Ways.{back_by, forth_by, sent_ways}
 use Rattle.commit_laws.proofs.Causal.{sent_kinds}
-use Rattle.commit_laws.proofs.HostGoes.{HostKnows}
 use Rattle.commit_laws.proofs.OneWay.{forth_decided, not_apart}
-use Rattle.commit_laws.proofs.TcNumbers.{IsLive, begun_by, verified_by}
+use Rattle.commit_laws.proofs.TcNumbers.{IsLive, verified_by}
 use Rattle.commit_laws.proofs.TcWays.{not_both}
 use Rattle.answer_laws.proofs.TcOps.{may_ask}
 use Rattle.transit_laws.specs.Live.{live_at, of_host, of_live}
@@ -29,7 +29,7 @@ use Rattle.transit_laws.specs.Undecided.{CarriedOutHaveNone, DecidedHaveNone}
 use Rattle.transit_laws.proofs.GivenUp.{none_is_both}
 use Rattle.transit_laws.proofs.OfLive.{each_found}
 use Rattle.transit_laws.proofs.OneAtATime.{one_at_a_time}
-use Rattle.transit_laws.proofs.TcSound.{IsSoundHost, log_sound}
+use Rattle.transit_laws.proofs.TcSound.{log_sound}
 use Rattle.transit_laws.proofs.TcTokens.{IsOwned}
 use Rattle.transit_laws.proofs.TcTurns.{idle}
 use Rattle.transit_laws.proofs.Decided.{run_is_causal}
@@ -51,7 +51,7 @@ decided_not_asking (Completing epoch awaited) is = refl
 decided_not_asking (Aborting why verifying awaited) is = absurd cc
 
 -- at a host that has asked for its epoch, and hasn't given it up, there may be none of it
-module _ (tx : TxId) (h : ℕ) (T D : TxId → Type 0) (begun bs vs : List TxId) where
+module _ (tx : TxId) (h : ℕ) (D : TxId → Type 0) (bs vs : List TxId) where
   asked_by : (live : List (TxId × Transaction)) (node next at : ℕ) → Each (IsOwned node next bs) live → Each (IsLive h at D vs) live → list_any (same_tx tx) vs ≡ true → list_any (same_tx tx) bs ≡ false
       → budget_by false (of_live tx live) ≡ 0
   asked_by live node next at owned all asked off = by (of_live tx live) refl
@@ -71,34 +71,33 @@ module _ (tx : TxId) (h : ℕ) (T D : TxId → Type 0) (begun bs vs : List TxId)
           let is = each_found (IsLive h at D vs) live tx t all e in
           idle t.phase t.asked own.right (not_asking t.phase (shut t is (phases.is_open t.phase) refl) (kept t own (is_aborting t.phase) refl))
 
-  none_by : (g : host.Host) → IsSoundHost g bs → HostKnows h T D g begun vs → list_any (same_tx tx) vs ≡ true → list_any (same_tx tx) bs ≡ false → budget_by false (of_host tx g) ≡ 0
-  none_by (Shell s) sound knows asked off = refl
-  none_by (Node n) sound knows asked off = asked_by n.tc.live n.tc.node n.tc.next_seq n.tc.next_seq sound.0.live knows.live asked off
-
 pub decided_have_none : DecidedHaveNone
 decided_have_none start es xs tx run transit decided kept =
+    let h : ℕ = home start tx in
+    let numbered = ((run_is_causal start es run).knows h).numbered in
     omega (
       arith,
       one_at_a_time start es xs tx run transit,
       ap (λ b. budget_by b (live_at start logs tx)) kept,
-      none_by tx tx.tc _ _ (sent_kinds start begun_by tx.tc (logs tx.tc)) (sent_ways start back_by tx.tc (logs tx.tc)) (sent_kinds start verified_by tx.tc (logs tx.tc)) (after start tx.tc (logs tx.tc))
-          (log_sound start tx.tc (logs tx.tc)) ((run_is_causal start es run).knows tx.tc) (decided_asked start es run tx decided) kept,
+      asked_by tx _ _ (sent_ways start back_by h (logs h)) (sent_kinds start verified_by h (logs h)) (tc_of (after start h (logs h))).live _ _ _ (log_sound start h (logs h)).tc.live numbered.live
+          (decided_asked start es run tx decided) kept,
     )
   where
     logs : ℕ → List HostStep
     logs = logs_of start es
 
 -- one that is carried out
-carried_by : (start : Start) (log : List HostStep) (tx : TxId) (g : host.Host) → after start tx.tc log ≡ g → IsSoundHost g (sent_ways start back_by tx.tc log)
-    → list_any (same_tx tx) (sent_ways start forth_by tx.tc log) ≡ true → budget_by false (of_host tx g) ≡ 0
-carried_by start log tx (Shell s) is sound carried = refl
-carried_by start log tx (Node n) is sound carried = by (of_live tx n.tc.live) refl
+carried_by : (start : Start) (h : ℕ) (log : List HostStep) (tx : TxId) → list_any (same_tx tx) (sent_ways start forth_by h log) ≡ true → budget_by false (of_host tx (after start h log)) ≡ 0
+carried_by start h log tx carried = by (of_live tx s.live) refl
   where
-    by : (o : Option Transaction) → of_live tx n.tc.live ≡ o → budget_by false o ≡ 0
+    s : TcState
+    s = tc_of (after start h log)
+
+    by : (o : Option Transaction) → of_live tx s.live ≡ o → budget_by false o ≡ 0
     by None e = refl
     by (Some t) e =
-        let own = each_found (IsOwned n.tc.node n.tc.next_seq (sent_ways start back_by tx.tc log)) n.tc.live tx t sound.0.live e in
-        let known = each_found (λ (x : TxId × Transaction). list_any (same_tx x.0) (sent_ways start forth_by tx.tc log) ≡ true → phases.is_decided x.1.phase ≡ true) n.tc.live tx t (forth_decided start tx.tc log n is) e in
+        let own = each_found (IsOwned s.node s.next_seq (sent_ways start back_by h log)) s.live tx t (log_sound start h log).tc.live e in
+        let known = each_found (λ (x : TxId × Transaction). list_any (same_tx x.0) (sent_ways start forth_by h log) ≡ true → phases.is_decided x.1.phase ≡ true) s.live tx t (forth_decided start h log) e in
         idle t.phase t.asked own.right (decided_not_asking t.phase (known carried))
 
 pub carried_out_have_none : CarriedOutHaveNone
@@ -107,7 +106,7 @@ carried_out_have_none start es xs tx run transit carried =
       arith,
       one_at_a_time start es xs tx run transit,
       ap (λ b. budget_by b (live_at start logs tx)) (none_is_both start logs tx carried),
-      carried_by start (logs tx.tc) tx (after start tx.tc (logs tx.tc)) refl (log_sound start tx.tc (logs tx.tc)) carried,
+      carried_by start (home start tx) (logs (home start tx)) tx carried,
     )
   where
     logs : ℕ → List HostStep

@@ -1,5 +1,5 @@
 -- A transaction that waits for its epoch, and isn't given up, has of each key what the primary answered.
-use Rattle.std.proofs.Common.{◌≡◌, ℕ, zero, suc, Bool, true, false, List, [], ◌∷◌, refl, sym, ap, ◌∙◌, subst}
+use Rattle.std.proofs.Common.{◌≡◌, ℕ, Bool, true, false, List, [], ◌∷◌, refl, sym, ap, ◌∙◌, subst}
 use Rattle.std.specs.List.{list_any}
 use Rattle.std.specs.Prelude.{is_some, None, Some}
 use Rattle.run_theory.proofs.Runs.{log_of-past}
@@ -7,13 +7,11 @@ use Rattle.run_theory.proofs.Pasts.{each_map}
 use Rattle.world_core.specs.Steps.{Addressed, HostStep}
 use Rattle.sig_core.specs.declared.member.TxId.{TxId}
 use Rattle.sig_core.specs.Same.{same_tx}
-use Rattle.node_core.specs.declared.host.Host.{Host}
-use Rattle.node_core.specs.declared.host.Host.TheVariants.{Shell, Node}
-use Rattle.node_core.specs.Fresh.{begun_node, fresh_node, fresh_shell}
+use Rattle.node_core.specs.Blocks.{tc_of}
 use Rattle.tc_block.specs.declared.phase.Phase.TheVariants.{Verifying}
 use Rattle.tc_block.specs.declared.transaction.Transaction.{Transaction}
 use Rattle.world_core.specs.Machine.{after, machine, signals_of}
-use Rattle.world_core.specs.Hosts.{started}
+use Rattle.world_core.specs.Hosts.{home}
 use Rattle.world_core.specs.Start.{Start}
 use Rattle.commit_laws.specs.Records.{found}
 use Rattle.commit_laws.specs.Replica.{Replica}
@@ -21,18 +19,18 @@ use Rattle.commit_laws.specs.ReplicaLaws.{key_in}
 use Rattle.tc_block.specs.Phases.{is_decided}
 use Rattle.commit_laws.specs.Ways.{forth_by, sent_ways}
 use Rattle.commit_laws.proofs.OneWay.{forth_decided}
-use Rattle.commit_laws.proofs.Replicas.{nodes_begin}
-use Rattle.answer_laws.proofs.Hosts.{shell_after}
+use Rattle.answer_laws.proofs.HostSteps.{first_live}
 use Rattle.transit_laws.specs.Circle.{Agree, IsSettledFor, VerifiedAreSettled, at_host, at_primary}
 use Rattle.transit_laws.specs.GivenUp.{is_carried_out, is_given_up}
-use Rattle.transit_laws.specs.Live.{live_at, of_host}
-use Rattle.transit_laws.specs.Routes.{primary}
+use Rattle.transit_laws.specs.Live.{live_at, of_host, of_live}
+use Rattle.transit_laws.specs.Routes.{primary_host}
 use Rattle.transit_laws.specs.Tokens.{is_token}
 use Rattle.transit_laws.specs.Transit.{AreInTransit, Comes, IsRun, Takes, joined, logs_of}
 use Rattle.transit_laws.proofs.CircleKept.{IsGoing}
 use Rattle.transit_laws.proofs.Circles.{IsCircling}
 use Rattle.transit_laws.proofs.CircleSteps.{step_circles}
 use Rattle.transit_laws.proofs.CircleView.{Settles}
+use Rattle.transit_laws.proofs.FreshHosts.{none_pending}
 use Rattle.transit_laws.proofs.KeyMoves.{replica_along}
 use Rattle.transit_laws.proofs.KeyTokens.{token_of}
 use Rattle.transit_laws.proofs.OfLive.{each_found}
@@ -45,34 +43,28 @@ use Rattle.transit_laws.proofs.Ways.{carried_more, given_more}
 
 -- who waits for its epoch isn't carried out
 undone : (start : Start) (logs : ℕ → List HostStep) (tx : TxId) (t : Transaction) → live_at start logs tx ≡ Some t → t.phase ≡ Verifying → is_carried_out start logs tx ≡ false
-undone start logs tx t live verifying = by (after start tx.tc (logs tx.tc)) refl
+undone start logs tx t live verifying = by (is_carried_out start logs tx) refl
   where
-    by : (s : Host) → after start tx.tc (logs tx.tc) ≡ s → is_carried_out start logs tx ≡ false
-    by (Shell a) is = absurd (let none : None ≡ Some t = sym (ap (of_host tx) is) ∙ live in cc)
-    by (Node n) is = which (is_carried_out start logs tx) refl
-      where
-        which : (b : Bool) → is_carried_out start logs tx ≡ b → b ≡ false
-        which false e = refl
-        which true e =
-            let decided : is_decided t.phase ≡ true =
-            each_found (λ (e : TxId × Transaction). list_any (same_tx e.0) (sent_ways start forth_by tx.tc (logs tx.tc)) ≡ true → is_decided e.1.phase ≡ true) n.tc.live tx t
-            (forth_decided start tx.tc (logs tx.tc) n is) (sym (ap (of_host tx) is) ∙ live) e in
-            absurd (let both : true ≡ false = sym decided ∙ ap is_decided verifying in cc)
+    by : (b : Bool) → is_carried_out start logs tx ≡ b → b ≡ false
+    by false e = refl
+    by true e =
+        let h = home start tx in
+        let decided : is_decided t.phase ≡ true =
+        each_found (λ (e : TxId × Transaction). list_any (same_tx e.0) (sent_ways start forth_by h (logs h)) ≡ true → is_decided e.1.phase ≡ true) (tc_of (after start h (logs h))).live tx t
+        (forth_decided start h (logs h)) live e in
+        absurd (let both : true ≡ false = sym decided ∙ ap is_decided verifying in cc)
 
 -- before the first step nothing is done
-started_live : (start : Start) (tx : TxId) (h : ℕ) → of_host tx (started start h) ≡ None
-unfolding fresh_shell fresh_node begun_node
-started_live start tx zero = refl
-started_live start tx (suc h) = refl
+started_live : (start : Start) (tx : TxId) (h : ℕ) → of_host tx (after start h []) ≡ None
+started_live start tx h = ap (of_live tx) (first_live start h)
 
 started_none : (start : Start) (tx : TxId) (key : List ℕ) (h : ℕ) → found tx (key_in key (after start h [])).cell.pending ≡ None
-started_none start tx key zero = ap (λ s. found tx (key_in key s).cell.pending) (shell_after start []).is
-started_none start tx key (suc h) = ap (λ (r : Replica). found tx r.cell.pending) (nodes_begin start h key)
+started_none start tx key h = ap (found tx) (none_pending start h key)
 
 first_circles : (start : Start) (tx : TxId) (key : List ℕ) → IsCircling start tx key [] []
 first_circles start tx key = record {
   pristine = λ unborn. record { made = refl; alive = refl; none = started_none start tx key };
-  going = λ t live early. absurd (let both : None ≡ Some t = sym (started_live start tx tx.tc) ∙ live in cc);
+  going = λ t live early. absurd (let both : None ≡ Some t = sym (started_live start tx (home start tx)) ∙ live in cc);
 }
 
 -- who isn't given up, or carried out, wasn't before
@@ -128,5 +120,5 @@ verified_settled start es xs tx t run transit kept live verifying = record { ask
           written = ap (λ (r : Replica). is_some (found tx r.cell.pending)) (here key) ∙ s.written;
         }
           where
-            here : (key : List ℕ) → (at_primary start (logs_of start es) key).replica ≡ at_host start (logs_of start es) key (primary start key)
-            here key = replica_along start (primary start key) key (logs_of start es (primary start key))
+            here : (key : List ℕ) → (at_primary start (logs_of start es) key).replica ≡ at_host start (logs_of start es) key (primary_host start key)
+            here key = replica_along start (primary_host start key) key (logs_of start es (primary_host start key))

@@ -27,10 +27,10 @@ use Rattle.world_core.specs.Machine.{after, machine, signals_of}
 use Rattle.world_core.specs.Start.{Start}
 use Rattle.commit_laws.specs.Ways.{AreSaid, IsSaid, Way, back, back_by, closes, forth, forth_by, neither, sent_ways, tc_sends, way_of}
 use Rattle.commit_laws.proofs.OneWay.{back_more, coordinators_say, forth_more}
+use Rattle.answer_laws.proofs.HostSteps.{at_own_node}
 use Rattle.transit_laws.specs.GivenUp.{is_carried_out, is_given_up}
 use Rattle.transit_laws.specs.Transit.{AreInTransit, Comes, IsRun, Takes, joined, logs_of}
-use Rattle.transit_laws.proofs.HomeHosts.{tc_home}
-use Rattle.transit_laws.proofs.OneAtATime.{comes_low}
+use Rattle.transit_laws.proofs.Addressed.{comes_below}
 use Rattle.transit_laws.proofs.TcSaid.{tc_speaks}
 use Rattle.transit_laws.proofs.Transit.{along_transit}
 use Rattle.transit_laws.proofs.WaysMarked.{IsMarked, api_marked, dih_marked, lqh_marked, tc_marked}
@@ -167,7 +167,7 @@ module _ (start : Start) where
           api = λ runs at. all_passed now (way_of e.step.taken.body) _ taken_now (api_passed (api_of g) e.step.taken.body);
           tc = λ runs at.
               each_map (λ (o : Outgoing). IsSaid (tc_of g).node (sent_ways start forth_by h (e ∷ old h)) (sent_ways start back_by h (e ∷ old h)) (way_of o.body)) (λ (o : Outgoing). IsTold now (way_of o.body))
-              (tc_row (tc_of g) e.step.taken).effects.sends (λ o is. said_told (tc_of g).node (tc_home start h (old h) (comes_low start es e come) runs) (way_of o.body) is)
+              (tc_row (tc_of g) e.step.taken).effects.sends (λ o is. said_told (tc_of g).node (sym (at_own_node start h (old h) (comes_below start es e come) runs).is) (way_of o.body) is)
               (subst (λ sends. AreSaid g (sent_ways start forth_by h (e ∷ old h)) (sent_ways start back_by h (e ∷ old h)) sends) (tc_speaks g e.step.taken runs at) (coordinators_say start h (old h) e));
           dih = λ runs at. all_passed now (way_of e.step.taken.body) _ taken_now (dih_passed (dih_of g) e.step.taken.body);
           rows = λ runs at. all_passed now (way_of e.step.taken.body) _ taken_now (lqh_passed (lqh_of g) e.step.taken.body);
@@ -191,7 +191,7 @@ module _ (start : Start) where
           (each_between (λ (x : Addressed). IsTold old (way_of x.signal.body)) e before between takes held.signals));
       marks = λ g. each_next (machine start) (λ (f : HostStep). Each (IsMarkTold now) f.step.marks) es e g marks_now
           (each_map (λ (f : HostStep). Each (IsMarkTold old) f.step.marks) (λ (f : HostStep). Each (IsMarkTold now) f.step.marks) (old g)
-          (λ f all. each_map (IsMarkTold old) (IsMarkTold now) f.step.marks (λ m is. mark_more old now past m is) all) (held.step.marks g));
+          (λ f all. each_map (IsMarkTold old) (IsMarkTold now) f.step.marks (λ m is. mark_more old now past m is) all) (held.marks g));
     }
 
   pub all_told : (es : List HostStep) (xs : List Addressed) → IsRun start es → AreInTransit start es xs → AllTold (logs_of start es) xs

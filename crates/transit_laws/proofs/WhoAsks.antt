@@ -1,11 +1,11 @@
 -- What asks for an epoch is of a transaction that waits for it with these operations, unless it is given up.
-use Rattle.std.proofs.Common.{◌≡◌, ◌≢◌, ◌⊎◌, ℕ, zero, suc, ◌+◌, ◌≤◌, List, [], ◌∷◌, Bool, true, false, refl, sym, ap, ◌∙◌, subst, inl, inr, arith}
+use Rattle.std.proofs.Common.{◌≡◌, ◌≢◌, ◌⊎◌, ℕ, ◌+◌, ◌≤◌, List, [], ◌∷◌, Bool, true, false, refl, sym, ap, ◌∙◌, subst, inl, inr, arith}
 use Rattle.std.proofs.lemmas.Bool.{cases_eq, or_cases}
 use Rattle.std.specs.List.{list_any}
 use Rattle.std.specs.Prelude.{◌||◌, Option, None, Some}
 use Rattle.run_theory.specs.Lists.{Each, IsIn}
 use Rattle.run_theory.proofs.Pasts.{each_from, each_in, each_map}
-use Rattle.run_theory.proofs.Runs.{log_of-other, log_of-own, log_of-past}
+use Rattle.run_theory.proofs.Runs.{log_of-own, log_of-past}
 use Rattle.world_core.specs.Steps.{Addressed, HostStep}
 use Rattle.sig_core.specs.declared.member.TxId.{TxId}
 use Rattle.sig_core.specs.declared.op.Answer.{Answer}
@@ -23,33 +23,30 @@ use Rattle.tc_block.specs.Operate.{fresh}
 use Rattle.tc_block.specs.Tc.{next_tx}
 use Rattle.tc_block.specs.Turn.{Turn, at_phase}
 use Rattle.node_core.specs.declared.host.Host.{Host}
-use Rattle.node_core.specs.declared.host.Host.TheVariants.{Shell, Node}
-use Rattle.node_core.specs.declared.node.Node as node
-use Rattle.node_core.specs.Fresh.{begun_node, fresh_node, fresh_shell}
+use Rattle.node_core.specs.Blocks.{has_tc, tc_of}
 use Rattle.node_core.specs.Requests.{is_request}
 use Rattle.node_core.specs.Row.{row}
 use Rattle.world_core.specs.Machine.{after, machine, signals_of, step_after}
-use Rattle.world_core.specs.Hosts.{started}
+use Rattle.world_core.specs.Hosts.{home}
 use Rattle.world_core.specs.Start.{Start}
 use Rattle.commit_laws.specs.Ways.{Way, back, back_by, closes, forth, neither, put_ways, sent_ways, tc_sends, way_of}
 use Rattle.sig_core.proofs.Keys.{same_tx-self}
 use Rattle.commit_laws.proofs.OneWay.{back_more}
-use Rattle.api_block.specs.State.{ApiState}
-use Rattle.answer_laws.proofs.Hosts.{shell_after}
-use Rattle.answer_laws.proofs.Lives.{keeps}
+use Rattle.answer_laws.proofs.HostSteps.{first_live}
 use Rattle.commit_laws.specs.Counts.{one_if}
 use Rattle.transit_laws.specs.Circle.{IsOfWaiting, WaitsWith, WhoAsksWaits}
 use Rattle.transit_laws.specs.GivenUp.{is_given_up}
 use Rattle.transit_laws.specs.Live.{live_at, of_host, of_live}
 use Rattle.transit_laws.specs.Transit.{AreInTransit, Comes, IsRun, Takes, joined, logs_of}
 use Rattle.transit_laws.proofs.HostAsks as asks
-use Rattle.transit_laws.proofs.HostAsks.{HostAsks, IsHome, IsUnborn, Leaves, OpsOf, host_asks, none_ops, zero_ops}
+use Rattle.transit_laws.proofs.HostAsks.{HostAsks, IsUnborn, Leaves, OpsOf, host_asks, none_ops, zero_ops}
+use Rattle.transit_laws.proofs.HomeSteps.{IsHome, all_home, away, here_now, here_was, own_home}
 use Rattle.transit_laws.proofs.LiveAfter.{live_none, strange_none, unborn_none}
 use Rattle.transit_laws.proofs.TcAsks.{AreMute, AskTurn, IsAsking, is_ask, is_back, is_conf}
 use Rattle.transit_laws.proofs.TcAskTurns.{ask, mute_none}
 use Rattle.transit_laws.proofs.TcCircle.{Going, GoesOn, is_early, left_by, notes, operates, rests, verifies}
 use Rattle.transit_laws.proofs.Transit.{along_transit}
-use Rattle.transit_laws.proofs.Ways.{given_more, number_of}
+use Rattle.transit_laws.proofs.Ways.{given_more}
 use Rattle.transit_laws.proofs.Weighing.{each_between, each_joins, in_sends, in_transit, joins_weigh, none_weighs, takes_weigh, weigh}
 
 verifying_is : (phase : Phase) → is_verifying phase ≡ true → phase ≡ Verifying
@@ -111,7 +108,7 @@ module _ (start : Start) (tx : TxId) where
   Allowed (Some t) xs = IsAllowed t xs
 
   record Holds (logs : ℕ → List HostStep) (xs : List Addressed) : Type 0 where
-    unborn : IsUnborn tx.seq (after start tx.tc (logs tx.tc)) → asking xs ≡ 0
+    unborn : IsUnborn tx.seq (after start (home start tx) (logs (home start tx))) → asking xs ≡ 0
     free : is_given_up start logs tx ≡ false → Allowed (live_at start logs tx) xs
 
   -- fewer signals are allowed too
@@ -122,19 +119,6 @@ module _ (start : Start) (tx : TxId) where
     waits = λ v. let w = is.waits v in record { few = omega (arith, low, w.few); free = w.free; ops = more t.ops w.ops };
     none = λ off. omega (arith, low, is.none off);
   }
-
-  home_of : (h : ℕ) (log : List HostStep) (n : node.Node) → after start h log ≡ Node n → IsHome tx n.tc
-  home_of zero log n is = absurd (other (shell_after start log).state (sym (shell_after start log).is ∙ is))
-    where
-      other : (s : ApiState) → Shell s ≡ Node n → ⊥
-      other s same = cc
-  home_of (suc h) log n is =
-      let k = keeps start tx h log in
-      let same : k.state ≡ n = the_same k.state (sym k.is ∙ is) in
-      subst (λ (m : node.Node). IsHome tx m.tc) same (record { own = k.keeps.own; once = omega (arith, k.keeps.began, k.keeps.once) })
-    where
-      the_same : (m : node.Node) → Node m ≡ Node n → m ≡ n
-      the_same m same = cc
 
   module _ (es : List HostStep) (e : HostStep) (before between : List Addressed) (come : Comes start es e) (held : Holds (logs_of start es) before) (takes : Takes e before between) where
     abbrev h : ℕ
@@ -182,83 +166,76 @@ module _ (start : Start) (tx : TxId) where
     none_between ops none =
         each_map (λ (x : Addressed). ask tx x.signal.to x.signal.body ≡ 0) (λ (x : Addressed). OpsOf tx ops x.signal.body) between (λ x is. zero_ops tx ops x.signal.body is) (none_weighs (λ (x : Addressed). ask tx x.signal.to x.signal.body) between none)
 
-    -- the host of its coordinator, if it is the one that steps, and if it isn't
-    here_now : h ≡ tx.tc → after start tx.tc (now tx.tc) ≡ later
-    here_now at = subst (λ k. after start k (now k) ≡ later) at (ap (after start h) own_now)
-
-    here_old : h ≡ tx.tc → after start tx.tc (old tx.tc) ≡ s
-    here_old at = subst (λ k. after start k (old k) ≡ s) at refl
-
-    away : h ≢ tx.tc → after start tx.tc (now tx.tc) ≡ after start tx.tc (old tx.tc)
-    away off = ap (after start tx.tc) (log_of-other (machine start) e es tx.tc off)
+    abbrev at_home : ℕ
+    at_home = home start tx
 
     -- a step that leaves it alone
     leaves_hold : Leaves tx s e.step.taken.body later sends → Holds now then_is
     leaves_hold is = record {
-      unborn = λ low. omega (arith, fewer, held.unborn (unborn_old (cases_eq h tx.tc) low));
-      free = λ off. subst (λ o. Allowed o then_is) (sym (live_same (cases_eq h tx.tc)))
+      unborn = λ low. omega (arith, fewer, held.unborn (unborn_old (cases_eq h at_home) low));
+      free = λ off. subst (λ o. Allowed o then_is) (sym (live_same (cases_eq h at_home)))
           (less_allowed (live_at start old tx) before then_is fewer (λ ops all. ops_now ops (is.passes.ops ops) (each_between (λ (x : Addressed). OpsOf tx ops x.signal.body) e before between takes all)) (held.free (not_before off)));
     }
       where
         fewer : asking then_is ≤ asking before
         fewer = omega (arith, taken_weighs, now_weighs, is.passes.few)
 
-        unborn_old : (h ≡ tx.tc) ⊎ (h ≢ tx.tc) → IsUnborn tx.seq (after start tx.tc (now tx.tc)) → IsUnborn tx.seq (after start tx.tc (old tx.tc))
-        unborn_old (inl at) low = subst (IsUnborn tx.seq) (sym (here_old at)) (is.unborn (subst (IsUnborn tx.seq) (here_now at) low))
-        unborn_old (inr off) low = subst (IsUnborn tx.seq) (away off) low
+        unborn_old : (h ≡ at_home) ⊎ (h ≢ at_home) → IsUnborn tx.seq (after start at_home (now at_home)) → IsUnborn tx.seq (after start at_home (old at_home))
+        unborn_old (inl at) low = subst (IsUnborn tx.seq) (sym (here_was start es e come tx at)) (is.unborn (subst (IsUnborn tx.seq) (here_now start es e come tx at) low))
+        unborn_old (inr off) low = subst (IsUnborn tx.seq) (away start es e come tx off) low
 
-        live_same : (h ≡ tx.tc) ⊎ (h ≢ tx.tc) → live_at start now tx ≡ live_at start old tx
-        live_same (inl at) = ap (of_host tx) (here_now at) ∙ (is.live ∙ ap (of_host tx) (sym (here_old at)))
-        live_same (inr off) = ap (of_host tx) (away off)
+        live_same : (h ≡ at_home) ⊎ (h ≢ at_home) → live_at start now tx ≡ live_at start old tx
+        live_same (inl at) = ap (of_host tx) (here_now start es e come tx at) ∙ (is.live ∙ ap (of_host tx) (sym (here_was start es e come tx at)))
+        live_same (inr off) = ap (of_host tx) (away start es e come tx off)
 
     -- its beginning
-    begun_holds : (n : node.Node) → s ≡ Node n → next_tx n.tc ≡ tx → of_host tx later ≡ Some fresh → in_sends (ask tx) sends ≡ 0 → Holds now then_is
-    begun_holds n is next live none = record {
+    begun_holds : has_tc s ≡ true → next_tx (tc_of s) ≡ tx → of_host tx later ≡ Some fresh → in_sends (ask tx) sends ≡ 0 → Holds now then_is
+    begun_holds runs next live none = record {
       unborn = λ low. nothing;
-      free = λ off. subst (λ o. Allowed o then_is) (sym (ap (of_host tx) (here_now home) ∙ live)) (record { waits = λ v. absurd cc; none = λ open_is. nothing });
+      free = λ off. subst (λ o. Allowed o then_is) (sym (ap (of_host tx) (here_now start es e come tx its_home) ∙ live)) (record { waits = λ v. absurd cc; none = λ open_is. nothing });
     }
       where
-        home : h ≡ tx.tc
-        home = sym (number_of start h (old h) n is) ∙ ap (λ (v : TxId). v.tc) next
+        its_home : h ≡ at_home
+        its_home = own_home start es e come tx runs (ap (λ (v : TxId). v.tc) (sym next))
 
-        low : IsUnborn tx.seq (Node n)
+        low : IsUnborn tx.seq s
         low = omega (arith, ap (λ (v : TxId). v.seq) next)
 
         nothing : asking then_is ≡ 0
-        nothing = omega (arith, taken_weighs, now_weighs, none, held.unborn (subst (IsUnborn tx.seq) (sym (here_old home ∙ is)) low))
+        nothing = omega (arith, taken_weighs, now_weighs, none, held.unborn (subst (IsUnborn tx.seq) (sym (here_was start es e come tx its_home)) low))
 
     -- a turn of it
-    module _ (n : node.Node) (t : Transaction) (turn : Turn) (is : s ≡ Node n) (was : of_live tx n.tc.live ≡ Some t) (live : of_host tx later ≡ left_by turn) (sent : sends ≡ turn.step.effects.sends)
-        (said : tc_sends s e.step.taken.to.block e.step.taken.body ≡ turn.step.effects.sends) (unborn_was : IsUnborn tx.seq later → IsUnborn tx.seq s)
+    module _ (runs : has_tc s ≡ true) (t : Transaction) (turn : Turn) (was : of_host tx s ≡ Some t) (live : of_host tx later ≡ left_by turn) (sent : sends ≡ turn.step.effects.sends)
+        (said : tc_sends s e.step.taken ≡ turn.step.effects.sends) (unborn_was : IsUnborn tx.seq later → IsUnborn tx.seq s)
         (ask_turn : AskTurn tx e.step.taken.body t turn) (goes : GoesOn tx e.step.taken.body t turn) where
-      home_is : IsHome tx n.tc
-      home_is = home_of h (old h) n is
+      home_is : IsHome tx (tc_of s)
+      home_is = all_home start tx h (old h)
 
-      not_none : of_live tx n.tc.live ≡ None → ⊥
+      not_none : of_host tx s ≡ None → ⊥
       not_none none = let both : None ≡ Some t = sym none ∙ was in cc
 
-      home : h ≡ tx.tc
-      home = by (cases_eq tx.tc n.tc.node)
+      its_home : h ≡ at_home
+      its_home = by (cases_eq tx.tc (tc_of s).node)
         where
-          by : (tx.tc ≡ n.tc.node) ⊎ (tx.tc ≢ n.tc.node) → h ≡ tx.tc
-          by (inl at) = sym (at ∙ number_of start h (old h) n is)
-          by (inr off) = absurd (not_none (live_none tx n.tc.live (strange_none tx n.tc.node n.tc.next_seq n.tc.live home_is.own off)))
+          by : (tx.tc ≡ (tc_of s).node) ⊎ (tx.tc ≢ (tc_of s).node) → h ≡ at_home
+          by (inl at) = own_home start es e come tx runs at
+          by (inr off) = absurd (not_none (live_none tx (tc_of s).live (strange_none tx (tc_of s).node (tc_of s).next_seq (tc_of s).live home_is.own off)))
 
       born : IsUnborn tx.seq later → ⊥
-      born low = not_none (live_none tx n.tc.live (unborn_none tx n.tc.node n.tc.next_seq n.tc.live home_is.own (subst (IsUnborn tx.seq) is (unborn_was low))))
+      born low = not_none (live_none tx (tc_of s).live (unborn_none tx (tc_of s).node (tc_of s).next_seq (tc_of s).live home_is.own (unborn_was low)))
 
       -- if it isn't given up
       module _ (off : is_given_up start now tx ≡ false) where
         allowed : IsAllowed t before
         allowed =
-            subst (λ o. Allowed o before) (ap (of_host tx) (here_old home ∙ is) ∙ was) (held.free (not_before off))
+            subst (λ o. Allowed o before) (ap (of_host tx) (here_was start es e come tx its_home) ∙ was) (held.free (not_before off))
 
         no_back : list_any (λ (o : Outgoing). is_back tx (way_of o.body)) turn.step.effects.sends ≡ true → ⊥
         no_back goes_back =
             let given : list_any (same_tx tx) (sent_ways start back_by h (e ∷ old h)) ≡ true =
-            back_in tx (tc_sends s e.step.taken.to.block e.step.taken.body) (sent_ways start back_by h (old h)) (subst (λ w. list_any (λ (o : Outgoing). is_back tx (way_of o.body)) w ≡ true) (sym said) goes_back) in
+            back_in tx (tc_sends s e.step.taken) (sent_ways start back_by h (old h)) (subst (λ w. list_any (λ (o : Outgoing). is_back tx (way_of o.body)) w ≡ true) (sym said) goes_back) in
             let up : is_given_up start now tx ≡ true =
-            subst (λ k. list_any (same_tx tx) (sent_ways start back_by k (now k)) ≡ true) home (subst (λ log. list_any (same_tx tx) (sent_ways start back_by h log) ≡ true) (sym own_now) given) in
+            subst (λ k. list_any (same_tx tx) (sent_ways start back_by k (now k)) ≡ true) its_home (subst (λ log. list_any (same_tx tx) (sent_ways start back_by h log) ≡ true) (sym own_now) given) in
             let both : true ≡ false = sym up ∙ off in cc
 
         mute_weighs : AreMute turn.step.effects.sends → in_sends (ask tx) sends ≡ 0
@@ -345,25 +322,20 @@ module _ (start : Start) (tx : TxId) where
 
       turned_holds : Holds now then_is
       turned_holds = record {
-        unborn = λ low. absurd (born (subst (IsUnborn tx.seq) (here_now home) low));
-        free = λ off. subst (λ o. Allowed o then_is) (sym (ap (of_host tx) (here_now home) ∙ live)) (allowed_now off);
+        unborn = λ low. absurd (born (subst (IsUnborn tx.seq) (here_now start es e come tx its_home) low));
+        free = λ off. subst (λ o. Allowed o then_is) (sym (ap (of_host tx) (here_now start es e come tx its_home) ∙ live)) (allowed_now off);
       }
 
     holds_next : Holds now then_is
-    holds_next = by (host_asks tx s e.step.taken (λ n is. home_of h (old h) n is))
+    holds_next = by (host_asks tx s e.step.taken (all_home start tx h (old h)))
       where
-        by : HostAsks tx s e.step.taken.to.block e.step.taken.body later sends → Holds now then_is
+        by : HostAsks tx s e.step.taken later sends → Holds now then_is
         by (asks.leaves is) = leaves_hold is
-        by (asks.turned n t turn is was live sent said unborn_was ask_turn goes) = turned_holds n t turn is was live sent said unborn_was ask_turn goes
-        by (asks.begun n is next live none) = begun_holds n is next live none
-
-  started_free : (k : ℕ) → of_host tx (started start k) ≡ None
-  unfolding fresh_shell fresh_node begun_node
-  started_free zero = refl
-  started_free (suc k) = refl
+        by (asks.turned runs t turn was live sent said unborn_was ask_turn goes) = turned_holds runs t turn was live sent said unborn_was ask_turn goes
+        by (asks.begun runs next live none) = begun_holds runs next live none
 
   holds_first : Holds (logs_of start []) []
-  holds_first = record { unborn = λ low. refl; free = λ off. subst (λ o. Allowed o []) (sym (started_free tx.tc)) refl }
+  holds_first = record { unborn = λ low. refl; free = λ off. subst (λ o. Allowed o []) (sym (ap (of_live tx) (first_live start (home start tx)))) refl }
 
   all_hold : (es : List HostStep) (xs : List Addressed) → IsRun start es → AreInTransit start es xs → Holds (logs_of start es) xs
   all_hold es xs run transit =
@@ -375,7 +347,7 @@ module _ (start : Start) (tx : TxId) where
   waits_with logs xs x ops holds inside is off = by (live_at start logs tx) refl (holds.free off)
     where
       some : 1 ≤ asking xs
-      some = omega (arith, weigh_in (λ (y : Addressed). ask tx y.to y.body) x xs inside, ap (λ b. one_if (is_ask tx b)) is, ap one_if (same_tx-self tx))
+      some = omega (arith, weigh_in (λ (y : Addressed). ask tx y.signal.to y.signal.body) x xs inside, ap (λ b. one_if (is_ask tx b)) is, ap one_if (same_tx-self tx))
 
       phase_is : (t : Transaction) → IsAllowed t xs → (b : Bool) → is_verifying t.phase ≡ b → t.phase ≡ Verifying
       phase_is t allowed true v = verifying_is t.phase v
@@ -385,7 +357,7 @@ module _ (start : Start) (tx : TxId) where
       by None live none = absurd (omega (arith, some, none))
       by (Some t) live allowed =
           let v = phase_is t allowed (is_verifying t.phase) refl in
-          let own : OpsOf tx t.ops x.signal.body = each_in (λ (y : Addressed). OpsOf tx t.ops y.body) x xs (allowed.waits v).ops inside in
+          let own : OpsOf tx t.ops x.signal.body = each_in (λ (y : Addressed). OpsOf tx t.ops y.signal.body) x xs (allowed.waits v).ops inside in
           record { transaction = t; live = live; phase = v; ops_are = sym (subst (OpsOf tx t.ops) is own (same_tx-self tx)) }
 
 pub who_asks_waits : WhoAsksWaits

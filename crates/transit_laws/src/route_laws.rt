@@ -2,7 +2,7 @@
 ghost use Rattle.transit_laws.specs.Keyed.{TransactionsAreKeyed};
 ghost use Rattle.transit_laws.specs.Routes.{ComingAreRouted, CommitsEndAtPrimary, ReplicasAreApart, ReplicasAreNodes, RequestsAreForReplicas, SignalsAreForBlocks, SignalsAreRouted};
 
-/// The replicas of a key are nodes, each of them once.
+/// The replicas of a key are nodes of the group that has the key, each of them once.
 pub fn replicas_are_nodes()
     ensures apart { ReplicasAreApart }
     ensures nodes { ReplicasAreNodes }
