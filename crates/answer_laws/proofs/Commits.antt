@@ -1,7 +1,7 @@
 -- What a transaction that commits waits for is on its way.
 use Rattle.std.proofs.Common.{◌≡◌, ◌≢◌, ◌⊎◌, ℕ, zero, suc, ◌+◌, ◌-◌, ◌≤◌, ◌<◌, List, [], ◌∷◌, length, Bool, true, false, refl, ap, sym, ◌∙◌, subst, arith, inl, inr}
 use Rattle.std.specs.Prelude.{◌==◌, ◌&&◌, nat_lt, Option, None, Some}
-use Rattle.std.proofs.lemmas.Bool.{cases_eq, cases_lt, eqb-true, false≢true, true≢false}
+use Rattle.std.proofs.lemmas.Bool.{cases_eq, eqb-true, false≢true, true≢false}
 use Rattle.std.proofs.lemmas.Bool.Decides.{nat_tests}
 use Rattle.frag_map.specs.Layout.{Layout, chain_of, first_layout}
 use Rattle.frag_map.specs.Shape.{IsShape}
@@ -423,11 +423,3 @@ no_commit start logs h tx t quiet low live = go t.phase refl
     go Verifying p = ap is_committing p
     go (Completing epoch k) p = ap is_committing p
     go (Aborting why verifying k) p = ap is_committing p
-
--- a transaction is live at a host that is there
-pub live_low : (start : Start) (logs : ℕ → List HostStep) (tx : TxId) (t : Transaction) → AreQuiet start logs → (h : ℕ) → IsLiveAs tx t (after start h (logs h)) → h < hosts start
-live_low start logs tx t quiet h live = by (cases_lt h (hosts start))
-  where
-    by : (h < hosts start) ⊎ (hosts start ≤ h) → h < hosts start
-    by (inl low) = low
-    by (inr high) = absurd (subst (λ l. IsIn (tx, t) l) (first_live start h) (subst (λ log. IsLiveAs tx t (after start h log)) (quiet.within h high) live))
