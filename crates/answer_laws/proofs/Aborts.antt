@@ -30,9 +30,10 @@ use Rattle.commit_laws.proofs.Sums.{total_le, total_same}
 use Rattle.commit_laws.proofs.Tally.{and_few}
 use Rattle.commit_laws.specs.Counts.{one_if}
 use Rattle.answer_laws.proofs.AbortCounts.{abort_low, answer_turn, cont_place, cont_turn, conts_few, few_answers, few_rows, lqh_aborts, none_at}
-use Rattle.answer_laws.proofs.Ahead.{Goes, IsHome, addressed, along, at_home, at_tc, few_taken, first_none, heard_rows, home_node, home_place, layout_after, live_tx, no_transaction, other_turn, the_transaction, turn_at, tx_at}
+use Rattle.answer_laws.proofs.Ahead.{Goes, IsHome, addressed, along, at_home, at_tc, few_taken, first_none, heard_rows, home_node, home_place, live_tx, no_transaction, other_turn, the_transaction, turn_at, tx_at}
 use Rattle.answer_laws.proofs.Always.{few_touched}
 use Rattle.answer_laws.proofs.FirstChains.{good_chain}
+use Rattle.answer_laws.proofs.HostSteps.{tc_layout}
 use Rattle.answer_laws.proofs.HostTurns.{HostTurn, IsAside, aside, in_rows, starting, turning}
 use Rattle.answer_laws.proofs.LinkCounts.{sent_signals, signals, taken_signals}
 use Rattle.answer_laws.proofs.LqhOps.{is_good, is_lqh, is_node, left_of}
@@ -234,7 +235,7 @@ module _ (start : Start) (shape : IsShape start.shape) (tx : TxId) (some_node : 
           which true over = no_transaction u (sym (step.left ∙ ap (λ b. if b then None else Some step.turn.step.state) over) ∙ now_at)
           which false over =
               subst (λ w. IsDue now w k) same
-              (moved (abort_move nodes tx (first_layout start.shape) good (tc_of s) number (layout_after start at (logs at) step.runs) step.was e.step.taken.body step.turn step.move over why v k (ap (λ (w : Transaction). w.phase) same ∙ u_is)))
+              (moved (abort_move nodes tx (first_layout start.shape) good (tc_of s) number (tc_layout start at (logs at) step.runs) step.was e.step.taken.body step.turn step.move over why v k (ap (λ (w : Transaction). w.phase) same ∙ u_is)))
             where
               same : step.turn.step.state ≡ u
               same = the_transaction step.turn.step.state u (sym (step.left ∙ ap (λ b. if b then None else Some step.turn.step.state) over) ∙ now_at)

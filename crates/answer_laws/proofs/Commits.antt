@@ -42,9 +42,9 @@ use Rattle.commit_laws.proofs.Sums.{total_le, total_same}
 use Rattle.commit_laws.proofs.Tally.{and_few}
 use Rattle.commit_laws.specs.Counts.{one_if}
 use Rattle.answer_laws.proofs.AbortCounts.{conts_few}
-use Rattle.answer_laws.proofs.Ahead.{Goes, IsHome, addressed, along, at_home, at_tc, few_taken, heard_rows, home_node, home_place, layout_after, live_tx, tx_at}
+use Rattle.answer_laws.proofs.Ahead.{Goes, IsHome, addressed, along, at_home, at_tc, few_taken, heard_rows, home_node, home_place, live_tx, tx_at}
 use Rattle.answer_laws.proofs.FirstChains.{chain_some, good_chain}
-use Rattle.answer_laws.proofs.HostSteps.{first_live, reaches}
+use Rattle.answer_laws.proofs.HostSteps.{first_live, reaches, tc_layout}
 use Rattle.answer_laws.proofs.HostTurns.{rows_turn, tc_turn}
 use Rattle.answer_laws.proofs.LinkCounts.{sent_signals, signals, taken_signals}
 use Rattle.answer_laws.proofs.LqhOps.{is_good, is_lqh, is_node, left_of, right_of, true_and}
@@ -150,7 +150,7 @@ module _ (start : Start) (shape : IsShape start.shape) (tx : TxId) where
       → StepOwes nodes tx (tc_of (after start h log)) (tc_table (tc_of (after start h log)) body).state (tc_table (tc_of (after start h log)) body).effects.sends (came_in nodes tx body) (cont_in nodes tx body)
   owes h log body on known =
       let x = at_tc start tx h log in
-      tc_owes nodes tx (tc_of (after start h log)) body known x.once x.own (subst (λ (l : Layout). (key : List ℕ) → is_chain nodes (chain_of l key) ≡ true) (sym (layout_after start h log on)) good)
+      tc_owes nodes tx (tc_of (after start h log)) body known x.once x.own (subst (λ (l : Layout). (key : List ℕ) → is_chain nodes (chain_of l key) ≡ true) (sym (tc_layout start h log on)) good)
 
   known_after : (h : ℕ) (log : List HostStep) → AreKnown (tc_of (after start h log))
   known_after h [] = subst (λ live. Each (λ (e : TxId × Transaction). IsKnown nodes e.1) live) (sym (first_live start h)) tt

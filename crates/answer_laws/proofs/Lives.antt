@@ -26,6 +26,7 @@ use Rattle.world_core.specs.Start.{Start}
 use Rattle.world_core.specs.Steps.{Addressed, HostStep}
 use Rattle.sig_core.proofs.Keys.{same_tx-self}
 use Rattle.answer_laws.proofs.LqhOps.{right_of, left_of}
+use Rattle.answer_laws.proofs.Ahead.{none_kept}
 use Rattle.answer_laws.proofs.ApiHolds.{AreHeld, IsOrdered, log_holds}
 use Rattle.answer_laws.proofs.Hosts.{IsHome, TellsHome, told}
 use Rattle.answer_laws.proofs.HostSteps.{at_own_node, first_live, live_runs}
@@ -90,18 +91,7 @@ module _ (start : Start) (tx : TxId) where
       later false some = due (omega (arith, some))
 
   pub keeps : (h : ℕ) (log : List HostStep) → HostKeeps h log
-  keeps h [] = record {
-    keeps = record {
-      began = omega (arith, ap (tally (is_keyed tx)) (first_live start h));
-      order = λ e. e;
-      kept = λ e. absurd (omega (arith, e));
-      told = λ e. absurd (omega (arith, e, ap (tally (is_done tx)) (first_live start h)));
-      once = omega arith;
-      unborn = λ e. refl;
-      own = subst (Each (λ (e : TxId × Transaction). IsOwn (tc_of (after start h [])).node (tc_of (after start h [])).next_seq e.0)) (sym (first_live start h)) tt;
-    };
-    ordered = tt;
-  }
+  keeps h [] = record { keeps = none_kept tx (tc_of (after start h [])) (first_live start h); ordered = tt }
   keeps h (e ∷ log) = next (keeps h log)
     where
       g : host.Host

@@ -34,10 +34,10 @@ use Rattle.world_core.specs.Machine.{after, machine, step_after}
 use Rattle.world_core.specs.Start.{Start}
 use Rattle.world_core.specs.Steps.{HostStep}
 use Rattle.sig_core.proofs.Keys.{same_tx-self, same_key-self}
-use Rattle.answer_laws.proofs.Ahead.{Goes, addressed, along, at_tc, heard_rows, home_place, layout_after}
+use Rattle.answer_laws.proofs.Ahead.{Goes, addressed, along, at_tc, heard_rows, home_place}
 use Rattle.answer_laws.proofs.FirstChains.{first_node, good_chain}
 use Rattle.answer_laws.proofs.Flows.{flow_few}
-use Rattle.answer_laws.proofs.HostSteps.{first_live, no_waiting, reaches}
+use Rattle.answer_laws.proofs.HostSteps.{first_live, no_waiting, reaches, tc_layout}
 use Rattle.answer_laws.proofs.HostTurns.{idle_unheard}
 use Rattle.answer_laws.proofs.Lives.{live_home}
 use Rattle.answer_laws.proofs.LinkCounts.{signals}
@@ -74,7 +74,7 @@ module _ (start : Start) (is : IsShape start.shape) (tx : TxId) (key : List ℕ)
       → StepAsks nodes tx key (tc_of (after start h log)) (tc_table (tc_of (after start h log)) body).state (tc_table (tc_of (after start h log)) body).effects.sends (answers_of nodes tx key body)
   turn h log body on right =
       let x = at_tc start tx h log in
-      tc_steps nodes tx key (tc_of (after start h log)) body right x.once x.own (subst (IsGoodLayout nodes) (sym (layout_after start h log on)) good)
+      tc_steps nodes tx key (tc_of (after start h log)) body right x.once x.own (subst (IsGoodLayout nodes) (sym (tc_layout start h log on)) good)
 
   right_after : (h : ℕ) (log : List HostStep) → AreRight (tc_of (after start h log)).live
   right_after h [] = subst AreRight (sym (first_live start h)) tt
