@@ -26,7 +26,7 @@ use Rattle.world_core.specs.Hosts.{home, host_for, hosts, tc_host}
 use Rattle.world_core.specs.Machine.{after, machine, step_after}
 use Rattle.world_core.specs.Start.{Start}
 use Rattle.world_core.specs.Steps.{Addressed, HostStep}
-use Rattle.answer_laws.proofs.HostSteps.{at_own_node, first_live}
+use Rattle.answer_laws.proofs.HostSteps.{IsHome, at_own_node, first_live}
 pub use Rattle.answer_laws.proofs.HostTurns.{tx_at}
 use Rattle.answer_laws.proofs.HostTurns.{HostTurn, IsAside, aside, host_turn, in_rows, starting, turning, tx_runs}
 use Rattle.answer_laws.proofs.LinkCounts.{signals}
@@ -169,20 +169,11 @@ module _ (start : Start) where
   live_tx tx h log t live = live_in tx t (tc_of (after start h log)).live (at_tc tx h log).once live
 
   -- a transaction is at its home
-  pub at_home : (tx : TxId) (h : ℕ) (log : List HostStep) (t : Transaction) → h < hosts start → tx_at tx (after start h log) ≡ Some t → home start tx ≡ h
+  pub at_home : (tx : TxId) (h : ℕ) (log : List HostStep) (t : Transaction) → h < hosts start → tx_at tx (after start h log) ≡ Some t → IsHome start tx h
   at_home tx h log t low at =
-      ap (tc_host start) (live_home tx (tc_of (after start h log)) t at (at_tc tx h log).own) ∙ sym (at_own_node start h log low (tx_runs tx (after start h log) t at)).is
-
-  -- and that is of a node that is there
-  pub record IsHome (tx : TxId) : Type 0 where
-    pub some : 1 ≤ tx.tc
-    pub few : tx.tc ≤ start.shape.nodes
-
-  pub home_node : (tx : TxId) (h : ℕ) (log : List HostStep) (t : Transaction) → h < hosts start → tx_at tx (after start h log) ≡ Some t → IsHome tx
-  home_node tx h log t low at =
       let number = live_home tx (tc_of (after start h log)) t at (at_tc tx h log).own in
       let of = at_own_node start h log low (tx_runs tx (after start h log) t at) in
-      record { some = omega (arith, number, of.some); few = omega (arith, number, of.low) }
+      record { some = omega (arith, number, of.some); low = omega (arith, number, of.low); is = of.is ∙ ap (tc_host start) (sym number) }
 
   -- none is there at the start
   pub first_none : (tx : TxId) (h : ℕ) → tx_at tx (after start h []) ≡ None
@@ -202,7 +193,7 @@ module _ (start : Start) where
       by (in_rows step) = inl step
       by (aside step) = inr step
       by (starting step) = absurd (differs ((at_own_node start h log low step.runs).is ∙ sym (ap (home start) step.one)))
-      by (turning step) = absurd (differs (sym (at_home tx h log step.was low step.there)))
+      by (turning step) = absurd (differs (at_home tx h log step.was low step.there).is)
 
   -- what is for a transaction's coordinator goes to its home
   pub home_place : (tx : TxId) (to : Place) → (is_tc to.block && (to.node == tx.tc)) ≡ true → host_for start to ≡ home start tx

@@ -25,7 +25,7 @@ use Rattle.tc_block.specs.declared.transaction.Transaction.{Transaction}
 use Rattle.tc_block.specs.State.{TcState}
 use Rattle.tc_block.specs.Tc.{tc_row}
 use Rattle.world_core.proofs.HostNumbers.{api_found, beyond_host, host_below, host_some, node_host, same_node, tc_after, tc_found, tc_started}
-use Rattle.world_core.specs.Hosts.{host_for, hosts, member_at, number_of, part_by, rows_host, started, tc_host}
+use Rattle.world_core.specs.Hosts.{home, host_for, hosts, member_at, number_of, part_by, rows_host, started, tc_host}
 use Rattle.world_core.specs.Machine.{after}
 use Rattle.world_core.specs.Start.{Start, made}
 use Rattle.world_core.specs.Steps.{HostStep}
@@ -38,12 +38,6 @@ use Rattle.commit_laws.specs.Counts.{one_if}
 pub no_live : (s : host.Host) → has_tc s ≡ false → (tc_of s).live ≡ []
 no_live (Tc p) e = absurd (false≢true (sym e))
 no_live _ e = refl
-
-pub live_runs : (s : host.Host) (e : TxId × Transaction) → IsIn e (tc_of s).live → has_tc s ≡ true
-live_runs (Tc p) e inside = refl
-live_runs (Shell a) e inside = absurd inside
-live_runs (Main m) e inside = absurd inside
-live_runs (Ldm l) e inside = absurd inside
 
 -- one that doesn't run rows has no requests
 pub no_waiting : (s : host.Host) → has_lqh s ≡ false → (lqh_of s).waiting ≡ []
@@ -106,6 +100,12 @@ module _ (start : Start) where
       let of = tc_found start h log low runs in
       let number : (tc_of (after start h log)).node ≡ of.node = ap (λ k. (tc_of (after start k log)).node) of.is ∙ tc_number of.node log of.some of.low in
       record { some = omega (arith, number, of.some); low = omega (arith, number, of.low); is = of.is ∙ ap (tc_host start) (sym number) }
+
+  -- the host is that of a transaction's coordinator, of a node that is there
+  pub record IsHome (tx : TxId) (h : ℕ) : Type 0 where
+    pub some : 1 ≤ tx.tc
+    pub low : tx.tc ≤ start.shape.nodes
+    pub is : h ≡ home start tx
 
   -- and has the layout in which all begin
   begun_layout : (h : ℕ) → has_tc (started start h) ≡ true → (tc_of (started start h)).layout ≡ first_layout start.shape

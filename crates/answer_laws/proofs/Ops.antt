@@ -34,12 +34,11 @@ use Rattle.world_core.specs.Machine.{after, machine, step_after}
 use Rattle.world_core.specs.Start.{Start}
 use Rattle.world_core.specs.Steps.{HostStep}
 use Rattle.sig_core.proofs.Keys.{same_tx-self, same_key-self}
-use Rattle.answer_laws.proofs.Ahead.{Goes, addressed, along, at_tc, heard_rows, home_place}
+use Rattle.answer_laws.proofs.Ahead.{Goes, addressed, along, at_home, at_tc, heard_rows, home_place, live_tx}
 use Rattle.answer_laws.proofs.FirstChains.{first_node, good_chain}
 use Rattle.answer_laws.proofs.Flows.{flow_few}
 use Rattle.answer_laws.proofs.HostSteps.{first_live, no_waiting, reaches, tc_layout}
 use Rattle.answer_laws.proofs.HostTurns.{idle_unheard}
-use Rattle.answer_laws.proofs.Lives.{live_home}
 use Rattle.answer_laws.proofs.LinkCounts.{signals}
 use Rattle.answer_laws.proofs.LqhOps.{came_of, is_good, is_lqh, is_mine, is_node, is_op, left_of, lqh_ops, ops, right_of, true_and}
 use Rattle.answer_laws.proofs.NodeOps.{AreRight, StepAsks, answers_of, is_asking, tc_steps}
@@ -139,16 +138,16 @@ module _ (start : Start) (is : IsShape start.shape) (tx : TxId) (key : List ℕ)
     off_rows off false q = q
     off_rows off true q = absurd (true≢false (sym (heard_rows start h log e.step.taken.to addressed_here q) ∙ off))
 
-    at_home : for_home ≡ true → h ≡ home start tx
-    at_home q = sym addressed_here ∙ home_place start tx e.step.taken.to q
+    go_home : for_home ≡ true → h ≡ home start tx
+    go_home q = sym addressed_here ∙ home_place start tx e.step.taken.to q
 
     off_home : h ≢ home start tx → (b : Bool) → for_home ≡ b → for_home ≡ false
     off_home away false q = q
-    off_home away true q = absurd (away (at_home q))
+    off_home away true q = absurd (away (go_home q))
 
     off_tc : has_tc s ≡ false → (b : Bool) → for_home ≡ b → for_home ≡ false
     off_tc off false q = q
-    off_tc off true q = absurd (true≢false (sym (subst (λ k. has_tc (after start k log) ≡ true) (sym (at_home q)) (tc_runs start tx.tc log some low)) ∙ off))
+    off_tc off true q = absurd (true≢false (sym (subst (λ k. has_tc (after start k log) ≡ true) (sym (go_home q)) (tc_runs start tx.tc log some low)) ∙ off))
 
     idle_came : runs s e.step.taken.to.block ≡ false → c ≡ 0
     idle_came off = none_came e.step.taken.to e.step.taken.body (of_rows (is_lqh e.step.taken.to.block) refl) (of_tc (is_tc e.step.taken.to.block) refl)
@@ -344,5 +343,5 @@ module _ (start : Start) (is : IsShape start.shape) (tx : TxId) (key : List ℕ)
 
 pub operations_wait : EachOperationWaits
 operations_wait start logs h tx t asked quiet low live is =
-    let home = live_home start tx h (logs h) low t live in
+    let home = at_home start tx h (logs h) t low (live_tx start tx h (logs h) t live) in
     asked_waits start quiet.shape tx (key_of asked.op) home.some home.low logs quiet t asked (subst (λ k. IsLiveAs tx t (after start k (logs k))) home.is live) is refl
