@@ -1,10 +1,10 @@
 -- Laws that each step of a host keeps, and what is known of a coordinator after a log.
 use Rattle.std.proofs.Common.{◌≡◌, ◌≢◌, ◌⊎◌, ℕ, ◌+◌, ◌≤◌, ◌<◌, List, [], ◌∷◌, ◌++◌, Bool, true, false, refl, ap, sym, ◌∙◌, subst, arith, inl, inr}
-use Rattle.std.specs.Prelude.{◌==◌, ◌&&◌, nat_lt, if◌then◌else◌, None, Some}
+use Rattle.std.specs.Prelude.{◌==◌, ◌&&◌, nat_lt, None, Some}
 use Rattle.std.proofs.lemmas.Bool.{cases_lt, eqb-true, false≢true}
 use Rattle.std.proofs.lemmas.Bool.Decides.{nat_tests}
 use Rattle.node_core.proofs.HostCases.{IsRowsStep}
-use Rattle.node_core.specs.Blocks.{has_lqh, has_tc, tc_of}
+use Rattle.node_core.specs.Blocks.{has_lqh, tc_of}
 use Rattle.node_core.specs.Requests.{is_request}
 use Rattle.node_core.specs.Row.{row}
 use Rattle.run_theory.proofs.Along.{along_run, of_runs}

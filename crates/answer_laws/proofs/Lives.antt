@@ -3,7 +3,7 @@ use Rattle.std.proofs.Common.{◌≡◌, ◌≢◌, ◌⊎◌, ℕ, ◌+◌, ◌
 use Rattle.std.specs.Prelude.{◌==◌, ◌&&◌, Some, if◌then◌else◌}
 use Rattle.std.proofs.lemmas.Bool.{cases_eq, cases_lt}
 use Rattle.std.proofs.lemmas.Bool.Decides.{nat_tests}
-use Rattle.run_theory.proofs.Pasts.{each_in, each_map}
+use Rattle.run_theory.proofs.Pasts.{each_map}
 use Rattle.run_theory.specs.Links.{is_from, put, sent, taken}
 use Rattle.run_theory.specs.Lists.{Each, IsIn, IsPast}
 use Rattle.sig_core.specs.declared.member.TxId.{TxId}
@@ -20,7 +20,7 @@ use Rattle.node_core.specs.Requests.{is_request}
 use Rattle.node_core.specs.Row.{row}
 use Rattle.tc_block.specs.declared.transaction.Transaction.{Transaction}
 use Rattle.world_core.proofs.HostNumbers.{given_past}
-use Rattle.world_core.specs.Hosts.{first_membership, home, host_for, hosts, tc_host}
+use Rattle.world_core.specs.Hosts.{first_membership, home, host_for, hosts}
 use Rattle.world_core.specs.Machine.{addressed, after, all_addressed, counted as one_counted, machine, sent_count, step_after}
 use Rattle.world_core.specs.Start.{Start}
 use Rattle.world_core.specs.Steps.{Addressed, HostStep}
@@ -33,8 +33,8 @@ use Rattle.answer_laws.proofs.HostSteps.{first_live}
 use Rattle.answer_laws.proofs.LinkCounts.{all_three, sent_to_shell, shell_signals, signals, steps, steps_from, taken_signals, taken_steps, to_host}
 use Rattle.commit_laws.proofs.Tally.{Counted, counted, tally_in, tally_none, tally_past}
 use Rattle.commit_laws.specs.Counts.{one_if, tally}
-use Rattle.answer_laws.proofs.TcLives.{IsKept, IsOwn, due_move, is_done, is_keyed, is_start, kept_move, start_of, starts_in}
-use Rattle.answer_laws.proofs.TcMoves.{TcMove, end_of, ends_in, host_moves, is_end, same_tx-is}
+use Rattle.answer_laws.proofs.TcLives.{IsKept, due_move, is_done, is_keyed, is_start, kept_move, start_of, starts_in}
+use Rattle.answer_laws.proofs.TcMoves.{TcMove, end_of, host_moves, is_end, same_tx-is}
 use Rattle.answer_laws.proofs.Wishes.{is_api, sends_of}
 use Rattle.answer_laws.specs.Answered.{AreQuiet, EachHasCoordinator, IsLiveAs, IsLiveAt, is_completing, opened_after, opened_in}
 
