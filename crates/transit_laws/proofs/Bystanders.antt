@@ -71,30 +71,20 @@ bystander tx s t f same is still = record {
   sends = subst (λ (f : Effects). AreStill tx f.sends) (sym is) still;
 }
 
-dih_plain : (tx : TxId) (o : Outgoing) → is_dih_kind o.body ≡ true → is_token tx o.body ≡ false
-dih_plain tx o is = by o.body is
-  where
-    by : (body : Body) → is_dih_kind body ≡ true → is_token tx body ≡ false
-    by (Chain (LqhKeyReq v work chain at)) is = absurd cc
-    by (Chain (LqhKeyConf v key answer)) is = absurd cc
-    by (Chain (LqhKeyRef v key why)) is = absurd cc
-    by _ is = refl
+dih_plain : (tx : TxId) (body : Body) → is_dih_kind body ≡ true → is_token tx body ≡ false
+dih_plain tx (Chain c) is = cc
+dih_plain tx _ is = refl
 
-api_plain : (tx : TxId) (o : Outgoing) → is_api_kind o.body ≡ true → is_token tx o.body ≡ false
-api_plain tx o is = by o.body is
-  where
-    by : (body : Body) → is_api_kind body ≡ true → is_token tx body ≡ false
-    by (Chain (LqhKeyReq v work chain at)) is = absurd cc
-    by (Chain (LqhKeyConf v key answer)) is = absurd cc
-    by (Chain (LqhKeyRef v key why)) is = absurd cc
-    by _ is = refl
+api_plain : (tx : TxId) (body : Body) → is_api_kind body ≡ true → is_token tx body ≡ false
+api_plain tx (Chain c) is = cc
+api_plain tx _ is = refl
 
 -- the API and the block of epochs send none
 pub api_still : (tx : TxId) (s : ApiState) (body : Body) → AreStill tx (api_table s body).effects.sends
-api_still tx s body = api_each (λ (o : Outgoing). is_token tx o.body ≡ false) (api_plain tx) (λ name at. refl) s body
+api_still tx s body = api_each (λ (o : Outgoing). is_token tx o.body ≡ false) (λ o. api_plain tx o.body) (λ name at. refl) s body
 
 pub dih_still : (tx : TxId) (s : DihState) (body : Body) → AreStill tx (dih_table s body).effects.sends
-dih_still tx s body = each_of is_dih_kind (λ (o : Outgoing). is_token tx o.body ≡ false) (dih_plain tx) (dih_table s body).effects.sends (dih_kinds s body)
+dih_still tx s body = each_of is_dih_kind (λ (o : Outgoing). is_token tx o.body ≡ false) (λ o. dih_plain tx o.body) (dih_table s body).effects.sends (dih_kinds s body)
 
 -- at another block no part of an operation is taken
 pub token_other : (tx : TxId) (key : List ℕ) (to : Place) (body : Body) → is_rows to.block ≡ false → is_tc to.block ≡ false → token_of tx key to body ≡ None

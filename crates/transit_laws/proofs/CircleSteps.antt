@@ -11,6 +11,7 @@ use Rattle.sig_core.specs.declared.signal.Body.TheVariants.{Chain}
 use Rattle.sig_core.specs.declared.signal.chain.ChainSignal.TheVariants.{LqhKeyReq, Abort}
 use Rattle.sig_core.specs.declared.signal.Signal.{Signal}
 use Rattle.sig_core.specs.Firsts.{first}
+use Rattle.sig_core.specs.Part.{part_of}
 use Rattle.sig_core.specs.Place.{coordinator, coordinator_of, rows_of}
 use Rattle.sig_core.specs.Same.{same_tx}
 use Rattle.sig_core.specs.Step.{Effects, Step, nothing, stay}
@@ -43,19 +44,18 @@ use Rattle.transit_laws.specs.Live.{live_at, of_host, of_live}
 use Rattle.transit_laws.specs.Routes.{IsRequestRouted, IsRouted}
 use Rattle.transit_laws.specs.Tokens.{is_token}
 use Rattle.transit_laws.specs.Transit.{AreInTransit, Comes, Takes, host_after, joined, logs_of}
-use Rattle.transit_laws.proofs.Addressed.{comes_addressed, comes_below, rows_addressed, same_nodes, tc_addressed}
+use Rattle.transit_laws.proofs.Addressed.{comes_addressed, comes_below, for_tc, rows_addressed, tc_addressed}
 use Rattle.transit_laws.proofs.Bystanders.{IsBystander, IsForHome, IsRequest, api_still, bystander, dih_still, event_missed, event_off, event_rows, token_other, token_place}
 use Rattle.transit_laws.proofs.CircleKept.{IsGoing, rests_going}
 use Rattle.transit_laws.proofs.Circles.{IsCircling, IsPristine, IsUnborn, pristine_as}
 use Rattle.transit_laws.proofs.CircleView.{View}
 use Rattle.transit_laws.proofs.GivenUp.{aborts_are_of_given_up, commits_are_of_carried_out, completions_are_of_carried_out}
-use Rattle.transit_laws.proofs.HomeSteps.{IsHome, all_home, away, here_now, here_was}
+use Rattle.transit_laws.proofs.HomeSteps.{IsHome, all_home, away, away_absent, here_now, here_was, unborn_absent}
 use Rattle.transit_laws.proofs.HostSteps.{none_of, runs_rows}
 use Rattle.transit_laws.proofs.KeyMoves.{IsLike, before_here, event_here, expired_as, host_of, others_like, view_before, view_now}
 use Rattle.transit_laws.proofs.KeySends.{is_abort, lqh_tokens}
 use Rattle.transit_laws.proofs.KeySteps.{asked_going, each-first_by, expired_going, off_going, served_going}
 use Rattle.transit_laws.proofs.KeyTokens.{Token, event_tokens, is_rows, is_tc, performs, token_of, tokens_of}
-use Rattle.transit_laws.proofs.LiveFacts.{away_absent, unborn_absent}
 use Rattle.transit_laws.proofs.LqhCases.{LqhCase, aborted, asked, committed, completed, expired_here, lqh_case, off, served}
 use Rattle.transit_laws.proofs.OnlyToken.{NoneAtAll, none_live}
 use Rattle.transit_laws.proofs.OthersStay.{event_of, is_of}
@@ -229,7 +229,7 @@ module _ (start : Start) (es : List HostStep) (e : HostStep) (tx : TxId) (key : 
     like = quiet (event_off key here x (ap is_rows step.at))
 
     node_is : x.to.node ≡ s.node
-    node_is = same_nodes start x.to (coordinator s.node) at_node.some at_node.low (sym (comes_addressed start es e come) ∙ at_node.is)
+    node_is = for_tc start s.node x.to at_node.some at_node.low (ap part_of step.at) (sym (comes_addressed start es e come) ∙ at_node.is)
 
     to_is : x.to ≡ coordinator s.node
     to_is = λ i. record { node = node_is i; block = step.at i }
@@ -270,7 +270,7 @@ module _ (start : Start) (es : List HostStep) (e : HostStep) (tx : TxId) (key : 
     }
       where
         own_node : tx.tc ≡ s.node
-        own_node = same_nodes start (coordinator_of tx) (coordinator s.node) at_node.some at_node.low (sym at ∙ at_node.is)
+        own_node = for_tc start s.node (coordinator_of tx) at_node.some at_node.low refl (sym at ∙ at_node.is)
 
         to_home : x.to ≡ coordinator tx.tc
         to_home = to_is ∙ ap coordinator (sym own_node)

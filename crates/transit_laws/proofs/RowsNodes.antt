@@ -1,7 +1,7 @@
 -- The rows of a host are those of its node.
 use Rattle.std.proofs.Common.{◌≡◌, ◌<◌, ◌≤◌, ℕ, true, List, sym, ap, ◌∙◌, subst}
 use Rattle.sig_core.specs.declared.place.BlockId.TheVariants.{Lqh}
-use Rattle.sig_core.specs.Place.{rows_of}
+use Rattle.sig_core.specs.Part.{part_of}
 use Rattle.node_core.specs.Blocks.{has_lqh, lqh_of}
 use Rattle.node_core.specs.Fresh.{fresh_part}
 use Rattle.world_core.proofs.HostNumbers.{rows_found, rows_started}
@@ -12,7 +12,7 @@ use Rattle.world_core.specs.Steps.{HostStep}
 use Rattle.answer_laws.proofs.HostSteps.{rows_along}
 use Rattle.answer_laws.proofs.LqhNode.{lqh_node}
 use Rattle.transit_laws.specs.Transit.{Comes, host_after, logs_of}
-use Rattle.transit_laws.proofs.Addressed.{comes_below, rows_addressed, same_nodes}
+use Rattle.transit_laws.proofs.Addressed.{comes_addressed, comes_below, for_rows}
 
 -- the host is that of the node's rows
 pub record IsRowsHost (start : Start) (h node : ℕ) : Type 0 where
@@ -37,4 +37,4 @@ module _ (start : Start) where
       → e.step.taken.to.node ≡ (lqh_of (host_after start es e.host)).node
   rows_come es e comes runs at =
       let own = rows_node e.host (logs_of start es e.host) (comes_below start es e comes) runs in
-      same_nodes start (rows_of e.step.taken.to.node) (rows_of (lqh_of (host_after start es e.host)).node) own.some own.low (sym (rows_addressed start es e comes at) ∙ own.is)
+      for_rows start _ e.step.taken.to own.some own.low (ap part_of at) (sym (comes_addressed start es e comes) ∙ own.is)
