@@ -1,5 +1,5 @@
 -- Each step keeps what is true of a transaction that is neither given up nor carried out, of one key.
-use Rattle.std.proofs.Common.{◌≡◌, ◌⊎◌, ◌≢◌, ◌≤◌, ◌<◌, ℕ, length, Bool, true, false, cond, filter, List, [], ◌∷◌, refl, sym, ap, ◌∙◌, subst, inl, inr, arith}
+use Rattle.std.proofs.Common.{◌≡◌, ◌⊎◌, ◌≢◌, ◌≤◌, ℕ, Bool, true, false, cond, filter, List, [], ◌∷◌, refl, sym, ap, ◌∙◌, subst, inl, inr, arith}
 use Rattle.std.proofs.lemmas.Bool.{cases_eq}
 use Rattle.std.specs.Prelude.{Option, None, Some}
 use Rattle.run_theory.specs.Lists.{Each}
@@ -34,7 +34,7 @@ use Rattle.world_core.specs.Hosts.{first_membership, home, tc_host}
 use Rattle.world_core.specs.Machine.{after, machine, sent_count, signals_of, step_after}
 use Rattle.world_core.specs.Start.{Start}
 use Rattle.world_core.specs.Steps.{Addressed, HostStep}
-use Rattle.commit_laws.specs.Replica.{Event, Replica, ages, asks_for, at_key, event_at, expires, is_by, is_let_in, is_refused, rests}
+use Rattle.commit_laws.specs.Replica.{Event, Replica, ages, asks_for, event_at, expires, is_by, is_let_in, is_refused, rests}
 use Rattle.commit_laws.proofs.Waiting.{each-first_item}
 use Rattle.answer_laws.proofs.HostSteps.{IsAtNode, at_own_node}
 use Rattle.answer_laws.proofs.LqhOps.{is_lqh}

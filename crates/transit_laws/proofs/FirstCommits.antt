@@ -37,7 +37,6 @@ use Rattle.commit_laws.specs.Counts.{one_if}
 use Rattle.answer_laws.proofs.Always.{few_touched}
 use Rattle.answer_laws.proofs.TcLives.{IsOwn}
 use Rattle.answer_laws.proofs.TcSteps as answered
-use Rattle.answer_laws.proofs.TcOwes.{IsKnown}
 use Rattle.answer_laws.proofs.TcSends.{tx_in}
 use Rattle.transit_laws.specs.Circle.{IsSettled, at_host}
 use Rattle.transit_laws.specs.Completions.{IsCommittedAtAll}
