@@ -177,7 +177,7 @@ module _ (start : Start) (was now : ℕ → List HostStep) (op : Op) (served : I
 
       few_asked : asked ≤ steps (is_start tx) (was 0)
       unfolding asked
-      few_asked = omega (arith, fewer_asked tx s.live, lives_begun start was served.before tx (suc h) low)
+      few_asked = omega (arith, fewer_asked tx s.live, lives_begun start was served.before tx (suc h))
 
       told : (sent_since start (is_reply tx) (suc h) (cut (suc h)).newer (was (suc h)) ≡ 0) ⊎ (sent_since start (is_back tx) (suc h) (cut (suc h)).newer (was (suc h)) ≡ 0)
       unfolding asked
