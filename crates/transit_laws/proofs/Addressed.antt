@@ -21,7 +21,8 @@ module _ (start : Start) (es : List HostStep) (e : HostStep) (comes : Comes star
 
   pub comes_addressed : e.host ≡ host_for start e.step.taken.to
   comes_addressed =
-      let all = addressed_rightly start (logs_of start (e ∷ es)) (logs_of_run (machine start) (e ∷ es) comes.now.run) e.host in
+      let all =
+      addressed_rightly start (logs_of start (e ∷ es)) (logs_of_run (machine start) (e ∷ es) comes.now.run) e.host in
       sym (subst (Each (λ (d : HostStep). host_for start d.step.taken.to ≡ e.host)) own_log all).0
 
   -- it is one of the hosts that there are
@@ -30,18 +31,25 @@ module _ (start : Start) (es : List HostStep) (e : HostStep) (comes : Comes star
     where
       by : (e.host < hosts start) ⊎ (hosts start ≤ e.host) → e.host < hosts start
       by (inl low) = low
-      by (inr high) = absurd (let none : e ∷ logs_of start es e.host ≡ [] = sym own_log ∙ comes.now.within e.host high in cc)
+      by (inr high) =
+          absurd (let none : e ∷ logs_of start es e.host ≡ [] = sym own_log ∙ comes.now.within e.host high in cc)
 
   pub rows_addressed : e.step.taken.to.block ≡ block.Lqh → e.host ≡ rows_host start e.step.taken.to.node
-  rows_addressed at = comes_addressed ∙ ap (λ block. host_for start (record { node = e.step.taken.to.node; block = block })) at
+  rows_addressed at =
+      comes_addressed ∙ ap (λ block. host_for start (record { node = e.step.taken.to.node; block = block })) at
 
   pub tc_addressed : e.step.taken.to.block ≡ block.Tc → e.host ≡ tc_host start e.step.taken.to.node
-  tc_addressed at = comes_addressed ∙ ap (λ block. host_for start (record { node = e.step.taken.to.node; block = block })) at
+  tc_addressed at =
+      comes_addressed ∙ ap (λ block. host_for start (record { node = e.step.taken.to.node; block = block })) at
 
 -- what goes to the host of a node's coordinator, or of its rows, is for that node
 module _ (start : Start) (node : ℕ) (to : Place) (some : 1 ≤ node) (low : node ≤ start.shape.nodes) where
   pub for_tc : part_of to.block ≡ Tc → host_for start to ≡ tc_host start node → to.node ≡ node
-  for_tc is same = eqb-true to.node node (sym (at_tc_host start node to some low is) ∙ eq-eqb (host_for start to) (tc_host start node) same)
+  for_tc is same =
+      eqb-true to.node node
+      (sym (at_tc_host start node to some low is) ∙ eq-eqb (host_for start to) (tc_host start node) same)
 
   pub for_rows : part_of to.block ≡ Ldm → host_for start to ≡ rows_host start node → to.node ≡ node
-  for_rows is same = eqb-true to.node node (sym (at_rows_host start node to some low is) ∙ eq-eqb (host_for start to) (rows_host start node) same)
+  for_rows is same =
+      eqb-true to.node node
+      (sym (at_rows_host start node to some low is) ∙ eq-eqb (host_for start to) (rows_host start node) same)

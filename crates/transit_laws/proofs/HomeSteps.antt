@@ -28,7 +28,8 @@ pub record IsHome (tx : TxId) (s : TcState) : Type 0 where
   pub once : tally (is_keyed tx) s.live ≤ 1
 
 pub all_home : (start : Start) (tx : TxId) (h : ℕ) (log : List HostStep) → IsHome tx (tc_of (after start h log))
-all_home start tx h log = let k = keeps start tx h log in record { own = k.keeps.own; once = omega (arith, k.keeps.began, k.keeps.once) }
+all_home start tx h log =
+    let k = keeps start tx h log in record { own = k.keeps.own; once = omega (arith, k.keeps.began, k.keeps.once) }
 
 -- where a transaction isn't there
 module _ (start : Start) (tx : TxId) (h : ℕ) (log : List HostStep) where
@@ -46,7 +47,9 @@ module _ (start : Start) (tx : TxId) (h : ℕ) (log : List HostStep) where
       by true runs =
           let s = tc_of (after start h log) in
           let own = at_own_node start h log low runs in
-          live_none tx s.live (strange_none tx s.node s.next_seq s.live (all_home start tx h log).own (λ same. apart (own.is ∙ ap (tc_host start) (sym same))))
+          live_none tx s.live
+          (strange_none tx s.node s.next_seq s.live (all_home start tx h log).own
+          (λ same. apart (own.is ∙ ap (tc_host start) (sym same))))
       by false idle = ap (of_live tx) (no_live (after start h log) idle)
 
 module _ (start : Start) (es : List HostStep) (e : HostStep) (come : Comes start es e) (tx : TxId) where
@@ -61,14 +64,19 @@ module _ (start : Start) (es : List HostStep) (e : HostStep) (come : Comes start
 
   -- the host of its coordinator is its home
   pub own_home : has_tc s ≡ true → tx.tc ≡ (tc_of s).node → h ≡ at_home
-  own_home runs own = let at = at_own_node start h (logs_of start es h) (comes_below start es e come) runs in at.is ∙ ap (tc_host start) (sym own)
+  own_home runs own =
+      let at = at_own_node start h (logs_of start es h) (comes_below start es e come) runs in
+      at.is ∙ ap (tc_host start) (sym own)
 
   -- the home if it is the host that steps, before and behind the step, and if it isn't
   pub here_was : h ≡ at_home → after start at_home (logs_of start es at_home) ≡ s
   here_was at = subst (λ k. after start k (logs_of start es k) ≡ s) at refl
 
   pub here_now : h ≡ at_home → after start at_home (logs_of start (e ∷ es) at_home) ≡ (row s e.step.taken).state
-  here_now at = subst (λ k. after start k (logs_of start (e ∷ es) k) ≡ (row s e.step.taken).state) at (ap (after start h) (log_of-own (machine start) e es h refl))
+  here_now at =
+      subst (λ k. after start k (logs_of start (e ∷ es) k) ≡ (row s e.step.taken).state) at
+      (ap (after start h) (log_of-own (machine start) e es h refl))
 
-  pub away : h ≢ at_home → after start at_home (logs_of start (e ∷ es) at_home) ≡ after start at_home (logs_of start es at_home)
+  pub away : h ≢ at_home
+      → after start at_home (logs_of start (e ∷ es) at_home) ≡ after start at_home (logs_of start es at_home)
   away off = ap (after start at_home) (log_of-other (machine start) e es at_home off)

@@ -62,7 +62,9 @@ module _ (start : Start) where
   api_sent s body = api_each (λ o. IsSent start o) (λ o is. plain_sent start o.to o.body (api_plain o.body is)) (λ name node. record { routed = tt; block = tt }) s body
 
   dih_sent : (s : DihState) (body : Body) → AreSent start (dih_table s body).effects.sends
-  dih_sent s body = each_of is_dih_kind (λ o. IsSent start o) (λ o is. plain_sent start o.to o.body (dih_plain o.body is)) (dih_table s body).effects.sends (dih_kinds s body)
+  dih_sent s body =
+      each_of is_dih_kind (λ o. IsSent start o) (λ o is. plain_sent start o.to o.body (dih_plain o.body is))
+      (dih_table s body).effects.sends (dih_kinds s body)
 
   -- what waits at rows
   abbrev AreWaiting : LqhState → Type 0
@@ -73,17 +75,24 @@ module _ (start : Start) where
     state : IsHostRouted start step.state
     sends : AreSent start step.effects.sends
 
-  module _ (some : (key : List ℕ) → 0 < length (replicas start key)) (s : Host) (x : Signal) (is : IsRouted start x.to.node x.body)
+  module _ (some : (key : List ℕ) → 0 < length (replicas start key)) (s : Host) (x : Signal)
+      (is : IsRouted start x.to.node x.body)
       (own : has_lqh s ≡ true → x.to.block ≡ block.Lqh → x.to.node ≡ (lqh_of s).node) (was : IsHostRouted start s) where
-    coordinates : ((tc_of (row s x).state).layout ≡ (tc_of s).layout) × AllAre (λ t. IsTransactionRouted start t) (tc_of (row s x).state).live
+    coordinates : ((tc_of (row s x).state).layout ≡ (tc_of s).layout)
+        × AllAre (λ t. IsTransactionRouted start t) (tc_of (row s x).state).live
     coordinates = by (tc_step s x)
       where
         by : IsTcStep s x (row s x) ⊎ (tc_of (row s x).state ≡ tc_of s)
-            → ((tc_of (row s x).state).layout ≡ (tc_of s).layout) × AllAre (λ t. IsTransactionRouted start t) (tc_of (row s x).state).live
+            → ((tc_of (row s x).state).layout ≡ (tc_of s).layout)
+            × AllAre (λ t. IsTransactionRouted start t) (tc_of (row s x).state).live
         by (inl step) =
             let keeps = tc_routed start some (tc_of s) x.body (was.layout step.runs) was.live in
-            (ap (λ (t : TcState). t.layout) step.state ∙ keeps.layout, subst (λ (t : TcState). AllAre (λ t. IsTransactionRouted start t) t.live) (sym step.state) keeps.live)
-        by (inr same) = (ap (λ (t : TcState). t.layout) same, subst (λ (t : TcState). AllAre (λ t. IsTransactionRouted start t) t.live) (sym same) was.live)
+            (ap (λ (t : TcState). t.layout) step.state
+            ∙ keeps.layout, subst (λ (t : TcState). AllAre (λ t. IsTransactionRouted start t) t.live)
+            (sym step.state) keeps.live)
+        by (inr same) =
+            (ap (λ (t : TcState). t.layout) same, subst
+            (λ (t : TcState). AllAre (λ t. IsTransactionRouted start t) t.live) (sym same) was.live)
 
     -- what rows take is for their node
     rows_take : has_lqh s ≡ true → x.to.block ≡ block.Lqh → IsRouted start (lqh_of s).node x.body
@@ -95,9 +104,12 @@ module _ (start : Start) where
         by : IsRowsStep s x (row s x) ⊎ (lqh_of (row s x).state ≡ lqh_of s) → AreWaiting (lqh_of (row s x).state)
         by (inl step) =
             let keeps = lqh_routed start (lqh_of s).node (lqh_of s) x.body (rows_take step.runs step.at) was.waiting in
-            let same : (lqh_of (row s x).state).node ≡ (lqh_of s).node = ap (λ (l : LqhState). l.node) step.state ∙ lqh_node (lqh_of s) x.body in
-            subst (λ node. Each (λ (q : Request). IsRequestRouted start node q) (lqh_of (row s x).state).waiting) (sym same)
-            (subst (λ (l : LqhState). Each (λ (q : Request). IsRequestRouted start (lqh_of s).node q) l.waiting) (sym step.state) keeps.waiting)
+            let same : (lqh_of (row s x).state).node ≡ (lqh_of s).node =
+            ap (λ (l : LqhState). l.node) step.state ∙ lqh_node (lqh_of s) x.body in
+            subst (λ node. Each (λ (q : Request). IsRequestRouted start node q) (lqh_of (row s x).state).waiting)
+            (sym same)
+            (subst (λ (l : LqhState). Each (λ (q : Request). IsRequestRouted start (lqh_of s).node q) l.waiting)
+            (sym step.state) keeps.waiting)
         by (inr same) = subst AreWaiting (sym same) was.waiting
 
     host_routes : HostRoutes (row s x)
@@ -115,7 +127,8 @@ module _ (start : Start) where
       });
     }
 
-  part_routed : (of : Part) (member : Member) → IsHostRouted start (fresh_part of member (first_layout start.shape) start.epoch start.rows)
+  part_routed : (of : Part) (member : Member)
+      → IsHostRouted start (fresh_part of member (first_layout start.shape) start.epoch start.rows)
   unfolding fresh_part
   part_routed part.Main member = record { layout = λ runs. absurd (false≢true runs); waiting = tt; live = tt }
   part_routed part.Tc member = record { layout = λ runs. refl; waiting = tt; live = tt }
@@ -131,27 +144,34 @@ module _ (start : Start) where
     pub hosts : (h : ℕ) → IsHostRouted start (host_after start es h)
 
   -- so is what a step takes
-  pub took_routed : (es : List HostStep) (e : HostStep) (before between : List Addressed) → AllRouted es before → Takes e before between
+  pub took_routed : (es : List HostStep) (e : HostStep) (before between : List Addressed) → AllRouted es before
+      → Takes e before between
       → IsOnWay start e.step.taken.to e.step.taken.body
   took_routed es e before between all takes = by (is_request e.step.taken.body) refl
     where
       by : (b : Bool) → is_request e.step.taken.body ≡ b → IsOnWay start e.step.taken.to e.step.taken.body
       by true is = plain_sent start e.step.taken.to e.step.taken.body (request_plain e.step.taken.body is)
-      by false is = each_taken (λ (x : Addressed). IsOnWay start x.signal.to x.signal.body) e before between is takes all.signals
+      by false is =
+          each_taken (λ (x : Addressed). IsOnWay start x.signal.to x.signal.body) e before between is takes all.signals
 
-  next_routed : (es : List HostStep) (e : HostStep) (before between : List Addressed) → Comes start es e → AllRouted es before → Takes e before between
+  next_routed : (es : List HostStep) (e : HostStep) (before between : List Addressed) → Comes start es e
+      → AllRouted es before → Takes e before between
       → AllRouted (e ∷ es) (joined (signals_of start e.host (logs_of start es e.host) e) between)
   next_routed es e before between comes all takes =
       let log = logs_of start es e.host in
       let is = took_routed es e before between all takes in
-      let step = host_routes (replicas_some start comes.before.shape) (after start e.host log) e.step.taken is.routed (rows_come start es e comes) (all.hosts e.host) in
+      let step =
+      host_routes (replicas_some start comes.before.shape) (after start e.host log) e.step.taken is.routed
+      (rows_come start es e comes) (all.hosts e.host) in
       record {
         signals = each_joins (λ to body. IsOnWay start to body) start e.host log e between step.sends
-            (each_between (λ (x : Addressed). IsOnWay start x.signal.to x.signal.body) e before between takes all.signals);
+            (each_between
+            (λ (x : Addressed). IsOnWay start x.signal.to x.signal.body) e before between takes all.signals);
         hosts = each_host start (λ g s. IsHostRouted start s) es e step.state all.hosts;
       }
 
-  pub all_routed : (es : List HostStep) (xs : List Addressed) → IsRun start es → AreInTransit start es xs → AllRouted es xs
+  pub all_routed : (es : List HostStep) (xs : List Addressed) → IsRun start es → AreInTransit start es xs
+      → AllRouted es xs
   all_routed =
       along_transit start (λ es xs. AllRouted es xs) (record { signals = tt; hosts = started_routed })
       (λ es e before between comes transit all takes. next_routed es e before between comes all takes)
@@ -160,11 +180,13 @@ pub signals_are_routed : SignalsAreRouted
 signals_are_routed start es xs run transit =
     let all = all_routed start es xs run transit in
     record {
-      signals = each_map (λ (x : Addressed). IsOnWay start x.signal.to x.signal.body) (λ (x : Addressed). IsRouted start x.signal.to.node x.signal.body) xs (λ x is. is.routed) all.signals;
+      signals = each_map (λ (x : Addressed). IsOnWay start x.signal.to x.signal.body)
+          (λ (x : Addressed). IsRouted start x.signal.to.node x.signal.body) xs (λ x is. is.routed) all.signals;
       hosts = all.hosts;
     }
 
 pub signals_are_for_blocks : SignalsAreForBlocks
 signals_are_for_blocks start es xs run transit =
-    each_map (λ (x : Addressed). IsOnWay start x.signal.to x.signal.body) (λ (x : Addressed). IsForBlock x.signal.to x.signal.body) xs (λ x is. is.block)
+    each_map (λ (x : Addressed). IsOnWay start x.signal.to x.signal.body)
+    (λ (x : Addressed). IsForBlock x.signal.to x.signal.body) xs (λ x is. is.block)
     (all_routed start es xs run transit).signals
