@@ -112,8 +112,10 @@ module _ (tx : TxId) (s : Host) (x : Signal) (once : tally (is_keyed tx) (tc_of 
       by t (rows_take step) = rows step
       by t (none_takes step) =
           quiet t _ (ap (λ (u : Step Host). u.effects) step.is) (ap (λ (u : Step Host). tc_of u.state) step.is) tt
-          (record { rows = λ is. sym (runs_rows s x.to.block is) ∙ step.runs;
-          next = λ next is. none_of tx s x.to.block is step.runs })
+          (record {
+            rows = λ is. sym (runs_rows s x.to.block is) ∙ step.runs;
+            next = λ next is. none_of tx s x.to.block is step.runs;
+          })
 
 module _ (tx : TxId) where
   -- what is no commit for rows, and no signal for its coordinator to go on, leads to no commit

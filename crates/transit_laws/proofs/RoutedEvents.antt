@@ -53,14 +53,17 @@ placed_runs start h key at log shape place =
     ∙ rows_run start (node_at (replicas start key) at) log node.from node.to
 
 module _ (start : Start) (shape : IsShape start.shape) where
+  -- the primary's host is that of the first place
+  first_place : (h : ℕ) (key : List ℕ) (at : ℕ) → IsPlaced start h key at → h ≡ primary_host start key → at ≡ 0
+  first_place h key at place own =
+      hosts_are_apart start key at 0 shape place.inside (replicas_some start shape key) (sym place.host_is ∙ own)
+
   for_replica : (h : ℕ) (key : List ℕ) (work : RowWork) (at : ℕ) → IsWorkAt at work → IsPlaced start h key at
       → (h ≡ primary_host start key → IsOfOperation work) × (h ≢ primary_host start key → IsOfImage work)
   for_replica h key (Operate op) at is place =
       (λ own. tt, λ off. absurd (off (place.host_is ∙ ap (replica_host start key) is)))
   for_replica h key (Store other image) at is place =
-      (λ own. absurd
-      (omega (arith, is, hosts_are_apart start key at 0 shape place.inside (replicas_some start shape key)
-      (sym place.host_is ∙ own))), λ off. tt)
+      (λ own. absurd (omega (arith, is, first_place h key at place own)), λ off. tt)
 
   at_primary : (h node : ℕ) (key : List ℕ) (chain : List Member) (at : ℕ) → h ≡ rows_host start node
       → IsCommitRouted start node key chain at
@@ -72,12 +75,10 @@ module _ (start : Start) (shape : IsShape start.shape) where
       by (inl along) =
           let place = placed start h node key chain at here along is.sent in
           same_tests at 0 h (primary_host start key) (λ first. place.host_is ∙ ap (replica_host start key) first)
-          (λ own. hosts_are_apart start key at 0 shape place.inside (replicas_some start shape key)
-          (sym place.host_is ∙ own))
+          (first_place h key at place)
       by (inr alone) =
-          let first : at ≡ 0 =
-          omega (arith, is.sent.inside, ap length alone, primary_length (replicas start key)
-          (replicas_some start shape key)) in
+          let one = primary_length (replicas start key) (replicas_some start shape key) in
+          let first : at ≡ 0 = omega (arith, is.sent.inside, ap length alone, one) in
           let own : node ≡ node_at (replicas start key) 0 =
           is.sent.node_is
           ∙ (ap (λ c. node_at c at) alone

@@ -1,17 +1,12 @@
 -- What is sent along chains goes to the places that it is for, along every run.
-use Rattle.std.proofs.Common.{◌≡◌, ◌⊎◌, ◌<◌, ℕ, Bool, true, false, zero, suc, List, ◌∷◌, length, refl, sym, ap, ◌∙◌, subst, inl, inr}
-use Rattle.std.proofs.lemmas.Bool.{false≢true}
+use Rattle.std.proofs.Common.{◌≡◌, ◌⊎◌, ◌<◌, ℕ, Bool, true, false, List, [], ◌∷◌, length, refl, sym, ap, ◌∙◌, subst, inl, inr}
 use Rattle.run_theory.specs.Lists.{Each}
 use Rattle.run_theory.proofs.Pasts.{each_map}
-use Rattle.sig_core.specs.declared.member.Member.{Member}
 use Rattle.sig_core.specs.declared.place.BlockId.TheVariants as block
-use Rattle.sig_core.specs.declared.place.Part.{Part}
-use Rattle.sig_core.specs.declared.place.Part.TheVariants as part
 use Rattle.sig_core.specs.declared.signal.Body.{Body}
 use Rattle.sig_core.specs.declared.signal.Body.TheVariants.{Chain}
 use Rattle.sig_core.specs.declared.signal.Signal.{Signal}
 use Rattle.sig_core.specs.Step.{Step}
-use Rattle.frag_map.specs.Layout.{first_layout}
 use Rattle.api_block.specs.Api.{api_table}
 use Rattle.api_block.specs.State.{ApiState}
 use Rattle.lqh_block.specs.declared.request.Request.{Request}
@@ -22,7 +17,6 @@ use Rattle.node_core.proofs.HostCases.{IsRowsStep, IsTcStep, each_send, rows_ste
 use Rattle.node_core.specs.declared.host.Host.{Host}
 use Rattle.node_core.specs.Blocks.{api_of, dih_of, has_lqh, lqh_of, tc_of}
 use Rattle.node_core.specs.Dih.{DihState, dih_table}
-use Rattle.node_core.specs.Fresh.{fresh_part, fresh_shell}
 use Rattle.node_core.specs.Requests.{is_request}
 use Rattle.node_core.specs.Row.{row}
 use Rattle.world_core.specs.Hosts.{started}
@@ -31,6 +25,7 @@ use Rattle.world_core.specs.Start.{Start}
 use Rattle.world_core.specs.Steps.{Addressed, HostStep}
 use Rattle.answer_laws.proofs.ApiMoves.{is_api_kind}
 use Rattle.answer_laws.proofs.DihSends.{dih_kinds}
+use Rattle.answer_laws.proofs.HostSteps.{first_live, first_waiting, tc_layout}
 use Rattle.answer_laws.proofs.LqhNode.{lqh_node}
 use Rattle.answer_laws.proofs.SendKinds.{each_of, is_dih_kind}
 use Rattle.transit_laws.specs.Routes.{IsForBlock, IsHostRouted, IsOnWay, IsRequestRouted, IsRouted, IsTransactionRouted, SignalsAreForBlocks, SignalsAreRouted, replicas}
@@ -70,6 +65,10 @@ module _ (start : Start) where
   abbrev AreWaiting : LqhState → Type 0
   AreWaiting l = Each (λ (q : Request). IsRequestRouted start l.node q) l.waiting
 
+  -- what a coordinator has
+  abbrev AreLiveRouted : TcState → Type 0
+  AreLiveRouted s = AllAre (λ t. IsTransactionRouted start t) s.live
+
   -- a step of a host
   record HostRoutes (step : Step Host) : Type 0 where
     state : IsHostRouted start step.state
@@ -78,21 +77,15 @@ module _ (start : Start) where
   module _ (some : (key : List ℕ) → 0 < length (replicas start key)) (s : Host) (x : Signal)
       (is : IsRouted start x.to.node x.body)
       (own : has_lqh s ≡ true → x.to.block ≡ block.Lqh → x.to.node ≡ (lqh_of s).node) (was : IsHostRouted start s) where
-    coordinates : ((tc_of (row s x).state).layout ≡ (tc_of s).layout)
-        × AllAre (λ t. IsTransactionRouted start t) (tc_of (row s x).state).live
+    coordinates : ((tc_of (row s x).state).layout ≡ (tc_of s).layout) × AreLiveRouted (tc_of (row s x).state)
     coordinates = by (tc_step s x)
       where
         by : IsTcStep s x (row s x) ⊎ (tc_of (row s x).state ≡ tc_of s)
-            → ((tc_of (row s x).state).layout ≡ (tc_of s).layout)
-            × AllAre (λ t. IsTransactionRouted start t) (tc_of (row s x).state).live
+            → ((tc_of (row s x).state).layout ≡ (tc_of s).layout) × AreLiveRouted (tc_of (row s x).state)
         by (inl step) =
             let keeps = tc_routed start some (tc_of s) x.body (was.layout step.runs) was.live in
-            (ap (λ (t : TcState). t.layout) step.state
-            ∙ keeps.layout, subst (λ (t : TcState). AllAre (λ t. IsTransactionRouted start t) t.live)
-            (sym step.state) keeps.live)
-        by (inr same) =
-            (ap (λ (t : TcState). t.layout) same, subst
-            (λ (t : TcState). AllAre (λ t. IsTransactionRouted start t) t.live) (sym same) was.live)
+            (ap (λ (t : TcState). t.layout) step.state ∙ keeps.layout, subst AreLiveRouted (sym step.state) keeps.live)
+        by (inr same) = (ap (λ (t : TcState). t.layout) same, subst AreLiveRouted (sym same) was.live)
 
     -- what rows take is for their node
     rows_take : has_lqh s ≡ true → x.to.block ≡ block.Lqh → IsRouted start (lqh_of s).node x.body
@@ -127,17 +120,13 @@ module _ (start : Start) where
       });
     }
 
-  part_routed : (of : Part) (member : Member)
-      → IsHostRouted start (fresh_part of member (first_layout start.shape) start.epoch start.rows)
-  unfolding fresh_part
-  part_routed part.Main member = record { layout = λ runs. absurd (false≢true runs); waiting = tt; live = tt }
-  part_routed part.Tc member = record { layout = λ runs. refl; waiting = tt; live = tt }
-  part_routed part.Ldm member = record { layout = λ runs. absurd (false≢true runs); waiting = tt; live = tt }
-
   started_routed : (h : ℕ) → IsHostRouted start (started start h)
-  unfolding started fresh_shell
-  started_routed zero = record { layout = λ runs. absurd (false≢true runs); waiting = tt; live = tt }
-  started_routed (suc h) = part_routed _ _
+  started_routed h = record {
+    layout = tc_layout start h [];
+    waiting = subst (Each (λ (q : Request). IsRequestRouted start (lqh_of (started start h)).node q))
+        (sym (first_waiting start h)) tt;
+    live = subst (AllAre (λ t. IsTransactionRouted start t)) (sym (first_live start h)) tt;
+  }
 
   pub record AllRouted (es : List HostStep) (xs : List Addressed) : Type 0 where
     pub signals : Each (λ (x : Addressed). IsOnWay start x.signal.to x.signal.body) xs
