@@ -149,11 +149,6 @@ host_fair tx s x = go (row s x) (block_case s x)
         ∙ none_of is_lqh_kind (to_node 0 (is_answer tx)) (λ to b k. and_false (to.node == 0) (is_api to.block) (no_answer_lqh tx b k)) (lqh_table (lqh_of s) x.body).effects.sends (lqh_kinds (lqh_of s) x.body))
     go t (none_takes step) = still t (ap (λ (u : Step host.Host). tc_of u.state) step.is) (ap (λ (u : Step host.Host). answers_in tx u.effects.sends) step.is)
 
-shell_answers : (tx : TxId) (s : ApiState) (at : BlockId) (x : Signal) → answers_in tx (shell_row s at x).effects.sends ≡ 0
-unfolding shell_row
-shell_answers tx s block.Api x = move_answers tx s x.body _ _ (api_moves s x.body)
-shell_answers tx s _ x = refl
-
 shell_fair : (tx : TxId) (s : ApiState) (at : BlockId) (x : Signal)
     → tally (operates tx) s.opened + keys_in tx (shell_row s at x).effects.sends ≤ tally (operates tx) (shell_row s at x).state.opened + (one_if (is_api at && answer_of tx x.body) + one_if (is_api at && end_of tx x.body))
 unfolding shell_row
@@ -169,11 +164,6 @@ module _ (start : Start) (tx : TxId) where
   pub host_asked : (h : ℕ) (log : List HostStep) → asked_at (after start h log) + signals (is_answer tx) (sent (machine start) h 0 log) ≤ steps (is_key tx) log
   host_asked h [] = omega (arith, ap (tally (is_asked tx)) (first_live start h))
   host_asked h (e ∷ log) = omega (arith, host_asked h log, host_fair tx (after start h log) e.step.taken, shell_signals start (is_answer tx) h e log)
-
-  pub shell_silent : (log : List HostStep) → signals (is_answer tx) (sent (machine start) 0 0 log) ≡ 0
-  shell_silent [] = refl
-  shell_silent (e ∷ log) =
-      omega (arith, shell_silent log, shell_signals start (is_answer tx) 0 e log, shell_answers tx (shell_after start log).state e.step.taken.to.block e.step.taken, ap (answers_in tx) (shell_sends start e log))
 
   pub host_silent : (h j : ℕ) (log : List HostStep) → h ≢ 0 → signals (is_key tx) (sent (machine start) h j log) ≡ 0
   host_silent h j [] other = refl

@@ -80,7 +80,7 @@ within (suc n) node e = go (list_any (is_at node) (members n)) (n + 1 == node) r
     go false false p q rest r = absurd (true≢false (sym e ∙ (r ∙ (ap (λ a. a || (n + 1 == node || false)) p ∙ ap (λ b. b || false) q))))
 
 -- a wish is for a coordinator
-wish_part : (to : Place) (b : Bool) → (is_tc to.block && b) ≡ true → part_of to.block ≡ part.Tc
+pub wish_part : (to : Place) (b : Bool) → (is_tc to.block && b) ≡ true → part_of to.block ≡ part.Tc
 wish_part to b w = go to.block (left_of (is_tc to.block) b w)
   where
     go : (at : BlockId) → is_tc at ≡ true → part_of at ≡ part.Tc
