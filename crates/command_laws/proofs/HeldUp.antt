@@ -216,8 +216,8 @@ module _ (start : Start) (logs : ℕ → List HostStep) (quiet : AreQuiet start 
       at_member : IsMemberAt for.request.chain for.request.at
       at_member = member_at for.request.chain for.request.at for.routed_so.sent.inside
 
-      own : IsRowsHost start queued_host (lqh_of (after start queued_host (logs queued_host))).node
-      own = rows_node start queued_host (logs queued_host) queued_low (rows_run start queued.node (logs queued_host) queued.from queued.to)
+      rows_own : IsRowsHost start queued_host (lqh_of (after start queued_host (logs queued_host))).node
+      rows_own = rows_node start queued_host (logs queued_host) queued_low (rows_run start queued.node (logs queued_host) queued.from queued.to)
 
       own_node : (lqh_of (after start queued_host (logs queued_host))).node ≡ at_member.member.node
       own_node = for.routed_so.sent.node_is ∙ at_member.node_is
@@ -230,8 +230,8 @@ module _ (start : Start) (logs : ℕ → List HostStep) (quiet : AreQuiet start 
         unanswered = unanswered;
         member = at_member.member;
         inside = subst (IsIn at_member.member) (for.routed_so.chain ∙ ap (replicas start) for.on ∙ sym (sent_along (after start (home start tx) (logs (home start tx))) (routed (home start tx)) served.live)) at_member.inside;
-        low = omega (arith, own_node, own.low);
-        held = subst (λ k. IsHeldUpAt tx (key_of asked.op) (after start k (logs k))) (own.is ∙ ap (rows_host start) own_node) for.held;
+        low = omega (arith, own_node, rows_own.low);
+        held = subst (λ k. IsHeldUpAt tx (key_of asked.op) (after start k (logs k))) (rows_own.is ∙ ap (rows_host start) own_node) for.held;
       }
 
     held_by : (o : Option Asked) → served.transaction.asked ≡ o → is_some o ≡ true → IsHeldUp start logs tx

@@ -35,7 +35,7 @@ use Rattle.sig_core.proofs.Keys.{same_tx-self}
 use Rattle.answer_laws.proofs.Wishes.{sends_of}
 use Rattle.answer_laws.specs.Answered.{EachIsAnswered, IsLiveAs, is_answered_by, opened_after}
 use Rattle.transit_laws.specs.Live.{of_live}
-use Rattle.command_laws.proofs.First.{IsFirst, first_step, request_first}
+use Rattle.command_laws.proofs.First.{IsFirst, first_step, request_first, with_first}
 use Rattle.command_laws.proofs.Since.{all_arrive, sent_since_to, taken_since}
 use Rattle.command_laws.proofs.TellsSince.{OnTc}
 use Rattle.command_laws.proofs.Told.{told_since}
