@@ -1,10 +1,10 @@
 -- Laws that each step of a host keeps, and what is known of a coordinator after a log.
 use Rattle.std.proofs.Common.{◌≡◌, ◌≢◌, ◌⊎◌, ℕ, zero, suc, ◌+◌, ◌≤◌, ◌<◌, List, [], ◌∷◌, ◌++◌, Bool, true, false, refl, ap, sym, ◌∙◌, subst, arith, inl, inr}
-use Rattle.std.specs.Prelude.{◌/◌, ◌%◌, Option, None, Some, slice_index_or}
-use Rattle.std.proofs.lemmas.Bool.{cases_lt, false≢true}
+use Rattle.std.specs.Prelude.{◌==◌, ◌&&◌, nat_lt, if◌then◌else◌, None, Some}
+use Rattle.std.proofs.lemmas.Bool.{cases_lt, eqb-true, false≢true}
+use Rattle.std.proofs.lemmas.Bool.Decides.{nat_tests}
 use Rattle.node_core.proofs.HostCases.{IsRowsStep, tc_stays}
-use Rattle.node_core.specs.Blocks.{has_tc, tc_of}
-use Rattle.node_core.specs.declared.host.Host.{Host}
+use Rattle.node_core.specs.Blocks.{has_lqh, has_tc, tc_of}
 use Rattle.node_core.specs.Fresh.{fresh_part, fresh_shell}
 use Rattle.node_core.specs.Requests.{is_request}
 use Rattle.node_core.specs.Row.{row}
@@ -22,24 +22,25 @@ use Rattle.sig_core.specs.declared.place.Part.{Part}
 use Rattle.sig_core.specs.declared.place.Part.TheVariants.{Main, Tc, Ldm}
 use Rattle.sig_core.specs.declared.place.Place.{Place}
 use Rattle.sig_core.specs.declared.signal.Body.{Body}
-use Rattle.sig_core.specs.Members.{nobody}
-use Rattle.sig_core.specs.Place.{coordinator}
+use Rattle.sig_core.specs.Place.{coordinator, rows_of}
 use Rattle.tc_block.specs.declared.transaction.Transaction.{Transaction}
 use Rattle.tc_block.specs.State.{TcState}
 use Rattle.frag_map.specs.Layout.{Layout, first_layout}
 use Rattle.frag_map.specs.Replicas.{first_start}
-use Rattle.world_core.proofs.HostNumbers.{IsNodes, addressed_rightly, given_past, tc_found, tc_started}
+use Rattle.world_core.proofs.HostNumbers.{addressed_rightly, given_past, rows_run, tc_found, tc_started}
 use Rattle.world_core.proofs.Stamped.{stamped}
 use Rattle.world_core.specs.Hosts.{home, host_for, hosts, started, tc_host}
 use Rattle.world_core.specs.Machine.{after, machine, step_after}
-use Rattle.world_core.specs.Start.{Start, made}
+use Rattle.world_core.specs.Start.{Start}
 use Rattle.world_core.specs.Steps.{Addressed, HostStep}
 pub use Rattle.answer_laws.proofs.HostTurns.{tx_at}
 use Rattle.answer_laws.proofs.HostTurns.{HostTurn, IsAside, aside, host_turn, in_rows, starting, turning, tx_runs}
 use Rattle.answer_laws.proofs.LinkCounts.{signals}
+use Rattle.answer_laws.proofs.LqhOps.{is_lqh, is_node, left_of, right_of}
 use Rattle.answer_laws.proofs.TcLives.{IsKept, IsOwn, is_keyed, kept_move, starts_in}
 use Rattle.answer_laws.proofs.TcMoves.{TcMove, ends_in, forgets, host_moves, starts, stays, tc_view, turns}
 use Rattle.answer_laws.proofs.TcSteps.{live_home, live_in}
+use Rattle.answer_laws.proofs.Wishes.{is_tc}
 use Rattle.commit_laws.proofs.Tally.{tally_past}
 use Rattle.commit_laws.specs.Counts.{tally}
 
@@ -83,6 +84,21 @@ unfolding fresh_part
 part_none tx Main member layout epoch rows = refl
 part_none tx Tc member layout epoch rows = refl
 part_none tx Ldm member layout epoch rows = refl
+
+-- a place for rows, or for a coordinator
+pub rows_place : (to : Place) → is_lqh to.block ≡ true → to ≡ rows_of to.node
+rows_place to e = ap (λ b. record { node = to.node; block = b }) (only to.block e)
+  where
+    only : (b : BlockId) → is_lqh b ≡ true → b ≡ block.Lqh
+    only block.Lqh e = refl
+    only _ e = absurd (false≢true e)
+
+pub tc_place : (to : Place) → is_tc to.block ≡ true → to ≡ coordinator to.node
+tc_place to e = ap (λ b. record { node = to.node; block = b }) (only to.block e)
+  where
+    only : (b : BlockId) → is_tc b ≡ true → b ≡ block.Tc
+    only block.Tc e = refl
+    only _ e = absurd (false≢true e)
 
 module _ (start : Start) where
   -- host h makes the step e behind these logs
@@ -216,6 +232,17 @@ module _ (start : Start) where
   at_home tx h log t low at =
       ap (tc_host start) (live_home tx (tc_of (after start h log)) t at (at_tc tx h log).own) ∙ (tc_is h log low (tx_runs tx (after start h log) t at)).is
 
+  -- and that is of a node that is there
+  pub record IsHome (tx : TxId) : Type 0 where
+    pub some : 1 ≤ tx.tc
+    pub few : tx.tc ≤ start.shape.nodes
+
+  pub home_node : (tx : TxId) (h : ℕ) (log : List HostStep) (t : Transaction) → h < hosts start → tx_at tx (after start h log) ≡ Some t → IsHome tx
+  home_node tx h log t low at =
+      let number = live_home tx (tc_of (after start h log)) t at (at_tc tx h log).own in
+      let of = tc_is h log low (tx_runs tx (after start h log) t at) in
+      record { some = omega (arith, number, of.some); few = omega (arith, number, of.few) }
+
   -- none is there at the start
   pub first_none : (tx : TxId) (h : ℕ) → tx_at tx (after start h []) ≡ None
   unfolding started fresh_shell
@@ -237,3 +264,23 @@ module _ (start : Start) where
       by (aside step) = inr step
       by (starting step) = absurd (differs (sym (ap (home start) step.one ∙ (tc_is h log low step.runs).is)))
       by (turning step) = absurd (differs (sym (at_home tx h log step.was low step.there)))
+
+  -- what is for a transaction's coordinator goes to its home
+  pub home_place : (tx : TxId) (to : Place) → (is_tc to.block && (to.node == tx.tc)) ≡ true → host_for start to ≡ home start tx
+  home_place tx to e =
+      ap (host_for start) (tc_place to (left_of (is_tc to.block) (to.node == tx.tc) e)) ∙ ap (tc_host start) (eqb-true to.node tx.tc (right_of (is_tc to.block) (to.node == tx.tc) e))
+
+  -- what a host takes for rows of a node is for rows that it runs
+  pub heard_rows : (h : ℕ) (log : List HostStep) (to : Place) → host_for start to ≡ h → (is_lqh to.block && is_node (start.shape.nodes + 1) to.node) ≡ true → has_lqh (after start h log) ≡ true
+  heard_rows h log to here e =
+      subst (λ k. has_lqh (after start k log) ≡ true) (sym (ap (host_for start) (rows_place to (left_of (is_lqh to.block) (is_node n to.node) e))) ∙ here)
+      (rows_run start to.node log (grind (arith, nat_tests, left_of (nat_lt 0 to.node) (nat_lt to.node n) node)) (omega (arith, under)))
+    where
+      n : ℕ
+      n = start.shape.nodes + 1
+
+      node : is_node n to.node ≡ true
+      node = right_of (is_lqh to.block) (is_node n to.node) e
+
+      under : to.node < n
+      under = grind (arith, nat_tests, right_of (nat_lt 0 to.node) (nat_lt to.node n) node)

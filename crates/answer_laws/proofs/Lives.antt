@@ -35,7 +35,7 @@ use Rattle.commit_laws.specs.Counts.{one_if, tally}
 use Rattle.answer_laws.proofs.TcLives.{IsKept, IsOwn, due_move, is_done, is_keyed, is_start, kept_move, start_of, starts_in}
 use Rattle.answer_laws.proofs.TcMoves.{TcMove, end_of, ends_in, host_moves, is_end, same_tx-is}
 use Rattle.answer_laws.proofs.Wishes.{is_api, sends_of}
-use Rattle.answer_laws.specs.Answered.{AreQuiet, EachHasCoordinator, IsLiveAt, is_completing, opened_after, opened_in}
+use Rattle.answer_laws.specs.Answered.{AreQuiet, EachHasCoordinator, IsLiveAs, IsLiveAt, is_completing, opened_after, opened_in}
 
 -- in a list of signals, the newest first, what has ended has begun before
 abbrev pub AreOrdered : TxId → List Addressed → Type 0
@@ -258,6 +258,14 @@ module _ (start : Start) (tx : TxId) where
         at_low : (home start tx < hosts start) ⊎ (hosts start ≤ home start tx) → IsLiveAt tx (after start (home start tx) (logs (home start tx)))
         at_low (inl low) = live_at (home start tx) some (none low (cases_lt 0 (at_home (is_end tx))))
         at_low (inr high) = absurd (omega (arith, some, ap (λ log. signals (is_start tx) (sent (machine start) (home start tx) 0 log)) (quiet.within (home start tx) high)))
+
+-- a host that has a transaction at quiet is there
+pub live_low : (start : Start) (logs : ℕ → List HostStep) (tx : TxId) (t : Transaction) → AreQuiet start logs → (h : ℕ) → IsLiveAs tx t (after start h (logs h)) → h < hosts start
+live_low start logs tx t quiet h live = go (cases_lt h (hosts start))
+  where
+    go : (h < hosts start) ⊎ (hosts start ≤ h) → h < hosts start
+    go (inl low) = low
+    go (inr high) = absurd (subst (IsIn (tx, t)) (ap (λ log. (tc_of (after start h log)).live) (quiet.within h high) ∙ first_live start h) live)
 
 -- at quiet each transaction that has begun is one of its coordinator
 pub each_lives : EachHasCoordinator

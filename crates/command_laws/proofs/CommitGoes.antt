@@ -28,8 +28,9 @@ use Rattle.answer_laws.proofs.LqhOps.{left_of}
 use Rattle.command_laws.proofs.Entries.{HasOne, IsApart, here_or_apart, same_number}
 use Rattle.sig_core.specs.declared.signal.Signal.{Signal}
 use Rattle.node_core.specs.Blocks.{api_of, has_api}
-use Rattle.command_laws.proofs.HostKinds.{replies_are, shell_runs}
+use Rattle.command_laws.proofs.HostKinds.{replies_are}
 use Rattle.command_laws.proofs.HostSteps.{api_host, api_seen}
+use Rattle.world_core.proofs.HostNumbers.{api_runs}
 
 -- the step reports the end of the transaction of this name
 pub record IsEnding (tx : TxId) (name : Option ℕ) (g : host.Host) (body : Body) (step : Step host.Host) : Type 0 where
@@ -127,7 +128,7 @@ module _ (tx : TxId) (name : Option ℕ) (stay : Doing) (idle : stay ≡ Operati
       → HasOne tx name stay (opened_in (row g x).state) ⊎ IsEnding tx name g x.body (row g x)
   unfolding GoesOrEnds
   host_goes g x has plain had =
-      by (api_host (GoesOrEnds (api_of g) x.body) g x has (λ at. change_goes (api_of g) x.body had (api_row (api_of g) x) (api_changes (api_of g) x.body plain)) (inl had))
+      by (api_host (GoesOrEnds (api_of g) x.body) g x has (λ at. change_goes (api_of g) x.body had (api_row (api_of g) x) (api_changes (api_of g) x.body plain)) (λ off. inl had))
     where
       by : HasOne tx name stay (opened_in (row g x).state) ⊎ IsEndingHere tx name (api_of g) x.body (api_seen (row g x))
           → HasOne tx name stay (opened_in (row g x).state) ⊎ IsEnding tx name g x.body (row g x)
@@ -148,7 +149,7 @@ module _ (tx : TxId) (name : Option ℕ) (stay : Doing) (idle : stay ≡ Operati
 
       by : HasOne tx name stay (opened_in (after start 0 (later ++ log))) ⊎ HasEnded tx name start later log
           → HasOne tx name stay (opened_in (after start 0 (e ∷ (later ++ log)))) ⊎ HasEnded tx name start (e ∷ later) log
-      by (inl goes) = next (host_goes (after start 0 (later ++ log)) e.step.taken (shell_runs start (later ++ log)) plain.0 goes)
+      by (inl goes) = next (host_goes (after start 0 (later ++ log)) e.step.taken (api_runs start (later ++ log)) plain.0 goes)
       by (inr ended) = inr (record { newer = e ∷ ended.newer; step = ended.step; older = ended.older; is = ap (λ w. e ∷ w) ended.is; ending = ended.ending })
 
 -- so one that commits

@@ -48,8 +48,9 @@ use Rattle.command_laws.proofs.TellsOnce.{is_wish_back_to, wish_back_of}
 use Rattle.command_laws.proofs.Tests.{and_off}
 use Rattle.sig_core.specs.declared.signal.Signal.{Signal}
 use Rattle.node_core.specs.Blocks.{api_of, has_api}
-use Rattle.command_laws.proofs.HostKinds.{replies_are, shell_runs}
+use Rattle.command_laws.proofs.HostKinds.{replies_are}
 use Rattle.command_laws.proofs.HostSteps.{api_host}
+use Rattle.world_core.proofs.HostNumbers.{api_runs}
 
 -- the answer of an operation alone
 abbrev pub is_lone : ApiReply → Bool
@@ -114,7 +115,7 @@ host_lone : (g : host.Host) (x : Signal) → has_api g ≡ true → is_request x
     → ((is_api x.to.block ≡ true) × IsLoneStep x.body (opened_in (row g x).state)) ⊎ (tally is_lone (replies_of (row g x).state) ≡ tally is_lone (replies_of g))
 host_lone g x has plain =
     by (api_host (λ (step : Step ApiState). ((is_api x.to.block ≡ true) × IsLoneStep x.body step.state.opened) ⊎ (tally is_lone step.state.replies ≡ tally is_lone (api_of g).replies)) g x has
-    (λ at. step_goes (api_row (api_of g) x).state at (change_lone (api_of g) x.body (api_row (api_of g) x) (api_changes (api_of g) x.body plain))) (inr refl))
+    (λ at. step_goes (api_row (api_of g) x).state at (change_lone (api_of g) x.body (api_row (api_of g) x) (api_changes (api_of g) x.body plain))) (λ off. inr refl))
   where
     step_goes : (s : ApiState) → x.to.block ≡ block.Api → IsLoneStep x.body s.opened ⊎ (tally is_lone s.replies ≡ tally is_lone (api_of g).replies)
         → ((is_api x.to.block ≡ true) × IsLoneStep x.body s.opened) ⊎ (tally is_lone s.replies ≡ tally is_lone (api_of g).replies)
@@ -151,7 +152,7 @@ lone_since start (e ∷ later) log plain = by (lone_since start later log plain.
     by : HasLone start later log ⊎ (tally is_lone (replies_of (after start 0 (later ++ log))) ≡ tally is_lone (replies_of (after start 0 log)))
         → HasLone start (e ∷ later) log ⊎ (tally is_lone (replies_of (after start 0 (e ∷ (later ++ log)))) ≡ tally is_lone (replies_of (after start 0 log)))
     by (inl h) = inl (record { newer = e ∷ h.newer; step = h.step; older = h.older; is = ap (λ w. e ∷ w) h.is; tx = h.tx; block = h.block; lone = h.lone })
-    by (inr before) = next before (host_lone (after start 0 (later ++ log)) e.step.taken (shell_runs start (later ++ log)) plain.0)
+    by (inr before) = next before (host_lone (after start 0 (later ++ log)) e.step.taken (api_runs start (later ++ log)) plain.0)
 
 module _ (tx : TxId) where
   none_news : (to : Place) (body : Body) → is_news_kind body ≡ true → (is_wish_back_to tx to body ≡ false) × (is_key tx to body ≡ false)
@@ -204,7 +205,7 @@ module _ (tx : TxId) where
       → (sends_of (is_wish_back_to tx) (row g x).effects.sends ≡ 0) × (sends_of (is_key tx) (row g x).effects.sends ≤ one_if (is_start tx x.to x.body))
   host_asks g x has plain =
       api_host (λ (step : Step ApiState). (sends_of (is_wish_back_to tx) step.effects.sends ≡ 0) × (sends_of (is_key tx) step.effects.sends ≤ one_if (is_start tx x.to x.body))) g x has
-      (λ at. at_step at (change_asks (api_of g) x.body (api_row (api_of g) x) (api_changes (api_of g) x.body plain))) (refl, omega arith)
+      (λ at. at_step at (change_asks (api_of g) x.body (api_row (api_of g) x) (api_changes (api_of g) x.body plain))) (λ off. (refl, omega arith))
     where
       at_step : {sends : List Outgoing} → x.to.block ≡ block.Api → AsksOnce x.body sends → (sends_of (is_wish_back_to tx) sends ≡ 0) × (sends_of (is_key tx) sends ≤ one_if (is_start tx x.to x.body))
       at_step at asks = (asks.wishes, omega (arith, asks.keys, ap (λ of. one_if (is_api of && start_of tx x.body)) at))
@@ -214,7 +215,7 @@ module _ (tx : TxId) where
   asks_since start [] log plain = (refl, omega arith)
   asks_since start (e ∷ later) log plain =
       let rest = asks_since start later log plain.1 in
-      let here = host_asks (after start 0 (later ++ log)) e.step.taken (shell_runs start (later ++ log)) plain.0 in
+      let here = host_asks (after start 0 (later ++ log)) e.step.taken (api_runs start (later ++ log)) plain.0 in
       (omega (arith, rest.0, here.0), omega (arith, rest.1, here.1))
 
 -- the request of an operation alone asks for a transaction alone, and answers none

@@ -46,8 +46,9 @@ use Rattle.answer_laws.proofs.LqhOps.{left_of}
 use Rattle.command_laws.proofs.Entries.{HasOne, IsApart, NoneBegins, here_or_apart}
 use Rattle.sig_core.specs.declared.signal.Signal.{Signal}
 use Rattle.node_core.specs.Blocks.{api_of, has_api}
-use Rattle.command_laws.proofs.HostKinds.{replies_are, shell_runs}
+use Rattle.command_laws.proofs.HostKinds.{replies_are}
 use Rattle.command_laws.proofs.HostSteps.{api_host, api_seen}
+use Rattle.world_core.proofs.HostNumbers.{api_runs}
 
 abbrev begins_any : OpenTransaction → Bool
 begins_any t = is_beginning t.doing
@@ -200,7 +201,7 @@ module _ (op : Op) where
       → IsAlone op (opened_in (row g x).state) ⊎ (BeginsNow x.to x.body (opened_in (row g x).state) ⊎ IsRefusedNow g (row g x))
   host_goes g x has plain had =
       by (api_host (GoesHere (api_of g) x.to x.body) g x has
-      (λ at. step_goes (api_of g) x.to x.body at (api_row (api_of g) x) (change_goes (api_of g) had x.body (api_changes (api_of g) x.body plain))) (inl had))
+      (λ at. step_goes (api_of g) x.to x.body at (api_row (api_of g) x) (change_goes (api_of g) had x.body (api_changes (api_of g) x.body plain))) (λ off. inl had))
     where
       by : GoesHere (api_of g) x.to x.body (api_seen (row g x)) → IsAlone op (opened_in (row g x).state) ⊎ (BeginsNow x.to x.body (opened_in (row g x).state) ⊎ IsRefusedNow g (row g x))
       by (inl goes) = inl goes
@@ -241,7 +242,7 @@ module _ (op : Op) where
 
       by : IsAlone op (opened_in (after start 0 (later ++ log))) ⊎ (HasBegun start later log ⊎ WasRefused start later log)
           → IsAlone op (opened_in (after start 0 (e ∷ (later ++ log)))) ⊎ (HasBegun start (e ∷ later) log ⊎ WasRefused start (e ∷ later) log)
-      by (inl goes) = next (host_goes (after start 0 (later ++ log)) e.step.taken (shell_runs start (later ++ log)) plain.0 goes)
+      by (inl goes) = next (host_goes (after start 0 (later ++ log)) e.step.taken (api_runs start (later ++ log)) plain.0 goes)
       by (inr (inl b)) = inr (inl (record { newer = e ∷ b.newer; step = b.step; older = b.older; is = ap (λ w. e ∷ w) b.is; tx = b.tx; begun = b.begun; has = b.has }))
       by (inr (inr r)) = inr (inr (record { newer = e ∷ r.newer; step = r.step; older = r.older; is = ap (λ w. e ∷ w) r.is; told = r.told }))
 

@@ -26,8 +26,9 @@ use Rattle.command_laws.proofs.OperateGoes.{HasAnswered, IsAnswering}
 use Rattle.command_laws.proofs.Since.{sent_since}
 use Rattle.sig_core.specs.declared.signal.Signal.{Signal}
 use Rattle.node_core.specs.Blocks.{api_of, has_api}
-use Rattle.command_laws.proofs.HostKinds.{replies_are, shell_runs}
+use Rattle.command_laws.proofs.HostKinds.{replies_are}
 use Rattle.command_laws.proofs.HostSteps.{api_host, api_seen}
+use Rattle.world_core.proofs.HostNumbers.{api_runs}
 
 -- neither is wished for of any transaction
 abbrev WishNone : List Outgoing → Type 0
@@ -54,7 +55,7 @@ change_none s body step (refuses called at about passes is replies sends) = inr 
 host_none : (g : host.Host) (x : Signal) → has_api g ≡ true → is_request x.body ≡ false → IsAnswering None g (row g x) ⊎ WishNone (row g x).effects.sends
 host_none g x has plain =
     by (api_host (λ (step : Step ApiState). TellsLone (api_of g) step ⊎ WishNone step.effects.sends) g x has
-    (λ at. change_none (api_of g) x.body (api_row (api_of g) x) (api_changes (api_of g) x.body plain)) (inr (λ tx. refl)))
+    (λ at. change_none (api_of g) x.body (api_row (api_of g) x) (api_changes (api_of g) x.body plain)) (λ off. inr (λ tx. refl)))
   where
     by : TellsLone (api_of g) (api_seen (row g x)) ⊎ WishNone (row g x).effects.sends → IsAnswering None g (row g x) ⊎ WishNone (row g x).effects.sends
     by (inl tells) = inl (record {
@@ -77,4 +78,4 @@ wishes_since start (e ∷ later) log plain = by (wishes_since start later log pl
     by : HasAnswered None start later log ⊎ ((tx : TxId) → sent_since start (is_wish_to tx) 0 later log ≡ 0)
         → HasAnswered None start (e ∷ later) log ⊎ ((tx : TxId) → sent_since start (is_wish_to tx) 0 (e ∷ later) log ≡ 0)
     by (inl a) = inl (record { newer = e ∷ a.newer; step = a.step; older = a.older; is = ap (λ w. e ∷ w) a.is; answering = a.answering })
-    by (inr before) = next before (host_none (after start 0 (later ++ log)) e.step.taken (shell_runs start (later ++ log)) plain.0)
+    by (inr before) = next before (host_none (after start 0 (later ++ log)) e.step.taken (api_runs start (later ++ log)) plain.0)

@@ -39,8 +39,9 @@ use Rattle.api_block.specs.Api.{api_row}
 use Rattle.sig_core.specs.declared.signal.Signal.{Signal}
 use Rattle.node_core.proofs.HostCases.{of_effects}
 use Rattle.node_core.specs.Blocks.{api_of, dih_of, has_api, lqh_of, tc_of}
-use Rattle.command_laws.proofs.HostKinds.{node_runs_none, shell_runs}
+use Rattle.command_laws.proofs.HostKinds.{node_runs_none}
 use Rattle.command_laws.proofs.HostSteps.{api_host}
+use Rattle.world_core.proofs.HostNumbers.{api_runs}
 
 -- all but what the API asks coordinators for
 abbrev pub is_node_kind : Body → Bool
@@ -156,7 +157,7 @@ module _ (tx : TxId) where
   host_calm : (g : host.Host) (x : Signal) → has_api g ≡ true → is_request x.body ≡ false → NoneBegins (opened_in g) → KeepsCalm (opened_in (row g x).state) (row g x).effects.sends
   host_calm g x has plain calm =
       api_host (λ (step : Step ApiState). KeepsCalm step.state.opened step.effects.sends) g x has
-      (λ at. change_calm (api_of g) x.body calm (api_row (api_of g) x) (api_changes (api_of g) x.body plain)) (record { calm = calm; pushes = refl })
+      (λ at. change_calm (api_of g) x.body calm (api_row (api_of g) x) (api_changes (api_of g) x.body plain)) (λ off. record { calm = calm; pushes = refl })
 
   -- along steps of the shell's host that aren't requests
   pub calm_since : (start : Start) (later log : List HostStep) → Each (λ (e : HostStep). is_request e.step.taken.body ≡ false) later → NoneBegins (opened_in (after start 0 log))
@@ -167,5 +168,5 @@ module _ (tx : TxId) where
       next : NoneBegins (opened_in (after start 0 (later ++ log))) × (sent_since start (is_push_to tx) 0 later log ≡ 0)
           → NoneBegins (opened_in (after start 0 (e ∷ (later ++ log)))) × (sent_since start (is_push_to tx) 0 (e ∷ later) log ≡ 0)
       next before =
-          let kept = host_calm (after start 0 (later ++ log)) e.step.taken (shell_runs start (later ++ log)) plain.0 before.0 in
+          let kept = host_calm (after start 0 (later ++ log)) e.step.taken (api_runs start (later ++ log)) plain.0 before.0 in
           (kept.calm, omega (arith, kept.pushes, before.1))
