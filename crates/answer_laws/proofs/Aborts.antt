@@ -30,9 +30,10 @@ use Rattle.commit_laws.proofs.Sums.{total_le, total_same}
 use Rattle.commit_laws.proofs.Tally.{and_few}
 use Rattle.commit_laws.specs.Counts.{one_if}
 use Rattle.answer_laws.proofs.AbortCounts.{abort_low, answer_turn, cont_place, cont_turn, conts_few, few_answers, few_rows, lqh_aborts, none_at}
-use Rattle.answer_laws.proofs.Ahead.{Goes, IsHome, addressed, along, at_home, at_tc, few_taken, first_none, heard_rows, home_node, home_place, layout_after, live_tx, no_transaction, other_turn, the_transaction, turn_at, tx_at}
+use Rattle.answer_laws.proofs.Ahead.{Goes, addressed, along, at_home, at_tc, few_taken, first_none, heard_rows, home_place, live_tx, no_transaction, other_turn, the_transaction, turn_at, tx_at}
 use Rattle.answer_laws.proofs.Always.{few_touched}
 use Rattle.answer_laws.proofs.FirstChains.{good_chain}
+use Rattle.answer_laws.proofs.HostSteps.{IsHome, tc_layout}
 use Rattle.answer_laws.proofs.HostTurns.{HostTurn, IsAside, aside, in_rows, starting, turning}
 use Rattle.answer_laws.proofs.LinkCounts.{sent_signals, signals, taken_signals}
 use Rattle.answer_laws.proofs.LqhOps.{is_good, is_lqh, is_node, left_of}
@@ -234,7 +235,7 @@ module _ (start : Start) (shape : IsShape start.shape) (tx : TxId) (some_node : 
           which true over = no_transaction u (sym (step.left ∙ ap (λ b. if b then None else Some step.turn.step.state) over) ∙ now_at)
           which false over =
               subst (λ w. IsDue now w k) same
-              (moved (abort_move nodes tx (first_layout start.shape) good (tc_of s) number (layout_after start at (logs at) step.runs) step.was e.step.taken.body step.turn step.move over why v k (ap (λ (w : Transaction). w.phase) same ∙ u_is)))
+              (moved (abort_move nodes tx (first_layout start.shape) good (tc_of s) number (tc_layout start at (logs at) step.runs) step.was e.step.taken.body step.turn step.move over why v k (ap (λ (w : Transaction). w.phase) same ∙ u_is)))
             where
               same : step.turn.step.state ≡ u
               same = the_transaction step.turn.step.state u (sym (step.left ∙ ap (λ b. if b then None else Some step.turn.step.state) over) ∙ now_at)
@@ -348,12 +349,12 @@ no_abort start logs h tx t quiet low live none = go t.phase refl
     there : tx_at tx (after start h (logs h)) ≡ Some t
     there = live_tx start tx h (logs h) t live
 
-    of : IsHome start tx
-    of = home_node start tx h (logs h) t low there
+    of : IsHome start tx h
+    of = at_home start tx h (logs h) t low there
 
     go : (phase : Phase) → t.phase ≡ phase → is_aborting t.phase ≡ false
     go (Aborting why v k) p =
-        absurd (none_aborts start quiet.shape tx of.some of.few logs quiet t why v k (subst (λ j. tx_at tx (after start j (logs j)) ≡ Some t) (sym (at_home start tx h (logs h) t low there)) there) none p)
+        absurd (none_aborts start quiet.shape tx of.some of.low logs quiet t why v k (subst (λ j. tx_at tx (after start j (logs j)) ≡ Some t) of.is there) none p)
     go Open p = ap is_aborting p
     go Verifying p = ap is_aborting p
     go (Committing epoch k) p = ap is_aborting p

@@ -42,9 +42,9 @@ use Rattle.commit_laws.proofs.Sums.{total_le, total_same}
 use Rattle.commit_laws.proofs.Tally.{and_few}
 use Rattle.commit_laws.specs.Counts.{one_if}
 use Rattle.answer_laws.proofs.AbortCounts.{conts_few}
-use Rattle.answer_laws.proofs.Ahead.{Goes, IsHome, addressed, along, at_home, at_tc, few_taken, heard_rows, home_node, home_place, layout_after, live_tx, tx_at}
+use Rattle.answer_laws.proofs.Ahead.{Goes, addressed, along, at_home, at_tc, few_taken, heard_rows, home_place, live_tx, tx_at}
 use Rattle.answer_laws.proofs.FirstChains.{chain_some, good_chain}
-use Rattle.answer_laws.proofs.HostSteps.{first_live, reaches}
+use Rattle.answer_laws.proofs.HostSteps.{IsHome, first_live, reaches, tc_layout}
 use Rattle.answer_laws.proofs.HostTurns.{rows_turn, tc_turn}
 use Rattle.answer_laws.proofs.LinkCounts.{sent_signals, signals, taken_signals}
 use Rattle.answer_laws.proofs.LqhOps.{is_good, is_lqh, is_node, left_of, right_of, true_and}
@@ -150,7 +150,7 @@ module _ (start : Start) (shape : IsShape start.shape) (tx : TxId) where
       → StepOwes nodes tx (tc_of (after start h log)) (tc_table (tc_of (after start h log)) body).state (tc_table (tc_of (after start h log)) body).effects.sends (came_in nodes tx body) (cont_in nodes tx body)
   owes h log body on known =
       let x = at_tc start tx h log in
-      tc_owes nodes tx (tc_of (after start h log)) body known x.once x.own (subst (λ (l : Layout). (key : List ℕ) → is_chain nodes (chain_of l key) ≡ true) (sym (layout_after start h log on)) good)
+      tc_owes nodes tx (tc_of (after start h log)) body known x.once x.own (subst (λ (l : Layout). (key : List ℕ) → is_chain nodes (chain_of l key) ≡ true) (sym (tc_layout start h log on)) good)
 
   known_after : (h : ℕ) (log : List HostStep) → AreKnown (tc_of (after start h log))
   known_after h [] = subst (λ live. Each (λ (e : TxId × Transaction). IsKnown nodes e.1) live) (sym (first_live start h)) tt
@@ -413,12 +413,12 @@ no_commit start logs h tx t quiet low live = go t.phase refl
     there : tx_at tx (after start h (logs h)) ≡ Some t
     there = live_tx start tx h (logs h) t live
 
-    of : IsHome start tx
-    of = home_node start tx h (logs h) t low there
+    of : IsHome start tx h
+    of = at_home start tx h (logs h) t low there
 
     go : (phase : Phase) → t.phase ≡ phase → is_committing t.phase ≡ false
     go (Committing epoch k) p =
-        absurd (none_commits start quiet.shape tx of.some of.few logs quiet t epoch k (subst (λ j. IsLiveAs tx t (after start j (logs j))) (sym (at_home start tx h (logs h) t low there)) live) p)
+        absurd (none_commits start quiet.shape tx of.some of.low logs quiet t epoch k (subst (λ j. IsLiveAs tx t (after start j (logs j))) of.is live) p)
     go Open p = ap is_committing p
     go Verifying p = ap is_committing p
     go (Completing epoch k) p = ap is_committing p

@@ -17,11 +17,11 @@ use Rattle.world_core.specs.Hosts.{home, hosts}
 use Rattle.world_core.specs.Machine.{after}
 use Rattle.world_core.specs.Start.{Start}
 use Rattle.sig_core.proofs.Keys.{same_tx-self}
-use Rattle.answer_laws.proofs.Ahead.{at_tc, tx_at}
+use Rattle.answer_laws.proofs.Ahead.{at_home, at_tc, live_tx, tx_at}
 use Rattle.answer_laws.proofs.ApiEntries.{IsEntryRight, is_commit_req, opened_at}
-use Rattle.answer_laws.proofs.Hosts.{IsHome}
+use Rattle.answer_laws.proofs.HostSteps.{IsHome}
 use Rattle.answer_laws.proofs.LinkCounts.{signals, taken_steps}
-use Rattle.answer_laws.proofs.Lives.{live_home, live_low}
+use Rattle.answer_laws.proofs.Lives.{live_low}
 use Rattle.answer_laws.proofs.Strangers.{starts_once}
 use Rattle.commit_laws.specs.Counts.{one_if}
 use Rattle.answer_laws.proofs.TcKeys.{is_answer, is_key}
@@ -75,7 +75,7 @@ module _ (start : Start) (tx : TxId) (some : 1 ≤ tx.tc) (low : tx.tc ≤ start
 module _ (start : Start) (logs : ℕ → List HostStep) (t : OpenTransaction) (quiet : AreQuiet start logs) (inside : IsIn t (opened_after start logs)) (tx : TxId) (u : Transaction) (is : t.tx ≡ Some tx)
     (live : IsLiveAs tx u (after start (home start tx) (logs (home start tx)))) (p : u.phase ≡ Open) where
   own : IsHome start tx (home start tx)
-  own = live_home start tx (home start tx) (logs (home start tx)) (live_low start logs tx u quiet (home start tx) live) u live
+  own = at_home start tx (home start tx) (logs (home start tx)) u (live_low start logs tx u quiet (home start tx) live) (live_tx start tx (home start tx) (logs (home start tx)) u live)
 
   live_at : tx_at tx (after start (home start tx) (logs (home start tx))) ≡ Some u
   live_at = live_in tx u (tc_of (after start (home start tx) (logs (home start tx)))).live (at_tc start tx (home start tx) (logs (home start tx))).once live

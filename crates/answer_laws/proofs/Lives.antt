@@ -26,9 +26,10 @@ use Rattle.world_core.specs.Start.{Start}
 use Rattle.world_core.specs.Steps.{Addressed, HostStep}
 use Rattle.sig_core.proofs.Keys.{same_tx-self}
 use Rattle.answer_laws.proofs.LqhOps.{right_of, left_of}
+use Rattle.answer_laws.proofs.Ahead.{none_kept}
 use Rattle.answer_laws.proofs.ApiHolds.{AreHeld, IsOrdered, log_holds}
-use Rattle.answer_laws.proofs.Hosts.{IsHome, TellsHome, told}
-use Rattle.answer_laws.proofs.HostSteps.{at_own_node, first_live, live_runs}
+use Rattle.answer_laws.proofs.Hosts.{TellsHome, told}
+use Rattle.answer_laws.proofs.HostSteps.{first_live}
 use Rattle.answer_laws.proofs.LinkCounts.{all_three, sent_to_shell, shell_signals, signals, steps, steps_from, taken_signals, taken_steps, to_host}
 use Rattle.commit_laws.proofs.Tally.{Counted, counted, tally_in, tally_none, tally_past}
 use Rattle.commit_laws.specs.Counts.{one_if, tally}
@@ -90,18 +91,7 @@ module _ (start : Start) (tx : TxId) where
       later false some = due (omega (arith, some))
 
   pub keeps : (h : ℕ) (log : List HostStep) → HostKeeps h log
-  keeps h [] = record {
-    keeps = record {
-      began = omega (arith, ap (tally (is_keyed tx)) (first_live start h));
-      order = λ e. e;
-      kept = λ e. absurd (omega (arith, e));
-      told = λ e. absurd (omega (arith, e, ap (tally (is_done tx)) (first_live start h)));
-      once = omega arith;
-      unborn = λ e. refl;
-      own = subst (Each (λ (e : TxId × Transaction). IsOwn (tc_of (after start h [])).node (tc_of (after start h [])).next_seq e.0)) (sym (first_live start h)) tt;
-    };
-    ordered = tt;
-  }
+  keeps h [] = record { keeps = none_kept tx (tc_of (after start h [])) (first_live start h); ordered = tt }
   keeps h (e ∷ log) = next (keeps h log)
     where
       g : host.Host
@@ -126,13 +116,6 @@ module _ (start : Start) (tx : TxId) where
         ordered = put_ordered h e.step.stamp (sent_count start h log) sends (sent (machine start) h 0 log) k.ordered
             (λ some. due_move tx (tc_of g) _ sends begun ended move k.keeps (omega (arith, some, sent_to_shell start (is_end tx) sends)));
       }
-
-  -- a host that has the transaction is its home
-  pub live_home : (h : ℕ) (log : List HostStep) → h < hosts start → (t : Transaction) → IsIn (tx, t) (tc_of (after start h log)).live → IsHome start tx h
-  live_home h log low t inside =
-      let own = at_own_node start h log low (live_runs (after start h log) (tx, t) inside) in
-      let home = (each_in (λ (e : TxId × Transaction). IsOwn (tc_of (after start h log)).node (tc_of (after start h log)).next_seq e.0) (tx, t) (tc_of (after start h log)).live (keeps h log).keeps.own inside).home in
-      record { some = omega (arith, home, own.some); low = omega (arith, home, own.low); is = own.is ∙ ap (tc_host start) (sym home) }
 
   -- neither is told by another host
   pub silent_start : (h : ℕ) (log : List HostStep) → h < hosts start → h ≢ home start tx → signals (is_start tx) (sent (machine start) h 0 log) ≡ 0

@@ -223,7 +223,7 @@ operations_queue start logs h tx t asked quiet low live is = queued_at (operatio
 
     none : F start tx logs ≡ 0
     none =
-        (is_undecided start tx logs quiet.within quiet.right).undecided t (subst (λ k. tx_at tx (after start k (logs k)) ≡ Some t) (sym (at_home start tx h (logs h) t low there)) there)
+        (is_undecided start tx logs quiet.within quiet.right).undecided t (subst (λ k. tx_at tx (after start k (logs k)) ≡ Some t) (at_home start tx h (logs h) t low there).is there)
         (asked_undecided start tx h (logs h) t asked there is)
 
     queued_at : Waits start logs tx (key_of asked.op) → WaitsForLock start logs tx
