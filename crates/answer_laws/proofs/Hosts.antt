@@ -37,7 +37,7 @@ use Rattle.world_core.specs.Steps.{Addressed, HostStep}
 use Rattle.answer_laws.proofs.ApiBegins.{AreGood, IsDue, count_move, good_move}
 use Rattle.answer_laws.proofs.ApiMoves.{ApiMove, api_moves, begun_as, ends, goes, is_api_kind, opens, refuses, rests}
 use Rattle.answer_laws.proofs.DihSends.{dih_kinds}
-use Rattle.answer_laws.proofs.HostSteps.{at_own_node}
+use Rattle.answer_laws.proofs.HostSteps.{IsHome, at_own_node}
 use Rattle.answer_laws.proofs.LinkCounts.{sent_truths}
 use Rattle.answer_laws.proofs.LqhSends.{lqh_kinds}
 use Rattle.answer_laws.proofs.SendKinds.{are_of, each_of, is_dih_kind, is_lqh_kind, is_tc_kind, none_of}
@@ -185,12 +185,6 @@ host_tells s x =
       dih = λ runs at. never _ is_dih_kind (λ name tx. refl) (dih_table (dih_of s) x.body).effects.sends (dih_kinds (dih_of s) x.body);
       rows = λ runs at. never _ is_lqh_kind (λ name tx. refl) (lqh_table (lqh_of s) x.body).effects.sends (lqh_kinds (lqh_of s) x.body);
     })
-
--- the host of a transaction's coordinator
-pub record IsHome (start : Start) (tx : TxId) (h : ℕ) : Type 0 where
-  pub some : 1 ≤ tx.tc
-  pub low : tx.tc ≤ start.shape.nodes
-  pub is : h ≡ home start tx
 
 -- who tells that a transaction begins is the host of its coordinator
 abbrev pub TellsHome : Start → ℕ → Body → Type 0

@@ -113,7 +113,7 @@ module _ (start : Start) (tx : TxId) where
       by (in_rows step) = ap (λ f. answers_in tx f.sends) step.effects ∙ lqh_answers tx (lqh_table (lqh_of (after start h log)) e.step.taken.body).effects.sends (lqh_kinds (lqh_of (after start h log)) e.step.taken.body)
       by (aside step) = aside_answers tx (step_after start h log e).effects.sends step.kind
       by (starting step) = absurd (differs ((at_own_node start h log low step.runs).is ∙ ap (tc_host start) (sym (ap (λ (v : TxId). v.tc) step.one))))
-      by (turning step) = absurd (differs (sym (at_home start tx h log step.was low step.there)))
+      by (turning step) = absurd (differs (at_home start tx h log step.was low step.there).is)
 
   module _ (logs : ℕ → List HostStep) (right : AreLogs (machine start) logs) (in_n : IsWithin (hosts start) logs) where
     -- what the coordinator took of it the API has sent

@@ -394,6 +394,13 @@ move_still s body after sends (goes front t u back go void was is kind) = of_kin
 move_still s body after sends (ends one front t back about passes was is kind) = of_kind is_api_kind is_still_kind still_api sends kind
 move_still s body after sends (refuses other front t back about passes was is kind) = of_kind is_api_kind is_still_kind still_api sends kind
 
+-- nor whose coordinator it is
+pub tc_node : (s after : TcState) (sends : List Outgoing) → TcMove s after sends → after.node ≡ s.node
+tc_node s after sends (stays is kind) = ap (λ (t : TcState). t.node) is
+tc_node s after sends (starts name is told) = ap (λ (t : TcState). t.node) is
+tc_node s after sends (turns one t u front back is now kind told) = ap (λ (t : TcState). t.node) now
+tc_node s after sends (forgets one t front back is now kind told) = ap (λ (t : TcState). t.node) now
+
 still_dih : (body : Body) → is_dih_kind body ≡ true → is_still_kind body ≡ true
 still_dih (Client (TcBeginConf name tx)) e = cc
 still_dih (Client (TcCommitConf tx epoch)) e = cc
