@@ -22,7 +22,6 @@ use Rattle.commit_laws.proofs.Tally.{tally_append}
 use Rattle.commit_laws.specs.Counts.{one_if}
 use Rattle.answer_laws.proofs.TcLives.{is_start}
 use Rattle.answer_laws.specs.Answered.{EachIsAnswered, WaitsForLock, is_answered_by, opened_after, opened_in}
-use Rattle.command_laws.proofs.CommitGoes.{HasEnded, IsEnding}
 use Rattle.command_laws.proofs.Committed.{calm_at, sent_append}
 use Rattle.command_laws.proofs.EarlySteps.{IsOpenNow, OpenOption, is_wish_to}
 use Rattle.command_laws.proofs.EndsWell.{ended_well, replied}
@@ -30,7 +29,6 @@ use Rattle.command_laws.proofs.Entries.{HasOne}
 use Rattle.command_laws.proofs.First.{IsFirst, first_step, request_first}
 use Rattle.command_laws.proofs.LoneBegins.{HasBegun, IsAlone, IsAskedAlone, WasRefused, alone_first, begin_goes}
 use Rattle.command_laws.proofs.LoneWishes.{wishes_since}
-use Rattle.command_laws.proofs.OperateGoes.{HasAnswered, IsAnswering, operate_goes}
 use Rattle.command_laws.proofs.Since.{sent_since}
 use Rattle.command_laws.proofs.TellsSince.{OnTc}
 use Rattle.command_laws.specs.Alone.{IsRefusedAlone, IsTurnedAway, LoneOperationsAreAnswered, WaitsAlone}
@@ -42,6 +40,7 @@ use Rattle.command_laws.proofs.HostSteps.{api_seen}
 use Rattle.node_core.specs.Blocks.{api_of}
 use Rattle.frag_map.specs.Layout.{first_view}
 use Rattle.answer_laws.proofs.Hosts.{shell_after}
+use Rattle.command_laws.proofs.EntryGoes.{HasAnswered, HasEnded, IsAnswering, IsEnding, operate_goes}
 
 -- what was so behind some steps and a log was so behind that log
 module _ (start : Start) (newer : List HostStep) (step : HostStep) (older log : List HostStep) where

@@ -36,7 +36,6 @@ use Rattle.answer_laws.proofs.TcKeys.{answer_of, is_asked, is_key, key_of_tx}
 use Rattle.answer_laws.proofs.TcLives.{is_keyed, is_start}
 use Rattle.answer_laws.proofs.Wishes.{is_api, is_tc}
 use Rattle.answer_laws.specs.Answered.{EachIsAnswered, is_answered_by, opened_after, opened_in}
-use Rattle.command_laws.proofs.CommitGoes.{HasEnded, commit_goes}
 use Rattle.command_laws.proofs.Committed.{cut_at_first, sent_append}
 use Rattle.command_laws.proofs.Entries.{HasOne}
 use Rattle.command_laws.proofs.FirmHosts.{back_of, is_back}
@@ -57,6 +56,7 @@ use Rattle.command_laws.proofs.HostSteps.{api_seen}
 use Rattle.command_laws.proofs.HostKinds.{replies_are}
 use Rattle.node_core.specs.Blocks.{api_of, tc_of}
 use Rattle.world_core.proofs.HostNumbers.{addressed_at, beyond_host, host_some}
+use Rattle.command_laws.proofs.EntryGoes.{HasEnded, commit_goes}
 
 -- signals that one host alone sent were taken from that host
 pub steps_from_one : (start : Start) (test : Place → Body → Bool) (i : ℕ) → ((to : Place) (body : Body) → test to body ≡ true → is_request body ≡ false) → (newer : List HostStep)
