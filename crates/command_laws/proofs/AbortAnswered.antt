@@ -53,11 +53,11 @@ use Rattle.command_laws.proofs.WaitRows.{in_live}
 use Rattle.command_laws.specs.Aborts.{ReadyAbortsAreAnswered}
 use Rattle.sig_core.proofs.Keys.{same_tx-self}
 use Rattle.command_laws.specs.Served.{IsServed, named_in, replies_since}
-use Rattle.answer_laws.proofs.Commits.{live_low}
 use Rattle.command_laws.proofs.Homes.{sound_at}
 use Rattle.command_laws.proofs.HostSteps.{api_seen}
 use Rattle.node_core.specs.Blocks.{api_of, tc_of}
 use Rattle.command_laws.proofs.EntryGoes.{HasEnded, entry_goes}
+use Rattle.answer_laws.proofs.Lives.{live_low}
 
 -- an end that isn't wrong is an abort at the client's request
 ends_right : (tx : TxId) (body : Body) (end : Outcome) → outcome_in body ≡ Some (tx, end) → wrong_of tx body ≡ false → end ≡ outcome.Aborted cause.Request

@@ -27,8 +27,6 @@ use Rattle.world_core.specs.Machine.{after, machine, step_after}
 use Rattle.world_core.specs.Requests.{request_in, requests}
 use Rattle.world_core.specs.Start.{Start}
 use Rattle.answer_laws.proofs.ApiBegins.{in_middle}
-use Rattle.answer_laws.proofs.Commits.{live_low}
-use Rattle.answer_laws.proofs.Lives.{holds_at, once_started}
 use Rattle.commit_laws.proofs.Tally.{Counted, counted, tally_append, tally_between}
 use Rattle.commit_laws.specs.Counts.{one_if, tally}
 use Rattle.sig_core.proofs.Keys.{same_tx-self}
@@ -48,12 +46,13 @@ use Rattle.command_laws.proofs.Homes.{sound_at}
 use Rattle.command_laws.proofs.HostSteps.{api_seen}
 use Rattle.command_laws.proofs.HostKinds.{api_alone, api_no_rows, no_rows, replies_are}
 use Rattle.answer_laws.proofs.LinkCounts.{steps, to_host}
-use Rattle.node_core.specs.Blocks.{api_of, has_api, has_lqh, tc_of}
+use Rattle.node_core.specs.Blocks.{api_of, has_api, has_lqh, has_tc, tc_of}
 use Rattle.node_core.specs.declared.host.Host.TheVariants.{Ldm, Main, Shell, Tc}
 use Rattle.node_core.specs.declared.host.Host.{Host}
 use Rattle.world_core.proofs.HostNumbers.{api_runs, host_below}
 use Rattle.sig_core.specs.Place.{client, rows_of}
-use Rattle.answer_laws.proofs.HostSteps.{live_runs}
+use Rattle.answer_laws.proofs.HostSteps.{no_live}
+use Rattle.answer_laws.proofs.Lives.{holds_at, live_low, once_started}
 
 pub sent_to_append : (start : Start) (test : Place → Body → Bool) (h j : ℕ) (xs ys log : List HostStep)
     → sent_since_to start test h j (xs ++ ys) log ≡ sent_since_to start test h j xs (ys ++ log) + sent_since_to start test h j ys log
@@ -98,7 +97,11 @@ not_shell start logs P none zero p = absurd (none (after start 0 (logs 0)) (api_
 not_shell start logs P none (suc h) p = (h, refl)
 
 not_live : (tx : TxId) (u : Transaction) (g : Host) → has_api g ≡ true → IsLiveAs tx u g → ⊥
-not_live tx u g api live = api_alone g api (live_runs g (tx, u) live)
+not_live tx u g api live = by (has_tc g) refl
+  where
+    by : (b : Bool) → has_tc g ≡ b → ⊥
+    by true tc = api_alone g api tc
+    by false none = subst (IsIn (tx, u)) (no_live g none) live
 
 not_held : (tx : TxId) (key : List ℕ) (g : Host) → has_api g ≡ true → IsHeldUpAt tx key g → ⊥
 not_held tx key g api held = by (has_lqh g) refl
