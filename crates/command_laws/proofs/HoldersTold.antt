@@ -38,21 +38,21 @@ use Rattle.command_laws.proofs.Since.{all_arrive, sent_since_to, taken_since}
 use Rattle.command_laws.proofs.TellsSince.{OnTc}
 use Rattle.command_laws.proofs.Told.{told_since}
 use Rattle.command_laws.proofs.WaitApi.{IsAboutOne, IsAsking, IsOwn, TellsHolder, own_found, pending_first, waits_first}
-use Rattle.command_laws.proofs.WaitRows.{in_live, is_found, is_passed, is_probe, is_telling_who, is_wait_of, is_want}
+use Rattle.command_laws.proofs.WaitRows.{is_found, is_passed, is_probe, is_telling_who, is_wait_of, is_want}
 use Rattle.command_laws.proofs.WaitsBehind.{IsBehindThere, behind_there}
 use Rattle.command_laws.proofs.WaitRun.{AllHold, all_hold}
 use Rattle.command_laws.specs.Served.{name_in, EachIsHeldUp, HoldersAreTold, IsHeldUp, IsHeldUpAt, IsServed, IsToldHolder, own_in}
-use Rattle.command_laws.proofs.Homes.{sound_at}
 use Rattle.command_laws.proofs.HostSteps.{api_seen}
 use Rattle.command_laws.proofs.HostKinds.{api_alone, api_no_rows, no_rows, replies_are}
 use Rattle.answer_laws.proofs.LinkCounts.{steps, to_host}
-use Rattle.node_core.specs.Blocks.{api_of, has_api, has_lqh, has_tc, tc_of}
+use Rattle.node_core.specs.Blocks.{api_of, has_api, has_lqh, has_tc}
 use Rattle.node_core.specs.declared.host.Host.TheVariants.{Ldm, Main, Shell, Tc}
 use Rattle.node_core.specs.declared.host.Host.{Host}
 use Rattle.world_core.proofs.HostNumbers.{api_runs, host_below}
 use Rattle.sig_core.specs.Place.{client, rows_of}
 use Rattle.answer_laws.proofs.HostSteps.{no_live}
 use Rattle.answer_laws.proofs.Lives.{holds_at, live_low, once_started}
+use Rattle.answer_laws.proofs.Ahead.{live_tx}
 
 pub sent_to_append : (start : Start) (test : Place → Body → Bool) (h j : ℕ) (xs ys log : List HostStep)
     → sent_since_to start test h j (xs ++ ys) log ≡ sent_since_to start test h j xs (ys ++ log) + sent_since_to start test h j ys log
@@ -135,7 +135,7 @@ module _ (answered : EachIsAnswered) (held_up : EachIsHeldUp) (start : Start) (w
 
   -- the transaction as its coordinator has it
   live : OnTc (λ c. of_live w.tx c.live ≡ Some up.transaction) (after start c_host (was c_host))
-  live = in_live w.tx up.transaction (tc_of (after start c_host (was c_host))).live up.live (sound_at start w.tx c_host (was c_host)).few
+  live = live_tx start w.tx c_host (was c_host) up.transaction up.live
 
   -- no other transaction of the API has its number
   none : tally (has_tx w.tx) i.first.front ≡ 0
