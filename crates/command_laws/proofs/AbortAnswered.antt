@@ -49,15 +49,15 @@ use Rattle.command_laws.proofs.Since.{all_arrive, none_taken, sent_since}
 use Rattle.command_laws.proofs.TellsOnce.{live_early}
 use Rattle.command_laws.proofs.TellsSince.{OnTc}
 use Rattle.command_laws.proofs.Tests.{and_off, none_at}
-use Rattle.command_laws.proofs.WaitRows.{in_live}
 use Rattle.command_laws.specs.Aborts.{ReadyAbortsAreAnswered}
 use Rattle.sig_core.proofs.Keys.{same_tx-self}
 use Rattle.command_laws.specs.Served.{IsServed, named_in, replies_since}
-use Rattle.answer_laws.proofs.Commits.{live_low}
 use Rattle.command_laws.proofs.Homes.{sound_at}
 use Rattle.command_laws.proofs.HostSteps.{api_seen}
 use Rattle.node_core.specs.Blocks.{api_of, tc_of}
 use Rattle.command_laws.proofs.EntryGoes.{HasEnded, entry_goes}
+use Rattle.answer_laws.proofs.Lives.{live_low}
+use Rattle.answer_laws.proofs.Ahead.{live_tx}
 
 -- an end that isn't wrong is an abort at the client's request
 ends_right : (tx : TxId) (body : Body) (end : Outcome) → outcome_in body ≡ Some (tx, end) → wrong_of tx body ≡ false → end ≡ outcome.Aborted cause.Request
@@ -137,7 +137,7 @@ module _ (answered : EachIsAnswered) (start : Start) (was now : ℕ → List Hos
   loose_was h at =
       let o : IsOpenAt tx (after start h (was h)) = subst (λ k. IsOpenAt tx (after start k (was k))) at is_open in
       let sound = sound_at start tx h (was h) in
-      let live = in_live tx o.transaction (tc_of (after start h (was h))).live o.live sound.few in
+      let live = live_tx start tx h (was h) o.transaction o.live in
       record {
         loose = subst (LooseOption false) (sym live) (ap (is_loose false) o.phase, o.asked);
         early = live_early tx (tc_of (after start h (was h))).node (tc_of (after start h (was h))).next_seq (tc_of (after start h (was h))).live o.transaction sound.own live;
@@ -203,7 +203,7 @@ module _ (answered : EachIsAnswered) (start : Start) (was now : ℕ → List Hos
   -- so it isn't open any more
   closed : IsOpenAt tx (after start (home start tx) (now (home start tx))) → ⊥
   closed o =
-      let live = in_live tx o.transaction (tc_of (after start (home start tx) (now (home start tx)))).live o.live (sound_at start tx (home start tx) (now (home start tx))).few in
+      let live = live_tx start tx (home start tx) (now (home start tx)) o.transaction o.live in
       let loose : OnTc (IsLooseNow tx true) (after start (home start tx) (now (home start tx))) =
       subst (λ log. OnTc (IsLooseNow tx true) (after start (home start tx) log)) (sym (cut (home start tx)).is)
       (subst (λ c. OnTc (IsLooseNow tx c) (after start (home start tx) ((cut (home start tx)).newer ++ was (home start tx)))) rolls_arrive ((run (home start tx) home_low).1 refl)) in

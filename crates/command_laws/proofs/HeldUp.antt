@@ -26,7 +26,6 @@ use Rattle.world_core.specs.Machine.{after, machine}
 use Rattle.world_core.specs.Start.{Start}
 use Rattle.answer_laws.proofs.Aborts.{no_abort}
 use Rattle.answer_laws.proofs.Answers.{only_open}
-use Rattle.answer_laws.proofs.Commits.{live_low}
 use Rattle.answer_laws.proofs.Heeded.{asked_where_operating}
 use Rattle.answer_laws.proofs.Ops.{operations_wait}
 use Rattle.answer_laws.proofs.Queued.{operations_queue}
@@ -53,6 +52,7 @@ use Rattle.sig_core.specs.Place.{rows_of}
 use Rattle.node_core.specs.Blocks.{lqh_of, tc_of}
 use Rattle.node_core.specs.declared.host.Host.{Host}
 use Rattle.transit_laws.proofs.RowsNodes.{IsRowsHost, rows_node}
+use Rattle.answer_laws.proofs.Lives.{live_low}
 
 -- two of them are no more than all
 total_two : (n : ℕ) (f : ℕ → ℕ) (i j : ℕ) → i < n → j < n → i ≢ j → f i + f j ≤ total n f

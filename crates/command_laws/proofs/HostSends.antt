@@ -1,6 +1,5 @@
 -- What a host sends of a kind, block by block.
 use Rattle.std.proofs.Common.{◌≡◌, ℕ, Bool, true, false, List, [], ◌∷◌, ◌++◌, refl, arith}
-use Rattle.std.specs.Prelude.{Option}
 use Rattle.sig_core.specs.declared.outs.Outgoing.{Outgoing}
 use Rattle.sig_core.specs.declared.place.Place.{Place}
 use Rattle.sig_core.specs.declared.signal.Body.{Body}
@@ -25,6 +24,11 @@ use Rattle.command_laws.proofs.HostKinds.{api_alone, api_no_rows}
 use Rattle.command_laws.proofs.Since.{sent_since}
 use Rattle.transit_laws.proofs.WaysPassed.{api_each}
 use Rattle.world_core.proofs.HostNumbers.{api_runs}
+use Rattle.std.specs.Prelude.{◌||◌, Option}
+
+-- what the API sends, or epochs, or rows; all but the wish for a transaction
+abbrev pub is_other_kind : Body → Bool
+is_other_kind body = is_api_kind body || (is_dih_kind body || is_lqh_kind body)
 
 -- no signal of the API passes the test
 pub record IsNotOfApi (test : Place → Body → Bool) : Type 0 where
@@ -33,11 +37,28 @@ pub record IsNotOfApi (test : Place → Body → Bool) : Type 0 where
 
 -- nor one of epochs or of rows: only a coordinator's may
 pub record IsOfTc (test : Place → Body → Bool) : Type 0 where
-  pub api : IsNotOfApi test
-  pub dih : (to : Place) (body : Body) → is_dih_kind body ≡ true → test to body ≡ false
-  pub lqh : (to : Place) (body : Body) → is_lqh_kind body ≡ true → test to body ≡ false
+  pub others : (to : Place) (body : Body) → is_other_kind body ≡ true → test to body ≡ false
+  pub begins : (name : Option ℕ) (node : ℕ) → test (coordinator node) (Client (TcBeginReq name)) ≡ false
+
+pub or_first : (a b : Bool) → a ≡ true → (a || b) ≡ true
+or_first true b e = refl
+or_first false b e = cc
+
+pub or_second : (a b : Bool) → b ≡ true → (a || b) ≡ true
+or_second true b e = refl
+or_second false b e = e
 
 module _ (test : Place → Body → Bool) where
+  module _ (only : IsOfTc test) where
+    pub not_of_api : IsNotOfApi test
+    not_of_api = record { kinds = λ to body e. only.others to body (or_first (is_api_kind body) _ e); begins = only.begins }
+
+    pub not_of_dih : (to : Place) (body : Body) → is_dih_kind body ≡ true → test to body ≡ false
+    not_of_dih to body e = only.others to body (or_second (is_api_kind body) _ (or_first (is_dih_kind body) _ e))
+
+    pub not_of_lqh : (to : Place) (body : Body) → is_lqh_kind body ≡ true → test to body ≡ false
+    not_of_lqh to body e = only.others to body (or_second (is_api_kind body) _ (or_second (is_dih_kind body) _ e))
+
   pub api_silent : IsNotOfApi test → (s : ApiState) (body : Body) → sends_of test (api_table s body).effects.sends ≡ 0
   api_silent fails s body =
       tally_none (λ (o : Outgoing). test o.to o.body) (api_table s body).effects.sends

@@ -27,7 +27,7 @@ use Rattle.answer_laws.proofs.LqhSends.{lqh_kinds}
 use Rattle.answer_laws.proofs.SendKinds.{is_dih_kind, is_lqh_kind, none_of}
 use Rattle.answer_laws.proofs.Wishes.{sends_of}
 use Rattle.command_laws.proofs.HostKinds.{api_alone, api_no_rows, runs_api, runs_tc}
-use Rattle.command_laws.proofs.HostSends.{IsOfTc, api_silent}
+use Rattle.command_laws.proofs.HostSends.{IsOfTc, api_silent, not_of_api, not_of_dih, not_of_lqh}
 
 -- a host's step, as one of its API
 abbrev pub api_seen : Step Host → Step ApiState
@@ -93,12 +93,12 @@ tc_host R g x moves rests = go (row g x) (block_case g x)
     go t (tc_takes step) =
         subst (λ (u : TcState). R (record { state = u; effects = t.effects })) (sym step.state)
         (subst (λ (f : Effects). R (record { state = (tc_row (tc_of g) x).state; effects = f })) (sym step.effects) (moves step.runs step.at))
-    go t (api_takes step) = at_rest t _ step.tc step.effects (λ test only. api_silent test only.api (api_of g) x.body) (λ at. absurd (let both : _ ≡ block.Tc = sym step.at ∙ at in cc))
+    go t (api_takes step) = at_rest t _ step.tc step.effects (λ test only. api_silent test (not_of_api test only) (api_of g) x.body) (λ at. absurd (let both : _ ≡ block.Tc = sym step.at ∙ at in cc))
     go t (dih_takes step) =
-        at_rest t _ step.tc step.effects (λ test only. none_of is_dih_kind test only.dih (dih_table (dih_of g) x.body).effects.sends (dih_kinds (dih_of g) x.body))
+        at_rest t _ step.tc step.effects (λ test only. none_of is_dih_kind test (not_of_dih test only) (dih_table (dih_of g) x.body).effects.sends (dih_kinds (dih_of g) x.body))
         (λ at. absurd (let both : _ ≡ block.Tc = sym step.at ∙ at in cc))
     go t (rows_take step) =
-        at_rest t _ step.tc step.effects (λ test only. none_of is_lqh_kind test only.lqh (lqh_table (lqh_of g) x.body).effects.sends (lqh_kinds (lqh_of g) x.body))
+        at_rest t _ step.tc step.effects (λ test only. none_of is_lqh_kind test (not_of_lqh test only) (lqh_table (lqh_of g) x.body).effects.sends (lqh_kinds (lqh_of g) x.body))
         (λ at. absurd (let both : _ ≡ block.Tc = sym step.at ∙ at in cc))
     go t (none_takes step) =
         at_rest t nothing (ap (λ (u : Step Host). tc_of u.state) step.is) (ap (λ (u : Step Host). u.effects) step.is) (λ test only. refl)

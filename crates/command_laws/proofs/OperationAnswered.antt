@@ -21,13 +21,12 @@ use Rattle.command_laws.proofs.OperateAsks.{AreNamed, IsAskedFor, named_since, o
 use Rattle.command_laws.proofs.ReadyAtQuiet.{named_at, ready_open}
 use Rattle.command_laws.proofs.Since.{sent_since}
 use Rattle.command_laws.proofs.TellsSince.{OnTc}
-use Rattle.command_laws.proofs.WaitRows.{in_live}
 use Rattle.command_laws.specs.Served.{IsAnsweredAs, IsRefusedAs, IsServed, OperationsAreAnswered, StillWaits, named_in}
-use Rattle.command_laws.proofs.Homes.{sound_at}
 use Rattle.world_core.specs.Hosts.{home}
 use Rattle.command_laws.proofs.HostSteps.{api_seen}
-use Rattle.node_core.specs.Blocks.{api_of, tc_of}
+use Rattle.node_core.specs.Blocks.{api_of}
 use Rattle.command_laws.proofs.EntryGoes.{HasAnswered, HasEnded, operate_goes}
+use Rattle.answer_laws.proofs.Ahead.{live_tx}
 
 module _ (answered : EachIsAnswered) (start : Start) (was now : ℕ → List HostStep) (name : ℕ) (op : Op) (t : OpenTransaction) (tx : TxId) (served : IsServed start was now (Operate (Some name) op))
     (named : named_in (opened_after start was) name ≡ Some t) (ready : t.doing ≡ Ready) (own : t.tx ≡ Some tx) (few : t.operations < 64) where
@@ -46,7 +45,7 @@ module _ (answered : EachIsAnswered) (start : Start) (was now : ℕ → List Hos
   open_was : (h : ℕ) → home start tx ≡ h → OnTc (IsOpenNow tx) (after start h (was h))
   open_was h at =
       let o : IsOpenAt tx (after start h (was h)) = subst (λ k. IsOpenAt tx (after start k (was k))) at is_open in
-      record { open_now = subst OpenOption (sym (in_live tx o.transaction (tc_of (after start h (was h))).live o.live (sound_at start tx h (was h)).few)) o.phase }
+      record { open_now = subst OpenOption (sym (live_tx start tx h (was h) o.transaction o.live)) o.phase }
 
   -- nobody wishes for its commit or abort
   no_wishes : sent_since start (is_wish_to tx) 0 (f.later ++ f.first ∷ []) (was 0) ≡ 0

@@ -18,7 +18,7 @@ use Rattle.command_laws.proofs.TurnTells.{is_reply}
 use Rattle.command_laws.proofs.TellsOnce.{HasTold, host_tells, is_wish_back_to, none_told}
 use Rattle.command_laws.proofs.TcPath.{TcGoes, aside, begins, is_told, takes, tc_goes, told_tc}
 use Rattle.command_laws.proofs.HostSteps.{tc_host}
-use Rattle.command_laws.proofs.HostSends.{shell_silent}
+use Rattle.command_laws.proofs.HostSends.{not_of_api, shell_silent}
 use Rattle.command_laws.proofs.Homes.{lives_home, sound_at}
 use Rattle.world_core.specs.Hosts.{home, hosts}
 use Rattle.node_core.specs.Blocks.{tc_of}
@@ -63,7 +63,7 @@ module _ (start : Start) (tx : TxId) where
           (λ effects none off. none (is_told tx) (told_tc tx))
 
   pub shell_since : (newer log : List HostStep) → sent_since start (is_told tx) 0 newer log ≡ 0
-  shell_since newer log = shell_silent (is_told tx) (told_tc tx).api start newer log
+  shell_since newer log = shell_silent (is_told tx) (not_of_api (is_told tx) (told_tc tx)) start newer log
 
   -- what isn't told isn't answered, nor is the abort reported
   pub since_none : (h : ℕ) (newer log : List HostStep) → sent_since start (is_told tx) h newer log ≡ 0 → (sent_since start (is_reply tx) h newer log ≡ 0) × (sent_since start (is_back tx) h newer log ≡ 0)

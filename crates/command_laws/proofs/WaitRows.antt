@@ -33,8 +33,7 @@ use Rattle.tc_block.specs.Tc.{pass_if, pass_row, tc_table, tc_row}
 use Rattle.answer_laws.proofs.LqhOps.{is_lqh, true_and}
 use Rattle.answer_laws.proofs.SendKinds.{are_of, none_of, of_map, one_kind}
 use Rattle.commit_laws.proofs.Tally.{tally_in}
-use Rattle.commit_laws.specs.Counts.{one_if, tally}
-use Rattle.answer_laws.proofs.TcLives.{is_keyed}
+use Rattle.commit_laws.specs.Counts.{one_if}
 use Rattle.answer_laws.proofs.TcMoves.{same_tx-is}
 use Rattle.answer_laws.proofs.TcSends.{eqb-self}
 use Rattle.answer_laws.proofs.Wishes.{is_api, is_tc, sends_of}
@@ -147,19 +146,6 @@ placed_at tx (e ∷ live) t is = by (same_tx e.0 tx) refl is (placed_at tx live 
           place = position-cons (same_tx tx) e.0 (keys_of live) ∙ ap (λ b. place_by b (position (same_tx tx) (keys_of live))) (same_tx-swap tx e.0 ∙ differs) ∙ ap (place_by false) r.place;
           get = r.get;
         }
-
-pub in_live : (tx : TxId) (t : Transaction) (live : List (TxId × Transaction)) → IsIn (tx, t) live → tally (is_keyed tx) live ≤ 1 → of_live tx live ≡ Some t
-in_live tx t [] i few = absurd i
-in_live tx t (e ∷ live) (inl same) few =
-    ap (λ (x : TxId × Transaction). if same_tx x.0 tx then Some x.1 else of_live tx live) (sym same) ∙ ap (λ b. if b then Some t else of_live tx live) (same_tx-self tx)
-in_live tx t (e ∷ live) (inr i) few = by (same_tx e.0 tx) refl (in_live tx t live i)
-  where
-    some : 1 ≤ tally (is_keyed tx) live
-    some = tally_in (is_keyed tx) (tx, t) live i (same_tx-self tx)
-
-    by : (b : Bool) → same_tx e.0 tx ≡ b → (tally (is_keyed tx) live ≤ 1 → of_live tx live ≡ Some t) → (if b then Some e.1 else of_live tx live) ≡ Some t
-    by true same rest = absurd (omega (arith, few, some, ap one_if same))
-    by false differs rest = rest (omega (arith, few))
 
 -- the coordinator at these signals
 module _ (start : Start) (tx : TxId) where
