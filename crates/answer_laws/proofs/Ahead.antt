@@ -136,6 +136,16 @@ module _ (start : Start) where
       → signals test (taken (machine start) i (logs j)) ≤ signals test (sent (machine start) i j (logs i))
   few_taken logs right test i j = tally_past (λ (x : Addressed). test x.signal.to x.signal.body) (link logs right i j)
 
+  -- where one host alone that is there sends such signals to the shell's host, that takes none of another
+  pub none_else : (logs : ℕ → List HostStep) → AreLogs (machine start) logs → IsWithin (hosts start) logs → (test : Place → Body → Bool) (i : ℕ)
+      → ((h : ℕ) (log : List HostStep) → h < hosts start → h ≢ i → signals test (sent (machine start) h 0 log) ≡ 0)
+      → (k : ℕ) → k ≢ i → signals test (taken (machine start) k (logs 0)) ≡ 0
+  none_else logs right in_n test i silent k differs = go (cases_lt k (hosts start))
+    where
+      go : (k < hosts start) ⊎ (hosts start ≤ k) → signals test (taken (machine start) k (logs 0)) ≡ 0
+      go (inl low) = omega (arith, silent k (logs k) low differs, few_taken logs right test k 0)
+      go (inr high) = omega (arith, few_taken logs right test k 0, ap (λ log. signals test (sent (machine start) k 0 log)) (in_n k high))
+
   -- each step is one of the host of its signal's place
   pub addressed : (logs now : ℕ → List HostStep) (h : ℕ) (e : HostStep) → Goes logs now h e → host_for start e.step.taken.to ≡ h
   addressed logs now h e g = (subst (Each (λ (d : HostStep). host_for start d.step.taken.to ≡ h)) g.own (addressed_rightly start now g.right h)).0
