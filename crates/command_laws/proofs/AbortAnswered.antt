@@ -1,10 +1,10 @@
 -- An abort of a transaction that takes commands ends in its being aborted at the client's request.
 use Rattle.std.proofs.Common.{◌≡◌, ◌⊎◌, ◌<◌, ◌≤◌, ◌+◌, ℕ, zero, suc, Bool, true, false, List, [], ◌∷◌, ◌++◌, refl, sym, ap, ◌∙◌, subst, inl, inr, append_assoc, arith}
 use Rattle.std.specs.Prelude.{if◌then◌else◌, Some}
+use Rattle.run_theory.proofs.Pasts.{each_in, each_map}
 use Rattle.run_theory.specs.Cuts.{IsCut}
 use Rattle.run_theory.specs.Lists.{Each, IsIn}
-use Rattle.run_theory.proofs.Pasts.{each_in, each_map}
-use Rattle.world_core.specs.Steps.{HostStep}
+use Rattle.sig_core.proofs.Keys.{same_tx-self}
 use Rattle.sig_core.specs.declared.member.TxId.{TxId}
 use Rattle.sig_core.specs.declared.outcome.AbortCause.{AbortCause}
 use Rattle.sig_core.specs.declared.outcome.AbortCause.TheVariants as cause
@@ -20,14 +20,18 @@ use Rattle.sig_core.specs.declared.signal.client.ClientSignal.TheVariants.{TcCom
 use Rattle.sig_core.specs.Same.{same_tx}
 use Rattle.api_block.specs.declared.opened.Doing.TheVariants.{Ready}
 use Rattle.api_block.specs.declared.opened.OpenTransaction.{OpenTransaction}
+use Rattle.node_core.specs.Blocks.{api_of, tc_of}
 use Rattle.node_core.specs.Replies.{replies_of}
 use Rattle.node_core.specs.Requests.{is_request}
 use Rattle.world_core.specs.Hosts.{home, hosts}
 use Rattle.world_core.specs.Machine.{after, step_after}
 use Rattle.world_core.specs.Start.{Start}
+use Rattle.world_core.specs.Steps.{HostStep}
+use Rattle.commit_laws.specs.Counts.{one_if}
+use Rattle.answer_laws.proofs.Ahead.{live_tx}
 use Rattle.answer_laws.proofs.ApiBegins.{in_middle}
 use Rattle.answer_laws.proofs.LinkCounts.{steps}
-use Rattle.commit_laws.specs.Counts.{one_if}
+use Rattle.answer_laws.proofs.Lives.{live_low}
 use Rattle.answer_laws.proofs.Wishes.{is_tc, sends_of}
 use Rattle.answer_laws.specs.Answered.{EachIsAnswered, IsOpenAt, opened_after, opened_in}
 use Rattle.command_laws.proofs.AbortFirst.{IsAbortAsked, abort_first}
@@ -38,9 +42,12 @@ use Rattle.command_laws.proofs.Committed.{cut_at_first, sent_append}
 use Rattle.command_laws.proofs.EarlySteps.{is_wish_to}
 use Rattle.command_laws.proofs.EndsWell.{replied}
 use Rattle.command_laws.proofs.Entries.{HasOne}
+use Rattle.command_laws.proofs.EntryGoes.{HasEnded, entry_goes}
 use Rattle.command_laws.proofs.FirmHosts.{is_push_to}
 use Rattle.command_laws.proofs.First.{IsFirst, first_step, request_first}
 use Rattle.command_laws.proofs.HoldersTold.{sent_to_append, taken_few}
+use Rattle.command_laws.proofs.Homes.{sound_at}
+use Rattle.command_laws.proofs.HostSteps.{api_seen}
 use Rattle.command_laws.proofs.OperateAsks.{AreNamed, named_since}
 use Rattle.command_laws.proofs.Pushes.{calm_since, is_node_kind, node_since}
 use Rattle.command_laws.proofs.ReadyAtQuiet.{named_at, opens, ready_open}
@@ -50,14 +57,7 @@ use Rattle.command_laws.proofs.TellsOnce.{live_early}
 use Rattle.command_laws.proofs.TellsSince.{OnTc}
 use Rattle.command_laws.proofs.Tests.{and_off, none_at}
 use Rattle.command_laws.specs.Aborts.{ReadyAbortsAreAnswered}
-use Rattle.sig_core.proofs.Keys.{same_tx-self}
 use Rattle.command_laws.specs.Served.{IsServed, named_in, replies_since}
-use Rattle.command_laws.proofs.Homes.{sound_at}
-use Rattle.command_laws.proofs.HostSteps.{api_seen}
-use Rattle.node_core.specs.Blocks.{api_of, tc_of}
-use Rattle.command_laws.proofs.EntryGoes.{HasEnded, entry_goes}
-use Rattle.answer_laws.proofs.Lives.{live_low}
-use Rattle.answer_laws.proofs.Ahead.{live_tx}
 
 -- an end that isn't wrong is an abort at the client's request
 ends_right : (tx : TxId) (body : Body) (end : Outcome) → outcome_in body ≡ Some (tx, end) → wrong_of tx body ≡ false → end ≡ outcome.Aborted cause.Request

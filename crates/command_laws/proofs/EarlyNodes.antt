@@ -4,28 +4,28 @@ use Rattle.std.specs.Prelude.{◌&&◌, Some}
 use Rattle.sig_core.specs.declared.member.TxId.{TxId}
 use Rattle.sig_core.specs.declared.outs.Outgoing.{Outgoing}
 use Rattle.sig_core.specs.declared.place.BlockId.TheVariants as block
+use Rattle.sig_core.specs.declared.signal.Signal.{Signal}
 use Rattle.sig_core.specs.Step.{Effects, Step, nothing}
 use Rattle.lqh_block.specs.Lqh.{lqh_table}
+use Rattle.node_core.proofs.HostCases.{BlockCase, api_takes, block_case, dih_takes, none_takes, rows_take, tc_takes}
+use Rattle.node_core.specs.Blocks.{api_of, dih_of, lqh_of, tc_of}
+use Rattle.node_core.specs.declared.host.Host.{Host}
 use Rattle.node_core.specs.Dih.{dih_table}
+use Rattle.node_core.specs.Row.{row}
+use Rattle.tc_block.specs.declared.transaction.Transaction.{Transaction}
 use Rattle.tc_block.specs.State.{TcState}
 use Rattle.tc_block.specs.Tc.{tc_row}
+use Rattle.answer_laws.proofs.ApiMoves.{is_api_kind}
 use Rattle.answer_laws.proofs.DihSends.{dih_kinds}
 use Rattle.answer_laws.proofs.LqhSends.{lqh_kinds}
 use Rattle.answer_laws.proofs.SendKinds.{is_dih_kind, is_lqh_kind, none_of}
 use Rattle.answer_laws.proofs.Wishes.{is_tc, sends_of}
+use Rattle.transit_laws.specs.Live.{of_live}
 use Rattle.command_laws.proofs.EarlySteps.{GoesPast, IsOpenNow, IsPastNow, Leaves, StaysClean, bad_tc, clean_goes, fair_loss, is_bad, is_loss, is_wish_to, no_loss, past_goes, tc_no_ref, wish_of}
+use Rattle.command_laws.proofs.HostSends.{IsNotOfApi, api_silent, not_of_api, not_of_dih, not_of_lqh, or_first, or_second}
+use Rattle.command_laws.proofs.HostSteps.{tc_host}
 use Rattle.command_laws.proofs.LqhFair.{is_fair, lqh_fair}
 use Rattle.command_laws.proofs.TcPath.{IsSound, tc_goes}
-use Rattle.sig_core.specs.declared.signal.Signal.{Signal}
-use Rattle.command_laws.proofs.HostSteps.{tc_host}
-use Rattle.command_laws.proofs.HostSends.{IsNotOfApi, api_silent, not_of_api, not_of_dih, not_of_lqh, or_first, or_second}
-use Rattle.node_core.specs.Row.{row}
-use Rattle.node_core.specs.Blocks.{api_of, dih_of, lqh_of, tc_of}
-use Rattle.node_core.specs.declared.host.Host.{Host}
-use Rattle.node_core.proofs.HostCases.{BlockCase, api_takes, block_case, dih_takes, none_takes, rows_take, tc_takes}
-use Rattle.transit_laws.specs.Live.{of_live}
-use Rattle.tc_block.specs.declared.transaction.Transaction.{Transaction}
-use Rattle.answer_laws.proofs.ApiMoves.{is_api_kind}
 
 module _ (tx : TxId) where
   loss_api : IsNotOfApi (is_loss tx)

@@ -1,6 +1,7 @@
 -- A step of a node, where no commit or abort of the transaction is wished for.
 use Rattle.std.proofs.Common.{◌≡◌, ◌⊎◌, ◌<◌, ◌+◌, ℕ, Bool, true, false, List, [], ◌∷◌, refl, sym, ap, ◌∙◌, subst, inl, inr, arith}
 use Rattle.std.specs.Prelude.{◌&&◌, if◌then◌else◌, Option, None, Some, not, ◌||◌}
+use Rattle.sig_core.proofs.Keys.{same_tx-self}
 use Rattle.sig_core.specs.declared.member.TxId.{TxId}
 use Rattle.sig_core.specs.declared.outs.Outgoing.{Outgoing}
 use Rattle.sig_core.specs.declared.place.Place.{Place}
@@ -15,20 +16,19 @@ use Rattle.tc_block.specs.declared.transaction.Transaction.{Transaction}
 use Rattle.tc_block.specs.State.{TcState}
 use Rattle.tc_block.specs.Tc.{begin_if, begin_row, is_full, tc_table}
 use Rattle.tc_block.specs.Turn.{Turn}
+use Rattle.commit_laws.specs.Counts.{one_if}
 use Rattle.answer_laws.proofs.ApiMoves.{is_api_kind}
 use Rattle.answer_laws.proofs.SendKinds.{are_of, is_dih_kind, is_tc_kind, none_of, of_kind}
-use Rattle.commit_laws.specs.Counts.{one_if}
 use Rattle.answer_laws.proofs.TcSends.{tc_kinds, tx_in}
 use Rattle.answer_laws.proofs.Wishes.{is_tc, sends_of}
 use Rattle.transit_laws.specs.Live.{of_live}
 use Rattle.command_laws.proofs.EarlyTurns.{EarlyTurn, IsLeaving, is_no_end, is_past, is_wish, open_turn, past_turn}
+use Rattle.command_laws.proofs.HostSends.{IsOfTc, is_other_kind}
 use Rattle.command_laws.proofs.LqhFair.{is_fair}
 use Rattle.command_laws.proofs.TcPath.{IsSound, TcGoes, aside, begins, is_told, left_by, takes, told_of}
 use Rattle.command_laws.proofs.TellsOnce.{live_early}
 use Rattle.command_laws.proofs.Turns.{turn_by}
-use Rattle.sig_core.proofs.Keys.{same_tx-self}
 use Rattle.command_laws.specs.Served.{is_refusal}
-use Rattle.command_laws.proofs.HostSends.{IsOfTc, is_other_kind}
 
 -- an abort of the transaction, or a refusal for another cause
 abbrev pub is_loss : TxId → Place → Body → Bool

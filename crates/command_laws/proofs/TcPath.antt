@@ -3,8 +3,9 @@ use Rattle.std.proofs.Common.{◌≡◌, ◌<◌, ◌≤◌, ◌+◌, Bool, true
 use Rattle.std.proofs.lemmas.List.{append-nil}
 use Rattle.std.specs.Prelude.{Option, None, Some, if◌then◌else◌}
 use Rattle.indexmap.specs.IndexMap.{insert_entry}
-use Rattle.run_theory.specs.Lists.{Each}
 use Rattle.run_theory.proofs.Pasts.{each_map}
+use Rattle.run_theory.specs.Lists.{Each}
+use Rattle.sig_core.proofs.Keys.{same_tx-self}
 use Rattle.sig_core.specs.declared.member.TxId.{TxId}
 use Rattle.sig_core.specs.declared.place.Place.{Place}
 use Rattle.sig_core.specs.declared.signal.Body.{Body}
@@ -18,18 +19,17 @@ use Rattle.tc_block.specs.Operate.{fresh}
 use Rattle.tc_block.specs.State.{TcState}
 use Rattle.tc_block.specs.Tc.{begun, next_tx, tc_table}
 use Rattle.tc_block.specs.Turn.{Turn}
-use Rattle.answer_laws.proofs.SendKinds.{none_of}
 use Rattle.commit_laws.proofs.Tally.{tally_append, tally_between}
 use Rattle.commit_laws.specs.Counts.{one_if, tally}
+use Rattle.answer_laws.proofs.SendKinds.{none_of}
 use Rattle.answer_laws.proofs.TcLives.{IsOwn, apart, insert_new, is_keyed}
 use Rattle.answer_laws.proofs.TcMoves.{same_tx-is}
 use Rattle.answer_laws.proofs.TcSends.{tx_in}
 use Rattle.answer_laws.proofs.Wishes.{sends_of}
 use Rattle.transit_laws.specs.Live.{of_live}
-use Rattle.command_laws.proofs.OwnSends.{is_own_kind, turn_own}
-use Rattle.sig_core.proofs.Keys.{same_tx-self}
-use Rattle.command_laws.proofs.Turns.{TakesTurn, TcShape, is_idle_kind, starts, still, tc_shape, turn_by, turns}
 use Rattle.command_laws.proofs.HostSends.{IsOfTc, is_other_kind}
+use Rattle.command_laws.proofs.OwnSends.{is_own_kind, turn_own}
+use Rattle.command_laws.proofs.Turns.{TakesTurn, TcShape, is_idle_kind, starts, still, tc_shape, turn_by, turns}
 
 -- what the coordinator tells the client of the transaction, once it has begun, and replicas of its abort
 abbrev pub told_of : TxId → Body → Bool

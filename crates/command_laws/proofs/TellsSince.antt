@@ -1,28 +1,28 @@
 -- Along a log of its host, an operation of a transaction is answered or its abort is reported, and not both. Other hosts tell nothing of it.
 use Rattle.std.proofs.Common.{◌≡◌, ◌≢◌, ◌<◌, ◌≤◌, ◌+◌, ℕ, false, List, [], ◌∷◌, ◌++◌, refl, sym, subst, arith}
 use Rattle.run_theory.specs.Lists.{Each}
-use Rattle.world_core.specs.Steps.{HostStep}
 use Rattle.sig_core.specs.declared.member.TxId.{TxId}
 use Rattle.sig_core.specs.Step.{Step}
+use Rattle.node_core.specs.Blocks.{tc_of}
+use Rattle.node_core.specs.declared.host.Host.{Host}
 use Rattle.tc_block.specs.State.{TcState}
+use Rattle.world_core.specs.Hosts.{home, hosts}
 use Rattle.world_core.specs.Machine.{after, step_after}
 use Rattle.world_core.specs.Start.{Start}
+use Rattle.world_core.specs.Steps.{HostStep}
+use Rattle.commit_laws.specs.Counts.{one_if}
 use Rattle.answer_laws.proofs.ApiMoves.{goes}
 use Rattle.answer_laws.proofs.LinkCounts.{steps}
-use Rattle.commit_laws.specs.Counts.{one_if}
 use Rattle.answer_laws.proofs.TcKeys.{is_key}
 use Rattle.answer_laws.proofs.Wishes.{sends_of}
 use Rattle.command_laws.proofs.FirmHosts.{is_back}
-use Rattle.command_laws.proofs.Since.{sent_since}
-use Rattle.command_laws.proofs.TurnTells.{is_reply}
-use Rattle.command_laws.proofs.TellsOnce.{HasTold, host_tells, is_wish_back_to, none_told}
-use Rattle.command_laws.proofs.TcPath.{TcGoes, aside, begins, is_told, takes, tc_goes, told_tc}
-use Rattle.command_laws.proofs.HostSteps.{tc_host}
-use Rattle.command_laws.proofs.HostSends.{not_of_api, shell_silent}
 use Rattle.command_laws.proofs.Homes.{lives_home, sound_at}
-use Rattle.world_core.specs.Hosts.{home, hosts}
-use Rattle.node_core.specs.Blocks.{tc_of}
-use Rattle.node_core.specs.declared.host.Host.{Host}
+use Rattle.command_laws.proofs.HostSends.{not_of_api, shell_silent}
+use Rattle.command_laws.proofs.HostSteps.{tc_host}
+use Rattle.command_laws.proofs.Since.{sent_since}
+use Rattle.command_laws.proofs.TcPath.{TcGoes, aside, begins, is_told, takes, tc_goes, told_tc}
+use Rattle.command_laws.proofs.TellsOnce.{HasTold, host_tells, is_wish_back_to, none_told}
+use Rattle.command_laws.proofs.TurnTells.{is_reply}
 
 -- what holds of a host's coordinator
 abbrev pub OnTc : (TcState → Type 0) → Host → Type 0

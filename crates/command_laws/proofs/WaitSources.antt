@@ -7,20 +7,24 @@ use Rattle.std.specs.Prelude.{◌==◌, ◌&&◌, Option, None, Some, is_some, s
 use Rattle.run_theory.specs.Cuts.{IsCut}
 use Rattle.run_theory.specs.Links.{is_from}
 use Rattle.run_theory.specs.Lists.{IsIn}
-use Rattle.world_core.specs.Steps.{HostStep}
 use Rattle.sig_core.specs.declared.member.TxId.{TxId}
 use Rattle.sig_core.specs.declared.place.Place.{Place}
 use Rattle.sig_core.specs.declared.signal.Body.{Body}
 use Rattle.sig_core.specs.declared.signal.Body.TheVariants.{Client}
 use Rattle.sig_core.specs.declared.signal.client.ClientSignal.TheVariants.{TcWaitReq, LqhWaitReq, LqhWaitConf, TcWaitConf}
+use Rattle.sig_core.specs.declared.signal.Signal.{Signal}
 use Rattle.sig_core.specs.Place.{coordinator}
 use Rattle.sig_core.specs.Same.{same_tx}
 use Rattle.row_locks.specs.Tables.{ahead_at}
 use Rattle.lqh_block.specs.Lqh.{lqh_table}
 use Rattle.lqh_block.specs.State.{LqhState}
 use Rattle.lqh_block.specs.Wait as rows
+use Rattle.node_core.proofs.HostCases.{of_effects}
+use Rattle.node_core.specs.Blocks.{api_of, dih_of, lqh_of, tc_of}
+use Rattle.node_core.specs.declared.host.Host.{Host}
 use Rattle.node_core.specs.Dih.{dih_table}
 use Rattle.node_core.specs.Requests.{is_request}
+use Rattle.node_core.specs.Row.{row}
 use Rattle.tc_block.specs.declared.phase.Asked.{Asked}
 use Rattle.tc_block.specs.declared.transaction.Transaction.{Transaction}
 use Rattle.tc_block.specs.Live.{place_in, step_of, step_place, step_value}
@@ -29,25 +33,21 @@ use Rattle.tc_block.specs.State.{TcState}
 use Rattle.tc_block.specs.Tc.{pass_if, pass_row, tc_table}
 use Rattle.world_core.specs.Machine.{machine, step_after}
 use Rattle.world_core.specs.Start.{Start}
+use Rattle.world_core.specs.Steps.{HostStep}
+use Rattle.commit_laws.proofs.Tally.{tally_in}
+use Rattle.commit_laws.specs.Counts.{one_if}
 use Rattle.answer_laws.proofs.ApiMoves.{is_api_kind}
 use Rattle.answer_laws.proofs.DihSends.{dih_kinds}
 use Rattle.answer_laws.proofs.LinkCounts.{all_three}
 use Rattle.answer_laws.proofs.LqhSends.{lqh_kinds}
 use Rattle.answer_laws.proofs.SendKinds.{are_of, is_dih_kind, is_lqh_kind, is_tc_kind, none_of, of_map}
-use Rattle.commit_laws.proofs.Tally.{tally_in}
-use Rattle.commit_laws.specs.Counts.{one_if}
 use Rattle.answer_laws.proofs.TcMoves.{same_tx-is}
 use Rattle.answer_laws.proofs.TcSends.{tc_kinds}
 use Rattle.answer_laws.proofs.Wishes.{is_api, is_tc, sends_of}
 use Rattle.answer_laws.specs.Answered.{AreQuiet}
+use Rattle.command_laws.proofs.HostSends.{IsNotOfApi, IsOfTc, api_silent, is_other_kind, not_of_api, not_of_dih, not_of_lqh}
 use Rattle.command_laws.proofs.Since.{few_taken, sent_since}
 use Rattle.command_laws.proofs.WaitRows.{is_telling_who, is_wait_of, tells_who}
-use Rattle.command_laws.proofs.HostSends.{IsNotOfApi, IsOfTc, api_silent, is_other_kind, not_of_api, not_of_dih, not_of_lqh}
-use Rattle.sig_core.specs.declared.signal.Signal.{Signal}
-use Rattle.node_core.proofs.HostCases.{of_effects}
-use Rattle.node_core.specs.Row.{row}
-use Rattle.node_core.specs.Blocks.{api_of, dih_of, lqh_of, tc_of}
-use Rattle.node_core.specs.declared.host.Host.{Host}
 
 -- a step of these sends what passes the test
 pub record SentBy (start : Start) (test : Place → Body → Bool) (h : ℕ) (newer log : List HostStep) : Type 0 where
