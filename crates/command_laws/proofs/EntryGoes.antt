@@ -80,13 +80,18 @@ module _ (tx : TxId) (name : Option ℕ) (stay : Doing) (begun : is_beginning st
 
   module _ (s : ApiState) (body : Body) (has : HasOne tx name stay s.opened) where
     as_before : (after : List OpenTransaction) → IsIn has.item after → HasOne tx name stay after
-    as_before after inside = record { item = has.item; inside = inside; own = has.own; called = has.called;
-        does = has.does }
+    as_before after inside = record {
+      item = has.item;
+      inside = inside;
+      own = has.own;
+      called = has.called;
+      does = has.does;
+    }
 
     not_beginning : (t : OpenTransaction) → is_beginning t.doing ≡ true → has.item ≡ t → ⊥
     not_beginning t begins same =
         let off : false ≡ true = sym begun ∙ sym (ap is_beginning has.does)
-            ∙ (ap (λ (x : OpenTransaction). is_beginning x.doing) same ∙ begins) in cc
+        ∙ (ap (λ (x : OpenTransaction). is_beginning x.doing) same ∙ begins) in cc
 
     -- the step is about the transaction, or about another one
     about_one : (step : Step ApiState) (at : IsOneOf s.opened) → (has.item ≡ at.t → Goes s body step)
@@ -126,10 +131,10 @@ module _ (tx : TxId) (name : Option ℕ) (stay : Doing) (begun : is_beginning st
         })) (λ others. subst (IsIn has.item) (sym is) (others.kept _))
     change_goes step (answers one answer called at about passes does named is replies sends) =
         about_one step at (answered_here step at.t (Some called) answer does named replies)
-            (λ others. subst (IsIn has.item) (sym is) (others.kept _))
+        (λ others. subst (IsIn has.item) (sym is) (others.kept _))
     change_goes step (commits one answer at about passes does named is replies sends) =
         about_one step at (answered_here step at.t None answer does named replies)
-            (λ others. subst (IsIn has.item) (sym is) (others.kept _))
+        (λ others. subst (IsIn has.item) (sym is) (others.kept _))
     change_goes step (ends one end at about passes is replies marks sends) =
         about_one step at ended (λ others. subst (IsIn has.item) (sym is) others.left)
       where
@@ -137,7 +142,7 @@ module _ (tx : TxId) (name : Option ℕ) (stay : Doing) (begun : is_beginning st
             ⊎ Ends tx name s body step)
         ended same =
             let own : one ≡ tx = same_number tx one at.t (ap (λ (x : OpenTransaction). x.tx) (sym same)
-                ∙ has.own) passes in
+            ∙ has.own) passes in
             inr (inr (record {
               outcome = end;
               about = about ∙ ap (λ t. Some (t, end)) own;
@@ -147,14 +152,14 @@ module _ (tx : TxId) (name : Option ℕ) (stay : Doing) (begun : is_beginning st
             }))
     change_goes step (starts called one at u about passes is goes) =
         about_one step at
-            (λ same. absurd
-            (not_beginning at.t (left_of (is_beginning at.t.doing) (same_name at.t.name called)
-            (left_of (begins called at.t) _ passes)) same))
+        (λ same. absurd
+        (not_beginning at.t (left_of (is_beginning at.t.doing) (same_name at.t.name called)
+        (left_of (begins called at.t) _ passes)) same))
         (λ others. subst (IsIn has.item) (sym is) (others.kept u))
     change_goes step (refuses called at about passes is replies sends) =
         about_one step at
-            (λ same. absurd
-            (not_beginning at.t (left_of (is_beginning at.t.doing) (same_name at.t.name called) passes) same))
+        (λ same. absurd
+        (not_beginning at.t (left_of (is_beginning at.t.doing) (same_name at.t.name called) passes) same))
         (λ others. subst (IsIn has.item) (sym is) others.left)
 
   host_goes : (g : Host) (x : Signal) → has_api g ≡ true → is_request x.body ≡ false → HasOne tx name stay (opened_in g)
@@ -163,7 +168,7 @@ module _ (tx : TxId) (name : Option ℕ) (stay : Doing) (begun : is_beginning st
   unfolding Goes
   host_goes g x has plain had =
       by (api_host (Goes (api_of g) x.body) g x has (λ at. change_goes (api_of g) x.body had (api_row (api_of g) x)
-          (api_changes (api_of g) x.body plain)) (λ off. inl had))
+      (api_changes (api_of g) x.body plain)) (λ off. inl had))
     where
       by : HasOne tx name stay (opened_in (row g x).state)
           ⊎ (((stay ≡ Operating) × Answers name (api_of g) (api_seen (row g x)))
@@ -171,11 +176,14 @@ module _ (tx : TxId) (name : Option ℕ) (stay : Doing) (begun : is_beginning st
           → HasOne tx name stay (opened_in (row g x).state) ⊎ (((stay ≡ Operating) × IsAnswering name g (row g x))
           ⊎ IsEnding tx name g x.body (row g x))
       by (inl goes) = inl goes
-      by (inr (inl a)) = inr (inl (a.0, record {
-        answer = a.1.answer;
-        told = replies_are (row g x).state ∙ a.1.told
-            ∙ ap (λ rs. rs ++ Answered name a.1.answer ∷ []) (sym (replies_are g));
-      }))
+      by (inr (inl a)) = inr (inl (
+        a.0,
+        record {
+          answer = a.1.answer;
+          told = replies_are (row g x).state ∙ a.1.told
+              ∙ ap (λ rs. rs ++ Answered name a.1.answer ∷ []) (sym (replies_are g));
+        },
+      ))
       by (inr (inr e)) = inr (inr (record {
         outcome = e.outcome;
         about = e.about;
@@ -209,11 +217,24 @@ module _ (tx : TxId) (name : Option ℕ) (stay : Doing) (begun : is_beginning st
       by (inl goes) =
           next (host_goes (after start 0 (later ++ log)) e.step.taken (api_runs start (later ++ log)) plain.0 goes)
       by (inr (inl a)) =
-          inr (inl (a.0, record { newer = e ∷ a.1.newer; step = a.1.step; older = a.1.older;
-              is = ap (λ w. e ∷ w) a.1.is; answering = a.1.answering }))
+          inr (inl (
+            a.0,
+            record {
+              newer = e ∷ a.1.newer;
+              step = a.1.step;
+              older = a.1.older;
+              is = ap (λ w. e ∷ w) a.1.is;
+              answering = a.1.answering;
+            },
+          ))
       by (inr (inr ended)) =
-          inr (inr (record { newer = e ∷ ended.newer; step = ended.step; older = ended.older;
-              is = ap (λ w. e ∷ w) ended.is; ending = ended.ending }))
+          inr (inr (record {
+            newer = e ∷ ended.newer;
+            step = ended.step;
+            older = ended.older;
+            is = ap (λ w. e ∷ w) ended.is;
+            ending = ended.ending;
+          }))
 
   -- one that has no operation unanswered does the same until its end is reported
   pub entry_goes : (stay ≡ Operating → ⊥) → (start : Start) (later log : List HostStep)

@@ -43,10 +43,18 @@ module _ (start : Start) (logs : ℕ → List HostStep) (quiet : AreQuiet start 
 
       by : (h < hosts start) ⊎ (hosts start ≤ h) → tally (is_keyed tx) (tc_of (after start h (logs h))).live ≤ steps
           (is_start tx) (logs 0)
-      by (inl low) = omega (arith, began, ap (signals (is_start tx)) (quiet.quiet h 0 low (omega arith)),
-          taken_steps start (is_start tx) h (logs 0))
-      by (inr high) = omega (arith, began, ap (λ log. signals (is_start tx) (sent (machine start) h 0 log))
-          (quiet.within h high))
+      by (inl low) = omega (
+        arith,
+        began,
+        ap (signals (is_start tx)) (quiet.quiet h 0 low (omega arith)),
+        taken_steps start (is_start tx) h (logs 0),
+      )
+      by (inr high) = omega (
+        arith,
+        began,
+        ap (λ log. signals (is_start tx) (sent (machine start) h 0 log))
+            (quiet.within h high),
+      )
 
   -- so what hasn't begun is at none
   pub unborn_there : steps (is_start tx) (logs 0) ≡ 0 → of_live tx (tc_of (after start h (logs h))).live ≡ None

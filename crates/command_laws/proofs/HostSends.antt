@@ -51,8 +51,10 @@ or_second false b e = e
 module _ (test : Place → Body → Bool) where
   module _ (only : IsOfTc test) where
     pub not_of_api : IsNotOfApi test
-    not_of_api = record { kinds = λ to body e. only.others to body (or_first (is_api_kind body) _ e);
-        begins = only.begins }
+    not_of_api = record {
+      kinds = λ to body e. only.others to body (or_first (is_api_kind body) _ e);
+      begins = only.begins;
+    }
 
     pub not_of_dih : (to : Place) (body : Body) → is_dih_kind body ≡ true → test to body ≡ false
     not_of_dih to body e = only.others to body (or_second (is_api_kind body) _ (or_first (is_dih_kind body) _ e))
@@ -79,5 +81,9 @@ module _ (test : Place → Body → Bool) where
       → sent_since start test 0 newer log ≡ 0
   shell_silent fails start [] log = refl
   shell_silent fails start (e ∷ newer) log =
-      omega (arith, shell_silent fails start newer log, shell_step fails (after start 0 (newer ++ log)) e.step.taken
-          (api_runs start (newer ++ log)))
+      omega (
+        arith,
+        shell_silent fails start newer log,
+        shell_step fails (after start 0 (newer ++ log)) e.step.taken
+            (api_runs start (newer ++ log)),
+      )

@@ -105,13 +105,13 @@ tc_host R g x moves rests = go (row g x) (block_case g x)
         (api_of g) x.body) (λ at. absurd (let both : _ ≡ block.Tc = sym step.at ∙ at in cc))
     go t (dih_takes step) =
         at_rest t _ step.tc step.effects (λ test only. none_of is_dih_kind test (not_of_dih test only)
-            (dih_table (dih_of g) x.body).effects.sends (dih_kinds (dih_of g) x.body))
+        (dih_table (dih_of g) x.body).effects.sends (dih_kinds (dih_of g) x.body))
         (λ at. absurd (let both : _ ≡ block.Tc = sym step.at ∙ at in cc))
     go t (rows_take step) =
         at_rest t _ step.tc step.effects (λ test only. none_of is_lqh_kind test (not_of_lqh test only)
-            (lqh_table (lqh_of g) x.body).effects.sends (lqh_kinds (lqh_of g) x.body))
+        (lqh_table (lqh_of g) x.body).effects.sends (lqh_kinds (lqh_of g) x.body))
         (λ at. absurd (let both : _ ≡ block.Tc = sym step.at ∙ at in cc))
     go t (none_takes step) =
         at_rest t nothing (ap (λ (u : Step Host). tc_of u.state) step.is) (ap (λ (u : Step Host). u.effects) step.is)
-            (λ test only. refl)
+        (λ test only. refl)
         (λ at. sym (runs_tc g) ∙ ap (runs g) (sym at) ∙ step.runs)
