@@ -30,8 +30,8 @@ use world_core::World;
 /// `NoMemory`, and then the world is of use for its logs alone.
 fn ask<R: Wait>(rt: &R, alloc: Global, world: &mut World, request: ApiReq) -> Result<(), NoMemory>
     requires { IsOpen (whole_of world.old) }
-    ensures ok { OnOk result (HasServed (fresh nodes) (request ∷ []) (whole_of world.old) (whole_of world.new)) }
-    ensures err { OnErr result (AreLeftOff (fresh nodes) (request ∷ []) (whole_of world.old) (logs_at (whole_of world.new).logs)) }
+    ensures ok { OnOk result (HasServed start (request ∷ []) (whole_of world.old) (whole_of world.new)) }
+    ensures err { OnErr result (AreLeftOff start (request ∷ []) (whole_of world.old) (logs_at (whole_of world.new).logs)) }
 {
     world.ask(alloc, request)?;
     world.drive(rt, alloc)
@@ -40,8 +40,8 @@ fn ask<R: Wait>(rt: &R, alloc: Global, world: &mut World, request: ApiReq) -> Re
 /// Lets rounds pass, with quiet after each.
 fn tick<R: Wait>(rt: &R, alloc: Global, world: &mut World, rounds: u8) -> Result<(), NoMemory>
     requires { IsOpen (whole_of world.old) }
-    ensures ok { OnOk result (HasServed (fresh nodes) (requests_of (Command.Tick rounds)) (whole_of world.old) (whole_of world.new)) }
-    ensures err { OnErr result (AreLeftOff (fresh nodes) (requests_of (Command.Tick rounds)) (whole_of world.old) (logs_at (whole_of world.new).logs)) }
+    ensures ok { OnOk result (HasServed start (requests_of (Command.Tick rounds)) (whole_of world.old) (whole_of world.new)) }
+    ensures err { OnErr result (AreLeftOff start (requests_of (Command.Tick rounds)) (whole_of world.old) (logs_at (whole_of world.new).logs)) }
 {
     let first = ApiReq::Tick {
         round: 1,
@@ -59,8 +59,8 @@ fn further_rounds<R: Wait>(
     rounds: u8,
 ) -> Result<(), NoMemory>
     requires { IsOpen (whole_of world.old) }
-    ensures ok { OnOk result (HasServed (fresh nodes) (rounds_behind rounds (rounds - 1)) (whole_of world.old) (whole_of world.new)) }
-    ensures err { OnErr result (AreLeftOff (fresh nodes) (rounds_behind rounds (rounds - 1)) (whole_of world.old) (logs_at (whole_of world.new).logs)) }
+    ensures ok { OnOk result (HasServed start (rounds_behind rounds (rounds - 1)) (whole_of world.old) (whole_of world.new)) }
+    ensures err { OnErr result (AreLeftOff start (rounds_behind rounds (rounds - 1)) (whole_of world.old) (logs_at (whole_of world.new).logs)) }
 {
     for behind in 0..rounds.saturating_sub(1) {
         let next = ApiReq::Tick {
@@ -81,8 +81,8 @@ fn ask_own<R: Wait>(
 ) -> Result<(), NoMemory>
     requires opened { IsOpen (whole_of world.old) }
     requires served { is_served command.now ≡ true }
-    ensures ok { OnOk result (HasServed (fresh nodes) (requests_of command.now) (whole_of world.old) (whole_of world.new)) }
-    ensures err { OnErr result (AreLeftOff (fresh nodes) (requests_of command.now) (whole_of world.old) (logs_at (whole_of world.new).logs)) }
+    ensures ok { OnOk result (HasServed start (requests_of command.now) (whole_of world.old) (whole_of world.new)) }
+    ensures err { OnErr result (AreLeftOff start (requests_of command.now) (whole_of world.old) (logs_at (whole_of world.new).logs)) }
 {
     match command {
         Command::Begin { name, node } => {
@@ -111,8 +111,8 @@ fn ask_own<R: Wait>(
 /// Asks the world what the last command waits for, and for the replies about that.
 fn ask_questions<R: Wait>(rt: &R, alloc: Global, world: &mut World) -> Result<(), NoMemory>
     requires { IsOpen (whole_of world.old) }
-    ensures ok { OnOk result (HasServed (fresh nodes) questions (whole_of world.old) (whole_of world.new)) }
-    ensures err { OnErr result (AreLeftOff (fresh nodes) questions (whole_of world.old) (logs_at (whole_of world.new).logs)) }
+    ensures ok { OnOk result (HasServed start questions (whole_of world.old) (whole_of world.new)) }
+    ensures err { OnErr result (AreLeftOff start questions (whole_of world.old) (logs_at (whole_of world.new).logs)) }
 {
     ask(rt, alloc, world, ApiReq::Waits)?;
     ask(rt, alloc, world, ApiReq::Pending)
@@ -147,9 +147,9 @@ fn name_of(command: &Command) -> Option<u16>
 /// `NoMemory`, and then the world is of use for its logs alone.
 fn ask_about<R: Wait>(rt: &R, alloc: Global, world: &mut World) -> Result<(), NoMemory>
     requires { IsOpen (whole_of world.old) }
-    ensures ok { OnOk result (HasGoneOn (fresh nodes) (whole_of world.old) (whole_of world.new) (is_left_open (whole_of world.old))) }
+    ensures ok { OnOk result (HasGoneOn start (whole_of world.old) (whole_of world.new) (is_left_open (whole_of world.old))) }
     ensures opened { OnErr result (is_left_open (whole_of world.old) ≡ true) }
-    ensures err { OnErr result (AreLeftOff (fresh nodes) questions (whole_of world.old) (logs_at (whole_of world.new).logs)) }
+    ensures err { OnErr result (AreLeftOff start questions (whole_of world.old) (logs_at (whole_of world.new).logs)) }
 {
     if world.is_left_open() {
         return ask_questions(rt, alloc, world);
@@ -184,8 +184,8 @@ fn serve<R: Wait>(
 ) -> Result<Vec<u8>, NoMemory>
     requires opened { IsOpen (whole_of world.old) }
     requires served { is_served command.now ≡ true }
-    ensures ok { IfOk result (λ text. ServesCommand (fresh nodes) command.now (whole_of world.old) (whole_of world.new) text.items) }
-    ensures err { OnErr result (AreLeft (fresh nodes) command.now (whole_of world.old) (whole_of world.new).logs) }
+    ensures ok { IfOk result (λ text. ServesCommand start command.now (whole_of world.old) (whole_of world.new) text.items) }
+    ensures err { OnErr result (AreLeft start command.now (whole_of world.old) (whole_of world.new).logs) }
 {
     ask_own(rt, alloc, world, command)?;
     ask_about(rt, alloc, world)?;
@@ -204,7 +204,7 @@ pub fn serve_command<R: Wait, K: Sink>(
 ) -> Option<Ending>
     requires opened { IsOpen (whole_of world.old) }
     requires served { is_served command.now ≡ true }
-    ensures printed { PrintsCommand (fresh nodes) command.now (whole_of world.old) (whole_of world.new) result (K.written sink.old) (K.written sink.new) }
+    ensures printed { PrintsCommand start command.now (whole_of world.old) (whole_of world.new) result (K.written sink.old) (K.written sink.new) }
     ensures opened { IfNone result (IsOpen (whole_of world.new)) }
     ensures unread { result ≡ Some ending.ReadFault → ⊥ }
     ensures cause { result ≡ Some ending.WriteFault → Rose (K.faults sink.old) (K.faults sink.new) }

@@ -15,7 +15,7 @@ use world_core::World;
 /// # Errors
 /// `NoMemory`, and then some replies may be lost.
 pub fn take_replies(alloc: Global, world: &mut World) -> Result<Vec<ApiReply>, NoMemory>
-    requires { IsSound (fresh nodes) (whole_of world.old) }
+    requires { IsSound start (whole_of world.old) }
     ensures told { OnOk result (whole_of world.new ≡ with_replies (whole_of world.old) []) }
     ensures replies { IfOk result (λ replies. replies.items ≡ replies_of (whole_of world.old)) }
     ensures err { OnErr result ((whole_of world.new).logs ≡ (whole_of world.old).logs) }
