@@ -11,7 +11,7 @@ use Rattle.api_block.specs.Opened.{begins_at, is_beginning, same_name}
 use Rattle.api_block.specs.State.{ApiState}
 use Rattle.node_core.specs.Requests.{is_request}
 use Rattle.node_core.proofs.HostCases.{tc_stays}
-use Rattle.node_core.specs.Blocks.{has_api, has_tc}
+use Rattle.node_core.specs.Blocks.{has_tc}
 use Rattle.node_core.specs.Row.{shell_row}
 use Rattle.run_theory.proofs.Pasts.{each_in, each_past}
 use Rattle.run_theory.specs.Links.{IsGiven, is_from, sent, taken}
@@ -30,7 +30,7 @@ use Rattle.sig_core.specs.declared.view.View.{View}
 use Rattle.sig_core.specs.Part.{part_of}
 use Rattle.sig_core.specs.Place.{coordinator}
 use Rattle.frag_map.specs.Layout.{members}
-use Rattle.world_core.proofs.HostNumbers.{IsNodes, api_found, given_past, host_below, node_host, tc_found, tc_runs}
+use Rattle.world_core.proofs.HostNumbers.{IsNodes, given_past, host_below, node_host, tc_found, tc_runs}
 use Rattle.world_core.specs.Hosts.{hosts, tc_host}
 use Rattle.world_core.specs.Machine.{after, machine, step_after}
 use Rattle.world_core.specs.Start.{Start}
@@ -39,7 +39,7 @@ use Rattle.answer_laws.proofs.Ahead.{Goes, along, few_taken}
 use Rattle.answer_laws.proofs.LqhOps.{left_of, right_of}
 use Rattle.answer_laws.proofs.ApiBegins.{IsDue, IsGood, same_name-self}
 use Rattle.answer_laws.proofs.Hosts.{TellsHome, host_replies, host_wishes, opened_first, opened_next, shell_after, shell_count, shell_sends, told}
-use Rattle.answer_laws.proofs.HostSteps.{at_tc_host, sent_to_tc}
+use Rattle.answer_laws.proofs.HostSteps.{at_tc_host, no_api, sent_to_tc}
 use Rattle.answer_laws.proofs.LinkCounts.{few_sends, sent_signals, shell_signals, signals, steps, steps_from, taken_signals, taken_steps}
 use Rattle.commit_laws.proofs.Tally.{tally_in, tally_past}
 use Rattle.commit_laws.specs.Counts.{one_if, tally}
@@ -80,7 +80,7 @@ within (suc n) node e = go (list_any (is_at node) (members n)) (n + 1 == node) r
     go false false p q rest r = absurd (true≢false (sym e ∙ (r ∙ (ap (λ a. a || (n + 1 == node || false)) p ∙ ap (λ b. b || false) q))))
 
 -- a wish is for a coordinator
-wish_part : (to : Place) (b : Bool) → (is_tc to.block && b) ≡ true → part_of to.block ≡ part.Tc
+pub wish_part : (to : Place) (b : Bool) → (is_tc to.block && b) ≡ true → part_of to.block ≡ part.Tc
 wish_part to b w = go to.block (left_of (is_tc to.block) b w)
   where
     go : (at : BlockId) → is_tc at ≡ true → part_of at ≡ part.Tc
@@ -130,12 +130,8 @@ module _ (start : Start) where
         sent_signals start (is_wish name) h j e log,
         not_wished name h j log other,
         few_sends start j (is_wish name) (step_after start h log e).effects.sends,
-        host_wishes name (after start h log) e.step.taken (no_api (has_api (after start h log)) refl),
+        host_wishes name (after start h log) e.step.taken (no_api start h log other),
       )
-    where
-      no_api : (b : Bool) → has_api (after start h log) ≡ b → has_api (after start h log) ≡ false
-      no_api false e = e
-      no_api true e = absurd (other (api_found start h log e))
 
   -- the node whose coordinator's host this is, if it is one
   abbrev node_of : ℕ → ℕ

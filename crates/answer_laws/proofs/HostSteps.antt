@@ -1,5 +1,5 @@
 -- What the blocks of a host are along its log, and which host gets what is sent.
-use Rattle.std.proofs.Common.{◌≡◌, ◌⊎◌, inl, inr, ℕ, zero, suc, ◌+◌, ◌-◌, ◌*◌, ◌<◌, ◌≤◌, ◌%◌, List, [], ◌∷◌, Bool, true, false, refl, ap, sym, ◌∙◌, subst, arith}
+use Rattle.std.proofs.Common.{◌≡◌, ◌≢◌, ◌⊎◌, inl, inr, ℕ, zero, suc, ◌+◌, ◌-◌, ◌*◌, ◌<◌, ◌≤◌, ◌%◌, List, [], ◌∷◌, Bool, true, false, refl, ap, sym, ◌∙◌, subst, arith}
 use Rattle.std.specs.Prelude.{◌==◌, ◌&&◌, Option, None, Some, slice_get}
 use Rattle.std.specs.Map.{values_of}
 use Rattle.std.proofs.lemmas.Bool.{cases_lt, eq-eqb, eqb-true, false≢true}
@@ -27,14 +27,14 @@ use Rattle.lqh_block.specs.State.{LqhState}
 use Rattle.node_core.proofs.HostCases.{keeps_rows, keeps_tc}
 use Rattle.node_core.specs.declared.host.Host as host
 use Rattle.node_core.specs.declared.host.Host.TheVariants.{Shell, Main, Tc, Ldm}
-use Rattle.node_core.specs.Blocks.{has_lqh, has_tc, lqh_of, tc_of}
+use Rattle.node_core.specs.Blocks.{has_api, has_lqh, has_tc, lqh_of, tc_of}
 use Rattle.node_core.specs.Fresh.{fresh_part, fresh_shell}
 use Rattle.tc_block.specs.declared.transaction.Transaction.{Transaction}
 use Rattle.tc_block.specs.Live.{place_in, step_of, step_place, step_value, turn_of, turn_place, turn_value, turned_if}
 use Rattle.tc_block.specs.State.{TcState}
 use Rattle.tc_block.specs.Tc.{begin_if, begin_row, is_full, pass_if, pass_row, tc_row, tc_table}
 use Rattle.tc_block.specs.Turn.{Turn}
-use Rattle.world_core.proofs.HostNumbers.{beyond_host, host_below, host_some, node_host, same_node, tc_after, tc_found, tc_started}
+use Rattle.world_core.proofs.HostNumbers.{api_found, beyond_host, host_below, host_some, node_host, same_node, tc_after, tc_found, tc_started}
 use Rattle.world_core.specs.Hosts.{host_for, hosts, member_at, number_of, part_by, rows_host, started, tc_host}
 use Rattle.world_core.specs.Machine.{after}
 use Rattle.world_core.specs.Start.{Start, made}
@@ -141,6 +141,14 @@ module _ (start : Start) where
   pub rows_along : (R : LqhState → Type 0) → ((l : LqhState) (x : Signal) → R l → R (lqh_row l x).state) → (h : ℕ) → R (lqh_of (started start h)) → (log : List HostStep) → R (lqh_of (after start h log))
   rows_along R kept h first [] = first
   rows_along R kept h first (e ∷ log) = keeps_rows R kept (after start h log) e.step.taken (rows_along R kept h first log)
+
+  -- the shell's host alone runs the API
+  pub no_api : (h : ℕ) (log : List HostStep) → h ≢ 0 → has_api (after start h log) ≡ false
+  no_api h log other = go (has_api (after start h log)) refl
+    where
+      go : (b : Bool) → has_api (after start h log) ≡ b → has_api (after start h log) ≡ false
+      go false e = e
+      go true e = absurd (other (api_found start h log e))
 
   -- a coordinator has the number of its node
   pub tc_number : (node : ℕ) (log : List HostStep) → 1 ≤ node → node ≤ start.shape.nodes → (tc_of (after start (tc_host start node) log)).node ≡ node

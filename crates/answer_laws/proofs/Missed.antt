@@ -12,6 +12,7 @@ use Rattle.sig_core.specs.declared.place.BlockId.{BlockId}
 use Rattle.sig_core.specs.declared.place.BlockId.TheVariants as block
 use Rattle.sig_core.specs.declared.place.Place.{Place}
 use Rattle.sig_core.specs.declared.signal.Body.{Body}
+use Rattle.sig_core.specs.declared.signal.Signal.{Signal}
 use Rattle.sig_core.specs.declared.signal.Body.TheVariants.{Client}
 use Rattle.sig_core.specs.declared.signal.client.ClientSignal.TheVariants.{TcKeyReq, TcCommitReq}
 use Rattle.sig_core.specs.Op.{key_of}
@@ -42,10 +43,10 @@ pub api_is : (at : BlockId) → is_api at ≡ true → at ≡ block.Api
 api_is block.Api e = refl
 api_is _ e = cc
 
-pub shell_stays : (s : ApiState) (at : BlockId) (body : Body) → is_api at ≡ false → shell_row s at body ≡ stay s
+pub shell_stays : (s : ApiState) (at : BlockId) (x : Signal) → is_api at ≡ false → shell_row s at x ≡ stay s
 unfolding shell_row
-shell_stays s block.Api body e = cc
-shell_stays s _ body e = refl
+shell_stays s block.Api x e = cc
+shell_stays s _ x e = refl
 
 pub has_asked : Transaction → ℕ
 has_asked t = one_if (is_some t.asked)

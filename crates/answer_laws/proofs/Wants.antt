@@ -18,6 +18,7 @@ use Rattle.sig_core.specs.declared.outs.Outgoing.{Outgoing}
 use Rattle.sig_core.specs.declared.place.BlockId.{BlockId}
 use Rattle.sig_core.specs.declared.place.BlockId.TheVariants as block
 use Rattle.sig_core.specs.declared.signal.Body.{Body}
+use Rattle.sig_core.specs.declared.signal.Signal.{Signal}
 use Rattle.sig_core.specs.Step.{Step}
 use Rattle.world_core.specs.Machine.{after}
 use Rattle.world_core.specs.Start.{Start}
@@ -56,24 +57,24 @@ step_right s body step (changes front t u back was is change) right =
     subst (Each IsEntryRight) (sym is) (each_changed IsEntryRight front t u back s.opened was right (λ r. changed_right body t u step.effects.sends change r))
 step_right s body step (drops front t back was is kind none) right = subst (Each IsEntryRight) (sym is) (each_less IsEntryRight front t back s.opened was right)
 
-shell_right : (s : ApiState) (at : BlockId) (body : Body) → Each IsEntryRight s.opened → Each IsEntryRight (shell_row s at body).state.opened
+shell_right : (s : ApiState) (at : BlockId) (x : Signal) → Each IsEntryRight s.opened → Each IsEntryRight (shell_row s at x).state.opened
 unfolding shell_row
-shell_right s block.Api body right = step_right s body _ (api_step s body) right
-shell_right s _ body right = right
+shell_right s block.Api x right = step_right s x.body _ (api_step s x.body) right
+shell_right s _ x right = right
 
 module _ (start : Start) where
   pub all_right : (log : List HostStep) → Each IsEntryRight (opened_in (after start 0 log))
   all_right [] = subst (Each IsEntryRight) (sym (opened_first start)) tt
   all_right (e ∷ log) =
       subst (Each IsEntryRight) (sym (opened_next start e log))
-      (shell_right (shell_after start log).state e.step.taken.to.block e.step.taken.body (subst (Each IsEntryRight) (ap opened_in (shell_after start log).is) (all_right log)))
+      (shell_right (shell_after start log).state e.step.taken.to.block e.step.taken (subst (Each IsEntryRight) (ap opened_in (shell_after start log).is) (all_right log)))
 
   -- what the API has of a transaction it was told to have begun
   pub held_few : (tx : TxId) (log : List HostStep) → tally (has_tx tx) (opened_in (after start 0 log)) ≤ steps (is_start tx) log
   held_few tx [] = omega (arith, ap (tally (has_tx tx)) (opened_first start))
   held_few tx (e ∷ log) =
       let s = shell_after start log in
-      omega (arith, held_few tx log, (shell_holds tx s.state e.step.taken.to.block e.step.taken.body s.good).0, ap (tally (has_tx tx)) (opened_next start e log), ap (λ g. tally (has_tx tx) (opened_in g)) s.is)
+      omega (arith, held_few tx log, (shell_holds tx s.state e.step.taken.to.block e.step.taken s.good).0, ap (tally (has_tx tx)) (opened_next start e log), ap (λ g. tally (has_tx tx) (opened_in g)) s.is)
 
 -- how a transaction stands of which so many operations and commits were asked for, and so many answered
 abbrev pub IsHeld : (operations keys commits answers : ℕ) → Doing → Type 0

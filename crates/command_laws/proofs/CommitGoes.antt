@@ -127,7 +127,7 @@ module _ (tx : TxId) (name : Option ℕ) (stay : Doing) (idle : stay ≡ Operati
       → HasOne tx name stay (opened_in (row g x).state) ⊎ IsEnding tx name g x.body (row g x)
   unfolding GoesOrEnds
   host_goes g x has plain had =
-      by (api_host (GoesOrEnds (api_of g) x.body) g x has (λ at. change_goes (api_of g) x.body had (api_row (api_of g) x) (api_changes (api_of g) x.body plain)) (inl had))
+      by (api_host (GoesOrEnds (api_of g) x.body) g x has (λ at. change_goes (api_of g) x.body had (api_row (api_of g) x) (api_changes (api_of g) x.body plain)) (λ off. inl had))
     where
       by : HasOne tx name stay (opened_in (row g x).state) ⊎ IsEndingHere tx name (api_of g) x.body (api_seen (row g x))
           → HasOne tx name stay (opened_in (row g x).state) ⊎ IsEnding tx name g x.body (row g x)

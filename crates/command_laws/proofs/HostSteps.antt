@@ -34,7 +34,7 @@ abbrev pub api_seen : Step Host → Step ApiState
 api_seen t = record { state = api_of t.state; effects = t.effects }
 
 -- what holds of each step of the API, and of none, holds of each step of the shell's host
-pub api_host : (R : Step ApiState → Type 0) (g : Host) (x : Signal) → has_api g ≡ true → (x.to.block ≡ block.Api → R (api_row (api_of g) x)) → R (stay (api_of g))
+pub api_host : (R : Step ApiState → Type 0) (g : Host) (x : Signal) → has_api g ≡ true → (x.to.block ≡ block.Api → R (api_row (api_of g) x)) → ((x.to.block ≡ block.Api → ⊥) → R (stay (api_of g)))
     → R (api_seen (row g x))
 api_host R g x has moves rests = go (row g x) (block_case g x)
   where
@@ -45,7 +45,10 @@ api_host R g x has moves rests = go (row g x) (block_case g x)
     go t (tc_takes step) = absurd (api_alone g has step.runs)
     go t (dih_takes step) = absurd (api_alone g has step.runs)
     go t (rows_take step) = absurd (api_no_rows g has step.runs)
-    go t (none_takes step) = subst (λ (u : Step Host). R (api_seen u)) (sym step.is) rests
+    go t (none_takes step) = subst (λ (u : Step Host). R (api_seen u)) (sym step.is) (rests (λ at. off (ap (runs g) (sym at) ∙ step.runs)))
+      where
+        off : runs g block.Api ≡ false → ⊥
+        off none = let both : true ≡ false = sym (runs_api g ∙ has) ∙ none in cc
 
 -- at a request it does what the request's row says
 pub request_step : (g : Host) (x : Signal) (request : ApiReq) → has_api g ≡ true → x.to ≡ client → x.body ≡ of_host (Continue (Request request) 0)

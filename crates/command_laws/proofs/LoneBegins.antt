@@ -200,7 +200,7 @@ module _ (op : Op) where
       → IsAlone op (opened_in (row g x).state) ⊎ (BeginsNow x.to x.body (opened_in (row g x).state) ⊎ IsRefusedNow g (row g x))
   host_goes g x has plain had =
       by (api_host (GoesHere (api_of g) x.to x.body) g x has
-      (λ at. step_goes (api_of g) x.to x.body at (api_row (api_of g) x) (change_goes (api_of g) had x.body (api_changes (api_of g) x.body plain))) (inl had))
+      (λ at. step_goes (api_of g) x.to x.body at (api_row (api_of g) x) (change_goes (api_of g) had x.body (api_changes (api_of g) x.body plain))) (λ off. inl had))
     where
       by : GoesHere (api_of g) x.to x.body (api_seen (row g x)) → IsAlone op (opened_in (row g x).state) ⊎ (BeginsNow x.to x.body (opened_in (row g x).state) ⊎ IsRefusedNow g (row g x))
       by (inl goes) = inl goes

@@ -19,23 +19,19 @@ use Rattle.sig_core.specs.declared.request.ApiReq.TheVariants.{Operate}
 use Rattle.sig_core.specs.declared.signal.Body.{Body}
 use Rattle.sig_core.specs.declared.signal.Body.TheVariants.{Client}
 use Rattle.sig_core.specs.declared.signal.client.ClientSignal.TheVariants.{TcKeyReq, TcRollbackReq}
-use Rattle.sig_core.specs.Place.{client}
 use Rattle.sig_core.specs.Same.{same_tx}
 use Rattle.api_block.specs.declared.opened.Doing.TheVariants.{Committing}
 use Rattle.node_core.proofs.HostLemmas.{IsFront}
-use Rattle.node_core.specs.declared.host.Host as host
-use Rattle.node_core.specs.declared.host.Host.TheVariants.{Shell, Node}
 use Rattle.node_core.specs.Replies.{replies_of}
 use Rattle.node_core.specs.Requests.{is_request}
-use Rattle.node_core.specs.Row.{row}
 use Rattle.tc_block.specs.declared.transaction.Transaction.{Transaction}
 use Rattle.world_core.proofs.Replies.{replies_grow}
-use Rattle.world_core.specs.Hosts.{hosts}
+use Rattle.world_core.specs.Hosts.{home, hosts}
 use Rattle.world_core.specs.Machine.{after, machine, step_after}
 use Rattle.world_core.specs.Start.{Start}
 use Rattle.answer_laws.proofs.ApiBegins.{in_middle}
-use Rattle.answer_laws.proofs.LinkCounts.{all_three, signals, steps, taken_steps}
-use Rattle.answer_laws.proofs.Lives.{NodeKeeps, keeps, once_started}
+use Rattle.answer_laws.proofs.LinkCounts.{all_three, signals, steps}
+use Rattle.answer_laws.proofs.Lives.{once_started}
 use Rattle.commit_laws.proofs.Tally.{tally_append, tally_in}
 use Rattle.commit_laws.specs.Counts.{one_if, tally}
 use Rattle.answer_laws.proofs.TcKeys.{answer_of, is_asked, is_key, key_of_tx}
@@ -46,17 +42,22 @@ use Rattle.command_laws.proofs.CommitGoes.{HasEnded, commit_goes}
 use Rattle.command_laws.proofs.Committed.{cut_at_first, sent_append}
 use Rattle.command_laws.proofs.Entries.{HasOne}
 use Rattle.command_laws.proofs.FirmHosts.{back_of, is_back}
-use Rattle.command_laws.proofs.First.{IsFirst, request_first}
+use Rattle.command_laws.proofs.First.{IsFirst, first_step, request_first}
 use Rattle.command_laws.proofs.LoneAsks.{HasLone, LoneFirst, asks_since, is_lone, lone_first, lone_since}
 use Rattle.command_laws.proofs.Pushes.{is_node_kind, node_since}
 use Rattle.command_laws.proofs.Reported.{reported}
 use Rattle.command_laws.proofs.Since.{few_taken, front_nil, none_taken, sent_since, taken_since}
-use Rattle.command_laws.proofs.TellsOnce.{HasTold, IsOneOfThree, is_wish_back_to, wish_back_of}
-use Rattle.command_laws.proofs.TellsSince.{OnTc, away_since, shell_since, since_none, tells_since}
+use Rattle.command_laws.proofs.TellsOnce.{IsOneOfThree, is_wish_back_to, wish_back_of}
+use Rattle.command_laws.proofs.TellsSince.{away_since, shell_since, since_none, tells_since}
 use Rattle.command_laws.proofs.TurnTells.{is_reply}
 use Rattle.command_laws.proofs.Tests.{and_off, none_at}
 use Rattle.sig_core.proofs.Keys.{same_tx-self}
 use Rattle.command_laws.specs.Served.{IsAnsweredAlone, IsCommittedAlone, IsServed, LoneAreCommitted}
+use Rattle.tc_block.specs.State.{TcState}
+use Rattle.command_laws.proofs.Homes.{lives_begun}
+use Rattle.command_laws.proofs.HostSteps.{api_seen}
+use Rattle.command_laws.proofs.HostKinds.{replies_are}
+use Rattle.node_core.specs.Blocks.{api_of, tc_of}
 
 -- signals that one host alone sent were taken from that host
 pub steps_from_one : (start : Start) (test : Place → Body → Bool) (i : ℕ) → ((to : Place) (body : Body) → test to body ≡ true → is_request body ≡ false) → (newer : List HostStep)
@@ -124,10 +125,11 @@ module _ (start : Start) (was now : ℕ → List HostStep) (op : Op) (served : I
   cut = cut_at_first was now f.later f.first f.is served.cut
 
   module _ (tx : TxId) where
-    first : LoneFirst tx (after start 0 (was 0)) (step_after start 0 (was 0) f.first)
-    first =
-        subst (λ (to : Place). LoneFirst tx (after start 0 (was 0)) (row (after start 0 (was 0)) to f.first.step.taken.body)) (sym f.place)
-        (subst (λ body. LoneFirst tx (after start 0 (was 0)) (row (after start 0 (was 0)) client body)) (sym f.body) (lone_first tx (after start 0 (was 0)) op))
+    first : LoneFirst tx (api_of (after start 0 (was 0))) (api_seen (step_after start 0 (was 0) f.first))
+    first = subst (LoneFirst tx (api_of (after start 0 (was 0)))) (sym (first_step start was now (Operate None op) f)) (lone_first tx (api_of (after start 0 (was 0))) op)
+
+    first_lone : tally is_lone (replies_of (after start 0 (f.first ∷ was 0))) ≡ tally is_lone (replies_of (after start 0 (was 0)))
+    first_lone = ap (tally is_lone) (replies_are (after start 0 (f.first ∷ was 0))) ∙ first.lone ∙ ap (tally is_lone) (sym (replies_are (after start 0 (was 0))))
 
     -- nobody wishes for its abort
     no_wishes : (h : ℕ) → sent_since start (is_wish_back_to tx) h (cut h).newer (was h) ≡ 0
@@ -138,7 +140,7 @@ module _ (start : Start) (was now : ℕ → List HostStep) (op : Op) (served : I
     none_wished : (h : ℕ) → Each (λ (e : HostStep). is_wish_back_to tx e.step.taken.to e.step.taken.body ≡ false) (cut h).newer
     none_wished h =
         each_map (λ (e : HostStep). is_request e.step.taken.body ≡ false → is_wish_back_to tx e.step.taken.to e.step.taken.body ≡ false) (λ (e : HostStep). is_wish_back_to tx e.step.taken.to e.step.taken.body ≡ false) (cut h).newer
-        (none_at (is_wish_back_to tx) (request_plain_wish tx)) (none_taken start was now served.before served.since cut (is_wish_back_to tx) no_wishes h)
+        (none_at (is_wish_back_to tx) (request_plain_wish tx)) (none_taken start was now served.before served.since cut (is_wish_back_to tx) (λ i low. no_wishes i) h)
 
     -- an operation is asked for at most once since it has begun
     few_keys : (h : ℕ) → steps (is_key tx) (cut (suc h)).newer ≤ steps (is_start tx) f.later
@@ -167,38 +169,26 @@ module _ (start : Start) (was now : ℕ → List HostStep) (op : Op) (served : I
         )
 
     module _ (h : ℕ) (low : suc h < hosts start) where
-      n : NodeKeeps start tx h (was (suc h))
-      n = keeps start tx h (was (suc h))
+      abbrev s : TcState
+      s = tc_of (after start (suc h) (was (suc h)))
 
       asked : ℕ
-      asked = tally (is_asked tx) n.state.tc.live
+      asked = tally (is_asked tx) (tc_of (after start (suc h) (was (suc h)))).live
 
       few_asked : asked ≤ steps (is_start tx) (was 0)
       unfolding asked
-      few_asked =
-          omega (
-            arith,
-            fewer_asked tx n.state.tc.live,
-            n.keeps.began,
-            ap (signals (is_start tx)) (served.before.quiet (suc h) 0 low (omega arith)),
-            taken_steps start (is_start tx) (suc h) (was 0),
-          )
+      few_asked = omega (arith, fewer_asked tx s.live, lives_begun start was served.before tx (suc h) low)
 
       told : (sent_since start (is_reply tx) (suc h) (cut (suc h)).newer (was (suc h)) ≡ 0) ⊎ (sent_since start (is_back tx) (suc h) (cut (suc h)).newer (was (suc h)) ≡ 0)
       unfolding asked
-      told = by (after start (suc h) ((cut (suc h)).newer ++ was (suc h))) (tells_since start tx h (cut (suc h)).newer (was (suc h)) asked (none_wished (suc h)) (omega (arith, few_asked, few_keys h, starts_apart))
-          (subst (OnTc (HasTold tx asked 0 0 0)) (sym n.is) (record { fair = omega arith; three = inl (refl, refl) })))
+      told = three (tc_of (after start (suc h) ((cut (suc h)).newer ++ was (suc h)))) (tells_since start tx (suc h) (cut (suc h)).newer (was (suc h)) asked (none_wished (suc h)) (omega (arith, few_asked, few_keys h, starts_apart))
+          (record { fair = omega arith; three = inl (refl, refl) })).three
         where
-          by : (g : host.Host)
-              → OnTc (HasTold tx asked (steps (is_key tx) (cut (suc h)).newer) (sent_since start (is_reply tx) (suc h) (cut (suc h)).newer (was (suc h))) (sent_since start (is_back tx) (suc h) (cut (suc h)).newer (was (suc h)))) g
+          three : (now_it : TcState) → IsOneOfThree tx (sent_since start (is_reply tx) (suc h) (cut (suc h)).newer (was (suc h))) (sent_since start (is_back tx) (suc h) (cut (suc h)).newer (was (suc h))) now_it
               → (sent_since start (is_reply tx) (suc h) (cut (suc h)).newer (was (suc h)) ≡ 0) ⊎ (sent_since start (is_back tx) (suc h) (cut (suc h)).newer (was (suc h)) ≡ 0)
-          by (Shell s) has = absurd has
-          by (Node m) has = three has.three
-            where
-              three : IsOneOfThree tx (sent_since start (is_reply tx) (suc h) (cut (suc h)).newer (was (suc h))) (sent_since start (is_back tx) (suc h) (cut (suc h)).newer (was (suc h))) m.tc → (sent_since start (is_reply tx) (suc h) (cut (suc h)).newer (was (suc h)) ≡ 0) ⊎ (sent_since start (is_back tx) (suc h) (cut (suc h)).newer (was (suc h)) ≡ 0)
-              three (inl none) = inl none.0
-              three (inr (inl firm)) = inr firm.0.1
-              three (inr (inr gone)) = inl gone.0
+          three now_it (inl none) = inl none.0
+          three now_it (inr (inl firm)) = inr firm.0.1
+          three now_it (inr (inr gone)) = inl gone.0
 
   no_tx : TxId
   no_tx = record { tc = 0; start = 0; seq = 0 }
@@ -226,7 +216,7 @@ module _ (start : Start) (was now : ℕ → List HostStep) (op : Op) (served : I
             tally_append is_lone (replies_of (after start 0 (was 0))) grown.more,
             ap (λ log. tally is_lone (replies_of (after start 0 log))) f.is,
             same,
-            (first no_tx).lone,
+            first_lone no_tx,
           ))
 
   module _ (answered : EachIsAnswered) (l : HasLone start f.later (f.first ∷ was 0)) where
@@ -257,6 +247,9 @@ module _ (start : Start) (was now : ℕ → List HostStep) (op : Op) (served : I
     plain_step : is_request l.step.step.taken.body ≡ false
     plain_step = each_in (λ (e : HostStep). is_request e.step.taken.body ≡ false) l.step f.later f.plain in_later
 
+    shell_tells : (newer log : List HostStep) → (sent_since start (is_reply l.tx) 0 newer log ≡ 0) × (sent_since start (is_back l.tx) 0 newer log ≡ 0)
+    shell_tells newer log = since_none start l.tx 0 newer log (shell_since start l.tx newer log)
+
     was_sent : (i : ℕ) → l.step.step.taken.from.0 ≡ i → 1 ≤ sent_since start (is_reply l.tx) i (cut i).newer (was i)
     was_sent i at =
         let here = all_three (is_request l.step.step.taken.body) (l.step.step.taken.from.0 == i) (is_reply l.tx l.step.step.taken.to l.step.step.taken.body) plain_step (grind (arith, nat_tests, at)) is_answer_here in
@@ -264,32 +257,33 @@ module _ (start : Start) (was now : ℕ → List HostStep) (op : Op) (served : I
         omega (arith, taken, few_taken start was now served.before served.since cut (is_reply l.tx) i 0)
 
     -- its coordinator answered it, and so no host reports its abort
-    no_backs_at : (k : ℕ) → l.step.step.taken.from.0 ≡ k → (h : ℕ) → sent_since start (is_back l.tx) h (cut h).newer (was h) ≡ 0
-    no_backs_at k at zero = (since_none start l.tx 0 (cut 0).newer (was 0) (shell_since start l.tx (cut 0).newer (was 0))).1
-    no_backs_at zero at (suc h) = absurd (omega (arith, was_sent zero at, (since_none start l.tx 0 (cut 0).newer (was 0) (shell_since start l.tx (cut 0).newer (was 0))).0))
-    no_backs_at (suc k) at (suc h) = home (cases_eq l.tx.tc (suc k)) (cases_eq l.tx.tc (suc h))
+    no_backs_at : (k : ℕ) → l.step.step.taken.from.0 ≡ k → (h : ℕ) → h < hosts start → sent_since start (is_back l.tx) h (cut h).newer (was h) ≡ 0
+    no_backs_at k at zero low = (shell_tells (cut 0).newer (was 0)).1
+    no_backs_at zero at (suc h) low = absurd (omega (arith, was_sent zero at, (shell_tells (cut 0).newer (was 0)).0))
+    no_backs_at (suc k) at (suc h) low = home_is (cases_eq (home start l.tx) (suc k)) (cases_eq (home start l.tx) (suc h)) (cases_lt (suc k) (hosts start))
       where
-        away : (j : ℕ) → l.tx.tc ≢ suc j → (sent_since start (is_reply l.tx) (suc j) (cut (suc j)).newer (was (suc j)) ≡ 0) × (sent_since start (is_back l.tx) (suc j) (cut (suc j)).newer (was (suc j)) ≡ 0)
-        away j differs = since_none start l.tx (suc j) (cut (suc j)).newer (was (suc j)) (away_since start l.tx j differs (cut (suc j)).newer (was (suc j)))
+        some : 1 ≤ sent_since start (is_reply l.tx) (suc k) (cut (suc k)).newer (was (suc k))
+        some = was_sent (suc k) at
 
-        some : (j : ℕ) → suc k ≡ suc j → 1 ≤ sent_since start (is_reply l.tx) (suc j) (cut (suc j)).newer (was (suc j))
-        some j same = was_sent (suc j) (at ∙ same)
+        away : (j : ℕ) → j < hosts start → home start l.tx ≢ j → (sent_since start (is_reply l.tx) j (cut j).newer (was j) ≡ 0) × (sent_since start (is_back l.tx) j (cut j).newer (was j) ≡ 0)
+        away j there differs = since_none start l.tx j (cut j).newer (was j) (away_since start l.tx j there differs (cut j).newer (was j))
 
-        here : (j : ℕ) → suc k ≡ suc j → (suc j < hosts start) ⊎ (hosts start ≤ suc j) → sent_since start (is_back l.tx) (suc j) (cut (suc j)).newer (was (suc j)) ≡ 0
-        here j same (inl low) = by (told l.tx j low)
+        here : suc k ≡ suc h → sent_since start (is_back l.tx) (suc h) (cut (suc h)).newer (was (suc h)) ≡ 0
+        here same = by (told l.tx h low)
           where
-            by : (sent_since start (is_reply l.tx) (suc j) (cut (suc j)).newer (was (suc j)) ≡ 0) ⊎ (sent_since start (is_back l.tx) (suc j) (cut (suc j)).newer (was (suc j)) ≡ 0)
-                → sent_since start (is_back l.tx) (suc j) (cut (suc j)).newer (was (suc j)) ≡ 0
-            by (inl none) = absurd (omega (arith, none, some j same))
+            by : (sent_since start (is_reply l.tx) (suc h) (cut (suc h)).newer (was (suc h)) ≡ 0) ⊎ (sent_since start (is_back l.tx) (suc h) (cut (suc h)).newer (was (suc h)) ≡ 0)
+                → sent_since start (is_back l.tx) (suc h) (cut (suc h)).newer (was (suc h)) ≡ 0
+            by (inl none) = absurd (omega (arith, none, subst (λ j. 1 ≤ sent_since start (is_reply l.tx) j (cut j).newer (was j)) same some))
             by (inr none) = none
-        here j same (inr high) =
-            let none : (cut (suc j)).newer ≡ [] = front_nil (cut (suc j)).newer (was (suc j)) (sym (served.since.within (suc j) high) ∙ (cut (suc j)).is) in
-            ap (λ w. sent_since start (is_back l.tx) (suc j) w (was (suc j))) none
 
-        home : (l.tx.tc ≡ suc k) ⊎ (l.tx.tc ≢ suc k) → (l.tx.tc ≡ suc h) ⊎ (l.tx.tc ≢ suc h) → sent_since start (is_back l.tx) (suc h) (cut (suc h)).newer (was (suc h)) ≡ 0
-        home (inr differs) other = absurd (omega (arith, (away k differs).0, some k refl))
-        home (inl own) (inr differs) = (away h differs).1
-        home (inl own) (inl same) = here h (sym own ∙ same) (cases_lt (suc h) (hosts start))
+        home_is : (home start l.tx ≡ suc k) ⊎ (home start l.tx ≢ suc k) → (home start l.tx ≡ suc h) ⊎ (home start l.tx ≢ suc h) → (suc k < hosts start) ⊎ (hosts start ≤ suc k)
+            → sent_since start (is_back l.tx) (suc h) (cut (suc h)).newer (was (suc h)) ≡ 0
+        home_is one other (inr high) =
+            let none : (cut (suc k)).newer ≡ [] = front_nil (cut (suc k)).newer (was (suc k)) (sym (served.since.within (suc k) high) ∙ (cut (suc k)).is) in
+            absurd (omega (arith, some, ap (λ w. sent_since start (is_reply l.tx) (suc k) w (was (suc k))) none))
+        home_is (inr differs) other (inl there) = absurd (omega (arith, (away (suc k) there differs).0, some))
+        home_is (inl own) (inr differs) (inl there) = (away (suc h) low differs).1
+        home_is (inl own) (inl same) (inl there) = here (sym own ∙ same)
 
     none_back : Each (λ (e : HostStep). is_request e.step.taken.body ≡ false → back_of l.tx e.step.taken.body ≡ false) (f.later ++ f.first ∷ [])
     none_back = none_taken start was now served.before served.since cut (is_back l.tx) (no_backs_at l.step.step.taken.from.0 refl) 0

@@ -54,7 +54,7 @@ change_none s body step (refuses called at about passes is replies sends) = inr 
 host_none : (g : host.Host) (x : Signal) → has_api g ≡ true → is_request x.body ≡ false → IsAnswering None g (row g x) ⊎ WishNone (row g x).effects.sends
 host_none g x has plain =
     by (api_host (λ (step : Step ApiState). TellsLone (api_of g) step ⊎ WishNone step.effects.sends) g x has
-    (λ at. change_none (api_of g) x.body (api_row (api_of g) x) (api_changes (api_of g) x.body plain)) (inr (λ tx. refl)))
+    (λ at. change_none (api_of g) x.body (api_row (api_of g) x) (api_changes (api_of g) x.body plain)) (λ off. inr (λ tx. refl)))
   where
     by : TellsLone (api_of g) (api_seen (row g x)) ⊎ WishNone (row g x).effects.sends → IsAnswering None g (row g x) ⊎ WishNone (row g x).effects.sends
     by (inl tells) = inl (record {

@@ -127,7 +127,7 @@ module _ (tx : TxId) where
   host_named : (g : host.Host) (x : Signal) → has_api g ≡ true → is_request x.body ≡ false → AreNamed (opened_in g) → KeepsNamed (opened_in (row g x).state) (row g x).effects.sends
   host_named g x has plain were =
       api_host (λ (step : Step ApiState). KeepsNamed step.state.opened step.effects.sends) g x has
-      (λ at. change_named (api_of g) x.body were (api_row (api_of g) x) (api_changes (api_of g) x.body plain)) (record { named = were; wishes = refl })
+      (λ at. change_named (api_of g) x.body were (api_row (api_of g) x) (api_changes (api_of g) x.body plain)) (λ off. record { named = were; wishes = refl })
 
   -- along steps of the shell's host that aren't requests
   pub named_since : (start : Start) (later log : List HostStep) → Each (λ (e : HostStep). is_request e.step.taken.body ≡ false) later → AreNamed (opened_in (after start 0 log))

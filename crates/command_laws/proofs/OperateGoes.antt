@@ -115,7 +115,7 @@ module _ (tx : TxId) (name : Option ℕ) where
       → HasOne tx name Operating (opened_in (row g x).state) ⊎ (IsAnswering name g (row g x) ⊎ IsEnding tx name g x.body (row g x))
   unfolding GoesAnswersOrEnds
   host_goes g x has plain had =
-      by (api_host (GoesAnswersOrEnds (api_of g) x.body) g x has (λ at. change_goes (api_of g) x.body had (api_row (api_of g) x) (api_changes (api_of g) x.body plain)) (inl had))
+      by (api_host (GoesAnswersOrEnds (api_of g) x.body) g x has (λ at. change_goes (api_of g) x.body had (api_row (api_of g) x) (api_changes (api_of g) x.body plain)) (λ off. inl had))
     where
       by : HasOne tx name Operating (opened_in (row g x).state) ⊎ (IsAnsweringHere name (api_of g) (api_seen (row g x)) ⊎ IsEndingHere tx name (api_of g) x.body (api_seen (row g x)))
           → HasOne tx name Operating (opened_in (row g x).state) ⊎ (IsAnswering name g (row g x) ⊎ IsEnding tx name g x.body (row g x))

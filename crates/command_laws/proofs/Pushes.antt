@@ -156,7 +156,7 @@ module _ (tx : TxId) where
   host_calm : (g : host.Host) (x : Signal) → has_api g ≡ true → is_request x.body ≡ false → NoneBegins (opened_in g) → KeepsCalm (opened_in (row g x).state) (row g x).effects.sends
   host_calm g x has plain calm =
       api_host (λ (step : Step ApiState). KeepsCalm step.state.opened step.effects.sends) g x has
-      (λ at. change_calm (api_of g) x.body calm (api_row (api_of g) x) (api_changes (api_of g) x.body plain)) (record { calm = calm; pushes = refl })
+      (λ at. change_calm (api_of g) x.body calm (api_row (api_of g) x) (api_changes (api_of g) x.body plain)) (λ off. record { calm = calm; pushes = refl })
 
   -- along steps of the shell's host that aren't requests
   pub calm_since : (start : Start) (later log : List HostStep) → Each (λ (e : HostStep). is_request e.step.taken.body ≡ false) later → NoneBegins (opened_in (after start 0 log))

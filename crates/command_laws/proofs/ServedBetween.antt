@@ -1,6 +1,6 @@
 -- Each request is served between two quiet moments: the one at which it is asked for, and the next one at which a
 -- request is asked for, or the end.
-use Rattle.std.proofs.Common.{◌≡◌, ◌⊎◌, ◌≤◌, ℕ, true, false, List, [], ◌∷◌, ◌++◌, refl, sym, ap, ◌∙◌, inl, inr, append_assoc}
+use Rattle.std.proofs.Common.{◌≡◌, ◌⊎◌, ℕ, true, false, List, [], ◌∷◌, ◌++◌, refl, sym, ap, ◌∙◌, inl, inr, append_assoc}
 use Rattle.std.proofs.lemmas.Bool.{false≢true}
 use Rattle.std.proofs.lemmas.List.{append-nil}
 use Rattle.std.specs.Prelude.{Option, None, Some, option_to_list}
@@ -26,6 +26,7 @@ use Rattle.answer_laws.specs.Answered.{AreQuiet}
 use Rattle.command_laws.proofs.First.{fits_asked, no_requests, requests_append}
 use Rattle.command_laws.proofs.QuietCuts.{IsAskedAtFirst, quiet_cut}
 use Rattle.command_laws.specs.Between.{IsAskedAgain, IsServedIn, RequestsAreServed}
+use Rattle.frag_map.specs.Shape.{IsShape}
 
 -- what brings a request is a step that a request makes
 asks_it : (body : Body) (request : ApiReq) → request_in body ≡ Some request → is_request body ≡ true
@@ -85,12 +86,11 @@ module _ (start : Start) (logs : ℕ → List HostStep) (right : AreLogs (machin
           let rest = each_after (λ (e : HostStep). is_request e.step.taken.body ≡ false) again.later (again.next ∷ again.between) (no_requests _ (sym (ap requests again.is) ∙ none)) in
           absurd (false≢true (sym rest.0 ∙ again.asked))
 
-  module _ (some : 1 ≤ start.shape.nodes) (few : start.shape.nodes ≤ 8) where
+  module _ (shape : IsShape start.shape) where
     are_quiet : (log : List HostStep) → (q : QuietBefore start logs log) → AreQuiet start q.inside
     are_quiet log q =
         record {
-          some = some;
-          few = few;
+          shape = shape;
           right = q.right;
           within = within_cut (machine start) (stamped start) (hosts start) q.inside logs within q.cut;
           quiet = q.quiet;
@@ -125,7 +125,7 @@ module _ (start : Start) (logs : ℕ → List HostStep) (right : AreLogs (machin
 
 -- each request that was driven to quiet is served between two quiet moments
 pub requests_served : RequestsAreServed
-requests_served start logs some few right within at_quiet newer e before request is asks ends =
-    served_between start logs right within at_quiet some few e before request asks
+requests_served start logs shape right within at_quiet newer e before request is asks ends =
+    served_between start logs right within at_quiet shape e before request asks
     (at_quiet newer e before is (asks_it e.step.taken.body request asks))
     (driven start logs right within at_quiet newer (e ∷ before) is ends)

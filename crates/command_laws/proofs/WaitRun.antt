@@ -9,14 +9,13 @@ use Rattle.run_theory.specs.Runs.{AreLogs, Happens, IsWithin, Run, log_of}
 use Rattle.run_theory.proofs.Cuts.{taken_past}
 use Rattle.run_theory.proofs.Growth.{along_cuts}
 use Rattle.run_theory.proofs.Runs.{log_of-other, log_of-own, log_of-past}
-use Rattle.world_core.specs.Steps.{HostStep}
+use Rattle.world_core.specs.Steps.{Addressed, HostStep}
 use Rattle.sig_core.specs.declared.member.Member.{Member}
 use Rattle.sig_core.specs.declared.member.TxId.{TxId}
 use Rattle.sig_core.specs.declared.signal.Body.{Body}
 use Rattle.sig_core.specs.declared.signal.Body.TheVariants.{Host}
 use Rattle.sig_core.specs.declared.signal.host.HostSignal.TheVariants.{Continue}
 use Rattle.sig_core.specs.declared.signal.host.Work.TheVariants.{Request}
-use Rattle.sig_core.specs.declared.signal.Signal.{Signal}
 use Rattle.sig_core.specs.Op.{key_of}
 use Rattle.api_block.specs.declared.opened.OpenTransaction.{OpenTransaction}
 use Rattle.api_block.specs.Opened.{has_tx}
@@ -24,10 +23,9 @@ use Rattle.node_core.specs.Requests.{is_request}
 use Rattle.tc_block.specs.declared.phase.Asked.{Asked}
 use Rattle.tc_block.specs.declared.transaction.Transaction.{Transaction}
 use Rattle.world_core.proofs.Stamped.{stamped}
-use Rattle.world_core.specs.Hosts.{hosts}
+use Rattle.world_core.specs.Hosts.{first_membership, home, hosts, rows_host}
 use Rattle.world_core.specs.Machine.{IsAsked, after, machine, step_after}
 use Rattle.world_core.specs.Requests.{request_in, requests}
-use Rattle.frag_map.specs.Layout.{first_view}
 use Rattle.world_core.specs.Start.{Start}
 use Rattle.answer_laws.proofs.Begins.{given_past}
 use Rattle.answer_laws.proofs.LinkCounts.{sent_signals, signals}
@@ -43,13 +41,14 @@ use Rattle.command_laws.proofs.WaitApi.{IsAboutOne}
 use Rattle.command_laws.proofs.WaitHosts.{NodeHolds, ShellHolds, node_next, node_none, shell_next, shell_none}
 use Rattle.command_laws.proofs.WaitRows.{is_other, is_wait_of}
 use Rattle.command_laws.specs.Served.{IsHeldUpAt}
+use Rattle.node_core.specs.Blocks.{api_of}
 
 is_asked_in : (body : Body) → is_request body ≡ true → length (option_to_list (request_in body)) ≡ 1
 is_asked_in (Host (Continue (Request request) at)) e = refl
 is_asked_in _ e = cc
 
 module _ (start : Start) (was : ℕ → List HostStep) (before : AreQuiet start was) (first : HostStep) (tx : TxId) (u : Transaction) (asked : Asked) (member : Member) (unanswered : u.asked ≡ Some asked) (inside : IsIn member asked.chain)
-    (live : OnTc (λ s. of_live tx s.live ≡ Some u) (after start tx.tc (was tx.tc))) (held : IsHeldUpAt tx (key_of asked.op) (after start member.node (was member.node)))
+    (live : OnTc (λ s. of_live tx s.live ≡ Some u) (after start (home start tx) (was (home start tx)))) (held : IsHeldUpAt tx (key_of asked.op) (after start (rows_host start member.node) (was (rows_host start member.node))))
     (front : List OpenTransaction) (t : OpenTransaction) (back : List OpenTransaction) (own : Option (Option ℕ)) (own_tx : t.tx ≡ Some tx) (none : tally (has_tx tx) front ≡ 0)
     (plain_first : sends_of (is_other tx) (step_after start 0 (was 0) first).effects.sends ≡ 0) where
   abbrev NodesHold : List HostStep → Type 0
@@ -116,10 +115,10 @@ module _ (start : Start) (was : ℕ → List HostStep) (before : AreQuiet start 
           absurd (omega (
             arith,
             ap one_if is,
-            tally_past (λ (x : Signal). is_other tx x.to x.body)
+            tally_past (λ (x : Addressed). is_other tx x.signal.to x.signal.body)
                 (given_past start e.step.taken.from.0 e.host (log_of (machine start) es e.step.taken.from.0) (record { to = e.host; signal = e.step.taken } ∷ taken (machine start) e.step.taken.from.0 (log_of (machine start) es e.host)) (happens.takes plain)),
             few_others (log_of (machine start) es) all e.step.taken.from.0 e.host low within,
-            tally_past (λ (x : Signal). is_other tx x.to x.body) (taken_past (machine start) e.step.taken.from.0 (past_was (log_of (machine start) es) all e.host)),
+            tally_past (λ (x : Addressed). is_other tx x.signal.to x.signal.body) (taken_past (machine start) e.step.taken.from.0 (past_was (log_of (machine start) es) all e.host)),
           ))
 
   module _ (es : List HostStep) (e : HostStep) (all : AllHold (log_of (machine start) es)) (is : is_wait_of tx e.step.taken.body ≡ true) where
@@ -159,7 +158,7 @@ module _ (start : Start) (was : ℕ → List HostStep) (before : AreQuiet start 
       by : (b : Bool) → is_request e.step.taken.body ≡ b → b ≡ false
       by false is = refl
       by true is =
-          let at : IsAsked (first_view start.shape.nodes) e.host _ e.step.taken = fits_asked start e.host _ e.step.taken (is_request e.step.taken.body) is happens.step.fits.asked in
+          let at : IsAsked (first_membership start) e.host _ e.step.taken = fits_asked start e.host _ e.step.taken (is_request e.step.taken.body) is happens.step.fits.asked in
           absurd (omega (
             arith,
             few,
@@ -206,7 +205,7 @@ module _ (start : Start) (was : ℕ → List HostStep) (before : AreQuiet start 
 
   -- so it is at each later cut
   pub all_hold : (now : ℕ → List HostStep) → AreLogs (machine start) (with_first was first) → AreQuiet start now → IsCut (with_first was first) now → requests (now 0) ≡ requests (first ∷ was 0)
-      → IsAboutOne front t back own None (after start 0 (first ∷ was 0)) → AllHold now
+      → IsAboutOne front t back own None (api_of (after start 0 (first ∷ was 0))) → AllHold now
   all_hold now right quiet cut same about =
       (along_cuts (machine start) (stamped start) Holds event_holds (hosts start) (with_first was first) now quiet.within quiet.right right cut begin).holds quiet.within (omega (arith, ap length same))
     where

@@ -9,50 +9,45 @@ use Rattle.run_theory.specs.Links.{is_from}
 use Rattle.run_theory.specs.Lists.{IsIn}
 use Rattle.world_core.specs.Steps.{HostStep}
 use Rattle.sig_core.specs.declared.member.TxId.{TxId}
-use Rattle.sig_core.specs.declared.outs.Outgoing.{Outgoing}
-use Rattle.sig_core.specs.declared.place.BlockId.{BlockId}
-use Rattle.sig_core.specs.declared.place.BlockId.TheVariants as block
 use Rattle.sig_core.specs.declared.place.Place.{Place}
 use Rattle.sig_core.specs.declared.signal.Body.{Body}
 use Rattle.sig_core.specs.declared.signal.Body.TheVariants.{Client}
-use Rattle.sig_core.specs.declared.signal.client.ClientSignal.TheVariants.{TcBeginReq, TcWaitReq, LqhWaitReq, LqhWaitConf, TcWaitConf}
+use Rattle.sig_core.specs.declared.signal.client.ClientSignal.TheVariants.{TcWaitReq, LqhWaitReq, LqhWaitConf, TcWaitConf}
 use Rattle.sig_core.specs.Place.{coordinator}
 use Rattle.sig_core.specs.Same.{same_tx}
 use Rattle.row_locks.specs.Tables.{ahead_at}
-use Rattle.api_block.specs.Api.{api_table}
-use Rattle.api_block.specs.State.{ApiState}
 use Rattle.lqh_block.specs.Lqh.{lqh_table}
 use Rattle.lqh_block.specs.State.{LqhState}
 use Rattle.lqh_block.specs.Wait as rows
-use Rattle.node_core.specs.declared.host.Host as host
-use Rattle.node_core.specs.declared.host.Host.TheVariants.{Shell, Node}
-use Rattle.node_core.specs.declared.node.Node as node
 use Rattle.node_core.specs.Dih.{dih_table}
 use Rattle.node_core.specs.Requests.{is_request}
-use Rattle.node_core.specs.Row.{node_row, row, shell_row}
 use Rattle.tc_block.specs.declared.phase.Asked.{Asked}
 use Rattle.tc_block.specs.declared.transaction.Transaction.{Transaction}
 use Rattle.tc_block.specs.Live.{place_in, step_of, step_place, step_value}
 use Rattle.tc_block.specs.Operate.{wait_by, wait_row}
 use Rattle.tc_block.specs.State.{TcState}
 use Rattle.tc_block.specs.Tc.{pass_if, pass_row, tc_table}
-use Rattle.world_core.specs.Machine.{after, machine, step_after}
+use Rattle.world_core.specs.Machine.{machine, step_after}
 use Rattle.world_core.specs.Start.{Start}
 use Rattle.answer_laws.proofs.ApiMoves.{is_api_kind}
 use Rattle.answer_laws.proofs.DihSends.{dih_kinds}
-use Rattle.answer_laws.proofs.Hosts.{shell_after}
 use Rattle.answer_laws.proofs.LinkCounts.{all_three}
 use Rattle.answer_laws.proofs.LqhSends.{lqh_kinds}
 use Rattle.answer_laws.proofs.SendKinds.{are_of, is_dih_kind, is_lqh_kind, is_tc_kind, none_of, of_map}
-use Rattle.commit_laws.proofs.Tally.{tally_in, tally_none}
+use Rattle.commit_laws.proofs.Tally.{tally_in}
 use Rattle.commit_laws.specs.Counts.{one_if}
 use Rattle.answer_laws.proofs.TcMoves.{same_tx-is}
 use Rattle.answer_laws.proofs.TcSends.{tc_kinds}
 use Rattle.answer_laws.proofs.Wishes.{is_api, is_tc, sends_of}
 use Rattle.answer_laws.specs.Answered.{AreQuiet}
-use Rattle.transit_laws.proofs.WaysPassed.{api_each}
 use Rattle.command_laws.proofs.Since.{few_taken, sent_since}
 use Rattle.command_laws.proofs.WaitRows.{is_telling_who, is_wait_of, tells_who}
+use Rattle.command_laws.proofs.HostSends.{api_silent}
+use Rattle.sig_core.specs.declared.signal.Signal.{Signal}
+use Rattle.node_core.proofs.HostCases.{of_effects}
+use Rattle.node_core.specs.Row.{row}
+use Rattle.node_core.specs.Blocks.{api_of, dih_of, lqh_of, tc_of}
+use Rattle.node_core.specs.declared.host.Host.{Host}
 
 -- a step of these sends what passes the test
 pub record SentBy (start : Start) (test : Place → Body → Bool) (h : ℕ) (newer log : List HostStep) : Type 0 where
@@ -79,27 +74,6 @@ pub came_from : (start : Start) (was now : ℕ → List HostStep) (before : AreQ
 came_from start was now before since cut test j e inside plain passes i at =
     let here = all_three (is_request e.step.taken.body) (e.step.taken.from.0 == i) (test e.step.taken.to e.step.taken.body) plain (grind (arith, nat_tests, at)) passes in
     omega (arith, tally_in (λ (x : HostStep). is_from (machine start) i x && test x.step.taken.to x.step.taken.body) e (cut j).newer inside here, few_taken start was now before since cut test i j)
-
--- what the API never sends the shell's host doesn't
-shell_row_none : (test : Place → Body → Bool) → ((to : Place) (body : Body) → is_api_kind body ≡ true → test to body ≡ false) → ((name : Option ℕ) (at : ℕ) → test (coordinator at) (Client (TcBeginReq name)) ≡ false)
-    → (s : ApiState) (at : BlockId) (body : Body) → sends_of test (shell_row s at body).effects.sends ≡ 0
-unfolding shell_row
-shell_row_none test fails begins s block.Api body =
-    tally_none (λ (o : Outgoing). test o.to o.body) (api_table s body).effects.sends (api_each (λ (o : Outgoing). test o.to o.body ≡ false) (λ o e. fails o.to o.body e) (λ name at. begins name at) s body)
-shell_row_none test fails begins s _ body = refl
-
-host_none : (test : Place → Body → Bool) → ((to : Place) (body : Body) → is_api_kind body ≡ true → test to body ≡ false) → ((name : Option ℕ) (at : ℕ) → test (coordinator at) (Client (TcBeginReq name)) ≡ false)
-    → (g : host.Host) (s : ApiState) (to : Place) (body : Body) → g ≡ Shell s → sends_of test (row g to body).effects.sends ≡ 0
-unfolding row
-host_none test fails begins (Shell u) s to body is = shell_row_none test fails begins u to.block body
-host_none test fails begins (Node n) s to body is = cc
-
-pub shell_none : (start : Start) (test : Place → Body → Bool) → ((to : Place) (body : Body) → is_api_kind body ≡ true → test to body ≡ false)
-    → ((name : Option ℕ) (at : ℕ) → test (coordinator at) (Client (TcBeginReq name)) ≡ false) → (newer log : List HostStep) → sent_since start test 0 newer log ≡ 0
-shell_none start test fails begins [] log = refl
-shell_none start test fails begins (e ∷ newer) log =
-    let s = shell_after start (newer ++ log) in
-    omega (arith, shell_none start test fails begins newer log, host_none test fails begins (after start 0 (newer ++ log)) s.state e.step.taken s.is)
 
 -- a node answers that the transaction waits behind this one
 abbrev pub finds_who : TxId → TxId → Body → Bool
@@ -209,12 +183,13 @@ module _ (tx who : TxId) where
   tc_told s _ own some = cc
 
   -- who tells the client was told
-  pub node_told : (n : node.Node) (at : BlockId) (body : Body) → is_wait_of tx body ≡ true → 1 ≤ sends_of (is_telling_who tx who) (node_row n at body).effects.sends → (is_tc at && finds_who tx who body) ≡ true
-  unfolding node_row
-  node_told n block.Tc body own some = tc_told n.tc body own some
-  node_told n block.Dih body own some = absurd (omega (arith, some, none_of is_dih_kind (is_telling_who tx who) no_tell_dih (dih_table n.dih body).effects.sends (dih_kinds n.dih body)))
-  node_told n block.Lqh body own some = absurd (omega (arith, some, none_of is_lqh_kind (is_telling_who tx who) no_tell_lqh (lqh_table n.lqh body).effects.sends (lqh_kinds n.lqh body)))
-  node_told n _ body own some = none_sent some
+  pub host_told : (g : Host) (x : Signal) → is_wait_of tx x.body ≡ true → 1 ≤ sends_of (is_telling_who tx who) (row g x).effects.sends → (is_tc x.to.block && finds_who tx who x.body) ≡ true
+  host_told g x own = of_effects (λ f. 1 ≤ sends_of (is_telling_who tx who) f.sends → (is_tc x.to.block && finds_who tx who x.body) ≡ true) g x none_sent (record {
+    api = λ runs at some. absurd (omega (arith, some, api_silent (is_telling_who tx who) (record { kinds = no_tell_api; begins = λ name node. refl }) (api_of g) x.body));
+    tc = λ runs at some. ap (λ of. is_tc of && finds_who tx who x.body) at ∙ tc_told (tc_of g) x.body own some;
+    dih = λ runs at some. absurd (omega (arith, some, none_of is_dih_kind (is_telling_who tx who) no_tell_dih (dih_table (dih_of g) x.body).effects.sends (dih_kinds (dih_of g) x.body)));
+    rows = λ runs at some. absurd (omega (arith, some, none_of is_lqh_kind (is_telling_who tx who) no_tell_lqh (lqh_table (lqh_of g) x.body).effects.sends (lqh_kinds (lqh_of g) x.body)));
+  })
 
   -- the transaction waits behind it here
   pub record FoundAt (s : LqhState) : Type 0 where
@@ -247,9 +222,10 @@ module _ (tx who : TxId) where
   no_begin _ own s = cc
 
   -- and who told it found it so
-  pub node_found : (n : node.Node) (at : BlockId) (body : Body) → is_wait_of tx body ≡ true → 1 ≤ sends_of (is_finding_who tx who) (node_row n at body).effects.sends → FoundAt n.lqh
-  unfolding node_row
-  node_found n block.Tc body own some = absurd (omega (arith, some, no_begin body own n.tc))
-  node_found n block.Dih body own some = absurd (omega (arith, some, none_of is_dih_kind (is_finding_who tx who) no_find_dih (dih_table n.dih body).effects.sends (dih_kinds n.dih body)))
-  node_found n block.Lqh body own some = lqh_found n.lqh body own some
-  node_found n _ body own some = none_sent some
+  pub host_found : (g : Host) (x : Signal) → is_wait_of tx x.body ≡ true → 1 ≤ sends_of (is_finding_who tx who) (row g x).effects.sends → FoundAt (lqh_of g)
+  host_found g x own = of_effects (λ f. 1 ≤ sends_of (is_finding_who tx who) f.sends → FoundAt (lqh_of g)) g x none_sent (record {
+    api = λ runs at some. absurd (omega (arith, some, api_silent (is_finding_who tx who) (record { kinds = no_find_api; begins = λ name node. refl }) (api_of g) x.body));
+    tc = λ runs at some. absurd (omega (arith, some, no_begin x.body own (tc_of g)));
+    dih = λ runs at some. absurd (omega (arith, some, none_of is_dih_kind (is_finding_who tx who) no_find_dih (dih_table (dih_of g) x.body).effects.sends (dih_kinds (dih_of g) x.body)));
+    rows = λ runs at some. lqh_found (lqh_of g) x.body own some;
+  })

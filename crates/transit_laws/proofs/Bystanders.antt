@@ -2,7 +2,6 @@
 use Rattle.std.proofs.Common.{◌≡◌, ◌⊎◌, inl, inr, ℕ, ◌≤◌, Bool, true, false, ◌&&◌, List, refl, sym, ap, ◌∙◌, subst}
 use Rattle.std.proofs.lemmas.Bool.{and_parts, eqb-true}
 use Rattle.std.specs.Prelude.{if◌then◌else◌, nat_eq, None, Some}
-use Rattle.run_theory.specs.Lists.{Each}
 use Rattle.sig_core.specs.declared.member.TxId.{TxId}
 use Rattle.sig_core.specs.declared.outs.Outgoing.{Outgoing}
 use Rattle.sig_core.specs.declared.place.BlockId.{BlockId}
@@ -18,11 +17,10 @@ use Rattle.sig_core.proofs.TxLemmas.{same_tx-is}
 use Rattle.api_block.specs.Api.{api_table}
 use Rattle.api_block.specs.State.{ApiState}
 use Rattle.lqh_block.specs.declared.request.Request.{Request}
-use Rattle.lqh_block.specs.State.{LqhState}
 use Rattle.lqh_block.specs.Work.{work_key}
 use Rattle.node_core.proofs.HostCases.{runs}
 use Rattle.node_core.specs.declared.host.Host.{Host}
-use Rattle.node_core.specs.declared.host.Host.TheVariants.{Shell, Main, Tc, Ldm}
+use Rattle.node_core.specs.declared.host.Host.TheVariants.{Tc, Ldm}
 use Rattle.node_core.specs.Blocks.{has_lqh, lqh_of, tc_of}
 use Rattle.node_core.specs.Dih.{DihState, dih_table}
 use Rattle.tc_block.specs.State.{TcState}
@@ -106,7 +104,7 @@ token_other tx key to (Chain (LqhKeyRef v own why)) off apart = ap (λ b. if (b 
 token_other tx key to _ off apart = refl
 
 -- the place is that of the transaction's coordinator
-pub record IsHome (tx : TxId) (to : Place) : Type 0 where
+pub record IsForHome (tx : TxId) (to : Place) : Type 0 where
   pub block : to.block ≡ block.Tc
   pub node : to.node ≡ tx.tc
 
@@ -118,7 +116,7 @@ rows_block : (b : BlockId) → is_rows b ≡ true → b ≡ block.Lqh
 rows_block block.Lqh is = refl
 rows_block _ is = absurd cc
 
-home_of : (tx v : TxId) (to : Place) (b : Bool) → (is_home v to && (same_tx v tx && b)) ≡ true → IsHome tx to
+home_of : (tx v : TxId) (to : Place) (b : Bool) → (is_home v to && (same_tx v tx && b)) ≡ true → IsForHome tx to
 home_of tx v to b is =
     let parts = and_parts (is_home v to) (same_tx v tx && b) is in
     let home = and_parts (is_tc to.block) (nat_eq to.node v.tc) parts.0 in
@@ -133,7 +131,7 @@ pub record IsRequest (to : Place) (body : Body) : Type 0 where
   pub is : body ≡ Chain (LqhKeyReq request.tx request.work request.chain request.at)
   pub rows : to.block ≡ block.Lqh
 
-pub token_place : (tx : TxId) (key : List ℕ) (to : Place) (body : Body) (token : Token) → token_of tx key to body ≡ Some token → IsRequest to body ⊎ IsHome tx to
+pub token_place : (tx : TxId) (key : List ℕ) (to : Place) (body : Body) (token : Token) → token_of tx key to body ≡ Some token → IsRequest to body ⊎ IsForHome tx to
 token_place tx key to (Chain (LqhKeyReq v work chain at)) token is =
     let parts = some_if (is_rows to.block && (same_tx v tx && same_key (work_key work) key)) (performs work at) token is in
     inl (record {

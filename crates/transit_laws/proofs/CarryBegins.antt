@@ -6,27 +6,25 @@ use Rattle.std.proofs.lemmas.Bool.{cases_eq, or_left}
 use Rattle.world_core.specs.Steps.{HostStep}
 use Rattle.sig_core.specs.declared.member.TxId.{TxId}
 use Rattle.sig_core.specs.declared.outs.Outgoing.{Outgoing}
-use Rattle.sig_core.specs.declared.place.BlockId.{BlockId}
-use Rattle.sig_core.specs.declared.place.BlockId.TheVariants as block
-use Rattle.sig_core.specs.declared.place.Place.{Place}
 use Rattle.sig_core.specs.declared.signal.Body.{Body}
 use Rattle.sig_core.specs.declared.signal.Body.TheVariants.{Client, Chain}
 use Rattle.sig_core.specs.declared.signal.chain.ChainSignal.TheVariants.{Abort, Commit, Complete}
 use Rattle.sig_core.specs.declared.signal.client.ClientSignal.TheVariants.{TcCommitConf, TcRollbackRep}
 use Rattle.sig_core.specs.Same.{same_tx}
+use Rattle.sig_core.specs.Step.{Effects}
 use Rattle.sig_core.proofs.TxLemmas.{same_tx-swap}
-use Rattle.node_core.specs.declared.host.Host as host
-use Rattle.node_core.specs.declared.host.Host.TheVariants.{Shell, Node}
-use Rattle.node_core.specs.declared.node.Node as node
-use Rattle.node_core.specs.Row.{node_row, row}
+use Rattle.node_core.specs.declared.host.Host.{Host}
+use Rattle.node_core.specs.Row.{row}
+use Rattle.world_core.specs.Hosts.{home}
 use Rattle.world_core.specs.Machine.{after}
 use Rattle.world_core.specs.Start.{Start}
-use Rattle.commit_laws.specs.Ways.{back_by, forth_by, put_ways, sent_ways, tc_sends, way_of}
+use Rattle.commit_laws.specs.Ways.{Way, back_by, forth_by, put_ways, sent_ways, tc_sends, way_of}
 use Rattle.commit_laws.proofs.OneWay.{back_more, forth_more}
 use Rattle.transit_laws.specs.GivenUp.{is_carried_out, is_given_up}
 use Rattle.transit_laws.specs.Transit.{Comes, logs_of}
 use Rattle.transit_laws.proofs.CommitBegins.{Aborts, is_back}
 use Rattle.transit_laws.proofs.StepFades.{now_other, now_own}
+use Rattle.transit_laws.proofs.TcSaid.{TcSays, rests, takes, tc_says}
 use Rattle.transit_laws.proofs.TxSignals.{is_commit, is_sign}
 use Rattle.transit_laws.proofs.TxTurns.{AreSilent}
 
@@ -60,64 +58,49 @@ module _ (tx : TxId) where
   forth_first sends first more cs is commits =
       ap (λ os. list_any (same_tx tx) (put_ways forth_by os cs)) is ∙ forth_more (same_tx tx) more (forth_by (way_of first.body) cs) (forth_one first.body cs commits)
 
--- what the coordinator sends in a step is all that is sent, where the signal is for it
-tc_sends_are : (n : node.Node) (to : Place) (b : Body) → to.block ≡ block.Tc → tc_sends (Node n) to.block b ≡ (row (Node n) to b).effects.sends
-unfolding row node_row
-tc_sends_are n to b at = ap (λ k. tc_sends (Node n) k b) at ∙ sym (ap (λ k. (node_row n k b).effects.sends) at)
-
--- and nothing else
-tc_sends_none : (g : host.Host) (at : BlockId) (b : Body) → ((at ≡ block.Tc) → ⊥) → tc_sends g at b ≡ []
-tc_sends_none (Shell s) at b off = refl
-tc_sends_none (Node n) block.Tc b off = absurd (off refl)
-tc_sends_none (Node n) block.Lqh b off = refl
-tc_sends_none (Node n) block.Dih b off = refl
-tc_sends_none (Node n) _ b off = refl
-
 module _ (start : Start) (es : List HostStep) (e : HostStep) (come : Comes start es e) (tx : TxId) where
   abbrev h : ℕ
   h = e.host
 
-  abbrev g : host.Host
+  abbrev at_home : ℕ
+  at_home = home start tx
+
+  abbrev g : Host
   g = after start h (logs_of start es h)
 
   abbrev said : List Outgoing
-  said = tc_sends g e.step.taken.to.block e.step.taken.body
+  said = tc_sends g e.step.taken
 
-  -- the coordinator's step
-  pub carried_home : h ≡ tx.tc → is_carried_out start (logs_of start (e ∷ es)) tx ≡ list_any (same_tx tx) (put_ways forth_by said (sent_ways start forth_by h (logs_of start es h)))
-  carried_home same =
-      subst (λ k. list_any (same_tx tx) (sent_ways start forth_by k (logs_of start (e ∷ es) k)) ≡ list_any (same_tx tx) (put_ways forth_by said (sent_ways start forth_by h (logs_of start es h)))) same
-      (ap (λ log. list_any (same_tx tx) (sent_ways start forth_by h log)) (now_own start es e come))
+  -- the transactions that its coordinator took this way, before and behind the step
+  ways_was : (f : Way → List TxId → List TxId) → h ≡ at_home → sent_ways start f at_home (logs_of start es at_home) ≡ sent_ways start f h (logs_of start es h)
+  ways_was f same = subst (λ k. sent_ways start f k (logs_of start es k) ≡ sent_ways start f h (logs_of start es h)) same refl
 
-  pub given_home : h ≡ tx.tc → is_given_up start (logs_of start (e ∷ es)) tx ≡ list_any (same_tx tx) (put_ways back_by said (sent_ways start back_by h (logs_of start es h)))
-  given_home same =
-      subst (λ k. list_any (same_tx tx) (sent_ways start back_by k (logs_of start (e ∷ es) k)) ≡ list_any (same_tx tx) (put_ways back_by said (sent_ways start back_by h (logs_of start es h)))) same
-      (ap (λ log. list_any (same_tx tx) (sent_ways start back_by h log)) (now_own start es e come))
-
-  carried_was : h ≡ tx.tc → is_carried_out start (logs_of start es) tx ≡ list_any (same_tx tx) (sent_ways start forth_by h (logs_of start es h))
-  carried_was same =
-      subst (λ k. list_any (same_tx tx) (sent_ways start forth_by k (logs_of start es k)) ≡ list_any (same_tx tx) (sent_ways start forth_by h (logs_of start es h))) same refl
+  ways_now : (f : Way → List TxId → List TxId) → h ≡ at_home → sent_ways start f at_home (logs_of start (e ∷ es) at_home) ≡ put_ways f said (sent_ways start f h (logs_of start es h))
+  ways_now f same =
+      subst (λ k. sent_ways start f k (logs_of start (e ∷ es) k) ≡ put_ways f said (sent_ways start f h (logs_of start es h))) same
+      (ap (sent_ways start f h) (now_own start es e come))
 
   -- a step that says nothing of it takes it nowhere
   pub carried_silent : AreSilent tx said → is_carried_out start (logs_of start (e ∷ es)) tx ≡ is_carried_out start (logs_of start es) tx
-  carried_silent silent = by (cases_eq h tx.tc)
+  carried_silent silent = by (cases_eq h at_home)
     where
-      by : (h ≡ tx.tc) ⊎ (h ≢ tx.tc) → is_carried_out start (logs_of start (e ∷ es)) tx ≡ is_carried_out start (logs_of start es) tx
-      by (inl same) = carried_home same ∙ (silent_forth tx said (sent_ways start forth_by h (logs_of start es h)) silent ∙ sym (carried_was same))
-      by (inr differs) = ap (λ log. list_any (same_tx tx) (sent_ways start forth_by tx.tc log)) (now_other start es e come tx.tc differs)
+      by : (h ≡ at_home) ⊎ (h ≢ at_home) → is_carried_out start (logs_of start (e ∷ es)) tx ≡ is_carried_out start (logs_of start es) tx
+      by (inl same) =
+          ap (list_any (same_tx tx)) (ways_now forth_by same) ∙ (silent_forth tx said (sent_ways start forth_by h (logs_of start es h)) silent
+          ∙ ap (list_any (same_tx tx)) (sym (ways_was forth_by same)))
+      by (inr differs) = ap (λ log. list_any (same_tx tx) (sent_ways start forth_by at_home log)) (now_other start es e come at_home differs)
 
-  pub said_none : ((e.step.taken.to.block ≡ block.Tc) → ⊥) → AreSilent tx said
-  said_none off = subst (AreSilent tx) (sym (tc_sends_none g e.step.taken.to.block e.step.taken.body off)) tt
+  -- where nothing of it is sent nothing is said of it
+  pub said_silent : AreSilent tx (row g e.step.taken).effects.sends → AreSilent tx said
+  said_silent silent = by (tc_says g e.step.taken)
+    where
+      by : TcSays g e.step.taken (row g e.step.taken) → AreSilent tx said
+      by (takes step says) = subst (AreSilent tx) (ap (λ (f : Effects). f.sends) step.effects ∙ sym says) silent
+      by (rests same says) = subst (AreSilent tx) (sym says) tt
 
-  pub said_is : (n : node.Node) → g ≡ Node n → e.step.taken.to.block ≡ block.Tc → said ≡ (row g e.step.taken).effects.sends
-  said_is n is at = ap (λ x. tc_sends x e.step.taken.to.block e.step.taken.body) is ∙ (tc_sends_are n e.step.taken at ∙ sym (ap (λ x. (row x e.step.taken).effects.sends) is))
+  pub given_first : h ≡ at_home → Aborts tx said → is_given_up start (logs_of start (e ∷ es)) tx ≡ true
+  given_first same aborts = ap (list_any (same_tx tx)) (ways_now back_by same) ∙ back_first tx said (sent_ways start back_by h (logs_of start es h)) aborts
 
-  pub said_shell : (x : host.Host) → ((n : node.Node) → x ≡ Node n → ⊥) → tc_sends x e.step.taken.to.block e.step.taken.body ≡ []
-  said_shell (Shell s) none = refl
-  said_shell (Node n) none = absurd (none n refl)
-
-  pub given_first : h ≡ tx.tc → Aborts tx said → is_given_up start (logs_of start (e ∷ es)) tx ≡ true
-  given_first same aborts = given_home same ∙ back_first tx said (sent_ways start back_by h (logs_of start es h)) aborts
-
-  pub carried_first : h ≡ tx.tc → (first : Outgoing) (more : List Outgoing) → said ≡ first ∷ more → is_commit tx first.body ≡ true → is_carried_out start (logs_of start (e ∷ es)) tx ≡ true
-  carried_first same first more is commits = carried_home same ∙ forth_first tx said first more (sent_ways start forth_by h (logs_of start es h)) is commits
+  pub carried_first : h ≡ at_home → (first : Outgoing) (more : List Outgoing) → said ≡ first ∷ more → is_commit tx first.body ≡ true → is_carried_out start (logs_of start (e ∷ es)) tx ≡ true
+  carried_first same first more is commits =
+      ap (list_any (same_tx tx)) (ways_now forth_by same) ∙ forth_first tx said first more (sent_ways start forth_by h (logs_of start es h)) is commits

@@ -1,9 +1,8 @@
 -- Each step keeps what is true of a transaction that is neither given up nor carried out, of one key.
-use Rattle.std.proofs.Common.{◌≡◌, ◌⊎◌, ◌≢◌, ◌≤◌, ◌<◌, ℕ, length, Bool, true, false, cond, filter, List, [], ◌∷◌, refl, sym, ap, ◌∙◌, subst, inl, inr, arith}
+use Rattle.std.proofs.Common.{◌≡◌, ◌⊎◌, ◌≢◌, ◌≤◌, ℕ, Bool, true, false, cond, filter, List, [], ◌∷◌, refl, sym, ap, ◌∙◌, subst, inl, inr, arith}
 use Rattle.std.proofs.lemmas.Bool.{cases_eq}
 use Rattle.std.specs.Prelude.{Option, None, Some}
 use Rattle.run_theory.specs.Lists.{Each}
-use Rattle.run_theory.proofs.Runs.{log_of-other, log_of-own}
 use Rattle.sig_core.specs.declared.member.TxId.{TxId}
 use Rattle.sig_core.specs.declared.outs.Outgoing.{Outgoing}
 use Rattle.sig_core.specs.declared.place.BlockId.TheVariants as block
@@ -31,10 +30,10 @@ use Rattle.tc_block.specs.Operate.{fresh}
 use Rattle.tc_block.specs.State.{TcState}
 use Rattle.tc_block.specs.Tc.{tc_row}
 use Rattle.world_core.specs.Hosts.{first_membership, home, tc_host}
-use Rattle.world_core.specs.Machine.{after, machine, sent_count, signals_of, step_after}
+use Rattle.world_core.specs.Machine.{after, sent_count, signals_of, step_after}
 use Rattle.world_core.specs.Start.{Start}
 use Rattle.world_core.specs.Steps.{Addressed, HostStep}
-use Rattle.commit_laws.specs.Replica.{Event, Replica, ages, asks_for, at_key, event_at, expires, is_by, is_let_in, is_refused, rests}
+use Rattle.commit_laws.specs.Replica.{Event, Replica, ages, asks_for, event_at, expires, is_by, is_let_in, is_refused, rests}
 use Rattle.commit_laws.proofs.Waiting.{each-first_item}
 use Rattle.answer_laws.proofs.HostSteps.{IsAtNode, at_own_node}
 use Rattle.answer_laws.proofs.LqhOps.{is_lqh}
@@ -45,17 +44,18 @@ use Rattle.transit_laws.specs.Routes.{IsRequestRouted, IsRouted}
 use Rattle.transit_laws.specs.Tokens.{is_token}
 use Rattle.transit_laws.specs.Transit.{AreInTransit, Comes, Takes, host_after, joined, logs_of}
 use Rattle.transit_laws.proofs.Addressed.{comes_addressed, comes_below, rows_addressed, same_nodes, tc_addressed}
-use Rattle.transit_laws.proofs.Bystanders.{IsBystander, IsHome, IsRequest, api_still, bystander, dih_still, event_missed, event_off, event_rows, token_other, token_place}
+use Rattle.transit_laws.proofs.Bystanders.{IsBystander, IsForHome, IsRequest, api_still, bystander, dih_still, event_missed, event_off, event_rows, token_other, token_place}
 use Rattle.transit_laws.proofs.CircleKept.{IsGoing, rests_going}
 use Rattle.transit_laws.proofs.Circles.{IsCircling, IsPristine, IsUnborn, pristine_as}
 use Rattle.transit_laws.proofs.CircleView.{View}
 use Rattle.transit_laws.proofs.GivenUp.{aborts_are_of_given_up, commits_are_of_carried_out, completions_are_of_carried_out}
+use Rattle.transit_laws.proofs.HomeSteps.{IsHome, all_home, away, here_now, here_was}
 use Rattle.transit_laws.proofs.HostSteps.{none_of, runs_rows}
 use Rattle.transit_laws.proofs.KeyMoves.{IsLike, before_here, event_here, expired_as, host_of, others_like, view_before, view_now}
 use Rattle.transit_laws.proofs.KeySends.{is_abort, lqh_tokens}
 use Rattle.transit_laws.proofs.KeySteps.{asked_going, each-first_by, expired_going, off_going, served_going}
 use Rattle.transit_laws.proofs.KeyTokens.{Token, event_tokens, is_rows, is_tc, performs, token_of, tokens_of}
-use Rattle.transit_laws.proofs.LiveFacts.{are_own, away_absent, once_there, unborn_absent}
+use Rattle.transit_laws.proofs.LiveFacts.{away_absent, unborn_absent}
 use Rattle.transit_laws.proofs.LqhCases.{LqhCase, aborted, asked, committed, completed, expired_here, lqh_case, off, served}
 use Rattle.transit_laws.proofs.OnlyToken.{NoneAtAll, none_live}
 use Rattle.transit_laws.proofs.OthersStay.{event_of, is_of}
@@ -135,29 +135,20 @@ module _ (start : Start) (es : List HostStep) (e : HostStep) (tx : TxId) (key : 
   abbrev Now : Type 0
   Now = IsCircling start tx key (e ∷ es) (joined sent between)
 
-  own_log : logs_of start (e ∷ es) n ≡ e ∷ logs_of start es n
-  own_log = log_of-own (machine start) e es n refl
-
-  other_log : (h : ℕ) → n ≢ h → logs_of start (e ∷ es) h ≡ logs_of start es h
-  other_log h apart = log_of-other (machine start) e es h apart
-
   -- the transaction at its coordinator
   live_same : of_host tx (row here x).state ≡ of_host tx here → live_at start (logs_of start (e ∷ es)) tx ≡ live_at start (logs_of start es) tx
   live_same is = by (cases_eq n own_home)
     where
       by : (n ≡ own_home) ⊎ (n ≢ own_home) → live_at start (logs_of start (e ∷ es)) tx ≡ live_at start (logs_of start es) tx
-      by (inl at) =
-          subst (λ h. of_host tx (after start h (logs_of start (e ∷ es) h)) ≡ of_host tx (after start h (logs_of start es h))) at (ap (λ log. of_host tx (after start n log)) own_log ∙ is)
-      by (inr apart) = ap (λ log. of_host tx (after start own_home log)) (other_log own_home apart)
+      by (inl at) = ap (of_host tx) (here_now start es e come tx at) ∙ is ∙ ap (of_host tx) (sym (here_was start es e come tx at))
+      by (inr apart) = ap (of_host tx) (away start es e come tx apart)
 
   unborn_same : (IsUnborn tx (row here x).state → IsUnborn tx here) → IsUnborn tx (host_after start (e ∷ es) own_home) → IsUnborn tx (host_after start es own_home)
   unborn_same is = by (cases_eq n own_home)
     where
       by : (n ≡ own_home) ⊎ (n ≢ own_home) → IsUnborn tx (host_after start (e ∷ es) own_home) → IsUnborn tx (host_after start es own_home)
-      by (inl at) =
-          subst (λ h. IsUnborn tx (after start h (logs_of start (e ∷ es) h)) → IsUnborn tx (after start h (logs_of start es h))) at
-          (λ unborn. is (subst (λ log. IsUnborn tx (after start n log)) own_log unborn))
-      by (inr apart) = λ unborn. subst (λ log. IsUnborn tx (after start own_home log)) (other_log own_home apart) unborn
+      by (inl at) = λ unborn. subst (IsUnborn tx) (sym (here_was start es e come tx at)) (is (subst (IsUnborn tx) (here_now start es e come tx at) unborn))
+      by (inr apart) = subst (IsUnborn tx) (away start es e come tx apart)
 
   quiet : event ≡ rests → IsLike v w
   quiet is = others_like start es e tx key (ap (λ event. is_of tx (event_of event r)) is)
@@ -201,16 +192,16 @@ module _ (start : Start) (es : List HostStep) (e : HostStep) (tx : TxId) (key : 
           let running = placed_runs start n (work_key asks.request.work) asks.request.at (logs_of start es n) come.before.shape place in
           true_false (sym running ∙ sym (runs_rows here x.to.block (ap is_lqh asks.rows)) ∙ idle)
 
-      gone : (t : Transaction) → live_at start (logs_of start es) tx ≡ Some t → IsHome tx x.to → ⊥
+      gone : (t : Transaction) → live_at start (logs_of start es) tx ≡ Some t → IsForHome tx x.to → ⊥
       gone t live home_is =
           let at : n ≡ own_home = tc_addressed start es e come home_is.block ∙ ap (tc_host start) home_is.node in
-          let none : None ≡ Some t = sym (subst (λ h. of_host tx (after start h (logs_of start es h)) ≡ None) at (none_of tx here x.to.block (ap wishes.is_tc home_is.block) idle)) ∙ live in cc
+          let none : None ≡ Some t = sym (ap (of_host tx) (here_was start es e come tx at) ∙ none_of tx here x.to.block (ap wishes.is_tc home_is.block) idle) ∙ live in cc
 
       deaf : (t : Transaction) → live_at start (logs_of start es) tx ≡ Some t → (o : Option Token) → token_of tx key x.to x.body ≡ o → o ≡ None
       deaf t live None token_is = refl
       deaf t live (Some token) token_is = absurd (by (token_place tx key x.to x.body token token_is))
         where
-          by : IsRequest x.to x.body ⊎ IsHome tx x.to → ⊥
+          by : IsRequest x.to x.body ⊎ IsForHome tx x.to → ⊥
           by (inl asks) = far asks
           by (inr at) = gone t live at
 
@@ -225,8 +216,11 @@ module _ (start : Start) (es : List HostStep) (e : HostStep) (tx : TxId) (key : 
     at_node : IsAtNode start n s
     at_node = at_own_node start n (logs_of start es n) (comes_below start es e come) step.runs
 
+    known : IsHome tx s
+    known = all_home start tx n (logs_of start es n)
+
     seen : Sees tx key s.node s x.body then
-    seen = tc_sees tx key s.node s (are_own start tx n (logs_of start es n)) (once_there start tx n (logs_of start es n)) x.body
+    seen = tc_sees tx key s.node s known.own known.once x.body
 
     sends_are : sends ≡ then.effects.sends
     sends_are = ap (λ (f : Effects). f.sends) step.effects
@@ -248,7 +242,7 @@ module _ (start : Start) (es : List HostStep) (e : HostStep) (tx : TxId) (key : 
     away_circles apart = record {
       pristine = λ unborn. pristine_as v w like.likewise (circling.pristine (unborn_before unborn));
       going = λ t live early.
-          rests_now t (going_now t (ap (λ log. of_host tx (after start own_home log)) (other_log own_home apart)) live early) like (deaf (token_of tx key x.to x.body) refl)
+          rests_now t (going_now t (ap (of_host tx) (away start es e come tx apart)) live early) like (deaf (token_of tx key x.to x.body) refl)
           (ap (tokens_of tx key) sends_are ∙ none seen.seen);
     }
       where
@@ -264,7 +258,7 @@ module _ (start : Start) (es : List HostStep) (e : HostStep) (tx : TxId) (key : 
         deaf None token_is = refl
         deaf (Some token) token_is = absurd (by (token_place tx key x.to x.body token token_is))
           where
-            by : IsRequest x.to x.body ⊎ IsHome tx x.to → ⊥
+            by : IsRequest x.to x.body ⊎ IsForHome tx x.to → ⊥
             by (inl asks) = true_false (sym (ap is_rows asks.rows) ∙ ap is_rows step.at)
             by (inr at) = apart (tc_addressed start es e come at.block ∙ ap (tc_host start) at.node)
 
@@ -282,12 +276,10 @@ module _ (start : Start) (es : List HostStep) (e : HostStep) (tx : TxId) (key : 
         to_home = to_is ∙ ap coordinator (sym own_node)
 
         live_was : live_at start (logs_of start es) tx ≡ of_live tx s.live
-        live_was = subst (λ h. of_host tx (after start h (logs_of start es h)) ≡ of_live tx s.live) at refl
+        live_was = ap (of_host tx) (here_was start es e come tx at)
 
         live_now : live_at start (logs_of start (e ∷ es)) tx ≡ of_live tx then.state.live
-        live_now =
-            subst (λ h. of_host tx (after start h (logs_of start (e ∷ es) h)) ≡ of_live tx then.state.live) at
-            (ap (λ log. of_host tx (after start n log)) own_log ∙ ap (λ (c : TcState). of_live tx c.live) step.state)
+        live_now = ap (of_host tx) (here_now start es e come tx at) ∙ ap (λ (c : TcState). of_live tx c.live) step.state
 
         by : (u : Transaction) → live_at start (logs_of start (e ∷ es)) tx ≡ Some u → is_early u.phase ≡ true
             → Seen tx key s.node s x.body then.state then.effects.sends → IsGoing start tx key w u (joined sent between)
@@ -300,7 +292,7 @@ module _ (start : Start) (es : List HostStep) (e : HostStep) (tx : TxId) (key : 
             (subst (Going tx x.body t u) (sym (sends_are ∙ sends_is)) (goes u (sym later ∙ (sym live_now ∙ live)) early))
         by u live early (sees.begun next_is later none) =
             begin_goes start es e tx key come before between transit takes to_home like u live early (some fresh u (sym later ∙ (sym live_now ∙ live)))
-            (circling.pristine (subst (λ h. IsUnborn tx (after start h (logs_of start es h))) at first_number))
+            (circling.pristine (subst (IsUnborn tx) (sym (here_was start es e come tx at)) first_number))
           where
             first_number : s.next_seq ≤ tx.seq
             first_number = omega (arith, ap (λ (t : TxId). t.seq) next_is)

@@ -36,7 +36,7 @@ run_is_cut start es run =
 pub run_is_causal : (start : Start) (es : List HostStep) → IsRun start es → AreCausal start (logs_of start es)
 run_is_causal start es run = cuts_are_causal start (logs_of start es) (logs_of start es) (run_is_cut start es run)
 
-pub in_mark : (test : Mark → Bool) (step : HostStep) (log : List HostStep) → IsIn step log → list_any test step.marks ≡ true → has_mark test log ≡ true
+pub in_mark : (test : Mark → Bool) (step : HostStep) (log : List HostStep) → IsIn step log → list_any test step.step.marks ≡ true → has_mark test log ≡ true
 in_mark test step [] inside is = absurd inside
 in_mark test step (f ∷ log) (inl same) is = ap (λ b. b || has_mark test log) (sym (ap (λ (g : HostStep). list_any test g.step.marks) same) ∙ is)
 in_mark test step (f ∷ log) (inr inside) is = by (list_any test f.step.marks) (in_mark test step log inside is)
@@ -61,7 +61,7 @@ module _ (start : Start) (es : List HostStep) (e : HostStep) (come : Comes start
   h = e.host
 
   -- a step with a lesser stamp isn't the newest one
-  before_it : (step : HostStep) (g : ℕ) → step.stamp < e.step.stamp → IsIn step (now g) → IsIn step (old g)
+  before_it : (step : HostStep) (g : ℕ) → step.step.stamp < e.step.stamp → IsIn step (now g) → IsIn step (old g)
   before_it step g below inside = by (cases_eq h g)
     where
       own : IsIn step (e ∷ old g) → IsIn step (old g)
@@ -73,7 +73,7 @@ module _ (start : Start) (es : List HostStep) (e : HostStep) (come : Comes start
       by (inr off) = subst (IsIn step) (log_of-other (machine start) e es g off) inside
 
   -- a decision below the newest step is one that came before
-  below_decided : IsDecidedBelow now tx e.step.stamp → is_decided old tx ≡ true
+  below_decided : IsDecidedBelow now tx e.step.stamp → is_decided start old tx ≡ true
   below_decided is =
       let right = run_is_causal start (e ∷ es) come.now in
       let local = logs_of_run (machine start) (e ∷ es) come.now.run in
@@ -83,7 +83,7 @@ module _ (start : Start) (es : List HostStep) (e : HostStep) (come : Comes start
       subst (λ k. has_mark (is_decision tx) (old k) ≡ true) home_is (in_mark (is_decision tx) is.step (old is.host) (before_it is.step is.host is.below is.inside) is.marked)
 
   -- the newest step took a commit
-  taken_decided : ((other : TxId) → kind_of e.step.taken.body ≡ kind.committing other → IsDecidedBelow now other e.step.stamp) → kind_of e.step.taken.body ≡ kind.committing tx → is_decided old tx ≡ true
+  taken_decided : ((other : TxId) → kind_of e.step.taken.body ≡ kind.committing other → IsDecidedBelow now other e.step.stamp) → kind_of e.step.taken.body ≡ kind.committing tx → is_decided start old tx ≡ true
   taken_decided rightly is = below_decided (rightly tx is)
 
 pub commits_are_decided : CommitsAreDecided

@@ -23,7 +23,7 @@ use Rattle.transit_laws.proofs.VerifiedSettled.{verified_settled}
 use Rattle.transit_laws.proofs.WhoAsks.{who_asks_waits}
 use Rattle.transit_laws.specs.Circle.{IsOfWaiting, IsSettledFor}
 use Rattle.transit_laws.specs.Owed.{DecidedAreSettled, IsDecidedWith}
-use Rattle.transit_laws.specs.Transit.{logs_of}
+use Rattle.transit_laws.specs.Transit.{logs_of, taken_by}
 
 -- what asks for an epoch for a transaction has operations
 record AsksFor (tx : TxId) (body : Body) : Type 0 where
@@ -46,9 +46,9 @@ taken_in x (y ∷ front) back = inr (taken_in x front back)
 pub decided_settled : DecidedAreSettled
 decided_settled start es e tx come marked kept = from (asks_for tx e.step.taken.body at.took)
   where
-    at : DecidesAt (logs_of start (e ∷ es)) e tx
+    at : DecidesAt start (logs_of start (e ∷ es)) e tx
     at =
-        each_in (DecidesRightly (logs_of start (e ∷ es))) e (logs_of start (e ∷ es) e.host)
+        each_in (DecidesRightly start (logs_of start (e ∷ es))) e (logs_of start (e ∷ es) e.host)
         ((run_is_causal start (e ∷ es) come.now).decisions e.host)
         (subst (IsIn e) (sym (log_of-own (machine start) e es e.host refl)) (inl refl)) tx marked
 
@@ -59,12 +59,12 @@ decided_settled start es e tx come marked kept = from (asks_for tx e.step.taken.
         let in_transit = all.1.1.0 in
         let taken = all.1.1.1.takes.signal (ap is_request asks.is) in
         let own : IsOfWaiting start (logs_of start es) e.step.taken.body =
-        each_in (λ (x : Addressed). IsOfWaiting start (logs_of start es) x.signal.body) e.step.taken before (who_asks_waits start es before come.before in_transit)
-        (subst (IsIn e.step.taken) (sym taken.is) (taken_in e.step.taken taken.front taken.back)) in
+        each_in (λ (x : Addressed). IsOfWaiting start (logs_of start es) x.signal.body) (taken_by e) before (who_asks_waits start es before come.before in_transit)
+        (subst (IsIn (taken_by e)) (sym taken.is) (taken_in (taken_by e) taken.front taken.back)) in
         let has = subst (IsOfWaiting start (logs_of start es)) asks.is own kept in
         record {
           ops = asks.ops;
           request = asks.is;
-          home = at.to;
+          home_is = at.to;
           settled = λ key. subst (λ ops. IsSettledFor start (logs_of start es) tx ops key) has.ops_are ((verified_settled start es before tx has.transaction come.before in_transit kept has.live has.phase).settled key);
         }

@@ -1,5 +1,5 @@
 -- What a step of a host does to one transaction of its coordinator, and what it sends of it.
-use Rattle.std.proofs.Common.{◌≡◌, ◌⊎◌, ℕ, ◌≤◌, List, Bool, true, false, refl, ap, sym, ◌∙◌, subst, arith}
+use Rattle.std.proofs.Common.{◌≡◌, ℕ, ◌≤◌, List, Bool, true, false, refl, ap, sym, ◌∙◌, subst, arith}
 use Rattle.std.proofs.lemmas.Bool.{false≢true}
 use Rattle.std.specs.Prelude.{◌==◌, ◌&&◌, nat_le, None, Some}
 use Rattle.sig_core.specs.declared.member.Member.{Member}
@@ -18,7 +18,7 @@ use Rattle.sig_core.specs.Step.{Effects, Step}
 use Rattle.node_core.proofs.HostCases.{BlockCase, IsRowsStep, IsTcStep, api_takes, block_case, dih_takes, none_takes, rows_take, runs, tc_takes}
 use Rattle.node_core.specs.declared.host.Host.{Host}
 use Rattle.node_core.specs.declared.host.Host.TheVariants.{Shell, Main, Tc, Ldm}
-use Rattle.node_core.specs.Blocks.{api_of, dih_of, has_lqh, has_tc, tc_of}
+use Rattle.node_core.specs.Blocks.{api_of, dih_of, has_lqh, tc_of}
 use Rattle.node_core.specs.Row.{row}
 use Rattle.tc_block.specs.declared.transaction.Transaction.{Transaction}
 use Rattle.tc_block.specs.State.{TcState}

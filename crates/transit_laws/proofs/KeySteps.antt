@@ -1,5 +1,5 @@
 -- A transaction that goes on, of one key, where its key takes a step at a replica.
-use Rattle.std.proofs.Common.{◌≡◌, ◌⊎◌, ◌≢◌, ◌≤◌, ◌<◌, ℕ, Bool, true, false, cond, filter, length, List, [], ◌∷◌, refl, sym, ap, ◌∙◌, subst, inl, inr}
+use Rattle.std.proofs.Common.{◌≡◌, ◌⊎◌, ◌≢◌, ◌≤◌, ℕ, Bool, true, false, cond, filter, List, [], ◌∷◌, refl, sym, ap, ◌∙◌, subst, inl, inr}
 use Rattle.std.proofs.lemmas.Bool.{cases_eq}
 use Rattle.std.specs.Prelude.{if◌then◌else◌, Option, None, Some}
 use Rattle.run_theory.specs.Lists.{Each}
@@ -25,7 +25,7 @@ use Rattle.world_core.specs.Start.{Start}
 use Rattle.sig_core.specs.Firsts.{first}
 use Rattle.commit_laws.specs.PrimaryEvents.{ended_after, made_after, made_by, made_if, made_served}
 use Rattle.commit_laws.specs.Records.{found}
-use Rattle.commit_laws.specs.Replica.{Cell, Event, Replica, ages, asked_by, asks, expires, is_by, is_let_in, key_after, rests, served_by, serves, worked}
+use Rattle.commit_laws.specs.Replica.{Event, Replica, ages, asked_by, asks, expires, is_by, is_let_in, key_after, rests, served_by, serves, worked}
 use Rattle.commit_laws.specs.Replica as replica
 use Rattle.sig_core.proofs.Keys.{same_tx-self}
 use Rattle.transit_laws.specs.Circle.{at_primary}

@@ -20,7 +20,7 @@ use Rattle.tc_block.specs.State.{TcState}
 use Rattle.tc_block.proofs.LiveKeeps.{AllAre, is_chain}
 use Rattle.node_core.proofs.HostCases.{IsRowsStep, IsTcStep, each_send, rows_step, tc_stays, tc_step}
 use Rattle.node_core.specs.declared.host.Host.{Host}
-use Rattle.node_core.specs.Blocks.{api_of, dih_of, has_lqh, has_tc, lqh_of, tc_of}
+use Rattle.node_core.specs.Blocks.{api_of, dih_of, has_lqh, lqh_of, tc_of}
 use Rattle.node_core.specs.Dih.{DihState, dih_table}
 use Rattle.node_core.specs.Fresh.{fresh_part, fresh_shell}
 use Rattle.node_core.specs.Requests.{is_request}

@@ -1,10 +1,7 @@
 -- The rows of a host are those of its node.
 use Rattle.std.proofs.Common.{◌≡◌, ◌<◌, ◌≤◌, ℕ, true, List, sym, ap, ◌∙◌, subst}
 use Rattle.sig_core.specs.declared.place.BlockId.TheVariants.{Lqh}
-use Rattle.sig_core.specs.declared.place.Part.TheVariants as part
 use Rattle.sig_core.specs.Place.{rows_of}
-use Rattle.frag_map.specs.Layout.{first_layout}
-use Rattle.frag_map.specs.Replicas.{first_start}
 use Rattle.node_core.specs.Blocks.{has_lqh, lqh_of}
 use Rattle.node_core.specs.Fresh.{fresh_part}
 use Rattle.world_core.proofs.HostNumbers.{rows_found, rows_started}

@@ -1,5 +1,5 @@
 -- What the coordinator of a host says at a signal: what its row says where it takes the signal, and else nothing.
-use Rattle.std.proofs.Common.{◌≡◌, Bool, true, false, [], refl, ap, sym, ◌∙◌}
+use Rattle.std.proofs.Common.{◌≡◌, true, false, [], refl, ap, sym, ◌∙◌}
 use Rattle.sig_core.specs.declared.place.BlockId.{BlockId}
 use Rattle.sig_core.specs.declared.place.BlockId.TheVariants as block
 use Rattle.sig_core.specs.declared.signal.Signal.{Signal}

@@ -63,7 +63,7 @@ pub record Marked (test : Mark → Bool) (log : List HostStep) : Type 0 where
   pub step : HostStep
   pub older : List HostStep
   pub past : IsPast (step ∷ older) log
-  pub marked : list_any test step.marks ≡ true
+  pub marked : list_any test step.step.marks ≡ true
 
 pub marked_step : (test : Mark → Bool) (log : List HostStep) → has_mark test log ≡ true → Marked test log
 marked_step test [] has = absurd cc

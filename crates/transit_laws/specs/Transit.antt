@@ -1,6 +1,6 @@
 -- What is in transit after some events: signals that were sent and weren't taken.
 use Rattle.frag_map.specs.Shape.{IsShape}
-use Rattle.std.specs.Prelude.{◌≡◌, ◌<◌, ℕ, true, false, List, [], ◌∷◌, ◌++◌}
+use Rattle.std.specs.Prelude.{◌≡◌, ℕ, true, false, List, [], ◌∷◌, ◌++◌}
 use Rattle.run_theory.specs.Runs.{Happens, IsWithin, Run, log_of}
 use Rattle.world_core.specs.Steps.{Addressed, HostStep}
 use Rattle.node_core.specs.declared.host.Host.{Host}

@@ -2,26 +2,25 @@
 use Rattle.std.proofs.Common.{◌≡◌, ℕ, List, [], ◌∷◌, ◌++◌, refl, ap, sym, ◌∙◌}
 use Rattle.std.specs.Prelude.{slice_index_or}
 use Rattle.run_theory.specs.Lists.{IsPast}
-use Rattle.sig_core.specs.declared.log.LogStep.{LogStep}
 use Rattle.sig_core.specs.declared.reply.ApiReply.{ApiReply}
 use Rattle.sig_core.specs.declared.request.ApiReq.{ApiReq}
-use Rattle.sig_core.specs.declared.signal.Signal.{Signal}
 use Rattle.world_core.specs.Driven.{HasAsked}
 use Rattle.world_core.specs.Machine.{request_signal}
 use Rattle.world_core.specs.Requests.{AreAskedAtQuiet, QuietBefore, requests}
 use Rattle.world_core.specs.Right.{IsRight}
 use Rattle.world_core.specs.Start.{Start}
+use Rattle.world_core.specs.Steps.{Addressed, HostStep}
 use Rattle.world_core.specs.World.{IsQuiet, Whole, asked, logs_at}
-use Rattle.world_core.proofs.MoveRight.{logs_are, move_right, step_of}
+use Rattle.world_core.proofs.MoveRight.{host_step, logs_are, move_right}
 use Rattle.world_core.proofs.QuietLemmas.{quiet_logs}
 use Rattle.world_core.proofs.StepDriven.{log_grows, quiet_before, right_logs, within}
 use Rattle.world_core.proofs.TakeRight.{ask_ready}
 
 module _ (start : Start) (given : List ApiReply) (w : Whole) (right : IsRight start given w) (request : ApiReq) where
-  abbrev signal : Signal
-  signal = request_signal w.view (slice_index_or w.stamps 0 0) request
+  abbrev signal : Addressed
+  signal = record { to = 0; signal = request_signal w.who (slice_index_or w.stamps 0 0) request }
 
-  log_is : logs_at (asked w request).logs 0 ≡ step_of w signal ∷ logs_at w.logs 0
+  log_is : logs_at (asked w request).logs 0 ≡ host_step w signal ∷ logs_at w.logs 0
   log_is = logs_are start given w signal (ask_ready start given w right request) 0
 
   at_quiet : IsQuiet w → AreAskedAtQuiet start (logs_at w.logs) → AreAskedAtQuiet start (logs_at (asked w request).logs)
@@ -30,7 +29,7 @@ module _ (start : Start) (given : List ApiReply) (w : Whole) (right : IsRight st
       grows : (h : ℕ) → IsPast (logs_at w.logs h) (logs_at (asked w request).logs h)
       grows = log_grows start given w signal (ask_ready start given w right request)
 
-      go : (newer : List LogStep) → step_of w signal ∷ logs_at w.logs 0 ≡ newer ++ e ∷ before → QuietBefore start (logs_at (asked w request).logs) before
+      go : (newer : List HostStep) → host_step w signal ∷ logs_at w.logs 0 ≡ newer ++ e ∷ before → QuietBefore start (logs_at (asked w request).logs) before
       go [] is =
           let same : logs_at w.logs 0 ≡ before = cc in
           record { inside = logs_at w.logs; cut = grows; at = same; right = right_logs start given w right; quiet = quiet_logs start given w right quiet }
@@ -42,7 +41,7 @@ module _ (start : Start) (given : List ApiReply) (w : Whole) (right : IsRight st
   has_asked =
       let ready = ask_ready start given w right request in
       record {
-        asking = step_of w signal;
+        asking = host_step w signal;
         next = log_is;
         asks = refl;
         right = λ others was. move_right start others w signal (ask_ready start others w was request);

@@ -1,29 +1,31 @@
 -- A fresh world is right: nothing was sent, taken or asked.
 use Rattle.std.proofs.Common.{◌≡◌, ◌⊎◌, inl, inr, ℕ, zero, suc, ◌+◌, ◌-◌, ◌<◌, ◌≤◌, List, [], ◌∷◌, ◌++◌, length, refl, ap, sym, ◌∙◌, subst, arith, replicate, reverse}
-use Rattle.std.specs.Prelude.{slice_index_or}
+use Rattle.std.specs.Prelude.{map, slice_index_or}
 use Rattle.std.proofs.lemmas.Bool.{cases_lt}
 use Rattle.std.proofs.lemmas.List.{get_or-append_right, get_or-replicate, get_or_append_left, get_or_past, length-append, length-replicate}
+use Rattle.frag_map.specs.Layout.{nowhere}
 use Rattle.node_core.proofs.HostLemmas.{given_none}
 use Rattle.node_core.specs.Fresh.{fresh_shell}
 use Rattle.run_theory.specs.Links.{sent, taken}
 use Rattle.run_theory.specs.Logs.{IsLog}
 use Rattle.sig_core.specs.declared.log.HostLog.{HostLog}
-use Rattle.sig_core.specs.declared.log.LogStep.{LogStep}
 use Rattle.world_core.specs.Driven.{IsSound}
+use Rattle.world_core.specs.Hosts.{hosts, started}
 use Rattle.world_core.specs.Inbox.{LinkState, link_from, new_link}
-use Rattle.world_core.specs.Machine.{after, hosts, last_stamp, machine, sent_count}
+use Rattle.world_core.specs.Machine.{after, last_stamp, machine, sent_count}
 use Rattle.world_core.specs.Network.{AreLinks, inbox_of, link}
 use Rattle.world_core.specs.Requests.{AreAskedAtQuiet}
-use Rattle.world_core.specs.Right.{IsRight}
-use Rattle.world_core.specs.Start.{Start, first_view, started}
-use Rattle.world_core.specs.World.{IsQuiet, body_at, for_each, logs_at, new_world, no_steps}
+use Rattle.world_core.specs.Right.{IsLabelled, IsRight, arriving}
+use Rattle.world_core.specs.Start.{Start}
+use Rattle.world_core.specs.Steps.{HostStep}
+use Rattle.world_core.specs.World.{IsQuiet, body_at, for_each, logs_at, new_world, no_steps, of_host}
 
 -- what is there for each host
-each_length : {A : Type 0} (n : ℕ) (thing : ℕ → A) → length (for_each n thing) ≡ n
+pub each_length : {A : Type 0} (n : ℕ) (thing : ℕ → A) → length (for_each n thing) ≡ n
 each_length zero thing = refl
 each_length (suc n) thing = length-append (for_each n thing) (thing n ∷ []) ∙ (let before = each_length n thing in omega (arith, before))
 
-each_at : {A : Type 0} (n : ℕ) (thing : ℕ → A) (h : ℕ) (d : A) → h < n → slice_index_or (for_each n thing) h d ≡ thing h
+pub each_at : {A : Type 0} (n : ℕ) (thing : ℕ → A) (h : ℕ) (d : A) → h < n → slice_index_or (for_each n thing) h d ≡ thing h
 each_at zero thing h d low = absurd (omega (arith, low))
 each_at {A = A} (suc n) thing h d low = go (each_at n thing h d) (cases_lt h n)
   where
@@ -50,8 +52,8 @@ module _ (start : Start) where
   no_log h = go (cases_lt h (hosts start))
     where
       go : (h < hosts start) ⊎ (hosts start ≤ h) → logs_at (new_world start).logs h ≡ []
-      go (inl low) = ap (λ (log : HostLog). reverse log.steps) (each_at (hosts start) no_steps h (no_steps 0) low)
-      go (inr past) = ap (λ (log : HostLog). reverse log.steps) (get_or_past (for_each (hosts start) no_steps) h (no_steps 0) (omega (arith, past, each_length (hosts start) no_steps)))
+      go (inl low) = ap (λ (log : HostLog). map (of_host h) (reverse log.steps)) (each_at (hosts start) no_steps h (no_steps 0) low)
+      go (inr past) = ap (λ (log : HostLog). map (of_host h) (reverse log.steps)) (get_or_past (for_each (hosts start) no_steps) h (no_steps 0) (omega (arith, past, each_length (hosts start) no_steps)))
 
   no_inbox : (j : ℕ) → j < hosts start → inbox_of (new_world start).links j ≡ replicate (hosts start) new_link
   no_inbox j low = get_or-replicate (hosts start) j (replicate (hosts start) new_link) [] low
@@ -69,7 +71,7 @@ module _ (start : Start) where
   pub fresh_right : IsRight start [] (new_world start)
   fresh_right =
       record {
-        view = refl;
+        who = refl;
         sizes = record {
           bodies = each_length (hosts start) (started start);
           links = links_there;
@@ -78,14 +80,15 @@ module _ (start : Start) where
         };
         local = λ h low. subst (IsLog (machine start) h) (sym (no_log h)) tt;
         stamps = λ h low. get_or-replicate (hosts start) h 0 0 low ∙ ap last_stamp (sym (no_log h));
+        labels = λ h low. subst (IsLabelled h) (sym (each_at (hosts start) no_steps h (no_steps 0) low)) (record { host = refl; made = refl });
         linked = λ i j i_low low.
             ap (sent (machine start) i j) (no_log i)
-            ∙ sym (ap (λ (l : LinkState). reverse l.signals ++ taken (machine start) i (logs_at (new_world start).logs j)) (no_signal i j i_low low) ∙ ap (taken (machine start) i) (no_log j));
+            ∙ sym (ap (λ (l : LinkState). map (arriving j) (reverse l.signals) ++ taken (machine start) i (logs_at (new_world start).logs j)) (no_signal i j i_low low) ∙ ap (taken (machine start) i) (no_log j));
         counts = λ i j i_low low. ap (λ (l : LinkState). l.sent) (no_signal i j i_low low) ∙ ap (λ log. sent_count start i log j) (sym (no_log i));
         no_others = λ i j high. ap (taken (machine start) i) (no_log j);
         blocks = λ h low.
             ap (after start h) (no_log h)
-            ∙ sym (given_none (body_at (new_world start).bodies h) ∙ each_at (hosts start) (started start) h (fresh_shell (first_view 0)) low);
+            ∙ sym (given_none (body_at (new_world start).bodies h) ∙ each_at (hosts start) (started start) h (fresh_shell nowhere.view) low);
       }
 
   pub fresh_sound : IsSound start (new_world start)
@@ -95,7 +98,7 @@ module _ (start : Start) where
   pub fresh_asked : AreAskedAtQuiet start (logs_at (new_world start).logs)
   fresh_asked newer e before is asked = absurd (none newer (sym (no_log 0) ∙ is))
     where
-      none : (newer : List LogStep) → [] ≡ newer ++ e ∷ before → ⊥
+      none : (newer : List HostStep) → [] ≡ newer ++ e ∷ before → ⊥
       none [] is = cc
       none (n ∷ newer) is = cc
 

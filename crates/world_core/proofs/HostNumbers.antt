@@ -192,7 +192,7 @@ module _ (start : Start) where
   rows_host_apart a b some low b_some b_low same = same_node (record { node = a; block = block.Lqh }) (record { node = b; block = block.Lqh }) some low b_some b_low same
 
   -- hosts as they begin
-  started_behind : (k : ℕ) → started start (suc k)
+  pub started_behind : (k : ℕ) → started start (suc k)
       ≡ fresh_part (part_by (k % 3)) (slice_index_or (made start) (k / 3) nobody) (first_layout start.shape) start.epoch start.rows
   unfolding started
   started_behind k = refl

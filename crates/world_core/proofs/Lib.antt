@@ -3,6 +3,7 @@ pub mod FreshWorld
 pub mod HostNumbers
 pub mod LinkIndex
 pub mod LogIndex
+pub mod MemberLemmas
 pub mod MoveRight
 pub mod QuietLemmas
 pub mod Replies

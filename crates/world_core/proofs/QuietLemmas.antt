@@ -1,7 +1,7 @@
 -- Where nothing can be taken, no link has a signal, and every host has taken all that it was sent.
 use Rattle.std.proofs.Common.{◌≡◌, ◌⊎◌, inl, inr, ℕ, zero, suc, ◌+◌, ◌<◌, ◌≤◌, List, [], ◌∷◌, length, reverse, Bool, true, false, refl, ap, sym, ◌∙◌, arith}
 use Rattle.std.specs.List.{prefix_len}
-use Rattle.std.specs.Prelude.{if◌then◌else◌, ◌++◌, is_some, nat_lt, not, position, slice_index_or, Option, None, Some}
+use Rattle.std.specs.Prelude.{if◌then◌else◌, ◌++◌, is_some, map, nat_lt, not, position, slice_index_or, Option, None, Some}
 use Rattle.std.proofs.lemmas.Bool.{true≢false, cases_lt}
 use Rattle.std.proofs.lemmas.Bool.Decides.{nat_tests}
 use Rattle.std.proofs.lemmas.List.{get_or_past}
@@ -9,12 +9,13 @@ use Rattle.std.proofs.lemmas.List.Quantifiers.{position-Some}
 use Rattle.run_theory.specs.Links.{taken}
 use Rattle.sig_core.specs.declared.reply.ApiReply.{ApiReply}
 use Rattle.sig_core.specs.declared.signal.Signal.{Signal}
+use Rattle.world_core.specs.Hosts.{hosts}
 use Rattle.world_core.specs.Inbox.{LinkState, Taken, has_signal, is_busy, link_from, new_link}
 use Rattle.world_core.specs.Inbox as inbox
-use Rattle.world_core.specs.Machine.{hosts, machine}
+use Rattle.world_core.specs.Machine.{machine}
 use Rattle.world_core.specs.Network.{AreIdle, Links, inbox_of, take_first, taken_at, taken_from}
 use Rattle.world_core.specs.Quiet.{IsQuiet}
-use Rattle.world_core.specs.Right.{IsRight}
+use Rattle.world_core.specs.Right.{IsRight, arriving}
 use Rattle.world_core.specs.Start.{Start}
 use Rattle.world_core.specs.World.{Whole, logs_at}
 use Rattle.world_core.specs.World as world
@@ -103,4 +104,4 @@ none_taken links e i j = go (cases_lt j (length links))
 -- then each host has taken all that was sent to it
 pub quiet_logs : (start : Start) (given : List ApiReply) (w : Whole) → IsRight start given w → world.IsQuiet w → IsQuiet (machine start) (hosts start) (logs_at w.logs)
 quiet_logs start given w right quiet i j i_low low =
-    sym (right.linked i j i_low low ∙ ap (λ xs. reverse xs ++ taken (machine start) i (logs_at w.logs j)) (quiet i j))
+    sym (right.linked i j i_low low ∙ ap (λ xs. map (arriving j) (reverse xs) ++ taken (machine start) i (logs_at w.logs j)) (quiet i j))

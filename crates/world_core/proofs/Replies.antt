@@ -1,29 +1,35 @@
 -- The replies in a log of host 0, and those that a world has to give.
-use Rattle.std.proofs.Common.{◌≡◌, ℕ, zero, suc, ◌+◌, ◌<◌, List, [], ◌∷◌, ◌++◌, length, Bool, true, false, refl, ap, sym, ◌∙◌, subst, arith}
+use Rattle.std.proofs.Common.{◌≡◌, ℕ, zero, suc, ◌/◌, ◌%◌, ◌<◌, List, [], ◌∷◌, ◌++◌, length, Bool, true, false, refl, ap, sym, ◌∙◌, subst, arith}
+use Rattle.std.specs.Prelude.{slice_index_or}
 use Rattle.std.proofs.lemmas.List.{append-nil, append_assoc}
-use Rattle.node_core.proofs.HostLemmas.{IsFront, given_more, given_node, given_open, given_replies, given_shell, node_is, replies_itself, replies_over, replies_with, row_shell, shell_is, with_shell}
+use Rattle.node_core.proofs.HostLemmas.{IsFront, given_more, given_part, given_open, given_replies, given_shell, part_is, replies_itself, replies_over, replies_with, row_shell, shell_is, with_shell}
 use Rattle.node_core.proofs.HostLemmas as host
 use Rattle.node_core.specs.declared.host.Host.{Host}
 use Rattle.node_core.specs.Replies.{in_given, is_shell}
 use Rattle.node_core.specs.Replies as reply
 use Rattle.run_theory.specs.Lists.{IsPast}
-use Rattle.sig_core.specs.declared.log.LogStep.{LogStep}
 use Rattle.sig_core.specs.declared.reply.ApiReply.{ApiReply}
+use Rattle.sig_core.specs.Members.{nobody}
+use Rattle.frag_map.specs.Layout.{first_layout, first_view}
 use Rattle.world_core.specs.Driven.{IsSound}
-use Rattle.world_core.specs.Machine.{after, hosts}
+use Rattle.world_core.specs.Hosts.{hosts, part_by}
+use Rattle.world_core.specs.Machine.{after}
 use Rattle.world_core.specs.Right.{IsRight}
-use Rattle.world_core.specs.Start.{Start, first_view}
+use Rattle.world_core.specs.Start.{Start, made}
+use Rattle.world_core.specs.Steps.{HostStep}
 use Rattle.world_core.specs.World.{Whole, body_at, is_left_open, is_open_in, logs_at, replies_in, replies_of, with_replies, with_replies_in}
+use Rattle.world_core.proofs.HostNumbers.{shell_started, started_behind}
 
 -- the first host is the shell's, and no other one is
 abbrev is_first : ℕ → Bool
 is_first zero = true
 is_first (suc h) = false
 
-after_first : (start : Start) (h : ℕ) (log : List LogStep) → is_shell (after start h log) ≡ is_first h
-after_first start zero [] = shell_is (first_view start.nodes)
-after_first start (suc h) [] = node_is (h + 1) (first_view start.nodes) start.epoch start.rows
-after_first start h (e ∷ log) = row_shell (after start h log) e.taken.to e.taken.body ∙ after_first start h log
+after_first : (start : Start) (h : ℕ) (log : List HostStep) → is_shell (after start h log) ≡ is_first h
+after_first start zero [] = ap is_shell (shell_started start) ∙ shell_is (first_view start.shape.nodes)
+after_first start (suc h) [] =
+    ap is_shell (started_behind start h) ∙ part_is (part_by (h % 3)) (slice_index_or (made start) (h / 3) nobody) (first_layout start.shape) start.epoch start.rows
+after_first start h (e ∷ log) = row_shell (after start h log) e.step.taken ∙ after_first start h log
 
 body_first : (start : Start) (given : List ApiReply) (w : Whole) → IsRight start given w → (h : ℕ) → h < hosts start → is_shell (body_at w.bodies h) ≡ is_first h
 body_first start given w right h low =
@@ -39,14 +45,14 @@ front_further : (xs ys zs : List ApiReply) → IsFront xs ys → IsFront ys zs �
 front_further xs ys zs a b =
     record { more = a.more ++ b.more; is = b.is ∙ ap (λ us. us ++ b.more) a.is ∙ append_assoc xs a.more b.more }
 
-newer_add : (start : Start) (newer log : List LogStep) → IsFront (reply.replies_of (after start 0 log)) (reply.replies_of (after start 0 (newer ++ log)))
+newer_add : (start : Start) (newer log : List HostStep) → IsFront (reply.replies_of (after start 0 log)) (reply.replies_of (after start 0 (newer ++ log)))
 newer_add start [] log = front_itself (reply.replies_of (after start 0 log))
 newer_add start (e ∷ newer) log =
     front_further (reply.replies_of (after start 0 log)) (reply.replies_of (after start 0 (newer ++ log))) (reply.replies_of (after start 0 (e ∷ (newer ++ log))))
-    (newer_add start newer log) (host.replies_grow (after start 0 (newer ++ log)) e.taken.to e.taken.body)
+    (newer_add start newer log) (host.replies_grow (after start 0 (newer ++ log)) e.step.taken)
 
 -- replies stand in longer logs as they did
-pub replies_grow : (start : Start) (log all : List LogStep) → IsPast log all → IsFront (reply.replies_of (after start 0 log)) (reply.replies_of (after start 0 all))
+pub replies_grow : (start : Start) (log all : List HostStep) → IsPast log all → IsFront (reply.replies_of (after start 0 log)) (reply.replies_of (after start 0 all))
 replies_grow start log all past =
     subst (λ l. IsFront (reply.replies_of (after start 0 log)) (reply.replies_of (after start 0 l))) (sym past.is) (newer_add start past.newer log)
 
@@ -69,13 +75,13 @@ told_at : (given : List ApiReply) (bodies : List Host) (h : ℕ) → h < length 
 told_at given [] h low first = absurd (omega (arith, low))
 told_at given (shell ∷ nodes) zero low first = sym (given_more given shell first)
 told_at given (shell ∷ nodes) (suc h) low first =
-    given_node given (body_at nodes h) first ∙ sym (given_node (given ++ reply.replies_of shell) (body_at nodes h) first)
+    given_part given (body_at nodes h) first ∙ sym (given_part (given ++ reply.replies_of shell) (body_at nodes h) first)
 
 -- the shell has had what the world had to give
 pub told_right : (start : Start) (given : List ApiReply) (w : Whole) → IsRight start given w → IsRight start (given ++ replies_of w) (with_replies w [])
 told_right start given w right =
     record {
-      view = right.view;
+      who = right.who;
       sizes = record {
         bodies = with_length w.bodies [] ∙ right.sizes.bodies;
         links = right.sizes.links;
@@ -84,6 +90,7 @@ told_right start given w right =
       };
       local = right.local;
       stamps = right.stamps;
+      labels = right.labels;
       linked = right.linked;
       counts = right.counts;
       no_others = right.no_others;

@@ -3,21 +3,20 @@ use Rattle.std.proofs.Common.{◌≡◌, ℕ, ◌<◌, List, Bool, true, false, 
 use Rattle.std.specs.Prelude.{None, Some, OnOk, Result, Ok, Err, slice_index_or}
 use Rattle.std.proofs.lemmas.Bool.{true≢false}
 use Rattle.run_theory.proofs.Pasts.{past_self, past_trans}
-use Rattle.sig_core.specs.declared.log.LogStep.{LogStep}
 use Rattle.sig_core.specs.declared.no_memory.NoMemory.{NoMemory}
 use Rattle.sig_core.specs.declared.request.ApiReq.{ApiReq}
-use Rattle.sig_core.specs.declared.signal.Signal.{Signal}
 use Rattle.world_core.specs.Driven.{HasAsked, HaveGrown, IsDriven, IsSound, IsStepped, IsWorld}
-use Rattle.world_core.specs.Inbox.{taken}
-use Rattle.world_core.specs.Machine.{hosts, request_signal}
-use Rattle.world_core.specs.Network.{Links, take_first}
-use Rattle.world_core.specs.Start.{Start, fresh}
+use Rattle.world_core.specs.Hosts.{hosts}
+use Rattle.world_core.specs.Machine.{request_signal}
+use Rattle.world_core.specs.Network.{Arrival, Links, take_first}
+use Rattle.world_core.specs.Start.{Start}
+use Rattle.world_core.specs.Steps.{Addressed, HostStep}
 use Rattle.world_core.specs.World.{CanTake, IsOf, IsQuiet, Whole, asked, logs_at, moved, new_world}
 use Rattle.world_core.proofs.AskDriven as ask
 use Rattle.world_core.proofs.FreshWorld.{fresh_sound}
 use Rattle.world_core.proofs.QuietLemmas.{none_taken}
 use Rattle.world_core.proofs.StepDriven.{right_logs, step_driven, within}
-use Rattle.world_core.proofs.TakeRight.{left_of, taken_between, taken_first}
+use Rattle.world_core.proofs.TakeRight.{IsTakenFrom, left_of, taken_between, taken_first}
 
 -- a host below the number of hosts is there
 there_in : (n : ℕ) (w : Whole) (h : ℕ) → IsOf n w → h < n → CanTake w h
@@ -29,26 +28,29 @@ pub first_there : (w : Whole) → IsWorld w → CanTake w 0
 first_there w is = there_in (hosts is.start) w 0 is.sound.right.sizes (omega arith)
 
 -- so is the one that a link's signal is for
-pub can_take : (w : Whole) (x : Signal) (left : Links) → IsWorld w → take_first w.links ≡ Some (taken x left) → CanTake (left_of w left) x.to.node
-can_take w x left is e =
-    let n = hosts is.start in
-    let from = taken_first n w.links (taken x left) is.sound.right.sizes.links e in
-    let fact = taken_between is.start is.sound.given w is.sound.right (taken x left) from in
-    let there = there_in n w x.to.node is.sound.right.sizes (omega (arith, fact.to, from.to_low)) in
+there_for : (w : Whole) (t : Arrival) (start : Start) → IsSound start w → IsTakenFrom (hosts start) w.links t → CanTake (left_of w t.left) t.taken.to
+there_for w t start sound from =
+    let fact = taken_between start sound.given w sound.right t from in
+    let there = there_in (hosts start) w t.taken.to sound.right.sizes (omega (arith, fact.to, from.to_low)) in
     record { bodies = there.bodies; stamps = there.stamps; logs = there.logs }
+
+first_from : (w : Whole) (t : Arrival) (start : Start) → IsSound start w → take_first w.links ≡ Some t → IsTakenFrom (hosts start) w.links t
+first_from w t start sound e = taken_first (hosts start) w.links t sound.right.sizes.links e
+
+pub can_take : (w : Whole) (t : Arrival) → IsWorld w → take_first w.links ≡ Some t → CanTake (left_of w t.left) t.taken.to
+can_take w t is e = there_for w t is.start is.sound (first_from w t is.start is.sound e)
 
 has_asked : (start : Start) (w t : Whole) (request : ApiReq) → IsSound start w → t ≡ asked w request → HasAsked start request w t
 has_asked start w t request sound same = subst (HasAsked start request w) (sym same) (ask.has_asked start sound.given w sound.right request)
 
 -- where the call succeeded
-pub asked_ok : (result : Result (Unit {0}) NoMemory) (w t : Whole) (x : Signal) (request : ApiReq) → x ≡ request_signal w.view (slice_index_or w.stamps 0 0) request
+pub asked_ok : (result : Result (Unit {0}) NoMemory) (w t : Whole) (x : Addressed) (request : ApiReq) → x ≡ record { to = 0; signal = request_signal w.who (slice_index_or w.stamps 0 0) request }
     → OnOk result (t ≡ moved w x) → (start : Start) → IsSound start w → OnOk result (HasAsked start request w t)
 asked_ok (Ok done) w t x request is same start sound = has_asked start w t request sound (same ∙ ap (moved w) is)
 asked_ok (Err fault) w t x request is same start sound = tt
 
-pub has_stepped : (w t : Whole) (x : Signal) (left : Links) → take_first w.links ≡ Some (taken x left) → t ≡ moved (left_of w left) x → (start : Start) → IsSound start w
-    → IsStepped start w t true
-has_stepped w t x left e same start sound = subst (IsDriven start w) (sym same) (step_driven start sound.given w sound.right (taken x left) e)
+pub has_stepped : (w u : Whole) (t : Arrival) → take_first w.links ≡ Some t → u ≡ moved (left_of w t.left) t.taken → (start : Start) → IsSound start w → IsStepped start w u true
+has_stepped w u t e same start sound = subst (IsDriven start w) (sym same) (step_driven start sound.given w sound.right t (first_from w t start sound e))
 
 pub has_stayed : (w t : Whole) → take_first w.links ≡ None → t ≡ w → (start : Start) → IsSound start w → IsStepped start w t false
 has_stayed w t e same start sound = (same, none_taken w.links e)
@@ -58,7 +60,7 @@ grown_itself : (start : Start) (w : Whole) → IsSound start w → HaveGrown sta
 grown_itself start w sound =
     record { more = λ h. past_self (logs_at w.logs h); right = right_logs start sound.given w sound.right; within = within start sound.given w sound.right; requests = refl; asked = λ was. was }
 
-pub grown_further : (start : Start) (a b c : ℕ → List LogStep) → HaveGrown start a b → HaveGrown start b c → HaveGrown start a c
+pub grown_further : (start : Start) (a b c : ℕ → List HostStep) → HaveGrown start a b → HaveGrown start b c → HaveGrown start a c
 grown_further start a b c first second =
     record {
       more = λ h. past_trans (first.more h) (second.more h);
@@ -113,9 +115,9 @@ is_quiet w a b false is way stepped =
     let stayed = stepped way.is.start way.is.sound in
     subst IsQuiet (sym stayed.0) stayed.1
 
--- a fresh world
-pub fresh_world : (w : Whole) (nodes : ℕ) → w ≡ new_world (fresh nodes) → IsWorld w
-fresh_world w nodes same = record { start = fresh nodes; sound = subst (IsSound (fresh nodes)) (sym same) (fresh_sound (fresh nodes)) }
+-- a world as it begins
+pub begun_world : (w : Whole) (start : Start) → w ≡ new_world start → IsWorld w
+begun_world w start same = record { start = start; sound = subst (IsSound start) (sym same) (fresh_sound start) }
 
 -- a world that was asked for something
 pub asked_sound : (start : Start) (request : ApiReq) (w t : Whole) → HasAsked start request w t → IsSound start w → IsSound start t

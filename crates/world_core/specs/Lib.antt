@@ -12,6 +12,7 @@ pub mod Quiet
 pub mod Requests
 pub mod Rest
 pub mod Right
+pub mod Schedule
 pub mod SerialLaw
 pub mod Start
 pub mod Steps

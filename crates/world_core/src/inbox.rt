@@ -3,7 +3,8 @@ ghost use Rattle.std.specs.Prelude.{◌≡◌, ◌∷◌, [], None, Some, MatchO
 ghost use Rattle.world_core.specs.Inbox.{behind, is_busy, is_taken, new_link, taken, taken_at};
 ghost use Rattle.world_core.specs.Machine.{headed};
 
-use sig_core::{HostId, Member, NoMemory, Outgoing, Signal, View};
+use crate::hosts::Membership;
+use sig_core::{HostId, NoMemory, Outgoing, Signal};
 use std::alloc::Global;
 use std::collections::VecDeque;
 use std::marker::Model;
@@ -40,22 +41,24 @@ impl Link {
         !self.signals.is_empty()
     }
 
-    /// Puts a signal that host `from`, which has this view, sends in the step of this stamp behind
-    /// the others.
-    fn put(&mut self, view: &View, from: u8, stamp: u64, sent: Outgoing) -> Result<(), NoMemory>
-        ensures { OnOk result (self.new ≡ behind self.old (headed view.now from stamp self.old.sent sent)) }
+    /// Puts a signal that host `from` sends in the step of this stamp behind the others.
+    fn put(
+        &mut self,
+        who: &Membership,
+        from: u32,
+        stamp: u64,
+        sent: Outgoing,
+    ) -> Result<(), NoMemory>
+        ensures { OnOk result (self.new ≡ behind self.old (headed who.now from stamp self.old.sent sent)) }
     {
         let Outgoing { to, body } = sent;
         self.signals.push_back(Signal {
-            from: HostId(u32::from(from)),
-            member: Member {
-                node: from,
-                start: 0,
-            },
+            from: HostId(from),
+            member: who.member_at(from),
             to,
             seq: self.sent,
             stamp,
-            view: *view,
+            view: *who.view(),
             body,
         })?;
         self.sent = self.sent.saturating_add(1);
@@ -109,17 +112,23 @@ impl Inbox {
         first_busy(&self.links).is_some()
     }
 
-    /// Puts a signal that host `from`, which has this view, sends in the step of this stamp on its
-    /// link, behind the others.
+    /// Puts a signal that host `from` sends in the step of this stamp on its link, behind the
+    /// others.
     ///
     /// # Errors
     /// `NoMemory`, and then the inbox is of no use.
-    pub fn put(&mut self, view: &View, from: u8, stamp: u64, sent: Outgoing) -> Result<(), NoMemory>
-        ensures { OnOk result (self.new ≡ with_sent self.old view.now from stamp sent) }
+    pub fn put(
+        &mut self,
+        who: &Membership,
+        from: u32,
+        stamp: u64,
+        sent: Outgoing,
+    ) -> Result<(), NoMemory>
+        ensures { OnOk result (self.new ≡ with_sent self.old who.now from stamp sent) }
     {
-        let at = usize::from(from);
+        let at = from as usize;
         if at < self.links.len() {
-            self.links[at].put(view, from, stamp, sent)?;
+            self.links[at].put(who, from, stamp, sent)?;
         }
         Ok(())
     }
@@ -131,6 +140,19 @@ impl Inbox {
         ensures signal { IfSome result (λ signal. take_first self.old ≡ Some (taken signal self.new)) }
     {
         let at = first_busy(&self.links)?;
+        take_at(&mut self.links, at)
+    }
+
+    /// Takes the first signal of the link from a host.
+    pub fn take_from(&mut self, from: u32) -> Option<Signal>
+        ensures none { IfNone result (taken_at self.old (Some from) ≡ None) }
+        ensures kept { IfNone result (self.new ≡ self.old) }
+        ensures signal { IfSome result (λ signal. taken_at self.old (Some from) ≡ Some (taken signal self.new)) }
+    {
+        let at = from as usize;
+        if at >= self.links.len() {
+            return None;
+        }
         take_at(&mut self.links, at)
     }
 }

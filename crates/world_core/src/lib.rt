@@ -5,8 +5,10 @@ mod hosts;
 mod inbox;
 mod logs;
 mod network;
+mod schedule;
 mod world;
 
+pub use schedule::{Pick, ScheduleFault};
 pub use world::World;
 
 #[cfg(test)]

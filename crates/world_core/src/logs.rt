@@ -26,12 +26,12 @@ impl Logs {
     ///
     /// # Errors
     /// `NoMemory`.
-    pub fn new(alloc: Global, hosts: u8) -> Result<Logs, NoMemory>
+    pub fn new(alloc: Global, hosts: u32) -> Result<Logs, NoMemory>
         ensures { IfOk result (λ logs. logs ≡ for_each hosts no_steps) }
     {
-        let mut logs = Vec::with_capacity(alloc, usize::from(hosts))?;
+        let mut logs = Vec::with_capacity(alloc, hosts as usize)?;
         for host in 0..hosts {
-            logs.push_reserved(no_steps(alloc, u32::from(host)));
+            logs.push_reserved(no_steps(alloc, host));
         }
         Ok(Logs { hosts: logs })
     }
@@ -40,12 +40,12 @@ impl Logs {
     ///
     /// # Errors
     /// `NoMemory`, and then the logs are as they were.
-    pub fn add(&mut self, host: u8, step: LogStep) -> Result<(), NoMemory>
+    pub fn add(&mut self, host: u32, step: LogStep) -> Result<(), NoMemory>
         requires { host < length self.old }
         ensures ok { OnOk result (self.new ≡ with_step self.old host step) }
         ensures err { OnErr result (self.new ≡ self.old) }
     {
-        self.hosts[usize::from(host)].steps.push(step)
+        self.hosts[host as usize].steps.push(step)
     }
 
     /// The logs as a list inside another value. Takes no memory.

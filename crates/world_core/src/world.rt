@@ -1,17 +1,21 @@
 //! The world: all hosts, driven by one thread.
-ghost use Rattle.std.specs.Prelude.{◌≡◌, ◌≤◌, ◌+◌, IfOk, OnOk, OnErr};
+ghost use Rattle.std.specs.Prelude.{◌≡◌, ◌≤◌, ◌<◌, ◌+◌, ◌*◌, ◌%◌, ◌^◌, IfOk, OnOk, OnErr};
+ghost use Rattle.frag_map.specs.Layout.{first_layout};
+ghost use Rattle.frag_map.specs.Shape.{IsShape};
+ghost use Rattle.node_core.specs.Fresh.{fresh_part};
+ghost use Rattle.world_core.specs.Hosts.{first_membership, member_at, part_by, started};
 ghost use Rattle.world_core.specs.Machine.{request_signal};
 ghost use Rattle.world_core.specs.Network.{put_all};
-ghost use Rattle.world_core.specs.Start.{first_view, fresh, started};
 ghost use Rattle.world_core.specs.World.{for_each};
 
-use crate::hosts::Membership;
+use crate::hosts::{Membership, PARTS, part_by};
 use crate::logs::Logs;
 use crate::network::Network;
+use frag_map::Layout;
 use node_core::Host;
 use sig_core::{
-    Actor, ApiReply, ApiReq, Body, CLIENT, HostId, HostSignal, Life, LogStep, Member, NoMemory,
-    Outs, Seq, Signal, View, Work,
+    Actor, ApiReply, ApiReq, Body, CLIENT, HostId, HostSignal, Key, Life, LogStep, Member,
+    NoMemory, Outs, Seq, Shape, Signal, Value, Work,
 };
 use std::alloc::Global;
 use std::sync::Wait;
@@ -24,8 +28,8 @@ const STAMPS_END: u64 = 1 << 59;
 pub struct World {
     who: Membership,
     /// Host 0, the shell's, and behind it three of each member, in their order.
-    bodies: Vec<Host>,
-    network: Network,
+    pub(crate) bodies: Vec<Host>,
+    pub(crate) network: Network,
     outs: Outs,
     /// The stamp of each host's last step.
     stamps: Vec<u64>,
@@ -40,24 +44,29 @@ impl World {
     ghost use Rattle.world_core.specs.World.{CanTake, IsQuiet, is_left_open, logs_at, moved, new_world, replies_of, with_replies};
     ghost use Rattle.world_core.specs.WorldOf.{whole_of};
 
-    /// A fresh world of 1 to 8 nodes: nothing has happened, and there are no rows.
+    /// A world in which nothing has happened: a cluster of this shape begins a life in this epoch,
+    /// with these rows, whose keys are distinct.
     ///
     /// # Errors
     /// `NoMemory`.
-    pub fn new(alloc: Global, nodes: u8) -> Result<World, NoMemory>
-        requires some { 1 ≤ nodes }
-        requires few { nodes ≤ 8 }
-        ensures { IfOk result (λ w. whole_of w ≡ new_world (fresh nodes)) }
+    pub fn new(
+        alloc: Global,
+        shape: Shape,
+        epoch: u64,
+        rows: &[(Key, Value)],
+    ) -> Result<World, NoMemory>
+        requires { IsShape shape }
+        ensures { IfOk result (λ w. whole_of w ≡ new_world (record { shape = shape; epoch = epoch; rows = rows.now })) }
     {
-        let view = first_view(nodes);
-        let bodies = fresh_bodies(alloc, nodes, &view)?;
-        let hosts = nodes + 1;
-        let network = Network::new(alloc, usize::from(hosts))?;
+        let hosts = u32::from(shape.nodes) * PARTS + 1;
+        let who = Membership::first(alloc, shape.nodes)?;
+        let bodies = fresh_bodies(alloc, shape, &who, epoch, rows)?;
+        let network = Network::new(alloc, hosts)?;
         let outs = Outs::new(alloc)?;
-        let stamps = Vec::from_elem(alloc, 0, usize::from(hosts))?;
+        let stamps = Vec::from_elem(alloc, 0, hosts as usize)?;
         let logs = Logs::new(alloc, hosts)?;
         Ok(World {
-            view,
+            who,
             bodies,
             network,
             outs,
@@ -75,8 +84,8 @@ impl World {
         ensures ok { (start : Start) → IsSound start (whole_of self.old) → OnOk result (HasAsked start request (whole_of self.old) (whole_of self.new)) }
         ensures err { OnErr result (self.new.logs ≡ self.old.logs) }
     {
-        let signal = request_signal(&self.view, self.stamps[0], request);
-        self.handle(alloc, signal)
+        let signal = request_signal(&self.who, self.stamps[0], request);
+        self.handle(alloc, 0, signal)
     }
 
     /// Takes steps until nothing is under way. It isn't claimed that this ends.
@@ -104,10 +113,10 @@ impl World {
         ensures ok { (start : Start) → IsSound start (whole_of self.old) → IfOk result (λ went. IsStepped start (whole_of self.old) (whole_of self.new) went) }
         ensures err { OnErr result (self.new.logs ≡ self.old.logs) }
     {
-        let Some(signal) = self.network.take() else {
+        let Some(arrived) = self.network.take() else {
             return Ok(false);
         };
-        self.handle(alloc, signal)?;
+        self.handle(alloc, arrived.host, arrived.signal)?;
         Ok(true)
     }
 
@@ -140,18 +149,22 @@ impl World {
         }
     }
 
-    /// Has the host that the signal is for handle it, as its next step.
+    /// Has a host handle a signal, as its next step.
     ///
     /// # Errors
     /// `NoMemory`, and then the world is of use for its logs alone. Until hosts can stop, used-up
     /// stamps are told as want of memory.
-    fn handle(&mut self, alloc: Global, signal: Signal) -> Result<(), NoMemory>
-        requires { CanTake (whole_of self.old) signal.to.node }
-        ensures ok { OnOk result (whole_of self.new ≡ moved (whole_of self.old) signal) }
+    pub(crate) fn handle(
+        &mut self,
+        alloc: Global,
+        host: u32,
+        signal: Signal,
+    ) -> Result<(), NoMemory>
+        requires { CanTake (whole_of self.old) host }
+        ensures ok { OnOk result (whole_of self.new ≡ moved (whole_of self.old) (record { to = host; signal = signal })) }
         ensures err { OnErr result (self.new.logs ≡ self.old.logs) }
     {
-        let host = signal.to.node;
-        let at = usize::from(host);
+        let at = host as usize;
         let before = self.stamps[at].max(signal.stamp);
         if before >= STAMPS_END {
             return Err(NoMemory);
@@ -161,7 +174,7 @@ impl World {
         self.bodies[at].handle(alloc, &signal, &mut self.outs)?;
         self.stamps[at] = stamp;
         let marks = Vec::from_slice(alloc, self.outs.marks())?;
-        dispatch(&mut self.network, &self.view, host, stamp, &mut self.outs)?;
+        dispatch(&mut self.network, &self.who, host, stamp, &mut self.outs)?;
         let marks = Seq::from_vec(marks);
         let taken = signal;
         self.logs.add(
@@ -175,23 +188,47 @@ impl World {
     }
 }
 
-/// The hosts as a fresh world begins, which has this view.
-fn fresh_bodies(alloc: Global, nodes: u8, view: &View) -> Result<Vec<Host>, NoMemory>
-    requires few { nodes ≤ 8 }
-    requires view { view.now ≡ first_view nodes }
-    ensures { IfOk result (λ bodies. bodies.items ≡ for_each (nodes + 1) (started (fresh nodes))) }
+/// The hosts as a life of a cluster of this shape begins, of which the members are there.
+fn fresh_bodies(
+    alloc: Global,
+    shape: Shape,
+    who: &Membership,
+    epoch: u64,
+    rows: &[(Key, Value)],
+) -> Result<Vec<Host>, NoMemory>
+    requires shape { IsShape shape }
+    requires who { who.now ≡ first_membership (record { shape = shape; epoch = epoch; rows = rows.now }) }
+    ensures { IfOk result (λ bodies. bodies.items ≡ for_each (shape.nodes * 3 + 1) (started (record { shape = shape; epoch = epoch; rows = rows.now }))) }
 {
-    let mut bodies = Vec::with_capacity(alloc, usize::from(nodes) + 1)?;
-    bodies.push_reserved(Host::shell(alloc, view)?);
-    for before in 0..nodes {
-        bodies.push_reserved(Host::node(alloc, before + 1, view, 1, &[])?);
+    let behind = u32::from(shape.nodes) * PARTS;
+    let layout = Layout::first(shape);
+    let mut bodies = Vec::with_capacity(alloc, behind as usize + 1)?;
+    bodies.push_reserved(Host::shell(alloc, who.view())?);
+    for before in 0..behind {
+        bodies.push_reserved(part_behind(alloc, before, who, &layout, epoch, rows)?);
     }
     Ok(bodies)
 }
 
+/// The part that the host behind this one has, as it begins.
+fn part_behind(
+    alloc: Global,
+    before: u32,
+    who: &Membership,
+    layout: &Layout,
+    epoch: u64,
+    rows: &[(Key, Value)],
+) -> Result<Host, NoMemory>
+    requires { before + 1 < 2 ^ 32 }
+    ensures { IfOk result (λ host. host ≡ fresh_part (part_by (before % 3)) (member_at who.now.made (before + 1)) layout.now epoch rows.now) }
+{
+    let member = who.member_at(before + 1);
+    Host::part(alloc, part_by(before % PARTS), member, layout, epoch, rows)
+}
+
 /// The signal by which the shell asks for something, after a step of host 0 with this stamp.
-fn request_signal(view: &View, stamp: u64, request: ApiReq) -> Signal
-    ensures { result ≡ request_signal view.now stamp request }
+fn request_signal(who: &Membership, stamp: u64, request: ApiReq) -> Signal
+    ensures { result ≡ request_signal who.now stamp request }
 {
     Signal {
         from: HostId(0),
@@ -199,7 +236,7 @@ fn request_signal(view: &View, stamp: u64, request: ApiReq) -> Signal
         to: CLIENT,
         seq: 0,
         stamp,
-        view: *view,
+        view: *who.view(),
         body: Body::Host(HostSignal::Continue {
             work: Work::Request(request),
             at: 0,
@@ -210,15 +247,15 @@ fn request_signal(view: &View, stamp: u64, request: ApiReq) -> Signal
 /// Puts what a step of a host sends on its way.
 fn dispatch(
     network: &mut Network,
-    view: &View,
-    host: u8,
+    who: &Membership,
+    host: u32,
     stamp: u64,
     outs: &mut Outs,
 ) -> Result<(), NoMemory>
-    ensures { OnOk result (network.new ≡ put_all network.old view.now host stamp outs.old.sends) }
+    ensures { OnOk result (network.new ≡ put_all network.old who.now host stamp outs.old.sends) }
 {
     while let Some(sent) = outs.take_send() {
-        network.put(view, host, stamp, sent)?;
+        network.put(who, host, stamp, sent)?;
     }
     Ok(())
 }

@@ -1,11 +1,11 @@
 use Rattle.world_core.specs.WorldOf.{whole_of}
-use Rattle.world_core.proofs.WorldLemmas.{asked_world, fresh_world}
+use Rattle.world_core.proofs.WorldLemmas.{asked_world, begun_world}
 use Rattle.world_core.proofs.tests.served.Goals as goal
 
 pub ask-requires : goal.ask-requires
-ask-requires g c = fresh_world (whole_of c.in_ok-world.world) 2 c.in_ok-world.ensures
+ask-requires g c = begun_world (whole_of c.in_ok-world.world) _ c.in_ok-world.ensures
 
 pub drive-requires : goal.drive-requires
 drive-requires g c =
     asked_world c.args.request (whole_of c.in_ok-world.world) (whole_of c.ask.new.self) c.in_ok-ask.ensures.ok
-    (fresh_world (whole_of c.in_ok-world.world) 2 c.in_ok-world.ensures)
+    (begun_world (whole_of c.in_ok-world.world) _ c.in_ok-world.ensures)
