@@ -1,11 +1,10 @@
 -- Laws that each step of a host keeps, and what is known of a coordinator after a log.
-use Rattle.std.proofs.Common.{◌≡◌, ◌≢◌, ◌⊎◌, ℕ, zero, suc, ◌+◌, ◌≤◌, ◌<◌, List, [], ◌∷◌, ◌++◌, Bool, true, false, refl, ap, sym, ◌∙◌, subst, arith, inl, inr}
-use Rattle.std.specs.Prelude.{◌/◌, ◌%◌, Option, None, Some, slice_index_or}
-use Rattle.std.proofs.lemmas.Bool.{cases_lt, false≢true}
-use Rattle.node_core.proofs.HostCases.{IsRowsStep, tc_stays}
-use Rattle.node_core.specs.Blocks.{has_tc, tc_of}
-use Rattle.node_core.specs.declared.host.Host.{Host}
-use Rattle.node_core.specs.Fresh.{fresh_part, fresh_shell}
+use Rattle.std.proofs.Common.{◌≡◌, ◌≢◌, ◌⊎◌, ℕ, ◌+◌, ◌≤◌, ◌<◌, List, [], ◌∷◌, ◌++◌, Bool, true, false, refl, ap, sym, ◌∙◌, subst, arith, inl, inr}
+use Rattle.std.specs.Prelude.{◌==◌, ◌&&◌, nat_lt, None, Some}
+use Rattle.std.proofs.lemmas.Bool.{cases_lt, eqb-true, false≢true}
+use Rattle.std.proofs.lemmas.Bool.Decides.{nat_tests}
+use Rattle.node_core.proofs.HostCases.{IsRowsStep}
+use Rattle.node_core.specs.Blocks.{has_lqh, tc_of}
 use Rattle.node_core.specs.Requests.{is_request}
 use Rattle.node_core.specs.Row.{row}
 use Rattle.run_theory.proofs.Along.{along_run, of_runs}
@@ -13,33 +12,29 @@ use Rattle.run_theory.proofs.Runs.{log_of-other, log_of-own, log_of-past, logs_o
 use Rattle.run_theory.specs.Links.{IsGiven, sent, taken}
 use Rattle.run_theory.specs.Lists.{Each, IsIn, IsPast}
 use Rattle.run_theory.specs.Runs.{AreLogs, Happens, IsWithin, Run, log_of}
-use Rattle.sig_core.specs.declared.member.Member.{Member}
 use Rattle.sig_core.specs.declared.member.TxId.{TxId}
-use Rattle.sig_core.specs.declared.outs.Outgoing.{Outgoing}
 use Rattle.sig_core.specs.declared.place.BlockId.{BlockId}
 use Rattle.sig_core.specs.declared.place.BlockId.TheVariants as block
-use Rattle.sig_core.specs.declared.place.Part.{Part}
-use Rattle.sig_core.specs.declared.place.Part.TheVariants.{Main, Tc, Ldm}
 use Rattle.sig_core.specs.declared.place.Place.{Place}
 use Rattle.sig_core.specs.declared.signal.Body.{Body}
-use Rattle.sig_core.specs.Members.{nobody}
-use Rattle.sig_core.specs.Place.{coordinator}
+use Rattle.sig_core.specs.Place.{coordinator, rows_of}
 use Rattle.tc_block.specs.declared.transaction.Transaction.{Transaction}
 use Rattle.tc_block.specs.State.{TcState}
-use Rattle.frag_map.specs.Layout.{Layout, first_layout}
-use Rattle.frag_map.specs.Replicas.{first_start}
-use Rattle.world_core.proofs.HostNumbers.{IsNodes, addressed_rightly, given_past, tc_found, tc_started}
+use Rattle.world_core.proofs.HostNumbers.{addressed_rightly, given_past, rows_run}
 use Rattle.world_core.proofs.Stamped.{stamped}
-use Rattle.world_core.specs.Hosts.{home, host_for, hosts, started, tc_host}
+use Rattle.world_core.specs.Hosts.{home, host_for, hosts, tc_host}
 use Rattle.world_core.specs.Machine.{after, machine, step_after}
-use Rattle.world_core.specs.Start.{Start, made}
+use Rattle.world_core.specs.Start.{Start}
 use Rattle.world_core.specs.Steps.{Addressed, HostStep}
+use Rattle.answer_laws.proofs.HostSteps.{IsHome, at_own_node, first_live}
 pub use Rattle.answer_laws.proofs.HostTurns.{tx_at}
 use Rattle.answer_laws.proofs.HostTurns.{HostTurn, IsAside, aside, host_turn, in_rows, starting, turning, tx_runs}
 use Rattle.answer_laws.proofs.LinkCounts.{signals}
-use Rattle.answer_laws.proofs.TcLives.{IsKept, IsOwn, is_keyed, kept_move, starts_in}
-use Rattle.answer_laws.proofs.TcMoves.{TcMove, ends_in, forgets, host_moves, starts, stays, tc_view, turns}
-use Rattle.answer_laws.proofs.TcSteps.{live_home, live_in}
+use Rattle.answer_laws.proofs.LqhOps.{is_lqh, is_node, left_of, right_of}
+use Rattle.answer_laws.proofs.TcLives.{IsKept, IsOwn, is_done, is_keyed, kept_move, starts_in}
+use Rattle.answer_laws.proofs.TcMoves.{ends_in, host_moves}
+use Rattle.answer_laws.proofs.TcSteps.{live_home, live_in, of_live}
+use Rattle.answer_laws.proofs.Wishes.{is_tc}
 use Rattle.commit_laws.proofs.Tally.{tally_past}
 use Rattle.commit_laws.specs.Counts.{tally}
 
@@ -53,36 +48,32 @@ the_transaction t u e = cc
 pub no_transaction : {A : Type 0} (t : Transaction) → None ≡ Some t → A
 no_transaction t e = absurd cc
 
--- no move changes whose coordinator it is
-pub tc_number : (s after : TcState) (sends : List Outgoing) → TcMove s after sends → after.node ≡ s.node
-tc_number s after sends (stays is kind) = ap (λ (t : TcState). t.node) is
-tc_number s after sends (starts name is told) = ap (λ (t : TcState). t.node) is
-tc_number s after sends (turns one t u front back is now kind told) = ap (λ (t : TcState). t.node) now
-tc_number s after sends (forgets one t front back is now kind told) = ap (λ (t : TcState). t.node) now
+-- where nothing is live all is kept
+pub none_kept : (tx : TxId) (s : TcState) → s.live ≡ [] → IsKept tx s 0 0
+none_kept tx s none = record {
+  began = omega (arith, ap (tally (is_keyed tx)) none);
+  order = λ e. e;
+  kept = λ e. absurd (omega (arith, e));
+  told = λ e. absurd (omega (arith, e, ap (tally (is_done tx)) none));
+  once = omega arith;
+  unborn = λ e. refl;
+  own = subst (Each (λ (e : TxId × Transaction). IsOwn s.node s.next_seq e.0)) (sym none) tt;
+}
 
--- a part that begins has no transactions, and those that coordinate have the layout
-part_kept : (tx : TxId) (of : Part) (member : Member) (layout : Layout) (epoch : ℕ) (rows : List (List ℕ × List ℕ)) → IsKept tx (tc_of (fresh_part of member layout epoch rows)) 0 0
-unfolding fresh_part
-part_kept tx Main member layout epoch rows = record { began = omega arith; order = λ e. e; kept = λ e. e; told = λ e. e; once = omega arith; unborn = λ e. refl; own = tt }
-part_kept tx Tc member layout epoch rows = record { began = omega arith; order = λ e. e; kept = λ e. e; told = λ e. e; once = omega arith; unborn = λ e. refl; own = tt }
-part_kept tx Ldm member layout epoch rows = record { began = omega arith; order = λ e. e; kept = λ e. e; told = λ e. e; once = omega arith; unborn = λ e. refl; own = tt }
+-- a place for rows, or for a coordinator
+pub rows_place : (to : Place) → is_lqh to.block ≡ true → to ≡ rows_of to.node
+rows_place to e = ap (λ b. record { node = to.node; block = b }) (only to.block e)
+  where
+    only : (b : BlockId) → is_lqh b ≡ true → b ≡ block.Lqh
+    only block.Lqh e = refl
+    only _ e = absurd (false≢true e)
 
-part_layout : (of : Part) (member : Member) (layout : Layout) (epoch : ℕ) (rows : List (List ℕ × List ℕ)) → has_tc (fresh_part of member layout epoch rows) ≡ true
-    → (tc_of (fresh_part of member layout epoch rows)).layout ≡ layout
-unfolding fresh_part
-part_layout Main member layout epoch rows on = absurd (false≢true on)
-part_layout Tc member layout epoch rows on = refl
-part_layout Ldm member layout epoch rows on = absurd (false≢true on)
-
-part_node : (member : Member) (layout : Layout) (epoch : ℕ) (rows : List (List ℕ × List ℕ)) → (tc_of (fresh_part Tc member layout epoch rows)).node ≡ member.node
-unfolding fresh_part
-part_node member layout epoch rows = refl
-
-part_none : (tx : TxId) (of : Part) (member : Member) (layout : Layout) (epoch : ℕ) (rows : List (List ℕ × List ℕ)) → tx_at tx (fresh_part of member layout epoch rows) ≡ None
-unfolding fresh_part
-part_none tx Main member layout epoch rows = refl
-part_none tx Tc member layout epoch rows = refl
-part_none tx Ldm member layout epoch rows = refl
+pub tc_place : (to : Place) → is_tc to.block ≡ true → to ≡ coordinator to.node
+tc_place to e = ap (λ b. record { node = to.node; block = b }) (only to.block e)
+  where
+    only : (b : BlockId) → is_tc b ≡ true → b ≡ block.Tc
+    only block.Tc e = refl
+    only _ e = absurd (false≢true e)
 
 module _ (start : Start) where
   -- host h makes the step e behind these logs
@@ -159,13 +150,8 @@ module _ (start : Start) where
     ended : ℕ
     keeps : IsKept tx (tc_of (after start h log)) begun ended
 
-  started_kept : (tx : TxId) (h : ℕ) → IsKept tx (tc_of (started start h)) 0 0
-  unfolding started fresh_shell
-  started_kept tx zero = record { began = omega arith; order = λ e. e; kept = λ e. e; told = λ e. e; once = omega arith; unborn = λ e. refl; own = tt }
-  started_kept tx (suc k) = part_kept tx _ _ _ _ _
-
   kept_tc : (tx : TxId) (h : ℕ) (log : List HostStep) → KeptTc tx h log
-  kept_tc tx h [] = record { begun = 0; ended = 0; keeps = started_kept tx h }
+  kept_tc tx h [] = record { begun = 0; ended = 0; keeps = none_kept tx (tc_of (after start h [])) (first_live start h) }
   kept_tc tx h (e ∷ log) =
       let k = kept_tc tx h log in
       let t = row (after start h log) e.step.taken in
@@ -182,45 +168,16 @@ module _ (start : Start) where
   pub live_tx : (tx : TxId) (h : ℕ) (log : List HostStep) (t : Transaction) → IsIn (tx, t) (tc_of (after start h log)).live → tx_at tx (after start h log) ≡ Some t
   live_tx tx h log t live = live_in tx t (tc_of (after start h log)).live (at_tc tx h log).once live
 
-  -- a coordinator has the layout of the start
-  started_layout : (h : ℕ) → has_tc (started start h) ≡ true → (tc_of (started start h)).layout ≡ first_layout start.shape
-  unfolding started fresh_shell
-  started_layout zero on = absurd (false≢true on)
-  started_layout (suc k) on = part_layout _ _ _ _ _ on
-
-  pub layout_after : (h : ℕ) (log : List HostStep) → has_tc (after start h log) ≡ true → (tc_of (after start h log)).layout ≡ first_layout start.shape
-  layout_after h [] on = started_layout h on
-  layout_after h (e ∷ log) on =
-      tc_view (tc_of (after start h log)) _ _ (host_moves (after start h log) e.step.taken) ∙ layout_after h log (sym (tc_stays (after start h log) e.step.taken) ∙ on)
-
-  -- it is that of its node
-  same_number : (h : ℕ) (log : List HostStep) → (tc_of (after start h log)).node ≡ (tc_of (started start h)).node
-  same_number h [] = refl
-  same_number h (e ∷ log) = tc_number (tc_of (after start h log)) _ _ (host_moves (after start h log) e.step.taken) ∙ same_number h log
-
-  -- a coordinator's node and host
-  pub record IsTcOf (h : ℕ) (s : TcState) : Type 0 where
-    pub is : tc_host start s.node ≡ h
-    pub some : 1 ≤ s.node
-    pub few : s.node ≤ start.shape.nodes
-
-  pub tc_is : (h : ℕ) (log : List HostStep) → h < hosts start → has_tc (after start h log) ≡ true → IsTcOf h (tc_of (after start h log))
-  tc_is h log low on =
-      let n = tc_found start h log low on in
-      let number : (tc_of (after start h log)).node ≡ n.node =
-      same_number h log ∙ ap (λ k. (tc_of (started start k)).node) n.is ∙ ap (λ g. (tc_of g).node) (tc_started start n.node n.some n.low) ∙ part_node (first_start n.node) (first_layout start.shape) start.epoch start.rows in
-      record { is = ap (tc_host start) number ∙ sym n.is; some = omega (arith, number, n.some); few = omega (arith, number, n.low) }
-
   -- a transaction is at its home
-  pub at_home : (tx : TxId) (h : ℕ) (log : List HostStep) (t : Transaction) → h < hosts start → tx_at tx (after start h log) ≡ Some t → home start tx ≡ h
+  pub at_home : (tx : TxId) (h : ℕ) (log : List HostStep) (t : Transaction) → h < hosts start → tx_at tx (after start h log) ≡ Some t → IsHome start tx h
   at_home tx h log t low at =
-      ap (tc_host start) (live_home tx (tc_of (after start h log)) t at (at_tc tx h log).own) ∙ (tc_is h log low (tx_runs tx (after start h log) t at)).is
+      let number = live_home tx (tc_of (after start h log)) t at (at_tc tx h log).own in
+      let of = at_own_node start h log low (tx_runs tx (after start h log) t at) in
+      record { some = omega (arith, number, of.some); low = omega (arith, number, of.low); is = of.is ∙ ap (tc_host start) (sym number) }
 
   -- none is there at the start
   pub first_none : (tx : TxId) (h : ℕ) → tx_at tx (after start h []) ≡ None
-  unfolding started fresh_shell
-  first_none tx zero = refl
-  first_none tx (suc k) = part_none tx _ _ _ _ _
+  first_none tx h = ap (of_live tx) (first_live start h)
 
   -- a step of a host, as far as a transaction of its coordinator goes
   pub turn_at : (tx : TxId) (h : ℕ) (log : List HostStep) (e : HostStep) → HostTurn tx (after start h log) e.step.taken (step_after start h log e)
@@ -235,5 +192,25 @@ module _ (start : Start) where
           → IsRowsStep (after start h log) e.step.taken (step_after start h log e) ⊎ IsAside tx (after start h log) e.step.taken (step_after start h log e)
       by (in_rows step) = inl step
       by (aside step) = inr step
-      by (starting step) = absurd (differs (sym (ap (home start) step.one ∙ (tc_is h log low step.runs).is)))
-      by (turning step) = absurd (differs (sym (at_home tx h log step.was low step.there)))
+      by (starting step) = absurd (differs ((at_own_node start h log low step.runs).is ∙ sym (ap (home start) step.one)))
+      by (turning step) = absurd (differs (at_home tx h log step.was low step.there).is)
+
+  -- what is for a transaction's coordinator goes to its home
+  pub home_place : (tx : TxId) (to : Place) → (is_tc to.block && (to.node == tx.tc)) ≡ true → host_for start to ≡ home start tx
+  home_place tx to e =
+      ap (host_for start) (tc_place to (left_of (is_tc to.block) (to.node == tx.tc) e)) ∙ ap (tc_host start) (eqb-true to.node tx.tc (right_of (is_tc to.block) (to.node == tx.tc) e))
+
+  -- what a host takes for rows of a node is for rows that it runs
+  pub heard_rows : (h : ℕ) (log : List HostStep) (to : Place) → host_for start to ≡ h → (is_lqh to.block && is_node (start.shape.nodes + 1) to.node) ≡ true → has_lqh (after start h log) ≡ true
+  heard_rows h log to here e =
+      subst (λ k. has_lqh (after start k log) ≡ true) (sym (ap (host_for start) (rows_place to (left_of (is_lqh to.block) (is_node n to.node) e))) ∙ here)
+      (rows_run start to.node log (grind (arith, nat_tests, left_of (nat_lt 0 to.node) (nat_lt to.node n) node)) (omega (arith, under)))
+    where
+      n : ℕ
+      n = start.shape.nodes + 1
+
+      node : is_node n to.node ≡ true
+      node = right_of (is_lqh to.block) (is_node n to.node) e
+
+      under : to.node < n
+      under = grind (arith, nat_tests, right_of (nat_lt 0 to.node) (nat_lt to.node n) node)

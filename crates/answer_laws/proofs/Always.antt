@@ -26,7 +26,8 @@ use Rattle.world_core.specs.Machine.{after, step_after}
 use Rattle.frag_map.specs.Layout.{chain_of, first_layout}
 use Rattle.world_core.specs.Start.{Start}
 use Rattle.sig_core.proofs.Keys.{same_tx-self}
-use Rattle.answer_laws.proofs.Ahead.{first_none, layout_after, no_transaction, the_transaction, turn_at, tx_at}
+use Rattle.answer_laws.proofs.Ahead.{first_none, no_transaction, the_transaction, turn_at, tx_at}
+use Rattle.answer_laws.proofs.HostSteps.{tc_layout}
 use Rattle.answer_laws.proofs.HostTurns.{HostTurn, aside, in_rows, starting, turning}
 use Rattle.commit_laws.specs.Counts.{one_if}
 use Rattle.answer_laws.proofs.TcKeys.{key_of_tx}
@@ -53,7 +54,7 @@ always start tx h P stable (e ∷ log) t at = next (always start tx h P stable l
         which true over = no_transaction t (sym (step.left ∙ ap (λ b. if b then None else Some step.turn.step.state) over) ∙ at)
         which false over =
             subst P (the_transaction step.turn.step.state t (sym (step.left ∙ ap (λ b. if b then None else Some step.turn.step.state) over) ∙ at))
-            (stable.turns (tc_of (after start h log)) step.was e.step.taken.body step.turn (layout_after start h log step.runs) step.move over (before step.was step.there))
+            (stable.turns (tc_of (after start h log)) step.was e.step.taken.body step.turn (tc_layout start h log step.runs) step.move over (before step.was step.there))
 
 -- the keys that a transaction touches: one more where it is asked for an operation, and then no more than 64
 pub record Touches (tx : TxId) (t : Transaction) (body : Body) (u : Transaction) : Type 0 where

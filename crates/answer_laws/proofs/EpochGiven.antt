@@ -14,7 +14,6 @@ use Rattle.node_core.specs.Requests.{is_request as is_asked}
 use Rattle.run_theory.specs.Links.{is_from, sent, taken}
 use Rattle.run_theory.specs.Runs.{AreLogs, IsWithin}
 use Rattle.sig_core.specs.declared.member.TxId.{TxId}
-use Rattle.sig_core.specs.declared.outs.Outgoing.{Outgoing}
 use Rattle.sig_core.specs.declared.place.BlockId.{BlockId}
 use Rattle.sig_core.specs.declared.place.BlockId.TheVariants as block
 use Rattle.sig_core.specs.declared.place.Place.{Place}
@@ -32,13 +31,13 @@ use Rattle.world_core.specs.Machine.{after, machine, sent_count, step_after}
 use Rattle.world_core.specs.Start.{Start}
 use Rattle.world_core.specs.Steps.{Addressed, HostStep}
 use Rattle.commit_laws.specs.Counts.{one_if}
-use Rattle.answer_laws.proofs.Ahead.{IsTcOf, at_tc, few_taken, is_dih, tc_is}
+use Rattle.answer_laws.proofs.Ahead.{at_tc, few_taken, is_dih}
 use Rattle.answer_laws.proofs.ApiMoves.{api_moves}
 use Rattle.answer_laws.proofs.DihSends.{dih_kinds}
 use Rattle.answer_laws.proofs.EpochCounts.{AreFew, SendsFew, counted_of, counts_by, counts_if, is_epochless, is_request, plain_counts, put_counts, put_few, sends_count}
 use Rattle.answer_laws.proofs.EpochFlow.{at_place, dih_counts, dih_few, dih_gives, dih_plain, dih_stays, is_conf, is_epoch, is_req, lqh_plain, move_epochs, plain_none, req_body, tc_confless, tc_epochs}
 use Rattle.answer_laws.proofs.EpochLives.{AreCounted, step_counts}
-use Rattle.answer_laws.proofs.HostTurns.{is_aside}
+use Rattle.answer_laws.proofs.HostSteps.{IsAtNode, at_own_node}
 use Rattle.answer_laws.proofs.LinkCounts.{all_three, sent_signals, signals, taken_signals}
 use Rattle.answer_laws.proofs.LqhSends.{lqh_kinds}
 use Rattle.answer_laws.proofs.SendKinds.{are_of, is_dih_kind, is_lqh_kind, of_kind}
@@ -95,8 +94,8 @@ module _ (start : Start) (node : ℕ) (some : 1 ≤ node) (few_nodes : node ≤ 
 
   own_place : (log : List HostStep) → here start node (epochs (tc_of (after start h log)).node) ≡ true
   own_place log =
-      let of : IsTcOf start h (tc_of (after start h log)) = tc_is start h log low (on log) in
-      eq-eqb _ _ (epochs_host start (tc_of (after start h log)).node ∙ of.is)
+      let of : IsAtNode start h (tc_of (after start h log)) = at_own_node start h log low (on log) in
+      eq-eqb _ _ (epochs_host start (tc_of (after start h log)).node ∙ sym of.is)
 
   -- the block of epochs counts, of what its node's coordinator has sent to it, what that has asked for
   pub record SentCounts (log : List HostStep) : Type 0 where
@@ -164,7 +163,7 @@ module _ (start : Start) (node : ℕ) (some : 1 ≤ node) (few_nodes : node ≤ 
         where
           go : (b : Bool) → here start node (epochs (tc_of s).node) ≡ b → here start node (epochs (tc_of s).node) ≡ false
           go false q = q
-          go true q = absurd (differs (sym (tc_is start k log under runs).is ∙ sym (epochs_host start (tc_of s).node) ∙ eqb-true _ _ q))
+          go true q = absurd (differs ((at_own_node start k log under runs).is ∙ sym (epochs_host start (tc_of s).node) ∙ eqb-true _ _ q))
 
       none : sends_of (at_place (here start node) is_epoch) (step_after start k log e).effects.sends ≡ 0
       none =

@@ -1,9 +1,7 @@
 -- What the blocks of a host are along its log, and which host gets what is sent.
-use Rattle.std.proofs.Common.{◌≡◌, ◌≢◌, ◌⊎◌, inl, inr, ℕ, zero, suc, ◌+◌, ◌-◌, ◌*◌, ◌<◌, ◌≤◌, ◌%◌, List, [], ◌∷◌, Bool, true, false, refl, ap, sym, ◌∙◌, subst, arith}
-use Rattle.std.specs.Prelude.{◌==◌, ◌&&◌, Option, None, Some, slice_get}
-use Rattle.std.specs.Map.{values_of}
+use Rattle.std.proofs.Common.{◌≡◌, ◌≢◌, ◌⊎◌, inl, inr, ℕ, zero, suc, ◌-◌, ◌<◌, ◌≤◌, ◌%◌, List, [], ◌∷◌, Bool, true, false, refl, ap, sym, ◌∙◌, subst, arith}
+use Rattle.std.specs.Prelude.{◌==◌, ◌&&◌}
 use Rattle.std.proofs.lemmas.Bool.{cases_lt, eq-eqb, eqb-true, false≢true}
-use Rattle.run_theory.specs.Lists.{IsIn}
 use Rattle.sig_core.specs.declared.member.Member.{Member}
 use Rattle.sig_core.specs.declared.member.TxId.{TxId}
 use Rattle.sig_core.specs.declared.outs.Outgoing.{Outgoing}
@@ -11,36 +9,26 @@ use Rattle.sig_core.specs.declared.place.Part.{Part}
 use Rattle.sig_core.specs.declared.place.Part.TheVariants as part
 use Rattle.sig_core.specs.declared.place.Place.{Place}
 use Rattle.sig_core.specs.declared.signal.Body.{Body}
-use Rattle.sig_core.specs.declared.signal.Body.TheVariants.{Host, Client, Chain, Epoch}
 use Rattle.sig_core.specs.declared.signal.Signal.{Signal}
-use Rattle.sig_core.specs.declared.signal.chain.ChainSignal.TheVariants.{LqhKeyConf, LqhKeyRef, Committed, Completed, Aborted}
-use Rattle.sig_core.specs.declared.signal.client.ClientSignal.TheVariants.{TcBeginReq, TcKeyReq, TcCommitReq, TcRollbackReq, TcWaitReq, LqhWaitConf}
-use Rattle.sig_core.specs.declared.signal.epoch.EpochSignal.TheVariants.{DiVerifyConf}
-use Rattle.sig_core.specs.declared.signal.host.HostSignal.TheVariants.{Continue}
-use Rattle.sig_core.specs.declared.signal.host.Work.TheVariants as work
 use Rattle.sig_core.specs.Part.{part_of}
 use Rattle.sig_core.specs.Place.{coordinator, rows_of}
-use Rattle.sig_core.specs.Step.{Step}
 use Rattle.frag_map.specs.Layout.{first_layout}
 use Rattle.lqh_block.specs.Lqh.{lqh_row}
 use Rattle.lqh_block.specs.State.{LqhState}
 use Rattle.node_core.proofs.HostCases.{keeps_rows, keeps_tc}
 use Rattle.node_core.specs.declared.host.Host as host
-use Rattle.node_core.specs.declared.host.Host.TheVariants.{Shell, Main, Tc, Ldm}
+use Rattle.node_core.specs.declared.host.Host.TheVariants.{Main, Tc, Ldm}
 use Rattle.node_core.specs.Blocks.{has_api, has_lqh, has_tc, lqh_of, tc_of}
 use Rattle.node_core.specs.Fresh.{fresh_part, fresh_shell}
-use Rattle.tc_block.specs.declared.transaction.Transaction.{Transaction}
-use Rattle.tc_block.specs.Live.{place_in, step_of, step_place, step_value, turn_of, turn_place, turn_value, turned_if}
 use Rattle.tc_block.specs.State.{TcState}
-use Rattle.tc_block.specs.Tc.{begin_if, begin_row, is_full, pass_if, pass_row, tc_row, tc_table}
-use Rattle.tc_block.specs.Turn.{Turn}
+use Rattle.tc_block.specs.Tc.{tc_row}
 use Rattle.world_core.proofs.HostNumbers.{api_found, beyond_host, host_below, host_some, node_host, same_node, tc_after, tc_found, tc_started}
-use Rattle.world_core.specs.Hosts.{host_for, hosts, member_at, number_of, part_by, rows_host, started, tc_host}
+use Rattle.world_core.specs.Hosts.{home, host_for, hosts, member_at, number_of, part_by, rows_host, started, tc_host}
 use Rattle.world_core.specs.Machine.{after}
 use Rattle.world_core.specs.Start.{Start, made}
 use Rattle.world_core.specs.Steps.{HostStep}
 use Rattle.answer_laws.proofs.LinkCounts.{at_shell, to_host}
-use Rattle.answer_laws.proofs.TcMoves.{tc_moves, tc_view}
+use Rattle.answer_laws.proofs.TcMoves.{tc_moves, tc_node, tc_view}
 use Rattle.answer_laws.proofs.Wishes.{sends_of, to_node}
 use Rattle.commit_laws.specs.Counts.{one_if}
 
@@ -49,67 +37,10 @@ pub no_live : (s : host.Host) → has_tc s ≡ false → (tc_of s).live ≡ []
 no_live (Tc p) e = absurd (false≢true (sym e))
 no_live _ e = refl
 
-pub live_runs : (s : host.Host) (e : TxId × Transaction) → IsIn e (tc_of s).live → has_tc s ≡ true
-live_runs (Tc p) e inside = refl
-live_runs (Shell a) e inside = absurd inside
-live_runs (Main m) e inside = absurd inside
-live_runs (Ldm l) e inside = absurd inside
-
 -- one that doesn't run rows has no requests
 pub no_waiting : (s : host.Host) → has_lqh s ≡ false → (lqh_of s).waiting ≡ []
 no_waiting (Ldm l) e = absurd (false≢true (sym e))
 no_waiting _ e = refl
-
--- a coordinator stays that of its node
-step_node : (s : TcState) (tx : TxId) (row : Transaction → Step Transaction) → (step_of s tx row).state.node ≡ s.node
-step_node s tx row = at_place (place_in s tx)
-  where
-    at_value : (at : ℕ) (t : Option Transaction) → (step_value s row at t).state.node ≡ s.node
-    at_value at None = refl
-    at_value at (Some t) = refl
-
-    at_place : (at : Option ℕ) → (step_place s row at).state.node ≡ s.node
-    at_place None = refl
-    at_place (Some at) = at_value at (slice_get (values_of s.live) at)
-
-turn_node : (s : TcState) (tx : TxId) (row : Transaction → Turn) → (turn_of s tx row).state.node ≡ s.node
-turn_node s tx row = at_place (place_in s tx)
-  where
-    over : (at : ℕ) (turn : Turn) (b : Bool) → (turned_if s at turn b).state.node ≡ s.node
-    over at turn true = refl
-    over at turn false = refl
-
-    at_value : (at : ℕ) (t : Option Transaction) → (turn_value s row at t).state.node ≡ s.node
-    at_value at None = refl
-    at_value at (Some t) = over at (row t) (row t).over
-
-    at_place : (at : Option ℕ) → (turn_place s row at).state.node ≡ s.node
-    at_place None = refl
-    at_place (Some at) = at_value at (slice_get (values_of s.live) at)
-begin_node : (s : TcState) (name : Option ℕ) (b : Bool) → (begin_if s name b).state.node ≡ s.node
-begin_node s name true = refl
-begin_node s name false = refl
-
-pass_node : (s : TcState) (tx ahead : TxId) (b : Bool) → (pass_if s tx ahead b).state.node ≡ s.node
-pass_node s tx ahead true = refl
-pass_node s tx ahead false = refl
-
-tc_node : (s : TcState) (body : Body) → (tc_table s body).state.node ≡ s.node
-unfolding begin_row pass_row
-tc_node s (Host (Continue (work.Transaction tx) at)) = step_node s tx _
-tc_node s (Client (TcBeginReq name)) = begin_node s name (is_full s)
-tc_node s (Client (TcKeyReq tx op)) = step_node s tx _
-tc_node s (Client (TcCommitReq tx)) = step_node s tx _
-tc_node s (Client (TcRollbackReq tx)) = turn_node s tx _
-tc_node s (Client (TcWaitReq tx)) = step_node s tx _
-tc_node s (Client (LqhWaitConf tx ahead)) = pass_node s tx ahead _
-tc_node s (Chain (LqhKeyConf tx key answer)) = step_node s tx _
-tc_node s (Chain (LqhKeyRef tx key why)) = turn_node s tx _
-tc_node s (Chain (Committed tx key)) = turn_node s tx _
-tc_node s (Chain (Completed tx key)) = turn_node s tx _
-tc_node s (Chain (Aborted tx key)) = turn_node s tx _
-tc_node s (Epoch (DiVerifyConf tx epoch)) = turn_node s tx _
-tc_node s _ = refl
 
 module _ (start : Start) where
   -- no coordinator begins with transactions, and no rows with requests
@@ -154,7 +85,7 @@ module _ (start : Start) where
   pub tc_number : (node : ℕ) (log : List HostStep) → 1 ≤ node → node ≤ start.shape.nodes → (tc_of (after start (tc_host start node) log)).node ≡ node
   unfolding fresh_part
   tc_number node log some low =
-      tc_along (λ t. t.node ≡ node) (λ t x was. tc_node t x.body ∙ was) (tc_host start node) (ap (λ (s : host.Host). (tc_of s).node) (tc_started start node some low)) log
+      tc_along (λ t. t.node ≡ node) (λ t x was. tc_node t _ _ (tc_moves t x.body) ∙ was) (tc_host start node) (ap (λ (s : host.Host). (tc_of s).node) (tc_started start node some low)) log
 
   -- a host with a coordinator is that of the coordinator's node
   pub record IsAtNode (h : ℕ) (s : TcState) : Type 0 where
@@ -167,6 +98,12 @@ module _ (start : Start) where
       let of = tc_found start h log low runs in
       let number : (tc_of (after start h log)).node ≡ of.node = ap (λ k. (tc_of (after start k log)).node) of.is ∙ tc_number of.node log of.some of.low in
       record { some = omega (arith, number, of.some); low = omega (arith, number, of.low); is = of.is ∙ ap (tc_host start) (sym number) }
+
+  -- the host is that of a transaction's coordinator, of a node that is there
+  pub record IsHome (tx : TxId) (h : ℕ) : Type 0 where
+    pub some : 1 ≤ tx.tc
+    pub low : tx.tc ≤ start.shape.nodes
+    pub is : h ≡ home start tx
 
   -- and has the layout in which all begin
   begun_layout : (h : ℕ) → has_tc (started start h) ≡ true → (tc_of (started start h)).layout ≡ first_layout start.shape

@@ -2,10 +2,9 @@
 use Rattle.std.proofs.Common.{◌≡◌, ◌⊎◌, inl, inr, ℕ, ◌≤◌, List, ◌∷◌, [], Bool, true, false, refl, ap, sym, ◌∙◌, arith}
 use Rattle.std.specs.Prelude.{Option, None, Some}
 use Rattle.std.proofs.lemmas.Bool.{false≢true, true≢false}
-use Rattle.api_block.specs.Api.{api_table}
 use Rattle.api_block.specs.declared.opened.OpenTransaction.{OpenTransaction}
 use Rattle.api_block.specs.State.{ApiState}
-use Rattle.node_core.proofs.HostCases.{BlockCase, IsApiStep, IsDihStep, IsIdleStep, IsRowsStep, IsTcStep, api_takes, block_case, dih_takes, none_takes, rows_take, runs, tc_takes}
+use Rattle.node_core.proofs.HostCases.{BlockCase, IsRowsStep, IsTcStep, api_takes, block_case, dih_takes, none_takes, rows_take, runs, tc_takes}
 use Rattle.node_core.specs.Blocks.{api_of, dih_of, has_lqh, has_tc, lqh_of, tc_of}
 use Rattle.node_core.specs.declared.host.Host.{Host}
 use Rattle.node_core.specs.declared.host.Host.TheVariants.{Shell, Main, Tc, Ldm}
@@ -140,6 +139,13 @@ idle_unheard (Shell s) at off on = refl
 idle_unheard (Main m) at off on = refl
 idle_unheard (Tc p) at off on = refl
 
+idle_tc : (s : Host) (at : BlockId) → runs s at ≡ false → has_tc s ≡ true → is_tc at ≡ false
+idle_tc (Tc p) block.Tc off on = absurd (true≢false off)
+idle_tc (Tc p) _ off on = refl
+idle_tc (Shell s) at off on = absurd (false≢true on)
+idle_tc (Main m) at off on = absurd (false≢true on)
+idle_tc (Ldm s) at off on = absurd (false≢true on)
+
 -- of a host that runs rows: the step is theirs, or the signal is for another block
 pub rows_turn : (s : Host) (x : Signal) → has_lqh s ≡ true → IsRowsStep s x (row s x) ⊎ ((lqh_of (row s x).state ≡ lqh_of s) × (is_lqh x.to.block ≡ false))
 rows_turn s x on = by (row s x) (block_case s x)
@@ -154,6 +160,17 @@ rows_turn s x on = by (row s x) (block_case s x)
         off : (b : Bool) → is_lqh x.to.block ≡ b → is_lqh x.to.block ≡ false
         off false e = e
         off true e = absurd (true≢false (sym on ∙ idle_unheard s x.to.block step.runs e))
+
+-- of a host that runs a coordinator: the step is its, or the signal is for another block
+pub tc_turn : (s : Host) (x : Signal) → has_tc s ≡ true → IsTcStep s x (row s x) ⊎ ((tc_of (row s x).state ≡ tc_of s) × (is_tc x.to.block ≡ false))
+tc_turn s x on = by (row s x) (block_case s x)
+  where
+    by : (t : Step Host) → BlockCase s x t → IsTcStep s x t ⊎ ((tc_of t.state ≡ tc_of s) × (is_tc x.to.block ≡ false))
+    by t (tc_takes step) = inl step
+    by t (api_takes step) = inr (step.tc, ap is_tc step.at)
+    by t (rows_take step) = inr (step.tc, ap is_tc step.at)
+    by t (dih_takes step) = inr (step.tc, ap is_tc step.at)
+    by t (none_takes step) = inr (ap (λ u. tc_of u.state) step.is, idle_tc s x.to.block step.runs on)
 
 module _ (tx : TxId) (s : Host) (x : Signal) (once : tally (is_keyed tx) (tc_of s).live ≤ 1) (own : Each (λ (e : TxId × Transaction). IsOwn (tc_of s).node (tc_of s).next_seq e.0) (tc_of s).live) where
   -- a step of another block than the coordinator and the rows

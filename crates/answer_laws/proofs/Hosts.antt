@@ -1,5 +1,5 @@
 -- What the hosts of right logs are: the shell's, whose transactions are good, and those of coordinators, which tell truly.
-use Rattle.std.proofs.Common.{◌≡◌, ℕ, ◌+◌, ◌<◌, ◌≤◌, List, [], ◌∷◌, Bool, true, false, refl, ap, sym, ◌∙◌, subst, arith}
+use Rattle.std.proofs.Common.{◌≡◌, ℕ, ◌+◌, ◌<◌, List, [], ◌∷◌, Bool, true, false, refl, ap, sym, ◌∙◌, subst, arith}
 use Rattle.std.specs.Prelude.{◌==◌, ◌&&◌, Option}
 use Rattle.std.proofs.lemmas.Bool.{false≢true}
 use Rattle.run_theory.proofs.Pasts.{each_map}
@@ -30,19 +30,19 @@ use Rattle.node_core.specs.Fresh.{fresh_shell}
 use Rattle.node_core.specs.Row.{row, shell_row}
 use Rattle.tc_block.specs.State.{TcState}
 use Rattle.tc_block.specs.Tc.{begin_if, begin_row, is_full, next_tx, tc_table}
-use Rattle.world_core.specs.Hosts.{home, host_for, hosts, started}
+use Rattle.world_core.specs.Hosts.{host_for, hosts, started}
 use Rattle.world_core.specs.Machine.{after, machine, step_after}
 use Rattle.world_core.specs.Start.{Start}
 use Rattle.world_core.specs.Steps.{Addressed, HostStep}
 use Rattle.answer_laws.proofs.ApiBegins.{AreGood, IsDue, count_move, good_move}
 use Rattle.answer_laws.proofs.ApiMoves.{ApiMove, api_moves, begun_as, ends, goes, is_api_kind, opens, refuses, rests}
 use Rattle.answer_laws.proofs.DihSends.{dih_kinds}
-use Rattle.answer_laws.proofs.HostSteps.{at_own_node}
+use Rattle.answer_laws.proofs.HostSteps.{IsHome, at_own_node}
 use Rattle.answer_laws.proofs.LinkCounts.{sent_truths}
 use Rattle.answer_laws.proofs.LqhSends.{lqh_kinds}
 use Rattle.answer_laws.proofs.SendKinds.{are_of, each_of, is_dih_kind, is_lqh_kind, is_tc_kind, none_of}
-use Rattle.answer_laws.proofs.TcLives.{is_start, start_of}
-use Rattle.answer_laws.proofs.TcMoves.{end_of, is_end}
+use Rattle.answer_laws.proofs.TcLives.{start_of}
+use Rattle.answer_laws.proofs.TcMoves.{end_of}
 use Rattle.answer_laws.proofs.TcSends.{tc_kinds, tx_in}
 use Rattle.answer_laws.proofs.Wishes.{and_false, dih_replies, dih_wishes, is_api, is_reply, is_tc, is_wish, lqh_replies, lqh_wishes, reply_of, sends_of, tc_replies, tc_wishes, to_node, wish_of}
 use Rattle.answer_laws.specs.Answered.{opened_in}
@@ -185,12 +185,6 @@ host_tells s x =
       dih = λ runs at. never _ is_dih_kind (λ name tx. refl) (dih_table (dih_of s) x.body).effects.sends (dih_kinds (dih_of s) x.body);
       rows = λ runs at. never _ is_lqh_kind (λ name tx. refl) (lqh_table (lqh_of s) x.body).effects.sends (lqh_kinds (lqh_of s) x.body);
     })
-
--- the host of a transaction's coordinator
-pub record IsHome (start : Start) (tx : TxId) (h : ℕ) : Type 0 where
-  pub some : 1 ≤ tx.tc
-  pub low : tx.tc ≤ start.shape.nodes
-  pub is : h ≡ home start tx
 
 -- who tells that a transaction begins is the host of its coordinator
 abbrev pub TellsHome : Start → ℕ → Body → Type 0

@@ -3,7 +3,7 @@ use Rattle.std.proofs.Common.{◌≡◌, ◌≢◌, ◌⊎◌, ℕ, ◌+◌, ◌
 use Rattle.std.specs.Prelude.{◌==◌, ◌&&◌, Some, if◌then◌else◌}
 use Rattle.std.proofs.lemmas.Bool.{cases_eq, cases_lt}
 use Rattle.std.proofs.lemmas.Bool.Decides.{nat_tests}
-use Rattle.run_theory.proofs.Pasts.{each_in, each_map}
+use Rattle.run_theory.proofs.Pasts.{each_map}
 use Rattle.run_theory.specs.Links.{is_from, put, sent, taken}
 use Rattle.run_theory.specs.Lists.{Each, IsIn, IsPast}
 use Rattle.sig_core.specs.declared.member.TxId.{TxId}
@@ -20,22 +20,23 @@ use Rattle.node_core.specs.Requests.{is_request}
 use Rattle.node_core.specs.Row.{row}
 use Rattle.tc_block.specs.declared.transaction.Transaction.{Transaction}
 use Rattle.world_core.proofs.HostNumbers.{given_past}
-use Rattle.world_core.specs.Hosts.{first_membership, home, host_for, hosts, tc_host}
+use Rattle.world_core.specs.Hosts.{first_membership, home, host_for, hosts}
 use Rattle.world_core.specs.Machine.{addressed, after, all_addressed, counted as one_counted, machine, sent_count, step_after}
 use Rattle.world_core.specs.Start.{Start}
 use Rattle.world_core.specs.Steps.{Addressed, HostStep}
 use Rattle.sig_core.proofs.Keys.{same_tx-self}
 use Rattle.answer_laws.proofs.LqhOps.{right_of, left_of}
+use Rattle.answer_laws.proofs.Ahead.{none_kept}
 use Rattle.answer_laws.proofs.ApiHolds.{AreHeld, IsOrdered, log_holds}
-use Rattle.answer_laws.proofs.Hosts.{IsHome, TellsHome, told}
-use Rattle.answer_laws.proofs.HostSteps.{at_own_node, first_live, live_runs}
+use Rattle.answer_laws.proofs.Hosts.{TellsHome, told}
+use Rattle.answer_laws.proofs.HostSteps.{first_live}
 use Rattle.answer_laws.proofs.LinkCounts.{all_three, sent_to_shell, shell_signals, signals, steps, steps_from, taken_signals, taken_steps, to_host}
 use Rattle.commit_laws.proofs.Tally.{Counted, counted, tally_in, tally_none, tally_past}
 use Rattle.commit_laws.specs.Counts.{one_if, tally}
-use Rattle.answer_laws.proofs.TcLives.{IsKept, IsOwn, due_move, is_done, is_keyed, is_start, kept_move, start_of, starts_in}
-use Rattle.answer_laws.proofs.TcMoves.{TcMove, end_of, ends_in, host_moves, is_end, same_tx-is}
+use Rattle.answer_laws.proofs.TcLives.{IsKept, due_move, is_done, is_keyed, is_start, kept_move, start_of, starts_in}
+use Rattle.answer_laws.proofs.TcMoves.{TcMove, end_of, host_moves, is_end, same_tx-is}
 use Rattle.answer_laws.proofs.Wishes.{is_api, sends_of}
-use Rattle.answer_laws.specs.Answered.{AreQuiet, EachHasCoordinator, IsLiveAt, is_completing, opened_after, opened_in}
+use Rattle.answer_laws.specs.Answered.{AreQuiet, EachHasCoordinator, IsLiveAs, IsLiveAt, is_completing, opened_after, opened_in}
 
 -- in a list of signals, the newest first, what has ended has begun before
 abbrev pub AreOrdered : TxId → List Addressed → Type 0
@@ -90,18 +91,7 @@ module _ (start : Start) (tx : TxId) where
       later false some = due (omega (arith, some))
 
   pub keeps : (h : ℕ) (log : List HostStep) → HostKeeps h log
-  keeps h [] = record {
-    keeps = record {
-      began = omega (arith, ap (tally (is_keyed tx)) (first_live start h));
-      order = λ e. e;
-      kept = λ e. absurd (omega (arith, e));
-      told = λ e. absurd (omega (arith, e, ap (tally (is_done tx)) (first_live start h)));
-      once = omega arith;
-      unborn = λ e. refl;
-      own = subst (Each (λ (e : TxId × Transaction). IsOwn (tc_of (after start h [])).node (tc_of (after start h [])).next_seq e.0)) (sym (first_live start h)) tt;
-    };
-    ordered = tt;
-  }
+  keeps h [] = record { keeps = none_kept tx (tc_of (after start h [])) (first_live start h); ordered = tt }
   keeps h (e ∷ log) = next (keeps h log)
     where
       g : host.Host
@@ -126,13 +116,6 @@ module _ (start : Start) (tx : TxId) where
         ordered = put_ordered h e.step.stamp (sent_count start h log) sends (sent (machine start) h 0 log) k.ordered
             (λ some. due_move tx (tc_of g) _ sends begun ended move k.keeps (omega (arith, some, sent_to_shell start (is_end tx) sends)));
       }
-
-  -- a host that has the transaction is its home
-  pub live_home : (h : ℕ) (log : List HostStep) → h < hosts start → (t : Transaction) → IsIn (tx, t) (tc_of (after start h log)).live → IsHome start tx h
-  live_home h log low t inside =
-      let own = at_own_node start h log low (live_runs (after start h log) (tx, t) inside) in
-      let home = (each_in (λ (e : TxId × Transaction). IsOwn (tc_of (after start h log)).node (tc_of (after start h log)).next_seq e.0) (tx, t) (tc_of (after start h log)).live (keeps h log).keeps.own inside).home in
-      record { some = omega (arith, home, own.some); low = omega (arith, home, own.low); is = own.is ∙ ap (tc_host start) (sym home) }
 
   -- neither is told by another host
   pub silent_start : (h : ℕ) (log : List HostStep) → h < hosts start → h ≢ home start tx → signals (is_start tx) (sent (machine start) h 0 log) ≡ 0
@@ -258,6 +241,14 @@ module _ (start : Start) (tx : TxId) where
         at_low : (home start tx < hosts start) ⊎ (hosts start ≤ home start tx) → IsLiveAt tx (after start (home start tx) (logs (home start tx)))
         at_low (inl low) = live_at (home start tx) some (none low (cases_lt 0 (at_home (is_end tx))))
         at_low (inr high) = absurd (omega (arith, some, ap (λ log. signals (is_start tx) (sent (machine start) (home start tx) 0 log)) (quiet.within (home start tx) high)))
+
+-- a host that has a transaction at quiet is there
+pub live_low : (start : Start) (logs : ℕ → List HostStep) (tx : TxId) (t : Transaction) → AreQuiet start logs → (h : ℕ) → IsLiveAs tx t (after start h (logs h)) → h < hosts start
+live_low start logs tx t quiet h live = go (cases_lt h (hosts start))
+  where
+    go : (h < hosts start) ⊎ (hosts start ≤ h) → h < hosts start
+    go (inl low) = low
+    go (inr high) = absurd (subst (IsIn (tx, t)) (ap (λ log. (tc_of (after start h log)).live) (quiet.within h high) ∙ first_live start h) live)
 
 -- at quiet each transaction that has begun is one of its coordinator
 pub each_lives : EachHasCoordinator

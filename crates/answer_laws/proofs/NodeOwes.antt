@@ -16,6 +16,8 @@ use Rattle.sig_core.specs.declared.signal.client.ClientSignal.TheVariants.{TcBeg
 use Rattle.sig_core.specs.declared.signal.epoch.EpochSignal.TheVariants.{DiVerifyConf}
 use Rattle.sig_core.specs.declared.signal.host.HostSignal.TheVariants.{Continue}
 use Rattle.sig_core.specs.declared.signal.host.Work.TheVariants as work
+use Rattle.frag_map.specs.Layout.{chain_of}
+use Rattle.sig_core.specs.Op.{key_of}
 use Rattle.sig_core.specs.Same.{same_tx}
 use Rattle.sig_core.specs.Step.{Step}
 use Rattle.tc_block.specs.declared.phase.Asked.{Asked}
@@ -201,7 +203,7 @@ module _ (n : ℕ) (tx : TxId) where
   cont_in (Host (Continue (work.Transaction one) a)) = at_if (same_tx one tx) a
   cont_in _ = None
 
-  pub tc_owes : (s : TcState) (body : Body) → Each (λ (e : TxId × Transaction). IsKnown n e.1) s.live → tally (is_keyed tx) s.live ≤ 1 → Each (λ (e : TxId × Transaction). IsOwn s.node s.next_seq e.0) s.live → is_chain n s.layout.full ≡ true
+  pub tc_owes : (s : TcState) (body : Body) → Each (λ (e : TxId × Transaction). IsKnown n e.1) s.live → tally (is_keyed tx) s.live ≤ 1 → Each (λ (e : TxId × Transaction). IsOwn s.node s.next_seq e.0) s.live → ((key : List ℕ) → is_chain n (chain_of s.layout key) ≡ true)
       → Steps s (tc_table s body) (came_in body) (cont_in body)
   unfolding begin_row pass_row
   tc_owes s (Host (Continue (work.Transaction one) a)) known once own good =
@@ -209,7 +211,7 @@ module _ (n : ℕ) (tx : TxId) where
       (turn_steps s known once own one _ (λ x. 0) (λ x. at_if (same_tx one x) a) (λ e. (refl, ap (λ b. at_if b a) e))
       (λ t k home. subst (λ b. TurnOwes n one t (going (go_on_row s.node s.layout one t a)) 0 (at_if b a)) (sym (same_tx-self one)) (go_on_owes n one t k s.node s.layout a home)))
   tc_owes s (Client (TcBeginReq name)) known once own good = begin_steps s known once own name (is_full s)
-  tc_owes s (Client (TcKeyReq one op)) known once own good = quiet_steps s known once own one _ (λ t k home. operate_owes n one t k s.layout op good)
+  tc_owes s (Client (TcKeyReq one op)) known once own good = quiet_steps s known once own one _ (λ t k home. operate_owes n one t k s.layout op (good (key_of op)))
   tc_owes s (Client (TcCommitReq one)) known once own good = quiet_steps s known once own one _ (λ t k home. decide_owes n one t k s.node)
   tc_owes s (Client (TcRollbackReq one)) known once own good = quiet_turns s known once own one _ (λ t k home. rollback_owes n one t k s.node s.layout)
   tc_owes s (Client (TcWaitReq one)) known once own good = quiet_steps s known once own one _ (λ t k home. wait_owes n one t k)

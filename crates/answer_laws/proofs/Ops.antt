@@ -1,5 +1,5 @@
 -- An operation that a coordinator's transaction has unanswered is on its way, or waits at a node.
-use Rattle.std.proofs.Common.{◌≡◌, ◌≢◌, ◌⊎◌, ℕ, zero, suc, ◌+◌, ◌≤◌, ◌<◌, List, [], ◌∷◌, ◌++◌, Bool, true, false, refl, ap, sym, ◌∙◌, subst, arith, inl, inr}
+use Rattle.std.proofs.Common.{◌≡◌, ◌≢◌, ◌⊎◌, ℕ, ◌+◌, ◌≤◌, ◌<◌, List, [], ◌∷◌, Bool, true, false, refl, ap, sym, ◌∙◌, subst, arith, inl, inr}
 use Rattle.std.specs.Prelude.{◌==◌, ◌&&◌, nat_lt, Some}
 use Rattle.std.proofs.lemmas.Bool.{cases_eq, eqb-true, false≢true, true≢false}
 use Rattle.std.proofs.lemmas.Bool.Decides.{nat_tests}
@@ -20,7 +20,6 @@ use Rattle.sig_core.specs.declared.signal.Body.{Body}
 use Rattle.sig_core.specs.declared.signal.Body.TheVariants.{Chain}
 use Rattle.sig_core.specs.declared.signal.chain.ChainSignal.TheVariants.{LqhKeyReq, LqhKeyConf, LqhKeyRef}
 use Rattle.sig_core.specs.Op.{key_of}
-use Rattle.sig_core.specs.Place.{coordinator, rows_of}
 use Rattle.sig_core.specs.Same.{same_key, same_tx}
 use Rattle.sig_core.specs.Step.{Step}
 use Rattle.tc_block.specs.declared.phase.Asked.{Asked}
@@ -29,18 +28,17 @@ use Rattle.tc_block.specs.State.{TcState}
 use Rattle.tc_block.specs.Tc.{tc_table}
 use Rattle.frag_map.specs.Layout.{first_layout}
 use Rattle.frag_map.specs.Shape.{IsShape}
-use Rattle.world_core.proofs.HostNumbers.{IsNodes, rows_found, rows_run, tc_runs}
-use Rattle.world_core.specs.Hosts.{home, host_for, hosts, rows_host, tc_host}
+use Rattle.world_core.proofs.HostNumbers.{IsNodes, rows_found, tc_runs}
+use Rattle.world_core.specs.Hosts.{home, host_for, hosts, rows_host}
 use Rattle.world_core.specs.Machine.{after, machine, step_after}
 use Rattle.world_core.specs.Start.{Start}
 use Rattle.world_core.specs.Steps.{HostStep}
 use Rattle.sig_core.proofs.Keys.{same_tx-self, same_key-self}
-use Rattle.answer_laws.proofs.Ahead.{Goes, addressed, along, at_tc, layout_after}
+use Rattle.answer_laws.proofs.Ahead.{Goes, addressed, along, at_home, at_tc, heard_rows, home_place, live_tx}
 use Rattle.answer_laws.proofs.FirstChains.{first_node, good_chain}
 use Rattle.answer_laws.proofs.Flows.{flow_few}
-use Rattle.answer_laws.proofs.HostSteps.{first_live, no_waiting, reaches}
+use Rattle.answer_laws.proofs.HostSteps.{first_live, no_waiting, reaches, tc_layout}
 use Rattle.answer_laws.proofs.HostTurns.{idle_unheard}
-use Rattle.answer_laws.proofs.Lives.{live_home}
 use Rattle.answer_laws.proofs.LinkCounts.{signals}
 use Rattle.answer_laws.proofs.LqhOps.{came_of, is_good, is_lqh, is_mine, is_node, is_op, left_of, lqh_ops, ops, right_of, true_and}
 use Rattle.answer_laws.proofs.NodeOps.{AreRight, StepAsks, answers_of, is_asking, tc_steps}
@@ -54,21 +52,7 @@ use Rattle.commit_laws.specs.Counts.{total}
 use Rattle.answer_laws.proofs.Wishes.{is_tc}
 use Rattle.answer_laws.specs.Answered.{AreQuiet, EachOperationWaits, IsLiveAs, IsWaitingAt, Waits}
 
--- a place for rows, or for a coordinator
-pub rows_place : (to : Place) → is_lqh to.block ≡ true → to ≡ rows_of to.node
-rows_place to e = ap (λ b. record { node = to.node; block = b }) (only to.block e)
-  where
-    only : (b : BlockId) → is_lqh b ≡ true → b ≡ block.Lqh
-    only block.Lqh e = refl
-    only _ e = absurd (false≢true e)
-
-pub tc_place : (to : Place) → is_tc to.block ≡ true → to ≡ coordinator to.node
-tc_place to e = ap (λ b. record { node = to.node; block = b }) (only to.block e)
-  where
-    only : (b : BlockId) → is_tc b ≡ true → b ≡ block.Tc
-    only block.Tc e = refl
-    only _ e = absurd (false≢true e)
-
+-- a host that has nothing of a coordinator's signals runs none
 idle_tc : (s : host.Host) (at : BlockId) → runs s at ≡ false → is_tc at ≡ true → has_tc s ≡ false
 idle_tc (Tc p) block.Tc off on = absurd (true≢false off)
 idle_tc (Tc p) _ off on = absurd (false≢true on)
@@ -89,7 +73,7 @@ module _ (start : Start) (is : IsShape start.shape) (tx : TxId) (key : List ℕ)
       → StepAsks nodes tx key (tc_of (after start h log)) (tc_table (tc_of (after start h log)) body).state (tc_table (tc_of (after start h log)) body).effects.sends (answers_of nodes tx key body)
   turn h log body on right =
       let x = at_tc start tx h log in
-      tc_steps nodes tx key (tc_of (after start h log)) body right x.once x.own (subst (IsGoodLayout nodes) (sym (layout_after start h log on)) good)
+      tc_steps nodes tx key (tc_of (after start h log)) body right x.once x.own (subst (IsGoodLayout nodes) (sym (tc_layout start h log on)) good)
 
   right_after : (h : ℕ) (log : List HostStep) → AreRight (tc_of (after start h log)).live
   right_after h [] = subst AreRight (sym (first_live start h)) tt
@@ -143,40 +127,38 @@ module _ (start : Start) (is : IsShape start.shape) (tx : TxId) (key : List ℕ)
     abbrev c : ℕ
     c = came e.step.taken.to e.step.taken.body
 
+    abbrev for_rows : Bool
+    for_rows = is_lqh e.step.taken.to.block && is_node nodes e.step.taken.to.node
+
+    abbrev for_home : Bool
+    for_home = is_tc e.step.taken.to.block && (e.step.taken.to.node == tx.tc)
+
     -- it runs the block that an operation of the transaction is for
-    off_rows : has_lqh s ≡ false → (b : Bool) → (is_lqh e.step.taken.to.block && is_node nodes e.step.taken.to.node) ≡ b → (is_lqh e.step.taken.to.block && is_node nodes e.step.taken.to.node) ≡ false
+    off_rows : has_lqh s ≡ false → (b : Bool) → for_rows ≡ b → for_rows ≡ false
     off_rows off false q = q
-    off_rows off true q =
-        let node : is_node nodes e.step.taken.to.node ≡ true = right_of (is_lqh e.step.taken.to.block) (is_node nodes e.step.taken.to.node) q in
-        let at : h ≡ rows_host start e.step.taken.to.node = sym addressed_here ∙ ap (host_for start) (rows_place e.step.taken.to (left_of (is_lqh e.step.taken.to.block) (is_node nodes e.step.taken.to.node) q)) in
-        let on : has_lqh s ≡ true =
-        subst (λ k. has_lqh (after start k log) ≡ true) (sym at)
-        (rows_run start e.step.taken.to.node log (grind (arith, nat_tests, left_of (nat_lt 0 e.step.taken.to.node) (nat_lt e.step.taken.to.node nodes) node)) (grind (arith, nat_tests, right_of (nat_lt 0 e.step.taken.to.node) (nat_lt e.step.taken.to.node nodes) node))) in
-        absurd (true≢false (sym on ∙ off))
+    off_rows off true q = absurd (true≢false (sym (heard_rows start h log e.step.taken.to addressed_here q) ∙ off))
 
-    at_home : (is_tc e.step.taken.to.block && (e.step.taken.to.node == tx.tc)) ≡ true → h ≡ home start tx
-    at_home q =
-        sym addressed_here ∙ ap (host_for start) (tc_place e.step.taken.to (left_of (is_tc e.step.taken.to.block) (e.step.taken.to.node == tx.tc) q))
-        ∙ ap (tc_host start) (eqb-true e.step.taken.to.node tx.tc (right_of (is_tc e.step.taken.to.block) (e.step.taken.to.node == tx.tc) q))
+    go_home : for_home ≡ true → h ≡ home start tx
+    go_home q = sym addressed_here ∙ home_place start tx e.step.taken.to q
 
-    off_home : h ≢ home start tx → (b : Bool) → (is_tc e.step.taken.to.block && (e.step.taken.to.node == tx.tc)) ≡ b → (is_tc e.step.taken.to.block && (e.step.taken.to.node == tx.tc)) ≡ false
+    off_home : h ≢ home start tx → (b : Bool) → for_home ≡ b → for_home ≡ false
     off_home away false q = q
-    off_home away true q = absurd (away (at_home q))
+    off_home away true q = absurd (away (go_home q))
 
-    off_tc : has_tc s ≡ false → (b : Bool) → (is_tc e.step.taken.to.block && (e.step.taken.to.node == tx.tc)) ≡ b → (is_tc e.step.taken.to.block && (e.step.taken.to.node == tx.tc)) ≡ false
+    off_tc : has_tc s ≡ false → (b : Bool) → for_home ≡ b → for_home ≡ false
     off_tc off false q = q
-    off_tc off true q = absurd (true≢false (sym (subst (λ k. has_tc (after start k log) ≡ true) (sym (at_home q)) (tc_runs start tx.tc log some low)) ∙ off))
+    off_tc off true q = absurd (true≢false (sym (subst (λ k. has_tc (after start k log) ≡ true) (sym (go_home q)) (tc_runs start tx.tc log some low)) ∙ off))
 
     idle_came : runs s e.step.taken.to.block ≡ false → c ≡ 0
     idle_came off = none_came e.step.taken.to e.step.taken.body (of_rows (is_lqh e.step.taken.to.block) refl) (of_tc (is_tc e.step.taken.to.block) refl)
       where
-        of_rows : (b : Bool) → is_lqh e.step.taken.to.block ≡ b → (is_lqh e.step.taken.to.block && is_node nodes e.step.taken.to.node) ≡ false
+        of_rows : (b : Bool) → is_lqh e.step.taken.to.block ≡ b → for_rows ≡ false
         of_rows false q = ap (λ b. b && is_node nodes e.step.taken.to.node) q
-        of_rows true q = off_rows (idle_unheard s e.step.taken.to.block off q) _ refl
+        of_rows true q = off_rows (idle_unheard s e.step.taken.to.block off q) for_rows refl
 
-        of_tc : (b : Bool) → is_tc e.step.taken.to.block ≡ b → (is_tc e.step.taken.to.block && (e.step.taken.to.node == tx.tc)) ≡ false
+        of_tc : (b : Bool) → is_tc e.step.taken.to.block ≡ b → for_home ≡ false
         of_tc false q = ap (λ b. b && (e.step.taken.to.node == tx.tc)) q
-        of_tc true q = off_tc (idle_tc s e.step.taken.to.block off q) _ refl
+        of_tc true q = off_tc (idle_tc s e.step.taken.to.block off q) for_home refl
 
     -- at a block of others none came
     other_came : is_lqh e.step.taken.to.block ≡ false → is_tc e.step.taken.to.block ≡ false → c ≡ 0
@@ -361,5 +343,5 @@ module _ (start : Start) (is : IsShape start.shape) (tx : TxId) (key : List ℕ)
 
 pub operations_wait : EachOperationWaits
 operations_wait start logs h tx t asked quiet low live is =
-    let home = live_home start tx h (logs h) low t live in
+    let home = at_home start tx h (logs h) t low (live_tx start tx h (logs h) t live) in
     asked_waits start quiet.shape tx (key_of asked.op) home.some home.low logs quiet t asked (subst (λ k. IsLiveAs tx t (after start k (logs k))) home.is live) is refl

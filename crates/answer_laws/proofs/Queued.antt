@@ -15,8 +15,6 @@ use Rattle.run_theory.specs.Links.{is_from, sent, taken}
 use Rattle.run_theory.specs.Runs.{log_of}
 use Rattle.sig_core.specs.declared.member.TxId.{TxId}
 use Rattle.sig_core.specs.declared.outs.Outgoing.{Outgoing}
-use Rattle.sig_core.specs.declared.place.BlockId.{BlockId}
-use Rattle.sig_core.specs.declared.place.BlockId.TheVariants as block
 use Rattle.sig_core.specs.declared.place.Place.{Place}
 use Rattle.sig_core.specs.declared.signal.Body.{Body}
 use Rattle.sig_core.specs.declared.signal.Body.TheVariants as body
@@ -25,23 +23,22 @@ use Rattle.sig_core.specs.declared.signal.host.Work.TheVariants as work
 use Rattle.sig_core.specs.Op.{key_of}
 use Rattle.sig_core.specs.Place.{rows_of}
 use Rattle.sig_core.specs.Same.{same_key, same_tx}
-use Rattle.tc_block.specs.declared.transaction.Transaction.{Transaction}
 use Rattle.world_core.proofs.HostNumbers.{host_below, rows_run, rows_started}
-use Rattle.world_core.specs.Hosts.{home, host_for, hosts, rows_host, started}
+use Rattle.world_core.specs.Hosts.{host_for, hosts, rows_host, started}
 use Rattle.world_core.specs.Machine.{after, machine, step_after}
 use Rattle.world_core.specs.Start.{Start}
 use Rattle.world_core.specs.Steps.{HostStep}
 use Rattle.sig_core.proofs.Keys.{same_key-self, same_tx-self}
 use Rattle.commit_laws.proofs.Tally.{tally_in}
 use Rattle.commit_laws.specs.Counts.{one_if}
-use Rattle.answer_laws.proofs.Ahead.{Goes, along, at_home, few_taken, live_tx, tx_at}
+use Rattle.answer_laws.proofs.Ahead.{Goes, along, at_home, few_taken, live_tx, rows_place, tx_at}
 use Rattle.answer_laws.proofs.Flows.{flow_grows}
 use Rattle.answer_laws.proofs.HostTurns.{rows_turn}
 use Rattle.answer_laws.proofs.LinkCounts.{sent_signals, signals, taken_signals, to_host}
 use Rattle.answer_laws.proofs.Lone.{IsLone, first_lone, lone_step, one_waits}
 use Rattle.answer_laws.proofs.LqhLeaves.{lqh_waits}
 use Rattle.answer_laws.proofs.LqhNode.{lqh_node}
-use Rattle.answer_laws.proofs.LqhOps.{is_lqh, true_and}
+use Rattle.answer_laws.proofs.LqhOps.{is_lqh, left_of, right_of, true_and}
 use Rattle.answer_laws.proofs.LqhWaits.{goes_on, granted_is, is_more, is_more_body, queued, waiting}
 use Rattle.answer_laws.proofs.Ops.{operations_wait}
 use Rattle.answer_laws.proofs.Rights.{asked_undecided}
@@ -62,26 +59,14 @@ plain_more : (node : ℕ) (to : Place) (body : Body) → is_more node to body �
 plain_more node to (body.Host (Continue work.Granted at)) e = refl
 plain_more node to _ e = cc
 
-rows_only : (b : BlockId) → is_lqh b ≡ true → b ≡ block.Lqh
-rows_only block.Lqh e = refl
-rows_only _ e = absurd (false≢true e)
-
 -- what goes on goes on at its own node
 more_own : (start : Start) (node : ℕ) (xs : List Outgoing) → sends_of (is_more node) xs ≤ sends_of (to_host start (rows_host start node) (is_more node)) xs
 more_own start node [] = omega arith
 more_own start node (o ∷ xs) = omega (arith, more_own start node xs, one o.to o.body (is_more node o.to o.body) refl)
   where
-    at_place : (to : Place) → (is_lqh to.block && (to.node == node)) ≡ true → host_for start to ≡ rows_host start node
-    at_place to e = by (is_lqh to.block) refl e
-      where
-        by : (b : Bool) → is_lqh to.block ≡ b → (b && (to.node == node)) ≡ true → host_for start to ≡ rows_host start node
-        by true is q =
-            let here : to ≡ rows_of node = ap (λ b. record { node = to.node; block = b }) (rows_only to.block is) ∙ ap rows_of (eqb-true to.node node q) in
-            ap (host_for start) here
-        by false is q = absurd (false≢true q)
-
     at_self : (to : Place) (b : Body) → is_more node to b ≡ true → (host_for start to == rows_host start node) ≡ true
-    at_self to (body.Host (Continue work.Granted at)) e = eq-eqb (host_for start to) (rows_host start node) (at_place to e)
+    at_self to (body.Host (Continue work.Granted at)) e =
+        eq-eqb _ _ (ap (host_for start) (rows_place to (left_of (is_lqh to.block) (to.node == node) e)) ∙ ap (rows_host start) (eqb-true to.node node (right_of (is_lqh to.block) (to.node == node) e)))
     at_self to _ e = cc
 
     one : (to : Place) (body : Body) (b : Bool) → is_more node to body ≡ b → one_if (is_more node to body) ≤ one_if ((host_for start to == rows_host start node) && is_more node to body)
@@ -237,7 +222,7 @@ operations_queue start logs h tx t asked quiet low live is = queued_at (operatio
 
     none : F start tx logs ≡ 0
     none =
-        (is_undecided start tx logs quiet.within quiet.right).undecided t (subst (λ k. tx_at tx (after start k (logs k)) ≡ Some t) (sym (at_home start tx h (logs h) t low there)) there)
+        (is_undecided start tx logs quiet.within quiet.right).undecided t (subst (λ k. tx_at tx (after start k (logs k)) ≡ Some t) (at_home start tx h (logs h) t low there).is there)
         (asked_undecided start tx h (logs h) t asked there is)
 
     queued_at : Waits start logs tx (key_of asked.op) → WaitsForLock start logs tx

@@ -1,8 +1,8 @@
 -- What is known of each transaction at quiet, put together.
 use Rattle.world_core.specs.Hosts.{home}
 use Rattle.answer_laws.proofs.Asks.{each_asks_where_operating}
-use Rattle.answer_laws.proofs.Commits.{live_low, no_commit}
-use Rattle.answer_laws.proofs.Lives.{each_lives}
+use Rattle.answer_laws.proofs.Commits.{no_commit}
+use Rattle.answer_laws.proofs.Lives.{each_lives, live_low}
 use Rattle.answer_laws.proofs.Ops.{operations_wait}
 use Rattle.answer_laws.specs.Answered.{EachIsServed}
 

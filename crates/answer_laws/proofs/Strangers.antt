@@ -1,6 +1,6 @@
 -- Which hosts tell of a transaction: its coordinator alone answers its operations, and the API alone asks for its commit.
-use Rattle.std.proofs.Common.{◌≡◌, ◌≢◌, ◌⊎◌, ℕ, ◌+◌, ◌≤◌, ◌<◌, List, [], ◌∷◌, Bool, true, false, refl, ap, sym, ◌∙◌, arith, inl, inr}
-use Rattle.std.specs.Prelude.{◌==◌, ◌&&◌, not, Option}
+use Rattle.std.proofs.Common.{◌≡◌, ◌≢◌, ◌⊎◌, ℕ, ◌≤◌, ◌<◌, List, [], ◌∷◌, Bool, true, false, refl, ap, sym, ◌∙◌, arith, inl, inr}
+use Rattle.std.specs.Prelude.{◌==◌, not, Option}
 use Rattle.std.proofs.lemmas.Bool.{cases_lt, false≢true}
 use Rattle.lqh_block.specs.Lqh.{lqh_table}
 use Rattle.node_core.proofs.HostCases.{of_effects}
@@ -15,10 +15,9 @@ use Rattle.sig_core.specs.declared.member.TxId.{TxId}
 use Rattle.sig_core.specs.declared.outs.Outgoing.{Outgoing}
 use Rattle.sig_core.specs.declared.place.Place.{Place}
 use Rattle.sig_core.specs.declared.signal.Body.{Body}
-use Rattle.sig_core.specs.declared.signal.Body.TheVariants.{Client, Epoch}
+use Rattle.sig_core.specs.declared.signal.Body.TheVariants.{Client}
 use Rattle.sig_core.specs.declared.signal.Signal.{Signal}
 use Rattle.sig_core.specs.declared.signal.client.ClientSignal.TheVariants.{TcBeginReq, TcKeyConf, TcCommitReq}
-use Rattle.sig_core.specs.declared.signal.epoch.EpochSignal.TheVariants.{DiVerifyConf}
 use Rattle.sig_core.specs.Same.{same_tx}
 use Rattle.tc_block.specs.State.{TcState}
 use Rattle.tc_block.specs.Tc.{begin_if, begin_row, is_full, tc_table}
@@ -113,7 +112,7 @@ module _ (start : Start) (tx : TxId) where
       by (in_rows step) = ap (λ f. answers_in tx f.sends) step.effects ∙ lqh_answers tx (lqh_table (lqh_of (after start h log)) e.step.taken.body).effects.sends (lqh_kinds (lqh_of (after start h log)) e.step.taken.body)
       by (aside step) = aside_answers tx (step_after start h log e).effects.sends step.kind
       by (starting step) = absurd (differs ((at_own_node start h log low step.runs).is ∙ ap (tc_host start) (sym (ap (λ (v : TxId). v.tc) step.one))))
-      by (turning step) = absurd (differs (sym (at_home start tx h log step.was low step.there)))
+      by (turning step) = absurd (differs (at_home start tx h log step.was low step.there).is)
 
   module _ (logs : ℕ → List HostStep) (right : AreLogs (machine start) logs) (in_n : IsWithin (hosts start) logs) where
     -- what the coordinator took of it the API has sent

@@ -1,6 +1,6 @@
 -- Turn by turn, what a transaction that aborts waits for.
 use Rattle.std.proofs.Common.{◌≡◌, ℕ, ◌+◌, ◌-◌, ◌≤◌, ◌<◌, List, [], ◌∷◌, ◌++◌, length, Bool, true, false, refl, ap, sym, ◌∙◌, subst, arith}
-use Rattle.std.specs.Prelude.{◌==◌, ◌&&◌, Option, None, Some}
+use Rattle.std.specs.Prelude.{◌==◌, ◌&&◌}
 use Rattle.std.specs.List.{flat_map}
 use Rattle.std.proofs.lemmas.Bool.{eqb-true, false≢true}
 use Rattle.run_theory.proofs.Pasts.{each_append}
@@ -15,7 +15,8 @@ use Rattle.sig_core.specs.declared.signal.Body.TheVariants.{Host, Chain}
 use Rattle.sig_core.specs.declared.signal.chain.ChainSignal.TheVariants.{Abort, Aborted}
 use Rattle.sig_core.specs.declared.signal.host.HostSignal.TheVariants.{Continue}
 use Rattle.sig_core.specs.declared.signal.host.Work.TheVariants as work
-use Rattle.frag_map.specs.Layout.{Layout}
+use Rattle.frag_map.specs.Layout.{Layout, chain_of}
+use Rattle.sig_core.specs.Op.{key_of}
 use Rattle.sig_core.specs.Same.{same_tx}
 use Rattle.tc_block.specs.declared.phase.Asked.{Asked}
 use Rattle.tc_block.specs.declared.phase.Phase.{Phase}
@@ -23,16 +24,16 @@ use Rattle.tc_block.specs.declared.phase.Phase.TheVariants.{Open, Verifying, Com
 use Rattle.tc_block.specs.declared.touched.Touched.{Touched}
 use Rattle.tc_block.specs.declared.transaction.Transaction.{Transaction}
 use Rattle.tc_block.specs.Abort as abort
-use Rattle.frag_map.specs.Layout.{chain_of}
 use Rattle.tc_block.specs.Part.{part_effects}
 use Rattle.tc_block.specs.Sends.{aborts_of, entering, front_sends, key_sends, phase_sends}
 use Rattle.tc_block.specs.State.{TcState}
 use Rattle.tc_block.specs.Turn.{Turn}
+use Rattle.lqh_block.proofs.IndexLemmas.{same as same_key-is}
 use Rattle.sig_core.proofs.Keys.{same_tx-self}
 use Rattle.answer_laws.proofs.LqhOps.{is_good, is_lqh, is_node, left_of, right_of, true_and}
 use Rattle.commit_laws.specs.Counts.{one_if}
 use Rattle.answer_laws.proofs.PartCounts.{IsPart, all_counted, is_cont, part_is}
-use Rattle.answer_laws.proofs.TcTurns.{abort_ends, aborted, aborts, all_completed, answers, asked_to, asks, commits, committed, completed, completes, decides, ends, entered_phase, gives_up, GivesUp, goes_on, is_row_answer, IsMissed, keeps, late, over_not, refused, TurnMove}
+use Rattle.answer_laws.proofs.TcTurns.{abort_ends, aborted, aborts, all_completed, answers, asked_to, asks, commits, committed, completed, completes, decides, ends, entered_phase, gives_up, GivesUp, goes_on, is_row_answer, IsAnswered, IsMissed, keeps, late, over_not, refused, TurnMove}
 use Rattle.answer_laws.proofs.Wishes.{is_tc, sends_of}
 use Rattle.answer_laws.specs.Answered.{is_aborting}
 
@@ -46,7 +47,7 @@ abbrev pub aborted_body : TxId → Body → Bool
 aborted_body tx (Chain (Aborted other key)) = same_tx other tx
 aborted_body tx _ = false
 
-module _ (n : ℕ) (tx : TxId) (layout : Layout) (good : is_good n layout.full ≡ true) where
+module _ (n : ℕ) (tx : TxId) (layout : Layout) (good : (key : List ℕ) → is_good n (chain_of layout key) ≡ true) where
   -- to each replica an abort goes
   replicas_pass : (key : List ℕ) (chain : List Member) → is_good n chain ≡ true
       → (Each (λ (x : Outgoing). is_abort n tx x.to x.body ≡ true) (aborts_of tx key chain)) × (length (aborts_of tx key chain) ≡ length chain)
@@ -61,13 +62,13 @@ module _ (n : ℕ) (tx : TxId) (layout : Layout) (good : is_good n layout.full �
 
   all_aborts : (why : AbortCause) (v : Bool) (k : ℕ) (touched : List Touched)
       → (Each (λ (x : Outgoing). is_abort n tx x.to x.body ≡ true) (flat_map (key_sends layout tx (Aborting why v k)) touched)) × (length (flat_map (key_sends layout tx (Aborting why v k)) touched) ≡ abort.replica_count layout touched)
-  unfolding key_sends chain_of
+  unfolding key_sends
   all_aborts why v k [] = (tt, refl)
   all_aborts why v k (t ∷ touched) =
-      let here = replicas_pass t.key layout.full good in
+      let here = replicas_pass t.key (chain_of layout t.key) (good t.key) in
       let rest = all_aborts why v k touched in (
-        each_append (λ (x : Outgoing). is_abort n tx x.to x.body ≡ true) (aborts_of tx t.key layout.full) (flat_map (key_sends layout tx (Aborting why v k)) touched) here.0 rest.0,
-        omega (arith, here.1, rest.1, length_append (aborts_of tx t.key layout.full) (flat_map (key_sends layout tx (Aborting why v k)) touched)),
+        each_append (λ (x : Outgoing). is_abort n tx x.to x.body ≡ true) (aborts_of tx t.key (chain_of layout t.key)) (flat_map (key_sends layout tx (Aborting why v k)) touched) here.0 rest.0,
+        omega (arith, here.1, rest.1, length_append (aborts_of tx t.key (chain_of layout t.key)) (flat_map (key_sends layout tx (Aborting why v k)) touched)),
       )
 
   aborts_part : (node at : ℕ) (why : AbortCause) (v : Bool) (k : ℕ) (touched : List Touched) → node ≡ tx.tc
@@ -78,16 +79,13 @@ module _ (n : ℕ) (tx : TxId) (layout : Layout) (good : is_good n layout.full �
       subst (λ l. IsPart (is_abort n tx) tx l at (part_effects node tx (flat_map (key_sends layout tx (Aborting why v k)) touched) at).sends) all.1
       (part_is (is_abort n tx) node tx (flat_map (key_sends layout tx (Aborting why v k)) touched) at home all.0)
 
-  late_count : (key : List ℕ) → sends_of (is_abort n tx) (aborts_of tx key (chain_of layout key)) ≡ length layout.full
-  unfolding chain_of
+  late_count : (key : List ℕ) → sends_of (is_abort n tx) (aborts_of tx key (chain_of layout key)) ≡ length (chain_of layout key)
   late_count key =
-      let all = replicas_pass key layout.full good in
-      all_counted (λ (x : Outgoing). is_abort n tx x.to x.body) (aborts_of tx key layout.full) all.0 ∙ all.1
+      let all = replicas_pass key (chain_of layout key) (good key) in
+      all_counted (λ (x : Outgoing). is_abort n tx x.to x.body) (aborts_of tx key (chain_of layout key)) all.0 ∙ all.1
 
-  asked_full : (o : Option Asked) (a : Asked) → o ≡ Some a → abort.asked_count layout o ≡ length layout.full
-  unfolding chain_of
-  asked_full None a e = absurd cc
-  asked_full (Some b) a e = refl
+  asked_full : (t : Transaction) (key : List ℕ) (a : Asked) → IsAnswered t key a → abort.asked_count layout t.asked ≡ length (chain_of layout key)
+  asked_full t key a q = ap (abort.asked_count layout) q.is ∙ ap (λ k. length (chain_of layout k)) (same_key-is (key_of a.op) key q.on)
 
   -- what a turn to or in an abort makes of what it waits for
   pub data AbortMove (t : Transaction) (body : Body) (u : Transaction) (sends : List Outgoing) (k : ℕ) : Type 0 where
@@ -166,7 +164,7 @@ module _ (n : ℕ) (tx : TxId) (layout : Layout) (good : is_good n layout.full �
         go (late key asked about p q is) =
             subst (λ (x : Turn). AbortMove t body x.step.state x.step.effects.sends k) (sym is)
             (waits why v k (phase_of _ is) (λ some. some) (λ at to low. answer_cont body about at to) refl
-            (omega (arith, ap one_if (answer_abort body about), asked_full t.asked asked q.is, late_count key, ap (λ x. sends_of (is_abort n tx) (aborts_of tx key (chain_of x key))) view_is)))
+            (omega (arith, ap one_if (answer_abort body about), asked_full t key asked q, late_count key, ap (λ x. sends_of (is_abort n tx) (aborts_of tx key (chain_of x key))) view_is)))
         go (decides about p q is) = other_phase _ Verifying why v k is refl refl is_k
         go (aborts w because gives some is) =
             entered w because (abort.is_verifying w.phase) k (abort.aborts_awaited layout w) turn.step.state turn.step.effects.sends gives (subst (λ x. 1 ≤ abort.aborts_awaited x w) view_is some) refl

@@ -27,7 +27,6 @@ use Rattle.sig_core.specs.Place.{client}
 use Rattle.sig_core.specs.Same.{same_tx}
 use Rattle.sig_core.specs.declared.view.View.{View}
 use Rattle.sig_core.specs.Step.{Step, to_place}
-use Rattle.api_block.specs.Api.{api_table}
 use Rattle.api_block.specs.declared.opened.OpenTransaction.{OpenTransaction}
 use Rattle.api_block.specs.State.{ApiState}
 use Rattle.lqh_block.specs.Lqh.{lqh_table}
@@ -393,6 +392,13 @@ move_still s body after sends (begun_as other one front t u back about passes be
 move_still s body after sends (goes front t u back go void was is kind) = of_kind is_api_kind is_still_kind still_api sends kind
 move_still s body after sends (ends one front t back about passes was is kind) = of_kind is_api_kind is_still_kind still_api sends kind
 move_still s body after sends (refuses other front t back about passes was is kind) = of_kind is_api_kind is_still_kind still_api sends kind
+
+-- nor whose coordinator it is
+pub tc_node : (s after : TcState) (sends : List Outgoing) → TcMove s after sends → after.node ≡ s.node
+tc_node s after sends (stays is kind) = ap (λ (t : TcState). t.node) is
+tc_node s after sends (starts name is told) = ap (λ (t : TcState). t.node) is
+tc_node s after sends (turns one t u front back is now kind told) = ap (λ (t : TcState). t.node) now
+tc_node s after sends (forgets one t front back is now kind told) = ap (λ (t : TcState). t.node) now
 
 still_dih : (body : Body) → is_dih_kind body ≡ true → is_still_kind body ≡ true
 still_dih (Client (TcBeginConf name tx)) e = cc

@@ -135,20 +135,20 @@ module _ (n : ℕ) (tx : TxId) (t : Transaction) (known : IsKnown n t) where
           far : nat_lt at 512 ≡ false → 512 ≤ at
           far q = grind (arith, nat_tests, q)
 
-  pub operate_owes : (layout : Layout) (op : Op) → is_chain n layout.full ≡ true → TurnOwes n tx t (going (operate.operate_row layout tx t op)) 0 None
-  unfolding operate.operate_row chain_of
+  pub operate_owes : (layout : Layout) (op : Op) → is_chain n (chain_of layout (key_of op)) ≡ true → TurnOwes n tx t (going (operate.operate_row layout tx t op)) 0 None
+  unfolding operate.operate_row
   operate_owes layout op good = go (operate.can_operate t op) refl
     where
       go : (b : Bool) → operate.can_operate t op ≡ b → TurnOwes n tx t (going (operate.operate_if layout tx t op b)) 0 None
       go false e = stay_owes []
       go true e =
-          let touched = touch_known n t.touched (key_of op) layout.full good (right_of (operate.is_ready t.phase t.asked) (fits t.touched (key_of op)) e) known.few known.chains in
+          let touched = touch_known n t.touched (key_of op) (chain_of layout (key_of op)) good (right_of (operate.is_ready t.phase t.asked) (fits t.touched (key_of op)) e) known.few known.chains in
           record {
             known = record { chains = touched.0; few = touched.1; asked = λ a q. subst (λ (x : Asked). is_chain n x.chain ≡ true) (the_one a q) good; some = known.some };
             owes = λ epoch k over is. absurd (ready epoch k is (left_of (operate.is_ready t.phase t.asked) (fits t.touched (key_of op)) e));
           }
         where
-          the_one : (a : Asked) → Some (record { op = op; chain = layout.full }) ≡ Some a → record { op = op; chain = layout.full } ≡ a
+          the_one : (a : Asked) → Some (record { op = op; chain = chain_of layout (key_of op) }) ≡ Some a → record { op = op; chain = chain_of layout (key_of op) } ≡ a
           the_one a q = cc
 
           ready : (epoch k : ℕ) → t.phase ≡ Committing epoch k → operate.is_ready t.phase t.asked ≡ true → ⊥

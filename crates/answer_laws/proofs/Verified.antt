@@ -31,17 +31,18 @@ use Rattle.world_core.specs.Steps.{HostStep}
 use Rattle.sig_core.proofs.Keys.{same_tx-self}
 use Rattle.commit_laws.proofs.Tally.{none_if}
 use Rattle.commit_laws.specs.Counts.{one_if}
-use Rattle.answer_laws.proofs.Ahead.{Goes, IsTcOf, along, at_home, at_tc, few_taken, first_none, is_dih, live_tx, no_transaction, tc_is, the_transaction, turn_at, tx_at}
+use Rattle.answer_laws.proofs.Ahead.{Goes, along, at_home, at_tc, few_taken, first_none, is_dih, live_tx, no_transaction, the_transaction, turn_at, tx_at}
 use Rattle.answer_laws.proofs.EpochCounts.{AreFew, is_epochless}
 use Rattle.answer_laws.proofs.EpochFlow.{at_place, is_conf, is_req}
 use Rattle.answer_laws.proofs.EpochGiven.{DihIs, all_own, dih_is, epochs_host, here, own_sent, own_taken, sent_counts, tc_no_rows}
 use Rattle.answer_laws.proofs.EpochLives.{TurnCounts, asking, ending, gone, is_counted, turn_counts, unchanged}
-use Rattle.answer_laws.proofs.HostTurns.{HostTurn, aside, in_rows, is_aside, starting, turning, tx_runs}
+use Rattle.answer_laws.proofs.HostSteps.{IsHome, at_own_node}
+use Rattle.answer_laws.proofs.HostTurns.{HostTurn, aside, in_rows, is_aside, starting, turning}
 use Rattle.answer_laws.proofs.LinkCounts.{sent_signals, signals, taken_signals}
 use Rattle.answer_laws.proofs.SendKinds.{are_of, none_of}
 use Rattle.answer_laws.proofs.TcMoves.{same_tx-is}
 use Rattle.answer_laws.proofs.TcSends.{tx_in}
-use Rattle.answer_laws.proofs.TcSteps.{left_of_turn, live_early, live_home}
+use Rattle.answer_laws.proofs.TcSteps.{live_early}
 use Rattle.answer_laws.proofs.TcTurns.{IsMissed, TurnMove, abort_ends, aborted, aborts, all_completed, answers, asks, commits, committed, completed, completes, decides, ends, entered_phase, gives_up, goes_on, is_turn, keeps, late, over_not}
 use Rattle.answer_laws.proofs.Wishes.{is_tc, second_fails, sends_of}
 use Rattle.answer_laws.specs.Answered.{AreQuiet, NoEpochIsAwaited, is_aborting}
@@ -235,7 +236,7 @@ module _ (start : Start) (tx : TxId) (some_node : 1 ≤ tx.tc) (few_nodes : tx.t
           sends_are = ap (sends_of (at_place (here start tx.tc) (is_req tx))) step.told
 
           own_place : here start tx.tc (epochs (tc_of s).node) ≡ true
-          own_place = eq-eqb _ _ (epochs_host start (tc_of s).node ∙ (tc_is start at (logs at) low step.runs).is)
+          own_place = eq-eqb _ _ (epochs_host start (tc_of s).node ∙ sym (at_own_node start at (logs at) low step.runs).is)
 
           late_unborn : (tc_of (after start at (now at))).next_seq ≤ tx.seq → reqs (now at) ≡ 0
           late_unborn early = absurd (omega (arith, early, now_seq, step.grows, live_early tx (tc_of s) step.was step.there (at_tc start tx at (logs at)).own))
@@ -316,16 +317,12 @@ no_epoch start logs h tx t quiet low live = go t.phase refl
     there : tx_at tx (after start h (logs h)) ≡ Some t
     there = live_tx start tx h (logs h) t live
 
-    of : IsTcOf start h (tc_of (after start h (logs h)))
-    of = tc_is start h (logs h) low (tx_runs tx (after start h (logs h)) t there)
-
-    node_is : tx.tc ≡ (tc_of (after start h (logs h))).node
-    node_is = live_home tx (tc_of (after start h (logs h))) t there (at_tc start tx h (logs h)).own
+    of : IsHome start tx h
+    of = at_home start tx h (logs h) t low there
 
     go : (phase : Phase) → t.phase ≡ phase → is_verifying t.phase ≡ false
     go Verifying p =
-        absurd (none_verifies start tx (omega (arith, node_is, of.some)) (omega (arith, node_is, of.few)) logs quiet t
-        (subst (λ k. tx_at tx (after start k (logs k)) ≡ Some t) (sym (at_home start tx h (logs h) t low there)) there) p)
+        absurd (none_verifies start tx of.some of.low logs quiet t (subst (λ k. tx_at tx (after start k (logs k)) ≡ Some t) of.is there) p)
     go Open p = ap is_verifying p
     go (Committing epoch k) p = ap is_verifying p
     go (Completing epoch k) p = ap is_verifying p

@@ -34,7 +34,6 @@ use Rattle.command_laws.proofs.AbortFirst.{IsAbortAsked, abort_first}
 use Rattle.command_laws.proofs.AbortSteps.{IsLooseNow, LooseOption, is_more_to, is_roll_to, is_wrong, more_of, host_run, rolled, wrong_of}
 use Rattle.command_laws.proofs.AbortTurns.{is_loose, is_requested}
 use Rattle.command_laws.proofs.ApiChanges.{outcome_in}
-use Rattle.command_laws.proofs.CommitGoes.{HasEnded, entry_goes}
 use Rattle.command_laws.proofs.Committed.{cut_at_first, sent_append}
 use Rattle.command_laws.proofs.EarlySteps.{is_wish_to}
 use Rattle.command_laws.proofs.EndsWell.{replied}
@@ -58,6 +57,7 @@ use Rattle.answer_laws.proofs.Commits.{live_low}
 use Rattle.command_laws.proofs.Homes.{sound_at}
 use Rattle.command_laws.proofs.HostSteps.{api_seen}
 use Rattle.node_core.specs.Blocks.{api_of, tc_of}
+use Rattle.command_laws.proofs.EntryGoes.{HasEnded, entry_goes}
 
 -- an end that isn't wrong is an abort at the client's request
 ends_right : (tx : TxId) (body : Body) (end : Outcome) → outcome_in body ≡ Some (tx, end) → wrong_of tx body ≡ false → end ≡ outcome.Aborted cause.Request
@@ -214,7 +214,7 @@ module _ (answered : EachIsAnswered) (start : Start) (was now : ℕ → List Hos
   still_ready has = closed (opens start now tx has.item.doing has.item.tx has.does has.own (answered start now has.item served.since has.inside))
 
   abort_told : IsIn (Ended (Some name) (outcome.Aborted cause.Request)) (replies_since start was now)
-  abort_told = by (entry_goes tx (Some name) Ready (λ e. cc) refl start f.later (f.first ∷ was 0) f.plain asked.has)
+  abort_told = by (entry_goes tx (Some name) Ready refl (λ e. cc) start f.later (f.first ∷ was 0) f.plain asked.has)
     where
       by : HasOne tx (Some name) Ready (opened_in (after start 0 (f.later ++ f.first ∷ was 0))) ⊎ HasEnded tx (Some name) start f.later (f.first ∷ was 0)
           → IsIn (Ended (Some name) (outcome.Aborted cause.Request)) (replies_since start was now)

@@ -37,12 +37,12 @@ use Rattle.command_laws.proofs.Turns.{IsMissing, TakesTurn, turn_by, turn_takes}
 use Rattle.sig_core.specs.declared.signal.Signal.{Signal}
 use Rattle.command_laws.proofs.HostSteps.{tc_host}
 use Rattle.command_laws.proofs.HostSends.{IsOfTc}
-use Rattle.command_laws.proofs.HostKinds.{no_tc}
 use Rattle.command_laws.proofs.Homes.{lives_home, sound_at}
 use Rattle.world_core.specs.Hosts.{home, hosts}
 use Rattle.node_core.specs.Row.{row}
 use Rattle.node_core.specs.Blocks.{has_tc, tc_of}
 use Rattle.node_core.specs.declared.host.Host.{Host}
+use Rattle.answer_laws.proofs.HostSteps.{no_live}
 
 -- an operation of the transaction, or the wish for its commit
 abbrev pub more_of : TxId → Body → Bool
@@ -216,7 +216,7 @@ module _ (tx : TxId) where
       (λ effects none off. record { silent = none (is_wrong tx) wrong_tc; loose = λ at. by x.to.block (is_roll_to tx x.to x.body) refl off (was at) })
     where
       by : (of : BlockId) (b : Bool) → (is_tc of && roll_of tx x.body) ≡ b → (of ≡ block.Tc → has_tc g ≡ false) → IsLooseNow tx c (tc_of g) → IsLooseNow tx (if b then true else c) (tc_of g)
-      by block.Tc true is off old = record { loose = subst (LooseOption true) (sym (ap (of_live tx) (no_tc g (off refl)))) tt; early = old.early }
+      by block.Tc true is off old = record { loose = subst (LooseOption true) (sym (ap (of_live tx) (no_live g (off refl)))) tt; early = old.early }
       by of false is off old = old
       by of true is off old = cc
 

@@ -22,7 +22,6 @@ use Rattle.answer_laws.proofs.Begins.{no_begin}
 use Rattle.answer_laws.proofs.Wishes.{is_tc, sends_of}
 use Rattle.answer_laws.specs.Answered.{AreQuiet, EachIsAnswered, IsOpenAt, is_answered_by, opened_after, opened_in}
 use Rattle.command_laws.proofs.CommitFirst.{IsAsked, commit_first}
-use Rattle.command_laws.proofs.CommitGoes.{HasEnded, commit_goes}
 use Rattle.command_laws.proofs.Entries.{HasOne, IsNamed, NoneBegins, named_found}
 use Rattle.command_laws.proofs.FirmAtQuiet.{firm_at}
 use Rattle.command_laws.proofs.FirmHosts.{back_of, firm_since, is_back, is_push_to, push_of}
@@ -35,6 +34,7 @@ use Rattle.command_laws.specs.Served.{CommitsAreCommitted, IsServed, IsToldCommi
 use Rattle.command_laws.proofs.HostSteps.{api_seen}
 use Rattle.node_core.specs.Blocks.{api_of}
 use Rattle.world_core.specs.Hosts.{home, hosts}
+use Rattle.command_laws.proofs.EntryGoes.{HasEnded, commit_goes}
 
 -- at quiet no transaction is beginning
 pub calm_at : (start : Start) (logs : ℕ → List HostStep) → AreQuiet start logs → NoneBegins (opened_after start logs)

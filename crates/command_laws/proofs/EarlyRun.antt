@@ -23,7 +23,7 @@ use Rattle.world_core.specs.Hosts.{home, hosts}
 use Rattle.world_core.specs.Machine.{after, machine, step_after}
 use Rattle.world_core.specs.Start.{Start}
 use Rattle.answer_laws.proofs.ApiBegins.{in_middle}
-use Rattle.answer_laws.proofs.Begins.{given_past}
+use Rattle.world_core.proofs.HostNumbers.{given_past}
 use Rattle.answer_laws.proofs.LinkCounts.{signals}
 use Rattle.commit_laws.proofs.Tally.{tally_past}
 use Rattle.commit_laws.specs.Counts.{one_if}

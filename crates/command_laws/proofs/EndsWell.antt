@@ -24,7 +24,6 @@ use Rattle.world_core.specs.Start.{Start}
 use Rattle.answer_laws.proofs.ApiBegins.{in_middle}
 use Rattle.answer_laws.proofs.Wishes.{is_tc}
 use Rattle.command_laws.proofs.ApiChanges.{outcome_in}
-use Rattle.command_laws.proofs.CommitGoes.{HasEnded}
 use Rattle.command_laws.proofs.Committed.{cut_at_first}
 use Rattle.command_laws.proofs.EarlyRun.{no_bad}
 use Rattle.command_laws.proofs.EarlySteps.{IsOpenNow, is_bad, is_good, is_wish_to, wish_of}
@@ -39,6 +38,7 @@ use Rattle.command_laws.proofs.Tests.{and_off, none_at}
 use Rattle.sig_core.proofs.Keys.{same_tx-self}
 use Rattle.command_laws.specs.Served.{IsServed, is_refusal, replies_since}
 use Rattle.world_core.specs.Hosts.{home}
+use Rattle.command_laws.proofs.EntryGoes.{HasEnded}
 
 request_plain_wish : (tx : TxId) (to : Place) (body : Body) → is_request body ≡ true → is_wish_to tx to body ≡ false
 request_plain_wish tx to body is = and_off (is_tc to.block) (plain body is)

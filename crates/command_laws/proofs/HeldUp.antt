@@ -48,11 +48,11 @@ use Rattle.transit_laws.specs.Tokens.{budget_by, waiting_all, waiting_in}
 use Rattle.transit_laws.specs.Transit.{IsRun, logs_of}
 use Rattle.sig_core.proofs.Keys.{same_tx-self}
 use Rattle.command_laws.specs.Served.{EachIsHeldUp, IsHeldUp, IsHeldUpAt}
-use Rattle.world_core.proofs.HostNumbers.{host_below}
-use Rattle.command_laws.proofs.Homes.{rows_node}
+use Rattle.world_core.proofs.HostNumbers.{host_below, rows_run}
 use Rattle.sig_core.specs.Place.{rows_of}
 use Rattle.node_core.specs.Blocks.{lqh_of, tc_of}
 use Rattle.node_core.specs.declared.host.Host.{Host}
+use Rattle.transit_laws.proofs.RowsNodes.{IsRowsHost, rows_node}
 
 -- two of them are no more than all
 total_two : (n : ℕ) (f : ℕ → ℕ) (i j : ℕ) → i < n → j < n → i ≢ j → f i + f j ≤ total n f
@@ -216,8 +216,11 @@ module _ (start : Start) (logs : ℕ → List HostStep) (quiet : AreQuiet start 
       at_member : IsMemberAt for.request.chain for.request.at
       at_member = member_at for.request.chain for.request.at for.routed_so.sent.inside
 
-      node_same : at_member.member.node ≡ queued.node
-      node_same = sym (for.routed_so.sent.node_is ∙ at_member.node_is) ∙ rows_node start queued.node queued.from queued.to (logs queued_host)
+      rows_own : IsRowsHost start queued_host (lqh_of (after start queued_host (logs queued_host))).node
+      rows_own = rows_node start queued_host (logs queued_host) queued_low (rows_run start queued.node (logs queued_host) queued.from queued.to)
+
+      own_node : (lqh_of (after start queued_host (logs queued_host))).node ≡ at_member.member.node
+      own_node = for.routed_so.sent.node_is ∙ at_member.node_is
 
       held_up : IsHeldUp start logs tx
       held_up = record {
@@ -227,8 +230,8 @@ module _ (start : Start) (logs : ℕ → List HostStep) (quiet : AreQuiet start 
         unanswered = unanswered;
         member = at_member.member;
         inside = subst (IsIn at_member.member) (for.routed_so.chain ∙ ap (replicas start) for.on ∙ sym (sent_along (after start (home start tx) (logs (home start tx))) (routed (home start tx)) served.live)) at_member.inside;
-        low = omega (arith, node_same, queued.to);
-        held = subst (λ k. IsHeldUpAt tx (key_of asked.op) (after start (rows_host start k) (logs (rows_host start k)))) (sym node_same) for.held;
+        low = omega (arith, own_node, rows_own.low);
+        held = subst (λ k. IsHeldUpAt tx (key_of asked.op) (after start k (logs k))) (rows_own.is ∙ ap (rows_host start) own_node) for.held;
       }
 
     held_by : (o : Option Asked) → served.transaction.asked ≡ o → is_some o ≡ true → IsHeldUp start logs tx

@@ -15,7 +15,6 @@ use Rattle.sig_core.specs.declared.reply.Waiting.TheVariants.{HeldBy}
 use Rattle.sig_core.specs.declared.request.ApiReq.TheVariants as request
 use Rattle.sig_core.specs.declared.signal.Body.{Body}
 use Rattle.sig_core.specs.Op.{key_of}
-use Rattle.sig_core.specs.Place.{client}
 use Rattle.api_block.specs.declared.opened.Doing.{Doing}
 use Rattle.api_block.specs.declared.opened.Doing.TheVariants.{Beginning, Ready, Operating, Committing}
 use Rattle.api_block.specs.declared.opened.OpenTransaction.{OpenTransaction}
@@ -23,7 +22,7 @@ use Rattle.api_block.specs.Opened.{has_tx, if_there, is_tx, is_unanswered, own_p
 use Rattle.api_block.specs.State.{ApiState}
 use Rattle.node_core.specs.Replies.{is_left_open, replies_of}
 use Rattle.tc_block.specs.declared.transaction.Transaction.{Transaction}
-use Rattle.world_core.specs.Hosts.{home, hosts, rows_host}
+use Rattle.world_core.specs.Hosts.{home, hosts, receiver, rows_host}
 use Rattle.world_core.specs.Machine.{after, machine, step_after}
 use Rattle.world_core.specs.Requests.{request_in, requests}
 use Rattle.world_core.specs.Start.{Start}
@@ -36,7 +35,7 @@ use Rattle.sig_core.proofs.Keys.{same_tx-self}
 use Rattle.answer_laws.proofs.Wishes.{sends_of}
 use Rattle.answer_laws.specs.Answered.{EachIsAnswered, IsLiveAs, is_answered_by, opened_after}
 use Rattle.transit_laws.specs.Live.{of_live}
-use Rattle.command_laws.proofs.First.{IsFirst, first_step, request_first}
+use Rattle.command_laws.proofs.First.{IsFirst, first_step, request_first, with_first}
 use Rattle.command_laws.proofs.Since.{all_arrive, sent_since_to, taken_since}
 use Rattle.command_laws.proofs.TellsSince.{OnTc}
 use Rattle.command_laws.proofs.Told.{told_since}
@@ -47,11 +46,14 @@ use Rattle.command_laws.proofs.WaitRun.{AllHold, all_hold}
 use Rattle.command_laws.specs.Served.{name_in, EachIsHeldUp, HoldersAreTold, IsHeldUp, IsHeldUpAt, IsServed, IsToldHolder, own_in}
 use Rattle.command_laws.proofs.Homes.{sound_at}
 use Rattle.command_laws.proofs.HostSteps.{api_seen}
-use Rattle.command_laws.proofs.HostKinds.{api_no_rows, no_rows, replies_are, shell_runs}
+use Rattle.command_laws.proofs.HostKinds.{api_alone, api_no_rows, no_rows, replies_are}
 use Rattle.answer_laws.proofs.LinkCounts.{steps, to_host}
 use Rattle.node_core.specs.Blocks.{api_of, has_api, has_lqh, tc_of}
 use Rattle.node_core.specs.declared.host.Host.TheVariants.{Ldm, Main, Shell, Tc}
 use Rattle.node_core.specs.declared.host.Host.{Host}
+use Rattle.world_core.proofs.HostNumbers.{api_runs, host_below}
+use Rattle.sig_core.specs.Place.{client, rows_of}
+use Rattle.answer_laws.proofs.HostSteps.{live_runs}
 
 pub sent_to_append : (start : Start) (test : Place → Body → Bool) (h j : ℕ) (xs ys log : List HostStep)
     → sent_since_to start test h j (xs ++ ys) log ≡ sent_since_to start test h j xs (ys ++ log) + sent_since_to start test h j ys log
@@ -85,16 +87,18 @@ is_waiting start logs t unanswered answered = by t.doing t.tx refl refl unanswer
     by Committing (Some tx) does own some a = absurd a
     by Committing None does own some a = absurd a
 
+-- what is for no node is for the shell's host
+shell_place : (start : Start) → rows_host start 0 ≡ 0
+unfolding receiver
+shell_place start = refl
+
 -- a host whose coordinator or rows have something isn't the shell's
 not_shell : (start : Start) (logs : ℕ → List HostStep) (P : Host → Type 0) → ((g : Host) → has_api g ≡ true → P g → ⊥) → (k : ℕ) → P (after start k (logs k)) → (j : ℕ) × (k ≡ suc j)
-not_shell start logs P none zero p = absurd (none (after start 0 (logs 0)) (shell_runs start (logs 0)) p)
+not_shell start logs P none zero p = absurd (none (after start 0 (logs 0)) (api_runs start (logs 0)) p)
 not_shell start logs P none (suc h) p = (h, refl)
 
-no_live : (tx : TxId) (u : Transaction) (g : Host) → has_api g ≡ true → IsLiveAs tx u g → ⊥
-no_live tx u (Shell s) api live = live
-no_live tx u (Main m) api live = live
-no_live tx u (Tc p) api live = cc
-no_live tx u (Ldm l) api live = live
+not_live : (tx : TxId) (u : Transaction) (g : Host) → has_api g ≡ true → IsLiveAs tx u g → ⊥
+not_live tx u g api live = api_alone g api (live_runs g (tx, u) live)
 
 not_held : (tx : TxId) (key : List ℕ) (g : Host) → has_api g ≡ true → IsHeldUpAt tx key g → ⊥
 not_held tx key g api held = by (has_lqh g) refl
@@ -167,7 +171,11 @@ module _ (answered : EachIsAnswered) (held_up : EachIsHeldUp) (start : Start) (w
 
   -- where it is held up is a host that is there
   held_low : m_host < hosts start
-  held_low = ?
+  held_low = by up.member.node refl
+    where
+      by : (node : ℕ) → up.member.node ≡ node → m_host < hosts start
+      by zero is = omega (arith, ap (rows_host start) is, shell_place start)
+      by (suc n) is = host_below start (rows_of up.member.node) (omega (arith, is)) up.low
 
   -- the question goes to the coordinator, from there to the node where the lock is, and the answer back
   module _ (c m : ℕ) (c_is : c_host ≡ suc c) (m_is : m_host ≡ suc m) where
@@ -224,7 +232,7 @@ module _ (answered : EachIsAnswered) (held_up : EachIsHeldUp) (start : Start) (w
 
   ahead_known : is_some all.shell.ahead ≡ true
   ahead_known =
-      let c = not_shell start was (IsLiveAs w.tx up.transaction) (no_live w.tx up.transaction) c_host up.live in
+      let c = not_shell start was (IsLiveAs w.tx up.transaction) (not_live w.tx up.transaction) c_host up.live in
       let m = not_shell start was (IsHeldUpAt w.tx (key_of up.asked.op)) (not_held w.tx (key_of up.asked.op)) m_host up.held in
       all.shell.known (passed c.0 m.0 c.1 m.1)
 

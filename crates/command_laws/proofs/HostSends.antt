@@ -21,9 +21,10 @@ use Rattle.answer_laws.proofs.ApiMoves.{is_api_kind}
 use Rattle.answer_laws.proofs.SendKinds.{is_dih_kind, is_lqh_kind}
 use Rattle.answer_laws.proofs.Wishes.{sends_of}
 use Rattle.commit_laws.proofs.Tally.{tally_none}
-use Rattle.command_laws.proofs.HostKinds.{api_alone, api_no_rows, shell_runs}
+use Rattle.command_laws.proofs.HostKinds.{api_alone, api_no_rows}
 use Rattle.command_laws.proofs.Since.{sent_since}
 use Rattle.transit_laws.proofs.WaysPassed.{api_each}
+use Rattle.world_core.proofs.HostNumbers.{api_runs}
 
 -- no signal of the API passes the test
 pub record IsNotOfApi (test : Place → Body → Bool) : Type 0 where
@@ -54,4 +55,4 @@ module _ (test : Place → Body → Bool) where
   pub shell_silent : IsNotOfApi test → (start : Start) (newer log : List HostStep) → sent_since start test 0 newer log ≡ 0
   shell_silent fails start [] log = refl
   shell_silent fails start (e ∷ newer) log =
-      omega (arith, shell_silent fails start newer log, shell_step fails (after start 0 (newer ++ log)) e.step.taken (shell_runs start (newer ++ log)))
+      omega (arith, shell_silent fails start newer log, shell_step fails (after start 0 (newer ++ log)) e.step.taken (api_runs start (newer ++ log)))

@@ -22,7 +22,6 @@ use Rattle.commit_laws.proofs.Tally.{tally_append}
 use Rattle.commit_laws.specs.Counts.{one_if}
 use Rattle.answer_laws.proofs.TcLives.{is_start}
 use Rattle.answer_laws.specs.Answered.{EachIsAnswered, WaitsForLock, is_answered_by, opened_after, opened_in}
-use Rattle.command_laws.proofs.CommitGoes.{HasEnded, IsEnding}
 use Rattle.command_laws.proofs.Committed.{calm_at, sent_append}
 use Rattle.command_laws.proofs.EarlySteps.{IsOpenNow, OpenOption, is_wish_to}
 use Rattle.command_laws.proofs.EndsWell.{ended_well, replied}
@@ -30,16 +29,18 @@ use Rattle.command_laws.proofs.Entries.{HasOne}
 use Rattle.command_laws.proofs.First.{IsFirst, first_step, request_first}
 use Rattle.command_laws.proofs.LoneBegins.{HasBegun, IsAlone, IsAskedAlone, WasRefused, alone_first, begin_goes}
 use Rattle.command_laws.proofs.LoneWishes.{wishes_since}
-use Rattle.command_laws.proofs.OperateGoes.{HasAnswered, IsAnswering, operate_goes}
 use Rattle.command_laws.proofs.Since.{sent_since}
 use Rattle.command_laws.proofs.TellsSince.{OnTc}
 use Rattle.command_laws.specs.Alone.{IsRefusedAlone, IsTurnedAway, LoneOperationsAreAnswered, WaitsAlone}
 use Rattle.command_laws.specs.Served.{IsAnsweredAlone, IsServed}
 use Rattle.transit_laws.proofs.Weighing.{none_passes}
-use Rattle.command_laws.proofs.Homes.{unborn_there, view_at}
+use Rattle.command_laws.proofs.Homes.{unborn_there}
 use Rattle.world_core.specs.Hosts.{home}
 use Rattle.command_laws.proofs.HostSteps.{api_seen}
 use Rattle.node_core.specs.Blocks.{api_of}
+use Rattle.frag_map.specs.Layout.{first_view}
+use Rattle.answer_laws.proofs.Hosts.{shell_after}
+use Rattle.command_laws.proofs.EntryGoes.{HasAnswered, HasEnded, IsAnswering, IsEnding, operate_goes}
 
 -- what was so behind some steps and a log was so behind that log
 module _ (start : Start) (newer : List HostStep) (step : HostStep) (older log : List HostStep) where
@@ -64,6 +65,10 @@ module _ (start : Start) (newer : List HostStep) (step : HostStep) (older log : 
     ending = subst (λ l. IsEnding tx name (after start 0 l) ended.step.step.taken.body (step_after start 0 l ended.step)) (same_log ended.older) ended.ending;
   }
 
+-- the API's view stays the first
+shell_view : (start : Start) (log : List HostStep) → (api_of (after start 0 log)).view ≡ first_view start.shape.nodes
+shell_view start log = let s = shell_after start log in ap (λ g. (api_of g).view) s.is ∙ s.view
+
 module _ (answered : EachIsAnswered) (start : Start) (was now : ℕ → List HostStep) (op : Op) (served : IsServed start was now (Operate None op)) where
   abbrev Result : Type 0
   Result = IsAnsweredAlone start was now ⊎ (IsRefusedAlone start was now ⊎ (IsTurnedAway start was now ⊎ WaitsAlone start was now))
@@ -72,7 +77,7 @@ module _ (answered : EachIsAnswered) (start : Start) (was now : ℕ → List Hos
   f = request_first start was now (Operate None op) served
 
   asked : IsAskedAlone op (api_seen (step_after start 0 (was 0) f.first))
-  asked = subst (IsAskedAlone op) (sym (first_step start was now (Operate None op) f)) (alone_first start (api_of (after start 0 (was 0))) op (view_at start (was 0)) served.before.shape.nodes_some (calm_at start was served.before))
+  asked = subst (IsAskedAlone op) (sym (first_step start was now (Operate None op) f)) (alone_first start (api_of (after start 0 (was 0))) op (shell_view start (was 0)) served.before.shape.nodes_some (calm_at start was served.before))
 
   answered_alone : HasAnswered None start f.later (f.first ∷ was 0) → IsAnsweredAlone start was now
   answered_alone a = record {
@@ -109,7 +114,7 @@ module _ (answered : EachIsAnswered) (start : Start) (was now : ℕ → List Hos
     no_wishes = omega (arith, sent_append start (is_wish_to b.tx) 0 f.later (f.first ∷ []) (was 0), wishes b.tx, asked.wishes b.tx)
 
     open_was : (h : ℕ) → home start b.tx ≡ h → OnTc (IsOpenNow b.tx) (after start h (was h))
-    open_was h at = record { open_now = subst OpenOption (sym (unborn_there start was served.before b.tx unbegun h)) tt }
+    open_was h at = record { open_now = subst OpenOption (sym (unborn_there start was served.before b.tx h unbegun)) tt }
 
     refused : HasEnded b.tx None start f.later (f.first ∷ was 0) → IsRefusedAlone start was now
     refused ended =

@@ -48,8 +48,9 @@ use Rattle.command_laws.proofs.TellsOnce.{is_wish_back_to, wish_back_of}
 use Rattle.command_laws.proofs.Tests.{and_off}
 use Rattle.sig_core.specs.declared.signal.Signal.{Signal}
 use Rattle.node_core.specs.Blocks.{api_of, has_api}
-use Rattle.command_laws.proofs.HostKinds.{replies_are, shell_runs}
+use Rattle.command_laws.proofs.HostKinds.{replies_are}
 use Rattle.command_laws.proofs.HostSteps.{api_host}
+use Rattle.world_core.proofs.HostNumbers.{api_runs}
 
 -- the answer of an operation alone
 abbrev pub is_lone : ApiReply → Bool
@@ -151,7 +152,7 @@ lone_since start (e ∷ later) log plain = by (lone_since start later log plain.
     by : HasLone start later log ⊎ (tally is_lone (replies_of (after start 0 (later ++ log))) ≡ tally is_lone (replies_of (after start 0 log)))
         → HasLone start (e ∷ later) log ⊎ (tally is_lone (replies_of (after start 0 (e ∷ (later ++ log)))) ≡ tally is_lone (replies_of (after start 0 log)))
     by (inl h) = inl (record { newer = e ∷ h.newer; step = h.step; older = h.older; is = ap (λ w. e ∷ w) h.is; tx = h.tx; block = h.block; lone = h.lone })
-    by (inr before) = next before (host_lone (after start 0 (later ++ log)) e.step.taken (shell_runs start (later ++ log)) plain.0)
+    by (inr before) = next before (host_lone (after start 0 (later ++ log)) e.step.taken (api_runs start (later ++ log)) plain.0)
 
 module _ (tx : TxId) where
   none_news : (to : Place) (body : Body) → is_news_kind body ≡ true → (is_wish_back_to tx to body ≡ false) × (is_key tx to body ≡ false)
@@ -214,7 +215,7 @@ module _ (tx : TxId) where
   asks_since start [] log plain = (refl, omega arith)
   asks_since start (e ∷ later) log plain =
       let rest = asks_since start later log plain.1 in
-      let here = host_asks (after start 0 (later ++ log)) e.step.taken (shell_runs start (later ++ log)) plain.0 in
+      let here = host_asks (after start 0 (later ++ log)) e.step.taken (api_runs start (later ++ log)) plain.0 in
       (omega (arith, rest.0, here.0), omega (arith, rest.1, here.1))
 
 -- the request of an operation alone asks for a transaction alone, and answers none

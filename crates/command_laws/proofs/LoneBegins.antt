@@ -46,8 +46,9 @@ use Rattle.answer_laws.proofs.LqhOps.{left_of}
 use Rattle.command_laws.proofs.Entries.{HasOne, IsApart, NoneBegins, here_or_apart}
 use Rattle.sig_core.specs.declared.signal.Signal.{Signal}
 use Rattle.node_core.specs.Blocks.{api_of, has_api}
-use Rattle.command_laws.proofs.HostKinds.{replies_are, shell_runs}
+use Rattle.command_laws.proofs.HostKinds.{replies_are}
 use Rattle.command_laws.proofs.HostSteps.{api_host, api_seen}
+use Rattle.world_core.proofs.HostNumbers.{api_runs}
 
 abbrev begins_any : OpenTransaction → Bool
 begins_any t = is_beginning t.doing
@@ -241,7 +242,7 @@ module _ (op : Op) where
 
       by : IsAlone op (opened_in (after start 0 (later ++ log))) ⊎ (HasBegun start later log ⊎ WasRefused start later log)
           → IsAlone op (opened_in (after start 0 (e ∷ (later ++ log)))) ⊎ (HasBegun start (e ∷ later) log ⊎ WasRefused start (e ∷ later) log)
-      by (inl goes) = next (host_goes (after start 0 (later ++ log)) e.step.taken (shell_runs start (later ++ log)) plain.0 goes)
+      by (inl goes) = next (host_goes (after start 0 (later ++ log)) e.step.taken (api_runs start (later ++ log)) plain.0 goes)
       by (inr (inl b)) = inr (inl (record { newer = e ∷ b.newer; step = b.step; older = b.older; is = ap (λ w. e ∷ w) b.is; tx = b.tx; begun = b.begun; has = b.has }))
       by (inr (inr r)) = inr (inr (record { newer = e ∷ r.newer; step = r.step; older = r.older; is = ap (λ w. e ∷ w) r.is; told = r.told }))
 

@@ -7,8 +7,6 @@ use Rattle.std.specs.Prelude.{◌==◌, ◌&&◌, Option, None, Some, drop, is_s
 use Rattle.run_theory.specs.Cuts.{IsCut}
 use Rattle.run_theory.specs.Links.{is_from}
 use Rattle.run_theory.specs.Lists.{Each, IsIn, IsPast}
-use Rattle.run_theory.specs.Logs.{IsLog}
-use Rattle.run_theory.proofs.Links.{log_after}
 use Rattle.run_theory.proofs.Pasts.{each_before, each_in, each_map}
 use Rattle.world_core.specs.Steps.{HostStep}
 use Rattle.sig_core.specs.declared.member.TxId.{TxId}
@@ -26,7 +24,7 @@ use Rattle.node_core.specs.Replies.{replies_of}
 use Rattle.node_core.specs.Requests.{is_request}
 use Rattle.tc_block.specs.declared.transaction.Transaction.{Transaction}
 use Rattle.world_core.proofs.Replies.{replies_grow}
-use Rattle.world_core.specs.Hosts.{home, hosts}
+use Rattle.world_core.specs.Hosts.{home, host_for, hosts}
 use Rattle.world_core.specs.Machine.{after, machine, step_after}
 use Rattle.world_core.specs.Start.{Start}
 use Rattle.answer_laws.proofs.ApiBegins.{in_middle}
@@ -38,7 +36,6 @@ use Rattle.answer_laws.proofs.TcKeys.{answer_of, is_asked, is_key, key_of_tx}
 use Rattle.answer_laws.proofs.TcLives.{is_keyed, is_start}
 use Rattle.answer_laws.proofs.Wishes.{is_api, is_tc}
 use Rattle.answer_laws.specs.Answered.{EachIsAnswered, is_answered_by, opened_after, opened_in}
-use Rattle.command_laws.proofs.CommitGoes.{HasEnded, commit_goes}
 use Rattle.command_laws.proofs.Committed.{cut_at_first, sent_append}
 use Rattle.command_laws.proofs.Entries.{HasOne}
 use Rattle.command_laws.proofs.FirmHosts.{back_of, is_back}
@@ -58,6 +55,8 @@ use Rattle.command_laws.proofs.Homes.{lives_begun}
 use Rattle.command_laws.proofs.HostSteps.{api_seen}
 use Rattle.command_laws.proofs.HostKinds.{replies_are}
 use Rattle.node_core.specs.Blocks.{api_of, tc_of}
+use Rattle.world_core.proofs.HostNumbers.{addressed_at, beyond_host, host_some}
+use Rattle.command_laws.proofs.EntryGoes.{HasEnded, commit_goes}
 
 -- signals that one host alone sent were taken from that host
 pub steps_from_one : (start : Start) (test : Place → Body → Bool) (i : ℕ) → ((to : Place) (body : Body) → test to body ≡ true → is_request body ≡ false) → (newer : List HostStep)
@@ -66,7 +65,7 @@ steps_from_one start test i plain [] none = omega arith
 steps_from_one start test i plain (e ∷ newer) none = by (test e.step.taken.to e.step.taken.body) refl (steps_from_one start test i plain newer (λ k differs. omega (arith, none k differs)))
   where
     from : (k : ℕ) → e.step.taken.from.0 ≡ k → test e.step.taken.to e.step.taken.body ≡ true → (is_from (machine start) k e && test e.step.taken.to e.step.taken.body) ≡ true
-    from k at is = all_three (is_request e.step.taken.body) (e.step.taken.from.0 == k) (test e.step.taken.to e.step.taken.body) (plain e.step.taken is) (grind (arith, nat_tests, at)) is
+    from k at is = all_three (is_request e.step.taken.body) (e.step.taken.from.0 == k) (test e.step.taken.to e.step.taken.body) (plain e.step.taken.to e.step.taken.body is) (grind (arith, nat_tests, at)) is
 
     by : (b : Bool) → test e.step.taken.to e.step.taken.body ≡ b → steps test newer ≤ taken_since start test i newer → one_if b + steps test newer ≤ taken_since start test i (e ∷ newer)
     by false is less = omega (arith, less)
@@ -75,6 +74,15 @@ steps_from_one start test i plain (e ∷ newer) none = by (test e.step.taken.to 
         at : (e.step.taken.from.0 ≡ i) ⊎ (e.step.taken.from.0 ≢ i) → one_if true + steps test newer ≤ taken_since start test i (e ∷ newer)
         at (inl same) = omega (arith, less, ap one_if (from i same is))
         at (inr differs) = absurd (omega (arith, none e.step.taken.from.0 differs, ap one_if (from e.step.taken.from.0 refl is)))
+
+-- what is for the shell's host is for no node
+client_node : (start : Start) (to : Place) → host_for start to ≡ 0 → to.node ≡ 0
+client_node start to is = by (cases_lt to.node 1) (cases_lt start.shape.nodes to.node)
+  where
+    by : (to.node < 1) ⊎ (1 ≤ to.node) → (start.shape.nodes < to.node) ⊎ (to.node ≤ start.shape.nodes) → to.node ≡ 0
+    by (inl none) other = omega (arith, none)
+    by (inr some) (inl above) = absurd (omega (arith, is, beyond_host start to above))
+    by (inr some) (inr low) = absurd (omega (arith, is, host_some start to some low))
 
 request_plain_key : (tx : TxId) (to : Place) (body : Body) → is_key tx to body ≡ true → is_request body ≡ false
 request_plain_key tx to body is = plain body (last_of (is_tc to.block) (key_of_tx tx body) is)
@@ -177,7 +185,7 @@ module _ (start : Start) (was now : ℕ → List HostStep) (op : Op) (served : I
 
       few_asked : asked ≤ steps (is_start tx) (was 0)
       unfolding asked
-      few_asked = omega (arith, fewer_asked tx s.live, lives_begun start was served.before tx (suc h) low)
+      few_asked = omega (arith, fewer_asked tx s.live, lives_begun start was served.before tx (suc h))
 
       told : (sent_since start (is_reply tx) (suc h) (cut (suc h)).newer (was (suc h)) ≡ 0) ⊎ (sent_since start (is_back tx) (suc h) (cut (suc h)).newer (was (suc h)) ≡ 0)
       unfolding asked
@@ -231,12 +239,13 @@ module _ (start : Start) (was now : ℕ → List HostStep) (op : Op) (served : I
         subst (λ w. IsIn l.step (w ++ f.first ∷ [])) (sym l.is)
         (subst (IsIn l.step) (sym (append_assoc l.newer (l.step ∷ l.older) (f.first ∷ []))) (in_middle l.newer l.step (l.older ++ f.first ∷ [])))
 
-    logged : IsLog (machine start) 0 (l.step ∷ (l.older ++ f.first ∷ was 0))
-    logged = log_after (machine start) 0 l.newer (l.step ∷ (l.older ++ f.first ∷ was 0)) (subst (IsLog (machine start) 0) now_is (served.since.right.local 0))
+    in_now : IsIn l.step (now 0)
+    in_now = subst (IsIn l.step) (sym now_is) (in_middle l.newer l.step (l.older ++ f.first ∷ was 0))
 
     is_answer_here : is_reply l.tx l.step.step.taken.to l.step.step.taken.body ≡ true
     is_answer_here =
-        all (l.step.host == 0) (is_api l.step.step.taken.to.block) (answer_of l.tx l.step.step.taken.body) (grind (arith, nat_tests, logged.0.at)) l.block
+        all (l.step.step.taken.to.node == 0) (is_api l.step.step.taken.to.block) (answer_of l.tx l.step.step.taken.body)
+        (grind (arith, nat_tests, client_node start l.step.step.taken.to (addressed_at start now served.since.right 0 l.step in_now))) l.block
         (ap (answer_of l.tx) l.lone.about ∙ same_tx-self l.tx)
       where
         all : (a b c : Bool) → a ≡ true → b ≡ true → c ≡ true → (a && (b && c)) ≡ true

@@ -22,12 +22,13 @@ use Rattle.answer_laws.proofs.Wishes.{sends_of}
 use Rattle.command_laws.proofs.ApiChanges.{ApiChange, GoesOnAs, alone, answers, api_changes, commits, ends, idle, is_news_kind, refuses, rests, starts, told, waits}
 use Rattle.command_laws.proofs.EarlySteps.{is_wish_to}
 use Rattle.command_laws.proofs.OperateAsks.{no_wish_news}
-use Rattle.command_laws.proofs.OperateGoes.{HasAnswered, IsAnswering}
 use Rattle.command_laws.proofs.Since.{sent_since}
 use Rattle.sig_core.specs.declared.signal.Signal.{Signal}
 use Rattle.node_core.specs.Blocks.{api_of, has_api}
-use Rattle.command_laws.proofs.HostKinds.{replies_are, shell_runs}
+use Rattle.command_laws.proofs.HostKinds.{replies_are}
 use Rattle.command_laws.proofs.HostSteps.{api_host, api_seen}
+use Rattle.world_core.proofs.HostNumbers.{api_runs}
+use Rattle.command_laws.proofs.EntryGoes.{HasAnswered, IsAnswering}
 
 -- neither is wished for of any transaction
 abbrev WishNone : List Outgoing → Type 0
@@ -77,4 +78,4 @@ wishes_since start (e ∷ later) log plain = by (wishes_since start later log pl
     by : HasAnswered None start later log ⊎ ((tx : TxId) → sent_since start (is_wish_to tx) 0 later log ≡ 0)
         → HasAnswered None start (e ∷ later) log ⊎ ((tx : TxId) → sent_since start (is_wish_to tx) 0 (e ∷ later) log ≡ 0)
     by (inl a) = inl (record { newer = e ∷ a.newer; step = a.step; older = a.older; is = ap (λ w. e ∷ w) a.is; answering = a.answering })
-    by (inr before) = next before (host_none (after start 0 (later ++ log)) e.step.taken (shell_runs start (later ++ log)) plain.0)
+    by (inr before) = next before (host_none (after start 0 (later ++ log)) e.step.taken (api_runs start (later ++ log)) plain.0)

@@ -43,8 +43,8 @@ use Rattle.api_block.specs.Api.{api_row, request_row}
 use Rattle.sig_core.specs.declared.signal.Signal.{Signal}
 use Rattle.node_core.specs.Row.{row}
 use Rattle.node_core.specs.Blocks.{api_of, has_api}
-use Rattle.command_laws.proofs.HostKinds.{shell_runs}
 use Rattle.command_laws.proofs.HostSteps.{api_host}
+use Rattle.world_core.proofs.HostNumbers.{api_runs}
 
 module _ (tx : TxId) where
   -- the transaction has a name, and none is beginning
@@ -138,7 +138,7 @@ module _ (tx : TxId) where
       next : AreNamed (opened_in (after start 0 (later ++ log))) × (sent_since start (is_wish_to tx) 0 later log ≡ 0)
           → AreNamed (opened_in (after start 0 (e ∷ (later ++ log)))) × (sent_since start (is_wish_to tx) 0 (e ∷ later) log ≡ 0)
       next before =
-          let kept = host_named (after start 0 (later ++ log)) e.step.taken (shell_runs start (later ++ log)) plain.0 before.0 in
+          let kept = host_named (after start 0 (later ++ log)) e.step.taken (api_runs start (later ++ log)) plain.0 before.0 in
           (kept.named, omega (arith, kept.wishes, before.1))
 
 -- the row where the name is found

@@ -39,8 +39,9 @@ use Rattle.api_block.specs.Api.{api_row}
 use Rattle.sig_core.specs.declared.signal.Signal.{Signal}
 use Rattle.node_core.proofs.HostCases.{of_effects}
 use Rattle.node_core.specs.Blocks.{api_of, dih_of, has_api, lqh_of, tc_of}
-use Rattle.command_laws.proofs.HostKinds.{node_runs_none, shell_runs}
+use Rattle.command_laws.proofs.HostKinds.{node_runs_none}
 use Rattle.command_laws.proofs.HostSteps.{api_host}
+use Rattle.world_core.proofs.HostNumbers.{api_runs}
 
 -- all but what the API asks coordinators for
 abbrev pub is_node_kind : Body → Bool
@@ -167,5 +168,5 @@ module _ (tx : TxId) where
       next : NoneBegins (opened_in (after start 0 (later ++ log))) × (sent_since start (is_push_to tx) 0 later log ≡ 0)
           → NoneBegins (opened_in (after start 0 (e ∷ (later ++ log)))) × (sent_since start (is_push_to tx) 0 (e ∷ later) log ≡ 0)
       next before =
-          let kept = host_calm (after start 0 (later ++ log)) e.step.taken (shell_runs start (later ++ log)) plain.0 before.0 in
+          let kept = host_calm (after start 0 (later ++ log)) e.step.taken (api_runs start (later ++ log)) plain.0 before.0 in
           (kept.calm, omega (arith, kept.pushes, before.1))

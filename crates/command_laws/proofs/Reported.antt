@@ -23,11 +23,11 @@ use Rattle.world_core.specs.Start.{Start}
 use Rattle.answer_laws.proofs.ApiBegins.{in_middle}
 use Rattle.answer_laws.specs.Answered.{AreQuiet}
 use Rattle.command_laws.proofs.ApiChanges.{outcome_in}
-use Rattle.command_laws.proofs.CommitGoes.{HasEnded}
 use Rattle.command_laws.proofs.FirmHosts.{back_of}
 use Rattle.command_laws.proofs.Told.{told_since}
 use Rattle.sig_core.proofs.Keys.{same_tx-self}
 use Rattle.command_laws.specs.Served.{IsMarked, replies_since}
+use Rattle.command_laws.proofs.EntryGoes.{HasEnded}
 
 abbrev pub OutcomeOf : Type 0
 OutcomeOf = TxId × Outcome

@@ -40,8 +40,8 @@ answers_request start was now request.Pending served = λ first waits left. hold
 answers_request start was now _ served = tt
 
 pub requests_answered : RequestsAreAnswered
-requests_answered start logs some few right within asked newer e before r at is on =
-    let moments = requests_served start logs some few right within asked newer e before r at is on in
+requests_answered start logs shape right within asked newer e before r at is on =
+    let moments = requests_served start logs shape right within asked newer e before r at is on in
     record {
       moments = moments;
       answers = answers_request start moments.was moments.now r moments.served;

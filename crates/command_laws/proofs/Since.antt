@@ -13,7 +13,7 @@ use Rattle.sig_core.specs.declared.signal.Body.{Body}
 use Rattle.node_core.specs.Requests.{is_request}
 use Rattle.world_core.specs.Machine.{machine, step_after}
 use Rattle.world_core.specs.Start.{Start}
-use Rattle.answer_laws.proofs.Begins.{given_past}
+use Rattle.world_core.proofs.HostNumbers.{given_past}
 use Rattle.commit_laws.proofs.Tally.{tally_past}
 use Rattle.commit_laws.specs.Counts.{one_if, tally}
 use Rattle.answer_laws.proofs.Wishes.{sends_of}

@@ -22,13 +22,14 @@ use Rattle.command_laws.proofs.WaitApi.{IsAboutOne, StaysAbout, about_waits}
 use Rattle.command_laws.proofs.WaitRows.{is_found, is_other, is_passed, is_probe, is_telling_who, is_wait_of, is_want, host_finds, host_passes, host_waits, host_wants}
 use Rattle.command_laws.specs.Served.{IsHeldUpAt}
 use Rattle.command_laws.proofs.HostSteps.{api_seen}
-use Rattle.command_laws.proofs.HostKinds.{node_runs_none, shell_runs}
+use Rattle.command_laws.proofs.HostKinds.{node_runs_none}
 use Rattle.answer_laws.proofs.LinkCounts.{steps, to_host}
 use Rattle.world_core.specs.Hosts.{home, rows_host}
 use Rattle.sig_core.specs.declared.signal.Signal.{Signal}
 use Rattle.node_core.specs.Row.{row}
 use Rattle.node_core.specs.Blocks.{api_of, lqh_of, tc_of}
 use Rattle.node_core.specs.declared.host.Host.{Host}
+use Rattle.world_core.proofs.HostNumbers.{api_runs}
 
 module _ (start : Start) (was : ℕ → List HostStep) (tx : TxId) (u : Transaction) (asked : Asked) (member : Member) (unanswered : u.asked ≡ Some asked) (inside : IsIn member asked.chain)
     (live : OnTc (λ s. of_live tx s.live ≡ Some u) (after start (home start tx) (was (home start tx)))) (held : IsHeldUpAt tx (key_of asked.op) (after start (rows_host start member.node) (was (rows_host start member.node)))) where
@@ -101,7 +102,7 @@ module _ (start : Start) (was : ℕ → List HostStep) (tx : TxId) (u : Transact
     shell_next e newer is holds = record { plain = omega (arith, holds.plain, stays.plain); ahead = stays.now; about = stays.about; known = λ some. known (is_passed tx e.step.taken.to e.step.taken.body) refl some; from = λ who is. source who (stays.from who is) }
       where
         stays : StaysAbout front t back own tx own_tx none holds.ahead e.step.taken.to e.step.taken.body (api_seen (row (after start 0 (newer ++ base)) e.step.taken))
-        stays = about_waits front t back own tx own_tx none (after start 0 (newer ++ base)) holds.ahead e.step.taken (shell_runs start (newer ++ base)) is holds.about
+        stays = about_waits front t back own tx own_tx none (after start 0 (newer ++ base)) holds.ahead e.step.taken (api_runs start (newer ++ base)) is holds.about
 
         known : (b : Bool) → is_passed tx e.step.taken.to e.step.taken.body ≡ b → 1 ≤ one_if (is_passed tx e.step.taken.to e.step.taken.body) + steps (is_passed tx) newer → is_some stays.now ≡ true
         known true on some = stays.told on

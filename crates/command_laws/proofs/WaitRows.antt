@@ -43,7 +43,7 @@ use Rattle.sig_core.proofs.Keys.{same_key-self, same_tx-self}
 use Rattle.tc_block.proofs.LiveSplit.{split_at}
 use Rattle.transit_laws.specs.Live.{of_live}
 use Rattle.command_laws.proofs.HostSteps.{tc_host}
-use Rattle.command_laws.proofs.HostKinds.{client_there, no_rows, no_tc, runs_rows}
+use Rattle.command_laws.proofs.HostKinds.{no_rows, runs_rows}
 use Rattle.answer_laws.proofs.LinkCounts.{to_host}
 use Rattle.world_core.specs.Start.{Start}
 use Rattle.world_core.specs.Hosts.{home, host_for, rows_host}
@@ -54,6 +54,8 @@ use Rattle.node_core.specs.Row.{row}
 use Rattle.node_core.specs.Blocks.{has_api, has_lqh, lqh_of, tc_of}
 use Rattle.node_core.specs.declared.host.Host.TheVariants.{Ldm, Tc}
 use Rattle.node_core.specs.declared.host.Host.{Host}
+use Rattle.world_core.proofs.HostNumbers.{client_host}
+use Rattle.answer_laws.proofs.HostSteps.{no_live}
 
 -- a question of what the transaction waits for, or an answer to one
 abbrev pub is_wait_of : TxId → Body → Bool
@@ -278,7 +280,7 @@ module _ (start : Start) (tx : TxId) where
       → (of x.body ≡ true → 1 ≤ sends_of test (tc_row (tc_of g) x).effects.sends) → 1 ≤ sends_of test (row g x).effects.sends
   has_it test of g x t live is sends =
       tc_host (λ (step : Step TcState). 1 ≤ sends_of test step.effects.sends) g x (λ runs at. sends (last x.to.block is))
-      (λ effects none off. absurd (let both : None ≡ Some t = sym (ap (of_live tx) (no_tc g (off (for_tc x.to.block is)))) ∙ live in cc))
+      (λ effects none off. absurd (let both : None ≡ Some t = sym (ap (of_live tx) (no_live g (off (for_tc x.to.block is)))) ∙ live in cc))
     where
       last : (at : BlockId) → (is_tc at && of x.body) ≡ true → of x.body ≡ true
       last block.Tc e = e
@@ -343,7 +345,7 @@ module _ (start : Start) (tx : TxId) where
 
   -- its coordinator passes that on to the API
   pass_one : (s : TcState) (ahead : TxId) (b : Bool) → b ≡ true → 1 ≤ sends_of (to_host start 0 (is_passed tx)) (pass_if s tx ahead b).effects.sends
-  pass_one s ahead true e = omega (arith, ap one_if (true_and (host_for start client == 0) (same_tx tx tx) (ap (λ h. h == 0) (client_there start)) (same_tx-self tx)))
+  pass_one s ahead true e = omega (arith, ap one_if (true_and (host_for start client == 0) (same_tx tx tx) (ap (λ h. h == 0) (client_host start)) (same_tx-self tx)))
   pass_one s ahead false e = cc
 
   tc_passes : (s : TcState) (t : Transaction) → of_live tx s.live ≡ Some t → (body : Body) → found_of tx body ≡ true → 1 ≤ sends_of (to_host start 0 (is_passed tx)) (tc_table s body).effects.sends

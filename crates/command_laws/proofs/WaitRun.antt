@@ -27,7 +27,7 @@ use Rattle.world_core.specs.Hosts.{first_membership, home, hosts, rows_host}
 use Rattle.world_core.specs.Machine.{IsAsked, after, machine, step_after}
 use Rattle.world_core.specs.Requests.{request_in, requests}
 use Rattle.world_core.specs.Start.{Start}
-use Rattle.answer_laws.proofs.Begins.{given_past}
+use Rattle.world_core.proofs.HostNumbers.{given_past}
 use Rattle.answer_laws.proofs.LinkCounts.{sent_signals, signals}
 use Rattle.commit_laws.proofs.Tally.{tally_past}
 use Rattle.commit_laws.specs.Counts.{one_if, tally}

@@ -37,7 +37,8 @@ use Rattle.transit_laws.proofs.TcStill.{AreStill}
 use Rattle.transit_laws.proofs.WaysPassed.{api_each}
 
 -- the events of a key
-pub event_rows : (key : List ℕ) (s : Host) (x : Signal) → has_lqh s ≡ true → x.to.block ≡ block.Lqh → event_in key s x ≡ event_at key (lqh_of s) x.body
+pub event_rows : (key : List ℕ) (s : Host) (x : Signal) → has_lqh s ≡ true → x.to.block ≡ block.Lqh
+    → event_in key s x ≡ event_at key (lqh_of s) x.body
 event_rows key (Ldm l) x runs at = ap (λ b. event_for key l b x.body) at
 event_rows key _ x runs at = absurd cc
 
@@ -64,43 +65,42 @@ pub record IsBystander (tx : TxId) (s : Host) (t : Step Host) : Type 0 where
   pub unborn : IsUnborn tx t.state → IsUnborn tx s
   pub sends : AreStill tx t.effects.sends
 
-pub bystander : (tx : TxId) (s : Host) (t : Step Host) (f : Effects) → tc_of t.state ≡ tc_of s → t.effects ≡ f → AreStill tx f.sends → IsBystander tx s t
+pub bystander : (tx : TxId) (s : Host) (t : Step Host) (f : Effects) → tc_of t.state ≡ tc_of s → t.effects ≡ f
+    → AreStill tx f.sends → IsBystander tx s t
 bystander tx s t f same is still = record {
   live = ap (λ (c : TcState). of_live tx c.live) same;
   unborn = λ early. subst (λ (c : TcState). c.next_seq ≤ tx.seq) same early;
   sends = subst (λ (f : Effects). AreStill tx f.sends) (sym is) still;
 }
 
-dih_plain : (tx : TxId) (o : Outgoing) → is_dih_kind o.body ≡ true → is_token tx o.body ≡ false
-dih_plain tx o is = by o.body is
-  where
-    by : (body : Body) → is_dih_kind body ≡ true → is_token tx body ≡ false
-    by (Chain (LqhKeyReq v work chain at)) is = absurd cc
-    by (Chain (LqhKeyConf v key answer)) is = absurd cc
-    by (Chain (LqhKeyRef v key why)) is = absurd cc
-    by _ is = refl
+dih_plain : (tx : TxId) (body : Body) → is_dih_kind body ≡ true → is_token tx body ≡ false
+dih_plain tx (Chain c) is = cc
+dih_plain tx _ is = refl
 
-api_plain : (tx : TxId) (o : Outgoing) → is_api_kind o.body ≡ true → is_token tx o.body ≡ false
-api_plain tx o is = by o.body is
-  where
-    by : (body : Body) → is_api_kind body ≡ true → is_token tx body ≡ false
-    by (Chain (LqhKeyReq v work chain at)) is = absurd cc
-    by (Chain (LqhKeyConf v key answer)) is = absurd cc
-    by (Chain (LqhKeyRef v key why)) is = absurd cc
-    by _ is = refl
+api_plain : (tx : TxId) (body : Body) → is_api_kind body ≡ true → is_token tx body ≡ false
+api_plain tx (Chain c) is = cc
+api_plain tx _ is = refl
 
 -- the API and the block of epochs send none
 pub api_still : (tx : TxId) (s : ApiState) (body : Body) → AreStill tx (api_table s body).effects.sends
-api_still tx s body = api_each (λ (o : Outgoing). is_token tx o.body ≡ false) (api_plain tx) (λ name at. refl) s body
+api_still tx s body =
+    api_each (λ (o : Outgoing). is_token tx o.body ≡ false) (λ o. api_plain tx o.body) (λ name at. refl) s body
 
 pub dih_still : (tx : TxId) (s : DihState) (body : Body) → AreStill tx (dih_table s body).effects.sends
-dih_still tx s body = each_of is_dih_kind (λ (o : Outgoing). is_token tx o.body ≡ false) (dih_plain tx) (dih_table s body).effects.sends (dih_kinds s body)
+dih_still tx s body =
+    each_of is_dih_kind (λ (o : Outgoing). is_token tx o.body ≡ false) (λ o. dih_plain tx o.body)
+    (dih_table s body).effects.sends (dih_kinds s body)
 
 -- at another block no part of an operation is taken
-pub token_other : (tx : TxId) (key : List ℕ) (to : Place) (body : Body) → is_rows to.block ≡ false → is_tc to.block ≡ false → token_of tx key to body ≡ None
-token_other tx key to (Chain (LqhKeyReq v work chain at)) off apart = ap (λ b. if b && (same_tx v tx && same_key (work_key work) key) then Some (performs work at) else None) off
-token_other tx key to (Chain (LqhKeyConf v own answer)) off apart = ap (λ b. if (b && nat_eq to.node v.tc) && (same_tx v tx && same_key own key) then Some (answers answer) else None) apart
-token_other tx key to (Chain (LqhKeyRef v own why)) off apart = ap (λ b. if (b && nat_eq to.node v.tc) && (same_tx v tx && same_key own key) then Some refuses else None) apart
+pub token_other : (tx : TxId) (key : List ℕ) (to : Place) (body : Body) → is_rows to.block ≡ false
+    → is_tc to.block ≡ false → token_of tx key to body ≡ None
+token_other tx key to (Chain (LqhKeyReq v work chain at)) off apart =
+    ap (λ b. if b && (same_tx v tx && same_key (work_key work) key) then Some (performs work at) else None) off
+token_other tx key to (Chain (LqhKeyConf v own answer)) off apart =
+    ap (λ b. if (b && nat_eq to.node v.tc) && (same_tx v tx && same_key own key) then Some
+    (answers answer) else None) apart
+token_other tx key to (Chain (LqhKeyRef v own why)) off apart =
+    ap (λ b. if (b && nat_eq to.node v.tc) && (same_tx v tx && same_key own key) then Some refuses else None) apart
 token_other tx key to _ off apart = refl
 
 -- the place is that of the transaction's coordinator
@@ -122,7 +122,8 @@ home_of tx v to b is =
     let home = and_parts (is_tc to.block) (nat_eq to.node v.tc) parts.0 in
     record {
       block = tc_block to.block home.0;
-      node = eqb-true to.node v.tc home.1 ∙ ap (λ (t : TxId). t.tc) (same_tx-is v tx (and_parts (same_tx v tx) b parts.1).0);
+      node = eqb-true to.node v.tc home.1
+          ∙ ap (λ (t : TxId). t.tc) (same_tx-is v tx (and_parts (same_tx v tx) b parts.1).0);
     }
 
 -- who takes a part of an operation: the rows of a node, or the coordinator of the transaction
@@ -131,16 +132,21 @@ pub record IsRequest (to : Place) (body : Body) : Type 0 where
   pub is : body ≡ Chain (LqhKeyReq request.tx request.work request.chain request.at)
   pub rows : to.block ≡ block.Lqh
 
-pub token_place : (tx : TxId) (key : List ℕ) (to : Place) (body : Body) (token : Token) → token_of tx key to body ≡ Some token → IsRequest to body ⊎ IsForHome tx to
+pub token_place : (tx : TxId) (key : List ℕ) (to : Place) (body : Body) (token : Token)
+    → token_of tx key to body ≡ Some token → IsRequest to body ⊎ IsForHome tx to
 token_place tx key to (Chain (LqhKeyReq v work chain at)) token is =
-    let parts = some_if (is_rows to.block && (same_tx v tx && same_key (work_key work) key)) (performs work at) token is in
+    let parts =
+    some_if (is_rows to.block && (same_tx v tx && same_key (work_key work) key)) (performs work at) token is in
     inl (record {
       request = record { tx = v; work = work; chain = chain; at = at };
       is = refl;
-      rows = rows_block to.block (and_parts (is_rows to.block) (same_tx v tx && same_key (work_key work) key) parts.0).0;
+      rows = rows_block to.block
+          (and_parts (is_rows to.block) (same_tx v tx && same_key (work_key work) key) parts.0).0;
     })
 token_place tx key to (Chain (LqhKeyConf v own answer)) token is =
-    inr (home_of tx v to (same_key own key) (some_if (is_home v to && (same_tx v tx && same_key own key)) (answers answer) token is).0)
+    inr (home_of tx v to (same_key own key)
+    (some_if (is_home v to && (same_tx v tx && same_key own key)) (answers answer) token is).0)
 token_place tx key to (Chain (LqhKeyRef v own why)) token is =
-    inr (home_of tx v to (same_key own key) (some_if (is_home v to && (same_tx v tx && same_key own key)) refuses token is).0)
+    inr (home_of tx v to (same_key own key)
+    (some_if (is_home v to && (same_tx v tx && same_key own key)) refuses token is).0)
 token_place tx key to _ token is = absurd cc

@@ -72,23 +72,32 @@ module _ (start : Start) (es : List HostStep) (e : HostStep) (come : Comes start
   said = tc_sends g e.step.taken
 
   -- the transactions that its coordinator took this way, before and behind the step
-  ways_was : (f : Way → List TxId → List TxId) → h ≡ at_home → sent_ways start f at_home (logs_of start es at_home) ≡ sent_ways start f h (logs_of start es h)
-  ways_was f same = subst (λ k. sent_ways start f k (logs_of start es k) ≡ sent_ways start f h (logs_of start es h)) same refl
+  ways_was : (f : Way → List TxId → List TxId) → h ≡ at_home
+      → sent_ways start f at_home (logs_of start es at_home) ≡ sent_ways start f h (logs_of start es h)
+  ways_was f same =
+      subst (λ k. sent_ways start f k (logs_of start es k) ≡ sent_ways start f h (logs_of start es h)) same refl
 
-  ways_now : (f : Way → List TxId → List TxId) → h ≡ at_home → sent_ways start f at_home (logs_of start (e ∷ es) at_home) ≡ put_ways f said (sent_ways start f h (logs_of start es h))
+  ways_now : (f : Way → List TxId → List TxId) → h ≡ at_home
+      → sent_ways start f at_home (logs_of start (e ∷ es) at_home)
+      ≡ put_ways f said (sent_ways start f h (logs_of start es h))
   ways_now f same =
-      subst (λ k. sent_ways start f k (logs_of start (e ∷ es) k) ≡ put_ways f said (sent_ways start f h (logs_of start es h))) same
+      subst (λ k. sent_ways start f k (logs_of start (e ∷ es) k)
+      ≡ put_ways f said (sent_ways start f h (logs_of start es h))) same
       (ap (sent_ways start f h) (now_own start es e come))
 
   -- a step that says nothing of it takes it nowhere
   pub carried_silent : AreSilent tx said → is_carried_out start (logs_of start (e ∷ es)) tx ≡ is_carried_out start (logs_of start es) tx
   carried_silent silent = by (cases_eq h at_home)
     where
-      by : (h ≡ at_home) ⊎ (h ≢ at_home) → is_carried_out start (logs_of start (e ∷ es)) tx ≡ is_carried_out start (logs_of start es) tx
+      by : (h ≡ at_home) ⊎ (h ≢ at_home)
+          → is_carried_out start (logs_of start (e ∷ es)) tx ≡ is_carried_out start (logs_of start es) tx
       by (inl same) =
-          ap (list_any (same_tx tx)) (ways_now forth_by same) ∙ (silent_forth tx said (sent_ways start forth_by h (logs_of start es h)) silent
+          ap (list_any (same_tx tx)) (ways_now forth_by same)
+          ∙ (silent_forth tx said (sent_ways start forth_by h (logs_of start es h)) silent
           ∙ ap (list_any (same_tx tx)) (sym (ways_was forth_by same)))
-      by (inr differs) = ap (λ log. list_any (same_tx tx) (sent_ways start forth_by at_home log)) (now_other start es e come at_home differs)
+      by (inr differs) =
+          ap (λ log. list_any (same_tx tx) (sent_ways start forth_by at_home log))
+          (now_other start es e come at_home differs)
 
   -- where nothing of it is sent nothing is said of it
   pub said_silent : AreSilent tx (row g e.step.taken).effects.sends → AreSilent tx said
@@ -99,8 +108,12 @@ module _ (start : Start) (es : List HostStep) (e : HostStep) (come : Comes start
       by (rests same says) = subst (AreSilent tx) (sym says) tt
 
   pub given_first : h ≡ at_home → Aborts tx said → is_given_up start (logs_of start (e ∷ es)) tx ≡ true
-  given_first same aborts = ap (list_any (same_tx tx)) (ways_now back_by same) ∙ back_first tx said (sent_ways start back_by h (logs_of start es h)) aborts
+  given_first same aborts =
+      ap (list_any (same_tx tx)) (ways_now back_by same)
+      ∙ back_first tx said (sent_ways start back_by h (logs_of start es h)) aborts
 
-  pub carried_first : h ≡ at_home → (first : Outgoing) (more : List Outgoing) → said ≡ first ∷ more → is_commit tx first.body ≡ true → is_carried_out start (logs_of start (e ∷ es)) tx ≡ true
+  pub carried_first : h ≡ at_home → (first : Outgoing) (more : List Outgoing) → said ≡ first ∷ more
+      → is_commit tx first.body ≡ true → is_carried_out start (logs_of start (e ∷ es)) tx ≡ true
   carried_first same first more is commits =
-      ap (list_any (same_tx tx)) (ways_now forth_by same) ∙ forth_first tx said first more (sent_ways start forth_by h (logs_of start es h)) is commits
+      ap (list_any (same_tx tx)) (ways_now forth_by same)
+      ∙ forth_first tx said first more (sent_ways start forth_by h (logs_of start es h)) is commits

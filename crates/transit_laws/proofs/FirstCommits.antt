@@ -37,7 +37,6 @@ use Rattle.commit_laws.specs.Counts.{one_if}
 use Rattle.answer_laws.proofs.Always.{few_touched}
 use Rattle.answer_laws.proofs.TcLives.{IsOwn}
 use Rattle.answer_laws.proofs.TcSteps as answered
-use Rattle.answer_laws.proofs.TcOwes.{IsKnown}
 use Rattle.answer_laws.proofs.TcSends.{tx_in}
 use Rattle.transit_laws.specs.Circle.{IsSettled, at_host}
 use Rattle.transit_laws.specs.Completions.{IsCommittedAtAll}
@@ -52,6 +51,7 @@ use Rattle.transit_laws.proofs.CommitBegins.{Aborts, Begins, turn_begins}
 use Rattle.transit_laws.proofs.CommitBegins as turn
 use Rattle.transit_laws.proofs.GivenUp.{none_is_both}
 use Rattle.transit_laws.proofs.HomeSteps.{all_home, here_now, here_was, own_home}
+use Rattle.transit_laws.proofs.HostAfter.{each_host}
 use Rattle.transit_laws.proofs.HostSteps.{TxStep, aside, begins, next_number, number_rises, rows, turns, tx_step}
 use Rattle.transit_laws.proofs.Keyed.{log_keyed}
 use Rattle.transit_laws.proofs.LiveOf.{of_each}
@@ -60,7 +60,7 @@ use Rattle.transit_laws.proofs.PartSends.{commits_tell, first_commit, no_commits
 use Rattle.transit_laws.proofs.RecordsFade.{HasRecord}
 use Rattle.transit_laws.proofs.Routes.{signals_are_routed}
 use Rattle.transit_laws.proofs.SettledAlong.{settled_along}
-use Rattle.transit_laws.proofs.StepFades.{StepFades, marks_at, now_other, now_own}
+use Rattle.transit_laws.proofs.StepFades.{StepFades, marks_at}
 use Rattle.transit_laws.proofs.TcOwn.{turn_for}
 use Rattle.transit_laws.proofs.TcSaid.{tc_silent, tc_speaks}
 use Rattle.transit_laws.proofs.TxSignals.{cover, is_part, is_sign, part_tells, part_weight, request_part, sign_part, weight}
@@ -180,13 +180,8 @@ module _ (start : Start) (es : List HostStep) (e : HostStep) (come : Comes start
 
     -- no row is touched
     at_same : (key : List ℕ) (k : ℕ) → at_host start (logs_of start (e ∷ es)) key k ≡ at_host start (logs_of start es) key k
-    at_same key k = by (cases_eq h k)
-      where
-        by : (h ≡ k) ⊎ (h ≢ k) → at_host start (logs_of start (e ∷ es)) key k ≡ at_host start (logs_of start es) key k
-        by (inr differs) = ap (λ log. key_in key (after start k log)) (now_other start es e come k differs)
-        by (inl own_host) =
-            subst (λ j. at_host start (logs_of start (e ∷ es)) key j ≡ at_host start (logs_of start es) key j) own_host
-            (ap (λ log. key_in key (after start h log)) (now_own start es e come) ∙ ap (at_key key) step.rows)
+    at_same key k =
+        each_host start (λ j x. key_in key x ≡ at_host start (logs_of start es) key j) es e (ap (at_key key) step.rows) (λ j. refl) k
 
     fades : StepFades start (logs_of start es) (logs_of start (e ∷ es)) e tx
     fades = record {

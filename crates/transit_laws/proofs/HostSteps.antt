@@ -47,7 +47,8 @@ pub record IsMissed (tx : TxId) (s : Host) (x : Signal) : Type 0 where
 pub data TxStep (tx : TxId) (s : Host) (x : Signal) (t : Step Host) : Type 0 where
   aside : of_host tx t.state ≡ of_host tx s → AreSilent tx t.effects.sends → IsMissed tx s x → TxStep tx s x t
   rows : IsRowsStep s x t → TxStep tx s x t
-  begins : IsTcStep s x t → of_host tx t.state ≡ of_live tx (begun (tc_of s)).live → AreSilent tx t.effects.sends → is_next tx x.body ≡ false → TxStep tx s x t
+  begins : IsTcStep s x t → of_host tx t.state ≡ of_live tx (begun (tc_of s)).live → AreSilent tx t.effects.sends
+      → is_next tx x.body ≡ false → TxStep tx s x t
   turns : (u : Transaction) → IsTcStep s x t → of_host tx s ≡ Some u → same_tx (tx_in x.body) tx ≡ true
       → t.effects.sends ≡ (turn_for (tc_of s).node (tc_of s).layout tx x.body u).step.effects.sends
       → of_host tx t.state ≡ left_by (turn_for (tc_of s).node (tc_of s).layout tx x.body u) → TxStep tx s x t
@@ -75,8 +76,11 @@ module _ (tx : TxId) (s : Host) (x : Signal) (once : tally (is_keyed tx) (tc_of 
     next = λ next is. absurd (false≢true (sym (ap is_tc at ∙ away) ∙ is));
   }
 
-  quiet : (t : Step Host) (f : Effects) → t.effects ≡ f → tc_of t.state ≡ tc_of s → AreSilent tx f.sends → IsMissed tx s x → TxStep tx s x t
-  quiet t f same kept silent missed = aside (ap (λ (c : TcState). of_live tx c.live) kept) (subst (λ (f : Effects). AreSilent tx f.sends) (sym same) silent) missed
+  quiet : (t : Step Host) (f : Effects) → t.effects ≡ f → tc_of t.state ≡ tc_of s → AreSilent tx f.sends
+      → IsMissed tx s x → TxStep tx s x t
+  quiet t f same kept silent missed =
+      aside (ap (λ (c : TcState). of_live tx c.live) kept)
+      (subst (λ (f : Effects). AreSilent tx f.sends) (sym same) silent) missed
 
   takes_turn : (t : Step Host) → IsTcStep s x t → TxStep tx s x t
   takes_turn t step = by (tc_turn tx (tc_of s) once x.body)
@@ -89,21 +93,29 @@ module _ (tx : TxId) (s : Host) (x : Signal) (once : tally (is_keyed tx) (tc_of 
 
       by : TcTurn tx (tc_of s) x.body (tc_row (tc_of s) x) → TxStep tx s x t
       by (turn.idle same silent next) =
-          aside (live_is ∙ same) (silent_too silent) (record { rows = λ is. absurd (false≢true (sym (ap is_lqh step.at) ∙ is)); next = λ is home. next is })
-      by (turn.begins is silent none) = begins step (live_is ∙ ap (λ (c : TcState). of_live tx c.live) is) (silent_too silent) none
-      by (turn.turns u was same sent left) = turns u step was same (ap (λ (f : Effects). f.sends) step.effects ∙ sent) (live_is ∙ left)
+          aside (live_is ∙ same) (silent_too silent)
+          (record { rows = λ is. absurd (false≢true (sym (ap is_lqh step.at) ∙ is)); next = λ is home. next is })
+      by (turn.begins is silent none) =
+          begins step (live_is ∙ ap (λ (c : TcState). of_live tx c.live) is) (silent_too silent) none
+      by (turn.turns u was same sent left) =
+          turns u step was same (ap (λ (f : Effects). f.sends) step.effects ∙ sent) (live_is ∙ left)
 
   pub tx_step : TxStep tx s x (row s x)
   tx_step = by (row s x) (block_case s x)
     where
       by : (t : Step Host) → BlockCase s x t → TxStep tx s x t
-      by t (api_takes step) = quiet t _ step.effects step.tc (api_silent tx (api_of s) x.body) (elsewhere block.Api step.at refl refl)
+      by t (api_takes step) =
+          quiet t _ step.effects step.tc (api_silent tx (api_of s) x.body) (elsewhere block.Api step.at refl refl)
       by t (tc_takes step) = takes_turn t step
-      by t (dih_takes step) = quiet t _ step.effects step.tc (dih_silent tx (dih_of s) x.body) (elsewhere block.Dih step.at refl refl)
+      by t (dih_takes step) =
+          quiet t _ step.effects step.tc (dih_silent tx (dih_of s) x.body) (elsewhere block.Dih step.at refl refl)
       by t (rows_take step) = rows step
       by t (none_takes step) =
           quiet t _ (ap (λ (u : Step Host). u.effects) step.is) (ap (λ (u : Step Host). tc_of u.state) step.is) tt
-          (record { rows = λ is. sym (runs_rows s x.to.block is) ∙ step.runs; next = λ next is. none_of tx s x.to.block is step.runs })
+          (record {
+            rows = λ is. sym (runs_rows s x.to.block is) ∙ step.runs;
+            next = λ next is. none_of tx s x.to.block is step.runs;
+          })
 
 module _ (tx : TxId) where
   -- what is no commit for rows, and no signal for its coordinator to go on, leads to no commit
@@ -121,16 +133,21 @@ module _ (tx : TxId) where
       by true p false q = rest (to.node == tx.tc)
   aside_cover key i to _ off none = refl
 
-  pub away_cover : (key : List ℕ) (i : ℕ) (to : Place) (b : Body) → is_lqh to.block ≡ false → (is_tc to.block && (to.node == tx.tc)) ≡ false → cover tx key i to b ≡ 0
+  pub away_cover : (key : List ℕ) (i : ℕ) (to : Place) (b : Body) → is_lqh to.block ≡ false
+      → (is_tc to.block && (to.node == tx.tc)) ≡ false → cover tx key i to b ≡ 0
   away_cover key i to (body.Chain (Commit other own epoch chain at)) off far = ap (λ l. one_if (l && (same_tx other tx && same_key own key))) off
-  away_cover key i to (body.Host (Continue (work.Transaction other) at)) off far = ap (λ h. one_if (h && (same_tx other tx && nat_le at i))) far
+  away_cover key i to (body.Host (Continue (work.Transaction other) at)) off far =
+      ap (λ h. one_if (h && (same_tx other tx && nat_le at i))) far
   away_cover key i to _ off far = refl
 
   -- nor does another signal than a commit for rows
   pub rows_cover : (key : List ℕ) (i : ℕ) (to : Place) (b : Body) → is_lqh to.block ≡ true
-      → ((one : TxId) (own : List ℕ) (epoch : ℕ) (chain : List Member) (at : ℕ) → b ≡ body.Chain (Commit one own epoch chain at) → ⊥) → cover tx key i to b ≡ 0
-  rows_cover key i to (body.Chain (Commit other own epoch chain at)) is none = absurd (none other own epoch chain at refl)
-  rows_cover key i to (body.Host (Continue (work.Transaction other) at)) is none = ap (λ h. one_if ((h && (to.node == tx.tc)) && (same_tx other tx && nat_le at i))) (by to.block is)
+      → ((one : TxId) (own : List ℕ) (epoch : ℕ) (chain : List Member) (at : ℕ)
+      → b ≡ body.Chain (Commit one own epoch chain at) → ⊥) → cover tx key i to b ≡ 0
+  rows_cover key i to (body.Chain (Commit other own epoch chain at)) is none =
+      absurd (none other own epoch chain at refl)
+  rows_cover key i to (body.Host (Continue (work.Transaction other) at)) is none =
+      ap (λ h. one_if ((h && (to.node == tx.tc)) && (same_tx other tx && nat_le at i))) (by to.block is)
     where
       by : (b : BlockId) → is_lqh b ≡ true → is_tc b ≡ false
       by block.Tc is = absurd cc

@@ -69,8 +69,8 @@ module _ (tx : TxId) where
         → waiting_in tx (row s x).state + tokens_out tx (row s x).effects.sends ≤ waiting_in tx s + one_if (is_token tx x.body) → Kept bs s x
     few_kept same silent few =
         let stays : budget_by (list_any (same_tx tx) (put_ways back_by (tc_sends s x) bs)) (of_host tx (row s x).state) ≡ budget_by (list_any (same_tx tx) bs) (of_host tx s) =
-            ap (λ sends. budget_by (list_any (same_tx tx) (put_ways back_by sends bs)) (of_host tx (row s x).state)) silent
-            ∙ ap (λ (t : TcState). budget_by (list_any (same_tx tx) bs) (of_live tx t.live)) same in
+        ap (λ sends. budget_by (list_any (same_tx tx) (put_ways back_by sends bs)) (of_host tx (row s x).state)) silent
+        ∙ ap (λ (t : TcState). budget_by (list_any (same_tx tx) bs) (of_live tx t.live)) same in
         record { home = λ m low. omega (arith, low, few, stays); away = λ off. few }
 
     waits_in : {l m : LqhState} → l ≡ m → tally (is_own tx) l.waiting ≡ tally (is_own tx) m.waiting
@@ -84,9 +84,9 @@ module _ (tx : TxId) where
         let turn = tc_tokens tx (tc_of s) bs sound.tc x.body in
         let sent = ap (λ (f : Effects). tokens_out tx f.sends) step.effects in
         let now : budget_by (list_any (same_tx tx) (put_ways back_by (tc_sends s x) bs)) (of_host tx (row s x).state)
-            ≡ budget_by (list_any (same_tx tx) (put_ways back_by (tc_row (tc_of s) x).effects.sends bs)) (of_live tx (tc_row (tc_of s) x).state.live) =
-            ap (λ sends. budget_by (list_any (same_tx tx) (put_ways back_by sends bs)) (of_host tx (row s x).state)) (tc_speaks s x step.runs step.at)
-            ∙ ap (λ (t : TcState). budget_by (list_any (same_tx tx) (put_ways back_by (tc_row (tc_of s) x).effects.sends bs)) (of_live tx t.live)) step.state in
+        ≡ budget_by (list_any (same_tx tx) (put_ways back_by (tc_row (tc_of s) x).effects.sends bs)) (of_live tx (tc_row (tc_of s) x).state.live) =
+        ap (λ sends. budget_by (list_any (same_tx tx) (put_ways back_by sends bs)) (of_host tx (row s x).state)) (tc_speaks s x step.runs step.at)
+        ∙ ap (λ (t : TcState). budget_by (list_any (same_tx tx) (put_ways back_by (tc_row (tc_of s) x).effects.sends bs)) (of_live tx t.live)) step.state in
         record {
           home = λ m low. omega (arith, now, sent, waits_in step.rows, turn.home (m + waiting_in tx s) (omega (arith, low)));
           away = λ off. omega (arith, sent, waits_in step.rows, turn.away (off step.runs));

@@ -30,7 +30,6 @@ pub mod KeySteps
 pub mod KeyTokens
 pub mod Keyed
 pub mod LiveAfter
-pub mod LiveFacts
 pub mod LiveOf
 pub mod LqhCases
 pub mod LqhParts

@@ -16,7 +16,7 @@ use Rattle.sig_core.specs.declared.signal.client.ClientSignal.TheVariants.{LqhWa
 use Rattle.sig_core.specs.declared.signal.host.HostSignal.TheVariants.{Round, Continue}
 use Rattle.sig_core.specs.declared.signal.host.Work.TheVariants as work
 use Rattle.sig_core.specs.Op.{answer_to, image_of, key_of}
-use Rattle.sig_core.specs.Rows.{seen}
+use Rattle.sig_core.specs.Rows.{record_state, seen}
 use Rattle.row_locks.specs.declared.mode.Lock.{Lock}
 use Rattle.row_locks.specs.declared.mode.Lock.TheVariants.{Granted, Queued}
 use Rattle.row_locks.specs.Rounds.{expired}
@@ -39,7 +39,6 @@ use Rattle.sig_core.specs.declared.place.BlockId.TheVariants as block
 use Rattle.sig_core.specs.declared.place.Place.{Place}
 use Rattle.sig_core.specs.Chain.{node_at}
 use Rattle.sig_core.specs.Place.{coordinator_of, rows_of}
-use Rattle.sig_core.specs.Rows.{record_state}
 use Rattle.sig_core.specs.Step.{to_place}
 use Rattle.sig_core.specs.Same.{same_key, same_tx}
 use Rattle.answer_laws.proofs.SendKinds.{SendsOnly, are_of, each_of, of_append}

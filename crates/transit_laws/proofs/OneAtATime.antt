@@ -18,9 +18,8 @@ use Rattle.world_core.specs.Machine.{after, machine, signals_of, step_after}
 use Rattle.world_core.specs.Start.{Start}
 use Rattle.commit_laws.specs.Ways.{back_by, sent_ways}
 use Rattle.answer_laws.proofs.HostSteps.{first_waiting}
-use Rattle.commit_laws.specs.Counts.{one_if, tally}
+use Rattle.commit_laws.specs.Counts.{one_if, tally, total}
 use Rattle.commit_laws.proofs.Sums.{total_at, total_one}
-use Rattle.commit_laws.specs.Counts.{total}
 use Rattle.transit_laws.specs.Live.{of_host}
 use Rattle.transit_laws.specs.Tokens.{OneAtATime, budget, budget_by, is_token, tokens, tokens_in, waiting_all, waiting_in}
 use Rattle.transit_laws.specs.Transit.{Comes, Takes, joined, logs_of}

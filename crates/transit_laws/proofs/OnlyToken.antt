@@ -69,7 +69,8 @@ module _ (tx : TxId) (key : List ℕ) where
             let high : hosts start ≤ h = grind (arith, nat_tests, e) in
             ap (λ log. waits_of tx (key_in key (after start h log))) (run.within h high) ∙ none_begun h
 
-    module _ (xs : List Addressed) (transit : AreInTransit start es xs) (t : Transaction) (live : live_at start (logs_of start es) tx ≡ Some t) (early : is_early t.phase ≡ true) where
+    module _ (xs : List Addressed) (transit : AreInTransit start es xs) (t : Transaction)
+        (live : live_at start (logs_of start es) tx ≡ Some t) (early : is_early t.phase ≡ true) where
       allowed : budget start (logs_of start es) tx ≡ one_if (is_some t.asked)
       allowed = ap (budget_by (is_given_up start (logs_of start es) tx)) live ∙ by (is_given_up start (logs_of start es) tx) ∙ ap (λ b. if b then 1 else one_if (is_some t.asked)) (early_stays t.phase early)
         where
@@ -102,12 +103,16 @@ module _ (tx : TxId) (key : List ℕ) where
         pub signals : Each (λ (x : Addressed). is_token tx x.signal.body ≡ false) old
         pub waits : (h : ℕ) → (view_of start (logs_of start es) tx key).waits h ≡ []
 
-      pub one_sent : (new old : List Addressed) → xs ≡ joined new old → 1 ≤ tally (λ (x : Addressed). is_token tx x.signal.body) new → IsOnly new old
+      pub one_sent : (new old : List Addressed) → xs ≡ joined new old
+          → 1 ≤ tally (λ (x : Addressed). is_token tx x.signal.body) new → IsOnly new old
       one_sent new old is some =
-          let all : tokens_in tx xs ≡ tally (λ (x : Addressed). is_token tx x.signal.body) new + tally (λ (x : Addressed). is_token tx x.signal.body) old =
+          let all : tokens_in tx xs
+          ≡ tally (λ (x : Addressed). is_token tx x.signal.body) new + tally
+          (λ (x : Addressed). is_token tx x.signal.body) old =
           ap (tokens_in tx) is ∙ tally_joined (λ (x : Addressed). is_token tx x.signal.body) new old in
           record {
-            signals = none_passes (λ (x : Addressed). is_token tx x.signal.body) old (omega (arith, bound, one_most (is_some t.asked), all, some));
+            signals = none_passes (λ (x : Addressed). is_token tx x.signal.body) old
+                (omega (arith, bound, one_most (is_some t.asked), all, some));
             waits = none_wait (omega (arith, bound, one_most (is_some t.asked), all, some));
           }
 
@@ -116,7 +121,8 @@ module _ (tx : TxId) (key : List ℕ) where
       pub signals : Each (λ (x : Addressed). is_token tx x.signal.body ≡ false) xs
       pub waits : (h : ℕ) → (view_of start (logs_of start es) tx key).waits h ≡ []
 
-    pub none_live : (xs : List Addressed) → AreInTransit start es xs → live_at start (logs_of start es) tx ≡ None → is_given_up start (logs_of start es) tx ≡ false → NoneAtAll xs
+    pub none_live : (xs : List Addressed) → AreInTransit start es xs → live_at start (logs_of start es) tx ≡ None
+        → is_given_up start (logs_of start es) tx ≡ false → NoneAtAll xs
     none_live xs transit none kept =
         let zero_is : budget start (logs_of start es) tx ≡ 0 = λ i. budget_by (kept i) (none i) in
         let bound : tokens_in tx xs + waiting_all start (logs_of start es) tx ≤ 0 = subst (λ n. tokens_in tx xs + waiting_all start (logs_of start es) tx ≤ n) zero_is (one_at_a_time start es xs tx run transit) in

@@ -1,17 +1,12 @@
 -- What is sent along chains goes to the places that it is for, along every run.
-use Rattle.std.proofs.Common.{◌≡◌, ◌⊎◌, ◌<◌, ℕ, Bool, true, false, zero, suc, List, ◌∷◌, length, refl, sym, ap, ◌∙◌, subst, inl, inr}
-use Rattle.std.proofs.lemmas.Bool.{false≢true}
+use Rattle.std.proofs.Common.{◌≡◌, ◌⊎◌, ◌<◌, ℕ, Bool, true, false, List, [], ◌∷◌, length, refl, sym, ap, ◌∙◌, subst, inl, inr}
 use Rattle.run_theory.specs.Lists.{Each}
 use Rattle.run_theory.proofs.Pasts.{each_map}
-use Rattle.sig_core.specs.declared.member.Member.{Member}
 use Rattle.sig_core.specs.declared.place.BlockId.TheVariants as block
-use Rattle.sig_core.specs.declared.place.Part.{Part}
-use Rattle.sig_core.specs.declared.place.Part.TheVariants as part
 use Rattle.sig_core.specs.declared.signal.Body.{Body}
 use Rattle.sig_core.specs.declared.signal.Body.TheVariants.{Chain}
 use Rattle.sig_core.specs.declared.signal.Signal.{Signal}
 use Rattle.sig_core.specs.Step.{Step}
-use Rattle.frag_map.specs.Layout.{first_layout}
 use Rattle.api_block.specs.Api.{api_table}
 use Rattle.api_block.specs.State.{ApiState}
 use Rattle.lqh_block.specs.declared.request.Request.{Request}
@@ -22,7 +17,6 @@ use Rattle.node_core.proofs.HostCases.{IsRowsStep, IsTcStep, each_send, rows_ste
 use Rattle.node_core.specs.declared.host.Host.{Host}
 use Rattle.node_core.specs.Blocks.{api_of, dih_of, has_lqh, lqh_of, tc_of}
 use Rattle.node_core.specs.Dih.{DihState, dih_table}
-use Rattle.node_core.specs.Fresh.{fresh_part, fresh_shell}
 use Rattle.node_core.specs.Requests.{is_request}
 use Rattle.node_core.specs.Row.{row}
 use Rattle.world_core.specs.Hosts.{started}
@@ -31,6 +25,7 @@ use Rattle.world_core.specs.Start.{Start}
 use Rattle.world_core.specs.Steps.{Addressed, HostStep}
 use Rattle.answer_laws.proofs.ApiMoves.{is_api_kind}
 use Rattle.answer_laws.proofs.DihSends.{dih_kinds}
+use Rattle.answer_laws.proofs.HostSteps.{first_live, first_waiting, tc_layout}
 use Rattle.answer_laws.proofs.LqhNode.{lqh_node}
 use Rattle.answer_laws.proofs.SendKinds.{each_of, is_dih_kind}
 use Rattle.transit_laws.specs.Routes.{IsForBlock, IsHostRouted, IsOnWay, IsRequestRouted, IsRouted, IsTransactionRouted, SignalsAreForBlocks, SignalsAreRouted, replicas}
@@ -62,28 +57,35 @@ module _ (start : Start) where
   api_sent s body = api_each (λ o. IsSent start o) (λ o is. plain_sent start o.to o.body (api_plain o.body is)) (λ name node. record { routed = tt; block = tt }) s body
 
   dih_sent : (s : DihState) (body : Body) → AreSent start (dih_table s body).effects.sends
-  dih_sent s body = each_of is_dih_kind (λ o. IsSent start o) (λ o is. plain_sent start o.to o.body (dih_plain o.body is)) (dih_table s body).effects.sends (dih_kinds s body)
+  dih_sent s body =
+      each_of is_dih_kind (λ o. IsSent start o) (λ o is. plain_sent start o.to o.body (dih_plain o.body is))
+      (dih_table s body).effects.sends (dih_kinds s body)
 
   -- what waits at rows
   abbrev AreWaiting : LqhState → Type 0
   AreWaiting l = Each (λ (q : Request). IsRequestRouted start l.node q) l.waiting
+
+  -- what a coordinator has
+  abbrev AreLiveRouted : TcState → Type 0
+  AreLiveRouted s = AllAre (λ t. IsTransactionRouted start t) s.live
 
   -- a step of a host
   record HostRoutes (step : Step Host) : Type 0 where
     state : IsHostRouted start step.state
     sends : AreSent start step.effects.sends
 
-  module _ (some : (key : List ℕ) → 0 < length (replicas start key)) (s : Host) (x : Signal) (is : IsRouted start x.to.node x.body)
+  module _ (some : (key : List ℕ) → 0 < length (replicas start key)) (s : Host) (x : Signal)
+      (is : IsRouted start x.to.node x.body)
       (own : has_lqh s ≡ true → x.to.block ≡ block.Lqh → x.to.node ≡ (lqh_of s).node) (was : IsHostRouted start s) where
-    coordinates : ((tc_of (row s x).state).layout ≡ (tc_of s).layout) × AllAre (λ t. IsTransactionRouted start t) (tc_of (row s x).state).live
+    coordinates : ((tc_of (row s x).state).layout ≡ (tc_of s).layout) × AreLiveRouted (tc_of (row s x).state)
     coordinates = by (tc_step s x)
       where
         by : IsTcStep s x (row s x) ⊎ (tc_of (row s x).state ≡ tc_of s)
-            → ((tc_of (row s x).state).layout ≡ (tc_of s).layout) × AllAre (λ t. IsTransactionRouted start t) (tc_of (row s x).state).live
+            → ((tc_of (row s x).state).layout ≡ (tc_of s).layout) × AreLiveRouted (tc_of (row s x).state)
         by (inl step) =
             let keeps = tc_routed start some (tc_of s) x.body (was.layout step.runs) was.live in
-            (ap (λ (t : TcState). t.layout) step.state ∙ keeps.layout, subst (λ (t : TcState). AllAre (λ t. IsTransactionRouted start t) t.live) (sym step.state) keeps.live)
-        by (inr same) = (ap (λ (t : TcState). t.layout) same, subst (λ (t : TcState). AllAre (λ t. IsTransactionRouted start t) t.live) (sym same) was.live)
+            (ap (λ (t : TcState). t.layout) step.state ∙ keeps.layout, subst AreLiveRouted (sym step.state) keeps.live)
+        by (inr same) = (ap (λ (t : TcState). t.layout) same, subst AreLiveRouted (sym same) was.live)
 
     -- what rows take is for their node
     rows_take : has_lqh s ≡ true → x.to.block ≡ block.Lqh → IsRouted start (lqh_of s).node x.body
@@ -95,9 +97,12 @@ module _ (start : Start) where
         by : IsRowsStep s x (row s x) ⊎ (lqh_of (row s x).state ≡ lqh_of s) → AreWaiting (lqh_of (row s x).state)
         by (inl step) =
             let keeps = lqh_routed start (lqh_of s).node (lqh_of s) x.body (rows_take step.runs step.at) was.waiting in
-            let same : (lqh_of (row s x).state).node ≡ (lqh_of s).node = ap (λ (l : LqhState). l.node) step.state ∙ lqh_node (lqh_of s) x.body in
-            subst (λ node. Each (λ (q : Request). IsRequestRouted start node q) (lqh_of (row s x).state).waiting) (sym same)
-            (subst (λ (l : LqhState). Each (λ (q : Request). IsRequestRouted start (lqh_of s).node q) l.waiting) (sym step.state) keeps.waiting)
+            let same : (lqh_of (row s x).state).node ≡ (lqh_of s).node =
+            ap (λ (l : LqhState). l.node) step.state ∙ lqh_node (lqh_of s) x.body in
+            subst (λ node. Each (λ (q : Request). IsRequestRouted start node q) (lqh_of (row s x).state).waiting)
+            (sym same)
+            (subst (λ (l : LqhState). Each (λ (q : Request). IsRequestRouted start (lqh_of s).node q) l.waiting)
+            (sym step.state) keeps.waiting)
         by (inr same) = subst AreWaiting (sym same) was.waiting
 
     host_routes : HostRoutes (row s x)
@@ -115,43 +120,47 @@ module _ (start : Start) where
       });
     }
 
-  part_routed : (of : Part) (member : Member) → IsHostRouted start (fresh_part of member (first_layout start.shape) start.epoch start.rows)
-  unfolding fresh_part
-  part_routed part.Main member = record { layout = λ runs. absurd (false≢true runs); waiting = tt; live = tt }
-  part_routed part.Tc member = record { layout = λ runs. refl; waiting = tt; live = tt }
-  part_routed part.Ldm member = record { layout = λ runs. absurd (false≢true runs); waiting = tt; live = tt }
-
   started_routed : (h : ℕ) → IsHostRouted start (started start h)
-  unfolding started fresh_shell
-  started_routed zero = record { layout = λ runs. absurd (false≢true runs); waiting = tt; live = tt }
-  started_routed (suc h) = part_routed _ _
+  started_routed h = record {
+    layout = tc_layout start h [];
+    waiting = subst (Each (λ (q : Request). IsRequestRouted start (lqh_of (started start h)).node q))
+        (sym (first_waiting start h)) tt;
+    live = subst (AllAre (λ t. IsTransactionRouted start t)) (sym (first_live start h)) tt;
+  }
 
   pub record AllRouted (es : List HostStep) (xs : List Addressed) : Type 0 where
     pub signals : Each (λ (x : Addressed). IsOnWay start x.signal.to x.signal.body) xs
     pub hosts : (h : ℕ) → IsHostRouted start (host_after start es h)
 
   -- so is what a step takes
-  pub took_routed : (es : List HostStep) (e : HostStep) (before between : List Addressed) → AllRouted es before → Takes e before between
+  pub took_routed : (es : List HostStep) (e : HostStep) (before between : List Addressed) → AllRouted es before
+      → Takes e before between
       → IsOnWay start e.step.taken.to e.step.taken.body
   took_routed es e before between all takes = by (is_request e.step.taken.body) refl
     where
       by : (b : Bool) → is_request e.step.taken.body ≡ b → IsOnWay start e.step.taken.to e.step.taken.body
       by true is = plain_sent start e.step.taken.to e.step.taken.body (request_plain e.step.taken.body is)
-      by false is = each_taken (λ (x : Addressed). IsOnWay start x.signal.to x.signal.body) e before between is takes all.signals
+      by false is =
+          each_taken (λ (x : Addressed). IsOnWay start x.signal.to x.signal.body) e before between is takes all.signals
 
-  next_routed : (es : List HostStep) (e : HostStep) (before between : List Addressed) → Comes start es e → AllRouted es before → Takes e before between
+  next_routed : (es : List HostStep) (e : HostStep) (before between : List Addressed) → Comes start es e
+      → AllRouted es before → Takes e before between
       → AllRouted (e ∷ es) (joined (signals_of start e.host (logs_of start es e.host) e) between)
   next_routed es e before between comes all takes =
       let log = logs_of start es e.host in
       let is = took_routed es e before between all takes in
-      let step = host_routes (replicas_some start comes.before.shape) (after start e.host log) e.step.taken is.routed (rows_come start es e comes) (all.hosts e.host) in
+      let step =
+      host_routes (replicas_some start comes.before.shape) (after start e.host log) e.step.taken is.routed
+      (rows_come start es e comes) (all.hosts e.host) in
       record {
         signals = each_joins (λ to body. IsOnWay start to body) start e.host log e between step.sends
-            (each_between (λ (x : Addressed). IsOnWay start x.signal.to x.signal.body) e before between takes all.signals);
+            (each_between
+            (λ (x : Addressed). IsOnWay start x.signal.to x.signal.body) e before between takes all.signals);
         hosts = each_host start (λ g s. IsHostRouted start s) es e step.state all.hosts;
       }
 
-  pub all_routed : (es : List HostStep) (xs : List Addressed) → IsRun start es → AreInTransit start es xs → AllRouted es xs
+  pub all_routed : (es : List HostStep) (xs : List Addressed) → IsRun start es → AreInTransit start es xs
+      → AllRouted es xs
   all_routed =
       along_transit start (λ es xs. AllRouted es xs) (record { signals = tt; hosts = started_routed })
       (λ es e before between comes transit all takes. next_routed es e before between comes all takes)
@@ -160,11 +169,13 @@ pub signals_are_routed : SignalsAreRouted
 signals_are_routed start es xs run transit =
     let all = all_routed start es xs run transit in
     record {
-      signals = each_map (λ (x : Addressed). IsOnWay start x.signal.to x.signal.body) (λ (x : Addressed). IsRouted start x.signal.to.node x.signal.body) xs (λ x is. is.routed) all.signals;
+      signals = each_map (λ (x : Addressed). IsOnWay start x.signal.to x.signal.body)
+          (λ (x : Addressed). IsRouted start x.signal.to.node x.signal.body) xs (λ x is. is.routed) all.signals;
       hosts = all.hosts;
     }
 
 pub signals_are_for_blocks : SignalsAreForBlocks
 signals_are_for_blocks start es xs run transit =
-    each_map (λ (x : Addressed). IsOnWay start x.signal.to x.signal.body) (λ (x : Addressed). IsForBlock x.signal.to x.signal.body) xs (λ x is. is.block)
+    each_map (λ (x : Addressed). IsOnWay start x.signal.to x.signal.body)
+    (λ (x : Addressed). IsForBlock x.signal.to x.signal.body) xs (λ x is. is.block)
     (all_routed start es xs run transit).signals

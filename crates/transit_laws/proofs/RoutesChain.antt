@@ -20,13 +20,15 @@ replicas_are_nodes start key at is inside =
     record { from = nodes.0; to = nodes.1; holding = first_group start.shape is key at inside }
 
 -- no two have one host
-pub hosts_are_apart : (start : Start) (key : List ℕ) (one other : ℕ) → IsShape start.shape → one < length (replicas start key)
+pub hosts_are_apart : (start : Start) (key : List ℕ) (one other : ℕ) → IsShape start.shape
+    → one < length (replicas start key)
     → other < length (replicas start key) → replica_host start key one ≡ replica_host start key other → one ≡ other
 hosts_are_apart start key one other is here there same =
     let a = replicas_are_nodes start key one is here in
     let b = replicas_are_nodes start key other is there in
     replicas_are_apart start key one other is here there
-    (rows_host_apart start (node_at (replicas start key) one) (node_at (replicas start key) other) a.from a.to b.from b.to same)
+    (rows_host_apart start (node_at (replicas start key) one)
+    (node_at (replicas start key) other) a.from a.to b.from b.to same)
 
 -- the primary alone
 pub primary_length : (chain : List Member) → 0 < length chain → length (primary_of chain) ≡ 1

@@ -11,12 +11,11 @@ use Rattle.sig_core.specs.declared.outs.Outgoing.{Outgoing}
 use Rattle.sig_core.specs.declared.place.Place.{Place}
 use Rattle.sig_core.specs.declared.signal.Body.{Body}
 use Rattle.sig_core.specs.declared.signal.Body.TheVariants.{Chain}
-use Rattle.frag_map.specs.Layout.{Layout}
+use Rattle.frag_map.specs.Layout.{Layout, chain_of}
 use Rattle.sig_core.specs.Chain.{primary_of}
 use Rattle.tc_block.specs.declared.phase.Phase.{Phase}
 use Rattle.tc_block.specs.declared.phase.Phase.TheVariants.{Open, Verifying, Committing, Completing, Aborting}
 use Rattle.tc_block.specs.declared.touched.Touched.{Touched}
-use Rattle.frag_map.specs.Layout.{chain_of}
 use Rattle.tc_block.specs.Sends.{abort_of, aborts_of, commit_of, complete_if, complete_of, front_sends, key_sends, phase_sends}
 use Rattle.world_core.specs.Start.{Start}
 use Rattle.run_theory.proofs.EachSent.{each_mapped}

@@ -12,12 +12,11 @@ use Rattle.sig_core.specs.declared.signal.Body.{Body}
 use Rattle.sig_core.specs.Op.{key_of}
 use Rattle.tc_block.specs.declared.touched.Touched.{Touched}
 use Rattle.tc_block.specs.declared.transaction.Transaction.{Transaction}
-use Rattle.frag_map.specs.Layout.{chain_of}
+use Rattle.frag_map.specs.Layout.{chain_of, first_layout}
 use Rattle.tc_block.specs.Operate.{operating, touched_after}
 use Rattle.tc_block.specs.State.{TcState}
 use Rattle.tc_block.specs.Tc.{tc_table}
 use Rattle.tc_block.specs.Touched.{place_of, touched_by, unwritten, written, written_by}
-use Rattle.frag_map.specs.Layout.{first_layout}
 use Rattle.world_core.specs.Start.{Start}
 use Rattle.run_theory.proofs.EachSent.{each_set}
 use Rattle.tc_block.proofs.LiveKeeps.{AllAre, LiveKeeps, StepKeeps, TurnsKeep, live_keeps}

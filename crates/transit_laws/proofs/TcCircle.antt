@@ -17,7 +17,7 @@ use Rattle.sig_core.specs.declared.signal.client.ClientSignal.TheVariants.{TcKey
 use Rattle.sig_core.specs.declared.signal.epoch.EpochSignal.TheVariants.{DiVerifyConf}
 use Rattle.sig_core.specs.declared.signal.host.HostSignal.TheVariants.{Continue}
 use Rattle.sig_core.specs.declared.signal.host.Work.TheVariants as work
-use Rattle.frag_map.specs.Layout.{Layout}
+use Rattle.frag_map.specs.Layout.{Layout, chain_of}
 use Rattle.sig_core.specs.Chain.{node_at}
 use Rattle.sig_core.specs.Op.{key_of}
 use Rattle.sig_core.specs.Place.{rows_of}
@@ -27,7 +27,6 @@ use Rattle.tc_block.specs.declared.phase.Phase.{Phase}
 use Rattle.tc_block.specs.declared.phase.Phase.TheVariants.{Open, Verifying, Committing, Completing, Aborting}
 use Rattle.tc_block.specs.declared.transaction.Transaction.{Transaction}
 use Rattle.tc_block.specs.Abort as abort
-use Rattle.frag_map.specs.Layout.{chain_of}
 use Rattle.tc_block.specs.Commit as commit
 use Rattle.tc_block.specs.Complete as complete
 use Rattle.tc_block.specs.Operate as operate

@@ -1,14 +1,15 @@
 -- After each run some signals are in transit: of each link those that were sent and weren't taken.
 use Rattle.std.proofs.Common.{◌≡◌, ◌≢◌, ◌⊎◌, ℕ, Bool, true, false, List, [], ◌∷◌, ◌++◌, refl, sym, ap, ◌∙◌, subst, inl, inr}
-use Rattle.std.proofs.lemmas.Bool.{cases_eq, eq-eqb, false≢true, ne_eqb}
+use Rattle.std.proofs.lemmas.Bool.{cases_eq, eq-eqb, ne_eqb}
 use Rattle.std.specs.Prelude.{◌==◌, ◌&&◌, if◌then◌else◌}
 use Rattle.std.proofs.lemmas.List.{append_assoc, append_cancel_right}
 use Rattle.run_theory.proofs.Runs.{if_false, if_true, log_of-other, log_of-own, taken-asked, taken-other, taken-step}
-use Rattle.run_theory.specs.Links.{IsGiven, put, sent, taken}
+use Rattle.run_theory.specs.Links.{put, sent, taken}
 use Rattle.run_theory.specs.Lists.{Each, IsPast}
 use Rattle.world_core.specs.Steps.{Addressed, HostStep}
 use Rattle.sig_core.specs.declared.outs.Outgoing.{Outgoing}
 use Rattle.node_core.specs.Requests.{is_request}
+use Rattle.world_core.proofs.HostNumbers.{given_past}
 use Rattle.world_core.specs.Hosts.{Membership, first_membership, receiver}
 use Rattle.world_core.specs.Machine.{all_addressed, counted, machine, sent_count, signals_of, step_after}
 use Rattle.world_core.specs.Start.{Start}
@@ -64,12 +65,6 @@ and_false true b off = off
 and_false false b off = refl
 
 module _ (start : Start) where
-  -- no host stops, so that a link gives what was sent on it
-  given_past : (i j : ℕ) (log : List HostStep) (xs : List Addressed) → IsGiven (machine start) i j log xs → IsPast xs (sent (machine start) i j log)
-  given_past i j log xs (inl past) = past
-  given_past i j [] xs (inr closing) = absurd closing
-  given_past i j (e ∷ log) xs (inr closing) = absurd (false≢true closing.stops)
-
   -- what is in transit on each link was sent on it behind what was taken
   pub record HaveLinks (logs : ℕ → List HostStep) (xs : List Addressed) : Type 0 where
     pub links : (i j : ℕ) → sent (machine start) i j (logs i) ≡ chosen (is_on i j) xs ++ taken (machine start) i (logs j)
@@ -139,7 +134,7 @@ module _ (start : Start) where
     -- the signal is the oldest on its link
     module _ (signal : is_request e.step.taken.body ≡ false) where
       given : IsPast (taken_by e ∷ taken (machine start) from (old h)) (sent (machine start) from h (old from))
-      given = given_past from h (old from) (taken_by e ∷ taken (machine start) from (old h)) (come.happens.takes signal)
+      given = given_past start from h (old from) (taken_by e ∷ taken (machine start) from (old h)) (come.happens.takes signal)
 
       oldest : chosen (is_on from h) before ≡ given.newer ++ taken_by e ∷ []
       oldest =

@@ -42,7 +42,8 @@ use Rattle.transit_laws.proofs.ViewOf.{view_of}
 use Rattle.transit_laws.proofs.Ways.{carried_more, given_more}
 
 -- who waits for its epoch isn't carried out
-undone : (start : Start) (logs : ℕ → List HostStep) (tx : TxId) (t : Transaction) → live_at start logs tx ≡ Some t → t.phase ≡ Verifying → is_carried_out start logs tx ≡ false
+undone : (start : Start) (logs : ℕ → List HostStep) (tx : TxId) (t : Transaction) → live_at start logs tx ≡ Some t
+    → t.phase ≡ Verifying → is_carried_out start logs tx ≡ false
 undone start logs tx t live verifying = by (is_carried_out start logs tx) refl
   where
     by : (b : Bool) → is_carried_out start logs tx ≡ b → b ≡ false
@@ -50,7 +51,8 @@ undone start logs tx t live verifying = by (is_carried_out start logs tx) refl
     by true e =
         let h = home start tx in
         let decided : is_decided t.phase ≡ true =
-        each_found (λ (e : TxId × Transaction). list_any (same_tx e.0) (sent_ways start forth_by h (logs h)) ≡ true → is_decided e.1.phase ≡ true) (tc_of (after start h (logs h))).live tx t
+        each_found (λ (e : TxId × Transaction). list_any (same_tx e.0) (sent_ways start forth_by h (logs h)) ≡ true
+        → is_decided e.1.phase ≡ true) (tc_of (after start h (logs h))).live tx t
         (forth_decided start h (logs h)) live e in
         absurd (let both : true ≡ false = sym decided ∙ ap is_decided verifying in cc)
 
@@ -68,7 +70,8 @@ first_circles start tx key = record {
 }
 
 -- who isn't given up, or carried out, wasn't before
-kept_before : (start : Start) (es : List HostStep) (e : HostStep) (tx : TxId) → is_given_up start (logs_of start (e ∷ es)) tx ≡ false → is_given_up start (logs_of start es) tx ≡ false
+kept_before : (start : Start) (es : List HostStep) (e : HostStep) (tx : TxId)
+    → is_given_up start (logs_of start (e ∷ es)) tx ≡ false → is_given_up start (logs_of start es) tx ≡ false
 kept_before start es e tx now = by (is_given_up start (logs_of start es) tx) refl
   where
     by : (b : Bool) → is_given_up start (logs_of start es) tx ≡ b → b ≡ false
@@ -76,7 +79,8 @@ kept_before start es e tx now = by (is_given_up start (logs_of start es) tx) ref
     by true was =
         absurd (let both : true ≡ false = sym (given_more start (logs_of start es) (logs_of start (e ∷ es)) tx (log_of-past (machine start) e es) was) ∙ now in cc)
 
-undone_before : (start : Start) (es : List HostStep) (e : HostStep) (tx : TxId) → is_carried_out start (logs_of start (e ∷ es)) tx ≡ false → is_carried_out start (logs_of start es) tx ≡ false
+undone_before : (start : Start) (es : List HostStep) (e : HostStep) (tx : TxId)
+    → is_carried_out start (logs_of start (e ∷ es)) tx ≡ false → is_carried_out start (logs_of start es) tx ≡ false
 undone_before start es e tx now = by (is_carried_out start (logs_of start es) tx) refl
   where
     by : (b : Bool) → is_carried_out start (logs_of start es) tx ≡ b → b ≡ false
@@ -88,10 +92,12 @@ undone_before start es e tx now = by (is_carried_out start (logs_of start es) tx
 abbrev Circles : Start → TxId → List ℕ → List HostStep → List Addressed → Type 0
 Circles start tx key es xs = is_given_up start (logs_of start es) tx ≡ false → is_carried_out start (logs_of start es) tx ≡ false → IsCircling start tx key es xs
 
-all_circles : (start : Start) (tx : TxId) (key : List ℕ) (es : List HostStep) (xs : List Addressed) → IsRun start es → AreInTransit start es xs → Circles start tx key es xs
+all_circles : (start : Start) (tx : TxId) (key : List ℕ) (es : List HostStep) (xs : List Addressed) → IsRun start es
+    → AreInTransit start es xs → Circles start tx key es xs
 all_circles start tx key = along_transit start (Circles start tx key) (λ kept waits. first_circles start tx key) next
   where
-    next : (es : List HostStep) (e : HostStep) (before between : List Addressed) → Comes start es e → AreInTransit start es before → Circles start tx key es before → Takes e before between
+    next : (es : List HostStep) (e : HostStep) (before between : List Addressed) → Comes start es e
+        → AreInTransit start es before → Circles start tx key es before → Takes e before between
         → Circles start tx key (e ∷ es) (joined (signals_of start e.host (logs_of start es e.host) e) between)
     next es e before between come transit circles takes kept waits =
         let kept_then = kept_before start es e tx kept in
@@ -108,7 +114,9 @@ verified_settled start es xs tx t run transit kept live verifying = record { ask
     settled key =
         let zero_tokens = none_asked tx key start es run xs transit t live (ap is_early verifying) ((goes key).asked verifying) in
         let s = (goes key).settled
-        (each_map (λ (x : Addressed). is_token tx x.signal.body ≡ false) (λ (x : Addressed). token_of tx key x.signal.to x.signal.body ≡ None) xs (λ x off. uncounted tx key x.signal.to x.signal.body off) zero_tokens.signals) zero_tokens.waits in
+        (each_map (λ (x : Addressed). is_token tx x.signal.body ≡ false)
+        (λ (x : Addressed). token_of tx key x.signal.to x.signal.body ≡ None) xs
+        (λ x off. uncounted tx key x.signal.to x.signal.body off) zero_tokens.signals) zero_tokens.waits in
         told key s
       where
         told : (key : List ℕ) → Settles start key (view_of start (logs_of start es) tx key) t.ops → IsSettledFor start (logs_of start es) tx t.ops key
@@ -120,5 +128,7 @@ verified_settled start es xs tx t run transit kept live verifying = record { ask
           written = ap (λ (r : Replica). is_some (found tx r.cell.pending)) (here key) ∙ s.written;
         }
           where
-            here : (key : List ℕ) → (at_primary start (logs_of start es) key).replica ≡ at_host start (logs_of start es) key (primary_host start key)
+            here : (key : List ℕ)
+                → (at_primary start (logs_of start es) key).replica
+                ≡ at_host start (logs_of start es) key (primary_host start key)
             here key = replica_along start (primary_host start key) key (logs_of start es (primary_host start key))

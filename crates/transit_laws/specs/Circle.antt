@@ -1,5 +1,5 @@
 -- What a transaction that asks for its epoch has of a key is what the replicas made of it.
-use Rattle.world_core.specs.Hosts.{rows_host}
+use Rattle.world_core.specs.Hosts.{rows_host, started}
 use Rattle.std.specs.List.{list_any}
 use Rattle.std.specs.Prelude.{◌≡◌, ◌<◌, ℕ, false, is_some, length, List, [], ◌∷◌, Option, None, Some}
 use Rattle.run_theory.specs.Lists.{Each}
@@ -15,7 +15,6 @@ use Rattle.sig_core.specs.Chain.{node_at}
 use Rattle.tc_block.specs.declared.phase.Phase.TheVariants.{Verifying}
 use Rattle.tc_block.specs.declared.transaction.Transaction.{Transaction}
 use Rattle.world_core.specs.History.{is_done}
-use Rattle.world_core.specs.Hosts.{started}
 use Rattle.world_core.specs.Start.{Start}
 use Rattle.commit_laws.specs.OneKey.{ops_on}
 use Rattle.commit_laws.specs.PrimaryEvents.{AtPrimary, primary_after}

@@ -1,5 +1,5 @@
 -- Transactions that their coordinator has given up.
-use Rattle.world_core.specs.Hosts.{home}
+use Rattle.world_core.specs.Hosts.{home, hosts}
 use Rattle.std.specs.List.{list_any}
 use Rattle.std.specs.Prelude.{◌≡◌, ◌||◌, ℕ, Bool, true, false, List}
 use Rattle.world_core.specs.Steps.{HostStep}
@@ -8,7 +8,6 @@ use Rattle.sig_core.specs.declared.signal.Body.TheVariants.{Chain}
 use Rattle.sig_core.specs.declared.signal.chain.ChainSignal.TheVariants.{Abort, Commit, Complete}
 use Rattle.sig_core.specs.Same.{same_tx}
 use Rattle.world_core.specs.History.{is_applied, is_reported}
-use Rattle.world_core.specs.Hosts.{hosts}
 use Rattle.world_core.specs.Marks.{have_mark}
 use Rattle.world_core.specs.Start.{Start}
 use Rattle.commit_laws.specs.Ways.{back_by, forth_by, sent_ways}

@@ -1,7 +1,7 @@
 -- Signals along chains: where they are sent, and what they ask for there.
-use Rattle.frag_map.specs.Layout.{holds}
+use Rattle.frag_map.specs.Layout.{chain_of, first_layout, holds}
 use Rattle.frag_map.specs.Shape.{IsShape}
-use Rattle.world_core.specs.Hosts.{rows_host}
+use Rattle.world_core.specs.Hosts.{hosts, rows_host}
 use Rattle.node_core.specs.Blocks.{has_tc, lqh_of, tc_of}
 use Rattle.std.specs.Prelude.{◌≡◌, ◌≢◌, ◌<◌, ◌⊎◌, ◌==◌, if◌then◌else◌, ℕ, length, List, Option, None, Some, true, ◌≤◌}
 use Rattle.run_theory.specs.Lists.{Each}
@@ -20,13 +20,10 @@ use Rattle.sig_core.specs.Op.{key_of}
 use Rattle.sig_core.specs.Place.{coordinator_of}
 use Rattle.lqh_block.specs.declared.request.Request.{Request}
 use Rattle.lqh_block.specs.Work.{work_key}
-use Rattle.frag_map.specs.Layout.{chain_of}
 use Rattle.tc_block.specs.declared.phase.Asked.{Asked}
 use Rattle.tc_block.specs.declared.touched.Touched.{Touched}
 use Rattle.tc_block.specs.declared.transaction.Transaction.{Transaction}
 use Rattle.node_core.specs.declared.host.Host.{Host}
-use Rattle.world_core.specs.Hosts.{hosts}
-use Rattle.frag_map.specs.Layout.{first_layout}
 use Rattle.world_core.specs.Start.{Start}
 use Rattle.commit_laws.specs.BackupEvents.{IsOfImage}
 use Rattle.commit_laws.specs.PrimaryEvents.{IsOfOperation}

@@ -14,8 +14,7 @@ use Rattle.world_core.specs.Hosts.{hosts}
 use Rattle.world_core.specs.Machine.{after}
 use Rattle.world_core.specs.Start.{Start}
 use Rattle.tc_block.specs.Phases.{is_aborting}
-use Rattle.commit_laws.specs.Counts.{one_if, tally}
-use Rattle.commit_laws.specs.Counts.{total}
+use Rattle.commit_laws.specs.Counts.{one_if, tally, total}
 use Rattle.transit_laws.specs.GivenUp.{is_given_up}
 use Rattle.transit_laws.specs.Live.{live_at}
 use Rattle.transit_laws.specs.Transit.{AreInTransit, IsRun, logs_of}
