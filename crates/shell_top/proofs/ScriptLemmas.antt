@@ -174,8 +174,8 @@ line_served c (Ok (Some asked)) e = asked_served c asked e
 line_served c (Err fault) e = cc
 
 pub command_served : (nodes : ℕ) (line : List ℕ) (c : Command) → parsed_line nodes line ≡ parsed.Ask c → is_served c ≡ true
-command_served line c e = go (may_stand (first_word line)) e
+command_served nodes line c e = go (may_stand (first_word line)) e
   where
-    go : (b : Bool) → (if b then available line else parsed.Fault UnknownCommand) ≡ parsed.Ask c → is_served c ≡ true
-    go true e = line_served c (whole_grammar false 2 line) e
+    go : (b : Bool) → (if b then available nodes line else parsed.Fault UnknownCommand) ≡ parsed.Ask c → is_served c ≡ true
+    go true e = line_served c (whole_grammar false nodes line) e
     go false e = cc

@@ -8,7 +8,7 @@ use Rattle.sig_core.specs.declared.log.Life.{Life}
 use Rattle.shell_top.specs.declared.ended.Ending.{Ending}
 use Rattle.shell_top.specs.declared.ended.Ending.TheVariants.{Finished, Words, Refused, ReadFault, WriteFault, NoMemory, TooLong}
 use Rattle.shell_top.specs.declared.session.Session.{Session}
-use Rattle.shell_top.specs.Lived.{AreLived, AreLives, session_text}
+use Rattle.shell_top.specs.Lived.{AreLived, AreLives, may_be_unborn, session_text}
 use Rattle.shell_top.specs.Printed.{Prints}
 use Rattle.shell_top.specs.Script.{Script, script_from}
 use Rattle.shell_top.specs.Served.{IsServed}
@@ -40,9 +40,10 @@ abbrev pub nodes_of : Option Shape → ℕ
 nodes_of None = 0
 nodes_of (Some shape) = shape.nodes
 
--- The session of a cluster of the shape that its words asked for, if they did. It read `input`, and up to its end where `ended`. It printed the text of the logs of its life, in which the
--- commands of its lines were asked for, up to the first fault, and then the line of the fault by which it was meant to
--- end.
+-- The session of a cluster of the shape that its words asked for. It read `input`, and up to its end where `ended`. It
+-- printed the text of the logs of its life, in which the commands of its lines were asked for, up to the first fault,
+-- and then the line of the fault by which it was meant to end. Where the words asked for no cluster, nothing was read,
+-- and the session ended for that, or for want of memory.
 pub record IsSession (asked : Option Shape) (left left_now written written_now : Option (List ℕ)) (ending : Ending) (lives : List Life) : Type 0 where
   pub input : List ℕ
   pub ended : Bool
@@ -52,7 +53,7 @@ pub record IsSession (asked : Option Shape) (left left_now written written_now :
   pub ends : Ends meant ended (script_from (nodes_of asked) ended 1 input)
   pub told : Prints ending meant written written_now (session_text asked lives ++ fault_line meant)
   pub lived : AreLives asked meant (script_from (nodes_of asked) ended 1 input).commands input lives
-  pub words_first : asked ≡ None → (meant ≡ Words) × (input ≡ [])
+  pub words_first : asked ≡ None → (may_be_unborn meant ≡ true) × (input ≡ [])
   pub words_refused : meant ≡ Words → asked ≡ None
   pub bounded : length input ≤ 513 * 65536 + 1024
 
