@@ -10,3 +10,6 @@ invariant-loop-behind g l = record {
   served : HasServed g.start (rounds_behind l.rounds l.behind) (whole_of l.initial.world) (whole_of l.world);
   sound : IsSound g.start (whole_of l.world);
 }
+
+abbrev pub ghost-ask : goal.ghost-ask
+ghost-ask g a = g.start
