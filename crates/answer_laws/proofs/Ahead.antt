@@ -1,10 +1,10 @@
 -- Laws that each step of a host keeps, and what is known of a coordinator after a log.
 use Rattle.std.proofs.Common.{◌≡◌, ◌≢◌, ◌⊎◌, ℕ, ◌+◌, ◌≤◌, ◌<◌, List, [], ◌∷◌, ◌++◌, Bool, true, false, refl, ap, sym, ◌∙◌, subst, arith, inl, inr}
-use Rattle.std.specs.Prelude.{◌==◌, ◌&&◌, nat_lt, if◌then◌else◌, None, Some}
+use Rattle.std.specs.Prelude.{◌==◌, ◌&&◌, nat_lt, None, Some}
 use Rattle.std.proofs.lemmas.Bool.{cases_lt, eqb-true, false≢true}
 use Rattle.std.proofs.lemmas.Bool.Decides.{nat_tests}
 use Rattle.node_core.proofs.HostCases.{IsRowsStep}
-use Rattle.node_core.specs.Blocks.{has_lqh, has_tc, tc_of}
+use Rattle.node_core.specs.Blocks.{has_lqh, tc_of}
 use Rattle.node_core.specs.Requests.{is_request}
 use Rattle.node_core.specs.Row.{row}
 use Rattle.run_theory.proofs.Along.{along_run, of_runs}
@@ -135,6 +135,16 @@ module _ (start : Start) where
   pub few_taken : (logs : ℕ → List HostStep) → AreLogs (machine start) logs → (test : Place → Body → Bool) (i j : ℕ)
       → signals test (taken (machine start) i (logs j)) ≤ signals test (sent (machine start) i j (logs i))
   few_taken logs right test i j = tally_past (λ (x : Addressed). test x.signal.to x.signal.body) (link logs right i j)
+
+  -- where one host alone that is there sends such signals to the shell's host, that takes none of another
+  pub none_else : (logs : ℕ → List HostStep) → AreLogs (machine start) logs → IsWithin (hosts start) logs → (test : Place → Body → Bool) (i : ℕ)
+      → ((h : ℕ) (log : List HostStep) → h < hosts start → h ≢ i → signals test (sent (machine start) h 0 log) ≡ 0)
+      → (k : ℕ) → k ≢ i → signals test (taken (machine start) k (logs 0)) ≡ 0
+  none_else logs right in_n test i silent k differs = go (cases_lt k (hosts start))
+    where
+      go : (k < hosts start) ⊎ (hosts start ≤ k) → signals test (taken (machine start) k (logs 0)) ≡ 0
+      go (inl low) = omega (arith, silent k (logs k) low differs, few_taken logs right test k 0)
+      go (inr high) = omega (arith, few_taken logs right test k 0, ap (λ log. signals test (sent (machine start) k 0 log)) (in_n k high))
 
   -- each step is one of the host of its signal's place
   pub addressed : (logs now : ℕ → List HostStep) (h : ℕ) (e : HostStep) → Goes logs now h e → host_for start e.step.taken.to ≡ h

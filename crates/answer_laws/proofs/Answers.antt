@@ -1,5 +1,5 @@
 -- At quiet each command is answered, but for an operation that waits for a lock.
-use Rattle.std.proofs.Common.{◌≡◌, ◌≤◌, ◌<◌, ℕ, List, true, false, refl, ap, sym, ◌∙◌}
+use Rattle.std.proofs.Common.{◌≡◌, ◌<◌, ℕ, List, true, false, refl, ap, sym, ◌∙◌}
 use Rattle.std.specs.Prelude.{is_some, Option, None, Some}
 use Rattle.std.proofs.lemmas.Bool.{false≢true, true≢false}
 use Rattle.api_block.specs.declared.opened.Doing.{Doing}
@@ -12,7 +12,6 @@ use Rattle.sig_core.specs.declared.member.TxId.{TxId}
 use Rattle.tc_block.specs.declared.phase.Asked.{Asked}
 use Rattle.tc_block.specs.declared.phase.Phase.{Phase}
 use Rattle.tc_block.specs.declared.phase.Phase.TheVariants as phases
-use Rattle.tc_block.specs.declared.transaction.Transaction.{Transaction}
 use Rattle.tc_block.specs.Abort.{is_verifying}
 use Rattle.world_core.specs.Hosts.{home, hosts}
 use Rattle.world_core.specs.Machine.{after}
@@ -24,7 +23,7 @@ use Rattle.answer_laws.proofs.Lives.{live_low}
 use Rattle.answer_laws.proofs.Queued.{operations_queue}
 use Rattle.answer_laws.proofs.Serves.{each_served}
 use Rattle.answer_laws.proofs.Verified.{no_epoch}
-use Rattle.answer_laws.specs.Answered.{AreQuiet, EachIsAnswered, IsLiveAs, IsOpenAt, IsServed, WaitsForLock, is_aborting, is_answered_by, is_committing, is_completing, is_operating, opened_after}
+use Rattle.answer_laws.specs.Answered.{AreQuiet, EachIsAnswered, IsOpenAt, IsServed, WaitsForLock, is_aborting, is_answered_by, is_committing, is_completing, is_operating, opened_after}
 
 -- a phase that is none of the others is the open one
 pub only_open : (phase : Phase) → is_verifying phase ≡ false → is_committing phase ≡ false → is_completing phase ≡ false → is_aborting phase ≡ false → phase ≡ phases.Open

@@ -52,7 +52,7 @@ use Rattle.answer_laws.proofs.Totals.{spread_few}
 use Rattle.commit_laws.proofs.Sums.{total_add, total_at, total_le, total_same}
 use Rattle.commit_laws.specs.Counts.{total}
 use Rattle.answer_laws.proofs.Wishes.{and_false, is_api, is_tc, second_fails, sends_of, to_node}
-use Rattle.answer_laws.specs.Answered.{AreQuiet, EachAsksWhereOperating, IsLiveAs, is_operating, opened_after, opened_in}
+use Rattle.answer_laws.specs.Answered.{AreQuiet, EachAsksWhereOperating, is_operating, opened_after, opened_in}
 
 no_answer_dih : (tx : TxId) (body : Body) → is_dih_kind body ≡ true → answer_of tx body ≡ false
 no_answer_dih tx (Client (TcKeyConf other answer)) e = cc

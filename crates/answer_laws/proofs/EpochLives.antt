@@ -34,7 +34,7 @@ use Rattle.answer_laws.proofs.SendKinds.{are_of, of_kind, of_map}
 use Rattle.commit_laws.proofs.Tally.{tally_append, tally_between}
 use Rattle.commit_laws.specs.Counts.{one_if, tally}
 use Rattle.answer_laws.proofs.TcLives.{IsOwn, insert_new}
-use Rattle.answer_laws.proofs.TcSends.{eqb-self, tx_in}
+use Rattle.answer_laws.proofs.TcSends.{tx_in}
 use Rattle.answer_laws.proofs.TcSteps.{TcStep, begins, is_rest_kind, misses, rests, takes, tc_step}
 use Rattle.answer_laws.proofs.TcTurns.{GivesUp, IsCommitted, TurnMove, abort_ends, aborted, aborts, all_completed, answers, asked_to, asks, at_last, at_once, commits, committed, completed, completes, decides, ends, gives_up, goes_on, is_wait_kind, keeps, late, refused, turn_moves, turn_row}
 use Rattle.answer_laws.specs.Answered.{is_committing}

@@ -1,5 +1,5 @@
 -- At quiet the coordinator has heard what the API has asked of a transaction.
-use Rattle.std.proofs.Common.{◌≡◌, ℕ, ◌+◌, ◌≤◌, ◌<◌, List, Bool, true, false, refl, ap, ◌∙◌, subst, arith}
+use Rattle.std.proofs.Common.{◌≡◌, ℕ, ◌≤◌, ◌<◌, List, Bool, true, false, refl, ap, ◌∙◌, subst, arith}
 use Rattle.std.specs.Prelude.{is_some, Some}
 use Rattle.api_block.specs.declared.opened.Doing.TheVariants.{Operating, Committing}
 use Rattle.api_block.specs.declared.opened.OpenTransaction.{OpenTransaction}

@@ -1,8 +1,7 @@
 -- What the blocks of a host are along its log, and which host gets what is sent.
-use Rattle.std.proofs.Common.{◌≡◌, ◌≢◌, ◌⊎◌, inl, inr, ℕ, zero, suc, ◌+◌, ◌-◌, ◌*◌, ◌<◌, ◌≤◌, ◌%◌, List, [], ◌∷◌, Bool, true, false, refl, ap, sym, ◌∙◌, subst, arith}
+use Rattle.std.proofs.Common.{◌≡◌, ◌≢◌, ◌⊎◌, inl, inr, ℕ, zero, suc, ◌-◌, ◌<◌, ◌≤◌, ◌%◌, List, [], ◌∷◌, Bool, true, false, refl, ap, sym, ◌∙◌, subst, arith}
 use Rattle.std.specs.Prelude.{◌==◌, ◌&&◌}
 use Rattle.std.proofs.lemmas.Bool.{cases_lt, eq-eqb, eqb-true, false≢true}
-use Rattle.run_theory.specs.Lists.{IsIn}
 use Rattle.sig_core.specs.declared.member.Member.{Member}
 use Rattle.sig_core.specs.declared.member.TxId.{TxId}
 use Rattle.sig_core.specs.declared.outs.Outgoing.{Outgoing}
@@ -18,10 +17,9 @@ use Rattle.lqh_block.specs.Lqh.{lqh_row}
 use Rattle.lqh_block.specs.State.{LqhState}
 use Rattle.node_core.proofs.HostCases.{keeps_rows, keeps_tc}
 use Rattle.node_core.specs.declared.host.Host as host
-use Rattle.node_core.specs.declared.host.Host.TheVariants.{Shell, Main, Tc, Ldm}
+use Rattle.node_core.specs.declared.host.Host.TheVariants.{Main, Tc, Ldm}
 use Rattle.node_core.specs.Blocks.{has_api, has_lqh, has_tc, lqh_of, tc_of}
 use Rattle.node_core.specs.Fresh.{fresh_part, fresh_shell}
-use Rattle.tc_block.specs.declared.transaction.Transaction.{Transaction}
 use Rattle.tc_block.specs.State.{TcState}
 use Rattle.tc_block.specs.Tc.{tc_row}
 use Rattle.world_core.proofs.HostNumbers.{api_found, beyond_host, host_below, host_some, node_host, same_node, tc_after, tc_found, tc_started}

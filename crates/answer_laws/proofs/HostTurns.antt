@@ -2,10 +2,9 @@
 use Rattle.std.proofs.Common.{◌≡◌, ◌⊎◌, inl, inr, ℕ, ◌≤◌, List, ◌∷◌, [], Bool, true, false, refl, ap, sym, ◌∙◌, arith}
 use Rattle.std.specs.Prelude.{Option, None, Some}
 use Rattle.std.proofs.lemmas.Bool.{false≢true, true≢false}
-use Rattle.api_block.specs.Api.{api_table}
 use Rattle.api_block.specs.declared.opened.OpenTransaction.{OpenTransaction}
 use Rattle.api_block.specs.State.{ApiState}
-use Rattle.node_core.proofs.HostCases.{BlockCase, IsApiStep, IsDihStep, IsIdleStep, IsRowsStep, IsTcStep, api_takes, block_case, dih_takes, none_takes, rows_take, runs, tc_takes}
+use Rattle.node_core.proofs.HostCases.{BlockCase, IsRowsStep, IsTcStep, api_takes, block_case, dih_takes, none_takes, rows_take, runs, tc_takes}
 use Rattle.node_core.specs.Blocks.{api_of, dih_of, has_lqh, has_tc, lqh_of, tc_of}
 use Rattle.node_core.specs.declared.host.Host.{Host}
 use Rattle.node_core.specs.declared.host.Host.TheVariants.{Shell, Main, Tc, Ldm}

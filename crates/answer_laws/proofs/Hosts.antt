@@ -1,5 +1,5 @@
 -- What the hosts of right logs are: the shell's, whose transactions are good, and those of coordinators, which tell truly.
-use Rattle.std.proofs.Common.{◌≡◌, ℕ, ◌+◌, ◌<◌, ◌≤◌, List, [], ◌∷◌, Bool, true, false, refl, ap, sym, ◌∙◌, subst, arith}
+use Rattle.std.proofs.Common.{◌≡◌, ℕ, ◌+◌, ◌<◌, List, [], ◌∷◌, Bool, true, false, refl, ap, sym, ◌∙◌, subst, arith}
 use Rattle.std.specs.Prelude.{◌==◌, ◌&&◌, Option}
 use Rattle.std.proofs.lemmas.Bool.{false≢true}
 use Rattle.run_theory.proofs.Pasts.{each_map}
@@ -30,7 +30,7 @@ use Rattle.node_core.specs.Fresh.{fresh_shell}
 use Rattle.node_core.specs.Row.{row, shell_row}
 use Rattle.tc_block.specs.State.{TcState}
 use Rattle.tc_block.specs.Tc.{begin_if, begin_row, is_full, next_tx, tc_table}
-use Rattle.world_core.specs.Hosts.{home, host_for, hosts, started}
+use Rattle.world_core.specs.Hosts.{host_for, hosts, started}
 use Rattle.world_core.specs.Machine.{after, machine, step_after}
 use Rattle.world_core.specs.Start.{Start}
 use Rattle.world_core.specs.Steps.{Addressed, HostStep}
@@ -41,8 +41,8 @@ use Rattle.answer_laws.proofs.HostSteps.{IsHome, at_own_node}
 use Rattle.answer_laws.proofs.LinkCounts.{sent_truths}
 use Rattle.answer_laws.proofs.LqhSends.{lqh_kinds}
 use Rattle.answer_laws.proofs.SendKinds.{are_of, each_of, is_dih_kind, is_lqh_kind, is_tc_kind, none_of}
-use Rattle.answer_laws.proofs.TcLives.{is_start, start_of}
-use Rattle.answer_laws.proofs.TcMoves.{end_of, is_end}
+use Rattle.answer_laws.proofs.TcLives.{start_of}
+use Rattle.answer_laws.proofs.TcMoves.{end_of}
 use Rattle.answer_laws.proofs.TcSends.{tc_kinds, tx_in}
 use Rattle.answer_laws.proofs.Wishes.{and_false, dih_replies, dih_wishes, is_api, is_reply, is_tc, is_wish, lqh_replies, lqh_wishes, reply_of, sends_of, tc_replies, tc_wishes, to_node, wish_of}
 use Rattle.answer_laws.specs.Answered.{opened_in}

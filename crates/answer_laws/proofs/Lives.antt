@@ -3,7 +3,7 @@ use Rattle.std.proofs.Common.{◌≡◌, ◌≢◌, ◌⊎◌, ℕ, ◌+◌, ◌
 use Rattle.std.specs.Prelude.{◌==◌, ◌&&◌, Some, if◌then◌else◌}
 use Rattle.std.proofs.lemmas.Bool.{cases_eq, cases_lt}
 use Rattle.std.proofs.lemmas.Bool.Decides.{nat_tests}
-use Rattle.run_theory.proofs.Pasts.{each_in, each_map}
+use Rattle.run_theory.proofs.Pasts.{each_map}
 use Rattle.run_theory.specs.Links.{is_from, put, sent, taken}
 use Rattle.run_theory.specs.Lists.{Each, IsIn, IsPast}
 use Rattle.sig_core.specs.declared.member.TxId.{TxId}
@@ -19,22 +19,21 @@ use Rattle.node_core.specs.Blocks.{tc_of}
 use Rattle.node_core.specs.Requests.{is_request}
 use Rattle.node_core.specs.Row.{row}
 use Rattle.tc_block.specs.declared.transaction.Transaction.{Transaction}
-use Rattle.world_core.proofs.HostNumbers.{given_past}
-use Rattle.world_core.specs.Hosts.{first_membership, home, host_for, hosts, tc_host}
+use Rattle.world_core.specs.Hosts.{first_membership, home, host_for, hosts}
 use Rattle.world_core.specs.Machine.{addressed, after, all_addressed, counted as one_counted, machine, sent_count, step_after}
 use Rattle.world_core.specs.Start.{Start}
 use Rattle.world_core.specs.Steps.{Addressed, HostStep}
 use Rattle.sig_core.proofs.Keys.{same_tx-self}
 use Rattle.answer_laws.proofs.LqhOps.{right_of, left_of}
-use Rattle.answer_laws.proofs.Ahead.{none_kept}
+use Rattle.answer_laws.proofs.Ahead.{few_taken, link, none_else, none_kept}
 use Rattle.answer_laws.proofs.ApiHolds.{AreHeld, IsOrdered, log_holds}
 use Rattle.answer_laws.proofs.Hosts.{TellsHome, told}
 use Rattle.answer_laws.proofs.HostSteps.{first_live}
 use Rattle.answer_laws.proofs.LinkCounts.{all_three, sent_to_shell, shell_signals, signals, steps, steps_from, taken_signals, taken_steps, to_host}
-use Rattle.commit_laws.proofs.Tally.{Counted, counted, tally_in, tally_none, tally_past}
+use Rattle.commit_laws.proofs.Tally.{Counted, counted, tally_in, tally_none}
 use Rattle.commit_laws.specs.Counts.{one_if, tally}
-use Rattle.answer_laws.proofs.TcLives.{IsKept, IsOwn, due_move, is_done, is_keyed, is_start, kept_move, start_of, starts_in}
-use Rattle.answer_laws.proofs.TcMoves.{TcMove, end_of, ends_in, host_moves, is_end, same_tx-is}
+use Rattle.answer_laws.proofs.TcLives.{IsKept, due_move, is_done, is_keyed, is_start, kept_move, start_of, starts_in}
+use Rattle.answer_laws.proofs.TcMoves.{TcMove, end_of, host_moves, is_end, same_tx-is}
 use Rattle.answer_laws.proofs.Wishes.{is_api, sends_of}
 use Rattle.answer_laws.specs.Answered.{AreQuiet, EachHasCoordinator, IsLiveAs, IsLiveAt, is_completing, opened_after, opened_in}
 
@@ -170,24 +169,10 @@ module _ (start : Start) (tx : TxId) where
 
   -- at quiet
   module _ (logs : ℕ → List HostStep) (quiet : AreQuiet start logs) where
-    link : (i j : ℕ) → IsPast (taken (machine start) i (logs j)) (sent (machine start) i j (logs i))
-    link i j = given_past start i j (logs i) (taken (machine start) i (logs j)) (quiet.right.linked i j)
-
-    few_taken : (test : Place → Body → Bool) (i : ℕ) → signals test (taken (machine start) i (logs 0)) ≤ signals test (sent (machine start) i 0 (logs i))
-    few_taken test i = tally_past (λ (x : Addressed). test x.signal.to x.signal.body) (link i 0)
-
-    -- no other host that is there tells, and one that isn't there sends nothing
-    none_sent : (test : Place → Body → Bool) → ((h : ℕ) (log : List HostStep) → h < hosts start → h ≢ home start tx → signals test (sent (machine start) h 0 log) ≡ 0)
-        → (k : ℕ) → k ≢ home start tx → signals test (taken (machine start) k (logs 0)) ≡ 0
-    none_sent test silent k differs = go (cases_lt k (hosts start))
-      where
-        go : (k < hosts start) ⊎ (hosts start ≤ k) → signals test (taken (machine start) k (logs 0)) ≡ 0
-        go (inl low) = omega (arith, silent k (logs k) low differs, few_taken test k)
-        go (inr high) = omega (arith, few_taken test k, ap (λ log. signals test (sent (machine start) k 0 log)) (quiet.within k high))
-
     starts_there : steps (is_start tx) (logs 0) ≤ signals (is_start tx) (taken (machine start) (home start tx) (logs 0))
     starts_there =
-        steps_from start (is_start tx) (home start tx) (λ to body e. plain_start tx body (right_of (is_api to.block) (start_of tx body) e)) (logs 0) (none_sent (is_start tx) silent_start)
+        steps_from start (is_start tx) (home start tx) (λ to body e. plain_start tx body (right_of (is_api to.block) (start_of tx body) e)) (logs 0)
+        (none_else start logs quiet.right quiet.within (is_start tx) (home start tx) silent_start)
 
     -- what is live at the coordinator
     live_at : (h : ℕ) → 1 ≤ signals (is_start tx) (sent (machine start) h 0 (logs h)) → signals (is_end tx) (sent (machine start) h 0 (logs h)) ≡ 0 → IsLiveAt tx (after start h (logs h))
@@ -211,13 +196,13 @@ module _ (start : Start) (tx : TxId) where
 
     -- it was told once to have begun, and what the API holds isn't told to have ended
     pub once_started : steps (is_start tx) (logs 0) ≤ 1
-    once_started = omega (arith, starts_there, few_taken (is_start tx) (home start tx), (keeps (home start tx) (logs (home start tx))).keeps.once)
+    once_started = omega (arith, starts_there, few_taken start logs quiet.right (is_start tx) (home start tx) 0, (keeps (home start tx) (logs (home start tx))).keeps.once)
 
     pub holds_at : AreHeld tx (tally (has_tx tx) (opened_in (after start 0 (logs 0)))) (logs 0)
     holds_at =
         log_holds start tx (logs 0) once_started
-        (log_ordered (logs 0) (none_sent (is_end tx) silent_end)
-        (ordered_past tx (taken (machine start) (home start tx) (logs 0)) (sent (machine start) (home start tx) 0 (logs (home start tx))) (link (home start tx) 0) (keeps (home start tx) (logs (home start tx))).ordered))
+        (log_ordered (logs 0) (none_else start logs quiet.right quiet.within (is_end tx) (home start tx) silent_end)
+        (ordered_past tx (taken (machine start) (home start tx) (logs 0)) (sent (machine start) (home start tx) 0 (logs (home start tx))) (link start logs quiet.right (home start tx) 0) (keeps (home start tx) (logs (home start tx))).ordered))
 
     held_live : (t : OpenTransaction) → IsIn t (opened_after start logs) → t.tx ≡ Some tx → IsLiveAt tx (after start (home start tx) (logs (home start tx)))
     held_live t inside is = at_low (cases_lt (home start tx) (hosts start))
@@ -229,7 +214,7 @@ module _ (start : Start) (tx : TxId) where
         held = tally_in (has_tx tx) t (opened_in (after start 0 (logs 0))) inside (ap (is_tx tx) is ∙ same_tx-self tx)
 
         some : 1 ≤ at_home (is_start tx)
-        some = omega (arith, held, holds_at.few, starts_there, few_taken (is_start tx) (home start tx))
+        some = omega (arith, held, holds_at.few, starts_there, few_taken start logs quiet.right (is_start tx) (home start tx) 0)
 
         none : home start tx < hosts start → (0 < at_home (is_end tx)) ⊎ (at_home (is_end tx) ≤ 0) → at_home (is_end tx) ≡ 0
         none low (inr few) = omega (arith, few)

@@ -23,9 +23,8 @@ use Rattle.sig_core.specs.declared.signal.host.Work.TheVariants as work
 use Rattle.sig_core.specs.Op.{key_of}
 use Rattle.sig_core.specs.Place.{rows_of}
 use Rattle.sig_core.specs.Same.{same_key, same_tx}
-use Rattle.tc_block.specs.declared.transaction.Transaction.{Transaction}
 use Rattle.world_core.proofs.HostNumbers.{host_below, rows_run, rows_started}
-use Rattle.world_core.specs.Hosts.{home, host_for, hosts, rows_host, started}
+use Rattle.world_core.specs.Hosts.{host_for, hosts, rows_host, started}
 use Rattle.world_core.specs.Machine.{after, machine, step_after}
 use Rattle.world_core.specs.Start.{Start}
 use Rattle.world_core.specs.Steps.{HostStep}

@@ -1,5 +1,5 @@
 -- A transaction that has an operation unanswered isn't decided.
-use Rattle.std.proofs.Common.{◌≡◌, ℕ, suc, List, true, false, refl, ap, sym, ◌∙◌}
+use Rattle.std.proofs.Common.{◌≡◌, ℕ, List, true, false, refl, ap, sym, ◌∙◌}
 use Rattle.std.specs.Prelude.{◌-◌, length, Option, None, Some}
 use Rattle.std.proofs.lemmas.Bool.{false≢true}
 use Rattle.world_core.specs.Steps.{HostStep}

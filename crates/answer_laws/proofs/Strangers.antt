@@ -1,7 +1,7 @@
 -- Which hosts tell of a transaction: its coordinator alone answers its operations, and the API alone asks for its commit.
-use Rattle.std.proofs.Common.{◌≡◌, ◌≢◌, ◌⊎◌, ℕ, ◌+◌, ◌≤◌, ◌<◌, List, [], ◌∷◌, Bool, true, false, refl, ap, sym, ◌∙◌, arith, inl, inr}
-use Rattle.std.specs.Prelude.{◌==◌, ◌&&◌, not, Option}
-use Rattle.std.proofs.lemmas.Bool.{cases_lt, false≢true}
+use Rattle.std.proofs.Common.{◌≡◌, ◌≢◌, ℕ, ◌≤◌, ◌<◌, List, [], ◌∷◌, Bool, true, false, refl, ap, sym, ◌∙◌, arith}
+use Rattle.std.specs.Prelude.{◌==◌, not, Option}
+use Rattle.std.proofs.lemmas.Bool.{false≢true}
 use Rattle.lqh_block.specs.Lqh.{lqh_table}
 use Rattle.node_core.proofs.HostCases.{of_effects}
 use Rattle.node_core.specs.Blocks.{dih_of, has_api, lqh_of, tc_of}
@@ -15,10 +15,9 @@ use Rattle.sig_core.specs.declared.member.TxId.{TxId}
 use Rattle.sig_core.specs.declared.outs.Outgoing.{Outgoing}
 use Rattle.sig_core.specs.declared.place.Place.{Place}
 use Rattle.sig_core.specs.declared.signal.Body.{Body}
-use Rattle.sig_core.specs.declared.signal.Body.TheVariants.{Client, Epoch}
+use Rattle.sig_core.specs.declared.signal.Body.TheVariants.{Client}
 use Rattle.sig_core.specs.declared.signal.Signal.{Signal}
 use Rattle.sig_core.specs.declared.signal.client.ClientSignal.TheVariants.{TcBeginReq, TcKeyConf, TcCommitReq}
-use Rattle.sig_core.specs.declared.signal.epoch.EpochSignal.TheVariants.{DiVerifyConf}
 use Rattle.sig_core.specs.Same.{same_tx}
 use Rattle.tc_block.specs.State.{TcState}
 use Rattle.tc_block.specs.Tc.{begin_if, begin_row, is_full, tc_table}
@@ -26,7 +25,7 @@ use Rattle.world_core.specs.Hosts.{home, hosts, tc_host}
 use Rattle.world_core.specs.Machine.{after, machine, step_after}
 use Rattle.world_core.specs.Start.{Start}
 use Rattle.world_core.specs.Steps.{HostStep}
-use Rattle.answer_laws.proofs.Ahead.{at_home, few_taken, turn_at}
+use Rattle.answer_laws.proofs.Ahead.{at_home, few_taken, none_else, turn_at}
 use Rattle.answer_laws.proofs.ApiEntries.{is_commit_req}
 use Rattle.answer_laws.proofs.Asks.{host_asked, host_silent, plain_answer, plain_key}
 use Rattle.answer_laws.proofs.DihSends.{dih_kinds}
@@ -135,21 +134,12 @@ module _ (start : Start) (tx : TxId) where
           few_taken start logs right (is_commit_req tx) 0 (home start tx),
         )
 
-    -- what no other host that is there sends no other host sends
-    none_else : (test : Place → Body → Bool) → ((h : ℕ) (log : List HostStep) → h < hosts start → h ≢ home start tx → signals test (sent (machine start) h 0 log) ≡ 0)
-        → (k : ℕ) → k ≢ home start tx → signals test (taken (machine start) k (logs 0)) ≡ 0
-    none_else test silent k differs = go (cases_lt k (hosts start))
-      where
-        go : (k < hosts start) ⊎ (hosts start ≤ k) → signals test (taken (machine start) k (logs 0)) ≡ 0
-        go (inl low) = omega (arith, silent k (logs k) low differs, few_taken start logs right test k 0)
-        go (inr high) = omega (arith, few_taken start logs right test k 0, ap (λ log. signals test (sent (machine start) k 0 log)) (in_n k high))
-
     -- what the API took of it the coordinator has sent
     pub answers_few : steps (is_answer tx) (logs 0) ≤ signals (is_answer tx) (sent (machine start) (home start tx) 0 (logs (home start tx)))
     answers_few =
         omega (
           arith,
-          steps_from start (is_answer tx) (home start tx) (λ to body e. plain_answer tx body (right_of (is_api to.block) (answer_of tx body) e)) (logs 0) (none_else (is_answer tx) never_answers),
+          steps_from start (is_answer tx) (home start tx) (λ to body e. plain_answer tx body (right_of (is_api to.block) (answer_of tx body) e)) (logs 0) (none_else start logs right in_n (is_answer tx) (home start tx) never_answers),
           few_taken start logs right (is_answer tx) (home start tx) 0,
         )
 
@@ -157,7 +147,7 @@ module _ (start : Start) (tx : TxId) where
     starts_few =
         omega (
           arith,
-          steps_from start (is_start tx) (home start tx) (λ to body e. plain_start tx body (right_of (is_api to.block) (start_of tx body) e)) (logs 0) (none_else (is_start tx) (silent_start start tx)),
+          steps_from start (is_start tx) (home start tx) (λ to body e. plain_start tx body (right_of (is_api to.block) (start_of tx body) e)) (logs 0) (none_else start logs right in_n (is_start tx) (home start tx) (silent_start start tx)),
           few_taken start logs right (is_start tx) (home start tx) 0,
         )
 

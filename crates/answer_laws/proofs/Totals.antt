@@ -1,8 +1,6 @@
 -- How many signals of a kind all hosts together have sent and taken.
-use Rattle.std.proofs.Common.{◌≡◌, ◌≢◌, ◌⊎◌, ℕ, zero, suc, ◌+◌, ◌<◌, ◌≤◌, List, [], ◌∷◌, Bool, true, false, refl, ap, sym, ◌∙◌, subst, arith, inl, inr}
+use Rattle.std.proofs.Common.{◌≡◌, ◌≢◌, ℕ, zero, suc, ◌+◌, ◌<◌, ◌≤◌, List, [], ◌∷◌, Bool, true, false, refl, ap, sym, ◌∙◌, subst, arith}
 use Rattle.std.specs.Prelude.{◌==◌, ◌&&◌, not}
-use Rattle.std.proofs.lemmas.Bool.{cases_eq, eqb-true}
-use Rattle.std.proofs.lemmas.Bool.Decides.{nat_tests}
 use Rattle.run_theory.specs.Links.{is_from, sent, taken}
 use Rattle.world_core.specs.Steps.{HostStep}
 use Rattle.sig_core.specs.declared.outs.Outgoing.{Outgoing}
@@ -15,7 +13,7 @@ use Rattle.answer_laws.proofs.LinkCounts.{sent_signals, signals, taken_signals, 
 use Rattle.commit_laws.specs.Counts.{one_if}
 use Rattle.answer_laws.proofs.Wishes.{sends_of}
 use Rattle.commit_laws.specs.Counts.{total}
-use Rattle.commit_laws.proofs.Sums.{total_add, total_le, total_one, total_same, unit_above, unit_below, unit_few}
+use Rattle.commit_laws.proofs.Sums.{total_add, total_le, total_one, total_same, unit_below, unit_few}
 
 -- signals for the hosts below n are no more than all
 pub spread_few : (start : Start) (n : ℕ) (test : Place → Body → Bool) (xs : List Outgoing) → total n (λ j. sends_of (to_host start j test) xs) ≤ sends_of test xs

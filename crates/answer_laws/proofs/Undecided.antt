@@ -1,5 +1,5 @@
 -- Of a transaction that isn't decided no row is committed or completed.
-use Rattle.std.proofs.Common.{◌≡◌, ◌≢◌, ◌⊎◌, ℕ, ◌+◌, ◌≤◌, List, [], Bool, true, false, refl, ap, sym, ◌∙◌, subst, arith, inl, inr}
+use Rattle.std.proofs.Common.{◌≡◌, ◌≢◌, ◌⊎◌, ℕ, ◌≤◌, List, [], Bool, true, false, refl, ap, sym, ◌∙◌, subst, arith, inl, inr}
 use Rattle.std.specs.Prelude.{not, if◌then◌else◌, None, Some}
 use Rattle.std.proofs.lemmas.Bool.{cases_eq, false≢true}
 use Rattle.lqh_block.specs.Lqh.{lqh_table}
@@ -23,7 +23,7 @@ use Rattle.world_core.specs.Steps.{HostStep}
 use Rattle.commit_laws.proofs.Sums.{total_zero}
 use Rattle.answer_laws.proofs.Ahead.{Goes, along, at_tc, no_transaction, other_turn, the_transaction, turn_at, tx_at}
 use Rattle.answer_laws.proofs.Flows.{flow_came, flow_sent}
-use Rattle.answer_laws.proofs.HostTurns.{HostTurn, IsAside, IsTurned, aside, in_rows, is_aside, starting, turning}
+use Rattle.answer_laws.proofs.HostTurns.{HostTurn, IsAside, aside, in_rows, is_aside, starting, turning}
 use Rattle.answer_laws.proofs.LqhForth.{is_back, lqh_back}
 use Rattle.answer_laws.proofs.LqhWaits.{is_forth}
 use Rattle.answer_laws.proofs.SendKinds.{are_of, none_of, of_kind}

@@ -1,10 +1,10 @@
 -- An abort of a transaction that takes commands ends in its being aborted at the client's request.
 use Rattle.std.proofs.Common.{◌≡◌, ◌⊎◌, ◌<◌, ◌≤◌, ◌+◌, ℕ, zero, suc, Bool, true, false, List, [], ◌∷◌, ◌++◌, refl, sym, ap, ◌∙◌, subst, inl, inr, append_assoc, arith}
 use Rattle.std.specs.Prelude.{if◌then◌else◌, Some}
+use Rattle.run_theory.proofs.Pasts.{each_in, each_map}
 use Rattle.run_theory.specs.Cuts.{IsCut}
 use Rattle.run_theory.specs.Lists.{Each, IsIn}
-use Rattle.run_theory.proofs.Pasts.{each_in, each_map}
-use Rattle.world_core.specs.Steps.{HostStep}
+use Rattle.sig_core.proofs.Keys.{same_tx-self}
 use Rattle.sig_core.specs.declared.member.TxId.{TxId}
 use Rattle.sig_core.specs.declared.outcome.AbortCause.{AbortCause}
 use Rattle.sig_core.specs.declared.outcome.AbortCause.TheVariants as cause
@@ -20,28 +20,34 @@ use Rattle.sig_core.specs.declared.signal.client.ClientSignal.TheVariants.{TcCom
 use Rattle.sig_core.specs.Same.{same_tx}
 use Rattle.api_block.specs.declared.opened.Doing.TheVariants.{Ready}
 use Rattle.api_block.specs.declared.opened.OpenTransaction.{OpenTransaction}
+use Rattle.node_core.specs.Blocks.{api_of, tc_of}
 use Rattle.node_core.specs.Replies.{replies_of}
 use Rattle.node_core.specs.Requests.{is_request}
 use Rattle.world_core.specs.Hosts.{home, hosts}
 use Rattle.world_core.specs.Machine.{after, step_after}
 use Rattle.world_core.specs.Start.{Start}
+use Rattle.world_core.specs.Steps.{HostStep}
+use Rattle.commit_laws.specs.Counts.{one_if}
+use Rattle.answer_laws.proofs.Ahead.{live_tx}
 use Rattle.answer_laws.proofs.ApiBegins.{in_middle}
 use Rattle.answer_laws.proofs.LinkCounts.{steps}
-use Rattle.commit_laws.specs.Counts.{one_if}
+use Rattle.answer_laws.proofs.Lives.{live_low}
 use Rattle.answer_laws.proofs.Wishes.{is_tc, sends_of}
 use Rattle.answer_laws.specs.Answered.{EachIsAnswered, IsOpenAt, opened_after, opened_in}
 use Rattle.command_laws.proofs.AbortFirst.{IsAbortAsked, abort_first}
 use Rattle.command_laws.proofs.AbortSteps.{IsLooseNow, LooseOption, is_more_to, is_roll_to, is_wrong, more_of, host_run, rolled, wrong_of}
 use Rattle.command_laws.proofs.AbortTurns.{is_loose, is_requested}
 use Rattle.command_laws.proofs.ApiChanges.{outcome_in}
-use Rattle.command_laws.proofs.CommitGoes.{HasEnded, entry_goes}
 use Rattle.command_laws.proofs.Committed.{cut_at_first, sent_append}
 use Rattle.command_laws.proofs.EarlySteps.{is_wish_to}
 use Rattle.command_laws.proofs.EndsWell.{replied}
 use Rattle.command_laws.proofs.Entries.{HasOne}
+use Rattle.command_laws.proofs.EntryGoes.{HasEnded, entry_goes}
 use Rattle.command_laws.proofs.FirmHosts.{is_push_to}
 use Rattle.command_laws.proofs.First.{IsFirst, first_step, request_first}
 use Rattle.command_laws.proofs.HoldersTold.{sent_to_append, taken_few}
+use Rattle.command_laws.proofs.Homes.{sound_at}
+use Rattle.command_laws.proofs.HostSteps.{api_seen}
 use Rattle.command_laws.proofs.OperateAsks.{AreNamed, named_since}
 use Rattle.command_laws.proofs.Pushes.{calm_since, is_node_kind, node_since}
 use Rattle.command_laws.proofs.ReadyAtQuiet.{named_at, opens, ready_open}
@@ -50,14 +56,8 @@ use Rattle.command_laws.proofs.Since.{all_arrive, none_taken, sent_since}
 use Rattle.command_laws.proofs.TellsOnce.{live_early}
 use Rattle.command_laws.proofs.TellsSince.{OnTc}
 use Rattle.command_laws.proofs.Tests.{and_off, none_at}
-use Rattle.command_laws.proofs.WaitRows.{in_live}
 use Rattle.command_laws.specs.Aborts.{ReadyAbortsAreAnswered}
-use Rattle.sig_core.proofs.Keys.{same_tx-self}
 use Rattle.command_laws.specs.Served.{IsServed, named_in, replies_since}
-use Rattle.answer_laws.proofs.Commits.{live_low}
-use Rattle.command_laws.proofs.Homes.{sound_at}
-use Rattle.command_laws.proofs.HostSteps.{api_seen}
-use Rattle.node_core.specs.Blocks.{api_of, tc_of}
 
 -- an end that isn't wrong is an abort at the client's request
 ends_right : (tx : TxId) (body : Body) (end : Outcome) → outcome_in body ≡ Some (tx, end) → wrong_of tx body ≡ false → end ≡ outcome.Aborted cause.Request
@@ -137,7 +137,7 @@ module _ (answered : EachIsAnswered) (start : Start) (was now : ℕ → List Hos
   loose_was h at =
       let o : IsOpenAt tx (after start h (was h)) = subst (λ k. IsOpenAt tx (after start k (was k))) at is_open in
       let sound = sound_at start tx h (was h) in
-      let live = in_live tx o.transaction (tc_of (after start h (was h))).live o.live sound.few in
+      let live = live_tx start tx h (was h) o.transaction o.live in
       record {
         loose = subst (LooseOption false) (sym live) (ap (is_loose false) o.phase, o.asked);
         early = live_early tx (tc_of (after start h (was h))).node (tc_of (after start h (was h))).next_seq (tc_of (after start h (was h))).live o.transaction sound.own live;
@@ -203,7 +203,7 @@ module _ (answered : EachIsAnswered) (start : Start) (was now : ℕ → List Hos
   -- so it isn't open any more
   closed : IsOpenAt tx (after start (home start tx) (now (home start tx))) → ⊥
   closed o =
-      let live = in_live tx o.transaction (tc_of (after start (home start tx) (now (home start tx)))).live o.live (sound_at start tx (home start tx) (now (home start tx))).few in
+      let live = live_tx start tx (home start tx) (now (home start tx)) o.transaction o.live in
       let loose : OnTc (IsLooseNow tx true) (after start (home start tx) (now (home start tx))) =
       subst (λ log. OnTc (IsLooseNow tx true) (after start (home start tx) log)) (sym (cut (home start tx)).is)
       (subst (λ c. OnTc (IsLooseNow tx c) (after start (home start tx) ((cut (home start tx)).newer ++ was (home start tx)))) rolls_arrive ((run (home start tx) home_low).1 refl)) in
@@ -214,7 +214,7 @@ module _ (answered : EachIsAnswered) (start : Start) (was now : ℕ → List Hos
   still_ready has = closed (opens start now tx has.item.doing has.item.tx has.does has.own (answered start now has.item served.since has.inside))
 
   abort_told : IsIn (Ended (Some name) (outcome.Aborted cause.Request)) (replies_since start was now)
-  abort_told = by (entry_goes tx (Some name) Ready (λ e. cc) refl start f.later (f.first ∷ was 0) f.plain asked.has)
+  abort_told = by (entry_goes tx (Some name) Ready refl (λ e. cc) start f.later (f.first ∷ was 0) f.plain asked.has)
     where
       by : HasOne tx (Some name) Ready (opened_in (after start 0 (f.later ++ f.first ∷ was 0))) ⊎ HasEnded tx (Some name) start f.later (f.first ∷ was 0)
           → IsIn (Ended (Some name) (outcome.Aborted cause.Request)) (replies_since start was now)

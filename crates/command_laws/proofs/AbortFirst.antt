@@ -2,6 +2,7 @@
 use Rattle.std.proofs.Common.{◌≡◌, ◌≤◌, ◌+◌, ℕ, Bool, true, false, sym, ap, ◌∙◌, subst, arith}
 use Rattle.std.specs.Prelude.{◌==◌, ◌&&◌, Some}
 use Rattle.run_theory.specs.Lists.{IsIn}
+use Rattle.sig_core.proofs.Keys.{same_tx-self}
 use Rattle.sig_core.specs.declared.member.TxId.{TxId}
 use Rattle.sig_core.specs.declared.reply.Refusal.TheVariants.{NotOpen}
 use Rattle.sig_core.specs.declared.request.ApiReq.TheVariants as request
@@ -10,25 +11,24 @@ use Rattle.sig_core.specs.declared.signal.client.ClientSignal.TheVariants.{TcRol
 use Rattle.sig_core.specs.Place.{coordinator_of}
 use Rattle.sig_core.specs.Same.{same_tx}
 use Rattle.sig_core.specs.Step.{Step, sending}
-use Rattle.api_block.specs.declared.opened.Doing.TheVariants.{Ready}
-use Rattle.api_block.specs.declared.opened.OpenTransaction.{OpenTransaction}
 use Rattle.api_block.specs.Api.{request_row}
 use Rattle.api_block.specs.Commands.{abort_by, abort_row}
+use Rattle.api_block.specs.declared.opened.Doing.TheVariants.{Ready}
+use Rattle.api_block.specs.declared.opened.OpenTransaction.{OpenTransaction}
 use Rattle.api_block.specs.Opened.{if_there, where_at}
 use Rattle.api_block.specs.State.{ApiState, about, refused}
 use Rattle.node_core.specs.Row.{row}
-use Rattle.answer_laws.proofs.ApiBegins.{in_middle}
+use Rattle.world_core.specs.Hosts.{home}
+use Rattle.world_core.specs.Start.{Start}
 use Rattle.commit_laws.specs.Counts.{one_if}
+use Rattle.answer_laws.proofs.ApiBegins.{in_middle}
+use Rattle.answer_laws.proofs.LinkCounts.{to_host}
 use Rattle.answer_laws.proofs.TcSends.{eqb-self}
 use Rattle.answer_laws.proofs.Wishes.{sends_of}
 use Rattle.command_laws.proofs.AbortSteps.{is_more_to, is_roll_to}
 use Rattle.command_laws.proofs.Entries.{HasOne, IsNamed, named_found}
 use Rattle.command_laws.proofs.OperateAsks.{AreNamed}
-use Rattle.sig_core.proofs.Keys.{same_tx-self}
 use Rattle.command_laws.specs.Served.{named_in}
-use Rattle.answer_laws.proofs.LinkCounts.{to_host}
-use Rattle.world_core.specs.Start.{Start}
-use Rattle.world_core.specs.Hosts.{home}
 
 -- the row where the name is found
 abort_found : (s : ApiState) (name : ℕ) (t : OpenTransaction) (tx : TxId) → t.tx ≡ Some tx → (f : IsNamed s.opened name t)

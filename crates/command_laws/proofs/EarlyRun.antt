@@ -3,44 +3,44 @@ use Rattle.std.proofs.Common.{◌≡◌, ◌≢◌, ◌⊎◌, ◌<◌, ◌≤�
 use Rattle.std.proofs.lemmas.Bool.{cases_eq, cases_lt}
 use Rattle.std.proofs.lemmas.List.{append_cancel_right}
 use Rattle.std.specs.Prelude.{Some, not}
-use Rattle.run_theory.specs.Cuts.{IsCut}
-use Rattle.run_theory.specs.Links.{sent, taken}
-use Rattle.run_theory.specs.Lists.{Each, IsIn, IsPast}
-use Rattle.run_theory.specs.Runs.{Happens, IsWithin, Run, log_of}
 use Rattle.run_theory.proofs.Along.{within_cut}
 use Rattle.run_theory.proofs.Cuts.{taken_past}
 use Rattle.run_theory.proofs.Growth.{along_cuts}
 use Rattle.run_theory.proofs.Pasts.{each_in, past_self, past_trans}
 use Rattle.run_theory.proofs.Runs.{log_of-other, log_of-own, log_of-past}
-use Rattle.world_core.specs.Steps.{Addressed, HostStep}
+use Rattle.run_theory.specs.Cuts.{IsCut}
+use Rattle.run_theory.specs.Links.{sent, taken}
+use Rattle.run_theory.specs.Lists.{Each, IsIn, IsPast}
+use Rattle.run_theory.specs.Runs.{Happens, IsWithin, Run, log_of}
 use Rattle.sig_core.specs.declared.member.TxId.{TxId}
+use Rattle.sig_core.specs.declared.place.Place.{Place}
 use Rattle.sig_core.specs.declared.signal.Body.{Body}
 use Rattle.sig_core.specs.declared.signal.Body.TheVariants.{Chain}
 use Rattle.sig_core.specs.declared.signal.chain.ChainSignal.TheVariants.{Abort, LqhKeyRef}
+use Rattle.node_core.specs.Blocks.{tc_of}
 use Rattle.node_core.specs.Requests.{is_request}
+use Rattle.tc_block.specs.declared.transaction.Transaction.{Transaction}
+use Rattle.tc_block.specs.State.{TcState}
+use Rattle.world_core.proofs.HostNumbers.{given_past}
 use Rattle.world_core.proofs.Stamped.{stamped}
 use Rattle.world_core.specs.Hosts.{home, hosts}
 use Rattle.world_core.specs.Machine.{after, machine, step_after}
 use Rattle.world_core.specs.Start.{Start}
-use Rattle.answer_laws.proofs.ApiBegins.{in_middle}
-use Rattle.world_core.proofs.HostNumbers.{given_past}
-use Rattle.answer_laws.proofs.LinkCounts.{signals}
+use Rattle.world_core.specs.Steps.{Addressed, HostStep}
 use Rattle.commit_laws.proofs.Tally.{tally_past}
 use Rattle.commit_laws.specs.Counts.{one_if}
+use Rattle.answer_laws.proofs.ApiBegins.{in_middle}
+use Rattle.answer_laws.proofs.LinkCounts.{signals}
 use Rattle.answer_laws.proofs.Wishes.{sends_of}
 use Rattle.answer_laws.specs.Answered.{AreQuiet}
+use Rattle.transit_laws.specs.Live.{of_live}
 use Rattle.command_laws.proofs.EarlyNodes.{host_clean, host_past}
 use Rattle.command_laws.proofs.EarlySteps.{GoesPast, IsOpenNow, IsPastNow, Leaves, StaysClean, is_bad, is_loss, is_wish_to}
+use Rattle.command_laws.proofs.Homes.{lives_home, sound_at}
 use Rattle.command_laws.proofs.LqhFair.{is_fair}
 use Rattle.command_laws.proofs.Since.{link_sent, sent_since}
-use Rattle.command_laws.proofs.TellsSince.{OnTc}
-use Rattle.sig_core.specs.declared.place.Place.{Place}
-use Rattle.transit_laws.specs.Live.{of_live}
-use Rattle.tc_block.specs.declared.transaction.Transaction.{Transaction}
-use Rattle.tc_block.specs.State.{TcState}
-use Rattle.node_core.specs.Blocks.{tc_of}
 use Rattle.command_laws.proofs.TcPath.{IsSound}
-use Rattle.command_laws.proofs.Homes.{lives_home, sound_at}
+use Rattle.command_laws.proofs.TellsSince.{OnTc}
 
 request_fair : (tx : TxId) (body : Body) → is_request body ≡ true → is_fair tx body ≡ true
 request_fair tx (Chain (Abort other key)) e = cc

@@ -3,37 +3,37 @@ use Rattle.std.proofs.Common.{◌≡◌, ℕ, Bool, true, false, List, [], ◌�
 use Rattle.std.specs.Prelude.{◌&&◌, if◌then◌else◌}
 use Rattle.indexmap.specs.IndexMap.{insert_entry}
 use Rattle.run_theory.specs.Lists.{Each}
-use Rattle.world_core.specs.Steps.{HostStep}
 use Rattle.sig_core.specs.declared.member.TxId.{TxId}
 use Rattle.sig_core.specs.declared.outs.Outgoing.{Outgoing}
 use Rattle.sig_core.specs.declared.place.Place.{Place}
 use Rattle.sig_core.specs.declared.signal.Body.{Body}
 use Rattle.sig_core.specs.declared.signal.Body.TheVariants.{Client}
 use Rattle.sig_core.specs.declared.signal.client.ClientSignal.TheVariants.{TcKeyReq, TcRollbackRep, TcRollbackReq}
+use Rattle.sig_core.specs.declared.signal.Signal.{Signal}
 use Rattle.sig_core.specs.Same.{same_tx}
 use Rattle.sig_core.specs.Step.{Step}
+use Rattle.node_core.specs.Blocks.{tc_of}
+use Rattle.node_core.specs.declared.host.Host.{Host}
+use Rattle.node_core.specs.Row.{row}
 use Rattle.tc_block.specs.declared.transaction.Transaction.{Transaction}
 use Rattle.tc_block.specs.Operate.{fresh}
 use Rattle.tc_block.specs.State.{TcState}
 use Rattle.tc_block.specs.Tc.{tc_row}
 use Rattle.world_core.specs.Machine.{after}
 use Rattle.world_core.specs.Start.{Start}
+use Rattle.world_core.specs.Steps.{HostStep}
 use Rattle.answer_laws.proofs.ApiBegins.{each_at, each_changed, each_less}
-use Rattle.answer_laws.proofs.ApiMoves.{ends, goes, is_api_kind}
-use Rattle.answer_laws.proofs.SendKinds.{is_dih_kind, is_lqh_kind, none_of}
+use Rattle.answer_laws.proofs.ApiMoves.{ends, goes}
+use Rattle.answer_laws.proofs.SendKinds.{none_of}
 use Rattle.answer_laws.proofs.TcLives.{apart}
 use Rattle.answer_laws.proofs.TcSends.{tx_in}
 use Rattle.answer_laws.proofs.Wishes.{is_tc, sends_of}
 use Rattle.command_laws.proofs.Firm.{StaysFirm, firm_turn, is_firm, is_no_abort, is_push}
+use Rattle.command_laws.proofs.HostSends.{IsOfTc, is_other_kind}
+use Rattle.command_laws.proofs.HostSteps.{tc_host}
 use Rattle.command_laws.proofs.OwnSends.{is_own_kind, turn_own}
 use Rattle.command_laws.proofs.Since.{sent_since}
 use Rattle.command_laws.proofs.Turns.{TakesTurn, TcShape, is_idle_kind, starts, still, tc_shape, turn_by, turns}
-use Rattle.sig_core.specs.declared.signal.Signal.{Signal}
-use Rattle.command_laws.proofs.HostSteps.{tc_host}
-use Rattle.command_laws.proofs.HostSends.{IsOfTc}
-use Rattle.node_core.specs.Row.{row}
-use Rattle.node_core.specs.Blocks.{tc_of}
-use Rattle.node_core.specs.declared.host.Host.{Host}
 
 -- an operation of the transaction, or the wish for its abort
 abbrev pub push_of : TxId → Body → Bool
@@ -76,18 +76,6 @@ module _ (tx : TxId) where
   no_back_other : (one : TxId) → same_tx one tx ≡ false → (to : Place) (body : Body) → is_own_kind one body ≡ true → is_back tx to body ≡ false
   no_back_other one differs to (Client (TcRollbackRep other cause)) e = apart tx one other differs e
   no_back_other one differs to _ e = refl
-
-  no_back_dih : (to : Place) (body : Body) → is_dih_kind body ≡ true → is_back tx to body ≡ false
-  no_back_dih to (Client (TcRollbackRep other cause)) e = cc
-  no_back_dih to _ e = refl
-
-  no_back_lqh : (to : Place) (body : Body) → is_lqh_kind body ≡ true → is_back tx to body ≡ false
-  no_back_lqh to (Client (TcRollbackRep other cause)) e = cc
-  no_back_lqh to _ e = refl
-
-  no_back_api : (to : Place) (body : Body) → is_api_kind body ≡ true → is_back tx to body ≡ false
-  no_back_api to (Client (TcRollbackRep other cause)) e = cc
-  no_back_api to _ e = refl
 
   pub not_push : (body : Body) → push_of tx body ≡ false → same_tx (tx_in body) tx ≡ true → is_push body ≡ false
   not_push (Client (TcKeyReq other op)) none same = absurd (let both : true ≡ false = sym same ∙ none in cc)
@@ -156,7 +144,11 @@ module _ (tx : TxId) where
   FirmHost g = AllFirm (tc_of g).live
 
   back_tc : IsOfTc (is_back tx)
-  back_tc = record { api = record { kinds = no_back_api; begins = λ name node. refl }; dih = no_back_dih; lqh = no_back_lqh }
+  back_tc = record { others = others; begins = λ name node. refl }
+    where
+      others : (to : Place) (body : Body) → is_other_kind body ≡ true → is_back tx to body ≡ false
+      others to (Client (TcRollbackRep other cause)) e = cc
+      others to _ e = refl
 
   host_firm : (g : Host) (x : Signal) → is_push_to tx x.to x.body ≡ false → FirmHost g → KeepsFirm (tc_of (row g x).state).live (row g x).effects.sends
   host_firm g x plain firm =

@@ -1,13 +1,13 @@
 -- The two questions about a command that left something unanswered tell for whom that waits.
 use Rattle.std.proofs.Common.{◌≡◌, ◌<◌, ◌≤◌, ◌+◌, ℕ, zero, suc, Bool, true, false, List, [], ◌∷◌, ◌++◌, length, refl, sym, ap, ◌∙◌, subst, inl, inr, append_assoc, arith}
 use Rattle.std.specs.Prelude.{◌&&◌, Option, None, Some, drop, is_some, option_to_list, slice_get}
+use Rattle.run_theory.proofs.Orders.{each_log}
+use Rattle.run_theory.proofs.Pasts.{past_self}
 use Rattle.run_theory.specs.Cuts.{IsCut}
 use Rattle.run_theory.specs.Links.{is_from}
 use Rattle.run_theory.specs.Lists.{IsIn}
 use Rattle.run_theory.specs.Runs.{log_of}
-use Rattle.run_theory.proofs.Orders.{each_log}
-use Rattle.run_theory.proofs.Pasts.{past_self}
-use Rattle.world_core.specs.Steps.{HostStep}
+use Rattle.sig_core.proofs.Keys.{same_tx-self}
 use Rattle.sig_core.specs.declared.member.TxId.{TxId}
 use Rattle.sig_core.specs.declared.place.Place.{Place}
 use Rattle.sig_core.specs.declared.reply.ApiReply.TheVariants.{Pending}
@@ -15,45 +15,44 @@ use Rattle.sig_core.specs.declared.reply.Waiting.TheVariants.{HeldBy}
 use Rattle.sig_core.specs.declared.request.ApiReq.TheVariants as request
 use Rattle.sig_core.specs.declared.signal.Body.{Body}
 use Rattle.sig_core.specs.Op.{key_of}
+use Rattle.sig_core.specs.Place.{client, rows_of}
 use Rattle.api_block.specs.declared.opened.Doing.{Doing}
 use Rattle.api_block.specs.declared.opened.Doing.TheVariants.{Beginning, Ready, Operating, Committing}
 use Rattle.api_block.specs.declared.opened.OpenTransaction.{OpenTransaction}
 use Rattle.api_block.specs.Opened.{has_tx, if_there, is_tx, is_unanswered, own_place, where_at}
 use Rattle.api_block.specs.State.{ApiState}
+use Rattle.node_core.specs.Blocks.{api_of, has_api, has_lqh, has_tc}
+use Rattle.node_core.specs.declared.host.Host.{Host}
+use Rattle.node_core.specs.declared.host.Host.TheVariants.{Ldm, Main, Shell, Tc}
 use Rattle.node_core.specs.Replies.{is_left_open, replies_of}
 use Rattle.tc_block.specs.declared.transaction.Transaction.{Transaction}
+use Rattle.world_core.proofs.HostNumbers.{api_runs, host_below}
 use Rattle.world_core.specs.Hosts.{home, hosts, receiver, rows_host}
 use Rattle.world_core.specs.Machine.{after, machine, step_after}
 use Rattle.world_core.specs.Requests.{request_in, requests}
 use Rattle.world_core.specs.Start.{Start}
-use Rattle.answer_laws.proofs.ApiBegins.{in_middle}
-use Rattle.answer_laws.proofs.Commits.{live_low}
-use Rattle.answer_laws.proofs.Lives.{holds_at, once_started}
+use Rattle.world_core.specs.Steps.{HostStep}
 use Rattle.commit_laws.proofs.Tally.{Counted, counted, tally_append, tally_between}
 use Rattle.commit_laws.specs.Counts.{one_if, tally}
-use Rattle.sig_core.proofs.Keys.{same_tx-self}
+use Rattle.answer_laws.proofs.Ahead.{live_tx}
+use Rattle.answer_laws.proofs.ApiBegins.{in_middle}
+use Rattle.answer_laws.proofs.HostSteps.{no_live}
+use Rattle.answer_laws.proofs.LinkCounts.{steps, to_host}
+use Rattle.answer_laws.proofs.Lives.{holds_at, live_low, once_started}
 use Rattle.answer_laws.proofs.Wishes.{sends_of}
 use Rattle.answer_laws.specs.Answered.{EachIsAnswered, IsLiveAs, is_answered_by, opened_after}
 use Rattle.transit_laws.specs.Live.{of_live}
 use Rattle.command_laws.proofs.First.{IsFirst, first_step, request_first, with_first}
+use Rattle.command_laws.proofs.HostKinds.{api_alone, api_no_rows, no_rows, replies_are}
+use Rattle.command_laws.proofs.HostSteps.{api_seen}
 use Rattle.command_laws.proofs.Since.{all_arrive, sent_since_to, taken_since}
 use Rattle.command_laws.proofs.TellsSince.{OnTc}
 use Rattle.command_laws.proofs.Told.{told_since}
 use Rattle.command_laws.proofs.WaitApi.{IsAboutOne, IsAsking, IsOwn, TellsHolder, own_found, pending_first, waits_first}
-use Rattle.command_laws.proofs.WaitRows.{in_live, is_found, is_passed, is_probe, is_telling_who, is_wait_of, is_want}
-use Rattle.command_laws.proofs.WaitsBehind.{IsBehindThere, behind_there}
+use Rattle.command_laws.proofs.WaitRows.{is_found, is_passed, is_probe, is_telling_who, is_wait_of, is_want}
 use Rattle.command_laws.proofs.WaitRun.{AllHold, all_hold}
+use Rattle.command_laws.proofs.WaitsBehind.{IsBehindThere, behind_there}
 use Rattle.command_laws.specs.Served.{name_in, EachIsHeldUp, HoldersAreTold, IsHeldUp, IsHeldUpAt, IsServed, IsToldHolder, own_in}
-use Rattle.command_laws.proofs.Homes.{sound_at}
-use Rattle.command_laws.proofs.HostSteps.{api_seen}
-use Rattle.command_laws.proofs.HostKinds.{api_alone, api_no_rows, no_rows, replies_are}
-use Rattle.answer_laws.proofs.LinkCounts.{steps, to_host}
-use Rattle.node_core.specs.Blocks.{api_of, has_api, has_lqh, tc_of}
-use Rattle.node_core.specs.declared.host.Host.TheVariants.{Ldm, Main, Shell, Tc}
-use Rattle.node_core.specs.declared.host.Host.{Host}
-use Rattle.world_core.proofs.HostNumbers.{api_runs, host_below}
-use Rattle.sig_core.specs.Place.{client, rows_of}
-use Rattle.answer_laws.proofs.HostSteps.{live_runs}
 
 pub sent_to_append : (start : Start) (test : Place → Body → Bool) (h j : ℕ) (xs ys log : List HostStep)
     → sent_since_to start test h j (xs ++ ys) log ≡ sent_since_to start test h j xs (ys ++ log) + sent_since_to start test h j ys log
@@ -98,7 +97,11 @@ not_shell start logs P none zero p = absurd (none (after start 0 (logs 0)) (api_
 not_shell start logs P none (suc h) p = (h, refl)
 
 not_live : (tx : TxId) (u : Transaction) (g : Host) → has_api g ≡ true → IsLiveAs tx u g → ⊥
-not_live tx u g api live = api_alone g api (live_runs g (tx, u) live)
+not_live tx u g api live = by (has_tc g) refl
+  where
+    by : (b : Bool) → has_tc g ≡ b → ⊥
+    by true tc = api_alone g api tc
+    by false none = subst (IsIn (tx, u)) (no_live g none) live
 
 not_held : (tx : TxId) (key : List ℕ) (g : Host) → has_api g ≡ true → IsHeldUpAt tx key g → ⊥
 not_held tx key g api held = by (has_lqh g) refl
@@ -132,7 +135,7 @@ module _ (answered : EachIsAnswered) (held_up : EachIsHeldUp) (start : Start) (w
 
   -- the transaction as its coordinator has it
   live : OnTc (λ c. of_live w.tx c.live ≡ Some up.transaction) (after start c_host (was c_host))
-  live = in_live w.tx up.transaction (tc_of (after start c_host (was c_host))).live up.live (sound_at start w.tx c_host (was c_host)).few
+  live = live_tx start w.tx c_host (was c_host) up.transaction up.live
 
   -- no other transaction of the API has its number
   none : tally (has_tx w.tx) i.first.front ≡ 0

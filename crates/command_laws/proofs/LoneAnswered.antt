@@ -1,47 +1,46 @@
 -- An operation alone is answered, or refused for want of room or of time, or its transaction can't begin, or it waits for a lock.
 use Rattle.std.proofs.Common.{◌≡◌, ◌⊎◌, ℕ, true, false, List, [], ◌∷◌, ◌++◌, sym, ap, ◌∙◌, subst, inl, inr, append_assoc, arith}
 use Rattle.std.specs.Prelude.{Option, None, Some}
-use Rattle.run_theory.specs.Lists.{Each}
 use Rattle.run_theory.proofs.Pasts.{each_before}
-use Rattle.world_core.specs.Steps.{HostStep}
+use Rattle.run_theory.specs.Lists.{Each}
 use Rattle.sig_core.specs.declared.member.TxId.{TxId}
 use Rattle.sig_core.specs.declared.op.Op.{Op}
 use Rattle.sig_core.specs.declared.reply.ApiReply.TheVariants.{Answered, Refused}
 use Rattle.sig_core.specs.declared.reply.Refusal.TheVariants.{TooManyOpen}
 use Rattle.sig_core.specs.declared.request.ApiReq.TheVariants.{Operate}
+use Rattle.frag_map.specs.Layout.{first_view}
 use Rattle.api_block.specs.declared.opened.Doing.{Doing}
 use Rattle.api_block.specs.declared.opened.Doing.TheVariants.{Operating}
 use Rattle.api_block.specs.Opened.{has_tx, is_beginning}
+use Rattle.node_core.specs.Blocks.{api_of}
 use Rattle.node_core.specs.Requests.{is_request}
+use Rattle.world_core.specs.Hosts.{home}
 use Rattle.world_core.specs.Machine.{after, step_after}
 use Rattle.world_core.specs.Start.{Start}
-use Rattle.answer_laws.proofs.Begins.{no_begin}
-use Rattle.answer_laws.proofs.LinkCounts.{steps}
-use Rattle.answer_laws.proofs.Lives.{holds_at, once_started}
+use Rattle.world_core.specs.Steps.{HostStep}
 use Rattle.commit_laws.proofs.Tally.{tally_append}
 use Rattle.commit_laws.specs.Counts.{one_if}
+use Rattle.answer_laws.proofs.Begins.{no_begin}
+use Rattle.answer_laws.proofs.Hosts.{shell_after}
+use Rattle.answer_laws.proofs.LinkCounts.{steps}
+use Rattle.answer_laws.proofs.Lives.{holds_at, once_started}
 use Rattle.answer_laws.proofs.TcLives.{is_start}
 use Rattle.answer_laws.specs.Answered.{EachIsAnswered, WaitsForLock, is_answered_by, opened_after, opened_in}
-use Rattle.command_laws.proofs.CommitGoes.{HasEnded, IsEnding}
+use Rattle.transit_laws.proofs.Weighing.{none_passes}
 use Rattle.command_laws.proofs.Committed.{calm_at, sent_append}
 use Rattle.command_laws.proofs.EarlySteps.{IsOpenNow, OpenOption, is_wish_to}
 use Rattle.command_laws.proofs.EndsWell.{ended_well, replied}
 use Rattle.command_laws.proofs.Entries.{HasOne}
+use Rattle.command_laws.proofs.EntryGoes.{HasAnswered, HasEnded, IsAnswering, IsEnding, operate_goes}
 use Rattle.command_laws.proofs.First.{IsFirst, first_step, request_first}
+use Rattle.command_laws.proofs.Homes.{unborn_there}
+use Rattle.command_laws.proofs.HostSteps.{api_seen}
 use Rattle.command_laws.proofs.LoneBegins.{HasBegun, IsAlone, IsAskedAlone, WasRefused, alone_first, begin_goes}
 use Rattle.command_laws.proofs.LoneWishes.{wishes_since}
-use Rattle.command_laws.proofs.OperateGoes.{HasAnswered, IsAnswering, operate_goes}
 use Rattle.command_laws.proofs.Since.{sent_since}
 use Rattle.command_laws.proofs.TellsSince.{OnTc}
 use Rattle.command_laws.specs.Alone.{IsRefusedAlone, IsTurnedAway, LoneOperationsAreAnswered, WaitsAlone}
 use Rattle.command_laws.specs.Served.{IsAnsweredAlone, IsServed}
-use Rattle.transit_laws.proofs.Weighing.{none_passes}
-use Rattle.command_laws.proofs.Homes.{unborn_there}
-use Rattle.world_core.specs.Hosts.{home}
-use Rattle.command_laws.proofs.HostSteps.{api_seen}
-use Rattle.node_core.specs.Blocks.{api_of}
-use Rattle.frag_map.specs.Layout.{first_view}
-use Rattle.answer_laws.proofs.Hosts.{shell_after}
 
 -- what was so behind some steps and a log was so behind that log
 module _ (start : Start) (newer : List HostStep) (step : HostStep) (older log : List HostStep) where

@@ -2,33 +2,33 @@
 use Rattle.std.proofs.Common.{◌≡◌, sym, ap, ◌∙◌, ◌⊎◌, false, List, [], ◌∷◌, ◌++◌, refl, ap, inl, inr, arith, true}
 use Rattle.std.specs.Prelude.{None}
 use Rattle.run_theory.specs.Lists.{Each}
-use Rattle.world_core.specs.Steps.{HostStep}
 use Rattle.sig_core.specs.declared.member.TxId.{TxId}
 use Rattle.sig_core.specs.declared.op.Answer.{Answer}
 use Rattle.sig_core.specs.declared.outs.Outgoing.{Outgoing}
 use Rattle.sig_core.specs.declared.reply.ApiReply.TheVariants.{Answered}
 use Rattle.sig_core.specs.declared.signal.Body.{Body}
+use Rattle.sig_core.specs.declared.signal.Signal.{Signal}
 use Rattle.sig_core.specs.Step.{Step}
-use Rattle.api_block.specs.declared.opened.OpenTransaction.{OpenTransaction}
 use Rattle.api_block.specs.Api.{api_row}
+use Rattle.api_block.specs.declared.opened.OpenTransaction.{OpenTransaction}
 use Rattle.api_block.specs.State.{ApiState}
+use Rattle.node_core.specs.Blocks.{api_of, has_api}
 use Rattle.node_core.specs.declared.host.Host as host
 use Rattle.node_core.specs.Requests.{is_request}
 use Rattle.node_core.specs.Row.{row}
+use Rattle.world_core.proofs.HostNumbers.{api_runs}
 use Rattle.world_core.specs.Machine.{after, step_after}
 use Rattle.world_core.specs.Start.{Start}
+use Rattle.world_core.specs.Steps.{HostStep}
 use Rattle.answer_laws.proofs.SendKinds.{none_of}
 use Rattle.answer_laws.proofs.Wishes.{sends_of}
 use Rattle.command_laws.proofs.ApiChanges.{ApiChange, GoesOnAs, alone, answers, api_changes, commits, ends, idle, is_news_kind, refuses, rests, starts, told, waits}
 use Rattle.command_laws.proofs.EarlySteps.{is_wish_to}
-use Rattle.command_laws.proofs.OperateAsks.{no_wish_news}
-use Rattle.command_laws.proofs.OperateGoes.{HasAnswered, IsAnswering}
-use Rattle.command_laws.proofs.Since.{sent_since}
-use Rattle.sig_core.specs.declared.signal.Signal.{Signal}
-use Rattle.node_core.specs.Blocks.{api_of, has_api}
+use Rattle.command_laws.proofs.EntryGoes.{HasAnswered, IsAnswering}
 use Rattle.command_laws.proofs.HostKinds.{replies_are}
 use Rattle.command_laws.proofs.HostSteps.{api_host, api_seen}
-use Rattle.world_core.proofs.HostNumbers.{api_runs}
+use Rattle.command_laws.proofs.OperateAsks.{no_wish_news}
+use Rattle.command_laws.proofs.Since.{sent_since}
 
 -- neither is wished for of any transaction
 abbrev WishNone : List Outgoing → Type 0

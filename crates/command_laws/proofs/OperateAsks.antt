@@ -3,7 +3,6 @@ use Rattle.std.proofs.Common.{◌≡◌, ◌<◌, ◌+◌, ℕ, Bool, true, fals
 use Rattle.std.proofs.lemmas.Bool.Decides.{nat_tests}
 use Rattle.std.specs.Prelude.{Some, is_some, nat_lt}
 use Rattle.run_theory.specs.Lists.{Each, IsIn}
-use Rattle.world_core.specs.Steps.{HostStep}
 use Rattle.sig_core.specs.declared.member.TxId.{TxId}
 use Rattle.sig_core.specs.declared.op.Op.{Op}
 use Rattle.sig_core.specs.declared.outs.Outgoing.{Outgoing}
@@ -13,38 +12,39 @@ use Rattle.sig_core.specs.declared.request.ApiReq.TheVariants as request
 use Rattle.sig_core.specs.declared.signal.Body.{Body}
 use Rattle.sig_core.specs.declared.signal.Body.TheVariants.{Host, Client}
 use Rattle.sig_core.specs.declared.signal.client.ClientSignal.TheVariants.{TcCommitReq, TcRollbackReq}
+use Rattle.sig_core.specs.declared.signal.Signal.{Signal}
 use Rattle.sig_core.specs.Same.{same_tx}
 use Rattle.sig_core.specs.Step.{Step}
+use Rattle.api_block.specs.Api.{api_row, request_row}
 use Rattle.api_block.specs.declared.opened.Doing.{Doing}
 use Rattle.api_block.specs.declared.opened.Doing.TheVariants.{Operating, Ready}
 use Rattle.api_block.specs.declared.opened.OpenTransaction.{OpenTransaction}
-use Rattle.api_block.specs.Operate.{key_request, operate_by, operate_if, operate_row}
 use Rattle.api_block.specs.Opened.{begins, has_tx, if_there, is_beginning, operating, same_name, where_at}
+use Rattle.api_block.specs.Operate.{key_request, operate_by, operate_if, operate_row}
 use Rattle.api_block.specs.State.{ApiState, about, changing, refused}
+use Rattle.node_core.specs.Blocks.{api_of, has_api}
 use Rattle.node_core.specs.declared.host.Host as host
 use Rattle.node_core.specs.Requests.{is_request}
+use Rattle.node_core.specs.Row.{row}
+use Rattle.world_core.proofs.HostNumbers.{api_runs}
 use Rattle.world_core.specs.Machine.{after}
 use Rattle.world_core.specs.Start.{Start}
-use Rattle.answer_laws.proofs.ApiBegins.{each_at, each_changed, each_less, in_middle}
-use Rattle.answer_laws.proofs.SendKinds.{none_of}
+use Rattle.world_core.specs.Steps.{HostStep}
 use Rattle.commit_laws.specs.Counts.{one_if}
+use Rattle.answer_laws.proofs.ApiBegins.{each_at, each_changed, each_less, in_middle}
+use Rattle.answer_laws.proofs.LqhOps.{left_of}
+use Rattle.answer_laws.proofs.SendKinds.{none_of}
 use Rattle.answer_laws.proofs.TcMoves.{same_tx-is}
 use Rattle.answer_laws.proofs.Wishes.{is_tc, sends_of}
 use Rattle.answer_laws.specs.Answered.{opened_in}
 use Rattle.command_laws.proofs.ApiChanges.{ApiChange, answers, api_changes, commits, ends, is_news_kind, refuses, rests, starts, waits}
 use Rattle.command_laws.proofs.EarlySteps.{is_wish_to, wish_of}
 use Rattle.command_laws.proofs.Entries.{HasOne, IsNamed, NoneBegins, named_found}
+use Rattle.command_laws.proofs.HostSteps.{api_host}
 use Rattle.command_laws.proofs.Pushes.{is_node_kind}
 use Rattle.command_laws.proofs.Since.{sent_since}
 use Rattle.command_laws.proofs.Tests.{and_off}
-use Rattle.answer_laws.proofs.LqhOps.{left_of}
 use Rattle.command_laws.specs.Served.{named_in}
-use Rattle.api_block.specs.Api.{api_row, request_row}
-use Rattle.sig_core.specs.declared.signal.Signal.{Signal}
-use Rattle.node_core.specs.Row.{row}
-use Rattle.node_core.specs.Blocks.{api_of, has_api}
-use Rattle.command_laws.proofs.HostSteps.{api_host}
-use Rattle.world_core.proofs.HostNumbers.{api_runs}
 
 module _ (tx : TxId) where
   -- the transaction has a name, and none is beginning

@@ -2,28 +2,34 @@
 use Rattle.std.proofs.Common.{◌≡◌, ℕ, suc, Bool, true, false, List, [], ◌∷◌, ◌++◌, refl, sym, ap, ◌∙◌, subst, arith}
 use Rattle.std.specs.Prelude.{Option}
 use Rattle.run_theory.specs.Lists.{Each}
-use Rattle.world_core.specs.Steps.{HostStep}
 use Rattle.sig_core.specs.declared.member.TxId.{TxId}
 use Rattle.sig_core.specs.declared.outs.Outgoing.{Outgoing}
 use Rattle.sig_core.specs.declared.place.Place.{Place}
 use Rattle.sig_core.specs.declared.signal.Body.{Body}
 use Rattle.sig_core.specs.declared.signal.Body.TheVariants.{Client}
 use Rattle.sig_core.specs.declared.signal.client.ClientSignal.TheVariants.{TcBeginReq, TcKeyReq, TcCommitReq, TcRollbackReq, TcWaitReq}
+use Rattle.sig_core.specs.declared.signal.Signal.{Signal}
 use Rattle.sig_core.specs.Step.{Step}
+use Rattle.api_block.specs.Api.{api_row}
 use Rattle.api_block.specs.declared.opened.OpenTransaction.{OpenTransaction}
 use Rattle.api_block.specs.Opened.{begins, is_beginning, same_name}
 use Rattle.api_block.specs.State.{ApiState}
 use Rattle.lqh_block.specs.Lqh.{lqh_table}
+use Rattle.node_core.proofs.HostCases.{of_effects}
+use Rattle.node_core.specs.Blocks.{api_of, dih_of, has_api, lqh_of, tc_of}
 use Rattle.node_core.specs.declared.host.Host as host
 use Rattle.node_core.specs.Dih.{dih_table}
 use Rattle.node_core.specs.Requests.{is_request}
 use Rattle.node_core.specs.Row.{row}
 use Rattle.tc_block.specs.State.{TcState}
 use Rattle.tc_block.specs.Tc.{begin_if, begin_row, is_full, tc_table}
+use Rattle.world_core.proofs.HostNumbers.{api_runs}
 use Rattle.world_core.specs.Machine.{after, step_after}
 use Rattle.world_core.specs.Start.{Start}
+use Rattle.world_core.specs.Steps.{HostStep}
 use Rattle.answer_laws.proofs.ApiBegins.{each_at, each_changed, each_less}
 use Rattle.answer_laws.proofs.DihSends.{dih_kinds}
+use Rattle.answer_laws.proofs.LqhOps.{left_of}
 use Rattle.answer_laws.proofs.LqhSends.{lqh_kinds}
 use Rattle.answer_laws.proofs.SendKinds.{are_of, is_dih_kind, is_lqh_kind, is_tc_kind, none_of, of_kind}
 use Rattle.answer_laws.proofs.TcSends.{tc_kinds, tx_in}
@@ -32,16 +38,10 @@ use Rattle.answer_laws.specs.Answered.{opened_in}
 use Rattle.command_laws.proofs.ApiChanges.{ApiChange, answers, api_changes, commits, ends, is_news_kind, refuses, rests, starts, waits}
 use Rattle.command_laws.proofs.Entries.{NoneBegins}
 use Rattle.command_laws.proofs.FirmHosts.{is_push_to, push_of}
-use Rattle.command_laws.proofs.Since.{sent_since}
-use Rattle.answer_laws.proofs.LqhOps.{left_of}
-use Rattle.command_laws.proofs.Tests.{and_off}
-use Rattle.api_block.specs.Api.{api_row}
-use Rattle.sig_core.specs.declared.signal.Signal.{Signal}
-use Rattle.node_core.proofs.HostCases.{of_effects}
-use Rattle.node_core.specs.Blocks.{api_of, dih_of, has_api, lqh_of, tc_of}
 use Rattle.command_laws.proofs.HostKinds.{node_runs_none}
 use Rattle.command_laws.proofs.HostSteps.{api_host}
-use Rattle.world_core.proofs.HostNumbers.{api_runs}
+use Rattle.command_laws.proofs.Since.{sent_since}
+use Rattle.command_laws.proofs.Tests.{and_off}
 
 -- all but what the API asks coordinators for
 abbrev pub is_node_kind : Body → Bool

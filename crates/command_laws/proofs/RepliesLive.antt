@@ -1,12 +1,15 @@
 -- No reply tells of a host that stopped.
 use Rattle.std.proofs.Common.{◌≡◌, ◌≢◌, ◌⊎◌, ℕ, zero, suc, Bool, true, false, List, [], ◌∷◌, refl, sym, subst, inl, inr, true≢false}
 use Rattle.std.proofs.lemmas.Bool.{cases_eq}
+use Rattle.std.specs.Prelude.{◌%◌}
+use Rattle.run_theory.proofs.Along.{along_signals_of_logs}
+use Rattle.run_theory.proofs.Runs.{log_of-other, log_of-own}
 use Rattle.run_theory.specs.Along.{Comes, IsKept}
 use Rattle.run_theory.specs.Lists.{Each}
 use Rattle.run_theory.specs.Runs.{log_of}
-use Rattle.run_theory.proofs.Along.{along_signals_of_logs}
-use Rattle.run_theory.proofs.Runs.{log_of-other, log_of-own}
 use Rattle.sig_core.specs.declared.outs.Outgoing.{Outgoing}
+use Rattle.sig_core.specs.declared.place.Part.{Part}
+use Rattle.sig_core.specs.declared.place.Part.TheVariants as part
 use Rattle.sig_core.specs.declared.reply.ApiReply.{ApiReply}
 use Rattle.sig_core.specs.declared.signal.Body.{Body}
 use Rattle.sig_core.specs.declared.signal.Body.TheVariants.{Client, Chain}
@@ -14,35 +17,32 @@ use Rattle.sig_core.specs.declared.signal.chain.ChainSignal.TheVariants.{LqhKeyR
 use Rattle.sig_core.specs.declared.signal.client.ClientSignal.TheVariants.{TcRollbackRep}
 use Rattle.sig_core.specs.declared.signal.Signal.{Signal}
 use Rattle.sig_core.specs.Step.{Step}
+use Rattle.frag_map.specs.Layout.{first_layout}
 use Rattle.api_block.specs.State.{ApiState}
+use Rattle.lqh_block.specs.Lqh.{lqh_table}
+use Rattle.node_core.proofs.HostCases.{IsApiStep, IsTcStep, api_step, each_send, tc_step}
+use Rattle.node_core.specs.Blocks.{api_of, dih_of, lqh_of, tc_of}
+use Rattle.node_core.specs.declared.host.Host.{Host}
 use Rattle.node_core.specs.Dih.{dih_table}
+use Rattle.node_core.specs.Fresh.{fresh_part, fresh_shell}
 use Rattle.node_core.specs.Requests.{is_request}
+use Rattle.node_core.specs.Row.{row}
+use Rattle.tc_block.specs.State.{TcState}
+use Rattle.tc_block.specs.Tc.{tc_row}
 use Rattle.world_core.proofs.Stamped.{stamped}
+use Rattle.world_core.specs.Hosts.{Membership, first_membership, hosts, member_at, part_by, receiver, started}
+use Rattle.world_core.specs.Machine.{after, all_addressed, counted, machine, sent_count, signals_of, step_after}
+use Rattle.world_core.specs.Start.{Start, made}
+use Rattle.world_core.specs.Steps.{Addressed, HostStep}
+use Rattle.answer_laws.proofs.ApiMoves.{is_api_kind}
 use Rattle.answer_laws.proofs.DihSends.{dih_kinds}
 use Rattle.answer_laws.proofs.SendKinds.{are_of, each_of, is_dih_kind, of_kind}
+use Rattle.transit_laws.proofs.WaysPassed.{api_each}
+use Rattle.command_laws.proofs.HostKinds.{replies_are}
 use Rattle.command_laws.proofs.LivingReplies.{AllLiving, api_lives}
 use Rattle.command_laws.proofs.LivingRows.{lqh_sound}
 use Rattle.command_laws.proofs.LivingTurns.{AllLive, is_sound, tc_lives}
 use Rattle.command_laws.specs.Living.{RepliesAreOfTheLiving, is_of_living}
-use Rattle.std.specs.Prelude.{◌%◌}
-use Rattle.command_laws.proofs.HostKinds.{replies_are}
-use Rattle.tc_block.specs.State.{TcState}
-use Rattle.tc_block.specs.Tc.{tc_row}
-use Rattle.answer_laws.proofs.ApiMoves.{is_api_kind}
-use Rattle.transit_laws.proofs.WaysPassed.{api_each}
-use Rattle.sig_core.specs.declared.place.Part.TheVariants as part
-use Rattle.sig_core.specs.declared.place.Part.{Part}
-use Rattle.frag_map.specs.Layout.{first_layout}
-use Rattle.world_core.specs.Start.{Start, made}
-use Rattle.world_core.specs.Steps.{Addressed, HostStep}
-use Rattle.world_core.specs.Machine.{after, all_addressed, counted, machine, sent_count, signals_of, step_after}
-use Rattle.world_core.specs.Hosts.{Membership, first_membership, hosts, member_at, part_by, receiver, started}
-use Rattle.node_core.proofs.HostCases.{IsApiStep, IsTcStep, api_step, each_send, tc_step}
-use Rattle.node_core.specs.Fresh.{fresh_part, fresh_shell}
-use Rattle.node_core.specs.Row.{row}
-use Rattle.node_core.specs.Blocks.{api_of, dih_of, lqh_of, tc_of}
-use Rattle.node_core.specs.declared.host.Host.{Host}
-use Rattle.lqh_block.specs.Lqh.{lqh_table}
 
 -- a request of the shell gives no cause
 request_sound : (body : Body) → is_request body ≡ true → is_sound body ≡ true

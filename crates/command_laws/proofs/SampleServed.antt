@@ -2,6 +2,10 @@
 use Rattle.std.proofs.Common.{◌≡◌, ℕ, zero, suc, ◌≤◌, [], ◌∷◌, false, refl, sym, ap, inl, arith}
 use Rattle.std.proofs.lemmas.Bool.Decides.{nat_tests}
 use Rattle.std.specs.Prelude.{◌==◌, Some}
+use Rattle.run_theory.specs.Cuts.{IsCut}
+use Rattle.run_theory.specs.Links.{sent, taken}
+use Rattle.run_theory.specs.Logs.{IsLog}
+use Rattle.sig_core.specs.declared.request.ApiReq.TheVariants.{Begin, Commit}
 use Rattle.api_block.specs.Api.{request_row}
 use Rattle.api_block.specs.Commands as api
 use Rattle.api_block.specs.Members.{everyone}
@@ -9,23 +13,19 @@ use Rattle.api_block.specs.Operate.{begun_row}
 use Rattle.api_block.specs.Outcome.{commit_report_row}
 use Rattle.lqh_block.specs.Wait.{acknowledged}
 use Rattle.node_core.specs.Dih as dih
-use Rattle.run_theory.specs.Cuts.{IsCut}
-use Rattle.run_theory.specs.Links.{sent, taken}
-use Rattle.run_theory.specs.Logs.{IsLog}
-use Rattle.sig_core.specs.declared.request.ApiReq.TheVariants.{Begin, Commit}
+use Rattle.node_core.specs.Fresh.{fresh_part, fresh_shell}
+use Rattle.node_core.specs.Row.{ldm_row, row, shell_row, tc_part_row}
 use Rattle.tc_block.specs.Commit as tc_commit
 use Rattle.tc_block.specs.Complete.{all_committed}
 use Rattle.tc_block.specs.Live.{without}
 use Rattle.tc_block.specs.Tc as tc
+use Rattle.world_core.specs.Hosts.{receiver, started}
 use Rattle.world_core.specs.Machine.{machine}
 use Rattle.answer_laws.proofs.SampleQuiet.{sample_quiet}
 use Rattle.answer_laws.specs.Answered.{AreQuiet}
 use Rattle.answer_laws.specs.Sample.{lone, sample}
 use Rattle.command_laws.specs.Sample.{SampleIsServed, committed}
 use Rattle.command_laws.specs.Served.{named_in}
-use Rattle.world_core.specs.Hosts.{receiver, started}
-use Rattle.node_core.specs.Row.{ldm_row, row, shell_row, tc_part_row}
-use Rattle.node_core.specs.Fresh.{fresh_part, fresh_shell}
 
 local : (h : ℕ) → IsLog (machine lone) h (committed h)
 unfolding receiver started row shell_row request_row api.begin_row api.commit_row begun_row commit_report_row everyone tc_part_row ldm_row tc.begin_row fresh_shell fresh_part tc_commit.decide_row tc_commit.commit_row all_committed without dih.decide_row dih.end_row acknowledged

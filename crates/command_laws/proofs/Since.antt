@@ -1,27 +1,27 @@
 -- What was taken since a quiet moment was sent since.
 use Rattle.std.proofs.Common.{◌≡◌, ◌⊎◌, ◌<◌, ◌≤◌, ◌+◌, ℕ, Bool, true, false, List, [], ◌∷◌, ◌++◌, refl, sym, ap, ◌∙◌, inl, inr, arith}
-use Rattle.std.specs.Prelude.{◌==◌, ◌&&◌, not}
+use Rattle.std.proofs.lemmas.Bool.{cases_lt}
 use Rattle.std.proofs.lemmas.Bool.Decides.{nat_tests}
+use Rattle.std.specs.Prelude.{◌==◌, ◌&&◌, not}
+use Rattle.run_theory.proofs.Pasts.{each_from, each_in}
 use Rattle.run_theory.specs.Cuts.{IsCut}
 use Rattle.run_theory.specs.Links.{is_from, sent, taken}
 use Rattle.run_theory.specs.Lists.{Each, IsIn}
-use Rattle.run_theory.proofs.Pasts.{each_from, each_in}
-use Rattle.std.proofs.lemmas.Bool.{cases_lt}
 use Rattle.sig_core.specs.declared.outs.Outgoing.{Outgoing}
 use Rattle.sig_core.specs.declared.place.Place.{Place}
 use Rattle.sig_core.specs.declared.signal.Body.{Body}
 use Rattle.node_core.specs.Requests.{is_request}
+use Rattle.world_core.proofs.HostNumbers.{given_past}
+use Rattle.world_core.specs.Hosts.{host_for, hosts}
 use Rattle.world_core.specs.Machine.{machine, step_after}
 use Rattle.world_core.specs.Start.{Start}
-use Rattle.world_core.proofs.HostNumbers.{given_past}
+use Rattle.world_core.specs.Steps.{Addressed, HostStep}
 use Rattle.commit_laws.proofs.Tally.{tally_past}
 use Rattle.commit_laws.specs.Counts.{one_if, tally}
+use Rattle.answer_laws.proofs.LinkCounts.{sent_signals, signals, taken_signals, to_host}
 use Rattle.answer_laws.proofs.Wishes.{sends_of}
 use Rattle.answer_laws.specs.Answered.{AreQuiet}
 use Rattle.transit_laws.proofs.Weighing.{none_passes}
-use Rattle.answer_laws.proofs.LinkCounts.{sent_signals, signals, taken_signals, to_host}
-use Rattle.world_core.specs.Steps.{Addressed, HostStep}
-use Rattle.world_core.specs.Hosts.{host_for, hosts}
 
 module _ (start : Start) (test : Place → Body → Bool) where
   -- how many signals that pass the test the newer steps of host h sent, behind its log

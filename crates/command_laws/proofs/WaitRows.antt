@@ -5,6 +5,9 @@ use Rattle.std.specs.Map.{keys_of, values_of}
 use Rattle.std.specs.Prelude.{◌==◌, ◌&&◌, Option, None, Some, if◌then◌else◌, is_some, map, nat_eq, not, position, slice_get}
 use Rattle.indexmap.specs.IndexMap.{set_value_at}
 use Rattle.run_theory.specs.Lists.{IsIn}
+use Rattle.sig_core.proofs.Firsts.{place_by, position-cons}
+use Rattle.sig_core.proofs.Keys.{same_key-self, same_tx-self}
+use Rattle.sig_core.proofs.TxLemmas.{same_tx-swap}
 use Rattle.sig_core.specs.declared.member.Member.{Member}
 use Rattle.sig_core.specs.declared.member.TxId.{TxId}
 use Rattle.sig_core.specs.declared.outs.Outgoing.{Outgoing}
@@ -14,15 +17,22 @@ use Rattle.sig_core.specs.declared.place.Place.{Place}
 use Rattle.sig_core.specs.declared.signal.Body.{Body}
 use Rattle.sig_core.specs.declared.signal.Body.TheVariants.{Client}
 use Rattle.sig_core.specs.declared.signal.client.ClientSignal.TheVariants.{LqhWaitConf, LqhWaitReq, TcWaitConf, TcWaitReq}
+use Rattle.sig_core.specs.declared.signal.Signal.{Signal}
 use Rattle.sig_core.specs.Op.{key_of}
+use Rattle.sig_core.specs.Place.{client}
 use Rattle.sig_core.specs.Same.{same_key, same_tx}
 use Rattle.sig_core.specs.Step.{Effects, Step}
-use Rattle.sig_core.proofs.TxLemmas.{same_tx-swap}
 use Rattle.row_locks.specs.Tables.{ahead_at}
 use Rattle.lqh_block.specs.Lqh.{lqh_table}
 use Rattle.lqh_block.specs.State.{LqhState}
 use Rattle.lqh_block.specs.Wait as lqh
+use Rattle.node_core.proofs.HostCases.{BlockCase, HostCase, api_takes, block_case, dih_takes, host_case, none_takes, of_api, of_dih, of_none, of_rows, of_tc, rows_take, runs, tc_takes}
+use Rattle.node_core.specs.Blocks.{has_api, has_lqh, lqh_of, tc_of}
+use Rattle.node_core.specs.declared.host.Host.{Host}
+use Rattle.node_core.specs.declared.host.Host.TheVariants.{Ldm, Tc}
 use Rattle.node_core.specs.Dih.{DihState, dih_table}
+use Rattle.node_core.specs.Row.{row}
+use Rattle.tc_block.proofs.LiveSplit.{split_at}
 use Rattle.tc_block.specs.declared.phase.Asked.{Asked}
 use Rattle.tc_block.specs.declared.transaction.Transaction.{Transaction}
 use Rattle.tc_block.specs.Live.{place_in, step_of, step_place, step_value, stepped}
@@ -30,32 +40,21 @@ use Rattle.tc_block.specs.Operate.{wait_by, wait_row}
 use Rattle.tc_block.specs.Sends.{wait_of, waits_of}
 use Rattle.tc_block.specs.State.{TcState, with_live}
 use Rattle.tc_block.specs.Tc.{pass_if, pass_row, tc_table, tc_row}
+use Rattle.world_core.proofs.HostNumbers.{client_host}
+use Rattle.world_core.specs.Hosts.{home, host_for, rows_host}
+use Rattle.world_core.specs.Start.{Start}
+use Rattle.commit_laws.proofs.Tally.{tally_in}
+use Rattle.commit_laws.specs.Counts.{one_if}
+use Rattle.answer_laws.proofs.HostSteps.{no_live}
+use Rattle.answer_laws.proofs.LinkCounts.{to_host}
 use Rattle.answer_laws.proofs.LqhOps.{is_lqh, true_and}
 use Rattle.answer_laws.proofs.SendKinds.{are_of, none_of, of_map, one_kind}
-use Rattle.commit_laws.proofs.Tally.{tally_in}
-use Rattle.commit_laws.specs.Counts.{one_if, tally}
-use Rattle.answer_laws.proofs.TcLives.{is_keyed}
 use Rattle.answer_laws.proofs.TcMoves.{same_tx-is}
 use Rattle.answer_laws.proofs.TcSends.{eqb-self}
 use Rattle.answer_laws.proofs.Wishes.{is_api, is_tc, sends_of}
-use Rattle.sig_core.proofs.Firsts.{place_by, position-cons}
-use Rattle.sig_core.proofs.Keys.{same_key-self, same_tx-self}
-use Rattle.tc_block.proofs.LiveSplit.{split_at}
 use Rattle.transit_laws.specs.Live.{of_live}
-use Rattle.command_laws.proofs.HostSteps.{tc_host}
 use Rattle.command_laws.proofs.HostKinds.{no_rows, runs_rows}
-use Rattle.answer_laws.proofs.LinkCounts.{to_host}
-use Rattle.world_core.specs.Start.{Start}
-use Rattle.world_core.specs.Hosts.{home, host_for, rows_host}
-use Rattle.sig_core.specs.Place.{client}
-use Rattle.sig_core.specs.declared.signal.Signal.{Signal}
-use Rattle.node_core.proofs.HostCases.{BlockCase, HostCase, api_takes, block_case, dih_takes, host_case, none_takes, of_api, of_dih, of_none, of_rows, of_tc, rows_take, runs, tc_takes}
-use Rattle.node_core.specs.Row.{row}
-use Rattle.node_core.specs.Blocks.{has_api, has_lqh, lqh_of, tc_of}
-use Rattle.node_core.specs.declared.host.Host.TheVariants.{Ldm, Tc}
-use Rattle.node_core.specs.declared.host.Host.{Host}
-use Rattle.world_core.proofs.HostNumbers.{client_host}
-use Rattle.answer_laws.proofs.HostSteps.{no_live}
+use Rattle.command_laws.proofs.HostSteps.{tc_host}
 
 -- a question of what the transaction waits for, or an answer to one
 abbrev pub is_wait_of : TxId → Body → Bool
@@ -147,19 +146,6 @@ placed_at tx (e ∷ live) t is = by (same_tx e.0 tx) refl is (placed_at tx live 
           place = position-cons (same_tx tx) e.0 (keys_of live) ∙ ap (λ b. place_by b (position (same_tx tx) (keys_of live))) (same_tx-swap tx e.0 ∙ differs) ∙ ap (place_by false) r.place;
           get = r.get;
         }
-
-pub in_live : (tx : TxId) (t : Transaction) (live : List (TxId × Transaction)) → IsIn (tx, t) live → tally (is_keyed tx) live ≤ 1 → of_live tx live ≡ Some t
-in_live tx t [] i few = absurd i
-in_live tx t (e ∷ live) (inl same) few =
-    ap (λ (x : TxId × Transaction). if same_tx x.0 tx then Some x.1 else of_live tx live) (sym same) ∙ ap (λ b. if b then Some t else of_live tx live) (same_tx-self tx)
-in_live tx t (e ∷ live) (inr i) few = by (same_tx e.0 tx) refl (in_live tx t live i)
-  where
-    some : 1 ≤ tally (is_keyed tx) live
-    some = tally_in (is_keyed tx) (tx, t) live i (same_tx-self tx)
-
-    by : (b : Bool) → same_tx e.0 tx ≡ b → (tally (is_keyed tx) live ≤ 1 → of_live tx live ≡ Some t) → (if b then Some e.1 else of_live tx live) ≡ Some t
-    by true same rest = absurd (omega (arith, few, some, ap one_if same))
-    by false differs rest = rest (omega (arith, few))
 
 -- the coordinator at these signals
 module _ (start : Start) (tx : TxId) where

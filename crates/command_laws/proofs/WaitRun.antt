@@ -2,14 +2,13 @@
 use Rattle.std.proofs.Common.{◌≡◌, ◌≢◌, ◌⊎◌, ◌<◌, ◌≤◌, ℕ, zero, suc, Bool, true, false, List, [], ◌∷◌, ◌++◌, length, refl, sym, ap, ◌∙◌, subst, inl, inr, append_assoc, length-append, arith}
 use Rattle.std.proofs.lemmas.Bool.{cases_eq, cases_lt}
 use Rattle.std.specs.Prelude.{Option, None, Some, not, option_to_list}
+use Rattle.run_theory.proofs.Cuts.{taken_past}
+use Rattle.run_theory.proofs.Growth.{along_cuts}
+use Rattle.run_theory.proofs.Runs.{log_of-other, log_of-own, log_of-past}
 use Rattle.run_theory.specs.Cuts.{IsCut}
 use Rattle.run_theory.specs.Links.{sent, taken}
 use Rattle.run_theory.specs.Lists.{Each, IsIn, IsPast}
 use Rattle.run_theory.specs.Runs.{AreLogs, Happens, IsWithin, Run, log_of}
-use Rattle.run_theory.proofs.Cuts.{taken_past}
-use Rattle.run_theory.proofs.Growth.{along_cuts}
-use Rattle.run_theory.proofs.Runs.{log_of-other, log_of-own, log_of-past}
-use Rattle.world_core.specs.Steps.{Addressed, HostStep}
 use Rattle.sig_core.specs.declared.member.Member.{Member}
 use Rattle.sig_core.specs.declared.member.TxId.{TxId}
 use Rattle.sig_core.specs.declared.signal.Body.{Body}
@@ -19,18 +18,20 @@ use Rattle.sig_core.specs.declared.signal.host.Work.TheVariants.{Request}
 use Rattle.sig_core.specs.Op.{key_of}
 use Rattle.api_block.specs.declared.opened.OpenTransaction.{OpenTransaction}
 use Rattle.api_block.specs.Opened.{has_tx}
+use Rattle.node_core.specs.Blocks.{api_of}
 use Rattle.node_core.specs.Requests.{is_request}
 use Rattle.tc_block.specs.declared.phase.Asked.{Asked}
 use Rattle.tc_block.specs.declared.transaction.Transaction.{Transaction}
+use Rattle.world_core.proofs.HostNumbers.{given_past}
 use Rattle.world_core.proofs.Stamped.{stamped}
 use Rattle.world_core.specs.Hosts.{first_membership, home, hosts, rows_host}
 use Rattle.world_core.specs.Machine.{IsAsked, after, machine, step_after}
 use Rattle.world_core.specs.Requests.{request_in, requests}
 use Rattle.world_core.specs.Start.{Start}
-use Rattle.world_core.proofs.HostNumbers.{given_past}
-use Rattle.answer_laws.proofs.LinkCounts.{sent_signals, signals}
+use Rattle.world_core.specs.Steps.{Addressed, HostStep}
 use Rattle.commit_laws.proofs.Tally.{tally_past}
 use Rattle.commit_laws.specs.Counts.{one_if, tally}
+use Rattle.answer_laws.proofs.LinkCounts.{sent_signals, signals}
 use Rattle.answer_laws.proofs.Wishes.{sends_of}
 use Rattle.answer_laws.specs.Answered.{AreQuiet}
 use Rattle.transit_laws.specs.Live.{of_live}
@@ -41,7 +42,6 @@ use Rattle.command_laws.proofs.WaitApi.{IsAboutOne}
 use Rattle.command_laws.proofs.WaitHosts.{NodeHolds, ShellHolds, node_next, node_none, shell_next, shell_none}
 use Rattle.command_laws.proofs.WaitRows.{is_other, is_wait_of}
 use Rattle.command_laws.specs.Served.{IsHeldUpAt}
-use Rattle.node_core.specs.Blocks.{api_of}
 
 is_asked_in : (body : Body) → is_request body ≡ true → length (option_to_list (request_in body)) ≡ 1
 is_asked_in (Host (Continue (Request request) at)) e = refl

@@ -7,6 +7,7 @@ pub mod MemberLemmas
 pub mod MoveRight
 pub mod QuietLemmas
 pub mod Replies
+pub mod ScheduleLemmas
 pub mod SentFacts
 pub mod Stamped
 pub mod StepDriven

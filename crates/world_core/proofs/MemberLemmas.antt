@@ -14,7 +14,7 @@ member_behind made (suc h) some =
     let same : suc h - 1 ≡ h = omega arith in
     ap (λ k. slice_index_or made (k / 3) nobody) (sym same)
 
-abbrev is_node : ℕ → Member → Bool
+abbrev pub is_node : ℕ → Member → Bool
 is_node node member = member.node == node
 
 -- the first of two lists' members is one of the first list, where that has one

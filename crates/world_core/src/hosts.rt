@@ -3,7 +3,7 @@ ghost use Rattle.std.specs.Prelude.{◌≡◌, ◌==◌, ◌≤◌, ◌+◌, ◌
 ghost use Rattle.sig_core.specs.declared.member.Member.{Member};
 ghost use Rattle.frag_map.specs.Layout.{first_view, members};
 ghost use Rattle.frag_map.specs.Replicas.{is_member};
-ghost use Rattle.world_core.specs.Hosts.{host_at, host_by, member_of, number_of, part_by};
+ghost use Rattle.world_core.specs.Hosts.{host_by, host_of, member_of, number_of, part_by};
 
 use frag_map::first_view;
 use sig_core::{Member, NoMemory, Part, Place, View, part_of};
@@ -87,17 +87,16 @@ impl Membership {
         ensures { result ≡ host_by self.now.made part member }
     {
         match member {
-            Some(member) => self.host_at(part, self.place_of(member)),
+            Some(member) => self.host_of(part, member),
             None => self.behind(),
         }
     }
 
-    // The host of a part of the member at this place, or of none.
-    fn host_at(&self, part: Part, place: Option<usize>) -> u32
-        requires { IfSome place (λ at. at < length self.now.made) }
-        ensures { result ≡ host_at (length self.now.made * 3 + 1) part place }
+    // The host of a part of a member.
+    fn host_of(&self, part: Part, member: Member) -> u32
+        ensures { result ≡ host_of self.now.made part member }
     {
-        match place {
+        match self.place_of(member) {
             Some(at) => at as u32 * PARTS + number_of(part),
             None => self.behind(),
         }
@@ -113,7 +112,7 @@ impl Membership {
     // The place of a member among those that were made.
     fn place_of(&self, member: Member) -> Option<usize>
         ensures value { result ≡ position (is_member member) self.now.made }
-        ensures inside { IfSome result (λ at. at < length self.now.made) }
+        ensures few { IfSome result (λ at. at * 3 + 3 < 2 ^ 32) }
     {
         self.made.iter().position(|other| is_same(member, *other))
     }

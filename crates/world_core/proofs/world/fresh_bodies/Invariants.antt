@@ -7,7 +7,7 @@ use Rattle.world_core.proofs.world.fresh_bodies.Given as goal
 -- the shell's host and those behind it before the next one, and room for the others
 abbrev pub invariant-loop-before : goal.invariant-loop-before
 invariant-loop-before l = record {
-  done : l.bodies.items ≡ for_each (l.before + 1) (started (record { shape = l.shape; epoch = l.epoch; rows = l.rows }));
+  done : l.bodies.items ≡ for_each (l.before + 1) (started (record { shape = l.fn.shape; epoch = l.epoch; rows = l.rows }));
   count : length l.bodies.items ≡ l.before + 1;
   room : l.behind + 1 ≤ vec_capacity l.bodies;
 }
