@@ -44,12 +44,12 @@ use Rattle.transit_laws.specs.Routes.{IsRequestRouted, IsRouted}
 use Rattle.transit_laws.specs.Tokens.{is_token}
 use Rattle.transit_laws.specs.Transit.{AreInTransit, Comes, Takes, host_after, joined, logs_of}
 use Rattle.transit_laws.proofs.Addressed.{comes_addressed, comes_below, for_tc, rows_addressed, tc_addressed}
-use Rattle.transit_laws.proofs.Bystanders.{IsBystander, IsForHome, IsRequest, api_still, bystander, dih_still, event_missed, event_off, event_rows, token_other, token_place}
+use Rattle.transit_laws.proofs.Bystanders.{IsBystander, IsForHome, IsRequest, bystander, token_other, token_place}
 use Rattle.transit_laws.proofs.CircleKept.{IsGoing, rests_going}
-use Rattle.transit_laws.proofs.Circles.{IsCircling, IsPristine, IsUnborn, pristine_as}
+use Rattle.transit_laws.proofs.Circles.{IsCircling, IsPristine, pristine_as}
 use Rattle.transit_laws.proofs.CircleView.{View}
 use Rattle.transit_laws.proofs.GivenUp.{aborts_are_of_given_up, commits_are_of_carried_out, completions_are_of_carried_out}
-use Rattle.transit_laws.proofs.HomeSteps.{IsHome, all_home, away, away_absent, here_now, here_was, unborn_absent}
+use Rattle.transit_laws.proofs.HomeSteps.{IsHome, IsUnborn, all_home, away, away_absent, here_now, here_was, unborn_absent}
 use Rattle.transit_laws.proofs.HostSteps.{none_of, runs_rows}
 use Rattle.transit_laws.proofs.KeyMoves.{IsLike, before_here, event_here, expired_as, host_of, others_like, view_before, view_now}
 use Rattle.transit_laws.proofs.KeySends.{is_abort, lqh_tokens}
@@ -60,12 +60,13 @@ use Rattle.transit_laws.proofs.OnlyToken.{NoneAtAll, none_live}
 use Rattle.transit_laws.proofs.OthersStay.{event_of, is_of}
 use Rattle.transit_laws.proofs.RoutedEvents.{coming_are_routed, placed, placed_runs}
 use Rattle.transit_laws.proofs.Routes.{signals_are_routed}
+use Rattle.transit_laws.proofs.RowsEvents.{event_missed, event_off, event_rows}
 use Rattle.transit_laws.proofs.RowsNodes.{rows_node}
 use Rattle.transit_laws.proofs.TcCircle.{Going, is_early}
 use Rattle.transit_laws.proofs.TcGoing.{begin_goes, rest_goes, row_goes}
 use Rattle.transit_laws.proofs.TcSees.{Seen, Sees, no_tokens, tc_sees}
 use Rattle.transit_laws.proofs.TcSees as sees
-use Rattle.transit_laws.proofs.TcStill.{AreStill}
+use Rattle.transit_laws.proofs.TcStill.{AreStill, api_still, dih_still}
 use Rattle.transit_laws.proofs.TransitLists.{counts}
 use Rattle.transit_laws.proofs.Weighing.{each_taken}
 
