@@ -3,61 +3,24 @@ use Rattle.std.proofs.Common.{◌≡◌, ◌⊎◌, inl, inr, ℕ, ◌≤◌, Bo
 use Rattle.std.proofs.lemmas.Bool.{and_parts, eqb-true}
 use Rattle.std.specs.Prelude.{if◌then◌else◌, nat_eq, None, Some}
 use Rattle.sig_core.specs.declared.member.TxId.{TxId}
-use Rattle.sig_core.specs.declared.outs.Outgoing.{Outgoing}
 use Rattle.sig_core.specs.declared.place.BlockId.{BlockId}
 use Rattle.sig_core.specs.declared.place.BlockId.TheVariants as block
 use Rattle.sig_core.specs.declared.place.Place.{Place}
 use Rattle.sig_core.specs.declared.signal.Body.{Body}
 use Rattle.sig_core.specs.declared.signal.Body.TheVariants.{Chain}
 use Rattle.sig_core.specs.declared.signal.chain.ChainSignal.TheVariants.{LqhKeyReq, LqhKeyConf, LqhKeyRef}
-use Rattle.sig_core.specs.declared.signal.Signal.{Signal}
 use Rattle.sig_core.specs.Same.{same_key, same_tx}
 use Rattle.sig_core.specs.Step.{Effects, Step}
 use Rattle.sig_core.proofs.TxLemmas.{same_tx-is}
-use Rattle.api_block.specs.Api.{api_table}
-use Rattle.api_block.specs.State.{ApiState}
 use Rattle.lqh_block.specs.declared.request.Request.{Request}
 use Rattle.lqh_block.specs.Work.{work_key}
-use Rattle.node_core.proofs.HostCases.{runs}
 use Rattle.node_core.specs.declared.host.Host.{Host}
-use Rattle.node_core.specs.declared.host.Host.TheVariants.{Tc, Ldm}
-use Rattle.node_core.specs.Blocks.{has_lqh, lqh_of, tc_of}
-use Rattle.node_core.specs.Dih.{DihState, dih_table}
+use Rattle.node_core.specs.Blocks.{tc_of}
 use Rattle.tc_block.specs.State.{TcState}
-use Rattle.key_laws.specs.Replica.{event_at, rests}
-use Rattle.host_laws.specs.ReplicaLaws.{event_for, event_in}
-use Rattle.host_laws.proofs.ApiMoves.{is_api_kind}
-use Rattle.host_laws.proofs.DihSends.{dih_kinds}
-use Rattle.host_laws.proofs.SendKinds.{each_of, is_dih_kind}
 use Rattle.run_laws.specs.Live.{of_host, of_live}
-use Rattle.run_laws.specs.Tokens.{is_token}
-use Rattle.run_laws.proofs.Circles.{IsUnborn}
+use Rattle.run_laws.proofs.HomeSteps.{IsUnborn}
 use Rattle.run_laws.proofs.KeyTokens.{Token, answers, is_home, is_rows, is_tc, performs, refuses, some_if, token_of}
 use Rattle.run_laws.proofs.TcStill.{AreStill}
-use Rattle.run_laws.proofs.WaysPassed.{api_each}
-
--- the events of a key
-pub event_rows : (key : List ℕ) (s : Host) (x : Signal) → has_lqh s ≡ true → x.to.block ≡ block.Lqh
-    → event_in key s x ≡ event_at key (lqh_of s) x.body
-event_rows key (Ldm l) x runs at = ap (λ b. event_for key l b x.body) at
-event_rows key _ x runs at = absurd cc
-
--- what is for another block is none, nor is what the host doesn't run
-pub event_off : (key : List ℕ) (s : Host) (x : Signal) → is_rows x.to.block ≡ false → event_in key s x ≡ rests
-event_off key (Ldm l) x off = by x.to.block off
-  where
-    by : (b : BlockId) → is_rows b ≡ false → event_for key l b x.body ≡ rests
-    by block.Lqh off = absurd cc
-    by _ off = refl
-event_off key _ x off = refl
-
-pub event_missed : (key : List ℕ) (s : Host) (x : Signal) → runs s x.to.block ≡ false → event_in key s x ≡ rests
-event_missed key (Ldm l) x off = by x.to.block off
-  where
-    by : (b : BlockId) → runs (Ldm l) b ≡ false → event_for key l b x.body ≡ rests
-    by block.Lqh off = absurd cc
-    by _ off = refl
-event_missed key _ x off = refl
 
 -- what neither the rows nor the coordinator take
 pub record IsBystander (tx : TxId) (s : Host) (t : Step Host) : Type 0 where
@@ -72,24 +35,6 @@ bystander tx s t f same is still = record {
   unborn = λ early. subst (λ (c : TcState). c.next_seq ≤ tx.seq) same early;
   sends = subst (λ (f : Effects). AreStill tx f.sends) (sym is) still;
 }
-
-dih_plain : (tx : TxId) (body : Body) → is_dih_kind body ≡ true → is_token tx body ≡ false
-dih_plain tx (Chain c) is = cc
-dih_plain tx _ is = refl
-
-api_plain : (tx : TxId) (body : Body) → is_api_kind body ≡ true → is_token tx body ≡ false
-api_plain tx (Chain c) is = cc
-api_plain tx _ is = refl
-
--- the API and the block of epochs send none
-pub api_still : (tx : TxId) (s : ApiState) (body : Body) → AreStill tx (api_table s body).effects.sends
-api_still tx s body =
-    api_each (λ (o : Outgoing). is_token tx o.body ≡ false) (λ o. api_plain tx o.body) (λ name at. refl) s body
-
-pub dih_still : (tx : TxId) (s : DihState) (body : Body) → AreStill tx (dih_table s body).effects.sends
-dih_still tx s body =
-    each_of is_dih_kind (λ (o : Outgoing). is_token tx o.body ≡ false) (λ o. dih_plain tx o.body)
-    (dih_table s body).effects.sends (dih_kinds s body)
 
 -- at another block no part of an operation is taken
 pub token_other : (tx : TxId) (key : List ℕ) (to : Place) (body : Body) → is_rows to.block ≡ false

@@ -5,7 +5,6 @@ use Rattle.std.specs.Prelude.{Option, None, Some}
 use Rattle.run_theory.specs.Lists.{Each}
 use Rattle.sig_core.specs.declared.member.TxId.{TxId}
 use Rattle.sig_core.specs.declared.outs.Outgoing.{Outgoing}
-use Rattle.sig_core.specs.declared.place.BlockId.TheVariants as block
 use Rattle.sig_core.specs.declared.signal.Body.{Body}
 use Rattle.sig_core.specs.declared.signal.Body.TheVariants.{Chain}
 use Rattle.sig_core.specs.declared.signal.chain.ChainSignal.TheVariants.{LqhKeyReq, Abort}
@@ -45,12 +44,12 @@ use Rattle.run_laws.specs.Routes.{IsRequestRouted, IsRouted}
 use Rattle.run_laws.specs.Tokens.{is_token}
 use Rattle.run_laws.specs.Transit.{AreInTransit, Comes, Takes, host_after, joined, logs_of}
 use Rattle.run_laws.proofs.Addressed.{comes_addressed, comes_below, for_tc, rows_addressed, tc_addressed}
-use Rattle.run_laws.proofs.Bystanders.{IsBystander, IsForHome, IsRequest, api_still, bystander, dih_still, event_missed, event_off, event_rows, token_other, token_place}
+use Rattle.run_laws.proofs.Bystanders.{IsBystander, IsForHome, IsRequest, bystander, token_other, token_place}
 use Rattle.run_laws.proofs.CircleKept.{IsGoing, rests_going}
-use Rattle.run_laws.proofs.Circles.{IsCircling, IsPristine, IsUnborn, pristine_as}
+use Rattle.run_laws.proofs.Circles.{IsCircling, IsPristine, pristine_as}
 use Rattle.run_laws.proofs.CircleView.{View}
 use Rattle.run_laws.proofs.GivenUp.{aborts_are_of_given_up, commits_are_of_carried_out, completions_are_of_carried_out}
-use Rattle.run_laws.proofs.HomeSteps.{IsHome, all_home, away, away_absent, here_now, here_was, unborn_absent}
+use Rattle.run_laws.proofs.HomeSteps.{IsHome, IsUnborn, all_home, away, away_absent, here_now, here_was, unborn_absent}
 use Rattle.run_laws.proofs.HostSteps.{none_of, runs_rows}
 use Rattle.run_laws.proofs.KeyMoves.{IsLike, before_here, event_here, expired_as, host_of, others_like, view_before, view_now}
 use Rattle.run_laws.proofs.KeySends.{is_abort, lqh_tokens}
@@ -61,12 +60,13 @@ use Rattle.run_laws.proofs.OnlyToken.{NoneAtAll, none_live}
 use Rattle.run_laws.proofs.OthersStay.{event_of, is_of}
 use Rattle.run_laws.proofs.RoutedEvents.{coming_are_routed, placed, placed_runs}
 use Rattle.run_laws.proofs.Routes.{signals_are_routed}
+use Rattle.run_laws.proofs.RowsEvents.{event_missed, event_off, event_rows}
 use Rattle.run_laws.proofs.RowsNodes.{rows_node}
 use Rattle.run_laws.proofs.TcCircle.{Going, is_early}
 use Rattle.run_laws.proofs.TcGoing.{begin_goes, rest_goes, row_goes}
 use Rattle.run_laws.proofs.TcSees.{Seen, Sees, no_tokens, tc_sees}
 use Rattle.run_laws.proofs.TcSees as sees
-use Rattle.run_laws.proofs.TcStill.{AreStill}
+use Rattle.run_laws.proofs.TcStill.{AreStill, api_still, dih_still}
 use Rattle.run_laws.proofs.TransitLists.{counts}
 use Rattle.run_laws.proofs.Weighing.{each_taken}
 

@@ -1,11 +1,9 @@
 -- What is true of a transaction, of one key, after a run.
-use Rattle.std.proofs.Common.{◌≡◌, ◌≤◌, ℕ, true, false, List, [], ap, sym, ◌∙◌, subst₂}
+use Rattle.std.proofs.Common.{◌≡◌, ℕ, true, false, List, [], ap, sym, ◌∙◌, subst₂}
 use Rattle.std.specs.Prelude.{is_some, Option, None, Some}
 use Rattle.world_core.specs.Steps.{Addressed, HostStep}
 use Rattle.sig_core.specs.declared.member.TxId.{TxId}
 use Rattle.sig_core.specs.declared.rows.PendingRecord.{PendingRecord}
-use Rattle.node_core.specs.declared.host.Host.{Host}
-use Rattle.node_core.specs.Blocks.{tc_of}
 use Rattle.tc_block.specs.declared.transaction.Transaction.{Transaction}
 use Rattle.world_core.specs.Hosts.{home}
 use Rattle.world_core.specs.Start.{Start}
@@ -15,6 +13,7 @@ use Rattle.run_laws.specs.Routes.{primary_host}
 use Rattle.run_laws.specs.Transit.{host_after, logs_of}
 use Rattle.run_laws.proofs.CircleKept.{IsGoing}
 use Rattle.run_laws.proofs.CircleView.{IsAs, Settles, View}
+use Rattle.run_laws.proofs.HomeSteps.{IsUnborn}
 use Rattle.run_laws.proofs.TcCircle.{is_early}
 use Rattle.run_laws.proofs.ViewOf.{view_of}
 
@@ -39,10 +38,6 @@ pristine_settles start key v p = record {
   where
     agree : (a b : Option PendingRecord) → a ≡ None → b ≡ None → Agree a b
     agree a b is other = subst₂ Agree (sym is) (sym other) tt
-
--- its number isn't given yet by its coordinator
-abbrev pub IsUnborn : TxId → Host → Type 0
-IsUnborn tx host = (tc_of host).next_seq ≤ tx.seq
 
 -- Before it begins nothing is done for it; and while it is open, or waits for its epoch, it goes on.
 pub record IsCircling (start : Start) (tx : TxId) (key : List ℕ) (es : List HostStep) (xs : List Addressed) : Type 0 where

@@ -31,10 +31,14 @@ pub all_home : (start : Start) (tx : TxId) (h : ℕ) (log : List HostStep) → I
 all_home start tx h log =
     let k = keeps start tx h log in record { own = k.keeps.own; once = omega (arith, k.keeps.began, k.keeps.once) }
 
+-- its number isn't given yet by its coordinator
+abbrev pub IsUnborn : TxId → Host → Type 0
+IsUnborn tx host = (tc_of host).next_seq ≤ tx.seq
+
 -- where a transaction isn't there
 module _ (start : Start) (tx : TxId) (h : ℕ) (log : List HostStep) where
   -- its number isn't given yet
-  pub unborn_absent : (tc_of (after start h log)).next_seq ≤ tx.seq → of_host tx (after start h log) ≡ None
+  pub unborn_absent : IsUnborn tx (after start h log) → of_host tx (after start h log) ≡ None
   unborn_absent early =
       let s = tc_of (after start h log) in
       live_none tx s.live (unborn_none tx s.node s.next_seq s.live (all_home start tx h log).own early)

@@ -1,5 +1,5 @@
 -- What a step of a host does to one transaction as to its epoch.
-use Rattle.std.proofs.Common.{◌≡◌, ℕ, ◌≤◌, List, [], Bool, true, false, refl, sym, ap, ◌∙◌, subst, arith}
+use Rattle.std.proofs.Common.{◌≡◌, ◌≤◌, List, [], Bool, true, false, refl, sym, ap, ◌∙◌, subst, arith}
 use Rattle.std.specs.Prelude.{length, nat_lt, Some}
 use Rattle.run_theory.specs.Lists.{Each}
 use Rattle.run_theory.proofs.Pasts.{each_map}
@@ -33,7 +33,7 @@ use Rattle.host_laws.proofs.SendKinds.{each_of, is_lqh_kind}
 use Rattle.host_laws.proofs.ApiMoves.{is_api_kind}
 use Rattle.host_laws.specs.Counts.{one_if}
 use Rattle.run_laws.specs.Live.{of_host, of_live}
-use Rattle.run_laws.proofs.HomeSteps.{IsHome}
+use Rattle.run_laws.proofs.HomeSteps.{IsHome, IsUnborn}
 use Rattle.run_laws.proofs.TcAsks.{AreMute, AskTurn, is_ask, is_mute}
 use Rattle.run_laws.proofs.TcAskTurns as asks
 use Rattle.run_laws.proofs.TcAskTurns.{AskSeen, AskSees, ask, mute_none, tc_ask_sees}
@@ -41,10 +41,6 @@ use Rattle.run_laws.proofs.TcCircle.{GoesOn, left_by}
 use Rattle.run_laws.proofs.TcSaid.{tc_speaks}
 use Rattle.run_laws.proofs.WaysPassed.{api_each}
 use Rattle.run_laws.proofs.Weighing.{in_sends, none_weighs}
-
--- the number of the transaction isn't given yet
-abbrev pub IsUnborn : ℕ → Host → Type 0
-IsUnborn seq host = (tc_of host).next_seq ≤ seq
 
 module _ (tx : TxId) where
   -- an epoch is asked for with these operations, if for this transaction
@@ -103,13 +99,13 @@ module _ (tx : TxId) where
   pub record Leaves (s : Host) (body : Body) (after : Host) (sends : List Outgoing) : Type 0 where
     pub passes : PassesOn body sends
     pub live : of_host tx after ≡ of_host tx s
-    pub unborn : IsUnborn tx.seq after → IsUnborn tx.seq s
+    pub unborn : IsUnborn tx after → IsUnborn tx s
 
   -- or gives it a turn, or begins it
   pub data HostAsks (s : Host) (x : Signal) (after : Host) (sends : List Outgoing) : Type 0 where
     leaves : Leaves s x.body after sends → HostAsks s x after sends
     turned : has_tc s ≡ true → (t : Transaction) (turn : Turn) → of_host tx s ≡ Some t → of_host tx after ≡ left_by turn → sends ≡ turn.step.effects.sends
-        → tc_sends s x ≡ turn.step.effects.sends → (IsUnborn tx.seq after → IsUnborn tx.seq s) → AskTurn tx x.body t turn → GoesOn tx x.body t turn → HostAsks s x after sends
+        → tc_sends s x ≡ turn.step.effects.sends → (IsUnborn tx after → IsUnborn tx s) → AskTurn tx x.body t turn → GoesOn tx x.body t turn → HostAsks s x after sends
     begun : has_tc s ≡ true → next_tx (tc_of s) ≡ tx → of_host tx after ≡ Some fresh → in_sends (ask tx) sends ≡ 0 → HostAsks s x after sends
 
   module _ (s : Host) (x : Signal) where
@@ -130,7 +126,7 @@ module _ (tx : TxId) where
         sent : t.effects.sends ≡ (tc_row (tc_of s) x).effects.sends
         sent = ap (λ (f : Effects). f.sends) step.effects
 
-        unborn : IsUnborn tx.seq t.state → IsUnborn tx.seq s
+        unborn : IsUnborn tx t.state → IsUnborn tx s
         unborn low = omega (arith, low, sees.grows, ap (λ (c : TcState). c.next_seq) step.state)
 
         by : AskSeen tx (tc_of s) x.body (tc_row (tc_of s) x).state (tc_row (tc_of s) x).effects.sends → HostAsks s x t.state t.effects.sends

@@ -42,7 +42,7 @@ use Rattle.run_laws.proofs.EachEntry.{each_filter}
 use Rattle.key_laws.proofs.RecordsAt.{first-found, record_of-first}
 use Rattle.run_laws.specs.Tokens.{is_token, waiting_in}
 use Rattle.run_laws.proofs.RecordsFade.{Fading, IsHarmless, commit_ends, is_committed, is_completed, stays}
-use Rattle.run_laws.proofs.RowsEvents.{EventCase, event_case, no_event, of_rows, rows_event}
+use Rattle.run_laws.proofs.RowsEvents.{EventCase, event_case, event_rows, no_event, of_rows}
 use Rattle.run_laws.proofs.Weighing.{none_passes}
 
 module _ (tx : TxId) where
@@ -183,5 +183,5 @@ module _ (tx : TxId) where
   last_step (Ldm s) x one own key epoch chain at is home same same_own h =
       commit_ends tx one (at == 0) (at_key key s) same
       (subst (λ (ev : Event). HasPrepared tx (key_after ev (at_key key s)).cell.pending)
-      (rows_event key (Ldm s) x refl home ∙ ap (event_at key s) is ∙ ap (λ b. if b then commits one (at == 0) else rests) same_own) h)
+      (event_rows key (Ldm s) x refl home ∙ ap (event_at key s) is ∙ ap (λ b. if b then commits one (at == 0) else rests) same_own) h)
   last_step _ x one own key epoch chain at is home same same_own h = let none : None ≡ Some h.record_is = h.there in cc

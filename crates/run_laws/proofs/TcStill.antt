@@ -25,12 +25,19 @@ use Rattle.tc_block.specs.Operate as operate
 use Rattle.tc_block.specs.Sends.{abort_of, aborts_of, complete_if, front_sends, go_on_row, key_sends, phase_sends}
 use Rattle.tc_block.specs.Turn.{Turn}
 use Rattle.run_theory.proofs.EachSent.{each_flat, each_mapped}
+use Rattle.api_block.specs.Api.{api_table}
+use Rattle.api_block.specs.State.{ApiState}
+use Rattle.node_core.specs.Dih.{DihState, dih_table}
 use Rattle.tc_block.proofs.EachTurn as turns
 use Rattle.tc_block.proofs.EachTurn.{TurnForms}
 use Rattle.tc_block.proofs.LiveKeeps.{TurnKeeps, TurnsKeep, is_chain, turn_keeps}
 use Rattle.host_laws.proofs.Tally.{tally_none}
+use Rattle.host_laws.proofs.ApiMoves.{is_api_kind}
+use Rattle.host_laws.proofs.DihSends.{dih_kinds}
+use Rattle.host_laws.proofs.SendKinds.{each_of, is_dih_kind}
 use Rattle.run_laws.specs.Tokens.{is_token}
 use Rattle.run_laws.proofs.LqhTokens.{tokens_out}
+use Rattle.run_laws.proofs.WaysPassed.{api_each}
 
 -- none of these signals is a part of an operation
 module _ (v : TxId) where
@@ -131,3 +138,21 @@ module _ (v : TxId) where
 
     pub aborted_still : (node : ℕ) (t : Transaction) → AreStill (abort.aborted_row node tx t).step.effects.sends
     aborted_still node t = (turns.aborted node nowhere tx t _ IsStill (commit_req_still tx node nowhere t)).sends
+
+dih_plain : (tx : TxId) (body : Body) → is_dih_kind body ≡ true → is_token tx body ≡ false
+dih_plain tx (Chain c) is = cc
+dih_plain tx _ is = refl
+
+api_plain : (tx : TxId) (body : Body) → is_api_kind body ≡ true → is_token tx body ≡ false
+api_plain tx (Chain c) is = cc
+api_plain tx _ is = refl
+
+-- the API and the block of epochs send none
+pub api_still : (tx : TxId) (s : ApiState) (body : Body) → AreStill tx (api_table s body).effects.sends
+api_still tx s body =
+    api_each (λ (o : Outgoing). is_token tx o.body ≡ false) (λ o. api_plain tx o.body) (λ name at. refl) s body
+
+pub dih_still : (tx : TxId) (s : DihState) (body : Body) → AreStill tx (dih_table s body).effects.sends
+dih_still tx s body =
+    each_of is_dih_kind (λ (o : Outgoing). is_token tx o.body ≡ false) (λ o. dih_plain tx o.body)
+    (dih_table s body).effects.sends (dih_kinds s body)

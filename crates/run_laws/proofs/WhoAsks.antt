@@ -39,8 +39,8 @@ use Rattle.run_laws.specs.GivenUp.{is_given_up}
 use Rattle.run_laws.specs.Live.{live_at, of_host, of_live}
 use Rattle.run_laws.specs.Transit.{AreInTransit, Comes, IsRun, Takes, joined, logs_of}
 use Rattle.run_laws.proofs.HostAsks as asks
-use Rattle.run_laws.proofs.HostAsks.{HostAsks, IsUnborn, Leaves, OpsOf, host_asks, none_ops, zero_ops}
-use Rattle.run_laws.proofs.HomeSteps.{IsHome, all_home, away, here_now, here_was, own_home}
+use Rattle.run_laws.proofs.HostAsks.{HostAsks, Leaves, OpsOf, host_asks, none_ops, zero_ops}
+use Rattle.run_laws.proofs.HomeSteps.{IsHome, IsUnborn, all_home, away, here_now, here_was, own_home}
 use Rattle.run_laws.proofs.LiveAfter.{live_none, strange_none, unborn_none}
 use Rattle.run_laws.proofs.TcAsks.{AreMute, AskTurn, IsAsking, is_ask, is_back, is_conf}
 use Rattle.run_laws.proofs.TcAskTurns.{ask, mute_none}
@@ -108,7 +108,7 @@ module _ (start : Start) (tx : TxId) where
   Allowed (Some t) xs = IsAllowed t xs
 
   record Holds (logs : ℕ → List HostStep) (xs : List Addressed) : Type 0 where
-    unborn : IsUnborn tx.seq (after start (home start tx) (logs (home start tx))) → asking xs ≡ 0
+    unborn : IsUnborn tx (after start (home start tx) (logs (home start tx))) → asking xs ≡ 0
     free : is_given_up start logs tx ≡ false → Allowed (live_at start logs tx) xs
 
   -- fewer signals are allowed too
@@ -180,9 +180,9 @@ module _ (start : Start) (tx : TxId) where
         fewer : asking then_is ≤ asking before
         fewer = omega (arith, taken_weighs, now_weighs, is.passes.few)
 
-        unborn_old : (h ≡ at_home) ⊎ (h ≢ at_home) → IsUnborn tx.seq (after start at_home (now at_home)) → IsUnborn tx.seq (after start at_home (old at_home))
-        unborn_old (inl at) low = subst (IsUnborn tx.seq) (sym (here_was start es e come tx at)) (is.unborn (subst (IsUnborn tx.seq) (here_now start es e come tx at) low))
-        unborn_old (inr off) low = subst (IsUnborn tx.seq) (away start es e come tx off) low
+        unborn_old : (h ≡ at_home) ⊎ (h ≢ at_home) → IsUnborn tx (after start at_home (now at_home)) → IsUnborn tx (after start at_home (old at_home))
+        unborn_old (inl at) low = subst (IsUnborn tx) (sym (here_was start es e come tx at)) (is.unborn (subst (IsUnborn tx) (here_now start es e come tx at) low))
+        unborn_old (inr off) low = subst (IsUnborn tx) (away start es e come tx off) low
 
         live_same : (h ≡ at_home) ⊎ (h ≢ at_home) → live_at start now tx ≡ live_at start old tx
         live_same (inl at) = ap (of_host tx) (here_now start es e come tx at) ∙ (is.live ∙ ap (of_host tx) (sym (here_was start es e come tx at)))
@@ -198,15 +198,15 @@ module _ (start : Start) (tx : TxId) where
         its_home : h ≡ at_home
         its_home = own_home start es e come tx runs (ap (λ (v : TxId). v.tc) (sym next))
 
-        low : IsUnborn tx.seq s
+        low : IsUnborn tx s
         low = omega (arith, ap (λ (v : TxId). v.seq) next)
 
         nothing : asking then_is ≡ 0
-        nothing = omega (arith, taken_weighs, now_weighs, none, held.unborn (subst (IsUnborn tx.seq) (sym (here_was start es e come tx its_home)) low))
+        nothing = omega (arith, taken_weighs, now_weighs, none, held.unborn (subst (IsUnborn tx) (sym (here_was start es e come tx its_home)) low))
 
     -- a turn of it
     module _ (runs : has_tc s ≡ true) (t : Transaction) (turn : Turn) (was : of_host tx s ≡ Some t) (live : of_host tx later ≡ left_by turn) (sent : sends ≡ turn.step.effects.sends)
-        (said : tc_sends s e.step.taken ≡ turn.step.effects.sends) (unborn_was : IsUnborn tx.seq later → IsUnborn tx.seq s)
+        (said : tc_sends s e.step.taken ≡ turn.step.effects.sends) (unborn_was : IsUnborn tx later → IsUnborn tx s)
         (ask_turn : AskTurn tx e.step.taken.body t turn) (goes : GoesOn tx e.step.taken.body t turn) where
       home_is : IsHome tx (tc_of s)
       home_is = all_home start tx h (old h)
@@ -221,7 +221,7 @@ module _ (start : Start) (tx : TxId) where
           by (inl at) = own_home start es e come tx runs at
           by (inr off) = absurd (not_none (live_none tx (tc_of s).live (strange_none tx (tc_of s).node (tc_of s).next_seq (tc_of s).live home_is.own off)))
 
-      born : IsUnborn tx.seq later → ⊥
+      born : IsUnborn tx later → ⊥
       born low = not_none (live_none tx (tc_of s).live (unborn_none tx (tc_of s).node (tc_of s).next_seq (tc_of s).live home_is.own (unborn_was low)))
 
       -- if it isn't given up
@@ -322,7 +322,7 @@ module _ (start : Start) (tx : TxId) where
 
       turned_holds : Holds now then_is
       turned_holds = record {
-        unborn = λ low. absurd (born (subst (IsUnborn tx.seq) (here_now start es e come tx its_home) low));
+        unborn = λ low. absurd (born (subst (IsUnborn tx) (here_now start es e come tx its_home) low));
         free = λ off. subst (λ o. Allowed o then_is) (sym (ap (of_host tx) (here_now start es e come tx its_home) ∙ live)) (allowed_now off);
       }
 

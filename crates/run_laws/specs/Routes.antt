@@ -1,7 +1,7 @@
 -- Signals along chains: where they are sent, and what they ask for there.
 use Rattle.frag_map.specs.Layout.{chain_of, first_layout, holds}
 use Rattle.frag_map.specs.Shape.{IsShape}
-use Rattle.world_core.specs.Hosts.{hosts, rows_host}
+use Rattle.world_core.specs.Hosts.{rows_host}
 use Rattle.node_core.specs.Blocks.{has_tc, lqh_of, tc_of}
 use Rattle.std.specs.Prelude.{◌≡◌, ◌≢◌, ◌<◌, ◌⊎◌, ◌==◌, if◌then◌else◌, ℕ, length, List, Option, None, Some, true, ◌≤◌}
 use Rattle.run_theory.specs.Lists.{Each}
