@@ -73,9 +73,6 @@ module _ (start : Start) (was now : ℕ → List HostStep) (before : AreQuiet st
     holds : IsCut logs now → AllHold logs
 
   module _ (es : List HostStep) (e : HostStep) (happens : Happens (machine start) es e) (inside : IsCut (log_of (machine start) (e ∷ es)) now) (all : AllHold (log_of (machine start) es)) where
-    j : ℕ
-    j = e.host
-
     less : IsCut (log_of (machine start) es) now
     less h = past_trans (log_of-past (machine start) e es h) (inside h)
 

@@ -40,7 +40,7 @@ use Rattle.commit_laws.proofs.Tally.{only_one, tally_append, tally_between, tall
 use Rattle.commit_laws.specs.Counts.{one_if, tally}
 use Rattle.answer_laws.proofs.ApiBegins.{in_middle, same_name-is}
 use Rattle.answer_laws.proofs.Focus.{IsFocus, where_found}
-use Rattle.answer_laws.proofs.LqhOps.{left_of}
+use Rattle.answer_laws.proofs.LqhOps.{left_of, right_of}
 use Rattle.answer_laws.proofs.TcLives.{is_start, start_of}
 use Rattle.answer_laws.proofs.Wishes.{is_api, sends_of}
 use Rattle.answer_laws.specs.Answered.{opened_in}
@@ -111,12 +111,8 @@ module _ (op : Op) where
             same : f.item ≡ has.item
             same = is_that f.item (subst (IsIn f.item) (sym f.is) (in_middle f.front f.item f.back)) (left_of (is_beginning f.item.doing) (same_name f.item.name called) begins_now)
 
-            second_of : (a b : Bool) → (a && b) ≡ true → b ≡ true
-            second_of true b e = e
-            second_of false b e = cc
-
             is_none : called ≡ None
-            is_none = no_name f.item called same (second_of (is_beginning f.item.doing) (same_name f.item.name called) begins_now)
+            is_none = no_name f.item called same (right_of (is_beginning f.item.doing) (same_name f.item.name called) begins_now)
 
             named : f.item.name ≡ None
             named = ap (λ (x : OpenTransaction). x.name) same ∙ has.called
@@ -175,11 +171,7 @@ module _ (op : Op) where
     change_goes body (starts called one at u about passes is goes) = subst (λ b. AloneGoes s b (api_table s b)) (sym about) (begins_there called one)
     change_goes body (refuses called at about passes is replies sends) =
         let same = is_that at.t (is_inside at) (left_of (is_beginning at.t.doing) (same_name at.t.name called) passes) in
-        inr (inr (replies ∙ ap (λ n. s.replies ++ Refused n TooManyOpen ∷ []) (no_name at.t called same (last_of (is_beginning at.t.doing) (same_name at.t.name called) passes))))
-      where
-        last_of : (a b : Bool) → (a && b) ≡ true → b ≡ true
-        last_of true b e = e
-        last_of false b e = cc
+        inr (inr (replies ∙ ap (λ n. s.replies ++ Refused n TooManyOpen ∷ []) (no_name at.t called same (right_of (is_beginning at.t.doing) (same_name at.t.name called) passes))))
 
   -- the step begins the transaction, or refuses it
   record BeginsNow (to : Place) (body : Body) (opened : List OpenTransaction) : Type 0 where

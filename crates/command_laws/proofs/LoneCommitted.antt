@@ -25,17 +25,18 @@ use Rattle.node_core.specs.Replies.{replies_of}
 use Rattle.node_core.specs.Requests.{is_request}
 use Rattle.tc_block.specs.declared.transaction.Transaction.{Transaction}
 use Rattle.tc_block.specs.State.{TcState}
-use Rattle.world_core.proofs.HostNumbers.{addressed_at, beyond_host, host_some}
+use Rattle.world_core.proofs.HostNumbers.{addressed_at}
 use Rattle.world_core.proofs.Replies.{replies_grow}
-use Rattle.world_core.specs.Hosts.{home, host_for, hosts}
+use Rattle.world_core.specs.Hosts.{home, hosts}
 use Rattle.world_core.specs.Machine.{after, machine, step_after}
 use Rattle.world_core.specs.Start.{Start}
 use Rattle.world_core.specs.Steps.{HostStep}
 use Rattle.commit_laws.proofs.Tally.{tally_append, tally_in}
 use Rattle.commit_laws.specs.Counts.{one_if, tally}
 use Rattle.answer_laws.proofs.ApiBegins.{in_middle}
-use Rattle.answer_laws.proofs.LinkCounts.{all_three, signals, steps}
+use Rattle.answer_laws.proofs.LinkCounts.{all_three, signals, steps, at_shell}
 use Rattle.answer_laws.proofs.Lives.{once_started}
+use Rattle.answer_laws.proofs.LqhOps.{right_of}
 use Rattle.answer_laws.proofs.TcKeys.{answer_of, is_asked, is_key, key_of_tx}
 use Rattle.answer_laws.proofs.TcLives.{is_keyed, is_start}
 use Rattle.answer_laws.proofs.Wishes.{is_api, is_tc}
@@ -75,22 +76,9 @@ steps_from_one start test i plain (e ∷ newer) none = by (test e.step.taken.to 
         at (inl same) = omega (arith, less, ap one_if (from i same is))
         at (inr differs) = absurd (omega (arith, none e.step.taken.from.0 differs, ap one_if (from e.step.taken.from.0 refl is)))
 
--- what is for the shell's host is for no node
-client_node : (start : Start) (to : Place) → host_for start to ≡ 0 → to.node ≡ 0
-client_node start to is = by (cases_lt to.node 1) (cases_lt start.shape.nodes to.node)
-  where
-    by : (to.node < 1) ⊎ (1 ≤ to.node) → (start.shape.nodes < to.node) ⊎ (to.node ≤ start.shape.nodes) → to.node ≡ 0
-    by (inl none) other = omega (arith, none)
-    by (inr some) (inl above) = absurd (omega (arith, is, beyond_host start to above))
-    by (inr some) (inr low) = absurd (omega (arith, is, host_some start to some low))
-
 request_plain_key : (tx : TxId) (to : Place) (body : Body) → is_key tx to body ≡ true → is_request body ≡ false
-request_plain_key tx to body is = plain body (last_of (is_tc to.block) (key_of_tx tx body) is)
+request_plain_key tx to body is = plain body (right_of (is_tc to.block) (key_of_tx tx body) is)
   where
-    last_of : (a b : Bool) → (a && b) ≡ true → b ≡ true
-    last_of true b e = e
-    last_of false b e = cc
-
     plain : (b : Body) → key_of_tx tx b ≡ true → is_request b ≡ false
     plain (Client (TcKeyReq other op)) e = refl
     plain _ e = cc
@@ -245,7 +233,7 @@ module _ (start : Start) (was now : ℕ → List HostStep) (op : Op) (served : I
     is_answer_here : is_reply l.tx l.step.step.taken.to l.step.step.taken.body ≡ true
     is_answer_here =
         all (l.step.step.taken.to.node == 0) (is_api l.step.step.taken.to.block) (answer_of l.tx l.step.step.taken.body)
-        (grind (arith, nat_tests, client_node start l.step.step.taken.to (addressed_at start now served.since.right 0 l.step in_now))) l.block
+        (sym (at_shell start l.step.step.taken.to) ∙ grind (arith, nat_tests, addressed_at start now served.since.right 0 l.step in_now)) l.block
         (ap (answer_of l.tx) l.lone.about ∙ same_tx-self l.tx)
       where
         all : (a b c : Bool) → a ≡ true → b ≡ true → c ≡ true → (a && (b && c)) ≡ true

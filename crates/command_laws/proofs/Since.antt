@@ -7,18 +7,17 @@ use Rattle.run_theory.proofs.Pasts.{each_from, each_in}
 use Rattle.run_theory.specs.Cuts.{IsCut}
 use Rattle.run_theory.specs.Links.{is_from, sent, taken}
 use Rattle.run_theory.specs.Lists.{Each, IsIn}
-use Rattle.sig_core.specs.declared.outs.Outgoing.{Outgoing}
 use Rattle.sig_core.specs.declared.place.Place.{Place}
 use Rattle.sig_core.specs.declared.signal.Body.{Body}
 use Rattle.node_core.specs.Requests.{is_request}
 use Rattle.world_core.proofs.HostNumbers.{given_past}
-use Rattle.world_core.specs.Hosts.{host_for, hosts}
+use Rattle.world_core.specs.Hosts.{hosts}
 use Rattle.world_core.specs.Machine.{machine, step_after}
 use Rattle.world_core.specs.Start.{Start}
 use Rattle.world_core.specs.Steps.{Addressed, HostStep}
 use Rattle.commit_laws.proofs.Tally.{tally_past}
-use Rattle.commit_laws.specs.Counts.{one_if, tally}
-use Rattle.answer_laws.proofs.LinkCounts.{sent_signals, signals, taken_signals, to_host}
+use Rattle.commit_laws.specs.Counts.{tally}
+use Rattle.answer_laws.proofs.LinkCounts.{sent_signals, signals, taken_signals, to_host, few_sends}
 use Rattle.answer_laws.proofs.Wishes.{sends_of}
 use Rattle.answer_laws.specs.Answered.{AreQuiet}
 use Rattle.transit_laws.proofs.Weighing.{none_passes}
@@ -38,18 +37,10 @@ module _ (start : Start) (test : Place → Body → Bool) where
   abbrev pub taken_since : ℕ → List HostStep → ℕ
   taken_since i newer = tally (λ (e : HostStep). is_from (machine start) i e && test e.step.taken.to e.step.taken.body) newer
 
-  pub fewer : (j : ℕ) (sends : List Outgoing) → sends_of (to_host start j test) sends ≤ sends_of test sends
-  fewer j [] = omega arith
-  fewer j (o ∷ sends) = omega (arith, fewer j sends, less (host_for start o.to == j) (test o.to o.body))
-    where
-      less : (a b : Bool) → one_if (a && b) ≤ one_if b
-      less true b = omega arith
-      less false b = omega arith
-
   pub link_sent : (h j : ℕ) (newer log : List HostStep) → signals test (sent (machine start) h j (newer ++ log)) ≤ sent_since h newer log + signals test (sent (machine start) h j log)
   link_sent h j [] log = omega arith
   link_sent h j (e ∷ newer) log =
-      omega (arith, link_sent h j newer log, sent_signals start test h j e (newer ++ log), fewer j (step_after start h (newer ++ log) e).effects.sends)
+      omega (arith, link_sent h j newer log, sent_signals start test h j e (newer ++ log), few_sends start j test (step_after start h (newer ++ log) e).effects.sends)
 
   link_sent_to : (h j : ℕ) (newer log : List HostStep) → signals test (sent (machine start) h j (newer ++ log)) ≡ sent_since_to h j newer log + signals test (sent (machine start) h j log)
   link_sent_to h j [] log = omega arith

@@ -1,5 +1,5 @@
 -- What a node does at questions of what a transaction waits for: it changes nothing, and asks, finds or passes on.
-use Rattle.std.proofs.Common.{◌≡◌, ◌≤◌, ◌+◌, ℕ, suc, Bool, true, false, List, [], ◌∷◌, refl, sym, ap, ◌∙◌, subst, inl, inr, arith}
+use Rattle.std.proofs.Common.{◌≡◌, ◌≤◌, ℕ, suc, Bool, true, false, List, [], ◌∷◌, refl, sym, ap, ◌∙◌, subst, inl, inr, arith}
 use Rattle.std.proofs.lemmas.Bool.Decides.{nat_tests}
 use Rattle.std.specs.Map.{keys_of, values_of}
 use Rattle.std.specs.Prelude.{◌==◌, ◌&&◌, Option, None, Some, if◌then◌else◌, is_some, map, nat_eq, not, position, slice_get}
@@ -47,7 +47,7 @@ use Rattle.commit_laws.proofs.Tally.{tally_in}
 use Rattle.commit_laws.specs.Counts.{one_if}
 use Rattle.answer_laws.proofs.HostSteps.{no_live}
 use Rattle.answer_laws.proofs.LinkCounts.{to_host}
-use Rattle.answer_laws.proofs.LqhOps.{is_lqh, true_and}
+use Rattle.answer_laws.proofs.LqhOps.{is_lqh, true_and, left_of, right_of}
 use Rattle.answer_laws.proofs.SendKinds.{are_of, none_of, of_map, one_kind}
 use Rattle.answer_laws.proofs.TcMoves.{same_tx-is}
 use Rattle.answer_laws.proofs.TcSends.{eqb-self}
@@ -236,9 +236,6 @@ module _ (start : Start) (tx : TxId) where
       go t (of_none off) = record { same = refl; plain = refl }
 
   -- what it sends on
-  one_or_more : (a b : ℕ) → 1 ≤ a → 1 ≤ a + b
-  one_or_more a b some = omega (arith, some)
-
   -- a coordinator that has the transaction's operation unanswered asks each node that this was sent along
   wants_here : (s : TcState) (t : Transaction) (asked : Asked) (member : Member) → of_live tx s.live ≡ Some t → t.asked ≡ Some asked → IsIn member asked.chain
       → 1 ≤ sends_of (to_host start (rows_host start member.node) (is_probe tx (key_of asked.op))) (step_of s tx (wait_row tx)).effects.sends
@@ -289,18 +286,10 @@ module _ (start : Start) (tx : TxId) where
   lqh_finds : (s : LqhState) (key : List ℕ) → is_some (ahead_at s.locks key tx) ≡ true → (body : Body) → probe_of tx key body ≡ true → 1 ≤ sends_of (to_host start (home start tx) (is_found tx)) (lqh_table s body).effects.sends
   unfolding lqh.wait_row
   lqh_finds s key held (Client (LqhWaitReq one at)) e =
-      let own : one ≡ tx = same_tx-is one tx (first_of (same_tx one tx) (same_key at key) e) in
-      let on : at ≡ key = same_key-is at key (second_of (same_tx one tx) (same_key at key) e) in
+      let own : one ≡ tx = same_tx-is one tx (left_of (same_tx one tx) (same_key at key) e) in
+      let on : at ≡ key = same_key-is at key (right_of (same_tx one tx) (same_key at key) e) in
       subst (λ v. 1 ≤ sends_of (to_host start (home start tx) (is_found tx)) (lqh.wait_by s v (ahead_at s.locks at v)).effects.sends) (sym own)
       (find_one s (ahead_at s.locks at tx) (ap (λ k. is_some (ahead_at s.locks k tx)) on ∙ held))
-    where
-      first_of : (a b : Bool) → (a && b) ≡ true → a ≡ true
-      first_of true b p = refl
-      first_of false b p = cc
-
-      second_of : (a b : Bool) → (a && b) ≡ true → b ≡ true
-      second_of true b p = p
-      second_of false b p = cc
   lqh_finds s key held _ e = cc
 
   pub host_finds : (g : Host) (key : List ℕ) → is_some (ahead_at (lqh_of g).locks key tx) ≡ true → (x : Signal) → is_probe tx key x.to x.body ≡ true

@@ -27,6 +27,7 @@ use Rattle.world_core.specs.Start.{Start}
 use Rattle.world_core.specs.Steps.{HostStep}
 use Rattle.commit_laws.proofs.Replicas.{logs_keep_well}
 use Rattle.answer_laws.proofs.ApiBegins.{in_middle}
+use Rattle.answer_laws.proofs.LqhOps.{right_of}
 use Rattle.answer_laws.proofs.Wishes.{is_api, is_tc, sends_of}
 use Rattle.answer_laws.specs.Answered.{AreQuiet}
 use Rattle.command_laws.proofs.Homes.{ahead_rows}
@@ -76,13 +77,9 @@ behind_locks locks key tx who orderly is = by (waits tx (lock_at locks key).queu
 plain_by : (a : Bool) (test : Body → Bool) (body : Body) → (is_request body ≡ true → test body ≡ false) → (a && test body) ≡ true → is_request body ≡ false
 plain_by a test body off e = by (is_request body) refl
   where
-    last_of : (x y : Bool) → (x && y) ≡ true → y ≡ true
-    last_of true y p = p
-    last_of false y p = cc
-
     by : (b : Bool) → is_request body ≡ b → is_request body ≡ false
     by false is = is
-    by true is = absurd (let both : true ≡ false = sym (last_of a (test body) e) ∙ off is in cc)
+    by true is = absurd (let both : true ≡ false = sym (right_of a (test body) e) ∙ off is in cc)
 
 plain_tells : (tx who : TxId) (to : Place) (body : Body) → is_telling_who tx who to body ≡ true → is_request body ≡ false
 plain_tells tx who to body e = plain_by (is_api to.block) (tells_who tx who) body (off body) e
