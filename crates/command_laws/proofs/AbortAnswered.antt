@@ -45,14 +45,14 @@ use Rattle.command_laws.proofs.Entries.{HasOne}
 use Rattle.command_laws.proofs.EntryGoes.{HasEnded, entry_goes}
 use Rattle.command_laws.proofs.FirmHosts.{is_push_to}
 use Rattle.command_laws.proofs.First.{IsFirst, first_step, request_first}
-use Rattle.command_laws.proofs.HoldersTold.{sent_to_append, taken_few}
+use Rattle.command_laws.proofs.HoldersTold.{sent_to_append}
 use Rattle.command_laws.proofs.Homes.{sound_at}
 use Rattle.command_laws.proofs.HostSteps.{api_seen}
 use Rattle.command_laws.proofs.OperateAsks.{AreNamed, named_since}
 use Rattle.command_laws.proofs.Pushes.{calm_since, is_node_kind, node_since}
 use Rattle.command_laws.proofs.ReadyAtQuiet.{named_at, opens, ready_open}
 use Rattle.command_laws.proofs.Reported.{OutcomeOf, ending_is}
-use Rattle.command_laws.proofs.Since.{all_arrive, none_taken, sent_since}
+use Rattle.command_laws.proofs.Since.{all_arrive, none_taken, sent_since, taken_few}
 use Rattle.command_laws.proofs.TellsOnce.{live_early}
 use Rattle.command_laws.proofs.TellsSince.{OnTc}
 use Rattle.command_laws.proofs.Tests.{and_off, none_at}

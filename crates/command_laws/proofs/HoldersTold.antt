@@ -1,10 +1,9 @@
 -- The two questions about a command that left something unanswered tell for whom that waits.
 use Rattle.std.proofs.Common.{◌≡◌, ◌<◌, ◌≤◌, ◌+◌, ℕ, zero, suc, Bool, true, false, List, [], ◌∷◌, ◌++◌, length, refl, sym, ap, ◌∙◌, subst, inl, inr, append_assoc, arith}
-use Rattle.std.specs.Prelude.{◌&&◌, Option, None, Some, drop, is_some, option_to_list, slice_get}
+use Rattle.std.specs.Prelude.{Option, None, Some, drop, is_some, option_to_list, slice_get}
 use Rattle.run_theory.proofs.Orders.{each_log}
 use Rattle.run_theory.proofs.Pasts.{past_self}
 use Rattle.run_theory.specs.Cuts.{IsCut}
-use Rattle.run_theory.specs.Links.{is_from}
 use Rattle.run_theory.specs.Lists.{IsIn}
 use Rattle.run_theory.specs.Runs.{log_of}
 use Rattle.sig_core.proofs.Keys.{same_tx-self}
@@ -45,7 +44,7 @@ use Rattle.transit_laws.specs.Live.{of_live}
 use Rattle.command_laws.proofs.First.{IsFirst, first_step, request_first, with_first}
 use Rattle.command_laws.proofs.HostKinds.{api_alone, api_no_rows, no_rows, replies_are}
 use Rattle.command_laws.proofs.HostSteps.{api_seen}
-use Rattle.command_laws.proofs.Since.{all_arrive, sent_since_to, taken_since}
+use Rattle.command_laws.proofs.Since.{all_arrive, sent_since_to, taken_few}
 use Rattle.command_laws.proofs.TellsSince.{OnTc}
 use Rattle.command_laws.proofs.Told.{told_since}
 use Rattle.command_laws.proofs.WaitApi.{IsAboutOne, IsAsking, IsOwn, TellsHolder, own_found, pending_first, waits_first}
@@ -59,14 +58,6 @@ pub sent_to_append : (start : Start) (test : Place → Body → Bool) (h j : ℕ
 sent_to_append start test h j [] ys log = omega arith
 sent_to_append start test h j (e ∷ xs) ys log =
     omega (arith, sent_to_append start test h j xs ys log, ap (λ l. sends_of (to_host start j test) (step_after start h l e).effects.sends) (append_assoc xs ys log))
-
-pub taken_few : (start : Start) (test : Place → Body → Bool) (i : ℕ) (newer : List HostStep) → taken_since start test i newer ≤ steps test newer
-taken_few start test i [] = omega arith
-taken_few start test i (e ∷ newer) = omega (arith, taken_few start test i newer, few (is_from (machine start) i e) (test e.step.taken.to e.step.taken.body))
-  where
-    few : (a b : Bool) → one_if (a && b) ≤ one_if b
-    few true b = omega arith
-    few false b = omega arith
 
 -- what is unanswered at quiet is an operation that was sent
 record IsWaiting (t : OpenTransaction) : Type 0 where

@@ -34,7 +34,7 @@ use Rattle.world_core.specs.Steps.{HostStep}
 use Rattle.commit_laws.proofs.Tally.{tally_append, tally_in}
 use Rattle.commit_laws.specs.Counts.{one_if, tally}
 use Rattle.answer_laws.proofs.ApiBegins.{in_middle}
-use Rattle.answer_laws.proofs.LinkCounts.{all_three, signals, steps, at_shell}
+use Rattle.answer_laws.proofs.LinkCounts.{all_three, steps, at_shell, steps_from}
 use Rattle.answer_laws.proofs.Lives.{once_started}
 use Rattle.answer_laws.proofs.LqhOps.{right_of}
 use Rattle.answer_laws.proofs.TcKeys.{answer_of, is_asked, is_key, key_of_tx}
@@ -52,29 +52,12 @@ use Rattle.command_laws.proofs.HostSteps.{api_seen}
 use Rattle.command_laws.proofs.LoneAsks.{HasLone, LoneFirst, asks_since, is_lone, lone_first, lone_since}
 use Rattle.command_laws.proofs.Pushes.{is_node_kind, node_since}
 use Rattle.command_laws.proofs.Reported.{reported}
-use Rattle.command_laws.proofs.Since.{few_taken, front_nil, none_taken, sent_since, taken_since}
+use Rattle.command_laws.proofs.Since.{few_taken, front_nil, none_taken, sent_since, taken_since, taken_is}
 use Rattle.command_laws.proofs.TellsOnce.{IsOneOfThree, is_wish_back_to, wish_back_of}
 use Rattle.command_laws.proofs.TellsSince.{away_since, shell_since, since_none, tells_since}
 use Rattle.command_laws.proofs.Tests.{and_off, none_at}
 use Rattle.command_laws.proofs.TurnTells.{is_reply}
 use Rattle.command_laws.specs.Served.{IsAnsweredAlone, IsCommittedAlone, IsServed, LoneAreCommitted}
-
--- signals that one host alone sent were taken from that host
-pub steps_from_one : (start : Start) (test : Place → Body → Bool) (i : ℕ) → ((to : Place) (body : Body) → test to body ≡ true → is_request body ≡ false) → (newer : List HostStep)
-    → ((k : ℕ) → k ≢ i → taken_since start test k newer ≡ 0) → steps test newer ≤ taken_since start test i newer
-steps_from_one start test i plain [] none = omega arith
-steps_from_one start test i plain (e ∷ newer) none = by (test e.step.taken.to e.step.taken.body) refl (steps_from_one start test i plain newer (λ k differs. omega (arith, none k differs)))
-  where
-    from : (k : ℕ) → e.step.taken.from.0 ≡ k → test e.step.taken.to e.step.taken.body ≡ true → (is_from (machine start) k e && test e.step.taken.to e.step.taken.body) ≡ true
-    from k at is = all_three (is_request e.step.taken.body) (e.step.taken.from.0 == k) (test e.step.taken.to e.step.taken.body) (plain e.step.taken.to e.step.taken.body is) (grind (arith, nat_tests, at)) is
-
-    by : (b : Bool) → test e.step.taken.to e.step.taken.body ≡ b → steps test newer ≤ taken_since start test i newer → one_if b + steps test newer ≤ taken_since start test i (e ∷ newer)
-    by false is less = omega (arith, less)
-    by true is less = at (cases_eq e.step.taken.from.0 i)
-      where
-        at : (e.step.taken.from.0 ≡ i) ⊎ (e.step.taken.from.0 ≢ i) → one_if true + steps test newer ≤ taken_since start test i (e ∷ newer)
-        at (inl same) = omega (arith, less, ap one_if (from i same is))
-        at (inr differs) = absurd (omega (arith, none e.step.taken.from.0 differs, ap one_if (from e.step.taken.from.0 refl is)))
 
 request_plain_key : (tx : TxId) (to : Place) (body : Body) → is_key tx to body ≡ true → is_request body ≡ false
 request_plain_key tx to body is = plain body (right_of (is_tc to.block) (key_of_tx tx body) is)
@@ -143,7 +126,9 @@ module _ (start : Start) (was now : ℕ → List HostStep) (op : Op) (served : I
     few_keys h =
         omega (
           arith,
-          steps_from_one start (is_key tx) 0 (request_plain_key tx) (cut (suc h)).newer (λ k differs. other k differs),
+          steps_from start (is_key tx) 0 (request_plain_key tx) (cut (suc h)).newer
+              (λ k differs. omega (arith, taken_is start (is_key tx) k (cut (suc h)).newer, other k differs)),
+          taken_is start (is_key tx) 0 (cut (suc h)).newer,
           few_taken start was now served.before served.since cut (is_key tx) 0 (suc h),
           sent_append start (is_key tx) 0 f.later (f.first ∷ []) (was 0),
           (asks_since tx start f.later (f.first ∷ was 0) f.plain).1,

@@ -17,7 +17,7 @@ use Rattle.world_core.specs.Start.{Start}
 use Rattle.world_core.specs.Steps.{Addressed, HostStep}
 use Rattle.commit_laws.proofs.Tally.{tally_past}
 use Rattle.commit_laws.specs.Counts.{tally}
-use Rattle.answer_laws.proofs.LinkCounts.{sent_signals, signals, taken_signals, to_host, few_sends}
+use Rattle.answer_laws.proofs.LinkCounts.{sent_signals, signals, taken_signals, to_host, few_sends, steps, taken_steps}
 use Rattle.answer_laws.proofs.Wishes.{sends_of}
 use Rattle.answer_laws.specs.Answered.{AreQuiet}
 use Rattle.transit_laws.proofs.Weighing.{none_passes}
@@ -49,6 +49,14 @@ module _ (start : Start) (test : Place → Body → Bool) where
   link_taken : (i : ℕ) (newer log : List HostStep) → signals test (taken (machine start) i (newer ++ log)) ≡ taken_since i newer + signals test (taken (machine start) i log)
   link_taken i [] log = omega arith
   link_taken i (e ∷ newer) log = omega (arith, link_taken i newer log, taken_signals start test i e (newer ++ log))
+
+  -- that is what the links gave, and no more than was taken
+  pub taken_is : (i : ℕ) (newer : List HostStep) → taken_since i newer ≡ signals test (taken (machine start) i newer)
+  taken_is i [] = refl
+  taken_is i (e ∷ newer) = omega (arith, taken_is i newer, taken_signals start test i e newer)
+
+  pub taken_few : (i : ℕ) (newer : List HostStep) → taken_since i newer ≤ steps test newer
+  taken_few i newer = omega (arith, taken_is i newer, taken_steps start test i newer)
 
 pub front_nil : (newer log : List HostStep) → [] ≡ newer ++ log → newer ≡ []
 front_nil [] log is = refl
