@@ -129,7 +129,7 @@ module _ (tx : TxId) where
     pub pushes : sends_of (is_push_to tx) sends ≡ 0
 
   module _ (s : ApiState) (body : Body) (calm : NoneBegins s.opened) where
-    change_calm : (step : Step ApiState) → ApiChange s body step → KeepsCalm step.state.opened step.effects.sends
+    pub change_calm : (step : Step ApiState) → ApiChange s body step → KeepsCalm step.state.opened step.effects.sends
     change_calm step (rests is adds kind) = record { calm = subst NoneBegins (sym is) calm; pushes = none_of is_news_kind (is_push_to tx) no_push_news step.effects.sends kind }
     change_calm step (waits one ahead at about is replies sends) = record {
       calm = subst NoneBegins (sym is) (each_changed (λ (t : OpenTransaction). is_beginning t.doing ≡ false) at.front at.t _ at.back s.opened at.is calm (λ before. before));
