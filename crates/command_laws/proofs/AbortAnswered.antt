@@ -128,7 +128,8 @@ module _ (answered : EachIsAnswered) (start : Start) (was now : ℕ → List Hos
   were = named_at start was served.before name t tx named own
 
   asked : IsAbortAsked start tx name (api_seen (step_after start 0 (was 0) f.first))
-  asked = subst (IsAbortAsked start tx name) (sym (first_step start was now (Abort name) f)) (abort_first start (api_of (after start 0 (was 0))) name t tx named ready own were)
+  asked = subst (IsAbortAsked start tx name) (sym (first_step start was now (Abort name) f))
+      (abort_first start (api_of (after start 0 (was 0))) name t tx named ready own were)
 
   is_open : IsOpenAt tx (after start (home start tx) (was (home start tx)))
   is_open = ready_open start was served.before name t tx named own answered ready
@@ -140,7 +141,8 @@ module _ (answered : EachIsAnswered) (start : Start) (was now : ℕ → List Hos
       let live = live_tx start tx h (was h) o.transaction o.live in
       record {
         loose = subst (LooseOption false) (sym live) (ap (is_loose false) o.phase, o.asked);
-        early = live_early tx (tc_of (after start h (was h))).node (tc_of (after start h (was h))).next_seq (tc_of (after start h (was h))).live o.transaction sound.own live;
+        early = live_early tx (tc_of (after start h (was h))).node (tc_of (after start h (was h))).next_seq
+            (tc_of (after start h (was h))).live o.transaction sound.own live;
       }
 
   no_more : (h : ℕ) → sent_since start (is_more_to tx) h (cut h).newer (was h) ≡ 0
@@ -160,7 +162,8 @@ module _ (answered : EachIsAnswered) (start : Start) (was now : ℕ → List Hos
       each_map (λ (e : HostStep). is_request e.step.taken.body ≡ false → is_more_to tx e.step.taken.to e.step.taken.body ≡ false) (λ (e : HostStep). is_more_to tx e.step.taken.to e.step.taken.body ≡ false) (cut h).newer
       (none_at (is_more_to tx) (more_request tx)) (none_taken start was now served.before served.since cut (is_more_to tx) (λ i low. no_more i) h)
 
-  run : (h : ℕ) → h < hosts start → (sent_since start (is_wrong tx) h (cut h).newer (was h) ≡ 0) × (home start tx ≡ h → OnTc (IsLooseNow tx (rolled tx (cut h).newer)) (after start h ((cut h).newer ++ was h)))
+  run : (h : ℕ) → h < hosts start → (sent_since start (is_wrong tx) h (cut h).newer (was h) ≡ 0)
+      × (home start tx ≡ h → OnTc (IsLooseNow tx (rolled tx (cut h).newer)) (after start h ((cut h).newer ++ was h)))
   run h low = host_run tx start h low (cut h).newer (was h) (none_more h) (loose_was h)
 
   none_wrong : Each (λ (e : HostStep). is_request e.step.taken.body ≡ false → is_wrong tx e.step.taken.to e.step.taken.body ≡ false) (f.later ++ f.first ∷ [])
@@ -206,7 +209,9 @@ module _ (answered : EachIsAnswered) (start : Start) (was now : ℕ → List Hos
       let live = live_tx start tx (home start tx) (now (home start tx)) o.transaction o.live in
       let loose : OnTc (IsLooseNow tx true) (after start (home start tx) (now (home start tx))) =
       subst (λ log. OnTc (IsLooseNow tx true) (after start (home start tx) log)) (sym (cut (home start tx)).is)
-      (subst (λ c. OnTc (IsLooseNow tx c) (after start (home start tx) ((cut (home start tx)).newer ++ was (home start tx)))) rolls_arrive ((run (home start tx) home_low).1 refl)) in
+      (subst (λ c. OnTc (IsLooseNow tx c)
+      (after start (home start tx) ((cut (home start tx)).newer ++ was (home start tx)))) rolls_arrive
+      ((run (home start tx) home_low).1 refl)) in
       let both : false ≡ true = ap (is_loose true) (sym o.phase) ∙ (subst (LooseOption true) live loose.loose).0 in
       cc
 

@@ -150,10 +150,12 @@ module _ (tx : TxId) where
       others to (Client (TcRollbackRep other cause)) e = cc
       others to _ e = refl
 
-  host_firm : (g : Host) (x : Signal) → is_push_to tx x.to x.body ≡ false → FirmHost g → KeepsFirm (tc_of (row g x).state).live (row g x).effects.sends
+  host_firm : (g : Host) (x : Signal) → is_push_to tx x.to x.body ≡ false → FirmHost g
+      → KeepsFirm (tc_of (row g x).state).live (row g x).effects.sends
   host_firm g x plain firm =
       tc_host (λ (step : Step TcState). KeepsFirm step.state.live step.effects.sends) g x
-      (λ runs at. shape_firm (tc_of g) x.body (ap (λ of. is_tc of && push_of tx x.body) (sym at) ∙ plain) firm (tc_row (tc_of g) x) (tc_shape (tc_of g) x.body))
+      (λ runs at. shape_firm (tc_of g) x.body (ap (λ of. is_tc of && push_of tx x.body) (sym at) ∙ plain) firm
+      (tc_row (tc_of g) x) (tc_shape (tc_of g) x.body))
       (λ effects none off. record { firm = firm; silent = none (is_back tx) back_tc })
 
   -- so no host reports it in steps that take neither an operation of the transaction nor the wish for its abort

@@ -83,7 +83,8 @@ unfolding receiver
 shell_place start = refl
 
 -- a host whose coordinator or rows have something isn't the shell's
-not_shell : (start : Start) (logs : ℕ → List HostStep) (P : Host → Type 0) → ((g : Host) → has_api g ≡ true → P g → ⊥) → (k : ℕ) → P (after start k (logs k)) → (j : ℕ) × (k ≡ suc j)
+not_shell : (start : Start) (logs : ℕ → List HostStep) (P : Host → Type 0) → ((g : Host) → has_api g ≡ true → P g → ⊥)
+    → (k : ℕ) → P (after start k (logs k)) → (j : ℕ) × (k ≡ suc j)
 not_shell start logs P none zero p = absurd (none (after start 0 (logs 0)) (api_runs start (logs 0)) p)
 not_shell start logs P none (suc h) p = (h, refl)
 
@@ -145,7 +146,8 @@ module _ (answered : EachIsAnswered) (held_up : EachIsHeldUp) (start : Start) (w
   f = request_first start was mid request.Waits first_served
 
   asking : IsAsking start s t w.tx i (api_seen (step_after start 0 (was 0) f.first))
-  asking = subst (IsAsking start s t w.tx i) (sym (first_step start was mid request.Waits f)) (waits_first start s t w.tx i unanswered w.own)
+  asking = subst (IsAsking start s t w.tx i) (sym (first_step start was mid request.Waits f))
+      (waits_first start s t w.tx i unanswered w.own)
 
   abbrev first_cut : IsCut (with_first was f.first) mid
   first_cut zero = record { newer = f.later; is = f.is }
@@ -227,7 +229,8 @@ module _ (answered : EachIsAnswered) (held_up : EachIsHeldUp) (start : Start) (w
   ahead_known : is_some all.shell.ahead ≡ true
   ahead_known =
       let c = not_shell start was (IsLiveAs w.tx up.transaction) (not_live w.tx up.transaction) c_host up.live in
-      let m = not_shell start was (IsHeldUpAt w.tx (key_of up.asked.op)) (not_held w.tx (key_of up.asked.op)) m_host up.held in
+      let m = not_shell start was (IsHeldUpAt w.tx (key_of up.asked.op))
+      (not_held w.tx (key_of up.asked.op)) m_host up.held in
       all.shell.known (passed c.0 m.0 c.1 m.1)
 
   then : IsFirst start mid now request.Pending
@@ -238,11 +241,15 @@ module _ (answered : EachIsAnswered) (held_up : EachIsHeldUp) (start : Start) (w
 
   tells : TellsHolder t.name all.shell.ahead (api_of (after start 0 (mid 0))) (api_seen (step_after start 0 (mid 0) then.first))
   tells =
-      subst (TellsHolder t.name all.shell.ahead (api_of (after start 0 (mid 0)))) (sym (first_step start mid now request.Pending then))
+      subst (TellsHolder t.name all.shell.ahead (api_of (after start 0 (mid 0))))
+      (sym (first_step start mid now request.Pending then))
       (pending_first (api_of (after start 0 (mid 0))) i.first.front t i.first.back i.name all.shell.ahead about unanswered i.first.none i.first.passes ahead_known)
 
-  tells_reply : replies_of (after start 0 (then.first ∷ mid 0)) ≡ replies_of (after start 0 (mid 0)) ++ Pending t.name (HeldBy (name_in (opened_after start mid) tells.who)) ∷ []
-  tells_reply = replies_are (after start 0 (then.first ∷ mid 0)) ∙ tells.told ∙ ap (λ rs. rs ++ Pending t.name (HeldBy (name_in (opened_after start mid) tells.who)) ∷ []) (sym (replies_are (after start 0 (mid 0))))
+  tells_reply : replies_of (after start 0 (then.first ∷ mid 0)) ≡ replies_of (after start 0 (mid 0)) ++ Pending t.name
+      (HeldBy (name_in (opened_after start mid) tells.who)) ∷ []
+  tells_reply = replies_are (after start 0 (then.first ∷ mid 0)) ∙ tells.told
+      ∙ ap (λ rs. rs ++ Pending t.name (HeldBy (name_in (opened_after start mid) tells.who)) ∷ [])
+      (sym (replies_are (after start 0 (mid 0))))
 
   -- the signal that told it came from a node where the transaction waits behind that one
   telling : Counted (λ (e : HostStep). is_telling_who w.tx tells.who e.step.taken.to e.step.taken.body) (log_of (machine start) all.more 0)

@@ -105,10 +105,13 @@ module _ (start : Start) (was now : ℕ → List HostStep) (op : Op) (served : I
 
   module _ (tx : TxId) where
     first : LoneFirst tx (api_of (after start 0 (was 0))) (api_seen (step_after start 0 (was 0) f.first))
-    first = subst (LoneFirst tx (api_of (after start 0 (was 0)))) (sym (first_step start was now (Operate None op) f)) (lone_first tx (api_of (after start 0 (was 0))) op)
+    first = subst (LoneFirst tx (api_of (after start 0 (was 0)))) (sym (first_step start was now (Operate None op) f))
+        (lone_first tx (api_of (after start 0 (was 0))) op)
 
-    first_lone : tally is_lone (replies_of (after start 0 (f.first ∷ was 0))) ≡ tally is_lone (replies_of (after start 0 (was 0)))
-    first_lone = ap (tally is_lone) (replies_are (after start 0 (f.first ∷ was 0))) ∙ first.lone ∙ ap (tally is_lone) (sym (replies_are (after start 0 (was 0))))
+    first_lone : tally is_lone (replies_of (after start 0 (f.first ∷ was 0))) ≡ tally is_lone
+        (replies_of (after start 0 (was 0)))
+    first_lone = ap (tally is_lone) (replies_are (after start 0 (f.first ∷ was 0))) ∙ first.lone
+        ∙ ap (tally is_lone) (sym (replies_are (after start 0 (was 0))))
 
     -- nobody wishes for its abort
     no_wishes : (h : ℕ) → sent_since start (is_wish_back_to tx) h (cut h).newer (was h) ≡ 0
@@ -165,7 +168,9 @@ module _ (start : Start) (was now : ℕ → List HostStep) (op : Op) (served : I
       told = three (tc_of (after start (suc h) ((cut (suc h)).newer ++ was (suc h)))) (tells_since start tx (suc h) (cut (suc h)).newer (was (suc h)) asked (none_wished (suc h)) (omega (arith, few_asked, few_keys h, starts_apart))
           (record { fair = omega arith; three = inl (refl, refl) })).three
         where
-          three : (now_it : TcState) → IsOneOfThree tx (sent_since start (is_reply tx) (suc h) (cut (suc h)).newer (was (suc h))) (sent_since start (is_back tx) (suc h) (cut (suc h)).newer (was (suc h))) now_it
+          three : (now_it : TcState)
+              → IsOneOfThree tx (sent_since start (is_reply tx) (suc h) (cut (suc h)).newer (was (suc h)))
+              (sent_since start (is_back tx) (suc h) (cut (suc h)).newer (was (suc h))) now_it
               → (sent_since start (is_reply tx) (suc h) (cut (suc h)).newer (was (suc h)) ≡ 0) ⊎ (sent_since start (is_back tx) (suc h) (cut (suc h)).newer (was (suc h)) ≡ 0)
           three now_it (inl none) = inl none.0
           three now_it (inr (inl firm)) = inr firm.0.1
@@ -218,7 +223,8 @@ module _ (start : Start) (was now : ℕ → List HostStep) (op : Op) (served : I
     is_answer_here : is_reply l.tx l.step.step.taken.to l.step.step.taken.body ≡ true
     is_answer_here =
         all (l.step.step.taken.to.node == 0) (is_api l.step.step.taken.to.block) (answer_of l.tx l.step.step.taken.body)
-        (sym (at_shell start l.step.step.taken.to) ∙ grind (arith, nat_tests, addressed_at start now served.since.right 0 l.step in_now)) l.block
+        (sym (at_shell start l.step.step.taken.to)
+        ∙ grind (arith, nat_tests, addressed_at start now served.since.right 0 l.step in_now)) l.block
         (ap (answer_of l.tx) l.lone.about ∙ same_tx-self l.tx)
       where
         all : (a b c : Bool) → a ≡ true → b ≡ true → c ≡ true → (a && (b && c)) ≡ true
@@ -229,7 +235,8 @@ module _ (start : Start) (was now : ℕ → List HostStep) (op : Op) (served : I
     plain_step : is_request l.step.step.taken.body ≡ false
     plain_step = each_in (λ (e : HostStep). is_request e.step.taken.body ≡ false) l.step f.later f.plain in_later
 
-    shell_tells : (newer log : List HostStep) → (sent_since start (is_reply l.tx) 0 newer log ≡ 0) × (sent_since start (is_back l.tx) 0 newer log ≡ 0)
+    shell_tells : (newer log : List HostStep) → (sent_since start (is_reply l.tx) 0 newer log ≡ 0)
+        × (sent_since start (is_back l.tx) 0 newer log ≡ 0)
     shell_tells newer log = since_none start l.tx 0 newer log (shell_since start l.tx newer log)
 
     was_sent : (i : ℕ) → l.step.step.taken.from.0 ≡ i → 1 ≤ sent_since start (is_reply l.tx) i (cut i).newer (was i)
@@ -242,7 +249,8 @@ module _ (start : Start) (was now : ℕ → List HostStep) (op : Op) (served : I
     no_backs_at : (k : ℕ) → l.step.step.taken.from.0 ≡ k → (h : ℕ) → h < hosts start → sent_since start (is_back l.tx) h (cut h).newer (was h) ≡ 0
     no_backs_at k at zero low = (shell_tells (cut 0).newer (was 0)).1
     no_backs_at zero at (suc h) low = absurd (omega (arith, was_sent zero at, (shell_tells (cut 0).newer (was 0)).0))
-    no_backs_at (suc k) at (suc h) low = home_is (cases_eq (home start l.tx) (suc k)) (cases_eq (home start l.tx) (suc h)) (cases_lt (suc k) (hosts start))
+    no_backs_at (suc k) at (suc h) low = home_is (cases_eq (home start l.tx) (suc k))
+        (cases_eq (home start l.tx) (suc h)) (cases_lt (suc k) (hosts start))
       where
         some : 1 ≤ sent_since start (is_reply l.tx) (suc k) (cut (suc k)).newer (was (suc k))
         some = was_sent (suc k) at
@@ -255,10 +263,16 @@ module _ (start : Start) (was now : ℕ → List HostStep) (op : Op) (served : I
           where
             by : (sent_since start (is_reply l.tx) (suc h) (cut (suc h)).newer (was (suc h)) ≡ 0) ⊎ (sent_since start (is_back l.tx) (suc h) (cut (suc h)).newer (was (suc h)) ≡ 0)
                 → sent_since start (is_back l.tx) (suc h) (cut (suc h)).newer (was (suc h)) ≡ 0
-            by (inl none) = absurd (omega (arith, none, subst (λ j. 1 ≤ sent_since start (is_reply l.tx) j (cut j).newer (was j)) same some))
+            by (inl none) =
+                absurd (omega (
+                  arith,
+                  none,
+                  subst (λ j. 1 ≤ sent_since start (is_reply l.tx) j (cut j).newer (was j)) same some,
+                ))
             by (inr none) = none
 
-        home_is : (home start l.tx ≡ suc k) ⊎ (home start l.tx ≢ suc k) → (home start l.tx ≡ suc h) ⊎ (home start l.tx ≢ suc h) → (suc k < hosts start) ⊎ (hosts start ≤ suc k)
+        home_is : (home start l.tx ≡ suc k) ⊎ (home start l.tx ≢ suc k) → (home start l.tx ≡ suc h)
+            ⊎ (home start l.tx ≢ suc h) → (suc k < hosts start) ⊎ (hosts start ≤ suc k)
             → sent_since start (is_back l.tx) (suc h) (cut (suc h)).newer (was (suc h)) ≡ 0
         home_is one other (inr high) =
             let none : (cut (suc k)).newer ≡ [] = front_nil (cut (suc k)).newer (was (suc k)) (sym (served.since.within (suc k) high) ∙ (cut (suc k)).is) in

@@ -83,10 +83,18 @@ module _ (tx : TxId) where
     other_wish one false is none = ap (λ c. one_if c + 0) is
 
     change_named : (step : Step ApiState) → ApiChange s body step → KeepsNamed step.state.opened step.effects.sends
-    change_named step change = record { named = record { calm = (change_calm tx s body were.calm step change).calm; named = names change }; wishes = wishes change }
+    change_named step change = record {
+      named = record {
+        calm = (change_calm tx s body were.calm step change).calm;
+        named = names change;
+      };
+      wishes = wishes change;
+    }
       where
-        changed : (at : IsOneOf s.opened) (u : OpenTransaction) → (HasName at.t → HasName u) → step.state.opened ≡ at.front ++ u ∷ at.back → Each HasName step.state.opened
-        changed at u kept is = subst (Each HasName) (sym is) (each_changed HasName at.front at.t u at.back s.opened at.is were.named kept)
+        changed : (at : IsOneOf s.opened) (u : OpenTransaction) → (HasName at.t → HasName u)
+            → step.state.opened ≡ at.front ++ u ∷ at.back → Each HasName step.state.opened
+        changed at u kept is =
+            subst (Each HasName) (sym is) (each_changed HasName at.front at.t u at.back s.opened at.is were.named kept)
 
         beginning : {A : Type 0} (at : IsOneOf s.opened) → is_beginning at.t.doing ≡ true → A
         beginning at begins_now =
@@ -95,30 +103,43 @@ module _ (tx : TxId) where
         names : ApiChange s body step → Each HasName step.state.opened
         names (rests is adds kind) = subst (Each HasName) (sym is) were.named
         names (waits one ahead at about is replies sends) = changed at _ (λ before. before) is
-        names (answers one answer called at about passes does named is replies sends) = changed at _ (λ before. before) is
+        names (answers one answer called at about passes does named is replies sends) =
+            changed at _ (λ before. before) is
         names (commits one answer at about passes does named is replies sends) = changed at _ (λ before. before) is
-        names (ends one end at about passes is replies marks sends) = subst (Each HasName) (sym is) (each_less HasName at.front at.t at.back s.opened at.is were.named)
-        names (starts called one at u about passes is goes) = beginning at (left_of (is_beginning at.t.doing) (same_name at.t.name called) (left_of (begins called at.t) _ passes))
-        names (refuses called at about passes is replies sends) = beginning at (left_of (is_beginning at.t.doing) (same_name at.t.name called) passes)
+        names (ends one end at about passes is replies marks sends) =
+            subst (Each HasName) (sym is) (each_less HasName at.front at.t at.back s.opened at.is were.named)
+        names (starts called one at u about passes is goes) =
+            beginning at (left_of (is_beginning at.t.doing) (same_name at.t.name called)
+            (left_of (begins called at.t) _ passes))
+        names (refuses called at about passes is replies sends) =
+            beginning at (left_of (is_beginning at.t.doing) (same_name at.t.name called) passes)
 
         wishes : ApiChange s body step → sends_of (is_wish_to tx) step.effects.sends ≡ 0
         wishes (rests is adds kind) = none_of is_news_kind (is_wish_to tx) no_wish_news step.effects.sends kind
         wishes (waits one ahead at about is replies sends) = ap (sends_of (is_wish_to tx)) sends
-        wishes (answers one answer called at about passes does named is replies sends) = ap (sends_of (is_wish_to tx)) sends
-        wishes (commits one answer at about passes does named is replies sends) = ap (sends_of (is_wish_to tx)) sends ∙ other_wish one (same_tx one tx) refl not_this
+        wishes (answers one answer called at about passes does named is replies sends) =
+            ap (sends_of (is_wish_to tx)) sends
+        wishes (commits one answer at about passes does named is replies sends) = ap (sends_of (is_wish_to tx)) sends
+            ∙ other_wish one (same_tx one tx) refl not_this
           where
             not_this : same_tx one tx ≡ true → ⊥
             not_this same =
-                let has = each_at HasName at.front at.t at.back s.opened at.is were.named (subst (λ v. has_tx v at.t ≡ true) (same_tx-is one tx same) passes) in
+                let has = each_at HasName at.front at.t at.back s.opened at.is were.named
+                (subst (λ v. has_tx v at.t ≡ true) (same_tx-is one tx same) passes) in
                 let off : false ≡ true = sym (ap is_some named) ∙ has in cc
-        wishes (ends one end at about passes is replies marks sends) = none_of is_news_kind (is_wish_to tx) no_wish_news step.effects.sends sends
-        wishes (starts called one at u about passes is goes) = beginning at (left_of (is_beginning at.t.doing) (same_name at.t.name called) (left_of (begins called at.t) _ passes))
-        wishes (refuses called at about passes is replies sends) = beginning at (left_of (is_beginning at.t.doing) (same_name at.t.name called) passes)
+        wishes (ends one end at about passes is replies marks sends) =
+            none_of is_news_kind (is_wish_to tx) no_wish_news step.effects.sends sends
+        wishes (starts called one at u about passes is goes) =
+            beginning at (left_of (is_beginning at.t.doing) (same_name at.t.name called)
+            (left_of (begins called at.t) _ passes))
+        wishes (refuses called at about passes is replies sends) =
+            beginning at (left_of (is_beginning at.t.doing) (same_name at.t.name called) passes)
 
   host_named : (g : host.Host) (x : Signal) → has_api g ≡ true → is_request x.body ≡ false → AreNamed (opened_in g) → KeepsNamed (opened_in (row g x).state) (row g x).effects.sends
   host_named g x has plain were =
       api_host (λ (step : Step ApiState). KeepsNamed step.state.opened step.effects.sends) g x has
-      (λ at. change_named (api_of g) x.body were (api_row (api_of g) x) (api_changes (api_of g) x.body plain)) (λ off. record { named = were; wishes = refl })
+      (λ at. change_named (api_of g) x.body were (api_row (api_of g) x) (api_changes (api_of g) x.body plain))
+      (λ off. record { named = were; wishes = refl })
 
   -- along steps of the shell's host that aren't requests
   pub named_since : (start : Start) (later log : List HostStep) → Each (λ (e : HostStep). is_request e.step.taken.body ≡ false) later → AreNamed (opened_in (after start 0 log))

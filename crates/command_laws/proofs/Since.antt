@@ -105,12 +105,14 @@ module _ (start : Start) (was now : ℕ → List HostStep) (before : AreQuiet st
         go true b p q = cc
 
     -- a host that isn't there sends nothing
-    pub none_sent : ((i : ℕ) → i < hosts start → sent_since start test i (newer_at i) (was i) ≡ 0) → (i : ℕ) → sent_since start test i (newer_at i) (was i) ≡ 0
+    pub none_sent : ((i : ℕ) → i < hosts start → sent_since start test i (newer_at i) (was i) ≡ 0) → (i : ℕ)
+        → sent_since start test i (newer_at i) (was i) ≡ 0
     none_sent none i = by (cases_lt i (hosts start))
       where
         by : (i < hosts start) ⊎ (hosts start ≤ i) → sent_since start test i (newer_at i) (was i) ≡ 0
         by (inl low) = none i low
-        by (inr high) = ap (λ newer. sent_since start test i newer (was i)) (front_nil (newer_at i) (was i) (sym (since.within i high) ∙ (cut i).is))
+        by (inr high) = ap (λ newer. sent_since start test i newer (was i))
+            (front_nil (newer_at i) (was i) (sym (since.within i high) ∙ (cut i).is))
 
     -- what no host has sent since then none has taken
     pub none_taken : ((i : ℕ) → i < hosts start → sent_since start test i (newer_at i) (was i) ≡ 0) → (j : ℕ)

@@ -48,7 +48,9 @@ is_asked_in (Host (Continue (Request request) at)) e = refl
 is_asked_in _ e = cc
 
 module _ (start : Start) (was : ℕ → List HostStep) (before : AreQuiet start was) (first : HostStep) (tx : TxId) (u : Transaction) (asked : Asked) (member : Member) (unanswered : u.asked ≡ Some asked) (inside : IsIn member asked.chain)
-    (live : OnTc (λ s. of_live tx s.live ≡ Some u) (after start (home start tx) (was (home start tx)))) (held : IsHeldUpAt tx (key_of asked.op) (after start (rows_host start member.node) (was (rows_host start member.node))))
+    (live : OnTc (λ s. of_live tx s.live ≡ Some u) (after start (home start tx) (was (home start tx))))
+    (held : IsHeldUpAt tx (key_of asked.op)
+    (after start (rows_host start member.node) (was (rows_host start member.node))))
     (front : List OpenTransaction) (t : OpenTransaction) (back : List OpenTransaction) (own : Option (Option ℕ)) (own_tx : t.tx ≡ Some tx) (none : tally (has_tx tx) front ≡ 0)
     (plain_first : sends_of (is_other tx) (step_after start 0 (was 0) first).effects.sends ≡ 0) where
   abbrev NodesHold : List HostStep → Type 0
