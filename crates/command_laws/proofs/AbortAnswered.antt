@@ -52,7 +52,7 @@ use Rattle.command_laws.proofs.OperateAsks.{AreNamed, named_since}
 use Rattle.command_laws.proofs.Pushes.{calm_since, is_node_kind, node_since}
 use Rattle.command_laws.proofs.ReadyAtQuiet.{named_at, opens, ready_open}
 use Rattle.command_laws.proofs.Reported.{OutcomeOf, ending_is}
-use Rattle.command_laws.proofs.Since.{all_arrive, none_taken, sent_since, taken_few}
+use Rattle.command_laws.proofs.Since.{none_taken, sent_since, arrives}
 use Rattle.command_laws.proofs.TellsOnce.{live_early}
 use Rattle.command_laws.proofs.TellsSince.{OnTc}
 use Rattle.command_laws.proofs.Tests.{and_off, none_at}
@@ -195,13 +195,12 @@ module _ (answered : EachIsAnswered) (start : Start) (was now : ℕ → List Hos
   rolls_arrive : rolled tx (cut (home start tx)).newer ≡ true
   rolls_arrive =
       was_rolled tx (cut (home start tx)).newer
+      (arrives start was now served.before served.since cut (is_roll_to tx) 0 (home start tx) (omega arith) home_low
       (omega (
         arith,
-        all_arrive start was now served.before served.since cut (is_roll_to tx) 0 (home start tx) (omega arith) home_low,
-        taken_few start (is_roll_to tx) 0 (cut (home start tx)).newer,
         sent_to_append start (is_roll_to tx) 0 (home start tx) f.later (f.first ∷ []) (was 0),
         asked.rolls,
-      ))
+      )))
 
   -- so it isn't open any more
   closed : IsOpenAt tx (after start (home start tx) (now (home start tx))) → ⊥

@@ -120,8 +120,8 @@ module _ (tx : TxId) where
     loose : Home → IsLooseNow tx c s
 
   module _ (c : Bool) (s : TcState) (body : Body) (sound : IsSound tx s) (plain : more_of tx body ≡ false)
-      (Home : Type 0) (home_of : (t : Transaction) → of_live tx s.live ≡ Some t → Home) (was : Home
-      → IsLooseNow tx c s) where
+      (Home : Type 0) (home_of : (t : Transaction) → of_live tx s.live ≡ Some t → Home)
+      (was : Home → IsLooseNow tx c s) where
     abbrev step : Step TcState
     step = tc_table s body
 

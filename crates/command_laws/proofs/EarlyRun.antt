@@ -180,18 +180,21 @@ module _ (start : Start) (was now : ℕ → List HostStep) (before : AreQuiet st
     Home = home start tx ≡ e.host
 
     -- what is so of the transaction's home, and is kept by the step
-    each_home : (Q : TcState → Type 0) → ((h : ℕ) → home start tx ≡ h → OnTc Q (after start h (newer_in all.more h ++ was h)))
+    each_home : (Q : TcState → Type 0)
+        → ((h : ℕ) → home start tx ≡ h → OnTc Q (after start h (newer_in all.more h ++ was h)))
         → (Home → Q then_tc) → (h : ℕ) → home start tx ≡ h → OnTc Q (after start h (newer_in (e ∷ all.more) h ++ was h))
     each_home Q old step =
         each_host (λ h newer. home start tx ≡ h → OnTc Q (after start h (newer ++ was h))) old
-        (λ h at before own. subst (λ k. OnTc Q (after start k (e ∷ (newer_in all.more k ++ was k)))) at (step (own ∙ sym at)))
+        (λ h at before own. subst (λ k. OnTc Q (after start k (e ∷ (newer_in all.more k ++ was k)))) at
+        (step (own ∙ sym at)))
 
     -- a count of what hosts send, where the step sends none
     none_more : (test : Place → Body → Bool) → ((h : ℕ) → sent_since start test h (newer_in all.more h) (was h) ≡ 0)
         → sends_of test sends_now ≡ 0 → (h : ℕ) → sent_since start test h (newer_in (e ∷ all.more) h) (was h) ≡ 0
     none_more test old none =
         each_host (λ h newer. sent_since start test h newer (was h) ≡ 0) old
-        (λ h at before. subst (λ k. sent_since start test k (e ∷ newer_in all.more k) (was k) ≡ 0) at (omega (arith, old e.host, none)))
+        (λ h at before. subst (λ k. sent_since start test k (e ∷ newer_in all.more k) (was k) ≡ 0) at
+        (omega (arith, old e.host, none)))
 
     sound : IsSound tx (tc_of g)
     sound = sound_at start tx e.host (newer_in all.more e.host ++ was e.host)
@@ -199,8 +202,14 @@ module _ (start : Start) (was now : ℕ → List HostStep) (before : AreQuiet st
     homes : (t : Transaction) → of_live tx (tc_of g).live ≡ Some t → Home
     homes = lives_home start tx e.host (newer_in all.more e.host ++ was e.host) low
 
-    all_hold : sends_of (is_bad tx) sends_now ≡ 0 → IsClean (e ∷ all.more) ⊎ IsGone (e ∷ all.more) → AllHold (log_of (machine start) (e ∷ es))
-    all_hold good stage = record { more = e ∷ all.more; is = log_more; good = none_more (is_bad tx) all.good good; stage = stage }
+    all_hold : sends_of (is_bad tx) sends_now ≡ 0 → IsClean (e ∷ all.more) ⊎ IsGone (e ∷ all.more)
+        → AllHold (log_of (machine start) (e ∷ es))
+    all_hold good stage = record {
+      more = e ∷ all.more;
+      is = log_more;
+      good = none_more (is_bad tx) all.good good;
+      stage = stage;
+    }
 
     from_gone : IsGone all.more → AllHold (log_of (machine start) (e ∷ es))
     from_gone gone =
@@ -208,9 +217,11 @@ module _ (start : Start) (was now : ℕ → List HostStep) (before : AreQuiet st
         all_hold p.good (inr (each_home (IsPastNow tx) gone p.past))
 
     from_clean : IsClean all.more → AllHold (log_of (machine start) (e ∷ es))
-    from_clean clean = by (host_clean tx g e.step.taken sound no_wish Home homes (comes_fair clean) (clean.is_open e.host))
+    from_clean clean = by (host_clean tx g e.step.taken sound no_wish Home homes (comes_fair clean)
+        (clean.is_open e.host))
       where
-        by : StaysClean tx Home then_tc sends_now ⊎ Leaves tx Home then_tc sends_now → AllHold (log_of (machine start) (e ∷ es))
+        by : StaysClean tx Home then_tc sends_now ⊎ Leaves tx Home then_tc sends_now
+            → AllHold (log_of (machine start) (e ∷ es))
         by (inl c) =
             all_hold c.good (inl (record {
               fair = none_more (is_loss tx) clean.fair c.fair;

@@ -44,7 +44,7 @@ use Rattle.transit_laws.specs.Live.{of_live}
 use Rattle.command_laws.proofs.First.{IsFirst, first_step, request_first, with_first}
 use Rattle.command_laws.proofs.HostKinds.{api_alone, api_no_rows, no_rows, replies_are}
 use Rattle.command_laws.proofs.HostSteps.{api_seen}
-use Rattle.command_laws.proofs.Since.{all_arrive, sent_since_to, taken_few}
+use Rattle.command_laws.proofs.Since.{sent_since_to, arrives}
 use Rattle.command_laws.proofs.TellsSince.{OnTc}
 use Rattle.command_laws.proofs.Told.{told_since}
 use Rattle.command_laws.proofs.WaitApi.{IsAboutOne, IsAsking, IsOwn, TellsHolder, own_found, pending_first, waits_first}
@@ -181,47 +181,46 @@ module _ (answered : EachIsAnswered) (held_up : EachIsHeldUp) (start : Start) (w
     m_low : suc m < hosts start
     m_low = omega (arith, held_low, m_is)
 
+    -- a host sends on to host k as many as it takes
+    abbrev Less : (Place → Body → Bool) → (Place → Body → Bool) → ℕ → ℕ → Type 0
+    Less took sends h k = steps took (log_of (machine start) all.more (suc h)) ≤ sent_since_to start sends (suc h) k
+        (log_of (machine start) all.more (suc h)) (was (suc h))
+
     wanted : 1 ≤ steps (is_want w.tx) (log_of (machine start) all.more (suc c))
     wanted =
-        omega (
+        arrives start was mid first_served.before first_served.since cut (is_want w.tx) 0 (suc c) (omega arith) c_low
+        (omega (
           arith,
           asking.wants,
           ap (λ k. sends_of (to_host start k (is_want w.tx)) (step_after start 0 (was 0) f.first).effects.sends) c_is,
           sent_to_append start (is_want w.tx) 0 (suc c) (log_of (machine start) all.more 0) (f.first ∷ []) (was 0),
-          all_arrive start was mid first_served.before first_served.since cut (is_want w.tx) 0 (suc c) (omega arith) c_low,
-          taken_few start (is_want w.tx) 0 (log_of (machine start) all.more (suc c)),
-        )
+        ))
 
     probed : 1 ≤ steps (is_probe w.tx (key_of up.asked.op)) (log_of (machine start) all.more (suc m))
     probed =
-        omega (
+        arrives start was mid first_served.before first_served.since cut (is_probe w.tx (key_of up.asked.op)) (suc c) (suc m) c_low m_low
+        (omega (
           arith,
           wanted,
-          (all.nodes c).wants c_is,
-          ap (λ k. sent_since_to start (is_probe w.tx (key_of up.asked.op)) (suc c) k (log_of (machine start) all.more (suc c)) (was (suc c))) m_is,
-          all_arrive start was mid first_served.before first_served.since cut (is_probe w.tx (key_of up.asked.op)) (suc c) (suc m) c_low m_low,
-          taken_few start (is_probe w.tx (key_of up.asked.op)) (suc c) (log_of (machine start) all.more (suc m)),
-        )
+          subst (Less (is_want w.tx) (is_probe w.tx (key_of up.asked.op)) c) m_is
+              ((all.nodes c).wants c_is),
+        ))
 
     found : 1 ≤ steps (is_found w.tx) (log_of (machine start) all.more (suc c))
     found =
-        omega (
+        arrives start was mid first_served.before first_served.since cut (is_found w.tx) (suc m) (suc c) m_low c_low
+        (omega (
           arith,
           probed,
-          (all.nodes m).finds m_is,
-          ap (λ k. sent_since_to start (is_found w.tx) (suc m) k (log_of (machine start) all.more (suc m)) (was (suc m))) c_is,
-          all_arrive start was mid first_served.before first_served.since cut (is_found w.tx) (suc m) (suc c) m_low c_low,
-          taken_few start (is_found w.tx) (suc m) (log_of (machine start) all.more (suc c)),
-        )
+          subst (Less (is_probe w.tx (key_of up.asked.op)) (is_found w.tx) m) c_is
+              ((all.nodes m).finds m_is),
+        ))
 
     passed : 1 ≤ steps (is_passed w.tx) (log_of (machine start) all.more 0)
     passed =
         omega (
           arith,
-          found,
-          (all.nodes c).passes c_is,
-          all_arrive start was mid first_served.before first_served.since cut (is_passed w.tx) (suc c) 0 c_low (omega arith),
-          taken_few start (is_passed w.tx) (suc c) (log_of (machine start) all.more 0 ++ f.first ∷ []),
+          arrives start was mid first_served.before first_served.since cut (is_passed w.tx) (suc c) 0 c_low (omega arith) (omega (arith, found, (all.nodes c).passes c_is)),
           tally_append (λ (e : HostStep). is_passed w.tx e.step.taken.to e.step.taken.body) (log_of (machine start) all.more 0) (f.first ∷ []),
           ap one_if (ap (λ (to : Place). is_passed w.tx to f.first.step.taken.body) f.place ∙ ap (is_passed w.tx client) f.body),
         )

@@ -138,3 +138,8 @@ module _ (start : Start) (was now : ℕ → List HostStep) (before : AreQuiet st
           link_sent_to start test i j (newer_at i) (was i),
           link_taken start test i (newer_at j) (was j),
         )
+
+    -- so what was sent to a host since then came to it
+    pub arrives : (i j : ℕ) → i < hosts start → j < hosts start → 1 ≤ sent_since_to start test i j (newer_at i) (was i)
+        → 1 ≤ steps test (newer_at j)
+    arrives i j under low some = omega (arith, some, all_arrive i j under low, taken_few start test i (newer_at j))
