@@ -1,25 +1,21 @@
 -- What picks come to.
-use Rattle.std.proofs.Common.{◌≡◌, ℕ, ◌+◌, ◌<◌, ◌≤◌, List, [], ◌∷◌, ◌++◌, length, take, refl, ap, sym, ◌∙◌, subst, arith}
-use Rattle.std.specs.Prelude.{get_or, slice_get, Option, None, Some, Result, Ok, Err}
-use Rattle.std.proofs.lemmas.List.{take_all, take_more}
+use Rattle.std.proofs.Common.{◌≡◌, ℕ, ◌+◌, ◌<◌, List, [], ◌∷◌, ◌++◌, length, take, refl, ap, sym, ◌∙◌, subst}
+use Rattle.std.specs.Prelude.{get_or, Option, None, Some, Err}
+use Rattle.std.proofs.lemmas.List.{take_more}
 use Rattle.std.proofs.lemmas.Option.{slice_get-get_or}
 use Rattle.sig_core.specs.declared.log.HostLog.{HostLog}
-use Rattle.sig_core.specs.declared.signal.Signal.{Signal}
 use Rattle.world_core.specs.declared.schedule.Pick.{Pick}
 use Rattle.world_core.specs.declared.schedule.ScheduleFault.{ScheduleFault}
 use Rattle.world_core.specs.declared.schedule.ScheduleFault.TheVariants.{Empty, Gone, NoMemory}
-use Rattle.world_core.specs.Driven.{HaveGrown, IsDriven, IsSound, IsWorld}
+use Rattle.world_core.specs.Driven.{HaveGrown, IsDriven, IsSound}
 use Rattle.world_core.specs.Hosts.{hosts}
-use Rattle.world_core.specs.Inbox.{LinkState, Taken, link_from}
-use Rattle.world_core.specs.Inbox as inbox
-use Rattle.world_core.specs.Network.{Arrival, Links, inbox_of, link, take_between, taken_from}
+use Rattle.world_core.specs.Network.{Arrival, take_between}
 use Rattle.world_core.specs.Schedule.{IsEmpty, IsGone, IsPicked, IsScheduled, LeavesRight, StopsAt, all_picked, host_of, moved_if, picked, sender_of}
 use Rattle.world_core.specs.Start.{Start}
-use Rattle.world_core.specs.World.{CanTake, Whole, logs_at, moved}
-use Rattle.world_core.proofs.QuietLemmas.{no_taken, not_taken}
+use Rattle.world_core.specs.World.{Whole, logs_at, moved}
 use Rattle.world_core.proofs.StepDriven.{step_driven}
-use Rattle.world_core.proofs.TakeRight.{IsTakenFrom, left_of, taken_on}
-use Rattle.world_core.proofs.WorldLemmas.{IsUnderWay, driven_further, stays_sound, there_for}
+use Rattle.world_core.proofs.TakeRight.{left_of, taken_on}
+use Rattle.world_core.proofs.WorldLemmas.{IsUnderWay, driven_further, stays_sound}
 
 -- what a pick took
 record HasMoved (w v : Whole) (o : Option Arrival) : Type 0 where

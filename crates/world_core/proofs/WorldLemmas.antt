@@ -8,7 +8,7 @@ use Rattle.sig_core.specs.declared.request.ApiReq.{ApiReq}
 use Rattle.world_core.specs.Driven.{HasAsked, HaveGrown, IsDriven, IsSound, IsStepped, IsWorld}
 use Rattle.world_core.specs.Hosts.{hosts}
 use Rattle.world_core.specs.Machine.{request_signal}
-use Rattle.world_core.specs.Network.{Arrival, Links, take_first}
+use Rattle.world_core.specs.Network.{Arrival, take_first}
 use Rattle.world_core.specs.Start.{Start}
 use Rattle.world_core.specs.Steps.{Addressed, HostStep}
 use Rattle.world_core.specs.World.{CanTake, IsOf, IsQuiet, Whole, asked, logs_at, moved, new_world}
