@@ -1,10 +1,10 @@
 -- Aborts of a transaction and their answers, signal by signal.
-use Rattle.std.proofs.Common.{◌≡◌, ◌≢◌, ℕ, ◌≤◌, ◌<◌, List, [], ◌∷◌, Bool, true, false, refl, ap, sym, subst, arith}
+use Rattle.std.proofs.Common.{◌≡◌, ◌≢◌, ℕ, ◌+◌, ◌≤◌, ◌<◌, List, [], ◌∷◌, Bool, true, false, refl, ap, sym, ◌∙◌, subst, arith}
 use Rattle.std.specs.Prelude.{◌==◌, ◌&&◌, nat_lt}
-use Rattle.std.proofs.lemmas.Bool.{eqb-true}
+use Rattle.std.proofs.lemmas.Bool.{eq-eqb, eqb-true}
 use Rattle.std.proofs.lemmas.Bool.Decides.{nat_tests}
 use Rattle.lqh_block.specs.Abort.{abort_row, refused_by, waits_at}
-use Rattle.lqh_block.specs.Lqh.{lqh_row}
+use Rattle.lqh_block.specs.Lqh.{lqh_table}
 use Rattle.lqh_block.specs.State.{LqhState, freed_lock, serve_granted}
 use Rattle.sig_core.specs.declared.member.TxId.{TxId}
 use Rattle.sig_core.specs.declared.outs.Outgoing.{Outgoing}
@@ -17,14 +17,20 @@ use Rattle.sig_core.specs.declared.signal.host.Work.TheVariants as work
 use Rattle.sig_core.specs.Place.{coordinator_of}
 use Rattle.sig_core.specs.Same.{same_tx}
 use Rattle.sig_core.specs.Step.{to_place}
-use Rattle.answer_laws.proofs.LqhOps.{is_lqh, is_node, left_of, right_of, true_and}
-use Rattle.answer_laws.proofs.Tally.{and_few, one_if, tally_append}
+use Rattle.world_core.specs.Hosts.{home, host_for, hosts}
+use Rattle.world_core.specs.Start.{Start}
+use Rattle.run_laws.proofs.AlongSteps.{home_place}
+use Rattle.host_laws.proofs.HostSteps.{reaches}
+use Rattle.host_laws.proofs.LinkCounts.{to_host}
+use Rattle.host_laws.proofs.LqhOps.{is_lqh, is_node, left_of, right_of, true_and}
+use Rattle.host_laws.proofs.Tally.{and_few, tally_append}
+use Rattle.host_laws.specs.Counts.{one_if}
 use Rattle.answer_laws.proofs.TcAborts.{aborted_body, is_abort}
-use Rattle.answer_laws.proofs.PartCounts.{is_cont}
-use Rattle.answer_laws.proofs.TcMoves.{same_tx-is}
-use Rattle.answer_laws.proofs.TcSends.{eqb-self, tx_in}
-use Rattle.answer_laws.proofs.TcTurns.{is_turn}
-use Rattle.answer_laws.proofs.Wishes.{is_tc, sends_of, to_node}
+use Rattle.host_laws.proofs.PartCounts.{is_cont}
+use Rattle.host_laws.proofs.TcMoves.{same_tx-is}
+use Rattle.host_laws.proofs.TcSends.{eqb-self, tx_in}
+use Rattle.host_laws.proofs.TcTurns.{is_turn}
+use Rattle.host_laws.proofs.Wishes.{is_tc, sends_of}
 
 -- what came to the rows of a node
 abbrev pub abort_body : TxId → Body → Bool
@@ -32,7 +38,7 @@ abort_body tx (Chain (Abort other key)) = same_tx other tx
 abort_body tx _ = false
 
 -- a replica answers an abort
-pub lqh_aborts : (n : ℕ) (tx : TxId) (s : LqhState) (body : Body) → one_if (abort_body tx body) ≤ sends_of (is_abort n tx) (lqh_row s body).effects.sends
+pub lqh_aborts : (n : ℕ) (tx : TxId) (s : LqhState) (body : Body) → one_if (abort_body tx body) ≤ sends_of (is_abort n tx) (lqh_table s body).effects.sends
 unfolding abort_row
 lqh_aborts n tx s (Chain (Abort other key)) = by (same_tx other tx) refl
   where
@@ -57,17 +63,30 @@ few_answers n tx to (Chain (Abort other key)) e = omega (arith, ap (λ b. one_if
 few_answers n tx to (Chain (Aborted other key)) e = and_few (is_tc to.block && (to.node == tx.tc)) _
 few_answers n tx to _ e = omega arith
 
-pub none_at : (n : ℕ) (tx : TxId) (to : Place) (body : Body) → is_lqh to.block ≡ false → (is_tc to.block && (to.node == tx.tc)) ≡ false → one_if (is_abort n tx to body) ≡ 0
-none_at n tx to (Chain (Abort other key)) p q = ap (λ b. one_if ((b && is_node n to.node) && same_tx other tx)) p
-none_at n tx to (Chain (Aborted other key)) p q = ap (λ b. one_if (b && same_tx other tx)) q
+-- it is for rows of a node, or for the transaction's coordinator
+pub none_at : (n : ℕ) (tx : TxId) (to : Place) (body : Body) → ((is_lqh to.block && is_node n to.node) ≡ true → ⊥) → ((is_tc to.block && (to.node == tx.tc)) ≡ true → aborted_body tx body ≡ true → ⊥)
+    → is_abort n tx to body ≡ false
+none_at n tx to (Chain (Abort other key)) p q = by (is_lqh to.block && is_node n to.node) refl
+  where
+    by : (b : Bool) → (is_lqh to.block && is_node n to.node) ≡ b → ((is_lqh to.block && is_node n to.node) && same_tx other tx) ≡ false
+    by true e = absurd (p e)
+    by false e = ap (λ b. b && same_tx other tx) e
+none_at n tx to (Chain (Aborted other key)) p q = by (is_tc to.block && (to.node == tx.tc)) (same_tx other tx) refl refl
+  where
+    by : (a b : Bool) → (is_tc to.block && (to.node == tx.tc)) ≡ a → same_tx other tx ≡ b → ((is_tc to.block && (to.node == tx.tc)) && same_tx other tx) ≡ false
+    by true true e f = absurd (q e f)
+    by true false e f = ap (λ a. a && same_tx other tx) e ∙ f
+    by false b e f = ap (λ a. a && same_tx other tx) e
 none_at n tx to _ p q = refl
 
-pub abort_low : (n : ℕ) (tx : TxId) → tx.tc < n → (to : Place) (body : Body) → is_abort n tx to body ≡ true → to.node < n
-abort_low n tx low to (Chain (Abort other key)) e =
-    grind (arith, nat_tests, right_of (nat_lt 0 to.node) (nat_lt to.node n) (right_of (is_lqh to.block) (is_node n to.node) (left_of (is_lqh to.block && is_node n to.node) _ e)))
-abort_low n tx low to (Chain (Aborted other key)) e =
-    omega (arith, low, eqb-true to.node tx.tc (right_of (is_tc to.block) (to.node == tx.tc) (left_of (is_tc to.block && (to.node == tx.tc)) _ e)))
-abort_low n tx low to _ e = cc
+pub abort_low : (start : Start) (tx : TxId) → tx.tc ≤ start.shape.nodes → (to : Place) (body : Body) → is_abort (start.shape.nodes + 1) tx to body ≡ true → host_for start to < hosts start
+abort_low start tx low to (Chain (Abort other key)) e =
+    let node = right_of (is_lqh to.block) (is_node (start.shape.nodes + 1) to.node) (left_of (is_lqh to.block && is_node (start.shape.nodes + 1) to.node) _ e) in
+    let under : to.node < start.shape.nodes + 1 = grind (arith, nat_tests, right_of (nat_lt 0 to.node) (nat_lt to.node (start.shape.nodes + 1)) node) in
+    reaches start to (omega (arith, under))
+abort_low start tx low to (Chain (Aborted other key)) e =
+    reaches start to (omega (arith, low, eqb-true to.node tx.tc (right_of (is_tc to.block) (to.node == tx.tc) (left_of (is_tc to.block && (to.node == tx.tc)) _ e))))
+abort_low start tx low to _ e = cc
 
 -- an answer, or the signal to go on, is a turn of the transaction
 pub answer_turn : (tx : TxId) (body : Body) → aborted_body tx body ≡ true → (is_turn body ≡ true) × (tx_in body ≡ tx)
@@ -89,14 +108,15 @@ cont_place tx a at to differs = by (at == a) refl (is_tc to.block && (to.node ==
     by false e false z = refl
 
 -- what goes on from a coordinator goes to itself
-pub conts_few : (tx : TxId) (a : ℕ) (xs : List Outgoing) → sends_of (is_cont tx a) xs ≤ sends_of (to_node tx.tc (is_cont tx a)) xs
-conts_few tx a [] = omega arith
-conts_few tx a (o ∷ xs) = omega (arith, conts_few tx a xs, one o.to o.body (is_cont tx a o.to o.body) refl)
+pub conts_few : (start : Start) (tx : TxId) (a : ℕ) (xs : List Outgoing) → sends_of (is_cont tx a) xs ≤ sends_of (to_host start (home start tx) (is_cont tx a)) xs
+conts_few start tx a [] = omega arith
+conts_few start tx a (o ∷ xs) = omega (arith, conts_few start tx a xs, one o.to o.body (is_cont tx a o.to o.body) refl)
   where
-    at_self : (to : Place) (body : Body) → is_cont tx a to body ≡ true → (to.node == tx.tc) ≡ true
-    at_self to (Host (Continue (work.Transaction other) at)) e = right_of (is_tc to.block) (to.node == tx.tc) (left_of (is_tc to.block && (to.node == tx.tc)) (same_tx other tx && (at == a)) e)
+    at_self : (to : Place) (body : Body) → is_cont tx a to body ≡ true → (host_for start to == home start tx) ≡ true
+    at_self to (Host (Continue (work.Transaction other) at)) e =
+        eq-eqb _ _ (home_place start tx to (left_of (is_tc to.block && (to.node == tx.tc)) (same_tx other tx && (at == a)) e))
     at_self to _ e = cc
 
-    one : (to : Place) (body : Body) (b : Bool) → is_cont tx a to body ≡ b → one_if (is_cont tx a to body) ≤ one_if ((to.node == tx.tc) && is_cont tx a to body)
+    one : (to : Place) (body : Body) (b : Bool) → is_cont tx a to body ≡ b → one_if (is_cont tx a to body) ≤ one_if ((host_for start to == home start tx) && is_cont tx a to body)
     one to body false e = omega (arith, ap one_if e)
-    one to body true e = omega (arith, ap one_if (true_and (to.node == tx.tc) (is_cont tx a to body) (at_self to body e) e), ap one_if e)
+    one to body true e = omega (arith, ap one_if (true_and (host_for start to == home start tx) (is_cont tx a to body) (at_self to body e) e), ap one_if e)

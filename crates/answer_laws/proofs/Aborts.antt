@@ -1,414 +1,361 @@
 -- What a transaction that aborts waits for is on its way, or it has an operation unanswered.
-use Rattle.std.proofs.Common.{◌≡◌, ◌≢◌, ◌⊎◌, ℕ, zero, suc, ◌+◌, ◌*◌, ◌≤◌, ◌<◌, List, [], ◌∷◌, ◌++◌, length, Bool, true, false, refl, ap, sym, ◌∙◌, subst, arith, inl, inr}
-use Rattle.std.specs.Prelude.{◌==◌, ◌&&◌, if◌then◌else◌, Option, None, Some}
-use Rattle.std.proofs.lemmas.Bool.{cases_eq, eqb-true}
-use Rattle.node_core.specs.declared.host.Host.TheVariants.{Node}
-use Rattle.node_core.specs.declared.node.Node as node
-use Rattle.run_theory.proofs.Pasts.{each_in}
-use Rattle.run_theory.specs.Lists.{IsIn}
+use Rattle.std.proofs.Common.{◌≡◌, ◌≢◌, ◌⊎◌, ℕ, ◌+◌, ◌*◌, ◌≤◌, ◌<◌, List, [], ◌∷◌, length, Bool, true, false, refl, ap, sym, ◌∙◌, subst, arith, inl, inr}
+use Rattle.std.specs.Prelude.{◌==◌, ◌&&◌, if◌then◌else◌, None, Some}
+use Rattle.std.proofs.lemmas.Bool.{cases_eq, true≢false}
+use Rattle.frag_map.proofs.FirstReplicas.{few_replicas}
+use Rattle.frag_map.specs.Layout.{Layout, chain_of, first_layout}
+use Rattle.frag_map.specs.Shape.{IsShape}
+use Rattle.node_core.proofs.HostCases.{IsRowsStep}
+use Rattle.node_core.specs.Blocks.{lqh_of, tc_of}
+use Rattle.node_core.specs.declared.host.Host.{Host}
 use Rattle.run_theory.specs.Links.{is_from, sent, taken}
 use Rattle.run_theory.specs.Runs.{AreLogs, log_of}
-use Rattle.sig_core.specs.declared.log.LogStep.{LogStep}
-use Rattle.sig_core.specs.declared.member.Member.{Member}
 use Rattle.sig_core.specs.declared.member.TxId.{TxId}
 use Rattle.sig_core.specs.declared.outcome.AbortCause.{AbortCause}
-use Rattle.sig_core.specs.declared.place.Place.{Place}
-use Rattle.sig_core.specs.declared.signal.Body.{Body}
-use Rattle.sig_core.specs.declared.signal.Body.TheVariants.{Chain}
-use Rattle.sig_core.specs.declared.signal.chain.ChainSignal.TheVariants.{Abort, Aborted}
-use Rattle.sig_core.specs.declared.view.View.{View}
-use Rattle.sig_core.specs.Same.{same_tx}
+use Rattle.sig_core.specs.declared.outs.Outgoing.{Outgoing}
+use Rattle.sig_core.specs.declared.signal.Signal.{Signal}
+use Rattle.sig_core.specs.Place.{coordinator_of}
 use Rattle.tc_block.specs.declared.phase.Phase.{Phase}
 use Rattle.tc_block.specs.declared.phase.Phase.TheVariants.{Open, Verifying, Committing, Completing, Aborting}
 use Rattle.tc_block.specs.declared.touched.Touched.{Touched}
 use Rattle.tc_block.specs.declared.transaction.Transaction.{Transaction}
 use Rattle.tc_block.specs.Abort.{asked_count, replica_count}
-use Rattle.tc_block.specs.Chain.{chain_of}
 use Rattle.tc_block.specs.Operate.{fresh}
-use Rattle.tc_block.specs.Tc.{tc_row}
+use Rattle.world_core.proofs.HostNumbers.{host_below}
+use Rattle.world_core.specs.Hosts.{home, hosts}
 use Rattle.world_core.specs.Machine.{after, machine, step_after}
-use Rattle.world_core.specs.Start.{Start, first_view, members}
-use Rattle.answer_laws.proofs.Ahead.{along, at_node, AtNode, few_taken, first_none, Goes, next_at, NextAt, no_transaction, NodeStep, of_dih, of_lqh, of_none, of_tc, the_transaction, tx_at}
-use Rattle.answer_laws.proofs.Always.{few_touched}
-use Rattle.answer_laws.proofs.Hosts.{shell_after}
-use Rattle.answer_laws.proofs.LinkCounts.{sent_signals, signals, taken_signals}
-use Rattle.answer_laws.proofs.LqhOps.{is_good, is_lqh, is_node}
-use Rattle.answer_laws.proofs.Ops.{good_members}
-use Rattle.answer_laws.proofs.Tally.{and_few, one_if}
+use Rattle.world_core.specs.Start.{Start}
+use Rattle.world_core.specs.Steps.{HostStep}
+use Rattle.host_laws.proofs.Sums.{total_le, total_same}
+use Rattle.host_laws.proofs.Tally.{and_few}
+use Rattle.host_laws.specs.Counts.{one_if}
+use Rattle.answer_laws.proofs.AbortCounts.{abort_low, answer_turn, cont_place, cont_turn, conts_few, few_answers, few_rows, lqh_aborts, none_at}
+use Rattle.run_laws.proofs.AlongSteps.{Goes, addressed, along, at_home, at_tc, few_taken, first_none, heard_rows, home_place, live_tx, no_transaction, other_turn, the_transaction, turn_at, tx_at}
+use Rattle.run_laws.proofs.Always.{few_touched}
+use Rattle.answer_laws.proofs.FirstChains.{good_chain}
+use Rattle.host_laws.proofs.HostSteps.{IsHome, tc_layout}
+use Rattle.host_laws.proofs.HostTurns.{HostTurn, IsAside, aside, in_rows, starting, turning}
+use Rattle.host_laws.proofs.LinkCounts.{sent_signals, signals, taken_signals}
+use Rattle.host_laws.proofs.LqhOps.{is_good, is_lqh, is_node, left_of}
+use Rattle.host_laws.proofs.PartCounts.{IsPart, cont_block, is_cont}
 use Rattle.answer_laws.proofs.TcAborts.{AbortMove, abort_move, aborted_body, begins, continues, is_abort, waits}
-use Rattle.answer_laws.proofs.PartCounts.{IsPart, is_cont, cont_block}
-use Rattle.answer_laws.proofs.TcLives.{IsOwn}
-use Rattle.answer_laws.proofs.TcSteps.{TxStep, born, elsewhere, live_in, of_live, turned, tx_step}
-use Rattle.answer_laws.proofs.Totals.{Grown, sent_all, sent_more, taken_all, taken_more, total_le, total_same}
-use Rattle.answer_laws.proofs.Wishes.{is_tc, sends_of, to_node}
-use Rattle.answer_laws.specs.Answered.{AreQuiet, IsLiveAs, is_aborting, NoAbortIsAwaited}
-use Rattle.answer_laws.proofs.AbortCounts.{lqh_aborts, few_rows, few_answers, none_at, abort_low, answer_turn, cont_turn, cont_place, conts_few}
+use Rattle.host_laws.proofs.TcSends.{tx_in}
+use Rattle.host_laws.proofs.TcSteps.{live_home, of_live}
+use Rattle.host_laws.proofs.TcTurns.{is_turn}
+use Rattle.answer_laws.proofs.Totals.{Grown, sent_all, sent_more, taken_all, taken_more}
+use Rattle.host_laws.proofs.Wishes.{is_tc, sends_of}
+use Rattle.answer_laws.specs.Answered.{AreQuiet, NoAbortIsAwaited}
+use Rattle.tc_block.specs.Phases.{is_aborting}
 
-module _ (start : Start) (few_nodes : start.nodes ≤ 8) (tx : TxId) (h : ℕ) (home : tx.tc ≡ suc h) (home_low : suc h < start.nodes + 1) where
-  abbrev view : View
-  view = first_view start.nodes
+module _ (start : Start) (shape : IsShape start.shape) (tx : TxId) (some_node : 1 ≤ tx.tc) (few_nodes : tx.tc ≤ start.shape.nodes) where
+  abbrev layout : Layout
+  layout = first_layout start.shape
 
-  view_good : is_good (start.nodes + 1) (first_view start.nodes).full ≡ true
-  view_good = good_members (start.nodes + 1) start.nodes (omega arith)
+  -- the first number behind those of the nodes, and the host of the transaction's coordinator
+  abbrev nodes : ℕ
+  nodes = start.shape.nodes + 1
 
-  abbrev S : (ℕ → List LogStep) → ℕ
-  S logs = sent_all start (start.nodes + 1) (is_abort (start.nodes + 1) tx) logs
+  abbrev at : ℕ
+  at = home start tx
 
-  abbrev T : (ℕ → List LogStep) → ℕ
-  T logs = taken_all start (start.nodes + 1) (is_abort (start.nodes + 1) tx) logs
+  low : at < hosts start
+  low = host_below start (coordinator_of tx) some_node few_nodes
+
+  good : (key : List ℕ) → is_good nodes (chain_of (first_layout start.shape) key) ≡ true
+  good key = good_chain start.shape shape key
+
+  abbrev S : (ℕ → List HostStep) → ℕ
+  S logs = sent_all start (hosts start) (is_abort nodes tx) logs
+
+  abbrev T : (ℕ → List HostStep) → ℕ
+  T logs = taken_all start (hosts start) (is_abort nodes tx) logs
 
   -- the signals by which its coordinator goes on at a place
-  abbrev conts_sent : ℕ → List LogStep → ℕ
-  conts_sent a log = signals (is_cont tx a) (sent (machine start) (suc h) (suc h) log)
+  abbrev conts_sent : ℕ → List HostStep → ℕ
+  conts_sent a log = signals (is_cont tx a) (sent (machine start) at at log)
 
-  abbrev conts_taken : ℕ → List LogStep → ℕ
-  conts_taken a log = signals (is_cont tx a) (taken (machine start) (suc h) log)
+  abbrev conts_taken : ℕ → List HostStep → ℕ
+  conts_taken a log = signals (is_cont tx a) (taken (machine start) at log)
 
   -- the rest is sent when the coordinator goes on
-  record IsLeft (logs : ℕ → List LogStep) (l a k : ℕ) : Type 0 where
-    at : ℕ
-    low : at < 512
-    coming : conts_taken at (logs (suc h)) + 1 ≤ conts_sent at (logs (suc h))
-    owed : T logs + k + at ≤ S logs + l + a
+  record IsLeft (logs : ℕ → List HostStep) (l a k : ℕ) : Type 0 where
+    place : ℕ
+    low : place < 512
+    coming : conts_taken place (logs at) + 1 ≤ conts_sent place (logs at)
+    owed : T logs + k + place ≤ S logs + l + a
 
-  abbrev IsOwed : (ℕ → List LogStep) → ℕ → ℕ → ℕ → Type 0
+  abbrev IsOwed : (ℕ → List HostStep) → ℕ → ℕ → ℕ → Type 0
   IsOwed logs l a k = (T logs + k ≤ S logs + a) ⊎ IsLeft logs l a k
 
+  abbrev OwedBy : (ℕ → List HostStep) → Transaction → ℕ → Type 0
+  OwedBy logs t k = IsOwed logs (replica_count (first_layout start.shape) t.touched) (asked_count (first_layout start.shape) t.asked) k
+
   -- what its abort waits for is at most that
-  record IsDue (logs : ℕ → List LogStep) (t : Transaction) (k : ℕ) : Type 0 where
+  record IsDue (logs : ℕ → List HostStep) (t : Transaction) (k : ℕ) : Type 0 where
     some : 1 ≤ k
-    owed : IsOwed logs (replica_count (first_view start.nodes) t.touched) (asked_count (first_view start.nodes) t.asked) k
+    owed : OwedBy logs t k
 
-  abbrev AllDue : (ℕ → List LogStep) → Type 0
-  AllDue logs = (t : Transaction) (why : AbortCause) (v : Bool) (k : ℕ) → tx_at tx (after start (suc h) (logs (suc h))) ≡ Some t → t.phase ≡ Aborting why v k → IsDue logs t k
+  abbrev AllDue : (ℕ → List HostStep) → Type 0
+  AllDue logs = (t : Transaction) (why : AbortCause) (v : Bool) (k : ℕ) → tx_at tx (after start at (logs at)) ≡ Some t → t.phase ≡ Aborting why v k → IsDue logs t k
 
-  taken_few : (logs : ℕ → List LogStep) → AreLogs (machine start) logs → T logs ≤ S logs
-  taken_few logs right = total_le (start.nodes + 1) _ _ (λ i low. total_le (start.nodes + 1) _ _ (λ j under. few_taken start logs right (is_abort (start.nodes + 1) tx) i j))
+  taken_few : (logs : ℕ → List HostStep) → AreLogs (machine start) logs → T logs ≤ S logs
+  taken_few logs right = total_le (hosts start) _ _ (λ i low. total_le (hosts start) _ _ (λ j under. few_taken start logs right (is_abort nodes tx) i j))
 
   -- where nothing goes on, what was owed stays owed
-  stays_owed : (logs now : ℕ → List LogStep) (l a k : ℕ) → T now + S logs ≤ T logs + S now → ((b : ℕ) → b < 512 → conts_taken b (now (suc h)) + conts_sent b (logs (suc h)) ≤ conts_taken b (logs (suc h)) + conts_sent b (now (suc h)))
+  stays_owed : (logs now : ℕ → List HostStep) (l a k : ℕ) → T now + S logs ≤ T logs + S now → ((b : ℕ) → b < 512 → conts_taken b (now at) + conts_sent b (logs at) ≤ conts_taken b (logs at) + conts_sent b (now at))
       → IsOwed logs l a k → IsOwed now l a k
   stays_owed logs now l a k more conts (inl enough) = inl (omega (arith, enough, more))
   stays_owed logs now l a k more conts (inr left) = inr (record {
-    at = left.at;
+    place = left.place;
     low = left.low;
-    coming = omega (arith, left.coming, conts left.at left.low);
+    coming = omega (arith, left.coming, conts left.place left.low);
     owed = omega (arith, left.owed, more);
   })
 
-  few_replicas : (touched : List Touched) → length touched ≤ 64 → replica_count (first_view start.nodes) touched ≤ 512
-  unfolding chain_of
-  few_replicas touched low = omega (arith, low, each_few touched)
+  few_all : (touched : List Touched) → length touched ≤ 64 → replica_count (first_layout start.shape) touched ≤ 512
+  few_all touched low = omega (arith, low, each_few touched)
     where
-      behind : (xs : List Member) (x : Member) → length (xs ++ x ∷ []) ≡ length xs + 1
-      behind [] x = refl
-      behind (y ∷ xs) x = omega (arith, behind xs x)
-
-      member_count : (m : ℕ) → length (members m) ≡ m
-      member_count zero = refl
-      member_count (suc m) = omega (arith, member_count m, behind (members m) (record { node = m + 1; start = 0 }))
-
-      one : (key : List ℕ) → length (chain_of (first_view start.nodes) key) ≤ 8
-      one key = omega (arith, member_count start.nodes, few_nodes)
-
-      each_few : (xs : List Touched) → replica_count (first_view start.nodes) xs ≤ 8 * length xs
+      each_few : (xs : List Touched) → replica_count (first_layout start.shape) xs ≤ 8 * length xs
       each_few [] = omega arith
-      each_few (x ∷ xs) = omega (arith, each_few xs, one x.key)
+      each_few (x ∷ xs) = omega (arith, each_few xs, few_replicas (first_layout start.shape) x.key)
 
-  own_step : (logs now : ℕ → List LogStep) (e : LogStep) → Goes start logs now (suc h) e → AllDue logs → AllDue now
-  own_step logs now e g all u why v k u_at u_is = finish n.step
+  -- a step of a host
+  module _ (logs now : ℕ → List HostStep) (h : ℕ) (e : HostStep) (g : Goes start logs now h e) where
+    abbrev x : Signal
+    x = e.step.taken
+
+    abbrev came : ℕ
+    came = one_if (is_abort nodes tx x.to x.body)
+
+    abbrev sends : List Outgoing
+    sends = (step_after start h (logs h) e).effects.sends
+
+    grown : Grown start (hosts start) (is_abort nodes tx) logs now h e
+    grown = record { own = g.own; others = g.others }
+
+    s_more : S now ≡ S logs + sends_of (is_abort nodes tx) sends
+    s_more = sent_more start (hosts start) (is_abort nodes tx) (abort_low start tx few_nodes) logs now h e g.low grown
+
+    t_more : T now ≤ T logs + came
+    t_more = taken_more start (hosts start) (is_abort nodes tx) logs now h e g.low grown
+
+    -- rows pass on what came
+    rows_pass : IsRowsStep (after start h (logs h)) x (step_after start h (logs h) e) → came ≤ sends_of (is_abort nodes tx) sends
+    rows_pass step =
+        omega (
+          arith,
+          few_rows nodes tx x.to x.body (ap is_tc step.at),
+          lqh_aborts nodes tx (lqh_of (after start h (logs h))) x.body,
+          ap (λ f. sends_of (is_abort nodes tx) f.sends) step.effects,
+        )
+
+    -- where nothing is said of the transaction none came
+    aside_none : IsAside tx (after start h (logs h)) x (step_after start h (logs h) e) → ((is_tc x.to.block && (x.to.node == tx.tc)) ≡ true → aborted_body tx x.body ≡ true → ⊥) → came ≡ 0
+    aside_none step away = ap one_if (none_at nodes tx x.to x.body rows away)
+      where
+        rows : (is_lqh x.to.block && is_node nodes x.to.node) ≡ true → ⊥
+        rows q = true≢false (sym (heard_rows start h (logs h) x.to (addressed start logs now h e g) q) ∙ step.unheard (left_of (is_lqh x.to.block) (is_node nodes x.to.node) q))
+
+  own_step : (logs now : ℕ → List HostStep) (e : HostStep) → Goes start logs now at e → AllDue logs → AllDue now
+  own_step logs now e g all u why v k u_at u_is = by (turn_at start tx at (logs at) e)
     where
-      n_of : ℕ
-      n_of = start.nodes + 1
+      s : Host
+      s = after start at (logs at)
 
-      test : Place → Body → Bool
-      test to body = is_abort (start.nodes + 1) tx to body
+      c : ℕ
+      c = one_if (is_abort nodes tx e.step.taken.to e.step.taken.body)
 
-      x : AtNode start tx h (logs (suc h))
-      x = at_node start tx h (logs (suc h))
+      own_sends : List Outgoing
+      own_sends = (step_after start at (logs at) e).effects.sends
 
-      n : NextAt start h e (logs (suc h)) x.state
-      n = next_at start h e (logs (suc h)) x.state x.is
+      s_now : S now ≡ S logs + sends_of (is_abort nodes tx) own_sends
+      s_now = s_more logs now at e g
 
-      grown : Grown start (start.nodes + 1) (is_abort (start.nodes + 1) tx) logs now (suc h) e
-      grown = record { own = g.own; others = g.others }
-
-      now_is : after start (suc h) (now (suc h)) ≡ Node n.now
-      now_is = ap (after start (suc h)) g.own ∙ n.is
-
-      s_more : S now ≡ S logs + sends_of (is_abort (start.nodes + 1) tx) n.sends
-      s_more =
-          sent_more start (start.nodes + 1) (is_abort (start.nodes + 1) tx) (abort_low (start.nodes + 1) tx (omega (arith, home, home_low))) logs now (suc h) e g.low grown
-          ∙ ap (λ xs. S logs + sends_of (is_abort (start.nodes + 1) tx) xs) n.sent_is
-
-      t_more : T now ≤ T logs + one_if (is_abort (start.nodes + 1) tx e.taken.to e.taken.body)
-      t_more = taken_more start (start.nodes + 1) (is_abort (start.nodes + 1) tx) logs now (suc h) e g.low grown
+      t_now : T now ≤ T logs + c
+      t_now = t_more logs now at e g
 
       t_few : T logs ≤ S logs
       t_few = taken_few logs g.before
 
-      c_sent : (a : ℕ) → conts_sent a (logs (suc h)) + sends_of (is_cont tx a) n.sends ≤ conts_sent a (now (suc h))
-      c_sent a =
-          omega (
-            arith,
-            ap (conts_sent a) g.own,
-            sent_signals start (is_cont tx a) (suc h) (suc h) e (logs (suc h)),
-            ap (sends_of (to_node (suc h) (is_cont tx a))) n.sent_is,
-            conts_few tx a n.sends,
-            ap (λ j. sends_of (to_node j (is_cont tx a)) n.sends) home,
-          )
+      c_sent : (a : ℕ) → conts_sent a (logs at) + sends_of (is_cont tx a) own_sends ≤ conts_sent a (now at)
+      c_sent a = omega (arith, ap (conts_sent a) g.own, sent_signals start (is_cont tx a) at at e (logs at), conts_few start tx a own_sends)
 
-      c_taken : (a : ℕ) → conts_taken a (now (suc h)) ≤ conts_taken a (logs (suc h)) + one_if (is_cont tx a e.taken.to e.taken.body)
-      c_taken a = omega (arith, ap (conts_taken a) g.own, taken_signals start (is_cont tx a) (suc h) e (logs (suc h)), and_few (is_from (machine start) (suc h) e) (is_cont tx a e.taken.to e.taken.body))
+      c_taken : (a : ℕ) → conts_taken a (now at) ≤ conts_taken a (logs at) + one_if (is_cont tx a e.step.taken.to e.step.taken.body)
+      c_taken a = omega (arith, ap (conts_taken a) g.own, taken_signals start (is_cont tx a) at e (logs at), and_few (is_from (machine start) at e) (is_cont tx a e.step.taken.to e.step.taken.body))
 
-      c_few : (a : ℕ) → conts_taken a (logs (suc h)) ≤ conts_sent a (logs (suc h))
-      c_few a = few_taken start logs g.before (is_cont tx a) (suc h) (suc h)
+      c_few : (a : ℕ) → conts_taken a (logs at) ≤ conts_sent a (logs at)
+      c_few a = few_taken start logs g.before (is_cont tx a) at at
 
-      was_at : (o : Option Transaction) → of_live tx x.state.tc.live ≡ o → tx_at tx (after start (suc h) (logs (suc h))) ≡ o
-      was_at o q = ap (tx_at tx) x.is ∙ q
-
-      now_at : of_live tx n.now.tc.live ≡ Some u
-      now_at = sym (ap (tx_at tx) now_is) ∙ u_at
+      now_at : tx_at tx (step_after start at (logs at) e).state ≡ Some u
+      now_at = ap (λ log. tx_at tx (after start at log)) (sym g.own) ∙ u_at
 
       -- where the transaction stays as it is, and what came is passed on
-      kept : of_live tx n.now.tc.live ≡ of_live tx x.state.tc.live → one_if (is_abort (start.nodes + 1) tx e.taken.to e.taken.body) ≤ sends_of (is_abort (start.nodes + 1) tx) n.sends
-          → ((a : ℕ) → is_cont tx a e.taken.to e.taken.body ≡ false) → IsDue now u k
+      kept : tx_at tx (step_after start at (logs at) e).state ≡ tx_at tx s → c ≤ sends_of (is_abort nodes tx) own_sends → ((a : ℕ) → is_cont tx a e.step.taken.to e.step.taken.body ≡ false) → IsDue now u k
       kept same passed off =
-          let due = all u why v k (was_at (Some u) (sym same ∙ now_at)) u_is in
+          let due = all u why v k (sym same ∙ now_at) u_is in
           record {
             some = due.some;
-            owed = stays_owed logs now (replica_count (first_view start.nodes) u.touched) (asked_count (first_view start.nodes) u.asked) k (omega (arith, s_more, t_more, passed)) (λ b low. omega (arith, c_sent b, c_taken b, ap one_if (off b))) due.owed;
+            owed = stays_owed logs now (replica_count (first_layout start.shape) u.touched) (asked_count (first_layout start.shape) u.asked) k (omega (arith, s_now, t_now, passed)) (λ b low. omega (arith, c_sent b, c_taken b, ap one_if (off b))) due.owed;
           }
 
-      finish : NodeStep x.state e.taken.to.block e.taken.body n.now n.sends → IsDue now u k
-      finish (of_dih at is sends) =
-          kept (ap (λ (y : node.Node). of_live tx y.tc.live) is)
-          (omega (arith, none_at (start.nodes + 1) tx e.taken.to e.taken.body (ap is_lqh at) (ap (λ b. is_tc b && (e.taken.to.node == tx.tc)) at))) (λ a. cont_block tx a e.taken.to e.taken.body (ap is_tc at))
-      finish (of_lqh at is sends) =
-          kept (ap (λ (y : node.Node). of_live tx y.tc.live) is)
-          (omega (arith, few_rows (start.nodes + 1) tx e.taken.to e.taken.body (ap is_tc at), lqh_aborts (start.nodes + 1) tx x.state.lqh e.taken.body, ap (sends_of (is_abort (start.nodes + 1) tx)) sends)) (λ a. cont_block tx a e.taken.to e.taken.body (ap is_tc at))
-      finish (of_none tc lqh dih is sends) =
-          kept (ap (λ (y : node.Node). of_live tx y.tc.live) is)
-          (omega (arith, none_at (start.nodes + 1) tx e.taken.to e.taken.body lqh (ap (λ b. b && (e.taken.to.node == tx.tc)) tc))) (λ a. cont_block tx a e.taken.to e.taken.body tc)
-      finish (of_tc at is sends) = by (tx_step tx x.state.tc e.taken.body x.once x.own)
+      by : HostTurn tx s e.step.taken (step_after start at (logs at) e) → IsDue now u k
+      by (in_rows step) = kept (ap (λ t. of_live tx t.live) step.tc) (rows_pass logs now at e g step) (λ a. cont_block tx a e.step.taken.to e.step.taken.body (ap is_tc step.at))
+      by (aside step) =
+          kept step.same (omega (arith, aside_none logs now at e g step (λ tc said. let turn = answer_turn tx e.step.taken.body said in gone (left_of (is_tc e.step.taken.to.block) (e.step.taken.to.node == tx.tc) tc) turn.0 turn.1)))
+          (λ a. off_cont a (is_cont tx a e.step.taken.to e.step.taken.body) refl)
         where
-          tc_is : of_live tx n.now.tc.live ≡ of_live tx (tc_row x.state.tc e.taken.body).state.live
-          tc_is = ap (λ (y : node.Node). of_live tx y.tc.live) is
+          gone : is_tc e.step.taken.to.block ≡ true → is_turn e.step.taken.body ≡ true → tx_in e.step.taken.body ≡ tx → ⊥
+          gone tc turn one = no_transaction u (sym (step.absent tc turn one) ∙ (sym step.same ∙ now_at))
 
-          came : one_if (is_abort (start.nodes + 1) tx e.taken.to e.taken.body) ≤ one_if (aborted_body tx e.taken.body)
-          came = few_answers (start.nodes + 1) tx e.taken.to e.taken.body (ap is_lqh at)
-
-          by : TxStep tx x.state.tc e.taken.body (tc_row x.state.tc e.taken.body) → IsDue now u k
-          by (elsewhere same kind absent) =
-              kept (tc_is ∙ same) (omega (arith, came, ap one_if (off (aborted_body tx e.taken.body) refl))) (λ a. off_cont a (is_cont tx a e.taken.to e.taken.body) refl)
+          off_cont : (a : ℕ) (b : Bool) → is_cont tx a e.step.taken.to e.step.taken.body ≡ b → is_cont tx a e.step.taken.to e.step.taken.body ≡ false
+          off_cont a false q = q
+          off_cont a true q = by_block (is_tc e.step.taken.to.block) refl
             where
-              there : of_live tx x.state.tc.live ≡ Some u
-              there = sym (tc_is ∙ same) ∙ now_at
+              by_block : (b : Bool) → is_tc e.step.taken.to.block ≡ b → is_cont tx a e.step.taken.to e.step.taken.body ≡ false
+              by_block false off = cont_block tx a e.step.taken.to e.step.taken.body off
+              by_block true on = let turn = cont_turn tx a e.step.taken.to e.step.taken.body q in absurd (gone on turn.0 turn.1)
+      by (starting step) = absurd (open_not (ap (λ (t : Transaction). t.phase) (the_transaction fresh u (sym step.there ∙ now_at)) ∙ u_is))
+        where
+          open_not : Open ≡ Aborting why v k → ⊥
+          open_not q = cc
+      by (turning step) = which step.turn.over refl
+        where
+          came : c ≤ one_if (aborted_body tx e.step.taken.body)
+          came = few_answers nodes tx e.step.taken.to e.step.taken.body (ap is_lqh step.at)
 
-              off : (b : Bool) → aborted_body tx e.taken.body ≡ b → aborted_body tx e.taken.body ≡ false
-              off false q = q
-              off true q = let c = answer_turn tx e.taken.body q in absurd (no_transaction u (sym (absent c.0 c.1) ∙ there))
+          s_turn : S now ≡ S logs + sends_of (is_abort nodes tx) step.turn.step.effects.sends
+          s_turn = s_now ∙ ap (λ xs. S logs + sends_of (is_abort nodes tx) xs) step.told
 
-              off_cont : (a : ℕ) (b : Bool) → is_cont tx a e.taken.to e.taken.body ≡ b → is_cont tx a e.taken.to e.taken.body ≡ false
-              off_cont a false q = q
-              off_cont a true q = let c = cont_turn tx a e.taken.to e.taken.body q in absurd (no_transaction u (sym (absent c.0 c.1) ∙ there))
-          by (born name about one none there told) = absurd (open_not (ap (λ (t : Transaction). t.phase) (the_transaction fresh u (sym (tc_is ∙ there) ∙ now_at)) ∙ u_is))
+          c_turn : (a : ℕ) → conts_sent a (logs at) + sends_of (is_cont tx a) step.turn.step.effects.sends ≤ conts_sent a (now at)
+          c_turn a = omega (arith, c_sent a, ap (sends_of (is_cont tx a)) step.told)
+
+          number : (tc_of s).node ≡ tx.tc
+          number = sym (live_home tx (tc_of s) step.was step.there (at_tc start tx at (logs at)).own)
+
+          which : (b : Bool) → step.turn.over ≡ b → IsDue now u k
+          which true over = no_transaction u (sym (step.left ∙ ap (λ b. if b then None else Some step.turn.step.state) over) ∙ now_at)
+          which false over =
+              subst (λ w. IsDue now w k) same
+              (moved (abort_move nodes tx (first_layout start.shape) good (tc_of s) number (tc_layout start at (logs at) step.runs) step.was e.step.taken.body step.turn step.move over why v k (ap (λ (w : Transaction). w.phase) same ∙ u_is)))
             where
-              open_not : Open ≡ Aborting why v k → ⊥
-              open_not q = cc
-          by (turned t turn about one there move left told) = which turn.over refl
-            where
-              s_turn : S now ≡ S logs + sends_of (is_abort (start.nodes + 1) tx) turn.step.effects.sends
-              s_turn = s_more ∙ ap (λ xs. S logs + sends_of (is_abort (start.nodes + 1) tx) xs) (sends ∙ told)
+              same : step.turn.step.state ≡ u
+              same = the_transaction step.turn.step.state u (sym (step.left ∙ ap (λ b. if b then None else Some step.turn.step.state) over) ∙ now_at)
 
-              c_turn : (a : ℕ) → conts_sent a (logs (suc h)) + sends_of (is_cont tx a) turn.step.effects.sends ≤ conts_sent a (now (suc h))
-              c_turn a = omega (arith, c_sent a, ap (sends_of (is_cont tx a)) (sends ∙ told))
+              before : (other : AbortCause) (z : Bool) (m : ℕ) → step.was.phase ≡ Aborting other z m → IsDue logs step.was m
+              before other z m p = all step.was other z m step.there p
 
-              number : x.state.tc.node ≡ tx.tc
-              number = x.number ∙ sym home
-
-              which : (b : Bool) → turn.over ≡ b → IsDue now u k
-              which true over = absurd (no_transaction u (sym (tc_is ∙ (left ∙ ap (λ b. if b then None else Some turn.step.state) over)) ∙ now_at))
-              which false over = subst (λ w. IsDue now w k) same (moved (abort_move (start.nodes + 1) tx (first_view start.nodes) view_good x.state.tc number x.view t e.taken.body turn move over why v k (ap (λ (w : Transaction). w.phase) same ∙ u_is)))
+              moved : AbortMove nodes tx (first_layout start.shape) good step.was e.step.taken.body step.turn.step.state step.turn.step.effects.sends k → IsDue now step.turn.step.state k
+              moved (begins none off some k_is part) = record { some = some; owed = parts part }
                 where
-                  same : turn.step.state ≡ u
-                  same = the_transaction turn.step.state u (sym (tc_is ∙ (left ∙ ap (λ b. if b then None else Some turn.step.state) over)) ∙ now_at)
+                  parts : IsPart (is_abort nodes tx) tx (replica_count (first_layout start.shape) step.turn.step.state.touched) 0 step.turn.step.effects.sends → OwedBy now step.turn.step.state k
+                  parts (inl p) = inr (record {
+                    place = 8;
+                    low = omega arith;
+                    coming = omega (arith, p.2, c_turn 8, c_taken 8, c_few 8, ap one_if (off 8 e.step.taken.to));
+                    owed = omega (arith, p.1, k_is, s_turn, t_now, t_few, came, ap one_if none);
+                  })
+                  parts (inr p) = inl (omega (arith, p, k_is, s_turn, t_now, t_few, came, ap one_if none))
+              moved (waits other z m p some off touched le) = record { some = some d.some; owed = by_owed d.owed }
+                where
+                  d : IsDue logs step.was m
+                  d = before other z m p
 
-                  w : Transaction
-                  w = turn.step.state
+                  by_owed : OwedBy logs step.was m → OwedBy now step.turn.step.state k
+                  by_owed (inl enough) = inl (omega (arith, enough, le, s_turn, t_now, came))
+                  by_owed (inr l) = inr (record {
+                    place = l.place;
+                    low = l.low;
+                    coming = omega (arith, l.coming, c_turn l.place, c_taken l.place, ap one_if (off l.place e.step.taken.to l.low));
+                    owed = omega (arith, l.owed, le, s_turn, t_now, came, ap (replica_count (first_layout start.shape)) touched);
+                  })
+              moved (continues other z place p about low w_is part) = subst (λ w. IsDue now w k) (sym w_is) (record { some = d.some; owed = by_owed d.owed })
+                where
+                  d : IsDue logs step.was k
+                  d = before other z k p
 
-                  before : (other : AbortCause) (z : Bool) (m : ℕ) → t.phase ≡ Aborting other z m → IsDue logs t m
-                  before other z m p = all t other z m (was_at (Some t) there) p
+                  none : one_if (aborted_body tx e.step.taken.body) ≡ 0
+                  none = ap (λ b. one_if (aborted_body tx b)) about
 
-                  moved : AbortMove (start.nodes + 1) tx (first_view start.nodes) view_good t e.taken.body turn.step.state turn.step.effects.sends k → IsDue now turn.step.state k
-                  moved (begins none off some k_is part) = record { some = some; owed = parts part }
+                  l_few : replica_count (first_layout start.shape) step.was.touched ≤ 512
+                  l_few = few_all step.was.touched (few_touched start tx at (logs at) step.was step.there)
+
+                  off : (a : ℕ) → a ≢ place → is_cont tx a e.step.taken.to e.step.taken.body ≡ false
+                  off a differs = ap (is_cont tx a e.step.taken.to) about ∙ cont_place tx a place e.step.taken.to differs
+
+                  by_owed : OwedBy logs step.was k → OwedBy now step.was k
+                  by_owed (inl enough) = inl (omega (arith, enough, s_turn, t_now, came, none))
+                  by_owed (inr l) = where_at (cases_eq l.place place)
                     where
-                      parts : IsPart (is_abort (start.nodes + 1) tx) tx (replica_count (first_view start.nodes) turn.step.state.touched) 0 turn.step.effects.sends
-                          → IsOwed now (replica_count (first_view start.nodes) turn.step.state.touched) (asked_count (first_view start.nodes) turn.step.state.asked) k
-                      parts (inl p) = inr (record {
-                        at = 8;
-                        low = omega arith;
-                        coming = omega (arith, p.2, c_turn 8, c_taken 8, c_few 8, ap one_if (off 8 e.taken.to));
-                        owed = omega (arith, p.1, k_is, s_turn, t_more, t_few, came, ap one_if none);
+                      goes_on : l.place ≡ place → IsPart (is_abort nodes tx) tx (replica_count (first_layout start.shape) step.was.touched) place step.turn.step.effects.sends → OwedBy now step.was k
+                      goes_on here (inl q) = inr (record {
+                        place = place + 8;
+                        low = omega (arith, q.0, l_few);
+                        coming = omega (arith, q.2, c_turn (place + 8), c_taken (place + 8), c_few (place + 8), ap one_if (off (place + 8) (λ r. absurd (omega (arith, r)))));
+                        owed = omega (arith, l.owed, q.1, here, s_turn, t_now, came, none);
                       })
-                      parts (inr p) = inl (omega (arith, p, k_is, s_turn, t_more, t_few, came, ap one_if none))
-                  moved (waits other z m p some off touched le) = record { some = some d.some; owed = by_owed d.owed }
-                    where
-                      d : IsDue logs t m
-                      d = before other z m p
+                      goes_on here (inr q) = inl (omega (arith, l.owed, q, here, s_turn, t_now, came, none))
 
-                      by_owed : IsOwed logs (replica_count (first_view start.nodes) t.touched) (asked_count (first_view start.nodes) t.asked) m
-                          → IsOwed now (replica_count (first_view start.nodes) turn.step.state.touched) (asked_count (first_view start.nodes) turn.step.state.asked) k
-                      by_owed (inl enough) = inl (omega (arith, enough, le, s_turn, t_more, came))
-                      by_owed (inr l) = inr (record {
-                        at = l.at;
+                      where_at : (l.place ≡ place) ⊎ (l.place ≢ place) → OwedBy now step.was k
+                      where_at (inl here) = goes_on here part
+                      where_at (inr differs) = inr (record {
+                        place = l.place;
                         low = l.low;
-                        coming = omega (arith, l.coming, c_turn l.at, c_taken l.at, ap one_if (off l.at e.taken.to l.low));
-                        owed = omega (arith, l.owed, le, s_turn, t_more, came, ap (replica_count (first_view start.nodes)) touched);
+                        coming = omega (arith, l.coming, c_turn l.place, c_taken l.place, ap one_if (off l.place differs));
+                        owed = omega (arith, l.owed, s_turn, t_now, came, none);
                       })
-                  moved (continues other z at p about low w_is part) = subst (λ w. IsDue now w k) (sym w_is) (record { some = d.some; owed = by_owed d.owed })
-                    where
-                      d : IsDue logs t k
-                      d = before other z k p
-
-                      none : one_if (aborted_body tx e.taken.body) ≡ 0
-                      none = ap (λ b. one_if (aborted_body tx b)) about
-
-                      l_few : replica_count (first_view start.nodes) t.touched ≤ 512
-                      l_few = few_replicas t.touched (few_touched start tx h (logs (suc h)) t (was_at (Some t) there))
-
-                      off : (a : ℕ) → a ≢ at → is_cont tx a e.taken.to e.taken.body ≡ false
-                      off a differs = ap (is_cont tx a e.taken.to) about ∙ cont_place tx a at e.taken.to differs
-
-                      by_owed : IsOwed logs (replica_count (first_view start.nodes) t.touched) (asked_count (first_view start.nodes) t.asked) k
-                          → IsOwed now (replica_count (first_view start.nodes) t.touched) (asked_count (first_view start.nodes) t.asked) k
-                      by_owed (inl enough) = inl (omega (arith, enough, s_turn, t_more, came, none))
-                      by_owed (inr l) = where_at (cases_eq l.at at)
-                        where
-                          goes_on : l.at ≡ at → IsPart (is_abort (start.nodes + 1) tx) tx (replica_count (first_view start.nodes) t.touched) at turn.step.effects.sends
-                              → IsOwed now (replica_count (first_view start.nodes) t.touched) (asked_count (first_view start.nodes) t.asked) k
-                          goes_on here (inl q) = inr (record {
-                            at = at + 8;
-                            low = omega (arith, q.0, l_few);
-                            coming = omega (arith, q.2, c_turn (at + 8), c_taken (at + 8), c_few (at + 8), ap one_if (off (at + 8) (λ r. absurd (omega (arith, r)))));
-                            owed = omega (arith, l.owed, q.1, here, s_turn, t_more, came, none);
-                          })
-                          goes_on here (inr q) = inl (omega (arith, l.owed, q, here, s_turn, t_more, came, none))
-
-                          where_at : (l.at ≡ at) ⊎ (l.at ≢ at) → IsOwed now (replica_count (first_view start.nodes) t.touched) (asked_count (first_view start.nodes) t.asked) k
-                          where_at (inl here) = goes_on here part
-                          where_at (inr differs) = inr (record {
-                            at = l.at;
-                            low = l.low;
-                            coming = omega (arith, l.coming, c_turn l.at, c_taken l.at, ap one_if (off l.at differs));
-                            owed = omega (arith, l.owed, s_turn, t_more, came, none);
-                          })
 
   -- the step of another host
-  other_step : (logs now : ℕ → List LogStep) (i : ℕ) (e : LogStep) → Goes start logs now i e → suc h ≢ i → one_if (is_abort (start.nodes + 1) tx e.taken.to e.taken.body) ≤ sends_of (is_abort (start.nodes + 1) tx) (step_after start i (logs i) e).effects.sends
-      → AllDue logs → AllDue now
-  other_step logs now i e g differs passed all u why v k u_at u_is =
-      let log_is = g.others (suc h) differs in
-      let due = all u why v k (ap (λ log. tx_at tx (after start (suc h) log)) (sym log_is) ∙ u_at) u_is in
+  other_step : (logs now : ℕ → List HostStep) (h : ℕ) (e : HostStep) → Goes start logs now h e → h ≢ at → AllDue logs → AllDue now
+  other_step logs now h e g differs all u why v k u_at u_is =
+      let log_is = g.others at (λ z. differs (sym z)) in
+      let due = all u why v k (ap (λ log. tx_at tx (after start at log)) (sym log_is) ∙ u_at) u_is in
       record {
         some = due.some;
-        owed = stays_owed logs now (replica_count (first_view start.nodes) u.touched) (asked_count (first_view start.nodes) u.asked) k
-            (omega (
-              arith,
-              passed,
-              sent_more start (start.nodes + 1) (is_abort (start.nodes + 1) tx) (abort_low (start.nodes + 1) tx (omega (arith, home, home_low))) logs now i e g.low (record { own = g.own; others = g.others }),
-              taken_more start (start.nodes + 1) (is_abort (start.nodes + 1) tx) logs now i e g.low (record { own = g.own; others = g.others }),
-            ))
-            (λ b low. omega (arith, ap (conts_taken b) log_is, ap (conts_sent b) log_is)) due.owed;
+        owed = stays_owed logs now (replica_count (first_layout start.shape) u.touched) (asked_count (first_layout start.shape) u.asked) k
+            (omega (arith, passed (other_turn start tx h (logs h) e g.low differs), s_more logs now h e g, t_more logs now h e g)) (λ b low. omega (arith, ap (conts_taken b) log_is, ap (conts_sent b) log_is)) due.owed;
       }
-
-  elsewhere_none : (to : Place) (body : Body) → is_node (start.nodes + 1) to.node ≡ false → (to.node == tx.tc) ≡ false → one_if (is_abort (start.nodes + 1) tx to body) ≡ 0
-  elsewhere_none to (Chain (Abort other key)) p q = ap (λ b. one_if ((is_lqh to.block && b) && same_tx other tx)) p ∙ fails (is_lqh to.block) (same_tx other tx)
     where
-      fails : (a b : Bool) → one_if ((a && false) && b) ≡ 0
-      fails true b = refl
-      fails false b = refl
-  elsewhere_none to (Chain (Aborted other key)) p q = ap (λ b. one_if ((is_tc to.block && b) && same_tx other tx)) q ∙ fails (is_tc to.block) (same_tx other tx)
+      passed : IsRowsStep (after start h (logs h)) e.step.taken (step_after start h (logs h) e) ⊎ IsAside tx (after start h (logs h)) e.step.taken (step_after start h (logs h) e)
+          → one_if (is_abort nodes tx e.step.taken.to e.step.taken.body) ≤ sends_of (is_abort nodes tx) (step_after start h (logs h) e).effects.sends
+      passed (inl rows) = rows_pass logs now h e g rows
+      passed (inr other) = omega (arith, aside_none logs now h e g other (λ tc said. differs (sym (addressed start logs now h e g) ∙ home_place start tx e.step.taken.to tc)))
+
+  step : (logs now : ℕ → List HostStep) (h : ℕ) (e : HostStep) → Goes start logs now h e → AllDue logs → AllDue now
+  step logs now h e g all = by (cases_eq h at)
     where
-      fails : (a b : Bool) → one_if ((a && false) && b) ≡ 0
-      fails true b = refl
-      fails false b = refl
-  elsewhere_none to _ p q = refl
-
-  not_home : (i k : ℕ) → k ≡ i → suc h ≢ i → (k == tx.tc) ≡ false
-  not_home i k at differs = by (k == tx.tc) refl
-    where
-      by : (b : Bool) → (k == tx.tc) ≡ b → (k == tx.tc) ≡ false
-      by false q = q
-      by true q = absurd (differs (sym home ∙ (sym (eqb-true k tx.tc q) ∙ at)))
-
-  step : (logs now : ℕ → List LogStep) (i : ℕ) (e : LogStep) → Goes start logs now i e → AllDue logs → AllDue now
-  step logs now i e g all = by (cases_eq (suc h) i)
-    where
-      passed : (j : ℕ) → i ≡ j → suc h ≢ i → one_if (is_abort (start.nodes + 1) tx e.taken.to e.taken.body) ≤ sends_of (is_abort (start.nodes + 1) tx) (step_after start i (logs i) e).effects.sends
-      passed zero i_is differs =
-          omega (arith, elsewhere_none e.taken.to e.taken.body (ap (is_node (start.nodes + 1)) (g.at ∙ i_is)) (not_home i e.taken.to.node g.at differs))
-      passed (suc j) i_is differs =
-          omega (arith, here n.step, ap (λ k. sends_of (is_abort (start.nodes + 1) tx) (step_after start k (logs k) e).effects.sends) i_is, ap (sends_of (is_abort (start.nodes + 1) tx)) n.sent_is)
-        where
-          x : AtNode start tx j (logs (suc j))
-          x = at_node start tx j (logs (suc j))
-
-          n : NextAt start j e (logs (suc j)) x.state
-          n = next_at start j e (logs (suc j)) x.state x.is
-
-          off : (is_tc e.taken.to.block && (e.taken.to.node == tx.tc)) ≡ false
-          off = ap (λ b. is_tc e.taken.to.block && b) (not_home i e.taken.to.node g.at differs) ∙ fails (is_tc e.taken.to.block)
-            where
-              fails : (a : Bool) → (a && false) ≡ false
-              fails true = refl
-              fails false = refl
-
-          here : NodeStep x.state e.taken.to.block e.taken.body n.now n.sends → one_if (is_abort (start.nodes + 1) tx e.taken.to e.taken.body) ≤ sends_of (is_abort (start.nodes + 1) tx) n.sends
-          here (of_tc at is sends) = omega (arith, none_at (start.nodes + 1) tx e.taken.to e.taken.body (ap is_lqh at) off)
-          here (of_dih at is sends) = omega (arith, none_at (start.nodes + 1) tx e.taken.to e.taken.body (ap is_lqh at) off)
-          here (of_lqh at is sends) = omega (arith, few_rows (start.nodes + 1) tx e.taken.to e.taken.body (ap is_tc at), lqh_aborts (start.nodes + 1) tx x.state.lqh e.taken.body, ap (sends_of (is_abort (start.nodes + 1) tx)) sends)
-          here (of_none tc lqh dih is sends) = omega (arith, none_at (start.nodes + 1) tx e.taken.to e.taken.body lqh off)
-
-      by : (suc h ≡ i) ⊎ (suc h ≢ i) → AllDue now
-      by (inl same) = own_step logs now e (subst (λ j. Goes start logs now j e) (sym same) g) all
-      by (inr differs) = other_step logs now i e g differs (passed i refl differs) all
+      by : (h ≡ at) ⊎ (h ≢ at) → AllDue now
+      by (inl same) = own_step logs now e (subst (λ j. Goes start logs now j e) same g) all
+      by (inr differs) = other_step logs now h e g differs all
 
   first : AllDue (log_of (machine start) [])
-  first t why v k at is = absurd (no_transaction t (sym (first_none start tx h) ∙ at))
+  first t why v k there is = no_transaction t (sym (first_none start tx at) ∙ there)
 
-  none_aborts : (logs : ℕ → List LogStep) → AreQuiet start logs → (t : Transaction) (why : AbortCause) (v : Bool) (k : ℕ) → tx_at tx (after start (suc h) (logs (suc h))) ≡ Some t → t.asked ≡ None → t.phase ≡ Aborting why v k → ⊥
-  none_aborts logs quiet t why v k at none is = by due.owed
+  none_aborts : (logs : ℕ → List HostStep) → AreQuiet start logs → (t : Transaction) (why : AbortCause) (v : Bool) (k : ℕ) → tx_at tx (after start at (logs at)) ≡ Some t → t.asked ≡ None → t.phase ≡ Aborting why v k → ⊥
+  none_aborts logs quiet t why v k there none is = by due.owed
     where
       due : IsDue logs t k
-      due = along start AllDue first step logs quiet.within quiet.right t why v k at is
+      due = along start AllDue first step logs quiet.within quiet.right t why v k there is
 
       all_taken : T logs ≡ S logs
-      all_taken = total_same (start.nodes + 1) _ _ (λ i under. total_same (start.nodes + 1) _ _ (λ j below. ap (signals (is_abort (start.nodes + 1) tx)) (quiet.quiet i j under below)))
+      all_taken = total_same (hosts start) _ _ (λ i under. total_same (hosts start) _ _ (λ j below. ap (signals (is_abort nodes tx)) (quiet.quiet i j under below)))
 
-      by : IsOwed logs (replica_count (first_view start.nodes) t.touched) (asked_count (first_view start.nodes) t.asked) k → ⊥
-      by (inl enough) = omega (arith, enough, due.some, all_taken, ap (asked_count (first_view start.nodes)) none)
-      by (inr l) = omega (arith, l.coming, ap (signals (is_cont tx l.at)) (quiet.quiet (suc h) (suc h) home_low home_low))
+      by : OwedBy logs t k → ⊥
+      by (inl enough) = omega (arith, enough, due.some, all_taken, ap (asked_count (first_layout start.shape)) none)
+      by (inr l) = omega (arith, l.coming, ap (signals (is_cont tx l.place)) (quiet.quiet at at low low))
 
 -- at quiet a transaction that aborts has an operation unanswered
 pub no_abort : NoAbortIsAwaited
-no_abort start logs zero tx t quiet low live none = absurd (subst (λ g. IsLiveAs tx t g) (shell_after start (logs 0)).is live)
-no_abort start logs (suc h) tx t quiet low live none = go t.phase refl
+no_abort start logs h tx t quiet low live none = go t.phase refl
   where
-    x : AtNode start tx h (logs (suc h))
-    x = at_node start tx h (logs (suc h))
+    there : tx_at tx (after start h (logs h)) ≡ Some t
+    there = live_tx start tx h (logs h) t live
 
-    inside : IsIn (tx, t) x.state.tc.live
-    inside = subst (λ g. IsLiveAs tx t g) x.is live
-
-    there : tx_at tx (after start (suc h) (logs (suc h))) ≡ Some t
-    there = ap (tx_at tx) x.is ∙ live_in tx t x.state.tc.live x.once inside
-
-    home : tx.tc ≡ suc h
-    home = (each_in (λ (e : TxId × Transaction). IsOwn x.state.tc.node x.state.tc.next_seq e.0) (tx, t) x.state.tc.live x.own inside).home ∙ x.number
+    of : IsHome start tx h
+    of = at_home start tx h (logs h) t low there
 
     go : (phase : Phase) → t.phase ≡ phase → is_aborting t.phase ≡ false
-    go (Aborting why v k) p = absurd (none_aborts start quiet.few tx h home (omega (arith, low)) logs quiet t why v k there none p)
+    go (Aborting why v k) p =
+        absurd (none_aborts start quiet.shape tx of.some of.low logs quiet t why v k (subst (λ j. tx_at tx (after start j (logs j)) ≡ Some t) of.is there) none p)
     go Open p = ap is_aborting p
     go Verifying p = ap is_aborting p
     go (Committing epoch k) p = ap is_aborting p

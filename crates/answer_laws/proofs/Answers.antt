@@ -1,31 +1,32 @@
 -- At quiet each command is answered, but for an operation that waits for a lock.
-use Rattle.std.proofs.Common.{◌≡◌, ◌≤◌, ℕ, List, true, false, refl, ap, sym, ◌∙◌}
+use Rattle.std.proofs.Common.{◌≡◌, ◌<◌, ℕ, List, true, false, refl, ap, sym, ◌∙◌}
 use Rattle.std.specs.Prelude.{is_some, Option, None, Some}
 use Rattle.std.proofs.lemmas.Bool.{false≢true, true≢false}
 use Rattle.api_block.specs.declared.opened.Doing.{Doing}
 use Rattle.api_block.specs.declared.opened.Doing.TheVariants.{Beginning, Ready, Operating, Committing}
 use Rattle.api_block.specs.declared.opened.OpenTransaction.{OpenTransaction}
 use Rattle.api_block.specs.Opened.{is_beginning}
-use Rattle.node_core.specs.declared.host.Host.{Host}
-use Rattle.node_core.specs.declared.host.Host.TheVariants.{Shell, Node}
 use Rattle.run_theory.specs.Lists.{IsIn}
-use Rattle.sig_core.specs.declared.log.LogStep.{LogStep}
+use Rattle.world_core.specs.Steps.{HostStep}
 use Rattle.sig_core.specs.declared.member.TxId.{TxId}
 use Rattle.tc_block.specs.declared.phase.Asked.{Asked}
 use Rattle.tc_block.specs.declared.phase.Phase.{Phase}
 use Rattle.tc_block.specs.declared.phase.Phase.TheVariants as phases
-use Rattle.tc_block.specs.declared.transaction.Transaction.{Transaction}
 use Rattle.tc_block.specs.Abort.{is_verifying}
+use Rattle.world_core.specs.Hosts.{home, hosts}
 use Rattle.world_core.specs.Machine.{after}
 use Rattle.world_core.specs.Start.{Start}
 use Rattle.answer_laws.proofs.Aborts.{no_abort}
 use Rattle.answer_laws.proofs.Begins.{no_begin}
-use Rattle.answer_laws.proofs.Commits.{live_low}
 use Rattle.answer_laws.proofs.Heeded.{asked_where_operating, closed_where_committing, each_numbered}
+use Rattle.answer_laws.proofs.Lives.{live_low}
 use Rattle.answer_laws.proofs.Queued.{operations_queue}
 use Rattle.answer_laws.proofs.Serves.{each_served}
 use Rattle.answer_laws.proofs.Verified.{no_epoch}
-use Rattle.answer_laws.specs.Answered.{AreQuiet, EachIsAnswered, IsLiveAs, IsOpenAt, IsServed, WaitsForLock, is_aborting, is_answered_by, is_committing, is_completing, is_operating, opened_after}
+use Rattle.answer_laws.specs.Answered.{AreQuiet, EachIsAnswered, IsOpenAt, IsServed, WaitsForLock, is_answered_by, is_operating}
+use Rattle.host_laws.specs.Opened.{opened_after}
+use Rattle.host_laws.specs.Phases.{is_committing}
+use Rattle.tc_block.specs.Phases.{is_aborting, is_completing}
 
 -- a phase that is none of the others is the open one
 pub only_open : (phase : Phase) → is_verifying phase ≡ false → is_committing phase ≡ false → is_completing phase ≡ false → is_aborting phase ≡ false → phase ≡ phases.Open
@@ -35,22 +36,19 @@ only_open (phases.Committing epoch k) v c d a = absurd (false≢true (sym c))
 only_open (phases.Completing epoch k) v c d a = absurd (false≢true (sym d))
 only_open (phases.Aborting why w k) v c d a = absurd (false≢true (sym a))
 
-module _ (start : Start) (logs : ℕ → List LogStep) (t : OpenTransaction) (quiet : AreQuiet start logs) (inside : IsIn t (opened_after start logs)) where
+module _ (start : Start) (logs : ℕ → List HostStep) (t : OpenTransaction) (quiet : AreQuiet start logs) (inside : IsIn t (opened_after start logs)) where
   module _ (tx : TxId) (is : t.tx ≡ Some tx) where
     served : IsServed start logs t tx
     served = each_served start logs t quiet inside tx is
 
-    u : Transaction
-    u = served.transaction
-
-    low : tx.tc ≤ start.nodes
-    low = live_low start logs tx served.transaction quiet tx.tc served.live
+    low : home start tx < hosts start
+    low = live_low start logs tx served.transaction quiet (home start tx) served.live
 
     -- where it has nothing unanswered it is open
     open_unasked : served.transaction.asked ≡ None → served.transaction.phase ≡ phases.Open
     open_unasked none =
-        only_open served.transaction.phase (no_epoch start logs tx.tc tx served.transaction quiet low served.live) served.uncommitted served.unreported
-        (no_abort start logs tx.tc tx served.transaction quiet low served.live none)
+        only_open served.transaction.phase (no_epoch start logs (home start tx) tx served.transaction quiet low served.live) served.uncommitted served.unreported
+        (no_abort start logs (home start tx) tx served.transaction quiet low served.live none)
 
     -- nothing is unanswered where nothing was sent
     unasked : is_operating t.doing ≡ false → (o : Option Asked) → served.transaction.asked ≡ o → served.transaction.asked ≡ None
@@ -59,22 +57,17 @@ module _ (start : Start) (logs : ℕ → List LogStep) (t : OpenTransaction) (qu
 
     queued : (o : Option Asked) → served.transaction.asked ≡ o → is_some o ≡ true → WaitsForLock start logs tx
     queued None e on = absurd (false≢true on)
-    queued (Some asked) e on = operations_queue start logs tx.tc tx served.transaction asked quiet low served.live e
+    queued (Some asked) e on = operations_queue start logs (home start tx) tx served.transaction asked quiet low served.live e
 
     -- an operation that was sent is unanswered, or the transaction would be open and have it so
     operating_queued : t.doing ≡ Operating → (o : Option Asked) → served.transaction.asked ≡ o → WaitsForLock start logs tx
     operating_queued doing (Some asked) e = queued (Some asked) e refl
     operating_queued doing None e = absurd (false≢true (sym (ap is_some e) ∙ asked_where_operating start logs t quiet inside tx served.transaction is doing served.live (open_unasked e)))
 
-    ready_open : t.doing ≡ Ready → IsOpenAt tx (after start tx.tc (logs tx.tc))
-    ready_open doing = by (after start tx.tc (logs tx.tc)) served.live
-      where
-        none : served.transaction.asked ≡ None
-        none = unasked (ap is_operating doing) served.transaction.asked refl
-
-        by : (g : Host) → IsLiveAs tx served.transaction g → IsOpenAt tx g
-        by (Shell s) live = absurd live
-        by (Node x) live = record { transaction = served.transaction; live = live; phase = open_unasked none; asked = none }
+    ready_open : t.doing ≡ Ready → IsOpenAt tx (after start (home start tx) (logs (home start tx)))
+    ready_open doing =
+        let none = unasked (ap is_operating doing) served.transaction.asked refl in
+        record { transaction = served.transaction; live = served.live; phase = open_unasked none; asked = none }
 
     never_committing : t.doing ≡ Committing → ⊥
     never_committing doing =

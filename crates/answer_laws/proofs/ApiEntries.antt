@@ -12,6 +12,7 @@ use Rattle.sig_core.specs.declared.place.BlockId.{BlockId}
 use Rattle.sig_core.specs.declared.place.BlockId.TheVariants as block
 use Rattle.sig_core.specs.declared.place.Place.{Place}
 use Rattle.sig_core.specs.declared.signal.Body.{Body}
+use Rattle.sig_core.specs.declared.signal.Signal.{Signal}
 use Rattle.sig_core.specs.declared.signal.Body.TheVariants.{Client}
 use Rattle.sig_core.specs.declared.signal.client.ClientSignal.TheVariants.{TcBeginConf, TcKeyReq, TcKeyConf, TcCommitReq}
 use Rattle.sig_core.specs.Place.{coordinator_of}
@@ -20,17 +21,19 @@ use Rattle.sig_core.specs.Step.{Step, to_place}
 use Rattle.api_block.specs.declared.opened.Doing.TheVariants.{Ready, Operating, Committing}
 use Rattle.api_block.specs.declared.opened.OpenTransaction.{OpenTransaction}
 use Rattle.api_block.specs.Opened.{asked_for, has_tx, is_beginning, is_tx}
+use Rattle.api_block.specs.Api.{api_table}
 use Rattle.api_block.specs.State.{ApiState}
 use Rattle.node_core.specs.Row.{shell_row}
-use Rattle.answer_laws.proofs.ApiBegins.{AreGood, IsGood, each_at}
+use Rattle.host_laws.proofs.ApiBegins.{AreGood, IsGood, each_at}
 use Rattle.answer_laws.proofs.ApiTurns.{ApiStep, Changes, IsUnheard, Unheard, absent, answered_last, answered_ready, api_step, begins_ready, begins_working, changes, commits, drops, idle, is_calm, notes, opens, rests, works}
-use Rattle.answer_laws.proofs.SendKinds.{are_of, none_of}
-use Rattle.answer_laws.proofs.Tally.{one_if, tally, tally_append, tally_between, tally_in, none_if}
-use Rattle.answer_laws.proofs.TcKeys.{answer_of, is_key, key_of_tx}
-use Rattle.answer_laws.proofs.TcLives.{start_of}
-use Rattle.answer_laws.proofs.TcMoves.{same_tx-is}
-use Rattle.answer_laws.proofs.TcSends.{eqb-self}
-use Rattle.answer_laws.proofs.Wishes.{and_false, is_tc, second_fails, sends_of, to_node}
+use Rattle.host_laws.proofs.SendKinds.{are_of, none_of}
+use Rattle.host_laws.proofs.Tally.{none_if, tally_append, tally_between, tally_in}
+use Rattle.host_laws.specs.Counts.{one_if, tally}
+use Rattle.host_laws.proofs.TcKeys.{answer_of, is_key, key_of_tx}
+use Rattle.host_laws.proofs.TcLives.{start_of}
+use Rattle.host_laws.proofs.TcMoves.{same_tx-is}
+use Rattle.host_laws.proofs.TcSends.{eqb-self}
+use Rattle.host_laws.proofs.Wishes.{and_false, is_tc, second_fails, sends_of, to_node}
 use Rattle.answer_laws.specs.Answered.{is_operating}
 
 -- the commit of the transaction is asked for
@@ -273,6 +276,8 @@ module _ (tx : TxId) (s : ApiState) (body : Body) (good : AreGood s.view s.opene
           go true on (notes none u_is ops doing kind) = this u_is on (is_noted (none tx) ops doing (asks_none tx sends kind))
           go false off (notes none u_is ops doing kind) = other u_is off (asks_none tx sends kind) (none tx)
 
-  pub shell_entry : (at : BlockId) → at ≡ block.Api → EntryStep tx body (of_opened tx s.opened) (of_opened tx (shell_row s at body).state.opened) (shell_row s at body).effects.sends
+  pub shell_entry : (at : BlockId) (x : Signal) → at ≡ block.Api → x.body ≡ body → EntryStep tx body (of_opened tx s.opened) (of_opened tx (shell_row s at x).state.opened) (shell_row s at x).effects.sends
   unfolding shell_row
-  shell_entry at is = subst (λ (a : BlockId). EntryStep tx body (of_opened tx s.opened) (of_opened tx (shell_row s a body).state.opened) (shell_row s a body).effects.sends) (sym is) (entry_of _ (api_step s body))
+  shell_entry at x is about =
+      subst (λ (a : BlockId). EntryStep tx body (of_opened tx s.opened) (of_opened tx (shell_row s a x).state.opened) (shell_row s a x).effects.sends) (sym is)
+      (entry_of (api_table s x.body) (subst (λ b. ApiStep s b (api_table s x.body)) about (api_step s x.body)))

@@ -22,7 +22,7 @@ use Rattle.api_block.specs.declared.members.News.TheVariants as news
 use Rattle.api_block.specs.declared.opened.Doing.{Doing}
 use Rattle.api_block.specs.declared.opened.Doing.TheVariants.{Beginning, Ready, Operating, Committing}
 use Rattle.api_block.specs.declared.opened.OpenTransaction.{OpenTransaction}
-use Rattle.api_block.specs.Api.{api_row, request_row}
+use Rattle.api_block.specs.Api.{api_table, request_row}
 use Rattle.api_block.specs.Commands.{abort_by, abort_row, begin_at, begin_if, begin_row, commit_by, commit_row, dump_if, dump_row, node_for, tick_row, ticked_if}
 use Rattle.api_block.specs.Dump.{dumped_by, dumped_next, dumped_row}
 use Rattle.api_block.specs.Members.{everyone, is_full, least_node, telling_all}
@@ -31,11 +31,12 @@ use Rattle.api_block.specs.Operate.{answer_by, answer_row, begun_by, begun_row, 
 use Rattle.api_block.specs.Outcome.{abort_report_row, commit_report_row, refuse_row}
 use Rattle.api_block.specs.State.{ApiState}
 use Rattle.api_block.specs.Wait.{behind_row, name_of, pending_by, pending_if, pending_row, waits_if, waits_row}
-use Rattle.answer_laws.proofs.Focus.{IsFocus, where_found}
-use Rattle.answer_laws.proofs.Tally.{one_if, tally, tally_append, tally_between}
-use Rattle.answer_laws.proofs.TcKeys.{answer_of, is_key}
-use Rattle.answer_laws.proofs.TcMoves.{end_of, same_tx-is}
-use Rattle.answer_laws.proofs.Wishes.{sends_of}
+use Rattle.host_laws.proofs.Focus.{IsFocus, where_found}
+use Rattle.host_laws.proofs.Tally.{tally_append, tally_between}
+use Rattle.host_laws.specs.Counts.{one_if, tally}
+use Rattle.host_laws.proofs.TcKeys.{answer_of, is_key}
+use Rattle.host_laws.proofs.TcMoves.{end_of, same_tx-is}
+use Rattle.host_laws.proofs.Wishes.{sends_of}
 use Rattle.answer_laws.specs.Answered.{is_operating}
 
 -- the transaction's operation was sent and isn't answered
@@ -297,7 +298,7 @@ module _ (tx : TxId) (s : ApiState) where
           on (Some at) = omega arith
           on None = omega arith
 
-pub api_keys : (tx : TxId) (s : ApiState) (body : Body) → FairStep tx s body (api_row s body)
+pub api_keys : (tx : TxId) (s : ApiState) (body : Body) → FairStep tx s body (api_table s body)
 api_keys tx s (Host (Continue (work.Request r) at)) = request_keys tx s r at
 api_keys tx s (Client (TcBeginConf name one)) = begun_keys tx s name one
 api_keys tx s (Client (TcBeginRef name)) = refuse_keys tx s name

@@ -22,7 +22,7 @@ use Rattle.api_block.specs.declared.members.News.TheVariants as news
 use Rattle.api_block.specs.declared.opened.Doing.{Doing}
 use Rattle.api_block.specs.declared.opened.Doing.TheVariants.{Beginning, Ready, Operating, Committing}
 use Rattle.api_block.specs.declared.opened.OpenTransaction.{OpenTransaction}
-use Rattle.api_block.specs.Api.{api_row, request_row}
+use Rattle.api_block.specs.Api.{api_table, request_row}
 use Rattle.api_block.specs.Commands.{abort_by, abort_row, begin_at, begin_if, begin_row, commit_by, commit_row, dump_if, dump_row, node_for, tick_row, ticked_if}
 use Rattle.api_block.specs.Dump.{dumped_by, dumped_next, dumped_row}
 use Rattle.api_block.specs.Members.{everyone, is_full, least_node, telling_all}
@@ -31,11 +31,11 @@ use Rattle.api_block.specs.Operate.{answer_by, answer_row, begun_by, begun_row, 
 use Rattle.api_block.specs.Outcome.{abort_report_row, commit_report_row, refuse_row}
 use Rattle.api_block.specs.State.{ApiState}
 use Rattle.api_block.specs.Wait.{behind_row, name_of, pending_by, pending_if, pending_row, waits_if, waits_row}
-use Rattle.answer_laws.proofs.LqhOps.{left_of}
-use Rattle.answer_laws.proofs.Focus.{IsFocus, where_found}
-use Rattle.answer_laws.proofs.Tally.{tally}
-use Rattle.answer_laws.proofs.SendKinds.{are_of}
-use Rattle.answer_laws.proofs.TcKeys.{answer_of}
+use Rattle.host_laws.proofs.LqhOps.{left_of}
+use Rattle.host_laws.proofs.Focus.{IsFocus, where_found}
+use Rattle.host_laws.specs.Counts.{tally}
+use Rattle.host_laws.proofs.SendKinds.{are_of}
+use Rattle.host_laws.proofs.TcKeys.{answer_of}
 use Rattle.answer_laws.specs.Answered.{is_operating}
 
 -- what asks neither for an operation nor for a commit
@@ -268,7 +268,7 @@ module _ (s : ApiState) where
           on None = rests refl refl tt
 
 -- each step of the API is one of these
-pub api_step : (s : ApiState) (body : Body) → ApiStep s body (api_row s body)
+pub api_step : (s : ApiState) (body : Body) → ApiStep s body (api_table s body)
 api_step s (Host (Continue (work.Request r) at)) = request_step s r at
 api_step s (Client (TcBeginConf name one)) = begun_step s name one
 api_step s (Client (TcBeginRef name)) = refuse_step s name

@@ -1,8 +1,8 @@
 -- Wishes for a transaction are replied to, one by one: so many begin as were wished for and not replied to.
-use Rattle.std.proofs.Common.{◌≡◌, ◌≢◌, ◌⊎◌, ℕ, zero, suc, ◌+◌, ◌≤◌, ◌<◌, List, [], ◌∷◌, Bool, true, false, refl, ap, sym, ◌∙◌, subst, arith, inl, inr}
-use Rattle.std.specs.Prelude.{◌==◌, ◌&&◌, ◌||◌, not, Option}
+use Rattle.std.proofs.Common.{◌≡◌, ◌≢◌, ◌⊎◌, ℕ, zero, suc, ◌+◌, ◌≤◌, ◌<◌, List, [], ◌∷◌, ◌++◌, Bool, true, false, refl, ap, sym, ◌∙◌, subst, arith, inl, inr}
+use Rattle.std.specs.Prelude.{◌==◌, ◌&&◌, ◌||◌, ◌/◌, not, Option}
 use Rattle.std.specs.List.{list_any}
-use Rattle.std.proofs.lemmas.Bool.{cases_eq, eqb-true, false≢true, true≢false}
+use Rattle.std.proofs.lemmas.Bool.{cases_eq, cases_lt, eqb-true, false≢true, true≢false}
 use Rattle.std.proofs.lemmas.Bool.Decides.{nat_tests}
 use Rattle.std.proofs.lemmas.List.Folds.{list_any-append}
 use Rattle.api_block.specs.declared.opened.OpenTransaction.{OpenTransaction}
@@ -10,31 +10,42 @@ use Rattle.api_block.specs.Members.{is_at}
 use Rattle.api_block.specs.Opened.{begins_at, is_beginning, same_name}
 use Rattle.api_block.specs.State.{ApiState}
 use Rattle.node_core.specs.Requests.{is_request}
-use Rattle.node_core.specs.Row.{node_row, shell_row}
-use Rattle.run_theory.proofs.Along.{along_run, of_runs}
-use Rattle.run_theory.proofs.Pasts.{each_in, each_map, each_past}
-use Rattle.run_theory.proofs.Runs.{log_of-other, log_of-own, logs_of_run}
+use Rattle.node_core.proofs.HostCases.{tc_stays}
+use Rattle.node_core.specs.Blocks.{has_tc}
+use Rattle.node_core.specs.Row.{shell_row}
+use Rattle.run_theory.proofs.Pasts.{each_in, each_past}
 use Rattle.run_theory.specs.Links.{IsGiven, is_from, sent, taken}
-use Rattle.run_theory.specs.Lists.{Each, IsIn, IsPast}
-use Rattle.run_theory.specs.Runs.{AreLogs, Happens, IsWithin, Run, log_of}
-use Rattle.sig_core.specs.declared.log.LogStep.{LogStep}
+use Rattle.run_theory.specs.Lists.{IsIn, IsPast}
+use Rattle.run_theory.specs.Runs.{AreLogs, IsWithin, log_of}
 use Rattle.sig_core.specs.declared.member.TxId.{TxId}
-use Rattle.sig_core.specs.declared.outs.Outgoing.{Outgoing}
+use Rattle.sig_core.specs.declared.place.BlockId.{BlockId}
+use Rattle.sig_core.specs.declared.place.BlockId.TheVariants as block
+use Rattle.sig_core.specs.declared.place.Part.TheVariants as part
+use Rattle.sig_core.specs.declared.place.Place.{Place}
 use Rattle.sig_core.specs.declared.signal.Body.{Body}
 use Rattle.sig_core.specs.declared.signal.Body.TheVariants.{Client}
 use Rattle.sig_core.specs.declared.signal.Signal.{Signal}
 use Rattle.sig_core.specs.declared.signal.client.ClientSignal.TheVariants.{TcBeginReq, TcBeginConf, TcBeginRef}
 use Rattle.sig_core.specs.declared.view.View.{View}
-use Rattle.world_core.proofs.Stamped.{stamped}
-use Rattle.world_core.specs.Machine.{after, headed, hosts, machine, step_after}
-use Rattle.world_core.specs.Start.{Start, first_view, members}
-use Rattle.answer_laws.proofs.LqhOps.{right_of}
-use Rattle.answer_laws.proofs.ApiBegins.{IsDue, IsGood, same_name-self}
-use Rattle.answer_laws.proofs.Hosts.{TellsNode, node_after, node_sends, node_tells, opened_first, opened_next, shell_after, shell_count, shell_replies, shell_sends}
-use Rattle.answer_laws.proofs.LinkCounts.{all_three, sent_signals, sent_truths, signals, steps, taken_signals, taken_steps}
-use Rattle.answer_laws.proofs.Tally.{one_if, tally, tally_in, tally_past}
-use Rattle.answer_laws.proofs.Wishes.{is_api, is_reply, is_tc, is_wish, node_replies, node_wishes, reply_of, sends_of, to_node, wish_of}
-use Rattle.answer_laws.specs.Answered.{AreQuiet, NoBeginIsLost, opened_after, opened_in}
+use Rattle.sig_core.specs.Part.{part_of}
+use Rattle.sig_core.specs.Place.{coordinator}
+use Rattle.frag_map.specs.Layout.{members}
+use Rattle.world_core.proofs.HostNumbers.{IsNodes, given_past, host_below, node_host, tc_found, tc_runs}
+use Rattle.world_core.specs.Hosts.{hosts, tc_host}
+use Rattle.world_core.specs.Machine.{after, machine, step_after}
+use Rattle.world_core.specs.Start.{Start}
+use Rattle.world_core.specs.Steps.{Addressed, HostStep}
+use Rattle.run_laws.proofs.AlongSteps.{Goes, along, few_taken}
+use Rattle.host_laws.proofs.LqhOps.{left_of, right_of}
+use Rattle.host_laws.proofs.ApiBegins.{IsDue, IsGood, same_name-self}
+use Rattle.host_laws.proofs.Hosts.{TellsHome, host_replies, host_wishes, opened_first, opened_next, shell_after, shell_count, shell_sends, told}
+use Rattle.host_laws.proofs.HostSteps.{at_tc_host, no_api, sent_to_tc}
+use Rattle.host_laws.proofs.LinkCounts.{few_sends, sent_signals, shell_signals, signals, steps, steps_from, taken_signals, taken_steps}
+use Rattle.host_laws.proofs.Tally.{tally_in, tally_past}
+use Rattle.host_laws.specs.Counts.{one_if, tally}
+use Rattle.host_laws.proofs.Wishes.{is_api, is_reply, is_tc, is_wish, reply_of, sends_of, to_node, wish_of}
+use Rattle.answer_laws.specs.Answered.{AreQuiet, NoBeginIsLost}
+use Rattle.host_laws.specs.Opened.{opened_after, opened_in}
 
 -- a request is no reply, and no wish
 plain_reply : (name : Option ℕ) (body : Body) → reply_of name body ≡ true → is_request body ≡ false
@@ -69,210 +80,229 @@ within (suc n) node e = go (list_any (is_at node) (members n)) (n + 1 == node) r
         (omega (arith, same), omega (arith, same))
     go false false p q rest r = absurd (true≢false (sym e ∙ (r ∙ (ap (λ a. a || (n + 1 == node || false)) p ∙ ap (λ b. b || false) q))))
 
--- so many begin at a node as were wished for there, less the replies that were taken
-pub record IsBalanced (start : Start) (name : Option ℕ) (h : ℕ) (logs : ℕ → List LogStep) : Type 0 where
-  pub balance : tally (begins_at name (suc h)) (opened_in (after start 0 (logs 0))) + signals (is_reply name) (taken (machine start) (suc h) (logs 0))
-      ≡ signals (is_wish name) (sent (machine start) 0 (suc h) (logs 0))
+-- a wish is for a coordinator
+pub wish_part : (to : Place) (b : Bool) → (is_tc to.block && b) ≡ true → part_of to.block ≡ part.Tc
+wish_part to b w = go to.block (left_of (is_tc to.block) b w)
+  where
+    go : (at : BlockId) → is_tc at ≡ true → part_of at ≡ part.Tc
+    go block.Tc e = refl
+    go _ e = absurd (false≢true e)
 
-abbrev pub AreBalanced : Start → (ℕ → List LogStep) → Type 0
-AreBalanced start logs = (name : Option ℕ) (h : ℕ) → IsBalanced start name h logs
+-- so many begin at a node as were wished for there, less the replies that were taken
+pub record IsBalanced (start : Start) (name : Option ℕ) (node : ℕ) (logs : ℕ → List HostStep) : Type 0 where
+  pub balance : tally (begins_at name node) (opened_in (after start 0 (logs 0))) + signals (is_reply name) (taken (machine start) (tc_host start node) (logs 0))
+      ≡ signals (is_wish name) (sent (machine start) 0 (tc_host start node) (logs 0))
+
+abbrev pub AreBalanced : Start → (ℕ → List HostStep) → Type 0
+AreBalanced start logs = (name : Option ℕ) (node : ℕ) → 1 ≤ node → node ≤ start.shape.nodes → IsBalanced start name node logs
 
 module _ (start : Start) where
-  -- the shell's host sends no reply, and no node a wish; a node sends as many replies as it takes wishes
-  shell_sent : (name : Option ℕ) (j : ℕ) (log : List LogStep) → signals (is_reply name) (sent (machine start) 0 j log) ≡ 0
-  shell_sent name j [] = refl
-  shell_sent name j (e ∷ log) =
+  -- a coordinator's host sends as many replies as it takes wishes, and another host none
+  replied : (name : Option ℕ) (h : ℕ) (log : List HostStep) → has_tc (after start h log) ≡ true → signals (is_reply name) (sent (machine start) h 0 log) ≡ steps (is_wish name) log
+  replied name h [] runs = refl
+  replied name h (e ∷ log) runs =
+      let before : has_tc (after start h log) ≡ true = sym (tc_stays (after start h log) e.step.taken) ∙ runs in
       omega (
         arith,
-        sent_signals start (is_reply name) 0 j e log,
-        shell_sent name j log,
-        ap (sends_of (to_node j (is_reply name))) (shell_sends start e log),
-        shell_replies name j (shell_after start log).state e.taken.to.block e.taken.body,
+        shell_signals start (is_reply name) h e log,
+        replied name h log before,
+        host_replies name (after start h log) e.step.taken,
+        ap (λ b. one_if (b && is_wish name e.step.taken.to e.step.taken.body)) before,
       )
 
-  node_wished : (name : Option ℕ) (h j : ℕ) (log : List LogStep) → signals (is_wish name) (sent (machine start) (suc h) j log) ≡ 0
-  node_wished name h j [] = refl
-  node_wished name h j (e ∷ log) =
+  silent : (name : Option ℕ) (h : ℕ) (log : List HostStep) → has_tc (after start h log) ≡ false → signals (is_reply name) (sent (machine start) h 0 log) ≡ 0
+  silent name h [] idle = refl
+  silent name h (e ∷ log) idle =
+      let before : has_tc (after start h log) ≡ false = sym (tc_stays (after start h log) e.step.taken) ∙ idle in
       omega (
         arith,
-        sent_signals start (is_wish name) (suc h) j e log,
-        node_wished name h j log,
-        ap (sends_of (to_node j (is_wish name))) (node_sends start h e log),
-        node_wishes name j (node_after start h log).state e.taken.to.block e.taken.body,
+        shell_signals start (is_reply name) h e log,
+        silent name h log before,
+        host_replies name (after start h log) e.step.taken,
+        ap (λ b. one_if (b && is_wish name e.step.taken.to e.step.taken.body)) before,
       )
 
-  node_replied : (name : Option ℕ) (h : ℕ) (log : List LogStep) → signals (is_reply name) (sent (machine start) (suc h) 0 log) ≡ steps (is_wish name) log
-  node_replied name h [] = refl
-  node_replied name h (e ∷ log) =
+  -- none but the shell's host sends a wish
+  not_wished : (name : Option ℕ) (h j : ℕ) (log : List HostStep) → h ≢ 0 → signals (is_wish name) (sent (machine start) h j log) ≡ 0
+  not_wished name h j [] other = refl
+  not_wished name h j (e ∷ log) other =
       omega (
         arith,
-        sent_signals start (is_reply name) (suc h) 0 e log,
-        node_replied name h log,
-        ap (sends_of (to_node 0 (is_reply name))) (node_sends start h e log),
-        node_replies name (node_after start h log).state e.taken.to.block e.taken.body,
+        sent_signals start (is_wish name) h j e log,
+        not_wished name h j log other,
+        few_sends start j (is_wish name) (step_after start h log e).effects.sends,
+        host_wishes name (after start h log) e.step.taken (no_api start h log other),
       )
 
-  -- a reply of a node tells truly
-  pub node_told : (h j : ℕ) (log : List LogStep) → Each (λ (x : Signal). TellsNode (suc h) x.body) (sent (machine start) (suc h) j log)
-  node_told h j log =
-      sent_truths start (λ (x : Signal). TellsNode (suc h) x.body) (suc h) j
-      (λ e older. each_map (λ (o : Outgoing). TellsNode (suc h) o.body) (λ (o : Outgoing). (number : ℕ) → TellsNode (suc h) (headed (first_view start.nodes) (suc h) e.stamp number o).body)
-      (step_after start (suc h) older e).effects.sends (λ o tells number. tells)
-      (subst (λ sends. Each (λ (o : Outgoing). TellsNode (suc h) o.body) sends) (sym (node_sends start h e older))
-      (subst (λ n. Each (λ (o : Outgoing). TellsNode n o.body) (node_row (node_after start h older).state e.taken.to.block e.taken.body).effects.sends) (node_after start h older).number
-      (node_tells (node_after start h older).state e.taken.to.block e.taken.body))))
-      log
+  -- the node whose coordinator's host this is, if it is one
+  abbrev node_of : ℕ → ℕ
+  node_of host = host / 3 + 1
 
-  -- what was taken from a link is an older part of what was sent
-  pub given_past : (i j : ℕ) (log : List LogStep) (xs : List Signal) → IsGiven (machine start) i j log xs → IsPast xs (sent (machine start) i j log)
-  given_past i j log xs (inl past) = past
-  given_past i j [] xs (inr closing) = absurd closing
-  given_past i j (e ∷ log) xs (inr closing) = absurd (false≢true closing.stops)
-
-  -- a node takes wishes from the shell's host alone
-  wishes_taken : (name : Option ℕ) (log : List LogStep) → ((k : ℕ) → signals (is_wish name) (taken (machine start) (suc k) log) ≡ 0)
-      → steps (is_wish name) log ≤ signals (is_wish name) (taken (machine start) 0 log)
-  wishes_taken name [] none = omega arith
-  wishes_taken name (e ∷ log) none =
-      go (is_wish name e.taken.to e.taken.body) refl (wishes_taken name log (λ k. omega (arith, none k, taken_signals start (is_wish name) (suc k) e log)))
-    where
-      from : (i : ℕ) → e.taken.from.0 ≡ i → is_wish name e.taken.to e.taken.body ≡ true → (is_from (machine start) i e && is_wish name e.taken.to e.taken.body) ≡ true
-      from i at w =
-          let plain : is_request e.taken.body ≡ false = plain_wish name e.taken.body (right_of (is_tc e.taken.to.block) (wish_of name e.taken.body) w) in
-          let here : (e.taken.from.0 == i) ≡ true = grind (arith, nat_tests, at) in
-          all_three (is_request e.taken.body) (e.taken.from.0 == i) (is_wish name e.taken.to e.taken.body) plain here w
-
-      go : (b : Bool) → is_wish name e.taken.to e.taken.body ≡ b → steps (is_wish name) log ≤ signals (is_wish name) (taken (machine start) 0 log)
-          → one_if b + steps (is_wish name) log ≤ signals (is_wish name) (taken (machine start) 0 (e ∷ log))
-      go false w less = omega (arith, less, taken_signals start (is_wish name) 0 e log)
-      go true w less = at e.taken.from.0 refl
-        where
-          at : (i : ℕ) → e.taken.from.0 ≡ i → one_if true + steps (is_wish name) log ≤ signals (is_wish name) (taken (machine start) 0 (e ∷ log))
-          at zero is = omega (arith, less, taken_signals start (is_wish name) 0 e log, ap one_if (from 0 is w))
-          at (suc k) is = absurd (omega (arith, none k, taken_signals start (is_wish name) (suc k) e log, ap one_if (from (suc k) is w)))
+  own_node : (host node : ℕ) → 1 ≤ node → node ≤ start.shape.nodes → host ≡ tc_host start node → node ≡ node_of host
+  own_node host node some low is = omega (arith, is, node_host start (coordinator node) some low, some)
 
   -- replies come of wishes
-  module _ (logs : ℕ → List LogStep) (right : AreLogs (machine start) logs) where
-    link : (i j : ℕ) → IsPast (taken (machine start) i (logs j)) (sent (machine start) i j (logs i))
-    link i j = given_past i j (logs i) (taken (machine start) i (logs j)) (right.linked i j)
-
-    steps_wished : (name : Option ℕ) (h : ℕ) → steps (is_wish name) (logs (suc h)) ≤ signals (is_wish name) (sent (machine start) 0 (suc h) (logs 0))
+  module _ (logs : ℕ → List HostStep) (right : AreLogs (machine start) logs) (in_n : IsWithin (hosts start) logs) where
+    steps_wished : (name : Option ℕ) (h : ℕ) → steps (is_wish name) (logs h) ≤ signals (is_wish name) (sent (machine start) 0 h (logs 0))
     steps_wished name h =
-        let few = wishes_taken name (logs (suc h))
-        (λ k. omega (arith, node_wished name k (suc h) (logs (suc k)), tally_past (λ (x : Signal). is_wish name x.to x.body) (link (suc k) (suc h)))) in
-        omega (arith, few, tally_past (λ (x : Signal). is_wish name x.to x.body) (link 0 (suc h)))
+        omega (
+          arith,
+          steps_from start (is_wish name) 0 (λ to body w. plain_wish name body (right_of (is_tc to.block) (wish_of name body) w)) (logs h)
+              (λ k other. omega (arith, not_wished name k h (logs k) other, few_taken start logs right (is_wish name) k h)),
+          few_taken start logs right (is_wish name) 0 h,
+        )
 
-    -- what comes next of a node tells truly, and what comes next is no reply or there is a transaction that it is for
-    told_next : (from : ℕ) (x : Signal) (xs : List Signal) → IsGiven (machine start) from 0 (logs from) (x ∷ xs) → is_api x.to.block ≡ true
-        → (name : Option ℕ) (tx : TxId) → x.body ≡ Client (TcBeginConf name tx) → tx.tc ≡ from
-    told_next (suc h) x xs given api name tx is =
-        let all : Each (λ (y : Signal). TellsNode (suc h) y.body) (x ∷ xs) =
-        each_past (λ (y : Signal). TellsNode (suc h) y.body) (given_past (suc h) 0 (logs (suc h)) (x ∷ xs) given) (node_told h 0 (logs (suc h))) in
-        all.0 name tx is
-    told_next zero x xs given api name tx is =
-        absurd (none_next zero x xs given name (ap (λ b. b && reply_of name x.body) api ∙ (ap (reply_of name) is ∙ same_name-self name)))
+    module _ (from : ℕ) (x : Addressed) (xs : List Addressed) (given : IsGiven (machine start) from 0 (logs from) (x ∷ xs)) where
+      past : IsPast (x ∷ xs) (sent (machine start) from 0 (logs from))
+      past = given_past start from 0 (logs from) (x ∷ xs) given
+
+      -- who sends is there
+      from_there : (from < hosts start) ⊎ (hosts start ≤ from) → from < hosts start
+      from_there (inl low) = low
+      from_there (inr high) = absurd (nothing (sym (ap (sent (machine start) from 0) (in_n from high)) ∙ past.is))
+        where
+          nothing : [] ≡ past.newer ++ x ∷ xs → ⊥
+          nothing e = none past.newer e
+            where
+              none : (newer : List Addressed) → [] ≡ newer ++ x ∷ xs → ⊥
+              none [] e = cc
+              none (y ∷ newer) e = cc
+
+      low : from < hosts start
+      low = from_there (cases_lt from (hosts start))
+
+      -- who replies is a coordinator's host
+      replier : (name : Option ℕ) → is_reply name x.signal.to x.signal.body ≡ true → IsNodes start (tc_host start) from
+      replier name reply = go (has_tc (after start from (logs from))) refl
+        where
+          go : (b : Bool) → has_tc (after start from (logs from)) ≡ b → IsNodes start (tc_host start) from
+          go true runs = tc_found start from (logs from) low runs
+          go false idle = absurd (omega (arith, ap one_if reply, tally_past (λ (y : Addressed). is_reply name y.signal.to y.signal.body) past, silent name from (logs from) idle))
+
+      told_next : (name : Option ℕ) (tx : TxId) → x.signal.body ≡ Client (TcBeginConf name tx) → tx.tc ≡ node_of from
+      told_next name tx is =
+          let home = (each_past (λ (y : Addressed). TellsHome start from y.signal.body) past (told start from 0 (logs from) low)).0 name tx is in
+          own_node from tx.tc home.some home.low home.is
+
+    due_next : AreBalanced start logs → (from : ℕ) (x : Addressed) → IsGiven (machine start) from 0 (logs from) (x ∷ taken (machine start) from (logs 0))
+        → (name : Option ℕ) → is_reply name x.signal.to x.signal.body ≡ true → 1 ≤ tally (begins_at name (node_of from)) (opened_in (after start 0 (logs 0)))
+    due_next balanced from x given name reply =
+        subst (λ node. 1 ≤ tally (begins_at name node) (opened_in (after start 0 (logs 0)))) (own_node from of.node of.some of.low of.is)
+        (omega (
+          arith,
+          ap one_if reply,
+          tally_past (λ (y : Addressed). is_reply name y.signal.to y.signal.body) (past from x (taken (machine start) from (logs 0)) given),
+          replied name from (logs from) runs,
+          steps_wished name from,
+          subst (λ h. tally (begins_at name of.node) (opened_in (after start 0 (logs 0))) + signals (is_reply name) (taken (machine start) h (logs 0)) ≡ signals (is_wish name) (sent (machine start) 0 h (logs 0)))
+              (sym of.is) (balanced name of.node of.some of.low).balance,
+        ))
       where
-        none_next : (i : ℕ) (y : Signal) (ys : List Signal) → IsGiven (machine start) zero 0 (logs zero) (y ∷ ys) → (n : Option ℕ) → is_reply n y.to y.body ≡ true → ⊥
-        none_next i y ys g n r =
-            omega (arith, shell_sent n 0 (logs 0), tally_past (λ (z : Signal). is_reply n z.to z.body) (given_past 0 0 (logs 0) (y ∷ ys) g), ap one_if r)
+        of : IsNodes start (tc_host start) from
+        of = replier from x (taken (machine start) from (logs 0)) given name reply
 
-    due_next : AreBalanced start logs → (from : ℕ) (x : Signal) → IsGiven (machine start) from 0 (logs from) (x ∷ taken (machine start) from (logs 0))
-        → (name : Option ℕ) → is_reply name x.to x.body ≡ true → 1 ≤ tally (begins_at name from) (opened_in (after start 0 (logs 0)))
-    due_next balanced zero x given name reply =
-        absurd (omega (arith, shell_sent name 0 (logs 0), tally_past (λ (z : Signal). is_reply name z.to z.body) (given_past 0 0 (logs 0) (x ∷ taken (machine start) 0 (logs 0)) given), ap one_if reply))
-    due_next balanced (suc h) x given name reply =
-        let past = tally_past (λ (z : Signal). is_reply name z.to z.body) (given_past (suc h) 0 (logs (suc h)) (x ∷ taken (machine start) (suc h) (logs 0)) given) in
-        omega (arith, past, ap one_if reply, node_replied name h (logs (suc h)), steps_wished name h, (balanced name h).balance)
+        runs : has_tc (after start from (logs from)) ≡ true
+        runs = subst (λ h. has_tc (after start h (logs from)) ≡ true) (sym of.is) (tc_runs start of.node (logs from) of.some of.low)
 
   -- one more step of the shell's host
-  shell_next : (e : LogStep) (logs : ℕ → List LogStep) → AreLogs (machine start) logs → AreBalanced start logs
-      → (is_request e.taken.body ≡ false → IsGiven (machine start) e.taken.from.0 0 (logs e.taken.from.0) (e.taken ∷ taken (machine start) e.taken.from.0 (logs 0)))
-      → (name : Option ℕ) (h : ℕ)
-      → tally (begins_at name (suc h)) (opened_in (after start 0 (e ∷ logs 0))) + signals (is_reply name) (taken (machine start) (suc h) (e ∷ logs 0))
-      ≡ signals (is_wish name) (sent (machine start) 0 (suc h) (e ∷ logs 0))
-  shell_next e logs right balanced given name h =
-      omega (
-        arith,
-        count,
-        (balanced name h).balance,
-        before,
-        now,
-        sent_signals start (is_wish name) 0 (suc h) e (logs 0),
-        taken_signals start (is_reply name) (suc h) e (logs 0),
-        ap (sends_of (to_node (suc h) (is_wish name))) (shell_sends start e (logs 0)),
-        ap one_if plain,
-      )
+  module _ (e : HostStep) (logs : ℕ → List HostStep) (right : AreLogs (machine start) logs) (in_n : IsWithin (hosts start) logs) (balanced : AreBalanced start logs)
+      (given : is_request e.step.taken.body ≡ false
+          → IsGiven (machine start) e.step.taken.from.0 0 (logs e.step.taken.from.0) (record { to = e.host; signal = e.step.taken } ∷ taken (machine start) e.step.taken.from.0 (logs 0)))
+      (name : Option ℕ) (node : ℕ) (some : 1 ≤ node) (low : node ≤ start.shape.nodes) where
+    abbrev x : Signal
+    x = e.step.taken
+
+    abbrev from : ℕ
+    from = x.from.0
+
+    abbrev s : ApiState
+    s = (shell_after start (logs 0)).state
+
+    due : is_api x.to.block ≡ true → IsDue s x.body (node_of from)
+    due api = record {
+      told = λ n tx is. told_next logs right in_n from _ (taken (machine start) from (logs 0)) (given (plain_conf n tx x.body is)) n tx is;
+      due = λ n r. subst (λ g. 1 ≤ tally (begins_at n (node_of from)) (opened_in g)) (shell_after start (logs 0)).is
+          (due_next logs right in_n balanced from _ (given (plain_reply n x.body r)) n (ap (λ b. b && reply_of n x.body) api ∙ r));
+    }
+
+    count : tally (begins_at name node) (shell_row s x.to.block x).state.opened + one_if ((node_of from == node) && is_reply name x.to x.body)
+        ≡ tally (begins_at name node) s.opened + sends_of (to_node node (is_wish name)) (shell_row s x.to.block x).effects.sends
+    count = shell_count s x.to.block x (node_of from) name node (shell_after start (logs 0)).good due
+
+    -- a reply is from the node's coordinator where it is from its host
+    from_node : one_if (is_from (machine start) (tc_host start node) e && is_reply name x.to x.body) ≡ one_if ((node_of from == node) && is_reply name x.to x.body)
+    from_node = go (is_reply name x.to x.body) refl
+      where
+        off : (a b : Bool) → one_if (a && false) ≡ one_if (b && false)
+        off true true = refl
+        off true false = refl
+        off false true = refl
+        off false false = refl
+
+        go : (b : Bool) → is_reply name x.to x.body ≡ b → one_if (is_from (machine start) (tc_host start node) e && b) ≡ one_if ((node_of from == node) && b)
+        go false r = off (is_from (machine start) (tc_host start node) e) (node_of from == node)
+        go true r = ap (λ b. one_if ((not b && (from == tc_host start node)) && true)) plain ∙ ap (λ b. one_if (b && true)) same
+          where
+            plain : is_request x.body ≡ false
+            plain = plain_reply name x.body (right_of (is_api x.to.block) (reply_of name x.body) r)
+
+            of : IsNodes start (tc_host start) from
+            of = replier logs right in_n from _ (taken (machine start) from (logs 0)) (given plain) name r
+
+            same : (from == tc_host start node) ≡ (node_of from == node)
+            same =
+                ap (λ h. h == tc_host start node) of.is ∙ at_tc_host start node (coordinator of.node) some low refl
+                ∙ ap (λ k. k == node) (own_node from of.node of.some of.low of.is)
+
+    shell_next : tally (begins_at name node) (opened_in (after start 0 (e ∷ logs 0))) + signals (is_reply name) (taken (machine start) (tc_host start node) (e ∷ logs 0))
+        ≡ signals (is_wish name) (sent (machine start) 0 (tc_host start node) (e ∷ logs 0))
+    shell_next =
+        omega (
+          arith,
+          count,
+          (balanced name node some low).balance,
+          ap (λ g. tally (begins_at name node) (opened_in g)) (shell_after start (logs 0)).is,
+          ap (tally (begins_at name node)) (opened_next start e (logs 0)),
+          sent_signals start (is_wish name) 0 (tc_host start node) e (logs 0),
+          sent_to_tc start node some low (is_wish name) (λ to body w. wish_part to (wish_of name body) w) (step_after start 0 (logs 0) e).effects.sends,
+          taken_signals start (is_reply name) (tc_host start node) e (logs 0),
+          ap (sends_of (to_node node (is_wish name))) (shell_sends start e (logs 0)),
+          from_node,
+        )
+
+  pub logs_balanced : (logs : ℕ → List HostStep) → IsWithin (hosts start) logs → AreLogs (machine start) logs → AreBalanced start logs
+  logs_balanced logs in_n right = along start (AreBalanced start) first next logs in_n right
     where
-      s : ApiState
-      s = (shell_after start (logs 0)).state
+      first : AreBalanced start (log_of (machine start) [])
+      first name node some low = record { balance = omega (arith, ap (tally (begins_at name node)) (opened_first start)) }
 
-      before : tally (begins_at name (suc h)) (opened_in (after start 0 (logs 0))) ≡ tally (begins_at name (suc h)) s.opened
-      before = ap (λ g. tally (begins_at name (suc h)) (opened_in g)) (shell_after start (logs 0)).is
-
-      now : tally (begins_at name (suc h)) (opened_in (after start 0 (e ∷ logs 0))) ≡ tally (begins_at name (suc h)) (shell_row s e.taken.to.block e.taken.body).state.opened
-      now = ap (tally (begins_at name (suc h))) (opened_next start e (logs 0))
-
-      due : is_api e.taken.to.block ≡ true → IsDue s e.taken.body e.taken.from.0
-      due api = record {
-        told = λ n tx is. told_next logs right e.taken.from.0 e.taken (taken (machine start) e.taken.from.0 (logs 0)) (given (plain_conf n tx e.taken.body is)) api n tx is;
-        due = λ n r. subst (λ g. 1 ≤ tally (begins_at n e.taken.from.0) (opened_in g)) (shell_after start (logs 0)).is
-            (due_next logs right balanced e.taken.from.0 e.taken (given (plain_reply n e.taken.body r)) n (ap (λ b. b && reply_of n e.taken.body) api ∙ r));
-      }
-
-      count : tally (begins_at name (suc h)) (shell_row s e.taken.to.block e.taken.body).state.opened + one_if ((e.taken.from.0 == suc h) && (is_api e.taken.to.block && reply_of name e.taken.body))
-          ≡ tally (begins_at name (suc h)) s.opened + sends_of (to_node (suc h) (is_wish name)) (shell_row s e.taken.to.block e.taken.body).effects.sends
-      count = shell_count s e.taken.to.block e.taken.body e.taken.from.0 name (suc h) (shell_after start (logs 0)).good due
-
-      plain : (is_from (machine start) (suc h) e && is_reply name e.taken.to e.taken.body) ≡ ((e.taken.from.0 == suc h) && (is_api e.taken.to.block && reply_of name e.taken.body))
-      plain = go (is_request e.taken.body) (reply_of name e.taken.body) refl refl
+      next : (logs now : ℕ → List HostStep) (h : ℕ) (e : HostStep) → Goes start logs now h e → AreBalanced start logs → AreBalanced start now
+      next logs now h e g balanced name node some low = record { balance = go (cases_eq h 0) }
         where
-          go : (a b : Bool) → is_request e.taken.body ≡ a → reply_of name e.taken.body ≡ b
-              → ((not (is_request e.taken.body) && (e.taken.from.0 == suc h)) && (is_api e.taken.to.block && reply_of name e.taken.body)) ≡ ((e.taken.from.0 == suc h) && (is_api e.taken.to.block && reply_of name e.taken.body))
-          go false b p q = ap (λ a. (not a && (e.taken.from.0 == suc h)) && (is_api e.taken.to.block && reply_of name e.taken.body)) p
-          go true true p q = absurd (true≢false (sym p ∙ plain_reply name e.taken.body q))
-          go true false p q =
-              ap (λ r. (not (is_request e.taken.body) && (e.taken.from.0 == suc h)) && (is_api e.taken.to.block && r)) q
-              ∙ none (not (is_request e.taken.body)) (e.taken.from.0 == suc h) (is_api e.taken.to.block)
-              ∙ sym (ap (λ r. (e.taken.from.0 == suc h) && (is_api e.taken.to.block && r)) q)
-            where
-              none : (x y z : Bool) → ((x && y) && (z && false)) ≡ (y && (z && false))
-              none true y z = refl
-              none false true true = refl
-              none false true false = refl
-              none false false z = refl
+          Holds : List HostStep → Type 0
+          Holds log = tally (begins_at name node) (opened_in (after start 0 log)) + signals (is_reply name) (taken (machine start) (tc_host start node) log)
+              ≡ signals (is_wish name) (sent (machine start) 0 (tc_host start node) log)
 
-  -- along a run
-  run_next : (es : List LogStep) (e : LogStep) → Run (machine start) es → Happens (machine start) es e → AreBalanced start (log_of (machine start) es)
-      → AreBalanced start (log_of (machine start) (e ∷ es))
-  run_next es e run happens balanced name h = record { balance = go (cases_eq e.taken.to.node 0) }
-    where
-      logs : ℕ → List LogStep
-      logs = log_of (machine start) es
-
-      Holds : List LogStep → Type 0
-      Holds log = tally (begins_at name (suc h)) (opened_in (after start 0 log)) + signals (is_reply name) (taken (machine start) (suc h) log) ≡ signals (is_wish name) (sent (machine start) 0 (suc h) log)
-
-      next : e.taken.to.node ≡ 0 → is_request e.taken.body ≡ false
-          → IsGiven (machine start) e.taken.from.0 0 (logs e.taken.from.0) (e.taken ∷ taken (machine start) e.taken.from.0 (logs 0))
-      next at plain =
-          subst (λ j. IsGiven (machine start) e.taken.from.0 j (logs e.taken.from.0) (e.taken ∷ taken (machine start) e.taken.from.0 (logs j))) at (happens.takes plain)
-
-      go : (e.taken.to.node ≡ 0) ⊎ (e.taken.to.node ≢ 0) → Holds (log_of (machine start) (e ∷ es) 0)
-      go (inr other) = subst Holds (sym (log_of-other (machine start) e es 0 other)) (balanced name h).balance
-      go (inl at) = subst Holds (sym (log_of-own (machine start) e es 0 at)) (shell_next e logs (logs_of_run (machine start) es run) balanced (next at) name h)
-
-  balanced_start : AreBalanced start (log_of (machine start) [])
-  balanced_start name h =
-      let none : tally (begins_at name (suc h)) (opened_in (after start 0 [])) ≡ 0 = ap (tally (begins_at name (suc h))) (opened_first start) in
-      record { balance = omega (arith, none) }
-
-  pub logs_balanced : (n : ℕ) (logs : ℕ → List LogStep) → IsWithin n logs → AreLogs (machine start) logs → AreBalanced start logs
-  logs_balanced n logs in_n right =
-      of_runs (machine start) (stamped start) (AreBalanced start) (along_run (machine start) (λ es. AreBalanced start (log_of (machine start) es)) balanced_start run_next) n logs in_n right
+          go : (h ≡ 0) ⊎ (h ≢ 0) → Holds (now 0)
+          go (inr other) = subst Holds (sym (g.others 0 (λ same. other (sym same)))) (balanced name node some low).balance
+          go (inl at) =
+              subst Holds (sym (subst (λ k. now k ≡ e ∷ logs k) at g.own))
+              (shell_next e logs g.before (λ k high. sym (g.others k (λ same. omega (arith, same, high, g.low))) ∙ g.within k high) balanced
+              (λ plain. subst (λ j. IsGiven (machine start) e.step.taken.from.0 j (logs e.step.taken.from.0) (record { to = e.host; signal = e.step.taken } ∷ taken (machine start) e.step.taken.from.0 (logs j))) at (g.takes plain))
+              name node some low)
 
   -- at quiet
-  none_begins : (logs : ℕ → List LogStep) (t : OpenTransaction) → AreQuiet start logs → IsIn t (opened_after start logs) → is_beginning t.doing ≡ true → ⊥
-  none_begins logs t q inside begins = at t.node refl
+  none_begins : (logs : ℕ → List HostStep) (t : OpenTransaction) → AreQuiet start logs → IsIn t (opened_after start logs) → is_beginning t.doing ≡ true → ⊥
+  none_begins logs t q inside begins =
+      omega (
+        arith,
+        tally_in (begins_at t.name t.node) t (opened_in (after start 0 (logs 0))) inside passes,
+        (logs_balanced logs q.within q.right t.name t.node place.0 place.1).balance,
+        replied t.name (tc_host start t.node) (logs (tc_host start t.node)) (tc_runs start t.node (logs (tc_host start t.node)) place.0 place.1),
+        taken_steps start (is_wish t.name) 0 (logs (tc_host start t.node)),
+        ap (signals (is_reply t.name)) (q.quiet (tc_host start t.node) 0 low (omega arith)),
+        ap (signals (is_wish t.name)) (q.quiet 0 (tc_host start t.node) (omega arith) low),
+      )
     where
       s : ApiState
       s = (shell_after start (logs 0)).state
@@ -280,33 +310,14 @@ module _ (start : Start) where
       t_good : IsGood s.view t
       t_good = each_in (λ u. IsGood s.view u) t s.opened (shell_after start (logs 0)).good.each (subst (λ g. IsIn t (opened_in g)) (shell_after start (logs 0)).is inside)
 
-      place : (1 ≤ t.node) × (t.node ≤ start.nodes)
-      place = within start.nodes t.node (subst (λ (v : View). list_any (is_at t.node) v.full ≡ true) (shell_after start (logs 0)).view (t_good.there begins))
+      place : (1 ≤ t.node) × (t.node ≤ start.shape.nodes)
+      place = within start.shape.nodes t.node (subst (λ (v : View). list_any (is_at t.node) v.full ≡ true) (shell_after start (logs 0)).view (t_good.there begins))
 
-      at : (k : ℕ) → t.node ≡ k → ⊥
-      at zero e = omega (arith, e, place.0)
-      at (suc h) e =
-          omega (
-            arith,
-            some,
-            (logs_balanced (hosts start) logs q.within q.right t.name h).balance,
-            node_replied t.name h (logs (suc h)),
-            wished,
-            ap (signals (is_reply t.name)) (q.quiet (suc h) 0 low (omega arith)),
-            ap (signals (is_wish t.name)) (q.quiet 0 (suc h) (omega arith) low),
-          )
-        where
-          low : suc h < start.nodes + 1
-          low = omega (arith, e, place.1)
+      low : tc_host start t.node < hosts start
+      low = host_below start (coordinator t.node) place.0 place.1
 
-          passes : begins_at t.name (suc h) t ≡ true
-          passes = all_true (is_beginning t.doing) (same_name t.name t.name) (t.node == suc h) begins (same_name-self t.name) (grind (arith, nat_tests, e))
-
-          some : 1 ≤ tally (begins_at t.name (suc h)) (opened_in (after start 0 (logs 0)))
-          some = tally_in (begins_at t.name (suc h)) t (opened_in (after start 0 (logs 0))) inside passes
-
-          wished : signals (is_wish t.name) (taken (machine start) 0 (logs (suc h))) ≤ steps (is_wish t.name) (logs (suc h))
-          wished = taken_steps start (is_wish t.name) 0 (logs (suc h))
+      passes : begins_at t.name t.node t ≡ true
+      passes = all_true (is_beginning t.doing) (same_name t.name t.name) (t.node == t.node) begins (same_name-self t.name) (grind (arith, nat_tests))
 
 -- at quiet no transaction is beginning
 pub no_begin : NoBeginIsLost

@@ -1,25 +1,22 @@
 -- What a transaction that commits waits for is on its way.
-use Rattle.std.proofs.Common.{◌≡◌, ◌≢◌, ◌⊎◌, ℕ, zero, suc, ◌+◌, ◌-◌, ◌≤◌, ◌<◌, List, [], ◌∷◌, ◌++◌, length, Bool, true, false, refl, ap, sym, ◌∙◌, subst, arith, inl, inr}
+use Rattle.std.proofs.Common.{◌≡◌, ◌≢◌, ◌⊎◌, ℕ, ◌+◌, ◌-◌, ◌≤◌, ◌<◌, List, [], ◌∷◌, length, Bool, true, false, refl, ap, sym, ◌∙◌, subst, arith, inl, inr}
 use Rattle.std.specs.Prelude.{◌==◌, ◌&&◌, nat_lt, Option, None, Some}
-use Rattle.std.proofs.lemmas.Bool.{cases_eq, cases_lt, eqb-true}
+use Rattle.std.proofs.lemmas.Bool.{cases_eq, eqb-true, true≢false}
 use Rattle.std.proofs.lemmas.Bool.Decides.{nat_tests}
+use Rattle.frag_map.specs.Layout.{Layout, chain_of, first_layout}
+use Rattle.frag_map.specs.Shape.{IsShape}
 use Rattle.lqh_block.specs.Commit as commit
-use Rattle.lqh_block.specs.Lqh.{lqh_row}
+use Rattle.lqh_block.specs.Lqh.{lqh_table}
 use Rattle.lqh_block.specs.State.{LqhState}
-use Rattle.node_core.specs.declared.host.Host.TheVariants.{Node}
-use Rattle.node_core.specs.declared.node.Node as node
-use Rattle.node_core.specs.Fresh.{begun_node, fresh_node}
-use Rattle.node_core.specs.Row.{node_row, row}
+use Rattle.node_core.proofs.HostCases.{IsRowsStep, IsTcStep, tc_step}
+use Rattle.node_core.specs.Blocks.{has_tc, lqh_of, tc_of}
 use Rattle.run_theory.proofs.Pasts.{each_in}
 use Rattle.run_theory.specs.Links.{is_from, sent, taken}
 use Rattle.run_theory.specs.Lists.{Each, IsIn}
-use Rattle.run_theory.specs.Runs.{AreLogs, IsWithin, log_of}
-use Rattle.sig_core.specs.declared.log.LogStep.{LogStep}
+use Rattle.run_theory.specs.Runs.{log_of}
 use Rattle.sig_core.specs.declared.member.Member.{Member}
 use Rattle.sig_core.specs.declared.member.TxId.{TxId}
 use Rattle.sig_core.specs.declared.outs.Outgoing.{Outgoing}
-use Rattle.sig_core.specs.declared.place.BlockId.{BlockId}
-use Rattle.sig_core.specs.declared.place.BlockId.TheVariants as block
 use Rattle.sig_core.specs.declared.place.Place.{Place}
 use Rattle.sig_core.specs.declared.signal.Body.{Body}
 use Rattle.sig_core.specs.declared.signal.Body.TheVariants.{Host, Chain}
@@ -27,33 +24,40 @@ use Rattle.sig_core.specs.declared.signal.Signal.{Signal}
 use Rattle.sig_core.specs.declared.signal.chain.ChainSignal.TheVariants.{Commit, Committed}
 use Rattle.sig_core.specs.declared.signal.host.HostSignal.TheVariants.{Continue}
 use Rattle.sig_core.specs.declared.signal.host.Work.TheVariants as work
-use Rattle.sig_core.specs.declared.view.View.{View}
 use Rattle.sig_core.specs.Chain.{node_at}
+use Rattle.sig_core.specs.Place.{coordinator_of}
 use Rattle.sig_core.specs.Rows.{record_state}
 use Rattle.sig_core.specs.Same.{same_tx}
 use Rattle.tc_block.specs.declared.phase.Phase.{Phase}
 use Rattle.tc_block.specs.declared.phase.Phase.TheVariants.{Open, Verifying, Committing, Completing, Aborting}
 use Rattle.tc_block.specs.declared.transaction.Transaction.{Transaction}
+use Rattle.tc_block.specs.State.{TcState}
+use Rattle.tc_block.specs.Tc.{tc_table}
+use Rattle.world_core.proofs.HostNumbers.{host_below, tc_runs}
+use Rattle.world_core.specs.Hosts.{home, host_for, hosts}
 use Rattle.world_core.specs.Machine.{after, machine, step_after}
-use Rattle.world_core.specs.Start.{Start, first_view, members}
-use Rattle.answer_laws.proofs.Ahead.{along}
-use Rattle.answer_laws.proofs.Begins.{given_past}
-use Rattle.answer_laws.proofs.Hosts.{node_after, same_node, shell_after}
-use Rattle.answer_laws.proofs.Lives.{NodeKeeps, keeps}
-use Rattle.answer_laws.proofs.LinkCounts.{sent_signals, signals, taken_signals}
-use Rattle.answer_laws.proofs.LqhOps.{is_good, is_lqh, is_node, left_of, right_of, true_and}
-use Rattle.answer_laws.proofs.NodeOwes.{OwesOf, at_if, came_in, cont_in, tc_owes}
-use Rattle.answer_laws.proofs.Ops.{good_members, row_effects, row_state}
-use Rattle.answer_laws.proofs.Tally.{and_few, one_if, tally, tally_past}
-use Rattle.answer_laws.proofs.PartCounts.{is_cont, cont_block}
-use Rattle.answer_laws.proofs.TcCommits.{chain_at, is_chain, is_commit}
-use Rattle.answer_laws.proofs.TcLives.{IsOwn, is_keyed}
-use Rattle.answer_laws.proofs.TcMoves.{node_moves, same_tx-is, tc_view}
-use Rattle.answer_laws.proofs.TcOwes.{IsKnown, Owes, begins, goes_on, waits}
-use Rattle.answer_laws.proofs.TcSends.{eqb-self}
-use Rattle.answer_laws.proofs.Totals.{Grown, sent_all, sent_more, taken_all, taken_more, total_le, total_same}
-use Rattle.answer_laws.proofs.Wishes.{is_tc, sends_of, to_node}
-use Rattle.answer_laws.specs.Answered.{AreQuiet, IsLiveAs, NoCommitIsAwaited, is_committing}
+use Rattle.world_core.specs.Start.{Start}
+use Rattle.world_core.specs.Steps.{HostStep}
+use Rattle.host_laws.proofs.Sums.{total_le, total_same}
+use Rattle.host_laws.proofs.Tally.{and_few}
+use Rattle.host_laws.specs.Counts.{one_if}
+use Rattle.answer_laws.proofs.AbortCounts.{conts_few}
+use Rattle.run_laws.proofs.AlongSteps.{Goes, addressed, along, at_home, at_tc, few_taken, heard_rows, home_place, live_tx, tx_at}
+use Rattle.answer_laws.proofs.FirstChains.{chain_some, good_chain}
+use Rattle.host_laws.proofs.HostSteps.{IsHome, first_live, reaches, tc_layout}
+use Rattle.host_laws.proofs.HostTurns.{rows_turn, tc_turn}
+use Rattle.host_laws.proofs.LinkCounts.{sent_signals, signals, taken_signals}
+use Rattle.host_laws.proofs.LqhOps.{is_good, is_lqh, is_node, left_of, right_of, true_and}
+use Rattle.answer_laws.proofs.NodeOwes.{OwesOf, StepOwes, at_if, came_in, cont_in, tc_owes}
+use Rattle.host_laws.proofs.PartCounts.{cont_block, is_cont}
+use Rattle.host_laws.proofs.TcCommits.{chain_at, is_chain, is_commit}
+use Rattle.host_laws.proofs.TcMoves.{same_tx-is}
+use Rattle.host_laws.proofs.TcOwes.{IsKnown, Owes, begins, goes_on, waits}
+use Rattle.host_laws.proofs.TcSends.{eqb-self}
+use Rattle.answer_laws.proofs.Totals.{Grown, sent_all, sent_more, taken_all, taken_more}
+use Rattle.host_laws.proofs.Wishes.{is_tc, sends_of}
+use Rattle.answer_laws.specs.Answered.{AreQuiet, IsLiveAs, NoCommitIsAwaited}
+use Rattle.host_laws.specs.Phases.{is_committing}
 
 -- what came along the chain
 abbrev came_along : ℕ → TxId → Body → ℕ
@@ -90,7 +94,7 @@ commit_passed n tx s other key epoch chain at = go (same_tx other tx && (is_good
         less q =
             let r : at - 1 < length chain = omega (arith, q) in grind (arith, nat_tests, r)
 
-lqh_commits : (n : ℕ) (tx : TxId) (s : LqhState) (body : Body) → came_along n tx body ≤ sends_of (is_commit n tx) (lqh_row s body).effects.sends
+lqh_commits : (n : ℕ) (tx : TxId) (s : LqhState) (body : Body) → came_along n tx body ≤ sends_of (is_commit n tx) (lqh_table s body).effects.sends
 lqh_commits n tx s (Chain (Commit other key epoch chain at)) = commit_passed n tx s other key epoch chain at
 lqh_commits n tx s _ = omega arith
 
@@ -104,10 +108,20 @@ few_answers n tx to (Chain (Commit other key epoch chain at)) e = omega (arith, 
 few_answers n tx to (Chain (Committed other key)) e = and_few (is_tc to.block && (to.node == tx.tc)) _
 few_answers n tx to _ e = omega arith
 
-none_at : (n : ℕ) (tx : TxId) (to : Place) (body : Body) → is_lqh to.block ≡ false → (is_tc to.block && (to.node == tx.tc)) ≡ false → one_if (is_commit n tx to body) ≡ 0
-none_at n tx to (Chain (Commit other key epoch chain at)) p q = ap (λ b. one_if ((b && is_node n to.node) && (same_tx other tx && (is_good n chain && nat_lt at (length chain))))) p
+-- it is for rows of a node, or for the transaction's coordinator
+none_at : (n : ℕ) (tx : TxId) (to : Place) (body : Body) → (is_lqh to.block && is_node n to.node) ≡ false → (is_tc to.block && (to.node == tx.tc)) ≡ false → one_if (is_commit n tx to body) ≡ 0
+none_at n tx to (Chain (Commit other key epoch chain at)) p q = ap (λ b. one_if (b && (same_tx other tx && (is_good n chain && nat_lt at (length chain))))) p
 none_at n tx to (Chain (Committed other key)) p q = ap (λ b. one_if (b && same_tx other tx)) q
 none_at n tx to _ p q = refl
+
+commit_low : (start : Start) (tx : TxId) → tx.tc ≤ start.shape.nodes → (to : Place) (body : Body) → is_commit (start.shape.nodes + 1) tx to body ≡ true → host_for start to < hosts start
+commit_low start tx low to (Chain (Commit other key epoch chain at)) e =
+    let node = right_of (is_lqh to.block) (is_node (start.shape.nodes + 1) to.node) (left_of (is_lqh to.block && is_node (start.shape.nodes + 1) to.node) _ e) in
+    let under : to.node < start.shape.nodes + 1 = grind (arith, nat_tests, right_of (nat_lt 0 to.node) (nat_lt to.node (start.shape.nodes + 1)) node) in
+    reaches start to (omega (arith, under))
+commit_low start tx low to (Chain (Committed other key)) e =
+    reaches start to (omega (arith, low, eqb-true to.node tx.tc (right_of (is_tc to.block) (to.node == tx.tc) (left_of (is_tc to.block && (to.node == tx.tc)) _ e))))
+commit_low start tx low to _ e = cc
 
 -- what goes on goes on at a place
 cont_is : (n : ℕ) (tx : TxId) (a : ℕ) (to : Place) (body : Body) → is_cont tx a to body ≡ true → cont_in n tx body ≡ Some a
@@ -116,182 +130,89 @@ cont_is n tx a to (Host (Continue (work.Transaction other) at)) e =
     ap (λ b. at_if n tx b at) (left_of (same_tx other tx) (at == a) rest) ∙ ap (λ k. Some k) (eqb-true at a (right_of (same_tx other tx) (at == a) rest))
 cont_is n tx a to _ e = cc
 
-module _ (start : Start) (some_nodes : 1 ≤ start.nodes) (tx : TxId) where
-  -- a node after a log, as far as commits go
-  pub record NodeIs (h : ℕ) (log : List LogStep) : Type 0 where
-    pub state : node.Node
-    pub is : after start (suc h) log ≡ Node state
-    pub view : state.tc.view ≡ first_view start.nodes
-    pub known : Each (λ (e : TxId × Transaction). IsKnown (start.nodes + 1) e.1) state.tc.live
-    pub once : tally (is_keyed tx) state.tc.live ≤ 1
-    pub own : Each (λ (e : TxId × Transaction). IsOwn state.tc.node state.tc.next_seq e.0) state.tc.live
+module _ (start : Start) (shape : IsShape start.shape) (tx : TxId) where
+  -- the first number behind those of the nodes, and the host of the transaction's coordinator
+  abbrev nodes : ℕ
+  nodes = start.shape.nodes + 1
 
-  view_chain : is_chain (start.nodes + 1) (first_view start.nodes).full ≡ true
-  view_chain = true_and (is_good (start.nodes + 1) (first_view start.nodes).full) (nat_lt 0 (length (first_view start.nodes).full)) (good_members (start.nodes + 1) start.nodes (omega arith)) (some start.nodes some_nodes)
+  abbrev at : ℕ
+  at = home start tx
+
+  good : (key : List ℕ) → is_chain nodes (chain_of (first_layout start.shape) key) ≡ true
+  good key =
+      let some = chain_some start.shape shape key in
+      true_and (is_good nodes (chain_of (first_layout start.shape) key)) (nat_lt 0 (length (chain_of (first_layout start.shape) key))) (good_chain start.shape shape key) (grind (arith, nat_tests, some))
+
+  -- what is known of the transactions of a coordinator, and what a step makes of them
+  abbrev AreKnown : TcState → Type 0
+  AreKnown s = Each (λ (e : TxId × Transaction). IsKnown nodes e.1) s.live
+
+  owes : (h : ℕ) (log : List HostStep) (body : Body) → has_tc (after start h log) ≡ true → AreKnown (tc_of (after start h log))
+      → StepOwes nodes tx (tc_of (after start h log)) (tc_table (tc_of (after start h log)) body).state (tc_table (tc_of (after start h log)) body).effects.sends (came_in nodes tx body) (cont_in nodes tx body)
+  owes h log body on known =
+      let x = at_tc start tx h log in
+      tc_owes nodes tx (tc_of (after start h log)) body known x.once x.own (subst (λ (l : Layout). (key : List ℕ) → is_chain nodes (chain_of l key) ≡ true) (sym (tc_layout start h log on)) good)
+
+  known_after : (h : ℕ) (log : List HostStep) → AreKnown (tc_of (after start h log))
+  known_after h [] = subst (λ live. Each (λ (e : TxId × Transaction). IsKnown nodes e.1) live) (sym (first_live start h)) tt
+  known_after h (e ∷ log) = by (known_after h log) (tc_step (after start h log) e.step.taken)
     where
-      behind : (xs : List Member) (x : Member) → nat_lt 0 (length (xs ++ x ∷ [])) ≡ true
-      behind [] x = refl
-      behind (y ∷ xs) x = positive (length (xs ++ x ∷ []))
-        where
-          positive : (m : ℕ) → nat_lt 0 (suc m) ≡ true
-          positive m = grind (arith, nat_tests)
+      by : AreKnown (tc_of (after start h log)) → IsTcStep (after start h log) e.step.taken (step_after start h log e) ⊎ (tc_of (step_after start h log e).state ≡ tc_of (after start h log))
+          → AreKnown (tc_of (step_after start h log e).state)
+      by known (inl step) = subst AreKnown (sym step.state) (owes h log e.step.taken.body step.runs known).known
+      by known (inr same) = subst AreKnown (sym same) known
 
-      some : (m : ℕ) → 1 ≤ m → nat_lt 0 (length (members m)) ≡ true
-      some zero low = absurd (omega (arith, low))
-      some (suc m) low = behind (members m) (record { node = m + 1; start = 0 })
+  abbrev S : (ℕ → List HostStep) → ℕ
+  S logs = sent_all start (hosts start) (is_commit nodes tx) logs
 
-  node_known : (x : node.Node) (at : BlockId) (body : Body) → Each (λ (e : TxId × Transaction). IsKnown (start.nodes + 1) e.1) x.tc.live → tally (is_keyed tx) x.tc.live ≤ 1
-      → Each (λ (e : TxId × Transaction). IsOwn x.tc.node x.tc.next_seq e.0) x.tc.live → is_chain (start.nodes + 1) x.tc.view.full ≡ true
-      → Each (λ (e : TxId × Transaction). IsKnown (start.nodes + 1) e.1) (node_row x at body).state.tc.live
-  unfolding node_row
-  node_known x block.Tc body known once own good = (tc_owes (start.nodes + 1) tx x.tc body known once own good).known
-  node_known x block.Dih body known once own good = known
-  node_known x block.Lqh body known once own good = known
-  node_known x _ body known once own good = known
-
-  pub node_is : (h : ℕ) (log : List LogStep) → NodeIs h log
-  unfolding fresh_node begun_node row
-  node_is h [] = record { state = begun_node (h + 1) (first_view start.nodes) start.epoch start.rows; is = refl; view = refl; known = tt; once = omega arith; own = tt }
-  node_is h (e ∷ log) = next (node_is h log) (keeps start tx h (e ∷ log))
-    where
-      next : NodeIs h log → NodeKeeps start tx h (e ∷ log) → NodeIs h (e ∷ log)
-      next x k = record {
-        state = now;
-        is = now_is;
-        view = tc_view x.state.tc now.tc (node_row x.state e.taken.to.block e.taken.body).effects.sends (node_moves x.state e.taken.to.block e.taken.body) ∙ x.view;
-        known = node_known x.state e.taken.to.block e.taken.body x.known x.once x.own (subst (λ (v : View). is_chain (start.nodes + 1) v.full ≡ true) (sym x.view) view_chain);
-        once = subst (λ (y : node.Node). tally (is_keyed tx) y.tc.live ≤ 1) same (omega (arith, k.keeps.began, k.keeps.once));
-        own = subst (λ (y : node.Node). Each (λ (z : TxId × Transaction). IsOwn y.tc.node y.tc.next_seq z.0) y.tc.live) same k.keeps.own;
-      }
-        where
-          now : node.Node
-          now = (node_row x.state e.taken.to.block e.taken.body).state
-
-          now_is : after start (suc h) (e ∷ log) ≡ Node now
-          now_is = ap (λ g. (row g e.taken.to e.taken.body).state) x.is
-
-          same : k.state ≡ now
-          same = same_node k.state now (sym k.is ∙ now_is)
-
-  -- at its coordinator it is as the coordinator's row says, or stays
-  data AtHome (x now : node.Node) (u : Transaction) (sends : List Outgoing) (k : ℕ) (to : Place) (body : Body) : Type 0 where
-    owed : (at : Option ℕ) (came : ℕ) → one_if (is_commit (start.nodes + 1) tx to body) ≤ came → ((a : ℕ) → is_cont tx a to body ≡ true → at ≡ Some a) → OwesOf (start.nodes + 1) tx x.tc u sends k came at → AtHome x now u sends k to body
-    kept : IsIn (tx, u) x.tc.live → one_if (is_commit (start.nodes + 1) tx to body) ≤ sends_of (is_commit (start.nodes + 1) tx) sends → ((a : ℕ) → is_cont tx a to body ≡ false) → AtHome x now u sends k to body
-
-  at_home : (x : node.Node) (to : Place) (body : Body) (at : BlockId) → to.block ≡ at → Each (λ (e : TxId × Transaction). IsKnown (start.nodes + 1) e.1) x.tc.live → tally (is_keyed tx) x.tc.live ≤ 1
-      → Each (λ (e : TxId × Transaction). IsOwn x.tc.node x.tc.next_seq e.0) x.tc.live → is_chain (start.nodes + 1) x.tc.view.full ≡ true
-      → (u : Transaction) (epoch k : ℕ) → IsIn (tx, u) (node_row x at body).state.tc.live → u.phase ≡ Committing epoch k → AtHome x (node_row x at body).state u (node_row x at body).effects.sends k to body
-  unfolding node_row
-  at_home x to body block.Tc e known once own good u epoch k i is =
-      owed (cont_in (start.nodes + 1) tx body) (came_in (start.nodes + 1) tx body) (few_answers (start.nodes + 1) tx to body (ap is_lqh e)) (λ a c. cont_is (start.nodes + 1) tx a to body c)
-      ((tc_owes (start.nodes + 1) tx x.tc body known once own good).owes u epoch k i is)
-  at_home x to body block.Lqh e known once own good u epoch k i is =
-      kept i (omega (arith, few_along (start.nodes + 1) tx to body (ap is_tc e), lqh_commits (start.nodes + 1) tx x.lqh body)) (λ a. cont_block tx a to body (ap is_tc e))
-  at_home x to body block.Dih e known once own good u epoch k i is =
-      kept i (omega (arith, none_at (start.nodes + 1) tx to body (ap is_lqh e) (ap (λ b. is_tc b && (to.node == tx.tc)) e))) (λ a. cont_block tx a to body (ap is_tc e))
-  at_home x to body _ e known once own good u epoch k i is =
-      kept i (omega (arith, none_at (start.nodes + 1) tx to body (ap is_lqh e) (ap (λ b. is_tc b && (to.node == tx.tc)) e))) (λ a. cont_block tx a to body (ap is_tc e))
-
-  away : (x : node.Node) (to : Place) (body : Body) (at : BlockId) → to.block ≡ at → (to.node == tx.tc) ≡ false
-      → one_if (is_commit (start.nodes + 1) tx to body) ≤ sends_of (is_commit (start.nodes + 1) tx) (node_row x at body).effects.sends
-  unfolding node_row
-  away x to body block.Tc e differs = omega (arith, none_at (start.nodes + 1) tx to body (ap is_lqh e) (none (is_tc to.block)))
-    where
-      none : (b : Bool) → (b && (to.node == tx.tc)) ≡ false
-      none true = differs
-      none false = refl
-  away x to body block.Lqh e differs = omega (arith, few_along (start.nodes + 1) tx to body (ap is_tc e), lqh_commits (start.nodes + 1) tx x.lqh body)
-  away x to body block.Dih e differs = omega (arith, none_at (start.nodes + 1) tx to body (ap is_lqh e) (ap (λ b. is_tc b && (to.node == tx.tc)) e))
-  away x to body _ e differs = omega (arith, none_at (start.nodes + 1) tx to body (ap is_lqh e) (ap (λ b. is_tc b && (to.node == tx.tc)) e))
-
-  shell_none : (to : Place) (body : Body) → to.node ≡ 0 → tx.tc ≢ 0 → one_if (is_commit (start.nodes + 1) tx to body) ≡ 0
-  shell_none to (Chain (Commit other key epoch chain at)) e differs =
-      ap (λ k. one_if ((is_lqh to.block && is_node (start.nodes + 1) k) && (same_tx other tx && (is_good (start.nodes + 1) chain && nat_lt at (length chain))))) e ∙ none (is_lqh to.block)
-    where
-      none : (b : Bool) → one_if ((b && is_node (start.nodes + 1) 0) && (same_tx other tx && (is_good (start.nodes + 1) chain && nat_lt at (length chain)))) ≡ 0
-      none true = refl
-      none false = refl
-  shell_none to (Chain (Committed other key)) e differs = go (to.node == tx.tc) refl
-    where
-      none : (b c : Bool) → one_if ((b && false) && c) ≡ 0
-      none true c = refl
-      none false c = refl
-
-      go : (b : Bool) → (to.node == tx.tc) ≡ b → one_if ((is_tc to.block && (to.node == tx.tc)) && same_tx other tx) ≡ 0
-      go true q = absurd (differs (sym (eqb-true to.node tx.tc q) ∙ e))
-      go false q = ap (λ b. one_if ((is_tc to.block && b) && same_tx other tx)) q ∙ none (is_tc to.block) _
-  shell_none to _ e differs = refl
-
-  commit_low : tx.tc < start.nodes + 1 → (to : Place) (body : Body) → is_commit (start.nodes + 1) tx to body ≡ true → to.node < start.nodes + 1
-  commit_low low to (Chain (Commit other key epoch chain at)) e =
-      grind (arith, nat_tests, right_of (nat_lt 0 to.node) (nat_lt to.node (start.nodes + 1)) (right_of (is_lqh to.block) (is_node (start.nodes + 1) to.node) (left_of (is_lqh to.block && is_node (start.nodes + 1) to.node) _ e)))
-  commit_low low to (Chain (Committed other key)) e =
-      omega (arith, low, eqb-true to.node tx.tc (right_of (is_tc to.block) (to.node == tx.tc) (left_of (is_tc to.block && (to.node == tx.tc)) _ e)))
-  commit_low low to _ e = cc
-
-  abbrev S : (ℕ → List LogStep) → ℕ
-  S logs = sent_all start (start.nodes + 1) (is_commit (start.nodes + 1) tx) logs
-
-  abbrev T : (ℕ → List LogStep) → ℕ
-  T logs = taken_all start (start.nodes + 1) (is_commit (start.nodes + 1) tx) logs
+  abbrev T : (ℕ → List HostStep) → ℕ
+  T logs = taken_all start (hosts start) (is_commit nodes tx) logs
 
   -- the signals by which its coordinator goes on at a place
-  abbrev conts_sent : ℕ → (ℕ → List LogStep) → ℕ
-  conts_sent a logs = signals (is_cont tx a) (sent (machine start) tx.tc tx.tc (logs tx.tc))
+  abbrev conts_sent : ℕ → (ℕ → List HostStep) → ℕ
+  conts_sent a logs = signals (is_cont tx a) (sent (machine start) at at (logs at))
 
-  abbrev conts_taken : ℕ → (ℕ → List LogStep) → ℕ
-  conts_taken a logs = signals (is_cont tx a) (taken (machine start) tx.tc (logs tx.tc))
+  abbrev conts_taken : ℕ → (ℕ → List HostStep) → ℕ
+  conts_taken a logs = signals (is_cont tx a) (taken (machine start) at (logs at))
 
   -- the rest is sent when the coordinator goes on
-  record IsLeft (logs : ℕ → List LogStep) (l k : ℕ) : Type 0 where
+  record IsLeft (logs : ℕ → List HostStep) (l k : ℕ) : Type 0 where
     at : ℕ
     low : at < 512
     coming : conts_taken at logs + 1 ≤ conts_sent at logs
     owed : T logs + k + at ≤ S logs + l
 
-  abbrev IsOwed : (ℕ → List LogStep) → ℕ → ℕ → Type 0
+  abbrev IsOwed : (ℕ → List HostStep) → ℕ → ℕ → Type 0
   IsOwed logs l k = (T logs + k ≤ S logs) ⊎ IsLeft logs l k
 
-  abbrev AllOwed : (ℕ → List LogStep) → Type 0
-  AllOwed logs = (u : Transaction) (epoch k : ℕ) → IsLiveAs tx u (after start tx.tc (logs tx.tc)) → u.phase ≡ Committing epoch k → IsOwed logs (length u.touched) k
-
-  taken_few : (logs : ℕ → List LogStep) → AreLogs (machine start) logs → T logs ≤ S logs
-  taken_few logs right =
-      total_le (start.nodes + 1) _ _ (λ i low. total_le (start.nodes + 1) _ _ (λ j under. tally_past (λ (x : Signal). is_commit (start.nodes + 1) tx x.to x.body) (given_past start i j (logs i) (taken (machine start) i (logs j)) (right.linked i j))))
+  abbrev AllOwed : (ℕ → List HostStep) → Type 0
+  AllOwed logs = (u : Transaction) (epoch k : ℕ) → IsLiveAs tx u (after start at (logs at)) → u.phase ≡ Committing epoch k → IsOwed logs (length u.touched) k
 
   -- where nothing goes on, what was owed stays owed
-  stays_owed : (logs now : ℕ → List LogStep) (l k : ℕ) → T now + S logs ≤ T logs + S now → (now tx.tc ≡ logs tx.tc) → IsOwed logs l k → IsOwed now l k
+  stays_owed : (logs now : ℕ → List HostStep) (l k : ℕ) → T now + S logs ≤ T logs + S now → (now at ≡ logs at) → IsOwed logs l k → IsOwed now l k
   stays_owed logs now l k more same (inl enough) = inl (omega (arith, enough, more))
   stays_owed logs now l k more same (inr left) = inr (record {
     at = left.at;
     low = left.low;
-    coming = subst (λ log. signals (is_cont tx left.at) (taken (machine start) tx.tc log) + 1 ≤ signals (is_cont tx left.at) (sent (machine start) tx.tc tx.tc log)) (sym same) left.coming;
+    coming = subst (λ log. signals (is_cont tx left.at) (taken (machine start) at log) + 1 ≤ signals (is_cont tx left.at) (sent (machine start) at at log)) (sym same) left.coming;
     owed = omega (arith, left.owed, more);
   })
 
-  -- what goes on from a coordinator goes to itself
-  conts_few : (a : ℕ) (xs : List Outgoing) → sends_of (is_cont tx a) xs ≤ sends_of (to_node tx.tc (is_cont tx a)) xs
-  conts_few a [] = omega arith
-  conts_few a (o ∷ xs) = omega (arith, conts_few a xs, one o.to o.body (is_cont tx a o.to o.body) refl)
-    where
-      at_self : (to : Place) (body : Body) → is_cont tx a to body ≡ true → (to.node == tx.tc) ≡ true
-      at_self to (Host (Continue (work.Transaction other) at)) e = right_of (is_tc to.block) (to.node == tx.tc) (left_of (is_tc to.block && (to.node == tx.tc)) (same_tx other tx && (at == a)) e)
-      at_self to _ e = cc
+  -- a step at the transaction's home is as the coordinator's row says, or leaves its transactions
+  data AtHome (s now : TcState) (u : Transaction) (sends : List Outgoing) (k : ℕ) (to : Place) (body : Body) : Type 0 where
+    owed : (at : Option ℕ) (came : ℕ) → one_if (is_commit nodes tx to body) ≤ came → ((a : ℕ) → is_cont tx a to body ≡ true → at ≡ Some a) → OwesOf nodes tx s u sends k came at → AtHome s now u sends k to body
+    kept : IsIn (tx, u) s.live → one_if (is_commit nodes tx to body) ≤ sends_of (is_commit nodes tx) sends → ((a : ℕ) → is_cont tx a to body ≡ false) → AtHome s now u sends k to body
 
-      one : (to : Place) (body : Body) (b : Bool) → is_cont tx a to body ≡ b → one_if (is_cont tx a to body) ≤ one_if ((to.node == tx.tc) && is_cont tx a to body)
-      one to body false e = omega (arith, ap one_if e)
-      one to body true e = omega (arith, ap one_if (true_and (to.node == tx.tc) (is_cont tx a to body) (at_self to body e) e), ap one_if e)
-
-  record Facts (logs now : ℕ → List LogStep) (sends : List Outgoing) (to : Place) (body : Body) : Type 0 where
-    s_more : S now ≡ S logs + sends_of (is_commit (start.nodes + 1) tx) sends
-    t_more : T now ≤ T logs + one_if (is_commit (start.nodes + 1) tx to body)
+  record Facts (logs now : ℕ → List HostStep) (sends : List Outgoing) (to : Place) (body : Body) : Type 0 where
+    s_more : S now ≡ S logs + sends_of (is_commit nodes tx) sends
+    t_more : T now ≤ T logs + one_if (is_commit nodes tx to body)
     t_few : T logs ≤ S logs
     c_sent : (a : ℕ) → conts_sent a logs + sends_of (is_cont tx a) sends ≤ conts_sent a now
     c_taken : (a : ℕ) → conts_taken a now ≤ conts_taken a logs + one_if (is_cont tx a to body)
     c_few : (a : ℕ) → conts_taken a logs ≤ conts_sent a logs
 
-  home_next : (logs now : ℕ → List LogStep) (x next : node.Node) (u : Transaction) (epoch k : ℕ) (sends : List Outgoing) (to : Place) (body : Body) → Facts logs now sends to body
-      → Each (λ (e : TxId × Transaction). IsKnown (start.nodes + 1) e.1) x.tc.live → ((t : Transaction) (f m : ℕ) → IsIn (tx, t) x.tc.live → t.phase ≡ Committing f m → IsOwed logs (length t.touched) m)
+  home_next : (logs now : ℕ → List HostStep) (x next : TcState) (u : Transaction) (epoch k : ℕ) (sends : List Outgoing) (to : Place) (body : Body) → Facts logs now sends to body
+      → Each (λ (e : TxId × Transaction). IsKnown nodes e.1) x.live → ((t : Transaction) (f m : ℕ) → IsIn (tx, t) x.live → t.phase ≡ Committing f m → IsOwed logs (length t.touched) m)
       → u.phase ≡ Committing epoch k → AtHome x next u sends k to body → IsOwed now (length u.touched) k
   home_next logs now x next u epoch k sends to body f known all is (kept i less none) = go (all u epoch k i is)
     where
@@ -318,10 +239,10 @@ module _ (start : Start) (some_nodes : 1 ≤ start.nodes) (tx : TxId) where
           other : None ≡ Some a → ⊥
           other q = cc
 
-      go : Owes (start.nodes + 1) tx of.before u sends k came at → IsOwed now (length u.touched) k
+      go : Owes nodes tx of.before u sends k came at → IsOwed now (length u.touched) k
       go (begins none_came none l parts) = part parts
         where
-          part : ((8 < length u.touched) × (8 ≤ sends_of (is_commit (start.nodes + 1) tx) sends) × (1 ≤ sends_of (is_cont tx 8) sends)) ⊎ (length u.touched ≤ sends_of (is_commit (start.nodes + 1) tx) sends) → IsOwed now (length u.touched) k
+          part : ((8 < length u.touched) × (8 ≤ sends_of (is_commit nodes tx) sends) × (1 ≤ sends_of (is_cont tx 8) sends)) ⊎ (length u.touched ≤ sends_of (is_commit nodes tx) sends) → IsOwed now (length u.touched) k
           part (inl p) = inr (record {
             at = 8;
             low = omega arith;
@@ -342,7 +263,7 @@ module _ (start : Start) (some_nodes : 1 ≤ start.nodes) (tx : TxId) where
       go (goes_on other a some none_came was same parts) = by (all of.before other k of.inside was)
         where
           few_touched : length u.touched ≤ 64
-          few_touched = omega (arith, (each_in (λ (e : TxId × Transaction). IsKnown (start.nodes + 1) e.1) (tx, of.before) x.tc.live known of.inside).few, ap length same)
+          few_touched = omega (arith, (each_in (λ (e : TxId × Transaction). IsKnown nodes e.1) (tx, of.before) x.live known of.inside).few, ap length same)
 
           differs_some : (b : ℕ) → b ≢ a → at ≡ Some b → ⊥
           differs_some b differs q = differs (the_a (sym q ∙ some))
@@ -351,7 +272,7 @@ module _ (start : Start) (some_nodes : 1 ≤ start.nodes) (tx : TxId) where
               the_a r = cc
 
           part : (left : IsLeft logs (length of.before.touched) k) → left.at ≡ a
-              → (512 ≤ a) ⊎ (((a + 8 < length u.touched) × (8 ≤ sends_of (is_commit (start.nodes + 1) tx) sends) × (1 ≤ sends_of (is_cont tx (a + 8)) sends)) ⊎ (length u.touched ≤ a + sends_of (is_commit (start.nodes + 1) tx) sends))
+              → (512 ≤ a) ⊎ (((a + 8 < length u.touched) × (8 ≤ sends_of (is_commit nodes tx) sends) × (1 ≤ sends_of (is_cont tx (a + 8)) sends)) ⊎ (length u.touched ≤ a + sends_of (is_commit nodes tx) sends))
               → IsOwed now (length u.touched) k
           part left at_a (inl far) = absurd (omega (arith, far, left.low, at_a))
           part left at_a (inr (inl p)) = inr (record {
@@ -375,147 +296,131 @@ module _ (start : Start) (some_nodes : 1 ≤ start.nodes) (tx : TxId) where
                 owed = omega (arith, left.owed, f.s_more, f.t_more, less, none_came, ap length same);
               })
 
-  step_next : tx.tc < start.nodes + 1 → (logs now : ℕ → List LogStep) (e : LogStep) (h : ℕ) → e.taken.to.node ≡ h → h < start.nodes + 1 → AreLogs (machine start) logs
-      → Grown start (start.nodes + 1) (is_commit (start.nodes + 1) tx) logs now h e → AllOwed logs → AllOwed now
-  step_next low logs now e zero at under right grown all u epoch k live is = by (cases_eq tx.tc 0)
-    where
-      by : (tx.tc ≡ 0) ⊎ (tx.tc ≢ 0) → IsOwed now (length u.touched) k
-      by (inl zero_tc) = absurd (subst (λ g. IsLiveAs tx u g) (shell_after start (now 0)).is (subst (λ c. IsLiveAs tx u (after start c (now c))) zero_tc live))
-      by (inr differs) =
-          stays_owed logs now (length u.touched) k
-          (omega (
+  module _ (some_node : 1 ≤ tx.tc) (few_nodes : tx.tc ≤ start.shape.nodes) where
+    low : at < hosts start
+    low = host_below start (coordinator_of tx) some_node few_nodes
+
+    -- a step of a host
+    module _ (logs now : ℕ → List HostStep) (h : ℕ) (e : HostStep) (g : Goes start logs now h e) where
+      abbrev x : Signal
+      x = e.step.taken
+
+      abbrev came : ℕ
+      came = one_if (is_commit nodes tx x.to x.body)
+
+      abbrev sends : List Outgoing
+      sends = (step_after start h (logs h) e).effects.sends
+
+      grown : Grown start (hosts start) (is_commit nodes tx) logs now h e
+      grown = record { own = g.own; others = g.others }
+
+      s_more : S now ≡ S logs + sends_of (is_commit nodes tx) sends
+      s_more = sent_more start (hosts start) (is_commit nodes tx) (commit_low start tx few_nodes) logs now h e g.low grown
+
+      t_more : T now ≤ T logs + came
+      t_more = taken_more start (hosts start) (is_commit nodes tx) logs now h e g.low grown
+
+      -- what isn't for the coordinator is passed on
+      passed : (is_tc x.to.block && (x.to.node == tx.tc)) ≡ false → came ≤ sends_of (is_commit nodes tx) sends
+      passed away = by (is_lqh x.to.block && is_node nodes x.to.node) refl
+        where
+          by : (b : Bool) → (is_lqh x.to.block && is_node nodes x.to.node) ≡ b → came ≤ sends_of (is_commit nodes tx) sends
+          by false none = omega (arith, none_at nodes tx x.to x.body none away)
+          by true on = rows (rows_turn (after start h (logs h)) x (heard_rows start h (logs h) x.to (addressed start logs now h e g) on))
+            where
+              rows : IsRowsStep (after start h (logs h)) x (step_after start h (logs h) e)
+                  ⊎ ((lqh_of (step_after start h (logs h) e).state ≡ lqh_of (after start h (logs h))) × (is_lqh x.to.block ≡ false)) → came ≤ sends_of (is_commit nodes tx) sends
+              rows (inr other) = absurd (true≢false (sym (left_of (is_lqh x.to.block) (is_node nodes x.to.node) on) ∙ other.1))
+              rows (inl step) =
+                  omega (
+                    arith,
+                    few_along nodes tx x.to x.body (ap is_tc step.at),
+                    lqh_commits nodes tx (lqh_of (after start h (logs h))) x.body,
+                    ap (λ f. sends_of (is_commit nodes tx) f.sends) step.effects,
+                  )
+
+    own_step : (logs now : ℕ → List HostStep) (e : HostStep) → Goes start logs now at e → AllOwed logs → AllOwed now
+    own_step logs now e g all u epoch k live is =
+        home_next logs now (tc_of (after start at (logs at))) (tc_of (step_after start at (logs at) e).state) u epoch k (step_after start at (logs at) e).effects.sends e.step.taken.to e.step.taken.body facts (known_after at (logs at)) all is
+        (by (tc_turn (after start at (logs at)) e.step.taken (tc_runs start tx.tc (logs at) some_node few_nodes)))
+      where
+        live_now : IsLiveAs tx u (step_after start at (logs at) e).state
+        live_now = subst (λ log. IsLiveAs tx u (after start at log)) g.own live
+
+        facts : Facts logs now (step_after start at (logs at) e).effects.sends e.step.taken.to e.step.taken.body
+        facts = record {
+          s_more = s_more logs now at e g;
+          t_more = t_more logs now at e g;
+          t_few = total_le (hosts start) _ _ (λ i low. total_le (hosts start) _ _ (λ j under. few_taken start logs g.before (is_commit nodes tx) i j));
+          c_sent = λ a. omega (arith, ap (λ log. signals (is_cont tx a) (sent (machine start) at at log)) g.own, sent_signals start (is_cont tx a) at at e (logs at), conts_few start tx a (step_after start at (logs at) e).effects.sends);
+          c_taken = λ a. omega (
             arith,
-            shell_none e.taken.to e.taken.body at differs,
-            sent_more start (start.nodes + 1) (is_commit (start.nodes + 1) tx) (commit_low low) logs now 0 e under grown,
-            taken_more start (start.nodes + 1) (is_commit (start.nodes + 1) tx) logs now 0 e under grown,
-          ))
-          (grown.others tx.tc differs) (all u epoch k (subst (λ log. IsLiveAs tx u (after start tx.tc log)) (grown.others tx.tc differs) live) is)
-  step_next low logs now e (suc h) at under right grown all u epoch k live is = by (cases_eq tx.tc (suc h))
-    where
-      x : NodeIs h (logs (suc h))
-      x = node_is h (logs (suc h))
+            ap (λ log. signals (is_cont tx a) (taken (machine start) at log)) g.own,
+            taken_signals start (is_cont tx a) at e (logs at),
+            and_few (is_from (machine start) at e) (is_cont tx a e.step.taken.to e.step.taken.body),
+          );
+          c_few = λ a. few_taken start logs g.before (is_cont tx a) at at;
+        }
 
-      sends : List Outgoing
-      sends = (node_row x.state e.taken.to.block e.taken.body).effects.sends
+        by : IsTcStep (after start at (logs at)) e.step.taken (step_after start at (logs at) e)
+            ⊎ ((tc_of (step_after start at (logs at) e).state ≡ tc_of (after start at (logs at))) × (is_tc e.step.taken.to.block ≡ false))
+            → AtHome (tc_of (after start at (logs at))) (tc_of (step_after start at (logs at) e).state) u (step_after start at (logs at) e).effects.sends k e.step.taken.to e.step.taken.body
+        by (inl step) =
+            owed (cont_in nodes tx e.step.taken.body) (came_in nodes tx e.step.taken.body) (few_answers nodes tx e.step.taken.to e.step.taken.body (ap is_lqh step.at))
+            (λ a c. cont_is nodes tx a e.step.taken.to e.step.taken.body c)
+            (subst (λ f. OwesOf nodes tx (tc_of (after start at (logs at))) u f.sends k (came_in nodes tx e.step.taken.body) (cont_in nodes tx e.step.taken.body)) (sym step.effects)
+            ((owes at (logs at) e.step.taken.body step.runs (known_after at (logs at))).owes u epoch k (subst (λ (t : TcState). IsIn (tx, u) t.live) step.state live_now) is))
+        by (inr other) =
+            kept (subst (λ (t : TcState). IsIn (tx, u) t.live) other.0 live_now) (passed logs now at e g (ap (λ b. b && (e.step.taken.to.node == tx.tc)) other.1))
+            (λ a. cont_block tx a e.step.taken.to e.step.taken.body other.1)
 
-      now_is : after start (suc h) (now (suc h)) ≡ Node (node_row x.state e.taken.to.block e.taken.body).state
-      now_is = ap (after start (suc h)) grown.own ∙ row_state e.taken.to e.taken.body (after start (suc h) (logs (suc h))) x.state x.is
+    step : (logs now : ℕ → List HostStep) (h : ℕ) (e : HostStep) → Goes start logs now h e → AllOwed logs → AllOwed now
+    step logs now h e g all = by (cases_eq h at)
+      where
+        by : (h ≡ at) ⊎ (h ≢ at) → AllOwed now
+        by (inl same) = own_step logs now e (subst (λ j. Goes start logs now j e) same g) all
+        by (inr differs) = λ u epoch k live is.
+            stays_owed logs now (length u.touched) k (omega (arith, s_more logs now h e g, t_more logs now h e g, passed logs now h e g (away _ refl))) log_is
+            (all u epoch k (subst (λ log. IsLiveAs tx u (after start at log)) log_is live) is)
+          where
+            log_is : now at ≡ logs at
+            log_is = g.others at (λ z. differs (sym z))
 
-      sent_now : sends_of (is_commit (start.nodes + 1) tx) (step_after start (suc h) (logs (suc h)) e).effects.sends ≡ sends_of (is_commit (start.nodes + 1) tx) sends
-      sent_now = ap (sends_of (is_commit (start.nodes + 1) tx)) (row_effects e.taken.to e.taken.body (after start (suc h) (logs (suc h))) x.state x.is)
+            away : (b : Bool) → (is_tc e.step.taken.to.block && (e.step.taken.to.node == tx.tc)) ≡ b → (is_tc e.step.taken.to.block && (e.step.taken.to.node == tx.tc)) ≡ false
+            away false q = q
+            away true q = absurd (differs (sym (addressed start logs now h e g) ∙ home_place start tx e.step.taken.to q))
 
-      s_more : S now ≡ S logs + sends_of (is_commit (start.nodes + 1) tx) sends
-      s_more = sent_more start (start.nodes + 1) (is_commit (start.nodes + 1) tx) (commit_low low) logs now (suc h) e under grown ∙ ap (λ m. S logs + m) sent_now
+    first : AllOwed (log_of (machine start) [])
+    first u epoch k live is = absurd (subst (λ l. IsIn (tx, u) l) (first_live start at) live)
 
-      t_more : T now ≤ T logs + one_if (is_commit (start.nodes + 1) tx e.taken.to e.taken.body)
-      t_more = taken_more start (start.nodes + 1) (is_commit (start.nodes + 1) tx) logs now (suc h) e under grown
+    -- at quiet
+    none_commits : (logs : ℕ → List HostStep) → AreQuiet start logs → (t : Transaction) (epoch k : ℕ) → IsLiveAs tx t (after start at (logs at)) → t.phase ≡ Committing epoch k → ⊥
+    none_commits logs quiet t epoch k live is = by (along start AllOwed first step logs quiet.within quiet.right t epoch k live is)
+      where
+        some : 1 ≤ k
+        some = (each_in (λ (e : TxId × Transaction). IsKnown nodes e.1) (tx, t) (tc_of (after start at (logs at))).live (known_after at (logs at)) live).some epoch k is
 
-      by : (tx.tc ≡ suc h) ⊎ (tx.tc ≢ suc h) → IsOwed now (length u.touched) k
-      by (inr differs) =
-          stays_owed logs now (length u.touched) k (omega (arith, s_more, t_more, away x.state e.taken.to e.taken.body e.taken.to.block refl (other (e.taken.to.node == tx.tc) refl)))
-          (grown.others tx.tc differs) (all u epoch k (subst (λ log. IsLiveAs tx u (after start tx.tc log)) (grown.others tx.tc differs) live) is)
-        where
-          other : (b : Bool) → (e.taken.to.node == tx.tc) ≡ b → (e.taken.to.node == tx.tc) ≡ false
-          other false q = q
-          other true q = absurd (differs (sym (eqb-true e.taken.to.node tx.tc q) ∙ at))
-      by (inl same) =
-          home_next logs now x.state (node_row x.state e.taken.to.block e.taken.body).state u epoch k sends e.taken.to e.taken.body facts x.known
-          (λ t f m i phase. all t f m (subst (λ c. IsLiveAs tx t (after start c (logs c))) (sym same) (subst (λ g. IsLiveAs tx t g) (sym x.is) i)) phase) is
-          (at_home x.state e.taken.to e.taken.body e.taken.to.block refl x.known x.once x.own (subst (λ (v : View). is_chain (start.nodes + 1) v.full ≡ true) (sym x.view) view_chain) u epoch k
-          (subst (λ g. IsLiveAs tx u g) now_is (subst (λ c. IsLiveAs tx u (after start c (now c))) same live)) is)
-        where
-          own_log : now tx.tc ≡ e ∷ logs tx.tc
-          own_log = subst (λ c. now c ≡ e ∷ logs c) (sym same) grown.own
+        all_taken : T logs ≡ S logs
+        all_taken = total_same (hosts start) _ _ (λ i under. total_same (hosts start) _ _ (λ j below. ap (signals (is_commit nodes tx)) (quiet.quiet i j under below)))
 
-          own_sends : (step_after start tx.tc (logs tx.tc) e).effects.sends ≡ sends
-          own_sends = subst (λ c. (step_after start c (logs c) e).effects.sends ≡ sends) (sym same) (row_effects e.taken.to e.taken.body (after start (suc h) (logs (suc h))) x.state x.is)
-
-          facts : Facts logs now sends e.taken.to e.taken.body
-          facts = record {
-            s_more = s_more;
-            t_more = t_more;
-            t_few = taken_few logs right;
-            c_sent = λ a. omega (
-              arith,
-              ap (λ log. signals (is_cont tx a) (sent (machine start) tx.tc tx.tc log)) own_log,
-              sent_signals start (is_cont tx a) tx.tc tx.tc e (logs tx.tc),
-              ap (sends_of (to_node tx.tc (is_cont tx a))) own_sends,
-              conts_few a sends,
-            );
-            c_taken = λ a. omega (
-              arith,
-              ap (λ log. signals (is_cont tx a) (taken (machine start) tx.tc log)) own_log,
-              taken_signals start (is_cont tx a) tx.tc e (logs tx.tc),
-              and_few (is_from (machine start) tx.tc e) (is_cont tx a e.taken.to e.taken.body),
-            );
-            c_few = λ a. tally_past (λ (y : Signal). is_cont tx a y.to y.body) (given_past start tx.tc tx.tc (logs tx.tc) (taken (machine start) tx.tc (logs tx.tc)) (right.linked tx.tc tx.tc));
-          }
-
-  fresh_live : (u : Transaction) (h : ℕ) → IsLiveAs tx u (after start (suc h) []) → ⊥
-  unfolding fresh_node begun_node
-  fresh_live u h live = live
-
-  start_owed : AllOwed (log_of (machine start) [])
-  start_owed u epoch k live is = none tx.tc refl
-    where
-      none : (c : ℕ) → tx.tc ≡ c → IsOwed (log_of (machine start) []) (length u.touched) k
-      none zero at = absurd (subst (λ g. IsLiveAs tx u g) (shell_after start []).is (subst (λ c. IsLiveAs tx u (after start c [])) at live))
-      none (suc h) at = absurd (fresh_live u h (subst (λ c. IsLiveAs tx u (after start c [])) at live))
-
-  logs_owed : tx.tc < start.nodes + 1 → (logs : ℕ → List LogStep) → IsWithin (start.nodes + 1) logs → AreLogs (machine start) logs → AllOwed logs
-  logs_owed low logs in_n right =
-      along start AllOwed start_owed (λ logs now h e g all. step_next low logs now e h g.at g.low g.before (record { own = g.own; others = g.others }) all) logs in_n right
-
-  -- at quiet
-  none_commits : (logs : ℕ → List LogStep) → AreQuiet start logs → (h : ℕ) (t : Transaction) (epoch k : ℕ) → h ≤ start.nodes → IsLiveAs tx t (after start h (logs h)) → t.phase ≡ Committing epoch k → ⊥
-  none_commits logs quiet zero t epoch k low live is = subst (λ g. IsLiveAs tx t g) (shell_after start (logs 0)).is live
-  none_commits logs quiet (suc h) t epoch k low live is =
-      by (logs_owed home_low logs quiet.within quiet.right t epoch k (subst (λ c. IsLiveAs tx t (after start c (logs c))) (sym home) live) is)
-    where
-      x : NodeIs h (logs (suc h))
-      x = node_is h (logs (suc h))
-
-      inside : IsIn (tx, t) x.state.tc.live
-      inside = subst (λ g. IsLiveAs tx t g) x.is live
-
-      number : x.state.tc.node ≡ suc h
-      number =
-          let y = node_after start h (logs (suc h)) in
-          ap (λ (z : node.Node). z.tc.node) (same_node x.state y.state (sym x.is ∙ y.is)) ∙ y.number
-
-      home : tx.tc ≡ suc h
-      home = (each_in (λ (e : TxId × Transaction). IsOwn x.state.tc.node x.state.tc.next_seq e.0) (tx, t) x.state.tc.live x.own inside).home ∙ number
-
-      home_low : tx.tc < start.nodes + 1
-      home_low = omega (arith, home, low)
-
-      some : 1 ≤ k
-      some = (each_in (λ (e : TxId × Transaction). IsKnown (start.nodes + 1) e.1) (tx, t) x.state.tc.live x.known inside).some epoch k is
-
-      all_taken : T logs ≡ S logs
-      all_taken = total_same (start.nodes + 1) _ _ (λ i under. total_same (start.nodes + 1) _ _ (λ j below. ap (signals (is_commit (start.nodes + 1) tx)) (quiet.quiet i j under below)))
-
-      by : IsOwed logs (length t.touched) k → ⊥
-      by (inl enough) = omega (arith, enough, some, all_taken)
-      by (inr left) = omega (arith, left.coming, ap (signals (is_cont tx left.at)) (quiet.quiet tx.tc tx.tc home_low home_low))
+        by : IsOwed logs (length t.touched) k → ⊥
+        by (inl enough) = omega (arith, enough, some, all_taken)
+        by (inr left) = omega (arith, left.coming, ap (signals (is_cont tx left.at)) (quiet.quiet at at low low))
 
 -- at quiet no coordinator waits for a commit
 pub no_commit : NoCommitIsAwaited
 no_commit start logs h tx t quiet low live = go t.phase refl
   where
+    there : tx_at tx (after start h (logs h)) ≡ Some t
+    there = live_tx start tx h (logs h) t live
+
+    of : IsHome start tx h
+    of = at_home start tx h (logs h) t low there
+
     go : (phase : Phase) → t.phase ≡ phase → is_committing t.phase ≡ false
-    go (Committing epoch k) p = absurd (none_commits start quiet.some tx logs quiet h t epoch k low live p)
+    go (Committing epoch k) p =
+        absurd (none_commits start quiet.shape tx of.some of.low logs quiet t epoch k (subst (λ j. IsLiveAs tx t (after start j (logs j))) of.is live) p)
     go Open p = ap is_committing p
     go Verifying p = ap is_committing p
     go (Completing epoch k) p = ap is_committing p
     go (Aborting why verifying k) p = ap is_committing p
-
--- a transaction is live at a node
-pub live_low : (start : Start) (logs : ℕ → List LogStep) (tx : TxId) (t : Transaction) → AreQuiet start logs → (h : ℕ) → IsLiveAs tx t (after start h (logs h)) → h ≤ start.nodes
-live_low start logs tx t quiet h live = go (cases_lt h (start.nodes + 1)) h refl
-  where
-    go : (h < start.nodes + 1) ⊎ (start.nodes + 1 ≤ h) → (c : ℕ) → h ≡ c → h ≤ start.nodes
-    go (inl low) c e = omega (arith, low)
-    go (inr high) zero e = omega (arith, high, e)
-    go (inr high) (suc c) e =
-        absurd (fresh_live start quiet.some tx t c (subst (λ log. IsLiveAs tx t (after start (suc c) log)) (quiet.within (suc c) (omega (arith, high, e))) (subst (λ k. IsLiveAs tx t (after start k (logs k))) e live)))

@@ -7,19 +7,21 @@ use Rattle.std.proofs.lemmas.Bool.Decides.{nat_tests}
 use Rattle.run_theory.specs.Links.{put}
 use Rattle.sig_core.specs.declared.member.TxId.{TxId}
 use Rattle.sig_core.specs.declared.outs.Outgoing.{Outgoing}
+use Rattle.sig_core.specs.declared.place.Place.{Place}
 use Rattle.sig_core.specs.declared.signal.Body.{Body}
 use Rattle.sig_core.specs.declared.signal.Body.TheVariants.{Epoch}
-use Rattle.sig_core.specs.declared.signal.Signal.{Signal}
 use Rattle.sig_core.specs.declared.signal.epoch.EpochSignal.TheVariants.{DiVerifyReq, DiVerifyEnd}
-use Rattle.sig_core.specs.declared.view.View.{View}
 use Rattle.sig_core.specs.Same.{same_tx}
-use Rattle.world_core.specs.Machine.{all_headed, counted as one_counted, headed, machine}
+use Rattle.world_core.specs.Hosts.{first_membership, host_for}
+use Rattle.world_core.specs.Machine.{addressed, all_addressed, counted as one_counted, machine}
 use Rattle.world_core.specs.Start.{Start}
-use Rattle.answer_laws.proofs.Ahead.{is_dih}
-use Rattle.answer_laws.proofs.Focus.{IsFocus, absent, found}
-use Rattle.answer_laws.proofs.SendKinds.{are_of}
-use Rattle.answer_laws.proofs.Tally.{one_if, tally, tally_between}
-use Rattle.answer_laws.proofs.TcMoves.{same_tx-is}
+use Rattle.world_core.specs.Steps.{Addressed}
+use Rattle.run_laws.proofs.AlongSteps.{is_dih}
+use Rattle.host_laws.proofs.Focus.{IsFocus, absent, found}
+use Rattle.host_laws.proofs.SendKinds.{are_of}
+use Rattle.host_laws.proofs.Tally.{tally_between}
+use Rattle.host_laws.specs.Counts.{one_if, tally}
+use Rattle.host_laws.proofs.TcMoves.{same_tx-is}
 
 -- what the block of epochs makes of the transactions that it counts
 abbrev pub with_asked : List TxId → TxId → Bool → List TxId
@@ -39,10 +41,10 @@ abbrev pub counts_if : Bool → Body → List TxId → List TxId
 counts_if true body c = counts_by body c
 counts_if false body c = c
 
--- of signals on the link of its node to itself, the newest first
-abbrev pub counted_of : List Signal → List TxId
+-- of signals on the link of its host to itself, the newest first
+abbrev pub counted_of : List Addressed → List TxId
 counted_of [] = []
-counted_of (x ∷ xs) = counts_if (is_dih x.to.block) x.body (counted_of xs)
+counted_of (x ∷ xs) = counts_if (is_dih x.signal.to.block) x.signal.body (counted_of xs)
 
 -- a signal asks for an epoch
 abbrev pub is_request : Body → Bool
@@ -50,42 +52,46 @@ is_request (Epoch (DiVerifyReq tx ops)) = true
 is_request _ = false
 
 -- each that asks finds fewer than 64 counted
-abbrev pub AreFew : List Signal → Type 0
+abbrev pub AreFew : List Addressed → Type 0
 AreFew [] = Unit {0}
-AreFew (x ∷ xs) = ((is_dih x.to.block && is_request x.body) ≡ true → length (counted_of xs) < 64) × AreFew xs
+AreFew (x ∷ xs) = ((is_dih x.signal.to.block && is_request x.signal.body) ≡ true → length (counted_of xs) < 64) × AreFew xs
 
--- the same of the signals that a step of host h sends to itself, the first first
-abbrev pub sends_count : ℕ → List Outgoing → List TxId → List TxId
-sends_count h [] c = c
-sends_count h (o ∷ more) c = sends_count h more (counts_if ((o.to.node == h) && is_dih o.to.block) o.body c)
+-- the same of the signals of a step that are for such places, the first first
+abbrev pub sends_count : (Place → Bool) → List Outgoing → List TxId → List TxId
+sends_count at [] c = c
+sends_count at (o ∷ more) c = sends_count at more (counts_if (at o.to && is_dih o.to.block) o.body c)
 
-abbrev pub SendsFew : ℕ → List Outgoing → List TxId → Type 0
-SendsFew h [] c = Unit {0}
-SendsFew h (o ∷ more) c = (((o.to.node == h) && (is_dih o.to.block && is_request o.body)) ≡ true → length c < 64) × SendsFew h more (counts_if ((o.to.node == h) && is_dih o.to.block) o.body c)
+abbrev pub SendsFew : (Place → Bool) → List Outgoing → List TxId → Type 0
+SendsFew at [] c = Unit {0}
+SendsFew at (o ∷ more) c = ((at o.to && (is_dih o.to.block && is_request o.body)) ≡ true → length c < 64) × SendsFew at more (counts_if (at o.to && is_dih o.to.block) o.body c)
 
-module _ (start : Start) where
-  pub put_counts : (h : ℕ) (view : View) (g stamp : ℕ) (count : ℕ → ℕ) (sends : List Outgoing) (before : List Signal)
-      → counted_of (put (machine start) h (all_headed view g stamp count sends) before) ≡ sends_count h sends (counted_of before)
-  put_counts h view g stamp count [] before = refl
-  put_counts h view g stamp count (o ∷ more) before =
-      put_counts h view g stamp (one_counted o.to.node count) more (if o.to.node == h then headed view g stamp (count o.to.node) o ∷ before else before) ∙ ap (sends_count h more) (by (o.to.node == h))
+module _ (start : Start) (h : ℕ) (stamp : ℕ) where
+  -- the places of host h
+  abbrev here : Place → Bool
+  here to = host_for start to == h
+
+  abbrev sending : (ℕ → ℕ) → Outgoing → Addressed
+  sending count o = addressed (first_membership start) h stamp (count (host_for start o.to)) o
+
+  put_one : (b : Bool) (count : ℕ → ℕ) (o : Outgoing) (before : List Addressed)
+      → counted_of (if b then sending count o ∷ before else before) ≡ counts_if (b && is_dih o.to.block) o.body (counted_of before)
+  put_one true count o before = refl
+  put_one false count o before = refl
+
+  pub put_counts : (count : ℕ → ℕ) (sends : List Outgoing) (before : List Addressed)
+      → counted_of (put (machine start) h (all_addressed (first_membership start) h stamp count sends) before) ≡ sends_count here sends (counted_of before)
+  put_counts count [] before = refl
+  put_counts count (o ∷ more) before =
+      put_counts (one_counted (host_for start o.to) count) more (if here o.to then sending count o ∷ before else before) ∙ ap (sends_count here more) (put_one (here o.to) count o before)
+
+  pub put_few : (count : ℕ → ℕ) (sends : List Outgoing) (before : List Addressed)
+      → AreFew before → SendsFew here sends (counted_of before) → AreFew (put (machine start) h (all_addressed (first_membership start) h stamp count sends) before)
+  put_few count [] before few more_few = few
+  put_few count (o ∷ more) before few more_few =
+      put_few (one_counted (host_for start o.to) count) more (if here o.to then sending count o ∷ before else before) (now (here o.to) refl)
+      (subst (SendsFew here more) (sym (put_one (here o.to) count o before)) more_few.1)
     where
-      by : (b : Bool) → counted_of (if b then headed view g stamp (count o.to.node) o ∷ before else before) ≡ counts_if (b && is_dih o.to.block) o.body (counted_of before)
-      by true = refl
-      by false = refl
-
-  pub put_few : (h : ℕ) (view : View) (g stamp : ℕ) (count : ℕ → ℕ) (sends : List Outgoing) (before : List Signal)
-      → AreFew before → SendsFew h sends (counted_of before) → AreFew (put (machine start) h (all_headed view g stamp count sends) before)
-  put_few h view g stamp count [] before few more_few = few
-  put_few h view g stamp count (o ∷ more) before few more_few =
-      put_few h view g stamp (one_counted o.to.node count) more (if o.to.node == h then headed view g stamp (count o.to.node) o ∷ before else before) (now (o.to.node == h) refl)
-      (subst (SendsFew h more) (sym (by (o.to.node == h))) more_few.1)
-    where
-      by : (b : Bool) → counted_of (if b then headed view g stamp (count o.to.node) o ∷ before else before) ≡ counts_if (b && is_dih o.to.block) o.body (counted_of before)
-      by true = refl
-      by false = refl
-
-      now : (b : Bool) → (o.to.node == h) ≡ b → AreFew (if b then headed view g stamp (count o.to.node) o ∷ before else before)
+      now : (b : Bool) → here o.to ≡ b → AreFew (if b then sending count o ∷ before else before)
       now true is = (λ e. more_few.0 (ap (λ b. b && (is_dih o.to.block && is_request o.body)) is ∙ e), few)
       now false is = few
 
@@ -117,13 +123,13 @@ head_of_kind kind o more e = by (kind o.body) refl e
     by false is e = absurd (false≢true e)
 
 -- such signals change nothing
-pub plain_counts : (h : ℕ) (sends : List Outgoing) (c : List TxId) → are_of is_epochless sends ≡ true → (sends_count h sends c ≡ c) × SendsFew h sends c
-plain_counts h [] c e = (refl, tt)
-plain_counts h (o ∷ more) c e =
+pub plain_counts : (at : Place → Bool) (sends : List Outgoing) (c : List TxId) → are_of is_epochless sends ≡ true → (sends_count at sends c ≡ c) × SendsFew at sends c
+plain_counts at [] c e = (refl, tt)
+plain_counts at (o ∷ more) c e =
     let parts = head_of_kind is_epochless o more e in
-    let rest = plain_counts h more c parts.1 in
-    let here = still_counts ((o.to.node == h) && is_dih o.to.block) o.body c parts.0 in
-    (ap (sends_count h more) here ∙ rest.0, (λ asks. absurd (still_asks (o.to.node == h) (is_dih o.to.block) o.body parts.0 asks), subst (SendsFew h more) (sym here) rest.1))
+    let rest = plain_counts at more c parts.1 in
+    let here = still_counts (at o.to && is_dih o.to.block) o.body c parts.0 in
+    (ap (sends_count at more) here ∙ rest.0, (λ asks. absurd (still_asks (at o.to) (is_dih o.to.block) o.body parts.0 asks), subst (SendsFew at more) (sym here) rest.1))
 
 -- one more is counted, where fewer than 64 are
 pub asked_count : (c : List TxId) (tx : TxId) → length c < 64 → with_asked c tx (nat_lt (length c) 64) ≡ c ++ tx ∷ []

@@ -1,38 +1,37 @@
 -- The block of epochs gives one to each transaction that asks, since it never counts 64 when it is asked.
 use Rattle.std.proofs.Common.{◌≡◌, ℕ, ◌+◌, ◌≤◌, ◌<◌, List, ◌∷◌, length, Bool, true, false, refl, ap, ◌∙◌, arith}
-use Rattle.std.specs.Prelude.{◌==◌, ◌&&◌, not, nat_lt, Option, None, Some, position}
+use Rattle.std.specs.Prelude.{◌&&◌, not, nat_lt, Option, None, Some, position}
 use Rattle.std.proofs.lemmas.Bool.Decides.{nat_tests}
 use Rattle.api_block.specs.declared.opened.OpenTransaction.{OpenTransaction}
 use Rattle.api_block.specs.State.{ApiState}
-use Rattle.node_core.specs.Dih.{DihState, decide_if, decide_row, dih_row, end_by, end_row}
-use Rattle.node_core.specs.Row.{shell_row}
+use Rattle.node_core.specs.Dih.{DihState, decide_if, decide_row, dih_table, end_by, end_row}
 use Rattle.sig_core.specs.declared.member.TxId.{TxId}
 use Rattle.sig_core.specs.declared.outs.Outgoing.{Outgoing}
-use Rattle.sig_core.specs.declared.place.BlockId.{BlockId}
-use Rattle.sig_core.specs.declared.place.BlockId.TheVariants as block
 use Rattle.sig_core.specs.declared.place.Place.{Place}
 use Rattle.sig_core.specs.declared.signal.Body.{Body}
 use Rattle.sig_core.specs.declared.signal.Body.TheVariants.{Client, Epoch}
 use Rattle.sig_core.specs.declared.signal.client.ClientSignal.TheVariants.{TcBeginReq}
 use Rattle.sig_core.specs.declared.signal.epoch.EpochSignal.TheVariants.{DiVerifyReq, DiVerifyConf, DiVerifyEnd}
 use Rattle.sig_core.specs.declared.view.View.{View}
+use Rattle.sig_core.specs.Place.{client, coordinator, epochs}
 use Rattle.sig_core.specs.Same.{same_tx}
 use Rattle.sig_core.specs.Step.{Step}
 use Rattle.tc_block.specs.Sends.{verify_end}
 use Rattle.tc_block.specs.State.{TcState}
-use Rattle.tc_block.specs.Tc.{begin_if, begin_row, is_full, tc_row}
+use Rattle.tc_block.specs.Tc.{begin_if, begin_row, is_full, tc_table}
 use Rattle.world_core.specs.Machine.{after}
-use Rattle.answer_laws.proofs.Ahead.{is_dih}
-use Rattle.answer_laws.proofs.ApiMoves.{ApiMove, api_moves, begun_as, ends, goes, is_api_kind, opens, refuses, rests}
+use Rattle.run_laws.proofs.AlongSteps.{is_dih}
+use Rattle.host_laws.proofs.ApiMoves.{ApiMove, begun_as, ends, goes, is_api_kind, opens, refuses, rests}
 use Rattle.answer_laws.proofs.EpochCounts.{counts_by, ended_by, is_epochless, with_asked}
 use Rattle.answer_laws.proofs.EpochLives.{TurnCounts, asking, ending, gone, unchanged, turn_counts, rest_plain}
-use Rattle.answer_laws.proofs.SendKinds.{are_of, is_dih_kind, is_lqh_kind, is_tc_kind, none_of, of_kind}
-use Rattle.answer_laws.proofs.Tally.{none_if, one_if, tally_append}
-use Rattle.answer_laws.proofs.TcSends.{eqb-self, tc_kinds, tx_in}
-use Rattle.answer_laws.proofs.TcSteps.{TcStep, begins, is_rest_kind, misses, takes, tc_step}
-use Rattle.answer_laws.proofs.TcSteps as steps
-use Rattle.answer_laws.proofs.TcTurns.{turn_moves, turn_row}
-use Rattle.answer_laws.proofs.Wishes.{and_false, is_tc, second_fails, sends_of, to_node}
+use Rattle.host_laws.proofs.SendKinds.{are_of, is_dih_kind, is_lqh_kind, is_tc_kind, none_of, of_kind}
+use Rattle.host_laws.proofs.Tally.{and_few, none_if, tally_append}
+use Rattle.host_laws.specs.Counts.{one_if}
+use Rattle.host_laws.proofs.TcSends.{tc_kinds, tx_in}
+use Rattle.host_laws.proofs.TcSteps.{TcStep, begins, is_rest_kind, misses, takes, tc_step}
+use Rattle.host_laws.proofs.TcSteps as steps
+use Rattle.host_laws.proofs.TcTurns.{turn_moves, turn_row}
+use Rattle.host_laws.proofs.Wishes.{and_false, is_tc, second_fails, sends_of}
 
 -- a transaction asks for an epoch, and is given one
 abbrev pub is_req : TxId → Place → Body → Bool
@@ -47,11 +46,12 @@ is_conf tx to _ = false
 abbrev pub is_epoch : Place → Body → Bool
 is_epoch to body = is_dih to.block && not (is_epochless body)
 
-plain_epoch : (j : ℕ) (to : Place) (body : Body) → is_epochless body ≡ true → to_node j is_epoch to body ≡ false
-plain_epoch j to body e = and_false (to.node == j) (is_dih to.block) (ap not e)
+-- of what is for such places
+abbrev pub at_place : (Place → Bool) → (Place → Body → Bool) → Place → Body → Bool
+at_place at test to body = at to && test to body
 
-pub plain_none : (j : ℕ) (sends : List Outgoing) → are_of is_epochless sends ≡ true → sends_of (to_node j is_epoch) sends ≡ 0
-plain_none j sends kind = none_of is_epochless (to_node j is_epoch) (λ to body k. plain_epoch j to body k) sends kind
+pub plain_none : (at : Place → Bool) (sends : List Outgoing) → are_of is_epochless sends ≡ true → sends_of (at_place at is_epoch) sends ≡ 0
+plain_none at sends kind = none_of is_epochless (at_place at is_epoch) (λ to body k. and_false (at to) (is_dih to.block) (ap not k)) sends kind
 
 pub dih_plain : (body : Body) → is_dih_kind body ≡ true → is_epochless body ≡ true
 dih_plain (Epoch (DiVerifyConf tx epoch)) e = refl
@@ -71,49 +71,40 @@ api_plain (Epoch (DiVerifyEnd tx)) e = cc
 api_plain _ e = refl
 
 -- a coordinator sends such signals to its own node alone
-pub tc_epochs : (s : TcState) (j : ℕ) → (s.node == j) ≡ false → (body : Body) → sends_of (to_node j is_epoch) (tc_row s body).effects.sends ≡ 0
-tc_epochs s j off body = go (tc_row s body) (tc_step s body)
+pub tc_epochs : (s : TcState) (at : Place → Bool) → at (epochs s.node) ≡ false → (body : Body) → sends_of (at_place at is_epoch) (tc_table s body).effects.sends ≡ 0
+tc_epochs s at off body = go (tc_table s body) (tc_step s body)
   where
-    go : (step : Step TcState) → TcStep s body step → sends_of (to_node j is_epoch) step.effects.sends ≡ 0
-    go step (steps.rests about is kind) = plain_none j step.effects.sends (of_kind is_rest_kind is_epochless rest_plain step.effects.sends kind)
-    go step (begins name about room is) = ap (λ (x : Step TcState). sends_of (to_node j is_epoch) x.effects.sends) is ∙ none_if (0 == j)
-    go step (misses about none is) = ap (λ (x : Step TcState). sends_of (to_node j is_epoch) x.effects.sends) is
+    go : (step : Step TcState) → TcStep s body step → sends_of (at_place at is_epoch) step.effects.sends ≡ 0
+    go step (steps.rests about is kind) = plain_none at step.effects.sends (of_kind is_rest_kind is_epochless rest_plain step.effects.sends kind)
+    go step (begins name about room is) = ap (λ (x : Step TcState). sends_of (at_place at is_epoch) x.effects.sends) is ∙ none_if (at client)
+    go step (misses about none is) = ap (λ (x : Step TcState). sends_of (at_place at is_epoch) x.effects.sends) is
     go step (takes about t front back was is) =
-        ap (λ (x : Step TcState). sends_of (to_node j is_epoch) x.effects.sends) is ∙ by (turn_counts s (tx_in body) t body (turn_row s body t) (turn_moves s body t about))
+        ap (λ (x : Step TcState). sends_of (at_place at is_epoch) x.effects.sends) is ∙ by (turn_counts s (tx_in body) t body (turn_row s body t) (turn_moves s body t about))
       where
-        by : TurnCounts s.node (tx_in body) t (turn_row s body t) → sends_of (to_node j is_epoch) (turn_row s body t).step.effects.sends ≡ 0
-        by (unchanged over keeps_it kind) = plain_none j _ kind
-        by (gone over none kind) = plain_none j _ kind
-        by (asking ops over none some told) = ap (sends_of (to_node j is_epoch)) told ∙ ap (λ b. one_if (b && true) + 0) off
+        by : TurnCounts s.node (tx_in body) t (turn_row s body t) → sends_of (at_place at is_epoch) (turn_row s body t).step.effects.sends ≡ 0
+        by (unchanged over keeps_it kind) = plain_none at _ kind
+        by (gone over none kind) = plain_none at _ kind
+        by (asking ops over none some told) = ap (sends_of (at_place at is_epoch)) told ∙ ap (λ b. one_if (b && true) + 0) off
         by (ending over some before behind kind other told) =
             omega (
               arith,
-              ap (sends_of (to_node j is_epoch)) told,
-              tally_append (λ (x : Outgoing). to_node j is_epoch x.to x.body) before (verify_end s.node (tx_in body) ∷ behind),
-              plain_none j before kind,
-              plain_none j behind other,
+              ap (sends_of (at_place at is_epoch)) told,
+              tally_append (λ (x : Outgoing). at_place at is_epoch x.to x.body) before (verify_end s.node (tx_in body) ∷ behind),
+              plain_none at before kind,
+              plain_none at behind other,
               ap (λ b. one_if (b && true)) off,
             )
 
-move_epochs : (j : ℕ) (s : ApiState) (body : Body) (after : View × List OpenTransaction) (sends : List Outgoing) → ApiMove s body after sends → sends_of (to_node j is_epoch) sends ≡ 0
-move_epochs j s body after sends (rests is kind void) = plain_none j sends (of_kind is_api_kind is_epochless api_plain sends kind)
-move_epochs j s body after sends (opens other at op new request is told) = ap (sends_of (to_node j is_epoch)) told ∙ none (at == j)
-  where
-    none : (b : Bool) → one_if (b && false) + 0 ≡ 0
-    none true = refl
-    none false = refl
-move_epochs j s body after sends (begun_as other one front t u back about passes begun was is kind) = plain_none j sends (of_kind is_api_kind is_epochless api_plain sends kind)
-move_epochs j s body after sends (goes front t u back go void was is kind) = plain_none j sends (of_kind is_api_kind is_epochless api_plain sends kind)
-move_epochs j s body after sends (ends one front t back about passes was is kind) = plain_none j sends (of_kind is_api_kind is_epochless api_plain sends kind)
-move_epochs j s body after sends (refuses other front t back about passes was is kind) = plain_none j sends (of_kind is_api_kind is_epochless api_plain sends kind)
-
-pub shell_epochs : (j : ℕ) (s : ApiState) (at : BlockId) (body : Body) → sends_of (to_node j is_epoch) (shell_row s at body).effects.sends ≡ 0
-unfolding shell_row
-shell_epochs j s block.Api body = move_epochs j s body _ _ (api_moves s body)
-shell_epochs j s _ body = refl
+pub move_epochs : (at : Place → Bool) (s : ApiState) (body : Body) (after : View × List OpenTransaction) (sends : List Outgoing) → ApiMove s body after sends → sends_of (at_place at is_epoch) sends ≡ 0
+move_epochs at s body after sends (rests is kind void) = plain_none at sends (of_kind is_api_kind is_epochless api_plain sends kind)
+move_epochs at s body after sends (opens other node op new request is told) = ap (sends_of (at_place at is_epoch)) told ∙ none_if (at (coordinator node))
+move_epochs at s body after sends (begun_as other one front t u back about passes begun was is kind) = plain_none at sends (of_kind is_api_kind is_epochless api_plain sends kind)
+move_epochs at s body after sends (goes front t u back go void was is kind) = plain_none at sends (of_kind is_api_kind is_epochless api_plain sends kind)
+move_epochs at s body after sends (ends one front t back about passes was is kind) = plain_none at sends (of_kind is_api_kind is_epochless api_plain sends kind)
+move_epochs at s body after sends (refuses other front t back about passes was is kind) = plain_none at sends (of_kind is_api_kind is_epochless api_plain sends kind)
 
 -- what the block makes of its transactions
-pub dih_counts : (s : DihState) (body : Body) → (dih_row s body).state.counted ≡ counts_by body s.counted
+pub dih_counts : (s : DihState) (body : Body) → (dih_table s body).state.counted ≡ counts_by body s.counted
 unfolding decide_row end_row
 dih_counts s (Epoch (DiVerifyReq tx ops)) = by (nat_lt (length s.counted) 64)
   where
@@ -127,7 +118,7 @@ dih_counts s (Epoch (DiVerifyEnd tx)) = by (position (same_tx tx) s.counted)
     by (Some at) = refl
 dih_counts s _ = refl
 
-pub dih_stays : (s : DihState) (body : Body) → (dih_row s body).state.node ≡ s.node
+pub dih_stays : (s : DihState) (body : Body) → (dih_table s body).state.node ≡ s.node
 unfolding decide_row end_row
 dih_stays s (Epoch (DiVerifyReq tx ops)) = by (nat_lt (length s.counted) 64)
   where
@@ -146,48 +137,40 @@ abbrev pub req_body : TxId → Body → Bool
 req_body tx (Epoch (DiVerifyReq other ops)) = same_tx other tx
 req_body tx _ = false
 
-pub dih_few : (tx : TxId) (s : DihState) (body : Body) → sends_of (to_node s.node (is_conf tx)) (dih_row s body).effects.sends ≤ one_if (req_body tx body)
+pub dih_few : (at : Place → Bool) (tx : TxId) (s : DihState) (body : Body) → sends_of (at_place at (is_conf tx)) (dih_table s body).effects.sends ≤ one_if (req_body tx body)
 unfolding decide_row end_row
-dih_few tx s (Epoch (DiVerifyReq other ops)) = by (nat_lt (length s.counted) 64)
+dih_few at tx s (Epoch (DiVerifyReq other ops)) = by (nat_lt (length s.counted) 64)
   where
-    by : (b : Bool) → sends_of (to_node s.node (is_conf tx)) (decide_if s other b).effects.sends ≤ one_if (same_tx other tx)
-    by true = omega (arith, ap (λ b. one_if (b && same_tx other tx)) (eqb-self s.node))
+    by : (b : Bool) → sends_of (at_place at (is_conf tx)) (decide_if s other b).effects.sends ≤ one_if (same_tx other tx)
+    by true = omega (arith, and_few (at (coordinator s.node)) (same_tx other tx))
     by false = omega arith
-dih_few tx s (Epoch (DiVerifyEnd other)) = omega arith
-dih_few tx s _ = omega arith
+dih_few at tx s (Epoch (DiVerifyEnd other)) = omega arith
+dih_few at tx s _ = omega arith
 
-pub dih_gives : (tx : TxId) (s : DihState) (body : Body) → (req_body tx body ≡ true → length s.counted < 64) → one_if (req_body tx body) ≤ sends_of (to_node s.node (is_conf tx)) (dih_row s body).effects.sends
+pub dih_gives : (at : Place → Bool) (tx : TxId) (s : DihState) (body : Body) → at (coordinator s.node) ≡ true → (req_body tx body ≡ true → length s.counted < 64) → one_if (req_body tx body) ≤ sends_of (at_place at (is_conf tx)) (dih_table s body).effects.sends
 unfolding decide_row end_row
-dih_gives tx s (Epoch (DiVerifyReq other ops)) few = by (same_tx other tx) refl (nat_lt (length s.counted) 64) refl
+dih_gives at tx s (Epoch (DiVerifyReq other ops)) own few = by (same_tx other tx) refl (nat_lt (length s.counted) 64) refl
   where
-    by : (m : Bool) → same_tx other tx ≡ m → (b : Bool) → nat_lt (length s.counted) 64 ≡ b → one_if (same_tx other tx) ≤ sends_of (to_node s.node (is_conf tx)) (decide_if s other b).effects.sends
-    by m e true q = omega (arith, ap (λ b. one_if (b && same_tx other tx)) (eqb-self s.node))
+    by : (m : Bool) → same_tx other tx ≡ m → (b : Bool) → nat_lt (length s.counted) 64 ≡ b → one_if (same_tx other tx) ≤ sends_of (at_place at (is_conf tx)) (decide_if s other b).effects.sends
+    by m e true q = omega (arith, ap (λ b. one_if (b && same_tx other tx)) own)
     by false e false q = omega (arith, ap one_if e)
     by true e false q = absurd (grind (arith, nat_tests, q, few e))
-dih_gives tx s (Epoch (DiVerifyEnd other)) few = omega arith
-dih_gives tx s _ few = omega arith
+dih_gives at tx s (Epoch (DiVerifyEnd other)) own few = omega arith
+dih_gives at tx s _ own few = omega arith
 
 -- the other blocks give none
-pub no_conf : (j : ℕ) (tx : TxId) (kind : Body → Bool) → ((to : Place) (body : Body) → kind body ≡ true → is_conf tx to body ≡ false) → (sends : List Outgoing) → are_of kind sends ≡ true
-    → sends_of (to_node j (is_conf tx)) sends ≡ 0
-no_conf j tx kind fails sends e = none_of kind (to_node j (is_conf tx)) (λ to body k. second_fails (to.node == j) (fails to body k)) sends e
+pub no_conf : (at : Place → Bool) (tx : TxId) (kind : Body → Bool) → ((to : Place) (body : Body) → kind body ≡ true → is_conf tx to body ≡ false) → (sends : List Outgoing) → are_of kind sends ≡ true
+    → sends_of (at_place at (is_conf tx)) sends ≡ 0
+no_conf at tx kind fails sends e = none_of kind (at_place at (is_conf tx)) (λ to body k. second_fails (at to) (fails to body k)) sends e
 
-pub lqh_confless : (tx : TxId) (to : Place) (body : Body) → is_lqh_kind body ≡ true → is_conf tx to body ≡ false
-lqh_confless tx to (Epoch (DiVerifyConf other epoch)) e = cc
-lqh_confless tx to _ e = refl
-
-pub tc_confless : (j : ℕ) (tx : TxId) (s : TcState) (body : Body) → sends_of (to_node j (is_conf tx)) (tc_row s body).effects.sends ≡ 0
+pub tc_confless : (at : Place → Bool) (tx : TxId) (s : TcState) (body : Body) → sends_of (at_place at (is_conf tx)) (tc_table s body).effects.sends ≡ 0
 unfolding begin_row
-tc_confless j tx s (Client (TcBeginReq other)) = by (is_full s)
+tc_confless at tx s (Client (TcBeginReq other)) = by (is_full s)
   where
-    none : (b : Bool) → one_if (b && false) + 0 ≡ 0
-    none true = refl
-    none false = refl
-
-    by : (b : Bool) → sends_of (to_node j (is_conf tx)) (begin_if s other b).effects.sends ≡ 0
-    by true = none (0 == j)
-    by false = none (0 == j)
-tc_confless j tx s body = no_conf j tx (is_tc_kind (tx_in body)) (fails (tx_in body)) (tc_row s body).effects.sends (tc_kinds s body refl)
+    by : (b : Bool) → sends_of (at_place at (is_conf tx)) (begin_if s other b).effects.sends ≡ 0
+    by true = none_if (at client)
+    by false = none_if (at client)
+tc_confless at tx s body = no_conf at tx (is_tc_kind (tx_in body)) (fails (tx_in body)) (tc_table s body).effects.sends (tc_kinds s body refl)
   where
     fails : (one : TxId) (to : Place) (body : Body) → is_tc_kind one body ≡ true → is_conf tx to body ≡ false
     fails one to (Epoch (DiVerifyConf other epoch)) e = cc

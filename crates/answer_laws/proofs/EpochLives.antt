@@ -10,6 +10,7 @@ use Rattle.sig_core.specs.declared.op.Answer.{Answer}
 use Rattle.sig_core.specs.declared.op.Op.{Op}
 use Rattle.sig_core.specs.declared.outcome.AbortCause.{AbortCause}
 use Rattle.sig_core.specs.declared.outs.Outgoing.{Outgoing}
+use Rattle.sig_core.specs.declared.place.Place.{Place}
 use Rattle.sig_core.specs.declared.signal.Body.{Body}
 use Rattle.sig_core.specs.declared.signal.Body.TheVariants.{Epoch}
 use Rattle.sig_core.specs.declared.signal.epoch.EpochSignal.TheVariants.{DiVerifyReq}
@@ -20,22 +21,23 @@ use Rattle.tc_block.specs.declared.phase.Phase.{Phase}
 use Rattle.tc_block.specs.declared.phase.Phase.TheVariants.{Open, Verifying, Committing, Completing, Aborting}
 use Rattle.tc_block.specs.declared.transaction.Transaction.{Transaction}
 use Rattle.tc_block.specs.Abort as abort
-use Rattle.tc_block.specs.Chain.{chain_of}
+use Rattle.frag_map.specs.Layout.{chain_of}
 use Rattle.tc_block.specs.Operate.{fresh}
 use Rattle.tc_block.specs.Sends.{abort_of, entering, reported, verify_end}
 use Rattle.tc_block.specs.State.{TcState}
-use Rattle.tc_block.specs.Tc.{is_full, next_tx, tc_row}
+use Rattle.tc_block.specs.Tc.{is_full, next_tx, tc_table}
 use Rattle.tc_block.specs.Turn.{Turn}
 use Rattle.sig_core.proofs.Keys.{same_tx-self}
 use Rattle.answer_laws.proofs.EpochCounts.{IsWithout, SendsFew, asked_count, counts_if, ended_by, ended_count, is_epochless, plain_counts, sends_count}
-use Rattle.answer_laws.proofs.PartKinds.{IsPartKind, entering_of, parts_of}
-use Rattle.answer_laws.proofs.SendKinds.{are_of, of_kind, of_map}
-use Rattle.answer_laws.proofs.Tally.{one_if, tally, tally_append, tally_between}
-use Rattle.answer_laws.proofs.TcLives.{IsOwn, insert_new}
-use Rattle.answer_laws.proofs.TcSends.{eqb-self, tx_in}
-use Rattle.answer_laws.proofs.TcSteps.{TcStep, begins, is_rest_kind, misses, rests, takes, tc_step}
-use Rattle.answer_laws.proofs.TcTurns.{GivesUp, IsCommitted, TurnMove, abort_ends, aborted, aborts, all_completed, answers, asked_to, asks, at_last, at_once, commits, committed, completed, completes, decides, ends, gives_up, goes_on, is_wait_kind, keeps, late, refused, turn_moves, turn_row}
-use Rattle.answer_laws.specs.Answered.{is_committing}
+use Rattle.host_laws.proofs.PartKinds.{IsPartKind, entering_of, parts_of}
+use Rattle.host_laws.proofs.SendKinds.{are_of, of_kind, of_map}
+use Rattle.host_laws.proofs.Tally.{tally_append, tally_between}
+use Rattle.host_laws.specs.Counts.{one_if, tally}
+use Rattle.host_laws.proofs.TcLives.{IsOwn, insert_new}
+use Rattle.host_laws.proofs.TcSends.{tx_in}
+use Rattle.host_laws.proofs.TcSteps.{TcStep, begins, is_rest_kind, misses, rests, takes, tc_step}
+use Rattle.host_laws.proofs.TcTurns.{GivesUp, IsCommitted, TurnMove, abort_ends, aborted, aborts, all_completed, answers, asked_to, asks, at_last, at_once, commits, committed, completed, completes, decides, ends, gives_up, goes_on, is_wait_kind, keeps, late, refused, turn_moves, turn_row}
+use Rattle.host_laws.specs.Phases.{is_committing}
 
 -- an epoch was asked for, and its end isn't told
 abbrev pub is_counted : Phase → Bool
@@ -107,20 +109,20 @@ module _ (s : TcState) (tx : TxId) (t : Transaction) (body : Body) (turn : Turn)
   end_counts u why true e = ending refl e [] (abort.rolled_back tx why ∷ []) refl refl refl
   end_counts u why false e = gone refl e refl
 
-  entered : (w : Transaction) (phase : Phase) → is_counted phase ≡ is_counted t.phase → TurnCounts s.node tx t (record { step = entering s.node s.view tx w phase; over = false })
+  entered : (w : Transaction) (phase : Phase) → is_counted phase ≡ is_counted t.phase → TurnCounts s.node tx t (record { step = entering s.node s.layout tx w phase; over = false })
   unfolding entering
-  entered w phase e = unchanged refl e (entering_of is_epochless tx (plain_part tx) s.node s.view w phase)
+  entered w phase e = unchanged refl e (entering_of is_epochless tx (plain_part tx) s.node s.layout w phase)
 
   pub turn_counts : TurnMove s tx t body turn → TurnCounts s.node tx t turn
   turn_counts (keeps sends is kind missed) = back_to _ is (unchanged refl refl (of_kind is_wait_kind is_epochless wait_plain sends kind))
-  turn_counts (goes_on at about low is) = back_to _ is (unchanged refl refl (parts_of is_epochless tx (plain_part tx) s.node s.view t.phase t.touched at))
+  turn_counts (goes_on at about low is) = back_to _ is (unchanged refl refl (parts_of is_epochless tx (plain_part tx) s.node s.layout t.phase t.touched at))
   turn_counts (asks op about p q fit is) = back_to _ is (unchanged refl refl refl)
   turn_counts (answers key answer asked about p q is) = back_to _ is (unchanged refl refl refl)
-  turn_counts (late key asked about p q is) = back_to _ is (unchanged refl refl (of_map is_epochless (abort_of tx key) (chain_of s.view key) (λ r. refl)))
+  turn_counts (late key asked about p q is) = back_to _ is (unchanged refl refl (of_map is_epochless (abort_of tx key) (chain_of s.layout key) (λ r. refl)))
   turn_counts (decides about p q is) = back_to _ is (asking t.ops refl (ap is_counted p) refl refl)
   turn_counts (aborts w why gives some is) =
       let g = given_phase t body w gives in
-      back_to _ is (entered w (Aborting why (abort.is_verifying w.phase) (abort.aborts_awaited s.view w)) (ap abort.is_verifying g.0 ∙ sym g.1))
+      back_to _ is (entered w (Aborting why (abort.is_verifying w.phase) (abort.aborts_awaited s.layout w)) (ap abort.is_verifying g.0 ∙ sym g.1))
   turn_counts (gives_up w why gives is none) =
       let g = given_phase t body w gives in
       back_to _ is (end_counts w why (abort.is_verifying w.phase) (g.1 ∙ sym (ap abort.is_verifying g.0)))
@@ -140,13 +142,13 @@ pub record AreCounted (s : TcState) (c : List TxId) : Type 0 where
   pub room : length s.live ≤ 64
 
 -- after signals of which one asks for an epoch or ends one
-count_append : (h : ℕ) (xs ys : List Outgoing) (c : List TxId) → sends_count h (xs ++ ys) c ≡ sends_count h ys (sends_count h xs c)
-count_append h [] ys c = refl
-count_append h (x ∷ xs) ys c = count_append h xs ys _
+count_append : (at : Place → Bool) (xs ys : List Outgoing) (c : List TxId) → sends_count at (xs ++ ys) c ≡ sends_count at ys (sends_count at xs c)
+count_append at [] ys c = refl
+count_append at (x ∷ xs) ys c = count_append at xs ys _
 
-few_append : (h : ℕ) (xs ys : List Outgoing) (c : List TxId) → SendsFew h xs c → SendsFew h ys (sends_count h xs c) → SendsFew h (xs ++ ys) c
-few_append h [] ys c p q = q
-few_append h (x ∷ xs) ys c p q = (p.0, few_append h xs ys _ p.1 q)
+few_append : (at : Place → Bool) (xs ys : List Outgoing) (c : List TxId) → SendsFew at xs c → SendsFew at ys (sends_count at xs c) → SendsFew at (xs ++ ys) c
+few_append at [] ys c p q = q
+few_append at (x ∷ xs) ys c p q = (p.0, few_append at xs ys _ p.1 q)
 
 length_between : {A : Type 0} (xs : List A) (x : A) (ys : List A) → length (xs ++ x ∷ ys) ≡ length (xs ++ ys) + 1
 length_between [] x ys = omega arith
@@ -160,26 +162,26 @@ tally_under p (x ∷ xs) = omega (arith, tally_under p xs, few (p x))
     few true = omega arith
     few false = omega arith
 
--- what a step makes of the count
-pub record StepCounts (s after : TcState) (sends : List Outgoing) (c : List TxId) : Type 0 where
-  pub counted : AreCounted after (sends_count s.node sends c)
-  pub few : SendsFew s.node sends c
+-- what a step makes of the count of those signals that are for such places
+pub record StepCounts (at : Place → Bool) (after : TcState) (sends : List Outgoing) (c : List TxId) : Type 0 where
+  pub counted : AreCounted after (sends_count at sends c)
+  pub few : SendsFew at sends c
 
-module _ (s : TcState) (body : Body) (c : List TxId) (k : AreCounted s c) (owned : Each (λ (e : TxId × Transaction). IsOwn s.node s.next_seq e.0) s.live) where
+module _ (s : TcState) (at : Place → Bool) (own : at (epochs s.node) ≡ true) (body : Body) (c : List TxId) (k : AreCounted s c) (owned : Each (λ (e : TxId × Transaction). IsOwn s.node s.next_seq e.0) s.live) where
   plain_step : (step : Step TcState) → are_of is_epochless step.effects.sends ≡ true
       → tally is_counted_one step.state.live ≡ tally is_counted_one s.live → ((v : TxId) → tally (is_counted_as v) step.state.live ≡ tally (is_counted_as v) s.live) → length step.state.live ≤ 64
-      → StepCounts s step.state step.effects.sends c
+      → StepCounts at step.state step.effects.sends c
   plain_step step kind all each room =
-      let p = plain_counts s.node step.effects.sends c kind in
+      let p = plain_counts at step.effects.sends c kind in
       record {
         counted = record { all = ap length p.0 ∙ (k.all ∙ sym all); own = λ v. ap (tally (same_tx v)) p.0 ∙ (k.own v ∙ sym (each v)); room = room };
         few = p.1;
       }
 
-  own_place : ((s.node == s.node) && true) ≡ true
-  own_place = ap (λ b. b && true) (eqb-self s.node)
+  own_place : (at (epochs s.node) && true) ≡ true
+  own_place = ap (λ b. b && true) own
 
-  step_of_counts : (step : Step TcState) → TcStep s body step → StepCounts s step.state step.effects.sends c
+  step_of_counts : (step : Step TcState) → TcStep s body step → StepCounts at step.state step.effects.sends c
   step_of_counts step (rests about is kind) =
       plain_step step (of_kind is_rest_kind is_epochless rest_plain step.effects.sends kind) (ap (λ (x : TcState). tally is_counted_one x.live) is)
       (λ v. ap (λ (x : TcState). tally (is_counted_as v) x.live) is) (omega (arith, k.room, ap (λ (x : TcState). length x.live) is))
@@ -257,7 +259,7 @@ module _ (s : TcState) (body : Body) (c : List TxId) (k : AreCounted s c) (owned
       alone true = refl
       alone false = refl
 
-      by : TurnCounts s.node one t turn → StepCounts s step.state step.effects.sends c
+      by : TurnCounts s.node one t turn → StepCounts at step.state step.effects.sends c
       by (unchanged over keeps_it kind) =
           let live = live_over false over in
           plain_step step (ap (are_of is_epochless) sends_are ∙ kind)
@@ -273,7 +275,7 @@ module _ (s : TcState) (body : Body) (c : List TxId) (k : AreCounted s c) (owned
       by (asking ops over none some told) =
           let live = live_over false over in
           let sends = sends_are ∙ told in
-          subst (λ xs. StepCounts s step.state xs c) (sym sends) (record {
+          subst (λ xs. StepCounts at step.state xs c) (sym sends) (record {
             counted = record {
               all = omega (arith, ap length grown, length_end c, k.all, ap (tally is_counted_one) live, now_all, was_all, ap one_if none, ap one_if some);
               own = λ v. omega (
@@ -297,7 +299,7 @@ module _ (s : TcState) (body : Body) (c : List TxId) (k : AreCounted s c) (owned
           fewer : length c < 64
           fewer = omega (arith, k.all, k.room, was_all, was_length, tally_under is_counted_one (front ++ back), ap one_if none)
 
-          grown : sends_count s.node (to_place (epochs s.node) (Epoch (DiVerifyReq one ops)) ∷ []) c ≡ c ++ one ∷ []
+          grown : sends_count at (to_place (epochs s.node) (Epoch (DiVerifyReq one ops)) ∷ []) c ≡ c ++ one ∷ []
           grown = ap (λ b. counts_if b (Epoch (DiVerifyReq one ops)) c) own_place ∙ asked_count c one fewer
 
           length_end : (xs : List TxId) → length (xs ++ one ∷ []) ≡ length xs + 1
@@ -306,7 +308,7 @@ module _ (s : TcState) (body : Body) (c : List TxId) (k : AreCounted s c) (owned
       by (ending over some before behind kind other told) =
           let live = live_over true over in
           let sends = sends_are ∙ told in
-          subst (λ xs. StepCounts s step.state xs c) (sym sends) (record {
+          subst (λ xs. StepCounts at step.state xs c) (sym sends) (record {
             counted = record {
               all = omega (arith, ap length fewer_is, less.fewer, k.all, ap (tally is_counted_one) live, was_all, ap one_if some);
               own = λ v. omega (
@@ -321,11 +323,11 @@ module _ (s : TcState) (body : Body) (c : List TxId) (k : AreCounted s c) (owned
               );
               room = omega (arith, k.room, ap length live, was_length);
             };
-            few = few_append s.node before (verify_end s.node one ∷ behind) c first.1 (λ e. absurd (no_ask (s.node == s.node) e), last_few);
+            few = few_append at before (verify_end s.node one ∷ behind) c first.1 (λ e. absurd (no_ask (at (epochs s.node)) e), last_few);
           })
         where
-          first : (sends_count s.node before c ≡ c) × SendsFew s.node before c
-          first = plain_counts s.node before c kind
+          first : (sends_count at before c ≡ c) × SendsFew at before c
+          first = plain_counts at before c kind
 
           there : 1 ≤ tally (same_tx one) c
           there = omega (arith, k.own one, was_one one, ap (λ b. one_if (same_tx one one && b)) some, ap one_if (alone (same_tx one one)), ap one_if (same_tx-self one))
@@ -333,23 +335,23 @@ module _ (s : TcState) (body : Body) (c : List TxId) (k : AreCounted s c) (owned
           less : IsWithout one c (ended_by c (position (same_tx one) c))
           less = ended_count c one there
 
-          ended_is : (d : List TxId) → counts_if ((s.node == s.node) && true) (verify_end s.node one).body d ≡ ended_by d (position (same_tx one) d)
+          ended_is : (d : List TxId) → counts_if (at (epochs s.node) && true) (verify_end s.node one).body d ≡ ended_by d (position (same_tx one) d)
           ended_is d = ap (λ b. counts_if b (verify_end s.node one).body d) own_place
 
-          last : (d : List TxId) → (sends_count s.node behind d ≡ d) × SendsFew s.node behind d
-          last d = plain_counts s.node behind d other
+          last : (d : List TxId) → (sends_count at behind d ≡ d) × SendsFew at behind d
+          last d = plain_counts at behind d other
 
-          last_few : SendsFew s.node behind (counts_if ((s.node == s.node) && true) (verify_end s.node one).body (sends_count s.node before c))
+          last_few : SendsFew at behind (counts_if (at (epochs s.node) && true) (verify_end s.node one).body (sends_count at before c))
           last_few = (last _).1
 
           no_ask : (b : Bool) → (b && (true && false)) ≡ true → ⊥
           no_ask true e = false≢true e
           no_ask false e = false≢true e
 
-          fewer_is : sends_count s.node (before ++ verify_end s.node one ∷ behind) c ≡ ended_by c (position (same_tx one) c)
+          fewer_is : sends_count at (before ++ verify_end s.node one ∷ behind) c ≡ ended_by c (position (same_tx one) c)
           fewer_is =
-              count_append s.node before (verify_end s.node one ∷ behind) c
-              ∙ (ap (λ d. sends_count s.node (verify_end s.node one ∷ behind) d) first.0 ∙ ((last _).0 ∙ ended_is c))
+              count_append at before (verify_end s.node one ∷ behind) c
+              ∙ (ap (λ d. sends_count at (verify_end s.node one ∷ behind) d) first.0 ∙ ((last _).0 ∙ ended_is c))
 
-  pub step_counts : StepCounts s (tc_row s body).state (tc_row s body).effects.sends c
-  step_counts = step_of_counts (tc_row s body) (tc_step s body)
+  pub step_counts : StepCounts at (tc_table s body).state (tc_table s body).effects.sends c
+  step_counts = step_of_counts (tc_table s body) (tc_step s body)

@@ -27,15 +27,15 @@ use Rattle.lqh_block.specs.Complete as complete
 use Rattle.lqh_block.specs.declared.request.Request.{Request}
 use Rattle.lqh_block.specs.Dump as dump
 use Rattle.lqh_block.specs.Expire as expire
-use Rattle.lqh_block.specs.Lqh.{lqh_row}
+use Rattle.lqh_block.specs.Lqh.{lqh_table}
 use Rattle.lqh_block.specs.Operate as operate
 use Rattle.lqh_block.specs.State.{LqhState, freed_lock, go_on_if, serve_granted, storage_of, with_lock, with_waiting}
 use Rattle.lqh_block.specs.Storage as storage
 use Rattle.lqh_block.specs.Storage.{StorageState}
 use Rattle.lqh_block.specs.Wait as wait
 use Rattle.sig_core.specs.Same.{same_tx}
-use Rattle.answer_laws.proofs.LqhWaits.{is_forth}
-use Rattle.answer_laws.proofs.SendKinds.{SendsOnly, are_of, of_append}
+use Rattle.host_laws.proofs.LqhWaits.{is_forth}
+use Rattle.host_laws.proofs.SendKinds.{SendsOnly, are_of, of_append}
 
 -- all but a commit or a completion of the transaction
 abbrev pub is_back : TxId → Body → Bool
@@ -159,7 +159,7 @@ module _ (one : TxId) where
   unfolding dump.dump_row
   dump_kinds s at = refl
 
-  pub lqh_back : (s : LqhState) (body : Body) → is_forth one body ≡ false → SendsOnly (is_back one) (lqh_row s body)
+  pub lqh_back : (s : LqhState) (body : Body) → is_forth one body ≡ false → SendsOnly (is_back one) (lqh_table s body)
   lqh_back s (Chain (LqhKeyReq tx what chain at)) off = request_kinds s (record { tx = tx; work = what; chain = chain; at = at })
   lqh_back s (Host (Continue work.Granted at)) off = granted_row_kinds s
   lqh_back s (Chain (Commit tx key epoch chain at)) off = commit_kinds s tx key epoch chain at off

@@ -12,6 +12,7 @@ use Rattle.sig_core.specs.declared.place.BlockId.{BlockId}
 use Rattle.sig_core.specs.declared.place.BlockId.TheVariants as block
 use Rattle.sig_core.specs.declared.place.Place.{Place}
 use Rattle.sig_core.specs.declared.signal.Body.{Body}
+use Rattle.sig_core.specs.declared.signal.Signal.{Signal}
 use Rattle.sig_core.specs.declared.signal.Body.TheVariants.{Client}
 use Rattle.sig_core.specs.declared.signal.client.ClientSignal.TheVariants.{TcKeyReq, TcCommitReq}
 use Rattle.sig_core.specs.Op.{key_of}
@@ -23,12 +24,12 @@ use Rattle.tc_block.specs.Operate.{can_operate, is_ready}
 use Rattle.tc_block.specs.Touched.{fits, place_of}
 use Rattle.answer_laws.proofs.ApiEntries.{is_commit_req, of_opened}
 use Rattle.answer_laws.proofs.OpenTurns.{commit_body}
-use Rattle.answer_laws.proofs.Tally.{one_if, tally}
-use Rattle.answer_laws.proofs.TcKeys.{key_of_tx}
-use Rattle.answer_laws.proofs.TcMoves.{same_tx-is}
-use Rattle.answer_laws.proofs.TcSends.{tx_in}
-use Rattle.answer_laws.proofs.TcTurns.{IsMissed, is_turn}
-use Rattle.answer_laws.proofs.Wishes.{is_api, is_tc}
+use Rattle.host_laws.specs.Counts.{one_if, tally}
+use Rattle.host_laws.proofs.TcKeys.{key_of_tx}
+use Rattle.host_laws.proofs.TcMoves.{same_tx-is}
+use Rattle.host_laws.proofs.TcSends.{tx_in}
+use Rattle.host_laws.proofs.TcTurns.{IsMissed, is_turn}
+use Rattle.host_laws.proofs.Wishes.{is_api, is_tc}
 
 pub some_held : (tx : TxId) (opened : List OpenTransaction) (t : OpenTransaction) → of_opened tx opened ≡ Some t → 1 ≤ tally (has_tx tx) opened
 some_held tx [] t there = absurd cc
@@ -42,10 +43,10 @@ pub api_is : (at : BlockId) → is_api at ≡ true → at ≡ block.Api
 api_is block.Api e = refl
 api_is _ e = cc
 
-pub shell_stays : (s : ApiState) (at : BlockId) (body : Body) → is_api at ≡ false → shell_row s at body ≡ stay s
+pub shell_stays : (s : ApiState) (at : BlockId) (x : Signal) → is_api at ≡ false → shell_row s at x ≡ stay s
 unfolding shell_row
-shell_stays s block.Api body e = cc
-shell_stays s _ body e = refl
+shell_stays s block.Api x e = cc
+shell_stays s _ x e = refl
 
 pub has_asked : Transaction → ℕ
 has_asked t = one_if (is_some t.asked)

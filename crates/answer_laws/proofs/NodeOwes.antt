@@ -16,6 +16,8 @@ use Rattle.sig_core.specs.declared.signal.client.ClientSignal.TheVariants.{TcBeg
 use Rattle.sig_core.specs.declared.signal.epoch.EpochSignal.TheVariants.{DiVerifyConf}
 use Rattle.sig_core.specs.declared.signal.host.HostSignal.TheVariants.{Continue}
 use Rattle.sig_core.specs.declared.signal.host.Work.TheVariants as work
+use Rattle.frag_map.specs.Layout.{chain_of}
+use Rattle.sig_core.specs.Op.{key_of}
 use Rattle.sig_core.specs.Same.{same_tx}
 use Rattle.sig_core.specs.Step.{Step}
 use Rattle.tc_block.specs.declared.phase.Asked.{Asked}
@@ -26,16 +28,17 @@ use Rattle.tc_block.specs.Commit.{committed_row}
 use Rattle.tc_block.specs.Operate.{fresh}
 use Rattle.tc_block.specs.Sends.{go_on_row}
 use Rattle.tc_block.specs.State.{TcState}
-use Rattle.tc_block.specs.Tc.{begin_if, begin_row, is_full, next_tx, pass_if, pass_row, tc_row}
+use Rattle.tc_block.specs.Tc.{begin_if, begin_row, is_full, next_tx, pass_if, pass_row, tc_table}
 use Rattle.tc_block.specs.Turn.{Turn, going}
 use Rattle.sig_core.proofs.Keys.{same_tx-self}
-use Rattle.answer_laws.proofs.ApiBegins.{each_at, each_changed, each_less, in_middle}
-use Rattle.answer_laws.proofs.NodeOps.{absent_key}
-use Rattle.answer_laws.proofs.Tally.{one_if, tally, tally_between, tally_in}
-use Rattle.answer_laws.proofs.TcCommits.{is_chain}
-use Rattle.answer_laws.proofs.TcLives.{IsOwn, insert_new, is_keyed}
-use Rattle.answer_laws.proofs.TcMoves.{found, IsEntry, same_tx-is, step_is}
-use Rattle.answer_laws.proofs.TcOwes.{IsKnown, Owes, TurnOwes, aborted_owes, answer_owes, commit_owes, committed_owes, completed_owes, decide_owes, go_on_owes, operate_owes, refuse_owes, rollback_owes, wait_owes, waits}
+use Rattle.host_laws.proofs.ApiBegins.{each_at, each_changed, each_less, in_middle}
+use Rattle.host_laws.proofs.NodeOps.{absent_key}
+use Rattle.host_laws.proofs.Tally.{tally_between, tally_in}
+use Rattle.host_laws.specs.Counts.{one_if, tally}
+use Rattle.host_laws.proofs.TcCommits.{is_chain}
+use Rattle.host_laws.proofs.TcLives.{IsOwn, insert_new, is_keyed}
+use Rattle.host_laws.proofs.TcMoves.{found, IsEntry, same_tx-is, step_is}
+use Rattle.host_laws.proofs.TcOwes.{IsKnown, Owes, TurnOwes, aborted_owes, answer_owes, commit_owes, committed_owes, completed_owes, decide_owes, go_on_owes, operate_owes, refuse_owes, rollback_owes, wait_owes, waits}
 
 in_split : {A : Type 0} (x y : A) (front back : List A) → IsIn x (front ++ y ∷ back) → IsIn x (front ++ back) ⊎ (x ≡ y)
 in_split x y [] back (inl e) = inr e
@@ -200,25 +203,25 @@ module _ (n : ℕ) (tx : TxId) where
   cont_in (Host (Continue (work.Transaction one) a)) = at_if (same_tx one tx) a
   cont_in _ = None
 
-  pub tc_owes : (s : TcState) (body : Body) → Each (λ (e : TxId × Transaction). IsKnown n e.1) s.live → tally (is_keyed tx) s.live ≤ 1 → Each (λ (e : TxId × Transaction). IsOwn s.node s.next_seq e.0) s.live → is_chain n s.view.full ≡ true
-      → Steps s (tc_row s body) (came_in body) (cont_in body)
+  pub tc_owes : (s : TcState) (body : Body) → Each (λ (e : TxId × Transaction). IsKnown n e.1) s.live → tally (is_keyed tx) s.live ≤ 1 → Each (λ (e : TxId × Transaction). IsOwn s.node s.next_seq e.0) s.live → ((key : List ℕ) → is_chain n (chain_of s.layout key) ≡ true)
+      → Steps s (tc_table s body) (came_in body) (cont_in body)
   unfolding begin_row pass_row
   tc_owes s (Host (Continue (work.Transaction one) a)) known once own good =
       subst (λ st. Steps s st 0 (at_if (same_tx one tx) a)) (sym (step_is s one _))
       (turn_steps s known once own one _ (λ x. 0) (λ x. at_if (same_tx one x) a) (λ e. (refl, ap (λ b. at_if b a) e))
-      (λ t k home. subst (λ b. TurnOwes n one t (going (go_on_row s.node s.view one t a)) 0 (at_if b a)) (sym (same_tx-self one)) (go_on_owes n one t k s.node s.view a home)))
+      (λ t k home. subst (λ b. TurnOwes n one t (going (go_on_row s.node s.layout one t a)) 0 (at_if b a)) (sym (same_tx-self one)) (go_on_owes n one t k s.node s.layout a home)))
   tc_owes s (Client (TcBeginReq name)) known once own good = begin_steps s known once own name (is_full s)
-  tc_owes s (Client (TcKeyReq one op)) known once own good = quiet_steps s known once own one _ (λ t k home. operate_owes n one t k s.view op good)
+  tc_owes s (Client (TcKeyReq one op)) known once own good = quiet_steps s known once own one _ (λ t k home. operate_owes n one t k s.layout op (good (key_of op)))
   tc_owes s (Client (TcCommitReq one)) known once own good = quiet_steps s known once own one _ (λ t k home. decide_owes n one t k s.node)
-  tc_owes s (Client (TcRollbackReq one)) known once own good = quiet_turns s known once own one _ (λ t k home. rollback_owes n one t k s.node s.view)
+  tc_owes s (Client (TcRollbackReq one)) known once own good = quiet_turns s known once own one _ (λ t k home. rollback_owes n one t k s.node s.layout)
   tc_owes s (Client (TcWaitReq one)) known once own good = quiet_steps s known once own one _ (λ t k home. wait_owes n one t k)
   tc_owes s (Client (LqhWaitConf one ahead)) known once own good = pass_steps s known once own one ahead (is_some (place_in s one))
-  tc_owes s (Chain (LqhKeyConf one at a)) known once own good = quiet_steps s known once own one _ (λ t k home. answer_owes n one t k s.view at a)
-  tc_owes s (Chain (LqhKeyRef one at why)) known once own good = quiet_turns s known once own one _ (λ t k home. refuse_owes n one t k s.node s.view at why)
+  tc_owes s (Chain (LqhKeyConf one at a)) known once own good = quiet_steps s known once own one _ (λ t k home. answer_owes n one t k s.layout at a)
+  tc_owes s (Chain (LqhKeyRef one at why)) known once own good = quiet_turns s known once own one _ (λ t k home. refuse_owes n one t k s.node s.layout at why)
   tc_owes s (Chain (Committed one at)) known once own good =
       turn_steps s known once own one _ (λ x. one_if (same_tx one x)) (λ x. None) (λ e. (ap one_if e, refl))
-      (λ t k home. subst (λ b. TurnOwes n one t (committed_row s.node s.view one t) (one_if b) None) (sym (same_tx-self one)) (committed_owes n one t k s.node s.view))
+      (λ t k home. subst (λ b. TurnOwes n one t (committed_row s.node s.layout one t) (one_if b) None) (sym (same_tx-self one)) (committed_owes n one t k s.node s.layout))
   tc_owes s (Chain (Completed one at)) known once own good = quiet_turns s known once own one _ (λ t k home. completed_owes n one t k s.node)
   tc_owes s (Chain (Aborted one at)) known once own good = quiet_turns s known once own one _ (λ t k home. aborted_owes n one t k s.node)
-  tc_owes s (Epoch (DiVerifyConf one epoch)) known once own good = quiet_turns s known once own one _ (λ t k home. commit_owes n one t k s.node s.view epoch home)
+  tc_owes s (Epoch (DiVerifyConf one epoch)) known once own good = quiet_turns s known once own one _ (λ t k home. commit_owes n one t k s.node s.layout epoch home)
   tc_owes s _ known once own good = stays_owes s known once own []

@@ -14,17 +14,17 @@ use Rattle.tc_block.specs.declared.phase.Phase.{Phase}
 use Rattle.tc_block.specs.declared.phase.Phase.TheVariants.{Open, Verifying, Committing, Completing, Aborting}
 use Rattle.tc_block.specs.declared.transaction.Transaction.{Transaction}
 use Rattle.tc_block.specs.Abort.{aborts_awaited, is_verifying}
-use Rattle.tc_block.specs.Chain.{chain_of}
+use Rattle.frag_map.specs.Layout.{chain_of}
 use Rattle.tc_block.specs.Complete.{written_count}
 use Rattle.tc_block.specs.State.{TcState}
 use Rattle.tc_block.specs.Turn.{Turn}
 use Rattle.sig_core.proofs.Keys.{same_tx-self}
-use Rattle.answer_laws.proofs.PartKinds.{IsPartKind, parts_of}
-use Rattle.answer_laws.proofs.SendKinds.{is_keyless, of_kind}
-use Rattle.answer_laws.proofs.Tally.{one_if}
-use Rattle.answer_laws.proofs.TcKeys.{answers_in, key_of_tx, no_answers}
-use Rattle.answer_laws.proofs.TcTurns.{abort_ends, aborted, aborts, all_completed, answers, asks, commits, committed, completed, completes, decides, ends, entered_phase, gives_up, goes_on, is_wait_kind, IsMissed, keeps, late, over_not, TurnMove}
-use Rattle.answer_laws.specs.Answered.{is_aborting}
+use Rattle.host_laws.proofs.PartKinds.{IsPartKind, parts_of}
+use Rattle.host_laws.proofs.SendKinds.{is_keyless, of_kind}
+use Rattle.host_laws.specs.Counts.{one_if}
+use Rattle.host_laws.proofs.TcKeys.{answers_in, key_of_tx, no_answers}
+use Rattle.host_laws.proofs.TcTurns.{abort_ends, aborted, aborts, all_completed, answers, asks, commits, committed, completed, completes, decides, ends, entered_phase, gives_up, goes_on, is_wait_kind, IsMissed, keeps, late, over_not, TurnMove}
+use Rattle.tc_block.specs.Phases.{is_aborting}
 
 abbrev pub commit_body : TxId → Body → Bool
 commit_body tx (Client (TcCommitReq other)) = same_tx other tx
@@ -84,9 +84,9 @@ module _ (s : TcState) (tx : TxId) (t : Transaction) (body : Body) (turn : Turn)
       go (keeps sends is kind missed) =
           (phase_of _ is, stays_open (asked_of _ is) (answers_of _ is ∙ no_answers tx sends (of_kind is_wait_kind is_keyless wait_keyless sends kind)) (inl missed))
       go (goes_on at about low is) =
-          (phase_of _ is, stays_open (asked_of _ is) (answers_of _ is ∙ no_answers tx _ (parts_of is_keyless tx (part_keyless tx) s.node s.view t.phase t.touched at)) (inr (ap (key_of_tx tx) about, ap (commit_body tx) about)))
+          (phase_of _ is, stays_open (asked_of _ is) (answers_of _ is ∙ no_answers tx _ (parts_of is_keyless tx (part_keyless tx) s.node s.layout t.phase t.touched at)) (inr (ap (key_of_tx tx) about, ap (commit_body tx) about)))
       go (asks op about p q fit is) =
-          (p, is_asked (ap (key_of_tx tx) about ∙ same_tx-self tx) (ap (commit_body tx) about) q (ap is_some (asked_of _ is)) (answers_of _ is ∙ none (node_at (chain_of s.view (key_of op)) 0 == 0)))
+          (p, is_asked (ap (key_of_tx tx) about ∙ same_tx-self tx) (ap (commit_body tx) about) q (ap is_some (asked_of _ is)) (answers_of _ is ∙ none (node_at (chain_of s.layout (key_of op)) 0 == 0)))
         where
           none : (b : Bool) → one_if (b && false) + 0 ≡ 0
           none true = refl
@@ -95,13 +95,13 @@ module _ (s : TcState) (tx : TxId) (t : Transaction) (body : Body) (turn : Turn)
           (p, is_told (ap (key_of_tx tx) about) (ap (commit_body tx) about) (ap is_some q.is) (asked_of _ is) (omega (arith, answers_of _ is, ap one_if (ap (λ b. true && (true && b)) (same_tx-self tx)))))
       go (late key asked about p q is) = absurd (aborting_no t.phase p (phase_of _ is))
       go (decides about p q is) = other_phase _ Verifying is refl verifying_no is_open
-      go (aborts w why gives some is) = other_phase _ (Aborting why (is_verifying w.phase) (aborts_awaited s.view w)) is (entered_phase s.node s.view tx w _) (aborting_no _ refl) is_open
+      go (aborts w why gives some is) = other_phase _ (Aborting why (is_verifying w.phase) (aborts_awaited s.layout w)) is (entered_phase s.node s.layout tx w _) (aborting_no _ refl) is_open
       go (gives_up w why gives is none) = over_not turn _ is refl over
       go (aborted key why v k about p low is) = other_phase _ (Aborting why v (k - 1)) is refl (aborting_no _ refl) is_open
       go (abort_ends key why v k about p low is) = over_not turn _ is refl over
-      go (commits epoch about p is) = other_phase _ (Committing epoch (length t.touched)) is (entered_phase s.node s.view tx t _) (committing_no _ _) is_open
+      go (commits epoch about p is) = other_phase _ (Committing epoch (length t.touched)) is (entered_phase s.node s.layout tx t _) (committing_no _ _) is_open
       go (committed epoch k p is) = other_phase _ (Committing epoch (k - 1)) is refl (committing_no _ _) is_open
-      go (completes epoch p is) = other_phase _ (Completing epoch (written_count t.touched)) is (entered_phase s.node s.view tx t _) (completing_no _ _) is_open
+      go (completes epoch p is) = other_phase _ (Completing epoch (written_count t.touched)) is (entered_phase s.node s.layout tx t _) (completing_no _ _) is_open
       go (ends epoch p is) = over_not turn _ is refl over
       go (completed epoch k p is) = other_phase _ (Completing epoch (k - 1)) is refl (completing_no _ _) is_open
       go (all_completed epoch k p is) = over_not turn _ is refl over

@@ -1,447 +1,347 @@
 -- An operation that a coordinator's transaction has unanswered is on its way, or waits at a node.
-use Rattle.std.proofs.Common.{◌≡◌, ◌≢◌, ◌⊎◌, ℕ, zero, suc, ◌+◌, ◌≤◌, ◌<◌, List, [], ◌∷◌, ◌++◌, Bool, true, false, refl, ap, sym, ◌∙◌, subst, arith, inl, inr}
+use Rattle.std.proofs.Common.{◌≡◌, ◌≢◌, ◌⊎◌, ℕ, ◌+◌, ◌≤◌, ◌<◌, List, [], ◌∷◌, Bool, true, false, refl, ap, sym, ◌∙◌, subst, arith, inl, inr}
 use Rattle.std.specs.Prelude.{◌==◌, ◌&&◌, nat_lt, Some}
-use Rattle.std.proofs.lemmas.Bool.{cases_eq, eqb-true}
+use Rattle.std.proofs.lemmas.Bool.{cases_eq, eqb-true, false≢true, true≢false}
 use Rattle.std.proofs.lemmas.Bool.Decides.{nat_tests}
 use Rattle.lqh_block.proofs.IndexLemmas.{same as same_key-is}
 use Rattle.lqh_block.specs.declared.request.Request.{Request}
 use Rattle.lqh_block.specs.Work.{work_key}
 use Rattle.node_core.specs.declared.host.Host as host
-use Rattle.node_core.specs.declared.host.Host.TheVariants.{Shell, Node}
-use Rattle.node_core.specs.declared.node.Node as node
-use Rattle.node_core.specs.Fresh.{begun_node, fresh_node}
-use Rattle.node_core.specs.Row.{node_row, row}
-use Rattle.run_theory.proofs.Pasts.{each_in}
-use Rattle.run_theory.specs.Links.{taken}
-use Rattle.run_theory.specs.Lists.{Each, IsIn}
-use Rattle.run_theory.specs.Runs.{AreLogs, IsWithin, log_of}
-use Rattle.sig_core.specs.declared.log.LogStep.{LogStep}
-use Rattle.sig_core.specs.declared.member.Member.{Member}
+use Rattle.node_core.specs.declared.host.Host.TheVariants.{Shell, Main, Tc, Ldm}
+use Rattle.node_core.proofs.HostCases.{BlockCase, IsApiStep, IsDihStep, IsIdleStep, IsRowsStep, IsTcStep, api_takes, block_case, dih_takes, none_takes, rows_take, runs, tc_step, tc_takes}
+use Rattle.node_core.specs.Blocks.{has_lqh, has_tc, lqh_of, tc_of}
+use Rattle.lqh_block.specs.State.{LqhState}
+use Rattle.run_theory.specs.Runs.{AreLogs, IsWithin}
 use Rattle.sig_core.specs.declared.member.TxId.{TxId}
-use Rattle.sig_core.specs.declared.outs.Outgoing.{Outgoing}
 use Rattle.sig_core.specs.declared.place.BlockId.{BlockId}
 use Rattle.sig_core.specs.declared.place.BlockId.TheVariants as block
 use Rattle.sig_core.specs.declared.place.Place.{Place}
 use Rattle.sig_core.specs.declared.signal.Body.{Body}
 use Rattle.sig_core.specs.declared.signal.Body.TheVariants.{Chain}
 use Rattle.sig_core.specs.declared.signal.chain.ChainSignal.TheVariants.{LqhKeyReq, LqhKeyConf, LqhKeyRef}
-use Rattle.sig_core.specs.declared.signal.Signal.{Signal}
-use Rattle.sig_core.specs.Chain.{node_at}
 use Rattle.sig_core.specs.Op.{key_of}
 use Rattle.sig_core.specs.Same.{same_key, same_tx}
+use Rattle.sig_core.specs.Step.{Step}
 use Rattle.tc_block.specs.declared.phase.Asked.{Asked}
 use Rattle.tc_block.specs.declared.transaction.Transaction.{Transaction}
+use Rattle.tc_block.specs.State.{TcState}
+use Rattle.tc_block.specs.Tc.{tc_table}
+use Rattle.frag_map.specs.Layout.{first_layout}
+use Rattle.frag_map.specs.Shape.{IsShape}
+use Rattle.world_core.proofs.HostNumbers.{IsNodes, rows_found, tc_runs}
+use Rattle.world_core.specs.Hosts.{home, host_for, hosts, rows_host}
 use Rattle.world_core.specs.Machine.{after, machine, step_after}
-use Rattle.world_core.specs.Start.{Start, first_view, members}
+use Rattle.world_core.specs.Start.{Start}
+use Rattle.world_core.specs.Steps.{HostStep}
 use Rattle.sig_core.proofs.Keys.{same_tx-self, same_key-self}
-use Rattle.answer_laws.proofs.Ahead.{along}
-use Rattle.answer_laws.proofs.Begins.{given_past}
-use Rattle.answer_laws.proofs.Hosts.{node_after, same_node, shell_after}
-use Rattle.answer_laws.proofs.Lives.{NodeKeeps, keeps}
-use Rattle.answer_laws.proofs.LinkCounts.{signals}
-use Rattle.answer_laws.proofs.LqhOps.{came_of, is_good, is_lqh, is_mine, is_node, is_op, left_of, lqh_ops, ops, right_of, true_and}
-use Rattle.answer_laws.proofs.NodeOps.{AreRight, answers_of, is_asking, tc_steps}
-use Rattle.answer_laws.proofs.Tally.{Counted, counted, one_if, tally, tally_in, tally_past}
-use Rattle.answer_laws.proofs.TcLives.{IsOwn, is_keyed}
-use Rattle.answer_laws.proofs.TcMoves.{node_moves, same_tx-is, tc_view}
-use Rattle.answer_laws.proofs.TcOps.{IsGoodView, asks_key}
-use Rattle.answer_laws.proofs.Totals.{Grown, IsSome, sent_all, sent_more, taken_all, taken_more, total, total_le, total_one, total_same, total_some}
-use Rattle.answer_laws.proofs.Wishes.{is_tc, sends_of}
+use Rattle.run_laws.proofs.AlongSteps.{Goes, addressed, along, at_home, at_tc, heard_rows, home_place, live_tx}
+use Rattle.answer_laws.proofs.FirstChains.{first_node, good_chain}
+use Rattle.answer_laws.proofs.Flows.{flow_few}
+use Rattle.host_laws.proofs.HostSteps.{first_live, no_waiting, reaches, tc_layout}
+use Rattle.host_laws.proofs.HostTurns.{idle_unheard}
+use Rattle.host_laws.proofs.LinkCounts.{signals}
+use Rattle.host_laws.proofs.LqhOps.{came_of, is_good, is_lqh, is_mine, is_node, is_op, left_of, lqh_ops, ops, right_of, true_and}
+use Rattle.host_laws.proofs.NodeOps.{AreRight, StepAsks, answers_of, is_asking, tc_steps}
+use Rattle.host_laws.proofs.Tally.{Counted, and_few, counted, tally_in}
+use Rattle.host_laws.specs.Counts.{one_if, tally}
+use Rattle.host_laws.proofs.TcMoves.{same_tx-is}
+use Rattle.host_laws.proofs.TcOps.{IsGoodLayout, asks_key}
+use Rattle.answer_laws.proofs.Totals.{Grown, sent_all, sent_more, taken_all, taken_more}
+use Rattle.host_laws.proofs.Sums.{IsSome, total_one, total_same, total_some}
+use Rattle.host_laws.specs.Counts.{total}
+use Rattle.host_laws.proofs.Wishes.{is_tc}
 use Rattle.answer_laws.specs.Answered.{AreQuiet, EachOperationWaits, IsLiveAs, IsWaitingAt, Waits}
 
-pub row_state : (to : Place) (body : Body) (g : host.Host) (s : node.Node) → g ≡ Node s → (row g to body).state ≡ Node (node_row s to.block body).state
-unfolding row
-row_state to body g s is = ap (λ x. (row x to body).state) is
+-- a host that has nothing of a coordinator's signals runs none
+idle_tc : (s : host.Host) (at : BlockId) → runs s at ≡ false → is_tc at ≡ true → has_tc s ≡ false
+idle_tc (Tc p) block.Tc off on = absurd (true≢false off)
+idle_tc (Tc p) _ off on = absurd (false≢true on)
+idle_tc (Shell s) at off on = refl
+idle_tc (Main m) at off on = refl
+idle_tc (Ldm s) at off on = refl
 
-pub row_effects : (to : Place) (body : Body) (g : host.Host) (s : node.Node) → g ≡ Node s → (row g to body).effects.sends ≡ (node_row s to.block body).effects.sends
-unfolding row
-row_effects to body g s is = ap (λ x. (row x to body).effects.sends) is
+module _ (start : Start) (is : IsShape start.shape) (tx : TxId) (key : List ℕ) (some : 1 ≤ tx.tc) (low : tx.tc ≤ start.shape.nodes) where
+  -- the first number behind those of the nodes
+  abbrev nodes : ℕ
+  nodes = start.shape.nodes + 1
 
--- the first view is of nodes, and has some
-good_behind : (n : ℕ) (xs ys : List Member) → is_good n xs ≡ true → is_good n ys ≡ true → is_good n (xs ++ ys) ≡ true
-good_behind n [] ys p q = q
-good_behind n (x ∷ xs) ys p q = true_and (is_node n x.node) (is_good n (xs ++ ys)) (left_of (is_node n x.node) (is_good n xs) p) (good_behind n xs ys (right_of (is_node n x.node) (is_good n xs) p) q)
+  good : IsGoodLayout nodes (first_layout start.shape)
+  good = record { good = good_chain start.shape is; first = first_node start.shape is }
 
-node_in : (n node : ℕ) → 1 ≤ node → node < n → is_node n node ≡ true
-node_in n node some low = true_and (nat_lt 0 node) (nat_lt node n) (grind (arith, nat_tests, some)) (grind (arith, nat_tests, low))
+  -- what a step of a coordinator makes of the operation
+  turn : (h : ℕ) (log : List HostStep) (body : Body) → has_tc (after start h log) ≡ true → AreRight (tc_of (after start h log)).live
+      → StepAsks nodes tx key (tc_of (after start h log)) (tc_table (tc_of (after start h log)) body).state (tc_table (tc_of (after start h log)) body).effects.sends (answers_of nodes tx key body)
+  turn h log body on right =
+      let x = at_tc start tx h log in
+      tc_steps nodes tx key (tc_of (after start h log)) body right x.once x.own (subst (IsGoodLayout nodes) (sym (tc_layout start h log on)) good)
 
-pub good_members : (n m : ℕ) → m < n → is_good n (members m) ≡ true
-good_members n zero low = refl
-good_members n (suc m) low =
-    good_behind n (members m) (record { node = m + 1; start = 0 } ∷ []) (good_members n m (omega (arith, low))) (true_and (is_node n (m + 1)) true (node_in n (m + 1) (omega arith) (omega (arith, low))) refl)
-
-first_member : (n m : ℕ) → 1 ≤ m → m < n → is_node n (node_at (members m) 0) ≡ true
-first_member n zero some low = absurd (omega (arith, some))
-first_member n (suc zero) some low = node_in n 1 (omega arith) (omega (arith, low))
-first_member n (suc (suc m)) some low = behind (members (suc m)) (first_member n (suc m) (omega arith) (omega (arith, low)))
-  where
-    behind : (xs : List Member) → is_node n (node_at xs 0) ≡ true → is_node n (node_at (xs ++ record { node = suc m + 1; start = 0 } ∷ []) 0) ≡ true
-    behind [] e = cc
-    behind (x ∷ xs) e = e
-
-module _ (start : Start) (some_nodes : 1 ≤ start.nodes) (tx : TxId) (key : List ℕ) where
-  n : ℕ
-  n = start.nodes + 1
-
-  good_view : IsGoodView (start.nodes + 1) (first_view start.nodes)
-  good_view = record { good = good_members (start.nodes + 1) start.nodes (omega arith); first = first_member (start.nodes + 1) start.nodes some_nodes (omega arith) }
-
-  -- a node after a log, as far as operations go
-  record NodeIs (h : ℕ) (log : List LogStep) : Type 0 where
-    state : node.Node
-    is : after start (suc h) log ≡ Node state
-    view : state.tc.view ≡ first_view start.nodes
-    right : AreRight state.tc.live
-    once : tally (is_keyed tx) state.tc.live ≤ 1
-    own : Each (λ (e : TxId × Transaction). IsOwn state.tc.node state.tc.next_seq e.0) state.tc.live
-
-  -- what a step of a node makes of its coordinator's transactions
-  node_steps : (x : node.Node) (at : BlockId) (body : Body) → AreRight x.tc.live → tally (is_keyed tx) x.tc.live ≤ 1 → Each (λ (e : TxId × Transaction). IsOwn x.tc.node x.tc.next_seq e.0) x.tc.live → IsGoodView (start.nodes + 1) x.tc.view
-      → AreRight (node_row x at body).state.tc.live
-  unfolding node_row
-  node_steps x block.Tc body right once own good = (tc_steps (start.nodes + 1) tx key x.tc body right once own good).right
-  node_steps x block.Dih body right once own good = right
-  node_steps x block.Lqh body right once own good = right
-  node_steps x _ body right once own good = right
-
-  node_is : (h : ℕ) (log : List LogStep) → NodeIs h log
-  unfolding fresh_node begun_node row
-  node_is h [] = record { state = begun_node (h + 1) (first_view start.nodes) start.epoch start.rows; is = refl; view = refl; right = tt; once = omega arith; own = tt }
-  node_is h (e ∷ log) = next (node_is h log) (keeps start tx h (e ∷ log))
+  right_after : (h : ℕ) (log : List HostStep) → AreRight (tc_of (after start h log)).live
+  right_after h [] = subst AreRight (sym (first_live start h)) tt
+  right_after h (e ∷ log) = next (right_after h log)
     where
-      next : NodeIs h log → NodeKeeps start tx h (e ∷ log) → NodeIs h (e ∷ log)
-      next x k = record {
-        state = now;
-        is = now_is;
-        view = tc_view x.state.tc now.tc (node_row x.state e.taken.to.block e.taken.body).effects.sends (node_moves x.state e.taken.to.block e.taken.body) ∙ x.view;
-        right = node_steps x.state e.taken.to.block e.taken.body x.right x.once x.own (subst (IsGoodView (start.nodes + 1)) (sym x.view) good_view);
-        once = subst (λ (y : node.Node). tally (is_keyed tx) y.tc.live ≤ 1) same (omega (arith, k.keeps.began, k.keeps.once));
-        own = subst (λ (y : node.Node). Each (λ (z : TxId × Transaction). IsOwn y.tc.node y.tc.next_seq z.0) y.tc.live) same k.keeps.own;
-      }
+      next : AreRight (tc_of (after start h log)).live → AreRight (tc_of (after start h (e ∷ log))).live
+      next right = go (tc_step (after start h log) e.step.taken)
         where
-          now : node.Node
-          now = (node_row x.state e.taken.to.block e.taken.body).state
-
-          now_is : after start (suc h) (e ∷ log) ≡ Node now
-          now_is = ap (λ g. (row g e.taken.to e.taken.body).state) x.is
-
-          same : k.state ≡ now
-          same = same_node k.state now (sym k.is ∙ now_is)
+          go : IsTcStep (after start h log) e.step.taken (step_after start h log e) ⊎ (tc_of (step_after start h log e).state ≡ tc_of (after start h log)) → AreRight (tc_of (step_after start h log e).state).live
+          go (inl step) = subst (λ (t : TcState). AreRight t.live) (sym step.state) (turn h log e.step.taken.body step.runs right).right
+          go (inr same) = subst (λ (t : TcState). AreRight t.live) (sym same) right
 
   -- how many requests wait, and whether the transaction asks
   abbrev waiting_at : host.Host → ℕ
-  waiting_at (Shell s) = 0
-  waiting_at (Node x) = tally (λ (r : Request). is_mine (start.nodes + 1) tx key r) x.lqh.waiting
+  waiting_at s = tally (λ (r : Request). is_mine nodes tx key r) (lqh_of s).waiting
 
   abbrev asking_at : host.Host → ℕ
-  asking_at (Shell s) = 0
-  asking_at (Node x) = tally (is_asking (start.nodes + 1) tx key) x.tc.live
-
-  fresh_asks : (h : ℕ) → asking_at (after start (suc h) []) ≡ 0
-  unfolding fresh_node begun_node
-  fresh_asks h = refl
+  asking_at s = tally (is_asking nodes tx key) (tc_of s).live
 
   abbrev came : Place → Body → ℕ
-  came to body = one_if (is_op (start.nodes + 1) tx key to body)
+  came to body = one_if (is_op nodes tx key to body)
 
-  few_came : (to : Place) (body : Body) → to.block ≡ block.Lqh → came to body ≤ came_of (start.nodes + 1) tx key body
-  few_came to (Chain (LqhKeyReq other what chain at)) e = few (is_lqh to.block && is_node (start.nodes + 1) to.node) _
-    where
-      few : (a b : Bool) → one_if (a && b) ≤ one_if b
-      few true b = omega arith
-      few false b = omega arith
+  few_came : (to : Place) (body : Body) → to.block ≡ block.Lqh → came to body ≤ came_of nodes tx key body
+  few_came to (Chain (LqhKeyReq other what chain at)) e = and_few (is_lqh to.block && is_node nodes to.node) _
   few_came to (Chain (LqhKeyConf other at answer)) e = omega (arith, ap (λ b. one_if ((is_tc b && (to.node == tx.tc)) && (same_tx other tx && same_key at key))) e)
   few_came to (Chain (LqhKeyRef other at why)) e = omega (arith, ap (λ b. one_if ((is_tc b && (to.node == tx.tc)) && (same_tx other tx && same_key at key))) e)
   few_came to _ e = omega arith
 
-  few_answers : (to : Place) (body : Body) → to.block ≡ block.Tc → came to body ≤ answers_of (start.nodes + 1) tx key body
+  few_answers : (to : Place) (body : Body) → to.block ≡ block.Tc → came to body ≤ answers_of nodes tx key body
   few_answers to (Chain (LqhKeyReq other what chain at)) e =
-      omega (arith, ap (λ b. one_if ((is_lqh b && is_node (start.nodes + 1) to.node) && is_mine (start.nodes + 1) tx key (record { tx = other; work = what; chain = chain; at = at }))) e)
-  few_answers to (Chain (LqhKeyConf other at answer)) e = few (is_tc to.block && (to.node == tx.tc)) _
-    where
-      few : (a b : Bool) → one_if (a && b) ≤ one_if b
-      few true b = omega arith
-      few false b = omega arith
-  few_answers to (Chain (LqhKeyRef other at why)) e = few (is_tc to.block && (to.node == tx.tc)) _
-    where
-      few : (a b : Bool) → one_if (a && b) ≤ one_if b
-      few true b = omega arith
-      few false b = omega arith
+      omega (arith, ap (λ b. one_if ((is_lqh b && is_node nodes to.node) && is_mine nodes tx key (record { tx = other; work = what; chain = chain; at = at }))) e)
+  few_answers to (Chain (LqhKeyConf other at answer)) e = and_few (is_tc to.block && (to.node == tx.tc)) _
+  few_answers to (Chain (LqhKeyRef other at why)) e = and_few (is_tc to.block && (to.node == tx.tc)) _
   few_answers to _ e = omega arith
 
   -- none came to another block, nor to another coordinator
-  none_came : (to : Place) (body : Body) → is_lqh to.block ≡ false → (is_tc to.block && (to.node == tx.tc)) ≡ false → came to body ≡ 0
-  none_came to (Chain (LqhKeyReq other what chain at)) p q = ap (λ b. one_if ((b && is_node (start.nodes + 1) to.node) && is_mine (start.nodes + 1) tx key (record { tx = other; work = what; chain = chain; at = at }))) p
+  none_came : (to : Place) (body : Body) → (is_lqh to.block && is_node nodes to.node) ≡ false → (is_tc to.block && (to.node == tx.tc)) ≡ false → came to body ≡ 0
+  none_came to (Chain (LqhKeyReq other what chain at)) p q = ap (λ b. one_if (b && is_mine nodes tx key (record { tx = other; work = what; chain = chain; at = at }))) p
   none_came to (Chain (LqhKeyConf other at answer)) p q = ap (λ b. one_if (b && (same_tx other tx && same_key at key))) q
   none_came to (Chain (LqhKeyRef other at why)) p q = ap (λ b. one_if (b && (same_tx other tx && same_key at key))) q
   none_came to _ p q = refl
 
-  shell_none : (to : Place) (body : Body) → to.node ≡ 0 → tx.tc ≢ 0 → came to body ≡ 0
-  shell_none to (Chain (LqhKeyReq other what chain at)) e differs =
-      ap (λ k. one_if ((is_lqh to.block && is_node (start.nodes + 1) k) && is_mine (start.nodes + 1) tx key (record { tx = other; work = what; chain = chain; at = at }))) e ∙ none (is_lqh to.block)
-    where
-      none : (b : Bool) → one_if ((b && is_node (start.nodes + 1) 0) && is_mine (start.nodes + 1) tx key (record { tx = other; work = what; chain = chain; at = at })) ≡ 0
-      none true = refl
-      none false = refl
-  shell_none to (Chain (LqhKeyConf other at answer)) e differs = go (to.node == tx.tc) refl
-    where
-      none : (b c : Bool) → one_if ((b && false) && c) ≡ 0
-      none true c = refl
-      none false c = refl
+  -- a step of a host, which takes what is for it
+  module _ (h : ℕ) (log : List HostStep) (e : HostStep) (addressed_here : host_for start e.step.taken.to ≡ h) where
+    abbrev s : host.Host
+    s = after start h log
 
-      go : (b : Bool) → (to.node == tx.tc) ≡ b → one_if ((is_tc to.block && (to.node == tx.tc)) && (same_tx other tx && same_key at key)) ≡ 0
-      go true q = absurd (differs (sym (eqb-true to.node tx.tc q) ∙ e))
-      go false q = ap (λ b. one_if ((is_tc to.block && b) && (same_tx other tx && same_key at key))) q ∙ none (is_tc to.block) _
-  shell_none to (Chain (LqhKeyRef other at why)) e differs = go (to.node == tx.tc) refl
-    where
-      none : (b c : Bool) → one_if ((b && false) && c) ≡ 0
-      none true c = refl
-      none false c = refl
+    abbrev t : Step host.Host
+    t = step_after start h log e
 
-      go : (b : Bool) → (to.node == tx.tc) ≡ b → one_if ((is_tc to.block && (to.node == tx.tc)) && (same_tx other tx && same_key at key)) ≡ 0
-      go true q = absurd (differs (sym (eqb-true to.node tx.tc q) ∙ e))
-      go false q = ap (λ b. one_if ((is_tc to.block && b) && (same_tx other tx && same_key at key))) q ∙ none (is_tc to.block) _
-  shell_none to _ e differs = refl
+    abbrev c : ℕ
+    c = came e.step.taken.to e.step.taken.body
 
-  -- at its coordinator: what it asks it asked before, and it is kept, or it was sent
-  abbrev Home : node.Node → node.Node → List Outgoing → ℕ → Type 0
-  Home x now sends c =
-      1 ≤ asking_at (Node now) → ((1 ≤ asking_at (Node x)) × (waiting_at (Node x) + c ≤ waiting_at (Node now) + ops (start.nodes + 1) tx key sends))
-      ⊎ (c + 1 + waiting_at (Node x) ≤ ops (start.nodes + 1) tx key sends + waiting_at (Node now))
+    abbrev for_rows : Bool
+    for_rows = is_lqh e.step.taken.to.block && is_node nodes e.step.taken.to.node
 
-  node_home : (x : node.Node) (to : Place) (body : Body) (at : BlockId) → to.block ≡ at
-      → AreRight x.tc.live → tally (is_keyed tx) x.tc.live ≤ 1 → Each (λ (e : TxId × Transaction). IsOwn x.tc.node x.tc.next_seq e.0) x.tc.live → IsGoodView (start.nodes + 1) x.tc.view
-      → Home x (node_row x at body).state (node_row x at body).effects.sends (came to body)
-  unfolding node_row
-  node_home x to body block.Tc e right once own good some = go ((tc_steps (start.nodes + 1) tx key x.tc body right once own good).asks some)
-    where
-      go : ((1 ≤ asking_at (Node x)) × (answers_of (start.nodes + 1) tx key body ≡ 0)) ⊎ (answers_of (start.nodes + 1) tx key body + 1 ≤ ops (start.nodes + 1) tx key (node_row x block.Tc body).effects.sends)
-          → ((1 ≤ asking_at (Node x)) × (waiting_at (Node x) + came to body ≤ waiting_at (Node (node_row x block.Tc body).state) + ops (start.nodes + 1) tx key (node_row x block.Tc body).effects.sends))
-          ⊎ (came to body + 1 + waiting_at (Node x) ≤ ops (start.nodes + 1) tx key (node_row x block.Tc body).effects.sends + waiting_at (Node (node_row x block.Tc body).state))
-      go (inl had) = inl (had.0, omega (arith, had.1, few_answers to body e))
-      go (inr sent) = inr (omega (arith, sent, few_answers to body e))
-  node_home x to body block.Lqh e right once own good some = inl (some, omega (arith, few_came to body e, lqh_ops (start.nodes + 1) tx key x.lqh body))
-  node_home x to body block.Dih e right once own good some = inl (some, omega (arith, none_came to body (ap is_lqh e) (ap (λ b. is_tc b && (to.node == tx.tc)) e)))
-  node_home x to body _ e right once own good some = inl (some, omega (arith, none_came to body (ap is_lqh e) (ap (λ b. is_tc b && (to.node == tx.tc)) e)))
+    abbrev for_home : Bool
+    for_home = is_tc e.step.taken.to.block && (e.step.taken.to.node == tx.tc)
 
-  -- elsewhere it is kept
-  node_away : (x : node.Node) (to : Place) (body : Body) (at : BlockId) → to.block ≡ at → (to.node == tx.tc) ≡ false
-      → waiting_at (Node x) + came to body ≤ waiting_at (Node (node_row x at body).state) + ops (start.nodes + 1) tx key (node_row x at body).effects.sends
-  unfolding node_row
-  node_away x to body block.Tc e away = omega (arith, none_came to body (ap is_lqh e) (none (is_tc to.block)))
-    where
-      none : (b : Bool) → (b && (to.node == tx.tc)) ≡ false
-      none true = away
-      none false = refl
-  node_away x to body block.Lqh e away = omega (arith, few_came to body e, lqh_ops (start.nodes + 1) tx key x.lqh body)
-  node_away x to body block.Dih e away = omega (arith, none_came to body (ap is_lqh e) (ap (λ b. is_tc b && (to.node == tx.tc)) e))
-  node_away x to body _ e away = omega (arith, none_came to body (ap is_lqh e) (ap (λ b. is_tc b && (to.node == tx.tc)) e))
+    -- it runs the block that an operation of the transaction is for
+    off_rows : has_lqh s ≡ false → (b : Bool) → for_rows ≡ b → for_rows ≡ false
+    off_rows off false q = q
+    off_rows off true q = absurd (true≢false (sym (heard_rows start h log e.step.taken.to addressed_here q) ∙ off))
 
-  abbrev waiting : (ℕ → List LogStep) → ℕ
-  waiting logs = total (start.nodes + 1) (λ h. waiting_at (after start h (logs h)))
+    go_home : for_home ≡ true → h ≡ home start tx
+    go_home q = sym addressed_here ∙ home_place start tx e.step.taken.to q
+
+    off_home : h ≢ home start tx → (b : Bool) → for_home ≡ b → for_home ≡ false
+    off_home away false q = q
+    off_home away true q = absurd (away (go_home q))
+
+    off_tc : has_tc s ≡ false → (b : Bool) → for_home ≡ b → for_home ≡ false
+    off_tc off false q = q
+    off_tc off true q = absurd (true≢false (sym (subst (λ k. has_tc (after start k log) ≡ true) (sym (go_home q)) (tc_runs start tx.tc log some low)) ∙ off))
+
+    idle_came : runs s e.step.taken.to.block ≡ false → c ≡ 0
+    idle_came off = none_came e.step.taken.to e.step.taken.body (of_rows (is_lqh e.step.taken.to.block) refl) (of_tc (is_tc e.step.taken.to.block) refl)
+      where
+        of_rows : (b : Bool) → is_lqh e.step.taken.to.block ≡ b → for_rows ≡ false
+        of_rows false q = ap (λ b. b && is_node nodes e.step.taken.to.node) q
+        of_rows true q = off_rows (idle_unheard s e.step.taken.to.block off q) for_rows refl
+
+        of_tc : (b : Bool) → is_tc e.step.taken.to.block ≡ b → for_home ≡ false
+        of_tc false q = ap (λ b. b && (e.step.taken.to.node == tx.tc)) q
+        of_tc true q = off_tc (idle_tc s e.step.taken.to.block off q) for_home refl
+
+    -- at a block of others none came
+    other_came : is_lqh e.step.taken.to.block ≡ false → is_tc e.step.taken.to.block ≡ false → c ≡ 0
+    other_came p q = none_came e.step.taken.to e.step.taken.body (ap (λ b. b && is_node nodes e.step.taken.to.node) p) (ap (λ b. b && (e.step.taken.to.node == tx.tc)) q)
+
+    -- it is kept
+    abbrev IsKeptOp : Type 0
+    IsKeptOp = waiting_at s + c ≤ waiting_at t.state + ops nodes tx key t.effects.sends
+
+    -- by all blocks but a coordinator
+    rows_same : lqh_of t.state ≡ lqh_of s → c ≡ 0 → IsKeptOp
+    rows_same same none = omega (arith, none, ap (λ (l : LqhState). tally (λ (r : Request). is_mine nodes tx key r) l.waiting) same)
+
+    rows_kept : IsRowsStep s e.step.taken t → IsKeptOp
+    rows_kept step =
+        omega (
+          arith,
+          few_came e.step.taken.to e.step.taken.body step.at,
+          lqh_ops nodes tx key (lqh_of s) e.step.taken.body,
+          ap (λ (l : LqhState). tally (λ (r : Request). is_mine nodes tx key r) l.waiting) step.state,
+          ap (λ f. ops nodes tx key f.sends) step.effects,
+        )
+
+    other_kept : (u : Step host.Host) → u ≡ t → BlockCase s e.step.taken u → IsTcStep s e.step.taken t ⊎ (IsKeptOp × (tc_of t.state ≡ tc_of s))
+    other_kept u is (tc_takes step) = inl (subst (IsTcStep s e.step.taken) is step)
+    other_kept u is (rows_take step) = let own = subst (IsRowsStep s e.step.taken) is step in inr (rows_kept own, own.tc)
+    other_kept u is (api_takes step) = let own = subst (IsApiStep s e.step.taken) is step in inr (rows_same own.rows (other_came (ap is_lqh own.at) (ap is_tc own.at)), own.tc)
+    other_kept u is (dih_takes step) = let own = subst (IsDihStep s e.step.taken) is step in inr (rows_same own.rows (other_came (ap is_lqh own.at) (ap is_tc own.at)), own.tc)
+    other_kept u is (none_takes step) =
+        let own = subst (IsIdleStep s e.step.taken) is step in
+        inr (rows_same (ap (λ (v : Step host.Host). lqh_of v.state) own.is) (idle_came own.runs), ap (λ (v : Step host.Host). tc_of v.state) own.is)
+
+    -- elsewhere than at home it is kept
+    step_away : h ≢ home start tx → IsKeptOp
+    step_away away = go (other_kept t refl (block_case s e.step.taken))
+      where
+        go : IsTcStep s e.step.taken t ⊎ (IsKeptOp × (tc_of t.state ≡ tc_of s)) → IsKeptOp
+        go (inl step) = rows_same step.rows (none_came e.step.taken.to e.step.taken.body (ap (λ b. is_lqh b && is_node nodes e.step.taken.to.node) step.at) (off_home away _ refl))
+        go (inr other) = other.0
+
+    -- at home what the transaction asks it asked before, and it is kept, or it was sent
+    abbrev Home : Type 0
+    Home = ((1 ≤ asking_at s) × IsKeptOp) ⊎ (c + 1 + waiting_at s ≤ ops nodes tx key t.effects.sends + waiting_at t.state)
+
+    step_home : 1 ≤ asking_at t.state → Home
+    step_home asks = go (other_kept t refl (block_case s e.step.taken))
+      where
+        at_tc_step : (step : IsTcStep s e.step.taken t)
+            → ((1 ≤ asking_at s) × (answers_of nodes tx key e.step.taken.body ≡ 0)) ⊎ (answers_of nodes tx key e.step.taken.body + 1 ≤ ops nodes tx key (tc_table (tc_of s) e.step.taken.body).effects.sends) → Home
+        at_tc_step step (inl had) =
+            inl (had.0, rows_same step.rows (omega (arith, had.1, few_answers e.step.taken.to e.step.taken.body step.at)))
+        at_tc_step step (inr sent) =
+            inr (omega (
+              arith,
+              sent,
+              few_answers e.step.taken.to e.step.taken.body step.at,
+              ap (λ f. ops nodes tx key f.sends) step.effects,
+              ap (λ (l : LqhState). tally (λ (r : Request). is_mine nodes tx key r) l.waiting) step.rows,
+            ))
+
+        go : IsTcStep s e.step.taken t ⊎ (IsKeptOp × (tc_of t.state ≡ tc_of s)) → Home
+        go (inl step) =
+            at_tc_step step ((turn h log e.step.taken.body step.runs (right_after h log)).asks (subst (λ (u : TcState). 1 ≤ tally (is_asking nodes tx key) u.live) step.state asks))
+        go (inr other) = inl (subst (λ (u : TcState). 1 ≤ tally (is_asking nodes tx key) u.live) other.1 asks, other.0)
+
+  abbrev waiting : (ℕ → List HostStep) → ℕ
+  waiting logs = total (hosts start) (λ h. waiting_at (after start h (logs h)))
+
+  abbrev taken_ops : (ℕ → List HostStep) → ℕ
+  taken_ops logs = taken_all start (hosts start) (is_op nodes tx key) logs
+
+  abbrev sent_ops : (ℕ → List HostStep) → ℕ
+  sent_ops logs = sent_all start (hosts start) (is_op nodes tx key) logs
 
   -- where the transaction asks, something is on its way or waits
-  abbrev IsUnderWay : (ℕ → List LogStep) → Type 0
-  IsUnderWay logs =
-      1 ≤ asking_at (after start tx.tc (logs tx.tc))
-      → taken_all start (start.nodes + 1) (is_op (start.nodes + 1) tx key) logs + 1 ≤ sent_all start (start.nodes + 1) (is_op (start.nodes + 1) tx key) logs + waiting logs
+  abbrev IsUnderWay : (ℕ → List HostStep) → Type 0
+  IsUnderWay logs = 1 ≤ asking_at (after start (home start tx) (logs (home start tx))) → taken_ops logs + 1 ≤ sent_ops logs + waiting logs
 
-  -- such signals go to the hosts below n
-  op_low : tx.tc < start.nodes + 1 → (to : Place) (body : Body) → is_op (start.nodes + 1) tx key to body ≡ true → to.node < start.nodes + 1
-  op_low low to (Chain (LqhKeyReq other what chain at)) e =
-      grind (arith, nat_tests, right_of (nat_lt 0 to.node) (nat_lt to.node (start.nodes + 1)) (right_of (is_lqh to.block) (is_node (start.nodes + 1) to.node) (left_of (is_lqh to.block && is_node (start.nodes + 1) to.node) _ e)))
-  op_low low to (Chain (LqhKeyConf other at answer)) e =
-      omega (arith, low, eqb-true to.node tx.tc (right_of (is_tc to.block) (to.node == tx.tc) (left_of (is_tc to.block && (to.node == tx.tc)) _ e)))
-  op_low low to (Chain (LqhKeyRef other at why)) e =
-      omega (arith, low, eqb-true to.node tx.tc (right_of (is_tc to.block) (to.node == tx.tc) (left_of (is_tc to.block && (to.node == tx.tc)) _ e)))
-  op_low low to _ e = cc
-
-  taken_few : (logs : ℕ → List LogStep) → AreLogs (machine start) logs
-      → taken_all start (start.nodes + 1) (is_op (start.nodes + 1) tx key) logs ≤ sent_all start (start.nodes + 1) (is_op (start.nodes + 1) tx key) logs
-  taken_few logs right =
-      total_le (start.nodes + 1) _ _ (λ i low. total_le (start.nodes + 1) _ _ (λ j under. tally_past (λ (x : Signal). is_op (start.nodes + 1) tx key x.to x.body) (given_past start i j (logs i) (taken (machine start) i (logs j)) (right.linked i j))))
+  -- such signals go to hosts that are there
+  op_low : (to : Place) (body : Body) → is_op nodes tx key to body ≡ true → host_for start to < hosts start
+  op_low to (Chain (LqhKeyReq other what chain at)) e =
+      reaches start to (grind (arith, nat_tests, right_of (nat_lt 0 to.node) (nat_lt to.node nodes) (right_of (is_lqh to.block) (is_node nodes to.node) (left_of (is_lqh to.block && is_node nodes to.node) _ e))))
+  op_low to (Chain (LqhKeyConf other at answer)) e =
+      reaches start to (omega (arith, low, eqb-true to.node tx.tc (right_of (is_tc to.block) (to.node == tx.tc) (left_of (is_tc to.block && (to.node == tx.tc)) _ e))))
+  op_low to (Chain (LqhKeyRef other at why)) e =
+      reaches start to (omega (arith, low, eqb-true to.node tx.tc (right_of (is_tc to.block) (to.node == tx.tc) (left_of (is_tc to.block && (to.node == tx.tc)) _ e))))
+  op_low to _ e = cc
 
   -- a step keeps that
-  step_next : tx.tc < start.nodes + 1 → (logs now : ℕ → List LogStep) (e : LogStep) (h : ℕ) → e.taken.to.node ≡ h → h < start.nodes + 1 → AreLogs (machine start) logs
-      → Grown start (start.nodes + 1) (is_op (start.nodes + 1) tx key) logs now h e → IsUnderWay logs → IsUnderWay now
-  step_next low logs now e zero at under right grown way some = by (cases_eq tx.tc 0)
+  step_next : (logs now : ℕ → List HostStep) (h : ℕ) (e : HostStep) → Goes start logs now h e → IsUnderWay logs → IsUnderWay now
+  step_next logs now h e g way asks = by (cases_eq h (home start tx))
     where
-      w_now : waiting_at (after start 0 (now 0)) ≡ 0
-      w_now = ap waiting_at (shell_after start (now 0)).is
+      here : host_for start e.step.taken.to ≡ h
+      here = addressed start logs now h e g
 
-      w_old : waiting_at (after start 0 (logs 0)) ≡ 0
-      w_old = ap waiting_at (shell_after start (logs 0)).is
+      grown : Grown start (hosts start) (is_op nodes tx key) logs now h e
+      grown = record { own = g.own; others = g.others }
 
-      by : (tx.tc ≡ 0) ⊎ (tx.tc ≢ 0)
-          → taken_all start (start.nodes + 1) (is_op (start.nodes + 1) tx key) now + 1 ≤ sent_all start (start.nodes + 1) (is_op (start.nodes + 1) tx key) now + waiting now
-      by (inl zero_tc) =
-          absurd (omega (arith, some, ap (λ k. asking_at (after start k (now k))) zero_tc, ap asking_at (shell_after start (now 0)).is))
-      by (inr differs) =
+      w_now : waiting_at (after start h (now h)) ≡ waiting_at (step_after start h (logs h) e).state
+      w_now = ap (λ log. waiting_at (after start h log)) g.own
+
+      total_now : waiting now + waiting_at (after start h (logs h)) ≡ waiting logs + waiting_at (after start h (now h))
+      total_now = total_one (hosts start) (λ k. waiting_at (after start k (logs k))) (λ k. waiting_at (after start k (now k))) h g.low (λ k differs. ap (λ log. waiting_at (after start k log)) (g.others k differs))
+
+      more : sent_ops now ≡ sent_ops logs + ops nodes tx key (step_after start h (logs h) e).effects.sends
+      more = sent_more start (hosts start) (is_op nodes tx key) op_low logs now h e g.low grown
+
+      took : taken_ops now ≤ taken_ops logs + came e.step.taken.to e.step.taken.body
+      took = taken_more start (hosts start) (is_op nodes tx key) logs now h e g.low grown
+
+      by : (h ≡ home start tx) ⊎ (h ≢ home start tx) → taken_ops now + 1 ≤ sent_ops now + waiting now
+      by (inr away) =
           omega (
             arith,
-            way (subst (λ log. 1 ≤ asking_at (after start tx.tc log)) (grown.others tx.tc differs) some),
-            shell_none e.taken.to e.taken.body at differs,
+            way (subst (λ log. 1 ≤ asking_at (after start (home start tx) log)) (g.others (home start tx) (λ same. away (sym same))) asks),
+            step_away h (logs h) e here away,
             w_now,
-            w_old,
-            sent_more start (start.nodes + 1) (is_op (start.nodes + 1) tx key) (op_low low) logs now 0 e under grown,
-            taken_more start (start.nodes + 1) (is_op (start.nodes + 1) tx key) logs now 0 e under grown,
-            total_one (start.nodes + 1) (λ k. waiting_at (after start k (logs k))) (λ k. waiting_at (after start k (now k))) 0 under (λ k differs. ap (λ log. waiting_at (after start k log)) (grown.others k differs)),
-          )
-  step_next low logs now e (suc h) at under right grown way some = by (cases_eq tx.tc (suc h))
-    where
-      x : NodeIs h (logs (suc h))
-      x = node_is h (logs (suc h))
-
-      next : node.Node
-      next = (node_row x.state e.taken.to.block e.taken.body).state
-
-      sends : List Outgoing
-      sends = (node_row x.state e.taken.to.block e.taken.body).effects.sends
-
-      w_old : waiting_at (after start (suc h) (logs (suc h))) ≡ waiting_at (Node x.state)
-      w_old = ap waiting_at x.is
-
-      now_is : after start (suc h) (now (suc h)) ≡ Node next
-      now_is = ap (after start (suc h)) grown.own ∙ row_state e.taken.to e.taken.body (after start (suc h) (logs (suc h))) x.state x.is
-
-      w_now : waiting_at (after start (suc h) (now (suc h))) ≡ waiting_at (Node next)
-      w_now = ap waiting_at now_is
-
-      sent_now : sends_of (is_op (start.nodes + 1) tx key) (step_after start (suc h) (logs (suc h)) e).effects.sends ≡ ops (start.nodes + 1) tx key sends
-      sent_now = ap (sends_of (is_op (start.nodes + 1) tx key)) (row_effects e.taken.to e.taken.body (after start (suc h) (logs (suc h))) x.state x.is)
-
-      total_now : waiting now + waiting_at (after start (suc h) (logs (suc h))) ≡ waiting logs + waiting_at (after start (suc h) (now (suc h)))
-      total_now = total_one (start.nodes + 1) (λ k. waiting_at (after start k (logs k))) (λ k. waiting_at (after start k (now k))) (suc h) under (λ k differs. ap (λ log. waiting_at (after start k log)) (grown.others k differs))
-
-      by : (tx.tc ≡ suc h) ⊎ (tx.tc ≢ suc h)
-          → taken_all start (start.nodes + 1) (is_op (start.nodes + 1) tx key) now + 1 ≤ sent_all start (start.nodes + 1) (is_op (start.nodes + 1) tx key) now + waiting now
-      by (inr differs) =
-          omega (
-            arith,
-            way (subst (λ log. 1 ≤ asking_at (after start tx.tc log)) (grown.others tx.tc differs) some),
-            node_away x.state e.taken.to e.taken.body e.taken.to.block refl (other (e.taken.to.node == tx.tc) refl),
-            w_now,
-            w_old,
-            sent_now,
             total_now,
-            sent_more start (start.nodes + 1) (is_op (start.nodes + 1) tx key) (op_low low) logs now (suc h) e under grown,
-            taken_more start (start.nodes + 1) (is_op (start.nodes + 1) tx key) logs now (suc h) e under grown,
+            more,
+            took,
           )
+      by (inl same) = which (step_home h (logs h) e here (subst (λ log. 1 ≤ asking_at (after start h log)) g.own (subst (λ k. 1 ≤ asking_at (after start k (now k))) (sym same) asks)))
         where
-          other : (b : Bool) → (e.taken.to.node == tx.tc) ≡ b → (e.taken.to.node == tx.tc) ≡ false
-          other false q = q
-          other true q = absurd (differs (sym (eqb-true e.taken.to.node tx.tc q) ∙ at))
-      by (inl same) = which (node_home x.state e.taken.to e.taken.body e.taken.to.block refl x.right x.once x.own (subst (IsGoodView (start.nodes + 1)) (sym x.view) good_view) asks_now)
-        where
-          asks_now : 1 ≤ asking_at (Node next)
-          asks_now = subst (λ g. 1 ≤ asking_at g) now_is (subst (λ k. 1 ≤ asking_at (after start k (now k))) same some)
-
-          which : ((1 ≤ asking_at (Node x.state)) × (waiting_at (Node x.state) + came e.taken.to e.taken.body ≤ waiting_at (Node next) + ops (start.nodes + 1) tx key sends))
-              ⊎ (came e.taken.to e.taken.body + 1 + waiting_at (Node x.state) ≤ ops (start.nodes + 1) tx key sends + waiting_at (Node next))
-              → taken_all start (start.nodes + 1) (is_op (start.nodes + 1) tx key) now + 1 ≤ sent_all start (start.nodes + 1) (is_op (start.nodes + 1) tx key) now + waiting now
-          which (inl had) =
-              let before : 1 ≤ asking_at (after start tx.tc (logs tx.tc)) = subst (λ k. 1 ≤ asking_at (after start k (logs k))) (sym same) (subst (λ g. 1 ≤ asking_at g) (sym x.is) had.0) in
-              omega (
-                arith,
-                way before,
-                had.1,
-                w_now,
-                w_old,
-                sent_now,
-                total_now,
-                sent_more start (start.nodes + 1) (is_op (start.nodes + 1) tx key) (op_low low) logs now (suc h) e under grown,
-                taken_more start (start.nodes + 1) (is_op (start.nodes + 1) tx key) logs now (suc h) e under grown,
-              )
-          which (inr sent) =
-              omega (
-                arith,
-                sent,
-                taken_few logs right,
-                w_now,
-                w_old,
-                sent_now,
-                total_now,
-                sent_more start (start.nodes + 1) (is_op (start.nodes + 1) tx key) (op_low low) logs now (suc h) e under grown,
-                taken_more start (start.nodes + 1) (is_op (start.nodes + 1) tx key) logs now (suc h) e under grown,
-              )
+          which : Home h (logs h) e here → taken_ops now + 1 ≤ sent_ops now + waiting now
+          which (inl had) = omega (arith, way (subst (λ k. 1 ≤ asking_at (after start k (logs k))) same had.0), had.1, w_now, total_now, more, took)
+          which (inr sent) = omega (arith, sent, flow_few start (is_op nodes tx key) logs g.before, w_now, total_now, more, took)
 
   -- along a run
-  start_way : IsUnderWay (log_of (machine start) [])
-  start_way some = none tx.tc refl
-    where
-      none : (h : ℕ) → tx.tc ≡ h
-          → taken_all start (start.nodes + 1) (is_op (start.nodes + 1) tx key) (log_of (machine start) []) + 1 ≤ sent_all start (start.nodes + 1) (is_op (start.nodes + 1) tx key) (log_of (machine start) []) + waiting (log_of (machine start) [])
-      none zero at = absurd (omega (arith, some, ap (λ k. asking_at (after start k [])) at, ap asking_at (shell_after start []).is))
-      none (suc h) at = absurd (omega (arith, some, ap (λ k. asking_at (after start k [])) at, fresh_asks h))
-
-  logs_way : tx.tc < start.nodes + 1 → (logs : ℕ → List LogStep) → IsWithin (start.nodes + 1) logs → AreLogs (machine start) logs → IsUnderWay logs
-  logs_way low logs in_n right =
-      along start IsUnderWay start_way (λ logs now h e g way. step_next low logs now e h g.at g.low g.before (record { own = g.own; others = g.others }) way) logs in_n right
+  logs_way : (logs : ℕ → List HostStep) → IsWithin (hosts start) logs → AreLogs (machine start) logs → IsUnderWay logs
+  logs_way logs in_n right =
+      along start IsUnderWay (λ asks. absurd (omega (arith, asks, ap (tally (is_asking nodes tx key)) (first_live start (home start tx))))) step_next logs in_n right
 
   -- at quiet
-  module _ (logs : ℕ → List LogStep) (quiet : AreQuiet start logs) where
-    all_taken : taken_all start (start.nodes + 1) (is_op (start.nodes + 1) tx key) logs ≡ sent_all start (start.nodes + 1) (is_op (start.nodes + 1) tx key) logs
+  module _ (logs : ℕ → List HostStep) (quiet : AreQuiet start logs) where
+    all_taken : taken_ops logs ≡ sent_ops logs
     all_taken =
-        total_same (start.nodes + 1) _ _ (λ i low. total_same (start.nodes + 1) _ _ (λ j under. ap (signals (is_op (start.nodes + 1) tx key)) (quiet.quiet i j low under)))
+        total_same (hosts start) _ _ (λ i low. total_same (hosts start) _ _ (λ j under. ap (signals (is_op nodes tx key)) (quiet.quiet i j low under)))
 
     -- some request of the transaction for the key waits
     waits_somewhere : 1 ≤ waiting logs → Waits start logs tx key
-    waits_somewhere some = at w.at refl
+    waits_somewhere some = record {
+      node = of.node;
+      from = of.some;
+      to = of.low;
+      there = subst (λ h. IsWaitingAt tx key (after start h (logs h))) of.is waits;
+    }
       where
-        w : IsSome (start.nodes + 1) (λ h. waiting_at (after start h (logs h)))
-        w = total_some (start.nodes + 1) (λ h. waiting_at (after start h (logs h))) some
+        w : IsSome (hosts start) (λ h. waiting_at (after start h (logs h)))
+        w = total_some (hosts start) (λ h. waiting_at (after start h (logs h))) some
 
-        at : (h : ℕ) → w.at ≡ h → Waits start logs tx key
-        at zero is = absurd (omega (arith, w.some, ap (λ k. waiting_at (after start k (logs k))) is, ap waiting_at (shell_after start (logs 0)).is))
-        at (suc h) is = record { node = suc h; from = omega arith; to = omega (arith, w.low, is); there = subst (λ g. IsWaitingAt tx key g) (sym x.is) (here (counted (λ (r : Request). is_mine (start.nodes + 1) tx key r) x.state.lqh.waiting there)) }
-          where
-            x : NodeIs h (logs (suc h))
-            x = node_is h (logs (suc h))
+        on : (b : Bool) → has_lqh (after start w.at (logs w.at)) ≡ b → has_lqh (after start w.at (logs w.at)) ≡ true
+        on true q = q
+        on false q = absurd (omega (arith, w.some, ap (tally (λ (r : Request). is_mine nodes tx key r)) (no_waiting (after start w.at (logs w.at)) q)))
 
-            there : 1 ≤ waiting_at (Node x.state)
-            there = omega (arith, w.some, ap (λ k. waiting_at (after start k (logs k))) is, ap waiting_at x.is)
+        of : IsNodes start (rows_host start) w.at
+        of = rows_found start w.at (logs w.at) w.low (on (has_lqh (after start w.at (logs w.at))) refl)
 
-            here : Counted (λ (r : Request). is_mine (start.nodes + 1) tx key r) x.state.lqh.waiting → IsWaitingAt tx key (Node x.state)
-            here c =
-                let rest = right_of (same_tx c.item.tx tx) (same_key (work_key c.item.work) key && is_good (start.nodes + 1) c.item.chain) c.passes in
-                record {
-                  request = c.item;
-                  waits = c.inside;
-                  own = same_tx-is c.item.tx tx (left_of (same_tx c.item.tx tx) (same_key (work_key c.item.work) key && is_good (start.nodes + 1) c.item.chain) c.passes);
-                  on = same_key-is (work_key c.item.work) key (left_of (same_key (work_key c.item.work) key) (is_good (start.nodes + 1) c.item.chain) rest);
-                }
+        found : Counted (λ (r : Request). is_mine nodes tx key r) (lqh_of (after start w.at (logs w.at))).waiting
+        found = counted (λ (r : Request). is_mine nodes tx key r) (lqh_of (after start w.at (logs w.at))).waiting w.some
 
-    asked_waits : (h : ℕ) (t : Transaction) (asked : Asked) → h ≤ start.nodes → IsLiveAs tx t (after start h (logs h)) → t.asked ≡ Some asked → key_of asked.op ≡ key → Waits start logs tx key
-    asked_waits zero t asked low live is on = absurd (subst (λ g. IsLiveAs tx t g) (shell_after start (logs 0)).is live)
-    asked_waits (suc h) t asked low live is on =
-        waits_somewhere (omega (arith, all_taken, logs_way home_low logs quiet.within quiet.right asks))
+        waits : IsWaitingAt tx key (after start w.at (logs w.at))
+        waits =
+            let rest = right_of (same_tx found.item.tx tx) (same_key (work_key found.item.work) key && is_good nodes found.item.chain) found.passes in
+            record {
+              request = found.item;
+              waits = found.inside;
+              own = same_tx-is found.item.tx tx (left_of (same_tx found.item.tx tx) (same_key (work_key found.item.work) key && is_good nodes found.item.chain) found.passes);
+              on = same_key-is (work_key found.item.work) key (left_of (same_key (work_key found.item.work) key) (is_good nodes found.item.chain) rest);
+            }
+
+    asked_waits : (t : Transaction) (asked : Asked) → IsLiveAs tx t (after start (home start tx) (logs (home start tx))) → t.asked ≡ Some asked → key_of asked.op ≡ key → Waits start logs tx key
+    asked_waits t asked live is on =
+        waits_somewhere (omega (arith, all_taken, logs_way logs quiet.within quiet.right asks))
       where
-        x : NodeIs h (logs (suc h))
-        x = node_is h (logs (suc h))
-
-        inside : IsIn (tx, t) x.state.tc.live
-        inside = subst (λ g. IsLiveAs tx t g) x.is live
-
-        number : x.state.tc.node ≡ suc h
-        number =
-            let y = node_after start h (logs (suc h)) in
-            ap (λ (z : node.Node). z.tc.node) (same_node x.state y.state (sym x.is ∙ y.is)) ∙ y.number
-
-        home : tx.tc ≡ suc h
-        home = (each_in (λ (e : TxId × Transaction). IsOwn x.state.tc.node x.state.tc.next_seq e.0) (tx, t) x.state.tc.live x.own inside).home ∙ number
-
-        home_low : tx.tc < start.nodes + 1
-        home_low = omega (arith, home, low)
-
-        passes : is_asking (start.nodes + 1) tx key (tx, t) ≡ true
+        passes : is_asking nodes tx key (tx, t) ≡ true
         passes =
             true_and (same_tx tx tx) (asks_key key t.asked) (same_tx-self tx)
             (ap (asks_key key) is ∙ (ap (λ k. same_key k key) on ∙ same_key-self key))
 
-        asks : 1 ≤ asking_at (after start tx.tc (logs tx.tc))
-        asks =
-            subst (λ k. 1 ≤ asking_at (after start k (logs k))) (sym home)
-            (subst (λ g. 1 ≤ asking_at g) (sym x.is) (tally_in (is_asking (start.nodes + 1) tx key) (tx, t) x.state.tc.live inside passes))
+        asks : 1 ≤ asking_at (after start (home start tx) (logs (home start tx)))
+        asks = tally_in (is_asking nodes tx key) (tx, t) (tc_of (after start (home start tx) (logs (home start tx)))).live live passes
 
 pub operations_wait : EachOperationWaits
-operations_wait start logs h tx t asked quiet low live is = asked_waits start quiet.some tx (key_of asked.op) logs quiet h t asked low live is refl
+operations_wait start logs h tx t asked quiet low live is =
+    let home = at_home start tx h (logs h) t low (live_tx start tx h (logs h) t live) in
+    asked_waits start quiet.shape tx (key_of asked.op) home.some home.low logs quiet t asked (subst (λ k. IsLiveAs tx t (after start k (logs k))) home.is live) is refl

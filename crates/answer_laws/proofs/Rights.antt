@@ -1,8 +1,8 @@
 -- A transaction that has an operation unanswered isn't decided.
-use Rattle.std.proofs.Common.{◌≡◌, ℕ, suc, List, true, false, refl, ap, sym, ◌∙◌}
+use Rattle.std.proofs.Common.{◌≡◌, ℕ, List, true, false, refl, ap, sym, ◌∙◌}
 use Rattle.std.specs.Prelude.{◌-◌, length, Option, None, Some}
 use Rattle.std.proofs.lemmas.Bool.{false≢true}
-use Rattle.sig_core.specs.declared.log.LogStep.{LogStep}
+use Rattle.world_core.specs.Steps.{HostStep}
 use Rattle.sig_core.specs.declared.member.TxId.{TxId}
 use Rattle.sig_core.specs.declared.signal.Body.{Body}
 use Rattle.tc_block.specs.declared.phase.Asked.{Asked}
@@ -17,11 +17,11 @@ use Rattle.tc_block.specs.Turn.{Turn}
 use Rattle.world_core.specs.Machine.{after}
 use Rattle.world_core.specs.Start.{Start}
 use Rattle.tc_block.specs.Phases.{is_decided}
-use Rattle.answer_laws.proofs.Ahead.{tx_at}
-use Rattle.answer_laws.proofs.Always.{always}
-use Rattle.answer_laws.proofs.TcOps.{is_right, may_ask}
-use Rattle.answer_laws.proofs.TcTurns.{IsCommitted, TurnMove, abort_ends, aborted, aborts, all_completed, answers, asks, at_last, at_once, commits, committed, completed, completes, decides, ends, gives_up, goes_on, keeps, late}
-use Rattle.answer_laws.specs.Answered.{is_committing}
+use Rattle.run_laws.proofs.AlongSteps.{tx_at}
+use Rattle.run_laws.proofs.Always.{always}
+use Rattle.host_laws.proofs.TcOps.{is_right, may_ask}
+use Rattle.host_laws.proofs.TcTurns.{IsCommitted, TurnMove, abort_ends, aborted, aborts, all_completed, answers, asks, at_last, at_once, commits, committed, completed, completes, decides, ends, gives_up, goes_on, keeps, late}
+use Rattle.host_laws.specs.Phases.{is_committing}
 
 right_may : (o : Option Asked) (phase : Phase) → may_ask phase ≡ true → is_right o phase ≡ true
 right_may None phase e = refl
@@ -57,7 +57,7 @@ turn_right s tx t body turn move over r = go move
     go (answers key a asked about p q is) = as_is _ is refl
     go (late key asked about p q is) = as_is _ is refl
     go (decides about p q is) = as_is _ is (ap (λ o. is_right o Verifying) q)
-    go (aborts w why gives some is) = as_is _ is (right_may w.asked (Aborting why (is_verifying w.phase) (aborts_awaited s.view w)) refl)
+    go (aborts w why gives some is) = as_is _ is (right_may w.asked (Aborting why (is_verifying w.phase) (aborts_awaited s.layout w)) refl)
     go (gives_up w why gives is none) = absurd (false≢true (sym over ∙ ap (λ (x : Turn). x.over) is))
     go (aborted key why v k about p low is) = as_is _ is (right_may t.asked (Aborting why v (k - 1)) refl)
     go (abort_ends key why v k about p low is) = as_is _ is r
@@ -69,12 +69,12 @@ turn_right s tx t body turn move over r = go move
     go (all_completed epoch k p is) = as_is _ is r
 
 -- such a transaction is open, or is aborted
-pub asked_may : (start : Start) (tx : TxId) (h : ℕ) (log : List LogStep) (t : Transaction) → tx_at tx (after start (suc h) log) ≡ Some t → is_right t.asked t.phase ≡ true
+pub asked_may : (start : Start) (tx : TxId) (h : ℕ) (log : List HostStep) (t : Transaction) → tx_at tx (after start h log) ≡ Some t → is_right t.asked t.phase ≡ true
 asked_may start tx h =
     always start tx h (λ t. is_right t.asked t.phase ≡ true)
-    (record { begins = refl; turns = λ s t body turn number view move over r. turn_right s tx t body turn move over r })
+    (record { begins = refl; turns = λ s t body turn layout move over r. turn_right s tx t body turn move over r })
 
-pub asked_undecided : (start : Start) (tx : TxId) (h : ℕ) (log : List LogStep) (t : Transaction) (asked : Asked) → tx_at tx (after start (suc h) log) ≡ Some t → t.asked ≡ Some asked → is_decided t.phase ≡ false
+pub asked_undecided : (start : Start) (tx : TxId) (h : ℕ) (log : List HostStep) (t : Transaction) (asked : Asked) → tx_at tx (after start h log) ≡ Some t → t.asked ≡ Some asked → is_decided t.phase ≡ false
 asked_undecided start tx h log t asked at is = by t.phase (ap (λ o. is_right o t.phase) (sym is) ∙ asked_may start tx h log t at)
   where
     by : (phase : Phase) → may_ask phase ≡ true → is_decided phase ≡ false

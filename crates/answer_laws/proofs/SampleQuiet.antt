@@ -1,63 +1,79 @@
 -- The sample is quiet: each part computes.
 use Rattle.std.proofs.Common.{◌≡◌, ℕ, zero, suc, ◌≤◌, [], ◌∷◌, Bool, true, false, refl, sym, inl, arith}
+use Rattle.std.specs.Prelude.{◌==◌, Some, if◌then◌else◌}
 use Rattle.std.proofs.lemmas.Bool.Decides.{nat_tests}
 use Rattle.api_block.specs.Api.{request_row}
 use Rattle.api_block.specs.Commands.{begin_row}
 use Rattle.api_block.specs.Operate.{begun_row}
-use Rattle.node_core.specs.Fresh.{begun_node, fresh_node, fresh_shell}
-use Rattle.node_core.specs.Row.{node_row, row, shell_row}
+use Rattle.node_core.specs.Fresh.{fresh_part, fresh_shell}
+use Rattle.node_core.specs.Row.{row, shell_row, tc_part_row}
 use Rattle.run_theory.specs.Links.{sent, taken}
 use Rattle.run_theory.specs.Logs.{IsLog}
 use Rattle.sig_core.specs.declared.request.ApiReq.TheVariants.{Begin}
-use Rattle.sig_core.specs.declared.signal.Signal.{Signal}
-use Rattle.std.specs.Prelude.{◌==◌, Some, if◌then◌else◌}
 use Rattle.tc_block.specs.Tc as tc
+use Rattle.world_core.specs.Hosts.{receiver, started}
 use Rattle.world_core.specs.Machine.{machine}
-use Rattle.world_core.specs.Start.{fresh}
-use Rattle.answer_laws.specs.Answered.{opened_after}
-use Rattle.answer_laws.specs.Sample.{SampleIsQuiet, sample, seventh}
+use Rattle.world_core.specs.Steps.{Addressed}
+use Rattle.host_laws.specs.Opened.{opened_after}
+use Rattle.answer_laws.specs.Sample.{SampleIsQuiet, lone, sample, seventh}
 
-local : (h : ℕ) → IsLog (machine (fresh 1)) h (sample h)
-unfolding row shell_row request_row begin_row begun_row node_row tc.begin_row fresh_shell fresh_node begun_node
+local : (h : ℕ) → IsLog (machine lone) h (sample h)
+unfolding receiver started row shell_row request_row begin_row begun_row tc_part_row tc.begin_row fresh_shell fresh_part
 local zero = (
   record { at = refl; stamped = refl; runs = refl; fits = record { marks = refl; asked = tt } },
   (record { at = refl; stamped = refl; runs = tt; fits = record { marks = refl; asked = record { request = Begin 7 (Some 1); shell = refl; is = refl } } }, tt),
 )
-local (suc zero) = (record { at = refl; stamped = refl; runs = tt; fits = record { marks = refl; asked = tt } }, tt)
-local (suc (suc h)) = tt
+local (suc zero) = tt
+local (suc (suc zero)) = (record { at = refl; stamped = refl; runs = tt; fits = record { marks = refl; asked = tt } }, tt)
+local (suc (suc (suc h))) = tt
 
 -- nothing passes a test that fails
-none : (b : Bool) (x : Signal) → b ≡ false → [] ≡ (if b then x ∷ [] else [])
+none : (b : Bool) (x : Addressed) → b ≡ false → [] ≡ (if b then x ∷ [] else [])
 none true x e = cc
 none false x e = refl
 
-linked : (i j : ℕ) → taken (machine (fresh 1)) i (sample j) ≡ sent (machine (fresh 1)) i j (sample i)
-unfolding row shell_row request_row begin_row begun_row node_row tc.begin_row fresh_shell fresh_node begun_node
+linked : (i j : ℕ) → taken (machine lone) i (sample j) ≡ sent (machine lone) i j (sample i)
+unfolding receiver started row shell_row request_row begin_row begun_row tc_part_row tc.begin_row fresh_shell fresh_part
 linked zero zero = refl
 linked zero (suc zero) = refl
-linked zero (suc (suc j)) = none (1 == suc (suc j)) _ (grind (arith, nat_tests))
+linked zero (suc (suc zero)) = refl
+linked zero (suc (suc (suc j))) = none (2 == suc (suc (suc j))) _ (grind (arith, nat_tests))
 linked (suc zero) zero = refl
 linked (suc zero) (suc zero) = refl
-linked (suc zero) (suc (suc j)) = none (0 == suc (suc j)) _ (grind (arith, nat_tests))
-linked (suc (suc i)) zero = sym (none (1 == suc (suc i)) _ (grind (arith, nat_tests)))
-linked (suc (suc i)) (suc zero) = sym (none (0 == suc (suc i)) _ (grind (arith, nat_tests)))
-linked (suc (suc i)) (suc (suc j)) = refl
+linked (suc zero) (suc (suc zero)) = refl
+linked (suc zero) (suc (suc (suc j))) = refl
+linked (suc (suc zero)) zero = refl
+linked (suc (suc zero)) (suc zero) = refl
+linked (suc (suc zero)) (suc (suc zero)) = refl
+linked (suc (suc zero)) (suc (suc (suc j))) = none (0 == suc (suc (suc j))) _ (grind (arith, nat_tests))
+linked (suc (suc (suc i))) zero = sym (none (2 == suc (suc (suc i))) _ (grind (arith, nat_tests)))
+linked (suc (suc (suc i))) (suc zero) = refl
+linked (suc (suc (suc i))) (suc (suc zero)) = sym (none (0 == suc (suc (suc i))) _ (grind (arith, nat_tests)))
+linked (suc (suc (suc i))) (suc (suc (suc j))) = refl
 
 -- the transaction that is open
-opened : opened_after (fresh 1) sample ≡ seventh ∷ []
-unfolding row shell_row request_row begin_row begun_row node_row tc.begin_row fresh_shell fresh_node begun_node
+opened : opened_after lone sample ≡ seventh ∷ []
+unfolding receiver started row shell_row request_row begin_row begun_row tc_part_row tc.begin_row fresh_shell fresh_part
 opened = refl
 
-within : (h : ℕ) → 2 ≤ h → sample h ≡ []
+within : (h : ℕ) → 4 ≤ h → sample h ≡ []
 within zero high = absurd (omega (arith, high))
-within (suc zero) high = absurd (omega (arith, high))
-within (suc (suc h)) high = refl
+within (suc zero) high = refl
+within (suc (suc zero)) high = absurd (omega (arith, high))
+within (suc (suc (suc h))) high = refl
 
 pub sample_quiet : SampleIsQuiet
 sample_quiet = record {
   quiet = record {
-    some = omega arith;
-    few = omega arith;
+    shape = record {
+      nodes_some = omega arith;
+      nodes_few = omega arith;
+      replicas_some = omega arith;
+      replicas_few = omega arith;
+      even = refl;
+      fragments_some = omega arith;
+      fragments_few = omega arith;
+    };
     right = record { local = local; there = λ h has. inl refl; linked = λ i j. inl (record { newer = []; is = sym (linked i j) }) };
     within = within;
     quiet = λ i j low under. linked i j;

@@ -11,7 +11,7 @@ use Rattle.sig_core.specs.declared.place.Place.{Place}
 use Rattle.sig_core.specs.declared.signal.Body.{Body}
 use Rattle.sig_core.specs.declared.signal.Body.TheVariants.{Chain}
 use Rattle.sig_core.specs.declared.signal.chain.ChainSignal.TheVariants.{LqhKeyReq, LqhKeyConf, LqhKeyRef, Commit, Complete}
-use Rattle.sig_core.specs.declared.view.View.{View}
+use Rattle.frag_map.specs.Layout.{Layout}
 use Rattle.sig_core.specs.Op.{key_of}
 use Rattle.sig_core.specs.Same.{same_key, same_tx}
 use Rattle.tc_block.specs.declared.phase.Asked.{Asked}
@@ -20,7 +20,7 @@ use Rattle.tc_block.specs.declared.phase.Phase.TheVariants.{Open, Verifying, Com
 use Rattle.tc_block.specs.declared.touched.Touched.{Touched}
 use Rattle.tc_block.specs.declared.transaction.Transaction.{Transaction}
 use Rattle.tc_block.specs.Abort as abort
-use Rattle.tc_block.specs.Chain.{chain_of}
+use Rattle.frag_map.specs.Layout.{chain_of}
 use Rattle.tc_block.specs.Part.{part_effects}
 use Rattle.tc_block.specs.Sends.{abort_of, entering, front_sends, key_sends, phase_sends}
 use Rattle.tc_block.specs.State.{TcState}
@@ -28,13 +28,13 @@ use Rattle.tc_block.specs.Turn.{Turn}
 use Rattle.tc_block.specs.Phases.{is_decided}
 use Rattle.sig_core.proofs.Keys.{same_tx-self}
 use Rattle.answer_laws.proofs.LqhForth.{is_back}
-use Rattle.answer_laws.proofs.LqhWaits.{hops, is_hop}
-use Rattle.answer_laws.proofs.PartKinds.{IsPartKind, entering_of, part_of, parts_of}
-use Rattle.answer_laws.proofs.SendKinds.{are_of, none_of, of_append, of_flat, of_kind, of_map}
-use Rattle.answer_laws.proofs.Tally.{one_if}
-use Rattle.answer_laws.proofs.TcOps.{asks_key}
-use Rattle.answer_laws.proofs.TcTurns.{abort_ends, aborted, aborts, all_completed, answers, asked_to, asks, commits, committed, completed, completes, decides, ends, entered_phase, gives_up, GivesUp, goes_on, is_wait_kind, keeps, late, over_not, refused, TurnMove}
-use Rattle.answer_laws.specs.Answered.{is_aborting}
+use Rattle.host_laws.proofs.LqhWaits.{hops, is_hop}
+use Rattle.host_laws.proofs.PartKinds.{IsPartKind, entering_of, part_of, parts_of}
+use Rattle.host_laws.proofs.SendKinds.{are_of, none_of, of_append, of_flat, of_kind, of_map}
+use Rattle.host_laws.specs.Counts.{one_if}
+use Rattle.host_laws.proofs.TcOps.{asks_key}
+use Rattle.host_laws.proofs.TcTurns.{abort_ends, aborted, aborts, all_completed, answers, asked_to, asks, commits, committed, completed, completes, decides, ends, entered_phase, gives_up, GivesUp, goes_on, is_wait_kind, keeps, late, over_not, refused, TurnMove}
+use Rattle.tc_block.specs.Phases.{is_aborting}
 
 -- neither a request for an operation nor an answer to one
 abbrev pub is_hopless : Body → Bool
@@ -73,12 +73,12 @@ wait_back tx (Chain (Complete other key chain at)) e = absurd (false≢true e)
 wait_back tx _ e = refl
 
 -- a transaction that isn't decided sends no commit, and no completion
-module _ (node : ℕ) (view : View) (tx : TxId) where
-  back_key : (phase : Phase) (t : Touched) → is_decided phase ≡ false → are_of (is_back tx) (key_sends view tx phase t) ≡ true
+module _ (node : ℕ) (layout : Layout) (tx : TxId) where
+  back_key : (phase : Phase) (t : Touched) → is_decided phase ≡ false → are_of (is_back tx) (key_sends layout tx phase t) ≡ true
   unfolding key_sends
   back_key Open t off = refl
   back_key Verifying t off = refl
-  back_key (Aborting why v k) t off = of_map (is_back tx) (abort_of tx t.key) (chain_of view t.key) (λ r. refl)
+  back_key (Aborting why v k) t off = of_map (is_back tx) (abort_of tx t.key) (chain_of layout t.key) (λ r. refl)
   back_key (Committing epoch k) t off = absurd (false≢true (sym off))
   back_key (Completing epoch k) t off = absurd (false≢true (sym off))
 
@@ -90,13 +90,13 @@ module _ (node : ℕ) (view : View) (tx : TxId) where
   back_front (Committing epoch k) off = absurd (false≢true (sym off))
   back_front (Completing epoch k) off = absurd (false≢true (sym off))
 
-  back_parts : (phase : Phase) (touched : List Touched) (at : ℕ) → is_decided phase ≡ false → are_of (is_back tx) (part_effects node tx (phase_sends view tx phase touched) at).sends ≡ true
+  back_parts : (phase : Phase) (touched : List Touched) (at : ℕ) → is_decided phase ≡ false → are_of (is_back tx) (part_effects node tx (phase_sends layout tx phase touched) at).sends ≡ true
   unfolding phase_sends
   back_parts phase touched at off =
-      part_of (is_back tx) tx (λ a. refl) node (front_sends tx phase ++ flat_map (key_sends view tx phase) touched) at
-      (of_append (is_back tx) (front_sends tx phase) (flat_map (key_sends view tx phase) touched) (back_front phase off) (of_flat (is_back tx) (key_sends view tx phase) touched (λ t. back_key phase t off)))
+      part_of (is_back tx) tx (λ a. refl) node (front_sends tx phase ++ flat_map (key_sends layout tx phase) touched) at
+      (of_append (is_back tx) (front_sends tx phase) (flat_map (key_sends layout tx phase) touched) (back_front phase off) (of_flat (is_back tx) (key_sends layout tx phase) touched (λ t. back_key phase t off)))
 
-  back_entering : (t : Transaction) (phase : Phase) → is_decided phase ≡ false → are_of (is_back tx) (entering node view tx t phase).effects.sends ≡ true
+  back_entering : (t : Transaction) (phase : Phase) → is_decided phase ≡ false → are_of (is_back tx) (entering node layout tx t phase).effects.sends ≡ true
   unfolding entering
   back_entering t phase off = back_parts phase t.touched 0 off
 
@@ -147,8 +147,8 @@ module _ (s : TcState) (tx : TxId) (key : List ℕ) (t : Transaction) (body : Bo
   verifying_no : Verifying ≡ Open → ⊥
   verifying_no e = cc
 
-  entered_closed : (w : Transaction) (phase : Phase) → (phase ≡ Open → ⊥) → (entering s.node s.view tx w phase).state.phase ≡ Open → ⊥
-  entered_closed w phase closed e = closed (sym (entered_phase s.node s.view tx w phase) ∙ e)
+  entered_closed : (w : Transaction) (phase : Phase) → (phase ≡ Open → ⊥) → (entering s.node s.layout tx w phase).state.phase ≡ Open → ⊥
+  entered_closed w phase closed e = closed (sym (entered_phase s.node s.layout tx w phase) ∙ e)
 
   end_hopless : (why : AbortCause) (b : Bool) → are_of is_hopless (abort.abort_end s.node tx why b) ≡ true
   end_hopless why true = refl
@@ -159,7 +159,7 @@ module _ (s : TcState) (tx : TxId) (key : List ℕ) (t : Transaction) (body : Bo
 
   pub hop_turn : TurnMove s tx t body turn → HopTurn
   hop_turn (keeps sends is kind missed) = quiet_hops _ is (of_kind is_wait_kind is_hopless wait_hopless sends kind) (inr (inr (refl, refl)))
-  hop_turn (goes_on at about low is) = quiet_hops _ is (parts_of is_hopless tx (hopless_part tx) s.node s.view t.phase t.touched at) (inr (inr (refl, refl)))
+  hop_turn (goes_on at about low is) = quiet_hops _ is (parts_of is_hopless tx (hopless_part tx) s.node s.layout t.phase t.touched at) (inr (inr (refl, refl)))
   hop_turn (asks op about p q fit is) = record { opened = λ over e. (p, omega (arith, none, sent, now)); few = inr (p, (ap (asks_key key) q, omega (arith, sent, most (same_key (key_of op) key)))) }
     where
       sent : hops tx key turn.step.effects.sends ≤ one_if (same_key (key_of op) key)
@@ -186,18 +186,18 @@ module _ (s : TcState) (tx : TxId) (key : List ℕ) (t : Transaction) (body : Bo
     where
       came : one_if (same_key (key_of asked.op) key) ≤ answer_came tx key body
       came = omega (arith, ap (answer_came tx key) about, ap (λ b. one_if (b && same_key at key)) (same_tx-self tx), ap (λ k. one_if (same_key k key)) (same_key-is (key_of asked.op) at q.on))
-  hop_turn (late at asked about p q is) = quiet_hops _ is (of_map is_hopless (abort_of tx at) (chain_of s.view at) (λ r. refl)) (inr (inl closed))
+  hop_turn (late at asked about p q is) = quiet_hops _ is (of_map is_hopless (abort_of tx at) (chain_of s.layout at) (λ r. refl)) (inr (inl closed))
     where
       closed : t.phase ≡ Open → ⊥
       closed e = false≢true (sym (ap is_aborting e) ∙ p)
   hop_turn (decides about p q is) = quiet_hops _ is refl (inr (inl verifying_no))
-  hop_turn (aborts w why gives some is) = quiet_hops _ is (entering_of is_hopless tx (hopless_part tx) s.node s.view w _) (inr (inl (entered_closed w _ (aborting_no why _ _))))
+  hop_turn (aborts w why gives some is) = quiet_hops _ is (entering_of is_hopless tx (hopless_part tx) s.node s.layout w _) (inr (inl (entered_closed w _ (aborting_no why _ _))))
   hop_turn (gives_up w why gives is none) = quiet_hops _ is (end_hopless why (abort.is_verifying w.phase)) (inl refl)
   hop_turn (aborted at why v k about p low is) = quiet_hops _ is refl (inr (inl (aborting_no why v _)))
   hop_turn (abort_ends at why v k about p low is) = quiet_hops _ is (end_hopless why v) (inl refl)
-  hop_turn (commits epoch about p is) = quiet_hops _ is (entering_of is_hopless tx (hopless_part tx) s.node s.view t _) (inr (inl (entered_closed t _ (committing_no _ _))))
+  hop_turn (commits epoch about p is) = quiet_hops _ is (entering_of is_hopless tx (hopless_part tx) s.node s.layout t _) (inr (inl (entered_closed t _ (committing_no _ _))))
   hop_turn (committed epoch k p is) = quiet_hops _ is refl (inr (inl (committing_no _ _)))
-  hop_turn (completes epoch p is) = quiet_hops _ is (entering_of is_hopless tx (hopless_part tx) s.node s.view t _) (inr (inl (entered_closed t _ (completing_no _ _))))
+  hop_turn (completes epoch p is) = quiet_hops _ is (entering_of is_hopless tx (hopless_part tx) s.node s.layout t _) (inr (inl (entered_closed t _ (completing_no _ _))))
   hop_turn (ends epoch p is) = quiet_hops _ is refl (inl refl)
   hop_turn (completed epoch k p is) = quiet_hops _ is refl (inr (inl (completing_no _ _)))
   hop_turn (all_completed epoch k p is) = quiet_hops _ is refl (inl refl)
@@ -227,18 +227,18 @@ module _ (s : TcState) (tx : TxId) (key : List ℕ) (t : Transaction) (body : Bo
 
   pub back_turn : TurnMove s tx t body turn → BackTurn
   back_turn (keeps sends is kind missed) = back_same _ is refl (λ off. of_kind is_wait_kind (is_back tx) (wait_back tx) sends kind)
-  back_turn (goes_on at about low is) = back_same _ is refl (λ off. back_parts s.node s.view tx t.phase t.touched at off)
+  back_turn (goes_on at about low is) = back_same _ is refl (λ off. back_parts s.node s.layout tx t.phase t.touched at off)
   back_turn (asks op about p q fit is) = back_same _ is refl (λ off. refl)
   back_turn (answers at a asked about p q is) = back_same _ is refl (λ off. refl)
-  back_turn (late at asked about p q is) = back_from _ is (aborting_undecided t.phase p) (of_map (is_back tx) (abort_of tx at) (chain_of s.view at) (λ r. refl))
+  back_turn (late at asked about p q is) = back_from _ is (aborting_undecided t.phase p) (of_map (is_back tx) (abort_of tx at) (chain_of s.layout at) (λ r. refl))
   back_turn (decides about p q is) = back_from _ is (ap is_decided p) refl
-  back_turn (aborts w why gives some is) = back_from _ is (given_undecided w gives) (back_entering s.node s.view tx w _ refl)
+  back_turn (aborts w why gives some is) = back_from _ is (given_undecided w gives) (back_entering s.node s.layout tx w _ refl)
   back_turn (gives_up w why gives is none) = back_never _ is (inr refl)
   back_turn (aborted at why v k about p low is) = back_from _ is (ap is_decided p) refl
   back_turn (abort_ends at why v k about p low is) = back_never _ is (inr refl)
-  back_turn (commits epoch about p is) = back_never _ is (inl (ap is_decided (entered_phase s.node s.view tx t _)))
+  back_turn (commits epoch about p is) = back_never _ is (inl (ap is_decided (entered_phase s.node s.layout tx t _)))
   back_turn (committed epoch k p is) = back_never _ is (inl refl)
-  back_turn (completes epoch p is) = back_never _ is (inl (ap is_decided (entered_phase s.node s.view tx t _)))
+  back_turn (completes epoch p is) = back_never _ is (inl (ap is_decided (entered_phase s.node s.layout tx t _)))
   back_turn (ends epoch p is) = back_never _ is (inr refl)
   back_turn (completed epoch k p is) = back_never _ is (inl refl)
   back_turn (all_completed epoch k p is) = back_never _ is (inr refl)

@@ -1,152 +1,62 @@
 -- How many signals of a kind all hosts together have sent and taken.
-use Rattle.std.proofs.Common.{◌≡◌, ◌≢◌, ◌⊎◌, ℕ, zero, suc, ◌+◌, ◌<◌, ◌≤◌, List, [], ◌∷◌, Bool, true, false, refl, ap, sym, ◌∙◌, subst, arith, inl, inr}
+use Rattle.std.proofs.Common.{◌≡◌, ◌≢◌, ℕ, zero, suc, ◌+◌, ◌<◌, ◌≤◌, List, [], ◌∷◌, Bool, true, false, refl, ap, sym, ◌∙◌, subst, arith}
 use Rattle.std.specs.Prelude.{◌==◌, ◌&&◌, not}
-use Rattle.std.proofs.lemmas.Bool.{cases_eq, eqb-true}
-use Rattle.std.proofs.lemmas.Bool.Decides.{nat_tests}
 use Rattle.run_theory.specs.Links.{is_from, sent, taken}
-use Rattle.sig_core.specs.declared.log.LogStep.{LogStep}
+use Rattle.world_core.specs.Steps.{HostStep}
 use Rattle.sig_core.specs.declared.outs.Outgoing.{Outgoing}
 use Rattle.sig_core.specs.declared.place.Place.{Place}
 use Rattle.sig_core.specs.declared.signal.Body.{Body}
+use Rattle.world_core.specs.Hosts.{host_for}
 use Rattle.world_core.specs.Machine.{machine, step_after}
 use Rattle.world_core.specs.Start.{Start}
-use Rattle.answer_laws.proofs.LinkCounts.{sent_signals, signals, taken_signals}
-use Rattle.answer_laws.proofs.Tally.{one_if}
-use Rattle.answer_laws.proofs.Wishes.{sends_of, to_node}
-
--- the sum of f over the numbers below n
-abbrev pub total : ℕ → (ℕ → ℕ) → ℕ
-total zero f = 0
-total (suc n) f = f n + total n f
-
-pub total_same : (n : ℕ) (f g : ℕ → ℕ) → ((k : ℕ) → k < n → f k ≡ g k) → total n f ≡ total n g
-total_same zero f g same = refl
-total_same (suc n) f g same = omega (arith, same n (omega arith), total_same n f g (λ k low. same k (omega (arith, low))))
-
-pub total_le : (n : ℕ) (f g : ℕ → ℕ) → ((k : ℕ) → k < n → f k ≤ g k) → total n f ≤ total n g
-total_le zero f g less = omega arith
-total_le (suc n) f g less = omega (arith, less n (omega arith), total_le n f g (λ k low. less k (omega (arith, low))))
-
-pub total_add : (n : ℕ) (f g : ℕ → ℕ) → total n (λ k. f k + g k) ≡ total n f + total n g
-total_add zero f g = refl
-total_add (suc n) f g = omega (arith, total_add n f g)
-
-pub total_zero : (n : ℕ) (f : ℕ → ℕ) → ((k : ℕ) → f k ≡ 0) → total n f ≡ 0
-total_zero zero f none = refl
-total_zero (suc n) f none = omega (arith, none n, total_zero n f none)
-
--- one of them changes
-pub total_one : (n : ℕ) (f g : ℕ → ℕ) (h : ℕ) → h < n → ((k : ℕ) → k ≢ h → g k ≡ f k) → total n g + f h ≡ total n f + g h
-total_one zero f g h low same = absurd (omega (arith, low))
-total_one (suc n) f g h low same = go (cases_eq n h) (total_one n f g h)
-  where
-    go : (n ≡ h) ⊎ (n ≢ h) → (h < n → ((k : ℕ) → k ≢ h → g k ≡ f k) → total n g + f h ≡ total n f + g h) → g n + total n g + f h ≡ f n + total n f + g h
-    go (inl is) next =
-        let rest : total n g ≡ total n f = total_same n g f (λ k under. same k (λ e. absurd (omega (arith, under, e, is)))) in
-        omega (arith, rest, ap f is, ap g is)
-    go (inr differs) next = omega (arith, same n differs, next (omega (arith, low, differs)) same)
-
--- some of them are counted
-pub record IsSome (n : ℕ) (f : ℕ → ℕ) : Type 0 where
-  pub at : ℕ
-  pub low : at < n
-  pub some : 1 ≤ f at
-
-pub total_some : (n : ℕ) (f : ℕ → ℕ) → 1 ≤ total n f → IsSome n f
-total_some zero f some = absurd (omega (arith, some))
-total_some (suc n) f some = go (f n) refl (total_some n f)
-  where
-    go : (m : ℕ) → f n ≡ m → (1 ≤ total n f → IsSome n f) → IsSome (suc n) f
-    go zero e rest = let r = rest (omega (arith, some, e)) in record { at = r.at; low = omega (arith, r.low); some = r.some }
-    go (suc m) e rest = record { at = n; low = omega arith; some = omega (arith, e) }
-
--- one place among them
-unit_above : (n at : ℕ) (c : Bool) → n ≤ at → total n (λ j. one_if ((at == j) && c)) ≡ 0
-unit_above zero at c high = refl
-unit_above (suc n) at c high = go (at == n) refl (unit_above n at c (omega (arith, high)))
-  where
-    go : (b : Bool) → (at == n) ≡ b → total n (λ j. one_if ((at == j) && c)) ≡ 0 → one_if (b && c) + total n (λ j. one_if ((at == j) && c)) ≡ 0
-    go true e rest = absurd (omega (arith, high, eqb-true at n e))
-    go false e rest = omega (arith, rest)
-
-unit_below : (n at : ℕ) (c : Bool) → at < n → total n (λ j. one_if ((at == j) && c)) ≡ one_if c
-unit_below zero at c low = absurd (omega (arith, low))
-unit_below (suc n) at c low = go (at == n) refl (unit_below n at c)
-  where
-    go : (b : Bool) → (at == n) ≡ b → (at < n → total n (λ j. one_if ((at == j) && c)) ≡ one_if c) → one_if (b && c) + total n (λ j. one_if ((at == j) && c)) ≡ one_if c
-    go true e rest = omega (arith, unit_above n at c (omega (arith, eqb-true at n e)))
-    go false e rest =
-        let differs : at ≢ n = λ same. absurd (grind (arith, nat_tests, e, same)) in
-        omega (arith, rest (omega (arith, low, differs)))
-
-unit_few : (n at : ℕ) (c : Bool) → total n (λ j. one_if ((at == j) && c)) ≤ one_if c
-unit_few zero at c = omega arith
-unit_few (suc n) at c = go (at == n) refl (unit_few n at c)
-  where
-    go : (b : Bool) → (at == n) ≡ b → total n (λ j. one_if ((at == j) && c)) ≤ one_if c → one_if (b && c) + total n (λ j. one_if ((at == j) && c)) ≤ one_if c
-    go true e rest = omega (arith, unit_above n at c (omega (arith, eqb-true at n e)))
-    go false e rest = omega (arith, rest)
-
--- one of them is no more than all
-pub total_at : (n : ℕ) (f : ℕ → ℕ) (k : ℕ) → k < n → f k ≤ total n f
-total_at zero f k low = absurd (omega (arith, low))
-total_at (suc n) f k low = go (cases_eq n k) (total_at n f k)
-  where
-    go : (n ≡ k) ⊎ (n ≢ k) → (k < n → f k ≤ total n f) → f k ≤ f n + total n f
-    go (inl is) rest = omega (arith, ap f is)
-    go (inr differs) rest = omega (arith, rest (omega (arith, low, differs)))
-
--- one of them is less
-pub total_less : (n : ℕ) (f g : ℕ → ℕ) (k : ℕ) → k < n → ((j : ℕ) → j < n → f j ≤ g j) → f k + 1 ≤ g k → total n f + 1 ≤ total n g
-total_less zero f g k low less one = absurd (omega (arith, low))
-total_less (suc n) f g k low less one = go (cases_eq n k) (total_less n f g k)
-  where
-    go : (n ≡ k) ⊎ (n ≢ k) → (k < n → ((j : ℕ) → j < n → f j ≤ g j) → f k + 1 ≤ g k → total n f + 1 ≤ total n g) → f n + total n f + 1 ≤ g n + total n g
-    go (inl is) rest = omega (arith, ap f is, ap g is, one, total_le n f g (λ j under. less j (omega (arith, under))))
-    go (inr differs) rest = omega (arith, less n (omega arith), rest (omega (arith, low, differs)) (λ j under. less j (omega (arith, under))) one)
+use Rattle.host_laws.proofs.LinkCounts.{sent_signals, signals, taken_signals, to_host}
+use Rattle.host_laws.specs.Counts.{one_if}
+use Rattle.host_laws.proofs.Wishes.{sends_of}
+use Rattle.host_laws.specs.Counts.{total}
+use Rattle.host_laws.proofs.Sums.{total_add, total_le, total_one, total_same, unit_below, unit_few}
 
 -- signals for the hosts below n are no more than all
-pub spread_few : (n : ℕ) (test : Place → Body → Bool) (xs : List Outgoing) → total n (λ j. sends_of (to_node j test) xs) ≤ sends_of test xs
-spread_few n test [] = zeros n
+pub spread_few : (start : Start) (n : ℕ) (test : Place → Body → Bool) (xs : List Outgoing) → total n (λ j. sends_of (to_host start j test) xs) ≤ sends_of test xs
+spread_few start n test [] = zeros n
   where
     zeros : (m : ℕ) → total m (λ j. 0) ≤ 0
     zeros zero = omega arith
     zeros (suc m) = omega (arith, zeros m)
-spread_few n test (x ∷ xs) =
-    omega (arith, total_add n (λ j. one_if ((x.to.node == j) && test x.to x.body)) (λ j. sends_of (to_node j test) xs), spread_few n test xs, unit_few n x.to.node (test x.to x.body))
+spread_few start n test (x ∷ xs) =
+    omega (arith, total_add n (λ j. one_if ((host_for start x.to == j) && test x.to x.body)) (λ j. sends_of (to_host start j test) xs), spread_few start n test xs, unit_few n (host_for start x.to) (test x.to x.body))
 
 -- signals for the hosts below n, host by host
-spread : (n : ℕ) (test : Place → Body → Bool) → ((to : Place) (body : Body) → test to body ≡ true → to.node < n) → (xs : List Outgoing)
-    → total n (λ j. sends_of (to_node j test) xs) ≡ sends_of test xs
-spread n test low [] = zeros n
+spread : (start : Start) (n : ℕ) (test : Place → Body → Bool) → ((to : Place) (body : Body) → test to body ≡ true → host_for start to < n) → (xs : List Outgoing)
+    → total n (λ j. sends_of (to_host start j test) xs) ≡ sends_of test xs
+spread start n test low [] = zeros n
   where
     zeros : (m : ℕ) → total m (λ j. 0) ≡ 0
     zeros zero = refl
     zeros (suc m) = omega (arith, zeros m)
-spread n test low (x ∷ xs) =
-    omega (arith, total_add n (λ j. one_if ((x.to.node == j) && test x.to x.body)) (λ j. sends_of (to_node j test) xs), spread n test low xs, here (test x.to x.body) refl)
+spread start n test low (x ∷ xs) =
+    omega (arith, total_add n (λ j. one_if ((host_for start x.to == j) && test x.to x.body)) (λ j. sends_of (to_host start j test) xs), spread start n test low xs, here (test x.to x.body) refl)
   where
     none : (m : ℕ) (at : ℕ) → total m (λ j. one_if ((at == j) && false)) ≡ 0
     none m at = let few = unit_few m at false in omega (arith, few)
 
-    here : (b : Bool) → test x.to x.body ≡ b → total n (λ j. one_if ((x.to.node == j) && test x.to x.body)) ≡ one_if (test x.to x.body)
-    here true e = unit_below n x.to.node (test x.to x.body) (low x.to x.body e)
-    here false e = subst (λ c. total n (λ j. one_if ((x.to.node == j) && c)) ≡ one_if c) (sym e) (none n x.to.node)
+    here : (b : Bool) → test x.to x.body ≡ b → total n (λ j. one_if ((host_for start x.to == j) && test x.to x.body)) ≡ one_if (test x.to x.body)
+    here true e = unit_below n (host_for start x.to) (test x.to x.body) (low x.to x.body e)
+    here false e = subst (λ c. total n (λ j. one_if ((host_for start x.to == j) && c)) ≡ one_if c) (sym e) (none n (host_for start x.to))
 
 module _ (start : Start) (n : ℕ) (test : Place → Body → Bool) where
   -- all that the hosts below n have sent to each other, and taken from each other
-  abbrev pub sent_all : (ℕ → List LogStep) → ℕ
+  abbrev pub sent_all : (ℕ → List HostStep) → ℕ
   sent_all logs = total n (λ i. total n (λ j. signals test (sent (machine start) i j (logs i))))
 
-  abbrev pub taken_all : (ℕ → List LogStep) → ℕ
+  abbrev pub taken_all : (ℕ → List HostStep) → ℕ
   taken_all logs = total n (λ i. total n (λ j. signals test (taken (machine start) i (logs j))))
 
   -- host h makes a step
-  pub record Grown (logs now : ℕ → List LogStep) (h : ℕ) (e : LogStep) : Type 0 where
+  pub record Grown (logs now : ℕ → List HostStep) (h : ℕ) (e : HostStep) : Type 0 where
     pub own : now h ≡ e ∷ logs h
     pub others : (k : ℕ) → k ≢ h → now k ≡ logs k
 
-  pub sent_more : ((to : Place) (body : Body) → test to body ≡ true → to.node < n) → (logs now : ℕ → List LogStep) (h : ℕ) (e : LogStep) → h < n → Grown logs now h e
+  pub sent_more : ((to : Place) (body : Body) → test to body ≡ true → host_for start to < n) → (logs now : ℕ → List HostStep) (h : ℕ) (e : HostStep) → h < n → Grown logs now h e
       → sent_all now ≡ sent_all logs + sends_of test (step_after start h (logs h) e).effects.sends
   sent_more low logs now h e under grown =
       omega (arith, total_one n old new h under (λ k differs. ap (λ log. total n (λ j. signals test (sent (machine start) k j log))) (grown.others k differs)), here)
@@ -160,15 +70,15 @@ module _ (start : Start) (n : ℕ) (test : Place → Body → Bool) where
       here : new h ≡ sends_of test (step_after start h (logs h) e).effects.sends + old h
       here =
           ap (λ log. total n (λ j. signals test (sent (machine start) h j log))) grown.own
-          ∙ total_same n (λ j. signals test (sent (machine start) h j (e ∷ logs h))) (λ j. sends_of (to_node j test) (step_after start h (logs h) e).effects.sends + signals test (sent (machine start) h j (logs h)))
+          ∙ total_same n (λ j. signals test (sent (machine start) h j (e ∷ logs h))) (λ j. sends_of (to_host start j test) (step_after start h (logs h) e).effects.sends + signals test (sent (machine start) h j (logs h)))
           (λ j under. sent_signals start test h j e (logs h))
-          ∙ total_add n (λ j. sends_of (to_node j test) (step_after start h (logs h) e).effects.sends) (λ j. signals test (sent (machine start) h j (logs h)))
-          ∙ ap (λ m. m + old h) (spread n test low (step_after start h (logs h) e).effects.sends)
+          ∙ total_add n (λ j. sends_of (to_host start j test) (step_after start h (logs h) e).effects.sends) (λ j. signals test (sent (machine start) h j (logs h)))
+          ∙ ap (λ m. m + old h) (spread start n test low (step_after start h (logs h) e).effects.sends)
 
   -- no more was sent than before and with this step
-  pub sent_few : (logs now : ℕ → List LogStep) (h : ℕ) (e : LogStep) → h < n → Grown logs now h e → sent_all now ≤ sent_all logs + sends_of test (step_after start h (logs h) e).effects.sends
+  pub sent_few : (logs now : ℕ → List HostStep) (h : ℕ) (e : HostStep) → h < n → Grown logs now h e → sent_all now ≤ sent_all logs + sends_of test (step_after start h (logs h) e).effects.sends
   sent_few logs now h e under grown =
-      omega (arith, total_one n old new h under (λ k differs. ap (λ log. total n (λ j. signals test (sent (machine start) k j log))) (grown.others k differs)), here, spread_few n test (step_after start h (logs h) e).effects.sends)
+      omega (arith, total_one n old new h under (λ k differs. ap (λ log. total n (λ j. signals test (sent (machine start) k j log))) (grown.others k differs)), here, spread_few start n test (step_after start h (logs h) e).effects.sends)
     where
       old : ℕ → ℕ
       old i = total n (λ j. signals test (sent (machine start) i j (logs i)))
@@ -176,15 +86,15 @@ module _ (start : Start) (n : ℕ) (test : Place → Body → Bool) where
       new : ℕ → ℕ
       new i = total n (λ j. signals test (sent (machine start) i j (now i)))
 
-      here : new h ≡ total n (λ j. sends_of (to_node j test) (step_after start h (logs h) e).effects.sends) + old h
+      here : new h ≡ total n (λ j. sends_of (to_host start j test) (step_after start h (logs h) e).effects.sends) + old h
       here =
           ap (λ log. total n (λ j. signals test (sent (machine start) h j log))) grown.own
-          ∙ total_same n (λ j. signals test (sent (machine start) h j (e ∷ logs h))) (λ j. sends_of (to_node j test) (step_after start h (logs h) e).effects.sends + signals test (sent (machine start) h j (logs h)))
+          ∙ total_same n (λ j. signals test (sent (machine start) h j (e ∷ logs h))) (λ j. sends_of (to_host start j test) (step_after start h (logs h) e).effects.sends + signals test (sent (machine start) h j (logs h)))
           (λ j under. sent_signals start test h j e (logs h))
-          ∙ total_add n (λ j. sends_of (to_node j test) (step_after start h (logs h) e).effects.sends) (λ j. signals test (sent (machine start) h j (logs h)))
+          ∙ total_add n (λ j. sends_of (to_host start j test) (step_after start h (logs h) e).effects.sends) (λ j. signals test (sent (machine start) h j (logs h)))
 
   -- nor less than before
-  pub sent_least : (logs now : ℕ → List LogStep) (h : ℕ) (e : LogStep) → h < n → Grown logs now h e → sent_all logs ≤ sent_all now
+  pub sent_least : (logs now : ℕ → List HostStep) (h : ℕ) (e : HostStep) → h < n → Grown logs now h e → sent_all logs ≤ sent_all now
   sent_least logs now h e under grown =
       omega (
         arith,
@@ -195,16 +105,16 @@ module _ (start : Start) (n : ℕ) (test : Place → Body → Bool) where
       )
 
   -- what was taken before, and what this step took
-  pub taken_exact : (logs now : ℕ → List LogStep) (h : ℕ) (e : LogStep) → h < n → Grown logs now h e
-      → taken_all now ≡ taken_all logs + total n (λ i. one_if (is_from (machine start) i e && test e.taken.to e.taken.body))
+  pub taken_exact : (logs now : ℕ → List HostStep) (h : ℕ) (e : HostStep) → h < n → Grown logs now h e
+      → taken_all now ≡ taken_all logs + total n (λ i. one_if (is_from (machine start) i e && test e.step.taken.to e.step.taken.body))
   taken_exact logs now h e under grown =
       omega (
         arith,
-        total_same n (λ i. total n (λ j. signals test (taken (machine start) i (now j)))) (λ i. total n (λ j. signals test (taken (machine start) i (logs j))) + one_if (is_from (machine start) i e && test e.taken.to e.taken.body)) (λ i low. row i),
-        total_add n (λ i. total n (λ j. signals test (taken (machine start) i (logs j)))) (λ i. one_if (is_from (machine start) i e && test e.taken.to e.taken.body)),
+        total_same n (λ i. total n (λ j. signals test (taken (machine start) i (now j)))) (λ i. total n (λ j. signals test (taken (machine start) i (logs j))) + one_if (is_from (machine start) i e && test e.step.taken.to e.step.taken.body)) (λ i low. row i),
+        total_add n (λ i. total n (λ j. signals test (taken (machine start) i (logs j)))) (λ i. one_if (is_from (machine start) i e && test e.step.taken.to e.step.taken.body)),
       )
     where
-      row : (i : ℕ) → total n (λ j. signals test (taken (machine start) i (now j))) ≡ total n (λ j. signals test (taken (machine start) i (logs j))) + one_if (is_from (machine start) i e && test e.taken.to e.taken.body)
+      row : (i : ℕ) → total n (λ j. signals test (taken (machine start) i (now j))) ≡ total n (λ j. signals test (taken (machine start) i (logs j))) + one_if (is_from (machine start) i e && test e.step.taken.to e.step.taken.body)
       row i =
           omega (
             arith,
@@ -214,16 +124,16 @@ module _ (start : Start) (n : ℕ) (test : Place → Body → Bool) where
             taken_signals start test i e (logs h),
           )
 
-  pub taken_more : (logs now : ℕ → List LogStep) (h : ℕ) (e : LogStep) → h < n → Grown logs now h e → taken_all now ≤ taken_all logs + one_if (test e.taken.to e.taken.body)
+  pub taken_more : (logs now : ℕ → List HostStep) (h : ℕ) (e : HostStep) → h < n → Grown logs now h e → taken_all now ≤ taken_all logs + one_if (test e.step.taken.to e.step.taken.body)
   taken_more logs now h e under grown = omega (arith, taken_exact logs now h e under grown, few)
     where
-      few : total n (λ i. one_if (is_from (machine start) i e && test e.taken.to e.taken.body)) ≤ one_if (test e.taken.to e.taken.body)
+      few : total n (λ i. one_if (is_from (machine start) i e && test e.step.taken.to e.step.taken.body)) ≤ one_if (test e.step.taken.to e.step.taken.body)
       few = go (not ((machine start).asked e)) refl
         where
-          go : (b : Bool) → not ((machine start).asked e) ≡ b → total n (λ i. one_if ((not ((machine start).asked e) && (e.taken.from.0 == i)) && test e.taken.to e.taken.body)) ≤ one_if (test e.taken.to e.taken.body)
-          go true is = subst (λ b. total n (λ i. one_if ((b && (e.taken.from.0 == i)) && test e.taken.to e.taken.body)) ≤ one_if (test e.taken.to e.taken.body)) (sym is) (unit_few n e.taken.from.0 (test e.taken.to e.taken.body))
-          go false is = subst (λ b. total n (λ i. one_if ((b && (e.taken.from.0 == i)) && test e.taken.to e.taken.body)) ≤ one_if (test e.taken.to e.taken.body)) (sym is) (zeros n)
+          go : (b : Bool) → not ((machine start).asked e) ≡ b → total n (λ i. one_if ((not ((machine start).asked e) && (e.step.taken.from.0 == i)) && test e.step.taken.to e.step.taken.body)) ≤ one_if (test e.step.taken.to e.step.taken.body)
+          go true is = subst (λ b. total n (λ i. one_if ((b && (e.step.taken.from.0 == i)) && test e.step.taken.to e.step.taken.body)) ≤ one_if (test e.step.taken.to e.step.taken.body)) (sym is) (unit_few n e.step.taken.from.0 (test e.step.taken.to e.step.taken.body))
+          go false is = subst (λ b. total n (λ i. one_if ((b && (e.step.taken.from.0 == i)) && test e.step.taken.to e.step.taken.body)) ≤ one_if (test e.step.taken.to e.step.taken.body)) (sym is) (zeros n)
             where
-              zeros : (m : ℕ) → total m (λ i. 0) ≤ one_if (test e.taken.to e.taken.body)
+              zeros : (m : ℕ) → total m (λ i. 0) ≤ one_if (test e.step.taken.to e.step.taken.body)
               zeros zero = omega arith
               zeros (suc m) = omega (arith, zeros m)

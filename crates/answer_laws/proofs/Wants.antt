@@ -12,25 +12,27 @@ use Rattle.node_core.specs.Row.{shell_row}
 use Rattle.run_theory.proofs.Pasts.{each_append}
 use Rattle.run_theory.specs.Lists.{Each}
 use Rattle.run_theory.specs.Links.{sent}
-use Rattle.sig_core.specs.declared.log.LogStep.{LogStep}
+use Rattle.world_core.specs.Steps.{HostStep}
 use Rattle.sig_core.specs.declared.member.TxId.{TxId}
 use Rattle.sig_core.specs.declared.outs.Outgoing.{Outgoing}
 use Rattle.sig_core.specs.declared.place.BlockId.{BlockId}
 use Rattle.sig_core.specs.declared.place.BlockId.TheVariants as block
 use Rattle.sig_core.specs.declared.signal.Body.{Body}
+use Rattle.sig_core.specs.declared.signal.Signal.{Signal}
 use Rattle.sig_core.specs.Step.{Step}
 use Rattle.world_core.specs.Machine.{after}
 use Rattle.world_core.specs.Start.{Start}
-use Rattle.answer_laws.proofs.ApiBegins.{each_changed, each_less}
+use Rattle.host_laws.proofs.ApiBegins.{each_changed, each_less}
 use Rattle.answer_laws.proofs.ApiEntries.{EntryStep, IsEntryRight, Moves, asks_end, commits_to, goes, is_answered, is_answered_last, is_noted, keys_to, moves, starts_ready, starts_working, stays, works_on}
-use Rattle.answer_laws.proofs.ApiHolds.{shell_holds}
+use Rattle.host_laws.proofs.ApiHolds.{shell_holds}
 use Rattle.answer_laws.proofs.ApiTurns.{ApiStep, Changes, answered_last, answered_ready, api_step, begins_ready, begins_working, changes, commits, drops, notes, opens, rests, works}
-use Rattle.answer_laws.proofs.Hosts.{opened_first, opened_next, shell_after}
-use Rattle.answer_laws.proofs.LinkCounts.{steps}
-use Rattle.answer_laws.proofs.Tally.{one_if, tally}
-use Rattle.answer_laws.proofs.TcKeys.{answer_of}
-use Rattle.answer_laws.proofs.TcLives.{is_start, start_of}
-use Rattle.answer_laws.specs.Answered.{is_operating, opened_in}
+use Rattle.host_laws.proofs.Hosts.{opened_first, opened_next, shell_after}
+use Rattle.host_laws.proofs.LinkCounts.{steps}
+use Rattle.host_laws.specs.Counts.{one_if, tally}
+use Rattle.host_laws.proofs.TcKeys.{answer_of}
+use Rattle.host_laws.proofs.TcLives.{is_start, start_of}
+use Rattle.answer_laws.specs.Answered.{is_operating}
+use Rattle.host_laws.specs.Opened.{opened_in}
 
 -- what is so of each entry
 changed_right : (body : Body) (t u : OpenTransaction) (sends : List Outgoing) → Changes body t u sends → IsEntryRight t → IsEntryRight u
@@ -56,24 +58,24 @@ step_right s body step (changes front t u back was is change) right =
     subst (Each IsEntryRight) (sym is) (each_changed IsEntryRight front t u back s.opened was right (λ r. changed_right body t u step.effects.sends change r))
 step_right s body step (drops front t back was is kind none) right = subst (Each IsEntryRight) (sym is) (each_less IsEntryRight front t back s.opened was right)
 
-shell_right : (s : ApiState) (at : BlockId) (body : Body) → Each IsEntryRight s.opened → Each IsEntryRight (shell_row s at body).state.opened
+shell_right : (s : ApiState) (at : BlockId) (x : Signal) → Each IsEntryRight s.opened → Each IsEntryRight (shell_row s at x).state.opened
 unfolding shell_row
-shell_right s block.Api body right = step_right s body _ (api_step s body) right
-shell_right s _ body right = right
+shell_right s block.Api x right = step_right s x.body _ (api_step s x.body) right
+shell_right s _ x right = right
 
 module _ (start : Start) where
-  pub all_right : (log : List LogStep) → Each IsEntryRight (opened_in (after start 0 log))
+  pub all_right : (log : List HostStep) → Each IsEntryRight (opened_in (after start 0 log))
   all_right [] = subst (Each IsEntryRight) (sym (opened_first start)) tt
   all_right (e ∷ log) =
       subst (Each IsEntryRight) (sym (opened_next start e log))
-      (shell_right (shell_after start log).state e.taken.to.block e.taken.body (subst (Each IsEntryRight) (ap opened_in (shell_after start log).is) (all_right log)))
+      (shell_right (shell_after start log).state e.step.taken.to.block e.step.taken (subst (Each IsEntryRight) (ap opened_in (shell_after start log).is) (all_right log)))
 
   -- what the API has of a transaction it was told to have begun
-  pub held_few : (tx : TxId) (log : List LogStep) → tally (has_tx tx) (opened_in (after start 0 log)) ≤ steps (is_start tx) log
+  pub held_few : (tx : TxId) (log : List HostStep) → tally (has_tx tx) (opened_in (after start 0 log)) ≤ steps (is_start tx) log
   held_few tx [] = omega (arith, ap (tally (has_tx tx)) (opened_first start))
   held_few tx (e ∷ log) =
       let s = shell_after start log in
-      omega (arith, held_few tx log, (shell_holds tx s.state e.taken.to.block e.taken.body s.good).0, ap (tally (has_tx tx)) (opened_next start e log), ap (λ g. tally (has_tx tx) (opened_in g)) s.is)
+      omega (arith, held_few tx log, (shell_holds tx s.state e.step.taken.to.block e.step.taken s.good).0, ap (tally (has_tx tx)) (opened_next start e log), ap (λ g. tally (has_tx tx) (opened_in g)) s.is)
 
 -- how a transaction stands of which so many operations and commits were asked for, and so many answered
 abbrev pub IsHeld : (operations keys commits answers : ℕ) → Doing → Type 0

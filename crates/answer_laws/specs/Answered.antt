@@ -1,5 +1,11 @@
 -- What the API's transactions wait for when nothing is under way.
-use Rattle.std.specs.Prelude.{◌≡◌, ◌≤◌, ℕ, Bool, true, false, is_some, List, [], Option, None, Some}
+use Rattle.frag_map.specs.Shape.{IsShape}
+use Rattle.tc_block.specs.Phases.{is_completing, is_aborting}
+use Rattle.host_laws.specs.Phases.{is_committing}
+use Rattle.host_laws.specs.Opened.{opened_after}
+use Rattle.world_core.specs.Hosts.{home, rows_host}
+use Rattle.node_core.specs.Blocks.{api_of, lqh_of, tc_of}
+use Rattle.std.specs.Prelude.{◌≡◌, ◌≤◌, ℕ, Bool, true, false, is_some, List, [], Option, None, Some, ◌<◌}
 use Rattle.api_block.specs.declared.opened.Doing.{Doing}
 use Rattle.api_block.specs.declared.opened.Doing.TheVariants.{Ready, Operating, Committing}
 use Rattle.api_block.specs.declared.opened.OpenTransaction.{OpenTransaction}
@@ -9,10 +15,9 @@ use Rattle.lqh_block.specs.Operate.{is_granted}
 use Rattle.lqh_block.specs.State.{LqhState}
 use Rattle.lqh_block.specs.Work.{work_key}
 use Rattle.node_core.specs.declared.host.Host.{Host}
-use Rattle.node_core.specs.declared.host.Host.TheVariants.{Shell, Node}
 use Rattle.run_theory.specs.Lists.{IsIn}
 use Rattle.run_theory.specs.Runs.{AreLogs, IsWithin}
-use Rattle.sig_core.specs.declared.log.LogStep.{LogStep}
+use Rattle.world_core.specs.Steps.{HostStep}
 use Rattle.sig_core.specs.declared.member.TxId.{TxId}
 use Rattle.sig_core.specs.Op.{key_of}
 use Rattle.tc_block.specs.declared.phase.Asked.{Asked}
@@ -21,18 +26,10 @@ use Rattle.tc_block.specs.declared.phase.Phase.TheVariants as phases
 use Rattle.tc_block.specs.declared.transaction.Transaction.{Transaction}
 use Rattle.tc_block.specs.Abort.{is_verifying}
 use Rattle.tc_block.specs.State.{TcState}
-use Rattle.world_core.specs.Machine.{after, hosts, machine}
+use Rattle.world_core.specs.Hosts.{hosts}
+use Rattle.world_core.specs.Machine.{after, machine}
 use Rattle.world_core.specs.Quiet.{IsQuiet}
 use Rattle.world_core.specs.Start.{Start}
-
--- the transactions that a host's API was asked for and whose end isn't reported; a node has none
-abbrev pub opened_in : Host → List OpenTransaction
-opened_in (Shell s) = s.opened
-opened_in (Node n) = []
-
--- those of these logs
-abbrev pub opened_after : Start → (ℕ → List LogStep) → List OpenTransaction
-opened_after start logs = opened_in (after start 0 (logs 0))
 
 -- a request of the transaction waits here in the queue of its key
 pub record IsQueued (tx : TxId) (s : LqhState) : Type 0 where
@@ -42,20 +39,14 @@ pub record IsQueued (tx : TxId) (s : LqhState) : Type 0 where
   pub queued : is_granted s.locks request ≡ false
 
 abbrev pub IsQueuedAt : TxId → Host → Type 0
-IsQueuedAt tx (Shell s) = ⊥
-IsQueuedAt tx (Node n) = IsQueued tx n.lqh
+IsQueuedAt tx host = IsQueued tx (lqh_of host)
 
 -- and so at a node
-pub record WaitsForLock (start : Start) (logs : ℕ → List LogStep) (tx : TxId) : Type 0 where
+pub record WaitsForLock (start : Start) (logs : ℕ → List HostStep) (tx : TxId) : Type 0 where
   pub node : ℕ
   pub from : 1 ≤ node
-  pub to : node ≤ start.nodes
-  pub there : IsQueuedAt tx (after start node (logs node))
-
--- it was reported committed, and is completed at the replicas
-abbrev pub is_completing : Phase → Bool
-is_completing (phases.Completing epoch awaited) = true
-is_completing _ = false
+  pub to : node ≤ start.shape.nodes
+  pub there : IsQueuedAt tx (after start (rows_host start node) (logs (rows_host start node)))
 
 -- the coordinator has the transaction, whose end it hasn't reported
 pub record IsLive (tx : TxId) (s : TcState) : Type 0 where
@@ -64,8 +55,7 @@ pub record IsLive (tx : TxId) (s : TcState) : Type 0 where
   pub unreported : is_completing transaction.phase ≡ false
 
 abbrev pub IsLiveAt : TxId → Host → Type 0
-IsLiveAt tx (Shell s) = ⊥
-IsLiveAt tx (Node n) = IsLive tx n.tc
+IsLiveAt tx host = IsLive tx (tc_of host)
 
 -- the coordinator has the transaction: it takes operations, and none is unanswered
 pub record IsOpen (tx : TxId) (s : TcState) : Type 0 where
@@ -75,29 +65,27 @@ pub record IsOpen (tx : TxId) (s : TcState) : Type 0 where
   pub asked : transaction.asked ≡ None
 
 abbrev pub IsOpenAt : TxId → Host → Type 0
-IsOpenAt tx (Shell s) = ⊥
-IsOpenAt tx (Node n) = IsOpen tx n.tc
+IsOpenAt tx host = IsOpen tx (tc_of host)
 
 -- what may be left unanswered when nothing is under way: no more than an operation that waits for a lock
-abbrev pub is_answered_by : Start → (ℕ → List LogStep) → Doing → Option TxId → Type 0
-is_answered_by start logs Ready (Some tx) = IsOpenAt tx (after start tx.tc (logs tx.tc))
+abbrev pub is_answered_by : Start → (ℕ → List HostStep) → Doing → Option TxId → Type 0
+is_answered_by start logs Ready (Some tx) = IsOpenAt tx (after start (home start tx) (logs (home start tx)))
 is_answered_by start logs Operating (Some tx) = WaitsForLock start logs tx
 is_answered_by start logs _ _ = ⊥
 
-abbrev pub IsAnswered : Start → (ℕ → List LogStep) → OpenTransaction → Type 0
+abbrev pub IsAnswered : Start → (ℕ → List HostStep) → OpenTransaction → Type 0
 IsAnswered start logs t = is_answered_by start logs t.doing t.tx
 
--- these are right logs, of one to eight nodes, and nothing is under way
-pub record AreQuiet (start : Start) (logs : ℕ → List LogStep) : Type 0 where
-  pub some : 1 ≤ start.nodes
-  pub few : start.nodes ≤ 8
+-- these are right logs, and nothing is under way
+pub record AreQuiet (start : Start) (logs : ℕ → List HostStep) : Type 0 where
+  pub shape : IsShape start.shape
   pub right : AreLogs (machine start) logs
   pub within : IsWithin (hosts start) logs
   pub quiet : IsQuiet (machine start) (hosts start) logs
 
 -- a claim about each transaction of quiet logs
-abbrev pub EachAtQuiet : (Start → (ℕ → List LogStep) → OpenTransaction → Type 0) → Type 0
-EachAtQuiet Claim = (start : Start) (logs : ℕ → List LogStep) (t : OpenTransaction) → AreQuiet start logs → IsIn t (opened_after start logs) → Claim start logs t
+abbrev pub EachAtQuiet : (Start → (ℕ → List HostStep) → OpenTransaction → Type 0) → Type 0
+EachAtQuiet Claim = (start : Start) (logs : ℕ → List HostStep) (t : OpenTransaction) → AreQuiet start logs → IsIn t (opened_after start logs) → Claim start logs t
 
 -- each command is answered, but for an operation that waits for a lock
 abbrev pub EachIsAnswered : Type 0
@@ -116,16 +104,15 @@ is_operating Operating = true
 is_operating _ = false
 
 -- a transaction that has begun, and whose end isn't reported, is one of its coordinator, which hasn't reported it either
-abbrev pub HasCoordinator : Start → (ℕ → List LogStep) → OpenTransaction → Type 0
-HasCoordinator start logs t = (tx : TxId) → t.tx ≡ Some tx → IsLiveAt tx (after start tx.tc (logs tx.tc))
+abbrev pub HasCoordinator : Start → (ℕ → List HostStep) → OpenTransaction → Type 0
+HasCoordinator start logs t = (tx : TxId) → t.tx ≡ Some tx → IsLiveAt tx (after start (home start tx) (logs (home start tx)))
 
 abbrev pub EachHasCoordinator : Type 0
 EachHasCoordinator = EachAtQuiet HasCoordinator
 
 -- the transaction is one of this host's coordinator
 abbrev pub IsLiveAs : TxId → Transaction → Host → Type 0
-IsLiveAs tx t (Shell s) = ⊥
-IsLiveAs tx t (Node n) = IsIn (tx, t) n.tc.live
+IsLiveAs tx t host = IsIn (tx, t) (tc_of host).live
 
 -- a request of the transaction for the key is among those whose lock wasn't granted when they came
 pub record IsWaiting (tx : TxId) (key : List ℕ) (s : LqhState) : Type 0 where
@@ -135,46 +122,40 @@ pub record IsWaiting (tx : TxId) (key : List ℕ) (s : LqhState) : Type 0 where
   pub on : work_key request.work ≡ key
 
 abbrev pub IsWaitingAt : TxId → List ℕ → Host → Type 0
-IsWaitingAt tx key (Shell s) = ⊥
-IsWaitingAt tx key (Node n) = IsWaiting tx key n.lqh
+IsWaitingAt tx key host = IsWaiting tx key (lqh_of host)
 
 -- and so at a node
-pub record Waits (start : Start) (logs : ℕ → List LogStep) (tx : TxId) (key : List ℕ) : Type 0 where
+pub record Waits (start : Start) (logs : ℕ → List HostStep) (tx : TxId) (key : List ℕ) : Type 0 where
   pub node : ℕ
   pub from : 1 ≤ node
-  pub to : node ≤ start.nodes
-  pub there : IsWaitingAt tx key (after start node (logs node))
+  pub to : node ≤ start.shape.nodes
+  pub there : IsWaitingAt tx key (after start (rows_host start node) (logs (rows_host start node)))
 
 -- an operation that a coordinator's transaction has unanswered waits at a node
 abbrev pub EachOperationWaits : Type 0
 EachOperationWaits =
-    (start : Start) (logs : ℕ → List LogStep) (node : ℕ) (tx : TxId) (t : Transaction) (asked : Asked) → AreQuiet start logs → node ≤ start.nodes
-    → IsLiveAs tx t (after start node (logs node)) → t.asked ≡ Some asked → Waits start logs tx (key_of asked.op)
+    (start : Start) (logs : ℕ → List HostStep) (h : ℕ) (tx : TxId) (t : Transaction) (asked : Asked) → AreQuiet start logs → h < hosts start
+    → IsLiveAs tx t (after start h (logs h)) → t.asked ≡ Some asked → Waits start logs tx (key_of asked.op)
 
 -- a transaction that has an operation unanswered at its coordinator is one whose operation was sent
-abbrev pub AsksWhereOperating : Start → (ℕ → List LogStep) → OpenTransaction → Type 0
+abbrev pub AsksWhereOperating : Start → (ℕ → List HostStep) → OpenTransaction → Type 0
 AsksWhereOperating start logs t =
-    (tx : TxId) (u : Transaction) (asked : Asked) → t.tx ≡ Some tx → IsLiveAs tx u (after start tx.tc (logs tx.tc)) → u.asked ≡ Some asked → is_operating t.doing ≡ true
+    (tx : TxId) (u : Transaction) (asked : Asked) → t.tx ≡ Some tx → IsLiveAs tx u (after start (home start tx) (logs (home start tx))) → u.asked ≡ Some asked → is_operating t.doing ≡ true
 
 abbrev pub EachAsksWhereOperating : Type 0
 EachAsksWhereOperating = EachAtQuiet AsksWhereOperating
 
--- its keys are being committed
-abbrev pub is_committing : Phase → Bool
-is_committing (phases.Committing epoch awaited) = true
-is_committing _ = false
-
 -- no coordinator waits for keys of a transaction to be committed
 abbrev pub NoCommitIsAwaited : Type 0
 NoCommitIsAwaited =
-    (start : Start) (logs : ℕ → List LogStep) (node : ℕ) (tx : TxId) (t : Transaction) → AreQuiet start logs → node ≤ start.nodes
-    → IsLiveAs tx t (after start node (logs node)) → is_committing t.phase ≡ false
+    (start : Start) (logs : ℕ → List HostStep) (h : ℕ) (tx : TxId) (t : Transaction) → AreQuiet start logs → h < hosts start
+    → IsLiveAs tx t (after start h (logs h)) → is_committing t.phase ≡ false
 
 -- The coordinator of a transaction whose end isn't reported has it. It hasn't reported the end either, and doesn't wait
 -- for keys to be committed. If it has an operation unanswered, the API has sent that, and it waits at a node.
-pub record IsServed (start : Start) (logs : ℕ → List LogStep) (t : OpenTransaction) (tx : TxId) : Type 0 where
+pub record IsServed (start : Start) (logs : ℕ → List HostStep) (t : OpenTransaction) (tx : TxId) : Type 0 where
   pub transaction : Transaction
-  pub live : IsLiveAs tx transaction (after start tx.tc (logs tx.tc))
+  pub live : IsLiveAs tx transaction (after start (home start tx) (logs (home start tx)))
   pub unreported : is_completing transaction.phase ≡ false
   pub uncommitted : is_committing transaction.phase ≡ false
   pub operating : (asked : Asked) → transaction.asked ≡ Some asked → is_operating t.doing ≡ true
@@ -186,32 +167,27 @@ EachIsServed = EachAtQuiet (λ start logs t. (tx : TxId) → t.tx ≡ Some tx �
 -- no transaction waits for its epoch
 abbrev pub NoEpochIsAwaited : Type 0
 NoEpochIsAwaited =
-    (start : Start) (logs : ℕ → List LogStep) (node : ℕ) (tx : TxId) (t : Transaction) → AreQuiet start logs → node ≤ start.nodes
-    → IsLiveAs tx t (after start node (logs node)) → is_verifying t.phase ≡ false
-
--- it is being aborted
-abbrev pub is_aborting : Phase → Bool
-is_aborting (phases.Aborting why verifying awaited) = true
-is_aborting _ = false
+    (start : Start) (logs : ℕ → List HostStep) (h : ℕ) (tx : TxId) (t : Transaction) → AreQuiet start logs → h < hosts start
+    → IsLiveAs tx t (after start h (logs h)) → is_verifying t.phase ≡ false
 
 -- no transaction that has no operation unanswered waits for the end of its abort
 abbrev pub NoAbortIsAwaited : Type 0
 NoAbortIsAwaited =
-    (start : Start) (logs : ℕ → List LogStep) (node : ℕ) (tx : TxId) (t : Transaction) → AreQuiet start logs → node ≤ start.nodes
-    → IsLiveAs tx t (after start node (logs node)) → t.asked ≡ None → is_aborting t.phase ≡ false
+    (start : Start) (logs : ℕ → List HostStep) (h : ℕ) (tx : TxId) (t : Transaction) → AreQuiet start logs → h < hosts start
+    → IsLiveAs tx t (after start h (logs h)) → t.asked ≡ None → is_aborting t.phase ≡ false
 
 -- A transaction whose operation was sent has it unanswered at its coordinator, where that has the transaction open.
-abbrev pub AskedWhereOperating : Start → (ℕ → List LogStep) → OpenTransaction → Type 0
+abbrev pub AskedWhereOperating : Start → (ℕ → List HostStep) → OpenTransaction → Type 0
 AskedWhereOperating start logs t =
-    (tx : TxId) (u : Transaction) → t.tx ≡ Some tx → t.doing ≡ Operating → IsLiveAs tx u (after start tx.tc (logs tx.tc)) → u.phase ≡ phases.Open → is_some u.asked ≡ true
+    (tx : TxId) (u : Transaction) → t.tx ≡ Some tx → t.doing ≡ Operating → IsLiveAs tx u (after start (home start tx) (logs (home start tx))) → u.phase ≡ phases.Open → is_some u.asked ≡ true
 
 abbrev pub EachAskedWhereOperating : Type 0
 EachAskedWhereOperating = EachAtQuiet AskedWhereOperating
 
 -- One whose commit was asked for isn't open at its coordinator.
-abbrev pub ClosedWhereCommitting : Start → (ℕ → List LogStep) → OpenTransaction → Type 0
+abbrev pub ClosedWhereCommitting : Start → (ℕ → List HostStep) → OpenTransaction → Type 0
 ClosedWhereCommitting start logs t =
-    (tx : TxId) (u : Transaction) → t.tx ≡ Some tx → t.doing ≡ Committing → IsLiveAs tx u (after start tx.tc (logs tx.tc)) → u.phase ≡ phases.Open → ⊥
+    (tx : TxId) (u : Transaction) → t.tx ≡ Some tx → t.doing ≡ Committing → IsLiveAs tx u (after start (home start tx) (logs (home start tx))) → u.phase ≡ phases.Open → ⊥
 
 abbrev pub EachClosedWhereCommitting : Type 0
 EachClosedWhereCommitting = EachAtQuiet ClosedWhereCommitting
@@ -226,5 +202,5 @@ EachIsNumbered = EachAtQuiet (λ start logs t. IsNumbered t)
 -- an operation that a coordinator's transaction has unanswered waits in the queue of a lock
 abbrev pub EachOperationIsQueued : Type 0
 EachOperationIsQueued =
-    (start : Start) (logs : ℕ → List LogStep) (node : ℕ) (tx : TxId) (t : Transaction) (asked : Asked) → AreQuiet start logs → node ≤ start.nodes
-    → IsLiveAs tx t (after start node (logs node)) → t.asked ≡ Some asked → WaitsForLock start logs tx
+    (start : Start) (logs : ℕ → List HostStep) (h : ℕ) (tx : TxId) (t : Transaction) (asked : Asked) → AreQuiet start logs → h < hosts start
+    → IsLiveAs tx t (after start h (logs h)) → t.asked ≡ Some asked → WaitsForLock start logs tx

@@ -1,6 +1,7 @@
 -- What the crates above use of the API: replies that were given change nothing, and it sends no request of the shell.
 use Rattle.std.proofs.Common.{◌≡◌, true, false, List, refl, ap}
 use Rattle.std.specs.Prelude.{None, Some}
+use Rattle.sig_core.specs.declared.mark.Mark.{Mark}
 use Rattle.sig_core.specs.declared.reply.ApiReply.{ApiReply}
 use Rattle.sig_core.specs.declared.request.ApiReq.{ApiReq}
 use Rattle.sig_core.specs.declared.request.ApiReq.TheVariants.{Begin, Operate, Commit, Abort, Tick, Rows, Digest, Waits, Pending}
@@ -11,11 +12,12 @@ use Rattle.sig_core.specs.declared.signal.host.HostSignal.TheVariants.{Continue}
 use Rattle.sig_core.specs.declared.signal.host.Work.TheVariants.{Request}
 use Rattle.sig_core.specs.Step.{stay}
 use Rattle.api_block.specs.Api.{api_table, request_row}
+use Rattle.api_block.specs.declared.opened.OpenTransaction.{OpenTransaction}
 use Rattle.api_block.specs.Given.{in_given, step_in_given}
 use Rattle.api_block.specs.Opened.{is_left_open}
-use Rattle.api_block.specs.Requests.{asks_nothing}
 use Rattle.api_block.specs.State.{ApiState}
-use Rattle.api_block.proofs.ApiAsks.{AsksNothing, abort_asks, abort_report_asks, answer_asks, begin_asks, begun_asks, commit_asks, commit_report_asks, dump_asks, dumped_asks, lone_asks, operate_asks, pending_asks, tick_asks, waits_asks}
+use Rattle.api_block.proofs.EachApi.{api_each, opened_any}
+use Rattle.api_block.proofs.Quiet.{AsksNone, AsksNothing, each_asks_none}
 use Rattle.api_block.proofs.ApiGiven.{abort_given, abort_report_given, answer_given, begin_given, begun_given, behind_given, commit_given, commit_report_given, dump_given, dumped_given, lone_given, operate_given, pending_given, refuse_given, tick_given, waits_given}
 
 -- at a request
@@ -51,28 +53,24 @@ given_row given s _ = refl
 pub given_open : (given : List ApiReply) (s : ApiState) → is_left_open (in_given given s) ≡ is_left_open s
 given_open given s = refl
 
-asks_at_request : (s : ApiState) (request : ApiReq) → AsksNothing (request_row s request)
-unfolding request_row
-asks_at_request s (Begin name node) = begin_asks s name node
-asks_at_request s (Operate None op) = lone_asks s op
-asks_at_request s (Operate (Some name) op) = operate_asks s name op
-asks_at_request s (Commit name) = commit_asks s name
-asks_at_request s (Abort name) = abort_asks s name
-asks_at_request s (Tick round of) = tick_asks s round of
-asks_at_request s (Rows node) = dump_asks s node false
-asks_at_request s (Digest node) = dump_asks s node true
-asks_at_request s Waits = waits_asks s
-asks_at_request s Pending = pending_asks s
-asks_at_request s _ = refl
-
 -- the API sends no request of the shell
-pub api_asks : (s : ApiState) (body : Body) → asks_nothing (api_table s body).effects.sends ≡ true
-api_asks s (Host (Continue (Request request) at)) = asks_at_request s request
-api_asks s (Client (TcBeginConf name tx)) = begun_asks s name tx
-api_asks s (Client (TcBeginRef name)) = refl
-api_asks s (Client (TcKeyConf tx answer)) = answer_asks s tx answer
-api_asks s (Client (TcCommitConf tx epoch)) = commit_report_asks s tx epoch
-api_asks s (Client (TcRollbackRep tx cause)) = abort_report_asks s tx cause
-api_asks s (Client (TcWaitConf tx ahead)) = refl
-api_asks s (Client (DumpConf rows next)) = dumped_asks s rows next
-api_asks s _ = refl
+pub api_asks : (s : ApiState) (body : Body) → AsksNothing (api_table s body)
+api_asks s body =
+    each_asks_none (api_table s body).effects.sends
+    (api_each (λ (t : OpenTransaction). Unit {0}) AsksNone (λ (m : Mark). Unit {0}) s body
+    (record {
+      asked = λ name node op. tt;
+      changed = λ t u same own. tt;
+      begun = λ name tx u is own. tt;
+      begins = λ name node. refl;
+      operates = λ t tx op own is. refl;
+      commits = λ t tx own is. refl;
+      rolls_back = λ t tx own is. refl;
+      waits = λ t tx own is. refl;
+      ticks = λ node. refl;
+      acknowledges = λ tx epoch node is. refl;
+      dumps = λ node at. refl;
+      committed = λ tx epoch is. tt;
+      aborted = λ tx why is. tt;
+    })
+    (opened_any s.opened)).sends

@@ -301,6 +301,11 @@ api_each K P M s (Client (TcWaitConf tx ahead)) forms all = behind_each K P M _ 
 api_each K P M s (Client (DumpConf rows next)) forms all = dumped_each K P M _ forms s all rows next
 api_each K P M s _ forms all = record { opened = all; sends = tt; marks = tt }
 
+-- what asks nothing of a transaction holds of each that is opened
+pub opened_any : (opened : List OpenTransaction) → Each (λ (t : OpenTransaction). Unit {0}) opened
+opened_any [] = tt
+opened_any (t ∷ more) = (tt, opened_any more)
+
 -- what is marked, whatever is sent
 pub api_marks_each : (M : Mark → Type 0) (s : ApiState) (body : Body) → ((tx : TxId) (epoch : ℕ) → body ≡ Client (TcCommitConf tx epoch) → M (Reported tx (outcome.Committed epoch)))
     → ((tx : TxId) (why : AbortCause) → body ≡ Client (TcRollbackRep tx why) → M (Reported tx (outcome.Aborted why))) → Each M (api_table s body).effects.marks
@@ -319,8 +324,4 @@ api_marks_each M s body committed aborted =
       dumps = λ node at. tt;
       committed = committed;
       aborted = aborted;
-    }) (any s.opened)).marks
-  where
-    any : (opened : List OpenTransaction) → Each (λ (t : OpenTransaction). Unit {0}) opened
-    any [] = tt
-    any (t ∷ more) = (tt, any more)
+    }) (opened_any s.opened)).marks

@@ -1,6 +1,6 @@
-pub mod ApiAsks
 pub mod ApiGiven
 pub mod ApiLemmas
 pub mod EachApi
 pub mod GatheredLemmas
 pub mod MemberLemmas
+pub mod Quiet

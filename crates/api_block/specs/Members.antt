@@ -12,6 +12,7 @@ use Rattle.sig_core.specs.Place.{rows_of}
 use Rattle.sig_core.specs.Step.{to_place}
 use Rattle.api_block.specs.declared.members.News.{News}
 use Rattle.api_block.specs.declared.members.News.TheVariants as news
+use Rattle.api_block.specs.declared.members.TheConstants.{TOLD}
 
 abbrev pub is_at : ℕ → Member → Bool
 is_at node member = member.node == node
@@ -39,7 +40,7 @@ least_node (member ∷ members) = Some (least_from member.node members)
 
 -- the full members and then the starting ones. A view has at most eight in all; of a longer list the first twelve count
 unfoldable pub everyone : View → List Member
-everyone view = view.full ++ take (12 - length view.full) view.starting
+everyone view = view.full ++ take (TOLD - length view.full) view.starting
 
 -- what the rows of each are told
 abbrev pub news_body : News → Body

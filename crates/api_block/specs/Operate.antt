@@ -12,6 +12,7 @@ use Rattle.sig_core.specs.Step.{Step, stay, sending}
 use Rattle.api_block.specs.declared.opened.Doing.{Doing}
 use Rattle.api_block.specs.declared.opened.Doing.TheVariants.{Beginning, Ready, Operating, Committing}
 use Rattle.api_block.specs.declared.opened.OpenTransaction.{OpenTransaction}
+use Rattle.api_block.specs.declared.operate.TheConstants.{OPERATIONS}
 use Rattle.api_block.specs.Members.{least_node}
 use Rattle.api_block.specs.Opened.{answered, begins_at, begun, begun_operating, operating, place_named, place_of, where_at}
 use Rattle.api_block.specs.Commands.{beginning}
@@ -35,7 +36,7 @@ operate_if s name op at t tx true = key_request (about (changing s at (operating
 operate_if s name op at t tx false = refused s (Some name) TooManyOperations
 
 abbrev pub operate_by : ApiState → ℕ → Op → ℕ → OpenTransaction → Doing → Option TxId → Step ApiState
-operate_by s name op at t Ready (Some tx) = operate_if s name op at t tx (nat_lt t.operations 64)
+operate_by s name op at t Ready (Some tx) = operate_if s name op at t tx (nat_lt t.operations OPERATIONS)
 operate_by s name op at t _ _ = refused s (Some name) Busy
 
 unfoldable pub operate_row : ApiState → ℕ → Op → Step ApiState

@@ -1,12 +1,10 @@
 -- An abort of a transaction that takes commands ends in its being aborted at the client's request.
 use Rattle.std.proofs.Common.{◌≡◌, ◌⊎◌, ◌<◌, ◌≤◌, ◌+◌, ℕ, zero, suc, Bool, true, false, List, [], ◌∷◌, ◌++◌, refl, sym, ap, ◌∙◌, subst, inl, inr, append_assoc, arith}
-use Rattle.std.proofs.lemmas.Bool.{cases_lt}
 use Rattle.std.specs.Prelude.{if◌then◌else◌, Some}
-use Rattle.run_theory.specs.Cuts.{IsCut}
-use Rattle.run_theory.specs.Links.{sent}
-use Rattle.run_theory.specs.Lists.{Each, IsIn}
 use Rattle.run_theory.proofs.Pasts.{each_in, each_map}
-use Rattle.sig_core.specs.declared.log.LogStep.{LogStep}
+use Rattle.run_theory.specs.Cuts.{IsCut}
+use Rattle.run_theory.specs.Lists.{Each, IsIn}
+use Rattle.sig_core.proofs.Keys.{same_tx-self}
 use Rattle.sig_core.specs.declared.member.TxId.{TxId}
 use Rattle.sig_core.specs.declared.outcome.AbortCause.{AbortCause}
 use Rattle.sig_core.specs.declared.outcome.AbortCause.TheVariants as cause
@@ -19,36 +17,38 @@ use Rattle.sig_core.specs.declared.request.ApiReq.TheVariants.{Abort}
 use Rattle.sig_core.specs.declared.signal.Body.{Body}
 use Rattle.sig_core.specs.declared.signal.Body.TheVariants.{Client}
 use Rattle.sig_core.specs.declared.signal.client.ClientSignal.TheVariants.{TcCommitConf, TcKeyReq, TcCommitReq, TcRollbackRep}
-use Rattle.sig_core.specs.Place.{client}
 use Rattle.sig_core.specs.Same.{same_tx}
 use Rattle.api_block.specs.declared.opened.Doing.TheVariants.{Ready}
 use Rattle.api_block.specs.declared.opened.OpenTransaction.{OpenTransaction}
+use Rattle.node_core.specs.Blocks.{api_of, tc_of}
 use Rattle.node_core.specs.Replies.{replies_of}
 use Rattle.node_core.specs.Requests.{is_request}
-use Rattle.node_core.specs.Row.{row}
-use Rattle.world_core.specs.Machine.{after, hosts, machine, step_after}
+use Rattle.world_core.specs.Hosts.{home, hosts}
+use Rattle.world_core.specs.Machine.{after, step_after}
 use Rattle.world_core.specs.Start.{Start}
-use Rattle.answer_laws.proofs.ApiBegins.{in_middle}
-use Rattle.answer_laws.proofs.Hosts.{shell_after}
-use Rattle.answer_laws.proofs.LinkCounts.{signals, steps}
-use Rattle.answer_laws.proofs.Lives.{keeps}
-use Rattle.answer_laws.proofs.Tally.{one_if, tally_in}
-use Rattle.answer_laws.proofs.TcLives.{is_keyed, is_start}
-use Rattle.answer_laws.proofs.Wishes.{is_tc, sends_of, to_node}
-use Rattle.answer_laws.specs.Answered.{EachIsAnswered, IsOpenAt, opened_after, opened_in}
+use Rattle.world_core.specs.Steps.{HostStep}
+use Rattle.host_laws.specs.Counts.{one_if}
+use Rattle.run_laws.proofs.AlongSteps.{live_tx}
+use Rattle.host_laws.proofs.ApiBegins.{in_middle}
+use Rattle.host_laws.proofs.LinkCounts.{steps}
+use Rattle.answer_laws.proofs.Lives.{live_low}
+use Rattle.host_laws.proofs.Wishes.{is_tc, sends_of}
+use Rattle.answer_laws.specs.Answered.{EachIsAnswered, IsOpenAt}
+use Rattle.host_laws.specs.Opened.{opened_after, opened_in}
 use Rattle.command_laws.proofs.AbortFirst.{IsAbortAsked, abort_first}
-use Rattle.command_laws.proofs.AbortSteps.{IsLooseNow, LooseOption, is_more_to, is_roll_to, is_wrong, more_of, node_run, rolled, shell_run, wrong_of}
+use Rattle.command_laws.proofs.AbortSteps.{IsLooseNow, LooseOption, is_more_to, is_roll_to, is_wrong, more_of, host_run, rolled, wrong_of}
 use Rattle.command_laws.proofs.AbortTurns.{is_loose, is_requested}
 use Rattle.command_laws.proofs.ApiChanges.{outcome_in}
-use Rattle.command_laws.proofs.CommitGoes.{HasEnded, entry_goes}
 use Rattle.command_laws.proofs.Committed.{cut_at_first, sent_append}
 use Rattle.command_laws.proofs.EarlySteps.{is_wish_to}
 use Rattle.command_laws.proofs.EndsWell.{replied}
 use Rattle.command_laws.proofs.Entries.{HasOne}
-use Rattle.command_laws.proofs.FirmAtQuiet.{open_at}
+use Rattle.command_laws.proofs.EntryGoes.{HasEnded, entry_goes}
 use Rattle.command_laws.proofs.FirmHosts.{is_push_to}
-use Rattle.command_laws.proofs.First.{IsFirst, request_first}
+use Rattle.command_laws.proofs.First.{IsFirst, first_step, request_first}
 use Rattle.command_laws.proofs.HoldersTold.{sent_to_append, taken_few}
+use Rattle.command_laws.proofs.Homes.{sound_at}
+use Rattle.command_laws.proofs.HostSteps.{api_seen}
 use Rattle.command_laws.proofs.OperateAsks.{AreNamed, named_since}
 use Rattle.command_laws.proofs.Pushes.{calm_since, is_node_kind, node_since}
 use Rattle.command_laws.proofs.ReadyAtQuiet.{named_at, opens, ready_open}
@@ -57,9 +57,7 @@ use Rattle.command_laws.proofs.Since.{all_arrive, none_taken, sent_since}
 use Rattle.command_laws.proofs.TellsOnce.{live_early}
 use Rattle.command_laws.proofs.TellsSince.{OnTc}
 use Rattle.command_laws.proofs.Tests.{and_off, none_at}
-use Rattle.command_laws.proofs.WaitRows.{in_live}
 use Rattle.command_laws.specs.Aborts.{ReadyAbortsAreAnswered}
-use Rattle.sig_core.proofs.Keys.{same_tx-self}
 use Rattle.command_laws.specs.Served.{IsServed, named_in, replies_since}
 
 -- an end that isn't wrong is an abort at the client's request
@@ -90,7 +88,7 @@ fewer_sent : (tx : TxId) (sends : List Outgoing) → sends_of (is_more_to tx) se
 fewer_sent tx [] = omega arith
 fewer_sent tx (o ∷ sends) = omega (arith, fewer_sent tx sends, more_less tx o.to o.body)
 
-fewer_since : (start : Start) (tx : TxId) (h : ℕ) (newer log : List LogStep) → sent_since start (is_more_to tx) h newer log ≤ sent_since start (is_wish_to tx) h newer log + sent_since start (is_push_to tx) h newer log
+fewer_since : (start : Start) (tx : TxId) (h : ℕ) (newer log : List HostStep) → sent_since start (is_more_to tx) h newer log ≤ sent_since start (is_wish_to tx) h newer log + sent_since start (is_push_to tx) h newer log
 fewer_since start tx h [] log = omega arith
 fewer_since start tx h (e ∷ newer) log = omega (arith, fewer_since start tx h newer log, fewer_sent tx (step_after start h (newer ++ log) e).effects.sends)
 
@@ -111,15 +109,15 @@ more_node tx to body e = and_off (is_tc to.block) (plain body e)
     plain _ k = refl
 
 -- where the wish came in one of these steps it was asked for
-was_rolled : (tx : TxId) (newer : List LogStep) → 1 ≤ steps (is_roll_to tx) newer → rolled tx newer ≡ true
+was_rolled : (tx : TxId) (newer : List HostStep) → 1 ≤ steps (is_roll_to tx) newer → rolled tx newer ≡ true
 was_rolled tx [] some = absurd (omega (arith, some))
-was_rolled tx (e ∷ newer) some = by (is_roll_to tx e.taken.to e.taken.body) refl (was_rolled tx newer)
+was_rolled tx (e ∷ newer) some = by (is_roll_to tx e.step.taken.to e.step.taken.body) refl (was_rolled tx newer)
   where
-    by : (b : Bool) → is_roll_to tx e.taken.to e.taken.body ≡ b → (1 ≤ steps (is_roll_to tx) newer → rolled tx newer ≡ true) → (if b then true else rolled tx newer) ≡ true
+    by : (b : Bool) → is_roll_to tx e.step.taken.to e.step.taken.body ≡ b → (1 ≤ steps (is_roll_to tx) newer → rolled tx newer ≡ true) → (if b then true else rolled tx newer) ≡ true
     by true is rest = refl
     by false is rest = rest (omega (arith, some, ap one_if is))
 
-module _ (answered : EachIsAnswered) (start : Start) (was now : ℕ → List LogStep) (name : ℕ) (t : OpenTransaction) (tx : TxId) (served : IsServed start was now (Abort name))
+module _ (answered : EachIsAnswered) (start : Start) (was now : ℕ → List HostStep) (name : ℕ) (t : OpenTransaction) (tx : TxId) (served : IsServed start was now (Abort name))
     (named : named_in (opened_after start was) name ≡ Some t) (ready : t.doing ≡ Ready) (own : t.tx ≡ Some tx) where
   f : IsFirst start was now (Abort name)
   f = request_first start was now (Abort name) served
@@ -130,21 +128,21 @@ module _ (answered : EachIsAnswered) (start : Start) (was now : ℕ → List Log
   were : AreNamed tx (opened_after start was)
   were = named_at start was served.before name t tx named own
 
-  asked : IsAbortAsked tx name (step_after start 0 (was 0) f.first)
-  asked =
-      subst (λ (to : Place). IsAbortAsked tx name (row (after start 0 (was 0)) to f.first.taken.body)) (sym f.place)
-      (subst (λ body. IsAbortAsked tx name (row (after start 0 (was 0)) client body)) (sym f.body) (abort_first (after start 0 (was 0)) name t tx named ready own were))
+  asked : IsAbortAsked start tx name (api_seen (step_after start 0 (was 0) f.first))
+  asked = subst (IsAbortAsked start tx name) (sym (first_step start was now (Abort name) f)) (abort_first start (api_of (after start 0 (was 0))) name t tx named ready own were)
 
-  is_open : IsOpenAt tx (after start tx.tc (was tx.tc))
+  is_open : IsOpenAt tx (after start (home start tx) (was (home start tx)))
   is_open = ready_open start was served.before name t tx named own answered ready
 
-  loose_was : (h : ℕ) → tx.tc ≡ suc h → OnTc (IsLooseNow tx false) (after start (suc h) (was (suc h)))
+  loose_was : (h : ℕ) → home start tx ≡ h → OnTc (IsLooseNow tx false) (after start h (was h))
   loose_was h at =
-      let k = keeps start tx h (was (suc h)) in
-      let o = open_at start tx (after start (suc h) (was (suc h))) k.state k.is (subst (λ m. IsOpenAt tx (after start m (was m))) at is_open) in
-      let live = in_live tx o.transaction k.state.tc.live o.live (omega (arith, k.keeps.began, k.keeps.once)) in
-      subst (OnTc (IsLooseNow tx false)) (sym k.is)
-      (record { loose = subst (LooseOption false) (sym live) (ap (is_loose false) o.phase, o.asked); early = live_early tx k.state.tc.node k.state.tc.next_seq k.state.tc.live o.transaction k.keeps.own live })
+      let o : IsOpenAt tx (after start h (was h)) = subst (λ k. IsOpenAt tx (after start k (was k))) at is_open in
+      let sound = sound_at start tx h (was h) in
+      let live = live_tx start tx h (was h) o.transaction o.live in
+      record {
+        loose = subst (LooseOption false) (sym live) (ap (is_loose false) o.phase, o.asked);
+        early = live_early tx (tc_of (after start h (was h))).node (tc_of (after start h (was h))).next_seq (tc_of (after start h (was h))).live o.transaction sound.own live;
+      }
 
   no_more : (h : ℕ) → sent_since start (is_more_to tx) h (cut h).newer (was h) ≡ 0
   no_more zero =
@@ -158,26 +156,21 @@ module _ (answered : EachIsAnswered) (start : Start) (was now : ℕ → List Log
       )
   no_more (suc h) = node_since start (is_more_to tx) (more_node tx) h (cut (suc h)).newer (was (suc h))
 
-  none_more : (h : ℕ) → Each (λ (e : LogStep). is_more_to tx e.taken.to e.taken.body ≡ false) (cut h).newer
+  none_more : (h : ℕ) → Each (λ (e : HostStep). is_more_to tx e.step.taken.to e.step.taken.body ≡ false) (cut h).newer
   none_more h =
-      each_map (λ (e : LogStep). is_request e.taken.body ≡ false → is_more_to tx e.taken.to e.taken.body ≡ false) (λ (e : LogStep). is_more_to tx e.taken.to e.taken.body ≡ false) (cut h).newer
-      (none_at (is_more_to tx) (more_request tx)) (none_taken start was now served.before served.since cut (is_more_to tx) no_more h)
+      each_map (λ (e : HostStep). is_request e.step.taken.body ≡ false → is_more_to tx e.step.taken.to e.step.taken.body ≡ false) (λ (e : HostStep). is_more_to tx e.step.taken.to e.step.taken.body ≡ false) (cut h).newer
+      (none_at (is_more_to tx) (more_request tx)) (none_taken start was now served.before served.since cut (is_more_to tx) (λ i low. no_more i) h)
 
-  run : (h : ℕ) → (sent_since start (is_wrong tx) (suc h) (cut (suc h)).newer (was (suc h)) ≡ 0)
-      × (tx.tc ≡ suc h → OnTc (IsLooseNow tx (rolled tx (cut (suc h)).newer)) (after start (suc h) ((cut (suc h)).newer ++ was (suc h))))
-  run h = node_run tx start h (cut (suc h)).newer (was (suc h)) (none_more (suc h)) (loose_was h)
+  run : (h : ℕ) → h < hosts start → (sent_since start (is_wrong tx) h (cut h).newer (was h) ≡ 0) × (home start tx ≡ h → OnTc (IsLooseNow tx (rolled tx (cut h).newer)) (after start h ((cut h).newer ++ was h)))
+  run h low = host_run tx start h low (cut h).newer (was h) (none_more h) (loose_was h)
 
-  no_wrong : (h : ℕ) → sent_since start (is_wrong tx) h (cut h).newer (was h) ≡ 0
-  no_wrong zero = shell_run tx start (cut 0).newer (was 0)
-  no_wrong (suc h) = (run h).0
-
-  none_wrong : Each (λ (e : LogStep). is_request e.taken.body ≡ false → is_wrong tx e.taken.to e.taken.body ≡ false) (f.later ++ f.first ∷ [])
-  none_wrong = none_taken start was now served.before served.since cut (is_wrong tx) no_wrong 0
+  none_wrong : Each (λ (e : HostStep). is_request e.step.taken.body ≡ false → is_wrong tx e.step.taken.to e.step.taken.body ≡ false) (f.later ++ f.first ∷ [])
+  none_wrong = none_taken start was now served.before served.since cut (is_wrong tx) (λ i low. (run i low).0) 0
 
   ended_right : HasEnded tx (Some name) start f.later (f.first ∷ was 0) → IsIn (Ended (Some name) (outcome.Aborted cause.Request)) (replies_since start was now)
   ended_right ended =
       replied start was now (Abort name) served f ended.newer ended.step ended.older (Ended (Some name) (outcome.Aborted cause.Request)) ended.is
-      (ended.ending.told ∙ ap (λ end. replies_of (after start 0 (ended.older ++ f.first ∷ was 0)) ++ Ended (Some name) end ∷ []) (ends_right tx ended.step.taken.body ended.ending.outcome ended.ending.about right))
+      (ended.ending.told ∙ ap (λ end. replies_of (after start 0 (ended.older ++ f.first ∷ was 0)) ++ Ended (Some name) end ∷ []) (ends_right tx ended.step.step.taken.body ended.ending.outcome ended.ending.about right))
     where
       inside : IsIn ended.step f.later
       inside = subst (IsIn ended.step) (sym ended.is) (in_middle ended.newer ended.step ended.older)
@@ -187,62 +180,42 @@ module _ (answered : EachIsAnswered) (start : Start) (was now : ℕ → List Log
           subst (λ w. IsIn ended.step (w ++ f.first ∷ [])) (sym ended.is)
           (subst (IsIn ended.step) (sym (append_assoc ended.newer (ended.step ∷ ended.older) (f.first ∷ []))) (in_middle ended.newer ended.step (ended.older ++ f.first ∷ [])))
 
-      right : wrong_of tx ended.step.taken.body ≡ false
+      right : wrong_of tx ended.step.step.taken.body ≡ false
       right =
-          each_in (λ (e : LogStep). is_request e.taken.body ≡ false → is_wrong tx e.taken.to e.taken.body ≡ false) ended.step (f.later ++ f.first ∷ []) none_wrong in_newer
-          (each_in (λ (e : LogStep). is_request e.taken.body ≡ false) ended.step f.later f.plain inside)
+          each_in (λ (e : HostStep). is_request e.step.taken.body ≡ false → is_wrong tx e.step.taken.to e.step.taken.body ≡ false) ended.step (f.later ++ f.first ∷ []) none_wrong in_newer
+          (each_in (λ (e : HostStep). is_request e.step.taken.body ≡ false) ended.step f.later f.plain inside)
 
-  -- the shell's host has no coordinator
-  no_shell : (logs : ℕ → List LogStep) → IsOpenAt tx (after start 0 (logs 0)) → ⊥
-  no_shell logs o = subst (IsOpenAt tx) (shell_after start (logs 0)).is o
-
-  -- its coordinator is one of the nodes
-  node_low : (h : ℕ) → IsOpenAt tx (after start (suc h) (was (suc h))) → suc h < hosts start
-  node_low h open_there = by (cases_lt (suc h) (hosts start))
-    where
-      by : (suc h < hosts start) ⊎ (hosts start ≤ suc h) → suc h < hosts start
-      by (inl low) = low
-      by (inr high) =
-          let k = keeps start tx h (was (suc h)) in
-          let o = open_at start tx (after start (suc h) (was (suc h))) k.state k.is open_there in
-          absurd (omega (
-            arith,
-            tally_in (is_keyed tx) (tx, o.transaction) k.state.tc.live o.live (same_tx-self tx),
-            k.keeps.began,
-            ap (λ log. signals (is_start tx) (sent (machine start) (suc h) 0 log)) (served.before.within (suc h) high),
-          ))
+  -- its coordinator is there
+  home_low : home start tx < hosts start
+  home_low = live_low start was tx is_open.transaction served.before (home start tx) is_open.live
 
   -- the wish comes to it
-  rolls_arrive : (h : ℕ) → tx.tc ≡ suc h → suc h < hosts start → rolled tx (cut (suc h)).newer ≡ true
-  rolls_arrive h at low =
-      was_rolled tx (cut (suc h)).newer
+  rolls_arrive : rolled tx (cut (home start tx)).newer ≡ true
+  rolls_arrive =
+      was_rolled tx (cut (home start tx)).newer
       (omega (
         arith,
-        all_arrive start was now served.before served.since cut (is_roll_to tx) 0 (suc h) (omega arith) low,
-        taken_few start (is_roll_to tx) 0 (cut (suc h)).newer,
-        sent_to_append start (is_roll_to tx) 0 (suc h) f.later (f.first ∷ []) (was 0),
-        subst (λ m. 1 ≤ sends_of (to_node m (is_roll_to tx)) (step_after start 0 (was 0) f.first).effects.sends) at asked.rolls,
+        all_arrive start was now served.before served.since cut (is_roll_to tx) 0 (home start tx) (omega arith) home_low,
+        taken_few start (is_roll_to tx) 0 (cut (home start tx)).newer,
+        sent_to_append start (is_roll_to tx) 0 (home start tx) f.later (f.first ∷ []) (was 0),
+        asked.rolls,
       ))
 
   -- so it isn't open any more
-  closed : (k : ℕ) → tx.tc ≡ k → IsOpenAt tx (after start k (was k)) → IsOpenAt tx (after start k (now k)) → ⊥
-  closed zero at open_before open_now = no_shell was open_before
-  closed (suc h) at open_before open_now =
-      let k = keeps start tx h (now (suc h)) in
-      let o = open_at start tx (after start (suc h) (now (suc h))) k.state k.is open_now in
-      let live = in_live tx o.transaction k.state.tc.live o.live (omega (arith, k.keeps.began, k.keeps.once)) in
-      let loose : OnTc (IsLooseNow tx true) (after start (suc h) (now (suc h))) =
-      subst (λ log. OnTc (IsLooseNow tx true) (after start (suc h) log)) (sym (cut (suc h)).is)
-      (subst (λ c. OnTc (IsLooseNow tx c) (after start (suc h) ((cut (suc h)).newer ++ was (suc h)))) (rolls_arrive h at (node_low h open_before)) ((run h).1 at)) in
-      let here : IsLooseNow tx true k.state.tc = subst (OnTc (IsLooseNow tx true)) k.is loose in
-      let both : false ≡ true = ap (is_loose true) (sym o.phase) ∙ (subst (LooseOption true) live here.loose).0 in
+  closed : IsOpenAt tx (after start (home start tx) (now (home start tx))) → ⊥
+  closed o =
+      let live = live_tx start tx (home start tx) (now (home start tx)) o.transaction o.live in
+      let loose : OnTc (IsLooseNow tx true) (after start (home start tx) (now (home start tx))) =
+      subst (λ log. OnTc (IsLooseNow tx true) (after start (home start tx) log)) (sym (cut (home start tx)).is)
+      (subst (λ c. OnTc (IsLooseNow tx c) (after start (home start tx) ((cut (home start tx)).newer ++ was (home start tx)))) rolls_arrive ((run (home start tx) home_low).1 refl)) in
+      let both : false ≡ true = ap (is_loose true) (sym o.phase) ∙ (subst (LooseOption true) live loose.loose).0 in
       cc
 
   still_ready : HasOne tx (Some name) Ready (opened_after start now) → ⊥
-  still_ready has = closed tx.tc refl is_open (opens start now tx has.item.doing has.item.tx has.does has.own (answered start now has.item served.since has.inside))
+  still_ready has = closed (opens start now tx has.item.doing has.item.tx has.does has.own (answered start now has.item served.since has.inside))
 
   abort_told : IsIn (Ended (Some name) (outcome.Aborted cause.Request)) (replies_since start was now)
-  abort_told = by (entry_goes tx (Some name) Ready (λ e. cc) refl start f.later (f.first ∷ was 0) f.plain asked.has)
+  abort_told = by (entry_goes tx (Some name) Ready refl (λ e. cc) start f.later (f.first ∷ was 0) f.plain asked.has)
     where
       by : HasOne tx (Some name) Ready (opened_in (after start 0 (f.later ++ f.first ∷ was 0))) ⊎ HasEnded tx (Some name) start f.later (f.first ∷ was 0)
           → IsIn (Ended (Some name) (outcome.Aborted cause.Request)) (replies_since start was now)

@@ -2,34 +2,32 @@
 use Rattle.std.proofs.Common.{◌≡◌, ◌≤◌, ◌+◌, ℕ, Bool, true, false, sym, ap, ◌∙◌, subst, arith}
 use Rattle.std.specs.Prelude.{◌==◌, ◌&&◌, Some}
 use Rattle.run_theory.specs.Lists.{IsIn}
+use Rattle.sig_core.proofs.Keys.{same_tx-self}
 use Rattle.sig_core.specs.declared.member.TxId.{TxId}
 use Rattle.sig_core.specs.declared.reply.Refusal.TheVariants.{NotOpen}
 use Rattle.sig_core.specs.declared.request.ApiReq.TheVariants as request
-use Rattle.sig_core.specs.declared.signal.Body.TheVariants.{Host, Client}
+use Rattle.sig_core.specs.declared.signal.Body.TheVariants.{Client}
 use Rattle.sig_core.specs.declared.signal.client.ClientSignal.TheVariants.{TcRollbackReq}
-use Rattle.sig_core.specs.declared.signal.host.HostSignal.TheVariants.{Continue}
-use Rattle.sig_core.specs.declared.signal.host.Work.TheVariants as work
-use Rattle.sig_core.specs.Place.{client, coordinator_of}
+use Rattle.sig_core.specs.Place.{coordinator_of}
 use Rattle.sig_core.specs.Same.{same_tx}
 use Rattle.sig_core.specs.Step.{Step, sending}
-use Rattle.api_block.specs.declared.opened.Doing.TheVariants.{Ready}
-use Rattle.api_block.specs.declared.opened.OpenTransaction.{OpenTransaction}
 use Rattle.api_block.specs.Api.{request_row}
 use Rattle.api_block.specs.Commands.{abort_by, abort_row}
+use Rattle.api_block.specs.declared.opened.Doing.TheVariants.{Ready}
+use Rattle.api_block.specs.declared.opened.OpenTransaction.{OpenTransaction}
 use Rattle.api_block.specs.Opened.{if_there, where_at}
 use Rattle.api_block.specs.State.{ApiState, about, refused}
-use Rattle.node_core.specs.declared.host.Host as host
-use Rattle.node_core.specs.declared.host.Host.TheVariants.{Shell, Node}
-use Rattle.node_core.specs.Row.{row, shell_row}
-use Rattle.answer_laws.proofs.ApiBegins.{in_middle}
-use Rattle.answer_laws.proofs.Tally.{one_if}
-use Rattle.answer_laws.proofs.TcSends.{eqb-self}
-use Rattle.answer_laws.proofs.Wishes.{sends_of, to_node}
-use Rattle.answer_laws.specs.Answered.{opened_in}
+use Rattle.node_core.specs.Row.{row}
+use Rattle.world_core.specs.Hosts.{home}
+use Rattle.world_core.specs.Start.{Start}
+use Rattle.host_laws.specs.Counts.{one_if}
+use Rattle.host_laws.proofs.ApiBegins.{in_middle}
+use Rattle.host_laws.proofs.LinkCounts.{to_host}
+use Rattle.host_laws.proofs.TcSends.{eqb-self}
+use Rattle.host_laws.proofs.Wishes.{sends_of}
 use Rattle.command_laws.proofs.AbortSteps.{is_more_to, is_roll_to}
 use Rattle.command_laws.proofs.Entries.{HasOne, IsNamed, named_found}
 use Rattle.command_laws.proofs.OperateAsks.{AreNamed}
-use Rattle.sig_core.proofs.Keys.{same_tx-self}
 use Rattle.command_laws.specs.Served.{named_in}
 
 -- the row where the name is found
@@ -47,16 +45,16 @@ counts true false p q = cc
 counts false b p q = cc
 
 -- after it the transaction takes commands as before, and the wish is sent
-pub record IsAbortAsked (tx : TxId) (name : ℕ) (step : Step host.Host) : Type 0 where
-  pub has : HasOne tx (Some name) Ready (opened_in step.state)
-  pub named : AreNamed tx (opened_in step.state)
+pub record IsAbortAsked (start : Start) (tx : TxId) (name : ℕ) (step : Step ApiState) : Type 0 where
+  pub has : HasOne tx (Some name) Ready step.state.opened
+  pub named : AreNamed tx step.state.opened
   pub more : sends_of (is_more_to tx) step.effects.sends ≡ 0
-  pub rolls : 1 ≤ sends_of (to_node tx.tc (is_roll_to tx)) step.effects.sends
+  pub rolls : 1 ≤ sends_of (to_host start (home start tx) (is_roll_to tx)) step.effects.sends
 
-pub abort_first : (g : host.Host) (name : ℕ) (t : OpenTransaction) (tx : TxId) → named_in (opened_in g) name ≡ Some t → t.doing ≡ Ready → t.tx ≡ Some tx → AreNamed tx (opened_in g)
-    → IsAbortAsked tx name (row g client (Host (Continue (work.Request (request.Abort name)) 0)))
-unfolding row shell_row request_row
-abort_first (Shell s) name t tx is ready own were = record {
+pub abort_first : (start : Start) (s : ApiState) (name : ℕ) (t : OpenTransaction) (tx : TxId) → named_in s.opened name ≡ Some t → t.doing ≡ Ready → t.tx ≡ Some tx → AreNamed tx s.opened
+    → IsAbortAsked start tx name (request_row s (request.Abort name))
+unfolding request_row
+abort_first start s name t tx is ready own were = record {
   has = record {
     item = t;
     inside = subst (IsIn t) (sym opened) (subst (λ x. IsIn x s.opened) f.item (subst (IsIn f.focus.item) (sym f.focus.is) (in_middle f.focus.front f.focus.item f.focus.back)));
@@ -66,7 +64,7 @@ abort_first (Shell s) name t tx is ready own were = record {
   };
   named = subst (AreNamed tx) (sym opened) were;
   more = ap (λ (step : Step ApiState). sends_of (is_more_to tx) step.effects.sends) now;
-  rolls = subst (λ (step : Step ApiState). 1 ≤ sends_of (to_node tx.tc (is_roll_to tx)) step.effects.sends) (sym now) (counts (tx.tc == tx.tc) (same_tx tx tx) (eqb-self tx.tc) (same_tx-self tx));
+  rolls = subst (λ (step : Step ApiState). 1 ≤ sends_of (to_host start (home start tx) (is_roll_to tx)) step.effects.sends) (sym now) (counts (home start tx == home start tx) (same_tx tx tx) (eqb-self (home start tx)) (same_tx-self tx));
 }
   where
     f : IsNamed s.opened name t
@@ -77,4 +75,3 @@ abort_first (Shell s) name t tx is ready own were = record {
 
     opened : (abort_row s name).state.opened ≡ s.opened
     opened = ap (λ (step : Step ApiState). step.state.opened) now
-abort_first (Node n) name t tx is ready own were = cc

@@ -1,9 +1,8 @@
 -- A step of a host, where neither an operation nor a commit of the transaction is asked for.
-use Rattle.std.proofs.Common.{◌≡◌, ◌≢◌, ◌⊎◌, ◌<◌, ◌≤◌, ◌+◌, ℕ, suc, Bool, true, false, List, [], ◌∷◌, ◌++◌, refl, sym, ap, ◌∙◌, subst, inl, inr, arith}
-use Rattle.std.proofs.lemmas.Bool.{cases_eq}
+use Rattle.std.proofs.Common.{◌≡◌, ◌⊎◌, ◌<◌, ◌≤◌, ◌+◌, ℕ, Bool, true, false, List, [], ◌∷◌, ◌++◌, refl, sym, ap, ◌∙◌, subst, inl, inr, arith}
 use Rattle.std.specs.Prelude.{◌&&◌, if◌then◌else◌, Option, None, Some}
 use Rattle.run_theory.specs.Lists.{Each}
-use Rattle.sig_core.specs.declared.log.LogStep.{LogStep}
+use Rattle.sig_core.proofs.Keys.{same_tx-self}
 use Rattle.sig_core.specs.declared.member.TxId.{TxId}
 use Rattle.sig_core.specs.declared.outs.Outgoing.{Outgoing}
 use Rattle.sig_core.specs.declared.place.BlockId.{BlockId}
@@ -12,40 +11,36 @@ use Rattle.sig_core.specs.declared.place.Place.{Place}
 use Rattle.sig_core.specs.declared.signal.Body.{Body}
 use Rattle.sig_core.specs.declared.signal.Body.TheVariants.{Client}
 use Rattle.sig_core.specs.declared.signal.client.ClientSignal.TheVariants.{TcCommitConf, TcKeyReq, TcCommitReq, TcRollbackReq, TcRollbackRep}
+use Rattle.sig_core.specs.declared.signal.Signal.{Signal}
 use Rattle.sig_core.specs.Same.{same_tx}
 use Rattle.sig_core.specs.Step.{Step, stay}
-use Rattle.api_block.specs.Api.{api_row}
-use Rattle.api_block.specs.State.{ApiState}
-use Rattle.lqh_block.specs.Lqh.{lqh_row}
-use Rattle.node_core.specs.declared.host.Host as host
-use Rattle.node_core.specs.declared.host.Host.TheVariants.{Shell, Node}
-use Rattle.node_core.specs.declared.node.Node as node
-use Rattle.node_core.specs.Dih.{dih_row}
-use Rattle.node_core.specs.Row.{node_row, row, shell_row}
+use Rattle.node_core.specs.Blocks.{has_tc, tc_of}
+use Rattle.node_core.specs.declared.host.Host.{Host}
+use Rattle.node_core.specs.Row.{row}
 use Rattle.tc_block.specs.Abort.{rollback_row}
 use Rattle.tc_block.specs.declared.transaction.Transaction.{Transaction}
 use Rattle.tc_block.specs.Live.{turn_of}
 use Rattle.tc_block.specs.State.{TcState}
-use Rattle.tc_block.specs.Tc.{tc_row}
-use Rattle.world_core.specs.Machine.{after, step_after}
+use Rattle.tc_block.specs.Tc.{tc_row, tc_table}
+use Rattle.world_core.specs.Hosts.{home, hosts}
+use Rattle.world_core.specs.Machine.{after}
 use Rattle.world_core.specs.Start.{Start}
-use Rattle.answer_laws.proofs.ApiMoves.{ApiMove, api_moves, begun_as, ends, goes, is_api_kind, opens, refuses, rests}
-use Rattle.answer_laws.proofs.DihSends.{dih_kinds}
-use Rattle.answer_laws.proofs.Hosts.{IsNode, node_after, same_node, shell_after}
-use Rattle.answer_laws.proofs.LqhSends.{lqh_kinds}
-use Rattle.answer_laws.proofs.NodeOps.{absent_key}
-use Rattle.answer_laws.proofs.Ops.{row_effects, row_state}
-use Rattle.answer_laws.proofs.SendKinds.{is_dih_kind, is_lqh_kind, none_of}
-use Rattle.answer_laws.proofs.Tally.{one_if}
-use Rattle.answer_laws.proofs.TcMoves.{same_tx-is}
-use Rattle.answer_laws.proofs.TcSends.{tx_in}
-use Rattle.answer_laws.proofs.Wishes.{is_tc, sends_of}
-use Rattle.transit_laws.specs.Live.{of_live}
+use Rattle.world_core.specs.Steps.{HostStep}
+use Rattle.host_laws.specs.Counts.{one_if}
+use Rattle.host_laws.proofs.HostSteps.{no_live}
+use Rattle.host_laws.proofs.NodeOps.{absent_key}
+use Rattle.host_laws.proofs.SendKinds.{none_of}
+use Rattle.host_laws.proofs.TcMoves.{same_tx-is}
+use Rattle.host_laws.proofs.TcSends.{tx_in}
+use Rattle.host_laws.proofs.Wishes.{is_tc, sends_of}
+use Rattle.run_laws.specs.Live.{of_live}
 use Rattle.command_laws.proofs.AbortTurns.{StaysLoose, is_loose, is_mild, is_more, is_requested, is_roll, loose_turn}
+use Rattle.command_laws.proofs.Homes.{lives_home, sound_at}
+use Rattle.command_laws.proofs.HostSends.{IsOfTc, is_other_kind}
+use Rattle.command_laws.proofs.HostSteps.{tc_host}
 use Rattle.command_laws.proofs.Since.{sent_since}
 use Rattle.command_laws.proofs.TcPath.{IsSound, TcGoes, Took, aside, begins, is_told, left_by, none_there, takes, tc_goes, told_of, took}
-use Rattle.command_laws.proofs.TellsSince.{OnTc, not_home, sound_at}
-use Rattle.sig_core.proofs.Keys.{same_tx-self}
+use Rattle.command_laws.proofs.TellsSince.{OnTc}
 use Rattle.command_laws.proofs.Turns.{IsMissing, TakesTurn, turn_by, turn_takes}
 
 -- an operation of the transaction, or the wish for its commit
@@ -89,21 +84,6 @@ module _ (tx : TxId) where
   mild_right to (Client (TcRollbackRep other why)) e = ap (λ b. if b then false else same_tx other tx) e
   mild_right to _ e = refl
 
-  dih_right : (to : Place) (b : Body) → is_dih_kind b ≡ true → is_wrong tx to b ≡ false
-  dih_right to (Client (TcCommitConf other epoch)) e = cc
-  dih_right to (Client (TcRollbackRep other why)) e = cc
-  dih_right to _ e = refl
-
-  lqh_right : (to : Place) (b : Body) → is_lqh_kind b ≡ true → is_wrong tx to b ≡ false
-  lqh_right to (Client (TcCommitConf other epoch)) e = cc
-  lqh_right to (Client (TcRollbackRep other why)) e = cc
-  lqh_right to _ e = refl
-
-  api_right : (to : Place) (b : Body) → is_api_kind b ≡ true → is_wrong tx to b ≡ false
-  api_right to (Client (TcCommitConf other epoch)) e = cc
-  api_right to (Client (TcRollbackRep other why)) e = cc
-  api_right to _ e = refl
-
   told_right : (b : Body) → told_of tx b ≡ false → wrong_of tx b ≡ false
   told_right (Client (TcCommitConf other epoch)) e = e
   told_right (Client (TcRollbackRep other why)) e = by (is_requested why)
@@ -134,28 +114,21 @@ module _ (tx : TxId) where
   roll_in (Client (TcRollbackReq other)) e = same_tx-is other tx e
   roll_in _ e = cc
 
-  -- no other end is reported, and at its coordinator the transaction is loose
-  record LooseStep (c : Bool) (s : TcState) (sends : List Outgoing) : Type 0 where
+  -- no other end is reported, and the transaction is loose at its home
+  record LooseStep (Home : Type 0) (c : Bool) (s : TcState) (sends : List Outgoing) : Type 0 where
     silent : sends_of (is_wrong tx) sends ≡ 0
-    loose : tx.tc ≡ s.node → IsLooseNow tx c s
+    loose : Home → IsLooseNow tx c s
 
-  module _ (c : Bool) (s : TcState) (body : Body) (sound : IsSound tx s) (plain : more_of tx body ≡ false) (node_same : (tc_row s body).state.node ≡ s.node) (was : tx.tc ≡ s.node → IsLooseNow tx c s) where
+  module _ (c : Bool) (s : TcState) (body : Body) (sound : IsSound tx s) (plain : more_of tx body ≡ false)
+      (Home : Type 0) (home_of : (t : Transaction) → of_live tx s.live ≡ Some t → Home) (was : Home → IsLooseNow tx c s) where
     abbrev step : Step TcState
-    step = tc_row s body
+    step = tc_table s body
 
     abbrev then_c : Bool
     then_c = if roll_of tx body then true else c
 
-    -- its coordinator has it
-    home_of : (t : Transaction) → of_live tx s.live ≡ Some t → tx.tc ≡ s.node
-    home_of t live = by (cases_eq tx.tc s.node)
-      where
-        by : (tx.tc ≡ s.node) ⊎ (tx.tc ≢ s.node) → tx.tc ≡ s.node
-        by (inl at) = at
-        by (inr away) = absurd (let both : Some t ≡ None = sym live ∙ not_home tx s.node s.next_seq s.live sound.own away in cc)
-
     at_turn : (t : Transaction) → tx_in body ≡ tx → of_live tx s.live ≡ Some t → step.effects.sends ≡ (turn_by s tx body t).step.effects.sends
-        → of_live tx step.state.live ≡ left_by (turn_by s tx body t) → s.next_seq ≤ step.state.next_seq → LooseStep then_c step.state step.effects.sends
+        → of_live tx step.state.live ≡ left_by (turn_by s tx body t) → s.next_seq ≤ step.state.next_seq → LooseStep Home then_c step.state step.effects.sends
     at_turn t same live sends left more = record {
       silent = ap (sends_of (is_wrong tx)) sends ∙ none_of is_mild (is_wrong tx) mild_right (turn_by s tx body t).step.effects.sends q.sends;
       loose = λ at. record { loose = subst (LooseOption then_c) (sym left) (by (turn_by s tx body t).over refl); early = omega (arith, old.early, more) };
@@ -174,118 +147,85 @@ module _ (tx : TxId) where
         by true over = tt
         by false over = (q.phase over, q.none)
 
-    at_none : of_live tx s.live ≡ None → of_live tx step.state.live ≡ of_live tx s.live → sends_of (is_told tx) step.effects.sends ≡ 0 → s.next_seq ≤ step.state.next_seq → LooseStep then_c step.state step.effects.sends
+    at_none : of_live tx s.live ≡ None → of_live tx step.state.live ≡ of_live tx s.live → sends_of (is_told tx) step.effects.sends ≡ 0 → s.next_seq ≤ step.state.next_seq → LooseStep Home then_c step.state step.effects.sends
     at_none missing same none more = record {
       silent = none_wrong step.effects.sends none;
-      loose = λ at. record { loose = subst (LooseOption then_c) (sym (same ∙ missing)) tt; early = omega (arith, (was (at ∙ node_same)).early, more) };
+      loose = λ at. record { loose = subst (LooseOption then_c) (sym (same ∙ missing)) tt; early = omega (arith, (was at).early, more) };
     }
 
     -- the wish for an abort finds the transaction
     rolls : roll_of tx body ≡ true → (of_live tx s.live ≡ None) ⊎ Took tx s (turn_by s tx body) step
     rolls e = on body e
       where
-        on : (b : Body) → roll_of tx b ≡ true → (of_live tx s.live ≡ None) ⊎ Took tx s (turn_by s tx b) (tc_row s b)
+        on : (b : Body) → roll_of tx b ≡ true → (of_live tx s.live ≡ None) ⊎ Took tx s (turn_by s tx b) (tc_table s b)
         on (Client (TcRollbackReq one)) is =
-            subst (λ v. (of_live tx s.live ≡ None) ⊎ Took tx s (turn_by s tx (Client (TcRollbackReq one))) (tc_row s (Client (TcRollbackReq v)))) (sym (same_tx-is one tx is))
-            (by (turn_takes s tx (λ t. rollback_row s.node s.view tx t)))
+            subst (λ v. (of_live tx s.live ≡ None) ⊎ Took tx s (turn_by s tx (Client (TcRollbackReq one))) (tc_table s (Client (TcRollbackReq v)))) (sym (same_tx-is one tx is))
+            (by (turn_takes s tx (λ t. rollback_row s.node s.layout tx t)))
           where
-            by : (IsMissing s tx × (turn_of s tx (λ t. rollback_row s.node s.view tx t) ≡ stay s)) ⊎ TakesTurn s tx (λ t. rollback_row s.node s.view tx t) (turn_of s tx (λ t. rollback_row s.node s.view tx t))
-                → (of_live tx s.live ≡ None) ⊎ Took tx s (λ t. rollback_row s.node s.view tx t) (turn_of s tx (λ t. rollback_row s.node s.view tx t))
+            by : (IsMissing s tx × (turn_of s tx (λ t. rollback_row s.node s.layout tx t) ≡ stay s)) ⊎ TakesTurn s tx (λ t. rollback_row s.node s.layout tx t) (turn_of s tx (λ t. rollback_row s.node s.layout tx t))
+                → (of_live tx s.live ≡ None) ⊎ Took tx s (λ t. rollback_row s.node s.layout tx t) (turn_of s tx (λ t. rollback_row s.node s.layout tx t))
             by (inl missing) = inl (none_there tx s.live (absent_key tx tx s.live (same_tx-self tx) missing.0))
-            by (inr r) = inr (took tx s sound (λ t. rollback_row s.node s.view tx t) (turn_of s tx (λ t. rollback_row s.node s.view tx t)) r)
+            by (inr r) = inr (took tx s sound (λ t. rollback_row s.node s.layout tx t) (turn_of s tx (λ t. rollback_row s.node s.layout tx t)) r)
         on _ is = cc
 
-    loose_goes : TcGoes tx s body step → LooseStep then_c step.state step.effects.sends
+    loose_goes : TcGoes tx s body step → LooseStep Home then_c step.state step.effects.sends
     loose_goes (takes t same live sends left more) = at_turn t same live sends left more
     loose_goes (begins number now none more) = record {
       silent = none_wrong step.effects.sends none;
-      loose = λ at. absurd (omega (arith, (was (at ∙ node_same)).early, number));
+      loose = λ at. absurd (omega (arith, (was at).early, number));
     }
     loose_goes (aside same none more) = by (roll_of tx body) refl
       where
-        by : (b : Bool) → roll_of tx body ≡ b → LooseStep then_c step.state step.effects.sends
+        by : (b : Bool) → roll_of tx body ≡ b → LooseStep Home then_c step.state step.effects.sends
         by false off = record {
           silent = none_wrong step.effects.sends none;
-          loose = λ at. let old = was (at ∙ node_same) in
+          loose = λ at. let old = was at in
               record { loose = subst (λ b. LooseOption (if b then true else c) (of_live tx step.state.live)) (sym off) (subst (LooseOption c) (sym same) old.loose); early = omega (arith, old.early, more) };
         }
         by true on = which (rolls on)
           where
-            which : (of_live tx s.live ≡ None) ⊎ Took tx s (turn_by s tx body) step → LooseStep then_c step.state step.effects.sends
+            which : (of_live tx s.live ≡ None) ⊎ Took tx s (turn_by s tx body) step → LooseStep Home then_c step.state step.effects.sends
             which (inl missing) = at_none missing same none more
             which (inr k) = at_turn k.t (roll_in body on) k.was k.sends k.left k.more
 
-  node_loose : (c : Bool) (n : node.Node) (at : BlockId) (body : Body) → IsSound tx n.tc → (is_tc at && more_of tx body) ≡ false → (node_row n at body).state.tc.node ≡ n.tc.node
-      → (tx.tc ≡ n.tc.node → IsLooseNow tx c n.tc) → LooseStep (if is_tc at && roll_of tx body then true else c) (node_row n at body).state.tc (node_row n at body).effects.sends
-  unfolding node_row
-  node_loose c n block.Tc body sound plain same was = loose_goes c n.tc body sound plain same was (tc_goes tx n.tc body sound)
-  node_loose c n block.Dih body sound plain same was = record { silent = none_of is_dih_kind (is_wrong tx) dih_right (dih_row n.dih body).effects.sends (dih_kinds n.dih body); loose = was }
-  node_loose c n block.Lqh body sound plain same was = record { silent = none_of is_lqh_kind (is_wrong tx) lqh_right (lqh_row n.lqh body).effects.sends (lqh_kinds n.lqh body); loose = was }
-  node_loose c n _ body sound plain same was = record { silent = refl; loose = was }
+  wrong_tc : IsOfTc (is_wrong tx)
+  wrong_tc = record { others = others; begins = λ name node. refl }
+    where
+      others : (to : Place) (body : Body) → is_other_kind body ≡ true → is_wrong tx to body ≡ false
+      others to (Client (TcCommitConf other epoch)) e = cc
+      others to (Client (TcRollbackRep other why)) e = cc
+      others to _ e = refl
+
+  host_loose : (c : Bool) (g : Host) (x : Signal) → IsSound tx (tc_of g) → is_more_to tx x.to x.body ≡ false → (Home : Type 0) → ((t : Transaction) → of_live tx (tc_of g).live ≡ Some t → Home)
+      → (Home → IsLooseNow tx c (tc_of g)) → LooseStep Home (if is_roll_to tx x.to x.body then true else c) (tc_of (row g x).state) (row g x).effects.sends
+  host_loose c g x sound plain Home home_of was =
+      tc_host (λ (step : Step TcState). LooseStep Home (if is_roll_to tx x.to x.body then true else c) step.state step.effects.sends) g x
+      (λ runs at. subst (λ of. LooseStep Home (if is_tc of && roll_of tx x.body then true else c) (tc_row (tc_of g) x).state (tc_row (tc_of g) x).effects.sends) (sym at)
+      (loose_goes c (tc_of g) x.body sound (ap (λ of. is_tc of && more_of tx x.body) (sym at) ∙ plain) Home home_of was (tc_goes tx (tc_of g) x.body sound)))
+      (λ effects none off. record { silent = none (is_wrong tx) wrong_tc; loose = λ at. by x.to.block (is_roll_to tx x.to x.body) refl off (was at) })
+    where
+      by : (of : BlockId) (b : Bool) → (is_tc of && roll_of tx x.body) ≡ b → (of ≡ block.Tc → has_tc g ≡ false) → IsLooseNow tx c (tc_of g) → IsLooseNow tx (if b then true else c) (tc_of g)
+      by block.Tc true is off old = record { loose = subst (LooseOption true) (sym (ap (of_live tx) (no_live g (off refl)))) tt; early = old.early }
+      by of false is off old = old
+      by of true is off old = cc
 
   -- the abort was asked for in one of these steps
-  abbrev pub rolled : List LogStep → Bool
+  abbrev pub rolled : List HostStep → Bool
   rolled [] = false
-  rolled (e ∷ newer) = if is_roll_to tx e.taken.to e.taken.body then true else rolled newer
+  rolled (e ∷ newer) = if is_roll_to tx e.step.taken.to e.step.taken.body then true else rolled newer
 
-  module _ (start : Start) (h : ℕ) where
-    record NodeRun (newer log : List LogStep) : Type 0 where
-      silent : sent_since start (is_wrong tx) (suc h) newer log ≡ 0
-      loose : tx.tc ≡ suc h → OnTc (IsLooseNow tx (rolled newer)) (after start (suc h) (newer ++ log))
+  module _ (start : Start) (h : ℕ) (low : h < hosts start) where
+    record HostRun (newer log : List HostStep) : Type 0 where
+      silent : sent_since start (is_wrong tx) h newer log ≡ 0
+      loose : home start tx ≡ h → OnTc (IsLooseNow tx (rolled newer)) (after start h (newer ++ log))
 
-    next : (e : LogStep) (newer log : List LogStep) → is_more_to tx e.taken.to e.taken.body ≡ false → NodeRun newer log → NodeRun (e ∷ newer) log
-    next e newer log plain before = record {
-      silent = omega (arith, before.silent, ap (sends_of (is_wrong tx)) sends_are, q.silent);
-      loose = λ at. subst (OnTc (IsLooseNow tx (rolled (e ∷ newer)))) (sym now_is) (q.loose (at ∙ sym number_now));
-    }
+    pub host_run : (newer log : List HostStep) → Each (λ (e : HostStep). is_more_to tx e.step.taken.to e.step.taken.body ≡ false) newer → (home start tx ≡ h → OnTc (IsLooseNow tx false) (after start h log))
+        → (sent_since start (is_wrong tx) h newer log ≡ 0) × (home start tx ≡ h → OnTc (IsLooseNow tx (rolled newer)) (after start h (newer ++ log)))
+    host_run newer log plain was = let r = run newer plain in (r.silent, r.loose)
       where
-        here : IsNode (suc h) (after start (suc h) (newer ++ log))
-        here = node_after start h (newer ++ log)
-
-        now_is : after start (suc h) (e ∷ (newer ++ log)) ≡ Node (node_row here.state e.taken.to.block e.taken.body).state
-        now_is = row_state e.taken.to e.taken.body (after start (suc h) (newer ++ log)) here.state here.is
-
-        sends_are : (step_after start (suc h) (newer ++ log) e).effects.sends ≡ (node_row here.state e.taken.to.block e.taken.body).effects.sends
-        sends_are = row_effects e.taken.to e.taken.body (after start (suc h) (newer ++ log)) here.state here.is
-
-        number_now : (node_row here.state e.taken.to.block e.taken.body).state.tc.node ≡ suc h
-        number_now =
-            let after_it = node_after start h (e ∷ (newer ++ log)) in
-            ap (λ (m : node.Node). m.tc.node) (same_node (node_row here.state e.taken.to.block e.taken.body).state after_it.state (sym now_is ∙ after_it.is)) ∙ after_it.number
-
-        q : LooseStep (rolled (e ∷ newer)) (node_row here.state e.taken.to.block e.taken.body).state.tc (node_row here.state e.taken.to.block e.taken.body).effects.sends
-        q = node_loose (rolled newer) here.state e.taken.to.block e.taken.body (sound_at start tx h (newer ++ log) here.state here.is) plain (number_now ∙ sym here.number)
-            (λ at. subst (OnTc (IsLooseNow tx (rolled newer))) here.is (before.loose (at ∙ here.number)))
-
-    pub node_run : (newer log : List LogStep) → Each (λ (e : LogStep). is_more_to tx e.taken.to e.taken.body ≡ false) newer → (tx.tc ≡ suc h → OnTc (IsLooseNow tx false) (after start (suc h) log))
-        → (sent_since start (is_wrong tx) (suc h) newer log ≡ 0) × (tx.tc ≡ suc h → OnTc (IsLooseNow tx (rolled newer)) (after start (suc h) (newer ++ log)))
-    node_run newer log plain was = let r = run newer plain in (r.silent, r.loose)
-      where
-        run : (some : List LogStep) → Each (λ (e : LogStep). is_more_to tx e.taken.to e.taken.body ≡ false) some → NodeRun some log
+        run : (some : List HostStep) → Each (λ (e : HostStep). is_more_to tx e.step.taken.to e.step.taken.body ≡ false) some → HostRun some log
         run [] off = record { silent = refl; loose = was }
-        run (e ∷ some) off = next e some log off.0 (run some off.1)
-
-  -- the shell's host reports no end
-  api_silent : (s : ApiState) (body : Body) (now_it : Step ApiState) → ApiMove s body (now_it.state.view, now_it.state.opened) now_it.effects.sends → sends_of (is_wrong tx) now_it.effects.sends ≡ 0
-  api_silent s body now_it (rests is kind void) = none_of is_api_kind (is_wrong tx) api_right now_it.effects.sends kind
-  api_silent s body now_it (opens name at op new request is told) = ap (sends_of (is_wrong tx)) told
-  api_silent s body now_it (begun_as name one front t u back about passes begun was is kind) = none_of is_api_kind (is_wrong tx) api_right now_it.effects.sends kind
-  api_silent s body now_it (goes front t u back go void was is kind) = none_of is_api_kind (is_wrong tx) api_right now_it.effects.sends kind
-  api_silent s body now_it (ends one front t back about passes was is kind) = none_of is_api_kind (is_wrong tx) api_right now_it.effects.sends kind
-  api_silent s body now_it (refuses name front t back about passes was is kind) = none_of is_api_kind (is_wrong tx) api_right now_it.effects.sends kind
-
-  shell_silent : (s : ApiState) (at : BlockId) (body : Body) → sends_of (is_wrong tx) (shell_row s at body).effects.sends ≡ 0
-  unfolding shell_row
-  shell_silent s block.Api body = api_silent s body (api_row s body) (api_moves s body)
-  shell_silent s _ body = refl
-
-  host_silent : (g : host.Host) (s : ApiState) (to : Place) (body : Body) → g ≡ Shell s → sends_of (is_wrong tx) (row g to body).effects.sends ≡ 0
-  unfolding row
-  host_silent (Shell t) s to body is = shell_silent t to.block body
-  host_silent (Node n) s to body is = cc
-
-  pub shell_run : (start : Start) (newer log : List LogStep) → sent_since start (is_wrong tx) 0 newer log ≡ 0
-  shell_run start [] log = refl
-  shell_run start (e ∷ newer) log =
-      let s = shell_after start (newer ++ log) in
-      omega (arith, shell_run start newer log, host_silent (after start 0 (newer ++ log)) s.state e.taken.to e.taken.body s.is)
+        run (e ∷ some) off =
+            let before = run some off.1 in
+            let next = host_loose (rolled some) (after start h (some ++ log)) e.step.taken (sound_at start tx h (some ++ log)) off.0 (home start tx ≡ h) (lives_home start tx h (some ++ log) low) before.loose in
+            record { silent = omega (arith, before.silent, next.silent); loose = next.loose }

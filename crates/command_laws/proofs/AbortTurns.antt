@@ -13,7 +13,7 @@ use Rattle.sig_core.specs.declared.signal.client.ClientSignal.TheVariants.{TcCom
 use Rattle.sig_core.specs.declared.signal.epoch.EpochSignal.TheVariants.{DiVerifyConf}
 use Rattle.sig_core.specs.declared.signal.host.HostSignal.TheVariants.{Continue}
 use Rattle.sig_core.specs.declared.signal.host.Work.TheVariants as work
-use Rattle.sig_core.specs.declared.view.View.{View}
+use Rattle.frag_map.specs.Layout.{Layout}
 use Rattle.sig_core.specs.Step.{stay}
 use Rattle.tc_block.specs.Abort as abort
 use Rattle.tc_block.specs.Commit as commit
@@ -25,8 +25,8 @@ use Rattle.tc_block.specs.Operate as operate
 use Rattle.tc_block.specs.Sends.{entering, front_sends, go_on_if, go_on_row}
 use Rattle.tc_block.specs.State.{TcState}
 use Rattle.tc_block.specs.Turn.{Turn, going}
-use Rattle.answer_laws.proofs.SendKinds.{are_of, one_kind}
-use Rattle.answer_laws.proofs.PhaseSends.{HasChains, entering_of_kind, rest_of_kind}
+use Rattle.host_laws.proofs.SendKinds.{are_of, one_kind}
+use Rattle.host_laws.proofs.PhaseSends.{HasChains, entering_of_kind, rest_of_kind}
 use Rattle.command_laws.proofs.Turns.{turn_by}
 
 -- the client asked for it
@@ -73,26 +73,26 @@ fronts c tx (Aborting why verifying awaited) e = refl
 fronts c tx Open e = refl
 fronts c tx Verifying e = refl
 
-module _ (c : Bool) (node : ℕ) (view : View) (tx : TxId) (t : Transaction) (fine : is_loose c t.phase ≡ true) (none : t.asked ≡ None) where
+module _ (c : Bool) (node : ℕ) (layout : Layout) (tx : TxId) (t : Transaction) (fine : is_loose c t.phase ≡ true) (none : t.asked ≡ None) where
   stays : StaysLoose c (going (stay t))
   stays = record { phase = λ on. fine; none = none; sends = refl }
 
   not_at : (phase : Phase) → t.phase ≡ phase → is_loose c phase ≡ false → ⊥
   not_at phase is off = let both : false ≡ true = sym off ∙ (ap (is_loose c) (sym is) ∙ fine) in cc
 
-  goes_on : (at : ℕ) → StaysLoose c (going (go_on_row node view tx t at))
+  goes_on : (at : ℕ) → StaysLoose c (going (go_on_row node layout tx t at))
   unfolding go_on_row
   goes_on at = record { phase = λ on. by (nat_lt at 512); none = same (nat_lt at 512); sends = sent (nat_lt at 512) }
     where
-      by : (b : Bool) → is_loose c (go_on_if node view tx t at b).state.phase ≡ true
+      by : (b : Bool) → is_loose c (go_on_if node layout tx t at b).state.phase ≡ true
       by true = fine
       by false = fine
 
-      sent : (b : Bool) → are_of is_mild (go_on_if node view tx t at b).effects.sends ≡ true
-      sent true = rest_of_kind is_mild view tx (chains tx) node t at (fronts c tx t.phase fine)
+      sent : (b : Bool) → are_of is_mild (go_on_if node layout tx t at b).effects.sends ≡ true
+      sent true = rest_of_kind is_mild layout tx (chains tx) node t at (fronts c tx t.phase fine)
       sent false = refl
 
-      same : (b : Bool) → (go_on_if node view tx t at b).state.asked ≡ None
+      same : (b : Bool) → (go_on_if node layout tx t at b).state.asked ≡ None
       same true = none
       same false = none
 
@@ -100,30 +100,30 @@ module _ (c : Bool) (node : ℕ) (view : View) (tx : TxId) (t : Transaction) (fi
   unfolding operate.wait_row
   waits = subst (λ o. StaysLoose c (going (operate.wait_by tx t o))) (sym none) stays
 
-  answers : (key : List ℕ) (answer : Answer) → StaysLoose c (going (operate.answer_row view tx t key answer))
+  answers : (key : List ℕ) (answer : Answer) → StaysLoose c (going (operate.answer_row layout tx t key answer))
   unfolding operate.answer_row
-  answers key answer = subst (λ o. StaysLoose c (going (operate.answer_by view tx t key answer (operate.asked_on o key) t.phase))) (sym none) stays
+  answers key answer = subst (λ o. StaysLoose c (going (operate.answer_by layout tx t key answer (operate.asked_on o key) t.phase))) (sym none) stays
 
-  refuses : (key : List ℕ) (why : AbortCause) → StaysLoose c (abort.refuse_row node view tx t key why)
+  refuses : (key : List ℕ) (why : AbortCause) → StaysLoose c (abort.refuse_row node layout tx t key why)
   unfolding abort.refuse_row
-  refuses key why = subst (λ o. StaysLoose c (abort.refuse_by node view tx t key why (operate.asked_on o key) t.phase)) (sym none) stays
+  refuses key why = subst (λ o. StaysLoose c (abort.refuse_by node layout tx t key why (operate.asked_on o key) t.phase)) (sym none) stays
 
-  commits : (epoch : ℕ) → StaysLoose c (commit.commit_row node view tx t epoch)
+  commits : (epoch : ℕ) → StaysLoose c (commit.commit_row node layout tx t epoch)
   unfolding commit.commit_row
   commits epoch = by t.phase refl
     where
-      by : (phase : Phase) → t.phase ≡ phase → StaysLoose c (commit.commit_by node view tx t epoch phase)
+      by : (phase : Phase) → t.phase ≡ phase → StaysLoose c (commit.commit_by node layout tx t epoch phase)
       by Verifying is = absurd (not_at Verifying is refl)
       by Open is = stays
       by (Committing other awaited) is = stays
       by (Completing other awaited) is = stays
       by (Aborting why verifying awaited) is = stays
 
-  committed : StaysLoose c (commit.committed_row node view tx t)
+  committed : StaysLoose c (commit.committed_row node layout tx t)
   unfolding commit.committed_row
   committed = by t.phase refl
     where
-      by : (phase : Phase) → t.phase ≡ phase → StaysLoose c (commit.committed_by node view tx t phase)
+      by : (phase : Phase) → t.phase ≡ phase → StaysLoose c (commit.committed_by node layout tx t phase)
       by (Committing epoch awaited) is = absurd (not_at (Committing epoch awaited) is refl)
       by Open is = stays
       by Verifying is = stays
@@ -160,25 +160,25 @@ module _ (c : Bool) (node : ℕ) (view : View) (tx : TxId) (t : Transaction) (fi
       by (Committing epoch awaited) is = stays
       by (Completing epoch awaited) is = stays
 
-  aborts : StaysLoose true (abort.aborted_for node view tx t Request)
+  aborts : StaysLoose true (abort.aborted_for node layout tx t Request)
   unfolding abort.aborted_for entering
-  aborts = which (abort.aborts_awaited view t == 0)
+  aborts = which (abort.aborts_awaited layout t == 0)
     where
-      which : (b : Bool) → StaysLoose true (abort.abort_if node view tx t Request b)
+      which : (b : Bool) → StaysLoose true (abort.abort_if node layout tx t Request b)
       which true = record { phase = λ on. cc; none = none; sends = ends Request (abort.is_verifying t.phase) refl }
       which false = record {
         phase = λ on. refl;
         none = none;
-        sends = entering_of_kind is_mild view tx (chains tx) node t (Aborting Request (abort.is_verifying t.phase) (abort.aborts_awaited view t))
-            (fronts true tx (Aborting Request (abort.is_verifying t.phase) (abort.aborts_awaited view t)) refl);
+        sends = entering_of_kind is_mild layout tx (chains tx) node t (Aborting Request (abort.is_verifying t.phase) (abort.aborts_awaited layout t))
+            (fronts true tx (Aborting Request (abort.is_verifying t.phase) (abort.aborts_awaited layout t)) refl);
       }
 
   -- the abort is asked for
-  pub rolls_back : StaysLoose true (abort.rollback_row node view tx t)
+  pub rolls_back : StaysLoose true (abort.rollback_row node layout tx t)
   unfolding abort.rollback_row
   rolls_back = by t.phase refl
     where
-      by : (phase : Phase) → t.phase ≡ phase → StaysLoose true (abort.rollback_by node view tx t phase)
+      by : (phase : Phase) → t.phase ≡ phase → StaysLoose true (abort.rollback_by node layout tx t phase)
       by Open is = aborts
       by Verifying is = absurd (not_at Verifying is refl)
       by (Committing epoch awaited) is = absurd (not_at (Committing epoch awaited) is refl)
@@ -186,15 +186,15 @@ module _ (c : Bool) (node : ℕ) (view : View) (tx : TxId) (t : Transaction) (fi
       by (Aborting why verifying awaited) is = record { phase = λ on. ap (is_loose true) is ∙ (ap (is_loose c) (sym is) ∙ fine); none = none; sends = refl }
 
 pub loose_turn : (c : Bool) (s : TcState) (tx : TxId) (body : Body) (t : Transaction) → is_more body ≡ false → is_loose c t.phase ≡ true → t.asked ≡ None → StaysLoose (if is_roll body then true else c) (turn_by s tx body t)
-loose_turn c s tx (Host (Continue (work.Transaction one) at)) t plain fine none = goes_on c s.node s.view tx t fine none at
+loose_turn c s tx (Host (Continue (work.Transaction one) at)) t plain fine none = goes_on c s.node s.layout tx t fine none at
 loose_turn c s tx (Client (TcKeyReq one op)) t plain fine none = cc
 loose_turn c s tx (Client (TcCommitReq one)) t plain fine none = cc
-loose_turn c s tx (Client (TcRollbackReq one)) t plain fine none = rolls_back c s.node s.view tx t fine none
-loose_turn c s tx (Client (TcWaitReq one)) t plain fine none = waits c s.node s.view tx t fine none
-loose_turn c s tx (Chain (LqhKeyConf one key answer)) t plain fine none = answers c s.node s.view tx t fine none key answer
-loose_turn c s tx (Chain (LqhKeyRef one key why)) t plain fine none = refuses c s.node s.view tx t fine none key why
-loose_turn c s tx (Chain (Committed one key)) t plain fine none = committed c s.node s.view tx t fine none
-loose_turn c s tx (Chain (Completed one key)) t plain fine none = completed c s.node s.view tx t fine none
-loose_turn c s tx (Chain (Aborted one key)) t plain fine none = aborted c s.node s.view tx t fine none
-loose_turn c s tx (Epoch (DiVerifyConf one epoch)) t plain fine none = commits c s.node s.view tx t fine none epoch
-loose_turn c s tx _ t plain fine none = stays c s.node s.view tx t fine none
+loose_turn c s tx (Client (TcRollbackReq one)) t plain fine none = rolls_back c s.node s.layout tx t fine none
+loose_turn c s tx (Client (TcWaitReq one)) t plain fine none = waits c s.node s.layout tx t fine none
+loose_turn c s tx (Chain (LqhKeyConf one key answer)) t plain fine none = answers c s.node s.layout tx t fine none key answer
+loose_turn c s tx (Chain (LqhKeyRef one key why)) t plain fine none = refuses c s.node s.layout tx t fine none key why
+loose_turn c s tx (Chain (Committed one key)) t plain fine none = committed c s.node s.layout tx t fine none
+loose_turn c s tx (Chain (Completed one key)) t plain fine none = completed c s.node s.layout tx t fine none
+loose_turn c s tx (Chain (Aborted one key)) t plain fine none = aborted c s.node s.layout tx t fine none
+loose_turn c s tx (Epoch (DiVerifyConf one epoch)) t plain fine none = commits c s.node s.layout tx t fine none epoch
+loose_turn c s tx _ t plain fine none = stays c s.node s.layout tx t fine none

@@ -28,7 +28,7 @@ use Rattle.api_block.specs.declared.members.News.TheVariants as news
 use Rattle.api_block.specs.declared.opened.Doing.{Doing}
 use Rattle.api_block.specs.declared.opened.Doing.TheVariants.{Beginning, Ready, Operating, Committing}
 use Rattle.api_block.specs.declared.opened.OpenTransaction.{OpenTransaction}
-use Rattle.api_block.specs.Api.{api_row}
+use Rattle.api_block.specs.Api.{api_table}
 use Rattle.api_block.specs.Dump.{dump_replies, dumped_by, dumped_next, dumped_row, row_reply}
 use Rattle.api_block.specs.Gathered.{gathered}
 use Rattle.api_block.specs.Members.{everyone, telling_all}
@@ -38,8 +38,8 @@ use Rattle.api_block.specs.Outcome.{abort_report_row, commit_report_row, refuse_
 use Rattle.api_block.specs.State.{ApiState}
 use Rattle.api_block.specs.Wait.{behind_row}
 use Rattle.node_core.specs.Requests.{is_request}
-use Rattle.answer_laws.proofs.Focus.{IsFocus, where_found}
-use Rattle.answer_laws.proofs.SendKinds.{are_of}
+use Rattle.host_laws.proofs.Focus.{IsFocus, where_found}
+use Rattle.host_laws.proofs.SendKinds.{are_of}
 
 -- what is sent with no transaction in view
 abbrev pub is_news_kind : Body → Bool
@@ -191,7 +191,7 @@ module _ (s : ApiState) where
       by None = rests refl (none_added refl) refl
       by (Some d) = on d next
 
-pub api_changes : (s : ApiState) (body : Body) → is_request body ≡ false → ApiChange s body (api_row s body)
+pub api_changes : (s : ApiState) (body : Body) → is_request body ≡ false → ApiChange s body (api_table s body)
 api_changes s (Host (Continue (work.Request r) at)) plain = cc
 api_changes s (Client (TcBeginConf name tx)) plain = begun_changes s name tx
 api_changes s (Client (TcBeginRef name)) plain = refuse_changes s name

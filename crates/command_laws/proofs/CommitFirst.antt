@@ -5,25 +5,20 @@ use Rattle.run_theory.specs.Lists.{IsIn}
 use Rattle.sig_core.specs.declared.member.TxId.{TxId}
 use Rattle.sig_core.specs.declared.reply.Refusal.TheVariants.{NotOpen}
 use Rattle.sig_core.specs.declared.request.ApiReq.TheVariants as request
-use Rattle.sig_core.specs.declared.signal.Body.TheVariants.{Host, Client}
+use Rattle.sig_core.specs.declared.signal.Body.TheVariants.{Client}
 use Rattle.sig_core.specs.declared.signal.client.ClientSignal.TheVariants.{TcCommitReq}
-use Rattle.sig_core.specs.declared.signal.host.HostSignal.TheVariants.{Continue}
-use Rattle.sig_core.specs.declared.signal.host.Work.TheVariants as work
-use Rattle.sig_core.specs.Place.{client, coordinator_of}
+use Rattle.sig_core.specs.Place.{coordinator_of}
 use Rattle.sig_core.specs.Step.{Step, sending}
+use Rattle.api_block.specs.Api.{request_row}
+use Rattle.api_block.specs.Commands.{commit_by, commit_row}
 use Rattle.api_block.specs.declared.opened.Doing.{Doing}
 use Rattle.api_block.specs.declared.opened.Doing.TheVariants.{Ready, Committing}
 use Rattle.api_block.specs.declared.opened.OpenTransaction.{OpenTransaction}
-use Rattle.api_block.specs.Api.{request_row}
-use Rattle.api_block.specs.Commands.{commit_by, commit_row}
 use Rattle.api_block.specs.Opened.{committing, if_there, is_beginning, where_at}
 use Rattle.api_block.specs.State.{ApiState, about, changing, refused}
-use Rattle.node_core.specs.declared.host.Host as host
-use Rattle.node_core.specs.declared.host.Host.TheVariants.{Shell, Node}
-use Rattle.node_core.specs.Row.{row, shell_row}
-use Rattle.answer_laws.proofs.ApiBegins.{each_changed, in_middle}
-use Rattle.answer_laws.proofs.Wishes.{sends_of}
-use Rattle.answer_laws.specs.Answered.{opened_in}
+use Rattle.node_core.specs.Row.{row}
+use Rattle.host_laws.proofs.ApiBegins.{each_changed, in_middle}
+use Rattle.host_laws.proofs.Wishes.{sends_of}
 use Rattle.command_laws.proofs.Entries.{HasOne, IsNamed, NoneBegins, named_found}
 use Rattle.command_laws.proofs.FirmHosts.{is_push_to}
 use Rattle.command_laws.specs.Served.{named_in}
@@ -38,15 +33,15 @@ module _ (s : ApiState) (name : ℕ) (t : OpenTransaction) (tx : TxId) (ready : 
       ∙ ap (λ (d : Doing). commit_by s name f.at t d t.tx) ready ∙ ap (commit_by s name f.at t Ready) own
 
 -- after it the transaction is committing, none begins, and nothing else is asked for
-pub record IsAsked (tx : TxId) (name : ℕ) (step : Step host.Host) : Type 0 where
-  pub has : HasOne tx (Some name) Committing (opened_in step.state)
-  pub calm : NoneBegins (opened_in step.state)
+pub record IsAsked (tx : TxId) (name : ℕ) (step : Step ApiState) : Type 0 where
+  pub has : HasOne tx (Some name) Committing step.state.opened
+  pub calm : NoneBegins step.state.opened
   pub pushes : sends_of (is_push_to tx) step.effects.sends ≡ 0
 
-pub commit_first : (g : host.Host) (name : ℕ) (t : OpenTransaction) (tx : TxId) → named_in (opened_in g) name ≡ Some t → t.doing ≡ Ready → t.tx ≡ Some tx → NoneBegins (opened_in g)
-    → IsAsked tx name (row g client (Host (Continue (work.Request (request.Commit name)) 0)))
-unfolding row shell_row request_row
-commit_first (Shell s) name t tx is ready own calm = record {
+pub commit_first : (s : ApiState) (name : ℕ) (t : OpenTransaction) (tx : TxId) → named_in s.opened name ≡ Some t → t.doing ≡ Ready → t.tx ≡ Some tx → NoneBegins s.opened
+    → IsAsked tx name (request_row s (request.Commit name))
+unfolding request_row
+commit_first s name t tx is ready own calm = record {
   has = record {
     item = committing t;
     inside = subst (IsIn (committing t)) (sym opened) (in_middle f.focus.front (committing t) f.focus.back);
@@ -54,7 +49,8 @@ commit_first (Shell s) name t tx is ready own calm = record {
     called = f.called;
     does = refl;
   };
-  calm = subst NoneBegins (sym opened) (each_changed (λ (u : OpenTransaction). is_beginning u.doing ≡ false) f.focus.front f.focus.item (committing t) f.focus.back s.opened f.focus.is calm (λ before. refl));
+  calm = subst NoneBegins (sym opened)
+      (each_changed (λ (u : OpenTransaction). is_beginning u.doing ≡ false) f.focus.front f.focus.item (committing t) f.focus.back s.opened f.focus.is calm (λ before. refl));
   pushes = ap (λ (step : Step ApiState). sends_of (is_push_to tx) step.effects.sends) (commit_found s name t tx ready own f);
 }
   where
@@ -63,4 +59,3 @@ commit_first (Shell s) name t tx is ready own calm = record {
 
     opened : (commit_row s name).state.opened ≡ f.focus.front ++ committing t ∷ f.focus.back
     opened = ap (λ (step : Step ApiState). step.state.opened) (commit_found s name t tx ready own f) ∙ f.focus.set (committing t)
-commit_first (Node n) name t tx is ready own calm = cc

@@ -1,141 +1,70 @@
 -- A step of a host, where no commit or abort of the transaction is wished for.
-use Rattle.std.proofs.Common.{◌≡◌, ◌⊎◌, ℕ, suc, true, false, List, ◌∷◌, refl, sym, ap, ◌∙◌, subst, inl, inr}
-use Rattle.std.specs.Prelude.{◌&&◌}
-use Rattle.sig_core.specs.declared.log.LogStep.{LogStep}
+use Rattle.std.proofs.Common.{◌≡◌, ◌⊎◌, true, false, List, refl, sym, ap, ◌∙◌, subst, inl}
+use Rattle.std.specs.Prelude.{◌&&◌, Some}
 use Rattle.sig_core.specs.declared.member.TxId.{TxId}
 use Rattle.sig_core.specs.declared.outs.Outgoing.{Outgoing}
-use Rattle.sig_core.specs.declared.place.BlockId.{BlockId}
 use Rattle.sig_core.specs.declared.place.BlockId.TheVariants as block
-use Rattle.sig_core.specs.declared.place.Place.{Place}
-use Rattle.sig_core.specs.declared.signal.Body.{Body}
-use Rattle.sig_core.specs.Step.{Step}
-use Rattle.api_block.specs.Api.{api_row}
-use Rattle.api_block.specs.State.{ApiState}
-use Rattle.lqh_block.specs.Lqh.{lqh_row}
-use Rattle.node_core.specs.declared.host.Host as host
-use Rattle.node_core.specs.declared.host.Host.TheVariants.{Shell, Node}
-use Rattle.node_core.specs.declared.node.Node as node
-use Rattle.node_core.specs.Dih.{dih_row}
-use Rattle.node_core.specs.Row.{node_row, row, shell_row}
+use Rattle.sig_core.specs.declared.signal.Signal.{Signal}
+use Rattle.sig_core.specs.Step.{Effects, Step, nothing}
+use Rattle.lqh_block.specs.Lqh.{lqh_table}
+use Rattle.node_core.proofs.HostCases.{BlockCase, api_takes, block_case, dih_takes, none_takes, rows_take, tc_takes}
+use Rattle.node_core.specs.Blocks.{api_of, dih_of, lqh_of, tc_of}
+use Rattle.node_core.specs.declared.host.Host.{Host}
+use Rattle.node_core.specs.Dih.{dih_table}
+use Rattle.node_core.specs.Row.{row}
+use Rattle.tc_block.specs.declared.transaction.Transaction.{Transaction}
 use Rattle.tc_block.specs.State.{TcState}
 use Rattle.tc_block.specs.Tc.{tc_row}
-use Rattle.world_core.specs.Machine.{after, step_after}
-use Rattle.world_core.specs.Start.{Start}
-use Rattle.answer_laws.proofs.ApiMoves.{ApiMove, api_moves, begun_as, ends, goes, is_api_kind, opens, refuses, rests}
-use Rattle.answer_laws.proofs.DihSends.{dih_kinds}
-use Rattle.answer_laws.proofs.Hosts.{IsNode, node_after, same_node, shell_after}
-use Rattle.answer_laws.proofs.LqhSends.{lqh_kinds}
-use Rattle.answer_laws.proofs.Ops.{row_effects, row_state}
-use Rattle.answer_laws.proofs.SendKinds.{are_of, is_dih_kind, is_lqh_kind, none_of}
-use Rattle.answer_laws.proofs.Wishes.{is_tc, sends_of}
-use Rattle.command_laws.proofs.EarlySteps.{GoesPast, IsOpenNow, IsPastNow, Leaves, StaysClean, both_api, clean_goes, fair_loss, good_dih, good_lqh, is_bad, is_loss, is_wish_to, loss_dih, past_goes, tc_no_ref, wish_of}
+use Rattle.host_laws.proofs.ApiMoves.{is_api_kind}
+use Rattle.host_laws.proofs.DihSends.{dih_kinds}
+use Rattle.host_laws.proofs.LqhSends.{lqh_kinds}
+use Rattle.host_laws.proofs.SendKinds.{is_dih_kind, is_lqh_kind, none_of}
+use Rattle.host_laws.proofs.Wishes.{is_tc, sends_of}
+use Rattle.run_laws.specs.Live.{of_live}
+use Rattle.command_laws.proofs.EarlySteps.{GoesPast, IsOpenNow, IsPastNow, Leaves, StaysClean, bad_tc, clean_goes, fair_loss, is_bad, is_loss, is_wish_to, no_loss, past_goes, tc_no_ref, wish_of}
+use Rattle.command_laws.proofs.HostSends.{IsNotOfApi, api_silent, not_of_api, not_of_dih, not_of_lqh, or_first, or_second}
+use Rattle.command_laws.proofs.HostSteps.{tc_host}
 use Rattle.command_laws.proofs.LqhFair.{is_fair, lqh_fair}
 use Rattle.command_laws.proofs.TcPath.{IsSound, tc_goes}
-use Rattle.command_laws.proofs.TellsSince.{OnTc, sound_at}
 
 module _ (tx : TxId) where
-  node_clean : (n : node.Node) (at : BlockId) (body : Body) → IsSound tx n.tc → (is_tc at && wish_of tx body) ≡ false → (node_row n at body).state.tc.node ≡ n.tc.node → is_fair tx body ≡ true → (tx.tc ≡ n.tc.node → IsOpenNow tx n.tc)
-      → StaysClean tx (node_row n at body).state.tc (node_row n at body).effects.sends ⊎ Leaves tx (node_row n at body).state.tc (node_row n at body).effects.sends
-  unfolding node_row
-  node_clean n block.Tc body sound wish same fair was = clean_goes tx n.tc body sound wish (tc_row n.tc body) same (tc_no_ref n.tc body) fair was (tc_goes tx n.tc body sound)
-  node_clean n block.Dih body sound wish same fair was =
-      inl (record {
-        good = none_of is_dih_kind (is_bad tx) (good_dih tx) (dih_row n.dih body).effects.sends (dih_kinds n.dih body);
-        fair = none_of is_dih_kind (is_loss tx) (loss_dih tx) (dih_row n.dih body).effects.sends (dih_kinds n.dih body);
-        is_open = was;
-      })
-  node_clean n block.Lqh body sound wish same fair was =
-      inl (record {
-        good = none_of is_lqh_kind (is_bad tx) (good_lqh tx) (lqh_row n.lqh body).effects.sends (lqh_kinds n.lqh body);
-        fair = none_of (is_fair tx) (is_loss tx) (fair_loss tx) (lqh_row n.lqh body).effects.sends (lqh_fair tx n.lqh body fair);
-        is_open = was;
-      })
-  node_clean n _ body sound wish same fair was = inl (record { good = refl; fair = refl; is_open = was })
+  loss_api : IsNotOfApi (is_loss tx)
+  loss_api = record { kinds = λ to b e. no_loss tx to b (or_first (is_api_kind b) (is_dih_kind b) e); begins = λ name node. refl }
 
-  node_past : (n : node.Node) (at : BlockId) (body : Body) → IsSound tx n.tc → (is_tc at && wish_of tx body) ≡ false → (node_row n at body).state.tc.node ≡ n.tc.node → (tx.tc ≡ n.tc.node → IsPastNow tx n.tc)
-      → GoesPast tx (node_row n at body).state.tc (node_row n at body).effects.sends
-  unfolding node_row
-  node_past n block.Tc body sound wish same was = past_goes tx n.tc body sound wish (tc_row n.tc body) same (tc_no_ref n.tc body) was (tc_goes tx n.tc body sound)
-  node_past n block.Dih body sound wish same was = record { good = none_of is_dih_kind (is_bad tx) (good_dih tx) (dih_row n.dih body).effects.sends (dih_kinds n.dih body); past = was }
-  node_past n block.Lqh body sound wish same was = record { good = none_of is_lqh_kind (is_bad tx) (good_lqh tx) (lqh_row n.lqh body).effects.sends (lqh_kinds n.lqh body); past = was }
-  node_past n _ body sound wish same was = record { good = refl; past = was }
+  module _ (g : Host) (x : Signal) (sound : IsSound tx (tc_of g)) (wish : is_wish_to tx x.to x.body ≡ false) (Home : Type 0) (home_of : (t : Transaction) → of_live tx (tc_of g).live ≡ Some t → Home) where
+    no_wish : x.to.block ≡ block.Tc → wish_of tx x.body ≡ false
+    no_wish at = ap (λ of. is_tc of && wish_of tx x.body) (sym at) ∙ wish
 
-  module _ (start : Start) (h : ℕ) (log : List LogStep) (e : LogStep) (wish : is_wish_to tx e.taken.to e.taken.body ≡ false) where
-    abbrev here : IsNode (suc h) (after start (suc h) log)
-    here = node_after start h log
+    pub host_past : (Home → IsPastNow tx (tc_of g)) → GoesPast tx Home (tc_of (row g x).state) (row g x).effects.sends
+    host_past was =
+        tc_host (λ (step : Step TcState). GoesPast tx Home step.state step.effects.sends) g x
+        (λ runs at. past_goes tx (tc_of g) x.body sound (no_wish at) (tc_row (tc_of g) x) (tc_no_ref (tc_of g) x.body) Home home_of was (tc_goes tx (tc_of g) x.body sound))
+        (λ effects none off. record { good = none (is_bad tx) (bad_tc tx); past = was })
 
-    abbrev sends_now : List Outgoing
-    sends_now = (step_after start (suc h) log e).effects.sends
+    abbrev pub CleanOr : TcState → List Outgoing → Type 0
+    CleanOr s sends = StaysClean tx Home s sends ⊎ Leaves tx Home s sends
 
-    now_is : after start (suc h) (e ∷ log) ≡ Node (node_row here.state e.taken.to.block e.taken.body).state
-    now_is = row_state e.taken.to e.taken.body (after start (suc h) log) here.state here.is
-
-    sends_are : (step_after start (suc h) log e).effects.sends ≡ (node_row here.state e.taken.to.block e.taken.body).effects.sends
-    sends_are = row_effects e.taken.to e.taken.body (after start (suc h) log) here.state here.is
-
-    number_now : (node_row here.state e.taken.to.block e.taken.body).state.tc.node ≡ suc h
-    number_now =
-        let next = node_after start h (e ∷ log) in
-        ap (λ (m : node.Node). m.tc.node) (same_node (node_row here.state e.taken.to.block e.taken.body).state next.state (sym now_is ∙ next.is)) ∙ next.number
-
-    same : (node_row here.state e.taken.to.block e.taken.body).state.tc.node ≡ here.state.tc.node
-    same = number_now ∙ sym here.number
-
-    sound : IsSound tx here.state.tc
-    sound = sound_at start tx h log here.state here.is
-
-    was_here : (P : TcState → Type 0) → (tx.tc ≡ suc h → OnTc P (after start (suc h) log)) → tx.tc ≡ here.state.tc.node → P here.state.tc
-    was_here P was at = subst (OnTc P) here.is (was (at ∙ here.number))
-
-    -- the step leaves all clean, or the transaction is past it at this host, its coordinator's
-    pub record CleanStep : Type 0 where
-      pub good : sends_of (is_bad tx) sends_now ≡ 0
-      pub stage : ((sends_of (is_loss tx) sends_now ≡ 0) × (tx.tc ≡ suc h → OnTc (IsOpenNow tx) (after start (suc h) (e ∷ log)))) ⊎ ((tx.tc ≡ suc h) × OnTc (IsPastNow tx) (after start (suc h) (e ∷ log)))
-
-    pub clean_step : is_fair tx e.taken.body ≡ true → (tx.tc ≡ suc h → OnTc (IsOpenNow tx) (after start (suc h) log)) → CleanStep
-    clean_step fair was = by (node_clean here.state e.taken.to.block e.taken.body sound wish same fair (was_here (IsOpenNow tx) was))
+    -- the step leaves all clean, or the transaction is past it, at its home
+    pub host_clean : is_fair tx x.body ≡ true → (Home → IsOpenNow tx (tc_of g)) → CleanOr (tc_of (row g x).state) (row g x).effects.sends
+    host_clean fair was = go (row g x) (block_case g x)
       where
-        by : StaysClean tx (node_row here.state e.taken.to.block e.taken.body).state.tc (node_row here.state e.taken.to.block e.taken.body).effects.sends
-            ⊎ Leaves tx (node_row here.state e.taken.to.block e.taken.body).state.tc (node_row here.state e.taken.to.block e.taken.body).effects.sends → CleanStep
-        by (inl c) = record {
-          good = ap (sends_of (is_bad tx)) sends_are ∙ c.good;
-          stage = inl (ap (sends_of (is_loss tx)) sends_are ∙ c.fair, λ at. subst (OnTc (IsOpenNow tx)) (sym now_is) (c.is_open (at ∙ sym number_now)));
-        }
-        by (inr l) = record { good = ap (sends_of (is_bad tx)) sends_are ∙ l.good; stage = inr (l.home ∙ number_now, subst (OnTc (IsPastNow tx)) (sym now_is) l.past) }
+        rests : (t : Step Host) (f : Effects) → tc_of t.state ≡ tc_of g → t.effects ≡ f → sends_of (is_bad tx) f.sends ≡ 0 → sends_of (is_loss tx) f.sends ≡ 0 → CleanOr (tc_of t.state) t.effects.sends
+        rests t f same effects bad loss = inl (record {
+          good = ap (λ (e : Effects). sends_of (is_bad tx) e.sends) effects ∙ bad;
+          fair = ap (λ (e : Effects). sends_of (is_loss tx) e.sends) effects ∙ loss;
+          is_open = λ at. subst (IsOpenNow tx) (sym same) (was at);
+        })
 
-    pub record PastStep : Type 0 where
-      pub good : sends_of (is_bad tx) sends_now ≡ 0
-      pub past : tx.tc ≡ suc h → OnTc (IsPastNow tx) (after start (suc h) (e ∷ log))
-
-    pub past_step : (tx.tc ≡ suc h → OnTc (IsPastNow tx) (after start (suc h) log)) → PastStep
-    past_step was =
-        let p = node_past here.state e.taken.to.block e.taken.body sound wish same (was_here (IsPastNow tx) was) in
-        record { good = ap (sends_of (is_bad tx)) sends_are ∙ p.good; past = λ at. subst (OnTc (IsPastNow tx)) (sym now_is) (p.past (at ∙ sym number_now)) }
-
-  -- the shell's host sends neither
-  api_silent : (s : ApiState) (body : Body) (step : Step ApiState) → ApiMove s body (step.state.view, step.state.opened) step.effects.sends → (sends_of (is_bad tx) step.effects.sends ≡ 0) × (sends_of (is_loss tx) step.effects.sends ≡ 0)
-  api_silent s body step move = by move
-    where
-      kind_silent : (sends : List Outgoing) → are_of is_api_kind sends ≡ true → (sends_of (is_bad tx) sends ≡ 0) × (sends_of (is_loss tx) sends ≡ 0)
-      kind_silent sends kind = (none_of is_api_kind (is_bad tx) (λ to b k. (both_api tx to b k).0) sends kind, none_of is_api_kind (is_loss tx) (λ to b k. (both_api tx to b k).1) sends kind)
-
-      by : ApiMove s body (step.state.view, step.state.opened) step.effects.sends → (sends_of (is_bad tx) step.effects.sends ≡ 0) × (sends_of (is_loss tx) step.effects.sends ≡ 0)
-      by (rests is kind void) = kind_silent step.effects.sends kind
-      by (opens name at op new request is told) = (ap (sends_of (is_bad tx)) told, ap (sends_of (is_loss tx)) told)
-      by (begun_as name one front t u back about passes begun was is kind) = kind_silent step.effects.sends kind
-      by (goes front t u back go void was is kind) = kind_silent step.effects.sends kind
-      by (ends one front t back about passes was is kind) = kind_silent step.effects.sends kind
-      by (refuses name front t back about passes was is kind) = kind_silent step.effects.sends kind
-
-  shell_silent : (s : ApiState) (at : BlockId) (body : Body) → (sends_of (is_bad tx) (shell_row s at body).effects.sends ≡ 0) × (sends_of (is_loss tx) (shell_row s at body).effects.sends ≡ 0)
-  unfolding shell_row
-  shell_silent s block.Api body = api_silent s body (api_row s body) (api_moves s body)
-  shell_silent s _ body = (refl, refl)
-
-  host_silent : (g : host.Host) (s : ApiState) (to : Place) (body : Body) → g ≡ Shell s → (sends_of (is_bad tx) (row g to body).effects.sends ≡ 0) × (sends_of (is_loss tx) (row g to body).effects.sends ≡ 0)
-  unfolding row
-  host_silent (Shell t) s to body is = shell_silent t to.block body
-  host_silent (Node n) s to body is = cc
-
-  pub shell_step : (start : Start) (log : List LogStep) (e : LogStep) → (sends_of (is_bad tx) (step_after start 0 log e).effects.sends ≡ 0) × (sends_of (is_loss tx) (step_after start 0 log e).effects.sends ≡ 0)
-  shell_step start log e = let s = shell_after start log in host_silent (after start 0 log) s.state e.taken.to e.taken.body s.is
+        go : (t : Step Host) → BlockCase g x t → CleanOr (tc_of t.state) t.effects.sends
+        go t (tc_takes step) =
+            subst (λ (s : TcState). CleanOr s t.effects.sends) (sym step.state)
+            (subst (λ (f : Effects). CleanOr (tc_row (tc_of g) x).state f.sends) (sym step.effects)
+            (clean_goes tx (tc_of g) x.body sound (no_wish step.at) (tc_row (tc_of g) x) (tc_no_ref (tc_of g) x.body) Home home_of fair was (tc_goes tx (tc_of g) x.body sound)))
+        go t (api_takes step) = rests t _ step.tc step.effects (api_silent (is_bad tx) (not_of_api (is_bad tx) (bad_tc tx)) (api_of g) x.body) (api_silent (is_loss tx) loss_api (api_of g) x.body)
+        go t (dih_takes step) =
+            rests t _ step.tc step.effects (none_of is_dih_kind (is_bad tx) (not_of_dih (is_bad tx) (bad_tc tx)) (dih_table (dih_of g) x.body).effects.sends (dih_kinds (dih_of g) x.body))
+            (none_of is_dih_kind (is_loss tx) (λ to b e. no_loss tx to b (or_second (is_api_kind b) (is_dih_kind b) e)) (dih_table (dih_of g) x.body).effects.sends (dih_kinds (dih_of g) x.body))
+        go t (rows_take step) =
+            rests t _ step.tc step.effects (none_of is_lqh_kind (is_bad tx) (not_of_lqh (is_bad tx) (bad_tc tx)) (lqh_table (lqh_of g) x.body).effects.sends (lqh_kinds (lqh_of g) x.body))
+            (none_of (is_fair tx) (is_loss tx) (fair_loss tx) (lqh_table (lqh_of g) x.body).effects.sends (lqh_fair tx (lqh_of g) x.body fair))
+        go t (none_takes step) = rests t nothing (ap (λ (u : Step Host). tc_of u.state) step.is) (ap (λ (u : Step Host). u.effects) step.is) refl refl

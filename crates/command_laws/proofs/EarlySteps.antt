@@ -1,7 +1,7 @@
 -- A step of a node, where no commit or abort of the transaction is wished for.
-use Rattle.std.proofs.Common.{◌≡◌, ◌≢◌, ◌⊎◌, ◌<◌, ◌+◌, ℕ, Bool, true, false, List, [], ◌∷◌, refl, sym, ap, ◌∙◌, subst, inl, inr, arith}
-use Rattle.std.proofs.lemmas.Bool.{cases_eq}
-use Rattle.std.specs.Prelude.{◌&&◌, if◌then◌else◌, Option, None, Some, not}
+use Rattle.std.proofs.Common.{◌≡◌, ◌⊎◌, ◌<◌, ◌+◌, ℕ, Bool, true, false, List, [], ◌∷◌, refl, sym, ap, ◌∙◌, subst, inl, inr, arith}
+use Rattle.std.specs.Prelude.{◌&&◌, if◌then◌else◌, Option, None, Some, not, ◌||◌}
+use Rattle.sig_core.proofs.Keys.{same_tx-self}
 use Rattle.sig_core.specs.declared.member.TxId.{TxId}
 use Rattle.sig_core.specs.declared.outs.Outgoing.{Outgoing}
 use Rattle.sig_core.specs.declared.place.Place.{Place}
@@ -14,21 +14,20 @@ use Rattle.sig_core.specs.Step.{Step}
 use Rattle.tc_block.specs.declared.phase.Phase.TheVariants.{Open}
 use Rattle.tc_block.specs.declared.transaction.Transaction.{Transaction}
 use Rattle.tc_block.specs.State.{TcState}
-use Rattle.tc_block.specs.Tc.{begin_if, begin_row, is_full, tc_row}
+use Rattle.tc_block.specs.Tc.{begin_if, begin_row, is_full, tc_table}
 use Rattle.tc_block.specs.Turn.{Turn}
-use Rattle.answer_laws.proofs.ApiMoves.{is_api_kind}
-use Rattle.answer_laws.proofs.SendKinds.{are_of, is_dih_kind, is_lqh_kind, is_tc_kind, none_of, of_kind}
-use Rattle.answer_laws.proofs.Tally.{one_if}
-use Rattle.answer_laws.proofs.TcSends.{tc_kinds, tx_in}
-use Rattle.answer_laws.proofs.Wishes.{is_tc, sends_of}
-use Rattle.transit_laws.specs.Live.{of_live}
+use Rattle.host_laws.specs.Counts.{one_if}
+use Rattle.host_laws.proofs.ApiMoves.{is_api_kind}
+use Rattle.host_laws.proofs.SendKinds.{are_of, is_dih_kind, is_tc_kind, none_of, of_kind}
+use Rattle.host_laws.proofs.TcSends.{tc_kinds, tx_in}
+use Rattle.host_laws.proofs.Wishes.{is_tc, sends_of}
+use Rattle.run_laws.specs.Live.{of_live}
 use Rattle.command_laws.proofs.EarlyTurns.{EarlyTurn, IsLeaving, is_no_end, is_past, is_wish, open_turn, past_turn}
+use Rattle.command_laws.proofs.HostSends.{IsOfTc, is_other_kind}
 use Rattle.command_laws.proofs.LqhFair.{is_fair}
 use Rattle.command_laws.proofs.TcPath.{IsSound, TcGoes, aside, begins, is_told, left_by, takes, told_of}
 use Rattle.command_laws.proofs.TellsOnce.{live_early}
-use Rattle.command_laws.proofs.TellsSince.{not_home}
 use Rattle.command_laws.proofs.Turns.{turn_by}
-use Rattle.sig_core.proofs.Keys.{same_tx-self}
 use Rattle.command_laws.specs.Served.{is_refusal}
 
 -- an abort of the transaction, or a refusal for another cause
@@ -66,10 +65,10 @@ begin_no_ref : (s : TcState) (name : Option ℕ) (b : Bool) → are_of is_no_ref
 begin_no_ref s name true = refl
 begin_no_ref s name false = refl
 
-pub tc_no_ref : (s : TcState) (body : Body) → are_of is_no_ref (tc_row s body).effects.sends ≡ true
+pub tc_no_ref : (s : TcState) (body : Body) → are_of is_no_ref (tc_table s body).effects.sends ≡ true
 unfolding begin_row
 tc_no_ref s (Client (TcBeginReq name)) = begin_no_ref s name (is_full s)
-tc_no_ref s body = of_kind (is_tc_kind (tx_in body)) is_no_ref (no_ref_tc (tx_in body)) (tc_row s body).effects.sends (tc_kinds s body refl)
+tc_no_ref s body = of_kind (is_tc_kind (tx_in body)) is_no_ref (no_ref_tc (tx_in body)) (tc_table s body).effects.sends (tc_kinds s body refl)
 
 abbrev pub OpenOption : Option Transaction → Type 0
 OpenOption None = Unit {0}
@@ -130,27 +129,19 @@ module _ (tx : TxId) where
   pub fair_loss : (to : Place) (b : Body) → is_fair tx b ≡ true → is_loss tx to b ≡ false
   fair_loss to b e = ap not e
 
-  pub good_dih : (to : Place) (b : Body) → is_dih_kind b ≡ true → is_bad tx to b ≡ false
-  good_dih to (Client (TcCommitConf other epoch)) e = cc
-  good_dih to (Client (TcRollbackRep other cause)) e = cc
-  good_dih to _ e = refl
+  pub bad_tc : IsOfTc (is_bad tx)
+  bad_tc = record { others = others; begins = λ name node. refl }
+    where
+      others : (to : Place) (b : Body) → is_other_kind b ≡ true → is_bad tx to b ≡ false
+      others to (Client (TcCommitConf other epoch)) e = cc
+      others to (Client (TcRollbackRep other cause)) e = cc
+      others to _ e = refl
 
-  pub good_lqh : (to : Place) (b : Body) → is_lqh_kind b ≡ true → is_bad tx to b ≡ false
-  good_lqh to (Client (TcCommitConf other epoch)) e = cc
-  good_lqh to (Client (TcRollbackRep other cause)) e = cc
-  good_lqh to _ e = refl
-
-  pub loss_dih : (to : Place) (b : Body) → is_dih_kind b ≡ true → is_loss tx to b ≡ false
-  loss_dih to (Chain (Abort other key)) e = cc
-  loss_dih to (Chain (LqhKeyRef other key why)) e = cc
-  loss_dih to _ e = refl
-
-  pub both_api : (to : Place) (b : Body) → is_api_kind b ≡ true → (is_bad tx to b ≡ false) × (is_loss tx to b ≡ false)
-  both_api to (Client (TcCommitConf other epoch)) e = cc
-  both_api to (Client (TcRollbackRep other cause)) e = cc
-  both_api to (Chain (Abort other key)) e = cc
-  both_api to (Chain (LqhKeyRef other key why)) e = cc
-  both_api to _ e = (refl, refl)
+  -- epochs and the API lose none
+  pub no_loss : (to : Place) (b : Body) → (is_api_kind b || is_dih_kind b) ≡ true → is_loss tx to b ≡ false
+  no_loss to (Chain (Abort other key)) e = cc
+  no_loss to (Chain (LqhKeyRef other key why)) e = cc
+  no_loss to _ e = refl
 
   wish_kind : (body : Body) → wish_of tx body ≡ false → tx_in body ≡ tx → is_wish body ≡ false
   wish_kind (Client (TcCommitReq other)) off same = absurd (let both : false ≡ true = sym off ∙ (ap (λ v. same_tx v tx) same ∙ same_tx-self tx) in cc)
@@ -158,23 +149,24 @@ module _ (tx : TxId) where
   wish_kind _ off same = refl
 
   -- nothing bad is sent, and the coordinator is past it
-  pub record GoesPast (s : TcState) (sends : List Outgoing) : Type 0 where
+  pub record GoesPast (Home : Type 0) (s : TcState) (sends : List Outgoing) : Type 0 where
     pub good : sends_of (is_bad tx) sends ≡ 0
-    pub past : tx.tc ≡ s.node → IsPastNow tx s
+    pub past : Home → IsPastNow tx s
 
   -- nothing bad is sent, and nothing is aborted, and it is open
-  pub record StaysClean (s : TcState) (sends : List Outgoing) : Type 0 where
+  pub record StaysClean (Home : Type 0) (s : TcState) (sends : List Outgoing) : Type 0 where
     pub good : sends_of (is_bad tx) sends ≡ 0
     pub fair : sends_of (is_loss tx) sends ≡ 0
-    pub is_open : tx.tc ≡ s.node → IsOpenNow tx s
+    pub is_open : Home → IsOpenNow tx s
 
   -- or it leaves that state, at its coordinator
-  pub record Leaves (s : TcState) (sends : List Outgoing) : Type 0 where
+  pub record Leaves (Home : Type 0) (s : TcState) (sends : List Outgoing) : Type 0 where
     pub good : sends_of (is_bad tx) sends ≡ 0
-    pub home : tx.tc ≡ s.node
+    pub home : Home
     pub past : IsPastNow tx s
 
-  module _ (s : TcState) (body : Body) (sound : IsSound tx s) (wish : wish_of tx body ≡ false) (step : Step TcState) (node_same : step.state.node ≡ s.node) (refs : are_of is_no_ref step.effects.sends ≡ true) where
+  module _ (s : TcState) (body : Body) (sound : IsSound tx s) (wish : wish_of tx body ≡ false) (step : Step TcState) (refs : are_of is_no_ref step.effects.sends ≡ true)
+      (Home : Type 0) (home_of : (t : Transaction) → of_live tx s.live ≡ Some t → Home) where
     left_past : (turn : Turn) → (turn.over ≡ false → is_past turn.step.state.phase ≡ true) → PastOption (left_by turn)
     left_past turn past = by turn.over refl
       where
@@ -182,12 +174,12 @@ module _ (tx : TxId) where
         by true over = tt
         by false over = past over
 
-    pub clean_goes : is_fair tx body ≡ true → (tx.tc ≡ s.node → IsOpenNow tx s) → TcGoes tx s body step → StaysClean step.state step.effects.sends ⊎ Leaves step.state step.effects.sends
+    pub clean_goes : is_fair tx body ≡ true → (Home → IsOpenNow tx s) → TcGoes tx s body step → StaysClean Home step.state step.effects.sends ⊎ Leaves Home step.state step.effects.sends
     clean_goes fair was (aside same none more) =
         inl (record {
           good = none_bad step.effects.sends none;
           fair = none_loss step.effects.sends none refs;
-          is_open = λ at. record { open_now = subst OpenOption (sym same) (was (at ∙ node_same)).open_now };
+          is_open = λ at. record { open_now = subst OpenOption (sym same) (was at).open_now };
         })
     clean_goes fair was (begins number now none more) =
         inl (record {
@@ -197,17 +189,10 @@ module _ (tx : TxId) where
         })
     clean_goes fair was (takes t same live sends left more) = own (cases_home)
       where
-        home : tx.tc ≡ s.node
-        home = by (cases_eq tx.tc s.node)
-          where
-            by : (tx.tc ≡ s.node) ⊎ (tx.tc ≢ s.node) → tx.tc ≡ s.node
-            by (inl at) = at
-            by (inr away) = absurd (let both : Some t ≡ None = sym live ∙ not_home tx s.node s.next_seq s.live sound.own away in cc)
-
         cases_home : EarlyTurn tx t (turn_by s tx body t)
-        cases_home = open_turn s tx body t (wish_kind body wish same) same fair (subst OpenOption live (was home).open_now)
+        cases_home = open_turn s tx body t (wish_kind body wish same) same fair (subst OpenOption live (was (home_of t live)).open_now)
 
-        own : EarlyTurn tx t (turn_by s tx body t) → StaysClean step.state step.effects.sends ⊎ Leaves step.state step.effects.sends
+        own : EarlyTurn tx t (turn_by s tx body t) → StaysClean Home step.state step.effects.sends ⊎ Leaves Home step.state step.effects.sends
         own (inl q) = inl (record {
           good = ap (sends_of (is_bad tx)) sends ∙ none_of is_no_end (is_bad tx) good_end (turn_by s tx body t).step.effects.sends q.ends;
           fair = ap (sends_of (is_loss tx)) sends ∙ none_of (is_fair tx) (is_loss tx) fair_loss (turn_by s tx body t).step.effects.sends q.fair;
@@ -215,30 +200,23 @@ module _ (tx : TxId) where
         })
         own (inr q) = inr (record {
           good = ap (sends_of (is_bad tx)) sends ∙ none_of is_no_end (is_bad tx) good_end (turn_by s tx body t).step.effects.sends q.ends;
-          home = home ∙ sym node_same;
+          home = home_of t live;
           past = record { past = subst PastOption (sym left) (left_past (turn_by s tx body t) q.past); early = omega (arith, live_early tx s.node s.next_seq s.live t sound.own live, more) };
         })
 
-    pub past_goes : (tx.tc ≡ s.node → IsPastNow tx s) → TcGoes tx s body step → GoesPast step.state step.effects.sends
+    pub past_goes : (Home → IsPastNow tx s) → TcGoes tx s body step → GoesPast Home step.state step.effects.sends
     past_goes was (aside same none more) = record {
       good = none_bad step.effects.sends none;
-      past = λ at. let p = was (at ∙ node_same) in record { past = subst PastOption (sym same) p.past; early = omega (arith, p.early, more) };
+      past = λ at. let p = was at in record { past = subst PastOption (sym same) p.past; early = omega (arith, p.early, more) };
     }
     past_goes was (begins number now none more) = record {
       good = none_bad step.effects.sends none;
-      past = λ at. let p = was (at ∙ node_same) in absurd (omega (arith, p.early, number));
+      past = λ at. let p = was at in absurd (omega (arith, p.early, number));
     }
     past_goes was (takes t same live sends left more) = record {
       good = ap (sends_of (is_bad tx)) sends ∙ none_of is_no_end (is_bad tx) good_end (turn_by s tx body t).step.effects.sends q.ends;
       past = λ at. record { past = subst PastOption (sym left) (left_past (turn_by s tx body t) q.past); early = omega (arith, live_early tx s.node s.next_seq s.live t sound.own live, more) };
     }
       where
-        home : tx.tc ≡ s.node
-        home = by (cases_eq tx.tc s.node)
-          where
-            by : (tx.tc ≡ s.node) ⊎ (tx.tc ≢ s.node) → tx.tc ≡ s.node
-            by (inl at) = at
-            by (inr away) = absurd (let both : Some t ≡ None = sym live ∙ not_home tx s.node s.next_seq s.live sound.own away in cc)
-
         q : IsLeaving (turn_by s tx body t)
-        q = past_turn s tx body t (wish_kind body wish same) same (subst PastOption live (was home).past)
+        q = past_turn s tx body t (wish_kind body wish same) same (subst PastOption live (was (home_of t live)).past)

@@ -10,7 +10,7 @@ use Rattle.sig_core.specs.declared.signal.Body.TheVariants.{Host, Client}
 use Rattle.sig_core.specs.declared.signal.client.ClientSignal.TheVariants.{TcCommitConf, TcCommitReq, TcRollbackRep, TcRollbackReq}
 use Rattle.sig_core.specs.declared.signal.host.HostSignal.TheVariants.{Continue}
 use Rattle.sig_core.specs.declared.signal.host.Work.TheVariants as work
-use Rattle.sig_core.specs.declared.view.View.{View}
+use Rattle.frag_map.specs.Layout.{Layout}
 use Rattle.sig_core.specs.Op.{key_of}
 use Rattle.sig_core.specs.Same.{same_tx}
 use Rattle.tc_block.specs.declared.phase.Phase.{Phase}
@@ -18,16 +18,16 @@ use Rattle.tc_block.specs.declared.phase.Phase.TheVariants.{Open, Verifying, Com
 use Rattle.tc_block.specs.declared.touched.Touched.{Touched}
 use Rattle.tc_block.specs.declared.transaction.Transaction.{Transaction}
 use Rattle.tc_block.specs.Abort as abort
-use Rattle.tc_block.specs.Chain.{chain_of}
+use Rattle.frag_map.specs.Layout.{chain_of}
 use Rattle.tc_block.specs.Part.{part_effects, rest_if}
 use Rattle.tc_block.specs.Sends.{entering, front_sends, key_sends, phase_sends, wait_of}
 use Rattle.tc_block.specs.State.{TcState}
 use Rattle.tc_block.specs.Turn.{Turn, asking}
 use Rattle.tc_block.proofs.EachTurn.{AbortForms, TurnForms}
-use Rattle.answer_laws.proofs.SendKinds.{are_of, of_append, of_drop, of_map, of_take, one_kind}
-use Rattle.answer_laws.proofs.TcSends.{tx_in}
+use Rattle.host_laws.proofs.SendKinds.{are_of, of_append, of_drop, of_map, of_take, one_kind}
+use Rattle.host_laws.proofs.TcSends.{tx_in}
 use Rattle.command_laws.proofs.LqhFair.{is_fair}
-use Rattle.answer_laws.proofs.PhaseSends.{HasChains, aborts_of_kind, entering_of_kind, rest_of_kind}
+use Rattle.host_laws.proofs.PhaseSends.{HasChains, aborts_of_kind, entering_of_kind, rest_of_kind}
 use Rattle.command_laws.proofs.Turns.{turn_at, turn_by}
 use Rattle.sig_core.proofs.Keys.{same_tx-self}
 use Rattle.command_laws.specs.Served.{is_refusal}
@@ -76,14 +76,14 @@ front_past tx (Committing epoch awaited) e = refl
 front_past tx (Completing epoch awaited) e = cc
 
 -- while it is open it sends no list
-none_open : (view : View) (tx : TxId) (touched : List Touched) → flat_map (key_sends view tx Open) touched ≡ []
+none_open : (layout : Layout) (tx : TxId) (touched : List Touched) → flat_map (key_sends layout tx Open) touched ≡ []
 unfolding key_sends
-none_open view tx [] = refl
-none_open view tx (t ∷ touched) = none_open view tx touched
+none_open layout tx [] = refl
+none_open layout tx (t ∷ touched) = none_open layout tx touched
 
-phase_open : (view : View) (tx : TxId) (phase : Phase) (touched : List Touched) → phase ≡ Open → phase_sends view tx phase touched ≡ []
+phase_open : (layout : Layout) (tx : TxId) (phase : Phase) (touched : List Touched) → phase ≡ Open → phase_sends layout tx phase touched ≡ []
 unfolding phase_sends front_sends
-phase_open view tx phase touched is = ap (λ p. front_sends tx p ++ flat_map (key_sends view tx p) touched) is ∙ none_open view tx touched
+phase_open layout tx phase touched is = ap (λ p. front_sends tx p ++ flat_map (key_sends layout tx p) touched) is ∙ none_open layout tx touched
 
 part_none : (kind : Body → Bool) (node : ℕ) (tx : TxId) (at : ℕ) → ((n : ℕ) → kind (Host (Continue (work.Transaction tx) n)) ≡ true) → (sends : List Outgoing) → sends ≡ [] → are_of kind (part_effects node tx sends at).sends ≡ true
 unfolding part_effects
@@ -106,7 +106,7 @@ abbrev is_open : Phase → Bool
 is_open Open = true
 is_open phase = false
 
-module _ (node : ℕ) (view : View) (tx : TxId) (t : Transaction) where
+module _ (node : ℕ) (layout : Layout) (tx : TxId) (t : Transaction) where
   end_kind : (why : AbortCause) (verifying : Bool) → is_refusal why ≡ true → are_of is_no_end (abort.abort_end node tx why verifying) ≡ true
   end_kind why true e = one_kind (is_refusal why) e
   end_kind why false e = one_kind (is_refusal why) e
@@ -116,25 +116,25 @@ module _ (node : ℕ) (view : View) (tx : TxId) (t : Transaction) where
     not_open : (phase : Phase) → t.phase ≡ phase → is_open phase ≡ false → ⊥
     not_open phase is off = let both : true ≡ false = sym (ap is_open at) ∙ (ap is_open is ∙ off) in cc
 
-    leaves : (u : Transaction) (why : AbortCause) → is_refusal why ≡ true → AbortForms node view tx u why (EarlyTurn tx t)
+    leaves : (u : Transaction) (why : AbortCause) → is_refusal why ≡ true → AbortForms node layout tx u why (EarlyTurn tx t)
     unfolding entering
     leaves u why e = record {
       enters = λ some. inr (record {
         past = λ off. e;
-        ends = entering_of_kind is_no_end view tx (chains tx) node u (Aborting why (abort.is_verifying u.phase) (abort.aborts_awaited view u)) (front_past tx (Aborting why (abort.is_verifying u.phase) (abort.aborts_awaited view u)) e);
+        ends = entering_of_kind is_no_end layout tx (chains tx) node u (Aborting why (abort.is_verifying u.phase) (abort.aborts_awaited layout u)) (front_past tx (Aborting why (abort.is_verifying u.phase) (abort.aborts_awaited layout u)) e);
       });
       ends = λ none. inr (record { past = λ off. cc; ends = end_kind why (abort.is_verifying u.phase) e });
     }
 
-    turns_open : (body : Body) → is_wish body ≡ false → is_fair tx body ≡ true → TurnForms node view tx t body (EarlyTurn tx t)
+    turns_open : (body : Body) → is_wish body ≡ false → is_fair tx body ≡ true → TurnForms node layout tx t body (EarlyTurn tx t)
     turns_open body plain fair = record {
       stays = inl (record { goes = refl; was = at; now = at; ends = refl; fair = refl });
       goes_on = λ place. inl (record {
         goes = refl;
         was = at;
         now = at;
-        ends = part_none is_no_end node tx place (λ n. refl) (phase_sends view tx t.phase t.touched) (phase_open view tx t.phase t.touched at);
-        fair = part_none (is_fair tx) node tx place (λ n. refl) (phase_sends view tx t.phase t.touched) (phase_open view tx t.phase t.touched at);
+        ends = part_none is_no_end node tx place (λ n. refl) (phase_sends layout tx t.phase t.touched) (phase_open layout tx t.phase t.touched at);
+        fair = part_none (is_fair tx) node tx place (λ n. refl) (phase_sends layout tx t.phase t.touched) (phase_open layout tx t.phase t.touched at);
       });
       operates = λ op is can. inl (record { goes = refl; was = at; now = at; ends = refl; fair = refl });
       answers = λ key answer asked is on opened. inl (record { goes = refl; was = at; now = at; ends = refl; fair = refl });
@@ -164,13 +164,13 @@ module _ (node : ℕ) (view : View) (tx : TxId) (t : Transaction) where
     not_past : (phase : Phase) → t.phase ≡ phase → is_past phase ≡ false → ⊥
     not_past phase is off = let both : false ≡ true = sym off ∙ (ap is_past (sym is) ∙ past) in cc
 
-    turns_past : (body : Body) → is_wish body ≡ false → TurnForms node view tx t body IsLeaving
+    turns_past : (body : Body) → is_wish body ≡ false → TurnForms node layout tx t body IsLeaving
     turns_past body plain = record {
       stays = record { past = λ off. past; ends = refl };
-      goes_on = λ place. record { past = λ off. past; ends = rest_of_kind is_no_end view tx (chains tx) node t place (front_past tx t.phase past) };
+      goes_on = λ place. record { past = λ off. past; ends = rest_of_kind is_no_end layout tx (chains tx) node t place (front_past tx t.phase past) };
       operates = λ op is can. record { past = λ off. past; ends = refl };
       answers = λ key answer asked is on opened. absurd (not_past Open opened refl);
-      late = λ key asked why verifying awaited on aborting. record { past = λ off. past; ends = aborts_of_kind is_no_end view tx (chains tx) key (chain_of view key) };
+      late = λ key asked why verifying awaited on aborting. record { past = λ off. past; ends = aborts_of_kind is_no_end layout tx (chains tx) key (chain_of layout key) };
       waits = λ asked on. record { past = λ off. past; ends = of_map is_no_end (wait_of tx (key_of asked.op)) asked.chain (λ m. refl) };
       decides = λ is ready. absurd (not_wished body (Client (TcCommitReq tx)) plain is refl);
       commits = λ epoch is verifying some. absurd (not_past Verifying verifying refl);
@@ -187,7 +187,7 @@ module _ (node : ℕ) (view : View) (tx : TxId) (t : Transaction) where
 
 -- an open one, where no refusal for another cause comes
 pub open_turn : (s : TcState) (tx : TxId) (body : Body) (t : Transaction) → is_wish body ≡ false → tx_in body ≡ tx → is_fair tx body ≡ true → t.phase ≡ Open → EarlyTurn tx t (turn_by s tx body t)
-open_turn s tx body t wish same fair at = turn_at s tx body t (EarlyTurn tx t) same (turns_open s.node s.view tx t at body wish fair)
+open_turn s tx body t wish same fair at = turn_at s tx body t (EarlyTurn tx t) same (turns_open s.node s.layout tx t at body wish fair)
 
 pub past_turn : (s : TcState) (tx : TxId) (body : Body) (t : Transaction) → is_wish body ≡ false → tx_in body ≡ tx → is_past t.phase ≡ true → IsLeaving (turn_by s tx body t)
-past_turn s tx body t wish same past = turn_at s tx body t IsLeaving same (turns_past s.node s.view tx t past body wish)
+past_turn s tx body t wish same past = turn_at s tx body t IsLeaving same (turns_past s.node s.layout tx t past body wish)

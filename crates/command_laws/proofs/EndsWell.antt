@@ -1,10 +1,10 @@
 -- A transaction that is neither to be committed nor aborted at the client's wish ends for want of room or of time.
 use Rattle.std.proofs.Common.{◌≡◌, ℕ, zero, suc, Bool, true, false, List, [], ◌∷◌, ◌++◌, refl, sym, ap, ◌∙◌, subst, append_assoc}
 use Rattle.std.specs.Prelude.{Option, Some, drop, if◌then◌else◌, length, not}
+use Rattle.run_theory.proofs.Pasts.{each_in, each_map}
 use Rattle.run_theory.specs.Cuts.{IsCut}
 use Rattle.run_theory.specs.Lists.{Each, IsIn, IsPast}
-use Rattle.run_theory.proofs.Pasts.{each_in, each_map}
-use Rattle.sig_core.specs.declared.log.LogStep.{LogStep}
+use Rattle.sig_core.proofs.Keys.{same_tx-self}
 use Rattle.sig_core.specs.declared.member.TxId.{TxId}
 use Rattle.sig_core.specs.declared.outcome.AbortCause.{AbortCause}
 use Rattle.sig_core.specs.declared.outcome.Outcome.{Outcome}
@@ -19,24 +19,25 @@ use Rattle.sig_core.specs.declared.signal.client.ClientSignal.TheVariants.{TcCom
 use Rattle.sig_core.specs.Same.{same_tx}
 use Rattle.node_core.specs.Replies.{replies_of}
 use Rattle.node_core.specs.Requests.{is_request}
+use Rattle.world_core.specs.Hosts.{home}
 use Rattle.world_core.specs.Machine.{after}
 use Rattle.world_core.specs.Start.{Start}
-use Rattle.answer_laws.proofs.ApiBegins.{in_middle}
-use Rattle.answer_laws.proofs.Wishes.{is_tc}
+use Rattle.world_core.specs.Steps.{HostStep}
+use Rattle.host_laws.proofs.ApiBegins.{in_middle}
+use Rattle.host_laws.proofs.Wishes.{is_tc}
 use Rattle.command_laws.proofs.ApiChanges.{outcome_in}
-use Rattle.command_laws.proofs.CommitGoes.{HasEnded}
 use Rattle.command_laws.proofs.Committed.{cut_at_first}
 use Rattle.command_laws.proofs.EarlyRun.{no_bad}
 use Rattle.command_laws.proofs.EarlySteps.{IsOpenNow, is_bad, is_good, is_wish_to, wish_of}
+use Rattle.command_laws.proofs.EntryGoes.{HasEnded}
 use Rattle.command_laws.proofs.First.{IsFirst}
 use Rattle.command_laws.proofs.OperateAsks.{no_wish_node}
 use Rattle.command_laws.proofs.Pushes.{node_since}
 use Rattle.command_laws.proofs.Reported.{OutcomeOf, ending_is}
 use Rattle.command_laws.proofs.Since.{none_taken, sent_since}
 use Rattle.command_laws.proofs.TellsSince.{OnTc}
-use Rattle.command_laws.proofs.Told.{told_since}
 use Rattle.command_laws.proofs.Tests.{and_off, none_at}
-use Rattle.sig_core.proofs.Keys.{same_tx-self}
+use Rattle.command_laws.proofs.Told.{told_since}
 use Rattle.command_laws.specs.Served.{IsServed, is_refusal, replies_since}
 
 request_plain_wish : (tx : TxId) (to : Place) (body : Body) → is_request body ≡ true → is_wish_to tx to body ≡ false
@@ -70,46 +71,46 @@ is_true true e = refl
 is_true false e = cc
 
 -- the transaction ended so since then
-pub record EndsWell (start : Start) (was now : ℕ → List LogStep) (name : Option ℕ) : Type 0 where
+pub record EndsWell (start : Start) (was now : ℕ → List HostStep) (name : Option ℕ) : Type 0 where
   pub cause : AbortCause
   pub told : IsIn (Ended name (outcome.Aborted cause)) (replies_since start was now)
   pub refusal : is_refusal cause ≡ true
 
-module _ (start : Start) (was now : ℕ → List LogStep) (asked : ApiReq) (served : IsServed start was now asked) (f : IsFirst start was now asked) where
+module _ (start : Start) (was now : ℕ → List HostStep) (asked : ApiReq) (served : IsServed start was now asked) (f : IsFirst start was now asked) where
   abbrev cut : IsCut was now
   cut = cut_at_first was now f.later f.first f.is served.cut
 
-  past_of : (older : List LogStep) → IsPast (was 0) (older ++ f.first ∷ was 0)
+  past_of : (older : List HostStep) → IsPast (was 0) (older ++ f.first ∷ was 0)
   past_of older = record { newer = older ++ f.first ∷ []; is = sym (append_assoc older (f.first ∷ []) (was 0)) }
 
-  now_of : (newer : List LogStep) (step : LogStep) (older : List LogStep) → f.later ≡ newer ++ step ∷ older → now 0 ≡ newer ++ step ∷ (older ++ f.first ∷ was 0)
+  now_of : (newer : List HostStep) (step : HostStep) (older : List HostStep) → f.later ≡ newer ++ step ∷ older → now 0 ≡ newer ++ step ∷ (older ++ f.first ∷ was 0)
   now_of newer step older is = f.is ∙ ap (λ w. w ++ f.first ∷ was 0) is ∙ append_assoc newer (step ∷ older) (f.first ∷ was 0)
 
   -- what a step replies is among the replies since then
-  pub replied : (newer : List LogStep) (step : LogStep) (older : List LogStep) (reply : ApiReply) → f.later ≡ newer ++ step ∷ older
+  pub replied : (newer : List HostStep) (step : HostStep) (older : List HostStep) (reply : ApiReply) → f.later ≡ newer ++ step ∷ older
       → replies_of (after start 0 (step ∷ (older ++ f.first ∷ was 0))) ≡ replies_of (after start 0 (older ++ f.first ∷ was 0)) ++ reply ∷ [] → IsIn reply (replies_since start was now)
   replied newer step older reply is told =
       subst (λ w. IsIn reply (drop (length (replies_of (after start 0 (was 0)))) (replies_of (after start 0 w)))) (sym (now_of newer step older is))
       (told_since start (was 0) (older ++ f.first ∷ was 0) newer step reply (past_of older) told)
 
   module _ (tx : TxId) (wishes : sent_since start (is_wish_to tx) 0 (f.later ++ f.first ∷ []) (was 0) ≡ 0)
-      (open_was : (h : ℕ) → tx.tc ≡ suc h → OnTc (IsOpenNow tx) (after start (suc h) (was (suc h)))) where
+      (open_was : (h : ℕ) → home start tx ≡ h → OnTc (IsOpenNow tx) (after start h (was h))) where
     -- nobody wishes for its commit or abort
     no_wishes : (h : ℕ) → sent_since start (is_wish_to tx) h (cut h).newer (was h) ≡ 0
     no_wishes zero = wishes
     no_wishes (suc h) = node_since start (is_wish_to tx) (no_wish_node tx) h (cut (suc h)).newer (was (suc h))
 
-    none_wished : (h : ℕ) → Each (λ (e : LogStep). is_wish_to tx e.taken.to e.taken.body ≡ false) (cut h).newer
+    none_wished : (h : ℕ) → Each (λ (e : HostStep). is_wish_to tx e.step.taken.to e.step.taken.body ≡ false) (cut h).newer
     none_wished h =
-        each_map (λ (e : LogStep). is_request e.taken.body ≡ false → is_wish_to tx e.taken.to e.taken.body ≡ false) (λ (e : LogStep). is_wish_to tx e.taken.to e.taken.body ≡ false) (cut h).newer
-        (none_at (is_wish_to tx) (request_plain_wish tx)) (none_taken start was now served.before served.since cut (is_wish_to tx) no_wishes h)
+        each_map (λ (e : HostStep). is_request e.step.taken.body ≡ false → is_wish_to tx e.step.taken.to e.step.taken.body ≡ false) (λ (e : HostStep). is_wish_to tx e.step.taken.to e.step.taken.body ≡ false) (cut h).newer
+        (none_at (is_wish_to tx) (request_plain_wish tx)) (none_taken start was now served.before served.since cut (is_wish_to tx) (λ i low. no_wishes i) h)
 
-    none_bad : Each (λ (e : LogStep). is_request e.taken.body ≡ false → is_bad tx e.taken.to e.taken.body ≡ false) (f.later ++ f.first ∷ [])
-    none_bad = none_taken start was now served.before served.since cut (is_bad tx) (no_bad start was now served.before served.since cut tx none_wished open_was) 0
+    none_bad : Each (λ (e : HostStep). is_request e.step.taken.body ≡ false → is_bad tx e.step.taken.to e.step.taken.body ≡ false) (f.later ++ f.first ∷ [])
+    none_bad = none_taken start was now served.before served.since cut (is_bad tx) (λ i low. no_bad start was now served.before served.since cut tx none_wished open_was i) 0
 
     pub ended_well : (name : Option ℕ) → HasEnded tx name start f.later (f.first ∷ was 0) → EndsWell start was now name
     ended_well name ended =
-        let w = ends_well tx ended.step.taken.body ended.ending.outcome ended.ending.about good in
+        let w = ends_well tx ended.step.step.taken.body ended.ending.outcome ended.ending.about good in
         record {
           cause = w.0;
           told = replied ended.newer ended.step ended.older (Ended name (outcome.Aborted w.0)) ended.is
@@ -125,8 +126,8 @@ module _ (start : Start) (was now : ℕ → List LogStep) (asked : ApiReq) (serv
             subst (λ w. IsIn ended.step (w ++ f.first ∷ [])) (sym ended.is)
             (subst (IsIn ended.step) (sym (append_assoc ended.newer (ended.step ∷ ended.older) (f.first ∷ []))) (in_middle ended.newer ended.step (ended.older ++ f.first ∷ [])))
 
-        good : is_good tx ended.step.taken.body ≡ true
+        good : is_good tx ended.step.step.taken.body ≡ true
         good =
-            is_true (is_good tx ended.step.taken.body)
-            (each_in (λ (e : LogStep). is_request e.taken.body ≡ false → is_bad tx e.taken.to e.taken.body ≡ false) ended.step (f.later ++ f.first ∷ []) none_bad in_newer
-            (each_in (λ (e : LogStep). is_request e.taken.body ≡ false) ended.step f.later f.plain inside))
+            is_true (is_good tx ended.step.step.taken.body)
+            (each_in (λ (e : HostStep). is_request e.step.taken.body ≡ false → is_bad tx e.step.taken.to e.step.taken.body ≡ false) ended.step (f.later ++ f.first ∷ []) none_bad in_newer
+            (each_in (λ (e : HostStep). is_request e.step.taken.body ≡ false) ended.step f.later f.plain inside))

@@ -6,7 +6,7 @@ use Rattle.sig_core.specs.declared.outcome.AbortCause.{AbortCause}
 use Rattle.sig_core.specs.declared.signal.Body.{Body}
 use Rattle.sig_core.specs.declared.signal.Body.TheVariants.{Client}
 use Rattle.sig_core.specs.declared.signal.client.ClientSignal.TheVariants.{TcKeyReq, TcRollbackRep, TcRollbackReq}
-use Rattle.sig_core.specs.declared.view.View.{View}
+use Rattle.frag_map.specs.Layout.{Layout}
 use Rattle.sig_core.specs.Op.{key_of}
 use Rattle.tc_block.specs.declared.phase.Asked.{Asked}
 use Rattle.tc_block.specs.declared.phase.Phase.{Phase}
@@ -16,9 +16,9 @@ use Rattle.tc_block.specs.Sends.{entering, front_sends, wait_of}
 use Rattle.tc_block.specs.State.{TcState}
 use Rattle.tc_block.specs.Turn.{Turn, going}
 use Rattle.tc_block.proofs.EachTurn.{CommittedForms, TurnForms}
-use Rattle.answer_laws.proofs.SendKinds.{are_of, of_map}
-use Rattle.answer_laws.proofs.TcSends.{tx_in}
-use Rattle.answer_laws.proofs.PhaseSends.{HasChains, entering_of_kind, rest_of_kind}
+use Rattle.host_laws.proofs.SendKinds.{are_of, of_map}
+use Rattle.host_laws.proofs.TcSends.{tx_in}
+use Rattle.host_laws.proofs.PhaseSends.{HasChains, entering_of_kind, rest_of_kind}
 use Rattle.command_laws.proofs.Turns.{turn_at, turn_by}
 
 -- it isn't aborted, and has no operation unanswered while it takes them
@@ -56,12 +56,12 @@ pub record StaysFirm (turn : Turn) : Type 0 where
   pub firm : is_firm turn.step.state.phase turn.step.state.asked ≡ true
   pub sends : are_of is_no_abort turn.step.effects.sends ≡ true
 
-module _ (node : ℕ) (view : View) (tx : TxId) (t : Transaction) (firm : is_firm t.phase t.asked ≡ true) where
-  enters : (phase : Phase) → is_firm phase t.asked ≡ true → StaysFirm (going (entering node view tx t phase))
+module _ (node : ℕ) (layout : Layout) (tx : TxId) (t : Transaction) (firm : is_firm t.phase t.asked ≡ true) where
+  enters : (phase : Phase) → is_firm phase t.asked ≡ true → StaysFirm (going (entering node layout tx t phase))
   unfolding entering
-  enters phase is = record { firm = is; sends = entering_of_kind is_no_abort view tx (has_chains tx) node t phase (fronts tx phase) }
+  enters phase is = record { firm = is; sends = entering_of_kind is_no_abort layout tx (has_chains tx) node t phase (fronts tx phase) }
 
-  commits : (epoch : ℕ) → CommittedForms node view tx t epoch StaysFirm
+  commits : (epoch : ℕ) → CommittedForms node layout tx t epoch StaysFirm
   commits epoch = record { enters = λ some. enters _ refl; ends = λ none. record { firm = firm; sends = refl } }
 
   not_open : (asked : Asked) → t.asked ≡ Some asked → t.phase ≡ Open → ⊥
@@ -73,10 +73,10 @@ module _ (node : ℕ) (view : View) (tx : TxId) (t : Transaction) (firm : is_fir
   not_pushed : (body push : Body) → is_push body ≡ false → body ≡ push → is_push push ≡ true → ⊥
   not_pushed body push plain is on = let both : true ≡ false = sym on ∙ (ap is_push (sym is) ∙ plain) in cc
 
-  turns_firm : (body : Body) → is_push body ≡ false → TurnForms node view tx t body StaysFirm
+  turns_firm : (body : Body) → is_push body ≡ false → TurnForms node layout tx t body StaysFirm
   turns_firm body plain = record {
     stays = record { firm = firm; sends = refl };
-    goes_on = λ at. record { firm = firm; sends = rest_of_kind is_no_abort view tx (has_chains tx) node t at (fronts tx t.phase) };
+    goes_on = λ at. record { firm = firm; sends = rest_of_kind is_no_abort layout tx (has_chains tx) node t at (fronts tx t.phase) };
     operates = λ op is can. absurd (not_pushed body (Client (TcKeyReq tx op)) plain is refl);
     answers = λ key answer asked is on at. absurd (not_open asked on at);
     late = λ key asked why verifying awaited on at. absurd (not_aborting why verifying awaited at);
@@ -95,4 +95,4 @@ module _ (node : ℕ) (view : View) (tx : TxId) (t : Transaction) (firm : is_fir
   }
 
 pub firm_turn : (s : TcState) (tx : TxId) (body : Body) (t : Transaction) → tx_in body ≡ tx → is_push body ≡ false → is_firm t.phase t.asked ≡ true → StaysFirm (turn_by s tx body t)
-firm_turn s tx body t same plain firm = turn_at s tx body t StaysFirm same (turns_firm s.node s.view tx t firm body plain)
+firm_turn s tx body t same plain firm = turn_at s tx body t StaysFirm same (turns_firm s.node s.layout tx t firm body plain)

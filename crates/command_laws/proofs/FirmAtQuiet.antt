@@ -1,62 +1,39 @@
 -- A transaction that takes commands at a quiet moment is firm at each host.
-use Rattle.std.proofs.Common.{◌≡◌, ◌≢◌, ◌⊎◌, ℕ, zero, suc, true, List, sym, ap, ◌∙◌, subst, inl, inr, arith}
-use Rattle.std.proofs.lemmas.Bool.{cases_eq}
+use Rattle.std.proofs.Common.{◌≡◌, ◌<◌, ◌≤◌, ℕ, true, List, ap, ◌∙◌, subst}
+use Rattle.run_theory.proofs.Pasts.{each_from}
 use Rattle.run_theory.specs.Lists.{IsIn}
-use Rattle.run_theory.proofs.Pasts.{each_from, each_in}
-use Rattle.sig_core.specs.declared.log.LogStep.{LogStep}
+use Rattle.sig_core.proofs.Keys.{same_tx-self}
 use Rattle.sig_core.specs.declared.member.TxId.{TxId}
 use Rattle.sig_core.specs.Same.{same_tx}
-use Rattle.node_core.specs.declared.host.Host as host
-use Rattle.node_core.specs.declared.host.Host.TheVariants.{Shell, Node}
-use Rattle.node_core.specs.declared.node.Node as node
+use Rattle.node_core.specs.Blocks.{tc_of}
 use Rattle.tc_block.specs.declared.phase.Phase.TheVariants.{Open}
 use Rattle.tc_block.specs.declared.transaction.Transaction.{Transaction}
+use Rattle.world_core.specs.Hosts.{home, hosts}
 use Rattle.world_core.specs.Machine.{after}
 use Rattle.world_core.specs.Start.{Start}
-use Rattle.answer_laws.proofs.Hosts.{node_after, same_node, shell_after}
-use Rattle.answer_laws.proofs.Lives.{NodeKeeps, keeps}
-use Rattle.answer_laws.proofs.Tally.{only_one}
-use Rattle.answer_laws.proofs.TcLives.{IsOwn, is_keyed}
-use Rattle.answer_laws.proofs.TcMoves.{same_tx-is}
-use Rattle.answer_laws.specs.Answered.{IsOpen, IsOpenAt}
+use Rattle.world_core.specs.Steps.{HostStep}
+use Rattle.host_laws.proofs.Tally.{only_one}
+use Rattle.host_laws.specs.Counts.{tally}
+use Rattle.run_laws.proofs.AlongSteps.{live_tx}
+use Rattle.host_laws.proofs.TcLives.{is_keyed}
+use Rattle.host_laws.proofs.TcMoves.{same_tx-is}
+use Rattle.answer_laws.specs.Answered.{IsOpenAt}
 use Rattle.command_laws.proofs.Firm.{is_firm}
-use Rattle.sig_core.proofs.Keys.{same_tx-self}
 use Rattle.command_laws.proofs.FirmHosts.{FirmHost}
+use Rattle.command_laws.proofs.Homes.{lives_home, sound_at}
 
-module _ (start : Start) (tx : TxId) where
-  -- the transactions of a coordinator that have this number are one, and at their coordinator's node
-  module _ (h : ℕ) (log : List LogStep) where
-    abbrev pub kept : NodeKeeps start tx h log
-    kept = keeps start tx h log
-
-    pub home : (e : TxId × Transaction) → IsIn e kept.state.tc.live → same_tx e.0 tx ≡ true → tx.tc ≡ suc h
-    home e inside same =
-        let own = each_in (λ (x : TxId × Transaction). IsOwn kept.state.tc.node kept.state.tc.next_seq x.0) e kept.state.tc.live kept.keeps.own inside in
-        let n = node_after start h log in
-        ap (λ (v : TxId). v.tc) (sym (same_tx-is e.0 tx same)) ∙ own.home ∙ ap (λ (s : node.Node). s.tc.node) (same_node kept.state n.state (sym kept.is ∙ n.is)) ∙ n.number
-
-    pub one_keyed : (a b : TxId × Transaction) → IsIn a kept.state.tc.live → IsIn b kept.state.tc.live → same_tx a.0 tx ≡ true → same_tx b.0 tx ≡ true → a ≡ b
-    one_keyed a b left right own other = only_one (is_keyed tx) kept.state.tc.live a b (omega (arith, kept.keeps.began, kept.keeps.once)) left right own other
-
-  pub open_at : (g : host.Host) (n : node.Node) → g ≡ Node n → IsOpenAt tx g → IsOpen tx n.tc
-  open_at (Node m) n is o = subst (λ s. IsOpen tx s) (ap (λ (k : node.Node). k.tc) (same_node m n is)) o
-  open_at (Shell s) n is o = cc
-
-  pub firm_at : (logs : ℕ → List LogStep) → IsOpenAt tx (after start tx.tc (logs tx.tc)) → (h : ℕ) → FirmHost tx (after start h (logs h))
-  firm_at logs open_there zero = subst (FirmHost tx) (sym (shell_after start (logs 0)).is) tt
-  firm_at logs open_there (suc h) = by (cases_eq tx.tc (suc h))
+module _ (start : Start) (tx : TxId) (logs : ℕ → List HostStep) where
+  pub firm_at : IsOpenAt tx (after start (home start tx) (logs (home start tx))) → (h : ℕ) → h < hosts start → FirmHost tx (after start h (logs h))
+  firm_at open_there h low = each_from (λ (e : TxId × Transaction). same_tx e.0 tx ≡ true → is_firm e.1.phase e.1.asked ≡ true) (tc_of (after start h (logs h))).live here
     where
-      k : NodeKeeps start tx h (logs (suc h))
-      k = keeps start tx h (logs (suc h))
+      few : tally (is_keyed tx) (tc_of (after start h (logs h))).live ≤ 1
+      few = (sound_at start tx h (logs h)).few
 
-      here : tx.tc ≡ suc h → (e : TxId × Transaction) → IsIn e k.state.tc.live → same_tx e.0 tx ≡ true → is_firm e.1.phase e.1.asked ≡ true
-      here at e inside same =
-          let o = open_at (after start (suc h) (logs (suc h))) k.state k.is (subst (λ n. IsOpenAt tx (after start n (logs n))) at open_there) in
-          let is : e ≡ (tx, o.transaction) = one_keyed h (logs (suc h)) e (tx, o.transaction) inside o.live same (same_tx-self tx) in
+      -- it is the one that is open
+      here : (e : TxId × Transaction) → IsIn e (tc_of (after start h (logs h))).live → same_tx e.0 tx ≡ true → is_firm e.1.phase e.1.asked ≡ true
+      here e inside same =
+          let own = subst (λ v. IsIn (v, e.1) (tc_of (after start h (logs h))).live) (same_tx-is e.0 tx same) inside in
+          let at = lives_home start tx h (logs h) low e.1 (live_tx start tx h (logs h) e.1 own) in
+          let o : IsOpenAt tx (after start h (logs h)) = subst (λ k. IsOpenAt tx (after start k (logs k))) at open_there in
+          let is : e ≡ (tx, o.transaction) = only_one (is_keyed tx) (tc_of (after start h (logs h))).live e (tx, o.transaction) few inside o.live same (same_tx-self tx) in
           ap (λ (x : TxId × Transaction). is_firm x.1.phase x.1.asked) is ∙ ap (λ p. is_firm p o.transaction.asked) o.phase ∙ ap (is_firm Open) o.asked
-
-      by : (tx.tc ≡ suc h) ⊎ (tx.tc ≢ suc h) → FirmHost tx (after start (suc h) (logs (suc h)))
-      by (inl at) = subst (FirmHost tx) (sym k.is) (each_from (λ (e : TxId × Transaction). same_tx e.0 tx ≡ true → is_firm e.1.phase e.1.asked ≡ true) k.state.tc.live (here at))
-      by (inr differs) =
-          subst (FirmHost tx) (sym k.is)
-          (each_from (λ (e : TxId × Transaction). same_tx e.0 tx ≡ true → is_firm e.1.phase e.1.asked ≡ true) k.state.tc.live (λ e inside same. absurd (differs (home h (logs (suc h)) e inside same))))

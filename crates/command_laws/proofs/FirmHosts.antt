@@ -3,40 +3,34 @@ use Rattle.std.proofs.Common.{◌≡◌, ℕ, Bool, true, false, List, [], ◌�
 use Rattle.std.specs.Prelude.{◌&&◌, if◌then◌else◌}
 use Rattle.indexmap.specs.IndexMap.{insert_entry}
 use Rattle.run_theory.specs.Lists.{Each}
-use Rattle.sig_core.specs.declared.log.LogStep.{LogStep}
 use Rattle.sig_core.specs.declared.member.TxId.{TxId}
 use Rattle.sig_core.specs.declared.outs.Outgoing.{Outgoing}
-use Rattle.sig_core.specs.declared.place.BlockId.{BlockId}
-use Rattle.sig_core.specs.declared.place.BlockId.TheVariants as block
 use Rattle.sig_core.specs.declared.place.Place.{Place}
 use Rattle.sig_core.specs.declared.signal.Body.{Body}
 use Rattle.sig_core.specs.declared.signal.Body.TheVariants.{Client}
 use Rattle.sig_core.specs.declared.signal.client.ClientSignal.TheVariants.{TcKeyReq, TcRollbackRep, TcRollbackReq}
+use Rattle.sig_core.specs.declared.signal.Signal.{Signal}
 use Rattle.sig_core.specs.Same.{same_tx}
 use Rattle.sig_core.specs.Step.{Step}
-use Rattle.api_block.specs.Api.{api_row}
-use Rattle.api_block.specs.State.{ApiState}
-use Rattle.lqh_block.specs.Lqh.{lqh_row}
-use Rattle.node_core.specs.declared.host.Host as host
-use Rattle.node_core.specs.declared.host.Host.TheVariants.{Shell, Node}
-use Rattle.node_core.specs.declared.node.Node as node
-use Rattle.node_core.specs.Dih.{dih_row}
-use Rattle.node_core.specs.Row.{node_row, row, shell_row}
+use Rattle.node_core.specs.Blocks.{tc_of}
+use Rattle.node_core.specs.declared.host.Host.{Host}
+use Rattle.node_core.specs.Row.{row}
 use Rattle.tc_block.specs.declared.transaction.Transaction.{Transaction}
 use Rattle.tc_block.specs.Operate.{fresh}
 use Rattle.tc_block.specs.State.{TcState}
 use Rattle.tc_block.specs.Tc.{tc_row}
 use Rattle.world_core.specs.Machine.{after}
 use Rattle.world_core.specs.Start.{Start}
-use Rattle.answer_laws.proofs.ApiBegins.{each_at, each_changed, each_less}
-use Rattle.answer_laws.proofs.ApiMoves.{ApiMove, api_moves, begun_as, ends, goes, is_api_kind, opens, refuses, rests}
-use Rattle.answer_laws.proofs.DihSends.{dih_kinds}
-use Rattle.answer_laws.proofs.LqhSends.{lqh_kinds}
-use Rattle.answer_laws.proofs.SendKinds.{is_dih_kind, is_lqh_kind, none_of}
-use Rattle.answer_laws.proofs.TcLives.{apart}
-use Rattle.answer_laws.proofs.TcSends.{tx_in}
-use Rattle.answer_laws.proofs.Wishes.{is_tc, sends_of}
+use Rattle.world_core.specs.Steps.{HostStep}
+use Rattle.host_laws.proofs.ApiBegins.{each_at, each_changed, each_less}
+use Rattle.host_laws.proofs.ApiMoves.{ends, goes}
+use Rattle.host_laws.proofs.SendKinds.{none_of}
+use Rattle.host_laws.proofs.TcLives.{apart}
+use Rattle.host_laws.proofs.TcSends.{tx_in}
+use Rattle.host_laws.proofs.Wishes.{is_tc, sends_of}
 use Rattle.command_laws.proofs.Firm.{StaysFirm, firm_turn, is_firm, is_no_abort, is_push}
+use Rattle.command_laws.proofs.HostSends.{IsOfTc, is_other_kind}
+use Rattle.command_laws.proofs.HostSteps.{tc_host}
 use Rattle.command_laws.proofs.OwnSends.{is_own_kind, turn_own}
 use Rattle.command_laws.proofs.Since.{sent_since}
 use Rattle.command_laws.proofs.Turns.{TakesTurn, TcShape, is_idle_kind, starts, still, tc_shape, turn_by, turns}
@@ -82,18 +76,6 @@ module _ (tx : TxId) where
   no_back_other : (one : TxId) → same_tx one tx ≡ false → (to : Place) (body : Body) → is_own_kind one body ≡ true → is_back tx to body ≡ false
   no_back_other one differs to (Client (TcRollbackRep other cause)) e = apart tx one other differs e
   no_back_other one differs to _ e = refl
-
-  no_back_dih : (to : Place) (body : Body) → is_dih_kind body ≡ true → is_back tx to body ≡ false
-  no_back_dih to (Client (TcRollbackRep other cause)) e = cc
-  no_back_dih to _ e = refl
-
-  no_back_lqh : (to : Place) (body : Body) → is_lqh_kind body ≡ true → is_back tx to body ≡ false
-  no_back_lqh to (Client (TcRollbackRep other cause)) e = cc
-  no_back_lqh to _ e = refl
-
-  no_back_api : (to : Place) (body : Body) → is_api_kind body ≡ true → is_back tx to body ≡ false
-  no_back_api to (Client (TcRollbackRep other cause)) e = cc
-  no_back_api to _ e = refl
 
   pub not_push : (body : Body) → push_of tx body ≡ false → same_tx (tx_in body) tx ≡ true → is_push body ≡ false
   not_push (Client (TcKeyReq other op)) none same = absurd (let both : true ≡ false = sym same ∙ none in cc)
@@ -158,42 +140,29 @@ module _ (tx : TxId) where
         by true same = own_turn step same r
         by false differs = other_turn step differs r
 
-  abbrev pub FirmHost : host.Host → Type 0
-  FirmHost (Shell s) = Unit {0}
-  FirmHost (Node n) = AllFirm n.tc.live
+  abbrev pub FirmHost : Host → Type 0
+  FirmHost g = AllFirm (tc_of g).live
 
-  node_firm : (n : node.Node) (at : BlockId) (body : Body) → (is_tc at && push_of tx body) ≡ false → AllFirm n.tc.live → KeepsFirm (node_row n at body).state.tc.live (node_row n at body).effects.sends
-  unfolding node_row
-  node_firm n block.Tc body plain firm = shape_firm n.tc body plain firm (tc_row n.tc body) (tc_shape n.tc body)
-  node_firm n block.Dih body plain firm = record { firm = firm; silent = none_of is_dih_kind (is_back tx) no_back_dih (dih_row n.dih body).effects.sends (dih_kinds n.dih body) }
-  node_firm n block.Lqh body plain firm = record { firm = firm; silent = none_of is_lqh_kind (is_back tx) no_back_lqh (lqh_row n.lqh body).effects.sends (lqh_kinds n.lqh body) }
-  node_firm n _ body plain firm = record { firm = firm; silent = refl }
+  back_tc : IsOfTc (is_back tx)
+  back_tc = record { others = others; begins = λ name node. refl }
+    where
+      others : (to : Place) (body : Body) → is_other_kind body ≡ true → is_back tx to body ≡ false
+      others to (Client (TcRollbackRep other cause)) e = cc
+      others to _ e = refl
 
-  api_silent : (s : ApiState) (body : Body) (step : Step ApiState) → ApiMove s body (step.state.view, step.state.opened) step.effects.sends → sends_of (is_back tx) step.effects.sends ≡ 0
-  api_silent s body step (rests is kind void) = none_of is_api_kind (is_back tx) no_back_api step.effects.sends kind
-  api_silent s body step (opens name at op new request is told) = ap (sends_of (is_back tx)) told
-  api_silent s body step (begun_as name one front t u back about passes begun was is kind) = none_of is_api_kind (is_back tx) no_back_api step.effects.sends kind
-  api_silent s body step (goes front t u back go void was is kind) = none_of is_api_kind (is_back tx) no_back_api step.effects.sends kind
-  api_silent s body step (ends one front t back about passes was is kind) = none_of is_api_kind (is_back tx) no_back_api step.effects.sends kind
-  api_silent s body step (refuses name front t back about passes was is kind) = none_of is_api_kind (is_back tx) no_back_api step.effects.sends kind
-
-  shell_silent : (s : ApiState) (at : BlockId) (body : Body) → sends_of (is_back tx) (shell_row s at body).effects.sends ≡ 0
-  unfolding shell_row
-  shell_silent s block.Api body = api_silent s body (api_row s body) (api_moves s body)
-  shell_silent s _ body = refl
-
-  host_firm : (g : host.Host) (to : Place) (body : Body) → is_push_to tx to body ≡ false → FirmHost g → FirmHost (row g to body).state × (sends_of (is_back tx) (row g to body).effects.sends ≡ 0)
-  unfolding row
-  host_firm (Shell s) to body plain firm = (tt, shell_silent s to.block body)
-  host_firm (Node n) to body plain firm = let kept = node_firm n to.block body plain firm in (kept.firm, kept.silent)
+  host_firm : (g : Host) (x : Signal) → is_push_to tx x.to x.body ≡ false → FirmHost g → KeepsFirm (tc_of (row g x).state).live (row g x).effects.sends
+  host_firm g x plain firm =
+      tc_host (λ (step : Step TcState). KeepsFirm step.state.live step.effects.sends) g x
+      (λ runs at. shape_firm (tc_of g) x.body (ap (λ of. is_tc of && push_of tx x.body) (sym at) ∙ plain) firm (tc_row (tc_of g) x) (tc_shape (tc_of g) x.body))
+      (λ effects none off. record { firm = firm; silent = none (is_back tx) back_tc })
 
   -- so no host reports it in steps that take neither an operation of the transaction nor the wish for its abort
-  pub firm_since : (start : Start) (h : ℕ) (newer log : List LogStep) → FirmHost (after start h log) → Each (λ (e : LogStep). is_push_to tx e.taken.to e.taken.body ≡ false) newer
+  pub firm_since : (start : Start) (h : ℕ) (newer log : List HostStep) → FirmHost (after start h log) → Each (λ (e : HostStep). is_push_to tx e.step.taken.to e.step.taken.body ≡ false) newer
       → FirmHost (after start h (newer ++ log)) × (sent_since start (is_back tx) h newer log ≡ 0)
   firm_since start h [] log firm plain = (firm, refl)
   firm_since start h (e ∷ newer) log firm plain = next (firm_since start h newer log firm plain.1)
     where
       next : FirmHost (after start h (newer ++ log)) × (sent_since start (is_back tx) h newer log ≡ 0) → FirmHost (after start h (e ∷ (newer ++ log))) × (sent_since start (is_back tx) h (e ∷ newer) log ≡ 0)
       next before =
-          let step = host_firm (after start h (newer ++ log)) e.taken.to e.taken.body plain.0 before.0 in
-          (step.0, omega (arith, step.1, before.1))
+          let step = host_firm (after start h (newer ++ log)) e.step.taken plain.0 before.0 in
+          (step.firm, omega (arith, step.silent, before.1))

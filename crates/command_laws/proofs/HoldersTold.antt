@@ -1,13 +1,13 @@
 -- The two questions about a command that left something unanswered tell for whom that waits.
 use Rattle.std.proofs.Common.{◌≡◌, ◌<◌, ◌≤◌, ◌+◌, ℕ, zero, suc, Bool, true, false, List, [], ◌∷◌, ◌++◌, length, refl, sym, ap, ◌∙◌, subst, inl, inr, append_assoc, arith}
 use Rattle.std.specs.Prelude.{◌&&◌, Option, None, Some, drop, is_some, option_to_list, slice_get}
+use Rattle.run_theory.proofs.Orders.{each_log}
+use Rattle.run_theory.proofs.Pasts.{past_self}
 use Rattle.run_theory.specs.Cuts.{IsCut}
 use Rattle.run_theory.specs.Links.{is_from}
 use Rattle.run_theory.specs.Lists.{IsIn}
 use Rattle.run_theory.specs.Runs.{log_of}
-use Rattle.run_theory.proofs.Orders.{each_log}
-use Rattle.run_theory.proofs.Pasts.{past_self}
-use Rattle.sig_core.specs.declared.log.LogStep.{LogStep}
+use Rattle.sig_core.proofs.Keys.{same_tx-self}
 use Rattle.sig_core.specs.declared.member.TxId.{TxId}
 use Rattle.sig_core.specs.declared.place.Place.{Place}
 use Rattle.sig_core.specs.declared.reply.ApiReply.TheVariants.{Pending}
@@ -15,49 +15,55 @@ use Rattle.sig_core.specs.declared.reply.Waiting.TheVariants.{HeldBy}
 use Rattle.sig_core.specs.declared.request.ApiReq.TheVariants as request
 use Rattle.sig_core.specs.declared.signal.Body.{Body}
 use Rattle.sig_core.specs.Op.{key_of}
-use Rattle.sig_core.specs.Place.{client}
+use Rattle.sig_core.specs.Place.{client, rows_of}
 use Rattle.api_block.specs.declared.opened.Doing.{Doing}
 use Rattle.api_block.specs.declared.opened.Doing.TheVariants.{Beginning, Ready, Operating, Committing}
 use Rattle.api_block.specs.declared.opened.OpenTransaction.{OpenTransaction}
 use Rattle.api_block.specs.Opened.{has_tx, if_there, is_tx, is_unanswered, own_place, where_at}
 use Rattle.api_block.specs.State.{ApiState}
-use Rattle.node_core.specs.declared.host.Host as host
-use Rattle.node_core.specs.declared.host.Host.TheVariants.{Shell, Node}
+use Rattle.node_core.specs.Blocks.{api_of, has_api, has_lqh, has_tc}
+use Rattle.node_core.specs.declared.host.Host.{Host}
+use Rattle.node_core.specs.declared.host.Host.TheVariants.{Ldm, Main, Shell, Tc}
 use Rattle.node_core.specs.Replies.{is_left_open, replies_of}
-use Rattle.node_core.specs.Row.{row}
 use Rattle.tc_block.specs.declared.transaction.Transaction.{Transaction}
-use Rattle.world_core.specs.Machine.{after, hosts, machine, step_after}
+use Rattle.world_core.proofs.HostNumbers.{api_runs, host_below}
+use Rattle.world_core.specs.Hosts.{home, hosts, receiver, rows_host}
+use Rattle.world_core.specs.Machine.{after, machine, step_after}
 use Rattle.world_core.specs.Requests.{request_in, requests}
 use Rattle.world_core.specs.Start.{Start}
-use Rattle.answer_laws.proofs.ApiBegins.{in_middle}
-use Rattle.answer_laws.proofs.Commits.{live_low}
-use Rattle.answer_laws.proofs.Hosts.{node_after, shell_after}
-use Rattle.answer_laws.proofs.LinkCounts.{steps}
-use Rattle.answer_laws.proofs.Lives.{holds_at, once_started}
-use Rattle.answer_laws.proofs.Tally.{Counted, counted, one_if, tally, tally_append, tally_between}
-use Rattle.sig_core.proofs.Keys.{same_tx-self}
-use Rattle.answer_laws.proofs.Wishes.{sends_of, to_node}
-use Rattle.answer_laws.specs.Answered.{EachIsAnswered, IsLiveAs, is_answered_by, opened_after, opened_in}
-use Rattle.transit_laws.specs.Live.{of_live}
-use Rattle.command_laws.proofs.First.{IsFirst, request_first, with_first}
+use Rattle.world_core.specs.Steps.{HostStep}
+use Rattle.host_laws.proofs.Tally.{Counted, counted, tally_append, tally_between}
+use Rattle.host_laws.specs.Counts.{one_if, tally}
+use Rattle.run_laws.proofs.AlongSteps.{live_tx}
+use Rattle.host_laws.proofs.ApiBegins.{in_middle}
+use Rattle.host_laws.proofs.HostSteps.{no_live}
+use Rattle.host_laws.proofs.LinkCounts.{steps, to_host}
+use Rattle.answer_laws.proofs.Lives.{holds_at, live_low, once_started}
+use Rattle.host_laws.proofs.Wishes.{sends_of}
+use Rattle.answer_laws.specs.Answered.{EachIsAnswered, IsLiveAs, is_answered_by}
+use Rattle.host_laws.specs.Opened.{opened_after}
+use Rattle.run_laws.specs.Live.{of_live}
+use Rattle.command_laws.proofs.First.{IsFirst, first_step, request_first, with_first}
+use Rattle.command_laws.proofs.HostKinds.{api_alone, api_no_rows, no_rows, replies_are}
+use Rattle.command_laws.proofs.HostSteps.{api_seen}
 use Rattle.command_laws.proofs.Since.{all_arrive, sent_since_to, taken_since}
-use Rattle.command_laws.proofs.TellsSince.{OnTc, sound_at}
+use Rattle.command_laws.proofs.TellsSince.{OnTc}
 use Rattle.command_laws.proofs.Told.{told_since}
 use Rattle.command_laws.proofs.WaitApi.{IsAboutOne, IsAsking, IsOwn, TellsHolder, own_found, pending_first, waits_first}
-use Rattle.command_laws.proofs.WaitRows.{in_live, is_found, is_passed, is_probe, is_telling_who, is_wait_of, is_want}
-use Rattle.command_laws.proofs.WaitsBehind.{IsBehindThere, behind_there}
+use Rattle.command_laws.proofs.WaitRows.{is_found, is_passed, is_probe, is_telling_who, is_wait_of, is_want}
 use Rattle.command_laws.proofs.WaitRun.{AllHold, all_hold}
+use Rattle.command_laws.proofs.WaitsBehind.{IsBehindThere, behind_there}
 use Rattle.command_laws.specs.Served.{name_in, EachIsHeldUp, HoldersAreTold, IsHeldUp, IsHeldUpAt, IsServed, IsToldHolder, own_in}
 
-pub sent_to_append : (start : Start) (test : Place → Body → Bool) (h j : ℕ) (xs ys log : List LogStep)
+pub sent_to_append : (start : Start) (test : Place → Body → Bool) (h j : ℕ) (xs ys log : List HostStep)
     → sent_since_to start test h j (xs ++ ys) log ≡ sent_since_to start test h j xs (ys ++ log) + sent_since_to start test h j ys log
 sent_to_append start test h j [] ys log = omega arith
 sent_to_append start test h j (e ∷ xs) ys log =
-    omega (arith, sent_to_append start test h j xs ys log, ap (λ l. sends_of (to_node j test) (step_after start h l e).effects.sends) (append_assoc xs ys log))
+    omega (arith, sent_to_append start test h j xs ys log, ap (λ l. sends_of (to_host start j test) (step_after start h l e).effects.sends) (append_assoc xs ys log))
 
-pub taken_few : (start : Start) (test : Place → Body → Bool) (i : ℕ) (newer : List LogStep) → taken_since start test i newer ≤ steps test newer
+pub taken_few : (start : Start) (test : Place → Body → Bool) (i : ℕ) (newer : List HostStep) → taken_since start test i newer ≤ steps test newer
 taken_few start test i [] = omega arith
-taken_few start test i (e ∷ newer) = omega (arith, taken_few start test i newer, few (is_from (machine start) i e) (test e.taken.to e.taken.body))
+taken_few start test i (e ∷ newer) = omega (arith, taken_few start test i newer, few (is_from (machine start) i e) (test e.step.taken.to e.step.taken.body))
   where
     few : (a b : Bool) → one_if (a && b) ≤ one_if b
     few true b = omega arith
@@ -69,7 +75,7 @@ record IsWaiting (t : OpenTransaction) : Type 0 where
   own : t.tx ≡ Some tx
   does : t.doing ≡ Operating
 
-is_waiting : (start : Start) (logs : ℕ → List LogStep) (t : OpenTransaction) → is_unanswered t.doing ≡ true → is_answered_by start logs t.doing t.tx → IsWaiting t
+is_waiting : (start : Start) (logs : ℕ → List HostStep) (t : OpenTransaction) → is_unanswered t.doing ≡ true → is_answered_by start logs t.doing t.tx → IsWaiting t
 is_waiting start logs t unanswered answered = by t.doing t.tx refl refl unanswered answered
   where
     by : (doing : Doing) (o : Option TxId) → t.doing ≡ doing → t.tx ≡ o → is_unanswered doing ≡ true → is_answered_by start logs doing o → IsWaiting t
@@ -81,33 +87,40 @@ is_waiting start logs t unanswered answered = by t.doing t.tx refl refl unanswer
     by Committing (Some tx) does own some a = absurd a
     by Committing None does own some a = absurd a
 
-module _ (start : Start) (tx : TxId) (u : Transaction) (logs : ℕ → List LogStep) where
-  -- the transaction as its coordinator has it
-  on_live : (k : ℕ) → IsLiveAs tx u (after start k (logs k)) → OnTc (λ s. of_live tx s.live ≡ Some u) (after start k (logs k))
-  on_live zero live = absurd (subst (IsLiveAs tx u) (shell_after start (logs 0)).is live)
-  on_live (suc h) live =
-      let n = node_after start h (logs (suc h)) in
-      subst (OnTc (λ s. of_live tx s.live ≡ Some u)) (sym n.is)
-      (in_live tx u n.state.tc.live (subst (IsLiveAs tx u) n.is live) (sound_at start tx h (logs (suc h)) n.state n.is).few)
+-- what is for no node is for the shell's host
+shell_place : (start : Start) → rows_host start 0 ≡ 0
+unfolding receiver
+shell_place start = refl
 
-  not_shell : (P : host.Host → Type 0) → ((s : ApiState) → P (Shell s) → ⊥) → (k : ℕ) → P (after start k (logs k)) → (j : ℕ) × (k ≡ suc j)
-  not_shell P none zero p = absurd (none (shell_after start (logs 0)).state (subst P (shell_after start (logs 0)).is p))
-  not_shell P none (suc h) p = (h, refl)
+-- a host whose coordinator or rows have something isn't the shell's
+not_shell : (start : Start) (logs : ℕ → List HostStep) (P : Host → Type 0) → ((g : Host) → has_api g ≡ true → P g → ⊥) → (k : ℕ) → P (after start k (logs k)) → (j : ℕ) × (k ≡ suc j)
+not_shell start logs P none zero p = absurd (none (after start 0 (logs 0)) (api_runs start (logs 0)) p)
+not_shell start logs P none (suc h) p = (h, refl)
 
-module _ (answered : EachIsAnswered) (held_up : EachIsHeldUp) (start : Start) (was mid now : ℕ → List LogStep) (t : OpenTransaction) (first_served : IsServed start was mid request.Waits)
+not_live : (tx : TxId) (u : Transaction) (g : Host) → has_api g ≡ true → IsLiveAs tx u g → ⊥
+not_live tx u g api live = by (has_tc g) refl
+  where
+    by : (b : Bool) → has_tc g ≡ b → ⊥
+    by true tc = api_alone g api tc
+    by false none = subst (IsIn (tx, u)) (no_live g none) live
+
+not_held : (tx : TxId) (key : List ℕ) (g : Host) → has_api g ≡ true → IsHeldUpAt tx key g → ⊥
+not_held tx key g api held = by (has_lqh g) refl
+  where
+    by : (b : Bool) → has_lqh g ≡ b → ⊥
+    by true rows = api_no_rows g api rows
+    by false none = let both : false ≡ true = sym (ap is_some (no_rows g none key tx)) ∙ held in cc
+
+module _ (answered : EachIsAnswered) (held_up : EachIsHeldUp) (start : Start) (was mid now : ℕ → List HostStep) (t : OpenTransaction) (first_served : IsServed start was mid request.Waits)
     (then_served : IsServed start mid now request.Pending) (own : own_in (after start 0 (was 0)) ≡ Some t) (unanswered : is_unanswered t.doing ≡ true) where
-  s : ApiState
-  s = (shell_after start (was 0)).state
-
-  is : after start 0 (was 0) ≡ Shell s
-  unfolding s
-  is = (shell_after start (was 0)).is
+  abbrev s : ApiState
+  s = api_of (after start 0 (was 0))
 
   i : IsOwn s t
-  i = own_found s t (ap own_in (sym is) ∙ own)
+  i = own_found s t own
 
   in_opened : IsIn t (opened_after start was)
-  in_opened = subst (λ g. IsIn t (opened_in g)) (sym is) (subst (IsIn t) (sym i.first.is) (in_middle i.first.front t i.first.back))
+  in_opened = subst (IsIn t) (sym i.first.is) (in_middle i.first.front t i.first.back)
 
   w : IsWaiting t
   w = is_waiting start was t unanswered (answered start was t first_served.before in_opened)
@@ -115,8 +128,15 @@ module _ (answered : EachIsAnswered) (held_up : EachIsHeldUp) (start : Start) (w
   up : IsHeldUp start was w.tx
   up = held_up start was t first_served.before in_opened w.tx w.own w.does
 
-  live : OnTc (λ c. of_live w.tx c.live ≡ Some up.transaction) (after start w.tx.tc (was w.tx.tc))
-  live = on_live start w.tx up.transaction was w.tx.tc up.live
+  abbrev c_host : ℕ
+  c_host = home start w.tx
+
+  abbrev m_host : ℕ
+  m_host = rows_host start up.member.node
+
+  -- the transaction as its coordinator has it
+  live : OnTc (λ c. of_live w.tx c.live ≡ Some up.transaction) (after start c_host (was c_host))
+  live = live_tx start w.tx c_host (was c_host) up.transaction up.live
 
   -- no other transaction of the API has its number
   none : tally (has_tx w.tx) i.first.front ≡ 0
@@ -126,7 +146,6 @@ module _ (answered : EachIsAnswered) (held_up : EachIsHeldUp) (start : Start) (w
         arith,
         h.few,
         once_started start w.tx was first_served.before,
-        ap (λ g. tally (has_tx w.tx) (opened_in g)) is,
         tally_between (has_tx w.tx) i.first.front t i.first.back s.opened i.first.is,
         ap one_if (ap (is_tx w.tx) w.own ∙ same_tx-self w.tx),
         tally_append (has_tx w.tx) i.first.front i.first.back,
@@ -135,10 +154,8 @@ module _ (answered : EachIsAnswered) (held_up : EachIsHeldUp) (start : Start) (w
   f : IsFirst start was mid request.Waits
   f = request_first start was mid request.Waits first_served
 
-  asking : IsAsking s t w.tx i (step_after start 0 (was 0) f.first)
-  asking =
-      subst (λ (to : Place). IsAsking s t w.tx i (row (after start 0 (was 0)) to f.first.taken.body)) (sym f.place)
-      (subst (λ body. IsAsking s t w.tx i (row (after start 0 (was 0)) client body)) (sym f.body) (waits_first (after start 0 (was 0)) s t w.tx i is unanswered w.own))
+  asking : IsAsking start s t w.tx i (api_seen (step_after start 0 (was 0) f.first))
+  asking = subst (IsAsking start s t w.tx i) (sym (first_step start was mid request.Waits f)) (waits_first start s t w.tx i unanswered w.own)
 
   abbrev first_cut : IsCut (with_first was f.first) mid
   first_cut zero = record { newer = f.later; is = f.is }
@@ -156,20 +173,28 @@ module _ (answered : EachIsAnswered) (held_up : EachIsHeldUp) (start : Start) (w
   cut zero = record { newer = log_of (machine start) all.more 0 ++ f.first ∷ []; is = all.is 0 ∙ sym (append_assoc (log_of (machine start) all.more 0) (f.first ∷ []) (was 0)) }
   cut (suc h) = record { newer = log_of (machine start) all.more (suc h); is = all.is (suc h) }
 
+  -- where it is held up is a host that is there
+  held_low : m_host < hosts start
+  held_low = by up.member.node refl
+    where
+      by : (node : ℕ) → up.member.node ≡ node → m_host < hosts start
+      by zero is = omega (arith, ap (rows_host start) is, shell_place start)
+      by (suc n) is = host_below start (rows_of up.member.node) (omega (arith, is)) up.low
+
   -- the question goes to the coordinator, from there to the node where the lock is, and the answer back
-  module _ (c m : ℕ) (c_is : w.tx.tc ≡ suc c) (m_is : up.member.node ≡ suc m) where
+  module _ (c m : ℕ) (c_is : c_host ≡ suc c) (m_is : m_host ≡ suc m) where
     c_low : suc c < hosts start
-    c_low = let low = live_low start was w.tx up.transaction first_served.before w.tx.tc up.live in omega (arith, low, c_is)
+    c_low = let low = live_low start was w.tx up.transaction first_served.before c_host up.live in omega (arith, low, c_is)
 
     m_low : suc m < hosts start
-    m_low = omega (arith, up.low, m_is)
+    m_low = omega (arith, held_low, m_is)
 
     wanted : 1 ≤ steps (is_want w.tx) (log_of (machine start) all.more (suc c))
     wanted =
         omega (
           arith,
           asking.wants,
-          ap (λ k. sends_of (to_node k (is_want w.tx)) (step_after start 0 (was 0) f.first).effects.sends) c_is,
+          ap (λ k. sends_of (to_host start k (is_want w.tx)) (step_after start 0 (was 0) f.first).effects.sends) c_is,
           sent_to_append start (is_want w.tx) 0 (suc c) (log_of (machine start) all.more 0) (f.first ∷ []) (was 0),
           all_arrive start was mid first_served.before first_served.since cut (is_want w.tx) 0 (suc c) (omega arith) c_low,
           taken_few start (is_want w.tx) 0 (log_of (machine start) all.more (suc c)),
@@ -205,40 +230,42 @@ module _ (answered : EachIsAnswered) (held_up : EachIsHeldUp) (start : Start) (w
           (all.nodes c).passes c_is,
           all_arrive start was mid first_served.before first_served.since cut (is_passed w.tx) (suc c) 0 c_low (omega arith),
           taken_few start (is_passed w.tx) (suc c) (log_of (machine start) all.more 0 ++ f.first ∷ []),
-          tally_append (λ (e : LogStep). is_passed w.tx e.taken.to e.taken.body) (log_of (machine start) all.more 0) (f.first ∷ []),
-          ap one_if (ap (λ (to : Place). is_passed w.tx to f.first.taken.body) f.place ∙ ap (is_passed w.tx client) f.body),
+          tally_append (λ (e : HostStep). is_passed w.tx e.step.taken.to e.step.taken.body) (log_of (machine start) all.more 0) (f.first ∷ []),
+          ap one_if (ap (λ (to : Place). is_passed w.tx to f.first.step.taken.body) f.place ∙ ap (is_passed w.tx client) f.body),
         )
 
   ahead_known : is_some all.shell.ahead ≡ true
   ahead_known =
-      let c = not_shell start w.tx up.transaction was (IsLiveAs w.tx up.transaction) (λ state p. p) w.tx.tc up.live in
-      let m = not_shell start w.tx up.transaction was (IsHeldUpAt w.tx (key_of up.asked.op)) (λ state p. p) up.member.node up.held in
+      let c = not_shell start was (IsLiveAs w.tx up.transaction) (not_live w.tx up.transaction) c_host up.live in
+      let m = not_shell start was (IsHeldUpAt w.tx (key_of up.asked.op)) (not_held w.tx (key_of up.asked.op)) m_host up.held in
       all.shell.known (passed c.0 m.0 c.1 m.1)
 
   then : IsFirst start mid now request.Pending
   then = request_first start mid now request.Pending then_served
 
-  about : IsAboutOne i.first.front t i.first.back (Some i.name) all.shell.ahead (after start 0 (mid 0))
-  about = subst (λ log. IsAboutOne i.first.front t i.first.back (Some i.name) all.shell.ahead (after start 0 log)) (sym (all.is 0)) all.shell.about
+  about : IsAboutOne i.first.front t i.first.back (Some i.name) all.shell.ahead (api_of (after start 0 (mid 0)))
+  about = subst (λ log. IsAboutOne i.first.front t i.first.back (Some i.name) all.shell.ahead (api_of (after start 0 log))) (sym (all.is 0)) all.shell.about
 
-  tells : TellsHolder t.name all.shell.ahead (after start 0 (mid 0)) (step_after start 0 (mid 0) then.first)
+  tells : TellsHolder t.name all.shell.ahead (api_of (after start 0 (mid 0))) (api_seen (step_after start 0 (mid 0) then.first))
   tells =
-      subst (λ (to : Place). TellsHolder t.name all.shell.ahead (after start 0 (mid 0)) (row (after start 0 (mid 0)) to then.first.taken.body)) (sym then.place)
-      (subst (λ body. TellsHolder t.name all.shell.ahead (after start 0 (mid 0)) (row (after start 0 (mid 0)) client body)) (sym then.body)
-      (pending_first (after start 0 (mid 0)) i.first.front t i.first.back i.name all.shell.ahead about unanswered i.first.none i.first.passes ahead_known))
+      subst (TellsHolder t.name all.shell.ahead (api_of (after start 0 (mid 0)))) (sym (first_step start mid now request.Pending then))
+      (pending_first (api_of (after start 0 (mid 0))) i.first.front t i.first.back i.name all.shell.ahead about unanswered i.first.none i.first.passes ahead_known)
+
+  tells_reply : replies_of (after start 0 (then.first ∷ mid 0)) ≡ replies_of (after start 0 (mid 0)) ++ Pending t.name (HeldBy (name_in (opened_after start mid) tells.who)) ∷ []
+  tells_reply = replies_are (after start 0 (then.first ∷ mid 0)) ∙ tells.told ∙ ap (λ rs. rs ++ Pending t.name (HeldBy (name_in (opened_after start mid) tells.who)) ∷ []) (sym (replies_are (after start 0 (mid 0))))
 
   -- the signal that told it came from a node where the transaction waits behind that one
-  telling : Counted (λ (e : LogStep). is_telling_who w.tx tells.who e.taken.to e.taken.body) (log_of (machine start) all.more 0)
-  telling = counted (λ (e : LogStep). is_telling_who w.tx tells.who e.taken.to e.taken.body) (log_of (machine start) all.more 0) (all.shell.from tells.who tells.is)
+  telling : Counted (λ (e : HostStep). is_telling_who w.tx tells.who e.step.taken.to e.step.taken.body) (log_of (machine start) all.more 0)
+  telling = counted (λ (e : HostStep). is_telling_who w.tx tells.who e.step.taken.to e.step.taken.body) (log_of (machine start) all.more 0) (all.shell.from tells.who tells.is)
 
-  in_front : (xs ys : List LogStep) (e : LogStep) → IsIn e xs → IsIn e (xs ++ ys)
+  in_front : (xs ys : List HostStep) (e : HostStep) → IsIn e xs → IsIn e (xs ++ ys)
   in_front [] ys e inside = absurd inside
   in_front (x ∷ xs) ys e (inl same) = inl same
   in_front (x ∷ xs) ys e (inr rest) = inr (in_front xs ys e rest)
 
-  behind : IsBehindThere start was mid w.tx tells.who first_served.before first_served.since cut (λ h. each_log (machine start) (λ (e : LogStep). is_wait_of w.tx e.taken.body ≡ true) all.more (suc h) all.waits)
+  behind : IsBehindThere start was mid w.tx tells.who first_served.before first_served.since cut (λ h. each_log (machine start) (λ (e : HostStep). is_wait_of w.tx e.step.taken.body ≡ true) all.more (suc h) all.waits)
   behind =
-      behind_there start was mid w.tx tells.who first_served.before first_served.since cut (λ h. each_log (machine start) (λ (e : LogStep). is_wait_of w.tx e.taken.body ≡ true) all.more (suc h) all.waits)
+      behind_there start was mid w.tx tells.who first_served.before first_served.since cut (λ h. each_log (machine start) (λ (e : HostStep). is_wait_of w.tx e.step.taken.body ≡ true) all.more (suc h) all.waits)
       telling.item (in_front (log_of (machine start) all.more 0) (f.first ∷ []) telling.item telling.inside) telling.passes
 
   holder_told : IsToldHolder start was mid now
@@ -255,18 +282,20 @@ module _ (answered : EachIsAnswered) (held_up : EachIsHeldUp) (start : Start) (w
         key = behind.key;
         behind = behind.behind;
         told = subst (λ log. IsIn reply (drop (length (replies_of (after start 0 (mid 0)))) (replies_of (after start 0 log)))) (sym then.is)
-            (told_since start (mid 0) (mid 0) then.later then.first reply (past_self (mid 0)) tells.told);
+            (told_since start (mid 0) (mid 0) then.later then.first reply (past_self (mid 0)) tells_reply);
       }
 
 -- the own transaction of a host whose last command left it unanswered
-record IsLeft (g : host.Host) : Type 0 where
+record IsLeft (g : Host) : Type 0 where
   t : OpenTransaction
   own : own_in g ≡ Some t
   unanswered : is_unanswered t.doing ≡ true
 
-left_own : (g : host.Host) → is_left_open g ≡ true → IsLeft g
+left_own : (g : Host) → is_left_open g ≡ true → IsLeft g
 unfolding is_left_open
-left_own (Node n) left = cc
+left_own (Main m) left = cc
+left_own (Tc p) left = cc
+left_own (Ldm l) left = cc
 left_own (Shell s) left = at_place (own_place s) refl left
   where
     at_get : (at : ℕ) (x : Option OpenTransaction) → own_place s ≡ Some at → slice_get s.opened at ≡ x → if_there false (λ (y : OpenTransaction). is_unanswered y.doing) x ≡ true → IsLeft (Shell s)

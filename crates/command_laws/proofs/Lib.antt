@@ -5,7 +5,6 @@ pub mod AbortTurns
 pub mod ApiChanges
 pub mod ComesTo
 pub mod CommitFirst
-pub mod CommitGoes
 pub mod Committed
 pub mod EarlyNodes
 pub mod EarlyRun
@@ -13,12 +12,17 @@ pub mod EarlySteps
 pub mod EarlyTurns
 pub mod EndsWell
 pub mod Entries
+pub mod EntryGoes
 pub mod Firm
 pub mod FirmAtQuiet
 pub mod FirmHosts
 pub mod First
 pub mod HeldUp
 pub mod HoldersTold
+pub mod Homes
+pub mod HostKinds
+pub mod HostSends
+pub mod HostSteps
 pub mod LivingReplies
 pub mod LivingRows
 pub mod LivingTurns
@@ -29,7 +33,6 @@ pub mod LoneCommitted
 pub mod LoneWishes
 pub mod LqhFair
 pub mod OperateAsks
-pub mod OperateGoes
 pub mod OperationAnswered
 pub mod OwnSends
 pub mod Places

@@ -23,7 +23,7 @@ use Rattle.api_block.specs.declared.dump.Dump.{Dump}
 use Rattle.api_block.specs.declared.opened.Doing.{Doing}
 use Rattle.api_block.specs.declared.opened.Doing.TheVariants.{Beginning, Ready, Operating}
 use Rattle.api_block.specs.declared.opened.OpenTransaction.{OpenTransaction}
-use Rattle.api_block.specs.Api.{api_row, request_row}
+use Rattle.api_block.specs.Api.{api_table, request_row}
 use Rattle.api_block.specs.Commands.{abort_by, abort_row, begin_at, begin_if, begin_row, commit_by, commit_row, dump_if, dump_row, node_for, tick_row, ticked_if}
 use Rattle.api_block.specs.Dump.{dump_replies, dumped_by, dumped_next, dumped_row, row_reply}
 use Rattle.api_block.specs.Gathered.{gathered}
@@ -215,7 +215,7 @@ module _ (s : ApiState) (all : AllLiving s.replies) where
   unfolding behind_row
   behind_lives tx ahead = found (λ (u : ApiState). AllLiving u.replies) s.opened s (λ at t. changing s at (behind t (Some ahead))) all (λ at t. all) (place_of s tx)
 
-  pub api_lives : (body : Body) → is_sound body ≡ true → AllLiving (api_row s body).state.replies
+  pub api_lives : (body : Body) → is_sound body ≡ true → AllLiving (api_table s body).state.replies
   api_lives (Host (Continue (work.Request r) at)) sound = request_lives r
   api_lives (Client (TcBeginConf name tx)) sound = begun_lives name tx
   api_lives (Client (TcBeginRef name)) sound = refuse_lives name

@@ -3,15 +3,15 @@ use Rattle.std.proofs.Common.{◌≡◌, true, refl}
 use Rattle.sig_core.specs.declared.outs.Outgoing.{Outgoing}
 use Rattle.sig_core.specs.declared.signal.Body.{Body}
 use Rattle.lqh_block.specs.declared.request.Request.{Request}
-use Rattle.lqh_block.specs.Lqh.{lqh_row}
+use Rattle.lqh_block.specs.Lqh.{lqh_table}
 use Rattle.lqh_block.specs.State.{LqhState}
 use Rattle.lqh_block.proofs.EachLqh.{RequestSends, lqh_sends_each}
-use Rattle.answer_laws.proofs.SendKinds.{SendsOnly, of_each}
+use Rattle.host_laws.proofs.SendKinds.{SendsOnly, of_each}
 use Rattle.command_laws.proofs.LivingTurns.{is_sound}
 
-pub lqh_sound : (s : LqhState) (body : Body) → SendsOnly is_sound (lqh_row s body)
+pub lqh_sound : (s : LqhState) (body : Body) → SendsOnly is_sound (lqh_table s body)
 lqh_sound s body =
-    of_each is_sound (lqh_row s body).effects.sends
+    of_each is_sound (lqh_table s body).effects.sends
     (lqh_sends_each (λ (o : Outgoing). is_sound o.body ≡ true) s body (record {
       asked = λ r is. request r;
       waited = λ at r is. request r;

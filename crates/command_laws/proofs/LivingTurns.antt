@@ -11,24 +11,24 @@ use Rattle.sig_core.specs.declared.signal.Body.{Body}
 use Rattle.sig_core.specs.declared.signal.Body.TheVariants.{Client, Chain}
 use Rattle.sig_core.specs.declared.signal.chain.ChainSignal.TheVariants.{LqhKeyRef}
 use Rattle.sig_core.specs.declared.signal.client.ClientSignal.TheVariants.{TcRollbackRep}
-use Rattle.sig_core.specs.declared.view.View.{View}
+use Rattle.frag_map.specs.Layout.{Layout}
 use Rattle.sig_core.specs.Step.{Step}
 use Rattle.sig_core.specs.Op.{key_of}
 use Rattle.tc_block.specs.Abort as abort
-use Rattle.tc_block.specs.Chain.{chain_of}
+use Rattle.frag_map.specs.Layout.{chain_of}
 use Rattle.tc_block.specs.Complete as complete
 use Rattle.tc_block.specs.declared.phase.Phase.{Phase}
 use Rattle.tc_block.specs.declared.phase.Phase.TheVariants.{Open, Verifying, Committing, Completing, Aborting}
 use Rattle.tc_block.specs.declared.transaction.Transaction.{Transaction}
 use Rattle.tc_block.specs.Sends.{abort_of, entering, front_sends, go_on_if, wait_of}
 use Rattle.tc_block.specs.State.{TcState}
-use Rattle.tc_block.specs.Tc.{tc_row}
+use Rattle.tc_block.specs.Tc.{tc_table}
 use Rattle.tc_block.specs.Turn.{Turn, asking, going}
 use Rattle.run_theory.proofs.EachSent.{each_mapped}
 use Rattle.tc_block.proofs.EachTurn.{AbortForms, CommittedForms, TurnForms}
 use Rattle.tc_block.proofs.LiveKeeps.{LiveKeeps, TurnKeeps, live_each}
-use Rattle.answer_laws.proofs.SendKinds.{each_of, of_each, are_of}
-use Rattle.answer_laws.proofs.PhaseSends.{HasChains, entering_of_kind, rest_of_kind}
+use Rattle.host_laws.proofs.SendKinds.{each_of, of_each, are_of}
+use Rattle.host_laws.proofs.PhaseSends.{HasChains, entering_of_kind, rest_of_kind}
 use Rattle.command_laws.specs.Living.{is_living}
 
 -- a signal that gives no other cause
@@ -65,40 +65,40 @@ fronts tx (Aborting why verifying awaited) = refl
 fronts tx Open = refl
 fronts tx Verifying = refl
 
-module _ (node : ℕ) (view : View) (tx : TxId) where
-  enters : (t : Transaction) (phase : Phase) → lives_on phase ≡ true → TurnLives (going (entering node view tx t phase))
+module _ (node : ℕ) (layout : Layout) (tx : TxId) where
+  enters : (t : Transaction) (phase : Phase) → lives_on phase ≡ true → TurnLives (going (entering node layout tx t phase))
   unfolding entering
   enters t phase lives = record {
     state = lives;
-    sends = each_of is_sound Sound (λ o is. is) (entering node view tx t phase).effects.sends (entering_of_kind is_sound view tx (chains tx) node t phase (fronts tx phase));
+    sends = each_of is_sound Sound (λ o is. is) (entering node layout tx t phase).effects.sends (entering_of_kind is_sound layout tx (chains tx) node t phase (fronts tx phase));
   }
 
   abort_ends : (why : AbortCause) (verifying : Bool) → is_living why ≡ true → Each Sound (abort.abort_end node tx why verifying)
   abort_ends why true e = (refl, (e, tt))
   abort_ends why false e = (e, tt)
 
-  aborts : (t : Transaction) → Lives t → (why : AbortCause) → is_living why ≡ true → AbortForms node view tx t why TurnLives
+  aborts : (t : Transaction) → Lives t → (why : AbortCause) → is_living why ≡ true → AbortForms node layout tx t why TurnLives
   aborts t fine why e = record {
-    enters = λ some. enters t (Aborting why (abort.is_verifying t.phase) (abort.aborts_awaited view t)) e;
+    enters = λ some. enters t (Aborting why (abort.is_verifying t.phase) (abort.aborts_awaited layout t)) e;
     ends = λ none. record { state = fine; sends = abort_ends why (abort.is_verifying t.phase) e };
   }
 
-  commits : (t : Transaction) → Lives t → (epoch : ℕ) → CommittedForms node view tx t epoch TurnLives
+  commits : (t : Transaction) → Lives t → (epoch : ℕ) → CommittedForms node layout tx t epoch TurnLives
   commits t fine epoch = record {
     enters = λ some. enters t (Completing epoch (complete.written_count t.touched)) refl;
     ends = λ none. record { state = fine; sends = (refl, (refl, tt)) };
   }
 
-  turns_live : (t : Transaction) (body : Body) → is_sound body ≡ true → Lives t → TurnForms node view tx t body TurnLives
+  turns_live : (t : Transaction) (body : Body) → is_sound body ≡ true → Lives t → TurnForms node layout tx t body TurnLives
   turns_live t body sound fine = record {
     stays = record { state = fine; sends = tt };
     goes_on = λ at. record {
       state = fine;
-      sends = each_of is_sound Sound (λ o is. is) (go_on_if node view tx t at true).effects.sends (rest_of_kind is_sound view tx (chains tx) node t at (fronts tx t.phase));
+      sends = each_of is_sound Sound (λ o is. is) (go_on_if node layout tx t at true).effects.sends (rest_of_kind is_sound layout tx (chains tx) node t at (fronts tx t.phase));
     };
     operates = λ op is can. record { state = fine; sends = (refl, tt) };
     answers = λ key answer asked is on at. record { state = fine; sends = (refl, tt) };
-    late = λ key asked why verifying awaited on at. record { state = fine; sends = each_mapped Sound (abort_of tx key) (chain_of view key) (λ m. refl) };
+    late = λ key asked why verifying awaited on at. record { state = fine; sends = each_mapped Sound (abort_of tx key) (chain_of layout key) (λ m. refl) };
     waits = λ asked on. record { state = fine; sends = each_mapped Sound (wait_of tx (key_of asked.op)) asked.chain (λ m. refl) };
     decides = λ is ready. record { state = refl; sends = (refl, tt) };
     commits = λ epoch is at some. enters t (Committing epoch (length t.touched)) refl;
@@ -118,10 +118,10 @@ pub record TcLives (step : Step TcState) : Type 0 where
   pub live : AllLive step.state.live
   pub sends : are_of is_sound step.effects.sends ≡ true
 
-pub tc_lives : (s : TcState) (body : Body) → is_sound body ≡ true → AllLive s.live → TcLives (tc_row s body)
-tc_lives s body sound all = record { live = step.live; sends = of_each is_sound (tc_row s body).effects.sends step.sends }
+pub tc_lives : (s : TcState) (body : Body) → is_sound body ≡ true → AllLive s.live → TcLives (tc_table s body)
+tc_lives s body sound all = record { live = step.live; sends = of_each is_sound (tc_table s body).effects.sends step.sends }
   where
-    step : LiveKeeps Lives Sound s.view (tc_row s body)
+    step : LiveKeeps Lives Sound s.layout (tc_table s body)
     step =
         live_each Lives Sound s body refl (record { full = λ name. (refl, tt); begins = λ name. (refl, tt); passes = λ tx ahead. (refl, tt) })
-        (λ tx t fine. turns_live s.node s.view tx t body sound fine) all
+        (λ tx t fine. turns_live s.node s.layout tx t body sound fine) all

@@ -1,49 +1,51 @@
 -- An operation alone is answered, or refused for want of room or of time, or its transaction can't begin, or it waits for a lock.
-use Rattle.std.proofs.Common.{◌≡◌, ◌⊎◌, ℕ, suc, true, false, List, [], ◌∷◌, ◌++◌, sym, ap, ◌∙◌, subst, inl, inr, append_assoc, arith}
+use Rattle.std.proofs.Common.{◌≡◌, ◌⊎◌, ℕ, true, false, List, [], ◌∷◌, ◌++◌, sym, ap, ◌∙◌, subst, inl, inr, append_assoc, arith}
 use Rattle.std.specs.Prelude.{Option, None, Some}
-use Rattle.run_theory.specs.Lists.{Each}
 use Rattle.run_theory.proofs.Pasts.{each_before}
-use Rattle.sig_core.specs.declared.log.LogStep.{LogStep}
+use Rattle.run_theory.specs.Lists.{Each}
 use Rattle.sig_core.specs.declared.member.TxId.{TxId}
 use Rattle.sig_core.specs.declared.op.Op.{Op}
-use Rattle.sig_core.specs.declared.place.Place.{Place}
 use Rattle.sig_core.specs.declared.reply.ApiReply.TheVariants.{Answered, Refused}
 use Rattle.sig_core.specs.declared.reply.Refusal.TheVariants.{TooManyOpen}
 use Rattle.sig_core.specs.declared.request.ApiReq.TheVariants.{Operate}
-use Rattle.sig_core.specs.Place.{client}
+use Rattle.frag_map.specs.Layout.{first_view}
 use Rattle.api_block.specs.declared.opened.Doing.{Doing}
 use Rattle.api_block.specs.declared.opened.Doing.TheVariants.{Operating}
 use Rattle.api_block.specs.Opened.{has_tx, is_beginning}
+use Rattle.node_core.specs.Blocks.{api_of}
 use Rattle.node_core.specs.Requests.{is_request}
-use Rattle.node_core.specs.Row.{row}
+use Rattle.world_core.specs.Hosts.{home}
 use Rattle.world_core.specs.Machine.{after, step_after}
 use Rattle.world_core.specs.Start.{Start}
+use Rattle.world_core.specs.Steps.{HostStep}
+use Rattle.host_laws.proofs.Tally.{tally_append}
+use Rattle.host_laws.specs.Counts.{one_if}
 use Rattle.answer_laws.proofs.Begins.{no_begin}
-use Rattle.answer_laws.proofs.Hosts.{shell_after}
-use Rattle.answer_laws.proofs.LinkCounts.{steps, taken_steps}
-use Rattle.answer_laws.proofs.Lives.{holds_at, keeps, once_started}
-use Rattle.answer_laws.proofs.Tally.{one_if, tally_append}
-use Rattle.answer_laws.proofs.TcLives.{is_start}
-use Rattle.answer_laws.specs.Answered.{EachIsAnswered, WaitsForLock, is_answered_by, opened_after, opened_in}
-use Rattle.command_laws.proofs.CommitGoes.{HasEnded, IsEnding}
+use Rattle.host_laws.proofs.Hosts.{shell_after}
+use Rattle.host_laws.proofs.LinkCounts.{steps}
+use Rattle.answer_laws.proofs.Lives.{holds_at, once_started}
+use Rattle.host_laws.proofs.TcLives.{is_start}
+use Rattle.answer_laws.specs.Answered.{EachIsAnswered, WaitsForLock, is_answered_by}
+use Rattle.host_laws.specs.Opened.{opened_after, opened_in}
+use Rattle.run_laws.proofs.Weighing.{none_passes}
 use Rattle.command_laws.proofs.Committed.{calm_at, sent_append}
 use Rattle.command_laws.proofs.EarlySteps.{IsOpenNow, OpenOption, is_wish_to}
 use Rattle.command_laws.proofs.EndsWell.{ended_well, replied}
 use Rattle.command_laws.proofs.Entries.{HasOne}
-use Rattle.command_laws.proofs.First.{IsFirst, request_first}
+use Rattle.command_laws.proofs.EntryGoes.{HasAnswered, HasEnded, IsAnswering, IsEnding, operate_goes}
+use Rattle.command_laws.proofs.First.{IsFirst, first_step, request_first}
+use Rattle.command_laws.proofs.Homes.{unborn_there}
+use Rattle.command_laws.proofs.HostSteps.{api_seen}
 use Rattle.command_laws.proofs.LoneBegins.{HasBegun, IsAlone, IsAskedAlone, WasRefused, alone_first, begin_goes}
 use Rattle.command_laws.proofs.LoneWishes.{wishes_since}
-use Rattle.command_laws.proofs.OperateGoes.{HasAnswered, IsAnswering, operate_goes}
-use Rattle.command_laws.proofs.Since.{all_taken, sent_since}
-use Rattle.command_laws.proofs.TcPath.{none_there}
+use Rattle.command_laws.proofs.Since.{sent_since}
 use Rattle.command_laws.proofs.TellsSince.{OnTc}
 use Rattle.command_laws.specs.Alone.{IsRefusedAlone, IsTurnedAway, LoneOperationsAreAnswered, WaitsAlone}
 use Rattle.command_laws.specs.Served.{IsAnsweredAlone, IsServed}
-use Rattle.transit_laws.proofs.Weighing.{none_passes}
 
 -- what was so behind some steps and a log was so behind that log
-module _ (start : Start) (newer : List LogStep) (step : LogStep) (older log : List LogStep) where
-  same_log : (some : List LogStep) → some ++ (step ∷ (older ++ log)) ≡ (some ++ step ∷ older) ++ log
+module _ (start : Start) (newer : List HostStep) (step : HostStep) (older log : List HostStep) where
+  same_log : (some : List HostStep) → some ++ (step ∷ (older ++ log)) ≡ (some ++ step ∷ older) ++ log
   same_log some = sym (append_assoc some (step ∷ older) log)
 
   answered_before : (name : Option ℕ) → HasAnswered name start newer (step ∷ (older ++ log)) → HasAnswered name start (newer ++ step ∷ older) log
@@ -61,21 +63,22 @@ module _ (start : Start) (newer : List LogStep) (step : LogStep) (older log : Li
     step = ended.step;
     older = ended.older ++ step ∷ older;
     is = ap (λ w. w ++ step ∷ older) ended.is ∙ append_assoc ended.newer (ended.step ∷ ended.older) (step ∷ older);
-    ending = subst (λ l. IsEnding tx name (after start 0 l) ended.step.taken.body (step_after start 0 l ended.step)) (same_log ended.older) ended.ending;
+    ending = subst (λ l. IsEnding tx name (after start 0 l) ended.step.step.taken.body (step_after start 0 l ended.step)) (same_log ended.older) ended.ending;
   }
 
-module _ (answered : EachIsAnswered) (start : Start) (was now : ℕ → List LogStep) (op : Op) (served : IsServed start was now (Operate None op)) where
+-- the API's view stays the first
+shell_view : (start : Start) (log : List HostStep) → (api_of (after start 0 log)).view ≡ first_view start.shape.nodes
+shell_view start log = let s = shell_after start log in ap (λ g. (api_of g).view) s.is ∙ s.view
+
+module _ (answered : EachIsAnswered) (start : Start) (was now : ℕ → List HostStep) (op : Op) (served : IsServed start was now (Operate None op)) where
   abbrev Result : Type 0
   Result = IsAnsweredAlone start was now ⊎ (IsRefusedAlone start was now ⊎ (IsTurnedAway start was now ⊎ WaitsAlone start was now))
 
   f : IsFirst start was now (Operate None op)
   f = request_first start was now (Operate None op) served
 
-  asked : IsAskedAlone op (step_after start 0 (was 0) f.first)
-  asked =
-      subst (λ (to : Place). IsAskedAlone op (row (after start 0 (was 0)) to f.first.taken.body)) (sym f.place)
-      (subst (λ body. IsAskedAlone op (row (after start 0 (was 0)) client body)) (sym f.body)
-      (alone_first start (after start 0 (was 0)) op (shell_after start (was 0)) served.before.some (calm_at start was served.before)))
+  asked : IsAskedAlone op (api_seen (step_after start 0 (was 0) f.first))
+  asked = subst (IsAskedAlone op) (sym (first_step start was now (Operate None op) f)) (alone_first start (api_of (after start 0 (was 0))) op (shell_view start (was 0)) served.before.shape.nodes_some (calm_at start was served.before))
 
   answered_alone : HasAnswered None start f.later (f.first ∷ was 0) → IsAnsweredAlone start was now
   answered_alone a = record {
@@ -90,7 +93,7 @@ module _ (answered : EachIsAnswered) (start : Start) (was now : ℕ → List Log
   not_beginning has = let both : true ≡ false = sym (ap is_beginning has.does) ∙ no_begin start now has.item served.since has.inside in cc
 
   module _ (wishes : (tx : TxId) → sent_since start (is_wish_to tx) 0 f.later (f.first ∷ was 0) ≡ 0) (b : HasBegun op start f.later (f.first ∷ was 0)) where
-    abbrev rest : List LogStep
+    abbrev rest : List HostStep
     rest = b.older ++ f.first ∷ was 0
 
     now_is : now 0 ≡ b.newer ++ b.step ∷ rest
@@ -103,20 +106,16 @@ module _ (answered : EachIsAnswered) (start : Start) (was now : ℕ → List Log
           arith,
           once_started start b.tx now served.since,
           ap (steps (is_start b.tx)) now_is,
-          tally_append (λ (e : LogStep). is_start b.tx e.taken.to e.taken.body) b.newer (b.step ∷ rest),
-          tally_append (λ (e : LogStep). is_start b.tx e.taken.to e.taken.body) b.older (f.first ∷ was 0),
+          tally_append (λ (e : HostStep). is_start b.tx e.step.taken.to e.step.taken.body) b.newer (b.step ∷ rest),
+          tally_append (λ (e : HostStep). is_start b.tx e.step.taken.to e.step.taken.body) b.older (f.first ∷ was 0),
           ap one_if b.begun,
         )
 
     no_wishes : sent_since start (is_wish_to b.tx) 0 (f.later ++ f.first ∷ []) (was 0) ≡ 0
     no_wishes = omega (arith, sent_append start (is_wish_to b.tx) 0 f.later (f.first ∷ []) (was 0), wishes b.tx, asked.wishes b.tx)
 
-    open_was : (h : ℕ) → b.tx.tc ≡ suc h → OnTc (IsOpenNow b.tx) (after start (suc h) (was (suc h)))
-    open_was h at =
-        let k = keeps start b.tx h (was (suc h)) in
-        let sent = all_taken start was now served.before served.since served.cut (is_start b.tx) (suc h) 0 (omega arith) in
-        subst (OnTc (IsOpenNow b.tx)) (sym k.is)
-        (record { open_now = subst OpenOption (sym (none_there b.tx k.state.tc.live (omega (arith, k.keeps.began, sent, taken_steps start (is_start b.tx) (suc h) (was 0), unbegun)))) tt })
+    open_was : (h : ℕ) → home start b.tx ≡ h → OnTc (IsOpenNow b.tx) (after start h (was h))
+    open_was h at = record { open_now = subst OpenOption (sym (unborn_there start was served.before b.tx h unbegun)) tt }
 
     refused : HasEnded b.tx None start f.later (f.first ∷ was 0) → IsRefusedAlone start was now
     refused ended =
@@ -138,8 +137,8 @@ module _ (answered : EachIsAnswered) (start : Start) (was now : ℕ → List Log
         by : (doing : Doing) (o : Option TxId) → doing ≡ Operating → o ≡ Some b.tx → is_answered_by start now doing o → WaitsForLock start now b.tx
         by doing o is some all = subst (λ p. is_answered_by start now Operating p) some (subst (λ d. is_answered_by start now d o) is all)
 
-    plain_newer : Each (λ (e : LogStep). is_request e.taken.body ≡ false) b.newer
-    plain_newer = each_before (λ (e : LogStep). is_request e.taken.body ≡ false) b.newer (b.step ∷ b.older) (subst (Each (λ (e : LogStep). is_request e.taken.body ≡ false)) b.is f.plain)
+    plain_newer : Each (λ (e : HostStep). is_request e.step.taken.body ≡ false) b.newer
+    plain_newer = each_before (λ (e : HostStep). is_request e.step.taken.body ≡ false) b.newer (b.step ∷ b.older) (subst (Each (λ (e : HostStep). is_request e.step.taken.body ≡ false)) b.is f.plain)
 
     begun_result : Result
     begun_result = by (operate_goes b.tx None start b.newer (b.step ∷ rest) plain_newer b.has)

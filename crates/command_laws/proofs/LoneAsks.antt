@@ -1,14 +1,12 @@
 -- What the shell's host asks coordinators for in steps that aren't requests, and which of its replies answer operations alone.
 use Rattle.std.proofs.Common.{◌≡◌, ◌⊎◌, ◌≤◌, ℕ, Bool, true, false, List, [], ◌∷◌, ◌++◌, refl, sym, ap, ◌∙◌, subst, inl, inr, arith}
 use Rattle.std.specs.Prelude.{◌&&◌, Option, None, Some}
-use Rattle.run_theory.specs.Lists.{Each, IsIn}
 use Rattle.run_theory.proofs.Pasts.{each_map}
-use Rattle.sig_core.specs.declared.log.LogStep.{LogStep}
+use Rattle.run_theory.specs.Lists.{Each, IsIn}
 use Rattle.sig_core.specs.declared.member.TxId.{TxId}
 use Rattle.sig_core.specs.declared.op.Answer.{Answer}
 use Rattle.sig_core.specs.declared.op.Op.{Op}
 use Rattle.sig_core.specs.declared.outs.Outgoing.{Outgoing}
-use Rattle.sig_core.specs.declared.place.BlockId.{BlockId}
 use Rattle.sig_core.specs.declared.place.BlockId.TheVariants as block
 use Rattle.sig_core.specs.declared.place.Place.{Place}
 use Rattle.sig_core.specs.declared.reply.ApiReply.{ApiReply}
@@ -18,36 +16,38 @@ use Rattle.sig_core.specs.declared.request.ApiReq.TheVariants as request
 use Rattle.sig_core.specs.declared.signal.Body.{Body}
 use Rattle.sig_core.specs.declared.signal.Body.TheVariants.{Host, Client}
 use Rattle.sig_core.specs.declared.signal.client.ClientSignal.TheVariants.{TcBeginConf, TcKeyConf, TcKeyReq, TcRollbackReq}
-use Rattle.sig_core.specs.declared.signal.host.HostSignal.TheVariants.{Continue}
-use Rattle.sig_core.specs.declared.signal.host.Work.TheVariants as work
-use Rattle.sig_core.specs.Place.{client}
+use Rattle.sig_core.specs.declared.signal.Signal.{Signal}
 use Rattle.sig_core.specs.Step.{Step}
+use Rattle.api_block.specs.Api.{api_row, request_row}
 use Rattle.api_block.specs.declared.opened.Doing.TheVariants.{Committing}
 use Rattle.api_block.specs.declared.opened.OpenTransaction.{OpenTransaction}
-use Rattle.api_block.specs.Api.{api_row, request_row}
 use Rattle.api_block.specs.Members.{least_node}
 use Rattle.api_block.specs.Opened.{answered, has_tx, is_tx}
 use Rattle.api_block.specs.Operate.{lone_by, lone_row}
 use Rattle.api_block.specs.State.{ApiState}
+use Rattle.node_core.specs.Blocks.{api_of, has_api}
 use Rattle.node_core.specs.declared.host.Host as host
-use Rattle.node_core.specs.declared.host.Host.TheVariants.{Shell, Node}
 use Rattle.node_core.specs.Replies.{replies_of}
 use Rattle.node_core.specs.Requests.{is_request}
-use Rattle.node_core.specs.Row.{in_shell, node_row, row, shell_row}
+use Rattle.node_core.specs.Row.{row}
+use Rattle.world_core.proofs.HostNumbers.{api_runs}
 use Rattle.world_core.specs.Machine.{after}
 use Rattle.world_core.specs.Start.{Start}
-use Rattle.answer_laws.proofs.ApiBegins.{in_middle}
-use Rattle.answer_laws.proofs.Hosts.{shell_after}
-use Rattle.answer_laws.proofs.LinkCounts.{steps}
-use Rattle.answer_laws.proofs.SendKinds.{are_of, none_of}
-use Rattle.answer_laws.proofs.Tally.{one_if, tally, tally_append, tally_none}
-use Rattle.answer_laws.proofs.TcKeys.{is_key, key_of_tx}
-use Rattle.answer_laws.proofs.TcLives.{is_start, start_of}
-use Rattle.answer_laws.proofs.TcMoves.{same_tx-is}
-use Rattle.answer_laws.proofs.Wishes.{is_api, is_tc, sends_of}
-use Rattle.answer_laws.specs.Answered.{opened_in}
+use Rattle.world_core.specs.Steps.{HostStep}
+use Rattle.host_laws.proofs.Tally.{tally_append, tally_none}
+use Rattle.host_laws.specs.Counts.{one_if, tally}
+use Rattle.host_laws.proofs.ApiBegins.{in_middle}
+use Rattle.host_laws.proofs.LinkCounts.{steps}
+use Rattle.host_laws.proofs.SendKinds.{are_of, none_of}
+use Rattle.host_laws.proofs.TcKeys.{is_key, key_of_tx}
+use Rattle.host_laws.proofs.TcLives.{is_start, start_of}
+use Rattle.host_laws.proofs.TcMoves.{same_tx-is}
+use Rattle.host_laws.proofs.Wishes.{is_api, is_tc, sends_of}
+use Rattle.host_laws.specs.Opened.{opened_in}
 use Rattle.command_laws.proofs.ApiChanges.{ApiChange, GoesOnAs, alone, answers, api_changes, commits, ends, idle, is_news_kind, is_row_reply, refuses, rests, starts, told, waits}
 use Rattle.command_laws.proofs.Entries.{HasOne}
+use Rattle.command_laws.proofs.HostKinds.{replies_are}
+use Rattle.command_laws.proofs.HostSteps.{api_host}
 use Rattle.command_laws.proofs.Since.{sent_since}
 use Rattle.command_laws.proofs.TellsOnce.{is_wish_back_to, wish_back_of}
 use Rattle.command_laws.proofs.Tests.{and_off}
@@ -111,40 +111,39 @@ module _ (s : ApiState) (body : Body) where
   change_lone step (starts called one at u about passes is goes) = inr (goes_lone one at.t u step goes)
   change_lone step (refuses called at about passes is replies sends) = inr (none_more step (Refused called TooManyOpen ∷ []) replies refl)
 
-shell_lone : (s : ApiState) (at : BlockId) (body : Body) → is_request body ≡ false
-    → ((is_api at ≡ true) × IsLoneStep body (shell_row s at body).state.opened) ⊎ (tally is_lone (shell_row s at body).state.replies ≡ tally is_lone s.replies)
-unfolding shell_row
-shell_lone s block.Api body plain = by (change_lone s body (api_row s body) (api_changes s body plain))
+host_lone : (g : host.Host) (x : Signal) → has_api g ≡ true → is_request x.body ≡ false
+    → ((is_api x.to.block ≡ true) × IsLoneStep x.body (opened_in (row g x).state)) ⊎ (tally is_lone (replies_of (row g x).state) ≡ tally is_lone (replies_of g))
+host_lone g x has plain =
+    by (api_host (λ (step : Step ApiState). ((is_api x.to.block ≡ true) × IsLoneStep x.body step.state.opened) ⊎ (tally is_lone step.state.replies ≡ tally is_lone (api_of g).replies)) g x has
+    (λ at. step_goes (api_row (api_of g) x).state at (change_lone (api_of g) x.body (api_row (api_of g) x) (api_changes (api_of g) x.body plain))) (λ off. inr refl))
   where
-    by : IsLoneStep body (api_row s body).state.opened ⊎ (tally is_lone (api_row s body).state.replies ≡ tally is_lone s.replies)
-        → ((true ≡ true) × IsLoneStep body (api_row s body).state.opened) ⊎ (tally is_lone (api_row s body).state.replies ≡ tally is_lone s.replies)
-    by (inl lone) = inl (refl, lone)
-    by (inr same) = inr same
-shell_lone s _ body plain = inr refl
+    step_goes : (s : ApiState) → x.to.block ≡ block.Api → IsLoneStep x.body s.opened ⊎ (tally is_lone s.replies ≡ tally is_lone (api_of g).replies)
+        → ((is_api x.to.block ≡ true) × IsLoneStep x.body s.opened) ⊎ (tally is_lone s.replies ≡ tally is_lone (api_of g).replies)
+    step_goes s at (inl lone) = inl (ap is_api at, lone)
+    step_goes s at (inr same) = inr same
 
-host_lone : (g : host.Host) (to : Place) (body : Body) → is_request body ≡ false
-    → ((is_api to.block ≡ true) × IsLoneStep body (opened_in (row g to body).state)) ⊎ (tally is_lone (replies_of (row g to body).state) ≡ tally is_lone (replies_of g))
-unfolding row replies_of
-host_lone (Shell s) to body plain = shell_lone s to.block body plain
-host_lone (Node n) to body plain = inr refl
+    by : ((is_api x.to.block ≡ true) × IsLoneStep x.body (api_of (row g x).state).opened) ⊎ (tally is_lone (api_of (row g x).state).replies ≡ tally is_lone (api_of g).replies)
+        → ((is_api x.to.block ≡ true) × IsLoneStep x.body (opened_in (row g x).state)) ⊎ (tally is_lone (replies_of (row g x).state) ≡ tally is_lone (replies_of g))
+    by (inl lone) = inl lone
+    by (inr same) = inr (ap (tally is_lone) (replies_are (row g x).state) ∙ same ∙ ap (tally is_lone) (sym (replies_are g)))
 
 -- one of these steps behind a log answers an operation alone
-pub record HasLone (start : Start) (later log : List LogStep) : Type 0 where
-  pub newer : List LogStep
-  pub step : LogStep
-  pub older : List LogStep
+pub record HasLone (start : Start) (later log : List HostStep) : Type 0 where
+  pub newer : List HostStep
+  pub step : HostStep
+  pub older : List HostStep
   pub is : later ≡ newer ++ step ∷ older
   pub tx : TxId
-  pub block : is_api step.taken.to.block ≡ true
-  pub lone : AnswersLone tx step.taken.body (opened_in (after start 0 (step ∷ (older ++ log))))
+  pub block : is_api step.step.taken.to.block ≡ true
+  pub lone : AnswersLone tx step.step.taken.body (opened_in (after start 0 (step ∷ (older ++ log))))
 
-pub lone_since : (start : Start) (later log : List LogStep) → Each (λ (e : LogStep). is_request e.taken.body ≡ false) later
+pub lone_since : (start : Start) (later log : List HostStep) → Each (λ (e : HostStep). is_request e.step.taken.body ≡ false) later
     → HasLone start later log ⊎ (tally is_lone (replies_of (after start 0 (later ++ log))) ≡ tally is_lone (replies_of (after start 0 log)))
 lone_since start [] log plain = inr refl
 lone_since start (e ∷ later) log plain = by (lone_since start later log plain.1)
   where
     next : tally is_lone (replies_of (after start 0 (later ++ log))) ≡ tally is_lone (replies_of (after start 0 log))
-        → ((is_api e.taken.to.block ≡ true) × IsLoneStep e.taken.body (opened_in (after start 0 (e ∷ (later ++ log)))))
+        → ((is_api e.step.taken.to.block ≡ true) × IsLoneStep e.step.taken.body (opened_in (after start 0 (e ∷ (later ++ log)))))
         ⊎ (tally is_lone (replies_of (after start 0 (e ∷ (later ++ log)))) ≡ tally is_lone (replies_of (after start 0 (later ++ log))))
         → HasLone start (e ∷ later) log ⊎ (tally is_lone (replies_of (after start 0 (e ∷ (later ++ log)))) ≡ tally is_lone (replies_of (after start 0 log)))
     next before (inl lone) = inl (record { newer = []; step = e; older = later; is = refl; tx = lone.1.0; block = lone.0; lone = lone.1.1 })
@@ -153,7 +152,7 @@ lone_since start (e ∷ later) log plain = by (lone_since start later log plain.
     by : HasLone start later log ⊎ (tally is_lone (replies_of (after start 0 (later ++ log))) ≡ tally is_lone (replies_of (after start 0 log)))
         → HasLone start (e ∷ later) log ⊎ (tally is_lone (replies_of (after start 0 (e ∷ (later ++ log)))) ≡ tally is_lone (replies_of (after start 0 log)))
     by (inl h) = inl (record { newer = e ∷ h.newer; step = h.step; older = h.older; is = ap (λ w. e ∷ w) h.is; tx = h.tx; block = h.block; lone = h.lone })
-    by (inr before) = next before (host_lone (after start 0 (later ++ log)) e.taken.to e.taken.body plain.0)
+    by (inr before) = next before (host_lone (after start 0 (later ++ log)) e.step.taken (api_runs start (later ++ log)) plain.0)
 
 module _ (tx : TxId) where
   none_news : (to : Place) (body : Body) → is_news_kind body ≡ true → (is_wish_back_to tx to body ≡ false) × (is_key tx to body ≡ false)
@@ -202,38 +201,33 @@ module _ (tx : TxId) where
     change_asks step (starts called one at u about passes is goes) = goes_asks called one at.t u step about goes
     change_asks step (refuses called at about passes is replies sends) = no_asks step.effects.sends sends
 
-  shell_asks : (s : ApiState) (at : BlockId) (body : Body) → is_request body ≡ false
-      → (sends_of (is_wish_back_to tx) (shell_row s at body).effects.sends ≡ 0) × (sends_of (is_key tx) (shell_row s at body).effects.sends ≤ one_if (is_api at && start_of tx body))
-  unfolding shell_row
-  shell_asks s block.Api body plain = let asks = change_asks s body (api_row s body) (api_changes s body plain) in (asks.wishes, asks.keys)
-  shell_asks s _ body plain = (refl, omega arith)
+  host_asks : (g : host.Host) (x : Signal) → has_api g ≡ true → is_request x.body ≡ false
+      → (sends_of (is_wish_back_to tx) (row g x).effects.sends ≡ 0) × (sends_of (is_key tx) (row g x).effects.sends ≤ one_if (is_start tx x.to x.body))
+  host_asks g x has plain =
+      api_host (λ (step : Step ApiState). (sends_of (is_wish_back_to tx) step.effects.sends ≡ 0) × (sends_of (is_key tx) step.effects.sends ≤ one_if (is_start tx x.to x.body))) g x has
+      (λ at. at_step at (change_asks (api_of g) x.body (api_row (api_of g) x) (api_changes (api_of g) x.body plain))) (λ off. (refl, omega arith))
+    where
+      at_step : {sends : List Outgoing} → x.to.block ≡ block.Api → AsksOnce x.body sends → (sends_of (is_wish_back_to tx) sends ≡ 0) × (sends_of (is_key tx) sends ≤ one_if (is_start tx x.to x.body))
+      at_step at asks = (asks.wishes, omega (arith, asks.keys, ap (λ of. one_if (is_api of && start_of tx x.body)) at))
 
-  host_asks : (g : host.Host) (s : ApiState) (to : Place) (body : Body) → g ≡ Shell s → is_request body ≡ false
-      → (sends_of (is_wish_back_to tx) (row g to body).effects.sends ≡ 0) × (sends_of (is_key tx) (row g to body).effects.sends ≤ one_if (is_start tx to body))
-  unfolding row
-  host_asks (Shell t) s to body is plain = shell_asks t to.block body plain
-  host_asks (Node n) s to body is plain = cc
-
-  pub asks_since : (start : Start) (later log : List LogStep) → Each (λ (e : LogStep). is_request e.taken.body ≡ false) later
+  pub asks_since : (start : Start) (later log : List HostStep) → Each (λ (e : HostStep). is_request e.step.taken.body ≡ false) later
       → (sent_since start (is_wish_back_to tx) 0 later log ≡ 0) × (sent_since start (is_key tx) 0 later log ≤ steps (is_start tx) later)
   asks_since start [] log plain = (refl, omega arith)
   asks_since start (e ∷ later) log plain =
       let rest = asks_since start later log plain.1 in
-      let s = shell_after start (later ++ log) in
-      let here = host_asks (after start 0 (later ++ log)) s.state e.taken.to e.taken.body s.is plain.0 in
+      let here = host_asks (after start 0 (later ++ log)) e.step.taken (api_runs start (later ++ log)) plain.0 in
       (omega (arith, rest.0, here.0), omega (arith, rest.1, here.1))
 
 -- the request of an operation alone asks for a transaction alone, and answers none
-pub record LoneFirst (tx : TxId) (g : host.Host) (step : Step host.Host) : Type 0 where
+pub record LoneFirst (tx : TxId) (s : ApiState) (step : Step ApiState) : Type 0 where
   pub wishes : sends_of (is_wish_back_to tx) step.effects.sends ≡ 0
   pub keys : sends_of (is_key tx) step.effects.sends ≡ 0
-  pub lone : tally is_lone (replies_of step.state) ≡ tally is_lone (replies_of g)
+  pub lone : tally is_lone step.state.replies ≡ tally is_lone s.replies
 
-pub lone_first : (tx : TxId) (g : host.Host) (op : Op) → LoneFirst tx g (row g client (Host (Continue (work.Request (request.Operate None op)) 0)))
-unfolding row shell_row node_row request_row lone_row replies_of
-lone_first tx (Shell s) op = by (least_node s.view.full)
+pub lone_first : (tx : TxId) (s : ApiState) (op : Op) → LoneFirst tx s (request_row s (request.Operate None op))
+unfolding request_row lone_row
+lone_first tx s op = by (least_node s.view.full)
   where
-    by : (o : Option ℕ) → LoneFirst tx (Shell s) (in_shell (lone_by s op o))
+    by : (o : Option ℕ) → LoneFirst tx s (lone_by s op o)
     by None = record { wishes = refl; keys = refl; lone = omega (arith, tally_append is_lone s.replies (Refused None (NoMember 0) ∷ [])) }
     by (Some node) = record { wishes = refl; keys = refl; lone = refl }
-lone_first tx (Node n) op = record { wishes = refl; keys = refl; lone = refl }

@@ -2,7 +2,7 @@
 use Rattle.std.proofs.Common.{◌≡◌, ◌⊎◌, ◌≤◌, ℕ, zero, suc, Bool, true, false, List, [], ◌∷◌, ◌++◌, refl, sym, ap, ◌∙◌, subst, inl, inr, arith}
 use Rattle.std.specs.Prelude.{◌&&◌, Option, None, Some}
 use Rattle.run_theory.specs.Lists.{Each, IsIn}
-use Rattle.sig_core.specs.declared.log.LogStep.{LogStep}
+use Rattle.sig_core.proofs.Keys.{same_tx-self}
 use Rattle.sig_core.specs.declared.member.Member.{Member}
 use Rattle.sig_core.specs.declared.member.TxId.{TxId}
 use Rattle.sig_core.specs.declared.op.Op.{Op}
@@ -15,38 +15,40 @@ use Rattle.sig_core.specs.declared.request.ApiReq.TheVariants as request
 use Rattle.sig_core.specs.declared.signal.Body.{Body}
 use Rattle.sig_core.specs.declared.signal.Body.TheVariants.{Host, Client}
 use Rattle.sig_core.specs.declared.signal.client.ClientSignal.TheVariants.{TcBeginConf}
-use Rattle.sig_core.specs.declared.signal.host.HostSignal.TheVariants.{Continue}
-use Rattle.sig_core.specs.declared.signal.host.Work.TheVariants as work
+use Rattle.sig_core.specs.declared.signal.Signal.{Signal}
 use Rattle.sig_core.specs.declared.view.View.{View}
-use Rattle.sig_core.specs.Place.{client}
 use Rattle.sig_core.specs.Step.{Step, stay}
+use Rattle.frag_map.specs.Layout.{first_view, members}
+use Rattle.api_block.specs.Api.{api_row, api_table, request_row}
 use Rattle.api_block.specs.declared.opened.Doing.{Doing}
 use Rattle.api_block.specs.declared.opened.Doing.TheVariants.{Beginning, Operating}
 use Rattle.api_block.specs.declared.opened.OpenTransaction.{OpenTransaction}
-use Rattle.api_block.specs.Api.{api_row, request_row}
 use Rattle.api_block.specs.Members.{least_node}
 use Rattle.api_block.specs.Opened.{asked_for, begins, begins_at, begun_operating, behind, is_beginning, is_tx, same_name}
 use Rattle.api_block.specs.Operate.{begun_by, begun_row, lone_by, lone_row}
 use Rattle.api_block.specs.State.{ApiState}
+use Rattle.node_core.specs.Blocks.{api_of, has_api}
 use Rattle.node_core.specs.declared.host.Host as host
-use Rattle.node_core.specs.declared.host.Host.TheVariants.{Shell, Node}
 use Rattle.node_core.specs.Replies.{replies_of}
 use Rattle.node_core.specs.Requests.{is_request}
-use Rattle.node_core.specs.Row.{in_shell, row, shell_row}
+use Rattle.node_core.specs.Row.{row}
+use Rattle.world_core.proofs.HostNumbers.{api_runs}
 use Rattle.world_core.specs.Machine.{after}
-use Rattle.world_core.specs.Start.{Start, members}
-use Rattle.answer_laws.proofs.ApiBegins.{in_middle, same_name-is}
-use Rattle.answer_laws.proofs.Focus.{IsFocus, where_found}
-use Rattle.answer_laws.proofs.Hosts.{IsShell}
-use Rattle.answer_laws.proofs.Tally.{one_if, only_one, tally, tally_append, tally_between, tally_none}
-use Rattle.answer_laws.proofs.TcLives.{is_start, start_of}
-use Rattle.answer_laws.proofs.Wishes.{is_api, sends_of}
-use Rattle.answer_laws.specs.Answered.{opened_in}
+use Rattle.world_core.specs.Start.{Start}
+use Rattle.world_core.specs.Steps.{HostStep}
+use Rattle.host_laws.proofs.Tally.{only_one, tally_append, tally_between, tally_none}
+use Rattle.host_laws.specs.Counts.{one_if, tally}
+use Rattle.host_laws.proofs.ApiBegins.{in_middle, same_name-is}
+use Rattle.host_laws.proofs.Focus.{IsFocus, where_found}
+use Rattle.host_laws.proofs.LqhOps.{left_of}
+use Rattle.host_laws.proofs.TcLives.{is_start, start_of}
+use Rattle.host_laws.proofs.Wishes.{is_api, sends_of}
+use Rattle.host_laws.specs.Opened.{opened_in}
 use Rattle.command_laws.proofs.ApiChanges.{ApiChange, IsOneOf, answers, api_changes, commits, ends, refuses, rests, starts, waits}
 use Rattle.command_laws.proofs.EarlySteps.{is_wish_to}
-use Rattle.sig_core.proofs.Keys.{same_tx-self}
-use Rattle.answer_laws.proofs.LqhOps.{left_of}
 use Rattle.command_laws.proofs.Entries.{HasOne, IsApart, NoneBegins, here_or_apart}
+use Rattle.command_laws.proofs.HostKinds.{replies_are}
+use Rattle.command_laws.proofs.HostSteps.{api_host, api_seen}
 
 abbrev begins_any : OpenTransaction → Bool
 begins_any t = is_beginning t.doing
@@ -135,37 +137,42 @@ module _ (op : Op) where
     not_busy t doing is off same =
         let both : false ≡ true = sym off ∙ ap is_beginning (sym is) ∙ ap (λ (x : OpenTransaction). is_beginning x.doing) (sym same) ∙ ap is_beginning has.does in cc
 
-    change_goes : (body : Body) → ApiChange s body (api_row s body) → AloneGoes s body (api_row s body)
+    -- the step is about the transaction, or about another one
+    about_one : (body : Body) (at : IsOneOf s.opened) → (has.item ≡ at.t → AloneGoes s body (api_table s body))
+        → (IsApart has.item at.front at.back → IsAlone op (api_table s body).state.opened) → AloneGoes s body (api_table s body)
     unfolding AloneGoes
-    change_goes body (rests is adds kind) = inl (as_before _ (subst (IsIn has.item) (sym is) has.inside) (omega (arith, has.only, ap (tally begins_any) is)))
-    change_goes body (waits one ahead at about is replies sends) = by (here_or_apart has.item s.opened at has.inside)
+    about_one body at here apart = by (here_or_apart has.item s.opened at has.inside)
       where
-        by : (has.item ≡ at.t) ⊎ IsApart has.item at.front at.back → AloneGoes s body (api_row s body)
-        by (inl same) = inl (record {
+        by : (has.item ≡ at.t) ⊎ IsApart has.item at.front at.back
+            → IsAlone op (api_table s body).state.opened ⊎ (BeginsHere body (api_table s body).state.opened ⊎ IsRefusedHere s (api_table s body))
+        by (inl same) = here same
+        by (inr others) = inl (apart others)
+
+    change_goes : (body : Body) → ApiChange s body (api_table s body) → AloneGoes s body (api_table s body)
+    unfolding AloneGoes
+    change_goes body (rests is adds kind) =
+        inl (as_before _ (subst (IsIn has.item) (sym is) has.inside) (omega (arith, has.only, ap (tally begins_any) is)))
+    change_goes body (waits one ahead at about is replies sends) =
+        about_one body at (λ same. inl (record {
           item = behind at.t (Some ahead);
           inside = subst (IsIn (behind at.t (Some ahead))) (sym is) (in_middle at.front (behind at.t (Some ahead)) at.back);
           called = ap (λ (x : OpenTransaction). x.name) (sym same) ∙ has.called;
           does = ap (λ (x : OpenTransaction). x.doing) (sym same) ∙ has.does;
           unborn = ap (λ (x : OpenTransaction). x.tx) (sym same) ∙ has.unborn;
           only = fewer at (behind at.t (Some ahead)) _ is (omega arith);
-        })
-        by (inr others) = inl (as_before _ (subst (IsIn has.item) (sym is) (others.kept _)) (fewer at (behind at.t (Some ahead)) _ is (omega arith)))
-    change_goes body (answers one answer called at about passes does named is replies sends) = by (here_or_apart has.item s.opened at has.inside)
-      where
-        by : (has.item ≡ at.t) ⊎ IsApart has.item at.front at.back → AloneGoes s body (api_row s body)
-        by (inl same) = absurd (not_busy at.t Operating does refl same)
-        by (inr others) = inl (as_before _ (subst (IsIn has.item) (sym is) (others.kept _)) (fewer at _ _ is (omega arith)))
-    change_goes body (commits one answer at about passes does named is replies sends) = by (here_or_apart has.item s.opened at has.inside)
-      where
-        by : (has.item ≡ at.t) ⊎ IsApart has.item at.front at.back → AloneGoes s body (api_row s body)
-        by (inl same) = absurd (not_busy at.t Operating does refl same)
-        by (inr others) = inl (as_before _ (subst (IsIn has.item) (sym is) (others.kept _)) (fewer at _ _ is (omega arith)))
-    change_goes body (ends one end at about passes is replies marks sends) = by (here_or_apart has.item s.opened at has.inside)
-      where
-        by : (has.item ≡ at.t) ⊎ IsApart has.item at.front at.back → AloneGoes s body (api_row s body)
-        by (inl same) = absurd (let both : false ≡ true = ap (is_tx one) (sym has.unborn) ∙ ap (λ (x : OpenTransaction). is_tx one x.tx) same ∙ passes in cc)
-        by (inr others) = inl (as_before _ (subst (IsIn has.item) (sym is) others.left) (gone at _ is))
-    change_goes body (starts called one at u about passes is goes) = subst (λ b. AloneGoes s b (api_row s b)) (sym about) (begins_there called one)
+        }))
+        (λ others. as_before _ (subst (IsIn has.item) (sym is) (others.kept _)) (fewer at (behind at.t (Some ahead)) _ is (omega arith)))
+    change_goes body (answers one answer called at about passes does named is replies sends) =
+        about_one body at (λ same. absurd (not_busy at.t Operating does refl same))
+        (λ others. as_before _ (subst (IsIn has.item) (sym is) (others.kept _)) (fewer at _ _ is (omega arith)))
+    change_goes body (commits one answer at about passes does named is replies sends) =
+        about_one body at (λ same. absurd (not_busy at.t Operating does refl same))
+        (λ others. as_before _ (subst (IsIn has.item) (sym is) (others.kept _)) (fewer at _ _ is (omega arith)))
+    change_goes body (ends one end at about passes is replies marks sends) =
+        about_one body at
+        (λ same. absurd (let both : false ≡ true = ap (is_tx one) (sym has.unborn) ∙ ap (λ (x : OpenTransaction). is_tx one x.tx) same ∙ passes in cc))
+        (λ others. as_before _ (subst (IsIn has.item) (sym is) others.left) (gone at _ is))
+    change_goes body (starts called one at u about passes is goes) = subst (λ b. AloneGoes s b (api_table s b)) (sym about) (begins_there called one)
     change_goes body (refuses called at about passes is replies sends) =
         let same = is_that at.t (is_inside at) (left_of (is_beginning at.t.doing) (same_name at.t.name called) passes) in
         inr (inr (replies ∙ ap (λ n. s.replies ++ Refused n TooManyOpen ∷ []) (no_name at.t called same (last_of (is_beginning at.t.doing) (same_name at.t.name called) passes))))
@@ -183,60 +190,56 @@ module _ (op : Op) where
   abbrev IsRefusedNow : host.Host → Step host.Host → Type 0
   IsRefusedNow g step = replies_of step.state ≡ replies_of g ++ Refused None TooManyOpen ∷ []
 
-  shell_goes : (s : ApiState) (at : BlockId) (body : Body) → is_request body ≡ false → IsAlone op s.opened
-      → IsAlone op (shell_row s at body).state.opened ⊎ (((is_api at ≡ true) × BeginsHere body (shell_row s at body).state.opened) ⊎ IsRefusedHere s (shell_row s at body))
-  unfolding shell_row AloneGoes
-  shell_goes s block.Api body plain has = by (change_goes s has body (api_changes s body plain))
-    where
-      by : IsAlone op (api_row s body).state.opened ⊎ (BeginsHere body (api_row s body).state.opened ⊎ IsRefusedHere s (api_row s body))
-          → IsAlone op (api_row s body).state.opened ⊎ (((true ≡ true) × BeginsHere body (api_row s body).state.opened) ⊎ IsRefusedHere s (api_row s body))
-      by (inl goes) = inl goes
-      by (inr (inl begun_here)) = inr (inl (refl, begun_here))
-      by (inr (inr refused_here)) = inr (inr refused_here)
-  shell_goes s _ body plain has = inl has
+  begin_told : (tx : TxId) (at : BlockId) (body : Body) → at ≡ block.Api → body ≡ Client (TcBeginConf None tx) → (is_api at && start_of tx body) ≡ true
+  begin_told tx at body api about = ap (λ b. is_api at && start_of tx b) about ∙ ap (λ a. is_api a && start_of tx (Client (TcBeginConf None tx))) api ∙ same_tx-self tx
 
-  begin_told : (tx : TxId) (at : BlockId) (body : Body) → is_api at ≡ true → body ≡ Client (TcBeginConf None tx) → (is_api at && start_of tx body) ≡ true
-  begin_told tx at body api about = ap (λ b. is_api at && start_of tx b) about ∙ ap (λ a. a && start_of tx (Client (TcBeginConf None tx))) api ∙ same_tx-self tx
+  abbrev GoesHere : ApiState → Place → Body → Step ApiState → Type 0
+  GoesHere s to body step = IsAlone op step.state.opened ⊎ (BeginsNow to body step.state.opened ⊎ IsRefusedHere s step)
 
-  host_goes : (g : host.Host) (to : Place) (body : Body) → is_request body ≡ false → IsAlone op (opened_in g)
-      → IsAlone op (opened_in (row g to body).state) ⊎ (BeginsNow to body (opened_in (row g to body).state) ⊎ IsRefusedNow g (row g to body))
-  unfolding row replies_of
-  host_goes (Shell s) to body plain has = by (shell_goes s to.block body plain has)
+  step_goes : (s : ApiState) (to : Place) (body : Body) → to.block ≡ block.Api → (step : Step ApiState) → AloneGoes s body step → GoesHere s to body step
+  unfolding AloneGoes
+  step_goes s to body at step (inl goes) = inl goes
+  step_goes s to body at step (inr (inl b)) = inr (inl (record { tx = b.tx; start = begin_told b.tx to.block body at b.about; has = b.has }))
+  step_goes s to body at step (inr (inr refused_here)) = inr (inr refused_here)
+
+  host_goes : (g : host.Host) (x : Signal) → has_api g ≡ true → is_request x.body ≡ false → IsAlone op (opened_in g)
+      → IsAlone op (opened_in (row g x).state) ⊎ (BeginsNow x.to x.body (opened_in (row g x).state) ⊎ IsRefusedNow g (row g x))
+  host_goes g x has plain had =
+      by (api_host (GoesHere (api_of g) x.to x.body) g x has
+      (λ at. step_goes (api_of g) x.to x.body at (api_row (api_of g) x) (change_goes (api_of g) had x.body (api_changes (api_of g) x.body plain))) (λ off. inl had))
     where
-      by : IsAlone op (shell_row s to.block body).state.opened ⊎ (((is_api to.block ≡ true) × BeginsHere body (shell_row s to.block body).state.opened) ⊎ IsRefusedHere s (shell_row s to.block body))
-          → IsAlone op (opened_in (in_shell (shell_row s to.block body)).state) ⊎ (BeginsNow to body (opened_in (in_shell (shell_row s to.block body)).state) ⊎ IsRefusedNow (Shell s) (in_shell (shell_row s to.block body)))
+      by : GoesHere (api_of g) x.to x.body (api_seen (row g x)) → IsAlone op (opened_in (row g x).state) ⊎ (BeginsNow x.to x.body (opened_in (row g x).state) ⊎ IsRefusedNow g (row g x))
       by (inl goes) = inl goes
-      by (inr (inl b)) = inr (inl (record { tx = b.1.tx; start = begin_told b.1.tx to.block body b.0 b.1.about; has = b.1.has }))
-      by (inr (inr refused_here)) = inr (inr refused_here)
-  host_goes (Node n) to body plain has = absurd has.inside
+      by (inr (inl b)) = inr (inl b)
+      by (inr (inr refused_here)) = inr (inr (replies_are (row g x).state ∙ refused_here ∙ ap (λ rs. rs ++ Refused None TooManyOpen ∷ []) (sym (replies_are g))))
 
   -- in one of these steps behind a log it began
-  pub record HasBegun (start : Start) (later log : List LogStep) : Type 0 where
-    pub newer : List LogStep
-    pub step : LogStep
-    pub older : List LogStep
+  pub record HasBegun (start : Start) (later log : List HostStep) : Type 0 where
+    pub newer : List HostStep
+    pub step : HostStep
+    pub older : List HostStep
     pub is : later ≡ newer ++ step ∷ older
     pub tx : TxId
-    pub begun : is_start tx step.taken.to step.taken.body ≡ true
+    pub begun : is_start tx step.step.taken.to step.step.taken.body ≡ true
     pub has : HasOne tx None Operating (opened_in (after start 0 (step ∷ (older ++ log))))
 
   -- or it was refused
-  pub record WasRefused (start : Start) (later log : List LogStep) : Type 0 where
-    pub newer : List LogStep
-    pub step : LogStep
-    pub older : List LogStep
+  pub record WasRefused (start : Start) (later log : List HostStep) : Type 0 where
+    pub newer : List HostStep
+    pub step : HostStep
+    pub older : List HostStep
     pub is : later ≡ newer ++ step ∷ older
     pub told : replies_of (after start 0 (step ∷ (older ++ log))) ≡ replies_of (after start 0 (older ++ log)) ++ Refused None TooManyOpen ∷ []
 
   -- along steps that aren't requests
-  pub begin_goes : (start : Start) (later log : List LogStep) → Each (λ (e : LogStep). is_request e.taken.body ≡ false) later → IsAlone op (opened_in (after start 0 log))
+  pub begin_goes : (start : Start) (later log : List HostStep) → Each (λ (e : HostStep). is_request e.step.taken.body ≡ false) later → IsAlone op (opened_in (after start 0 log))
       → IsAlone op (opened_in (after start 0 (later ++ log))) ⊎ (HasBegun start later log ⊎ WasRefused start later log)
   begin_goes start [] log plain has = inl has
   begin_goes start (e ∷ later) log plain has = by (begin_goes start later log plain.1 has)
     where
-      next : IsAlone op (opened_in (row (after start 0 (later ++ log)) e.taken.to e.taken.body).state)
-          ⊎ (BeginsNow e.taken.to e.taken.body (opened_in (row (after start 0 (later ++ log)) e.taken.to e.taken.body).state)
-          ⊎ IsRefusedNow (after start 0 (later ++ log)) (row (after start 0 (later ++ log)) e.taken.to e.taken.body))
+      next : IsAlone op (opened_in (row (after start 0 (later ++ log)) e.step.taken).state)
+          ⊎ (BeginsNow e.step.taken.to e.step.taken.body (opened_in (row (after start 0 (later ++ log)) e.step.taken).state)
+          ⊎ IsRefusedNow (after start 0 (later ++ log)) (row (after start 0 (later ++ log)) e.step.taken))
           → IsAlone op (opened_in (after start 0 (e ∷ (later ++ log)))) ⊎ (HasBegun start (e ∷ later) log ⊎ WasRefused start (e ∷ later) log)
       next (inl goes) = inl goes
       next (inr (inl b)) = inr (inl (record { newer = []; step = e; older = later; is = refl; tx = b.tx; begun = b.start; has = b.has }))
@@ -244,7 +247,7 @@ module _ (op : Op) where
 
       by : IsAlone op (opened_in (after start 0 (later ++ log))) ⊎ (HasBegun start later log ⊎ WasRefused start later log)
           → IsAlone op (opened_in (after start 0 (e ∷ (later ++ log)))) ⊎ (HasBegun start (e ∷ later) log ⊎ WasRefused start (e ∷ later) log)
-      by (inl goes) = next (host_goes (after start 0 (later ++ log)) e.taken.to e.taken.body plain.0 goes)
+      by (inl goes) = next (host_goes (after start 0 (later ++ log)) e.step.taken (api_runs start (later ++ log)) plain.0 goes)
       by (inr (inl b)) = inr (inl (record { newer = e ∷ b.newer; step = b.step; older = b.older; is = ap (λ w. e ∷ w) b.is; tx = b.tx; begun = b.begun; has = b.has }))
       by (inr (inr r)) = inr (inr (record { newer = e ∷ r.newer; step = r.step; older = r.older; is = ap (λ w. e ∷ w) r.is; told = r.told }))
 
@@ -259,14 +262,14 @@ least_of zero some = absurd (omega (arith, some))
 least_of (suc n) some = least_there (members n) _
 
 -- the request of an operation alone asks for its transaction
-pub record IsAskedAlone (op : Op) (step : Step host.Host) : Type 0 where
-  pub alone : IsAlone op (opened_in step.state)
+pub record IsAskedAlone (op : Op) (step : Step ApiState) : Type 0 where
+  pub alone : IsAlone op step.state.opened
   pub wishes : (tx : TxId) → sends_of (is_wish_to tx) step.effects.sends ≡ 0
 
-pub alone_first : (start : Start) (g : host.Host) (op : Op) → IsShell start g → 1 ≤ start.nodes → NoneBegins (opened_in g)
-    → IsAskedAlone op (row g client (Host (Continue (work.Request (request.Operate None op)) 0)))
-unfolding row shell_row request_row lone_row
-alone_first start (Shell s) op shell some calm = subst (λ o. IsAskedAlone op (in_shell (lone_by s op o))) (sym there) (record {
+pub alone_first : (start : Start) (s : ApiState) (op : Op) → s.view ≡ first_view start.shape.nodes → 1 ≤ start.shape.nodes → NoneBegins s.opened
+    → IsAskedAlone op (request_row s (request.Operate None op))
+unfolding request_row lone_row
+alone_first start s op view some calm = subst (λ o. IsAskedAlone op (lone_by s op o)) (sym there) (record {
   alone = record {
     item = asked_for None least.0 (Some op);
     inside = in_middle s.opened (asked_for None least.0 (Some op)) [];
@@ -278,12 +281,8 @@ alone_first start (Shell s) op shell some calm = subst (λ o. IsAskedAlone op (i
   wishes = λ tx. refl;
 })
   where
-    least : (node : ℕ) × (least_node (members start.nodes) ≡ Some node)
-    least = least_of start.nodes some
-
-    own : (a b : ApiState) → Shell a ≡ Shell b → a ≡ b
-    own a b e = cc
+    least : (node : ℕ) × (least_node (members start.shape.nodes) ≡ Some node)
+    least = least_of start.shape.nodes some
 
     there : least_node s.view.full ≡ Some least.0
-    there = ap (λ (t : ApiState). least_node t.view.full) (own s shell.state shell.is) ∙ ap (λ (v : View). least_node v.full) shell.view ∙ least.1
-alone_first start (Node n) op shell some calm = absurd (let is : Node n ≡ Shell shell.state = shell.is in cc)
+    there = ap (λ (v : View). least_node v.full) view ∙ least.1

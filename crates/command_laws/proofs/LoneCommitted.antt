@@ -1,16 +1,14 @@
 -- An operation alone that is answered ends in its being committed.
 use Rattle.std.proofs.Common.{◌≡◌, ◌≢◌, ◌⊎◌, ◌<◌, ◌≤◌, ◌+◌, ℕ, zero, suc, Bool, true, false, List, [], ◌∷◌, ◌++◌, refl, sym, ap, ◌∙◌, subst, inl, inr, append_assoc, arith}
 use Rattle.std.proofs.lemmas.Bool.{cases_eq, cases_lt}
-use Rattle.std.proofs.Math.Seq.{drop-append_seam}
 use Rattle.std.proofs.lemmas.Bool.Decides.{nat_tests}
+use Rattle.std.proofs.Math.Seq.{drop-append_seam}
 use Rattle.std.specs.Prelude.{◌==◌, ◌&&◌, Option, None, Some, drop, is_some, length}
+use Rattle.run_theory.proofs.Pasts.{each_before, each_in, each_map}
 use Rattle.run_theory.specs.Cuts.{IsCut}
 use Rattle.run_theory.specs.Links.{is_from}
 use Rattle.run_theory.specs.Lists.{Each, IsIn, IsPast}
-use Rattle.run_theory.specs.Logs.{IsLog}
-use Rattle.run_theory.proofs.Links.{log_after}
-use Rattle.run_theory.proofs.Pasts.{each_before, each_in, each_map}
-use Rattle.sig_core.specs.declared.log.LogStep.{LogStep}
+use Rattle.sig_core.proofs.Keys.{same_tx-self}
 use Rattle.sig_core.specs.declared.member.TxId.{TxId}
 use Rattle.sig_core.specs.declared.op.Op.{Op}
 use Rattle.sig_core.specs.declared.place.Place.{Place}
@@ -19,59 +17,73 @@ use Rattle.sig_core.specs.declared.request.ApiReq.TheVariants.{Operate}
 use Rattle.sig_core.specs.declared.signal.Body.{Body}
 use Rattle.sig_core.specs.declared.signal.Body.TheVariants.{Client}
 use Rattle.sig_core.specs.declared.signal.client.ClientSignal.TheVariants.{TcKeyReq, TcRollbackReq}
-use Rattle.sig_core.specs.Place.{client}
 use Rattle.sig_core.specs.Same.{same_tx}
 use Rattle.api_block.specs.declared.opened.Doing.TheVariants.{Committing}
 use Rattle.node_core.proofs.HostLemmas.{IsFront}
-use Rattle.node_core.specs.declared.host.Host as host
-use Rattle.node_core.specs.declared.host.Host.TheVariants.{Shell, Node}
+use Rattle.node_core.specs.Blocks.{api_of, tc_of}
 use Rattle.node_core.specs.Replies.{replies_of}
 use Rattle.node_core.specs.Requests.{is_request}
-use Rattle.node_core.specs.Row.{row}
 use Rattle.tc_block.specs.declared.transaction.Transaction.{Transaction}
+use Rattle.tc_block.specs.State.{TcState}
+use Rattle.world_core.proofs.HostNumbers.{addressed_at, beyond_host, host_some}
 use Rattle.world_core.proofs.Replies.{replies_grow}
-use Rattle.world_core.specs.Machine.{after, hosts, machine, step_after}
+use Rattle.world_core.specs.Hosts.{home, host_for, hosts}
+use Rattle.world_core.specs.Machine.{after, machine, step_after}
 use Rattle.world_core.specs.Start.{Start}
-use Rattle.answer_laws.proofs.ApiBegins.{in_middle}
-use Rattle.answer_laws.proofs.LinkCounts.{all_three, signals, steps, taken_steps}
-use Rattle.answer_laws.proofs.Lives.{NodeKeeps, keeps, once_started}
-use Rattle.answer_laws.proofs.Tally.{one_if, tally, tally_append, tally_in}
-use Rattle.answer_laws.proofs.TcKeys.{answer_of, is_asked, is_key, key_of_tx}
-use Rattle.answer_laws.proofs.TcLives.{is_keyed, is_start}
-use Rattle.answer_laws.proofs.Wishes.{is_api, is_tc}
-use Rattle.answer_laws.specs.Answered.{EachIsAnswered, is_answered_by, opened_after, opened_in}
-use Rattle.command_laws.proofs.CommitGoes.{HasEnded, commit_goes}
+use Rattle.world_core.specs.Steps.{HostStep}
+use Rattle.host_laws.proofs.Tally.{tally_append, tally_in}
+use Rattle.host_laws.specs.Counts.{one_if, tally}
+use Rattle.host_laws.proofs.ApiBegins.{in_middle}
+use Rattle.host_laws.proofs.LinkCounts.{all_three, signals, steps}
+use Rattle.answer_laws.proofs.Lives.{once_started}
+use Rattle.host_laws.proofs.TcKeys.{answer_of, is_asked, is_key, key_of_tx}
+use Rattle.host_laws.proofs.TcLives.{is_keyed, is_start}
+use Rattle.host_laws.proofs.Wishes.{is_api, is_tc}
+use Rattle.answer_laws.specs.Answered.{EachIsAnswered, is_answered_by}
+use Rattle.host_laws.specs.Opened.{opened_after, opened_in}
 use Rattle.command_laws.proofs.Committed.{cut_at_first, sent_append}
 use Rattle.command_laws.proofs.Entries.{HasOne}
+use Rattle.command_laws.proofs.EntryGoes.{HasEnded, commit_goes}
 use Rattle.command_laws.proofs.FirmHosts.{back_of, is_back}
-use Rattle.command_laws.proofs.First.{IsFirst, request_first}
+use Rattle.command_laws.proofs.First.{IsFirst, first_step, request_first}
+use Rattle.command_laws.proofs.Homes.{lives_begun}
+use Rattle.command_laws.proofs.HostKinds.{replies_are}
+use Rattle.command_laws.proofs.HostSteps.{api_seen}
 use Rattle.command_laws.proofs.LoneAsks.{HasLone, LoneFirst, asks_since, is_lone, lone_first, lone_since}
 use Rattle.command_laws.proofs.Pushes.{is_node_kind, node_since}
 use Rattle.command_laws.proofs.Reported.{reported}
 use Rattle.command_laws.proofs.Since.{few_taken, front_nil, none_taken, sent_since, taken_since}
-use Rattle.command_laws.proofs.TellsOnce.{HasTold, IsOneOfThree, is_wish_back_to, wish_back_of}
-use Rattle.command_laws.proofs.TellsSince.{OnTc, away_since, shell_since, since_none, tells_since}
-use Rattle.command_laws.proofs.TurnTells.{is_reply}
+use Rattle.command_laws.proofs.TellsOnce.{IsOneOfThree, is_wish_back_to, wish_back_of}
+use Rattle.command_laws.proofs.TellsSince.{away_since, shell_since, since_none, tells_since}
 use Rattle.command_laws.proofs.Tests.{and_off, none_at}
-use Rattle.sig_core.proofs.Keys.{same_tx-self}
+use Rattle.command_laws.proofs.TurnTells.{is_reply}
 use Rattle.command_laws.specs.Served.{IsAnsweredAlone, IsCommittedAlone, IsServed, LoneAreCommitted}
 
 -- signals that one host alone sent were taken from that host
-pub steps_from_one : (start : Start) (test : Place → Body → Bool) (i : ℕ) → ((to : Place) (body : Body) → test to body ≡ true → is_request body ≡ false) → (newer : List LogStep)
+pub steps_from_one : (start : Start) (test : Place → Body → Bool) (i : ℕ) → ((to : Place) (body : Body) → test to body ≡ true → is_request body ≡ false) → (newer : List HostStep)
     → ((k : ℕ) → k ≢ i → taken_since start test k newer ≡ 0) → steps test newer ≤ taken_since start test i newer
 steps_from_one start test i plain [] none = omega arith
-steps_from_one start test i plain (e ∷ newer) none = by (test e.taken.to e.taken.body) refl (steps_from_one start test i plain newer (λ k differs. omega (arith, none k differs)))
+steps_from_one start test i plain (e ∷ newer) none = by (test e.step.taken.to e.step.taken.body) refl (steps_from_one start test i plain newer (λ k differs. omega (arith, none k differs)))
   where
-    from : (k : ℕ) → e.taken.from.0 ≡ k → test e.taken.to e.taken.body ≡ true → (is_from (machine start) k e && test e.taken.to e.taken.body) ≡ true
-    from k at is = all_three (is_request e.taken.body) (e.taken.from.0 == k) (test e.taken.to e.taken.body) (plain e.taken.to e.taken.body is) (grind (arith, nat_tests, at)) is
+    from : (k : ℕ) → e.step.taken.from.0 ≡ k → test e.step.taken.to e.step.taken.body ≡ true → (is_from (machine start) k e && test e.step.taken.to e.step.taken.body) ≡ true
+    from k at is = all_three (is_request e.step.taken.body) (e.step.taken.from.0 == k) (test e.step.taken.to e.step.taken.body) (plain e.step.taken.to e.step.taken.body is) (grind (arith, nat_tests, at)) is
 
-    by : (b : Bool) → test e.taken.to e.taken.body ≡ b → steps test newer ≤ taken_since start test i newer → one_if b + steps test newer ≤ taken_since start test i (e ∷ newer)
+    by : (b : Bool) → test e.step.taken.to e.step.taken.body ≡ b → steps test newer ≤ taken_since start test i newer → one_if b + steps test newer ≤ taken_since start test i (e ∷ newer)
     by false is less = omega (arith, less)
-    by true is less = at (cases_eq e.taken.from.0 i)
+    by true is less = at (cases_eq e.step.taken.from.0 i)
       where
-        at : (e.taken.from.0 ≡ i) ⊎ (e.taken.from.0 ≢ i) → one_if true + steps test newer ≤ taken_since start test i (e ∷ newer)
+        at : (e.step.taken.from.0 ≡ i) ⊎ (e.step.taken.from.0 ≢ i) → one_if true + steps test newer ≤ taken_since start test i (e ∷ newer)
         at (inl same) = omega (arith, less, ap one_if (from i same is))
-        at (inr differs) = absurd (omega (arith, none e.taken.from.0 differs, ap one_if (from e.taken.from.0 refl is)))
+        at (inr differs) = absurd (omega (arith, none e.step.taken.from.0 differs, ap one_if (from e.step.taken.from.0 refl is)))
+
+-- what is for the shell's host is for no node
+client_node : (start : Start) (to : Place) → host_for start to ≡ 0 → to.node ≡ 0
+client_node start to is = by (cases_lt to.node 1) (cases_lt start.shape.nodes to.node)
+  where
+    by : (to.node < 1) ⊎ (1 ≤ to.node) → (start.shape.nodes < to.node) ⊎ (to.node ≤ start.shape.nodes) → to.node ≡ 0
+    by (inl none) other = omega (arith, none)
+    by (inr some) (inl above) = absurd (omega (arith, is, beyond_host start to above))
+    by (inr some) (inr low) = absurd (omega (arith, is, host_some start to some low))
 
 request_plain_key : (tx : TxId) (to : Place) (body : Body) → is_key tx to body ≡ true → is_request body ≡ false
 request_plain_key tx to body is = plain body (last_of (is_tc to.block) (key_of_tx tx body) is)
@@ -114,7 +126,7 @@ fewer_asked tx (e ∷ live) = omega (arith, fewer_asked tx live, few (same_tx e.
     few true false = omega arith
     few false b = omega arith
 
-module _ (start : Start) (was now : ℕ → List LogStep) (op : Op) (served : IsServed start was now (Operate None op)) where
+module _ (start : Start) (was now : ℕ → List HostStep) (op : Op) (served : IsServed start was now (Operate None op)) where
   f : IsFirst start was now (Operate None op)
   f = request_first start was now (Operate None op) served
 
@@ -122,10 +134,11 @@ module _ (start : Start) (was now : ℕ → List LogStep) (op : Op) (served : Is
   cut = cut_at_first was now f.later f.first f.is served.cut
 
   module _ (tx : TxId) where
-    first : LoneFirst tx (after start 0 (was 0)) (step_after start 0 (was 0) f.first)
-    first =
-        subst (λ (to : Place). LoneFirst tx (after start 0 (was 0)) (row (after start 0 (was 0)) to f.first.taken.body)) (sym f.place)
-        (subst (λ body. LoneFirst tx (after start 0 (was 0)) (row (after start 0 (was 0)) client body)) (sym f.body) (lone_first tx (after start 0 (was 0)) op))
+    first : LoneFirst tx (api_of (after start 0 (was 0))) (api_seen (step_after start 0 (was 0) f.first))
+    first = subst (LoneFirst tx (api_of (after start 0 (was 0)))) (sym (first_step start was now (Operate None op) f)) (lone_first tx (api_of (after start 0 (was 0))) op)
+
+    first_lone : tally is_lone (replies_of (after start 0 (f.first ∷ was 0))) ≡ tally is_lone (replies_of (after start 0 (was 0)))
+    first_lone = ap (tally is_lone) (replies_are (after start 0 (f.first ∷ was 0))) ∙ first.lone ∙ ap (tally is_lone) (sym (replies_are (after start 0 (was 0))))
 
     -- nobody wishes for its abort
     no_wishes : (h : ℕ) → sent_since start (is_wish_back_to tx) h (cut h).newer (was h) ≡ 0
@@ -133,10 +146,10 @@ module _ (start : Start) (was now : ℕ → List LogStep) (op : Op) (served : Is
         omega (arith, sent_append start (is_wish_back_to tx) 0 f.later (f.first ∷ []) (was 0), (asks_since tx start f.later (f.first ∷ was 0) f.plain).0, first.wishes)
     no_wishes (suc h) = node_since start (is_wish_back_to tx) (no_wish_node tx) h (cut (suc h)).newer (was (suc h))
 
-    none_wished : (h : ℕ) → Each (λ (e : LogStep). is_wish_back_to tx e.taken.to e.taken.body ≡ false) (cut h).newer
+    none_wished : (h : ℕ) → Each (λ (e : HostStep). is_wish_back_to tx e.step.taken.to e.step.taken.body ≡ false) (cut h).newer
     none_wished h =
-        each_map (λ (e : LogStep). is_request e.taken.body ≡ false → is_wish_back_to tx e.taken.to e.taken.body ≡ false) (λ (e : LogStep). is_wish_back_to tx e.taken.to e.taken.body ≡ false) (cut h).newer
-        (none_at (is_wish_back_to tx) (request_plain_wish tx)) (none_taken start was now served.before served.since cut (is_wish_back_to tx) no_wishes h)
+        each_map (λ (e : HostStep). is_request e.step.taken.body ≡ false → is_wish_back_to tx e.step.taken.to e.step.taken.body ≡ false) (λ (e : HostStep). is_wish_back_to tx e.step.taken.to e.step.taken.body ≡ false) (cut h).newer
+        (none_at (is_wish_back_to tx) (request_plain_wish tx)) (none_taken start was now served.before served.since cut (is_wish_back_to tx) (λ i low. no_wishes i) h)
 
     -- an operation is asked for at most once since it has begun
     few_keys : (h : ℕ) → steps (is_key tx) (cut (suc h)).newer ≤ steps (is_start tx) f.later
@@ -161,42 +174,30 @@ module _ (start : Start) (was now : ℕ → List LogStep) (op : Op) (served : Is
           arith,
           once_started start tx now served.since,
           ap (steps (is_start tx)) f.is,
-          tally_append (λ (e : LogStep). is_start tx e.taken.to e.taken.body) f.later (f.first ∷ was 0),
+          tally_append (λ (e : HostStep). is_start tx e.step.taken.to e.step.taken.body) f.later (f.first ∷ was 0),
         )
 
     module _ (h : ℕ) (low : suc h < hosts start) where
-      n : NodeKeeps start tx h (was (suc h))
-      n = keeps start tx h (was (suc h))
+      abbrev s : TcState
+      s = tc_of (after start (suc h) (was (suc h)))
 
       asked : ℕ
-      asked = tally (is_asked tx) n.state.tc.live
+      asked = tally (is_asked tx) (tc_of (after start (suc h) (was (suc h)))).live
 
       few_asked : asked ≤ steps (is_start tx) (was 0)
       unfolding asked
-      few_asked =
-          omega (
-            arith,
-            fewer_asked tx n.state.tc.live,
-            n.keeps.began,
-            ap (signals (is_start tx)) (served.before.quiet (suc h) 0 low (omega arith)),
-            taken_steps start (is_start tx) (suc h) (was 0),
-          )
+      few_asked = omega (arith, fewer_asked tx s.live, lives_begun start was served.before tx (suc h))
 
       told : (sent_since start (is_reply tx) (suc h) (cut (suc h)).newer (was (suc h)) ≡ 0) ⊎ (sent_since start (is_back tx) (suc h) (cut (suc h)).newer (was (suc h)) ≡ 0)
       unfolding asked
-      told = by (after start (suc h) ((cut (suc h)).newer ++ was (suc h))) (tells_since start tx h (cut (suc h)).newer (was (suc h)) asked (none_wished (suc h)) (omega (arith, few_asked, few_keys h, starts_apart))
-          (subst (OnTc (HasTold tx asked 0 0 0)) (sym n.is) (record { fair = omega arith; three = inl (refl, refl) })))
+      told = three (tc_of (after start (suc h) ((cut (suc h)).newer ++ was (suc h)))) (tells_since start tx (suc h) (cut (suc h)).newer (was (suc h)) asked (none_wished (suc h)) (omega (arith, few_asked, few_keys h, starts_apart))
+          (record { fair = omega arith; three = inl (refl, refl) })).three
         where
-          by : (g : host.Host)
-              → OnTc (HasTold tx asked (steps (is_key tx) (cut (suc h)).newer) (sent_since start (is_reply tx) (suc h) (cut (suc h)).newer (was (suc h))) (sent_since start (is_back tx) (suc h) (cut (suc h)).newer (was (suc h)))) g
+          three : (now_it : TcState) → IsOneOfThree tx (sent_since start (is_reply tx) (suc h) (cut (suc h)).newer (was (suc h))) (sent_since start (is_back tx) (suc h) (cut (suc h)).newer (was (suc h))) now_it
               → (sent_since start (is_reply tx) (suc h) (cut (suc h)).newer (was (suc h)) ≡ 0) ⊎ (sent_since start (is_back tx) (suc h) (cut (suc h)).newer (was (suc h)) ≡ 0)
-          by (Shell s) has = absurd has
-          by (Node m) has = three has.three
-            where
-              three : IsOneOfThree tx (sent_since start (is_reply tx) (suc h) (cut (suc h)).newer (was (suc h))) (sent_since start (is_back tx) (suc h) (cut (suc h)).newer (was (suc h))) m.tc → (sent_since start (is_reply tx) (suc h) (cut (suc h)).newer (was (suc h)) ≡ 0) ⊎ (sent_since start (is_back tx) (suc h) (cut (suc h)).newer (was (suc h)) ≡ 0)
-              three (inl none) = inl none.0
-              three (inr (inl firm)) = inr firm.0.1
-              three (inr (inr gone)) = inl gone.0
+          three now_it (inl none) = inl none.0
+          three now_it (inr (inl firm)) = inr firm.0.1
+          three now_it (inr (inr gone)) = inl gone.0
 
   no_tx : TxId
   no_tx = record { tc = 0; start = 0; seq = 0 }
@@ -224,7 +225,7 @@ module _ (start : Start) (was now : ℕ → List LogStep) (op : Op) (served : Is
             tally_append is_lone (replies_of (after start 0 (was 0))) grown.more,
             ap (λ log. tally is_lone (replies_of (after start 0 log))) f.is,
             same,
-            (first no_tx).lone,
+            first_lone no_tx,
           ))
 
   module _ (answered : EachIsAnswered) (l : HasLone start f.later (f.first ∷ was 0)) where
@@ -239,12 +240,13 @@ module _ (start : Start) (was now : ℕ → List LogStep) (op : Op) (served : Is
         subst (λ w. IsIn l.step (w ++ f.first ∷ [])) (sym l.is)
         (subst (IsIn l.step) (sym (append_assoc l.newer (l.step ∷ l.older) (f.first ∷ []))) (in_middle l.newer l.step (l.older ++ f.first ∷ [])))
 
-    logged : IsLog (machine start) 0 (l.step ∷ (l.older ++ f.first ∷ was 0))
-    logged = log_after (machine start) 0 l.newer (l.step ∷ (l.older ++ f.first ∷ was 0)) (subst (IsLog (machine start) 0) now_is (served.since.right.local 0))
+    in_now : IsIn l.step (now 0)
+    in_now = subst (IsIn l.step) (sym now_is) (in_middle l.newer l.step (l.older ++ f.first ∷ was 0))
 
-    is_answer_here : is_reply l.tx l.step.taken.to l.step.taken.body ≡ true
+    is_answer_here : is_reply l.tx l.step.step.taken.to l.step.step.taken.body ≡ true
     is_answer_here =
-        all (l.step.taken.to.node == 0) (is_api l.step.taken.to.block) (answer_of l.tx l.step.taken.body) (grind (arith, nat_tests, logged.0.at)) l.block
+        all (l.step.step.taken.to.node == 0) (is_api l.step.step.taken.to.block) (answer_of l.tx l.step.step.taken.body)
+        (grind (arith, nat_tests, client_node start l.step.step.taken.to (addressed_at start now served.since.right 0 l.step in_now))) l.block
         (ap (answer_of l.tx) l.lone.about ∙ same_tx-self l.tx)
       where
         all : (a b c : Bool) → a ≡ true → b ≡ true → c ≡ true → (a && (b && c)) ≡ true
@@ -252,45 +254,49 @@ module _ (start : Start) (was now : ℕ → List LogStep) (op : Op) (served : Is
         all true false c p q r = cc
         all false b c p q r = cc
 
-    plain_step : is_request l.step.taken.body ≡ false
-    plain_step = each_in (λ (e : LogStep). is_request e.taken.body ≡ false) l.step f.later f.plain in_later
+    plain_step : is_request l.step.step.taken.body ≡ false
+    plain_step = each_in (λ (e : HostStep). is_request e.step.taken.body ≡ false) l.step f.later f.plain in_later
 
-    was_sent : (i : ℕ) → l.step.taken.from.0 ≡ i → 1 ≤ sent_since start (is_reply l.tx) i (cut i).newer (was i)
+    shell_tells : (newer log : List HostStep) → (sent_since start (is_reply l.tx) 0 newer log ≡ 0) × (sent_since start (is_back l.tx) 0 newer log ≡ 0)
+    shell_tells newer log = since_none start l.tx 0 newer log (shell_since start l.tx newer log)
+
+    was_sent : (i : ℕ) → l.step.step.taken.from.0 ≡ i → 1 ≤ sent_since start (is_reply l.tx) i (cut i).newer (was i)
     was_sent i at =
-        let here = all_three (is_request l.step.taken.body) (l.step.taken.from.0 == i) (is_reply l.tx l.step.taken.to l.step.taken.body) plain_step (grind (arith, nat_tests, at)) is_answer_here in
-        let taken = tally_in (λ (e : LogStep). is_from (machine start) i e && is_reply l.tx e.taken.to e.taken.body) l.step (f.later ++ f.first ∷ []) in_newer here in
+        let here = all_three (is_request l.step.step.taken.body) (l.step.step.taken.from.0 == i) (is_reply l.tx l.step.step.taken.to l.step.step.taken.body) plain_step (grind (arith, nat_tests, at)) is_answer_here in
+        let taken = tally_in (λ (e : HostStep). is_from (machine start) i e && is_reply l.tx e.step.taken.to e.step.taken.body) l.step (f.later ++ f.first ∷ []) in_newer here in
         omega (arith, taken, few_taken start was now served.before served.since cut (is_reply l.tx) i 0)
 
     -- its coordinator answered it, and so no host reports its abort
-    no_backs_at : (k : ℕ) → l.step.taken.from.0 ≡ k → (h : ℕ) → sent_since start (is_back l.tx) h (cut h).newer (was h) ≡ 0
-    no_backs_at k at zero = (since_none start l.tx 0 (cut 0).newer (was 0) (shell_since start l.tx (cut 0).newer (was 0))).1
-    no_backs_at zero at (suc h) = absurd (omega (arith, was_sent zero at, (since_none start l.tx 0 (cut 0).newer (was 0) (shell_since start l.tx (cut 0).newer (was 0))).0))
-    no_backs_at (suc k) at (suc h) = home (cases_eq l.tx.tc (suc k)) (cases_eq l.tx.tc (suc h))
+    no_backs_at : (k : ℕ) → l.step.step.taken.from.0 ≡ k → (h : ℕ) → h < hosts start → sent_since start (is_back l.tx) h (cut h).newer (was h) ≡ 0
+    no_backs_at k at zero low = (shell_tells (cut 0).newer (was 0)).1
+    no_backs_at zero at (suc h) low = absurd (omega (arith, was_sent zero at, (shell_tells (cut 0).newer (was 0)).0))
+    no_backs_at (suc k) at (suc h) low = home_is (cases_eq (home start l.tx) (suc k)) (cases_eq (home start l.tx) (suc h)) (cases_lt (suc k) (hosts start))
       where
-        away : (j : ℕ) → l.tx.tc ≢ suc j → (sent_since start (is_reply l.tx) (suc j) (cut (suc j)).newer (was (suc j)) ≡ 0) × (sent_since start (is_back l.tx) (suc j) (cut (suc j)).newer (was (suc j)) ≡ 0)
-        away j differs = since_none start l.tx (suc j) (cut (suc j)).newer (was (suc j)) (away_since start l.tx j differs (cut (suc j)).newer (was (suc j)))
+        some : 1 ≤ sent_since start (is_reply l.tx) (suc k) (cut (suc k)).newer (was (suc k))
+        some = was_sent (suc k) at
 
-        some : (j : ℕ) → suc k ≡ suc j → 1 ≤ sent_since start (is_reply l.tx) (suc j) (cut (suc j)).newer (was (suc j))
-        some j same = was_sent (suc j) (at ∙ same)
+        away : (j : ℕ) → j < hosts start → home start l.tx ≢ j → (sent_since start (is_reply l.tx) j (cut j).newer (was j) ≡ 0) × (sent_since start (is_back l.tx) j (cut j).newer (was j) ≡ 0)
+        away j there differs = since_none start l.tx j (cut j).newer (was j) (away_since start l.tx j there differs (cut j).newer (was j))
 
-        here : (j : ℕ) → suc k ≡ suc j → (suc j < hosts start) ⊎ (hosts start ≤ suc j) → sent_since start (is_back l.tx) (suc j) (cut (suc j)).newer (was (suc j)) ≡ 0
-        here j same (inl low) = by (told l.tx j low)
+        here : suc k ≡ suc h → sent_since start (is_back l.tx) (suc h) (cut (suc h)).newer (was (suc h)) ≡ 0
+        here same = by (told l.tx h low)
           where
-            by : (sent_since start (is_reply l.tx) (suc j) (cut (suc j)).newer (was (suc j)) ≡ 0) ⊎ (sent_since start (is_back l.tx) (suc j) (cut (suc j)).newer (was (suc j)) ≡ 0)
-                → sent_since start (is_back l.tx) (suc j) (cut (suc j)).newer (was (suc j)) ≡ 0
-            by (inl none) = absurd (omega (arith, none, some j same))
+            by : (sent_since start (is_reply l.tx) (suc h) (cut (suc h)).newer (was (suc h)) ≡ 0) ⊎ (sent_since start (is_back l.tx) (suc h) (cut (suc h)).newer (was (suc h)) ≡ 0)
+                → sent_since start (is_back l.tx) (suc h) (cut (suc h)).newer (was (suc h)) ≡ 0
+            by (inl none) = absurd (omega (arith, none, subst (λ j. 1 ≤ sent_since start (is_reply l.tx) j (cut j).newer (was j)) same some))
             by (inr none) = none
-        here j same (inr high) =
-            let none : (cut (suc j)).newer ≡ [] = front_nil (cut (suc j)).newer (was (suc j)) (sym (served.since.within (suc j) high) ∙ (cut (suc j)).is) in
-            ap (λ w. sent_since start (is_back l.tx) (suc j) w (was (suc j))) none
 
-        home : (l.tx.tc ≡ suc k) ⊎ (l.tx.tc ≢ suc k) → (l.tx.tc ≡ suc h) ⊎ (l.tx.tc ≢ suc h) → sent_since start (is_back l.tx) (suc h) (cut (suc h)).newer (was (suc h)) ≡ 0
-        home (inr differs) other = absurd (omega (arith, (away k differs).0, some k refl))
-        home (inl own) (inr differs) = (away h differs).1
-        home (inl own) (inl same) = here h (sym own ∙ same) (cases_lt (suc h) (hosts start))
+        home_is : (home start l.tx ≡ suc k) ⊎ (home start l.tx ≢ suc k) → (home start l.tx ≡ suc h) ⊎ (home start l.tx ≢ suc h) → (suc k < hosts start) ⊎ (hosts start ≤ suc k)
+            → sent_since start (is_back l.tx) (suc h) (cut (suc h)).newer (was (suc h)) ≡ 0
+        home_is one other (inr high) =
+            let none : (cut (suc k)).newer ≡ [] = front_nil (cut (suc k)).newer (was (suc k)) (sym (served.since.within (suc k) high) ∙ (cut (suc k)).is) in
+            absurd (omega (arith, some, ap (λ w. sent_since start (is_reply l.tx) (suc k) w (was (suc k))) none))
+        home_is (inr differs) other (inl there) = absurd (omega (arith, (away (suc k) there differs).0, some))
+        home_is (inl own) (inr differs) (inl there) = (away (suc h) low differs).1
+        home_is (inl own) (inl same) (inl there) = here (sym own ∙ same)
 
-    none_back : Each (λ (e : LogStep). is_request e.taken.body ≡ false → back_of l.tx e.taken.body ≡ false) (f.later ++ f.first ∷ [])
-    none_back = none_taken start was now served.before served.since cut (is_back l.tx) (no_backs_at l.step.taken.from.0 refl) 0
+    none_back : Each (λ (e : HostStep). is_request e.step.taken.body ≡ false → back_of l.tx e.step.taken.body ≡ false) (f.later ++ f.first ∷ [])
+    none_back = none_taken start was now served.before served.since cut (is_back l.tx) (no_backs_at l.step.step.taken.from.0 refl) 0
 
     later_is : f.later ++ f.first ∷ [] ≡ l.newer ++ (l.step ∷ l.older ++ f.first ∷ [])
     later_is = ap (λ w. w ++ f.first ∷ []) l.is ∙ append_assoc l.newer (l.step ∷ l.older) (f.first ∷ [])
@@ -304,13 +310,13 @@ module _ (start : Start) (was now : ℕ → List LogStep) (op : Op) (served : Is
         by (Some one) none = none
         by None none = none
 
-    plain_newer : Each (λ (e : LogStep). is_request e.taken.body ≡ false) l.newer
-    plain_newer = each_before (λ (e : LogStep). is_request e.taken.body ≡ false) l.newer (l.step ∷ l.older) (subst (Each (λ (e : LogStep). is_request e.taken.body ≡ false)) l.is f.plain)
+    plain_newer : Each (λ (e : HostStep). is_request e.step.taken.body ≡ false) l.newer
+    plain_newer = each_before (λ (e : HostStep). is_request e.step.taken.body ≡ false) l.newer (l.step ∷ l.older) (subst (Each (λ (e : HostStep). is_request e.step.taken.body ≡ false)) l.is f.plain)
 
-    none_newer : Each (λ (e : LogStep). is_request e.taken.body ≡ false → back_of l.tx e.taken.body ≡ false) l.newer
+    none_newer : Each (λ (e : HostStep). is_request e.step.taken.body ≡ false → back_of l.tx e.step.taken.body ≡ false) l.newer
     none_newer =
-        each_before (λ (e : LogStep). is_request e.taken.body ≡ false → back_of l.tx e.taken.body ≡ false) l.newer (l.step ∷ l.older ++ f.first ∷ [])
-        (subst (Each (λ (e : LogStep). is_request e.taken.body ≡ false → back_of l.tx e.taken.body ≡ false)) later_is none_back)
+        each_before (λ (e : HostStep). is_request e.step.taken.body ≡ false → back_of l.tx e.step.taken.body ≡ false) l.newer (l.step ∷ l.older ++ f.first ∷ [])
+        (subst (Each (λ (e : HostStep). is_request e.step.taken.body ≡ false → back_of l.tx e.step.taken.body ≡ false)) later_is none_back)
 
     lone_told : IsCommittedAlone start was now
     lone_told = by (commit_goes l.tx None start l.newer (l.step ∷ (l.older ++ f.first ∷ was 0)) plain_newer l.lone.has)

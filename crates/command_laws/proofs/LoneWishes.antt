@@ -1,34 +1,33 @@
 -- No commit or abort is wished for until an operation alone is answered.
-use Rattle.std.proofs.Common.{◌≡◌, ◌⊎◌, false, List, [], ◌∷◌, ◌++◌, refl, ap, inl, inr, arith}
+use Rattle.std.proofs.Common.{◌≡◌, sym, ap, ◌∙◌, ◌⊎◌, false, List, [], ◌∷◌, ◌++◌, refl, ap, inl, inr, arith, true}
 use Rattle.std.specs.Prelude.{None}
 use Rattle.run_theory.specs.Lists.{Each}
-use Rattle.sig_core.specs.declared.log.LogStep.{LogStep}
 use Rattle.sig_core.specs.declared.member.TxId.{TxId}
 use Rattle.sig_core.specs.declared.op.Answer.{Answer}
 use Rattle.sig_core.specs.declared.outs.Outgoing.{Outgoing}
-use Rattle.sig_core.specs.declared.place.BlockId.{BlockId}
-use Rattle.sig_core.specs.declared.place.BlockId.TheVariants as block
-use Rattle.sig_core.specs.declared.place.Place.{Place}
 use Rattle.sig_core.specs.declared.reply.ApiReply.TheVariants.{Answered}
 use Rattle.sig_core.specs.declared.signal.Body.{Body}
+use Rattle.sig_core.specs.declared.signal.Signal.{Signal}
 use Rattle.sig_core.specs.Step.{Step}
-use Rattle.api_block.specs.declared.opened.OpenTransaction.{OpenTransaction}
 use Rattle.api_block.specs.Api.{api_row}
+use Rattle.api_block.specs.declared.opened.OpenTransaction.{OpenTransaction}
 use Rattle.api_block.specs.State.{ApiState}
+use Rattle.node_core.specs.Blocks.{api_of, has_api}
 use Rattle.node_core.specs.declared.host.Host as host
-use Rattle.node_core.specs.declared.host.Host.TheVariants.{Shell, Node}
-use Rattle.node_core.specs.Replies.{replies_of}
 use Rattle.node_core.specs.Requests.{is_request}
-use Rattle.node_core.specs.Row.{in_shell, row, shell_row}
+use Rattle.node_core.specs.Row.{row}
+use Rattle.world_core.proofs.HostNumbers.{api_runs}
 use Rattle.world_core.specs.Machine.{after, step_after}
 use Rattle.world_core.specs.Start.{Start}
-use Rattle.answer_laws.proofs.Hosts.{shell_after}
-use Rattle.answer_laws.proofs.SendKinds.{none_of}
-use Rattle.answer_laws.proofs.Wishes.{sends_of}
+use Rattle.world_core.specs.Steps.{HostStep}
+use Rattle.host_laws.proofs.SendKinds.{none_of}
+use Rattle.host_laws.proofs.Wishes.{sends_of}
 use Rattle.command_laws.proofs.ApiChanges.{ApiChange, GoesOnAs, alone, answers, api_changes, commits, ends, idle, is_news_kind, refuses, rests, starts, told, waits}
 use Rattle.command_laws.proofs.EarlySteps.{is_wish_to}
+use Rattle.command_laws.proofs.EntryGoes.{HasAnswered, IsAnswering}
+use Rattle.command_laws.proofs.HostKinds.{replies_are}
+use Rattle.command_laws.proofs.HostSteps.{api_host, api_seen}
 use Rattle.command_laws.proofs.OperateAsks.{no_wish_news}
-use Rattle.command_laws.proofs.OperateGoes.{HasAnswered, IsAnswering}
 use Rattle.command_laws.proofs.Since.{sent_since}
 
 -- neither is wished for of any transaction
@@ -53,23 +52,20 @@ change_none s body step (ends one end at about passes is replies marks sends) = 
 change_none s body step (starts called one at u about passes is goes) = inr (goes_none s one at.t u step goes)
 change_none s body step (refuses called at about passes is replies sends) = inr (λ tx. ap (sends_of (is_wish_to tx)) sends)
 
-shell_none : (s : ApiState) (at : BlockId) (body : Body) → is_request body ≡ false → TellsLone s (shell_row s at body) ⊎ WishNone (shell_row s at body).effects.sends
-unfolding shell_row
-shell_none s block.Api body plain = change_none s body (api_row s body) (api_changes s body plain)
-shell_none s _ body plain = inr (λ tx. refl)
-
-host_none : (g : host.Host) (s : ApiState) (to : Place) (body : Body) → g ≡ Shell s → is_request body ≡ false → IsAnswering None g (row g to body) ⊎ WishNone (row g to body).effects.sends
-unfolding row replies_of
-host_none (Shell t) s to body is plain = by (shell_none t to.block body plain)
+host_none : (g : host.Host) (x : Signal) → has_api g ≡ true → is_request x.body ≡ false → IsAnswering None g (row g x) ⊎ WishNone (row g x).effects.sends
+host_none g x has plain =
+    by (api_host (λ (step : Step ApiState). TellsLone (api_of g) step ⊎ WishNone step.effects.sends) g x has
+    (λ at. change_none (api_of g) x.body (api_row (api_of g) x) (api_changes (api_of g) x.body plain)) (λ off. inr (λ tx. refl)))
   where
-    by : TellsLone t (shell_row t to.block body) ⊎ WishNone (shell_row t to.block body).effects.sends
-        → IsAnswering None (Shell t) (in_shell (shell_row t to.block body)) ⊎ WishNone (in_shell (shell_row t to.block body)).effects.sends
-    by (inl tells) = inl (record { answer = tells.answer; told = tells.told })
+    by : TellsLone (api_of g) (api_seen (row g x)) ⊎ WishNone (row g x).effects.sends → IsAnswering None g (row g x) ⊎ WishNone (row g x).effects.sends
+    by (inl tells) = inl (record {
+      answer = tells.answer;
+      told = replies_are (row g x).state ∙ tells.told ∙ ap (λ rs. rs ++ Answered None tells.answer ∷ []) (sym (replies_are g));
+    })
     by (inr none) = inr none
-host_none (Node n) s to body is plain = cc
 
 -- along steps of the shell's host that aren't requests
-pub wishes_since : (start : Start) (later log : List LogStep) → Each (λ (e : LogStep). is_request e.taken.body ≡ false) later
+pub wishes_since : (start : Start) (later log : List HostStep) → Each (λ (e : HostStep). is_request e.step.taken.body ≡ false) later
     → HasAnswered None start later log ⊎ ((tx : TxId) → sent_since start (is_wish_to tx) 0 later log ≡ 0)
 wishes_since start [] log plain = inr (λ tx. refl)
 wishes_since start (e ∷ later) log plain = by (wishes_since start later log plain.1)
@@ -82,6 +78,4 @@ wishes_since start (e ∷ later) log plain = by (wishes_since start later log pl
     by : HasAnswered None start later log ⊎ ((tx : TxId) → sent_since start (is_wish_to tx) 0 later log ≡ 0)
         → HasAnswered None start (e ∷ later) log ⊎ ((tx : TxId) → sent_since start (is_wish_to tx) 0 (e ∷ later) log ≡ 0)
     by (inl a) = inl (record { newer = e ∷ a.newer; step = a.step; older = a.older; is = ap (λ w. e ∷ w) a.is; answering = a.answering })
-    by (inr before) =
-        let s = shell_after start (later ++ log) in
-        next before (host_none (after start 0 (later ++ log)) s.state e.taken.to e.taken.body s.is plain.0)
+    by (inr before) = next before (host_none (after start 0 (later ++ log)) e.step.taken (api_runs start (later ++ log)) plain.0)

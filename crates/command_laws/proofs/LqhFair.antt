@@ -8,10 +8,10 @@ use Rattle.sig_core.specs.declared.signal.Body.TheVariants.{Chain}
 use Rattle.sig_core.specs.declared.signal.chain.ChainSignal.TheVariants.{LqhKeyRef, Abort}
 use Rattle.sig_core.specs.Same.{same_tx}
 use Rattle.lqh_block.specs.declared.request.Request.{Request}
-use Rattle.lqh_block.specs.Lqh.{lqh_row}
+use Rattle.lqh_block.specs.Lqh.{lqh_table}
 use Rattle.lqh_block.specs.State.{LqhState}
 use Rattle.lqh_block.proofs.EachLqh.{RequestSends, lqh_sends_each}
-use Rattle.answer_laws.proofs.SendKinds.{SendsOnly, of_each}
+use Rattle.host_laws.proofs.SendKinds.{SendsOnly, of_each}
 use Rattle.command_laws.specs.Served.{is_refusal}
 
 -- all but an abort of the transaction, and the refusal of its operation for another cause
@@ -20,9 +20,9 @@ is_fair own (Chain (Abort tx key)) = not (same_tx tx own)
 is_fair own (Chain (LqhKeyRef tx key why)) = if is_refusal why then true else not (same_tx tx own)
 is_fair own _ = true
 
-pub lqh_fair : (own : TxId) (s : LqhState) (body : Body) → is_fair own body ≡ true → SendsOnly (is_fair own) (lqh_row s body)
+pub lqh_fair : (own : TxId) (s : LqhState) (body : Body) → is_fair own body ≡ true → SendsOnly (is_fair own) (lqh_table s body)
 lqh_fair own s body fair =
-    of_each (is_fair own) (lqh_row s body).effects.sends
+    of_each (is_fair own) (lqh_table s body).effects.sends
     (lqh_sends_each (λ (o : Outgoing). is_fair own o.body ≡ true) s body (record {
       asked = λ r is. request r;
       waited = λ at r is. request r;

@@ -3,49 +3,47 @@ use Rattle.std.proofs.Common.{◌≡◌, ◌<◌, ◌+◌, ℕ, Bool, true, fals
 use Rattle.std.proofs.lemmas.Bool.Decides.{nat_tests}
 use Rattle.std.specs.Prelude.{Some, is_some, nat_lt}
 use Rattle.run_theory.specs.Lists.{Each, IsIn}
-use Rattle.sig_core.specs.declared.log.LogStep.{LogStep}
 use Rattle.sig_core.specs.declared.member.TxId.{TxId}
 use Rattle.sig_core.specs.declared.op.Op.{Op}
 use Rattle.sig_core.specs.declared.outs.Outgoing.{Outgoing}
-use Rattle.sig_core.specs.declared.place.BlockId.{BlockId}
-use Rattle.sig_core.specs.declared.place.BlockId.TheVariants as block
 use Rattle.sig_core.specs.declared.place.Place.{Place}
 use Rattle.sig_core.specs.declared.reply.Refusal.TheVariants.{NotOpen}
 use Rattle.sig_core.specs.declared.request.ApiReq.TheVariants as request
 use Rattle.sig_core.specs.declared.signal.Body.{Body}
 use Rattle.sig_core.specs.declared.signal.Body.TheVariants.{Host, Client}
 use Rattle.sig_core.specs.declared.signal.client.ClientSignal.TheVariants.{TcCommitReq, TcRollbackReq}
-use Rattle.sig_core.specs.declared.signal.host.HostSignal.TheVariants.{Continue}
-use Rattle.sig_core.specs.declared.signal.host.Work.TheVariants as work
-use Rattle.sig_core.specs.Place.{client}
+use Rattle.sig_core.specs.declared.signal.Signal.{Signal}
 use Rattle.sig_core.specs.Same.{same_tx}
 use Rattle.sig_core.specs.Step.{Step}
+use Rattle.api_block.specs.Api.{api_row, request_row}
 use Rattle.api_block.specs.declared.opened.Doing.{Doing}
 use Rattle.api_block.specs.declared.opened.Doing.TheVariants.{Operating, Ready}
 use Rattle.api_block.specs.declared.opened.OpenTransaction.{OpenTransaction}
-use Rattle.api_block.specs.Api.{api_row, request_row}
-use Rattle.api_block.specs.Operate.{key_request, operate_by, operate_if, operate_row}
 use Rattle.api_block.specs.Opened.{begins, has_tx, if_there, is_beginning, operating, same_name, where_at}
+use Rattle.api_block.specs.Operate.{key_request, operate_by, operate_if, operate_row}
 use Rattle.api_block.specs.State.{ApiState, about, changing, refused}
+use Rattle.node_core.specs.Blocks.{api_of, has_api}
 use Rattle.node_core.specs.declared.host.Host as host
-use Rattle.node_core.specs.declared.host.Host.TheVariants.{Shell, Node}
 use Rattle.node_core.specs.Requests.{is_request}
-use Rattle.node_core.specs.Row.{node_row, row, shell_row}
+use Rattle.node_core.specs.Row.{row}
+use Rattle.world_core.proofs.HostNumbers.{api_runs}
 use Rattle.world_core.specs.Machine.{after}
 use Rattle.world_core.specs.Start.{Start}
-use Rattle.answer_laws.proofs.ApiBegins.{each_at, each_changed, each_less, in_middle}
-use Rattle.answer_laws.proofs.SendKinds.{none_of}
-use Rattle.answer_laws.proofs.Tally.{one_if}
-use Rattle.answer_laws.proofs.TcMoves.{same_tx-is}
-use Rattle.answer_laws.proofs.Wishes.{is_tc, sends_of}
-use Rattle.answer_laws.specs.Answered.{opened_in}
+use Rattle.world_core.specs.Steps.{HostStep}
+use Rattle.host_laws.specs.Counts.{one_if}
+use Rattle.host_laws.proofs.ApiBegins.{each_at, each_changed, each_less, in_middle}
+use Rattle.host_laws.proofs.LqhOps.{left_of}
+use Rattle.host_laws.proofs.SendKinds.{none_of}
+use Rattle.host_laws.proofs.TcMoves.{same_tx-is}
+use Rattle.host_laws.proofs.Wishes.{is_tc, sends_of}
+use Rattle.host_laws.specs.Opened.{opened_in}
 use Rattle.command_laws.proofs.ApiChanges.{ApiChange, answers, api_changes, commits, ends, is_news_kind, refuses, rests, starts, waits}
 use Rattle.command_laws.proofs.EarlySteps.{is_wish_to, wish_of}
 use Rattle.command_laws.proofs.Entries.{HasOne, IsNamed, NoneBegins, named_found}
-use Rattle.command_laws.proofs.Pushes.{is_node_kind, node_sends_node}
+use Rattle.command_laws.proofs.HostSteps.{api_host}
+use Rattle.command_laws.proofs.Pushes.{is_node_kind}
 use Rattle.command_laws.proofs.Since.{sent_since}
 use Rattle.command_laws.proofs.Tests.{and_off}
-use Rattle.answer_laws.proofs.LqhOps.{left_of}
 use Rattle.command_laws.specs.Served.{named_in}
 
 module _ (tx : TxId) where
@@ -126,18 +124,13 @@ module _ (tx : TxId) where
         absurd (let off : false ≡ true = sym (each_at (λ (t : OpenTransaction). is_beginning t.doing ≡ false) at.front at.t at.back s.opened at.is were.calm)
         ∙ left_of (is_beginning at.t.doing) (same_name at.t.name called) passes in cc)
 
-  shell_named : (s : ApiState) (at : BlockId) (body : Body) → is_request body ≡ false → AreNamed s.opened → KeepsNamed (shell_row s at body).state.opened (shell_row s at body).effects.sends
-  unfolding shell_row
-  shell_named s block.Api body plain were = change_named s body were (api_row s body) (api_changes s body plain)
-  shell_named s _ body plain were = record { named = were; wishes = refl }
-
-  host_named : (g : host.Host) (to : Place) (body : Body) → is_request body ≡ false → AreNamed (opened_in g) → KeepsNamed (opened_in (row g to body).state) (row g to body).effects.sends
-  unfolding row
-  host_named (Shell s) to body plain were = shell_named s to.block body plain were
-  host_named (Node n) to body plain were = record { named = record { calm = tt; named = tt }; wishes = none_of is_node_kind (is_wish_to tx) no_wish_node (node_row n to.block body).effects.sends (node_sends_node n to.block body) }
+  host_named : (g : host.Host) (x : Signal) → has_api g ≡ true → is_request x.body ≡ false → AreNamed (opened_in g) → KeepsNamed (opened_in (row g x).state) (row g x).effects.sends
+  host_named g x has plain were =
+      api_host (λ (step : Step ApiState). KeepsNamed step.state.opened step.effects.sends) g x has
+      (λ at. change_named (api_of g) x.body were (api_row (api_of g) x) (api_changes (api_of g) x.body plain)) (λ off. record { named = were; wishes = refl })
 
   -- along steps of the shell's host that aren't requests
-  pub named_since : (start : Start) (later log : List LogStep) → Each (λ (e : LogStep). is_request e.taken.body ≡ false) later → AreNamed (opened_in (after start 0 log))
+  pub named_since : (start : Start) (later log : List HostStep) → Each (λ (e : HostStep). is_request e.step.taken.body ≡ false) later → AreNamed (opened_in (after start 0 log))
       → AreNamed (opened_in (after start 0 (later ++ log))) × (sent_since start (is_wish_to tx) 0 later log ≡ 0)
   named_since start [] log plain were = (were, refl)
   named_since start (e ∷ later) log plain were = next (named_since start later log plain.1 were)
@@ -145,7 +138,7 @@ module _ (tx : TxId) where
       next : AreNamed (opened_in (after start 0 (later ++ log))) × (sent_since start (is_wish_to tx) 0 later log ≡ 0)
           → AreNamed (opened_in (after start 0 (e ∷ (later ++ log)))) × (sent_since start (is_wish_to tx) 0 (e ∷ later) log ≡ 0)
       next before =
-          let kept = host_named (after start 0 (later ++ log)) e.taken.to e.taken.body plain.0 before.0 in
+          let kept = host_named (after start 0 (later ++ log)) e.step.taken (api_runs start (later ++ log)) plain.0 before.0 in
           (kept.named, omega (arith, kept.wishes, before.1))
 
 -- the row where the name is found
@@ -159,15 +152,15 @@ operate_found s name op t tx ready own few f =
     ∙ (let low : nat_lt t.operations 64 ≡ true = grind (arith, nat_tests, few) in ap (operate_if s name op f.at t tx) low)
 
 -- after it the transaction is operating, and its commit or abort isn't wished for
-pub record IsAskedFor (tx : TxId) (name : ℕ) (step : Step host.Host) : Type 0 where
-  pub has : HasOne tx (Some name) Operating (opened_in step.state)
-  pub named : AreNamed tx (opened_in step.state)
+pub record IsAskedFor (tx : TxId) (name : ℕ) (step : Step ApiState) : Type 0 where
+  pub has : HasOne tx (Some name) Operating step.state.opened
+  pub named : AreNamed tx step.state.opened
   pub wishes : sends_of (is_wish_to tx) step.effects.sends ≡ 0
 
-pub operate_first : (g : host.Host) (name : ℕ) (op : Op) (t : OpenTransaction) (tx : TxId) → named_in (opened_in g) name ≡ Some t → t.doing ≡ Ready → t.tx ≡ Some tx → t.operations < 64 → AreNamed tx (opened_in g)
-    → IsAskedFor tx name (row g client (Host (Continue (work.Request (request.Operate (Some name) op)) 0)))
-unfolding row shell_row request_row
-operate_first (Shell s) name op t tx is ready own few were = record {
+pub operate_first : (s : ApiState) (name : ℕ) (op : Op) (t : OpenTransaction) (tx : TxId) → named_in s.opened name ≡ Some t → t.doing ≡ Ready → t.tx ≡ Some tx → t.operations < 64 → AreNamed tx s.opened
+    → IsAskedFor tx name (request_row s (request.Operate (Some name) op))
+unfolding request_row
+operate_first s name op t tx is ready own few were = record {
   has = record {
     item = operating t;
     inside = subst (IsIn (operating t)) (sym opened) (in_middle f.focus.front (operating t) f.focus.back);
@@ -191,4 +184,3 @@ operate_first (Shell s) name op t tx is ready own few were = record {
 
     opened : (operate_row s name op).state.opened ≡ f.focus.front ++ operating t ∷ f.focus.back
     opened = ap (λ (step : Step ApiState). step.state.opened) now ∙ f.focus.set (operating t)
-operate_first (Node n) name op t tx is ready own few were = cc

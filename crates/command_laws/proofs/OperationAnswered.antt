@@ -1,37 +1,35 @@
 -- An operation of a transaction that takes commands is answered, or refused for want of room or of time, or waits for a lock.
-use Rattle.std.proofs.Common.{◌≡◌, ◌⊎◌, ◌<◌, ℕ, suc, List, [], ◌∷◌, ◌++◌, sym, subst, inl, inr, arith}
+use Rattle.std.proofs.Common.{◌≡◌, ◌⊎◌, ◌<◌, ℕ, List, [], ◌∷◌, ◌++◌, sym, subst, inl, inr, arith}
 use Rattle.std.specs.Prelude.{Option, Some}
-use Rattle.sig_core.specs.declared.log.LogStep.{LogStep}
 use Rattle.sig_core.specs.declared.member.TxId.{TxId}
 use Rattle.sig_core.specs.declared.op.Op.{Op}
-use Rattle.sig_core.specs.declared.place.Place.{Place}
 use Rattle.sig_core.specs.declared.reply.ApiReply.TheVariants.{Answered}
 use Rattle.sig_core.specs.declared.request.ApiReq.TheVariants.{Operate}
-use Rattle.sig_core.specs.Place.{client}
 use Rattle.api_block.specs.declared.opened.Doing.{Doing}
 use Rattle.api_block.specs.declared.opened.Doing.TheVariants.{Operating, Ready}
 use Rattle.api_block.specs.declared.opened.OpenTransaction.{OpenTransaction}
-use Rattle.node_core.specs.Row.{row}
+use Rattle.node_core.specs.Blocks.{api_of}
+use Rattle.world_core.specs.Hosts.{home}
 use Rattle.world_core.specs.Machine.{after, step_after}
 use Rattle.world_core.specs.Start.{Start}
-use Rattle.answer_laws.proofs.Lives.{keeps}
-use Rattle.answer_laws.specs.Answered.{EachIsAnswered, IsOpenAt, WaitsForLock, is_answered_by, opened_after, opened_in}
-use Rattle.command_laws.proofs.CommitGoes.{HasEnded}
+use Rattle.world_core.specs.Steps.{HostStep}
+use Rattle.run_laws.proofs.AlongSteps.{live_tx}
+use Rattle.answer_laws.specs.Answered.{EachIsAnswered, IsOpenAt, WaitsForLock, is_answered_by}
+use Rattle.host_laws.specs.Opened.{opened_after, opened_in}
 use Rattle.command_laws.proofs.Committed.{sent_append}
 use Rattle.command_laws.proofs.EarlySteps.{IsOpenNow, OpenOption, is_wish_to}
 use Rattle.command_laws.proofs.EndsWell.{ended_well, replied}
 use Rattle.command_laws.proofs.Entries.{HasOne}
-use Rattle.command_laws.proofs.FirmAtQuiet.{open_at}
-use Rattle.command_laws.proofs.First.{IsFirst, request_first}
+use Rattle.command_laws.proofs.EntryGoes.{HasAnswered, HasEnded, operate_goes}
+use Rattle.command_laws.proofs.First.{IsFirst, first_step, request_first}
+use Rattle.command_laws.proofs.HostSteps.{api_seen}
 use Rattle.command_laws.proofs.OperateAsks.{AreNamed, IsAskedFor, named_since, operate_first}
-use Rattle.command_laws.proofs.OperateGoes.{HasAnswered, operate_goes}
 use Rattle.command_laws.proofs.ReadyAtQuiet.{named_at, ready_open}
 use Rattle.command_laws.proofs.Since.{sent_since}
 use Rattle.command_laws.proofs.TellsSince.{OnTc}
-use Rattle.command_laws.proofs.WaitRows.{in_live}
 use Rattle.command_laws.specs.Served.{IsAnsweredAs, IsRefusedAs, IsServed, OperationsAreAnswered, StillWaits, named_in}
 
-module _ (answered : EachIsAnswered) (start : Start) (was now : ℕ → List LogStep) (name : ℕ) (op : Op) (t : OpenTransaction) (tx : TxId) (served : IsServed start was now (Operate (Some name) op))
+module _ (answered : EachIsAnswered) (start : Start) (was now : ℕ → List HostStep) (name : ℕ) (op : Op) (t : OpenTransaction) (tx : TxId) (served : IsServed start was now (Operate (Some name) op))
     (named : named_in (opened_after start was) name ≡ Some t) (ready : t.doing ≡ Ready) (own : t.tx ≡ Some tx) (few : t.operations < 64) where
   f : IsFirst start was now (Operate (Some name) op)
   f = request_first start was now (Operate (Some name) op) served
@@ -39,19 +37,16 @@ module _ (answered : EachIsAnswered) (start : Start) (was now : ℕ → List Log
   were : AreNamed tx (opened_after start was)
   were = named_at start was served.before name t tx named own
 
-  asked : IsAskedFor tx name (step_after start 0 (was 0) f.first)
-  asked =
-      subst (λ (to : Place). IsAskedFor tx name (row (after start 0 (was 0)) to f.first.taken.body)) (sym f.place)
-      (subst (λ body. IsAskedFor tx name (row (after start 0 (was 0)) client body)) (sym f.body) (operate_first (after start 0 (was 0)) name op t tx named ready own few were))
+  asked : IsAskedFor tx name (api_seen (step_after start 0 (was 0) f.first))
+  asked = subst (IsAskedFor tx name) (sym (first_step start was now (Operate (Some name) op) f)) (operate_first (api_of (after start 0 (was 0))) name op t tx named ready own few were)
 
-  is_open : IsOpenAt tx (after start tx.tc (was tx.tc))
+  is_open : IsOpenAt tx (after start (home start tx) (was (home start tx)))
   is_open = ready_open start was served.before name t tx named own answered ready
 
-  open_was : (h : ℕ) → tx.tc ≡ suc h → OnTc (IsOpenNow tx) (after start (suc h) (was (suc h)))
+  open_was : (h : ℕ) → home start tx ≡ h → OnTc (IsOpenNow tx) (after start h (was h))
   open_was h at =
-      let k = keeps start tx h (was (suc h)) in
-      let o = open_at start tx (after start (suc h) (was (suc h))) k.state k.is (subst (λ m. IsOpenAt tx (after start m (was m))) at is_open) in
-      subst (OnTc (IsOpenNow tx)) (sym k.is) (record { open_now = subst OpenOption (sym (in_live tx o.transaction k.state.tc.live o.live (omega (arith, k.keeps.began, k.keeps.once)))) o.phase })
+      let o : IsOpenAt tx (after start h (was h)) = subst (λ k. IsOpenAt tx (after start k (was k))) at is_open in
+      record { open_now = subst OpenOption (sym (live_tx start tx h (was h) o.transaction o.live)) o.phase }
 
   -- nobody wishes for its commit or abort
   no_wishes : sent_since start (is_wish_to tx) 0 (f.later ++ f.first ∷ []) (was 0) ≡ 0

@@ -12,9 +12,9 @@ use Rattle.sig_core.specs.Same.{same_tx}
 use Rattle.tc_block.specs.declared.transaction.Transaction.{Transaction}
 use Rattle.tc_block.specs.State.{TcState}
 use Rattle.sig_core.proofs.Keys.{same_tx-self}
-use Rattle.answer_laws.proofs.SendKinds.{are_of}
-use Rattle.answer_laws.proofs.TcSends.{tx_in}
-use Rattle.answer_laws.proofs.TurnKinds.{OwnKinds, TurnOnly, own_forms}
+use Rattle.host_laws.proofs.SendKinds.{are_of}
+use Rattle.host_laws.proofs.TcSends.{tx_in}
+use Rattle.host_laws.proofs.TurnKinds.{OwnKinds, TurnOnly, own_forms}
 use Rattle.command_laws.proofs.Turns.{turn_at, turn_by}
 
 -- what a coordinator sends of the transaction
@@ -48,4 +48,4 @@ own tx body = record {
     self = same_tx-self tx
 
 pub turn_own : (s : TcState) (tx : TxId) (body : Body) (t : Transaction) → tx_in body ≡ tx → are_of (is_own_kind tx) (turn_by s tx body t).step.effects.sends ≡ true
-turn_own s tx body t same = turn_at s tx body t (TurnOnly (is_own_kind tx)) same (own_forms (is_own_kind tx) tx body (own tx body) s.node s.view t)
+turn_own s tx body t same = turn_at s tx body t (TurnOnly (is_own_kind tx)) same (own_forms (is_own_kind tx) tx body (own tx body) s.node s.layout t)

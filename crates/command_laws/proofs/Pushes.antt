@@ -2,44 +2,45 @@
 use Rattle.std.proofs.Common.{◌≡◌, ℕ, suc, Bool, true, false, List, [], ◌∷◌, ◌++◌, refl, sym, ap, ◌∙◌, subst, arith}
 use Rattle.std.specs.Prelude.{Option}
 use Rattle.run_theory.specs.Lists.{Each}
-use Rattle.sig_core.specs.declared.log.LogStep.{LogStep}
 use Rattle.sig_core.specs.declared.member.TxId.{TxId}
 use Rattle.sig_core.specs.declared.outs.Outgoing.{Outgoing}
-use Rattle.sig_core.specs.declared.place.BlockId.{BlockId}
-use Rattle.sig_core.specs.declared.place.BlockId.TheVariants as block
 use Rattle.sig_core.specs.declared.place.Place.{Place}
 use Rattle.sig_core.specs.declared.signal.Body.{Body}
 use Rattle.sig_core.specs.declared.signal.Body.TheVariants.{Client}
 use Rattle.sig_core.specs.declared.signal.client.ClientSignal.TheVariants.{TcBeginReq, TcKeyReq, TcCommitReq, TcRollbackReq, TcWaitReq}
+use Rattle.sig_core.specs.declared.signal.Signal.{Signal}
 use Rattle.sig_core.specs.Step.{Step}
-use Rattle.api_block.specs.declared.opened.OpenTransaction.{OpenTransaction}
 use Rattle.api_block.specs.Api.{api_row}
+use Rattle.api_block.specs.declared.opened.OpenTransaction.{OpenTransaction}
 use Rattle.api_block.specs.Opened.{begins, is_beginning, same_name}
 use Rattle.api_block.specs.State.{ApiState}
-use Rattle.lqh_block.specs.Lqh.{lqh_row}
+use Rattle.lqh_block.specs.Lqh.{lqh_table}
+use Rattle.node_core.proofs.HostCases.{of_effects}
+use Rattle.node_core.specs.Blocks.{api_of, dih_of, has_api, lqh_of, tc_of}
 use Rattle.node_core.specs.declared.host.Host as host
-use Rattle.node_core.specs.declared.host.Host.TheVariants.{Shell, Node}
-use Rattle.node_core.specs.declared.node.Node as node
-use Rattle.node_core.specs.Dih.{dih_row}
+use Rattle.node_core.specs.Dih.{dih_table}
 use Rattle.node_core.specs.Requests.{is_request}
-use Rattle.node_core.specs.Row.{node_row, row, shell_row}
+use Rattle.node_core.specs.Row.{row}
 use Rattle.tc_block.specs.State.{TcState}
-use Rattle.tc_block.specs.Tc.{begin_if, begin_row, is_full, tc_row}
-use Rattle.world_core.specs.Machine.{after}
+use Rattle.tc_block.specs.Tc.{begin_if, begin_row, is_full, tc_table}
+use Rattle.world_core.proofs.HostNumbers.{api_runs}
+use Rattle.world_core.specs.Machine.{after, step_after}
 use Rattle.world_core.specs.Start.{Start}
-use Rattle.answer_laws.proofs.ApiBegins.{each_at, each_changed, each_less}
-use Rattle.answer_laws.proofs.DihSends.{dih_kinds}
-use Rattle.answer_laws.proofs.Hosts.{node_after}
-use Rattle.answer_laws.proofs.LqhSends.{lqh_kinds}
-use Rattle.answer_laws.proofs.SendKinds.{are_of, is_dih_kind, is_lqh_kind, is_tc_kind, none_of, of_kind}
-use Rattle.answer_laws.proofs.TcSends.{tc_kinds, tx_in}
-use Rattle.answer_laws.proofs.Wishes.{is_tc, sends_of}
-use Rattle.answer_laws.specs.Answered.{opened_in}
+use Rattle.world_core.specs.Steps.{HostStep}
+use Rattle.host_laws.proofs.ApiBegins.{each_at, each_changed, each_less}
+use Rattle.host_laws.proofs.DihSends.{dih_kinds}
+use Rattle.host_laws.proofs.LqhOps.{left_of}
+use Rattle.host_laws.proofs.LqhSends.{lqh_kinds}
+use Rattle.host_laws.proofs.SendKinds.{are_of, is_dih_kind, is_lqh_kind, is_tc_kind, none_of, of_kind}
+use Rattle.host_laws.proofs.TcSends.{tc_kinds, tx_in}
+use Rattle.host_laws.proofs.Wishes.{is_tc, sends_of}
+use Rattle.host_laws.specs.Opened.{opened_in}
 use Rattle.command_laws.proofs.ApiChanges.{ApiChange, answers, api_changes, commits, ends, is_news_kind, refuses, rests, starts, waits}
 use Rattle.command_laws.proofs.Entries.{NoneBegins}
 use Rattle.command_laws.proofs.FirmHosts.{is_push_to, push_of}
+use Rattle.command_laws.proofs.HostKinds.{node_runs_none}
+use Rattle.command_laws.proofs.HostSteps.{api_host}
 use Rattle.command_laws.proofs.Since.{sent_since}
-use Rattle.answer_laws.proofs.LqhOps.{left_of}
 use Rattle.command_laws.proofs.Tests.{and_off}
 
 -- all but what the API asks coordinators for
@@ -79,31 +80,26 @@ begin_is_node : (s : TcState) (name : Option ℕ) (b : Bool) → are_of is_node_
 begin_is_node s name true = refl
 begin_is_node s name false = refl
 
-tc_sends_node : (s : TcState) (body : Body) → are_of is_node_kind (tc_row s body).effects.sends ≡ true
+tc_sends_node : (s : TcState) (body : Body) → are_of is_node_kind (tc_table s body).effects.sends ≡ true
 unfolding begin_row
 tc_sends_node s (Client (TcBeginReq name)) = begin_is_node s name (is_full s)
-tc_sends_node s body = of_kind (is_tc_kind (tx_in body)) is_node_kind (tc_is_node (tx_in body)) (tc_row s body).effects.sends (tc_kinds s body refl)
+tc_sends_node s body = of_kind (is_tc_kind (tx_in body)) is_node_kind (tc_is_node (tx_in body)) (tc_table s body).effects.sends (tc_kinds s body refl)
 
-pub node_sends_node : (n : node.Node) (at : BlockId) (body : Body) → are_of is_node_kind (node_row n at body).effects.sends ≡ true
-unfolding node_row
-node_sends_node n block.Tc body = tc_sends_node n.tc body
-node_sends_node n block.Dih body = of_kind is_dih_kind is_node_kind dih_is_node (dih_row n.dih body).effects.sends (dih_kinds n.dih body)
-node_sends_node n block.Lqh body = of_kind is_lqh_kind is_node_kind lqh_is_node (lqh_row n.lqh body).effects.sends (lqh_kinds n.lqh body)
-node_sends_node n _ body = refl
-
-node_silent : (test : Place → Body → Bool) → ((to : Place) (body : Body) → is_node_kind body ≡ true → test to body ≡ false) → (g : host.Host) (n : node.Node) (to : Place) (body : Body) → g ≡ Node n
-    → sends_of test (row g to body).effects.sends ≡ 0
-unfolding row
-node_silent test fails (Node m) n to body is = none_of is_node_kind test fails (node_row m to.block body).effects.sends (node_sends_node m to.block body)
-node_silent test fails (Shell s) n to body is = cc
+host_sends_node : (g : host.Host) (x : Signal) → has_api g ≡ false → are_of is_node_kind (row g x).effects.sends ≡ true
+host_sends_node g x none = of_effects (λ f. are_of is_node_kind f.sends ≡ true) g x refl (record {
+  api = λ runs at. absurd (let both : true ≡ false = sym runs ∙ none in cc);
+  tc = λ runs at. tc_sends_node (tc_of g) x.body;
+  dih = λ runs at. of_kind is_dih_kind is_node_kind dih_is_node (dih_table (dih_of g) x.body).effects.sends (dih_kinds (dih_of g) x.body);
+  rows = λ runs at. of_kind is_lqh_kind is_node_kind lqh_is_node (lqh_table (lqh_of g) x.body).effects.sends (lqh_kinds (lqh_of g) x.body);
+})
 
 -- so of what no node sends none is sent by a node's host
-pub node_since : (start : Start) (test : Place → Body → Bool) → ((to : Place) (body : Body) → is_node_kind body ≡ true → test to body ≡ false) → (h : ℕ) (newer log : List LogStep)
+pub node_since : (start : Start) (test : Place → Body → Bool) → ((to : Place) (body : Body) → is_node_kind body ≡ true → test to body ≡ false) → (h : ℕ) (newer log : List HostStep)
     → sent_since start test (suc h) newer log ≡ 0
 node_since start test fails h [] log = refl
 node_since start test fails h (e ∷ newer) log =
-    let n = node_after start h (newer ++ log) in
-    omega (arith, node_since start test fails h newer log, node_silent test fails (after start (suc h) (newer ++ log)) n.state e.taken.to e.taken.body n.is)
+    let here = host_sends_node (after start (suc h) (newer ++ log)) e.step.taken (node_runs_none start h (newer ++ log)) in
+    omega (arith, node_since start test fails h newer log, none_of is_node_kind test fails (step_after start (suc h) (newer ++ log) e).effects.sends here)
 
 no_push_node : (tx : TxId) (to : Place) (body : Body) → is_node_kind body ≡ true → is_push_to tx to body ≡ false
 no_push_node tx to (Client (TcKeyReq one op)) e = cc
@@ -115,7 +111,7 @@ no_push_node tx to body e = and_off (is_tc to.block) (plain body e)
     plain (Client (TcRollbackReq one)) k = cc
     plain _ k = refl
 
-pub node_pushes : (start : Start) (tx : TxId) (h : ℕ) (newer log : List LogStep) → sent_since start (is_push_to tx) (suc h) newer log ≡ 0
+pub node_pushes : (start : Start) (tx : TxId) (h : ℕ) (newer log : List HostStep) → sent_since start (is_push_to tx) (suc h) newer log ≡ 0
 node_pushes start tx h newer log = node_since start (is_push_to tx) (no_push_node tx) h newer log
 
 module _ (tx : TxId) where
@@ -158,19 +154,13 @@ module _ (tx : TxId) where
         absurd (let off : false ≡ true = sym (each_at (λ (t : OpenTransaction). is_beginning t.doing ≡ false) at.front at.t at.back s.opened at.is calm)
         ∙ left_of (is_beginning at.t.doing) (same_name at.t.name called) passes in cc)
 
-  shell_calm : (s : ApiState) (at : BlockId) (body : Body) → is_request body ≡ false → NoneBegins s.opened → KeepsCalm (shell_row s at body).state.opened (shell_row s at body).effects.sends
-  unfolding shell_row
-  shell_calm s block.Api body plain calm = change_calm s body calm (api_row s body) (api_changes s body plain)
-  shell_calm s _ body plain calm = record { calm = calm; pushes = refl }
-
-  host_calm : (g : host.Host) (to : Place) (body : Body) → is_request body ≡ false → NoneBegins (opened_in g)
-      → KeepsCalm (opened_in (row g to body).state) (row g to body).effects.sends
-  unfolding row
-  host_calm (Shell s) to body plain calm = shell_calm s to.block body plain calm
-  host_calm (Node n) to body plain calm = record { calm = tt; pushes = none_of is_node_kind (is_push_to tx) (no_push_node tx) (node_row n to.block body).effects.sends (node_sends_node n to.block body) }
+  host_calm : (g : host.Host) (x : Signal) → has_api g ≡ true → is_request x.body ≡ false → NoneBegins (opened_in g) → KeepsCalm (opened_in (row g x).state) (row g x).effects.sends
+  host_calm g x has plain calm =
+      api_host (λ (step : Step ApiState). KeepsCalm step.state.opened step.effects.sends) g x has
+      (λ at. change_calm (api_of g) x.body calm (api_row (api_of g) x) (api_changes (api_of g) x.body plain)) (λ off. record { calm = calm; pushes = refl })
 
   -- along steps of the shell's host that aren't requests
-  pub calm_since : (start : Start) (later log : List LogStep) → Each (λ (e : LogStep). is_request e.taken.body ≡ false) later → NoneBegins (opened_in (after start 0 log))
+  pub calm_since : (start : Start) (later log : List HostStep) → Each (λ (e : HostStep). is_request e.step.taken.body ≡ false) later → NoneBegins (opened_in (after start 0 log))
       → NoneBegins (opened_in (after start 0 (later ++ log))) × (sent_since start (is_push_to tx) 0 later log ≡ 0)
   calm_since start [] log plain calm = (calm, refl)
   calm_since start (e ∷ later) log plain calm = next (calm_since start later log plain.1 calm)
@@ -178,5 +168,5 @@ module _ (tx : TxId) where
       next : NoneBegins (opened_in (after start 0 (later ++ log))) × (sent_since start (is_push_to tx) 0 later log ≡ 0)
           → NoneBegins (opened_in (after start 0 (e ∷ (later ++ log)))) × (sent_since start (is_push_to tx) 0 (e ∷ later) log ≡ 0)
       next before =
-          let kept = host_calm (after start 0 (later ++ log)) e.taken.to e.taken.body plain.0 before.0 in
+          let kept = host_calm (after start 0 (later ++ log)) e.step.taken (api_runs start (later ++ log)) plain.0 before.0 in
           (kept.calm, omega (arith, kept.pushes, before.1))

@@ -1,11 +1,11 @@
 -- An end that is reported and is no abort is a commit, which is replied and marked.
 use Rattle.std.proofs.Common.{◌≡◌, ℕ, true, false, List, [], ◌∷◌, ◌++◌, refl, sym, ap, ◌∙◌, subst, inl, append_assoc}
 use Rattle.std.specs.Prelude.{Option, Some, drop, length}
-use Rattle.run_theory.specs.Lists.{Each, IsIn, IsPast}
-use Rattle.run_theory.specs.Logs.{IsLog}
 use Rattle.run_theory.proofs.Links.{log_after}
 use Rattle.run_theory.proofs.Pasts.{each_in, past_trans}
-use Rattle.sig_core.specs.declared.log.LogStep.{LogStep}
+use Rattle.run_theory.specs.Lists.{Each, IsIn, IsPast}
+use Rattle.run_theory.specs.Logs.{IsLog}
+use Rattle.sig_core.proofs.Keys.{same_tx-self}
 use Rattle.sig_core.specs.declared.mark.Mark.TheVariants.{Reported}
 use Rattle.sig_core.specs.declared.member.TxId.{TxId}
 use Rattle.sig_core.specs.declared.outcome.AbortCause.{AbortCause}
@@ -20,13 +20,13 @@ use Rattle.node_core.specs.Replies.{replies_of}
 use Rattle.node_core.specs.Requests.{is_request}
 use Rattle.world_core.specs.Machine.{after, machine}
 use Rattle.world_core.specs.Start.{Start}
-use Rattle.answer_laws.proofs.ApiBegins.{in_middle}
+use Rattle.world_core.specs.Steps.{HostStep}
+use Rattle.host_laws.proofs.ApiBegins.{in_middle}
 use Rattle.answer_laws.specs.Answered.{AreQuiet}
 use Rattle.command_laws.proofs.ApiChanges.{outcome_in}
-use Rattle.command_laws.proofs.CommitGoes.{HasEnded}
+use Rattle.command_laws.proofs.EntryGoes.{HasEnded}
 use Rattle.command_laws.proofs.FirmHosts.{back_of}
 use Rattle.command_laws.proofs.Told.{told_since}
-use Rattle.sig_core.proofs.Keys.{same_tx-self}
 use Rattle.command_laws.specs.Served.{IsMarked, replies_since}
 
 abbrev pub OutcomeOf : Type 0
@@ -48,13 +48,13 @@ never_unknown tx (Client (TcCommitConf one epoch)) is = let both : outcome.Commi
 never_unknown tx _ is = cc
 
 -- the transaction of this name was reported committed
-pub record IsReported (start : Start) (was now : ℕ → List LogStep) (name : Option ℕ) (tx : TxId) : Type 0 where
+pub record IsReported (start : Start) (was now : ℕ → List HostStep) (name : Option ℕ) (tx : TxId) : Type 0 where
   pub epoch : ℕ
   pub told : IsIn (Ended name (outcome.Committed epoch)) (replies_since start was now)
   pub marked : IsMarked was now tx epoch
 
-module _ (start : Start) (was now : ℕ → List LogStep) (since : AreQuiet start now) (tx : TxId) (name : Option ℕ) (later log : List LogStep) (is_now : now 0 ≡ later ++ log) (past : IsPast (was 0) log)
-    (plain : Each (λ (e : LogStep). is_request e.taken.body ≡ false) later) (none : Each (λ (e : LogStep). is_request e.taken.body ≡ false → back_of tx e.taken.body ≡ false) later)
+module _ (start : Start) (was now : ℕ → List HostStep) (since : AreQuiet start now) (tx : TxId) (name : Option ℕ) (later log : List HostStep) (is_now : now 0 ≡ later ++ log) (past : IsPast (was 0) log)
+    (plain : Each (λ (e : HostStep). is_request e.step.taken.body ≡ false) later) (none : Each (λ (e : HostStep). is_request e.step.taken.body ≡ false → back_of tx e.step.taken.body ≡ false) later)
     (ended : HasEnded tx name start later log) where
   now_is : now 0 ≡ ended.newer ++ ended.step ∷ (ended.older ++ log)
   now_is = is_now ∙ ap (λ w. w ++ log) ended.is ∙ append_assoc ended.newer (ended.step ∷ ended.older) log
@@ -62,10 +62,10 @@ module _ (start : Start) (was now : ℕ → List LogStep) (since : AreQuiet star
   inside : IsIn ended.step later
   inside = subst (IsIn ended.step) (sym ended.is) (in_middle ended.newer ended.step ended.older)
 
-  not_back : back_of tx ended.step.taken.body ≡ false
+  not_back : back_of tx ended.step.step.taken.body ≡ false
   not_back =
-      each_in (λ (e : LogStep). is_request e.taken.body ≡ false → back_of tx e.taken.body ≡ false) ended.step later none inside
-      (each_in (λ (e : LogStep). is_request e.taken.body ≡ false) ended.step later plain inside)
+      each_in (λ (e : HostStep). is_request e.step.taken.body ≡ false → back_of tx e.step.taken.body ≡ false) ended.step later none inside
+      (each_in (λ (e : HostStep). is_request e.step.taken.body ≡ false) ended.step later plain inside)
 
   before : IsPast (was 0) (ended.older ++ log)
   before = past_trans past (record { newer = ended.older; is = refl })
@@ -73,7 +73,7 @@ module _ (start : Start) (was now : ℕ → List LogStep) (since : AreQuiet star
   logged : IsLog (machine start) 0 (ended.step ∷ (ended.older ++ log))
   logged = log_after (machine start) 0 ended.newer (ended.step ∷ (ended.older ++ log)) (subst (IsLog (machine start) 0) now_is (since.right.local 0))
 
-  marks : ended.step.marks ≡ Reported tx ended.ending.outcome ∷ []
+  marks : ended.step.step.marks ≡ Reported tx ended.ending.outcome ∷ []
   marks = logged.0.fits.marks ∙ ended.ending.marked
 
   pub reported : IsReported start was now name tx
@@ -94,5 +94,5 @@ module _ (start : Start) (was now : ℕ → List LogStep) (since : AreQuiet star
         };
       }
       by (outcome.Aborted cause) is =
-          absurd (let both : false ≡ true = sym not_back ∙ was_aborted tx ended.step.taken.body cause (ended.ending.about ∙ ap (λ end. Some (tx, end)) is) in cc)
-      by outcome.Unknown is = absurd (never_unknown tx ended.step.taken.body (ended.ending.about ∙ ap (λ end. Some (tx, end)) is))
+          absurd (let both : false ≡ true = sym not_back ∙ was_aborted tx ended.step.step.taken.body cause (ended.ending.about ∙ ap (λ end. Some (tx, end)) is) in cc)
+      by outcome.Unknown is = absurd (never_unknown tx ended.step.step.taken.body (ended.ending.about ∙ ap (λ end. Some (tx, end)) is))

@@ -1,15 +1,15 @@
 -- Each request is answered.
 use Rattle.std.proofs.Common.{◌⊎◌, ℕ, List, inl, inr}
 use Rattle.std.specs.Prelude.{None, Some}
-use Rattle.sig_core.specs.declared.log.LogStep.{LogStep}
 use Rattle.sig_core.specs.declared.op.Op.{Op}
 use Rattle.sig_core.specs.declared.request.ApiReq.{ApiReq}
 use Rattle.sig_core.specs.declared.request.ApiReq.TheVariants as request
 use Rattle.world_core.specs.Start.{Start}
+use Rattle.world_core.specs.Steps.{HostStep}
 use Rattle.answer_laws.proofs.Answers.{each_answered}
 use Rattle.command_laws.proofs.AbortAnswered.{aborts_answered}
-use Rattle.command_laws.proofs.Committed.{commits_committed}
 use Rattle.command_laws.proofs.ComesTo.{commits_come_to, operations_come_to}
+use Rattle.command_laws.proofs.Committed.{commits_committed}
 use Rattle.command_laws.proofs.HeldUp.{each_held_up}
 use Rattle.command_laws.proofs.HoldersTold.{holders_told}
 use Rattle.command_laws.proofs.LoneAnswered.{lone_answered}
@@ -20,14 +20,14 @@ use Rattle.command_laws.specs.Alone.{IsRefusedAlone, IsTurnedAway, WaitsAlone}
 use Rattle.command_laws.specs.Answers.{AnswersRequest, LoneComesTo, RequestsAreAnswered}
 use Rattle.command_laws.specs.Served.{IsAnsweredAlone, IsServed}
 
-lone_comes_to : (start : Start) (was now : ℕ → List LogStep) (op : Op) → IsServed start was now (request.Operate None op) → LoneComesTo start was now
+lone_comes_to : (start : Start) (was now : ℕ → List HostStep) (op : Op) → IsServed start was now (request.Operate None op) → LoneComesTo start was now
 lone_comes_to start was now op served = by (lone_answered each_answered start was now op served)
   where
     by : IsAnsweredAlone start was now ⊎ (IsRefusedAlone start was now ⊎ (IsTurnedAway start was now ⊎ WaitsAlone start was now)) → LoneComesTo start was now
     by (inl answered) = inl (record { answered = answered; committed = lone_committed each_answered start was now op served answered })
     by (inr other) = inr other
 
-answers_request : (start : Start) (was now : ℕ → List LogStep) (r : ApiReq) → IsServed start was now r → AnswersRequest start was now r
+answers_request : (start : Start) (was now : ℕ → List HostStep) (r : ApiReq) → IsServed start was now r → AnswersRequest start was now r
 answers_request start was now (request.Operate (Some name) op) served = (
   operations_come_to start was now name op served,
   (λ tx t. operations_answered each_answered start was now name op t.takes.item tx served t.takes.named t.takes.ready t.takes.own t.few),
@@ -40,8 +40,8 @@ answers_request start was now request.Pending served = λ first waits left. hold
 answers_request start was now _ served = tt
 
 pub requests_answered : RequestsAreAnswered
-requests_answered start logs some few right within asked newer e before r at is on =
-    let moments = requests_served start logs some few right within asked newer e before r at is on in
+requests_answered start logs shape right within asked newer e before r at is on =
+    let moments = requests_served start logs shape right within asked newer e before r at is on in
     record {
       moments = moments;
       answers = answers_request start moments.was moments.now r moments.served;

@@ -1,70 +1,71 @@
 -- What was taken since a quiet moment was sent since.
 use Rattle.std.proofs.Common.{◌≡◌, ◌⊎◌, ◌<◌, ◌≤◌, ◌+◌, ℕ, Bool, true, false, List, [], ◌∷◌, ◌++◌, refl, sym, ap, ◌∙◌, inl, inr, arith}
-use Rattle.std.specs.Prelude.{◌==◌, ◌&&◌, not}
+use Rattle.std.proofs.lemmas.Bool.{cases_lt}
 use Rattle.std.proofs.lemmas.Bool.Decides.{nat_tests}
+use Rattle.std.specs.Prelude.{◌==◌, ◌&&◌, not}
+use Rattle.run_theory.proofs.Pasts.{each_from, each_in}
 use Rattle.run_theory.specs.Cuts.{IsCut}
 use Rattle.run_theory.specs.Links.{is_from, sent, taken}
 use Rattle.run_theory.specs.Lists.{Each, IsIn}
-use Rattle.run_theory.proofs.Pasts.{each_from, each_in}
-use Rattle.std.proofs.lemmas.Bool.{cases_lt}
-use Rattle.sig_core.specs.declared.log.LogStep.{LogStep}
 use Rattle.sig_core.specs.declared.outs.Outgoing.{Outgoing}
 use Rattle.sig_core.specs.declared.place.Place.{Place}
 use Rattle.sig_core.specs.declared.signal.Body.{Body}
-use Rattle.sig_core.specs.declared.signal.Signal.{Signal}
 use Rattle.node_core.specs.Requests.{is_request}
-use Rattle.world_core.specs.Machine.{hosts, machine, step_after}
+use Rattle.world_core.proofs.HostNumbers.{given_past}
+use Rattle.world_core.specs.Hosts.{host_for, hosts}
+use Rattle.world_core.specs.Machine.{machine, step_after}
 use Rattle.world_core.specs.Start.{Start}
-use Rattle.answer_laws.proofs.Begins.{given_past}
-use Rattle.answer_laws.proofs.LinkCounts.{sent_signals, signals, taken_signals}
-use Rattle.answer_laws.proofs.Tally.{one_if, tally, tally_past}
-use Rattle.answer_laws.proofs.Wishes.{sends_of, to_node}
+use Rattle.world_core.specs.Steps.{Addressed, HostStep}
+use Rattle.host_laws.proofs.Tally.{tally_past}
+use Rattle.host_laws.specs.Counts.{one_if, tally}
+use Rattle.host_laws.proofs.LinkCounts.{sent_signals, signals, taken_signals, to_host}
+use Rattle.host_laws.proofs.Wishes.{sends_of}
 use Rattle.answer_laws.specs.Answered.{AreQuiet}
-use Rattle.transit_laws.proofs.Weighing.{none_passes}
+use Rattle.run_laws.proofs.Weighing.{none_passes}
 
 module _ (start : Start) (test : Place → Body → Bool) where
   -- how many signals that pass the test the newer steps of host h sent, behind its log
-  abbrev pub sent_since : ℕ → List LogStep → List LogStep → ℕ
+  abbrev pub sent_since : ℕ → List HostStep → List HostStep → ℕ
   sent_since h [] log = 0
   sent_since h (e ∷ newer) log = sends_of test (step_after start h (newer ++ log) e).effects.sends + sent_since h newer log
 
   -- those of them that are for host j
-  abbrev pub sent_since_to : ℕ → ℕ → List LogStep → List LogStep → ℕ
+  abbrev pub sent_since_to : ℕ → ℕ → List HostStep → List HostStep → ℕ
   sent_since_to h j [] log = 0
-  sent_since_to h j (e ∷ newer) log = sends_of (to_node j test) (step_after start h (newer ++ log) e).effects.sends + sent_since_to h j newer log
+  sent_since_to h j (e ∷ newer) log = sends_of (to_host start j test) (step_after start h (newer ++ log) e).effects.sends + sent_since_to h j newer log
 
   -- and how many they took from host i
-  abbrev pub taken_since : ℕ → List LogStep → ℕ
-  taken_since i newer = tally (λ (e : LogStep). is_from (machine start) i e && test e.taken.to e.taken.body) newer
+  abbrev pub taken_since : ℕ → List HostStep → ℕ
+  taken_since i newer = tally (λ (e : HostStep). is_from (machine start) i e && test e.step.taken.to e.step.taken.body) newer
 
-  pub fewer : (j : ℕ) (sends : List Outgoing) → sends_of (to_node j test) sends ≤ sends_of test sends
+  pub fewer : (j : ℕ) (sends : List Outgoing) → sends_of (to_host start j test) sends ≤ sends_of test sends
   fewer j [] = omega arith
-  fewer j (o ∷ sends) = omega (arith, fewer j sends, less (o.to.node == j) (test o.to o.body))
+  fewer j (o ∷ sends) = omega (arith, fewer j sends, less (host_for start o.to == j) (test o.to o.body))
     where
       less : (a b : Bool) → one_if (a && b) ≤ one_if b
       less true b = omega arith
       less false b = omega arith
 
-  pub link_sent : (h j : ℕ) (newer log : List LogStep) → signals test (sent (machine start) h j (newer ++ log)) ≤ sent_since h newer log + signals test (sent (machine start) h j log)
+  pub link_sent : (h j : ℕ) (newer log : List HostStep) → signals test (sent (machine start) h j (newer ++ log)) ≤ sent_since h newer log + signals test (sent (machine start) h j log)
   link_sent h j [] log = omega arith
   link_sent h j (e ∷ newer) log =
       omega (arith, link_sent h j newer log, sent_signals start test h j e (newer ++ log), fewer j (step_after start h (newer ++ log) e).effects.sends)
 
-  link_sent_to : (h j : ℕ) (newer log : List LogStep) → signals test (sent (machine start) h j (newer ++ log)) ≡ sent_since_to h j newer log + signals test (sent (machine start) h j log)
+  link_sent_to : (h j : ℕ) (newer log : List HostStep) → signals test (sent (machine start) h j (newer ++ log)) ≡ sent_since_to h j newer log + signals test (sent (machine start) h j log)
   link_sent_to h j [] log = omega arith
   link_sent_to h j (e ∷ newer) log = omega (arith, link_sent_to h j newer log, sent_signals start test h j e (newer ++ log))
 
-  link_taken : (i : ℕ) (newer log : List LogStep) → signals test (taken (machine start) i (newer ++ log)) ≡ taken_since i newer + signals test (taken (machine start) i log)
+  link_taken : (i : ℕ) (newer log : List HostStep) → signals test (taken (machine start) i (newer ++ log)) ≡ taken_since i newer + signals test (taken (machine start) i log)
   link_taken i [] log = omega arith
   link_taken i (e ∷ newer) log = omega (arith, link_taken i newer log, taken_signals start test i e (newer ++ log))
 
-pub front_nil : (newer log : List LogStep) → [] ≡ newer ++ log → newer ≡ []
+pub front_nil : (newer log : List HostStep) → [] ≡ newer ++ log → newer ≡ []
 front_nil [] log is = refl
 front_nil (e ∷ newer) log is = absurd cc
 
-module _ (start : Start) (was now : ℕ → List LogStep) (before : AreQuiet start was) (since : AreQuiet start now) (cut : IsCut was now) where
+module _ (start : Start) (was now : ℕ → List HostStep) (before : AreQuiet start was) (since : AreQuiet start now) (cut : IsCut was now) where
   -- the steps of a host since then, the newest first
-  abbrev pub newer_at : ℕ → List LogStep
+  abbrev pub newer_at : ℕ → List HostStep
   newer_at h = (cut h).newer
 
   module _ (test : Place → Body → Bool) where
@@ -84,7 +85,7 @@ module _ (start : Start) (was now : ℕ → List LogStep) (before : AreQuiet sta
         by (inl low) =
             omega (
               arith,
-              tally_past (λ (x : Signal). test x.to x.body) (given_past start i j (now i) (taken (machine start) i (now j)) (since.right.linked i j)),
+              tally_past (λ (x : Addressed). test x.signal.to x.signal.body) (given_past start i j (now i) (taken (machine start) i (now j)) (since.right.linked i j)),
               ap (λ log. signals test (sent (machine start) i j log)) (cut i).is,
               ap (λ log. signals test (taken (machine start) i log)) (cut j).is,
               link_sent start test i j (newer_at i) (was i),
@@ -96,25 +97,33 @@ module _ (start : Start) (was now : ℕ → List LogStep) (before : AreQuiet sta
             omega (arith, ap (taken_since start test i) none)
 
     -- a signal that was taken from a link
-    from_link : (i : ℕ) (e : LogStep) → is_request e.taken.body ≡ false → e.taken.from.0 ≡ i → is_from (machine start) i e ≡ true
-    from_link i e plain at = go (is_request e.taken.body) (e.taken.from.0 == i) plain (grind (arith, nat_tests, at))
+    from_link : (i : ℕ) (e : HostStep) → is_request e.step.taken.body ≡ false → e.step.taken.from.0 ≡ i → is_from (machine start) i e ≡ true
+    from_link i e plain at = go (is_request e.step.taken.body) (e.step.taken.from.0 == i) plain (grind (arith, nat_tests, at))
       where
         go : (a b : Bool) → a ≡ false → b ≡ true → (not a && b) ≡ true
         go false true p q = refl
         go false false p q = cc
         go true b p q = cc
 
+    -- a host that isn't there sends nothing
+    pub none_sent : ((i : ℕ) → i < hosts start → sent_since start test i (newer_at i) (was i) ≡ 0) → (i : ℕ) → sent_since start test i (newer_at i) (was i) ≡ 0
+    none_sent none i = by (cases_lt i (hosts start))
+      where
+        by : (i < hosts start) ⊎ (hosts start ≤ i) → sent_since start test i (newer_at i) (was i) ≡ 0
+        by (inl low) = none i low
+        by (inr high) = ap (λ newer. sent_since start test i newer (was i)) (front_nil (newer_at i) (was i) (sym (since.within i high) ∙ (cut i).is))
+
     -- what no host has sent since then none has taken
-    pub none_taken : ((i : ℕ) → sent_since start test i (newer_at i) (was i) ≡ 0) → (j : ℕ)
-        → Each (λ (e : LogStep). is_request e.taken.body ≡ false → test e.taken.to e.taken.body ≡ false) (newer_at j)
+    pub none_taken : ((i : ℕ) → i < hosts start → sent_since start test i (newer_at i) (was i) ≡ 0) → (j : ℕ)
+        → Each (λ (e : HostStep). is_request e.step.taken.body ≡ false → test e.step.taken.to e.step.taken.body ≡ false) (newer_at j)
     none_taken none j = each_from _ (newer_at j) one
       where
-        one : (e : LogStep) → IsIn e (newer_at j) → is_request e.taken.body ≡ false → test e.taken.to e.taken.body ≡ false
+        one : (e : HostStep) → IsIn e (newer_at j) → is_request e.step.taken.body ≡ false → test e.step.taken.to e.step.taken.body ≡ false
         one e inside plain =
-            let i = e.taken.from.0 in
-            let zero : taken_since start test i (newer_at j) ≡ 0 = omega (arith, few_taken i j, none i) in
-            let off = each_in (λ (f : LogStep). (is_from (machine start) i f && test f.taken.to f.taken.body) ≡ false) e (newer_at j) (none_passes _ (newer_at j) zero) inside in
-            ap (λ b. b && test e.taken.to e.taken.body) (sym (from_link i e plain refl)) ∙ off
+            let i = e.step.taken.from.0 in
+            let zero : taken_since start test i (newer_at j) ≡ 0 = omega (arith, few_taken i j, none_sent none i) in
+            let off = each_in (λ (f : HostStep). (is_from (machine start) i f && test f.step.taken.to f.step.taken.body) ≡ false) e (newer_at j) (none_passes _ (newer_at j) zero) inside in
+            ap (λ b. b && test e.step.taken.to e.step.taken.body) (sym (from_link i e plain refl)) ∙ off
 
     -- all that was sent to a host since then was taken there
     pub all_arrive : (i j : ℕ) → i < hosts start → j < hosts start → sent_since_to start test i j (newer_at i) (was i) ≤ taken_since start test i (newer_at j)

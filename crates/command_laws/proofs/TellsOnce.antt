@@ -2,39 +2,36 @@
 use Rattle.std.proofs.Common.{◌≡◌, ◌⊎◌, ◌<◌, ◌≤◌, ◌+◌, ℕ, zero, suc, Bool, true, false, List, [], ◌∷◌, refl, sym, ap, ◌∙◌, subst, inl, inr, arith}
 use Rattle.std.specs.Prelude.{◌==◌, ◌&&◌, Option, None, Some, if◌then◌else◌}
 use Rattle.run_theory.specs.Lists.{Each}
+use Rattle.sig_core.proofs.Keys.{same_tx-self}
 use Rattle.sig_core.specs.declared.member.TxId.{TxId}
 use Rattle.sig_core.specs.declared.outs.Outgoing.{Outgoing}
-use Rattle.sig_core.specs.declared.place.BlockId.{BlockId}
-use Rattle.sig_core.specs.declared.place.BlockId.TheVariants as block
 use Rattle.sig_core.specs.declared.place.Place.{Place}
 use Rattle.sig_core.specs.declared.signal.Body.{Body}
 use Rattle.sig_core.specs.declared.signal.Body.TheVariants.{Client}
 use Rattle.sig_core.specs.declared.signal.client.ClientSignal.TheVariants.{TcKeyConf, TcKeyReq, TcRollbackRep, TcRollbackReq}
+use Rattle.sig_core.specs.declared.signal.Signal.{Signal}
 use Rattle.sig_core.specs.Same.{same_tx}
 use Rattle.sig_core.specs.Step.{Step}
-use Rattle.lqh_block.specs.Lqh.{lqh_row}
-use Rattle.node_core.specs.declared.node.Node as node
-use Rattle.node_core.specs.Dih.{dih_row}
-use Rattle.node_core.specs.Row.{node_row}
+use Rattle.node_core.specs.Blocks.{tc_of}
+use Rattle.node_core.specs.declared.host.Host.{Host}
+use Rattle.node_core.specs.Row.{row}
 use Rattle.tc_block.specs.declared.transaction.Transaction.{Transaction}
 use Rattle.tc_block.specs.State.{TcState}
-use Rattle.tc_block.specs.Tc.{tc_row}
+use Rattle.tc_block.specs.Tc.{tc_row, tc_table}
 use Rattle.tc_block.specs.Turn.{Turn}
-use Rattle.answer_laws.proofs.DihSends.{dih_kinds}
-use Rattle.answer_laws.proofs.LqhSends.{lqh_kinds}
-use Rattle.answer_laws.proofs.SendKinds.{is_dih_kind, is_lqh_kind, none_of}
-use Rattle.answer_laws.proofs.Tally.{one_if, tally}
-use Rattle.answer_laws.proofs.TcKeys.{answer_of, is_asked, key_of_tx, tc_fair}
-use Rattle.answer_laws.proofs.TcLives.{IsOwn}
-use Rattle.answer_laws.proofs.TcMoves.{same_tx-is}
-use Rattle.answer_laws.proofs.TcSends.{tx_in}
-use Rattle.answer_laws.proofs.Wishes.{is_api, is_tc, sends_of}
-use Rattle.transit_laws.specs.Live.{of_live}
+use Rattle.host_laws.specs.Counts.{one_if, tally}
+use Rattle.host_laws.proofs.SendKinds.{none_of}
+use Rattle.host_laws.proofs.TcKeys.{answer_of, is_asked, key_of_tx, tc_fair, is_key}
+use Rattle.host_laws.proofs.TcLives.{IsOwn}
+use Rattle.host_laws.proofs.TcMoves.{same_tx-is}
+use Rattle.host_laws.proofs.TcSends.{tx_in}
+use Rattle.host_laws.proofs.Wishes.{is_api, is_tc, sends_of}
+use Rattle.run_laws.specs.Live.{of_live}
 use Rattle.command_laws.proofs.Firm.{firm_turn, is_firm, is_no_abort}
 use Rattle.command_laws.proofs.FirmHosts.{is_back, no_back_firm, not_push, push_of}
-use Rattle.command_laws.proofs.TcPath.{IsSound, TcGoes, aside, begins, is_told, left_by, none_dih, none_lqh, takes, tc_goes, told_of}
+use Rattle.command_laws.proofs.HostSteps.{tc_host}
+use Rattle.command_laws.proofs.TcPath.{IsSound, TcGoes, aside, begins, is_told, left_by, takes, tc_goes, told_of, told_tc}
 use Rattle.command_laws.proofs.Turns.{turn_by}
-use Rattle.sig_core.proofs.Keys.{same_tx-self}
 use Rattle.command_laws.proofs.TurnTells.{TurnTells, is_reply, turn_tells}
 
 -- where one test implies another, fewer signals pass it
@@ -177,25 +174,28 @@ module _ (tx : TxId) where
     goes_next step (begins number now none more) = begins_next step number none has.three
     goes_next step (takes t same was sends left more) = takes_next step t same was sends left more has.three
 
-    tc_next : HasTold asked (keys + one_if (key_of_tx tx body)) (sends_of (is_reply tx) (tc_row s body).effects.sends + a) (sends_of (is_back tx) (tc_row s body).effects.sends + r) (tc_row s body).state
+    tc_next : HasTold asked (keys + one_if (key_of_tx tx body)) (sends_of (is_reply tx) (tc_table s body).effects.sends + a) (sends_of (is_back tx) (tc_table s body).effects.sends + r) (tc_table s body).state
     unfolding AfterStep
-    tc_next = record { fair = omega (arith, has.fair, tc_fair tx s body); three = goes_next (tc_row s body) (tc_goes tx s body sound) }
+    tc_next = record { fair = omega (arith, has.fair, tc_fair tx s body); three = goes_next (tc_table s body) (tc_goes tx s body sound) }
 
-  same_counts : (asked keys a r a_more r_more : ℕ) (s : TcState) → a_more ≡ 0 → r_more ≡ 0 → HasTold asked keys a r s → HasTold asked (keys + 0) (a_more + a) (r_more + r) s
-  same_counts asked keys a r a_more r_more s p q has =
-      let k : keys + 0 ≡ keys = omega arith in
+  more_keys : (asked keys k a r a_more r_more : ℕ) (s : TcState) → a_more ≡ 0 → r_more ≡ 0 → HasTold asked keys a r s → HasTold asked (keys + k) (a_more + a) (r_more + r) s
+  more_keys asked keys k a r a_more r_more s p q has =
       let m : a_more + a ≡ a = omega (arith, p) in
       let n : r_more + r ≡ r = omega (arith, q) in
-      subst (λ i. HasTold asked i (a_more + a) (r_more + r) s) (sym k) (subst (λ i. HasTold asked keys i (r_more + r) s) (sym m) (subst (λ i. HasTold asked keys a i s) (sym n) has))
+      record {
+        fair = omega (arith, has.fair, p);
+        three = subst (λ i. IsOneOfThree i (r_more + r) s) (sym m) (subst (λ i. IsOneOfThree a i s) (sym n) has.three);
+      }
 
-  pub node_next : (n : node.Node) (at : BlockId) (body : Body) → IsSound tx n.tc → (is_tc at && wish_back_of tx body) ≡ false → (asked keys a r : ℕ) → asked + (keys + one_if (is_tc at && key_of_tx tx body)) ≤ 1 → HasTold asked keys a r n.tc
-      → HasTold asked (keys + one_if (is_tc at && key_of_tx tx body)) (sends_of (is_reply tx) (node_row n at body).effects.sends + a) (sends_of (is_back tx) (node_row n at body).effects.sends + r) (node_row n at body).state.tc
-  unfolding node_row
-  node_next n block.Tc body sound wish asked keys a r once has = tc_next n.tc body sound wish asked keys a r once has
-  node_next n block.Dih body sound wish asked keys a r once has =
-      let none = none_told (dih_row n.dih body).effects.sends (none_of is_dih_kind (is_told tx) (none_dih tx) (dih_row n.dih body).effects.sends (dih_kinds n.dih body)) in
-      same_counts asked keys a r _ _ n.tc none.0 none.1 has
-  node_next n block.Lqh body sound wish asked keys a r once has =
-      let none = none_told (lqh_row n.lqh body).effects.sends (none_of is_lqh_kind (is_told tx) (none_lqh tx) (lqh_row n.lqh body).effects.sends (lqh_kinds n.lqh body)) in
-      same_counts asked keys a r _ _ n.tc none.0 none.1 has
-  node_next n _ body sound wish asked keys a r once has = same_counts asked keys a r 0 0 n.tc refl refl has
+  pub host_tells : (g : Host) (x : Signal) → IsSound tx (tc_of g) → is_wish_back_to tx x.to x.body ≡ false → (asked keys a r : ℕ) → asked + (keys + one_if (is_key tx x.to x.body)) ≤ 1
+      → HasTold asked keys a r (tc_of g)
+      → HasTold asked (keys + one_if (is_key tx x.to x.body)) (sends_of (is_reply tx) (row g x).effects.sends + a) (sends_of (is_back tx) (row g x).effects.sends + r) (tc_of (row g x).state)
+  host_tells g x sound wish asked keys a r once has =
+      tc_host (λ (step : Step TcState). HasTold asked (keys + one_if (is_key tx x.to x.body)) (sends_of (is_reply tx) step.effects.sends + a) (sends_of (is_back tx) step.effects.sends + r) step.state) g x
+      (λ runs at. subst (λ of. HasTold asked (keys + one_if (is_tc of && key_of_tx tx x.body)) (sends_of (is_reply tx) (tc_row (tc_of g) x).effects.sends + a) (sends_of (is_back tx) (tc_row (tc_of g) x).effects.sends + r) (tc_row (tc_of g) x).state) (sym at)
+      (tc_next (tc_of g) x.body sound (ap (λ of. is_tc of && wish_back_of tx x.body) (sym at) ∙ wish) asked keys a r (subst (λ of. asked + (keys + one_if (is_tc of && key_of_tx tx x.body)) ≤ 1) at once) has))
+      (λ effects none off. at_rest effects.sends (none_told effects.sends (none (is_told tx) (told_tc tx))))
+    where
+      at_rest : (sends : List Outgoing) → (sends_of (is_reply tx) sends ≡ 0) × (sends_of (is_back tx) sends ≡ 0)
+          → HasTold asked (keys + one_if (is_key tx x.to x.body)) (sends_of (is_reply tx) sends + a) (sends_of (is_back tx) sends + r) (tc_of g)
+      at_rest sends none = more_keys asked keys (one_if (is_key tx x.to x.body)) a r _ _ (tc_of g) none.0 none.1 has

@@ -5,12 +5,12 @@ use Rattle.std.specs.Prelude.{drop, length}
 use Rattle.node_core.proofs.HostLemmas.{IsFront}
 use Rattle.node_core.specs.Replies.{replies_of}
 use Rattle.run_theory.specs.Lists.{IsIn, IsPast}
-use Rattle.sig_core.specs.declared.log.LogStep.{LogStep}
+use Rattle.world_core.specs.Steps.{HostStep}
 use Rattle.sig_core.specs.declared.reply.ApiReply.{ApiReply}
 use Rattle.world_core.proofs.Replies.{replies_grow}
 use Rattle.world_core.specs.Machine.{after}
 use Rattle.world_core.specs.Start.{Start}
-use Rattle.answer_laws.proofs.ApiBegins.{in_middle}
+use Rattle.host_laws.proofs.ApiBegins.{in_middle}
 
 in_rest : {A : Type 0} (xs before : List A) (x : A) (behind : List A) → IsIn x (drop (length xs) (((xs ++ before) ++ x ∷ []) ++ behind))
 in_rest xs before x behind =
@@ -19,7 +19,7 @@ in_rest xs before x behind =
     flat : ((xs ++ before) ++ x ∷ []) ++ behind ≡ xs ++ (before ++ x ∷ behind)
     flat = append_assoc (xs ++ before) (x ∷ []) behind ∙ append_assoc xs before (x ∷ behind)
 
-pub told_since : (start : Start) (base log newer : List LogStep) (e : LogStep) (reply : ApiReply) → IsPast base log → replies_of (after start 0 (e ∷ log)) ≡ replies_of (after start 0 log) ++ reply ∷ []
+pub told_since : (start : Start) (base log newer : List HostStep) (e : HostStep) (reply : ApiReply) → IsPast base log → replies_of (after start 0 (e ∷ log)) ≡ replies_of (after start 0 log) ++ reply ∷ []
     → IsIn reply (drop (length (replies_of (after start 0 base))) (replies_of (after start 0 (newer ++ e ∷ log))))
 told_since start base log newer e reply past told =
     subst (λ xs. IsIn reply (drop (length (replies_of (after start 0 base))) xs)) (sym all) (in_rest (replies_of (after start 0 base)) before.more reply behind.more)

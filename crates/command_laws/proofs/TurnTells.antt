@@ -7,26 +7,26 @@ use Rattle.sig_core.specs.declared.place.Place.{Place}
 use Rattle.sig_core.specs.declared.signal.Body.{Body}
 use Rattle.sig_core.specs.declared.signal.Body.TheVariants.{Client}
 use Rattle.sig_core.specs.declared.signal.client.ClientSignal.TheVariants.{TcKeyConf}
-use Rattle.sig_core.specs.declared.view.View.{View}
+use Rattle.frag_map.specs.Layout.{Layout}
 use Rattle.sig_core.specs.Op.{key_of}
 use Rattle.tc_block.specs.declared.phase.Phase.{Phase}
 use Rattle.tc_block.specs.declared.phase.Phase.TheVariants.{Open, Verifying, Committing, Completing, Aborting}
 use Rattle.tc_block.specs.declared.transaction.Transaction.{Transaction}
 use Rattle.tc_block.specs.Abort as abort
-use Rattle.tc_block.specs.Chain.{chain_of}
+use Rattle.frag_map.specs.Layout.{chain_of}
 use Rattle.tc_block.specs.Operate as operate
 use Rattle.tc_block.specs.Sends.{entering, front_sends, go_on_if, wait_of}
 use Rattle.tc_block.specs.State.{TcState}
 use Rattle.tc_block.specs.Turn.{Turn, asking, going}
 use Rattle.tc_block.proofs.EachTurn.{AbortForms, CommittedForms, TurnForms}
-use Rattle.answer_laws.proofs.SendKinds.{are_of, is_keyless, none_of, of_map}
-use Rattle.answer_laws.proofs.TcKeyless as keyless
-use Rattle.answer_laws.proofs.TcSends.{tx_in}
-use Rattle.answer_laws.proofs.TcKeys.{answer_of, is_answer}
-use Rattle.answer_laws.proofs.Wishes.{and_false, is_api, sends_of, to_node}
+use Rattle.host_laws.proofs.SendKinds.{are_of, is_keyless, none_of, of_map}
+use Rattle.host_laws.proofs.TcKeyless as keyless
+use Rattle.host_laws.proofs.TcSends.{tx_in}
+use Rattle.host_laws.proofs.TcKeys.{answer_of, is_answer}
+use Rattle.host_laws.proofs.Wishes.{and_false, is_api, sends_of, to_node}
 use Rattle.command_laws.proofs.Firm.{fronts, has_chains, is_firm, is_no_abort}
 use Rattle.command_laws.proofs.FirmHosts.{is_back, no_back_firm}
-use Rattle.answer_laws.proofs.PhaseSends.{HasChains, aborts_of_kind, entering_of_kind, rest_of_kind}
+use Rattle.host_laws.proofs.PhaseSends.{HasChains, aborts_of_kind, entering_of_kind, rest_of_kind}
 use Rattle.command_laws.proofs.Turns.{turn_at, turn_by}
 
 -- an operation of the transaction is answered to the client
@@ -68,11 +68,11 @@ module _ (tx : TxId) where
   front_keyless Open = refl
   front_keyless Verifying = refl
 
-  module _ (node : ℕ) (view : View) (t : Transaction) where
-    enters : (u : Transaction) (phase : Phase) → TurnTells tx (going (entering node view tx u phase))
+  module _ (node : ℕ) (layout : Layout) (t : Transaction) where
+    enters : (u : Transaction) (phase : Phase) → TurnTells tx (going (entering node layout tx u phase))
     enters u phase =
-        silent (going (entering node view tx u phase)) (entering_of_kind is_keyless view tx keyless_chains node u phase (front_keyless phase))
-        (entering_of_kind is_no_abort view tx (has_chains tx) node u phase (fronts tx phase))
+        silent (going (entering node layout tx u phase)) (entering_of_kind is_keyless layout tx keyless_chains node u phase (front_keyless phase))
+        (entering_of_kind is_no_abort layout tx (has_chains tx) node u phase (fronts tx phase))
 
     end_keyless : (why : AbortCause) (verifying : Bool) → are_of is_keyless (abort.abort_end node tx why verifying) ≡ true
     end_keyless why true = refl
@@ -81,22 +81,22 @@ module _ (tx : TxId) where
     over_by : (u : Transaction) (why : AbortCause) (verifying : Bool) → TurnTells tx (record { step = record { state = u; effects = record { sends = abort.abort_end node tx why verifying; marks = [] } }; over = true })
     over_by u why verifying = inr (inr (none_of is_keyless (is_reply tx) no_reply_keyless (abort.abort_end node tx why verifying) (end_keyless why verifying), refl))
 
-    aborts : (u : Transaction) (why : AbortCause) → AbortForms node view tx u why (TurnTells tx)
+    aborts : (u : Transaction) (why : AbortCause) → AbortForms node layout tx u why (TurnTells tx)
     aborts u why = record { enters = λ some. enters u _; ends = λ none. over_by u why (abort.is_verifying u.phase) }
 
-    commits : (epoch : ℕ) → CommittedForms node view tx t epoch (TurnTells tx)
+    commits : (epoch : ℕ) → CommittedForms node layout tx t epoch (TurnTells tx)
     commits epoch = record { enters = λ some. enters t _; ends = λ none. silent _ refl refl }
 
-    turns_tell : (body : Body) → TurnForms node view tx t body (TurnTells tx)
+    turns_tell : (body : Body) → TurnForms node layout tx t body (TurnTells tx)
     turns_tell body = record {
       stays = silent _ refl refl;
       goes_on = λ at.
-          silent (going (go_on_if node view tx t at true)) (rest_of_kind is_keyless view tx keyless_chains node t at (front_keyless t.phase))
-          (rest_of_kind is_no_abort view tx (has_chains tx) node t at (fronts tx t.phase));
+          silent (going (go_on_if node layout tx t at true)) (rest_of_kind is_keyless layout tx keyless_chains node t at (front_keyless t.phase))
+          (rest_of_kind is_no_abort layout tx (has_chains tx) node t at (fronts tx t.phase));
       operates = λ op is can. silent _ refl refl;
       answers = λ key answer asked is on at. inr (inl (refl, record { goes = refl; firm = ap (λ p. is_firm p None) at }));
       late = λ key asked why verifying awaited on at.
-          silent (going (operate.late_answer view tx t key)) (keyless.late_keyless view tx t key) (aborts_of_kind is_no_abort view tx (has_chains tx) key (chain_of view key));
+          silent (going (operate.late_answer layout tx t key)) (keyless.late_keyless layout tx t key) (aborts_of_kind is_no_abort layout tx (has_chains tx) key (chain_of layout key));
       waits = λ asked on.
           silent (going (operate.wait_by tx t (Some asked))) (of_map is_keyless (wait_of tx (key_of asked.op)) asked.chain (λ m. refl))
           (of_map is_no_abort (wait_of tx (key_of asked.op)) asked.chain (λ m. refl));
@@ -114,4 +114,4 @@ module _ (tx : TxId) where
     }
 
 pub turn_tells : (s : TcState) (tx : TxId) (body : Body) (t : Transaction) → tx_in body ≡ tx → TurnTells tx (turn_by s tx body t)
-turn_tells s tx body t same = turn_at s tx body t (TurnTells tx) same (turns_tell tx s.node s.view t body)
+turn_tells s tx body t same = turn_at s tx body t (TurnTells tx) same (turns_tell tx s.node s.layout t body)

@@ -4,20 +4,13 @@ use Rattle.std.proofs.lemmas.Bool.Decides.{nat_tests}
 use Rattle.std.specs.Prelude.{drop, length, nat_lt, position, slice_get, Option, None, Some}
 use Rattle.run_theory.proofs.Pasts.{past_self}
 use Rattle.run_theory.specs.Lists.{IsIn}
-use Rattle.sig_core.specs.declared.log.LogStep.{LogStep}
 use Rattle.sig_core.specs.declared.member.TxId.{TxId}
 use Rattle.sig_core.specs.declared.op.Op.{Op}
-use Rattle.sig_core.specs.declared.place.Place.{Place}
 use Rattle.sig_core.specs.declared.reply.ApiReply.TheVariants.{Refused}
 use Rattle.sig_core.specs.declared.reply.Refusal.{Refusal}
 use Rattle.sig_core.specs.declared.reply.Refusal.TheVariants.{Busy, NotOpen, TooManyOperations}
 use Rattle.sig_core.specs.declared.request.ApiReq.{ApiReq}
 use Rattle.sig_core.specs.declared.request.ApiReq.TheVariants as request
-use Rattle.sig_core.specs.declared.signal.Body.{Body}
-use Rattle.sig_core.specs.declared.signal.Body.TheVariants.{Host}
-use Rattle.sig_core.specs.declared.signal.host.HostSignal.TheVariants.{Continue}
-use Rattle.sig_core.specs.declared.signal.host.Work.TheVariants as work
-use Rattle.sig_core.specs.Place.{client}
 use Rattle.sig_core.specs.Step.{Step}
 use Rattle.api_block.specs.Api.{request_row}
 use Rattle.api_block.specs.Commands.{commit_by, commit_row}
@@ -27,15 +20,14 @@ use Rattle.api_block.specs.declared.opened.OpenTransaction.{OpenTransaction}
 use Rattle.api_block.specs.Opened.{if_there, is_named, where_at}
 use Rattle.api_block.specs.Operate.{operate_by, operate_if, operate_row}
 use Rattle.api_block.specs.State.{ApiState, refused}
-use Rattle.node_core.specs.declared.host.Host as host
-use Rattle.node_core.specs.declared.host.Host.TheVariants.{Shell}
+use Rattle.node_core.specs.Blocks.{api_of}
 use Rattle.node_core.specs.Replies.{replies_of}
-use Rattle.node_core.specs.Row.{row, shell_row}
 use Rattle.world_core.specs.Machine.{after}
 use Rattle.world_core.specs.Start.{Start}
-use Rattle.answer_laws.proofs.Hosts.{shell_after}
-use Rattle.answer_laws.specs.Answered.{opened_in}
-use Rattle.command_laws.proofs.First.{IsFirst, request_first}
+use Rattle.world_core.specs.Steps.{HostStep}
+use Rattle.host_laws.specs.Opened.{opened_in}
+use Rattle.command_laws.proofs.First.{IsFirst, first_step, request_first}
+use Rattle.command_laws.proofs.HostKinds.{replies_are}
 use Rattle.command_laws.proofs.Told.{told_since}
 use Rattle.command_laws.specs.Answers.{IsTurnedDown}
 use Rattle.command_laws.specs.Served.{IsServed, named_in, replies_since}
@@ -105,54 +97,33 @@ operate_ends s name op = looked_up s name (TakesOperations s.opened name) (λ at
     by at t named Operating o ready own = inl (refuses s name Busy)
     by at t named Committing o ready own = inl (refuses s name Busy)
 
--- the same of the shell's host
-record IsRefusedAt (g after : host.Host) (name : ℕ) : Type 0 where
-  refusal : Refusal
-  replies : replies_of after ≡ replies_of g ++ Refused (Some name) refusal ∷ []
-
-abbrev EndsAt : (name : ℕ) → Type 0 → (g : host.Host) → ApiReq → Type 0
-EndsAt name T g r = IsRefusedAt g (row g client (Host (Continue (work.Request r) 0))).state name ⊎ T
-
-refused_at : (s after : ApiState) (name : ℕ) (T : Type 0) → IsRefusedIn s after name ⊎ T → IsRefusedAt (Shell s) (Shell after) name ⊎ T
-unfolding replies_of
-refused_at s after name T (inl r) = inl (record { refusal = r.refusal; replies = r.replies })
-refused_at s after name T (inr t) = inr t
-
-shell_commits : (s : ApiState) (name : ℕ) → EndsAt name (TakesCommands s.opened name) (Shell s) (request.Commit name)
-unfolding row shell_row request_row
-shell_commits s name = refused_at s (commit_row s name).state name (TakesCommands s.opened name) (commit_ends s name)
-
-shell_operates : (s : ApiState) (name : ℕ) (op : Op) → EndsAt name (TakesOperations s.opened name) (Shell s) (request.Operate (Some name) op)
-unfolding row shell_row request_row
-shell_operates s name op = refused_at s (operate_row s name op).state name (TakesOperations s.opened name) (operate_ends s name op)
-
 -- what the first step replies is told since then
-module _ (start : Start) (was now : ℕ → List LogStep) (name : ℕ) (r : ApiReq) (served : IsServed start was now r) (T : Type 0) where
-  turned_or : EndsAt name T (after start 0 (was 0)) r → IsTurnedDown start was now name ⊎ T
+module _ (start : Start) (was now : ℕ → List HostStep) (name : ℕ) (r : ApiReq) (served : IsServed start was now r) (T : Type 0) where
+  turned_or : IsRefusedIn (api_of (after start 0 (was 0))) (request_row (api_of (after start 0 (was 0))) r).state name ⊎ T → IsTurnedDown start was now name ⊎ T
   turned_or (inr t) = inr t
   turned_or (inl refused) = inl (record { refusal = refused.refusal; told = told })
     where
       f : IsFirst start was now r
       f = request_first start was now r served
 
-      state : after start 0 (f.first ∷ was 0) ≡ (row (after start 0 (was 0)) client (Host (Continue (work.Request r) 0))).state
-      state = ap (λ (p : Place). (row (after start 0 (was 0)) p f.first.taken.body).state) f.place ∙ ap (λ (b : Body). (row (after start 0 (was 0)) client b).state) f.body
+      replied : replies_of (after start 0 (f.first ∷ was 0)) ≡ replies_of (after start 0 (was 0)) ++ Refused (Some name) refused.refusal ∷ []
+      replied =
+          replies_are (after start 0 (f.first ∷ was 0)) ∙ ap (λ (step : Step ApiState). step.state.replies) (first_step start was now r f) ∙ refused.replies
+          ∙ ap (λ rs. rs ++ Refused (Some name) refused.refusal ∷ []) (sym (replies_are (after start 0 (was 0))))
 
       told : IsIn (Refused (Some name) refused.refusal) (replies_since start was now)
       told =
           subst (λ log. IsIn (Refused (Some name) refused.refusal) (drop (length (replies_of (after start 0 (was 0)))) (replies_of (after start 0 log)))) (sym f.is)
-          (told_since start (was 0) (was 0) f.later f.first (Refused (Some name) refused.refusal) (past_self (was 0)) (ap replies_of state ∙ refused.replies))
+          (told_since start (was 0) (was 0) f.later f.first (Refused (Some name) refused.refusal) (past_self (was 0)) replied)
 
-pub commit_taken : (start : Start) (was now : ℕ → List LogStep) (name : ℕ) → IsServed start was now (request.Commit name)
+pub commit_taken : (start : Start) (was now : ℕ → List HostStep) (name : ℕ) → IsServed start was now (request.Commit name)
     → IsTurnedDown start was now name ⊎ TakesCommands (opened_in (after start 0 (was 0))) name
+unfolding request_row
 commit_taken start was now name served =
-    let g = shell_after start (was 0) in
-    turned_or start was now name (request.Commit name) served (TakesCommands (opened_in (after start 0 (was 0))) name)
-    (subst (λ h. EndsAt name (TakesCommands (opened_in h) name) h (request.Commit name)) (sym g.is) (shell_commits g.state name))
+    turned_or start was now name (request.Commit name) served (TakesCommands (opened_in (after start 0 (was 0))) name) (commit_ends (api_of (after start 0 (was 0))) name)
 
-pub operation_taken : (start : Start) (was now : ℕ → List LogStep) (name : ℕ) (op : Op) → IsServed start was now (request.Operate (Some name) op)
+pub operation_taken : (start : Start) (was now : ℕ → List HostStep) (name : ℕ) (op : Op) → IsServed start was now (request.Operate (Some name) op)
     → IsTurnedDown start was now name ⊎ TakesOperations (opened_in (after start 0 (was 0))) name
+unfolding request_row
 operation_taken start was now name op served =
-    let g = shell_after start (was 0) in
-    turned_or start was now name (request.Operate (Some name) op) served (TakesOperations (opened_in (after start 0 (was 0))) name)
-    (subst (λ h. EndsAt name (TakesOperations (opened_in h) name) h (request.Operate (Some name) op)) (sym g.is) (shell_operates g.state name op))
+    turned_or start was now name (request.Operate (Some name) op) served (TakesOperations (opened_in (after start 0 (was 0))) name) (operate_ends (api_of (after start 0 (was 0))) name op)

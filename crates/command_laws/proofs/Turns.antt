@@ -24,33 +24,33 @@ use Rattle.tc_block.specs.Live.{place_in, step_of, step_place, step_value, turn_
 use Rattle.tc_block.specs.Operate.{answer_row, operate_row, wait_row}
 use Rattle.tc_block.specs.Sends.{go_on_row}
 use Rattle.tc_block.specs.State.{TcState, with_live}
-use Rattle.tc_block.specs.Tc.{begin_if, begin_row, begun, is_full, next_tx, pass_if, pass_row, tc_row}
+use Rattle.tc_block.specs.Tc.{begin_if, begin_row, begun, is_full, next_tx, pass_if, pass_row, tc_table}
 use Rattle.tc_block.specs.Turn.{Turn, going}
 use Rattle.tc_block.proofs.EachTurn.{RowsAre, TurnForms, rows_of}
-use Rattle.answer_laws.proofs.SendKinds.{are_of}
-use Rattle.answer_laws.proofs.TcMoves.{IsEntry, found, same_tx-is}
-use Rattle.answer_laws.proofs.TcSends.{tx_in}
+use Rattle.host_laws.proofs.SendKinds.{are_of}
+use Rattle.host_laws.proofs.TcMoves.{IsEntry, found, same_tx-is}
+use Rattle.host_laws.proofs.TcSends.{tx_in}
 
 -- what a transaction does at a signal that is about it
 abbrev pub turn_by : TcState → TxId → Body → Transaction → Turn
-turn_by s tx (Host (Continue (work.Transaction one) at)) t = going (go_on_row s.node s.view tx t at)
-turn_by s tx (Client (TcKeyReq one op)) t = going (operate_row s.view tx t op)
+turn_by s tx (Host (Continue (work.Transaction one) at)) t = going (go_on_row s.node s.layout tx t at)
+turn_by s tx (Client (TcKeyReq one op)) t = going (operate_row s.layout tx t op)
 turn_by s tx (Client (TcCommitReq one)) t = going (decide_row s.node tx t)
-turn_by s tx (Client (TcRollbackReq one)) t = rollback_row s.node s.view tx t
+turn_by s tx (Client (TcRollbackReq one)) t = rollback_row s.node s.layout tx t
 turn_by s tx (Client (TcWaitReq one)) t = going (wait_row tx t)
-turn_by s tx (Chain (LqhKeyConf one key answer)) t = going (answer_row s.view tx t key answer)
-turn_by s tx (Chain (LqhKeyRef one key why)) t = refuse_row s.node s.view tx t key why
-turn_by s tx (Chain (Committed one key)) t = committed_row s.node s.view tx t
+turn_by s tx (Chain (LqhKeyConf one key answer)) t = going (answer_row s.layout tx t key answer)
+turn_by s tx (Chain (LqhKeyRef one key why)) t = refuse_row s.node s.layout tx t key why
+turn_by s tx (Chain (Committed one key)) t = committed_row s.node s.layout tx t
 turn_by s tx (Chain (Completed one key)) t = completed_row s.node tx t
 turn_by s tx (Chain (Aborted one key)) t = aborted_row s.node tx t
-turn_by s tx (Epoch (DiVerifyConf one epoch)) t = commit_row s.node s.view tx t epoch
+turn_by s tx (Epoch (DiVerifyConf one epoch)) t = commit_row s.node s.layout tx t epoch
 turn_by s tx _ t = going (stay t)
 
 -- what holds of each form of turn that the transaction may take at the signal holds of the turn
-pub turn_at : (s : TcState) (tx : TxId) (body : Body) (t : Transaction) (R : Turn → Type 0) → tx_in body ≡ tx → TurnForms s.node s.view tx t body R → R (turn_by s tx body t)
-turn_at s tx body t R same forms = by body same (rows_of s.node s.view tx t body R forms)
+pub turn_at : (s : TcState) (tx : TxId) (body : Body) (t : Transaction) (R : Turn → Type 0) → tx_in body ≡ tx → TurnForms s.node s.layout tx t body R → R (turn_by s tx body t)
+turn_at s tx body t R same forms = by body same (rows_of s.node s.layout tx t body R forms)
   where
-    by : (b : Body) → tx_in b ≡ tx → RowsAre s.node s.view tx t b R → R (turn_by s tx b t)
+    by : (b : Body) → tx_in b ≡ tx → RowsAre s.node s.layout tx t b R → R (turn_by s tx b t)
     by (Host (Continue (work.Transaction one) at)) e rows = rows.goes_on at (ap (λ x. Host (Continue (work.Transaction x) at)) e)
     by (Client (TcKeyReq one op)) e rows = rows.operates op (ap (λ x. Client (TcKeyReq x op)) e)
     by (Client (TcCommitReq one)) e rows = rows.decides (ap (λ x. Client (TcCommitReq x)) e)
@@ -165,19 +165,19 @@ pass_shape : (s : TcState) (one ahead tx : TxId) (row : Transaction → Turn) (b
 pass_shape s one ahead tx row true = still refl refl
 pass_shape s one ahead tx row false = still refl refl
 
-pub tc_shape : (s : TcState) (body : Body) → TcShape s (tx_in body) (turn_by s (tx_in body) body) (tc_row s body)
+pub tc_shape : (s : TcState) (body : Body) → TcShape s (tx_in body) (turn_by s (tx_in body) body) (tc_table s body)
 unfolding begin_row pass_row
-tc_shape s (Host (Continue (work.Transaction tx) at)) = step_shape s tx (λ t. go_on_row s.node s.view tx t at)
+tc_shape s (Host (Continue (work.Transaction tx) at)) = step_shape s tx (λ t. go_on_row s.node s.layout tx t at)
 tc_shape s (Client (TcBeginReq name)) = begin_shape s name _ _ (is_full s)
-tc_shape s (Client (TcKeyReq tx op)) = step_shape s tx (λ t. operate_row s.view tx t op)
+tc_shape s (Client (TcKeyReq tx op)) = step_shape s tx (λ t. operate_row s.layout tx t op)
 tc_shape s (Client (TcCommitReq tx)) = step_shape s tx (λ t. decide_row s.node tx t)
-tc_shape s (Client (TcRollbackReq tx)) = turn_shape s tx (λ t. rollback_row s.node s.view tx t)
+tc_shape s (Client (TcRollbackReq tx)) = turn_shape s tx (λ t. rollback_row s.node s.layout tx t)
 tc_shape s (Client (TcWaitReq tx)) = step_shape s tx (λ t. wait_row tx t)
 tc_shape s (Client (LqhWaitConf tx ahead)) = pass_shape s tx ahead _ _ (is_some (place_in s tx))
-tc_shape s (Chain (LqhKeyConf tx key answer)) = step_shape s tx (λ t. answer_row s.view tx t key answer)
-tc_shape s (Chain (LqhKeyRef tx key why)) = turn_shape s tx (λ t. refuse_row s.node s.view tx t key why)
-tc_shape s (Chain (Committed tx key)) = turn_shape s tx (λ t. committed_row s.node s.view tx t)
+tc_shape s (Chain (LqhKeyConf tx key answer)) = step_shape s tx (λ t. answer_row s.layout tx t key answer)
+tc_shape s (Chain (LqhKeyRef tx key why)) = turn_shape s tx (λ t. refuse_row s.node s.layout tx t key why)
+tc_shape s (Chain (Committed tx key)) = turn_shape s tx (λ t. committed_row s.node s.layout tx t)
 tc_shape s (Chain (Completed tx key)) = turn_shape s tx (λ t. completed_row s.node tx t)
 tc_shape s (Chain (Aborted tx key)) = turn_shape s tx (λ t. aborted_row s.node tx t)
-tc_shape s (Epoch (DiVerifyConf tx epoch)) = turn_shape s tx (λ t. commit_row s.node s.view tx t epoch)
+tc_shape s (Epoch (DiVerifyConf tx epoch)) = turn_shape s tx (λ t. commit_row s.node s.layout tx t epoch)
 tc_shape s _ = still refl refl

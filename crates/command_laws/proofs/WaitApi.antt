@@ -1,6 +1,7 @@
 -- The API while it asks what its own transaction waits for.
-use Rattle.std.proofs.Common.{◌≡◌, ◌⊎◌, ◌≤◌, ◌+◌, ℕ, true, false, List, [], ◌∷◌, ◌++◌, length, refl, sym, ap, ◌∙◌, subst, inl, inr, arith}
+use Rattle.std.proofs.Common.{◌≡◌, ◌⊎◌, ◌≤◌, ◌+◌, ℕ, true, false, List, [], ◌∷◌, ◌++◌, length, refl, sym, ap, ◌∙◌, subst, inl, inr, arith, Bool}
 use Rattle.std.specs.Prelude.{◌==◌, ◌&&◌, Option, None, Some, is_some, not, position, slice_get, slice_set}
+use Rattle.sig_core.proofs.Keys.{same_tx-self}
 use Rattle.sig_core.specs.declared.member.TxId.{TxId}
 use Rattle.sig_core.specs.declared.place.BlockId.{BlockId}
 use Rattle.sig_core.specs.declared.place.BlockId.TheVariants as block
@@ -9,32 +10,32 @@ use Rattle.sig_core.specs.declared.reply.ApiReply.TheVariants.{Pending}
 use Rattle.sig_core.specs.declared.reply.Waiting.TheVariants.{HeldBy}
 use Rattle.sig_core.specs.declared.request.ApiReq.TheVariants as request
 use Rattle.sig_core.specs.declared.signal.Body.{Body}
-use Rattle.sig_core.specs.declared.signal.Body.TheVariants.{Host, Client}
+use Rattle.sig_core.specs.declared.signal.Body.TheVariants.{Client}
 use Rattle.sig_core.specs.declared.signal.client.ClientSignal.TheVariants.{LqhWaitConf, LqhWaitReq, TcWaitConf, TcWaitReq}
-use Rattle.sig_core.specs.declared.signal.host.HostSignal.TheVariants.{Continue}
-use Rattle.sig_core.specs.declared.signal.host.Work.TheVariants as work
-use Rattle.sig_core.specs.Place.{client, coordinator_of}
+use Rattle.sig_core.specs.declared.signal.Signal.{Signal}
+use Rattle.sig_core.specs.Place.{coordinator_of}
 use Rattle.sig_core.specs.Same.{same_tx}
 use Rattle.sig_core.specs.Step.{Step, sending, stay}
+use Rattle.api_block.specs.Api.{api_table, request_row}
 use Rattle.api_block.specs.declared.opened.OpenTransaction.{OpenTransaction}
-use Rattle.api_block.specs.Api.{request_row}
 use Rattle.api_block.specs.Opened.{behind, has_tx, if_there, is_named, is_tx, is_unanswered, own_place, own_place_by, where_at}
 use Rattle.api_block.specs.State.{ApiState, changing}
 use Rattle.api_block.specs.Wait.{behind_row, name_of, pending_by, pending_if, pending_row, waits_if, waits_row}
-use Rattle.node_core.specs.declared.host.Host as host
-use Rattle.node_core.specs.declared.host.Host.TheVariants.{Shell}
-use Rattle.node_core.specs.Replies.{replies_of}
-use Rattle.node_core.specs.Row.{in_shell, row, shell_row}
-use Rattle.answer_laws.proofs.LqhOps.{true_and}
-use Rattle.answer_laws.proofs.Tally.{one_if, tally}
-use Rattle.answer_laws.proofs.TcMoves.{same_tx-is}
-use Rattle.answer_laws.proofs.TcSends.{eqb-self}
-use Rattle.sig_core.proofs.Keys.{same_tx-self}
-use Rattle.answer_laws.proofs.Wishes.{is_api, sends_of, to_node}
-use Rattle.answer_laws.specs.Answered.{opened_in}
+use Rattle.node_core.specs.Blocks.{api_of, has_api}
+use Rattle.node_core.specs.declared.host.Host.{Host}
+use Rattle.node_core.specs.Row.{row}
+use Rattle.world_core.specs.Hosts.{home}
+use Rattle.world_core.specs.Start.{Start}
+use Rattle.host_laws.specs.Counts.{one_if, tally}
+use Rattle.host_laws.proofs.LinkCounts.{to_host}
+use Rattle.host_laws.proofs.LqhOps.{true_and}
+use Rattle.host_laws.proofs.TcMoves.{same_tx-is}
+use Rattle.host_laws.proofs.TcSends.{eqb-self}
+use Rattle.host_laws.proofs.Wishes.{is_api, sends_of}
+use Rattle.command_laws.proofs.HostSteps.{api_host, api_seen}
 use Rattle.command_laws.proofs.Places.{IsFirstOf, first_there, split_get, split_position, split_set}
 use Rattle.command_laws.proofs.WaitRows.{is_other, is_passed, is_telling_who, is_wait_of, is_want, passed_of}
-use Rattle.command_laws.specs.Served.{name_in, own_in}
+use Rattle.command_laws.specs.Served.{name_in}
 
 -- the API's own transaction: the first of the name that the last command is about
 pub record IsOwn (s : ApiState) (t : OpenTransaction) : Type 0 where
@@ -42,7 +43,7 @@ pub record IsOwn (s : ApiState) (t : OpenTransaction) : Type 0 where
   pub own : s.own ≡ Some name
   pub first : IsFirstOf (is_named name) s.opened t
 
-pub own_found : (s : ApiState) (t : OpenTransaction) → own_in (Shell s) ≡ Some t → IsOwn s t
+pub own_found : (s : ApiState) (t : OpenTransaction) → where_at s.opened None (λ at (x : OpenTransaction). Some x) (own_place s) ≡ Some t → IsOwn s t
 own_found s t = by s.own refl
   where
     at_place : (name : Option ℕ) → s.own ≡ Some name → (o : Option ℕ) → position (is_named name) s.opened ≡ o → where_at s.opened None (λ at (x : OpenTransaction). Some x) o ≡ Some t → IsOwn s t
@@ -61,11 +62,9 @@ own_found s t = by s.own refl
 
 module _ (front : List OpenTransaction) (t : OpenTransaction) (back : List OpenTransaction) (own : Option (Option ℕ)) where
   -- the transaction stands there, and waits for that one as far as it is known
-  pub record IsAboutOne (ahead : Option TxId) (g : host.Host) : Type 0 where
-    pub state : ApiState
-    pub is : g ≡ Shell state
-    pub own_is : state.own ≡ own
-    pub opened : state.opened ≡ front ++ behind t ahead ∷ back
+  pub record IsAboutOne (ahead : Option TxId) (s : ApiState) : Type 0 where
+    pub own_is : s.own ≡ own
+    pub opened : s.opened ≡ front ++ behind t ahead ∷ back
 
   module _ (tx : TxId) (own_tx : t.tx ≡ Some tx) (none : tally (has_tx tx) front ≡ 0) where
     has : (ahead : Option TxId) → has_tx tx (behind t ahead) ≡ true
@@ -80,7 +79,7 @@ module _ (front : List OpenTransaction) (t : OpenTransaction) (back : List OpenT
         ∙ ap (if_there s (λ (x : OpenTransaction). changing s (length front) (behind x (Some next)))) (ap (λ xs. slice_get xs (length front)) opened ∙ split_get front (behind t ahead) back)
 
     -- at a question or an answer to one
-    pub record StaysAbout (ahead : Option TxId) (to : Place) (body : Body) (step : Step host.Host) : Type 0 where
+    pub record StaysAbout (ahead : Option TxId) (to : Place) (body : Body) (step : Step ApiState) : Type 0 where
       pub now : Option TxId
       pub about : IsAboutOne now step.state
       pub plain : sends_of (is_other tx) step.effects.sends ≡ 0
@@ -88,51 +87,48 @@ module _ (front : List OpenTransaction) (t : OpenTransaction) (back : List OpenT
       pub told : is_passed tx to body ≡ true → is_some now ≡ true
       pub from : (who : TxId) → now ≡ Some who → (ahead ≡ Some who) ⊎ (is_telling_who tx who to body ≡ true)
 
-    shell_waits : (s : ApiState) (ahead : Option TxId) (to : Place) (at : BlockId) (body : Body) → to.block ≡ at → is_wait_of tx body ≡ true → s.own ≡ own → s.opened ≡ front ++ behind t ahead ∷ back
-        → StaysAbout ahead to body (row (Shell s) to body)
-    unfolding row shell_row
-    shell_waits s ahead to at body is_at e own_is opened = subst (λ b. StaysAbout ahead to body (in_shell (shell_row s b body))) (sym is_at) (by at is_at)
+    module _ (s : ApiState) (ahead : Option TxId) (to : Place) (body : Body) (about : IsAboutOne ahead s) where
+      pub stays_about : (is_passed tx to body ≡ true → ⊥) → StaysAbout ahead to body (stay s)
+      stays_about off = record { now = ahead; about = about; plain = refl; kept = λ some. some; told = λ on. absurd (off on); from = λ who is. inl is }
+
+      told_who : (who next one : TxId) → same_tx one tx ≡ true → next ≡ who → Client (TcWaitConf one next) ≡ body → to.block ≡ block.Api → is_telling_who tx who to body ≡ true
+      told_who who next one w which same there =
+          ap (λ c. is_telling_who tx who to c) (sym same) ∙ ap (λ b. is_api b && (same_tx one tx && same_tx next who)) there ∙ ap (λ b. b && same_tx next who) w ∙ ap (λ v. same_tx v who) which ∙ same_tx-self who
+
+      not_passed : passed_of tx body ≡ false → is_passed tx to body ≡ true → ⊥
+      not_passed off on = by (is_api to.block) on
+        where
+          by : (b : Bool) → (b && passed_of tx body) ≡ true → ⊥
+          by true e = let both : false ≡ true = sym off ∙ e in cc
+          by false e = cc
+
+      told_now : (b : Body) → b ≡ body → is_wait_of tx b ≡ true → to.block ≡ block.Api → StaysAbout ahead to body (api_table s b)
+      told_now (Client (TcWaitConf one next)) same w there = record {
+        now = Some next;
+        about = record {
+          own_is = ap (λ v. (behind_row s v next).own) (same_tx-is one tx w) ∙ ap (λ (r : ApiState). r.own) (behind_is s ahead next about.opened) ∙ about.own_is;
+          opened = ap (λ v. (behind_row s v next).opened) (same_tx-is one tx w) ∙ ap (λ (r : ApiState). r.opened) (behind_is s ahead next about.opened)
+              ∙ ap (λ xs. slice_set xs (length front) (behind t (Some next))) about.opened ∙ split_set front (behind t ahead) back (behind t (Some next));
+        };
+        plain = refl;
+        kept = λ some. refl;
+        told = λ on. refl;
+        from = λ who now_is. inr (told_who who next one w (let which : next ≡ who = cc in which) same there);
+      }
+      told_now (Client (TcWaitReq one)) same w there = stays_about (not_passed (ap (λ b. passed_of tx b) (sym same)))
+      told_now (Client (LqhWaitReq one key)) same w there = stays_about (not_passed (ap (λ b. passed_of tx b) (sym same)))
+      told_now (Client (LqhWaitConf one next)) same w there = stays_about (not_passed (ap (λ b. passed_of tx b) (sym same)))
+      told_now _ same w there = cc
+
+    -- so it is of the shell's host
+    pub about_waits : (g : Host) (ahead : Option TxId) (x : Signal) → has_api g ≡ true → is_wait_of tx x.body ≡ true → IsAboutOne ahead (api_of g) → StaysAbout ahead x.to x.body (api_seen (row g x))
+    about_waits g ahead x runs e about =
+        api_host (StaysAbout ahead x.to x.body) g x runs (told_now (api_of g) ahead x.to x.body about x.body refl e)
+        (λ off. stays_about (api_of g) ahead x.to x.body about (λ on. off (for_api x.to.block on)))
       where
-        stays : (b : BlockId) → to.block ≡ b → (is_api b && passed_of tx body) ≡ false → StaysAbout ahead to body (in_shell (stay s))
-        stays b there off = record {
-          now = ahead;
-          about = record { state = s; is = refl; own_is = own_is; opened = opened };
-          plain = refl;
-          kept = λ some. some;
-          told = λ on. absurd (let both : false ≡ true = sym off ∙ (ap (λ c. is_api c && passed_of tx body) (sym there) ∙ on) in cc);
-          from = λ who is. inl is;
-        }
-
-        told_who : (who next one : TxId) → same_tx one tx ≡ true → next ≡ who → Client (TcWaitConf one next) ≡ body → to.block ≡ block.Api → is_telling_who tx who to body ≡ true
-        told_who who next one w which same there =
-            ap (λ c. is_telling_who tx who to c) (sym same) ∙ ap (λ b. is_api b && (same_tx one tx && same_tx next who)) there ∙ ap (λ b. b && same_tx next who) w ∙ ap (λ v. same_tx v who) which ∙ same_tx-self who
-
-        api : (b : Body) → b ≡ body → is_wait_of tx b ≡ true → to.block ≡ block.Api → StaysAbout ahead to body (in_shell (shell_row s block.Api b))
-        api (Client (TcWaitConf one next)) same w there = record {
-          now = Some next;
-          about = record {
-            state = behind_row s one next;
-            is = refl;
-            own_is = ap (λ v. (behind_row s v next).own) (same_tx-is one tx w) ∙ ap (λ (r : ApiState). r.own) (behind_is s ahead next opened) ∙ own_is;
-            opened = ap (λ v. (behind_row s v next).opened) (same_tx-is one tx w) ∙ ap (λ (r : ApiState). r.opened) (behind_is s ahead next opened)
-                ∙ ap (λ xs. slice_set xs (length front) (behind t (Some next))) opened ∙ split_set front (behind t ahead) back (behind t (Some next));
-          };
-          plain = refl;
-          kept = λ some. refl;
-          told = λ on. refl;
-          from = λ who now_is. inr (told_who who next one w (let which : next ≡ who = cc in which) same there);
-        }
-        api (Client (TcWaitReq one)) same w there = stays block.Api there (ap (λ b. passed_of tx b) (sym same))
-        api (Client (LqhWaitReq one key)) same w there = stays block.Api there (ap (λ b. passed_of tx b) (sym same))
-        api (Client (LqhWaitConf one next)) same w there = stays block.Api there (ap (λ b. passed_of tx b) (sym same))
-        api _ same w there = cc
-
-        by : (b : BlockId) → to.block ≡ b → StaysAbout ahead to body (in_shell (shell_row s b body))
-        by block.Api there = api body refl e there
-        by b there = stays b there refl
-
-    pub about_waits : (g : host.Host) (ahead : Option TxId) (to : Place) (body : Body) → is_wait_of tx body ≡ true → IsAboutOne ahead g → StaysAbout ahead to body (row g to body)
-    about_waits g ahead to body e about = subst (λ h. StaysAbout ahead to body (row h to body)) (sym about.is) (shell_waits about.state ahead to to.block body refl e about.own_is about.opened)
+        for_api : (at : BlockId) → (is_api at && passed_of tx x.body) ≡ true → at ≡ block.Api
+        for_api block.Api e = refl
+        for_api _ e = cc
 
 own_place_is : (s : ApiState) (name : Option ℕ) (front : List OpenTransaction) (u : OpenTransaction) (back : List OpenTransaction) → s.own ≡ Some name → s.opened ≡ front ++ u ∷ back → tally (is_named name) front ≡ 0
     → is_named name u ≡ true → own_place s ≡ Some (length front)
@@ -140,10 +136,10 @@ own_place_is s name front u back own opened none named =
     ap (own_place_by s) own ∙ ap (position (is_named name)) opened ∙ split_position (is_named name) front u back none named
 
 -- the question for whom it waits
-pub record IsAsking (s : ApiState) (t : OpenTransaction) (tx : TxId) (i : IsOwn s t) (step : Step host.Host) : Type 0 where
+pub record IsAsking (start : Start) (s : ApiState) (t : OpenTransaction) (tx : TxId) (i : IsOwn s t) (step : Step ApiState) : Type 0 where
   pub about : IsAboutOne i.first.front t i.first.back (Some i.name) None step.state
   pub plain : sends_of (is_other tx) step.effects.sends ≡ 0
-  pub wants : 1 ≤ sends_of (to_node tx.tc (is_want tx)) step.effects.sends
+  pub wants : 1 ≤ sends_of (to_host start (home start tx) (is_want tx)) step.effects.sends
 
 waits_is : (s : ApiState) (t : OpenTransaction) (tx : TxId) (i : IsOwn s t) → is_unanswered t.doing ≡ true → t.tx ≡ Some tx
     → waits_row s ≡ sending (changing s (length i.first.front) (behind t None)) (coordinator_of tx) (Client (TcWaitReq tx))
@@ -153,29 +149,23 @@ waits_is s t tx i waits own =
     ∙ ap (if_there (stay s) (λ (x : OpenTransaction). waits_if s (length i.first.front) x (is_unanswered x.doing) x.tx)) (ap (λ xs. slice_get xs (length i.first.front)) i.first.is ∙ split_get i.first.front t i.first.back)
     ∙ ap (λ b. waits_if s (length i.first.front) t b t.tx) waits ∙ ap (waits_if s (length i.first.front) t true) own
 
-pub waits_first : (g : host.Host) (s : ApiState) (t : OpenTransaction) (tx : TxId) (i : IsOwn s t) → g ≡ Shell s → is_unanswered t.doing ≡ true → t.tx ≡ Some tx
-    → IsAsking s t tx i (row g client (Host (Continue (work.Request request.Waits) 0)))
-unfolding row shell_row request_row
-waits_first g s t tx i is waits own = subst (λ h. IsAsking s t tx i (row h client (Host (Continue (work.Request request.Waits) 0)))) (sym is) asking
+pub waits_first : (start : Start) (s : ApiState) (t : OpenTransaction) (tx : TxId) (i : IsOwn s t) → is_unanswered t.doing ≡ true → t.tx ≡ Some tx → IsAsking start s t tx i (request_row s request.Waits)
+unfolding request_row
+waits_first start s t tx i waits own = record {
+  about = record {
+    own_is = ap (λ (r : Step ApiState). r.state.own) now ∙ i.own;
+    opened = ap (λ (r : Step ApiState). r.state.opened) now ∙ ap (λ xs. slice_set xs (length i.first.front) (behind t None)) i.first.is ∙ split_set i.first.front t i.first.back (behind t None);
+  };
+  plain = ap (λ (r : Step ApiState). sends_of (is_other tx) r.effects.sends) now ∙ ap (λ b. one_if (not b) + 0) (same_tx-self tx);
+  wants = omega (
+    arith,
+    ap (λ (r : Step ApiState). sends_of (to_host start (home start tx) (is_want tx)) r.effects.sends) now,
+    ap one_if (true_and (home start tx == home start tx) (same_tx tx tx) (eqb-self (home start tx)) (same_tx-self tx)),
+  );
+}
   where
     now : waits_row s ≡ sending (changing s (length i.first.front) (behind t None)) (coordinator_of tx) (Client (TcWaitReq tx))
     now = waits_is s t tx i waits own
-
-    asking : IsAsking s t tx i (in_shell (waits_row s))
-    asking = record {
-      about = record {
-        state = (waits_row s).state;
-        is = refl;
-        own_is = ap (λ (r : Step ApiState). r.state.own) now ∙ i.own;
-        opened = ap (λ (r : Step ApiState). r.state.opened) now ∙ ap (λ xs. slice_set xs (length i.first.front) (behind t None)) i.first.is ∙ split_set i.first.front t i.first.back (behind t None);
-      };
-      plain = ap (λ (r : Step ApiState). sends_of (is_other tx) r.effects.sends) now ∙ ap (λ b. one_if (not b) + 0) (same_tx-self tx);
-      wants = omega (
-        arith,
-        ap (λ (r : Step ApiState). sends_of (to_node tx.tc (is_want tx)) r.effects.sends) now,
-        ap one_if (true_and (tx.tc == tx.tc) (same_tx tx tx) (eqb-self tx.tc) (same_tx-self tx)),
-      );
-    }
 
 pending_by_replies : (s : ApiState) (holder name : Option ℕ) (one : Option TxId) → (pending_by s holder name one).state.replies ≡ s.replies ++ Pending name (HeldBy holder) ∷ []
 pending_by_replies s holder None (Some tx) = refl
@@ -183,28 +173,28 @@ pending_by_replies s holder None None = refl
 pending_by_replies s holder (Some name) one = refl
 
 -- the question for replies tells the holder
-pub record TellsHolder (name : Option ℕ) (ahead : Option TxId) (g : host.Host) (step : Step host.Host) : Type 0 where
+pub record TellsHolder (name : Option ℕ) (ahead : Option TxId) (s : ApiState) (step : Step ApiState) : Type 0 where
   pub who : TxId
   pub is : ahead ≡ Some who
-  pub told : replies_of step.state ≡ replies_of g ++ Pending name (HeldBy (name_in (opened_in g) who)) ∷ []
+  pub told : step.state.replies ≡ s.replies ++ Pending name (HeldBy (name_in s.opened who)) ∷ []
 
-pub pending_first : (g : host.Host) (front : List OpenTransaction) (t : OpenTransaction) (back : List OpenTransaction) (name : Option ℕ) (ahead : Option TxId) → IsAboutOne front t back (Some name) ahead g
+pub pending_first : (s : ApiState) (front : List OpenTransaction) (t : OpenTransaction) (back : List OpenTransaction) (name : Option ℕ) (ahead : Option TxId) → IsAboutOne front t back (Some name) ahead s
     → is_unanswered t.doing ≡ true → tally (is_named name) front ≡ 0 → is_named name t ≡ true → is_some ahead ≡ true
-    → TellsHolder t.name ahead g (row g client (Host (Continue (work.Request request.Pending) 0)))
-unfolding row shell_row request_row pending_row replies_of
-pending_first g front t back name ahead about waits none named some = by ahead some about
+    → TellsHolder t.name ahead s (request_row s request.Pending)
+unfolding request_row pending_row
+pending_first s front t back name ahead about waits none named some = by ahead some about
   where
-    by : (a : Option TxId) → is_some a ≡ true → IsAboutOne front t back (Some name) a g → TellsHolder t.name a g (row g client (Host (Continue (work.Request request.Pending) 0)))
+    by : (a : Option TxId) → is_some a ≡ true → IsAboutOne front t back (Some name) a s → TellsHolder t.name a s (pending_row s)
     by None off about = cc
-    by (Some next) on about = subst (λ h. TellsHolder t.name (Some next) h (row h client (Host (Continue (work.Request request.Pending) 0)))) (sym about.is) (record {
+    by (Some next) on about = record {
       who = next;
       is = refl;
-      told = ap (λ (r : Step ApiState). r.state.replies) now ∙ pending_by_replies about.state (name_of about.state next) t.name t.tx;
-    })
+      told = ap (λ (r : Step ApiState). r.state.replies) now ∙ pending_by_replies s (name_of s next) t.name t.tx;
+    }
       where
-        now : pending_row about.state ≡ pending_by about.state (name_of about.state next) t.name t.tx
+        now : pending_row s ≡ pending_by s (name_of s next) t.name t.tx
         now =
-            ap (where_at about.state.opened (stay about.state) (λ at (x : OpenTransaction). pending_if about.state x (is_unanswered x.doing) x.ahead))
-            (own_place_is about.state name front (behind t (Some next)) back about.own_is about.opened none named)
-            ∙ ap (if_there (stay about.state) (λ (x : OpenTransaction). pending_if about.state x (is_unanswered x.doing) x.ahead)) (ap (λ xs. slice_get xs (length front)) about.opened ∙ split_get front (behind t (Some next)) back)
-            ∙ ap (λ b. pending_if about.state (behind t (Some next)) b (Some next)) waits
+            ap (where_at s.opened (stay s) (λ at (x : OpenTransaction). pending_if s x (is_unanswered x.doing) x.ahead))
+            (own_place_is s name front (behind t (Some next)) back about.own_is about.opened none named)
+            ∙ ap (if_there (stay s) (λ (x : OpenTransaction). pending_if s x (is_unanswered x.doing) x.ahead)) (ap (λ xs. slice_get xs (length front)) about.opened ∙ split_get front (behind t (Some next)) back)
+            ∙ ap (λ b. pending_if s (behind t (Some next)) b (Some next)) waits

@@ -7,61 +7,57 @@ use Rattle.std.specs.Prelude.{◌==◌, ◌&&◌, Option, None, Some, is_some, s
 use Rattle.run_theory.specs.Cuts.{IsCut}
 use Rattle.run_theory.specs.Links.{is_from}
 use Rattle.run_theory.specs.Lists.{IsIn}
-use Rattle.sig_core.specs.declared.log.LogStep.{LogStep}
 use Rattle.sig_core.specs.declared.member.TxId.{TxId}
-use Rattle.sig_core.specs.declared.outs.Outgoing.{Outgoing}
-use Rattle.sig_core.specs.declared.place.BlockId.{BlockId}
-use Rattle.sig_core.specs.declared.place.BlockId.TheVariants as block
 use Rattle.sig_core.specs.declared.place.Place.{Place}
 use Rattle.sig_core.specs.declared.signal.Body.{Body}
 use Rattle.sig_core.specs.declared.signal.Body.TheVariants.{Client}
-use Rattle.sig_core.specs.declared.signal.client.ClientSignal.TheVariants.{TcBeginReq, TcWaitReq, LqhWaitReq, LqhWaitConf, TcWaitConf}
+use Rattle.sig_core.specs.declared.signal.client.ClientSignal.TheVariants.{TcWaitReq, LqhWaitReq, LqhWaitConf, TcWaitConf}
+use Rattle.sig_core.specs.declared.signal.Signal.{Signal}
 use Rattle.sig_core.specs.Place.{coordinator}
 use Rattle.sig_core.specs.Same.{same_tx}
 use Rattle.row_locks.specs.Tables.{ahead_at}
-use Rattle.api_block.specs.Api.{api_row}
-use Rattle.api_block.specs.State.{ApiState}
-use Rattle.lqh_block.specs.Lqh.{lqh_row}
+use Rattle.lqh_block.specs.Lqh.{lqh_table}
 use Rattle.lqh_block.specs.State.{LqhState}
 use Rattle.lqh_block.specs.Wait as rows
-use Rattle.node_core.specs.declared.host.Host as host
-use Rattle.node_core.specs.declared.host.Host.TheVariants.{Shell, Node}
-use Rattle.node_core.specs.declared.node.Node as node
-use Rattle.node_core.specs.Dih.{dih_row}
+use Rattle.node_core.proofs.HostCases.{of_effects}
+use Rattle.node_core.specs.Blocks.{api_of, dih_of, lqh_of, tc_of}
+use Rattle.node_core.specs.declared.host.Host.{Host}
+use Rattle.node_core.specs.Dih.{dih_table}
 use Rattle.node_core.specs.Requests.{is_request}
-use Rattle.node_core.specs.Row.{node_row, row, shell_row}
+use Rattle.node_core.specs.Row.{row}
 use Rattle.tc_block.specs.declared.phase.Asked.{Asked}
 use Rattle.tc_block.specs.declared.transaction.Transaction.{Transaction}
 use Rattle.tc_block.specs.Live.{place_in, step_of, step_place, step_value}
 use Rattle.tc_block.specs.Operate.{wait_by, wait_row}
 use Rattle.tc_block.specs.State.{TcState}
-use Rattle.tc_block.specs.Tc.{pass_if, pass_row, tc_row}
-use Rattle.world_core.specs.Machine.{after, machine, step_after}
+use Rattle.tc_block.specs.Tc.{pass_if, pass_row, tc_table}
+use Rattle.world_core.specs.Machine.{machine, step_after}
 use Rattle.world_core.specs.Start.{Start}
-use Rattle.answer_laws.proofs.ApiMoves.{is_api_kind}
-use Rattle.answer_laws.proofs.DihSends.{dih_kinds}
-use Rattle.answer_laws.proofs.Hosts.{shell_after}
-use Rattle.answer_laws.proofs.LinkCounts.{all_three}
-use Rattle.answer_laws.proofs.LqhSends.{lqh_kinds}
-use Rattle.answer_laws.proofs.SendKinds.{are_of, is_dih_kind, is_lqh_kind, is_tc_kind, none_of, of_map}
-use Rattle.answer_laws.proofs.Tally.{one_if, tally_in, tally_none}
-use Rattle.answer_laws.proofs.TcMoves.{same_tx-is}
-use Rattle.answer_laws.proofs.TcSends.{tc_kinds}
-use Rattle.answer_laws.proofs.Wishes.{is_api, is_tc, sends_of}
+use Rattle.world_core.specs.Steps.{HostStep}
+use Rattle.host_laws.proofs.Tally.{tally_in}
+use Rattle.host_laws.specs.Counts.{one_if}
+use Rattle.host_laws.proofs.ApiMoves.{is_api_kind}
+use Rattle.host_laws.proofs.DihSends.{dih_kinds}
+use Rattle.host_laws.proofs.LinkCounts.{all_three}
+use Rattle.host_laws.proofs.LqhSends.{lqh_kinds}
+use Rattle.host_laws.proofs.SendKinds.{are_of, is_dih_kind, is_lqh_kind, is_tc_kind, none_of, of_map}
+use Rattle.host_laws.proofs.TcMoves.{same_tx-is}
+use Rattle.host_laws.proofs.TcSends.{tc_kinds}
+use Rattle.host_laws.proofs.Wishes.{is_api, is_tc, sends_of}
 use Rattle.answer_laws.specs.Answered.{AreQuiet}
-use Rattle.transit_laws.proofs.WaysPassed.{api_each}
+use Rattle.command_laws.proofs.HostSends.{IsNotOfApi, IsOfTc, api_silent, is_other_kind, not_of_api, not_of_dih, not_of_lqh}
 use Rattle.command_laws.proofs.Since.{few_taken, sent_since}
 use Rattle.command_laws.proofs.WaitRows.{is_telling_who, is_wait_of, tells_who}
 
 -- a step of these sends what passes the test
-pub record SentBy (start : Start) (test : Place → Body → Bool) (h : ℕ) (newer log : List LogStep) : Type 0 where
-  pub step : LogStep
-  pub front : List LogStep
-  pub back : List LogStep
+pub record SentBy (start : Start) (test : Place → Body → Bool) (h : ℕ) (newer log : List HostStep) : Type 0 where
+  pub step : HostStep
+  pub front : List HostStep
+  pub back : List HostStep
   pub is : newer ≡ front ++ step ∷ back
   pub sends : 1 ≤ sends_of test (step_after start h (back ++ log) step).effects.sends
 
-pub sent_by : (start : Start) (test : Place → Body → Bool) (h : ℕ) (newer log : List LogStep) → 1 ≤ sent_since start test h newer log → SentBy start test h newer log
+pub sent_by : (start : Start) (test : Place → Body → Bool) (h : ℕ) (newer log : List HostStep) → 1 ≤ sent_since start test h newer log → SentBy start test h newer log
 sent_by start test h [] log some = absurd (omega (arith, some))
 sent_by start test h (e ∷ newer) log some = by (cases_lt 0 (sends_of test (step_after start h (newer ++ log) e).effects.sends)) (sent_by start test h newer log)
   where
@@ -73,32 +69,11 @@ sent_by start test h (e ∷ newer) log some = by (cases_lt 0 (sends_of test (ste
         record { step = r.step; front = e ∷ r.front; back = r.back; is = ap (λ w. e ∷ w) r.is; sends = r.sends }
 
 -- what was taken from a link since a quiet moment was sent since by its host
-pub came_from : (start : Start) (was now : ℕ → List LogStep) (before : AreQuiet start was) (since : AreQuiet start now) (cut : IsCut was now) (test : Place → Body → Bool) (j : ℕ) (e : LogStep) → IsIn e (cut j).newer
-    → is_request e.taken.body ≡ false → test e.taken.to e.taken.body ≡ true → (i : ℕ) → e.taken.from.0 ≡ i → 1 ≤ sent_since start test i (cut i).newer (was i)
+pub came_from : (start : Start) (was now : ℕ → List HostStep) (before : AreQuiet start was) (since : AreQuiet start now) (cut : IsCut was now) (test : Place → Body → Bool) (j : ℕ) (e : HostStep) → IsIn e (cut j).newer
+    → is_request e.step.taken.body ≡ false → test e.step.taken.to e.step.taken.body ≡ true → (i : ℕ) → e.step.taken.from.0 ≡ i → 1 ≤ sent_since start test i (cut i).newer (was i)
 came_from start was now before since cut test j e inside plain passes i at =
-    let here = all_three (is_request e.taken.body) (e.taken.from.0 == i) (test e.taken.to e.taken.body) plain (grind (arith, nat_tests, at)) passes in
-    omega (arith, tally_in (λ (x : LogStep). is_from (machine start) i x && test x.taken.to x.taken.body) e (cut j).newer inside here, few_taken start was now before since cut test i j)
-
--- what the API never sends the shell's host doesn't
-shell_row_none : (test : Place → Body → Bool) → ((to : Place) (body : Body) → is_api_kind body ≡ true → test to body ≡ false) → ((name : Option ℕ) (at : ℕ) → test (coordinator at) (Client (TcBeginReq name)) ≡ false)
-    → (s : ApiState) (at : BlockId) (body : Body) → sends_of test (shell_row s at body).effects.sends ≡ 0
-unfolding shell_row
-shell_row_none test fails begins s block.Api body =
-    tally_none (λ (o : Outgoing). test o.to o.body) (api_row s body).effects.sends (api_each (λ (o : Outgoing). test o.to o.body ≡ false) (λ o e. fails o.to o.body e) (λ name at. begins name at) s body)
-shell_row_none test fails begins s _ body = refl
-
-host_none : (test : Place → Body → Bool) → ((to : Place) (body : Body) → is_api_kind body ≡ true → test to body ≡ false) → ((name : Option ℕ) (at : ℕ) → test (coordinator at) (Client (TcBeginReq name)) ≡ false)
-    → (g : host.Host) (s : ApiState) (to : Place) (body : Body) → g ≡ Shell s → sends_of test (row g to body).effects.sends ≡ 0
-unfolding row
-host_none test fails begins (Shell u) s to body is = shell_row_none test fails begins u to.block body
-host_none test fails begins (Node n) s to body is = cc
-
-pub shell_none : (start : Start) (test : Place → Body → Bool) → ((to : Place) (body : Body) → is_api_kind body ≡ true → test to body ≡ false)
-    → ((name : Option ℕ) (at : ℕ) → test (coordinator at) (Client (TcBeginReq name)) ≡ false) → (newer log : List LogStep) → sent_since start test 0 newer log ≡ 0
-shell_none start test fails begins [] log = refl
-shell_none start test fails begins (e ∷ newer) log =
-    let s = shell_after start (newer ++ log) in
-    omega (arith, shell_none start test fails begins newer log, host_none test fails begins (after start 0 (newer ++ log)) s.state e.taken.to e.taken.body s.is)
+    let here = all_three (is_request e.step.taken.body) (e.step.taken.from.0 == i) (test e.step.taken.to e.step.taken.body) plain (grind (arith, nat_tests, at)) passes in
+    omega (arith, tally_in (λ (x : HostStep). is_from (machine start) i x && test x.step.taken.to x.step.taken.body) e (cut j).newer inside here, few_taken start was now before since cut test i j)
 
 -- a node answers that the transaction waits behind this one
 abbrev pub finds_who : TxId → TxId → Body → Bool
@@ -121,15 +96,15 @@ module _ (tx who : TxId) where
   finds_in true body e = e
   finds_in false body e = refl
 
-  pub no_tell_api : (to : Place) (body : Body) → is_api_kind body ≡ true → is_telling_who tx who to body ≡ false
-  no_tell_api to body e = tells_in (is_api to.block) body (plain body e)
+  pub telling_tc : IsOfTc (is_telling_who tx who)
+  telling_tc = record { others = λ to body e. tells_in (is_api to.block) body (plain body e); begins = λ name node. refl }
     where
-      plain : (b : Body) → is_api_kind b ≡ true → tells_who tx who b ≡ false
+      plain : (b : Body) → is_other_kind b ≡ true → tells_who tx who b ≡ false
       plain (Client (TcWaitConf one ahead)) k = cc
       plain _ k = refl
 
-  pub no_find_api : (to : Place) (body : Body) → is_api_kind body ≡ true → is_finding_who tx who to body ≡ false
-  no_find_api to body e = finds_in (is_tc to.block) body (plain body e)
+  pub no_find_api : IsNotOfApi (is_finding_who tx who)
+  no_find_api = record { kinds = λ to body e. finds_in (is_tc to.block) body (plain body e); begins = λ name node. refl }
     where
       plain : (b : Body) → is_api_kind b ≡ true → finds_who tx who b ≡ false
       plain (Client (LqhWaitConf one ahead)) k = cc
@@ -139,20 +114,6 @@ module _ (tx who : TxId) where
   no_tell_seek to body e = tells_in (is_api to.block) body (plain body e)
     where
       plain : (b : Body) → is_seek b ≡ true → tells_who tx who b ≡ false
-      plain (Client (TcWaitConf one ahead)) k = cc
-      plain _ k = refl
-
-  no_tell_lqh : (to : Place) (body : Body) → is_lqh_kind body ≡ true → is_telling_who tx who to body ≡ false
-  no_tell_lqh to body e = tells_in (is_api to.block) body (plain body e)
-    where
-      plain : (b : Body) → is_lqh_kind b ≡ true → tells_who tx who b ≡ false
-      plain (Client (TcWaitConf one ahead)) k = cc
-      plain _ k = refl
-
-  no_tell_dih : (to : Place) (body : Body) → is_dih_kind body ≡ true → is_telling_who tx who to body ≡ false
-  no_tell_dih to body e = tells_in (is_api to.block) body (plain body e)
-    where
-      plain : (b : Body) → is_dih_kind b ≡ true → tells_who tx who b ≡ false
       plain (Client (TcWaitConf one ahead)) k = cc
       plain _ k = refl
 
@@ -199,7 +160,7 @@ module _ (tx who : TxId) where
   passes_told s one ahead true some = one_passes (same_tx one tx && same_tx ahead who) some
   passes_told s one ahead false some = none_sent some
 
-  tc_told : (s : TcState) (body : Body) → is_wait_of tx body ≡ true → 1 ≤ sends_of (is_telling_who tx who) (tc_row s body).effects.sends → finds_who tx who body ≡ true
+  tc_told : (s : TcState) (body : Body) → is_wait_of tx body ≡ true → 1 ≤ sends_of (is_telling_who tx who) (tc_table s body).effects.sends → finds_who tx who body ≡ true
   unfolding pass_row
   tc_told s (Client (TcWaitReq one)) own some = absurd (omega (arith, some, none_of is_seek (is_telling_who tx who) no_tell_seek (step_of s one (λ t. wait_row one t)).effects.sends (seeks_only s one)))
   tc_told s (Client (LqhWaitReq one key)) own some = none_sent some
@@ -208,12 +169,13 @@ module _ (tx who : TxId) where
   tc_told s _ own some = cc
 
   -- who tells the client was told
-  pub node_told : (n : node.Node) (at : BlockId) (body : Body) → is_wait_of tx body ≡ true → 1 ≤ sends_of (is_telling_who tx who) (node_row n at body).effects.sends → (is_tc at && finds_who tx who body) ≡ true
-  unfolding node_row
-  node_told n block.Tc body own some = tc_told n.tc body own some
-  node_told n block.Dih body own some = absurd (omega (arith, some, none_of is_dih_kind (is_telling_who tx who) no_tell_dih (dih_row n.dih body).effects.sends (dih_kinds n.dih body)))
-  node_told n block.Lqh body own some = absurd (omega (arith, some, none_of is_lqh_kind (is_telling_who tx who) no_tell_lqh (lqh_row n.lqh body).effects.sends (lqh_kinds n.lqh body)))
-  node_told n _ body own some = none_sent some
+  pub host_told : (g : Host) (x : Signal) → is_wait_of tx x.body ≡ true → 1 ≤ sends_of (is_telling_who tx who) (row g x).effects.sends → (is_tc x.to.block && finds_who tx who x.body) ≡ true
+  host_told g x own = of_effects (λ f. 1 ≤ sends_of (is_telling_who tx who) f.sends → (is_tc x.to.block && finds_who tx who x.body) ≡ true) g x none_sent (record {
+    api = λ runs at some. absurd (omega (arith, some, api_silent (is_telling_who tx who) (not_of_api (is_telling_who tx who) telling_tc) (api_of g) x.body));
+    tc = λ runs at some. ap (λ of. is_tc of && finds_who tx who x.body) at ∙ tc_told (tc_of g) x.body own some;
+    dih = λ runs at some. absurd (omega (arith, some, none_of is_dih_kind (is_telling_who tx who) (not_of_dih (is_telling_who tx who) telling_tc) (dih_table (dih_of g) x.body).effects.sends (dih_kinds (dih_of g) x.body)));
+    rows = λ runs at some. absurd (omega (arith, some, none_of is_lqh_kind (is_telling_who tx who) (not_of_lqh (is_telling_who tx who) telling_tc) (lqh_table (lqh_of g) x.body).effects.sends (lqh_kinds (lqh_of g) x.body)));
+  })
 
   -- the transaction waits behind it here
   pub record FoundAt (s : LqhState) : Type 0 where
@@ -229,7 +191,7 @@ module _ (tx who : TxId) where
       by true false p q e = cc
       by false b p q e = cc
 
-  lqh_found : (s : LqhState) (body : Body) → is_wait_of tx body ≡ true → 1 ≤ sends_of (is_finding_who tx who) (lqh_row s body).effects.sends → FoundAt s
+  lqh_found : (s : LqhState) (body : Body) → is_wait_of tx body ≡ true → 1 ≤ sends_of (is_finding_who tx who) (lqh_table s body).effects.sends → FoundAt s
   unfolding rows.wait_row
   lqh_found s (Client (TcWaitReq one)) own some = none_sent some
   lqh_found s (Client (LqhWaitReq one key)) own some = waits_found s one key (ahead_at s.locks key one) refl some
@@ -237,18 +199,19 @@ module _ (tx who : TxId) where
   lqh_found s (Client (TcWaitConf one ahead)) own some = none_sent some
   lqh_found s _ own some = cc
 
-  no_begin : (body : Body) → is_wait_of tx body ≡ true → (s : TcState) → sends_of (is_finding_who tx who) (tc_row s body).effects.sends ≡ 0
-  no_begin (Client (TcWaitReq one)) own s = none_of (is_tc_kind one) (is_finding_who tx who) (no_find_tc one) (tc_row s (Client (TcWaitReq one))).effects.sends (tc_kinds s (Client (TcWaitReq one)) refl)
+  no_begin : (body : Body) → is_wait_of tx body ≡ true → (s : TcState) → sends_of (is_finding_who tx who) (tc_table s body).effects.sends ≡ 0
+  no_begin (Client (TcWaitReq one)) own s = none_of (is_tc_kind one) (is_finding_who tx who) (no_find_tc one) (tc_table s (Client (TcWaitReq one))).effects.sends (tc_kinds s (Client (TcWaitReq one)) refl)
   no_begin (Client (LqhWaitReq one key)) own s = refl
   no_begin (Client (LqhWaitConf one ahead)) own s =
-      none_of (is_tc_kind one) (is_finding_who tx who) (no_find_tc one) (tc_row s (Client (LqhWaitConf one ahead))).effects.sends (tc_kinds s (Client (LqhWaitConf one ahead)) refl)
+      none_of (is_tc_kind one) (is_finding_who tx who) (no_find_tc one) (tc_table s (Client (LqhWaitConf one ahead))).effects.sends (tc_kinds s (Client (LqhWaitConf one ahead)) refl)
   no_begin (Client (TcWaitConf one ahead)) own s = refl
   no_begin _ own s = cc
 
   -- and who told it found it so
-  pub node_found : (n : node.Node) (at : BlockId) (body : Body) → is_wait_of tx body ≡ true → 1 ≤ sends_of (is_finding_who tx who) (node_row n at body).effects.sends → FoundAt n.lqh
-  unfolding node_row
-  node_found n block.Tc body own some = absurd (omega (arith, some, no_begin body own n.tc))
-  node_found n block.Dih body own some = absurd (omega (arith, some, none_of is_dih_kind (is_finding_who tx who) no_find_dih (dih_row n.dih body).effects.sends (dih_kinds n.dih body)))
-  node_found n block.Lqh body own some = lqh_found n.lqh body own some
-  node_found n _ body own some = none_sent some
+  pub host_found : (g : Host) (x : Signal) → is_wait_of tx x.body ≡ true → 1 ≤ sends_of (is_finding_who tx who) (row g x).effects.sends → FoundAt (lqh_of g)
+  host_found g x own = of_effects (λ f. 1 ≤ sends_of (is_finding_who tx who) f.sends → FoundAt (lqh_of g)) g x none_sent (record {
+    api = λ runs at some. absurd (omega (arith, some, api_silent (is_finding_who tx who) no_find_api (api_of g) x.body));
+    tc = λ runs at some. absurd (omega (arith, some, no_begin x.body own (tc_of g)));
+    dih = λ runs at some. absurd (omega (arith, some, none_of is_dih_kind (is_finding_who tx who) no_find_dih (dih_table (dih_of g) x.body).effects.sends (dih_kinds (dih_of g) x.body)));
+    rows = λ runs at some. lqh_found (lqh_of g) x.body own some;
+  })

@@ -2,10 +2,10 @@
 use Rattle.std.proofs.Common.{◌≡◌, ◌⊎◌, ◌<◌, ◌≤◌, ℕ, zero, suc, Bool, true, false, List, [], ◌∷◌, ◌++◌, refl, sym, ap, subst, ◌∙◌, inl, inr, append_assoc, arith}
 use Rattle.std.proofs.lemmas.Bool.{cases_lt}
 use Rattle.std.specs.Prelude.{◌&&◌, ◌||◌, IfSome, Some}
+use Rattle.run_theory.proofs.Pasts.{each_after, each_in}
 use Rattle.run_theory.specs.Cuts.{IsCut}
 use Rattle.run_theory.specs.Lists.{Each, IsIn}
-use Rattle.run_theory.proofs.Pasts.{each_after, each_in}
-use Rattle.sig_core.specs.declared.log.LogStep.{LogStep}
+use Rattle.sig_core.proofs.Keys.{same_tx-self}
 use Rattle.sig_core.specs.declared.member.TxId.{TxId}
 use Rattle.sig_core.specs.declared.place.Place.{Place}
 use Rattle.sig_core.specs.declared.signal.Body.{Body}
@@ -18,23 +18,23 @@ use Rattle.row_locks.specs.Holders.{first_other, holds, tx_if}
 use Rattle.row_locks.specs.OrderlyTables.{AreOrderly}
 use Rattle.row_locks.specs.Queues.{waits}
 use Rattle.row_locks.specs.Tables.{Locks, ahead_at, lock_at, some_if}
-use Rattle.node_core.specs.declared.host.Host as host
-use Rattle.node_core.specs.declared.host.Host.TheVariants.{Shell, Node}
-use Rattle.node_core.specs.declared.node.Node as node
+use Rattle.node_core.specs.Blocks.{lqh_of}
 use Rattle.node_core.specs.Requests.{is_request}
-use Rattle.node_core.specs.Row.{node_row, row}
-use Rattle.world_core.specs.Machine.{after, hosts}
+use Rattle.node_core.specs.Row.{row}
+use Rattle.world_core.specs.Hosts.{hosts, rows_host}
+use Rattle.world_core.specs.Machine.{after}
 use Rattle.world_core.specs.Start.{Start}
-use Rattle.commit_laws.proofs.Replicas.{logs_keep_well}
-use Rattle.commit_laws.specs.ReplicaLaws.{IsWellHost}
-use Rattle.answer_laws.proofs.ApiBegins.{in_middle}
-use Rattle.answer_laws.proofs.Hosts.{IsNode, node_after}
-use Rattle.sig_core.proofs.Keys.{same_tx-self}
-use Rattle.answer_laws.proofs.Wishes.{is_api, is_tc, sends_of}
+use Rattle.world_core.specs.Steps.{HostStep}
+use Rattle.host_laws.proofs.Replicas.{logs_keep_well}
+use Rattle.host_laws.proofs.ApiBegins.{in_middle}
+use Rattle.host_laws.proofs.Wishes.{is_api, is_tc, sends_of}
 use Rattle.answer_laws.specs.Answered.{AreQuiet}
+use Rattle.command_laws.proofs.Homes.{ahead_rows}
+use Rattle.command_laws.proofs.HostKinds.{node_runs_none}
+use Rattle.command_laws.proofs.HostSends.{not_of_api, shell_silent}
 use Rattle.command_laws.proofs.Since.{front_nil, sent_since}
-use Rattle.command_laws.proofs.WaitRows.{is_telling_who, is_wait_of, node_waits, tells_who}
-use Rattle.command_laws.proofs.WaitSources.{FoundAt, SentBy, came_from, finds_who, is_finding_who, no_find_api, no_tell_api, node_found, node_told, sent_by, shell_none}
+use Rattle.command_laws.proofs.WaitRows.{is_telling_who, is_wait_of, tells_who, host_waits}
+use Rattle.command_laws.proofs.WaitSources.{FoundAt, SentBy, came_from, finds_who, is_finding_who, no_find_api, telling_tc, host_found, host_told, sent_by}
 use Rattle.command_laws.specs.Served.{IsBehind, IsBehindAt}
 
 -- the first other holder holds the lock
@@ -72,15 +72,6 @@ behind_locks locks key tx who orderly is = by (waits tx (lock_at locks key).queu
         }
     by false w e = cc
 
-orderly_at : (g : host.Host) (n : node.Node) → g ≡ Node n → IsWellHost g → AreOrderly n.lqh.locks
-orderly_at (Shell s) n is well = cc
-orderly_at (Node m) n is well = let same : m ≡ n = cc in subst (λ (x : node.Node). AreOrderly x.lqh.locks) same well.orderly
-
-row_sends : (test : Place → Body → Bool) (g : host.Host) (n : node.Node) (to : Place) (body : Body) → g ≡ Node n → 1 ≤ sends_of test (row g to body).effects.sends → 1 ≤ sends_of test (node_row n to.block body).effects.sends
-unfolding row
-row_sends test (Shell s) n to body is some = cc
-row_sends test (Node m) n to body is some = let same : m ≡ n = cc in subst (λ (x : node.Node). 1 ≤ sends_of test (node_row x to.block body).effects.sends) same some
-
 -- a request is no such signal
 plain_by : (a : Bool) (test : Body → Bool) (body : Body) → (is_request body ≡ true → test body ≡ false) → (a && test body) ≡ true → is_request body ≡ false
 plain_by a test body off e = by (is_request body) refl
@@ -107,100 +98,88 @@ plain_finds tx who to body e = plain_by (is_tc to.block) (finds_who tx who) body
     off (Client (LqhWaitConf one ahead)) r = cc
     off _ r = refl
 
-some_step : (front : List LogStep) (e : LogStep) (back : List LogStep) → front ++ e ∷ back ≡ [] → ⊥
+some_step : (front : List HostStep) (e : HostStep) (back : List HostStep) → front ++ e ∷ back ≡ [] → ⊥
 some_step [] e back is = cc
 some_step (f ∷ front) e back is = cc
 
 -- a node stays as it is while only questions and answers to them are taken
-row_same : (tx : TxId) (g : host.Host) (n : node.Node) (to : Place) (body : Body) → g ≡ Node n → is_wait_of tx body ≡ true → (row g to body).state ≡ g
-unfolding row
-row_same tx (Shell s) n to body is kind = cc
-row_same tx (Node m) n to body is kind = ap (λ (x : node.Node). Node x) (node_waits tx m to.block body kind).same
+node_stays : (start : Start) (tx : TxId) (h : ℕ) (newer log : List HostStep) → Each (λ (e : HostStep). is_wait_of tx e.step.taken.body ≡ true) newer → after start (suc h) (newer ++ log) ≡ after start (suc h) log
+node_stays start tx h [] log kinds = refl
+node_stays start tx h (e ∷ newer) log kinds =
+    (host_waits start tx (after start (suc h) (newer ++ log)) e.step.taken (node_runs_none start h (newer ++ log)) kinds.0).same ∙ node_stays start tx h newer log kinds.1
 
-node_stays : (start : Start) (tx : TxId) (h : ℕ) (newer log : List LogStep) (n : node.Node) → Each (λ (e : LogStep). is_wait_of tx e.taken.body ≡ true) newer → after start h log ≡ Node n
-    → after start h (newer ++ log) ≡ Node n
-node_stays start tx h [] log n kinds is = is
-node_stays start tx h (e ∷ newer) log n kinds is =
-    let before = node_stays start tx h newer log n kinds.1 is in
-    row_same tx (after start h (newer ++ log)) n e.taken.to e.taken.body before kinds.0 ∙ before
-
-module _ (start : Start) (was mid : ℕ → List LogStep) (tx who : TxId) (before : AreQuiet start was) (since : AreQuiet start mid) (cut : IsCut was mid)
-    (kinds : (h : ℕ) → Each (λ (e : LogStep). is_wait_of tx e.taken.body ≡ true) (cut (suc h)).newer) where
+module _ (start : Start) (was mid : ℕ → List HostStep) (tx who : TxId) (before : AreQuiet start was) (since : AreQuiet start mid) (cut : IsCut was mid)
+    (kinds : (h : ℕ) → Each (λ (e : HostStep). is_wait_of tx e.step.taken.body ≡ true) (cut (suc h)).newer) where
   -- a step of a node that sent such a signal, as the node was
-  record SentHere (test : Place → Body → Bool) (h : ℕ) (n : node.Node) : Type 0 where
-    step : LogStep
+  record SentHere (test : Place → Body → Bool) (h : ℕ) : Type 0 where
+    step : HostStep
     inside : IsIn step (cut (suc h)).newer
-    waits_kind : is_wait_of tx step.taken.body ≡ true
-    sends : 1 ≤ sends_of test (node_row n step.taken.to.block step.taken.body).effects.sends
+    waits_kind : is_wait_of tx step.step.taken.body ≡ true
+    sends : 1 ≤ sends_of test (row (after start (suc h) (was (suc h))) step.step.taken).effects.sends
 
-  sent_here : (test : Place → Body → Bool) (h : ℕ) (n : node.Node) → after start (suc h) (was (suc h)) ≡ Node n → SentBy start test (suc h) (cut (suc h)).newer (was (suc h)) → SentHere test h n
-  sent_here test h n is b = record {
+  sent_here : (test : Place → Body → Bool) (h : ℕ) → SentBy start test (suc h) (cut (suc h)).newer (was (suc h)) → SentHere test h
+  sent_here test h b = record {
     step = b.step;
     inside = inside;
-    waits_kind = each_in (λ (e : LogStep). is_wait_of tx e.taken.body ≡ true) b.step (cut (suc h)).newer (kinds h) inside;
-    sends = row_sends test (after start (suc h) (b.back ++ was (suc h))) n b.step.taken.to b.step.taken.body state b.sends;
+    waits_kind = each_in (λ (e : HostStep). is_wait_of tx e.step.taken.body ≡ true) b.step (cut (suc h)).newer (kinds h) inside;
+    sends = subst (λ g. 1 ≤ sends_of test (row g b.step.step.taken).effects.sends) state b.sends;
   }
     where
       inside : IsIn b.step (cut (suc h)).newer
       inside = subst (IsIn b.step) (sym b.is) (in_middle b.front b.step b.back)
 
-      state : after start (suc h) (b.back ++ was (suc h)) ≡ Node n
+      state : after start (suc h) (b.back ++ was (suc h)) ≡ after start (suc h) (was (suc h))
       state =
-          node_stays start tx (suc h) b.back (was (suc h)) n
-          (each_after (λ (e : LogStep). is_wait_of tx e.taken.body ≡ true) (b.front ++ b.step ∷ []) b.back
-          (subst (Each (λ (e : LogStep). is_wait_of tx e.taken.body ≡ true)) (b.is ∙ sym (append_assoc b.front (b.step ∷ []) b.back)) (kinds h))) is
+          node_stays start tx h b.back (was (suc h))
+          (each_after (λ (e : HostStep). is_wait_of tx e.step.taken.body ≡ true) (b.front ++ b.step ∷ []) b.back
+          (subst (Each (λ (e : HostStep). is_wait_of tx e.step.taken.body ≡ true)) (b.is ∙ sym (append_assoc b.front (b.step ∷ []) b.back)) (kinds h)))
 
   -- at a node the transaction waits behind that one
   pub record IsBehindThere : Type 0 where
     pub node : ℕ
-    pub low : node ≤ start.nodes
+    pub low : node ≤ start.shape.nodes
     pub key : List ℕ
-    pub behind : IsBehindAt tx who key (after start node (mid node))
+    pub behind : IsBehindAt tx who key (after start (rows_host start node) (mid (rows_host start node)))
 
-  found_there : (h : ℕ) (e : LogStep) → IsIn e (cut (suc h)).newer → is_finding_who tx who e.taken.to e.taken.body ≡ true → IsBehindThere
-  found_there h e inside passes = by e.taken.from.0 refl
+  found_there : (h : ℕ) (e : HostStep) → IsIn e (cut (suc h)).newer → is_finding_who tx who e.step.taken.to e.step.taken.body ≡ true → IsBehindThere
+  found_there h e inside passes = by e.step.taken.from.0 refl
     where
-      sent_at : (i : ℕ) → e.taken.from.0 ≡ i → 1 ≤ sent_since start (is_finding_who tx who) i (cut i).newer (was i)
-      sent_at i at = came_from start was mid before since cut (is_finding_who tx who) (suc h) e inside (plain_finds tx who e.taken.to e.taken.body passes) passes i at
+      sent_at : (i : ℕ) → e.step.taken.from.0 ≡ i → 1 ≤ sent_since start (is_finding_who tx who) i (cut i).newer (was i)
+      sent_at i at = came_from start was mid before since cut (is_finding_who tx who) (suc h) e inside (plain_finds tx who e.step.taken.to e.step.taken.body passes) passes i at
 
-      by : (i : ℕ) → e.taken.from.0 ≡ i → IsBehindThere
-      by zero at = absurd (omega (arith, sent_at zero at, shell_none start (is_finding_who tx who) (no_find_api tx who) (λ name node. refl) ((cut 0).newer) (was 0)))
+      by : (i : ℕ) → e.step.taken.from.0 ≡ i → IsBehindThere
+      by zero at = absurd (omega (arith, sent_at zero at, shell_silent (is_finding_who tx who) (no_find_api tx who) start (cut 0).newer (was 0)))
       by (suc k) at = there (cases_lt (suc k) (hosts start))
         where
-          n : IsNode (suc k) (after start (suc k) (was (suc k)))
-          n = node_after start k (was (suc k))
-
           b : SentBy start (is_finding_who tx who) (suc k) (cut (suc k)).newer (was (suc k))
           b = sent_by start (is_finding_who tx who) (suc k) (cut (suc k)).newer (was (suc k)) (sent_at (suc k) at)
 
-          sender : SentHere (is_finding_who tx who) k n.state
-          sender = sent_here (is_finding_who tx who) k n.state n.is b
+          sender : SentHere (is_finding_who tx who) k
+          sender = sent_here (is_finding_who tx who) k b
 
-          found : FoundAt tx who n.state.lqh
-          found = node_found tx who n.state sender.step.taken.to.block sender.step.taken.body sender.waits_kind sender.sends
+          found : FoundAt tx who (lqh_of (after start (suc k) (was (suc k))))
+          found = host_found tx who (after start (suc k) (was (suc k))) sender.step.step.taken sender.waits_kind sender.sends
 
-          now_is : after start (suc k) (mid (suc k)) ≡ Node n.state
-          now_is = ap (after start (suc k)) ((cut (suc k)).is) ∙ node_stays start tx (suc k) (cut (suc k)).newer (was (suc k)) n.state (kinds k) n.is
+          behind_now : IsBehindAt tx who found.key (after start (suc k) (mid (suc k)))
+          behind_now =
+              subst (IsBehindAt tx who found.key) (sym (ap (after start (suc k)) (cut (suc k)).is ∙ node_stays start tx k (cut (suc k)).newer (was (suc k)) (kinds k)))
+              (behind_locks (lqh_of (after start (suc k) (was (suc k)))).locks found.key tx who (logs_keep_well start (suc k) (was (suc k))).orderly found.is)
 
+          -- who has locks is the host of a node's rows
           there : (suc k < hosts start) ⊎ (hosts start ≤ suc k) → IsBehindThere
-          there (inl low) = record {
-            node = suc k;
-            low = omega (arith, low);
-            key = found.key;
-            behind = subst (IsBehindAt tx who found.key) (sym now_is)
-                (behind_locks n.state.lqh.locks found.key tx who (orderly_at (after start (suc k) (was (suc k))) n.state n.is (logs_keep_well start (suc k) (was (suc k)))) found.is);
-          }
+          there (inl low) =
+              let n = ahead_rows start (suc k) (was (suc k)) low found.key tx who found.is in
+              record { node = n.node; low = n.low; key = found.key; behind = subst (λ h. IsBehindAt tx who found.key (after start h (mid h))) n.is behind_now }
           there (inr high) = absurd (some_step b.front b.step b.back (sym b.is ∙ front_nil (cut (suc k)).newer (was (suc k)) (sym (since.within (suc k) high) ∙ (cut (suc k)).is)))
 
-  pub behind_there : (e : LogStep) → IsIn e ((cut 0).newer) → is_telling_who tx who e.taken.to e.taken.body ≡ true → IsBehindThere
-  behind_there e inside passes = by e.taken.from.0 refl
+  pub behind_there : (e : HostStep) → IsIn e ((cut 0).newer) → is_telling_who tx who e.step.taken.to e.step.taken.body ≡ true → IsBehindThere
+  behind_there e inside passes = by e.step.taken.from.0 refl
     where
-      sent_at : (i : ℕ) → e.taken.from.0 ≡ i → 1 ≤ sent_since start (is_telling_who tx who) i (cut i).newer (was i)
-      sent_at i at = came_from start was mid before since cut (is_telling_who tx who) 0 e inside (plain_tells tx who e.taken.to e.taken.body passes) passes i at
+      sent_at : (i : ℕ) → e.step.taken.from.0 ≡ i → 1 ≤ sent_since start (is_telling_who tx who) i (cut i).newer (was i)
+      sent_at i at = came_from start was mid before since cut (is_telling_who tx who) 0 e inside (plain_tells tx who e.step.taken.to e.step.taken.body passes) passes i at
 
-      by : (i : ℕ) → e.taken.from.0 ≡ i → IsBehindThere
-      by zero at = absurd (omega (arith, sent_at zero at, shell_none start (is_telling_who tx who) (no_tell_api tx who) (λ name node. refl) ((cut 0).newer) (was 0)))
+      by : (i : ℕ) → e.step.taken.from.0 ≡ i → IsBehindThere
+      by zero at = absurd (omega (arith, sent_at zero at, shell_silent (is_telling_who tx who) (not_of_api (is_telling_who tx who) (telling_tc tx who)) start (cut 0).newer (was 0)))
       by (suc k) at =
-          let n = node_after start k (was (suc k)) in
-          let sender = sent_here (is_telling_who tx who) k n.state n.is (sent_by start (is_telling_who tx who) (suc k) (cut (suc k)).newer (was (suc k)) (sent_at (suc k) at)) in
-          found_there k sender.step sender.inside (node_told tx who n.state sender.step.taken.to.block sender.step.taken.body sender.waits_kind sender.sends)
+          let sender = sent_here (is_telling_who tx who) k (sent_by start (is_telling_who tx who) (suc k) (cut (suc k)).newer (was (suc k)) (sent_at (suc k) at)) in
+          found_there k sender.step sender.inside (host_told tx who (after start (suc k) (was (suc k))) sender.step.step.taken sender.waits_kind sender.sends)

@@ -1,10 +1,11 @@
 -- What each request of the shell comes to.
+use Rattle.frag_map.specs.Shape.{IsShape}
 use Rattle.std.specs.Prelude.{◌≡◌, ◌<◌, ◌≤◌, ◌⊎◌, ℕ, true, List, ◌∷◌, ◌++◌, None, Some}
 use Rattle.run_theory.specs.Lists.{IsIn}
 use Rattle.run_theory.specs.Runs.{AreLogs, IsWithin}
 use Rattle.api_block.specs.declared.opened.Doing.TheVariants.{Ready}
 use Rattle.api_block.specs.declared.opened.OpenTransaction.{OpenTransaction}
-use Rattle.sig_core.specs.declared.log.LogStep.{LogStep}
+use Rattle.world_core.specs.Steps.{HostStep}
 use Rattle.sig_core.specs.declared.member.TxId.{TxId}
 use Rattle.sig_core.specs.declared.op.Op.{Op}
 use Rattle.sig_core.specs.declared.outcome.AbortCause.TheVariants as cause
@@ -14,75 +15,77 @@ use Rattle.sig_core.specs.declared.reply.Refusal.{Refusal}
 use Rattle.sig_core.specs.declared.request.ApiReq.{ApiReq}
 use Rattle.sig_core.specs.declared.request.ApiReq.TheVariants as request
 use Rattle.node_core.specs.Replies.{is_left_open}
-use Rattle.world_core.specs.Machine.{after, hosts, machine}
+use Rattle.world_core.specs.Hosts.{hosts}
+use Rattle.world_core.specs.Machine.{after, machine}
 use Rattle.world_core.specs.Quiet.{IsQuiet}
 use Rattle.world_core.specs.Requests.{AreAskedAtQuiet, request_in}
 use Rattle.world_core.specs.Start.{Start}
-use Rattle.answer_laws.specs.Answered.{IsAnswered, opened_after}
+use Rattle.answer_laws.specs.Answered.{IsAnswered}
+use Rattle.host_laws.specs.Opened.{opened_after}
 use Rattle.command_laws.specs.Alone.{IsRefusedAlone, IsTurnedAway, WaitsAlone}
 use Rattle.command_laws.specs.Between.{IsAskedAgain, IsServedIn}
 use Rattle.command_laws.specs.Served.{IsAnsweredAlone, IsAnsweredAs, IsCommittedAlone, IsRefusedAs, IsServed, IsToldCommitted, IsToldHolder, StillWaits, named_in, replies_since}
 
 -- the command was turned down, since it may not be given to the transaction of this name now
-pub record IsTurnedDown (start : Start) (was now : ℕ → List LogStep) (name : ℕ) : Type 0 where
+pub record IsTurnedDown (start : Start) (was now : ℕ → List HostStep) (name : ℕ) : Type 0 where
   pub refusal : Refusal
   pub told : IsIn (Refused (Some name) refusal) (replies_since start was now)
 
 -- its operation waits for a lock
-pub record IsLeftWaiting (start : Start) (now : ℕ → List LogStep) (name : ℕ) : Type 0 where
+pub record IsLeftWaiting (start : Start) (now : ℕ → List HostStep) (name : ℕ) : Type 0 where
   pub tx : TxId
   pub waits : StillWaits start now name tx
 
 -- An operation of a transaction with a name is turned down or answered, or its transaction is aborted for want of room or of
 -- time, or it waits for a lock.
-abbrev pub OperationComesTo : Start → (was now : ℕ → List LogStep) → ℕ → Type 0
+abbrev pub OperationComesTo : Start → (was now : ℕ → List HostStep) → ℕ → Type 0
 OperationComesTo start was now name =
     IsTurnedDown start was now name ⊎ (IsAnsweredAs start was now name ⊎ (IsRefusedAs start was now name ⊎ IsLeftWaiting start now name))
 
 -- its transaction was reported committed
-pub record IsReportedCommitted (start : Start) (was now : ℕ → List LogStep) (name : ℕ) : Type 0 where
+pub record IsReportedCommitted (start : Start) (was now : ℕ → List HostStep) (name : ℕ) : Type 0 where
   pub tx : TxId
   pub committed : IsToldCommitted start was now name tx
 
 -- a commit is turned down or reported
-abbrev pub CommitComesTo : Start → (was now : ℕ → List LogStep) → ℕ → Type 0
+abbrev pub CommitComesTo : Start → (was now : ℕ → List HostStep) → ℕ → Type 0
 CommitComesTo start was now name = IsTurnedDown start was now name ⊎ IsReportedCommitted start was now name
 
 -- an operation alone was answered, and its transaction reported committed
-pub record IsDoneAlone (start : Start) (was now : ℕ → List LogStep) : Type 0 where
+pub record IsDoneAlone (start : Start) (was now : ℕ → List HostStep) : Type 0 where
   pub answered : IsAnsweredAlone start was now
   pub committed : IsCommittedAlone start was now
 
 -- An operation alone is done, or its transaction is aborted for want of room or of time, or can't begin, or it waits for a lock.
-abbrev pub LoneComesTo : Start → (was now : ℕ → List LogStep) → Type 0
+abbrev pub LoneComesTo : Start → (was now : ℕ → List HostStep) → Type 0
 LoneComesTo start was now = IsDoneAlone start was now ⊎ (IsRefusedAlone start was now ⊎ (IsTurnedAway start was now ⊎ WaitsAlone start was now))
 
 abbrev pub OperationsComeTo : Type 0
 OperationsComeTo =
-    (start : Start) (was now : ℕ → List LogStep) (name : ℕ) (op : Op) → IsServed start was now (request.Operate (Some name) op) → OperationComesTo start was now name
+    (start : Start) (was now : ℕ → List HostStep) (name : ℕ) (op : Op) → IsServed start was now (request.Operate (Some name) op) → OperationComesTo start was now name
 
 abbrev pub CommitsComeTo : Type 0
-CommitsComeTo = (start : Start) (was now : ℕ → List LogStep) (name : ℕ) → IsServed start was now (request.Commit name) → CommitComesTo start was now name
+CommitsComeTo = (start : Start) (was now : ℕ → List HostStep) (name : ℕ) → IsServed start was now (request.Commit name) → CommitComesTo start was now name
 
 -- the transaction of this name takes commands
-pub record TakesCommands (start : Start) (logs : ℕ → List LogStep) (name : ℕ) (tx : TxId) : Type 0 where
+pub record TakesCommands (start : Start) (logs : ℕ → List HostStep) (name : ℕ) (tx : TxId) : Type 0 where
   pub item : OpenTransaction
   pub named : named_in (opened_after start logs) name ≡ Some item
   pub ready : item.doing ≡ Ready
   pub own : item.tx ≡ Some tx
 
 -- and operations, of which it has had fewer than it may
-pub record TakesOperations (start : Start) (logs : ℕ → List LogStep) (name : ℕ) (tx : TxId) : Type 0 where
+pub record TakesOperations (start : Start) (logs : ℕ → List HostStep) (name : ℕ) (tx : TxId) : Type 0 where
   pub takes : TakesCommands start logs name tx
   pub few : takes.item.operations < 64
 
 -- it was reported aborted, as was asked for
-abbrev pub IsAbortedAs : Start → (was now : ℕ → List LogStep) → ℕ → Type 0
+abbrev pub IsAbortedAs : Start → (was now : ℕ → List HostStep) → ℕ → Type 0
 IsAbortedAs start was now name = IsIn (Ended (Some name) (Aborted cause.Request)) (replies_since start was now)
 
 -- What a request comes to between these two moments. A transaction that takes it isn't turned down. A command that left something of its own unanswered is asked about twice:
 -- the second time it is told who holds what it waits for.
-abbrev pub AnswersRequest : Start → (was now : ℕ → List LogStep) → ApiReq → Type 0
+abbrev pub AnswersRequest : Start → (was now : ℕ → List HostStep) → ApiReq → Type 0
 AnswersRequest start was now (request.Operate (Some name) op) =
     OperationComesTo start was now name
     × ((tx : TxId) → TakesOperations start was name tx → IsAnsweredAs start was now name ⊎ (IsRefusedAs start was now name ⊎ StillWaits start now name tx))
@@ -91,12 +94,12 @@ AnswersRequest start was now (request.Commit name) =
     CommitComesTo start was now name × ((tx : TxId) → TakesCommands start was name tx → IsToldCommitted start was now name tx)
 AnswersRequest start was now (request.Abort name) = (tx : TxId) → TakesCommands start was name tx → IsAbortedAs start was now name
 AnswersRequest start was now request.Pending =
-    (first : ℕ → List LogStep) → IsServed start first was request.Waits → is_left_open (after start 0 (first 0)) ≡ true → IsToldHolder start first was now
+    (first : ℕ → List HostStep) → IsServed start first was request.Waits → is_left_open (after start 0 (first 0)) ≡ true → IsToldHolder start first was now
 AnswersRequest start was now request = Unit {0}
 
 -- The request that comes after `before` in the log of the shell's host is served between two quiet moments of these logs and
 -- answered there; and then each transaction whose end isn't reported takes commands, or its operation waits for a lock.
-pub record IsAnsweredIn (start : Start) (logs : ℕ → List LogStep) (request : ApiReq) (before : List LogStep) : Type 0 where
+pub record IsAnsweredIn (start : Start) (logs : ℕ → List HostStep) (request : ApiReq) (before : List HostStep) : Type 0 where
   pub moments : IsServedIn start logs request before
   pub answers : AnswersRequest start moments.was moments.now request
   pub left : (t : OpenTransaction) → IsIn t (opened_after start moments.now) → IsAnswered start moments.now t
@@ -104,7 +107,7 @@ pub record IsAnsweredIn (start : Start) (logs : ℕ → List LogStep) (request :
 -- So it is of each request, if nothing is under way at the end or another request comes later.
 abbrev pub RequestsAreAnswered : Type 0
 RequestsAreAnswered =
-    (start : Start) (logs : ℕ → List LogStep) → 1 ≤ start.nodes → start.nodes ≤ 8 → AreLogs (machine start) logs → IsWithin (hosts start) logs → AreAskedAtQuiet start logs
-    → (newer : List LogStep) (e : LogStep) (before : List LogStep) (request : ApiReq) → logs 0 ≡ newer ++ e ∷ before → request_in e.taken.body ≡ Some request
+    (start : Start) (logs : ℕ → List HostStep) → IsShape start.shape → AreLogs (machine start) logs → IsWithin (hosts start) logs → AreAskedAtQuiet start logs
+    → (newer : List HostStep) (e : HostStep) (before : List HostStep) (request : ApiReq) → logs 0 ≡ newer ++ e ∷ before → request_in e.step.taken.body ≡ Some request
     → IsQuiet (machine start) (hosts start) logs ⊎ IsAskedAgain start newer
     → IsAnsweredIn start logs request before

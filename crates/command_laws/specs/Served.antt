@@ -1,8 +1,10 @@
 -- What a command comes to, between two quiet moments.
+use Rattle.world_core.specs.Hosts.{home, rows_host}
+use Rattle.node_core.specs.Blocks.{api_of, lqh_of}
 use Rattle.std.specs.Prelude.{◌≡◌, ◌<◌, ◌≤◌, ◌⊎◌, ◌++◌, ℕ, Bool, true, false, is_some, List, [], ◌∷◌, drop, length, position, Option, None, Some}
 use Rattle.run_theory.specs.Cuts.{IsCut}
 use Rattle.run_theory.specs.Lists.{IsIn, IsPast}
-use Rattle.sig_core.specs.declared.log.LogStep.{LogStep}
+use Rattle.world_core.specs.Steps.{HostStep}
 use Rattle.sig_core.specs.declared.mark.Mark.TheVariants.{Reported}
 use Rattle.sig_core.specs.declared.member.Member.{Member}
 use Rattle.sig_core.specs.declared.member.TxId.{TxId}
@@ -28,23 +30,23 @@ use Rattle.row_locks.specs.Tables.{Locks, ahead_at, lock_at}
 use Rattle.tc_block.specs.declared.phase.Asked.{Asked}
 use Rattle.tc_block.specs.declared.transaction.Transaction.{Transaction}
 use Rattle.node_core.specs.declared.host.Host.{Host}
-use Rattle.node_core.specs.declared.host.Host.TheVariants.{Shell, Node}
 use Rattle.node_core.specs.Replies.{is_left_open, replies_of}
 use Rattle.world_core.specs.Machine.{after}
 use Rattle.world_core.specs.Requests.{requests}
 use Rattle.world_core.specs.Start.{Start}
-use Rattle.answer_laws.specs.Answered.{AreQuiet, EachAtQuiet, IsLiveAs, WaitsForLock, opened_after}
+use Rattle.answer_laws.specs.Answered.{AreQuiet, EachAtQuiet, IsLiveAs, WaitsForLock}
+use Rattle.host_laws.specs.Opened.{opened_after}
 
 -- The shell asked for one more thing between two quiet moments: the later logs have those before, and of the shell's requests
 -- this one more.
-pub record IsServed (start : Start) (was now : ℕ → List LogStep) (request : ApiReq) : Type 0 where
+pub record IsServed (start : Start) (was now : ℕ → List HostStep) (request : ApiReq) : Type 0 where
   pub before : AreQuiet start was
   pub since : AreQuiet start now
   pub cut : IsCut was now
   pub asked : requests (now 0) ≡ requests (was 0) ++ request ∷ []
 
 -- the replies of the shell's host behind those that it had before
-abbrev pub replies_since : Start → (ℕ → List LogStep) → (ℕ → List LogStep) → List ApiReply
+abbrev pub replies_since : Start → (ℕ → List HostStep) → (ℕ → List HostStep) → List ApiReply
 replies_since start was now = drop (length (replies_of (after start 0 (was 0)))) (replies_of (after start 0 (now 0)))
 
 -- the transaction of a name: the first that has it
@@ -52,15 +54,15 @@ abbrev pub named_in : List OpenTransaction → ℕ → Option OpenTransaction
 named_in opened name = where_at opened None (λ at t. Some t) (position (is_named (Some name)) opened)
 
 -- a step of the shell's host since then was marked to have reported the transaction committed in this epoch
-pub record IsMarked (was now : ℕ → List LogStep) (tx : TxId) (epoch : ℕ) : Type 0 where
-  pub step : LogStep
-  pub older : List LogStep
+pub record IsMarked (was now : ℕ → List HostStep) (tx : TxId) (epoch : ℕ) : Type 0 where
+  pub step : HostStep
+  pub older : List HostStep
   pub inside : IsPast (step ∷ older) (now 0)
   pub later : IsPast (was 0) older
-  pub marked : IsIn (Reported tx (Committed epoch)) step.marks
+  pub marked : IsIn (Reported tx (Committed epoch)) step.step.marks
 
 -- the transaction of this name was reported committed since then
-pub record IsToldCommitted (start : Start) (was now : ℕ → List LogStep) (name : ℕ) (tx : TxId) : Type 0 where
+pub record IsToldCommitted (start : Start) (was now : ℕ → List HostStep) (name : ℕ) (tx : TxId) : Type 0 where
   pub epoch : ℕ
   pub told : IsIn (Ended (Some name) (Committed epoch)) (replies_since start was now)
   pub marked : IsMarked was now tx epoch
@@ -68,17 +70,17 @@ pub record IsToldCommitted (start : Start) (was now : ℕ → List LogStep) (nam
 -- a commit of a transaction that takes commands ends in its being committed
 abbrev pub CommitsAreCommitted : Type 0
 CommitsAreCommitted =
-    (start : Start) (was now : ℕ → List LogStep) (name : ℕ) (t : OpenTransaction) (tx : TxId) → IsServed start was now (Commit name)
+    (start : Start) (was now : ℕ → List HostStep) (name : ℕ) (t : OpenTransaction) (tx : TxId) → IsServed start was now (Commit name)
     → named_in (opened_after start was) name ≡ Some t → t.doing ≡ Ready → t.tx ≡ Some tx
     → IsToldCommitted start was now name tx
 
 -- an operation alone was answered since then
-pub record IsAnsweredAlone (start : Start) (was now : ℕ → List LogStep) : Type 0 where
+pub record IsAnsweredAlone (start : Start) (was now : ℕ → List HostStep) : Type 0 where
   pub answer : Answer
   pub told : IsIn (Answered None answer) (replies_since start was now)
 
 -- and a transaction of one was reported committed
-pub record IsCommittedAlone (start : Start) (was now : ℕ → List LogStep) : Type 0 where
+pub record IsCommittedAlone (start : Start) (was now : ℕ → List HostStep) : Type 0 where
   pub tx : TxId
   pub epoch : ℕ
   pub told : IsIn (Ended None (Committed epoch)) (replies_since start was now)
@@ -87,29 +89,27 @@ pub record IsCommittedAlone (start : Start) (was now : ℕ → List LogStep) : T
 -- an operation alone that is answered ends in its being committed
 abbrev pub LoneAreCommitted : Type 0
 LoneAreCommitted =
-    (start : Start) (was now : ℕ → List LogStep) (op : Op) → IsServed start was now (Operate None op) → IsAnsweredAlone start was now
+    (start : Start) (was now : ℕ → List HostStep) (op : Op) → IsServed start was now (Operate None op) → IsAnsweredAlone start was now
     → IsCommittedAlone start was now
 
 -- the transaction that the last command is about, if it is about one that is there
 abbrev pub own_in : Host → Option OpenTransaction
-own_in (Shell s) = where_at s.opened None (λ at t. Some t) (own_place s)
-own_in (Node n) = None
+own_in host = where_at (api_of host).opened None (λ at t. Some t) (own_place (api_of host))
 
 -- the transaction waits in the queue of the key, and another one holds that
 abbrev pub IsHeldUpAt : TxId → List ℕ → Host → Type 0
-IsHeldUpAt tx key (Shell s) = ⊥
-IsHeldUpAt tx key (Node n) = is_some (ahead_at n.lqh.locks key tx) ≡ true
+IsHeldUpAt tx key host = is_some (ahead_at (lqh_of host).locks key tx) ≡ true
 
 -- its coordinator has its operation unanswered, and at one of the nodes that this is sent along it is held up on the key
-pub record IsHeldUp (start : Start) (logs : ℕ → List LogStep) (tx : TxId) : Type 0 where
+pub record IsHeldUp (start : Start) (logs : ℕ → List HostStep) (tx : TxId) : Type 0 where
   pub transaction : Transaction
-  pub live : IsLiveAs tx transaction (after start tx.tc (logs tx.tc))
+  pub live : IsLiveAs tx transaction (after start (home start tx) (logs (home start tx)))
   pub asked : Asked
   pub unanswered : transaction.asked ≡ Some asked
   pub member : Member
   pub inside : IsIn member asked.chain
-  pub low : member.node ≤ start.nodes
-  pub held : IsHeldUpAt tx (key_of asked.op) (after start member.node (logs member.node))
+  pub low : member.node ≤ start.shape.nodes
+  pub held : IsHeldUpAt tx (key_of asked.op) (after start (rows_host start member.node) (logs (rows_host start member.node)))
 
 -- so it is at quiet where its operation was sent
 abbrev pub EachIsHeldUp : Type 0
@@ -122,30 +122,29 @@ pub record IsBehind (tx ahead : TxId) (key : List ℕ) (locks : Locks) : Type 0 
   pub other : same_tx ahead tx ≡ false
 
 abbrev pub IsBehindAt : TxId → TxId → List ℕ → Host → Type 0
-IsBehindAt tx ahead key (Shell s) = ⊥
-IsBehindAt tx ahead key (Node n) = IsBehind tx ahead key n.lqh.locks
+IsBehindAt tx ahead key host = IsBehind tx ahead key (lqh_of host).locks
 
 -- the name of a transaction, where it has one that the API knows
 abbrev pub name_in : List OpenTransaction → TxId → Option ℕ
 name_in opened tx = where_at opened None (λ at t. t.name) (position (has_tx tx) opened)
 
 -- the name of a transaction was told since then that holds, at a node, the lock of a key for which the own transaction waits
-pub record IsToldHolder (start : Start) (was mid now : ℕ → List LogStep) : Type 0 where
+pub record IsToldHolder (start : Start) (was mid now : ℕ → List HostStep) : Type 0 where
   pub own : OpenTransaction
   pub is : own_in (after start 0 (was 0)) ≡ Some own
   pub tx : TxId
   pub number : own.tx ≡ Some tx
   pub ahead : TxId
   pub node : ℕ
-  pub low : node ≤ start.nodes
+  pub low : node ≤ start.shape.nodes
   pub key : List ℕ
-  pub behind : IsBehindAt tx ahead key (after start node (mid node))
+  pub behind : IsBehindAt tx ahead key (after start (rows_host start node) (mid (rows_host start node)))
   pub told : IsIn (Pending own.name (HeldBy (name_in (opened_after start mid) ahead))) (replies_since start mid now)
 
 -- where a command left something of its own unanswered, the two questions about it tell for whom that waits
 abbrev pub HoldersAreTold : Type 0
 HoldersAreTold =
-    (start : Start) (was mid now : ℕ → List LogStep) → IsServed start was mid request.Waits → IsServed start mid now request.Pending → is_left_open (after start 0 (was 0)) ≡ true
+    (start : Start) (was mid now : ℕ → List HostStep) → IsServed start was mid request.Waits → IsServed start mid now request.Pending → is_left_open (after start 0 (was 0)) ≡ true
     → IsToldHolder start was mid now
 
 -- there is no room or no time for an operation
@@ -156,18 +155,18 @@ is_refusal Timeout = true
 is_refusal cause = false
 
 -- an operation of the transaction of this name was answered since then
-pub record IsAnsweredAs (start : Start) (was now : ℕ → List LogStep) (name : ℕ) : Type 0 where
+pub record IsAnsweredAs (start : Start) (was now : ℕ → List HostStep) (name : ℕ) : Type 0 where
   pub answer : Answer
   pub told : IsIn (Answered (Some name) answer) (replies_since start was now)
 
 -- it ended since then, for want of room or of time
-pub record IsRefusedAs (start : Start) (was now : ℕ → List LogStep) (name : ℕ) : Type 0 where
+pub record IsRefusedAs (start : Start) (was now : ℕ → List HostStep) (name : ℕ) : Type 0 where
   pub cause : AbortCause
   pub told : IsIn (Ended (Some name) (Aborted cause)) (replies_since start was now)
   pub refusal : is_refusal cause ≡ true
 
 -- its operation waits for a lock
-pub record StillWaits (start : Start) (now : ℕ → List LogStep) (name : ℕ) (tx : TxId) : Type 0 where
+pub record StillWaits (start : Start) (now : ℕ → List HostStep) (name : ℕ) (tx : TxId) : Type 0 where
   pub item : OpenTransaction
   pub inside : IsIn item (opened_after start now)
   pub called : item.name ≡ Some name
@@ -178,6 +177,6 @@ pub record StillWaits (start : Start) (now : ℕ → List LogStep) (name : ℕ) 
 -- an operation of a transaction that takes commands is answered, or refused for want of room or of time, or waits for a lock
 abbrev pub OperationsAreAnswered : Type 0
 OperationsAreAnswered =
-    (start : Start) (was now : ℕ → List LogStep) (name : ℕ) (op : Op) (t : OpenTransaction) (tx : TxId) → IsServed start was now (Operate (Some name) op)
+    (start : Start) (was now : ℕ → List HostStep) (name : ℕ) (op : Op) (t : OpenTransaction) (tx : TxId) → IsServed start was now (Operate (Some name) op)
     → named_in (opened_after start was) name ≡ Some t → t.doing ≡ Ready → t.tx ≡ Some tx → t.operations < 64
     → IsAnsweredAs start was now name ⊎ (IsRefusedAs start was now name ⊎ StillWaits start now name tx)

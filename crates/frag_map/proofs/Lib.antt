@@ -1,3 +1,5 @@
+mod AroundLemmas
+pub mod FirstReplicas
 mod GroupLemmas
 mod ListLemmas
 mod ShapeLemmas

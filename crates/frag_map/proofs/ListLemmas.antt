@@ -10,7 +10,8 @@ take-take-append (suc n) [] ys = refl
 take-take-append (suc n) (x ∷ xs) ys = ap (λ zs. x ∷ zs) (take-take-append n xs ys)
 
 -- one more item that is kept moves from what is left to what is there
-pub take-add : {X : Type 0} (n : ℕ) (xs : List X) (x : X) (ys : List X) → take n (take n (xs ++ x ∷ []) ++ ys) ≡ take n (xs ++ x ∷ ys)
+pub take-add : {X : Type 0} (n : ℕ) (xs : List X) (x : X) (ys : List X)
+    → take n (take n (xs ++ x ∷ []) ++ ys) ≡ take n (xs ++ x ∷ ys)
 take-add n xs x ys = take-take-append n (xs ++ x ∷ []) ys ∙ ap (take n) (append_assoc xs (x ∷ []) ys)
 
 -- what is kept is no more than that
@@ -22,11 +23,13 @@ pub take_full : {X : Type 0} (n : ℕ) (xs ys : List X) → n ≤ length xs → 
 take_full n xs ys full few = take-append-le n xs ys full ∙ take_all n xs few
 
 -- of the items that pass the test one more moves from what is left to what is there
-pub filter-passed : {X : Type 0} (p : X → Bool) (n : ℕ) (now next : List X) (items : List X) (at : ℕ) (d : X) → at < length items
+pub filter-passed : {X : Type 0} (p : X → Bool) (n : ℕ) (now next : List X) (items : List X) (at : ℕ) (d : X)
+    → at < length items
     → p (get_or items at d) ≡ true → next ≡ take n (now ++ get_or items at d ∷ [])
     → take n (next ++ filter p (drop (at + 1) items)) ≡ take n (now ++ filter p (drop at items))
 filter-passed p n now next items at d inside is next_is =
-    rw (drop_more items at d inside, next_is) (rw is (take-add n now (get_or items at d) (filter p (drop (at + 1) items))))
+    rw (drop_more items at d inside, next_is)
+    (rw is (take-add n now (get_or items at d) (filter p (drop (at + 1) items))))
 
 -- one that doesn't pass is left out
 pub filter-left : {X : Type 0} (p : X → Bool) (items : List X) (at : ℕ) (d : X) → at < length items

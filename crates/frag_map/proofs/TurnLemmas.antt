@@ -11,15 +11,20 @@ use Rattle.frag_map.proofs.ListLemmas.{take-take-append}
 
 -- the node in turn is a full member since the life began
 pub turn-taken : (shape : Shape) (view : View) (fragment turn : ℕ) (now next : List Member)
-    → list_any (is_member (first_start (node_in_turn shape fragment turn))) view.full ≡ true → now ≡ take 8 (in_turn shape view fragment turn)
-    → next ≡ take 8 (now ++ first_start (node_in_turn shape fragment turn) ∷ []) → next ≡ take 8 (in_turn shape view fragment (turn + 1))
+    → list_any (is_member (first_start (node_in_turn shape fragment turn))) view.full ≡ true
+    → now ≡ take 8 (in_turn shape view fragment turn)
+    → next ≡ take 8 (now ++ first_start (node_in_turn shape fragment turn) ∷ [])
+    → next ≡ take 8 (in_turn shape view fragment (turn + 1))
 turn-taken shape view fragment turn now next is now_is next_is =
-    rw (next_is, now_is, add-one turn) (rw is (take-take-append 8 (in_turn shape view fragment turn) (first_start (node_in_turn shape fragment turn) ∷ [])))
+    let member = first_start (node_in_turn shape fragment turn) in
+    rw (next_is, now_is, add-one turn) (rw is (take-take-append 8 (in_turn shape view fragment turn) (member ∷ [])))
 
 -- it isn't
 pub turn-missed : (shape : Shape) (view : View) (fragment turn : ℕ) (now : List Member)
-    → list_any (is_member (first_start (node_in_turn shape fragment turn))) view.full ≡ false → now ≡ take 8 (in_turn shape view fragment turn)
+    → list_any (is_member (first_start (node_in_turn shape fragment turn))) view.full ≡ false
+    → now ≡ take 8 (in_turn shape view fragment turn)
     → now ≡ take 8 (in_turn shape view fragment (turn + 1))
-turn-missed shape view fragment turn now is now_is = rw (now_is, add-one turn) (rw is (rw (append-nil (in_turn shape view fragment turn)) refl))
+turn-missed shape view fragment turn now is now_is =
+    rw (now_is, add-one turn) (rw is (rw (append-nil (in_turn shape view fragment turn)) refl))
 
 pub ruleset turns = (turn-taken, turn-missed)

@@ -13,7 +13,8 @@ is_manned shape view group = list_any (is_of_group shape group) view.full
 -- of n groups from this one on the first without a full member
 abbrev pub lost_from : Shape → View → ℕ → ℕ → Option ℕ
 lost_from shape view group zero = None
-lost_from shape view group (suc n) = if is_manned shape view group then lost_from shape view (group + 1) n else Some group
+lost_from shape view group (suc n) =
+    if is_manned shape view group then lost_from shape view (group + 1) n else Some group
 
 -- the least group without a full member
 unfoldable pub lost_group : Shape → View → Option ℕ

@@ -18,14 +18,18 @@ is_member a b = (a.node == b.node) && (a.start == b.start)
 -- by one with each fragment of the group
 abbrev pub node_in_turn : Shape → ℕ → ℕ → ℕ
 node_in_turn shape fragment turn =
-    group_of_fragment shape fragment * shape.replicas + (turn + fragment / (shape.nodes / shape.replicas)) % shape.replicas + 1
+    group_of_fragment shape fragment * shape.replicas
+    + (turn + fragment / (shape.nodes / shape.replicas)) % shape.replicas
+    + 1
 
 -- of the nodes of the first n turns those that are full members since the life began, in their order
 abbrev pub in_turn : Shape → View → ℕ → ℕ → List Member
 in_turn shape view fragment zero = []
 in_turn shape view fragment (suc turn) =
     in_turn shape view fragment turn
-    ++ (if list_any (is_member (first_start (node_in_turn shape fragment turn))) view.full then first_start (node_in_turn shape fragment turn) ∷ [] else [])
+    ++ (if list_any (is_member (first_start (node_in_turn shape fragment turn))) view.full
+    then first_start (node_in_turn shape fragment turn) ∷ []
+    else [])
 
 -- the member is of the group
 abbrev pub is_of_group : Shape → ℕ → Member → Bool
@@ -39,8 +43,8 @@ is_later member = nat_lt 0 member.start
 abbrev pub is_later_of_group : Shape → ℕ → Member → Bool
 is_later_of_group shape group member = is_of_group shape group member && is_later member
 
--- all replicas of a fragment: of the nodes of its group those that are full since the life began, in turn; then the other
--- full ones, and then the starting ones, each by age
+-- all replicas of a fragment: of the nodes of its group those that are full since the life began, in turn; then the
+-- other full ones, and then the starting ones, each by age
 abbrev pub all_replicas : Shape → View → ℕ → List Member
 all_replicas shape view fragment =
     in_turn shape view fragment shape.replicas

@@ -2,8 +2,8 @@
 use Rattle.std.specs.Prelude.{◌≡◌, ◌≤◌, ℕ, ◌-◌, ◌/◌, ◌%◌}
 use Rattle.sig_core.specs.declared.view.Shape.{Shape}
 
--- A cluster may be laid out so: 1 to 8 nodes, 1 to 4 replicas of each row, which divide the number of nodes, and 1 to 32
--- fragments.
+-- A cluster may be laid out so: 1 to 8 nodes, 1 to 4 replicas of each row, which divide the number of nodes, and 1 to
+-- 32 fragments.
 pub record IsShape (shape : Shape) : Type 0 where
   pub nodes_some : 1 ≤ shape.nodes
   pub nodes_few : shape.nodes ≤ 8

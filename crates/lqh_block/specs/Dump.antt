@@ -6,6 +6,7 @@ use Rattle.sig_core.specs.declared.signal.client.ClientSignal.TheVariants.{DumpC
 use Rattle.sig_core.specs.Place.{client}
 use Rattle.sig_core.specs.Rows.{RowsState, has_row, next_place}
 use Rattle.sig_core.specs.Step.{Step, sending}
+use Rattle.lqh_block.specs.declared.dump.TheConstants.{DUMP_ROWS}
 use Rattle.lqh_block.specs.State.{LqhState}
 
 -- rows by their keys, and the place of the next one if there is any
@@ -40,7 +41,7 @@ more s (suc n) d = one_more s (more s n d)
 
 -- the first eight rows from a place on
 unfoldable pub dumped_from : RowsState → ℕ → Dumped
-dumped_from s at = more s 8 (dumped [] (next_place s at))
+dumped_from s at = more s DUMP_ROWS (dumped [] (next_place s at))
 
 -- the place has a row, and isn't the greatest that there is
 pub record IsRowPlace (s : RowsState) (at : ℕ) : Type 0 where

@@ -2,6 +2,7 @@
 ghost use Rattle.std.specs.Prelude.{◌≡◌, IfOk, IfSome, OnOk, OnErr};
 ghost use Rattle.sig_core.specs.Rows.{next_place};
 ghost use Rattle.sig_core.specs.Step.{HasRoom, IsTaken, IsUntouched};
+ghost use Rattle.lqh_block.specs.declared.dump.TheConstants.{DUMP_ROWS};
 ghost use Rattle.lqh_block.specs.Dump.{IsRowPlace, dump_row, dumped, more, one_more};
 
 use crate::lqh::Lqh;
@@ -36,7 +37,7 @@ fn first_rows<R: Rows>(
     at: u64,
     list: &mut Seq<(Key, Value)>,
 ) -> Result<Option<u64>, NoMemory>
-    ensures { IfOk result (λ next. dumped list.new next ≡ more (R.state_of rows.now) 8 (dumped list.old (next_place (R.state_of rows.now) at))) }
+    ensures { IfOk result (λ next. dumped list.new next ≡ more (R.state_of rows.now) DUMP_ROWS (dumped list.old (next_place (R.state_of rows.now) at))) }
 {
     let mut next = next_row(rows, at);
     for _i in 0..DUMP_ROWS {

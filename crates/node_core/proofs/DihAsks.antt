@@ -6,7 +6,7 @@ use Rattle.sig_core.specs.declared.signal.Body.{Body}
 use Rattle.sig_core.specs.declared.signal.Body.TheVariants.{Epoch}
 use Rattle.sig_core.specs.declared.signal.epoch.EpochSignal.TheVariants.{DiVerifyReq}
 use Rattle.node_core.specs.Dih.{DihState, decide_if, decide_row, dih_table}
-use Rattle.node_core.proofs.Quiet.{AsksNothing}
+use Rattle.api_block.proofs.Quiet.{AsksNothing}
 
 decide_asks : (s : DihState) (tx : TxId) (b : Bool) → AsksNothing (decide_if s tx b)
 decide_asks s tx true = refl

@@ -2,6 +2,5 @@ pub mod DihAsks
 pub mod HostCases
 pub mod HostLemmas
 pub mod LqhAsks
-pub mod Quiet
 pub mod RowLemmas
 pub mod TcAsks

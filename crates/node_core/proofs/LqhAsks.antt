@@ -5,10 +5,15 @@ use Rattle.lqh_block.specs.declared.request.Request.{Request}
 use Rattle.lqh_block.specs.Lqh.{lqh_table}
 use Rattle.lqh_block.specs.State.{LqhState}
 use Rattle.lqh_block.proofs.EachLqh.{RequestSends, lqh_sends_each}
-use Rattle.node_core.proofs.Quiet.{AsksNone, AsksNothing, each_asks_none}
+use Rattle.api_block.proofs.Quiet.{AsksNone, AsksNothing, each_asks_none}
 
 request_asks : (r : Request) → RequestSends AsksNone r
-request_asks r = record { log_full = λ used reserved need. refl; table_full = λ rows. refl; answers = λ a. refl; passes = λ image next is. refl }
+request_asks r = record {
+  log_full = λ used reserved need. refl;
+  table_full = λ rows. refl;
+  answers = λ a. refl;
+  passes = λ image next is. refl;
+}
 
 pub lqh_asks : (s : LqhState) (body : Body) → AsksNothing (lqh_table s body)
 lqh_asks s body =

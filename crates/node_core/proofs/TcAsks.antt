@@ -24,7 +24,7 @@ use Rattle.tc_block.specs.Turn.{Turn}
 use Rattle.tc_block.proofs.EachTurn.{AbortForms, CommittedForms, TurnForms, rows_of}
 use Rattle.tc_block.proofs.EachTc.{tc_each}
 use Rattle.tc_block.specs.Live.{turned_if}
-use Rattle.node_core.proofs.Quiet.{AsksNone, AsksNothing, each_asks_none}
+use Rattle.api_block.proofs.Quiet.{AsksNone, AsksNothing, each_asks_none}
 
 -- a turn of a transaction that sends no request
 abbrev AsksInTurn : Turn → Type 0

@@ -2,6 +2,7 @@
 use Rattle.std.specs.Prelude.{◌≡◌, Bool, true, false, ◌&&◌, not, nat_lt, List, [], ◌∷◌}
 use Rattle.row_locks.specs.declared.claim.Holder.{Holder}
 use Rattle.row_locks.specs.declared.claim.Wait.{Wait}
+use Rattle.row_locks.specs.declared.queue.TheConstants.{ROUNDS}
 use Rattle.row_locks.specs.Holders.{holds, holds_enough, agrees_with}
 use Rattle.row_locks.specs.Queues.{waits}
 use Rattle.row_locks.specs.Rows.{RowLock}
@@ -49,7 +50,7 @@ none_has_enough holders (wait ∷ queue) = not (holds_enough wait.tx wait.mode h
 -- no wait has stood more than eight rounds
 abbrev pub are_within_rounds : List Wait → Bool
 are_within_rounds [] = true
-are_within_rounds (wait ∷ queue) = not (nat_lt 8 wait.rounds) && are_within_rounds queue
+are_within_rounds (wait ∷ queue) = not (nat_lt ROUNDS wait.rounds) && are_within_rounds queue
 
 -- the lock of a row, as calls leave it
 pub record IsOrderly (lock : RowLock) : Type 0 where

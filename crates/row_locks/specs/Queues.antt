@@ -3,6 +3,7 @@ use Rattle.std.specs.Prelude.{ℕ, ◌+◌, Bool, true, false, ◌&&◌, ◌||�
 use Rattle.sig_core.specs.declared.member.TxId.{TxId}
 use Rattle.row_locks.specs.declared.mode.Mode.{Mode}
 use Rattle.row_locks.specs.declared.claim.Wait.{Wait}
+use Rattle.row_locks.specs.declared.queue.TheConstants.{ROUNDS}
 use Rattle.row_locks.specs.Modes.{same_tx, stronger}
 use Rattle.row_locks.specs.Holders.{unless_gone}
 
@@ -36,7 +37,7 @@ one_round false rounds = rounds
 
 -- the wait ages: it isn't of the copying of rows, which has coordinator 0, and has not come to eight rounds
 abbrev pub ages : Wait → Bool
-ages wait = nat_lt 0 wait.tx.tc && nat_lt wait.rounds 8
+ages wait = nat_lt 0 wait.tx.tc && nat_lt wait.rounds ROUNDS
 
 -- the wait, one round later
 abbrev pub aged : Wait → Wait

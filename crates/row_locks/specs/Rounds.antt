@@ -3,6 +3,7 @@ use Rattle.std.specs.Prelude.{ℕ, Bool, true, false, not, nat_lt, List, [], ◌
 use Rattle.std.specs.FinMap.{from_entries, entries}
 use Rattle.sig_core.specs.declared.member.TxId.{TxId}
 use Rattle.row_locks.specs.declared.claim.Wait.{Wait}
+use Rattle.row_locks.specs.declared.queue.TheConstants.{ROUNDS}
 use Rattle.row_locks.specs.Rows.{RowLock, unqueued, grown_old}
 use Rattle.row_locks.specs.Tables.{Locks}
 
@@ -20,7 +21,7 @@ round_later locks = map_locks grown_old locks
 
 -- the wait has stood at eight rounds
 abbrev pub is_expired : Wait → Bool
-is_expired wait = not (nat_lt wait.rounds 8)
+is_expired wait = not (nat_lt wait.rounds ROUNDS)
 
 -- this transaction where it is so, and else what the rest gives
 abbrev pub found_if : Bool → TxId → Option TxId → Option TxId

@@ -1,11 +1,11 @@
--- A decision, at one key of all nodes: it is right, and the key is led to what it makes of the row.
+-- A decision, at one key of all its replicas: it is right, and the key is led to what it makes of the row.
 use Rattle.std.proofs.Common.{◌≡◌, ◌⊎◌, ℕ, Bool, true, false, ◌&&◌, ◌||◌, List, [], ◌∷◌, ◌++◌, refl, sym, ap, ◌∙◌, subst, inl, inr}
 use Rattle.std.proofs.lemmas.Bool.{and_left, and_right}
 use Rattle.std.specs.FinMap as map
 use Rattle.std.specs.Prelude.{is_some, Option, None, Some}
 use Rattle.serial_model.specs.Legal.{rows_of}
 use Rattle.sig_core.specs.declared.entry.Entry.{Entry}
-use Rattle.sig_core.specs.declared.log.LogStep.{LogStep}
+use Rattle.world_core.specs.Steps.{HostStep}
 use Rattle.sig_core.specs.declared.member.TxId.{TxId}
 use Rattle.sig_core.specs.declared.op.Answer.{Answer}
 use Rattle.sig_core.specs.declared.op.Op.{Op}
@@ -13,23 +13,22 @@ use Rattle.sig_core.specs.declared.rows.PendingRecord.{PendingRecord}
 use Rattle.sig_core.specs.Same.{same_tx}
 use Rattle.sig_core.proofs.TxLemmas.{same_tx-is, same_tx-swap}
 use Rattle.world_core.specs.Start.{Start}
-use Rattle.commit_laws.specs.Backup.{HasImage, kept_of}
-use Rattle.commit_laws.specs.BackupEvents.{IsInOrderAt, backup_of}
-use Rattle.commit_laws.specs.BackupLaws.{IsDecidedTo}
-use Rattle.commit_laws.specs.OneKey.{AreRight, ops_on, row_after_all, row_at_end}
-use Rattle.commit_laws.specs.Primary.{IsLedTo, KeepsToo, ended_too}
-use Rattle.commit_laws.specs.PrimaryEvents.{AtPrimary, primary_of}
-use Rattle.commit_laws.specs.PrimaryLaws.{IsDecidedRightly}
-use Rattle.commit_laws.specs.Records.{found}
-use Rattle.commit_laws.specs.Replica.{Replica}
-use Rattle.commit_laws.proofs.BackupMoves.{decisions_move, kept_row-same, unkept_decisions_move}
+use Rattle.key_laws.specs.Backup.{HasImage, kept_of}
+use Rattle.key_laws.specs.BackupEvents.{IsInOrderAt, backup_of}
+use Rattle.key_laws.specs.BackupLaws.{IsDecidedTo}
+use Rattle.key_laws.specs.OneKey.{AreRight, ops_on, row_after_all, row_at_end}
+use Rattle.key_laws.specs.Primary.{IsLedTo, KeepsToo, ended_too}
+use Rattle.key_laws.specs.PrimaryEvents.{AtPrimary, primary_of}
+use Rattle.key_laws.specs.PrimaryLaws.{IsDecidedRightly}
+use Rattle.key_laws.specs.Records.{found}
+use Rattle.key_laws.specs.Replica.{Replica}
+use Rattle.key_laws.proofs.BackupMoves.{decisions_move, kept_row-same, unkept_decisions_move}
 use Rattle.sig_core.proofs.Keys.{same_tx-self}
-use Rattle.commit_laws.proofs.PrimaryValue.{decisions_right, only_of, prepared_holds}
-use Rattle.commit_laws.proofs.RecordLemmas.{kept_row-one}
-use Rattle.transit_laws.specs.Circle.{Agree, IsSettledFor, at_host, at_primary}
+use Rattle.key_laws.proofs.PrimaryValue.{decisions_right, only_of, prepared_holds}
+use Rattle.key_laws.proofs.RecordLemmas.{kept_row-one}
+use Rattle.run_laws.specs.Circle.{Agree, IsReplica, IsSettledFor, at_host, at_primary}
 use Rattle.serial_laws.proofs.Folds.{end_last, none_done, right_last}
 use Rattle.serial_laws.proofs.KeySteps.{IsBackupWith, IsGoodWith}
-use Rattle.serial_laws.proofs.Members.{IsNodeOf, node_replica}
 
 -- what a decision makes of the order of a backup
 order_with : (decided now : TxId → Bool) (final : TxId → Bool) (value : Option (List ℕ)) (r : Replica) → IsInOrderAt decided r → IsDecidedTo now final (backup_of r) value → IsBackupWith now final value r
@@ -38,7 +37,7 @@ order_with decided now final value r order to = record {
   led = to.led;
 }
 
-module _ (start : Start) (decided final : TxId → Bool) (history : List Entry) (logs : ℕ → List LogStep) (key : List ℕ) (tx : TxId) (good : IsGoodWith start decided final history logs key) where
+module _ (start : Start) (decided final : TxId → Bool) (history : List Entry) (logs : ℕ → List HostStep) (key : List ℕ) (tx : TxId) (good : IsGoodWith start decided final history logs key) where
   abbrev now : TxId → Bool
   now = ended_too decided tx
 
@@ -110,9 +109,9 @@ module _ (start : Start) (decided final : TxId → Bool) (history : List Entry) 
     agrees (Some a) (Some b) same stay image r is =
         inl (record { is_record = b; there = is; waits = same.1.1; image_is = sym same.0 ∙ image a refl same.1.0 })
 
-    told : (g : ℕ) → IsNodeOf start g → HasImage tx after (at_host start logs key g).cell.pending ⊎ ((found tx (at_host start logs key g).cell.pending ≡ None) × (after ≡ value))
+    told : (g : ℕ) → IsReplica start key g → HasImage tx after (at_host start logs key g).cell.pending ⊎ ((found tx (at_host start logs key g).cell.pending ≡ None) × (after ≡ value))
     told g node =
-        agrees (found tx p.replica.cell.pending) (found tx (at_host start logs key g).cell.pending) (settled.agreed g (node_replica start key g node)) stays
+        agrees (found tx p.replica.cell.pending) (found tx (at_host start logs key g).cell.pending) (settled.agreed g node) stays
         image_is (at_host start logs key g) refl
 
     -- the history with its entry behind is right, and the key is led to the new value

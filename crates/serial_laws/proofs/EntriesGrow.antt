@@ -4,7 +4,7 @@ use Rattle.std.specs.Prelude.{if◌then◌else◌}
 use Rattle.std.proofs.lemmas.Bool.{cases_eq}
 use Rattle.run_theory.specs.Lists.{Each}
 use Rattle.sig_core.specs.declared.entry.Entry.{Entry}
-use Rattle.sig_core.specs.declared.log.LogStep.{LogStep}
+use Rattle.world_core.specs.Steps.{HostStep}
 use Rattle.world_core.specs.Entries.{entries, entries_of, insert, insert_all, is_before}
 
 -- the entry comes after all of these, by the order of entries
@@ -31,7 +31,7 @@ insert_all_before [] xs z before = refl
 insert_all_before (a ∷ news) xs z before =
     ap (insert a) (insert_all_before news xs z before.1) ∙ insert_before a z (insert_all news xs) before.0
 
-module _ (small large : ℕ → List LogStep) (h : ℕ) (z : Entry) (others : (g : ℕ) → h ≢ g → large g ≡ small g) (own : entries_of h (large h) ≡ z ∷ entries_of h (small h)) where
+module _ (small large : ℕ → List HostStep) (h : ℕ) (z : Entry) (others : (g : ℕ) → h ≢ g → large g ≡ small g) (own : entries_of h (large h) ≡ z ∷ entries_of h (small h)) where
   -- the hosts below h have no entry more
   pub entries_low : (n : ℕ) → n ≤ h → entries n large ≡ entries n small
   entries_low zero low = refl
@@ -57,6 +57,6 @@ module _ (small large : ℕ → List LogStep) (h : ℕ) (z : Entry) (others : (g
           ∙ insert_all_before (entries_of n (small n)) (entries n small) z (before n)
 
 -- where host h has none more, none has
-pub entries_same : (small large : ℕ → List LogStep) → ((g : ℕ) → entries_of g (large g) ≡ entries_of g (small g)) → (n : ℕ) → entries n large ≡ entries n small
+pub entries_same : (small large : ℕ → List HostStep) → ((g : ℕ) → entries_of g (large g) ≡ entries_of g (small g)) → (n : ℕ) → entries n large ≡ entries n small
 entries_same small large same zero = refl
 entries_same small large same (suc n) = ap (λ w. insert_all w (entries n large)) (same n) ∙ ap (insert_all (entries_of n (small n))) (entries_same small large same n)

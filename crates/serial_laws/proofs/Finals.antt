@@ -9,26 +9,27 @@ use Rattle.run_theory.specs.Lists.{IsIn, IsPast}
 use Rattle.run_theory.proofs.Pasts.{past_self}
 use Rattle.serial_model.specs.Legal.{rows_of}
 use Rattle.sig_core.specs.declared.entry.Entry.{Entry}
-use Rattle.sig_core.specs.declared.log.LogStep.{LogStep}
+use Rattle.world_core.specs.Steps.{HostStep}
 use Rattle.sig_core.specs.declared.mark.Mark.TheVariants as mark
 use Rattle.sig_core.specs.declared.member.TxId.{TxId}
 use Rattle.sig_core.specs.Same.{same_tx}
 use Rattle.sig_core.proofs.TxLemmas.{same_tx-is}
 use Rattle.world_core.specs.Entries.{entries}
 use Rattle.world_core.specs.History.{is_applied, is_kept, is_reported, writes}
-use Rattle.world_core.specs.Machine.{hosts, machine}
+use Rattle.world_core.specs.Hosts.{hosts}
+use Rattle.world_core.specs.Machine.{machine}
 use Rattle.world_core.specs.Marks.{has_mark, have_mark}
 use Rattle.world_core.specs.Start.{Start}
-use Rattle.commit_laws.specs.Backup.{kept_of}
-use Rattle.commit_laws.specs.Causes.{is_decision}
-use Rattle.commit_laws.specs.OneKey.{row_at_end}
-use Rattle.commit_laws.specs.Primary.{ended_too}
-use Rattle.commit_laws.proofs.HostMarks.{AreMarks, decides, plain}
+use Rattle.key_laws.specs.Backup.{kept_of}
+use Rattle.host_laws.specs.Causes.{is_decision}
+use Rattle.key_laws.specs.OneKey.{row_at_end}
+use Rattle.key_laws.specs.Primary.{ended_too}
+use Rattle.host_laws.proofs.HostMarks.{AreMarks, decides, plain}
 use Rattle.sig_core.proofs.Keys.{same_tx-self}
-use Rattle.commit_laws.proofs.PlainMarks.{ArePlain}
-use Rattle.transit_laws.specs.GivenUp.{is_given_up}
-use Rattle.transit_laws.specs.Owed.{IsCarriedOut, IsUndecided, is_decided}
-use Rattle.transit_laws.specs.Transit.{Comes, IsRun, logs_of}
+use Rattle.host_laws.proofs.PlainMarks.{ArePlain}
+use Rattle.run_laws.specs.GivenUp.{is_given_up}
+use Rattle.run_laws.specs.Owed.{IsCarriedOut, IsUndecided, is_decided}
+use Rattle.run_laws.specs.Transit.{Comes, IsRun, logs_of}
 use Rattle.serial_laws.specs.Owing.{AreOwed}
 use Rattle.serial_laws.proofs.Folds.{any_in, any_item, in_filter, in_front, of_filter}
 use Rattle.serial_laws.proofs.NewDecisions.{decided_now, decided_other, entries_are_once, one_entry, plain_undecided}
@@ -38,69 +39,69 @@ use Rattle.serial_laws.proofs.RunEntries.{entries_decided, entries_plain, marks_
 use Rattle.serial_laws.proofs.Turns.{ComesAfter, IsByTurn}
 
 -- entries stay
-pub entries_past : (start : Start) (es all : List LogStep) (b : Entry) → IsPast es all → IsRun start all → IsByTurn (machine start) all
+pub entries_past : (start : Start) (es all : List HostStep) (b : Entry) → IsPast es all → IsRun start all → IsByTurn (machine start) all
     → IsIn b (entries (hosts start) (logs_of start es)) → IsIn b (entries (hosts start) (logs_of start all))
 entries_past start es all b past run turn inside =
     subst (λ w. IsIn b (entries (hosts start) (logs_of start w))) (sym past.is) (by past.newer (subst (IsRun start) past.is run) (subst (IsByTurn (machine start)) past.is turn))
   where
-    next : (fs : List LogStep) (f : LogStep) (come : Comes start fs f) (after : ComesAfter (machine start) f fs) → AreMarks start.epoch f.marks
+    next : (fs : List HostStep) (f : HostStep) (come : Comes start fs f) (after : ComesAfter (machine start) f fs) → AreMarks start.epoch f.step.marks
         → IsIn b (entries (hosts start) (logs_of start fs)) → IsIn b (entries (hosts start) (logs_of start (f ∷ fs)))
     next fs f come after (plain all) inside = subst (IsIn b) (sym (entries_plain start fs f come after all)) inside
     next fs f come after (decides tx is) inside = subst (IsIn b) (sym (entries_decided start fs f come after tx is)) (in_front b (entries (hosts start) (logs_of start fs)) _ inside)
 
-    by : (newer : List LogStep) → IsRun start (newer ++ es) → IsByTurn (machine start) (newer ++ es) → IsIn b (entries (hosts start) (logs_of start (newer ++ es)))
+    by : (newer : List HostStep) → IsRun start (newer ++ es) → IsByTurn (machine start) (newer ++ es) → IsIn b (entries (hosts start) (logs_of start (newer ++ es)))
     by [] run turn = inside
     by (f ∷ newer) run turn =
         let come = part_comes start (newer ++ es) (f ∷ (newer ++ es)) f (past_self (f ∷ (newer ++ es))) run in
         next (newer ++ es) f come turn.0 (marks_are start (newer ++ es) f come turn.0) (by newer come.before turn.1)
 
 -- the transaction has an entry that writes
-pub record IsWriter (start : Start) (es : List LogStep) (v : TxId) : Type 0 where
+pub record IsWriter (start : Start) (es : List HostStep) (v : TxId) : Type 0 where
   pub entry : Entry
   pub inside : IsIn entry (entries (hosts start) (logs_of start es))
   pub of : entry.tx ≡ v
   pub writes : writes entry ≡ true
 
-module _ (start : Start) (end : List LogStep) where
+module _ (start : Start) (end : List HostStep) where
   -- it is given up at the end
   abbrev pub is_given : TxId → Bool
   is_given v = is_given_up start (logs_of start end) v
 
   -- it is decided at this time, and is never given up
-  abbrev pub decided_at : List LogStep → TxId → Bool
-  decided_at es v = is_decided (logs_of start es) v && not (is_given v)
+  abbrev pub decided_at : List HostStep → TxId → Bool
+  decided_at es v = is_decided start (logs_of start es) v && not (is_given v)
 
   -- the entry takes effect
   abbrev pub is_final_entry : Entry → Bool
   is_final_entry b = is_kept (hosts start) (logs_of start end) b
 
   -- the history up to this time
-  abbrev pub history_at : List LogStep → List Entry
+  abbrev pub history_at : List HostStep → List Entry
   history_at es = filter is_final_entry (entries (hosts start) (logs_of start es))
 
   -- it has an entry that takes effect
   abbrev pub is_final : TxId → Bool
   is_final v = list_any (λ (b : Entry). same_tx b.tx v) (history_at end)
 
-  abbrev pub kept_at : List LogStep → TxId → Bool
+  abbrev pub kept_at : List HostStep → TxId → Bool
   kept_at es = kept_of (decided_at es) is_final
 
   -- the row of a key before the first event, and after the history up to this time
   abbrev pub first_row : List ℕ → Option (List ℕ)
   first_row key = map.get (rows_of start.rows) key
 
-  abbrev pub value_at : List ℕ → List LogStep → Option (List ℕ)
+  abbrev pub value_at : List ℕ → List HostStep → Option (List ℕ)
   value_at key es = row_at_end key (first_row key) (history_at es)
 
   module _ (run : IsRun start end) (turn : IsByTurn (machine start) end) (owed : AreOwed) where
     -- what is undecided, or given up, at this time, and what is carried out
-    pub undecided_at : (es : List LogStep) (v : TxId) → IsPast es end → IsUndecided start (logs_of start es) v → decided_at es v ≡ false
-    undecided_at es v past (inl given) = and_right (is_decided (logs_of start es) v) (not (is_given v)) (ap not (given_past start v es end past given))
-    undecided_at es v past (inr off) = and_left (is_decided (logs_of start es) v) (not (is_given v)) off
+    pub undecided_at : (es : List HostStep) (v : TxId) → IsPast es end → IsUndecided start (logs_of start es) v → decided_at es v ≡ false
+    undecided_at es v past (inl given) = and_right (is_decided start (logs_of start es) v) (not (is_given v)) (ap not (given_past start v es end past given))
+    undecided_at es v past (inr off) = and_left (is_decided start (logs_of start es) v) (not (is_given v)) off
 
-    pub carried_at : (es : List LogStep) (v : TxId) → IsPast es end → IsCarriedOut start (logs_of start es) v → decided_at es v ≡ true
+    pub carried_at : (es : List HostStep) (v : TxId) → IsPast es end → IsCarriedOut start (logs_of start es) v → decided_at es v ≡ true
     carried_at es v past is =
-        and_from (is_decided (logs_of start es) v) (not (is_given v)) is.decided (ap not (owed.one_way start (logs_of start end) v (carried_past start v es end past is.carried)))
+        and_from (is_decided start (logs_of start es) v) (not (is_given v)) is.decided (ap not (owed.one_way start (logs_of start end) v (carried_past start v es end past is.carried)))
 
     -- an entry that takes effect is of one that isn't given up
     pub final_not_given : (b : Entry) → is_final_entry b ≡ true → is_given b.tx ≡ false
@@ -127,7 +128,7 @@ module _ (start : Start) (end : List LogStep) where
             sym e ∙ own
 
     -- a transaction that writes and was applied is final
-    pub writer_final : (es fs : List LogStep) (v : TxId) (h : ℕ) → IsPast es end → IsPast fs end → IsWriter start es v → h < hosts start → has_mark (is_applied v) (logs_of start fs h) ≡ true
+    pub writer_final : (es fs : List HostStep) (v : TxId) (h : ℕ) → IsPast es end → IsPast fs end → IsWriter start es v → h < hosts start → has_mark (is_applied v) (logs_of start fs h) ≡ true
         → is_final v ≡ true
     writer_final es fs v h past later is below marked =
         let applied : have_mark (is_applied is.entry.tx) (hosts start) (logs_of start end) ≡ true =
@@ -139,7 +140,7 @@ module _ (start : Start) (end : List LogStep) where
         (in_filter is_final_entry is.entry (entries (hosts start) (logs_of start end)) (entries_past start es end is.entry past run turn is.inside) takes)
         (ap (λ t. same_tx t v) is.of ∙ same_tx-self v)
 
-    pub writer_past : (es fs : List LogStep) (v : TxId) → IsPast es fs → IsPast fs end → IsWriter start es v → IsWriter start fs v
+    pub writer_past : (es fs : List HostStep) (v : TxId) → IsPast es fs → IsPast fs end → IsWriter start es v → IsWriter start fs v
     writer_past es fs v past later is = record {
       entry = is.entry;
       inside = entries_past start es fs is.entry past (part_run start fs end later run) (part_turn start fs end later turn) is.inside;
@@ -148,15 +149,15 @@ module _ (start : Start) (end : List LogStep) where
     }
 
     -- what an event decides
-    module _ (es : List LogStep) (e : LogStep) (past : IsPast (e ∷ es) end) (come : Comes start es e) (after : ComesAfter (machine start) e es) where
-      pub plain_decided : ArePlain e.marks → decided_at (e ∷ es) ≡ decided_at es
-      plain_decided all = fun_ext (λ v. ap (λ b. b && not (is_given v)) (decided_other start es e come after v (plain_undecided v e.marks all)))
+    module _ (es : List HostStep) (e : HostStep) (past : IsPast (e ∷ es) end) (come : Comes start es e) (after : ComesAfter (machine start) e es) where
+      pub plain_decided : ArePlain e.step.marks → decided_at (e ∷ es) ≡ decided_at es
+      plain_decided all = fun_ext (λ v. ap (λ b. b && not (is_given v)) (decided_other start es e come after v (plain_undecided v e.step.marks all)))
 
-      module _ (tx : TxId) (is : e.marks ≡ mark.Decided tx start.epoch ∷ []) where
-        decision_own : (v : TxId) → same_tx tx v ≡ true → list_any (is_decision v) e.marks ≡ true
+      module _ (tx : TxId) (is : e.step.marks ≡ mark.Decided tx start.epoch ∷ []) where
+        decision_own : (v : TxId) → same_tx tx v ≡ true → list_any (is_decision v) e.step.marks ≡ true
         decision_own v same = ap (list_any (is_decision v)) is ∙ alone_so (same_tx tx v) same
 
-        decision_other : (v : TxId) → same_tx tx v ≡ false → list_any (is_decision v) e.marks ≡ false
+        decision_other : (v : TxId) → same_tx tx v ≡ false → list_any (is_decision v) e.step.marks ≡ false
         decision_other v off = ap (list_any (is_decision v)) is ∙ ap (λ b. b || false) off
 
         -- one that is given up in the end counts for nothing
@@ -166,7 +167,7 @@ module _ (start : Start) (end : List LogStep) where
             by : (v : TxId) (c : Bool) → same_tx tx v ≡ c → decided_at (e ∷ es) v ≡ decided_at es v
             by v true same =
                 let gone : not (is_given v) ≡ false = ap not (ap is_given (sym (same_tx-is tx v same)) ∙ given) in
-                and_right (is_decided (logs_of start (e ∷ es)) v) (not (is_given v)) gone ∙ sym (and_right (is_decided (logs_of start es) v) (not (is_given v)) gone)
+                and_right (is_decided start (logs_of start (e ∷ es)) v) (not (is_given v)) gone ∙ sym (and_right (is_decided start (logs_of start es) v) (not (is_given v)) gone)
             by v false off = ap (λ b. b && not (is_given v)) (decided_other start es e come after v (decision_other v off))
 
         -- another one is decided from then on
@@ -175,5 +176,5 @@ module _ (start : Start) (end : List LogStep) where
           where
             by : (v : TxId) (c : Bool) → same_tx tx v ≡ c → decided_at (e ∷ es) v ≡ (c || decided_at es v)
             by v true same =
-                and_from (is_decided (logs_of start (e ∷ es)) v) (not (is_given v)) (decided_now start es e come after v (decision_own v same)) (ap not (ap is_given (sym (same_tx-is tx v same)) ∙ alive))
+                and_from (is_decided start (logs_of start (e ∷ es)) v) (not (is_given v)) (decided_now start es e come after v (decision_own v same)) (ap not (ap is_given (sym (same_tx-is tx v same)) ∙ alive))
             by v false off = ap (λ b. b && not (is_given v)) (decided_other start es e come after v (decision_other v off))

@@ -7,10 +7,10 @@ pub mod Finals
 pub mod Folds
 pub mod HostSteps
 pub mod KeySteps
-pub mod Members
 pub mod NewDecisions
 pub mod NoRecords
 pub mod Parts
+pub mod ReplicaHosts
 pub mod RowApplies
 pub mod RowMarks
 pub mod RowPrepares

@@ -10,41 +10,42 @@ use Rattle.run_theory.proofs.Orders.{each_log}
 use Rattle.run_theory.proofs.Pasts.{each_append, each_in, each_map, in_past, past_less, past_self}
 use Rattle.run_theory.proofs.Runs.{log_of-past}
 use Rattle.sig_core.specs.declared.entry.Entry.{Entry}
-use Rattle.sig_core.specs.declared.log.LogStep.{LogStep}
+use Rattle.world_core.specs.Steps.{HostStep}
 use Rattle.sig_core.specs.declared.mark.Mark.{Mark}
 use Rattle.sig_core.specs.declared.mark.Mark.TheVariants as mark
 use Rattle.sig_core.specs.declared.member.TxId.{TxId}
 use Rattle.sig_core.specs.Same.{same_tx}
 use Rattle.sig_core.proofs.TxLemmas.{same_tx-is, same_tx-swap}
 use Rattle.world_core.specs.Entries.{entries}
-use Rattle.world_core.specs.Machine.{hosts, machine}
+use Rattle.world_core.specs.Hosts.{home, hosts}
+use Rattle.world_core.specs.Machine.{machine}
 use Rattle.world_core.specs.Marks.{has_mark}
 use Rattle.world_core.specs.Start.{Start}
-use Rattle.commit_laws.specs.Causes.{is_decision}
-use Rattle.commit_laws.proofs.CausalFacts.{DecidesAt, DecidesRightly}
-use Rattle.commit_laws.proofs.HostMarks.{AreMarks, decides, plain}
+use Rattle.host_laws.specs.Causes.{is_decision}
+use Rattle.run_laws.proofs.CausalFacts.{DecidesAt, DecidesRightly}
+use Rattle.host_laws.proofs.HostMarks.{AreMarks, decides, plain}
 use Rattle.sig_core.proofs.Keys.{same_tx-self}
-use Rattle.commit_laws.proofs.PlainMarks.{ArePlain}
-use Rattle.commit_laws.proofs.StrictOrder.{one_decided}
-use Rattle.transit_laws.specs.Owed.{is_decided}
-use Rattle.transit_laws.specs.Transit.{Comes, IsRun, logs_of}
+use Rattle.host_laws.proofs.PlainMarks.{ArePlain}
+use Rattle.run_laws.proofs.StrictOrder.{one_decided}
+use Rattle.run_laws.specs.Owed.{is_decided}
+use Rattle.run_laws.specs.Transit.{Comes, IsRun, logs_of}
 use Rattle.serial_laws.proofs.Parts.{mark_past, part_comes, part_turn, run_logs}
-use Rattle.transit_laws.proofs.Decided.{run_is_causal}
+use Rattle.run_laws.proofs.Decided.{run_is_causal}
 use Rattle.serial_laws.proofs.RowMarks.{alone_so}
 use Rattle.serial_laws.proofs.RunEntries.{entries_decided, entries_plain, marks_are, new_entry, other_log, own_log}
 use Rattle.serial_laws.proofs.Turns.{ComesAfter, IsByTurn}
 
 -- the step of a mark
-pub record HasMarked (test : Mark → Bool) (log : List LogStep) : Type 0 where
-  pub step : LogStep
+pub record HasMarked (test : Mark → Bool) (log : List HostStep) : Type 0 where
+  pub step : HostStep
   pub inside : IsIn step log
-  pub marked : list_any test step.marks ≡ true
+  pub marked : list_any test step.step.marks ≡ true
 
-pub marked_step : (test : Mark → Bool) (log : List LogStep) → has_mark test log ≡ true → HasMarked test log
+pub marked_step : (test : Mark → Bool) (log : List HostStep) → has_mark test log ≡ true → HasMarked test log
 marked_step test [] is = absurd cc
-marked_step test (e ∷ log) is = by (or_cases (list_any test e.marks) (has_mark test log) is) (marked_step test log)
+marked_step test (e ∷ log) is = by (or_cases (list_any test e.step.marks) (has_mark test log) is) (marked_step test log)
   where
-    by : (list_any test e.marks ≡ true) ⊎ (has_mark test log ≡ true) → (has_mark test log ≡ true → HasMarked test log) → HasMarked test (e ∷ log)
+    by : (list_any test e.step.marks ≡ true) ⊎ (has_mark test log ≡ true) → (has_mark test log ≡ true → HasMarked test log) → HasMarked test (e ∷ log)
     by (inl own) more = record { step = e; inside = inl refl; marked = own }
     by (inr rest) more = let found = more rest in record { step = found.step; inside = inr found.inside; marked = found.marked }
 
@@ -57,14 +58,14 @@ plain_undecided v (m ∷ marks) all = plain_undecided v marks all.1
 not_after_self : (s h : ℕ) → (nat_lt s s || ((s == s) && nat_lt h h)) ≡ false
 not_after_self s h = grind (arith, nat_tests)
 
-module _ (start : Start) (es : List LogStep) (e : LogStep) (come : Comes start es e) (turn : ComesAfter (machine start) e es) where
+module _ (start : Start) (es : List HostStep) (e : HostStep) (come : Comes start es e) (turn : ComesAfter (machine start) e es) where
   abbrev h : ℕ
-  h = e.taken.to.node
+  h = e.host
 
-  abbrev before : ℕ → List LogStep
+  abbrev before : ℕ → List HostStep
   before = logs_of start es
 
-  abbrev now : ℕ → List LogStep
+  abbrev now : ℕ → List HostStep
   now = logs_of start (e ∷ es)
 
   own : now h ≡ e ∷ before h
@@ -73,37 +74,37 @@ module _ (start : Start) (es : List LogStep) (e : LogStep) (come : Comes start e
   here : IsIn e (now h)
   here = subst (IsIn e) (sym own) (inl refl)
 
-  pub decides_at : (tx : TxId) → list_any (is_decision tx) e.marks ≡ true → DecidesAt now e tx
-  decides_at tx marked = each_in (DecidesRightly now) e (now h) ((run_is_causal start (e ∷ es) come.now).decisions h) here tx marked
+  pub decides_at : (tx : TxId) → list_any (is_decision tx) e.step.marks ≡ true → DecidesAt start now e tx
+  decides_at tx marked = each_in (DecidesRightly start now) e (now h) ((run_is_causal start (e ∷ es) come.now).decisions h) here tx marked
 
   -- what it decides wasn't decided before
-  pub new_decided : (tx : TxId) → list_any (is_decision tx) e.marks ≡ true → is_decided before tx ≡ false
-  new_decided tx marked = by (is_decided before tx) refl
+  pub new_decided : (tx : TxId) → list_any (is_decision tx) e.step.marks ≡ true → is_decided start before tx ≡ false
+  new_decided tx marked = by (is_decided start before tx) refl
     where
-      by : (b : Bool) → is_decided before tx ≡ b → is_decided before tx ≡ false
+      by : (b : Bool) → is_decided start before tx ≡ b → is_decided start before tx ≡ false
       by false is = is
       by true is =
-          let old = marked_step (is_decision tx) (before tx.tc) is in
+          let old = marked_step (is_decision tx) (before (home start tx)) is in
           let same : old.step ≡ e =
-          one_decided start now (run_logs start (e ∷ es) come.now) (run_is_causal start (e ∷ es) come.now) tx tx.tc h old.step e
-          (in_past old.step (log_of-past (machine start) e es tx.tc) old.inside) here old.marked marked in
-          let after : is_after (machine start) e old.step ≡ true = each_in (λ f. is_after (machine start) e f ≡ true) old.step (before tx.tc) (each_log (machine start) (λ f. is_after (machine start) e f ≡ true) es tx.tc turn) old.inside in
-          absurd (let both : false ≡ true = sym (not_after_self e.stamp h) ∙ subst (λ f. is_after (machine start) e f ≡ true) same after in cc)
+          one_decided start now (run_logs start (e ∷ es) come.now) (run_is_causal start (e ∷ es) come.now) tx (home start tx) h old.step e
+          (in_past old.step (log_of-past (machine start) e es (home start tx)) old.inside) here old.marked marked in
+          let after : is_after (machine start) e old.step ≡ true = each_in (λ f. is_after (machine start) e f ≡ true) old.step (before (home start tx)) (each_log (machine start) (λ f. is_after (machine start) e f ≡ true) es (home start tx) turn) old.inside in
+          absurd (let both : false ≡ true = sym (not_after_self e.step.stamp h) ∙ subst (λ f. is_after (machine start) e f ≡ true) same after in cc)
 
-  pub decided_now : (tx : TxId) → list_any (is_decision tx) e.marks ≡ true → is_decided now tx ≡ true
+  pub decided_now : (tx : TxId) → list_any (is_decision tx) e.step.marks ≡ true → is_decided start now tx ≡ true
   decided_now tx marked =
-      let home : h ≡ tx.tc = (decides_at tx marked).to in
-      subst (λ g. has_mark (is_decision tx) (now g) ≡ true) home (ap (has_mark (is_decision tx)) own ∙ or_left (list_any (is_decision tx) e.marks) (has_mark (is_decision tx) (before h)) marked)
+      let at_home : h ≡ home start tx = (decides_at tx marked).to in
+      subst (λ g. has_mark (is_decision tx) (now g) ≡ true) at_home (ap (has_mark (is_decision tx)) own ∙ or_left (list_any (is_decision tx) e.step.marks) (has_mark (is_decision tx) (before h)) marked)
 
   -- and nothing else is decided newly
-  pub decided_other : (v : TxId) → list_any (is_decision v) e.marks ≡ false → is_decided now v ≡ is_decided before v
-  decided_other v none = by (cases_eq h v.tc)
+  pub decided_other : (v : TxId) → list_any (is_decision v) e.step.marks ≡ false → is_decided start now v ≡ is_decided start before v
+  decided_other v none = by (cases_eq h (home start v))
     where
-      by : (h ≡ v.tc) ⊎ (h ≢ v.tc) → has_mark (is_decision v) (now v.tc) ≡ has_mark (is_decision v) (before v.tc)
+      by : (h ≡ home start v) ⊎ (h ≢ home start v) → has_mark (is_decision v) (now (home start v)) ≡ has_mark (is_decision v) (before (home start v))
       by (inl at) =
           subst (λ g. has_mark (is_decision v) (now g) ≡ has_mark (is_decision v) (before g)) at
           (ap (has_mark (is_decision v)) own ∙ ap (λ b. b || has_mark (is_decision v) (before h)) none)
-      by (inr off) = ap (has_mark (is_decision v)) (other_log start es e come turn v.tc off)
+      by (inr off) = ap (has_mark (is_decision v)) (other_log start es e come turn (home start v) off)
 
 -- no transaction has two entries
 abbrev pub AreOnceEach : List Entry → Type 0
@@ -127,52 +128,52 @@ one_entry (x ∷ xs) a b once (inr rest) (inl other) same =
 one_entry (x ∷ xs) a b once (inr left) (inr right) same = one_entry xs a b once.1 left right same
 
 -- the entries of a run are of decided transactions, and of each there is one
-pub record AreEntries (start : Start) (es : List LogStep) : Type 0 where
+pub record AreEntries (start : Start) (es : List HostStep) : Type 0 where
   pub once : AreOnceEach (entries (hosts start) (logs_of start es))
-  pub decided : Each (λ (b : Entry). is_decided (logs_of start es) b.tx ≡ true) (entries (hosts start) (logs_of start es))
+  pub decided : Each (λ (b : Entry). is_decided start (logs_of start es) b.tx ≡ true) (entries (hosts start) (logs_of start es))
 
 decision_is : (tx : TxId) (epoch : ℕ) (marks : List Mark) → marks ≡ mark.Decided tx epoch ∷ [] → list_any (is_decision tx) marks ≡ true
 decision_is tx epoch marks is = ap (list_any (is_decision tx)) is ∙ alone_so (same_tx tx tx) (same_tx-self tx)
 
-entries_next : (start : Start) (es : List LogStep) (e : LogStep) (come : Comes start es e) (turn : ComesAfter (machine start) e es) → AreEntries start es → AreMarks start.epoch e.marks
+entries_next : (start : Start) (es : List HostStep) (e : HostStep) (come : Comes start es e) (turn : ComesAfter (machine start) e es) → AreEntries start es → AreMarks start.epoch e.step.marks
     → AreEntries start (e ∷ es)
 entries_next start es e come turn are (plain all) =
     let same = entries_plain start es e come turn all in
     record {
       once = subst AreOnceEach (sym same) are.once;
-      decided = subst (Each (λ (b : Entry). is_decided (logs_of start (e ∷ es)) b.tx ≡ true)) (sym same)
-          (each_map (λ (b : Entry). is_decided (logs_of start es) b.tx ≡ true) (λ (b : Entry). is_decided (logs_of start (e ∷ es)) b.tx ≡ true) (entries (hosts start) (logs_of start es))
-          (λ b is. mark_past (is_decision b.tx) (logs_of start es b.tx.tc) (logs_of start (e ∷ es) b.tx.tc) (log_of-past (machine start) e es b.tx.tc) is) are.decided);
+      decided = subst (Each (λ (b : Entry). is_decided start (logs_of start (e ∷ es)) b.tx ≡ true)) (sym same)
+          (each_map (λ (b : Entry). is_decided start (logs_of start es) b.tx ≡ true) (λ (b : Entry). is_decided start (logs_of start (e ∷ es)) b.tx ≡ true) (entries (hosts start) (logs_of start es))
+          (λ b is. mark_past (is_decision b.tx) (logs_of start es (home start b.tx)) (logs_of start (e ∷ es) (home start b.tx)) (log_of-past (machine start) e es (home start b.tx)) is) are.decided);
     }
 entries_next start es e come turn are (decides tx is) =
-    let marked = decision_is tx start.epoch e.marks is in
+    let marked = decision_is tx start.epoch e.step.marks is in
     let more = entries_decided start es e come turn tx is in
     let new = new_decided start es e come turn tx marked in
-    let stays : (b : Entry) → is_decided (logs_of start es) b.tx ≡ true → is_decided (logs_of start (e ∷ es)) b.tx ≡ true =
-    λ b old. mark_past (is_decision b.tx) (logs_of start es b.tx.tc) (logs_of start (e ∷ es) b.tx.tc) (log_of-past (machine start) e es b.tx.tc) old in
+    let stays : (b : Entry) → is_decided start (logs_of start es) b.tx ≡ true → is_decided start (logs_of start (e ∷ es)) b.tx ≡ true =
+    λ b old. mark_past (is_decision b.tx) (logs_of start es (home start b.tx)) (logs_of start (e ∷ es) (home start b.tx)) (log_of-past (machine start) e es (home start b.tx)) old in
     record {
       once = subst AreOnceEach (sym more)
           (once_last (entries (hosts start) (logs_of start es)) (new_entry start es e come turn tx) are.once
-          (each_map (λ (b : Entry). is_decided (logs_of start es) b.tx ≡ true) (λ (b : Entry). same_tx b.tx tx ≡ false) (entries (hosts start) (logs_of start es)) (λ b old. apart b old new (same_tx b.tx tx) refl) are.decided));
-      decided = subst (Each (λ (b : Entry). is_decided (logs_of start (e ∷ es)) b.tx ≡ true)) (sym more)
-          (each_append (λ (b : Entry). is_decided (logs_of start (e ∷ es)) b.tx ≡ true) (entries (hosts start) (logs_of start es)) (new_entry start es e come turn tx ∷ [])
-          (each_map (λ (b : Entry). is_decided (logs_of start es) b.tx ≡ true) (λ (b : Entry). is_decided (logs_of start (e ∷ es)) b.tx ≡ true) (entries (hosts start) (logs_of start es)) stays are.decided)
+          (each_map (λ (b : Entry). is_decided start (logs_of start es) b.tx ≡ true) (λ (b : Entry). same_tx b.tx tx ≡ false) (entries (hosts start) (logs_of start es)) (λ b old. apart b old new (same_tx b.tx tx) refl) are.decided));
+      decided = subst (Each (λ (b : Entry). is_decided start (logs_of start (e ∷ es)) b.tx ≡ true)) (sym more)
+          (each_append (λ (b : Entry). is_decided start (logs_of start (e ∷ es)) b.tx ≡ true) (entries (hosts start) (logs_of start es)) (new_entry start es e come turn tx ∷ [])
+          (each_map (λ (b : Entry). is_decided start (logs_of start es) b.tx ≡ true) (λ (b : Entry). is_decided start (logs_of start (e ∷ es)) b.tx ≡ true) (entries (hosts start) (logs_of start es)) stays are.decided)
           (decided_now start es e come turn tx marked, tt));
     }
   where
-    apart : (b : Entry) → is_decided (logs_of start es) b.tx ≡ true → is_decided (logs_of start es) tx ≡ false → (c : Bool) → same_tx b.tx tx ≡ c → same_tx b.tx tx ≡ false
-    apart b old new true same = absurd (let both : true ≡ false = sym old ∙ (ap (is_decided (logs_of start es)) (same_tx-is b.tx tx same) ∙ new) in cc)
+    apart : (b : Entry) → is_decided start (logs_of start es) b.tx ≡ true → is_decided start (logs_of start es) tx ≡ false → (c : Bool) → same_tx b.tx tx ≡ c → same_tx b.tx tx ≡ false
+    apart b old new true same = absurd (let both : true ≡ false = sym old ∙ (ap (is_decided start (logs_of start es)) (same_tx-is b.tx tx same) ∙ new) in cc)
     apart b old new false same = same
 
-pub entries_are_once : (start : Start) (es : List LogStep) → IsRun start es → IsByTurn (machine start) es → AreEntries start es
+pub entries_are_once : (start : Start) (es : List HostStep) → IsRun start es → IsByTurn (machine start) es → AreEntries start es
 entries_are_once start es run turn = go es (past_self es)
   where
     none : (n : ℕ) → entries n (λ h. []) ≡ []
     none zero = refl
     none (suc n) = none n
 
-    go : (fs : List LogStep) → IsPast fs es → AreEntries start fs
-    go [] past = record { once = subst AreOnceEach (sym (none (hosts start))) tt; decided = subst (Each (λ (b : Entry). is_decided (logs_of start []) b.tx ≡ true)) (sym (none (hosts start))) tt }
+    go : (fs : List HostStep) → IsPast fs es → AreEntries start fs
+    go [] past = record { once = subst AreOnceEach (sym (none (hosts start))) tt; decided = subst (Each (λ (b : Entry). is_decided start (logs_of start []) b.tx ≡ true)) (sym (none (hosts start))) tt }
     go (f ∷ fs) past =
         let come = part_comes start fs es f past run in
         let after = part_turn start (f ∷ fs) es past turn in

@@ -19,13 +19,13 @@ use Rattle.sig_core.proofs.TxLemmas.{same_tx-is}
 use Rattle.lqh_block.proofs.IndexLemmas.{same}
 use Rattle.lqh_block.specs.Commit as commit
 use Rattle.lqh_block.specs.declared.request.Request.{Request}
-use Rattle.lqh_block.specs.Lqh.{lqh_row}
+use Rattle.lqh_block.specs.Lqh.{lqh_table}
 use Rattle.lqh_block.specs.Operate as operate
 use Rattle.lqh_block.specs.State.{LqhState, storage_of}
 use Rattle.world_core.specs.History.{is_applied}
 use Rattle.sig_core.specs.Firsts.{first}
-use Rattle.commit_laws.specs.Records.{found}
-use Rattle.commit_laws.specs.Replica.{Event, aborts, asks, cell_at, commits, completes, event_at, expires, expires_if, if_on, is_refused, rests, serves, serves_if}
+use Rattle.key_laws.specs.Records.{found}
+use Rattle.key_laws.specs.Replica.{Event, aborts, asks, cell_at, commits, completes, event_at, expires, expires_if, if_on, is_refused, rests, serves, serves_if}
 use Rattle.sig_core.proofs.Keys.{same_key-self, same_tx-self}
 use Rattle.serial_laws.proofs.RowMarks.{alone_so, of_marked, state_found}
 use Rattle.lqh_block.proofs.EachLqh.{lqh_marks_each}
@@ -74,7 +74,7 @@ module _ (key : List ℕ) where
   expires_applies None pending marks = tt
   expires_applies (Some wait) pending marks = on_applies wait.1 (expires wait.0) pending marks (λ e. tt)
 
-  pub applies : (s : LqhState) (body : Body) → AppliesIf (event_at key s body) (cell_at key s.rows).pending (lqh_row s body).effects.marks
+  pub applies : (s : LqhState) (body : Body) → AppliesIf (event_at key s body) (cell_at key s.rows).pending (lqh_table s body).effects.marks
   applies s (Chain (LqhKeyReq tx what chain at)) = on_applies _ (asks (record { tx = tx; work = what; chain = chain; at = at }) (is_refused (storage_of s) (record { tx = tx; work = what; chain = chain; at = at }))) (cell_at key s.rows).pending _ (λ e. tt)
   applies s (Host (Continue work.Granted at)) = serves_applies s (first (operate.is_granted s.locks) s.waiting) _ _
   applies s (Chain (Commit tx own epoch chain at)) = commit_applies s tx own epoch chain at
@@ -92,9 +92,9 @@ module _ (v : TxId) where
   was_there None committed is = absurd cc
   was_there (Some r) committed is = refl
 
-  pub applied_from : (s : LqhState) (body : Body) → list_any (is_applied v) (lqh_row s body).effects.marks ≡ true → IsAppliedFrom v s body
+  pub applied_from : (s : LqhState) (body : Body) → list_any (is_applied v) (lqh_table s body).effects.marks ≡ true → IsAppliedFrom v s body
   applied_from s body is =
-      of_marked (is_applied v) (lqh_row s body).effects.marks is
+      of_marked (is_applied v) (lqh_table s body).effects.marks is
       (lqh_marks_each (λ m. is_applied v m ≡ true → IsAppliedFrom v s body) s body (record {
         prepared = λ tx own e. absurd cc;
         applied = λ tx own epoch chain at committed taken first there e. subst (IsAppliedFrom v s) (sym taken) (applied tx own epoch chain at committed first (sym (state_found s.rows tx own) ∙ there) e);

@@ -12,15 +12,15 @@ use Rattle.sig_core.specs.Rows.{RowsState, record_state, state_by}
 use Rattle.sig_core.specs.Same.{same_key, same_tx}
 use Rattle.sig_core.proofs.TxLemmas.{same_tx-is}
 use Rattle.lqh_block.proofs.IndexLemmas.{same}
-use Rattle.lqh_block.specs.Lqh.{lqh_row}
+use Rattle.lqh_block.specs.Lqh.{lqh_table}
 use Rattle.lqh_block.specs.State.{LqhState}
 use Rattle.run_theory.specs.Lists.{Each}
 use Rattle.world_core.specs.Rest.{is_done}
-use Rattle.commit_laws.specs.Primary.{HasPrepared}
-use Rattle.commit_laws.specs.Records.{found}
-use Rattle.commit_laws.specs.Replica.{Event, aborts, cell_at, completes, event_at, if_on, rests}
+use Rattle.key_laws.specs.Primary.{HasPrepared}
+use Rattle.key_laws.specs.Records.{found}
+use Rattle.key_laws.specs.Replica.{Event, aborts, cell_at, completes, event_at, if_on, rests}
 use Rattle.lqh_block.proofs.EachLqh.{lqh_marks_each}
-use Rattle.commit_laws.proofs.RecordsAt.{first-found, record_of-first}
+use Rattle.key_laws.proofs.RecordsAt.{first-found, record_of-first}
 
 -- a mark that stands alone
 pub alone : (b : Bool) → (b || false) ≡ true → b ≡ true
@@ -67,9 +67,9 @@ module _ (v : TxId) (key : List ℕ) where
       by None there is = absurd cc
       by (Some r) there is = record { record_is = r; there = there; prepared = let off : r.committed ≡ false = cc in off }
 
-  pub done_ends : (s : LqhState) (body : Body) → list_any (is_done v key) (lqh_row s body).effects.marks ≡ true → EndsPart v (event_at key s body) (cell_at key s.rows).pending
+  pub done_ends : (s : LqhState) (body : Body) → list_any (is_done v key) (lqh_table s body).effects.marks ≡ true → EndsPart v (event_at key s body) (cell_at key s.rows).pending
   done_ends s body is =
-      of_marked (is_done v key) (lqh_row s body).effects.marks is
+      of_marked (is_done v key) (lqh_table s body).effects.marks is
       (lqh_marks_each (λ m. is_done v key m ≡ true → Ends body) s body (record {
         prepared = λ tx own e. absurd cc;
         applied = λ tx own epoch chain at committed taken first there e. absurd cc;

@@ -27,18 +27,18 @@ use Rattle.row_locks.specs.declared.mode.Lock.TheVariants.{Granted, Queued}
 use Rattle.row_locks.specs.Rounds.{expired}
 use Rattle.lqh_block.specs.declared.request.Request.{Request}
 use Rattle.lqh_block.specs.Expire as expire
-use Rattle.lqh_block.specs.Lqh.{lqh_row}
+use Rattle.lqh_block.specs.Lqh.{lqh_table}
 use Rattle.lqh_block.specs.Operate as operate
 use Rattle.lqh_block.specs.State.{LqhState, storage_of, with_waiting}
 use Rattle.lqh_block.specs.Storage as storage
 use Rattle.lqh_block.specs.Storage.{StorageState}
 use Rattle.world_core.specs.Rest.{is_prepared}
-use Rattle.commit_laws.specs.Records.{as_committed, found, if_committed, unless_committed}
-use Rattle.commit_laws.specs.Replica.{Event, Replica, aborts, ages, at_key, cell_at, commits, completes, event_at, expired_by, expires, expires_if, if_on, key_after, rests, storing}
-use Rattle.commit_laws.specs.ReplicaLaws.{IsWell}
-use Rattle.commit_laws.proofs.CellsAt.{cell-storing}
-use Rattle.commit_laws.proofs.RecordLemmas.{committed_keeps, found-stored, if_keeps, none-edited, unless_keeps}
-use Rattle.commit_laws.proofs.Replicas.{signals_are_events}
+use Rattle.key_laws.specs.Records.{as_committed, found, if_committed, unless_committed}
+use Rattle.key_laws.specs.Replica.{Event, Replica, aborts, ages, at_key, cell_at, commits, completes, event_at, expired_by, expires, expires_if, if_on, key_after, rests, storing}
+use Rattle.host_laws.specs.ReplicaLaws.{IsWell}
+use Rattle.key_laws.proofs.CellsAt.{cell-storing}
+use Rattle.key_laws.proofs.RecordLemmas.{committed_keeps, found-stored, if_keeps, none-edited, unless_keeps}
+use Rattle.host_laws.proofs.Replicas.{signals_are_events}
 use Rattle.serial_laws.proofs.RowMarks.{alone_so}
 
 -- nothing is there where nothing was
@@ -142,12 +142,12 @@ module _ (v : TxId) (key : List ℕ) where
   expires_none None r none = none
   expires_none (Some wait) r none = on_none wait.1 (expires wait.0) (λ r none. none) r none
 
-  event_new : (s : LqhState) (body : Body) → IsWell s → MakesNone (event_at key s body) → RowMarksNew s (lqh_row s body).state (lqh_row s body).effects.marks
+  event_new : (s : LqhState) (body : Body) → IsWell s → MakesNone (event_at key s body) → RowMarksNew s (lqh_table s body).state (lqh_table s body).effects.marks
   event_new s body well makes is none =
-      none_there (found v (at_key key (lqh_row s body).state).cell.pending) (found v (key_after (event_at key s body) (at_key key s)).cell.pending)
+      none_there (found v (at_key key (lqh_table s body).state).cell.pending) (found v (key_after (event_at key s body) (at_key key s)).cell.pending)
       (ap (λ (r : Replica). found v r.cell.pending) (signals_are_events s body key well)) (makes (at_key key s) none) is
 
-  pub new_marked : (s : LqhState) (body : Body) → IsWell s → RowMarksNew s (lqh_row s body).state (lqh_row s body).effects.marks
+  pub new_marked : (s : LqhState) (body : Body) → IsWell s → RowMarksNew s (lqh_table s body).state (lqh_table s body).effects.marks
   new_marked s (Chain (LqhKeyReq tx what chain at)) well is none = request_new s (record { tx = tx; work = what; chain = chain; at = at }) is none
   new_marked s (Host (Continue work.Granted at)) well is none = granted_new s is none
   new_marked s (Chain (Commit tx own epoch chain at)) well is none = event_new s (Chain (Commit tx own epoch chain at)) well (on_none own (commits tx (at == 0)) (commits_none tx (at == 0))) is none

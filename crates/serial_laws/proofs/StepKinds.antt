@@ -6,32 +6,33 @@ use Rattle.std.specs.Prelude.{if◌then◌else◌, None, Some}
 use Rattle.run_theory.specs.Lists.{IsIn, IsPast}
 use Rattle.run_theory.proofs.Pasts.{past_less}
 use Rattle.sig_core.specs.declared.entry.Entry.{Entry}
-use Rattle.sig_core.specs.declared.log.LogStep.{LogStep}
+use Rattle.world_core.specs.Steps.{HostStep}
 use Rattle.sig_core.specs.declared.mark.Mark.TheVariants as mark
 use Rattle.sig_core.specs.declared.member.TxId.{TxId}
 use Rattle.sig_core.specs.declared.op.Answer.{Answer}
 use Rattle.sig_core.specs.declared.op.Op.{Op}
 use Rattle.sig_core.specs.declared.place.BlockId.{BlockId}
 use Rattle.sig_core.specs.declared.place.BlockId.TheVariants as block
-use Rattle.sig_core.specs.declared.place.Place.{Place}
+use Rattle.sig_core.specs.declared.signal.Signal.{Signal}
 use Rattle.sig_core.specs.declared.signal.Body.TheVariants.{Epoch}
 use Rattle.sig_core.specs.declared.signal.epoch.EpochSignal.TheVariants.{DiVerifyReq}
 use Rattle.sig_core.specs.Same.{same_tx}
 use Rattle.lqh_block.specs.State.{LqhState}
 use Rattle.node_core.specs.declared.host.Host.{Host}
-use Rattle.node_core.specs.declared.host.Host.TheVariants.{Shell, Node}
+use Rattle.node_core.specs.declared.host.Host.TheVariants.{Ldm}
 use Rattle.world_core.specs.Entries.{else_of, entries, ops_of, verified_by}
-use Rattle.world_core.specs.Machine.{after, hosts, machine}
+use Rattle.world_core.specs.Hosts.{hosts}
+use Rattle.world_core.specs.Machine.{after, machine}
 use Rattle.world_core.specs.Start.{Start}
-use Rattle.commit_laws.specs.Causes.{is_decision}
-use Rattle.commit_laws.specs.Primary.{ended_too}
-use Rattle.commit_laws.specs.Replica.{rests}
-use Rattle.commit_laws.specs.ReplicaLaws.{event_for, event_in}
-use Rattle.commit_laws.proofs.HostMarks.{AreMarks, decides, plain}
+use Rattle.host_laws.specs.Causes.{is_decision}
+use Rattle.key_laws.specs.Primary.{ended_too}
+use Rattle.key_laws.specs.Replica.{rests}
+use Rattle.host_laws.specs.ReplicaLaws.{event_for, event_in}
+use Rattle.host_laws.proofs.HostMarks.{AreMarks, decides, plain}
 use Rattle.sig_core.proofs.Keys.{same_tx-self}
-use Rattle.transit_laws.specs.Circle.{IsSettledFor}
-use Rattle.transit_laws.specs.GivenUp.{is_given_up}
-use Rattle.transit_laws.specs.Transit.{Comes, IsRun, logs_of}
+use Rattle.run_laws.specs.Circle.{IsSettledFor}
+use Rattle.run_laws.specs.GivenUp.{is_given_up}
+use Rattle.run_laws.specs.Transit.{Comes, IsRun, logs_of}
 use Rattle.serial_laws.specs.Owing.{AreOwed}
 use Rattle.serial_laws.proofs.Finals.{decided_at, entries_past, final_entry, final_not_given, given_decided, history_at, is_final, is_final_entry, is_given, newly_decided, plain_decided}
 use Rattle.serial_laws.proofs.Folds.{filter_last, filter_not_last, in_last}
@@ -47,11 +48,11 @@ verify_rests : (key : List ℕ) (s : LqhState) (at : BlockId) (tx : TxId) (ops :
 verify_rests key s block.Lqh tx ops = refl
 verify_rests key s _ tx ops = refl
 
-verify_event : (key : List ℕ) (s : Host) (to : Place) (tx : TxId) (ops : List (Op × Answer)) → event_in key s to (Epoch (DiVerifyReq tx ops)) ≡ rests
-verify_event key (Shell s) to tx ops = refl
-verify_event key (Node n) to tx ops = verify_rests key n.lqh to.block tx ops
+verify_event : (key : List ℕ) (s : Host) (x : Signal) (tx : TxId) (ops : List (Op × Answer)) → x.body ≡ Epoch (DiVerifyReq tx ops) → event_in key s x ≡ rests
+verify_event key (Ldm s) x tx ops is = ap (event_for key s x.to.block) is ∙ verify_rests key s x.to.block tx ops
+verify_event key _ x tx ops is = refl
 
-module _ (start : Start) (end : List LogStep) (run : IsRun start end) (turn : IsByTurn (machine start) end) (owed : AreOwed) (es : List LogStep) (e : LogStep) (past : IsPast (e ∷ es) end) (come : Comes start es e)
+module _ (start : Start) (end : List HostStep) (run : IsRun start end) (turn : IsByTurn (machine start) end) (owed : AreOwed) (es : List HostStep) (e : HostStep) (past : IsPast (e ∷ es) end) (come : Comes start es e)
     (behind : ComesAfter (machine start) e es) where
   -- what a decision is, that is carried out
   pub record IsDecision (tx : TxId) : Type 0 where
@@ -71,8 +72,8 @@ module _ (start : Start) (end : List LogStep) (run : IsRun start end) (turn : Is
     quiet : decided_at start end (e ∷ es) ≡ decided_at start end es → history_at start end (e ∷ es) ≡ history_at start end es → StepKind
     decision : (tx : TxId) → IsDecision tx → StepKind
 
-  module _ (tx : TxId) (is : e.marks ≡ mark.Decided tx start.epoch ∷ []) where
-    marked : list_any (is_decision tx) e.marks ≡ true
+  module _ (tx : TxId) (is : e.step.marks ≡ mark.Decided tx start.epoch ∷ []) where
+    marked : list_any (is_decision tx) e.step.marks ≡ true
     marked = ap (list_any (is_decision tx)) is ∙ alone_so (same_tx tx tx) (same_tx-self tx)
 
     abbrev z : Entry
@@ -109,12 +110,10 @@ module _ (start : Start) (end : List LogStep) (run : IsRun start end) (turn : Is
           entry = z;
           ops = found.ops;
           of = refl;
-          ops_are = ap (λ body. else_of (verified_by tx body) (ops_of tx (logs_of start es e.taken.to.node))) found.request
-              ∙ ap (λ b. else_of (if b then Some found.ops else None) (ops_of tx (logs_of start es e.taken.to.node))) (same_tx-self tx);
+          ops_are = ap (λ body. else_of (verified_by tx body) (ops_of tx (logs_of start es e.host))) found.request
+              ∙ ap (λ b. else_of (if b then Some found.ops else None) (ops_of tx (logs_of start es e.host))) (same_tx-self tx);
           settled = found.settled;
-          rests = λ key.
-              ap (event_in key (after start e.taken.to.node (logs_of start es e.taken.to.node)) e.taken.to) found.request
-              ∙ verify_event key (after start e.taken.to.node (logs_of start es e.taken.to.node)) e.taken.to tx found.ops;
+          rests = λ key. verify_event key (after start e.host (logs_of start es e.host)) e.step.taken tx found.ops found.request;
           new = and_left _ (not (is_given start end tx)) (new_decided start es e come behind tx marked);
           decided = newly_decided start end run turn owed es e past come behind tx is alive;
           inside = there;
@@ -122,7 +121,7 @@ module _ (start : Start) (end : List LogStep) (run : IsRun start end) (turn : Is
           unkept = λ off. unkept_so (takes ∙ off);
         })
 
-  kind_by : AreMarks start.epoch e.marks → StepKind
+  kind_by : AreMarks start.epoch e.step.marks → StepKind
   kind_by (plain all) = quiet (plain_decided start end run turn owed es e past come behind all) (ap (filter (is_final_entry start end)) (entries_plain start es e come behind all))
   kind_by (decides tx is) = decided_kind tx is (is_given start end tx) refl
 

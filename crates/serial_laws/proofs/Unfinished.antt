@@ -5,70 +5,69 @@ use Rattle.std.specs.List.{list_any}
 use Rattle.std.specs.Prelude.{if◌then◌else◌, is_some, Option, None, Some}
 use Rattle.run_theory.proofs.Runs.{log_of-other, log_of-own}
 use Rattle.sig_core.specs.declared.entry.Entry.{Entry}
-use Rattle.sig_core.specs.declared.log.LogStep.{LogStep}
+use Rattle.world_core.specs.Steps.{HostStep}
 use Rattle.sig_core.specs.declared.member.TxId.{TxId}
 use Rattle.sig_core.specs.declared.rows.PendingRecord.{PendingRecord}
 use Rattle.world_core.specs.Machine.{after, machine}
 use Rattle.world_core.specs.Marks.{has_mark}
 use Rattle.world_core.specs.Rest.{IsSettled, is_done, is_prepared}
 use Rattle.world_core.specs.Start.{Start}
-use Rattle.commit_laws.specs.Records.{AreOnce, found, if_committed, unless_committed}
-use Rattle.commit_laws.specs.Replica.{Event, Replica, aborts, ages, asks, commits, completes, expires, key_after, rests, serves}
-use Rattle.commit_laws.specs.ReplicaLaws.{key_in}
+use Rattle.key_laws.specs.Records.{AreOnce, found, if_committed, unless_committed}
+use Rattle.key_laws.specs.Replica.{Event, Replica, aborts, ages, asks, commits, completes, expires, key_after, rests, serves}
+use Rattle.host_laws.specs.ReplicaLaws.{key_in}
 use Rattle.sig_core.proofs.Keys.{same_tx-self}
-use Rattle.commit_laws.proofs.Replicas.{logs_keep_well}
-use Rattle.transit_laws.specs.Circle.{at_host}
-use Rattle.transit_laws.specs.Owed.{IsOwed}
-use Rattle.transit_laws.specs.Routes.{primary}
-use Rattle.transit_laws.specs.Transit.{Comes, logs_of}
+use Rattle.host_laws.proofs.Replicas.{logs_keep_well}
+use Rattle.run_laws.specs.Circle.{IsReplica, at_host}
+use Rattle.run_laws.specs.Owed.{IsOwed}
+use Rattle.run_laws.specs.Routes.{primary_host}
+use Rattle.run_laws.specs.Transit.{Comes, logs_of}
 use Rattle.serial_laws.specs.Owing.{AreOwed}
 use Rattle.serial_laws.proofs.HostSteps.{host_done, host_new}
 use Rattle.serial_laws.proofs.KeySteps.{IsGoodWith, event_of, host_other, host_own, primary_replica}
-use Rattle.serial_laws.proofs.Members.{IsNodeOf}
+use Rattle.serial_laws.proofs.ReplicaHosts.{replica_runs}
 use Rattle.serial_laws.proofs.NoRecords.{dropped_gone}
 use Rattle.serial_laws.proofs.RowMarks.{EndsPart}
-use Rattle.serial_laws.proofs.WriterSteps.{node_at_host}
 
 -- a write of the key was prepared in this log, and isn't done with
-pub record IsUnfinished (key : List ℕ) (v : TxId) (log : List LogStep) : Type 0 where
-  pub newer : List LogStep
-  pub step : LogStep
-  pub older : List LogStep
+pub record IsUnfinished (key : List ℕ) (v : TxId) (log : List HostStep) : Type 0 where
+  pub newer : List HostStep
+  pub step : HostStep
+  pub older : List HostStep
   pub is : log ≡ newer ++ step ∷ older
-  pub prepared : list_any (is_prepared v key) step.marks ≡ true
+  pub prepared : list_any (is_prepared v key) step.step.marks ≡ true
   pub undone : has_mark (is_done v key) newer ≡ false
 
 -- so it is where there is a record
-abbrev pub AreUnfinished : Start → List LogStep → Type 0
+abbrev pub AreUnfinished : Start → List HostStep → Type 0
 AreUnfinished start es =
-    (key : List ℕ) (h : ℕ) (v : TxId) → IsNodeOf start h → is_some (found v (at_host start (logs_of start es) key h).cell.pending) ≡ true → IsUnfinished key v (logs_of start es h)
+    (key : List ℕ) (h : ℕ) (v : TxId) → IsReplica start key h → is_some (found v (at_host start (logs_of start es) key h).cell.pending) ≡ true → IsUnfinished key v (logs_of start es h)
 
 -- where all is done with there is none
-pub settled_empty : (key : List ℕ) (log : List LogStep) (pending : List PendingRecord) → IsSettled key log → ((v : TxId) → is_some (found v pending) ≡ true → IsUnfinished key v log) → pending ≡ []
+pub settled_empty : (key : List ℕ) (log : List HostStep) (pending : List PendingRecord) → IsSettled key log → ((v : TxId) → is_some (found v pending) ≡ true → IsUnfinished key v log) → pending ≡ []
 settled_empty key log [] settled unfinished = refl
 settled_empty key log (r ∷ rest) settled unfinished =
     let is = unfinished r.tx (ap (λ b. is_some (if b then Some r else found r.tx rest)) (same_tx-self r.tx)) in
     absurd (let both : false ≡ true = sym is.undone ∙ settled is.newer is.step is.older r.tx is.is is.prepared in cc)
 
 -- no transaction has two records at a node
-pub once_at : (start : Start) (decided final : TxId → Bool) (history : List Entry) (logs : ℕ → List LogStep) (key : List ℕ) (g : ℕ) → IsNodeOf start g
+pub once_at : (start : Start) (decided final : TxId → Bool) (history : List Entry) (logs : ℕ → List HostStep) (key : List ℕ) (g : ℕ) → IsReplica start key g
     → IsGoodWith start decided final history logs key → AreOnce (at_host start logs key g).cell.pending
-once_at start decided final history logs key g node good = by (cases_eq g (primary start key))
+once_at start decided final history logs key g node good = by (cases_eq g (primary_host start key))
   where
-    by : (g ≡ primary start key) ⊎ (g ≢ primary start key) → AreOnce (at_host start logs key g).cell.pending
+    by : (g ≡ primary_host start key) ⊎ (g ≢ primary_host start key) → AreOnce (at_host start logs key g).cell.pending
     by (inl at) =
         subst (λ k. AreOnce (at_host start logs key k).cell.pending) (sym at)
         (subst (λ (r : Replica). AreOnce r.cell.pending) (primary_replica start logs key) good.first.order.good.once)
     by (inr off) = (good.backups g node off).order.sound.once
 
-module _ (start : Start) (owed : AreOwed) (es : List LogStep) (e : LogStep) (come : Comes start es e) where
+module _ (start : Start) (owed : AreOwed) (es : List HostStep) (e : HostStep) (come : Comes start es e) where
   abbrev h : ℕ
-  h = e.taken.to.node
+  h = e.host
 
-  abbrev before : ℕ → List LogStep
+  abbrev before : ℕ → List HostStep
   before = logs_of start es
 
-  abbrev now : ℕ → List LogStep
+  abbrev now : ℕ → List HostStep
   now = logs_of start (e ∷ es)
 
   -- what ends a part in the key drops its record
@@ -94,10 +93,10 @@ module _ (start : Start) (owed : AreOwed) (es : List LogStep) (e : LogStep) (com
   gone key v (ages o) r once there ends own = absurd ends
   gone key v rests r once there ends own = absurd ends
 
-  pub unfinished_now : ((key : List ℕ) (g : ℕ) → IsNodeOf start g → AreOnce (at_host start before key g).cell.pending) → AreUnfinished start es → AreUnfinished start (e ∷ es)
+  pub unfinished_now : ((key : List ℕ) (g : ℕ) → IsReplica start key g → AreOnce (at_host start before key g).cell.pending) → AreUnfinished start es → AreUnfinished start (e ∷ es)
   unfinished_now once unfinished key g v node is = by (cases_eq h g)
     where
-      own : IsNodeOf start h → is_some (found v (at_host start now key h).cell.pending) ≡ true → IsUnfinished key v (now h)
+      own : IsReplica start key h → is_some (found v (at_host start now key h).cell.pending) ≡ true → IsUnfinished key v (now h)
       own node is = subst (IsUnfinished key v) (sym (log_of-own (machine start) e es h refl)) (at_found (found v (at_host start before key h).cell.pending) refl)
         where
           at_found : (o : Option PendingRecord) → found v (at_host start before key h).cell.pending ≡ o → IsUnfinished key v (e ∷ before h)
@@ -107,7 +106,7 @@ module _ (start : Start) (owed : AreOwed) (es : List LogStep) (e : LogStep) (com
             older = before h;
             is = refl;
             prepared = ap (list_any (is_prepared v key)) come.happens.step.fits.marks
-                ∙ host_new v key (after start h (before h)) e.taken.to e.taken.body (node_at_host start h (before h) node) (logs_keep_well start h (before h))
+                ∙ host_new v key (after start h (before h)) e.step.taken (replica_runs start key h come.before.shape node (before h)) (logs_keep_well start h (before h))
                 (sym (ap (λ log. is_some (found v (key_in key (after start h log)).cell.pending)) (log_of-own (machine start) e es h refl)) ∙ is) none;
             undone = refl;
           }
@@ -119,19 +118,19 @@ module _ (start : Start) (owed : AreOwed) (es : List LogStep) (e : LogStep) (com
                 older = old.older;
                 is = ap (λ w. e ∷ w) old.is;
                 prepared = old.prepared;
-                undone = or_from (list_any (is_done v key) e.marks) (has_mark (is_done v key) old.newer) (not_done (list_any (is_done v key) e.marks) refl) old.undone;
+                undone = or_from (list_any (is_done v key) e.step.marks) (has_mark (is_done v key) old.newer) (not_done (list_any (is_done v key) e.step.marks) refl) old.undone;
               }
             where
-              not_done : (b : Bool) → list_any (is_done v key) e.marks ≡ b → list_any (is_done v key) e.marks ≡ false
+              not_done : (b : Bool) → list_any (is_done v key) e.step.marks ≡ b → list_any (is_done v key) e.step.marks ≡ false
               not_done false off = off
               not_done true done =
-                  let ends = host_done v key (after start h (before h)) e.taken.to e.taken.body (node_at_host start h (before h) node) (sym (ap (list_any (is_done v key)) come.happens.step.fits.marks) ∙ done) in
+                  let ends = host_done v key (after start h (before h)) e.step.taken (replica_runs start key h come.before.shape node (before h)) (sym (ap (list_any (is_done v key)) come.happens.step.fits.marks) ∙ done) in
                   let none = gone key v (event_of start es e key) r (once key h node) there ends (owed.events start es e key come) in
                   absurd (let both : false ≡ true = sym (ap is_some (ap (λ (r : Replica). found v r.cell.pending) (host_own start es e key) ∙ none)) ∙ is in cc)
 
       by : (h ≡ g) ⊎ (h ≢ g) → IsUnfinished key v (now g)
       by (inl at) =
-          subst (λ k. IsUnfinished key v (now k)) at (own (subst (IsNodeOf start) (sym at) node) (subst (λ k. is_some (found v (at_host start now key k).cell.pending) ≡ true) (sym at) is))
+          subst (λ k. IsUnfinished key v (now k)) at (own (subst (IsReplica start key) (sym at) node) (subst (λ k. is_some (found v (at_host start now key k).cell.pending) ≡ true) (sym at) is))
       by (inr off) =
           subst (IsUnfinished key v) (sym (log_of-other (machine start) e es g off))
           (unfinished key g v node (subst (λ (r : Replica). is_some (found v r.cell.pending) ≡ true) (host_other start es e key g off) is))

@@ -6,7 +6,7 @@ use Rattle.std.specs.Prelude.{zero, suc, is_some, Option, None, Some}
 use Rattle.run_theory.specs.Lists.{Each, IsPast}
 use Rattle.run_theory.proofs.Pasts.{each_map, past_less, past_more, past_self}
 use Rattle.run_theory.proofs.Runs.{log_of-other, log_of-own}
-use Rattle.sig_core.specs.declared.log.LogStep.{LogStep}
+use Rattle.world_core.specs.Steps.{HostStep}
 use Rattle.sig_core.specs.declared.member.TxId.{TxId}
 use Rattle.sig_core.specs.declared.op.Answer.{Answer}
 use Rattle.sig_core.specs.declared.op.Op.{Op}
@@ -19,26 +19,21 @@ use Rattle.world_core.specs.History.{is_applied, is_done}
 use Rattle.world_core.specs.Machine.{after, machine}
 use Rattle.world_core.specs.Marks.{has_mark}
 use Rattle.world_core.specs.Start.{Start}
-use Rattle.commit_laws.specs.OneKey.{ops_on}
-use Rattle.commit_laws.specs.Records.{found}
-use Rattle.commit_laws.specs.Replica.{Event, Replica, aborts, ages, asks, commits, completes, expires, key_after, rests, serves}
-use Rattle.transit_laws.specs.Circle.{Agree, at_host, at_primary}
-use Rattle.transit_laws.specs.Owed.{IsOwed, IsUndecided}
-use Rattle.transit_laws.specs.Transit.{Comes, IsRun, logs_of}
+use Rattle.key_laws.specs.OneKey.{ops_on}
+use Rattle.key_laws.specs.Records.{found}
+use Rattle.key_laws.specs.Replica.{Event, Replica, aborts, ages, asks, commits, completes, expires, key_after, rests, serves}
+use Rattle.run_laws.specs.Circle.{Agree, IsReplica, at_host, at_primary}
+use Rattle.run_laws.specs.Owed.{IsOwed, IsUndecided}
+use Rattle.run_laws.specs.Transit.{Comes, IsRun, logs_of}
 use Rattle.serial_laws.specs.Owing.{AreOwed}
 use Rattle.serial_laws.proofs.FairSteps.{AreWriters}
 use Rattle.serial_laws.proofs.Finals.{IsWriter, carried_at, decided_at, undecided_at, writer_past}
-use Rattle.serial_laws.proofs.HostSteps.{IsNode, after_node, host_applied}
+use Rattle.serial_laws.proofs.HostSteps.{host_applied}
 use Rattle.serial_laws.proofs.KeySteps.{event_of, host_other, host_own}
-use Rattle.serial_laws.proofs.Members.{IsNodeOf, node_replica}
+use Rattle.serial_laws.proofs.ReplicaHosts.{primary_is, replica_runs}
 use Rattle.serial_laws.proofs.NoRecords.{IsOfOthers, one_before}
 use Rattle.serial_laws.proofs.StepKinds.{StepKind, decision, quiet}
 use Rattle.serial_laws.proofs.Turns.{ComesAfter, IsByTurn}
-
--- the host of a node has one
-pub node_at_host : (start : Start) (h : ℕ) (log : List LogStep) → IsNodeOf start h → IsNode (after start h log)
-node_at_host start zero log is = absurd (omega (arith, is.some))
-node_at_host start (suc h) log is = after_node start h log
 
 -- where an answer on one key was a write, one was
 ops_done : (key : List ℕ) (ops : List (Op × Answer)) → list_any (λ (op : Op × Answer). is_done op.1) (ops_on key ops) ≡ true → list_any (λ (op : Op × Answer). is_done op.1) ops ≡ true
@@ -61,15 +56,15 @@ agree_some None None same is = is
 agree_some None (Some b) same is = absurd same
 agree_some (Some a) other same is = refl
 
-module _ (start : Start) (end : List LogStep) (run : IsRun start end) (turn : IsByTurn (machine start) end) (owed : AreOwed) (es : List LogStep) (e : LogStep) (past : IsPast (e ∷ es) end) (come : Comes start es e)
+module _ (start : Start) (end : List HostStep) (run : IsRun start end) (turn : IsByTurn (machine start) end) (owed : AreOwed) (es : List HostStep) (e : HostStep) (past : IsPast (e ∷ es) end) (come : Comes start es e)
     (behind : ComesAfter (machine start) e es) (writers : AreWriters start end es) where
   abbrev h : ℕ
-  h = e.taken.to.node
+  h = e.host
 
-  abbrev before : ℕ → List LogStep
+  abbrev before : ℕ → List HostStep
   before = logs_of start es
 
-  abbrev now : ℕ → List LogStep
+  abbrev now : ℕ → List HostStep
   now = logs_of start (e ∷ es)
 
   earlier : IsPast es end
@@ -108,7 +103,7 @@ module _ (start : Start) (end : List LogStep) (run : IsRun start end) (turn : Is
           (subst (λ (r : Replica). is_some (found v r.cell.pending) ≡ true) (host_own start es e key) (subst (λ k. is_some (found v (at_host start now key k).cell.pending) ≡ true) (sym at) is)))
       by (inr off) = subst (λ (r : Replica). is_some (found v r.cell.pending) ≡ true) (host_other start es e key g off) is
 
-  recorded_now : StepKind start end run turn owed es e past come behind → (key : List ℕ) (g : ℕ) (v : TxId) → IsNodeOf start g → decided_at start end (e ∷ es) v ≡ true
+  recorded_now : StepKind start end run turn owed es e past come behind → (key : List ℕ) (g : ℕ) (v : TxId) → IsReplica start key g → decided_at start end (e ∷ es) v ≡ true
       → is_some (found v (at_host start now key g).cell.pending) ≡ true → IsWriter start (e ∷ es) v
   recorded_now (quiet same history) key g v node on is =
       let old : decided_at start end es v ≡ true = sym (ap (λ f. f v) same) ∙ on in
@@ -134,7 +129,7 @@ module _ (start : Start) (end : List LogStep) (run : IsRun start end) (turn : Is
           let settled = d.settled key in
           let own : is_some (found tx (at_host start before key g).cell.pending) ≡ true = subst (λ t. is_some (found t (at_host start before key g).cell.pending) ≡ true) (sym one) there in
           let first : is_some (found tx (at_primary start before key).replica.cell.pending) ≡ true =
-          agree_some (found tx (at_primary start before key).replica.cell.pending) (found tx (at_host start before key g).cell.pending) (settled.agreed g (node_replica start key g node)) own in
+          agree_some (found tx (at_primary start before key).replica.cell.pending) (found tx (at_host start before key g).cell.pending) (settled.agreed g node) own in
           record {
             entry = d.entry;
             inside = d.inside;
@@ -143,23 +138,23 @@ module _ (start : Start) (end : List LogStep) (run : IsRun start end) (turn : Is
           }
       by false same on = grown v (writers.recorded key g v node on there)
 
-  applied_now : (g : ℕ) (v : TxId) → IsNodeOf start g → has_mark (is_applied v) (now g) ≡ true → IsWriter start (e ∷ es) v
-  applied_now g v node is = by (cases_eq h g)
+  applied_now : (key : List ℕ) (g : ℕ) (v : TxId) → IsReplica start key g → has_mark (is_applied v) (now g) ≡ true → IsWriter start (e ∷ es) v
+  applied_now key g v node is = by (cases_eq h g)
     where
-      new : IsNodeOf start h → list_any (is_applied v) e.marks ≡ true → IsWriter start (e ∷ es) v
+      new : IsReplica start key h → list_any (is_applied v) e.step.marks ≡ true → IsWriter start (e ∷ es) v
       new own marked =
-          let from = host_applied v (after start h (before h)) e.taken.to e.taken.body (node_at_host start h (before h) own) (sym (ap (list_any (is_applied v)) come.happens.step.fits.marks) ∙ marked) in
+          let from = host_applied v (after start h (before h)) e.step.taken (replica_runs start key h come.before.shape own (before h)) (sym (ap (list_any (is_applied v)) come.happens.step.fits.marks) ∙ marked) in
           let carries = subst (IsOwed start before from.own h) from.event (owed.events start es e from.own come) in
-          grown v (writers.recorded from.own h v own (carried_at start end run turn owed es v earlier carries.1.1) from.there)
+          grown v (writers.recorded from.own h v (subst (IsReplica start from.own) (sym carries.0) (primary_is start from.own come.before.shape)) (carried_at start end run turn owed es v earlier carries.1.1) from.there)
 
       by : (h ≡ g) ⊎ (h ≢ g) → IsWriter start (e ∷ es) v
       by (inl at) =
-          split (or_cases (list_any (is_applied v) e.marks) (has_mark (is_applied v) (before g)) (sym (ap (has_mark (is_applied v)) (log_of-own (machine start) e es g at)) ∙ is))
+          split (or_cases (list_any (is_applied v) e.step.marks) (has_mark (is_applied v) (before g)) (sym (ap (has_mark (is_applied v)) (log_of-own (machine start) e es g at)) ∙ is))
         where
-          split : (list_any (is_applied v) e.marks ≡ true) ⊎ (has_mark (is_applied v) (before g) ≡ true) → IsWriter start (e ∷ es) v
-          split (inl marked) = new (subst (IsNodeOf start) (sym at) node) marked
-          split (inr old) = grown v (writers.applied g v node old)
-      by (inr off) = grown v (writers.applied g v node (sym (ap (has_mark (is_applied v)) (log_of-other (machine start) e es g off)) ∙ is))
+          split : (list_any (is_applied v) e.step.marks ≡ true) ⊎ (has_mark (is_applied v) (before g) ≡ true) → IsWriter start (e ∷ es) v
+          split (inl marked) = new (subst (IsReplica start key) (sym at) node) marked
+          split (inr old) = grown v (writers.applied key g v node old)
+      by (inr off) = grown v (writers.applied key g v node (sym (ap (has_mark (is_applied v)) (log_of-other (machine start) e es g off)) ∙ is))
 
   pub writers_now : StepKind start end run turn owed es e past come behind → AreWriters start end (e ∷ es)
   writers_now kind = record { recorded = recorded_now kind; applied = applied_now }

@@ -10,7 +10,7 @@ use Rattle.run_theory.proofs.Pasts.{past_self, past_trans}
 use Rattle.run_theory.specs.Lists.{IsPast}
 use Rattle.script_lang.specs.declared.command.Command.{Command}
 use Rattle.sig_core.specs.declared.log.HostLog.{HostLog}
-use Rattle.sig_core.specs.declared.log.LogStep.{LogStep}
+use Rattle.world_core.specs.Steps.{HostStep}
 use Rattle.sig_core.specs.declared.no_memory.NoMemory.{NoMemory}
 use Rattle.sig_core.specs.declared.reply.ApiReply.{ApiReply}
 use Rattle.sig_core.specs.declared.request.ApiReq.{ApiReq}
@@ -33,7 +33,7 @@ use Rattle.world_core.proofs.Replies.{open_is, replies_are, replies_gone, told_r
 use Rattle.world_core.proofs.StepDriven.{right_logs, within}
 
 -- the next step still is when the log has grown
-next_longer : (before log all : List LogStep) → IsAskedNext before log → IsPast log all → IsAskedNext before all
+next_longer : (before log all : List HostStep) → IsAskedNext before log → IsPast log all → IsAskedNext before all
 next_longer before log all next past =
     record {
       newer = past.newer ++ next.newer;
@@ -42,7 +42,7 @@ next_longer before log all next past =
       asks = next.asks;
     }
 
-first_longer : (asked more : List ApiReq) (a b c : List LogStep) → AsksFirst asked a b → AsksFirst more b c → IsPast b c → AsksFirst (asked ++ more) a c
+first_longer : (asked more : List ApiReq) (a b c : List HostStep) → AsksFirst asked a b → AsksFirst more b c → IsPast b c → AsksFirst (asked ++ more) a c
 first_longer [] more a b c one two past = subst (λ l. AsksFirst more l c) one two
 first_longer (r ∷ asked) more a b c one two past = next_longer a b c one past
 
@@ -128,7 +128,7 @@ module _ (start : Start) where
       }
 
   -- or behind what was served
-  begun_later : (asked more : List ApiReq) (w u : Whole) (logs : ℕ → List LogStep) → HasServed start asked w u → AreLeftOff start more u logs
+  begun_later : (asked more : List ApiReq) (w u : Whole) (logs : ℕ → List HostStep) → HasServed start asked w u → AreLeftOff start more u logs
       → (logs 0 ≡ logs_at w.logs 0) ⊎ IsAskedNext (logs_at w.logs 0) (logs 0)
   begun_later asked more w u logs served left = go asked served.next left.begun
     where
@@ -138,7 +138,7 @@ module _ (start : Start) where
       go [] same (inl none) = inl (none ∙ same)
       go [] same (inr next) = inr (subst (λ l. IsAskedNext l (logs 0)) same next)
 
-  pub left_later : (asked more : List ApiReq) (w u : Whole) (logs : ℕ → List LogStep) → HasServed start asked w u → AreLeftOff start more u logs → AreLeftOff start (asked ++ more) w logs
+  pub left_later : (asked more : List ApiReq) (w u : Whole) (logs : ℕ → List HostStep) → HasServed start asked w u → AreLeftOff start more u logs → AreLeftOff start (asked ++ more) w logs
   left_later asked more w u logs served left =
       record {
         right = left.right;
@@ -152,7 +152,7 @@ module _ (start : Start) where
       }
 
   -- what was left off of some things was left off of more
-  pub left_of_more : (asked more : List ApiReq) (w : Whole) (logs : ℕ → List LogStep) → AreLeftOff start asked w logs → AreLeftOff start (asked ++ more) w logs
+  pub left_of_more : (asked more : List ApiReq) (w : Whole) (logs : ℕ → List HostStep) → AreLeftOff start asked w logs → AreLeftOff start (asked ++ more) w logs
   left_of_more asked more w logs left =
       let part = part_longer left.part asked more in
       record {
@@ -172,10 +172,10 @@ module _ (start : Start) where
       (left_later asked [] w t (logs_at logs) served (left_unasked [] t logs (served_sound asked w t served sound) same))
 
   -- no request, though the next step is one
-  none_asked : (before log : List LogStep) → IsAskedNext before log → requests log ≡ requests before ++ [] → ⊥
-  none_asked before log next are = go (request_in next.asking.taken.body) refl (asked_in next.asking.taken.body next.asks)
+  none_asked : (before log : List HostStep) → IsAskedNext before log → requests log ≡ requests before ++ [] → ⊥
+  none_asked before log next are = go (request_in next.asking.step.taken.body) refl (asked_in next.asking.step.taken.body next.asks)
     where
-      go : (o : Option ApiReq) → request_in next.asking.taken.body ≡ o → is_some o ≡ true → ⊥
+      go : (o : Option ApiReq) → request_in next.asking.step.taken.body ≡ o → is_some o ≡ true → ⊥
       go None e some = cc
       go (Some asked) e some =
           let both : requests before ++ (asked ∷ requests next.newer) ≡ requests before ++ [] =
@@ -188,7 +188,7 @@ module _ (start : Start) where
           nothing a xs same = cc
 
   -- the text of a log behind which some requests of a command were asked for
-  text_behind : (first : ApiReq) (rest : List ApiReq) (before log : List LogStep) → IsAskedNext before log → requests log ≡ requests before ++ first ∷ rest
+  text_behind : (first : ApiReq) (rest : List ApiReq) (before log : List HostStep) → IsAskedNext before log → requests log ≡ requests before ++ first ∷ rest
       → (c : Command) (has : HasFirst c) → first ≡ has.first → none_begins rest ≡ true
       → text_of start log ≡ text_of start before ++ reply_lines (arranged (name_in c) (drop (length (replies_in start before)) (replies_in start log)))
   text_behind first rest before log next are c has same none =

@@ -7,7 +7,7 @@ use Rattle.std.proofs.lemmas.List.{append-nil, append_cancel_left, take-append-d
 use Rattle.node_core.specs.Requests.{is_request}
 use Rattle.script_lang.specs.declared.command.Command.{Command}
 use Rattle.script_lang.specs.declared.command.Command.TheVariants as command
-use Rattle.sig_core.specs.declared.log.LogStep.{LogStep}
+use Rattle.world_core.specs.Steps.{HostStep}
 use Rattle.sig_core.specs.declared.reply.ApiReply.{ApiReply}
 use Rattle.sig_core.specs.declared.request.ApiReq.{ApiReq}
 use Rattle.sig_core.specs.declared.request.ApiReq.TheVariants as request
@@ -23,11 +23,11 @@ use Rattle.world_core.specs.Requests.{request_in, requests}
 use Rattle.world_core.specs.Start.{Start}
 
 -- the requests of a log, and then those of the steps behind it
-pub requests_newer : (newer log : List LogStep) → requests (newer ++ log) ≡ requests log ++ requests newer
+pub requests_newer : (newer log : List HostStep) → requests (newer ++ log) ≡ requests log ++ requests newer
 requests_newer [] log = sym (append-nil (requests log))
 requests_newer (e ∷ newer) log =
-    ap (λ rs. rs ++ option_to_list (request_in e.taken.body)) (requests_newer newer log)
-    ∙ append_assoc (requests log) (requests newer) (option_to_list (request_in e.taken.body))
+    ap (λ rs. rs ++ option_to_list (request_in e.step.taken.body)) (requests_newer newer log)
+    ∙ append_assoc (requests log) (requests newer) (option_to_list (request_in e.step.taken.body))
 
 -- none of these requests begins a command
 abbrev pub none_begins : List ApiReq → Bool
@@ -71,7 +71,7 @@ same_telling t replies (Some asked) e = go (begins_by asked) e
     go (Some first) e = cc
 
 module _ (start : Start) where
-  telling_newer : (newer log : List LogStep) → none_begins (requests newer) ≡ true → telling start (newer ++ log) ≡ telling start log
+  telling_newer : (newer log : List HostStep) → none_begins (requests newer) ≡ true → telling start (newer ++ log) ≡ telling start log
   telling_newer [] log e = refl
   telling_newer (step ∷ newer) log e =
       same_telling (telling start (newer ++ log)) (replies_in start (newer ++ log)) (request_in step.taken.body)
@@ -79,11 +79,11 @@ module _ (start : Start) where
       ∙ telling_newer newer log (none_front (requests newer) (option_to_list (request_in step.taken.body)) e)
 
   -- the text of one more command: its first request is the step behind `before`, and no later one begins a command
-  pub one_more : (first : ApiReq) (asking : LogStep) (newer before log : List LogStep) → log ≡ newer ++ asking ∷ before → request_in asking.taken.body ≡ Some first
+  pub one_more : (first : ApiReq) (asking : HostStep) (newer before log : List HostStep) → log ≡ newer ++ asking ∷ before → request_in asking.step.taken.body ≡ Some first
       → begins_by first ≡ Some first → none_begins (requests newer) ≡ true
       → text_of start log ≡ text_of start before ++ reply_lines (arranged (name_asked first) (drop (length (replies_in start before)) (replies_in start log)))
   one_more first asking newer before log is asks begins_it none =
-      let begun : begins (request_in asking.taken.body) ≡ Some first = ap begins asks ∙ begins_it in
+      let begun : begins (request_in asking.step.taken.body) ≡ Some first = ap begins asks ∙ begins_it in
       let at : telling start log ≡ telling_by (telling start before) (replies_in start before) (Some first) =
       ap (telling start) is ∙ telling_newer newer (asking ∷ before) none ∙ ap (telling_by (telling start before) (replies_in start before)) begun in
       ap (λ (t : Telling). t.done ++ reply_lines (arranged t.asked (drop t.before (replies_in start log)))) at
@@ -94,20 +94,20 @@ asked_in (Host (Continue (Request asked) at)) e = refl
 asked_in _ e = absurd (true≢false (sym e))
 
 -- what the steps behind `before` asked for, where the next one asks
-pub record AsksFor (first : ApiReq) (rest : List ApiReq) (before log : List LogStep) : Type 0 where
-  pub asking : LogStep
-  pub newer : List LogStep
+pub record AsksFor (first : ApiReq) (rest : List ApiReq) (before log : List HostStep) : Type 0 where
+  pub asking : HostStep
+  pub newer : List HostStep
   pub is : log ≡ newer ++ asking ∷ before
-  pub asks : request_in asking.taken.body ≡ Some first
+  pub asks : request_in asking.step.taken.body ≡ Some first
   pub others : requests newer ≡ rest
 
-pub asks_for : (first : ApiReq) (rest : List ApiReq) (before log : List LogStep) → IsAskedNext before log → requests log ≡ requests before ++ first ∷ rest → AsksFor first rest before log
-asks_for first rest before log next are = go (request_in next.asking.taken.body) refl (asked_in next.asking.taken.body next.asks)
+pub asks_for : (first : ApiReq) (rest : List ApiReq) (before log : List HostStep) → IsAskedNext before log → requests log ≡ requests before ++ first ∷ rest → AsksFor first rest before log
+asks_for first rest before log next are = go (request_in next.asking.step.taken.body) refl (asked_in next.asking.step.taken.body next.asks)
   where
-    all : requests log ≡ (requests before ++ option_to_list (request_in next.asking.taken.body)) ++ requests next.newer
+    all : requests log ≡ (requests before ++ option_to_list (request_in next.asking.step.taken.body)) ++ requests next.newer
     all = ap requests next.is ∙ requests_newer next.newer (next.asking ∷ before)
 
-    go : (o : Option ApiReq) → request_in next.asking.taken.body ≡ o → is_some o ≡ true → AsksFor first rest before log
+    go : (o : Option ApiReq) → request_in next.asking.step.taken.body ≡ o → is_some o ≡ true → AsksFor first rest before log
     go None e some = cc
     go (Some asked) e some =
         let both : requests before ++ (asked ∷ requests next.newer) ≡ requests before ++ first ∷ rest =

@@ -5,7 +5,7 @@ use Rattle.node_core.specs.Requests.{is_request}
 use Rattle.run_theory.specs.Lists.{IsPast}
 use Rattle.script_lang.specs.declared.command.Command.{Command}
 use Rattle.script_lang.specs.declared.command.Command.TheVariants as command
-use Rattle.sig_core.specs.declared.log.LogStep.{LogStep}
+use Rattle.world_core.specs.Steps.{HostStep}
 use Rattle.sig_core.specs.declared.request.ApiReq.{ApiReq}
 use Rattle.sig_core.specs.declared.request.ApiReq.TheVariants as request
 use Rattle.world_core.specs.Machine.{after}
@@ -44,33 +44,33 @@ abbrev pub questions : List ApiReq
 questions = request.Waits ∷ request.Pending ∷ []
 
 -- the step behind `served` is a request
-pub record IsAskedNext (served log : List LogStep) : Type 0 where
-  pub newer : List LogStep
-  pub asking : LogStep
+pub record IsAskedNext (served log : List HostStep) : Type 0 where
+  pub newer : List HostStep
+  pub asking : HostStep
   pub is : log ≡ newer ++ asking ∷ served
-  pub asks : is_request asking.taken.body ≡ true
+  pub asks : is_request asking.step.taken.body ≡ true
 
 -- The log went on from `served`, where a command's own requests were served, to its end: at once where nothing of its own
 -- was unanswered, and else the shell asked what it waits for, and then for its replies.
-abbrev pub AsksOn : List LogStep → List LogStep → Bool → Type 0
+abbrev pub AsksOn : List HostStep → List HostStep → Bool → Type 0
 AsksOn served log false = log ≡ served
 AsksOn served log true = IsAskedNext served log × (requests log ≡ requests served ++ questions)
 
 -- A command was asked for behind `before`, in host 0's log.
-pub record AsksCommand (start : Start) (command : Command) (before log : List LogStep) : Type 0 where
-  pub served : List LogStep
+pub record AsksCommand (start : Start) (command : Command) (before log : List HostStep) : Type 0 where
+  pub served : List HostStep
   pub next : IsAskedNext before served
   pub own : requests served ≡ requests before ++ requests_of command
   pub on : AsksOn served log (is_left_open (after start 0 served))
 
 -- the commands before were asked for, and then this one
-pub record AsksAfter (start : Start) (command : Command) (log : List LogStep) (AreAskedBefore : List LogStep → Type 0) : Type 0 where
-  pub before : List LogStep
+pub record AsksAfter (start : Start) (command : Command) (log : List HostStep) (AreAskedBefore : List HostStep → Type 0) : Type 0 where
+  pub before : List HostStep
   pub earlier : AreAskedBefore before
   pub asks : AsksCommand start command before log
 
 -- The commands, the last one first, were asked for one after the other, in host 0's log.
-abbrev pub AreAsked : Start → List Command → List LogStep → Type 0
+abbrev pub AreAsked : Start → List Command → List HostStep → Type 0
 AreAsked start [] log = requests log ≡ []
 AreAsked start (command ∷ earlier) log = AsksAfter start command log (AreAsked start earlier)
 
@@ -80,9 +80,9 @@ all_requests None = []
 all_requests (Some command) = requests_of command ++ questions
 
 -- The first commands were asked for, and of the next one a first part of what is asked for it, in host 0's log.
-pub record AreAskedInPart (start : Start) (commands : List Command) (log : List LogStep) : Type 0 where
+pub record AreAskedInPart (start : Start) (commands : List Command) (log : List HostStep) : Type 0 where
   pub count : ℕ
-  pub before : List LogStep
+  pub before : List HostStep
   pub asked : AreAsked start (reverse (take count commands)) before
   pub past : IsPast before log
   pub part : ℕ

@@ -5,7 +5,7 @@ use Rattle.run_theory.specs.Lists.{IsPast}
 use Rattle.run_theory.specs.Runs.{AreLogs, IsWithin}
 use Rattle.script_lang.specs.declared.command.Command.{Command}
 use Rattle.sig_core.specs.declared.log.HostLog.{HostLog}
-use Rattle.sig_core.specs.declared.log.LogStep.{LogStep}
+use Rattle.world_core.specs.Steps.{HostStep}
 use Rattle.sig_core.specs.declared.reply.ApiReply.{ApiReply}
 use Rattle.sig_core.specs.declared.request.ApiReq.{ApiReq}
 use Rattle.shell_top.specs.Asked.{AreAsked, IsAskedNext, questions, requests_of}
@@ -14,14 +14,15 @@ use Rattle.shell_top.specs.declared.ended.Ending.TheVariants.{WriteFault, NoMemo
 use Rattle.shell_top.specs.Printed.{AppendsPart}
 use Rattle.shell_top.specs.Told.{text_of}
 use Rattle.world_core.specs.Driven.{IsSound}
-use Rattle.world_core.specs.Machine.{hosts, machine}
+use Rattle.world_core.specs.Hosts.{hosts}
+use Rattle.world_core.specs.Machine.{machine}
 use Rattle.world_core.specs.Requests.{AreAskedAtQuiet, requests}
 use Rattle.world_core.specs.Right.{IsRight}
 use Rattle.world_core.specs.Start.{Start}
 use Rattle.world_core.specs.World.{IsQuiet, Whole, logs_at, replies_of}
 
 -- the first of these requests is the next step of host 0
-abbrev pub AsksFirst : List ApiReq → List LogStep → List LogStep → Type 0
+abbrev pub AsksFirst : List ApiReq → List HostStep → List HostStep → Type 0
 AsksFirst [] before log = log ≡ before
 AsksFirst (first ∷ asked) before log = IsAskedNext before log
 
@@ -36,7 +37,7 @@ pub record HasServed (start : Start) (asked : List ApiReq) (w t : Whole) : Type 
 
 -- Memory was wanting while the world was asked for these requests: of the logs, a first part of them was asked for, each
 -- at quiet; where none was, the shell's host made no step.
-pub record AreLeftOff (start : Start) (asked : List ApiReq) (w : Whole) (logs : ℕ → List LogStep) : Type 0 where
+pub record AreLeftOff (start : Start) (asked : List ApiReq) (w : Whole) (logs : ℕ → List HostStep) : Type 0 where
   pub right : AreLogs (machine start) logs
   pub within : IsWithin (hosts start) logs
   pub more : (h : ℕ) → IsPast (logs_at w.logs h) (logs h)

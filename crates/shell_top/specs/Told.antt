@@ -1,7 +1,7 @@
 -- The text of a log of host 0.
 use Rattle.std.specs.Prelude.{ℕ, ◌==◌, if◌then◌else◌, List, [], ◌∷◌, ◌++◌, length, drop, Option, None, Some}
 use Rattle.node_core.specs.Replies.{replies_of}
-use Rattle.sig_core.specs.declared.log.LogStep.{LogStep}
+use Rattle.world_core.specs.Steps.{HostStep}
 use Rattle.sig_core.specs.declared.reply.ApiReply.{ApiReply}
 use Rattle.sig_core.specs.declared.request.ApiReq.{ApiReq}
 use Rattle.sig_core.specs.declared.request.ApiReq.TheVariants as request
@@ -23,7 +23,7 @@ begins None = None
 begins (Some asked) = begins_by asked
 
 -- the replies in a log of host 0
-abbrev pub replies_in : Start → List LogStep → List ApiReply
+abbrev pub replies_in : Start → List HostStep → List ApiReply
 replies_in start log = replies_of (after start 0 log)
 
 -- How far the text of a log has come: the text before its last command, the name that this one asked for, and how many
@@ -42,10 +42,10 @@ abbrev pub telling_by : Telling → List ApiReply → Option ApiReq → Telling
 telling_by t replies None = t
 telling_by t replies (Some asked) = record { done = told t replies; asked = name_asked asked; before = length replies }
 
-abbrev pub telling : Start → List LogStep → Telling
+abbrev pub telling : Start → List HostStep → Telling
 telling start [] = record { done = []; asked = None; before = 0 }
-telling start (e ∷ log) = telling_by (telling start log) (replies_in start log) (begins (request_in e.taken.body))
+telling start (e ∷ log) = telling_by (telling start log) (replies_in start log) (begins (request_in e.step.taken.body))
 
 -- the text of a log: command after command, the lines of the replies to it
-abbrev pub text_of : Start → List LogStep → List ℕ
+abbrev pub text_of : Start → List HostStep → List ℕ
 text_of start log = told (telling start log) (replies_in start log)

@@ -1,5 +1,5 @@
 -- What holds of each form of turn that a transaction takes at its coordinator holds of what each row makes it do.
-use Rattle.std.proofs.Common.{◌≡◌, ◌==◌, ℕ, Bool, true, false, List, [], length, refl, ap}
+use Rattle.std.proofs.Common.{◌≡◌, ◌==◌, ℕ, Bool, true, false, List, length, refl, ap}
 use Rattle.std.specs.Prelude.{◌-◌, nat_lt, Option, None, Some}
 use Rattle.sig_core.specs.declared.member.TxId.{TxId}
 use Rattle.sig_core.specs.declared.op.Answer.{Answer}

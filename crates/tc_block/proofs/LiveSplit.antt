@@ -67,7 +67,6 @@ split_at tx (e ∷ es) at t is there = by (same_tx tx e.0) refl (sym (position-c
         let last = behind (position (same_tx tx) (keys_of es)) at is in
         further last.place last.next (more last.place last.found (ap (slice_get (values_of (e ∷ es))) last.next ∙ there))
 
--- what holds of each part of a list
 -- no transaction stands twice
 abbrev pub KeysOnce : Live → Type 0
 KeysOnce [] = Unit {0}

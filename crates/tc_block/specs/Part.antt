@@ -7,23 +7,24 @@ use Rattle.sig_core.specs.declared.signal.host.HostSignal.TheVariants.{Continue}
 use Rattle.sig_core.specs.declared.signal.host.Work.TheVariants.{Transaction}
 use Rattle.sig_core.specs.Step.{Effects, and_send, to_place}
 use Rattle.tc_block.specs.declared.part.Part.{Part}
+use Rattle.tc_block.specs.declared.part.TheConstants.{PART}
 use Rattle.sig_core.specs.Place.{coordinator}
 
 -- what an event sends of a list, from a place on
 abbrev pub part : List Outgoing → ℕ → List Outgoing
-part sends at = take 8 (drop at sends)
+part sends at = take PART (drop at sends)
 
 -- the signal by which the coordinator goes on with what a transaction sends, at the next place
 abbrev pub go_on_to : ℕ → TxId → ℕ → Outgoing
 go_on_to node tx at = to_place (coordinator node) (Host (Continue (Transaction tx) at))
 
 abbrev pub rest_if : ℕ → TxId → ℕ → Bool → List Outgoing
-rest_if node tx at true = go_on_to node tx (at + 8) ∷ []
+rest_if node tx at true = go_on_to node tx (at + PART) ∷ []
 rest_if node tx at false = []
 
 -- the signal that goes on behind the part, if something of the list is left
 abbrev pub rest : ℕ → TxId → List Outgoing → ℕ → List Outgoing
-rest node tx sends at = rest_if node tx at (nat_lt (at + 8) (length sends))
+rest node tx sends at = rest_if node tx at (nat_lt (at + PART) (length sends))
 
 -- what an event sends for a transaction that has this list to send, from a place on
 unfoldable pub part_effects : ℕ → TxId → List Outgoing → ℕ → Effects
@@ -50,7 +51,7 @@ all_offered o (send ∷ sends) = all_offered (offered o send) sends
 
 -- an event that has offered nothing, and sends from a place on
 abbrev pub offered_from : ℕ → Effects → Offered
-offered_from at effects = record { part = record { skip = at; room = 8; more = false }; effects = effects }
+offered_from at effects = record { part = record { skip = at; room = PART; more = false }; effects = effects }
 
 -- what is offered, as the code holds it
 abbrev pub so_far : Part → Effects → Offered

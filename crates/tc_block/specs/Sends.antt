@@ -12,6 +12,7 @@ use Rattle.frag_map.specs.Layout.{Layout}
 use Rattle.sig_core.specs.Step.{Step, stay, to_place}
 use Rattle.tc_block.specs.declared.phase.Phase.{Phase}
 use Rattle.tc_block.specs.declared.phase.Phase.TheVariants.{Open, Verifying, Committing, Completing, Aborting}
+use Rattle.tc_block.specs.declared.sends.TheConstants.{SENDS}
 use Rattle.tc_block.specs.declared.touched.Touched.{Touched}
 use Rattle.tc_block.specs.declared.transaction.Transaction.{Transaction}
 use Rattle.sig_core.specs.Chain.{last_place, node_at}
@@ -86,4 +87,4 @@ go_on_if node layout tx t at true = record { state = t; effects = part_effects n
 go_on_if node layout tx t at false = stay t
 
 unfoldable pub go_on_row : ℕ → Layout → TxId → Transaction → ℕ → Step Transaction
-go_on_row node layout tx t at = go_on_if node layout tx t at (nat_lt at 512)
+go_on_row node layout tx t at = go_on_if node layout tx t at (nat_lt at SENDS)

@@ -12,6 +12,7 @@ use Rattle.sig_core.specs.declared.signal.host.HostSignal.TheVariants.{Continue}
 use Rattle.sig_core.specs.declared.signal.host.Work.TheVariants.{Transaction}
 use Rattle.sig_core.specs.declared.view.View.{View}
 use Rattle.frag_map.specs.Layout.{Layout}
+use Rattle.tc_block.specs.declared.tc.TheConstants.{TRANSACTIONS}
 use Rattle.frag_map.specs.Layout as layouts
 use Rattle.sig_core.specs.Same.{same_tx}
 use Rattle.sig_core.specs.Step.{Step, stay, sending}
@@ -32,9 +33,9 @@ idle node start layout = record { node = node; start = start; next_seq = 1; layo
 abbrev pub next_tx : TcState → TxId
 next_tx s = record { tc = s.node; start = s.start; seq = s.next_seq }
 
--- 64 transactions aren't forgotten, or the numbers are used up
+-- as many transactions as a coordinator keeps aren't forgotten, or the numbers are used up
 abbrev pub is_full : TcState → Bool
-is_full s = nat_le 64 (length s.live) || s.next_seq == 2 ^ 64 - 1
+is_full s = nat_le TRANSACTIONS (length s.live) || s.next_seq == 2 ^ 64 - 1
 
 -- a transaction begins, as the last of those that aren't forgotten
 abbrev pub begun : TcState → TcState

@@ -1,6 +1,7 @@
 -- The keys that a transaction has touched, in the order in which it first did.
 use Rattle.std.specs.Prelude.{ℕ, Bool, true, false, ◌||◌, nat_lt, is_some, List, [], ◌∷◌, ◌++◌, length, position, slice_set, Option, None, Some}
 use Rattle.sig_core.specs.declared.member.Member.{Member}
+use Rattle.tc_block.specs.declared.touched.TheConstants.{KEYS}
 use Rattle.tc_block.specs.declared.touched.Touched.{Touched}
 use Rattle.sig_core.specs.Chain.{primary_of}
 use Rattle.sig_core.specs.Same.{same_key}
@@ -15,7 +16,7 @@ place_of keys key = position (is_on key) keys
 
 -- the key was touched, or is among the first 64 that are
 abbrev pub fits : List Touched → List ℕ → Bool
-fits keys key = is_some (place_of keys key) || nat_lt (length keys) 64
+fits keys key = is_some (place_of keys key) || nat_lt (length keys) KEYS
 
 -- a key that no write has taken effect on: it is committed at the primary alone
 abbrev pub unwritten : List ℕ → List Member → Touched

@@ -57,14 +57,27 @@ impl Transaction {
         ensures over { result ≡ (rollback_row node layout.now tx self.old).over }
     {
         match self.phase {
-            Phase::Open | Phase::Verifying => self.abort(node, layout, tx, AbortCause::Request, out),
+            Phase::Open | Phase::Verifying => self.abort(
+                node,
+                layout,
+                tx,
+                AbortCause::Request,
+                out,
+            ),
             _ => false,
         }
     }
 
     // Begins to abort, or ends at once where there is nothing to wait for.
     #[tactic(auto, unfolding(crate::specs::Abort::aborted_for))]
-    fn abort(&mut self, node: u8, layout: &Layout, tx: TxId, cause: AbortCause, out: &mut Outs) -> bool
+    fn abort(
+        &mut self,
+        node: u8,
+        layout: &Layout,
+        tx: TxId,
+        cause: AbortCause,
+        out: &mut Outs,
+    ) -> bool
         requires { HasRoom out.old }
         ensures taken { IsTaken (aborted_for node layout.now tx self.old cause).step self.new out.old out.new }
         ensures over { result ≡ (aborted_for node layout.now tx self.old cause).over }

@@ -41,7 +41,14 @@ impl Transaction {
     /// The epoch is given, and all keys are committed in it. Answers whether the transaction is
     /// over then.
     #[tactic(auto, unfolding(crate::specs::Commit::commit_row))]
-    pub fn commit(&mut self, node: u8, layout: &Layout, tx: TxId, epoch: u64, out: &mut Outs) -> bool
+    pub fn commit(
+        &mut self,
+        node: u8,
+        layout: &Layout,
+        tx: TxId,
+        epoch: u64,
+        out: &mut Outs,
+    ) -> bool
         requires { HasRoom out.old }
         ensures taken { IsTaken (commit_row node layout.now tx self.old epoch).step self.new out.old out.new }
         ensures over { result ≡ (commit_row node layout.now tx self.old epoch).over }
@@ -54,7 +61,14 @@ impl Transaction {
     }
 
     // Commits all keys, if there are any.
-    fn commit_all(&mut self, node: u8, layout: &Layout, tx: TxId, epoch: u64, out: &mut Outs) -> bool
+    fn commit_all(
+        &mut self,
+        node: u8,
+        layout: &Layout,
+        tx: TxId,
+        epoch: u64,
+        out: &mut Outs,
+    ) -> bool
         requires { HasRoom out.old }
         ensures taken { IsTaken (commit_if node layout.now tx self.old epoch (length self.old.touched == 0)).step self.new out.old out.new }
         ensures over { result ≡ (commit_if node layout.now tx self.old epoch (length self.old.touched == 0)).over }

@@ -14,7 +14,14 @@ impl Transaction {
     /// All keys are committed: tells the client, and completes what was written. Answers whether the
     /// transaction is over then.
     #[tactic(auto, unfolding(crate::specs::Complete::all_committed))]
-    pub fn complete(&mut self, node: u8, layout: &Layout, tx: TxId, epoch: u64, out: &mut Outs) -> bool
+    pub fn complete(
+        &mut self,
+        node: u8,
+        layout: &Layout,
+        tx: TxId,
+        epoch: u64,
+        out: &mut Outs,
+    ) -> bool
         requires { HasRoom out.old }
         ensures taken { IsTaken (all_committed node layout.now tx self.old epoch).step self.new out.old out.new }
         ensures over { result ≡ (all_committed node layout.now tx self.old epoch).over }

@@ -10,7 +10,10 @@ use crate::part::{PART, Part};
 use crate::phase::Phase;
 use crate::touched::Touched;
 use frag_map::Layout;
-use sig_core::{Body, CLIENT, ChainSignal, ClientSignal, HostSignal, Key, Members, Outs, TxId, Work, coordinator, last_place, node_at, rows_of};
+use sig_core::{
+    Body, CLIENT, ChainSignal, ClientSignal, HostSignal, Key, Members, Outs, TxId, Work,
+    coordinator, last_place, node_at, rows_of,
+};
 
 /// The most signals that a list of sends has: `Abort` for 64 keys, to eight replicas of each.
 pub const SENDS: u64 = 512;

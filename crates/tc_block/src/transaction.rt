@@ -6,7 +6,10 @@ use crate::phase::{Asked, Phase};
 use crate::sends::{SENDS, send_aborts, send_part, send_waits};
 use crate::touched::{TouchedKeys, same_key};
 use frag_map::Layout;
-use sig_core::{Answer, Body, CLIENT, ChainSignal, ClientSignal, Key, NoMemory, Op, Outs, RowWork, Seq, TxId, node_at, rows_of};
+use sig_core::{
+    Answer, Body, CLIENT, ChainSignal, ClientSignal, Key, NoMemory, Op, Outs, RowWork, Seq, TxId,
+    node_at, rows_of,
+};
 use std::alloc::Global;
 
 /// A transaction that has begun and isn't forgotten.

@@ -6,6 +6,7 @@ use Rattle.frag_map.proofs.groups.is_whole.Given as goal
 -- those so far and those that are left are all
 abbrev pub invariant-loop-member : goal.invariant-loop-member
 invariant-loop-member l = record {
-  left : l.count + length (filter (is_of_group l.shape l.group) (drop l.member-index l.member-items)) ≡ length (filter (is_of_group l.shape l.group) l.member-items);
+  left : l.count + length (filter (is_of_group l.shape l.group) (drop l.member-index l.member-items))
+      ≡ length (filter (is_of_group l.shape l.group) l.member-items);
   few : l.count ≤ l.member-index;
 }

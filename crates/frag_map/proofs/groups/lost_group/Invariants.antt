@@ -5,4 +5,5 @@ use Rattle.frag_map.proofs.groups.lost_group.Given as goal
 
 -- the groups that are left tell the answer
 abbrev pub invariant-loop-group : goal.invariant-loop-group
-invariant-loop-group l = lost_from l.shape l.view l.group (groups l.shape - l.group) ≡ lost_from l.shape l.view 0 (groups l.shape)
+invariant-loop-group l =
+    lost_from l.shape l.view l.group (groups l.shape - l.group) ≡ lost_from l.shape l.view 0 (groups l.shape)

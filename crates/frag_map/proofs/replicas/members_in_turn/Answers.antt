@@ -8,8 +8,13 @@ pub loop-turn-preserved : goal.loop-turn-preserved
 loop-turn-preserved c =
     let shape = c.args.shape.now in
     let view = c.args.view.now in
+    let fragment = c.args.fragment in
+    let turn = c.loop-turn.turn in
     let now = c.loop-turn.replicas in
+    let before = c.loop-turn.invariant in
     elim c.if-is_among.branch [
-      | then-is_among w ↦ rw w.replicas-is (turn-taken shape view c.args.fragment c.loop-turn.turn now w.add.new.replicas (search rules) c.loop-turn.invariant (search rules))
-      | else-is_among w ↦ rw w.replicas-is (turn-missed shape view c.args.fragment c.loop-turn.turn now (search rules) c.loop-turn.invariant)
+      | then-is_among w ↦
+          let next = w.add.new.replicas in
+          rw w.replicas-is (turn-taken shape view fragment turn now next (search rules) before (search rules))
+      | else-is_among w ↦ rw w.replicas-is (turn-missed shape view fragment turn now (search rules) before)
     ]

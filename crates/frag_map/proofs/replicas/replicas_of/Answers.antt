@@ -16,4 +16,6 @@ returns c =
     let starting = filter (is_of_group shape group) view.starting in
     let later_is : c.add_later.new.replicas ≡ take 8 (take 8 first ++ later) = cc in
     let all_is : c.add_group.new.replicas ≡ take 8 (take 8 (take 8 first ++ later) ++ starting) = cc in
-    all_is ∙ ap (λ xs. take 8 (xs ++ starting)) (take-take-append 8 first later) ∙ take-take-append 8 (first ++ later) starting
+    all_is
+    ∙ ap (λ xs. take 8 (xs ++ starting)) (take-take-append 8 first later)
+    ∙ take-take-append 8 (first ++ later) starting
