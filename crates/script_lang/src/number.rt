@@ -25,7 +25,7 @@ fn has_no_leading_zero(word: &[u8]) -> bool
 
 /// The number that digits tell, if it isn't above `most`.
 #[tactic(auto, using(crate::proofs::NumberLemmas::reads))]
-fn read_digits(word: &[u8], most: u32) -> Option<u32>
+pub fn read_digits(word: &[u8], most: u32) -> Option<u32>
     ensures told { result ≡ read_digits most 0 word.now }
     ensures bound { IfSome result (λ value. value ≤ most) }
 {

@@ -1,19 +1,20 @@
 -- How a whole session is told: its lines, and then the line of the fault by which it was meant to end.
-use Rattle.std.proofs.Common.{◌≡◌, ◌⊎◌, ℕ, ◌<◌, List, [], ◌∷◌, ◌++◌, length, false, true, refl, ap, sym, subst, ◌∙◌, Bool, arith, inl, inr}
-use Rattle.std.specs.Prelude.{Option, None, ◌==◌}
+use Rattle.std.proofs.Common.{◌≡◌, ◌⊎◌, ℕ, List, [], ◌∷◌, ◌++◌, length, false, true, refl, ap, sym, subst, ◌∙◌, arith, inl, inr}
+use Rattle.std.specs.Prelude.{Option, None, Some}
 use Rattle.std.specs.Global.{Vec}
 use Rattle.std.specs.Io.KnownBytes.{Appends, Consumes}
 use Rattle.std.proofs.KnownBytes.{Appends-nil, Consumes-nil}
-use Rattle.std.proofs.lemmas.Bool.Decides.{nat_tests}
 use Rattle.std.proofs.lemmas.List.{append-nil}
 use Rattle.run_theory.proofs.Merging.{merged_run}
 use Rattle.sig_core.specs.declared.log.HostLog.{HostLog}
+use Rattle.sig_core.specs.declared.view.Shape.{Shape}
+use Rattle.frag_map.specs.Shape.{IsShape}
 use Rattle.sig_core.specs.declared.log.Life.{Life}
 use Rattle.shell_top.specs.declared.ended.Ending.{Ending}
 use Rattle.shell_top.specs.declared.ended.Ending.TheVariants as ending
 use Rattle.shell_top.specs.declared.session.Session.{Session}
 use Rattle.shell_top.specs.Arranged.{arranged}
-use Rattle.shell_top.specs.Lived.{AreLived, IsLife, nodes, session_text}
+use Rattle.shell_top.specs.Lived.{AreLived, IsLife, session_text}
 use Rattle.shell_top.specs.Opened.{HasOpened}
 use Rattle.shell_top.specs.Printed.{Prints, is_cut_short}
 use Rattle.script_lang.specs.declared.command.Command.{Command}
@@ -40,20 +41,28 @@ use Rattle.world_core.proofs.FreshWorld.{fresh_asked, fresh_quiet, fresh_right}
 use Rattle.world_core.proofs.Stamped.{stamped}
 
 -- nothing is told of a fresh world
-fresh_text : text_of (fresh nodes) (logs_at (new_world (fresh nodes)).logs 0) ≡ []
-fresh_text = ap (λ replies. reply_lines (arranged None replies)) (fresh_told (first_view nodes))
+fresh_text : (shape : Shape) → text_of (fresh shape) (logs_at (new_world (fresh shape)).logs 0) ≡ []
+fresh_text shape = ap (λ replies. reply_lines (arranged None replies)) (fresh_told (first_view shape.nodes))
 
 -- the session is before its first line
-pub starts : (left written : Option (List ℕ)) (session : Session) (lives : Vec Life) → HasOpened session lives → IsUnderWay left left written written session.line session.reader (whole_of session.world)
-starts left written session lives opened =
+pub starts : (shape : Shape) (left written : Option (List ℕ)) (session : Session) (lives : Vec Life) → HasOpened shape session lives
+    → IsUnderWay shape left left written written session.line session.reader (whole_of session.world)
+starts shape left written session lives opened =
     record {
       consumed = [];
       commands = [];
       read = subst (Consumes left left) (sym opened.reader) (Consumes-nil left);
-      lines = λ ended more. ap (λ n. script_from ended n more) (sym opened.line);
-      printed = subst (λ (w : Whole). Appends written written (text_of (fresh nodes) (logs_at w.logs 0))) (sym opened.world) (subst (Appends written written) (sym fresh_text) (Appends-nil written));
-      served = subst (IsServed (fresh nodes) []) (sym opened.world)
-          (record { given = []; right = fresh_right (fresh nodes); quiet = fresh_quiet (fresh nodes); asked = refl; at_quiet = fresh_asked (fresh nodes); none_left = fresh_told (first_view nodes) });
+      lines = λ ended more. ap (λ n. script_from shape.nodes ended n more) (sym opened.line);
+      printed = subst (λ (w : Whole). Appends written written (text_of (fresh shape) (logs_at w.logs 0))) (sym opened.world) (subst (Appends written written) (sym (fresh_text shape)) (Appends-nil written));
+      served = subst (IsServed (fresh shape) []) (sym opened.world)
+          (record {
+            given = [];
+            right = fresh_right (fresh shape);
+            quiet = fresh_quiet (fresh shape);
+            asked = refl;
+            at_quiet = fresh_asked (fresh shape);
+            none_left = fresh_told (first_view shape.nodes);
+          });
       line_low = omega (arith, opened.line);
       held_short = let empty : length session.reader ≡ 0 = ap length opened.reader in omega arith;
       consumed_short = omega (arith, opened.line);
@@ -69,24 +78,26 @@ ends_or_goes_on ending.NoMemory Q A quiet again = inr (again refl)
 ends_or_goes_on _ Q A quiet again = inl (quiet (λ is. absurd cc))
 
 -- what the one life says
-pub is_life : (e : Ending) (commands : List Command) (logs : List HostLog) → AreLived (fresh nodes) e commands (logs_at logs) → IsLife e commands (fresh_life logs)
-is_life e commands logs lived =
+pub is_life : (shape : Shape) → IsShape shape → (e : Ending) (commands : List Command) (logs : List HostLog) → AreLived (fresh shape) e commands (logs_at logs)
+    → IsLife shape e commands (fresh_life logs)
+is_life shape sound e commands logs lived =
     record {
       begins = refl;
       lived = lived;
-      serial = λ inside cut closed. every_cut_serial (fresh nodes) inside (logs_at logs) (omega arith) lived.within lived.right cut closed;
+      serial = λ inside cut closed. every_cut_serial (fresh shape) inside (logs_at logs) sound lived.within lived.right cut closed;
       answered = λ newer step before request at is again.
-          requests_answered (fresh nodes) (logs_at logs) (omega arith) (omega arith) lived.right lived.within lived.at_quiet newer step before request at is
-          (ends_or_goes_on e (IsQuiet (machine (fresh nodes)) (hosts (fresh nodes)) (logs_at logs)) (IsAskedAgain (fresh nodes) newer) lived.quiet again);
-      living = replies_live (fresh nodes) (logs_at logs) lived.within lived.right;
-      run = merged_run (machine (fresh nodes)) (stamped (fresh nodes)) (hosts (fresh nodes)) (logs_at logs) lived.within lived.right;
+          requests_answered (fresh shape) (logs_at logs) sound lived.right lived.within lived.at_quiet newer step before request at is
+          (ends_or_goes_on e (IsQuiet (machine (fresh shape)) (hosts (fresh shape)) (logs_at logs)) (IsAskedAgain (fresh shape) newer) lived.quiet again);
+      living = replies_live (fresh shape) (logs_at logs) lived.within lived.right;
+      run = merged_run (machine (fresh shape)) (stamped (fresh shape)) (hosts (fresh shape)) (logs_at logs) lived.within lived.right;
     }
 
 -- it was done with its lines
-pub session_done : (left left_now written mid now : Option (List ℕ)) (meant result : Ending) (logs : List HostLog) (lives : List Life) → lives ≡ fresh_life logs ∷ []
-    → AreLinesDone left left_now written mid meant logs → Prints result meant mid now (fault_line meant) → IsSession 0 left left_now written now result lives
-session_done left left_now written mid now meant result logs lives one lines last =
-    subst (IsSession 0 left left_now written now result) (sym one)
+pub session_done : (shape : Shape) → IsShape shape → (left left_now written mid now : Option (List ℕ)) (meant result : Ending) (logs : List HostLog) (lives : List Life)
+    → lives ≡ fresh_life logs ∷ [] → AreLinesDone shape left left_now written mid meant logs → Prints result meant mid now (fault_line meant)
+    → IsSession (Some shape) left left_now written now result lives
+session_done shape sound left left_now written mid now meant result logs lives one lines last =
+    subst (IsSession (Some shape) left left_now written now result) (sym one)
     (record {
       input = lines.input;
       ended = lines.ended;
@@ -94,19 +105,20 @@ session_done left left_now written mid now meant result logs lives one lines las
       consumed = lines.consumed;
       at_end = lines.at_end;
       ends = lines.ends;
-      told = prints_both (is_cut_short meant) (is_cut_short result) meant result refl refl written mid now (session_text (fresh_life logs ∷ []))
-          (subst (Prints meant meant written mid) (sym (append-nil (text_of (fresh nodes) (logs_at logs 0)))) lines.told) last;
-      lived = is_life meant (script_from lines.ended 1 lines.input).commands logs lines.lived;
-      words_first = λ some. absurd (omega arith);
+      told = prints_both (is_cut_short meant) (is_cut_short result) meant result refl refl written mid now (session_text (Some shape) (fresh_life logs ∷ []))
+          (subst (Prints meant meant written mid) (sym (append-nil (text_of (fresh shape) (logs_at logs 0)))) lines.told) last;
+      lived = is_life shape sound meant (script_from shape.nodes lines.ended 1 lines.input).commands logs lines.lived;
+      words_first = λ none. cc;
       words_refused = λ is. absurd (lines.no_words is);
       bounded = lines.bounded;
     })
 
--- there are words, and nothing is read
-pub session_refused : (words : ℕ) (left written now : Option (List ℕ)) (result : Ending) (lives : List Life) → lives ≡ [] → 0 < words
-    → Prints result ending.Words written now (fault_line ending.Words) → IsSession words left left written now result lives
-session_refused words left written now result lives none some printed =
-    subst (IsSession words left left written now result) (sym none)
+-- the words are refused, and nothing is read
+pub session_refused : (asked : Option Shape) (left written now : Option (List ℕ)) (result : Ending) (lives : List Life) → lives ≡ [] → asked ≡ None
+    → Prints result ending.Words written now (fault_line ending.Words) → IsSession asked left left written now result lives
+session_refused asked left written now result lives no_life none printed =
+    subst (λ (asked : Option Shape). IsSession asked left left written now result lives) (sym none)
+    (subst (IsSession None left left written now result) (sym no_life)
     (record {
       input = [];
       ended = false;
@@ -117,15 +129,14 @@ session_refused words left written now result lives none some printed =
       told = printed;
       lived = (refl, refl);
       words_first = λ any. (refl, refl);
-      words_refused = λ is. some;
+      words_refused = λ is. refl;
       bounded = omega arith;
-    })
+    }))
 
 -- memory is wanting before the first line
-pub session_unstarted : (words : ℕ) (left written : Option (List ℕ)) (lives : List Life) → lives ≡ [] → words ≡ 0 → IsSession words left left written written ending.NoMemory lives
-session_unstarted words left written lives no_life none =
-    subst (IsSession words left left written written ending.NoMemory) (sym no_life)
-    (record {
+unstarted : (asked : Option Shape) (left written : Option (List ℕ)) → IsSession asked left left written written ending.NoMemory []
+unstarted None left written =
+    record {
       input = [];
       ended = false;
       meant = ending.NoMemory;
@@ -134,14 +145,24 @@ session_unstarted words left written lives no_life none =
       ends = tt;
       told = record { count = 0; appended = Appends-nil written };
       lived = (refl, refl);
-      words_first = λ some. absurd (omega arith);
+      words_first = λ none. (refl, refl);
       words_refused = λ is. cc;
       bounded = omega arith;
-    })
+    }
+unstarted (Some shape) left written =
+    record {
+      input = [];
+      ended = false;
+      meant = ending.NoMemory;
+      consumed = Consumes-nil left;
+      at_end = λ is. cc;
+      ends = tt;
+      told = record { count = 0; appended = Appends-nil written };
+      lived = (refl, refl);
+      words_first = λ none. cc;
+      words_refused = λ is. cc;
+      bounded = omega arith;
+    }
 
--- what the test for words says
-pub some_words : (words : ℕ) (empty : Bool) → empty ≡ (words == 0) → empty ≡ false → 0 < words
-some_words words empty is fails = let tested : (words == 0) ≡ false = sym is ∙ fails in grind (arith, nat_tests, tested)
-
-pub no_words : (words : ℕ) (empty : Bool) → empty ≡ (words == 0) → empty ≡ true → words ≡ 0
-no_words words empty is holds = let tested : (words == 0) ≡ true = sym is ∙ holds in grind (arith, nat_tests, tested)
+pub session_unstarted : (asked : Option Shape) (left written : Option (List ℕ)) (lives : List Life) → lives ≡ [] → IsSession asked left left written written ending.NoMemory lives
+session_unstarted asked left written lives none = subst (IsSession asked left left written written ending.NoMemory) (sym none) (unstarted asked left written)

@@ -1,11 +1,11 @@
 -- A session is open, from line to line.
 use Rattle.std.proofs.Common.{◌≡◌, sym, subst}
-use Rattle.shell_top.specs.Lived.{nodes}
+use Rattle.sig_core.specs.declared.view.Shape.{Shape}
 use Rattle.shell_top.specs.Session.{IsOpen}
 use Rattle.world_core.specs.Start.{fresh}
 use Rattle.world_core.specs.World.{Whole, new_world}
-use Rattle.world_core.proofs.FreshWorld.{fresh_right}
+use Rattle.world_core.proofs.FreshWorld.{fresh_sound}
 
 -- before its first line
-pub opens : (w : Whole) → w ≡ new_world (fresh nodes) → IsOpen w
-opens w is = subst IsOpen (sym is) (record { given = _; right = fresh_right (fresh nodes) })
+pub opens : (shape : Shape) (w : Whole) → w ≡ new_world (fresh shape) → IsOpen shape w
+opens shape w is = subst (IsOpen shape) (sym is) (fresh_sound (fresh shape))

@@ -94,61 +94,63 @@ one_part held e =
     let none = not_found (nat_lt (position_or_len is_newline held) (length held)) (position_or_len is_newline held) e in
     one_part_past held (grind (arith, nat_tests, none))
 
--- so what is held without a newline is the last part of what was read
-pub script-part : (ended : Bool) (line : ℕ) (held : List ℕ) → position is_newline held ≡ None → script_from ended line held ≡ last_part ended line held
-script-part ended line held e = ap (script_of ended line) (one_part held e).parts
+-- lines of a script for so many nodes
+module _ (nodes : ℕ) where
+  -- so what is held without a newline is the last part of what was read
+  pub script-part : (ended : Bool) (line : ℕ) (held : List ℕ) → position is_newline held ≡ None → script_from nodes ended line held ≡ last_part nodes ended line held
+  script-part ended line held e = ap (script_of nodes ended line) (one_part held e).parts
 
--- a list of parts is never empty
-split_some : (ys : List ℕ) → 0 < length (slice_split is_newline ys)
-split_some ys = omega (arith, length-slice_split is_newline ys)
+  -- a list of parts is never empty
+  split_some : (ys : List ℕ) → 0 < length (slice_split is_newline ys)
+  split_some ys = omega (arith, length-slice_split is_newline ys)
 
-script_of-line : (ended : Bool) (line : ℕ) (part : List ℕ) (parts : List (List ℕ)) → 0 < length parts
-    → script_of ended line (part ∷ parts) ≡ whole_line line part (script_of ended (line + 1) parts)
-script_of-line ended line part [] some = absurd (omega arith)
-script_of-line ended line part (next ∷ more) some = refl
+  script_of-line : (ended : Bool) (line : ℕ) (part : List ℕ) (parts : List (List ℕ)) → 0 < length parts
+      → script_of nodes ended line (part ∷ parts) ≡ whole_line nodes line part (script_of nodes ended (line + 1) parts)
+  script_of-line ended line part [] some = absurd (omega arith)
+  script_of-line ended line part (next ∷ more) some = refl
 
--- a line that is whole, and the script behind it
-pub script-line : (ended : Bool) (line : ℕ) (held : List ℕ) (at : ℕ) (more : List ℕ) → position is_newline held ≡ Some at
-    → script_from ended line (take (at + 1) held ++ more) ≡ whole_line line (take at held) (script_from ended (line + 1) more)
-script-line ended line held at more e =
-    ap (script_of ended line) ((splits_at held at e).parts more)
-    ∙ script_of-line ended line (take at held) (slice_split is_newline more) (split_some more)
+  -- a line that is whole, and the script behind it
+  pub script-line : (ended : Bool) (line : ℕ) (held : List ℕ) (at : ℕ) (more : List ℕ) → position is_newline held ≡ Some at
+      → script_from nodes ended line (take (at + 1) held ++ more) ≡ whole_line nodes line (take at held) (script_from nodes ended (line + 1) more)
+  script-line ended line held at more e =
+      ap (script_of nodes ended line) ((splits_at held at e).parts more)
+      ∙ script_of-line ended line (take at held) (slice_split is_newline more) (split_some more)
 
--- the same, of all that is held
-pub script-held : (ended : Bool) (line : ℕ) (held : List ℕ) (at : ℕ) → position is_newline held ≡ Some at
-    → script_from ended line held ≡ whole_line line (take at held) (script_from ended (line + 1) (drop (at + 1) held))
-script-held ended line held at e =
-    ap (script_from ended line) (sym (take-append-drop (at + 1) held)) ∙ script-line ended line held at (drop (at + 1) held) e
+  -- the same, of all that is held
+  pub script-held : (ended : Bool) (line : ℕ) (held : List ℕ) (at : ℕ) → position is_newline held ≡ Some at
+      → script_from nodes ended line held ≡ whole_line nodes line (take at held) (script_from nodes ended (line + 1) (drop (at + 1) held))
+  script-held ended line held at e =
+      ap (script_from nodes ended line) (sym (take-append-drop (at + 1) held)) ∙ script-line ended line held at (drop (at + 1) held) e
 
--- a line that is too long, and one that isn't
-pub whole_line-long : (line : ℕ) (bytes : List ℕ) (rest : Script) → is_too_long line bytes ≡ true → whole_line line bytes rest ≡ ends_with (TooLong line)
-whole_line-long line bytes rest long = ap (λ b. if b then ends_with (TooLong line) else follow line (parsed_line bytes) rest) long
+  -- a line that is too long, and one that isn't
+  pub whole_line-long : (line : ℕ) (bytes : List ℕ) (rest : Script) → is_too_long line bytes ≡ true → whole_line nodes line bytes rest ≡ ends_with (TooLong line)
+  whole_line-long line bytes rest long = ap (λ b. if b then ends_with (TooLong line) else follow line (parsed_line nodes bytes) rest) long
 
-pub whole_line-short : (line : ℕ) (bytes : List ℕ) (rest : Script) → is_too_long line bytes ≡ false → whole_line line bytes rest ≡ follow line (parsed_line bytes) rest
-whole_line-short line bytes rest short = ap (λ b. if b then ends_with (TooLong line) else follow line (parsed_line bytes) rest) short
+  pub whole_line-short : (line : ℕ) (bytes : List ℕ) (rest : Script) → is_too_long line bytes ≡ false → whole_line nodes line bytes rest ≡ follow line (parsed_line nodes bytes) rest
+  whole_line-short line bytes rest short = ap (λ b. if b then ends_with (TooLong line) else follow line (parsed_line nodes bytes) rest) short
 
-pub too_long_line : (line : ℕ) (bytes : List ℕ) → 65536 < line → is_too_long line bytes ≡ true
-too_long_line line bytes past = grind (arith, nat_tests)
+  pub too_long_line : (line : ℕ) (bytes : List ℕ) → 65536 < line → is_too_long line bytes ≡ true
+  too_long_line line bytes past = grind (arith, nat_tests)
 
-pub too_long_bytes : (line : ℕ) (bytes : List ℕ) → 512 < length bytes → is_too_long line bytes ≡ true
-too_long_bytes line bytes long = grind (arith, nat_tests)
+  pub too_long_bytes : (line : ℕ) (bytes : List ℕ) → 512 < length bytes → is_too_long line bytes ≡ true
+  too_long_bytes line bytes long = grind (arith, nat_tests)
 
-pub short_line : (line : ℕ) (bytes : List ℕ) → line ≤ 65536 → length bytes ≤ 512 → is_too_long line bytes ≡ false
-short_line line bytes low short = grind (arith, nat_tests)
+  pub short_line : (line : ℕ) (bytes : List ℕ) → line ≤ 65536 → length bytes ≤ 512 → is_too_long line bytes ≡ false
+  short_line line bytes low short = grind (arith, nat_tests)
 
--- the last part of what was read
-pub last_part-long : (ended : Bool) (line : ℕ) (held : List ℕ) → 0 < length held → is_too_long line held ≡ true → last_part ended line held ≡ ends_with (TooLong line)
-last_part-long ended line [] some long = absurd (omega arith)
-last_part-long true line (byte ∷ bytes) some long = whole_line-long line (byte ∷ bytes) nothing_more long
-last_part-long false line (byte ∷ bytes) some long = ap (λ b. if b then ends_with (TooLong line) else nothing_more) long
+  -- the last part of what was read
+  pub last_part-long : (ended : Bool) (line : ℕ) (held : List ℕ) → 0 < length held → is_too_long line held ≡ true → last_part nodes ended line held ≡ ends_with (TooLong line)
+  last_part-long ended line [] some long = absurd (omega arith)
+  last_part-long true line (byte ∷ bytes) some long = whole_line-long line (byte ∷ bytes) nothing_more long
+  last_part-long false line (byte ∷ bytes) some long = ap (λ b. if b then ends_with (TooLong line) else nothing_more) long
 
-pub last_part-partial : (line : ℕ) (held : List ℕ) → (0 < length held → is_too_long line held ≡ false) → last_part false line held ≡ nothing_more
-last_part-partial line [] short = refl
-last_part-partial line (byte ∷ bytes) short = ap (λ b. if b then ends_with (TooLong line) else nothing_more) (short (omega arith))
+  pub last_part-partial : (line : ℕ) (held : List ℕ) → (0 < length held → is_too_long line held ≡ false) → last_part nodes false line held ≡ nothing_more
+  last_part-partial line [] short = refl
+  last_part-partial line (byte ∷ bytes) short = ap (λ b. if b then ends_with (TooLong line) else nothing_more) (short (omega arith))
 
-pub last_part-whole : (line : ℕ) (held : List ℕ) → 0 < length held → is_too_long line held ≡ false → last_part true line held ≡ follow line (parsed_line held) nothing_more
-last_part-whole line [] some short = absurd (omega arith)
-last_part-whole line (byte ∷ bytes) some short = whole_line-short line (byte ∷ bytes) nothing_more short
+  pub last_part-whole : (line : ℕ) (held : List ℕ) → 0 < length held → is_too_long line held ≡ false → last_part nodes true line held ≡ follow line (parsed_line nodes held) nothing_more
+  last_part-whole line [] some short = absurd (omega arith)
+  last_part-whole line (byte ∷ bytes) some short = whole_line-short line (byte ∷ bytes) nothing_more short
 
 -- commands, and then others
 pub after-append : (first second : List Command) (script : Script) → after (first ++ second) script ≡ after first (after second script)
@@ -171,9 +173,9 @@ line_served c (Ok None) e = cc
 line_served c (Ok (Some asked)) e = asked_served c asked e
 line_served c (Err fault) e = cc
 
-pub command_served : (line : List ℕ) (c : Command) → parsed_line line ≡ parsed.Ask c → is_served c ≡ true
-command_served line c e = go (may_stand (first_word line)) e
+pub command_served : (nodes : ℕ) (line : List ℕ) (c : Command) → parsed_line nodes line ≡ parsed.Ask c → is_served c ≡ true
+command_served nodes line c e = go (may_stand (first_word line)) e
   where
-    go : (b : Bool) → (if b then available line else parsed.Fault UnknownCommand) ≡ parsed.Ask c → is_served c ≡ true
-    go true e = line_served c (whole_grammar false 2 line) e
+    go : (b : Bool) → (if b then available nodes line else parsed.Fault UnknownCommand) ≡ parsed.Ask c → is_served c ≡ true
+    go true e = line_served c (whole_grammar false nodes line) e
     go false e = cc

@@ -10,3 +10,4 @@ pub mod Served
 pub mod Session
 pub mod Text
 pub mod Told
+pub mod Words

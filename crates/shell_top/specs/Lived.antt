@@ -1,5 +1,5 @@
 -- What the lives of a session say of it.
-use Rattle.std.specs.Prelude.{◌≡◌, ℕ, Bool, true, false, List, [], ◌∷◌, ◌++◌, reverse, Some}
+use Rattle.std.specs.Prelude.{◌≡◌, ℕ, Bool, true, false, List, [], ◌∷◌, ◌++◌, reverse, Option, Some}
 use Rattle.run_theory.specs.Cuts.{IsCut, IsClosed}
 use Rattle.run_theory.specs.Lists.{Each}
 use Rattle.run_theory.specs.Orders.{LogsRun}
@@ -9,6 +9,7 @@ use Rattle.command_laws.specs.Between.{IsAskedAgain}
 use Rattle.command_laws.specs.Living.{is_of_living}
 use Rattle.node_core.specs.Replies.{replies_of}
 use Rattle.script_lang.specs.declared.command.Command.{Command}
+use Rattle.sig_core.specs.declared.view.Shape.{Shape}
 use Rattle.sig_core.specs.declared.log.Life.{Life}
 use Rattle.world_core.specs.Steps.{HostStep}
 use Rattle.sig_core.specs.declared.reply.ApiReply.{ApiReply}
@@ -40,10 +41,6 @@ pub record AreLived (start : Start) (ending : Ending) (commands : List Command) 
   pub at_quiet : AreAskedAtQuiet start logs
   pub quiet : (ending ≡ NoMemory → ⊥) → IsQuiet (machine start) (hosts start) logs
 
--- how many nodes a cluster has
-abbrev pub nodes : ℕ
-nodes = 2
-
 -- Each request in these logs is served between two quiet moments and answered there as it should be; but for the last one,
 -- where memory was wanting.
 abbrev pub EachIsAnswered : Start → Ending → (ℕ → List HostStep) → Type 0
@@ -52,16 +49,17 @@ EachIsAnswered start ending logs =
     → (ending ≡ NoMemory → IsAskedAgain start newer)
     → IsAnsweredIn start logs request before
 
--- What a life says: it begins without rows, in the first epoch; its logs are a run of the machine from there, the requests
--- in them are those of the commands, every closed cut of them is serial, and each request is answered, with no reply that tells of a host that stopped.
-pub record IsLife (ending : Ending) (commands : List Command) (life : Life) : Type 0 where
-  pub begins : start_of nodes life ≡ fresh nodes
-  pub lived : AreLived (start_of nodes life) ending commands (logs_of life)
-  pub run : LogsRun (machine (start_of nodes life)) (hosts (start_of nodes life)) (logs_of life)
-  pub serial : (inside : ℕ → List HostStep) → IsCut inside (logs_of life) → IsClosed (machine (start_of nodes life)) inside → IsSerial (start_of nodes life) inside
-  pub answered : EachIsAnswered (start_of nodes life) ending (logs_of life)
+-- What a life of a cluster of this shape says: it begins without rows, in the first epoch; its logs, one for each host, are
+-- a run of the machine from there; the requests in them are those of the commands; every closed cut of them is serial; and
+-- each request is answered, with no reply that tells of a host that stopped.
+pub record IsLife (shape : Shape) (ending : Ending) (commands : List Command) (life : Life) : Type 0 where
+  pub begins : start_of shape life ≡ fresh shape
+  pub lived : AreLived (start_of shape life) ending commands (logs_of life)
+  pub run : LogsRun (machine (start_of shape life)) (hosts (start_of shape life)) (logs_of life)
+  pub serial : (inside : ℕ → List HostStep) → IsCut inside (logs_of life) → IsClosed (machine (start_of shape life)) inside → IsSerial (start_of shape life) inside
+  pub answered : EachIsAnswered (start_of shape life) ending (logs_of life)
   -- no reply tells of a host that stopped
-  pub living : Each (λ (reply : ApiReply). is_of_living reply ≡ true) (replies_of (after (start_of nodes life) 0 (logs_of life 0)))
+  pub living : Each (λ (reply : ApiReply). is_of_living reply ≡ true) (replies_of (after (start_of shape life) 0 (logs_of life 0)))
 
 -- the endings that can come before there is a life
 abbrev pub may_be_unborn : Ending → Bool
@@ -69,13 +67,14 @@ may_be_unborn Words = true
 may_be_unborn NoMemory = true
 may_be_unborn ending = false
 
--- a session has one life; or none, where there were words, or memory was wanting, before anything was read
-abbrev pub AreLives : Ending → List Command → List ℕ → List Life → Type 0
-AreLives ending commands input [] = (input ≡ []) × (may_be_unborn ending ≡ true)
-AreLives ending commands input (life ∷ []) = IsLife ending commands life
-AreLives ending commands input (life ∷ next ∷ more) = ⊥
+-- The lives of a session of a cluster of this shape, where its words ask for one: one life; or none, where words were
+-- refused, or memory was wanting, before anything was read.
+abbrev pub AreLives : Option Shape → Ending → List Command → List ℕ → List Life → Type 0
+AreLives asked ending commands input [] = (input ≡ []) × (may_be_unborn ending ≡ true)
+AreLives (Some shape) ending commands input (life ∷ []) = IsLife shape ending commands life
+AreLives asked ending commands input lives = ⊥
 
 -- the text of the logs of a session
-abbrev pub session_text : List Life → List ℕ
-session_text [] = []
-session_text (life ∷ more) = text_of (start_of nodes life) (logs_of life 0) ++ session_text more
+abbrev pub session_text : Option Shape → List Life → List ℕ
+session_text (Some shape) (life ∷ more) = text_of (start_of shape life) (logs_of life 0) ++ session_text (Some shape) more
+session_text asked lives = []

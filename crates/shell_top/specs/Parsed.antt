@@ -49,10 +49,10 @@ parsed_as (Ok None) = Nothing
 parsed_as (Ok (Some command)) = asked command
 parsed_as (Err fault) = Fault fault
 
--- what a line of the whole grammar asks for, in a cluster of two nodes
-abbrev pub available : List ℕ → Parsed
-available line = parsed_as (parsed_line false 2 line)
+-- what a line of the whole grammar asks for, in a cluster of so many nodes
+abbrev pub available : ℕ → List ℕ → Parsed
+available nodes line = parsed_as (parsed_line false nodes line)
 
 -- what a line asks for
-abbrev pub parsed : List ℕ → Parsed
-parsed line = if may_stand (first_word line) then available line else Fault UnknownCommand
+abbrev pub parsed : ℕ → List ℕ → Parsed
+parsed nodes line = if may_stand (first_word line) then available nodes line else Fault UnknownCommand

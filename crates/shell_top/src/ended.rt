@@ -8,7 +8,7 @@ use sig_core::Life;
 pub enum Ending {
     /// The source was read to its end, or to `quit`.
     Finished,
-    /// There are words, and none are taken.
+    /// The words ask for no cluster that there may be.
     Words,
     /// The line is outside the grammar.
     Refused { line: u32, fault: LineFault },
@@ -24,12 +24,12 @@ pub enum Ending {
 /// What a session leaves.
 #[derive(Drop)]
 pub struct Ended {
-    /// The exit status: 0 where the source was read to its end or to `quit`; 1 where there were
-    /// words; 2 at a line outside the grammar; 3 where the source failed, 4 where the sink did; 5
+    /// The exit status: 0 where the source was read to its end or to `quit`; 1 where the words were
+    /// refused; 2 at a line outside the grammar; 3 where the source failed, 4 where the sink did; 5
     /// for want of memory; 9 at a line that is too long.
     pub status: u8,
-    /// What the hosts did, life by life: none where there were words, or where memory was wanting
-    /// before anything was read.
+    /// What the hosts did, life by life: none where the words were refused, or where memory was
+    /// wanting before anything was read.
     pub lives: Vec<Life>,
     /// The disks that were handed in, in their order.
     pub disks: Vec<Box<dyn Disk + Send>>,

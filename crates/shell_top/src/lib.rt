@@ -10,6 +10,7 @@ mod serve;
 mod session;
 mod taken;
 mod text;
+mod words;
 mod writer;
 
 pub use ended::Ended;

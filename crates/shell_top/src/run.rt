@@ -1,24 +1,28 @@
 //! The top call: a whole session.
-ghost use Rattle.std.specs.Prelude.{◌≡◌, ◌≤◌, ◌⊎◌, IfOk, length};
+ghost use Rattle.std.specs.Prelude.{◌≡◌, ◌≤◌, ◌⊎◌, [], IfOk, Some, map, string_bytes};
+ghost use Rattle.frag_map.specs.Shape.{IsShape};
 ghost use Rattle.host_io.specs.Fault.{Rose};
 ghost use Rattle.shell_top.specs.declared.ended.Ending.TheVariants as ending;
 ghost use Rattle.shell_top.specs.Opened.{HasOpened};
 ghost use Rattle.shell_top.specs.Printed.{Prints};
 ghost use Rattle.shell_top.specs.Session.{IsSession, HasSession};
 ghost use Rattle.shell_top.specs.Text.{fault_line};
+ghost use Rattle.shell_top.specs.Words.{asked_shape};
 
 use crate::ended::{Ended, Ending};
 use crate::session::Session;
 use crate::text::{fault_line, status_of};
+use crate::words::shape_asked;
 use crate::writer::write_all;
 use host_io::{Disk, Gate, Sink, Source};
-use sig_core::{Life, NoMemory};
+use sig_core::{Life, NoMemory, Shape};
 use std::alloc::Global;
 use std::sync::Wait;
 use std::thread::Threads;
 
-/// Runs a session: reads a script from the source, has the cluster serve each command, and writes
-/// the replies to the sink. The disks are handed back as they came.
+/// Runs a session of a cluster of the shape that the words ask for: reads a script from the source,
+/// has the cluster serve each command, and writes the replies to the sink. Where the words are
+/// refused nothing is read. The disks are handed back as they came.
 pub fn run_shell<R: Threads + Wait + Sync, S: Source, K: Sink, G: Gate + Sync>(
     rt: &R,
     alloc: Global,
@@ -28,7 +32,7 @@ pub fn run_shell<R: Threads + Wait + Sync, S: Source, K: Sink, G: Gate + Sync>(
     disks: Vec<Box<dyn Disk + Send>>,
     _gate: &G,
 ) -> Ended
-    ensures session { HasSession (length words.now) (S.left source.old) (S.left source.new) (K.written sink.old) (K.written sink.new) result.status result.lives.items }
+    ensures session { HasSession (asked_shape (map string_bytes words.now)) (S.left source.old) (S.left source.new) (K.written sink.old) (K.written sink.new) result.status result.lives.items }
     ensures read_fault { result.status ≡ 3 → Rose (S.faults source.old) (S.faults source.new) }
     ensures write_fault { result.status ≡ 4 → Rose (K.faults sink.old) (K.faults sink.new) }
     ensures disks { result.disks ≡ disks }
@@ -56,21 +60,42 @@ fn run_session<R: Wait, S: Source, K: Sink>(
     source: &mut S,
     sink: &mut K,
 ) -> Outcome
-    ensures session { IsSession (length words.now) (S.left source.old) (S.left source.new) (K.written sink.old) (K.written sink.new) result.ending result.lives.items }
+    ensures session { IsSession (asked_shape (map string_bytes words.now)) (S.left source.old) (S.left source.new) (K.written sink.old) (K.written sink.new) result.ending result.lives.items }
     ensures read_fault { result.ending ≡ ending.ReadFault → Rose (S.faults source.old) (S.faults source.new) }
     ensures write_fault { result.ending ≡ ending.WriteFault → Rose (K.faults sink.old) (K.faults sink.new) }
 {
-    let lives = Vec::new(alloc);
-    if !words.is_empty() {
-        let ending = finish(alloc, sink, Ending::Words);
-        return Outcome { ending, lives };
+    match shape_asked(alloc, words) {
+        Ok(Some(shape)) => run_shape(rt, alloc, shape, source, sink),
+        Ok(None) => unborn(alloc, finish(alloc, sink, Ending::Words)),
+        Err(NoMemory) => unborn(alloc, Ending::NoMemory),
     }
-    match open(alloc) {
+}
+
+/// A session that ended before there was a life.
+fn unborn(alloc: Global, ending: Ending) -> Outcome
+    ensures ending { result.ending ≡ ending }
+    ensures lives { result.lives.items ≡ [] }
+{
+    let lives = Vec::new(alloc);
+    Outcome { ending, lives }
+}
+
+/// Runs a session of a cluster of this shape, and says how it ended.
+fn run_shape<R: Wait, S: Source, K: Sink>(
+    rt: &R,
+    alloc: Global,
+    shape: Shape,
+    source: &mut S,
+    sink: &mut K,
+) -> Outcome
+    requires { IsShape shape }
+    ensures session { IsSession (Some shape) (S.left source.old) (S.left source.new) (K.written sink.old) (K.written sink.new) result.ending result.lives.items }
+    ensures read_fault { result.ending ≡ ending.ReadFault → Rose (S.faults source.old) (S.faults source.new) }
+    ensures write_fault { result.ending ≡ ending.WriteFault → Rose (K.faults sink.old) (K.faults sink.new) }
+{
+    match open(alloc, shape) {
         Ok(opened) => run_opened(rt, alloc, opened, source, sink),
-        Err(NoMemory) => Outcome {
-            ending: Ending::NoMemory,
-            lives,
-        },
+        Err(NoMemory) => unborn(alloc, Ending::NoMemory),
     }
 }
 
@@ -81,15 +106,16 @@ struct Opened {
     lives: Vec<Life>,
 }
 
-/// Opens a session, and makes the room for what it will hand back.
+/// Opens a session of a cluster of this shape, and makes the room for what it will hand back.
 ///
 /// # Errors
 /// `NoMemory`.
-fn open(alloc: Global) -> Result<Opened, NoMemory>
-    ensures { IfOk result (λ opened. HasOpened opened.session opened.lives) }
+fn open(alloc: Global, shape: Shape) -> Result<Opened, NoMemory>
+    requires { IsShape shape }
+    ensures { IfOk result (λ opened. HasOpened shape opened.session opened.lives) }
 {
     let lives = Vec::with_capacity(alloc, 1)?;
-    let session = Session::new(alloc)?;
+    let session = Session::new(alloc, shape)?;
     Ok(Opened { session, lives })
 }
 
@@ -101,8 +127,10 @@ fn run_opened<R: Wait, S: Source, K: Sink>(
     source: &mut S,
     sink: &mut K,
 ) -> Outcome
-    requires { HasOpened opened.session opened.lives }
-    ensures session { IsSession 0 (S.left source.old) (S.left source.new) (K.written sink.old) (K.written sink.new) result.ending result.lives.items }
+    ghost shape: { Shape }
+    requires shape { IsShape shape }
+    requires opened { HasOpened shape opened.session opened.lives }
+    ensures session { IsSession (Some shape) (S.left source.old) (S.left source.new) (K.written sink.old) (K.written sink.new) result.ending result.lives.items }
     ensures read_fault { result.ending ≡ ending.ReadFault → Rose (S.faults source.old) (S.faults source.new) }
     ensures write_fault { result.ending ≡ ending.WriteFault → Rose (K.faults sink.old) (K.faults sink.new) }
 {

@@ -5,9 +5,6 @@ ghost use Rattle.shell_top.specs.Parsed.{asked, available, is_available, is_oper
 
 use script_lang::{Command, LineFault, first_word, parse_line};
 
-/// How many nodes the cluster has.
-pub const NODES: u8 = 2;
-
 /// What a line asks for.
 #[derive(Clone, Copy)]
 pub enum Parsed {
@@ -20,15 +17,15 @@ pub enum Parsed {
     Fault(LineFault),
 }
 
-/// What a line asks for. The line comes without its newline, and with the carriage return that may
-/// stand before it.
-pub fn parse(line: &[u8]) -> Parsed
-    ensures { result ≡ parsed line.now }
+/// What a line asks for in a cluster of so many nodes. The line comes without its newline, and with
+/// the carriage return that may stand before it.
+pub fn parse(nodes: u8, line: &[u8]) -> Parsed
+    ensures { result ≡ parsed nodes line.now }
 {
     if !may_stand(line) {
         return Parsed::Fault(LineFault::UnknownCommand);
     }
-    parse_available(line)
+    parse_available(nodes, line)
 }
 
 /// Whether a line is empty or begins with a word that may begin one by now.
@@ -78,10 +75,10 @@ fn is_order(word: &[u8]) -> bool
         || word == b"quit".as_slice()
 }
 
-fn parse_available(line: &[u8]) -> Parsed
-    ensures { result ≡ available line.now }
+fn parse_available(nodes: u8, line: &[u8]) -> Parsed
+    ensures { result ≡ available nodes line.now }
 {
-    match parse_line(line, false, NODES) {
+    match parse_line(line, false, nodes) {
         Ok(None) => Parsed::Nothing,
         Ok(Some(command)) => asked(&command),
         Err(fault) => Parsed::Fault(fault),

@@ -5,11 +5,10 @@ ghost use Rattle.script_lang.specs.declared.command.Command.{Command};
 ghost use Rattle.shell_top.specs.Arranged.{arranged};
 ghost use Rattle.shell_top.specs.Asked.{is_served, name_in, questions, requests_of, rounds_behind};
 ghost use Rattle.shell_top.specs.declared.ended.Ending.TheVariants as ending;
-ghost use Rattle.shell_top.specs.Lived.{nodes};
 ghost use Rattle.shell_top.specs.Served.{AreLeft, AreLeftOff, HasGoneOn, HasServed, PrintsCommand, ServesCommand};
-ghost use Rattle.shell_top.specs.Session.{IsOpen};
 ghost use Rattle.shell_top.specs.Text.{reply_lines};
-ghost use Rattle.world_core.specs.Start.{fresh};
+ghost use Rattle.world_core.specs.Driven.{IsSound};
+ghost use Rattle.world_core.specs.Start.{Start};
 ghost use Rattle.world_core.specs.World.{is_left_open, logs_at, replies_of, with_replies};
 ghost use Rattle.world_core.specs.WorldOf.{whole_of};
 
@@ -29,9 +28,10 @@ use world_core::World;
 /// # Errors
 /// `NoMemory`, and then the world is of use for its logs alone.
 fn ask<R: Wait>(rt: &R, alloc: Global, world: &mut World, request: ApiReq) -> Result<(), NoMemory>
-    requires { IsOpen (whole_of world.old) }
-    ensures ok { OnOk result (HasServed (fresh nodes) (request ∷ []) (whole_of world.old) (whole_of world.new)) }
-    ensures err { OnErr result (AreLeftOff (fresh nodes) (request ∷ []) (whole_of world.old) (logs_at (whole_of world.new).logs)) }
+    ghost start: { Start }
+    requires { IsSound start (whole_of world.old) }
+    ensures ok { OnOk result (HasServed start (request ∷ []) (whole_of world.old) (whole_of world.new)) }
+    ensures err { OnErr result (AreLeftOff start (request ∷ []) (whole_of world.old) (logs_at (whole_of world.new).logs)) }
 {
     world.ask(alloc, request)?;
     world.drive(rt, alloc)
@@ -39,9 +39,10 @@ fn ask<R: Wait>(rt: &R, alloc: Global, world: &mut World, request: ApiReq) -> Re
 
 /// Lets rounds pass, with quiet after each.
 fn tick<R: Wait>(rt: &R, alloc: Global, world: &mut World, rounds: u8) -> Result<(), NoMemory>
-    requires { IsOpen (whole_of world.old) }
-    ensures ok { OnOk result (HasServed (fresh nodes) (requests_of (Command.Tick rounds)) (whole_of world.old) (whole_of world.new)) }
-    ensures err { OnErr result (AreLeftOff (fresh nodes) (requests_of (Command.Tick rounds)) (whole_of world.old) (logs_at (whole_of world.new).logs)) }
+    ghost start: { Start }
+    requires { IsSound start (whole_of world.old) }
+    ensures ok { OnOk result (HasServed start (requests_of (Command.Tick rounds)) (whole_of world.old) (whole_of world.new)) }
+    ensures err { OnErr result (AreLeftOff start (requests_of (Command.Tick rounds)) (whole_of world.old) (logs_at (whole_of world.new).logs)) }
 {
     let first = ApiReq::Tick {
         round: 1,
@@ -58,9 +59,10 @@ fn further_rounds<R: Wait>(
     world: &mut World,
     rounds: u8,
 ) -> Result<(), NoMemory>
-    requires { IsOpen (whole_of world.old) }
-    ensures ok { OnOk result (HasServed (fresh nodes) (rounds_behind rounds (rounds - 1)) (whole_of world.old) (whole_of world.new)) }
-    ensures err { OnErr result (AreLeftOff (fresh nodes) (rounds_behind rounds (rounds - 1)) (whole_of world.old) (logs_at (whole_of world.new).logs)) }
+    ghost start: { Start }
+    requires { IsSound start (whole_of world.old) }
+    ensures ok { OnOk result (HasServed start (rounds_behind rounds (rounds - 1)) (whole_of world.old) (whole_of world.new)) }
+    ensures err { OnErr result (AreLeftOff start (rounds_behind rounds (rounds - 1)) (whole_of world.old) (logs_at (whole_of world.new).logs)) }
 {
     for behind in 0..rounds.saturating_sub(1) {
         let next = ApiReq::Tick {
@@ -79,10 +81,11 @@ fn ask_own<R: Wait>(
     world: &mut World,
     command: &Command,
 ) -> Result<(), NoMemory>
-    requires opened { IsOpen (whole_of world.old) }
+    ghost start: { Start }
+    requires opened { IsSound start (whole_of world.old) }
     requires served { is_served command.now ≡ true }
-    ensures ok { OnOk result (HasServed (fresh nodes) (requests_of command.now) (whole_of world.old) (whole_of world.new)) }
-    ensures err { OnErr result (AreLeftOff (fresh nodes) (requests_of command.now) (whole_of world.old) (logs_at (whole_of world.new).logs)) }
+    ensures ok { OnOk result (HasServed start (requests_of command.now) (whole_of world.old) (whole_of world.new)) }
+    ensures err { OnErr result (AreLeftOff start (requests_of command.now) (whole_of world.old) (logs_at (whole_of world.new).logs)) }
 {
     match command {
         Command::Begin { name, node } => {
@@ -110,9 +113,10 @@ fn ask_own<R: Wait>(
 
 /// Asks the world what the last command waits for, and for the replies about that.
 fn ask_questions<R: Wait>(rt: &R, alloc: Global, world: &mut World) -> Result<(), NoMemory>
-    requires { IsOpen (whole_of world.old) }
-    ensures ok { OnOk result (HasServed (fresh nodes) questions (whole_of world.old) (whole_of world.new)) }
-    ensures err { OnErr result (AreLeftOff (fresh nodes) questions (whole_of world.old) (logs_at (whole_of world.new).logs)) }
+    ghost start: { Start }
+    requires { IsSound start (whole_of world.old) }
+    ensures ok { OnOk result (HasServed start questions (whole_of world.old) (whole_of world.new)) }
+    ensures err { OnErr result (AreLeftOff start questions (whole_of world.old) (logs_at (whole_of world.new).logs)) }
 {
     ask(rt, alloc, world, ApiReq::Waits)?;
     ask(rt, alloc, world, ApiReq::Pending)
@@ -146,10 +150,11 @@ fn name_of(command: &Command) -> Option<u16>
 /// # Errors
 /// `NoMemory`, and then the world is of use for its logs alone.
 fn ask_about<R: Wait>(rt: &R, alloc: Global, world: &mut World) -> Result<(), NoMemory>
-    requires { IsOpen (whole_of world.old) }
-    ensures ok { OnOk result (HasGoneOn (fresh nodes) (whole_of world.old) (whole_of world.new) (is_left_open (whole_of world.old))) }
+    ghost start: { Start }
+    requires { IsSound start (whole_of world.old) }
+    ensures ok { OnOk result (HasGoneOn start (whole_of world.old) (whole_of world.new) (is_left_open (whole_of world.old))) }
     ensures opened { OnErr result (is_left_open (whole_of world.old) ≡ true) }
-    ensures err { OnErr result (AreLeftOff (fresh nodes) questions (whole_of world.old) (logs_at (whole_of world.new).logs)) }
+    ensures err { OnErr result (AreLeftOff start questions (whole_of world.old) (logs_at (whole_of world.new).logs)) }
 {
     if world.is_left_open() {
         return ask_questions(rt, alloc, world);
@@ -162,7 +167,8 @@ fn ask_about<R: Wait>(rt: &R, alloc: Global, world: &mut World) -> Result<(), No
 /// # Errors
 /// `NoMemory`, and then some replies may be lost.
 fn answers(alloc: Global, world: &mut World, command: &Command) -> Result<Vec<u8>, NoMemory>
-    requires { IsOpen (whole_of world.old) }
+    ghost start: { Start }
+    requires { IsSound start (whole_of world.old) }
     ensures told { OnOk result (whole_of world.new ≡ with_replies (whole_of world.old) []) }
     ensures text { IfOk result (λ text. text.items ≡ reply_lines (arranged (name_in command.now) (replies_of (whole_of world.old)))) }
     ensures err { OnErr result ((whole_of world.new).logs ≡ (whole_of world.old).logs) }
@@ -182,10 +188,11 @@ fn serve<R: Wait>(
     world: &mut World,
     command: &Command,
 ) -> Result<Vec<u8>, NoMemory>
-    requires opened { IsOpen (whole_of world.old) }
+    ghost start: { Start }
+    requires opened { IsSound start (whole_of world.old) }
     requires served { is_served command.now ≡ true }
-    ensures ok { IfOk result (λ text. ServesCommand (fresh nodes) command.now (whole_of world.old) (whole_of world.new) text.items) }
-    ensures err { OnErr result (AreLeft (fresh nodes) command.now (whole_of world.old) (whole_of world.new).logs) }
+    ensures ok { IfOk result (λ text. ServesCommand start command.now (whole_of world.old) (whole_of world.new) text.items) }
+    ensures err { OnErr result (AreLeft start command.now (whole_of world.old) (whole_of world.new).logs) }
 {
     ask_own(rt, alloc, world, command)?;
     ask_about(rt, alloc, world)?;
@@ -202,10 +209,11 @@ pub fn serve_command<R: Wait, K: Sink>(
     sink: &mut K,
     command: &Command,
 ) -> Option<Ending>
-    requires opened { IsOpen (whole_of world.old) }
+    ghost start: { Start }
+    requires opened { IsSound start (whole_of world.old) }
     requires served { is_served command.now ≡ true }
-    ensures printed { PrintsCommand (fresh nodes) command.now (whole_of world.old) (whole_of world.new) result (K.written sink.old) (K.written sink.new) }
-    ensures opened { IfNone result (IsOpen (whole_of world.new)) }
+    ensures printed { PrintsCommand start command.now (whole_of world.old) (whole_of world.new) result (K.written sink.old) (K.written sink.new) }
+    ensures opened { IfNone result (IsSound start (whole_of world.new)) }
     ensures unread { result ≡ Some ending.ReadFault → ⊥ }
     ensures cause { result ≡ Some ending.WriteFault → Rose (K.faults sink.old) (K.faults sink.new) }
     ensures steady { K.faults sink.old ≤ K.faults sink.new }

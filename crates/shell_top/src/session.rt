@@ -5,7 +5,7 @@ ghost use Rattle.host_io.specs.Fault.{Rose};
 ghost use Rattle.shell_top.specs.declared.ended.Ending.TheVariants as ending;
 ghost use Rattle.shell_top.specs.Reader.{IsPartial, is_newline};
 ghost use Rattle.shell_top.specs.Session.{GoesOn, GoesToEnd, IsOpen};
-ghost use Rattle.shell_top.specs.Lived.{nodes};
+ghost use Rattle.frag_map.specs.Shape.{IsShape};
 ghost use Rattle.world_core.specs.Lives.{fresh_life};
 ghost use Rattle.world_core.specs.Start.{fresh};
 ghost use Rattle.world_core.specs.World.{new_world};
@@ -13,13 +13,16 @@ ghost use Rattle.world_core.specs.WorldOf.{whole_of};
 
 use crate::ended::Ending;
 use crate::reader::{Filled, LINE_BYTES, Reader};
-use crate::script::{NODES, Parsed, parse};
+use crate::script::{Parsed, parse};
 use crate::serve::serve_command;
 use host_io::{Sink, Source};
-use sig_core::{Life, NoMemory};
+use sig_core::{Life, NoMemory, Shape};
 use std::alloc::Global;
 use std::sync::Wait;
 use world_core::World;
+
+/// The epoch in which a fresh cluster begins.
+const FIRST_EPOCH: u64 = 1;
 
 /// The most lines that a script has.
 const LINES: u32 = 65_536;
@@ -27,6 +30,7 @@ const LINES: u32 = 65_536;
 /// What a session works with.
 #[derive(Drop)]
 pub struct Session {
+    shape: Shape,
     reader: Reader,
     world: World,
     /// The number of the next line, from 1.
@@ -34,19 +38,22 @@ pub struct Session {
 }
 
 impl Session {
-    /// Before the first line, over a fresh world.
+    /// Before the first line, over a fresh world of a cluster of this shape.
     ///
     /// # Errors
     /// `NoMemory`.
-    pub fn new(alloc: Global) -> Result<Session, NoMemory>
+    pub fn new(alloc: Global, shape: Shape) -> Result<Session, NoMemory>
+        requires { IsShape shape }
+        ensures shape { IfOk result (λ s. s.shape ≡ shape) }
         ensures reader { IfOk result (λ s. s.reader ≡ []) }
-        ensures world { IfOk result (λ s. whole_of s.world ≡ new_world (fresh nodes)) }
-        ensures opened { IfOk result (λ s. IsOpen (whole_of s.world)) }
+        ensures world { IfOk result (λ s. whole_of s.world ≡ new_world (fresh shape)) }
+        ensures opened { IfOk result (λ s. IsOpen shape (whole_of s.world)) }
         ensures line { IfOk result (λ s. s.line ≡ 1) }
     {
         let reader = Reader::new(alloc)?;
-        let world = World::new(alloc, NODES)?;
+        let world = World::new(alloc, shape, FIRST_EPOCH, &[])?;
         Ok(Session {
+            shape,
             reader,
             world,
             line: 1,
@@ -68,7 +75,7 @@ impl Session {
         source: &mut S,
         sink: &mut K,
     ) -> Ending
-        requires opened { IsOpen (whole_of self.old.world) }
+        requires opened { IsOpen self.old.shape (whole_of self.old.world) }
         ensures done { GoesToEnd self.old self.new (S.left source.old) (S.left source.new) (K.written sink.old) (K.written sink.new) result }
         ensures read_cause { result ≡ ending.ReadFault → Rose (S.faults source.old) (S.faults source.new) }
         ensures write_cause { result ≡ ending.WriteFault → Rose (K.faults sink.old) (K.faults sink.new) }
@@ -90,9 +97,9 @@ impl Session {
         source: &mut S,
         sink: &mut K,
     ) -> Option<Ending>
-        requires opened { IsOpen (whole_of self.old.world) }
+        requires opened { IsOpen self.old.shape (whole_of self.old.world) }
         ensures done { GoesOn self.old self.new (S.left source.old) (S.left source.new) (K.written sink.old) (K.written sink.new) result }
-        ensures opened { IfNone result (IsOpen (whole_of self.new.world)) }
+        ensures opened { IfNone result (IsOpen self.new.shape (whole_of self.new.world)) }
         ensures next { IfNone result ((self.new.line ≡ self.old.line + 1) × (self.old.line ≤ 65536)) }
         ensures read_cause { result ≡ Some ending.ReadFault → Rose (S.faults source.old) (S.faults source.new) }
         ensures write_cause { result ≡ Some ending.WriteFault → Rose (K.faults sink.old) (K.faults sink.new) }
@@ -130,8 +137,8 @@ impl Session {
     ) -> Option<Ending>
         requires found { position is_newline self.old.reader ≡ Some at }
         requires low { self.old.line ≤ 65536 }
-        requires opened { IsOpen (whole_of self.old.world) }
-        ensures opened { IfNone result (IsOpen (whole_of self.new.world)) }
+        requires opened { IsOpen self.old.shape (whole_of self.old.world) }
+        ensures opened { IfNone result (IsOpen self.new.shape (whole_of self.new.world)) }
         ensures done { (left : Option (List ℕ)) → GoesOn self.old self.new left left (K.written sink.old) (K.written sink.new) result }
         ensures next { IfNone result (self.new.line ≡ self.old.line + 1) }
         ensures unread { result ≡ Some ending.ReadFault → ⊥ }
@@ -142,7 +149,7 @@ impl Session {
         if at > LINE_BYTES {
             return Some(Ending::TooLong { line });
         }
-        let parsed = parse(&self.reader.held()[..at]);
+        let parsed = parse(self.shape.nodes, &self.reader.held()[..at]);
         self.reader.drop_front(at + 1);
         self.line = line + 1;
         match &parsed {
@@ -160,7 +167,7 @@ impl Session {
     fn last_line<R: Wait, K: Sink>(&mut self, rt: &R, alloc: Global, sink: &mut K) -> Ending
         requires partial { IsPartial self.old.reader }
         requires low { 0 < length self.old.reader → self.old.line ≤ 65536 }
-        requires opened { IsOpen (whole_of self.old.world) }
+        requires opened { IsOpen self.old.shape (whole_of self.old.world) }
         ensures done { (left : Option (List ℕ)) → IsAtEnd left → GoesToEnd self.old self.new left left (K.written sink.old) (K.written sink.new) result }
         ensures unread { result ≡ ending.ReadFault → ⊥ }
         ensures write_cause { result ≡ ending.WriteFault → Rose (K.faults sink.old) (K.faults sink.new) }
@@ -171,7 +178,7 @@ impl Session {
         if held.is_empty() {
             return Ending::Finished;
         }
-        let parsed = parse(held);
+        let parsed = parse(self.shape.nodes, held);
         match &parsed {
             Parsed::Nothing => Ending::Finished,
             Parsed::Ask(command) => match serve_command(rt, alloc, &mut self.world, sink, command) {

@@ -1,8 +1,7 @@
 //! The replies that a world has for the shell.
 ghost use Rattle.std.specs.Prelude.{◌≡◌, [], IfOk, OnOk, OnErr};
-ghost use Rattle.shell_top.specs.Lived.{nodes};
 ghost use Rattle.world_core.specs.Driven.{IsSound};
-ghost use Rattle.world_core.specs.Start.{fresh};
+ghost use Rattle.world_core.specs.Start.{Start};
 ghost use Rattle.world_core.specs.World.{replies_of, with_replies};
 ghost use Rattle.world_core.specs.WorldOf.{whole_of};
 
@@ -15,7 +14,8 @@ use world_core::World;
 /// # Errors
 /// `NoMemory`, and then some replies may be lost.
 pub fn take_replies(alloc: Global, world: &mut World) -> Result<Vec<ApiReply>, NoMemory>
-    requires { IsSound (fresh nodes) (whole_of world.old) }
+    ghost start: { Start }
+    requires { IsSound start (whole_of world.old) }
     ensures told { OnOk result (whole_of world.new ≡ with_replies (whole_of world.old) []) }
     ensures replies { IfOk result (λ replies. replies.items ≡ replies_of (whole_of world.old)) }
     ensures err { OnErr result ((whole_of world.new).logs ≡ (whole_of world.old).logs) }

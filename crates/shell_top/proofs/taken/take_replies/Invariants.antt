@@ -5,9 +5,9 @@ use Rattle.shell_top.proofs.taken.take_replies.Given as goal
 
 -- the replies so far and those that are left are all
 abbrev pub invariant-loop-reply : goal.invariant-loop-reply
-invariant-loop-reply l = record {
+invariant-loop-reply g l = record {
   world : whole_of l.initial.world ≡ with_replies (whole_of l.world) (l.replies.items ++ replies_of (whole_of l.world));
 }
 
 abbrev pub decreases-loop-reply : goal.decreases-loop-reply
-decreases-loop-reply l = length (replies_of (whole_of l.world))
+decreases-loop-reply g l = length (replies_of (whole_of l.world))

@@ -8,42 +8,42 @@ use Rattle.shell_top.proofs.session.Session.last_line.Goals as goal
 
 pub returns-then-is_empty-clause-done : goal.returns-then-is_empty-clause-done
 returns-then-is_empty-clause-done g c left_now at_end left written u =
-    last_none left written left_now _ c.args.self.now.line c.args.self.now.reader _ u c.requires.partial c.requires.low at_end
+    last_none c.args.self.now.shape left written left_now _ c.args.self.now.line c.args.self.now.reader _ u c.requires.partial c.requires.low at_end
     (none_held c.args.self.now.reader c.held-held.result.now c.is_empty.result c.held-held.ensures c.is_empty.ensures c.if-is_empty.true)
 
 pub returns-in-Nothing-clause-done : goal.returns-in-Nothing-clause-done
 returns-in-Nothing-clause-done g c left_now at_end left written u =
-    let means : parsed_line c.args.self.now.reader ≡ parsed.Nothing = ap parsed_line (sym c.held-held.ensures) ∙ sym c.parse-parsed.ensures ∙ c.in-Nothing.is in
-    last_nothing left written left_now _ c.args.self.now.line c.args.self.now.reader _ u c.requires.partial c.requires.low at_end
+    let means : parsed_line c.args.self.now.shape.nodes c.args.self.now.reader ≡ parsed.Nothing = ap (parsed_line c.args.self.now.shape.nodes) (sym c.held-held.ensures) ∙ sym c.parse-parsed.ensures ∙ c.in-Nothing.is in
+    last_nothing c.args.self.now.shape left written left_now _ c.args.self.now.line c.args.self.now.reader _ u c.requires.partial c.requires.low at_end
     (some_held _ c.held-held.result.now c.is_empty.result c.held-held.ensures c.is_empty.ensures c.if-is_empty.false) means
 
 pub returns-in-None-clause-done : goal.returns-in-None-clause-done
 returns-in-None-clause-done g c left_now at_end left written u =
-    let means : parsed_line c.args.self.now.reader ≡ parsed.Ask c.in-Ask.command =
-    ap parsed_line (sym c.held-held.ensures) ∙ sym c.parse-parsed.ensures ∙ c.in-Ask.is in
-    last_command left written left_now _ c.args.self.now.line c.args.self.now.reader _ u c.requires.partial c.requires.low at_end _ _ c.in-Ask.command None
+    let means : parsed_line c.args.self.now.shape.nodes c.args.self.now.reader ≡ parsed.Ask c.in-Ask.command =
+    ap (parsed_line c.args.self.now.shape.nodes) (sym c.held-held.ensures) ∙ sym c.parse-parsed.ensures ∙ c.in-Ask.is in
+    last_command c.args.self.now.shape left written left_now _ c.args.self.now.line c.args.self.now.reader _ u c.requires.partial c.requires.low at_end _ _ c.in-Ask.command None
     (some_held _ c.held-held.result.now c.is_empty.result c.held-held.ensures c.is_empty.ensures c.if-is_empty.false) means c.in-None.ensures.printed
 
 pub returns-in-Some-clause-done : goal.returns-in-Some-clause-done
 returns-in-Some-clause-done g c left_now at_end left written u =
-    let means : parsed_line c.args.self.now.reader ≡ parsed.Ask c.in-Ask.command =
-    ap parsed_line (sym c.held-held.ensures) ∙ sym c.parse-parsed.ensures ∙ c.in-Ask.is in
-    last_command left written left_now _ c.args.self.now.line c.args.self.now.reader _ u c.requires.partial c.requires.low at_end _ _ c.in-Ask.command (Some c.in-Some.ending)
+    let means : parsed_line c.args.self.now.shape.nodes c.args.self.now.reader ≡ parsed.Ask c.in-Ask.command =
+    ap (parsed_line c.args.self.now.shape.nodes) (sym c.held-held.ensures) ∙ sym c.parse-parsed.ensures ∙ c.in-Ask.is in
+    last_command c.args.self.now.shape left written left_now _ c.args.self.now.line c.args.self.now.reader _ u c.requires.partial c.requires.low at_end _ _ c.in-Ask.command (Some c.in-Some.ending)
     (some_held _ c.held-held.result.now c.is_empty.result c.held-held.ensures c.is_empty.ensures c.if-is_empty.false) means c.in-Some.ensures.printed
 
 pub returns-in-Fault-clause-done : goal.returns-in-Fault-clause-done
 returns-in-Fault-clause-done g c left_now at_end left written u =
-    let means : parsed_line c.args.self.now.reader ≡ parsed.Fault c.in-Fault.fault =
-    ap parsed_line (sym c.held-held.ensures) ∙ sym c.parse-parsed.ensures ∙ c.in-Fault.is in
-    last_fault left written left_now _ c.args.self.now.line c.args.self.now.reader _ u c.requires.partial c.requires.low at_end c.in-Fault.fault
+    let means : parsed_line c.args.self.now.shape.nodes c.args.self.now.reader ≡ parsed.Fault c.in-Fault.fault =
+    ap (parsed_line c.args.self.now.shape.nodes) (sym c.held-held.ensures) ∙ sym c.parse-parsed.ensures ∙ c.in-Fault.is in
+    last_fault c.args.self.now.shape left written left_now _ c.args.self.now.line c.args.self.now.reader _ u c.requires.partial c.requires.low at_end c.in-Fault.fault
     (some_held _ c.held-held.result.now c.is_empty.result c.held-held.ensures c.is_empty.ensures c.if-is_empty.false) means
 
 pub returns-in-Quit-clause-done : goal.returns-in-Quit-clause-done
 returns-in-Quit-clause-done g c left_now at_end left written u =
-    let means : parsed_line c.args.self.now.reader ≡ parsed.Quit = ap parsed_line (sym c.held-held.ensures) ∙ sym c.parse-parsed.ensures ∙ c.in-Quit.is in
-    last_quit left written left_now _ c.args.self.now.line c.args.self.now.reader _ u c.requires.partial c.requires.low at_end
+    let means : parsed_line c.args.self.now.shape.nodes c.args.self.now.reader ≡ parsed.Quit = ap (parsed_line c.args.self.now.shape.nodes) (sym c.held-held.ensures) ∙ sym c.parse-parsed.ensures ∙ c.in-Quit.is in
+    last_quit c.args.self.now.shape left written left_now _ c.args.self.now.line c.args.self.now.reader _ u c.requires.partial c.requires.low at_end
     (some_held _ c.held-held.result.now c.is_empty.result c.held-held.ensures c.is_empty.ensures c.if-is_empty.false) means
 
 pub serve_command-requires-clause-served : goal.serve_command-requires-clause-served
 serve_command-requires-clause-served g c =
-    command_served c.args.self.now.reader c.in-Ask.command (ap parsed_line (sym c.held-held.ensures) ∙ sym c.parse-parsed.ensures ∙ c.in-Ask.is)
+    command_served c.args.self.now.shape.nodes c.args.self.now.reader c.in-Ask.command (ap (parsed_line c.args.self.now.shape.nodes) (sym c.held-held.ensures) ∙ sym c.parse-parsed.ensures ∙ c.in-Ask.is)

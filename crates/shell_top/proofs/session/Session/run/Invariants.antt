@@ -9,7 +9,7 @@ abbrev pub invariant-lines : goal.invariant-lines
 invariant-lines g l = record {
   under_way : GoesOn l.initial.self l.self (g.S.Source.left l.initial.source) (g.S.Source.left l.source)
       (g.K.Sink.written l.initial.sink) (g.K.Sink.written l.sink) None;
-  opened : IsOpen (whole_of l.self.world);
+  opened : IsOpen l.self.shape (whole_of l.self.world);
   read_steady : g.S.Source.faults l.initial.source ≤ g.S.Source.faults l.source;
   write_steady : g.K.Sink.faults l.initial.sink ≤ g.K.Sink.faults l.sink;
 }
