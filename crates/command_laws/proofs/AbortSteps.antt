@@ -26,14 +26,14 @@ use Rattle.world_core.specs.Hosts.{home, hosts}
 use Rattle.world_core.specs.Machine.{after}
 use Rattle.world_core.specs.Start.{Start}
 use Rattle.world_core.specs.Steps.{HostStep}
-use Rattle.commit_laws.specs.Counts.{one_if}
-use Rattle.answer_laws.proofs.HostSteps.{no_live}
-use Rattle.answer_laws.proofs.NodeOps.{absent_key}
-use Rattle.answer_laws.proofs.SendKinds.{none_of}
-use Rattle.answer_laws.proofs.TcMoves.{same_tx-is}
-use Rattle.answer_laws.proofs.TcSends.{tx_in}
-use Rattle.answer_laws.proofs.Wishes.{is_tc, sends_of}
-use Rattle.transit_laws.specs.Live.{of_live}
+use Rattle.host_laws.specs.Counts.{one_if}
+use Rattle.host_laws.proofs.HostSteps.{no_live}
+use Rattle.host_laws.proofs.NodeOps.{absent_key}
+use Rattle.host_laws.proofs.SendKinds.{none_of}
+use Rattle.host_laws.proofs.TcMoves.{same_tx-is}
+use Rattle.host_laws.proofs.TcSends.{tx_in}
+use Rattle.host_laws.proofs.Wishes.{is_tc, sends_of}
+use Rattle.run_laws.specs.Live.{of_live}
 use Rattle.command_laws.proofs.AbortTurns.{StaysLoose, is_loose, is_mild, is_more, is_requested, is_roll, loose_turn}
 use Rattle.command_laws.proofs.Homes.{lives_home, sound_at}
 use Rattle.command_laws.proofs.HostSends.{IsOfTc, is_other_kind}

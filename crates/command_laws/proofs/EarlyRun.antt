@@ -27,13 +27,13 @@ use Rattle.world_core.specs.Hosts.{home, hosts}
 use Rattle.world_core.specs.Machine.{after, machine, step_after}
 use Rattle.world_core.specs.Start.{Start}
 use Rattle.world_core.specs.Steps.{Addressed, HostStep}
-use Rattle.commit_laws.proofs.Tally.{tally_past}
-use Rattle.commit_laws.specs.Counts.{one_if}
-use Rattle.answer_laws.proofs.ApiBegins.{in_middle}
-use Rattle.answer_laws.proofs.LinkCounts.{signals}
-use Rattle.answer_laws.proofs.Wishes.{sends_of}
+use Rattle.host_laws.proofs.Tally.{tally_past}
+use Rattle.host_laws.specs.Counts.{one_if}
+use Rattle.host_laws.proofs.ApiBegins.{in_middle}
+use Rattle.host_laws.proofs.LinkCounts.{signals}
+use Rattle.host_laws.proofs.Wishes.{sends_of}
 use Rattle.answer_laws.specs.Answered.{AreQuiet}
-use Rattle.transit_laws.specs.Live.{of_live}
+use Rattle.run_laws.specs.Live.{of_live}
 use Rattle.command_laws.proofs.EarlyNodes.{host_clean, host_past}
 use Rattle.command_laws.proofs.EarlySteps.{GoesPast, IsOpenNow, IsPastNow, Leaves, StaysClean, is_bad, is_loss, is_wish_to}
 use Rattle.command_laws.proofs.Homes.{lives_home, sound_at}

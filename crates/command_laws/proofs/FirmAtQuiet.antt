@@ -12,11 +12,11 @@ use Rattle.world_core.specs.Hosts.{home, hosts}
 use Rattle.world_core.specs.Machine.{after}
 use Rattle.world_core.specs.Start.{Start}
 use Rattle.world_core.specs.Steps.{HostStep}
-use Rattle.commit_laws.proofs.Tally.{only_one}
-use Rattle.commit_laws.specs.Counts.{tally}
-use Rattle.answer_laws.proofs.Ahead.{live_tx}
-use Rattle.answer_laws.proofs.TcLives.{is_keyed}
-use Rattle.answer_laws.proofs.TcMoves.{same_tx-is}
+use Rattle.host_laws.proofs.Tally.{only_one}
+use Rattle.host_laws.specs.Counts.{tally}
+use Rattle.run_laws.proofs.AlongSteps.{live_tx}
+use Rattle.host_laws.proofs.TcLives.{is_keyed}
+use Rattle.host_laws.proofs.TcMoves.{same_tx-is}
 use Rattle.answer_laws.specs.Answered.{IsOpenAt}
 use Rattle.command_laws.proofs.Firm.{is_firm}
 use Rattle.command_laws.proofs.FirmHosts.{FirmHost}

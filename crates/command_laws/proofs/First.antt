@@ -30,8 +30,8 @@ use Rattle.world_core.specs.Machine.{IsAsked, after, asked_rightly, last_stamp, 
 use Rattle.world_core.specs.Requests.{request_in, requests}
 use Rattle.world_core.specs.Start.{Start}
 use Rattle.world_core.specs.Steps.{Addressed, HostStep}
-use Rattle.commit_laws.proofs.Tally.{tally_past}
-use Rattle.answer_laws.proofs.LinkCounts.{signals}
+use Rattle.host_laws.proofs.Tally.{tally_past}
+use Rattle.host_laws.proofs.LinkCounts.{signals}
 use Rattle.command_laws.proofs.HostSteps.{api_seen, request_step}
 use Rattle.command_laws.proofs.Since.{all_taken}
 use Rattle.command_laws.specs.Served.{IsServed}

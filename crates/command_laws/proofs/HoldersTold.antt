@@ -32,16 +32,17 @@ use Rattle.world_core.specs.Machine.{after, machine, step_after}
 use Rattle.world_core.specs.Requests.{request_in, requests}
 use Rattle.world_core.specs.Start.{Start}
 use Rattle.world_core.specs.Steps.{HostStep}
-use Rattle.commit_laws.proofs.Tally.{Counted, counted, tally_append, tally_between}
-use Rattle.commit_laws.specs.Counts.{one_if, tally}
-use Rattle.answer_laws.proofs.Ahead.{live_tx}
-use Rattle.answer_laws.proofs.ApiBegins.{in_middle}
-use Rattle.answer_laws.proofs.HostSteps.{no_live}
-use Rattle.answer_laws.proofs.LinkCounts.{steps, to_host}
+use Rattle.host_laws.proofs.Tally.{Counted, counted, tally_append, tally_between}
+use Rattle.host_laws.specs.Counts.{one_if, tally}
+use Rattle.run_laws.proofs.AlongSteps.{live_tx}
+use Rattle.host_laws.proofs.ApiBegins.{in_middle}
+use Rattle.host_laws.proofs.HostSteps.{no_live}
+use Rattle.host_laws.proofs.LinkCounts.{steps, to_host}
 use Rattle.answer_laws.proofs.Lives.{holds_at, live_low, once_started}
-use Rattle.answer_laws.proofs.Wishes.{sends_of}
-use Rattle.answer_laws.specs.Answered.{EachIsAnswered, IsLiveAs, is_answered_by, opened_after}
-use Rattle.transit_laws.specs.Live.{of_live}
+use Rattle.host_laws.proofs.Wishes.{sends_of}
+use Rattle.answer_laws.specs.Answered.{EachIsAnswered, IsLiveAs, is_answered_by}
+use Rattle.host_laws.specs.Opened.{opened_after}
+use Rattle.run_laws.specs.Live.{of_live}
 use Rattle.command_laws.proofs.First.{IsFirst, first_step, request_first, with_first}
 use Rattle.command_laws.proofs.HostKinds.{api_alone, api_no_rows, no_rows, replies_are}
 use Rattle.command_laws.proofs.HostSteps.{api_seen}

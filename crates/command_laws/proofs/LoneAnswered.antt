@@ -18,15 +18,16 @@ use Rattle.world_core.specs.Hosts.{home}
 use Rattle.world_core.specs.Machine.{after, step_after}
 use Rattle.world_core.specs.Start.{Start}
 use Rattle.world_core.specs.Steps.{HostStep}
-use Rattle.commit_laws.proofs.Tally.{tally_append}
-use Rattle.commit_laws.specs.Counts.{one_if}
+use Rattle.host_laws.proofs.Tally.{tally_append}
+use Rattle.host_laws.specs.Counts.{one_if}
 use Rattle.answer_laws.proofs.Begins.{no_begin}
-use Rattle.answer_laws.proofs.Hosts.{shell_after}
-use Rattle.answer_laws.proofs.LinkCounts.{steps}
+use Rattle.host_laws.proofs.Hosts.{shell_after}
+use Rattle.host_laws.proofs.LinkCounts.{steps}
 use Rattle.answer_laws.proofs.Lives.{holds_at, once_started}
-use Rattle.answer_laws.proofs.TcLives.{is_start}
-use Rattle.answer_laws.specs.Answered.{EachIsAnswered, WaitsForLock, is_answered_by, opened_after, opened_in}
-use Rattle.transit_laws.proofs.Weighing.{none_passes}
+use Rattle.host_laws.proofs.TcLives.{is_start}
+use Rattle.answer_laws.specs.Answered.{EachIsAnswered, WaitsForLock, is_answered_by}
+use Rattle.host_laws.specs.Opened.{opened_after, opened_in}
+use Rattle.run_laws.proofs.Weighing.{none_passes}
 use Rattle.command_laws.proofs.Committed.{calm_at, sent_append}
 use Rattle.command_laws.proofs.EarlySteps.{IsOpenNow, OpenOption, is_wish_to}
 use Rattle.command_laws.proofs.EndsWell.{ended_well, replied}

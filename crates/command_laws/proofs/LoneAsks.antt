@@ -34,16 +34,16 @@ use Rattle.world_core.proofs.HostNumbers.{api_runs}
 use Rattle.world_core.specs.Machine.{after}
 use Rattle.world_core.specs.Start.{Start}
 use Rattle.world_core.specs.Steps.{HostStep}
-use Rattle.commit_laws.proofs.Tally.{tally_append, tally_none}
-use Rattle.commit_laws.specs.Counts.{one_if, tally}
-use Rattle.answer_laws.proofs.ApiBegins.{in_middle}
-use Rattle.answer_laws.proofs.LinkCounts.{steps}
-use Rattle.answer_laws.proofs.SendKinds.{are_of, none_of}
-use Rattle.answer_laws.proofs.TcKeys.{is_key, key_of_tx}
-use Rattle.answer_laws.proofs.TcLives.{is_start, start_of}
-use Rattle.answer_laws.proofs.TcMoves.{same_tx-is}
-use Rattle.answer_laws.proofs.Wishes.{is_api, is_tc, sends_of}
-use Rattle.answer_laws.specs.Answered.{opened_in}
+use Rattle.host_laws.proofs.Tally.{tally_append, tally_none}
+use Rattle.host_laws.specs.Counts.{one_if, tally}
+use Rattle.host_laws.proofs.ApiBegins.{in_middle}
+use Rattle.host_laws.proofs.LinkCounts.{steps}
+use Rattle.host_laws.proofs.SendKinds.{are_of, none_of}
+use Rattle.host_laws.proofs.TcKeys.{is_key, key_of_tx}
+use Rattle.host_laws.proofs.TcLives.{is_start, start_of}
+use Rattle.host_laws.proofs.TcMoves.{same_tx-is}
+use Rattle.host_laws.proofs.Wishes.{is_api, is_tc, sends_of}
+use Rattle.host_laws.specs.Opened.{opened_in}
 use Rattle.command_laws.proofs.ApiChanges.{ApiChange, GoesOnAs, alone, answers, api_changes, commits, ends, idle, is_news_kind, is_row_reply, refuses, rests, starts, told, waits}
 use Rattle.command_laws.proofs.Entries.{HasOne}
 use Rattle.command_laws.proofs.HostKinds.{replies_are}

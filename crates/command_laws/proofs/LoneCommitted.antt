@@ -31,15 +31,16 @@ use Rattle.world_core.specs.Hosts.{home, host_for, hosts}
 use Rattle.world_core.specs.Machine.{after, machine, step_after}
 use Rattle.world_core.specs.Start.{Start}
 use Rattle.world_core.specs.Steps.{HostStep}
-use Rattle.commit_laws.proofs.Tally.{tally_append, tally_in}
-use Rattle.commit_laws.specs.Counts.{one_if, tally}
-use Rattle.answer_laws.proofs.ApiBegins.{in_middle}
-use Rattle.answer_laws.proofs.LinkCounts.{all_three, signals, steps}
+use Rattle.host_laws.proofs.Tally.{tally_append, tally_in}
+use Rattle.host_laws.specs.Counts.{one_if, tally}
+use Rattle.host_laws.proofs.ApiBegins.{in_middle}
+use Rattle.host_laws.proofs.LinkCounts.{all_three, signals, steps}
 use Rattle.answer_laws.proofs.Lives.{once_started}
-use Rattle.answer_laws.proofs.TcKeys.{answer_of, is_asked, is_key, key_of_tx}
-use Rattle.answer_laws.proofs.TcLives.{is_keyed, is_start}
-use Rattle.answer_laws.proofs.Wishes.{is_api, is_tc}
-use Rattle.answer_laws.specs.Answered.{EachIsAnswered, is_answered_by, opened_after, opened_in}
+use Rattle.host_laws.proofs.TcKeys.{answer_of, is_asked, is_key, key_of_tx}
+use Rattle.host_laws.proofs.TcLives.{is_keyed, is_start}
+use Rattle.host_laws.proofs.Wishes.{is_api, is_tc}
+use Rattle.answer_laws.specs.Answered.{EachIsAnswered, is_answered_by}
+use Rattle.host_laws.specs.Opened.{opened_after, opened_in}
 use Rattle.command_laws.proofs.Committed.{cut_at_first, sent_append}
 use Rattle.command_laws.proofs.Entries.{HasOne}
 use Rattle.command_laws.proofs.EntryGoes.{HasEnded, commit_goes}

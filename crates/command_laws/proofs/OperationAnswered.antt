@@ -13,8 +13,9 @@ use Rattle.world_core.specs.Hosts.{home}
 use Rattle.world_core.specs.Machine.{after, step_after}
 use Rattle.world_core.specs.Start.{Start}
 use Rattle.world_core.specs.Steps.{HostStep}
-use Rattle.answer_laws.proofs.Ahead.{live_tx}
-use Rattle.answer_laws.specs.Answered.{EachIsAnswered, IsOpenAt, WaitsForLock, is_answered_by, opened_after, opened_in}
+use Rattle.run_laws.proofs.AlongSteps.{live_tx}
+use Rattle.answer_laws.specs.Answered.{EachIsAnswered, IsOpenAt, WaitsForLock, is_answered_by}
+use Rattle.host_laws.specs.Opened.{opened_after, opened_in}
 use Rattle.command_laws.proofs.Committed.{sent_append}
 use Rattle.command_laws.proofs.EarlySteps.{IsOpenNow, OpenOption, is_wish_to}
 use Rattle.command_laws.proofs.EndsWell.{ended_well, replied}

@@ -27,14 +27,14 @@ use Rattle.world_core.proofs.HostNumbers.{api_runs}
 use Rattle.world_core.specs.Machine.{after, step_after}
 use Rattle.world_core.specs.Start.{Start}
 use Rattle.world_core.specs.Steps.{HostStep}
-use Rattle.answer_laws.proofs.ApiBegins.{each_at, each_changed, each_less}
-use Rattle.answer_laws.proofs.DihSends.{dih_kinds}
-use Rattle.answer_laws.proofs.LqhOps.{left_of}
-use Rattle.answer_laws.proofs.LqhSends.{lqh_kinds}
-use Rattle.answer_laws.proofs.SendKinds.{are_of, is_dih_kind, is_lqh_kind, is_tc_kind, none_of, of_kind}
-use Rattle.answer_laws.proofs.TcSends.{tc_kinds, tx_in}
-use Rattle.answer_laws.proofs.Wishes.{is_tc, sends_of}
-use Rattle.answer_laws.specs.Answered.{opened_in}
+use Rattle.host_laws.proofs.ApiBegins.{each_at, each_changed, each_less}
+use Rattle.host_laws.proofs.DihSends.{dih_kinds}
+use Rattle.host_laws.proofs.LqhOps.{left_of}
+use Rattle.host_laws.proofs.LqhSends.{lqh_kinds}
+use Rattle.host_laws.proofs.SendKinds.{are_of, is_dih_kind, is_lqh_kind, is_tc_kind, none_of, of_kind}
+use Rattle.host_laws.proofs.TcSends.{tc_kinds, tx_in}
+use Rattle.host_laws.proofs.Wishes.{is_tc, sends_of}
+use Rattle.host_laws.specs.Opened.{opened_in}
 use Rattle.command_laws.proofs.ApiChanges.{ApiChange, answers, api_changes, commits, ends, is_news_kind, refuses, rests, starts, waits}
 use Rattle.command_laws.proofs.Entries.{NoneBegins}
 use Rattle.command_laws.proofs.FirmHosts.{is_push_to, push_of}

@@ -34,10 +34,10 @@ use Rattle.world_core.specs.Hosts.{Membership, first_membership, hosts, member_a
 use Rattle.world_core.specs.Machine.{after, all_addressed, counted, machine, sent_count, signals_of, step_after}
 use Rattle.world_core.specs.Start.{Start, made}
 use Rattle.world_core.specs.Steps.{Addressed, HostStep}
-use Rattle.answer_laws.proofs.ApiMoves.{is_api_kind}
-use Rattle.answer_laws.proofs.DihSends.{dih_kinds}
-use Rattle.answer_laws.proofs.SendKinds.{are_of, each_of, is_dih_kind, of_kind}
-use Rattle.transit_laws.proofs.WaysPassed.{api_each}
+use Rattle.host_laws.proofs.ApiMoves.{is_api_kind}
+use Rattle.host_laws.proofs.DihSends.{dih_kinds}
+use Rattle.host_laws.proofs.SendKinds.{are_of, each_of, is_dih_kind, of_kind}
+use Rattle.run_laws.proofs.WaysPassed.{api_each}
 use Rattle.command_laws.proofs.HostKinds.{replies_are}
 use Rattle.command_laws.proofs.LivingReplies.{AllLiving, api_lives}
 use Rattle.command_laws.proofs.LivingRows.{lqh_sound}

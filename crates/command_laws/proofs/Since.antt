@@ -16,12 +16,12 @@ use Rattle.world_core.specs.Hosts.{host_for, hosts}
 use Rattle.world_core.specs.Machine.{machine, step_after}
 use Rattle.world_core.specs.Start.{Start}
 use Rattle.world_core.specs.Steps.{Addressed, HostStep}
-use Rattle.commit_laws.proofs.Tally.{tally_past}
-use Rattle.commit_laws.specs.Counts.{one_if, tally}
-use Rattle.answer_laws.proofs.LinkCounts.{sent_signals, signals, taken_signals, to_host}
-use Rattle.answer_laws.proofs.Wishes.{sends_of}
+use Rattle.host_laws.proofs.Tally.{tally_past}
+use Rattle.host_laws.specs.Counts.{one_if, tally}
+use Rattle.host_laws.proofs.LinkCounts.{sent_signals, signals, taken_signals, to_host}
+use Rattle.host_laws.proofs.Wishes.{sends_of}
 use Rattle.answer_laws.specs.Answered.{AreQuiet}
-use Rattle.transit_laws.proofs.Weighing.{none_passes}
+use Rattle.run_laws.proofs.Weighing.{none_passes}
 
 module _ (start : Start) (test : Place → Body → Bool) where
   -- how many signals that pass the test the newer steps of host h sent, behind its log

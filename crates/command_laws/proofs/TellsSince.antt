@@ -10,11 +10,11 @@ use Rattle.world_core.specs.Hosts.{home, hosts}
 use Rattle.world_core.specs.Machine.{after, step_after}
 use Rattle.world_core.specs.Start.{Start}
 use Rattle.world_core.specs.Steps.{HostStep}
-use Rattle.commit_laws.specs.Counts.{one_if}
-use Rattle.answer_laws.proofs.ApiMoves.{goes}
-use Rattle.answer_laws.proofs.LinkCounts.{steps}
-use Rattle.answer_laws.proofs.TcKeys.{is_key}
-use Rattle.answer_laws.proofs.Wishes.{sends_of}
+use Rattle.host_laws.specs.Counts.{one_if}
+use Rattle.host_laws.proofs.ApiMoves.{goes}
+use Rattle.host_laws.proofs.LinkCounts.{steps}
+use Rattle.host_laws.proofs.TcKeys.{is_key}
+use Rattle.host_laws.proofs.Wishes.{sends_of}
 use Rattle.command_laws.proofs.FirmHosts.{is_back}
 use Rattle.command_laws.proofs.Homes.{lives_home, sound_at}
 use Rattle.command_laws.proofs.HostSends.{not_of_api, shell_silent}

@@ -25,7 +25,7 @@ use Rattle.node_core.specs.Replies.{replies_of}
 use Rattle.world_core.specs.Machine.{after}
 use Rattle.world_core.specs.Start.{Start}
 use Rattle.world_core.specs.Steps.{HostStep}
-use Rattle.answer_laws.specs.Answered.{opened_in}
+use Rattle.host_laws.specs.Opened.{opened_in}
 use Rattle.command_laws.proofs.First.{IsFirst, first_step, request_first}
 use Rattle.command_laws.proofs.HostKinds.{replies_are}
 use Rattle.command_laws.proofs.Told.{told_since}

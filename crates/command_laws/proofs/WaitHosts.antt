@@ -19,10 +19,10 @@ use Rattle.world_core.specs.Hosts.{home, rows_host}
 use Rattle.world_core.specs.Machine.{after}
 use Rattle.world_core.specs.Start.{Start}
 use Rattle.world_core.specs.Steps.{HostStep}
-use Rattle.commit_laws.specs.Counts.{one_if, tally}
-use Rattle.answer_laws.proofs.LinkCounts.{steps, to_host}
-use Rattle.answer_laws.proofs.Wishes.{sends_of}
-use Rattle.transit_laws.specs.Live.{of_live}
+use Rattle.host_laws.specs.Counts.{one_if, tally}
+use Rattle.host_laws.proofs.LinkCounts.{steps, to_host}
+use Rattle.host_laws.proofs.Wishes.{sends_of}
+use Rattle.run_laws.specs.Live.{of_live}
 use Rattle.command_laws.proofs.HostKinds.{node_runs_none}
 use Rattle.command_laws.proofs.HostSteps.{api_seen}
 use Rattle.command_laws.proofs.Since.{sent_since, sent_since_to}

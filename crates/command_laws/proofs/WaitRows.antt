@@ -43,16 +43,16 @@ use Rattle.tc_block.specs.Tc.{pass_if, pass_row, tc_table, tc_row}
 use Rattle.world_core.proofs.HostNumbers.{client_host}
 use Rattle.world_core.specs.Hosts.{home, host_for, rows_host}
 use Rattle.world_core.specs.Start.{Start}
-use Rattle.commit_laws.proofs.Tally.{tally_in}
-use Rattle.commit_laws.specs.Counts.{one_if}
-use Rattle.answer_laws.proofs.HostSteps.{no_live}
-use Rattle.answer_laws.proofs.LinkCounts.{to_host}
-use Rattle.answer_laws.proofs.LqhOps.{is_lqh, true_and}
-use Rattle.answer_laws.proofs.SendKinds.{are_of, none_of, of_map, one_kind}
-use Rattle.answer_laws.proofs.TcMoves.{same_tx-is}
-use Rattle.answer_laws.proofs.TcSends.{eqb-self}
-use Rattle.answer_laws.proofs.Wishes.{is_api, is_tc, sends_of}
-use Rattle.transit_laws.specs.Live.{of_live}
+use Rattle.host_laws.proofs.Tally.{tally_in}
+use Rattle.host_laws.specs.Counts.{one_if}
+use Rattle.host_laws.proofs.HostSteps.{no_live}
+use Rattle.host_laws.proofs.LinkCounts.{to_host}
+use Rattle.host_laws.proofs.LqhOps.{is_lqh, true_and}
+use Rattle.host_laws.proofs.SendKinds.{are_of, none_of, of_map, one_kind}
+use Rattle.host_laws.proofs.TcMoves.{same_tx-is}
+use Rattle.host_laws.proofs.TcSends.{eqb-self}
+use Rattle.host_laws.proofs.Wishes.{is_api, is_tc, sends_of}
+use Rattle.run_laws.specs.Live.{of_live}
 use Rattle.command_laws.proofs.HostKinds.{no_rows, runs_rows}
 use Rattle.command_laws.proofs.HostSteps.{tc_host}
 

@@ -29,12 +29,12 @@ use Rattle.world_core.specs.Machine.{IsAsked, after, machine, step_after}
 use Rattle.world_core.specs.Requests.{request_in, requests}
 use Rattle.world_core.specs.Start.{Start}
 use Rattle.world_core.specs.Steps.{Addressed, HostStep}
-use Rattle.commit_laws.proofs.Tally.{tally_past}
-use Rattle.commit_laws.specs.Counts.{one_if, tally}
-use Rattle.answer_laws.proofs.LinkCounts.{sent_signals, signals}
-use Rattle.answer_laws.proofs.Wishes.{sends_of}
+use Rattle.host_laws.proofs.Tally.{tally_past}
+use Rattle.host_laws.specs.Counts.{one_if, tally}
+use Rattle.host_laws.proofs.LinkCounts.{sent_signals, signals}
+use Rattle.host_laws.proofs.Wishes.{sends_of}
 use Rattle.answer_laws.specs.Answered.{AreQuiet}
-use Rattle.transit_laws.specs.Live.{of_live}
+use Rattle.run_laws.specs.Live.{of_live}
 use Rattle.command_laws.proofs.First.{fits_asked, requests_append, with_first}
 use Rattle.command_laws.proofs.Since.{fewer, link_sent}
 use Rattle.command_laws.proofs.TellsSince.{OnTc}

@@ -25,9 +25,9 @@ use Rattle.world_core.specs.Hosts.{hosts, rows_host}
 use Rattle.world_core.specs.Machine.{after}
 use Rattle.world_core.specs.Start.{Start}
 use Rattle.world_core.specs.Steps.{HostStep}
-use Rattle.commit_laws.proofs.Replicas.{logs_keep_well}
-use Rattle.answer_laws.proofs.ApiBegins.{in_middle}
-use Rattle.answer_laws.proofs.Wishes.{is_api, is_tc, sends_of}
+use Rattle.host_laws.proofs.Replicas.{logs_keep_well}
+use Rattle.host_laws.proofs.ApiBegins.{in_middle}
+use Rattle.host_laws.proofs.Wishes.{is_api, is_tc, sends_of}
 use Rattle.answer_laws.specs.Answered.{AreQuiet}
 use Rattle.command_laws.proofs.Homes.{ahead_rows}
 use Rattle.command_laws.proofs.HostKinds.{node_runs_none}
