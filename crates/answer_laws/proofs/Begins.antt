@@ -207,7 +207,7 @@ module _ (start : Start) where
   -- one more step of the shell's host
   module _ (e : HostStep) (logs : ℕ → List HostStep) (right : AreLogs (machine start) logs) (in_n : IsWithin (hosts start) logs) (balanced : AreBalanced start logs)
       (given : is_request e.step.taken.body ≡ false
-          → IsGiven (machine start) e.step.taken.from.0 0 (logs e.step.taken.from.0) (record { to = e.host; signal = e.step.taken } ∷ taken (machine start) e.step.taken.from.0 (logs 0)))
+      → IsGiven (machine start) e.step.taken.from.0 0 (logs e.step.taken.from.0) (record { to = e.host; signal = e.step.taken } ∷ taken (machine start) e.step.taken.from.0 (logs 0)))
       (name : Option ℕ) (node : ℕ) (some : 1 ≤ node) (low : node ≤ start.shape.nodes) where
     abbrev x : Signal
     x = e.step.taken

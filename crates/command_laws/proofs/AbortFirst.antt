@@ -64,7 +64,9 @@ abort_first start s name t tx is ready own were = record {
   };
   named = subst (AreNamed tx) (sym opened) were;
   more = ap (λ (step : Step ApiState). sends_of (is_more_to tx) step.effects.sends) now;
-  rolls = subst (λ (step : Step ApiState). 1 ≤ sends_of (to_host start (home start tx) (is_roll_to tx)) step.effects.sends) (sym now) (counts (home start tx == home start tx) (same_tx tx tx) (eqb-self (home start tx)) (same_tx-self tx));
+  rolls = subst
+      (λ (step : Step ApiState). 1 ≤ sends_of (to_host start (home start tx) (is_roll_to tx)) step.effects.sends)
+      (sym now) (counts (home start tx == home start tx) (same_tx tx tx) (eqb-self (home start tx)) (same_tx-self tx));
 }
   where
     f : IsNamed s.opened name t

@@ -68,7 +68,8 @@ module _ (answered : EachIsAnswered) (start : Start) (was now : ℕ → List Hos
   cut = cut_at_first was now f.later f.first f.is served.cut
 
   asked : IsAsked tx name (api_seen (step_after start 0 (was 0) f.first))
-  asked = subst (IsAsked tx name) (sym (first_step start was now (Commit name) f)) (commit_first (api_of (after start 0 (was 0))) name t tx named ready own (calm_at start was served.before))
+  asked = subst (IsAsked tx name) (sym (first_step start was now (Commit name) f))
+      (commit_first (api_of (after start 0 (was 0))) name t tx named ready own (calm_at start was served.before))
 
   is_open : IsOpenAt tx (after start (home start tx) (was (home start tx)))
   is_open = by t.doing t.tx ready own (answered start was t served.before there)

@@ -104,7 +104,8 @@ pub record IsFirst (start : Start) (was now : ℕ → List HostStep) (request : 
 -- it is what the API does at the request
 pub first_step : (start : Start) (was now : ℕ → List HostStep) (request : ApiReq) (f : IsFirst start was now request)
     → api_seen (step_after start 0 (was 0) f.first) ≡ request_row (api_of (after start 0 (was 0))) request
-first_step start was now request f = request_step (after start 0 (was 0)) f.first.step.taken request (api_runs start (was 0)) f.place f.body
+first_step start was now request f = request_step (after start 0 (was 0)) f.first.step.taken request
+    (api_runs start (was 0)) f.place f.body
 
 module _ (start : Start) (was now : ℕ → List HostStep) (request : ApiReq) (served : IsServed start was now request) where
   -- what comes at a quiet moment is no signal that a link gave

@@ -169,7 +169,8 @@ module _ (start : Start) (logs : ℕ → List HostStep) (quiet : AreQuiet start 
               absurd (omega (
                 arith,
                 few_waiting tx,
-                total_two (hosts start) (λ h. waiting_in tx (after start h (logs h))) queued_host waits_host queued_low (host_below start (rows_of waits.node) waits.from waits.to) apart,
+                total_two (hosts start) (λ h. waiting_in tx (after start h (logs h))) queued_host waits_host queued_low
+                    (host_below start (rows_of waits.node) waits.from waits.to) apart,
                 some_queued (after start queued_host (logs queued_host)) queued.there,
                 some_waiting (after start waits_host (logs waits_host)) waits.there,
               ))
@@ -193,7 +194,8 @@ module _ (start : Start) (logs : ℕ → List HostStep) (quiet : AreQuiet start 
             request = q.request;
             on = key_is;
             routed_so = each_in (λ (x : Request). IsRequestRouted start (lqh_of g).node x) q.request (lqh_of g).waiting r.waiting q.waits;
-            held = ap (λ k. is_some (ahead_at (lqh_of g).locks k tx)) (sym key_is) ∙ ap (λ v. is_some (ahead_at (lqh_of g).locks (work_key q.request.work) v)) (sym q.own)
+            held = ap (λ k. is_some (ahead_at (lqh_of g).locks k tx)) (sym key_is)
+                ∙ ap (λ v. is_some (ahead_at (lqh_of g).locks (work_key q.request.work) v)) (sym q.own)
                 ∙ is_held (is_some (ahead_at (lqh_of g).locks (work_key q.request.work) q.request.tx)) q.queued;
           }
 
@@ -217,7 +219,8 @@ module _ (start : Start) (logs : ℕ → List HostStep) (quiet : AreQuiet start 
       at_member = member_at for.request.chain for.request.at for.routed_so.sent.inside
 
       rows_own : IsRowsHost start queued_host (lqh_of (after start queued_host (logs queued_host))).node
-      rows_own = rows_node start queued_host (logs queued_host) queued_low (rows_run start queued.node (logs queued_host) queued.from queued.to)
+      rows_own = rows_node start queued_host (logs queued_host) queued_low
+          (rows_run start queued.node (logs queued_host) queued.from queued.to)
 
       own_node : (lqh_of (after start queued_host (logs queued_host))).node ≡ at_member.member.node
       own_node = for.routed_so.sent.node_is ∙ at_member.node_is

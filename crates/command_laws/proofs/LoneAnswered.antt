@@ -78,7 +78,9 @@ module _ (answered : EachIsAnswered) (start : Start) (was now : ℕ → List Hos
   f = request_first start was now (Operate None op) served
 
   asked : IsAskedAlone op (api_seen (step_after start 0 (was 0) f.first))
-  asked = subst (IsAskedAlone op) (sym (first_step start was now (Operate None op) f)) (alone_first start (api_of (after start 0 (was 0))) op (shell_view start (was 0)) served.before.shape.nodes_some (calm_at start was served.before))
+  asked = subst (IsAskedAlone op) (sym (first_step start was now (Operate None op) f))
+      (alone_first start (api_of (after start 0 (was 0))) op (shell_view start (was 0)) served.before.shape.nodes_some
+      (calm_at start was served.before))
 
   answered_alone : HasAnswered None start f.later (f.first ∷ was 0) → IsAnsweredAlone start was now
   answered_alone a = record {
@@ -115,7 +117,8 @@ module _ (answered : EachIsAnswered) (start : Start) (was now : ℕ → List Hos
     no_wishes = omega (arith, sent_append start (is_wish_to b.tx) 0 f.later (f.first ∷ []) (was 0), wishes b.tx, asked.wishes b.tx)
 
     open_was : (h : ℕ) → home start b.tx ≡ h → OnTc (IsOpenNow b.tx) (after start h (was h))
-    open_was h at = record { open_now = subst OpenOption (sym (unborn_there start was served.before b.tx h unbegun)) tt }
+    open_was h at =
+        record { open_now = subst OpenOption (sym (unborn_there start was served.before b.tx h unbegun)) tt }
 
     refused : HasEnded b.tx None start f.later (f.first ∷ was 0) → IsRefusedAlone start was now
     refused ended =

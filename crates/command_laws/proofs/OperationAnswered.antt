@@ -38,7 +38,8 @@ module _ (answered : EachIsAnswered) (start : Start) (was now : ℕ → List Hos
   were = named_at start was served.before name t tx named own
 
   asked : IsAskedFor tx name (api_seen (step_after start 0 (was 0) f.first))
-  asked = subst (IsAskedFor tx name) (sym (first_step start was now (Operate (Some name) op) f)) (operate_first (api_of (after start 0 (was 0))) name op t tx named ready own few were)
+  asked = subst (IsAskedFor tx name) (sym (first_step start was now (Operate (Some name) op) f))
+      (operate_first (api_of (after start 0 (was 0))) name op t tx named ready own few were)
 
   is_open : IsOpenAt tx (after start (home start tx) (was (home start tx)))
   is_open = ready_open start was served.before name t tx named own answered ready
