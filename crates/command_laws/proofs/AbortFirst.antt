@@ -20,11 +20,11 @@ use Rattle.api_block.specs.State.{ApiState, about, refused}
 use Rattle.node_core.specs.Row.{row}
 use Rattle.world_core.specs.Hosts.{home}
 use Rattle.world_core.specs.Start.{Start}
-use Rattle.commit_laws.specs.Counts.{one_if}
-use Rattle.answer_laws.proofs.ApiBegins.{in_middle}
-use Rattle.answer_laws.proofs.LinkCounts.{to_host}
-use Rattle.answer_laws.proofs.TcSends.{eqb-self}
-use Rattle.answer_laws.proofs.Wishes.{sends_of}
+use Rattle.host_laws.specs.Counts.{one_if}
+use Rattle.host_laws.proofs.ApiBegins.{in_middle}
+use Rattle.host_laws.proofs.LinkCounts.{to_host}
+use Rattle.host_laws.proofs.TcSends.{eqb-self}
+use Rattle.host_laws.proofs.Wishes.{sends_of}
 use Rattle.command_laws.proofs.AbortSteps.{is_more_to, is_roll_to}
 use Rattle.command_laws.proofs.Entries.{HasOne, IsNamed, named_found}
 use Rattle.command_laws.proofs.OperateAsks.{AreNamed}
@@ -64,7 +64,9 @@ abort_first start s name t tx is ready own were = record {
   };
   named = subst (AreNamed tx) (sym opened) were;
   more = ap (λ (step : Step ApiState). sends_of (is_more_to tx) step.effects.sends) now;
-  rolls = subst (λ (step : Step ApiState). 1 ≤ sends_of (to_host start (home start tx) (is_roll_to tx)) step.effects.sends) (sym now) (counts (home start tx == home start tx) (same_tx tx tx) (eqb-self (home start tx)) (same_tx-self tx));
+  rolls = subst
+      (λ (step : Step ApiState). 1 ≤ sends_of (to_host start (home start tx) (is_roll_to tx)) step.effects.sends)
+      (sym now) (counts (home start tx == home start tx) (same_tx tx tx) (eqb-self (home start tx)) (same_tx-self tx));
 }
   where
     f : IsNamed s.opened name t

@@ -19,10 +19,11 @@ use Rattle.world_core.specs.Hosts.{home, hosts}
 use Rattle.world_core.specs.Machine.{after, step_after}
 use Rattle.world_core.specs.Start.{Start}
 use Rattle.world_core.specs.Steps.{HostStep}
-use Rattle.answer_laws.proofs.ApiBegins.{in_middle}
+use Rattle.host_laws.proofs.ApiBegins.{in_middle}
 use Rattle.answer_laws.proofs.Begins.{no_begin}
-use Rattle.answer_laws.proofs.Wishes.{is_tc, sends_of}
-use Rattle.answer_laws.specs.Answered.{AreQuiet, EachIsAnswered, IsOpenAt, is_answered_by, opened_after, opened_in}
+use Rattle.host_laws.proofs.Wishes.{is_tc, sends_of}
+use Rattle.answer_laws.specs.Answered.{AreQuiet, EachIsAnswered, IsOpenAt, is_answered_by}
+use Rattle.host_laws.specs.Opened.{opened_after, opened_in}
 use Rattle.command_laws.proofs.CommitFirst.{IsAsked, commit_first}
 use Rattle.command_laws.proofs.Entries.{HasOne, IsNamed, NoneBegins, named_found}
 use Rattle.command_laws.proofs.EntryGoes.{HasEnded, commit_goes}
@@ -67,7 +68,8 @@ module _ (answered : EachIsAnswered) (start : Start) (was now : ℕ → List Hos
   cut = cut_at_first was now f.later f.first f.is served.cut
 
   asked : IsAsked tx name (api_seen (step_after start 0 (was 0) f.first))
-  asked = subst (IsAsked tx name) (sym (first_step start was now (Commit name) f)) (commit_first (api_of (after start 0 (was 0))) name t tx named ready own (calm_at start was served.before))
+  asked = subst (IsAsked tx name) (sym (first_step start was now (Commit name) f))
+      (commit_first (api_of (after start 0 (was 0))) name t tx named ready own (calm_at start was served.before))
 
   is_open : IsOpenAt tx (after start (home start tx) (was (home start tx)))
   is_open = by t.doing t.tx ready own (answered start was t served.before there)

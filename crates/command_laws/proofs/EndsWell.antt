@@ -23,8 +23,8 @@ use Rattle.world_core.specs.Hosts.{home}
 use Rattle.world_core.specs.Machine.{after}
 use Rattle.world_core.specs.Start.{Start}
 use Rattle.world_core.specs.Steps.{HostStep}
-use Rattle.answer_laws.proofs.ApiBegins.{in_middle}
-use Rattle.answer_laws.proofs.Wishes.{is_tc}
+use Rattle.host_laws.proofs.ApiBegins.{in_middle}
+use Rattle.host_laws.proofs.Wishes.{is_tc}
 use Rattle.command_laws.proofs.ApiChanges.{outcome_in}
 use Rattle.command_laws.proofs.Committed.{cut_at_first}
 use Rattle.command_laws.proofs.EarlyRun.{no_bad}

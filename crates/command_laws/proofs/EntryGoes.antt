@@ -26,9 +26,9 @@ use Rattle.world_core.proofs.HostNumbers.{api_runs}
 use Rattle.world_core.specs.Machine.{after, step_after}
 use Rattle.world_core.specs.Start.{Start}
 use Rattle.world_core.specs.Steps.{HostStep}
-use Rattle.answer_laws.proofs.ApiBegins.{in_middle}
-use Rattle.answer_laws.proofs.LqhOps.{left_of}
-use Rattle.answer_laws.specs.Answered.{opened_in}
+use Rattle.host_laws.proofs.ApiBegins.{in_middle}
+use Rattle.host_laws.proofs.LqhOps.{left_of}
+use Rattle.host_laws.specs.Opened.{opened_in}
 use Rattle.command_laws.proofs.ApiChanges.{ApiChange, IsOneOf, answers, api_changes, commits, ends, outcome_in, refuses, rests, starts, waits}
 use Rattle.command_laws.proofs.Entries.{HasOne, IsApart, here_or_apart, same_number}
 use Rattle.command_laws.proofs.HostKinds.{replies_are}

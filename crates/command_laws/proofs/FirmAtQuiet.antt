@@ -12,19 +12,21 @@ use Rattle.world_core.specs.Hosts.{home, hosts}
 use Rattle.world_core.specs.Machine.{after}
 use Rattle.world_core.specs.Start.{Start}
 use Rattle.world_core.specs.Steps.{HostStep}
-use Rattle.commit_laws.proofs.Tally.{only_one}
-use Rattle.commit_laws.specs.Counts.{tally}
-use Rattle.answer_laws.proofs.Ahead.{live_tx}
-use Rattle.answer_laws.proofs.TcLives.{is_keyed}
-use Rattle.answer_laws.proofs.TcMoves.{same_tx-is}
+use Rattle.host_laws.proofs.Tally.{only_one}
+use Rattle.host_laws.specs.Counts.{tally}
+use Rattle.run_laws.proofs.AlongSteps.{live_tx}
+use Rattle.host_laws.proofs.TcLives.{is_keyed}
+use Rattle.host_laws.proofs.TcMoves.{same_tx-is}
 use Rattle.answer_laws.specs.Answered.{IsOpenAt}
 use Rattle.command_laws.proofs.Firm.{is_firm}
 use Rattle.command_laws.proofs.FirmHosts.{FirmHost}
 use Rattle.command_laws.proofs.Homes.{lives_home, sound_at}
 
 module _ (start : Start) (tx : TxId) (logs : ℕ → List HostStep) where
-  pub firm_at : IsOpenAt tx (after start (home start tx) (logs (home start tx))) → (h : ℕ) → h < hosts start → FirmHost tx (after start h (logs h))
-  firm_at open_there h low = each_from (λ (e : TxId × Transaction). same_tx e.0 tx ≡ true → is_firm e.1.phase e.1.asked ≡ true) (tc_of (after start h (logs h))).live here
+  pub firm_at : IsOpenAt tx (after start (home start tx) (logs (home start tx))) → (h : ℕ) → h < hosts start
+      → FirmHost tx (after start h (logs h))
+  firm_at open_there h low = each_from (λ (e : TxId × Transaction). same_tx e.0 tx ≡ true
+      → is_firm e.1.phase e.1.asked ≡ true) (tc_of (after start h (logs h))).live here
     where
       few : tally (is_keyed tx) (tc_of (after start h (logs h))).live ≤ 1
       few = (sound_at start tx h (logs h)).few

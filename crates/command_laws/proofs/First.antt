@@ -30,8 +30,8 @@ use Rattle.world_core.specs.Machine.{IsAsked, after, asked_rightly, last_stamp, 
 use Rattle.world_core.specs.Requests.{request_in, requests}
 use Rattle.world_core.specs.Start.{Start}
 use Rattle.world_core.specs.Steps.{Addressed, HostStep}
-use Rattle.commit_laws.proofs.Tally.{tally_past}
-use Rattle.answer_laws.proofs.LinkCounts.{signals}
+use Rattle.host_laws.proofs.Tally.{tally_past}
+use Rattle.host_laws.proofs.LinkCounts.{signals}
 use Rattle.command_laws.proofs.HostSteps.{api_seen, request_step}
 use Rattle.command_laws.proofs.Since.{all_taken}
 use Rattle.command_laws.specs.Served.{IsServed}
@@ -104,7 +104,8 @@ pub record IsFirst (start : Start) (was now : ℕ → List HostStep) (request : 
 -- it is what the API does at the request
 pub first_step : (start : Start) (was now : ℕ → List HostStep) (request : ApiReq) (f : IsFirst start was now request)
     → api_seen (step_after start 0 (was 0) f.first) ≡ request_row (api_of (after start 0 (was 0))) request
-first_step start was now request f = request_step (after start 0 (was 0)) f.first.step.taken request (api_runs start (was 0)) f.place f.body
+first_step start was now request f = request_step (after start 0 (was 0)) f.first.step.taken request
+    (api_runs start (was 0)) f.place f.body
 
 module _ (start : Start) (was now : ℕ → List HostStep) (request : ApiReq) (served : IsServed start was now request) where
   -- what comes at a quiet moment is no signal that a link gave

@@ -30,9 +30,9 @@ use Rattle.world_core.specs.Hosts.{home, hosts, rows_host}
 use Rattle.world_core.specs.Machine.{after, machine}
 use Rattle.world_core.specs.Start.{Start}
 use Rattle.world_core.specs.Steps.{HostStep}
-use Rattle.commit_laws.proofs.Sums.{total_at}
-use Rattle.commit_laws.proofs.Tally.{only_one, tally_in}
-use Rattle.commit_laws.specs.Counts.{one_if, total}
+use Rattle.host_laws.proofs.Sums.{total_at}
+use Rattle.host_laws.proofs.Tally.{only_one, tally_in}
+use Rattle.host_laws.specs.Counts.{one_if, total}
 use Rattle.answer_laws.proofs.Aborts.{no_abort}
 use Rattle.answer_laws.proofs.Answers.{only_open}
 use Rattle.answer_laws.proofs.Heeded.{asked_where_operating}
@@ -41,16 +41,17 @@ use Rattle.answer_laws.proofs.Ops.{operations_wait}
 use Rattle.answer_laws.proofs.Queued.{operations_queue}
 use Rattle.answer_laws.proofs.Serves.{each_served}
 use Rattle.answer_laws.proofs.Verified.{no_epoch}
-use Rattle.answer_laws.specs.Answered.{AreQuiet, IsLiveAs, IsQueuedAt, IsServed, IsWaitingAt, Waits, WaitsForLock, opened_after}
-use Rattle.transit_laws.proofs.OneAtATime.{one_at_a_time}
-use Rattle.transit_laws.proofs.Routes.{signals_are_routed}
-use Rattle.transit_laws.proofs.RowsNodes.{IsRowsHost, rows_node}
-use Rattle.transit_laws.proofs.TransitRuns.{runs_have_transit}
-use Rattle.transit_laws.specs.GivenUp.{is_given_up}
-use Rattle.transit_laws.specs.Live.{live_at}
-use Rattle.transit_laws.specs.Routes.{IsAskedRouted, IsHostRouted, IsRequestRouted, IsTransactionRouted, replicas}
-use Rattle.transit_laws.specs.Tokens.{budget_by, waiting_all, waiting_in}
-use Rattle.transit_laws.specs.Transit.{IsRun, logs_of}
+use Rattle.answer_laws.specs.Answered.{AreQuiet, IsLiveAs, IsQueuedAt, IsServed, IsWaitingAt, Waits, WaitsForLock}
+use Rattle.host_laws.specs.Opened.{opened_after}
+use Rattle.run_laws.proofs.OneAtATime.{one_at_a_time}
+use Rattle.run_laws.proofs.Routes.{signals_are_routed}
+use Rattle.run_laws.proofs.RowsNodes.{IsRowsHost, rows_node}
+use Rattle.run_laws.proofs.TransitRuns.{runs_have_transit}
+use Rattle.run_laws.specs.GivenUp.{is_given_up}
+use Rattle.run_laws.specs.Live.{live_at}
+use Rattle.run_laws.specs.Routes.{IsAskedRouted, IsHostRouted, IsRequestRouted, IsTransactionRouted, replicas}
+use Rattle.run_laws.specs.Tokens.{budget_by, waiting_all, waiting_in}
+use Rattle.run_laws.specs.Transit.{IsRun, logs_of}
 use Rattle.command_laws.specs.Served.{EachIsHeldUp, IsHeldUp, IsHeldUpAt}
 
 -- two of them are no more than all
@@ -168,7 +169,8 @@ module _ (start : Start) (logs : ℕ → List HostStep) (quiet : AreQuiet start 
               absurd (omega (
                 arith,
                 few_waiting tx,
-                total_two (hosts start) (λ h. waiting_in tx (after start h (logs h))) queued_host waits_host queued_low (host_below start (rows_of waits.node) waits.from waits.to) apart,
+                total_two (hosts start) (λ h. waiting_in tx (after start h (logs h))) queued_host waits_host queued_low
+                    (host_below start (rows_of waits.node) waits.from waits.to) apart,
                 some_queued (after start queued_host (logs queued_host)) queued.there,
                 some_waiting (after start waits_host (logs waits_host)) waits.there,
               ))
@@ -192,7 +194,8 @@ module _ (start : Start) (logs : ℕ → List HostStep) (quiet : AreQuiet start 
             request = q.request;
             on = key_is;
             routed_so = each_in (λ (x : Request). IsRequestRouted start (lqh_of g).node x) q.request (lqh_of g).waiting r.waiting q.waits;
-            held = ap (λ k. is_some (ahead_at (lqh_of g).locks k tx)) (sym key_is) ∙ ap (λ v. is_some (ahead_at (lqh_of g).locks (work_key q.request.work) v)) (sym q.own)
+            held = ap (λ k. is_some (ahead_at (lqh_of g).locks k tx)) (sym key_is)
+                ∙ ap (λ v. is_some (ahead_at (lqh_of g).locks (work_key q.request.work) v)) (sym q.own)
                 ∙ is_held (is_some (ahead_at (lqh_of g).locks (work_key q.request.work) q.request.tx)) q.queued;
           }
 
@@ -216,7 +219,8 @@ module _ (start : Start) (logs : ℕ → List HostStep) (quiet : AreQuiet start 
       at_member = member_at for.request.chain for.request.at for.routed_so.sent.inside
 
       rows_own : IsRowsHost start queued_host (lqh_of (after start queued_host (logs queued_host))).node
-      rows_own = rows_node start queued_host (logs queued_host) queued_low (rows_run start queued.node (logs queued_host) queued.from queued.to)
+      rows_own = rows_node start queued_host (logs queued_host) queued_low
+          (rows_run start queued.node (logs queued_host) queued.from queued.to)
 
       own_node : (lqh_of (after start queued_host (logs queued_host))).node ≡ at_member.member.node
       own_node = for.routed_so.sent.node_is ∙ at_member.node_is

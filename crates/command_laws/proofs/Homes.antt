@@ -13,13 +13,13 @@ use Rattle.world_core.specs.Hosts.{home, hosts, rows_host}
 use Rattle.world_core.specs.Machine.{after, machine}
 use Rattle.world_core.specs.Start.{Start}
 use Rattle.world_core.specs.Steps.{HostStep}
-use Rattle.commit_laws.specs.Counts.{tally}
-use Rattle.answer_laws.proofs.Ahead.{at_home, at_tc}
-use Rattle.answer_laws.proofs.LinkCounts.{signals, steps, taken_steps}
-use Rattle.answer_laws.proofs.Lives.{keeps}
-use Rattle.answer_laws.proofs.TcLives.{is_keyed, is_start}
+use Rattle.host_laws.specs.Counts.{tally}
+use Rattle.run_laws.proofs.AlongSteps.{at_home, at_tc}
+use Rattle.host_laws.proofs.LinkCounts.{signals, steps, taken_steps}
+use Rattle.run_laws.proofs.Begun.{keeps}
+use Rattle.host_laws.proofs.TcLives.{is_keyed, is_start}
 use Rattle.answer_laws.specs.Answered.{AreQuiet}
-use Rattle.transit_laws.specs.Live.{of_live}
+use Rattle.run_laws.specs.Live.{of_live}
 use Rattle.command_laws.proofs.HostKinds.{no_rows}
 use Rattle.command_laws.proofs.TcPath.{IsSound, none_there}
 

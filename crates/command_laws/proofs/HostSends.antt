@@ -18,11 +18,11 @@ use Rattle.world_core.proofs.HostNumbers.{api_runs}
 use Rattle.world_core.specs.Machine.{after}
 use Rattle.world_core.specs.Start.{Start}
 use Rattle.world_core.specs.Steps.{HostStep}
-use Rattle.commit_laws.proofs.Tally.{tally_none}
-use Rattle.answer_laws.proofs.ApiMoves.{is_api_kind}
-use Rattle.answer_laws.proofs.SendKinds.{is_dih_kind, is_lqh_kind}
-use Rattle.answer_laws.proofs.Wishes.{sends_of}
-use Rattle.transit_laws.proofs.WaysPassed.{api_each}
+use Rattle.host_laws.proofs.Tally.{tally_none}
+use Rattle.host_laws.proofs.ApiMoves.{is_api_kind}
+use Rattle.host_laws.proofs.SendKinds.{is_dih_kind, is_lqh_kind}
+use Rattle.host_laws.proofs.Wishes.{sends_of}
+use Rattle.run_laws.proofs.WaysPassed.{api_each}
 use Rattle.command_laws.proofs.HostKinds.{api_alone, api_no_rows}
 use Rattle.command_laws.proofs.Since.{sent_since}
 

@@ -22,10 +22,10 @@ use Rattle.node_core.specs.Dih.{dih_table}
 use Rattle.node_core.specs.Row.{row}
 use Rattle.tc_block.specs.State.{TcState}
 use Rattle.tc_block.specs.Tc.{tc_row}
-use Rattle.answer_laws.proofs.DihSends.{dih_kinds}
-use Rattle.answer_laws.proofs.LqhSends.{lqh_kinds}
-use Rattle.answer_laws.proofs.SendKinds.{is_dih_kind, is_lqh_kind, none_of}
-use Rattle.answer_laws.proofs.Wishes.{sends_of}
+use Rattle.host_laws.proofs.DihSends.{dih_kinds}
+use Rattle.host_laws.proofs.LqhSends.{lqh_kinds}
+use Rattle.host_laws.proofs.SendKinds.{is_dih_kind, is_lqh_kind, none_of}
+use Rattle.host_laws.proofs.Wishes.{sends_of}
 use Rattle.command_laws.proofs.HostKinds.{api_alone, api_no_rows, runs_api, runs_tc}
 use Rattle.command_laws.proofs.HostSends.{IsOfTc, api_silent, not_of_api, not_of_dih, not_of_lqh}
 

@@ -18,15 +18,16 @@ use Rattle.world_core.specs.Hosts.{home}
 use Rattle.world_core.specs.Machine.{after, step_after}
 use Rattle.world_core.specs.Start.{Start}
 use Rattle.world_core.specs.Steps.{HostStep}
-use Rattle.commit_laws.proofs.Tally.{tally_append}
-use Rattle.commit_laws.specs.Counts.{one_if}
+use Rattle.host_laws.proofs.Tally.{tally_append}
+use Rattle.host_laws.specs.Counts.{one_if}
 use Rattle.answer_laws.proofs.Begins.{no_begin}
-use Rattle.answer_laws.proofs.Hosts.{shell_after}
-use Rattle.answer_laws.proofs.LinkCounts.{steps}
+use Rattle.host_laws.proofs.Hosts.{shell_after}
+use Rattle.host_laws.proofs.LinkCounts.{steps}
 use Rattle.answer_laws.proofs.Lives.{holds_at, once_started}
-use Rattle.answer_laws.proofs.TcLives.{is_start}
-use Rattle.answer_laws.specs.Answered.{EachIsAnswered, WaitsForLock, is_answered_by, opened_after, opened_in}
-use Rattle.transit_laws.proofs.Weighing.{none_passes}
+use Rattle.host_laws.proofs.TcLives.{is_start}
+use Rattle.answer_laws.specs.Answered.{EachIsAnswered, WaitsForLock, is_answered_by}
+use Rattle.host_laws.specs.Opened.{opened_after, opened_in}
+use Rattle.run_laws.proofs.Weighing.{none_passes}
 use Rattle.command_laws.proofs.Committed.{calm_at, sent_append}
 use Rattle.command_laws.proofs.EarlySteps.{IsOpenNow, OpenOption, is_wish_to}
 use Rattle.command_laws.proofs.EndsWell.{ended_well, replied}
@@ -77,7 +78,9 @@ module _ (answered : EachIsAnswered) (start : Start) (was now : ℕ → List Hos
   f = request_first start was now (Operate None op) served
 
   asked : IsAskedAlone op (api_seen (step_after start 0 (was 0) f.first))
-  asked = subst (IsAskedAlone op) (sym (first_step start was now (Operate None op) f)) (alone_first start (api_of (after start 0 (was 0))) op (shell_view start (was 0)) served.before.shape.nodes_some (calm_at start was served.before))
+  asked = subst (IsAskedAlone op) (sym (first_step start was now (Operate None op) f))
+      (alone_first start (api_of (after start 0 (was 0))) op (shell_view start (was 0)) served.before.shape.nodes_some
+      (calm_at start was served.before))
 
   answered_alone : HasAnswered None start f.later (f.first ∷ was 0) → IsAnsweredAlone start was now
   answered_alone a = record {
@@ -114,7 +117,8 @@ module _ (answered : EachIsAnswered) (start : Start) (was now : ℕ → List Hos
     no_wishes = omega (arith, sent_append start (is_wish_to b.tx) 0 f.later (f.first ∷ []) (was 0), wishes b.tx, asked.wishes b.tx)
 
     open_was : (h : ℕ) → home start b.tx ≡ h → OnTc (IsOpenNow b.tx) (after start h (was h))
-    open_was h at = record { open_now = subst OpenOption (sym (unborn_there start was served.before b.tx h unbegun)) tt }
+    open_was h at =
+        record { open_now = subst OpenOption (sym (unborn_there start was served.before b.tx h unbegun)) tt }
 
     refused : HasEnded b.tx None start f.later (f.first ∷ was 0) → IsRefusedAlone start was now
     refused ended =

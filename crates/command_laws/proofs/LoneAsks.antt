@@ -34,16 +34,16 @@ use Rattle.world_core.proofs.HostNumbers.{api_runs}
 use Rattle.world_core.specs.Machine.{after}
 use Rattle.world_core.specs.Start.{Start}
 use Rattle.world_core.specs.Steps.{HostStep}
-use Rattle.commit_laws.proofs.Tally.{tally_append, tally_none}
-use Rattle.commit_laws.specs.Counts.{one_if, tally}
-use Rattle.answer_laws.proofs.ApiBegins.{in_middle}
-use Rattle.answer_laws.proofs.LinkCounts.{steps}
-use Rattle.answer_laws.proofs.SendKinds.{are_of, none_of}
-use Rattle.answer_laws.proofs.TcKeys.{is_key, key_of_tx}
-use Rattle.answer_laws.proofs.TcLives.{is_start, start_of}
-use Rattle.answer_laws.proofs.TcMoves.{same_tx-is}
-use Rattle.answer_laws.proofs.Wishes.{is_api, is_tc, sends_of}
-use Rattle.answer_laws.specs.Answered.{opened_in}
+use Rattle.host_laws.proofs.Tally.{tally_append, tally_none}
+use Rattle.host_laws.specs.Counts.{one_if, tally}
+use Rattle.host_laws.proofs.ApiBegins.{in_middle}
+use Rattle.host_laws.proofs.LinkCounts.{steps}
+use Rattle.host_laws.proofs.SendKinds.{are_of, none_of}
+use Rattle.host_laws.proofs.TcKeys.{is_key, key_of_tx}
+use Rattle.host_laws.proofs.TcLives.{is_start, start_of}
+use Rattle.host_laws.proofs.TcMoves.{same_tx-is}
+use Rattle.host_laws.proofs.Wishes.{is_api, is_tc, sends_of}
+use Rattle.host_laws.specs.Opened.{opened_in}
 use Rattle.command_laws.proofs.ApiChanges.{ApiChange, GoesOnAs, alone, answers, api_changes, commits, ends, idle, is_news_kind, is_row_reply, refuses, rests, starts, told, waits}
 use Rattle.command_laws.proofs.Entries.{HasOne}
 use Rattle.command_laws.proofs.HostKinds.{replies_are}
@@ -114,18 +114,24 @@ module _ (s : ApiState) (body : Body) where
 host_lone : (g : host.Host) (x : Signal) → has_api g ≡ true → is_request x.body ≡ false
     → ((is_api x.to.block ≡ true) × IsLoneStep x.body (opened_in (row g x).state)) ⊎ (tally is_lone (replies_of (row g x).state) ≡ tally is_lone (replies_of g))
 host_lone g x has plain =
-    by (api_host (λ (step : Step ApiState). ((is_api x.to.block ≡ true) × IsLoneStep x.body step.state.opened) ⊎ (tally is_lone step.state.replies ≡ tally is_lone (api_of g).replies)) g x has
-    (λ at. step_goes (api_row (api_of g) x).state at (change_lone (api_of g) x.body (api_row (api_of g) x) (api_changes (api_of g) x.body plain))) (λ off. inr refl))
+    by (api_host (λ (step : Step ApiState). ((is_api x.to.block ≡ true) × IsLoneStep x.body step.state.opened)
+    ⊎ (tally is_lone step.state.replies ≡ tally is_lone (api_of g).replies)) g x has
+    (λ at. step_goes (api_row (api_of g) x).state at (change_lone (api_of g) x.body (api_row (api_of g) x)
+    (api_changes (api_of g) x.body plain))) (λ off. inr refl))
   where
-    step_goes : (s : ApiState) → x.to.block ≡ block.Api → IsLoneStep x.body s.opened ⊎ (tally is_lone s.replies ≡ tally is_lone (api_of g).replies)
-        → ((is_api x.to.block ≡ true) × IsLoneStep x.body s.opened) ⊎ (tally is_lone s.replies ≡ tally is_lone (api_of g).replies)
+    step_goes : (s : ApiState) → x.to.block ≡ block.Api → IsLoneStep x.body s.opened
+        ⊎ (tally is_lone s.replies ≡ tally is_lone (api_of g).replies)
+        → ((is_api x.to.block ≡ true) × IsLoneStep x.body s.opened)
+        ⊎ (tally is_lone s.replies ≡ tally is_lone (api_of g).replies)
     step_goes s at (inl lone) = inl (ap is_api at, lone)
     step_goes s at (inr same) = inr same
 
-    by : ((is_api x.to.block ≡ true) × IsLoneStep x.body (api_of (row g x).state).opened) ⊎ (tally is_lone (api_of (row g x).state).replies ≡ tally is_lone (api_of g).replies)
+    by : ((is_api x.to.block ≡ true) × IsLoneStep x.body (api_of (row g x).state).opened)
+        ⊎ (tally is_lone (api_of (row g x).state).replies ≡ tally is_lone (api_of g).replies)
         → ((is_api x.to.block ≡ true) × IsLoneStep x.body (opened_in (row g x).state)) ⊎ (tally is_lone (replies_of (row g x).state) ≡ tally is_lone (replies_of g))
     by (inl lone) = inl lone
-    by (inr same) = inr (ap (tally is_lone) (replies_are (row g x).state) ∙ same ∙ ap (tally is_lone) (sym (replies_are g)))
+    by (inr same) = inr (ap (tally is_lone) (replies_are (row g x).state) ∙ same
+        ∙ ap (tally is_lone) (sym (replies_are g)))
 
 -- one of these steps behind a log answers an operation alone
 pub record HasLone (start : Start) (later log : List HostStep) : Type 0 where
@@ -204,10 +210,13 @@ module _ (tx : TxId) where
   host_asks : (g : host.Host) (x : Signal) → has_api g ≡ true → is_request x.body ≡ false
       → (sends_of (is_wish_back_to tx) (row g x).effects.sends ≡ 0) × (sends_of (is_key tx) (row g x).effects.sends ≤ one_if (is_start tx x.to x.body))
   host_asks g x has plain =
-      api_host (λ (step : Step ApiState). (sends_of (is_wish_back_to tx) step.effects.sends ≡ 0) × (sends_of (is_key tx) step.effects.sends ≤ one_if (is_start tx x.to x.body))) g x has
-      (λ at. at_step at (change_asks (api_of g) x.body (api_row (api_of g) x) (api_changes (api_of g) x.body plain))) (λ off. (refl, omega arith))
+      api_host (λ (step : Step ApiState). (sends_of (is_wish_back_to tx) step.effects.sends ≡ 0)
+      × (sends_of (is_key tx) step.effects.sends ≤ one_if (is_start tx x.to x.body))) g x has
+      (λ at. at_step at (change_asks (api_of g) x.body (api_row (api_of g) x) (api_changes (api_of g) x.body plain)))
+      (λ off. (refl, omega arith))
     where
-      at_step : {sends : List Outgoing} → x.to.block ≡ block.Api → AsksOnce x.body sends → (sends_of (is_wish_back_to tx) sends ≡ 0) × (sends_of (is_key tx) sends ≤ one_if (is_start tx x.to x.body))
+      at_step : {sends : List Outgoing} → x.to.block ≡ block.Api → AsksOnce x.body sends
+          → (sends_of (is_wish_back_to tx) sends ≡ 0) × (sends_of (is_key tx) sends ≤ one_if (is_start tx x.to x.body))
       at_step at asks = (asks.wishes, omega (arith, asks.keys, ap (λ of. one_if (is_api of && start_of tx x.body)) at))
 
   pub asks_since : (start : Start) (later log : List HostStep) → Each (λ (e : HostStep). is_request e.step.taken.body ≡ false) later

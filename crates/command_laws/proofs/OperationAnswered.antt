@@ -13,8 +13,9 @@ use Rattle.world_core.specs.Hosts.{home}
 use Rattle.world_core.specs.Machine.{after, step_after}
 use Rattle.world_core.specs.Start.{Start}
 use Rattle.world_core.specs.Steps.{HostStep}
-use Rattle.answer_laws.proofs.Ahead.{live_tx}
-use Rattle.answer_laws.specs.Answered.{EachIsAnswered, IsOpenAt, WaitsForLock, is_answered_by, opened_after, opened_in}
+use Rattle.run_laws.proofs.AlongSteps.{live_tx}
+use Rattle.answer_laws.specs.Answered.{EachIsAnswered, IsOpenAt, WaitsForLock, is_answered_by}
+use Rattle.host_laws.specs.Opened.{opened_after, opened_in}
 use Rattle.command_laws.proofs.Committed.{sent_append}
 use Rattle.command_laws.proofs.EarlySteps.{IsOpenNow, OpenOption, is_wish_to}
 use Rattle.command_laws.proofs.EndsWell.{ended_well, replied}
@@ -37,7 +38,8 @@ module _ (answered : EachIsAnswered) (start : Start) (was now : ℕ → List Hos
   were = named_at start was served.before name t tx named own
 
   asked : IsAskedFor tx name (api_seen (step_after start 0 (was 0) f.first))
-  asked = subst (IsAskedFor tx name) (sym (first_step start was now (Operate (Some name) op) f)) (operate_first (api_of (after start 0 (was 0))) name op t tx named ready own few were)
+  asked = subst (IsAskedFor tx name) (sym (first_step start was now (Operate (Some name) op) f))
+      (operate_first (api_of (after start 0 (was 0))) name op t tx named ready own few were)
 
   is_open : IsOpenAt tx (after start (home start tx) (was (home start tx)))
   is_open = ready_open start was served.before name t tx named own answered ready

@@ -13,10 +13,11 @@ use Rattle.world_core.specs.Hosts.{home}
 use Rattle.world_core.specs.Machine.{after}
 use Rattle.world_core.specs.Start.{Start}
 use Rattle.world_core.specs.Steps.{HostStep}
-use Rattle.commit_laws.proofs.Tally.{only_one}
-use Rattle.answer_laws.proofs.ApiBegins.{in_middle}
+use Rattle.host_laws.proofs.Tally.{only_one}
+use Rattle.host_laws.proofs.ApiBegins.{in_middle}
 use Rattle.answer_laws.proofs.Lives.{holds_at, once_started}
-use Rattle.answer_laws.specs.Answered.{AreQuiet, EachIsAnswered, IsOpenAt, is_answered_by, opened_after}
+use Rattle.answer_laws.specs.Answered.{AreQuiet, EachIsAnswered, IsOpenAt, is_answered_by}
+use Rattle.host_laws.specs.Opened.{opened_after}
 use Rattle.command_laws.proofs.Committed.{calm_at}
 use Rattle.command_laws.proofs.Entries.{IsNamed, named_found}
 use Rattle.command_laws.proofs.OperateAsks.{AreNamed}

@@ -19,14 +19,14 @@ use Rattle.tc_block.specs.Operate.{fresh}
 use Rattle.tc_block.specs.State.{TcState}
 use Rattle.tc_block.specs.Tc.{begun, next_tx, tc_table}
 use Rattle.tc_block.specs.Turn.{Turn}
-use Rattle.commit_laws.proofs.Tally.{tally_append, tally_between}
-use Rattle.commit_laws.specs.Counts.{one_if, tally}
-use Rattle.answer_laws.proofs.SendKinds.{none_of}
-use Rattle.answer_laws.proofs.TcLives.{IsOwn, apart, insert_new, is_keyed}
-use Rattle.answer_laws.proofs.TcMoves.{same_tx-is}
-use Rattle.answer_laws.proofs.TcSends.{tx_in}
-use Rattle.answer_laws.proofs.Wishes.{sends_of}
-use Rattle.transit_laws.specs.Live.{of_live}
+use Rattle.host_laws.proofs.Tally.{tally_append, tally_between}
+use Rattle.host_laws.specs.Counts.{one_if, tally}
+use Rattle.host_laws.proofs.SendKinds.{none_of}
+use Rattle.host_laws.proofs.TcLives.{IsOwn, apart, insert_new, is_keyed}
+use Rattle.host_laws.proofs.TcMoves.{same_tx-is}
+use Rattle.host_laws.proofs.TcSends.{tx_in}
+use Rattle.host_laws.proofs.Wishes.{sends_of}
+use Rattle.run_laws.specs.Live.{of_live}
 use Rattle.command_laws.proofs.HostSends.{IsOfTc, is_other_kind}
 use Rattle.command_laws.proofs.OwnSends.{is_own_kind, turn_own}
 use Rattle.command_laws.proofs.Turns.{TakesTurn, TcShape, is_idle_kind, starts, still, tc_shape, turn_by, turns}

@@ -19,14 +19,14 @@ use Rattle.tc_block.specs.declared.transaction.Transaction.{Transaction}
 use Rattle.tc_block.specs.State.{TcState}
 use Rattle.tc_block.specs.Tc.{tc_row, tc_table}
 use Rattle.tc_block.specs.Turn.{Turn}
-use Rattle.commit_laws.specs.Counts.{one_if, tally}
-use Rattle.answer_laws.proofs.SendKinds.{none_of}
-use Rattle.answer_laws.proofs.TcKeys.{answer_of, is_asked, key_of_tx, tc_fair, is_key}
-use Rattle.answer_laws.proofs.TcLives.{IsOwn}
-use Rattle.answer_laws.proofs.TcMoves.{same_tx-is}
-use Rattle.answer_laws.proofs.TcSends.{tx_in}
-use Rattle.answer_laws.proofs.Wishes.{is_api, is_tc, sends_of}
-use Rattle.transit_laws.specs.Live.{of_live}
+use Rattle.host_laws.specs.Counts.{one_if, tally}
+use Rattle.host_laws.proofs.SendKinds.{none_of}
+use Rattle.host_laws.proofs.TcKeys.{answer_of, is_asked, key_of_tx, tc_fair, is_key}
+use Rattle.host_laws.proofs.TcLives.{IsOwn}
+use Rattle.host_laws.proofs.TcMoves.{same_tx-is}
+use Rattle.host_laws.proofs.TcSends.{tx_in}
+use Rattle.host_laws.proofs.Wishes.{is_api, is_tc, sends_of}
+use Rattle.run_laws.specs.Live.{of_live}
 use Rattle.command_laws.proofs.Firm.{firm_turn, is_firm, is_no_abort}
 use Rattle.command_laws.proofs.FirmHosts.{is_back, no_back_firm, not_push, push_of}
 use Rattle.command_laws.proofs.HostSteps.{tc_host}
@@ -187,15 +187,21 @@ module _ (tx : TxId) where
         three = subst (λ i. IsOneOfThree i (r_more + r) s) (sym m) (subst (λ i. IsOneOfThree a i s) (sym n) has.three);
       }
 
-  pub host_tells : (g : Host) (x : Signal) → IsSound tx (tc_of g) → is_wish_back_to tx x.to x.body ≡ false → (asked keys a r : ℕ) → asked + (keys + one_if (is_key tx x.to x.body)) ≤ 1
+  pub host_tells : (g : Host) (x : Signal) → IsSound tx (tc_of g) → is_wish_back_to tx x.to x.body ≡ false
+      → (asked keys a r : ℕ) → asked + (keys + one_if (is_key tx x.to x.body)) ≤ 1
       → HasTold asked keys a r (tc_of g)
       → HasTold asked (keys + one_if (is_key tx x.to x.body)) (sends_of (is_reply tx) (row g x).effects.sends + a) (sends_of (is_back tx) (row g x).effects.sends + r) (tc_of (row g x).state)
   host_tells g x sound wish asked keys a r once has =
-      tc_host (λ (step : Step TcState). HasTold asked (keys + one_if (is_key tx x.to x.body)) (sends_of (is_reply tx) step.effects.sends + a) (sends_of (is_back tx) step.effects.sends + r) step.state) g x
-      (λ runs at. subst (λ of. HasTold asked (keys + one_if (is_tc of && key_of_tx tx x.body)) (sends_of (is_reply tx) (tc_row (tc_of g) x).effects.sends + a) (sends_of (is_back tx) (tc_row (tc_of g) x).effects.sends + r) (tc_row (tc_of g) x).state) (sym at)
-      (tc_next (tc_of g) x.body sound (ap (λ of. is_tc of && wish_back_of tx x.body) (sym at) ∙ wish) asked keys a r (subst (λ of. asked + (keys + one_if (is_tc of && key_of_tx tx x.body)) ≤ 1) at once) has))
+      tc_host (λ (step : Step TcState). HasTold asked (keys + one_if (is_key tx x.to x.body))
+      (sends_of (is_reply tx) step.effects.sends + a) (sends_of (is_back tx) step.effects.sends + r) step.state) g x
+      (λ runs at. subst (λ of. HasTold asked (keys + one_if (is_tc of && key_of_tx tx x.body))
+      (sends_of (is_reply tx) (tc_row (tc_of g) x).effects.sends + a)
+      (sends_of (is_back tx) (tc_row (tc_of g) x).effects.sends + r) (tc_row (tc_of g) x).state) (sym at)
+      (tc_next (tc_of g) x.body sound (ap (λ of. is_tc of && wish_back_of tx x.body) (sym at) ∙ wish) asked keys a r
+      (subst (λ of. asked + (keys + one_if (is_tc of && key_of_tx tx x.body)) ≤ 1) at once) has))
       (λ effects none off. at_rest effects.sends (none_told effects.sends (none (is_told tx) (told_tc tx))))
     where
       at_rest : (sends : List Outgoing) → (sends_of (is_reply tx) sends ≡ 0) × (sends_of (is_back tx) sends ≡ 0)
-          → HasTold asked (keys + one_if (is_key tx x.to x.body)) (sends_of (is_reply tx) sends + a) (sends_of (is_back tx) sends + r) (tc_of g)
+          → HasTold asked (keys + one_if (is_key tx x.to x.body)) (sends_of (is_reply tx) sends + a)
+          (sends_of (is_back tx) sends + r) (tc_of g)
       at_rest sends none = more_keys asked keys (one_if (is_key tx x.to x.body)) a r _ _ (tc_of g) none.0 none.1 has

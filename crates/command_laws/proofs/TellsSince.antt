@@ -10,11 +10,11 @@ use Rattle.world_core.specs.Hosts.{home, hosts}
 use Rattle.world_core.specs.Machine.{after, step_after}
 use Rattle.world_core.specs.Start.{Start}
 use Rattle.world_core.specs.Steps.{HostStep}
-use Rattle.commit_laws.specs.Counts.{one_if}
-use Rattle.answer_laws.proofs.ApiMoves.{goes}
-use Rattle.answer_laws.proofs.LinkCounts.{steps}
-use Rattle.answer_laws.proofs.TcKeys.{is_key}
-use Rattle.answer_laws.proofs.Wishes.{sends_of}
+use Rattle.host_laws.specs.Counts.{one_if}
+use Rattle.host_laws.proofs.ApiMoves.{goes}
+use Rattle.host_laws.proofs.LinkCounts.{steps}
+use Rattle.host_laws.proofs.TcKeys.{is_key}
+use Rattle.host_laws.proofs.Wishes.{sends_of}
 use Rattle.command_laws.proofs.FirmHosts.{is_back}
 use Rattle.command_laws.proofs.Homes.{lives_home, sound_at}
 use Rattle.command_laws.proofs.HostSends.{not_of_api, shell_silent}
@@ -51,15 +51,18 @@ module _ (start : Start) (tx : TxId) where
   away_since h low away [] log = refl
   away_since h low away (e ∷ newer) log = omega (arith, away_since h low away newer log, here)
     where
-      goes : {step : Step TcState} → TcGoes tx (tc_of (after start h (newer ++ log))) e.step.taken.body step → sends_of (is_told tx) step.effects.sends ≡ 0
+      goes : {step : Step TcState} → TcGoes tx (tc_of (after start h (newer ++ log))) e.step.taken.body step
+          → sends_of (is_told tx) step.effects.sends ≡ 0
       goes (aside same none more) = none
       goes (begins number now none more) = none
       goes (takes t same was sends left more) = absurd (away (lives_home start tx h (newer ++ log) low t was))
 
       here : sends_of (is_told tx) (step_after start h (newer ++ log) e).effects.sends ≡ 0
       here =
-          tc_host (λ (step : Step TcState). sends_of (is_told tx) step.effects.sends ≡ 0) (after start h (newer ++ log)) e.step.taken
-          (λ runs at. goes (tc_goes tx (tc_of (after start h (newer ++ log))) e.step.taken.body (sound_at start tx h (newer ++ log))))
+          tc_host (λ (step : Step TcState). sends_of (is_told tx) step.effects.sends ≡ 0)
+          (after start h (newer ++ log)) e.step.taken
+          (λ runs at. goes (tc_goes tx (tc_of (after start h (newer ++ log))) e.step.taken.body
+          (sound_at start tx h (newer ++ log))))
           (λ effects none off. none (is_told tx) (told_tc tx))
 
   pub shell_since : (newer log : List HostStep) → sent_since start (is_told tx) 0 newer log ≡ 0

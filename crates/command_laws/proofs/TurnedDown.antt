@@ -25,7 +25,7 @@ use Rattle.node_core.specs.Replies.{replies_of}
 use Rattle.world_core.specs.Machine.{after}
 use Rattle.world_core.specs.Start.{Start}
 use Rattle.world_core.specs.Steps.{HostStep}
-use Rattle.answer_laws.specs.Answered.{opened_in}
+use Rattle.host_laws.specs.Opened.{opened_in}
 use Rattle.command_laws.proofs.First.{IsFirst, first_step, request_first}
 use Rattle.command_laws.proofs.HostKinds.{replies_are}
 use Rattle.command_laws.proofs.Told.{told_since}
@@ -99,16 +99,19 @@ operate_ends s name op = looked_up s name (TakesOperations s.opened name) (λ at
 
 -- what the first step replies is told since then
 module _ (start : Start) (was now : ℕ → List HostStep) (name : ℕ) (r : ApiReq) (served : IsServed start was now r) (T : Type 0) where
-  turned_or : IsRefusedIn (api_of (after start 0 (was 0))) (request_row (api_of (after start 0 (was 0))) r).state name ⊎ T → IsTurnedDown start was now name ⊎ T
+  turned_or : IsRefusedIn (api_of (after start 0 (was 0))) (request_row (api_of (after start 0 (was 0))) r).state name
+      ⊎ T → IsTurnedDown start was now name ⊎ T
   turned_or (inr t) = inr t
   turned_or (inl refused) = inl (record { refusal = refused.refusal; told = told })
     where
       f : IsFirst start was now r
       f = request_first start was now r served
 
-      replied : replies_of (after start 0 (f.first ∷ was 0)) ≡ replies_of (after start 0 (was 0)) ++ Refused (Some name) refused.refusal ∷ []
+      replied : replies_of (after start 0 (f.first ∷ was 0)) ≡ replies_of (after start 0 (was 0)) ++ Refused
+          (Some name) refused.refusal ∷ []
       replied =
-          replies_are (after start 0 (f.first ∷ was 0)) ∙ ap (λ (step : Step ApiState). step.state.replies) (first_step start was now r f) ∙ refused.replies
+          replies_are (after start 0 (f.first ∷ was 0)) ∙ ap (λ (step : Step ApiState). step.state.replies)
+          (first_step start was now r f) ∙ refused.replies
           ∙ ap (λ rs. rs ++ Refused (Some name) refused.refusal ∷ []) (sym (replies_are (after start 0 (was 0))))
 
       told : IsIn (Refused (Some name) refused.refusal) (replies_since start was now)

@@ -29,14 +29,14 @@ use Rattle.world_core.specs.Machine.{IsAsked, after, machine, step_after}
 use Rattle.world_core.specs.Requests.{request_in, requests}
 use Rattle.world_core.specs.Start.{Start}
 use Rattle.world_core.specs.Steps.{Addressed, HostStep}
-use Rattle.commit_laws.proofs.Tally.{tally_past}
-use Rattle.commit_laws.specs.Counts.{one_if, tally}
-use Rattle.answer_laws.proofs.LinkCounts.{sent_signals, signals}
-use Rattle.answer_laws.proofs.Wishes.{sends_of}
+use Rattle.host_laws.proofs.LinkCounts.{sent_signals, signals, few_sends}
+use Rattle.host_laws.proofs.Tally.{tally_past}
+use Rattle.host_laws.proofs.Wishes.{sends_of}
+use Rattle.host_laws.specs.Counts.{one_if, tally}
+use Rattle.run_laws.specs.Live.{of_live}
 use Rattle.answer_laws.specs.Answered.{AreQuiet}
-use Rattle.transit_laws.specs.Live.{of_live}
 use Rattle.command_laws.proofs.First.{fits_asked, requests_append, with_first}
-use Rattle.command_laws.proofs.Since.{fewer, link_sent}
+use Rattle.command_laws.proofs.Since.{link_sent}
 use Rattle.command_laws.proofs.TellsSince.{OnTc}
 use Rattle.command_laws.proofs.WaitApi.{IsAboutOne}
 use Rattle.command_laws.proofs.WaitHosts.{NodeHolds, ShellHolds, node_next, node_none, shell_next, shell_none}
@@ -48,7 +48,9 @@ is_asked_in (Host (Continue (Request request) at)) e = refl
 is_asked_in _ e = cc
 
 module _ (start : Start) (was : ℕ → List HostStep) (before : AreQuiet start was) (first : HostStep) (tx : TxId) (u : Transaction) (asked : Asked) (member : Member) (unanswered : u.asked ≡ Some asked) (inside : IsIn member asked.chain)
-    (live : OnTc (λ s. of_live tx s.live ≡ Some u) (after start (home start tx) (was (home start tx)))) (held : IsHeldUpAt tx (key_of asked.op) (after start (rows_host start member.node) (was (rows_host start member.node))))
+    (live : OnTc (λ s. of_live tx s.live ≡ Some u) (after start (home start tx) (was (home start tx))))
+    (held : IsHeldUpAt tx (key_of asked.op)
+    (after start (rows_host start member.node) (was (rows_host start member.node))))
     (front : List OpenTransaction) (t : OpenTransaction) (back : List OpenTransaction) (own : Option (Option ℕ)) (own_tx : t.tx ≡ Some tx) (none : tally (has_tx tx) front ≡ 0)
     (plain_first : sends_of (is_other tx) (step_after start 0 (was 0) first).effects.sends ≡ 0) where
   abbrev NodesHold : List HostStep → Type 0
@@ -83,7 +85,7 @@ module _ (start : Start) (was : ℕ → List HostStep) (before : AreQuiet start 
               link_sent start (is_other tx) 0 j (log_of (machine start) all.more 0) (first ∷ was 0),
               all.shell.plain,
               sent_signals start (is_other tx) 0 j first (was 0),
-              fewer start (is_other tx) j (step_after start 0 (was 0) first).effects.sends,
+              few_sends start j (is_other tx) (step_after start 0 (was 0) first).effects.sends,
               plain_first,
               ap (signals (is_other tx)) (before.quiet 0 j under low),
             )

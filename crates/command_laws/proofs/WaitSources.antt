@@ -34,16 +34,16 @@ use Rattle.tc_block.specs.Tc.{pass_if, pass_row, tc_table}
 use Rattle.world_core.specs.Machine.{machine, step_after}
 use Rattle.world_core.specs.Start.{Start}
 use Rattle.world_core.specs.Steps.{HostStep}
-use Rattle.commit_laws.proofs.Tally.{tally_in}
-use Rattle.commit_laws.specs.Counts.{one_if}
-use Rattle.answer_laws.proofs.ApiMoves.{is_api_kind}
-use Rattle.answer_laws.proofs.DihSends.{dih_kinds}
-use Rattle.answer_laws.proofs.LinkCounts.{all_three}
-use Rattle.answer_laws.proofs.LqhSends.{lqh_kinds}
-use Rattle.answer_laws.proofs.SendKinds.{are_of, is_dih_kind, is_lqh_kind, is_tc_kind, none_of, of_map}
-use Rattle.answer_laws.proofs.TcMoves.{same_tx-is}
-use Rattle.answer_laws.proofs.TcSends.{tc_kinds}
-use Rattle.answer_laws.proofs.Wishes.{is_api, is_tc, sends_of}
+use Rattle.host_laws.proofs.Tally.{tally_in}
+use Rattle.host_laws.specs.Counts.{one_if}
+use Rattle.host_laws.proofs.ApiMoves.{is_api_kind}
+use Rattle.host_laws.proofs.DihSends.{dih_kinds}
+use Rattle.host_laws.proofs.LinkCounts.{all_three}
+use Rattle.host_laws.proofs.LqhSends.{lqh_kinds}
+use Rattle.host_laws.proofs.SendKinds.{are_of, is_dih_kind, is_lqh_kind, is_tc_kind, none_of, of_map}
+use Rattle.host_laws.proofs.TcMoves.{same_tx-is}
+use Rattle.host_laws.proofs.TcSends.{tc_kinds}
+use Rattle.host_laws.proofs.Wishes.{is_api, is_tc, sends_of}
 use Rattle.answer_laws.specs.Answered.{AreQuiet}
 use Rattle.command_laws.proofs.HostSends.{IsNotOfApi, IsOfTc, api_silent, is_other_kind, not_of_api, not_of_dih, not_of_lqh}
 use Rattle.command_laws.proofs.Since.{few_taken, sent_since}
@@ -97,14 +97,20 @@ module _ (tx who : TxId) where
   finds_in false body e = refl
 
   pub telling_tc : IsOfTc (is_telling_who tx who)
-  telling_tc = record { others = λ to body e. tells_in (is_api to.block) body (plain body e); begins = λ name node. refl }
+  telling_tc = record {
+    others = λ to body e. tells_in (is_api to.block) body (plain body e);
+    begins = λ name node. refl;
+  }
     where
       plain : (b : Body) → is_other_kind b ≡ true → tells_who tx who b ≡ false
       plain (Client (TcWaitConf one ahead)) k = cc
       plain _ k = refl
 
   pub no_find_api : IsNotOfApi (is_finding_who tx who)
-  no_find_api = record { kinds = λ to body e. finds_in (is_tc to.block) body (plain body e); begins = λ name node. refl }
+  no_find_api = record {
+    kinds = λ to body e. finds_in (is_tc to.block) body (plain body e);
+    begins = λ name node. refl;
+  }
     where
       plain : (b : Body) → is_api_kind b ≡ true → finds_who tx who b ≡ false
       plain (Client (LqhWaitConf one ahead)) k = cc
@@ -170,12 +176,31 @@ module _ (tx who : TxId) where
 
   -- who tells the client was told
   pub host_told : (g : Host) (x : Signal) → is_wait_of tx x.body ≡ true → 1 ≤ sends_of (is_telling_who tx who) (row g x).effects.sends → (is_tc x.to.block && finds_who tx who x.body) ≡ true
-  host_told g x own = of_effects (λ f. 1 ≤ sends_of (is_telling_who tx who) f.sends → (is_tc x.to.block && finds_who tx who x.body) ≡ true) g x none_sent (record {
-    api = λ runs at some. absurd (omega (arith, some, api_silent (is_telling_who tx who) (not_of_api (is_telling_who tx who) telling_tc) (api_of g) x.body));
-    tc = λ runs at some. ap (λ of. is_tc of && finds_who tx who x.body) at ∙ tc_told (tc_of g) x.body own some;
-    dih = λ runs at some. absurd (omega (arith, some, none_of is_dih_kind (is_telling_who tx who) (not_of_dih (is_telling_who tx who) telling_tc) (dih_table (dih_of g) x.body).effects.sends (dih_kinds (dih_of g) x.body)));
-    rows = λ runs at some. absurd (omega (arith, some, none_of is_lqh_kind (is_telling_who tx who) (not_of_lqh (is_telling_who tx who) telling_tc) (lqh_table (lqh_of g) x.body).effects.sends (lqh_kinds (lqh_of g) x.body)));
-  })
+  host_told g x own = of_effects (λ f. 1 ≤ sends_of (is_telling_who tx who) f.sends
+      → (is_tc x.to.block && finds_who tx who x.body) ≡ true) g x none_sent (record {
+        api = λ runs at some. absurd
+            (omega (
+              arith,
+              some,
+              api_silent (is_telling_who tx who) (not_of_api (is_telling_who tx who) telling_tc)
+                  (api_of g) x.body,
+            ));
+        tc = λ runs at some. ap (λ of. is_tc of && finds_who tx who x.body) at ∙ tc_told (tc_of g) x.body own some;
+        dih = λ runs at some. absurd
+            (omega (
+              arith,
+              some,
+              none_of is_dih_kind (is_telling_who tx who) (not_of_dih (is_telling_who tx who) telling_tc)
+                  (dih_table (dih_of g) x.body).effects.sends (dih_kinds (dih_of g) x.body),
+            ));
+        rows = λ runs at some. absurd
+            (omega (
+              arith,
+              some,
+              none_of is_lqh_kind (is_telling_who tx who) (not_of_lqh (is_telling_who tx who) telling_tc)
+                  (lqh_table (lqh_of g) x.body).effects.sends (lqh_kinds (lqh_of g) x.body),
+            ));
+      })
 
   -- the transaction waits behind it here
   pub record FoundAt (s : LqhState) : Type 0 where
@@ -208,10 +233,13 @@ module _ (tx who : TxId) where
   no_begin _ own s = cc
 
   -- and who told it found it so
-  pub host_found : (g : Host) (x : Signal) → is_wait_of tx x.body ≡ true → 1 ≤ sends_of (is_finding_who tx who) (row g x).effects.sends → FoundAt (lqh_of g)
-  host_found g x own = of_effects (λ f. 1 ≤ sends_of (is_finding_who tx who) f.sends → FoundAt (lqh_of g)) g x none_sent (record {
-    api = λ runs at some. absurd (omega (arith, some, api_silent (is_finding_who tx who) no_find_api (api_of g) x.body));
-    tc = λ runs at some. absurd (omega (arith, some, no_begin x.body own (tc_of g)));
-    dih = λ runs at some. absurd (omega (arith, some, none_of is_dih_kind (is_finding_who tx who) no_find_dih (dih_table (dih_of g) x.body).effects.sends (dih_kinds (dih_of g) x.body)));
-    rows = λ runs at some. lqh_found (lqh_of g) x.body own some;
-  })
+  pub host_found : (g : Host) (x : Signal) → is_wait_of tx x.body ≡ true
+      → 1 ≤ sends_of (is_finding_who tx who) (row g x).effects.sends → FoundAt (lqh_of g)
+  host_found g x own = of_effects (λ f. 1 ≤ sends_of (is_finding_who tx who) f.sends → FoundAt (lqh_of g)) g x none_sent
+      (record {
+        api = λ runs at some. absurd
+            (omega (arith, some, api_silent (is_finding_who tx who) no_find_api (api_of g) x.body));
+        tc = λ runs at some. absurd (omega (arith, some, no_begin x.body own (tc_of g)));
+        dih = λ runs at some. absurd (omega (arith, some, none_of is_dih_kind (is_finding_who tx who) no_find_dih (dih_table (dih_of g) x.body).effects.sends (dih_kinds (dih_of g) x.body)));
+        rows = λ runs at some. lqh_found (lqh_of g) x.body own some;
+      })

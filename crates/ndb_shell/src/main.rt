@@ -1,5 +1,5 @@
-//! `ndb`: a cluster database of two data nodes in one process. It reads a script from standard
-//! input, answers on standard output, and ends with the session's status.
+//! `ndb`: a cluster database of any shape in one process. It reads a script from standard input,
+//! answers on standard output, and ends with the session's status.
 #![tactic(auto)]
 
 mod standard;

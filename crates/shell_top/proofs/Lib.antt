@@ -8,4 +8,5 @@ pub mod ServeLemmas
 pub mod SessionLemmas
 pub mod TakenLemmas
 pub mod ToldLemmas
+pub mod WordsLemmas
 pub mod WriterLemmas

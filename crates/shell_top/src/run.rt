@@ -1,5 +1,5 @@
 //! The top call: a whole session.
-ghost use Rattle.std.specs.Prelude.{◌≡◌, ◌≤◌, ◌⊎◌, [], IfOk, Some, map, string_bytes};
+ghost use Rattle.std.specs.Prelude.{◌≡◌, ◌≤◌, ◌⊎◌, IfOk, Some, map, string_bytes};
 ghost use Rattle.frag_map.specs.Shape.{IsShape};
 ghost use Rattle.host_io.specs.Fault.{Rose};
 ghost use Rattle.shell_top.specs.declared.ended.Ending.TheVariants as ending;
@@ -66,18 +66,15 @@ fn run_session<R: Wait, S: Source, K: Sink>(
 {
     match shape_asked(alloc, words) {
         Ok(Some(shape)) => run_shape(rt, alloc, shape, source, sink),
-        Ok(None) => unborn(alloc, finish(alloc, sink, Ending::Words)),
-        Err(NoMemory) => unborn(alloc, Ending::NoMemory),
+        Ok(None) => Outcome {
+            ending: finish(alloc, sink, Ending::Words),
+            lives: Vec::new(alloc),
+        },
+        Err(NoMemory) => Outcome {
+            ending: Ending::NoMemory,
+            lives: Vec::new(alloc),
+        },
     }
-}
-
-/// A session that ended before there was a life.
-fn unborn(alloc: Global, ending: Ending) -> Outcome
-    ensures ending { result.ending ≡ ending }
-    ensures lives { result.lives.items ≡ [] }
-{
-    let lives = Vec::new(alloc);
-    Outcome { ending, lives }
 }
 
 /// Runs a session of a cluster of this shape, and says how it ended.
@@ -95,7 +92,10 @@ fn run_shape<R: Wait, S: Source, K: Sink>(
 {
     match open(alloc, shape) {
         Ok(opened) => run_opened(rt, alloc, opened, source, sink),
-        Err(NoMemory) => unborn(alloc, Ending::NoMemory),
+        Err(NoMemory) => Outcome {
+            ending: Ending::NoMemory,
+            lives: Vec::new(alloc),
+        },
     }
 }
 
