@@ -60,8 +60,10 @@ pub record HostKnows (node : ℕ) (T D : TxId → Type 0) (s : Host) (begun_yet 
   pub numbered : IsNumbered node D (tc_of s) begun_yet verified
 
 -- a step that took this, of a host that was of this kind
-pub record HostGoes (node : ℕ) (Own T D : TxId → Type 0) (before : Host) (taken : Kind) (begun_yet verified : List TxId) (step : Step Host) : Type 0 where
-  pub knows : HostKnows node T D step.state (put_kinds begun_by step.effects.sends begun_yet) (put_kinds verified_by step.effects.sends verified)
+pub record HostGoes (node : ℕ) (Own T D : TxId → Type 0) (before : Host) (taken : Kind) (begun_yet verified : List TxId)
+    (step : Step Host) : Type 0 where
+  pub knows : HostKnows node T D step.state (put_kinds begun_by step.effects.sends begun_yet)
+      (put_kinds verified_by step.effects.sends verified)
   pub says : Each (λ (o : Outgoing). HostSays Own T D taken step.effects.marks o (kind_of o.body)) step.effects.sends
   pub decides : Each (Decides taken) step.effects.marks
   pub reports : has_api before ≡ true → Each (Reports taken) step.effects.marks
@@ -99,7 +101,9 @@ rows_none f none committing taken (o ∷ more) before all = ap (put_kinds f more
 module _ (node : ℕ) (Own T D : TxId → Type 0) where
   rows_say : (taken : Kind) → Tells D taken → (marks : List Mark) (sends : List Outgoing) → Each (λ (o : Outgoing). RowsSay taken (kind_of o.body)) sends
       → Each (λ (o : Outgoing). HostSays Own T D taken marks o (kind_of o.body)) sends
-  rows_say taken tells marks sends all = each_map (λ (o : Outgoing). RowsSay taken (kind_of o.body)) (λ (o : Outgoing). HostSays Own T D taken marks o (kind_of o.body)) sends (λ o. by o (kind_of o.body)) all
+  rows_say taken tells marks sends all =
+      each_map (λ (o : Outgoing). RowsSay taken (kind_of o.body))
+      (λ (o : Outgoing). HostSays Own T D taken marks o (kind_of o.body)) sends (λ o. by o (kind_of o.body)) all
     where
       by : (o : Outgoing) (k : Kind) → RowsSay taken k → HostSays Own T D taken marks o k
       by o (kind.begun tx) says = absurd says
@@ -110,9 +114,12 @@ module _ (node : ℕ) (Own T D : TxId → Type 0) where
       by o (kind.ended tx) says = absurd says
       by o kind.other says = tt
 
-  tc_says : (taken : Kind) (marks : List Mark) (sends : List Outgoing) → ((tx : TxId) → tx.tc ≡ node → Own tx) → AllSayAt node D taken sends
+  tc_says : (taken : Kind) (marks : List Mark) (sends : List Outgoing) → ((tx : TxId) → tx.tc ≡ node → Own tx)
+      → AllSayAt node D taken sends
       → Each (λ (o : Outgoing). HostSays Own T D taken marks o (kind_of o.body)) sends
-  tc_says taken marks sends own all = each_map (λ (o : Outgoing). SaysAt node D taken o (kind_of o.body)) (λ (o : Outgoing). HostSays Own T D taken marks o (kind_of o.body)) sends (λ o. by o (kind_of o.body)) all
+  tc_says taken marks sends own all =
+      each_map (λ (o : Outgoing). SaysAt node D taken o (kind_of o.body))
+      (λ (o : Outgoing). HostSays Own T D taken marks o (kind_of o.body)) sends (λ o. by o (kind_of o.body)) all
     where
       by : (o : Outgoing) (k : Kind) → SaysAt node D taken o k → HostSays Own T D taken marks o k
       by o (kind.begun tx) says = own tx says
@@ -125,7 +132,9 @@ module _ (node : ℕ) (Own T D : TxId → Type 0) where
 
   api_says : (taken : Kind) (marks : List Mark) (sends : List Outgoing) → Each (λ (o : Outgoing). ApiSays T (kind_of o.body)) sends
       → Each (λ (o : Outgoing). HostSays Own T D taken marks o (kind_of o.body)) sends
-  api_says taken marks sends all = each_map (λ (o : Outgoing). ApiSays T (kind_of o.body)) (λ (o : Outgoing). HostSays Own T D taken marks o (kind_of o.body)) sends (λ o. by o (kind_of o.body)) all
+  api_says taken marks sends all =
+      each_map (λ (o : Outgoing). ApiSays T (kind_of o.body))
+      (λ (o : Outgoing). HostSays Own T D taken marks o (kind_of o.body)) sends (λ o. by o (kind_of o.body)) all
     where
       by : (o : Outgoing) (k : Kind) → ApiSays T k → HostSays Own T D taken marks o k
       by o (kind.begun tx) says = absurd says
@@ -174,7 +183,8 @@ module _ (node : ℕ) (Own T D : TxId → Type 0) where
   dih_goes s _ = record { says = tt; begun_same = λ before. refl; verified_same = λ before. refl; decides = tt }
 
   -- the step of each block
-  module _ (s : Host) (x : Signal) (begun_yet verified : List TxId) (knows : HostKnows node T D s begun_yet verified) (tells : Tells D (kind_of x.body)) where
+  module _ (s : Host) (x : Signal) (begun_yet verified : List TxId) (knows : HostKnows node T D s begun_yet verified)
+      (tells : Tells D (kind_of x.body)) where
     abbrev Goes : Step Host → Type 0
     Goes step = HostGoes node Own T D s (kind_of x.body) begun_yet verified step
 
@@ -182,7 +192,8 @@ module _ (node : ℕ) (Own T D : TxId → Type 0) where
     told_still : (now : ApiState) → now ≡ api_of s → AreTold T now.opened
     told_still now same = subst (λ (a : ApiState). AreTold T a.opened) (sym same) knows.told
 
-    numbered_still : (now : TcState) (bs vs : List TxId) → now ≡ tc_of s → bs ≡ begun_yet → vs ≡ verified → IsNumbered node D now bs vs
+    numbered_still : (now : TcState) (bs vs : List TxId) → now ≡ tc_of s → bs ≡ begun_yet → vs ≡ verified
+        → IsNumbered node D now bs vs
     numbered_still now bs vs same bs_same vs_same = rw (same, bs_same, vs_same) knows.numbered
 
     api_step_goes : (step : Step Host) → TellsBegun T (kind_of x.body) → IsApiStep s x step → Goes step
@@ -193,12 +204,18 @@ module _ (node : ℕ) (Own T D : TxId → Type 0) where
           knows = record {
             told = subst (λ (a : ApiState). AreTold T a.opened) (sym is.state) goes.told;
             numbered = numbered_still (tc_of step.state) _ _ is.tc
-                (ap (λ (f : Effects). put_kinds begun_by f.sends begun_yet) effects ∙ api_none begun_by (λ before. refl) (λ tx before. refl) _ begun_yet goes.says)
-                (ap (λ (f : Effects). put_kinds verified_by f.sends verified) effects ∙ api_none verified_by (λ before. refl) (λ tx before. refl) _ verified goes.says);
+                (ap (λ (f : Effects). put_kinds begun_by f.sends begun_yet) effects
+                ∙ api_none begun_by (λ before. refl) (λ tx before. refl) _ begun_yet goes.says)
+                (ap (λ (f : Effects). put_kinds verified_by f.sends verified) effects
+                ∙ api_none verified_by (λ before. refl) (λ tx before. refl) _ verified goes.says);
           };
-          says = subst (λ (f : Effects). Each (λ (o : Outgoing). HostSays Own T D (kind_of x.body) f.marks o (kind_of o.body)) f.sends) (sym effects)
-              (api_says (kind_of x.body) (api_table (api_of s) x.body).effects.marks (api_table (api_of s) x.body).effects.sends goes.says);
-          decides = subst (λ (f : Effects). Each (Decides (kind_of x.body)) f.marks) (sym effects) (plain_decides (kind_of x.body) _ (api_marks (api_of s) x.body));
+          says =
+              subst (λ (f : Effects). Each
+              (λ (o : Outgoing). HostSays Own T D (kind_of x.body) f.marks o (kind_of o.body)) f.sends) (sym effects)
+              (api_says (kind_of x.body) (api_table (api_of s) x.body).effects.marks
+              (api_table (api_of s) x.body).effects.sends goes.says);
+          decides = subst (λ (f : Effects). Each (Decides (kind_of x.body)) f.marks) (sym effects)
+              (plain_decides (kind_of x.body) _ (api_marks (api_of s) x.body));
           reports = λ runs. subst (λ (f : Effects). Each (Reports (kind_of x.body)) f.marks) (sym effects) goes.reports;
         }
 
@@ -210,10 +227,15 @@ module _ (node : ℕ) (Own T D : TxId → Type 0) where
         record {
           knows = record {
             told = told_still (api_of step.state) is.api;
-            numbered = subst (λ (f : Effects). IsNumbered node D (tc_of step.state) (put_kinds begun_by f.sends begun_yet) (put_kinds verified_by f.sends verified)) (sym effects)
+            numbered =
+                subst (λ (f : Effects). IsNumbered node D (tc_of step.state) (put_kinds begun_by f.sends begun_yet)
+                (put_kinds verified_by f.sends verified)) (sym effects)
                 (rw is.state goes.numbered);
           };
-          says = subst (λ (f : Effects). Each (λ (o : Outgoing). HostSays Own T D (kind_of x.body) step.effects.marks o (kind_of o.body)) f.sends) (sym effects)
+          says =
+              subst (λ (f : Effects). Each
+              (λ (o : Outgoing). HostSays Own T D (kind_of x.body) step.effects.marks o (kind_of o.body)) f.sends)
+              (sym effects)
               (tc_says (kind_of x.body) step.effects.marks _ own goes.says);
           decides = subst (Each (Decides (kind_of x.body))) (sym none) tt;
           reports = λ runs. subst (Each (Reports (kind_of x.body))) (sym none) tt;
@@ -230,7 +252,10 @@ module _ (node : ℕ) (Own T D : TxId → Type 0) where
                 (ap (λ (f : Effects). put_kinds begun_by f.sends begun_yet) effects ∙ goes.begun_same begun_yet)
                 (ap (λ (f : Effects). put_kinds verified_by f.sends verified) effects ∙ goes.verified_same verified);
           };
-          says = subst (λ (f : Effects). Each (λ (o : Outgoing). HostSays Own T D (kind_of x.body) f.marks o (kind_of o.body)) f.sends) (sym effects) goes.says;
+          says = subst
+              (λ (f : Effects). Each
+              (λ (o : Outgoing). HostSays Own T D (kind_of x.body) f.marks o (kind_of o.body)) f.sends)
+              (sym effects) goes.says;
           decides = subst (λ (f : Effects). Each (Decides (kind_of x.body)) f.marks) (sym effects) goes.decides;
           reports = λ runs. absurd (api_alone s runs (inr is.runs));
         }
@@ -243,20 +268,28 @@ module _ (node : ℕ) (Own T D : TxId → Type 0) where
           knows = record {
             told = told_still (api_of step.state) is.api;
             numbered = numbered_still (tc_of step.state) _ _ is.tc
-                (ap (λ (f : Effects). put_kinds begun_by f.sends begun_yet) effects ∙ rows_none begun_by (λ before. refl) (λ tx before. refl) (kind_of x.body) _ begun_yet none)
-                (ap (λ (f : Effects). put_kinds verified_by f.sends verified) effects ∙ rows_none verified_by (λ before. refl) (λ tx before. refl) (kind_of x.body) _ verified none);
+                (ap (λ (f : Effects). put_kinds begun_by f.sends begun_yet) effects
+                ∙ rows_none begun_by (λ before. refl) (λ tx before. refl) (kind_of x.body) _ begun_yet none)
+                (ap (λ (f : Effects). put_kinds verified_by f.sends verified) effects
+                ∙ rows_none verified_by (λ before. refl) (λ tx before. refl) (kind_of x.body) _ verified none);
           };
-          says = subst (λ (f : Effects). Each (λ (o : Outgoing). HostSays Own T D (kind_of x.body) step.effects.marks o (kind_of o.body)) f.sends) (sym effects)
+          says =
+              subst (λ (f : Effects). Each
+              (λ (o : Outgoing). HostSays Own T D (kind_of x.body) step.effects.marks o (kind_of o.body)) f.sends)
+              (sym effects)
               (rows_say (kind_of x.body) tells step.effects.marks _ none);
-          decides = subst (λ (f : Effects). Each (Decides (kind_of x.body)) f.marks) (sym effects) (plain_decides (kind_of x.body) _ (lqh_marks (lqh_of s) x.body));
+          decides = subst (λ (f : Effects). Each (Decides (kind_of x.body)) f.marks) (sym effects)
+              (plain_decides (kind_of x.body) _ (lqh_marks (lqh_of s) x.body));
           reports = λ runs. absurd (api_alone s runs (inl is.runs));
         }
 
     idle_goes : (step : Step Host) → step ≡ stay s → Goes step
     idle_goes step is = subst Goes (sym is) (record { knows = knows; says = tt; decides = tt; reports = λ runs. tt })
 
-  pub host_goes : (s : Host) (x : Signal) (begun_yet verified : List TxId) → HostKnows node T D s begun_yet verified → Tells D (kind_of x.body)
-      → (has_api s ≡ true → TellsBegun T (kind_of x.body)) → (has_tc s ≡ true → x.to.block ≡ block.Tc → (tx : TxId) → tx.tc ≡ node → Own tx)
+  pub host_goes : (s : Host) (x : Signal) (begun_yet verified : List TxId) → HostKnows node T D s begun_yet verified
+      → Tells D (kind_of x.body)
+      → (has_api s ≡ true → TellsBegun T (kind_of x.body))
+      → (has_tc s ≡ true → x.to.block ≡ block.Tc → (tx : TxId) → tx.tc ≡ node → Own tx)
       → HostGoes node Own T D s (kind_of x.body) begun_yet verified (row s x)
   host_goes s x begun_yet verified knows tells begins own = go (block_case s x)
     where

@@ -66,11 +66,13 @@ row_marks epoch s x there =
     of_effects (λ f. AreMarks epoch f.marks) s x (plain tt) (record {
       api = λ runs at. plain (api_marks (api_of s) x.body);
       tc = λ runs at. plain (none_plain _ (tc_marks (tc_of s) x.body));
-      dih = λ runs at. subst (λ k. AreMarks k (dih_table (dih_of s) x.body).effects.marks) (there runs) (dih_marks (dih_of s) x.body);
+      dih = λ runs at. subst (λ k. AreMarks k (dih_table (dih_of s) x.body).effects.marks) (there runs)
+          (dih_marks (dih_of s) x.body);
       rows = λ runs at. plain (lqh_marks (lqh_of s) x.body);
     })
 
 -- the epoch stays
 pub row_epoch : (epoch : ℕ) (s : Host) (x : Signal) → IsIn epoch s → IsIn epoch (row s x).state
 row_epoch epoch s x there runs =
-    keeps_dih (λ (d : DihState). d.epoch ≡ epoch) (λ d y is. dih_epoch d y.body ∙ is) s x (there (sym (tc_stays s x) ∙ runs))
+    keeps_dih (λ (d : DihState). d.epoch ≡ epoch) (λ d y is. dih_epoch d y.body ∙ is) s x
+    (there (sym (tc_stays s x) ∙ runs))

@@ -344,11 +344,13 @@ record HostStays (before after : host.Host) (cs bs : List TxId) (sends : List Ou
 part_one : (p : TcPart) (at : BlockId) (x : Signal) (cs bs : List TxId) → IsOneWay p.tc cs bs
     → HostStays (Tc p) (Tc (tc_part_row p at x).state) cs bs (sends_for p at x)
 unfolding tc_part_row
-part_one p block.Tc x cs bs is = let stays = tc_one p.tc cs bs x.body is in record { one = stays.one; says = stays.says }
+part_one p block.Tc x cs bs is =
+    let stays = tc_one p.tc cs bs x.body is in record { one = stays.one; says = stays.says }
 part_one p block.Dih x cs bs is = record { one = is; says = tt }
 part_one p _ x cs bs is = record { one = is; says = tt }
 
-host_one : (s : host.Host) (x : Signal) (cs bs : List TxId) → IsOneWay (tc_of s) cs bs → HostStays s (row s x).state cs bs (tc_sends s x)
+host_one : (s : host.Host) (x : Signal) (cs bs : List TxId) → IsOneWay (tc_of s) cs bs
+    → HostStays s (row s x).state cs bs (tc_sends s x)
 unfolding row
 host_one (Shell a) x cs bs is = record { one = is; says = tt }
 host_one (Main m) x cs bs is = record { one = is; says = tt }
@@ -364,7 +366,8 @@ started_one s none = record {
   apart = tt;
 }
 
-log_one : (start : Start) (h : ℕ) (log : List HostStep) → IsOneWay (tc_of (after start h log)) (sent_ways start forth_by h log) (sent_ways start back_by h log)
+log_one : (start : Start) (h : ℕ) (log : List HostStep)
+    → IsOneWay (tc_of (after start h log)) (sent_ways start forth_by h log) (sent_ways start back_by h log)
 log_one start h [] = started_one (tc_of (started start h)) (none_live start h)
 log_one start h (e ∷ log) = (host_one (after start h log) e.step.taken (sent_ways start forth_by h log) (sent_ways start back_by h log) (log_one start h log)).one
 
@@ -385,9 +388,12 @@ not_apart tx (v ∷ cs) among off = by (or_cases (same_tx tx v) (list_any (same_
 
 -- one that a coordinator took forth knows that it is decided
 pub forth_decided : (start : Start) (h : ℕ) (log : List HostStep)
-    → Each (λ (e : TxId × Transaction). list_any (same_tx e.0) (sent_ways start forth_by h log) ≡ true → is_decided e.1.phase ≡ true) (tc_of (after start h log)).live
+    → Each (λ (e : TxId × Transaction). list_any (same_tx e.0) (sent_ways start forth_by h log) ≡ true
+    → is_decided e.1.phase ≡ true) (tc_of (after start h log)).live
 forth_decided start h log =
-    each_map (IsLive s.node s.next_seq cs bs) (λ (e : TxId × Transaction). list_any (same_tx e.0) cs ≡ true → is_decided e.1.phase ≡ true) s.live known (log_one start h log).live
+    each_map (IsLive s.node s.next_seq cs bs)
+    (λ (e : TxId × Transaction). list_any (same_tx e.0) cs ≡ true → is_decided e.1.phase ≡ true) s.live known
+    (log_one start h log).live
   where
     s : TcState
     s = tc_of (after start h log)
@@ -398,7 +404,8 @@ forth_decided start h log =
     bs : List TxId
     bs = sent_ways start back_by h log
 
-    known : (e : TxId × Transaction) → IsLive s.node s.next_seq cs bs e → list_any (same_tx e.0) cs ≡ true → is_decided e.1.phase ≡ true
+    known : (e : TxId × Transaction) → IsLive s.node s.next_seq cs bs e → list_any (same_tx e.0) cs ≡ true
+        → is_decided e.1.phase ≡ true
     known e live among = by (is_decided e.1.phase) refl
       where
         by : (b : Bool) → is_decided e.1.phase ≡ b → is_decided e.1.phase ≡ true

@@ -188,8 +188,10 @@ put_placed s (r ∷ rows) apart none =
     put_placed (put_row s r.0 r.1) rows (apart-set_row (with_place s.places r.0) r.0 (Some r.1) (apart-with_place s.places r.0 apart)) none
 
 -- a key of the group has of its rows what it has of all rows
-started_row : (shape : Shape) (node : ℕ) (s : RowsState) (table : Rows) (rows : List (List ℕ × List ℕ)) (key : List ℕ) → holds shape node key ≡ true
-    → row_at s.places key ≡ map.get table key → row_at (with_rows s (own_rows shape node rows)).places key ≡ map.get (rows_over table rows) key
+started_row : (shape : Shape) (node : ℕ) (s : RowsState) (table : Rows) (rows : List (List ℕ × List ℕ)) (key : List ℕ)
+    → holds shape node key ≡ true
+    → row_at s.places key ≡ map.get table key
+    → row_at (with_rows s (own_rows shape node rows)).places key ≡ map.get (rows_over table rows) key
 started_row shape node s table [] key held same = same
 started_row shape node s table (r ∷ rows) key held same =
     go (holds shape node r.0) refl (started_row shape node (put_row s r.0 r.1) (map.insert table r.0 r.1) rows key held)
@@ -200,24 +202,31 @@ started_row shape node s table (r ∷ rows) key held same =
     by false = same
 
     inserted : map.get (map.insert table r.0 r.1) key ≡ cond (same_key r.0 key) (Some r.1) (map.get table key)
-    inserted = map.get-insert nat_list_cmp_total table r.0 r.1 key ∙ ap (λ b. cond b (Some r.1) (map.get table key)) (tied-same_key key r.0 ∙ same_key-swap key r.0)
+    inserted =
+        map.get-insert nat_list_cmp_total table r.0 r.1 key
+        ∙ ap (λ b. cond b (Some r.1) (map.get table key)) (tied-same_key key r.0 ∙ same_key-swap key r.0)
 
     put : row_at (put_row s r.0 r.1).places key ≡ map.get (map.insert table r.0 r.1) key
     put =
         row-set_row (with_place s.places r.0) r.0 key (Some r.1) (has-own_place s.places r.0)
-        ∙ ap (λ w. if same_key r.0 key then Some r.1 else w) (row-with_place s.places r.0 key) ∙ by (same_key r.0 key) ∙ sym inserted
+        ∙ ap (λ w. if same_key r.0 key then Some r.1 else w) (row-with_place s.places r.0 key) ∙ by (same_key r.0 key)
+        ∙ sym inserted
 
     -- a row of another group isn't the key's
-    other : holds shape node r.0 ≡ false → (b : Bool) → same_key r.0 key ≡ b → map.get table key ≡ cond b (Some r.1) (map.get table key)
+    other : holds shape node r.0 ≡ false → (b : Bool) → same_key r.0 key ≡ b
+        → map.get table key ≡ cond b (Some r.1) (map.get table key)
     other off true own = absurd (false≢true (sym off ∙ ap (holds shape node) (same_key-is r.0 key own) ∙ held))
     other off false own = refl
 
     go : (b : Bool) → holds shape node r.0 ≡ b
         → (row_at (put_row s r.0 r.1).places key ≡ map.get (map.insert table r.0 r.1) key
-        → row_at (with_rows (put_row s r.0 r.1) (own_rows shape node rows)).places key ≡ map.get (rows_over (map.insert table r.0 r.1) rows) key)
+        → row_at (with_rows (put_row s r.0 r.1) (own_rows shape node rows)).places key
+        ≡ map.get (rows_over (map.insert table r.0 r.1) rows) key)
         → (row_at s.places key ≡ map.get (map.insert table r.0 r.1) key
-        → row_at (with_rows s (own_rows shape node rows)).places key ≡ map.get (rows_over (map.insert table r.0 r.1) rows) key)
-        → row_at (with_rows s (if b then r ∷ own_rows shape node rows else own_rows shape node rows)).places key ≡ map.get (rows_over (map.insert table r.0 r.1) rows) key
+        → row_at (with_rows s (own_rows shape node rows)).places key
+        ≡ map.get (rows_over (map.insert table r.0 r.1) rows) key)
+        → row_at (with_rows s (if b then r ∷ own_rows shape node rows else own_rows shape node rows)).places key
+        ≡ map.get (rows_over (map.insert table r.0 r.1) rows) key
     go true is own without = own put
     go false is own without = without (same ∙ other is (same_key r.0 key) refl ∙ sym inserted)
 
@@ -231,15 +240,18 @@ keys_begin_at_rest member layout epoch rows key held =
     let own = own_rows layout.shape member.node rows in
     replica_is _ _
     (λ i. record {
-      row = (row_of-at (with_rows no_rows own) key ∙ started_row layout.shape member.node no_rows map.empty rows key held (sym (map.get-empty key_cmp key))) i;
+      row = (row_of-at (with_rows no_rows own) key
+          ∙ started_row layout.shape member.node no_rows map.empty rows key held (sym (map.get-empty key_cmp key))) i;
       pending = ap (filter (is_on key)) (started_pending no_rows own) i;
     })
     (ap or_unlocked (map.get-empty key_cmp key)) refl
 
-idle_well : (node : ℕ) (layout : Layout) (rows : List (List ℕ × List ℕ)) → IsWell (unasked_yet node layout (with_rows no_rows rows) (record { used = 0; reserved = 0 }))
+idle_well : (node : ℕ) (layout : Layout) (rows : List (List ℕ × List ℕ))
+    → IsWell (unasked_yet node layout (with_rows no_rows rows) (record { used = 0; reserved = 0 }))
 idle_well node layout rows = record { placed = put_placed no_rows rows tt refl; orderly = empty_orderly }
 
-part_well : (of : Part) (member : Member) (layout : Layout) (epoch : ℕ) (rows : List (List ℕ × List ℕ)) → IsWellHost (fresh_part of member layout epoch rows)
+part_well : (of : Part) (member : Member) (layout : Layout) (epoch : ℕ) (rows : List (List ℕ × List ℕ))
+    → IsWellHost (fresh_part of member layout epoch rows)
 unfolding fresh_part
 part_well part.Main member layout epoch rows = idle_well 0 nowhere []
 part_well part.Tc member layout epoch rows = idle_well 0 nowhere []
@@ -248,19 +260,24 @@ part_well part.Ldm member layout epoch rows = idle_well member.node layout (own_
 started_well : (start : Start) (h : ℕ) → IsWellHost (started start h)
 unfolding fresh_shell started
 started_well start zero = idle_well 0 nowhere []
-started_well start (suc h) = part_well (part_by (h % 3)) (member_at (made start) (suc h)) (first_layout start.shape) start.epoch start.rows
+started_well start (suc h) =
+    part_well (part_by (h % 3)) (member_at (made start) (suc h)) (first_layout start.shape) start.epoch start.rows
 
 pub logs_keep_well : LogsKeepWell
 logs_keep_well start h [] = started_well start h
-logs_keep_well start h (e ∷ log) = keeps_rows IsWell (λ s x well. signals_keep_well s x.body well) (after start h log) e.step.taken (logs_keep_well start h log)
+logs_keep_well start h (e ∷ log) =
+    keeps_rows IsWell (λ s x well. signals_keep_well s x.body well) (after start h log) e.step.taken
+    (logs_keep_well start h log)
 
 -- a host's step is one of each of its keys
-ldm_event : (s : LqhState) (at : BlockId) (x : Signal) (key : List ℕ) → IsWell s → at_key key (ldm_row s at x).state ≡ key_after (event_for key s at x.body) (at_key key s)
+ldm_event : (s : LqhState) (at : BlockId) (x : Signal) (key : List ℕ) → IsWell s
+    → at_key key (ldm_row s at x).state ≡ key_after (event_for key s at x.body) (at_key key s)
 unfolding ldm_row
 ldm_event s block.Lqh x key well = signals_are_events s x.body key well
 ldm_event s _ x key well = refl
 
-host_event : (s : host.Host) (x : Signal) (key : List ℕ) → IsWellHost s → key_in key (row s x).state ≡ key_after (event_in key s x) (key_in key s)
+host_event : (s : host.Host) (x : Signal) (key : List ℕ) → IsWellHost s
+    → key_in key (row s x).state ≡ key_after (event_in key s x) (key_in key s)
 unfolding row
 host_event (Shell a) x key well = refl
 host_event (Main m) x key well = refl
@@ -272,7 +289,8 @@ logs_follow start h log e key = host_event (after start h log) e.step.taken key 
 
 pub nodes_begin : NodesBeginAtRest
 nodes_begin start node key some few held =
-    ap (key_in key) (rows_started start node some few) ∙ keys_begin_at_rest (first_start node) (first_layout start.shape) start.epoch start.rows key held
+    ap (key_in key) (rows_started start node some few)
+    ∙ keys_begin_at_rest (first_start node) (first_layout start.shape) start.epoch start.rows key held
 
 pub keys_have_rows : KeysHaveRows
 unfolding committed.row_at

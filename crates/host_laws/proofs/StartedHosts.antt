@@ -18,7 +18,8 @@ use Rattle.world_core.specs.Steps.{HostStep}
 use Rattle.world_core.proofs.HostNumbers.{IsNodes, beyond_host, host_below, tc_after, tc_found, tc_started}
 
 -- no coordinator has a transaction
-part_live : (of : Part) (member : Member) (layout : Layout) (epoch : ℕ) (rows : List (List ℕ × List ℕ)) → (tc_of (fresh_part of member layout epoch rows)).live ≡ []
+part_live : (of : Part) (member : Member) (layout : Layout) (epoch : ℕ) (rows : List (List ℕ × List ℕ))
+    → (tc_of (fresh_part of member layout epoch rows)).live ≡ []
 unfolding fresh_part
 part_live Main member layout epoch rows = refl
 part_live Tc member layout epoch rows = refl
@@ -27,10 +28,12 @@ part_live Ldm member layout epoch rows = refl
 pub none_live : (start : Start) (h : ℕ) → (tc_of (started start h)).live ≡ []
 unfolding fresh_shell started
 none_live start zero = refl
-none_live start (suc h) = part_live (part_by (h % 3)) (member_at (made start) (suc h)) (first_layout start.shape) start.epoch start.rows
+none_live start (suc h) =
+    part_live (part_by (h % 3)) (member_at (made start) (suc h)) (first_layout start.shape) start.epoch start.rows
 
 -- the API has none
-part_opened : (of : Part) (member : Member) (layout : Layout) (epoch : ℕ) (rows : List (List ℕ × List ℕ)) → (api_of (fresh_part of member layout epoch rows)).opened ≡ []
+part_opened : (of : Part) (member : Member) (layout : Layout) (epoch : ℕ) (rows : List (List ℕ × List ℕ))
+    → (api_of (fresh_part of member layout epoch rows)).opened ≡ []
 unfolding fresh_part
 part_opened Main member layout epoch rows = refl
 part_opened Tc member layout epoch rows = refl
@@ -39,20 +42,24 @@ part_opened Ldm member layout epoch rows = refl
 pub none_opened : (start : Start) (h : ℕ) → (api_of (started start h)).opened ≡ []
 unfolding fresh_shell started
 none_opened start zero = refl
-none_opened start (suc h) = part_opened (part_by (h % 3)) (member_at (made start) (suc h)) (first_layout start.shape) start.epoch start.rows
+none_opened start (suc h) =
+    part_opened (part_by (h % 3)) (member_at (made start) (suc h)) (first_layout start.shape) start.epoch start.rows
 
 -- all epochs are the first
-part_epoch : (of : Part) (member : Member) (layout : Layout) (epoch : ℕ) (rows : List (List ℕ × List ℕ)) → has_tc (fresh_part of member layout epoch rows) ≡ true
+part_epoch : (of : Part) (member : Member) (layout : Layout) (epoch : ℕ) (rows : List (List ℕ × List ℕ))
+    → has_tc (fresh_part of member layout epoch rows) ≡ true
     → (dih_of (fresh_part of member layout epoch rows)).epoch ≡ epoch
 unfolding fresh_part
 part_epoch Main member layout epoch rows runs = absurd cc
 part_epoch Tc member layout epoch rows runs = refl
 part_epoch Ldm member layout epoch rows runs = absurd cc
 
-pub started_epoch : (start : Start) (h : ℕ) → has_tc (started start h) ≡ true → (dih_of (started start h)).epoch ≡ start.epoch
+pub started_epoch : (start : Start) (h : ℕ) → has_tc (started start h) ≡ true
+    → (dih_of (started start h)).epoch ≡ start.epoch
 unfolding fresh_shell started
 started_epoch start zero runs = absurd cc
-started_epoch start (suc h) runs = part_epoch (part_by (h % 3)) (member_at (made start) (suc h)) (first_layout start.shape) start.epoch start.rows runs
+started_epoch start (suc h) runs =
+    part_epoch (part_by (h % 3)) (member_at (made start) (suc h)) (first_layout start.shape) start.epoch start.rows runs
 
 -- what is sent goes to a host that is there, or to the first that isn't
 to_shell : (start : Start) (to : Place) → to.node < 1 → host_for start to ≡ 0
@@ -66,13 +73,15 @@ to_shell start to low = by (to.node == 0) refl
 place_host : (start : Start) (to : Place) → (host_for start to < hosts start) ⊎ (host_for start to ≡ hosts start)
 place_host start to = go (cases_lt to.node 1) (cases_lt start.shape.nodes to.node)
   where
-    go : (to.node < 1) ⊎ (1 ≤ to.node) → (start.shape.nodes < to.node) ⊎ (to.node ≤ start.shape.nodes) → (host_for start to < hosts start) ⊎ (host_for start to ≡ hosts start)
+    go : (to.node < 1) ⊎ (1 ≤ to.node) → (start.shape.nodes < to.node) ⊎ (to.node ≤ start.shape.nodes)
+        → (host_for start to < hosts start) ⊎ (host_for start to ≡ hosts start)
     go (inl low) any = inl (omega (arith, to_shell start to low))
     go (inr some) (inl above) = inr (beyond_host start to above)
     go (inr some) (inr low) = inl (host_below start to some low)
 
 -- the first that isn't there has no coordinator
-beyond_part : (start : Start) (member : Member) (left : ℕ) → left ≡ 0 → has_tc (fresh_part (part_by left) member (first_layout start.shape) start.epoch start.rows) ≡ true → ⊥
+beyond_part : (start : Start) (member : Member) (left : ℕ) → left ≡ 0
+    → has_tc (fresh_part (part_by left) member (first_layout start.shape) start.epoch start.rows) ≡ true → ⊥
 unfolding fresh_part
 beyond_part start member zero is runs = cc
 beyond_part start member (suc left) is runs = omega (arith, is)
@@ -82,7 +91,8 @@ unfolding started
 beyond_idle start zero is runs = omega (arith, is)
 beyond_idle start (suc k) is runs =
     let last : k ≡ start.shape.nodes * 3 + 0 = omega (arith, is) in
-    beyond_part start (member_at (made start) (suc k)) (k % 3) (ap (λ n. n % 3) last ∙ mod-mul-add start.shape.nodes 3 0 (omega arith)) runs
+    beyond_part start (member_at (made start) (suc k)) (k % 3)
+    (ap (λ n. n % 3) last ∙ mod-mul-add start.shape.nodes 3 0 (omega arith)) runs
 
 -- the node of a host's coordinator
 abbrev pub node_at : Start → ℕ → ℕ
@@ -93,7 +103,8 @@ unfolding fresh_part
 tc_node start node some low = ap (λ s. (tc_of s).node) (tc_started start node some low)
 
 -- a host with a coordinator that is sent something is the coordinator's of its node
-pub tc_home : (start : Start) (h : ℕ) (log : List HostStep) (to : Place) → host_for start to ≡ h → has_tc (after start h log) ≡ true → h ≡ tc_host start (node_at start h)
+pub tc_home : (start : Start) (h : ℕ) (log : List HostStep) (to : Place) → host_for start to ≡ h
+    → has_tc (after start h log) ≡ true → h ≡ tc_host start (node_at start h)
 tc_home start h log to sent runs = go (place_host start to)
   where
     own : IsNodes start (tc_host start) h → h ≡ tc_host start (node_at start h)

@@ -40,7 +40,8 @@ use Rattle.tc_block.proofs.LiveSplit.{KeysOnce}
 use Rattle.host_laws.proofs.TcNumbers.{IsLive, IsNumbered, Tells, begun_by, put_kinds, verified_by}
 use Rattle.run_laws.proofs.CausalFacts.{BeginsRightly, CommitsRightly, DecidesRightly, ReportsRightly, Says, SignalSays, decided_more, decision_of, report_of, request_other, says_more, told_more}
 
-knows_more : (node : ℕ) (T D T' D' : TxId → Type 0) (s : Host) (bs vs : List TxId) → ((tx : TxId) → T tx → T' tx) → ((tx : TxId) → D tx → D' tx)
+knows_more : (node : ℕ) (T D T' D' : TxId → Type 0) (s : Host) (bs vs : List TxId) → ((tx : TxId) → T tx → T' tx)
+    → ((tx : TxId) → D tx → D' tx)
     → HostKnows node T D s bs vs → HostKnows node T' D' s bs vs
 knows_more node T D T' D' s bs vs f g knows = record {
   told = each_map (λ t. ToldOf T t.tx) (λ t. ToldOf T' t.tx) (api_of s).opened (λ t. by t.tx) knows.told;
@@ -48,7 +49,12 @@ knows_more node T D T' D' s bs vs f g knows = record {
     own = is_numbered.own;
     once = is_numbered.once;
     live = each_map (IsLive node (tc_of s).next_seq D vs) (IsLive node (tc_of s).next_seq D' vs) (tc_of s).live
-        (λ e is. record { tc = is.tc; below = is.below; decided = λ d. g e.0 (is.decided d); unverified = is.unverified }) is_numbered.live;
+        (λ e is. record {
+          tc = is.tc;
+          below = is.below;
+          decided = λ d. g e.0 (is.decided d);
+          unverified = is.unverified;
+        }) is_numbered.live;
     begun_below = is_numbered.begun_below;
     begun_apart = is_numbered.begun_apart;
     verified_below = is_numbered.verified_below;
@@ -76,7 +82,9 @@ module _ (start : Start) where
   DecidedBy logs log tx = IsDecidedBelow logs tx (last_stamp log + 1)
 
   abbrev pub KnowsBy : (ℕ → List HostStep) → ℕ → List HostStep → Type 0
-  KnowsBy logs h log = HostKnows (node_at start h) (ToldBy logs log) (DecidedBy logs log) (after start h log) (sent_kinds begun_by h log) (sent_kinds verified_by h log)
+  KnowsBy logs h log =
+      HostKnows (node_at start h) (ToldBy logs log) (DecidedBy logs log) (after start h log) (sent_kinds begun_by h log)
+      (sent_kinds verified_by h log)
 
   pub record AreCausal (logs : ℕ → List HostStep) : Type 0 where
     pub knows : (h : ℕ) → KnowsBy logs h (logs h)
@@ -91,7 +99,9 @@ module _ (start : Start) where
     numbered = record {
       own = refl;
       once = subst KeysOnce (sym (none_live start h)) tt;
-      live = subst (Each (IsLive (node_at start h) (tc_of (started start h)).next_seq (DecidedBy (log_of (machine start) []) []) [])) (sym (none_live start h)) tt;
+      live = subst
+          (Each (IsLive (node_at start h) (tc_of (started start h)).next_seq
+          (DecidedBy (log_of (machine start) []) []) [])) (sym (none_live start h)) tt;
       begun_below = tt;
       begun_apart = tt;
       verified_below = tt;
@@ -126,10 +136,12 @@ module _ (start : Start) where
     after_last = let above = step_above (machine start) h (before h) e come.happens.step in omega (arith, above, last_is start h (before h))
 
     -- what the taken signal says
-    taken_says : (k : Kind) → kind_of e.step.taken.body ≡ k → (k ≡ kind.other → ⊥) → Says start before (record { to = e.host; signal = e.step.taken }) k
+    taken_says : (k : Kind) → kind_of e.step.taken.body ≡ k → (k ≡ kind.other → ⊥)
+        → Says start before (record { to = e.host; signal = e.step.taken }) k
     taken_says k is real = by (is_request e.step.taken.body) refl
       where
-        by : (b : Bool) → is_request e.step.taken.body ≡ b → Says start before (record { to = e.host; signal = e.step.taken }) k
+        by : (b : Bool) → is_request e.step.taken.body ≡ b
+            → Says start before (record { to = e.host; signal = e.step.taken }) k
         by true asked = absurd (real (sym is ∙ request_other e.step.taken.body asked))
         by false asked = subst (Says start before (record { to = e.host; signal = e.step.taken })) is (come.told asked)
 
@@ -158,12 +170,15 @@ module _ (start : Start) where
     abbrev Own : TxId → Type 0
     Own tx = h ≡ home start tx
 
-    goes : HostGoes (node_at start h) Own (λ tx. IsToldBelow now tx (e.step.stamp + 1)) (λ tx. IsDecidedBelow now tx (e.step.stamp + 1)) (after start h (before h)) (kind_of e.step.taken.body)
+    goes : HostGoes (node_at start h) Own (λ tx. IsToldBelow now tx (e.step.stamp + 1))
+        (λ tx. IsDecidedBelow now tx (e.step.stamp + 1)) (after start h (before h)) (kind_of e.step.taken.body)
         (sent_kinds begun_by h (before h)) (sent_kinds verified_by h (before h)) (step_after start h (before h) e)
     goes =
-        host_goes (node_at start h) Own (λ tx. IsToldBelow now tx (e.step.stamp + 1)) (λ tx. IsDecidedBelow now tx (e.step.stamp + 1)) (after start h (before h)) e.step.taken
+        host_goes (node_at start h) Own (λ tx. IsToldBelow now tx (e.step.stamp + 1))
+        (λ tx. IsDecidedBelow now tx (e.step.stamp + 1)) (after start h (before h)) e.step.taken
         (sent_kinds begun_by h (before h)) (sent_kinds verified_by h (before h))
-        (knows_more (node_at start h) (ToldBy before (before h)) (DecidedBy before (before h)) (λ tx. IsToldBelow now tx (e.step.stamp + 1)) (λ tx. IsDecidedBelow now tx (e.step.stamp + 1))
+        (knows_more (node_at start h) (ToldBy before (before h)) (DecidedBy before (before h))
+        (λ tx. IsToldBelow now tx (e.step.stamp + 1)) (λ tx. IsDecidedBelow now tx (e.step.stamp + 1))
         (after start h (before h)) (sent_kinds begun_by h (before h)) (sent_kinds verified_by h (before h))
         (λ tx is. told_more before now tx (last_stamp (before h) + 1) (e.step.stamp + 1) grown after_last is)
         (λ tx is. decided_more before now tx (last_stamp (before h) + 1) (e.step.stamp + 1) grown after_last is) (come.all.law.knows h))
@@ -181,7 +196,8 @@ module _ (start : Start) where
         by (inl at) = subst (λ g. KnowsBy now g (now g)) at (subst (KnowsBy now h) (sym own_log) goes.knows)
         by (inr off) =
             subst (KnowsBy now g) (sym (log_of-other (machine start) e es g off))
-            (knows_more (node_at start g) (ToldBy before (before g)) (DecidedBy before (before g)) (ToldBy now (before g)) (DecidedBy now (before g)) (after start g (before g))
+            (knows_more (node_at start g) (ToldBy before (before g)) (DecidedBy before (before g))
+            (ToldBy now (before g)) (DecidedBy now (before g)) (after start g (before g))
             (sent_kinds begun_by g (before g)) (sent_kinds verified_by g (before g))
             (λ tx is. told_more before now tx (last_stamp (before g) + 1) (last_stamp (before g) + 1) grown (omega arith) is)
             (λ tx is. decided_more before now tx (last_stamp (before g) + 1) (last_stamp (before g) + 1) grown (omega arith) is) (come.all.law.knows g))
@@ -202,9 +218,11 @@ module _ (start : Start) where
 
     report_now : h ≡ 0 → ReportsRightly now e
     report_now at tx marked =
-        let runs : has_api (after start h (before h)) ≡ true = subst (λ g. has_api (after start g (before g)) ≡ true) (sym at) (api_runs start (before 0)) in
+        let runs : has_api (after start h (before h)) ≡ true =
+        subst (λ g. has_api (after start g (before g)) ≡ true) (sym at) (api_runs start (before 0)) in
         let took : kind_of e.step.taken.body ≡ kind.ended tx =
-        report_of (kind_of e.step.taken.body) (step_after start h (before h) e).effects.marks tx (goes.reports runs) (ap (list_any (is_reported tx)) (sym own_marks) ∙ marked) in
+        report_of (kind_of e.step.taken.body) (step_after start h (before h) e).effects.marks tx (goes.reports runs)
+        (ap (list_any (is_reported tx)) (sym own_marks) ∙ marked) in
         decided_more before now tx (e.step.taken.stamp + 1) e.step.stamp grown later (taken_says (kind.ended tx) took (λ same. absurd cc))
 
     reports_now : Each (ReportsRightly now) (now 0)
@@ -218,7 +236,9 @@ module _ (start : Start) where
         by (inr off) = subst (Each (ReportsRightly now)) (sym (log_of-other (machine start) e es 0 off)) old
 
     begins_now : Each (BeginsRightly start) (now 0)
-    begins_now = each_next (machine start) (BeginsRightly start) es e 0 (λ tx is. taken_says (kind.begun tx) is (λ same. absurd cc)) come.all.law.begins
+    begins_now =
+        each_next (machine start) (BeginsRightly start) es e 0
+        (λ tx is. taken_says (kind.begun tx) is (λ same. absurd cc)) come.all.law.begins
 
     commits_now : (g : ℕ) → Each (CommitsRightly now) (now g)
     commits_now g =
@@ -231,7 +251,8 @@ module _ (start : Start) where
 
     -- what it sends says the truth
     one_says : (number : ℕ) (o : Outgoing) (k : Kind)
-        → HostSays Own (λ tx. IsToldBelow now tx (e.step.stamp + 1)) (λ tx. IsDecidedBelow now tx (e.step.stamp + 1)) (kind_of e.step.taken.body) (step_after start h (before h) e).effects.marks o k
+        → HostSays Own (λ tx. IsToldBelow now tx (e.step.stamp + 1)) (λ tx. IsDecidedBelow now tx (e.step.stamp + 1))
+        (kind_of e.step.taken.body) (step_after start h (before h) e).effects.marks o k
         → Says start now (addressed (first_membership start) h e.step.stamp number o) k
     one_says number o (kind.begun tx) says = says
     one_says number o (kind.wanted tx) says = says
@@ -246,7 +267,9 @@ module _ (start : Start) where
     one_says number o kind.other says = tt
 
     all_say : (count : ℕ → ℕ) (sends : List Outgoing)
-        → Each (λ (o : Outgoing). HostSays Own (λ tx. IsToldBelow now tx (e.step.stamp + 1)) (λ tx. IsDecidedBelow now tx (e.step.stamp + 1)) (kind_of e.step.taken.body) (step_after start h (before h) e).effects.marks o (kind_of o.body)) sends
+        → Each (λ (o : Outgoing). HostSays Own (λ tx. IsToldBelow now tx (e.step.stamp + 1))
+        (λ tx. IsDecidedBelow now tx (e.step.stamp + 1)) (kind_of e.step.taken.body)
+        (step_after start h (before h) e).effects.marks o (kind_of o.body)) sends
         → Each (λ x. SignalSays start x now) (all_addressed (first_membership start) h e.step.stamp count sends)
     all_say count [] all = tt
     all_say count (o ∷ more) all = (
@@ -263,10 +286,12 @@ module _ (start : Start) where
     step = λ es e come. causal_step es e come;
     sends = λ es e come runs. sends_say es e come;
     closing = λ es e come stop j. absurd (true≢false (sym stop));
-    stays = λ es e x come says. says_more start (log_of (machine start) es) (log_of (machine start) (e ∷ es)) x (kind_of x.signal.body) (log_of-past (machine start) e es) says;
+    stays = λ es e x come says. says_more start (log_of (machine start) es) (log_of (machine start) (e ∷ es)) x
+        (kind_of x.signal.body) (log_of-past (machine start) e es) says;
   }
 
   -- so it is of every closed cut
   pub cuts_are_causal : (inside logs : ℕ → List HostStep) → IsClosedCut start inside logs → AreCausal inside
   cuts_are_causal inside logs is =
-      (along_signals_of_cuts (machine start) (stamped start) (SignalSays start) AreCausal causal_kept (hosts start) inside logs is.within is.right is.cut is.closed).law
+      (along_signals_of_cuts (machine start) (stamped start) (SignalSays start) AreCausal causal_kept
+      (hosts start) inside logs is.within is.right is.cut is.closed).law

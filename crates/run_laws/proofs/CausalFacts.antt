@@ -53,7 +53,8 @@ module _ (start : Start) where
   abbrev pub Says : (ℕ → List HostStep) → Addressed → Kind → Type 0
   Says logs x (kind.begun tx) = x.signal.from.0 ≡ home start tx
   Says logs x (kind.wanted tx) = IsToldBelow logs tx (x.signal.stamp + 1)
-  Says logs x (kind.verified tx) = IsToldBelow logs tx (x.signal.stamp + 1) × (x.signal.from.0 ≡ home start tx) × (x.to ≡ home start tx)
+  Says logs x (kind.verified tx) =
+      IsToldBelow logs tx (x.signal.stamp + 1) × (x.signal.from.0 ≡ home start tx) × (x.to ≡ home start tx)
   Says logs x (kind.decided tx) = IsDecidedBelow logs tx (x.signal.stamp + 1)
   Says logs x (kind.committing tx) = IsDecidedBelow logs tx (x.signal.stamp + 1)
   Says logs x (kind.ended tx) = IsDecidedBelow logs tx (x.signal.stamp + 1)
@@ -62,13 +63,19 @@ module _ (start : Start) where
   abbrev pub SignalSays : Addressed → (ℕ → List HostStep) → Type 0
   SignalSays x logs = Says logs x (kind_of x.signal.body)
 
-  pub says_more : (small large : ℕ → List HostStep) (x : Addressed) (k : Kind) → ((h : ℕ) → IsPast (small h) (large h)) → Says small x k → Says large x k
+  pub says_more : (small large : ℕ → List HostStep) (x : Addressed) (k : Kind) → ((h : ℕ) → IsPast (small h) (large h))
+      → Says small x k → Says large x k
   says_more small large x (kind.begun tx) past says = says
-  says_more small large x (kind.wanted tx) past says = told_more small large tx (x.signal.stamp + 1) (x.signal.stamp + 1) past (omega arith) says
-  says_more small large x (kind.verified tx) past says = (told_more small large tx (x.signal.stamp + 1) (x.signal.stamp + 1) past (omega arith) says.0, says.1, says.2)
-  says_more small large x (kind.decided tx) past says = decided_more small large tx (x.signal.stamp + 1) (x.signal.stamp + 1) past (omega arith) says
-  says_more small large x (kind.committing tx) past says = decided_more small large tx (x.signal.stamp + 1) (x.signal.stamp + 1) past (omega arith) says
-  says_more small large x (kind.ended tx) past says = decided_more small large tx (x.signal.stamp + 1) (x.signal.stamp + 1) past (omega arith) says
+  says_more small large x (kind.wanted tx) past says =
+      told_more small large tx (x.signal.stamp + 1) (x.signal.stamp + 1) past (omega arith) says
+  says_more small large x (kind.verified tx) past says =
+      (told_more small large tx (x.signal.stamp + 1) (x.signal.stamp + 1) past (omega arith) says.0, says.1, says.2)
+  says_more small large x (kind.decided tx) past says =
+      decided_more small large tx (x.signal.stamp + 1) (x.signal.stamp + 1) past (omega arith) says
+  says_more small large x (kind.committing tx) past says =
+      decided_more small large tx (x.signal.stamp + 1) (x.signal.stamp + 1) past (omega arith) says
+  says_more small large x (kind.ended tx) past says =
+      decided_more small large tx (x.signal.stamp + 1) (x.signal.stamp + 1) past (omega arith) says
   says_more small large x kind.other past says = tt
 
   -- a decision in a step

@@ -86,4 +86,5 @@ pub view_first : GreatestViewIsFirst
 view_first start inside logs is = logs_greatest start (hosts start) inside (first_view start.shape.nodes) (inside_right start inside logs is)
 
 pub view_viable : GreatestViewIsViable
-view_viable start inside logs shape is = ap (is_viable start.shape) (view_first start inside logs is) ∙ first_viable start.shape shape
+view_viable start inside logs shape is =
+    ap (is_viable start.shape) (view_first start inside logs is) ∙ first_viable start.shape shape

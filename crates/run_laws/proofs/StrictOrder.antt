@@ -137,11 +137,14 @@ module _ (start : Start) where
       omega (arith, above, below)
 
   module _ (logs : ℕ → List HostStep) (right : AreLogs (machine start) logs) (causal : AreCausal start logs) where
-    decided_at : (h : ℕ) (e : HostStep) (tx : TxId) → IsIn e (logs h) → list_any (is_decision tx) e.step.marks ≡ true → DecidesAt start logs e tx
-    decided_at h e tx inside marked = each_in (DecidesRightly start logs) e (logs h) (causal.decisions h) inside tx marked
+    decided_at : (h : ℕ) (e : HostStep) (tx : TxId) → IsIn e (logs h) → list_any (is_decision tx) e.step.marks ≡ true
+        → DecidesAt start logs e tx
+    decided_at h e tx inside marked =
+        each_in (DecidesRightly start logs) e (logs h) (causal.decisions h) inside tx marked
 
     -- the step of a decision is one of the coordinator's host
-    at_home : (h : ℕ) (e : HostStep) (tx : TxId) → IsIn e (logs h) → DecidesAt start logs e tx → IsIn e (logs (home start tx))
+    at_home : (h : ℕ) (e : HostStep) (tx : TxId) → IsIn e (logs h) → DecidesAt start logs e tx
+        → IsIn e (logs (home start tx))
     at_home h e tx inside is = subst (λ g. IsIn e (logs g)) (sym (host_of (logs h) (right.local h) inside) ∙ is.to) inside
       where
         host_of : (log : List HostStep) → IsLog (machine start) h log → IsIn e log → e.host ≡ h
@@ -149,17 +152,20 @@ module _ (start : Start) where
         host_of (f ∷ log) l (inl same) = ap (λ (g : HostStep). g.host) same ∙ l.0.at
         host_of (f ∷ log) l (inr rest) = host_of log l.1 rest
 
-    takes_verified : (e : HostStep) (tx : TxId) → DecidesAt start logs e tx → Takes start verified_of verified_by verified_reads (home start tx) tx e
+    takes_verified : (e : HostStep) (tx : TxId) → DecidesAt start logs e tx
+        → Takes start verified_of verified_by verified_reads (home start tx) tx e
     takes_verified e tx is = record { from = is.from; asked = verified_asked e.step.taken.body tx is.took; of = ap verified_of is.took }
 
     -- a transaction is decided in one step
-    pub one_decided : (tx : TxId) (g h : ℕ) (a b : HostStep) → IsIn a (logs g) → IsIn b (logs h) → list_any (is_decision tx) a.step.marks ≡ true → list_any (is_decision tx) b.step.marks ≡ true → a ≡ b
+    pub one_decided : (tx : TxId) (g h : ℕ) (a b : HostStep) → IsIn a (logs g) → IsIn b (logs h)
+        → list_any (is_decision tx) a.step.marks ≡ true → list_any (is_decision tx) b.step.marks ≡ true → a ≡ b
     one_decided tx g h a b left other marked too =
         let at_a = decided_at g a tx left marked in
         let at_b = decided_at h b tx other too in
         one_verified start logs right causal tx a b (at_home g a tx left at_a) (at_home h b tx other at_b) (takes_verified a tx at_a) (takes_verified b tx at_b)
 
-    takes_begun : (e : HostStep) (tx : TxId) → IsIn e (logs 0) → kind_of e.step.taken.body ≡ kind.begun tx → Takes start begun_of begun_by begun_reads (home start tx) tx e
+    takes_begun : (e : HostStep) (tx : TxId) → IsIn e (logs 0) → kind_of e.step.taken.body ≡ kind.begun tx
+        → Takes start begun_of begun_by begun_reads (home start tx) tx e
     takes_begun e tx inside is = record { from = each_in _ e (logs 0) causal.begins inside tx is; asked = begun_asked e.step.taken.body tx is; of = ap begun_of is }
 
     strictly : IsStrictOrder start (logs 0) (history (hosts start) logs)

@@ -93,17 +93,22 @@ module _ (start : Start) (read : Kind → Option TxId) (add : Kind → List TxId
   read_of x = read (kind_of x.signal.body)
 
   -- what a link was given of the kind is part of what its sender said of it
-  put_sub : (who : Membership) (h j stamp : ℕ) (count : ℕ → ℕ) (sends : List Outgoing) (before : List Addressed) (all : List TxId) → Sub (filter_map read_of before) all
-      → Sub (filter_map read_of (put (machine start) j (all_addressed who h stamp count sends) before)) (put_kinds add sends all)
+  put_sub : (who : Membership) (h j stamp : ℕ) (count : ℕ → ℕ) (sends : List Outgoing) (before : List Addressed)
+      (all : List TxId) → Sub (filter_map read_of before) all
+      → Sub (filter_map read_of (put (machine start) j (all_addressed who h stamp count sends) before))
+      (put_kinds add sends all)
   put_sub who h j stamp count [] before all sub = sub
   put_sub who h j stamp count (o ∷ more) before all sub =
-      put_sub who h j stamp (counted (receiver who o.to) count) more (if receiver who o.to == j then one ∷ before else before) (add (kind_of o.body) all)
-      (subst (Sub (filter_map read_of (if receiver who o.to == j then one ∷ before else before))) (sym (reads.adds (kind_of o.body) all)) (by (receiver who o.to == j) (read (kind_of o.body)) refl))
+      put_sub who h j stamp (counted (receiver who o.to) count) more
+      (if receiver who o.to == j then one ∷ before else before) (add (kind_of o.body) all)
+      (subst (Sub (filter_map read_of (if receiver who o.to == j then one ∷ before else before)))
+      (sym (reads.adds (kind_of o.body) all)) (by (receiver who o.to == j) (read (kind_of o.body)) refl))
     where
       one : Addressed
       one = addressed who h stamp (count (receiver who o.to)) o
 
-      by : (b : Bool) (r : Option TxId) → read (kind_of o.body) ≡ r → Sub (filter_map read_of (if b then one ∷ before else before)) (cons_option r all)
+      by : (b : Bool) (r : Option TxId) → read (kind_of o.body) ≡ r
+          → Sub (filter_map read_of (if b then one ∷ before else before)) (cons_option r all)
       by true None is = subst (λ w. Sub (cons_option w (filter_map read_of before)) all) (sym is) sub
       by true (Some tx) is = subst (λ w. Sub (cons_option w (filter_map read_of before)) (tx ∷ all)) (sym is) (inr (record { more = filter_map read_of before; is = refl; rest = sub }))
       by false None is = sub
@@ -112,7 +117,9 @@ module _ (start : Start) (read : Kind → Option TxId) (add : Kind → List TxId
   sent_sub : (h j : ℕ) (log : List HostStep) → Sub (filter_map read_of (sent (machine start) h j log)) (sent_kinds start add h log)
   sent_sub h j [] = refl
   sent_sub h j (e ∷ log) =
-      put_sub (first_membership start) h j e.step.stamp (sent_count start h log) (step_after start h log e).effects.sends (sent (machine start) h j log) (sent_kinds start add h log) (sent_sub h j log)
+      put_sub (first_membership start) h j e.step.stamp (sent_count start h log)
+      (step_after start h log e).effects.sends (sent (machine start) h j log) (sent_kinds start add h log)
+      (sent_sub h j log)
 
   no_closing : (j : ℕ) (log : List HostStep) (x : Addressed) → IsClosingOf (machine start) j log x → read_of x ≡ None
   no_closing j [] x c = absurd c
@@ -146,7 +153,10 @@ module _ (start : Start) (read : Kind → Option TxId) (add : Kind → List TxId
       less_by None all = all
       less_by (Some t) all = all.1
 
-      less : (b : Bool) → Each P (filter_map read_of (if b then (machine start).signal f ∷ taken (machine start) i log else taken (machine start) i log)) → Each P (filter_map read_of (taken (machine start) i log))
+      less : (b : Bool)
+          → Each P (filter_map read_of
+          (if b then (machine start).signal f ∷ taken (machine start) i log else taken (machine start) i log))
+          → Each P (filter_map read_of (taken (machine start) i log))
       less true all = less_by (read_of ((machine start).signal f)) all
       less false all = all
 
@@ -173,20 +183,27 @@ module _ (start : Start) (read : Kind → Option TxId) (add : Kind → List TxId
       less_by None all = all
       less_by (Some t) all = all.1
 
-      less : (c : Bool) → AreApart (filter_map read_of (if c then (machine start).signal e ∷ taken (machine start) i log else taken (machine start) i log)) → AreApart (filter_map read_of (taken (machine start) i log))
+      less : (c : Bool)
+          → AreApart (filter_map read_of
+          (if c then (machine start).signal e ∷ taken (machine start) i log else taken (machine start) i log))
+          → AreApart (filter_map read_of (taken (machine start) i log))
       less true all = less_by (read_of ((machine start).signal e)) all
       less false all = all
 
 -- each host said of each transaction once that it has begun, and asked for its epoch at most once
 module _ (start : Start) (logs : ℕ → List HostStep) (right : AreLogs (machine start) logs) (causal : AreCausal start logs) where
-  pub one_begun : (tx : TxId) (a b : HostStep) → IsIn a (logs 0) → IsIn b (logs 0) → Takes start begun_of begun_by begun_reads (home start tx) tx a
+  pub one_begun : (tx : TxId) (a b : HostStep) → IsIn a (logs 0) → IsIn b (logs 0)
+      → Takes start begun_of begun_by begun_reads (home start tx) tx a
       → Takes start begun_of begun_by begun_reads (home start tx) tx b → a ≡ b
   one_begun tx a b left other at_a at_b =
       one_taken start begun_of begun_by begun_reads (home start tx) tx a b (logs 0)
-      (taken_apart start begun_of begun_by begun_reads logs right (home start tx) 0 (causal.knows (home start tx)).numbered.begun_apart) left other at_a at_b
+      (taken_apart start begun_of begun_by begun_reads logs right (home start tx) 0
+      (causal.knows (home start tx)).numbered.begun_apart) left other at_a at_b
 
-  pub one_verified : (tx : TxId) (a b : HostStep) → IsIn a (logs (home start tx)) → IsIn b (logs (home start tx)) → Takes start verified_of verified_by verified_reads (home start tx) tx a
+  pub one_verified : (tx : TxId) (a b : HostStep) → IsIn a (logs (home start tx)) → IsIn b (logs (home start tx))
+      → Takes start verified_of verified_by verified_reads (home start tx) tx a
       → Takes start verified_of verified_by verified_reads (home start tx) tx b → a ≡ b
   one_verified tx a b left other at_a at_b =
       one_taken start verified_of verified_by verified_reads (home start tx) tx a b (logs (home start tx))
-      (taken_apart start verified_of verified_by verified_reads logs right (home start tx) (home start tx) (causal.knows (home start tx)).numbered.verified_apart) left other at_a at_b
+      (taken_apart start verified_of verified_by verified_reads logs right (home start tx) (home start tx)
+      (causal.knows (home start tx)).numbered.verified_apart) left other at_a at_b

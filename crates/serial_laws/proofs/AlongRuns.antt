@@ -51,7 +51,8 @@ no_entries zero = refl
 no_entries (suc n) = no_entries n
 
 -- each key of a replica begins at rest
-begins_at_rest : (start : Start) (key : List ℕ) (h : ℕ) → IsShape start.shape → IsReplica start key h → at_host start (logs_of start []) key h ≡ at_rest (first_row start [] key)
+begins_at_rest : (start : Start) (key : List ℕ) (h : ℕ) → IsShape start.shape → IsReplica start key h
+    → at_host start (logs_of start []) key h ≡ at_rest (first_row start [] key)
 begins_at_rest start key h shape is =
     let node = node_for start key h shape is in
     subst (λ g. at_host start (logs_of start []) key g ≡ at_rest (first_row start [] key)) is.host_is
@@ -91,19 +92,26 @@ module _ (start : Start) (end : List HostStep) (run : IsRun start end) (turn : I
             (rest_primary (kept_of (decided_at start end []) (is_final start end)) (map.get (rows_of start.rows) key));
         right = tt;
         backups = λ g node apart.
-            subst (IsBackupWith (decided_at start end []) (is_final start end) (map.get (rows_of start.rows) key)) (sym (begins_at_rest start key g run.shape node))
+            subst (IsBackupWith (decided_at start end []) (is_final start end) (map.get (rows_of start.rows) key))
+            (sym (begins_at_rest start key g run.shape node))
             (rest_backup (decided_at start end []) (is_final start end) (map.get (rows_of start.rows) key));
       }
 
-  none_first : (key : List ℕ) (h : ℕ) (v : TxId) → IsReplica start key h → is_some (found v (at_host start (logs_of start []) key h).cell.pending) ≡ true → ⊥
+  none_first : (key : List ℕ) (h : ℕ) (v : TxId) → IsReplica start key h
+      → is_some (found v (at_host start (logs_of start []) key h).cell.pending) ≡ true → ⊥
   none_first key h v node is =
-      absurd (let both : false ≡ true = sym (ap (λ (r : Replica). is_some (found v r.cell.pending)) (begins_at_rest start key h run.shape node)) ∙ is in cc)
+      absurd (let both : false
+      ≡ true = sym (ap (λ (r : Replica). is_some (found v r.cell.pending)) (begins_at_rest start key h run.shape node))
+      ∙ is in cc)
 
   holds_first : Holds []
   holds_first = record {
     keys = λ key.
         subst (λ w. IsGoodWith start (decided_at start end []) (is_final start end) w (logs_of start []) key) (sym (ap (filter (is_final_entry start end)) (no_entries (hosts start)))) (good_first key);
-    writers = record { recorded = λ key h v node on is. absurd (none_first key h v node is); applied = λ key h v node is. absurd cc };
+    writers = record {
+      recorded = λ key h v node on is. absurd (none_first key h v node is);
+      applied = λ key h v node is. absurd cc;
+    };
     unfinished = λ key h v node is. absurd (none_first key h v node is);
   }
 
@@ -145,11 +153,15 @@ module _ (start : Start) (end : List HostStep) (run : IsRun start end) (turn : I
       holds_next es e past (part_comes start es end e past run) (part_turn start (e ∷ es) end past turn).0 (holds_at es (past_less e past))
 
   -- where nothing is at work on a key, a node has the row that the history leaves
-  rest_row : (key : List ℕ) (g : ℕ) → IsReplica start key g → IsGoodWith start (decided_at start end end) (is_final start end) (history_at start end end) (logs_of start end) key
+  rest_row : (key : List ℕ) (g : ℕ) → IsReplica start key g
+      → IsGoodWith start (decided_at start end end) (is_final start end) (history_at start end end)
+      (logs_of start end) key
       → (at_host start (logs_of start end) key g).cell.pending ≡ [] → (at_host start (logs_of start end) key g).cell.row ≡ row_at_end key (map.get (rows_of start.rows) key) (history_at start end end)
   rest_row key g node good empty = by (cases_eq g (primary_host start key))
     where
-      by : (g ≡ primary_host start key) ⊎ (g ≢ primary_host start key) → (at_host start (logs_of start end) key g).cell.row ≡ row_at_end key (map.get (rows_of start.rows) key) (history_at start end end)
+      by : (g ≡ primary_host start key) ⊎ (g ≢ primary_host start key)
+          → (at_host start (logs_of start end) key g).cell.row
+          ≡ row_at_end key (map.get (rows_of start.rows) key) (history_at start end end)
       by (inl at) =
           let same : at_host start (logs_of start end) key g ≡ (at_primary start (logs_of start end) key).replica = ap (at_host start (logs_of start end) key) at ∙ sym (primary_replica start (logs_of start end) key) in
           let none : (at_primary start (logs_of start end) key).replica.cell.pending ≡ [] = ap (λ (r : Replica). r.cell.pending) (sym same) ∙ empty in
@@ -164,10 +176,13 @@ module _ (start : Start) (end : List HostStep) (run : IsRun start end) (turn : I
   pub keys_right : AreKeysRight start (logs_of start end)
   keys_right = by (holds_at end (past_self end))
     where
-      node : (key : List ℕ) (member : Member) → IsLiveReplica start (logs_of start end) key member → IsReplica start key (rows_host start member.node)
+      node : (key : List ℕ) (member : Member) → IsLiveReplica start (logs_of start end) key member
+          → IsReplica start key (rows_host start member.node)
       node key member is =
           member_is start key member run.shape
-          (subst (IsIn member) (ap (λ (w : View). w.full) (view_first start (logs_of start end) (logs_of start end) (run_is_cut start end run))) is.live) is.holding
+          (subst (IsIn member)
+          (ap (λ (w : View). w.full)
+          (view_first start (logs_of start end) (logs_of start end) (run_is_cut start end run))) is.live) is.holding
 
       by : Holds end → AreKeysRight start (logs_of start end)
       by holds = record {
@@ -176,5 +191,6 @@ module _ (start : Start) (end : List HostStep) (run : IsRun start end) (turn : I
             let h = rows_host start member.node in
             keys_have_rows (after start h (logs_of start end h)) key
             ∙ rest_row key h (node key member live) (holds.keys key)
-            (settled_empty key (logs_of start end h) (at_host start (logs_of start end) key h).cell.pending (rest member live) (λ v. holds.unfinished key h v (node key member live)));
+            (settled_empty key (logs_of start end h) (at_host start (logs_of start end) key h).cell.pending
+            (rest member live) (λ v. holds.unfinished key h v (node key member live)));
       }

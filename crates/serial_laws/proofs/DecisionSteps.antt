@@ -109,9 +109,12 @@ module _ (start : Start) (decided final : TxId → Bool) (history : List Entry) 
     agrees (Some a) (Some b) same stay image r is =
         inl (record { is_record = b; there = is; waits = same.1.1; image_is = sym same.0 ∙ image a refl same.1.0 })
 
-    told : (g : ℕ) → IsReplica start key g → HasImage tx after (at_host start logs key g).cell.pending ⊎ ((found tx (at_host start logs key g).cell.pending ≡ None) × (after ≡ value))
+    told : (g : ℕ) → IsReplica start key g
+        → HasImage tx after (at_host start logs key g).cell.pending
+        ⊎ ((found tx (at_host start logs key g).cell.pending ≡ None) × (after ≡ value))
     told g node =
-        agrees (found tx p.replica.cell.pending) (found tx (at_host start logs key g).cell.pending) (settled.agreed g node) stays
+        agrees (found tx p.replica.cell.pending) (found tx (at_host start logs key g).cell.pending)
+        (settled.agreed g node) stays
         image_is (at_host start logs key g) refl
 
     -- the history with its entry behind is right, and the key is led to the new value

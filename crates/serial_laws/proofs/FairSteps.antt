@@ -37,7 +37,8 @@ use Rattle.serial_laws.proofs.Turns.{IsByTurn}
 pub record AreWriters (start : Start) (end es : List HostStep) : Type 0 where
   pub recorded : (key : List ℕ) (h : ℕ) (v : TxId) → IsReplica start key h → decided_at start end es v ≡ true
       → is_some (found v (at_host start (logs_of start es) key h).cell.pending) ≡ true → IsWriter start es v
-  pub applied : (key : List ℕ) (h : ℕ) (v : TxId) → IsReplica start key h → has_mark (is_applied v) (logs_of start es h) ≡ true → IsWriter start es v
+  pub applied : (key : List ℕ) (h : ℕ) (v : TxId) → IsReplica start key h
+      → has_mark (is_applied v) (logs_of start es h) ≡ true → IsWriter start es v
 
 module _ (start : Start) (end : List HostStep) (run : IsRun start end) (turn : IsByTurn (machine start) end) (owed : AreOwed) (es : List HostStep) (e : HostStep) (past : IsPast (e ∷ es) end) (key : List ℕ) where
   abbrev h : ℕ
@@ -62,7 +63,8 @@ module _ (start : Start) (end : List HostStep) (run : IsRun start end) (turn : I
   carried v is = carried_at start end run turn owed es v earlier is
 
   -- at the primary
-  fair_at : (event : Event) (p : AtPrimary) → p.replica ≡ at_host start before key h → h ≡ primary_host start key → IsOwed start before key h event → IsFair p event
+  fair_at : (event : Event) (p : AtPrimary) → p.replica ≡ at_host start before key h → h ≡ primary_host start key
+      → IsOwed start before key h event → IsFair p event
   fair_at (asks q refused) p same at owed = (owed.0.operation at, subst (λ (r : Replica). NoneOf q.tx r.waiting) (sym same) owed.1.0)
   fair_at (serves refused) p same at owed = tt
   fair_at (commits tx true) p same at owed = subst (λ (r : Replica). NoneOf tx r.waiting) (sym same) owed.1.0
@@ -76,7 +78,8 @@ module _ (start : Start) (end : List HostStep) (run : IsRun start end) (turn : I
   fair_at (ages o) p same at owed = tt
   fair_at rests p same at owed = tt
 
-  timely_at : (event : Event) (p : AtPrimary) → h ≡ primary_host start key → IsOwed start before key h event → Each (λ (q : Request). IsUndecided start before q.tx) p.replica.waiting
+  timely_at : (event : Event) (p : AtPrimary) → h ≡ primary_host start key → IsOwed start before key h event
+      → Each (λ (q : Request). IsUndecided start before q.tx) p.replica.waiting
       → ((tx : TxId) → event ≡ commits tx true → IsCarriedOut start before tx → HasPrepared tx p.replica.cell.pending → final tx ≡ true)
       → IsTimely (kept_of decided final) p event
   timely_at (asks q refused) p at owed waiters ends = and_left (decided q.tx) (final q.tx) (undecided q.tx owed.1.1)
@@ -91,7 +94,8 @@ module _ (start : Start) (end : List HostStep) (run : IsRun start end) (turn : I
   timely_at rests p at owed waiters ends = tt
 
   -- at a backup
-  backup_at : (event : Event) → (h ≢ primary_host start key) → IsOwed start before key h event → Each (λ (q : Request). IsUndecided start before q.tx) (at_host start before key h).waiting
+  backup_at : (event : Event) → (h ≢ primary_host start key) → IsOwed start before key h event
+      → Each (λ (q : Request). IsUndecided start before q.tx) (at_host start before key h).waiting
       → ((tx : TxId) → IsCommittedAtAll start before tx key → (x : PendingRecord) → found tx (at_host start before key h).cell.pending ≡ Some x → final tx ≡ true)
       → IsFairAt decided final (at_host start before key h) event
   backup_at (asks q refused) off owed waiters ends = (owed.0.image off, owed.1.0, undecided q.tx owed.1.1)
@@ -110,7 +114,8 @@ module _ (start : Start) (end : List HostStep) (run : IsRun start end) (turn : I
   backup_at rests off owed waiters ends = tt
 
   -- a commit of a record at the primary is marked, and so its transaction is final
-  commit_final : Comes start es e → AreWriters start end es → IsReplica start key h → (tx : TxId) → event_of start es e key ≡ commits tx true → IsCarriedOut start before tx
+  commit_final : Comes start es e → AreWriters start end es → IsReplica start key h → (tx : TxId)
+      → event_of start es e key ≡ commits tx true → IsCarriedOut start before tx
       → HasPrepared tx (at_host start before key h).cell.pending → final tx ≡ true
   commit_final come writers node tx is carries has =
       let some : is_some (found tx (at_host start before key h).cell.pending) ≡ true = ap is_some has.there in
@@ -118,7 +123,8 @@ module _ (start : Start) (end : List HostStep) (run : IsRun start end) (turn : I
       let marked : list_any (is_applied tx) e.step.marks ≡ true = ap (list_any (is_applied tx)) come.happens.step.fits.marks ∙ applies some in
       let now : has_mark (is_applied tx) (logs_of start (e ∷ es) h) ≡ true =
       ap (has_mark (is_applied tx)) (log_of-own (machine start) e es h refl) ∙ or_left (list_any (is_applied tx) e.step.marks) (has_mark (is_applied tx) (before h)) marked in
-      writer_final start end run turn owed es (e ∷ es) tx h earlier past (writers.recorded key h tx node (carried tx carries) some) (replica_below start key h come.before.shape node) now
+      writer_final start end run turn owed es (e ∷ es) tx h earlier past
+      (writers.recorded key h tx node (carried tx carries) some) (replica_below start key h come.before.shape node) now
 
   -- a completion is of one that was applied at the primary
   completion_final : Comes start es e → AreWriters start end es → (tx : TxId) → IsCommittedAtAll start before tx key → (x : PendingRecord)
@@ -126,7 +132,9 @@ module _ (start : Start) (end : List HostStep) (run : IsRun start end) (turn : I
   completion_final come writers tx all x there =
       let node = primary_is start key come.before.shape in
       let marked = all.applied h x there in
-      writer_final start end run turn owed es es tx (primary_host start key) earlier earlier (writers.applied key (primary_host start key) tx node marked) (replica_below start key (primary_host start key) come.before.shape node) marked
+      writer_final start end run turn owed es es tx (primary_host start key) earlier earlier
+      (writers.applied key (primary_host start key) tx node marked)
+      (replica_below start key (primary_host start key) come.before.shape node) marked
 
   pub owed_fair : Comes start es e → AreWriters start end es → IsFairStep start es e key decided final
   owed_fair come writers =
@@ -137,7 +145,8 @@ module _ (start : Start) (end : List HostStep) (run : IsRun start end) (turn : I
         timely = λ at.
             timely_at (event_of start es e key) (at_primary start before key) at own (subst (λ (r : Replica). Each (λ (q : Request). IsUndecided start before q.tx) r.waiting) (sym (same at)) waiters)
             (λ tx is carries has.
-            commit_final come writers (subst (IsReplica start key) (sym at) (primary_is start key come.before.shape)) tx is carries
+            commit_final come writers
+            (subst (IsReplica start key) (sym at) (primary_is start key come.before.shape)) tx is carries
             (subst (λ (r : Replica). HasPrepared tx r.cell.pending) (same at) has));
         backup = λ off. backup_at (event_of start es e key) off own waiters (completion_final come writers);
       }

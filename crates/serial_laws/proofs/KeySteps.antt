@@ -30,7 +30,8 @@ along_replica start h key (e ∷ log) =
     ap (key_after (event_in key (after start h log) e.step.taken)) (along_replica start h key log) ∙ sym (logs_follow start h log e key)
 
 -- the primary is one of the hosts
-pub primary_replica : (start : Start) (logs : ℕ → List HostStep) (key : List ℕ) → (at_primary start logs key).replica ≡ at_host start logs key (primary_host start key)
+pub primary_replica : (start : Start) (logs : ℕ → List HostStep) (key : List ℕ)
+    → (at_primary start logs key).replica ≡ at_host start logs key (primary_host start key)
 primary_replica start logs key = along_replica start (primary_host start key) key (logs (primary_host start key))
 
 -- A primary of a key: in good order, and led to this value.
@@ -71,13 +72,17 @@ module _ (start : Start) (es : List HostStep) (e : HostStep) (key : List ℕ) wh
   pub host_other : (g : ℕ) → h ≢ g → at_host start now key g ≡ at_host start before key g
   host_other g off = ap (λ log. key_in key (after start g log)) (log_of-other (machine start) e es g off)
 
-  primary_own : h ≡ primary_host start key → at_primary start now key ≡ primary_after event_of (at_primary start before key)
+  primary_own : h ≡ primary_host start key
+      → at_primary start now key ≡ primary_after event_of (at_primary start before key)
   primary_own at =
-      ap (primary_along start (primary_host start key) key) (log_of-own (machine start) e es (primary_host start key) at)
+      ap (primary_along start (primary_host start key) key)
+      (log_of-own (machine start) e es (primary_host start key) at)
       ∙ ap (λ g. primary_after (event_in key (after start g (before g)) e.step.taken) (at_primary start before key)) (sym at)
 
   primary_other : h ≢ primary_host start key → at_primary start now key ≡ at_primary start before key
-  primary_other off = ap (primary_along start (primary_host start key) key) (log_of-other (machine start) e es (primary_host start key) off)
+  primary_other off =
+      ap (primary_along start (primary_host start key) key)
+      (log_of-other (machine start) e es (primary_host start key) off)
 
   -- The event is fair to the key, with these decided and these final.
   pub record IsFairStep (decided final : TxId → Bool) : Type 0 where
@@ -96,7 +101,11 @@ module _ (start : Start) (es : List HostStep) (e : HostStep) (key : List ℕ) wh
   -- and then the key stays good
   pub good_step : (decided final : TxId → Bool) (history : List Entry) → IsGoodWith start decided final history before key → IsFairStep decided final
       → IsGoodWith start decided final history now key
-  good_step decided final history good fair = record { first = primary_now (cases_eq h (primary_host start key)); right = good.right; backups = backups_now }
+  good_step decided final history good fair = record {
+    first = primary_now (cases_eq h (primary_host start key));
+    right = good.right;
+    backups = backups_now;
+  }
     where
       value : Option (List ℕ)
       value = row_at_end key (map.get (rows_of start.rows) key) history
@@ -104,7 +113,8 @@ module _ (start : Start) (es : List HostStep) (e : HostStep) (key : List ℕ) wh
       kept : TxId → Bool
       kept = kept_of decided final
 
-      primary_now : (h ≡ primary_host start key) ⊎ (h ≢ primary_host start key) → IsPrimaryWith kept value (at_primary start now key)
+      primary_now : (h ≡ primary_host start key) ⊎ (h ≢ primary_host start key)
+          → IsPrimaryWith kept value (at_primary start now key)
       primary_now (inl at) =
           subst (IsPrimaryWith kept value) (sym (primary_own at)) (record {
             order = fair_order event_of (at_primary start before key) good.first.order (fair.fair at);
@@ -112,7 +122,8 @@ module _ (start : Start) (es : List HostStep) (e : HostStep) (key : List ℕ) wh
           })
       primary_now (inr off) = subst (IsPrimaryWith kept value) (sym (primary_other off)) good.first
 
-      backups_now : (g : ℕ) → IsReplica start key g → g ≢ primary_host start key → IsBackupWith decided final value (at_host start now key g)
+      backups_now : (g : ℕ) → IsReplica start key g → g ≢ primary_host start key
+          → IsBackupWith decided final value (at_host start now key g)
       backups_now g node apart = by (cases_eq h g)
         where
           by : (h ≡ g) ⊎ (h ≢ g) → IsBackupWith decided final value (at_host start now key g)

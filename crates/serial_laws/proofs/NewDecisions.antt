@@ -75,7 +75,8 @@ module _ (start : Start) (es : List HostStep) (e : HostStep) (come : Comes start
   here = subst (IsIn e) (sym own) (inl refl)
 
   pub decides_at : (tx : TxId) → list_any (is_decision tx) e.step.marks ≡ true → DecidesAt start now e tx
-  decides_at tx marked = each_in (DecidesRightly start now) e (now h) ((run_is_causal start (e ∷ es) come.now).decisions h) here tx marked
+  decides_at tx marked =
+      each_in (DecidesRightly start now) e (now h) ((run_is_causal start (e ∷ es) come.now).decisions h) here tx marked
 
   -- what it decides wasn't decided before
   pub new_decided : (tx : TxId) → list_any (is_decision tx) e.step.marks ≡ true → is_decided start before tx ≡ false
@@ -86,21 +87,28 @@ module _ (start : Start) (es : List HostStep) (e : HostStep) (come : Comes start
       by true is =
           let old = marked_step (is_decision tx) (before (home start tx)) is in
           let same : old.step ≡ e =
-          one_decided start now (run_logs start (e ∷ es) come.now) (run_is_causal start (e ∷ es) come.now) tx (home start tx) h old.step e
+          one_decided start now (run_logs start (e ∷ es) come.now) (run_is_causal start (e ∷ es) come.now) tx
+          (home start tx) h old.step e
           (in_past old.step (log_of-past (machine start) e es (home start tx)) old.inside) here old.marked marked in
-          let after : is_after (machine start) e old.step ≡ true = each_in (λ f. is_after (machine start) e f ≡ true) old.step (before (home start tx)) (each_log (machine start) (λ f. is_after (machine start) e f ≡ true) es (home start tx) turn) old.inside in
+          let after : is_after (machine start) e old.step ≡ true =
+          each_in (λ f. is_after (machine start) e f ≡ true) old.step (before (home start tx))
+          (each_log (machine start) (λ f. is_after (machine start) e f ≡ true) es (home start tx) turn) old.inside in
           absurd (let both : false ≡ true = sym (not_after_self e.step.stamp h) ∙ subst (λ f. is_after (machine start) e f ≡ true) same after in cc)
 
   pub decided_now : (tx : TxId) → list_any (is_decision tx) e.step.marks ≡ true → is_decided start now tx ≡ true
   decided_now tx marked =
       let at_home : h ≡ home start tx = (decides_at tx marked).to in
-      subst (λ g. has_mark (is_decision tx) (now g) ≡ true) at_home (ap (has_mark (is_decision tx)) own ∙ or_left (list_any (is_decision tx) e.step.marks) (has_mark (is_decision tx) (before h)) marked)
+      subst (λ g. has_mark (is_decision tx) (now g) ≡ true) at_home
+      (ap (has_mark (is_decision tx)) own
+      ∙ or_left (list_any (is_decision tx) e.step.marks) (has_mark (is_decision tx) (before h)) marked)
 
   -- and nothing else is decided newly
-  pub decided_other : (v : TxId) → list_any (is_decision v) e.step.marks ≡ false → is_decided start now v ≡ is_decided start before v
+  pub decided_other : (v : TxId) → list_any (is_decision v) e.step.marks ≡ false
+      → is_decided start now v ≡ is_decided start before v
   decided_other v none = by (cases_eq h (home start v))
     where
-      by : (h ≡ home start v) ⊎ (h ≢ home start v) → has_mark (is_decision v) (now (home start v)) ≡ has_mark (is_decision v) (before (home start v))
+      by : (h ≡ home start v) ⊎ (h ≢ home start v)
+          → has_mark (is_decision v) (now (home start v)) ≡ has_mark (is_decision v) (before (home start v))
       by (inl at) =
           subst (λ g. has_mark (is_decision v) (now g) ≡ has_mark (is_decision v) (before g)) at
           (ap (has_mark (is_decision v)) own ∙ ap (λ b. b || has_mark (is_decision v) (before h)) none)
@@ -143,14 +151,17 @@ entries_next start es e come turn are (plain all) =
       once = subst AreOnceEach (sym same) are.once;
       decided = subst (Each (λ (b : Entry). is_decided start (logs_of start (e ∷ es)) b.tx ≡ true)) (sym same)
           (each_map (λ (b : Entry). is_decided start (logs_of start es) b.tx ≡ true) (λ (b : Entry). is_decided start (logs_of start (e ∷ es)) b.tx ≡ true) (entries (hosts start) (logs_of start es))
-          (λ b is. mark_past (is_decision b.tx) (logs_of start es (home start b.tx)) (logs_of start (e ∷ es) (home start b.tx)) (log_of-past (machine start) e es (home start b.tx)) is) are.decided);
+          (λ b is. mark_past (is_decision b.tx) (logs_of start es (home start b.tx))
+          (logs_of start (e ∷ es) (home start b.tx))
+          (log_of-past (machine start) e es (home start b.tx)) is) are.decided);
     }
 entries_next start es e come turn are (decides tx is) =
     let marked = decision_is tx start.epoch e.step.marks is in
     let more = entries_decided start es e come turn tx is in
     let new = new_decided start es e come turn tx marked in
     let stays : (b : Entry) → is_decided start (logs_of start es) b.tx ≡ true → is_decided start (logs_of start (e ∷ es)) b.tx ≡ true =
-    λ b old. mark_past (is_decision b.tx) (logs_of start es (home start b.tx)) (logs_of start (e ∷ es) (home start b.tx)) (log_of-past (machine start) e es (home start b.tx)) old in
+    λ b old. mark_past (is_decision b.tx) (logs_of start es (home start b.tx))
+    (logs_of start (e ∷ es) (home start b.tx)) (log_of-past (machine start) e es (home start b.tx)) old in
     record {
       once = subst AreOnceEach (sym more)
           (once_last (entries (hosts start) (logs_of start es)) (new_entry start es e come turn tx) are.once

@@ -88,10 +88,16 @@ module _ (start : Start) (tx : TxId) where
       where
         by : (newer : List HostStep) → list_any (same_tx tx) (sent_ways start f h (newer ++ log)) ≡ true
         by [] = has
-        by (e ∷ newer) = put_more (tc_sends (after start h (newer ++ log)) e.step.taken) (sent_ways start f h (newer ++ log)) (by newer)
+        by (e ∷ newer) =
+            put_more (tc_sends (after start h (newer ++ log)) e.step.taken) (sent_ways start f h (newer ++ log))
+            (by newer)
 
   pub given_past : (es all : List HostStep) → IsPast es all → is_given_up start (logs_of start es) tx ≡ true → is_given_up start (logs_of start all) tx ≡ true
-  given_past es all past is = ways_past back_by back_more (home start tx) (logs_of start es (home start tx)) (logs_of start all (home start tx)) (part_logs start es all past (home start tx)) is
+  given_past es all past is =
+      ways_past back_by back_more (home start tx) (logs_of start es (home start tx)) (logs_of start all (home start tx))
+      (part_logs start es all past (home start tx)) is
 
   pub carried_past : (es all : List HostStep) → IsPast es all → is_carried_out start (logs_of start es) tx ≡ true → is_carried_out start (logs_of start all) tx ≡ true
-  carried_past es all past is = ways_past forth_by forth_more (home start tx) (logs_of start es (home start tx)) (logs_of start all (home start tx)) (part_logs start es all past (home start tx)) is
+  carried_past es all past is =
+      ways_past forth_by forth_more (home start tx) (logs_of start es (home start tx))
+      (logs_of start all (home start tx)) (part_logs start es all past (home start tx)) is

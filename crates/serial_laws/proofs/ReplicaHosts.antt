@@ -20,21 +20,31 @@ use Rattle.run_laws.specs.Routes.{IsNodeFor, primary_host, replicas}
 
 -- the primary's is one of them
 pub primary_is : (start : Start) (key : List ℕ) → IsShape start.shape → IsReplica start key (primary_host start key)
-primary_is start key shape = record { at = 0; inside = subst (λ n. 0 < n) (sym (first_length start.shape shape key)) shape.replicas_some; host_is = refl }
+primary_is start key shape = record {
+  at = 0;
+  inside = subst (λ n. 0 < n) (sym (first_length start.shape shape key)) shape.replicas_some;
+  host_is = refl;
+}
 
 -- and that of each node of the key's group
-pub member_is : (start : Start) (key : List ℕ) (member : Member) → IsShape start.shape → IsIn member (members start.shape.nodes)
+pub member_is : (start : Start) (key : List ℕ) (member : Member) → IsShape start.shape
+    → IsIn member (members start.shape.nodes)
     → holds start.shape member.node key ≡ true → IsReplica start key (rows_host start member.node)
 member_is start key member shape inside held =
-    let parts = each_in (λ (m : Member). (1 ≤ m.node) × (m.node ≤ start.shape.nodes)) member (members start.shape.nodes) (all start.shape.nodes) inside in
-    let has : HasReplica (replicas start key) member.node = first_all start.shape shape key member.node parts.0 parts.1 held in
+    let parts =
+    each_in (λ (m : Member). (1 ≤ m.node) × (m.node ≤ start.shape.nodes)) member (members start.shape.nodes)
+    (all start.shape.nodes) inside in
+    let has : HasReplica (replicas start key) member.node =
+    first_all start.shape shape key member.node parts.0 parts.1 held in
     record { at = has.at; inside = has.inside; host_is = ap (rows_host start) has.is }
   where
     all : (n : ℕ) → Each (λ (m : Member). (1 ≤ m.node) × (m.node ≤ n)) (members n)
     all zero = tt
     all (suc n) =
-        each_append (λ (m : Member). (1 ≤ m.node) × (m.node ≤ suc n)) (members n) (record { node = n + 1; start = 0 } ∷ [])
-        (each_map (λ (m : Member). (1 ≤ m.node) × (m.node ≤ n)) (λ (m : Member). (1 ≤ m.node) × (m.node ≤ suc n)) (members n)
+        each_append (λ (m : Member). (1 ≤ m.node) × (m.node ≤ suc n)) (members n)
+        (record { node = n + 1; start = 0 } ∷ [])
+        (each_map (λ (m : Member). (1 ≤ m.node) × (m.node ≤ n)) (λ (m : Member). (1 ≤ m.node) × (m.node ≤ suc n))
+        (members n)
         (λ m is. (is.0, let le = is.1 in omega (arith, le))) (all n))
         ((omega arith, omega arith), tt)
 
@@ -46,7 +56,11 @@ module _ (start : Start) (key : List ℕ) (h : ℕ) (shape : IsShape start.shape
       record { from = among.0; to = among.1; holding = first_group start.shape shape key is.at is.inside }
 
   pub replica_below : h < hosts start
-  replica_below = subst (λ g. g < hosts start) is.host_is (host_below start (rows_of (node_at (replicas start key) is.at)) node_for.from node_for.to)
+  replica_below =
+      subst (λ g. g < hosts start) is.host_is
+      (host_below start (rows_of (node_at (replicas start key) is.at)) node_for.from node_for.to)
 
   pub replica_runs : (log : List HostStep) → has_lqh (after start h log) ≡ true
-  replica_runs log = subst (λ g. has_lqh (after start g log) ≡ true) is.host_is (rows_run start (node_at (replicas start key) is.at) log node_for.from node_for.to)
+  replica_runs log =
+      subst (λ g. has_lqh (after start g log) ≡ true) is.host_is
+      (rows_run start (node_at (replicas start key) is.at) log node_for.from node_for.to)

@@ -48,7 +48,8 @@ verify_rests : (key : List ℕ) (s : LqhState) (at : BlockId) (tx : TxId) (ops :
 verify_rests key s block.Lqh tx ops = refl
 verify_rests key s _ tx ops = refl
 
-verify_event : (key : List ℕ) (s : Host) (x : Signal) (tx : TxId) (ops : List (Op × Answer)) → x.body ≡ Epoch (DiVerifyReq tx ops) → event_in key s x ≡ rests
+verify_event : (key : List ℕ) (s : Host) (x : Signal) (tx : TxId) (ops : List (Op × Answer))
+    → x.body ≡ Epoch (DiVerifyReq tx ops) → event_in key s x ≡ rests
 verify_event key (Ldm s) x tx ops is = ap (event_for key s x.to.block) is ∙ verify_rests key s x.to.block tx ops
 verify_event key _ x tx ops is = refl
 
@@ -113,7 +114,8 @@ module _ (start : Start) (end : List HostStep) (run : IsRun start end) (turn : I
           ops_are = ap (λ body. else_of (verified_by tx body) (ops_of tx (logs_of start es e.host))) found.request
               ∙ ap (λ b. else_of (if b then Some found.ops else None) (ops_of tx (logs_of start es e.host))) (same_tx-self tx);
           settled = found.settled;
-          rests = λ key. verify_event key (after start e.host (logs_of start es e.host)) e.step.taken tx found.ops found.request;
+          rests = λ key. verify_event key
+              (after start e.host (logs_of start es e.host)) e.step.taken tx found.ops found.request;
           new = and_left _ (not (is_given start end tx)) (new_decided start es e come behind tx marked);
           decided = newly_decided start end run turn owed es e past come behind tx is alive;
           inside = there;

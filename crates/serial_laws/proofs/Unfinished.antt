@@ -40,7 +40,9 @@ pub record IsUnfinished (key : List ℕ) (v : TxId) (log : List HostStep) : Type
 -- so it is where there is a record
 abbrev pub AreUnfinished : Start → List HostStep → Type 0
 AreUnfinished start es =
-    (key : List ℕ) (h : ℕ) (v : TxId) → IsReplica start key h → is_some (found v (at_host start (logs_of start es) key h).cell.pending) ≡ true → IsUnfinished key v (logs_of start es h)
+    (key : List ℕ) (h : ℕ) (v : TxId) → IsReplica start key h
+    → is_some (found v (at_host start (logs_of start es) key h).cell.pending) ≡ true
+    → IsUnfinished key v (logs_of start es h)
 
 -- where all is done with there is none
 pub settled_empty : (key : List ℕ) (log : List HostStep) (pending : List PendingRecord) → IsSettled key log → ((v : TxId) → is_some (found v pending) ≡ true → IsUnfinished key v log) → pending ≡ []
@@ -50,7 +52,8 @@ settled_empty key log (r ∷ rest) settled unfinished =
     absurd (let both : false ≡ true = sym is.undone ∙ settled is.newer is.step is.older r.tx is.is is.prepared in cc)
 
 -- no transaction has two records at a node
-pub once_at : (start : Start) (decided final : TxId → Bool) (history : List Entry) (logs : ℕ → List HostStep) (key : List ℕ) (g : ℕ) → IsReplica start key g
+pub once_at : (start : Start) (decided final : TxId → Bool) (history : List Entry) (logs : ℕ → List HostStep)
+    (key : List ℕ) (g : ℕ) → IsReplica start key g
     → IsGoodWith start decided final history logs key → AreOnce (at_host start logs key g).cell.pending
 once_at start decided final history logs key g node good = by (cases_eq g (primary_host start key))
   where
@@ -93,10 +96,12 @@ module _ (start : Start) (owed : AreOwed) (es : List HostStep) (e : HostStep) (c
   gone key v (ages o) r once there ends own = absurd ends
   gone key v rests r once there ends own = absurd ends
 
-  pub unfinished_now : ((key : List ℕ) (g : ℕ) → IsReplica start key g → AreOnce (at_host start before key g).cell.pending) → AreUnfinished start es → AreUnfinished start (e ∷ es)
+  pub unfinished_now : ((key : List ℕ) (g : ℕ) → IsReplica start key g
+      → AreOnce (at_host start before key g).cell.pending) → AreUnfinished start es → AreUnfinished start (e ∷ es)
   unfinished_now once unfinished key g v node is = by (cases_eq h g)
     where
-      own : IsReplica start key h → is_some (found v (at_host start now key h).cell.pending) ≡ true → IsUnfinished key v (now h)
+      own : IsReplica start key h → is_some (found v (at_host start now key h).cell.pending) ≡ true
+          → IsUnfinished key v (now h)
       own node is = subst (IsUnfinished key v) (sym (log_of-own (machine start) e es h refl)) (at_found (found v (at_host start before key h).cell.pending) refl)
         where
           at_found : (o : Option PendingRecord) → found v (at_host start before key h).cell.pending ≡ o → IsUnfinished key v (e ∷ before h)
@@ -106,7 +111,8 @@ module _ (start : Start) (owed : AreOwed) (es : List HostStep) (e : HostStep) (c
             older = before h;
             is = refl;
             prepared = ap (list_any (is_prepared v key)) come.happens.step.fits.marks
-                ∙ host_new v key (after start h (before h)) e.step.taken (replica_runs start key h come.before.shape node (before h)) (logs_keep_well start h (before h))
+                ∙ host_new v key (after start h (before h)) e.step.taken
+                (replica_runs start key h come.before.shape node (before h)) (logs_keep_well start h (before h))
                 (sym (ap (λ log. is_some (found v (key_in key (after start h log)).cell.pending)) (log_of-own (machine start) e es h refl)) ∙ is) none;
             undone = refl;
           }
@@ -124,13 +130,18 @@ module _ (start : Start) (owed : AreOwed) (es : List HostStep) (e : HostStep) (c
               not_done : (b : Bool) → list_any (is_done v key) e.step.marks ≡ b → list_any (is_done v key) e.step.marks ≡ false
               not_done false off = off
               not_done true done =
-                  let ends = host_done v key (after start h (before h)) e.step.taken (replica_runs start key h come.before.shape node (before h)) (sym (ap (list_any (is_done v key)) come.happens.step.fits.marks) ∙ done) in
+                  let ends =
+                  host_done v key (after start h (before h)) e.step.taken
+                  (replica_runs start key h come.before.shape node (before h))
+                  (sym (ap (list_any (is_done v key)) come.happens.step.fits.marks) ∙ done) in
                   let none = gone key v (event_of start es e key) r (once key h node) there ends (owed.events start es e key come) in
                   absurd (let both : false ≡ true = sym (ap is_some (ap (λ (r : Replica). found v r.cell.pending) (host_own start es e key) ∙ none)) ∙ is in cc)
 
       by : (h ≡ g) ⊎ (h ≢ g) → IsUnfinished key v (now g)
       by (inl at) =
-          subst (λ k. IsUnfinished key v (now k)) at (own (subst (IsReplica start key) (sym at) node) (subst (λ k. is_some (found v (at_host start now key k).cell.pending) ≡ true) (sym at) is))
+          subst (λ k. IsUnfinished key v (now k)) at
+          (own (subst (IsReplica start key) (sym at) node)
+          (subst (λ k. is_some (found v (at_host start now key k).cell.pending) ≡ true) (sym at) is))
       by (inr off) =
           subst (IsUnfinished key v) (sym (log_of-other (machine start) e es g off))
           (unfinished key g v node (subst (λ (r : Replica). is_some (found v r.cell.pending) ≡ true) (host_other start es e key g off) is))

@@ -103,7 +103,8 @@ module _ (start : Start) (end : List HostStep) (run : IsRun start end) (turn : I
           (subst (λ (r : Replica). is_some (found v r.cell.pending) ≡ true) (host_own start es e key) (subst (λ k. is_some (found v (at_host start now key k).cell.pending) ≡ true) (sym at) is)))
       by (inr off) = subst (λ (r : Replica). is_some (found v r.cell.pending) ≡ true) (host_other start es e key g off) is
 
-  recorded_now : StepKind start end run turn owed es e past come behind → (key : List ℕ) (g : ℕ) (v : TxId) → IsReplica start key g → decided_at start end (e ∷ es) v ≡ true
+  recorded_now : StepKind start end run turn owed es e past come behind → (key : List ℕ) (g : ℕ) (v : TxId)
+      → IsReplica start key g → decided_at start end (e ∷ es) v ≡ true
       → is_some (found v (at_host start now key g).cell.pending) ≡ true → IsWriter start (e ∷ es) v
   recorded_now (quiet same history) key g v node on is =
       let old : decided_at start end es v ≡ true = sym (ap (λ f. f v) same) ∙ on in
@@ -129,7 +130,8 @@ module _ (start : Start) (end : List HostStep) (run : IsRun start end) (turn : I
           let settled = d.settled key in
           let own : is_some (found tx (at_host start before key g).cell.pending) ≡ true = subst (λ t. is_some (found t (at_host start before key g).cell.pending) ≡ true) (sym one) there in
           let first : is_some (found tx (at_primary start before key).replica.cell.pending) ≡ true =
-          agree_some (found tx (at_primary start before key).replica.cell.pending) (found tx (at_host start before key g).cell.pending) (settled.agreed g node) own in
+          agree_some (found tx (at_primary start before key).replica.cell.pending)
+          (found tx (at_host start before key g).cell.pending) (settled.agreed g node) own in
           record {
             entry = d.entry;
             inside = d.inside;
@@ -138,14 +140,20 @@ module _ (start : Start) (end : List HostStep) (run : IsRun start end) (turn : I
           }
       by false same on = grown v (writers.recorded key g v node on there)
 
-  applied_now : (key : List ℕ) (g : ℕ) (v : TxId) → IsReplica start key g → has_mark (is_applied v) (now g) ≡ true → IsWriter start (e ∷ es) v
+  applied_now : (key : List ℕ) (g : ℕ) (v : TxId) → IsReplica start key g → has_mark (is_applied v) (now g) ≡ true
+      → IsWriter start (e ∷ es) v
   applied_now key g v node is = by (cases_eq h g)
     where
       new : IsReplica start key h → list_any (is_applied v) e.step.marks ≡ true → IsWriter start (e ∷ es) v
       new own marked =
-          let from = host_applied v (after start h (before h)) e.step.taken (replica_runs start key h come.before.shape own (before h)) (sym (ap (list_any (is_applied v)) come.happens.step.fits.marks) ∙ marked) in
+          let from =
+          host_applied v (after start h (before h)) e.step.taken
+          (replica_runs start key h come.before.shape own (before h))
+          (sym (ap (list_any (is_applied v)) come.happens.step.fits.marks) ∙ marked) in
           let carries = subst (IsOwed start before from.own h) from.event (owed.events start es e from.own come) in
-          grown v (writers.recorded from.own h v (subst (IsReplica start from.own) (sym carries.0) (primary_is start from.own come.before.shape)) (carried_at start end run turn owed es v earlier carries.1.1) from.there)
+          grown v (writers.recorded from.own h v
+          (subst (IsReplica start from.own) (sym carries.0) (primary_is start from.own come.before.shape))
+          (carried_at start end run turn owed es v earlier carries.1.1) from.there)
 
       by : (h ≡ g) ⊎ (h ≢ g) → IsWriter start (e ∷ es) v
       by (inl at) =
@@ -154,7 +162,9 @@ module _ (start : Start) (end : List HostStep) (run : IsRun start end) (turn : I
           split : (list_any (is_applied v) e.step.marks ≡ true) ⊎ (has_mark (is_applied v) (before g) ≡ true) → IsWriter start (e ∷ es) v
           split (inl marked) = new (subst (IsReplica start key) (sym at) node) marked
           split (inr old) = grown v (writers.applied key g v node old)
-      by (inr off) = grown v (writers.applied key g v node (sym (ap (has_mark (is_applied v)) (log_of-other (machine start) e es g off)) ∙ is))
+      by (inr off) =
+          grown v (writers.applied key g v node
+          (sym (ap (has_mark (is_applied v)) (log_of-other (machine start) e es g off)) ∙ is))
 
   pub writers_now : StepKind start end run turn owed es e past come behind → AreWriters start end (e ∷ es)
   writers_now kind = record { recorded = recorded_now kind; applied = applied_now }
