@@ -18,7 +18,7 @@ use Rattle.shell_top.specs.Printed.{Prints}
 use Rattle.shell_top.specs.Served.{AreLeft, CommandEnds, PrintsCommand, WrittenInPart, WrittenWhole}
 use Rattle.shell_top.specs.Told.{text_of}
 use Rattle.shell_top.proofs.LivedLemmas.{left_lived, served_lived, told_front, told_part}
-use Rattle.world_core.specs.Start.{fresh}
+use Rattle.world_core.specs.Start.{Start, fresh}
 use Rattle.world_core.specs.World.{Whole, logs_at}
 use Rattle.shell_top.specs.Parsed.{parsed as parsed_line}
 use Rattle.shell_top.specs.Reader.{Reads, IsPartial, is_newline}
@@ -331,3 +331,8 @@ module _ (shape : Shape) (left written : Option (List ℕ)) where
       last_command written_then t c None some e p = ends_answered written_then c t (last_asked (parsed.Ask c) some e) at_end (p.printed u.commands u.served)
       last_command written_then t c (Some ending) some e p =
           cut_command written_then c true nothing_more (last_asked (parsed.Ask c) some e) t (λ is. at_end) ending (p.printed u.commands u.served)
+
+-- a start that is that of a fresh world
+pub served_as : {start : Start} {shape : Shape} {c : Command} {s t : Whole} {result : Option Ending} {written written_now : Option (List ℕ)} → start ≡ fresh shape
+    → PrintsCommand start c s t result written written_now → PrintsCommand (fresh shape) c s t result written written_now
+served_as {start} {shape} {c} {s} {t} {result} {written} {written_now} is printed = subst (λ start. PrintsCommand start c s t result written written_now) is printed

@@ -3,7 +3,7 @@ use Rattle.std.specs.Prelude.{None, Some}
 use Rattle.shell_top.specs.Parsed.{parsed as parsed_line}
 use Rattle.shell_top.specs.declared.script.Parsed.TheVariants as parsed
 use Rattle.shell_top.proofs.ScriptLemmas.{command_served}
-use Rattle.shell_top.proofs.SessionLemmas.{none_held, some_held, last_none, last_nothing, last_command, last_quit, last_fault}
+use Rattle.shell_top.proofs.SessionLemmas.{served_as, none_held, some_held, last_none, last_nothing, last_command, last_quit, last_fault}
 use Rattle.shell_top.proofs.session.Session.last_line.Goals as goal
 
 pub returns-then-is_empty-clause-done : goal.returns-then-is_empty-clause-done
@@ -22,14 +22,14 @@ returns-in-None-clause-done g c left_now at_end left written u =
     let means : parsed_line c.args.self.now.shape.nodes c.args.self.now.reader ≡ parsed.Ask c.in-Ask.command =
     ap (parsed_line c.args.self.now.shape.nodes) (sym c.held-held.ensures) ∙ sym c.parse-parsed.ensures ∙ c.in-Ask.is in
     last_command c.args.self.now.shape left written left_now _ c.args.self.now.line c.args.self.now.reader _ u c.requires.partial c.requires.low at_end _ _ c.in-Ask.command None
-    (some_held _ c.held-held.result.now c.is_empty.result c.held-held.ensures c.is_empty.ensures c.if-is_empty.false) means c.in-None.ensures.printed
+    (some_held _ c.held-held.result.now c.is_empty.result c.held-held.ensures c.is_empty.ensures c.if-is_empty.false) means (served_as c.requires.start c.in-None.ensures.printed)
 
 pub returns-in-Some-clause-done : goal.returns-in-Some-clause-done
 returns-in-Some-clause-done g c left_now at_end left written u =
     let means : parsed_line c.args.self.now.shape.nodes c.args.self.now.reader ≡ parsed.Ask c.in-Ask.command =
     ap (parsed_line c.args.self.now.shape.nodes) (sym c.held-held.ensures) ∙ sym c.parse-parsed.ensures ∙ c.in-Ask.is in
     last_command c.args.self.now.shape left written left_now _ c.args.self.now.line c.args.self.now.reader _ u c.requires.partial c.requires.low at_end _ _ c.in-Ask.command (Some c.in-Some.ending)
-    (some_held _ c.held-held.result.now c.is_empty.result c.held-held.ensures c.is_empty.ensures c.if-is_empty.false) means c.in-Some.ensures.printed
+    (some_held _ c.held-held.result.now c.is_empty.result c.held-held.ensures c.is_empty.ensures c.if-is_empty.false) means (served_as c.requires.start c.in-Some.ensures.printed)
 
 pub returns-in-Fault-clause-done : goal.returns-in-Fault-clause-done
 returns-in-Fault-clause-done g c left_now at_end left written u =

@@ -2,7 +2,7 @@ use Rattle.std.proofs.Common.{◌≡◌, take, ap, sym, ◌∙◌}
 use Rattle.shell_top.specs.Parsed.{parsed as parsed_line}
 use Rattle.shell_top.specs.declared.script.Parsed.TheVariants as parsed
 use Rattle.shell_top.proofs.ScriptLemmas.{command_served}
-use Rattle.shell_top.proofs.SessionLemmas.{line_too_long, goes_on, line_asked, line_quit, line_fault}
+use Rattle.shell_top.proofs.SessionLemmas.{served_as, line_too_long, goes_on, line_asked, line_quit, line_fault}
 use Rattle.shell_top.proofs.session.Session.whole_line.Goals as goal
 
 pub returns-then-at-gt-LINE_BYTES-clause-done : goal.returns-then-at-gt-LINE_BYTES-clause-done
@@ -22,7 +22,7 @@ returns-in-Ask-clause-done g c left_now left written u =
     ap (λ held. parsed_line c.args.self.now.shape.nodes (take c.args.at held)) (sym c.held.ensures) ∙ sym c.parse-parsed.ensures ∙ c.in-Ask.is in
     rw c.drop_front.ensures
     (line_asked c.args.self.now.shape left written left_now _ c.args.self.now.line c.args.self.now.reader _ u c.args.at c.requires.found c.requires.low c.if-at-gt-LINE_BYTES.false _ _ c.in-Ask.command
-    c.serve_command.result means c.serve_command.ensures.printed)
+    c.serve_command.result means (served_as c.requires.start c.serve_command.ensures.printed))
 
 pub returns-in-Fault-clause-done : goal.returns-in-Fault-clause-done
 returns-in-Fault-clause-done g c left_now left written u =
