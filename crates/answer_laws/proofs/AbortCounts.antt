@@ -19,18 +19,18 @@ use Rattle.sig_core.specs.Same.{same_tx}
 use Rattle.sig_core.specs.Step.{to_place}
 use Rattle.world_core.specs.Hosts.{home, host_for, hosts}
 use Rattle.world_core.specs.Start.{Start}
-use Rattle.answer_laws.proofs.Ahead.{home_place}
-use Rattle.answer_laws.proofs.HostSteps.{reaches}
-use Rattle.answer_laws.proofs.LinkCounts.{to_host}
-use Rattle.answer_laws.proofs.LqhOps.{is_lqh, is_node, left_of, right_of, true_and}
-use Rattle.commit_laws.proofs.Tally.{and_few, tally_append}
-use Rattle.commit_laws.specs.Counts.{one_if}
+use Rattle.run_laws.proofs.AlongSteps.{home_place}
+use Rattle.host_laws.proofs.HostSteps.{reaches}
+use Rattle.host_laws.proofs.LinkCounts.{to_host}
+use Rattle.host_laws.proofs.LqhOps.{is_lqh, is_node, left_of, right_of, true_and}
+use Rattle.host_laws.proofs.Tally.{and_few, tally_append}
+use Rattle.host_laws.specs.Counts.{one_if}
 use Rattle.answer_laws.proofs.TcAborts.{aborted_body, is_abort}
-use Rattle.answer_laws.proofs.PartCounts.{is_cont}
-use Rattle.answer_laws.proofs.TcMoves.{same_tx-is}
-use Rattle.answer_laws.proofs.TcSends.{eqb-self, tx_in}
-use Rattle.answer_laws.proofs.TcTurns.{is_turn}
-use Rattle.answer_laws.proofs.Wishes.{is_tc, sends_of}
+use Rattle.host_laws.proofs.PartCounts.{is_cont}
+use Rattle.host_laws.proofs.TcMoves.{same_tx-is}
+use Rattle.host_laws.proofs.TcSends.{eqb-self, tx_in}
+use Rattle.host_laws.proofs.TcTurns.{is_turn}
+use Rattle.host_laws.proofs.Wishes.{is_tc, sends_of}
 
 -- what came to the rows of a node
 abbrev pub abort_body : TxId → Body → Bool

@@ -26,25 +26,26 @@ use Rattle.world_core.specs.Hosts.{home, hosts}
 use Rattle.world_core.specs.Machine.{after, machine, step_after}
 use Rattle.world_core.specs.Start.{Start}
 use Rattle.world_core.specs.Steps.{HostStep}
-use Rattle.commit_laws.proofs.Sums.{total_le, total_same}
-use Rattle.commit_laws.proofs.Tally.{and_few}
-use Rattle.commit_laws.specs.Counts.{one_if}
+use Rattle.host_laws.proofs.Sums.{total_le, total_same}
+use Rattle.host_laws.proofs.Tally.{and_few}
+use Rattle.host_laws.specs.Counts.{one_if}
 use Rattle.answer_laws.proofs.AbortCounts.{abort_low, answer_turn, cont_place, cont_turn, conts_few, few_answers, few_rows, lqh_aborts, none_at}
-use Rattle.answer_laws.proofs.Ahead.{Goes, addressed, along, at_home, at_tc, few_taken, first_none, heard_rows, home_place, live_tx, no_transaction, other_turn, the_transaction, turn_at, tx_at}
-use Rattle.answer_laws.proofs.Always.{few_touched}
+use Rattle.run_laws.proofs.AlongSteps.{Goes, addressed, along, at_home, at_tc, few_taken, first_none, heard_rows, home_place, live_tx, no_transaction, other_turn, the_transaction, turn_at, tx_at}
+use Rattle.run_laws.proofs.Always.{few_touched}
 use Rattle.answer_laws.proofs.FirstChains.{good_chain}
-use Rattle.answer_laws.proofs.HostSteps.{IsHome, tc_layout}
-use Rattle.answer_laws.proofs.HostTurns.{HostTurn, IsAside, aside, in_rows, starting, turning}
-use Rattle.answer_laws.proofs.LinkCounts.{sent_signals, signals, taken_signals}
-use Rattle.answer_laws.proofs.LqhOps.{is_good, is_lqh, is_node, left_of}
-use Rattle.answer_laws.proofs.PartCounts.{IsPart, cont_block, is_cont}
+use Rattle.host_laws.proofs.HostSteps.{IsHome, tc_layout}
+use Rattle.host_laws.proofs.HostTurns.{HostTurn, IsAside, aside, in_rows, starting, turning}
+use Rattle.host_laws.proofs.LinkCounts.{sent_signals, signals, taken_signals}
+use Rattle.host_laws.proofs.LqhOps.{is_good, is_lqh, is_node, left_of}
+use Rattle.host_laws.proofs.PartCounts.{IsPart, cont_block, is_cont}
 use Rattle.answer_laws.proofs.TcAborts.{AbortMove, abort_move, aborted_body, begins, continues, is_abort, waits}
-use Rattle.answer_laws.proofs.TcSends.{tx_in}
-use Rattle.answer_laws.proofs.TcSteps.{live_home, of_live}
-use Rattle.answer_laws.proofs.TcTurns.{is_turn}
+use Rattle.host_laws.proofs.TcSends.{tx_in}
+use Rattle.host_laws.proofs.TcSteps.{live_home, of_live}
+use Rattle.host_laws.proofs.TcTurns.{is_turn}
 use Rattle.answer_laws.proofs.Totals.{Grown, sent_all, sent_more, taken_all, taken_more}
-use Rattle.answer_laws.proofs.Wishes.{is_tc, sends_of}
-use Rattle.answer_laws.specs.Answered.{AreQuiet, NoAbortIsAwaited, is_aborting}
+use Rattle.host_laws.proofs.Wishes.{is_tc, sends_of}
+use Rattle.answer_laws.specs.Answered.{AreQuiet, NoAbortIsAwaited}
+use Rattle.tc_block.specs.Phases.{is_aborting}
 
 module _ (start : Start) (shape : IsShape start.shape) (tx : TxId) (some_node : 1 ≤ tx.tc) (few_nodes : tx.tc ≤ start.shape.nodes) where
   abbrev layout : Layout

@@ -24,16 +24,16 @@ use Rattle.api_block.specs.Opened.{asked_for, has_tx, is_beginning, is_tx}
 use Rattle.api_block.specs.Api.{api_table}
 use Rattle.api_block.specs.State.{ApiState}
 use Rattle.node_core.specs.Row.{shell_row}
-use Rattle.answer_laws.proofs.ApiBegins.{AreGood, IsGood, each_at}
+use Rattle.host_laws.proofs.ApiBegins.{AreGood, IsGood, each_at}
 use Rattle.answer_laws.proofs.ApiTurns.{ApiStep, Changes, IsUnheard, Unheard, absent, answered_last, answered_ready, api_step, begins_ready, begins_working, changes, commits, drops, idle, is_calm, notes, opens, rests, works}
-use Rattle.answer_laws.proofs.SendKinds.{are_of, none_of}
-use Rattle.commit_laws.proofs.Tally.{none_if, tally_append, tally_between, tally_in}
-use Rattle.commit_laws.specs.Counts.{one_if, tally}
-use Rattle.answer_laws.proofs.TcKeys.{answer_of, is_key, key_of_tx}
-use Rattle.answer_laws.proofs.TcLives.{start_of}
-use Rattle.answer_laws.proofs.TcMoves.{same_tx-is}
-use Rattle.answer_laws.proofs.TcSends.{eqb-self}
-use Rattle.answer_laws.proofs.Wishes.{and_false, is_tc, second_fails, sends_of, to_node}
+use Rattle.host_laws.proofs.SendKinds.{are_of, none_of}
+use Rattle.host_laws.proofs.Tally.{none_if, tally_append, tally_between, tally_in}
+use Rattle.host_laws.specs.Counts.{one_if, tally}
+use Rattle.host_laws.proofs.TcKeys.{answer_of, is_key, key_of_tx}
+use Rattle.host_laws.proofs.TcLives.{start_of}
+use Rattle.host_laws.proofs.TcMoves.{same_tx-is}
+use Rattle.host_laws.proofs.TcSends.{eqb-self}
+use Rattle.host_laws.proofs.Wishes.{and_false, is_tc, second_fails, sends_of, to_node}
 use Rattle.answer_laws.specs.Answered.{is_operating}
 
 -- the commit of the transaction is asked for

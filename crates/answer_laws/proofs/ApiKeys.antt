@@ -31,12 +31,12 @@ use Rattle.api_block.specs.Operate.{answer_by, answer_row, begun_by, begun_row, 
 use Rattle.api_block.specs.Outcome.{abort_report_row, commit_report_row, refuse_row}
 use Rattle.api_block.specs.State.{ApiState}
 use Rattle.api_block.specs.Wait.{behind_row, name_of, pending_by, pending_if, pending_row, waits_if, waits_row}
-use Rattle.answer_laws.proofs.Focus.{IsFocus, where_found}
-use Rattle.commit_laws.proofs.Tally.{tally_append, tally_between}
-use Rattle.commit_laws.specs.Counts.{one_if, tally}
-use Rattle.answer_laws.proofs.TcKeys.{answer_of, is_key}
-use Rattle.answer_laws.proofs.TcMoves.{end_of, same_tx-is}
-use Rattle.answer_laws.proofs.Wishes.{sends_of}
+use Rattle.host_laws.proofs.Focus.{IsFocus, where_found}
+use Rattle.host_laws.proofs.Tally.{tally_append, tally_between}
+use Rattle.host_laws.specs.Counts.{one_if, tally}
+use Rattle.host_laws.proofs.TcKeys.{answer_of, is_key}
+use Rattle.host_laws.proofs.TcMoves.{end_of, same_tx-is}
+use Rattle.host_laws.proofs.Wishes.{sends_of}
 use Rattle.answer_laws.specs.Answered.{is_operating}
 
 -- the transaction's operation was sent and isn't answered

@@ -31,11 +31,11 @@ use Rattle.api_block.specs.Operate.{answer_by, answer_row, begun_by, begun_row, 
 use Rattle.api_block.specs.Outcome.{abort_report_row, commit_report_row, refuse_row}
 use Rattle.api_block.specs.State.{ApiState}
 use Rattle.api_block.specs.Wait.{behind_row, name_of, pending_by, pending_if, pending_row, waits_if, waits_row}
-use Rattle.answer_laws.proofs.LqhOps.{left_of}
-use Rattle.answer_laws.proofs.Focus.{IsFocus, where_found}
-use Rattle.commit_laws.specs.Counts.{tally}
-use Rattle.answer_laws.proofs.SendKinds.{are_of}
-use Rattle.answer_laws.proofs.TcKeys.{answer_of}
+use Rattle.host_laws.proofs.LqhOps.{left_of}
+use Rattle.host_laws.proofs.Focus.{IsFocus, where_found}
+use Rattle.host_laws.specs.Counts.{tally}
+use Rattle.host_laws.proofs.SendKinds.{are_of}
+use Rattle.host_laws.proofs.TcKeys.{answer_of}
 use Rattle.answer_laws.specs.Answered.{is_operating}
 
 -- what asks neither for an operation nor for a commit

@@ -35,16 +35,17 @@ use Rattle.world_core.specs.Hosts.{hosts, tc_host}
 use Rattle.world_core.specs.Machine.{after, machine, step_after}
 use Rattle.world_core.specs.Start.{Start}
 use Rattle.world_core.specs.Steps.{Addressed, HostStep}
-use Rattle.answer_laws.proofs.Ahead.{Goes, along, few_taken}
-use Rattle.answer_laws.proofs.LqhOps.{left_of, right_of}
-use Rattle.answer_laws.proofs.ApiBegins.{IsDue, IsGood, same_name-self}
-use Rattle.answer_laws.proofs.Hosts.{TellsHome, host_replies, host_wishes, opened_first, opened_next, shell_after, shell_count, shell_sends, told}
-use Rattle.answer_laws.proofs.HostSteps.{at_tc_host, no_api, sent_to_tc}
-use Rattle.answer_laws.proofs.LinkCounts.{few_sends, sent_signals, shell_signals, signals, steps, steps_from, taken_signals, taken_steps}
-use Rattle.commit_laws.proofs.Tally.{tally_in, tally_past}
-use Rattle.commit_laws.specs.Counts.{one_if, tally}
-use Rattle.answer_laws.proofs.Wishes.{is_api, is_reply, is_tc, is_wish, reply_of, sends_of, to_node, wish_of}
-use Rattle.answer_laws.specs.Answered.{AreQuiet, NoBeginIsLost, opened_after, opened_in}
+use Rattle.run_laws.proofs.AlongSteps.{Goes, along, few_taken}
+use Rattle.host_laws.proofs.LqhOps.{left_of, right_of}
+use Rattle.host_laws.proofs.ApiBegins.{IsDue, IsGood, same_name-self}
+use Rattle.host_laws.proofs.Hosts.{TellsHome, host_replies, host_wishes, opened_first, opened_next, shell_after, shell_count, shell_sends, told}
+use Rattle.host_laws.proofs.HostSteps.{at_tc_host, no_api, sent_to_tc}
+use Rattle.host_laws.proofs.LinkCounts.{few_sends, sent_signals, shell_signals, signals, steps, steps_from, taken_signals, taken_steps}
+use Rattle.host_laws.proofs.Tally.{tally_in, tally_past}
+use Rattle.host_laws.specs.Counts.{one_if, tally}
+use Rattle.host_laws.proofs.Wishes.{is_api, is_reply, is_tc, is_wish, reply_of, sends_of, to_node, wish_of}
+use Rattle.answer_laws.specs.Answered.{AreQuiet, NoBeginIsLost}
+use Rattle.host_laws.specs.Opened.{opened_after, opened_in}
 
 -- a request is no reply, and no wish
 plain_reply : (name : Option ℕ) (body : Body) → reply_of name body ≡ true → is_request body ≡ false
@@ -206,7 +207,7 @@ module _ (start : Start) where
   -- one more step of the shell's host
   module _ (e : HostStep) (logs : ℕ → List HostStep) (right : AreLogs (machine start) logs) (in_n : IsWithin (hosts start) logs) (balanced : AreBalanced start logs)
       (given : is_request e.step.taken.body ≡ false
-          → IsGiven (machine start) e.step.taken.from.0 0 (logs e.step.taken.from.0) (record { to = e.host; signal = e.step.taken } ∷ taken (machine start) e.step.taken.from.0 (logs 0)))
+      → IsGiven (machine start) e.step.taken.from.0 0 (logs e.step.taken.from.0) (record { to = e.host; signal = e.step.taken } ∷ taken (machine start) e.step.taken.from.0 (logs 0)))
       (name : Option ℕ) (node : ℕ) (some : 1 ≤ node) (low : node ≤ start.shape.nodes) where
     abbrev x : Signal
     x = e.step.taken

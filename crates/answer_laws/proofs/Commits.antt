@@ -38,25 +38,26 @@ use Rattle.world_core.specs.Hosts.{home, host_for, hosts}
 use Rattle.world_core.specs.Machine.{after, machine, step_after}
 use Rattle.world_core.specs.Start.{Start}
 use Rattle.world_core.specs.Steps.{HostStep}
-use Rattle.commit_laws.proofs.Sums.{total_le, total_same}
-use Rattle.commit_laws.proofs.Tally.{and_few}
-use Rattle.commit_laws.specs.Counts.{one_if}
+use Rattle.host_laws.proofs.Sums.{total_le, total_same}
+use Rattle.host_laws.proofs.Tally.{and_few}
+use Rattle.host_laws.specs.Counts.{one_if}
 use Rattle.answer_laws.proofs.AbortCounts.{conts_few}
-use Rattle.answer_laws.proofs.Ahead.{Goes, addressed, along, at_home, at_tc, few_taken, heard_rows, home_place, live_tx, tx_at}
+use Rattle.run_laws.proofs.AlongSteps.{Goes, addressed, along, at_home, at_tc, few_taken, heard_rows, home_place, live_tx, tx_at}
 use Rattle.answer_laws.proofs.FirstChains.{chain_some, good_chain}
-use Rattle.answer_laws.proofs.HostSteps.{IsHome, first_live, reaches, tc_layout}
-use Rattle.answer_laws.proofs.HostTurns.{rows_turn, tc_turn}
-use Rattle.answer_laws.proofs.LinkCounts.{sent_signals, signals, taken_signals}
-use Rattle.answer_laws.proofs.LqhOps.{is_good, is_lqh, is_node, left_of, right_of, true_and}
+use Rattle.host_laws.proofs.HostSteps.{IsHome, first_live, reaches, tc_layout}
+use Rattle.host_laws.proofs.HostTurns.{rows_turn, tc_turn}
+use Rattle.host_laws.proofs.LinkCounts.{sent_signals, signals, taken_signals}
+use Rattle.host_laws.proofs.LqhOps.{is_good, is_lqh, is_node, left_of, right_of, true_and}
 use Rattle.answer_laws.proofs.NodeOwes.{OwesOf, StepOwes, at_if, came_in, cont_in, tc_owes}
-use Rattle.answer_laws.proofs.PartCounts.{cont_block, is_cont}
-use Rattle.answer_laws.proofs.TcCommits.{chain_at, is_chain, is_commit}
-use Rattle.answer_laws.proofs.TcMoves.{same_tx-is}
-use Rattle.answer_laws.proofs.TcOwes.{IsKnown, Owes, begins, goes_on, waits}
-use Rattle.answer_laws.proofs.TcSends.{eqb-self}
+use Rattle.host_laws.proofs.PartCounts.{cont_block, is_cont}
+use Rattle.host_laws.proofs.TcCommits.{chain_at, is_chain, is_commit}
+use Rattle.host_laws.proofs.TcMoves.{same_tx-is}
+use Rattle.host_laws.proofs.TcOwes.{IsKnown, Owes, begins, goes_on, waits}
+use Rattle.host_laws.proofs.TcSends.{eqb-self}
 use Rattle.answer_laws.proofs.Totals.{Grown, sent_all, sent_more, taken_all, taken_more}
-use Rattle.answer_laws.proofs.Wishes.{is_tc, sends_of}
-use Rattle.answer_laws.specs.Answered.{AreQuiet, IsLiveAs, NoCommitIsAwaited, is_committing}
+use Rattle.host_laws.proofs.Wishes.{is_tc, sends_of}
+use Rattle.answer_laws.specs.Answered.{AreQuiet, IsLiveAs, NoCommitIsAwaited}
+use Rattle.host_laws.specs.Phases.{is_committing}
 
 -- what came along the chain
 abbrev came_along : ℕ → TxId → Body → ℕ

@@ -16,12 +16,12 @@ use Rattle.world_core.specs.Hosts.{first_membership, host_for}
 use Rattle.world_core.specs.Machine.{addressed, all_addressed, counted as one_counted, machine}
 use Rattle.world_core.specs.Start.{Start}
 use Rattle.world_core.specs.Steps.{Addressed}
-use Rattle.answer_laws.proofs.Ahead.{is_dih}
-use Rattle.answer_laws.proofs.Focus.{IsFocus, absent, found}
-use Rattle.answer_laws.proofs.SendKinds.{are_of}
-use Rattle.commit_laws.proofs.Tally.{tally_between}
-use Rattle.commit_laws.specs.Counts.{one_if, tally}
-use Rattle.answer_laws.proofs.TcMoves.{same_tx-is}
+use Rattle.run_laws.proofs.AlongSteps.{is_dih}
+use Rattle.host_laws.proofs.Focus.{IsFocus, absent, found}
+use Rattle.host_laws.proofs.SendKinds.{are_of}
+use Rattle.host_laws.proofs.Tally.{tally_between}
+use Rattle.host_laws.specs.Counts.{one_if, tally}
+use Rattle.host_laws.proofs.TcMoves.{same_tx-is}
 
 -- what the block of epochs makes of the transactions that it counts
 abbrev pub with_asked : List TxId → TxId → Bool → List TxId

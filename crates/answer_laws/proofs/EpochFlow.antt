@@ -20,18 +20,18 @@ use Rattle.tc_block.specs.Sends.{verify_end}
 use Rattle.tc_block.specs.State.{TcState}
 use Rattle.tc_block.specs.Tc.{begin_if, begin_row, is_full, tc_table}
 use Rattle.world_core.specs.Machine.{after}
-use Rattle.answer_laws.proofs.Ahead.{is_dih}
-use Rattle.answer_laws.proofs.ApiMoves.{ApiMove, begun_as, ends, goes, is_api_kind, opens, refuses, rests}
+use Rattle.run_laws.proofs.AlongSteps.{is_dih}
+use Rattle.host_laws.proofs.ApiMoves.{ApiMove, begun_as, ends, goes, is_api_kind, opens, refuses, rests}
 use Rattle.answer_laws.proofs.EpochCounts.{counts_by, ended_by, is_epochless, with_asked}
 use Rattle.answer_laws.proofs.EpochLives.{TurnCounts, asking, ending, gone, unchanged, turn_counts, rest_plain}
-use Rattle.answer_laws.proofs.SendKinds.{are_of, is_dih_kind, is_lqh_kind, is_tc_kind, none_of, of_kind}
-use Rattle.commit_laws.proofs.Tally.{and_few, none_if, tally_append}
-use Rattle.commit_laws.specs.Counts.{one_if}
-use Rattle.answer_laws.proofs.TcSends.{tc_kinds, tx_in}
-use Rattle.answer_laws.proofs.TcSteps.{TcStep, begins, is_rest_kind, misses, takes, tc_step}
-use Rattle.answer_laws.proofs.TcSteps as steps
-use Rattle.answer_laws.proofs.TcTurns.{turn_moves, turn_row}
-use Rattle.answer_laws.proofs.Wishes.{and_false, is_tc, second_fails, sends_of}
+use Rattle.host_laws.proofs.SendKinds.{are_of, is_dih_kind, is_lqh_kind, is_tc_kind, none_of, of_kind}
+use Rattle.host_laws.proofs.Tally.{and_few, none_if, tally_append}
+use Rattle.host_laws.specs.Counts.{one_if}
+use Rattle.host_laws.proofs.TcSends.{tc_kinds, tx_in}
+use Rattle.host_laws.proofs.TcSteps.{TcStep, begins, is_rest_kind, misses, takes, tc_step}
+use Rattle.host_laws.proofs.TcSteps as steps
+use Rattle.host_laws.proofs.TcTurns.{turn_moves, turn_row}
+use Rattle.host_laws.proofs.Wishes.{and_false, is_tc, second_fails, sends_of}
 
 -- a transaction asks for an epoch, and is given one
 abbrev pub is_req : TxId → Place → Body → Bool

@@ -30,18 +30,18 @@ use Rattle.world_core.specs.Hosts.{host_for, hosts, receiver, started, tc_host}
 use Rattle.world_core.specs.Machine.{after, machine, sent_count, step_after}
 use Rattle.world_core.specs.Start.{Start}
 use Rattle.world_core.specs.Steps.{Addressed, HostStep}
-use Rattle.commit_laws.specs.Counts.{one_if}
-use Rattle.answer_laws.proofs.Ahead.{at_tc, few_taken, is_dih}
-use Rattle.answer_laws.proofs.ApiMoves.{api_moves}
-use Rattle.answer_laws.proofs.DihSends.{dih_kinds}
+use Rattle.host_laws.specs.Counts.{one_if}
+use Rattle.run_laws.proofs.AlongSteps.{at_tc, few_taken, is_dih}
+use Rattle.host_laws.proofs.ApiMoves.{api_moves}
+use Rattle.host_laws.proofs.DihSends.{dih_kinds}
 use Rattle.answer_laws.proofs.EpochCounts.{AreFew, SendsFew, counted_of, counts_by, counts_if, is_epochless, is_request, plain_counts, put_counts, put_few, sends_count}
 use Rattle.answer_laws.proofs.EpochFlow.{at_place, dih_counts, dih_few, dih_gives, dih_plain, dih_stays, is_conf, is_epoch, is_req, lqh_plain, move_epochs, plain_none, req_body, tc_confless, tc_epochs}
 use Rattle.answer_laws.proofs.EpochLives.{AreCounted, step_counts}
-use Rattle.answer_laws.proofs.HostSteps.{IsAtNode, at_own_node}
-use Rattle.answer_laws.proofs.LinkCounts.{all_three, sent_signals, signals, taken_signals}
-use Rattle.answer_laws.proofs.LqhSends.{lqh_kinds}
-use Rattle.answer_laws.proofs.SendKinds.{are_of, is_dih_kind, is_lqh_kind, of_kind}
-use Rattle.answer_laws.proofs.Wishes.{second_fails, sends_of}
+use Rattle.host_laws.proofs.HostSteps.{IsAtNode, at_own_node}
+use Rattle.host_laws.proofs.LinkCounts.{all_three, sent_signals, signals, taken_signals}
+use Rattle.host_laws.proofs.LqhSends.{lqh_kinds}
+use Rattle.host_laws.proofs.SendKinds.{are_of, is_dih_kind, is_lqh_kind, of_kind}
+use Rattle.host_laws.proofs.Wishes.{second_fails, sends_of}
 
 -- a host of a coordinator runs nothing else than that and epochs
 pub tc_no_api : (s : Host) → has_tc s ≡ true → has_api s ≡ true → ⊥

@@ -29,15 +29,15 @@ use Rattle.tc_block.specs.Tc.{is_full, next_tx, tc_table}
 use Rattle.tc_block.specs.Turn.{Turn}
 use Rattle.sig_core.proofs.Keys.{same_tx-self}
 use Rattle.answer_laws.proofs.EpochCounts.{IsWithout, SendsFew, asked_count, counts_if, ended_by, ended_count, is_epochless, plain_counts, sends_count}
-use Rattle.answer_laws.proofs.PartKinds.{IsPartKind, entering_of, parts_of}
-use Rattle.answer_laws.proofs.SendKinds.{are_of, of_kind, of_map}
-use Rattle.commit_laws.proofs.Tally.{tally_append, tally_between}
-use Rattle.commit_laws.specs.Counts.{one_if, tally}
-use Rattle.answer_laws.proofs.TcLives.{IsOwn, insert_new}
-use Rattle.answer_laws.proofs.TcSends.{tx_in}
-use Rattle.answer_laws.proofs.TcSteps.{TcStep, begins, is_rest_kind, misses, rests, takes, tc_step}
-use Rattle.answer_laws.proofs.TcTurns.{GivesUp, IsCommitted, TurnMove, abort_ends, aborted, aborts, all_completed, answers, asked_to, asks, at_last, at_once, commits, committed, completed, completes, decides, ends, gives_up, goes_on, is_wait_kind, keeps, late, refused, turn_moves, turn_row}
-use Rattle.answer_laws.specs.Answered.{is_committing}
+use Rattle.host_laws.proofs.PartKinds.{IsPartKind, entering_of, parts_of}
+use Rattle.host_laws.proofs.SendKinds.{are_of, of_kind, of_map}
+use Rattle.host_laws.proofs.Tally.{tally_append, tally_between}
+use Rattle.host_laws.specs.Counts.{one_if, tally}
+use Rattle.host_laws.proofs.TcLives.{IsOwn, insert_new}
+use Rattle.host_laws.proofs.TcSends.{tx_in}
+use Rattle.host_laws.proofs.TcSteps.{TcStep, begins, is_rest_kind, misses, rests, takes, tc_step}
+use Rattle.host_laws.proofs.TcTurns.{GivesUp, IsCommitted, TurnMove, abort_ends, aborted, aborts, all_completed, answers, asked_to, asks, at_last, at_once, commits, committed, completed, completes, decides, ends, gives_up, goes_on, is_wait_kind, keeps, late, refused, turn_moves, turn_row}
+use Rattle.host_laws.specs.Phases.{is_committing}
 
 -- an epoch was asked for, and its end isn't told
 abbrev pub is_counted : Phase → Bool

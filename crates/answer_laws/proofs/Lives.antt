@@ -19,126 +19,28 @@ use Rattle.node_core.specs.Blocks.{tc_of}
 use Rattle.node_core.specs.Requests.{is_request}
 use Rattle.node_core.specs.Row.{row}
 use Rattle.tc_block.specs.declared.transaction.Transaction.{Transaction}
-use Rattle.world_core.proofs.HostNumbers.{given_past}
 use Rattle.world_core.specs.Hosts.{first_membership, home, host_for, hosts}
 use Rattle.world_core.specs.Machine.{addressed, after, all_addressed, counted as one_counted, machine, sent_count, step_after}
 use Rattle.world_core.specs.Start.{Start}
 use Rattle.world_core.specs.Steps.{Addressed, HostStep}
 use Rattle.sig_core.proofs.Keys.{same_tx-self}
-use Rattle.answer_laws.proofs.LqhOps.{right_of, left_of}
-use Rattle.answer_laws.proofs.Ahead.{none_kept}
-use Rattle.answer_laws.proofs.ApiHolds.{AreHeld, IsOrdered, log_holds}
-use Rattle.answer_laws.proofs.Hosts.{TellsHome, told}
-use Rattle.answer_laws.proofs.HostSteps.{first_live}
-use Rattle.answer_laws.proofs.LinkCounts.{all_three, sent_to_shell, shell_signals, signals, steps, steps_from, taken_signals, taken_steps, to_host}
-use Rattle.commit_laws.proofs.Tally.{Counted, counted, tally_in, tally_none, tally_past}
-use Rattle.commit_laws.specs.Counts.{one_if, tally}
-use Rattle.answer_laws.proofs.TcLives.{IsKept, due_move, is_done, is_keyed, is_start, kept_move, start_of, starts_in}
-use Rattle.answer_laws.proofs.TcMoves.{TcMove, end_of, host_moves, is_end, same_tx-is}
-use Rattle.answer_laws.proofs.Wishes.{is_api, sends_of}
-use Rattle.answer_laws.specs.Answered.{AreQuiet, EachHasCoordinator, IsLiveAs, IsLiveAt, is_completing, opened_after, opened_in}
-
--- in a list of signals, the newest first, what has ended has begun before
-abbrev pub AreOrdered : TxId → List Addressed → Type 0
-AreOrdered tx [] = Unit {0}
-AreOrdered tx (x ∷ xs) = (is_end tx x.signal.to x.signal.body ≡ true → 1 ≤ signals (is_start tx) xs) × AreOrdered tx xs
-
-ordered_behind : (tx : TxId) (xs ys : List Addressed) → AreOrdered tx (xs ++ ys) → AreOrdered tx ys
-ordered_behind tx [] ys h = h
-ordered_behind tx (x ∷ xs) ys h = ordered_behind tx xs ys h.1
-
-ordered_past : (tx : TxId) (xs ys : List Addressed) → IsPast xs ys → AreOrdered tx ys → AreOrdered tx xs
-ordered_past tx xs ys past h = ordered_behind tx past.newer xs (subst (AreOrdered tx) past.is h)
-
-ordered_none : (tx : TxId) (xs : List Addressed) → signals (is_end tx) xs ≡ 0 → AreOrdered tx xs
-ordered_none tx [] none = tt
-ordered_none tx (x ∷ xs) none = (λ e. absurd (omega (arith, none, ap one_if e)), ordered_none tx xs (omega (arith, none)))
-
-pub plain_start : (tx : TxId) (body : Body) → start_of tx body ≡ true → is_request body ≡ false
-plain_start tx (Client (TcBeginConf name other)) e = refl
-plain_start tx _ e = cc
-
-plain_end : (tx : TxId) (body : Body) → end_of tx body ≡ true → is_request body ≡ false
-plain_end tx (Client (TcCommitConf other epoch)) e = refl
-plain_end tx (Client (TcRollbackRep other cause)) e = refl
-plain_end tx _ e = cc
+use Rattle.host_laws.proofs.LqhOps.{right_of, left_of}
+use Rattle.run_laws.proofs.AlongSteps.{few_taken, link, none_else, none_kept}
+use Rattle.host_laws.proofs.ApiHolds.{AreHeld, IsOrdered, log_holds}
+use Rattle.host_laws.proofs.Hosts.{TellsHome, told}
+use Rattle.host_laws.proofs.HostSteps.{first_live}
+use Rattle.host_laws.proofs.LinkCounts.{all_three, sent_to_shell, shell_signals, signals, steps, steps_from, taken_signals, taken_steps, to_host}
+use Rattle.host_laws.proofs.Tally.{Counted, counted, tally_in, tally_none}
+use Rattle.host_laws.specs.Counts.{one_if, tally}
+use Rattle.host_laws.proofs.TcLives.{IsKept, due_move, is_done, is_keyed, is_start, kept_move, start_of, starts_in}
+use Rattle.host_laws.proofs.TcMoves.{TcMove, end_of, host_moves, is_end, same_tx-is}
+use Rattle.host_laws.proofs.Wishes.{is_api, sends_of}
+use Rattle.answer_laws.specs.Answered.{AreQuiet, EachHasCoordinator, IsLiveAs, IsLiveAt}
+use Rattle.host_laws.specs.Opened.{opened_after, opened_in}
+use Rattle.tc_block.specs.Phases.{is_completing}
+use Rattle.run_laws.proofs.Begun.{AreOrdered, HostKeeps, keeps, ordered_past, plain_end, plain_start, silent_end, silent_start}
 
 module _ (start : Start) (tx : TxId) where
-  -- what is so of the transaction at a host after a log
-  pub record HostKeeps (h : ℕ) (log : List HostStep) : Type 0 where
-    pub keeps : IsKept tx (tc_of (after start h log)) (signals (is_start tx) (sent (machine start) h 0 log)) (signals (is_end tx) (sent (machine start) h 0 log))
-    pub ordered : AreOrdered tx (sent (machine start) h 0 log)
-
-  put_ordered : (h stamp : ℕ) (count : ℕ → ℕ) (sends : List Outgoing) (before : List Addressed) → AreOrdered tx before
-      → (1 ≤ sends_of (to_host start 0 (is_end tx)) sends → 1 ≤ signals (is_start tx) before)
-      → AreOrdered tx (put (machine start) 0 (all_addressed (first_membership start) h stamp count sends) before)
-  put_ordered h stamp count [] before ordered due = ordered
-  put_ordered h stamp count (o ∷ more) before ordered due =
-      put_ordered h stamp (counted_ (host_for start o.to)) more _ (first (host_for start o.to == 0) refl) (λ some. later (host_for start o.to == 0) some)
-    where
-      counted_ : ℕ → ℕ → ℕ
-      counted_ to = one_counted to count
-
-      x : Addressed
-      x = addressed (first_membership start) h stamp (count (host_for start o.to)) o
-
-      first : (b : Bool) → (host_for start o.to == 0) ≡ b → AreOrdered tx (if b then x ∷ before else before)
-      first true at = (λ e. due (omega (arith, ap one_if (ap (λ b. b && is_end tx o.to o.body) at ∙ e))), ordered)
-      first false at = ordered
-
-      later : (b : Bool) → 1 ≤ sends_of (to_host start 0 (is_end tx)) more → 1 ≤ signals (is_start tx) (if b then x ∷ before else before)
-      later true some = omega (arith, due (omega (arith, some)))
-      later false some = due (omega (arith, some))
-
-  pub keeps : (h : ℕ) (log : List HostStep) → HostKeeps h log
-  keeps h [] = record { keeps = none_kept tx (tc_of (after start h [])) (first_live start h); ordered = tt }
-  keeps h (e ∷ log) = next (keeps h log)
-    where
-      g : host.Host
-      g = after start h log
-
-      sends : List Outgoing
-      sends = (step_after start h log e).effects.sends
-
-      begun : ℕ
-      begun = signals (is_start tx) (sent (machine start) h 0 log)
-
-      ended : ℕ
-      ended = signals (is_end tx) (sent (machine start) h 0 log)
-
-      move : TcMove (tc_of g) (tc_of (row g e.step.taken).state) sends
-      move = host_moves g e.step.taken
-
-      next : HostKeeps h log → HostKeeps h (e ∷ log)
-      next k = record {
-        keeps = subst (λ n. IsKept tx (tc_of (after start h (e ∷ log))) n (signals (is_end tx) (sent (machine start) h 0 (e ∷ log)))) (sym (shell_signals start (is_start tx) h e log))
-            (subst (λ n. IsKept tx (tc_of (after start h (e ∷ log))) (starts_in tx sends + begun) n) (sym (shell_signals start (is_end tx) h e log)) (kept_move tx (tc_of g) _ sends begun ended move k.keeps));
-        ordered = put_ordered h e.step.stamp (sent_count start h log) sends (sent (machine start) h 0 log) k.ordered
-            (λ some. due_move tx (tc_of g) _ sends begun ended move k.keeps (omega (arith, some, sent_to_shell start (is_end tx) sends)));
-      }
-
-  -- neither is told by another host
-  pub silent_start : (h : ℕ) (log : List HostStep) → h < hosts start → h ≢ home start tx → signals (is_start tx) (sent (machine start) h 0 log) ≡ 0
-  silent_start h log low differs =
-      tally_none (λ (x : Addressed). is_start tx x.signal.to x.signal.body) (sent (machine start) h 0 log)
-      (each_map (λ (x : Addressed). TellsHome start h x.signal.body) (λ (x : Addressed). is_start tx x.signal.to x.signal.body ≡ false) (sent (machine start) h 0 log)
-      (λ x tells. fails x tells (is_start tx x.signal.to x.signal.body) refl) (told start h 0 log low))
-    where
-      by_home : (body : Body) → TellsHome start h body → start_of tx body ≡ true → h ≡ home start tx
-      by_home (Client (TcBeginConf name other)) tells e = (tells name other refl).is ∙ ap (home start) (same_tx-is other tx e)
-      by_home _ tells e = cc
-
-      fails : (x : Addressed) → TellsHome start h x.signal.body → (b : Bool) → is_start tx x.signal.to x.signal.body ≡ b → is_start tx x.signal.to x.signal.body ≡ false
-      fails x tells false e = e
-      fails x tells true e = absurd (differs (by_home x.signal.body tells (right_of (is_api x.signal.to.block) (start_of tx x.signal.body) e)))
-
-  pub silent_end : (h : ℕ) (log : List HostStep) → h < hosts start → h ≢ home start tx → signals (is_end tx) (sent (machine start) h 0 log) ≡ 0
-  silent_end h log low differs = go (cases_lt 0 (signals (is_end tx) (sent (machine start) h 0 log)))
-    where
-      go : (0 < signals (is_end tx) (sent (machine start) h 0 log)) ⊎ (signals (is_end tx) (sent (machine start) h 0 log) ≤ 0) → signals (is_end tx) (sent (machine start) h 0 log) ≡ 0
-      go (inl some) = absurd (omega (arith, (keeps h log).keeps.order (omega (arith, some)), silent_start h log low differs))
-      go (inr none) = omega (arith, none)
-
   -- a log of the shell's host that has taken signals in order
   log_ordered : (log : List HostStep) → ((k : ℕ) → k ≢ home start tx → signals (is_end tx) (taken (machine start) k log) ≡ 0) → AreOrdered tx (taken (machine start) (home start tx) log) → IsOrdered tx log
   log_ordered [] none ordered = tt
@@ -170,24 +72,10 @@ module _ (start : Start) (tx : TxId) where
 
   -- at quiet
   module _ (logs : ℕ → List HostStep) (quiet : AreQuiet start logs) where
-    link : (i j : ℕ) → IsPast (taken (machine start) i (logs j)) (sent (machine start) i j (logs i))
-    link i j = given_past start i j (logs i) (taken (machine start) i (logs j)) (quiet.right.linked i j)
-
-    few_taken : (test : Place → Body → Bool) (i : ℕ) → signals test (taken (machine start) i (logs 0)) ≤ signals test (sent (machine start) i 0 (logs i))
-    few_taken test i = tally_past (λ (x : Addressed). test x.signal.to x.signal.body) (link i 0)
-
-    -- no other host that is there tells, and one that isn't there sends nothing
-    none_sent : (test : Place → Body → Bool) → ((h : ℕ) (log : List HostStep) → h < hosts start → h ≢ home start tx → signals test (sent (machine start) h 0 log) ≡ 0)
-        → (k : ℕ) → k ≢ home start tx → signals test (taken (machine start) k (logs 0)) ≡ 0
-    none_sent test silent k differs = go (cases_lt k (hosts start))
-      where
-        go : (k < hosts start) ⊎ (hosts start ≤ k) → signals test (taken (machine start) k (logs 0)) ≡ 0
-        go (inl low) = omega (arith, silent k (logs k) low differs, few_taken test k)
-        go (inr high) = omega (arith, few_taken test k, ap (λ log. signals test (sent (machine start) k 0 log)) (quiet.within k high))
-
     starts_there : steps (is_start tx) (logs 0) ≤ signals (is_start tx) (taken (machine start) (home start tx) (logs 0))
     starts_there =
-        steps_from start (is_start tx) (home start tx) (λ to body e. plain_start tx body (right_of (is_api to.block) (start_of tx body) e)) (logs 0) (none_sent (is_start tx) silent_start)
+        steps_from start (is_start tx) (home start tx) (λ to body e. plain_start tx body (right_of (is_api to.block) (start_of tx body) e)) (logs 0)
+        (none_else start logs quiet.right quiet.within (is_start tx) (home start tx) (silent_start start tx))
 
     -- what is live at the coordinator
     live_at : (h : ℕ) → 1 ≤ signals (is_start tx) (sent (machine start) h 0 (logs h)) → signals (is_end tx) (sent (machine start) h 0 (logs h)) ≡ 0 → IsLiveAt tx (after start h (logs h))
@@ -197,8 +85,8 @@ module _ (start : Start) (tx : TxId) where
       unreported = unfinished (is_completing c.item.1.phase) refl;
     }
       where
-        k : HostKeeps h (logs h)
-        k = keeps h (logs h)
+        k : HostKeeps start tx h (logs h)
+        k = keeps start tx h (logs h)
 
         c : Counted (is_keyed tx) (tc_of (after start h (logs h))).live
         c = counted (is_keyed tx) (tc_of (after start h (logs h))).live (omega (arith, k.keeps.kept some, none))
@@ -211,13 +99,13 @@ module _ (start : Start) (tx : TxId) where
 
     -- it was told once to have begun, and what the API holds isn't told to have ended
     pub once_started : steps (is_start tx) (logs 0) ≤ 1
-    once_started = omega (arith, starts_there, few_taken (is_start tx) (home start tx), (keeps (home start tx) (logs (home start tx))).keeps.once)
+    once_started = omega (arith, starts_there, few_taken start logs quiet.right (is_start tx) (home start tx) 0, (keeps start tx (home start tx) (logs (home start tx))).keeps.once)
 
     pub holds_at : AreHeld tx (tally (has_tx tx) (opened_in (after start 0 (logs 0)))) (logs 0)
     holds_at =
         log_holds start tx (logs 0) once_started
-        (log_ordered (logs 0) (none_sent (is_end tx) silent_end)
-        (ordered_past tx (taken (machine start) (home start tx) (logs 0)) (sent (machine start) (home start tx) 0 (logs (home start tx))) (link (home start tx) 0) (keeps (home start tx) (logs (home start tx))).ordered))
+        (log_ordered (logs 0) (none_else start logs quiet.right quiet.within (is_end tx) (home start tx) (silent_end start tx))
+        (ordered_past tx (taken (machine start) (home start tx) (logs 0)) (sent (machine start) (home start tx) 0 (logs (home start tx))) (link start logs quiet.right (home start tx) 0) (keeps start tx (home start tx) (logs (home start tx))).ordered))
 
     held_live : (t : OpenTransaction) → IsIn t (opened_after start logs) → t.tx ≡ Some tx → IsLiveAt tx (after start (home start tx) (logs (home start tx)))
     held_live t inside is = at_low (cases_lt (home start tx) (hosts start))
@@ -229,7 +117,7 @@ module _ (start : Start) (tx : TxId) where
         held = tally_in (has_tx tx) t (opened_in (after start 0 (logs 0))) inside (ap (is_tx tx) is ∙ same_tx-self tx)
 
         some : 1 ≤ at_home (is_start tx)
-        some = omega (arith, held, holds_at.few, starts_there, few_taken (is_start tx) (home start tx))
+        some = omega (arith, held, holds_at.few, starts_there, few_taken start logs quiet.right (is_start tx) (home start tx) 0)
 
         none : home start tx < hosts start → (0 < at_home (is_end tx)) ⊎ (at_home (is_end tx) ≤ 0) → at_home (is_end tx) ≡ 0
         none low (inr few) = omega (arith, few)

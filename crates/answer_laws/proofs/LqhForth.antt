@@ -34,8 +34,8 @@ use Rattle.lqh_block.specs.Storage as storage
 use Rattle.lqh_block.specs.Storage.{StorageState}
 use Rattle.lqh_block.specs.Wait as wait
 use Rattle.sig_core.specs.Same.{same_tx}
-use Rattle.answer_laws.proofs.LqhWaits.{is_forth}
-use Rattle.answer_laws.proofs.SendKinds.{SendsOnly, are_of, of_append}
+use Rattle.host_laws.proofs.LqhWaits.{is_forth}
+use Rattle.host_laws.proofs.SendKinds.{SendsOnly, are_of, of_append}
 
 -- all but a commit or a completion of the transaction
 abbrev pub is_back : TxId → Body → Bool

@@ -24,12 +24,12 @@ use Rattle.tc_block.specs.Operate.{can_operate, is_ready}
 use Rattle.tc_block.specs.Touched.{fits, place_of}
 use Rattle.answer_laws.proofs.ApiEntries.{is_commit_req, of_opened}
 use Rattle.answer_laws.proofs.OpenTurns.{commit_body}
-use Rattle.commit_laws.specs.Counts.{one_if, tally}
-use Rattle.answer_laws.proofs.TcKeys.{key_of_tx}
-use Rattle.answer_laws.proofs.TcMoves.{same_tx-is}
-use Rattle.answer_laws.proofs.TcSends.{tx_in}
-use Rattle.answer_laws.proofs.TcTurns.{IsMissed, is_turn}
-use Rattle.answer_laws.proofs.Wishes.{is_api, is_tc}
+use Rattle.host_laws.specs.Counts.{one_if, tally}
+use Rattle.host_laws.proofs.TcKeys.{key_of_tx}
+use Rattle.host_laws.proofs.TcMoves.{same_tx-is}
+use Rattle.host_laws.proofs.TcSends.{tx_in}
+use Rattle.host_laws.proofs.TcTurns.{IsMissed, is_turn}
+use Rattle.host_laws.proofs.Wishes.{is_api, is_tc}
 
 pub some_held : (tx : TxId) (opened : List OpenTransaction) (t : OpenTransaction) → of_opened tx opened ≡ Some t → 1 ≤ tally (has_tx tx) opened
 some_held tx [] t there = absurd cc

@@ -31,14 +31,14 @@ use Rattle.tc_block.specs.State.{TcState}
 use Rattle.tc_block.specs.Tc.{begin_if, begin_row, is_full, next_tx, pass_if, pass_row, tc_table}
 use Rattle.tc_block.specs.Turn.{Turn, going}
 use Rattle.sig_core.proofs.Keys.{same_tx-self}
-use Rattle.answer_laws.proofs.ApiBegins.{each_at, each_changed, each_less, in_middle}
-use Rattle.answer_laws.proofs.NodeOps.{absent_key}
-use Rattle.commit_laws.proofs.Tally.{tally_between, tally_in}
-use Rattle.commit_laws.specs.Counts.{one_if, tally}
-use Rattle.answer_laws.proofs.TcCommits.{is_chain}
-use Rattle.answer_laws.proofs.TcLives.{IsOwn, insert_new, is_keyed}
-use Rattle.answer_laws.proofs.TcMoves.{found, IsEntry, same_tx-is, step_is}
-use Rattle.answer_laws.proofs.TcOwes.{IsKnown, Owes, TurnOwes, aborted_owes, answer_owes, commit_owes, committed_owes, completed_owes, decide_owes, go_on_owes, operate_owes, refuse_owes, rollback_owes, wait_owes, waits}
+use Rattle.host_laws.proofs.ApiBegins.{each_at, each_changed, each_less, in_middle}
+use Rattle.host_laws.proofs.NodeOps.{absent_key}
+use Rattle.host_laws.proofs.Tally.{tally_between, tally_in}
+use Rattle.host_laws.specs.Counts.{one_if, tally}
+use Rattle.host_laws.proofs.TcCommits.{is_chain}
+use Rattle.host_laws.proofs.TcLives.{IsOwn, insert_new, is_keyed}
+use Rattle.host_laws.proofs.TcMoves.{found, IsEntry, same_tx-is, step_is}
+use Rattle.host_laws.proofs.TcOwes.{IsKnown, Owes, TurnOwes, aborted_owes, answer_owes, commit_owes, committed_owes, completed_owes, decide_owes, go_on_owes, operate_owes, refuse_owes, rollback_owes, wait_owes, waits}
 
 in_split : {A : Type 0} (x y : A) (front back : List A) → IsIn x (front ++ y ∷ back) → IsIn x (front ++ back) ⊎ (x ≡ y)
 in_split x y [] back (inl e) = inr e

@@ -34,22 +34,22 @@ use Rattle.world_core.specs.Machine.{after, machine, step_after}
 use Rattle.world_core.specs.Start.{Start}
 use Rattle.world_core.specs.Steps.{HostStep}
 use Rattle.sig_core.proofs.Keys.{same_tx-self, same_key-self}
-use Rattle.answer_laws.proofs.Ahead.{Goes, addressed, along, at_home, at_tc, heard_rows, home_place, live_tx}
+use Rattle.run_laws.proofs.AlongSteps.{Goes, addressed, along, at_home, at_tc, heard_rows, home_place, live_tx}
 use Rattle.answer_laws.proofs.FirstChains.{first_node, good_chain}
 use Rattle.answer_laws.proofs.Flows.{flow_few}
-use Rattle.answer_laws.proofs.HostSteps.{first_live, no_waiting, reaches, tc_layout}
-use Rattle.answer_laws.proofs.HostTurns.{idle_unheard}
-use Rattle.answer_laws.proofs.LinkCounts.{signals}
-use Rattle.answer_laws.proofs.LqhOps.{came_of, is_good, is_lqh, is_mine, is_node, is_op, left_of, lqh_ops, ops, right_of, true_and}
-use Rattle.answer_laws.proofs.NodeOps.{AreRight, StepAsks, answers_of, is_asking, tc_steps}
-use Rattle.commit_laws.proofs.Tally.{Counted, and_few, counted, tally_in}
-use Rattle.commit_laws.specs.Counts.{one_if, tally}
-use Rattle.answer_laws.proofs.TcMoves.{same_tx-is}
-use Rattle.answer_laws.proofs.TcOps.{IsGoodLayout, asks_key}
+use Rattle.host_laws.proofs.HostSteps.{first_live, no_waiting, reaches, tc_layout}
+use Rattle.host_laws.proofs.HostTurns.{idle_unheard}
+use Rattle.host_laws.proofs.LinkCounts.{signals}
+use Rattle.host_laws.proofs.LqhOps.{came_of, is_good, is_lqh, is_mine, is_node, is_op, left_of, lqh_ops, ops, right_of, true_and}
+use Rattle.host_laws.proofs.NodeOps.{AreRight, StepAsks, answers_of, is_asking, tc_steps}
+use Rattle.host_laws.proofs.Tally.{Counted, and_few, counted, tally_in}
+use Rattle.host_laws.specs.Counts.{one_if, tally}
+use Rattle.host_laws.proofs.TcMoves.{same_tx-is}
+use Rattle.host_laws.proofs.TcOps.{IsGoodLayout, asks_key}
 use Rattle.answer_laws.proofs.Totals.{Grown, sent_all, sent_more, taken_all, taken_more}
-use Rattle.commit_laws.proofs.Sums.{IsSome, total_one, total_same, total_some}
-use Rattle.commit_laws.specs.Counts.{total}
-use Rattle.answer_laws.proofs.Wishes.{is_tc}
+use Rattle.host_laws.proofs.Sums.{IsSome, total_one, total_same, total_some}
+use Rattle.host_laws.specs.Counts.{total}
+use Rattle.host_laws.proofs.Wishes.{is_tc}
 use Rattle.answer_laws.specs.Answered.{AreQuiet, EachOperationWaits, IsLiveAs, IsWaitingAt, Waits}
 
 -- a host that has nothing of a coordinator's signals runs none

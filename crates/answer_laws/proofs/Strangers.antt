@@ -1,7 +1,7 @@
 -- Which hosts tell of a transaction: its coordinator alone answers its operations, and the API alone asks for its commit.
-use Rattle.std.proofs.Common.{◌≡◌, ◌≢◌, ◌⊎◌, ℕ, ◌≤◌, ◌<◌, List, [], ◌∷◌, Bool, true, false, refl, ap, sym, ◌∙◌, arith, inl, inr}
+use Rattle.std.proofs.Common.{◌≡◌, ◌≢◌, ℕ, ◌≤◌, ◌<◌, List, [], ◌∷◌, Bool, true, false, refl, ap, sym, ◌∙◌, arith}
 use Rattle.std.specs.Prelude.{◌==◌, not, Option}
-use Rattle.std.proofs.lemmas.Bool.{cases_lt, false≢true}
+use Rattle.std.proofs.lemmas.Bool.{false≢true}
 use Rattle.lqh_block.specs.Lqh.{lqh_table}
 use Rattle.node_core.proofs.HostCases.{of_effects}
 use Rattle.node_core.specs.Blocks.{dih_of, has_api, lqh_of, tc_of}
@@ -25,21 +25,21 @@ use Rattle.world_core.specs.Hosts.{home, hosts, tc_host}
 use Rattle.world_core.specs.Machine.{after, machine, step_after}
 use Rattle.world_core.specs.Start.{Start}
 use Rattle.world_core.specs.Steps.{HostStep}
-use Rattle.answer_laws.proofs.Ahead.{at_home, few_taken, turn_at}
+use Rattle.run_laws.proofs.AlongSteps.{at_home, few_taken, none_else, turn_at}
 use Rattle.answer_laws.proofs.ApiEntries.{is_commit_req}
 use Rattle.answer_laws.proofs.Asks.{host_asked, host_silent, plain_answer, plain_key}
-use Rattle.answer_laws.proofs.DihSends.{dih_kinds}
-use Rattle.answer_laws.proofs.HostSteps.{at_own_node, no_api}
-use Rattle.answer_laws.proofs.HostTurns.{HostTurn, aside, in_rows, is_aside, starting, turning}
-use Rattle.answer_laws.proofs.LinkCounts.{few_sends, sent_signals, shell_signals, signals, steps, steps_from}
-use Rattle.answer_laws.proofs.Lives.{keeps, plain_start, silent_start}
-use Rattle.answer_laws.proofs.LqhOps.{right_of}
-use Rattle.answer_laws.proofs.LqhSends.{lqh_kinds}
-use Rattle.answer_laws.proofs.SendKinds.{are_of, is_dih_kind, is_lqh_kind, is_tc_kind, none_of}
-use Rattle.answer_laws.proofs.TcKeys.{answer_of, answers_in, is_answer, is_key, key_of_tx}
-use Rattle.answer_laws.proofs.TcLives.{is_start, start_of}
-use Rattle.answer_laws.proofs.TcSends.{tc_kinds, tx_in}
-use Rattle.answer_laws.proofs.Wishes.{and_false, is_api, is_tc, sends_of, to_node}
+use Rattle.host_laws.proofs.DihSends.{dih_kinds}
+use Rattle.host_laws.proofs.HostSteps.{at_own_node, no_api}
+use Rattle.host_laws.proofs.HostTurns.{HostTurn, aside, in_rows, is_aside, starting, turning}
+use Rattle.host_laws.proofs.LinkCounts.{few_sends, sent_signals, shell_signals, signals, steps, steps_from}
+use Rattle.run_laws.proofs.Begun.{keeps, plain_start, silent_start}
+use Rattle.host_laws.proofs.LqhOps.{right_of}
+use Rattle.host_laws.proofs.LqhSends.{lqh_kinds}
+use Rattle.host_laws.proofs.SendKinds.{are_of, is_dih_kind, is_lqh_kind, is_tc_kind, none_of}
+use Rattle.host_laws.proofs.TcKeys.{answer_of, answers_in, is_answer, is_key, key_of_tx}
+use Rattle.host_laws.proofs.TcLives.{is_start, start_of}
+use Rattle.host_laws.proofs.TcSends.{tc_kinds, tx_in}
+use Rattle.host_laws.proofs.Wishes.{and_false, is_api, is_tc, sends_of, to_node}
 
 -- what isn't said of the transaction answers none of its operations
 pub aside_answers : (tx : TxId) (sends : List Outgoing) → are_of (is_aside tx) sends ≡ true → answers_in tx sends ≡ 0
@@ -134,21 +134,12 @@ module _ (start : Start) (tx : TxId) where
           few_taken start logs right (is_commit_req tx) 0 (home start tx),
         )
 
-    -- what no other host that is there sends no other host sends
-    none_else : (test : Place → Body → Bool) → ((h : ℕ) (log : List HostStep) → h < hosts start → h ≢ home start tx → signals test (sent (machine start) h 0 log) ≡ 0)
-        → (k : ℕ) → k ≢ home start tx → signals test (taken (machine start) k (logs 0)) ≡ 0
-    none_else test silent k differs = go (cases_lt k (hosts start))
-      where
-        go : (k < hosts start) ⊎ (hosts start ≤ k) → signals test (taken (machine start) k (logs 0)) ≡ 0
-        go (inl low) = omega (arith, silent k (logs k) low differs, few_taken start logs right test k 0)
-        go (inr high) = omega (arith, few_taken start logs right test k 0, ap (λ log. signals test (sent (machine start) k 0 log)) (in_n k high))
-
     -- what the API took of it the coordinator has sent
     pub answers_few : steps (is_answer tx) (logs 0) ≤ signals (is_answer tx) (sent (machine start) (home start tx) 0 (logs (home start tx)))
     answers_few =
         omega (
           arith,
-          steps_from start (is_answer tx) (home start tx) (λ to body e. plain_answer tx body (right_of (is_api to.block) (answer_of tx body) e)) (logs 0) (none_else (is_answer tx) never_answers),
+          steps_from start (is_answer tx) (home start tx) (λ to body e. plain_answer tx body (right_of (is_api to.block) (answer_of tx body) e)) (logs 0) (none_else start logs right in_n (is_answer tx) (home start tx) never_answers),
           few_taken start logs right (is_answer tx) (home start tx) 0,
         )
 
@@ -156,7 +147,7 @@ module _ (start : Start) (tx : TxId) where
     starts_few =
         omega (
           arith,
-          steps_from start (is_start tx) (home start tx) (λ to body e. plain_start tx body (right_of (is_api to.block) (start_of tx body) e)) (logs 0) (none_else (is_start tx) (silent_start start tx)),
+          steps_from start (is_start tx) (home start tx) (λ to body e. plain_start tx body (right_of (is_api to.block) (start_of tx body) e)) (logs 0) (none_else start logs right in_n (is_start tx) (home start tx) (silent_start start tx)),
           few_taken start logs right (is_start tx) (home start tx) 0,
         )
 

@@ -30,12 +30,12 @@ use Rattle.tc_block.specs.State.{TcState}
 use Rattle.tc_block.specs.Turn.{Turn}
 use Rattle.lqh_block.proofs.IndexLemmas.{same as same_key-is}
 use Rattle.sig_core.proofs.Keys.{same_tx-self}
-use Rattle.answer_laws.proofs.LqhOps.{is_good, is_lqh, is_node, left_of, right_of, true_and}
-use Rattle.commit_laws.specs.Counts.{one_if}
-use Rattle.answer_laws.proofs.PartCounts.{IsPart, all_counted, is_cont, part_is}
-use Rattle.answer_laws.proofs.TcTurns.{abort_ends, aborted, aborts, all_completed, answers, asked_to, asks, commits, committed, completed, completes, decides, ends, entered_phase, gives_up, GivesUp, goes_on, is_row_answer, IsAnswered, IsMissed, keeps, late, over_not, refused, TurnMove}
-use Rattle.answer_laws.proofs.Wishes.{is_tc, sends_of}
-use Rattle.answer_laws.specs.Answered.{is_aborting}
+use Rattle.host_laws.proofs.LqhOps.{is_good, is_lqh, is_node, left_of, right_of, true_and}
+use Rattle.host_laws.specs.Counts.{one_if}
+use Rattle.host_laws.proofs.PartCounts.{IsPart, all_counted, is_cont, part_is}
+use Rattle.host_laws.proofs.TcTurns.{abort_ends, aborted, aborts, all_completed, answers, asked_to, asks, commits, committed, completed, completes, decides, ends, entered_phase, gives_up, GivesUp, goes_on, is_row_answer, IsAnswered, IsMissed, keeps, late, over_not, refused, TurnMove}
+use Rattle.host_laws.proofs.Wishes.{is_tc, sends_of}
+use Rattle.tc_block.specs.Phases.{is_aborting}
 
 -- an abort of the transaction on its way to a replica, or its answer
 abbrev pub is_abort : ℕ → TxId → Place → Body → Bool

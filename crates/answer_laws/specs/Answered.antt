@@ -1,5 +1,8 @@
 -- What the API's transactions wait for when nothing is under way.
 use Rattle.frag_map.specs.Shape.{IsShape}
+use Rattle.tc_block.specs.Phases.{is_completing, is_aborting}
+use Rattle.host_laws.specs.Phases.{is_committing}
+use Rattle.host_laws.specs.Opened.{opened_after}
 use Rattle.world_core.specs.Hosts.{home, rows_host}
 use Rattle.node_core.specs.Blocks.{api_of, lqh_of, tc_of}
 use Rattle.std.specs.Prelude.{◌≡◌, ◌≤◌, ℕ, Bool, true, false, is_some, List, [], Option, None, Some, ◌<◌}
@@ -28,14 +31,6 @@ use Rattle.world_core.specs.Machine.{after, machine}
 use Rattle.world_core.specs.Quiet.{IsQuiet}
 use Rattle.world_core.specs.Start.{Start}
 
--- the transactions that a host's API was asked for and whose end isn't reported; another host has none
-abbrev pub opened_in : Host → List OpenTransaction
-opened_in host = (api_of host).opened
-
--- those of these logs
-abbrev pub opened_after : Start → (ℕ → List HostStep) → List OpenTransaction
-opened_after start logs = opened_in (after start 0 (logs 0))
-
 -- a request of the transaction waits here in the queue of its key
 pub record IsQueued (tx : TxId) (s : LqhState) : Type 0 where
   pub request : Request
@@ -52,11 +47,6 @@ pub record WaitsForLock (start : Start) (logs : ℕ → List HostStep) (tx : TxI
   pub from : 1 ≤ node
   pub to : node ≤ start.shape.nodes
   pub there : IsQueuedAt tx (after start (rows_host start node) (logs (rows_host start node)))
-
--- it was reported committed, and is completed at the replicas
-abbrev pub is_completing : Phase → Bool
-is_completing (phases.Completing epoch awaited) = true
-is_completing _ = false
 
 -- the coordinator has the transaction, whose end it hasn't reported
 pub record IsLive (tx : TxId) (s : TcState) : Type 0 where
@@ -155,11 +145,6 @@ AsksWhereOperating start logs t =
 abbrev pub EachAsksWhereOperating : Type 0
 EachAsksWhereOperating = EachAtQuiet AsksWhereOperating
 
--- its keys are being committed
-abbrev pub is_committing : Phase → Bool
-is_committing (phases.Committing epoch awaited) = true
-is_committing _ = false
-
 -- no coordinator waits for keys of a transaction to be committed
 abbrev pub NoCommitIsAwaited : Type 0
 NoCommitIsAwaited =
@@ -184,11 +169,6 @@ abbrev pub NoEpochIsAwaited : Type 0
 NoEpochIsAwaited =
     (start : Start) (logs : ℕ → List HostStep) (h : ℕ) (tx : TxId) (t : Transaction) → AreQuiet start logs → h < hosts start
     → IsLiveAs tx t (after start h (logs h)) → is_verifying t.phase ≡ false
-
--- it is being aborted
-abbrev pub is_aborting : Phase → Bool
-is_aborting (phases.Aborting why verifying awaited) = true
-is_aborting _ = false
 
 -- no transaction that has no operation unanswered waits for the end of its abort
 abbrev pub NoAbortIsAwaited : Type 0

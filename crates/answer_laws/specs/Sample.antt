@@ -13,7 +13,8 @@ use Rattle.sig_core.specs.Place.{client, coordinator}
 use Rattle.sig_core.specs.Step.{to_place}
 use Rattle.world_core.specs.Machine.{headed, request_signal}
 use Rattle.world_core.specs.Start.{Start, fresh}
-use Rattle.answer_laws.specs.Answered.{AreQuiet, opened_after}
+use Rattle.answer_laws.specs.Answered.{AreQuiet}
+use Rattle.host_laws.specs.Opened.{opened_after}
 
 -- a step of a host with this stamp and no marks, and the signal that it took
 abbrev pub takes : ℕ → ℕ → Signal → HostStep

@@ -1,10 +1,10 @@
 -- An abort of a transaction that takes commands ends in its being aborted at the client's request.
 use Rattle.std.proofs.Common.{◌≡◌, ◌⊎◌, ◌<◌, ◌≤◌, ◌+◌, ℕ, zero, suc, Bool, true, false, List, [], ◌∷◌, ◌++◌, refl, sym, ap, ◌∙◌, subst, inl, inr, append_assoc, arith}
 use Rattle.std.specs.Prelude.{if◌then◌else◌, Some}
+use Rattle.run_theory.proofs.Pasts.{each_in, each_map}
 use Rattle.run_theory.specs.Cuts.{IsCut}
 use Rattle.run_theory.specs.Lists.{Each, IsIn}
-use Rattle.run_theory.proofs.Pasts.{each_in, each_map}
-use Rattle.world_core.specs.Steps.{HostStep}
+use Rattle.sig_core.proofs.Keys.{same_tx-self}
 use Rattle.sig_core.specs.declared.member.TxId.{TxId}
 use Rattle.sig_core.specs.declared.outcome.AbortCause.{AbortCause}
 use Rattle.sig_core.specs.declared.outcome.AbortCause.TheVariants as cause
@@ -20,16 +20,21 @@ use Rattle.sig_core.specs.declared.signal.client.ClientSignal.TheVariants.{TcCom
 use Rattle.sig_core.specs.Same.{same_tx}
 use Rattle.api_block.specs.declared.opened.Doing.TheVariants.{Ready}
 use Rattle.api_block.specs.declared.opened.OpenTransaction.{OpenTransaction}
+use Rattle.node_core.specs.Blocks.{api_of, tc_of}
 use Rattle.node_core.specs.Replies.{replies_of}
 use Rattle.node_core.specs.Requests.{is_request}
 use Rattle.world_core.specs.Hosts.{home, hosts}
 use Rattle.world_core.specs.Machine.{after, step_after}
 use Rattle.world_core.specs.Start.{Start}
-use Rattle.answer_laws.proofs.ApiBegins.{in_middle}
-use Rattle.answer_laws.proofs.LinkCounts.{steps}
-use Rattle.commit_laws.specs.Counts.{one_if}
-use Rattle.answer_laws.proofs.Wishes.{is_tc, sends_of}
-use Rattle.answer_laws.specs.Answered.{EachIsAnswered, IsOpenAt, opened_after, opened_in}
+use Rattle.world_core.specs.Steps.{HostStep}
+use Rattle.host_laws.specs.Counts.{one_if}
+use Rattle.run_laws.proofs.AlongSteps.{live_tx}
+use Rattle.host_laws.proofs.ApiBegins.{in_middle}
+use Rattle.host_laws.proofs.LinkCounts.{steps}
+use Rattle.answer_laws.proofs.Lives.{live_low}
+use Rattle.host_laws.proofs.Wishes.{is_tc, sends_of}
+use Rattle.answer_laws.specs.Answered.{EachIsAnswered, IsOpenAt}
+use Rattle.host_laws.specs.Opened.{opened_after, opened_in}
 use Rattle.command_laws.proofs.AbortFirst.{IsAbortAsked, abort_first}
 use Rattle.command_laws.proofs.AbortSteps.{IsLooseNow, LooseOption, is_more_to, is_roll_to, is_wrong, more_of, host_run, rolled, wrong_of}
 use Rattle.command_laws.proofs.AbortTurns.{is_loose, is_requested}
@@ -38,26 +43,22 @@ use Rattle.command_laws.proofs.Committed.{cut_at_first, sent_append}
 use Rattle.command_laws.proofs.EarlySteps.{is_wish_to}
 use Rattle.command_laws.proofs.EndsWell.{replied}
 use Rattle.command_laws.proofs.Entries.{HasOne}
+use Rattle.command_laws.proofs.EntryGoes.{HasEnded, entry_goes}
 use Rattle.command_laws.proofs.FirmHosts.{is_push_to}
 use Rattle.command_laws.proofs.First.{IsFirst, first_step, request_first}
-use Rattle.command_laws.proofs.HoldersTold.{sent_to_append, taken_few}
+use Rattle.command_laws.proofs.HoldersTold.{sent_to_append}
+use Rattle.command_laws.proofs.Homes.{sound_at}
+use Rattle.command_laws.proofs.HostSteps.{api_seen}
 use Rattle.command_laws.proofs.OperateAsks.{AreNamed, named_since}
 use Rattle.command_laws.proofs.Pushes.{calm_since, is_node_kind, node_since}
 use Rattle.command_laws.proofs.ReadyAtQuiet.{named_at, opens, ready_open}
 use Rattle.command_laws.proofs.Reported.{OutcomeOf, ending_is}
-use Rattle.command_laws.proofs.Since.{all_arrive, none_taken, sent_since}
+use Rattle.command_laws.proofs.Since.{none_taken, sent_since, arrives}
 use Rattle.command_laws.proofs.TellsOnce.{live_early}
 use Rattle.command_laws.proofs.TellsSince.{OnTc}
 use Rattle.command_laws.proofs.Tests.{and_off, none_at}
-use Rattle.command_laws.proofs.WaitRows.{in_live}
 use Rattle.command_laws.specs.Aborts.{ReadyAbortsAreAnswered}
-use Rattle.sig_core.proofs.Keys.{same_tx-self}
 use Rattle.command_laws.specs.Served.{IsServed, named_in, replies_since}
-use Rattle.answer_laws.proofs.Commits.{live_low}
-use Rattle.command_laws.proofs.Homes.{sound_at}
-use Rattle.command_laws.proofs.HostSteps.{api_seen}
-use Rattle.node_core.specs.Blocks.{api_of, tc_of}
-use Rattle.command_laws.proofs.EntryGoes.{HasEnded, entry_goes}
 
 -- an end that isn't wrong is an abort at the client's request
 ends_right : (tx : TxId) (body : Body) (end : Outcome) → outcome_in body ≡ Some (tx, end) → wrong_of tx body ≡ false → end ≡ outcome.Aborted cause.Request
@@ -128,7 +129,8 @@ module _ (answered : EachIsAnswered) (start : Start) (was now : ℕ → List Hos
   were = named_at start was served.before name t tx named own
 
   asked : IsAbortAsked start tx name (api_seen (step_after start 0 (was 0) f.first))
-  asked = subst (IsAbortAsked start tx name) (sym (first_step start was now (Abort name) f)) (abort_first start (api_of (after start 0 (was 0))) name t tx named ready own were)
+  asked = subst (IsAbortAsked start tx name) (sym (first_step start was now (Abort name) f))
+      (abort_first start (api_of (after start 0 (was 0))) name t tx named ready own were)
 
   is_open : IsOpenAt tx (after start (home start tx) (was (home start tx)))
   is_open = ready_open start was served.before name t tx named own answered ready
@@ -137,10 +139,11 @@ module _ (answered : EachIsAnswered) (start : Start) (was now : ℕ → List Hos
   loose_was h at =
       let o : IsOpenAt tx (after start h (was h)) = subst (λ k. IsOpenAt tx (after start k (was k))) at is_open in
       let sound = sound_at start tx h (was h) in
-      let live = in_live tx o.transaction (tc_of (after start h (was h))).live o.live sound.few in
+      let live = live_tx start tx h (was h) o.transaction o.live in
       record {
         loose = subst (LooseOption false) (sym live) (ap (is_loose false) o.phase, o.asked);
-        early = live_early tx (tc_of (after start h (was h))).node (tc_of (after start h (was h))).next_seq (tc_of (after start h (was h))).live o.transaction sound.own live;
+        early = live_early tx (tc_of (after start h (was h))).node (tc_of (after start h (was h))).next_seq
+            (tc_of (after start h (was h))).live o.transaction sound.own live;
       }
 
   no_more : (h : ℕ) → sent_since start (is_more_to tx) h (cut h).newer (was h) ≡ 0
@@ -160,7 +163,8 @@ module _ (answered : EachIsAnswered) (start : Start) (was now : ℕ → List Hos
       each_map (λ (e : HostStep). is_request e.step.taken.body ≡ false → is_more_to tx e.step.taken.to e.step.taken.body ≡ false) (λ (e : HostStep). is_more_to tx e.step.taken.to e.step.taken.body ≡ false) (cut h).newer
       (none_at (is_more_to tx) (more_request tx)) (none_taken start was now served.before served.since cut (is_more_to tx) (λ i low. no_more i) h)
 
-  run : (h : ℕ) → h < hosts start → (sent_since start (is_wrong tx) h (cut h).newer (was h) ≡ 0) × (home start tx ≡ h → OnTc (IsLooseNow tx (rolled tx (cut h).newer)) (after start h ((cut h).newer ++ was h)))
+  run : (h : ℕ) → h < hosts start → (sent_since start (is_wrong tx) h (cut h).newer (was h) ≡ 0)
+      × (home start tx ≡ h → OnTc (IsLooseNow tx (rolled tx (cut h).newer)) (after start h ((cut h).newer ++ was h)))
   run h low = host_run tx start h low (cut h).newer (was h) (none_more h) (loose_was h)
 
   none_wrong : Each (λ (e : HostStep). is_request e.step.taken.body ≡ false → is_wrong tx e.step.taken.to e.step.taken.body ≡ false) (f.later ++ f.first ∷ [])
@@ -192,21 +196,22 @@ module _ (answered : EachIsAnswered) (start : Start) (was now : ℕ → List Hos
   rolls_arrive : rolled tx (cut (home start tx)).newer ≡ true
   rolls_arrive =
       was_rolled tx (cut (home start tx)).newer
+      (arrives start was now served.before served.since cut (is_roll_to tx) 0 (home start tx) (omega arith) home_low
       (omega (
         arith,
-        all_arrive start was now served.before served.since cut (is_roll_to tx) 0 (home start tx) (omega arith) home_low,
-        taken_few start (is_roll_to tx) 0 (cut (home start tx)).newer,
         sent_to_append start (is_roll_to tx) 0 (home start tx) f.later (f.first ∷ []) (was 0),
         asked.rolls,
-      ))
+      )))
 
   -- so it isn't open any more
   closed : IsOpenAt tx (after start (home start tx) (now (home start tx))) → ⊥
   closed o =
-      let live = in_live tx o.transaction (tc_of (after start (home start tx) (now (home start tx)))).live o.live (sound_at start tx (home start tx) (now (home start tx))).few in
+      let live = live_tx start tx (home start tx) (now (home start tx)) o.transaction o.live in
       let loose : OnTc (IsLooseNow tx true) (after start (home start tx) (now (home start tx))) =
       subst (λ log. OnTc (IsLooseNow tx true) (after start (home start tx) log)) (sym (cut (home start tx)).is)
-      (subst (λ c. OnTc (IsLooseNow tx c) (after start (home start tx) ((cut (home start tx)).newer ++ was (home start tx)))) rolls_arrive ((run (home start tx) home_low).1 refl)) in
+      (subst (λ c. OnTc (IsLooseNow tx c)
+      (after start (home start tx) ((cut (home start tx)).newer ++ was (home start tx)))) rolls_arrive
+      ((run (home start tx) home_low).1 refl)) in
       let both : false ≡ true = ap (is_loose true) (sym o.phase) ∙ (subst (LooseOption true) live loose.loose).0 in
       cc
 

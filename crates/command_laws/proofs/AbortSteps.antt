@@ -2,7 +2,7 @@
 use Rattle.std.proofs.Common.{◌≡◌, ◌⊎◌, ◌<◌, ◌≤◌, ◌+◌, ℕ, Bool, true, false, List, [], ◌∷◌, ◌++◌, refl, sym, ap, ◌∙◌, subst, inl, inr, arith}
 use Rattle.std.specs.Prelude.{◌&&◌, if◌then◌else◌, Option, None, Some}
 use Rattle.run_theory.specs.Lists.{Each}
-use Rattle.world_core.specs.Steps.{HostStep}
+use Rattle.sig_core.proofs.Keys.{same_tx-self}
 use Rattle.sig_core.specs.declared.member.TxId.{TxId}
 use Rattle.sig_core.specs.declared.outs.Outgoing.{Outgoing}
 use Rattle.sig_core.specs.declared.place.BlockId.{BlockId}
@@ -11,38 +11,37 @@ use Rattle.sig_core.specs.declared.place.Place.{Place}
 use Rattle.sig_core.specs.declared.signal.Body.{Body}
 use Rattle.sig_core.specs.declared.signal.Body.TheVariants.{Client}
 use Rattle.sig_core.specs.declared.signal.client.ClientSignal.TheVariants.{TcCommitConf, TcKeyReq, TcCommitReq, TcRollbackReq, TcRollbackRep}
+use Rattle.sig_core.specs.declared.signal.Signal.{Signal}
 use Rattle.sig_core.specs.Same.{same_tx}
 use Rattle.sig_core.specs.Step.{Step, stay}
+use Rattle.node_core.specs.Blocks.{has_tc, tc_of}
+use Rattle.node_core.specs.declared.host.Host.{Host}
+use Rattle.node_core.specs.Row.{row}
 use Rattle.tc_block.specs.Abort.{rollback_row}
 use Rattle.tc_block.specs.declared.transaction.Transaction.{Transaction}
 use Rattle.tc_block.specs.Live.{turn_of}
 use Rattle.tc_block.specs.State.{TcState}
 use Rattle.tc_block.specs.Tc.{tc_row, tc_table}
+use Rattle.world_core.specs.Hosts.{home, hosts}
 use Rattle.world_core.specs.Machine.{after}
 use Rattle.world_core.specs.Start.{Start}
-use Rattle.answer_laws.proofs.ApiMoves.{is_api_kind}
-use Rattle.answer_laws.proofs.NodeOps.{absent_key}
-use Rattle.answer_laws.proofs.SendKinds.{is_dih_kind, is_lqh_kind, none_of}
-use Rattle.commit_laws.specs.Counts.{one_if}
-use Rattle.answer_laws.proofs.TcMoves.{same_tx-is}
-use Rattle.answer_laws.proofs.TcSends.{tx_in}
-use Rattle.answer_laws.proofs.Wishes.{is_tc, sends_of}
-use Rattle.transit_laws.specs.Live.{of_live}
+use Rattle.world_core.specs.Steps.{HostStep}
+use Rattle.host_laws.specs.Counts.{one_if}
+use Rattle.host_laws.proofs.HostSteps.{no_live}
+use Rattle.host_laws.proofs.NodeOps.{absent_key}
+use Rattle.host_laws.proofs.SendKinds.{none_of}
+use Rattle.host_laws.proofs.TcMoves.{same_tx-is}
+use Rattle.host_laws.proofs.TcSends.{tx_in}
+use Rattle.host_laws.proofs.Wishes.{is_tc, sends_of}
+use Rattle.run_laws.specs.Live.{of_live}
 use Rattle.command_laws.proofs.AbortTurns.{StaysLoose, is_loose, is_mild, is_more, is_requested, is_roll, loose_turn}
+use Rattle.command_laws.proofs.Homes.{lives_home, sound_at}
+use Rattle.command_laws.proofs.HostSends.{IsOfTc, is_other_kind}
+use Rattle.command_laws.proofs.HostSteps.{tc_host}
 use Rattle.command_laws.proofs.Since.{sent_since}
 use Rattle.command_laws.proofs.TcPath.{IsSound, TcGoes, Took, aside, begins, is_told, left_by, none_there, takes, tc_goes, told_of, took}
 use Rattle.command_laws.proofs.TellsSince.{OnTc}
-use Rattle.sig_core.proofs.Keys.{same_tx-self}
 use Rattle.command_laws.proofs.Turns.{IsMissing, TakesTurn, turn_by, turn_takes}
-use Rattle.sig_core.specs.declared.signal.Signal.{Signal}
-use Rattle.command_laws.proofs.HostSteps.{tc_host}
-use Rattle.command_laws.proofs.HostSends.{IsOfTc}
-use Rattle.command_laws.proofs.Homes.{lives_home, sound_at}
-use Rattle.world_core.specs.Hosts.{home, hosts}
-use Rattle.node_core.specs.Row.{row}
-use Rattle.node_core.specs.Blocks.{has_tc, tc_of}
-use Rattle.node_core.specs.declared.host.Host.{Host}
-use Rattle.answer_laws.proofs.HostSteps.{no_live}
 
 -- an operation of the transaction, or the wish for its commit
 abbrev pub more_of : TxId → Body → Bool
@@ -85,21 +84,6 @@ module _ (tx : TxId) where
   mild_right to (Client (TcRollbackRep other why)) e = ap (λ b. if b then false else same_tx other tx) e
   mild_right to _ e = refl
 
-  dih_right : (to : Place) (b : Body) → is_dih_kind b ≡ true → is_wrong tx to b ≡ false
-  dih_right to (Client (TcCommitConf other epoch)) e = cc
-  dih_right to (Client (TcRollbackRep other why)) e = cc
-  dih_right to _ e = refl
-
-  lqh_right : (to : Place) (b : Body) → is_lqh_kind b ≡ true → is_wrong tx to b ≡ false
-  lqh_right to (Client (TcCommitConf other epoch)) e = cc
-  lqh_right to (Client (TcRollbackRep other why)) e = cc
-  lqh_right to _ e = refl
-
-  api_right : (to : Place) (b : Body) → is_api_kind b ≡ true → is_wrong tx to b ≡ false
-  api_right to (Client (TcCommitConf other epoch)) e = cc
-  api_right to (Client (TcRollbackRep other why)) e = cc
-  api_right to _ e = refl
-
   told_right : (b : Body) → told_of tx b ≡ false → wrong_of tx b ≡ false
   told_right (Client (TcCommitConf other epoch)) e = e
   told_right (Client (TcRollbackRep other why)) e = by (is_requested why)
@@ -136,7 +120,8 @@ module _ (tx : TxId) where
     loose : Home → IsLooseNow tx c s
 
   module _ (c : Bool) (s : TcState) (body : Body) (sound : IsSound tx s) (plain : more_of tx body ≡ false)
-      (Home : Type 0) (home_of : (t : Transaction) → of_live tx s.live ≡ Some t → Home) (was : Home → IsLooseNow tx c s) where
+      (Home : Type 0) (home_of : (t : Transaction) → of_live tx s.live ≡ Some t → Home)
+      (was : Home → IsLooseNow tx c s) where
     abbrev step : Step TcState
     step = tc_table s body
 
@@ -178,7 +163,9 @@ module _ (tx : TxId) where
             subst (λ v. (of_live tx s.live ≡ None) ⊎ Took tx s (turn_by s tx (Client (TcRollbackReq one))) (tc_table s (Client (TcRollbackReq v)))) (sym (same_tx-is one tx is))
             (by (turn_takes s tx (λ t. rollback_row s.node s.layout tx t)))
           where
-            by : (IsMissing s tx × (turn_of s tx (λ t. rollback_row s.node s.layout tx t) ≡ stay s)) ⊎ TakesTurn s tx (λ t. rollback_row s.node s.layout tx t) (turn_of s tx (λ t. rollback_row s.node s.layout tx t))
+            by : (IsMissing s tx × (turn_of s tx (λ t. rollback_row s.node s.layout tx t) ≡ stay s))
+                ⊎ TakesTurn s tx (λ t. rollback_row s.node s.layout tx t)
+                (turn_of s tx (λ t. rollback_row s.node s.layout tx t))
                 → (of_live tx s.live ≡ None) ⊎ Took tx s (λ t. rollback_row s.node s.layout tx t) (turn_of s tx (λ t. rollback_row s.node s.layout tx t))
             by (inl missing) = inl (none_there tx s.live (absent_key tx tx s.live (same_tx-self tx) missing.0))
             by (inr r) = inr (took tx s sound (λ t. rollback_row s.node s.layout tx t) (turn_of s tx (λ t. rollback_row s.node s.layout tx t)) r)
@@ -205,18 +192,36 @@ module _ (tx : TxId) where
             which (inr k) = at_turn k.t (roll_in body on) k.was k.sends k.left k.more
 
   wrong_tc : IsOfTc (is_wrong tx)
-  wrong_tc = record { api = record { kinds = api_right; begins = λ name node. refl }; dih = dih_right; lqh = lqh_right }
-
-  host_loose : (c : Bool) (g : Host) (x : Signal) → IsSound tx (tc_of g) → is_more_to tx x.to x.body ≡ false → (Home : Type 0) → ((t : Transaction) → of_live tx (tc_of g).live ≡ Some t → Home)
-      → (Home → IsLooseNow tx c (tc_of g)) → LooseStep Home (if is_roll_to tx x.to x.body then true else c) (tc_of (row g x).state) (row g x).effects.sends
-  host_loose c g x sound plain Home home_of was =
-      tc_host (λ (step : Step TcState). LooseStep Home (if is_roll_to tx x.to x.body then true else c) step.state step.effects.sends) g x
-      (λ runs at. subst (λ of. LooseStep Home (if is_tc of && roll_of tx x.body then true else c) (tc_row (tc_of g) x).state (tc_row (tc_of g) x).effects.sends) (sym at)
-      (loose_goes c (tc_of g) x.body sound (ap (λ of. is_tc of && more_of tx x.body) (sym at) ∙ plain) Home home_of was (tc_goes tx (tc_of g) x.body sound)))
-      (λ effects none off. record { silent = none (is_wrong tx) wrong_tc; loose = λ at. by x.to.block (is_roll_to tx x.to x.body) refl off (was at) })
+  wrong_tc = record { others = others; begins = λ name node. refl }
     where
-      by : (of : BlockId) (b : Bool) → (is_tc of && roll_of tx x.body) ≡ b → (of ≡ block.Tc → has_tc g ≡ false) → IsLooseNow tx c (tc_of g) → IsLooseNow tx (if b then true else c) (tc_of g)
-      by block.Tc true is off old = record { loose = subst (LooseOption true) (sym (ap (of_live tx) (no_live g (off refl)))) tt; early = old.early }
+      others : (to : Place) (body : Body) → is_other_kind body ≡ true → is_wrong tx to body ≡ false
+      others to (Client (TcCommitConf other epoch)) e = cc
+      others to (Client (TcRollbackRep other why)) e = cc
+      others to _ e = refl
+
+  host_loose : (c : Bool) (g : Host) (x : Signal) → IsSound tx (tc_of g) → is_more_to tx x.to x.body ≡ false
+      → (Home : Type 0) → ((t : Transaction) → of_live tx (tc_of g).live ≡ Some t → Home)
+      → (Home → IsLooseNow tx c (tc_of g)) → LooseStep Home (if is_roll_to tx x.to x.body then true else c)
+      (tc_of (row g x).state) (row g x).effects.sends
+  host_loose c g x sound plain Home home_of was =
+      tc_host (λ (step : Step TcState). LooseStep Home
+      (if is_roll_to tx x.to x.body then true else c) step.state step.effects.sends) g x
+      (λ runs at. subst (λ of. LooseStep Home (if is_tc of && roll_of tx x.body then true else c)
+      (tc_row (tc_of g) x).state (tc_row (tc_of g) x).effects.sends) (sym at)
+      (loose_goes c (tc_of g) x.body sound (ap (λ of. is_tc of && more_of tx x.body) (sym at) ∙ plain) Home home_of was
+      (tc_goes tx (tc_of g) x.body sound)))
+      (λ effects none off. record {
+        silent = none (is_wrong tx) wrong_tc;
+        loose = λ at. by x.to.block (is_roll_to tx x.to x.body) refl off (was at);
+      })
+    where
+      by : (of : BlockId) (b : Bool) → (is_tc of && roll_of tx x.body) ≡ b → (of ≡ block.Tc → has_tc g ≡ false)
+          → IsLooseNow tx c (tc_of g) → IsLooseNow tx (if b then true else c) (tc_of g)
+      by block.Tc true is off old =
+          record {
+            loose = subst (LooseOption true) (sym (ap (of_live tx) (no_live g (off refl)))) tt;
+            early = old.early;
+          }
       by of false is off old = old
       by of true is off old = cc
 
@@ -238,5 +243,7 @@ module _ (tx : TxId) where
         run [] off = record { silent = refl; loose = was }
         run (e ∷ some) off =
             let before = run some off.1 in
-            let next = host_loose (rolled some) (after start h (some ++ log)) e.step.taken (sound_at start tx h (some ++ log)) off.0 (home start tx ≡ h) (lives_home start tx h (some ++ log) low) before.loose in
+            let next = host_loose (rolled some) (after start h (some ++ log)) e.step.taken
+            (sound_at start tx h (some ++ log)) off.0 (home start tx ≡ h)
+            (lives_home start tx h (some ++ log) low) before.loose in
             record { silent = omega (arith, before.silent, next.silent); loose = next.loose }

@@ -25,8 +25,8 @@ use Rattle.tc_block.specs.Operate as operate
 use Rattle.tc_block.specs.Sends.{entering, front_sends, go_on_if, go_on_row}
 use Rattle.tc_block.specs.State.{TcState}
 use Rattle.tc_block.specs.Turn.{Turn, going}
-use Rattle.answer_laws.proofs.SendKinds.{are_of, one_kind}
-use Rattle.answer_laws.proofs.PhaseSends.{HasChains, entering_of_kind, rest_of_kind}
+use Rattle.host_laws.proofs.SendKinds.{are_of, one_kind}
+use Rattle.host_laws.proofs.PhaseSends.{HasChains, entering_of_kind, rest_of_kind}
 use Rattle.command_laws.proofs.Turns.{turn_by}
 
 -- the client asked for it

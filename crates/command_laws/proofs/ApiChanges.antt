@@ -38,8 +38,8 @@ use Rattle.api_block.specs.Outcome.{abort_report_row, commit_report_row, refuse_
 use Rattle.api_block.specs.State.{ApiState}
 use Rattle.api_block.specs.Wait.{behind_row}
 use Rattle.node_core.specs.Requests.{is_request}
-use Rattle.answer_laws.proofs.Focus.{IsFocus, where_found}
-use Rattle.answer_laws.proofs.SendKinds.{are_of}
+use Rattle.host_laws.proofs.Focus.{IsFocus, where_found}
+use Rattle.host_laws.proofs.SendKinds.{are_of}
 
 -- what is sent with no transaction in view
 abbrev pub is_news_kind : Body → Bool

@@ -1,7 +1,7 @@
 -- What each operation and each commit of a transaction with a name comes to.
 use Rattle.std.proofs.Common.{◌⊎◌, inl, inr}
 use Rattle.answer_laws.proofs.Answers.{each_answered}
-use Rattle.answer_laws.specs.Answered.{opened_after}
+use Rattle.host_laws.specs.Opened.{opened_after}
 use Rattle.command_laws.proofs.Committed.{commits_committed}
 use Rattle.command_laws.proofs.OperationAnswered.{operations_answered}
 use Rattle.command_laws.proofs.TurnedDown.{TakesCommands, TakesOperations, commit_taken, operation_taken}

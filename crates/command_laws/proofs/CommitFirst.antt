@@ -9,16 +9,16 @@ use Rattle.sig_core.specs.declared.signal.Body.TheVariants.{Client}
 use Rattle.sig_core.specs.declared.signal.client.ClientSignal.TheVariants.{TcCommitReq}
 use Rattle.sig_core.specs.Place.{coordinator_of}
 use Rattle.sig_core.specs.Step.{Step, sending}
+use Rattle.api_block.specs.Api.{request_row}
+use Rattle.api_block.specs.Commands.{commit_by, commit_row}
 use Rattle.api_block.specs.declared.opened.Doing.{Doing}
 use Rattle.api_block.specs.declared.opened.Doing.TheVariants.{Ready, Committing}
 use Rattle.api_block.specs.declared.opened.OpenTransaction.{OpenTransaction}
-use Rattle.api_block.specs.Api.{request_row}
-use Rattle.api_block.specs.Commands.{commit_by, commit_row}
 use Rattle.api_block.specs.Opened.{committing, if_there, is_beginning, where_at}
 use Rattle.api_block.specs.State.{ApiState, about, changing, refused}
 use Rattle.node_core.specs.Row.{row}
-use Rattle.answer_laws.proofs.ApiBegins.{each_changed, in_middle}
-use Rattle.answer_laws.proofs.Wishes.{sends_of}
+use Rattle.host_laws.proofs.ApiBegins.{each_changed, in_middle}
+use Rattle.host_laws.proofs.Wishes.{sends_of}
 use Rattle.command_laws.proofs.Entries.{HasOne, IsNamed, NoneBegins, named_found}
 use Rattle.command_laws.proofs.FirmHosts.{is_push_to}
 use Rattle.command_laws.specs.Served.{named_in}

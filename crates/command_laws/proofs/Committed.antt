@@ -1,10 +1,9 @@
 -- A commit of a transaction that takes commands ends in its being committed.
 use Rattle.std.proofs.Common.{◌≡◌, ◌⊎◌, ◌+◌, ℕ, zero, suc, Bool, true, false, List, [], ◌∷◌, ◌++◌, refl, sym, ap, ◌∙◌, subst, inl, inr, append_assoc, arith, ◌<◌}
 use Rattle.std.specs.Prelude.{Option, None, Some}
+use Rattle.run_theory.proofs.Pasts.{each_before, each_from, each_map}
 use Rattle.run_theory.specs.Cuts.{IsCut}
 use Rattle.run_theory.specs.Lists.{Each, IsIn}
-use Rattle.run_theory.proofs.Pasts.{each_before, each_from, each_map}
-use Rattle.world_core.specs.Steps.{HostStep}
 use Rattle.sig_core.specs.declared.member.TxId.{TxId}
 use Rattle.sig_core.specs.declared.place.Place.{Place}
 use Rattle.sig_core.specs.declared.request.ApiReq.TheVariants.{Commit}
@@ -14,27 +13,29 @@ use Rattle.sig_core.specs.declared.signal.client.ClientSignal.TheVariants.{TcKey
 use Rattle.api_block.specs.declared.opened.Doing.TheVariants.{Ready, Committing}
 use Rattle.api_block.specs.declared.opened.OpenTransaction.{OpenTransaction}
 use Rattle.api_block.specs.Opened.{is_beginning}
+use Rattle.node_core.specs.Blocks.{api_of}
 use Rattle.node_core.specs.Requests.{is_request}
+use Rattle.world_core.specs.Hosts.{home, hosts}
 use Rattle.world_core.specs.Machine.{after, step_after}
 use Rattle.world_core.specs.Start.{Start}
-use Rattle.answer_laws.proofs.ApiBegins.{in_middle}
+use Rattle.world_core.specs.Steps.{HostStep}
+use Rattle.host_laws.proofs.ApiBegins.{in_middle}
 use Rattle.answer_laws.proofs.Begins.{no_begin}
-use Rattle.answer_laws.proofs.Wishes.{is_tc, sends_of}
-use Rattle.answer_laws.specs.Answered.{AreQuiet, EachIsAnswered, IsOpenAt, is_answered_by, opened_after, opened_in}
+use Rattle.host_laws.proofs.Wishes.{is_tc, sends_of}
+use Rattle.answer_laws.specs.Answered.{AreQuiet, EachIsAnswered, IsOpenAt, is_answered_by}
+use Rattle.host_laws.specs.Opened.{opened_after, opened_in}
 use Rattle.command_laws.proofs.CommitFirst.{IsAsked, commit_first}
 use Rattle.command_laws.proofs.Entries.{HasOne, IsNamed, NoneBegins, named_found}
+use Rattle.command_laws.proofs.EntryGoes.{HasEnded, commit_goes}
 use Rattle.command_laws.proofs.FirmAtQuiet.{firm_at}
 use Rattle.command_laws.proofs.FirmHosts.{back_of, firm_since, is_back, is_push_to, push_of}
 use Rattle.command_laws.proofs.First.{IsFirst, first_step, request_first}
+use Rattle.command_laws.proofs.HostSteps.{api_seen}
 use Rattle.command_laws.proofs.Pushes.{calm_since, node_pushes}
 use Rattle.command_laws.proofs.Reported.{reported}
 use Rattle.command_laws.proofs.Since.{none_taken, sent_since}
 use Rattle.command_laws.proofs.Tests.{and_off, none_at}
 use Rattle.command_laws.specs.Served.{CommitsAreCommitted, IsServed, IsToldCommitted, named_in}
-use Rattle.command_laws.proofs.HostSteps.{api_seen}
-use Rattle.node_core.specs.Blocks.{api_of}
-use Rattle.world_core.specs.Hosts.{home, hosts}
-use Rattle.command_laws.proofs.EntryGoes.{HasEnded, commit_goes}
 
 -- at quiet no transaction is beginning
 pub calm_at : (start : Start) (logs : ℕ → List HostStep) → AreQuiet start logs → NoneBegins (opened_after start logs)
@@ -67,7 +68,8 @@ module _ (answered : EachIsAnswered) (start : Start) (was now : ℕ → List Hos
   cut = cut_at_first was now f.later f.first f.is served.cut
 
   asked : IsAsked tx name (api_seen (step_after start 0 (was 0) f.first))
-  asked = subst (IsAsked tx name) (sym (first_step start was now (Commit name) f)) (commit_first (api_of (after start 0 (was 0))) name t tx named ready own (calm_at start was served.before))
+  asked = subst (IsAsked tx name) (sym (first_step start was now (Commit name) f))
+      (commit_first (api_of (after start 0 (was 0))) name t tx named ready own (calm_at start was served.before))
 
   is_open : IsOpenAt tx (after start (home start tx) (was (home start tx)))
   is_open = by t.doing t.tx ready own (answered start was t served.before there)

@@ -3,44 +3,47 @@ use Rattle.std.proofs.Common.{◌≡◌, ◌≢◌, ◌⊎◌, ◌<◌, ◌≤�
 use Rattle.std.proofs.lemmas.Bool.{cases_eq, cases_lt}
 use Rattle.std.proofs.lemmas.List.{append_cancel_right}
 use Rattle.std.specs.Prelude.{Some, not}
-use Rattle.run_theory.specs.Cuts.{IsCut}
-use Rattle.run_theory.specs.Links.{sent, taken}
-use Rattle.run_theory.specs.Lists.{Each, IsIn, IsPast}
-use Rattle.run_theory.specs.Runs.{Happens, IsWithin, Run, log_of}
 use Rattle.run_theory.proofs.Along.{within_cut}
 use Rattle.run_theory.proofs.Cuts.{taken_past}
 use Rattle.run_theory.proofs.Growth.{along_cuts}
 use Rattle.run_theory.proofs.Pasts.{each_in, past_self, past_trans}
 use Rattle.run_theory.proofs.Runs.{log_of-other, log_of-own, log_of-past}
-use Rattle.world_core.specs.Steps.{Addressed, HostStep}
+use Rattle.run_theory.specs.Cuts.{IsCut}
+use Rattle.run_theory.specs.Links.{sent, taken}
+use Rattle.run_theory.specs.Lists.{Each, IsIn, IsPast}
+use Rattle.run_theory.specs.Runs.{Happens, IsWithin, Run, log_of}
 use Rattle.sig_core.specs.declared.member.TxId.{TxId}
+use Rattle.sig_core.specs.declared.outs.Outgoing.{Outgoing}
+use Rattle.sig_core.specs.declared.place.Place.{Place}
 use Rattle.sig_core.specs.declared.signal.Body.{Body}
 use Rattle.sig_core.specs.declared.signal.Body.TheVariants.{Chain}
 use Rattle.sig_core.specs.declared.signal.chain.ChainSignal.TheVariants.{Abort, LqhKeyRef}
+use Rattle.node_core.specs.Blocks.{tc_of}
+use Rattle.node_core.specs.declared.host.Host.{Host}
 use Rattle.node_core.specs.Requests.{is_request}
-use Rattle.world_core.proofs.Stamped.{stamped}
-use Rattle.world_core.specs.Hosts.{home, hosts}
-use Rattle.world_core.specs.Machine.{after, machine, step_after}
-use Rattle.world_core.specs.Start.{Start}
-use Rattle.answer_laws.proofs.ApiBegins.{in_middle}
-use Rattle.world_core.proofs.HostNumbers.{given_past}
-use Rattle.answer_laws.proofs.LinkCounts.{signals}
-use Rattle.commit_laws.proofs.Tally.{tally_past}
-use Rattle.commit_laws.specs.Counts.{one_if}
-use Rattle.answer_laws.proofs.Wishes.{sends_of}
-use Rattle.answer_laws.specs.Answered.{AreQuiet}
-use Rattle.command_laws.proofs.EarlyNodes.{host_clean, host_past}
-use Rattle.command_laws.proofs.EarlySteps.{GoesPast, IsOpenNow, IsPastNow, Leaves, StaysClean, is_bad, is_loss, is_wish_to}
-use Rattle.command_laws.proofs.LqhFair.{is_fair}
-use Rattle.command_laws.proofs.Since.{link_sent, sent_since}
-use Rattle.command_laws.proofs.TellsSince.{OnTc}
-use Rattle.sig_core.specs.declared.place.Place.{Place}
-use Rattle.transit_laws.specs.Live.{of_live}
+use Rattle.node_core.specs.Row.{row}
 use Rattle.tc_block.specs.declared.transaction.Transaction.{Transaction}
 use Rattle.tc_block.specs.State.{TcState}
-use Rattle.node_core.specs.Blocks.{tc_of}
-use Rattle.command_laws.proofs.TcPath.{IsSound}
+use Rattle.world_core.proofs.HostNumbers.{given_past}
+use Rattle.world_core.proofs.Stamped.{stamped}
+use Rattle.world_core.specs.Hosts.{home, hosts}
+use Rattle.world_core.specs.Machine.{after, machine}
+use Rattle.world_core.specs.Start.{Start}
+use Rattle.world_core.specs.Steps.{Addressed, HostStep}
+use Rattle.host_laws.proofs.Tally.{tally_past}
+use Rattle.host_laws.specs.Counts.{one_if}
+use Rattle.host_laws.proofs.ApiBegins.{in_middle}
+use Rattle.host_laws.proofs.LinkCounts.{signals}
+use Rattle.host_laws.proofs.Wishes.{sends_of}
+use Rattle.answer_laws.specs.Answered.{AreQuiet}
+use Rattle.run_laws.specs.Live.{of_live}
+use Rattle.command_laws.proofs.EarlyNodes.{host_clean, host_past}
+use Rattle.command_laws.proofs.EarlySteps.{IsOpenNow, IsPastNow, Leaves, StaysClean, is_bad, is_loss, is_wish_to}
 use Rattle.command_laws.proofs.Homes.{lives_home, sound_at}
+use Rattle.command_laws.proofs.LqhFair.{is_fair}
+use Rattle.command_laws.proofs.Since.{link_sent, sent_since}
+use Rattle.command_laws.proofs.TcPath.{IsSound}
+use Rattle.command_laws.proofs.TellsSince.{OnTc}
 
 request_fair : (tx : TxId) (body : Body) → is_request body ≡ true → is_fair tx body ≡ true
 request_fair tx (Chain (Abort other key)) e = cc
@@ -73,9 +76,6 @@ module _ (start : Start) (was now : ℕ → List HostStep) (before : AreQuiet st
     holds : IsCut logs now → AllHold logs
 
   module _ (es : List HostStep) (e : HostStep) (happens : Happens (machine start) es e) (inside : IsCut (log_of (machine start) (e ∷ es)) now) (all : AllHold (log_of (machine start) es)) where
-    j : ℕ
-    j = e.host
-
     less : IsCut (log_of (machine start) es) now
     less h = past_trans (log_of-past (machine start) e es h) (inside h)
 
@@ -166,58 +166,72 @@ module _ (start : Start) (was now : ℕ → List HostStep) (before : AreQuiet st
         by (inl at) = subst (P h) (sym (log_of-own (machine start) e all.more h at)) (step h at (old h))
         by (inr other) = subst (P h) (sym (log_of-other (machine start) e all.more h other)) (old h)
 
-    -- what is so of each host's coordinator and is kept by its step
-    module _ (Q : TcState → Type 0) (old : (h : ℕ) → home start tx ≡ h → OnTc Q (after start h (newer_in all.more h ++ was h))) where
-      each_home : ((h : ℕ) → e.host ≡ h → home start tx ≡ h → OnTc Q (after start h (e ∷ (newer_in all.more h ++ was h)))) → (h : ℕ) → home start tx ≡ h → OnTc Q (after start h (newer_in (e ∷ all.more) h ++ was h))
-      each_home step = each_host (λ h newer. home start tx ≡ h → OnTc Q (after start h (newer ++ was h))) old (λ h at before own. step h at own)
+    -- the host of the step before it
+    abbrev g : Host
+    g = after start e.host (newer_in all.more e.host ++ was e.host)
+
+    abbrev then_tc : TcState
+    then_tc = tc_of (row g e.step.taken).state
+
+    abbrev sends_now : List Outgoing
+    sends_now = (row g e.step.taken).effects.sends
+
+    abbrev Home : Type 0
+    Home = home start tx ≡ e.host
+
+    -- what is so of the transaction's home, and is kept by the step
+    each_home : (Q : TcState → Type 0)
+        → ((h : ℕ) → home start tx ≡ h → OnTc Q (after start h (newer_in all.more h ++ was h)))
+        → (Home → Q then_tc) → (h : ℕ) → home start tx ≡ h → OnTc Q (after start h (newer_in (e ∷ all.more) h ++ was h))
+    each_home Q old step =
+        each_host (λ h newer. home start tx ≡ h → OnTc Q (after start h (newer ++ was h))) old
+        (λ h at before own. subst (λ k. OnTc Q (after start k (e ∷ (newer_in all.more k ++ was k)))) at
+        (step (own ∙ sym at)))
 
     -- a count of what hosts send, where the step sends none
     none_more : (test : Place → Body → Bool) → ((h : ℕ) → sent_since start test h (newer_in all.more h) (was h) ≡ 0)
-        → sends_of test (step_after start e.host (newer_in all.more e.host ++ was e.host) e).effects.sends ≡ 0 → (h : ℕ) → sent_since start test h (newer_in (e ∷ all.more) h) (was h) ≡ 0
+        → sends_of test sends_now ≡ 0 → (h : ℕ) → sent_since start test h (newer_in (e ∷ all.more) h) (was h) ≡ 0
     none_more test old none =
         each_host (λ h newer. sent_since start test h newer (was h) ≡ 0) old
-        (λ h at before. subst (λ k. sent_since start test k (e ∷ newer_in all.more k) (was k) ≡ 0) at (omega (arith, old e.host, none)))
+        (λ h at before. subst (λ k. sent_since start test k (e ∷ newer_in all.more k) (was k) ≡ 0) at
+        (omega (arith, old e.host, none)))
 
-    sound : IsSound tx (tc_of (after start e.host (newer_in all.more e.host ++ was e.host)))
+    sound : IsSound tx (tc_of g)
     sound = sound_at start tx e.host (newer_in all.more e.host ++ was e.host)
 
-    homes : (t : Transaction) → of_live tx (tc_of (after start e.host (newer_in all.more e.host ++ was e.host))).live ≡ Some t → home start tx ≡ e.host
+    homes : (t : Transaction) → of_live tx (tc_of g).live ≡ Some t → Home
     homes = lives_home start tx e.host (newer_in all.more e.host ++ was e.host) low
 
-    from_gone : IsGone all.more → AllHold (log_of (machine start) (e ∷ es))
-    from_gone gone = record {
+    all_hold : sends_of (is_bad tx) sends_now ≡ 0 → IsClean (e ∷ all.more) ⊎ IsGone (e ∷ all.more)
+        → AllHold (log_of (machine start) (e ∷ es))
+    all_hold good stage = record {
       more = e ∷ all.more;
       is = log_more;
-      good = none_more (is_bad tx) all.good p.good;
-      stage = inr (each_home (IsPastNow tx) gone (λ h at own. subst (λ k. OnTc (IsPastNow tx) (after start k (e ∷ (newer_in all.more k ++ was k)))) at (p.past (own ∙ sym at))));
+      good = none_more (is_bad tx) all.good good;
+      stage = stage;
     }
-      where
-        p : GoesPast tx (home start tx ≡ e.host) (tc_of (after start e.host (e ∷ (newer_in all.more e.host ++ was e.host)))) (step_after start e.host (newer_in all.more e.host ++ was e.host) e).effects.sends
-        p = host_past tx (after start e.host (newer_in all.more e.host ++ was e.host)) e.step.taken sound no_wish (home start tx ≡ e.host) homes (gone e.host)
+
+    from_gone : IsGone all.more → AllHold (log_of (machine start) (e ∷ es))
+    from_gone gone =
+        let p = host_past tx g e.step.taken sound no_wish Home homes (gone e.host) in
+        all_hold p.good (inr (each_home (IsPastNow tx) gone p.past))
 
     from_clean : IsClean all.more → AllHold (log_of (machine start) (e ∷ es))
-    from_clean clean = by (host_clean tx (after start e.host (newer_in all.more e.host ++ was e.host)) e.step.taken sound no_wish (home start tx ≡ e.host) homes (comes_fair clean) (clean.is_open e.host))
+    from_clean clean = by (host_clean tx g e.step.taken sound no_wish Home homes (comes_fair clean)
+        (clean.is_open e.host))
       where
-        by : StaysClean tx (home start tx ≡ e.host) (tc_of (after start e.host (e ∷ (newer_in all.more e.host ++ was e.host)))) (step_after start e.host (newer_in all.more e.host ++ was e.host) e).effects.sends
-            ⊎ Leaves tx (home start tx ≡ e.host) (tc_of (after start e.host (e ∷ (newer_in all.more e.host ++ was e.host)))) (step_after start e.host (newer_in all.more e.host ++ was e.host) e).effects.sends
+        by : StaysClean tx Home then_tc sends_now ⊎ Leaves tx Home then_tc sends_now
             → AllHold (log_of (machine start) (e ∷ es))
-        by (inl c) = record {
-          more = e ∷ all.more;
-          is = log_more;
-          good = none_more (is_bad tx) all.good c.good;
-          stage = inl (record {
-            fair = none_more (is_loss tx) clean.fair c.fair;
-            is_open = each_home (IsOpenNow tx) clean.is_open (λ h at own. subst (λ k. OnTc (IsOpenNow tx) (after start k (e ∷ (newer_in all.more k ++ was k)))) at (c.is_open (own ∙ sym at)));
-          });
-        }
-        by (inr l) = record {
-          more = e ∷ all.more;
-          is = log_more;
-          good = none_more (is_bad tx) all.good l.good;
-          stage = inr (λ h own.
-              subst (λ k. OnTc (IsPastNow tx) (after start k (newer_in (e ∷ all.more) k ++ was k))) (sym l.home ∙ own)
-              (subst (λ newer. OnTc (IsPastNow tx) (after start e.host (newer ++ was e.host))) (sym (log_of-own (machine start) e all.more e.host refl)) l.past));
-        }
+        by (inl c) =
+            all_hold c.good (inl (record {
+              fair = none_more (is_loss tx) clean.fair c.fair;
+              is_open = each_home (IsOpenNow tx) clean.is_open c.is_open;
+            }))
+        by (inr l) =
+            all_hold l.good (inr (λ h own.
+            subst (λ k. OnTc (IsPastNow tx) (after start k (newer_in (e ∷ all.more) k ++ was k))) (sym l.home ∙ own)
+            (subst (λ newer. OnTc (IsPastNow tx) (after start e.host (newer ++ was e.host)))
+            (sym (log_of-own (machine start) e all.more e.host refl)) l.past)))
 
     next : AllHold (log_of (machine start) (e ∷ es))
     next = by all.stage

@@ -1,6 +1,7 @@
 -- A step of a node, where no commit or abort of the transaction is wished for.
 use Rattle.std.proofs.Common.{◌≡◌, ◌⊎◌, ◌<◌, ◌+◌, ℕ, Bool, true, false, List, [], ◌∷◌, refl, sym, ap, ◌∙◌, subst, inl, inr, arith}
-use Rattle.std.specs.Prelude.{◌&&◌, if◌then◌else◌, Option, None, Some, not}
+use Rattle.std.specs.Prelude.{◌&&◌, if◌then◌else◌, Option, None, Some, not, ◌||◌}
+use Rattle.sig_core.proofs.Keys.{same_tx-self}
 use Rattle.sig_core.specs.declared.member.TxId.{TxId}
 use Rattle.sig_core.specs.declared.outs.Outgoing.{Outgoing}
 use Rattle.sig_core.specs.declared.place.Place.{Place}
@@ -15,18 +16,18 @@ use Rattle.tc_block.specs.declared.transaction.Transaction.{Transaction}
 use Rattle.tc_block.specs.State.{TcState}
 use Rattle.tc_block.specs.Tc.{begin_if, begin_row, is_full, tc_table}
 use Rattle.tc_block.specs.Turn.{Turn}
-use Rattle.answer_laws.proofs.ApiMoves.{is_api_kind}
-use Rattle.answer_laws.proofs.SendKinds.{are_of, is_dih_kind, is_lqh_kind, is_tc_kind, none_of, of_kind}
-use Rattle.commit_laws.specs.Counts.{one_if}
-use Rattle.answer_laws.proofs.TcSends.{tc_kinds, tx_in}
-use Rattle.answer_laws.proofs.Wishes.{is_tc, sends_of}
-use Rattle.transit_laws.specs.Live.{of_live}
+use Rattle.host_laws.specs.Counts.{one_if}
+use Rattle.host_laws.proofs.ApiMoves.{is_api_kind}
+use Rattle.host_laws.proofs.SendKinds.{are_of, is_dih_kind, is_tc_kind, none_of, of_kind}
+use Rattle.host_laws.proofs.TcSends.{tc_kinds, tx_in}
+use Rattle.host_laws.proofs.Wishes.{is_tc, sends_of}
+use Rattle.run_laws.specs.Live.{of_live}
 use Rattle.command_laws.proofs.EarlyTurns.{EarlyTurn, IsLeaving, is_no_end, is_past, is_wish, open_turn, past_turn}
+use Rattle.command_laws.proofs.HostSends.{IsOfTc, is_other_kind}
 use Rattle.command_laws.proofs.LqhFair.{is_fair}
 use Rattle.command_laws.proofs.TcPath.{IsSound, TcGoes, aside, begins, is_told, left_by, takes, told_of}
 use Rattle.command_laws.proofs.TellsOnce.{live_early}
 use Rattle.command_laws.proofs.Turns.{turn_by}
-use Rattle.sig_core.proofs.Keys.{same_tx-self}
 use Rattle.command_laws.specs.Served.{is_refusal}
 
 -- an abort of the transaction, or a refusal for another cause
@@ -128,27 +129,19 @@ module _ (tx : TxId) where
   pub fair_loss : (to : Place) (b : Body) → is_fair tx b ≡ true → is_loss tx to b ≡ false
   fair_loss to b e = ap not e
 
-  pub good_dih : (to : Place) (b : Body) → is_dih_kind b ≡ true → is_bad tx to b ≡ false
-  good_dih to (Client (TcCommitConf other epoch)) e = cc
-  good_dih to (Client (TcRollbackRep other cause)) e = cc
-  good_dih to _ e = refl
+  pub bad_tc : IsOfTc (is_bad tx)
+  bad_tc = record { others = others; begins = λ name node. refl }
+    where
+      others : (to : Place) (b : Body) → is_other_kind b ≡ true → is_bad tx to b ≡ false
+      others to (Client (TcCommitConf other epoch)) e = cc
+      others to (Client (TcRollbackRep other cause)) e = cc
+      others to _ e = refl
 
-  pub good_lqh : (to : Place) (b : Body) → is_lqh_kind b ≡ true → is_bad tx to b ≡ false
-  good_lqh to (Client (TcCommitConf other epoch)) e = cc
-  good_lqh to (Client (TcRollbackRep other cause)) e = cc
-  good_lqh to _ e = refl
-
-  pub loss_dih : (to : Place) (b : Body) → is_dih_kind b ≡ true → is_loss tx to b ≡ false
-  loss_dih to (Chain (Abort other key)) e = cc
-  loss_dih to (Chain (LqhKeyRef other key why)) e = cc
-  loss_dih to _ e = refl
-
-  pub both_api : (to : Place) (b : Body) → is_api_kind b ≡ true → (is_bad tx to b ≡ false) × (is_loss tx to b ≡ false)
-  both_api to (Client (TcCommitConf other epoch)) e = cc
-  both_api to (Client (TcRollbackRep other cause)) e = cc
-  both_api to (Chain (Abort other key)) e = cc
-  both_api to (Chain (LqhKeyRef other key why)) e = cc
-  both_api to _ e = (refl, refl)
+  -- epochs and the API lose none
+  pub no_loss : (to : Place) (b : Body) → (is_api_kind b || is_dih_kind b) ≡ true → is_loss tx to b ≡ false
+  no_loss to (Chain (Abort other key)) e = cc
+  no_loss to (Chain (LqhKeyRef other key why)) e = cc
+  no_loss to _ e = refl
 
   wish_kind : (body : Body) → wish_of tx body ≡ false → tx_in body ≡ tx → is_wish body ≡ false
   wish_kind (Client (TcCommitReq other)) off same = absurd (let both : false ≡ true = sym off ∙ (ap (λ v. same_tx v tx) same ∙ same_tx-self tx) in cc)

@@ -24,10 +24,10 @@ use Rattle.tc_block.specs.Sends.{entering, front_sends, key_sends, phase_sends, 
 use Rattle.tc_block.specs.State.{TcState}
 use Rattle.tc_block.specs.Turn.{Turn, asking}
 use Rattle.tc_block.proofs.EachTurn.{AbortForms, TurnForms}
-use Rattle.answer_laws.proofs.SendKinds.{are_of, of_append, of_drop, of_map, of_take, one_kind}
-use Rattle.answer_laws.proofs.TcSends.{tx_in}
+use Rattle.host_laws.proofs.SendKinds.{are_of, of_append, of_drop, of_map, of_take, one_kind}
+use Rattle.host_laws.proofs.TcSends.{tx_in}
 use Rattle.command_laws.proofs.LqhFair.{is_fair}
-use Rattle.answer_laws.proofs.PhaseSends.{HasChains, aborts_of_kind, entering_of_kind, rest_of_kind}
+use Rattle.host_laws.proofs.PhaseSends.{HasChains, aborts_of_kind, entering_of_kind, rest_of_kind}
 use Rattle.command_laws.proofs.Turns.{turn_at, turn_by}
 use Rattle.sig_core.proofs.Keys.{same_tx-self}
 use Rattle.command_laws.specs.Served.{is_refusal}

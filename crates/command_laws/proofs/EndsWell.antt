@@ -1,10 +1,10 @@
 -- A transaction that is neither to be committed nor aborted at the client's wish ends for want of room or of time.
 use Rattle.std.proofs.Common.{◌≡◌, ℕ, zero, suc, Bool, true, false, List, [], ◌∷◌, ◌++◌, refl, sym, ap, ◌∙◌, subst, append_assoc}
 use Rattle.std.specs.Prelude.{Option, Some, drop, if◌then◌else◌, length, not}
+use Rattle.run_theory.proofs.Pasts.{each_in, each_map}
 use Rattle.run_theory.specs.Cuts.{IsCut}
 use Rattle.run_theory.specs.Lists.{Each, IsIn, IsPast}
-use Rattle.run_theory.proofs.Pasts.{each_in, each_map}
-use Rattle.world_core.specs.Steps.{HostStep}
+use Rattle.sig_core.proofs.Keys.{same_tx-self}
 use Rattle.sig_core.specs.declared.member.TxId.{TxId}
 use Rattle.sig_core.specs.declared.outcome.AbortCause.{AbortCause}
 use Rattle.sig_core.specs.declared.outcome.Outcome.{Outcome}
@@ -19,26 +19,26 @@ use Rattle.sig_core.specs.declared.signal.client.ClientSignal.TheVariants.{TcCom
 use Rattle.sig_core.specs.Same.{same_tx}
 use Rattle.node_core.specs.Replies.{replies_of}
 use Rattle.node_core.specs.Requests.{is_request}
+use Rattle.world_core.specs.Hosts.{home}
 use Rattle.world_core.specs.Machine.{after}
 use Rattle.world_core.specs.Start.{Start}
-use Rattle.answer_laws.proofs.ApiBegins.{in_middle}
-use Rattle.answer_laws.proofs.Wishes.{is_tc}
+use Rattle.world_core.specs.Steps.{HostStep}
+use Rattle.host_laws.proofs.ApiBegins.{in_middle}
+use Rattle.host_laws.proofs.Wishes.{is_tc}
 use Rattle.command_laws.proofs.ApiChanges.{outcome_in}
 use Rattle.command_laws.proofs.Committed.{cut_at_first}
 use Rattle.command_laws.proofs.EarlyRun.{no_bad}
 use Rattle.command_laws.proofs.EarlySteps.{IsOpenNow, is_bad, is_good, is_wish_to, wish_of}
+use Rattle.command_laws.proofs.EntryGoes.{HasEnded}
 use Rattle.command_laws.proofs.First.{IsFirst}
 use Rattle.command_laws.proofs.OperateAsks.{no_wish_node}
 use Rattle.command_laws.proofs.Pushes.{node_since}
 use Rattle.command_laws.proofs.Reported.{OutcomeOf, ending_is}
 use Rattle.command_laws.proofs.Since.{none_taken, sent_since}
 use Rattle.command_laws.proofs.TellsSince.{OnTc}
-use Rattle.command_laws.proofs.Told.{told_since}
 use Rattle.command_laws.proofs.Tests.{and_off, none_at}
-use Rattle.sig_core.proofs.Keys.{same_tx-self}
+use Rattle.command_laws.proofs.Told.{told_since}
 use Rattle.command_laws.specs.Served.{IsServed, is_refusal, replies_since}
-use Rattle.world_core.specs.Hosts.{home}
-use Rattle.command_laws.proofs.EntryGoes.{HasEnded}
 
 request_plain_wish : (tx : TxId) (to : Place) (body : Body) → is_request body ≡ true → is_wish_to tx to body ≡ false
 request_plain_wish tx to body is = and_off (is_tc to.block) (plain body is)

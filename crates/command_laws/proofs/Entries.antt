@@ -8,9 +8,9 @@ use Rattle.sig_core.specs.declared.member.TxId.{TxId}
 use Rattle.api_block.specs.declared.opened.Doing.{Doing}
 use Rattle.api_block.specs.declared.opened.OpenTransaction.{OpenTransaction}
 use Rattle.api_block.specs.Opened.{has_tx, if_there, where_at, is_beginning, is_named, is_tx}
-use Rattle.answer_laws.proofs.ApiBegins.{same_name-is}
-use Rattle.answer_laws.proofs.Focus.{IsFocus, found}
-use Rattle.answer_laws.proofs.TcMoves.{same_tx-is}
+use Rattle.host_laws.proofs.ApiBegins.{same_name-is}
+use Rattle.host_laws.proofs.Focus.{IsFocus, found}
+use Rattle.host_laws.proofs.TcMoves.{same_tx-is}
 use Rattle.command_laws.proofs.ApiChanges.{IsOneOf}
 use Rattle.command_laws.specs.Served.{named_in}
 

@@ -16,9 +16,9 @@ use Rattle.tc_block.specs.Sends.{entering, front_sends, wait_of}
 use Rattle.tc_block.specs.State.{TcState}
 use Rattle.tc_block.specs.Turn.{Turn, going}
 use Rattle.tc_block.proofs.EachTurn.{CommittedForms, TurnForms}
-use Rattle.answer_laws.proofs.SendKinds.{are_of, of_map}
-use Rattle.answer_laws.proofs.TcSends.{tx_in}
-use Rattle.answer_laws.proofs.PhaseSends.{HasChains, entering_of_kind, rest_of_kind}
+use Rattle.host_laws.proofs.SendKinds.{are_of, of_map}
+use Rattle.host_laws.proofs.TcSends.{tx_in}
+use Rattle.host_laws.proofs.PhaseSends.{HasChains, entering_of_kind, rest_of_kind}
 use Rattle.command_laws.proofs.Turns.{turn_at, turn_by}
 
 -- it isn't aborted, and has no operation unanswered while it takes them

@@ -3,37 +3,37 @@ use Rattle.std.proofs.Common.{◌≡◌, ℕ, Bool, true, false, List, [], ◌�
 use Rattle.std.specs.Prelude.{◌&&◌, if◌then◌else◌}
 use Rattle.indexmap.specs.IndexMap.{insert_entry}
 use Rattle.run_theory.specs.Lists.{Each}
-use Rattle.world_core.specs.Steps.{HostStep}
 use Rattle.sig_core.specs.declared.member.TxId.{TxId}
 use Rattle.sig_core.specs.declared.outs.Outgoing.{Outgoing}
 use Rattle.sig_core.specs.declared.place.Place.{Place}
 use Rattle.sig_core.specs.declared.signal.Body.{Body}
 use Rattle.sig_core.specs.declared.signal.Body.TheVariants.{Client}
 use Rattle.sig_core.specs.declared.signal.client.ClientSignal.TheVariants.{TcKeyReq, TcRollbackRep, TcRollbackReq}
+use Rattle.sig_core.specs.declared.signal.Signal.{Signal}
 use Rattle.sig_core.specs.Same.{same_tx}
 use Rattle.sig_core.specs.Step.{Step}
+use Rattle.node_core.specs.Blocks.{tc_of}
+use Rattle.node_core.specs.declared.host.Host.{Host}
+use Rattle.node_core.specs.Row.{row}
 use Rattle.tc_block.specs.declared.transaction.Transaction.{Transaction}
 use Rattle.tc_block.specs.Operate.{fresh}
 use Rattle.tc_block.specs.State.{TcState}
 use Rattle.tc_block.specs.Tc.{tc_row}
 use Rattle.world_core.specs.Machine.{after}
 use Rattle.world_core.specs.Start.{Start}
-use Rattle.answer_laws.proofs.ApiBegins.{each_at, each_changed, each_less}
-use Rattle.answer_laws.proofs.ApiMoves.{ends, goes, is_api_kind}
-use Rattle.answer_laws.proofs.SendKinds.{is_dih_kind, is_lqh_kind, none_of}
-use Rattle.answer_laws.proofs.TcLives.{apart}
-use Rattle.answer_laws.proofs.TcSends.{tx_in}
-use Rattle.answer_laws.proofs.Wishes.{is_tc, sends_of}
-use Rattle.command_laws.proofs.Firm.{StaysFirm, firm_turn, is_firm, is_no_abort, is_push}
+use Rattle.world_core.specs.Steps.{HostStep}
+use Rattle.host_laws.proofs.ApiBegins.{each_at, each_changed, each_less}
+use Rattle.host_laws.proofs.ApiMoves.{ends, goes}
+use Rattle.host_laws.proofs.SendKinds.{none_of}
+use Rattle.host_laws.proofs.TcLives.{apart}
+use Rattle.host_laws.proofs.TcSends.{tx_in}
+use Rattle.host_laws.proofs.Wishes.{is_tc, sends_of}
+use Rattle.command_laws.proofs.Firm.{firm_turn, is_firm, is_no_abort, is_push}
+use Rattle.command_laws.proofs.HostSends.{IsOfTc, is_other_kind}
+use Rattle.command_laws.proofs.HostSteps.{tc_host}
 use Rattle.command_laws.proofs.OwnSends.{is_own_kind, turn_own}
 use Rattle.command_laws.proofs.Since.{sent_since}
 use Rattle.command_laws.proofs.Turns.{TakesTurn, TcShape, is_idle_kind, starts, still, tc_shape, turn_by, turns}
-use Rattle.sig_core.specs.declared.signal.Signal.{Signal}
-use Rattle.command_laws.proofs.HostSteps.{tc_host}
-use Rattle.command_laws.proofs.HostSends.{IsOfTc}
-use Rattle.node_core.specs.Row.{row}
-use Rattle.node_core.specs.Blocks.{tc_of}
-use Rattle.node_core.specs.declared.host.Host.{Host}
 
 -- an operation of the transaction, or the wish for its abort
 abbrev pub push_of : TxId → Body → Bool
@@ -62,8 +62,11 @@ each_inserted_value P (e ∷ live) tx t own all = by (same_tx tx e.0) (each_inse
 
 module _ (tx : TxId) where
   -- the transaction is firm wherever it stands
+  abbrev pub IsFirmFor : TxId × Transaction → Type 0
+  IsFirmFor e = same_tx e.0 tx ≡ true → is_firm e.1.phase e.1.asked ≡ true
+
   abbrev pub AllFirm : List (TxId × Transaction) → Type 0
-  AllFirm live = Each (λ (e : TxId × Transaction). same_tx e.0 tx ≡ true → is_firm e.1.phase e.1.asked ≡ true) live
+  AllFirm live = Each IsFirmFor live
 
   no_back_idle : (to : Place) (body : Body) → is_idle_kind body ≡ true → is_back tx to body ≡ false
   no_back_idle to (Client (TcRollbackRep other cause)) e = cc
@@ -77,18 +80,6 @@ module _ (tx : TxId) where
   no_back_other one differs to (Client (TcRollbackRep other cause)) e = apart tx one other differs e
   no_back_other one differs to _ e = refl
 
-  no_back_dih : (to : Place) (body : Body) → is_dih_kind body ≡ true → is_back tx to body ≡ false
-  no_back_dih to (Client (TcRollbackRep other cause)) e = cc
-  no_back_dih to _ e = refl
-
-  no_back_lqh : (to : Place) (body : Body) → is_lqh_kind body ≡ true → is_back tx to body ≡ false
-  no_back_lqh to (Client (TcRollbackRep other cause)) e = cc
-  no_back_lqh to _ e = refl
-
-  no_back_api : (to : Place) (body : Body) → is_api_kind body ≡ true → is_back tx to body ≡ false
-  no_back_api to (Client (TcRollbackRep other cause)) e = cc
-  no_back_api to _ e = refl
-
   pub not_push : (body : Body) → push_of tx body ≡ false → same_tx (tx_in body) tx ≡ true → is_push body ≡ false
   not_push (Client (TcKeyReq other op)) none same = absurd (let both : true ≡ false = sym same ∙ none in cc)
   not_push (Client (TcRollbackReq other)) none same = absurd (let both : true ≡ false = sym same ∙ none in cc)
@@ -100,45 +91,41 @@ module _ (tx : TxId) where
     silent : sends_of (is_back tx) sends ≡ 0
 
   module _ (s : TcState) (body : Body) (plain : push_of tx body ≡ false) (firm : AllFirm s.live) where
-    own_turn : (step : Step TcState) → same_tx (tx_in body) tx ≡ true → TakesTurn s (tx_in body) (turn_by s (tx_in body) body) step → KeepsFirm step.state.live step.effects.sends
-    own_turn step same r = by (turn_by s (tx_in body) body r.t).over refl
+    -- a turn that keeps the transaction firm, if it is its own
+    turn_firm : (step : Step TcState) (r : TakesTurn s (tx_in body) (turn_by s (tx_in body) body) step)
+        → sends_of (is_back tx) (turn_by s (tx_in body) body r.t).step.effects.sends ≡ 0
+        → ((turn_by s (tx_in body) body r.t).over ≡ false
+        → IsFirmFor (tx_in body, (turn_by s (tx_in body) body r.t).step.state))
+        → KeepsFirm step.state.live step.effects.sends
+    turn_firm step r quiet stays = record {
+      firm = by (turn_by s (tx_in body) body r.t).over refl;
+      silent = ap (λ effects. sends_of (is_back tx) effects.sends) r.effects ∙ quiet;
+    }
       where
-        stays : StaysFirm (turn_by s (tx_in body) body r.t)
-        stays = firm_turn s (tx_in body) body r.t refl (not_push body plain same) (each_at (λ (e : TxId × Transaction). same_tx e.0 tx ≡ true → is_firm e.1.phase e.1.asked ≡ true) r.front (tx_in body, r.t) r.back s.live r.is firm same)
+        by : (b : Bool) → (turn_by s (tx_in body) body r.t).over ≡ b → AllFirm step.state.live
+        by true over = subst (λ state. AllFirm state.live) (sym (r.ends over)) (each_less IsFirmFor r.front (
+          tx_in body,
+          r.t,
+        ) r.back s.live r.is firm)
+        by false over =
+            subst (λ state. AllFirm state.live) (sym (r.goes over))
+            (each_changed IsFirmFor r.front (tx_in body, r.t) (
+              tx_in body,
+              (turn_by s (tx_in body) body r.t).step.state,
+            ) r.back s.live r.is firm (λ before. stays over))
 
-        quiet : sends_of (is_back tx) step.effects.sends ≡ 0
-        quiet = ap (λ effects. sends_of (is_back tx) effects.sends) r.effects ∙ none_of is_no_abort (is_back tx) no_back_firm (turn_by s (tx_in body) body r.t).step.effects.sends stays.sends
-
-        by : (b : Bool) → (turn_by s (tx_in body) body r.t).over ≡ b → KeepsFirm step.state.live step.effects.sends
-        by true over = record {
-          firm = subst (λ state. AllFirm state.live) (sym (r.ends over)) (each_less (λ (e : TxId × Transaction). same_tx e.0 tx ≡ true → is_firm e.1.phase e.1.asked ≡ true) r.front (tx_in body, r.t) r.back s.live r.is firm);
-          silent = quiet;
-        }
-        by false over = record {
-          firm = subst (λ state. AllFirm state.live) (sym (r.goes over))
-              (each_changed (λ (e : TxId × Transaction). same_tx e.0 tx ≡ true → is_firm e.1.phase e.1.asked ≡ true) r.front (tx_in body, r.t) (tx_in body, (turn_by s (tx_in body) body r.t).step.state) r.back s.live r.is firm (λ before is. stays.firm));
-          silent = quiet;
-        }
+    own_turn : (step : Step TcState) → same_tx (tx_in body) tx ≡ true → TakesTurn s (tx_in body) (turn_by s (tx_in body) body) step → KeepsFirm step.state.live step.effects.sends
+    own_turn step same r =
+        let was = each_at IsFirmFor r.front (tx_in body, r.t) r.back s.live r.is firm same in
+        let stays = firm_turn s (tx_in body) body r.t refl (not_push body plain same) was in
+        turn_firm step r (none_of is_no_abort (is_back tx) no_back_firm
+        (turn_by s (tx_in body) body r.t).step.effects.sends stays.sends) (λ over is. stays.firm)
 
     other_turn : (step : Step TcState) → same_tx (tx_in body) tx ≡ false → TakesTurn s (tx_in body) (turn_by s (tx_in body) body) step → KeepsFirm step.state.live step.effects.sends
-    other_turn step differs r = by (turn_by s (tx_in body) body r.t).over refl
-      where
-        quiet : sends_of (is_back tx) step.effects.sends ≡ 0
-        quiet =
-            ap (λ effects. sends_of (is_back tx) effects.sends) r.effects
-            ∙ none_of (is_own_kind (tx_in body)) (is_back tx) (no_back_other (tx_in body) differs) (turn_by s (tx_in body) body r.t).step.effects.sends (turn_own s (tx_in body) body r.t refl)
-
-        by : (b : Bool) → (turn_by s (tx_in body) body r.t).over ≡ b → KeepsFirm step.state.live step.effects.sends
-        by true over = record {
-          firm = subst (λ state. AllFirm state.live) (sym (r.ends over)) (each_less (λ (e : TxId × Transaction). same_tx e.0 tx ≡ true → is_firm e.1.phase e.1.asked ≡ true) r.front (tx_in body, r.t) r.back s.live r.is firm);
-          silent = quiet;
-        }
-        by false over = record {
-          firm = subst (λ state. AllFirm state.live) (sym (r.goes over))
-              (each_changed (λ (e : TxId × Transaction). same_tx e.0 tx ≡ true → is_firm e.1.phase e.1.asked ≡ true) r.front (tx_in body, r.t) (tx_in body, (turn_by s (tx_in body) body r.t).step.state) r.back s.live r.is firm
-              (λ before is. absurd (let both : false ≡ true = sym differs ∙ is in cc)));
-          silent = quiet;
-        }
+    other_turn step differs r =
+        turn_firm step r
+        (none_of (is_own_kind (tx_in body)) (is_back tx) (no_back_other (tx_in body) differs) (turn_by s (tx_in body) body r.t).step.effects.sends (turn_own s (tx_in body) body r.t refl))
+        (λ over is. absurd (let both : false ≡ true = sym differs ∙ is in cc))
 
     shape_firm : (step : Step TcState) → TcShape s (tx_in body) (turn_by s (tx_in body) body) step → KeepsFirm step.state.live step.effects.sends
     shape_firm step (still is kind) = record { firm = subst (λ state. AllFirm state.live) (sym is) firm; silent = none_of is_idle_kind (is_back tx) no_back_idle step.effects.sends kind }
@@ -156,12 +143,18 @@ module _ (tx : TxId) where
   FirmHost g = AllFirm (tc_of g).live
 
   back_tc : IsOfTc (is_back tx)
-  back_tc = record { api = record { kinds = no_back_api; begins = λ name node. refl }; dih = no_back_dih; lqh = no_back_lqh }
+  back_tc = record { others = others; begins = λ name node. refl }
+    where
+      others : (to : Place) (body : Body) → is_other_kind body ≡ true → is_back tx to body ≡ false
+      others to (Client (TcRollbackRep other cause)) e = cc
+      others to _ e = refl
 
-  host_firm : (g : Host) (x : Signal) → is_push_to tx x.to x.body ≡ false → FirmHost g → KeepsFirm (tc_of (row g x).state).live (row g x).effects.sends
+  host_firm : (g : Host) (x : Signal) → is_push_to tx x.to x.body ≡ false → FirmHost g
+      → KeepsFirm (tc_of (row g x).state).live (row g x).effects.sends
   host_firm g x plain firm =
       tc_host (λ (step : Step TcState). KeepsFirm step.state.live step.effects.sends) g x
-      (λ runs at. shape_firm (tc_of g) x.body (ap (λ of. is_tc of && push_of tx x.body) (sym at) ∙ plain) firm (tc_row (tc_of g) x) (tc_shape (tc_of g) x.body))
+      (λ runs at. shape_firm (tc_of g) x.body (ap (λ of. is_tc of && push_of tx x.body) (sym at) ∙ plain) firm
+      (tc_row (tc_of g) x) (tc_shape (tc_of g) x.body))
       (λ effects none off. record { firm = firm; silent = none (is_back tx) back_tc })
 
   -- so no host reports it in steps that take neither an operation of the transaction nor the wish for its abort

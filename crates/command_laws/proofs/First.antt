@@ -4,16 +4,15 @@ use Rattle.std.proofs.lemmas.Bool.{cases_lt}
 use Rattle.std.proofs.lemmas.List.{append-nil}
 use Rattle.std.proofs.Math.Path.{fun_ext}
 use Rattle.std.specs.Prelude.{Option, None, Some, option_to_list}
+use Rattle.run_theory.proofs.Growth.{grow}
+use Rattle.run_theory.proofs.Merging.{log_of-append, logs_merged, merged_run}
+use Rattle.run_theory.proofs.Runs.{log_of-other, log_of-own, logs_of_run}
 use Rattle.run_theory.specs.Along.{Grows}
 use Rattle.run_theory.specs.Cuts.{IsCut}
 use Rattle.run_theory.specs.Links.{sent, taken}
 use Rattle.run_theory.specs.Lists.{Each}
 use Rattle.run_theory.specs.Orders.{merged}
 use Rattle.run_theory.specs.Runs.{AreLogs, Happens, Run, log_of}
-use Rattle.run_theory.proofs.Growth.{grow}
-use Rattle.run_theory.proofs.Merging.{log_of-append, logs_merged, merged_run}
-use Rattle.run_theory.proofs.Runs.{log_of-other, log_of-own, logs_of_run}
-use Rattle.world_core.specs.Steps.{Addressed, HostStep}
 use Rattle.sig_core.specs.declared.request.ApiReq.{ApiReq}
 use Rattle.sig_core.specs.declared.signal.Body.{Body}
 use Rattle.sig_core.specs.declared.signal.Body.TheVariants.{Host}
@@ -21,21 +20,21 @@ use Rattle.sig_core.specs.declared.signal.host.HostSignal.TheVariants.{Continue}
 use Rattle.sig_core.specs.declared.signal.host.Work.TheVariants.{Request}
 use Rattle.sig_core.specs.declared.signal.Signal.{Signal}
 use Rattle.sig_core.specs.Place.{client}
+use Rattle.api_block.specs.Api.{request_row}
+use Rattle.node_core.specs.Blocks.{api_of}
 use Rattle.node_core.specs.Requests.{is_request}
+use Rattle.world_core.proofs.HostNumbers.{api_runs, given_past}
 use Rattle.world_core.proofs.Stamped.{stamped}
-use Rattle.world_core.specs.Hosts.{hosts}
+use Rattle.world_core.specs.Hosts.{hosts, first_membership}
 use Rattle.world_core.specs.Machine.{IsAsked, after, asked_rightly, last_stamp, machine, step_after}
 use Rattle.world_core.specs.Requests.{request_in, requests}
 use Rattle.world_core.specs.Start.{Start}
-use Rattle.world_core.proofs.HostNumbers.{api_runs, given_past}
-use Rattle.answer_laws.proofs.LinkCounts.{signals}
-use Rattle.commit_laws.proofs.Tally.{tally_past}
+use Rattle.world_core.specs.Steps.{Addressed, HostStep}
+use Rattle.host_laws.proofs.Tally.{tally_past}
+use Rattle.host_laws.proofs.LinkCounts.{signals}
+use Rattle.command_laws.proofs.HostSteps.{api_seen, request_step}
 use Rattle.command_laws.proofs.Since.{all_taken}
 use Rattle.command_laws.specs.Served.{IsServed}
-use Rattle.world_core.specs.Hosts.{first_membership}
-use Rattle.command_laws.proofs.HostSteps.{api_seen, request_step}
-use Rattle.node_core.specs.Blocks.{api_of}
-use Rattle.api_block.specs.Api.{request_row}
 
 pub requests_append : (newer log : List HostStep) → requests (newer ++ log) ≡ requests log ++ requests newer
 requests_append [] log = sym (append-nil (requests log))
@@ -105,7 +104,8 @@ pub record IsFirst (start : Start) (was now : ℕ → List HostStep) (request : 
 -- it is what the API does at the request
 pub first_step : (start : Start) (was now : ℕ → List HostStep) (request : ApiReq) (f : IsFirst start was now request)
     → api_seen (step_after start 0 (was 0) f.first) ≡ request_row (api_of (after start 0 (was 0))) request
-first_step start was now request f = request_step (after start 0 (was 0)) f.first.step.taken request (api_runs start (was 0)) f.place f.body
+first_step start was now request f = request_step (after start 0 (was 0)) f.first.step.taken request
+    (api_runs start (was 0)) f.place f.body
 
 module _ (start : Start) (was now : ℕ → List HostStep) (request : ApiReq) (served : IsServed start was now request) where
   -- what comes at a quiet moment is no signal that a link gave

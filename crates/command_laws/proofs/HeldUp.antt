@@ -2,57 +2,57 @@
 use Rattle.std.proofs.Common.{◌≡◌, ◌≢◌, ◌⊎◌, ◌<◌, ◌≤◌, ◌+◌, ℕ, zero, suc, Bool, true, false, List, [], ◌∷◌, length, refl, sym, ap, ◌∙◌, subst, inl, inr, arith}
 use Rattle.std.proofs.lemmas.Bool.{cases_eq}
 use Rattle.std.specs.Prelude.{if◌then◌else◌, Option, None, Some, is_some, not}
+use Rattle.run_theory.proofs.Merging.{logs_merged, merged_run}
+use Rattle.run_theory.proofs.Pasts.{each_in}
 use Rattle.run_theory.specs.Lists.{IsIn}
 use Rattle.run_theory.specs.Orders.{merged}
 use Rattle.run_theory.specs.Runs.{IsWithin}
-use Rattle.run_theory.proofs.Merging.{logs_merged, merged_run}
-use Rattle.run_theory.proofs.Pasts.{each_in}
-use Rattle.world_core.specs.Steps.{HostStep}
+use Rattle.sig_core.proofs.Keys.{same_tx-self}
+use Rattle.sig_core.specs.Chain.{node_at}
 use Rattle.sig_core.specs.declared.member.Member.{Member}
 use Rattle.sig_core.specs.declared.member.TxId.{TxId}
-use Rattle.sig_core.specs.Chain.{node_at}
 use Rattle.sig_core.specs.Op.{key_of}
+use Rattle.sig_core.specs.Place.{rows_of}
 use Rattle.sig_core.specs.Same.{same_tx}
 use Rattle.row_locks.specs.Tables.{ahead_at}
 use Rattle.api_block.specs.declared.opened.Doing.TheVariants.{Operating}
 use Rattle.api_block.specs.declared.opened.OpenTransaction.{OpenTransaction}
 use Rattle.lqh_block.specs.declared.request.Request.{Request}
 use Rattle.lqh_block.specs.Work.{work_key}
+use Rattle.node_core.specs.Blocks.{lqh_of, tc_of}
+use Rattle.node_core.specs.declared.host.Host.{Host}
 use Rattle.tc_block.specs.declared.phase.Asked.{Asked}
 use Rattle.tc_block.specs.declared.transaction.Transaction.{Transaction}
+use Rattle.tc_block.specs.Phases.{is_aborting}
+use Rattle.world_core.proofs.HostNumbers.{host_below, rows_run}
 use Rattle.world_core.proofs.Stamped.{stamped}
 use Rattle.world_core.specs.Hosts.{home, hosts, rows_host}
 use Rattle.world_core.specs.Machine.{after, machine}
 use Rattle.world_core.specs.Start.{Start}
+use Rattle.world_core.specs.Steps.{HostStep}
+use Rattle.host_laws.proofs.Sums.{total_at}
+use Rattle.host_laws.proofs.Tally.{only_one, tally_in}
+use Rattle.host_laws.specs.Counts.{one_if, total}
 use Rattle.answer_laws.proofs.Aborts.{no_abort}
 use Rattle.answer_laws.proofs.Answers.{only_open}
-use Rattle.answer_laws.proofs.Commits.{live_low}
 use Rattle.answer_laws.proofs.Heeded.{asked_where_operating}
+use Rattle.answer_laws.proofs.Lives.{live_low}
 use Rattle.answer_laws.proofs.Ops.{operations_wait}
 use Rattle.answer_laws.proofs.Queued.{operations_queue}
 use Rattle.answer_laws.proofs.Serves.{each_served}
-use Rattle.commit_laws.proofs.Tally.{only_one, tally_in}
-use Rattle.commit_laws.specs.Counts.{one_if}
-use Rattle.commit_laws.proofs.Sums.{total_at}
-use Rattle.commit_laws.specs.Counts.{total}
 use Rattle.answer_laws.proofs.Verified.{no_epoch}
-use Rattle.answer_laws.specs.Answered.{AreQuiet, IsLiveAs, IsQueuedAt, IsServed, IsWaitingAt, Waits, WaitsForLock, opened_after}
-use Rattle.tc_block.specs.Phases.{is_aborting}
-use Rattle.transit_laws.proofs.OneAtATime.{one_at_a_time}
-use Rattle.transit_laws.proofs.Routes.{signals_are_routed}
-use Rattle.transit_laws.proofs.TransitRuns.{runs_have_transit}
-use Rattle.transit_laws.specs.GivenUp.{is_given_up}
-use Rattle.transit_laws.specs.Live.{live_at}
-use Rattle.transit_laws.specs.Routes.{IsAskedRouted, IsHostRouted, IsRequestRouted, IsTransactionRouted, replicas}
-use Rattle.transit_laws.specs.Tokens.{budget_by, waiting_all, waiting_in}
-use Rattle.transit_laws.specs.Transit.{IsRun, logs_of}
-use Rattle.sig_core.proofs.Keys.{same_tx-self}
+use Rattle.answer_laws.specs.Answered.{AreQuiet, IsLiveAs, IsQueuedAt, IsServed, IsWaitingAt, Waits, WaitsForLock}
+use Rattle.host_laws.specs.Opened.{opened_after}
+use Rattle.run_laws.proofs.OneAtATime.{one_at_a_time}
+use Rattle.run_laws.proofs.Routes.{signals_are_routed}
+use Rattle.run_laws.proofs.RowsNodes.{IsRowsHost, rows_node}
+use Rattle.run_laws.proofs.TransitRuns.{runs_have_transit}
+use Rattle.run_laws.specs.GivenUp.{is_given_up}
+use Rattle.run_laws.specs.Live.{live_at}
+use Rattle.run_laws.specs.Routes.{IsAskedRouted, IsHostRouted, IsRequestRouted, IsTransactionRouted, replicas}
+use Rattle.run_laws.specs.Tokens.{budget_by, waiting_all, waiting_in}
+use Rattle.run_laws.specs.Transit.{IsRun, logs_of}
 use Rattle.command_laws.specs.Served.{EachIsHeldUp, IsHeldUp, IsHeldUpAt}
-use Rattle.world_core.proofs.HostNumbers.{host_below, rows_run}
-use Rattle.sig_core.specs.Place.{rows_of}
-use Rattle.node_core.specs.Blocks.{lqh_of, tc_of}
-use Rattle.node_core.specs.declared.host.Host.{Host}
-use Rattle.transit_laws.proofs.RowsNodes.{IsRowsHost, rows_node}
 
 -- two of them are no more than all
 total_two : (n : ℕ) (f : ℕ → ℕ) (i j : ℕ) → i < n → j < n → i ≢ j → f i + f j ≤ total n f
@@ -169,7 +169,8 @@ module _ (start : Start) (logs : ℕ → List HostStep) (quiet : AreQuiet start 
               absurd (omega (
                 arith,
                 few_waiting tx,
-                total_two (hosts start) (λ h. waiting_in tx (after start h (logs h))) queued_host waits_host queued_low (host_below start (rows_of waits.node) waits.from waits.to) apart,
+                total_two (hosts start) (λ h. waiting_in tx (after start h (logs h))) queued_host waits_host queued_low
+                    (host_below start (rows_of waits.node) waits.from waits.to) apart,
                 some_queued (after start queued_host (logs queued_host)) queued.there,
                 some_waiting (after start waits_host (logs waits_host)) waits.there,
               ))
@@ -193,7 +194,8 @@ module _ (start : Start) (logs : ℕ → List HostStep) (quiet : AreQuiet start 
             request = q.request;
             on = key_is;
             routed_so = each_in (λ (x : Request). IsRequestRouted start (lqh_of g).node x) q.request (lqh_of g).waiting r.waiting q.waits;
-            held = ap (λ k. is_some (ahead_at (lqh_of g).locks k tx)) (sym key_is) ∙ ap (λ v. is_some (ahead_at (lqh_of g).locks (work_key q.request.work) v)) (sym q.own)
+            held = ap (λ k. is_some (ahead_at (lqh_of g).locks k tx)) (sym key_is)
+                ∙ ap (λ v. is_some (ahead_at (lqh_of g).locks (work_key q.request.work) v)) (sym q.own)
                 ∙ is_held (is_some (ahead_at (lqh_of g).locks (work_key q.request.work) q.request.tx)) q.queued;
           }
 
@@ -217,7 +219,8 @@ module _ (start : Start) (logs : ℕ → List HostStep) (quiet : AreQuiet start 
       at_member = member_at for.request.chain for.request.at for.routed_so.sent.inside
 
       rows_own : IsRowsHost start queued_host (lqh_of (after start queued_host (logs queued_host))).node
-      rows_own = rows_node start queued_host (logs queued_host) queued_low (rows_run start queued.node (logs queued_host) queued.from queued.to)
+      rows_own = rows_node start queued_host (logs queued_host) queued_low
+          (rows_run start queued.node (logs queued_host) queued.from queued.to)
 
       own_node : (lqh_of (after start queued_host (logs queued_host))).node ≡ at_member.member.node
       own_node = for.routed_so.sent.node_is ∙ at_member.node_is

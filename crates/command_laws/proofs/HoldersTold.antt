@@ -1,13 +1,12 @@
 -- The two questions about a command that left something unanswered tell for whom that waits.
 use Rattle.std.proofs.Common.{◌≡◌, ◌<◌, ◌≤◌, ◌+◌, ℕ, zero, suc, Bool, true, false, List, [], ◌∷◌, ◌++◌, length, refl, sym, ap, ◌∙◌, subst, inl, inr, append_assoc, arith}
-use Rattle.std.specs.Prelude.{◌&&◌, Option, None, Some, drop, is_some, option_to_list, slice_get}
-use Rattle.run_theory.specs.Cuts.{IsCut}
-use Rattle.run_theory.specs.Links.{is_from}
-use Rattle.run_theory.specs.Lists.{IsIn}
-use Rattle.run_theory.specs.Runs.{log_of}
+use Rattle.std.specs.Prelude.{Option, None, Some, drop, is_some, option_to_list, slice_get}
 use Rattle.run_theory.proofs.Orders.{each_log}
 use Rattle.run_theory.proofs.Pasts.{past_self}
-use Rattle.world_core.specs.Steps.{HostStep}
+use Rattle.run_theory.specs.Cuts.{IsCut}
+use Rattle.run_theory.specs.Lists.{IsIn}
+use Rattle.run_theory.specs.Runs.{log_of}
+use Rattle.sig_core.proofs.Keys.{same_tx-self}
 use Rattle.sig_core.specs.declared.member.TxId.{TxId}
 use Rattle.sig_core.specs.declared.place.Place.{Place}
 use Rattle.sig_core.specs.declared.reply.ApiReply.TheVariants.{Pending}
@@ -15,59 +14,51 @@ use Rattle.sig_core.specs.declared.reply.Waiting.TheVariants.{HeldBy}
 use Rattle.sig_core.specs.declared.request.ApiReq.TheVariants as request
 use Rattle.sig_core.specs.declared.signal.Body.{Body}
 use Rattle.sig_core.specs.Op.{key_of}
+use Rattle.sig_core.specs.Place.{client, rows_of}
 use Rattle.api_block.specs.declared.opened.Doing.{Doing}
 use Rattle.api_block.specs.declared.opened.Doing.TheVariants.{Beginning, Ready, Operating, Committing}
 use Rattle.api_block.specs.declared.opened.OpenTransaction.{OpenTransaction}
 use Rattle.api_block.specs.Opened.{has_tx, if_there, is_tx, is_unanswered, own_place, where_at}
 use Rattle.api_block.specs.State.{ApiState}
+use Rattle.node_core.specs.Blocks.{api_of, has_api, has_lqh, has_tc}
+use Rattle.node_core.specs.declared.host.Host.{Host}
+use Rattle.node_core.specs.declared.host.Host.TheVariants.{Ldm, Main, Shell, Tc}
 use Rattle.node_core.specs.Replies.{is_left_open, replies_of}
 use Rattle.tc_block.specs.declared.transaction.Transaction.{Transaction}
+use Rattle.world_core.proofs.HostNumbers.{api_runs, host_below}
 use Rattle.world_core.specs.Hosts.{home, hosts, receiver, rows_host}
 use Rattle.world_core.specs.Machine.{after, machine, step_after}
 use Rattle.world_core.specs.Requests.{request_in, requests}
 use Rattle.world_core.specs.Start.{Start}
-use Rattle.answer_laws.proofs.ApiBegins.{in_middle}
-use Rattle.answer_laws.proofs.Commits.{live_low}
-use Rattle.answer_laws.proofs.Lives.{holds_at, once_started}
-use Rattle.commit_laws.proofs.Tally.{Counted, counted, tally_append, tally_between}
-use Rattle.commit_laws.specs.Counts.{one_if, tally}
-use Rattle.sig_core.proofs.Keys.{same_tx-self}
-use Rattle.answer_laws.proofs.Wishes.{sends_of}
-use Rattle.answer_laws.specs.Answered.{EachIsAnswered, IsLiveAs, is_answered_by, opened_after}
-use Rattle.transit_laws.specs.Live.{of_live}
+use Rattle.world_core.specs.Steps.{HostStep}
+use Rattle.host_laws.proofs.Tally.{Counted, counted, tally_append, tally_between}
+use Rattle.host_laws.specs.Counts.{one_if, tally}
+use Rattle.run_laws.proofs.AlongSteps.{live_tx}
+use Rattle.host_laws.proofs.ApiBegins.{in_middle}
+use Rattle.host_laws.proofs.HostSteps.{no_live}
+use Rattle.host_laws.proofs.LinkCounts.{steps, to_host}
+use Rattle.answer_laws.proofs.Lives.{holds_at, live_low, once_started}
+use Rattle.host_laws.proofs.Wishes.{sends_of}
+use Rattle.answer_laws.specs.Answered.{EachIsAnswered, IsLiveAs, is_answered_by}
+use Rattle.host_laws.specs.Opened.{opened_after}
+use Rattle.run_laws.specs.Live.{of_live}
 use Rattle.command_laws.proofs.First.{IsFirst, first_step, request_first, with_first}
-use Rattle.command_laws.proofs.Since.{all_arrive, sent_since_to, taken_since}
+use Rattle.command_laws.proofs.HostKinds.{api_alone, api_no_rows, no_rows, replies_are}
+use Rattle.command_laws.proofs.HostSteps.{api_seen}
+use Rattle.command_laws.proofs.Since.{sent_since_to, arrives}
 use Rattle.command_laws.proofs.TellsSince.{OnTc}
 use Rattle.command_laws.proofs.Told.{told_since}
 use Rattle.command_laws.proofs.WaitApi.{IsAboutOne, IsAsking, IsOwn, TellsHolder, own_found, pending_first, waits_first}
-use Rattle.command_laws.proofs.WaitRows.{in_live, is_found, is_passed, is_probe, is_telling_who, is_wait_of, is_want}
-use Rattle.command_laws.proofs.WaitsBehind.{IsBehindThere, behind_there}
+use Rattle.command_laws.proofs.WaitRows.{is_found, is_passed, is_probe, is_telling_who, is_wait_of, is_want}
 use Rattle.command_laws.proofs.WaitRun.{AllHold, all_hold}
+use Rattle.command_laws.proofs.WaitsBehind.{IsBehindThere, behind_there}
 use Rattle.command_laws.specs.Served.{name_in, EachIsHeldUp, HoldersAreTold, IsHeldUp, IsHeldUpAt, IsServed, IsToldHolder, own_in}
-use Rattle.command_laws.proofs.Homes.{sound_at}
-use Rattle.command_laws.proofs.HostSteps.{api_seen}
-use Rattle.command_laws.proofs.HostKinds.{api_alone, api_no_rows, no_rows, replies_are}
-use Rattle.answer_laws.proofs.LinkCounts.{steps, to_host}
-use Rattle.node_core.specs.Blocks.{api_of, has_api, has_lqh, tc_of}
-use Rattle.node_core.specs.declared.host.Host.TheVariants.{Ldm, Main, Shell, Tc}
-use Rattle.node_core.specs.declared.host.Host.{Host}
-use Rattle.world_core.proofs.HostNumbers.{api_runs, host_below}
-use Rattle.sig_core.specs.Place.{client, rows_of}
-use Rattle.answer_laws.proofs.HostSteps.{live_runs}
 
 pub sent_to_append : (start : Start) (test : Place → Body → Bool) (h j : ℕ) (xs ys log : List HostStep)
     → sent_since_to start test h j (xs ++ ys) log ≡ sent_since_to start test h j xs (ys ++ log) + sent_since_to start test h j ys log
 sent_to_append start test h j [] ys log = omega arith
 sent_to_append start test h j (e ∷ xs) ys log =
     omega (arith, sent_to_append start test h j xs ys log, ap (λ l. sends_of (to_host start j test) (step_after start h l e).effects.sends) (append_assoc xs ys log))
-
-pub taken_few : (start : Start) (test : Place → Body → Bool) (i : ℕ) (newer : List HostStep) → taken_since start test i newer ≤ steps test newer
-taken_few start test i [] = omega arith
-taken_few start test i (e ∷ newer) = omega (arith, taken_few start test i newer, few (is_from (machine start) i e) (test e.step.taken.to e.step.taken.body))
-  where
-    few : (a b : Bool) → one_if (a && b) ≤ one_if b
-    few true b = omega arith
-    few false b = omega arith
 
 -- what is unanswered at quiet is an operation that was sent
 record IsWaiting (t : OpenTransaction) : Type 0 where
@@ -93,12 +84,17 @@ unfolding receiver
 shell_place start = refl
 
 -- a host whose coordinator or rows have something isn't the shell's
-not_shell : (start : Start) (logs : ℕ → List HostStep) (P : Host → Type 0) → ((g : Host) → has_api g ≡ true → P g → ⊥) → (k : ℕ) → P (after start k (logs k)) → (j : ℕ) × (k ≡ suc j)
+not_shell : (start : Start) (logs : ℕ → List HostStep) (P : Host → Type 0) → ((g : Host) → has_api g ≡ true → P g → ⊥)
+    → (k : ℕ) → P (after start k (logs k)) → (j : ℕ) × (k ≡ suc j)
 not_shell start logs P none zero p = absurd (none (after start 0 (logs 0)) (api_runs start (logs 0)) p)
 not_shell start logs P none (suc h) p = (h, refl)
 
 not_live : (tx : TxId) (u : Transaction) (g : Host) → has_api g ≡ true → IsLiveAs tx u g → ⊥
-not_live tx u g api live = api_alone g api (live_runs g (tx, u) live)
+not_live tx u g api live = by (has_tc g) refl
+  where
+    by : (b : Bool) → has_tc g ≡ b → ⊥
+    by true tc = api_alone g api tc
+    by false none = subst (IsIn (tx, u)) (no_live g none) live
 
 not_held : (tx : TxId) (key : List ℕ) (g : Host) → has_api g ≡ true → IsHeldUpAt tx key g → ⊥
 not_held tx key g api held = by (has_lqh g) refl
@@ -132,7 +128,7 @@ module _ (answered : EachIsAnswered) (held_up : EachIsHeldUp) (start : Start) (w
 
   -- the transaction as its coordinator has it
   live : OnTc (λ c. of_live w.tx c.live ≡ Some up.transaction) (after start c_host (was c_host))
-  live = in_live w.tx up.transaction (tc_of (after start c_host (was c_host))).live up.live (sound_at start w.tx c_host (was c_host)).few
+  live = live_tx start w.tx c_host (was c_host) up.transaction up.live
 
   -- no other transaction of the API has its number
   none : tally (has_tx w.tx) i.first.front ≡ 0
@@ -151,7 +147,8 @@ module _ (answered : EachIsAnswered) (held_up : EachIsHeldUp) (start : Start) (w
   f = request_first start was mid request.Waits first_served
 
   asking : IsAsking start s t w.tx i (api_seen (step_after start 0 (was 0) f.first))
-  asking = subst (IsAsking start s t w.tx i) (sym (first_step start was mid request.Waits f)) (waits_first start s t w.tx i unanswered w.own)
+  asking = subst (IsAsking start s t w.tx i) (sym (first_step start was mid request.Waits f))
+      (waits_first start s t w.tx i unanswered w.own)
 
   abbrev first_cut : IsCut (with_first was f.first) mid
   first_cut zero = record { newer = f.later; is = f.is }
@@ -185,47 +182,46 @@ module _ (answered : EachIsAnswered) (held_up : EachIsHeldUp) (start : Start) (w
     m_low : suc m < hosts start
     m_low = omega (arith, held_low, m_is)
 
+    -- a host sends on to host k as many as it takes
+    abbrev Less : (Place → Body → Bool) → (Place → Body → Bool) → ℕ → ℕ → Type 0
+    Less took sends h k = steps took (log_of (machine start) all.more (suc h)) ≤ sent_since_to start sends (suc h) k
+        (log_of (machine start) all.more (suc h)) (was (suc h))
+
     wanted : 1 ≤ steps (is_want w.tx) (log_of (machine start) all.more (suc c))
     wanted =
-        omega (
+        arrives start was mid first_served.before first_served.since cut (is_want w.tx) 0 (suc c) (omega arith) c_low
+        (omega (
           arith,
           asking.wants,
           ap (λ k. sends_of (to_host start k (is_want w.tx)) (step_after start 0 (was 0) f.first).effects.sends) c_is,
           sent_to_append start (is_want w.tx) 0 (suc c) (log_of (machine start) all.more 0) (f.first ∷ []) (was 0),
-          all_arrive start was mid first_served.before first_served.since cut (is_want w.tx) 0 (suc c) (omega arith) c_low,
-          taken_few start (is_want w.tx) 0 (log_of (machine start) all.more (suc c)),
-        )
+        ))
 
     probed : 1 ≤ steps (is_probe w.tx (key_of up.asked.op)) (log_of (machine start) all.more (suc m))
     probed =
-        omega (
+        arrives start was mid first_served.before first_served.since cut (is_probe w.tx (key_of up.asked.op)) (suc c) (suc m) c_low m_low
+        (omega (
           arith,
           wanted,
-          (all.nodes c).wants c_is,
-          ap (λ k. sent_since_to start (is_probe w.tx (key_of up.asked.op)) (suc c) k (log_of (machine start) all.more (suc c)) (was (suc c))) m_is,
-          all_arrive start was mid first_served.before first_served.since cut (is_probe w.tx (key_of up.asked.op)) (suc c) (suc m) c_low m_low,
-          taken_few start (is_probe w.tx (key_of up.asked.op)) (suc c) (log_of (machine start) all.more (suc m)),
-        )
+          subst (Less (is_want w.tx) (is_probe w.tx (key_of up.asked.op)) c) m_is
+              ((all.nodes c).wants c_is),
+        ))
 
     found : 1 ≤ steps (is_found w.tx) (log_of (machine start) all.more (suc c))
     found =
-        omega (
+        arrives start was mid first_served.before first_served.since cut (is_found w.tx) (suc m) (suc c) m_low c_low
+        (omega (
           arith,
           probed,
-          (all.nodes m).finds m_is,
-          ap (λ k. sent_since_to start (is_found w.tx) (suc m) k (log_of (machine start) all.more (suc m)) (was (suc m))) c_is,
-          all_arrive start was mid first_served.before first_served.since cut (is_found w.tx) (suc m) (suc c) m_low c_low,
-          taken_few start (is_found w.tx) (suc m) (log_of (machine start) all.more (suc c)),
-        )
+          subst (Less (is_probe w.tx (key_of up.asked.op)) (is_found w.tx) m) c_is
+              ((all.nodes m).finds m_is),
+        ))
 
     passed : 1 ≤ steps (is_passed w.tx) (log_of (machine start) all.more 0)
     passed =
         omega (
           arith,
-          found,
-          (all.nodes c).passes c_is,
-          all_arrive start was mid first_served.before first_served.since cut (is_passed w.tx) (suc c) 0 c_low (omega arith),
-          taken_few start (is_passed w.tx) (suc c) (log_of (machine start) all.more 0 ++ f.first ∷ []),
+          arrives start was mid first_served.before first_served.since cut (is_passed w.tx) (suc c) 0 c_low (omega arith) (omega (arith, found, (all.nodes c).passes c_is)),
           tally_append (λ (e : HostStep). is_passed w.tx e.step.taken.to e.step.taken.body) (log_of (machine start) all.more 0) (f.first ∷ []),
           ap one_if (ap (λ (to : Place). is_passed w.tx to f.first.step.taken.body) f.place ∙ ap (is_passed w.tx client) f.body),
         )
@@ -233,7 +229,8 @@ module _ (answered : EachIsAnswered) (held_up : EachIsHeldUp) (start : Start) (w
   ahead_known : is_some all.shell.ahead ≡ true
   ahead_known =
       let c = not_shell start was (IsLiveAs w.tx up.transaction) (not_live w.tx up.transaction) c_host up.live in
-      let m = not_shell start was (IsHeldUpAt w.tx (key_of up.asked.op)) (not_held w.tx (key_of up.asked.op)) m_host up.held in
+      let m = not_shell start was (IsHeldUpAt w.tx (key_of up.asked.op))
+      (not_held w.tx (key_of up.asked.op)) m_host up.held in
       all.shell.known (passed c.0 m.0 c.1 m.1)
 
   then : IsFirst start mid now request.Pending
@@ -244,11 +241,15 @@ module _ (answered : EachIsAnswered) (held_up : EachIsHeldUp) (start : Start) (w
 
   tells : TellsHolder t.name all.shell.ahead (api_of (after start 0 (mid 0))) (api_seen (step_after start 0 (mid 0) then.first))
   tells =
-      subst (TellsHolder t.name all.shell.ahead (api_of (after start 0 (mid 0)))) (sym (first_step start mid now request.Pending then))
+      subst (TellsHolder t.name all.shell.ahead (api_of (after start 0 (mid 0))))
+      (sym (first_step start mid now request.Pending then))
       (pending_first (api_of (after start 0 (mid 0))) i.first.front t i.first.back i.name all.shell.ahead about unanswered i.first.none i.first.passes ahead_known)
 
-  tells_reply : replies_of (after start 0 (then.first ∷ mid 0)) ≡ replies_of (after start 0 (mid 0)) ++ Pending t.name (HeldBy (name_in (opened_after start mid) tells.who)) ∷ []
-  tells_reply = replies_are (after start 0 (then.first ∷ mid 0)) ∙ tells.told ∙ ap (λ rs. rs ++ Pending t.name (HeldBy (name_in (opened_after start mid) tells.who)) ∷ []) (sym (replies_are (after start 0 (mid 0))))
+  tells_reply : replies_of (after start 0 (then.first ∷ mid 0)) ≡ replies_of (after start 0 (mid 0)) ++ Pending t.name
+      (HeldBy (name_in (opened_after start mid) tells.who)) ∷ []
+  tells_reply = replies_are (after start 0 (then.first ∷ mid 0)) ∙ tells.told
+      ∙ ap (λ rs. rs ++ Pending t.name (HeldBy (name_in (opened_after start mid) tells.who)) ∷ [])
+      (sym (replies_are (after start 0 (mid 0))))
 
   -- the signal that told it came from a node where the transaction waits behind that one
   telling : Counted (λ (e : HostStep). is_telling_who w.tx tells.who e.step.taken.to e.step.taken.body) (log_of (machine start) all.more 0)

@@ -1,20 +1,20 @@
 -- What a host has where it doesn't run a block.
 use Rattle.std.proofs.Common.{◌≡◌, ℕ, suc, Bool, true, false, List, refl, ap, arith}
+use Rattle.std.specs.FinMap as finite
 use Rattle.std.specs.Prelude.{None}
+use Rattle.sig_core.specs.declared.member.TxId.{TxId}
+use Rattle.sig_core.specs.declared.place.BlockId.TheVariants as block
+use Rattle.row_locks.proofs.LocksLemmas.{key_cmp}
+use Rattle.row_locks.specs.Tables.{ahead_at, ahead_of, or_unlocked}
 use Rattle.node_core.proofs.HostCases.{runs}
+use Rattle.node_core.specs.Blocks.{api_of, has_api, has_lqh, has_tc, lqh_of}
 use Rattle.node_core.specs.declared.host.Host.{Host}
 use Rattle.node_core.specs.declared.host.Host.TheVariants.{Shell, Main, Tc, Ldm}
-use Rattle.node_core.specs.Blocks.{api_of, has_api, has_lqh, has_tc, lqh_of}
 use Rattle.node_core.specs.Replies.{replies_of}
-use Rattle.sig_core.specs.declared.place.BlockId.TheVariants as block
+use Rattle.world_core.proofs.HostNumbers.{api_found}
 use Rattle.world_core.specs.Machine.{after}
 use Rattle.world_core.specs.Start.{Start}
 use Rattle.world_core.specs.Steps.{HostStep}
-use Rattle.sig_core.specs.declared.member.TxId.{TxId}
-use Rattle.row_locks.specs.Tables.{ahead_at, ahead_of, or_unlocked}
-use Rattle.row_locks.proofs.LocksLemmas.{key_cmp}
-use Rattle.std.specs.FinMap as finite
-use Rattle.world_core.proofs.HostNumbers.{api_found}
 
 -- who runs the API has no coordinator and no rows
 pub api_alone : (g : Host) → has_api g ≡ true → has_tc g ≡ true → ⊥

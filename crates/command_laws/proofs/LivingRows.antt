@@ -6,7 +6,7 @@ use Rattle.lqh_block.specs.declared.request.Request.{Request}
 use Rattle.lqh_block.specs.Lqh.{lqh_table}
 use Rattle.lqh_block.specs.State.{LqhState}
 use Rattle.lqh_block.proofs.EachLqh.{RequestSends, lqh_sends_each}
-use Rattle.answer_laws.proofs.SendKinds.{SendsOnly, of_each}
+use Rattle.host_laws.proofs.SendKinds.{SendsOnly, of_each}
 use Rattle.command_laws.proofs.LivingTurns.{is_sound}
 
 pub lqh_sound : (s : LqhState) (body : Body) → SendsOnly is_sound (lqh_table s body)

@@ -27,8 +27,8 @@ use Rattle.tc_block.specs.Turn.{Turn, asking, going}
 use Rattle.run_theory.proofs.EachSent.{each_mapped}
 use Rattle.tc_block.proofs.EachTurn.{AbortForms, CommittedForms, TurnForms}
 use Rattle.tc_block.proofs.LiveKeeps.{LiveKeeps, TurnKeeps, live_each}
-use Rattle.answer_laws.proofs.SendKinds.{each_of, of_each, are_of}
-use Rattle.answer_laws.proofs.PhaseSends.{HasChains, entering_of_kind, rest_of_kind}
+use Rattle.host_laws.proofs.SendKinds.{each_of, of_each, are_of}
+use Rattle.host_laws.proofs.PhaseSends.{HasChains, entering_of_kind, rest_of_kind}
 use Rattle.command_laws.specs.Living.{is_living}
 
 -- a signal that gives no other cause

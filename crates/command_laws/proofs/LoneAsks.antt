@@ -1,9 +1,8 @@
 -- What the shell's host asks coordinators for in steps that aren't requests, and which of its replies answer operations alone.
 use Rattle.std.proofs.Common.{◌≡◌, ◌⊎◌, ◌≤◌, ℕ, Bool, true, false, List, [], ◌∷◌, ◌++◌, refl, sym, ap, ◌∙◌, subst, inl, inr, arith}
 use Rattle.std.specs.Prelude.{◌&&◌, Option, None, Some}
-use Rattle.run_theory.specs.Lists.{Each, IsIn}
 use Rattle.run_theory.proofs.Pasts.{each_map}
-use Rattle.world_core.specs.Steps.{HostStep}
+use Rattle.run_theory.specs.Lists.{Each, IsIn}
 use Rattle.sig_core.specs.declared.member.TxId.{TxId}
 use Rattle.sig_core.specs.declared.op.Answer.{Answer}
 use Rattle.sig_core.specs.declared.op.Op.{Op}
@@ -17,40 +16,41 @@ use Rattle.sig_core.specs.declared.request.ApiReq.TheVariants as request
 use Rattle.sig_core.specs.declared.signal.Body.{Body}
 use Rattle.sig_core.specs.declared.signal.Body.TheVariants.{Host, Client}
 use Rattle.sig_core.specs.declared.signal.client.ClientSignal.TheVariants.{TcBeginConf, TcKeyConf, TcKeyReq, TcRollbackReq}
+use Rattle.sig_core.specs.declared.signal.Signal.{Signal}
 use Rattle.sig_core.specs.Step.{Step}
+use Rattle.api_block.specs.Api.{api_row, request_row}
 use Rattle.api_block.specs.declared.opened.Doing.TheVariants.{Committing}
 use Rattle.api_block.specs.declared.opened.OpenTransaction.{OpenTransaction}
-use Rattle.api_block.specs.Api.{api_row, request_row}
 use Rattle.api_block.specs.Members.{least_node}
 use Rattle.api_block.specs.Opened.{answered, has_tx, is_tx}
 use Rattle.api_block.specs.Operate.{lone_by, lone_row}
 use Rattle.api_block.specs.State.{ApiState}
+use Rattle.node_core.specs.Blocks.{api_of, has_api}
 use Rattle.node_core.specs.declared.host.Host as host
 use Rattle.node_core.specs.Replies.{replies_of}
 use Rattle.node_core.specs.Requests.{is_request}
 use Rattle.node_core.specs.Row.{row}
+use Rattle.world_core.proofs.HostNumbers.{api_runs}
 use Rattle.world_core.specs.Machine.{after}
 use Rattle.world_core.specs.Start.{Start}
-use Rattle.answer_laws.proofs.ApiBegins.{in_middle}
-use Rattle.answer_laws.proofs.LinkCounts.{steps}
-use Rattle.answer_laws.proofs.SendKinds.{are_of, none_of}
-use Rattle.commit_laws.proofs.Tally.{tally_append, tally_none}
-use Rattle.commit_laws.specs.Counts.{one_if, tally}
-use Rattle.answer_laws.proofs.TcKeys.{is_key, key_of_tx}
-use Rattle.answer_laws.proofs.TcLives.{is_start, start_of}
-use Rattle.answer_laws.proofs.TcMoves.{same_tx-is}
-use Rattle.answer_laws.proofs.Wishes.{is_api, is_tc, sends_of}
-use Rattle.answer_laws.specs.Answered.{opened_in}
+use Rattle.world_core.specs.Steps.{HostStep}
+use Rattle.host_laws.proofs.Tally.{tally_append, tally_none}
+use Rattle.host_laws.specs.Counts.{one_if, tally}
+use Rattle.host_laws.proofs.ApiBegins.{in_middle}
+use Rattle.host_laws.proofs.LinkCounts.{steps}
+use Rattle.host_laws.proofs.SendKinds.{are_of, none_of}
+use Rattle.host_laws.proofs.TcKeys.{is_key, key_of_tx}
+use Rattle.host_laws.proofs.TcLives.{is_start, start_of}
+use Rattle.host_laws.proofs.TcMoves.{same_tx-is}
+use Rattle.host_laws.proofs.Wishes.{is_api, is_tc, sends_of}
+use Rattle.host_laws.specs.Opened.{opened_in}
 use Rattle.command_laws.proofs.ApiChanges.{ApiChange, GoesOnAs, alone, answers, api_changes, commits, ends, idle, is_news_kind, is_row_reply, refuses, rests, starts, told, waits}
 use Rattle.command_laws.proofs.Entries.{HasOne}
+use Rattle.command_laws.proofs.HostKinds.{replies_are}
+use Rattle.command_laws.proofs.HostSteps.{api_host}
 use Rattle.command_laws.proofs.Since.{sent_since}
 use Rattle.command_laws.proofs.TellsOnce.{is_wish_back_to, wish_back_of}
 use Rattle.command_laws.proofs.Tests.{and_off}
-use Rattle.sig_core.specs.declared.signal.Signal.{Signal}
-use Rattle.node_core.specs.Blocks.{api_of, has_api}
-use Rattle.command_laws.proofs.HostKinds.{replies_are}
-use Rattle.command_laws.proofs.HostSteps.{api_host}
-use Rattle.world_core.proofs.HostNumbers.{api_runs}
 
 -- the answer of an operation alone
 abbrev pub is_lone : ApiReply → Bool
@@ -114,18 +114,24 @@ module _ (s : ApiState) (body : Body) where
 host_lone : (g : host.Host) (x : Signal) → has_api g ≡ true → is_request x.body ≡ false
     → ((is_api x.to.block ≡ true) × IsLoneStep x.body (opened_in (row g x).state)) ⊎ (tally is_lone (replies_of (row g x).state) ≡ tally is_lone (replies_of g))
 host_lone g x has plain =
-    by (api_host (λ (step : Step ApiState). ((is_api x.to.block ≡ true) × IsLoneStep x.body step.state.opened) ⊎ (tally is_lone step.state.replies ≡ tally is_lone (api_of g).replies)) g x has
-    (λ at. step_goes (api_row (api_of g) x).state at (change_lone (api_of g) x.body (api_row (api_of g) x) (api_changes (api_of g) x.body plain))) (λ off. inr refl))
+    by (api_host (λ (step : Step ApiState). ((is_api x.to.block ≡ true) × IsLoneStep x.body step.state.opened)
+    ⊎ (tally is_lone step.state.replies ≡ tally is_lone (api_of g).replies)) g x has
+    (λ at. step_goes (api_row (api_of g) x).state at (change_lone (api_of g) x.body (api_row (api_of g) x)
+    (api_changes (api_of g) x.body plain))) (λ off. inr refl))
   where
-    step_goes : (s : ApiState) → x.to.block ≡ block.Api → IsLoneStep x.body s.opened ⊎ (tally is_lone s.replies ≡ tally is_lone (api_of g).replies)
-        → ((is_api x.to.block ≡ true) × IsLoneStep x.body s.opened) ⊎ (tally is_lone s.replies ≡ tally is_lone (api_of g).replies)
+    step_goes : (s : ApiState) → x.to.block ≡ block.Api → IsLoneStep x.body s.opened
+        ⊎ (tally is_lone s.replies ≡ tally is_lone (api_of g).replies)
+        → ((is_api x.to.block ≡ true) × IsLoneStep x.body s.opened)
+        ⊎ (tally is_lone s.replies ≡ tally is_lone (api_of g).replies)
     step_goes s at (inl lone) = inl (ap is_api at, lone)
     step_goes s at (inr same) = inr same
 
-    by : ((is_api x.to.block ≡ true) × IsLoneStep x.body (api_of (row g x).state).opened) ⊎ (tally is_lone (api_of (row g x).state).replies ≡ tally is_lone (api_of g).replies)
+    by : ((is_api x.to.block ≡ true) × IsLoneStep x.body (api_of (row g x).state).opened)
+        ⊎ (tally is_lone (api_of (row g x).state).replies ≡ tally is_lone (api_of g).replies)
         → ((is_api x.to.block ≡ true) × IsLoneStep x.body (opened_in (row g x).state)) ⊎ (tally is_lone (replies_of (row g x).state) ≡ tally is_lone (replies_of g))
     by (inl lone) = inl lone
-    by (inr same) = inr (ap (tally is_lone) (replies_are (row g x).state) ∙ same ∙ ap (tally is_lone) (sym (replies_are g)))
+    by (inr same) = inr (ap (tally is_lone) (replies_are (row g x).state) ∙ same
+        ∙ ap (tally is_lone) (sym (replies_are g)))
 
 -- one of these steps behind a log answers an operation alone
 pub record HasLone (start : Start) (later log : List HostStep) : Type 0 where
@@ -204,10 +210,13 @@ module _ (tx : TxId) where
   host_asks : (g : host.Host) (x : Signal) → has_api g ≡ true → is_request x.body ≡ false
       → (sends_of (is_wish_back_to tx) (row g x).effects.sends ≡ 0) × (sends_of (is_key tx) (row g x).effects.sends ≤ one_if (is_start tx x.to x.body))
   host_asks g x has plain =
-      api_host (λ (step : Step ApiState). (sends_of (is_wish_back_to tx) step.effects.sends ≡ 0) × (sends_of (is_key tx) step.effects.sends ≤ one_if (is_start tx x.to x.body))) g x has
-      (λ at. at_step at (change_asks (api_of g) x.body (api_row (api_of g) x) (api_changes (api_of g) x.body plain))) (λ off. (refl, omega arith))
+      api_host (λ (step : Step ApiState). (sends_of (is_wish_back_to tx) step.effects.sends ≡ 0)
+      × (sends_of (is_key tx) step.effects.sends ≤ one_if (is_start tx x.to x.body))) g x has
+      (λ at. at_step at (change_asks (api_of g) x.body (api_row (api_of g) x) (api_changes (api_of g) x.body plain)))
+      (λ off. (refl, omega arith))
     where
-      at_step : {sends : List Outgoing} → x.to.block ≡ block.Api → AsksOnce x.body sends → (sends_of (is_wish_back_to tx) sends ≡ 0) × (sends_of (is_key tx) sends ≤ one_if (is_start tx x.to x.body))
+      at_step : {sends : List Outgoing} → x.to.block ≡ block.Api → AsksOnce x.body sends
+          → (sends_of (is_wish_back_to tx) sends ≡ 0) × (sends_of (is_key tx) sends ≤ one_if (is_start tx x.to x.body))
       at_step at asks = (asks.wishes, omega (arith, asks.keys, ap (λ of. one_if (is_api of && start_of tx x.body)) at))
 
   pub asks_since : (start : Start) (later log : List HostStep) → Each (λ (e : HostStep). is_request e.step.taken.body ≡ false) later

@@ -2,7 +2,7 @@
 use Rattle.std.proofs.Common.{◌≡◌, ◌⊎◌, ◌≤◌, ℕ, zero, suc, Bool, true, false, List, [], ◌∷◌, ◌++◌, refl, sym, ap, ◌∙◌, subst, inl, inr, arith}
 use Rattle.std.specs.Prelude.{◌&&◌, Option, None, Some}
 use Rattle.run_theory.specs.Lists.{Each, IsIn}
-use Rattle.world_core.specs.Steps.{HostStep}
+use Rattle.sig_core.proofs.Keys.{same_tx-self}
 use Rattle.sig_core.specs.declared.member.Member.{Member}
 use Rattle.sig_core.specs.declared.member.TxId.{TxId}
 use Rattle.sig_core.specs.declared.op.Op.{Op}
@@ -15,40 +15,40 @@ use Rattle.sig_core.specs.declared.request.ApiReq.TheVariants as request
 use Rattle.sig_core.specs.declared.signal.Body.{Body}
 use Rattle.sig_core.specs.declared.signal.Body.TheVariants.{Host, Client}
 use Rattle.sig_core.specs.declared.signal.client.ClientSignal.TheVariants.{TcBeginConf}
+use Rattle.sig_core.specs.declared.signal.Signal.{Signal}
 use Rattle.sig_core.specs.declared.view.View.{View}
 use Rattle.sig_core.specs.Step.{Step, stay}
+use Rattle.frag_map.specs.Layout.{first_view, members}
+use Rattle.api_block.specs.Api.{api_row, api_table, request_row}
 use Rattle.api_block.specs.declared.opened.Doing.{Doing}
 use Rattle.api_block.specs.declared.opened.Doing.TheVariants.{Beginning, Operating}
 use Rattle.api_block.specs.declared.opened.OpenTransaction.{OpenTransaction}
-use Rattle.api_block.specs.Api.{api_row, api_table, request_row}
 use Rattle.api_block.specs.Members.{least_node}
 use Rattle.api_block.specs.Opened.{asked_for, begins, begins_at, begun_operating, behind, is_beginning, is_tx, same_name}
 use Rattle.api_block.specs.Operate.{begun_by, begun_row, lone_by, lone_row}
 use Rattle.api_block.specs.State.{ApiState}
+use Rattle.node_core.specs.Blocks.{api_of, has_api}
 use Rattle.node_core.specs.declared.host.Host as host
 use Rattle.node_core.specs.Replies.{replies_of}
 use Rattle.node_core.specs.Requests.{is_request}
 use Rattle.node_core.specs.Row.{row}
+use Rattle.world_core.proofs.HostNumbers.{api_runs}
 use Rattle.world_core.specs.Machine.{after}
-use Rattle.frag_map.specs.Layout.{first_view, members}
 use Rattle.world_core.specs.Start.{Start}
-use Rattle.answer_laws.proofs.ApiBegins.{in_middle, same_name-is}
-use Rattle.answer_laws.proofs.Focus.{IsFocus, where_found}
-use Rattle.commit_laws.proofs.Tally.{only_one, tally_append, tally_between, tally_none}
-use Rattle.commit_laws.specs.Counts.{one_if, tally}
-use Rattle.answer_laws.proofs.TcLives.{is_start, start_of}
-use Rattle.answer_laws.proofs.Wishes.{is_api, sends_of}
-use Rattle.answer_laws.specs.Answered.{opened_in}
+use Rattle.world_core.specs.Steps.{HostStep}
+use Rattle.host_laws.proofs.ApiBegins.{in_middle, same_name-is}
+use Rattle.host_laws.proofs.Focus.{IsFocus, where_found}
+use Rattle.host_laws.proofs.LqhOps.{left_of, right_of}
+use Rattle.host_laws.proofs.Tally.{only_one, tally_append, tally_between, tally_none}
+use Rattle.host_laws.proofs.TcLives.{is_start, start_of}
+use Rattle.host_laws.proofs.Wishes.{is_api, sends_of}
+use Rattle.host_laws.specs.Counts.{one_if, tally}
+use Rattle.host_laws.specs.Opened.{opened_in}
 use Rattle.command_laws.proofs.ApiChanges.{ApiChange, IsOneOf, answers, api_changes, commits, ends, refuses, rests, starts, waits}
 use Rattle.command_laws.proofs.EarlySteps.{is_wish_to}
-use Rattle.sig_core.proofs.Keys.{same_tx-self}
-use Rattle.answer_laws.proofs.LqhOps.{left_of}
 use Rattle.command_laws.proofs.Entries.{HasOne, IsApart, NoneBegins, here_or_apart}
-use Rattle.sig_core.specs.declared.signal.Signal.{Signal}
-use Rattle.node_core.specs.Blocks.{api_of, has_api}
 use Rattle.command_laws.proofs.HostKinds.{replies_are}
 use Rattle.command_laws.proofs.HostSteps.{api_host, api_seen}
-use Rattle.world_core.proofs.HostNumbers.{api_runs}
 
 abbrev begins_any : OpenTransaction → Bool
 begins_any t = is_beginning t.doing
@@ -111,12 +111,8 @@ module _ (op : Op) where
             same : f.item ≡ has.item
             same = is_that f.item (subst (IsIn f.item) (sym f.is) (in_middle f.front f.item f.back)) (left_of (is_beginning f.item.doing) (same_name f.item.name called) begins_now)
 
-            second_of : (a b : Bool) → (a && b) ≡ true → b ≡ true
-            second_of true b e = e
-            second_of false b e = cc
-
             is_none : called ≡ None
-            is_none = no_name f.item called same (second_of (is_beginning f.item.doing) (same_name f.item.name called) begins_now)
+            is_none = no_name f.item called same (right_of (is_beginning f.item.doing) (same_name f.item.name called) begins_now)
 
             named : f.item.name ≡ None
             named = ap (λ (x : OpenTransaction). x.name) same ∙ has.called
@@ -137,44 +133,46 @@ module _ (op : Op) where
     not_busy t doing is off same =
         let both : false ≡ true = sym off ∙ ap is_beginning (sym is) ∙ ap (λ (x : OpenTransaction). is_beginning x.doing) (sym same) ∙ ap is_beginning has.does in cc
 
+    -- the step is about the transaction, or about another one
+    about_one : (body : Body) (at : IsOneOf s.opened) → (has.item ≡ at.t → AloneGoes s body (api_table s body))
+        → (IsApart has.item at.front at.back → IsAlone op (api_table s body).state.opened)
+        → AloneGoes s body (api_table s body)
+    unfolding AloneGoes
+    about_one body at here apart = by (here_or_apart has.item s.opened at has.inside)
+      where
+        by : (has.item ≡ at.t) ⊎ IsApart has.item at.front at.back
+            → IsAlone op (api_table s body).state.opened ⊎ (BeginsHere body (api_table s body).state.opened ⊎ IsRefusedHere s (api_table s body))
+        by (inl same) = here same
+        by (inr others) = inl (apart others)
+
     change_goes : (body : Body) → ApiChange s body (api_table s body) → AloneGoes s body (api_table s body)
     unfolding AloneGoes
-    change_goes body (rests is adds kind) = inl (as_before _ (subst (IsIn has.item) (sym is) has.inside) (omega (arith, has.only, ap (tally begins_any) is)))
-    change_goes body (waits one ahead at about is replies sends) = by (here_or_apart has.item s.opened at has.inside)
-      where
-        by : (has.item ≡ at.t) ⊎ IsApart has.item at.front at.back → AloneGoes s body (api_table s body)
-        by (inl same) = inl (record {
+    change_goes body (rests is adds kind) =
+        inl (as_before _ (subst (IsIn has.item) (sym is) has.inside) (omega (arith, has.only, ap (tally begins_any) is)))
+    change_goes body (waits one ahead at about is replies sends) =
+        about_one body at (λ same. inl (record {
           item = behind at.t (Some ahead);
           inside = subst (IsIn (behind at.t (Some ahead))) (sym is) (in_middle at.front (behind at.t (Some ahead)) at.back);
           called = ap (λ (x : OpenTransaction). x.name) (sym same) ∙ has.called;
           does = ap (λ (x : OpenTransaction). x.doing) (sym same) ∙ has.does;
           unborn = ap (λ (x : OpenTransaction). x.tx) (sym same) ∙ has.unborn;
           only = fewer at (behind at.t (Some ahead)) _ is (omega arith);
-        })
-        by (inr others) = inl (as_before _ (subst (IsIn has.item) (sym is) (others.kept _)) (fewer at (behind at.t (Some ahead)) _ is (omega arith)))
-    change_goes body (answers one answer called at about passes does named is replies sends) = by (here_or_apart has.item s.opened at has.inside)
-      where
-        by : (has.item ≡ at.t) ⊎ IsApart has.item at.front at.back → AloneGoes s body (api_table s body)
-        by (inl same) = absurd (not_busy at.t Operating does refl same)
-        by (inr others) = inl (as_before _ (subst (IsIn has.item) (sym is) (others.kept _)) (fewer at _ _ is (omega arith)))
-    change_goes body (commits one answer at about passes does named is replies sends) = by (here_or_apart has.item s.opened at has.inside)
-      where
-        by : (has.item ≡ at.t) ⊎ IsApart has.item at.front at.back → AloneGoes s body (api_table s body)
-        by (inl same) = absurd (not_busy at.t Operating does refl same)
-        by (inr others) = inl (as_before _ (subst (IsIn has.item) (sym is) (others.kept _)) (fewer at _ _ is (omega arith)))
-    change_goes body (ends one end at about passes is replies marks sends) = by (here_or_apart has.item s.opened at has.inside)
-      where
-        by : (has.item ≡ at.t) ⊎ IsApart has.item at.front at.back → AloneGoes s body (api_table s body)
-        by (inl same) = absurd (let both : false ≡ true = ap (is_tx one) (sym has.unborn) ∙ ap (λ (x : OpenTransaction). is_tx one x.tx) same ∙ passes in cc)
-        by (inr others) = inl (as_before _ (subst (IsIn has.item) (sym is) others.left) (gone at _ is))
+        }))
+        (λ others. as_before _ (subst (IsIn has.item) (sym is) (others.kept _)) (fewer at (behind at.t (Some ahead)) _ is (omega arith)))
+    change_goes body (answers one answer called at about passes does named is replies sends) =
+        about_one body at (λ same. absurd (not_busy at.t Operating does refl same))
+        (λ others. as_before _ (subst (IsIn has.item) (sym is) (others.kept _)) (fewer at _ _ is (omega arith)))
+    change_goes body (commits one answer at about passes does named is replies sends) =
+        about_one body at (λ same. absurd (not_busy at.t Operating does refl same))
+        (λ others. as_before _ (subst (IsIn has.item) (sym is) (others.kept _)) (fewer at _ _ is (omega arith)))
+    change_goes body (ends one end at about passes is replies marks sends) =
+        about_one body at
+        (λ same. absurd (let both : false ≡ true = ap (is_tx one) (sym has.unborn) ∙ ap (λ (x : OpenTransaction). is_tx one x.tx) same ∙ passes in cc))
+        (λ others. as_before _ (subst (IsIn has.item) (sym is) others.left) (gone at _ is))
     change_goes body (starts called one at u about passes is goes) = subst (λ b. AloneGoes s b (api_table s b)) (sym about) (begins_there called one)
     change_goes body (refuses called at about passes is replies sends) =
         let same = is_that at.t (is_inside at) (left_of (is_beginning at.t.doing) (same_name at.t.name called) passes) in
-        inr (inr (replies ∙ ap (λ n. s.replies ++ Refused n TooManyOpen ∷ []) (no_name at.t called same (last_of (is_beginning at.t.doing) (same_name at.t.name called) passes))))
-      where
-        last_of : (a b : Bool) → (a && b) ≡ true → b ≡ true
-        last_of true b e = e
-        last_of false b e = cc
+        inr (inr (replies ∙ ap (λ n. s.replies ++ Refused n TooManyOpen ∷ []) (no_name at.t called same (right_of (is_beginning at.t.doing) (same_name at.t.name called) passes))))
 
   -- the step begins the transaction, or refuses it
   record BeginsNow (to : Place) (body : Body) (opened : List OpenTransaction) : Type 0 where
@@ -191,7 +189,8 @@ module _ (op : Op) where
   abbrev GoesHere : ApiState → Place → Body → Step ApiState → Type 0
   GoesHere s to body step = IsAlone op step.state.opened ⊎ (BeginsNow to body step.state.opened ⊎ IsRefusedHere s step)
 
-  step_goes : (s : ApiState) (to : Place) (body : Body) → to.block ≡ block.Api → (step : Step ApiState) → AloneGoes s body step → GoesHere s to body step
+  step_goes : (s : ApiState) (to : Place) (body : Body) → to.block ≡ block.Api → (step : Step ApiState)
+      → AloneGoes s body step → GoesHere s to body step
   unfolding AloneGoes
   step_goes s to body at step (inl goes) = inl goes
   step_goes s to body at step (inr (inl b)) = inr (inl (record { tx = b.tx; start = begin_told b.tx to.block body at b.about; has = b.has }))
@@ -201,12 +200,16 @@ module _ (op : Op) where
       → IsAlone op (opened_in (row g x).state) ⊎ (BeginsNow x.to x.body (opened_in (row g x).state) ⊎ IsRefusedNow g (row g x))
   host_goes g x has plain had =
       by (api_host (GoesHere (api_of g) x.to x.body) g x has
-      (λ at. step_goes (api_of g) x.to x.body at (api_row (api_of g) x) (change_goes (api_of g) had x.body (api_changes (api_of g) x.body plain))) (λ off. inl had))
+      (λ at. step_goes (api_of g) x.to x.body at (api_row (api_of g) x)
+      (change_goes (api_of g) had x.body (api_changes (api_of g) x.body plain))) (λ off. inl had))
     where
-      by : GoesHere (api_of g) x.to x.body (api_seen (row g x)) → IsAlone op (opened_in (row g x).state) ⊎ (BeginsNow x.to x.body (opened_in (row g x).state) ⊎ IsRefusedNow g (row g x))
+      by : GoesHere (api_of g) x.to x.body (api_seen (row g x)) → IsAlone op (opened_in (row g x).state)
+          ⊎ (BeginsNow x.to x.body (opened_in (row g x).state) ⊎ IsRefusedNow g (row g x))
       by (inl goes) = inl goes
       by (inr (inl b)) = inr (inl b)
-      by (inr (inr refused_here)) = inr (inr (replies_are (row g x).state ∙ refused_here ∙ ap (λ rs. rs ++ Refused None TooManyOpen ∷ []) (sym (replies_are g))))
+      by (inr (inr refused_here)) =
+          inr (inr (replies_are (row g x).state ∙ refused_here
+          ∙ ap (λ rs. rs ++ Refused None TooManyOpen ∷ []) (sym (replies_are g))))
 
   -- in one of these steps behind a log it began
   pub record HasBegun (start : Start) (later log : List HostStep) : Type 0 where
@@ -261,7 +264,8 @@ pub record IsAskedAlone (op : Op) (step : Step ApiState) : Type 0 where
   pub alone : IsAlone op step.state.opened
   pub wishes : (tx : TxId) → sends_of (is_wish_to tx) step.effects.sends ≡ 0
 
-pub alone_first : (start : Start) (s : ApiState) (op : Op) → s.view ≡ first_view start.shape.nodes → 1 ≤ start.shape.nodes → NoneBegins s.opened
+pub alone_first : (start : Start) (s : ApiState) (op : Op) → s.view ≡ first_view start.shape.nodes
+    → 1 ≤ start.shape.nodes → NoneBegins s.opened
     → IsAskedAlone op (request_row s (request.Operate None op))
 unfolding request_row lone_row
 alone_first start s op view some calm = subst (λ o. IsAskedAlone op (lone_by s op o)) (sym there) (record {

@@ -1,14 +1,14 @@
 -- An operation alone that is answered ends in its being committed.
 use Rattle.std.proofs.Common.{◌≡◌, ◌≢◌, ◌⊎◌, ◌<◌, ◌≤◌, ◌+◌, ℕ, zero, suc, Bool, true, false, List, [], ◌∷◌, ◌++◌, refl, sym, ap, ◌∙◌, subst, inl, inr, append_assoc, arith}
 use Rattle.std.proofs.lemmas.Bool.{cases_eq, cases_lt}
-use Rattle.std.proofs.Math.Seq.{drop-append_seam}
 use Rattle.std.proofs.lemmas.Bool.Decides.{nat_tests}
+use Rattle.std.proofs.Math.Seq.{drop-append_seam}
 use Rattle.std.specs.Prelude.{◌==◌, ◌&&◌, Option, None, Some, drop, is_some, length}
+use Rattle.run_theory.proofs.Pasts.{each_before, each_in, each_map}
 use Rattle.run_theory.specs.Cuts.{IsCut}
 use Rattle.run_theory.specs.Links.{is_from}
 use Rattle.run_theory.specs.Lists.{Each, IsIn, IsPast}
-use Rattle.run_theory.proofs.Pasts.{each_before, each_in, each_map}
-use Rattle.world_core.specs.Steps.{HostStep}
+use Rattle.sig_core.proofs.Keys.{same_tx-self}
 use Rattle.sig_core.specs.declared.member.TxId.{TxId}
 use Rattle.sig_core.specs.declared.op.Op.{Op}
 use Rattle.sig_core.specs.declared.place.Place.{Place}
@@ -20,77 +20,49 @@ use Rattle.sig_core.specs.declared.signal.client.ClientSignal.TheVariants.{TcKey
 use Rattle.sig_core.specs.Same.{same_tx}
 use Rattle.api_block.specs.declared.opened.Doing.TheVariants.{Committing}
 use Rattle.node_core.proofs.HostLemmas.{IsFront}
+use Rattle.node_core.specs.Blocks.{api_of, tc_of}
 use Rattle.node_core.specs.Replies.{replies_of}
 use Rattle.node_core.specs.Requests.{is_request}
 use Rattle.tc_block.specs.declared.transaction.Transaction.{Transaction}
+use Rattle.tc_block.specs.State.{TcState}
+use Rattle.world_core.proofs.HostNumbers.{addressed_at}
 use Rattle.world_core.proofs.Replies.{replies_grow}
-use Rattle.world_core.specs.Hosts.{home, host_for, hosts}
+use Rattle.world_core.specs.Hosts.{home, hosts}
 use Rattle.world_core.specs.Machine.{after, machine, step_after}
 use Rattle.world_core.specs.Start.{Start}
-use Rattle.answer_laws.proofs.ApiBegins.{in_middle}
-use Rattle.answer_laws.proofs.LinkCounts.{all_three, signals, steps}
+use Rattle.world_core.specs.Steps.{HostStep}
+use Rattle.host_laws.proofs.ApiBegins.{in_middle}
+use Rattle.host_laws.proofs.LinkCounts.{all_three, steps, at_shell, steps_from}
+use Rattle.host_laws.proofs.LqhOps.{right_of}
+use Rattle.host_laws.proofs.Tally.{tally_append, tally_in}
+use Rattle.host_laws.proofs.TcKeys.{answer_of, is_asked, is_key, key_of_tx}
+use Rattle.host_laws.proofs.TcLives.{is_keyed, is_start}
+use Rattle.host_laws.proofs.Wishes.{is_api, is_tc}
+use Rattle.host_laws.specs.Counts.{one_if, tally}
+use Rattle.host_laws.specs.Opened.{opened_after, opened_in}
 use Rattle.answer_laws.proofs.Lives.{once_started}
-use Rattle.commit_laws.proofs.Tally.{tally_append, tally_in}
-use Rattle.commit_laws.specs.Counts.{one_if, tally}
-use Rattle.answer_laws.proofs.TcKeys.{answer_of, is_asked, is_key, key_of_tx}
-use Rattle.answer_laws.proofs.TcLives.{is_keyed, is_start}
-use Rattle.answer_laws.proofs.Wishes.{is_api, is_tc}
-use Rattle.answer_laws.specs.Answered.{EachIsAnswered, is_answered_by, opened_after, opened_in}
+use Rattle.answer_laws.specs.Answered.{EachIsAnswered, is_answered_by}
 use Rattle.command_laws.proofs.Committed.{cut_at_first, sent_append}
 use Rattle.command_laws.proofs.Entries.{HasOne}
+use Rattle.command_laws.proofs.EntryGoes.{HasEnded, commit_goes}
 use Rattle.command_laws.proofs.FirmHosts.{back_of, is_back}
 use Rattle.command_laws.proofs.First.{IsFirst, first_step, request_first}
+use Rattle.command_laws.proofs.Homes.{lives_begun}
+use Rattle.command_laws.proofs.HostKinds.{replies_are}
+use Rattle.command_laws.proofs.HostSteps.{api_seen}
 use Rattle.command_laws.proofs.LoneAsks.{HasLone, LoneFirst, asks_since, is_lone, lone_first, lone_since}
 use Rattle.command_laws.proofs.Pushes.{is_node_kind, node_since}
 use Rattle.command_laws.proofs.Reported.{reported}
-use Rattle.command_laws.proofs.Since.{few_taken, front_nil, none_taken, sent_since, taken_since}
+use Rattle.command_laws.proofs.Since.{few_taken, front_nil, none_taken, sent_since, taken_since, taken_is}
 use Rattle.command_laws.proofs.TellsOnce.{IsOneOfThree, is_wish_back_to, wish_back_of}
 use Rattle.command_laws.proofs.TellsSince.{away_since, shell_since, since_none, tells_since}
-use Rattle.command_laws.proofs.TurnTells.{is_reply}
 use Rattle.command_laws.proofs.Tests.{and_off, none_at}
-use Rattle.sig_core.proofs.Keys.{same_tx-self}
+use Rattle.command_laws.proofs.TurnTells.{is_reply}
 use Rattle.command_laws.specs.Served.{IsAnsweredAlone, IsCommittedAlone, IsServed, LoneAreCommitted}
-use Rattle.tc_block.specs.State.{TcState}
-use Rattle.command_laws.proofs.Homes.{lives_begun}
-use Rattle.command_laws.proofs.HostSteps.{api_seen}
-use Rattle.command_laws.proofs.HostKinds.{replies_are}
-use Rattle.node_core.specs.Blocks.{api_of, tc_of}
-use Rattle.world_core.proofs.HostNumbers.{addressed_at, beyond_host, host_some}
-use Rattle.command_laws.proofs.EntryGoes.{HasEnded, commit_goes}
-
--- signals that one host alone sent were taken from that host
-pub steps_from_one : (start : Start) (test : Place → Body → Bool) (i : ℕ) → ((to : Place) (body : Body) → test to body ≡ true → is_request body ≡ false) → (newer : List HostStep)
-    → ((k : ℕ) → k ≢ i → taken_since start test k newer ≡ 0) → steps test newer ≤ taken_since start test i newer
-steps_from_one start test i plain [] none = omega arith
-steps_from_one start test i plain (e ∷ newer) none = by (test e.step.taken.to e.step.taken.body) refl (steps_from_one start test i plain newer (λ k differs. omega (arith, none k differs)))
-  where
-    from : (k : ℕ) → e.step.taken.from.0 ≡ k → test e.step.taken.to e.step.taken.body ≡ true → (is_from (machine start) k e && test e.step.taken.to e.step.taken.body) ≡ true
-    from k at is = all_three (is_request e.step.taken.body) (e.step.taken.from.0 == k) (test e.step.taken.to e.step.taken.body) (plain e.step.taken.to e.step.taken.body is) (grind (arith, nat_tests, at)) is
-
-    by : (b : Bool) → test e.step.taken.to e.step.taken.body ≡ b → steps test newer ≤ taken_since start test i newer → one_if b + steps test newer ≤ taken_since start test i (e ∷ newer)
-    by false is less = omega (arith, less)
-    by true is less = at (cases_eq e.step.taken.from.0 i)
-      where
-        at : (e.step.taken.from.0 ≡ i) ⊎ (e.step.taken.from.0 ≢ i) → one_if true + steps test newer ≤ taken_since start test i (e ∷ newer)
-        at (inl same) = omega (arith, less, ap one_if (from i same is))
-        at (inr differs) = absurd (omega (arith, none e.step.taken.from.0 differs, ap one_if (from e.step.taken.from.0 refl is)))
-
--- what is for the shell's host is for no node
-client_node : (start : Start) (to : Place) → host_for start to ≡ 0 → to.node ≡ 0
-client_node start to is = by (cases_lt to.node 1) (cases_lt start.shape.nodes to.node)
-  where
-    by : (to.node < 1) ⊎ (1 ≤ to.node) → (start.shape.nodes < to.node) ⊎ (to.node ≤ start.shape.nodes) → to.node ≡ 0
-    by (inl none) other = omega (arith, none)
-    by (inr some) (inl above) = absurd (omega (arith, is, beyond_host start to above))
-    by (inr some) (inr low) = absurd (omega (arith, is, host_some start to some low))
 
 request_plain_key : (tx : TxId) (to : Place) (body : Body) → is_key tx to body ≡ true → is_request body ≡ false
-request_plain_key tx to body is = plain body (last_of (is_tc to.block) (key_of_tx tx body) is)
+request_plain_key tx to body is = plain body (right_of (is_tc to.block) (key_of_tx tx body) is)
   where
-    last_of : (a b : Bool) → (a && b) ≡ true → b ≡ true
-    last_of true b e = e
-    last_of false b e = cc
-
     plain : (b : Body) → key_of_tx tx b ≡ true → is_request b ≡ false
     plain (Client (TcKeyReq other op)) e = refl
     plain _ e = cc
@@ -134,10 +106,13 @@ module _ (start : Start) (was now : ℕ → List HostStep) (op : Op) (served : I
 
   module _ (tx : TxId) where
     first : LoneFirst tx (api_of (after start 0 (was 0))) (api_seen (step_after start 0 (was 0) f.first))
-    first = subst (LoneFirst tx (api_of (after start 0 (was 0)))) (sym (first_step start was now (Operate None op) f)) (lone_first tx (api_of (after start 0 (was 0))) op)
+    first = subst (LoneFirst tx (api_of (after start 0 (was 0)))) (sym (first_step start was now (Operate None op) f))
+        (lone_first tx (api_of (after start 0 (was 0))) op)
 
-    first_lone : tally is_lone (replies_of (after start 0 (f.first ∷ was 0))) ≡ tally is_lone (replies_of (after start 0 (was 0)))
-    first_lone = ap (tally is_lone) (replies_are (after start 0 (f.first ∷ was 0))) ∙ first.lone ∙ ap (tally is_lone) (sym (replies_are (after start 0 (was 0))))
+    first_lone : tally is_lone (replies_of (after start 0 (f.first ∷ was 0))) ≡ tally is_lone
+        (replies_of (after start 0 (was 0)))
+    first_lone = ap (tally is_lone) (replies_are (after start 0 (f.first ∷ was 0))) ∙ first.lone
+        ∙ ap (tally is_lone) (sym (replies_are (after start 0 (was 0))))
 
     -- nobody wishes for its abort
     no_wishes : (h : ℕ) → sent_since start (is_wish_back_to tx) h (cut h).newer (was h) ≡ 0
@@ -155,7 +130,9 @@ module _ (start : Start) (was now : ℕ → List HostStep) (op : Op) (served : I
     few_keys h =
         omega (
           arith,
-          steps_from_one start (is_key tx) 0 (request_plain_key tx) (cut (suc h)).newer (λ k differs. other k differs),
+          steps_from start (is_key tx) 0 (request_plain_key tx) (cut (suc h)).newer
+              (λ k differs. omega (arith, taken_is start (is_key tx) k (cut (suc h)).newer, other k differs)),
+          taken_is start (is_key tx) 0 (cut (suc h)).newer,
           few_taken start was now served.before served.since cut (is_key tx) 0 (suc h),
           sent_append start (is_key tx) 0 f.later (f.first ∷ []) (was 0),
           (asks_since tx start f.later (f.first ∷ was 0) f.plain).1,
@@ -192,7 +169,9 @@ module _ (start : Start) (was now : ℕ → List HostStep) (op : Op) (served : I
       told = three (tc_of (after start (suc h) ((cut (suc h)).newer ++ was (suc h)))) (tells_since start tx (suc h) (cut (suc h)).newer (was (suc h)) asked (none_wished (suc h)) (omega (arith, few_asked, few_keys h, starts_apart))
           (record { fair = omega arith; three = inl (refl, refl) })).three
         where
-          three : (now_it : TcState) → IsOneOfThree tx (sent_since start (is_reply tx) (suc h) (cut (suc h)).newer (was (suc h))) (sent_since start (is_back tx) (suc h) (cut (suc h)).newer (was (suc h))) now_it
+          three : (now_it : TcState)
+              → IsOneOfThree tx (sent_since start (is_reply tx) (suc h) (cut (suc h)).newer (was (suc h)))
+              (sent_since start (is_back tx) (suc h) (cut (suc h)).newer (was (suc h))) now_it
               → (sent_since start (is_reply tx) (suc h) (cut (suc h)).newer (was (suc h)) ≡ 0) ⊎ (sent_since start (is_back tx) (suc h) (cut (suc h)).newer (was (suc h)) ≡ 0)
           three now_it (inl none) = inl none.0
           three now_it (inr (inl firm)) = inr firm.0.1
@@ -245,7 +224,8 @@ module _ (start : Start) (was now : ℕ → List HostStep) (op : Op) (served : I
     is_answer_here : is_reply l.tx l.step.step.taken.to l.step.step.taken.body ≡ true
     is_answer_here =
         all (l.step.step.taken.to.node == 0) (is_api l.step.step.taken.to.block) (answer_of l.tx l.step.step.taken.body)
-        (grind (arith, nat_tests, client_node start l.step.step.taken.to (addressed_at start now served.since.right 0 l.step in_now))) l.block
+        (sym (at_shell start l.step.step.taken.to)
+        ∙ grind (arith, nat_tests, addressed_at start now served.since.right 0 l.step in_now)) l.block
         (ap (answer_of l.tx) l.lone.about ∙ same_tx-self l.tx)
       where
         all : (a b c : Bool) → a ≡ true → b ≡ true → c ≡ true → (a && (b && c)) ≡ true
@@ -256,7 +236,8 @@ module _ (start : Start) (was now : ℕ → List HostStep) (op : Op) (served : I
     plain_step : is_request l.step.step.taken.body ≡ false
     plain_step = each_in (λ (e : HostStep). is_request e.step.taken.body ≡ false) l.step f.later f.plain in_later
 
-    shell_tells : (newer log : List HostStep) → (sent_since start (is_reply l.tx) 0 newer log ≡ 0) × (sent_since start (is_back l.tx) 0 newer log ≡ 0)
+    shell_tells : (newer log : List HostStep) → (sent_since start (is_reply l.tx) 0 newer log ≡ 0)
+        × (sent_since start (is_back l.tx) 0 newer log ≡ 0)
     shell_tells newer log = since_none start l.tx 0 newer log (shell_since start l.tx newer log)
 
     was_sent : (i : ℕ) → l.step.step.taken.from.0 ≡ i → 1 ≤ sent_since start (is_reply l.tx) i (cut i).newer (was i)
@@ -269,7 +250,8 @@ module _ (start : Start) (was now : ℕ → List HostStep) (op : Op) (served : I
     no_backs_at : (k : ℕ) → l.step.step.taken.from.0 ≡ k → (h : ℕ) → h < hosts start → sent_since start (is_back l.tx) h (cut h).newer (was h) ≡ 0
     no_backs_at k at zero low = (shell_tells (cut 0).newer (was 0)).1
     no_backs_at zero at (suc h) low = absurd (omega (arith, was_sent zero at, (shell_tells (cut 0).newer (was 0)).0))
-    no_backs_at (suc k) at (suc h) low = home_is (cases_eq (home start l.tx) (suc k)) (cases_eq (home start l.tx) (suc h)) (cases_lt (suc k) (hosts start))
+    no_backs_at (suc k) at (suc h) low = home_is (cases_eq (home start l.tx) (suc k))
+        (cases_eq (home start l.tx) (suc h)) (cases_lt (suc k) (hosts start))
       where
         some : 1 ≤ sent_since start (is_reply l.tx) (suc k) (cut (suc k)).newer (was (suc k))
         some = was_sent (suc k) at
@@ -282,10 +264,16 @@ module _ (start : Start) (was now : ℕ → List HostStep) (op : Op) (served : I
           where
             by : (sent_since start (is_reply l.tx) (suc h) (cut (suc h)).newer (was (suc h)) ≡ 0) ⊎ (sent_since start (is_back l.tx) (suc h) (cut (suc h)).newer (was (suc h)) ≡ 0)
                 → sent_since start (is_back l.tx) (suc h) (cut (suc h)).newer (was (suc h)) ≡ 0
-            by (inl none) = absurd (omega (arith, none, subst (λ j. 1 ≤ sent_since start (is_reply l.tx) j (cut j).newer (was j)) same some))
+            by (inl none) =
+                absurd (omega (
+                  arith,
+                  none,
+                  subst (λ j. 1 ≤ sent_since start (is_reply l.tx) j (cut j).newer (was j)) same some,
+                ))
             by (inr none) = none
 
-        home_is : (home start l.tx ≡ suc k) ⊎ (home start l.tx ≢ suc k) → (home start l.tx ≡ suc h) ⊎ (home start l.tx ≢ suc h) → (suc k < hosts start) ⊎ (hosts start ≤ suc k)
+        home_is : (home start l.tx ≡ suc k) ⊎ (home start l.tx ≢ suc k) → (home start l.tx ≡ suc h)
+            ⊎ (home start l.tx ≢ suc h) → (suc k < hosts start) ⊎ (hosts start ≤ suc k)
             → sent_since start (is_back l.tx) (suc h) (cut (suc h)).newer (was (suc h)) ≡ 0
         home_is one other (inr high) =
             let none : (cut (suc k)).newer ≡ [] = front_nil (cut (suc k)).newer (was (suc k)) (sym (served.since.within (suc k) high) ∙ (cut (suc k)).is) in

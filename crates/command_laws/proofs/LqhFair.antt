@@ -11,7 +11,7 @@ use Rattle.lqh_block.specs.declared.request.Request.{Request}
 use Rattle.lqh_block.specs.Lqh.{lqh_table}
 use Rattle.lqh_block.specs.State.{LqhState}
 use Rattle.lqh_block.proofs.EachLqh.{RequestSends, lqh_sends_each}
-use Rattle.answer_laws.proofs.SendKinds.{SendsOnly, of_each}
+use Rattle.host_laws.proofs.SendKinds.{SendsOnly, of_each}
 use Rattle.command_laws.specs.Served.{is_refusal}
 
 -- all but an abort of the transaction, and the refusal of its operation for another cause

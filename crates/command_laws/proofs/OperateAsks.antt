@@ -3,7 +3,6 @@ use Rattle.std.proofs.Common.{◌≡◌, ◌<◌, ◌+◌, ℕ, Bool, true, fals
 use Rattle.std.proofs.lemmas.Bool.Decides.{nat_tests}
 use Rattle.std.specs.Prelude.{Some, is_some, nat_lt}
 use Rattle.run_theory.specs.Lists.{Each, IsIn}
-use Rattle.world_core.specs.Steps.{HostStep}
 use Rattle.sig_core.specs.declared.member.TxId.{TxId}
 use Rattle.sig_core.specs.declared.op.Op.{Op}
 use Rattle.sig_core.specs.declared.outs.Outgoing.{Outgoing}
@@ -13,44 +12,49 @@ use Rattle.sig_core.specs.declared.request.ApiReq.TheVariants as request
 use Rattle.sig_core.specs.declared.signal.Body.{Body}
 use Rattle.sig_core.specs.declared.signal.Body.TheVariants.{Host, Client}
 use Rattle.sig_core.specs.declared.signal.client.ClientSignal.TheVariants.{TcCommitReq, TcRollbackReq}
+use Rattle.sig_core.specs.declared.signal.Signal.{Signal}
 use Rattle.sig_core.specs.Same.{same_tx}
 use Rattle.sig_core.specs.Step.{Step}
+use Rattle.api_block.specs.Api.{api_row, request_row}
 use Rattle.api_block.specs.declared.opened.Doing.{Doing}
 use Rattle.api_block.specs.declared.opened.Doing.TheVariants.{Operating, Ready}
 use Rattle.api_block.specs.declared.opened.OpenTransaction.{OpenTransaction}
-use Rattle.api_block.specs.Operate.{key_request, operate_by, operate_if, operate_row}
 use Rattle.api_block.specs.Opened.{begins, has_tx, if_there, is_beginning, operating, same_name, where_at}
+use Rattle.api_block.specs.Operate.{key_request, operate_by, operate_if, operate_row}
 use Rattle.api_block.specs.State.{ApiState, about, changing, refused}
+use Rattle.node_core.specs.Blocks.{api_of, has_api}
 use Rattle.node_core.specs.declared.host.Host as host
 use Rattle.node_core.specs.Requests.{is_request}
+use Rattle.node_core.specs.Row.{row}
+use Rattle.world_core.proofs.HostNumbers.{api_runs}
 use Rattle.world_core.specs.Machine.{after}
 use Rattle.world_core.specs.Start.{Start}
-use Rattle.answer_laws.proofs.ApiBegins.{each_at, each_changed, each_less, in_middle}
-use Rattle.answer_laws.proofs.SendKinds.{none_of}
-use Rattle.commit_laws.specs.Counts.{one_if}
-use Rattle.answer_laws.proofs.TcMoves.{same_tx-is}
-use Rattle.answer_laws.proofs.Wishes.{is_tc, sends_of}
-use Rattle.answer_laws.specs.Answered.{opened_in}
-use Rattle.command_laws.proofs.ApiChanges.{ApiChange, answers, api_changes, commits, ends, is_news_kind, refuses, rests, starts, waits}
+use Rattle.world_core.specs.Steps.{HostStep}
+use Rattle.host_laws.proofs.ApiBegins.{each_at, each_changed, each_less, in_middle}
+use Rattle.host_laws.proofs.LqhOps.{left_of}
+use Rattle.host_laws.proofs.SendKinds.{none_of}
+use Rattle.host_laws.proofs.TcMoves.{same_tx-is}
+use Rattle.host_laws.proofs.Wishes.{is_tc, sends_of}
+use Rattle.host_laws.specs.Counts.{one_if}
+use Rattle.host_laws.specs.Opened.{opened_in}
+use Rattle.command_laws.proofs.ApiChanges.{ApiChange, IsOneOf, answers, api_changes, commits, ends, is_news_kind, refuses, rests, starts, waits}
 use Rattle.command_laws.proofs.EarlySteps.{is_wish_to, wish_of}
 use Rattle.command_laws.proofs.Entries.{HasOne, IsNamed, NoneBegins, named_found}
-use Rattle.command_laws.proofs.Pushes.{is_node_kind}
+use Rattle.command_laws.proofs.HostSteps.{api_host}
+use Rattle.command_laws.proofs.Pushes.{change_calm, is_node_kind}
 use Rattle.command_laws.proofs.Since.{sent_since}
 use Rattle.command_laws.proofs.Tests.{and_off}
-use Rattle.answer_laws.proofs.LqhOps.{left_of}
 use Rattle.command_laws.specs.Served.{named_in}
-use Rattle.api_block.specs.Api.{api_row, request_row}
-use Rattle.sig_core.specs.declared.signal.Signal.{Signal}
-use Rattle.node_core.specs.Row.{row}
-use Rattle.node_core.specs.Blocks.{api_of, has_api}
-use Rattle.command_laws.proofs.HostSteps.{api_host}
-use Rattle.world_core.proofs.HostNumbers.{api_runs}
 
 module _ (tx : TxId) where
+  -- what has its number has a name
+  abbrev pub HasName : OpenTransaction → Type 0
+  HasName t = has_tx tx t ≡ true → is_some t.name ≡ true
+
   -- the transaction has a name, and none is beginning
   pub record AreNamed (opened : List OpenTransaction) : Type 0 where
     pub calm : NoneBegins opened
-    pub named : Each (λ (t : OpenTransaction). has_tx tx t ≡ true → is_some t.name ≡ true) opened
+    pub named : Each HasName opened
 
   pub no_wish_news : (to : Place) (body : Body) → is_news_kind body ≡ true → is_wish_to tx to body ≡ false
   no_wish_news to body e = and_off (is_tc to.block) (plain body e)
@@ -79,55 +83,63 @@ module _ (tx : TxId) where
     other_wish one false is none = ap (λ c. one_if c + 0) is
 
     change_named : (step : Step ApiState) → ApiChange s body step → KeepsNamed step.state.opened step.effects.sends
-    change_named step (rests is adds kind) = record {
-      named = record { calm = subst NoneBegins (sym is) were.calm; named = subst (Each (λ (t : OpenTransaction). has_tx tx t ≡ true → is_some t.name ≡ true)) (sym is) were.named };
-      wishes = none_of is_news_kind (is_wish_to tx) no_wish_news step.effects.sends kind;
-    }
-    change_named step (waits one ahead at about is replies sends) = record {
+    change_named step change = record {
       named = record {
-        calm = subst NoneBegins (sym is) (each_changed (λ (t : OpenTransaction). is_beginning t.doing ≡ false) at.front at.t _ at.back s.opened at.is were.calm (λ before. before));
-        named = subst (Each (λ (t : OpenTransaction). has_tx tx t ≡ true → is_some t.name ≡ true)) (sym is) (each_changed (λ (t : OpenTransaction). has_tx tx t ≡ true → is_some t.name ≡ true) at.front at.t _ at.back s.opened at.is were.named (λ before. before));
+        calm = (change_calm tx s body were.calm step change).calm;
+        named = names change;
       };
-      wishes = ap (sends_of (is_wish_to tx)) sends;
-    }
-    change_named step (answers one answer called at about passes does named is replies sends) = record {
-      named = record {
-        calm = subst NoneBegins (sym is) (each_changed (λ (t : OpenTransaction). is_beginning t.doing ≡ false) at.front at.t _ at.back s.opened at.is were.calm (λ before. refl));
-        named = subst (Each (λ (t : OpenTransaction). has_tx tx t ≡ true → is_some t.name ≡ true)) (sym is) (each_changed (λ (t : OpenTransaction). has_tx tx t ≡ true → is_some t.name ≡ true) at.front at.t _ at.back s.opened at.is were.named (λ before. before));
-      };
-      wishes = ap (sends_of (is_wish_to tx)) sends;
-    }
-    change_named step (commits one answer at about passes does named is replies sends) = record {
-      named = record {
-        calm = subst NoneBegins (sym is) (each_changed (λ (t : OpenTransaction). is_beginning t.doing ≡ false) at.front at.t _ at.back s.opened at.is were.calm (λ before. refl));
-        named = subst (Each (λ (t : OpenTransaction). has_tx tx t ≡ true → is_some t.name ≡ true)) (sym is) (each_changed (λ (t : OpenTransaction). has_tx tx t ≡ true → is_some t.name ≡ true) at.front at.t _ at.back s.opened at.is were.named (λ before. before));
-      };
-      wishes = ap (sends_of (is_wish_to tx)) sends ∙ other_wish one (same_tx one tx) refl not_this;
+      wishes = wishes change;
     }
       where
-        not_this : same_tx one tx ≡ true → ⊥
-        not_this same =
-            let own : one ≡ tx = same_tx-is one tx same in
-            let has = each_at (λ (t : OpenTransaction). has_tx tx t ≡ true → is_some t.name ≡ true) at.front at.t at.back s.opened at.is were.named (subst (λ v. has_tx v at.t ≡ true) own passes) in
-            let off : false ≡ true = sym (ap is_some named) ∙ has in cc
-    change_named step (ends one end at about passes is replies marks sends) = record {
-      named = record {
-        calm = subst NoneBegins (sym is) (each_less (λ (t : OpenTransaction). is_beginning t.doing ≡ false) at.front at.t at.back s.opened at.is were.calm);
-        named = subst (Each (λ (t : OpenTransaction). has_tx tx t ≡ true → is_some t.name ≡ true)) (sym is) (each_less (λ (t : OpenTransaction). has_tx tx t ≡ true → is_some t.name ≡ true) at.front at.t at.back s.opened at.is were.named);
-      };
-      wishes = none_of is_news_kind (is_wish_to tx) no_wish_news step.effects.sends sends;
-    }
-    change_named step (starts called one at u about passes is goes) =
-        absurd (let off : false ≡ true = sym (each_at (λ (t : OpenTransaction). is_beginning t.doing ≡ false) at.front at.t at.back s.opened at.is were.calm)
-        ∙ left_of (is_beginning at.t.doing) (same_name at.t.name called) (left_of (begins called at.t) _ passes) in cc)
-    change_named step (refuses called at about passes is replies sends) =
-        absurd (let off : false ≡ true = sym (each_at (λ (t : OpenTransaction). is_beginning t.doing ≡ false) at.front at.t at.back s.opened at.is were.calm)
-        ∙ left_of (is_beginning at.t.doing) (same_name at.t.name called) passes in cc)
+        changed : (at : IsOneOf s.opened) (u : OpenTransaction) → (HasName at.t → HasName u)
+            → step.state.opened ≡ at.front ++ u ∷ at.back → Each HasName step.state.opened
+        changed at u kept is =
+            subst (Each HasName) (sym is) (each_changed HasName at.front at.t u at.back s.opened at.is were.named kept)
+
+        beginning : {A : Type 0} (at : IsOneOf s.opened) → is_beginning at.t.doing ≡ true → A
+        beginning at begins_now =
+            absurd (let off : false ≡ true = sym (each_at (λ (t : OpenTransaction). is_beginning t.doing ≡ false) at.front at.t at.back s.opened at.is were.calm) ∙ begins_now in cc)
+
+        names : ApiChange s body step → Each HasName step.state.opened
+        names (rests is adds kind) = subst (Each HasName) (sym is) were.named
+        names (waits one ahead at about is replies sends) = changed at _ (λ before. before) is
+        names (answers one answer called at about passes does named is replies sends) =
+            changed at _ (λ before. before) is
+        names (commits one answer at about passes does named is replies sends) = changed at _ (λ before. before) is
+        names (ends one end at about passes is replies marks sends) =
+            subst (Each HasName) (sym is) (each_less HasName at.front at.t at.back s.opened at.is were.named)
+        names (starts called one at u about passes is goes) =
+            beginning at (left_of (is_beginning at.t.doing) (same_name at.t.name called)
+            (left_of (begins called at.t) _ passes))
+        names (refuses called at about passes is replies sends) =
+            beginning at (left_of (is_beginning at.t.doing) (same_name at.t.name called) passes)
+
+        wishes : ApiChange s body step → sends_of (is_wish_to tx) step.effects.sends ≡ 0
+        wishes (rests is adds kind) = none_of is_news_kind (is_wish_to tx) no_wish_news step.effects.sends kind
+        wishes (waits one ahead at about is replies sends) = ap (sends_of (is_wish_to tx)) sends
+        wishes (answers one answer called at about passes does named is replies sends) =
+            ap (sends_of (is_wish_to tx)) sends
+        wishes (commits one answer at about passes does named is replies sends) = ap (sends_of (is_wish_to tx)) sends
+            ∙ other_wish one (same_tx one tx) refl not_this
+          where
+            not_this : same_tx one tx ≡ true → ⊥
+            not_this same =
+                let has = each_at HasName at.front at.t at.back s.opened at.is were.named
+                (subst (λ v. has_tx v at.t ≡ true) (same_tx-is one tx same) passes) in
+                let off : false ≡ true = sym (ap is_some named) ∙ has in cc
+        wishes (ends one end at about passes is replies marks sends) =
+            none_of is_news_kind (is_wish_to tx) no_wish_news step.effects.sends sends
+        wishes (starts called one at u about passes is goes) =
+            beginning at (left_of (is_beginning at.t.doing) (same_name at.t.name called)
+            (left_of (begins called at.t) _ passes))
+        wishes (refuses called at about passes is replies sends) =
+            beginning at (left_of (is_beginning at.t.doing) (same_name at.t.name called) passes)
 
   host_named : (g : host.Host) (x : Signal) → has_api g ≡ true → is_request x.body ≡ false → AreNamed (opened_in g) → KeepsNamed (opened_in (row g x).state) (row g x).effects.sends
   host_named g x has plain were =
       api_host (λ (step : Step ApiState). KeepsNamed step.state.opened step.effects.sends) g x has
-      (λ at. change_named (api_of g) x.body were (api_row (api_of g) x) (api_changes (api_of g) x.body plain)) (λ off. record { named = were; wishes = refl })
+      (λ at. change_named (api_of g) x.body were (api_row (api_of g) x) (api_changes (api_of g) x.body plain))
+      (λ off. record { named = were; wishes = refl })
 
   -- along steps of the shell's host that aren't requests
   pub named_since : (start : Start) (later log : List HostStep) → Each (λ (e : HostStep). is_request e.step.taken.body ≡ false) later → AreNamed (opened_in (after start 0 log))

@@ -1,7 +1,6 @@
 -- An operation of a transaction that takes commands is answered, or refused for want of room or of time, or waits for a lock.
 use Rattle.std.proofs.Common.{◌≡◌, ◌⊎◌, ◌<◌, ℕ, List, [], ◌∷◌, ◌++◌, sym, subst, inl, inr, arith}
 use Rattle.std.specs.Prelude.{Option, Some}
-use Rattle.world_core.specs.Steps.{HostStep}
 use Rattle.sig_core.specs.declared.member.TxId.{TxId}
 use Rattle.sig_core.specs.declared.op.Op.{Op}
 use Rattle.sig_core.specs.declared.reply.ApiReply.TheVariants.{Answered}
@@ -9,25 +8,26 @@ use Rattle.sig_core.specs.declared.request.ApiReq.TheVariants.{Operate}
 use Rattle.api_block.specs.declared.opened.Doing.{Doing}
 use Rattle.api_block.specs.declared.opened.Doing.TheVariants.{Operating, Ready}
 use Rattle.api_block.specs.declared.opened.OpenTransaction.{OpenTransaction}
+use Rattle.node_core.specs.Blocks.{api_of}
+use Rattle.world_core.specs.Hosts.{home}
 use Rattle.world_core.specs.Machine.{after, step_after}
 use Rattle.world_core.specs.Start.{Start}
-use Rattle.answer_laws.specs.Answered.{EachIsAnswered, IsOpenAt, WaitsForLock, is_answered_by, opened_after, opened_in}
+use Rattle.world_core.specs.Steps.{HostStep}
+use Rattle.run_laws.proofs.AlongSteps.{live_tx}
+use Rattle.answer_laws.specs.Answered.{EachIsAnswered, IsOpenAt, WaitsForLock, is_answered_by}
+use Rattle.host_laws.specs.Opened.{opened_after, opened_in}
 use Rattle.command_laws.proofs.Committed.{sent_append}
 use Rattle.command_laws.proofs.EarlySteps.{IsOpenNow, OpenOption, is_wish_to}
 use Rattle.command_laws.proofs.EndsWell.{ended_well, replied}
 use Rattle.command_laws.proofs.Entries.{HasOne}
+use Rattle.command_laws.proofs.EntryGoes.{HasAnswered, HasEnded, operate_goes}
 use Rattle.command_laws.proofs.First.{IsFirst, first_step, request_first}
+use Rattle.command_laws.proofs.HostSteps.{api_seen}
 use Rattle.command_laws.proofs.OperateAsks.{AreNamed, IsAskedFor, named_since, operate_first}
 use Rattle.command_laws.proofs.ReadyAtQuiet.{named_at, ready_open}
 use Rattle.command_laws.proofs.Since.{sent_since}
 use Rattle.command_laws.proofs.TellsSince.{OnTc}
-use Rattle.command_laws.proofs.WaitRows.{in_live}
 use Rattle.command_laws.specs.Served.{IsAnsweredAs, IsRefusedAs, IsServed, OperationsAreAnswered, StillWaits, named_in}
-use Rattle.command_laws.proofs.Homes.{sound_at}
-use Rattle.world_core.specs.Hosts.{home}
-use Rattle.command_laws.proofs.HostSteps.{api_seen}
-use Rattle.node_core.specs.Blocks.{api_of, tc_of}
-use Rattle.command_laws.proofs.EntryGoes.{HasAnswered, HasEnded, operate_goes}
 
 module _ (answered : EachIsAnswered) (start : Start) (was now : ℕ → List HostStep) (name : ℕ) (op : Op) (t : OpenTransaction) (tx : TxId) (served : IsServed start was now (Operate (Some name) op))
     (named : named_in (opened_after start was) name ≡ Some t) (ready : t.doing ≡ Ready) (own : t.tx ≡ Some tx) (few : t.operations < 64) where
@@ -38,7 +38,8 @@ module _ (answered : EachIsAnswered) (start : Start) (was now : ℕ → List Hos
   were = named_at start was served.before name t tx named own
 
   asked : IsAskedFor tx name (api_seen (step_after start 0 (was 0) f.first))
-  asked = subst (IsAskedFor tx name) (sym (first_step start was now (Operate (Some name) op) f)) (operate_first (api_of (after start 0 (was 0))) name op t tx named ready own few were)
+  asked = subst (IsAskedFor tx name) (sym (first_step start was now (Operate (Some name) op) f))
+      (operate_first (api_of (after start 0 (was 0))) name op t tx named ready own few were)
 
   is_open : IsOpenAt tx (after start (home start tx) (was (home start tx)))
   is_open = ready_open start was served.before name t tx named own answered ready
@@ -46,7 +47,7 @@ module _ (answered : EachIsAnswered) (start : Start) (was now : ℕ → List Hos
   open_was : (h : ℕ) → home start tx ≡ h → OnTc (IsOpenNow tx) (after start h (was h))
   open_was h at =
       let o : IsOpenAt tx (after start h (was h)) = subst (λ k. IsOpenAt tx (after start k (was k))) at is_open in
-      record { open_now = subst OpenOption (sym (in_live tx o.transaction (tc_of (after start h (was h))).live o.live (sound_at start tx h (was h)).few)) o.phase }
+      record { open_now = subst OpenOption (sym (live_tx start tx h (was h) o.transaction o.live)) o.phase }
 
   -- nobody wishes for its commit or abort
   no_wishes : sent_since start (is_wish_to tx) 0 (f.later ++ f.first ∷ []) (was 0) ≡ 0

@@ -12,9 +12,9 @@ use Rattle.sig_core.specs.Same.{same_tx}
 use Rattle.tc_block.specs.declared.transaction.Transaction.{Transaction}
 use Rattle.tc_block.specs.State.{TcState}
 use Rattle.sig_core.proofs.Keys.{same_tx-self}
-use Rattle.answer_laws.proofs.SendKinds.{are_of}
-use Rattle.answer_laws.proofs.TcSends.{tx_in}
-use Rattle.answer_laws.proofs.TurnKinds.{OwnKinds, TurnOnly, own_forms}
+use Rattle.host_laws.proofs.SendKinds.{are_of}
+use Rattle.host_laws.proofs.TcSends.{tx_in}
+use Rattle.host_laws.proofs.TurnKinds.{OwnKinds, TurnOnly, own_forms}
 use Rattle.command_laws.proofs.Turns.{turn_at, turn_by}
 
 -- what a coordinator sends of the transaction

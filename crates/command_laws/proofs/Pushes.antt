@@ -2,46 +2,46 @@
 use Rattle.std.proofs.Common.{◌≡◌, ℕ, suc, Bool, true, false, List, [], ◌∷◌, ◌++◌, refl, sym, ap, ◌∙◌, subst, arith}
 use Rattle.std.specs.Prelude.{Option}
 use Rattle.run_theory.specs.Lists.{Each}
-use Rattle.world_core.specs.Steps.{HostStep}
 use Rattle.sig_core.specs.declared.member.TxId.{TxId}
 use Rattle.sig_core.specs.declared.outs.Outgoing.{Outgoing}
 use Rattle.sig_core.specs.declared.place.Place.{Place}
 use Rattle.sig_core.specs.declared.signal.Body.{Body}
 use Rattle.sig_core.specs.declared.signal.Body.TheVariants.{Client}
 use Rattle.sig_core.specs.declared.signal.client.ClientSignal.TheVariants.{TcBeginReq, TcKeyReq, TcCommitReq, TcRollbackReq, TcWaitReq}
+use Rattle.sig_core.specs.declared.signal.Signal.{Signal}
 use Rattle.sig_core.specs.Step.{Step}
+use Rattle.api_block.specs.Api.{api_row}
 use Rattle.api_block.specs.declared.opened.OpenTransaction.{OpenTransaction}
 use Rattle.api_block.specs.Opened.{begins, is_beginning, same_name}
 use Rattle.api_block.specs.State.{ApiState}
 use Rattle.lqh_block.specs.Lqh.{lqh_table}
+use Rattle.node_core.proofs.HostCases.{of_effects}
+use Rattle.node_core.specs.Blocks.{api_of, dih_of, has_api, lqh_of, tc_of}
 use Rattle.node_core.specs.declared.host.Host as host
 use Rattle.node_core.specs.Dih.{dih_table}
 use Rattle.node_core.specs.Requests.{is_request}
 use Rattle.node_core.specs.Row.{row}
 use Rattle.tc_block.specs.State.{TcState}
 use Rattle.tc_block.specs.Tc.{begin_if, begin_row, is_full, tc_table}
+use Rattle.world_core.proofs.HostNumbers.{api_runs}
 use Rattle.world_core.specs.Machine.{after, step_after}
 use Rattle.world_core.specs.Start.{Start}
-use Rattle.answer_laws.proofs.ApiBegins.{each_at, each_changed, each_less}
-use Rattle.answer_laws.proofs.DihSends.{dih_kinds}
-use Rattle.answer_laws.proofs.LqhSends.{lqh_kinds}
-use Rattle.answer_laws.proofs.SendKinds.{are_of, is_dih_kind, is_lqh_kind, is_tc_kind, none_of, of_kind}
-use Rattle.answer_laws.proofs.TcSends.{tc_kinds, tx_in}
-use Rattle.answer_laws.proofs.Wishes.{is_tc, sends_of}
-use Rattle.answer_laws.specs.Answered.{opened_in}
+use Rattle.world_core.specs.Steps.{HostStep}
+use Rattle.host_laws.proofs.ApiBegins.{each_at, each_changed, each_less}
+use Rattle.host_laws.proofs.DihSends.{dih_kinds}
+use Rattle.host_laws.proofs.LqhOps.{left_of}
+use Rattle.host_laws.proofs.LqhSends.{lqh_kinds}
+use Rattle.host_laws.proofs.SendKinds.{are_of, is_dih_kind, is_lqh_kind, is_tc_kind, none_of, of_kind}
+use Rattle.host_laws.proofs.TcSends.{tc_kinds, tx_in}
+use Rattle.host_laws.proofs.Wishes.{is_tc, sends_of}
+use Rattle.host_laws.specs.Opened.{opened_in}
 use Rattle.command_laws.proofs.ApiChanges.{ApiChange, answers, api_changes, commits, ends, is_news_kind, refuses, rests, starts, waits}
 use Rattle.command_laws.proofs.Entries.{NoneBegins}
 use Rattle.command_laws.proofs.FirmHosts.{is_push_to, push_of}
-use Rattle.command_laws.proofs.Since.{sent_since}
-use Rattle.answer_laws.proofs.LqhOps.{left_of}
-use Rattle.command_laws.proofs.Tests.{and_off}
-use Rattle.api_block.specs.Api.{api_row}
-use Rattle.sig_core.specs.declared.signal.Signal.{Signal}
-use Rattle.node_core.proofs.HostCases.{of_effects}
-use Rattle.node_core.specs.Blocks.{api_of, dih_of, has_api, lqh_of, tc_of}
 use Rattle.command_laws.proofs.HostKinds.{node_runs_none}
 use Rattle.command_laws.proofs.HostSteps.{api_host}
-use Rattle.world_core.proofs.HostNumbers.{api_runs}
+use Rattle.command_laws.proofs.Since.{sent_since}
+use Rattle.command_laws.proofs.Tests.{and_off}
 
 -- all but what the API asks coordinators for
 abbrev pub is_node_kind : Body → Bool
@@ -89,8 +89,10 @@ host_sends_node : (g : host.Host) (x : Signal) → has_api g ≡ false → are_o
 host_sends_node g x none = of_effects (λ f. are_of is_node_kind f.sends ≡ true) g x refl (record {
   api = λ runs at. absurd (let both : true ≡ false = sym runs ∙ none in cc);
   tc = λ runs at. tc_sends_node (tc_of g) x.body;
-  dih = λ runs at. of_kind is_dih_kind is_node_kind dih_is_node (dih_table (dih_of g) x.body).effects.sends (dih_kinds (dih_of g) x.body);
-  rows = λ runs at. of_kind is_lqh_kind is_node_kind lqh_is_node (lqh_table (lqh_of g) x.body).effects.sends (lqh_kinds (lqh_of g) x.body);
+  dih = λ runs at. of_kind is_dih_kind is_node_kind dih_is_node (dih_table (dih_of g) x.body).effects.sends
+      (dih_kinds (dih_of g) x.body);
+  rows = λ runs at. of_kind is_lqh_kind is_node_kind lqh_is_node (lqh_table (lqh_of g) x.body).effects.sends
+      (lqh_kinds (lqh_of g) x.body);
 })
 
 -- so of what no node sends none is sent by a node's host
@@ -98,8 +100,13 @@ pub node_since : (start : Start) (test : Place → Body → Bool) → ((to : Pla
     → sent_since start test (suc h) newer log ≡ 0
 node_since start test fails h [] log = refl
 node_since start test fails h (e ∷ newer) log =
-    let here = host_sends_node (after start (suc h) (newer ++ log)) e.step.taken (node_runs_none start h (newer ++ log)) in
-    omega (arith, node_since start test fails h newer log, none_of is_node_kind test fails (step_after start (suc h) (newer ++ log) e).effects.sends here)
+    let here = host_sends_node (after start (suc h) (newer ++ log)) e.step.taken
+    (node_runs_none start h (newer ++ log)) in
+    omega (
+      arith,
+      node_since start test fails h newer log,
+      none_of is_node_kind test fails (step_after start (suc h) (newer ++ log) e).effects.sends here,
+    )
 
 no_push_node : (tx : TxId) (to : Place) (body : Body) → is_node_kind body ≡ true → is_push_to tx to body ≡ false
 no_push_node tx to (Client (TcKeyReq one op)) e = cc
@@ -129,7 +136,7 @@ module _ (tx : TxId) where
     pub pushes : sends_of (is_push_to tx) sends ≡ 0
 
   module _ (s : ApiState) (body : Body) (calm : NoneBegins s.opened) where
-    change_calm : (step : Step ApiState) → ApiChange s body step → KeepsCalm step.state.opened step.effects.sends
+    pub change_calm : (step : Step ApiState) → ApiChange s body step → KeepsCalm step.state.opened step.effects.sends
     change_calm step (rests is adds kind) = record { calm = subst NoneBegins (sym is) calm; pushes = none_of is_news_kind (is_push_to tx) no_push_news step.effects.sends kind }
     change_calm step (waits one ahead at about is replies sends) = record {
       calm = subst NoneBegins (sym is) (each_changed (λ (t : OpenTransaction). is_beginning t.doing ≡ false) at.front at.t _ at.back s.opened at.is calm (λ before. before));
@@ -154,10 +161,12 @@ module _ (tx : TxId) where
         absurd (let off : false ≡ true = sym (each_at (λ (t : OpenTransaction). is_beginning t.doing ≡ false) at.front at.t at.back s.opened at.is calm)
         ∙ left_of (is_beginning at.t.doing) (same_name at.t.name called) passes in cc)
 
-  host_calm : (g : host.Host) (x : Signal) → has_api g ≡ true → is_request x.body ≡ false → NoneBegins (opened_in g) → KeepsCalm (opened_in (row g x).state) (row g x).effects.sends
+  host_calm : (g : host.Host) (x : Signal) → has_api g ≡ true → is_request x.body ≡ false → NoneBegins (opened_in g)
+      → KeepsCalm (opened_in (row g x).state) (row g x).effects.sends
   host_calm g x has plain calm =
       api_host (λ (step : Step ApiState). KeepsCalm step.state.opened step.effects.sends) g x has
-      (λ at. change_calm (api_of g) x.body calm (api_row (api_of g) x) (api_changes (api_of g) x.body plain)) (λ off. record { calm = calm; pushes = refl })
+      (λ at. change_calm (api_of g) x.body calm (api_row (api_of g) x) (api_changes (api_of g) x.body plain))
+      (λ off. record { calm = calm; pushes = refl })
 
   -- along steps of the shell's host that aren't requests
   pub calm_since : (start : Start) (later log : List HostStep) → Each (λ (e : HostStep). is_request e.step.taken.body ≡ false) later → NoneBegins (opened_in (after start 0 log))

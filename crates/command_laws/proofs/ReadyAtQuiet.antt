@@ -1,26 +1,27 @@
 -- A transaction of a name that takes commands, at quiet: it alone has its number, and it is open at its coordinator.
 use Rattle.std.proofs.Common.{◌≡◌, ℕ, true, List, sym, ap, ◌∙◌, subst, arith}
 use Rattle.std.specs.Prelude.{Option, Some, is_some}
-use Rattle.run_theory.specs.Lists.{IsIn}
 use Rattle.run_theory.proofs.Pasts.{each_from}
-use Rattle.world_core.specs.Steps.{HostStep}
+use Rattle.run_theory.specs.Lists.{IsIn}
+use Rattle.sig_core.proofs.Keys.{same_tx-self}
 use Rattle.sig_core.specs.declared.member.TxId.{TxId}
 use Rattle.api_block.specs.declared.opened.Doing.{Doing}
 use Rattle.api_block.specs.declared.opened.Doing.TheVariants.{Ready}
 use Rattle.api_block.specs.declared.opened.OpenTransaction.{OpenTransaction}
 use Rattle.api_block.specs.Opened.{has_tx, is_tx}
+use Rattle.world_core.specs.Hosts.{home}
 use Rattle.world_core.specs.Machine.{after}
 use Rattle.world_core.specs.Start.{Start}
-use Rattle.answer_laws.proofs.ApiBegins.{in_middle}
+use Rattle.world_core.specs.Steps.{HostStep}
+use Rattle.host_laws.proofs.Tally.{only_one}
+use Rattle.host_laws.proofs.ApiBegins.{in_middle}
 use Rattle.answer_laws.proofs.Lives.{holds_at, once_started}
-use Rattle.commit_laws.proofs.Tally.{only_one}
-use Rattle.answer_laws.specs.Answered.{AreQuiet, EachIsAnswered, IsOpenAt, is_answered_by, opened_after}
+use Rattle.answer_laws.specs.Answered.{AreQuiet, EachIsAnswered, IsOpenAt, is_answered_by}
+use Rattle.host_laws.specs.Opened.{opened_after}
 use Rattle.command_laws.proofs.Committed.{calm_at}
 use Rattle.command_laws.proofs.Entries.{IsNamed, named_found}
 use Rattle.command_laws.proofs.OperateAsks.{AreNamed}
-use Rattle.sig_core.proofs.Keys.{same_tx-self}
 use Rattle.command_laws.specs.Served.{named_in}
-use Rattle.world_core.specs.Hosts.{home}
 
 -- one that takes commands is open
 pub opens : (start : Start) (logs : ℕ → List HostStep) (tx : TxId) (doing : Doing) (o : Option TxId) → doing ≡ Ready → o ≡ Some tx → is_answered_by start logs doing o → IsOpenAt tx (after start (home start tx) (logs (home start tx)))

@@ -1,11 +1,11 @@
 -- An end that is reported and is no abort is a commit, which is replied and marked.
 use Rattle.std.proofs.Common.{◌≡◌, ℕ, true, false, List, [], ◌∷◌, ◌++◌, refl, sym, ap, ◌∙◌, subst, inl, append_assoc}
 use Rattle.std.specs.Prelude.{Option, Some, drop, length}
-use Rattle.run_theory.specs.Lists.{Each, IsIn, IsPast}
-use Rattle.run_theory.specs.Logs.{IsLog}
 use Rattle.run_theory.proofs.Links.{log_after}
 use Rattle.run_theory.proofs.Pasts.{each_in, past_trans}
-use Rattle.world_core.specs.Steps.{HostStep}
+use Rattle.run_theory.specs.Lists.{Each, IsIn, IsPast}
+use Rattle.run_theory.specs.Logs.{IsLog}
+use Rattle.sig_core.proofs.Keys.{same_tx-self}
 use Rattle.sig_core.specs.declared.mark.Mark.TheVariants.{Reported}
 use Rattle.sig_core.specs.declared.member.TxId.{TxId}
 use Rattle.sig_core.specs.declared.outcome.AbortCause.{AbortCause}
@@ -20,14 +20,14 @@ use Rattle.node_core.specs.Replies.{replies_of}
 use Rattle.node_core.specs.Requests.{is_request}
 use Rattle.world_core.specs.Machine.{after, machine}
 use Rattle.world_core.specs.Start.{Start}
-use Rattle.answer_laws.proofs.ApiBegins.{in_middle}
+use Rattle.world_core.specs.Steps.{HostStep}
+use Rattle.host_laws.proofs.ApiBegins.{in_middle}
 use Rattle.answer_laws.specs.Answered.{AreQuiet}
 use Rattle.command_laws.proofs.ApiChanges.{outcome_in}
+use Rattle.command_laws.proofs.EntryGoes.{HasEnded}
 use Rattle.command_laws.proofs.FirmHosts.{back_of}
 use Rattle.command_laws.proofs.Told.{told_since}
-use Rattle.sig_core.proofs.Keys.{same_tx-self}
 use Rattle.command_laws.specs.Served.{IsMarked, replies_since}
-use Rattle.command_laws.proofs.EntryGoes.{HasEnded}
 
 abbrev pub OutcomeOf : Type 0
 OutcomeOf = TxId × Outcome

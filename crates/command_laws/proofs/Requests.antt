@@ -1,15 +1,15 @@
 -- Each request is answered.
 use Rattle.std.proofs.Common.{◌⊎◌, ℕ, List, inl, inr}
 use Rattle.std.specs.Prelude.{None, Some}
-use Rattle.world_core.specs.Steps.{HostStep}
 use Rattle.sig_core.specs.declared.op.Op.{Op}
 use Rattle.sig_core.specs.declared.request.ApiReq.{ApiReq}
 use Rattle.sig_core.specs.declared.request.ApiReq.TheVariants as request
 use Rattle.world_core.specs.Start.{Start}
+use Rattle.world_core.specs.Steps.{HostStep}
 use Rattle.answer_laws.proofs.Answers.{each_answered}
 use Rattle.command_laws.proofs.AbortAnswered.{aborts_answered}
-use Rattle.command_laws.proofs.Committed.{commits_committed}
 use Rattle.command_laws.proofs.ComesTo.{commits_come_to, operations_come_to}
+use Rattle.command_laws.proofs.Committed.{commits_committed}
 use Rattle.command_laws.proofs.HeldUp.{each_held_up}
 use Rattle.command_laws.proofs.HoldersTold.{holders_told}
 use Rattle.command_laws.proofs.LoneAnswered.{lone_answered}

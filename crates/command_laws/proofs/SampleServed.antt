@@ -2,6 +2,10 @@
 use Rattle.std.proofs.Common.{◌≡◌, ℕ, zero, suc, ◌≤◌, [], ◌∷◌, false, refl, sym, ap, inl, arith}
 use Rattle.std.proofs.lemmas.Bool.Decides.{nat_tests}
 use Rattle.std.specs.Prelude.{◌==◌, Some}
+use Rattle.run_theory.specs.Cuts.{IsCut}
+use Rattle.run_theory.specs.Links.{sent, taken}
+use Rattle.run_theory.specs.Logs.{IsLog}
+use Rattle.sig_core.specs.declared.request.ApiReq.TheVariants.{Begin, Commit}
 use Rattle.api_block.specs.Api.{request_row}
 use Rattle.api_block.specs.Commands as api
 use Rattle.api_block.specs.Members.{everyone}
@@ -9,29 +13,59 @@ use Rattle.api_block.specs.Operate.{begun_row}
 use Rattle.api_block.specs.Outcome.{commit_report_row}
 use Rattle.lqh_block.specs.Wait.{acknowledged}
 use Rattle.node_core.specs.Dih as dih
-use Rattle.run_theory.specs.Cuts.{IsCut}
-use Rattle.run_theory.specs.Links.{sent, taken}
-use Rattle.run_theory.specs.Logs.{IsLog}
-use Rattle.sig_core.specs.declared.request.ApiReq.TheVariants.{Begin, Commit}
+use Rattle.node_core.specs.Fresh.{fresh_part, fresh_shell}
+use Rattle.node_core.specs.Row.{ldm_row, row, shell_row, tc_part_row}
 use Rattle.tc_block.specs.Commit as tc_commit
 use Rattle.tc_block.specs.Complete.{all_committed}
 use Rattle.tc_block.specs.Live.{without}
 use Rattle.tc_block.specs.Tc as tc
+use Rattle.world_core.specs.Hosts.{receiver, started}
 use Rattle.world_core.specs.Machine.{machine}
 use Rattle.answer_laws.proofs.SampleQuiet.{sample_quiet}
 use Rattle.answer_laws.specs.Answered.{AreQuiet}
 use Rattle.answer_laws.specs.Sample.{lone, sample}
 use Rattle.command_laws.specs.Sample.{SampleIsServed, committed}
 use Rattle.command_laws.specs.Served.{named_in}
-use Rattle.world_core.specs.Hosts.{receiver, started}
-use Rattle.node_core.specs.Row.{ldm_row, row, shell_row, tc_part_row}
-use Rattle.node_core.specs.Fresh.{fresh_part, fresh_shell}
 
 local : (h : ℕ) → IsLog (machine lone) h (committed h)
 unfolding receiver started row shell_row request_row api.begin_row api.commit_row begun_row commit_report_row everyone tc_part_row ldm_row tc.begin_row fresh_shell fresh_part tc_commit.decide_row tc_commit.commit_row all_committed without dih.decide_row dih.end_row acknowledged
-local zero = (record { at = refl; stamped = refl; runs = refl; fits = record { marks = refl; asked = tt } }, (record { at = refl; stamped = refl; runs = refl; fits = record { marks = refl; asked = record { request = Commit 7; shell = refl; is = refl } } }, (record { at = refl; stamped = refl; runs = refl; fits = record { marks = refl; asked = tt } }, (record { at = refl; stamped = refl; runs = tt; fits = record { marks = refl; asked = record { request = Begin 7 (Some 1); shell = refl; is = refl } } }, tt))))
+local zero = (
+  record { at = refl; stamped = refl; runs = refl; fits = record { marks = refl; asked = tt } },
+  (
+    record {
+      at = refl;
+      stamped = refl;
+      runs = refl;
+      fits = record { marks = refl; asked = record { request = Commit 7; shell = refl; is = refl } };
+    },
+    (
+      record { at = refl; stamped = refl; runs = refl; fits = record { marks = refl; asked = tt } },
+      (
+        record {
+          at = refl;
+          stamped = refl;
+          runs = tt;
+          fits = record { marks = refl; asked = record { request = Begin 7 (Some 1); shell = refl; is = refl } };
+        },
+        tt,
+      ),
+    ),
+  ),
+)
 local (suc zero) = tt
-local (suc (suc zero)) = (record { at = refl; stamped = refl; runs = refl; fits = record { marks = refl; asked = tt } }, (record { at = refl; stamped = refl; runs = refl; fits = record { marks = refl; asked = tt } }, (record { at = refl; stamped = refl; runs = refl; fits = record { marks = refl; asked = tt } }, (record { at = refl; stamped = refl; runs = refl; fits = record { marks = refl; asked = tt } }, (record { at = refl; stamped = refl; runs = tt; fits = record { marks = refl; asked = tt } }, tt)))))
+local (suc (suc zero)) = (
+  record { at = refl; stamped = refl; runs = refl; fits = record { marks = refl; asked = tt } },
+  (
+    record { at = refl; stamped = refl; runs = refl; fits = record { marks = refl; asked = tt } },
+    (
+      record { at = refl; stamped = refl; runs = refl; fits = record { marks = refl; asked = tt } },
+      (
+        record { at = refl; stamped = refl; runs = refl; fits = record { marks = refl; asked = tt } },
+        (record { at = refl; stamped = refl; runs = tt; fits = record { marks = refl; asked = tt } }, tt),
+      ),
+    ),
+  ),
+)
 local (suc (suc (suc zero))) = (record { at = refl; stamped = refl; runs = tt; fits = record { marks = refl; asked = tt } }, tt)
 local (suc (suc (suc (suc h)))) = tt
 
@@ -41,7 +75,9 @@ linked zero zero = refl
 linked zero (suc zero) = refl
 linked zero (suc (suc zero)) = refl
 linked zero (suc (suc (suc zero))) = refl
-linked zero (suc (suc (suc (suc j)))) = let tc_off : (2 == suc (suc (suc (suc j)))) ≡ false = grind (arith, nat_tests) in let rows_off : (3 == suc (suc (suc (suc j)))) ≡ false = grind (arith, nat_tests) in rw tc_off (rw rows_off refl)
+linked zero (suc (suc (suc (suc j)))) = let tc_off : (2 == suc (suc (suc (suc j)))) ≡ false =
+    grind (arith, nat_tests) in let rows_off : (3 == suc (suc (suc (suc j)))) ≡ false = grind (arith, nat_tests) in
+    rw tc_off (rw rows_off refl)
 linked (suc zero) zero = refl
 linked (suc zero) (suc zero) = refl
 linked (suc zero) (suc (suc zero)) = refl
@@ -51,7 +87,9 @@ linked (suc (suc zero)) zero = refl
 linked (suc (suc zero)) (suc zero) = refl
 linked (suc (suc zero)) (suc (suc zero)) = refl
 linked (suc (suc zero)) (suc (suc (suc zero))) = refl
-linked (suc (suc zero)) (suc (suc (suc (suc j)))) = let shell_off : (0 == suc (suc (suc (suc j)))) ≡ false = grind (arith, nat_tests) in let own_off : (2 == suc (suc (suc (suc j)))) ≡ false = grind (arith, nat_tests) in rw shell_off (rw own_off refl)
+linked (suc (suc zero)) (suc (suc (suc (suc j)))) = let shell_off : (0 == suc (suc (suc (suc j)))) ≡ false =
+    grind (arith, nat_tests) in let own_off : (2 == suc (suc (suc (suc j)))) ≡ false = grind (arith, nat_tests) in
+    rw shell_off (rw own_off refl)
 linked (suc (suc (suc zero))) zero = refl
 linked (suc (suc (suc zero))) (suc zero) = refl
 linked (suc (suc (suc zero))) (suc (suc zero)) = refl
@@ -59,7 +97,9 @@ linked (suc (suc (suc zero))) (suc (suc (suc zero))) = refl
 linked (suc (suc (suc zero))) (suc (suc (suc (suc j)))) = refl
 linked (suc (suc (suc (suc i)))) zero = let off : (2 == suc (suc (suc (suc i)))) ≡ false = grind (arith, nat_tests) in rw off refl
 linked (suc (suc (suc (suc i)))) (suc zero) = refl
-linked (suc (suc (suc (suc i)))) (suc (suc zero)) = let shell_off : (0 == suc (suc (suc (suc i)))) ≡ false = grind (arith, nat_tests) in let own_off : (2 == suc (suc (suc (suc i)))) ≡ false = grind (arith, nat_tests) in rw shell_off (rw own_off refl)
+linked (suc (suc (suc (suc i)))) (suc (suc zero)) = let shell_off : (0 == suc (suc (suc (suc i)))) ≡ false =
+    grind (arith, nat_tests) in let own_off : (2 == suc (suc (suc (suc i)))) ≡ false = grind (arith, nat_tests) in
+    rw shell_off (rw own_off refl)
 linked (suc (suc (suc (suc i)))) (suc (suc (suc zero))) = let off : (0 == suc (suc (suc (suc i)))) ≡ false = grind (arith, nat_tests) in rw off refl
 linked (suc (suc (suc (suc i)))) (suc (suc (suc (suc j)))) = refl
 

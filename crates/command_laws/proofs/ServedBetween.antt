@@ -4,17 +4,17 @@ use Rattle.std.proofs.Common.{◌≡◌, ◌⊎◌, ℕ, true, false, List, [], 
 use Rattle.std.proofs.lemmas.Bool.{false≢true}
 use Rattle.std.proofs.lemmas.List.{append-nil}
 use Rattle.std.specs.Prelude.{Option, None, Some, option_to_list}
+use Rattle.run_theory.proofs.Along.{within_cut}
+use Rattle.run_theory.proofs.Pasts.{each_after, past_self}
 use Rattle.run_theory.specs.Cuts.{IsCut}
 use Rattle.run_theory.specs.Lists.{IsPast}
 use Rattle.run_theory.specs.Runs.{AreLogs, IsWithin}
-use Rattle.run_theory.proofs.Along.{within_cut}
-use Rattle.run_theory.proofs.Pasts.{each_after, past_self}
-use Rattle.world_core.specs.Steps.{HostStep}
 use Rattle.sig_core.specs.declared.request.ApiReq.{ApiReq}
 use Rattle.sig_core.specs.declared.signal.Body.{Body}
 use Rattle.sig_core.specs.declared.signal.Body.TheVariants.{Host}
 use Rattle.sig_core.specs.declared.signal.host.HostSignal.TheVariants.{Continue}
 use Rattle.sig_core.specs.declared.signal.host.Work.TheVariants.{Request}
+use Rattle.frag_map.specs.Shape.{IsShape}
 use Rattle.node_core.specs.Requests.{is_request}
 use Rattle.world_core.proofs.Stamped.{stamped}
 use Rattle.world_core.specs.Hosts.{hosts}
@@ -22,11 +22,11 @@ use Rattle.world_core.specs.Machine.{machine}
 use Rattle.world_core.specs.Quiet.{IsQuiet}
 use Rattle.world_core.specs.Requests.{AreAskedAtQuiet, QuietBefore, request_in, requests}
 use Rattle.world_core.specs.Start.{Start}
+use Rattle.world_core.specs.Steps.{HostStep}
 use Rattle.answer_laws.specs.Answered.{AreQuiet}
 use Rattle.command_laws.proofs.First.{fits_asked, no_requests, requests_append}
 use Rattle.command_laws.proofs.QuietCuts.{IsAskedAtFirst, quiet_cut}
 use Rattle.command_laws.specs.Between.{IsAskedAgain, IsServedIn, RequestsAreServed}
-use Rattle.frag_map.specs.Shape.{IsShape}
 
 -- what brings a request is a step that a request makes
 asks_it : (body : Body) (request : ApiReq) → request_in body ≡ Some request → is_request body ≡ true

@@ -1,27 +1,26 @@
 -- What was taken since a quiet moment was sent since.
 use Rattle.std.proofs.Common.{◌≡◌, ◌⊎◌, ◌<◌, ◌≤◌, ◌+◌, ℕ, Bool, true, false, List, [], ◌∷◌, ◌++◌, refl, sym, ap, ◌∙◌, inl, inr, arith}
-use Rattle.std.specs.Prelude.{◌==◌, ◌&&◌, not}
+use Rattle.std.proofs.lemmas.Bool.{cases_lt}
 use Rattle.std.proofs.lemmas.Bool.Decides.{nat_tests}
+use Rattle.std.specs.Prelude.{◌==◌, ◌&&◌, not}
+use Rattle.run_theory.proofs.Pasts.{each_from, each_in}
 use Rattle.run_theory.specs.Cuts.{IsCut}
 use Rattle.run_theory.specs.Links.{is_from, sent, taken}
 use Rattle.run_theory.specs.Lists.{Each, IsIn}
-use Rattle.run_theory.proofs.Pasts.{each_from, each_in}
-use Rattle.std.proofs.lemmas.Bool.{cases_lt}
-use Rattle.sig_core.specs.declared.outs.Outgoing.{Outgoing}
 use Rattle.sig_core.specs.declared.place.Place.{Place}
 use Rattle.sig_core.specs.declared.signal.Body.{Body}
 use Rattle.node_core.specs.Requests.{is_request}
+use Rattle.world_core.proofs.HostNumbers.{given_past}
+use Rattle.world_core.specs.Hosts.{hosts}
 use Rattle.world_core.specs.Machine.{machine, step_after}
 use Rattle.world_core.specs.Start.{Start}
-use Rattle.world_core.proofs.HostNumbers.{given_past}
-use Rattle.commit_laws.proofs.Tally.{tally_past}
-use Rattle.commit_laws.specs.Counts.{one_if, tally}
-use Rattle.answer_laws.proofs.Wishes.{sends_of}
-use Rattle.answer_laws.specs.Answered.{AreQuiet}
-use Rattle.transit_laws.proofs.Weighing.{none_passes}
-use Rattle.answer_laws.proofs.LinkCounts.{sent_signals, signals, taken_signals, to_host}
 use Rattle.world_core.specs.Steps.{Addressed, HostStep}
-use Rattle.world_core.specs.Hosts.{host_for, hosts}
+use Rattle.host_laws.proofs.LinkCounts.{sent_signals, signals, taken_signals, to_host, few_sends, steps, taken_steps}
+use Rattle.host_laws.proofs.Tally.{tally_past}
+use Rattle.host_laws.proofs.Wishes.{sends_of}
+use Rattle.host_laws.specs.Counts.{tally}
+use Rattle.run_laws.proofs.Weighing.{none_passes}
+use Rattle.answer_laws.specs.Answered.{AreQuiet}
 
 module _ (start : Start) (test : Place → Body → Bool) where
   -- how many signals that pass the test the newer steps of host h sent, behind its log
@@ -38,18 +37,10 @@ module _ (start : Start) (test : Place → Body → Bool) where
   abbrev pub taken_since : ℕ → List HostStep → ℕ
   taken_since i newer = tally (λ (e : HostStep). is_from (machine start) i e && test e.step.taken.to e.step.taken.body) newer
 
-  pub fewer : (j : ℕ) (sends : List Outgoing) → sends_of (to_host start j test) sends ≤ sends_of test sends
-  fewer j [] = omega arith
-  fewer j (o ∷ sends) = omega (arith, fewer j sends, less (host_for start o.to == j) (test o.to o.body))
-    where
-      less : (a b : Bool) → one_if (a && b) ≤ one_if b
-      less true b = omega arith
-      less false b = omega arith
-
   pub link_sent : (h j : ℕ) (newer log : List HostStep) → signals test (sent (machine start) h j (newer ++ log)) ≤ sent_since h newer log + signals test (sent (machine start) h j log)
   link_sent h j [] log = omega arith
   link_sent h j (e ∷ newer) log =
-      omega (arith, link_sent h j newer log, sent_signals start test h j e (newer ++ log), fewer j (step_after start h (newer ++ log) e).effects.sends)
+      omega (arith, link_sent h j newer log, sent_signals start test h j e (newer ++ log), few_sends start j test (step_after start h (newer ++ log) e).effects.sends)
 
   link_sent_to : (h j : ℕ) (newer log : List HostStep) → signals test (sent (machine start) h j (newer ++ log)) ≡ sent_since_to h j newer log + signals test (sent (machine start) h j log)
   link_sent_to h j [] log = omega arith
@@ -58,6 +49,14 @@ module _ (start : Start) (test : Place → Body → Bool) where
   link_taken : (i : ℕ) (newer log : List HostStep) → signals test (taken (machine start) i (newer ++ log)) ≡ taken_since i newer + signals test (taken (machine start) i log)
   link_taken i [] log = omega arith
   link_taken i (e ∷ newer) log = omega (arith, link_taken i newer log, taken_signals start test i e (newer ++ log))
+
+  -- that is what the links gave, and no more than was taken
+  pub taken_is : (i : ℕ) (newer : List HostStep) → taken_since i newer ≡ signals test (taken (machine start) i newer)
+  taken_is i [] = refl
+  taken_is i (e ∷ newer) = omega (arith, taken_is i newer, taken_signals start test i e newer)
+
+  pub taken_few : (i : ℕ) (newer : List HostStep) → taken_since i newer ≤ steps test newer
+  taken_few i newer = omega (arith, taken_is i newer, taken_steps start test i newer)
 
 pub front_nil : (newer log : List HostStep) → [] ≡ newer ++ log → newer ≡ []
 front_nil [] log is = refl
@@ -106,12 +105,14 @@ module _ (start : Start) (was now : ℕ → List HostStep) (before : AreQuiet st
         go true b p q = cc
 
     -- a host that isn't there sends nothing
-    pub none_sent : ((i : ℕ) → i < hosts start → sent_since start test i (newer_at i) (was i) ≡ 0) → (i : ℕ) → sent_since start test i (newer_at i) (was i) ≡ 0
+    pub none_sent : ((i : ℕ) → i < hosts start → sent_since start test i (newer_at i) (was i) ≡ 0) → (i : ℕ)
+        → sent_since start test i (newer_at i) (was i) ≡ 0
     none_sent none i = by (cases_lt i (hosts start))
       where
         by : (i < hosts start) ⊎ (hosts start ≤ i) → sent_since start test i (newer_at i) (was i) ≡ 0
         by (inl low) = none i low
-        by (inr high) = ap (λ newer. sent_since start test i newer (was i)) (front_nil (newer_at i) (was i) (sym (since.within i high) ∙ (cut i).is))
+        by (inr high) = ap (λ newer. sent_since start test i newer (was i))
+            (front_nil (newer_at i) (was i) (sym (since.within i high) ∙ (cut i).is))
 
     -- what no host has sent since then none has taken
     pub none_taken : ((i : ℕ) → i < hosts start → sent_since start test i (newer_at i) (was i) ≡ 0) → (j : ℕ)
@@ -137,3 +138,8 @@ module _ (start : Start) (was now : ℕ → List HostStep) (before : AreQuiet st
           link_sent_to start test i j (newer_at i) (was i),
           link_taken start test i (newer_at j) (was j),
         )
+
+    -- so what was sent to a host since then came to it
+    pub arrives : (i j : ℕ) → i < hosts start → j < hosts start → 1 ≤ sent_since_to start test i j (newer_at i) (was i)
+        → 1 ≤ steps test (newer_at j)
+    arrives i j under low some = omega (arith, some, all_arrive i j under low, taken_few start test i (newer_at j))

@@ -3,8 +3,9 @@ use Rattle.std.proofs.Common.{◌≡◌, ◌<◌, ◌≤◌, ◌+◌, Bool, true
 use Rattle.std.proofs.lemmas.List.{append-nil}
 use Rattle.std.specs.Prelude.{Option, None, Some, if◌then◌else◌}
 use Rattle.indexmap.specs.IndexMap.{insert_entry}
-use Rattle.run_theory.specs.Lists.{Each}
 use Rattle.run_theory.proofs.Pasts.{each_map}
+use Rattle.run_theory.specs.Lists.{Each}
+use Rattle.sig_core.proofs.Keys.{same_tx-self}
 use Rattle.sig_core.specs.declared.member.TxId.{TxId}
 use Rattle.sig_core.specs.declared.place.Place.{Place}
 use Rattle.sig_core.specs.declared.signal.Body.{Body}
@@ -18,19 +19,17 @@ use Rattle.tc_block.specs.Operate.{fresh}
 use Rattle.tc_block.specs.State.{TcState}
 use Rattle.tc_block.specs.Tc.{begun, next_tx, tc_table}
 use Rattle.tc_block.specs.Turn.{Turn}
-use Rattle.answer_laws.proofs.ApiMoves.{is_api_kind}
-use Rattle.answer_laws.proofs.SendKinds.{is_dih_kind, is_lqh_kind, none_of}
-use Rattle.commit_laws.proofs.Tally.{tally_append, tally_between}
-use Rattle.commit_laws.specs.Counts.{one_if, tally}
-use Rattle.answer_laws.proofs.TcLives.{IsOwn, apart, insert_new, is_keyed}
-use Rattle.answer_laws.proofs.TcMoves.{same_tx-is}
-use Rattle.answer_laws.proofs.TcSends.{tx_in}
-use Rattle.answer_laws.proofs.Wishes.{sends_of}
-use Rattle.transit_laws.specs.Live.{of_live}
+use Rattle.host_laws.proofs.Tally.{tally_append, tally_between}
+use Rattle.host_laws.specs.Counts.{one_if, tally}
+use Rattle.host_laws.proofs.SendKinds.{none_of}
+use Rattle.host_laws.proofs.TcLives.{IsOwn, apart, insert_new, is_keyed}
+use Rattle.host_laws.proofs.TcMoves.{same_tx-is}
+use Rattle.host_laws.proofs.TcSends.{tx_in}
+use Rattle.host_laws.proofs.Wishes.{sends_of}
+use Rattle.run_laws.specs.Live.{of_live}
+use Rattle.command_laws.proofs.HostSends.{IsOfTc, is_other_kind}
 use Rattle.command_laws.proofs.OwnSends.{is_own_kind, turn_own}
-use Rattle.sig_core.proofs.Keys.{same_tx-self}
 use Rattle.command_laws.proofs.Turns.{TakesTurn, TcShape, is_idle_kind, starts, still, tc_shape, turn_by, turns}
-use Rattle.command_laws.proofs.HostSends.{IsOfTc}
 
 -- what the coordinator tells the client of the transaction, once it has begun, and replicas of its abort
 abbrev pub told_of : TxId → Body → Bool
@@ -74,29 +73,15 @@ module _ (tx : TxId) where
   none_other one differs to (Chain (Abort other key)) e = apart tx one other differs e
   none_other one differs to _ e = refl
 
-  pub none_dih : (to : Place) (body : Body) → is_dih_kind body ≡ true → is_told tx to body ≡ false
-  none_dih to (Client (TcKeyConf other answer)) e = cc
-  none_dih to (Client (TcCommitConf other epoch)) e = cc
-  none_dih to (Client (TcRollbackRep other cause)) e = cc
-  none_dih to (Chain (Abort other key)) e = cc
-  none_dih to _ e = refl
-
-  pub none_lqh : (to : Place) (body : Body) → is_lqh_kind body ≡ true → is_told tx to body ≡ false
-  none_lqh to (Client (TcKeyConf other answer)) e = cc
-  none_lqh to (Client (TcCommitConf other epoch)) e = cc
-  none_lqh to (Client (TcRollbackRep other cause)) e = cc
-  none_lqh to (Chain (Abort other key)) e = cc
-  none_lqh to _ e = refl
-
-  pub none_api : (to : Place) (body : Body) → is_api_kind body ≡ true → is_told tx to body ≡ false
-  none_api to (Client (TcKeyConf other answer)) e = cc
-  none_api to (Client (TcCommitConf other epoch)) e = cc
-  none_api to (Client (TcRollbackRep other cause)) e = cc
-  none_api to (Chain (Abort other key)) e = cc
-  none_api to _ e = refl
-
   pub told_tc : IsOfTc (is_told tx)
-  told_tc = record { api = record { kinds = none_api; begins = λ name node. refl }; dih = none_dih; lqh = none_lqh }
+  told_tc = record { others = others; begins = λ name node. refl }
+    where
+      others : (to : Place) (body : Body) → is_other_kind body ≡ true → is_told tx to body ≡ false
+      others to (Client (TcKeyConf other answer)) e = cc
+      others to (Client (TcCommitConf other epoch)) e = cc
+      others to (Client (TcRollbackRep other cause)) e = cc
+      others to (Chain (Abort other key)) e = cc
+      others to _ e = refl
 
   -- the transaction behind others
   behind_none : (xs ys : List (TxId × Transaction)) → tally (is_keyed tx) xs ≡ 0 → of_live tx (xs ++ ys) ≡ of_live tx ys

@@ -2,37 +2,37 @@
 use Rattle.std.proofs.Common.{◌≡◌, ◌⊎◌, ◌<◌, ◌≤◌, ◌+◌, ℕ, zero, suc, Bool, true, false, List, [], ◌∷◌, refl, sym, ap, ◌∙◌, subst, inl, inr, arith}
 use Rattle.std.specs.Prelude.{◌==◌, ◌&&◌, Option, None, Some, if◌then◌else◌}
 use Rattle.run_theory.specs.Lists.{Each}
+use Rattle.sig_core.proofs.Keys.{same_tx-self}
 use Rattle.sig_core.specs.declared.member.TxId.{TxId}
 use Rattle.sig_core.specs.declared.outs.Outgoing.{Outgoing}
 use Rattle.sig_core.specs.declared.place.Place.{Place}
 use Rattle.sig_core.specs.declared.signal.Body.{Body}
 use Rattle.sig_core.specs.declared.signal.Body.TheVariants.{Client}
 use Rattle.sig_core.specs.declared.signal.client.ClientSignal.TheVariants.{TcKeyConf, TcKeyReq, TcRollbackRep, TcRollbackReq}
+use Rattle.sig_core.specs.declared.signal.Signal.{Signal}
 use Rattle.sig_core.specs.Same.{same_tx}
 use Rattle.sig_core.specs.Step.{Step}
+use Rattle.node_core.specs.Blocks.{tc_of}
+use Rattle.node_core.specs.declared.host.Host.{Host}
+use Rattle.node_core.specs.Row.{row}
 use Rattle.tc_block.specs.declared.transaction.Transaction.{Transaction}
 use Rattle.tc_block.specs.State.{TcState}
 use Rattle.tc_block.specs.Tc.{tc_row, tc_table}
 use Rattle.tc_block.specs.Turn.{Turn}
-use Rattle.answer_laws.proofs.SendKinds.{none_of}
-use Rattle.commit_laws.specs.Counts.{one_if, tally}
-use Rattle.answer_laws.proofs.TcKeys.{answer_of, is_asked, key_of_tx, tc_fair, is_key}
-use Rattle.answer_laws.proofs.TcLives.{IsOwn}
-use Rattle.answer_laws.proofs.TcMoves.{same_tx-is}
-use Rattle.answer_laws.proofs.TcSends.{tx_in}
-use Rattle.answer_laws.proofs.Wishes.{is_api, is_tc, sends_of}
-use Rattle.transit_laws.specs.Live.{of_live}
+use Rattle.host_laws.specs.Counts.{one_if, tally}
+use Rattle.host_laws.proofs.SendKinds.{none_of}
+use Rattle.host_laws.proofs.TcKeys.{answer_of, is_asked, key_of_tx, tc_fair, is_key}
+use Rattle.host_laws.proofs.TcLives.{IsOwn}
+use Rattle.host_laws.proofs.TcMoves.{same_tx-is}
+use Rattle.host_laws.proofs.TcSends.{tx_in}
+use Rattle.host_laws.proofs.Wishes.{is_api, is_tc, sends_of}
+use Rattle.run_laws.specs.Live.{of_live}
 use Rattle.command_laws.proofs.Firm.{firm_turn, is_firm, is_no_abort}
 use Rattle.command_laws.proofs.FirmHosts.{is_back, no_back_firm, not_push, push_of}
+use Rattle.command_laws.proofs.HostSteps.{tc_host}
 use Rattle.command_laws.proofs.TcPath.{IsSound, TcGoes, aside, begins, is_told, left_by, takes, tc_goes, told_of, told_tc}
 use Rattle.command_laws.proofs.Turns.{turn_by}
-use Rattle.sig_core.proofs.Keys.{same_tx-self}
 use Rattle.command_laws.proofs.TurnTells.{TurnTells, is_reply, turn_tells}
-use Rattle.sig_core.specs.declared.signal.Signal.{Signal}
-use Rattle.command_laws.proofs.HostSteps.{tc_host}
-use Rattle.node_core.specs.Row.{row}
-use Rattle.node_core.specs.Blocks.{tc_of}
-use Rattle.node_core.specs.declared.host.Host.{Host}
 
 -- where one test implies another, fewer signals pass it
 pub sends_less : (p q : Place → Body → Bool) → ((to : Place) (body : Body) → p to body ≡ true → q to body ≡ true) → (xs : List Outgoing) → sends_of p xs ≤ sends_of q xs
@@ -187,15 +187,21 @@ module _ (tx : TxId) where
         three = subst (λ i. IsOneOfThree i (r_more + r) s) (sym m) (subst (λ i. IsOneOfThree a i s) (sym n) has.three);
       }
 
-  pub host_tells : (g : Host) (x : Signal) → IsSound tx (tc_of g) → is_wish_back_to tx x.to x.body ≡ false → (asked keys a r : ℕ) → asked + (keys + one_if (is_key tx x.to x.body)) ≤ 1
+  pub host_tells : (g : Host) (x : Signal) → IsSound tx (tc_of g) → is_wish_back_to tx x.to x.body ≡ false
+      → (asked keys a r : ℕ) → asked + (keys + one_if (is_key tx x.to x.body)) ≤ 1
       → HasTold asked keys a r (tc_of g)
       → HasTold asked (keys + one_if (is_key tx x.to x.body)) (sends_of (is_reply tx) (row g x).effects.sends + a) (sends_of (is_back tx) (row g x).effects.sends + r) (tc_of (row g x).state)
   host_tells g x sound wish asked keys a r once has =
-      tc_host (λ (step : Step TcState). HasTold asked (keys + one_if (is_key tx x.to x.body)) (sends_of (is_reply tx) step.effects.sends + a) (sends_of (is_back tx) step.effects.sends + r) step.state) g x
-      (λ runs at. subst (λ of. HasTold asked (keys + one_if (is_tc of && key_of_tx tx x.body)) (sends_of (is_reply tx) (tc_row (tc_of g) x).effects.sends + a) (sends_of (is_back tx) (tc_row (tc_of g) x).effects.sends + r) (tc_row (tc_of g) x).state) (sym at)
-      (tc_next (tc_of g) x.body sound (ap (λ of. is_tc of && wish_back_of tx x.body) (sym at) ∙ wish) asked keys a r (subst (λ of. asked + (keys + one_if (is_tc of && key_of_tx tx x.body)) ≤ 1) at once) has))
+      tc_host (λ (step : Step TcState). HasTold asked (keys + one_if (is_key tx x.to x.body))
+      (sends_of (is_reply tx) step.effects.sends + a) (sends_of (is_back tx) step.effects.sends + r) step.state) g x
+      (λ runs at. subst (λ of. HasTold asked (keys + one_if (is_tc of && key_of_tx tx x.body))
+      (sends_of (is_reply tx) (tc_row (tc_of g) x).effects.sends + a)
+      (sends_of (is_back tx) (tc_row (tc_of g) x).effects.sends + r) (tc_row (tc_of g) x).state) (sym at)
+      (tc_next (tc_of g) x.body sound (ap (λ of. is_tc of && wish_back_of tx x.body) (sym at) ∙ wish) asked keys a r
+      (subst (λ of. asked + (keys + one_if (is_tc of && key_of_tx tx x.body)) ≤ 1) at once) has))
       (λ effects none off. at_rest effects.sends (none_told effects.sends (none (is_told tx) (told_tc tx))))
     where
       at_rest : (sends : List Outgoing) → (sends_of (is_reply tx) sends ≡ 0) × (sends_of (is_back tx) sends ≡ 0)
-          → HasTold asked (keys + one_if (is_key tx x.to x.body)) (sends_of (is_reply tx) sends + a) (sends_of (is_back tx) sends + r) (tc_of g)
+          → HasTold asked (keys + one_if (is_key tx x.to x.body)) (sends_of (is_reply tx) sends + a)
+          (sends_of (is_back tx) sends + r) (tc_of g)
       at_rest sends none = more_keys asked keys (one_if (is_key tx x.to x.body)) a r _ _ (tc_of g) none.0 none.1 has

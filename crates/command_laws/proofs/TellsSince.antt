@@ -1,28 +1,28 @@
 -- Along a log of its host, an operation of a transaction is answered or its abort is reported, and not both. Other hosts tell nothing of it.
 use Rattle.std.proofs.Common.{◌≡◌, ◌≢◌, ◌<◌, ◌≤◌, ◌+◌, ℕ, false, List, [], ◌∷◌, ◌++◌, refl, sym, subst, arith}
 use Rattle.run_theory.specs.Lists.{Each}
-use Rattle.world_core.specs.Steps.{HostStep}
 use Rattle.sig_core.specs.declared.member.TxId.{TxId}
 use Rattle.sig_core.specs.Step.{Step}
-use Rattle.tc_block.specs.State.{TcState}
-use Rattle.world_core.specs.Machine.{after, step_after}
-use Rattle.world_core.specs.Start.{Start}
-use Rattle.answer_laws.proofs.ApiMoves.{goes}
-use Rattle.answer_laws.proofs.LinkCounts.{steps}
-use Rattle.commit_laws.specs.Counts.{one_if}
-use Rattle.answer_laws.proofs.TcKeys.{is_key}
-use Rattle.answer_laws.proofs.Wishes.{sends_of}
-use Rattle.command_laws.proofs.FirmHosts.{is_back}
-use Rattle.command_laws.proofs.Since.{sent_since}
-use Rattle.command_laws.proofs.TurnTells.{is_reply}
-use Rattle.command_laws.proofs.TellsOnce.{HasTold, host_tells, is_wish_back_to, none_told}
-use Rattle.command_laws.proofs.TcPath.{TcGoes, aside, begins, is_told, takes, tc_goes, told_tc}
-use Rattle.command_laws.proofs.HostSteps.{tc_host}
-use Rattle.command_laws.proofs.HostSends.{shell_silent}
-use Rattle.command_laws.proofs.Homes.{lives_home, sound_at}
-use Rattle.world_core.specs.Hosts.{home, hosts}
 use Rattle.node_core.specs.Blocks.{tc_of}
 use Rattle.node_core.specs.declared.host.Host.{Host}
+use Rattle.tc_block.specs.State.{TcState}
+use Rattle.world_core.specs.Hosts.{home, hosts}
+use Rattle.world_core.specs.Machine.{after, step_after}
+use Rattle.world_core.specs.Start.{Start}
+use Rattle.world_core.specs.Steps.{HostStep}
+use Rattle.host_laws.specs.Counts.{one_if}
+use Rattle.host_laws.proofs.ApiMoves.{goes}
+use Rattle.host_laws.proofs.LinkCounts.{steps}
+use Rattle.host_laws.proofs.TcKeys.{is_key}
+use Rattle.host_laws.proofs.Wishes.{sends_of}
+use Rattle.command_laws.proofs.FirmHosts.{is_back}
+use Rattle.command_laws.proofs.Homes.{lives_home, sound_at}
+use Rattle.command_laws.proofs.HostSends.{not_of_api, shell_silent}
+use Rattle.command_laws.proofs.HostSteps.{tc_host}
+use Rattle.command_laws.proofs.Since.{sent_since}
+use Rattle.command_laws.proofs.TcPath.{TcGoes, aside, begins, is_told, takes, tc_goes, told_tc}
+use Rattle.command_laws.proofs.TellsOnce.{HasTold, host_tells, is_wish_back_to, none_told}
+use Rattle.command_laws.proofs.TurnTells.{is_reply}
 
 -- what holds of a host's coordinator
 abbrev pub OnTc : (TcState → Type 0) → Host → Type 0
@@ -51,19 +51,22 @@ module _ (start : Start) (tx : TxId) where
   away_since h low away [] log = refl
   away_since h low away (e ∷ newer) log = omega (arith, away_since h low away newer log, here)
     where
-      goes : {step : Step TcState} → TcGoes tx (tc_of (after start h (newer ++ log))) e.step.taken.body step → sends_of (is_told tx) step.effects.sends ≡ 0
+      goes : {step : Step TcState} → TcGoes tx (tc_of (after start h (newer ++ log))) e.step.taken.body step
+          → sends_of (is_told tx) step.effects.sends ≡ 0
       goes (aside same none more) = none
       goes (begins number now none more) = none
       goes (takes t same was sends left more) = absurd (away (lives_home start tx h (newer ++ log) low t was))
 
       here : sends_of (is_told tx) (step_after start h (newer ++ log) e).effects.sends ≡ 0
       here =
-          tc_host (λ (step : Step TcState). sends_of (is_told tx) step.effects.sends ≡ 0) (after start h (newer ++ log)) e.step.taken
-          (λ runs at. goes (tc_goes tx (tc_of (after start h (newer ++ log))) e.step.taken.body (sound_at start tx h (newer ++ log))))
+          tc_host (λ (step : Step TcState). sends_of (is_told tx) step.effects.sends ≡ 0)
+          (after start h (newer ++ log)) e.step.taken
+          (λ runs at. goes (tc_goes tx (tc_of (after start h (newer ++ log))) e.step.taken.body
+          (sound_at start tx h (newer ++ log))))
           (λ effects none off. none (is_told tx) (told_tc tx))
 
   pub shell_since : (newer log : List HostStep) → sent_since start (is_told tx) 0 newer log ≡ 0
-  shell_since newer log = shell_silent (is_told tx) (told_tc tx).api start newer log
+  shell_since newer log = shell_silent (is_told tx) (not_of_api (is_told tx) (told_tc tx)) start newer log
 
   -- what isn't told isn't answered, nor is the abort reported
   pub since_none : (h : ℕ) (newer log : List HostStep) → sent_since start (is_told tx) h newer log ≡ 0 → (sent_since start (is_reply tx) h newer log ≡ 0) × (sent_since start (is_back tx) h newer log ≡ 0)

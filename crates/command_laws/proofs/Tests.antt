@@ -1,10 +1,10 @@
 -- Tests put together.
 use Rattle.std.proofs.Common.{◌≡◌, Bool, true, false, refl}
 use Rattle.std.specs.Prelude.{◌&&◌}
-use Rattle.world_core.specs.Steps.{HostStep}
 use Rattle.sig_core.specs.declared.place.Place.{Place}
 use Rattle.sig_core.specs.declared.signal.Body.{Body}
 use Rattle.node_core.specs.Requests.{is_request}
+use Rattle.world_core.specs.Steps.{HostStep}
 
 pub and_off : (a : Bool) {b : Bool} → b ≡ false → (a && b) ≡ false
 and_off true p = p

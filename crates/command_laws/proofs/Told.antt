@@ -10,7 +10,7 @@ use Rattle.sig_core.specs.declared.reply.ApiReply.{ApiReply}
 use Rattle.world_core.proofs.Replies.{replies_grow}
 use Rattle.world_core.specs.Machine.{after}
 use Rattle.world_core.specs.Start.{Start}
-use Rattle.answer_laws.proofs.ApiBegins.{in_middle}
+use Rattle.host_laws.proofs.ApiBegins.{in_middle}
 
 in_rest : {A : Type 0} (xs before : List A) (x : A) (behind : List A) → IsIn x (drop (length xs) (((xs ++ before) ++ x ∷ []) ++ behind))
 in_rest xs before x behind =

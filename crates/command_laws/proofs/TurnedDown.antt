@@ -4,7 +4,6 @@ use Rattle.std.proofs.lemmas.Bool.Decides.{nat_tests}
 use Rattle.std.specs.Prelude.{drop, length, nat_lt, position, slice_get, Option, None, Some}
 use Rattle.run_theory.proofs.Pasts.{past_self}
 use Rattle.run_theory.specs.Lists.{IsIn}
-use Rattle.world_core.specs.Steps.{HostStep}
 use Rattle.sig_core.specs.declared.member.TxId.{TxId}
 use Rattle.sig_core.specs.declared.op.Op.{Op}
 use Rattle.sig_core.specs.declared.reply.ApiReply.TheVariants.{Refused}
@@ -21,16 +20,17 @@ use Rattle.api_block.specs.declared.opened.OpenTransaction.{OpenTransaction}
 use Rattle.api_block.specs.Opened.{if_there, is_named, where_at}
 use Rattle.api_block.specs.Operate.{operate_by, operate_if, operate_row}
 use Rattle.api_block.specs.State.{ApiState, refused}
+use Rattle.node_core.specs.Blocks.{api_of}
 use Rattle.node_core.specs.Replies.{replies_of}
 use Rattle.world_core.specs.Machine.{after}
 use Rattle.world_core.specs.Start.{Start}
-use Rattle.answer_laws.specs.Answered.{opened_in}
+use Rattle.world_core.specs.Steps.{HostStep}
+use Rattle.host_laws.specs.Opened.{opened_in}
 use Rattle.command_laws.proofs.First.{IsFirst, first_step, request_first}
+use Rattle.command_laws.proofs.HostKinds.{replies_are}
 use Rattle.command_laws.proofs.Told.{told_since}
 use Rattle.command_laws.specs.Answers.{IsTurnedDown}
 use Rattle.command_laws.specs.Served.{IsServed, named_in, replies_since}
-use Rattle.command_laws.proofs.HostKinds.{replies_are}
-use Rattle.node_core.specs.Blocks.{api_of}
 
 -- the first transaction of the name takes commands
 pub record TakesCommands (opened : List OpenTransaction) (name : ℕ) : Type 0 where
@@ -99,16 +99,19 @@ operate_ends s name op = looked_up s name (TakesOperations s.opened name) (λ at
 
 -- what the first step replies is told since then
 module _ (start : Start) (was now : ℕ → List HostStep) (name : ℕ) (r : ApiReq) (served : IsServed start was now r) (T : Type 0) where
-  turned_or : IsRefusedIn (api_of (after start 0 (was 0))) (request_row (api_of (after start 0 (was 0))) r).state name ⊎ T → IsTurnedDown start was now name ⊎ T
+  turned_or : IsRefusedIn (api_of (after start 0 (was 0))) (request_row (api_of (after start 0 (was 0))) r).state name
+      ⊎ T → IsTurnedDown start was now name ⊎ T
   turned_or (inr t) = inr t
   turned_or (inl refused) = inl (record { refusal = refused.refusal; told = told })
     where
       f : IsFirst start was now r
       f = request_first start was now r served
 
-      replied : replies_of (after start 0 (f.first ∷ was 0)) ≡ replies_of (after start 0 (was 0)) ++ Refused (Some name) refused.refusal ∷ []
+      replied : replies_of (after start 0 (f.first ∷ was 0)) ≡ replies_of (after start 0 (was 0)) ++ Refused
+          (Some name) refused.refusal ∷ []
       replied =
-          replies_are (after start 0 (f.first ∷ was 0)) ∙ ap (λ (step : Step ApiState). step.state.replies) (first_step start was now r f) ∙ refused.replies
+          replies_are (after start 0 (f.first ∷ was 0)) ∙ ap (λ (step : Step ApiState). step.state.replies)
+          (first_step start was now r f) ∙ refused.replies
           ∙ ap (λ rs. rs ++ Refused (Some name) refused.refusal ∷ []) (sym (replies_are (after start 0 (was 0))))
 
       told : IsIn (Refused (Some name) refused.refusal) (replies_since start was now)

@@ -27,9 +27,9 @@ use Rattle.tc_block.specs.State.{TcState, with_live}
 use Rattle.tc_block.specs.Tc.{begin_if, begin_row, begun, is_full, next_tx, pass_if, pass_row, tc_table}
 use Rattle.tc_block.specs.Turn.{Turn, going}
 use Rattle.tc_block.proofs.EachTurn.{RowsAre, TurnForms, rows_of}
-use Rattle.answer_laws.proofs.SendKinds.{are_of}
-use Rattle.answer_laws.proofs.TcMoves.{IsEntry, found, same_tx-is}
-use Rattle.answer_laws.proofs.TcSends.{tx_in}
+use Rattle.host_laws.proofs.SendKinds.{are_of}
+use Rattle.host_laws.proofs.TcMoves.{IsEntry, found, same_tx-is}
+use Rattle.host_laws.proofs.TcSends.{tx_in}
 
 -- what a transaction does at a signal that is about it
 abbrev pub turn_by : TcState → TxId → Body → Transaction → Turn

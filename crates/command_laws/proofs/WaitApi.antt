@@ -1,6 +1,7 @@
 -- The API while it asks what its own transaction waits for.
 use Rattle.std.proofs.Common.{◌≡◌, ◌⊎◌, ◌≤◌, ◌+◌, ℕ, true, false, List, [], ◌∷◌, ◌++◌, length, refl, sym, ap, ◌∙◌, subst, inl, inr, arith, Bool}
 use Rattle.std.specs.Prelude.{◌==◌, ◌&&◌, Option, None, Some, is_some, not, position, slice_get, slice_set}
+use Rattle.sig_core.proofs.Keys.{same_tx-self}
 use Rattle.sig_core.specs.declared.member.TxId.{TxId}
 use Rattle.sig_core.specs.declared.place.BlockId.{BlockId}
 use Rattle.sig_core.specs.declared.place.BlockId.TheVariants as block
@@ -11,31 +12,30 @@ use Rattle.sig_core.specs.declared.request.ApiReq.TheVariants as request
 use Rattle.sig_core.specs.declared.signal.Body.{Body}
 use Rattle.sig_core.specs.declared.signal.Body.TheVariants.{Client}
 use Rattle.sig_core.specs.declared.signal.client.ClientSignal.TheVariants.{LqhWaitConf, LqhWaitReq, TcWaitConf, TcWaitReq}
+use Rattle.sig_core.specs.declared.signal.Signal.{Signal}
 use Rattle.sig_core.specs.Place.{coordinator_of}
 use Rattle.sig_core.specs.Same.{same_tx}
 use Rattle.sig_core.specs.Step.{Step, sending, stay}
-use Rattle.api_block.specs.declared.opened.OpenTransaction.{OpenTransaction}
 use Rattle.api_block.specs.Api.{api_table, request_row}
+use Rattle.api_block.specs.declared.opened.OpenTransaction.{OpenTransaction}
 use Rattle.api_block.specs.Opened.{behind, has_tx, if_there, is_named, is_tx, is_unanswered, own_place, own_place_by, where_at}
 use Rattle.api_block.specs.State.{ApiState, changing}
 use Rattle.api_block.specs.Wait.{behind_row, name_of, pending_by, pending_if, pending_row, waits_if, waits_row}
-use Rattle.answer_laws.proofs.LqhOps.{true_and}
-use Rattle.commit_laws.specs.Counts.{one_if, tally}
-use Rattle.answer_laws.proofs.TcMoves.{same_tx-is}
-use Rattle.answer_laws.proofs.TcSends.{eqb-self}
-use Rattle.sig_core.proofs.Keys.{same_tx-self}
-use Rattle.answer_laws.proofs.Wishes.{is_api, sends_of}
+use Rattle.node_core.specs.Blocks.{api_of, has_api}
+use Rattle.node_core.specs.declared.host.Host.{Host}
+use Rattle.node_core.specs.Row.{row}
+use Rattle.world_core.specs.Hosts.{home}
+use Rattle.world_core.specs.Start.{Start}
+use Rattle.host_laws.specs.Counts.{one_if, tally}
+use Rattle.host_laws.proofs.LinkCounts.{to_host}
+use Rattle.host_laws.proofs.LqhOps.{true_and}
+use Rattle.host_laws.proofs.TcMoves.{same_tx-is}
+use Rattle.host_laws.proofs.TcSends.{eqb-self}
+use Rattle.host_laws.proofs.Wishes.{is_api, sends_of}
+use Rattle.command_laws.proofs.HostSteps.{api_host, api_seen}
 use Rattle.command_laws.proofs.Places.{IsFirstOf, first_there, split_get, split_position, split_set}
 use Rattle.command_laws.proofs.WaitRows.{is_other, is_passed, is_telling_who, is_wait_of, is_want, passed_of}
 use Rattle.command_laws.specs.Served.{name_in}
-use Rattle.command_laws.proofs.HostSteps.{api_host, api_seen}
-use Rattle.answer_laws.proofs.LinkCounts.{to_host}
-use Rattle.world_core.specs.Start.{Start}
-use Rattle.world_core.specs.Hosts.{home}
-use Rattle.sig_core.specs.declared.signal.Signal.{Signal}
-use Rattle.node_core.specs.Row.{row}
-use Rattle.node_core.specs.Blocks.{api_of, has_api}
-use Rattle.node_core.specs.declared.host.Host.{Host}
 
 -- the API's own transaction: the first of the name that the last command is about
 pub record IsOwn (s : ApiState) (t : OpenTransaction) : Type 0 where
@@ -43,7 +43,8 @@ pub record IsOwn (s : ApiState) (t : OpenTransaction) : Type 0 where
   pub own : s.own ≡ Some name
   pub first : IsFirstOf (is_named name) s.opened t
 
-pub own_found : (s : ApiState) (t : OpenTransaction) → where_at s.opened None (λ at (x : OpenTransaction). Some x) (own_place s) ≡ Some t → IsOwn s t
+pub own_found : (s : ApiState) (t : OpenTransaction) → where_at s.opened None (λ at (x : OpenTransaction). Some x)
+    (own_place s) ≡ Some t → IsOwn s t
 own_found s t = by s.own refl
   where
     at_place : (name : Option ℕ) → s.own ≡ Some name → (o : Option ℕ) → position (is_named name) s.opened ≡ o → where_at s.opened None (λ at (x : OpenTransaction). Some x) o ≡ Some t → IsOwn s t
@@ -89,7 +90,14 @@ module _ (front : List OpenTransaction) (t : OpenTransaction) (back : List OpenT
 
     module _ (s : ApiState) (ahead : Option TxId) (to : Place) (body : Body) (about : IsAboutOne ahead s) where
       pub stays_about : (is_passed tx to body ≡ true → ⊥) → StaysAbout ahead to body (stay s)
-      stays_about off = record { now = ahead; about = about; plain = refl; kept = λ some. some; told = λ on. absurd (off on); from = λ who is. inl is }
+      stays_about off = record {
+        now = ahead;
+        about = about;
+        plain = refl;
+        kept = λ some. some;
+        told = λ on. absurd (off on);
+        from = λ who is. inl is;
+      }
 
       told_who : (who next one : TxId) → same_tx one tx ≡ true → next ≡ who → Client (TcWaitConf one next) ≡ body → to.block ≡ block.Api → is_telling_who tx who to body ≡ true
       told_who who next one w which same there =
@@ -121,7 +129,8 @@ module _ (front : List OpenTransaction) (t : OpenTransaction) (back : List OpenT
       told_now _ same w there = cc
 
     -- so it is of the shell's host
-    pub about_waits : (g : Host) (ahead : Option TxId) (x : Signal) → has_api g ≡ true → is_wait_of tx x.body ≡ true → IsAboutOne ahead (api_of g) → StaysAbout ahead x.to x.body (api_seen (row g x))
+    pub about_waits : (g : Host) (ahead : Option TxId) (x : Signal) → has_api g ≡ true → is_wait_of tx x.body ≡ true
+        → IsAboutOne ahead (api_of g) → StaysAbout ahead x.to x.body (api_seen (row g x))
     about_waits g ahead x runs e about =
         api_host (StaysAbout ahead x.to x.body) g x runs (told_now (api_of g) ahead x.to x.body about x.body refl e)
         (λ off. stays_about (api_of g) ahead x.to x.body about (λ on. off (for_api x.to.block on)))
@@ -149,7 +158,8 @@ waits_is s t tx i waits own =
     ∙ ap (if_there (stay s) (λ (x : OpenTransaction). waits_if s (length i.first.front) x (is_unanswered x.doing) x.tx)) (ap (λ xs. slice_get xs (length i.first.front)) i.first.is ∙ split_get i.first.front t i.first.back)
     ∙ ap (λ b. waits_if s (length i.first.front) t b t.tx) waits ∙ ap (waits_if s (length i.first.front) t true) own
 
-pub waits_first : (start : Start) (s : ApiState) (t : OpenTransaction) (tx : TxId) (i : IsOwn s t) → is_unanswered t.doing ≡ true → t.tx ≡ Some tx → IsAsking start s t tx i (request_row s request.Waits)
+pub waits_first : (start : Start) (s : ApiState) (t : OpenTransaction) (tx : TxId) (i : IsOwn s t)
+    → is_unanswered t.doing ≡ true → t.tx ≡ Some tx → IsAsking start s t tx i (request_row s request.Waits)
 unfolding request_row
 waits_first start s t tx i waits own = record {
   about = record {
@@ -184,7 +194,8 @@ pub pending_first : (s : ApiState) (front : List OpenTransaction) (t : OpenTrans
 unfolding request_row pending_row
 pending_first s front t back name ahead about waits none named some = by ahead some about
   where
-    by : (a : Option TxId) → is_some a ≡ true → IsAboutOne front t back (Some name) a s → TellsHolder t.name a s (pending_row s)
+    by : (a : Option TxId) → is_some a ≡ true → IsAboutOne front t back (Some name) a s
+        → TellsHolder t.name a s (pending_row s)
     by None off about = cc
     by (Some next) on about = record {
       who = next;

@@ -2,37 +2,39 @@
 use Rattle.std.proofs.Common.{◌≡◌, ◌⊎◌, ◌≤◌, ◌+◌, ℕ, suc, Bool, true, false, List, [], ◌∷◌, ◌++◌, refl, sym, ap, ◌∙◌, subst, inl, inr, arith}
 use Rattle.std.specs.Prelude.{Option, None, Some, is_some}
 use Rattle.run_theory.specs.Lists.{IsIn}
-use Rattle.world_core.specs.Steps.{HostStep}
 use Rattle.sig_core.specs.declared.member.Member.{Member}
 use Rattle.sig_core.specs.declared.member.TxId.{TxId}
+use Rattle.sig_core.specs.declared.signal.Signal.{Signal}
 use Rattle.sig_core.specs.Op.{key_of}
 use Rattle.row_locks.specs.Tables.{ahead_at}
 use Rattle.api_block.specs.declared.opened.OpenTransaction.{OpenTransaction}
 use Rattle.api_block.specs.Opened.{has_tx}
+use Rattle.node_core.specs.Blocks.{api_of, lqh_of, tc_of}
+use Rattle.node_core.specs.declared.host.Host.{Host}
+use Rattle.node_core.specs.Row.{row}
 use Rattle.tc_block.specs.declared.phase.Asked.{Asked}
 use Rattle.tc_block.specs.declared.transaction.Transaction.{Transaction}
+use Rattle.world_core.proofs.HostNumbers.{api_runs}
+use Rattle.world_core.specs.Hosts.{home, rows_host}
 use Rattle.world_core.specs.Machine.{after}
 use Rattle.world_core.specs.Start.{Start}
-use Rattle.commit_laws.specs.Counts.{one_if, tally}
-use Rattle.answer_laws.proofs.Wishes.{sends_of}
-use Rattle.transit_laws.specs.Live.{of_live}
+use Rattle.world_core.specs.Steps.{HostStep}
+use Rattle.host_laws.specs.Counts.{one_if, tally}
+use Rattle.host_laws.proofs.LinkCounts.{steps, to_host}
+use Rattle.host_laws.proofs.Wishes.{sends_of}
+use Rattle.run_laws.specs.Live.{of_live}
+use Rattle.command_laws.proofs.HostKinds.{node_runs_none}
+use Rattle.command_laws.proofs.HostSteps.{api_seen}
 use Rattle.command_laws.proofs.Since.{sent_since, sent_since_to}
 use Rattle.command_laws.proofs.TellsSince.{OnTc}
 use Rattle.command_laws.proofs.WaitApi.{IsAboutOne, StaysAbout, about_waits}
 use Rattle.command_laws.proofs.WaitRows.{is_found, is_other, is_passed, is_probe, is_telling_who, is_wait_of, is_want, host_finds, host_passes, host_waits, host_wants}
 use Rattle.command_laws.specs.Served.{IsHeldUpAt}
-use Rattle.command_laws.proofs.HostSteps.{api_seen}
-use Rattle.command_laws.proofs.HostKinds.{node_runs_none}
-use Rattle.answer_laws.proofs.LinkCounts.{steps, to_host}
-use Rattle.world_core.specs.Hosts.{home, rows_host}
-use Rattle.sig_core.specs.declared.signal.Signal.{Signal}
-use Rattle.node_core.specs.Row.{row}
-use Rattle.node_core.specs.Blocks.{api_of, lqh_of, tc_of}
-use Rattle.node_core.specs.declared.host.Host.{Host}
-use Rattle.world_core.proofs.HostNumbers.{api_runs}
 
 module _ (start : Start) (was : ℕ → List HostStep) (tx : TxId) (u : Transaction) (asked : Asked) (member : Member) (unanswered : u.asked ≡ Some asked) (inside : IsIn member asked.chain)
-    (live : OnTc (λ s. of_live tx s.live ≡ Some u) (after start (home start tx) (was (home start tx)))) (held : IsHeldUpAt tx (key_of asked.op) (after start (rows_host start member.node) (was (rows_host start member.node)))) where
+    (live : OnTc (λ s. of_live tx s.live ≡ Some u) (after start (home start tx) (was (home start tx))))
+    (held : IsHeldUpAt tx (key_of asked.op)
+    (after start (rows_host start member.node) (was (rows_host start member.node)))) where
   -- a node is as it was, and sends on what it takes of these
   pub record NodeHolds (h : ℕ) (newer : List HostStep) : Type 0 where
     pub plain : sent_since start (is_other tx) (suc h) newer (was (suc h)) ≡ 0
@@ -71,7 +73,8 @@ module _ (start : Start) (was : ℕ → List HostStep) (tx : TxId) (u : Transact
       here : home start tx ≡ suc h → of_live tx (tc_of (after start (suc h) (was (suc h)))).live ≡ Some u
       here at = subst (λ k. OnTc (λ s. of_live tx s.live ≡ Some u) (after start k (was k))) at live
 
-      there : rows_host start member.node ≡ suc h → is_some (ahead_at (lqh_of (after start (suc h) (was (suc h)))).locks (key_of asked.op) tx) ≡ true
+      there : rows_host start member.node ≡ suc h
+          → is_some (ahead_at (lqh_of (after start (suc h) (was (suc h)))).locks (key_of asked.op) tx) ≡ true
       there at = subst (λ k. IsHeldUpAt tx (key_of asked.op) (after start k (was k))) at held
 
   pub node_next : (h : ℕ) (e : HostStep) (newer : List HostStep) → is_wait_of tx e.step.taken.body ≡ true → NodeHolds h newer → NodeHolds h (e ∷ newer)

@@ -1,10 +1,13 @@
 -- What a node does at questions of what a transaction waits for: it changes nothing, and asks, finds or passes on.
-use Rattle.std.proofs.Common.{◌≡◌, ◌≤◌, ◌+◌, ℕ, suc, Bool, true, false, List, [], ◌∷◌, refl, sym, ap, ◌∙◌, subst, inl, inr, arith}
+use Rattle.std.proofs.Common.{◌≡◌, ◌≤◌, ℕ, suc, Bool, true, false, List, [], ◌∷◌, refl, sym, ap, ◌∙◌, subst, inl, inr, arith}
 use Rattle.std.proofs.lemmas.Bool.Decides.{nat_tests}
 use Rattle.std.specs.Map.{keys_of, values_of}
 use Rattle.std.specs.Prelude.{◌==◌, ◌&&◌, Option, None, Some, if◌then◌else◌, is_some, map, nat_eq, not, position, slice_get}
 use Rattle.indexmap.specs.IndexMap.{set_value_at}
 use Rattle.run_theory.specs.Lists.{IsIn}
+use Rattle.sig_core.proofs.Firsts.{place_by, position-cons}
+use Rattle.sig_core.proofs.Keys.{same_key-self, same_tx-self}
+use Rattle.sig_core.proofs.TxLemmas.{same_tx-swap}
 use Rattle.sig_core.specs.declared.member.Member.{Member}
 use Rattle.sig_core.specs.declared.member.TxId.{TxId}
 use Rattle.sig_core.specs.declared.outs.Outgoing.{Outgoing}
@@ -14,15 +17,22 @@ use Rattle.sig_core.specs.declared.place.Place.{Place}
 use Rattle.sig_core.specs.declared.signal.Body.{Body}
 use Rattle.sig_core.specs.declared.signal.Body.TheVariants.{Client}
 use Rattle.sig_core.specs.declared.signal.client.ClientSignal.TheVariants.{LqhWaitConf, LqhWaitReq, TcWaitConf, TcWaitReq}
+use Rattle.sig_core.specs.declared.signal.Signal.{Signal}
 use Rattle.sig_core.specs.Op.{key_of}
+use Rattle.sig_core.specs.Place.{client}
 use Rattle.sig_core.specs.Same.{same_key, same_tx}
 use Rattle.sig_core.specs.Step.{Effects, Step}
-use Rattle.sig_core.proofs.TxLemmas.{same_tx-swap}
 use Rattle.row_locks.specs.Tables.{ahead_at}
 use Rattle.lqh_block.specs.Lqh.{lqh_table}
 use Rattle.lqh_block.specs.State.{LqhState}
 use Rattle.lqh_block.specs.Wait as lqh
+use Rattle.node_core.proofs.HostCases.{BlockCase, HostCase, api_takes, block_case, dih_takes, host_case, none_takes, of_api, of_dih, of_none, of_rows, of_tc, rows_take, runs, tc_takes}
+use Rattle.node_core.specs.Blocks.{has_api, has_lqh, lqh_of, tc_of}
+use Rattle.node_core.specs.declared.host.Host.{Host}
+use Rattle.node_core.specs.declared.host.Host.TheVariants.{Ldm, Tc}
 use Rattle.node_core.specs.Dih.{DihState, dih_table}
+use Rattle.node_core.specs.Row.{row}
+use Rattle.tc_block.proofs.LiveSplit.{split_at}
 use Rattle.tc_block.specs.declared.phase.Asked.{Asked}
 use Rattle.tc_block.specs.declared.transaction.Transaction.{Transaction}
 use Rattle.tc_block.specs.Live.{place_in, step_of, step_place, step_value, stepped}
@@ -30,32 +40,21 @@ use Rattle.tc_block.specs.Operate.{wait_by, wait_row}
 use Rattle.tc_block.specs.Sends.{wait_of, waits_of}
 use Rattle.tc_block.specs.State.{TcState, with_live}
 use Rattle.tc_block.specs.Tc.{pass_if, pass_row, tc_table, tc_row}
-use Rattle.answer_laws.proofs.LqhOps.{is_lqh, true_and}
-use Rattle.answer_laws.proofs.SendKinds.{are_of, none_of, of_map, one_kind}
-use Rattle.commit_laws.proofs.Tally.{tally_in}
-use Rattle.commit_laws.specs.Counts.{one_if, tally}
-use Rattle.answer_laws.proofs.TcLives.{is_keyed}
-use Rattle.answer_laws.proofs.TcMoves.{same_tx-is}
-use Rattle.answer_laws.proofs.TcSends.{eqb-self}
-use Rattle.answer_laws.proofs.Wishes.{is_api, is_tc, sends_of}
-use Rattle.sig_core.proofs.Firsts.{place_by, position-cons}
-use Rattle.sig_core.proofs.Keys.{same_key-self, same_tx-self}
-use Rattle.tc_block.proofs.LiveSplit.{split_at}
-use Rattle.transit_laws.specs.Live.{of_live}
-use Rattle.command_laws.proofs.HostSteps.{tc_host}
-use Rattle.command_laws.proofs.HostKinds.{no_rows, runs_rows}
-use Rattle.answer_laws.proofs.LinkCounts.{to_host}
-use Rattle.world_core.specs.Start.{Start}
-use Rattle.world_core.specs.Hosts.{home, host_for, rows_host}
-use Rattle.sig_core.specs.Place.{client}
-use Rattle.sig_core.specs.declared.signal.Signal.{Signal}
-use Rattle.node_core.proofs.HostCases.{BlockCase, HostCase, api_takes, block_case, dih_takes, host_case, none_takes, of_api, of_dih, of_none, of_rows, of_tc, rows_take, runs, tc_takes}
-use Rattle.node_core.specs.Row.{row}
-use Rattle.node_core.specs.Blocks.{has_api, has_lqh, lqh_of, tc_of}
-use Rattle.node_core.specs.declared.host.Host.TheVariants.{Ldm, Tc}
-use Rattle.node_core.specs.declared.host.Host.{Host}
 use Rattle.world_core.proofs.HostNumbers.{client_host}
-use Rattle.answer_laws.proofs.HostSteps.{no_live}
+use Rattle.world_core.specs.Hosts.{home, host_for, rows_host}
+use Rattle.world_core.specs.Start.{Start}
+use Rattle.host_laws.proofs.HostSteps.{no_live}
+use Rattle.host_laws.proofs.LinkCounts.{to_host}
+use Rattle.host_laws.proofs.LqhOps.{is_lqh, true_and, left_of, right_of}
+use Rattle.host_laws.proofs.SendKinds.{are_of, none_of, of_map, one_kind}
+use Rattle.host_laws.proofs.Tally.{tally_in}
+use Rattle.host_laws.proofs.TcMoves.{same_tx-is}
+use Rattle.host_laws.proofs.TcSends.{eqb-self}
+use Rattle.host_laws.proofs.Wishes.{is_api, is_tc, sends_of}
+use Rattle.host_laws.specs.Counts.{one_if}
+use Rattle.run_laws.specs.Live.{of_live}
+use Rattle.command_laws.proofs.HostKinds.{no_rows, runs_rows}
+use Rattle.command_laws.proofs.HostSteps.{tc_host}
 
 -- a question of what the transaction waits for, or an answer to one
 abbrev pub is_wait_of : TxId → Body → Bool
@@ -148,19 +147,6 @@ placed_at tx (e ∷ live) t is = by (same_tx e.0 tx) refl is (placed_at tx live 
           get = r.get;
         }
 
-pub in_live : (tx : TxId) (t : Transaction) (live : List (TxId × Transaction)) → IsIn (tx, t) live → tally (is_keyed tx) live ≤ 1 → of_live tx live ≡ Some t
-in_live tx t [] i few = absurd i
-in_live tx t (e ∷ live) (inl same) few =
-    ap (λ (x : TxId × Transaction). if same_tx x.0 tx then Some x.1 else of_live tx live) (sym same) ∙ ap (λ b. if b then Some t else of_live tx live) (same_tx-self tx)
-in_live tx t (e ∷ live) (inr i) few = by (same_tx e.0 tx) refl (in_live tx t live i)
-  where
-    some : 1 ≤ tally (is_keyed tx) live
-    some = tally_in (is_keyed tx) (tx, t) live i (same_tx-self tx)
-
-    by : (b : Bool) → same_tx e.0 tx ≡ b → (tally (is_keyed tx) live ≤ 1 → of_live tx live ≡ Some t) → (if b then Some e.1 else of_live tx live) ≡ Some t
-    by true same rest = absurd (omega (arith, few, some, ap one_if same))
-    by false differs rest = rest (omega (arith, few))
-
 -- the coordinator at these signals
 module _ (start : Start) (tx : TxId) where
   no_other : (to : Place) (body : Body) → is_wait_of tx body ≡ true → is_other tx to body ≡ false
@@ -244,15 +230,18 @@ module _ (start : Start) (tx : TxId) where
     where
       go : (t : Step Host) → HostCase g x t → IsQuietStep g t
       go t (of_api a is at) = absurd (let both : true ≡ false = sym (ap has_api is) ∙ none in cc)
-      go t (of_tc p is at) = let q = tc_waits p.tc x.body e in record { same = ap (λ (s : TcState). Tc (record { tc = s; dih = p.dih })) q.same ∙ sym is; plain = q.plain }
-      go t (of_dih p is at) = let q = dih_waits p.dih x.body e in record { same = ap (λ (s : DihState). Tc (record { tc = p.tc; dih = s })) q.same ∙ sym is; plain = q.plain }
-      go t (of_rows l is at) = let q = lqh_waits l x.body e in record { same = ap (λ (s : LqhState). Ldm s) q.same ∙ sym is; plain = q.plain }
+      go t (of_tc p is at) = let q = tc_waits p.tc x.body e in
+          record { same = ap (λ (s : TcState). Tc (record { tc = s; dih = p.dih })) q.same ∙ sym is; plain = q.plain }
+      go t (of_dih p is at) = let q = dih_waits p.dih x.body e in
+          record { same = ap (λ (s : DihState). Tc (record { tc = p.tc; dih = s })) q.same ∙ sym is; plain = q.plain }
+      go t (of_rows l is at) = let q = lqh_waits l x.body e in record {
+        same = ap (λ (s : LqhState). Ldm s) q.same
+            ∙ sym is;
+        plain = q.plain;
+      }
       go t (of_none off) = record { same = refl; plain = refl }
 
   -- what it sends on
-  one_or_more : (a b : ℕ) → 1 ≤ a → 1 ≤ a + b
-  one_or_more a b some = omega (arith, some)
-
   -- a coordinator that has the transaction's operation unanswered asks each node that this was sent along
   wants_here : (s : TcState) (t : Transaction) (asked : Asked) (member : Member) → of_live tx s.live ≡ Some t → t.asked ≡ Some asked → IsIn member asked.chain
       → 1 ≤ sends_of (to_host start (rows_host start member.node) (is_probe tx (key_of asked.op))) (step_of s tx (wait_row tx)).effects.sends
@@ -276,11 +265,15 @@ module _ (start : Start) (tx : TxId) where
   tc_wants s t asked member live unanswered inside _ e = cc
 
   -- where a coordinator has the transaction, what it sends at such a signal is sent
-  has_it : (test : Place → Body → Bool) (of : Body → Bool) (g : Host) (x : Signal) (t : Transaction) → of_live tx (tc_of g).live ≡ Some t → (is_tc x.to.block && of x.body) ≡ true
-      → (of x.body ≡ true → 1 ≤ sends_of test (tc_row (tc_of g) x).effects.sends) → 1 ≤ sends_of test (row g x).effects.sends
+  has_it : (test : Place → Body → Bool) (of : Body → Bool) (g : Host) (x : Signal) (t : Transaction)
+      → of_live tx (tc_of g).live ≡ Some t → (is_tc x.to.block && of x.body) ≡ true
+      → (of x.body ≡ true → 1 ≤ sends_of test (tc_row (tc_of g) x).effects.sends)
+      → 1 ≤ sends_of test (row g x).effects.sends
   has_it test of g x t live is sends =
-      tc_host (λ (step : Step TcState). 1 ≤ sends_of test step.effects.sends) g x (λ runs at. sends (last x.to.block is))
-      (λ effects none off. absurd (let both : None ≡ Some t = sym (ap (of_live tx) (no_live g (off (for_tc x.to.block is)))) ∙ live in cc))
+      tc_host (λ (step : Step TcState). 1 ≤ sends_of test step.effects.sends) g x
+      (λ runs at. sends (last x.to.block is))
+      (λ effects none off. absurd (let both : None ≡ Some t =
+      sym (ap (of_live tx) (no_live g (off (for_tc x.to.block is)))) ∙ live in cc))
     where
       last : (at : BlockId) → (is_tc at && of x.body) ≡ true → of x.body ≡ true
       last block.Tc e = e
@@ -290,9 +283,12 @@ module _ (start : Start) (tx : TxId) where
       for_tc block.Tc e = refl
       for_tc _ e = cc
 
-  pub host_wants : (g : Host) (t : Transaction) (asked : Asked) (member : Member) → of_live tx (tc_of g).live ≡ Some t → t.asked ≡ Some asked → IsIn member asked.chain → (x : Signal) → is_want tx x.to x.body ≡ true
-      → 1 ≤ sends_of (to_host start (rows_host start member.node) (is_probe tx (key_of asked.op))) (row g x).effects.sends
-  host_wants g t asked member live unanswered inside x is = has_it _ (want_of tx) g x t live is (λ e. tc_wants (tc_of g) t asked member live unanswered inside x.body e)
+  pub host_wants : (g : Host) (t : Transaction) (asked : Asked) (member : Member) → of_live tx (tc_of g).live ≡ Some t
+      → t.asked ≡ Some asked → IsIn member asked.chain → (x : Signal) → is_want tx x.to x.body ≡ true
+      → 1 ≤ sends_of (to_host start (rows_host start member.node) (is_probe tx (key_of asked.op)))
+      (row g x).effects.sends
+  host_wants g t asked member live unanswered inside x is = has_it _ (want_of tx) g x t live is
+      (λ e. tc_wants (tc_of g) t asked member live unanswered inside x.body e)
 
   -- the rows of a node where it is held up tell its coordinator
   find_one : (s : LqhState) (o : Option TxId) → is_some o ≡ true → 1 ≤ sends_of (to_host start (home start tx) (is_found tx)) (lqh.wait_by s tx o).effects.sends
@@ -300,21 +296,15 @@ module _ (start : Start) (tx : TxId) where
   find_one s (Some ahead) some =
       omega (arith, ap one_if (true_and (home start tx == home start tx) (same_tx tx tx) (eqb-self (home start tx)) (same_tx-self tx)))
 
-  lqh_finds : (s : LqhState) (key : List ℕ) → is_some (ahead_at s.locks key tx) ≡ true → (body : Body) → probe_of tx key body ≡ true → 1 ≤ sends_of (to_host start (home start tx) (is_found tx)) (lqh_table s body).effects.sends
+  lqh_finds : (s : LqhState) (key : List ℕ) → is_some (ahead_at s.locks key tx) ≡ true → (body : Body)
+      → probe_of tx key body ≡ true → 1 ≤ sends_of (to_host start (home start tx) (is_found tx))
+      (lqh_table s body).effects.sends
   unfolding lqh.wait_row
   lqh_finds s key held (Client (LqhWaitReq one at)) e =
-      let own : one ≡ tx = same_tx-is one tx (first_of (same_tx one tx) (same_key at key) e) in
-      let on : at ≡ key = same_key-is at key (second_of (same_tx one tx) (same_key at key) e) in
+      let own : one ≡ tx = same_tx-is one tx (left_of (same_tx one tx) (same_key at key) e) in
+      let on : at ≡ key = same_key-is at key (right_of (same_tx one tx) (same_key at key) e) in
       subst (λ v. 1 ≤ sends_of (to_host start (home start tx) (is_found tx)) (lqh.wait_by s v (ahead_at s.locks at v)).effects.sends) (sym own)
       (find_one s (ahead_at s.locks at tx) (ap (λ k. is_some (ahead_at s.locks k tx)) on ∙ held))
-    where
-      first_of : (a b : Bool) → (a && b) ≡ true → a ≡ true
-      first_of true b p = refl
-      first_of false b p = cc
-
-      second_of : (a b : Bool) → (a && b) ≡ true → b ≡ true
-      second_of true b p = p
-      second_of false b p = cc
   lqh_finds s key held _ e = cc
 
   pub host_finds : (g : Host) (key : List ℕ) → is_some (ahead_at (lqh_of g).locks key tx) ≡ true → (x : Signal) → is_probe tx key x.to x.body ≡ true
@@ -335,9 +325,11 @@ module _ (start : Start) (tx : TxId) where
       no_locks : has_lqh g ≡ false → ⊥
       no_locks none = let both : false ≡ true = sym (ap is_some (no_rows g none key tx)) ∙ held in cc
 
-      go : (t : Step Host) → BlockCase g x t → 1 ≤ sends_of (to_host start (home start tx) (is_found tx)) t.effects.sends
+      go : (t : Step Host) → BlockCase g x t
+          → 1 ≤ sends_of (to_host start (home start tx) (is_found tx)) t.effects.sends
       go t (rows_take step) =
-          subst (λ (f : Effects). 1 ≤ sends_of (to_host start (home start tx) (is_found tx)) f.sends) (sym step.effects) (lqh_finds (lqh_of g) key held x.body (last x.to.block is))
+          subst (λ (f : Effects). 1 ≤ sends_of (to_host start (home start tx) (is_found tx)) f.sends) (sym step.effects)
+          (lqh_finds (lqh_of g) key held x.body (last x.to.block is))
       go t (api_takes step) = absurd (let both : block.Lqh ≡ block.Api = sym at_rows ∙ step.at in cc)
       go t (tc_takes step) = absurd (let both : block.Lqh ≡ block.Tc = sym at_rows ∙ step.at in cc)
       go t (dih_takes step) = absurd (let both : block.Lqh ≡ block.Dih = sym at_rows ∙ step.at in cc)
@@ -345,7 +337,12 @@ module _ (start : Start) (tx : TxId) where
 
   -- its coordinator passes that on to the API
   pass_one : (s : TcState) (ahead : TxId) (b : Bool) → b ≡ true → 1 ≤ sends_of (to_host start 0 (is_passed tx)) (pass_if s tx ahead b).effects.sends
-  pass_one s ahead true e = omega (arith, ap one_if (true_and (host_for start client == 0) (same_tx tx tx) (ap (λ h. h == 0) (client_host start)) (same_tx-self tx)))
+  pass_one s ahead true e =
+      omega (
+        arith,
+        ap one_if (true_and (host_for start client == 0) (same_tx tx tx) (ap (λ h. h == 0) (client_host start))
+            (same_tx-self tx)),
+      )
   pass_one s ahead false e = cc
 
   tc_passes : (s : TcState) (t : Transaction) → of_live tx s.live ≡ Some t → (body : Body) → found_of tx body ≡ true → 1 ≤ sends_of (to_host start 0 (is_passed tx)) (tc_table s body).effects.sends
@@ -355,5 +352,6 @@ module _ (start : Start) (tx : TxId) where
       (pass_one s ahead (is_some (place_in s tx)) (ap is_some (placed_at tx s.live t live).place))
   tc_passes s t live _ e = cc
 
-  pub host_passes : (g : Host) (t : Transaction) → of_live tx (tc_of g).live ≡ Some t → (x : Signal) → is_found tx x.to x.body ≡ true → 1 ≤ sends_of (to_host start 0 (is_passed tx)) (row g x).effects.sends
+  pub host_passes : (g : Host) (t : Transaction) → of_live tx (tc_of g).live ≡ Some t → (x : Signal)
+      → is_found tx x.to x.body ≡ true → 1 ≤ sends_of (to_host start 0 (is_passed tx)) (row g x).effects.sends
   host_passes g t live x is = has_it _ (found_of tx) g x t live is (λ e. tc_passes (tc_of g) t live x.body e)

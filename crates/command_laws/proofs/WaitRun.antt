@@ -2,14 +2,13 @@
 use Rattle.std.proofs.Common.{◌≡◌, ◌≢◌, ◌⊎◌, ◌<◌, ◌≤◌, ℕ, zero, suc, Bool, true, false, List, [], ◌∷◌, ◌++◌, length, refl, sym, ap, ◌∙◌, subst, inl, inr, append_assoc, length-append, arith}
 use Rattle.std.proofs.lemmas.Bool.{cases_eq, cases_lt}
 use Rattle.std.specs.Prelude.{Option, None, Some, not, option_to_list}
+use Rattle.run_theory.proofs.Cuts.{taken_past}
+use Rattle.run_theory.proofs.Growth.{along_cuts}
+use Rattle.run_theory.proofs.Runs.{log_of-other, log_of-own, log_of-past}
 use Rattle.run_theory.specs.Cuts.{IsCut}
 use Rattle.run_theory.specs.Links.{sent, taken}
 use Rattle.run_theory.specs.Lists.{Each, IsIn, IsPast}
 use Rattle.run_theory.specs.Runs.{AreLogs, Happens, IsWithin, Run, log_of}
-use Rattle.run_theory.proofs.Cuts.{taken_past}
-use Rattle.run_theory.proofs.Growth.{along_cuts}
-use Rattle.run_theory.proofs.Runs.{log_of-other, log_of-own, log_of-past}
-use Rattle.world_core.specs.Steps.{Addressed, HostStep}
 use Rattle.sig_core.specs.declared.member.Member.{Member}
 use Rattle.sig_core.specs.declared.member.TxId.{TxId}
 use Rattle.sig_core.specs.declared.signal.Body.{Body}
@@ -19,36 +18,39 @@ use Rattle.sig_core.specs.declared.signal.host.Work.TheVariants.{Request}
 use Rattle.sig_core.specs.Op.{key_of}
 use Rattle.api_block.specs.declared.opened.OpenTransaction.{OpenTransaction}
 use Rattle.api_block.specs.Opened.{has_tx}
+use Rattle.node_core.specs.Blocks.{api_of}
 use Rattle.node_core.specs.Requests.{is_request}
 use Rattle.tc_block.specs.declared.phase.Asked.{Asked}
 use Rattle.tc_block.specs.declared.transaction.Transaction.{Transaction}
+use Rattle.world_core.proofs.HostNumbers.{given_past}
 use Rattle.world_core.proofs.Stamped.{stamped}
 use Rattle.world_core.specs.Hosts.{first_membership, home, hosts, rows_host}
 use Rattle.world_core.specs.Machine.{IsAsked, after, machine, step_after}
 use Rattle.world_core.specs.Requests.{request_in, requests}
 use Rattle.world_core.specs.Start.{Start}
-use Rattle.world_core.proofs.HostNumbers.{given_past}
-use Rattle.answer_laws.proofs.LinkCounts.{sent_signals, signals}
-use Rattle.commit_laws.proofs.Tally.{tally_past}
-use Rattle.commit_laws.specs.Counts.{one_if, tally}
-use Rattle.answer_laws.proofs.Wishes.{sends_of}
+use Rattle.world_core.specs.Steps.{Addressed, HostStep}
+use Rattle.host_laws.proofs.LinkCounts.{sent_signals, signals, few_sends}
+use Rattle.host_laws.proofs.Tally.{tally_past}
+use Rattle.host_laws.proofs.Wishes.{sends_of}
+use Rattle.host_laws.specs.Counts.{one_if, tally}
+use Rattle.run_laws.specs.Live.{of_live}
 use Rattle.answer_laws.specs.Answered.{AreQuiet}
-use Rattle.transit_laws.specs.Live.{of_live}
 use Rattle.command_laws.proofs.First.{fits_asked, requests_append, with_first}
-use Rattle.command_laws.proofs.Since.{fewer, link_sent}
+use Rattle.command_laws.proofs.Since.{link_sent}
 use Rattle.command_laws.proofs.TellsSince.{OnTc}
 use Rattle.command_laws.proofs.WaitApi.{IsAboutOne}
 use Rattle.command_laws.proofs.WaitHosts.{NodeHolds, ShellHolds, node_next, node_none, shell_next, shell_none}
 use Rattle.command_laws.proofs.WaitRows.{is_other, is_wait_of}
 use Rattle.command_laws.specs.Served.{IsHeldUpAt}
-use Rattle.node_core.specs.Blocks.{api_of}
 
 is_asked_in : (body : Body) → is_request body ≡ true → length (option_to_list (request_in body)) ≡ 1
 is_asked_in (Host (Continue (Request request) at)) e = refl
 is_asked_in _ e = cc
 
 module _ (start : Start) (was : ℕ → List HostStep) (before : AreQuiet start was) (first : HostStep) (tx : TxId) (u : Transaction) (asked : Asked) (member : Member) (unanswered : u.asked ≡ Some asked) (inside : IsIn member asked.chain)
-    (live : OnTc (λ s. of_live tx s.live ≡ Some u) (after start (home start tx) (was (home start tx)))) (held : IsHeldUpAt tx (key_of asked.op) (after start (rows_host start member.node) (was (rows_host start member.node))))
+    (live : OnTc (λ s. of_live tx s.live ≡ Some u) (after start (home start tx) (was (home start tx))))
+    (held : IsHeldUpAt tx (key_of asked.op)
+    (after start (rows_host start member.node) (was (rows_host start member.node))))
     (front : List OpenTransaction) (t : OpenTransaction) (back : List OpenTransaction) (own : Option (Option ℕ)) (own_tx : t.tx ≡ Some tx) (none : tally (has_tx tx) front ≡ 0)
     (plain_first : sends_of (is_other tx) (step_after start 0 (was 0) first).effects.sends ≡ 0) where
   abbrev NodesHold : List HostStep → Type 0
@@ -83,7 +85,7 @@ module _ (start : Start) (was : ℕ → List HostStep) (before : AreQuiet start 
               link_sent start (is_other tx) 0 j (log_of (machine start) all.more 0) (first ∷ was 0),
               all.shell.plain,
               sent_signals start (is_other tx) 0 j first (was 0),
-              fewer start (is_other tx) j (step_after start 0 (was 0) first).effects.sends,
+              few_sends start j (is_other tx) (step_after start 0 (was 0) first).effects.sends,
               plain_first,
               ap (signals (is_other tx)) (before.quiet 0 j under low),
             )

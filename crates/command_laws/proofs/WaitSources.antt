@@ -7,20 +7,24 @@ use Rattle.std.specs.Prelude.{◌==◌, ◌&&◌, Option, None, Some, is_some, s
 use Rattle.run_theory.specs.Cuts.{IsCut}
 use Rattle.run_theory.specs.Links.{is_from}
 use Rattle.run_theory.specs.Lists.{IsIn}
-use Rattle.world_core.specs.Steps.{HostStep}
 use Rattle.sig_core.specs.declared.member.TxId.{TxId}
 use Rattle.sig_core.specs.declared.place.Place.{Place}
 use Rattle.sig_core.specs.declared.signal.Body.{Body}
 use Rattle.sig_core.specs.declared.signal.Body.TheVariants.{Client}
 use Rattle.sig_core.specs.declared.signal.client.ClientSignal.TheVariants.{TcWaitReq, LqhWaitReq, LqhWaitConf, TcWaitConf}
+use Rattle.sig_core.specs.declared.signal.Signal.{Signal}
 use Rattle.sig_core.specs.Place.{coordinator}
 use Rattle.sig_core.specs.Same.{same_tx}
 use Rattle.row_locks.specs.Tables.{ahead_at}
 use Rattle.lqh_block.specs.Lqh.{lqh_table}
 use Rattle.lqh_block.specs.State.{LqhState}
 use Rattle.lqh_block.specs.Wait as rows
+use Rattle.node_core.proofs.HostCases.{of_effects}
+use Rattle.node_core.specs.Blocks.{api_of, dih_of, lqh_of, tc_of}
+use Rattle.node_core.specs.declared.host.Host.{Host}
 use Rattle.node_core.specs.Dih.{dih_table}
 use Rattle.node_core.specs.Requests.{is_request}
+use Rattle.node_core.specs.Row.{row}
 use Rattle.tc_block.specs.declared.phase.Asked.{Asked}
 use Rattle.tc_block.specs.declared.transaction.Transaction.{Transaction}
 use Rattle.tc_block.specs.Live.{place_in, step_of, step_place, step_value}
@@ -29,25 +33,21 @@ use Rattle.tc_block.specs.State.{TcState}
 use Rattle.tc_block.specs.Tc.{pass_if, pass_row, tc_table}
 use Rattle.world_core.specs.Machine.{machine, step_after}
 use Rattle.world_core.specs.Start.{Start}
-use Rattle.answer_laws.proofs.ApiMoves.{is_api_kind}
-use Rattle.answer_laws.proofs.DihSends.{dih_kinds}
-use Rattle.answer_laws.proofs.LinkCounts.{all_three}
-use Rattle.answer_laws.proofs.LqhSends.{lqh_kinds}
-use Rattle.answer_laws.proofs.SendKinds.{are_of, is_dih_kind, is_lqh_kind, is_tc_kind, none_of, of_map}
-use Rattle.commit_laws.proofs.Tally.{tally_in}
-use Rattle.commit_laws.specs.Counts.{one_if}
-use Rattle.answer_laws.proofs.TcMoves.{same_tx-is}
-use Rattle.answer_laws.proofs.TcSends.{tc_kinds}
-use Rattle.answer_laws.proofs.Wishes.{is_api, is_tc, sends_of}
+use Rattle.world_core.specs.Steps.{HostStep}
+use Rattle.host_laws.proofs.Tally.{tally_in}
+use Rattle.host_laws.specs.Counts.{one_if}
+use Rattle.host_laws.proofs.ApiMoves.{is_api_kind}
+use Rattle.host_laws.proofs.DihSends.{dih_kinds}
+use Rattle.host_laws.proofs.LinkCounts.{all_three}
+use Rattle.host_laws.proofs.LqhSends.{lqh_kinds}
+use Rattle.host_laws.proofs.SendKinds.{are_of, is_dih_kind, is_lqh_kind, is_tc_kind, none_of, of_map}
+use Rattle.host_laws.proofs.TcMoves.{same_tx-is}
+use Rattle.host_laws.proofs.TcSends.{tc_kinds}
+use Rattle.host_laws.proofs.Wishes.{is_api, is_tc, sends_of}
 use Rattle.answer_laws.specs.Answered.{AreQuiet}
+use Rattle.command_laws.proofs.HostSends.{IsNotOfApi, IsOfTc, api_silent, is_other_kind, not_of_api, not_of_dih, not_of_lqh}
 use Rattle.command_laws.proofs.Since.{few_taken, sent_since}
 use Rattle.command_laws.proofs.WaitRows.{is_telling_who, is_wait_of, tells_who}
-use Rattle.command_laws.proofs.HostSends.{api_silent}
-use Rattle.sig_core.specs.declared.signal.Signal.{Signal}
-use Rattle.node_core.proofs.HostCases.{of_effects}
-use Rattle.node_core.specs.Row.{row}
-use Rattle.node_core.specs.Blocks.{api_of, dih_of, lqh_of, tc_of}
-use Rattle.node_core.specs.declared.host.Host.{Host}
 
 -- a step of these sends what passes the test
 pub record SentBy (start : Start) (test : Place → Body → Bool) (h : ℕ) (newer log : List HostStep) : Type 0 where
@@ -96,15 +96,21 @@ module _ (tx who : TxId) where
   finds_in true body e = e
   finds_in false body e = refl
 
-  pub no_tell_api : (to : Place) (body : Body) → is_api_kind body ≡ true → is_telling_who tx who to body ≡ false
-  no_tell_api to body e = tells_in (is_api to.block) body (plain body e)
+  pub telling_tc : IsOfTc (is_telling_who tx who)
+  telling_tc = record {
+    others = λ to body e. tells_in (is_api to.block) body (plain body e);
+    begins = λ name node. refl;
+  }
     where
-      plain : (b : Body) → is_api_kind b ≡ true → tells_who tx who b ≡ false
+      plain : (b : Body) → is_other_kind b ≡ true → tells_who tx who b ≡ false
       plain (Client (TcWaitConf one ahead)) k = cc
       plain _ k = refl
 
-  pub no_find_api : (to : Place) (body : Body) → is_api_kind body ≡ true → is_finding_who tx who to body ≡ false
-  no_find_api to body e = finds_in (is_tc to.block) body (plain body e)
+  pub no_find_api : IsNotOfApi (is_finding_who tx who)
+  no_find_api = record {
+    kinds = λ to body e. finds_in (is_tc to.block) body (plain body e);
+    begins = λ name node. refl;
+  }
     where
       plain : (b : Body) → is_api_kind b ≡ true → finds_who tx who b ≡ false
       plain (Client (LqhWaitConf one ahead)) k = cc
@@ -114,20 +120,6 @@ module _ (tx who : TxId) where
   no_tell_seek to body e = tells_in (is_api to.block) body (plain body e)
     where
       plain : (b : Body) → is_seek b ≡ true → tells_who tx who b ≡ false
-      plain (Client (TcWaitConf one ahead)) k = cc
-      plain _ k = refl
-
-  no_tell_lqh : (to : Place) (body : Body) → is_lqh_kind body ≡ true → is_telling_who tx who to body ≡ false
-  no_tell_lqh to body e = tells_in (is_api to.block) body (plain body e)
-    where
-      plain : (b : Body) → is_lqh_kind b ≡ true → tells_who tx who b ≡ false
-      plain (Client (TcWaitConf one ahead)) k = cc
-      plain _ k = refl
-
-  no_tell_dih : (to : Place) (body : Body) → is_dih_kind body ≡ true → is_telling_who tx who to body ≡ false
-  no_tell_dih to body e = tells_in (is_api to.block) body (plain body e)
-    where
-      plain : (b : Body) → is_dih_kind b ≡ true → tells_who tx who b ≡ false
       plain (Client (TcWaitConf one ahead)) k = cc
       plain _ k = refl
 
@@ -184,12 +176,31 @@ module _ (tx who : TxId) where
 
   -- who tells the client was told
   pub host_told : (g : Host) (x : Signal) → is_wait_of tx x.body ≡ true → 1 ≤ sends_of (is_telling_who tx who) (row g x).effects.sends → (is_tc x.to.block && finds_who tx who x.body) ≡ true
-  host_told g x own = of_effects (λ f. 1 ≤ sends_of (is_telling_who tx who) f.sends → (is_tc x.to.block && finds_who tx who x.body) ≡ true) g x none_sent (record {
-    api = λ runs at some. absurd (omega (arith, some, api_silent (is_telling_who tx who) (record { kinds = no_tell_api; begins = λ name node. refl }) (api_of g) x.body));
-    tc = λ runs at some. ap (λ of. is_tc of && finds_who tx who x.body) at ∙ tc_told (tc_of g) x.body own some;
-    dih = λ runs at some. absurd (omega (arith, some, none_of is_dih_kind (is_telling_who tx who) no_tell_dih (dih_table (dih_of g) x.body).effects.sends (dih_kinds (dih_of g) x.body)));
-    rows = λ runs at some. absurd (omega (arith, some, none_of is_lqh_kind (is_telling_who tx who) no_tell_lqh (lqh_table (lqh_of g) x.body).effects.sends (lqh_kinds (lqh_of g) x.body)));
-  })
+  host_told g x own = of_effects (λ f. 1 ≤ sends_of (is_telling_who tx who) f.sends
+      → (is_tc x.to.block && finds_who tx who x.body) ≡ true) g x none_sent (record {
+        api = λ runs at some. absurd
+            (omega (
+              arith,
+              some,
+              api_silent (is_telling_who tx who) (not_of_api (is_telling_who tx who) telling_tc)
+                  (api_of g) x.body,
+            ));
+        tc = λ runs at some. ap (λ of. is_tc of && finds_who tx who x.body) at ∙ tc_told (tc_of g) x.body own some;
+        dih = λ runs at some. absurd
+            (omega (
+              arith,
+              some,
+              none_of is_dih_kind (is_telling_who tx who) (not_of_dih (is_telling_who tx who) telling_tc)
+                  (dih_table (dih_of g) x.body).effects.sends (dih_kinds (dih_of g) x.body),
+            ));
+        rows = λ runs at some. absurd
+            (omega (
+              arith,
+              some,
+              none_of is_lqh_kind (is_telling_who tx who) (not_of_lqh (is_telling_who tx who) telling_tc)
+                  (lqh_table (lqh_of g) x.body).effects.sends (lqh_kinds (lqh_of g) x.body),
+            ));
+      })
 
   -- the transaction waits behind it here
   pub record FoundAt (s : LqhState) : Type 0 where
@@ -222,10 +233,13 @@ module _ (tx who : TxId) where
   no_begin _ own s = cc
 
   -- and who told it found it so
-  pub host_found : (g : Host) (x : Signal) → is_wait_of tx x.body ≡ true → 1 ≤ sends_of (is_finding_who tx who) (row g x).effects.sends → FoundAt (lqh_of g)
-  host_found g x own = of_effects (λ f. 1 ≤ sends_of (is_finding_who tx who) f.sends → FoundAt (lqh_of g)) g x none_sent (record {
-    api = λ runs at some. absurd (omega (arith, some, api_silent (is_finding_who tx who) (record { kinds = no_find_api; begins = λ name node. refl }) (api_of g) x.body));
-    tc = λ runs at some. absurd (omega (arith, some, no_begin x.body own (tc_of g)));
-    dih = λ runs at some. absurd (omega (arith, some, none_of is_dih_kind (is_finding_who tx who) no_find_dih (dih_table (dih_of g) x.body).effects.sends (dih_kinds (dih_of g) x.body)));
-    rows = λ runs at some. lqh_found (lqh_of g) x.body own some;
-  })
+  pub host_found : (g : Host) (x : Signal) → is_wait_of tx x.body ≡ true
+      → 1 ≤ sends_of (is_finding_who tx who) (row g x).effects.sends → FoundAt (lqh_of g)
+  host_found g x own = of_effects (λ f. 1 ≤ sends_of (is_finding_who tx who) f.sends → FoundAt (lqh_of g)) g x none_sent
+      (record {
+        api = λ runs at some. absurd
+            (omega (arith, some, api_silent (is_finding_who tx who) no_find_api (api_of g) x.body));
+        tc = λ runs at some. absurd (omega (arith, some, no_begin x.body own (tc_of g)));
+        dih = λ runs at some. absurd (omega (arith, some, none_of is_dih_kind (is_finding_who tx who) no_find_dih (dih_table (dih_of g) x.body).effects.sends (dih_kinds (dih_of g) x.body)));
+        rows = λ runs at some. lqh_found (lqh_of g) x.body own some;
+      })

@@ -2,10 +2,10 @@
 use Rattle.std.proofs.Common.{◌≡◌, ◌⊎◌, ◌<◌, ◌≤◌, ℕ, zero, suc, Bool, true, false, List, [], ◌∷◌, ◌++◌, refl, sym, ap, subst, ◌∙◌, inl, inr, append_assoc, arith}
 use Rattle.std.proofs.lemmas.Bool.{cases_lt}
 use Rattle.std.specs.Prelude.{◌&&◌, ◌||◌, IfSome, Some}
+use Rattle.run_theory.proofs.Pasts.{each_after, each_in}
 use Rattle.run_theory.specs.Cuts.{IsCut}
 use Rattle.run_theory.specs.Lists.{Each, IsIn}
-use Rattle.run_theory.proofs.Pasts.{each_after, each_in}
-use Rattle.world_core.specs.Steps.{HostStep}
+use Rattle.sig_core.proofs.Keys.{same_tx-self}
 use Rattle.sig_core.specs.declared.member.TxId.{TxId}
 use Rattle.sig_core.specs.declared.place.Place.{Place}
 use Rattle.sig_core.specs.declared.signal.Body.{Body}
@@ -18,24 +18,25 @@ use Rattle.row_locks.specs.Holders.{first_other, holds, tx_if}
 use Rattle.row_locks.specs.OrderlyTables.{AreOrderly}
 use Rattle.row_locks.specs.Queues.{waits}
 use Rattle.row_locks.specs.Tables.{Locks, ahead_at, lock_at, some_if}
+use Rattle.node_core.specs.Blocks.{lqh_of}
 use Rattle.node_core.specs.Requests.{is_request}
+use Rattle.node_core.specs.Row.{row}
 use Rattle.world_core.specs.Hosts.{hosts, rows_host}
 use Rattle.world_core.specs.Machine.{after}
 use Rattle.world_core.specs.Start.{Start}
-use Rattle.commit_laws.proofs.Replicas.{logs_keep_well}
-use Rattle.answer_laws.proofs.ApiBegins.{in_middle}
-use Rattle.sig_core.proofs.Keys.{same_tx-self}
-use Rattle.answer_laws.proofs.Wishes.{is_api, is_tc, sends_of}
+use Rattle.world_core.specs.Steps.{HostStep}
+use Rattle.host_laws.proofs.ApiBegins.{in_middle}
+use Rattle.host_laws.proofs.LqhOps.{right_of}
+use Rattle.host_laws.proofs.Replicas.{logs_keep_well}
+use Rattle.host_laws.proofs.Wishes.{is_api, is_tc, sends_of}
 use Rattle.answer_laws.specs.Answered.{AreQuiet}
-use Rattle.command_laws.proofs.Since.{front_nil, sent_since}
-use Rattle.command_laws.proofs.WaitRows.{is_telling_who, is_wait_of, tells_who, host_waits}
-use Rattle.command_laws.proofs.WaitSources.{FoundAt, SentBy, came_from, finds_who, is_finding_who, no_find_api, no_tell_api, host_found, host_told, sent_by}
-use Rattle.command_laws.specs.Served.{IsBehind, IsBehindAt}
-use Rattle.command_laws.proofs.HostSends.{shell_silent}
 use Rattle.command_laws.proofs.Homes.{ahead_rows}
 use Rattle.command_laws.proofs.HostKinds.{node_runs_none}
-use Rattle.node_core.specs.Row.{row}
-use Rattle.node_core.specs.Blocks.{lqh_of}
+use Rattle.command_laws.proofs.HostSends.{not_of_api, shell_silent}
+use Rattle.command_laws.proofs.Since.{front_nil, sent_since}
+use Rattle.command_laws.proofs.WaitRows.{is_telling_who, is_wait_of, tells_who, host_waits}
+use Rattle.command_laws.proofs.WaitSources.{FoundAt, SentBy, came_from, finds_who, is_finding_who, no_find_api, telling_tc, host_found, host_told, sent_by}
+use Rattle.command_laws.specs.Served.{IsBehind, IsBehindAt}
 
 -- the first other holder holds the lock
 first_holds : (tx : TxId) (holders : List Holder) → same_tx (first_other tx holders) tx ≡ false → holds (first_other tx holders) holders ≡ true
@@ -76,13 +77,9 @@ behind_locks locks key tx who orderly is = by (waits tx (lock_at locks key).queu
 plain_by : (a : Bool) (test : Body → Bool) (body : Body) → (is_request body ≡ true → test body ≡ false) → (a && test body) ≡ true → is_request body ≡ false
 plain_by a test body off e = by (is_request body) refl
   where
-    last_of : (x y : Bool) → (x && y) ≡ true → y ≡ true
-    last_of true y p = p
-    last_of false y p = cc
-
     by : (b : Bool) → is_request body ≡ b → is_request body ≡ false
     by false is = is
-    by true is = absurd (let both : true ≡ false = sym (last_of a (test body) e) ∙ off is in cc)
+    by true is = absurd (let both : true ≡ false = sym (right_of a (test body) e) ∙ off is in cc)
 
 plain_tells : (tx who : TxId) (to : Place) (body : Body) → is_telling_who tx who to body ≡ true → is_request body ≡ false
 plain_tells tx who to body e = plain_by (is_api to.block) (tells_who tx who) body (off body) e
@@ -106,7 +103,8 @@ some_step (f ∷ front) e back is = cc
 node_stays : (start : Start) (tx : TxId) (h : ℕ) (newer log : List HostStep) → Each (λ (e : HostStep). is_wait_of tx e.step.taken.body ≡ true) newer → after start (suc h) (newer ++ log) ≡ after start (suc h) log
 node_stays start tx h [] log kinds = refl
 node_stays start tx h (e ∷ newer) log kinds =
-    (host_waits start tx (after start (suc h) (newer ++ log)) e.step.taken (node_runs_none start h (newer ++ log)) kinds.0).same ∙ node_stays start tx h newer log kinds.1
+    (host_waits start tx (after start (suc h) (newer ++ log)) e.step.taken
+    (node_runs_none start h (newer ++ log)) kinds.0).same ∙ node_stays start tx h newer log kinds.1
 
 module _ (start : Start) (was mid : ℕ → List HostStep) (tx who : TxId) (before : AreQuiet start was) (since : AreQuiet start mid) (cut : IsCut was mid)
     (kinds : (h : ℕ) → Each (λ (e : HostStep). is_wait_of tx e.step.taken.body ≡ true) (cut (suc h)).newer) where
@@ -148,7 +146,7 @@ module _ (start : Start) (was mid : ℕ → List HostStep) (tx who : TxId) (befo
       sent_at i at = came_from start was mid before since cut (is_finding_who tx who) (suc h) e inside (plain_finds tx who e.step.taken.to e.step.taken.body passes) passes i at
 
       by : (i : ℕ) → e.step.taken.from.0 ≡ i → IsBehindThere
-      by zero at = absurd (omega (arith, sent_at zero at, shell_silent (is_finding_who tx who) (record { kinds = no_find_api tx who; begins = λ name node. refl }) start (cut 0).newer (was 0)))
+      by zero at = absurd (omega (arith, sent_at zero at, shell_silent (is_finding_who tx who) (no_find_api tx who) start (cut 0).newer (was 0)))
       by (suc k) at = there (cases_lt (suc k) (hosts start))
         where
           b : SentBy start (is_finding_who tx who) (suc k) (cut (suc k)).newer (was (suc k))
@@ -158,18 +156,26 @@ module _ (start : Start) (was mid : ℕ → List HostStep) (tx who : TxId) (befo
           sender = sent_here (is_finding_who tx who) k b
 
           found : FoundAt tx who (lqh_of (after start (suc k) (was (suc k))))
-          found = host_found tx who (after start (suc k) (was (suc k))) sender.step.step.taken sender.waits_kind sender.sends
+          found = host_found tx who
+              (after start (suc k) (was (suc k))) sender.step.step.taken sender.waits_kind sender.sends
 
           behind_now : IsBehindAt tx who found.key (after start (suc k) (mid (suc k)))
           behind_now =
-              subst (IsBehindAt tx who found.key) (sym (ap (after start (suc k)) (cut (suc k)).is ∙ node_stays start tx k (cut (suc k)).newer (was (suc k)) (kinds k)))
-              (behind_locks (lqh_of (after start (suc k) (was (suc k)))).locks found.key tx who (logs_keep_well start (suc k) (was (suc k))).orderly found.is)
+              subst (IsBehindAt tx who found.key) (sym (ap (after start (suc k)) (cut (suc k)).is
+              ∙ node_stays start tx k (cut (suc k)).newer (was (suc k)) (kinds k)))
+              (behind_locks (lqh_of (after start (suc k) (was (suc k)))).locks found.key tx who
+              (logs_keep_well start (suc k) (was (suc k))).orderly found.is)
 
           -- who has locks is the host of a node's rows
           there : (suc k < hosts start) ⊎ (hosts start ≤ suc k) → IsBehindThere
           there (inl low) =
               let n = ahead_rows start (suc k) (was (suc k)) low found.key tx who found.is in
-              record { node = n.node; low = n.low; key = found.key; behind = subst (λ h. IsBehindAt tx who found.key (after start h (mid h))) n.is behind_now }
+              record {
+                node = n.node;
+                low = n.low;
+                key = found.key;
+                behind = subst (λ h. IsBehindAt tx who found.key (after start h (mid h))) n.is behind_now;
+              }
           there (inr high) = absurd (some_step b.front b.step b.back (sym b.is ∙ front_nil (cut (suc k)).newer (was (suc k)) (sym (since.within (suc k) high) ∙ (cut (suc k)).is)))
 
   pub behind_there : (e : HostStep) → IsIn e ((cut 0).newer) → is_telling_who tx who e.step.taken.to e.step.taken.body ≡ true → IsBehindThere
@@ -179,7 +185,15 @@ module _ (start : Start) (was mid : ℕ → List HostStep) (tx who : TxId) (befo
       sent_at i at = came_from start was mid before since cut (is_telling_who tx who) 0 e inside (plain_tells tx who e.step.taken.to e.step.taken.body passes) passes i at
 
       by : (i : ℕ) → e.step.taken.from.0 ≡ i → IsBehindThere
-      by zero at = absurd (omega (arith, sent_at zero at, shell_silent (is_telling_who tx who) (record { kinds = no_tell_api tx who; begins = λ name node. refl }) start (cut 0).newer (was 0)))
+      by zero at =
+          absurd (omega (
+            arith,
+            sent_at zero at,
+            shell_silent (is_telling_who tx who) (not_of_api (is_telling_who tx who) (telling_tc tx who)) start
+                (cut 0).newer (was 0),
+          ))
       by (suc k) at =
           let sender = sent_here (is_telling_who tx who) k (sent_by start (is_telling_who tx who) (suc k) (cut (suc k)).newer (was (suc k)) (sent_at (suc k) at)) in
-          found_there k sender.step sender.inside (host_told tx who (after start (suc k) (was (suc k))) sender.step.step.taken sender.waits_kind sender.sends)
+          found_there k sender.step sender.inside
+          (host_told tx who
+          (after start (suc k) (was (suc k))) sender.step.step.taken sender.waits_kind sender.sends)

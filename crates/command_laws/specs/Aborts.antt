@@ -10,7 +10,7 @@ use Rattle.sig_core.specs.declared.request.ApiReq.TheVariants.{Abort}
 use Rattle.api_block.specs.declared.opened.Doing.TheVariants.{Ready}
 use Rattle.api_block.specs.declared.opened.OpenTransaction.{OpenTransaction}
 use Rattle.world_core.specs.Start.{Start}
-use Rattle.answer_laws.specs.Answered.{opened_after}
+use Rattle.host_laws.specs.Opened.{opened_after}
 use Rattle.command_laws.specs.Served.{IsServed, named_in, replies_since}
 
 -- an abort of a transaction that takes commands ends in its being aborted at the client's request

@@ -13,7 +13,8 @@ use Rattle.api_block.specs.declared.opened.Doing.TheVariants.{Operating}
 use Rattle.api_block.specs.declared.opened.OpenTransaction.{OpenTransaction}
 use Rattle.api_block.specs.Opened.{has_tx}
 use Rattle.world_core.specs.Start.{Start}
-use Rattle.answer_laws.specs.Answered.{WaitsForLock, opened_after}
+use Rattle.answer_laws.specs.Answered.{WaitsForLock}
+use Rattle.host_laws.specs.Opened.{opened_after}
 use Rattle.command_laws.specs.Served.{IsAnsweredAlone, IsServed, is_refusal, replies_since}
 
 -- a transaction of one ended since then, for want of room or of time

@@ -20,7 +20,8 @@ use Rattle.world_core.specs.Machine.{after, machine}
 use Rattle.world_core.specs.Quiet.{IsQuiet}
 use Rattle.world_core.specs.Requests.{AreAskedAtQuiet, request_in}
 use Rattle.world_core.specs.Start.{Start}
-use Rattle.answer_laws.specs.Answered.{IsAnswered, opened_after}
+use Rattle.answer_laws.specs.Answered.{IsAnswered}
+use Rattle.host_laws.specs.Opened.{opened_after}
 use Rattle.command_laws.specs.Alone.{IsRefusedAlone, IsTurnedAway, WaitsAlone}
 use Rattle.command_laws.specs.Between.{IsAskedAgain, IsServedIn}
 use Rattle.command_laws.specs.Served.{IsAnsweredAlone, IsAnsweredAs, IsCommittedAlone, IsRefusedAs, IsServed, IsToldCommitted, IsToldHolder, StillWaits, named_in, replies_since}

@@ -13,7 +13,7 @@ use Rattle.sig_core.specs.Place.{client, coordinator, epochs, rows_of}
 use Rattle.sig_core.specs.Step.{to_place}
 use Rattle.world_core.specs.Machine.{headed, request_signal}
 use Rattle.api_block.specs.declared.opened.Doing.TheVariants.{Ready}
-use Rattle.answer_laws.specs.Answered.{opened_after}
+use Rattle.host_laws.specs.Opened.{opened_after}
 use Rattle.answer_laws.specs.Sample.{first_tx, lone, one, sample, seventh, takes}
 use Rattle.command_laws.specs.Served.{IsServed, named_in}
 

@@ -34,7 +34,8 @@ use Rattle.node_core.specs.Replies.{is_left_open, replies_of}
 use Rattle.world_core.specs.Machine.{after}
 use Rattle.world_core.specs.Requests.{requests}
 use Rattle.world_core.specs.Start.{Start}
-use Rattle.answer_laws.specs.Answered.{AreQuiet, EachAtQuiet, IsLiveAs, WaitsForLock, opened_after}
+use Rattle.answer_laws.specs.Answered.{AreQuiet, EachAtQuiet, IsLiveAs, WaitsForLock}
+use Rattle.host_laws.specs.Opened.{opened_after}
 
 -- The shell asked for one more thing between two quiet moments: the later logs have those before, and of the shell's requests
 -- this one more.

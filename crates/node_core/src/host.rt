@@ -108,12 +108,7 @@ fn stored(
 }
 
 /// Puts a row, if the node's group has it.
-fn put(
-    stored: &mut MapRows,
-    shape: &Shape,
-    node: u8,
-    row: &(Key, Value),
-) -> Result<(), NoMemory>
+fn put(stored: &mut MapRows, shape: &Shape, node: u8, row: &(Key, Value)) -> Result<(), NoMemory>
     requires { IsShape shape.now }
     ensures { OnOk result (stored.new.rows ≡ with_rows stored.old.rows (own_rows shape.now node (row.now ∷ []))) }
 {

@@ -20,18 +20,18 @@ use Rattle.world_core.specs.Machine.{after, machine}
 use Rattle.world_core.specs.Start.{Start}
 use Rattle.world_core.specs.Rest.{IsLiveReplica}
 use Rattle.sig_core.specs.declared.view.View.{View}
-use Rattle.commit_laws.specs.Backup.{is_spoilt, kept_of}
-use Rattle.commit_laws.specs.Laws.{AreKeysRight}
-use Rattle.commit_laws.specs.OneKey.{row_at_end}
-use Rattle.commit_laws.specs.Primary.{ended_too}
-use Rattle.commit_laws.specs.Records.{found, kept_row}
-use Rattle.commit_laws.specs.Replica.{Replica}
-use Rattle.commit_laws.specs.ReplicaLaws.{at_rest}
-use Rattle.commit_laws.proofs.Epochs.{view_first}
-use Rattle.commit_laws.proofs.Replicas.{keys_have_rows, nodes_begin}
-use Rattle.transit_laws.specs.Circle.{IsReplica, at_host, at_primary}
-use Rattle.transit_laws.specs.Routes.{primary_host, replicas}
-use Rattle.transit_laws.specs.Transit.{Comes, IsRun, logs_of}
+use Rattle.key_laws.specs.Backup.{is_spoilt, kept_of}
+use Rattle.run_laws.specs.Laws.{AreKeysRight}
+use Rattle.key_laws.specs.OneKey.{row_at_end}
+use Rattle.key_laws.specs.Primary.{ended_too}
+use Rattle.key_laws.specs.Records.{found, kept_row}
+use Rattle.key_laws.specs.Replica.{Replica}
+use Rattle.host_laws.specs.ReplicaLaws.{at_rest}
+use Rattle.run_laws.proofs.Epochs.{view_first}
+use Rattle.host_laws.proofs.Replicas.{keys_have_rows, nodes_begin}
+use Rattle.run_laws.specs.Circle.{IsReplica, at_host, at_primary}
+use Rattle.run_laws.specs.Routes.{primary_host, replicas}
+use Rattle.run_laws.specs.Transit.{Comes, IsRun, logs_of}
 use Rattle.serial_laws.specs.Owing.{AreOwed}
 use Rattle.serial_laws.proofs.DecisionSteps.{kept_good, unkept_good}
 use Rattle.serial_laws.proofs.FairSteps.{AreWriters, owed_fair}
@@ -39,7 +39,7 @@ use Rattle.serial_laws.proofs.Finals.{decided_at, first_row, history_at, is_fina
 use Rattle.serial_laws.proofs.KeySteps.{IsBackupWith, IsGoodWith, IsPrimaryWith, good_step, primary_replica, rests_fair}
 use Rattle.serial_laws.proofs.ReplicaHosts.{member_is, node_for, primary_is}
 use Rattle.serial_laws.proofs.Parts.{part_comes, part_turn}
-use Rattle.transit_laws.proofs.Decided.{run_is_cut}
+use Rattle.run_laws.proofs.Decided.{run_is_cut}
 use Rattle.serial_laws.proofs.StepKinds.{StepKind, decision, quiet, step_kind}
 use Rattle.serial_laws.proofs.Turns.{ComesAfter, IsByTurn}
 use Rattle.serial_laws.proofs.Unfinished.{AreUnfinished, once_at, settled_empty, unfinished_now}

@@ -13,20 +13,20 @@ use Rattle.sig_core.specs.declared.rows.PendingRecord.{PendingRecord}
 use Rattle.sig_core.specs.Same.{same_tx}
 use Rattle.sig_core.proofs.TxLemmas.{same_tx-is, same_tx-swap}
 use Rattle.world_core.specs.Start.{Start}
-use Rattle.commit_laws.specs.Backup.{HasImage, kept_of}
-use Rattle.commit_laws.specs.BackupEvents.{IsInOrderAt, backup_of}
-use Rattle.commit_laws.specs.BackupLaws.{IsDecidedTo}
-use Rattle.commit_laws.specs.OneKey.{AreRight, ops_on, row_after_all, row_at_end}
-use Rattle.commit_laws.specs.Primary.{IsLedTo, KeepsToo, ended_too}
-use Rattle.commit_laws.specs.PrimaryEvents.{AtPrimary, primary_of}
-use Rattle.commit_laws.specs.PrimaryLaws.{IsDecidedRightly}
-use Rattle.commit_laws.specs.Records.{found}
-use Rattle.commit_laws.specs.Replica.{Replica}
-use Rattle.commit_laws.proofs.BackupMoves.{decisions_move, kept_row-same, unkept_decisions_move}
+use Rattle.key_laws.specs.Backup.{HasImage, kept_of}
+use Rattle.key_laws.specs.BackupEvents.{IsInOrderAt, backup_of}
+use Rattle.key_laws.specs.BackupLaws.{IsDecidedTo}
+use Rattle.key_laws.specs.OneKey.{AreRight, ops_on, row_after_all, row_at_end}
+use Rattle.key_laws.specs.Primary.{IsLedTo, KeepsToo, ended_too}
+use Rattle.key_laws.specs.PrimaryEvents.{AtPrimary, primary_of}
+use Rattle.key_laws.specs.PrimaryLaws.{IsDecidedRightly}
+use Rattle.key_laws.specs.Records.{found}
+use Rattle.key_laws.specs.Replica.{Replica}
+use Rattle.key_laws.proofs.BackupMoves.{decisions_move, kept_row-same, unkept_decisions_move}
 use Rattle.sig_core.proofs.Keys.{same_tx-self}
-use Rattle.commit_laws.proofs.PrimaryValue.{decisions_right, only_of, prepared_holds}
-use Rattle.commit_laws.proofs.RecordLemmas.{kept_row-one}
-use Rattle.transit_laws.specs.Circle.{Agree, IsReplica, IsSettledFor, at_host, at_primary}
+use Rattle.key_laws.proofs.PrimaryValue.{decisions_right, only_of, prepared_holds}
+use Rattle.key_laws.proofs.RecordLemmas.{kept_row-one}
+use Rattle.run_laws.specs.Circle.{Agree, IsReplica, IsSettledFor, at_host, at_primary}
 use Rattle.serial_laws.proofs.Folds.{end_last, none_done, right_last}
 use Rattle.serial_laws.proofs.KeySteps.{IsBackupWith, IsGoodWith}
 

@@ -1,8 +1,8 @@
 -- Every closed cut is serial.
-use Rattle.transit_laws.proofs.DecidedSettled.{decided_settled}
-use Rattle.transit_laws.proofs.GivenUp.{kept_are_not_given_up, none_is_both}
-use Rattle.transit_laws.proofs.NoneWait.{waiters_are_undecided}
-use Rattle.transit_laws.proofs.Owing.{events_owed}
+use Rattle.run_laws.proofs.DecidedSettled.{decided_settled}
+use Rattle.run_laws.proofs.GivenUp.{kept_are_not_given_up, none_is_both}
+use Rattle.run_laws.proofs.NoneWait.{waiters_are_undecided}
+use Rattle.run_laws.proofs.Owing.{events_owed}
 use Rattle.world_core.specs.SerialLaw.{EveryCutIsSerial}
 use Rattle.serial_laws.proofs.SerialOfOwed.{serial_of_owed}
 

@@ -14,17 +14,17 @@ use Rattle.world_core.specs.History.{is_applied}
 use Rattle.world_core.specs.Machine.{after, machine, step_after}
 use Rattle.world_core.specs.Marks.{has_mark}
 use Rattle.world_core.specs.Start.{Start}
-use Rattle.commit_laws.specs.Backup.{kept_of}
-use Rattle.commit_laws.specs.BackupEvents.{IsFairAt}
-use Rattle.commit_laws.specs.Primary.{HasPrepared}
-use Rattle.commit_laws.specs.PrimaryEvents.{AtPrimary, IsFair, IsTimely, NoneOf}
-use Rattle.commit_laws.specs.Records.{found}
-use Rattle.commit_laws.specs.Replica.{Event, Replica, aborts, ages, asks, commits, completes, expires, rests, serves}
-use Rattle.transit_laws.specs.Circle.{IsReplica, at_host, at_primary}
-use Rattle.transit_laws.specs.Completions.{IsCommittedAtAll}
-use Rattle.transit_laws.specs.Owed.{IsCarriedOut, IsOwed, IsUndecided}
-use Rattle.transit_laws.specs.Routes.{primary_host}
-use Rattle.transit_laws.specs.Transit.{Comes, IsRun, logs_of}
+use Rattle.key_laws.specs.Backup.{kept_of}
+use Rattle.key_laws.specs.BackupEvents.{IsFairAt}
+use Rattle.key_laws.specs.Primary.{HasPrepared}
+use Rattle.key_laws.specs.PrimaryEvents.{AtPrimary, IsFair, IsTimely, NoneOf}
+use Rattle.key_laws.specs.Records.{found}
+use Rattle.key_laws.specs.Replica.{Event, Replica, aborts, ages, asks, commits, completes, expires, rests, serves}
+use Rattle.run_laws.specs.Circle.{IsReplica, at_host, at_primary}
+use Rattle.run_laws.specs.Completions.{IsCommittedAtAll}
+use Rattle.run_laws.specs.Owed.{IsCarriedOut, IsOwed, IsUndecided}
+use Rattle.run_laws.specs.Routes.{primary_host}
+use Rattle.run_laws.specs.Transit.{Comes, IsRun, logs_of}
 use Rattle.serial_laws.specs.Owing.{AreOwed}
 use Rattle.serial_laws.proofs.Finals.{IsWriter, carried_at, decided_at, is_final, undecided_at, writer_final}
 use Rattle.serial_laws.proofs.HostSteps.{host_applies}

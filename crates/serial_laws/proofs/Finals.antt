@@ -20,16 +20,16 @@ use Rattle.world_core.specs.Hosts.{hosts}
 use Rattle.world_core.specs.Machine.{machine}
 use Rattle.world_core.specs.Marks.{has_mark, have_mark}
 use Rattle.world_core.specs.Start.{Start}
-use Rattle.commit_laws.specs.Backup.{kept_of}
-use Rattle.commit_laws.specs.Causes.{is_decision}
-use Rattle.commit_laws.specs.OneKey.{row_at_end}
-use Rattle.commit_laws.specs.Primary.{ended_too}
-use Rattle.commit_laws.proofs.HostMarks.{AreMarks, decides, plain}
+use Rattle.key_laws.specs.Backup.{kept_of}
+use Rattle.host_laws.specs.Causes.{is_decision}
+use Rattle.key_laws.specs.OneKey.{row_at_end}
+use Rattle.key_laws.specs.Primary.{ended_too}
+use Rattle.host_laws.proofs.HostMarks.{AreMarks, decides, plain}
 use Rattle.sig_core.proofs.Keys.{same_tx-self}
-use Rattle.commit_laws.proofs.PlainMarks.{ArePlain}
-use Rattle.transit_laws.specs.GivenUp.{is_given_up}
-use Rattle.transit_laws.specs.Owed.{IsCarriedOut, IsUndecided, is_decided}
-use Rattle.transit_laws.specs.Transit.{Comes, IsRun, logs_of}
+use Rattle.host_laws.proofs.PlainMarks.{ArePlain}
+use Rattle.run_laws.specs.GivenUp.{is_given_up}
+use Rattle.run_laws.specs.Owed.{IsCarriedOut, IsUndecided, is_decided}
+use Rattle.run_laws.specs.Transit.{Comes, IsRun, logs_of}
 use Rattle.serial_laws.specs.Owing.{AreOwed}
 use Rattle.serial_laws.proofs.Folds.{any_in, any_item, in_filter, in_front, of_filter}
 use Rattle.serial_laws.proofs.NewDecisions.{decided_now, decided_other, entries_are_once, one_entry, plain_undecided}

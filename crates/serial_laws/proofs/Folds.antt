@@ -10,7 +10,7 @@ use Rattle.sig_core.specs.declared.op.Answer.TheVariants.{Done, Found, Missing, 
 use Rattle.sig_core.specs.declared.op.Op.{Op}
 use Rattle.sig_core.specs.Op.{answer_to}
 use Rattle.world_core.specs.History.{is_done}
-use Rattle.commit_laws.specs.OneKey.{AreRight, IsRightAt, ops_on, row_after_all, row_at_end, row_by}
+use Rattle.key_laws.specs.OneKey.{AreRight, IsRightAt, ops_on, row_after_all, row_at_end, row_by}
 
 pub right_last : (key : List ℕ) (row : Option (List ℕ)) (xs : List Entry) (z : Entry) → IsRightAt key row xs → AreRight (row_at_end key row xs) (ops_on key z.ops) → IsRightAt key row (xs ++ z ∷ [])
 right_last key row [] z right own = (own, tt)

@@ -13,9 +13,9 @@ use Rattle.node_core.specs.Blocks.{has_lqh}
 use Rattle.node_core.specs.Row.{ldm_row, row}
 use Rattle.world_core.specs.History.{is_applied}
 use Rattle.world_core.specs.Rest.{is_done, is_prepared}
-use Rattle.commit_laws.specs.Records.{found}
-use Rattle.commit_laws.specs.Replica.{cell_at, commits}
-use Rattle.commit_laws.specs.ReplicaLaws.{IsWell, IsWellHost, event_for, event_in, key_in}
+use Rattle.key_laws.specs.Records.{found}
+use Rattle.key_laws.specs.Replica.{cell_at, commits}
+use Rattle.host_laws.specs.ReplicaLaws.{IsWell, IsWellHost, event_for, event_in, key_in}
 use Rattle.serial_laws.proofs.RowApplies.{AppliesIf, applied_from, applies}
 use Rattle.serial_laws.proofs.RowMarks.{EndsPart, done_ends}
 use Rattle.serial_laws.proofs.RowPrepares.{new_marked, none_there}

@@ -10,19 +10,19 @@ use Rattle.std.specs.Prelude.{Option}
 use Rattle.serial_model.specs.Legal.{rows_of}
 use Rattle.world_core.specs.Machine.{after, machine}
 use Rattle.world_core.specs.Start.{Start}
-use Rattle.commit_laws.specs.Backup.{IsLedUnlessSpoilt, kept_of}
-use Rattle.commit_laws.specs.BackupEvents.{IsFairAt, IsInOrderAt, backup_of}
-use Rattle.commit_laws.specs.OneKey.{IsRightAt, row_at_end}
-use Rattle.commit_laws.specs.Primary.{IsLedTo}
-use Rattle.commit_laws.specs.PrimaryEvents.{AtPrimary, IsFair, IsInOrder, IsTimely, primary_after}
-use Rattle.commit_laws.specs.Replica.{Event, Replica, key_after, rests}
-use Rattle.commit_laws.specs.ReplicaLaws.{event_in, key_in}
-use Rattle.commit_laws.proofs.BackupOrder.{fair_keeps}
-use Rattle.commit_laws.proofs.PrimaryOrder.{fair_order, timely_value}
-use Rattle.commit_laws.proofs.Replicas.{logs_follow}
-use Rattle.transit_laws.specs.Circle.{IsReplica, at_host, at_primary, primary_along}
-use Rattle.transit_laws.specs.Routes.{primary_host}
-use Rattle.transit_laws.specs.Transit.{logs_of}
+use Rattle.key_laws.specs.Backup.{IsLedUnlessSpoilt, kept_of}
+use Rattle.key_laws.specs.BackupEvents.{IsFairAt, IsInOrderAt, backup_of}
+use Rattle.key_laws.specs.OneKey.{IsRightAt, row_at_end}
+use Rattle.key_laws.specs.Primary.{IsLedTo}
+use Rattle.key_laws.specs.PrimaryEvents.{AtPrimary, IsFair, IsInOrder, IsTimely, primary_after}
+use Rattle.key_laws.specs.Replica.{Event, Replica, key_after, rests}
+use Rattle.host_laws.specs.ReplicaLaws.{event_in, key_in}
+use Rattle.key_laws.proofs.BackupOrder.{fair_keeps}
+use Rattle.key_laws.proofs.PrimaryOrder.{fair_order, timely_value}
+use Rattle.host_laws.proofs.Replicas.{logs_follow}
+use Rattle.run_laws.specs.Circle.{IsReplica, at_host, at_primary, primary_along}
+use Rattle.run_laws.specs.Routes.{primary_host}
+use Rattle.run_laws.specs.Transit.{logs_of}
 
 along_replica : (start : Start) (h : ℕ) (key : List ℕ) (log : List HostStep) → (primary_along start h key log).replica ≡ key_in key (after start h log)
 along_replica start h key [] = refl

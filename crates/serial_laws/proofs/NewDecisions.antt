@@ -21,16 +21,16 @@ use Rattle.world_core.specs.Hosts.{home, hosts}
 use Rattle.world_core.specs.Machine.{machine}
 use Rattle.world_core.specs.Marks.{has_mark}
 use Rattle.world_core.specs.Start.{Start}
-use Rattle.commit_laws.specs.Causes.{is_decision}
-use Rattle.commit_laws.proofs.CausalFacts.{DecidesAt, DecidesRightly}
-use Rattle.commit_laws.proofs.HostMarks.{AreMarks, decides, plain}
+use Rattle.host_laws.specs.Causes.{is_decision}
+use Rattle.run_laws.proofs.CausalFacts.{DecidesAt, DecidesRightly}
+use Rattle.host_laws.proofs.HostMarks.{AreMarks, decides, plain}
 use Rattle.sig_core.proofs.Keys.{same_tx-self}
-use Rattle.commit_laws.proofs.PlainMarks.{ArePlain}
-use Rattle.commit_laws.proofs.StrictOrder.{one_decided}
-use Rattle.transit_laws.specs.Owed.{is_decided}
-use Rattle.transit_laws.specs.Transit.{Comes, IsRun, logs_of}
+use Rattle.host_laws.proofs.PlainMarks.{ArePlain}
+use Rattle.run_laws.proofs.StrictOrder.{one_decided}
+use Rattle.run_laws.specs.Owed.{is_decided}
+use Rattle.run_laws.specs.Transit.{Comes, IsRun, logs_of}
 use Rattle.serial_laws.proofs.Parts.{mark_past, part_comes, part_turn, run_logs}
-use Rattle.transit_laws.proofs.Decided.{run_is_causal}
+use Rattle.run_laws.proofs.Decided.{run_is_causal}
 use Rattle.serial_laws.proofs.RowMarks.{alone_so}
 use Rattle.serial_laws.proofs.RunEntries.{entries_decided, entries_plain, marks_are, new_entry, other_log, own_log}
 use Rattle.serial_laws.proofs.Turns.{ComesAfter, IsByTurn}

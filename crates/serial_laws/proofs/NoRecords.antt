@@ -18,10 +18,10 @@ use Rattle.row_locks.specs.Rows.{RowLock, asked}
 use Rattle.lqh_block.specs.declared.request.Request.{Request}
 use Rattle.lqh_block.specs.Work.{work_mode}
 use Rattle.sig_core.specs.Firsts.{first}
-use Rattle.commit_laws.specs.Records.{AreOnce, edited, found, put_back, seen_by}
-use Rattle.commit_laws.specs.Replica.{Cell, Event, Replica, aborts, ages, asked_by, asks, commits, completes, expires, is_let_in, key_after, operated, rests, served_by, serves, storing, worked}
-use Rattle.commit_laws.proofs.Waiting.{each-first_item}
-use Rattle.commit_laws.proofs.RecordLemmas.{found-stored}
+use Rattle.key_laws.specs.Records.{AreOnce, edited, found, put_back, seen_by}
+use Rattle.key_laws.specs.Replica.{Cell, Event, Replica, aborts, ages, asked_by, asks, commits, completes, expires, is_let_in, key_after, operated, rests, served_by, serves, storing, worked}
+use Rattle.key_laws.proofs.Waiting.{each-first_item}
+use Rattle.key_laws.proofs.RecordLemmas.{found-stored}
 use Rattle.sig_core.proofs.TxLemmas.{same_tx-is}
 use Rattle.serial_laws.proofs.RowPrepares.{aborts_none, ages_none, commits_none, completes_none}
 

@@ -15,10 +15,10 @@ use Rattle.world_core.specs.Hosts.{home}
 use Rattle.world_core.specs.Machine.{after, machine}
 use Rattle.world_core.specs.Marks.{has_mark, have_mark}
 use Rattle.world_core.specs.Start.{Start}
-use Rattle.commit_laws.specs.Ways.{Way, back, back_by, closes, forth, forth_by, neither, put_ways, sent_ways, tc_sends, way_of}
-use Rattle.transit_laws.specs.GivenUp.{is_carried_out, is_given_up}
-use Rattle.transit_laws.specs.Transit.{Comes, IsRun, logs_of}
-use Rattle.transit_laws.proofs.Transit.{comes, earlier}
+use Rattle.host_laws.specs.Ways.{Way, back, back_by, closes, forth, forth_by, neither, put_ways, sent_ways, tc_sends, way_of}
+use Rattle.run_laws.specs.GivenUp.{is_carried_out, is_given_up}
+use Rattle.run_laws.specs.Transit.{Comes, IsRun, logs_of}
+use Rattle.run_laws.proofs.Transit.{comes, earlier}
 use Rattle.serial_laws.proofs.Turns.{IsByTurn}
 
 -- a part of a run is a run

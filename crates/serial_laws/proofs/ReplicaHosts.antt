@@ -15,8 +15,8 @@ use Rattle.world_core.specs.Machine.{after}
 use Rattle.world_core.specs.Start.{Start}
 use Rattle.world_core.specs.Steps.{HostStep}
 use Rattle.world_core.proofs.HostNumbers.{host_below, rows_run}
-use Rattle.transit_laws.specs.Circle.{IsReplica}
-use Rattle.transit_laws.specs.Routes.{IsNodeFor, primary_host, replicas}
+use Rattle.run_laws.specs.Circle.{IsReplica}
+use Rattle.run_laws.specs.Routes.{IsNodeFor, primary_host, replicas}
 
 -- the primary's is one of them
 pub primary_is : (start : Start) (key : List ℕ) → IsShape start.shape → IsReplica start key (primary_host start key)

@@ -24,8 +24,8 @@ use Rattle.lqh_block.specs.Operate as operate
 use Rattle.lqh_block.specs.State.{LqhState, storage_of}
 use Rattle.world_core.specs.History.{is_applied}
 use Rattle.sig_core.specs.Firsts.{first}
-use Rattle.commit_laws.specs.Records.{found}
-use Rattle.commit_laws.specs.Replica.{Event, aborts, asks, cell_at, commits, completes, event_at, expires, expires_if, if_on, is_refused, rests, serves, serves_if}
+use Rattle.key_laws.specs.Records.{found}
+use Rattle.key_laws.specs.Replica.{Event, aborts, asks, cell_at, commits, completes, event_at, expires, expires_if, if_on, is_refused, rests, serves, serves_if}
 use Rattle.sig_core.proofs.Keys.{same_key-self, same_tx-self}
 use Rattle.serial_laws.proofs.RowMarks.{alone_so, of_marked, state_found}
 use Rattle.lqh_block.proofs.EachLqh.{lqh_marks_each}

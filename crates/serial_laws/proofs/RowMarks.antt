@@ -16,11 +16,11 @@ use Rattle.lqh_block.specs.Lqh.{lqh_table}
 use Rattle.lqh_block.specs.State.{LqhState}
 use Rattle.run_theory.specs.Lists.{Each}
 use Rattle.world_core.specs.Rest.{is_done}
-use Rattle.commit_laws.specs.Primary.{HasPrepared}
-use Rattle.commit_laws.specs.Records.{found}
-use Rattle.commit_laws.specs.Replica.{Event, aborts, cell_at, completes, event_at, if_on, rests}
+use Rattle.key_laws.specs.Primary.{HasPrepared}
+use Rattle.key_laws.specs.Records.{found}
+use Rattle.key_laws.specs.Replica.{Event, aborts, cell_at, completes, event_at, if_on, rests}
 use Rattle.lqh_block.proofs.EachLqh.{lqh_marks_each}
-use Rattle.commit_laws.proofs.RecordsAt.{first-found, record_of-first}
+use Rattle.key_laws.proofs.RecordsAt.{first-found, record_of-first}
 
 -- a mark that stands alone
 pub alone : (b : Bool) → (b || false) ≡ true → b ≡ true

@@ -33,12 +33,12 @@ use Rattle.lqh_block.specs.State.{LqhState, storage_of, with_waiting}
 use Rattle.lqh_block.specs.Storage as storage
 use Rattle.lqh_block.specs.Storage.{StorageState}
 use Rattle.world_core.specs.Rest.{is_prepared}
-use Rattle.commit_laws.specs.Records.{as_committed, found, if_committed, unless_committed}
-use Rattle.commit_laws.specs.Replica.{Event, Replica, aborts, ages, at_key, cell_at, commits, completes, event_at, expired_by, expires, expires_if, if_on, key_after, rests, storing}
-use Rattle.commit_laws.specs.ReplicaLaws.{IsWell}
-use Rattle.commit_laws.proofs.CellsAt.{cell-storing}
-use Rattle.commit_laws.proofs.RecordLemmas.{committed_keeps, found-stored, if_keeps, none-edited, unless_keeps}
-use Rattle.commit_laws.proofs.Replicas.{signals_are_events}
+use Rattle.key_laws.specs.Records.{as_committed, found, if_committed, unless_committed}
+use Rattle.key_laws.specs.Replica.{Event, Replica, aborts, ages, at_key, cell_at, commits, completes, event_at, expired_by, expires, expires_if, if_on, key_after, rests, storing}
+use Rattle.host_laws.specs.ReplicaLaws.{IsWell}
+use Rattle.key_laws.proofs.CellsAt.{cell-storing}
+use Rattle.key_laws.proofs.RecordLemmas.{committed_keeps, found-stored, if_keeps, none-edited, unless_keeps}
+use Rattle.host_laws.proofs.Replicas.{signals_are_events}
 use Rattle.serial_laws.proofs.RowMarks.{alone_so}
 
 -- nothing is there where nothing was

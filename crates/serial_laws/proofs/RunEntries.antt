@@ -19,12 +19,12 @@ use Rattle.world_core.specs.Hosts.{hosts}
 use Rattle.world_core.specs.Machine.{machine}
 use Rattle.frag_map.specs.Layout.{first_number}
 use Rattle.world_core.specs.Start.{Start}
-use Rattle.commit_laws.proofs.EachEntry.{each_entry}
-use Rattle.commit_laws.proofs.Epochs.{plain_entries, step_marks}
-use Rattle.commit_laws.proofs.HostMarks.{AreMarks, decides, plain}
-use Rattle.commit_laws.proofs.PlainMarks.{ArePlain}
-use Rattle.commit_laws.proofs.StrictOrder.{view_stays}
-use Rattle.transit_laws.specs.Transit.{Comes, logs_of}
+use Rattle.run_laws.proofs.EachEntry.{each_entry}
+use Rattle.run_laws.proofs.Epochs.{plain_entries, step_marks}
+use Rattle.host_laws.proofs.HostMarks.{AreMarks, decides, plain}
+use Rattle.host_laws.proofs.PlainMarks.{ArePlain}
+use Rattle.run_laws.proofs.StrictOrder.{view_stays}
+use Rattle.run_laws.specs.Transit.{Comes, logs_of}
 use Rattle.serial_laws.proofs.EntriesGrow.{entries_more, entries_same}
 use Rattle.serial_laws.proofs.Parts.{run_logs}
 use Rattle.serial_laws.proofs.Turns.{ComesAfter}

@@ -8,10 +8,10 @@ use Rattle.world_core.specs.Steps.{HostStep}
 use Rattle.world_core.specs.Hosts.{hosts}
 use Rattle.world_core.specs.Machine.{machine}
 use Rattle.world_core.proofs.Stamped.{stamped}
-use Rattle.commit_laws.specs.Laws.{AreKeysRight, IsClosedCut}
-use Rattle.commit_laws.proofs.Epochs.{inside_right}
-use Rattle.commit_laws.proofs.Serial.{keys_serial}
-use Rattle.transit_laws.specs.Transit.{IsRun}
+use Rattle.run_laws.specs.Laws.{AreKeysRight, IsClosedCut}
+use Rattle.run_laws.proofs.Epochs.{inside_right}
+use Rattle.run_laws.proofs.Serial.{keys_serial}
+use Rattle.run_laws.specs.Transit.{IsRun}
 use Rattle.serial_laws.specs.Owing.{OwedMakesSerial}
 use Rattle.serial_laws.proofs.AlongRuns.{keys_right}
 use Rattle.serial_laws.proofs.Turns.{turn_merged}

@@ -24,15 +24,15 @@ use Rattle.world_core.specs.Entries.{else_of, entries, ops_of, verified_by}
 use Rattle.world_core.specs.Hosts.{hosts}
 use Rattle.world_core.specs.Machine.{after, machine}
 use Rattle.world_core.specs.Start.{Start}
-use Rattle.commit_laws.specs.Causes.{is_decision}
-use Rattle.commit_laws.specs.Primary.{ended_too}
-use Rattle.commit_laws.specs.Replica.{rests}
-use Rattle.commit_laws.specs.ReplicaLaws.{event_for, event_in}
-use Rattle.commit_laws.proofs.HostMarks.{AreMarks, decides, plain}
+use Rattle.host_laws.specs.Causes.{is_decision}
+use Rattle.key_laws.specs.Primary.{ended_too}
+use Rattle.key_laws.specs.Replica.{rests}
+use Rattle.host_laws.specs.ReplicaLaws.{event_for, event_in}
+use Rattle.host_laws.proofs.HostMarks.{AreMarks, decides, plain}
 use Rattle.sig_core.proofs.Keys.{same_tx-self}
-use Rattle.transit_laws.specs.Circle.{IsSettledFor}
-use Rattle.transit_laws.specs.GivenUp.{is_given_up}
-use Rattle.transit_laws.specs.Transit.{Comes, IsRun, logs_of}
+use Rattle.run_laws.specs.Circle.{IsSettledFor}
+use Rattle.run_laws.specs.GivenUp.{is_given_up}
+use Rattle.run_laws.specs.Transit.{Comes, IsRun, logs_of}
 use Rattle.serial_laws.specs.Owing.{AreOwed}
 use Rattle.serial_laws.proofs.Finals.{decided_at, entries_past, final_entry, final_not_given, given_decided, history_at, is_final, is_final_entry, is_given, newly_decided, plain_decided}
 use Rattle.serial_laws.proofs.Folds.{filter_last, filter_not_last, in_last}

@@ -12,15 +12,15 @@ use Rattle.world_core.specs.Machine.{after, machine}
 use Rattle.world_core.specs.Marks.{has_mark}
 use Rattle.world_core.specs.Rest.{IsSettled, is_done, is_prepared}
 use Rattle.world_core.specs.Start.{Start}
-use Rattle.commit_laws.specs.Records.{AreOnce, found, if_committed, unless_committed}
-use Rattle.commit_laws.specs.Replica.{Event, Replica, aborts, ages, asks, commits, completes, expires, key_after, rests, serves}
-use Rattle.commit_laws.specs.ReplicaLaws.{key_in}
+use Rattle.key_laws.specs.Records.{AreOnce, found, if_committed, unless_committed}
+use Rattle.key_laws.specs.Replica.{Event, Replica, aborts, ages, asks, commits, completes, expires, key_after, rests, serves}
+use Rattle.host_laws.specs.ReplicaLaws.{key_in}
 use Rattle.sig_core.proofs.Keys.{same_tx-self}
-use Rattle.commit_laws.proofs.Replicas.{logs_keep_well}
-use Rattle.transit_laws.specs.Circle.{IsReplica, at_host}
-use Rattle.transit_laws.specs.Owed.{IsOwed}
-use Rattle.transit_laws.specs.Routes.{primary_host}
-use Rattle.transit_laws.specs.Transit.{Comes, logs_of}
+use Rattle.host_laws.proofs.Replicas.{logs_keep_well}
+use Rattle.run_laws.specs.Circle.{IsReplica, at_host}
+use Rattle.run_laws.specs.Owed.{IsOwed}
+use Rattle.run_laws.specs.Routes.{primary_host}
+use Rattle.run_laws.specs.Transit.{Comes, logs_of}
 use Rattle.serial_laws.specs.Owing.{AreOwed}
 use Rattle.serial_laws.proofs.HostSteps.{host_done, host_new}
 use Rattle.serial_laws.proofs.KeySteps.{IsGoodWith, event_of, host_other, host_own, primary_replica}

@@ -19,12 +19,12 @@ use Rattle.world_core.specs.History.{is_applied, is_done}
 use Rattle.world_core.specs.Machine.{after, machine}
 use Rattle.world_core.specs.Marks.{has_mark}
 use Rattle.world_core.specs.Start.{Start}
-use Rattle.commit_laws.specs.OneKey.{ops_on}
-use Rattle.commit_laws.specs.Records.{found}
-use Rattle.commit_laws.specs.Replica.{Event, Replica, aborts, ages, asks, commits, completes, expires, key_after, rests, serves}
-use Rattle.transit_laws.specs.Circle.{Agree, IsReplica, at_host, at_primary}
-use Rattle.transit_laws.specs.Owed.{IsOwed, IsUndecided}
-use Rattle.transit_laws.specs.Transit.{Comes, IsRun, logs_of}
+use Rattle.key_laws.specs.OneKey.{ops_on}
+use Rattle.key_laws.specs.Records.{found}
+use Rattle.key_laws.specs.Replica.{Event, Replica, aborts, ages, asks, commits, completes, expires, key_after, rests, serves}
+use Rattle.run_laws.specs.Circle.{Agree, IsReplica, at_host, at_primary}
+use Rattle.run_laws.specs.Owed.{IsOwed, IsUndecided}
+use Rattle.run_laws.specs.Transit.{Comes, IsRun, logs_of}
 use Rattle.serial_laws.specs.Owing.{AreOwed}
 use Rattle.serial_laws.proofs.FairSteps.{AreWriters}
 use Rattle.serial_laws.proofs.Finals.{IsWriter, carried_at, decided_at, undecided_at, writer_past}

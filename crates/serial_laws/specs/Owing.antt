@@ -1,7 +1,7 @@
 -- What the serial law stands on: what the rest of the machine owes each key.
 use Rattle.world_core.specs.SerialLaw.{EveryCutIsSerial}
-use Rattle.transit_laws.specs.GivenUp.{KeptAreNotGivenUp, NoneIsBoth}
-use Rattle.transit_laws.specs.Owed.{DecidedAreSettled, EventsAreOwed, WaitersAreUndecided}
+use Rattle.run_laws.specs.GivenUp.{KeptAreNotGivenUp, NoneIsBoth}
+use Rattle.run_laws.specs.Owed.{DecidedAreSettled, EventsAreOwed, WaitersAreUndecided}
 
 pub record AreOwed : Type 0 where
   pub events : EventsAreOwed

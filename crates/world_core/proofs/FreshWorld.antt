@@ -1,24 +1,28 @@
 -- A fresh world is right: nothing was sent, taken or asked.
-use Rattle.std.proofs.Common.{◌≡◌, ◌⊎◌, inl, inr, ℕ, zero, suc, ◌+◌, ◌-◌, ◌<◌, ◌≤◌, List, [], ◌∷◌, ◌++◌, length, refl, ap, sym, ◌∙◌, subst, arith, replicate, reverse}
+use Rattle.std.proofs.Common.{◌≡◌, ◌⊎◌, inl, inr, ℕ, zero, suc, ◌+◌, ◌-◌, ◌%◌, ◌<◌, ◌≤◌, List, [], ◌∷◌, ◌++◌, length, refl, ap, sym, ◌∙◌, subst, arith, replicate, reverse}
 use Rattle.std.specs.Prelude.{map, slice_index_or}
 use Rattle.std.proofs.lemmas.Bool.{cases_lt}
 use Rattle.std.proofs.lemmas.List.{get_or-append_right, get_or-replicate, get_or_append_left, get_or_past, length-append, length-replicate}
-use Rattle.frag_map.specs.Layout.{nowhere}
+use Rattle.frag_map.specs.Layout.{Layout, first_layout, first_view, nowhere}
 use Rattle.node_core.proofs.HostLemmas.{given_none}
-use Rattle.node_core.specs.Fresh.{fresh_shell}
+use Rattle.node_core.specs.declared.host.Host.{Host}
+use Rattle.node_core.specs.Fresh.{fresh_part, fresh_shell}
 use Rattle.run_theory.specs.Links.{sent, taken}
 use Rattle.run_theory.specs.Logs.{IsLog}
 use Rattle.sig_core.specs.declared.log.HostLog.{HostLog}
+use Rattle.sig_core.specs.declared.member.Member.{Member}
+use Rattle.sig_core.specs.declared.view.View.{View}
 use Rattle.world_core.specs.Driven.{IsSound}
-use Rattle.world_core.specs.Hosts.{hosts, started}
+use Rattle.world_core.specs.Hosts.{hosts, member_at, part_by, started}
 use Rattle.world_core.specs.Inbox.{LinkState, link_from, new_link}
 use Rattle.world_core.specs.Machine.{after, last_stamp, machine, sent_count}
 use Rattle.world_core.specs.Network.{AreLinks, inbox_of, link}
 use Rattle.world_core.specs.Requests.{AreAskedAtQuiet}
 use Rattle.world_core.specs.Right.{IsLabelled, IsRight, arriving}
-use Rattle.world_core.specs.Start.{Start}
+use Rattle.world_core.specs.Start.{Start, made}
 use Rattle.world_core.specs.Steps.{HostStep}
 use Rattle.world_core.specs.World.{IsQuiet, body_at, for_each, logs_at, new_world, no_steps, of_host}
+use Rattle.world_core.proofs.HostNumbers.{shell_started, started_behind}
 
 -- what is there for each host
 pub each_length : {A : Type 0} (n : ℕ) (thing : ℕ → A) → length (for_each n thing) ≡ n
@@ -38,6 +42,22 @@ each_at {A = A} (suc n) thing h d low = go (each_at n thing h d) (cases_lt h n)
         let at : n ≡ h = omega (arith, last, low) in
         subst (λ k. slice_index_or (for_each n thing ++ thing n ∷ []) k d ≡ thing k) at
         (get_or-append_right (for_each n thing) (thing n ∷ []) n n d (each_length n thing) (omega arith) ∙ first_of (thing n))
+
+pub each_more : {A : Type 0} (n : ℕ) (thing : ℕ → A) → for_each (n + 1) thing ≡ for_each n thing ++ thing n ∷ []
+each_more n thing = let next : n + 1 ≡ suc n = omega arith in ap (λ k. for_each k thing) next
+
+-- the hosts that a world begins with
+pub shell_begins : (start : Start) (view : View) (shell : Host) → view ≡ first_view start.shape.nodes → shell ≡ fresh_shell view → shell ≡ started start 0
+shell_begins start view shell first is = is ∙ ap fresh_shell first ∙ sym (shell_started start)
+
+pub part_begins : (start : Start) (k : ℕ) (made_now : List Member) (layout : Layout) (body : Host) → made_now ≡ made start → layout ≡ first_layout start.shape
+    → body ≡ fresh_part (part_by (k % 3)) (member_at made_now (k + 1)) layout start.epoch start.rows → body ≡ started start (k + 1)
+part_begins start k made_now layout body are first is =
+    let next : k + 1 ≡ suc k = omega arith in
+    is
+    ∙ ap (λ m. fresh_part (part_by (k % 3)) m layout start.epoch start.rows) (ap (λ n. member_at made_now n) next ∙ ap (λ ms. member_at ms (suc k)) are)
+    ∙ ap (λ l. fresh_part (part_by (k % 3)) (member_at (made start) (suc k)) l start.epoch start.rows) first
+    ∙ sym (ap (started start) next ∙ started_behind start k)
 
 -- wherever one looks in a list of one thing, it is that
 any_link : (n i : ℕ) (x : LinkState) → slice_index_or (replicate n x) i x ≡ x

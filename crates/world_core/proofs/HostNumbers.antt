@@ -1,6 +1,6 @@
 -- Which host runs what, by its number.
 use Rattle.std.proofs.Common.{◌≡◌, ◌≢◌, ◌⊎◌, inl, inr, ℕ, zero, suc, ◌+◌, ◌-◌, ◌*◌, ◌/◌, ◌%◌, ◌<◌, ◌≤◌, List, [], ◌∷◌, ◌++◌, length, Bool, true, false, refl, ap, sym, ◌∙◌, subst, arith}
-use Rattle.std.specs.Prelude.{if◌then◌else◌, ◌==◌, ◌&&◌, filter, nat_lt, position, slice_get, slice_index_or, Option, None, Some}
+use Rattle.std.specs.Prelude.{if◌then◌else◌, ◌==◌, ◌&&◌, filter, nat_lt, position, slice_get, slice_index_or, None, Some}
 use Rattle.std.specs.List.{position_or_len}
 use Rattle.std.proofs.lemmas.Bool.{cases_lt, eq-eqb, eqb-true, false≢true}
 use Rattle.std.proofs.lemmas.Bool.Decides.{nat_tests}
@@ -29,12 +29,11 @@ use Rattle.sig_core.specs.Place.{client}
 use Rattle.frag_map.specs.Layout.{first_layout, first_view, members}
 use Rattle.frag_map.specs.Replicas.{first_start, is_member}
 use Rattle.node_core.proofs.HostCases.{api_stays, rows_stay, tc_stays}
-use Rattle.node_core.specs.declared.host.Host.{Host}
 use Rattle.node_core.specs.Blocks.{has_api, has_lqh, has_tc}
 use Rattle.node_core.specs.Fresh.{fresh_part, fresh_shell}
 use Rattle.node_core.specs.Requests.{is_request}
-use Rattle.world_core.specs.Hosts.{Membership, first_membership, host_at, host_by, host_for, hosts, member_at, member_of, number_of, part_by, receiver, rows_host, started, tc_host}
-use Rattle.world_core.specs.Machine.{IsAsked, after, all_addressed, asked_rightly, counted, last_stamp, machine, sent_count, signals_of, step_after}
+use Rattle.world_core.specs.Hosts.{first_membership, host_at, host_by, host_for, hosts, member_of, number_of, part_by, receiver, rows_host, started, tc_host}
+use Rattle.world_core.specs.Machine.{after, all_addressed, asked_rightly, counted, last_stamp, machine, sent_count, signals_of, step_after}
 use Rattle.world_core.specs.Start.{Start, made}
 use Rattle.world_core.specs.Steps.{Addressed, HostStep}
 
@@ -69,8 +68,8 @@ place_of n node some low = ap (λ i. if nat_lt i (length (members n)) then Some 
         position_or_len_is (is_member (first_start node)) (members n) (node - 1) nobody (omega (arith, low, members_length n))
         (λ k below. ap (is_member (first_start node)) (members_at n k nobody (omega (arith, below, low))) ∙ apart_members node k (λ same. absurd (omega (arith, same, below))))
         (λ there.
-            let own : node - 1 + 1 ≡ node = omega (arith, some) in
-            ap (is_member (first_start node)) (members_at n (node - 1) nobody (omega (arith, some, low)) ∙ ap first_start own) ∙ ap (λ b. b && true) (eq-eqb node node refl))
+        let own : node - 1 + 1 ≡ node = omega (arith, some) in
+        ap (is_member (first_start node)) (members_at n (node - 1) nobody (omega (arith, some, low)) ∙ ap first_start own) ∙ ap (λ b. b && true) (eq-eqb node node refl))
 
     go : (b : Bool) → nat_lt (node - 1) (length (members n)) ≡ b → (if b then Some (node - 1) else None) ≡ Some (node - 1)
     go true e = refl

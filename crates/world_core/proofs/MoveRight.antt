@@ -15,7 +15,6 @@ use Rattle.run_theory.specs.Logs.{IsLog, IsRunning, IsStep}
 use Rattle.sig_core.specs.declared.log.LogStep.{LogStep}
 use Rattle.sig_core.specs.declared.outs.Outgoing.{Outgoing}
 use Rattle.sig_core.specs.declared.reply.ApiReply.{ApiReply}
-use Rattle.sig_core.specs.declared.signal.Signal.{Signal}
 use Rattle.sig_core.specs.Step.{Effects, Step}
 use Rattle.world_core.specs.Hosts.{Membership, first_membership, hosts, receiver}
 use Rattle.world_core.specs.Inbox.{LinkState}

@@ -47,7 +47,7 @@ none_found p xs k d none low =
     far false e none = grind (arith, nat_tests, e)
 
 -- nothing is taken from an inbox where no link of it is busy
-pub no_taken : (links : List LinkState) (from sent : ℕ) (signals : List Signal) → inbox.taken_from links from sent signals ≡ None → signals ≡ []
+no_taken : (links : List LinkState) (from sent : ℕ) (signals : List Signal) → inbox.taken_from links from sent signals ≡ None → signals ≡ []
 no_taken links from sent [] e = refl
 no_taken links from sent (x ∷ more) e = cc
 
@@ -78,7 +78,7 @@ none_is : (o : Option ℕ) → is_some o ≡ false → o ≡ None
 none_is None e = refl
 none_is (Some at) e = cc
 
-pub not_taken : (links : Links) (to : ℕ) (o : Option (Taken (List LinkState))) → taken_from links to o ≡ None → o ≡ None
+not_taken : (links : Links) (to : ℕ) (o : Option (Taken (List LinkState))) → taken_from links to o ≡ None → o ≡ None
 not_taken links to None e = refl
 not_taken links to (Some t) e = cc
 

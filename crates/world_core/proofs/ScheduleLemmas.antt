@@ -1,35 +1,21 @@
 -- What picks come to.
-use Rattle.std.proofs.Common.{◌≡◌, ℕ, ◌+◌, ◌<◌, ◌≤◌, List, [], ◌∷◌, ◌++◌, length, take, refl, ap, sym, ◌∙◌, subst, arith}
-use Rattle.std.specs.Prelude.{get_or, slice_get, Option, None, Some, Result, Ok, Err}
-use Rattle.std.proofs.lemmas.List.{take_all, take_more}
+use Rattle.std.proofs.Common.{◌≡◌, ℕ, ◌+◌, ◌<◌, List, [], ◌∷◌, ◌++◌, length, take, refl, ap, sym, ◌∙◌, subst}
+use Rattle.std.specs.Prelude.{get_or, Option, None, Some, Err}
+use Rattle.std.proofs.lemmas.List.{take_more}
 use Rattle.std.proofs.lemmas.Option.{slice_get-get_or}
 use Rattle.sig_core.specs.declared.log.HostLog.{HostLog}
-use Rattle.sig_core.specs.declared.signal.Signal.{Signal}
 use Rattle.world_core.specs.declared.schedule.Pick.{Pick}
 use Rattle.world_core.specs.declared.schedule.ScheduleFault.{ScheduleFault}
 use Rattle.world_core.specs.declared.schedule.ScheduleFault.TheVariants.{Empty, Gone, NoMemory}
-use Rattle.world_core.specs.Driven.{HaveGrown, IsDriven, IsSound, IsWorld}
+use Rattle.world_core.specs.Driven.{HaveGrown, IsDriven, IsSound}
 use Rattle.world_core.specs.Hosts.{hosts}
-use Rattle.world_core.specs.Inbox.{LinkState, Taken, link_from}
-use Rattle.world_core.specs.Inbox as inbox
-use Rattle.world_core.specs.Network.{Arrival, Links, inbox_of, link, take_between, taken_from}
+use Rattle.world_core.specs.Network.{Arrival, take_between}
 use Rattle.world_core.specs.Schedule.{IsEmpty, IsGone, IsPicked, IsScheduled, LeavesRight, StopsAt, all_picked, host_of, moved_if, picked, sender_of}
 use Rattle.world_core.specs.Start.{Start}
-use Rattle.world_core.specs.World.{CanTake, Whole, logs_at, moved}
-use Rattle.world_core.proofs.QuietLemmas.{no_taken, not_taken}
+use Rattle.world_core.specs.World.{Whole, logs_at, moved}
 use Rattle.world_core.proofs.StepDriven.{step_driven}
-use Rattle.world_core.proofs.TakeRight.{IsTakenFrom, left_of, taken_on}
-use Rattle.world_core.proofs.WorldLemmas.{IsUnderWay, driven_further, stays_sound, there_for}
-
--- nothing can be taken from a link on which nothing stands
-pub none_between : (links : Links) (from to : ℕ) → take_between links from to ≡ None → (link links from to).signals ≡ []
-none_between links from to e =
-    let box = inbox_of links to in
-    no_taken box from (link_from box from).sent (link_from box from).signals (not_taken links to (inbox.taken_at box (Some from)) e)
-
--- the host of a signal that was picked is there
-pub can_pick : (w : Whole) (from to : ℕ) (t : Arrival) → IsWorld w → take_between w.links from to ≡ Some t → CanTake (left_of w t.left) t.taken.to
-can_pick w from to t is e = there_for w t is.start is.sound (taken_on (hosts is.start) w.links from to t is.sound.right.sizes.links e)
+use Rattle.world_core.proofs.TakeRight.{left_of, taken_on}
+use Rattle.world_core.proofs.WorldLemmas.{IsUnderWay, driven_further, stays_sound}
 
 -- what a pick took
 record HasMoved (w v : Whole) (o : Option Arrival) : Type 0 where
@@ -65,13 +51,10 @@ pub record IsAt (w : Whole) (picks : List Pick) (at : ℕ) (t : Whole) : Type 0 
   pub way : IsUnderWay w t
   pub led : all_picked (Some w) (take at picks) ≡ Some t
 
--- the pick at a place, as it was read
-record IsRead (picks : List Pick) (at : ℕ) (pick : Pick) : Type 0 where
-  inside : at < length picks
-  is : pick ≡ get_or picks at pick
-
-pub goes_further : (w u v : Whole) (picks : List Pick) (at : ℕ) (pick : Pick) → at < length picks → pick ≡ get_or picks at pick → IsAt w picks at u → picked u pick ≡ Some v → IsAt w picks (at + 1) v
-goes_further w u v picks at pick inside is here e =
+-- the pick at a place was taken
+pub goes_further : (w u v : Whole) (picks : List Pick) (at : ℕ) (d : Pick) → at < length picks → IsAt w picks at u → picked u (get_or picks at d) ≡ Some v → IsAt w picks (at + 1) v
+goes_further w u v picks at d inside here e =
+    let pick = get_or picks at d in
     record {
       way = record {
         is = record { start = here.way.is.start; sound = stays_sound here.way.is.start u v (pick_driven here.way.is.start u v pick here.way.is.sound e) here.way.is.sound };
@@ -79,32 +62,25 @@ goes_further w u v picks at pick inside is here e =
             let before = here.way.driven start sound in
             driven_further start w u v before (pick_driven start u v pick (stays_sound start w u before sound) e);
       };
-      led =
-          ap (all_picked (Some w)) (take_more picks at pick inside ∙ ap (λ p. take at picks ++ p ∷ []) (sym is))
-          ∙ further (Some w) (take at picks) pick u here.led ∙ e;
+      led = ap (all_picked (Some w)) (take_more picks at d inside) ∙ further (Some w) (take at picks) pick u here.led ∙ e;
     }
 
-got : (picks : List Pick) (at : ℕ) (pick : Pick) → at < length picks → pick ≡ get_or picks at pick → slice_get picks at ≡ Some pick
-got picks at pick inside is = slice_get-get_or picks at pick inside ∙ ap Some (sym is)
+-- it couldn't be taken
+pub stops : (w u v : Whole) (picks : List Pick) (at k : ℕ) (d : Pick) (fault : ScheduleFault) → at < length picks → k ≡ at → IsAt w picks at u
+    → IsPicked u (get_or picks at d) k v (Err fault) → IsScheduled w picks v (Err fault)
+stops w u v picks at k d NoMemory inside same here e = tt
+stops w u v picks at k d (Empty place) inside same here e =
+    subst (λ n. StopsAt (λ t p. IsEmpty t p) w picks v n) (sym (e.0 ∙ same))
+    (subst (λ t. StopsAt (λ s p. IsEmpty s p) w picks t at) (sym e.1)
+    (record { pick = get_or picks at d; is = slice_get-get_or picks at d inside; before = here.led; cannot = e.2 }))
+stops w u v picks at k d (Gone place) inside same here e =
+    subst (λ n. StopsAt (λ t p. IsGone t p) w picks v n) (sym (e.0 ∙ same))
+    (subst (λ t. StopsAt (λ s p. IsGone s p) w picks t at) (sym e.1)
+    (record { pick = get_or picks at d; is = slice_get-get_or picks at d inside; before = here.led; cannot = e.2 }))
 
--- a pick that couldn't be taken
-pub stops : (w u v : Whole) (picks : List Pick) (at : ℕ) (pick : Pick) (fault : ScheduleFault) → at < length picks → pick ≡ get_or picks at pick → IsAt w picks at u
-    → IsPicked u pick at v (Err fault) → IsScheduled w picks v (Err fault)
-stops w u v picks at pick NoMemory inside is here e = tt
-stops w u v picks at pick (Empty place) inside is here e =
-    subst (λ k. StopsAt (λ t p. IsEmpty t p) w picks v k) (sym e.0)
-    (subst (λ t. StopsAt (λ s p. IsEmpty s p) w picks t at) (sym e.1) (record { pick = pick; is = got picks at pick inside is; before = here.led; cannot = e.2 }))
-stops w u v picks at pick (Gone place) inside is here e =
-    subst (λ k. StopsAt (λ t p. IsGone t p) w picks v k) (sym e.0)
-    (subst (λ t. StopsAt (λ s p. IsGone s p) w picks t at) (sym e.1) (record { pick = pick; is = got picks at pick inside is; before = here.led; cannot = e.2 }))
-
-pub stops_right : (w u v : Whole) (picks : List Pick) (at : ℕ) (pick : Pick) (fault : ScheduleFault) → IsAt w picks at u → IsPicked u pick at v (Err fault)
+pub stops_right : (w u v : Whole) (picks : List Pick) (at k : ℕ) (pick : Pick) (fault : ScheduleFault) → IsAt w picks at u → IsPicked u pick k v (Err fault)
     → (start : Start) → IsSound start w → LeavesRight start w v (Err fault)
-stops_right w u v picks at pick NoMemory here e start sound =
+stops_right w u v picks at k pick NoMemory here e start sound =
     subst (λ (logs : List HostLog). HaveGrown start (logs_at w.logs) (logs_at logs)) (sym e) (here.way.driven start sound).grown
-stops_right w u v picks at pick (Empty place) here e start sound = subst (IsDriven start w) (sym e.1) (here.way.driven start sound)
-stops_right w u v picks at pick (Gone place) here e start sound = subst (IsDriven start w) (sym e.1) (here.way.driven start sound)
-
--- all picks were taken
-pub ends : (w u : Whole) (picks : List Pick) (at : ℕ) → length picks ≤ at → IsAt w picks at u → all_picked (Some w) picks ≡ Some u
-ends w u picks at past here = ap (all_picked (Some w)) (sym (take_all at picks past)) ∙ here.led
+stops_right w u v picks at k pick (Empty place) here e start sound = subst (IsDriven start w) (sym e.1) (here.way.driven start sound)
+stops_right w u v picks at k pick (Gone place) here e start sound = subst (IsDriven start w) (sym e.1) (here.way.driven start sound)

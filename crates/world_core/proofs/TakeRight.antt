@@ -11,7 +11,7 @@ use Rattle.run_theory.specs.Lists.{IsIn}
 use Rattle.sig_core.specs.declared.reply.ApiReply.{ApiReply}
 use Rattle.sig_core.specs.declared.request.ApiReq.{ApiReq}
 use Rattle.sig_core.specs.declared.signal.Signal.{Signal}
-use Rattle.world_core.specs.Hosts.{Membership, first_membership, hosts}
+use Rattle.world_core.specs.Hosts.{first_membership, hosts}
 use Rattle.world_core.specs.Inbox.{LinkState, Taken, has_signal, is_busy, link_from, new_link}
 use Rattle.world_core.specs.Inbox as inbox
 use Rattle.world_core.specs.Machine.{asked_rightly, last_stamp, machine, request_signal, sent_count}

@@ -8,7 +8,7 @@ use Rattle.sig_core.specs.declared.request.ApiReq.{ApiReq}
 use Rattle.world_core.specs.Driven.{HasAsked, HaveGrown, IsDriven, IsSound, IsStepped, IsWorld}
 use Rattle.world_core.specs.Hosts.{hosts}
 use Rattle.world_core.specs.Machine.{request_signal}
-use Rattle.world_core.specs.Network.{Arrival, Links, take_first}
+use Rattle.world_core.specs.Network.{Arrival, take_first}
 use Rattle.world_core.specs.Start.{Start}
 use Rattle.world_core.specs.Steps.{Addressed, HostStep}
 use Rattle.world_core.specs.World.{CanTake, IsOf, IsQuiet, Whole, asked, logs_at, moved, new_world}
@@ -28,7 +28,7 @@ pub first_there : (w : Whole) → IsWorld w → CanTake w 0
 first_there w is = there_in (hosts is.start) w 0 is.sound.right.sizes (omega arith)
 
 -- so is the one that a link's signal is for
-pub there_for : (w : Whole) (t : Arrival) (start : Start) → IsSound start w → IsTakenFrom (hosts start) w.links t → CanTake (left_of w t.left) t.taken.to
+there_for : (w : Whole) (t : Arrival) (start : Start) → IsSound start w → IsTakenFrom (hosts start) w.links t → CanTake (left_of w t.left) t.taken.to
 there_for w t start sound from =
     let fact = taken_between start sound.given w sound.right t from in
     let there = there_in (hosts start) w t.taken.to sound.right.sizes (omega (arith, fact.to, from.to_low)) in

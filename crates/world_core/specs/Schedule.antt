@@ -5,7 +5,7 @@ use Rattle.world_core.specs.declared.schedule.Pick.TheVariants.{Take}
 use Rattle.world_core.specs.declared.schedule.ScheduleFault.{ScheduleFault}
 use Rattle.world_core.specs.declared.schedule.ScheduleFault.TheVariants.{Empty, Gone, NoMemory}
 use Rattle.world_core.specs.Driven.{HaveGrown, IsDriven}
-use Rattle.world_core.specs.Network.{Arrival, Links, link, take_between}
+use Rattle.world_core.specs.Network.{Arrival, link, take_between}
 use Rattle.world_core.specs.Start.{Start}
 use Rattle.world_core.specs.World.{Whole, logs_at, moved}
 

@@ -1,5 +1,5 @@
 -- How a life begins.
-use Rattle.std.specs.Prelude.{ℕ, ◌+◌, List, []}
+use Rattle.std.specs.Prelude.{ℕ, List, []}
 use Rattle.sig_core.specs.declared.member.Member.{Member}
 use Rattle.sig_core.specs.declared.view.Shape.{Shape}
 use Rattle.frag_map.specs.Layout.{members}

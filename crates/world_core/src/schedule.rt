@@ -44,8 +44,12 @@ impl World {
         ensures taken { IsScheduled (whole_of self.old) picks.now (whole_of self.new) result }
         ensures right { (start : Start) → IsSound start (whole_of self.old) → LeavesRight start (whole_of self.old) (whole_of self.new) result }
     {
-        for at in 0..picks.len() {
-            self.pick(alloc, at, picks[at])?;
+        let mut at = 0;
+        for pick in picks {
+            match self.pick(alloc, at, *pick) {
+                Ok(()) => at += 1,
+                Err(fault) => return Err(fault),
+            }
         }
         Ok(())
     }

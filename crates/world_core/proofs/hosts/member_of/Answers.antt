@@ -1,5 +1,5 @@
-use Rattle.std.proofs.Common.{◌≡◌, List, ap, sym, ◌∙◌}
-use Rattle.std.specs.Prelude.{◌==◌, filter, slice_get, None, Some}
+use Rattle.std.proofs.Common.{List, ap, sym, ◌∙◌}
+use Rattle.std.specs.Prelude.{filter, slice_get}
 use Rattle.sig_core.specs.declared.member.Member.{Member}
 use Rattle.world_core.proofs.MemberLemmas.{is_node, member_in_full, member_in_starting}
 use Rattle.world_core.proofs.hosts.member_of.Goals as goal

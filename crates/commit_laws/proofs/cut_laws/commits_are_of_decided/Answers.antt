@@ -1,5 +1,0 @@
-use Rattle.commit_laws.proofs.StrictOrder.{commits_decided}
-use Rattle.commit_laws.proofs.cut_laws.commits_are_of_decided.Goals as goal
-
-pub returns : goal.returns
-returns c = commits_decided

@@ -1,5 +1,0 @@
-use Rattle.commit_laws.proofs.StrictOrder.{histories_strict}
-use Rattle.commit_laws.proofs.cut_laws.histories_are_strict.Goals as goal
-
-pub returns : goal.returns
-returns c = histories_strict

@@ -1,5 +1,0 @@
-use Rattle.commit_laws.proofs.Serial.{keys_serial}
-use Rattle.commit_laws.proofs.cut_laws.right_keys_make_cuts_serial.Goals as goal
-
-pub returns : goal.returns
-returns c = keys_serial

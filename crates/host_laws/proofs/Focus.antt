@@ -1,0 +1,76 @@
+-- The first item of a list that passes a test, with what stands before and behind it.
+use Rattle.std.proofs.Common.{◌≡◌, ℕ, suc, ◌+◌, ◌<◌, ◌≤◌, List, [], ◌∷◌, ◌++◌, length, Bool, true, false, cond, refl, ap, sym, subst, arith}
+use Rattle.std.specs.Prelude.{None, Some, nat_lt, not, position, remove, slice_get, slice_set}
+use Rattle.std.specs.List.{prefix_len}
+use Rattle.std.proofs.Math.Numerals.{one-add}
+use Rattle.std.proofs.lemmas.Bool.Decides.{nat_tests}
+use Rattle.api_block.specs.declared.opened.OpenTransaction.{OpenTransaction}
+use Rattle.api_block.specs.Opened.{if_there, where_at}
+use Rattle.host_laws.specs.Counts.{tally}
+
+-- at this place of a list an item passes a test
+pub record IsFocus {A : Type 0} (p : A → Bool) (xs : List A) (at : ℕ) : Type 0 where
+  pub item : A
+  pub front : List A
+  pub back : List A
+  pub is : xs ≡ front ++ item ∷ back
+  pub passes : p item ≡ true
+  pub get : slice_get xs at ≡ Some item
+  pub set : (other : A) → slice_set xs at other ≡ front ++ other ∷ back
+  pub removed : remove xs at ≡ front ++ back
+
+behind : {A : Type 0} (p : A → Bool) (x : A) (xs : List A) (at : ℕ) → IsFocus p xs at → IsFocus p (x ∷ xs) (suc at)
+behind p x xs at f = record {
+  item = f.item;
+  front = x ∷ f.front;
+  back = f.back;
+  is = ap (λ ys. x ∷ ys) f.is;
+  passes = f.passes;
+  get = f.get;
+  set = λ other. ap (λ ys. x ∷ ys) (f.set other);
+  removed = ap (λ ys. x ∷ ys) f.removed;
+}
+
+pub found : {A : Type 0} (p : A → Bool) (xs : List A) → prefix_len (λ x. not (p x)) xs < length xs → IsFocus p xs (prefix_len (λ x. not (p x)) xs)
+found p [] low = absurd (omega (arith, low))
+found {A} p (x ∷ xs) low = go (p x) refl low (found p xs)
+  where
+    go : (b : Bool) → p x ≡ b → cond (not b) (1 + prefix_len (λ y. not (p y)) xs) 0 < suc (length xs)
+        → (prefix_len (λ y. not (p y)) xs < length xs → IsFocus p xs (prefix_len (λ y. not (p y)) xs))
+        → IsFocus p (x ∷ xs) (cond (not b) (1 + prefix_len (λ y. not (p y)) xs) 0)
+    go true e low rest = record { item = x; front = []; back = xs; is = refl; passes = e; get = refl; set = λ other. refl; removed = refl }
+    go false e low rest =
+        subst (λ k. IsFocus p (x ∷ xs) k) (sym (one-add (prefix_len (λ y. not (p y)) xs)))
+        (behind p x xs (prefix_len (λ y. not (p y)) xs) (rest (omega (arith, low))))
+
+-- none passes where the first place is past the end
+pub absent : {A : Type 0} (p : A → Bool) (xs : List A) → length xs ≤ prefix_len (λ x. not (p x)) xs → tally p xs ≡ 0
+absent p [] past = refl
+absent p (x ∷ xs) past = go (p x) past (absent p xs)
+  where
+    go : (b : Bool) → suc (length xs) ≤ cond (not b) (1 + prefix_len (λ y. not (p y)) xs) 0
+        → (length xs ≤ prefix_len (λ y. not (p y)) xs → tally p xs ≡ 0) → cond b 1 0 + tally p xs ≡ 0
+    go true past rest = absurd (omega (arith, past))
+    go false past rest =
+        let none : tally p xs ≡ 0 = rest (omega (arith, past)) in
+        omega (arith, none)
+
+-- what is so of what is said where there is none, and of what is said of each that is found, is so of what is said
+pub where_found : {A : Type 0} (p : OpenTransaction → Bool) (xs : List OpenTransaction) (none : A) (some : ℕ → OpenTransaction → A) (P : A → Type 0)
+    → (tally p xs ≡ 0 → P none) → ((at : ℕ) (f : IsFocus p xs at) → P (some at f.item)) → P (where_at xs none some (position p xs))
+where_found {A} p xs none some P missing present = go (nat_lt (prefix_len (λ x. not (p x)) xs) (length xs)) refl
+  where
+    go : (b : Bool) → nat_lt (prefix_len (λ x. not (p x)) xs) (length xs) ≡ b
+        → P (where_at xs none some (cond b (Some (prefix_len (λ x. not (p x)) xs)) None))
+    go true e =
+        let f = found p xs (grind (arith, nat_tests, e)) in
+        subst (λ o. P (if_there none (some (prefix_len (λ x. not (p x)) xs)) o)) (sym f.get) (present (prefix_len (λ x. not (p x)) xs) f)
+    go false e = missing (absent p xs (grind (arith, nat_tests, e)))
+
+-- where no place is found none passes
+pub none_placed : {A : Type 0} (p : A → Bool) (xs : List A) → position p xs ≡ None → tally p xs ≡ 0
+none_placed p xs none = go (nat_lt (prefix_len (λ x. not (p x)) xs) (length xs)) refl none
+  where
+    go : (b : Bool) → nat_lt (prefix_len (λ x. not (p x)) xs) (length xs) ≡ b → cond b (Some (prefix_len (λ x. not (p x)) xs)) None ≡ None → tally p xs ≡ 0
+    go true e none = cc
+    go false e none = absent p xs (grind (arith, nat_tests, e))

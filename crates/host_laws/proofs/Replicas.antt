@@ -1,0 +1,279 @@
+-- A replica is its keys.
+use Rattle.std.proofs.Common.{◌≡◌, ◌==◌, ◌%◌, ℕ, zero, suc, Bool, true, false, cond, List, [], ◌∷◌, filter, refl, sym, ap, ◌∙◌, subst}
+use Rattle.std.proofs.lemmas.Bool.{false≢true}
+use Rattle.std.specs.Cmp.Lexicographic.{nat_list_cmp_total}
+use Rattle.std.specs.FinMap as map
+use Rattle.std.specs.Prelude.{if◌then◌else◌, Option, None, Some, slice_get}
+use Rattle.run_theory.specs.Lists.{Each}
+use Rattle.sig_core.specs.declared.member.Member.{Member}
+use Rattle.sig_core.specs.declared.member.TxId.{TxId}
+use Rattle.sig_core.specs.declared.place.BlockId.{BlockId}
+use Rattle.sig_core.specs.declared.place.BlockId.TheVariants as block
+use Rattle.sig_core.specs.declared.place.Part.{Part}
+use Rattle.sig_core.specs.declared.place.Part.TheVariants as part
+use Rattle.sig_core.specs.declared.signal.Body.TheVariants.{Host, Client, Chain}
+use Rattle.sig_core.specs.declared.signal.chain.ChainSignal.TheVariants.{LqhKeyReq, Commit, Complete, Abort}
+use Rattle.sig_core.specs.declared.signal.Signal.{Signal}
+use Rattle.sig_core.specs.declared.signal.client.ClientSignal.TheVariants.{TcCommitAck, LqhWaitReq, DumpReq}
+use Rattle.sig_core.specs.declared.signal.host.HostSignal.TheVariants.{Round, Continue}
+use Rattle.sig_core.specs.declared.signal.host.Work.TheVariants as work
+use Rattle.sig_core.specs.Rows.{RowsState, is_on, no_rows, put_row, record_state, with_place}
+use Rattle.sig_core.specs.declared.rows.PendingRecord.{PendingRecord}
+use Rattle.sig_core.specs.declared.view.Shape.{Shape}
+use Rattle.sig_core.specs.Same.{same_key}
+use Rattle.sig_core.specs.Table.{Rows}
+use Rattle.serial_model.specs.Legal.{rows_over}
+use Rattle.row_locks.specs.declared.mode.Lock.{Lock}
+use Rattle.row_locks.specs.declared.mode.Lock.TheVariants.{Granted, Queued}
+use Rattle.row_locks.specs.OrderlyTables.{AreOrderly}
+use Rattle.row_locks.specs.Rounds.{expired}
+use Rattle.row_locks.specs.Tables.{ahead_at, or_unlocked}
+use Rattle.row_locks.proofs.LocksLemmas.{key_cmp}
+use Rattle.row_locks.proofs.TableLawLemmas.{age_round_orderly, empty_orderly, release_orderly, request_orderly, unwait_orderly}
+use Rattle.lqh_block.proofs.IndexLemmas.{same as same_key-is}
+use Rattle.lqh_block.specs.declared.request.Request.{Request}
+use Rattle.lqh_block.specs.Abort as abort
+use Rattle.lqh_block.specs.Commit as commit
+use Rattle.lqh_block.specs.Complete as complete
+use Rattle.lqh_block.specs.Dump as dump
+use Rattle.lqh_block.specs.Expire as expire
+use Rattle.lqh_block.specs.Lqh.{unasked_yet}
+use Rattle.lqh_block.specs.Operate as operate
+use Rattle.lqh_block.specs.State.{LqhState, storage_of, unlocked}
+use Rattle.lqh_block.specs.Wait as wait
+use Rattle.lqh_block.specs.Work.{work_key, work_mode}
+use Rattle.node_core.specs.Committed as committed
+use Rattle.node_core.specs.declared.host.Host as host
+use Rattle.node_core.specs.declared.host.Host.TheVariants.{Shell, Main, Tc, Ldm}
+use Rattle.node_core.specs.Fresh.{fresh_part, fresh_shell, own_rows, with_rows}
+use Rattle.node_core.specs.Row.{ldm_row, row}
+use Rattle.node_core.proofs.HostCases.{keeps_rows}
+use Rattle.world_core.specs.Machine.{after}
+use Rattle.frag_map.specs.Layout.{Layout, first_layout, holds, nowhere}
+use Rattle.frag_map.specs.Replicas.{first_start}
+use Rattle.world_core.specs.Hosts.{member_at, part_by, started}
+use Rattle.world_core.proofs.HostNumbers.{rows_started}
+use Rattle.world_core.specs.Start.{Start, made}
+use Rattle.key_laws.specs.Placed.{AreApart, IsPlaced, has_place}
+use Rattle.key_laws.specs.Replica.{at_key, key_after}
+use Rattle.host_laws.specs.ReplicaLaws.{KeysHaveRows, LogsFollowEvents, NodesBeginAtRest, event_for, event_in, key_in, IsWell, IsWellHost, KeysBeginAtRest, LogsKeepWell, SignalsAreEvents, SignalsKeepWell}
+use Rattle.key_laws.proofs.CellsAt.{placed-aborted, placed-committed, placed-completed}
+use Rattle.key_laws.proofs.PerformedAt.{placed-performed}
+use Rattle.key_laws.proofs.KeyAfter.{granted_event, replica_is, request_event}
+use Rattle.key_laws.proofs.KeyEnds.{abort_event, applied_locks, applied_rows, commit_event, complete_event, expire_event, given_locks, given_rows, round_event, unasked_is}
+use Rattle.sig_core.proofs.Keys.{same_key-swap, tied-same_key}
+use Rattle.key_laws.proofs.PlacesAt.{apart-set_row, apart-with_place, has-own_place, row-set_row, row-with_place, row_at, row_of-at}
+
+acknowledged_same : (s : LqhState) (tx : TxId) (key : List ℕ) → at_key key (wait.acknowledged s tx) ≡ at_key key s
+unfolding wait.acknowledged
+acknowledged_same s tx key = refl
+
+wait_by_state : (s : LqhState) (tx : TxId) (ahead : Option TxId) → (wait.wait_by s tx ahead).state ≡ s
+wait_by_state s tx None = refl
+wait_by_state s tx (Some ahead) = refl
+
+wait_state : (s : LqhState) (tx : TxId) (key : List ℕ) → (wait.wait_row s tx key).state ≡ s
+unfolding wait.wait_row
+wait_state s tx key = wait_by_state s tx (ahead_at s.locks key tx)
+
+dump_state : (s : LqhState) (at : ℕ) → (dump.dump_row s at).state ≡ s
+unfolding dump.dump_row
+dump_state s at = refl
+
+pub signals_are_events : SignalsAreEvents
+signals_are_events s (Chain (LqhKeyReq tx what chain at)) key well = request_event s (record { tx = tx; work = what; chain = chain; at = at }) key
+signals_are_events s (Host (Continue work.Granted at)) key well = granted_event s key
+signals_are_events s (Chain (Commit tx own epoch chain at)) key well = commit_event s well.placed tx own epoch chain at key
+signals_are_events s (Chain (Complete tx own chain at)) key well = complete_event s well.placed tx own chain at key
+signals_are_events s (Chain (Abort tx own)) key well = abort_event s well.placed tx own key
+signals_are_events s (Client (TcCommitAck tx)) key well = acknowledged_same s tx key
+signals_are_events s (Client (LqhWaitReq tx own)) key well = ap (at_key key) (wait_state s tx own)
+signals_are_events s (Client (DumpReq at)) key well = ap (at_key key) (dump_state s at)
+signals_are_events s (Host Round) key well = round_event s key
+signals_are_events s (Host (Continue work.Expired at)) key well = expire_event s key
+signals_are_events s _ key well = refl
+
+-- each row leaves the replica well
+asked_well : (s : LqhState) (q : Request) (answer : Lock) → IsWell s → IsWell (operate.asked_by (operate.asked_for s q) q answer).state
+asked_well s q Granted well = record {
+  placed = placed-performed (storage_of s) q well.placed;
+  orderly = request_orderly s.locks (work_key q.work) q.tx (work_mode q.work) well.orderly;
+}
+asked_well s q (Queued ahead) well = record { placed = well.placed; orderly = request_orderly s.locks (work_key q.work) q.tx (work_mode q.work) well.orderly }
+
+request_well : (s : LqhState) (q : Request) → IsWell s → IsWell (operate.request_row s q).state
+unfolding operate.request_row
+request_well s q well = asked_well s q (operate.asking s q).answer well
+
+granted_value_well : (s : LqhState) (at : ℕ) (q : Option Request) → IsWell s → IsWell (operate.granted_value s at q).state
+granted_value_well s at None well = well
+granted_value_well s at (Some q) well = record { placed = placed-performed (storage_of s) q well.placed; orderly = well.orderly }
+
+granted_by_well : (s : LqhState) (at : Option ℕ) → IsWell s → IsWell (operate.granted_by s at).state
+granted_by_well s None well = well
+granted_by_well s (Some at) well = granted_value_well s at (slice_get s.waiting at) well
+
+granted_well : (s : LqhState) → IsWell s → IsWell (operate.granted_row s).state
+unfolding operate.granted_row
+granted_well s well = granted_by_well s (operate.first_granted s.locks s.waiting) well
+
+applied_well : (s : LqhState) (tx : TxId) (key : List ℕ) (epoch : ℕ) → IsWell s → IsWell (commit.applied s tx key epoch (record_state s.rows tx key))
+applied_well s tx key epoch well = record {
+  placed = subst IsPlaced (sym (applied_rows s tx key epoch)) (placed-committed s.rows tx key well.placed);
+  orderly = subst AreOrderly (sym (applied_locks s tx key epoch (record_state s.rows tx key))) well.orderly;
+}
+
+unlocked_well : (s : LqhState) (tx : TxId) (key : List ℕ) → IsWell s → IsWell (unlocked s tx key)
+unlocked_well s tx key well = record { placed = well.placed; orderly = release_orderly s.locks key tx well.orderly }
+
+told_well : (s : LqhState) (tx : TxId) (key : List ℕ) (epoch : ℕ) (chain : List Member) (at : ℕ) (had : Option Bool) (b : Bool) → IsWell s → IsWell (commit.told_if s tx key epoch chain at had b).state
+told_well s tx key epoch chain at had true well = unlocked_well s tx key well
+told_well s tx key epoch chain at had false well = well
+
+commit_well : (s : LqhState) (tx : TxId) (key : List ℕ) (epoch : ℕ) (chain : List Member) (at : ℕ) → IsWell s → IsWell (commit.commit_row s tx key epoch chain at).state
+unfolding commit.commit_row
+commit_well s tx key epoch chain at well = told_well (commit.applied s tx key epoch (record_state s.rows tx key)) tx key epoch chain at (record_state s.rows tx key) (at == 0) (applied_well s tx key epoch well)
+
+complete_well : (s : LqhState) (tx : TxId) (key : List ℕ) (chain : List Member) (at : ℕ) → IsWell s → IsWell (complete.complete_row s tx key chain at).state
+unfolding complete.complete_row
+complete_well s tx key chain at well = record { placed = placed-completed s.rows tx key well.placed; orderly = release_orderly s.locks key tx well.orderly }
+
+unasked_well : (s : LqhState) (tx : TxId) (key : List ℕ) → IsWell s → IsWell (abort.unasked s tx key)
+unasked_well s tx key well = subst IsWell (sym (unasked_is s tx key)) (record { placed = well.placed; orderly = well.orderly })
+
+given_well : (s : LqhState) (tx : TxId) (key : List ℕ) → IsWell s → IsWell (abort.given_up s tx key (record_state s.rows tx key))
+given_well s tx key well = record {
+  placed = subst IsPlaced (sym (given_rows s tx key)) (placed-aborted s.rows tx key well.placed);
+  orderly = subst AreOrderly (sym (given_locks s tx key (record_state s.rows tx key))) well.orderly;
+}
+
+unasked_rows : (s : LqhState) (tx : TxId) (key : List ℕ) → (abort.unasked s tx key).rows ≡ s.rows
+unasked_rows s tx key = ap (λ (t : LqhState). t.rows) (unasked_is s tx key)
+
+abort_well : (s : LqhState) (tx : TxId) (key : List ℕ) → IsWell s → IsWell (abort.abort_row s tx key).state
+unfolding abort.abort_row
+abort_well s tx key well =
+    unlocked_well (abort.given_up (abort.unasked s tx key) tx key (record_state s.rows tx key)) tx key
+    (subst (λ (r : RowsState). IsWell (abort.given_up (abort.unasked s tx key) tx key (record_state r tx key))) (unasked_rows s tx key) (given_well (abort.unasked s tx key) tx key (unasked_well s tx key well)))
+
+expire_by_well : (s : LqhState) (w : Option (TxId × List ℕ)) → IsWell s → IsWell (expire.expire_by s w).state
+expire_by_well s None well = well
+expire_by_well s (Some w) well = unasked_well _ w.0 w.1 (record { placed = well.placed; orderly = unwait_orderly s.locks w.1 w.0 well.orderly })
+
+expire_well : (s : LqhState) → IsWell s → IsWell (expire.expire_row s).state
+unfolding expire.expire_row
+expire_well s well = expire_by_well s (expired s.locks) well
+
+acknowledged_well : (s : LqhState) (tx : TxId) → IsWell s → IsWell (wait.acknowledged s tx)
+unfolding wait.acknowledged
+acknowledged_well s tx well = record { placed = well.placed; orderly = well.orderly }
+
+pub signals_keep_well : SignalsKeepWell
+signals_keep_well s (Chain (LqhKeyReq tx what chain at)) well = request_well s (record { tx = tx; work = what; chain = chain; at = at }) well
+signals_keep_well s (Host (Continue work.Granted at)) well = granted_well s well
+signals_keep_well s (Chain (Commit tx own epoch chain at)) well = commit_well s tx own epoch chain at well
+signals_keep_well s (Chain (Complete tx own chain at)) well = complete_well s tx own chain at well
+signals_keep_well s (Chain (Abort tx own)) well = abort_well s tx own well
+signals_keep_well s (Client (TcCommitAck tx)) well = acknowledged_well s tx well
+signals_keep_well s (Client (LqhWaitReq tx own)) well = subst IsWell (sym (wait_state s tx own)) well
+signals_keep_well s (Client (DumpReq at)) well = subst IsWell (sym (dump_state s at)) well
+signals_keep_well s (Host Round) well = expire_well (expire.aged s) (record { placed = well.placed; orderly = age_round_orderly s.locks well.orderly })
+signals_keep_well s (Host (Continue work.Expired at)) well = expire_well s well
+signals_keep_well s _ well = well
+
+-- the rows of the start
+put_placed : (s : RowsState) (rows : List (List ℕ × List ℕ)) → AreApart s.places → s.pending ≡ [] → IsPlaced (with_rows s rows)
+put_placed s [] apart none = record { apart = apart; placed = subst (Each (λ (r : PendingRecord). has_place s.places r.key ≡ true)) (sym none) tt }
+put_placed s (r ∷ rows) apart none =
+    put_placed (put_row s r.0 r.1) rows (apart-set_row (with_place s.places r.0) r.0 (Some r.1) (apart-with_place s.places r.0 apart)) none
+
+-- a key of the group has of its rows what it has of all rows
+started_row : (shape : Shape) (node : ℕ) (s : RowsState) (table : Rows) (rows : List (List ℕ × List ℕ)) (key : List ℕ) → holds shape node key ≡ true
+    → row_at s.places key ≡ map.get table key → row_at (with_rows s (own_rows shape node rows)).places key ≡ map.get (rows_over table rows) key
+started_row shape node s table [] key held same = same
+started_row shape node s table (r ∷ rows) key held same =
+    go (holds shape node r.0) refl (started_row shape node (put_row s r.0 r.1) (map.insert table r.0 r.1) rows key held)
+    (started_row shape node s (map.insert table r.0 r.1) rows key held)
+  where
+    by : (b : Bool) → (if b then Some r.1 else row_at s.places key) ≡ cond b (Some r.1) (map.get table key)
+    by true = refl
+    by false = same
+
+    inserted : map.get (map.insert table r.0 r.1) key ≡ cond (same_key r.0 key) (Some r.1) (map.get table key)
+    inserted = map.get-insert nat_list_cmp_total table r.0 r.1 key ∙ ap (λ b. cond b (Some r.1) (map.get table key)) (tied-same_key key r.0 ∙ same_key-swap key r.0)
+
+    put : row_at (put_row s r.0 r.1).places key ≡ map.get (map.insert table r.0 r.1) key
+    put =
+        row-set_row (with_place s.places r.0) r.0 key (Some r.1) (has-own_place s.places r.0)
+        ∙ ap (λ w. if same_key r.0 key then Some r.1 else w) (row-with_place s.places r.0 key) ∙ by (same_key r.0 key) ∙ sym inserted
+
+    -- a row of another group isn't the key's
+    other : holds shape node r.0 ≡ false → (b : Bool) → same_key r.0 key ≡ b → map.get table key ≡ cond b (Some r.1) (map.get table key)
+    other off true own = absurd (false≢true (sym off ∙ ap (holds shape node) (same_key-is r.0 key own) ∙ held))
+    other off false own = refl
+
+    go : (b : Bool) → holds shape node r.0 ≡ b
+        → (row_at (put_row s r.0 r.1).places key ≡ map.get (map.insert table r.0 r.1) key
+        → row_at (with_rows (put_row s r.0 r.1) (own_rows shape node rows)).places key ≡ map.get (rows_over (map.insert table r.0 r.1) rows) key)
+        → (row_at s.places key ≡ map.get (map.insert table r.0 r.1) key
+        → row_at (with_rows s (own_rows shape node rows)).places key ≡ map.get (rows_over (map.insert table r.0 r.1) rows) key)
+        → row_at (with_rows s (if b then r ∷ own_rows shape node rows else own_rows shape node rows)).places key ≡ map.get (rows_over (map.insert table r.0 r.1) rows) key
+    go true is own without = own put
+    go false is own without = without (same ∙ other is (same_key r.0 key) refl ∙ sym inserted)
+
+pub started_pending : (s : RowsState) (rows : List (List ℕ × List ℕ)) → (with_rows s rows).pending ≡ s.pending
+started_pending s [] = refl
+started_pending s (r ∷ rows) = started_pending (put_row s r.0 r.1) rows
+
+pub keys_begin_at_rest : KeysBeginAtRest
+unfolding fresh_part
+keys_begin_at_rest member layout epoch rows key held =
+    let own = own_rows layout.shape member.node rows in
+    replica_is _ _
+    (λ i. record {
+      row = (row_of-at (with_rows no_rows own) key ∙ started_row layout.shape member.node no_rows map.empty rows key held (sym (map.get-empty key_cmp key))) i;
+      pending = ap (filter (is_on key)) (started_pending no_rows own) i;
+    })
+    (ap or_unlocked (map.get-empty key_cmp key)) refl
+
+idle_well : (node : ℕ) (layout : Layout) (rows : List (List ℕ × List ℕ)) → IsWell (unasked_yet node layout (with_rows no_rows rows) (record { used = 0; reserved = 0 }))
+idle_well node layout rows = record { placed = put_placed no_rows rows tt refl; orderly = empty_orderly }
+
+part_well : (of : Part) (member : Member) (layout : Layout) (epoch : ℕ) (rows : List (List ℕ × List ℕ)) → IsWellHost (fresh_part of member layout epoch rows)
+unfolding fresh_part
+part_well part.Main member layout epoch rows = idle_well 0 nowhere []
+part_well part.Tc member layout epoch rows = idle_well 0 nowhere []
+part_well part.Ldm member layout epoch rows = idle_well member.node layout (own_rows layout.shape member.node rows)
+
+started_well : (start : Start) (h : ℕ) → IsWellHost (started start h)
+unfolding fresh_shell started
+started_well start zero = idle_well 0 nowhere []
+started_well start (suc h) = part_well (part_by (h % 3)) (member_at (made start) (suc h)) (first_layout start.shape) start.epoch start.rows
+
+pub logs_keep_well : LogsKeepWell
+logs_keep_well start h [] = started_well start h
+logs_keep_well start h (e ∷ log) = keeps_rows IsWell (λ s x well. signals_keep_well s x.body well) (after start h log) e.step.taken (logs_keep_well start h log)
+
+-- a host's step is one of each of its keys
+ldm_event : (s : LqhState) (at : BlockId) (x : Signal) (key : List ℕ) → IsWell s → at_key key (ldm_row s at x).state ≡ key_after (event_for key s at x.body) (at_key key s)
+unfolding ldm_row
+ldm_event s block.Lqh x key well = signals_are_events s x.body key well
+ldm_event s _ x key well = refl
+
+host_event : (s : host.Host) (x : Signal) (key : List ℕ) → IsWellHost s → key_in key (row s x).state ≡ key_after (event_in key s x) (key_in key s)
+unfolding row
+host_event (Shell a) x key well = refl
+host_event (Main m) x key well = refl
+host_event (Tc p) x key well = refl
+host_event (Ldm s) x key well = ldm_event s x.to.block x key well
+
+pub logs_follow : LogsFollowEvents
+logs_follow start h log e key = host_event (after start h log) e.step.taken key (logs_keep_well start h log)
+
+pub nodes_begin : NodesBeginAtRest
+nodes_begin start node key some few held =
+    ap (key_in key) (rows_started start node some few) ∙ keys_begin_at_rest (first_start node) (first_layout start.shape) start.epoch start.rows key held
+
+pub keys_have_rows : KeysHaveRows
+unfolding committed.row_at
+keys_have_rows s key = refl

@@ -1,0 +1,393 @@
+-- What a signal makes of one of a coordinator's transactions, and what of the signals sent is said of it.
+use Rattle.std.proofs.Common.{◌≡◌, ℕ, ◌+◌, ◌<◌, ◌≤◌, List, [], ◌∷◌, ◌++◌, length, Bool, true, false, cond, refl, ap, sym, ◌∙◌, subst, arith, inl, inr}
+use Rattle.std.specs.Prelude.{not, nat_lt, if◌then◌else◌, is_some, Option, None, Some}
+use Rattle.std.specs.List.{prefix_len}
+use Rattle.std.specs.Map.{keys_of}
+use Rattle.std.proofs.lemmas.Bool.{false≢true}
+use Rattle.std.proofs.lemmas.Bool.Decides.{nat_tests}
+use Rattle.indexmap.specs.IndexMap.{insert_entry}
+use Rattle.run_theory.proofs.Pasts.{each_map}
+use Rattle.run_theory.specs.Lists.{Each, IsIn}
+use Rattle.sig_core.specs.declared.member.TxId.{TxId}
+use Rattle.sig_core.specs.declared.outcome.AbortCause.{AbortCause}
+use Rattle.sig_core.specs.declared.signal.Body.{Body}
+use Rattle.sig_core.specs.declared.signal.Body.TheVariants.{Host, Client, Chain, Epoch}
+use Rattle.sig_core.specs.declared.signal.chain.ChainSignal.TheVariants.{LqhKeyReq, LqhKeyConf, LqhKeyRef, Commit, Committed, Complete, Completed, Abort, Aborted}
+use Rattle.sig_core.specs.declared.signal.client.ClientSignal.TheVariants.{TcBeginReq, TcBeginConf, TcBeginRef, TcKeyReq, TcKeyConf, TcCommitReq, TcCommitConf, TcRollbackReq, TcRollbackRep, TcWaitReq, TcWaitConf, LqhWaitReq, LqhWaitConf}
+use Rattle.sig_core.specs.declared.signal.epoch.EpochSignal.TheVariants.{DiVerifyReq, DiVerifyConf, DiVerifyEnd}
+use Rattle.sig_core.specs.declared.signal.host.HostSignal.TheVariants.{Continue}
+use Rattle.sig_core.specs.declared.signal.host.Work.TheVariants as work
+use Rattle.frag_map.specs.Layout.{Layout}
+use Rattle.sig_core.specs.Place.{client}
+use Rattle.sig_core.specs.Same.{same_tx}
+use Rattle.sig_core.specs.Step.{Step, sending, stay}
+use Rattle.tc_block.specs.declared.transaction.Transaction.{Transaction}
+use Rattle.tc_block.specs.Abort as abort
+use Rattle.frag_map.specs.Layout.{chain_of}
+use Rattle.tc_block.specs.Live.{place_in, step_of, turn_of, turn_place, turn_value, turned_if, without}
+use Rattle.tc_block.specs.Operate.{fresh}
+use Rattle.tc_block.specs.Sends.{abort_of}
+use Rattle.tc_block.specs.State.{TcState, with_live}
+use Rattle.tc_block.specs.Tc.{begin_if, begin_row, begun, is_full, next_tx, pass_if, pass_row, tc_table}
+use Rattle.tc_block.specs.Turn.{Turn, going}
+use Rattle.sig_core.proofs.Keys.{same_tx-self}
+use Rattle.host_laws.proofs.NodeOps.{absent_key}
+use Rattle.host_laws.proofs.PartKinds.{IsPartKind, entering_of, parts_of}
+use Rattle.host_laws.proofs.SendKinds.{are_of, of_kind, of_map}
+use Rattle.host_laws.proofs.Tally.{tally_append, tally_between, tally_in}
+use Rattle.host_laws.specs.Counts.{one_if, tally}
+use Rattle.host_laws.proofs.TcLives.{IsOwn, apart, insert_new, is_keyed}
+use Rattle.host_laws.proofs.TcMoves.{found, IsEntry, same_tx-is, step_is}
+use Rattle.host_laws.proofs.TcSends.{tx_in}
+use Rattle.host_laws.proofs.TcTurns.{TurnMove, abort_ends, aborted, aborts, all_completed, answers, asks, commits, committed, completed, completes, decides, ends, gives_up, goes_on, is_turn, is_wait_kind, keeps, late, turn_moves, turn_row}
+
+-- the transaction among those that a coordinator hasn't forgotten
+abbrev pub of_live : TxId → List (TxId × Transaction) → Option Transaction
+of_live tx [] = None
+of_live tx (e ∷ live) = if same_tx e.0 tx then Some e.1 else of_live tx live
+
+-- what a coordinator sends of one transaction
+abbrev pub is_said : TxId → Body → Bool
+is_said one (Client (TcKeyConf other answer)) = same_tx other one
+is_said one (Client (TcCommitConf other epoch)) = same_tx other one
+is_said one (Client (TcRollbackRep other cause)) = same_tx other one
+is_said one (Client (LqhWaitReq tx key)) = true
+is_said one (Chain (LqhKeyReq other work chain at)) = same_tx other one
+is_said one (Chain (Commit other key epoch chain at)) = same_tx other one
+is_said one (Chain (Complete other key chain at)) = same_tx other one
+is_said one (Chain (Abort other key)) = same_tx other one
+is_said one (Epoch (DiVerifyReq other ops)) = same_tx other one
+is_said one (Epoch (DiVerifyEnd other)) = same_tx other one
+is_said one (Host (Continue (work.Transaction other) at)) = same_tx other one
+is_said one _ = false
+
+-- what isn't said of it by a coordinator
+abbrev pub is_apart : TxId → Body → Bool
+is_apart tx (Client (TcBeginConf name other)) = not (same_tx other tx)
+is_apart tx (Client (TcKeyConf other answer)) = not (same_tx other tx)
+is_apart tx (Client (TcCommitConf other epoch)) = not (same_tx other tx)
+is_apart tx (Client (TcRollbackRep other cause)) = not (same_tx other tx)
+is_apart tx (Chain (LqhKeyReq other work chain at)) = not (same_tx other tx)
+is_apart tx (Chain (Commit other key epoch chain at)) = not (same_tx other tx)
+is_apart tx (Chain (Complete other key chain at)) = not (same_tx other tx)
+is_apart tx (Chain (Abort other key)) = not (same_tx other tx)
+is_apart tx (Epoch (DiVerifyReq other ops)) = not (same_tx other tx)
+is_apart tx (Epoch (DiVerifyConf other epoch)) = false
+is_apart tx (Epoch (DiVerifyEnd other)) = not (same_tx other tx)
+is_apart tx (Host (Continue (work.Transaction other) at)) = not (same_tx other tx)
+is_apart tx (Chain (LqhKeyConf other key answer)) = false
+is_apart tx (Chain (LqhKeyRef other key why)) = false
+is_apart tx (Chain (Committed other key)) = false
+is_apart tx (Chain (Completed other key)) = false
+is_apart tx (Chain (Aborted other key)) = false
+is_apart tx _ = true
+
+-- what a coordinator sends that is said of none of its transactions
+abbrev pub is_rest_kind : Body → Bool
+is_rest_kind (Client (TcBeginRef name)) = true
+is_rest_kind (Client (TcWaitConf tx ahead)) = true
+is_rest_kind _ = false
+
+not_of : (a b : Bool) → a ≡ b → b ≡ false → not a ≡ true
+not_of true true p q = cc
+not_of true false p q = cc
+not_of false b p q = refl
+
+said_apart : (tx one : TxId) → same_tx one tx ≡ false → (body : Body) → is_said one body ≡ true → is_apart tx body ≡ true
+said_apart tx one off (Client (TcKeyConf other answer)) e = ap not (apart tx one other off e)
+said_apart tx one off (Client (TcCommitConf other epoch)) e = ap not (apart tx one other off e)
+said_apart tx one off (Client (TcRollbackRep other cause)) e = ap not (apart tx one other off e)
+said_apart tx one off (Client (LqhWaitReq other key)) e = refl
+said_apart tx one off (Chain (LqhKeyReq other work chain at)) e = ap not (apart tx one other off e)
+said_apart tx one off (Chain (Commit other key epoch chain at)) e = ap not (apart tx one other off e)
+said_apart tx one off (Chain (Complete other key chain at)) e = ap not (apart tx one other off e)
+said_apart tx one off (Chain (Abort other key)) e = ap not (apart tx one other off e)
+said_apart tx one off (Epoch (DiVerifyReq other ops)) e = ap not (apart tx one other off e)
+said_apart tx one off (Epoch (DiVerifyEnd other)) e = ap not (apart tx one other off e)
+said_apart tx one off (Host (Continue (work.Transaction other) at)) e = ap not (apart tx one other off e)
+said_apart tx one off _ e = cc
+
+rest_apart : (tx : TxId) (body : Body) → is_rest_kind body ≡ true → is_apart tx body ≡ true
+rest_apart tx (Client (TcBeginRef name)) e = refl
+rest_apart tx (Client (TcWaitConf other ahead)) e = refl
+rest_apart tx _ e = cc
+
+wait_said : (tx : TxId) (body : Body) → is_wait_kind body ≡ true → is_said tx body ≡ true
+wait_said tx (Client (LqhWaitReq other key)) e = refl
+wait_said tx _ e = cc
+
+one_said : (tx : TxId) (more : Bool) → more ≡ true → (if same_tx tx tx then more else false) ≡ true
+one_said tx more e = ap (λ b. if b then more else false) (same_tx-self tx) ∙ e
+
+said_part : (tx : TxId) → IsPartKind (is_said tx) tx
+said_part tx = record {
+  commit = λ key epoch chain at. same_tx-self tx;
+  complete = λ key chain at. same_tx-self tx;
+  abort = λ key. same_tx-self tx;
+  cont = λ at. same_tx-self tx;
+  report = λ epoch. same_tx-self tx;
+}
+
+end_said : (node : ℕ) (tx : TxId) (why : AbortCause) (b : Bool) → are_of (is_said tx) (abort.abort_end node tx why b) ≡ true
+end_said node tx why true = one_said tx _ (one_said tx true refl)
+end_said node tx why false = one_said tx true refl
+
+abort_said : (node : ℕ) (tx : TxId) (layout : Layout) (w : Transaction) (why : AbortCause) (b : Bool) → are_of (is_said tx) (abort.abort_if node layout tx w why b).step.effects.sends ≡ true
+abort_said node tx layout w why true = end_said node tx why (abort.is_verifying w.phase)
+abort_said node tx layout w why false = entering_of (is_said tx) tx (said_part tx) node layout w _
+
+-- all that a transaction sends is said of it
+move_said : (s : TcState) (tx : TxId) (t : Transaction) (body : Body) (turn : Turn) → TurnMove s tx t body turn → are_of (is_said tx) turn.step.effects.sends ≡ true
+move_said s tx t body turn move = go move
+  where
+    said : (turn other : Turn) → turn ≡ other → are_of (is_said tx) other.step.effects.sends ≡ true → are_of (is_said tx) turn.step.effects.sends ≡ true
+    said turn other is e = ap (λ (x : Turn). are_of (is_said tx) x.step.effects.sends) is ∙ e
+
+    go : TurnMove s tx t body turn → are_of (is_said tx) turn.step.effects.sends ≡ true
+    go (keeps sends is kind missed) = said turn _ is (of_kind is_wait_kind (is_said tx) (wait_said tx) sends kind)
+    go (goes_on at about low is) = said turn _ is (parts_of (is_said tx) tx (said_part tx) s.node s.layout t.phase t.touched at)
+    go (asks op about p q fit is) = said turn _ is (one_said tx true refl)
+    go (answers key answer asked about p q is) = said turn _ is (one_said tx true refl)
+    go (late key asked about p q is) = said turn _ is (of_map (is_said tx) (abort_of tx key) (chain_of s.layout key) (λ r. same_tx-self tx))
+    go (decides about p q is) = said turn _ is (one_said tx true refl)
+    go (aborts w why gives some is) = said turn _ is (abort_said s.node tx s.layout w why false)
+    go (gives_up w why gives is none) = said turn _ is (abort_said s.node tx s.layout w why true)
+    go (aborted key why v k about p low is) = said turn _ is refl
+    go (abort_ends key why v k about p low is) = said turn _ is (end_said s.node tx why v)
+    go (commits epoch about p is) = said turn _ is (entering_of (is_said tx) tx (said_part tx) s.node s.layout t _)
+    go (committed epoch k p is) = said turn _ is refl
+    go (completes epoch p is) = said turn _ is (entering_of (is_said tx) tx (said_part tx) s.node s.layout t _)
+    go (ends epoch p is) = said turn _ is (one_said tx _ (one_said tx true refl))
+    go (completed epoch k p is) = said turn _ is refl
+    go (all_completed epoch k p is) = said turn _ is (one_said tx true refl)
+
+-- a transaction takes a turn, and is forgotten if it is over
+abbrev pub left_in : TxId → List (TxId × Transaction) → List (TxId × Transaction) → Turn → List (TxId × Transaction)
+left_in tx front back turn = if turn.over then front ++ back else front ++ (tx, turn.step.state) ∷ back
+
+-- a step of a coordinator
+pub data TcStep (s : TcState) (body : Body) (step : Step TcState) : Type 0 where
+  rests : is_turn body ≡ false → step.state ≡ s → are_of is_rest_kind step.effects.sends ≡ true → TcStep s body step
+  begins : (name : Option ℕ) → body ≡ Client (TcBeginReq name) → is_full s ≡ false → step ≡ sending (begun s) client (Client (TcBeginConf name (next_tx s))) → TcStep s body step
+  misses : is_turn body ≡ true → tally (is_keyed (tx_in body)) s.live ≡ 0 → step ≡ stay s → TcStep s body step
+  takes : is_turn body ≡ true → (t : Transaction) (front back : List (TxId × Transaction)) → s.live ≡ front ++ (tx_in body, t) ∷ back
+      → step ≡ record { state = with_live s (left_in (tx_in body) front back (turn_row s body t)); effects = (turn_row s body t).step.effects } → TcStep s body step
+
+taken_turn : (s : TcState) (body : Body) → is_turn body ≡ true → TcStep s body (turn_of s (tx_in body) (turn_row s body))
+unfolding without
+taken_turn s body is = go (nat_lt place (length (keys_of s.live))) refl
+  where
+    one : TxId
+    one = tx_in body
+
+    place : ℕ
+    place = prefix_len (λ x. not (same_tx one x)) (keys_of s.live)
+
+    over : (f : IsEntry (same_tx one) s.live place) (b : Bool) → (turn_row s body f.value).over ≡ b → TcStep s body (turned_if s place (turn_row s body f.value) b)
+    over f true e =
+        takes is f.value f.front f.back (f.is ∙ ap (λ k. f.front ++ (k, f.value) ∷ f.back) (sym (same_tx-is one f.key f.passes)))
+        (ap (λ live. record { state = with_live s live; effects = (turn_row s body f.value).step.effects })
+        (f.removed ∙ ap (λ b. if b then f.front ++ f.back else f.front ++ (one, (turn_row s body f.value).step.state) ∷ f.back) (sym e)))
+    over f false e =
+        takes is f.value f.front f.back (f.is ∙ ap (λ k. f.front ++ (k, f.value) ∷ f.back) (sym (same_tx-is one f.key f.passes)))
+        (ap (λ live. record { state = with_live s live; effects = (turn_row s body f.value).step.effects })
+        ((f.set (turn_row s body f.value).step.state ∙ ap (λ k. f.front ++ (k, (turn_row s body f.value).step.state) ∷ f.back) (sym (same_tx-is one f.key f.passes)))
+        ∙ ap (λ b. if b then f.front ++ f.back else f.front ++ (one, (turn_row s body f.value).step.state) ∷ f.back) (sym e)))
+
+    go : (b : Bool) → nat_lt place (length (keys_of s.live)) ≡ b → TcStep s body (turn_place s (turn_row s body) (cond b (Some place) None))
+    go true e =
+        let f = found (same_tx one) s.live (grind (arith, nat_tests, e)) in
+        subst (λ o. TcStep s body (turn_value s (turn_row s body) place o)) (sym f.get) (over f (turn_row s body f.value).over refl)
+    go false e = misses is (absent_key one one s.live (same_tx-self one) (grind (arith, nat_tests, e))) refl
+
+taken_step : (s : TcState) (body : Body) (row : Transaction → Step Transaction) → is_turn body ≡ true → ((t : Transaction) → going (row t) ≡ turn_row s body t)
+    → TcStep s body (step_of s (tx_in body) row)
+taken_step s body row is same =
+    subst (TcStep s body) (sym (step_is s (tx_in body) row ∙ ap (turn_of s (tx_in body)) (λ i t. same t i))) (taken_turn s body is)
+
+-- each step of a coordinator is one of these
+pub tc_step : (s : TcState) (body : Body) → TcStep s body (tc_table s body)
+unfolding begin_row pass_row
+tc_step s (Client (TcBeginReq name)) = go (is_full s) refl
+  where
+    go : (b : Bool) → is_full s ≡ b → TcStep s (Client (TcBeginReq name)) (begin_if s name b)
+    go true e = rests refl refl refl
+    go false e = begins name refl e refl
+tc_step s (Client (LqhWaitConf tx ahead)) = go (is_some (place_in s tx))
+  where
+    go : (b : Bool) → TcStep s (Client (LqhWaitConf tx ahead)) (pass_if s tx ahead b)
+    go true = rests refl refl refl
+    go false = rests refl refl refl
+tc_step s (Host (Continue (work.Transaction tx) at)) = taken_step s (Host (Continue (work.Transaction tx) at)) _ refl (λ t. refl)
+tc_step s (Client (TcKeyReq tx op)) = taken_step s (Client (TcKeyReq tx op)) _ refl (λ t. refl)
+tc_step s (Client (TcCommitReq tx)) = taken_step s (Client (TcCommitReq tx)) _ refl (λ t. refl)
+tc_step s (Client (TcRollbackReq tx)) = taken_turn s (Client (TcRollbackReq tx)) refl
+tc_step s (Client (TcWaitReq tx)) = taken_step s (Client (TcWaitReq tx)) _ refl (λ t. refl)
+tc_step s (Chain (LqhKeyConf tx key answer)) = taken_step s (Chain (LqhKeyConf tx key answer)) _ refl (λ t. refl)
+tc_step s (Chain (LqhKeyRef tx key why)) = taken_turn s (Chain (LqhKeyRef tx key why)) refl
+tc_step s (Chain (Committed tx key)) = taken_turn s (Chain (Committed tx key)) refl
+tc_step s (Chain (Completed tx key)) = taken_turn s (Chain (Completed tx key)) refl
+tc_step s (Chain (Aborted tx key)) = taken_turn s (Chain (Aborted tx key)) refl
+tc_step s (Epoch (DiVerifyConf tx epoch)) = taken_turn s (Epoch (DiVerifyConf tx epoch)) refl
+tc_step s _ = rests refl refl refl
+
+-- where a transaction stands
+live_none : (tx : TxId) (live : List (TxId × Transaction)) → tally (is_keyed tx) live ≡ 0 → of_live tx live ≡ None
+live_none tx [] none = refl
+live_none tx (e ∷ live) none = go (same_tx e.0 tx) refl (live_none tx live)
+  where
+    go : (b : Bool) → same_tx e.0 tx ≡ b → (tally (is_keyed tx) live ≡ 0 → of_live tx live ≡ None) → (if b then Some e.1 else of_live tx live) ≡ None
+    go true is rest = absurd (omega (arith, none, ap one_if is))
+    go false is rest = rest (omega (arith, none, ap one_if is))
+
+live_between : (tx : TxId) (front : List (TxId × Transaction)) (x : TxId × Transaction) (back : List (TxId × Transaction)) → same_tx x.0 tx ≡ false
+    → of_live tx (front ++ x ∷ back) ≡ of_live tx (front ++ back)
+live_between tx [] x back off = ap (λ b. if b then Some x.1 else of_live tx back) off
+live_between tx (e ∷ front) x back off = ap (λ o. if same_tx e.0 tx then Some e.1 else o) (live_between tx front x back off)
+
+live_here : (tx : TxId) (front : List (TxId × Transaction)) (t : Transaction) (back : List (TxId × Transaction)) → tally (is_keyed tx) front ≡ 0 → of_live tx (front ++ (tx, t) ∷ back) ≡ Some t
+live_here tx [] t back none = ap (λ b. if b then Some t else of_live tx back) (same_tx-self tx)
+live_here tx (e ∷ front) t back none = go (same_tx e.0 tx) refl (live_here tx front t back)
+  where
+    go : (b : Bool) → same_tx e.0 tx ≡ b → (tally (is_keyed tx) front ≡ 0 → of_live tx (front ++ (tx, t) ∷ back) ≡ Some t) → (if b then Some e.1 else of_live tx (front ++ (tx, t) ∷ back)) ≡ Some t
+    go true is rest = absurd (omega (arith, none, ap one_if is))
+    go false is rest = rest (omega (arith, none, ap one_if is))
+
+-- one that is live, where no two are of one number
+pub live_in : (tx : TxId) (t : Transaction) (live : List (TxId × Transaction)) → tally (is_keyed tx) live ≤ 1 → IsIn (tx, t) live → of_live tx live ≡ Some t
+live_in tx t [] once i = absurd i
+live_in tx t (e ∷ live) once (inl same) = ap (λ b. if b then Some e.1 else of_live tx live) (ap (λ (x : TxId × Transaction). same_tx x.0 tx) (sym same) ∙ same_tx-self tx) ∙ ap (λ (x : TxId × Transaction). Some x.1) (sym same)
+live_in tx t (e ∷ live) once (inr i) = go (same_tx e.0 tx) refl (live_in tx t live)
+  where
+    go : (b : Bool) → same_tx e.0 tx ≡ b → (tally (is_keyed tx) live ≤ 1 → IsIn (tx, t) live → of_live tx live ≡ Some t) → (if b then Some e.1 else of_live tx live) ≡ Some t
+    go true is rest = absurd (omega (arith, once, ap one_if is, tally_in (is_keyed tx) (tx, t) live i (same_tx-self tx)))
+    go false is rest = rest (omega (arith, once, ap one_if is)) i
+
+-- what is left of a transaction after its turn
+abbrev pub left_of_turn : Turn → Option Transaction
+left_of_turn turn = if turn.over then None else Some turn.step.state
+
+-- A step of a coordinator, as far as one transaction goes: it is about another, the transaction begins, or it takes a turn.
+pub data TxStep (tx : TxId) (s : TcState) (body : Body) (step : Step TcState) : Type 0 where
+  elsewhere : of_live tx step.state.live ≡ of_live tx s.live → are_of (is_apart tx) step.effects.sends ≡ true
+      → (is_turn body ≡ true → tx_in body ≡ tx → of_live tx s.live ≡ None) → TxStep tx s body step
+  born : (name : Option ℕ) → body ≡ Client (TcBeginReq name) → tx ≡ next_tx s → of_live tx s.live ≡ None → of_live tx step.state.live ≡ Some fresh
+      → step.effects.sends ≡ record { to = client; body = Client (TcBeginConf name tx) } ∷ [] → TxStep tx s body step
+  turned : (t : Transaction) (turn : Turn) → is_turn body ≡ true → tx_in body ≡ tx → of_live tx s.live ≡ Some t → TurnMove s tx t body turn
+      → of_live tx step.state.live ≡ left_of_turn turn → step.effects.sends ≡ turn.step.effects.sends → TxStep tx s body step
+
+module _ (tx : TxId) (s : TcState) (body : Body) (once : tally (is_keyed tx) s.live ≤ 1) (own : Each (λ (e : TxId × Transaction). IsOwn s.node s.next_seq e.0) s.live) where
+  tx_of : (step : Step TcState) → TcStep s body step → TxStep tx s body step
+  tx_of step (rests about is kind) =
+      elsewhere (ap (λ (x : TcState). of_live tx x.live) is) (of_kind is_rest_kind (is_apart tx) (rest_apart tx) step.effects.sends kind) (λ turn. absurd (false≢true (sym about ∙ turn)))
+  tx_of step (misses about none is) =
+      elsewhere (ap (λ (x : Step TcState). of_live tx x.state.live) is) (ap (λ (x : Step TcState). are_of (is_apart tx) x.effects.sends) is)
+      (λ turn same. live_none tx s.live (subst (λ x. tally (is_keyed x) s.live ≡ 0) same none))
+  tx_of step (begins name about room is) = go (same_tx (next_tx s) tx) refl
+    where
+      last : insert_entry same_tx s.live (next_tx s) fresh ≡ s.live ++ (next_tx s, fresh) ∷ []
+      last = insert_new s.live (next_tx s) fresh (each_map (λ (x : TxId × Transaction). IsOwn s.node s.next_seq x.0) (λ (x : TxId × Transaction). x.0.seq < s.next_seq) s.live (λ x o. o.early) own)
+
+      now : of_live tx step.state.live ≡ of_live tx (s.live ++ (next_tx s, fresh) ∷ [])
+      now = ap (λ (x : Step TcState). of_live tx x.state.live) is ∙ ap (of_live tx) last
+
+      nothing : (live : List (TxId × Transaction)) → live ++ [] ≡ live
+      nothing [] = refl
+      nothing (x ∷ live) = ap (λ xs. x ∷ xs) (nothing live)
+
+      plain : (x : Body) → is_turn x ≡ true → x ≡ Client (TcBeginReq name) → ⊥
+      plain x turn same = false≢true (ap is_turn (sym same) ∙ turn)
+
+      fewer : (live : List (TxId × Transaction)) → tx.seq ≡ s.next_seq → Each (λ (e : TxId × Transaction). IsOwn s.node s.next_seq e.0) live → tally (is_keyed tx) live ≡ 0
+      fewer [] seq early = refl
+      fewer (e ∷ live) seq early = by (same_tx e.0 tx) refl (fewer live seq early.1)
+        where
+          by : (b : Bool) → same_tx e.0 tx ≡ b → tally (is_keyed tx) live ≡ 0 → one_if (same_tx e.0 tx) + tally (is_keyed tx) live ≡ 0
+          by true same rest = absurd (omega (arith, early.0.early, seq, ap (λ (x : TxId). x.seq) (same_tx-is e.0 tx same)))
+          by false same rest = omega (arith, rest, ap one_if same)
+
+      go : (b : Bool) → same_tx (next_tx s) tx ≡ b → TxStep tx s body step
+      go false off =
+          elsewhere (now ∙ live_between tx s.live (next_tx s, fresh) [] off ∙ ap (of_live tx) (nothing s.live))
+          (ap (λ (x : Step TcState). are_of (is_apart tx) x.effects.sends) is ∙ ap (λ b. if not b then true else false) off) (λ turn same. absurd (plain body turn about))
+      go true same =
+          let here : tx ≡ next_tx s = sym (same_tx-is (next_tx s) tx same) in
+          let none : tally (is_keyed tx) s.live ≡ 0 = fewer s.live (ap (λ (x : TxId). x.seq) here) own in
+          born name about here (live_none tx s.live none)
+          (now ∙ ap (λ k. of_live tx (s.live ++ (k, fresh) ∷ [])) (sym here) ∙ live_here tx s.live fresh [] none)
+          (ap (λ (x : Step TcState). x.effects.sends) is ∙ ap (λ k. record { to = client; body = Client (TcBeginConf name k) } ∷ []) (sym here))
+  tx_of step (takes about t front back was is) = go (same_tx (tx_in body) tx) refl
+    where
+      turn : Turn
+      turn = turn_row s body t
+
+      move : TurnMove s (tx_in body) t body turn
+      move = turn_moves s body t about
+
+      sends_are : step.effects.sends ≡ turn.step.effects.sends
+      sends_are = ap (λ (x : Step TcState). x.effects.sends) is
+
+      live_are : step.state.live ≡ left_in (tx_in body) front back turn
+      live_are = ap (λ (x : Step TcState). x.state.live) is
+
+      counted : tally (is_keyed tx) s.live ≡ tally (is_keyed tx) (front ++ back) + one_if (same_tx (tx_in body) tx)
+      counted = tally_between (is_keyed tx) front (tx_in body, t) back s.live was
+
+      go : (b : Bool) → same_tx (tx_in body) tx ≡ b → TxStep tx s body step
+      go false off =
+          elsewhere
+          (ap (of_live tx) live_are ∙ kept turn.over ∙ sym (ap (of_live tx) was ∙ live_between tx front (tx_in body, t) back off))
+          (ap (are_of (is_apart tx)) sends_are ∙ of_kind (is_said (tx_in body)) (is_apart tx) (said_apart tx (tx_in body) off) turn.step.effects.sends (move_said s (tx_in body) t body turn move))
+          (λ turn same. absurd (false≢true (sym off ∙ (ap (λ x. same_tx x tx) same ∙ same_tx-self tx))))
+        where
+          kept : (b : Bool) → of_live tx (if b then front ++ back else front ++ (tx_in body, turn.step.state) ∷ back) ≡ of_live tx (front ++ back)
+          kept true = refl
+          kept false = live_between tx front (tx_in body, turn.step.state) back off
+      go true same =
+          turned t turn about one (ap (of_live tx) was ∙ ap (λ k. of_live tx (front ++ (k, t) ∷ back)) one ∙ live_here tx front t back none)
+          (subst (λ k. TurnMove s k t body turn) one move) (ap (of_live tx) live_are ∙ kept turn.over) sends_are
+        where
+          one : tx_in body ≡ tx
+          one = same_tx-is (tx_in body) tx same
+
+          none : tally (is_keyed tx) front ≡ 0
+          none = omega (arith, once, counted, ap one_if same, tally_append (is_keyed tx) front back)
+
+          kept : (b : Bool) → of_live tx (if b then front ++ back else front ++ (tx_in body, turn.step.state) ∷ back) ≡ (if b then None else Some turn.step.state)
+          kept true = live_none tx (front ++ back) (omega (arith, once, counted, ap one_if same))
+          kept false = ap (λ k. of_live tx (front ++ (k, turn.step.state) ∷ back)) one ∙ live_here tx front turn.step.state back none
+
+  pub tx_step : TxStep tx s body (tc_table s body)
+  tx_step = tx_of (tc_table s body) (tc_step s body)
+
+-- numbers rise, and one that is live has one
+pub next_grows : (s : TcState) (body : Body) → s.next_seq ≤ (tc_table s body).state.next_seq
+next_grows s body = go (tc_table s body) (tc_step s body)
+  where
+    go : (step : Step TcState) → TcStep s body step → s.next_seq ≤ step.state.next_seq
+    go step (rests about is kind) = omega (arith, ap (λ (x : TcState). x.next_seq) is)
+    go step (begins name about room is) = omega (arith, ap (λ (x : Step TcState). x.state.next_seq) is)
+    go step (misses about none is) = omega (arith, ap (λ (x : Step TcState). x.state.next_seq) is)
+    go step (takes about t front back was is) = omega (arith, ap (λ (x : Step TcState). x.state.next_seq) is)
+
+pub live_early : (tx : TxId) (s : TcState) (t : Transaction) → of_live tx s.live ≡ Some t → Each (λ (e : TxId × Transaction). IsOwn s.node s.next_seq e.0) s.live → tx.seq < s.next_seq
+live_early tx s t there own = go s.live there own
+  where
+    go : (live : List (TxId × Transaction)) → of_live tx live ≡ Some t → Each (λ (e : TxId × Transaction). IsOwn s.node s.next_seq e.0) live → tx.seq < s.next_seq
+    go [] there own = absurd cc
+    go (e ∷ live) there own = by (same_tx e.0 tx) refl there (λ rest. go live rest own.1)
+      where
+        by : (b : Bool) → same_tx e.0 tx ≡ b → (if b then Some e.1 else of_live tx live) ≡ Some t → (of_live tx live ≡ Some t → tx.seq < s.next_seq) → tx.seq < s.next_seq
+        by true is there rest = omega (arith, own.0.early, ap (λ (x : TxId). x.seq) (same_tx-is e.0 tx is))
+        by false is there rest = rest there
+
+pub live_home : (tx : TxId) (s : TcState) (t : Transaction) → of_live tx s.live ≡ Some t → Each (λ (e : TxId × Transaction). IsOwn s.node s.next_seq e.0) s.live → tx.tc ≡ s.node
+live_home tx s t there own = go s.live there own
+  where
+    go : (live : List (TxId × Transaction)) → of_live tx live ≡ Some t → Each (λ (e : TxId × Transaction). IsOwn s.node s.next_seq e.0) live → tx.tc ≡ s.node
+    go [] there own = absurd cc
+    go (e ∷ live) there own = by (same_tx e.0 tx) refl there (λ rest. go live rest own.1)
+      where
+        by : (b : Bool) → same_tx e.0 tx ≡ b → (if b then Some e.1 else of_live tx live) ≡ Some t → (of_live tx live ≡ Some t → tx.tc ≡ s.node) → tx.tc ≡ s.node
+        by true is there rest = sym (ap (λ (x : TxId). x.tc) (same_tx-is e.0 tx is)) ∙ own.0.home
+        by false is there rest = rest there

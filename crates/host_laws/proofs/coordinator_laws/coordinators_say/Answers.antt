@@ -1,0 +1,5 @@
+use Rattle.host_laws.proofs.OneWay.{coordinators_say}
+use Rattle.host_laws.proofs.coordinator_laws.coordinators_say.Goals as goal
+
+pub returns : goal.returns
+returns c = coordinators_say

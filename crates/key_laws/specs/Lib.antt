@@ -1,0 +1,12 @@
+pub mod Backup
+pub mod BackupEvents
+pub mod BackupLaws
+pub mod Joined
+pub mod LockLaws
+pub mod OneKey
+pub mod Placed
+pub mod Primary
+pub mod PrimaryEvents
+pub mod PrimaryLaws
+pub mod Records
+pub mod Replica

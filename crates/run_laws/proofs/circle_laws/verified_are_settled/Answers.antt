@@ -1,0 +1,5 @@
+use Rattle.run_laws.proofs.VerifiedSettled.{verified_settled}
+use Rattle.run_laws.proofs.circle_laws.verified_are_settled.Goals as goal
+
+pub returns : goal.returns
+returns c = verified_settled

@@ -1,0 +1,5 @@
+use Rattle.run_laws.proofs.Decided.{commits_are_decided}
+use Rattle.run_laws.proofs.way_laws.commits_are_decided.Goals as goal
+
+pub returns : goal.returns
+returns c = commits_are_decided

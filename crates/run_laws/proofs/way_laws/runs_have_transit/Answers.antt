@@ -1,0 +1,5 @@
+use Rattle.run_laws.proofs.TransitRuns.{runs_have_transit}
+use Rattle.run_laws.proofs.way_laws.runs_have_transit.Goals as goal
+
+pub returns : goal.returns
+returns c = runs_have_transit

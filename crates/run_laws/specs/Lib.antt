@@ -1,0 +1,13 @@
+pub mod Beside
+pub mod Circle
+pub mod Completions
+pub mod Decided
+pub mod GivenUp
+pub mod Keyed
+pub mod Laws
+pub mod Live
+pub mod Owed
+pub mod Routes
+pub mod Tokens
+pub mod Transit
+pub mod Undecided

@@ -1,5 +1,0 @@
-use Rattle.transit_laws.proofs.VerifiedSettled.{verified_settled}
-use Rattle.transit_laws.proofs.circle_laws.verified_are_settled.Goals as goal
-
-pub returns : goal.returns
-returns c = verified_settled

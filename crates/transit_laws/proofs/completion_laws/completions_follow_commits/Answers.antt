@@ -1,5 +1,0 @@
-use Rattle.transit_laws.proofs.Completions.{completions_follow_commits}
-use Rattle.transit_laws.proofs.completion_laws.completions_follow_commits.Goals as goal
-
-pub returns : goal.returns
-returns c = completions_follow_commits

@@ -1,9 +1,0 @@
-use Rattle.transit_laws.proofs.DecidedSettled.{decided_settled}
-use Rattle.transit_laws.proofs.Owing.{events_owed}
-use Rattle.transit_laws.proofs.owed_laws.keys_get_what_is_owed.Goals as goal
-
-pub returns-clause-events : goal.returns-clause-events
-returns-clause-events c = events_owed
-
-pub returns-clause-decided : goal.returns-clause-decided
-returns-clause-decided c = decided_settled

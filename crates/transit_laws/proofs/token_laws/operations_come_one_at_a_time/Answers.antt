@@ -1,5 +1,0 @@
-use Rattle.transit_laws.proofs.OneAtATime.{one_at_a_time}
-use Rattle.transit_laws.proofs.token_laws.operations_come_one_at_a_time.Goals as goal
-
-pub returns : goal.returns
-returns c = one_at_a_time

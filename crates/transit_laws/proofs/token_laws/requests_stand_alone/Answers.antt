@@ -1,8 +1,0 @@
-use Rattle.transit_laws.proofs.NoneWait.{none_wait_beside, none_wait_where_carried_out}
-use Rattle.transit_laws.proofs.token_laws.requests_stand_alone.Goals as goal
-
-pub returns-clause-beside : goal.returns-clause-beside
-returns-clause-beside c = none_wait_beside
-
-pub returns-clause-carried : goal.returns-clause-carried
-returns-clause-carried c = none_wait_where_carried_out

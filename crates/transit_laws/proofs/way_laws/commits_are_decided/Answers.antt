@@ -1,5 +1,0 @@
-use Rattle.transit_laws.proofs.Decided.{commits_are_decided}
-use Rattle.transit_laws.proofs.way_laws.commits_are_decided.Goals as goal
-
-pub returns : goal.returns
-returns c = commits_are_decided

@@ -1,5 +1,0 @@
-use Rattle.transit_laws.proofs.TransitRuns.{runs_have_transit}
-use Rattle.transit_laws.proofs.way_laws.runs_have_transit.Goals as goal
-
-pub returns : goal.returns
-returns c = runs_have_transit

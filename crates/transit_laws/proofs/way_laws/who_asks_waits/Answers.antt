@@ -1,5 +1,0 @@
-use Rattle.transit_laws.proofs.WhoAsks.{who_asks_waits}
-use Rattle.transit_laws.proofs.way_laws.who_asks_waits.Goals as goal
-
-pub returns : goal.returns
-returns c = who_asks_waits

@@ -1,8 +1,0 @@
-//! A row is completed behind its commit at each replica.
-ghost use Rattle.transit_laws.specs.Completions.{CompletionsFollowCommits};
-
-/// Where a completion of a row comes, no replica has a record of the transaction on the key
-/// prepared; and where one has a record, the primary is marked to have applied the transaction.
-pub fn completions_follow_commits()
-    ensures { CompletionsFollowCommits }
-{}

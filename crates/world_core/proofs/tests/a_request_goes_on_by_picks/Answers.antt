@@ -1,0 +1,16 @@
+use Rattle.std.proofs.Common.{[]}
+use Rattle.sig_core.specs.declared.request.ApiReq.TheVariants.{Digest}
+use Rattle.world_core.specs.Start.{Start}
+use Rattle.world_core.specs.WorldOf.{whole_of}
+use Rattle.world_core.proofs.WorldLemmas.{asked_world, begun_world}
+use Rattle.world_core.proofs.tests.a_request_goes_on_by_picks.Goals as goal
+
+abbrev begun : Start
+begun = record { shape = record { nodes = 2; replicas = 2; fragments = 2 }; epoch = 1; rows = [] }
+
+pub ask-requires : goal.ask-requires
+ask-requires g c = begun_world (whole_of c.in_ok-world.world) begun c.in_ok-world.ensures
+
+pub schedule-requires : goal.schedule-requires
+schedule-requires g c =
+    asked_world (Digest 1) (whole_of c.in_ok-world.world) (whole_of c.ask.new.self) c.in_ok-ask.ensures.ok (begun_world (whole_of c.in_ok-world.world) begun c.in_ok-world.ensures)
