@@ -269,8 +269,9 @@ module _ (shape : Shape) (left written : Option (List ℕ)) where
       -- or it was cut short
       pub line_asked : (written_then : Option (List ℕ)) (t : Whole) (c : Command) (result : Option Ending) → parsed_line shape.nodes (take at held) ≡ parsed.Ask c
           → PrintsCommand (fresh shape) c s t result written_now written_then
-          → MatchOption result (IsUnderWay shape left left_now written written_then (line + 1) (drop (at + 1) held) t) (λ ending. AreLinesDone shape left left_now written written_then ending t.logs)
-      line_asked written_then t c None e p = goes_on_asked written_then t c e (p.printed u.commands u.served)
+          → MatchOption result ((shape ≡ shape) × IsUnderWay shape left left_now written written_then (line + 1) (drop (at + 1) held) t)
+          (λ ending. AreLinesDone shape left left_now written written_then ending t.logs)
+      line_asked written_then t c None e p = (refl, goes_on_asked written_then t c e (p.printed u.commands u.served))
       line_asked written_then t c (Some ending) e p =
           cut_command written_then c false _ (first_asked false (parsed.Ask c) e) t (λ is. cc) ending (p.printed u.commands u.served)
 

@@ -47,8 +47,10 @@ returns-in-Quit-clause-done g c left_now at_end left written u =
     (some_held _ c.held-held.result.now c.is_empty.result c.held-held.ensures c.is_empty.ensures c.if-is_empty.false) means
 
 pub serve_command-requires : goal.serve_command-requires
-serve_command-requires g c =
+serve_command-requires g c lives outlive =
     (
+      outlive.0,
+      outlive.1,
       subst (λ start. IsSound start (whole_of c.args.self.now.world)) (sym c.requires.1.1.0) c.requires.1.1.1.1.1,
       command_served c.args.self.now.shape.nodes c.args.self.now.reader c.in-Ask.command (ap (parsed_line c.args.self.now.shape.nodes) (sym c.held-held.ensures) ∙ sym c.parse-parsed.ensures ∙ c.in-Ask.is),
     )

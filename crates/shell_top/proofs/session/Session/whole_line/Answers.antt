@@ -1,4 +1,4 @@
-use Rattle.std.proofs.Common.{◌≡◌, take, ap, sym, subst, ◌∙◌}
+use Rattle.std.proofs.Common.{◌≡◌, take, refl, ap, sym, subst, ◌∙◌}
 use Rattle.world_core.specs.Driven.{IsSound}
 use Rattle.world_core.specs.WorldOf.{whole_of}
 use Rattle.shell_top.specs.Parsed.{parsed as parsed_line}
@@ -16,7 +16,7 @@ returns-in-Nothing-clause-done g c left_now left written u =
     let means : parsed_line c.args.self.now.shape.nodes (take c.args.at c.args.self.now.reader) ≡ parsed.Nothing =
     ap (λ held. parsed_line c.args.self.now.shape.nodes (take c.args.at held)) (sym c.held.ensures) ∙ sym c.parse-parsed.ensures ∙ c.in-Nothing.is in
     rw c.drop_front.ensures
-    (goes_on c.args.self.now.shape left written left_now _ c.args.self.now.line c.args.self.now.reader _ u c.args.at c.requires.1.1.1.0 c.requires.1.1.1.1.0 c.if-at-gt-LINE_BYTES.false means)
+    (refl, goes_on c.args.self.now.shape left written left_now _ c.args.self.now.line c.args.self.now.reader _ u c.args.at c.requires.1.1.1.0 c.requires.1.1.1.1.0 c.if-at-gt-LINE_BYTES.false means)
 
 pub returns-in-Ask-clause-done : goal.returns-in-Ask-clause-done
 returns-in-Ask-clause-done g c left_now left written u =
@@ -39,9 +39,11 @@ returns-in-Quit-clause-done g c left_now left written u =
     line_quit c.args.self.now.shape left written left_now _ c.args.self.now.line c.args.self.now.reader _ u c.args.at c.requires.1.1.1.0 c.requires.1.1.1.1.0 c.if-at-gt-LINE_BYTES.false means
 
 pub serve_command-requires : goal.serve_command-requires
-serve_command-requires g c =
+serve_command-requires g c lives outlive =
     (
+      outlive.0,
+      outlive.1,
       subst (λ start. IsSound start (whole_of c.args.self.now.world)) (sym c.requires.1.1.0) c.requires.1.1.1.1.1,
       command_served c.args.self.now.shape.nodes (take c.args.at c.args.self.now.reader) c.in-Ask.command
-    (ap (λ held. parsed_line c.args.self.now.shape.nodes (take c.args.at held)) (sym c.held.ensures) ∙ sym c.parse-parsed.ensures ∙ c.in-Ask.is),
+      (ap (λ held. parsed_line c.args.self.now.shape.nodes (take c.args.at held)) (sym c.held.ensures) ∙ sym c.parse-parsed.ensures ∙ c.in-Ask.is),
     )
