@@ -48,9 +48,6 @@ returns-in-Quit-clause-done g c left_now at_end left written u =
 
 pub serve_command-requires : goal.serve_command-requires
 serve_command-requires g c lives outlive =
-    (
-      outlive.0,
-      outlive.1,
-      subst (λ start. IsSound start (whole_of c.args.self.now.world)) (sym c.requires.1.1.0) c.requires.1.1.1.1.1,
-      command_served c.args.self.now.shape.nodes c.args.self.now.reader c.in-Ask.command (ap (parsed_line c.args.self.now.shape.nodes) (sym c.held-held.ensures) ∙ sym c.parse-parsed.ensures ∙ c.in-Ask.is),
-    )
+    let opened = subst (λ start. IsSound start (whole_of c.args.self.now.world)) (sym c.requires.1.1.0) c.requires.1.1.1.1.1 in
+    let served = command_served c.args.self.now.shape.nodes c.args.self.now.reader c.in-Ask.command (ap (parsed_line c.args.self.now.shape.nodes) (sym c.held-held.ensures) ∙ sym c.parse-parsed.ensures ∙ c.in-Ask.is) in
+    (outlive.0, (outlive.1, (opened, served)))

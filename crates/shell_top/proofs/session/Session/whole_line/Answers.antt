@@ -40,10 +40,7 @@ returns-in-Quit-clause-done g c left_now left written u =
 
 pub serve_command-requires : goal.serve_command-requires
 serve_command-requires g c lives outlive =
-    (
-      outlive.0,
-      outlive.1,
-      subst (λ start. IsSound start (whole_of c.args.self.now.world)) (sym c.requires.1.1.0) c.requires.1.1.1.1.1,
-      command_served c.args.self.now.shape.nodes (take c.args.at c.args.self.now.reader) c.in-Ask.command
-      (ap (λ held. parsed_line c.args.self.now.shape.nodes (take c.args.at held)) (sym c.held.ensures) ∙ sym c.parse-parsed.ensures ∙ c.in-Ask.is),
-    )
+    let opened = subst (λ start. IsSound start (whole_of c.args.self.now.world)) (sym c.requires.1.1.0) c.requires.1.1.1.1.1 in
+    let served = command_served c.args.self.now.shape.nodes (take c.args.at c.args.self.now.reader) c.in-Ask.command
+    (ap (λ held. parsed_line c.args.self.now.shape.nodes (take c.args.at held)) (sym c.held.ensures) ∙ sym c.parse-parsed.ensures ∙ c.in-Ask.is) in
+    (outlive.0, (outlive.1, (opened, served)))
