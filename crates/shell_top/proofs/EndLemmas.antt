@@ -1,5 +1,5 @@
 -- How a whole session is told: its lines, and then the line of the fault by which it was meant to end.
-use Rattle.std.proofs.Common.{◌≡◌, ◌⊎◌, ℕ, List, [], ◌∷◌, ◌++◌, length, false, true, refl, ap, sym, subst, ◌∙◌, arith, inl, inr}
+use Rattle.std.proofs.Common.{reverse, map, ◌≡◌, ◌⊎◌, ℕ, List, [], ◌∷◌, ◌++◌, length, false, true, refl, ap, sym, subst, ◌∙◌, arith, inl, inr}
 use Rattle.std.specs.Prelude.{Option, None, Some}
 use Rattle.std.specs.Global.{Vec}
 use Rattle.std.specs.Io.KnownBytes.{Appends, Consumes}
@@ -20,7 +20,7 @@ use Rattle.shell_top.specs.Printed.{Prints, is_cut_short}
 use Rattle.script_lang.specs.declared.command.Command.{Command}
 use Rattle.shell_top.specs.Script.{script_from}
 use Rattle.shell_top.specs.Served.{IsServed}
-use Rattle.shell_top.specs.Told.{text_of}
+use Rattle.shell_top.specs.Told.{replies_in, text_of}
 use Rattle.shell_top.specs.Session.{AreLinesDone, IsSession, IsUnderWay}
 use Rattle.shell_top.specs.Text.{fault_line, reply_lines}
 use Rattle.shell_top.proofs.PrintedLemmas.{prints_both}
@@ -34,20 +34,36 @@ use Rattle.command_laws.specs.Between.{IsAskedAgain}
 use Rattle.world_core.specs.Quiet.{IsQuiet}
 use Rattle.frag_map.specs.Layout.{first_view}
 use Rattle.world_core.specs.Start.{fresh}
-use Rattle.world_core.specs.World.{Whole, logs_at, new_world}
+use Rattle.node_core.specs.Replies.{replies_of as host_replies}
+use Rattle.world_core.specs.Requests.{requests}
+use Rattle.world_core.specs.World.{Whole, logs_at, new_world, no_steps, of_host, replies_of}
 use Rattle.world_core.specs.WorldOf.{whole_of}
 use Rattle.node_core.proofs.HostLemmas.{fresh_told}
-use Rattle.world_core.proofs.FreshWorld.{fresh_asked, fresh_quiet, fresh_right}
+use Rattle.world_core.proofs.FreshWorld.{each_at, fresh_asked, fresh_quiet, fresh_right}
+use Rattle.world_core.proofs.HostNumbers.{shell_started}
+use Rattle.world_core.proofs.Replies.{replies_are}
 use Rattle.world_core.proofs.Stamped.{stamped}
 
--- nothing is told of a fresh world
+-- the shell's host has taken no step in a fresh world
+no_step : (shape : Shape) → logs_at (new_world (fresh shape)).logs 0 ≡ []
+no_step shape = ap (λ (log : HostLog). map (of_host 0) (reverse log.steps)) (each_at (hosts (fresh shape)) no_steps 0 (no_steps 0) (omega arith))
+
+-- so it has no reply, and nothing is told
+no_reply : (shape : Shape) → replies_in (fresh shape) [] ≡ []
+no_reply shape = ap host_replies (shell_started (fresh shape)) ∙ fresh_told (first_view shape.nodes)
+
+no_reply_left : (shape : Shape) → replies_of (new_world (fresh shape)) ≡ []
+no_reply_left shape =
+    sym (replies_are (fresh shape) [] (new_world (fresh shape)) (fresh_right (fresh shape))) ∙ ap (replies_in (fresh shape)) (no_step shape) ∙ no_reply shape
+
 fresh_text : (shape : Shape) → text_of (fresh shape) (logs_at (new_world (fresh shape)).logs 0) ≡ []
-fresh_text shape = ap (λ replies. reply_lines (arranged None replies)) (fresh_told (first_view shape.nodes))
+fresh_text shape = ap (text_of (fresh shape)) (no_step shape) ∙ ap (λ replies. reply_lines (arranged None replies)) (no_reply shape)
 
 -- the session is before its first line
-pub starts : (shape : Shape) (left written : Option (List ℕ)) (session : Session) (lives : Vec Life) → HasOpened shape session lives
-    → IsUnderWay shape left left written written session.line session.reader (whole_of session.world)
-starts shape left written session lives opened =
+pub starts : (left written : Option (List ℕ)) (session : Session) (lives : Vec Life) → HasOpened session lives
+    → IsUnderWay session.shape left left written written session.line session.reader (whole_of session.world)
+starts left written session lives opened =
+    let shape = session.shape in
     record {
       consumed = [];
       commands = [];
@@ -59,9 +75,9 @@ starts shape left written session lives opened =
             given = [];
             right = fresh_right (fresh shape);
             quiet = fresh_quiet (fresh shape);
-            asked = refl;
+            asked = ap requests (no_step shape);
             at_quiet = fresh_asked (fresh shape);
-            none_left = fresh_told (first_view shape.nodes);
+            none_left = no_reply_left shape;
           });
       line_low = omega (arith, opened.line);
       held_short = let empty : length session.reader ≡ 0 = ap length opened.reader in omega arith;

@@ -94,6 +94,16 @@ one_part held e =
     let none = not_found (nat_lt (position_or_len is_newline held) (length held)) (position_or_len is_newline held) e in
     one_part_past held (grind (arith, nat_tests, none))
 
+-- a line that is too long, and one that isn't
+pub too_long_line : (line : ℕ) (bytes : List ℕ) → 65536 < line → is_too_long line bytes ≡ true
+too_long_line line bytes past = grind (arith, nat_tests)
+
+pub too_long_bytes : (line : ℕ) (bytes : List ℕ) → 512 < length bytes → is_too_long line bytes ≡ true
+too_long_bytes line bytes long = grind (arith, nat_tests)
+
+pub short_line : (line : ℕ) (bytes : List ℕ) → line ≤ 65536 → length bytes ≤ 512 → is_too_long line bytes ≡ false
+short_line line bytes low short = grind (arith, nat_tests)
+
 -- lines of a script for so many nodes
 module _ (nodes : ℕ) where
   -- so what is held without a newline is the last part of what was read
@@ -128,15 +138,6 @@ module _ (nodes : ℕ) where
 
   pub whole_line-short : (line : ℕ) (bytes : List ℕ) (rest : Script) → is_too_long line bytes ≡ false → whole_line nodes line bytes rest ≡ follow line (parsed_line nodes bytes) rest
   whole_line-short line bytes rest short = ap (λ b. if b then ends_with (TooLong line) else follow line (parsed_line nodes bytes) rest) short
-
-  pub too_long_line : (line : ℕ) (bytes : List ℕ) → 65536 < line → is_too_long line bytes ≡ true
-  too_long_line line bytes past = grind (arith, nat_tests)
-
-  pub too_long_bytes : (line : ℕ) (bytes : List ℕ) → 512 < length bytes → is_too_long line bytes ≡ true
-  too_long_bytes line bytes long = grind (arith, nat_tests)
-
-  pub short_line : (line : ℕ) (bytes : List ℕ) → line ≤ 65536 → length bytes ≤ 512 → is_too_long line bytes ≡ false
-  short_line line bytes low short = grind (arith, nat_tests)
 
   -- the last part of what was read
   pub last_part-long : (ended : Bool) (line : ℕ) (held : List ℕ) → 0 < length held → is_too_long line held ≡ true → last_part nodes ended line held ≡ ends_with (TooLong line)

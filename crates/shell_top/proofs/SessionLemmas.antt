@@ -18,7 +18,7 @@ use Rattle.shell_top.specs.Printed.{Prints}
 use Rattle.shell_top.specs.Served.{AreLeft, CommandEnds, PrintsCommand, WrittenInPart, WrittenWhole}
 use Rattle.shell_top.specs.Told.{text_of}
 use Rattle.shell_top.proofs.LivedLemmas.{left_lived, served_lived, told_front, told_part}
-use Rattle.world_core.specs.Start.{fresh}
+use Rattle.world_core.specs.Start.{Start, fresh}
 use Rattle.world_core.specs.World.{Whole, logs_at}
 use Rattle.shell_top.specs.Parsed.{parsed as parsed_line}
 use Rattle.shell_top.specs.Reader.{Reads, IsPartial, is_newline}
@@ -269,8 +269,9 @@ module _ (shape : Shape) (left written : Option (List ℕ)) where
       -- or it was cut short
       pub line_asked : (written_then : Option (List ℕ)) (t : Whole) (c : Command) (result : Option Ending) → parsed_line shape.nodes (take at held) ≡ parsed.Ask c
           → PrintsCommand (fresh shape) c s t result written_now written_then
-          → MatchOption result (IsUnderWay shape left left_now written written_then (line + 1) (drop (at + 1) held) t) (λ ending. AreLinesDone shape left left_now written written_then ending t.logs)
-      line_asked written_then t c None e p = goes_on_asked written_then t c e (p.printed u.commands u.served)
+          → MatchOption result ((shape ≡ shape) × IsUnderWay shape left left_now written written_then (line + 1) (drop (at + 1) held) t)
+          (λ ending. AreLinesDone shape left left_now written written_then ending t.logs)
+      line_asked written_then t c None e p = (refl, goes_on_asked written_then t c e (p.printed u.commands u.served))
       line_asked written_then t c (Some ending) e p =
           cut_command written_then c false _ (first_asked false (parsed.Ask c) e) t (λ is. cc) ending (p.printed u.commands u.served)
 
@@ -331,3 +332,8 @@ module _ (shape : Shape) (left written : Option (List ℕ)) where
       last_command written_then t c None some e p = ends_answered written_then c t (last_asked (parsed.Ask c) some e) at_end (p.printed u.commands u.served)
       last_command written_then t c (Some ending) some e p =
           cut_command written_then c true nothing_more (last_asked (parsed.Ask c) some e) t (λ is. at_end) ending (p.printed u.commands u.served)
+
+-- a start that is that of a fresh world
+pub served_as : {start : Start} {shape : Shape} {c : Command} {s t : Whole} {result : Option Ending} {written written_now : Option (List ℕ)} → start ≡ fresh shape
+    → PrintsCommand start c s t result written written_now → PrintsCommand (fresh shape) c s t result written written_now
+served_as {start} {shape} {c} {s} {t} {result} {written} {written_now} is printed = subst (λ start. PrintsCommand start c s t result written written_now) is printed

@@ -74,9 +74,9 @@ module _ (start : Start) where
   telling_newer : (newer log : List HostStep) → none_begins (requests newer) ≡ true → telling start (newer ++ log) ≡ telling start log
   telling_newer [] log e = refl
   telling_newer (step ∷ newer) log e =
-      same_telling (telling start (newer ++ log)) (replies_in start (newer ++ log)) (request_in step.taken.body)
-      (none_back (requests newer) (option_to_list (request_in step.taken.body)) e)
-      ∙ telling_newer newer log (none_front (requests newer) (option_to_list (request_in step.taken.body)) e)
+      same_telling (telling start (newer ++ log)) (replies_in start (newer ++ log)) (request_in step.step.taken.body)
+      (none_back (requests newer) (option_to_list (request_in step.step.taken.body)) e)
+      ∙ telling_newer newer log (none_front (requests newer) (option_to_list (request_in step.step.taken.body)) e)
 
   -- the text of one more command: its first request is the step behind `before`, and no later one begins a command
   pub one_more : (first : ApiReq) (asking : HostStep) (newer before log : List HostStep) → log ≡ newer ++ asking ∷ before → request_in asking.step.taken.body ≡ Some first

@@ -10,7 +10,7 @@ use Rattle.clap.specs.Kinds.{HasKind, Kinds}
 use Rattle.clap.specs.Matches.{first_value, found_of}
 use Rattle.clap.specs.Simple.{App, HasMatchesOf, is_simple, matches_of}
 use Rattle.clap.specs.Values.{kind_of}
-use Rattle.clap.specs.Walk.{Row, is_empty, rows_of}
+use Rattle.clap.specs.Walk.{first_of, is_empty, rows_of}
 use Rattle.clap.specs.declared.error.Error.{Error}
 use Rattle.clap.specs.declared.error.kind.ErrorKind.TheVariants.{OutOfMemory}
 use Rattle.clap.specs.declared.parser.matches.ArgMatches.{ArgMatches}
@@ -108,7 +108,8 @@ module _ (app : App) (app_is : app ≡ ndb) (words : List (List ℕ)) (separated
           ≡ shape_in (rows_of (found_of m)) =
       ap₂ (λ nodes replicas. shape_of (number_or 2 nodes) (number_or 2 replicas) (number_or 4 (first_value (found_of m) (codes "fragments"))))
       (first_value-rows (found_of m) (codes "nodes")) (first_value-rows (found_of m) (codes "replicas"))
-      ∙ ap (λ fragments. shape_of _ _ (number_or 4 fragments)) (first_value-rows (found_of m) (codes "fragments")) in
+      ∙ ap (λ fragments. shape_of (number_or 2 (first_of (codes "nodes") (rows_of (found_of m)))) (number_or 2 (first_of (codes "replicas") (rows_of (found_of m)))) (number_or 4 fragments))
+      (first_value-rows (found_of m) (codes "fragments")) in
       told ∙ by_rows ∙ ap shape_in rows
       ∙ sym (asked_by words true (taken_by words false [] (sym is ∙ fails) (sym (ap (λ (a : App). fault_of a words) app_is) ∙ none)))
 
@@ -120,4 +121,6 @@ module _ (app : App) (app_is : app ≡ ndb) (words : List (List ℕ)) (separated
       by_kinds [] same (inl wanting) = absurd (other wanting)
       by_kinds [] same (inr among) = absurd among
       by_kinds (k ∷ ks) same has =
-          sym (asked_by words false (taken_by words false (k ∷ ks) (sym is ∙ fails) (sym (ap (λ (a : App). fault_of a words) app_is) ∙ same)))
+          let some : is_empty (k ∷ ks) ≡ false = grind (arith, nat_tests) in
+          sym (asked_by words false
+          (taken_by words false (k ∷ ks) (sym is ∙ fails) (sym (ap (λ (a : App). fault_of a words) app_is) ∙ same) ∙ ap (λ b. not false && b) some))

@@ -67,8 +67,8 @@ may_be_unborn Words = true
 may_be_unborn NoMemory = true
 may_be_unborn ending = false
 
--- The lives of a session of a cluster of this shape, where its words ask for one: one life; or none, where words were
--- refused, or memory was wanting, before anything was read.
+-- The lives of a session whose words ask for this shape, if for any: one life; or none, where the words were refused, or
+-- memory was wanting, before anything was read.
 abbrev pub AreLives : Option Shape → Ending → List Command → List ℕ → List Life → Type 0
 AreLives asked ending commands input [] = (input ≡ []) × (may_be_unborn ending ≡ true)
 AreLives (Some shape) ending commands input (life ∷ []) = IsLife shape ending commands life

@@ -5,17 +5,17 @@ use Rattle.std.specs.Vec.{vec_capacity}
 use Rattle.sig_core.specs.declared.log.Life.{Life}
 use Rattle.shell_top.specs.declared.session.Session.{Session}
 use Rattle.shell_top.specs.Session.{IsOpen}
-use Rattle.sig_core.specs.declared.view.Shape.{Shape}
+use Rattle.frag_map.specs.Shape.{IsShape}
 use Rattle.world_core.specs.Start.{fresh}
 use Rattle.world_core.specs.World.{new_world}
 use Rattle.world_core.specs.WorldOf.{whole_of}
 
--- it is before its first line, its world is fresh, and there is room for its life
-pub record HasOpened (shape : Shape) (session : Session) (lives : Vec Life) : Type 0 where
-  pub shape_is : session.shape ≡ shape
+-- it is before its first line, its world is a fresh one of its shape, and there is room for its life
+pub record HasOpened (session : Session) (lives : Vec Life) : Type 0 where
+  pub sound : IsShape session.shape
   pub reader : session.reader ≡ []
   pub line : session.line ≡ 1
-  pub world : whole_of session.world ≡ new_world (fresh shape)
-  pub opened : IsOpen shape (whole_of session.world)
+  pub world : whole_of session.world ≡ new_world (fresh session.shape)
+  pub opened : IsOpen session.shape (whole_of session.world)
   pub none : lives.items ≡ []
   pub room : 0 < vec_capacity lives

@@ -112,7 +112,8 @@ struct Opened {
 /// `NoMemory`.
 fn open(alloc: Global, shape: Shape) -> Result<Opened, NoMemory>
     requires { IsShape shape }
-    ensures { IfOk result (λ opened. HasOpened shape opened.session opened.lives) }
+    ensures shape { IfOk result (λ opened. opened.session.shape ≡ shape) }
+    ensures opened { IfOk result (λ opened. HasOpened opened.session opened.lives) }
 {
     let lives = Vec::with_capacity(alloc, 1)?;
     let session = Session::new(alloc, shape)?;
@@ -127,10 +128,8 @@ fn run_opened<R: Wait, S: Source, K: Sink>(
     source: &mut S,
     sink: &mut K,
 ) -> Outcome
-    ghost shape: { Shape }
-    requires shape { IsShape shape }
-    requires opened { HasOpened shape opened.session opened.lives }
-    ensures session { IsSession (Some shape) (S.left source.old) (S.left source.new) (K.written sink.old) (K.written sink.new) result.ending result.lives.items }
+    requires { HasOpened opened.session opened.lives }
+    ensures session { IsSession (Some opened.session.shape) (S.left source.old) (S.left source.new) (K.written sink.old) (K.written sink.new) result.ending result.lives.items }
     ensures read_fault { result.ending ≡ ending.ReadFault → Rose (S.faults source.old) (S.faults source.new) }
     ensures write_fault { result.ending ≡ ending.WriteFault → Rose (K.faults sink.old) (K.faults sink.new) }
 {

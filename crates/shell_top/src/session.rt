@@ -7,7 +7,7 @@ ghost use Rattle.shell_top.specs.Reader.{IsPartial, is_newline};
 ghost use Rattle.shell_top.specs.Session.{GoesOn, GoesToEnd, IsOpen};
 ghost use Rattle.frag_map.specs.Shape.{IsShape};
 ghost use Rattle.world_core.specs.Lives.{fresh_life};
-ghost use Rattle.world_core.specs.Start.{fresh};
+ghost use Rattle.world_core.specs.Start.{Start, fresh};
 ghost use Rattle.world_core.specs.World.{new_world};
 ghost use Rattle.world_core.specs.WorldOf.{whole_of};
 
@@ -135,6 +135,8 @@ impl Session {
         sink: &mut K,
         at: usize,
     ) -> Option<Ending>
+        ghost start: { Start }
+        requires start { start ≡ fresh self.old.shape }
         requires found { position is_newline self.old.reader ≡ Some at }
         requires low { self.old.line ≤ 65536 }
         requires opened { IsOpen self.old.shape (whole_of self.old.world) }
@@ -165,6 +167,8 @@ impl Session {
 
     /// Serves and answers what stands behind the last newline, at the end of the source.
     fn last_line<R: Wait, K: Sink>(&mut self, rt: &R, alloc: Global, sink: &mut K) -> Ending
+        ghost start: { Start }
+        requires start { start ≡ fresh self.old.shape }
         requires partial { IsPartial self.old.reader }
         requires low { 0 < length self.old.reader → self.old.line ≤ 65536 }
         requires opened { IsOpen self.old.shape (whole_of self.old.world) }

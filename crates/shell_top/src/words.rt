@@ -1,5 +1,5 @@
 //! The words behind the program's name.
-ghost use Rattle.std.specs.Prelude.{◌≡◌, IfOk, IfSome, map, codes, string_bytes, option_map};
+ghost use Rattle.std.specs.Prelude.{◌≡◌, IfOk, IfSome, false, map, codes, string_bytes, option_map};
 ghost use Rattle.std.specs.List.{list_any};
 ghost use Rattle.clap.specs.Matches.{first_value, found_of};
 ghost use Rattle.clap.specs.Simple.{app_of};
@@ -57,7 +57,7 @@ fn has_separator(words: &[String]) -> bool
 ///
 /// # Errors
 /// `NoMemory`.
-fn command(alloc: Global) -> Result<Command<'static>, NoMemory>
+fn command<'a>(alloc: Global) -> Result<Command<'a>, NoMemory>
     ensures { IfOk result (λ command. app_of command ≡ ndb) }
 {
     let bare = Command::new(alloc, "ndb")
@@ -69,8 +69,8 @@ fn command(alloc: Global) -> Result<Command<'static>, NoMemory>
 }
 
 /// An option with a value.
-fn option(alloc: Global, name: &'static str) -> Arg<'static>
-    ensures rule { rule_of result ≡ option name.now }
+fn option<'a>(alloc: Global, name: &'a str) -> Arg<'a>
+    ensures rule { rule_of result ≡ option name.entry.now }
     ensures local { result.global ≡ false }
 {
     Arg::new(alloc, name).long(name)
@@ -93,7 +93,7 @@ fn shape_in(matches: &ArgMatches) -> Option<Shape>
 
 /// The number that a value tells, or the default where there is none.
 fn number_or(default: u8, value: Option<&str>) -> Option<u8>
-    ensures { result ≡ number_or default (option_map (λ text. text.now) value) }
+    ensures { result ≡ number_or default (option_map (λ text. text.now) value.entry) }
 {
     match value {
         None => Some(default),

@@ -1,14 +1,24 @@
-use Rattle.std.proofs.Common.{sym, subst}
+use Rattle.std.proofs.Common.{◌≡◌, map, sym, subst, ◌∙◌}
+use Rattle.std.specs.Prelude.{IfOk, None, Some, string_bytes}
 use Rattle.shell_top.specs.Session.{IsSession}
+use Rattle.shell_top.specs.Words.{asked_shape}
 use Rattle.shell_top.proofs.EndLemmas.{session_refused, session_unstarted}
 use Rattle.shell_top.proofs.run.run_session.Goals as goal
 
-pub returns-in-Some-clause-session : goal.returns-in-Some-clause-session
-returns-in-Some-clause-session g c =
-    subst (λ asked. IsSession asked _ _ _ _ c.run_shape.result.ending c.run_shape.result.lives.items) c.in-Some.ensures.told c.run_shape.ensures.session
+pub returns-in-Ok-Some-clause-session : goal.returns-in-Ok-Some-clause-session
+returns-in-Ok-Some-clause-session g c =
+    let told : Some c.in-Ok-Some.shape ≡ asked_shape (map string_bytes c.args.words.now) =
+    sym c.in-Ok-Some.field-0-is
+    ∙ subst (λ result. IfOk result (λ asked. asked ≡ asked_shape (map string_bytes c.args.words.now))) c.in-Ok-Some.is c.shape_asked.ensures.told in
+    subst (λ asked. IsSession asked (g.S.Source.left c.args.source.now) (g.S.Source.left c.run_shape.new.source) (g.K.Sink.written c.args.sink.now)
+    (g.K.Sink.written c.run_shape.new.sink) c.run_shape.result.ending c.run_shape.result.lives.items) told c.run_shape.ensures.session
 
-pub returns-in-None-clause-session : goal.returns-in-None-clause-session
-returns-in-None-clause-session g c = session_refused _ _ _ _ c.finish.result _ c.new.ensures.items (sym c.in-None.ensures.told) c.finish.ensures.printed
+pub returns-in-Ok-None-clause-session : goal.returns-in-Ok-None-clause-session
+returns-in-Ok-None-clause-session g c =
+    let told : None ≡ asked_shape (map string_bytes c.args.words.now) =
+    sym c.in-Ok-None.field-0-is
+    ∙ subst (λ result. IfOk result (λ asked. asked ≡ asked_shape (map string_bytes c.args.words.now))) c.in-Ok-None.is c.shape_asked.ensures.told in
+    session_refused _ _ _ _ c.finish.result _ c.new.ensures.items (sym told) c.finish.ensures.printed
 
 pub returns-in-Err-clause-session : goal.returns-in-Err-clause-session
-returns-in-Err-clause-session g c = session_unstarted _ _ _ _ c.new.ensures.items
+returns-in-Err-clause-session g c = session_unstarted _ _ _ _ c.new-in-Err.ensures.items

@@ -9,7 +9,7 @@ returns-in_err-ask-clause-err g c =
     on_err c.from_residual.result (first_err g.start (Waits ∷ []) (Pending ∷ []) (whole_of c.args.world.now) (whole_of c.ask.new.world) c.in_err-ask.ensures.err)
 
 pub ask-requires-2 : goal.ask-requires-2
-ask-requires-2 g c = served_sound g.start (Waits ∷ []) (whole_of c.args.world.now) (whole_of c.ask.new.world) c.in_ok-ask.ensures.ok c.requires
+ask-requires-2 g c lives outlive = (outlive, served_sound g.start (Waits ∷ []) (whole_of c.args.world.now) (whole_of c.ask.new.world) c.in_ok-ask.ensures.ok c.requires.1)
 
 pub returns-clause-ok : goal.returns-clause-ok
 returns-clause-ok g c =

@@ -11,7 +11,7 @@ returns-in_err-ask-clause-err g c =
     (first_err g.start (Tick 1 c.args.rounds ∷ []) (rounds_behind c.args.rounds (c.args.rounds - 1)) (whole_of c.args.world.now) (whole_of c.ask.new.world) c.in_err-ask.ensures.err)
 
 pub further_rounds-requires : goal.further_rounds-requires
-further_rounds-requires g c = served_sound g.start (Tick 1 c.args.rounds ∷ []) (whole_of c.args.world.now) (whole_of c.ask.new.world) c.in_ok-ask.ensures.ok c.requires
+further_rounds-requires g c lives outlive = (outlive, served_sound g.start (Tick 1 c.args.rounds ∷ []) (whole_of c.args.world.now) (whole_of c.ask.new.world) c.in_ok-ask.ensures.ok c.requires.1)
 
 pub returns-clause-ok : goal.returns-clause-ok
 returns-clause-ok g c =

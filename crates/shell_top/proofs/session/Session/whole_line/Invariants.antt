@@ -1,5 +1,4 @@
-use Rattle.world_core.specs.Start.{fresh}
 use Rattle.shell_top.proofs.session.Session.whole_line.Given as goal
 
 abbrev pub ghost-serve_command : goal.ghost-serve_command
-ghost-serve_command g a = fresh a.self.shape
+ghost-serve_command g a = g.start
