@@ -105,7 +105,7 @@ module _ (app : App) (app_is : app ≡ ndb) (words : List (List ℕ)) (separated
   taken_words m result none has told =
       let rows : rows_of (found_of m) ≡ matches_of ndb words = (has (ap is_simple app_is ∙ ndb_simple)).0 ∙ ap (λ (a : App). matches_of a words) app_is in
       let by_rows : shape_of (number_or 2 (first_value (found_of m) (codes "nodes"))) (number_or 2 (first_value (found_of m) (codes "replicas"))) (number_or 4 (first_value (found_of m) (codes "fragments")))
-          ≡ shape_in (rows_of (found_of m)) =
+      ≡ shape_in (rows_of (found_of m)) =
       ap₂ (λ nodes replicas. shape_of (number_or 2 nodes) (number_or 2 replicas) (number_or 4 (first_value (found_of m) (codes "fragments"))))
       (first_value-rows (found_of m) (codes "nodes")) (first_value-rows (found_of m) (codes "replicas"))
       ∙ ap (λ fragments. shape_of (number_or 2 (first_of (codes "nodes") (rows_of (found_of m)))) (number_or 2 (first_of (codes "replicas") (rows_of (found_of m)))) (number_or 4 fragments))

@@ -19,7 +19,9 @@ const DIGITS: usize = 20;
 
 /// The nodes, the replicas and the fragments where the words tell nothing of them.
 const NODES: u8 = 2;
+
 const REPLICAS: u8 = 2;
+
 const FRAGMENTS: u8 = 4;
 
 /// The shape of the cluster that the words ask for, which a cluster may have. `None` where they are
@@ -117,9 +119,5 @@ fn if_sound(shape: Shape) -> Option<Shape>
     ensures told { result ≡ if_sound shape }
     ensures sound { IfSome result IsShape }
 {
-    if is_shape(&shape) {
-        Some(shape)
-    } else {
-        None
-    }
+    if is_shape(&shape) { Some(shape) } else { None }
 }
