@@ -137,9 +137,9 @@ fn a_put_stands_in_the_logs_of_all_hosts(rt: HostRuntime) -> Result<(), Fail> {
         assert_eq!(rt; logs.len(), 7);
         for (log, marked, unmarked) in [
             (logs.get(0), Kind::Reported, Kind::Prepared),
-            (logs.get(1), Kind::Decided, Kind::Reported),
-            (logs.get(2), Kind::Prepared, Kind::Decided),
-            (logs.get(5), Kind::Done, Kind::Decided),
+            (logs.get(2), Kind::Decided, Kind::Done),
+            (logs.get(3), Kind::Prepared, Kind::Decided),
+            (logs.get(6), Kind::Done, Kind::Decided),
         ] {
             let log = log.ok_or("a host has no log")?;
             assert!(rt; has_mark(log, marked));

@@ -18,7 +18,7 @@ fn rows_are_in_the_group_of_their_fragment(rt: HostRuntime) -> Result<(), Fail> 
         alloc,
         "--nodes=4",
         b"begin 1 3\n@1 put a 100\n@1 put b 7\ncommit 1\nrows 1\nrows 3\n",
-        b"@1 begun 1\n@1 ok\n@1 ok\n@1 committed 1\nb 7\nnode 1 rows 1\na 100\nnode 3 rows 1\n",
+        b"@1 begun 3\n@1 ok\n@1 ok\n@1 committed 1\nb 7\nnode 1 rows 1\na 100\nnode 3 rows 1\n",
         0,
     )
 }

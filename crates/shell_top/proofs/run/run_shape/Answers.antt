@@ -1,4 +1,4 @@
-use Rattle.std.proofs.Common.{ap, subst}
+use Rattle.std.proofs.Common.{subst}
 use Rattle.std.specs.Prelude.{Some}
 use Rattle.shell_top.specs.Session.{IsSession}
 use Rattle.shell_top.proofs.EndLemmas.{session_unstarted}
