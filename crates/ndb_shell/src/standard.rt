@@ -4,9 +4,9 @@ ghost use Rattle.std.specs.Io.KnownBytes.{ReadConsumes, WriteAppends};
 ghost use Rattle.host_io.specs.Fault.{Rose};
 
 use host_io::{Failed, Sink, Source};
-use std::io::{Read, Write};
+use std::io::{ErrorKind, Read, Write};
 
-/// A source over a reader. It counts the reads that fail.
+/// A source over a reader. It counts the reads that fail; one that is interrupted is made again.
 #[derive(Drop)]
 pub struct StdSource<R> {
     reader: R,
@@ -26,13 +26,15 @@ impl<R: Read> Source for StdSource<R> {
     ghost faults = { λ s. s.faults };
 
     fn read(&mut self, buf: &mut [u8]) -> Result<usize, Failed> {
-        match self.reader.read(buf) {
-            Ok(count) => Ok(count),
-            Err(_) => {
-                self.faults = self.faults.saturating_add(1);
-                Err(Failed)
+        for _ in 0..u64::MAX {
+            match self.reader.read(buf) {
+                Ok(count) => return Ok(count),
+                Err(fault) if fault.kind() == ErrorKind::Interrupted => {}
+                Err(_) => break,
             }
         }
+        self.faults = self.faults.saturating_add(1);
+        Err(Failed)
     }
 
     fn faults(&self) -> u64 {
@@ -41,7 +43,7 @@ impl<R: Read> Source for StdSource<R> {
 }
 
 /// A sink over a writer. It counts the writes that fail, among them those that take none of the
-/// bytes.
+/// bytes; one that is interrupted is made again.
 #[derive(Drop)]
 pub struct StdSink<W> {
     writer: W,
@@ -61,13 +63,15 @@ impl<W: Write> Sink for StdSink<W> {
     ghost faults = { λ s. s.faults };
 
     fn write(&mut self, bytes: &[u8]) -> Result<usize, Failed> {
-        match self.writer.write(bytes) {
-            Ok(count) if count > 0 || bytes.is_empty() => Ok(count),
-            _ => {
-                self.faults = self.faults.saturating_add(1);
-                Err(Failed)
+        for _ in 0..u64::MAX {
+            match self.writer.write(bytes) {
+                Ok(count) if count > 0 || bytes.is_empty() => return Ok(count),
+                Err(fault) if fault.kind() == ErrorKind::Interrupted => {}
+                _ => break,
             }
         }
+        self.faults = self.faults.saturating_add(1);
+        Err(Failed)
     }
 
     fn faults(&self) -> u64 {
