@@ -1,6 +1,7 @@
 pub mod Chain
 pub mod Filled
 pub mod Firsts
+pub mod HeldAnswer
 pub mod Journal
 pub mod Members
 pub mod Op

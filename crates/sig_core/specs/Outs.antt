@@ -1,13 +1,9 @@
 -- The room of a step's effects.
-use Rattle.std.specs.Prelude.{◌≤◌, length}
-use Rattle.std.specs.Global.{Vec}
-use Rattle.std.specs.Vec.{vec_capacity}
-use Rattle.sig_core.specs.declared.mark.Mark.{Mark}
-use Rattle.sig_core.specs.declared.outs.Outgoing.{Outgoing}
+use Rattle.std.specs.Prelude.{ℕ, ◌≤◌}
 
--- room for 16 signals and 16 marks, which are never more
-pub record IsRoomFor (sends : Vec Outgoing) (marks : Vec Mark) : Type 0 where
-  pub few_sends : length sends.items ≤ 16
-  pub few_marks : length marks.items ≤ 16
-  pub sends_room : 16 ≤ vec_capacity sends
-  pub marks_room : 16 ≤ vec_capacity marks
+-- so many signals and marks, in these rooms: each room is for 16, and there are never more
+pub record IsRoomFor (sends sends_room marks marks_room : ℕ) : Type 0 where
+  pub few_sends : sends ≤ 16
+  pub few_marks : marks ≤ 16
+  pub wide_sends : 16 ≤ sends_room
+  pub wide_marks : 16 ≤ marks_room

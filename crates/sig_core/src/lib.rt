@@ -5,6 +5,8 @@
 mod actor;
 mod chain;
 mod entry;
+mod held;
+mod held_answer;
 mod journal;
 mod key;
 mod log;
@@ -30,6 +32,8 @@ mod word;
 pub use actor::Actor;
 pub use chain::{last_place, node_at, primary_of};
 pub use entry::Entry;
+pub use held::Held;
+pub use held_answer::HeldAnswer;
 pub use journal::{Journal, JournalFault};
 pub use key::{KEY_BYTES, Key};
 pub use log::{HostLog, Life, LogStep};

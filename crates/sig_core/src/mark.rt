@@ -1,4 +1,5 @@
 //! Marks: what a step is known by in the log of its host. No block reads one.
+use crate::held::Held;
 use crate::key::Key;
 use crate::member::{HostId, TxId};
 use crate::outcome::{Outcome, StopCause};
@@ -6,7 +7,7 @@ use crate::seq::Seq;
 use crate::view::View;
 
 /// What happened at a step.
-#[derive(Clone, Copy)]
+#[derive(Drop)]
 pub enum Mark {
     /// A replica holds the transaction's image of the row.
     Prepared { tx: TxId, key: Key },
@@ -21,7 +22,7 @@ pub enum Mark {
     /// The node promised a view of this number.
     Promised { number: u64 },
     /// The node installed this view.
-    Installed { view: View },
+    Installed { view: Held<View> },
     /// The client was told the transaction's outcome.
     Reported { tx: TxId, outcome: Outcome },
     /// Every transaction up to this epoch survives a stop of all nodes.

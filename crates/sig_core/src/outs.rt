@@ -1,11 +1,13 @@
 //! The effects of one step, as it makes them.
-ghost use Rattle.std.specs.Prelude.{◌≡◌, ◌<◌, IfOk, [], ◌∷◌, ◌++◌, length, None, option_to_list};
+ghost use Rattle.std.specs.Prelude.{◌≡◌, ◌<◌, IfOk, OnOk, OnErr, [], ◌∷◌, ◌++◌, length, None, option_to_list};
 
-use crate::mark::Mark;
+use crate::mark::{Mark, Marks};
 use crate::no_memory::NoMemory;
 use crate::place::Place;
+use crate::seq::Seq;
 use crate::signal::Body;
 use std::alloc::Global;
+use std::collections::VecDeque;
 use std::marker::Model;
 
 /// How many signals a step sends at most, and how many marks it has at most.
@@ -22,12 +24,14 @@ pub struct Outgoing {
 /// 16 of each.
 #[derive(Drop)]
 pub struct Outs {
-    sends: Vec<Outgoing>,
+    sends: VecDeque<Outgoing>,
     marks: Vec<Mark>,
 }
 
 impl Model for Outs {
     ghost use Rattle.std.specs.Prelude.{length};
+    ghost use Rattle.std.specs.Vec.{vec_capacity};
+    ghost use Rattle.std.specs.VecDeque.{deque_capacity};
     ghost use Rattle.sig_core.specs.Step.{Effects};
     ghost use Rattle.sig_core.specs.Outs.{IsRoomFor};
 
@@ -35,7 +39,7 @@ impl Model for Outs {
 
     ghost view = { λ o. record { sends = o.sends.items; marks = o.marks.items } };
 
-    ghost invariant = { λ o. IsRoomFor o.sends o.marks };
+    ghost invariant = { λ o. IsRoomFor (length o.sends.items) (deque_capacity o.sends) (length o.marks.items) (vec_capacity o.marks) };
 }
 
 impl Outs {
@@ -48,7 +52,7 @@ impl Outs {
     pub fn new(alloc: Global) -> Result<Outs, NoMemory>
         ensures { IfOk result (λ outs. outs ≡ nothing) }
     {
-        let sends = Vec::with_capacity(alloc, OUTS)?;
+        let sends = VecDeque::with_capacity(alloc, OUTS)?;
         let marks = Vec::with_capacity(alloc, OUTS)?;
         Ok(Outs { sends, marks })
     }
@@ -58,7 +62,7 @@ impl Outs {
         requires { length self.old.sends < 16 }
         ensures { self.new ≡ and_send self.old to body }
     {
-        self.sends.push_reserved(Outgoing { to, body });
+        self.sends.push_back_reserved(Outgoing { to, body });
     }
 
     /// Marks the step. Takes no memory.
@@ -84,15 +88,27 @@ impl Outs {
         self.marks.as_slice()
     }
 
+    /// Takes the marks.
+    ///
+    /// # Errors
+    /// `NoMemory`, and then they are still there.
+    pub fn take_marks(&mut self, alloc: Global) -> Result<Marks, NoMemory>
+        ensures taken { IfOk result (λ marks. marks ≡ self.old.marks) }
+        ensures ok { OnOk result (self.new.marks ≡ []) }
+        ensures err { OnErr result (self.new.marks ≡ self.old.marks) }
+        ensures sends { self.new.sends ≡ self.old.sends }
+    {
+        let mut marks = Vec::with_capacity(alloc, self.marks.len())?;
+        marks.append(&mut self.marks)?;
+        Ok(Seq::from_vec(marks))
+    }
+
     /// Takes the first signal that is to be sent.
     pub fn take_send(&mut self) -> Option<Outgoing>
         ensures sends { self.old.sends ≡ option_to_list result ++ self.new.sends }
         ensures none { result ≡ None → self.old.sends ≡ [] }
         ensures marks { self.new.marks ≡ self.old.marks }
     {
-        if self.sends.is_empty() {
-            return None;
-        }
-        Some(self.sends.remove(0))
+        self.sends.pop_front()
     }
 }

@@ -1,4 +1,5 @@
 //! What the shell asks of the API.
+use crate::held::Held;
 use crate::op::Op;
 use crate::seq::Seq;
 
@@ -18,7 +19,7 @@ pub enum BatchLine {
 pub enum ApiReq {
     Begin { name: u16, node: Option<u8> },
     /// Without a name the operation is a transaction of its own, committed at once.
-    Operate { name: Option<u16>, op: Op },
+    Operate { name: Option<u16>, op: Held<Op> },
     Commit { name: u16 },
     Abort { name: u16 },
     Batch { lines: Seq<BatchLine> },

@@ -1,4 +1,5 @@
 //! Signals: what blocks send one another.
+use crate::held::Held;
 use crate::member::{HostId, Member};
 use crate::place::Place;
 use crate::view::View;
@@ -50,6 +51,6 @@ pub struct Signal {
     /// The stamp of the step that sent it.
     pub stamp: u64,
     /// The view that its sender had installed.
-    pub view: View,
+    pub view: Held<View>,
     pub body: Body,
 }

@@ -1,23 +1,25 @@
 //! Signals along the chain of a row's replicas.
+use crate::held::Held;
+use crate::held_answer::HeldAnswer;
 use crate::key::Key;
 use crate::member::TxId;
 use crate::members::Members;
-use crate::op::{Answer, Op};
+use crate::op::Op;
 use crate::outcome::AbortCause;
 use crate::value::Value;
 
 /// What a replica is asked to prepare.
-#[derive(Clone, Copy)]
+#[derive(Drop)]
 pub enum RowWork {
     /// An operation, at the primary.
-    Operate(Op),
+    Operate(Held<Op>),
     /// The image that the primary made of a write, at a backup. None is a deletion.
-    Store(Key, Option<Value>),
+    Store(Key, Held<Option<Value>>),
 }
 
 /// Signals along the chain of a row's replicas. The chain lists them, the primary first, and `at`
 /// is the place in it, from 0, of the replica that the signal is for.
-#[derive(Clone, Copy)]
+#[derive(Drop)]
 pub enum ChainSignal {
     LqhKeyReq {
         tx: TxId,
@@ -28,7 +30,7 @@ pub enum ChainSignal {
     LqhKeyConf {
         tx: TxId,
         key: Key,
-        answer: Answer,
+        answer: HeldAnswer,
     },
     LqhKeyRef {
         tx: TxId,

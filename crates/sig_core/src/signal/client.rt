@@ -1,7 +1,9 @@
 //! Signals between the API and the blocks that serve it.
+use crate::held::Held;
+use crate::held_answer::HeldAnswer;
 use crate::key::Key;
 use crate::member::TxId;
-use crate::op::{Answer, Op};
+use crate::op::Op;
 use crate::outcome::AbortCause;
 use crate::seq::Seq;
 use crate::value::Value;
@@ -22,11 +24,11 @@ pub enum ClientSignal {
     },
     TcKeyReq {
         tx: TxId,
-        op: Op,
+        op: Held<Op>,
     },
     TcKeyConf {
         tx: TxId,
-        answer: Answer,
+        answer: HeldAnswer,
     },
     TcCommitReq {
         tx: TxId,

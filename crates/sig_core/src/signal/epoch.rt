@@ -1,6 +1,8 @@
 //! Signals of epochs and global checkpoints.
+use crate::held::Held;
+use crate::held_answer::HeldAnswer;
 use crate::member::TxId;
-use crate::op::{Answer, Op};
+use crate::op::Op;
 use crate::seq::Seq;
 
 /// Signals of epochs and global checkpoints.
@@ -8,7 +10,7 @@ use crate::seq::Seq;
 pub enum EpochSignal {
     DiVerifyReq {
         tx: TxId,
-        ops: Seq<(Op, Answer)>,
+        ops: Seq<(Held<Op>, HeldAnswer)>,
     },
     DiVerifyConf {
         tx: TxId,

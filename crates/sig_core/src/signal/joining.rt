@@ -1,10 +1,11 @@
 //! Signals by which a node that starts joins the others.
+use crate::held::Held;
 use crate::key::Key;
 use crate::member::{Member, TxId};
 use crate::value::Value;
 
 /// Signals by which a node that starts joins the others.
-#[derive(Clone, Copy)]
+#[derive(Drop)]
 pub enum JoiningSignal {
     StartReq {
         member: Member,
@@ -31,7 +32,7 @@ pub enum JoiningSignal {
         at: u64,
     },
     LqhScanConf {
-        row: Option<(Key, Value)>,
+        row: Option<Held<(Key, Value)>>,
         epoch: u64,
         next: Option<u64>,
     },
@@ -40,7 +41,7 @@ pub enum JoiningSignal {
     },
     CopyRowReq {
         key: Key,
-        value: Value,
+        value: Held<Value>,
         epoch: u64,
     },
     CopyRowConf,

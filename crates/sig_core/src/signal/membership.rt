@@ -1,27 +1,28 @@
 //! Signals by which the members agree on views.
+use crate::held::Held;
 use crate::member::Member;
 use crate::members::Members;
 use crate::outcome::StopCause;
 use crate::view::View;
 
 /// Signals by which the members agree on views.
-#[derive(Clone, Copy)]
+#[derive(Drop)]
 pub enum MembershipSignal {
     Heartbeat,
     FailRep {
         suspects: Members,
     },
     PrepFailReq {
-        proposal: View,
+        proposal: Held<View>,
     },
     PrepFailConf {
         number: u64,
     },
     PrepFailRef {
-        promised: View,
+        promised: Held<View>,
     },
     FenceReq {
-        proposal: View,
+        proposal: Held<View>,
     },
     FenceConf,
     ArbitReq {
