@@ -1,5 +1,5 @@
 //! The API of a shell.
-ghost use Rattle.std.specs.Prelude.{◌≡◌, ◌<◌, length, IfOk, IfSome, false, OnOk, OnErr, None, [], ◌∷◌, ◌++◌, option_to_list};
+ghost use Rattle.std.specs.Prelude.{◌≡◌, ◌<◌, length, IfOk, IfSome, false, OnOk, OnErr, None, Some, slice_get, [], ◌∷◌, ◌++◌, option_to_list};
 ghost use Rattle.sig_core.specs.Step.{HasRoom, IsTaken, IsUntouched};
 
 use crate::dump::Dump;
@@ -98,10 +98,7 @@ impl Api {
             ApiReq::Tick { round, of } => self.tick(*round, *of, out),
             ApiReq::Rows { node } => self.begin_dump(alloc, *node, false, out),
             ApiReq::Digest { node } => self.begin_dump(alloc, *node, true, out),
-            ApiReq::Waits => {
-                self.ask_wait(out);
-                Ok(())
-            }
+            ApiReq::Waits => self.ask_wait(out),
             ApiReq::Pending => self.tell_wait(out),
             _ => {
                 self.own = None;
@@ -119,6 +116,17 @@ impl Api {
             Some(name) => place_named(self.opened.as_slice(), name),
             None => None,
         }
+    }
+
+    /// The transaction at a place, once more.
+    ///
+    /// # Errors
+    /// `NoMemory` where its operation is held 2^63 - 1 times.
+    pub(crate) fn opened_at(&self, at: usize) -> Result<OpenTransaction, NoMemory>
+        requires { at < length self.now.opened }
+        ensures { IfOk result (λ t. slice_get self.now.opened at ≡ Some t) }
+    {
+        self.opened[at].share()
     }
 
     /// Adds a reply behind the others.

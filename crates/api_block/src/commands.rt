@@ -9,7 +9,7 @@ use crate::lists::push;
 use crate::members::{News, is_full, least_node, tell_everyone};
 use crate::opened::{Doing, OpenTransaction, place_named};
 use sig_core::{
-    ApiReply, Body, ClientSignal, NoMemory, Op, Outs, Refusal, TxId, View, coordinator,
+    ApiReply, Body, ClientSignal, Held, NoMemory, Op, Outs, Refusal, TxId, View, coordinator,
     coordinator_of, rows_of,
 };
 use std::alloc::Global;
@@ -35,7 +35,7 @@ impl Api {
         }
         let node = node_for(&self.view, node);
         if is_full(&self.view, node) {
-            self.ask_begin(Some(name), node, &None, out)
+            self.ask_begin(Some(name), node, None, out)
         } else {
             self.refuse(Some(name), Refusal::NoMember(node))
         }
@@ -50,11 +50,11 @@ impl Api {
         &mut self,
         name: Option<u16>,
         node: u8,
-        op: &Option<Op>,
+        op: Option<Held<Op>>,
         out: &mut Outs,
     ) -> Result<(), NoMemory>
         requires { HasRoom out.old }
-        ensures ok { OnOk result (IsTaken (beginning self.old name node op.now) self.new out.old out.new) }
+        ensures ok { OnOk result (IsTaken (beginning self.old name node op) self.new out.old out.new) }
         ensures err { OnErr result (IsUntouched self.old self.new out.old out.new) }
     {
         push(
@@ -64,7 +64,7 @@ impl Api {
                 node,
                 tx: None,
                 operations: 0,
-                doing: Doing::Beginning(*op),
+                doing: Doing::Beginning(op),
                 ahead: None,
             },
         )?;
@@ -88,8 +88,8 @@ impl Api {
     {
         match place_named(self.opened.as_slice(), Some(name)) {
             Some(at) => {
-                let t = self.opened[at];
-                self.commit_at(name, at, &t, out)
+                let t = self.opened_at(at)?;
+                self.commit_at(name, at, t, out)
             }
             None => self.refuse(Some(name), Refusal::NotOpen),
         }
@@ -100,12 +100,12 @@ impl Api {
         &mut self,
         name: u16,
         at: usize,
-        t: &OpenTransaction,
+        t: OpenTransaction,
         out: &mut Outs,
     ) -> Result<(), NoMemory>
         requires place { at < length self.old.opened }
         requires room { HasRoom out.old }
-        ensures ok { OnOk result (IsTaken (commit_by self.old name at t.now t.now.doing t.now.tx) self.new out.old out.new) }
+        ensures ok { OnOk result (IsTaken (commit_by self.old name at t t.doing t.tx) self.new out.old out.new) }
         ensures err { OnErr result (IsUntouched self.old self.new out.old out.new) }
     {
         match (&t.doing, t.tx) {

@@ -1,15 +1,15 @@
 //! Transactions that were asked for and whose end isn't reported.
-ghost use Rattle.std.specs.Prelude.{◌≡◌, ◌<◌, position, length, IfSome};
+ghost use Rattle.std.specs.Prelude.{◌≡◌, ◌<◌, position, length, IfOk, IfSome};
 ghost use Rattle.api_block.specs.declared.opened.Doing.TheVariants.{Ready, Committing};
 ghost use Rattle.api_block.specs.Opened.{answered, begins, begins_at, begun, begun_operating, behind, committing, has_tx, is_beginning, is_named, is_tx, is_unanswered, operating, same_name};
 
-use sig_core::{Op, TxId};
+use sig_core::{Held, NoMemory, Op, TxId};
 
 /// How far a transaction is.
-#[derive(Clone, Copy)]
+#[derive(Drop)]
 pub enum Doing {
     /// Its coordinator was asked to begin it, to perform this operation where it has no name.
-    Beginning(Option<Op>),
+    Beginning(Option<Held<Op>>),
     /// It takes commands.
     Ready,
     /// An operation was sent.
@@ -18,8 +18,23 @@ pub enum Doing {
     Committing,
 }
 
+impl Doing {
+    // The same once more.
+    fn share(&self) -> Result<Doing, NoMemory>
+        ensures { IfOk result (λ doing. doing ≡ self.now) }
+    {
+        match self {
+            Doing::Beginning(Some(op)) => Ok(Doing::Beginning(Some(op.share()?))),
+            Doing::Beginning(None) => Ok(Doing::Beginning(None)),
+            Doing::Ready => Ok(Doing::Ready),
+            Doing::Operating => Ok(Doing::Operating),
+            Doing::Committing => Ok(Doing::Committing),
+        }
+    }
+}
+
 /// A transaction that was asked for and whose end isn't reported.
-#[derive(Clone, Copy)]
+#[derive(Drop)]
 pub struct OpenTransaction {
     /// The number that a script gave to it. That of a lone operation has none.
     pub name: Option<u16>,
@@ -104,10 +119,21 @@ impl OpenTransaction {
     }
 
     /// It waits for that transaction, or it isn't known for which.
-    pub fn behind(&self, ahead: Option<TxId>) -> OpenTransaction
-        ensures { result ≡ behind self.now ahead }
+    pub fn behind(self, ahead: Option<TxId>) -> OpenTransaction
+        ensures { result ≡ behind self ahead }
     {
-        OpenTransaction { ahead, ..*self }
+        OpenTransaction { ahead, ..self }
+    }
+
+    /// The same transaction once more.
+    ///
+    /// # Errors
+    /// `NoMemory` where its operation is held 2^63 - 1 times.
+    pub fn share(&self) -> Result<OpenTransaction, NoMemory>
+        ensures { IfOk result (λ t. t ≡ self.now) }
+    {
+        let doing = self.doing.share()?;
+        Ok(OpenTransaction { doing, ..*self })
     }
 }
 

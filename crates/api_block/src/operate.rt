@@ -10,7 +10,8 @@ use crate::api::Api;
 use crate::members::least_node;
 use crate::opened::{Doing, OpenTransaction, place_beginning_at, place_named, place_of};
 use sig_core::{
-    Answer, ApiReply, Body, ClientSignal, NoMemory, Op, Outs, Refusal, TxId, coordinator_of,
+    ApiReply, Body, ClientSignal, Held, HeldAnswer, NoMemory, Op, Outs, Refusal, TxId,
+    coordinator_of,
 };
 
 /// How many operations a transaction has at most.
@@ -22,13 +23,13 @@ impl Api {
     /// # Errors
     /// `NoMemory`, and then nothing has happened.
     #[tactic(auto, unfolding(crate::specs::Operate::lone_row))]
-    pub(crate) fn operate_alone(&mut self, op: &Op, out: &mut Outs) -> Result<(), NoMemory>
+    pub(crate) fn operate_alone(&mut self, op: &Held<Op>, out: &mut Outs) -> Result<(), NoMemory>
         requires { HasRoom out.old }
         ensures ok { OnOk result (IsTaken (lone_row self.old op.now) self.new out.old out.new) }
         ensures err { OnErr result (IsUntouched self.old self.new out.old out.new) }
     {
         match least_node(&self.view) {
-            Some(node) => self.ask_begin(None, node, &Some(*op), out),
+            Some(node) => self.ask_begin(None, node, Some(op.share()?), out),
             None => self.refuse(None, Refusal::NoMember(0)),
         }
     }
@@ -38,15 +39,20 @@ impl Api {
     /// # Errors
     /// `NoMemory`, and then nothing has happened.
     #[tactic(auto, unfolding(crate::specs::Operate::operate_row))]
-    pub(crate) fn operate(&mut self, name: u16, op: &Op, out: &mut Outs) -> Result<(), NoMemory>
+    pub(crate) fn operate(
+        &mut self,
+        name: u16,
+        op: &Held<Op>,
+        out: &mut Outs,
+    ) -> Result<(), NoMemory>
         requires { HasRoom out.old }
         ensures ok { OnOk result (IsTaken (operate_row self.old name op.now) self.new out.old out.new) }
         ensures err { OnErr result (IsUntouched self.old self.new out.old out.new) }
     {
         match place_named(self.opened.as_slice(), Some(name)) {
             Some(at) => {
-                let t = self.opened[at];
-                self.operate_at(name, op, at, &t, out)
+                let t = self.opened_at(at)?;
+                self.operate_at(name, op, at, t, out)
             }
             None => self.refuse(Some(name), Refusal::NotOpen),
         }
@@ -56,18 +62,19 @@ impl Api {
     fn operate_at(
         &mut self,
         name: u16,
-        op: &Op,
+        op: &Held<Op>,
         at: usize,
-        t: &OpenTransaction,
+        t: OpenTransaction,
         out: &mut Outs,
     ) -> Result<(), NoMemory>
         requires place { at < length self.old.opened }
         requires room { HasRoom out.old }
-        ensures ok { OnOk result (IsTaken (operate_by self.old name op.now at t.now t.now.doing t.now.tx) self.new out.old out.new) }
+        ensures ok { OnOk result (IsTaken (operate_by self.old name op.now at t t.doing t.tx) self.new out.old out.new) }
         ensures err { OnErr result (IsUntouched self.old self.new out.old out.new) }
     {
         match (&t.doing, t.tx) {
             (Doing::Ready, Some(tx)) if t.operations < OPERATIONS => {
+                let op = op.share()?;
                 self.opened[at] = t.operating();
                 self.own = Some(Some(name));
                 send_operation(tx, op, out);
@@ -96,8 +103,8 @@ impl Api {
     {
         match place_beginning_at(self.opened.as_slice(), name, tx.tc) {
             Some(at) => {
-                let t = self.opened[at];
-                self.begun_at(tx, at, &t, out)
+                let t = self.opened_at(at)?;
+                self.begun_at(tx, at, t, out)
             }
             None => Ok(()),
         }
@@ -108,12 +115,12 @@ impl Api {
         &mut self,
         tx: TxId,
         at: usize,
-        t: &OpenTransaction,
+        t: OpenTransaction,
         out: &mut Outs,
     ) -> Result<(), NoMemory>
         requires place { at < length self.old.opened }
         requires room { HasRoom out.old }
-        ensures ok { OnOk result (IsTaken (begun_by self.old tx at t.now t.now.name t.now.doing) self.new out.old out.new) }
+        ensures ok { OnOk result (IsTaken (begun_by self.old tx at t t.name t.doing) self.new out.old out.new) }
         ensures err { OnErr result (IsUntouched self.old self.new out.old out.new) }
     {
         match (t.name, &t.doing) {
@@ -123,6 +130,7 @@ impl Api {
                 Ok(())
             }
             (None, Doing::Beginning(Some(op))) => {
+                let op = op.share()?;
                 self.opened[at] = t.begun_operating(tx);
                 send_operation(tx, op, out);
                 Ok(())
@@ -143,7 +151,7 @@ impl Api {
     pub(crate) fn answer(
         &mut self,
         tx: TxId,
-        answer: &Answer,
+        answer: &HeldAnswer,
         out: &mut Outs,
     ) -> Result<(), NoMemory>
         requires { HasRoom out.old }
@@ -152,8 +160,8 @@ impl Api {
     {
         match place_of(self.opened.as_slice(), tx) {
             Some(at) => {
-                let t = self.opened[at];
-                self.answer_at(tx, answer, at, &t, out)
+                let t = self.opened_at(at)?;
+                self.answer_at(tx, answer, at, t, out)
             }
             None => Ok(()),
         }
@@ -163,17 +171,17 @@ impl Api {
     fn answer_at(
         &mut self,
         tx: TxId,
-        answer: &Answer,
+        answer: &HeldAnswer,
         at: usize,
-        t: &OpenTransaction,
+        t: OpenTransaction,
         out: &mut Outs,
     ) -> Result<(), NoMemory>
         requires place { at < length self.old.opened }
         requires room { HasRoom out.old }
-        ensures ok { OnOk result (IsTaken (answer_by self.old tx answer.now at t.now t.now.doing t.now.name) self.new out.old out.new) }
+        ensures ok { OnOk result (IsTaken (answer_by self.old tx answer.now at t t.doing t.name) self.new out.old out.new) }
         ensures err { OnErr result (IsUntouched self.old self.new out.old out.new) }
     {
-        let (name, answer) = (t.name, *answer);
+        let (name, answer) = (t.name, answer.get());
         match (&t.doing, name) {
             (Doing::Operating, Some(_)) => {
                 self.reply(ApiReply::Answered { name, answer })?;
@@ -195,12 +203,12 @@ impl Api {
 }
 
 // An operation goes to the coordinator of its transaction.
-fn send_operation(tx: TxId, op: &Op, out: &mut Outs)
+fn send_operation(tx: TxId, op: Held<Op>, out: &mut Outs)
     requires { length out.old.sends < 16 }
-    ensures { out.new ≡ and_send out.old (coordinator_of tx) (Client (TcKeyReq tx op.now)) }
+    ensures { out.new ≡ and_send out.old (coordinator_of tx) (Client (TcKeyReq tx op)) }
 {
     out.send(
         coordinator_of(tx),
-        Body::Client(ClientSignal::TcKeyReq { tx, op: *op }),
+        Body::Client(ClientSignal::TcKeyReq { tx, op }),
     );
 }

@@ -10,22 +10,27 @@ use sig_core::{ApiReply, Body, ClientSignal, NoMemory, Outs, TxId, Waiting, coor
 
 impl Api {
     /// Asks for whom the last command waits, if it isn't answered.
+    ///
+    /// # Errors
+    /// `NoMemory`, and then nothing has happened.
     #[tactic(auto, unfolding(crate::specs::Wait::waits_row))]
-    pub(crate) fn ask_wait(&mut self, out: &mut Outs)
+    pub(crate) fn ask_wait(&mut self, out: &mut Outs) -> Result<(), NoMemory>
         requires { HasRoom out.old }
-        ensures { IsTaken (waits_row self.old) self.new out.old out.new }
+        ensures ok { OnOk result (IsTaken (waits_row self.old) self.new out.old out.new) }
+        ensures err { OnErr result (IsUntouched self.old self.new out.old out.new) }
     {
         if let Some(at) = self.own_place() {
-            let t = self.opened[at];
-            self.ask_wait_at(at, &t, out);
+            let t = self.opened_at(at)?;
+            self.ask_wait_at(at, t, out);
         }
+        Ok(())
     }
 
     // Asks for whom the transaction at a place waits.
-    fn ask_wait_at(&mut self, at: usize, t: &OpenTransaction, out: &mut Outs)
+    fn ask_wait_at(&mut self, at: usize, t: OpenTransaction, out: &mut Outs)
         requires place { at < length self.old.opened }
         requires room { HasRoom out.old }
-        ensures { IsTaken (waits_if self.old at t.now (is_unanswered t.now.doing) t.now.tx) self.new out.old out.new }
+        ensures { IsTaken (waits_if self.old at t (is_unanswered t.doing) t.tx) self.new out.old out.new }
     {
         if let (true, Some(tx)) = (is_unanswered(&t.doing), t.tx) {
             self.opened[at] = t.behind(None);
@@ -42,7 +47,7 @@ impl Api {
         ensures { self.new ≡ behind_row self.old tx ahead }
     {
         if let Some(at) = place_of(self.opened.as_slice(), tx) {
-            self.opened[at] = self.opened[at].behind(Some(ahead));
+            self.opened[at].ahead = Some(ahead);
         }
     }
 
@@ -59,7 +64,7 @@ impl Api {
     {
         match self.own_place() {
             Some(at) => {
-                let t = self.opened[at];
+                let t = self.opened_at(at)?;
                 self.tell_wait_of(&t, out)
             }
             None => Ok(()),

@@ -9,6 +9,7 @@ pub mod Index
 pub mod Lqh
 pub mod MapRows
 pub mod Operate
+pub mod Ready
 pub mod State
 pub mod Storage
 pub mod Wait

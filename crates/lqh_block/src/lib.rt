@@ -10,6 +10,7 @@ mod lqh;
 mod map_rows;
 mod operate;
 mod places;
+mod ready;
 mod request;
 mod storage;
 mod wait;

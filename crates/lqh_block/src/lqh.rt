@@ -99,18 +99,18 @@ impl<R: Rows, J: Journal> Actor for Lqh<R, J> {
             ) => {
                 let request = Request {
                     tx: *tx,
-                    work: *work,
+                    work: work.share()?,
                     chain: *chain,
                     at: *at,
                 };
-                self.request(&request, out)
+                self.request(alloc, request, out)
             }
             Body::Host(
                 HostSignal::Continue {
                     work: Work::Granted,
                     at: _,
                 },
-            ) => self.serve(out),
+            ) => self.serve(alloc, out),
             Body::Chain(
                 ChainSignal::Commit {
                     tx,

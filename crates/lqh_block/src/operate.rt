@@ -1,16 +1,18 @@
 //! Requests, and the locks that they wait for.
-ghost use Rattle.std.specs.Prelude.{◌≡◌, ◌<◌, OnOk, OnErr, length, nat_lt, remove};
+ghost use Rattle.std.specs.Prelude.{◌≡◌, ◌<◌, IfOk, OnOk, OnErr, length, nat_lt, remove, slice_get};
 ghost use Rattle.sig_core.specs.declared.signal.host.Work.TheVariants as work;
 ghost use Rattle.sig_core.specs.Step.{HasRoom, IsTaken, IsUntouched, and_send, joined};
 ghost use Rattle.lqh_block.specs.Operate.{first_granted, granted_on, granted_row, is_granted, more_granted, request_row};
 ghost use Rattle.lqh_block.specs.State.{go_on, go_on_if, sends_only, with_waiting};
 
 use crate::lqh::Lqh;
+use crate::ready::Ready;
 use crate::request::Request;
 use crate::work::{work_key, work_mode};
 use frag_map::frag_of;
 use row_locks::{Lock, LockTable};
 use sig_core::{Body, HostSignal, Journal, NoMemory, Outs, Rows, Work, rows_of};
+use std::alloc::Global;
 
 impl<R: Rows, J: Journal> Lqh<R, J> {
     /// A replica is asked to prepare something. It is done at once if its lock is granted, and else
@@ -19,19 +21,25 @@ impl<R: Rows, J: Journal> Lqh<R, J> {
     /// # Errors
     /// `NoMemory`, and then nothing has happened.
     #[tactic(auto, unfolding(crate::specs::Operate::request_row))]
-    pub fn request(&mut self, request: &Request, out: &mut Outs) -> Result<(), NoMemory>
+    pub fn request(
+        &mut self,
+        alloc: Global,
+        request: Request,
+        out: &mut Outs,
+    ) -> Result<(), NoMemory>
         requires { HasRoom out.old }
-        ensures ok { OnOk result (IsTaken (request_row self.old request.now) self.new out.old out.new) }
+        ensures ok { OnOk result (IsTaken (request_row self.old request) self.new out.old out.new) }
         ensures err { OnErr result (IsUntouched self.old self.new out.old out.new) }
     {
-        self.storage.make_room(request)?;
+        self.storage.make_room(&request)?;
         self.waiting.reserve(1)?;
+        let ready = Ready::new(alloc, &self.storage.rows, &request)?;
         let key = work_key(&request.work);
         let mode = work_mode(&request.work);
         let fragment = frag_of(key, &self.layout.shape());
         match self.locks.request(request.tx, key, mode)? {
-            Lock::Granted => self.storage.perform(request, fragment, out),
-            Lock::Queued { ahead: _ } => self.waiting.push_reserved(*request),
+            Lock::Granted => self.storage.perform(&request, ready, fragment, out),
+            Lock::Queued { ahead: _ } => self.waiting.push_reserved(request),
         }
         Ok(())
     }
@@ -42,7 +50,7 @@ impl<R: Rows, J: Journal> Lqh<R, J> {
     /// # Errors
     /// `NoMemory`, and then nothing has happened.
     #[tactic(auto, unfolding(crate::specs::Operate::granted_row))]
-    pub fn serve(&mut self, out: &mut Outs) -> Result<(), NoMemory>
+    pub fn serve(&mut self, alloc: Global, out: &mut Outs) -> Result<(), NoMemory>
         requires { HasRoom out.old }
         ensures ok { OnOk result (IsTaken (granted_row self.old) self.new out.old out.new) }
         ensures err { OnErr result (IsUntouched self.old self.new out.old out.new) }
@@ -50,24 +58,41 @@ impl<R: Rows, J: Journal> Lqh<R, J> {
         let Some(at) = self.first_granted() else {
             return Ok(());
         };
-        let Some(request) = self.waiting.get(at).copied() else {
+        let Some(request) = self.waiting_at(at)? else {
             return Ok(());
         };
-        self.serve_at(at, &request, out)
+        self.serve_at(alloc, at, &request, out)
+    }
+
+    // The request that waits at a place, once more.
+    fn waiting_at(&self, at: usize) -> Result<Option<Request>, NoMemory>
+        ensures { IfOk result (λ request. request ≡ slice_get self.now.waiting at) }
+    {
+        match self.waiting.get(at) {
+            Some(request) => Ok(Some(request.share()?)),
+            None => Ok(None),
+        }
     }
 
     // Performs the request that stands at a place.
     #[tactic(auto, using(crate::proofs::EffectLemmas::effects))]
-    fn serve_at(&mut self, at: usize, request: &Request, out: &mut Outs) -> Result<(), NoMemory>
+    fn serve_at(
+        &mut self,
+        alloc: Global,
+        at: usize,
+        request: &Request,
+        out: &mut Outs,
+    ) -> Result<(), NoMemory>
         requires room { HasRoom out.old }
         requires place { at < length self.old.waiting }
         ensures ok { OnOk result (IsTaken (granted_on (with_waiting self.old (remove self.old.waiting at)) request.now) self.new out.old out.new) }
         ensures err { OnErr result (IsUntouched self.old self.new out.old out.new) }
     {
         self.storage.make_room(request)?;
+        let ready = Ready::new(alloc, &self.storage.rows, request)?;
         self.waiting.remove(at);
         let fragment = frag_of(work_key(&request.work), &self.layout.shape());
-        self.storage.perform(request, fragment, out);
+        self.storage.perform(request, ready, fragment, out);
         self.go_on_granted(out);
         Ok(())
     }

@@ -1,8 +1,10 @@
 //! What waits at a node's rows, and what is marked there.
-use sig_core::{Key, Members, RowWork, TxId};
+ghost use Rattle.std.specs.Prelude.{◌≡◌, IfOk};
+
+use sig_core::{Key, Members, NoMemory, RowWork, TxId};
 
 /// A request of a transaction to prepare something.
-#[derive(Clone, Copy)]
+#[derive(Drop)]
 pub struct Request {
     pub tx: TxId,
     pub work: RowWork,
@@ -10,6 +12,19 @@ pub struct Request {
     pub chain: Members,
     /// The place in the chain, from 0, of this replica.
     pub at: u8,
+}
+
+impl Request {
+    /// The same request once more.
+    ///
+    /// # Errors
+    /// `NoMemory` where what it holds is held 2^63 - 1 times.
+    pub fn share(&self) -> Result<Request, NoMemory>
+        ensures { IfOk result (λ request. request ≡ self.now) }
+    {
+        let work = self.work.share()?;
+        Ok(Request { work, ..*self })
+    }
 }
 
 /// A commit of a row that the client hasn't acknowledged.

@@ -1,18 +1,19 @@
 //! The rows of a node and its journal: what is prepared, committed and given up.
 ghost use Rattle.std.specs.Prelude.{◌≡◌, ◌+◌, ◌<◌, ◌≤◌, OnOk, Some, false, length};
 ghost use Rattle.sig_core.specs.Journal.{appending};
-ghost use Rattle.sig_core.specs.Op.{answer_to, image_of, key_of};
-ghost use Rattle.sig_core.specs.Rows.{complete_record, record_state, seen};
+ghost use Rattle.sig_core.specs.Rows.{complete_record, record_state};
 ghost use Rattle.lqh_block.specs.Due.{IsCovered};
+ghost use Rattle.lqh_block.specs.Ready.{IsReady};
 ghost use Rattle.sig_core.specs.Step.{HasRoom, IsTaken, and_send};
-ghost use Rattle.lqh_block.specs.Storage.{aborted_in, committed_in, confirmed, end_size, kept_once, need_of, operate_by, passed_on, perform, prepare_size, refusal, storage, store_row};
+ghost use Rattle.lqh_block.specs.Storage.{aborted_in, committed_in, confirmed, end_size, kept_once, need_of, passed_on, perform, prepare_size, refusal, storage, store_row};
 ghost use Rattle.lqh_block.specs.Work.{work_image, work_key};
 
+use crate::ready::Ready;
 use crate::request::Request;
 use crate::work::{work_image, work_key};
 use sig_core::{
-    AbortCause, Answer, Body, ChainSignal, Journal, JournalFault, Key, Mark, Members, NoMemory, Op,
-    Outs, Redo, RowWork, Rows, RowsFault, TxId, Value, coordinator_of, rows_of,
+    AbortCause, Answer, Body, ChainSignal, Held, HeldAnswer, Journal, JournalFault, Key, Mark,
+    Members, NoMemory, Outs, Redo, RowWork, Rows, RowsFault, TxId, Value, coordinator_of, rows_of,
 };
 
 /// The rows of a node, and its journal, which keeps as many bytes free as the ends of all prepared
@@ -44,38 +45,22 @@ impl<R: Rows, J: Journal> Storage<R, J> {
     /// Performs a request whose lock is granted, in memory that was made for it. The journal is told
     /// the fragment of its row.
     #[tactic(auto, unfolding(crate::specs::Storage::perform))]
-    pub fn perform(&mut self, request: &Request, fragment: u8, out: &mut Outs)
+    pub fn perform(&mut self, request: &Request, ready: Ready, fragment: u8, out: &mut Outs)
         requires room { HasRoom out.old }
+        requires ready { IsReady (R.state_of self.old.rows) request.now ready }
         requires rows { R.has_room self.old.rows (work_key request.now.work) }
         requires journal { J.has_room self.old.journal (need_of request.now.tx (work_key request.now.work) (work_image request.now.work)) }
         ensures few { length out.new.sends ≤ length out.old.sends + 1 }
         ensures taken { IsTaken (perform (storage (R.state_of self.old.rows) (J.used_of self.old.journal)) request.now) (storage (R.state_of self.new.rows) (J.used_of self.new.journal)) out.old out.new }
     {
-        let chain = &request.chain;
-        match &request.work {
-            RowWork::Operate(op) => {
-                self.operate(request.tx, op, fragment, chain, request.at, out);
+        let Ready { answer, image } = ready;
+        let key = work_key(&request.work);
+        match answer.get() {
+            Answer::Done => {
+                self.store(request.tx, key, image, fragment, &request.chain, request.at, out);
             }
-            RowWork::Store(key, image) => {
-                self.store(request.tx, key, image, fragment, chain, request.at, out);
-            }
-        }
-    }
-
-    // Answers an operation; a write that takes effect is prepared first.
-    fn operate(&mut self, tx: TxId, op: &Op, fragment: u8, chain: &Members, at: u8, out: &mut Outs)
-        requires room { HasRoom out.old }
-        requires rows { R.has_room self.old.rows (key_of op.now) }
-        requires journal { J.has_room self.old.journal (need_of tx (key_of op.now) (image_of op.now)) }
-        ensures few { length out.new.sends ≤ length out.old.sends + 1 }
-        ensures taken { IsTaken (operate_by (storage (R.state_of self.old.rows) (J.used_of self.old.journal)) tx op.now chain.now at (answer_to op.now (seen (R.state_of self.old.rows) tx (key_of op.now)))) (storage (R.state_of self.new.rows) (J.used_of self.new.journal)) out.old out.new }
-    {
-        let key = op.key();
-        let answer = op.answer_to(&self.rows.seen(tx, key));
-        match answer {
-            Answer::Done => self.store(tx, key, &op.image(), fragment, chain, at, out),
             Answer::Found(_) | Answer::Missing | Answer::E626 | Answer::E630 => {
-                confirm(tx, key, &answer, out);
+                confirm(request.tx, key, answer, out);
             }
         }
     }
@@ -86,7 +71,7 @@ impl<R: Rows, J: Journal> Storage<R, J> {
         &mut self,
         tx: TxId,
         key: &Key,
-        image: &Option<Value>,
+        image: Held<Option<Value>>,
         fragment: u8,
         chain: &Members,
         at: u8,
@@ -94,12 +79,12 @@ impl<R: Rows, J: Journal> Storage<R, J> {
     )
         requires room { HasRoom out.old }
         requires rows { R.has_room self.old.rows key.now }
-        requires journal { J.has_room self.old.journal (need_of tx key.now image.now) }
+        requires journal { J.has_room self.old.journal (need_of tx key.now image) }
         ensures few { length out.new.sends ≤ length out.old.sends + 1 }
-        ensures taken { IsTaken (store_row (storage (R.state_of self.old.rows) (J.used_of self.old.journal)) tx key.now image.now chain.now at) (storage (R.state_of self.new.rows) (J.used_of self.new.journal)) out.old out.new }
+        ensures taken { IsTaken (store_row (storage (R.state_of self.old.rows) (J.used_of self.old.journal)) tx key.now image chain.now at) (storage (R.state_of self.new.rows) (J.used_of self.new.journal)) out.old out.new }
     {
         let had = self.rows.record_state(tx, key);
-        let need = need_of(tx, key, image);
+        let need = need_of(tx, key, image.get());
         match self.journal.reserve(need) {
             Ok(()) => {}
             Err(
@@ -119,9 +104,9 @@ impl<R: Rows, J: Journal> Storage<R, J> {
             }
             Err(JournalFault::NoMemory) => unreachable!(),
         }
-        match self.rows.prepare_image(tx, key, image) {
+        match self.rows.prepare_image(tx, key, image.get()) {
             Ok(()) => {
-                journal_image(&mut self.journal, tx, key, image, fragment, had);
+                journal_image(&mut self.journal, tx, key, image.get(), fragment, had);
                 out.mark(Mark::Prepared { tx, key: *key });
                 pass_on(tx, key, image, chain, at, out);
             }
@@ -239,33 +224,40 @@ pub fn refuse(tx: TxId, key: &Key, cause: AbortCause, out: &mut Outs)
 }
 
 // Answers an operation.
-fn confirm(tx: TxId, key: &Key, answer: &Answer, out: &mut Outs)
+fn confirm(tx: TxId, key: &Key, answer: HeldAnswer, out: &mut Outs)
     requires { length out.old.sends < 16 }
-    ensures { out.new ≡ and_send out.old (confirmed tx key.now answer.now).to (confirmed tx key.now answer.now).body }
+    ensures { out.new ≡ and_send out.old (confirmed tx key.now answer).to (confirmed tx key.now answer).body }
 {
     let body = ChainSignal::LqhKeyConf {
         tx,
         key: *key,
-        answer: *answer,
+        answer,
     };
     out.send(coordinator_of(tx), Body::Chain(body));
 }
 
 // Sends a prepared image to the next place of its chain, or answers the write.
-fn pass_on(tx: TxId, key: &Key, image: &Option<Value>, chain: &Members, at: u8, out: &mut Outs)
+fn pass_on(
+    tx: TxId,
+    key: &Key,
+    image: Held<Option<Value>>,
+    chain: &Members,
+    at: u8,
+    out: &mut Outs,
+)
     requires { length out.old.sends < 16 }
-    ensures { out.new ≡ and_send out.old (passed_on tx key.now image.now chain.now at).to (passed_on tx key.now image.now chain.now at).body }
+    ensures { out.new ≡ and_send out.old (passed_on tx key.now image chain.now at).to (passed_on tx key.now image chain.now at).body }
 {
     match chain.as_slice().get(at as usize + 1).copied() {
         Some(next) => {
             let body = ChainSignal::LqhKeyReq {
                 tx,
-                work: RowWork::Store(*key, *image),
+                work: RowWork::Store(*key, image),
                 chain: *chain,
                 at: at + 1,
             };
             out.send(rows_of(next.node), Body::Chain(body));
         }
-        None => confirm(tx, key, &Answer::Done, out),
+        None => confirm(tx, key, HeldAnswer::done(), out),
     }
 }

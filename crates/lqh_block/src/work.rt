@@ -12,7 +12,7 @@ pub fn work_key(work: &RowWork) -> &Key
     ensures { result.now ≡ work_key work.now }
 {
     match work {
-        RowWork::Operate(op) => op.key(),
+        RowWork::Operate(op) => op.get().key(),
         RowWork::Store(key, _) => key,
     }
 }
@@ -22,8 +22,8 @@ pub fn work_image(work: &RowWork) -> Option<Value>
     ensures { result ≡ work_image work.now }
 {
     match work {
-        RowWork::Operate(op) => op.image(),
-        RowWork::Store(_, image) => *image,
+        RowWork::Operate(op) => op.get().image(),
+        RowWork::Store(_, image) => *image.get(),
     }
 }
 
@@ -32,7 +32,7 @@ pub fn work_mode(work: &RowWork) -> Mode
     ensures { result ≡ work_mode work.now }
 {
     match work {
-        RowWork::Operate(op) => op_mode(op),
+        RowWork::Operate(op) => op_mode(op.get()),
         RowWork::Store(_, _) => Mode::Exclusive,
     }
 }

@@ -1,7 +1,7 @@
 use crate::Host;
 use frag_map::{Layout, first_view};
 use sig_core::{
-    Actor, BlockId, Body, ClientSignal, HostId, Key, Member, NoMemory, Outs, Part, Place, Shape,
+    Actor, BlockId, Body, ClientSignal, Held, HostId, Key, Member, NoMemory, Outs, Part, Place, Shape,
     Signal, Value,
 };
 use std::alloc::Global;
@@ -15,22 +15,22 @@ const ONE: Shape = Shape {
 
 const FIRST: Member = Member { node: 1, start: 0 };
 
-fn signal(block: BlockId) -> Signal {
-    Signal {
+fn signal(alloc: Global, block: BlockId) -> Result<Signal, NoMemory> {
+    Ok(Signal {
         from: HostId(0),
         member: Member { node: 0, start: 0 },
         to: Place { node: 1, block },
         seq: 0,
         stamp: 0,
-        view: first_view(1),
+        view: Held::new(alloc, first_view(1))?,
         body: Body::Client(ClientSignal::DumpReq { at: 0 }),
-    }
+    })
 }
 
 // Whether a host sends something at a signal for this block.
 fn answers(alloc: Global, host: &mut Host, block: BlockId) -> Result<bool, NoMemory> {
     let mut outs = Outs::new(alloc)?;
-    host.handle(alloc, &signal(block), &mut outs)?;
+    host.handle(alloc, &signal(alloc, block)?, &mut outs)?;
     Ok(outs.take_send().is_some())
 }
 

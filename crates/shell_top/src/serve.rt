@@ -18,7 +18,7 @@ use crate::taken::take_replies;
 use crate::writer::write_all;
 use host_io::Sink;
 use script_lang::{Command, print_reply};
-use sig_core::{ApiReply, ApiReq, NoMemory};
+use sig_core::{ApiReply, ApiReq, Held, NoMemory};
 use std::alloc::Global;
 use std::sync::Wait;
 use world_core::World;
@@ -98,7 +98,7 @@ fn ask_own<R: Wait>(
         Command::Operate { name, op } => {
             let request = ApiReq::Operate {
                 name: *name,
-                op: *op,
+                op: Held::new(alloc, *op)?,
             };
             ask(rt, alloc, world, request)
         }

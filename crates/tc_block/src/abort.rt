@@ -28,9 +28,9 @@ impl Transaction {
         ensures taken { IsTaken (refuse_row node layout.now tx self.old key.now cause).step self.new out.old out.new }
         ensures over { result ≡ (refuse_row node layout.now tx self.old key.now cause).over }
     {
-        let Some(_) = self.asked_on(key) else {
+        if self.asked_on(key).is_none() {
             return false;
-        };
+        }
         match self.phase {
             Phase::Open => {
                 self.asked = None;
@@ -178,7 +178,7 @@ fn asked_count(layout: &Layout, asked: &Option<Asked>) -> usize
     ensures few { result ≤ 8 }
 {
     match asked {
-        Some(asked) => layout.chain_of(asked.op.key()).as_slice().len(),
+        Some(asked) => layout.chain_of(asked.op.get().key()).as_slice().len(),
         None => 0,
     }
 }

@@ -1,12 +1,12 @@
 //! The commit of a transaction: from the wish to commit to the last key that is committed.
-ghost use Rattle.std.specs.Prelude.{◌≡◌, ◌==◌, OnOk, OnErr, length};
+ghost use Rattle.std.specs.Prelude.{◌≡◌, ◌==◌, IfOk, OnOk, OnErr, length};
 ghost use Rattle.sig_core.specs.Step.{HasRoom, IsTaken, IsUntouched};
 ghost use Rattle.tc_block.specs.Commit.{commit_if, commit_row, committed_row, decide_row};
 
 use crate::phase::Phase;
 use crate::transaction::Transaction;
 use frag_map::Layout;
-use sig_core::{Body, EpochSignal, NoMemory, Outs, Seq, TxId, epochs};
+use sig_core::{Body, EpochSignal, Held, HeldAnswer, NoMemory, Op, Outs, Seq, TxId, epochs};
 use std::alloc::Global;
 
 impl Transaction {
@@ -28,7 +28,7 @@ impl Transaction {
         ensures err { OnErr result (IsUntouched self.old self.new out.old out.new) }
     {
         if self.is_ready() {
-            let ops = Seq::from_vec(Vec::from_slice(alloc, self.ops.as_slice())?);
+            let ops = shared(alloc, self.ops.as_slice())?;
             self.phase = Phase::Verifying;
             out.send(
                 epochs(node),
@@ -104,4 +104,18 @@ impl Transaction {
             false
         }
     }
+}
+
+// Operations and their answers, held once more.
+fn shared(
+    alloc: Global,
+    ops: &[(Held<Op>, HeldAnswer)],
+) -> Result<Seq<(Held<Op>, HeldAnswer)>, NoMemory>
+    ensures { IfOk result (λ shared. shared ≡ ops.now) }
+{
+    let mut shared = Vec::with_capacity(alloc, ops.len())?;
+    for (op, answer) in ops {
+        shared.push((op.share()?, answer.share()?))?;
+    }
+    Ok(Seq::from_vec(shared))
 }

@@ -1,10 +1,10 @@
 //! How far transactions have come.
-use sig_core::{AbortCause, Members, Op};
+use sig_core::{AbortCause, Held, Members, Op};
 
 /// An operation that was sent to the replicas and isn't answered.
-#[derive(Clone, Copy)]
+#[derive(Drop)]
 pub struct Asked {
-    pub op: Op,
+    pub op: Held<Op>,
     /// The replicas that it was sent along.
     pub chain: Members,
 }

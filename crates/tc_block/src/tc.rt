@@ -12,8 +12,8 @@ use crate::transaction::Transaction;
 use frag_map::Layout;
 use indexmap::IndexMap;
 use sig_core::{
-    AbortCause, Actor, Answer, Body, CLIENT, ChainSignal, ClientSignal, EpochSignal, HostSignal,
-    Key, NoMemory, Op, Outs, Signal, TxId, View, Work,
+    AbortCause, Actor, Body, CLIENT, ChainSignal, ClientSignal, EpochSignal, Held, HeldAnswer,
+    HostSignal, Key, NoMemory, Op, Outs, Signal, TxId, View, Work,
 };
 use std::alloc::Global;
 use std::marker::Model;
@@ -91,7 +91,7 @@ impl Tc {
     }
 
     #[tactic(auto, using(crate::proofs::LiveLemmas::live))]
-    fn operate(&mut self, tx: TxId, op: &Op, out: &mut Outs) -> Result<(), NoMemory>
+    fn operate(&mut self, tx: TxId, op: &Held<Op>, out: &mut Outs) -> Result<(), NoMemory>
         requires { HasRoom out.old }
         ensures ok { OnOk result (IsTaken (step_of self.old tx (λ t. operate_row self.old.layout tx t op.now)) self.new out.old out.new) }
         ensures err { OnErr result (IsUntouched self.old self.new out.old out.new) }
@@ -108,7 +108,7 @@ impl Tc {
         &mut self,
         tx: TxId,
         key: &Key,
-        answer: &Answer,
+        answer: &HeldAnswer,
         out: &mut Outs,
     ) -> Result<(), NoMemory>
         requires { HasRoom out.old }

@@ -1,5 +1,6 @@
 //! A transaction, as its coordinator sees it.
-ghost use Rattle.std.specs.Prelude.{◌≡◌, OnOk, OnErr};
+ghost use Rattle.std.specs.Prelude.{◌≡◌, None, Some, MatchOption, OnOk, OnErr};
+ghost use Rattle.tc_block.specs.declared.phase.Asked.{Asked};
 ghost use Rattle.sig_core.specs.Step.{HasRoom, IsTaken, IsUntouched};
 
 use crate::phase::{Asked, Phase};
@@ -7,8 +8,8 @@ use crate::sends::{SENDS, send_aborts, send_part, send_waits};
 use crate::touched::{TouchedKeys, same_key};
 use frag_map::Layout;
 use sig_core::{
-    Answer, Body, CLIENT, ChainSignal, ClientSignal, Key, NoMemory, Op, Outs, RowWork, Seq, TxId,
-    node_at, rows_of,
+    Answer, Body, CLIENT, ChainSignal, ClientSignal, Held, HeldAnswer, Key, NoMemory, Op, Outs,
+    RowWork, Seq, TxId, node_at, rows_of,
 };
 use std::alloc::Global;
 
@@ -16,7 +17,7 @@ use std::alloc::Global;
 #[derive(Drop)]
 pub struct Transaction {
     /// The answered operations, in order.
-    pub ops: Seq<(Op, Answer)>,
+    pub ops: Seq<(Held<Op>, HeldAnswer)>,
     /// The keys that its operations are on.
     pub touched: TouchedKeys,
     /// The operation that isn't answered.
@@ -66,23 +67,25 @@ impl Transaction {
         &mut self,
         layout: &Layout,
         tx: TxId,
-        op: &Op,
+        op: &Held<Op>,
         out: &mut Outs,
     ) -> Result<(), NoMemory>
         requires { HasRoom out.old }
         ensures ok { OnOk result (IsTaken (operate_row layout.now tx self.old op.now) self.new out.old out.new) }
         ensures err { OnErr result (IsUntouched self.old self.new out.old out.new) }
     {
-        if self.can_operate(op) {
-            let chain = &layout.chain_of(op.key());
-            self.touched.touch(op.key(), chain)?;
+        if self.can_operate(op.get()) {
+            let chain = &layout.chain_of(op.get().key());
+            let asked = op.share()?;
+            let work = RowWork::Operate(op.share()?);
+            self.touched.touch(op.get().key(), chain)?;
             self.asked = Some(Asked {
-                op: *op,
+                op: asked,
                 chain: *chain,
             });
             let body = ChainSignal::LqhKeyReq {
                 tx,
-                work: RowWork::Operate(*op),
+                work,
                 chain: *chain,
                 at: 0,
             };
@@ -92,11 +95,11 @@ impl Transaction {
     }
 
     /// The unanswered operation, if it is on this key.
-    pub fn asked_on(&self, key: &Key) -> Option<Asked>
-        ensures { result ≡ asked_on self.now.asked key.now }
+    pub fn asked_on(&self, key: &Key) -> Option<&Asked>
+        ensures { MatchOption result (asked_on self.now.asked key.now ≡ None) (λ asked. asked_on self.now.asked key.now ≡ Some asked.now) }
     {
         match &self.asked {
-            Some(asked) if same_key(asked.op.key(), key) => Some(*asked),
+            Some(asked) if same_key(asked.op.get().key(), key) => Some(asked),
             _ => None,
         }
     }
@@ -113,23 +116,21 @@ impl Transaction {
         layout: &Layout,
         tx: TxId,
         key: &Key,
-        answer: &Answer,
+        answer: &HeldAnswer,
         out: &mut Outs,
     ) -> Result<(), NoMemory>
         requires { HasRoom out.old }
         ensures ok { OnOk result (IsTaken (answer_row layout.now tx self.old key.now answer.now) self.new out.old out.new) }
         ensures err { OnErr result (IsUntouched self.old self.new out.old out.new) }
     {
-        let Some(asked) = self.asked_on(key) else {
+        if self.asked_on(key).is_none() {
             return Ok(());
-        };
+        }
         match self.phase {
             Phase::Open => {
-                self.note(&asked, answer)?;
-                let body = ClientSignal::TcKeyConf {
-                    tx,
-                    answer: *answer,
-                };
+                let told = answer.share()?;
+                self.note(answer)?;
+                let body = ClientSignal::TcKeyConf { tx, answer: told };
                 out.send(CLIENT, Body::Client(body));
                 Ok(())
             }
@@ -145,16 +146,19 @@ impl Transaction {
         }
     }
 
-    // Notes an answer. Only `Done` is of a write that took effect.
-    fn note(&mut self, asked: &Asked, answer: &Answer) -> Result<(), NoMemory>
-        ensures ok { OnOk result (self.new ≡ answered self.old asked.now answer.now) }
+    // Notes an answer to the unanswered operation. Only `Done` is of a write that took effect.
+    fn note(&mut self, answer: &HeldAnswer) -> Result<(), NoMemory>
+        ensures ok { (asked : Asked) → self.old.asked ≡ Some asked → OnOk result (self.new ≡ answered self.old asked answer.now) }
         ensures err { OnErr result (self.new ≡ self.old) }
     {
-        self.ops.push((asked.op, *answer))?;
-        self.asked = None;
-        if let Answer::Done = answer {
-            self.touched.write(asked.op.key(), &asked.chain);
+        let Some(asked) = &self.asked else {
+            return Ok(());
+        };
+        self.ops.push((asked.op.share()?, answer.share()?))?;
+        if let Answer::Done = answer.get() {
+            self.touched.write(asked.op.get().key(), &asked.chain);
         }
+        self.asked = None;
         Ok(())
     }
 
@@ -174,7 +178,7 @@ impl Transaction {
         ensures { IsTaken (wait_row tx self.now) self.now out.old out.new }
     {
         if let Some(asked) = &self.asked {
-            send_waits(tx, asked.op.key(), &asked.chain, out);
+            send_waits(tx, asked.op.get().key(), &asked.chain, out);
         }
     }
 

@@ -6,7 +6,7 @@ ghost use Rattle.frag_map.specs.Replicas.{is_member};
 ghost use Rattle.world_core.specs.Hosts.{host_by, host_of, member_of, number_of, part_by};
 
 use frag_map::first_view;
-use sig_core::{Member, NoMemory, Part, Place, View, part_of};
+use sig_core::{Held, Member, NoMemory, Part, Place, View, part_of};
 use std::alloc::Global;
 use std::marker::Model;
 
@@ -18,7 +18,7 @@ pub const PARTS: u32 = 3;
 #[derive(Drop)]
 pub struct Membership {
     made: Vec<Member>,
-    view: View,
+    view: Held<View>,
 }
 
 impl Model for Membership {
@@ -45,6 +45,7 @@ impl Membership {
     {
         let view = first_view(nodes);
         let made = Vec::from_slice(alloc, view.full.as_slice())?;
+        let view = Held::new(alloc, view)?;
         Ok(Membership { made, view })
     }
 
@@ -52,7 +53,17 @@ impl Membership {
     pub fn view(&self) -> &View
         ensures { result.now ≡ self.now.view }
     {
-        &self.view
+        self.view.get()
+    }
+
+    /// The view, as a signal holds it.
+    ///
+    /// # Errors
+    /// `NoMemory` where it is held 2^63 - 1 times.
+    pub fn share_view(&self) -> Result<Held<View>, NoMemory>
+        ensures { IfOk result (λ view. view ≡ self.now.view) }
+    {
+        self.view.share()
     }
 
     /// Where a sender sends what is for a place: to the shell's host, or to that of the block's
@@ -65,7 +76,7 @@ impl Membership {
         if to.node == 0 {
             return 0;
         }
-        self.host_by(part_of(to.block), member_of(&self.view, to.node))
+        self.host_by(part_of(to.block), member_of(self.view.get(), to.node))
     }
 
     /// The member of a host. The shell's, and one that isn't there, counts as nobody's.

@@ -52,13 +52,14 @@ impl Link {
         ensures { OnOk result (self.new ≡ behind self.old (headed who.now from stamp self.old.sent sent)) }
     {
         let Outgoing { to, body } = sent;
+        let view = who.share_view()?;
         self.signals.push_back(Signal {
             from: HostId(from),
             member: who.member_at(from),
             to,
             seq: self.sent,
             stamp,
-            view: *who.view(),
+            view,
             body,
         })?;
         self.sent = self.sent.saturating_add(1);

@@ -84,7 +84,7 @@ impl World {
         ensures ok { (start : Start) → IsSound start (whole_of self.old) → OnOk result (HasAsked start request (whole_of self.old) (whole_of self.new)) }
         ensures err { OnErr result (self.new.logs ≡ self.old.logs) }
     {
-        let signal = request_signal(&self.who, self.stamps[0], request);
+        let signal = request_signal(&self.who, self.stamps[0], request)?;
         self.handle(alloc, 0, signal)
     }
 
@@ -173,9 +173,8 @@ impl World {
         self.outs.clear();
         self.bodies[at].handle(alloc, &signal, &mut self.outs)?;
         self.stamps[at] = stamp;
-        let marks = Vec::from_slice(alloc, self.outs.marks())?;
+        let marks = self.outs.take_marks(alloc)?;
         dispatch(&mut self.network, &self.who, host, stamp, &mut self.outs)?;
-        let marks = Seq::from_vec(marks);
         let taken = signal;
         self.logs.add(
             host,
@@ -227,21 +226,24 @@ fn part_behind(
 }
 
 /// The signal by which the shell asks for something, after a step of host 0 with this stamp.
-fn request_signal(who: &Membership, stamp: u64, request: ApiReq) -> Signal
-    ensures { result ≡ request_signal who.now stamp request }
+///
+/// # Errors
+/// `NoMemory`.
+fn request_signal(who: &Membership, stamp: u64, request: ApiReq) -> Result<Signal, NoMemory>
+    ensures { IfOk result (λ signal. signal ≡ request_signal who.now stamp request) }
 {
-    Signal {
+    Ok(Signal {
         from: HostId(0),
         member: Member { node: 0, start: 0 },
         to: CLIENT,
         seq: 0,
         stamp,
-        view: *who.view(),
+        view: who.share_view()?,
         body: Body::Host(HostSignal::Continue {
             work: Work::Request(request),
             at: 0,
         }),
-    }
+    })
 }
 
 /// Puts what a step of a host sends on its way.

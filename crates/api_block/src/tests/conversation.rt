@@ -2,7 +2,7 @@
 use super::heard::{Heard, body_of};
 use super::text::shown;
 use crate::Api;
-use sig_core::{Actor, CLIENT, HostId, Member, Members, Outs, Signal, View};
+use sig_core::{Actor, CLIENT, Held, HostId, Member, Members, Outs, Signal, View};
 use std::alloc::Global;
 use std::process::Abort;
 use std::test::Fail;
@@ -40,7 +40,7 @@ fn signal(alloc: Global, heard: Heard) -> Result<Signal, Fail> {
         to: CLIENT,
         seq: 0,
         stamp: 0,
-        view: three(),
+        view: Held::new(alloc, three())?,
         body: body_of(alloc, heard)?,
     })
 }

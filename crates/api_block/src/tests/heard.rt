@@ -1,6 +1,7 @@
 //! What an API hears, in short.
 use sig_core::{
-    AbortCause, Answer, ApiReq, Body, ClientSignal, HostSignal, Key, Op, Seq, TxId, Value, Work,
+    AbortCause, ApiReq, Body, ClientSignal, Held, HeldAnswer, HostSignal, Key, Op, Seq, TxId, Value,
+    Work,
 };
 use std::alloc::Global;
 use std::test::Fail;
@@ -32,8 +33,9 @@ fn tx_of(tc: u8, seq: u64) -> TxId {
     TxId { tc, start: 0, seq }
 }
 
-fn put(letter: u8) -> Result<Op, Fail> {
-    Ok(Op::Put(Key::new(&[letter])?, Value::new(b"v")?))
+fn put(alloc: Global, letter: u8) -> Result<Held<Op>, Fail> {
+    let op = Op::Put(Key::new(&[letter])?, Value::new(b"v")?);
+    Ok(Held::new(alloc, op)?)
 }
 
 fn request(request: ApiReq) -> Body {
@@ -47,11 +49,11 @@ fn request(request: ApiReq) -> Body {
 pub fn body_of(alloc: Global, heard: Heard) -> Result<Body, Fail> {
     match heard {
         Heard::Alone(letter) => {
-            let op = put(letter)?;
+            let op = put(alloc, letter)?;
             Ok(request(ApiReq::Operate { name: None, op }))
         }
         Heard::Put(name, letter) => {
-            let op = put(letter)?;
+            let op = put(alloc, letter)?;
             let name = Some(name);
             Ok(request(ApiReq::Operate { name, op }))
         }
@@ -97,7 +99,7 @@ fn signal_of(heard: Heard) -> ClientSignal {
         Heard::Full(name) => ClientSignal::TcBeginRef { name },
         Heard::Done(tc, seq) => ClientSignal::TcKeyConf {
             tx: tx_of(tc, seq),
-            answer: Answer::Done,
+            answer: HeldAnswer::done(),
         },
         Heard::Committed(tc, seq, epoch) => ClientSignal::TcCommitConf {
             tx: tx_of(tc, seq),

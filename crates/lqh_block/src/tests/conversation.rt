@@ -5,7 +5,7 @@ use super::heard::{Heard, body_of};
 use super::text::shown;
 use crate::{CountJournal, Lqh, MapRows};
 use frag_map::Layout;
-use sig_core::{Actor, HostId, Journal, Member, Outs, Shape, Signal, rows_of};
+use sig_core::{Actor, Held, HostId, Journal, Member, Outs, Shape, Signal, rows_of};
 use std::alloc::Global;
 use std::process::Abort;
 use std::test::Fail;
@@ -29,22 +29,22 @@ pub fn node(alloc: Global, rows: MapRows, journal: CountJournal) -> Result<Node,
     Ok(Lqh::new(alloc, 1, layout(), rows, journal)?)
 }
 
-fn signal(heard: Heard) -> Result<Signal, Fail> {
+fn signal(alloc: Global, heard: Heard) -> Result<Signal, Fail> {
     Ok(Signal {
         from: HostId(0),
         member: Member { node: 0, start: 0 },
         to: rows_of(1),
         seq: 0,
         stamp: 0,
-        view: *layout().view(),
-        body: body_of(heard)?,
+        view: Held::new(alloc, *layout().view())?,
+        body: body_of(alloc, heard)?,
     })
 }
 
 // What the rows send at a signal.
 fn sent(alloc: Global, lqh: &mut Node, heard: Heard) -> Result<String, Fail> {
     let mut outs = Outs::new(alloc)?;
-    lqh.handle(alloc, &signal(heard)?, &mut outs)?;
+    lqh.handle(alloc, &signal(alloc, heard)?, &mut outs)?;
     Ok(shown(alloc, &mut outs)?)
 }
 

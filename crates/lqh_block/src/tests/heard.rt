@@ -1,8 +1,10 @@
 //! What the rows of a node hear, in short.
 use sig_core::{
-    Body, ChainSignal, ClientSignal, HostSignal, Key, Member, Members, Op, RowWork, TxId, Value,
-    WordFault, Work,
+    Body, ChainSignal, ClientSignal, Held, HostSignal, Key, Member, Members, Op, RowWork, TxId,
+    Value, Work,
 };
+use std::alloc::Global;
+use std::test::Fail;
 
 /// A signal to the rows of node 1: of which transaction of node 1, and on which key, of one letter;
 /// values have one letter too. The chain is nodes 1 and 2, and a number at the end the place in it.
@@ -43,52 +45,55 @@ pub fn tx_of(seq: u64) -> TxId {
     }
 }
 
-fn operate(seq: u64, op: Op) -> Body {
-    Body::Chain(ChainSignal::LqhKeyReq {
+fn operate(alloc: Global, seq: u64, op: Op) -> Result<Body, Fail> {
+    Ok(Body::Chain(ChainSignal::LqhKeyReq {
         tx: tx_of(seq),
-        work: RowWork::Operate(op),
+        work: RowWork::Operate(Held::new(alloc, op)?),
         chain: both(),
         at: 0,
-    })
+    }))
 }
 
 /// The signal in full.
-pub fn body_of(heard: Heard) -> Result<Body, WordFault> {
+pub fn body_of(alloc: Global, heard: Heard) -> Result<Body, Fail> {
     match heard {
-        Heard::Get(seq, letter) => Ok(operate(seq, Op::Get(Key::new(&[letter])?))),
-        Heard::GetX(seq, letter) => Ok(operate(seq, Op::GetX(Key::new(&[letter])?))),
-        Heard::Del(seq, letter) => Ok(operate(seq, Op::Del(Key::new(&[letter])?))),
-        Heard::Put(seq, letter, value) => put(seq, letter, value),
-        Heard::Ins(seq, letter, value) => insert(seq, letter, value),
-        Heard::Upd(seq, letter, value) => update(seq, letter, value),
-        Heard::Store(seq, letter, value) => store(seq, letter, value),
+        Heard::Get(seq, letter) => operate(alloc, seq, Op::Get(Key::new(&[letter])?)),
+        Heard::GetX(seq, letter) => operate(alloc, seq, Op::GetX(Key::new(&[letter])?)),
+        Heard::Del(seq, letter) => operate(alloc, seq, Op::Del(Key::new(&[letter])?)),
+        Heard::Put(seq, letter, value) => put(alloc, seq, letter, value),
+        Heard::Ins(seq, letter, value) => insert(alloc, seq, letter, value),
+        Heard::Upd(seq, letter, value) => update(alloc, seq, letter, value),
+        Heard::Store(seq, letter, value) => store(alloc, seq, letter, value),
         heard => other_body(heard),
     }
 }
 
-fn put(seq: u64, letter: u8, value: u8) -> Result<Body, WordFault> {
-    Ok(operate(seq, Op::Put(Key::new(&[letter])?, Value::new(&[value])?)))
+fn put(alloc: Global, seq: u64, letter: u8, value: u8) -> Result<Body, Fail> {
+    operate(alloc, seq, Op::Put(Key::new(&[letter])?, Value::new(&[value])?))
 }
 
-fn insert(seq: u64, letter: u8, value: u8) -> Result<Body, WordFault> {
-    Ok(operate(seq, Op::Ins(Key::new(&[letter])?, Value::new(&[value])?)))
+fn insert(alloc: Global, seq: u64, letter: u8, value: u8) -> Result<Body, Fail> {
+    operate(alloc, seq, Op::Ins(Key::new(&[letter])?, Value::new(&[value])?))
 }
 
-fn update(seq: u64, letter: u8, value: u8) -> Result<Body, WordFault> {
-    Ok(operate(seq, Op::Upd(Key::new(&[letter])?, Value::new(&[value])?)))
+fn update(alloc: Global, seq: u64, letter: u8, value: u8) -> Result<Body, Fail> {
+    operate(alloc, seq, Op::Upd(Key::new(&[letter])?, Value::new(&[value])?))
 }
 
-fn store(seq: u64, letter: u8, value: u8) -> Result<Body, WordFault> {
+fn store(alloc: Global, seq: u64, letter: u8, value: u8) -> Result<Body, Fail> {
     Ok(Body::Chain(ChainSignal::LqhKeyReq {
         tx: tx_of(seq),
-        work: RowWork::Store(Key::new(&[letter])?, Some(Value::new(&[value])?)),
+        work: RowWork::Store(
+            Key::new(&[letter])?,
+            Held::new(alloc, Some(Value::new(&[value])?))?,
+        ),
         chain: both(),
         at: 1,
     }))
 }
 
 // Those that aren't requests.
-fn other_body(heard: Heard) -> Result<Body, WordFault> {
+fn other_body(heard: Heard) -> Result<Body, Fail> {
     match heard {
         Heard::Commit(seq, letter, at) => Ok(Body::Chain(ChainSignal::Commit {
             tx: tx_of(seq),

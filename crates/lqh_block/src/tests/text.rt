@@ -97,7 +97,7 @@ fn show_chain(text: &mut String, signal: &ChainSignal) -> Result<(), AllocError>
         }
         ChainSignal::LqhKeyConf { tx, key, answer } => {
             put_on(text, " answer ", *tx, key)?;
-            put_answer(text, answer)
+            put_answer(text, &answer.get())
         }
         ChainSignal::LqhKeyRef { tx, key, cause } => {
             put_on(text, " refuse ", *tx, key)?;

@@ -3,7 +3,7 @@ use super::heard::{Heard, body_of};
 use super::text::shown;
 use crate::Tc;
 use frag_map::Layout;
-use sig_core::{Actor, BlockId, HostId, Member, Members, NoMemory, Outs, Place, Shape, Signal};
+use sig_core::{Actor, BlockId, Held, HostId, Member, Members, NoMemory, Outs, Place, Shape, Signal};
 use std::alloc::Global;
 use std::process::Abort;
 use std::test::Fail;
@@ -17,7 +17,7 @@ fn both() -> Layout {
     })
 }
 
-fn signal(heard: Heard) -> Result<Signal, Fail> {
+fn signal(alloc: Global, heard: Heard) -> Result<Signal, Fail> {
     Ok(Signal {
         from: HostId(0),
         member: Member { node: 0, start: 0 },
@@ -27,15 +27,15 @@ fn signal(heard: Heard) -> Result<Signal, Fail> {
         },
         seq: 0,
         stamp: 0,
-        view: *both().view(),
-        body: body_of(heard)?,
+        view: Held::new(alloc, *both().view())?,
+        body: body_of(alloc, heard)?,
     })
 }
 
 // What the coordinator sends at a signal.
 fn sent(alloc: Global, tc: &mut Tc, heard: Heard) -> Result<String, Fail> {
     let mut outs = Outs::new(alloc)?;
-    tc.handle(alloc, &signal(heard)?, &mut outs)?;
+    tc.handle(alloc, &signal(alloc, heard)?, &mut outs)?;
     Ok(shown(alloc, &mut outs)?)
 }
 

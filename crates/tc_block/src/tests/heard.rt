@@ -1,8 +1,10 @@
 //! What a coordinator hears, in short.
 use sig_core::{
-    AbortCause, Answer, Body, ChainSignal, ClientSignal, EpochSignal, HostSignal, Key, Op, TxId,
-    Value, WordFault, Work,
+    AbortCause, Answer, Body, ChainSignal, ClientSignal, EpochSignal, Held, HeldAnswer, HostSignal,
+    Key, Op, TxId, Value, Work,
 };
+use std::alloc::Global;
+use std::test::Fail;
 
 /// A signal to the coordinator of node 1: of which transaction, and mostly on which key, of one
 /// letter.
@@ -34,31 +36,32 @@ fn tx_of(seq: u64) -> TxId {
     }
 }
 
-fn operate(seq: u64, op: Op) -> Body {
-    Body::Client(ClientSignal::TcKeyReq { tx: tx_of(seq), op })
+fn operate(alloc: Global, seq: u64, op: Op) -> Result<Body, Fail> {
+    let op = Held::new(alloc, op)?;
+    Ok(Body::Client(ClientSignal::TcKeyReq { tx: tx_of(seq), op }))
 }
 
-fn answered(seq: u64, letter: u8, answer: Answer) -> Result<Body, WordFault> {
+fn answered(alloc: Global, seq: u64, letter: u8, answer: Answer) -> Result<Body, Fail> {
     let key = Key::new(&[letter])?;
     Ok(Body::Chain(ChainSignal::LqhKeyConf {
         tx: tx_of(seq),
         key,
-        answer,
+        answer: HeldAnswer::new(alloc, &answer)?,
     }))
 }
 
 /// The signal in full.
-pub fn body_of(heard: Heard) -> Result<Body, WordFault> {
+pub fn body_of(alloc: Global, heard: Heard) -> Result<Body, Fail> {
     match heard {
         Heard::Begin => Ok(Body::Client(ClientSignal::TcBeginReq { name: None })),
         Heard::Put(seq, letter) => {
             let key = Key::new(&[letter])?;
-            Ok(operate(seq, Op::Put(key, Value::new(b"v")?)))
+            operate(alloc, seq, Op::Put(key, Value::new(b"v")?))
         }
-        Heard::Get(seq, letter) => Ok(operate(seq, Op::Get(Key::new(&[letter])?))),
-        Heard::Done(seq, letter) => answered(seq, letter, Answer::Done),
-        Heard::Missing(seq, letter) => answered(seq, letter, Answer::Missing),
-        Heard::E626(seq, letter) => answered(seq, letter, Answer::E626),
+        Heard::Get(seq, letter) => operate(alloc, seq, Op::Get(Key::new(&[letter])?)),
+        Heard::Done(seq, letter) => answered(alloc, seq, letter, Answer::Done),
+        Heard::Missing(seq, letter) => answered(alloc, seq, letter, Answer::Missing),
+        Heard::E626(seq, letter) => answered(alloc, seq, letter, Answer::E626),
         Heard::Refused(seq, letter) => refused(seq, letter),
         Heard::Committed(seq, letter) => committed(seq, letter),
         Heard::Completed(seq, letter) => completed(seq, letter),
@@ -67,7 +70,7 @@ pub fn body_of(heard: Heard) -> Result<Body, WordFault> {
     }
 }
 
-fn refused(seq: u64, letter: u8) -> Result<Body, WordFault> {
+fn refused(seq: u64, letter: u8) -> Result<Body, Fail> {
     Ok(Body::Chain(ChainSignal::LqhKeyRef {
         tx: tx_of(seq),
         key: Key::new(&[letter])?,
@@ -75,21 +78,21 @@ fn refused(seq: u64, letter: u8) -> Result<Body, WordFault> {
     }))
 }
 
-fn committed(seq: u64, letter: u8) -> Result<Body, WordFault> {
+fn committed(seq: u64, letter: u8) -> Result<Body, Fail> {
     Ok(Body::Chain(ChainSignal::Committed {
         tx: tx_of(seq),
         key: Key::new(&[letter])?,
     }))
 }
 
-fn completed(seq: u64, letter: u8) -> Result<Body, WordFault> {
+fn completed(seq: u64, letter: u8) -> Result<Body, Fail> {
     Ok(Body::Chain(ChainSignal::Completed {
         tx: tx_of(seq),
         key: Key::new(&[letter])?,
     }))
 }
 
-fn aborted(seq: u64, letter: u8) -> Result<Body, WordFault> {
+fn aborted(seq: u64, letter: u8) -> Result<Body, Fail> {
     Ok(Body::Chain(ChainSignal::Aborted {
         tx: tx_of(seq),
         key: Key::new(&[letter])?,

@@ -57,7 +57,7 @@ fn show_client(text: &mut String, signal: &ClientSignal) -> Result<(), AllocErro
     match signal {
         ClientSignal::TcBeginConf { name: _, tx } => put_number(text, "begun ", tx.seq),
         ClientSignal::TcBeginRef { name: _ } => text.push_str("refused"),
-        ClientSignal::TcKeyConf { tx: _, answer } => text.push_str(answer_word(answer)),
+        ClientSignal::TcKeyConf { tx: _, answer } => text.push_str(answer_word(&answer.get())),
         ClientSignal::TcCommitConf { tx: _, epoch } => put_number(text, "committed ", *epoch),
         ClientSignal::TcRollbackRep { tx: _, cause } => text.push_str(cause_word(*cause)),
         ClientSignal::TcWaitConf { tx: _, ahead } => put_number(text, "behind ", ahead.seq),
