@@ -9,6 +9,7 @@ pub mod Index
 pub mod Lqh
 pub mod MapRows
 pub mod Operate
+pub mod Records
 pub mod State
 pub mod Storage
 pub mod Wait

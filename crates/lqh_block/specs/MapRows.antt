@@ -1,28 +1,57 @@
 -- What rows in memory are seen as.
-use Rattle.std.specs.Prelude.{ℕ, ◌&&◌, Bool, nat_lt, List, length, Option}
+use Rattle.std.specs.Prelude.{◌≡◌, ℕ, ◌<◌, ◌&&◌, Bool, nat_eq, nat_lt, true, is_some, List, length, Option, None, Some}
+use Rattle.std.specs.BinaryHeap.{heap_capacity}
+use Rattle.std.specs.declared.collections.BinaryHeap.{BinaryHeap}
+use Rattle.std.specs.Cmp.Lexicographic.{pointwise}
 use Rattle.std.specs.Global.{Vec}
 use Rattle.std.specs.HashMap.{HashMap, spare}
+use Rattle.std.specs.List.{count_by}
+use Rattle.std.specs.Map.{lookup}
 use Rattle.std.specs.Vec.{vec_capacity}
+use Rattle.std.specs.declared.cmp.Reverse.{Reverse}
 use Rattle.sig_core.specs.declared.rows.PendingRecord.{PendingRecord}
 use Rattle.sig_core.specs.declared.rows.Slot.{Slot}
-use Rattle.sig_core.specs.Rows.{RowsState}
+use Rattle.sig_core.specs.Rows.{RowsState, is_on, place_of}
+use Rattle.lqh_block.specs.declared.key_entry.KeyEntry.{KeyEntry}
+use Rattle.lqh_block.specs.Records.{RecordsState}
 
--- places, and whether there is memory for one more that is taken
+-- places, the index of their keys, and whether there is memory for one more that is taken
 pub record PlacesState : Type 0 where
   pub slots : List (Option Slot)
+  pub index : List (List ℕ × KeyEntry)
   pub roomy : Bool
 
--- there is room for one more place, and for its key
-abbrev pub has_spare : {S : Type 0} → Vec (Option Slot) → HashMap (List ℕ) ℕ S → Bool
-has_spare slots index = nat_lt (length slots.items) (vec_capacity slots) && nat_lt 0 (spare index)
+-- there is room for one more place, for its key, and for it among the free ones
+abbrev pub has_spare : {S A : Type 0} → Vec (Option Slot) → HashMap (List ℕ) KeyEntry S → BinaryHeap (Reverse ℕ) A → Bool
+has_spare slots index free =
+    nat_lt (length slots.items) (vec_capacity slots) && (nat_lt 0 (spare index) && nat_lt (length slots.items) (heap_capacity free))
+
+abbrev pub places_state : {S A : Type 0} → Vec (Option Slot) → HashMap (List ℕ) KeyEntry S → BinaryHeap (Reverse ℕ) A → PlacesState
+places_state slots index free = record { slots = slots.items; index = index.entries; roomy = has_spare slots index free }
+
+abbrev pub records_in : Option KeyEntry → ℕ
+records_in None = 0
+records_in (Some entry) = entry.records
+
+-- how many records are on a key
+abbrev pub records_on : List (List ℕ × KeyEntry) → List ℕ → ℕ
+records_on index key = records_in (lookup (pointwise nat_eq key) index)
+
+-- a key that records are on has a place
+abbrev pub IsPlaced : PlacesState → Type 0
+IsPlaced p = (q : List ℕ) → 0 < records_on p.index q → is_some (place_of p.slots q) ≡ true
+
+-- the index has the number of records on each key
+abbrev pub IsCounted : PlacesState → RecordsState → Type 0
+IsCounted places records = (q : List ℕ) → records_on places.index q ≡ count_by (is_on q) records.pending
 
 -- rows, and whether there is memory to prepare one more write
 pub record MapState : Type 0 where
   pub rows : RowsState
   pub roomy : Bool
 
-abbrev pub map_state : PlacesState → Vec PendingRecord → MapState
-map_state places pending = record {
-  rows = record { places = places.slots; pending = pending.items };
-  roomy = places.roomy && nat_lt (length pending.items) (vec_capacity pending);
+abbrev pub map_state : PlacesState → RecordsState → MapState
+map_state places records = record {
+  rows = record { places = places.slots; pending = records.pending };
+  roomy = places.roomy && records.roomy;
 }
