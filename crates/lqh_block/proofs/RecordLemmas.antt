@@ -1,8 +1,8 @@
 -- Records as a map of what each is found by.
-use Rattle.std.proofs.Common.{◌≡◌, ℕ, zero, suc, Bool, true, false, cond, not, ◌&&◌, map, List, [], ◌∷◌, ◌++◌, refl, ap, sym, ◌∙◌}
+use Rattle.std.proofs.Common.{◌≡◌, ℕ, zero, suc, ◌+◌, Bool, true, false, cond, not, nat_lt, ◌&&◌, map, List, [], ◌∷◌, ◌++◌, refl, ap, sym, ◌∙◌, arith}
 use Rattle.std.specs.Prelude.{Option, None, Some, if◌then◌else◌, is_some, position, remove, slice_get, slice_set}
-use Rattle.std.specs.Map.{keys_of, lookup, lookup_key}
-use Rattle.std.proofs.lemmas.Bool.{and_parts}
+use Rattle.std.specs.Map.{keys_of, lookup, lookup_key, values_of}
+use Rattle.std.proofs.lemmas.Bool.{and_parts, le-ltb, lt-ltb}
 use Rattle.indexmap.specs.IndexMap.{insert_entry, set_value_at}
 use Rattle.sig_core.specs.declared.member.TxId.{TxId}
 use Rattle.sig_core.specs.declared.rows.PendingRecord.{PendingRecord}
@@ -17,10 +17,10 @@ use Rattle.lqh_block.specs.Records.{committed_at, record_by, record_in}
 use Rattle.lqh_block.proofs.IndexLemmas.{same}
 
 -- two ids are of one record
-abbrev same_id : RecordId → RecordId → Bool
+abbrev pub same_id : RecordId → RecordId → Bool
 same_id one other = same_tx one.tx other.tx && same_key one.key other.key
 
-abbrev id_of : TxId → List ℕ → RecordId
+abbrev pub id_of : TxId → List ℕ → RecordId
 id_of tx key = record { tx = tx; key = key }
 
 id-is_of : (tx : TxId) (key : List ℕ) (entry : RecordId × Version) → is_of tx key (record_in entry) ≡ same_id (id_of tx key) entry.0
@@ -89,20 +89,25 @@ lookup-position (entry ∷ entries) test = by (test entry.0) (position test (key
     by false None more = more
     by false (Some at) more = more
 
-pub set_committed : (entries : List (RecordId × Version)) (at : ℕ) (before after : Version) (id : RecordId) → slice_get entries at ≡ Some (id, before)
+pub set_committed : (entries : List (RecordId × Version)) (at : ℕ) (before after : Version) → slice_get (values_of entries) at ≡ Some before
     → after ≡ record { image = before.image; committed = true }
     → map record_in (set_value_at entries at after) ≡ committed_at (map record_in entries) at (slice_get (map record_in entries) at)
-set_committed [] at before after id is of = cc
-set_committed (entry ∷ entries) zero before after id is of =
-    let one : entry ≡ (id, before) = cc in
+set_committed [] at before after is of = cc
+set_committed (entry ∷ entries) zero before after is of =
+    let one : entry.1 ≡ before = cc in
     ap (λ v. record_in (entry.0, v) ∷ map record_in entries) of
-    ∙ ap (λ e. record { tx = entry.0.tx; key = entry.0.key; image = e.1.image; committed = true } ∷ map record_in entries) (sym one)
-set_committed (entry ∷ entries) (suc at) before after id is of =
-    ap (λ w. record_in entry ∷ w) (set_committed entries at before after id is of) ∙ behind (slice_get (map record_in entries) at)
+    ∙ ap (λ v. record { tx = entry.0.tx; key = entry.0.key; image = v.image; committed = true } ∷ map record_in entries) (sym one)
+set_committed (entry ∷ entries) (suc at) before after is of =
+    ap (λ w. record_in entry ∷ w) (set_committed entries at before after is of) ∙ behind (slice_get (map record_in entries) at)
   where
     behind : (o : Option PendingRecord) → record_in entry ∷ committed_at (map record_in entries) at o ≡ committed_at (record_in entry ∷ map record_in entries) (suc at) o
     behind None = refl
     behind (Some r) = refl
+
+-- one more entry
+pub made : (m n : ℕ) (b : Bool) → n ≡ m + (if b then 0 else 1) → nat_lt m n ≡ not b
+made m n true e = le-ltb m n (omega (arith, e))
+made m n false e = lt-ltb m n (omega (arith, e))
 
 pub remove_record : (entries : List (RecordId × Version)) (at : ℕ) → map record_in (remove entries at) ≡ remove (map record_in entries) at
 remove_record [] zero = refl

@@ -1,6 +1,7 @@
 //! Rows in memory.
-ghost use Rattle.std.specs.Prelude.{◌≡◌, ◌<◌, IsOk, OnOk, IfSome, MatchOption, None, Some, option_map, slice_get, true, Option, position};
-ghost use Rattle.sig_core.specs.Rows.{drop_by, has_row, no_rows, record_at, record_of, storing};
+ghost use Rattle.std.specs.Prelude.{◌≡◌, ◌<◌, ◌&&◌, IsOk, OnOk, IfSome, MatchOption, None, Some, option_map, slice_get, true, Option, position};
+ghost use Rattle.sig_core.specs.Rows.{drop_by, has_row, no_rows, prepared, record_at, record_of, recorded_by, with_place};
+ghost use Rattle.lqh_block.specs.MapRows.{IsCounted, IsPlaced};
 ghost use Rattle.lqh_block.specs.Records.{record_by};
 
 use crate::places::{Places, has_row};
@@ -43,17 +44,6 @@ impl MapRows {
         }
     }
 
-    // Makes the memory for one more write.
-    fn reserve(&mut self) -> Result<(), NoMemory>
-        ensures ok { OnOk result (self.new.roomy ≡ true) }
-        ensures same { self.new.rows ≡ self.old.rows }
-        ensures succeeds { self.old.roomy ≡ true → IsOk result }
-    {
-        self.places.reserve()?;
-        self.records.reserve()?;
-        Ok(())
-    }
-
     // What the transaction makes of the row of the key, if it has a record on it.
     #[tactic(auto, unfolding(sig_core::specs::Rows::record_of))]
     fn version(&self, tx: TxId, key: &Key) -> Option<&Version>
@@ -61,17 +51,6 @@ impl MapRows {
     {
         let (_, version) = self.records.find(tx, key)?;
         Some(version)
-    }
-
-    // The transaction has prepared this image of the row.
-    #[tactic(auto, unfolding(sig_core::specs::Rows::storing))]
-    fn store(&mut self, tx: TxId, key: &Key, image: &Option<Value>)
-        requires { self.old.roomy ≡ true }
-        ensures { self.new.rows ≡ storing self.old.rows tx key.now image.now }
-    {
-        if self.records.put(tx, key, image) {
-            self.places.hold(key);
-        }
     }
 
     // Drops the transaction's record on the key, if it is committed or not as is asked.
@@ -96,7 +75,7 @@ impl Rows for MapRows {
     ghost has_room = { λ m key. m.roomy ≡ true };
 
     fn make_room(&mut self, _key: &Key) -> Result<(), NoMemory> {
-        self.reserve()
+        reserve(&mut self.places, &mut self.records)
     }
 
     #[tactic(auto, unfolding(sig_core::specs::Rows::seen))]
@@ -141,10 +120,10 @@ impl Rows for MapRows {
                 rows: self.places.taken() as u64,
             });
         }
-        if let Err(NoMemory) = self.reserve() {
+        if let Err(NoMemory) = reserve(&mut self.places, &mut self.records) {
             return Err(RowsFault::NoMemory);
         }
-        self.store(tx, key, image);
+        store(&mut self.places, &mut self.records, tx, key, image);
         Ok(())
     }
 
@@ -218,4 +197,32 @@ fn first_row(slots: &[Option<Slot>]) -> Option<usize>
     ensures { result ≡ position has_row slots.now }
 {
     slots.iter().position(has_row)
+}
+
+// Makes the memory for one more write.
+fn reserve(places: &mut Places, records: &mut Records) -> Result<(), NoMemory>
+    ensures ok { OnOk result ((places.new.roomy && records.new.roomy) ≡ true) }
+    ensures slots { places.new.slots ≡ places.old.slots }
+    ensures index { places.new.index ≡ places.old.index }
+    ensures pending { records.new.pending ≡ records.old.pending }
+    ensures placed { IsPlaced places.new }
+    ensures succeeds { (places.old.roomy && records.old.roomy) ≡ true → IsOk result }
+{
+    places.reserve()?;
+    records.reserve()?;
+    Ok(())
+}
+
+// The transaction has prepared this image of the row.
+fn store(places: &mut Places, records: &mut Records, tx: TxId, key: &Key, image: &Option<Value>)
+    requires room { (places.old.roomy && records.old.roomy) ≡ true }
+    requires placed { IsPlaced places.old }
+    requires counted { IsCounted places.old records.old }
+    ensures slots { places.new.slots ≡ with_place places.old.slots key.now }
+    ensures pending { records.new.pending ≡ recorded_by records.old.pending (prepared tx key.now image.now) (record_at records.old.pending tx key.now) }
+    ensures counted { IsCounted places.new records.new }
+{
+    if records.put(tx, key, image) {
+        places.hold(key);
+    }
 }

@@ -53,8 +53,10 @@ impl Records {
         ensures place { option_map (λ p. p.0) result ≡ record_at self.now.pending tx key.now }
         ensures record { IfSome result (λ p. slice_get self.now.pending p.0 ≡ Some (record_by tx key.now p.1.now)) }
     {
-        let (at, _, version) = self.entries.get_full(&RecordId { tx, key: *key })?;
-        Some((at, version))
+        match self.entries.get_full(&RecordId { tx, key: *key }) {
+            Some((at, _, version)) => Some((at, version)),
+            None => None,
+        }
     }
 
     /// The transaction has prepared this image: its record is made, or takes the place of the one before.

@@ -10,7 +10,8 @@ unreachable-requires c =
     let keys = keys_in c.args.slots.now.items in
     let there : IsTaken keys c.args.at = record { within = omega (arith, c.requires.within, length-map c.args.slots.now.items key_in); taken = c.requires.taken } in
     let fits = freed_room keys c.args.free.now c.push.new.self c.requires.heap c.args.at there in
-    c.in-Err.ensures.succeeds fits
+    let never = c.in-Err.ensures.succeeds fits in
+    absurd cc
 
 pub returns-clause-heap : goal.returns-clause-heap
 returns-clause-heap c =
