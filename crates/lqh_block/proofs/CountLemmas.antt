@@ -1,34 +1,36 @@
 -- How many records are on a key, as the records come and go.
-use Rattle.std.proofs.Common.{◌≡◌, ℕ, zero, suc, ◌+◌, ◌<◌, ◌≤◌, Bool, true, false, cond, not, nat_eq, ◌&&◌, ◌||◌, List, [], ◌∷◌, ◌++◌, length, refl, ap, sym, ◌∙◌, arith, subst}
-use Rattle.std.specs.Bool.{beq}
-use Rattle.std.specs.Prelude.{Option, None, Some, is_some, position, remove, slice_get, slice_set}
+use Rattle.std.proofs.Common.{◌≡◌, ℕ, zero, suc, ◌+◌, ◌<◌, ◌≤◌, Bool, true, false, cond, not, nat_eq, ◌||◌, List}
+use Rattle.std.proofs.Common.{[], ◌∷◌, ◌++◌, length, refl, ap, sym, ◌∙◌, arith}
+use Rattle.std.specs.Prelude.{Option, None, Some, is_some, remove, slice_get, slice_set}
 use Rattle.std.specs.List.{count_by, list_any}
 use Rattle.std.proofs.lemmas.Bool.{and_parts}
 use Rattle.std.proofs.lemmas.Bool.Decides.{nat_tests}
 use Rattle.std.proofs.lemmas.List.Sums.{sum_by-cons, sum_by_push}
 use Rattle.sig_core.specs.declared.member.TxId.{TxId}
 use Rattle.sig_core.specs.declared.rows.PendingRecord.{PendingRecord}
-use Rattle.sig_core.specs.declared.rows.Slot.{Slot}
-use Rattle.sig_core.specs.Rows.{RowsState, commit_by, commit_if, commit_record, committed, drop_by, drop_if, freed_by, get_at, is_as, is_idle, is_of, is_on, place_of, prepared, record_at, record_of, recorded_by, set_row, with_place, with_place_by}
+use Rattle.sig_core.specs.Rows.{committed}
+use Rattle.sig_core.specs.Rows.{is_idle, is_of, is_on, prepared, record_at}
+use Rattle.sig_core.specs.Rows.{recorded_by}
 use Rattle.sig_core.specs.Same.{same_key, same_tx}
 use Rattle.sig_core.proofs.Firsts.{place_by, position-cons}
 use Rattle.sig_core.proofs.Keys.{same_key-self}
-use Rattle.lqh_block.specs.declared.record_id.Version.{Version}
-use Rattle.lqh_block.specs.Records.{committed_at, record_by}
+use Rattle.lqh_block.specs.Records.{committed_at}
 use Rattle.lqh_block.proofs.IndexLemmas.{same}
 
-
-count-cons : (q : List ℕ) (r : PendingRecord) (pending : List PendingRecord) → count_by (is_on q) (r ∷ pending) ≡ cond (is_on q r) 1 0 + count_by (is_on q) pending
+count-cons : (q : List ℕ) (r : PendingRecord) (pending : List PendingRecord)
+    → count_by (is_on q) (r ∷ pending) ≡ cond (is_on q r) 1 0 + count_by (is_on q) pending
 count-cons q r pending = sum_by-cons (λ x. cond (is_on q x) 1 0) r pending
 
 -- one more record
-pub count-push : (q : List ℕ) (r : PendingRecord) (pending : List PendingRecord) → count_by (is_on q) (pending ++ r ∷ []) ≡ count_by (is_on q) pending + cond (same_key r.key q) 1 0
+pub count-push : (q : List ℕ) (r : PendingRecord) (pending : List PendingRecord)
+    → count_by (is_on q) (pending ++ r ∷ []) ≡ count_by (is_on q) pending + cond (same_key r.key q) 1 0
 count-push q r pending = sum_by_push (λ x. cond (is_on q x) 1 0) pending r
 
 -- no record is on a key exactly where their number is 0
 pub idle_count : (pending : List PendingRecord) (q : List ℕ) → is_idle pending q ≡ nat_eq (count_by (is_on q) pending) 0
 idle_count [] q = refl
-idle_count (r ∷ pending) q = by (is_on q r) refl (idle_count pending q) ∙ ap (λ n. nat_eq n 0) (sym (count-cons q r pending))
+idle_count (r ∷ pending) q = by (is_on q r) refl (idle_count pending q)
+    ∙ ap (λ n. nat_eq n 0) (sym (count-cons q r pending))
   where
     one_more : (n : ℕ) → nat_eq (1 + n) 0 ≡ false
     one_more n = grind (arith, nat_tests)
@@ -43,17 +45,21 @@ idle_count (r ∷ pending) q = by (is_on q r) refl (idle_count pending q) ∙ ap
     by : (b : Bool) → is_on q r ≡ b → not (list_any (is_on q) pending) ≡ nat_eq (count_by (is_on q) pending) 0
         → not (b || list_any (is_on q) pending) ≡ nat_eq (cond b 1 0 + count_by (is_on q) pending) 0
     by true e more = sym (one_more (count_by (is_on q) pending))
-    by false e more = ap not (nothing (list_any (is_on q) pending)) ∙ more ∙ ap (λ n. nat_eq n 0) (plain (count_by (is_on q) pending))
+    by false e more = ap not (nothing (list_any (is_on q) pending)) ∙ more
+        ∙ ap (λ n. nat_eq n 0) (plain (count_by (is_on q) pending))
 
 -- a record that is found is on the key
-pub found_on : (pending : List PendingRecord) (tx : TxId) (key : List ℕ) (at : ℕ) (r : PendingRecord) → record_at pending tx key ≡ Some at
+pub found_on : (pending : List PendingRecord) (tx : TxId) (key : List ℕ) (at : ℕ) (r : PendingRecord)
+    → record_at pending tx key ≡ Some at
     → slice_get pending at ≡ Some r → r.key ≡ key
 found_on [] tx key at r found is = cc
 found_on (x ∷ pending) tx key at r found is =
-    by (is_of tx key x) refl (record_at pending tx key) refl (sym (position-cons (is_of tx key) x pending) ∙ found) (found_on pending tx key)
+    by (is_of tx key x) refl (record_at pending tx key) refl (sym (position-cons (is_of tx key) x pending) ∙ found)
+    (found_on pending tx key)
   where
     by : (b : Bool) → is_of tx key x ≡ b → (o : Option ℕ) → record_at pending tx key ≡ o → place_by b o ≡ Some at
-        → ((m : ℕ) (y : PendingRecord) → record_at pending tx key ≡ Some m → slice_get pending m ≡ Some y → y.key ≡ key) → r.key ≡ key
+        → ((m : ℕ) (y : PendingRecord) → record_at pending tx key ≡ Some m → slice_get pending m ≡ Some y → y.key ≡ key)
+        → r.key ≡ key
     by true e o same_one here further =
         let place : 0 ≡ at = cc in
         let first : Some x ≡ Some r = ap (slice_get (x ∷ pending)) place ∙ is in
@@ -65,24 +71,29 @@ found_on (x ∷ pending) tx key at r found is =
         further m r same_one (ap (slice_get (x ∷ pending)) place ∙ is)
 
 -- another record of the same key takes its place
-pub count-set : (pending : List PendingRecord) (at : ℕ) (before after : PendingRecord) (q : List ℕ) → slice_get pending at ≡ Some before → before.key ≡ after.key
+pub count-set : (pending : List PendingRecord) (at : ℕ) (before after : PendingRecord) (q : List ℕ)
+    → slice_get pending at ≡ Some before → before.key ≡ after.key
     → count_by (is_on q) (slice_set pending at after) ≡ count_by (is_on q) pending
 count-set [] at before after q is same_one = cc
 count-set (x ∷ pending) zero before after q is same_one =
     let one : x ≡ before = cc in
     let keys : after.key ≡ x.key = sym same_one ∙ ap (λ r. r.key) (sym one) in
-    count-cons q after pending ∙ ap (λ k. cond (same_key k q) 1 0 + count_by (is_on q) pending) keys ∙ sym (count-cons q x pending)
+    count-cons q after pending ∙ ap (λ k. cond (same_key k q) 1 0 + count_by (is_on q) pending) keys
+    ∙ sym (count-cons q x pending)
 count-set (x ∷ pending) (suc at) before after q is same_one =
-    count-cons q x (slice_set pending at after) ∙ ap (λ n. cond (is_on q x) 1 0 + n) (count-set pending at before after q is same_one) ∙ sym (count-cons q x pending)
+    count-cons q x (slice_set pending at after) ∙ ap (λ n. cond (is_on q x) 1 0 + n)
+    (count-set pending at before after q is same_one) ∙ sym (count-cons q x pending)
 
 -- a record is taken out
-pub count-remove : (pending : List PendingRecord) (at : ℕ) (r : PendingRecord) (q : List ℕ) → slice_get pending at ≡ Some r
+pub count-remove : (pending : List PendingRecord) (at : ℕ) (r : PendingRecord) (q : List ℕ)
+    → slice_get pending at ≡ Some r
     → count_by (is_on q) (remove pending at) + cond (same_key r.key q) 1 0 ≡ count_by (is_on q) pending
 count-remove [] at r q is = cc
 count-remove (x ∷ pending) zero r q is =
     let one : x ≡ r = cc in
     let more = count-cons q x pending in
-    let keys : ◌≡◌ {A = ℕ} (cond (same_key r.key q) 1 0) (cond (is_on q x) 1 0) = ap (λ y. cond (is_on q y) 1 0) (sym one) in
+    let keys : ◌≡◌ {A = ℕ} (cond (same_key r.key q) 1 0) (cond (is_on q x) 1 0) =
+    ap (λ y. cond (is_on q y) 1 0) (sym one) in
     omega (arith, more, keys)
 count-remove (x ∷ pending) (suc at) r q is =
     let more = count-cons q x pending in
@@ -90,7 +101,8 @@ count-remove (x ∷ pending) (suc at) r q is =
     omega (arith, more, less, count-remove pending at r q is)
 
 -- a record that is on a key counts
-pub count-some : (pending : List PendingRecord) (at : ℕ) (r : PendingRecord) (q : List ℕ) → slice_get pending at ≡ Some r → r.key ≡ q
+pub count-some : (pending : List PendingRecord) (at : ℕ) (r : PendingRecord) (q : List ℕ)
+    → slice_get pending at ≡ Some r → r.key ≡ q
     → 0 < count_by (is_on q) pending
 count-some pending at r q is of =
     let less = count-remove pending at r q is in
@@ -101,55 +113,15 @@ count-some pending at r q is of =
     itself = same_key-self q
 
 -- a record becomes committed
-pub count-commit : (pending : List PendingRecord) (at : ℕ) (r : PendingRecord) (q : List ℕ) → slice_get pending at ≡ Some r
+pub count-commit : (pending : List PendingRecord) (at : ℕ) (r : PendingRecord) (q : List ℕ)
+    → slice_get pending at ≡ Some r
     → count_by (is_on q) (committed_at pending at (slice_get pending at)) ≡ count_by (is_on q) pending
-count-commit pending at r q is = ap (λ o. count_by (is_on q) (committed_at pending at o)) is ∙ count-set pending at r (committed r) q is refl
-
-agrees_as : (one other : Bool) → is_as other one ≡ beq one other
-agrees_as true true = refl
-agrees_as true false = refl
-agrees_as false true = refl
-agrees_as false false = refl
-
-module _ (s : RowsState) (tx : TxId) (key : List ℕ) (at : ℕ) (version : Version) (place : Some at ≡ record_at s.pending tx key)
-    (is : slice_get s.pending at ≡ Some (record_by tx key version)) where
-  found_record : record_of s tx key ≡ Some (record_by tx key version)
-  unfolding record_of
-  found_record = ap (get_at s.pending) (sym place) ∙ is
-
-  commit_if_found : commit_record s tx key ≡ commit_if s at (record_by tx key version) version.committed
-  unfolding commit_record
-  commit_if_found = ap (λ o. commit_by s o (record_of s tx key)) (sym place) ∙ ap (commit_by s (Some at)) found_record
-
-  -- a record that is found is committed, or was so before
-  pub commit_found : (places : List (Option Slot)) (pending : List PendingRecord) → version.committed ≡ false → places ≡ set_row s.places key version.image
-      → pending ≡ committed_at s.pending at (slice_get s.pending at)
-      → ◌≡◌ {A = RowsState} (record { places = places; pending = pending }) (commit_record s tx key)
-  commit_found places pending prior rows records =
-      (λ i. record { places = rows i; pending = (records ∙ ap (committed_at s.pending at) is) i })
-      ∙ sym (ap (commit_if s at (record_by tx key version)) prior) ∙ sym commit_if_found
-
-  pub commit_kept : version.committed ≡ true → s ≡ commit_record s tx key
-  commit_kept done = sym (commit_if_found ∙ ap (commit_if s at (record_by tx key version)) done)
-
-  drop_if_found : (done : Bool) → drop_by s done (record_at s.pending tx key) (record_of s tx key) ≡ drop_if s at (record_by tx key version) (is_as done version.committed)
-  drop_if_found done = ap (λ o. drop_by s done o (record_of s tx key)) (sym place) ∙ ap (drop_by s done (Some at)) found_record
-
-  -- it is dropped, or kept
-  pub drop_found : (done : Bool) (places : List (Option Slot)) (pending : List PendingRecord) (left : ℕ) → beq version.committed done ≡ true → pending ≡ remove s.pending at
-      → left ≡ count_by (is_on key) pending → places ≡ freed_by s.places (nat_eq left 0) (place_of s.places key)
-      → ◌≡◌ {A = RowsState} (record { places = places; pending = pending }) (drop_by s done (record_at s.pending tx key) (record_of s tx key))
-  drop_found done places pending left agrees records counted rows =
-      let idle : nat_eq left 0 ≡ is_idle (remove s.pending at) key =
-      ap (λ n. nat_eq n 0) counted ∙ sym (idle_count pending key) ∙ ap (λ p. is_idle p key) records in
-      (λ i. record { places = (rows ∙ ap (λ b. freed_by s.places b (place_of s.places key)) idle) i; pending = records i })
-      ∙ sym (ap (drop_if s at (record_by tx key version)) (agrees_as version.committed done ∙ agrees)) ∙ sym (drop_if_found done)
-
-  pub drop_kept : (done : Bool) → beq version.committed done ≡ false → s ≡ drop_by s done (record_at s.pending tx key) (record_of s tx key)
-  drop_kept done other = sym (drop_if_found done ∙ ap (drop_if s at (record_by tx key version)) (agrees_as version.committed done ∙ other))
+count-commit pending at r q is = ap (λ o. count_by (is_on q) (committed_at pending at o)) is
+    ∙ count-set pending at r (committed r) q is refl
 
 -- a record of a key that has one takes its place: the number of records stays, and it isn't 0
-module _ (pending : List PendingRecord) (tx : TxId) (key : List ℕ) (image : Option (List ℕ)) (there : not (is_some (record_at pending tx key)) ≡ false) where
+module _ (pending : List PendingRecord) (tx : TxId) (key : List ℕ) (image : Option (List ℕ))
+    (there : not (is_some (record_at pending tx key)) ≡ false) where
   record RecordThere : Type 0 where
     at : ℕ
     before : PendingRecord
@@ -161,12 +133,15 @@ module _ (pending : List PendingRecord) (tx : TxId) (key : List ℕ) (image : Op
     where
       position_within : (xs : List PendingRecord) (at : ℕ) → record_at xs tx key ≡ Some at → at < length xs
       position_within [] at e = cc
-      position_within (x ∷ xs) at e = here (is_of tx key x) (record_at xs tx key) refl (sym (position-cons (is_of tx key) x xs) ∙ e) (position_within xs)
+      position_within (x ∷ xs) at e = here (is_of tx key x) (record_at xs tx key) refl
+          (sym (position-cons (is_of tx key) x xs) ∙ e) (position_within xs)
         where
-          here : (b : Bool) (o : Option ℕ) → record_at xs tx key ≡ o → place_by b o ≡ Some at → ((m : ℕ) → record_at xs tx key ≡ Some m → m < length xs) → at < length (x ∷ xs)
+          here : (b : Bool) (o : Option ℕ) → record_at xs tx key ≡ o → place_by b o ≡ Some at
+              → ((m : ℕ) → record_at xs tx key ≡ Some m → m < length xs) → at < length (x ∷ xs)
           here true o same_one place further = let first : 0 ≡ at = cc in omega (arith, first)
           here false None same_one place further = cc
-          here false (Some m) same_one place further = let next : suc m ≡ at = cc in omega (arith, next, further m same_one)
+          here false (Some m) same_one place further = let next : suc m ≡ at =
+              cc in omega (arith, next, further m same_one)
 
       slice_get_none : (xs : List PendingRecord) (at : ℕ) → slice_get xs at ≡ None → length xs ≤ at
       slice_get_none [] at e = omega arith
@@ -181,21 +156,15 @@ module _ (pending : List PendingRecord) (tx : TxId) (key : List ℕ) (image : Op
           item None none = absurd (omega (arith, position_within pending at e, slice_get_none pending at none))
           item (Some r) is = record { at = at; before = r; place = e; is = is }
 
-  pub stored_counts : (q : List ℕ) → count_by (is_on q) (recorded_by pending (prepared tx key image) (record_at pending tx key)) ≡ count_by (is_on q) pending
+  pub stored_counts : (q : List ℕ) → count_by (is_on q)
+      (recorded_by pending (prepared tx key image) (record_at pending tx key)) ≡ count_by (is_on q) pending
   stored_counts q =
       let r = record_there in
       ap (λ o. count_by (is_on q) (recorded_by pending (prepared tx key image) o)) r.place
-      ∙ count-set pending r.at r.before (prepared tx key image) q r.is (found_on pending tx key r.at r.before r.place r.is)
+      ∙ count-set pending r.at r.before (prepared tx key image) q r.is
+      (found_on pending tx key r.at r.before r.place r.is)
 
   pub stored_some : 0 < count_by (is_on key) pending
   stored_some =
       let r = record_there in
       count-some pending r.at r.before key r.is (found_on pending tx key r.at r.before r.place r.is)
-
--- a key with a place keeps it
-pub placed_keeps : (places : List (Option Slot)) (key : List ℕ) → is_some (place_of places key) ≡ true → places ≡ with_place places key
-placed_keeps places key there = by (place_of places key) there
-  where
-    by : (o : Option ℕ) → is_some o ≡ true → places ≡ with_place_by places key o
-    by None e = cc
-    by (Some at) e = refl

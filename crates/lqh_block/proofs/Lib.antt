@@ -8,3 +8,4 @@ pub mod FreeLemmas
 pub mod IndexLemmas
 pub mod PlaceLemmas
 pub mod RecordLemmas
+pub mod RowLemmas

@@ -1,14 +1,8 @@
--- An index of places: where each key is, how the places are counted, and which are free.
-use Rattle.std.specs.Prelude.{⊤, ◌≡◌, ℕ, zero, suc, ◌+◌, ◌≤◌, Bool, true, false, nat_eq, map, List, [], ◌∷◌, length, Option, None, Some}
-use Rattle.std.specs.BinaryHeap.{IsHeap, heap_capacity, heap_items, heap_len}
-use Rattle.std.specs.declared.collections.BinaryHeap.{BinaryHeap}
+-- An index of places: where each key is, and how the places are counted.
+use Rattle.std.specs.Prelude.{⊤, ◌≡◌, ℕ, suc, ◌+◌, Bool, true, false, nat_eq, map, List, [], ◌∷◌, Option, None, Some}
 use Rattle.std.specs.Cmp.Lexicographic.{pointwise}
 use Rattle.std.specs.HashMap.{HashMap, get, hash_map_len}
-use Rattle.std.specs.List.{count_by}
-use Rattle.std.specs.Ordering.{nat_cmp}
-use Rattle.std.specs.declared.cmp.Reverse.{Reverse}
 use Rattle.sig_core.specs.declared.rows.Slot.{Slot}
-use Rattle.sig_core.specs.Rows.{with_row}
 use Rattle.sig_core.specs.Same.{same_key}
 use Rattle.lqh_block.specs.declared.key_entry.KeyEntry.{KeyEntry}
 
@@ -46,11 +40,6 @@ count_of [] = 0
 count_of (None ∷ keys) = count_of keys
 count_of (Some key ∷ keys) = 1 + count_of keys
 
--- a place that is taken has this row
-abbrev pub rewritten : Option Slot → Option (List ℕ) → Option Slot
-rewritten None row = None
-rewritten (Some slot) row = Some (with_row slot.key row)
-
 -- the least free place
 abbrev pub first_free : List (Option (List ℕ)) → ℕ
 first_free [] = 0
@@ -63,27 +52,6 @@ with_key key [] = Some key ∷ []
 with_key key (None ∷ keys) = Some key ∷ keys
 with_key key (Some other ∷ keys) = Some other ∷ with_key key keys
 
--- 1 where the place is free, else 0
-abbrev pub free_in : Option (List ℕ) → ℕ
-free_in None = 1
-free_in (Some key) = 0
-
-abbrev pub free_at : List (Option (List ℕ)) → ℕ → ℕ
-free_at [] at = 0
-free_at (key ∷ keys) zero = free_in key
-free_at (key ∷ keys) (suc at) = free_at keys at
-
--- how often a place is in the heap
-abbrev pub listed : List (Reverse ℕ) → ℕ → ℕ
-listed items at = count_by (λ r. nat_eq r.0 at) items
-
--- the heap has each free place once and no other, the least on top, and has room for all places
-pub record HoldsFree {A : Type 0} (keys : List (Option (List ℕ))) (free : BinaryHeap (Reverse ℕ) A) : Type 0 where
-  pub each : (at : ℕ) → listed (heap_items free) at ≡ free_at keys at
-  pub many : heap_len free + count_of keys ≡ length keys
-  pub ordered : IsHeap (λ one other. nat_cmp other.0 one.0) (heap_items free)
-  pub room : length keys ≤ heap_capacity free
-
 -- the place that the index has for a key
 abbrev pub place_in : Option KeyEntry → Option ℕ
 place_in None = None
@@ -94,8 +62,3 @@ pub record IsIndexed {S : Type 0} (keys : List (Option (List ℕ))) (index : Has
   pub found : (q : List ℕ) → place_in (get (pointwise nat_eq) index q) ≡ seek keys q
   pub distinct : IsDistinct keys
   pub counted : hash_map_len index ≡ count_of keys
-
--- what holds of the fields of places
-pub record ArePlaces {S A : Type 0} (keys : List (Option (List ℕ))) (index : HashMap (List ℕ) KeyEntry S) (free : BinaryHeap (Reverse ℕ) A) : Type 0 where
-  pub indexed : IsIndexed keys index
-  pub holds : HoldsFree keys free

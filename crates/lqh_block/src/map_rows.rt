@@ -1,7 +1,8 @@
 //! Rows in memory.
 ghost use Rattle.std.specs.Prelude.{◌≡◌, ◌<◌, ◌&&◌, IsOk, OnOk, IfSome, MatchOption, None, Some, option_map, slice_get, true, Option, position};
 ghost use Rattle.sig_core.specs.Rows.{drop_by, has_row, no_rows, prepared, record_at, record_of, recorded_by, with_place};
-ghost use Rattle.lqh_block.specs.MapRows.{IsCounted, IsPlaced};
+ghost use Rattle.lqh_block.specs.MapRows.{IsCounted};
+ghost use Rattle.lqh_block.specs.Places.{IsPlaced};
 ghost use Rattle.lqh_block.specs.Records.{record_by};
 
 use crate::places::{Places, has_row};
@@ -14,9 +15,10 @@ use std::marker::Model;
 /// The most places that rows and the keys of records take.
 pub const PLACES: usize = 131_072;
 
-/// Rows in memory. A look-up, of a key or of a record, takes a time that doesn't depend on the numbers
-/// of rows and of records. So does all else, but that a place is taken or freed in a time logarithmic in
-/// the number of free ones, and that dropping a record moves those that are younger.
+/// Rows in memory. A look-up, of a key or of a record, takes a time that doesn't depend on the numbers of
+/// rows and of records, and so does all else but this: a place is taken or freed in a time that is
+/// logarithmic in the number of free ones, dropping a record moves those that are younger, and the next
+/// place that has a row is found by passing over those that have none.
 #[derive(Drop)]
 pub struct MapRows {
     places: Places,

@@ -4,8 +4,9 @@ ghost use Rattle.std.specs.Vec.{vec_capacity};
 ghost use Rattle.std.specs.BinaryHeap.{heap_capacity};
 ghost use Rattle.sig_core.specs.Rows.{freed_by, has_row, no_row, place_of, placed, set_row, with_place};
 ghost use Rattle.sig_core.specs.Same.{same_key};
-ghost use Rattle.lqh_block.specs.Index.{HoldsFree, first_free, free_at, keys_in, rewritten};
-ghost use Rattle.lqh_block.specs.MapRows.{IsPlaced, records_on};
+ghost use Rattle.lqh_block.specs.Free.{HoldsFree, free_at};
+ghost use Rattle.lqh_block.specs.Index.{first_free, keys_in};
+ghost use Rattle.lqh_block.specs.Places.{IsPlaced, records_on, rewritten};
 
 use crate::key_entry::KeyEntry;
 use indexmap::IndexMap;
@@ -29,8 +30,8 @@ pub struct Places {
 }
 
 impl Model for Places {
-    ghost use Rattle.lqh_block.specs.Index.{ArePlaces, keys_in};
-    ghost use Rattle.lqh_block.specs.MapRows.{PlacesState, places_state};
+    ghost use Rattle.lqh_block.specs.Index.{keys_in};
+    ghost use Rattle.lqh_block.specs.Places.{ArePlaces, PlacesState, places_state};
 
     ghost Value = { PlacesState };
 

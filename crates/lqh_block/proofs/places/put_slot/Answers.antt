@@ -1,8 +1,9 @@
-use Rattle.std.proofs.Common.{◌≡◌, ◌∙◌, ◌<◌, ap, arith, length, slice_set, subst, sym}
+use Rattle.std.proofs.Common.{◌≡◌, ◌∙◌, ap, arith, length, slice_set, subst, sym}
 use Rattle.std.specs.Prelude.{List, Option, Some, ℕ}
 use Rattle.std.proofs.lemmas.List.{length-map}
 use Rattle.sig_core.specs.Rows.{placed}
-use Rattle.lqh_block.specs.Index.{HoldsFree, first_free, key_in, keys_in}
+use Rattle.lqh_block.specs.Free.{HoldsFree}
+use Rattle.lqh_block.specs.Index.{first_free, key_in, keys_in}
 use Rattle.lqh_block.proofs.FreeLemmas.{Popped, empty_behind, grown_holds, popped_holds, top_least, top_within}
 use Rattle.lqh_block.proofs.PlaceLemmas.{keys_in-placed, placed-behind, placed-within}
 use Rattle.lqh_block.proofs.places.put_slot.Goals as goal
@@ -16,7 +17,12 @@ index_mut-requires c =
       fewer = c.in-Some.ensures.len;
       same_room = c.in-Some.ensures.capacity;
     } in
-    omega (arith, top_within keys c.args.free.now c.pop.new.self c.requires.heap c.in-Some.field-0 popped, length-map c.args.slots.now.items key_in)
+    omega (
+      arith,
+      top_within keys c.args.free.now c.pop.new.self c.requires.heap c.in-Some.field-0 popped,
+      length-map
+          c.args.slots.now.items key_in,
+    )
 
 pub returns-in-Some-clause-place : goal.returns-in-Some-clause-place
 returns-in-Some-clause-place c =
@@ -41,7 +47,8 @@ returns-in-Some-clause-slots c =
     } in
     let within = top_within keys c.args.free.now c.pop.new.self c.requires.heap c.in-Some.field-0 popped in
     placed-within c.args.slot places c.in-Some.field-0.0
-    (top_least keys c.args.free.now c.pop.new.self c.requires.heap c.in-Some.field-0 popped) (omega (arith, within, length-map places key_in))
+    (top_least keys c.args.free.now c.pop.new.self c.requires.heap c.in-Some.field-0 popped)
+    (omega (arith, within, length-map places key_in))
 
 pub returns-in-Some-clause-heap : goal.returns-in-Some-clause-heap
 returns-in-Some-clause-heap c =
@@ -56,7 +63,8 @@ returns-in-Some-clause-heap c =
     let within = top_within keys c.args.free.now c.pop.new.self c.requires.heap c.in-Some.field-0 popped in
     let set : slice_set places c.in-Some.field-0.0 (Some c.args.slot) ≡ placed c.args.slot places =
     placed-within c.args.slot places c.in-Some.field-0.0
-    (top_least keys c.args.free.now c.pop.new.self c.requires.heap c.in-Some.field-0 popped) (omega (arith, within, length-map places key_in)) in
+    (top_least keys c.args.free.now c.pop.new.self c.requires.heap c.in-Some.field-0 popped)
+    (omega (arith, within, length-map places key_in)) in
     let P : List (Option (List ℕ)) → Type 0 = λ ks. HoldsFree ks c.pop.new.self in
     subst P (sym (ap keys_in set ∙ keys_in-placed c.args.slot places))
     (popped_holds keys c.args.free.now c.pop.new.self c.requires.heap c.in-Some.field-0 popped c.args.slot.key)
@@ -80,8 +88,10 @@ returns-in-None-clause-heap c =
     let keys = keys_in places in
     let behind = empty_behind keys c.args.free.now c.pop.new.self c.requires.heap c.in-None.ensures.none in
     let e : length places ≡ first_free keys = omega (arith, behind, length-map places key_in) in
-    let slots = c.push_reserved.ensures.items ∙ sym (placed-behind c.args.slot places (length places) e (omega arith)) in
+    let slots = c.push_reserved.ensures.items ∙ sym (placed-behind c.args.slot places (length places) e
+    (omega arith)) in
     let P : List (Option (List ℕ)) → Type 0 = λ ks. HoldsFree ks c.pop.new.self in
     subst P (sym (ap keys_in slots ∙ keys_in-placed c.args.slot places))
-    (grown_holds keys c.args.free.now c.pop.new.self c.requires.heap c.args.slot.key c.in-None.ensures.none c.in-None.ensures.unchanged
+    (grown_holds keys c.args.free.now c.pop.new.self c.requires.heap c.args.slot.key c.in-None.ensures.none
+    c.in-None.ensures.unchanged
     c.in-None.ensures.capacity (omega (arith, c.requires.more, length-map places key_in)))

@@ -6,7 +6,7 @@ use Rattle.std.specs.Prelude.{nat_eq}
 use Rattle.sig_core.specs.Rows.{no_row, place_of}
 use Rattle.sig_core.specs.Same.{same_key}
 use Rattle.lqh_block.specs.Index.{IsIndexed, keys_in}
-use Rattle.lqh_block.specs.MapRows.{records_on}
+use Rattle.lqh_block.specs.Places.{records_on}
 use Rattle.lqh_block.proofs.PlaceLemmas.{added_records, entry_absent, keys_in-placed, still_indexed}
 use Rattle.lqh_block.proofs.places.Places.add.Goals as goal
 
@@ -16,7 +16,8 @@ invariant_of-self c =
     let key = c.args.key.now in
     let slots : places ≡ c.args.self.now.slots = cc in
     let absent : place_of places key ≡ None = ap (λ ps. place_of ps key) slots ∙ c.requires.new in
-    let new : get (pointwise nat_eq) c.self.inside.index key ≡ None = entry_absent places c.self.inside.index c.self.invariant.indexed key absent in
+    let new : get (pointwise nat_eq) c.self.inside.index key ≡ None =
+    entry_absent places c.self.inside.index c.self.invariant.indexed key absent in
     let was : c.in-Ok.field-0 ≡ None = c.in-Ok.ensures.old ∙ new in
     let P : List (Option (List ℕ)) → Type 0 = λ keys. IsIndexed keys c.insert.new.self in
     record {
@@ -33,5 +34,7 @@ returns-clause-records c = λ q.
     let slots : places ≡ c.args.self.now.slots = cc in
     let index : c.self.inside.index.entries ≡ c.args.self.now.index = cc in
     let absent : place_of places key ≡ None = ap (λ ps. place_of ps key) slots ∙ c.requires.new in
-    let new : get (pointwise nat_eq) c.self.inside.index key ≡ None = entry_absent places c.self.inside.index c.self.invariant.indexed key absent in
-    added_records c.self.inside.index c.insert.new.self key _ c.in-Ok.ensures.updates new q ∙ ap (λ index. records_on index q + cond (same_key key q) c.args.records 0) index
+    let new : get (pointwise nat_eq) c.self.inside.index key ≡ None =
+    entry_absent places c.self.inside.index c.self.invariant.indexed key absent in
+    added_records c.self.inside.index c.insert.new.self key _ c.in-Ok.ensures.updates new q
+    ∙ ap (λ index. records_on index q + cond (same_key key q) c.args.records 0) index

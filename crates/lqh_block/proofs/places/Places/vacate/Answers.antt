@@ -1,4 +1,4 @@
-use Rattle.std.proofs.Common.{◌≡◌, ◌∙◌, ap, arith, sym, subst, true}
+use Rattle.std.proofs.Common.{◌≡◌, ◌∙◌, ap, sym, subst, true}
 use Rattle.std.specs.Prelude.{List, None, Option, ℕ, Some, is_some}
 use Rattle.std.proofs.lemmas.List.{map-set}
 use Rattle.sig_core.specs.declared.rows.Slot.{Slot}
@@ -23,7 +23,8 @@ invariant_of-self c =
     let slots : places ≡ c.args.self.now.slots = cc in
     let there : place_of places key ≡ Some c.args.at = ap (λ ps. place_of ps key) slots ∙ c.requires.place in
     let found : is_some c.swap_remove.result ≡ true =
-    ap is_some c.swap_remove.ensures.value ∙ entry_some places c.self.inside.index c.self.invariant.indexed key c.args.at there in
+    ap is_some c.swap_remove.ensures.value ∙ entry_some places c.self.inside.index c.self.invariant.indexed key
+    c.args.at there in
     let P : List (Option (List ℕ)) → Type 0 = λ keys. IsIndexed keys c.swap_remove.new.self in
     let Q : List (Option Slot) → Type 0 = λ ps. IsIndexed (keys_in ps) c.swap_remove.new.self in
     record {

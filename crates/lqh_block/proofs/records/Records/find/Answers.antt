@@ -7,8 +7,10 @@ use Rattle.lqh_block.proofs.records.Records.find.Goals as goal
 
 pub returns-in-Some-clause-place : goal.returns-in-Some-clause-place
 returns-in-Some-clause-place c =
-    let pending : map record_in c.self.inside.entries.entries ≡ c.args.self.now.pending = ap (λ s. s.pending) c.self.view_is in
-    c.in-Some.ensures.index ∙ position-ids c.self.inside.entries.entries c.args.tx c.args.key.now ∙ ap (λ p. record_at p c.args.tx c.args.key.now) pending
+    let pending : map record_in c.self.inside.entries.entries ≡ c.args.self.now.pending =
+    ap (λ s. s.pending) c.self.view_is in
+    c.in-Some.ensures.index ∙ position-ids c.self.inside.entries.entries c.args.tx c.args.key.now
+    ∙ ap (λ p. record_at p c.args.tx c.args.key.now) pending
 
 pub returns-in-Some-clause-record : goal.returns-in-Some-clause-record
 returns-in-Some-clause-record c =
@@ -20,5 +22,7 @@ returns-in-Some-clause-record c =
 
 pub returns-in-None-clause-place : goal.returns-in-None-clause-place
 returns-in-None-clause-place c =
-    let pending : map record_in c.self.inside.entries.entries ≡ c.args.self.now.pending = ap (λ s. s.pending) c.self.view_is in
-    c.in-None.ensures.index ∙ position-ids c.self.inside.entries.entries c.args.tx c.args.key.now ∙ ap (λ p. record_at p c.args.tx c.args.key.now) pending
+    let pending : map record_in c.self.inside.entries.entries ≡ c.args.self.now.pending =
+    ap (λ s. s.pending) c.self.view_is in
+    c.in-None.ensures.index ∙ position-ids c.self.inside.entries.entries c.args.tx c.args.key.now
+    ∙ ap (λ p. record_at p c.args.tx c.args.key.now) pending

@@ -20,6 +20,8 @@ returns-clause-made c =
     let tx = c.args.tx in
     let key = c.args.key.now in
     let pending : map record_in entries ≡ c.args.self.now.pending = ap (λ s. s.pending) c.self.view_is in
-    made c.len-count.result c.len.result (is_some c.in-Ok.field-0) (omega (arith, c.in-Ok.ensures.len, c.len.ensures.len, c.len-count.ensures.len))
-    ∙ ap not (ap is_some c.in-Ok.ensures.old ∙ lookup-position entries (same_id (id_of tx key)) ∙ ap is_some (position-ids entries tx key)
+    made c.len-count.result c.len.result (is_some c.in-Ok.field-0)
+    (omega (arith, c.in-Ok.ensures.len, c.len.ensures.len, c.len-count.ensures.len))
+    ∙ ap not (ap is_some c.in-Ok.ensures.old ∙ lookup-position entries (same_id (id_of tx key))
+    ∙ ap is_some (position-ids entries tx key)
     ∙ ap (λ p. is_some (record_at p tx key)) pending)
