@@ -1,10 +1,10 @@
 -- An index of places, after a key was put in or taken out.
-use Rattle.std.proofs.Common.{◌≡◌, ℕ, zero, suc, ◌+◌, ◌≤◌, Bool, true, false, cond, nat_eq, ◌&&◌, List, [], ◌∷◌, length, slice_set, refl, ap, sym, ◌∙◌, arith, subst}
+use Rattle.std.proofs.Common.{◌≡◌, ℕ, zero, suc, ◌+◌, Bool, true, false, cond, nat_eq, ◌&&◌, List, [], ◌∷◌, slice_set, refl, ap, sym, ◌∙◌, subst}
 use Rattle.std.specs.Prelude.{Option, None, Some}
 use Rattle.std.proofs.lemmas.Bool.{eqb-true}
 use Rattle.std.specs.Cmp.Lexicographic.{nat_list_eq_equiv}
 use Rattle.sig_core.specs.Same.{same_key}
-use Rattle.lqh_block.specs.Index.{IsDistinct, are_taken, count_of, first_free, is_key, seek, seek_by, with_key}
+use Rattle.lqh_block.specs.Index.{IsDistinct, count_of, first_free, is_key, seek, seek_by, with_key}
 
 -- keys that compare equal are equal
 pub same : (a b : List ℕ) → same_key a b ≡ true → a ≡ b
@@ -68,27 +68,6 @@ count-with_key [] key = refl
 count-with_key (None ∷ keys) key = refl
 count-with_key (Some other ∷ keys) key = ap (λ n. 1 + n) (count-with_key keys key)
 
-pub are_taken-with_key : (keys : List (Option (List ℕ))) (key : List ℕ) → are_taken (suc (first_free keys)) (with_key key keys) ≡ true
-are_taken-with_key [] key = refl
-are_taken-with_key (None ∷ keys) key = refl
-are_taken-with_key (Some other ∷ keys) key = are_taken-with_key keys key
-
-pub first_free_le : (keys : List (Option (List ℕ))) → first_free keys ≤ length keys
-first_free_le [] = omega arith
-first_free_le (None ∷ keys) = omega arith
-first_free_le (Some key ∷ keys) = omega (arith, first_free_le keys)
-
-pub count_le : (keys : List (Option (List ℕ))) → count_of keys ≤ length keys
-count_le [] = omega arith
-count_le (None ∷ keys) = omega (arith, count_le keys)
-count_le (Some key ∷ keys) = omega (arith, count_le keys)
-
-pub are_taken_le : (n : ℕ) (keys : List (Option (List ℕ))) → are_taken n keys ≡ true → n ≤ length keys
-are_taken_le zero keys all = omega arith
-are_taken_le (suc n) [] all = cc
-are_taken_le (suc n) (None ∷ keys) all = cc
-are_taken_le (suc n) (Some key ∷ keys) all = omega (arith, are_taken_le n keys all)
-
 -- where a key behind the first place is found
 pub record IsBehind (rest : Option ℕ) (at : ℕ) : Type 0 where
   pub place : ℕ
@@ -113,14 +92,6 @@ distinct-freed (None ∷ keys) zero is = is
 distinct-freed (Some key ∷ keys) zero is = is.1
 distinct-freed (None ∷ keys) (suc at) is = distinct-freed keys at is
 distinct-freed (Some key ∷ keys) (suc at) is = (seek-freed keys key at is.0, distinct-freed keys at is.1)
-
-pub are_taken-freed : (m n at : ℕ) (keys : List (Option (List ℕ))) → are_taken n keys ≡ true → m ≤ n → m ≤ at → are_taken m (slice_set keys at None) ≡ true
-are_taken-freed zero n at keys all within before = refl
-are_taken-freed (suc m) zero at keys all within before = absurd (omega arith)
-are_taken-freed (suc m) (suc n) at [] all within before = cc
-are_taken-freed (suc m) (suc n) at (None ∷ keys) all within before = cc
-are_taken-freed (suc m) (suc n) zero (Some key ∷ keys) all within before = absurd (omega arith)
-are_taken-freed (suc m) (suc n) (suc at) (Some key ∷ keys) all within before = are_taken-freed m n at keys all (omega arith) (omega arith)
 
 -- a key whose place is freed isn't there, and the others are where they were
 pub seek-gone : (keys : List (Option (List ℕ))) (key q : List ℕ) (at : ℕ) → seek keys key ≡ Some at → IsDistinct keys

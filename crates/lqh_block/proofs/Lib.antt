@@ -1,7 +1,11 @@
+pub mod CountLemmas
 pub mod DueLemmas
 pub mod DumpLemmas
 pub mod EachLqh
 pub mod EachWaiting
 pub mod EffectLemmas
+pub mod FreeLemmas
 pub mod IndexLemmas
 pub mod PlaceLemmas
+pub mod RecordLemmas
+pub mod RowLemmas

@@ -1,17 +1,22 @@
 -- Places and the index of their keys, after a key was put in or taken out.
-use Rattle.std.proofs.Common.{◌≡◌, ℕ, zero, suc, ◌+◌, ◌<◌, ◌≤◌, Bool, true, false, cond, nat_lt, not, nat_eq, List, [], ◌∷◌, ◌++◌, length, drop, slice_set, refl, ap, sym, ◌∙◌, arith, subst}
+use Rattle.std.proofs.Common.{◌≡◌, ℕ, zero, suc, ◌+◌, ◌<◌, ◌≤◌, Bool, true, false, cond, nat_lt, not, nat_eq, List, [], ◌∷◌, ◌++◌, length, slice_set, refl, ap, sym, ◌∙◌, arith, subst}
 use Prim.Native.Nat.compare
-use Rattle.std.specs.Prelude.{Option, None, Some, position}
+use Rattle.std.specs.Prelude.{Option, None, Some, is_some, position, slice_get, slice_index_or}
 use Rattle.std.specs.List.{position_or_len}
 use Rattle.std.specs.Cmp.Lexicographic.{pointwise}
 use Rattle.std.specs.HashMap.{HashMap, Updates, UpdatesBy, get, hash_map_len}
 use Rattle.std.proofs.lemmas.Bool.Decides.{nat_tests}
-use Rattle.std.proofs.lemmas.List.{length-map, map-set}
+use Rattle.std.proofs.lemmas.List.{length-map}
+use Rattle.std.proofs.lemmas.Option.{slice_get_read}
 use Rattle.sig_core.specs.declared.rows.Slot.{Slot}
-use Rattle.sig_core.specs.Rows.{is_at, no_row, place_of, placed, taken, with_row}
+use Rattle.sig_core.specs.Rows.{freed_by, freed_if, is_at, place_of, placed, row_in, taken, with_row}
 use Rattle.sig_core.specs.Same.{same_key}
-use Rattle.lqh_block.specs.Index.{IsIndexed, are_taken, count_of, first_free, is_free, key_in, keys_in, seek, seek_by, with_key}
-use Rattle.lqh_block.proofs.IndexLemmas.{are_taken-freed, are_taken-with_key, are_taken_le, count-gone, count-with_key, distinct-freed, distinct-with_key, first_free_le, found_behind, same, seek-gone, seek-with_key}
+use Rattle.lqh_block.specs.declared.key_entry.KeyEntry.{KeyEntry}
+use Rattle.lqh_block.specs.Index.{IsIndexed, count_of, first_free, key_in, keys_in, place_in, seek, seek_by, with_key}
+use Rattle.lqh_block.specs.Places.{records_in, rewritten}
+use Rattle.lqh_block.proofs.FreeLemmas.{seek_taken}
+use Rattle.lqh_block.proofs.IndexLemmas.{count-gone, count-with_key, distinct-freed, distinct-with_key, found_behind}
+use Rattle.lqh_block.proofs.IndexLemmas.{same, seek-gone, seek-with_key}
 
 lt-suc-suc : (m n : ℕ) → nat_lt (suc m) (suc n) ≡ nat_lt m n
 lt-suc-suc m n = rw compare.suc-suc
@@ -45,46 +50,11 @@ count_of-keys_in [] = refl
 count_of-keys_in (None ∷ places) = count_of-keys_in places
 count_of-keys_in (Some slot ∷ places) = ap (λ n. 1 + n) (count_of-keys_in places)
 
-keys_in-placed : (slot : Slot) (places : List (Option Slot)) → keys_in (placed slot places) ≡ with_key slot.key (keys_in places)
+pub keys_in-placed : (slot : Slot) (places : List (Option Slot))
+    → keys_in (placed slot places) ≡ with_key slot.key (keys_in places)
 keys_in-placed slot [] = refl
 keys_in-placed slot (None ∷ places) = refl
 keys_in-placed slot (Some other ∷ places) = ap (λ keys. Some other.key ∷ keys) (keys_in-placed slot places)
-
--- the least free place, behind some that are taken
-pub free_found : (n more : ℕ) (places : List (Option Slot)) → are_taken n (keys_in places) ≡ true → position is_free (drop n places) ≡ Some more
-    → n + more ≡ first_free (keys_in places)
-free_found zero more [] all is = cc
-free_found zero more (None ∷ places) all is =
-    let first : Some 0 ≡ Some more = sym (position-cons is_free None places) ∙ is in
-    let place : 0 ≡ more = cc in omega arith
-free_found zero more (Some slot ∷ places) all is =
-    let behind = found_behind (position is_free places) more (sym (position-cons is_free (Some slot) places) ∙ is) in
-    let further = free_found zero behind.place places refl behind.found in
-    omega (arith, behind.next, further)
-free_found (suc n) more [] all is = cc
-free_found (suc n) more (None ∷ places) all is = cc
-free_found (suc n) more (Some slot ∷ places) all is = let further = free_found n more places all is in omega (arith, further)
-
-pub none_free : (n : ℕ) (places : List (Option Slot)) → are_taken n (keys_in places) ≡ true → position is_free (drop n places) ≡ None
-    → length places ≡ first_free (keys_in places)
-none_free zero [] all is = refl
-none_free zero (None ∷ places) all is =
-    let first : ◌≡◌ {A = Option ℕ} (Some 0) None = sym (position-cons is_free None places) ∙ is in cc
-none_free zero (Some slot ∷ places) all is = by (position is_free places) refl (sym (position-cons is_free (Some slot) places) ∙ is) (none_free zero places refl)
-  where
-    by : (o : Option ℕ) → position is_free places ≡ o → seek_by false o ≡ None → (position is_free places ≡ None → length places ≡ first_free (keys_in places))
-        → suc (length places) ≡ suc (first_free (keys_in places))
-    by None e is further = ap suc (further e)
-    by (Some at) e is further = cc
-none_free (suc n) [] all is = cc
-none_free (suc n) (None ∷ places) all is = cc
-none_free (suc n) (Some slot ∷ places) all is = ap suc (none_free n places all is)
-
-pub taken_within : (n : ℕ) (places : List (Option Slot)) → are_taken n (keys_in places) ≡ true → n ≤ length places
-taken_within n places all = omega (arith, are_taken_le n (keys_in places) all, length-map places key_in)
-
-pub first_free_within : (places : List (Option Slot)) → first_free (keys_in places) ≤ length places
-first_free_within places = omega (arith, first_free_le (keys_in places), length-map places key_in)
 
 -- the least free place, as an index: a place among the others, or behind them
 pub placed-within : (slot : Slot) (places : List (Option Slot)) (at : ℕ) → at ≡ first_free (keys_in places) → at < length places
@@ -103,44 +73,101 @@ placed-behind slot (Some other ∷ places) zero e past = absurd (omega (arith, e
 placed-behind slot (Some other ∷ places) (suc at) e past =
     ap (λ rest. Some other ∷ rest) (placed-behind slot places at (omega (arith, e)) (omega (arith, past)))
 
-module _ {S : Type 0} (places : List (Option Slot)) (index : HashMap (List ℕ) ℕ S) (free : ℕ) (is : IsIndexed (keys_in places) index free) where
-  pub index_finds : (key : List ℕ) → get (pointwise nat_eq) index key ≡ place_of places key
+module _ {S : Type 0} (places : List (Option Slot)) (index : HashMap (List ℕ) KeyEntry S)
+    (is : IsIndexed (keys_in places) index) where
+  pub index_finds : (key : List ℕ) → place_in (get (pointwise nat_eq) index key) ≡ place_of places key
   index_finds key = is.found key ∙ sym (place_of-keys_in places key)
 
   pub index_counts : hash_map_len index ≡ taken places
   index_counts = is.counted ∙ count_of-keys_in places
 
+  -- the index has an entry for a key with a place, and none for another
+  pub entry_there : (key : List ℕ) (entry : KeyEntry) → get (pointwise nat_eq) index key ≡ Some entry
+      → place_of places key ≡ Some entry.place
+  entry_there key entry there = sym (index_finds key) ∙ ap place_in there
+
+  pub entry_absent : (key : List ℕ) → place_of places key ≡ None → get (pointwise nat_eq) index key ≡ None
+  entry_absent key absent = by (get (pointwise nat_eq) index key) (index_finds key ∙ absent)
+    where
+      by : (o : Option KeyEntry) → place_in o ≡ None → o ≡ None
+      by None e = refl
+      by (Some entry) e = cc
+
+  pub absent_place : (key : List ℕ) → get (pointwise nat_eq) index key ≡ None → place_of places key ≡ None
+  absent_place key absent = sym (index_finds key) ∙ ap place_in absent
+
+  pub entry_some : (key : List ℕ) (at : ℕ) → place_of places key ≡ Some at
+      → is_some (get (pointwise nat_eq) index key) ≡ true
+  entry_some key at there = by (get (pointwise nat_eq) index key) (index_finds key ∙ there)
+    where
+      by : (o : Option KeyEntry) → place_in o ≡ Some at → is_some o ≡ true
+      by None e = cc
+      by (Some entry) e = refl
+
+  pub placed_keys : (q : List ℕ) → 0 < records_in (get (pointwise nat_eq) index q) → is_some (place_of places q) ≡ true
+  placed_keys q some = ap is_some (sym (index_finds q)) ∙ by (get (pointwise nat_eq) index q) some
+    where
+      by : (o : Option KeyEntry) → 0 < records_in o → is_some (place_in o) ≡ true
+      by None some = absurd (omega (arith, some))
+      by (Some entry) some = refl
+
   -- a key that had no place has the least free one
-  pub still_indexed : (key : List ℕ) (after : HashMap (List ℕ) ℕ S) (at : ℕ) → place_of places key ≡ None → at ≡ first_free (keys_in places)
-      → Updates (pointwise nat_eq) index after key (Some at) → hash_map_len after ≡ hash_map_len index + 1
-      → IsIndexed (keys_in (placed (no_row key) places)) after (at + 1)
-  still_indexed key after at new least updates longer =
+  pub still_indexed : (key : List ℕ) (after : HashMap (List ℕ) KeyEntry S) (entry : KeyEntry)
+      → place_of places key ≡ None
+      → entry.place ≡ first_free (keys_in places) → Updates (pointwise nat_eq) index after key (Some entry)
+      → hash_map_len after ≡ hash_map_len index + 1
+      → IsIndexed (with_key key (keys_in places)) after
+  still_indexed key after entry new least updates longer =
       let absent : seek (keys_in places) key ≡ None = sym (place_of-keys_in places key) ∙ new in
-      let P : List (Option (List ℕ)) → Type 0 = λ keys. IsIndexed keys after (at + 1) in
-      subst P (sym (keys_in-placed (no_row key) places))
-      (record {
-        found = λ q. updates.0 q ∙ ap (λ n. cond (same_key key q) (Some n) (get (pointwise nat_eq) index q)) least
-            ∙ ap (cond (same_key key q) (Some (first_free (keys_in places)))) (is.found q) ∙ sym (seek-with_key (keys_in places) key q absent);
+      record {
+        found = λ q. ap place_in (updates.0 q) ∙ by q (same_key key q)
+            ∙ ap (cond (same_key key q) (Some (first_free (keys_in places)))) (is.found q)
+            ∙ sym (seek-with_key (keys_in places) key q absent);
         distinct = distinct-with_key (keys_in places) key absent is.distinct;
         counted = omega (arith, is.counted, longer, count-with_key (keys_in places) key);
-        full_below = let same_place : at + 1 ≡ suc (first_free (keys_in places)) = omega (arith, least) in
-            ap (λ n. are_taken n (with_key key (keys_in places))) same_place ∙ are_taken-with_key (keys_in places) key;
-      })
+      }
+    where
+      by : (q : List ℕ) (b : Bool) → place_in (cond b (Some entry) (get (pointwise nat_eq) index q))
+          ≡ cond b (Some (first_free (keys_in places))) (place_in (get (pointwise nat_eq) index q))
+      by q true = ap (λ n. Some n) least
+      by q false = refl
+
+  -- the number of records on a key changes
+  pub recounted : (key : List ℕ) (after : HashMap (List ℕ) KeyEntry S) (before entry : KeyEntry)
+      → get (pointwise nat_eq) index key ≡ Some before
+      → entry.place ≡ before.place → Updates (pointwise nat_eq) index after key (Some entry)
+      → hash_map_len after ≡ hash_map_len index
+      → IsIndexed (keys_in places) after
+  recounted key after before entry there same_place updates same_len =
+      record {
+        found = λ q. ap place_in (updates.0 q) ∙ by q (same_key key q) refl ∙ is.found q;
+        distinct = is.distinct;
+        counted = omega (arith, is.counted, same_len);
+      }
+    where
+      by : (q : List ℕ) (b : Bool) → same_key key q ≡ b
+          → place_in (cond b (Some entry) (get (pointwise nat_eq) index q)) ≡ place_in (get (pointwise nat_eq) index q)
+      by q true e = ap (λ n. Some n) same_place ∙ ap place_in (sym there)
+          ∙ ap (λ k. place_in (get (pointwise nat_eq) index k)) (same key q e)
+      by q false e = refl
 
   -- a place is freed
-  pub freed_indexed : (key : List ℕ) (after : HashMap (List ℕ) ℕ S) (at lower : ℕ) → place_of places key ≡ Some at → lower ≤ free → lower ≤ at
+  pub freed_indexed : (key : List ℕ) (after : HashMap (List ℕ) KeyEntry S) (at : ℕ) → place_of places key ≡ Some at
       → UpdatesBy (pointwise nat_eq) (pointwise nat_eq key) index after None → hash_map_len after + 1 ≡ hash_map_len index
-      → IsIndexed (keys_in (slice_set places at None)) after lower
-  freed_indexed key after at lower there below before updates shorter =
+      → IsIndexed (slice_set (keys_in places) at None) after
+  freed_indexed key after at there updates shorter =
       let present : seek (keys_in places) key ≡ Some at = sym (place_of-keys_in places key) ∙ there in
-      let P : List (Option (List ℕ)) → Type 0 = λ keys. IsIndexed keys after lower in
-      subst P (sym (map-set key_in places at None))
-      (record {
-        found = λ q. updates.0 q ∙ ap (cond (same_key key q) None) (is.found q) ∙ sym (seek-gone (keys_in places) key q at present is.distinct);
+      record {
+        found = λ q. ap place_in (updates.0 q) ∙ by q (same_key key q) ∙ ap (cond (same_key key q) None) (is.found q)
+            ∙ sym (seek-gone (keys_in places) key q at present is.distinct);
         distinct = distinct-freed (keys_in places) at is.distinct;
         counted = omega (arith, is.counted, shorter, count-gone (keys_in places) key at present);
-        full_below = are_taken-freed lower free at (keys_in places) is.full_below below before;
-      })
+      }
+    where
+      by : (q : List ℕ) (b : Bool) → place_in (cond b None (get (pointwise nat_eq) index q))
+          ≡ cond b None (place_in (get (pointwise nat_eq) index q))
+      by q true = refl
+      by q false = refl
 
 -- a place whose row changes keeps its key
 keys_in-set : (places : List (Option Slot)) (key : List ℕ) (row : Option (List ℕ)) (at : ℕ) → seek (keys_in places) key ≡ Some at
@@ -165,15 +192,114 @@ keys_in-set (Some slot ∷ places) key row at there = here (same_key slot.key ke
         let behind = found_behind (seek (keys_in places) key) at there in
         subst P (sym behind.next) (ap (λ keys. Some slot.key ∷ keys) (further behind.place behind.found))
 
-pub row_indexed : {S : Type 0} (places : List (Option Slot)) (index : HashMap (List ℕ) ℕ S) (free : ℕ) (key : List ℕ) (row : Option (List ℕ)) (at : ℕ)
-    → place_of places key ≡ Some at → IsIndexed (keys_in places) index free
-    → IsIndexed (keys_in (slice_set places at (Some (with_row key row)))) index free
-row_indexed places index free key row at there is =
-    let P : List (Option (List ℕ)) → Type 0 = λ keys. IsIndexed keys index free in
-    subst P (sym (keys_in-set places key row at (sym (place_of-keys_in places key) ∙ there))) is
+pub place_within : (places : List (Option Slot)) (key : List ℕ) (at : ℕ) → place_of places key ≡ Some at
+    → at < length places
+place_within places key at there =
+    omega (
+      arith,
+      (seek_taken (keys_in places) key at (sym (place_of-keys_in places key) ∙ there)).within,
+      length-map
+          places key_in,
+    )
 
-pub ruleset frees = (free_found, none_free)
+-- the place of a key is taken by it
+pub rewritten-at : (places : List (Option Slot)) (key : List ℕ) (row : Option (List ℕ)) (at : ℕ) (slot : Option Slot)
+    → place_of places key ≡ Some at
+    → slice_get places at ≡ Some slot → rewritten slot row ≡ Some (with_row key row)
+rewritten-at places key row at slot there is =
+    here places at slot (sym (place_of-keys_in places key) ∙ there) is
+  where
+    taken_by : (s : Slot) → same_key s.key key ≡ true → rewritten (Some s) row ≡ Some (with_row key row)
+    taken_by s e = ap (λ k. Some (with_row k row)) (same s.key key e)
 
-pub ruleset puts = (placed-within, placed-behind, first_free_within)
+    here : (ps : List (Option Slot)) (n : ℕ) (one : Option Slot) → seek (keys_in ps) key ≡ Some n
+        → slice_get ps n ≡ Some one → rewritten one row ≡ Some (with_row key row)
+    here [] n one there is = cc
+    here (None ∷ ps) n one there is =
+        let behind = found_behind (seek (keys_in ps) key) n there in
+        here ps behind.place one behind.found (sym (ap (slice_get (None ∷ ps)) behind.next) ∙ is)
+    here (Some s ∷ ps) n one there is = by (same_key s.key key) refl there is (here ps)
+      where
+        by : (b : Bool) → same_key s.key key ≡ b → seek_by b (seek (keys_in ps) key) ≡ Some n
+            → slice_get (Some s ∷ ps) n ≡ Some one
+            → ((m : ℕ) (other : Option Slot) → seek (keys_in ps) key ≡ Some m → slice_get ps m ≡ Some other
+            → rewritten other row ≡ Some (with_row key row))
+            → rewritten one row ≡ Some (with_row key row)
+        by true e there is further =
+            let place : 0 ≡ n = cc in
+            let first : Some (Some s) ≡ Some one = ap (slice_get (Some s ∷ ps)) place ∙ is in
+            let item : Some s ≡ one = cc in
+            ap (λ o. rewritten o row) (sym item) ∙ taken_by s e
+        by false e there is further =
+            let behind = found_behind (seek (keys_in ps) key) n there in
+            further behind.place one behind.found (sym (ap (slice_get (Some s ∷ ps)) behind.next) ∙ is)
+
+pub row_written : (places : List (Option Slot)) (key : List ℕ) (row : Option (List ℕ)) (at : ℕ)
+    (slot after : Option Slot) → place_of places key ≡ Some at
+    → slot ≡ slice_index_or places at slot → after ≡ rewritten slot row → after ≡ Some (with_row key row)
+row_written places key row at slot after there is e =
+    e ∙ rewritten-at places key row at slot there (slice_get_read places (length places) at slot refl
+    (place_within places key at there) is)
+
+pub row_kept : (places : List (Option Slot)) (key : List ℕ) (row : Option (List ℕ)) (at : ℕ)
+    → place_of places key ≡ Some at
+    → keys_in (slice_set places at (Some (with_row key row))) ≡ keys_in places
+row_kept places key row at there = keys_in-set places key row at (sym (place_of-keys_in places key) ∙ there)
+
+-- how many records are on each key, where an entry of the index is made or changes
+module _ {S : Type 0} (index after : HashMap (List ℕ) KeyEntry S) (key : List ℕ) (entry : KeyEntry)
+    (updates : Updates (pointwise nat_eq) index after key (Some entry)) where
+  pub added_records : get (pointwise nat_eq) index key ≡ None → (q : List ℕ)
+      → records_in (get (pointwise nat_eq) after q) ≡ records_in (get (pointwise nat_eq) index q) + cond
+      (same_key key q) entry.records 0
+  added_records new q = ap records_in (updates.0 q) ∙ by (same_key key q) refl
+    where
+      by : (b : Bool) → same_key key q ≡ b
+          → records_in (cond b (Some entry) (get (pointwise nat_eq) index q))
+          ≡ records_in (get (pointwise nat_eq) index q) + cond b entry.records 0
+      by true e =
+          let none : records_in (get (pointwise nat_eq) index q) ≡ 0 =
+          ap (λ k. records_in (get (pointwise nat_eq) index k)) (sym (same key q e)) ∙ ap records_in new in
+          omega (arith, none)
+      by false e = omega arith
+
+  pub more_records : (before : KeyEntry) → get (pointwise nat_eq) index key ≡ Some before
+      → entry.records ≡ before.records + 1 → (q : List ℕ)
+      → records_in (get (pointwise nat_eq) after q) ≡ records_in (get (pointwise nat_eq) index q) + cond
+      (same_key key q) 1 0
+  more_records before there more q = ap records_in (updates.0 q) ∙ by (same_key key q) refl
+    where
+      by : (b : Bool) → same_key key q ≡ b
+          → records_in (cond b (Some entry) (get (pointwise nat_eq) index q))
+          ≡ records_in (get (pointwise nat_eq) index q) + cond b 1 0
+      by true e =
+          let had : records_in (get (pointwise nat_eq) index q) ≡ before.records =
+          ap (λ k. records_in (get (pointwise nat_eq) index k)) (sym (same key q e)) ∙ ap records_in there in
+          omega (arith, had, more)
+      by false e = omega arith
+
+  pub fewer_records : (before : KeyEntry) → get (pointwise nat_eq) index key ≡ Some before
+      → entry.records + 1 ≡ before.records → (q : List ℕ)
+      → records_in (get (pointwise nat_eq) after q) + cond (same_key key q) 1 0
+      ≡ records_in (get (pointwise nat_eq) index q)
+  fewer_records before there fewer q = ap (λ o. records_in o + cond (same_key key q) 1 0) (updates.0 q)
+      ∙ by (same_key key q) refl
+    where
+      by : (b : Bool) → same_key key q ≡ b
+          → records_in (cond b (Some entry) (get (pointwise nat_eq) index q)) + cond b 1 0
+          ≡ records_in (get (pointwise nat_eq) index q)
+      by true e =
+          let had : records_in (get (pointwise nat_eq) index q) ≡ before.records =
+          ap (λ k. records_in (get (pointwise nat_eq) index k)) (sym (same key q e)) ∙ ap records_in there in
+          omega (arith, had, fewer)
+      by false e = omega arith
+
+-- a place with a record on its key isn't freed
+pub freed_busy : (places : List (Option Slot)) (at : ℕ) → freed_by places false (Some at) ≡ places
+freed_busy places at = by (row_in (slice_index_or places at None))
+  where
+    by : (row : Option (List ℕ)) → freed_if places at row false ≡ places
+    by None = refl
+    by (Some row) = refl
 
 pub ruleset places = (index_finds, index_counts)

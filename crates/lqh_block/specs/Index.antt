@@ -1,9 +1,10 @@
 -- An index of places: where each key is, and how the places are counted.
-use Rattle.std.specs.Prelude.{⊤, ◌≡◌, ℕ, zero, suc, ◌+◌, Bool, true, false, nat_eq, map, List, [], ◌∷◌, Option, None, Some}
+use Rattle.std.specs.Prelude.{⊤, ◌≡◌, ℕ, suc, ◌+◌, Bool, true, false, nat_eq, map, List, [], ◌∷◌, Option, None, Some}
 use Rattle.std.specs.Cmp.Lexicographic.{pointwise}
 use Rattle.std.specs.HashMap.{HashMap, get, hash_map_len}
 use Rattle.sig_core.specs.declared.rows.Slot.{Slot}
 use Rattle.sig_core.specs.Same.{same_key}
+use Rattle.lqh_block.specs.declared.key_entry.KeyEntry.{KeyEntry}
 
 -- the key of a place, if it is taken
 abbrev pub key_in : Option Slot → Option (List ℕ)
@@ -39,11 +40,6 @@ count_of [] = 0
 count_of (None ∷ keys) = count_of keys
 count_of (Some key ∷ keys) = 1 + count_of keys
 
--- the place is free
-abbrev pub is_free : Option Slot → Bool
-is_free None = true
-is_free (Some slot) = false
-
 -- the least free place
 abbrev pub first_free : List (Option (List ℕ)) → ℕ
 first_free [] = 0
@@ -56,16 +52,13 @@ with_key key [] = Some key ∷ []
 with_key key (None ∷ keys) = Some key ∷ keys
 with_key key (Some other ∷ keys) = Some other ∷ with_key key keys
 
--- so many places, from the first on, are taken
-abbrev pub are_taken : ℕ → List (Option (List ℕ)) → Bool
-are_taken zero keys = true
-are_taken (suc n) [] = false
-are_taken (suc n) (None ∷ keys) = false
-are_taken (suc n) (Some key ∷ keys) = are_taken n keys
+-- the place that the index has for a key
+abbrev pub place_in : Option KeyEntry → Option ℕ
+place_in None = None
+place_in (Some entry) = Some entry.place
 
--- the index has each key's place and no other keys, no key has two places, and no place below this one is free
-pub record IsIndexed {S : Type 0} (keys : List (Option (List ℕ))) (index : HashMap (List ℕ) ℕ S) (free : ℕ) : Type 0 where
-  pub found : (q : List ℕ) → get (pointwise nat_eq) index q ≡ seek keys q
+-- the index has each key's place and no other keys, and no key has two places
+pub record IsIndexed {S : Type 0} (keys : List (Option (List ℕ))) (index : HashMap (List ℕ) KeyEntry S) : Type 0 where
+  pub found : (q : List ℕ) → place_in (get (pointwise nat_eq) index q) ≡ seek keys q
   pub distinct : IsDistinct keys
   pub counted : hash_map_len index ≡ count_of keys
-  pub full_below : are_taken free keys ≡ true

@@ -1,28 +1,21 @@
 -- What rows in memory are seen as.
-use Rattle.std.specs.Prelude.{ℕ, ◌&&◌, Bool, nat_lt, List, length, Option}
-use Rattle.std.specs.Global.{Vec}
-use Rattle.std.specs.HashMap.{HashMap, spare}
-use Rattle.std.specs.Vec.{vec_capacity}
-use Rattle.sig_core.specs.declared.rows.PendingRecord.{PendingRecord}
-use Rattle.sig_core.specs.declared.rows.Slot.{Slot}
-use Rattle.sig_core.specs.Rows.{RowsState}
+use Rattle.std.specs.Prelude.{◌≡◌, ℕ, ◌&&◌, Bool, List}
+use Rattle.std.specs.List.{count_by}
+use Rattle.sig_core.specs.Rows.{RowsState, is_on}
+use Rattle.lqh_block.specs.Places.{PlacesState, records_on}
+use Rattle.lqh_block.specs.Records.{RecordsState}
 
--- places, and whether there is memory for one more that is taken
-pub record PlacesState : Type 0 where
-  pub slots : List (Option Slot)
-  pub roomy : Bool
-
--- there is room for one more place, and for its key
-abbrev pub has_spare : {S : Type 0} → Vec (Option Slot) → HashMap (List ℕ) ℕ S → Bool
-has_spare slots index = nat_lt (length slots.items) (vec_capacity slots) && nat_lt 0 (spare index)
+-- the index has the number of records on each key
+abbrev pub IsCounted : PlacesState → RecordsState → Type 0
+IsCounted places records = (q : List ℕ) → records_on places.index q ≡ count_by (is_on q) records.pending
 
 -- rows, and whether there is memory to prepare one more write
 pub record MapState : Type 0 where
   pub rows : RowsState
   pub roomy : Bool
 
-abbrev pub map_state : PlacesState → Vec PendingRecord → MapState
-map_state places pending = record {
-  rows = record { places = places.slots; pending = pending.items };
-  roomy = places.roomy && nat_lt (length pending.items) (vec_capacity pending);
+abbrev pub map_state : PlacesState → RecordsState → MapState
+map_state places records = record {
+  rows = record { places = places.slots; pending = records.pending };
+  roomy = places.roomy && records.roomy;
 }

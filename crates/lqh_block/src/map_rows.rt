@@ -1,32 +1,38 @@
 //! Rows in memory.
-ghost use Rattle.std.specs.Prelude.{◌≡◌, ◌<◌, IsOk, OnOk, true, Option, position};
-ghost use Rattle.std.specs.List.{list_any};
-ghost use Rattle.sig_core.specs.Rows.{drop_by, has_row, is_idle, is_of, is_on, no_rows, record_at, record_of};
+ghost use Rattle.std.specs.Prelude.{◌≡◌, ◌<◌, ◌&&◌, IsOk, OnOk, IfSome, MatchOption, None, Some, option_map, slice_get, true, Option, position};
+ghost use Rattle.sig_core.specs.Rows.{drop_by, has_row, no_rows, prepared, record_at, record_of, recorded_by, with_place};
+ghost use Rattle.lqh_block.specs.MapRows.{IsCounted};
+ghost use Rattle.lqh_block.specs.Places.{IsPlaced};
+ghost use Rattle.lqh_block.specs.Records.{record_by};
 
 use crate::places::{Places, has_row};
-use crate::work::{same_key, same_tx};
-use sig_core::{Answer, Key, NoMemory, Op, PendingRecord, Rows, RowsFault, Slot, TxId, Value};
+use crate::record_id::Version;
+use crate::records::Records;
+use sig_core::{Answer, Key, NoMemory, Op, Rows, RowsFault, Slot, TxId, Value};
 use std::alloc::Global;
 use std::marker::Model;
 
 /// The most places that rows and the keys of records take.
 pub const PLACES: usize = 131_072;
 
-/// Rows in memory. A look-up of a key takes a time that doesn't depend on the number of rows; one
-/// of a record takes a time that is linear in the number of records.
+/// Rows in memory. A look-up, of a key or of a record, takes a time that doesn't depend on the numbers of
+/// rows and of records, and so does all else but this: a place is taken or freed in a time that is
+/// logarithmic in the number of free ones, dropping a record moves those that are younger, and the next
+/// place that has a row is found by passing over those that have none.
 #[derive(Drop)]
 pub struct MapRows {
     places: Places,
-    /// The records, the oldest first.
-    pending: Vec<PendingRecord>,
+    records: Records,
 }
 
 impl Model for MapRows {
-    ghost use Rattle.lqh_block.specs.MapRows.{MapState, map_state};
+    ghost use Rattle.lqh_block.specs.MapRows.{IsCounted, MapState, map_state};
 
     ghost Value = { MapState };
 
-    ghost view = { λ m. map_state m.places m.pending };
+    ghost view = { λ m. map_state m.places m.records };
+
+    ghost invariant = { λ m. IsCounted m.places m.records };
 }
 
 impl MapRows {
@@ -36,53 +42,29 @@ impl MapRows {
     {
         MapRows {
             places: Places::new(alloc),
-            pending: Vec::new(alloc),
+            records: Records::new(alloc),
         }
     }
 
-    // Makes the memory for one more write.
-    fn reserve(&mut self) -> Result<(), NoMemory>
-        ensures ok { OnOk result (self.new.roomy ≡ true) }
-        ensures same { self.new.rows ≡ self.old.rows }
-        ensures succeeds { self.old.roomy ≡ true → IsOk result }
-    {
-        self.places.reserve()?;
-        self.pending.reserve(1)?;
-        Ok(())
-    }
-
-    // Where the transaction's record on the key stands, if there is one.
-    fn record_at(&self, tx: TxId, key: &Key) -> Option<usize>
-        ensures { result ≡ record_at self.now.rows.pending tx key.now }
-    {
-        self.pending.iter().position(|r| is_of(tx, key, r))
-    }
-
-    // That record.
+    // What the transaction makes of the row of the key, if it has a record on it.
     #[tactic(auto, unfolding(sig_core::specs::Rows::record_of))]
-    fn record_of(&self, tx: TxId, key: &Key) -> Option<PendingRecord>
-        ensures { result ≡ record_of self.now.rows tx key.now }
+    fn version(&self, tx: TxId, key: &Key) -> Option<&Version>
+        ensures { MatchOption result (record_of self.now.rows tx key.now ≡ None) (λ version. record_of self.now.rows tx key.now ≡ Some (record_by tx key.now version.now)) }
     {
-        match self.record_at(tx, key) {
-            Some(at) => self.pending.get(at).copied(),
-            None => None,
-        }
+        let (_, version) = self.records.find(tx, key)?;
+        Some(version)
     }
 
     // Drops the transaction's record on the key, if it is committed or not as is asked.
     fn drop_record(&mut self, tx: TxId, key: &Key, committed: bool)
         ensures { self.new.rows ≡ drop_by self.old.rows committed (record_at self.old.rows.pending tx key.now) (record_of self.old.rows tx key.now) }
     {
-        let Some(at) = self.record_at(tx, key) else {
+        let Some((at, version)) = self.records.find(tx, key) else {
             return;
         };
-        let Some(record) = self.record_of(tx, key) else {
-            return;
-        };
-        if record.committed == committed {
-            self.pending.remove(at);
-            let idle = is_idle(self.pending.as_slice(), &record.key);
-            self.places.free_idle(&record.key, idle);
+        if version.committed == committed {
+            self.records.remove(at);
+            self.places.let_go(key);
         }
     }
 }
@@ -95,21 +77,21 @@ impl Rows for MapRows {
     ghost has_room = { λ m key. m.roomy ≡ true };
 
     fn make_room(&mut self, _key: &Key) -> Result<(), NoMemory> {
-        self.reserve()
+        reserve(&mut self.places, &mut self.records)
     }
 
     #[tactic(auto, unfolding(sig_core::specs::Rows::seen))]
     fn seen(&self, tx: TxId, key: &Key) -> Option<Value> {
-        match self.record_of(tx, key) {
-            Some(record) => record.image,
+        match self.version(tx, key) {
+            Some(version) => version.image,
             None => self.row(key).copied(),
         }
     }
 
     #[tactic(auto, unfolding(sig_core::specs::Rows::record_state))]
     fn record_state(&self, tx: TxId, key: &Key) -> Option<bool> {
-        match self.record_of(tx, key) {
-            Some(record) => Some(record.committed),
+        match self.version(tx, key) {
+            Some(version) => Some(version.committed),
             None => None,
         }
     }
@@ -135,25 +117,15 @@ impl Rows for MapRows {
         key: &Key,
         image: &Option<Value>,
     ) -> Result<(), RowsFault> {
-        if self.places.place_of(key).is_none() && self.places.taken() >= PLACES {
+        if self.places.taken() >= PLACES && self.places.place_of(key).is_none() {
             return Err(RowsFault::Full {
                 rows: self.places.taken() as u64,
             });
         }
-        if let Err(NoMemory) = self.reserve() {
+        if let Err(NoMemory) = reserve(&mut self.places, &mut self.records) {
             return Err(RowsFault::NoMemory);
         }
-        self.places.claim(key);
-        let record = PendingRecord {
-            tx,
-            key: *key,
-            image: *image,
-            committed: false,
-        };
-        match self.record_at(tx, key) {
-            Some(at) => self.pending[at] = record,
-            None => self.pending.push_reserved(record),
-        }
+        store(&mut self.places, &mut self.records, tx, key, image);
         Ok(())
     }
 
@@ -166,20 +138,12 @@ impl Rows for MapRows {
 
     #[tactic(auto, unfolding(sig_core::specs::Rows::commit_record))]
     fn commit(&mut self, tx: TxId, key: &Key, _epoch: u64) {
-        let Some(at) = self.record_at(tx, key) else {
+        let Some((at, version)) = self.records.find(tx, key) else {
             return;
         };
-        let Some(record) = self.record_of(tx, key) else {
-            return;
-        };
-        if !record.committed {
-            self.places.set_row(&record.key, &record.image);
-            self.pending[at] = PendingRecord {
-                tx: record.tx,
-                key: record.key,
-                image: record.image,
-                committed: true,
-            };
+        if !version.committed {
+            self.places.set_row(key, &version.image);
+            self.records.commit(at);
         }
     }
 
@@ -237,28 +201,30 @@ fn first_row(slots: &[Option<Slot>]) -> Option<usize>
     slots.iter().position(has_row)
 }
 
-// Whether the record is the transaction's on this key.
-fn is_of(tx: TxId, key: &Key, part: &PendingRecord) -> bool
-    ensures { result ≡ is_of tx key.now part.now }
+// Makes the memory for one more write.
+fn reserve(places: &mut Places, records: &mut Records) -> Result<(), NoMemory>
+    ensures ok { OnOk result ((places.new.roomy && records.new.roomy) ≡ true) }
+    ensures slots { places.new.slots ≡ places.old.slots }
+    ensures index { places.new.index ≡ places.old.index }
+    ensures pending { records.new.pending ≡ records.old.pending }
+    ensures placed { IsPlaced places.new }
+    ensures succeeds { (places.old.roomy && records.old.roomy) ≡ true → IsOk result }
 {
-    same_tx(part.tx, tx) && same_key(&part.key, key)
+    places.reserve()?;
+    records.reserve()?;
+    Ok(())
 }
 
-// Whether no record is on the key.
-fn is_idle(pending: &[PendingRecord], key: &Key) -> bool
-    ensures { result ≡ is_idle pending.now key.now }
+// The transaction has prepared this image of the row.
+fn store(places: &mut Places, records: &mut Records, tx: TxId, key: &Key, image: &Option<Value>)
+    requires room { (places.old.roomy && records.old.roomy) ≡ true }
+    requires placed { IsPlaced places.old }
+    requires counted { IsCounted places.old records.old }
+    ensures slots { places.new.slots ≡ with_place places.old.slots key.now }
+    ensures pending { records.new.pending ≡ recorded_by records.old.pending (prepared tx key.now image.now) (record_at records.old.pending tx key.now) }
+    ensures counted { IsCounted places.new records.new }
 {
-    !is_any_on(pending, key)
-}
-
-fn is_any_on(pending: &[PendingRecord], key: &Key) -> bool
-    ensures { result ≡ list_any (is_on key.now) pending.now }
-{
-    pending.iter().any(|part| is_on(key, part))
-}
-
-fn is_on(key: &Key, part: &PendingRecord) -> bool
-    ensures { result ≡ is_on key.now part.now }
-{
-    same_key(&part.key, key)
+    if records.put(tx, key, image) {
+        places.hold(key);
+    }
 }

@@ -1,34 +1,43 @@
 //! Places, and an index of the keys that they are taken by.
-ghost use Rattle.std.specs.Prelude.{◌≡◌, ◌<◌, IsOk, OnOk, [], length, None, Some, true, slice_set, position, ◌≤◌, ◌+◌};
+ghost use Rattle.std.specs.Prelude.{◌≡◌, ◌<◌, IsOk, List, OnOk, [], cond, is_some, length, nat_eq, ℕ, None, Some, true, slice_set, ◌+◌, ◌^◌};
 ghost use Rattle.std.specs.Vec.{vec_capacity};
+ghost use Rattle.std.specs.BinaryHeap.{heap_capacity};
 ghost use Rattle.sig_core.specs.Rows.{freed_by, has_row, no_row, place_of, placed, set_row, with_place};
-ghost use Rattle.lqh_block.specs.Index.{are_taken, first_free, is_free, keys_in};
+ghost use Rattle.sig_core.specs.Same.{same_key};
+ghost use Rattle.lqh_block.specs.Free.{HoldsFree, free_at};
+ghost use Rattle.lqh_block.specs.Index.{first_free, keys_in};
+ghost use Rattle.lqh_block.specs.Places.{IsPlaced, records_on, rewritten};
 
+use crate::key_entry::KeyEntry;
 use indexmap::IndexMap;
 use sig_core::{Key, NoMemory, Slot, Value};
 use std::alloc::Global;
+use std::cmp::Reverse;
+use std::collections::BinaryHeap;
 use std::marker::Model;
 
-/// Places, each free or taken by one key, and an index of the keys. A look-up takes a time that
-/// doesn't depend on their number. Contracts see a list, and whether there is memory for one more.
+/// Places, each free or taken by one key, an index of the keys, and a heap of the free places. A look-up
+/// takes a time that doesn't depend on their number, and taking or freeing a place one that is
+/// logarithmic in the number of free ones. Contracts see a list, the index, and whether there is memory
+/// for one more.
 #[derive(Drop)]
 pub struct Places {
     slots: Vec<Option<Slot>>,
-    /// The place of each key that has one.
-    index: IndexMap<Key, usize>,
-    /// No place below this one is free.
-    free: usize,
+    /// The place of each key that has one, and the number of records on it.
+    index: IndexMap<Key, KeyEntry>,
+    /// The free places, the least on top. There is room for as many as there are places.
+    free: BinaryHeap<Reverse<usize>>,
 }
 
 impl Model for Places {
-    ghost use Rattle.lqh_block.specs.Index.{IsIndexed, keys_in};
-    ghost use Rattle.lqh_block.specs.MapRows.{PlacesState, has_spare};
+    ghost use Rattle.lqh_block.specs.Index.{keys_in};
+    ghost use Rattle.lqh_block.specs.Places.{ArePlaces, PlacesState, places_state};
 
     ghost Value = { PlacesState };
 
-    ghost view = { λ p. record { slots = p.slots.items; roomy = has_spare p.slots p.index } };
+    ghost view = { λ p. places_state p.slots p.index p.free };
 
-    ghost invariant = { λ p. IsIndexed (keys_in p.slots.items) p.index p.free };
+    ghost invariant = { λ p. ArePlaces (keys_in p.slots.items) p.index p.free };
 }
 
 impl Places {
@@ -36,12 +45,13 @@ impl Places {
 
     /// No places. Takes no memory.
     pub fn new(alloc: Global) -> Places
-        ensures { result.slots ≡ [] }
+        ensures slots { result.slots ≡ [] }
+        ensures index { result.index ≡ [] }
     {
         Places {
             slots: Vec::new(alloc),
             index: IndexMap::new(alloc),
-            free: 0,
+            free: BinaryHeap::new(alloc),
         }
     }
 
@@ -65,7 +75,10 @@ impl Places {
     pub fn place_of(&self, key: &Key) -> Option<usize>
         ensures { result ≡ place_of self.now.slots key.now }
     {
-        self.index.get(key).copied()
+        match self.index.get(key) {
+            Some(entry) => Some(entry.place),
+            None => None,
+        }
     }
 
     /// Makes the memory for one more that is taken.
@@ -75,75 +88,121 @@ impl Places {
     pub fn reserve(&mut self) -> Result<(), NoMemory>
         ensures ok { OnOk result (self.new.roomy ≡ true) }
         ensures same { self.new.slots ≡ self.old.slots }
+        ensures index { self.new.index ≡ self.old.index }
+        ensures placed { IsPlaced self.new }
         ensures succeeds { self.old.roomy ≡ true → IsOk result }
     {
         self.slots.reserve(1)?;
         self.index.reserve(1)?;
+        self.free.reserve(self.index.len() + 1)?;
         Ok(())
     }
 
     /// Gives the key the least free place, unless it has one. Takes no memory.
     pub fn claim(&mut self, key: &Key)
         requires { self.old.roomy ≡ true }
-        ensures { self.new.slots ≡ with_place self.old.slots key.now }
+        ensures slots { self.new.slots ≡ with_place self.old.slots key.now }
+        ensures records { (q : List ℕ) → records_on self.new.index q ≡ records_on self.old.index q }
     {
         if self.place_of(key).is_none() {
-            self.add(key);
+            self.add(key, 0);
         }
     }
 
-    // Gives a key that has none the least free place.
+    /// Gives the key the least free place, unless it has one, and counts one more record on it. Takes no
+    /// memory.
+    pub fn hold(&mut self, key: &Key)
+        requires room { self.old.roomy ≡ true }
+        requires few { records_on self.old.index key.now + 1 < 2 ^ 64 }
+        ensures slots { self.new.slots ≡ with_place self.old.slots key.now }
+        ensures records { (q : List ℕ) → records_on self.new.index q ≡ records_on self.old.index q + cond (same_key key.now q) 1 0 }
+    {
+        match self.index.get_mut(key) {
+            Some(entry) => entry.records += 1,
+            None => self.add(key, 1),
+        }
+    }
+
+    // Gives a key that has none the least free place, with so many records on it.
     #[tactic(auto, using(crate::proofs::PlaceLemmas::places))]
-    fn add(&mut self, key: &Key)
+    fn add(&mut self, key: &Key, records: usize)
         requires room { self.old.roomy ≡ true }
         requires new { place_of self.old.slots key.now ≡ None }
-        ensures { self.new.slots ≡ placed (no_row key.now) self.old.slots }
+        ensures slots { self.new.slots ≡ placed (no_row key.now) self.old.slots }
+        ensures records { (q : List ℕ) → records_on self.new.index q ≡ records_on self.old.index q + cond (same_key key.now q) records 0 }
     {
-        let at = first_free(self.slots.as_slice(), self.free);
         let slot = Slot {
             key: *key,
             row: None,
         };
-        self.free = put(&mut self.slots, at, slot);
-        match self.index.insert(*key, at) {
+        let place = put_slot(&mut self.slots, &mut self.free, slot);
+        match self.index.insert(*key, KeyEntry { place, records }) {
             Ok(_) => {}
             Err(_) => unreachable!(),
         }
     }
 
     /// Makes this the committed row of the key, or none. A key without a place changes nothing.
-    #[tactic(auto, using(crate::proofs::PlaceLemmas::row_indexed))]
+
     pub fn set_row(&mut self, key: &Key, row: &Option<Value>)
-        ensures { self.new.slots ≡ set_row self.old.slots key.now row.now }
+        ensures slots { self.new.slots ≡ set_row self.old.slots key.now row.now }
+        ensures index { self.new.index ≡ self.old.index }
     {
         if let Some(at) = self.place_of(key) {
-            self.slots[at] = Some(Slot {
-                key: *key,
-                row: *row,
-            });
+            rewrite(&mut self.slots[at], row);
         }
     }
 
-    /// Frees the place of the key, if it has one with no row, where it is idle.
-    pub fn free_idle(&mut self, key: &Key, idle: bool)
-        ensures { self.new.slots ≡ freed_by self.old.slots idle (place_of self.old.slots key.now) }
+    /// Counts one record less on the key, and frees its place where that has no row and was the last.
+    pub fn let_go(&mut self, key: &Key)
+        requires { 0 < records_on self.old.index key.now }
+        ensures slots { self.new.slots ≡ freed_by self.old.slots (nat_eq (records_on self.new.index key.now) 0) (place_of self.old.slots key.now) }
+        ensures records { (q : List ℕ) → records_on self.new.index q + cond (same_key key.now q) 1 0 ≡ records_on self.old.index q }
     {
-        if let Some(at) = self.place_of(key) {
-            if idle && !has_row(&self.slots[at]) {
-                self.vacate(key, at);
-            }
+        let entry = self.release(key);
+        if entry.records == 0 {
+            self.free_idle(key, entry.place);
         }
     }
 
-    // Frees the place of the key.
+    // Counts one record less on the key, and answers what the index says of it then.
+    #[tactic(auto, using(crate::proofs::PlaceLemmas::places))]
+    fn release(&mut self, key: &Key) -> KeyEntry
+        requires { 0 < records_on self.old.index key.now }
+        ensures slots { self.new.slots ≡ self.old.slots }
+        ensures place { place_of self.old.slots key.now ≡ Some result.place }
+        ensures left { records_on self.new.index key.now ≡ result.records }
+        ensures records { (q : List ℕ) → records_on self.new.index q + cond (same_key key.now q) 1 0 ≡ records_on self.old.index q }
+    {
+        let Some(entry) = self.index.get_mut(key) else {
+            unreachable!();
+        };
+        entry.records -= 1;
+        *entry
+    }
+
+    // Frees the place of the key, on which there is no record, if it has no row.
+    fn free_idle(&mut self, key: &Key, at: usize)
+        requires place { place_of self.old.slots key.now ≡ Some at }
+        requires idle { records_on self.old.index key.now ≡ 0 }
+        ensures slots { self.new.slots ≡ freed_by self.old.slots true (place_of self.old.slots key.now) }
+        ensures records { (q : List ℕ) → records_on self.new.index q ≡ records_on self.old.index q }
+    {
+        if !has_row(&self.slots[at]) {
+            self.vacate(key, at);
+        }
+    }
+
+    // Frees the place of the key, on which there is no record.
     #[tactic(auto, using(crate::proofs::PlaceLemmas::places))]
     fn vacate(&mut self, key: &Key, at: usize)
-        requires { place_of self.old.slots key.now ≡ Some at }
-        ensures { self.new.slots ≡ slice_set self.old.slots at None }
+        requires place { place_of self.old.slots key.now ≡ Some at }
+        requires idle { records_on self.old.index key.now ≡ 0 }
+        ensures slots { self.new.slots ≡ slice_set self.old.slots at None }
+        ensures records { (q : List ℕ) → records_on self.new.index q ≡ records_on self.old.index q }
     {
-        self.slots[at] = None;
         self.index.swap_remove(key);
-        self.free = self.free.min(at);
+        free_slot(&mut self.slots, &mut self.free, at);
     }
 }
 
@@ -157,45 +216,52 @@ pub fn has_row(slot: &Option<Slot>) -> bool
     }
 }
 
-// The least free place. None below `from` is.
-#[tactic(auto, using(crate::proofs::PlaceLemmas::frees))]
-fn first_free(slots: &[Option<Slot>], from: usize) -> usize
-    requires taken { are_taken from (keys_in slots.now) ≡ true }
-    requires within { from ≤ length slots.now }
-    ensures { result ≡ first_free (keys_in slots.now) }
+// Makes this the row of a place that is taken.
+fn rewrite(slot: &mut Option<Slot>, row: &Option<Value>)
+    ensures { slot.new ≡ rewritten slot.old row.now }
 {
-    match free_in(&slots[from..]) {
-        Some(more) => from + more,
-        None => slots.len(),
+    if let Some(slot) = slot {
+        slot.row = *row;
     }
 }
 
-// The first that is free, if there is one.
-fn free_in(slots: &[Option<Slot>]) -> Option<usize>
-    ensures { result ≡ position is_free slots.now }
-{
-    slots.iter().position(is_free)
-}
-
-fn is_free(slot: &Option<Slot>) -> bool
-    ensures { result ≡ is_free slot.now }
-{
-    slot.is_none()
-}
-
-// Puts a slot at the least free place, and answers the place behind that.
-#[tactic(auto, using(crate::proofs::PlaceLemmas::puts))]
-fn put(slots: &mut Vec<Option<Slot>>, at: usize, slot: Slot) -> usize
-    requires place { at ≡ first_free (keys_in slots.old.items) }
+// Puts a slot at the least free place, and answers which that is.
+fn put_slot(
+    slots: &mut Vec<Option<Slot>>,
+    free: &mut BinaryHeap<Reverse<usize>>,
+    slot: Slot,
+) -> usize
+    requires heap { HoldsFree (keys_in slots.old.items) free.old }
     requires room { length slots.old.items < vec_capacity slots.old }
+    requires more { length slots.old.items < heap_capacity free.old }
+    ensures place { result ≡ first_free (keys_in slots.old.items) }
     ensures slots { slots.new.items ≡ placed slot slots.old.items }
-    ensures behind { result ≡ at + 1 }
+    ensures heap { HoldsFree (keys_in slots.new.items) free.new }
 {
-    if at < slots.len() {
-        slots[at] = Some(slot);
-        at + 1
-    } else {
-        slots.push_reserved(Some(slot));
-        slots.len()
+    match free.pop() {
+        Some(Reverse(at)) => {
+            slots[at] = Some(slot);
+            at
+        }
+        None => {
+            let at = slots.len();
+            slots.push_reserved(Some(slot));
+            at
+        }
+    }
+}
+
+// Frees a place that is taken.
+fn free_slot(slots: &mut Vec<Option<Slot>>, free: &mut BinaryHeap<Reverse<usize>>, at: usize)
+    requires heap { HoldsFree (keys_in slots.old.items) free.old }
+    requires within { at < length slots.old.items }
+    requires taken { free_at (keys_in slots.old.items) at ≡ 0 }
+    ensures slots { slots.new.items ≡ slice_set slots.old.items at None }
+    ensures heap { HoldsFree (keys_in slots.new.items) free.new }
+{
+    slots[at] = None;
+    match free.push(Reverse(at)) {
+        Ok(()) => {}
+        Err(_) => unreachable!(),
     }
 }

@@ -101,3 +101,27 @@ fn ten_rows_are_dumped_in_two_parts(rt: HostRuntime) -> Result<(), Fail> {
     ];
     talk(&rt, alloc, &mut lqh, &lines)
 }
+
+#[test]
+fn the_least_free_place_is_taken(rt: HostRuntime) -> Result<(), Fail> {
+    let alloc = rt.alloc();
+    let mut rows = MapRows::new(alloc);
+    put_letters(&mut rows, b"abcd")?;
+    let mut lqh = node(alloc, rows, CountJournal::new())?;
+    let lines = [
+        (Heard::Del(1, b'd'), "lqh2 store 1 at 1, prepared 1 d"),
+        (Heard::Del(2, b'b'), "lqh2 store 2 at 1, prepared 2 b"),
+        (Heard::Commit(1, b'd', 0), "tc1 committed 1 d, applied 1 d"),
+        (Heard::Commit(2, b'b', 0), "tc1 committed 2 b, applied 2 b"),
+        (Heard::Put(3, b'b', b'y'), "lqh2 store 3 at 1, prepared 3 b"),
+        (Heard::Complete(1, b'd', 0), "tc1 completed 1 d, done 1 d"),
+        (Heard::Complete(2, b'b', 0), "tc1 completed 2 b, done 2 b"),
+        (Heard::Put(4, b'e', b'y'), "lqh2 store 4 at 1, prepared 4 e"),
+        (Heard::Abort(3, b'b'), "tc1 aborted 3 b, done 3 b"),
+        (Heard::Put(4, b'f', b'y'), "lqh2 store 4 at 1, prepared 4 f"),
+        (Heard::Commit(4, b'e', 0), "tc1 committed 4 e, applied 4 e"),
+        (Heard::Commit(4, b'f', 0), "tc1 committed 4 f, applied 4 f"),
+        (Heard::Dump(0), "api0 rows axfycxey"),
+    ];
+    talk(&rt, alloc, &mut lqh, &lines)
+}

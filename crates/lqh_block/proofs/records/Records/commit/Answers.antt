@@ -1,0 +1,12 @@
+use Rattle.std.proofs.Common.{◌≡◌, ◌∙◌, ap, map, refl}
+use Rattle.std.specs.Prelude.{slice_get}
+use Rattle.lqh_block.specs.Records.{committed_at, record_in}
+use Rattle.lqh_block.proofs.RecordLemmas.{set_committed}
+use Rattle.lqh_block.proofs.records.Records.commit.Goals as goal
+
+pub returns : goal.returns
+returns c =
+    let pending : map record_in c.self.inside.entries.entries ≡ c.args.self.now.pending =
+    ap (λ s. s.pending) c.self.view_is in
+    set_committed c.self.inside.entries.entries c.args.at c.index_mut.result.now _ c.index_mut.ensures.value refl
+    ∙ ap (λ p. committed_at p c.args.at (slice_get p c.args.at)) pending
