@@ -9,7 +9,7 @@ use shell_top::run_shell;
 use standard::{StdSink, StdSource};
 use std::alloc::{AllocError, Global};
 use std::process::ExitCode;
-use std::{env, io};
+use std::{env, io, mem};
 
 /// The status where memory is wanting before the session begins.
 const NO_MEMORY: u8 = 5;
@@ -45,5 +45,9 @@ fn main(rt: HostRuntime) -> ExitCode {
         disks,
         &NoGate,
     );
-    ExitCode::from(ended.status)
+    let status = ended.status;
+    // The logs hold nearly all of the memory. To free them step by step would take long, and the
+    // process ends here, which frees all at once.
+    mem::forget(ended);
+    ExitCode::from(status)
 }

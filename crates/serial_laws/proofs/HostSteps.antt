@@ -12,7 +12,7 @@ use Rattle.node_core.specs.declared.host.Host.TheVariants.{Shell, Main, Tc, Ldm}
 use Rattle.node_core.specs.Blocks.{has_lqh}
 use Rattle.node_core.specs.Row.{ldm_row, row}
 use Rattle.world_core.specs.History.{is_applied}
-use Rattle.world_core.specs.Rest.{is_done, is_prepared}
+use Rattle.world_core.specs.Rest.{is_done_mark, is_prepared}
 use Rattle.key_laws.specs.Records.{found}
 use Rattle.key_laws.specs.Replica.{cell_at, commits}
 use Rattle.host_laws.specs.ReplicaLaws.{IsWell, IsWellHost, event_for, event_in, key_in}
@@ -21,14 +21,14 @@ use Rattle.serial_laws.proofs.RowMarks.{EndsPart, done_ends}
 use Rattle.serial_laws.proofs.RowPrepares.{new_marked, none_there}
 
 module _ (v : TxId) (key : List ℕ) where
-  ldm_done : (s : LqhState) (at : BlockId) (x : Signal) → list_any (is_done v key) (ldm_row s at x).effects.marks ≡ true
+  ldm_done : (s : LqhState) (at : BlockId) (x : Signal) → list_any (is_done_mark v key) (ldm_row s at x).effects.marks ≡ true
       → EndsPart v (event_for key s at x.body) (cell_at key s.rows).pending
   unfolding ldm_row
   ldm_done s block.Lqh x is = done_ends v key s x.body is
   ldm_done s _ x is = absurd cc
 
   -- what is marked as done with ends by the event
-  pub host_done : (s : Host) (x : Signal) → has_lqh s ≡ true → list_any (is_done v key) (row s x).effects.marks ≡ true
+  pub host_done : (s : Host) (x : Signal) → has_lqh s ≡ true → list_any (is_done_mark v key) (row s x).effects.marks ≡ true
       → EndsPart v (event_in key s x) (key_in key s).cell.pending
   unfolding row
   host_done (Ldm s) x runs is = ldm_done s x.to.block x is

@@ -15,7 +15,7 @@ use Rattle.lqh_block.proofs.IndexLemmas.{same}
 use Rattle.lqh_block.specs.Lqh.{lqh_table}
 use Rattle.lqh_block.specs.State.{LqhState}
 use Rattle.run_theory.specs.Lists.{Each}
-use Rattle.world_core.specs.Rest.{is_done}
+use Rattle.world_core.specs.Rest.{is_done_mark}
 use Rattle.key_laws.specs.Primary.{HasPrepared}
 use Rattle.key_laws.specs.Records.{found}
 use Rattle.key_laws.specs.Replica.{Event, aborts, cell_at, completes, event_at, if_on, rests}
@@ -67,10 +67,10 @@ module _ (v : TxId) (key : List ℕ) where
       by None there is = absurd cc
       by (Some r) there is = record { record_is = r; there = there; prepared = let off : r.committed ≡ false = cc in off }
 
-  pub done_ends : (s : LqhState) (body : Body) → list_any (is_done v key) (lqh_table s body).effects.marks ≡ true → EndsPart v (event_at key s body) (cell_at key s.rows).pending
+  pub done_ends : (s : LqhState) (body : Body) → list_any (is_done_mark v key) (lqh_table s body).effects.marks ≡ true → EndsPart v (event_at key s body) (cell_at key s.rows).pending
   done_ends s body is =
-      of_marked (is_done v key) (lqh_table s body).effects.marks is
-      (lqh_marks_each (λ m. is_done v key m ≡ true → Ends body) s body (record {
+      of_marked (is_done_mark v key) (lqh_table s body).effects.marks is
+      (lqh_marks_each (λ m. is_done_mark v key m ≡ true → Ends body) s body (record {
         prepared = λ tx own e. absurd cc;
         applied = λ tx own epoch chain at committed taken first there e. absurd cc;
         completed = λ tx own chain at taken e. subst Ends (sym taken) (completed tx own e);
@@ -81,12 +81,12 @@ module _ (v : TxId) (key : List ℕ) where
       Ends : Body → Type 0
       Ends body = EndsPart v (event_at key s body) (cell_at key s.rows).pending
 
-      completed : (tx : TxId) (own : List ℕ) → is_done v key (mark.Done tx own) ≡ true → EndsPart v (if_on own key (completes tx)) (cell_at key s.rows).pending
+      completed : (tx : TxId) (own : List ℕ) → is_done_mark v key (mark.Done tx own) ≡ true → EndsPart v (if_on own key (completes tx)) (cell_at key s.rows).pending
       completed tx own e =
           let parts = and_parts (same_tx tx v) (same_key own key) e in
           ends_on own (completes tx) (cell_at key s.rows).pending parts.1 (sym (same_tx-is tx v parts.0))
 
-      given_up : (tx : TxId) (own : List ℕ) → state_by (found tx (cell_at own s.rows).pending) ≡ Some false → is_done v key (mark.Done tx own) ≡ true
+      given_up : (tx : TxId) (own : List ℕ) → state_by (found tx (cell_at own s.rows).pending) ≡ Some false → is_done_mark v key (mark.Done tx own) ≡ true
           → EndsPart v (if_on own key (aborts tx)) (cell_at key s.rows).pending
       given_up tx own there e =
           let parts = and_parts (same_tx tx v) (same_key own key) e in

@@ -10,7 +10,7 @@ use Rattle.sig_core.specs.declared.member.TxId.{TxId}
 use Rattle.sig_core.specs.declared.rows.PendingRecord.{PendingRecord}
 use Rattle.world_core.specs.Machine.{after, machine}
 use Rattle.world_core.specs.Marks.{has_mark}
-use Rattle.world_core.specs.Rest.{IsSettled, is_done, is_prepared}
+use Rattle.world_core.specs.Rest.{IsSettled, is_done_mark, is_prepared}
 use Rattle.world_core.specs.Start.{Start}
 use Rattle.key_laws.specs.Records.{AreOnce, found, if_committed, unless_committed}
 use Rattle.key_laws.specs.Replica.{Event, Replica, aborts, ages, asks, commits, completes, expires, key_after, rests, serves}
@@ -35,7 +35,7 @@ pub record IsUnfinished (key : List ℕ) (v : TxId) (log : List HostStep) : Type
   pub older : List HostStep
   pub is : log ≡ newer ++ step ∷ older
   pub prepared : list_any (is_prepared v key) step.step.marks ≡ true
-  pub undone : has_mark (is_done v key) newer ≡ false
+  pub undone : has_mark (is_done_mark v key) newer ≡ false
 
 -- so it is where there is a record
 abbrev pub AreUnfinished : Start → List HostStep → Type 0
@@ -124,16 +124,16 @@ module _ (start : Start) (owed : AreOwed) (es : List HostStep) (e : HostStep) (c
                 older = old.older;
                 is = ap (λ w. e ∷ w) old.is;
                 prepared = old.prepared;
-                undone = or_from (list_any (is_done v key) e.step.marks) (has_mark (is_done v key) old.newer) (not_done (list_any (is_done v key) e.step.marks) refl) old.undone;
+                undone = or_from (list_any (is_done_mark v key) e.step.marks) (has_mark (is_done_mark v key) old.newer) (not_done (list_any (is_done_mark v key) e.step.marks) refl) old.undone;
               }
             where
-              not_done : (b : Bool) → list_any (is_done v key) e.step.marks ≡ b → list_any (is_done v key) e.step.marks ≡ false
+              not_done : (b : Bool) → list_any (is_done_mark v key) e.step.marks ≡ b → list_any (is_done_mark v key) e.step.marks ≡ false
               not_done false off = off
               not_done true done =
                   let ends =
                   host_done v key (after start h (before h)) e.step.taken
                   (replica_runs start key h come.before.shape node (before h))
-                  (sym (ap (list_any (is_done v key)) come.happens.step.fits.marks) ∙ done) in
+                  (sym (ap (list_any (is_done_mark v key)) come.happens.step.fits.marks) ∙ done) in
                   let none = gone key v (event_of start es e key) r (once key h node) there ends (owed.events start es e key come) in
                   absurd (let both : false ≡ true = sym (ap is_some (ap (λ (r : Replica). found v r.cell.pending) (host_own start es e key) ∙ none)) ∙ is in cc)
 

@@ -28,7 +28,7 @@ use Rattle.world_core.specs.Machine.{after}
 use Rattle.world_core.specs.Requests.{request_in, requests}
 use Rattle.world_core.specs.Right.{IsRight}
 use Rattle.world_core.specs.Start.{Start}
-use Rattle.world_core.specs.World.{IsQuiet, Whole, is_left_open, logs_at, replies_of, with_replies}
+use Rattle.world_core.specs.World.{IsIdle, Whole, is_left_open, logs_at, replies_of, with_replies}
 use Rattle.world_core.proofs.Replies.{open_is, replies_are, replies_gone, told_right}
 use Rattle.world_core.proofs.StepDriven.{right_logs, within}
 
@@ -75,7 +75,7 @@ module _ (start : Start) where
       }
 
   -- one thing is
-  pub one_served : (request : ApiReq) (w u t : Whole) → HasAsked start request w u → IsDriven start u t → IsQuiet t → HasServed start (request ∷ []) w t
+  pub one_served : (request : ApiReq) (w u t : Whole) → HasAsked start request w u → IsDriven start u t → IsIdle t → HasServed start (request ∷ []) w t
   one_served request w u t asked drove quiet =
       record {
         right = λ given was. drove.right given (asked.right given was);
@@ -311,7 +311,7 @@ module _ (start : Start) (request : ApiReq) where
   pub asked_world : (w u : Whole) → IsSound start w → HasAsked start request w u → IsWorld u
   asked_world w u sound asked = record { start = start; sound = asked_sound w u sound asked }
 
-  pub asked_ok : (result : Result (Unit {0}) NoMemory) (w u t : Whole) → IsSound start w → HasAsked start request w u → (IsSound start u → OnOk result (IsDriven start u t)) → OnOk result (IsQuiet t)
+  pub asked_ok : (result : Result (Unit {0}) NoMemory) (w u t : Whole) → IsSound start w → HasAsked start request w u → (IsSound start u → OnOk result (IsDriven start u t)) → OnOk result (IsIdle t)
       → OnOk result (HasServed start (request ∷ []) w t)
   asked_ok (Ok done) w u t sound asked drove quiet = one_served start request w u t asked (drove (asked_sound w u sound asked)) quiet
   asked_ok (Err fault) w u t sound asked drove quiet = tt

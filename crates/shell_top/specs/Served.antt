@@ -19,7 +19,7 @@ use Rattle.world_core.specs.Machine.{machine}
 use Rattle.world_core.specs.Requests.{AreAskedAtQuiet, requests}
 use Rattle.world_core.specs.Right.{IsRight}
 use Rattle.world_core.specs.Start.{Start}
-use Rattle.world_core.specs.World.{IsQuiet, Whole, logs_at, replies_of}
+use Rattle.world_core.specs.World.{IsIdle, Whole, logs_at, replies_of}
 
 -- the first of these requests is the next step of host 0
 abbrev pub AsksFirst : List ApiReq → List HostStep → List HostStep → Type 0
@@ -32,8 +32,8 @@ pub record HasServed (start : Start) (asked : List ApiReq) (w t : Whole) : Type 
   pub more : (h : ℕ) → IsPast (logs_at w.logs h) (logs_at t.logs h)
   pub requests : requests (logs_at t.logs 0) ≡ requests (logs_at w.logs 0) ++ asked
   pub next : AsksFirst asked (logs_at w.logs 0) (logs_at t.logs 0)
-  pub at_quiet : IsQuiet w → AreAskedAtQuiet start (logs_at w.logs) → AreAskedAtQuiet start (logs_at t.logs)
-  pub quiet : IsQuiet w → IsQuiet t
+  pub at_quiet : IsIdle w → AreAskedAtQuiet start (logs_at w.logs) → AreAskedAtQuiet start (logs_at t.logs)
+  pub quiet : IsIdle w → IsIdle t
 
 -- Memory was wanting while the world was asked for these requests: of the logs, a first part of them was asked for, each
 -- at quiet; where none was, the shell's host made no step.
@@ -43,7 +43,7 @@ pub record AreLeftOff (start : Start) (asked : List ApiReq) (w : Whole) (logs : 
   pub more : (h : ℕ) → IsPast (logs_at w.logs h) (logs h)
   pub part : ℕ
   pub requests : requests (logs 0) ≡ requests (logs_at w.logs 0) ++ take part asked
-  pub at_quiet : IsQuiet w → AreAskedAtQuiet start (logs_at w.logs) → AreAskedAtQuiet start logs
+  pub at_quiet : IsIdle w → AreAskedAtQuiet start (logs_at w.logs) → AreAskedAtQuiet start logs
   pub begun : (logs 0 ≡ logs_at w.logs 0) ⊎ IsAskedNext (logs_at w.logs 0) (logs 0)
 
 -- What was asked about the last command: nothing where it left nothing of its own unanswered, and else the questions.
@@ -55,7 +55,7 @@ HasGoneOn start w t true = HasServed start questions w t
 pub record IsServed (start : Start) (commands : List Command) (w : Whole) : Type 0 where
   pub given : List ApiReply
   pub right : IsRight start given w
-  pub quiet : IsQuiet w
+  pub quiet : IsIdle w
   pub asked : AreAsked start (reverse commands) (logs_at w.logs 0)
   pub at_quiet : AreAskedAtQuiet start (logs_at w.logs)
   pub none_left : replies_of w ≡ []

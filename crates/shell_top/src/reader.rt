@@ -30,19 +30,21 @@ pub enum Filled {
 /// Holds bytes that were read until the line that they belong to is whole. Contracts see these bytes.
 #[derive(Drop)]
 pub struct Reader {
-    held: Vec<u8>,
+    bytes: Vec<u8>,
+    /// Where the bytes that are held begin. Those before it were dropped, and go when more are read.
+    from: usize,
     /// Where the source puts what it reads.
     chunk: Vec<u8>,
 }
 
 impl Model for Reader {
-    ghost use Rattle.std.specs.Prelude.{◌≡◌, List, ℕ, length};
+    ghost use Rattle.std.specs.Prelude.{◌≡◌, ◌≤◌, List, ℕ, drop, length};
 
     ghost Value = { List ℕ };
 
-    ghost view = { λ r. r.held.items };
+    ghost view = { λ r. drop r.from r.bytes.items };
 
-    ghost invariant = { λ r. length r.chunk.items ≡ 512 };
+    ghost invariant = { λ r. (r.from ≤ length r.bytes.items) × (length r.chunk.items ≡ 512) };
 }
 
 impl Reader {
@@ -55,16 +57,20 @@ impl Reader {
     pub fn new(alloc: Global) -> Result<Reader, NoMemory>
         ensures { IfOk result (λ r. r ≡ []) }
     {
-        let held = Vec::with_capacity(alloc, 2 * LINE_BYTES)?;
+        let bytes = Vec::with_capacity(alloc, 2 * LINE_BYTES)?;
         let chunk = Vec::from_elem(alloc, 0, LINE_BYTES)?;
-        Ok(Reader { held, chunk })
+        Ok(Reader {
+            bytes,
+            from: 0,
+            chunk,
+        })
     }
 
     /// The bytes that are held.
     pub fn held(&self) -> &[u8]
         ensures { result.now ≡ self.now }
     {
-        &self.held
+        &self.bytes[self.from..]
     }
 
     /// Drops the first bytes that are held.
@@ -72,7 +78,7 @@ impl Reader {
         requires { count ≤ length self.old }
         ensures { self.new ≡ drop count self.old }
     {
-        drop_front(&mut self.held, count);
+        self.from += count;
     }
 
     /// Reads on, unless a line is whole already, until one is or none can be any more.
@@ -84,18 +90,33 @@ impl Reader {
         ensures most { length self.old ≤ 1024 → length self.new ≤ 1024 }
     {
         'reading: loop {
-            if let Some(at) = first_newline(&self.held) {
+            if let Some(at) = first_newline(self.held()) {
                 return Filled::Line(at);
             }
-            if self.held.len() > LINE_BYTES {
+            if self.held().len() > LINE_BYTES {
                 return Filled::Overlong;
             }
-            match read_more(&mut self.held, &mut self.chunk, source) {
+            match self.read_more(source) {
                 Ok(true) => {}
                 Ok(false) => return Filled::Ended,
                 Err(fault) => return fault,
             }
         }
+    }
+
+    /// Reads some bytes more. Says whether there were any.
+    fn read_more<S: Source>(&mut self, source: &mut S) -> Result<bool, Filled>
+        ensures reads { Reads (S.left source.old) (S.left source.new) self.old self.new }
+        ensures more { IfOk result (HasMore (S.left source.new) self.old self.new) }
+        ensures most { length self.new ≤ length self.old + 512 }
+        ensures which { IfErr result IsFault }
+        ensures kept { IfErr result (λ fault. self.new ≡ self.old) }
+        ensures cause { result ≡ Err filled.Failed → Rose (S.faults source.old) (S.faults source.new) }
+        ensures steady { S.faults source.old ≤ S.faults source.new }
+    {
+        drop_front(&mut self.bytes, self.from);
+        self.from = 0;
+        add_read(&mut self.bytes, &mut self.chunk, source)
     }
 }
 
@@ -117,7 +138,7 @@ fn first_newline(bytes: &[u8]) -> Option<usize>
 }
 
 /// Reads some bytes more and adds them to those that are held. Says whether there were any.
-fn read_more<S: Source>(
+fn add_read<S: Source>(
     held: &mut Vec<u8>,
     chunk: &mut Vec<u8>,
     source: &mut S,

@@ -10,7 +10,7 @@ use Rattle.world_core.specs.Requests.{AreAskedAtQuiet, QuietBefore, requests}
 use Rattle.world_core.specs.Right.{IsRight}
 use Rattle.world_core.specs.Start.{Start}
 use Rattle.world_core.specs.Steps.{Addressed, HostStep}
-use Rattle.world_core.specs.World.{IsQuiet, Whole, asked, logs_at}
+use Rattle.world_core.specs.World.{IsIdle, Whole, asked, logs_at}
 use Rattle.world_core.proofs.MoveRight.{host_step, logs_are, move_right}
 use Rattle.world_core.proofs.QuietLemmas.{quiet_logs}
 use Rattle.world_core.proofs.StepDriven.{log_grows, quiet_before, right_logs, within}
@@ -23,7 +23,7 @@ module _ (start : Start) (given : List ApiReply) (w : Whole) (right : IsRight st
   log_is : logs_at (asked w request).logs 0 ≡ host_step w signal ∷ logs_at w.logs 0
   log_is = logs_are start given w signal (ask_ready start given w right request) 0
 
-  at_quiet : IsQuiet w → AreAskedAtQuiet start (logs_at w.logs) → AreAskedAtQuiet start (logs_at (asked w request).logs)
+  at_quiet : IsIdle w → AreAskedAtQuiet start (logs_at w.logs) → AreAskedAtQuiet start (logs_at (asked w request).logs)
   at_quiet quiet was newer e before is asks = go newer (sym log_is ∙ is)
     where
       grows : (h : ℕ) → IsPast (logs_at w.logs h) (logs_at (asked w request).logs h)

@@ -21,7 +21,7 @@ use Rattle.world_core.specs.Requests.{AreAskedAtQuiet}
 use Rattle.world_core.specs.Right.{IsLabelled, IsRight, arriving}
 use Rattle.world_core.specs.Start.{Start, made}
 use Rattle.world_core.specs.Steps.{HostStep}
-use Rattle.world_core.specs.World.{IsQuiet, body_at, for_each, logs_at, new_world, no_steps, of_host}
+use Rattle.world_core.specs.World.{IsIdle, body_at, for_each, logs_at, new_world, no_steps, of_host}
 use Rattle.world_core.proofs.HostNumbers.{shell_started, started_behind}
 
 -- what is there for each host
@@ -129,5 +129,5 @@ module _ (start : Start) where
   inbox_idle n k i (inr past) =
       ap (λ box. slice_index_or box i new_link) (get_or_past (replicate n (replicate (hosts start) new_link)) k [] (omega (arith, past, length-replicate n (replicate (hosts start) new_link))))
 
-  pub fresh_quiet : IsQuiet (new_world start)
+  pub fresh_quiet : IsIdle (new_world start)
   fresh_quiet i j = ap (λ (l : LinkState). l.signals) (inbox_idle (hosts start) j i (cases_lt j (hosts start)))

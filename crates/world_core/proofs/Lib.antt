@@ -1,4 +1,5 @@
 pub mod AskDriven
+pub mod BusyLinks
 pub mod FreshWorld
 pub mod HostNumbers
 pub mod LinkIndex

@@ -102,6 +102,6 @@ none_taken links e i j = go (cases_lt j (length links))
     go (inr past) = ap (λ ls. (link_from ls i).signals) (get_or_past links j [] past)
 
 -- then each host has taken all that was sent to it
-pub quiet_logs : (start : Start) (given : List ApiReply) (w : Whole) → IsRight start given w → world.IsQuiet w → IsQuiet (machine start) (hosts start) (logs_at w.logs)
+pub quiet_logs : (start : Start) (given : List ApiReply) (w : Whole) → IsRight start given w → world.IsIdle w → IsQuiet (machine start) (hosts start) (logs_at w.logs)
 quiet_logs start given w right quiet i j i_low low =
     sym (right.linked i j i_low low ∙ ap (λ xs. map (arriving j) (reverse xs) ++ taken (machine start) i (logs_at w.logs j)) (quiet i j))

@@ -11,7 +11,7 @@ use Rattle.world_core.specs.Machine.{request_signal}
 use Rattle.world_core.specs.Network.{Arrival, take_first}
 use Rattle.world_core.specs.Start.{Start}
 use Rattle.world_core.specs.Steps.{Addressed, HostStep}
-use Rattle.world_core.specs.World.{CanTake, IsOf, IsQuiet, Whole, asked, logs_at, moved, new_world}
+use Rattle.world_core.specs.World.{CanTake, IsOf, IsIdle, Whole, asked, logs_at, moved, new_world}
 use Rattle.world_core.proofs.AskDriven as ask
 use Rattle.world_core.proofs.FreshWorld.{fresh_sound}
 use Rattle.world_core.proofs.QuietLemmas.{none_taken}
@@ -109,11 +109,11 @@ has_ended w a b false is way stepped start sound =
     let stayed = stepped start (stays_sound start w a here sound) in
     subst (IsDriven start w) (sym stayed.0) here
 
-pub is_quiet : (w a b : Whole) (went : Bool) → went ≡ false → IsUnderWay w a → ((start : Start) → IsSound start a → IsStepped start a b went) → IsQuiet b
+pub is_quiet : (w a b : Whole) (went : Bool) → went ≡ false → IsUnderWay w a → ((start : Start) → IsSound start a → IsStepped start a b went) → IsIdle b
 is_quiet w a b true is way stepped = absurd (true≢false is)
 is_quiet w a b false is way stepped =
     let stayed = stepped way.is.start way.is.sound in
-    subst IsQuiet (sym stayed.0) stayed.1
+    subst IsIdle (sym stayed.0) stayed.1
 
 -- a world as it begins
 pub begun_world : (w : Whole) (start : Start) → w ≡ new_world start → IsWorld w

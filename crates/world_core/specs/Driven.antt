@@ -11,7 +11,7 @@ use Rattle.world_core.specs.Machine.{machine}
 use Rattle.world_core.specs.Requests.{AreAskedAtQuiet, requests}
 use Rattle.world_core.specs.Right.{IsRight}
 use Rattle.world_core.specs.Start.{Start}
-use Rattle.world_core.specs.World.{IsQuiet, Whole, logs_at}
+use Rattle.world_core.specs.World.{IsIdle, Whole, logs_at}
 
 -- a world that is right, whatever replies the shell has had
 pub record IsSound (start : Start) (w : Whole) : Type 0 where
@@ -47,9 +47,9 @@ pub record HasAsked (start : Start) (request : ApiReq) (w t : Whole) : Type 0 wh
   pub within : IsWithin (hosts start) (logs_at t.logs)
   pub requests : requests (logs_at t.logs 0) ≡ requests (logs_at w.logs 0) ++ request ∷ []
   -- if nothing was under way, it was asked at quiet
-  pub asked : IsQuiet w → AreAskedAtQuiet start (logs_at w.logs) → AreAskedAtQuiet start (logs_at t.logs)
+  pub asked : IsIdle w → AreAskedAtQuiet start (logs_at w.logs) → AreAskedAtQuiet start (logs_at t.logs)
 
 -- a step was taken, or nothing was under way and nothing has changed
 abbrev pub IsStepped : Start → Whole → Whole → Bool → Type 0
 IsStepped start w t true = IsDriven start w t
-IsStepped start w t false = (t ≡ w) × IsQuiet w
+IsStepped start w t false = (t ≡ w) × IsIdle w

@@ -1,12 +1,8 @@
--- Lives of a session: their logs, and their history.
-use Rattle.std.specs.Prelude.{ℕ, ◌+◌, List, [], ◌∷◌, ◌++◌}
-use Rattle.serial_model.specs.Epoch.{up_to_epoch}
-use Rattle.sig_core.specs.declared.entry.Entry.{Entry}
+-- Lives of a session: their logs, and how they began.
+use Rattle.std.specs.Prelude.{ℕ, ◌+◌, List, []}
 use Rattle.sig_core.specs.declared.log.HostLog.{HostLog}
 use Rattle.sig_core.specs.declared.log.Life.{Life}
 use Rattle.sig_core.specs.declared.view.Shape.{Shape}
-use Rattle.world_core.specs.History.{history}
-use Rattle.world_core.specs.Hosts.{hosts}
 use Rattle.world_core.specs.World.{logs_at}
 use Rattle.world_core.specs.Start.{Start}
 use Rattle.world_core.specs.Steps.{HostStep}
@@ -18,16 +14,6 @@ logs_of life = logs_at life.logs
 -- how a life of a cluster of this shape began: in the epoch behind its start epoch, with its start rows
 abbrev pub start_of : Shape → Life → Start
 start_of shape life = record { shape = shape; epoch = life.start_epoch + 1; rows = life.start_rows }
-
--- the history of a life of such a cluster
-abbrev pub life_history : Shape → Life → List Entry
-life_history shape life = history (hosts (start_of shape life)) (logs_of life)
-
--- the history of a session: of each life what its next one restored, and of the last all
-abbrev pub session_history : Shape → List Life → List Entry
-session_history shape [] = []
-session_history shape (life ∷ []) = life_history shape life
-session_history shape (life ∷ next ∷ more) = up_to_epoch next.start_epoch (life_history shape life) ++ session_history shape (next ∷ more)
 
 -- the first life of a fresh world, with these logs
 abbrev pub fresh_life : List HostLog → Life

@@ -20,15 +20,15 @@ is_prepared tx key (Prepared other at) = same_tx other tx && same_key at key
 is_prepared tx key mark = false
 
 -- it is done with the transaction's part in the key
-abbrev pub is_done : TxId → List ℕ → Mark → Bool
-is_done tx key (Done other at) = same_tx other tx && same_key at key
-is_done tx key mark = false
+abbrev pub is_done_mark : TxId → List ℕ → Mark → Bool
+is_done_mark tx key (Done other at) = same_tx other tx && same_key at key
+is_done_mark tx key mark = false
 
 -- in this log every preparation of a write of the key is followed by the end of the same transaction's part in it
 abbrev pub IsSettled : List ℕ → List HostStep → Type 0
 IsSettled key log =
     (newer : List HostStep) (e : HostStep) (older : List HostStep) (tx : TxId) → log ≡ newer ++ e ∷ older → list_any (is_prepared tx key) e.step.marks ≡ true
-    → has_mark (is_done tx key) newer ≡ true
+    → has_mark (is_done_mark tx key) newer ≡ true
 
 -- the member is a live replica of the key: a live node of the group that has it
 pub record IsLiveReplica (start : Start) (logs : ℕ → List HostStep) (key : List ℕ) (member : Member) : Type 0 where

@@ -24,13 +24,13 @@ is_begin name (Client (TcBeginReq asked)) = same_name asked name
 is_begin name body = false
 
 -- the step of host 0 asks for a transaction of this name
-abbrev pub begins : Start → Option ℕ → List HostStep → HostStep → Bool
-begins start name log e = list_any (λ (x : Addressed). is_begin name x.signal.body) (signals_of start 0 log e)
+abbrev pub begins_there : Start → Option ℕ → List HostStep → HostStep → Bool
+begins_there start name log e = list_any (λ (x : Addressed). is_begin name x.signal.body) (signals_of start 0 log e)
 
 -- no step of these does that, in front of a log
 abbrev pub NoneBegins : Start → Option ℕ → List HostStep → List HostStep → Type 0
 NoneBegins start name [] log = Unit {0}
-NoneBegins start name (e ∷ newer) log = (begins start name (newer ++ log) e ≡ false) × NoneBegins start name newer log
+NoneBegins start name (e ∷ newer) log = (begins_there start name (newer ++ log) e ≡ false) × NoneBegins start name newer log
 
 -- In this log of host 0 the transaction is asked for in the step behind `before`: that asks for one of a name, and the
 -- next that is told to have begun by this name is the transaction.
@@ -41,7 +41,7 @@ pub record IsAskedFor (start : Start) (tx : TxId) (log before : List HostStep) :
   pub told : HostStep
   pub newer : List HostStep
   pub is : log ≡ newer ++ told ∷ between ++ asking ∷ before
-  pub asks : begins start name before asking ≡ true
+  pub asks : begins_there start name before asking ≡ true
   pub none_between : NoneBegins start name between (asking ∷ before)
   pub begun : told.step.taken.body ≡ Client (TcBeginConf name tx)
 

@@ -84,8 +84,8 @@ abbrev pub asked : Whole → ApiReq → Whole
 asked w request = moved w (record { to = 0; signal = request_signal w.who (slice_index_or w.stamps 0 0) request })
 
 -- nothing is under way
-abbrev pub IsQuiet : Whole → Type 0
-IsQuiet w = AreIdle w.links
+abbrev pub IsIdle : Whole → Type 0
+IsIdle w = AreIdle w.links
 
 -- a thing for each host below n
 abbrev pub for_each : {A : Type 0} → ℕ → (ℕ → A) → List A

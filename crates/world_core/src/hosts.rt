@@ -125,15 +125,8 @@ impl Membership {
         ensures value { result ≡ position (is_member member) self.now.made }
         ensures few { IfSome result (λ at. at * 3 + 3 < 2 ^ 32) }
     {
-        self.made.iter().position(|other| is_same(member, *other))
+        self.made.iter().position(|other| member == *other)
     }
-}
-
-// Whether the two are one member.
-fn is_same(one: Member, other: Member) -> bool
-    ensures { result ≡ is_member one other }
-{
-    one.node == other.node && one.start == other.start
 }
 
 // The place of a part among the hosts of its member, from 1.

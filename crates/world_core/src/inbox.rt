@@ -1,5 +1,5 @@
 //! The links to one host.
-ghost use Rattle.std.specs.Prelude.{◌≡◌, ◌∷◌, [], None, Some, MatchOption, IfNone, IfSome, OnOk, IfOk, ◌<◌, nat_lt, length, position};
+ghost use Rattle.std.specs.Prelude.{◌≡◌, ◌∷◌, [], None, Some, MatchOption, IfNone, IfSome, OnOk, OnErr, IfOk, ◌<◌, nat_lt, count_by, length, position};
 ghost use Rattle.world_core.specs.Inbox.{behind, is_busy, is_taken, new_link, taken, taken_at};
 ghost use Rattle.world_core.specs.Machine.{headed};
 
@@ -49,7 +49,8 @@ impl Link {
         stamp: u64,
         sent: Outgoing,
     ) -> Result<(), NoMemory>
-        ensures { OnOk result (self.new ≡ behind self.old (headed who.now from stamp self.old.sent sent)) }
+        ensures ok { OnOk result (self.new ≡ behind self.old (headed who.now from stamp self.old.sent sent)) }
+        ensures err { OnErr result (self.new ≡ self.old) }
     {
         let Outgoing { to, body } = sent;
         let view = who.share_view()?;
@@ -77,15 +78,19 @@ impl Link {
 #[derive(Drop)]
 pub struct Inbox {
     links: Vec<Link>,
+    /// How many of the links have a signal: so an inbox without one is passed over at a glance.
+    busy: usize,
 }
 
 impl Model for Inbox {
-    ghost use Rattle.std.specs.Prelude.{List};
-    ghost use Rattle.world_core.specs.Inbox.{LinkState};
+    ghost use Rattle.std.specs.Prelude.{◌≡◌, List, count_by};
+    ghost use Rattle.world_core.specs.Inbox.{LinkState, is_busy};
 
     ghost Value = { List LinkState };
 
     ghost view = { λ i. i.links.items };
+
+    ghost invariant = { λ i. i.busy ≡ count_by is_busy i.links.items };
 }
 
 impl Inbox {
@@ -103,14 +108,14 @@ impl Inbox {
         for _ in 0..hosts {
             links.push_reserved(Link::new(alloc));
         }
-        Ok(Inbox { links })
+        Ok(Inbox { links, busy: 0 })
     }
 
     /// Whether a link has a signal.
     pub fn has_signal(&self) -> bool
         ensures { result ≡ has_signal self.now }
     {
-        first_busy(&self.links).is_some()
+        self.busy > 0
     }
 
     /// Puts a signal that host `from` sends in the step of this stamp on its link, behind the
@@ -129,7 +134,11 @@ impl Inbox {
     {
         let at = from as usize;
         if at < self.links.len() {
+            let was_busy = self.links[at].is_busy();
             self.links[at].put(who, from, stamp, sent)?;
+            if !was_busy {
+                self.busy += 1;
+            }
         }
         Ok(())
     }
@@ -141,7 +150,7 @@ impl Inbox {
         ensures signal { IfSome result (λ signal. take_first self.old ≡ Some (taken signal self.new)) }
     {
         let at = first_busy(&self.links)?;
-        take_at(&mut self.links, at)
+        take_at(&mut self.links, &mut self.busy, at)
     }
 
     /// Takes the first signal of the link from a host.
@@ -154,7 +163,7 @@ impl Inbox {
         if at >= self.links.len() {
             return None;
         }
-        take_at(&mut self.links, at)
+        take_at(&mut self.links, &mut self.busy, at)
     }
 }
 
@@ -165,12 +174,18 @@ fn first_busy(links: &[Link]) -> Option<usize>
     links.iter().position(|link| link.is_busy())
 }
 
-/// Takes the first signal of the link at a place.
-fn take_at(links: &mut [Link], at: usize) -> Option<Signal>
-    requires { at < length links.old }
+/// Takes the first signal of the link at a place, of links so many of which have one.
+fn take_at(links: &mut [Link], busy: &mut usize, at: usize) -> Option<Signal>
+    requires at { at < length links.old }
+    requires counted { busy.old ≡ count_by is_busy links.old }
+    ensures counted { busy.new ≡ count_by is_busy links.new }
     ensures none { IfNone result (taken_at links.old (Some at) ≡ None) }
     ensures kept { IfNone result (links.new ≡ links.old) }
     ensures signal { IfSome result (λ signal. taken_at links.old (Some at) ≡ Some (taken signal links.new)) }
 {
-    links[at].take()
+    let signal = links[at].take()?;
+    if !links[at].is_busy() {
+        *busy -= 1;
+    }
+    Some(signal)
 }

@@ -41,7 +41,7 @@ impl World {
     ghost use Rattle.world_core.specs.Driven.{HasAsked, HaveGrown, IsDriven, IsSound, IsStepped, IsWorld};
     ghost use Rattle.world_core.specs.Lives.{fresh_life};
     ghost use Rattle.world_core.specs.Start.{Start};
-    ghost use Rattle.world_core.specs.World.{CanTake, IsQuiet, is_left_open, logs_at, moved, new_world, replies_of, with_replies};
+    ghost use Rattle.world_core.specs.World.{CanTake, IsIdle, is_left_open, logs_at, moved, new_world, replies_of, with_replies};
     ghost use Rattle.world_core.specs.WorldOf.{whole_of};
 
     /// A world in which nothing has happened: a cluster of this shape begins a life in this epoch,
@@ -95,7 +95,7 @@ impl World {
     pub fn drive<W: Wait>(&mut self, rt: &W, alloc: Global) -> Result<(), NoMemory>
         requires { IsWorld (whole_of self.old) }
         ensures driven { (start : Start) → IsSound start (whole_of self.old) → OnOk result (IsDriven start (whole_of self.old) (whole_of self.new)) }
-        ensures quiet { OnOk result (IsQuiet (whole_of self.new)) }
+        ensures quiet { OnOk result (IsIdle (whole_of self.new)) }
         ensures err { (start : Start) → IsSound start (whole_of self.old) → OnErr result (HaveGrown start (logs_at self.old.logs) (logs_at self.new.logs)) }
     {
         for _ in rt.forever() {
