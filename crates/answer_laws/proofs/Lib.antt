@@ -3,7 +3,7 @@ pub mod Aborts
 pub mod Answers
 pub mod ApiEntries
 pub mod ApiKeys
-pub mod ApiTurns
+pub mod ApiSteps
 pub mod Asks
 pub mod Begins
 pub mod Commits

@@ -27,7 +27,7 @@ use Rattle.tc_block.specs.State.{TcState}
 use Rattle.tc_block.specs.Turn.{Turn, going}
 use Rattle.host_laws.proofs.SendKinds.{are_of, one_kind}
 use Rattle.host_laws.proofs.PhaseSends.{HasChains, entering_of_kind, rest_of_kind}
-use Rattle.command_laws.proofs.Turns.{turn_by}
+use Rattle.host_laws.proofs.TcTurns.{turn_row}
 
 -- the client asked for it
 abbrev pub is_requested : AbortCause → Bool
@@ -185,7 +185,7 @@ module _ (c : Bool) (node : ℕ) (layout : Layout) (tx : TxId) (t : Transaction)
       by (Completing epoch awaited) is = absurd (not_at (Completing epoch awaited) is refl)
       by (Aborting why verifying awaited) is = record { phase = λ on. ap (is_loose true) is ∙ (ap (is_loose c) (sym is) ∙ fine); none = none; sends = refl }
 
-pub loose_turn : (c : Bool) (s : TcState) (tx : TxId) (body : Body) (t : Transaction) → is_more body ≡ false → is_loose c t.phase ≡ true → t.asked ≡ None → StaysLoose (if is_roll body then true else c) (turn_by s tx body t)
+pub loose_turn : (c : Bool) (s : TcState) (tx : TxId) (body : Body) (t : Transaction) → is_more body ≡ false → is_loose c t.phase ≡ true → t.asked ≡ None → StaysLoose (if is_roll body then true else c) (turn_row s body t)
 loose_turn c s tx (Host (Continue (work.Transaction one) at)) t plain fine none = goes_on c s.node s.layout tx t fine none at
 loose_turn c s tx (Client (TcKeyReq one op)) t plain fine none = cc
 loose_turn c s tx (Client (TcCommitReq one)) t plain fine none = cc

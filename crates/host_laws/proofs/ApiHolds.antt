@@ -21,7 +21,8 @@ use Rattle.world_core.specs.Machine.{after}
 use Rattle.world_core.specs.Start.{Start}
 use Rattle.host_laws.proofs.LqhOps.{left_of}
 use Rattle.host_laws.proofs.ApiBegins.{AreGood, IsGood, each_at}
-use Rattle.host_laws.proofs.ApiMoves.{ApiMove, IsVoid, api_moves, begun_as, ended, ends, goes, opens, refuses, rests}
+use Rattle.host_laws.proofs.ApiMoves.{ApiMove, api_moves, begun_as, ended, ends, goes, opens, refuses, rests}
+use Rattle.host_laws.proofs.ApiTurns.{IsVoid}
 use Rattle.host_laws.proofs.Hosts.{opened_first, opened_next, shell_after}
 use Rattle.host_laws.proofs.LinkCounts.{steps}
 use Rattle.host_laws.proofs.Tally.{tally_append, tally_between}

@@ -3,6 +3,7 @@ pub mod ApiHolds
 pub mod ApiMarks
 pub mod ApiMoves
 pub mod ApiTold
+pub mod ApiTurns
 pub mod DihSends
 pub mod Focus
 pub mod HostGoes

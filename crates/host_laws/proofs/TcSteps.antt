@@ -137,7 +137,7 @@ abort_said node tx layout w why true = end_said node tx why (abort.is_verifying 
 abort_said node tx layout w why false = entering_of (is_said tx) tx (said_part tx) node layout w _
 
 -- all that a transaction sends is said of it
-move_said : (s : TcState) (tx : TxId) (t : Transaction) (body : Body) (turn : Turn) → TurnMove s tx t body turn → are_of (is_said tx) turn.step.effects.sends ≡ true
+pub move_said : (s : TcState) (tx : TxId) (t : Transaction) (body : Body) (turn : Turn) → TurnMove s tx t body turn → are_of (is_said tx) turn.step.effects.sends ≡ true
 move_said s tx t body turn move = go move
   where
     said : (turn other : Turn) → turn ≡ other → are_of (is_said tx) other.step.effects.sends ≡ true → are_of (is_said tx) turn.step.effects.sends ≡ true
@@ -232,7 +232,7 @@ tc_step s (Epoch (DiVerifyConf tx epoch)) = taken_turn s (Epoch (DiVerifyConf tx
 tc_step s _ = rests refl refl refl
 
 -- where a transaction stands
-live_none : (tx : TxId) (live : List (TxId × Transaction)) → tally (is_keyed tx) live ≡ 0 → of_live tx live ≡ None
+pub live_none : (tx : TxId) (live : List (TxId × Transaction)) → tally (is_keyed tx) live ≡ 0 → of_live tx live ≡ None
 live_none tx [] none = refl
 live_none tx (e ∷ live) none = go (same_tx e.0 tx) refl (live_none tx live)
   where
@@ -272,9 +272,9 @@ pub data TxStep (tx : TxId) (s : TcState) (body : Body) (step : Step TcState) : 
   elsewhere : of_live tx step.state.live ≡ of_live tx s.live → are_of (is_apart tx) step.effects.sends ≡ true
       → (is_turn body ≡ true → tx_in body ≡ tx → of_live tx s.live ≡ None) → TxStep tx s body step
   born : (name : Option ℕ) → body ≡ Client (TcBeginReq name) → tx ≡ next_tx s → of_live tx s.live ≡ None → of_live tx step.state.live ≡ Some fresh
-      → step.effects.sends ≡ record { to = client; body = Client (TcBeginConf name tx) } ∷ [] → TxStep tx s body step
-  turned : (t : Transaction) (turn : Turn) → is_turn body ≡ true → tx_in body ≡ tx → of_live tx s.live ≡ Some t → TurnMove s tx t body turn
-      → of_live tx step.state.live ≡ left_of_turn turn → step.effects.sends ≡ turn.step.effects.sends → TxStep tx s body step
+      → step.effects.sends ≡ record { to = client; body = Client (TcBeginConf name tx) } ∷ [] → s.next_seq < step.state.next_seq → TxStep tx s body step
+  turned : (t : Transaction) → is_turn body ≡ true → tx_in body ≡ tx → of_live tx s.live ≡ Some t → TurnMove s tx t body (turn_row s body t)
+      → of_live tx step.state.live ≡ left_of_turn (turn_row s body t) → step.effects.sends ≡ (turn_row s body t).step.effects.sends → TxStep tx s body step
 
 module _ (tx : TxId) (s : TcState) (body : Body) (once : tally (is_keyed tx) s.live ≤ 1) (own : Each (λ (e : TxId × Transaction). IsOwn s.node s.next_seq e.0) s.live) where
   tx_of : (step : Step TcState) → TcStep s body step → TxStep tx s body step
@@ -316,6 +316,7 @@ module _ (tx : TxId) (s : TcState) (body : Body) (once : tally (is_keyed tx) s.l
           born name about here (live_none tx s.live none)
           (now ∙ ap (λ k. of_live tx (s.live ++ (k, fresh) ∷ [])) (sym here) ∙ live_here tx s.live fresh [] none)
           (ap (λ (x : Step TcState). x.effects.sends) is ∙ ap (λ k. record { to = client; body = Client (TcBeginConf name k) } ∷ []) (sym here))
+          (omega (arith, ap (λ (x : Step TcState). x.state.next_seq) is))
   tx_of step (takes about t front back was is) = go (same_tx (tx_in body) tx) refl
     where
       turn : Turn
@@ -344,7 +345,7 @@ module _ (tx : TxId) (s : TcState) (body : Body) (once : tally (is_keyed tx) s.l
           kept true = refl
           kept false = live_between tx front (tx_in body, turn.step.state) back off
       go true same =
-          turned t turn about one (ap (of_live tx) was ∙ ap (λ k. of_live tx (front ++ (k, t) ∷ back)) one ∙ live_here tx front t back none)
+          turned t about one (ap (of_live tx) was ∙ ap (λ k. of_live tx (front ++ (k, t) ∷ back)) one ∙ live_here tx front t back none)
           (subst (λ k. TurnMove s k t body turn) one move) (ap (of_live tx) live_are ∙ kept turn.over) sends_are
         where
           one : tx_in body ≡ tx
