@@ -1,7 +1,7 @@
 -- A request is turned down at once where it is to be, or the transaction of its name takes it.
 use Rattle.std.proofs.Common.{◌≡◌, ◌⊎◌, ◌<◌, ℕ, Bool, true, false, List, [], ◌∷◌, ◌++◌, refl, sym, ap, ◌∙◌, subst, inl, inr, arith}
 use Rattle.std.proofs.lemmas.Bool.Decides.{nat_tests}
-use Rattle.std.specs.Prelude.{drop, is_some, length, nat_lt, position, slice_get, Option, None, Some}
+use Rattle.std.specs.Prelude.{if◌then◌else◌, drop, is_some, length, nat_lt, position, slice_get, Option, None, Some}
 use Rattle.run_theory.proofs.Pasts.{past_self}
 use Rattle.run_theory.specs.Lists.{IsIn}
 use Rattle.sig_core.specs.declared.member.TxId.{TxId}
@@ -75,8 +75,8 @@ module _ (s : ApiState) where
   unfolding begin_row
   begin_due name at r = by (is_some (place_named s (Some name)))
     where
-      by : (open : Bool) → (if open then Some IsOpen else no_member_at (node_for s.view at) (is_full s.view (node_for s.view at))) ≡ Some r
-          → Refuses (begin_if s name at open) (Some name) r
+      by : (taken : Bool) → (if taken then Some IsOpen else no_member_at (node_for s.view at) (is_full s.view (node_for s.view at))) ≡ Some r
+          → Refuses (begin_if s name at taken) (Some name) r
       by true due = cc
       by false due = begin_at_due name (node_for s.view at) r (is_full s.view (node_for s.view at)) due
 
