@@ -16,6 +16,7 @@ use Rattle.command_laws.proofs.LoneAnswered.{lone_answered}
 use Rattle.command_laws.proofs.LoneCommitted.{lone_committed}
 use Rattle.command_laws.proofs.OperationAnswered.{operations_answered}
 use Rattle.command_laws.proofs.ServedBetween.{requests_served}
+use Rattle.command_laws.proofs.TurnedDown.{refused_where_due}
 use Rattle.command_laws.specs.Alone.{IsRefusedAlone, IsTurnedAway, WaitsAlone}
 use Rattle.command_laws.specs.Answers.{AnswersRequest, LoneComesTo, RequestsAreAnswered}
 use Rattle.command_laws.specs.Served.{IsAnsweredAlone, IsServed}
@@ -45,5 +46,6 @@ requests_answered start logs shape right within asked newer e before r at is on 
     record {
       moments = moments;
       answers = answers_request start moments.was moments.now r moments.served;
+      turned_down = refused_where_due start moments.was moments.now r moments.served;
       left = λ t inside. each_answered start moments.now t moments.served.since inside;
     }
