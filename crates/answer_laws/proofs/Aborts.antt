@@ -33,7 +33,7 @@ use Rattle.answer_laws.proofs.AbortCounts.{abort_low, answer_turn, cont_place, c
 use Rattle.run_laws.proofs.AlongSteps.{Goes, addressed, along, at_home, at_tc, few_taken, first_none, heard_rows, home_place, live_tx, no_transaction, other_turn, the_transaction, turn_at, tx_at}
 use Rattle.run_laws.proofs.Always.{few_touched}
 use Rattle.answer_laws.proofs.FirstChains.{good_chain}
-use Rattle.host_laws.proofs.HostSteps.{IsHome, tc_layout}
+use Rattle.host_laws.proofs.BlocksAlong.{IsHome, tc_layout}
 use Rattle.host_laws.proofs.HostTurns.{HostTurn, IsAside, aside, in_rows, starting, turning}
 use Rattle.host_laws.proofs.LinkCounts.{sent_signals, signals, taken_signals}
 use Rattle.host_laws.proofs.LqhOps.{is_good, is_lqh, is_node, left_of}

@@ -44,7 +44,7 @@ use Rattle.host_laws.specs.Counts.{one_if}
 use Rattle.answer_laws.proofs.AbortCounts.{conts_few}
 use Rattle.run_laws.proofs.AlongSteps.{Goes, addressed, along, at_home, at_tc, few_taken, heard_rows, home_place, live_tx, tx_at}
 use Rattle.answer_laws.proofs.FirstChains.{chain_some, good_chain}
-use Rattle.host_laws.proofs.HostSteps.{IsHome, first_live, reaches, tc_layout}
+use Rattle.host_laws.proofs.BlocksAlong.{IsHome, first_live, reaches, tc_layout}
 use Rattle.host_laws.proofs.HostTurns.{rows_turn, tc_turn}
 use Rattle.host_laws.proofs.LinkCounts.{sent_signals, signals, taken_signals}
 use Rattle.host_laws.proofs.LqhOps.{is_good, is_lqh, is_node, left_of, right_of, true_and}

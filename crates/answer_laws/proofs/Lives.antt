@@ -27,16 +27,16 @@ use Rattle.sig_core.proofs.Keys.{same_tx-self}
 use Rattle.host_laws.proofs.LqhOps.{right_of, left_of}
 use Rattle.run_laws.proofs.AlongSteps.{few_taken, link, none_else, none_kept}
 use Rattle.host_laws.proofs.ApiHolds.{AreHeld, IsOrdered, log_holds}
-use Rattle.host_laws.proofs.Hosts.{TellsHome, told}
-use Rattle.host_laws.proofs.HostSteps.{first_live}
+use Rattle.host_laws.proofs.ShellHost.{TellsHome, told}
+use Rattle.host_laws.proofs.BlocksAlong.{first_live}
 use Rattle.host_laws.proofs.LinkCounts.{all_three, sent_to_shell, shell_signals, signals, steps, steps_from, taken_signals, taken_steps, to_host}
 use Rattle.host_laws.proofs.Tally.{Counted, counted, tally_in, tally_none}
 use Rattle.host_laws.specs.Counts.{one_if, tally}
-use Rattle.host_laws.proofs.TcLives.{IsKept, due_move, is_done, is_keyed, is_start, kept_move, start_of, starts_in}
+use Rattle.host_laws.proofs.TcLives.{IsKept, due_move, is_over, is_keyed, is_start, kept_move, start_of, starts_in}
 use Rattle.host_laws.proofs.TcMoves.{TcMove, end_of, host_moves, is_end, same_tx-is}
 use Rattle.host_laws.proofs.Wishes.{is_api, sends_of}
 use Rattle.answer_laws.specs.Answered.{AreQuiet, EachHasCoordinator, IsLiveAs, IsLiveAt}
-use Rattle.host_laws.specs.Opened.{opened_after, opened_in}
+use Rattle.host_laws.specs.OpenedAfter.{opened_after, opened_in}
 use Rattle.tc_block.specs.Phases.{is_completing}
 use Rattle.run_laws.proofs.Begun.{AreOrdered, HostKeeps, keeps, ordered_past, plain_end, plain_start, silent_end, silent_start}
 
@@ -94,8 +94,8 @@ module _ (start : Start) (tx : TxId) where
         unfinished : (b : Bool) → is_completing c.item.1.phase ≡ b → is_completing c.item.1.phase ≡ false
         unfinished false e = e
         unfinished true e =
-            let done : is_done tx c.item ≡ true = ap (λ b. b && is_completing c.item.1.phase) c.passes ∙ e in
-            absurd (omega (arith, k.keeps.told (tally_in (is_done tx) c.item (tc_of (after start h (logs h))).live c.inside done), none))
+            let done : is_over tx c.item ≡ true = ap (λ b. b && is_completing c.item.1.phase) c.passes ∙ e in
+            absurd (omega (arith, k.keeps.told (tally_in (is_over tx) c.item (tc_of (after start h (logs h))).live c.inside done), none))
 
     -- it was told once to have begun, and what the API holds isn't told to have ended
     pub once_started : steps (is_start tx) (logs 0) ≤ 1

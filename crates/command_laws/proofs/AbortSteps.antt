@@ -25,7 +25,7 @@ use Rattle.world_core.specs.Machine.{after}
 use Rattle.world_core.specs.Start.{Start}
 use Rattle.world_core.specs.Steps.{HostStep}
 use Rattle.host_laws.specs.Counts.{one_if}
-use Rattle.host_laws.proofs.HostSteps.{no_live}
+use Rattle.host_laws.proofs.BlocksAlong.{no_live}
 use Rattle.host_laws.proofs.SendKinds.{none_of}
 use Rattle.host_laws.proofs.TcMoves.{same_tx-is}
 use Rattle.host_laws.proofs.TcSends.{tx_in}
@@ -36,7 +36,7 @@ use Rattle.run_laws.specs.Live.{of_live}
 use Rattle.command_laws.proofs.AbortTurns.{StaysLoose, is_loose, is_mild, is_more, is_requested, is_roll, loose_turn}
 use Rattle.command_laws.proofs.Homes.{lives_home, sound_at}
 use Rattle.command_laws.proofs.HostSends.{IsOfTc, is_other_kind}
-use Rattle.command_laws.proofs.HostSteps.{tc_host}
+use Rattle.command_laws.proofs.BlockSteps.{tc_host}
 use Rattle.command_laws.proofs.Since.{sent_since}
 use Rattle.command_laws.proofs.TcPath.{IsSound, TcGoes, aside, begins, is_told, takes, tc_goes, told_of}
 use Rattle.command_laws.proofs.TellsSince.{OnTc}
@@ -144,7 +144,7 @@ module _ (tx : TxId) where
         fine = subst (LooseOption c) live old.loose
 
         q : StaysLoose then_c (turn_row s body t)
-        q = subst (λ b. StaysLoose (if b then true else c) (turn_row s body t)) (roll_same body same) (loose_turn c s tx body t (more_kind body plain same) fine.0 fine.1)
+        q = subst (λ b. StaysLoose (if b then true else c) (turn_row s body t)) (roll_same body same) (loose_turn c s tx body t same (more_kind body plain same) fine.0 fine.1)
 
         by : (b : Bool) → (turn_row s body t).over ≡ b → LooseOption then_c (if b then None else Some (turn_row s body t).step.state)
         by true over = tt

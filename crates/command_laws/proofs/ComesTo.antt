@@ -3,7 +3,7 @@ use Rattle.std.proofs.Common.{◌⊎◌, inl, inr}
 use Rattle.std.specs.Prelude.{Some}
 use Rattle.sig_core.specs.declared.request.ApiReq.TheVariants as request
 use Rattle.answer_laws.proofs.Answers.{each_answered}
-use Rattle.host_laws.specs.Opened.{opened_after}
+use Rattle.host_laws.specs.OpenedAfter.{opened_after}
 use Rattle.command_laws.proofs.Committed.{commits_committed}
 use Rattle.command_laws.proofs.OperationAnswered.{operations_answered}
 use Rattle.command_laws.proofs.TurnedDown.{TakesCommands, TakesOperations, commit_taken, operation_taken}

@@ -43,12 +43,12 @@ use Rattle.host_laws.proofs.Tally.{only_one, tally_append, tally_between, tally_
 use Rattle.host_laws.proofs.TcLives.{is_start, start_of}
 use Rattle.host_laws.proofs.Wishes.{is_api, sends_of}
 use Rattle.host_laws.specs.Counts.{one_if, tally}
-use Rattle.host_laws.specs.Opened.{opened_in}
+use Rattle.host_laws.specs.OpenedAfter.{opened_in}
 use Rattle.command_laws.proofs.ApiChanges.{ApiChange, IsOneOf, answers, api_changes, commits, ends, refuses, rests, starts, waits}
 use Rattle.command_laws.proofs.EarlySteps.{is_wish_to}
 use Rattle.command_laws.proofs.Entries.{HasOne, IsApart, NoneBegins, here_or_apart}
 use Rattle.command_laws.proofs.HostKinds.{replies_are}
-use Rattle.command_laws.proofs.HostSteps.{api_host, api_seen}
+use Rattle.command_laws.proofs.BlockSteps.{api_host, api_seen}
 
 abbrev begins_any : OpenTransaction → Bool
 begins_any t = is_beginning t.doing

@@ -36,11 +36,11 @@ use Rattle.host_laws.proofs.SendKinds.{none_of}
 use Rattle.host_laws.proofs.TcMoves.{same_tx-is}
 use Rattle.host_laws.proofs.Wishes.{is_tc, sends_of}
 use Rattle.host_laws.specs.Counts.{one_if}
-use Rattle.host_laws.specs.Opened.{opened_in}
+use Rattle.host_laws.specs.OpenedAfter.{opened_in}
 use Rattle.command_laws.proofs.ApiChanges.{ApiChange, IsOneOf, answers, api_changes, commits, ends, is_news_kind, refuses, rests, starts, waits}
 use Rattle.command_laws.proofs.EarlySteps.{is_wish_to, wish_of}
 use Rattle.command_laws.proofs.Entries.{HasOne, IsNamed, NoneBegins, named_found}
-use Rattle.command_laws.proofs.HostSteps.{api_host}
+use Rattle.command_laws.proofs.BlockSteps.{api_host}
 use Rattle.command_laws.proofs.Pushes.{change_calm, is_node_kind}
 use Rattle.command_laws.proofs.Since.{sent_since}
 use Rattle.command_laws.proofs.Tests.{and_off}

@@ -29,7 +29,7 @@ use Rattle.host_laws.proofs.Wishes.{is_api, is_tc, sends_of}
 use Rattle.run_laws.specs.Live.{of_live}
 use Rattle.command_laws.proofs.Firm.{firm_turn, is_firm, is_no_abort}
 use Rattle.command_laws.proofs.FirmHosts.{is_back, no_back_firm, not_push, push_of}
-use Rattle.command_laws.proofs.HostSteps.{tc_host}
+use Rattle.command_laws.proofs.BlockSteps.{tc_host}
 use Rattle.command_laws.proofs.TcPath.{IsSound, TcGoes, aside, begins, is_told, takes, tc_goes, told_of, told_tc}
 use Rattle.host_laws.proofs.TcSteps.{left_of_turn}
 use Rattle.host_laws.proofs.TcTurns.{turn_row}

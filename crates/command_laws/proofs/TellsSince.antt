@@ -18,7 +18,7 @@ use Rattle.host_laws.proofs.Wishes.{sends_of}
 use Rattle.command_laws.proofs.FirmHosts.{is_back}
 use Rattle.command_laws.proofs.Homes.{lives_home, sound_at}
 use Rattle.command_laws.proofs.HostSends.{not_of_api, shell_silent}
-use Rattle.command_laws.proofs.HostSteps.{tc_host}
+use Rattle.command_laws.proofs.BlockSteps.{tc_host}
 use Rattle.command_laws.proofs.Since.{sent_since}
 use Rattle.command_laws.proofs.TcPath.{TcGoes, aside, begins, is_told, takes, tc_goes, told_tc}
 use Rattle.command_laws.proofs.TellsOnce.{HasTold, host_tells, is_wish_back_to, none_told}
@@ -53,7 +53,7 @@ module _ (start : Start) (tx : TxId) where
     where
       goes : {step : Step TcState} → TcGoes tx (tc_of (after start h (newer ++ log))) e.step.taken.body step
           → sends_of (is_told tx) step.effects.sends ≡ 0
-      goes (aside same none more) = none
+      goes (aside same none more absent) = none
       goes (begins number now none more) = none
       goes (takes t same was sends left more) = absurd (away (lives_home start tx h (newer ++ log) low t was))
 

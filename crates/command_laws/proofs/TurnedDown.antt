@@ -26,11 +26,11 @@ use Rattle.node_core.specs.Replies.{replies_of}
 use Rattle.world_core.specs.Machine.{after}
 use Rattle.world_core.specs.Start.{Start}
 use Rattle.world_core.specs.Steps.{HostStep}
-use Rattle.host_laws.specs.Opened.{opened_in}
+use Rattle.host_laws.specs.OpenedAfter.{opened_in}
 use Rattle.command_laws.proofs.First.{IsFirst, first_step, request_first}
 use Rattle.command_laws.proofs.HostKinds.{replies_are}
 use Rattle.command_laws.proofs.Told.{told_since}
-use Rattle.command_laws.specs.Served.{IsServed, named_in, replies_since}
+use Rattle.command_laws.specs.Served.{IsServedBetween, named_in, replies_since}
 use Rattle.command_laws.specs.TurnedDown.{IsRefusedWhereDue, IsTurnedDown, abort_refused, busy_or, commit_refused, full_at, name_of_request, no_member_at, none_to_serve, operation_refused, turned_down_for}
 
 -- the first transaction of the name takes commands
@@ -184,7 +184,7 @@ module _ (s : ApiState) where
       record { takes = taken.0; few = subst (λ (u : OpenTransaction). u.operations < 64) (sym taken.1) (few_of t.item.operations taken.2) }
 
 -- what the first step replies is told since then
-module _ (start : Start) (was now : ℕ → List HostStep) (q : ApiReq) (served : IsServed start was now q) where
+module _ (start : Start) (was now : ℕ → List HostStep) (q : ApiReq) (served : IsServedBetween start was now q) where
   pub refused_where_due : IsRefusedWhereDue start was now q
   refused_where_due r due =
       subst (λ log. IsIn (Refused (name_of_request q) r) (drop (length (replies_of (after start 0 (was 0)))) (replies_of (after start 0 log)))) (sym f.is)
@@ -206,12 +206,12 @@ module _ (start : Start) (was now : ℕ → List HostStep) (q : ApiReq) (served 
       by None free = inr (takes free)
       by (Some r) due = inl (record { refusal = r; due = due; told = refused_where_due r due })
 
-pub commit_taken : (start : Start) (was now : ℕ → List HostStep) (name : ℕ) → IsServed start was now (request.Commit name)
+pub commit_taken : (start : Start) (was now : ℕ → List HostStep) (name : ℕ) → IsServedBetween start was now (request.Commit name)
     → IsTurnedDown start was now (request.Commit name) ⊎ TakesCommands (opened_in (after start 0 (was 0))) name
 commit_taken start was now name served =
     turned_or start was now (request.Commit name) served (commit_takes (api_of (after start 0 (was 0))) name)
 
-pub operation_taken : (start : Start) (was now : ℕ → List HostStep) (name : ℕ) (op : Op) → IsServed start was now (request.Operate (Some name) op)
+pub operation_taken : (start : Start) (was now : ℕ → List HostStep) (name : ℕ) (op : Op) → IsServedBetween start was now (request.Operate (Some name) op)
     → IsTurnedDown start was now (request.Operate (Some name) op) ⊎ TakesOperations (opened_in (after start 0 (was 0))) name
 operation_taken start was now name op served =
     turned_or start was now (request.Operate (Some name) op) served (operate_takes (api_of (after start 0 (was 0))) name op)

@@ -20,10 +20,10 @@ use Rattle.world_core.specs.Quiet.{IsQuiet}
 use Rattle.world_core.specs.Requests.{AreAskedAtQuiet, request_in}
 use Rattle.world_core.specs.Start.{Start}
 use Rattle.answer_laws.specs.Answered.{IsAnswered}
-use Rattle.host_laws.specs.Opened.{opened_after}
+use Rattle.host_laws.specs.OpenedAfter.{opened_after}
 use Rattle.command_laws.specs.Alone.{IsRefusedAlone, IsTurnedAway, WaitsAlone}
 use Rattle.command_laws.specs.Between.{IsAskedAgain, IsServedIn}
-use Rattle.command_laws.specs.Served.{IsAnsweredAlone, IsAnsweredAs, IsCommittedAlone, IsRefusedAs, IsServed, IsToldCommitted, IsToldHolder, StillWaits, named_in, replies_since}
+use Rattle.command_laws.specs.Served.{IsAnsweredAlone, IsAnsweredAs, IsCommittedAlone, IsRefusedAs, IsServedBetween, IsToldCommitted, IsToldHolder, StillWaits, named_in, replies_since}
 use Rattle.command_laws.specs.TurnedDown.{IsRefusedWhereDue, IsTurnedDown}
 
 -- its operation waits for a lock
@@ -59,10 +59,10 @@ LoneComesTo start was now = IsDoneAlone start was now ⊎ (IsRefusedAlone start 
 abbrev pub OperationsComeTo : Type 0
 OperationsComeTo =
     (start : Start) (was now : ℕ → List HostStep) (name : ℕ) (op : Op)
-    → IsServed start was now (request.Operate (Some name) op) → OperationComesTo start was now name op
+    → IsServedBetween start was now (request.Operate (Some name) op) → OperationComesTo start was now name op
 
 abbrev pub CommitsComeTo : Type 0
-CommitsComeTo = (start : Start) (was now : ℕ → List HostStep) (name : ℕ) → IsServed start was now (request.Commit name) → CommitComesTo start was now name
+CommitsComeTo = (start : Start) (was now : ℕ → List HostStep) (name : ℕ) → IsServedBetween start was now (request.Commit name) → CommitComesTo start was now name
 
 -- the transaction of this name takes commands
 pub record TakesCommands (start : Start) (logs : ℕ → List HostStep) (name : ℕ) (tx : TxId) : Type 0 where
@@ -91,7 +91,7 @@ AnswersRequest start was now (request.Commit name) =
     CommitComesTo start was now name × ((tx : TxId) → TakesCommands start was name tx → IsToldCommitted start was now name tx)
 AnswersRequest start was now (request.Abort name) = (tx : TxId) → TakesCommands start was name tx → IsAbortedAs start was now name
 AnswersRequest start was now request.Pending =
-    (first : ℕ → List HostStep) → IsServed start first was request.Waits → is_left_open (after start 0 (first 0)) ≡ true → IsToldHolder start first was now
+    (first : ℕ → List HostStep) → IsServedBetween start first was request.Waits → is_left_open (after start 0 (first 0)) ≡ true → IsToldHolder start first was now
 AnswersRequest start was now request = Unit {0}
 
 -- The request that comes after `before` in the log of the shell's host is served between two quiet moments of these logs and
