@@ -1,5 +1,5 @@
 -- What a step of the API does to its transactions, case by case.
-use Rattle.std.proofs.Common.{◌≡◌, ℕ, ◌+◌, List, [], ◌∷◌, ◌++◌, Bool, true, false, refl, sym, ap, subst}
+use Rattle.std.proofs.Common.{◌≡◌, ℕ, ◌+◌, List, [], ◌∷◌, ◌++◌, Bool, true, false, refl, sym, subst}
 use Rattle.std.specs.Prelude.{◌&&◌, Option, None, Some, nat_lt}
 use Rattle.sig_core.specs.declared.member.Member.{Member}
 use Rattle.sig_core.specs.declared.member.TxId.{TxId}
@@ -103,15 +103,15 @@ beginning_of : (name : Option ℕ) (node : ℕ) (t : OpenTransaction) → begins
 beginning_of name node t e = left_of (is_beginning t.doing) _ (left_of (is_beginning t.doing && same_name t.name name) _ e)
 
 not_operating : (d : Doing) → (d ≡ Operating → ⊥) → is_operating d ≡ false
-not_operating (Beginning op) idle = refl
-not_operating Ready idle = refl
-not_operating Operating idle = absurd (idle refl)
-not_operating Committing idle = refl
+not_operating (Beginning op) other = refl
+not_operating Ready other = refl
+not_operating Operating other = absurd (other refl)
+not_operating Committing other = refl
 
--- what an answer is of is told to nobody where none has its number
-unheard_of : {opened : List OpenTransaction} (body : Body) → IsStray opened body → IsUnheard opened body
-unheard_of (Client (TcKeyConf one answer)) stray = absent stray
-unheard_of _ stray = tt
+-- an answer is for none where none has its number
+unheard_of : (opened : List OpenTransaction) (body : Body) → IsStray opened body → IsUnheard opened body
+unheard_of opened (Client (TcKeyConf one answer)) stray = absent stray
+unheard_of opened _ stray = tt
 
 at_signal : (s : ApiState) (body : Body) → SignalForms s body (ApiStep s body)
 at_signal s body = record {
@@ -134,7 +134,7 @@ at_signal s body = record {
       changes f.front f.item _ f.back f.is (f.set _) (notes (subst IsNoAnswer (sym is) (λ tx. refl)) refl refl refl refl);
   dumps = λ d rows next at is. rests refl refl (subst (IsUnheard s.opened) (sym is) tt);
   dumped = λ d rows next is. rests refl refl (subst (IsUnheard s.opened) (sym is) tt);
-  rests = λ void stray. rests refl refl (unheard_of body stray);
+  rests = λ void stray. rests refl refl (unheard_of s.opened body stray);
 }
 
 -- each step of the API is one of these

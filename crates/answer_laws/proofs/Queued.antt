@@ -8,7 +8,6 @@ use Rattle.lqh_block.specs.State.{LqhState}
 use Rattle.lqh_block.specs.Work.{work_key}
 use Rattle.node_core.proofs.HostCases.{IsRowsStep, keeps_rows}
 use Rattle.node_core.specs.Blocks.{lqh_of}
-use Rattle.node_core.specs.declared.host.Host.{Host}
 use Rattle.node_core.specs.Fresh.{fresh_part}
 use Rattle.node_core.specs.Requests.{is_request}
 use Rattle.run_theory.specs.Links.{is_from, sent, taken}

@@ -9,7 +9,7 @@ use Rattle.node_core.specs.declared.host.Host as host
 use Rattle.node_core.specs.Dih.{dih_table}
 use Rattle.node_core.specs.Requests.{is_request}
 use Rattle.node_core.specs.Row.{row}
-use Rattle.run_theory.specs.Links.{sent, taken}
+use Rattle.run_theory.specs.Links.{sent}
 use Rattle.run_theory.specs.Runs.{AreLogs, IsWithin}
 use Rattle.sig_core.specs.declared.member.TxId.{TxId}
 use Rattle.sig_core.specs.declared.outs.Outgoing.{Outgoing}

@@ -4,8 +4,8 @@ use Rattle.tc_block.specs.Phases.{is_completing, is_aborting}
 use Rattle.host_laws.specs.Phases.{is_committing}
 use Rattle.host_laws.specs.OpenedAfter.{opened_after}
 use Rattle.world_core.specs.Hosts.{home, rows_host}
-use Rattle.node_core.specs.Blocks.{api_of, lqh_of, tc_of}
-use Rattle.std.specs.Prelude.{◌≡◌, ◌≤◌, ℕ, Bool, true, false, is_some, List, [], Option, None, Some, ◌<◌}
+use Rattle.node_core.specs.Blocks.{lqh_of, tc_of}
+use Rattle.std.specs.Prelude.{◌≡◌, ◌≤◌, ℕ, Bool, true, false, is_some, List, Option, None, Some, ◌<◌}
 use Rattle.api_block.specs.declared.opened.Doing.{Doing}
 use Rattle.api_block.specs.declared.opened.Doing.TheVariants.{Ready, Operating, Committing}
 use Rattle.api_block.specs.declared.opened.OpenTransaction.{OpenTransaction}
@@ -21,7 +21,6 @@ use Rattle.world_core.specs.Steps.{HostStep}
 use Rattle.sig_core.specs.declared.member.TxId.{TxId}
 use Rattle.sig_core.specs.Op.{key_of}
 use Rattle.tc_block.specs.declared.phase.Asked.{Asked}
-use Rattle.tc_block.specs.declared.phase.Phase.{Phase}
 use Rattle.tc_block.specs.declared.phase.Phase.TheVariants as phases
 use Rattle.tc_block.specs.declared.transaction.Transaction.{Transaction}
 use Rattle.tc_block.specs.Abort.{is_verifying}

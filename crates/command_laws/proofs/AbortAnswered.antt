@@ -1,7 +1,7 @@
 -- An abort of a transaction that takes commands ends in its being aborted at the client's request.
-use Rattle.std.proofs.Common.{◌≡◌, ◌⊎◌, ◌<◌, ◌≤◌, ◌+◌, ℕ, zero, suc, Bool, true, false, List, [], ◌∷◌, ◌++◌, refl, sym, ap, ◌∙◌, subst, inl, inr, append_assoc, arith}
+use Rattle.std.proofs.Common.{◌≡◌, ◌⊎◌, ◌<◌, ◌≤◌, ◌+◌, ℕ, zero, suc, Bool, true, false, List, [], ◌∷◌, ◌++◌, refl, sym, ap, ◌∙◌, subst, inl, inr, arith}
 use Rattle.std.specs.Prelude.{if◌then◌else◌, Some}
-use Rattle.run_theory.proofs.Pasts.{each_in, each_map}
+use Rattle.run_theory.proofs.Pasts.{each_map}
 use Rattle.run_theory.specs.Cuts.{IsCut}
 use Rattle.run_theory.specs.Lists.{Each, IsIn}
 use Rattle.sig_core.proofs.Keys.{same_tx-self}
@@ -29,7 +29,6 @@ use Rattle.world_core.specs.Start.{Start}
 use Rattle.world_core.specs.Steps.{HostStep}
 use Rattle.host_laws.specs.Counts.{one_if}
 use Rattle.run_laws.proofs.AlongSteps.{live_tx}
-use Rattle.host_laws.proofs.ApiBegins.{in_middle}
 use Rattle.host_laws.proofs.LinkCounts.{steps}
 use Rattle.answer_laws.proofs.Lives.{live_low}
 use Rattle.host_laws.proofs.Wishes.{is_tc, sends_of}

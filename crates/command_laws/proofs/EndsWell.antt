@@ -1,7 +1,7 @@
 -- A transaction that is neither to be committed nor aborted at the client's wish ends for want of room or of time.
 use Rattle.std.proofs.Common.{◌≡◌, ℕ, zero, suc, Bool, true, false, List, [], ◌∷◌, ◌++◌, refl, sym, ap, ◌∙◌, subst, append_assoc}
 use Rattle.std.specs.Prelude.{Option, Some, drop, if◌then◌else◌, length, not}
-use Rattle.run_theory.proofs.Pasts.{each_in, each_map}
+use Rattle.run_theory.proofs.Pasts.{each_map}
 use Rattle.run_theory.specs.Cuts.{IsCut}
 use Rattle.run_theory.specs.Lists.{Each, IsIn, IsPast}
 use Rattle.sig_core.proofs.Keys.{same_tx-self}
@@ -23,7 +23,6 @@ use Rattle.world_core.specs.Hosts.{home}
 use Rattle.world_core.specs.Machine.{after}
 use Rattle.world_core.specs.Start.{Start}
 use Rattle.world_core.specs.Steps.{HostStep}
-use Rattle.host_laws.proofs.ApiBegins.{in_middle}
 use Rattle.host_laws.proofs.Wishes.{is_tc}
 use Rattle.command_laws.proofs.ApiChanges.{outcome_in}
 use Rattle.command_laws.proofs.Committed.{cut_at_first}

@@ -66,7 +66,7 @@ fails_at_end tx name start later log first test ended plain none =
     each_in Fails ended.step later (each_before Fails later (first ∷ []) none) inside
     (each_in (λ (e : HostStep). is_request e.step.taken.body ≡ false) ended.step later plain inside)
   where
-    abbrev Fails : HostStep → Type 0
+    Fails : HostStep → Type 0
     Fails e = is_request e.step.taken.body ≡ false → test e.step.taken.to e.step.taken.body ≡ false
 
     inside : IsIn ended.step later

@@ -23,7 +23,6 @@ use Rattle.world_core.specs.Machine.{after}
 use Rattle.world_core.specs.Start.{Start}
 use Rattle.world_core.specs.Steps.{HostStep}
 use Rattle.host_laws.proofs.ApiBegins.{each_at, each_changed, each_less}
-use Rattle.host_laws.proofs.ApiMoves.{ends, goes}
 use Rattle.host_laws.proofs.SendKinds.{none_of}
 use Rattle.host_laws.proofs.TcLives.{apart}
 use Rattle.host_laws.proofs.TcSends.{tx_in}
@@ -130,7 +129,7 @@ module _ (tx : TxId) where
             (none_of is_no_abort (is_back tx) no_back_firm (turn_row s body t).step.effects.sends stays.sends) (λ own. stays.firm)
         by false differs =
             turn_firm step t front back was is
-            (none_of (is_said (tx_in body)) (is_back tx) (no_back_other (tx_in body) differs) (turn_row s body t).step.effects.sends (turn_said s body t about))
+            (none_of (is_said (tx_in body)) (is_back tx) (no_back_other (tx_in body) differs) (turn_row s body t).step.effects.sends (turn_said s body t))
             (λ own. absurd (let both : false ≡ true = sym differs ∙ own in cc))
 
   abbrev pub FirmHost : Host → Type 0

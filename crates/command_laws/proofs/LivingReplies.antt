@@ -4,12 +4,14 @@ use Rattle.std.specs.Prelude.{Option, None, map}
 use Rattle.run_theory.specs.Lists.{Each}
 use Rattle.run_theory.proofs.EachSent.{each_mapped}
 use Rattle.run_theory.proofs.Pasts.{each_append}
-use Rattle.sig_core.specs.declared.outcome.AbortCause.{AbortCause}
 use Rattle.sig_core.specs.declared.reply.ApiReply.{ApiReply}
 use Rattle.sig_core.specs.declared.reply.ApiReply.TheVariants.{Refused}
 use Rattle.sig_core.specs.declared.reply.Refusal.{Refusal}
 use Rattle.sig_core.specs.declared.reply.Refusal.TheVariants as refusal
 use Rattle.sig_core.specs.declared.signal.Body.{Body}
+use Rattle.sig_core.specs.declared.signal.Body.TheVariants.{Host}
+use Rattle.sig_core.specs.declared.signal.host.HostSignal.TheVariants.{Continue}
+use Rattle.sig_core.specs.declared.signal.host.Work.TheVariants as work
 use Rattle.sig_core.specs.Step.{Step}
 use Rattle.api_block.specs.declared.members.News.TheVariants as news
 use Rattle.api_block.specs.Api.{api_table}
@@ -20,7 +22,7 @@ use Rattle.api_block.specs.Members.{everyone, telling_all}
 use Rattle.api_block.specs.State.{ApiState, about}
 use Rattle.host_laws.proofs.ApiTurns.{RequestForms, SignalForms, api_turns}
 use Rattle.command_laws.proofs.LivingTurns.{is_sound}
-use Rattle.command_laws.specs.Living.{is_living, is_of_living}
+use Rattle.command_laws.specs.Living.{is_of_living}
 
 abbrev pub AllLiving : List ApiReply → Type 0
 AllLiving replies = Each (λ (reply : ApiReply). is_of_living reply ≡ true) replies
@@ -87,4 +89,4 @@ module _ (s : ApiState) (all : AllLiving s.replies) where
   }
 
   pub api_lives : (body : Body) → is_sound body ≡ true → AllLiving (api_table s body).state.replies
-  api_lives body = api_turns s Lives body (λ r at. at_request _) (at_signal body)
+  api_lives body = api_turns s Lives body (λ r at. at_request (Host (Continue (work.Request r) at))) (at_signal body)

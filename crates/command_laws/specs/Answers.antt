@@ -1,6 +1,6 @@
 -- What each request of the shell comes to.
 use Rattle.frag_map.specs.Shape.{IsShape}
-use Rattle.std.specs.Prelude.{◌≡◌, ◌<◌, ◌≤◌, ◌⊎◌, ℕ, true, List, ◌∷◌, ◌++◌, None, Some}
+use Rattle.std.specs.Prelude.{◌≡◌, ◌<◌, ◌⊎◌, ℕ, true, List, ◌∷◌, ◌++◌, None, Some}
 use Rattle.run_theory.specs.Lists.{IsIn}
 use Rattle.run_theory.specs.Runs.{AreLogs, IsWithin}
 use Rattle.api_block.specs.declared.opened.Doing.TheVariants.{Ready}

@@ -1,6 +1,6 @@
 -- Each request is served between two quiet moments.
 use Rattle.frag_map.specs.Shape.{IsShape}
-use Rattle.std.specs.Prelude.{◌≡◌, ◌≤◌, ◌⊎◌, ℕ, true, List, ◌∷◌, ◌++◌, Some}
+use Rattle.std.specs.Prelude.{◌≡◌, ◌⊎◌, ℕ, true, List, ◌∷◌, ◌++◌, Some}
 use Rattle.run_theory.specs.Cuts.{IsCut}
 use Rattle.run_theory.specs.Runs.{AreLogs, IsWithin}
 use Rattle.world_core.specs.Steps.{HostStep}

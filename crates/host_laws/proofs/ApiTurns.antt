@@ -6,7 +6,7 @@ use Rattle.sig_core.specs.declared.op.Answer.{Answer}
 use Rattle.sig_core.specs.declared.op.Op.{Op}
 use Rattle.sig_core.specs.declared.outcome.AbortCause.{AbortCause}
 use Rattle.sig_core.specs.declared.outcome.Outcome.TheVariants as outcome
-use Rattle.sig_core.specs.declared.reply.ApiReply.TheVariants.{Answered, Begun, Pending, Refused, Ticked}
+use Rattle.sig_core.specs.declared.reply.ApiReply.TheVariants.{Answered, Begun, Pending, Refused}
 use Rattle.sig_core.specs.declared.reply.Refusal.{Refusal}
 use Rattle.sig_core.specs.declared.reply.Refusal.TheVariants as refusal
 use Rattle.sig_core.specs.declared.reply.Waiting.TheVariants.{HeldBy}

@@ -12,7 +12,7 @@ use Rattle.sig_core.specs.declared.place.BlockId.TheVariants as block
 use Rattle.sig_core.specs.declared.signal.Body.{Body}
 use Rattle.sig_core.specs.declared.signal.Body.TheVariants.{Client}
 use Rattle.sig_core.specs.declared.signal.Signal.{Signal}
-use Rattle.sig_core.specs.declared.signal.client.ClientSignal.TheVariants.{TcBeginReq, TcBeginConf, TcBeginRef, TcCommitConf, TcRollbackRep}
+use Rattle.sig_core.specs.declared.signal.client.ClientSignal.TheVariants.{TcBeginReq, TcBeginConf, TcBeginRef}
 use Rattle.sig_core.specs.declared.view.View.{View}
 use Rattle.sig_core.specs.Place.{coordinator}
 use Rattle.sig_core.specs.Step.{Step}
@@ -41,8 +41,6 @@ use Rattle.host_laws.proofs.BlocksAlong.{IsHome, at_own_node}
 use Rattle.host_laws.proofs.LinkCounts.{sent_truths}
 use Rattle.host_laws.proofs.LqhSends.{lqh_kinds}
 use Rattle.host_laws.proofs.SendKinds.{are_of, each_of, is_dih_kind, is_lqh_kind, is_tc_kind, none_of}
-use Rattle.host_laws.proofs.TcLives.{start_of}
-use Rattle.host_laws.proofs.TcMoves.{end_of}
 use Rattle.host_laws.proofs.TcSends.{tc_kinds, tx_in}
 use Rattle.host_laws.proofs.Wishes.{and_false, dih_replies, dih_wishes, is_api, is_reply, is_tc, is_wish, lqh_replies, lqh_wishes, reply_of, sends_of, tc_replies, tc_wishes, to_node, wish_of}
 use Rattle.host_laws.specs.OpenedAfter.{opened_in}

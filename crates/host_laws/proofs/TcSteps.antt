@@ -9,7 +9,6 @@ use Rattle.indexmap.specs.IndexMap.{insert_entry}
 use Rattle.run_theory.proofs.Pasts.{each_map}
 use Rattle.run_theory.specs.Lists.{Each, IsIn}
 use Rattle.sig_core.specs.declared.member.TxId.{TxId}
-use Rattle.sig_core.specs.declared.outcome.AbortCause.{AbortCause}
 use Rattle.sig_core.specs.declared.signal.Body.{Body}
 use Rattle.sig_core.specs.declared.signal.Body.TheVariants.{Host, Client, Chain, Epoch}
 use Rattle.sig_core.specs.declared.signal.chain.ChainSignal.TheVariants.{LqhKeyReq, LqhKeyConf, LqhKeyRef, Commit, Committed, Complete, Completed, Abort, Aborted}
@@ -17,22 +16,18 @@ use Rattle.sig_core.specs.declared.signal.client.ClientSignal.TheVariants.{TcBeg
 use Rattle.sig_core.specs.declared.signal.epoch.EpochSignal.TheVariants.{DiVerifyReq, DiVerifyConf, DiVerifyEnd}
 use Rattle.sig_core.specs.declared.signal.host.HostSignal.TheVariants.{Continue}
 use Rattle.sig_core.specs.declared.signal.host.Work.TheVariants as work
-use Rattle.frag_map.specs.Layout.{Layout}
 use Rattle.sig_core.specs.Place.{client}
 use Rattle.sig_core.specs.Same.{same_tx}
 use Rattle.sig_core.specs.Step.{Step, sending, stay}
 use Rattle.tc_block.specs.declared.transaction.Transaction.{Transaction}
-use Rattle.tc_block.specs.Abort as abort
-use Rattle.frag_map.specs.Layout.{chain_of}
 use Rattle.tc_block.specs.Live.{place_in, step_of, turn_of, turn_place, turn_value, turned_if, without}
 use Rattle.tc_block.specs.Operate.{fresh}
-use Rattle.tc_block.specs.Sends.{abort_of}
 use Rattle.tc_block.specs.State.{TcState, with_live}
 use Rattle.tc_block.specs.Tc.{begin_if, begin_row, begun, is_full, next_tx, pass_if, pass_row, tc_table}
 use Rattle.tc_block.specs.Turn.{Turn, going}
 use Rattle.sig_core.proofs.Keys.{same_tx-self}
 use Rattle.host_laws.proofs.NodeOps.{absent_key}
-use Rattle.host_laws.proofs.SendKinds.{are_of, of_kind, of_map}
+use Rattle.host_laws.proofs.SendKinds.{are_of, of_kind}
 use Rattle.host_laws.proofs.Tally.{tally_append, tally_between, tally_in}
 use Rattle.host_laws.specs.Counts.{one_if, tally}
 use Rattle.host_laws.proofs.TcLives.{IsOwn, apart, insert_new, is_keyed}
