@@ -25,6 +25,7 @@ pub mod Ops
 pub mod Queued
 pub mod Rights
 pub mod SampleQuiet
+pub mod SentInParts
 pub mod Serves
 pub mod Strangers
 pub mod TcAborts
