@@ -20,7 +20,7 @@ use Rattle.sig_core.specs.Step.{to_place}
 use Rattle.world_core.specs.Hosts.{home, host_for, hosts}
 use Rattle.world_core.specs.Start.{Start}
 use Rattle.run_laws.proofs.AlongSteps.{home_place}
-use Rattle.host_laws.proofs.HostSteps.{reaches}
+use Rattle.host_laws.proofs.BlocksAlong.{reaches}
 use Rattle.host_laws.proofs.LinkCounts.{to_host}
 use Rattle.host_laws.proofs.LqhOps.{is_lqh, is_node, left_of, right_of, true_and}
 use Rattle.host_laws.proofs.Tally.{and_few, tally_append}

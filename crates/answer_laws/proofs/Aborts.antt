@@ -8,8 +8,8 @@ use Rattle.frag_map.specs.Shape.{IsShape}
 use Rattle.node_core.proofs.HostCases.{IsRowsStep}
 use Rattle.node_core.specs.Blocks.{lqh_of, tc_of}
 use Rattle.node_core.specs.declared.host.Host.{Host}
-use Rattle.run_theory.specs.Links.{is_from, sent, taken}
-use Rattle.run_theory.specs.Runs.{AreLogs, log_of}
+use Rattle.run_theory.specs.Links.{sent, taken}
+use Rattle.run_theory.specs.Runs.{log_of}
 use Rattle.sig_core.specs.declared.member.TxId.{TxId}
 use Rattle.sig_core.specs.declared.outcome.AbortCause.{AbortCause}
 use Rattle.sig_core.specs.declared.outs.Outgoing.{Outgoing}
@@ -26,23 +26,21 @@ use Rattle.world_core.specs.Hosts.{home, hosts}
 use Rattle.world_core.specs.Machine.{after, machine, step_after}
 use Rattle.world_core.specs.Start.{Start}
 use Rattle.world_core.specs.Steps.{HostStep}
-use Rattle.host_laws.proofs.Sums.{total_le, total_same}
-use Rattle.host_laws.proofs.Tally.{and_few}
 use Rattle.host_laws.specs.Counts.{one_if}
-use Rattle.answer_laws.proofs.AbortCounts.{abort_low, answer_turn, cont_place, cont_turn, conts_few, few_answers, few_rows, lqh_aborts, none_at}
-use Rattle.run_laws.proofs.AlongSteps.{Goes, addressed, along, at_home, at_tc, few_taken, first_none, heard_rows, home_place, live_tx, no_transaction, other_turn, the_transaction, turn_at, tx_at}
+use Rattle.answer_laws.proofs.AbortCounts.{abort_low, answer_turn, cont_place, cont_turn, few_answers, few_rows, lqh_aborts, none_at}
+use Rattle.run_laws.proofs.AlongSteps.{Goes, addressed, along, at_home, at_tc, first_none, heard_rows, home_place, live_tx, no_transaction, other_turn, the_transaction, turn_at, tx_at}
 use Rattle.run_laws.proofs.Always.{few_touched}
 use Rattle.answer_laws.proofs.FirstChains.{good_chain}
-use Rattle.host_laws.proofs.HostSteps.{IsHome, tc_layout}
+use Rattle.host_laws.proofs.BlocksAlong.{IsHome, tc_layout}
 use Rattle.host_laws.proofs.HostTurns.{HostTurn, IsAside, aside, in_rows, starting, turning}
-use Rattle.host_laws.proofs.LinkCounts.{sent_signals, signals, taken_signals}
+use Rattle.host_laws.proofs.LinkCounts.{signals}
 use Rattle.host_laws.proofs.LqhOps.{is_good, is_lqh, is_node, left_of}
-use Rattle.host_laws.proofs.PartCounts.{IsPart, cont_block, is_cont}
+use Rattle.host_laws.proofs.PartCounts.{cont_block, is_cont}
 use Rattle.answer_laws.proofs.TcAborts.{AbortMove, abort_move, aborted_body, begins, continues, is_abort, waits}
 use Rattle.host_laws.proofs.TcSends.{tx_in}
 use Rattle.host_laws.proofs.TcSteps.{live_home, of_live}
 use Rattle.host_laws.proofs.TcTurns.{is_turn}
-use Rattle.answer_laws.proofs.Totals.{Grown, sent_all, sent_more, taken_all, taken_more}
+use Rattle.answer_laws.proofs.SentInParts.{HomeStep, IsOwed, begun_owed, continued_owed, home_step, none_owed, s_more, stays_owed, t_more, waits_owed}
 use Rattle.host_laws.proofs.Wishes.{is_tc, sends_of}
 use Rattle.answer_laws.specs.Answered.{AreQuiet, NoAbortIsAwaited}
 use Rattle.tc_block.specs.Phases.{is_aborting}
@@ -64,31 +62,9 @@ module _ (start : Start) (shape : IsShape start.shape) (tx : TxId) (some_node : 
   good : (key : List ℕ) → is_good nodes (chain_of (first_layout start.shape) key) ≡ true
   good key = good_chain start.shape shape key
 
-  abbrev S : (ℕ → List HostStep) → ℕ
-  S logs = sent_all start (hosts start) (is_abort nodes tx) logs
-
-  abbrev T : (ℕ → List HostStep) → ℕ
-  T logs = taken_all start (hosts start) (is_abort nodes tx) logs
-
-  -- the signals by which its coordinator goes on at a place
-  abbrev conts_sent : ℕ → List HostStep → ℕ
-  conts_sent a log = signals (is_cont tx a) (sent (machine start) at at log)
-
-  abbrev conts_taken : ℕ → List HostStep → ℕ
-  conts_taken a log = signals (is_cont tx a) (taken (machine start) at log)
-
-  -- the rest is sent when the coordinator goes on
-  record IsLeft (logs : ℕ → List HostStep) (l a k : ℕ) : Type 0 where
-    place : ℕ
-    low : place < 512
-    coming : conts_taken place (logs at) + 1 ≤ conts_sent place (logs at)
-    owed : T logs + k + place ≤ S logs + l + a
-
-  abbrev IsOwed : (ℕ → List HostStep) → ℕ → ℕ → ℕ → Type 0
-  IsOwed logs l a k = (T logs + k ≤ S logs + a) ⊎ IsLeft logs l a k
-
   abbrev OwedBy : (ℕ → List HostStep) → Transaction → ℕ → Type 0
-  OwedBy logs t k = IsOwed logs (replica_count (first_layout start.shape) t.touched) (asked_count (first_layout start.shape) t.asked) k
+  OwedBy logs t k =
+      IsOwed start tx (is_abort nodes tx) logs (replica_count (first_layout start.shape) t.touched) (asked_count (first_layout start.shape) t.asked) k
 
   -- what its abort waits for is at most that
   record IsDue (logs : ℕ → List HostStep) (t : Transaction) (k : ℕ) : Type 0 where
@@ -97,20 +73,6 @@ module _ (start : Start) (shape : IsShape start.shape) (tx : TxId) (some_node : 
 
   abbrev AllDue : (ℕ → List HostStep) → Type 0
   AllDue logs = (t : Transaction) (why : AbortCause) (v : Bool) (k : ℕ) → tx_at tx (after start at (logs at)) ≡ Some t → t.phase ≡ Aborting why v k → IsDue logs t k
-
-  taken_few : (logs : ℕ → List HostStep) → AreLogs (machine start) logs → T logs ≤ S logs
-  taken_few logs right = total_le (hosts start) _ _ (λ i low. total_le (hosts start) _ _ (λ j under. few_taken start logs right (is_abort nodes tx) i j))
-
-  -- where nothing goes on, what was owed stays owed
-  stays_owed : (logs now : ℕ → List HostStep) (l a k : ℕ) → T now + S logs ≤ T logs + S now → ((b : ℕ) → b < 512 → conts_taken b (now at) + conts_sent b (logs at) ≤ conts_taken b (logs at) + conts_sent b (now at))
-      → IsOwed logs l a k → IsOwed now l a k
-  stays_owed logs now l a k more conts (inl enough) = inl (omega (arith, enough, more))
-  stays_owed logs now l a k more conts (inr left) = inr (record {
-    place = left.place;
-    low = left.low;
-    coming = omega (arith, left.coming, conts left.place left.low);
-    owed = omega (arith, left.owed, more);
-  })
 
   few_all : (touched : List Touched) → length touched ≤ 64 → replica_count (first_layout start.shape) touched ≤ 512
   few_all touched low = omega (arith, low, each_few touched)
@@ -129,15 +91,6 @@ module _ (start : Start) (shape : IsShape start.shape) (tx : TxId) (some_node : 
 
     abbrev sends : List Outgoing
     sends = (step_after start h (logs h) e).effects.sends
-
-    grown : Grown start (hosts start) (is_abort nodes tx) logs now h e
-    grown = record { own = g.own; others = g.others }
-
-    s_more : S now ≡ S logs + sends_of (is_abort nodes tx) sends
-    s_more = sent_more start (hosts start) (is_abort nodes tx) (abort_low start tx few_nodes) logs now h e g.low grown
-
-    t_more : T now ≤ T logs + came
-    t_more = taken_more start (hosts start) (is_abort nodes tx) logs now h e g.low grown
 
     -- rows pass on what came
     rows_pass : IsRowsStep (after start h (logs h)) x (step_after start h (logs h) e) → came ≤ sends_of (is_abort nodes tx) sends
@@ -168,23 +121,8 @@ module _ (start : Start) (shape : IsShape start.shape) (tx : TxId) (some_node : 
       own_sends : List Outgoing
       own_sends = (step_after start at (logs at) e).effects.sends
 
-      s_now : S now ≡ S logs + sends_of (is_abort nodes tx) own_sends
-      s_now = s_more logs now at e g
-
-      t_now : T now ≤ T logs + c
-      t_now = t_more logs now at e g
-
-      t_few : T logs ≤ S logs
-      t_few = taken_few logs g.before
-
-      c_sent : (a : ℕ) → conts_sent a (logs at) + sends_of (is_cont tx a) own_sends ≤ conts_sent a (now at)
-      c_sent a = omega (arith, ap (conts_sent a) g.own, sent_signals start (is_cont tx a) at at e (logs at), conts_few start tx a own_sends)
-
-      c_taken : (a : ℕ) → conts_taken a (now at) ≤ conts_taken a (logs at) + one_if (is_cont tx a e.step.taken.to e.step.taken.body)
-      c_taken a = omega (arith, ap (conts_taken a) g.own, taken_signals start (is_cont tx a) at e (logs at), and_few (is_from (machine start) at e) (is_cont tx a e.step.taken.to e.step.taken.body))
-
-      c_few : (a : ℕ) → conts_taken a (logs at) ≤ conts_sent a (logs at)
-      c_few a = few_taken start logs g.before (is_cont tx a) at at
+      f : HomeStep start tx (is_abort nodes tx) logs now own_sends e.step.taken.to e.step.taken.body
+      f = home_step start tx (is_abort nodes tx) (abort_low start tx few_nodes) logs now e g
 
       now_at : tx_at tx (step_after start at (logs at) e).state ≡ Some u
       now_at = ap (λ log. tx_at tx (after start at log)) (sym g.own) ∙ u_at
@@ -195,7 +133,10 @@ module _ (start : Start) (shape : IsShape start.shape) (tx : TxId) (some_node : 
           let due = all u why v k (sym same ∙ now_at) u_is in
           record {
             some = due.some;
-            owed = stays_owed logs now (replica_count (first_layout start.shape) u.touched) (asked_count (first_layout start.shape) u.asked) k (omega (arith, s_now, t_now, passed)) (λ b low. omega (arith, c_sent b, c_taken b, ap one_if (off b))) due.owed;
+            owed =
+                let l = replica_count (first_layout start.shape) u.touched in
+                let more = asked_count (first_layout start.shape) u.asked in
+                waits_owed start tx (is_abort nodes tx) logs now own_sends e.step.taken.to e.step.taken.body f l more k more k (omega (arith, passed)) (λ b low. off b) due.owed;
           }
 
       by : HostTurn tx s e.step.taken (step_after start at (logs at) e) → IsDue now u k
@@ -223,11 +164,8 @@ module _ (start : Start) (shape : IsShape start.shape) (tx : TxId) (some_node : 
           came : c ≤ one_if (aborted_body tx e.step.taken.body)
           came = few_answers nodes tx e.step.taken.to e.step.taken.body (ap is_lqh step.at)
 
-          s_turn : S now ≡ S logs + sends_of (is_abort nodes tx) step.turn.step.effects.sends
-          s_turn = s_now ∙ ap (λ xs. S logs + sends_of (is_abort nodes tx) xs) step.told
-
-          c_turn : (a : ℕ) → conts_sent a (logs at) + sends_of (is_cont tx a) step.turn.step.effects.sends ≤ conts_sent a (now at)
-          c_turn a = omega (arith, c_sent a, ap (sends_of (is_cont tx a)) step.told)
+          told : HomeStep start tx (is_abort nodes tx) logs now step.turn.step.effects.sends e.step.taken.to e.step.taken.body
+          told = subst (λ xs. HomeStep start tx (is_abort nodes tx) logs now xs e.step.taken.to e.step.taken.body) step.told f
 
           number : (tc_of s).node ≡ tx.tc
           number = sym (live_home tx (tc_of s) step.was step.there (at_tc start tx at (logs at)).own)
@@ -245,64 +183,30 @@ module _ (start : Start) (shape : IsShape start.shape) (tx : TxId) (some_node : 
               before other z m p = all step.was other z m step.there p
 
               moved : AbortMove nodes tx (first_layout start.shape) good step.was e.step.taken.body step.turn.step.state step.turn.step.effects.sends k → IsDue now step.turn.step.state k
-              moved (begins none off some k_is part) = record { some = some; owed = parts part }
-                where
-                  parts : IsPart (is_abort nodes tx) tx (replica_count (first_layout start.shape) step.turn.step.state.touched) 0 step.turn.step.effects.sends → OwedBy now step.turn.step.state k
-                  parts (inl p) = inr (record {
-                    place = 8;
-                    low = omega arith;
-                    coming = omega (arith, p.2, c_turn 8, c_taken 8, c_few 8, ap one_if (off 8 e.step.taken.to));
-                    owed = omega (arith, p.1, k_is, s_turn, t_now, t_few, came, ap one_if none);
-                  })
-                  parts (inr p) = inl (omega (arith, p, k_is, s_turn, t_now, t_few, came, ap one_if none))
-              moved (waits other z m p some off touched le) = record { some = some d.some; owed = by_owed d.owed }
+              moved (begins none off some k_is part) = record {
+                some = some;
+                owed = begun_owed start tx (is_abort nodes tx) logs now _ e.step.taken.to e.step.taken.body told _ _ k
+                    (omega (arith, came, ap one_if none)) (off 8 e.step.taken.to) k_is part;
+              }
+              moved (waits other z m p some off touched le) = record { some = some d.some; owed = subst (λ xs. IsOwed start tx (is_abort nodes tx) now (replica_count (first_layout start.shape) xs) (asked_count (first_layout start.shape) step.turn.step.state.asked) k) (sym touched) by_owed }
                 where
                   d : IsDue logs step.was m
                   d = before other z m p
 
-                  by_owed : OwedBy logs step.was m → OwedBy now step.turn.step.state k
-                  by_owed (inl enough) = inl (omega (arith, enough, le, s_turn, t_now, came))
-                  by_owed (inr l) = inr (record {
-                    place = l.place;
-                    low = l.low;
-                    coming = omega (arith, l.coming, c_turn l.place, c_taken l.place, ap one_if (off l.place e.step.taken.to l.low));
-                    owed = omega (arith, l.owed, le, s_turn, t_now, came, ap (replica_count (first_layout start.shape)) touched);
-                  })
-              moved (continues other z place p about low w_is part) = subst (λ w. IsDue now w k) (sym w_is) (record { some = d.some; owed = by_owed d.owed })
+                  by_owed : IsOwed start tx (is_abort nodes tx) now (replica_count (first_layout start.shape) step.was.touched) (asked_count (first_layout start.shape) step.turn.step.state.asked) k
+                  by_owed =
+                      waits_owed start tx (is_abort nodes tx) logs now _ e.step.taken.to e.step.taken.body told (replica_count (first_layout start.shape) step.was.touched) (asked_count (first_layout start.shape) step.was.asked) m
+                      (asked_count (first_layout start.shape) step.turn.step.state.asked) k (omega (arith, le, came)) (λ b low. off b e.step.taken.to low) d.owed
+              moved (continues other z place p about low w_is part) = subst (λ w. IsDue now w k) (sym w_is) (record { some = d.some; owed = goes_on d.owed })
                 where
                   d : IsDue logs step.was k
                   d = before other z k p
 
-                  none : one_if (aborted_body tx e.step.taken.body) ≡ 0
-                  none = ap (λ b. one_if (aborted_body tx b)) about
-
-                  l_few : replica_count (first_layout start.shape) step.was.touched ≤ 512
-                  l_few = few_all step.was.touched (few_touched start tx at (logs at) step.was step.there)
-
-                  off : (a : ℕ) → a ≢ place → is_cont tx a e.step.taken.to e.step.taken.body ≡ false
-                  off a differs = ap (is_cont tx a e.step.taken.to) about ∙ cont_place tx a place e.step.taken.to differs
-
-                  by_owed : OwedBy logs step.was k → OwedBy now step.was k
-                  by_owed (inl enough) = inl (omega (arith, enough, s_turn, t_now, came, none))
-                  by_owed (inr l) = where_at (cases_eq l.place place)
-                    where
-                      goes_on : l.place ≡ place → IsPart (is_abort nodes tx) tx (replica_count (first_layout start.shape) step.was.touched) place step.turn.step.effects.sends → OwedBy now step.was k
-                      goes_on here (inl q) = inr (record {
-                        place = place + 8;
-                        low = omega (arith, q.0, l_few);
-                        coming = omega (arith, q.2, c_turn (place + 8), c_taken (place + 8), c_few (place + 8), ap one_if (off (place + 8) (λ r. absurd (omega (arith, r)))));
-                        owed = omega (arith, l.owed, q.1, here, s_turn, t_now, came, none);
-                      })
-                      goes_on here (inr q) = inl (omega (arith, l.owed, q, here, s_turn, t_now, came, none))
-
-                      where_at : (l.place ≡ place) ⊎ (l.place ≢ place) → OwedBy now step.was k
-                      where_at (inl here) = goes_on here part
-                      where_at (inr differs) = inr (record {
-                        place = l.place;
-                        low = l.low;
-                        coming = omega (arith, l.coming, c_turn l.place, c_taken l.place, ap one_if (off l.place differs));
-                        owed = omega (arith, l.owed, s_turn, t_now, came, none);
-                      })
+                  goes_on : OwedBy logs step.was k → OwedBy now step.was k
+                  goes_on =
+                      continued_owed start tx (is_abort nodes tx) logs now _ e.step.taken.to e.step.taken.body told _ _ k place
+                      (few_all step.was.touched (few_touched start tx at (logs at) step.was step.there)) (omega (arith, came, ap (λ b. one_if (aborted_body tx b)) about))
+                      (λ b differs. ap (is_cont tx b e.step.taken.to) about ∙ cont_place tx b place e.step.taken.to differs) (inr part)
 
   -- the step of another host
   other_step : (logs now : ℕ → List HostStep) (h : ℕ) (e : HostStep) → Goes start logs now h e → h ≢ at → AllDue logs → AllDue now
@@ -311,8 +215,14 @@ module _ (start : Start) (shape : IsShape start.shape) (tx : TxId) (some_node : 
       let due = all u why v k (ap (λ log. tx_at tx (after start at log)) (sym log_is) ∙ u_at) u_is in
       record {
         some = due.some;
-        owed = stays_owed logs now (replica_count (first_layout start.shape) u.touched) (asked_count (first_layout start.shape) u.asked) k
-            (omega (arith, passed (other_turn start tx h (logs h) e g.low differs), s_more logs now h e g, t_more logs now h e g)) (λ b low. omega (arith, ap (conts_taken b) log_is, ap (conts_sent b) log_is)) due.owed;
+        owed =
+            stays_owed start tx (is_abort nodes tx) logs now (replica_count (first_layout start.shape) u.touched) (asked_count (first_layout start.shape) u.asked) k
+            (omega (arith, passed (other_turn start tx h (logs h) e g.low differs), s_more start tx (is_abort nodes tx) (abort_low start tx few_nodes) logs now h e g, t_more start tx (is_abort nodes tx) (abort_low start tx few_nodes) logs now h e g))
+            (λ b low. omega (
+              arith,
+              ap (λ log. signals (is_cont tx b) (taken (machine start) at log)) log_is,
+              ap (λ log. signals (is_cont tx b) (sent (machine start) at at log)) log_is,
+            )) due.owed;
       }
     where
       passed : IsRowsStep (after start h (logs h)) e.step.taken (step_after start h (logs h) e) ⊎ IsAside tx (after start h (logs h)) e.step.taken (step_after start h (logs h) e)
@@ -331,17 +241,12 @@ module _ (start : Start) (shape : IsShape start.shape) (tx : TxId) (some_node : 
   first t why v k there is = no_transaction t (sym (first_none start tx at) ∙ there)
 
   none_aborts : (logs : ℕ → List HostStep) → AreQuiet start logs → (t : Transaction) (why : AbortCause) (v : Bool) (k : ℕ) → tx_at tx (after start at (logs at)) ≡ Some t → t.asked ≡ None → t.phase ≡ Aborting why v k → ⊥
-  none_aborts logs quiet t why v k there none is = by due.owed
+  none_aborts logs quiet t why v k there none is =
+      none_owed start tx (is_abort nodes tx) logs (replica_count (first_layout start.shape) t.touched) k quiet low due.some
+      (subst (λ asked. IsOwed start tx (is_abort nodes tx) logs (replica_count (first_layout start.shape) t.touched) (asked_count (first_layout start.shape) asked) k) none due.owed)
     where
       due : IsDue logs t k
       due = along start AllDue first step logs quiet.within quiet.right t why v k there is
-
-      all_taken : T logs ≡ S logs
-      all_taken = total_same (hosts start) _ _ (λ i under. total_same (hosts start) _ _ (λ j below. ap (signals (is_abort nodes tx)) (quiet.quiet i j under below)))
-
-      by : OwedBy logs t k → ⊥
-      by (inl enough) = omega (arith, enough, due.some, all_taken, ap (asked_count (first_layout start.shape)) none)
-      by (inr l) = omega (arith, l.coming, ap (signals (is_cont tx l.place)) (quiet.quiet at at low low))
 
 -- at quiet a transaction that aborts has an operation unanswered
 pub no_abort : NoAbortIsAwaited

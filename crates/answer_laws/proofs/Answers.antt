@@ -23,8 +23,8 @@ use Rattle.answer_laws.proofs.Lives.{live_low}
 use Rattle.answer_laws.proofs.Queued.{operations_queue}
 use Rattle.answer_laws.proofs.Serves.{each_served}
 use Rattle.answer_laws.proofs.Verified.{no_epoch}
-use Rattle.answer_laws.specs.Answered.{AreQuiet, EachIsAnswered, IsOpenAt, IsServed, WaitsForLock, is_answered_by, is_operating}
-use Rattle.host_laws.specs.Opened.{opened_after}
+use Rattle.answer_laws.specs.Answered.{AreQuiet, EachIsAnswered, IsOpenAt, IsKeptByCoordinator, WaitsForLock, is_answered_by, is_operating}
+use Rattle.host_laws.specs.OpenedAfter.{opened_after}
 use Rattle.host_laws.specs.Phases.{is_committing}
 use Rattle.tc_block.specs.Phases.{is_aborting, is_completing}
 
@@ -38,7 +38,7 @@ only_open (phases.Aborting why w k) v c d a = absurd (false≢true (sym a))
 
 module _ (start : Start) (logs : ℕ → List HostStep) (t : OpenTransaction) (quiet : AreQuiet start logs) (inside : IsIn t (opened_after start logs)) where
   module _ (tx : TxId) (is : t.tx ≡ Some tx) where
-    served : IsServed start logs t tx
+    served : IsKeptByCoordinator start logs t tx
     served = each_served start logs t quiet inside tx is
 
     low : home start tx < hosts start

@@ -25,7 +25,7 @@ use Rattle.api_block.specs.Api.{api_table}
 use Rattle.api_block.specs.State.{ApiState}
 use Rattle.node_core.specs.Row.{shell_row}
 use Rattle.host_laws.proofs.ApiBegins.{AreGood, IsGood, each_at}
-use Rattle.answer_laws.proofs.ApiTurns.{ApiStep, Changes, IsUnheard, Unheard, absent, answered_last, answered_ready, api_step, begins_ready, begins_working, changes, commits, drops, idle, is_calm, notes, opens, rests, works}
+use Rattle.answer_laws.proofs.ApiSteps.{ApiStep, Changes, IsUnheard, Unheard, absent, answered_last, answered_ready, api_step, begins_ready, begins_working, changes, commits, drops, idle, is_calm, notes, opens, rests, works}
 use Rattle.host_laws.proofs.SendKinds.{are_of, none_of}
 use Rattle.host_laws.proofs.Tally.{none_if, tally_append, tally_between, tally_in}
 use Rattle.host_laws.specs.Counts.{one_if, tally}

@@ -37,8 +37,8 @@ use Rattle.run_laws.proofs.AlongSteps.{few_taken}
 use Rattle.answer_laws.proofs.ApiKeys.{api_keys, keys_in, operates}
 use Rattle.host_laws.proofs.ApiMoves.{ApiMove, api_moves, begun_as, ends, goes, is_api_kind, opens, refuses, rests}
 use Rattle.host_laws.proofs.DihSends.{dih_kinds}
-use Rattle.host_laws.proofs.Hosts.{opened_next, shell_after, shell_sends}
-use Rattle.host_laws.proofs.HostSteps.{first_live, no_api}
+use Rattle.host_laws.proofs.ShellHost.{opened_next, shell_after, shell_sends}
+use Rattle.host_laws.proofs.BlocksAlong.{first_live, no_api}
 use Rattle.host_laws.proofs.LinkCounts.{all_three, few_sends, sent_signals, shell_signals, signals, steps, steps_from, taken_signals, to_host}
 use Rattle.answer_laws.proofs.Lives.{holds_at, once_started}
 use Rattle.host_laws.proofs.LqhSends.{lqh_kinds}
@@ -53,7 +53,7 @@ use Rattle.host_laws.proofs.Sums.{total_add, total_at, total_le, total_same}
 use Rattle.host_laws.specs.Counts.{total}
 use Rattle.host_laws.proofs.Wishes.{and_false, is_api, is_tc, second_fails, sends_of, to_node}
 use Rattle.answer_laws.specs.Answered.{AreQuiet, EachAsksWhereOperating, is_operating}
-use Rattle.host_laws.specs.Opened.{opened_after, opened_in}
+use Rattle.host_laws.specs.OpenedAfter.{opened_after, opened_in}
 
 no_answer_dih : (tx : TxId) (body : Body) → is_dih_kind body ≡ true → answer_of tx body ≡ false
 no_answer_dih tx (Client (TcKeyConf other answer)) e = cc

@@ -38,14 +38,14 @@ use Rattle.world_core.specs.Steps.{Addressed, HostStep}
 use Rattle.run_laws.proofs.AlongSteps.{Goes, along, few_taken}
 use Rattle.host_laws.proofs.LqhOps.{left_of, right_of}
 use Rattle.host_laws.proofs.ApiBegins.{IsDue, IsGood, same_name-self}
-use Rattle.host_laws.proofs.Hosts.{TellsHome, host_replies, host_wishes, opened_first, opened_next, shell_after, shell_count, shell_sends, told}
-use Rattle.host_laws.proofs.HostSteps.{at_tc_host, no_api, sent_to_tc}
+use Rattle.host_laws.proofs.ShellHost.{TellsHome, host_replies, host_wishes, opened_first, opened_next, shell_after, shell_count, shell_sends, told}
+use Rattle.host_laws.proofs.BlocksAlong.{at_tc_host, no_api, sent_to_tc}
 use Rattle.host_laws.proofs.LinkCounts.{few_sends, sent_signals, shell_signals, signals, steps, steps_from, taken_signals, taken_steps}
 use Rattle.host_laws.proofs.Tally.{tally_in, tally_past}
 use Rattle.host_laws.specs.Counts.{one_if, tally}
 use Rattle.host_laws.proofs.Wishes.{is_api, is_reply, is_tc, is_wish, reply_of, sends_of, to_node, wish_of}
 use Rattle.answer_laws.specs.Answered.{AreQuiet, NoBeginIsLost}
-use Rattle.host_laws.specs.Opened.{opened_after, opened_in}
+use Rattle.host_laws.specs.OpenedAfter.{opened_after, opened_in}
 
 -- a request is no reply, and no wish
 plain_reply : (name : Option ℕ) (body : Body) → reply_of name body ≡ true → is_request body ≡ false

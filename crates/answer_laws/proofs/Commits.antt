@@ -11,7 +11,7 @@ use Rattle.lqh_block.specs.State.{LqhState}
 use Rattle.node_core.proofs.HostCases.{IsRowsStep, IsTcStep, tc_step}
 use Rattle.node_core.specs.Blocks.{has_tc, lqh_of, tc_of}
 use Rattle.run_theory.proofs.Pasts.{each_in}
-use Rattle.run_theory.specs.Links.{is_from, sent, taken}
+use Rattle.run_theory.specs.Links.{sent, taken}
 use Rattle.run_theory.specs.Lists.{Each, IsIn}
 use Rattle.run_theory.specs.Runs.{log_of}
 use Rattle.sig_core.specs.declared.member.Member.{Member}
@@ -38,23 +38,21 @@ use Rattle.world_core.specs.Hosts.{home, host_for, hosts}
 use Rattle.world_core.specs.Machine.{after, machine, step_after}
 use Rattle.world_core.specs.Start.{Start}
 use Rattle.world_core.specs.Steps.{HostStep}
-use Rattle.host_laws.proofs.Sums.{total_le, total_same}
 use Rattle.host_laws.proofs.Tally.{and_few}
 use Rattle.host_laws.specs.Counts.{one_if}
-use Rattle.answer_laws.proofs.AbortCounts.{conts_few}
-use Rattle.run_laws.proofs.AlongSteps.{Goes, addressed, along, at_home, at_tc, few_taken, heard_rows, home_place, live_tx, tx_at}
+use Rattle.run_laws.proofs.AlongSteps.{Goes, addressed, along, at_home, at_tc, heard_rows, home_place, live_tx, tx_at}
 use Rattle.answer_laws.proofs.FirstChains.{chain_some, good_chain}
-use Rattle.host_laws.proofs.HostSteps.{IsHome, first_live, reaches, tc_layout}
+use Rattle.host_laws.proofs.BlocksAlong.{IsHome, first_live, reaches, tc_layout}
 use Rattle.host_laws.proofs.HostTurns.{rows_turn, tc_turn}
-use Rattle.host_laws.proofs.LinkCounts.{sent_signals, signals, taken_signals}
+use Rattle.host_laws.proofs.LinkCounts.{signals}
 use Rattle.host_laws.proofs.LqhOps.{is_good, is_lqh, is_node, left_of, right_of, true_and}
 use Rattle.answer_laws.proofs.NodeOwes.{OwesOf, StepOwes, at_if, came_in, cont_in, tc_owes}
-use Rattle.host_laws.proofs.PartCounts.{cont_block, is_cont}
+use Rattle.host_laws.proofs.PartCounts.{IsPart, cont_block, is_cont}
 use Rattle.host_laws.proofs.TcCommits.{chain_at, is_chain, is_commit}
 use Rattle.host_laws.proofs.TcMoves.{same_tx-is}
 use Rattle.host_laws.proofs.TcOwes.{IsKnown, Owes, begins, goes_on, waits}
 use Rattle.host_laws.proofs.TcSends.{eqb-self}
-use Rattle.answer_laws.proofs.Totals.{Grown, sent_all, sent_more, taken_all, taken_more}
+use Rattle.answer_laws.proofs.SentInParts.{HomeStep, IsOwed, begun_owed, continued_owed, home_step, none_owed, s_more, stays_owed, t_more, waits_owed}
 use Rattle.host_laws.proofs.Wishes.{is_tc, sends_of}
 use Rattle.answer_laws.specs.Answered.{AreQuiet, IsLiveAs, NoCommitIsAwaited}
 use Rattle.host_laws.specs.Phases.{is_committing}
@@ -162,75 +160,30 @@ module _ (start : Start) (shape : IsShape start.shape) (tx : TxId) where
       by known (inl step) = subst AreKnown (sym step.state) (owes h log e.step.taken.body step.runs known).known
       by known (inr same) = subst AreKnown (sym same) known
 
-  abbrev S : (ℕ → List HostStep) → ℕ
-  S logs = sent_all start (hosts start) (is_commit nodes tx) logs
-
-  abbrev T : (ℕ → List HostStep) → ℕ
-  T logs = taken_all start (hosts start) (is_commit nodes tx) logs
-
-  -- the signals by which its coordinator goes on at a place
-  abbrev conts_sent : ℕ → (ℕ → List HostStep) → ℕ
-  conts_sent a logs = signals (is_cont tx a) (sent (machine start) at at (logs at))
-
-  abbrev conts_taken : ℕ → (ℕ → List HostStep) → ℕ
-  conts_taken a logs = signals (is_cont tx a) (taken (machine start) at (logs at))
-
-  -- the rest is sent when the coordinator goes on
-  record IsLeft (logs : ℕ → List HostStep) (l k : ℕ) : Type 0 where
-    at : ℕ
-    low : at < 512
-    coming : conts_taken at logs + 1 ≤ conts_sent at logs
-    owed : T logs + k + at ≤ S logs + l
-
-  abbrev IsOwed : (ℕ → List HostStep) → ℕ → ℕ → Type 0
-  IsOwed logs l k = (T logs + k ≤ S logs) ⊎ IsLeft logs l k
+  abbrev IsAwaited : (ℕ → List HostStep) → ℕ → ℕ → Type 0
+  IsAwaited logs l k = IsOwed start tx (is_commit nodes tx) logs l 0 k
 
   abbrev AllOwed : (ℕ → List HostStep) → Type 0
-  AllOwed logs = (u : Transaction) (epoch k : ℕ) → IsLiveAs tx u (after start at (logs at)) → u.phase ≡ Committing epoch k → IsOwed logs (length u.touched) k
-
-  -- where nothing goes on, what was owed stays owed
-  stays_owed : (logs now : ℕ → List HostStep) (l k : ℕ) → T now + S logs ≤ T logs + S now → (now at ≡ logs at) → IsOwed logs l k → IsOwed now l k
-  stays_owed logs now l k more same (inl enough) = inl (omega (arith, enough, more))
-  stays_owed logs now l k more same (inr left) = inr (record {
-    at = left.at;
-    low = left.low;
-    coming = subst (λ log. signals (is_cont tx left.at) (taken (machine start) at log) + 1 ≤ signals (is_cont tx left.at) (sent (machine start) at at log)) (sym same) left.coming;
-    owed = omega (arith, left.owed, more);
-  })
+  AllOwed logs = (u : Transaction) (epoch k : ℕ) → IsLiveAs tx u (after start at (logs at)) → u.phase ≡ Committing epoch k → IsAwaited logs (length u.touched) k
 
   -- a step at the transaction's home is as the coordinator's row says, or leaves its transactions
   data AtHome (s now : TcState) (u : Transaction) (sends : List Outgoing) (k : ℕ) (to : Place) (body : Body) : Type 0 where
     owed : (at : Option ℕ) (came : ℕ) → one_if (is_commit nodes tx to body) ≤ came → ((a : ℕ) → is_cont tx a to body ≡ true → at ≡ Some a) → OwesOf nodes tx s u sends k came at → AtHome s now u sends k to body
     kept : IsIn (tx, u) s.live → one_if (is_commit nodes tx to body) ≤ sends_of (is_commit nodes tx) sends → ((a : ℕ) → is_cont tx a to body ≡ false) → AtHome s now u sends k to body
 
-  record Facts (logs now : ℕ → List HostStep) (sends : List Outgoing) (to : Place) (body : Body) : Type 0 where
-    s_more : S now ≡ S logs + sends_of (is_commit nodes tx) sends
-    t_more : T now ≤ T logs + one_if (is_commit nodes tx to body)
-    t_few : T logs ≤ S logs
-    c_sent : (a : ℕ) → conts_sent a logs + sends_of (is_cont tx a) sends ≤ conts_sent a now
-    c_taken : (a : ℕ) → conts_taken a now ≤ conts_taken a logs + one_if (is_cont tx a to body)
-    c_few : (a : ℕ) → conts_taken a logs ≤ conts_sent a logs
-
-  home_next : (logs now : ℕ → List HostStep) (x next : TcState) (u : Transaction) (epoch k : ℕ) (sends : List Outgoing) (to : Place) (body : Body) → Facts logs now sends to body
-      → Each (λ (e : TxId × Transaction). IsKnown nodes e.1) x.live → ((t : Transaction) (f m : ℕ) → IsIn (tx, t) x.live → t.phase ≡ Committing f m → IsOwed logs (length t.touched) m)
-      → u.phase ≡ Committing epoch k → AtHome x next u sends k to body → IsOwed now (length u.touched) k
-  home_next logs now x next u epoch k sends to body f known all is (kept i less none) = go (all u epoch k i is)
-    where
-      go : IsOwed logs (length u.touched) k → IsOwed now (length u.touched) k
-      go (inl enough) = inl (omega (arith, enough, f.s_more, f.t_more, less))
-      go (inr left) = inr (record {
-        at = left.at;
-        low = left.low;
-        coming = omega (arith, left.coming, f.c_sent left.at, f.c_taken left.at, ap one_if (none left.at));
-        owed = omega (arith, left.owed, f.s_more, f.t_more, less);
-      })
+  home_next : (logs now : ℕ → List HostStep) (x next : TcState) (u : Transaction) (epoch k : ℕ) (sends : List Outgoing) (to : Place) (body : Body)
+      → HomeStep start tx (is_commit nodes tx) logs now sends to body → Each (λ (e : TxId × Transaction). IsKnown nodes e.1) x.live
+      → ((t : Transaction) (f m : ℕ) → IsIn (tx, t) x.live → t.phase ≡ Committing f m → IsAwaited logs (length t.touched) m)
+      → u.phase ≡ Committing epoch k → AtHome x next u sends k to body → IsAwaited now (length u.touched) k
+  home_next logs now x next u epoch k sends to body f known all is (kept i less none) =
+      waits_owed start tx (is_commit nodes tx) logs now sends to body f (length u.touched) 0 k 0 k (omega (arith, less)) (λ b low. none b) (all u epoch k i is)
   home_next logs now x next u epoch k sends to body f known all is (owed at came less cont of) = go of.owes
     where
-      not_cont : (a : ℕ) → (at ≡ Some a → ⊥) → one_if (is_cont tx a to body) ≡ 0
+      not_cont : (a : ℕ) → (at ≡ Some a → ⊥) → is_cont tx a to body ≡ false
       not_cont a fails = by (is_cont tx a to body) refl
         where
-          by : (b : Bool) → is_cont tx a to body ≡ b → one_if (is_cont tx a to body) ≡ 0
-          by false e = ap one_if e
+          by : (b : Bool) → is_cont tx a to body ≡ b → is_cont tx a to body ≡ false
+          by false e = e
           by true e = absurd (fails (cont a e))
 
       no_some : at ≡ None → (a : ℕ) → at ≡ Some a → ⊥
@@ -239,30 +192,24 @@ module _ (start : Start) (shape : IsShape start.shape) (tx : TxId) where
           other : None ≡ Some a → ⊥
           other q = cc
 
-      go : Owes nodes tx of.before u sends k came at → IsOwed now (length u.touched) k
-      go (begins none_came none l parts) = part parts
+      go : Owes nodes tx of.before u sends k came at → IsAwaited now (length u.touched) k
+      go (begins none_came none l parts) =
+          begun_owed start tx (is_commit nodes tx) logs now sends to body f (length u.touched) 0 k (omega (arith, less, none_came)) (not_cont 8 (no_some none 8)) (omega (arith, l))
+          (first_part parts)
         where
-          part : ((8 < length u.touched) × (8 ≤ sends_of (is_commit nodes tx) sends) × (1 ≤ sends_of (is_cont tx 8) sends)) ⊎ (length u.touched ≤ sends_of (is_commit nodes tx) sends) → IsOwed now (length u.touched) k
-          part (inl p) = inr (record {
-            at = 8;
-            low = omega arith;
-            coming = omega (arith, p.2, f.c_sent 8, f.c_taken 8, f.c_few 8, not_cont 8 (no_some none 8));
-            owed = omega (arith, p.1, l, f.s_more, f.t_more, f.t_few, less, none_came);
-          })
-          part (inr p) = inl (omega (arith, p, l, f.s_more, f.t_more, f.t_few, less, none_came))
-      go (waits other before was none le same) = by (all of.before other before of.inside was)
+          first_part : ((8 < length u.touched) × (8 ≤ sends_of (is_commit nodes tx) sends) × (1 ≤ sends_of (is_cont tx 8) sends)) ⊎ (length u.touched ≤ sends_of (is_commit nodes tx) sends)
+              → IsPart (is_commit nodes tx) tx (length u.touched) 0 sends
+          first_part (inl p) = inl p
+          first_part (inr p) = inr (omega (arith, p))
+      go (waits other before was none le same) =
+          subst (λ n. IsAwaited now n k) (sym (ap length same))
+          (waits_owed start tx (is_commit nodes tx) logs now sends to body f (length of.before.touched) 0 before 0 k (omega (arith, le, less)) (λ b low. not_cont b (no_some none b))
+          (all of.before other before of.inside was))
+      go (goes_on other a some none_came was same parts) =
+          continued_owed start tx (is_commit nodes tx) logs now sends to body f (length u.touched) 0 k a few_touched (omega (arith, less, none_came))
+          (λ b differs. not_cont b (differs_some b differs)) parts (subst (λ n. IsAwaited logs n k) (sym (ap length same)) (all of.before other k of.inside was))
         where
-          by : IsOwed logs (length of.before.touched) before → IsOwed now (length u.touched) k
-          by (inl enough) = inl (omega (arith, enough, le, f.s_more, f.t_more, less))
-          by (inr left) = inr (record {
-            at = left.at;
-            low = left.low;
-            coming = omega (arith, left.coming, f.c_sent left.at, f.c_taken left.at, not_cont left.at (no_some none left.at));
-            owed = omega (arith, left.owed, le, f.s_more, f.t_more, less, ap length same);
-          })
-      go (goes_on other a some none_came was same parts) = by (all of.before other k of.inside was)
-        where
-          few_touched : length u.touched ≤ 64
+          few_touched : length u.touched ≤ 512
           few_touched = omega (arith, (each_in (λ (e : TxId × Transaction). IsKnown nodes e.1) (tx, of.before) x.live known of.inside).few, ap length same)
 
           differs_some : (b : ℕ) → b ≢ a → at ≡ Some b → ⊥
@@ -270,31 +217,6 @@ module _ (start : Start) (shape : IsShape start.shape) (tx : TxId) where
             where
               the_a : Some b ≡ Some a → b ≡ a
               the_a r = cc
-
-          part : (left : IsLeft logs (length of.before.touched) k) → left.at ≡ a
-              → (512 ≤ a) ⊎ (((a + 8 < length u.touched) × (8 ≤ sends_of (is_commit nodes tx) sends) × (1 ≤ sends_of (is_cont tx (a + 8)) sends)) ⊎ (length u.touched ≤ a + sends_of (is_commit nodes tx) sends))
-              → IsOwed now (length u.touched) k
-          part left at_a (inl far) = absurd (omega (arith, far, left.low, at_a))
-          part left at_a (inr (inl p)) = inr (record {
-            at = a + 8;
-            low = omega (arith, p.0, few_touched);
-            coming = omega (arith, p.2, f.c_sent (a + 8), f.c_taken (a + 8), f.c_few (a + 8), not_cont (a + 8) (differs_some (a + 8) (λ q. absurd (omega (arith, q)))));
-            owed = omega (arith, left.owed, p.1, at_a, f.s_more, f.t_more, less, none_came, ap length same);
-          })
-          part left at_a (inr (inr p)) = inl (omega (arith, left.owed, p, at_a, f.s_more, f.t_more, less, none_came, ap length same))
-
-          by : IsOwed logs (length of.before.touched) k → IsOwed now (length u.touched) k
-          by (inl enough) = inl (omega (arith, enough, f.s_more, f.t_more, less, none_came))
-          by (inr left) = which (cases_eq left.at a)
-            where
-              which : (left.at ≡ a) ⊎ (left.at ≢ a) → IsOwed now (length u.touched) k
-              which (inl at_a) = part left at_a parts
-              which (inr differs) = inr (record {
-                at = left.at;
-                low = left.low;
-                coming = omega (arith, left.coming, f.c_sent left.at, f.c_taken left.at, not_cont left.at (differs_some left.at differs));
-                owed = omega (arith, left.owed, f.s_more, f.t_more, less, none_came, ap length same);
-              })
 
   module _ (some_node : 1 ≤ tx.tc) (few_nodes : tx.tc ≤ start.shape.nodes) where
     low : at < hosts start
@@ -310,15 +232,6 @@ module _ (start : Start) (shape : IsShape start.shape) (tx : TxId) where
 
       abbrev sends : List Outgoing
       sends = (step_after start h (logs h) e).effects.sends
-
-      grown : Grown start (hosts start) (is_commit nodes tx) logs now h e
-      grown = record { own = g.own; others = g.others }
-
-      s_more : S now ≡ S logs + sends_of (is_commit nodes tx) sends
-      s_more = sent_more start (hosts start) (is_commit nodes tx) (commit_low start tx few_nodes) logs now h e g.low grown
-
-      t_more : T now ≤ T logs + came
-      t_more = taken_more start (hosts start) (is_commit nodes tx) logs now h e g.low grown
 
       -- what isn't for the coordinator is passed on
       passed : (is_tc x.to.block && (x.to.node == tx.tc)) ≡ false → came ≤ sends_of (is_commit nodes tx) sends
@@ -341,26 +254,11 @@ module _ (start : Start) (shape : IsShape start.shape) (tx : TxId) where
 
     own_step : (logs now : ℕ → List HostStep) (e : HostStep) → Goes start logs now at e → AllOwed logs → AllOwed now
     own_step logs now e g all u epoch k live is =
-        home_next logs now (tc_of (after start at (logs at))) (tc_of (step_after start at (logs at) e).state) u epoch k (step_after start at (logs at) e).effects.sends e.step.taken.to e.step.taken.body facts (known_after at (logs at)) all is
+        home_next logs now (tc_of (after start at (logs at))) (tc_of (step_after start at (logs at) e).state) u epoch k (step_after start at (logs at) e).effects.sends e.step.taken.to e.step.taken.body (home_step start tx (is_commit nodes tx) (commit_low start tx few_nodes) logs now e g) (known_after at (logs at)) all is
         (by (tc_turn (after start at (logs at)) e.step.taken (tc_runs start tx.tc (logs at) some_node few_nodes)))
       where
         live_now : IsLiveAs tx u (step_after start at (logs at) e).state
         live_now = subst (λ log. IsLiveAs tx u (after start at log)) g.own live
-
-        facts : Facts logs now (step_after start at (logs at) e).effects.sends e.step.taken.to e.step.taken.body
-        facts = record {
-          s_more = s_more logs now at e g;
-          t_more = t_more logs now at e g;
-          t_few = total_le (hosts start) _ _ (λ i low. total_le (hosts start) _ _ (λ j under. few_taken start logs g.before (is_commit nodes tx) i j));
-          c_sent = λ a. omega (arith, ap (λ log. signals (is_cont tx a) (sent (machine start) at at log)) g.own, sent_signals start (is_cont tx a) at at e (logs at), conts_few start tx a (step_after start at (logs at) e).effects.sends);
-          c_taken = λ a. omega (
-            arith,
-            ap (λ log. signals (is_cont tx a) (taken (machine start) at log)) g.own,
-            taken_signals start (is_cont tx a) at e (logs at),
-            and_few (is_from (machine start) at e) (is_cont tx a e.step.taken.to e.step.taken.body),
-          );
-          c_few = λ a. few_taken start logs g.before (is_cont tx a) at at;
-        }
 
         by : IsTcStep (after start at (logs at)) e.step.taken (step_after start at (logs at) e)
             ⊎ ((tc_of (step_after start at (logs at) e).state ≡ tc_of (after start at (logs at))) × (is_tc e.step.taken.to.block ≡ false))
@@ -380,7 +278,13 @@ module _ (start : Start) (shape : IsShape start.shape) (tx : TxId) where
         by : (h ≡ at) ⊎ (h ≢ at) → AllOwed now
         by (inl same) = own_step logs now e (subst (λ j. Goes start logs now j e) same g) all
         by (inr differs) = λ u epoch k live is.
-            stays_owed logs now (length u.touched) k (omega (arith, s_more logs now h e g, t_more logs now h e g, passed logs now h e g (away _ refl))) log_is
+            stays_owed start tx (is_commit nodes tx) logs now (length u.touched) 0 k
+            (omega (arith, s_more start tx (is_commit nodes tx) (commit_low start tx few_nodes) logs now h e g, t_more start tx (is_commit nodes tx) (commit_low start tx few_nodes) logs now h e g, passed logs now h e g (away _ refl)))
+            (λ b low. omega (
+              arith,
+              ap (λ log. signals (is_cont tx b) (taken (machine start) at log)) log_is,
+              ap (λ log. signals (is_cont tx b) (sent (machine start) at at log)) log_is,
+            ))
             (all u epoch k (subst (λ log. IsLiveAs tx u (after start at log)) log_is live) is)
           where
             log_is : now at ≡ logs at
@@ -395,17 +299,11 @@ module _ (start : Start) (shape : IsShape start.shape) (tx : TxId) where
 
     -- at quiet
     none_commits : (logs : ℕ → List HostStep) → AreQuiet start logs → (t : Transaction) (epoch k : ℕ) → IsLiveAs tx t (after start at (logs at)) → t.phase ≡ Committing epoch k → ⊥
-    none_commits logs quiet t epoch k live is = by (along start AllOwed first step logs quiet.within quiet.right t epoch k live is)
+    none_commits logs quiet t epoch k live is =
+        none_owed start tx (is_commit nodes tx) logs (length t.touched) k quiet low some (along start AllOwed first step logs quiet.within quiet.right t epoch k live is)
       where
         some : 1 ≤ k
         some = (each_in (λ (e : TxId × Transaction). IsKnown nodes e.1) (tx, t) (tc_of (after start at (logs at))).live (known_after at (logs at)) live).some epoch k is
-
-        all_taken : T logs ≡ S logs
-        all_taken = total_same (hosts start) _ _ (λ i under. total_same (hosts start) _ _ (λ j below. ap (signals (is_commit nodes tx)) (quiet.quiet i j under below)))
-
-        by : IsOwed logs (length t.touched) k → ⊥
-        by (inl enough) = omega (arith, enough, some, all_taken)
-        by (inr left) = omega (arith, left.coming, ap (signals (is_cont tx left.at)) (quiet.quiet at at low low))
 
 -- at quiet no coordinator waits for a commit
 pub no_commit : NoCommitIsAwaited

@@ -37,7 +37,7 @@ use Rattle.host_laws.proofs.DihSends.{dih_kinds}
 use Rattle.answer_laws.proofs.EpochCounts.{AreFew, SendsFew, counted_of, counts_by, counts_if, is_epochless, is_request, plain_counts, put_counts, put_few, sends_count}
 use Rattle.answer_laws.proofs.EpochFlow.{at_place, dih_counts, dih_few, dih_gives, dih_plain, dih_stays, is_conf, is_epoch, is_req, lqh_plain, move_epochs, plain_none, req_body, tc_confless, tc_epochs}
 use Rattle.answer_laws.proofs.EpochLives.{AreCounted, step_counts}
-use Rattle.host_laws.proofs.HostSteps.{IsAtNode, at_own_node}
+use Rattle.host_laws.proofs.BlocksAlong.{IsAtNode, at_own_node}
 use Rattle.host_laws.proofs.LinkCounts.{all_three, sent_signals, signals, taken_signals}
 use Rattle.host_laws.proofs.LqhSends.{lqh_kinds}
 use Rattle.host_laws.proofs.SendKinds.{are_of, is_dih_kind, is_lqh_kind, of_kind}

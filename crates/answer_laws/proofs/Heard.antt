@@ -35,8 +35,8 @@ use Rattle.run_laws.proofs.AlongSteps.{Goes, along, at_tc, first_none, no_transa
 use Rattle.run_laws.proofs.Always.{Touches, turn_touches}
 use Rattle.answer_laws.proofs.ApiEntries.{IsEntryRight, is_commit_req, of_opened, shell_entry}
 use Rattle.answer_laws.proofs.Begins.{wish_part}
-use Rattle.host_laws.proofs.Hosts.{opened_first, opened_next, shell_after, shell_sends}
-use Rattle.host_laws.proofs.HostSteps.{sent_to_tc}
+use Rattle.host_laws.proofs.ShellHost.{opened_first, opened_next, shell_after, shell_sends}
+use Rattle.host_laws.proofs.BlocksAlong.{sent_to_tc}
 use Rattle.host_laws.proofs.HostTurns.{HostTurn, IsAside, IsBorn, IsTurned, aside, in_rows, starting, turning}
 use Rattle.host_laws.proofs.LinkCounts.{sent_signals, shell_signals, signals, steps}
 use Rattle.run_laws.proofs.Begun.{keeps}
@@ -51,7 +51,7 @@ use Rattle.host_laws.proofs.TcSteps.{live_early, of_live}
 use Rattle.host_laws.proofs.TcTurns.{IsMissed, is_turn}
 use Rattle.answer_laws.proofs.Wants.{IsAsking, all_right, entry_next, held_few}
 use Rattle.host_laws.proofs.Wishes.{is_api, is_tc, second_fails, sends_of, to_node}
-use Rattle.host_laws.specs.Opened.{opened_in}
+use Rattle.host_laws.specs.OpenedAfter.{opened_in}
 use Rattle.host_laws.specs.Counts.{one_if, tally}
 
 -- the commit of a transaction is asked for at a coordinator

@@ -3,7 +3,7 @@ pub mod Aborts
 pub mod Answers
 pub mod ApiEntries
 pub mod ApiKeys
-pub mod ApiTurns
+pub mod ApiSteps
 pub mod Asks
 pub mod Begins
 pub mod Commits
@@ -25,6 +25,7 @@ pub mod Ops
 pub mod Queued
 pub mod Rights
 pub mod SampleQuiet
+pub mod SentInParts
 pub mod Serves
 pub mod Strangers
 pub mod TcAborts

@@ -1,42 +1,35 @@
 -- Each transaction that the API holds as begun is one of its coordinator.
-use Rattle.std.proofs.Common.{◌≡◌, ◌≢◌, ◌⊎◌, ℕ, ◌+◌, ◌<◌, ◌≤◌, List, [], ◌∷◌, ◌++◌, Bool, true, false, refl, ap, sym, ◌∙◌, subst, arith, inl, inr}
+use Rattle.std.proofs.Common.{◌≡◌, ◌≢◌, ◌⊎◌, ℕ, ◌<◌, ◌≤◌, List, [], ◌∷◌, Bool, true, false, refl, ap, ◌∙◌, subst, arith, inl, inr}
 use Rattle.std.specs.Prelude.{◌==◌, ◌&&◌, Some, if◌then◌else◌}
 use Rattle.std.proofs.lemmas.Bool.{cases_eq, cases_lt}
 use Rattle.std.proofs.lemmas.Bool.Decides.{nat_tests}
-use Rattle.run_theory.proofs.Pasts.{each_map}
-use Rattle.run_theory.specs.Links.{is_from, put, sent, taken}
-use Rattle.run_theory.specs.Lists.{Each, IsIn, IsPast}
+use Rattle.run_theory.specs.Links.{is_from, sent, taken}
+use Rattle.run_theory.specs.Lists.{IsIn}
 use Rattle.sig_core.specs.declared.member.TxId.{TxId}
-use Rattle.sig_core.specs.declared.outs.Outgoing.{Outgoing}
 use Rattle.sig_core.specs.declared.place.Place.{Place}
 use Rattle.sig_core.specs.declared.signal.Body.{Body}
-use Rattle.sig_core.specs.declared.signal.Body.TheVariants.{Client}
-use Rattle.sig_core.specs.declared.signal.client.ClientSignal.TheVariants.{TcBeginConf, TcCommitConf, TcRollbackRep}
 use Rattle.api_block.specs.declared.opened.OpenTransaction.{OpenTransaction}
 use Rattle.api_block.specs.Opened.{has_tx, is_tx}
-use Rattle.node_core.specs.declared.host.Host as host
 use Rattle.node_core.specs.Blocks.{tc_of}
 use Rattle.node_core.specs.Requests.{is_request}
-use Rattle.node_core.specs.Row.{row}
 use Rattle.tc_block.specs.declared.transaction.Transaction.{Transaction}
-use Rattle.world_core.specs.Hosts.{first_membership, home, host_for, hosts}
-use Rattle.world_core.specs.Machine.{addressed, after, all_addressed, counted as one_counted, machine, sent_count, step_after}
+use Rattle.world_core.specs.Hosts.{home, hosts}
+use Rattle.world_core.specs.Machine.{after, machine}
 use Rattle.world_core.specs.Start.{Start}
-use Rattle.world_core.specs.Steps.{Addressed, HostStep}
+use Rattle.world_core.specs.Steps.{HostStep}
 use Rattle.sig_core.proofs.Keys.{same_tx-self}
 use Rattle.host_laws.proofs.LqhOps.{right_of, left_of}
-use Rattle.run_laws.proofs.AlongSteps.{few_taken, link, none_else, none_kept}
+use Rattle.run_laws.proofs.AlongSteps.{few_taken, link, none_else}
 use Rattle.host_laws.proofs.ApiHolds.{AreHeld, IsOrdered, log_holds}
-use Rattle.host_laws.proofs.Hosts.{TellsHome, told}
-use Rattle.host_laws.proofs.HostSteps.{first_live}
-use Rattle.host_laws.proofs.LinkCounts.{all_three, sent_to_shell, shell_signals, signals, steps, steps_from, taken_signals, taken_steps, to_host}
-use Rattle.host_laws.proofs.Tally.{Counted, counted, tally_in, tally_none}
+use Rattle.host_laws.proofs.BlocksAlong.{first_live}
+use Rattle.host_laws.proofs.LinkCounts.{all_three, signals, steps, steps_from, taken_signals, taken_steps}
+use Rattle.host_laws.proofs.Tally.{Counted, counted, tally_in}
 use Rattle.host_laws.specs.Counts.{one_if, tally}
-use Rattle.host_laws.proofs.TcLives.{IsKept, due_move, is_done, is_keyed, is_start, kept_move, start_of, starts_in}
-use Rattle.host_laws.proofs.TcMoves.{TcMove, end_of, host_moves, is_end, same_tx-is}
-use Rattle.host_laws.proofs.Wishes.{is_api, sends_of}
+use Rattle.host_laws.proofs.TcLives.{is_over, is_keyed, is_start, start_of}
+use Rattle.host_laws.proofs.TcMoves.{end_of, is_end, same_tx-is}
+use Rattle.host_laws.proofs.Wishes.{is_api}
 use Rattle.answer_laws.specs.Answered.{AreQuiet, EachHasCoordinator, IsLiveAs, IsLiveAt}
-use Rattle.host_laws.specs.Opened.{opened_after, opened_in}
+use Rattle.host_laws.specs.OpenedAfter.{opened_after, opened_in}
 use Rattle.tc_block.specs.Phases.{is_completing}
 use Rattle.run_laws.proofs.Begun.{AreOrdered, HostKeeps, keeps, ordered_past, plain_end, plain_start, silent_end, silent_start}
 
@@ -94,8 +87,8 @@ module _ (start : Start) (tx : TxId) where
         unfinished : (b : Bool) → is_completing c.item.1.phase ≡ b → is_completing c.item.1.phase ≡ false
         unfinished false e = e
         unfinished true e =
-            let done : is_done tx c.item ≡ true = ap (λ b. b && is_completing c.item.1.phase) c.passes ∙ e in
-            absurd (omega (arith, k.keeps.told (tally_in (is_done tx) c.item (tc_of (after start h (logs h))).live c.inside done), none))
+            let done : is_over tx c.item ≡ true = ap (λ b. b && is_completing c.item.1.phase) c.passes ∙ e in
+            absurd (omega (arith, k.keeps.told (tally_in (is_over tx) c.item (tc_of (after start h (logs h))).live c.inside done), none))
 
     -- it was told once to have begun, and what the API holds isn't told to have ended
     pub once_started : steps (is_start tx) (logs 0) ≤ 1

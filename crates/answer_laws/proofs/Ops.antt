@@ -37,7 +37,7 @@ use Rattle.sig_core.proofs.Keys.{same_tx-self, same_key-self}
 use Rattle.run_laws.proofs.AlongSteps.{Goes, addressed, along, at_home, at_tc, heard_rows, home_place, live_tx}
 use Rattle.answer_laws.proofs.FirstChains.{first_node, good_chain}
 use Rattle.answer_laws.proofs.Flows.{flow_few}
-use Rattle.host_laws.proofs.HostSteps.{first_live, no_waiting, reaches, tc_layout}
+use Rattle.host_laws.proofs.BlocksAlong.{first_live, no_waiting, reaches, tc_layout}
 use Rattle.host_laws.proofs.HostTurns.{idle_unheard}
 use Rattle.host_laws.proofs.LinkCounts.{signals}
 use Rattle.host_laws.proofs.LqhOps.{came_of, is_good, is_lqh, is_mine, is_node, is_op, left_of, lqh_ops, ops, right_of, true_and}

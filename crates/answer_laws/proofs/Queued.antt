@@ -8,7 +8,6 @@ use Rattle.lqh_block.specs.State.{LqhState}
 use Rattle.lqh_block.specs.Work.{work_key}
 use Rattle.node_core.proofs.HostCases.{IsRowsStep, keeps_rows}
 use Rattle.node_core.specs.Blocks.{lqh_of}
-use Rattle.node_core.specs.declared.host.Host.{Host}
 use Rattle.node_core.specs.Fresh.{fresh_part}
 use Rattle.node_core.specs.Requests.{is_request}
 use Rattle.run_theory.specs.Links.{is_from, sent, taken}
@@ -97,11 +96,11 @@ module _ (start : Start) (tx : TxId) (key : List ℕ) (node : ℕ) (some_node : 
   rows_node (e ∷ log) = keeps_rows (λ s. s.node ≡ node) (λ s x was. lqh_node s x.body ∙ was) (after start at log) e.step.taken (rows_node log)
 
   -- where none of its rows was committed or completed: a request that waits and isn't in the queue is gone on with
-  record IsServed (logs : ℕ → List HostStep) : Type 0 where
+  record GoesOnWithWaiting (logs : ℕ → List HostStep) : Type 0 where
     lone : IsLone start tx key logs
     served : F start tx logs ≡ 0 → 1 ≤ waiting tx key (lqh_of (after start at (logs at))) → queued tx key (lqh_of (after start at (logs at))) ≡ false → more_taken (logs at) + 1 ≤ more_sent (logs at)
 
-  own_served : (logs now : ℕ → List HostStep) (e : HostStep) → Goes start logs now at e → IsServed logs → F start tx logs ≡ 0
+  own_served : (logs now : ℕ → List HostStep) (e : HostStep) → Goes start logs now at e → GoesOnWithWaiting logs → F start tx logs ≡ 0
       → 1 ≤ waiting tx key (lqh_of (step_after start at (logs at) e).state) → queued tx key (lqh_of (step_after start at (logs at) e).state) ≡ false → more_taken (now at) + 1 ≤ more_sent (now at)
   own_served logs now e g k none some off = finish (rows_turn (after start at (logs at)) e.step.taken (rows_run start node (logs at) some_node few_nodes))
     where
@@ -165,7 +164,7 @@ module _ (start : Start) (tx : TxId) (key : List ℕ) (node : ℕ) (some_node : 
   before_none : (logs now : ℕ → List HostStep) (j : ℕ) (e : HostStep) → Goes start logs now j e → F start tx now ≡ 0 → F start tx logs ≡ 0
   before_none logs now j e g none = omega (arith, none, sent_least start (hosts start) (forth_at tx) logs now j e g.low (record { own = g.own; others = g.others }))
 
-  step : (logs now : ℕ → List HostStep) (j : ℕ) (e : HostStep) → Goes start logs now j e → IsServed logs → IsServed now
+  step : (logs now : ℕ → List HostStep) (j : ℕ) (e : HostStep) → Goes start logs now j e → GoesOnWithWaiting logs → GoesOnWithWaiting now
   step logs now j e g k = record { lone = lone_step start tx key logs now j e g k.lone; served = λ none. by (cases_eq j at) (before_none logs now j e g none) }
     where
       by : (j ≡ at) ⊎ (j ≢ at) → F start tx logs ≡ 0 → 1 ≤ waiting tx key (lqh_of (after start at (now at))) → queued tx key (lqh_of (after start at (now at))) ≡ false → more_taken (now at) + 1 ≤ more_sent (now at)
@@ -185,7 +184,7 @@ module _ (start : Start) (tx : TxId) (key : List ℕ) (node : ℕ) (some_node : 
   unfolding fresh_part
   first_waits = ap (λ h. waiting tx key (lqh_of h)) (rows_started start node some_node few_nodes)
 
-  first : IsServed (log_of (machine start) [])
+  first : GoesOnWithWaiting (log_of (machine start) [])
   first = record { lone = first_lone start tx key; served = λ none some off. absurd (omega (arith, some, first_waits)) }
 
   -- at quiet who waits is in the queue
@@ -195,7 +194,7 @@ module _ (start : Start) (tx : TxId) (key : List ℕ) (node : ℕ) (some_node : 
       by : (b : Bool) → queued tx key (lqh_of (after start at (logs at))) ≡ b → queued tx key (lqh_of (after start at (logs at))) ≡ true
       by true q = q
       by false q =
-          absurd (omega (arith, (along start IsServed first step logs quiet.within quiet.right).served none some q, ap (signals (is_more node)) (quiet.quiet at at low low)))
+          absurd (omega (arith, (along start GoesOnWithWaiting first step logs quiet.within quiet.right).served none some q, ap (signals (is_more node)) (quiet.quiet at at low low)))
 
   -- who is known to wait is in the queue
   there_queued : (logs : ℕ → List HostStep) → AreQuiet start logs → F start tx logs ≡ 0 → IsWaitingAt tx key (after start at (logs at)) → IsQueuedAt tx (after start at (logs at))

@@ -14,7 +14,7 @@ use Rattle.tc_block.specs.Tc as tc
 use Rattle.world_core.specs.Hosts.{receiver, started}
 use Rattle.world_core.specs.Machine.{machine}
 use Rattle.world_core.specs.Steps.{Addressed}
-use Rattle.host_laws.specs.Opened.{opened_after}
+use Rattle.host_laws.specs.OpenedAfter.{opened_after}
 use Rattle.answer_laws.specs.Sample.{SampleIsQuiet, lone, sample, seventh}
 
 local : (h : ℕ) → IsLog (machine lone) h (sample h)

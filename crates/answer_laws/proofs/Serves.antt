@@ -4,9 +4,9 @@ use Rattle.answer_laws.proofs.Asks.{each_asks_where_operating}
 use Rattle.answer_laws.proofs.Commits.{no_commit}
 use Rattle.answer_laws.proofs.Lives.{each_lives, live_low}
 use Rattle.answer_laws.proofs.Ops.{operations_wait}
-use Rattle.answer_laws.specs.Answered.{EachIsServed}
+use Rattle.answer_laws.specs.Answered.{EachIsKeptByCoordinator}
 
-pub each_served : EachIsServed
+pub each_served : EachIsKeptByCoordinator
 each_served start logs t quiet inside tx is =
     let l = each_lives start logs t quiet inside tx is in
     let low = live_low start logs tx l.transaction quiet (home start tx) l.live in

@@ -9,7 +9,7 @@ use Rattle.node_core.specs.declared.host.Host as host
 use Rattle.node_core.specs.Dih.{dih_table}
 use Rattle.node_core.specs.Requests.{is_request}
 use Rattle.node_core.specs.Row.{row}
-use Rattle.run_theory.specs.Links.{sent, taken}
+use Rattle.run_theory.specs.Links.{sent}
 use Rattle.run_theory.specs.Runs.{AreLogs, IsWithin}
 use Rattle.sig_core.specs.declared.member.TxId.{TxId}
 use Rattle.sig_core.specs.declared.outs.Outgoing.{Outgoing}
@@ -29,7 +29,7 @@ use Rattle.run_laws.proofs.AlongSteps.{at_home, few_taken, none_else, turn_at}
 use Rattle.answer_laws.proofs.ApiEntries.{is_commit_req}
 use Rattle.answer_laws.proofs.Asks.{host_asked, host_silent, plain_answer, plain_key}
 use Rattle.host_laws.proofs.DihSends.{dih_kinds}
-use Rattle.host_laws.proofs.HostSteps.{at_own_node, no_api}
+use Rattle.host_laws.proofs.BlocksAlong.{at_own_node, no_api}
 use Rattle.host_laws.proofs.HostTurns.{HostTurn, aside, in_rows, is_aside, starting, turning}
 use Rattle.host_laws.proofs.LinkCounts.{few_sends, sent_signals, shell_signals, signals, steps, steps_from}
 use Rattle.run_laws.proofs.Begun.{keeps, plain_start, silent_start}

@@ -29,7 +29,8 @@ use Rattle.tc_block.specs.Phases.{is_decided}
 use Rattle.sig_core.proofs.Keys.{same_tx-self}
 use Rattle.answer_laws.proofs.LqhForth.{is_back}
 use Rattle.host_laws.proofs.LqhWaits.{hops, is_hop}
-use Rattle.host_laws.proofs.PartKinds.{IsPartKind, entering_of, part_of, parts_of}
+use Rattle.host_laws.proofs.PartKinds.{IsPartKind, entering_of, parts_of}
+use Rattle.host_laws.proofs.PhaseSends.{part_of}
 use Rattle.host_laws.proofs.SendKinds.{are_of, none_of, of_append, of_flat, of_kind, of_map}
 use Rattle.host_laws.specs.Counts.{one_if}
 use Rattle.host_laws.proofs.TcOps.{asks_key}

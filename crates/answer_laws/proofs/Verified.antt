@@ -36,7 +36,7 @@ use Rattle.answer_laws.proofs.EpochCounts.{AreFew, is_epochless}
 use Rattle.answer_laws.proofs.EpochFlow.{at_place, is_conf, is_req}
 use Rattle.answer_laws.proofs.EpochGiven.{DihIs, all_own, dih_is, epochs_host, here, own_sent, own_taken, sent_counts, tc_no_rows}
 use Rattle.answer_laws.proofs.EpochLives.{TurnCounts, asking, ending, gone, is_counted, turn_counts, unchanged}
-use Rattle.host_laws.proofs.HostSteps.{IsHome, at_own_node}
+use Rattle.host_laws.proofs.BlocksAlong.{IsHome, at_own_node}
 use Rattle.host_laws.proofs.HostTurns.{HostTurn, aside, in_rows, is_aside, starting, turning}
 use Rattle.host_laws.proofs.LinkCounts.{sent_signals, signals, taken_signals}
 use Rattle.host_laws.proofs.SendKinds.{are_of, none_of}

@@ -25,14 +25,14 @@ use Rattle.world_core.specs.Start.{Start}
 use Rattle.host_laws.proofs.ApiBegins.{each_changed, each_less}
 use Rattle.answer_laws.proofs.ApiEntries.{EntryStep, IsEntryRight, Moves, asks_end, commits_to, goes, is_answered, is_answered_last, is_noted, keys_to, moves, starts_ready, starts_working, stays, works_on}
 use Rattle.host_laws.proofs.ApiHolds.{shell_holds}
-use Rattle.answer_laws.proofs.ApiTurns.{ApiStep, Changes, answered_last, answered_ready, api_step, begins_ready, begins_working, changes, commits, drops, notes, opens, rests, works}
-use Rattle.host_laws.proofs.Hosts.{opened_first, opened_next, shell_after}
+use Rattle.answer_laws.proofs.ApiSteps.{ApiStep, Changes, answered_last, answered_ready, api_step, begins_ready, begins_working, changes, commits, drops, notes, opens, rests, works}
+use Rattle.host_laws.proofs.ShellHost.{opened_first, opened_next, shell_after}
 use Rattle.host_laws.proofs.LinkCounts.{steps}
 use Rattle.host_laws.specs.Counts.{one_if, tally}
 use Rattle.host_laws.proofs.TcKeys.{answer_of}
 use Rattle.host_laws.proofs.TcLives.{is_start, start_of}
 use Rattle.answer_laws.specs.Answered.{is_operating}
-use Rattle.host_laws.specs.Opened.{opened_in}
+use Rattle.host_laws.specs.OpenedAfter.{opened_in}
 
 -- what is so of each entry
 changed_right : (body : Body) (t u : OpenTransaction) (sends : List Outgoing) → Changes body t u sends → IsEntryRight t → IsEntryRight u

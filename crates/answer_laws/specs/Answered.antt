@@ -2,10 +2,10 @@
 use Rattle.frag_map.specs.Shape.{IsShape}
 use Rattle.tc_block.specs.Phases.{is_completing, is_aborting}
 use Rattle.host_laws.specs.Phases.{is_committing}
-use Rattle.host_laws.specs.Opened.{opened_after}
+use Rattle.host_laws.specs.OpenedAfter.{opened_after}
 use Rattle.world_core.specs.Hosts.{home, rows_host}
-use Rattle.node_core.specs.Blocks.{api_of, lqh_of, tc_of}
-use Rattle.std.specs.Prelude.{◌≡◌, ◌≤◌, ℕ, Bool, true, false, is_some, List, [], Option, None, Some, ◌<◌}
+use Rattle.node_core.specs.Blocks.{lqh_of, tc_of}
+use Rattle.std.specs.Prelude.{◌≡◌, ◌≤◌, ℕ, Bool, true, false, is_some, List, Option, None, Some, ◌<◌}
 use Rattle.api_block.specs.declared.opened.Doing.{Doing}
 use Rattle.api_block.specs.declared.opened.Doing.TheVariants.{Ready, Operating, Committing}
 use Rattle.api_block.specs.declared.opened.OpenTransaction.{OpenTransaction}
@@ -21,7 +21,6 @@ use Rattle.world_core.specs.Steps.{HostStep}
 use Rattle.sig_core.specs.declared.member.TxId.{TxId}
 use Rattle.sig_core.specs.Op.{key_of}
 use Rattle.tc_block.specs.declared.phase.Asked.{Asked}
-use Rattle.tc_block.specs.declared.phase.Phase.{Phase}
 use Rattle.tc_block.specs.declared.phase.Phase.TheVariants as phases
 use Rattle.tc_block.specs.declared.transaction.Transaction.{Transaction}
 use Rattle.tc_block.specs.Abort.{is_verifying}
@@ -153,7 +152,7 @@ NoCommitIsAwaited =
 
 -- The coordinator of a transaction whose end isn't reported has it. It hasn't reported the end either, and doesn't wait
 -- for keys to be committed. If it has an operation unanswered, the API has sent that, and it waits at a node.
-pub record IsServed (start : Start) (logs : ℕ → List HostStep) (t : OpenTransaction) (tx : TxId) : Type 0 where
+pub record IsKeptByCoordinator (start : Start) (logs : ℕ → List HostStep) (t : OpenTransaction) (tx : TxId) : Type 0 where
   pub transaction : Transaction
   pub live : IsLiveAs tx transaction (after start (home start tx) (logs (home start tx)))
   pub unreported : is_completing transaction.phase ≡ false
@@ -161,8 +160,8 @@ pub record IsServed (start : Start) (logs : ℕ → List HostStep) (t : OpenTran
   pub operating : (asked : Asked) → transaction.asked ≡ Some asked → is_operating t.doing ≡ true
   pub waiting : (asked : Asked) → transaction.asked ≡ Some asked → Waits start logs tx (key_of asked.op)
 
-abbrev pub EachIsServed : Type 0
-EachIsServed = EachAtQuiet (λ start logs t. (tx : TxId) → t.tx ≡ Some tx → IsServed start logs t tx)
+abbrev pub EachIsKeptByCoordinator : Type 0
+EachIsKeptByCoordinator = EachAtQuiet (λ start logs t. (tx : TxId) → t.tx ≡ Some tx → IsKeptByCoordinator start logs t tx)
 
 -- no transaction waits for its epoch
 abbrev pub NoEpochIsAwaited : Type 0

@@ -14,7 +14,7 @@ use Rattle.sig_core.specs.Step.{to_place}
 use Rattle.world_core.specs.Machine.{headed, request_signal}
 use Rattle.world_core.specs.Start.{Start, fresh}
 use Rattle.answer_laws.specs.Answered.{AreQuiet}
-use Rattle.host_laws.specs.Opened.{opened_after}
+use Rattle.host_laws.specs.OpenedAfter.{opened_after}
 
 -- a step of a host with this stamp and no marks, and the signal that it took
 abbrev pub takes : ℕ → ℕ → Signal → HostStep

@@ -1,5 +1,5 @@
 //! What is proved of quiet worlds.
-ghost use Rattle.answer_laws.specs.Answered.{EachAskedWhereOperating, EachAsksWhereOperating, EachClosedWhereCommitting, EachHasCoordinator, EachIsAnswered, EachIsNumbered, EachIsServed, EachOperationIsQueued, EachOperationWaits, NoAbortIsAwaited, NoBeginIsLost, NoCommitIsAwaited, NoEpochIsAwaited};
+ghost use Rattle.answer_laws.specs.Answered.{EachAskedWhereOperating, EachAsksWhereOperating, EachClosedWhereCommitting, EachHasCoordinator, EachIsAnswered, EachIsNumbered, EachIsKeptByCoordinator, EachOperationIsQueued, EachOperationWaits, NoAbortIsAwaited, NoBeginIsLost, NoCommitIsAwaited, NoEpochIsAwaited};
 ghost use Rattle.answer_laws.specs.Sample.{SampleIsQuiet};
 
 /// When nothing is under way, whether a transaction begins is answered.
@@ -73,8 +73,8 @@ pub fn each_is_answered()
 {}
 
 /// All that together, of each transaction whose end isn't reported.
-pub fn each_is_served()
-    ensures { EachIsServed }
+pub fn each_is_kept_by_its_coordinator()
+    ensures { EachIsKeptByCoordinator }
 {}
 
 /// There are quiet logs with a transaction whose end isn't reported.

@@ -1,7 +1,7 @@
 -- An abort of a transaction that takes commands ends in its being aborted at the client's request.
-use Rattle.std.proofs.Common.{◌≡◌, ◌⊎◌, ◌<◌, ◌≤◌, ◌+◌, ℕ, zero, suc, Bool, true, false, List, [], ◌∷◌, ◌++◌, refl, sym, ap, ◌∙◌, subst, inl, inr, append_assoc, arith}
+use Rattle.std.proofs.Common.{◌≡◌, ◌⊎◌, ◌<◌, ◌≤◌, ◌+◌, ℕ, zero, suc, Bool, true, false, List, [], ◌∷◌, ◌++◌, refl, sym, ap, ◌∙◌, subst, inl, inr, arith}
 use Rattle.std.specs.Prelude.{if◌then◌else◌, Some}
-use Rattle.run_theory.proofs.Pasts.{each_in, each_map}
+use Rattle.run_theory.proofs.Pasts.{each_map}
 use Rattle.run_theory.specs.Cuts.{IsCut}
 use Rattle.run_theory.specs.Lists.{Each, IsIn}
 use Rattle.sig_core.proofs.Keys.{same_tx-self}
@@ -29,12 +29,11 @@ use Rattle.world_core.specs.Start.{Start}
 use Rattle.world_core.specs.Steps.{HostStep}
 use Rattle.host_laws.specs.Counts.{one_if}
 use Rattle.run_laws.proofs.AlongSteps.{live_tx}
-use Rattle.host_laws.proofs.ApiBegins.{in_middle}
 use Rattle.host_laws.proofs.LinkCounts.{steps}
 use Rattle.answer_laws.proofs.Lives.{live_low}
 use Rattle.host_laws.proofs.Wishes.{is_tc, sends_of}
 use Rattle.answer_laws.specs.Answered.{EachIsAnswered, IsOpenAt}
-use Rattle.host_laws.specs.Opened.{opened_after, opened_in}
+use Rattle.host_laws.specs.OpenedAfter.{opened_after, opened_in}
 use Rattle.command_laws.proofs.AbortFirst.{IsAbortAsked, abort_first}
 use Rattle.command_laws.proofs.AbortSteps.{IsLooseNow, LooseOption, is_more_to, is_roll_to, is_wrong, more_of, host_run, rolled, wrong_of}
 use Rattle.command_laws.proofs.AbortTurns.{is_loose, is_requested}
@@ -43,12 +42,12 @@ use Rattle.command_laws.proofs.Committed.{cut_at_first, sent_append}
 use Rattle.command_laws.proofs.EarlySteps.{is_wish_to}
 use Rattle.command_laws.proofs.EndsWell.{replied}
 use Rattle.command_laws.proofs.Entries.{HasOne}
-use Rattle.command_laws.proofs.EntryGoes.{HasEnded, entry_goes}
+use Rattle.command_laws.proofs.EntryGoes.{HasEnded, entry_goes, fails_at_end}
 use Rattle.command_laws.proofs.FirmHosts.{is_push_to}
 use Rattle.command_laws.proofs.First.{IsFirst, first_step, request_first}
 use Rattle.command_laws.proofs.HoldersTold.{sent_to_append}
 use Rattle.command_laws.proofs.Homes.{sound_at}
-use Rattle.command_laws.proofs.HostSteps.{api_seen}
+use Rattle.command_laws.proofs.BlockSteps.{api_seen}
 use Rattle.command_laws.proofs.OperateAsks.{AreNamed, named_since}
 use Rattle.command_laws.proofs.Pushes.{calm_since, is_node_kind, node_since}
 use Rattle.command_laws.proofs.ReadyAtQuiet.{named_at, opens, ready_open}
@@ -58,7 +57,7 @@ use Rattle.command_laws.proofs.TellsOnce.{live_early}
 use Rattle.command_laws.proofs.TellsSince.{OnTc}
 use Rattle.command_laws.proofs.Tests.{and_off, none_at}
 use Rattle.command_laws.specs.Aborts.{ReadyAbortsAreAnswered}
-use Rattle.command_laws.specs.Served.{IsServed, named_in, replies_since}
+use Rattle.command_laws.specs.Served.{IsServedBetween, named_in, replies_since}
 
 -- an end that isn't wrong is an abort at the client's request
 ends_right : (tx : TxId) (body : Body) (end : Outcome) → outcome_in body ≡ Some (tx, end) → wrong_of tx body ≡ false → end ≡ outcome.Aborted cause.Request
@@ -117,7 +116,7 @@ was_rolled tx (e ∷ newer) some = by (is_roll_to tx e.step.taken.to e.step.take
     by true is rest = refl
     by false is rest = rest (omega (arith, some, ap one_if is))
 
-module _ (answered : EachIsAnswered) (start : Start) (was now : ℕ → List HostStep) (name : ℕ) (t : OpenTransaction) (tx : TxId) (served : IsServed start was now (Abort name))
+module _ (answered : EachIsAnswered) (start : Start) (was now : ℕ → List HostStep) (name : ℕ) (t : OpenTransaction) (tx : TxId) (served : IsServedBetween start was now (Abort name))
     (named : named_in (opened_after start was) name ≡ Some t) (ready : t.doing ≡ Ready) (own : t.tx ≡ Some tx) where
   f : IsFirst start was now (Abort name)
   f = request_first start was now (Abort name) served
@@ -175,18 +174,8 @@ module _ (answered : EachIsAnswered) (start : Start) (was now : ℕ → List Hos
       replied start was now (Abort name) served f ended.newer ended.step ended.older (Ended (Some name) (outcome.Aborted cause.Request)) ended.is
       (ended.ending.told ∙ ap (λ end. replies_of (after start 0 (ended.older ++ f.first ∷ was 0)) ++ Ended (Some name) end ∷ []) (ends_right tx ended.step.step.taken.body ended.ending.outcome ended.ending.about right))
     where
-      inside : IsIn ended.step f.later
-      inside = subst (IsIn ended.step) (sym ended.is) (in_middle ended.newer ended.step ended.older)
-
-      in_newer : IsIn ended.step (f.later ++ f.first ∷ [])
-      in_newer =
-          subst (λ w. IsIn ended.step (w ++ f.first ∷ [])) (sym ended.is)
-          (subst (IsIn ended.step) (sym (append_assoc ended.newer (ended.step ∷ ended.older) (f.first ∷ []))) (in_middle ended.newer ended.step (ended.older ++ f.first ∷ [])))
-
       right : wrong_of tx ended.step.step.taken.body ≡ false
-      right =
-          each_in (λ (e : HostStep). is_request e.step.taken.body ≡ false → is_wrong tx e.step.taken.to e.step.taken.body ≡ false) ended.step (f.later ++ f.first ∷ []) none_wrong in_newer
-          (each_in (λ (e : HostStep). is_request e.step.taken.body ≡ false) ended.step f.later f.plain inside)
+      right = fails_at_end tx (Some name) start f.later (f.first ∷ was 0) f.first (is_wrong tx) ended f.plain none_wrong
 
   -- its coordinator is there
   home_low : home start tx < hosts start

@@ -17,7 +17,6 @@ use Rattle.api_block.specs.declared.opened.Doing.TheVariants.{Ready}
 use Rattle.api_block.specs.declared.opened.OpenTransaction.{OpenTransaction}
 use Rattle.api_block.specs.Opened.{if_there, where_at}
 use Rattle.api_block.specs.State.{ApiState, about, refused}
-use Rattle.node_core.specs.Row.{row}
 use Rattle.world_core.specs.Hosts.{home}
 use Rattle.world_core.specs.Start.{Start}
 use Rattle.host_laws.specs.Counts.{one_if}

@@ -1,5 +1,5 @@
 -- A step of a host, where neither an operation nor a commit of the transaction is asked for.
-use Rattle.std.proofs.Common.{◌≡◌, ◌⊎◌, ◌<◌, ◌≤◌, ◌+◌, ℕ, Bool, true, false, List, [], ◌∷◌, ◌++◌, refl, sym, ap, ◌∙◌, subst, inl, inr, arith}
+use Rattle.std.proofs.Common.{◌≡◌, ◌<◌, ◌≤◌, ◌+◌, ℕ, Bool, true, false, List, [], ◌∷◌, ◌++◌, refl, sym, ap, ◌∙◌, subst, arith}
 use Rattle.std.specs.Prelude.{◌&&◌, if◌then◌else◌, Option, None, Some}
 use Rattle.run_theory.specs.Lists.{Each}
 use Rattle.sig_core.proofs.Keys.{same_tx-self}
@@ -13,13 +13,11 @@ use Rattle.sig_core.specs.declared.signal.Body.TheVariants.{Client}
 use Rattle.sig_core.specs.declared.signal.client.ClientSignal.TheVariants.{TcCommitConf, TcKeyReq, TcCommitReq, TcRollbackReq, TcRollbackRep}
 use Rattle.sig_core.specs.declared.signal.Signal.{Signal}
 use Rattle.sig_core.specs.Same.{same_tx}
-use Rattle.sig_core.specs.Step.{Step, stay}
+use Rattle.sig_core.specs.Step.{Step}
 use Rattle.node_core.specs.Blocks.{has_tc, tc_of}
 use Rattle.node_core.specs.declared.host.Host.{Host}
 use Rattle.node_core.specs.Row.{row}
-use Rattle.tc_block.specs.Abort.{rollback_row}
 use Rattle.tc_block.specs.declared.transaction.Transaction.{Transaction}
-use Rattle.tc_block.specs.Live.{turn_of}
 use Rattle.tc_block.specs.State.{TcState}
 use Rattle.tc_block.specs.Tc.{tc_row, tc_table}
 use Rattle.world_core.specs.Hosts.{home, hosts}
@@ -27,21 +25,21 @@ use Rattle.world_core.specs.Machine.{after}
 use Rattle.world_core.specs.Start.{Start}
 use Rattle.world_core.specs.Steps.{HostStep}
 use Rattle.host_laws.specs.Counts.{one_if}
-use Rattle.host_laws.proofs.HostSteps.{no_live}
-use Rattle.host_laws.proofs.NodeOps.{absent_key}
+use Rattle.host_laws.proofs.BlocksAlong.{no_live}
 use Rattle.host_laws.proofs.SendKinds.{none_of}
 use Rattle.host_laws.proofs.TcMoves.{same_tx-is}
 use Rattle.host_laws.proofs.TcSends.{tx_in}
+use Rattle.host_laws.proofs.TcSteps.{left_of_turn}
+use Rattle.host_laws.proofs.TcTurns.{is_turn, turn_row}
 use Rattle.host_laws.proofs.Wishes.{is_tc, sends_of}
 use Rattle.run_laws.specs.Live.{of_live}
 use Rattle.command_laws.proofs.AbortTurns.{StaysLoose, is_loose, is_mild, is_more, is_requested, is_roll, loose_turn}
 use Rattle.command_laws.proofs.Homes.{lives_home, sound_at}
 use Rattle.command_laws.proofs.HostSends.{IsOfTc, is_other_kind}
-use Rattle.command_laws.proofs.HostSteps.{tc_host}
+use Rattle.command_laws.proofs.BlockSteps.{tc_host}
 use Rattle.command_laws.proofs.Since.{sent_since}
-use Rattle.command_laws.proofs.TcPath.{IsSound, TcGoes, Took, aside, begins, is_told, left_by, none_there, takes, tc_goes, told_of, took}
+use Rattle.command_laws.proofs.TcPath.{IsSound, TcGoes, aside, begins, is_told, takes, tc_goes, told_of}
 use Rattle.command_laws.proofs.TellsSince.{OnTc}
-use Rattle.command_laws.proofs.Turns.{IsMissing, TakesTurn, turn_by, turn_takes}
 
 -- an operation of the transaction, or the wish for its commit
 abbrev pub more_of : TxId → Body → Bool
@@ -114,6 +112,10 @@ module _ (tx : TxId) where
   roll_in (Client (TcRollbackReq other)) e = same_tx-is other tx e
   roll_in _ e = cc
 
+  roll_turn : (body : Body) → roll_of tx body ≡ true → is_turn body ≡ true
+  roll_turn (Client (TcRollbackReq other)) e = refl
+  roll_turn _ e = cc
+
   -- no other end is reported, and the transaction is loose at its home
   record LooseStep (Home : Type 0) (c : Bool) (s : TcState) (sends : List Outgoing) : Type 0 where
     silent : sends_of (is_wrong tx) sends ≡ 0
@@ -128,11 +130,11 @@ module _ (tx : TxId) where
     abbrev then_c : Bool
     then_c = if roll_of tx body then true else c
 
-    at_turn : (t : Transaction) → tx_in body ≡ tx → of_live tx s.live ≡ Some t → step.effects.sends ≡ (turn_by s tx body t).step.effects.sends
-        → of_live tx step.state.live ≡ left_by (turn_by s tx body t) → s.next_seq ≤ step.state.next_seq → LooseStep Home then_c step.state step.effects.sends
+    at_turn : (t : Transaction) → tx_in body ≡ tx → of_live tx s.live ≡ Some t → step.effects.sends ≡ (turn_row s body t).step.effects.sends
+        → of_live tx step.state.live ≡ left_of_turn (turn_row s body t) → s.next_seq ≤ step.state.next_seq → LooseStep Home then_c step.state step.effects.sends
     at_turn t same live sends left more = record {
-      silent = ap (sends_of (is_wrong tx)) sends ∙ none_of is_mild (is_wrong tx) mild_right (turn_by s tx body t).step.effects.sends q.sends;
-      loose = λ at. record { loose = subst (LooseOption then_c) (sym left) (by (turn_by s tx body t).over refl); early = omega (arith, old.early, more) };
+      silent = ap (sends_of (is_wrong tx)) sends ∙ none_of is_mild (is_wrong tx) mild_right (turn_row s body t).step.effects.sends q.sends;
+      loose = λ at. record { loose = subst (LooseOption then_c) (sym left) (by (turn_row s body t).over refl); early = omega (arith, old.early, more) };
     }
       where
         old : IsLooseNow tx c s
@@ -141,10 +143,10 @@ module _ (tx : TxId) where
         fine : LooseOption c (Some t)
         fine = subst (LooseOption c) live old.loose
 
-        q : StaysLoose then_c (turn_by s tx body t)
-        q = subst (λ b. StaysLoose (if b then true else c) (turn_by s tx body t)) (roll_same body same) (loose_turn c s tx body t (more_kind body plain same) fine.0 fine.1)
+        q : StaysLoose then_c (turn_row s body t)
+        q = subst (λ b. StaysLoose (if b then true else c) (turn_row s body t)) (roll_same body same) (loose_turn c s tx body t same (more_kind body plain same) fine.0 fine.1)
 
-        by : (b : Bool) → (turn_by s tx body t).over ≡ b → LooseOption then_c (if b then None else Some (turn_by s tx body t).step.state)
+        by : (b : Bool) → (turn_row s body t).over ≡ b → LooseOption then_c (if b then None else Some (turn_row s body t).step.state)
         by true over = tt
         by false over = (q.phase over, q.none)
 
@@ -154,30 +156,13 @@ module _ (tx : TxId) where
       loose = λ at. record { loose = subst (LooseOption then_c) (sym (same ∙ missing)) tt; early = omega (arith, (was at).early, more) };
     }
 
-    -- the wish for an abort finds the transaction
-    rolls : roll_of tx body ≡ true → (of_live tx s.live ≡ None) ⊎ Took tx s (turn_by s tx body) step
-    rolls e = on body e
-      where
-        on : (b : Body) → roll_of tx b ≡ true → (of_live tx s.live ≡ None) ⊎ Took tx s (turn_by s tx b) (tc_table s b)
-        on (Client (TcRollbackReq one)) is =
-            subst (λ v. (of_live tx s.live ≡ None) ⊎ Took tx s (turn_by s tx (Client (TcRollbackReq one))) (tc_table s (Client (TcRollbackReq v)))) (sym (same_tx-is one tx is))
-            (by (turn_takes s tx (λ t. rollback_row s.node s.layout tx t)))
-          where
-            by : (IsMissing s tx × (turn_of s tx (λ t. rollback_row s.node s.layout tx t) ≡ stay s))
-                ⊎ TakesTurn s tx (λ t. rollback_row s.node s.layout tx t)
-                (turn_of s tx (λ t. rollback_row s.node s.layout tx t))
-                → (of_live tx s.live ≡ None) ⊎ Took tx s (λ t. rollback_row s.node s.layout tx t) (turn_of s tx (λ t. rollback_row s.node s.layout tx t))
-            by (inl missing) = inl (none_there tx s.live (absent_key tx tx s.live (same_tx-self tx) missing.0))
-            by (inr r) = inr (took tx s sound (λ t. rollback_row s.node s.layout tx t) (turn_of s tx (λ t. rollback_row s.node s.layout tx t)) r)
-        on _ is = cc
-
     loose_goes : TcGoes tx s body step → LooseStep Home then_c step.state step.effects.sends
     loose_goes (takes t same live sends left more) = at_turn t same live sends left more
     loose_goes (begins number now none more) = record {
       silent = none_wrong step.effects.sends none;
       loose = λ at. absurd (omega (arith, (was at).early, number));
     }
-    loose_goes (aside same none more) = by (roll_of tx body) refl
+    loose_goes (aside same none more absent) = by (roll_of tx body) refl
       where
         by : (b : Bool) → roll_of tx body ≡ b → LooseStep Home then_c step.state step.effects.sends
         by false off = record {
@@ -185,11 +170,7 @@ module _ (tx : TxId) where
           loose = λ at. let old = was at in
               record { loose = subst (λ b. LooseOption (if b then true else c) (of_live tx step.state.live)) (sym off) (subst (LooseOption c) (sym same) old.loose); early = omega (arith, old.early, more) };
         }
-        by true on = which (rolls on)
-          where
-            which : (of_live tx s.live ≡ None) ⊎ Took tx s (turn_by s tx body) step → LooseStep Home then_c step.state step.effects.sends
-            which (inl missing) = at_none missing same none more
-            which (inr k) = at_turn k.t (roll_in body on) k.was k.sends k.left k.more
+        by true on = at_none (absent (roll_turn body on) (roll_in body on)) same none more
 
   wrong_tc : IsOfTc (is_wrong tx)
   wrong_tc = record { others = others; begins = λ name node. refl }

@@ -1,7 +1,8 @@
 -- What a signal changes at the API, with the replies.
-use Rattle.std.proofs.Common.{◌≡◌, ℕ, Bool, true, false, List, [], ◌∷◌, ◌++◌, refl, sym, ◌∙◌}
+use Rattle.std.proofs.Common.{◌≡◌, ℕ, Bool, true, false, List, [], ◌∷◌, ◌++◌, refl, sym, ap, ◌∙◌}
 use Rattle.std.proofs.lemmas.List.{append-nil}
 use Rattle.run_theory.specs.Lists.{Each}
+use Rattle.run_theory.proofs.EachSent.{each_mapped}
 use Rattle.run_theory.proofs.Pasts.{each_append}
 use Rattle.std.specs.Prelude.{map, Option, None, Some}
 use Rattle.sig_core.specs.declared.mark.Mark.TheVariants.{Reported}
@@ -9,7 +10,6 @@ use Rattle.sig_core.specs.declared.member.Member.{Member}
 use Rattle.sig_core.specs.declared.member.TxId.{TxId}
 use Rattle.sig_core.specs.declared.op.Answer.{Answer}
 use Rattle.sig_core.specs.declared.op.Op.{Op}
-use Rattle.sig_core.specs.declared.outcome.AbortCause.{AbortCause}
 use Rattle.sig_core.specs.declared.outcome.Outcome.{Outcome}
 use Rattle.sig_core.specs.declared.outcome.Outcome.TheVariants as outcome
 use Rattle.sig_core.specs.declared.reply.ApiReply.{ApiReply}
@@ -17,28 +17,23 @@ use Rattle.sig_core.specs.declared.reply.ApiReply.TheVariants.{Answered, Begun, 
 use Rattle.sig_core.specs.declared.reply.Refusal.TheVariants.{TooManyOpen}
 use Rattle.sig_core.specs.declared.signal.Body.{Body}
 use Rattle.sig_core.specs.declared.signal.Body.TheVariants.{Host, Client}
-use Rattle.sig_core.specs.declared.signal.client.ClientSignal.TheVariants.{TcBeginConf, TcBeginRef, TcKeyConf, TcKeyReq, TcCommitAck, TcCommitConf, TcCommitReq, TcRollbackRep, TcWaitConf, DumpConf, DumpReq}
-use Rattle.sig_core.specs.declared.signal.host.HostSignal.TheVariants.{Continue, Round}
-use Rattle.sig_core.specs.declared.signal.host.Work.TheVariants as work
+use Rattle.sig_core.specs.declared.signal.client.ClientSignal.TheVariants.{TcBeginConf, TcBeginRef, TcKeyConf, TcKeyReq, TcCommitAck, TcCommitConf, TcCommitReq, TcRollbackRep, TcWaitConf, DumpReq}
+use Rattle.sig_core.specs.declared.signal.host.HostSignal.TheVariants.{Round}
 use Rattle.sig_core.specs.Place.{coordinator_of}
-use Rattle.sig_core.specs.Step.{Effects, Step, stay, to_place}
-use Rattle.api_block.specs.declared.dump.Dump.{Dump}
+use Rattle.sig_core.specs.Step.{Effects, Step, to_place}
 use Rattle.api_block.specs.declared.members.News.{News}
 use Rattle.api_block.specs.declared.members.News.TheVariants as news
-use Rattle.api_block.specs.declared.opened.Doing.{Doing}
 use Rattle.api_block.specs.declared.opened.Doing.TheVariants.{Beginning, Ready, Operating, Committing}
 use Rattle.api_block.specs.declared.opened.OpenTransaction.{OpenTransaction}
 use Rattle.api_block.specs.Api.{api_table}
-use Rattle.api_block.specs.Dump.{dump_replies, dumped_by, dumped_next, dumped_row, row_reply}
+use Rattle.api_block.specs.Dump.{dump_replies, row_reply}
 use Rattle.api_block.specs.Gathered.{gathered}
 use Rattle.api_block.specs.Members.{everyone, telling_all}
 use Rattle.api_block.specs.Opened.{answered, behind, begins, begins_at, begun, begun_operating, has_tx}
-use Rattle.api_block.specs.Operate.{answer_by, answer_row, begun_by, begun_row}
-use Rattle.api_block.specs.Outcome.{abort_report_row, commit_report_row, refuse_row}
 use Rattle.api_block.specs.State.{ApiState}
-use Rattle.api_block.specs.Wait.{behind_row}
 use Rattle.node_core.specs.Requests.{is_request}
-use Rattle.host_laws.proofs.Focus.{IsFocus, where_found}
+use Rattle.host_laws.proofs.ApiTurns.{SignalForms, signal_turns}
+use Rattle.host_laws.proofs.Focus.{IsFocus}
 use Rattle.host_laws.proofs.SendKinds.{are_of}
 
 -- what is sent with no transaction in view
@@ -114,90 +109,35 @@ one_of f = record { t = f.item; front = f.front; back = f.back; is = f.is }
 rows_told : (node : ℕ) (digest : Bool) (rows : List (List ℕ × List ℕ)) → Each (λ (r : ApiReply). is_row_reply r ≡ true) (dump_replies node digest rows)
 unfolding dump_replies
 rows_told node true rows = (refl, tt)
-rows_told node false rows = each_append (λ (r : ApiReply). is_row_reply r ≡ true) (map row_reply rows) _ (each_row rows) (refl, tt)
-  where
-    each_row : (xs : List (List ℕ × List ℕ)) → Each (λ (r : ApiReply). is_row_reply r ≡ true) (map row_reply xs)
-    each_row [] = tt
-    each_row (x ∷ xs) = (refl, each_row xs)
+rows_told node false rows =
+    each_append (λ (r : ApiReply). is_row_reply r ≡ true) (map row_reply rows) _
+    (each_mapped (λ (r : ApiReply). is_row_reply r ≡ true) row_reply rows (λ line. refl)) (refl, tt)
 
-module _ (s : ApiState) where
-  -- no reply is added
-  none_added : {t : ApiState} {effects : Effects} → t.replies ≡ s.replies → AddsRows s (record { state = t; effects = effects })
-  none_added same = record { more = []; is = same ∙ sym (append-nil s.replies); rows = tt }
+-- no reply is added
+none_added : (s : ApiState) {t : ApiState} {effects : Effects} → t.replies ≡ s.replies → AddsRows s (record { state = t; effects = effects })
+none_added s same = record { more = []; is = same ∙ sym (append-nil s.replies); rows = tt }
 
-  answer_by_changes : (tx : TxId) (answer : Answer) (at : ℕ) (f : IsFocus (has_tx tx) s.opened at) (doing : Doing) (name : Option ℕ) → f.item.doing ≡ doing → f.item.name ≡ name
-      → ApiChange s (Client (TcKeyConf tx answer)) (answer_by s tx answer at f.item doing name)
-  answer_by_changes tx answer at f Operating (Some name) does called = answers tx answer name (one_of f) refl f.passes does called (f.set _) refl refl
-  answer_by_changes tx answer at f Operating None does called = commits tx answer (one_of f) refl f.passes does called (f.set _) refl refl
-  answer_by_changes tx answer at f (Beginning op) name does called = rests refl (none_added refl) refl
-  answer_by_changes tx answer at f Ready name does called = rests refl (none_added refl) refl
-  answer_by_changes tx answer at f Committing name does called = rests refl (none_added refl) refl
-
-  answer_changes : (tx : TxId) (answer : Answer) → ApiChange s (Client (TcKeyConf tx answer)) (answer_row s tx answer)
-  unfolding answer_row
-  answer_changes tx answer =
-      where_found (has_tx tx) s.opened (stay s) (λ at t. answer_by s tx answer at t t.doing t.name) (ApiChange s (Client (TcKeyConf tx answer))) (λ none. rests refl (none_added refl) refl)
-      (λ at f. answer_by_changes tx answer at f f.item.doing f.item.name refl refl)
-
-  commit_report_changes : (tx : TxId) (epoch : ℕ) → ApiChange s (Client (TcCommitConf tx epoch)) (commit_report_row s tx epoch)
-  unfolding commit_report_row
-  commit_report_changes tx epoch =
-      let acks = telling_news (news.Committed tx) (everyone s.view) in
-      where_found (has_tx tx) s.opened _ _ (ApiChange s (Client (TcCommitConf tx epoch))) (λ none. rests refl (none_added refl) acks)
-      (λ at f. ends tx (outcome.Committed epoch) (one_of f) refl f.passes f.removed refl refl acks)
-
-  abort_report_changes : (tx : TxId) (cause : AbortCause) → ApiChange s (Client (TcRollbackRep tx cause)) (abort_report_row s tx cause)
-  unfolding abort_report_row
-  abort_report_changes tx cause =
-      where_found (has_tx tx) s.opened _ _ (ApiChange s (Client (TcRollbackRep tx cause))) (λ none. rests refl (none_added refl) refl)
-      (λ at f. ends tx (outcome.Aborted cause) (one_of f) refl f.passes f.removed refl refl refl)
-
-  begun_by_goes : (name : Option ℕ) (tx : TxId) (at : ℕ) (f : IsFocus (begins_at name tx.tc) s.opened at) (called : Option ℕ) (doing : Doing) → f.item.doing ≡ doing → f.item.name ≡ called
-      → ApiChange s (Client (TcBeginConf name tx)) (begun_by s tx at f.item called doing)
-  begun_by_goes name tx at f (Some called) doing does is = starts name tx (one_of f) (begun f.item tx) refl f.passes (f.set _) (told called is refl refl refl)
-  begun_by_goes name tx at f None (Beginning (Some op)) does is = starts name tx (one_of f) (begun_operating f.item tx) refl f.passes (f.set _) (alone op is does refl refl refl)
-  begun_by_goes name tx at f None (Beginning None) does is = starts name tx (one_of f) (begun f.item tx) refl f.passes (f.set _) (idle refl refl refl)
-  begun_by_goes name tx at f None Ready does is = starts name tx (one_of f) (begun f.item tx) refl f.passes (f.set _) (idle refl refl refl)
-  begun_by_goes name tx at f None Operating does is = starts name tx (one_of f) (begun f.item tx) refl f.passes (f.set _) (idle refl refl refl)
-  begun_by_goes name tx at f None Committing does is = starts name tx (one_of f) (begun f.item tx) refl f.passes (f.set _) (idle refl refl refl)
-
-  begun_changes : (name : Option ℕ) (tx : TxId) → ApiChange s (Client (TcBeginConf name tx)) (begun_row s name tx)
-  unfolding begun_row
-  begun_changes name tx =
-      where_found (begins_at name tx.tc) s.opened (stay s) (λ at t. begun_by s tx at t t.name t.doing) (ApiChange s (Client (TcBeginConf name tx))) (λ none. rests refl (none_added refl) refl)
-      (λ at f. begun_by_goes name tx at f f.item.name f.item.doing refl refl)
-
-  refuse_changes : (name : Option ℕ) → ApiChange s (Client (TcBeginRef name)) (stay (refuse_row s name))
-  unfolding refuse_row
-  refuse_changes name =
-      where_found (begins name) s.opened s _ (λ after. ApiChange s (Client (TcBeginRef name)) (stay after)) (λ none. rests refl (none_added refl) refl)
-      (λ at f. refuses name (one_of f) refl f.passes f.removed refl refl)
-
-  behind_changes : (tx ahead : TxId) → ApiChange s (Client (TcWaitConf tx ahead)) (stay (behind_row s tx ahead))
-  unfolding behind_row
-  behind_changes tx ahead =
-      where_found (has_tx tx) s.opened s _ (λ after. ApiChange s (Client (TcWaitConf tx ahead)) (stay after)) (λ none. rests refl (none_added refl) refl)
-      (λ at f. waits tx ahead (one_of f) refl (f.set _) refl refl)
-
-  dumped_changes : (rows : List (List ℕ × List ℕ)) (next : Option ℕ) → ApiChange s (Client (DumpConf rows next)) (dumped_row s rows next)
-  unfolding dumped_row
-  dumped_changes rows next = by s.dump
-    where
-      on : (d : Dump) (o : Option ℕ) → ApiChange s (Client (DumpConf rows next)) (dumped_next s d rows o)
-      on d (Some at) = rests refl (none_added refl) refl
-      on d None = rests refl (record { more = dump_replies d.node d.digest (gathered d.rows rows); is = refl; rows = rows_told d.node d.digest (gathered d.rows rows) }) refl
-
-      by : (d : Option Dump) → ApiChange s (Client (DumpConf rows next)) (dumped_by s rows next d)
-      by None = rests refl (none_added refl) refl
-      by (Some d) = on d next
+at_signal : (s : ApiState) (body : Body) → SignalForms s body (ApiChange s body)
+at_signal s body = record {
+  begins_named = λ name tx at f called is e. starts name tx (one_of f) (begun f.item tx) is f.passes (f.set _) (told called e refl refl refl);
+  begins_alone = λ name tx at f op is e d.
+      starts name tx (one_of f) (begun_operating f.item tx) is f.passes (f.set _) (alone op e d refl refl refl);
+  begins_idle = λ name tx at f is. starts name tx (one_of f) (begun f.item tx) is f.passes (f.set _) (idle refl refl refl);
+  refuses = λ name at f is. refuses name (one_of f) is f.passes f.removed refl refl;
+  answers = λ tx answer at f name is d e. answers tx answer name (one_of f) is f.passes d e (f.set _) refl refl;
+  answers_last = λ tx answer at f is d e. commits tx answer (one_of f) is f.passes d e (f.set _) refl refl;
+  answers_none = λ tx answer at f is other. rests refl (none_added s refl) refl;
+  commits = λ tx epoch at f is.
+      ends tx (outcome.Committed epoch) (one_of f) (ap outcome_in is) f.passes f.removed refl refl (telling_news (news.Committed tx) (everyone s.view));
+  acknowledges = λ tx epoch is none. rests refl (none_added s refl) (telling_news (news.Committed tx) (everyone s.view));
+  aborts = λ tx cause at f is. ends tx (outcome.Aborted cause) (one_of f) (ap outcome_in is) f.passes f.removed refl refl refl;
+  waits = λ tx ahead at f is. waits tx ahead (one_of f) is (f.set _) refl refl;
+  dumps = λ d rows next at is. rests refl (none_added s refl) refl;
+  dumped = λ d rows next is.
+      let lines = dump_replies d.node d.digest (gathered d.rows rows) in
+      rests refl (record { more = lines; is = refl; rows = rows_told d.node d.digest (gathered d.rows rows) }) refl;
+  rests = λ void stray. rests refl (none_added s refl) refl;
+}
 
 pub api_changes : (s : ApiState) (body : Body) → is_request body ≡ false → ApiChange s body (api_table s body)
-api_changes s (Host (Continue (work.Request r) at)) plain = cc
-api_changes s (Client (TcBeginConf name tx)) plain = begun_changes s name tx
-api_changes s (Client (TcBeginRef name)) plain = refuse_changes s name
-api_changes s (Client (TcKeyConf tx answer)) plain = answer_changes s tx answer
-api_changes s (Client (TcCommitConf tx epoch)) plain = commit_report_changes s tx epoch
-api_changes s (Client (TcRollbackRep tx cause)) plain = abort_report_changes s tx cause
-api_changes s (Client (TcWaitConf tx ahead)) plain = behind_changes s tx ahead
-api_changes s (Client (DumpConf rows next)) plain = dumped_changes s rows next
-api_changes s _ plain = rests refl (none_added s refl) refl
+api_changes s body = signal_turns s body (ApiChange s body) (at_signal s body)

@@ -16,7 +16,6 @@ use Rattle.api_block.specs.declared.opened.Doing.TheVariants.{Ready, Committing}
 use Rattle.api_block.specs.declared.opened.OpenTransaction.{OpenTransaction}
 use Rattle.api_block.specs.Opened.{committing, if_there, is_beginning, where_at}
 use Rattle.api_block.specs.State.{ApiState, about, changing, refused}
-use Rattle.node_core.specs.Row.{row}
 use Rattle.host_laws.proofs.ApiBegins.{each_changed, in_middle}
 use Rattle.host_laws.proofs.Wishes.{sends_of}
 use Rattle.command_laws.proofs.Entries.{HasOne, IsNamed, NoneBegins, named_found}

@@ -23,19 +23,19 @@ use Rattle.host_laws.proofs.ApiBegins.{in_middle}
 use Rattle.answer_laws.proofs.Begins.{no_begin}
 use Rattle.host_laws.proofs.Wishes.{is_tc, sends_of}
 use Rattle.answer_laws.specs.Answered.{AreQuiet, EachIsAnswered, IsOpenAt, is_answered_by}
-use Rattle.host_laws.specs.Opened.{opened_after, opened_in}
+use Rattle.host_laws.specs.OpenedAfter.{opened_after, opened_in}
 use Rattle.command_laws.proofs.CommitFirst.{IsAsked, commit_first}
 use Rattle.command_laws.proofs.Entries.{HasOne, IsNamed, NoneBegins, named_found}
 use Rattle.command_laws.proofs.EntryGoes.{HasEnded, commit_goes}
 use Rattle.command_laws.proofs.FirmAtQuiet.{firm_at}
 use Rattle.command_laws.proofs.FirmHosts.{back_of, firm_since, is_back, is_push_to, push_of}
 use Rattle.command_laws.proofs.First.{IsFirst, first_step, request_first}
-use Rattle.command_laws.proofs.HostSteps.{api_seen}
+use Rattle.command_laws.proofs.BlockSteps.{api_seen}
 use Rattle.command_laws.proofs.Pushes.{calm_since, node_pushes}
 use Rattle.command_laws.proofs.Reported.{reported}
 use Rattle.command_laws.proofs.Since.{none_taken, sent_since}
 use Rattle.command_laws.proofs.Tests.{and_off, none_at}
-use Rattle.command_laws.specs.Served.{CommitsAreCommitted, IsServed, IsToldCommitted, named_in}
+use Rattle.command_laws.specs.Served.{CommitsAreCommitted, IsServedBetween, IsToldCommitted, named_in}
 
 -- at quiet no transaction is beginning
 pub calm_at : (start : Start) (logs : ℕ → List HostStep) → AreQuiet start logs → NoneBegins (opened_after start logs)
@@ -59,7 +59,7 @@ sent_append start test h [] ys log = omega arith
 sent_append start test h (e ∷ xs) ys log =
     omega (arith, sent_append start test h xs ys log, ap (λ l. sends_of test (step_after start h l e).effects.sends) (append_assoc xs ys log))
 
-module _ (answered : EachIsAnswered) (start : Start) (was now : ℕ → List HostStep) (name : ℕ) (t : OpenTransaction) (tx : TxId) (served : IsServed start was now (Commit name))
+module _ (answered : EachIsAnswered) (start : Start) (was now : ℕ → List HostStep) (name : ℕ) (t : OpenTransaction) (tx : TxId) (served : IsServedBetween start was now (Commit name))
     (named : named_in (opened_after start was) name ≡ Some t) (ready : t.doing ≡ Ready) (own : t.tx ≡ Some tx) where
   f : IsFirst start was now (Commit name)
   f = request_first start was now (Commit name) served

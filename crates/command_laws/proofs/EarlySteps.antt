@@ -25,9 +25,10 @@ use Rattle.run_laws.specs.Live.{of_live}
 use Rattle.command_laws.proofs.EarlyTurns.{EarlyTurn, IsLeaving, is_no_end, is_past, is_wish, open_turn, past_turn}
 use Rattle.command_laws.proofs.HostSends.{IsOfTc, is_other_kind}
 use Rattle.command_laws.proofs.LqhFair.{is_fair}
-use Rattle.command_laws.proofs.TcPath.{IsSound, TcGoes, aside, begins, is_told, left_by, takes, told_of}
+use Rattle.command_laws.proofs.TcPath.{IsSound, TcGoes, aside, begins, is_told, takes, told_of}
 use Rattle.command_laws.proofs.TellsOnce.{live_early}
-use Rattle.command_laws.proofs.Turns.{turn_by}
+use Rattle.host_laws.proofs.TcSteps.{left_of_turn}
+use Rattle.host_laws.proofs.TcTurns.{turn_row}
 use Rattle.command_laws.specs.Served.{is_refusal}
 
 -- an abort of the transaction, or a refusal for another cause
@@ -167,7 +168,7 @@ module _ (tx : TxId) where
 
   module _ (s : TcState) (body : Body) (sound : IsSound tx s) (wish : wish_of tx body ≡ false) (step : Step TcState) (refs : are_of is_no_ref step.effects.sends ≡ true)
       (Home : Type 0) (home_of : (t : Transaction) → of_live tx s.live ≡ Some t → Home) where
-    left_past : (turn : Turn) → (turn.over ≡ false → is_past turn.step.state.phase ≡ true) → PastOption (left_by turn)
+    left_past : (turn : Turn) → (turn.over ≡ false → is_past turn.step.state.phase ≡ true) → PastOption (left_of_turn turn)
     left_past turn past = by turn.over refl
       where
         by : (b : Bool) → turn.over ≡ b → PastOption (if b then None else Some turn.step.state)
@@ -175,7 +176,7 @@ module _ (tx : TxId) where
         by false over = past over
 
     pub clean_goes : is_fair tx body ≡ true → (Home → IsOpenNow tx s) → TcGoes tx s body step → StaysClean Home step.state step.effects.sends ⊎ Leaves Home step.state step.effects.sends
-    clean_goes fair was (aside same none more) =
+    clean_goes fair was (aside same none more absent) =
         inl (record {
           good = none_bad step.effects.sends none;
           fair = none_loss step.effects.sends none refs;
@@ -189,23 +190,23 @@ module _ (tx : TxId) where
         })
     clean_goes fair was (takes t same live sends left more) = own (cases_home)
       where
-        cases_home : EarlyTurn tx t (turn_by s tx body t)
+        cases_home : EarlyTurn tx t (turn_row s body t)
         cases_home = open_turn s tx body t (wish_kind body wish same) same fair (subst OpenOption live (was (home_of t live)).open_now)
 
-        own : EarlyTurn tx t (turn_by s tx body t) → StaysClean Home step.state step.effects.sends ⊎ Leaves Home step.state step.effects.sends
+        own : EarlyTurn tx t (turn_row s body t) → StaysClean Home step.state step.effects.sends ⊎ Leaves Home step.state step.effects.sends
         own (inl q) = inl (record {
-          good = ap (sends_of (is_bad tx)) sends ∙ none_of is_no_end (is_bad tx) good_end (turn_by s tx body t).step.effects.sends q.ends;
-          fair = ap (sends_of (is_loss tx)) sends ∙ none_of (is_fair tx) (is_loss tx) fair_loss (turn_by s tx body t).step.effects.sends q.fair;
-          is_open = λ at. record { open_now = subst OpenOption (sym (left ∙ ap (λ b. if b then None else Some (turn_by s tx body t).step.state) q.goes)) q.now };
+          good = ap (sends_of (is_bad tx)) sends ∙ none_of is_no_end (is_bad tx) good_end (turn_row s body t).step.effects.sends q.ends;
+          fair = ap (sends_of (is_loss tx)) sends ∙ none_of (is_fair tx) (is_loss tx) fair_loss (turn_row s body t).step.effects.sends q.fair;
+          is_open = λ at. record { open_now = subst OpenOption (sym (left ∙ ap (λ b. if b then None else Some (turn_row s body t).step.state) q.goes)) q.now };
         })
         own (inr q) = inr (record {
-          good = ap (sends_of (is_bad tx)) sends ∙ none_of is_no_end (is_bad tx) good_end (turn_by s tx body t).step.effects.sends q.ends;
+          good = ap (sends_of (is_bad tx)) sends ∙ none_of is_no_end (is_bad tx) good_end (turn_row s body t).step.effects.sends q.ends;
           home = home_of t live;
-          past = record { past = subst PastOption (sym left) (left_past (turn_by s tx body t) q.past); early = omega (arith, live_early tx s.node s.next_seq s.live t sound.own live, more) };
+          past = record { past = subst PastOption (sym left) (left_past (turn_row s body t) q.past); early = omega (arith, live_early tx s.node s.next_seq s.live t sound.own live, more) };
         })
 
     pub past_goes : (Home → IsPastNow tx s) → TcGoes tx s body step → GoesPast Home step.state step.effects.sends
-    past_goes was (aside same none more) = record {
+    past_goes was (aside same none more absent) = record {
       good = none_bad step.effects.sends none;
       past = λ at. let p = was at in record { past = subst PastOption (sym same) p.past; early = omega (arith, p.early, more) };
     }
@@ -214,9 +215,9 @@ module _ (tx : TxId) where
       past = λ at. let p = was at in absurd (omega (arith, p.early, number));
     }
     past_goes was (takes t same live sends left more) = record {
-      good = ap (sends_of (is_bad tx)) sends ∙ none_of is_no_end (is_bad tx) good_end (turn_by s tx body t).step.effects.sends q.ends;
-      past = λ at. record { past = subst PastOption (sym left) (left_past (turn_by s tx body t) q.past); early = omega (arith, live_early tx s.node s.next_seq s.live t sound.own live, more) };
+      good = ap (sends_of (is_bad tx)) sends ∙ none_of is_no_end (is_bad tx) good_end (turn_row s body t).step.effects.sends q.ends;
+      past = λ at. record { past = subst PastOption (sym left) (left_past (turn_row s body t) q.past); early = omega (arith, live_early tx s.node s.next_seq s.live t sound.own live, more) };
     }
       where
-        q : IsLeaving (turn_by s tx body t)
+        q : IsLeaving (turn_row s body t)
         q = past_turn s tx body t (wish_kind body wish same) same (subst PastOption live (was (home_of t live)).past)

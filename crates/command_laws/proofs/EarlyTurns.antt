@@ -28,7 +28,7 @@ use Rattle.host_laws.proofs.SendKinds.{are_of, of_append, of_drop, of_map, of_ta
 use Rattle.host_laws.proofs.TcSends.{tx_in}
 use Rattle.command_laws.proofs.LqhFair.{is_fair}
 use Rattle.host_laws.proofs.PhaseSends.{HasChains, aborts_of_kind, entering_of_kind, rest_of_kind}
-use Rattle.command_laws.proofs.Turns.{turn_at, turn_by}
+use Rattle.host_laws.proofs.TcTurns.{turn_at, turn_row}
 use Rattle.sig_core.proofs.Keys.{same_tx-self}
 use Rattle.command_laws.specs.Served.{is_refusal}
 
@@ -186,8 +186,8 @@ module _ (node : ℕ) (layout : Layout) (tx : TxId) (t : Transaction) where
     }
 
 -- an open one, where no refusal for another cause comes
-pub open_turn : (s : TcState) (tx : TxId) (body : Body) (t : Transaction) → is_wish body ≡ false → tx_in body ≡ tx → is_fair tx body ≡ true → t.phase ≡ Open → EarlyTurn tx t (turn_by s tx body t)
+pub open_turn : (s : TcState) (tx : TxId) (body : Body) (t : Transaction) → is_wish body ≡ false → tx_in body ≡ tx → is_fair tx body ≡ true → t.phase ≡ Open → EarlyTurn tx t (turn_row s body t)
 open_turn s tx body t wish same fair at = turn_at s tx body t (EarlyTurn tx t) same (turns_open s.node s.layout tx t at body wish fair)
 
-pub past_turn : (s : TcState) (tx : TxId) (body : Body) (t : Transaction) → is_wish body ≡ false → tx_in body ≡ tx → is_past t.phase ≡ true → IsLeaving (turn_by s tx body t)
+pub past_turn : (s : TcState) (tx : TxId) (body : Body) (t : Transaction) → is_wish body ≡ false → tx_in body ≡ tx → is_past t.phase ≡ true → IsLeaving (turn_row s body t)
 past_turn s tx body t wish same past = turn_at s tx body t IsLeaving same (turns_past s.node s.layout tx t past body wish)

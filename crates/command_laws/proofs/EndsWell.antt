@@ -1,7 +1,7 @@
 -- A transaction that is neither to be committed nor aborted at the client's wish ends for want of room or of time.
 use Rattle.std.proofs.Common.{◌≡◌, ℕ, zero, suc, Bool, true, false, List, [], ◌∷◌, ◌++◌, refl, sym, ap, ◌∙◌, subst, append_assoc}
 use Rattle.std.specs.Prelude.{Option, Some, drop, if◌then◌else◌, length, not}
-use Rattle.run_theory.proofs.Pasts.{each_in, each_map}
+use Rattle.run_theory.proofs.Pasts.{each_map}
 use Rattle.run_theory.specs.Cuts.{IsCut}
 use Rattle.run_theory.specs.Lists.{Each, IsIn, IsPast}
 use Rattle.sig_core.proofs.Keys.{same_tx-self}
@@ -23,13 +23,12 @@ use Rattle.world_core.specs.Hosts.{home}
 use Rattle.world_core.specs.Machine.{after}
 use Rattle.world_core.specs.Start.{Start}
 use Rattle.world_core.specs.Steps.{HostStep}
-use Rattle.host_laws.proofs.ApiBegins.{in_middle}
 use Rattle.host_laws.proofs.Wishes.{is_tc}
 use Rattle.command_laws.proofs.ApiChanges.{outcome_in}
 use Rattle.command_laws.proofs.Committed.{cut_at_first}
 use Rattle.command_laws.proofs.EarlyRun.{no_bad}
 use Rattle.command_laws.proofs.EarlySteps.{IsOpenNow, is_bad, is_good, is_wish_to, wish_of}
-use Rattle.command_laws.proofs.EntryGoes.{HasEnded}
+use Rattle.command_laws.proofs.EntryGoes.{HasEnded, fails_at_end}
 use Rattle.command_laws.proofs.First.{IsFirst}
 use Rattle.command_laws.proofs.OperateAsks.{no_wish_node}
 use Rattle.command_laws.proofs.Pushes.{node_since}
@@ -38,7 +37,7 @@ use Rattle.command_laws.proofs.Since.{none_taken, sent_since}
 use Rattle.command_laws.proofs.TellsSince.{OnTc}
 use Rattle.command_laws.proofs.Tests.{and_off, none_at}
 use Rattle.command_laws.proofs.Told.{told_since}
-use Rattle.command_laws.specs.Served.{IsServed, is_refusal, replies_since}
+use Rattle.command_laws.specs.Served.{IsServedBetween, is_refusal, replies_since}
 
 request_plain_wish : (tx : TxId) (to : Place) (body : Body) → is_request body ≡ true → is_wish_to tx to body ≡ false
 request_plain_wish tx to body is = and_off (is_tc to.block) (plain body is)
@@ -76,7 +75,7 @@ pub record EndsWell (start : Start) (was now : ℕ → List HostStep) (name : Op
   pub told : IsIn (Ended name (outcome.Aborted cause)) (replies_since start was now)
   pub refusal : is_refusal cause ≡ true
 
-module _ (start : Start) (was now : ℕ → List HostStep) (asked : ApiReq) (served : IsServed start was now asked) (f : IsFirst start was now asked) where
+module _ (start : Start) (was now : ℕ → List HostStep) (asked : ApiReq) (served : IsServedBetween start was now asked) (f : IsFirst start was now asked) where
   abbrev cut : IsCut was now
   cut = cut_at_first was now f.later f.first f.is served.cut
 
@@ -118,16 +117,7 @@ module _ (start : Start) (was now : ℕ → List HostStep) (asked : ApiReq) (ser
           refusal = w.1.1;
         }
       where
-        inside : IsIn ended.step f.later
-        inside = subst (IsIn ended.step) (sym ended.is) (in_middle ended.newer ended.step ended.older)
-
-        in_newer : IsIn ended.step (f.later ++ f.first ∷ [])
-        in_newer =
-            subst (λ w. IsIn ended.step (w ++ f.first ∷ [])) (sym ended.is)
-            (subst (IsIn ended.step) (sym (append_assoc ended.newer (ended.step ∷ ended.older) (f.first ∷ []))) (in_middle ended.newer ended.step (ended.older ++ f.first ∷ [])))
-
         good : is_good tx ended.step.step.taken.body ≡ true
         good =
             is_true (is_good tx ended.step.step.taken.body)
-            (each_in (λ (e : HostStep). is_request e.step.taken.body ≡ false → is_bad tx e.step.taken.to e.step.taken.body ≡ false) ended.step (f.later ++ f.first ∷ []) none_bad in_newer
-            (each_in (λ (e : HostStep). is_request e.step.taken.body ≡ false) ended.step f.later f.plain inside))
+            (fails_at_end tx name start f.later (f.first ∷ was 0) f.first (is_bad tx) ended f.plain none_bad)

@@ -1,13 +1,15 @@
 -- What becomes of a transaction of the API that has begun: it does the same until its operation is answered, or its
 -- end is reported.
-use Rattle.std.proofs.Common.{◌≡◌, ◌⊎◌, ℕ, true, false, List, [], ◌∷◌, ◌++◌, refl, sym, ap, ◌∙◌, subst, inl, inr}
+use Rattle.std.proofs.Common.{◌≡◌, ◌⊎◌, ℕ, Bool, true, false, List, [], ◌∷◌, ◌++◌, refl, sym, ap, ◌∙◌, subst, inl, inr}
 use Rattle.std.specs.Prelude.{Option, None, Some}
+use Rattle.run_theory.proofs.Pasts.{each_before, each_in}
 use Rattle.run_theory.specs.Lists.{Each, IsIn}
 use Rattle.sig_core.specs.declared.mark.Mark.TheVariants.{Reported}
 use Rattle.sig_core.specs.declared.member.TxId.{TxId}
 use Rattle.sig_core.specs.declared.op.Answer.{Answer}
 use Rattle.sig_core.specs.declared.outcome.Outcome.{Outcome}
 use Rattle.sig_core.specs.declared.reply.ApiReply.TheVariants.{Answered, Ended}
+use Rattle.sig_core.specs.declared.place.Place.{Place}
 use Rattle.sig_core.specs.declared.signal.Body.{Body}
 use Rattle.sig_core.specs.declared.signal.Signal.{Signal}
 use Rattle.sig_core.specs.Step.{Step}
@@ -28,11 +30,11 @@ use Rattle.world_core.specs.Start.{Start}
 use Rattle.world_core.specs.Steps.{HostStep}
 use Rattle.host_laws.proofs.ApiBegins.{in_middle}
 use Rattle.host_laws.proofs.LqhOps.{left_of}
-use Rattle.host_laws.specs.Opened.{opened_in}
+use Rattle.host_laws.specs.OpenedAfter.{opened_in}
 use Rattle.command_laws.proofs.ApiChanges.{ApiChange, IsOneOf, answers, api_changes, commits, ends, outcome_in, refuses, rests, starts, waits}
 use Rattle.command_laws.proofs.Entries.{HasOne, IsApart, here_or_apart, same_number}
 use Rattle.command_laws.proofs.HostKinds.{replies_are}
-use Rattle.command_laws.proofs.HostSteps.{api_host, api_seen}
+use Rattle.command_laws.proofs.BlockSteps.{api_host, api_seen}
 
 -- the step reports the end of the transaction of this name
 pub record IsEnding (tx : TxId) (name : Option ℕ) (g : Host) (body : Body) (step : Step Host) : Type 0 where
@@ -54,6 +56,21 @@ pub record HasEnded (tx : TxId) (name : Option ℕ) (start : Start) (later log :
   pub is : later ≡ newer ++ step ∷ older
   pub ending : IsEnding tx name (after start 0 (older ++ log)) step.step.taken.body
       (step_after start 0 (older ++ log) step)
+
+-- what fails at each of these steps that takes no request fails at the one in which it ended
+pub fails_at_end : (tx : TxId) (name : Option ℕ) (start : Start) (later log : List HostStep) (first : HostStep) (test : Place → Body → Bool)
+    (ended : HasEnded tx name start later log) → Each (λ (e : HostStep). is_request e.step.taken.body ≡ false) later
+    → Each (λ (e : HostStep). is_request e.step.taken.body ≡ false → test e.step.taken.to e.step.taken.body ≡ false) (later ++ first ∷ [])
+    → test ended.step.step.taken.to ended.step.step.taken.body ≡ false
+fails_at_end tx name start later log first test ended plain none =
+    each_in Fails ended.step later (each_before Fails later (first ∷ []) none) inside
+    (each_in (λ (e : HostStep). is_request e.step.taken.body ≡ false) ended.step later plain inside)
+  where
+    Fails : HostStep → Type 0
+    Fails e = is_request e.step.taken.body ≡ false → test e.step.taken.to e.step.taken.body ≡ false
+
+    inside : IsIn ended.step later
+    inside = subst (IsIn ended.step) (sym ended.is) (in_middle ended.newer ended.step ended.older)
 
 pub record HasAnswered (name : Option ℕ) (start : Start) (later log : List HostStep) : Type 0 where
   pub newer : List HostStep

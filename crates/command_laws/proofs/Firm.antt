@@ -19,7 +19,7 @@ use Rattle.tc_block.proofs.EachTurn.{CommittedForms, TurnForms}
 use Rattle.host_laws.proofs.SendKinds.{are_of, of_map}
 use Rattle.host_laws.proofs.TcSends.{tx_in}
 use Rattle.host_laws.proofs.PhaseSends.{HasChains, entering_of_kind, rest_of_kind}
-use Rattle.command_laws.proofs.Turns.{turn_at, turn_by}
+use Rattle.host_laws.proofs.TcTurns.{turn_at, turn_row}
 
 -- it isn't aborted, and has no operation unanswered while it takes them
 abbrev pub is_firm : Phase → Option Asked → Bool
@@ -94,5 +94,5 @@ module _ (node : ℕ) (layout : Layout) (tx : TxId) (t : Transaction) (firm : is
     aborted_all = λ why verifying awaited at last. absurd (not_aborting why verifying awaited at);
   }
 
-pub firm_turn : (s : TcState) (tx : TxId) (body : Body) (t : Transaction) → tx_in body ≡ tx → is_push body ≡ false → is_firm t.phase t.asked ≡ true → StaysFirm (turn_by s tx body t)
+pub firm_turn : (s : TcState) (tx : TxId) (body : Body) (t : Transaction) → tx_in body ≡ tx → is_push body ≡ false → is_firm t.phase t.asked ≡ true → StaysFirm (turn_row s body t)
 firm_turn s tx body t same plain firm = turn_at s tx body t StaysFirm same (turns_firm s.node s.layout tx t firm body plain)

@@ -17,23 +17,22 @@ use Rattle.node_core.specs.declared.host.Host.{Host}
 use Rattle.node_core.specs.Row.{row}
 use Rattle.tc_block.specs.declared.transaction.Transaction.{Transaction}
 use Rattle.tc_block.specs.Operate.{fresh}
-use Rattle.tc_block.specs.State.{TcState}
+use Rattle.tc_block.specs.State.{TcState, with_live}
 use Rattle.tc_block.specs.Tc.{tc_row}
 use Rattle.world_core.specs.Machine.{after}
 use Rattle.world_core.specs.Start.{Start}
 use Rattle.world_core.specs.Steps.{HostStep}
 use Rattle.host_laws.proofs.ApiBegins.{each_at, each_changed, each_less}
-use Rattle.host_laws.proofs.ApiMoves.{ends, goes}
 use Rattle.host_laws.proofs.SendKinds.{none_of}
 use Rattle.host_laws.proofs.TcLives.{apart}
 use Rattle.host_laws.proofs.TcSends.{tx_in}
+use Rattle.host_laws.proofs.TcSteps.{TcStep, begins, is_rest_kind, is_said, left_in, misses, rests, takes, tc_step, turn_said}
+use Rattle.host_laws.proofs.TcTurns.{turn_row}
 use Rattle.host_laws.proofs.Wishes.{is_tc, sends_of}
 use Rattle.command_laws.proofs.Firm.{firm_turn, is_firm, is_no_abort, is_push}
 use Rattle.command_laws.proofs.HostSends.{IsOfTc, is_other_kind}
-use Rattle.command_laws.proofs.HostSteps.{tc_host}
-use Rattle.command_laws.proofs.OwnSends.{is_own_kind, turn_own}
+use Rattle.command_laws.proofs.BlockSteps.{tc_host}
 use Rattle.command_laws.proofs.Since.{sent_since}
-use Rattle.command_laws.proofs.Turns.{TakesTurn, TcShape, is_idle_kind, starts, still, tc_shape, turn_by, turns}
 
 -- an operation of the transaction, or the wish for its abort
 abbrev pub push_of : TxId → Body → Bool
@@ -68,15 +67,15 @@ module _ (tx : TxId) where
   abbrev pub AllFirm : List (TxId × Transaction) → Type 0
   AllFirm live = Each IsFirmFor live
 
-  no_back_idle : (to : Place) (body : Body) → is_idle_kind body ≡ true → is_back tx to body ≡ false
-  no_back_idle to (Client (TcRollbackRep other cause)) e = cc
-  no_back_idle to _ e = refl
+  no_back_rest : (to : Place) (body : Body) → is_rest_kind body ≡ true → is_back tx to body ≡ false
+  no_back_rest to (Client (TcRollbackRep other cause)) e = cc
+  no_back_rest to _ e = refl
 
   pub no_back_firm : (to : Place) (body : Body) → is_no_abort body ≡ true → is_back tx to body ≡ false
   no_back_firm to (Client (TcRollbackRep other cause)) e = cc
   no_back_firm to _ e = refl
 
-  no_back_other : (one : TxId) → same_tx one tx ≡ false → (to : Place) (body : Body) → is_own_kind one body ≡ true → is_back tx to body ≡ false
+  no_back_other : (one : TxId) → same_tx one tx ≡ false → (to : Place) (body : Body) → is_said one body ≡ true → is_back tx to body ≡ false
   no_back_other one differs to (Client (TcRollbackRep other cause)) e = apart tx one other differs e
   no_back_other one differs to _ e = refl
 
@@ -91,53 +90,47 @@ module _ (tx : TxId) where
     silent : sends_of (is_back tx) sends ≡ 0
 
   module _ (s : TcState) (body : Body) (plain : push_of tx body ≡ false) (firm : AllFirm s.live) where
-    -- a turn that keeps the transaction firm, if it is its own
-    turn_firm : (step : Step TcState) (r : TakesTurn s (tx_in body) (turn_by s (tx_in body) body) step)
-        → sends_of (is_back tx) (turn_by s (tx_in body) body r.t).step.effects.sends ≡ 0
-        → ((turn_by s (tx_in body) body r.t).over ≡ false
-        → IsFirmFor (tx_in body, (turn_by s (tx_in body) body r.t).step.state))
+    -- after the turn of the signal's transaction, which is firm still, if it is this one
+    after_turn : (t : Transaction) (front back : List (TxId × Transaction)) → s.live ≡ front ++ (tx_in body, t) ∷ back
+        → IsFirmFor (tx_in body, (turn_row s body t).step.state) → (b : Bool)
+        → AllFirm (if b then front ++ back else front ++ (tx_in body, (turn_row s body t).step.state) ∷ back)
+    after_turn t front back was stays true = each_less IsFirmFor front (tx_in body, t) back s.live was firm
+    after_turn t front back was stays false =
+        each_changed IsFirmFor front (tx_in body, t) (tx_in body, (turn_row s body t).step.state) back s.live was firm (λ before. stays)
+
+    turn_firm : (step : Step TcState) (t : Transaction) (front back : List (TxId × Transaction)) → s.live ≡ front ++ (tx_in body, t) ∷ back
+        → step ≡ record { state = with_live s (left_in (tx_in body) front back (turn_row s body t)); effects = (turn_row s body t).step.effects }
+        → sends_of (is_back tx) (turn_row s body t).step.effects.sends ≡ 0 → IsFirmFor (tx_in body, (turn_row s body t).step.state)
         → KeepsFirm step.state.live step.effects.sends
-    turn_firm step r quiet stays = record {
-      firm = by (turn_by s (tx_in body) body r.t).over refl;
-      silent = ap (λ effects. sends_of (is_back tx) effects.sends) r.effects ∙ quiet;
+    turn_firm step t front back was is quiet stays = record {
+      firm = subst (λ (x : Step TcState). AllFirm x.state.live) (sym is) (after_turn t front back was stays (turn_row s body t).over);
+      silent = ap (λ (x : Step TcState). sends_of (is_back tx) x.effects.sends) is ∙ quiet;
     }
-      where
-        by : (b : Bool) → (turn_by s (tx_in body) body r.t).over ≡ b → AllFirm step.state.live
-        by true over = subst (λ state. AllFirm state.live) (sym (r.ends over)) (each_less IsFirmFor r.front (
-          tx_in body,
-          r.t,
-        ) r.back s.live r.is firm)
-        by false over =
-            subst (λ state. AllFirm state.live) (sym (r.goes over))
-            (each_changed IsFirmFor r.front (tx_in body, r.t) (
-              tx_in body,
-              (turn_by s (tx_in body) body r.t).step.state,
-            ) r.back s.live r.is firm (λ before. stays over))
 
-    own_turn : (step : Step TcState) → same_tx (tx_in body) tx ≡ true → TakesTurn s (tx_in body) (turn_by s (tx_in body) body) step → KeepsFirm step.state.live step.effects.sends
-    own_turn step same r =
-        let was = each_at IsFirmFor r.front (tx_in body, r.t) r.back s.live r.is firm same in
-        let stays = firm_turn s (tx_in body) body r.t refl (not_push body plain same) was in
-        turn_firm step r (none_of is_no_abort (is_back tx) no_back_firm
-        (turn_by s (tx_in body) body r.t).step.effects.sends stays.sends) (λ over is. stays.firm)
-
-    other_turn : (step : Step TcState) → same_tx (tx_in body) tx ≡ false → TakesTurn s (tx_in body) (turn_by s (tx_in body) body) step → KeepsFirm step.state.live step.effects.sends
-    other_turn step differs r =
-        turn_firm step r
-        (none_of (is_own_kind (tx_in body)) (is_back tx) (no_back_other (tx_in body) differs) (turn_by s (tx_in body) body r.t).step.effects.sends (turn_own s (tx_in body) body r.t refl))
-        (λ over is. absurd (let both : false ≡ true = sym differs ∙ is in cc))
-
-    shape_firm : (step : Step TcState) → TcShape s (tx_in body) (turn_by s (tx_in body) body) step → KeepsFirm step.state.live step.effects.sends
-    shape_firm step (still is kind) = record { firm = subst (λ state. AllFirm state.live) (sym is) firm; silent = none_of is_idle_kind (is_back tx) no_back_idle step.effects.sends kind }
-    shape_firm step (starts name is told) = record {
-      firm = subst (λ state. AllFirm state.live) (sym is) (each_inserted_value _ s.live _ fresh (λ key same. refl) firm);
-      silent = ap (sends_of (is_back tx)) told;
+    step_firm : (step : Step TcState) → TcStep s body step → KeepsFirm step.state.live step.effects.sends
+    step_firm step (rests about is kind) = record {
+      firm = subst (λ state. AllFirm state.live) (sym is) firm;
+      silent = none_of is_rest_kind (is_back tx) no_back_rest step.effects.sends kind;
     }
-    shape_firm step (turns r) = by (same_tx (tx_in body) tx) refl
+    step_firm step (misses about none is) = record {
+      firm = subst (λ (x : Step TcState). AllFirm x.state.live) (sym is) firm;
+      silent = ap (λ (x : Step TcState). sends_of (is_back tx) x.effects.sends) is;
+    }
+    step_firm step (begins name about room is) = record {
+      firm = subst (λ (x : Step TcState). AllFirm x.state.live) (sym is) (each_inserted_value _ s.live _ fresh (λ key same. refl) firm);
+      silent = ap (λ (x : Step TcState). sends_of (is_back tx) x.effects.sends) is;
+    }
+    step_firm step (takes about t front back was is) = by (same_tx (tx_in body) tx) refl
       where
         by : (b : Bool) → same_tx (tx_in body) tx ≡ b → KeepsFirm step.state.live step.effects.sends
-        by true same = own_turn step same r
-        by false differs = other_turn step differs r
+        by true same =
+            let stays = firm_turn s (tx_in body) body t refl (not_push body plain same) (each_at IsFirmFor front (tx_in body, t) back s.live was firm same) in
+            turn_firm step t front back was is
+            (none_of is_no_abort (is_back tx) no_back_firm (turn_row s body t).step.effects.sends stays.sends) (λ own. stays.firm)
+        by false differs =
+            turn_firm step t front back was is
+            (none_of (is_said (tx_in body)) (is_back tx) (no_back_other (tx_in body) differs) (turn_row s body t).step.effects.sends (turn_said s body t))
+            (λ own. absurd (let both : false ≡ true = sym differs ∙ own in cc))
 
   abbrev pub FirmHost : Host → Type 0
   FirmHost g = AllFirm (tc_of g).live
@@ -153,8 +146,8 @@ module _ (tx : TxId) where
       → KeepsFirm (tc_of (row g x).state).live (row g x).effects.sends
   host_firm g x plain firm =
       tc_host (λ (step : Step TcState). KeepsFirm step.state.live step.effects.sends) g x
-      (λ runs at. shape_firm (tc_of g) x.body (ap (λ of. is_tc of && push_of tx x.body) (sym at) ∙ plain) firm
-      (tc_row (tc_of g) x) (tc_shape (tc_of g) x.body))
+      (λ runs at. step_firm (tc_of g) x.body (ap (λ of. is_tc of && push_of tx x.body) (sym at) ∙ plain) firm
+      (tc_row (tc_of g) x) (tc_step (tc_of g) x.body))
       (λ effects none off. record { firm = firm; silent = none (is_back tx) back_tc })
 
   -- so no host reports it in steps that take neither an operation of the transaction nor the wish for its abort

@@ -32,9 +32,9 @@ use Rattle.world_core.specs.Start.{Start}
 use Rattle.world_core.specs.Steps.{Addressed, HostStep}
 use Rattle.host_laws.proofs.Tally.{tally_past}
 use Rattle.host_laws.proofs.LinkCounts.{signals}
-use Rattle.command_laws.proofs.HostSteps.{api_seen, request_step}
+use Rattle.command_laws.proofs.BlockSteps.{api_seen, request_step}
 use Rattle.command_laws.proofs.Since.{all_taken}
-use Rattle.command_laws.specs.Served.{IsServed}
+use Rattle.command_laws.specs.Served.{IsServedBetween}
 
 pub requests_append : (newer log : List HostStep) → requests (newer ++ log) ≡ requests log ++ requests newer
 requests_append [] log = sym (append-nil (requests log))
@@ -107,7 +107,7 @@ pub first_step : (start : Start) (was now : ℕ → List HostStep) (request : Ap
 first_step start was now request f = request_step (after start 0 (was 0)) f.first.step.taken request
     (api_runs start (was 0)) f.place f.body
 
-module _ (start : Start) (was now : ℕ → List HostStep) (request : ApiReq) (served : IsServed start was now request) where
+module _ (start : Start) (was now : ℕ → List HostStep) (request : ApiReq) (served : IsServedBetween start was now request) where
   -- what comes at a quiet moment is no signal that a link gave
   first_asked : (es : List HostStep) (e : HostStep) → log_of (machine start) es ≡ was → Happens (machine start) es e → e.host < hosts start → is_request e.step.taken.body ≡ true
   first_asked es e same happens low = by (is_request e.step.taken.body) refl

@@ -41,8 +41,8 @@ use Rattle.answer_laws.proofs.Ops.{operations_wait}
 use Rattle.answer_laws.proofs.Queued.{operations_queue}
 use Rattle.answer_laws.proofs.Serves.{each_served}
 use Rattle.answer_laws.proofs.Verified.{no_epoch}
-use Rattle.answer_laws.specs.Answered.{AreQuiet, IsLiveAs, IsQueuedAt, IsServed, IsWaitingAt, Waits, WaitsForLock}
-use Rattle.host_laws.specs.Opened.{opened_after}
+use Rattle.answer_laws.specs.Answered.{AreQuiet, IsLiveAs, IsQueuedAt, IsKeptByCoordinator, IsWaitingAt, Waits, WaitsForLock}
+use Rattle.host_laws.specs.OpenedAfter.{opened_after}
 use Rattle.run_laws.proofs.OneAtATime.{one_at_a_time}
 use Rattle.run_laws.proofs.Routes.{signals_are_routed}
 use Rattle.run_laws.proofs.RowsNodes.{IsRowsHost, rows_node}
@@ -123,7 +123,7 @@ module _ (start : Start) (logs : ℕ → List HostStep) (quiet : AreQuiet start 
       subst (λ w. IsHostRouted start (after start h (w h))) same ((signals_are_routed start es xs.0 run xs.1).hosts h)
 
   module _ (t : OpenTransaction) (inside : IsIn t (opened_after start logs)) (tx : TxId) (own : t.tx ≡ Some tx) (does : t.doing ≡ Operating) where
-    served : IsServed start logs t tx
+    served : IsKeptByCoordinator start logs t tx
     served = each_served start logs t quiet inside tx own
 
     low : home start tx < hosts start

@@ -35,16 +35,16 @@ use Rattle.host_laws.proofs.Tally.{Counted, counted, tally_append, tally_between
 use Rattle.host_laws.specs.Counts.{one_if, tally}
 use Rattle.run_laws.proofs.AlongSteps.{live_tx}
 use Rattle.host_laws.proofs.ApiBegins.{in_middle}
-use Rattle.host_laws.proofs.HostSteps.{no_live}
+use Rattle.host_laws.proofs.BlocksAlong.{no_live}
 use Rattle.host_laws.proofs.LinkCounts.{steps, to_host}
 use Rattle.answer_laws.proofs.Lives.{holds_at, live_low, once_started}
 use Rattle.host_laws.proofs.Wishes.{sends_of}
 use Rattle.answer_laws.specs.Answered.{EachIsAnswered, IsLiveAs, is_answered_by}
-use Rattle.host_laws.specs.Opened.{opened_after}
+use Rattle.host_laws.specs.OpenedAfter.{opened_after}
 use Rattle.run_laws.specs.Live.{of_live}
 use Rattle.command_laws.proofs.First.{IsFirst, first_step, request_first, with_first}
 use Rattle.command_laws.proofs.HostKinds.{api_alone, api_no_rows, no_rows, replies_are}
-use Rattle.command_laws.proofs.HostSteps.{api_seen}
+use Rattle.command_laws.proofs.BlockSteps.{api_seen}
 use Rattle.command_laws.proofs.Since.{sent_since_to, arrives}
 use Rattle.command_laws.proofs.TellsSince.{OnTc}
 use Rattle.command_laws.proofs.Told.{told_since}
@@ -52,7 +52,7 @@ use Rattle.command_laws.proofs.WaitApi.{IsAboutOne, IsAsking, IsOwn, TellsHolder
 use Rattle.command_laws.proofs.WaitRows.{is_found, is_passed, is_probe, is_telling_who, is_wait_of, is_want}
 use Rattle.command_laws.proofs.WaitRun.{AllHold, all_hold}
 use Rattle.command_laws.proofs.WaitsBehind.{IsBehindThere, behind_there}
-use Rattle.command_laws.specs.Served.{name_in, EachIsHeldUp, HoldersAreTold, IsHeldUp, IsHeldUpAt, IsServed, IsToldHolder, own_in}
+use Rattle.command_laws.specs.Served.{name_of_tx, EachIsHeldUp, HoldersAreTold, IsHeldUp, IsHeldUpAt, IsServedBetween, IsToldHolder, own_in}
 
 pub sent_to_append : (start : Start) (test : Place → Body → Bool) (h j : ℕ) (xs ys log : List HostStep)
     → sent_since_to start test h j (xs ++ ys) log ≡ sent_since_to start test h j xs (ys ++ log) + sent_since_to start test h j ys log
@@ -103,8 +103,8 @@ not_held tx key g api held = by (has_lqh g) refl
     by true rows = api_no_rows g api rows
     by false none = let both : false ≡ true = sym (ap is_some (no_rows g none key tx)) ∙ held in cc
 
-module _ (answered : EachIsAnswered) (held_up : EachIsHeldUp) (start : Start) (was mid now : ℕ → List HostStep) (t : OpenTransaction) (first_served : IsServed start was mid request.Waits)
-    (then_served : IsServed start mid now request.Pending) (own : own_in (after start 0 (was 0)) ≡ Some t) (unanswered : is_unanswered t.doing ≡ true) where
+module _ (answered : EachIsAnswered) (held_up : EachIsHeldUp) (start : Start) (was mid now : ℕ → List HostStep) (t : OpenTransaction) (first_served : IsServedBetween start was mid request.Waits)
+    (then_served : IsServedBetween start mid now request.Pending) (own : own_in (after start 0 (was 0)) ≡ Some t) (unanswered : is_unanswered t.doing ≡ true) where
   abbrev s : ApiState
   s = api_of (after start 0 (was 0))
 
@@ -246,9 +246,9 @@ module _ (answered : EachIsAnswered) (held_up : EachIsHeldUp) (start : Start) (w
       (pending_first (api_of (after start 0 (mid 0))) i.first.front t i.first.back i.name all.shell.ahead about unanswered i.first.none i.first.passes ahead_known)
 
   tells_reply : replies_of (after start 0 (then.first ∷ mid 0)) ≡ replies_of (after start 0 (mid 0)) ++ Pending t.name
-      (HeldBy (name_in (opened_after start mid) tells.who)) ∷ []
+      (HeldBy (name_of_tx (opened_after start mid) tells.who)) ∷ []
   tells_reply = replies_are (after start 0 (then.first ∷ mid 0)) ∙ tells.told
-      ∙ ap (λ rs. rs ++ Pending t.name (HeldBy (name_in (opened_after start mid) tells.who)) ∷ [])
+      ∙ ap (λ rs. rs ++ Pending t.name (HeldBy (name_of_tx (opened_after start mid) tells.who)) ∷ [])
       (sym (replies_are (after start 0 (mid 0))))
 
   -- the signal that told it came from a node where the transaction waits behind that one
@@ -267,7 +267,7 @@ module _ (answered : EachIsAnswered) (held_up : EachIsHeldUp) (start : Start) (w
 
   holder_told : IsToldHolder start was mid now
   holder_told =
-      let reply = Pending t.name (HeldBy (name_in (opened_after start mid) tells.who)) in
+      let reply = Pending t.name (HeldBy (name_of_tx (opened_after start mid) tells.who)) in
       record {
         own = t;
         is = own;

@@ -3,6 +3,7 @@ pub mod AbortFirst
 pub mod AbortSteps
 pub mod AbortTurns
 pub mod ApiChanges
+pub mod BlockSteps
 pub mod ComesTo
 pub mod CommitFirst
 pub mod Committed
@@ -22,7 +23,6 @@ pub mod HoldersTold
 pub mod Homes
 pub mod HostKinds
 pub mod HostSends
-pub mod HostSteps
 pub mod LivingReplies
 pub mod LivingRows
 pub mod LivingTurns
@@ -34,14 +34,13 @@ pub mod LoneWishes
 pub mod LqhFair
 pub mod OperateAsks
 pub mod OperationAnswered
-pub mod OwnSends
 pub mod Places
 pub mod Pushes
 pub mod QuietCuts
 pub mod ReadyAtQuiet
 pub mod RepliesLive
 pub mod Reported
-pub mod Requests
+pub mod RequestsAnswered
 pub mod SampleServed
 pub mod ServedBetween
 pub mod Since
@@ -52,7 +51,6 @@ pub mod Tests
 pub mod Told
 pub mod TurnTells
 pub mod TurnedDown
-pub mod Turns
 pub mod WaitApi
 pub mod WaitHosts
 pub mod WaitRows

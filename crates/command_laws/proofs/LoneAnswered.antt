@@ -21,12 +21,12 @@ use Rattle.world_core.specs.Steps.{HostStep}
 use Rattle.host_laws.proofs.Tally.{tally_append}
 use Rattle.host_laws.specs.Counts.{one_if}
 use Rattle.answer_laws.proofs.Begins.{no_begin}
-use Rattle.host_laws.proofs.Hosts.{shell_after}
+use Rattle.host_laws.proofs.ShellHost.{shell_after}
 use Rattle.host_laws.proofs.LinkCounts.{steps}
 use Rattle.answer_laws.proofs.Lives.{holds_at, once_started}
 use Rattle.host_laws.proofs.TcLives.{is_start}
 use Rattle.answer_laws.specs.Answered.{EachIsAnswered, WaitsForLock, is_answered_by}
-use Rattle.host_laws.specs.Opened.{opened_after, opened_in}
+use Rattle.host_laws.specs.OpenedAfter.{opened_after, opened_in}
 use Rattle.run_laws.proofs.Weighing.{none_passes}
 use Rattle.command_laws.proofs.Committed.{calm_at, sent_append}
 use Rattle.command_laws.proofs.EarlySteps.{IsOpenNow, OpenOption, is_wish_to}
@@ -35,13 +35,13 @@ use Rattle.command_laws.proofs.Entries.{HasOne}
 use Rattle.command_laws.proofs.EntryGoes.{HasAnswered, HasEnded, IsAnswering, IsEnding, operate_goes}
 use Rattle.command_laws.proofs.First.{IsFirst, first_step, request_first}
 use Rattle.command_laws.proofs.Homes.{unborn_there}
-use Rattle.command_laws.proofs.HostSteps.{api_seen}
+use Rattle.command_laws.proofs.BlockSteps.{api_seen}
 use Rattle.command_laws.proofs.LoneBegins.{HasBegun, IsAlone, IsAskedAlone, WasRefused, alone_first, begin_goes}
 use Rattle.command_laws.proofs.LoneWishes.{wishes_since}
 use Rattle.command_laws.proofs.Since.{sent_since}
 use Rattle.command_laws.proofs.TellsSince.{OnTc}
 use Rattle.command_laws.specs.Alone.{IsRefusedAlone, IsTurnedAway, LoneOperationsAreAnswered, WaitsAlone}
-use Rattle.command_laws.specs.Served.{IsAnsweredAlone, IsServed}
+use Rattle.command_laws.specs.Served.{IsAnsweredAlone, IsServedBetween}
 
 -- what was so behind some steps and a log was so behind that log
 module _ (start : Start) (newer : List HostStep) (step : HostStep) (older log : List HostStep) where
@@ -70,7 +70,7 @@ module _ (start : Start) (newer : List HostStep) (step : HostStep) (older log : 
 shell_view : (start : Start) (log : List HostStep) → (api_of (after start 0 log)).view ≡ first_view start.shape.nodes
 shell_view start log = let s = shell_after start log in ap (λ g. (api_of g).view) s.is ∙ s.view
 
-module _ (answered : EachIsAnswered) (start : Start) (was now : ℕ → List HostStep) (op : Op) (served : IsServed start was now (Operate None op)) where
+module _ (answered : EachIsAnswered) (start : Start) (was now : ℕ → List HostStep) (op : Op) (served : IsServedBetween start was now (Operate None op)) where
   abbrev Result : Type 0
   Result = IsAnsweredAlone start was now ⊎ (IsRefusedAlone start was now ⊎ (IsTurnedAway start was now ⊎ WaitsAlone start was now))
 

@@ -14,7 +14,7 @@ use Rattle.sig_core.specs.declared.reply.ApiReply.TheVariants.{Answered, Begun, 
 use Rattle.sig_core.specs.declared.reply.Refusal.TheVariants.{NoMember, TooManyOpen}
 use Rattle.sig_core.specs.declared.request.ApiReq.TheVariants as request
 use Rattle.sig_core.specs.declared.signal.Body.{Body}
-use Rattle.sig_core.specs.declared.signal.Body.TheVariants.{Host, Client}
+use Rattle.sig_core.specs.declared.signal.Body.TheVariants.{Client}
 use Rattle.sig_core.specs.declared.signal.client.ClientSignal.TheVariants.{TcBeginConf, TcKeyConf, TcKeyReq, TcRollbackReq}
 use Rattle.sig_core.specs.declared.signal.Signal.{Signal}
 use Rattle.sig_core.specs.Step.{Step}
@@ -43,11 +43,11 @@ use Rattle.host_laws.proofs.TcKeys.{is_key, key_of_tx}
 use Rattle.host_laws.proofs.TcLives.{is_start, start_of}
 use Rattle.host_laws.proofs.TcMoves.{same_tx-is}
 use Rattle.host_laws.proofs.Wishes.{is_api, is_tc, sends_of}
-use Rattle.host_laws.specs.Opened.{opened_in}
+use Rattle.host_laws.specs.OpenedAfter.{opened_in}
 use Rattle.command_laws.proofs.ApiChanges.{ApiChange, GoesOnAs, alone, answers, api_changes, commits, ends, idle, is_news_kind, is_row_reply, refuses, rests, starts, told, waits}
 use Rattle.command_laws.proofs.Entries.{HasOne}
 use Rattle.command_laws.proofs.HostKinds.{replies_are}
-use Rattle.command_laws.proofs.HostSteps.{api_host}
+use Rattle.command_laws.proofs.BlockSteps.{api_host}
 use Rattle.command_laws.proofs.Since.{sent_since}
 use Rattle.command_laws.proofs.TellsOnce.{is_wish_back_to, wish_back_of}
 use Rattle.command_laws.proofs.Tests.{and_off}

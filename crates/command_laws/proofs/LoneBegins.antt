@@ -13,7 +13,7 @@ use Rattle.sig_core.specs.declared.reply.ApiReply.TheVariants.{Refused}
 use Rattle.sig_core.specs.declared.reply.Refusal.TheVariants.{TooManyOpen}
 use Rattle.sig_core.specs.declared.request.ApiReq.TheVariants as request
 use Rattle.sig_core.specs.declared.signal.Body.{Body}
-use Rattle.sig_core.specs.declared.signal.Body.TheVariants.{Host, Client}
+use Rattle.sig_core.specs.declared.signal.Body.TheVariants.{Client}
 use Rattle.sig_core.specs.declared.signal.client.ClientSignal.TheVariants.{TcBeginConf}
 use Rattle.sig_core.specs.declared.signal.Signal.{Signal}
 use Rattle.sig_core.specs.declared.view.View.{View}
@@ -43,12 +43,12 @@ use Rattle.host_laws.proofs.Tally.{only_one, tally_append, tally_between, tally_
 use Rattle.host_laws.proofs.TcLives.{is_start, start_of}
 use Rattle.host_laws.proofs.Wishes.{is_api, sends_of}
 use Rattle.host_laws.specs.Counts.{one_if, tally}
-use Rattle.host_laws.specs.Opened.{opened_in}
+use Rattle.host_laws.specs.OpenedAfter.{opened_in}
 use Rattle.command_laws.proofs.ApiChanges.{ApiChange, IsOneOf, answers, api_changes, commits, ends, refuses, rests, starts, waits}
 use Rattle.command_laws.proofs.EarlySteps.{is_wish_to}
 use Rattle.command_laws.proofs.Entries.{HasOne, IsApart, NoneBegins, here_or_apart}
 use Rattle.command_laws.proofs.HostKinds.{replies_are}
-use Rattle.command_laws.proofs.HostSteps.{api_host, api_seen}
+use Rattle.command_laws.proofs.BlockSteps.{api_host, api_seen}
 
 abbrev begins_any : OpenTransaction → Bool
 begins_any t = is_beginning t.doing

@@ -39,7 +39,7 @@ use Rattle.host_laws.proofs.TcKeys.{answer_of, is_asked, is_key, key_of_tx}
 use Rattle.host_laws.proofs.TcLives.{is_keyed, is_start}
 use Rattle.host_laws.proofs.Wishes.{is_api, is_tc}
 use Rattle.host_laws.specs.Counts.{one_if, tally}
-use Rattle.host_laws.specs.Opened.{opened_after, opened_in}
+use Rattle.host_laws.specs.OpenedAfter.{opened_after, opened_in}
 use Rattle.answer_laws.proofs.Lives.{once_started}
 use Rattle.answer_laws.specs.Answered.{EachIsAnswered, is_answered_by}
 use Rattle.command_laws.proofs.Committed.{cut_at_first, sent_append}
@@ -49,7 +49,7 @@ use Rattle.command_laws.proofs.FirmHosts.{back_of, is_back}
 use Rattle.command_laws.proofs.First.{IsFirst, first_step, request_first}
 use Rattle.command_laws.proofs.Homes.{lives_begun}
 use Rattle.command_laws.proofs.HostKinds.{replies_are}
-use Rattle.command_laws.proofs.HostSteps.{api_seen}
+use Rattle.command_laws.proofs.BlockSteps.{api_seen}
 use Rattle.command_laws.proofs.LoneAsks.{HasLone, LoneFirst, asks_since, is_lone, lone_first, lone_since}
 use Rattle.command_laws.proofs.Pushes.{is_node_kind, node_since}
 use Rattle.command_laws.proofs.Reported.{reported}
@@ -58,7 +58,7 @@ use Rattle.command_laws.proofs.TellsOnce.{IsOneOfThree, is_wish_back_to, wish_ba
 use Rattle.command_laws.proofs.TellsSince.{away_since, shell_since, since_none, tells_since}
 use Rattle.command_laws.proofs.Tests.{and_off, none_at}
 use Rattle.command_laws.proofs.TurnTells.{is_reply}
-use Rattle.command_laws.specs.Served.{IsAnsweredAlone, IsCommittedAlone, IsServed, LoneAreCommitted}
+use Rattle.command_laws.specs.Served.{IsAnsweredAlone, IsCommittedAlone, IsServedBetween, LoneAreCommitted}
 
 request_plain_key : (tx : TxId) (to : Place) (body : Body) → is_key tx to body ≡ true → is_request body ≡ false
 request_plain_key tx to body is = plain body (right_of (is_tc to.block) (key_of_tx tx body) is)
@@ -97,7 +97,7 @@ fewer_asked tx (e ∷ live) = omega (arith, fewer_asked tx live, few (same_tx e.
     few true false = omega arith
     few false b = omega arith
 
-module _ (start : Start) (was now : ℕ → List HostStep) (op : Op) (served : IsServed start was now (Operate None op)) where
+module _ (start : Start) (was now : ℕ → List HostStep) (op : Op) (served : IsServedBetween start was now (Operate None op)) where
   f : IsFirst start was now (Operate None op)
   f = request_first start was now (Operate None op) served
 

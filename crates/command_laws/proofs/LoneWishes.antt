@@ -26,7 +26,7 @@ use Rattle.command_laws.proofs.ApiChanges.{ApiChange, GoesOnAs, alone, answers, 
 use Rattle.command_laws.proofs.EarlySteps.{is_wish_to}
 use Rattle.command_laws.proofs.EntryGoes.{HasAnswered, IsAnswering}
 use Rattle.command_laws.proofs.HostKinds.{replies_are}
-use Rattle.command_laws.proofs.HostSteps.{api_host, api_seen}
+use Rattle.command_laws.proofs.BlockSteps.{api_host, api_seen}
 use Rattle.command_laws.proofs.OperateAsks.{no_wish_news}
 use Rattle.command_laws.proofs.Since.{sent_since}
 

@@ -15,21 +15,21 @@ use Rattle.world_core.specs.Start.{Start}
 use Rattle.world_core.specs.Steps.{HostStep}
 use Rattle.run_laws.proofs.AlongSteps.{live_tx}
 use Rattle.answer_laws.specs.Answered.{EachIsAnswered, IsOpenAt, WaitsForLock, is_answered_by}
-use Rattle.host_laws.specs.Opened.{opened_after, opened_in}
+use Rattle.host_laws.specs.OpenedAfter.{opened_after, opened_in}
 use Rattle.command_laws.proofs.Committed.{sent_append}
 use Rattle.command_laws.proofs.EarlySteps.{IsOpenNow, OpenOption, is_wish_to}
 use Rattle.command_laws.proofs.EndsWell.{ended_well, replied}
 use Rattle.command_laws.proofs.Entries.{HasOne}
 use Rattle.command_laws.proofs.EntryGoes.{HasAnswered, HasEnded, operate_goes}
 use Rattle.command_laws.proofs.First.{IsFirst, first_step, request_first}
-use Rattle.command_laws.proofs.HostSteps.{api_seen}
+use Rattle.command_laws.proofs.BlockSteps.{api_seen}
 use Rattle.command_laws.proofs.OperateAsks.{AreNamed, IsAskedFor, named_since, operate_first}
 use Rattle.command_laws.proofs.ReadyAtQuiet.{named_at, ready_open}
 use Rattle.command_laws.proofs.Since.{sent_since}
 use Rattle.command_laws.proofs.TellsSince.{OnTc}
-use Rattle.command_laws.specs.Served.{IsAnsweredAs, IsRefusedAs, IsServed, OperationsAreAnswered, StillWaits, named_in}
+use Rattle.command_laws.specs.Served.{IsAnsweredAs, IsRefusedAs, IsServedBetween, OperationsAreAnswered, StillWaits, named_in}
 
-module _ (answered : EachIsAnswered) (start : Start) (was now : ℕ → List HostStep) (name : ℕ) (op : Op) (t : OpenTransaction) (tx : TxId) (served : IsServed start was now (Operate (Some name) op))
+module _ (answered : EachIsAnswered) (start : Start) (was now : ℕ → List HostStep) (name : ℕ) (op : Op) (t : OpenTransaction) (tx : TxId) (served : IsServedBetween start was now (Operate (Some name) op))
     (named : named_in (opened_after start was) name ≡ Some t) (ready : t.doing ≡ Ready) (own : t.tx ≡ Some tx) (few : t.operations < 64) where
   f : IsFirst start was now (Operate (Some name) op)
   f = request_first start was now (Operate (Some name) op) served

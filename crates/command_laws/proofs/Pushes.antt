@@ -34,12 +34,12 @@ use Rattle.host_laws.proofs.LqhSends.{lqh_kinds}
 use Rattle.host_laws.proofs.SendKinds.{are_of, is_dih_kind, is_lqh_kind, is_tc_kind, none_of, of_kind}
 use Rattle.host_laws.proofs.TcSends.{tc_kinds, tx_in}
 use Rattle.host_laws.proofs.Wishes.{is_tc, sends_of}
-use Rattle.host_laws.specs.Opened.{opened_in}
+use Rattle.host_laws.specs.OpenedAfter.{opened_in}
 use Rattle.command_laws.proofs.ApiChanges.{ApiChange, answers, api_changes, commits, ends, is_news_kind, refuses, rests, starts, waits}
 use Rattle.command_laws.proofs.Entries.{NoneBegins}
 use Rattle.command_laws.proofs.FirmHosts.{is_push_to, push_of}
 use Rattle.command_laws.proofs.HostKinds.{node_runs_none}
-use Rattle.command_laws.proofs.HostSteps.{api_host}
+use Rattle.command_laws.proofs.BlockSteps.{api_host}
 use Rattle.command_laws.proofs.Since.{sent_since}
 use Rattle.command_laws.proofs.Tests.{and_off}
 

@@ -17,7 +17,7 @@ use Rattle.host_laws.proofs.Tally.{only_one}
 use Rattle.host_laws.proofs.ApiBegins.{in_middle}
 use Rattle.answer_laws.proofs.Lives.{holds_at, once_started}
 use Rattle.answer_laws.specs.Answered.{AreQuiet, EachIsAnswered, IsOpenAt, is_answered_by}
-use Rattle.host_laws.specs.Opened.{opened_after}
+use Rattle.host_laws.specs.OpenedAfter.{opened_after}
 use Rattle.command_laws.proofs.Committed.{calm_at}
 use Rattle.command_laws.proofs.Entries.{IsNamed, named_found}
 use Rattle.command_laws.proofs.OperateAsks.{AreNamed}

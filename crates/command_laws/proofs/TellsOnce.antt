@@ -29,9 +29,10 @@ use Rattle.host_laws.proofs.Wishes.{is_api, is_tc, sends_of}
 use Rattle.run_laws.specs.Live.{of_live}
 use Rattle.command_laws.proofs.Firm.{firm_turn, is_firm, is_no_abort}
 use Rattle.command_laws.proofs.FirmHosts.{is_back, no_back_firm, not_push, push_of}
-use Rattle.command_laws.proofs.HostSteps.{tc_host}
-use Rattle.command_laws.proofs.TcPath.{IsSound, TcGoes, aside, begins, is_told, left_by, takes, tc_goes, told_of, told_tc}
-use Rattle.command_laws.proofs.Turns.{turn_by}
+use Rattle.command_laws.proofs.BlockSteps.{tc_host}
+use Rattle.command_laws.proofs.TcPath.{IsSound, TcGoes, aside, begins, is_told, takes, tc_goes, told_of, told_tc}
+use Rattle.host_laws.proofs.TcSteps.{left_of_turn}
+use Rattle.host_laws.proofs.TcTurns.{turn_row}
 use Rattle.command_laws.proofs.TurnTells.{TurnTells, is_reply, turn_tells}
 
 -- where one test implies another, fewer signals pass it
@@ -123,12 +124,12 @@ module _ (tx : TxId) where
         by n (inr (inl q)) = absurd (omega (arith, q.1.1, number))
         by n (inr (inr q)) = absurd (omega (arith, q.1.1, number))
 
-    module _ (step : Step TcState) (t : Transaction) (same : tx_in body ≡ tx) (was : of_live tx s.live ≡ Some t) (sends : step.effects.sends ≡ (turn_by s tx body t).step.effects.sends)
-        (left : of_live tx step.state.live ≡ left_by (turn_by s tx body t)) (more : s.next_seq ≤ step.state.next_seq) where
+    module _ (step : Step TcState) (t : Transaction) (same : tx_in body ≡ tx) (was : of_live tx s.live ≡ Some t) (sends : step.effects.sends ≡ (turn_row s body t).step.effects.sends)
+        (left : of_live tx step.state.live ≡ left_of_turn (turn_row s body t)) (more : s.next_seq ≤ step.state.next_seq) where
       early : tx.seq < step.state.next_seq
       early = omega (arith, live_early s.node s.next_seq s.live t sound.own was, more)
 
-      left_firm : (turn : Turn) → (turn.over ≡ false → is_firm turn.step.state.phase turn.step.state.asked ≡ true) → IsFirmNow (left_by turn)
+      left_firm : (turn : Turn) → (turn.over ≡ false → is_firm turn.step.state.phase turn.step.state.asked ≡ true) → IsFirmNow (left_of_turn turn)
       left_firm turn firm = by turn.over refl
         where
           by : (b : Bool) → turn.over ≡ b → IsFirmNow (if b then None else Some turn.step.state)
@@ -136,7 +137,7 @@ module _ (tx : TxId) where
           by false over = firm over
 
       -- its first answer, or the report of its abort
-      first_next : (a ≡ 0) × (r ≡ 0) → TurnTells tx (turn_by s tx body t) → AfterStep step
+      first_next : (a ≡ 0) × (r ≡ 0) → TurnTells tx (turn_row s body t) → AfterStep step
       unfolding AfterStep
       first_next none (inl n) = inl (omega (arith, none.0, ap (sends_of (is_reply tx)) sends, n.0), omega (arith, none.1, ap (sends_of (is_back tx)) sends, n.1))
       first_next none (inr (inl q)) = by (sends_of (is_reply tx) step.effects.sends) refl
@@ -146,10 +147,10 @@ module _ (tx : TxId) where
 
           by : (n : ℕ) → sends_of (is_reply tx) step.effects.sends ≡ n → AfterStep step
           by zero is = inl (omega (arith, none.0, is), quiet)
-          by (suc n) is = inr (inl ((omega (arith, is), quiet), (subst IsFirmNow (sym left) (left_firm (turn_by s tx body t) (λ over. q.1.firm)), early)))
+          by (suc n) is = inr (inl ((omega (arith, is), quiet), (subst IsFirmNow (sym left) (left_firm (turn_row s body t) (λ over. q.1.firm)), early)))
       first_next none (inr (inr q)) = inr (inr (
         omega (arith, none.0, ap (sends_of (is_reply tx)) sends, q.0),
-        (left ∙ ap (λ b. if b then None else Some (turn_by s tx body t).step.state) q.1, early),
+        (left ∙ ap (λ b. if b then None else Some (turn_row s body t).step.state) q.1, early),
       ))
 
       -- once it was answered
@@ -161,8 +162,8 @@ module _ (tx : TxId) where
           by true key = absurd (omega (arith, some.0, has.fair, once, ap one_if key))
           by false key =
               let stays = firm_turn s tx body t same (not_push tx body (push_none body wish key) (ap (λ v. same_tx v tx) same ∙ same_tx-self tx)) (subst IsFirmNow was firm) in
-              let quiet = none_of is_no_abort (is_back tx) (no_back_firm tx) (turn_by s tx body t).step.effects.sends stays.sends in
-              inr (inl ((omega (arith, some.0), omega (arith, some.1, ap (sends_of (is_back tx)) sends, quiet)), (subst IsFirmNow (sym left) (left_firm (turn_by s tx body t) (λ over. stays.firm)), early)))
+              let quiet = none_of is_no_abort (is_back tx) (no_back_firm tx) (turn_row s body t).step.effects.sends stays.sends in
+              inr (inl ((omega (arith, some.0), omega (arith, some.1, ap (sends_of (is_back tx)) sends, quiet)), (subst IsFirmNow (sym left) (left_firm (turn_row s body t) (λ over. stays.firm)), early)))
 
       takes_next : IsOneOfThree a r s → AfterStep step
       takes_next (inl none) = first_next none (turn_tells s tx body t same)
@@ -170,7 +171,7 @@ module _ (tx : TxId) where
       takes_next (inr (inr q)) = absurd (let both : Some t ≡ None = sym was ∙ q.1.0 in cc)
 
     goes_next : (step : Step TcState) → TcGoes tx s body step → AfterStep step
-    goes_next step (aside same none more) = aside_next step same none more has.three
+    goes_next step (aside same none more absent) = aside_next step same none more has.three
     goes_next step (begins number now none more) = begins_next step number none has.three
     goes_next step (takes t same was sends left more) = takes_next step t same was sends left more has.three
 

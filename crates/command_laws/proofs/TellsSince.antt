@@ -11,14 +11,13 @@ use Rattle.world_core.specs.Machine.{after, step_after}
 use Rattle.world_core.specs.Start.{Start}
 use Rattle.world_core.specs.Steps.{HostStep}
 use Rattle.host_laws.specs.Counts.{one_if}
-use Rattle.host_laws.proofs.ApiMoves.{goes}
 use Rattle.host_laws.proofs.LinkCounts.{steps}
 use Rattle.host_laws.proofs.TcKeys.{is_key}
 use Rattle.host_laws.proofs.Wishes.{sends_of}
 use Rattle.command_laws.proofs.FirmHosts.{is_back}
 use Rattle.command_laws.proofs.Homes.{lives_home, sound_at}
 use Rattle.command_laws.proofs.HostSends.{not_of_api, shell_silent}
-use Rattle.command_laws.proofs.HostSteps.{tc_host}
+use Rattle.command_laws.proofs.BlockSteps.{tc_host}
 use Rattle.command_laws.proofs.Since.{sent_since}
 use Rattle.command_laws.proofs.TcPath.{TcGoes, aside, begins, is_told, takes, tc_goes, told_tc}
 use Rattle.command_laws.proofs.TellsOnce.{HasTold, host_tells, is_wish_back_to, none_told}
@@ -53,7 +52,7 @@ module _ (start : Start) (tx : TxId) where
     where
       goes : {step : Step TcState} → TcGoes tx (tc_of (after start h (newer ++ log))) e.step.taken.body step
           → sends_of (is_told tx) step.effects.sends ≡ 0
-      goes (aside same none more) = none
+      goes (aside same none more absent) = none
       goes (begins number now none more) = none
       goes (takes t same was sends left more) = absurd (away (lives_home start tx h (newer ++ log) low t was))
 

@@ -27,7 +27,7 @@ use Rattle.host_laws.proofs.Wishes.{and_false, is_api, sends_of, to_node}
 use Rattle.command_laws.proofs.Firm.{fronts, has_chains, is_firm, is_no_abort}
 use Rattle.command_laws.proofs.FirmHosts.{is_back, no_back_firm}
 use Rattle.host_laws.proofs.PhaseSends.{HasChains, aborts_of_kind, entering_of_kind, rest_of_kind}
-use Rattle.command_laws.proofs.Turns.{turn_at, turn_by}
+use Rattle.host_laws.proofs.TcTurns.{turn_at, turn_row}
 
 -- an operation of the transaction is answered to the client
 abbrev pub is_reply : TxId → Place → Body → Bool
@@ -113,5 +113,5 @@ module _ (tx : TxId) where
       aborted_all = λ why verifying awaited at last. over_by t why verifying;
     }
 
-pub turn_tells : (s : TcState) (tx : TxId) (body : Body) (t : Transaction) → tx_in body ≡ tx → TurnTells tx (turn_by s tx body t)
+pub turn_tells : (s : TcState) (tx : TxId) (body : Body) (t : Transaction) → tx_in body ≡ tx → TurnTells tx (turn_row s body t)
 turn_tells s tx body t same = turn_at s tx body t (TurnTells tx) same (turns_tell tx s.node s.layout t body)

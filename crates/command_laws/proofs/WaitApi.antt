@@ -32,10 +32,10 @@ use Rattle.host_laws.proofs.LqhOps.{true_and}
 use Rattle.host_laws.proofs.TcMoves.{same_tx-is}
 use Rattle.host_laws.proofs.TcSends.{eqb-self}
 use Rattle.host_laws.proofs.Wishes.{is_api, sends_of}
-use Rattle.command_laws.proofs.HostSteps.{api_host, api_seen}
+use Rattle.command_laws.proofs.BlockSteps.{api_host, api_seen}
 use Rattle.command_laws.proofs.Places.{IsFirstOf, first_there, split_get, split_position, split_set}
 use Rattle.command_laws.proofs.WaitRows.{is_other, is_passed, is_telling_who, is_wait_of, is_want, passed_of}
-use Rattle.command_laws.specs.Served.{name_in}
+use Rattle.command_laws.specs.Served.{name_of_tx}
 
 -- the API's own transaction: the first of the name that the last command is about
 pub record IsOwn (s : ApiState) (t : OpenTransaction) : Type 0 where
@@ -186,7 +186,7 @@ pending_by_replies s holder (Some name) one = refl
 pub record TellsHolder (name : Option ℕ) (ahead : Option TxId) (s : ApiState) (step : Step ApiState) : Type 0 where
   pub who : TxId
   pub is : ahead ≡ Some who
-  pub told : step.state.replies ≡ s.replies ++ Pending name (HeldBy (name_in s.opened who)) ∷ []
+  pub told : step.state.replies ≡ s.replies ++ Pending name (HeldBy (name_of_tx s.opened who)) ∷ []
 
 pub pending_first : (s : ApiState) (front : List OpenTransaction) (t : OpenTransaction) (back : List OpenTransaction) (name : Option ℕ) (ahead : Option TxId) → IsAboutOne front t back (Some name) ahead s
     → is_unanswered t.doing ≡ true → tally (is_named name) front ≡ 0 → is_named name t ≡ true → is_some ahead ≡ true

@@ -24,7 +24,7 @@ use Rattle.host_laws.proofs.LinkCounts.{steps, to_host}
 use Rattle.host_laws.proofs.Wishes.{sends_of}
 use Rattle.run_laws.specs.Live.{of_live}
 use Rattle.command_laws.proofs.HostKinds.{node_runs_none}
-use Rattle.command_laws.proofs.HostSteps.{api_seen}
+use Rattle.command_laws.proofs.BlockSteps.{api_seen}
 use Rattle.command_laws.proofs.Since.{sent_since, sent_since_to}
 use Rattle.command_laws.proofs.TellsSince.{OnTc}
 use Rattle.command_laws.proofs.WaitApi.{IsAboutOne, StaysAbout, about_waits}

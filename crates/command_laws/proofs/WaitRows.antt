@@ -43,7 +43,7 @@ use Rattle.tc_block.specs.Tc.{pass_if, pass_row, tc_table, tc_row}
 use Rattle.world_core.proofs.HostNumbers.{client_host}
 use Rattle.world_core.specs.Hosts.{home, host_for, rows_host}
 use Rattle.world_core.specs.Start.{Start}
-use Rattle.host_laws.proofs.HostSteps.{no_live}
+use Rattle.host_laws.proofs.BlocksAlong.{no_live}
 use Rattle.host_laws.proofs.LinkCounts.{to_host}
 use Rattle.host_laws.proofs.LqhOps.{is_lqh, true_and, left_of, right_of}
 use Rattle.host_laws.proofs.SendKinds.{are_of, none_of, of_map, one_kind}
@@ -54,7 +54,7 @@ use Rattle.host_laws.proofs.Wishes.{is_api, is_tc, sends_of}
 use Rattle.host_laws.specs.Counts.{one_if}
 use Rattle.run_laws.specs.Live.{of_live}
 use Rattle.command_laws.proofs.HostKinds.{no_rows, runs_rows}
-use Rattle.command_laws.proofs.HostSteps.{tc_host}
+use Rattle.command_laws.proofs.BlockSteps.{tc_host}
 
 -- a question of what the transaction waits for, or an answer to one
 abbrev pub is_wait_of : TxId → Body → Bool

@@ -13,7 +13,6 @@ use Rattle.sig_core.specs.declared.signal.Body.{Body}
 use Rattle.sig_core.specs.declared.signal.Body.TheVariants.{Client}
 use Rattle.sig_core.specs.declared.signal.client.ClientSignal.TheVariants.{TcWaitReq, LqhWaitReq, LqhWaitConf, TcWaitConf}
 use Rattle.sig_core.specs.declared.signal.Signal.{Signal}
-use Rattle.sig_core.specs.Place.{coordinator}
 use Rattle.sig_core.specs.Same.{same_tx}
 use Rattle.row_locks.specs.Tables.{ahead_at}
 use Rattle.lqh_block.specs.Lqh.{lqh_table}

@@ -14,8 +14,8 @@ use Rattle.api_block.specs.declared.opened.OpenTransaction.{OpenTransaction}
 use Rattle.api_block.specs.Opened.{has_tx}
 use Rattle.world_core.specs.Start.{Start}
 use Rattle.answer_laws.specs.Answered.{WaitsForLock}
-use Rattle.host_laws.specs.Opened.{opened_after}
-use Rattle.command_laws.specs.Served.{IsAnsweredAlone, IsServed, is_refusal, replies_since}
+use Rattle.host_laws.specs.OpenedAfter.{opened_after}
+use Rattle.command_laws.specs.Served.{IsAnsweredAlone, IsServedBetween, is_refusal, replies_since}
 
 -- a transaction of one ended since then, for want of room or of time
 pub record IsRefusedAlone (start : Start) (was now : ℕ → List HostStep) : Type 0 where
@@ -41,5 +41,5 @@ pub record WaitsAlone (start : Start) (was now : ℕ → List HostStep) : Type 0
 -- an operation alone is answered, or refused for want of room or of time, or its transaction couldn't begin, or it waits for a lock
 abbrev pub LoneOperationsAreAnswered : Type 0
 LoneOperationsAreAnswered =
-    (start : Start) (was now : ℕ → List HostStep) (op : Op) → IsServed start was now (Operate None op)
+    (start : Start) (was now : ℕ → List HostStep) (op : Op) → IsServedBetween start was now (Operate None op)
     → IsAnsweredAlone start was now ⊎ (IsRefusedAlone start was now ⊎ (IsTurnedAway start was now ⊎ WaitsAlone start was now))

@@ -1,6 +1,6 @@
 -- Each request is served between two quiet moments.
 use Rattle.frag_map.specs.Shape.{IsShape}
-use Rattle.std.specs.Prelude.{◌≡◌, ◌≤◌, ◌⊎◌, ℕ, true, List, ◌∷◌, ◌++◌, Some}
+use Rattle.std.specs.Prelude.{◌≡◌, ◌⊎◌, ℕ, true, List, ◌∷◌, ◌++◌, Some}
 use Rattle.run_theory.specs.Cuts.{IsCut}
 use Rattle.run_theory.specs.Runs.{AreLogs, IsWithin}
 use Rattle.world_core.specs.Steps.{HostStep}
@@ -10,13 +10,13 @@ use Rattle.world_core.specs.Machine.{machine}
 use Rattle.world_core.specs.Quiet.{IsQuiet}
 use Rattle.world_core.specs.Requests.{AreAskedAtQuiet, request_in}
 use Rattle.world_core.specs.Start.{Start}
-use Rattle.command_laws.specs.Served.{IsServed}
+use Rattle.command_laws.specs.Served.{IsServedBetween}
 
 -- The request is served between two quiet moments of these logs: host 0's log is `before` at the first of them.
 pub record IsServedIn (start : Start) (logs : ℕ → List HostStep) (request : ApiReq) (before : List HostStep) : Type 0 where
   pub was : ℕ → List HostStep
   pub now : ℕ → List HostStep
-  pub served : IsServed start was now request
+  pub served : IsServedBetween start was now request
   pub at : was 0 ≡ before
   pub within : IsCut now logs
 

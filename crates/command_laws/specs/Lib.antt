@@ -5,3 +5,4 @@ pub mod Between
 pub mod Living
 pub mod Sample
 pub mod Served
+pub mod TurnedDown

@@ -13,9 +13,9 @@ use Rattle.sig_core.specs.Place.{client, coordinator, epochs, rows_of}
 use Rattle.sig_core.specs.Step.{to_place}
 use Rattle.world_core.specs.Machine.{headed, request_signal}
 use Rattle.api_block.specs.declared.opened.Doing.TheVariants.{Ready}
-use Rattle.host_laws.specs.Opened.{opened_after}
+use Rattle.host_laws.specs.OpenedAfter.{opened_after}
 use Rattle.answer_laws.specs.Sample.{first_tx, lone, one, sample, seventh, takes}
-use Rattle.command_laws.specs.Served.{IsServed, named_in}
+use Rattle.command_laws.specs.Served.{IsServedBetween, named_in}
 
 -- a step with this stamp and these marks, and the signal that it took
 abbrev pub marked : ℕ → ℕ → List Mark → Signal → HostStep
@@ -39,6 +39,6 @@ committed h = []
 
 -- so there is a commit that was served, of a transaction that takes commands
 pub record SampleIsServed : Type 0 where
-  pub served : IsServed lone sample committed (Commit 7)
+  pub served : IsServedBetween lone sample committed (Commit 7)
   pub named : named_in (opened_after lone sample) 7 ≡ Some seventh
   pub ready : seventh.doing ≡ Ready

@@ -35,11 +35,11 @@ use Rattle.world_core.specs.Machine.{after}
 use Rattle.world_core.specs.Requests.{requests}
 use Rattle.world_core.specs.Start.{Start}
 use Rattle.answer_laws.specs.Answered.{AreQuiet, EachAtQuiet, IsLiveAs, WaitsForLock}
-use Rattle.host_laws.specs.Opened.{opened_after}
+use Rattle.host_laws.specs.OpenedAfter.{opened_after}
 
 -- The shell asked for one more thing between two quiet moments: the later logs have those before, and of the shell's requests
 -- this one more.
-pub record IsServed (start : Start) (was now : ℕ → List HostStep) (request : ApiReq) : Type 0 where
+pub record IsServedBetween (start : Start) (was now : ℕ → List HostStep) (request : ApiReq) : Type 0 where
   pub before : AreQuiet start was
   pub since : AreQuiet start now
   pub cut : IsCut was now
@@ -70,7 +70,7 @@ pub record IsToldCommitted (start : Start) (was now : ℕ → List HostStep) (na
 -- a commit of a transaction that takes commands ends in its being committed
 abbrev pub CommitsAreCommitted : Type 0
 CommitsAreCommitted =
-    (start : Start) (was now : ℕ → List HostStep) (name : ℕ) (t : OpenTransaction) (tx : TxId) → IsServed start was now (Commit name)
+    (start : Start) (was now : ℕ → List HostStep) (name : ℕ) (t : OpenTransaction) (tx : TxId) → IsServedBetween start was now (Commit name)
     → named_in (opened_after start was) name ≡ Some t → t.doing ≡ Ready → t.tx ≡ Some tx
     → IsToldCommitted start was now name tx
 
@@ -89,7 +89,7 @@ pub record IsCommittedAlone (start : Start) (was now : ℕ → List HostStep) : 
 -- an operation alone that is answered ends in its being committed
 abbrev pub LoneAreCommitted : Type 0
 LoneAreCommitted =
-    (start : Start) (was now : ℕ → List HostStep) (op : Op) → IsServed start was now (Operate None op) → IsAnsweredAlone start was now
+    (start : Start) (was now : ℕ → List HostStep) (op : Op) → IsServedBetween start was now (Operate None op) → IsAnsweredAlone start was now
     → IsCommittedAlone start was now
 
 -- the transaction that the last command is about, if it is about one that is there
@@ -125,8 +125,8 @@ abbrev pub IsBehindAt : TxId → TxId → List ℕ → Host → Type 0
 IsBehindAt tx ahead key host = IsBehind tx ahead key (lqh_of host).locks
 
 -- the name of a transaction, where it has one that the API knows
-abbrev pub name_in : List OpenTransaction → TxId → Option ℕ
-name_in opened tx = where_at opened None (λ at t. t.name) (position (has_tx tx) opened)
+abbrev pub name_of_tx : List OpenTransaction → TxId → Option ℕ
+name_of_tx opened tx = where_at opened None (λ at t. t.name) (position (has_tx tx) opened)
 
 -- the name of a transaction was told since then that holds, at a node, the lock of a key for which the own transaction waits
 pub record IsToldHolder (start : Start) (was mid now : ℕ → List HostStep) : Type 0 where
@@ -139,12 +139,12 @@ pub record IsToldHolder (start : Start) (was mid now : ℕ → List HostStep) : 
   pub low : node ≤ start.shape.nodes
   pub key : List ℕ
   pub behind : IsBehindAt tx ahead key (after start (rows_host start node) (mid (rows_host start node)))
-  pub told : IsIn (Pending own.name (HeldBy (name_in (opened_after start mid) ahead))) (replies_since start mid now)
+  pub told : IsIn (Pending own.name (HeldBy (name_of_tx (opened_after start mid) ahead))) (replies_since start mid now)
 
 -- where a command left something of its own unanswered, the two questions about it tell for whom that waits
 abbrev pub HoldersAreTold : Type 0
 HoldersAreTold =
-    (start : Start) (was mid now : ℕ → List HostStep) → IsServed start was mid request.Waits → IsServed start mid now request.Pending → is_left_open (after start 0 (was 0)) ≡ true
+    (start : Start) (was mid now : ℕ → List HostStep) → IsServedBetween start was mid request.Waits → IsServedBetween start mid now request.Pending → is_left_open (after start 0 (was 0)) ≡ true
     → IsToldHolder start was mid now
 
 -- there is no room or no time for an operation
@@ -177,6 +177,6 @@ pub record StillWaits (start : Start) (now : ℕ → List HostStep) (name : ℕ)
 -- an operation of a transaction that takes commands is answered, or refused for want of room or of time, or waits for a lock
 abbrev pub OperationsAreAnswered : Type 0
 OperationsAreAnswered =
-    (start : Start) (was now : ℕ → List HostStep) (name : ℕ) (op : Op) (t : OpenTransaction) (tx : TxId) → IsServed start was now (Operate (Some name) op)
+    (start : Start) (was now : ℕ → List HostStep) (name : ℕ) (op : Op) (t : OpenTransaction) (tx : TxId) → IsServedBetween start was now (Operate (Some name) op)
     → named_in (opened_after start was) name ≡ Some t → t.doing ≡ Ready → t.tx ≡ Some tx → t.operations < 64
     → IsAnsweredAs start was now name ⊎ (IsRefusedAs start was now name ⊎ StillWaits start now name tx)

@@ -23,13 +23,13 @@ pub fn operations_are_answered()
     ensures { OperationsAreAnswered }
 {}
 
-/// Each operation of a transaction with a name is turned down or answered, or its transaction is
-/// aborted for want of room or of time, or it waits for a lock.
+/// Each operation of a transaction with a name is turned down for the reason that the API's state
+/// gives, or answered, or its transaction is aborted for want of room or of time, or it waits for a lock.
 pub fn operations_come_to_something()
     ensures { OperationsComeTo }
 {}
 
-/// Each commit is turned down or reported.
+/// Each commit is turned down for the reason that the API's state gives, or reported.
 pub fn commits_come_to_something()
     ensures { CommitsComeTo }
 {}
@@ -69,8 +69,8 @@ pub fn a_commit_is_served()
 {}
 
 /// Each request of the shell, where each was asked for when nothing was under way, is served between
-/// two quiet moments, and answered there as the laws above say; but for the last one, where something
-/// is under way at the end.
+/// two quiet moments, and answered there as the laws above say, by its refusal where the API's state
+/// gives one; but for the last one, where something is under way at the end.
 pub fn requests_are_answered()
     ensures { RequestsAreAnswered }
 {}

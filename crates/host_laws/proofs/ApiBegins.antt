@@ -20,7 +20,8 @@ use Rattle.api_block.specs.Opened.{asked_for, begins, begins_at, has_tx, is_begi
 use Rattle.api_block.specs.Requests.{is_request}
 use Rattle.api_block.specs.State.{ApiState}
 use Rattle.host_laws.proofs.LqhOps.{left_of, right_of}
-use Rattle.host_laws.proofs.ApiMoves.{ApiMove, GoesOn, HasBegun, IsNew, IsVoid, begun_as, ended, ends, goes, is_api_kind, opens, refuses, rests}
+use Rattle.host_laws.proofs.ApiMoves.{ApiMove, GoesOn, HasBegun, begun_as, ended, ends, goes, is_api_kind, opens, refuses, rests}
+use Rattle.host_laws.proofs.ApiTurns.{IsNew, IsVoid}
 use Rattle.host_laws.proofs.SendKinds.{are_of, none_of}
 use Rattle.host_laws.proofs.Tally.{Counted, counted, only_one, tally_append, tally_between}
 use Rattle.host_laws.specs.Counts.{one_if, tally}

@@ -36,7 +36,7 @@ use Rattle.host_laws.proofs.SendKinds.{are_of, is_dih_kind, of_kind}
 use Rattle.host_laws.proofs.TcLives.{IsOwn, is_keyed}
 use Rattle.host_laws.proofs.TcSends.{tx_in}
 use Rattle.host_laws.proofs.TcSteps.{TxStep, born, elsewhere, is_apart, left_of_turn, next_grows, of_live, turned, tx_step}
-use Rattle.host_laws.proofs.TcTurns.{TurnMove, is_turn}
+use Rattle.host_laws.proofs.TcTurns.{TurnMove, is_turn, turn_row}
 use Rattle.host_laws.proofs.Wishes.{is_tc}
 use Rattle.host_laws.specs.Counts.{tally}
 
@@ -195,7 +195,7 @@ module _ (tx : TxId) (s : Host) (x : Signal) (once : tally (is_keyed tx) (tc_of 
         absent = λ on. absent;
         unheard = λ on. absurd (false≢true (sym (ap is_lqh step.at) ∙ on));
       })
-  in_tc t step (born name about one none there told) =
+  in_tc t step (born name about one none there told later) =
       starting (record {
         runs = step.runs;
         at = step.at;
@@ -207,12 +207,12 @@ module _ (tx : TxId) (s : Host) (x : Signal) (once : tally (is_keyed tx) (tc_of 
         told = ap (λ f. f.sends) step.effects ∙ told;
         rows = step.rows;
       })
-  in_tc t step (turned was turn about one there move left told) =
+  in_tc t step (turned was about one there move left told) =
       turning (record {
         runs = step.runs;
         at = step.at;
         was = was;
-        turn = turn;
+        turn = turn_row (tc_of s) x.body was;
         about = about;
         one = one;
         there = there;

@@ -3,13 +3,13 @@ pub mod ApiHolds
 pub mod ApiMarks
 pub mod ApiMoves
 pub mod ApiTold
+pub mod ApiTurns
+pub mod BlocksAlong
 pub mod DihSends
 pub mod Focus
 pub mod HostGoes
 pub mod HostMarks
-pub mod HostSteps
 pub mod HostTurns
-pub mod Hosts
 pub mod LinkCounts
 pub mod LqhLeaves
 pub mod LqhMarks
@@ -27,6 +27,7 @@ pub mod PlainMarks
 pub mod QueueWaits
 pub mod Replicas
 pub mod SendKinds
+pub mod ShellHost
 pub mod StartedHosts
 pub mod Sums
 pub mod Tally

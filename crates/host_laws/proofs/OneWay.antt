@@ -1,8 +1,8 @@
 -- No coordinator takes one transaction both forth and back.
-use Rattle.std.proofs.Common.{◌≡◌, ◌⊎◌, ◌<◌, ℕ, ◌+◌, Bool, true, false, ◌&&◌, List, [], ◌∷◌, ◌++◌, refl, sym, ap, ◌∙◌, subst, inl, inr, arith}
+use Rattle.std.proofs.Common.{◌≡◌, ◌⊎◌, ◌<◌, ℕ, ◌+◌, Bool, true, false, List, [], ◌∷◌, ◌++◌, refl, sym, ap, ◌∙◌, subst, inl, inr, arith}
 use Rattle.std.specs.List.{list_any}
-use Rattle.std.specs.Prelude.{◌||◌, Option, nat_eq}
-use Rattle.std.proofs.lemmas.Bool.{and_right, ne_eqb, or_cases}
+use Rattle.std.specs.Prelude.{◌||◌, Option}
+use Rattle.std.proofs.lemmas.Bool.{or_cases}
 use Rattle.run_theory.specs.Lists.{Each}
 use Rattle.run_theory.proofs.Pasts.{each_after, each_append, each_before, each_map}
 use Rattle.world_core.specs.Steps.{HostStep}
@@ -36,6 +36,7 @@ use Rattle.host_laws.specs.Ways.{AreSaid, CoordinatorsGoOneWay, CoordinatorsSay,
 use Rattle.sig_core.proofs.Keys.{same_tx-self}
 use Rattle.tc_block.proofs.LiveSplit.{KeysOnce, Live, Split, each_inserted, once_back, once_front, once_gone, once_inserted, once_set}
 use Rattle.host_laws.proofs.StartedHosts.{none_live}
+use Rattle.host_laws.proofs.TcLives.{lower_apart}
 use Rattle.host_laws.proofs.TcNumbers.{NotIn}
 use Rattle.tc_block.proofs.EachTc.{tc_each}
 use Rattle.tc_block.proofs.EachTurn.{rows_of}
@@ -302,20 +303,15 @@ module _ (s : TcState) (cs bs : List TxId) (n : IsOneWay s cs bs) where
   nothing_stays : StaysOneWay s.node cs bs (stay s)
   nothing_stays = record { one = n; says = tt }
 
-  lower_apart : (v : TxId) → v.seq < s.next_seq → same_tx v (next_tx s) ≡ false
-  lower_apart v lt =
-      let off : nat_eq v.seq s.next_seq ≡ false = ne_eqb v.seq s.next_seq (λ same. omega (arith, lt, same)) in
-      and_right (nat_eq v.tc s.node) (nat_eq v.start s.start && nat_eq v.seq s.next_seq) (and_right (nat_eq v.start s.start) (nat_eq v.seq s.next_seq) off)
-
   lower_none : (xs : List TxId) → Each (λ (v : TxId). v.seq < s.next_seq) xs → NotIn (next_tx s) xs
-  lower_none xs all = each_map (λ (v : TxId). v.seq < s.next_seq) (λ v. same_tx v (next_tx s) ≡ false) xs lower_apart all
+  lower_none xs all = each_map (λ (v : TxId). v.seq < s.next_seq) (λ v. same_tx v (next_tx s) ≡ false) xs (lower_apart s) all
 
   begins_one : (name : Option ℕ) → StaysOneWay s.node cs bs (begin_if s name false)
   begins_one name = record {
     one = record {
-      once = once_inserted s.live (next_tx s) fresh (each_map (IsLive s.node s.next_seq cs bs) (λ (x : TxId × Transaction). same_tx x.0 (next_tx s) ≡ false) s.live (λ x is. lower_apart x.0 is.below) n.live) n.once;
+      once = once_inserted s.live (next_tx s) fresh (each_map (IsLive s.node s.next_seq cs bs) (λ (x : TxId × Transaction). same_tx x.0 (next_tx s) ≡ false) s.live (λ x is. lower_apart s x.0 is.below) n.live) n.once;
       live = each_inserted (IsLive s.node (s.next_seq + 1) cs bs) s.live (next_tx s) fresh
-          (each_map (IsLive s.node s.next_seq cs bs) (λ (x : TxId × Transaction). same_tx x.0 (next_tx s) ≡ false) s.live (λ x is. lower_apart x.0 is.below) n.live)
+          (each_map (IsLive s.node s.next_seq cs bs) (λ (x : TxId × Transaction). same_tx x.0 (next_tx s) ≡ false) s.live (λ x is. lower_apart s x.0 is.below) n.live)
           (record { home = refl; below = omega arith; carried = λ on. absurd cc; uncommitted = λ off. lower_none cs n.cs_below; unaborted = λ off. lower_none bs n.bs_below })
           (each_map (IsLive s.node s.next_seq cs bs) (IsLive s.node (s.next_seq + 1) cs bs) s.live (λ x is. record { home = is.home; below = omega (arith, is.below); carried = is.carried; uncommitted = is.uncommitted; unaborted = is.unaborted }) n.live);
       cs_below = each_map (λ (v : TxId). v.seq < s.next_seq) (λ (v : TxId). v.seq < s.next_seq + 1) cs (λ v lt. omega (arith, lt)) n.cs_below;

@@ -27,6 +27,17 @@ pub record HasChains (tx : TxId) (kind : Body → Bool) : Type 0 where
   pub aborts : (key : List ℕ) → kind (Chain (Abort tx key)) ≡ true
   pub goes_on : (at : ℕ) → kind (Host (Continue (work.Transaction tx) at)) ≡ true
 
+-- a part of a list is of the kind that the list is of, and the signal to go on
+pub part_of : (kind : Body → Bool) (tx : TxId) → ((at : ℕ) → kind (Host (Continue (work.Transaction tx) at)) ≡ true)
+    → (node : ℕ) (sends : List Outgoing) (at : ℕ) → are_of kind sends ≡ true → are_of kind (part_effects node tx sends at).sends ≡ true
+unfolding part_effects
+part_of kind tx goes_on node sends at all =
+    of_append kind (take 8 (drop at sends)) _ (of_take kind 8 (drop at sends) (of_drop kind at sends all)) (by (nat_lt _ (length sends)))
+  where
+    by : (b : Bool) → are_of kind (rest_if node tx at b) ≡ true
+    by true = one_kind _ (goes_on _)
+    by false = refl
+
 module _ (kind : Body → Bool) (layout : Layout) (tx : TxId) (has : HasChains tx kind) where
   pub aborts_of_kind : (key : List ℕ) (members : List Member) → are_of kind (map (abort_of tx key) members) ≡ true
   aborts_of_kind key members = of_map kind (abort_of tx key) members (λ m. has.aborts key)
@@ -49,16 +60,15 @@ module _ (kind : Body → Bool) (layout : Layout) (tx : TxId) (has : HasChains t
       of_append kind (front_sends tx phase) (flat_map (key_sends layout tx phase) touched) front (of_flat kind (key_sends layout tx phase) touched (keys_of_kind phase))
 
   part_of_kind : (node : ℕ) (sends : List Outgoing) (at : ℕ) → are_of kind sends ≡ true → are_of kind (part_effects node tx sends at).sends ≡ true
-  unfolding part_effects
-  part_of_kind node sends at all = of_append kind (take 8 (drop at sends)) _ (of_take kind 8 (drop at sends) (of_drop kind at sends all)) (by (nat_lt _ (length sends)))
-    where
-      by : (b : Bool) → are_of kind (rest_if node tx at b) ≡ true
-      by true = one_kind _ (has.goes_on _)
-      by false = refl
+  part_of_kind node sends at all = part_of kind tx has.goes_on node sends at all
 
   pub entering_of_kind : (node : ℕ) (t : Transaction) (phase : Phase) → are_of kind (front_sends tx phase) ≡ true → are_of kind (entering node layout tx t phase).effects.sends ≡ true
   unfolding entering
   entering_of_kind node t phase front = part_of_kind node (phase_sends layout tx phase t.touched) 0 (phase_of_kind phase t.touched front)
 
+  pub parts_of_kind : (node : ℕ) (phase : Phase) (touched : List Touched) (at : ℕ) → are_of kind (front_sends tx phase) ≡ true
+      → are_of kind (part_effects node tx (phase_sends layout tx phase touched) at).sends ≡ true
+  parts_of_kind node phase touched at front = part_of_kind node (phase_sends layout tx phase touched) at (phase_of_kind phase touched front)
+
   pub rest_of_kind : (node : ℕ) (t : Transaction) (at : ℕ) → are_of kind (front_sends tx t.phase) ≡ true → are_of kind (go_on_if node layout tx t at true).effects.sends ≡ true
-  rest_of_kind node t at front = part_of_kind node (phase_sends layout tx t.phase t.touched) at (phase_of_kind t.phase t.touched front)
+  rest_of_kind node t at front = parts_of_kind node t.phase t.touched at front

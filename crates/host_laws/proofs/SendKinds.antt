@@ -4,6 +4,8 @@ use Rattle.std.specs.Prelude.{if◌then◌else◌, map}
 use Rattle.std.specs.List.{flat_map}
 use Rattle.run_theory.specs.Lists.{Each}
 use Rattle.sig_core.specs.declared.member.TxId.{TxId}
+use Rattle.sig_core.specs.declared.outcome.AbortCause.{AbortCause}
+use Rattle.sig_core.specs.declared.outcome.AbortCause.TheVariants.{LogFull, Request, TableFull, Timeout}
 use Rattle.sig_core.specs.declared.outs.Outgoing.{Outgoing}
 use Rattle.sig_core.specs.declared.place.Place.{Place}
 use Rattle.sig_core.specs.declared.signal.Body.{Body}
@@ -43,13 +45,21 @@ abbrev pub is_dih_kind : Body → Bool
 is_dih_kind (Epoch (DiVerifyConf tx epoch)) = true
 is_dih_kind _ = false
 
+-- why the rows of a node may end an operation: for want of room or of time, or since an abort was asked for
+abbrev pub is_row_cause : AbortCause → Bool
+is_row_cause (LogFull used reserved need) = true
+is_row_cause (TableFull rows) = true
+is_row_cause Timeout = true
+is_row_cause Request = true
+is_row_cause cause = false
+
 -- what the rows of a node send
 abbrev pub is_lqh_kind : Body → Bool
 is_lqh_kind (Client (LqhWaitConf tx ahead)) = true
 is_lqh_kind (Client (DumpConf rows next)) = true
 is_lqh_kind (Chain (LqhKeyReq tx work chain at)) = true
 is_lqh_kind (Chain (LqhKeyConf tx key answer)) = true
-is_lqh_kind (Chain (LqhKeyRef tx key cause)) = true
+is_lqh_kind (Chain (LqhKeyRef tx key cause)) = is_row_cause cause
 is_lqh_kind (Chain (Commit tx key epoch chain at)) = true
 is_lqh_kind (Chain (Committed tx key)) = true
 is_lqh_kind (Chain (Complete tx key chain at)) = true

@@ -55,11 +55,6 @@ only_one p (z ∷ zs) x y few (inr i) (inl b) e f =
     absurd (omega (arith, few, more, ap one_if (ap p (sym b) ∙ f)))
 only_one p (z ∷ zs) x y few (inr i) (inr j) e f = only_one p zs x y (omega (arith, few)) i j e f
 
--- tests that agree on every item count as many
-pub tally_same : {A : Type 0} (p q : A → Bool) (xs : List A) → Each (λ x. p x ≡ q x) xs → tally p xs ≡ tally q xs
-tally_same p q [] same = refl
-tally_same p q (x ∷ xs) same = omega (arith, ap one_if same.0, tally_same p q xs same.1)
-
 -- a test that fails on every item counts none
 pub tally_none : {A : Type 0} (p : A → Bool) (xs : List A) → Each (λ x. p x ≡ false) xs → tally p xs ≡ 0
 tally_none p [] none = refl

@@ -1,6 +1,7 @@
 -- Which transactions a coordinator has: those that it has begun and whose end it hasn't reported are among them.
 use Rattle.std.proofs.Common.{◌≡◌, ◌⊎◌, ℕ, ◌+◌, ◌<◌, ◌≤◌, List, [], ◌∷◌, ◌++◌, Bool, true, false, refl, ap, sym, ◌∙◌, subst, arith, inl, inr}
-use Rattle.std.specs.Prelude.{◌==◌, ◌&&◌, if◌then◌else◌}
+use Rattle.std.proofs.lemmas.Bool.{and_right, ne_eqb}
+use Rattle.std.specs.Prelude.{◌==◌, ◌&&◌, if◌then◌else◌, nat_eq}
 use Rattle.indexmap.specs.IndexMap.{insert_entry}
 use Rattle.run_theory.proofs.Pasts.{each_append, each_map}
 use Rattle.run_theory.specs.Lists.{Each}
@@ -23,6 +24,12 @@ use Rattle.host_laws.proofs.TcMoves.{TcMove, end_of, ends_in, forgets, is_end, i
 use Rattle.host_laws.proofs.Wishes.{and_false, is_api, sends_of, to_node}
 use Rattle.tc_block.specs.Phases.{is_completing}
 
+-- a number that was given before isn't the next one
+pub lower_apart : (s : TcState) (v : TxId) → v.seq < s.next_seq → same_tx v (next_tx s) ≡ false
+lower_apart s v lt =
+    let off : nat_eq v.seq s.next_seq ≡ false = ne_eqb v.seq s.next_seq (λ same. omega (arith, lt, same)) in
+    and_right (nat_eq v.tc s.node) (nat_eq v.start s.start && nat_eq v.seq s.next_seq) (and_right (nat_eq v.start s.start) (nat_eq v.seq s.next_seq) off)
+
 -- a transaction has begun
 abbrev pub start_of : TxId → Body → Bool
 start_of tx (Client (TcBeginConf name other)) = same_tx other tx
@@ -38,8 +45,8 @@ starts_in tx sends = sends_of (to_node 0 (is_start tx)) sends
 abbrev pub is_keyed : TxId → TxId × Transaction → Bool
 is_keyed tx e = same_tx e.0 tx
 
-abbrev pub is_done : TxId → TxId × Transaction → Bool
-is_done tx e = same_tx e.0 tx && is_completing e.1.phase
+abbrev pub is_over : TxId → TxId × Transaction → Bool
+is_over tx e = same_tx e.0 tx && is_completing e.1.phase
 
 -- it has a number that its coordinator has given
 pub record IsOwn (node next_seq : ℕ) (tx : TxId) : Type 0 where
@@ -51,7 +58,7 @@ pub record IsKept (tx : TxId) (s : TcState) (begun ended : ℕ) : Type 0 where
   pub began : tally (is_keyed tx) s.live ≤ begun
   pub order : 1 ≤ ended → 1 ≤ begun
   pub kept : 1 ≤ begun → 1 ≤ tally (is_keyed tx) s.live + ended
-  pub told : 1 ≤ tally (is_done tx) s.live → 1 ≤ ended
+  pub told : 1 ≤ tally (is_over tx) s.live → 1 ≤ ended
   pub once : begun ≤ 1
   pub unborn : s.next_seq ≤ tx.seq → begun ≡ 0
   pub own : Each (λ (e : TxId × Transaction). IsOwn s.node s.next_seq e.0) s.live
@@ -124,8 +131,8 @@ kept_start tx s b e k = go (same_tx (next_tx s) tx) refl
     none true = refl
     none false = refl
 
-    done : tally (is_done tx) (s.live ++ (next_tx s, fresh) ∷ []) ≡ tally (is_done tx) s.live
-    done = omega (arith, tally_append (is_done tx) s.live ((next_tx s, fresh) ∷ []), none (same_tx (next_tx s) tx))
+    done : tally (is_over tx) (s.live ++ (next_tx s, fresh) ∷ []) ≡ tally (is_over tx) s.live
+    done = omega (arith, tally_append (is_over tx) s.live ((next_tx s, fresh) ∷ []), none (same_tx (next_tx s) tx))
 
     go : (m : Bool) → same_tx (next_tx s) tx ≡ m
         → IsKept tx (record { node = s.node; start = s.start; next_seq = s.next_seq + 1; layout = s.layout; live = s.live ++ (next_tx s, fresh) ∷ [] }) (one_if (same_tx (next_tx s) tx) + b) e
@@ -159,7 +166,7 @@ kept_start tx s b e k = go (same_tx (next_tx s) tx) refl
 -- transactions of which so many stand there, and so many complete, after so many reports of its end
 kept_live : (tx : TxId) (s : TcState) (live : List (TxId × Transaction)) (b e x y : ℕ) → IsKept tx s b e → x ≡ 0
     → tally (is_keyed tx) live ≤ tally (is_keyed tx) s.live → (1 ≤ y → 1 ≤ tally (is_keyed tx) s.live)
-    → (1 ≤ tally (is_keyed tx) s.live → 1 ≤ tally (is_keyed tx) live + (y + e)) → (1 ≤ tally (is_done tx) live → 1 ≤ y + e) → Each (λ (z : TxId × Transaction). IsOwn s.node s.next_seq z.0) live
+    → (1 ≤ tally (is_keyed tx) s.live → 1 ≤ tally (is_keyed tx) live + (y + e)) → (1 ≤ tally (is_over tx) live → 1 ≤ y + e) → Each (λ (z : TxId × Transaction). IsOwn s.node s.next_seq z.0) live
     → IsKept tx (record { node = s.node; start = s.start; next_seq = s.next_seq; layout = s.layout; live = live }) (x + b) (y + e)
 kept_live tx s live b e x y k p fewer due left told own = record {
   began = omega (arith, k.began, fewer, p);
@@ -204,29 +211,29 @@ kept_turn tx one s t u front back sends b e k is kind told =
     due true same h = omega (arith, tally_between (is_keyed tx) front (one, t) back s.live is, ap one_if same)
     due false same h = absurd (omega (arith, h, no_ends_other tx one sends same kind))
 
-    done_old : tally (is_done tx) s.live ≡ tally (is_done tx) (front ++ back) + one_if (same_tx one tx && is_completing t.phase)
-    done_old = tally_between (is_done tx) front (one, t) back s.live is
+    done_old : tally (is_over tx) s.live ≡ tally (is_over tx) (front ++ back) + one_if (same_tx one tx && is_completing t.phase)
+    done_old = tally_between (is_over tx) front (one, t) back s.live is
 
-    done_new : tally (is_done tx) (front ++ (one, u) ∷ back) ≡ tally (is_done tx) (front ++ back) + one_if (same_tx one tx && is_completing u.phase)
-    done_new = tally_between (is_done tx) front (one, u) back (front ++ (one, u) ∷ back) refl
+    done_new : tally (is_over tx) (front ++ (one, u) ∷ back) ≡ tally (is_over tx) (front ++ back) + one_if (same_tx one tx && is_completing u.phase)
+    done_new = tally_between (is_over tx) front (one, u) back (front ++ (one, u) ∷ back) refl
 
-    done : (m : Bool) → same_tx one tx ≡ m → 1 ≤ tally (is_done tx) (front ++ (one, u) ∷ back) → 1 ≤ ends_in tx sends + e
+    done : (m : Bool) → same_tx one tx ≡ m → 1 ≤ tally (is_over tx) (front ++ (one, u) ∷ back) → 1 ≤ ends_in tx sends + e
     done false same h =
-        let before : 1 ≤ tally (is_done tx) s.live =
+        let before : 1 ≤ tally (is_over tx) s.live =
         omega (arith, h, done_new, done_old, ap (λ m. one_if (m && is_completing u.phase)) same, ap (λ m. one_if (m && is_completing t.phase)) same) in
         omega (arith, k.told before)
     done true same h = by (is_completing u.phase) refl
       where
         by : (c : Bool) → is_completing u.phase ≡ c → 1 ≤ ends_in tx sends + e
         by false c =
-            let before : 1 ≤ tally (is_done tx) s.live =
+            let before : 1 ≤ tally (is_over tx) s.live =
             omega (arith, h, done_new, done_old, ap (λ m. one_if (m && is_completing u.phase)) same, ap one_if c) in
             omega (arith, k.told before)
         by true c = which (told c)
           where
             which : (is_completing t.phase ≡ true) ⊎ (1 ≤ ends_in one sends) → 1 ≤ ends_in tx sends + e
             which (inl was) =
-                let before : 1 ≤ tally (is_done tx) s.live = omega (arith, done_old, ap (λ m. one_if (m && is_completing t.phase)) same, ap one_if was) in
+                let before : 1 ≤ tally (is_over tx) s.live = omega (arith, done_old, ap (λ m. one_if (m && is_completing t.phase)) same, ap one_if was) in
                 omega (arith, k.told before)
             which (inr some) =
                 let here : 1 ≤ ends_in tx sends = subst (λ x. 1 ≤ ends_in x sends) (same_tx-is one tx same) some in
@@ -239,14 +246,14 @@ kept_forget : (tx one : TxId) (s : TcState) (t : Transaction) (front back : List
 kept_forget tx one s t front back sends b e k is kind told =
     kept_live tx s (front ++ back) b e (starts_in tx sends) (ends_in tx sends) k (no_starts tx one sends kind)
     (omega (arith, keyed)) (due (same_tx one tx) refl) (left (same_tx one tx) refl)
-    (λ h. let before : 1 ≤ tally (is_done tx) s.live = omega (arith, h, done_old) in omega (arith, k.told before))
+    (λ h. let before : 1 ≤ tally (is_over tx) s.live = omega (arith, h, done_old) in omega (arith, k.told before))
     (each_less (λ (x : TxId × Transaction). IsOwn s.node s.next_seq x.0) front (one, t) back s.live is k.own)
   where
     keyed : tally (is_keyed tx) s.live ≡ tally (is_keyed tx) (front ++ back) + one_if (same_tx one tx)
     keyed = tally_between (is_keyed tx) front (one, t) back s.live is
 
-    done_old : tally (is_done tx) s.live ≡ tally (is_done tx) (front ++ back) + one_if (same_tx one tx && is_completing t.phase)
-    done_old = tally_between (is_done tx) front (one, t) back s.live is
+    done_old : tally (is_over tx) s.live ≡ tally (is_over tx) (front ++ back) + one_if (same_tx one tx && is_completing t.phase)
+    done_old = tally_between (is_over tx) front (one, t) back s.live is
 
     due : (m : Bool) → same_tx one tx ≡ m → 1 ≤ ends_in tx sends → 1 ≤ tally (is_keyed tx) s.live
     due true same h = omega (arith, keyed, ap one_if same)
@@ -258,7 +265,7 @@ kept_forget tx one s t front back sends b e k is kind told =
       where
         which : (is_completing t.phase ≡ true) ⊎ (1 ≤ ends_in one sends) → 1 ≤ tally (is_keyed tx) (front ++ back) + (ends_in tx sends + e)
         which (inl was) =
-            let before : 1 ≤ tally (is_done tx) s.live = omega (arith, done_old, ap (λ m. one_if (m && is_completing t.phase)) same, ap one_if was) in
+            let before : 1 ≤ tally (is_over tx) s.live = omega (arith, done_old, ap (λ m. one_if (m && is_completing t.phase)) same, ap one_if was) in
             omega (arith, k.told before)
         which (inr some) =
             let here : 1 ≤ ends_in tx sends = subst (λ x. 1 ≤ ends_in x sends) (same_tx-is one tx same) some in

@@ -1,8 +1,7 @@
 -- What a coordinator says, transaction by transaction: it begins each once, asks for an epoch of each at most once, and tells
 -- of the commit of those alone that are decided.
-use Rattle.std.proofs.Common.{◌≡◌, ◌<◌, ℕ, ◌+◌, Bool, true, false, ◌&&◌, List, [], ◌∷◌, ◌++◌, refl, sym, ap, ◌∙◌, subst, subst₂, arith}
-use Rattle.std.specs.Prelude.{Option, nat_eq}
-use Rattle.std.proofs.lemmas.Bool.{and_right, ne_eqb}
+use Rattle.std.proofs.Common.{◌≡◌, ◌<◌, ℕ, ◌+◌, Bool, true, false, List, [], ◌∷◌, ◌++◌, refl, sym, ap, ◌∙◌, subst, subst₂, arith}
+use Rattle.std.specs.Prelude.{Option}
 use Rattle.run_theory.specs.Lists.{Each}
 use Rattle.run_theory.proofs.Pasts.{each_after, each_append, each_before, each_map}
 use Rattle.sig_core.specs.declared.member.TxId.{TxId}
@@ -29,6 +28,7 @@ use Rattle.tc_block.proofs.LiveSplit.{KeysOnce, Live, Split, each_inserted, once
 use Rattle.tc_block.proofs.EachTc.{tc_each}
 use Rattle.tc_block.proofs.EachTurn.{rows_of}
 use Rattle.host_laws.proofs.TcGoes.{AllSay, Goes, SaysOf, TurnGoes, turn_goes}
+use Rattle.host_laws.proofs.TcLives.{lower_apart}
 
 -- the transactions that signals say to have begun, and those for which an epoch is asked, in front of those before
 abbrev pub begun_by : Kind → List TxId → List TxId
@@ -221,23 +221,18 @@ module _ (node : ℕ) (D : TxId → Type 0) (taken : Kind) (s : TcState) (begun_
             (record { tc = all.0.tc; below = all.0.below; decided = all.0.decided; unverified = λ is. (same_tx-swap tx x.0 ∙ apart.0, all.0.unverified is) }, others xs apart.1 all.1)
 
   -- a transaction begins, whose number nobody has
-  lower_apart : (v : TxId) → v.seq < s.next_seq → same_tx v (next_tx s) ≡ false
-  lower_apart v lt =
-      let off : nat_eq v.seq s.next_seq ≡ false = ne_eqb v.seq s.next_seq (λ same. omega (arith, lt, same)) in
-      and_right (nat_eq v.tc s.node) (nat_eq v.start s.start && nat_eq v.seq s.next_seq) (and_right (nat_eq v.start s.start) (nat_eq v.seq s.next_seq) off)
-
   pub begins_stays : (name : Option ℕ) → StaysNumbered node D taken begun_yet verified (begin_if s name false)
   begins_stays name = record {
     numbered = record {
       own = n.own;
-      once = once_inserted s.live (next_tx s) fresh (each_map (IsLive node s.next_seq D verified) (λ (x : TxId × Transaction). same_tx x.0 (next_tx s) ≡ false) s.live (λ x is. lower_apart x.0 is.below) n.live) n.once;
+      once = once_inserted s.live (next_tx s) fresh (each_map (IsLive node s.next_seq D verified) (λ (x : TxId × Transaction). same_tx x.0 (next_tx s) ≡ false) s.live (λ x is. lower_apart s x.0 is.below) n.live) n.once;
       live = each_inserted (IsLive node (s.next_seq + 1) D verified) s.live (next_tx s) fresh
-          (each_map (IsLive node s.next_seq D verified) (λ (x : TxId × Transaction). same_tx x.0 (next_tx s) ≡ false) s.live (λ x is. lower_apart x.0 is.below) n.live)
-          (record { tc = n.own; below = omega arith; decided = λ is. absurd cc; unverified = λ is. each_map (λ (v : TxId). v.seq < s.next_seq) (λ v. same_tx v (next_tx s) ≡ false) verified lower_apart n.verified_below })
+          (each_map (IsLive node s.next_seq D verified) (λ (x : TxId × Transaction). same_tx x.0 (next_tx s) ≡ false) s.live (λ x is. lower_apart s x.0 is.below) n.live)
+          (record { tc = n.own; below = omega arith; decided = λ is. absurd cc; unverified = λ is. each_map (λ (v : TxId). v.seq < s.next_seq) (λ v. same_tx v (next_tx s) ≡ false) verified (lower_apart s) n.verified_below })
           (each_map (IsLive node s.next_seq D verified) (IsLive node (s.next_seq + 1) D verified) s.live
           (λ x is. record { tc = is.tc; below = omega (arith, is.below); decided = is.decided; unverified = is.unverified }) n.live);
       begun_below = (omega arith, each_map (λ (v : TxId). v.seq < s.next_seq) (λ (v : TxId). v.seq < s.next_seq + 1) begun_yet (λ v lt. omega (arith, lt)) n.begun_below);
-      begun_apart = (each_map (λ (v : TxId). v.seq < s.next_seq) (λ v. same_tx v (next_tx s) ≡ false) begun_yet lower_apart n.begun_below, n.begun_apart);
+      begun_apart = (each_map (λ (v : TxId). v.seq < s.next_seq) (λ v. same_tx v (next_tx s) ≡ false) begun_yet (lower_apart s) n.begun_below, n.begun_apart);
       verified_below = each_map (λ (v : TxId). v.seq < s.next_seq) (λ (v : TxId). v.seq < s.next_seq + 1) verified (λ v lt. omega (arith, lt)) n.verified_below;
       verified_apart = n.verified_apart;
     };

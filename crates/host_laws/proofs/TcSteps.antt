@@ -9,7 +9,6 @@ use Rattle.indexmap.specs.IndexMap.{insert_entry}
 use Rattle.run_theory.proofs.Pasts.{each_map}
 use Rattle.run_theory.specs.Lists.{Each, IsIn}
 use Rattle.sig_core.specs.declared.member.TxId.{TxId}
-use Rattle.sig_core.specs.declared.outcome.AbortCause.{AbortCause}
 use Rattle.sig_core.specs.declared.signal.Body.{Body}
 use Rattle.sig_core.specs.declared.signal.Body.TheVariants.{Host, Client, Chain, Epoch}
 use Rattle.sig_core.specs.declared.signal.chain.ChainSignal.TheVariants.{LqhKeyReq, LqhKeyConf, LqhKeyRef, Commit, Committed, Complete, Completed, Abort, Aborted}
@@ -17,29 +16,25 @@ use Rattle.sig_core.specs.declared.signal.client.ClientSignal.TheVariants.{TcBeg
 use Rattle.sig_core.specs.declared.signal.epoch.EpochSignal.TheVariants.{DiVerifyReq, DiVerifyConf, DiVerifyEnd}
 use Rattle.sig_core.specs.declared.signal.host.HostSignal.TheVariants.{Continue}
 use Rattle.sig_core.specs.declared.signal.host.Work.TheVariants as work
-use Rattle.frag_map.specs.Layout.{Layout}
 use Rattle.sig_core.specs.Place.{client}
 use Rattle.sig_core.specs.Same.{same_tx}
 use Rattle.sig_core.specs.Step.{Step, sending, stay}
 use Rattle.tc_block.specs.declared.transaction.Transaction.{Transaction}
-use Rattle.tc_block.specs.Abort as abort
-use Rattle.frag_map.specs.Layout.{chain_of}
 use Rattle.tc_block.specs.Live.{place_in, step_of, turn_of, turn_place, turn_value, turned_if, without}
 use Rattle.tc_block.specs.Operate.{fresh}
-use Rattle.tc_block.specs.Sends.{abort_of}
 use Rattle.tc_block.specs.State.{TcState, with_live}
 use Rattle.tc_block.specs.Tc.{begin_if, begin_row, begun, is_full, next_tx, pass_if, pass_row, tc_table}
 use Rattle.tc_block.specs.Turn.{Turn, going}
 use Rattle.sig_core.proofs.Keys.{same_tx-self}
 use Rattle.host_laws.proofs.NodeOps.{absent_key}
-use Rattle.host_laws.proofs.PartKinds.{IsPartKind, entering_of, parts_of}
-use Rattle.host_laws.proofs.SendKinds.{are_of, of_kind, of_map}
+use Rattle.host_laws.proofs.SendKinds.{are_of, of_kind}
 use Rattle.host_laws.proofs.Tally.{tally_append, tally_between, tally_in}
 use Rattle.host_laws.specs.Counts.{one_if, tally}
 use Rattle.host_laws.proofs.TcLives.{IsOwn, apart, insert_new, is_keyed}
 use Rattle.host_laws.proofs.TcMoves.{found, IsEntry, same_tx-is, step_is}
 use Rattle.host_laws.proofs.TcSends.{tx_in}
-use Rattle.host_laws.proofs.TcTurns.{TurnMove, abort_ends, aborted, aborts, all_completed, answers, asks, commits, committed, completed, completes, decides, ends, gives_up, goes_on, is_turn, is_wait_kind, keeps, late, turn_moves, turn_row}
+use Rattle.host_laws.proofs.TcTurns.{TurnMove, is_turn, turn_at, turn_moves, turn_row}
+use Rattle.host_laws.proofs.TurnKinds.{OwnKinds, TurnOnly, own_forms}
 
 -- the transaction among those that a coordinator hasn't forgotten
 abbrev pub of_live : TxId → List (TxId × Transaction) → Option Transaction
@@ -88,11 +83,6 @@ is_rest_kind (Client (TcBeginRef name)) = true
 is_rest_kind (Client (TcWaitConf tx ahead)) = true
 is_rest_kind _ = false
 
-not_of : (a b : Bool) → a ≡ b → b ≡ false → not a ≡ true
-not_of true true p q = cc
-not_of true false p q = cc
-not_of false b p q = refl
-
 said_apart : (tx one : TxId) → same_tx one tx ≡ false → (body : Body) → is_said one body ≡ true → is_apart tx body ≡ true
 said_apart tx one off (Client (TcKeyConf other answer)) e = ap not (apart tx one other off e)
 said_apart tx one off (Client (TcCommitConf other epoch)) e = ap not (apart tx one other off e)
@@ -112,54 +102,26 @@ rest_apart tx (Client (TcBeginRef name)) e = refl
 rest_apart tx (Client (TcWaitConf other ahead)) e = refl
 rest_apart tx _ e = cc
 
-wait_said : (tx : TxId) (body : Body) → is_wait_kind body ≡ true → is_said tx body ≡ true
-wait_said tx (Client (LqhWaitReq other key)) e = refl
-wait_said tx _ e = cc
-
-one_said : (tx : TxId) (more : Bool) → more ≡ true → (if same_tx tx tx then more else false) ≡ true
-one_said tx more e = ap (λ b. if b then more else false) (same_tx-self tx) ∙ e
-
-said_part : (tx : TxId) → IsPartKind (is_said tx) tx
-said_part tx = record {
-  commit = λ key epoch chain at. same_tx-self tx;
-  complete = λ key chain at. same_tx-self tx;
-  abort = λ key. same_tx-self tx;
-  cont = λ at. same_tx-self tx;
-  report = λ epoch. same_tx-self tx;
+said_kinds : (tx : TxId) (body : Body) → OwnKinds tx (is_said tx) body
+said_kinds tx body = record {
+  chains = record { commits = λ key epoch chain at. self; completes = λ key chain at. self; aborts = λ key. self; goes_on = λ at. self };
+  operates = λ op chain. self;
+  answers = λ key answer is. self;
+  waits = λ key. refl;
+  verifies = λ ops. self;
+  verified = self;
+  committed = λ epoch. self;
+  rolled_back = λ why. self;
 }
-
-end_said : (node : ℕ) (tx : TxId) (why : AbortCause) (b : Bool) → are_of (is_said tx) (abort.abort_end node tx why b) ≡ true
-end_said node tx why true = one_said tx _ (one_said tx true refl)
-end_said node tx why false = one_said tx true refl
-
-abort_said : (node : ℕ) (tx : TxId) (layout : Layout) (w : Transaction) (why : AbortCause) (b : Bool) → are_of (is_said tx) (abort.abort_if node layout tx w why b).step.effects.sends ≡ true
-abort_said node tx layout w why true = end_said node tx why (abort.is_verifying w.phase)
-abort_said node tx layout w why false = entering_of (is_said tx) tx (said_part tx) node layout w _
+  where
+    self : same_tx tx tx ≡ true
+    self = same_tx-self tx
 
 -- all that a transaction sends is said of it
-move_said : (s : TcState) (tx : TxId) (t : Transaction) (body : Body) (turn : Turn) → TurnMove s tx t body turn → are_of (is_said tx) turn.step.effects.sends ≡ true
-move_said s tx t body turn move = go move
-  where
-    said : (turn other : Turn) → turn ≡ other → are_of (is_said tx) other.step.effects.sends ≡ true → are_of (is_said tx) turn.step.effects.sends ≡ true
-    said turn other is e = ap (λ (x : Turn). are_of (is_said tx) x.step.effects.sends) is ∙ e
-
-    go : TurnMove s tx t body turn → are_of (is_said tx) turn.step.effects.sends ≡ true
-    go (keeps sends is kind missed) = said turn _ is (of_kind is_wait_kind (is_said tx) (wait_said tx) sends kind)
-    go (goes_on at about low is) = said turn _ is (parts_of (is_said tx) tx (said_part tx) s.node s.layout t.phase t.touched at)
-    go (asks op about p q fit is) = said turn _ is (one_said tx true refl)
-    go (answers key answer asked about p q is) = said turn _ is (one_said tx true refl)
-    go (late key asked about p q is) = said turn _ is (of_map (is_said tx) (abort_of tx key) (chain_of s.layout key) (λ r. same_tx-self tx))
-    go (decides about p q is) = said turn _ is (one_said tx true refl)
-    go (aborts w why gives some is) = said turn _ is (abort_said s.node tx s.layout w why false)
-    go (gives_up w why gives is none) = said turn _ is (abort_said s.node tx s.layout w why true)
-    go (aborted key why v k about p low is) = said turn _ is refl
-    go (abort_ends key why v k about p low is) = said turn _ is (end_said s.node tx why v)
-    go (commits epoch about p is) = said turn _ is (entering_of (is_said tx) tx (said_part tx) s.node s.layout t _)
-    go (committed epoch k p is) = said turn _ is refl
-    go (completes epoch p is) = said turn _ is (entering_of (is_said tx) tx (said_part tx) s.node s.layout t _)
-    go (ends epoch p is) = said turn _ is (one_said tx _ (one_said tx true refl))
-    go (completed epoch k p is) = said turn _ is refl
-    go (all_completed epoch k p is) = said turn _ is (one_said tx true refl)
+pub turn_said : (s : TcState) (body : Body) (t : Transaction) → are_of (is_said (tx_in body)) (turn_row s body t).step.effects.sends ≡ true
+turn_said s body t =
+    let tx = tx_in body in
+    turn_at s tx body t (TurnOnly (is_said tx)) refl (own_forms (is_said tx) tx body (said_kinds tx body) s.node s.layout t)
 
 -- a transaction takes a turn, and is forgotten if it is over
 abbrev pub left_in : TxId → List (TxId × Transaction) → List (TxId × Transaction) → Turn → List (TxId × Transaction)
@@ -232,7 +194,7 @@ tc_step s (Epoch (DiVerifyConf tx epoch)) = taken_turn s (Epoch (DiVerifyConf tx
 tc_step s _ = rests refl refl refl
 
 -- where a transaction stands
-live_none : (tx : TxId) (live : List (TxId × Transaction)) → tally (is_keyed tx) live ≡ 0 → of_live tx live ≡ None
+pub live_none : (tx : TxId) (live : List (TxId × Transaction)) → tally (is_keyed tx) live ≡ 0 → of_live tx live ≡ None
 live_none tx [] none = refl
 live_none tx (e ∷ live) none = go (same_tx e.0 tx) refl (live_none tx live)
   where
@@ -272,9 +234,9 @@ pub data TxStep (tx : TxId) (s : TcState) (body : Body) (step : Step TcState) : 
   elsewhere : of_live tx step.state.live ≡ of_live tx s.live → are_of (is_apart tx) step.effects.sends ≡ true
       → (is_turn body ≡ true → tx_in body ≡ tx → of_live tx s.live ≡ None) → TxStep tx s body step
   born : (name : Option ℕ) → body ≡ Client (TcBeginReq name) → tx ≡ next_tx s → of_live tx s.live ≡ None → of_live tx step.state.live ≡ Some fresh
-      → step.effects.sends ≡ record { to = client; body = Client (TcBeginConf name tx) } ∷ [] → TxStep tx s body step
-  turned : (t : Transaction) (turn : Turn) → is_turn body ≡ true → tx_in body ≡ tx → of_live tx s.live ≡ Some t → TurnMove s tx t body turn
-      → of_live tx step.state.live ≡ left_of_turn turn → step.effects.sends ≡ turn.step.effects.sends → TxStep tx s body step
+      → step.effects.sends ≡ record { to = client; body = Client (TcBeginConf name tx) } ∷ [] → s.next_seq < step.state.next_seq → TxStep tx s body step
+  turned : (t : Transaction) → is_turn body ≡ true → tx_in body ≡ tx → of_live tx s.live ≡ Some t → TurnMove s tx t body (turn_row s body t)
+      → of_live tx step.state.live ≡ left_of_turn (turn_row s body t) → step.effects.sends ≡ (turn_row s body t).step.effects.sends → TxStep tx s body step
 
 module _ (tx : TxId) (s : TcState) (body : Body) (once : tally (is_keyed tx) s.live ≤ 1) (own : Each (λ (e : TxId × Transaction). IsOwn s.node s.next_seq e.0) s.live) where
   tx_of : (step : Step TcState) → TcStep s body step → TxStep tx s body step
@@ -316,6 +278,7 @@ module _ (tx : TxId) (s : TcState) (body : Body) (once : tally (is_keyed tx) s.l
           born name about here (live_none tx s.live none)
           (now ∙ ap (λ k. of_live tx (s.live ++ (k, fresh) ∷ [])) (sym here) ∙ live_here tx s.live fresh [] none)
           (ap (λ (x : Step TcState). x.effects.sends) is ∙ ap (λ k. record { to = client; body = Client (TcBeginConf name k) } ∷ []) (sym here))
+          (omega (arith, ap (λ (x : Step TcState). x.state.next_seq) is))
   tx_of step (takes about t front back was is) = go (same_tx (tx_in body) tx) refl
     where
       turn : Turn
@@ -337,14 +300,14 @@ module _ (tx : TxId) (s : TcState) (body : Body) (once : tally (is_keyed tx) s.l
       go false off =
           elsewhere
           (ap (of_live tx) live_are ∙ kept turn.over ∙ sym (ap (of_live tx) was ∙ live_between tx front (tx_in body, t) back off))
-          (ap (are_of (is_apart tx)) sends_are ∙ of_kind (is_said (tx_in body)) (is_apart tx) (said_apart tx (tx_in body) off) turn.step.effects.sends (move_said s (tx_in body) t body turn move))
+          (ap (are_of (is_apart tx)) sends_are ∙ of_kind (is_said (tx_in body)) (is_apart tx) (said_apart tx (tx_in body) off) turn.step.effects.sends (turn_said s body t))
           (λ turn same. absurd (false≢true (sym off ∙ (ap (λ x. same_tx x tx) same ∙ same_tx-self tx))))
         where
           kept : (b : Bool) → of_live tx (if b then front ++ back else front ++ (tx_in body, turn.step.state) ∷ back) ≡ of_live tx (front ++ back)
           kept true = refl
           kept false = live_between tx front (tx_in body, turn.step.state) back off
       go true same =
-          turned t turn about one (ap (of_live tx) was ∙ ap (λ k. of_live tx (front ++ (k, t) ∷ back)) one ∙ live_here tx front t back none)
+          turned t about one (ap (of_live tx) was ∙ ap (λ k. of_live tx (front ++ (k, t) ∷ back)) one ∙ live_here tx front t back none)
           (subst (λ k. TurnMove s k t body turn) one move) (ap (of_live tx) live_are ∙ kept turn.over) sends_are
         where
           one : tx_in body ≡ tx

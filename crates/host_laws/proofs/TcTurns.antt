@@ -1,5 +1,5 @@
 -- What a signal makes of a coordinator's transaction, case by case.
-use Rattle.std.proofs.Common.{◌≡◌, ◌⊎◌, ℕ, ◌-◌, ◌≤◌, ◌<◌, List, [], ◌∷◌, length, Bool, true, false, refl, ap, sym, ◌∙◌, arith, inl, inr}
+use Rattle.std.proofs.Common.{◌≡◌, ◌⊎◌, ℕ, ◌-◌, ◌≤◌, ◌<◌, List, [], ◌∷◌, length, Bool, true, false, refl, ap, subst, sym, ◌∙◌, arith, inl, inr}
 use Rattle.std.specs.Prelude.{◌==◌, ◌&&◌, nat_lt, Option, None, Some}
 use Rattle.std.proofs.lemmas.Bool.{false≢true}
 use Rattle.std.proofs.lemmas.Bool.Decides.{nat_tests}
@@ -35,6 +35,7 @@ use Rattle.tc_block.specs.Sends.{entering, go_on_if, go_on_row, phase_sends, rep
 use Rattle.tc_block.specs.State.{TcState}
 use Rattle.tc_block.specs.Touched.{fits}
 use Rattle.tc_block.specs.Turn.{Turn, asking, at_phase, ending, going, sends_only}
+use Rattle.tc_block.proofs.EachTurn.{RowsAre, TurnForms, rows_of}
 use Rattle.host_laws.proofs.SendKinds.{are_of, of_map}
 use Rattle.host_laws.proofs.TcOps.{may_ask}
 use Rattle.host_laws.proofs.TcSends.{tx_in}
@@ -55,6 +56,28 @@ turn_row s (Chain (Completed tx key)) t = complete.completed_row s.node tx t
 turn_row s (Chain (Aborted tx key)) t = abort.aborted_row s.node tx t
 turn_row s (Epoch (DiVerifyConf tx epoch)) t = commit.commit_row s.node s.layout tx t epoch
 turn_row s _ t = going (stay t)
+
+-- what holds of each form of turn that the transaction may take at the signal holds of the turn
+pub turn_at : (s : TcState) (tx : TxId) (body : Body) (t : Transaction) (R : Turn → Type 0) → tx_in body ≡ tx → TurnForms s.node s.layout tx t body R
+    → R (turn_row s body t)
+turn_at s tx body t R same forms = by body (rows_of s.node s.layout (tx_in body) t body R own) own.stays
+  where
+    own : TurnForms s.node s.layout (tx_in body) t body R
+    own = subst (λ x. TurnForms s.node s.layout x t body R) (sym same) forms
+
+    by : (b : Body) → RowsAre s.node s.layout (tx_in b) t b R → R (going (stay t)) → R (turn_row s b t)
+    by (Host (Continue (work.Transaction one) at)) rows stays = rows.goes_on at refl
+    by (Client (TcKeyReq one op)) rows stays = rows.operates op refl
+    by (Client (TcCommitReq one)) rows stays = rows.decides refl
+    by (Client (TcRollbackReq one)) rows stays = rows.rolls_back refl
+    by (Client (TcWaitReq one)) rows stays = rows.waits refl
+    by (Chain (LqhKeyConf one key answer)) rows stays = rows.answers key answer refl
+    by (Chain (LqhKeyRef one key why)) rows stays = rows.refuses key why refl
+    by (Chain (Committed one key)) rows stays = rows.committed key refl
+    by (Chain (Completed one key)) rows stays = rows.completed key refl
+    by (Chain (Aborted one key)) rows stays = rows.aborted key refl
+    by (Epoch (DiVerifyConf one epoch)) rows stays = rows.commits epoch refl
+    by _ rows stays = stays
 
 -- the signal is about a transaction
 abbrev pub is_turn : Body → Bool

@@ -12,7 +12,7 @@ use Rattle.world_core.specs.Hosts.{host_for, hosts, rows_host, tc_host}
 use Rattle.world_core.specs.Machine.{machine}
 use Rattle.world_core.specs.Start.{Start}
 use Rattle.world_core.specs.Steps.{HostStep}
-use Rattle.host_laws.proofs.HostSteps.{at_rows_host, at_tc_host}
+use Rattle.host_laws.proofs.BlocksAlong.{at_rows_host, at_tc_host}
 use Rattle.run_laws.specs.Transit.{Comes, logs_of}
 
 module _ (start : Start) (es : List HostStep) (e : HostStep) (comes : Comes start es e) where

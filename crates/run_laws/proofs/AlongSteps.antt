@@ -26,12 +26,12 @@ use Rattle.world_core.specs.Hosts.{home, host_for, hosts, tc_host}
 use Rattle.world_core.specs.Machine.{after, machine, step_after}
 use Rattle.world_core.specs.Start.{Start}
 use Rattle.world_core.specs.Steps.{Addressed, HostStep}
-use Rattle.host_laws.proofs.HostSteps.{IsHome, at_own_node, first_live}
+use Rattle.host_laws.proofs.BlocksAlong.{IsHome, at_own_node, first_live}
 pub use Rattle.host_laws.proofs.HostTurns.{tx_at}
 use Rattle.host_laws.proofs.HostTurns.{HostTurn, IsAside, aside, host_turn, in_rows, starting, turning, tx_runs}
 use Rattle.host_laws.proofs.LinkCounts.{signals}
 use Rattle.host_laws.proofs.LqhOps.{is_lqh, is_node, left_of, right_of}
-use Rattle.host_laws.proofs.TcLives.{IsKept, IsOwn, is_done, is_keyed, kept_move, starts_in}
+use Rattle.host_laws.proofs.TcLives.{IsKept, IsOwn, is_over, is_keyed, kept_move, starts_in}
 use Rattle.host_laws.proofs.TcMoves.{ends_in, host_moves}
 use Rattle.host_laws.proofs.TcSteps.{live_home, live_in, of_live}
 use Rattle.host_laws.proofs.Wishes.{is_tc}
@@ -54,7 +54,7 @@ none_kept tx s none = record {
   began = omega (arith, ap (tally (is_keyed tx)) none);
   order = λ e. e;
   kept = λ e. absurd (omega (arith, e));
-  told = λ e. absurd (omega (arith, e, ap (tally (is_done tx)) none));
+  told = λ e. absurd (omega (arith, e, ap (tally (is_over tx)) none));
   once = omega arith;
   unborn = λ e. refl;
   own = subst (Each (λ (e : TxId × Transaction). IsOwn s.node s.next_seq e.0)) (sym none) tt;

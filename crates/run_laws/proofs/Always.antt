@@ -27,7 +27,7 @@ use Rattle.frag_map.specs.Layout.{chain_of, first_layout}
 use Rattle.world_core.specs.Start.{Start}
 use Rattle.sig_core.proofs.Keys.{same_tx-self}
 use Rattle.run_laws.proofs.AlongSteps.{first_none, no_transaction, the_transaction, turn_at, tx_at}
-use Rattle.host_laws.proofs.HostSteps.{tc_layout}
+use Rattle.host_laws.proofs.BlocksAlong.{tc_layout}
 use Rattle.host_laws.proofs.HostTurns.{HostTurn, aside, in_rows, starting, turning}
 use Rattle.host_laws.specs.Counts.{one_if}
 use Rattle.host_laws.proofs.TcKeys.{key_of_tx}

@@ -27,15 +27,15 @@ use Rattle.sig_core.proofs.Keys.{same_tx-self}
 use Rattle.host_laws.proofs.LqhOps.{right_of, left_of}
 use Rattle.run_laws.proofs.AlongSteps.{few_taken, link, none_else, none_kept}
 use Rattle.host_laws.proofs.ApiHolds.{AreHeld, IsOrdered, log_holds}
-use Rattle.host_laws.proofs.Hosts.{TellsHome, told}
-use Rattle.host_laws.proofs.HostSteps.{first_live}
+use Rattle.host_laws.proofs.ShellHost.{TellsHome, told}
+use Rattle.host_laws.proofs.BlocksAlong.{first_live}
 use Rattle.host_laws.proofs.LinkCounts.{all_three, sent_to_shell, shell_signals, signals, steps, steps_from, taken_signals, taken_steps, to_host}
 use Rattle.host_laws.proofs.Tally.{Counted, counted, tally_in, tally_none}
 use Rattle.host_laws.specs.Counts.{one_if, tally}
-use Rattle.host_laws.proofs.TcLives.{IsKept, due_move, is_done, is_keyed, is_start, kept_move, start_of, starts_in}
+use Rattle.host_laws.proofs.TcLives.{IsKept, due_move, is_over, is_keyed, is_start, kept_move, start_of, starts_in}
 use Rattle.host_laws.proofs.TcMoves.{TcMove, end_of, host_moves, is_end, same_tx-is}
 use Rattle.host_laws.proofs.Wishes.{is_api, sends_of}
-use Rattle.host_laws.specs.Opened.{opened_after, opened_in}
+use Rattle.host_laws.specs.OpenedAfter.{opened_after, opened_in}
 use Rattle.tc_block.specs.Phases.{is_completing}
 
 -- in a list of signals, the newest first, what has ended has begun before

@@ -35,7 +35,7 @@ use Rattle.world_core.specs.Start.{Start}
 use Rattle.world_core.specs.Steps.{Addressed, HostStep}
 use Rattle.key_laws.specs.Replica.{Event, Replica, ages, asks_for, event_at, expires, is_by, is_let_in, is_refused, rests}
 use Rattle.key_laws.proofs.Waiting.{each-first_item}
-use Rattle.host_laws.proofs.HostSteps.{IsAtNode, at_own_node}
+use Rattle.host_laws.proofs.BlocksAlong.{IsAtNode, at_own_node}
 use Rattle.host_laws.proofs.LqhOps.{is_lqh}
 use Rattle.host_laws.proofs.Wishes as wishes
 use Rattle.run_laws.specs.GivenUp.{is_carried_out, is_given_up}

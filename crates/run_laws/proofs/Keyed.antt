@@ -22,7 +22,7 @@ use Rattle.world_core.specs.History.{is_done}
 use Rattle.world_core.specs.Machine.{after}
 use Rattle.world_core.specs.Start.{Start}
 use Rattle.tc_block.proofs.LiveKeeps.{TurnsKeep, live_keeps}
-use Rattle.host_laws.proofs.HostSteps.{first_live}
+use Rattle.host_laws.proofs.BlocksAlong.{first_live}
 use Rattle.run_laws.specs.Keyed.{HasTouched, HasTouchedAsked, IsHostKeyed, IsTouchedRightly, TransactionsAreKeyed}
 use Rattle.run_laws.specs.Transit.{logs_of}
 use Rattle.run_laws.proofs.TouchedLists.{touch_apart, touch_more, touch_own, touch_written, undone_written, write_apart, write_touched, write_written}

@@ -17,7 +17,7 @@ use Rattle.world_core.specs.Hosts.{home, hosts}
 use Rattle.world_core.specs.Machine.{after, machine, signals_of, step_after}
 use Rattle.world_core.specs.Start.{Start}
 use Rattle.host_laws.specs.Ways.{back_by, sent_ways}
-use Rattle.host_laws.proofs.HostSteps.{first_waiting}
+use Rattle.host_laws.proofs.BlocksAlong.{first_waiting}
 use Rattle.host_laws.specs.Counts.{one_if, tally, total}
 use Rattle.host_laws.proofs.Sums.{total_at, total_one}
 use Rattle.run_laws.specs.Live.{of_host}

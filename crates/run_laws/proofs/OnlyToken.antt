@@ -20,7 +20,7 @@ use Rattle.host_laws.specs.ReplicaLaws.{key_in}
 use Rattle.tc_block.specs.Phases.{is_aborting}
 use Rattle.host_laws.specs.Counts.{one_if, tally}
 use Rattle.host_laws.proofs.Sums.{total_at}
-use Rattle.host_laws.proofs.HostSteps.{first_waiting}
+use Rattle.host_laws.proofs.BlocksAlong.{first_waiting}
 use Rattle.run_laws.specs.GivenUp.{is_given_up}
 use Rattle.run_laws.specs.Live.{live_at}
 use Rattle.run_laws.specs.Tokens.{budget, budget_by, budget_of, is_token, tokens_in, waiting_all, waiting_in}

@@ -25,7 +25,7 @@ use Rattle.world_core.specs.Start.{Start}
 use Rattle.world_core.specs.Steps.{Addressed, HostStep}
 use Rattle.host_laws.proofs.ApiMoves.{is_api_kind}
 use Rattle.host_laws.proofs.DihSends.{dih_kinds}
-use Rattle.host_laws.proofs.HostSteps.{first_live, first_waiting, tc_layout}
+use Rattle.host_laws.proofs.BlocksAlong.{first_live, first_waiting, tc_layout}
 use Rattle.host_laws.proofs.LqhNode.{lqh_node}
 use Rattle.host_laws.proofs.SendKinds.{each_of, is_dih_kind}
 use Rattle.run_laws.specs.Routes.{IsForBlock, IsHostRouted, IsOnWay, IsRequestRouted, IsRouted, IsTransactionRouted, SignalsAreForBlocks, SignalsAreRouted, replicas}

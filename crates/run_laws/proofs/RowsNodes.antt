@@ -9,7 +9,7 @@ use Rattle.world_core.specs.Hosts.{hosts, rows_host, started}
 use Rattle.world_core.specs.Machine.{after}
 use Rattle.world_core.specs.Start.{Start}
 use Rattle.world_core.specs.Steps.{HostStep}
-use Rattle.host_laws.proofs.HostSteps.{rows_along}
+use Rattle.host_laws.proofs.BlocksAlong.{rows_along}
 use Rattle.host_laws.proofs.LqhNode.{lqh_node}
 use Rattle.run_laws.specs.Transit.{Comes, host_after, logs_of}
 use Rattle.run_laws.proofs.Addressed.{comes_addressed, comes_below, for_rows}

@@ -37,7 +37,7 @@ use Rattle.host_laws.proofs.OneWay.{back_more}
 use Rattle.tc_block.proofs.EachTc.{tc_each}
 use Rattle.tc_block.proofs.EachTurn.{rows_both, rows_of}
 use Rattle.host_laws.proofs.TcWays.{AllWays, TurnWays, WayOf, turn_ways}
-use Rattle.host_laws.proofs.HostSteps.{first_live}
+use Rattle.host_laws.proofs.BlocksAlong.{first_live}
 use Rattle.host_laws.proofs.TcOps.{is_right}
 use Rattle.run_laws.proofs.FreshHosts.{started_unasked}
 use Rattle.run_laws.proofs.LqhWaits.{WaitersAsk, lqh_asks}

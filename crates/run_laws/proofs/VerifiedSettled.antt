@@ -19,7 +19,7 @@ use Rattle.host_laws.specs.ReplicaLaws.{key_in}
 use Rattle.tc_block.specs.Phases.{is_decided}
 use Rattle.host_laws.specs.Ways.{forth_by, sent_ways}
 use Rattle.host_laws.proofs.OneWay.{forth_decided}
-use Rattle.host_laws.proofs.HostSteps.{first_live}
+use Rattle.host_laws.proofs.BlocksAlong.{first_live}
 use Rattle.run_laws.specs.Circle.{Agree, IsSettledFor, VerifiedAreSettled, at_host, at_primary}
 use Rattle.run_laws.specs.GivenUp.{is_carried_out, is_given_up}
 use Rattle.run_laws.specs.Live.{live_at, of_host, of_live}

@@ -27,7 +27,7 @@ use Rattle.world_core.specs.Machine.{after, machine, signals_of}
 use Rattle.world_core.specs.Start.{Start}
 use Rattle.host_laws.specs.Ways.{AreSaid, IsSaid, Way, back, back_by, closes, forth, forth_by, neither, sent_ways, tc_sends, way_of}
 use Rattle.host_laws.proofs.OneWay.{back_more, coordinators_say, forth_more}
-use Rattle.host_laws.proofs.HostSteps.{at_own_node}
+use Rattle.host_laws.proofs.BlocksAlong.{at_own_node}
 use Rattle.run_laws.specs.GivenUp.{is_carried_out, is_given_up}
 use Rattle.run_laws.specs.Transit.{AreInTransit, Comes, IsRun, Takes, joined, logs_of}
 use Rattle.run_laws.proofs.Addressed.{comes_below}

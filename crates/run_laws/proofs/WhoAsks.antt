@@ -32,7 +32,7 @@ use Rattle.world_core.specs.Start.{Start}
 use Rattle.host_laws.specs.Ways.{Way, back, back_by, closes, forth, neither, put_ways, sent_ways, tc_sends, way_of}
 use Rattle.sig_core.proofs.Keys.{same_tx-self}
 use Rattle.host_laws.proofs.OneWay.{back_more}
-use Rattle.host_laws.proofs.HostSteps.{first_live}
+use Rattle.host_laws.proofs.BlocksAlong.{first_live}
 use Rattle.host_laws.specs.Counts.{one_if}
 use Rattle.run_laws.specs.Circle.{IsOfWaiting, WaitsWith, WhoAsksWaits}
 use Rattle.run_laws.specs.GivenUp.{is_given_up}

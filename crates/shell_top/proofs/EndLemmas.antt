@@ -29,7 +29,7 @@ use Rattle.world_core.specs.Hosts.{hosts}
 use Rattle.world_core.specs.Machine.{machine}
 use Rattle.serial_laws.proofs.EveryCut.{every_cut_serial}
 use Rattle.command_laws.proofs.RepliesLive.{replies_live}
-use Rattle.command_laws.proofs.Requests.{requests_answered}
+use Rattle.command_laws.proofs.RequestsAnswered.{requests_answered}
 use Rattle.command_laws.specs.Between.{IsAskedAgain}
 use Rattle.world_core.specs.Quiet.{IsQuiet}
 use Rattle.frag_map.specs.Layout.{first_view}

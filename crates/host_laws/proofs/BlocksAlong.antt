@@ -1,5 +1,5 @@
 -- What the blocks of a host are along its log, and which host gets what is sent.
-use Rattle.std.proofs.Common.{◌≡◌, ◌≢◌, ◌⊎◌, inl, inr, ℕ, zero, suc, ◌-◌, ◌<◌, ◌≤◌, ◌%◌, List, [], ◌∷◌, Bool, true, false, refl, ap, sym, ◌∙◌, subst, arith}
+use Rattle.std.proofs.Common.{◌≡◌, ◌≢◌, ◌⊎◌, inl, inr, ℕ, zero, suc, ◌<◌, ◌≤◌, ◌%◌, List, [], ◌∷◌, Bool, true, false, refl, ap, sym, ◌∙◌, subst, arith}
 use Rattle.std.specs.Prelude.{◌==◌, ◌&&◌}
 use Rattle.std.proofs.lemmas.Bool.{cases_lt, eq-eqb, eqb-true, false≢true}
 use Rattle.sig_core.specs.declared.member.Member.{Member}
@@ -17,7 +17,7 @@ use Rattle.lqh_block.specs.Lqh.{lqh_row}
 use Rattle.lqh_block.specs.State.{LqhState}
 use Rattle.node_core.proofs.HostCases.{keeps_rows, keeps_tc}
 use Rattle.node_core.specs.declared.host.Host as host
-use Rattle.node_core.specs.declared.host.Host.TheVariants.{Main, Tc, Ldm}
+use Rattle.node_core.specs.declared.host.Host.TheVariants.{Tc, Ldm}
 use Rattle.node_core.specs.Blocks.{has_api, has_lqh, has_tc, lqh_of, tc_of}
 use Rattle.node_core.specs.Fresh.{fresh_part, fresh_shell}
 use Rattle.tc_block.specs.State.{TcState}

@@ -12,7 +12,7 @@ use Rattle.sig_core.specs.declared.place.BlockId.TheVariants as block
 use Rattle.sig_core.specs.declared.signal.Body.{Body}
 use Rattle.sig_core.specs.declared.signal.Body.TheVariants.{Client}
 use Rattle.sig_core.specs.declared.signal.Signal.{Signal}
-use Rattle.sig_core.specs.declared.signal.client.ClientSignal.TheVariants.{TcBeginReq, TcBeginConf, TcBeginRef, TcCommitConf, TcRollbackRep}
+use Rattle.sig_core.specs.declared.signal.client.ClientSignal.TheVariants.{TcBeginReq, TcBeginConf, TcBeginRef}
 use Rattle.sig_core.specs.declared.view.View.{View}
 use Rattle.sig_core.specs.Place.{coordinator}
 use Rattle.sig_core.specs.Step.{Step}
@@ -37,15 +37,13 @@ use Rattle.world_core.specs.Steps.{Addressed, HostStep}
 use Rattle.host_laws.proofs.ApiBegins.{AreGood, IsDue, count_move, good_move}
 use Rattle.host_laws.proofs.ApiMoves.{ApiMove, api_moves, begun_as, ends, goes, is_api_kind, opens, refuses, rests}
 use Rattle.host_laws.proofs.DihSends.{dih_kinds}
-use Rattle.host_laws.proofs.HostSteps.{IsHome, at_own_node}
+use Rattle.host_laws.proofs.BlocksAlong.{IsHome, at_own_node}
 use Rattle.host_laws.proofs.LinkCounts.{sent_truths}
 use Rattle.host_laws.proofs.LqhSends.{lqh_kinds}
 use Rattle.host_laws.proofs.SendKinds.{are_of, each_of, is_dih_kind, is_lqh_kind, is_tc_kind, none_of}
-use Rattle.host_laws.proofs.TcLives.{start_of}
-use Rattle.host_laws.proofs.TcMoves.{end_of}
 use Rattle.host_laws.proofs.TcSends.{tc_kinds, tx_in}
 use Rattle.host_laws.proofs.Wishes.{and_false, dih_replies, dih_wishes, is_api, is_reply, is_tc, is_wish, lqh_replies, lqh_wishes, reply_of, sends_of, tc_replies, tc_wishes, to_node, wish_of}
-use Rattle.host_laws.specs.Opened.{opened_in}
+use Rattle.host_laws.specs.OpenedAfter.{opened_in}
 use Rattle.host_laws.proofs.Tally.{none_if}
 use Rattle.host_laws.specs.Counts.{one_if, tally}
 
@@ -131,15 +129,6 @@ host_wishes name s x other = go (row s x) (block_case s x)
     go t (dih_takes step) = ap (λ f. sends_of (is_wish name) f.sends) step.effects ∙ dih_wishes name (dih_of s) x.body
     go t (rows_take step) = ap (λ f. sends_of (is_wish name) f.sends) step.effects ∙ lqh_wishes name (lqh_of s) x.body
     go t (none_takes step) = ap (λ (u : Step host.Host). sends_of (is_wish name) u.effects.sends) step.is
-
-no_start_api : (tx : TxId) (body : Body) → is_api_kind body ≡ true → start_of tx body ≡ false
-no_start_api tx (Client (TcBeginConf name other)) e = cc
-no_start_api tx _ e = refl
-
-no_end_api : (tx : TxId) (body : Body) → is_api_kind body ≡ true → end_of tx body ≡ false
-no_end_api tx (Client (TcCommitConf other epoch)) e = cc
-no_end_api tx (Client (TcRollbackRep other cause)) e = cc
-no_end_api tx _ e = refl
 
 -- what comes with a transaction that begins
 abbrev TellsOf : (TxId → Type 0) → Body → Type 0

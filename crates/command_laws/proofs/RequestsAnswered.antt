@@ -16,18 +16,19 @@ use Rattle.command_laws.proofs.LoneAnswered.{lone_answered}
 use Rattle.command_laws.proofs.LoneCommitted.{lone_committed}
 use Rattle.command_laws.proofs.OperationAnswered.{operations_answered}
 use Rattle.command_laws.proofs.ServedBetween.{requests_served}
+use Rattle.command_laws.proofs.TurnedDown.{refused_where_due}
 use Rattle.command_laws.specs.Alone.{IsRefusedAlone, IsTurnedAway, WaitsAlone}
 use Rattle.command_laws.specs.Answers.{AnswersRequest, LoneComesTo, RequestsAreAnswered}
-use Rattle.command_laws.specs.Served.{IsAnsweredAlone, IsServed}
+use Rattle.command_laws.specs.Served.{IsAnsweredAlone, IsServedBetween}
 
-lone_comes_to : (start : Start) (was now : ℕ → List HostStep) (op : Op) → IsServed start was now (request.Operate None op) → LoneComesTo start was now
+lone_comes_to : (start : Start) (was now : ℕ → List HostStep) (op : Op) → IsServedBetween start was now (request.Operate None op) → LoneComesTo start was now
 lone_comes_to start was now op served = by (lone_answered each_answered start was now op served)
   where
     by : IsAnsweredAlone start was now ⊎ (IsRefusedAlone start was now ⊎ (IsTurnedAway start was now ⊎ WaitsAlone start was now)) → LoneComesTo start was now
     by (inl answered) = inl (record { answered = answered; committed = lone_committed each_answered start was now op served answered })
     by (inr other) = inr other
 
-answers_request : (start : Start) (was now : ℕ → List HostStep) (r : ApiReq) → IsServed start was now r → AnswersRequest start was now r
+answers_request : (start : Start) (was now : ℕ → List HostStep) (r : ApiReq) → IsServedBetween start was now r → AnswersRequest start was now r
 answers_request start was now (request.Operate (Some name) op) served = (
   operations_come_to start was now name op served,
   (λ tx t. operations_answered each_answered start was now name op t.takes.item tx served t.takes.named t.takes.ready t.takes.own t.few),
@@ -45,5 +46,6 @@ requests_answered start logs shape right within asked newer e before r at is on 
     record {
       moments = moments;
       answers = answers_request start moments.was moments.now r moments.served;
+      turned_down = refused_where_due start moments.was moments.now r moments.served;
       left = λ t inside. each_answered start moments.now t moments.served.since inside;
     }
