@@ -50,10 +50,6 @@ ordered_behind tx (x ∷ xs) ys h = ordered_behind tx xs ys h.1
 pub ordered_past : (tx : TxId) (xs ys : List Addressed) → IsPast xs ys → AreOrdered tx ys → AreOrdered tx xs
 ordered_past tx xs ys past h = ordered_behind tx past.newer xs (subst (AreOrdered tx) past.is h)
 
-ordered_none : (tx : TxId) (xs : List Addressed) → signals (is_end tx) xs ≡ 0 → AreOrdered tx xs
-ordered_none tx [] none = tt
-ordered_none tx (x ∷ xs) none = (λ e. absurd (omega (arith, none, ap one_if e)), ordered_none tx xs (omega (arith, none)))
-
 pub plain_start : (tx : TxId) (body : Body) → start_of tx body ≡ true → is_request body ≡ false
 plain_start tx (Client (TcBeginConf name other)) e = refl
 plain_start tx _ e = cc
