@@ -45,7 +45,7 @@ use Rattle.host_laws.proofs.SendKinds.{SendsOnly, are_of, each_of, of_append}
 use Rattle.host_laws.proofs.LqhOps.{is_lqh}
 use Rattle.host_laws.specs.Counts.{one_if}
 use Rattle.host_laws.proofs.Wishes.{is_tc}
-use Rattle.run_laws.proofs.TxTurns.{AreSilent}
+use Rattle.run_laws.proofs.TcOwn.{AreSilent}
 use Rattle.run_laws.proofs.TxSignals.{Tells, cover, is_part, is_sign, part_cover, part_tells, part_weight, sign_part, weight}
 use Rattle.run_laws.proofs.Weighing.{in_sends, weigh, weigh_none}
 
