@@ -65,13 +65,11 @@ pub mod SortedEntries
 pub mod StepFades
 pub mod StrictOrder
 pub mod TcAborts
-pub mod TcAskTurns
 pub mod TcAsks
 pub mod TcCircle
 pub mod TcGoing
 pub mod TcOwn
 pub mod TcSaid
-pub mod TcSees
 pub mod TcSound
 pub mod TcStill
 pub mod TcTokens
