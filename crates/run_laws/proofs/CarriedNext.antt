@@ -50,7 +50,7 @@ use Rattle.run_laws.proofs.CarriedOut.{IsAhead, IsCarried, IsDone, IsLiveAhead, 
 use Rattle.run_laws.proofs.CarriedTurn.{TurnLeaves, ahead_stays, parts_tell, silent_parts, silent_stays, turn_leaves}
 use Rattle.run_laws.proofs.GivenUp.{aborts_are_of_given_up, none_is_both}
 use Rattle.run_laws.proofs.HomeSteps.{IsHome, all_home, away, here_now, here_was, own_home}
-use Rattle.run_laws.proofs.HostSteps.{IsMissed, TxStep, aside, aside_cover, away_cover, begins, next_number, number_rises, rows, rows_cover, turns, tx_step}
+use Rattle.run_laws.proofs.TxSteps.{IsMissed, TxStep, aside, aside_cover, away_cover, begins, next_number, number_rises, rows, rows_cover, turns, tx_step}
 use Rattle.run_laws.proofs.LiveOf.{of_each}
 use Rattle.run_laws.proofs.LqhParts.{IsLast, lqh_covers, lqh_tells, lqh_weighs}
 use Rattle.run_laws.proofs.RoutedEvents.{coming_are_routed, commits_end_at_primary}

@@ -24,7 +24,7 @@ use Rattle.run_laws.specs.Circle.{at_host}
 use Rattle.run_laws.specs.Completions.{IsCommittedAtAll}
 use Rattle.run_laws.specs.Live.{live_at}
 use Rattle.run_laws.specs.Routes.{primary_host}
-use Rattle.run_laws.proofs.HostSteps.{next_number}
+use Rattle.run_laws.proofs.TxSteps.{next_number}
 use Rattle.run_laws.proofs.RecordsFade.{HasRecord}
 use Rattle.run_laws.proofs.StepFades.{StepFades}
 use Rattle.run_laws.proofs.TxSignals.{Tells, cover, weight}

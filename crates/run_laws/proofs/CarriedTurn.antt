@@ -34,7 +34,7 @@ use Rattle.run_laws.specs.Completions.{IsCommittedAtAll}
 use Rattle.run_laws.proofs.Ahead as ahead
 use Rattle.run_laws.proofs.Ahead.{FromCommitting, FromCompleting, from_committing, from_completing}
 use Rattle.run_laws.proofs.CarriedOut.{IsAhead, IsAlong, IsDone, IsGoing, IsLiveAhead, IsSpread, TellsOf, along_stays, at_all, committed_stays, done_stays}
-use Rattle.run_laws.proofs.HostSteps.{aside_cover}
+use Rattle.run_laws.proofs.TxSteps.{aside_cover}
 use Rattle.run_laws.proofs.PartSends.{commits_tell, completions_tell, length_middle, part_covers, part_weighs}
 use Rattle.run_laws.proofs.StepFades.{StepFades}
 use Rattle.run_laws.proofs.TxSignals.{cover, cover_weight, covers, is_next, is_part, is_sign, part_cover, part_tells, part_weight, request_part, sign_part, weight}

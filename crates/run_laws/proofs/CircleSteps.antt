@@ -50,7 +50,7 @@ use Rattle.run_laws.proofs.Circles.{IsCircling, IsPristine, pristine_as}
 use Rattle.run_laws.proofs.CircleView.{View}
 use Rattle.run_laws.proofs.GivenUp.{aborts_are_of_given_up, commits_are_of_carried_out, completions_are_of_carried_out}
 use Rattle.run_laws.proofs.HomeSteps.{IsHome, IsUnborn, all_home, away, away_absent, here_now, here_was, unborn_absent}
-use Rattle.run_laws.proofs.HostSteps.{none_of, number_rises, runs_rows}
+use Rattle.run_laws.proofs.TxSteps.{none_of, number_rises, runs_rows}
 use Rattle.run_laws.proofs.KeyMoves.{IsLike, before_here, event_here, expired_as, host_of, others_like, view_before, view_now}
 use Rattle.run_laws.proofs.KeySends.{is_abort, lqh_tokens}
 use Rattle.run_laws.proofs.KeySteps.{asked_going, each-first_by, expired_going, off_going, served_going}

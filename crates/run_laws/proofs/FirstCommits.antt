@@ -51,7 +51,7 @@ use Rattle.run_laws.proofs.CommitBegins as turn
 use Rattle.run_laws.proofs.GivenUp.{none_is_both}
 use Rattle.run_laws.proofs.HomeSteps.{all_home, here_now, here_was, own_home}
 use Rattle.run_laws.proofs.HostAfter.{each_host}
-use Rattle.run_laws.proofs.HostSteps.{TxStep, aside, begins, next_number, number_rises, rows, turns, tx_step}
+use Rattle.run_laws.proofs.TxSteps.{TxStep, aside, begins, next_number, number_rises, rows, turns, tx_step}
 use Rattle.run_laws.proofs.Keyed.{log_keyed}
 use Rattle.run_laws.proofs.LiveOf.{of_each}
 use Rattle.run_laws.proofs.LqhParts.{lqh_silent}

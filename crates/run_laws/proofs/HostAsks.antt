@@ -34,7 +34,7 @@ use Rattle.host_laws.proofs.ApiMoves.{is_api_kind}
 use Rattle.host_laws.specs.Counts.{one_if}
 use Rattle.run_laws.specs.Live.{of_host, of_live}
 use Rattle.run_laws.proofs.HomeSteps.{IsHome, IsUnborn}
-use Rattle.run_laws.proofs.HostSteps.{next_number, number_rises}
+use Rattle.run_laws.proofs.TxSteps.{next_number, number_rises}
 use Rattle.run_laws.proofs.TcAsks.{AreMute, AskTurn, ask, beside_mute, is_ask, is_mute, mute_none, others_mute, turn_asks, unasked_none}
 use Rattle.run_laws.proofs.TcCircle.{GoesOn, turn_going}
 use Rattle.run_laws.proofs.TxTurns.{TcTurn, left_by, tc_turn, turn_for}

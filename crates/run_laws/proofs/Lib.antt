@@ -29,7 +29,6 @@ pub mod HostAfter
 pub mod HostAsks
 pub mod HostFades
 pub mod HostParts
-pub mod HostSteps
 pub mod HostTokens
 pub mod KeyMoves
 pub mod KeySends
@@ -79,6 +78,7 @@ pub mod Transit
 pub mod TransitLists
 pub mod TransitRuns
 pub mod TxSignals
+pub mod TxSteps
 pub mod TxTurns
 pub mod Undecided
 pub mod Unique

@@ -28,7 +28,7 @@ use Rattle.run_laws.specs.Transit.{Comes, IsRun, logs_of}
 use Rattle.serial_laws.specs.Moments.{IsByTurn, decided_at, is_final}
 use Rattle.serial_laws.specs.Owing.{AreOwed}
 use Rattle.serial_laws.proofs.Finals.{IsWriter, carried_at, undecided_at, writer_final}
-use Rattle.serial_laws.proofs.HostSteps.{host_applies}
+use Rattle.serial_laws.proofs.MarksByKey.{host_applies}
 use Rattle.serial_laws.proofs.KeySteps.{IsFairStep, event_of, primary_replica}
 use Rattle.serial_laws.proofs.ReplicaHosts.{primary_is, replica_below}
 use Rattle.serial_laws.proofs.RowApplies.{AppliesIf}

@@ -29,7 +29,7 @@ use Rattle.serial_laws.specs.Moments.{ComesAfter, IsByTurn, decided_at}
 use Rattle.serial_laws.specs.Owing.{AreOwed}
 use Rattle.serial_laws.proofs.FairSteps.{AreWriters}
 use Rattle.serial_laws.proofs.Finals.{IsWriter, carried_at, undecided_at, writer_past}
-use Rattle.serial_laws.proofs.HostSteps.{host_applied}
+use Rattle.serial_laws.proofs.MarksByKey.{host_applied}
 use Rattle.serial_laws.proofs.KeySteps.{event_of, host_other, host_own}
 use Rattle.serial_laws.proofs.ReplicaHosts.{primary_is, replica_runs}
 use Rattle.serial_laws.proofs.NoRecords.{IsOfOthers, one_before}
