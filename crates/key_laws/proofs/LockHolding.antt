@@ -1,5 +1,7 @@
 -- Who holds a lock after a call on it.
 use Rattle.std.proofs.Common.{◌≡◌, ◌⊎◌, ℕ, ◌+◌, Bool, true, false, not, ◌&&◌, ◌||◌, List, [], ◌∷◌, ◌++◌, refl, sym, ap, ◌∙◌, subst, inl, inr}
+use Rattle.std.specs.List.{list_any}
+use Rattle.std.proofs.lemmas.List.Folds.{list_any-append}
 use Rattle.std.proofs.lemmas.Bool.{and_from, and_parts, not-true, or_cases, or_left, or_right}
 use Rattle.sig_core.specs.declared.member.TxId.{TxId}
 use Rattle.sig_core.specs.Same.{same_tx}
@@ -39,41 +41,55 @@ pub enough_self : (m : Mode) → is_enough m m ≡ true
 enough_self Shared = refl
 enough_self Exclusive = refl
 
--- a holder that comes last
-enough_end : (u : TxId) (m : Mode) (hs : List Holder) (h : Holder) → (same_tx h.tx u && is_enough h.mode m) ≡ true → holds_enough u m (hs ++ h ∷ []) ≡ true
-enough_end u m [] h is = or_left _ false is
-enough_end u m (x ∷ hs) h is = or_right (same_tx x.tx u && is_enough x.mode m) (holds_enough u m (hs ++ h ∷ [])) (enough_end u m hs h is)
+-- what holds of one of a list holds of one of a longer list, and of one of those that are left
+module _ {A : Type 0} (p : A → Bool) where
+  pub any_last : (xs : List A) (x : A) → p x ≡ true → list_any p (xs ++ x ∷ []) ≡ true
+  any_last xs x is = list_any-append p xs (x ∷ []) ∙ or_right (list_any p xs) (p x || false) (or_left (p x) false is)
+
+  pub any_longer : (xs : List A) (x : A) → list_any p xs ≡ true → list_any p (xs ++ x ∷ []) ≡ true
+  any_longer xs x is = list_any-append p xs (x ∷ []) ∙ or_left (list_any p xs) (p x || false) is
+
+  pub any_left : (x : A) (xs left : List A) (gone : Bool) → (gone ≡ true → p x ≡ false) → (list_any p xs ≡ true → list_any p left ≡ true)
+      → (p x || list_any p xs) ≡ true → list_any p (unless_gone gone x left) ≡ true
+  any_left x xs left gone apart more is = by gone apart (or_cases (p x) (list_any p xs) is)
+    where
+      by : (gone : Bool) → (gone ≡ true → p x ≡ false) → (p x ≡ true) ⊎ (list_any p xs ≡ true) → list_any p (unless_gone gone x left) ≡ true
+      by true apart (inl one) = absurd (let both : true ≡ false = sym one ∙ apart refl in cc)
+      by true apart (inr rest) = more rest
+      by false apart (inl one) = or_left (p x) (list_any p left) one
+      by false apart (inr rest) = or_right (p x) (list_any p left) (more rest)
+
+-- a claim of one transaction is none of another
+pub apart_claim : (tx u one : TxId) (b : Bool) → same_tx tx u ≡ false → same_tx one tx ≡ true → (same_tx one u && b) ≡ false
+apart_claim tx u one b apart e = ap (λ c. c && b) (ap (λ t. same_tx t u) (same_tx-is one tx e) ∙ apart)
+
+abbrev is_holding : TxId → Mode → Holder → Bool
+is_holding u m h = same_tx h.tx u && is_enough h.mode m
+
+any_holds : (u : TxId) (m : Mode) (hs : List Holder) → holds_enough u m hs ≡ list_any (is_holding u m) hs
+any_holds u m [] = refl
+any_holds u m (h ∷ hs) = ap (λ b. is_holding u m h || b) (any_holds u m hs)
 
 -- a holder among others stays one
-pub enough_others : (tx u : TxId) (m : Mode) (hs : List Holder) → same_tx tx u ≡ false → holds_enough u m hs ≡ true → holds_enough u m (others tx hs) ≡ true
-enough_others tx u m [] apart is = is
-enough_others tx u m (h ∷ hs) apart is =
-    by (same_tx h.tx tx) refl (or_cases (same_tx h.tx u && is_enough h.mode m) (holds_enough u m hs) is) (enough_others tx u m hs apart)
+pub enough_others : (tx u : TxId) (m : Mode) (hs : List Holder) → same_tx tx u ≡ false → holds_enough u m hs ≡ true
+    → holds_enough u m (others tx hs) ≡ true
+enough_others tx u m hs apart is = any_holds u m (others tx hs) ∙ left hs (sym (any_holds u m hs) ∙ is)
   where
-    by : (b : Bool) → same_tx h.tx tx ≡ b → ((same_tx h.tx u && is_enough h.mode m) ≡ true) ⊎ (holds_enough u m hs ≡ true)
-        → (holds_enough u m hs ≡ true → holds_enough u m (others tx hs) ≡ true) → holds_enough u m (unless_gone b h (others tx hs)) ≡ true
-    by true e (inl one) more =
-        let own = and_parts (same_tx h.tx u) (is_enough h.mode m) one in
-        absurd (let both : true ≡ false = sym own.0 ∙ (ap (λ t. same_tx t u) (same_tx-is h.tx tx e) ∙ apart) in cc)
-    by true e (inr rest) more = more rest
-    by false e (inl one) more = or_left (same_tx h.tx u && is_enough h.mode m) (holds_enough u m (others tx hs)) one
-    by false e (inr rest) more = or_right (same_tx h.tx u && is_enough h.mode m) (holds_enough u m (others tx hs)) (more rest)
-
-enough_front : (u : TxId) (m : Mode) (hs : List Holder) (h : Holder) → holds_enough u m hs ≡ true → holds_enough u m (hs ++ h ∷ []) ≡ true
-enough_front u m [] h is = absurd cc
-enough_front u m (x ∷ hs) h is = by (or_cases (same_tx x.tx u && is_enough x.mode m) (holds_enough u m hs) is) (enough_front u m hs h)
-  where
-    by : ((same_tx x.tx u && is_enough x.mode m) ≡ true) ⊎ (holds_enough u m hs ≡ true) → (holds_enough u m hs ≡ true → holds_enough u m (hs ++ h ∷ []) ≡ true)
-        → ((same_tx x.tx u && is_enough x.mode m) || holds_enough u m (hs ++ h ∷ [])) ≡ true
-    by (inl one) more = or_left _ _ one
-    by (inr rest) more = or_right _ _ (more rest)
+    left : (hs : List Holder) → list_any (is_holding u m) hs ≡ true → list_any (is_holding u m) (others tx hs) ≡ true
+    left [] is = is
+    left (h ∷ hs) is =
+        any_left (is_holding u m) h hs (others tx hs) (same_tx h.tx tx) (apart_claim tx u h.tx (is_enough h.mode m) apart) (left hs) is
 
 -- who comes to hold the lock in a mode takes it from nobody else
 enough_hold : (tx u : TxId) (mode m : Mode) (hs : List Holder) → same_tx tx u ≡ false → holds_enough u m hs ≡ true → holds_enough u m (hold tx mode hs) ≡ true
-enough_hold tx u mode m hs apart is = enough_front u m (others tx hs) (holder_of tx mode) (enough_others tx u m hs apart is)
+enough_hold tx u mode m hs apart is =
+    any_holds u m (hold tx mode hs)
+    ∙ any_longer (is_holding u m) (others tx hs) (holder_of tx mode) (sym (any_holds u m (others tx hs)) ∙ enough_others tx u m hs apart is)
 
 pub enough_own : (tx : TxId) (mode m : Mode) (hs : List Holder) → is_enough mode m ≡ true → holds_enough tx m (hold tx mode hs) ≡ true
-enough_own tx mode m hs is = enough_end tx m (others tx hs) (holder_of tx mode) (and_from (same_tx tx tx) (is_enough mode m) (same_tx-self tx) is)
+enough_own tx mode m hs is =
+    any_holds tx m (hold tx mode hs)
+    ∙ any_last (is_holding tx m) (others tx hs) (holder_of tx mode) (and_from (same_tx tx tx) (is_enough mode m) (same_tx-self tx) is)
 
 shared_any : (mode : Mode) → is_enough mode Shared ≡ true
 shared_any Shared = refl

@@ -1,5 +1,5 @@
 -- Who waits for a lock after a call on it.
-use Rattle.std.proofs.Common.{◌≡◌, ◌⊎◌, ℕ, ◌+◌, Bool, true, false, not, ◌&&◌, ◌||◌, List, [], ◌∷◌, ◌++◌, refl, sym, ap, ◌∙◌, subst, inl, inr}
+use Rattle.std.proofs.Common.{◌≡◌, ◌⊎◌, ℕ, ◌+◌, Bool, true, false, not, ◌&&◌, ◌||◌, List, [], ◌∷◌, refl, sym, ap, ◌∙◌, subst, inl, inr}
 use Rattle.std.proofs.lemmas.Bool.{and_from, and_parts, not-true, or_cases, or_left, or_right}
 use Rattle.sig_core.specs.declared.member.TxId.{TxId}
 use Rattle.sig_core.specs.Same.{same_tx}
@@ -7,7 +7,7 @@ use Rattle.row_locks.specs.declared.claim.Holder.{Holder}
 use Rattle.row_locks.specs.declared.claim.Wait.{Wait}
 use Rattle.row_locks.specs.declared.mode.Mode.{Mode}
 use Rattle.row_locks.specs.declared.mode.Mode.TheVariants.{Shared, Exclusive}
-use Rattle.row_locks.specs.Holders.{agrees_with, hold, holds, holds_enough, others, unless_gone}
+use Rattle.row_locks.specs.Holders.{agrees_with, hold, holds, holds_enough, others}
 use Rattle.row_locks.specs.Modes.{is_enough, stronger}
 use Rattle.row_locks.specs.Orderly.{are_waiting_once, none_has_enough}
 use Rattle.row_locks.specs.Queues.{raised, raised_if, wait_of, waits, without, aged_all}
@@ -17,7 +17,7 @@ use Rattle.row_locks.proofs.OrderlyLemmas.{gone-without, waiting-without}
 use Rattle.sig_core.proofs.TxLemmas.{same_tx-is}
 use Rattle.key_laws.specs.LockLaws.{AttendedHold, ExpiriesAttend, QueuedWait, ReleasesAttend, RequestsAttend, RoundsAttend, is_attended, waits_enough}
 use Rattle.sig_core.proofs.Keys.{same_tx-self}
-use Rattle.key_laws.proofs.LockHolding.{asked_keeps, enough_others, enough_own, enough_self, hold_keeps}
+use Rattle.key_laws.proofs.LockHolding.{any_last, any_left, any_longer, apart_claim, asked_keeps, enough_others, enough_own, enough_self, hold_keeps}
 
 stronger_enough : (a b : Mode) → is_enough (stronger a b) b ≡ true
 stronger_enough Exclusive b = refl
@@ -28,32 +28,13 @@ stronger_keeps Exclusive b m is = is
 stronger_keeps Shared Shared m is = is
 stronger_keeps Shared Exclusive m is = refl
 
-waits_end : (u : TxId) (m : Mode) (ws : List Wait) (w : Wait) → (same_tx w.tx u && is_enough w.mode m) ≡ true → waits_enough u m (ws ++ w ∷ []) ≡ true
-waits_end u m [] w is = or_left _ false is
-waits_end u m (x ∷ ws) w is = or_right (same_tx x.tx u && is_enough x.mode m) (waits_enough u m (ws ++ w ∷ [])) (waits_end u m ws w is)
-
-waits_front : (u : TxId) (m : Mode) (ws : List Wait) (w : Wait) → waits_enough u m ws ≡ true → waits_enough u m (ws ++ w ∷ []) ≡ true
-waits_front u m [] w is = absurd cc
-waits_front u m (x ∷ ws) w is = by (or_cases (same_tx x.tx u && is_enough x.mode m) (waits_enough u m ws) is) (waits_front u m ws w)
-  where
-    by : ((same_tx x.tx u && is_enough x.mode m) ≡ true) ⊎ (waits_enough u m ws ≡ true) → (waits_enough u m ws ≡ true → waits_enough u m (ws ++ w ∷ []) ≡ true)
-        → ((same_tx x.tx u && is_enough x.mode m) || waits_enough u m (ws ++ w ∷ [])) ≡ true
-    by (inl one) more = or_left _ _ one
-    by (inr rest) more = or_right _ _ (more rest)
+abbrev is_waiting : TxId → Mode → Wait → Bool
+is_waiting u m w = same_tx w.tx u && is_enough w.mode m
 
 waits_without : (tx u : TxId) (m : Mode) (ws : List Wait) → same_tx tx u ≡ false → waits_enough u m ws ≡ true → waits_enough u m (without tx ws) ≡ true
 waits_without tx u m [] apart is = is
 waits_without tx u m (w ∷ ws) apart is =
-    by (same_tx w.tx tx) refl (or_cases (same_tx w.tx u && is_enough w.mode m) (waits_enough u m ws) is) (waits_without tx u m ws apart)
-  where
-    by : (b : Bool) → same_tx w.tx tx ≡ b → ((same_tx w.tx u && is_enough w.mode m) ≡ true) ⊎ (waits_enough u m ws ≡ true)
-        → (waits_enough u m ws ≡ true → waits_enough u m (without tx ws) ≡ true) → waits_enough u m (unless_gone b w (without tx ws)) ≡ true
-    by true e (inl one) more =
-        let own = and_parts (same_tx w.tx u) (is_enough w.mode m) one in
-        absurd (let both : true ≡ false = sym own.0 ∙ (ap (λ t. same_tx t u) (same_tx-is w.tx tx e) ∙ apart) in cc)
-    by true e (inr rest) more = more rest
-    by false e (inl one) more = or_left (same_tx w.tx u && is_enough w.mode m) (waits_enough u m (without tx ws)) one
-    by false e (inr rest) more = or_right (same_tx w.tx u && is_enough w.mode m) (waits_enough u m (without tx ws)) (more rest)
+    any_left (is_waiting u m) w ws (without tx ws) (same_tx w.tx tx) (apart_claim tx u w.tx (is_enough w.mode m) apart) (waits_without tx u m ws apart) is
 
 waits_raised : (tx u : TxId) (mode m : Mode) (ws : List Wait) → waits_enough u m ws ≡ true → waits_enough u m (raised tx mode ws) ≡ true
 waits_raised tx u mode m [] is = is
@@ -88,8 +69,8 @@ queued_wait lock tx mode orderly = by (holds_enough tx mode lock.holders) (waits
     again true true quiet = or_left _ _ (enough_own tx mode mode lock.holders (enough_self mode))
     again true false quiet = or_right (holds_enough tx mode lock.holders) _ (or_left _ _ (new_waits tx mode))
     again false true true = or_left _ _ (enough_own tx mode mode lock.holders (enough_self mode))
-    again false true false = or_right (holds_enough tx mode lock.holders) _ (waits_end tx mode lock.queue (wait_of tx mode) (new_waits tx mode))
-    again false false quiet = or_right (holds_enough tx mode lock.holders) _ (waits_end tx mode lock.queue (wait_of tx mode) (new_waits tx mode))
+    again false true false = or_right (holds_enough tx mode lock.holders) _ (any_last (is_waiting tx mode) lock.queue (wait_of tx mode) (new_waits tx mode))
+    again false false quiet = or_right (holds_enough tx mode lock.holders) _ (any_last (is_waiting tx mode) lock.queue (wait_of tx mode) (new_waits tx mode))
 
     by : (enough waiting : Bool) → holds_enough tx mode lock.holders ≡ enough → waits tx lock.queue ≡ waiting → is_attended (asked_by enough waiting lock tx mode).lock tx mode ≡ true
     by true waiting e w = or_left _ _ e
@@ -103,8 +84,8 @@ requests_attend lock tx mode v other orderly is = by (or_cases (holds_enough v o
     again true true quiet w = w
     again true false quiet w = or_right _ _ w
     again false true true w = w
-    again false true false w = waits_front v other lock.queue (wait_of tx mode) w
-    again false false quiet w = waits_front v other lock.queue (wait_of tx mode) w
+    again false true false w = any_longer (is_waiting v other) lock.queue (wait_of tx mode) w
+    again false false quiet w = any_longer (is_waiting v other) lock.queue (wait_of tx mode) w
 
     stays : (enough waiting : Bool) → waits_enough v other lock.queue ≡ true → waits_enough v other (asked_by enough waiting lock tx mode).lock.queue ≡ true
     stays true waiting w = w

@@ -1,17 +1,15 @@
 -- The locks of a replica, key by key.
-use Rattle.std.proofs.Common.{◌≡◌, ℕ, Bool, true, false, cond, ◌&&◌, List, [], ◌∷◌, map, refl, sym, ap, ◌∙◌}
+use Rattle.std.proofs.Common.{◌≡◌, ℕ, Bool, true, false, cond, ◌&&◌, List, [], ◌∷◌, refl, ap, ◌∙◌}
 use Rattle.std.specs.Prelude.{if◌then◌else◌, Option, None, Some, option_map}
-use Rattle.std.specs.BTreeMap.{is_at}
 use Rattle.std.specs.Cmp.Lexicographic.{nat_list_cmp_total}
 use Rattle.std.specs.FinMap as finite
-use Rattle.std.proofs.lemmas.Map.Made.{lookup-map_values}
 use Rattle.sig_core.specs.Same.{same_key}
 use Rattle.row_locks.specs.declared.claim.Holder.{Holder}
 use Rattle.row_locks.specs.declared.claim.Wait.{Wait}
-use Rattle.row_locks.specs.Rounds.{map_locks, round_later}
+use Rattle.row_locks.specs.Rounds.{round_later}
 use Rattle.row_locks.specs.Rows.{RowLock, grown_old, is_quiet, unlocked}
 use Rattle.row_locks.specs.Tables.{Locks, is_free, is_idle, kept, kept_if, lock_at, or_unlocked}
-use Rattle.row_locks.proofs.LocksLemmas.{find-lookup, get-locks, key_cmp}
+use Rattle.row_locks.proofs.TableLawLemmas.{get-map_locks}
 use Rattle.sig_core.proofs.Keys.{same_key-swap, tied-same_key}
 
 -- one lock has come to be another
@@ -41,11 +39,6 @@ lock-kept locks key q lock = by (is_idle lock) refl
         ap or_unlocked (finite.get-remove nat_list_cmp_total locks key q ∙ ap (λ b. cond b None (finite.get locks q)) (tied-same_key q key ∙ same_key-swap q key))
         ∙ gone (same_key key q) idle
     by false idle = lock-inserted locks key q lock
-
-get-map_locks : (g : RowLock → RowLock) (m : Locks) (q : List ℕ) → finite.get (map_locks g m) q ≡ option_map g (finite.get m q)
-get-map_locks g m q =
-    get-locks (map (λ e. (e.0, g e.1)) (finite.entries m)) q ∙ lookup-map_values g (is_at (key_cmp q)) (finite.entries m)
-    ∙ ap (option_map g) (sym (finite.get-entries m q ∙ find-lookup key_cmp q (finite.entries m)))
 
 -- a round later
 pub lock-aged : (locks : Locks) (q : List ℕ) → lock_at (round_later locks) q ≡ grown_old (lock_at locks q)

@@ -32,8 +32,8 @@ use Rattle.tc_block.specs.Touched.{fits}
 use Rattle.tc_block.specs.Turn.{Turn, at_phase, going}
 use Rattle.run_theory.proofs.EachSent.{each_mapped}
 use Rattle.tc_block.specs.Phases.{is_decided}
-use Rattle.run_laws.proofs.TcOwn.{turn_for}
-use Rattle.run_laws.proofs.TxTurns.{AreSilent}
+use Rattle.run_laws.proofs.TcOwn.{AreSilent}
+use Rattle.run_laws.proofs.TxTurns.{turn_for}
 use Rattle.run_laws.proofs.TxSignals.{is_next, is_part, is_sign}
 
 -- a turn of a transaction that commits, and awaits so many

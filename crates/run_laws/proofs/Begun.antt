@@ -1,42 +1,33 @@
 -- What a coordinator tells of a transaction: that it has begun, once, and before that it has ended.
 use Rattle.std.proofs.Common.{◌≡◌, ◌≢◌, ◌⊎◌, ℕ, ◌+◌, ◌<◌, ◌≤◌, List, [], ◌∷◌, ◌++◌, Bool, true, false, refl, ap, sym, ◌∙◌, subst, arith, inl, inr}
-use Rattle.std.specs.Prelude.{◌==◌, ◌&&◌, Some, if◌then◌else◌}
-use Rattle.std.proofs.lemmas.Bool.{cases_eq, cases_lt}
-use Rattle.std.proofs.lemmas.Bool.Decides.{nat_tests}
+use Rattle.std.specs.Prelude.{◌==◌, ◌&&◌, if◌then◌else◌}
+use Rattle.std.proofs.lemmas.Bool.{cases_lt}
 use Rattle.run_theory.proofs.Pasts.{each_map}
-use Rattle.run_theory.specs.Links.{is_from, put, sent, taken}
-use Rattle.run_theory.specs.Lists.{Each, IsIn, IsPast}
+use Rattle.run_theory.specs.Links.{put, sent, taken}
+use Rattle.run_theory.specs.Lists.{IsPast}
 use Rattle.sig_core.specs.declared.member.TxId.{TxId}
 use Rattle.sig_core.specs.declared.outs.Outgoing.{Outgoing}
-use Rattle.sig_core.specs.declared.place.Place.{Place}
 use Rattle.sig_core.specs.declared.signal.Body.{Body}
 use Rattle.sig_core.specs.declared.signal.Body.TheVariants.{Client}
 use Rattle.sig_core.specs.declared.signal.client.ClientSignal.TheVariants.{TcBeginConf, TcCommitConf, TcRollbackRep}
-use Rattle.api_block.specs.declared.opened.OpenTransaction.{OpenTransaction}
-use Rattle.api_block.specs.Opened.{has_tx, is_tx}
 use Rattle.node_core.specs.declared.host.Host as host
 use Rattle.node_core.specs.Blocks.{tc_of}
 use Rattle.node_core.specs.Requests.{is_request}
 use Rattle.node_core.specs.Row.{row}
-use Rattle.tc_block.specs.declared.transaction.Transaction.{Transaction}
 use Rattle.world_core.specs.Hosts.{first_membership, home, host_for, hosts}
 use Rattle.world_core.specs.Machine.{addressed, after, all_addressed, counted as one_counted, machine, sent_count, step_after}
 use Rattle.world_core.specs.Start.{Start}
 use Rattle.world_core.specs.Steps.{Addressed, HostStep}
-use Rattle.sig_core.proofs.Keys.{same_tx-self}
-use Rattle.host_laws.proofs.LqhOps.{right_of, left_of}
-use Rattle.run_laws.proofs.AlongSteps.{few_taken, link, none_else, none_kept}
-use Rattle.host_laws.proofs.ApiHolds.{AreHeld, IsOrdered, log_holds}
+use Rattle.host_laws.proofs.LqhOps.{right_of}
+use Rattle.run_laws.proofs.AlongSteps.{none_kept}
 use Rattle.host_laws.proofs.ShellHost.{TellsHome, told}
 use Rattle.host_laws.proofs.BlocksAlong.{first_live}
-use Rattle.host_laws.proofs.LinkCounts.{all_three, sent_to_shell, shell_signals, signals, steps, steps_from, taken_signals, taken_steps, to_host}
-use Rattle.host_laws.proofs.Tally.{Counted, counted, tally_in, tally_none}
-use Rattle.host_laws.specs.Counts.{one_if, tally}
-use Rattle.host_laws.proofs.TcLives.{IsKept, due_move, is_over, is_keyed, is_start, kept_move, start_of, starts_in}
+use Rattle.host_laws.proofs.LinkCounts.{sent_to_shell, shell_signals, signals, to_host}
+use Rattle.host_laws.proofs.Tally.{tally_none}
+use Rattle.host_laws.specs.Counts.{one_if}
+use Rattle.host_laws.proofs.TcLives.{IsKept, due_move, is_start, kept_move, start_of, starts_in}
 use Rattle.host_laws.proofs.TcMoves.{TcMove, end_of, host_moves, is_end, same_tx-is}
 use Rattle.host_laws.proofs.Wishes.{is_api, sends_of}
-use Rattle.host_laws.specs.OpenedAfter.{opened_after, opened_in}
-use Rattle.tc_block.specs.Phases.{is_completing}
 
 -- in a list of signals, the newest first, what has ended has begun before
 abbrev pub AreOrdered : TxId → List Addressed → Type 0
@@ -49,10 +40,6 @@ ordered_behind tx (x ∷ xs) ys h = ordered_behind tx xs ys h.1
 
 pub ordered_past : (tx : TxId) (xs ys : List Addressed) → IsPast xs ys → AreOrdered tx ys → AreOrdered tx xs
 ordered_past tx xs ys past h = ordered_behind tx past.newer xs (subst (AreOrdered tx) past.is h)
-
-ordered_none : (tx : TxId) (xs : List Addressed) → signals (is_end tx) xs ≡ 0 → AreOrdered tx xs
-ordered_none tx [] none = tt
-ordered_none tx (x ∷ xs) none = (λ e. absurd (omega (arith, none, ap one_if e)), ordered_none tx xs (omega (arith, none)))
 
 pub plain_start : (tx : TxId) (body : Body) → start_of tx body ≡ true → is_request body ≡ false
 plain_start tx (Client (TcBeginConf name other)) e = refl

@@ -1,9 +1,8 @@
 -- A transaction that is carried out stays so in each step of a run.
-use Rattle.std.proofs.Common.{◌≡◌, ◌≢◌, ◌⊎◌, ◌≤◌, ◌<◌, ◌+◌, ◌-◌, ℕ, Bool, true, false, length, List, [], ◌∷◌, refl, sym, ap, ◌∙◌, subst, arith, inl, inr}
+use Rattle.std.proofs.Common.{◌≡◌, ◌≢◌, ◌⊎◌, ◌≤◌, ◌<◌, ◌+◌, ◌-◌, ℕ, Bool, true, false, length, List, ◌∷◌, refl, sym, ap, ◌∙◌, subst, arith, inl, inr}
 use Rattle.std.specs.Prelude.{◌==◌, ◌&&◌, Option, None, Some}
 use Rattle.std.proofs.lemmas.Bool.{cases_eq, cases_lt, eqb-true}
 use Rattle.std.proofs.lemmas.Bool.Decides.{nat_tests}
-use Rattle.std.proofs.lemmas.List.{append-nil}
 use Rattle.lqh_block.proofs.IndexLemmas as keys
 use Rattle.run_theory.specs.Lists.{Each}
 use Rattle.run_theory.proofs.Pasts.{each_map}
@@ -23,9 +22,7 @@ use Rattle.sig_core.specs.Step.{Effects}
 use Rattle.lqh_block.specs.Lqh.{lqh_table}
 use Rattle.lqh_block.specs.State.{LqhState}
 use Rattle.tc_block.specs.declared.transaction.Transaction.{Transaction}
-use Rattle.tc_block.specs.Operate.{fresh}
 use Rattle.tc_block.specs.State.{TcState}
-use Rattle.tc_block.specs.Tc.{begun, next_tx}
 use Rattle.node_core.proofs.HostCases.{IsRowsStep}
 use Rattle.node_core.specs.Blocks.{has_lqh, lqh_of, tc_of}
 use Rattle.node_core.specs.declared.host.Host.{Host}
@@ -37,11 +34,10 @@ use Rattle.world_core.specs.Machine.{after, signals_of, step_after}
 use Rattle.world_core.specs.Start.{Start}
 use Rattle.key_laws.specs.Primary.{HasPrepared}
 use Rattle.host_laws.proofs.LqhOps.{is_lqh}
-use Rattle.host_laws.proofs.TcLives.{IsOwn, insert_new}
+use Rattle.host_laws.proofs.TcLives.{IsOwn}
 use Rattle.host_laws.proofs.TcMoves.{same_tx-is}
 use Rattle.host_laws.proofs.Wishes.{is_tc}
 use Rattle.sig_core.proofs.Keys.{same_key-self}
-use Rattle.host_laws.proofs.TcWays.{not_both}
 use Rattle.run_laws.specs.Circle.{at_host}
 use Rattle.run_laws.specs.Completions.{IsCommittedAtAll}
 use Rattle.run_laws.specs.GivenUp.{is_carried_out, is_given_up}
@@ -54,27 +50,16 @@ use Rattle.run_laws.proofs.CarriedOut.{IsAhead, IsCarried, IsDone, IsLiveAhead, 
 use Rattle.run_laws.proofs.CarriedTurn.{TurnLeaves, ahead_stays, parts_tell, silent_parts, silent_stays, turn_leaves}
 use Rattle.run_laws.proofs.GivenUp.{aborts_are_of_given_up, none_is_both}
 use Rattle.run_laws.proofs.HomeSteps.{IsHome, all_home, away, here_now, here_was, own_home}
-use Rattle.run_laws.proofs.HostSteps.{IsMissed, TxStep, aside, aside_cover, away_cover, begins, next_number, number_rises, rows, rows_cover, turns, tx_step}
+use Rattle.run_laws.proofs.TxSteps.{IsMissed, TxStep, aside, aside_cover, away_cover, begins, next_number, number_rises, rows, rows_cover, turns, tx_step}
 use Rattle.run_laws.proofs.LiveOf.{of_each}
-use Rattle.run_laws.proofs.OfLive.{of_other}
 use Rattle.run_laws.proofs.LqhParts.{IsLast, lqh_covers, lqh_tells, lqh_weighs}
 use Rattle.run_laws.proofs.RoutedEvents.{coming_are_routed, commits_end_at_primary}
 use Rattle.run_laws.proofs.RoutesChain.{primary_first, primary_length, replicas_are_nodes, replicas_some}
 use Rattle.run_laws.proofs.StepFades.{EndsAtPrimary, NoAbort, StepFades, step_fades}
-use Rattle.run_laws.proofs.TcOwn.{turn_for}
-use Rattle.run_laws.proofs.TxSignals.{cover, is_next, part_tells, request_part, weight}
-use Rattle.run_laws.proofs.TxTurns.{AreSilent}
+use Rattle.run_laws.proofs.TxSignals.{cover, part_tells, request_part, weight}
+use Rattle.run_laws.proofs.TcOwn.{AreSilent}
+use Rattle.run_laws.proofs.TxTurns.{turn_for}
 use Rattle.run_laws.proofs.Weighing.{each_between, each_joins, each_taken, in_sends, in_transit, joins_weigh, takes_weigh}
-
--- one that is older isn't the one that begins
-begun_older : (tx : TxId) (s : TcState) → Each (λ (e : TxId × Transaction). IsOwn s.node s.next_seq e.0) s.live → tx.seq < s.next_seq → of_live tx (begun s).live ≡ of_live tx s.live
-begun_older tx s own older =
-    ap (of_live tx) (insert_new s.live (next_tx s) fresh (each_map (λ (x : TxId × Transaction). IsOwn s.node s.next_seq x.0) (λ (x : TxId × Transaction). x.0.seq < s.next_seq) s.live (λ x o. o.early) own))
-    ∙ of_other s.live [] (next_tx s) tx fresh (by (same_tx (next_tx s) tx) refl) ∙ ap (of_live tx) (append-nil s.live)
-  where
-    by : (b : Bool) → same_tx (next_tx s) tx ≡ b → same_tx (next_tx s) tx ≡ false
-    by true e = absurd (omega (arith, older, ap (λ (t : TxId). t.seq) (same_tx-is (next_tx s) tx e)))
-    by false e = e
 
 module _ (start : Start) (es : List HostStep) (e : HostStep) (come : Comes start es e) where
   -- a commit that comes is at the place of its chain that it is for, and that host runs rows
@@ -323,19 +308,9 @@ module _ (start : Start) (es : List HostStep) (e : HostStep) (come : Comes start
           by (inl own) =
               quiet_now silent (live_now own ∙ (same ∙ sym (live_was own)))
               (λ t there key i. missed_cover missed (λ off k p. aside_cover tx k p e.step.taken.to e.step.taken.body off (λ next tc. some_none t (of_host tx g) (sym (live_was own) ∙ there) (missed.next next tc))) key i)
-      next_now (begins step left silent not_next) = by (cases_eq h at_home)
-        where
-          off : is_lqh e.step.taken.to.block ≡ false
-          off = ap is_lqh step.at
-
-          older : h ≡ at_home → tx.seq < next_number g
-          older own = subst (λ x. tx.seq < next_number x) (here_was start es e come tx own) c.old
-
-          by : (h ≡ at_home) ⊎ (h ≢ at_home) → IsCarried start (logs_of start (e ∷ es)) later tx
-          by (inr differs) = quiet_now silent (live_far differs) (λ t there key i. away_cover tx key i e.step.taken.to e.step.taken.body off (far_test differs))
-          by (inl own) =
-              quiet_now silent (live_now own ∙ (left ∙ (begun_older tx (tc_of g) facts.own (older own) ∙ sym (live_was own))))
-              (λ t there key i. aside_cover tx key i e.step.taken.to e.step.taken.body off (λ next tc. not_both (is_next tx e.step.taken.body) next not_next))
+      next_now (begins step is silent) =
+          let own = own_home start es e come tx step.runs (sym (ap (λ (v : TxId). v.tc) is)) in
+          absurd (omega (arith, subst (λ x. tx.seq < next_number x) (here_was start es e come tx own) c.old, ap (λ (v : TxId). v.seq) is))
       next_now (turns t step was own_body sent left) = carried_now leaves.told (subst (IsLiveAhead start (logs_of start (e ∷ es)) later tx) (sym (live_now own ∙ left)) leaves.live)
         where
           node_is : tx.tc ≡ (tc_of g).node
@@ -351,4 +326,4 @@ module _ (start : Start) (es : List HostStep) (e : HostStep) (come : Comes start
           leaves = turn_leaves start (logs_of start es) (logs_of start (e ∷ es)) e before between later sends tx fades out into (tc_of g).node (tc_of g).layout t (sym node_is) step.at own_body ahead sent
 
       pub carried_next : IsCarried start (logs_of start (e ∷ es)) later tx
-      carried_next = next_now (tx_step tx g e.step.taken facts.once)
+      carried_next = next_now (tx_step tx g e.step.taken facts)

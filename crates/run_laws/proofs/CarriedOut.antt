@@ -24,7 +24,7 @@ use Rattle.run_laws.specs.Circle.{at_host}
 use Rattle.run_laws.specs.Completions.{IsCommittedAtAll}
 use Rattle.run_laws.specs.Live.{live_at}
 use Rattle.run_laws.specs.Routes.{primary_host}
-use Rattle.run_laws.proofs.HostSteps.{next_number}
+use Rattle.run_laws.proofs.TxSteps.{next_number}
 use Rattle.run_laws.proofs.RecordsFade.{HasRecord}
 use Rattle.run_laws.proofs.StepFades.{StepFades}
 use Rattle.run_laws.proofs.TxSignals.{Tells, cover, weight}
@@ -81,11 +81,13 @@ pub record IsCarried (start : Start) (logs : ℕ → List HostStep) (xs : List A
   pub told : Each (λ (x : Addressed). TellsOf start logs tx x.signal.body) xs
   pub live : IsLiveAhead start logs xs tx (live_at start logs tx)
 
-pub tells_too : (tx : TxId) (C C2 : List ℕ → List Member → ℕ → Type 0) (D D2 : List ℕ → Type 0) → ((key : List ℕ) (chain : List Member) (at : ℕ) → C key chain at → C2 key chain at)
-    → ((key : List ℕ) → D key → D2 key) → (body : Body) → Tells tx C D body → Tells tx C2 D2 body
-tells_too tx C C2 D D2 c d (Chain (Commit other key epoch chain at)) tells = λ e. c key chain at (tells e)
-tells_too tx C C2 D D2 c d (Chain (Complete other key chain at)) tells = λ e. d key (tells e)
-tells_too tx C C2 D D2 c d _ tells = tt
+-- it tells that still, where its parts do
+pub tells_too : (tx : TxId) (Spread SpreadNow : List ℕ → List Member → ℕ → Type 0) (AtAll AtAllNow : List ℕ → Type 0)
+    → ((key : List ℕ) (chain : List Member) (at : ℕ) → Spread key chain at → SpreadNow key chain at)
+    → ((key : List ℕ) → AtAll key → AtAllNow key) → (body : Body) → Tells tx Spread AtAll body → Tells tx SpreadNow AtAllNow body
+tells_too tx Spread SpreadNow AtAll AtAllNow spread everywhere (Chain (Commit other key epoch chain at)) tells = λ e. spread key chain at (tells e)
+tells_too tx Spread SpreadNow AtAll AtAllNow spread everywhere (Chain (Complete other key chain at)) tells = λ e. everywhere key (tells e)
+tells_too tx Spread SpreadNow AtAll AtAllNow spread everywhere _ tells = tt
 
 -- a key that is done and marked is committed
 pub at_all : (start : Start) (logs : ℕ → List HostStep) (tx : TxId) (key : List ℕ) → IsMarked start logs tx key → IsDone start logs tx key → IsCommittedAtAll start logs tx key

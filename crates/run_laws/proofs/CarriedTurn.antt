@@ -29,18 +29,17 @@ use Rattle.node_core.specs.Requests.{is_request}
 use Rattle.world_core.specs.Start.{Start}
 use Rattle.host_laws.proofs.LqhOps.{is_lqh}
 use Rattle.host_laws.specs.Counts.{one_if}
-use Rattle.host_laws.proofs.TcSends.{tx_in}
 use Rattle.host_laws.proofs.Wishes.{is_tc}
 use Rattle.run_laws.specs.Completions.{IsCommittedAtAll}
 use Rattle.run_laws.proofs.Ahead as ahead
 use Rattle.run_laws.proofs.Ahead.{FromCommitting, FromCompleting, from_committing, from_completing}
 use Rattle.run_laws.proofs.CarriedOut.{IsAhead, IsAlong, IsDone, IsGoing, IsLiveAhead, IsSpread, TellsOf, along_stays, at_all, committed_stays, done_stays}
-use Rattle.run_laws.proofs.HostSteps.{aside_cover}
+use Rattle.run_laws.proofs.TxSteps.{aside_cover}
 use Rattle.run_laws.proofs.PartSends.{commits_tell, completions_tell, length_middle, part_covers, part_weighs}
 use Rattle.run_laws.proofs.StepFades.{StepFades}
-use Rattle.run_laws.proofs.TcOwn.{turn_for}
 use Rattle.run_laws.proofs.TxSignals.{cover, cover_weight, covers, is_next, is_part, is_sign, part_cover, part_tells, part_weight, request_part, sign_part, weight}
-use Rattle.run_laws.proofs.TxTurns.{AreSilent, left_by}
+use Rattle.run_laws.proofs.TcOwn.{AreSilent}
+use Rattle.run_laws.proofs.TxTurns.{is_for, left_by, turn_for}
 use Rattle.run_laws.proofs.Weighing.{in_sends, in_transit, weigh_less, weigh_none}
 
 -- what holds at each place of a list holds of each of it
@@ -136,7 +135,7 @@ module _ (start : Start) (logs now : ℕ → List HostStep) (e : HostStep) (befo
       subst (λ b. IsLiveAhead start now after tx (if b then None else Some turn.step.state)) (sym over)
       (subst (λ (v : Transaction). IsAhead start now after tx v.touched v.phase) (sym is) g)
 
-  module _ (node : ℕ) (layout : Layout) (t : Transaction) (home : node ≡ tx.tc) (at_tc : e.step.taken.to.block ≡ block.Tc) (own : same_tx (tx_in e.step.taken.body) tx ≡ true) where
+  module _ (node : ℕ) (layout : Layout) (t : Transaction) (home : node ≡ tx.tc) (at_tc : e.step.taken.to.block ≡ block.Tc) (own : is_for tx e.step.taken.body ≡ true) where
     off_rows : is_lqh e.step.taken.to.block ≡ false
     off_rows = ap is_lqh at_tc
 
@@ -144,10 +143,10 @@ module _ (start : Start) (logs now : ℕ → List HostStep) (e : HostStep) (befo
     next_none none key i = aside_cover tx key i e.step.taken.to e.step.taken.body off_rows (λ next tc. let both : true ≡ false = sym next ∙ none in absurd cc)
 
     own_cont : (one : TxId) (at : ℕ) → e.step.taken.body ≡ Host (Continue (work.Transaction one) at) → same_tx one tx ≡ true
-    own_cont one at is = ap (λ b. same_tx (tx_in b) tx) (sym is) ∙ own
+    own_cont one at is = ap (λ b. is_for tx b) (sym is) ∙ own
 
     own_answer : (one : TxId) (key : List ℕ) → e.step.taken.body ≡ Chain (Committed one key) → same_tx one tx ≡ true
-    own_answer one key is = ap (λ b. same_tx (tx_in b) tx) (sym is) ∙ own
+    own_answer one key is = ap (λ b. is_for tx b) (sym is) ∙ own
 
     module _ (turn : Turn) (sent : sends ≡ turn.step.effects.sends) where
       sent_silent : AreSilent tx turn.step.effects.sends → AreSilent tx sends

@@ -26,7 +26,7 @@ use Rattle.run_laws.proofs.CommitBegins.{Aborts, is_back}
 use Rattle.run_laws.proofs.StepFades.{now_other, now_own}
 use Rattle.run_laws.proofs.TcSaid.{TcSays, rests, takes, tc_says}
 use Rattle.run_laws.proofs.TxSignals.{is_commit, is_sign}
-use Rattle.run_laws.proofs.TxTurns.{AreSilent}
+use Rattle.run_laws.proofs.TcOwn.{AreSilent}
 
 module _ (tx : TxId) where
   -- what says nothing of the transaction takes it nowhere

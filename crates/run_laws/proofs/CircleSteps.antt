@@ -50,7 +50,7 @@ use Rattle.run_laws.proofs.Circles.{IsCircling, IsPristine, pristine_as}
 use Rattle.run_laws.proofs.CircleView.{View}
 use Rattle.run_laws.proofs.GivenUp.{aborts_are_of_given_up, commits_are_of_carried_out, completions_are_of_carried_out}
 use Rattle.run_laws.proofs.HomeSteps.{IsHome, IsUnborn, all_home, away, away_absent, here_now, here_was, unborn_absent}
-use Rattle.run_laws.proofs.HostSteps.{none_of, runs_rows}
+use Rattle.run_laws.proofs.TxSteps.{none_of, number_rises, runs_rows}
 use Rattle.run_laws.proofs.KeyMoves.{IsLike, before_here, event_here, expired_as, host_of, others_like, view_before, view_now}
 use Rattle.run_laws.proofs.KeySends.{is_abort, lqh_tokens}
 use Rattle.run_laws.proofs.KeySteps.{asked_going, each-first_by, expired_going, off_going, served_going}
@@ -62,12 +62,12 @@ use Rattle.run_laws.proofs.RoutedEvents.{coming_are_routed, placed, placed_runs}
 use Rattle.run_laws.proofs.Routes.{signals_are_routed}
 use Rattle.run_laws.proofs.RowsEvents.{event_missed, event_off, event_rows}
 use Rattle.run_laws.proofs.RowsNodes.{rows_node}
-use Rattle.run_laws.proofs.TcCircle.{Going, is_early}
+use Rattle.run_laws.proofs.TcCircle.{Going, is_early, turn_going}
 use Rattle.run_laws.proofs.TcGoing.{begin_goes, rest_goes, row_goes}
-use Rattle.run_laws.proofs.TcSees.{Seen, Sees, no_tokens, tc_sees}
-use Rattle.run_laws.proofs.TcSees as sees
-use Rattle.run_laws.proofs.TcStill.{AreStill, api_still, dih_still}
-use Rattle.run_laws.proofs.TransitLists.{counts}
+use Rattle.run_laws.proofs.TcStill.{AreStill, api_still, beside_still, dih_still, others_still}
+use Rattle.run_laws.proofs.TxTurns.{TcTurn, is_for, tc_turn}
+use Rattle.run_laws.proofs.TxTurns as turn
+use Rattle.run_laws.proofs.TransitLists.{counts, none_out, token_for}
 use Rattle.run_laws.proofs.Weighing.{each_taken}
 
 each_filter : {A : Type 0} (P : A → Type 0) (p : A → Bool) (xs : List A) → Each P xs → Each P (filter p xs)
@@ -179,7 +179,7 @@ module _ (start : Start) (es : List HostStep) (e : HostStep) (tx : TxId) (key : 
   bystander_circles by event_is deaf = record {
     pristine = λ unborn. pristine_as v w (quiet event_is).likewise (circling.pristine (unborn_same by.unborn unborn));
     going = λ t live early. rests_now t (going_now t (live_same by.live) live early) (quiet event_is)
-        (deaf t (sym (live_same by.live) ∙ live)) (no_tokens tx key sends by.sends);
+        (deaf t (sym (live_same by.live) ∙ live)) (none_out tx key sends by.sends);
   }
 
   -- the request that is taken is routed
@@ -243,8 +243,10 @@ module _ (start : Start) (es : List HostStep) (e : HostStep) (tx : TxId) (key : 
     known : IsHome tx s
     known = all_home start tx n (logs_of start es n)
 
-    seen : Sees tx key s.node s x.body then
-    seen = tc_sees tx key s.node s known.own known.once x.body
+    seen : TcTurn (λ (o : Outgoing). is_token tx o.body ≡ false) tx s x.body then
+    seen =
+        tc_turn (λ (o : Outgoing). is_token tx o.body ≡ false) tx s (beside_still tx s) known.own known.once x.body
+        (others_still tx s x.body)
 
     sends_are : sends ≡ then.effects.sends
     sends_are = ap (λ (f : Effects). f.sends) step.effects
@@ -262,7 +264,7 @@ module _ (start : Start) (es : List HostStep) (e : HostStep) (tx : TxId) (key : 
 
     unborn_before : IsUnborn tx (host_after start (e ∷ es) own_home) → IsUnborn tx (host_after start es own_home)
     unborn_before =
-        unborn_same (λ unborn. omega (arith, unborn, seen.grows, ap (λ (c : TcState). c.next_seq) step.state))
+        unborn_same (λ unborn. omega (arith, unborn, number_rises here x))
 
     -- of another node
     away_circles : n ≢ own_home → Now
@@ -271,16 +273,16 @@ module _ (start : Start) (es : List HostStep) (e : HostStep) (tx : TxId) (key : 
       going = λ t live early.
           rests_now t (going_now t (ap (of_host tx) (away start es e come tx apart)) live early) like
           (deaf (token_of tx key x.to x.body) refl)
-          (ap (tokens_of tx key) sends_are ∙ none seen.seen);
+          (ap (tokens_of tx key) sends_are ∙ none seen);
     }
       where
         absent : of_live tx s.live ≡ None
         absent = away_absent start tx n (logs_of start es n) (comes_below start es e come) apart
 
-        none : Seen tx key s.node s x.body then.state then.effects.sends → tokens_of tx key then.effects.sends ≡ []
-        none (sees.same live_is sent deaf) = sent
-        none (sees.turned t turn was later sends_is goes) = absurd (let both : None ≡ Some t = sym absent ∙ was in cc)
-        none (sees.begun next_is later sent) = sent
+        none : TcTurn (λ (o : Outgoing). is_token tx o.body ≡ false) tx s x.body then → tokens_of tx key then.effects.sends ≡ []
+        none (turn.idle live_is still deaf) = none_out tx key then.effects.sends still
+        none (turn.turns t was its sends_is later) = absurd (let both : None ≡ Some t = sym absent ∙ was in cc)
+        none (turn.begins next_is later still _) = none_out tx key then.effects.sends still
 
         deaf : (o : Option Token) → token_of tx key x.to x.body ≡ o → o ≡ None
         deaf None token_is = refl
@@ -294,7 +296,7 @@ module _ (start : Start) (es : List HostStep) (e : HostStep) (tx : TxId) (key : 
     home_circles : n ≡ own_home → Now
     home_circles at = record {
       pristine = λ unborn. pristine_as v w like.likewise (circling.pristine (unborn_before unborn));
-      going = λ t live early. by t live early seen.seen;
+      going = λ t live early. by t live early seen;
     }
       where
         own_node : tx.tc ≡ s.node
@@ -310,18 +312,22 @@ module _ (start : Start) (es : List HostStep) (e : HostStep) (tx : TxId) (key : 
         live_now = ap (of_host tx) (here_now start es e come tx at) ∙ ap (λ (c : TcState). of_live tx c.live) step.state
 
         by : (u : Transaction) → live_at start (logs_of start (e ∷ es)) tx ≡ Some u → is_early u.phase ≡ true
-            → Seen tx key s.node s x.body then.state then.effects.sends → IsGoing start tx key w u (joined sent between)
-        by u live early (sees.same live_is none deaf) =
+            → TcTurn (λ (o : Outgoing). is_token tx o.body ≡ false) tx s x.body then → IsGoing start tx key w u (joined sent between)
+        by u live early (turn.idle live_is still deaf) =
             let was : of_live tx s.live ≡ Some u = sym live_is ∙ (sym live_now ∙ live) in
             rest_goes start es e tx key come before between transit takes to_home like u
-            (circling.going u (live_was ∙ was) early) (ap (tokens_of tx key) sends_are ∙ none)
-            (inl (ap (λ to. token_of tx key to x.body) to_is ∙ deaf u was))
-        by u live early (sees.turned t turn was later sends_is goes) =
+            (circling.going u (live_was ∙ was) early) (ap (tokens_of tx key) sends_are ∙ none_out tx key then.effects.sends still)
+            (inl (ap (λ to. token_of tx key to x.body) to_is ∙ token_for tx key s.node x.body (others (is_for tx x.body) refl was)))
+          where
+            others : (b : Bool) → is_for tx x.body ≡ b → of_live tx s.live ≡ Some u → is_for tx x.body ≡ false
+            others true its was = absurd (let both : None ≡ Some u = sym (deaf its) ∙ was in cc)
+            others false its was = its
+        by u live early (turn.turns t was its sends_is later) =
             row_goes start es e tx key come before between transit takes to_home like t u (live_was ∙ was) live early
             (λ still. circling.going t (live_was ∙ was) still)
             (subst (Going tx x.body t u) (sym (sends_are ∙ sends_is))
-            (goes u (sym later ∙ (sym live_now ∙ live)) early))
-        by u live early (sees.begun next_is later none) =
+            ((turn_going tx t s.node s.layout x.body its).goes u (sym later ∙ (sym live_now ∙ live)) early))
+        by u live early (turn.begins next_is later still _) =
             begin_goes start es e tx key come before between transit takes to_home like u live early
             (some fresh u (sym later ∙ (sym live_now ∙ live)))
             (circling.pristine (subst (IsUnborn tx) (sym (here_was start es e come tx at)) first_number))

@@ -46,9 +46,6 @@ both_have : (image : Option (List ℕ)) (a b : Option PendingRecord) → HasIt i
 both_have image a b has other =
     subst₂ Agree (sym has.there) (sym other.there) (has.image_is ∙ sym other.image_is, (has.alive, other.alive))
 
-abbrev is_write : Op × Answer → Bool
-is_write op = is_done op.1
-
 module _ (start : Start) (key : List ℕ) where
   -- the key is settled for these operations
   pub record Settles (v : View) (ops : List (Op × Answer)) : Type 0 where

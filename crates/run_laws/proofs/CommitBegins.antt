@@ -33,10 +33,9 @@ use Rattle.tc_block.specs.Turn.{Turn, asking, at_phase, going}
 use Rattle.run_theory.proofs.EachSent.{each_flat, each_mapped}
 use Rattle.host_laws.proofs.TcWays.{not_both}
 use Rattle.sig_core.proofs.Keys.{same_tx-self}
-use Rattle.host_laws.proofs.TcSends.{tx_in}
 use Rattle.run_laws.proofs.Ahead.{wait_silent}
-use Rattle.run_laws.proofs.TcOwn.{turn_for}
-use Rattle.run_laws.proofs.TxTurns.{AreSilent}
+use Rattle.run_laws.proofs.TcOwn.{AreSilent}
+use Rattle.run_laws.proofs.TxTurns.{is_for, turn_for}
 use Rattle.run_laws.proofs.TxSignals.{is_part, is_sign}
 
 -- a row of the transaction is to be aborted
@@ -204,7 +203,7 @@ module _ (node : ℕ) (layout : Layout) (tx : TxId) where
         by (Completing e awaited) is = silent tt
         by (Aborting why verifying awaited) is = silent tt
 
-    pub turn_begins : (body : Body) → same_tx (tx_in body) tx ≡ true → is_part tx body ≡ false → B (turn_for node layout tx body t)
+    pub turn_begins : (body : Body) → is_for tx body ≡ true → is_part tx body ≡ false → B (turn_for node layout tx body t)
     turn_begins (Host (Continue (work.Transaction one) at)) same none = not_both (same_tx one tx) same none
     turn_begins (Client (TcKeyReq one op)) same none = operate_begins op
     turn_begins (Client (TcCommitReq one)) same none = decide_begins

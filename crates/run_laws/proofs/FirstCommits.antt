@@ -37,7 +37,6 @@ use Rattle.host_laws.specs.Counts.{one_if}
 use Rattle.run_laws.proofs.Always.{few_touched}
 use Rattle.host_laws.proofs.TcLives.{IsOwn}
 use Rattle.host_laws.proofs.TcSteps as answered
-use Rattle.host_laws.proofs.TcSends.{tx_in}
 use Rattle.run_laws.specs.Circle.{IsSettled, at_host}
 use Rattle.run_laws.specs.Completions.{IsCommittedAtAll}
 use Rattle.run_laws.specs.GivenUp.{is_carried_out, is_given_up}
@@ -52,7 +51,7 @@ use Rattle.run_laws.proofs.CommitBegins as turn
 use Rattle.run_laws.proofs.GivenUp.{none_is_both}
 use Rattle.run_laws.proofs.HomeSteps.{all_home, here_now, here_was, own_home}
 use Rattle.run_laws.proofs.HostAfter.{each_host}
-use Rattle.run_laws.proofs.HostSteps.{TxStep, aside, begins, next_number, number_rises, rows, turns, tx_step}
+use Rattle.run_laws.proofs.TxSteps.{TxStep, aside, begins, next_number, number_rises, rows, turns, tx_step}
 use Rattle.run_laws.proofs.Keyed.{log_keyed}
 use Rattle.run_laws.proofs.LiveOf.{of_each}
 use Rattle.run_laws.proofs.LqhParts.{lqh_silent}
@@ -61,10 +60,10 @@ use Rattle.run_laws.proofs.RecordsFade.{HasRecord}
 use Rattle.run_laws.proofs.Routes.{signals_are_routed}
 use Rattle.run_laws.proofs.SettledAlong.{settled_along}
 use Rattle.run_laws.proofs.StepFades.{StepFades, marks_at}
-use Rattle.run_laws.proofs.TcOwn.{turn_for}
 use Rattle.run_laws.proofs.TcSaid.{tc_silent, tc_speaks}
 use Rattle.run_laws.proofs.TxSignals.{cover, is_part, is_sign, part_tells, part_weight, request_part, sign_part, weight}
-use Rattle.run_laws.proofs.TxTurns.{AreSilent, left_by}
+use Rattle.run_laws.proofs.TcOwn.{AreSilent}
+use Rattle.run_laws.proofs.TxTurns.{is_for, left_by, turn_for}
 use Rattle.run_laws.proofs.VerifiedSettled.{verified_settled}
 use Rattle.run_laws.proofs.Weighing.{each_joins, in_sends, in_transit, joins_weigh, none_weighs, takes_weigh, weigh_none}
 
@@ -147,7 +146,7 @@ module _ (start : Start) (es : List HostStep) (e : HostStep) (come : Comes start
       (λ x f. part_tells tx (IsSpread start (logs_of start (e ∷ es)) tx) (IsCommittedAtAll start (logs_of start (e ∷ es)) tx) x.signal.body f) between_none)
 
   -- a turn of the transaction
-  module _ (t : Transaction) (step : IsTcStep g e.step.taken (row g e.step.taken)) (was : of_host tx g ≡ Some t) (own : same_tx (tx_in e.step.taken.body) tx ≡ true)
+  module _ (t : Transaction) (step : IsTcStep g e.step.taken (row g e.step.taken)) (was : of_host tx g ≡ Some t) (own : is_for tx e.step.taken.body ≡ true)
       (sent : sends ≡ (turn_for (tc_of g).node (tc_of g).layout tx e.step.taken.body t).step.effects.sends)
       (left : of_host tx (row g e.step.taken).state ≡ left_by (turn_for (tc_of g).node (tc_of g).layout tx e.step.taken.body t)) where
     abbrev s : TcState
@@ -292,11 +291,11 @@ module _ (start : Start) (es : List HostStep) (e : HostStep) (come : Comes start
 
   first_by : TxStep tx g e.step.taken (row g e.step.taken) → IsFirst
   first_by (aside same silent missed) = quiet_first silent
-  first_by (begins step left silent next) = quiet_first silent
+  first_by (begins step is silent) = quiet_first silent
   first_by (rows step) =
       unsaid (subst (λ (f : Effects). Each (λ (o : Outgoing). is_part tx o.body ≡ false) f.sends) (sym step.effects) (lqh_silent (lqh_of g) tx e.step.taken.body no_part))
       (carried_silent start es e come tx (subst (AreSilent tx) (sym (tc_silent g e.step.taken (λ at. let other : block.Lqh ≡ block.Tc = sym step.at ∙ at in cc))) tt))
   first_by (turns t step was own sent left) = its_turn t step was own sent left
 
   pub first_next : IsFirst
-  first_next = first_by (tx_step tx g e.step.taken (all_home start tx h (logs_of start es h)).once)
+  first_next = first_by (tx_step tx g e.step.taken (all_home start tx h (logs_of start es h)))

@@ -34,10 +34,11 @@ use Rattle.host_laws.proofs.ApiMoves.{is_api_kind}
 use Rattle.host_laws.specs.Counts.{one_if}
 use Rattle.run_laws.specs.Live.{of_host, of_live}
 use Rattle.run_laws.proofs.HomeSteps.{IsHome, IsUnborn}
-use Rattle.run_laws.proofs.TcAsks.{AreMute, AskTurn, is_ask, is_mute}
-use Rattle.run_laws.proofs.TcAskTurns as asks
-use Rattle.run_laws.proofs.TcAskTurns.{AskSeen, AskSees, ask, mute_none, tc_ask_sees}
-use Rattle.run_laws.proofs.TcCircle.{GoesOn, left_by}
+use Rattle.run_laws.proofs.TxSteps.{next_number, number_rises}
+use Rattle.run_laws.proofs.TcAsks.{AreMute, AskTurn, ask, beside_mute, is_ask, is_mute, mute_none, others_mute, turn_asks, unasked_none}
+use Rattle.run_laws.proofs.TcCircle.{GoesOn, turn_going}
+use Rattle.run_laws.proofs.TxTurns.{TcTurn, left_by, tc_turn, turn_for}
+use Rattle.run_laws.proofs.TxTurns as turn
 use Rattle.run_laws.proofs.TcSaid.{tc_speaks}
 use Rattle.run_laws.proofs.WaysPassed.{api_each}
 use Rattle.run_laws.proofs.Weighing.{in_sends, none_weighs}
@@ -110,15 +111,20 @@ module _ (tx : TxId) where
 
   module _ (s : Host) (x : Signal) where
     -- a step of another block leaves it
-    other_leaves : (t : Step Host) → tc_of t.state ≡ tc_of s → (effects : Effects) → t.effects ≡ effects → PassesOn x.body effects.sends → HostAsks s x t.state t.effects.sends
+    other_leaves : (t : Step Host) → tc_of t.state ≡ tc_of s → (effects : Effects) → t.effects ≡ effects → PassesOn x.body effects.sends
+        → HostAsks s x t.state t.effects.sends
     other_leaves t same effects is passes = leaves (record {
       passes = subst (λ (f : Effects). PassesOn x.body f.sends) (sym is) passes;
       live = ap (λ (c : TcState). of_live tx c.live) same;
       unborn = λ low. omega (arith, low, ap (λ (c : TcState). c.next_seq) same);
     })
 
-    tc_step : (t : Step Host) → IsTcStep s x t → AskSees tx (tc_of s) x.body (tc_row (tc_of s) x) → HostAsks s x t.state t.effects.sends
-    tc_step t step sees = by sees.seen
+    abbrev TurnAsks : Step TcState → Type 0
+    TurnAsks = TcTurn (λ (o : Outgoing). is_ask tx o.body ≡ false) tx (tc_of s) x.body
+
+    tc_step : (t : Step Host) → IsTcStep s x t → next_number s ≤ next_number t.state → TurnAsks (tc_row (tc_of s) x)
+        → HostAsks s x t.state t.effects.sends
+    tc_step t step rises = by
       where
         now : of_host tx t.state ≡ of_live tx (tc_row (tc_of s) x).state.live
         now = ap (λ (c : TcState). of_live tx c.live) step.state
@@ -126,22 +132,35 @@ module _ (tx : TxId) where
         sent : t.effects.sends ≡ (tc_row (tc_of s) x).effects.sends
         sent = ap (λ (f : Effects). f.sends) step.effects
 
+        none : Each (λ (o : Outgoing). is_ask tx o.body ≡ false) (tc_row (tc_of s) x).effects.sends → in_sends (ask tx) t.effects.sends ≡ 0
+        none unasked = ap (in_sends (ask tx)) sent ∙ unasked_none tx (tc_row (tc_of s) x).effects.sends unasked
+
         unborn : IsUnborn tx t.state → IsUnborn tx s
-        unborn low = omega (arith, low, sees.grows, ap (λ (c : TcState). c.next_seq) step.state)
+        unborn low = omega (arith, low, rises)
 
-        by : AskSeen tx (tc_of s) x.body (tc_row (tc_of s) x).state (tc_row (tc_of s) x).effects.sends → HostAsks s x t.state t.effects.sends
-        by (asks.same live none) = leaves (record { passes = none_pass x.body t.effects.sends (ap (in_sends (ask tx)) sent ∙ none); live = now ∙ live; unborn = unborn })
-        by (asks.turned u turn was is told ask_turn goes) =
-            turned step.runs u turn was (now ∙ is) (sent ∙ told) (tc_speaks s x step.runs step.at ∙ told) unborn ask_turn goes
-        by (asks.begun next is none) = begun step.runs next (now ∙ is) (ap (in_sends (ask tx)) sent ∙ none)
+        by : TurnAsks (tc_row (tc_of s) x) → HostAsks s x t.state t.effects.sends
+        by (turn.idle live unasked deaf) =
+            leaves (record { passes = none_pass x.body t.effects.sends (none unasked); live = now ∙ live; unborn = unborn })
+        by (turn.turns u was its told is) =
+            turned step.runs u (turn_for (tc_of s).node (tc_of s).layout tx x.body u) was (now ∙ is) (sent ∙ told)
+            (tc_speaks s x step.runs step.at ∙ told) unborn (turn_asks tx (tc_of s).node (tc_of s).layout u x.body its)
+            (turn_going tx u (tc_of s).node (tc_of s).layout x.body its)
+        by (turn.begins next is unasked off) = begun step.runs next (now ∙ is) (none unasked)
 
-    asks_by : (t : Step Host) → IsHome tx (tc_of s) → BlockCase s x t → HostAsks s x t.state t.effects.sends
-    asks_by t home (api_takes step) = other_leaves t step.tc (api_table (api_of s) x.body).effects step.effects (api_pass (api_of s) x.body)
-    asks_by t home (tc_takes step) = tc_step t step (tc_ask_sees tx (tc_of s) home.own home.once x.body)
-    asks_by t home (dih_takes step) = other_leaves t step.tc (dih_table (dih_of s) x.body).effects step.effects (dih_pass (dih_of s) x.body)
-    asks_by t home (rows_take step) = other_leaves t step.tc (lqh_table (lqh_of s) x.body).effects step.effects (lqh_pass (lqh_of s) x.body)
-    asks_by t home (none_takes step) =
-        other_leaves t (ap (λ (u : Step Host). tc_of u.state) step.is) nothing (ap (λ (u : Step Host). u.effects) step.is) (none_pass x.body [] refl)
+    asks_by : (t : Step Host) → IsHome tx (tc_of s) → next_number s ≤ next_number t.state → BlockCase s x t → HostAsks s x t.state t.effects.sends
+    asks_by t home rises (api_takes step) =
+        other_leaves t step.tc (api_table (api_of s) x.body).effects step.effects (api_pass (api_of s) x.body)
+    asks_by t home rises (tc_takes step) =
+        tc_step t step rises
+        (tc_turn (λ (o : Outgoing). is_ask tx o.body ≡ false) tx (tc_of s) (beside_mute tx (tc_of s)) home.own home.once x.body
+        (others_mute tx (tc_of s) x.body))
+    asks_by t home rises (dih_takes step) =
+        other_leaves t step.tc (dih_table (dih_of s) x.body).effects step.effects (dih_pass (dih_of s) x.body)
+    asks_by t home rises (rows_take step) =
+        other_leaves t step.tc (lqh_table (lqh_of s) x.body).effects step.effects (lqh_pass (lqh_of s) x.body)
+    asks_by t home rises (none_takes step) =
+        other_leaves t (ap (λ (u : Step Host). tc_of u.state) step.is) nothing (ap (λ (u : Step Host). u.effects) step.is)
+        (none_pass x.body [] refl)
 
     pub host_asks : IsHome tx (tc_of s) → HostAsks s x (row s x).state (row s x).effects.sends
-    host_asks home = asks_by (row s x) home (block_case s x)
+    host_asks home = asks_by (row s x) home (number_rises s x) (block_case s x)

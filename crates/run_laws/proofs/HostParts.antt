@@ -15,7 +15,7 @@ use Rattle.host_laws.proofs.ApiMoves.{ApiMove, api_moves, begun_as, ends, goes, 
 use Rattle.host_laws.proofs.DihSends.{dih_kinds}
 use Rattle.host_laws.proofs.SendKinds.{are_of, is_dih_kind, of_kind}
 use Rattle.run_laws.proofs.LqhParts.{is_plain, plain_silent}
-use Rattle.run_laws.proofs.TxTurns.{AreSilent}
+use Rattle.run_laws.proofs.TcOwn.{AreSilent}
 
 api_plain : (body : Body) → is_api_kind body ≡ true → is_plain body ≡ true
 api_plain (Client (TcKeyReq tx op)) e = refl

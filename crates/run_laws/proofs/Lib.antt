@@ -29,7 +29,6 @@ pub mod HostAfter
 pub mod HostAsks
 pub mod HostFades
 pub mod HostParts
-pub mod HostSteps
 pub mod HostTokens
 pub mod KeyMoves
 pub mod KeySends
@@ -65,13 +64,11 @@ pub mod SortedEntries
 pub mod StepFades
 pub mod StrictOrder
 pub mod TcAborts
-pub mod TcAskTurns
 pub mod TcAsks
 pub mod TcCircle
 pub mod TcGoing
 pub mod TcOwn
 pub mod TcSaid
-pub mod TcSees
 pub mod TcSound
 pub mod TcStill
 pub mod TcTokens
@@ -81,6 +78,7 @@ pub mod Transit
 pub mod TransitLists
 pub mod TransitRuns
 pub mod TxSignals
+pub mod TxSteps
 pub mod TxTurns
 pub mod Undecided
 pub mod Unique

@@ -1,6 +1,6 @@
 -- The transaction among those that a coordinator has, where no two are of one number.
-use Rattle.std.proofs.Common.{◌≡◌, List, [], ◌∷◌, ◌++◌, Bool, true, false, refl, sym, subst}
-use Rattle.std.specs.Prelude.{if◌then◌else◌, None, Some}
+use Rattle.std.proofs.Common.{◌≡◌, List, ◌∷◌, ◌++◌, true, sym, subst}
+use Rattle.std.specs.Prelude.{Some}
 use Rattle.run_theory.specs.Lists.{Each}
 use Rattle.sig_core.specs.declared.member.TxId.{TxId}
 use Rattle.sig_core.specs.Same.{same_tx}
@@ -9,7 +9,7 @@ use Rattle.tc_block.specs.declared.transaction.Transaction.{Transaction}
 use Rattle.host_laws.specs.Counts.{tally}
 use Rattle.host_laws.proofs.TcLives.{is_keyed}
 use Rattle.run_laws.specs.Live.{of_live}
-use Rattle.run_laws.proofs.OfLive.{AreOthers, of_between}
+use Rattle.run_laws.proofs.OfLive.{AreOthers, each_found, of_between}
 use Rattle.run_laws.proofs.Weighing.{none_passes}
 
 -- those of which none is counted are others
@@ -22,15 +22,4 @@ of_here tx one t front back none same =
 
 -- what holds of each holds of it
 pub of_each : (P : TxId → Transaction → Type 0) (tx : TxId) (live : List (TxId × Transaction)) (t : Transaction) → Each (λ (e : TxId × Transaction). P e.0 e.1) live → of_live tx live ≡ Some t → P tx t
-of_each P tx [] t all is = absurd (other is)
-  where
-    other : None ≡ Some t → ⊥
-    other e = cc
-of_each P tx (e ∷ live) t all is = by (same_tx e.0 tx) refl is (of_each P tx live t all.1)
-  where
-    the_one : Some e.1 ≡ Some t → e.1 ≡ t
-    the_one same = cc
-
-    by : (b : Bool) → same_tx e.0 tx ≡ b → (if b then Some e.1 else of_live tx live) ≡ Some t → (of_live tx live ≡ Some t → P tx t) → P tx t
-    by true same is rest = subst (λ k. P k t) (same_tx-is e.0 tx same) (subst (P e.0) (the_one is) all.0)
-    by false same is rest = rest is
+of_each P tx live t = each_found (λ e. P e.0 e.1) live tx t

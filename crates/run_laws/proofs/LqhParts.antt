@@ -45,7 +45,7 @@ use Rattle.host_laws.proofs.SendKinds.{SendsOnly, are_of, each_of, of_append}
 use Rattle.host_laws.proofs.LqhOps.{is_lqh}
 use Rattle.host_laws.specs.Counts.{one_if}
 use Rattle.host_laws.proofs.Wishes.{is_tc}
-use Rattle.run_laws.proofs.TxTurns.{AreSilent}
+use Rattle.run_laws.proofs.TcOwn.{AreSilent}
 use Rattle.run_laws.proofs.TxSignals.{Tells, cover, is_part, is_sign, part_cover, part_tells, part_weight, sign_part, weight}
 use Rattle.run_laws.proofs.Weighing.{in_sends, weigh, weigh_none}
 
@@ -295,16 +295,19 @@ module _ (s : LqhState) (tx : TxId) where
   lqh_covers key i to _ home = inl (omega arith)
 
   -- what signals tell goes on
-  pub lqh_tells : (C C2 : List ℕ → List Member → ℕ → Type 0) (D : List ℕ → Type 0) (body : Body) → Tells tx C D body
-      → ((one : TxId) (own : List ℕ) (epoch : ℕ) (chain : List Member) (at : ℕ) → body ≡ Chain (Commit one own epoch chain at) → same_tx one tx ≡ true → (at == 0) ≡ false → C own chain at → C2 own chain (at - 1))
-      → Each (λ (o : Outgoing). Tells tx C2 D o.body) (lqh_table s body).effects.sends
-  lqh_tells C C2 D (Chain (Commit other own epoch chain at)) tells next =
-      commit_each other own epoch chain at (λ o. Tells tx C2 D o.body) (λ o e. part_tells tx C2 D o.body (plain_part o e)) (λ e. tt)
+  pub lqh_tells : (Spread SpreadOn : List ℕ → List Member → ℕ → Type 0) (AtAll : List ℕ → Type 0) (body : Body) → Tells tx Spread AtAll body
+      → ((one : TxId) (own : List ℕ) (epoch : ℕ) (chain : List Member) (at : ℕ) → body ≡ Chain (Commit one own epoch chain at)
+          → same_tx one tx ≡ true → (at == 0) ≡ false → Spread own chain at → SpreadOn own chain (at - 1))
+      → Each (λ (o : Outgoing). Tells tx SpreadOn AtAll o.body) (lqh_table s body).effects.sends
+  lqh_tells Spread SpreadOn AtAll (Chain (Commit other own epoch chain at)) tells next =
+      commit_each other own epoch chain at (λ o. Tells tx SpreadOn AtAll o.body) (λ o e. part_tells tx SpreadOn AtAll o.body (plain_part o e)) (λ e. tt)
       (λ e same. next other own epoch chain at refl same e (tells same))
-  lqh_tells C C2 D (Chain (Complete other own chain at)) tells next =
-      complete_each other own 0 chain at (λ o. Tells tx C2 D o.body) (λ o e. part_tells tx C2 D o.body (plain_part o e)) (λ same. tells same)
-  lqh_tells C C2 D body tells next =
-      each_map (λ (o : Outgoing). is_sign tx o.body ≡ false) (λ (o : Outgoing). Tells tx C2 D o.body) (lqh_table s body).effects.sends (λ o e. part_tells tx C2 D o.body (sign_part tx o.body e)) (other_silent body refl)
+  lqh_tells Spread SpreadOn AtAll (Chain (Complete other own chain at)) tells next =
+      complete_each other own 0 chain at (λ o. Tells tx SpreadOn AtAll o.body) (λ o e. part_tells tx SpreadOn AtAll o.body (plain_part o e))
+      (λ same. tells same)
+  lqh_tells Spread SpreadOn AtAll body tells next =
+      each_map (λ (o : Outgoing). is_sign tx o.body ≡ false) (λ (o : Outgoing). Tells tx SpreadOn AtAll o.body) (lqh_table s body).effects.sends
+      (λ o e. part_tells tx SpreadOn AtAll o.body (sign_part tx o.body e)) (other_silent body refl)
 
   -- where none of the transaction comes none is sent
   pub lqh_silent : (body : Body) → is_part tx body ≡ false → Each (λ (o : Outgoing). is_part tx o.body ≡ false) (lqh_table s body).effects.sends

@@ -152,9 +152,9 @@ module _ (tx : TxId) (node : ℕ) (layout : Layout) where
   unfolding part_effects
   no_commits epoch awaited = ap (λ xs. take 8 (drop 0 xs) ++ rest_if node tx 0 (nat_lt (0 + 8) (length xs))) (commits_are epoch awaited [])
 
-  module _ (C : List ℕ → List Member → ℕ → Type 0) (D : List ℕ → Type 0) where
+  module _ (Spread : List ℕ → List Member → ℕ → Type 0) (AtAll : List ℕ → Type 0) where
     abbrev SoTells : Outgoing → Type 0
-    SoTells o = Tells tx C D o.body
+    SoTells o = Tells tx Spread AtAll o.body
 
     rest_tells : (at : ℕ) (b : Bool) → Each SoTells (rest_if node tx at b)
     rest_tells at true = (tt, tt)
@@ -166,24 +166,24 @@ module _ (tx : TxId) (node : ℕ) (layout : Layout) where
         each_append SoTells (take 8 (drop at xs)) (rest_if node tx at (nat_lt (at + 8) (length xs))) (each_take SoTells 8 (drop at xs) (each_drop SoTells at xs all))
         (rest_tells at (nat_lt (at + 8) (length xs)))
 
-    pub commits_tell : (epoch awaited at : ℕ) (touched : List Touched) → Each (λ (u : Touched). C u.key u.chain (last_place u.chain)) touched
+    pub commits_tell : (epoch awaited at : ℕ) (touched : List Touched) → Each (λ (u : Touched). Spread u.key u.chain (last_place u.chain)) touched
         → Each SoTells (part_effects node tx (phase_sends layout tx (Committing epoch awaited) touched) at).sends
     commits_tell epoch awaited at touched all =
         part_tells (phase_sends layout tx (Committing epoch awaited) touched) at (subst (Each SoTells) (sym (commits_are epoch awaited touched)) (each touched all))
       where
-        each : (us : List Touched) → Each (λ (u : Touched). C u.key u.chain (last_place u.chain)) us → Each SoTells (map (commit_of tx epoch) us)
+        each : (us : List Touched) → Each (λ (u : Touched). Spread u.key u.chain (last_place u.chain)) us → Each SoTells (map (commit_of tx epoch) us)
         each [] all = tt
         each (u ∷ us) all = (λ e. all.0, each us all.1)
 
-    pub completions_tell : (epoch awaited at : ℕ) (touched : List Touched) → Each (λ (u : Touched). D u.key) touched
+    pub completions_tell : (epoch awaited at : ℕ) (touched : List Touched) → Each (λ (u : Touched). AtAll u.key) touched
         → Each SoTells (part_effects node tx (phase_sends layout tx (Completing epoch awaited) touched) at).sends
     unfolding phase_sends front_sends key_sends
     completions_tell epoch awaited at touched all = part_tells (phase_sends layout tx (Completing epoch awaited) touched) at (tt, each touched all)
       where
-        one : (u : Touched) → D u.key → (b : Bool) → Each SoTells (complete_if tx u b)
+        one : (u : Touched) → AtAll u.key → (b : Bool) → Each SoTells (complete_if tx u b)
         one u d true = (λ e. d, tt)
         one u d false = tt
 
-        each : (us : List Touched) → Each (λ (u : Touched). D u.key) us → Each SoTells (flat_map (key_sends layout tx (Completing epoch awaited)) us)
+        each : (us : List Touched) → Each (λ (u : Touched). AtAll u.key) us → Each SoTells (flat_map (key_sends layout tx (Completing epoch awaited)) us)
         each [] all = tt
         each (u ∷ us) all = each_append SoTells (complete_if tx u u.written) (flat_map (key_sends layout tx (Completing epoch awaited)) us) (one u all.0 u.written) (each us all.1)

@@ -6,13 +6,10 @@ use Rattle.frag_map.proofs.FirstReplicas.{first_apart, first_group, first_length
 use Rattle.frag_map.specs.Shape.{IsShape}
 use Rattle.world_core.proofs.HostNumbers.{rows_host_apart}
 use Rattle.world_core.specs.Start.{Start}
-use Rattle.run_laws.specs.Routes.{ReplicasAreApart, ReplicasAreNodes, replica_host, replicas}
+use Rattle.run_laws.specs.Routes.{ReplicasAreNodes, replica_host, replicas}
 
 pub replicas_some : (start : Start) → IsShape start.shape → (key : List ℕ) → 0 < length (replicas start key)
 replicas_some start is key = omega (arith, is.replicas_some, first_length start.shape is key)
-
-pub replicas_are_apart : ReplicasAreApart
-replicas_are_apart start key one other is here there same = first_apart start.shape is key one other here there same
 
 pub replicas_are_nodes : ReplicasAreNodes
 replicas_are_nodes start key at is inside =
@@ -26,7 +23,7 @@ pub hosts_are_apart : (start : Start) (key : List ℕ) (one other : ℕ) → IsS
 hosts_are_apart start key one other is here there same =
     let a = replicas_are_nodes start key one is here in
     let b = replicas_are_nodes start key other is there in
-    replicas_are_apart start key one other is here there
+    first_apart start.shape is key one other here there
     (rows_host_apart start (node_at (replicas start key) one)
     (node_at (replicas start key) other) a.from a.to b.from b.to same)
 

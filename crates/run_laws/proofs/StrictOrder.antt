@@ -28,7 +28,7 @@ use Rattle.frag_map.specs.Layout.{first_number}
 use Rattle.world_core.specs.Start.{Start}
 use Rattle.world_core.specs.Strict.{IsStrictOrder}
 use Rattle.host_laws.specs.Causes.{is_decision}
-use Rattle.host_laws.specs.Kinds.{Kind, kind_of}
+use Rattle.host_laws.specs.Kinds.{kind_of}
 use Rattle.host_laws.specs.Kinds as kind
 use Rattle.run_laws.specs.Laws.{CommitsAreOfDecided, HistoriesAreStrict}
 use Rattle.run_laws.proofs.Causal.{AreCausal, cuts_are_causal}

@@ -40,8 +40,7 @@ use Rattle.run_laws.proofs.KeyMoves.{IsLike, host_of, view_before, view_now}
 use Rattle.run_laws.proofs.KeyTokens.{Token, answers, home_is, is_home, performs, put, put_if, refuses, some_if, token_of, tokens_of}
 use Rattle.run_laws.proofs.OnlyToken.{NoTokens, none_asked}
 use Rattle.run_laws.proofs.TcCircle.{Going, IsDeaf, is_early, notes, operates, rests, verifies}
-use Rattle.run_laws.proofs.TcSees.{no_tokens}
-use Rattle.run_laws.proofs.TransitLists.{Told, joined_old, sent_none, takes_more, uncounted}
+use Rattle.run_laws.proofs.TransitLists.{Told, joined_old, none_out, sent_none, takes_more, uncounted}
 use Rattle.run_laws.proofs.Weighing.{headed_each, joined_each, each_taken, each_between}
 
 -- the unanswered operation on this key is the unanswered operation
@@ -230,7 +229,7 @@ module _ (start : Start) (es : List HostStep) (e : HostStep) (tx : TxId) (key : 
       → (is_early t.phase ≡ true → IsGoing start tx key v t before) → Going tx e.step.taken.body t u sends → IsGoing start tx key w u (joined sent between)
   row_goes t u live now early going (rests same_is none deaf) =
       subst (λ x. IsGoing start tx key w x (joined sent between)) (sym same_is)
-      (deaf_goes t (going (ap (λ (x : Transaction). is_early x.phase) (sym same_is) ∙ early)) (no_tokens tx key sends none) deaf)
+      (deaf_goes t (going (ap (λ (x : Transaction). is_early x.phase) (sym same_is) ∙ early)) (none_out tx key sends none) deaf)
   row_goes t u live now early going (operates op chain asked_none opened ops_is asked_is phase_is sends_is) =
       operate_goes t live (ap is_early opened) (going (ap is_early opened)) asked_none u op chain ops_is asked_is phase_is sends_is
   row_goes t u live now early going (notes asked answer own body_is on opened ops_is asked_none phase_is none) =

@@ -43,8 +43,8 @@ use Rattle.run_laws.proofs.FreshHosts.{started_unasked}
 use Rattle.run_laws.proofs.LqhWaits.{WaitersAsk, lqh_asks}
 use Rattle.run_laws.proofs.TcAborts.{TurnAborts, turn_aborts}
 use Rattle.run_laws.proofs.TcSaid.{TcSays, rests, takes, tc_says}
-use Rattle.run_laws.proofs.TcTokens.{IsOwned, IsSound, now_given_up, rows_tokens}
-use Rattle.run_laws.proofs.TcTurns.{TurnTokens, gives_up}
+use Rattle.run_laws.proofs.TcTokens.{IsOwned, IsSound, now_given_up}
+use Rattle.run_laws.proofs.TcTurns.{TurnTokens, gives_up, tokens_forms}
 
 -- what gives a transaction up is of this one
 abbrev IsBackOf : TxId → Way → Type 0
@@ -150,7 +150,9 @@ module _ (s : TcState) (bs : List TxId) (n : IsSound s bs) where
   pub tc_sound : (body : Body) → StaysSound bs (tc_table s body)
   tc_sound body =
       tc_each (λ tx t turn. Both tx t turn) (StaysSound bs) s body (record {
-        turns = λ tx t at split. rows_both s.node s.layout tx t body (λ turn. TurnTokens tx t 1 turn) (λ turn. TurnAborts tx t turn × TurnWays tx t.phase turn) (rows_tokens s.node s.layout tx t body (own tx t at split).right 1 (λ key answer is. omega arith) (λ key why is. omega arith))
+        turns = λ tx t at split. rows_both s.node s.layout tx t body (λ turn. TurnTokens tx t 1 turn) (λ turn. TurnAborts tx t turn × TurnWays tx t.phase turn)
+            (rows_of s.node s.layout tx t body (λ turn. TurnTokens tx t 1 turn)
+            (tokens_forms s.node s.layout tx t (own tx t at split).right 1 body (λ key answer is. omega arith)))
             (rows_both s.node s.layout tx t body (λ turn. TurnAborts tx t turn) (λ turn. TurnWays tx t.phase turn)
             (rows_of s.node s.layout tx t body (λ turn. TurnAborts tx t turn) (turn_aborts s.node s.layout tx t (own tx t at split).touched body))
             (rows_of s.node s.layout tx t body (λ turn. TurnWays tx t.phase turn) (turn_ways tx s.node s.layout t body)));

@@ -4,39 +4,33 @@ use Rattle.std.specs.List.{flat_map}
 use Rattle.run_theory.proofs.Pasts.{each_append}
 use Rattle.run_theory.specs.Lists.{Each}
 use Rattle.sig_core.specs.declared.member.TxId.{TxId}
-use Rattle.sig_core.specs.declared.op.Answer.{Answer}
 use Rattle.sig_core.specs.declared.op.Op.{Op}
-use Rattle.sig_core.specs.declared.outcome.AbortCause.{AbortCause}
 use Rattle.sig_core.specs.declared.outs.Outgoing.{Outgoing}
 use Rattle.sig_core.specs.declared.signal.Body.{Body}
-use Rattle.sig_core.specs.declared.signal.Body.TheVariants.{Client, Chain, Epoch}
-use Rattle.sig_core.specs.declared.signal.chain.ChainSignal.TheVariants.{LqhKeyConf, LqhKeyRef}
-use Rattle.sig_core.specs.declared.signal.client.ClientSignal.TheVariants.{TcKeyReq, TcCommitReq, TcRollbackReq}
-use Rattle.sig_core.specs.declared.signal.epoch.EpochSignal.TheVariants.{DiVerifyConf}
-use Rattle.frag_map.specs.Layout.{Layout, chain_of, nowhere}
-use Rattle.tc_block.specs.Abort as abort
-use Rattle.tc_block.specs.Commit as commit
-use Rattle.tc_block.specs.Complete as complete
+use Rattle.sig_core.specs.declared.signal.Body.TheVariants.{Client, Chain}
+use Rattle.sig_core.specs.declared.signal.client.ClientSignal.TheVariants.{TcKeyReq}
+use Rattle.frag_map.specs.Layout.{Layout, chain_of}
 use Rattle.tc_block.specs.declared.phase.Phase.{Phase}
 use Rattle.tc_block.specs.declared.phase.Phase.TheVariants.{Open, Verifying, Committing, Completing, Aborting}
 use Rattle.tc_block.specs.declared.touched.Touched.{Touched}
 use Rattle.tc_block.specs.declared.transaction.Transaction.{Transaction}
-use Rattle.tc_block.specs.Operate as operate
-use Rattle.tc_block.specs.Sends.{abort_of, aborts_of, complete_if, front_sends, go_on_row, key_sends, phase_sends}
+use Rattle.tc_block.specs.Sends.{abort_of, aborts_of, complete_if, front_sends, key_sends, phase_sends}
 use Rattle.tc_block.specs.Turn.{Turn}
+use Rattle.tc_block.specs.State.{TcState}
+use Rattle.sig_core.specs.Same.{same_tx}
 use Rattle.run_theory.proofs.EachSent.{each_flat, each_mapped}
 use Rattle.api_block.specs.Api.{api_table}
 use Rattle.api_block.specs.State.{ApiState}
 use Rattle.node_core.specs.Dih.{DihState, dih_table}
-use Rattle.tc_block.proofs.EachTurn as turns
-use Rattle.tc_block.proofs.EachTurn.{TurnForms}
-use Rattle.tc_block.proofs.LiveKeeps.{TurnKeeps, TurnsKeep, is_chain, turn_keeps}
+use Rattle.tc_block.proofs.EachTurn.{TurnForms, rows_of}
+use Rattle.tc_block.proofs.LiveKeeps.{SendsBeside, TurnKeeps, TurnsKeep, is_chain, turn_keeps}
 use Rattle.host_laws.proofs.Tally.{tally_none}
 use Rattle.host_laws.proofs.ApiMoves.{is_api_kind}
 use Rattle.host_laws.proofs.DihSends.{dih_kinds}
 use Rattle.host_laws.proofs.SendKinds.{each_of, is_dih_kind}
 use Rattle.run_laws.specs.Tokens.{is_token}
 use Rattle.run_laws.proofs.LqhTokens.{tokens_out}
+use Rattle.run_laws.proofs.TxTurns.{OthersSend, turn_each}
 use Rattle.run_laws.proofs.WaysPassed.{api_each}
 
 -- none of these signals is a part of an operation
@@ -81,7 +75,7 @@ module _ (v : TxId) where
         each_append (λ (o : Outgoing). is_token v o.body ≡ false) (front_sends tx phase) (flat_map (key_sends layout tx phase) touched) (front_still phase)
         (each_flat (λ (o : Outgoing). is_token v o.body ≡ false) (key_sends layout tx phase) touched (key_still layout phase))
 
-  abbrev AnyTransaction : Transaction → Type 0
+  abbrev pub AnyTransaction : Transaction → Type 0
   AnyTransaction t = Unit {0}
 
   keep_still : (layout : Layout) → TurnsKeep AnyTransaction (λ (o : Outgoing). is_token v o.body ≡ false) layout
@@ -94,50 +88,24 @@ module _ (v : TxId) where
     plain = λ o is. plain_still o.body is;
   }
 
-  abbrev IsStill : Turn → Type 0
+  abbrev pub IsStill : Turn → Type 0
   IsStill turn = TurnKeeps AnyTransaction (λ (o : Outgoing). is_token v o.body ≡ false) turn
 
-  module _ (tx : TxId) (node : ℕ) (layout : Layout) (t : Transaction) where
-    turns_still : (body : Body) → ((op : Op) → body ≡ Client (TcKeyReq tx op) → ⊥) → TurnForms node layout tx t body IsStill
-    turns_still body other = turn_keeps AnyTransaction (λ (o : Outgoing). is_token v o.body ≡ false) node layout (keep_still layout) tx t body tt (λ op is. absurd (other op is))
+  -- only an operation that is asked for sends one
+  pub turns_still : (tx : TxId) (node : ℕ) (layout : Layout) (t : Transaction) (body : Body)
+      → ((op : Op) → body ≡ Client (TcKeyReq tx op) → same_tx tx v ≡ false) → TurnForms node layout tx t body IsStill
+  turns_still tx node layout t body other =
+      turn_keeps AnyTransaction (λ (o : Outgoing). is_token v o.body ≡ false) node layout (keep_still layout) tx t body tt
+      (λ op is. record { state = tt; sends = (other op is, tt) })
 
-    commit_req_still : TurnForms node layout tx t (Client (TcCommitReq tx)) IsStill
-    commit_req_still = turns_still (Client (TcCommitReq tx)) (λ op is. cc)
+-- the turns of other transactions send none of this one, nor does the coordinator beside them
+pub others_still : (tx : TxId) (s : TcState) (body : Body) → OthersSend (λ (o : Outgoing). is_token tx o.body ≡ false) tx s body
+others_still tx s body one off its t =
+    (turn_each s.node s.layout one body t (IsStill tx)
+    (rows_of s.node s.layout one t body (IsStill tx) (turns_still tx one s.node s.layout t body (λ op is. off))) its).sends
 
-  module _ (tx : TxId) where
-    pub go_on_still : (node : ℕ) (layout : Layout) (t : Transaction) (at : ℕ) → AreStill (go_on_row node layout tx t at).effects.sends
-    go_on_still node layout t at = (turns.goes_on node layout tx t _ IsStill (commit_req_still tx node layout t) at).sends
-
-    pub answer_still : (layout : Layout) (t : Transaction) (key : List ℕ) (answer : Answer) → AreStill (operate.answer_row layout tx t key answer).effects.sends
-    answer_still layout t key answer =
-        (turns.answers 0 layout tx t (Chain (LqhKeyConf tx key answer)) IsStill (turns_still tx 0 layout t (Chain (LqhKeyConf tx key answer)) (λ op is. cc)) key answer refl).sends
-
-    pub wait_still : (t : Transaction) → AreStill (operate.wait_row tx t).effects.sends
-    wait_still t = (turns.waits 0 nowhere tx t _ IsStill (commit_req_still tx 0 nowhere t)).sends
-
-    pub decide_still : (node : ℕ) (t : Transaction) → AreStill (commit.decide_row node tx t).effects.sends
-    decide_still node t = (turns.decides node nowhere tx t _ IsStill (commit_req_still tx node nowhere t) refl).sends
-
-    pub commit_still : (node : ℕ) (layout : Layout) (t : Transaction) (epoch : ℕ) → AreStill (commit.commit_row node layout tx t epoch).step.effects.sends
-    commit_still node layout t epoch =
-        (turns.commits node layout tx t (Epoch (DiVerifyConf tx epoch)) IsStill (turns_still tx node layout t (Epoch (DiVerifyConf tx epoch)) (λ op is. cc)) epoch refl).sends
-
-    pub committed_still : (node : ℕ) (layout : Layout) (t : Transaction) → AreStill (commit.committed_row node layout tx t).step.effects.sends
-    committed_still node layout t = (turns.committed node layout tx t _ IsStill (commit_req_still tx node layout t)).sends
-
-    pub completed_still : (node : ℕ) (t : Transaction) → AreStill (complete.completed_row node tx t).step.effects.sends
-    completed_still node t = (turns.completed node nowhere tx t _ IsStill (commit_req_still tx node nowhere t)).sends
-
-    pub refuse_still : (node : ℕ) (layout : Layout) (t : Transaction) (key : List ℕ) (why : AbortCause) → AreStill (abort.refuse_row node layout tx t key why).step.effects.sends
-    refuse_still node layout t key why =
-        (turns.refuses node layout tx t (Chain (LqhKeyRef tx key why)) IsStill (turns_still tx node layout t (Chain (LqhKeyRef tx key why)) (λ op is. cc)) key why refl).sends
-
-    pub rollback_still : (node : ℕ) (layout : Layout) (t : Transaction) → AreStill (abort.rollback_row node layout tx t).step.effects.sends
-    rollback_still node layout t =
-        (turns.rolls_back node layout tx t (Client (TcRollbackReq tx)) IsStill (turns_still tx node layout t (Client (TcRollbackReq tx)) (λ op is. cc)) refl).sends
-
-    pub aborted_still : (node : ℕ) (t : Transaction) → AreStill (abort.aborted_row node tx t).step.effects.sends
-    aborted_still node t = (turns.aborted node nowhere tx t _ IsStill (commit_req_still tx node nowhere t)).sends
+pub beside_still : (tx : TxId) (s : TcState) → SendsBeside (λ (o : Outgoing). is_token tx o.body ≡ false) s
+beside_still tx s = record { full = λ name. (refl, tt); begins = λ name. (refl, tt); passes = λ one ahead. (refl, tt) }
 
 dih_plain : (tx : TxId) (body : Body) → is_dih_kind body ≡ true → is_token tx body ≡ false
 dih_plain tx (Chain c) is = cc

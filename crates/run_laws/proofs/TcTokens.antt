@@ -6,13 +6,8 @@ use Rattle.std.proofs.lemmas.Bool.{and_right, ne_eqb, or_cases, or_left, or_righ
 use Rattle.run_theory.specs.Lists.{Each}
 use Rattle.run_theory.proofs.Pasts.{each_after, each_append, each_map}
 use Rattle.sig_core.specs.declared.member.TxId.{TxId}
-use Rattle.sig_core.specs.declared.op.Answer.{Answer}
-use Rattle.sig_core.specs.declared.outcome.AbortCause.{AbortCause}
 use Rattle.sig_core.specs.declared.outs.Outgoing.{Outgoing}
 use Rattle.sig_core.specs.declared.signal.Body.{Body}
-use Rattle.sig_core.specs.declared.signal.Body.TheVariants.{Chain}
-use Rattle.sig_core.specs.declared.signal.chain.ChainSignal.TheVariants.{LqhKeyConf, LqhKeyRef}
-use Rattle.frag_map.specs.Layout.{Layout}
 use Rattle.sig_core.specs.Same.{same_tx}
 use Rattle.sig_core.specs.Step.{Step}
 use Rattle.sig_core.proofs.TxLemmas.{same_tx-is, same_tx-swap}
@@ -25,7 +20,7 @@ use Rattle.tc_block.specs.Turn.{Turn}
 use Rattle.tc_block.specs.Phases.{is_aborting}
 use Rattle.host_laws.specs.Ways.{Way, back, back_by, closes, forth, neither, put_ways, way_of}
 use Rattle.tc_block.proofs.EachTc.{tc_each}
-use Rattle.tc_block.proofs.EachTurn.{RowsAre, rows_both}
+use Rattle.tc_block.proofs.EachTurn.{rows_both, rows_of}
 use Rattle.tc_block.proofs.LiveSplit.{KeysOnce, Live, Split, once_back, once_front}
 use Rattle.host_laws.proofs.OneWay.{back_more}
 use Rattle.host_laws.specs.Counts.{one_if}
@@ -35,7 +30,7 @@ use Rattle.run_laws.specs.Live.{of_live}
 use Rattle.run_laws.specs.Tokens.{budget_by, budget_of, is_token}
 use Rattle.run_laws.proofs.LqhTokens.{tokens_out}
 use Rattle.run_laws.proofs.OfLive.{AreOthers, of_between, of_inserted, of_none, of_other}
-use Rattle.run_laws.proofs.TcTurns.{TurnTokens, aborted_turn, answer_turn, commit_turn, committed_turn, completed_turn, decide_turn, gives_up, go_on_turn, operate_turn, refuse_turn, rollback_turn, wait_turn}
+use Rattle.run_laws.proofs.TcTurns.{TurnTokens, gives_up, tokens_forms}
 
 -- one of the coordinator's transactions: its number is of this node, and below the next one, and it is given up if it is aborted
 pub record IsOwned (node next : ℕ) (bs : List TxId) (e : TxId × Transaction) : Type 0 where
@@ -81,24 +76,6 @@ pub record StepTokens (v : TxId) (s : TcState) (bs : List TxId) (came : ℕ) (st
   pub home : (m : ℕ) → m + came ≤ budget_by (list_any (same_tx v) bs) (of_live v s.live)
       → m + tokens_out v step.effects.sends ≤ budget_by (list_any (same_tx v) (put_ways back_by step.effects.sends bs)) (of_live v step.state.live)
   pub away : v.tc ≢ s.node → tokens_out v step.effects.sends ≡ 0
-
--- each row sends no more than that, if an answer or a refusal came
-pub rows_tokens : (node : ℕ) (layout : Layout) (tx : TxId) (t : Transaction) (body : Body) → is_right t.asked t.phase ≡ true → (came : ℕ)
-    → ((key : List ℕ) (answer : Answer) → body ≡ Chain (LqhKeyConf tx key answer) → 1 ≤ came) → ((key : List ℕ) (why : AbortCause) → body ≡ Chain (LqhKeyRef tx key why) → 1 ≤ came)
-    → RowsAre node layout tx t body (λ turn. TurnTokens tx t came turn)
-rows_tokens node layout tx t body right came answered refused = record {
-  goes_on = λ at is. go_on_turn tx t right node layout at came;
-  operates = λ op is. operate_turn tx t right layout op came;
-  decides = λ is. decide_turn tx t right node came;
-  rolls_back = λ is. rollback_turn tx t right node layout came;
-  waits = λ is. wait_turn tx t right came;
-  answers = λ key answer is. answer_turn tx t right layout key answer came (answered key answer is);
-  refuses = λ key why is. refuse_turn tx t right node layout key why came (refused key why is);
-  committed = λ key is. committed_turn tx t right node layout came;
-  completed = λ key is. completed_turn tx t right node came;
-  aborted = λ key is. aborted_turn tx t right node came;
-  commits = λ epoch is. commit_turn tx t right node layout epoch came;
-}
 
 module _ (v : TxId) (s : TcState) (bs : List TxId) (n : IsSound s bs) where
   -- nothing is sent, and no transaction changes
@@ -235,8 +212,10 @@ module _ (v : TxId) (s : TcState) (bs : List TxId) (n : IsSound s bs) where
       tc_each Tokens (StepTokens v s bs (one_if (is_token v body))) s body (record {
         turns = λ tx t at split. let right = (own tx t at split).right in
             rows_both s.node s.layout tx t body (λ turn. TurnTokens tx t (came tx) turn) (λ turn. TurnTokens tx t 1 turn)
-            (rows_tokens s.node s.layout tx t body right (came tx) (λ key answer is. came_some tx (ap (is_token v) is)) (λ key why is. came_some tx (ap (is_token v) is)))
-            (rows_tokens s.node s.layout tx t body right 1 (λ key answer is. omega arith) (λ key why is. omega arith));
+            (rows_of s.node s.layout tx t body (λ turn. TurnTokens tx t (came tx) turn)
+            (tokens_forms s.node s.layout tx t right (came tx) body (λ key answer is. came_some tx (ap (is_token v) is))))
+            (rows_of s.node s.layout tx t body (λ turn. TurnTokens tx t 1 turn)
+            (tokens_forms s.node s.layout tx t right 1 body (λ key answer is. omega arith)));
         turned = λ tx t at split turn is.
             turn_tokens tx t at split turn (one_if (is_token v body)) (λ e. subst (λ n. TurnTokens tx t n turn) (ap (λ b. cond b (one_if (is_token v body)) 1) e) is.0) is.1 turn.over refl;
         stays = nothing (one_if (is_token v body));

@@ -1,14 +1,18 @@
 -- How many parts of its operations there may be after each turn of a transaction.
-use Rattle.std.proofs.Common.{◌≡◌, ℕ, ◌+◌, ◌≤◌, List, [], Bool, true, false, refl, ap, arith}
-use Rattle.std.specs.Prelude.{◌==◌, if◌then◌else◌, is_some, nat_lt, Option, None, Some}
+use Rattle.std.proofs.Common.{◌≡◌, ℕ, ◌+◌, ◌≤◌, List, [], Bool, true, false, refl, ap, sym, ◌∙◌, arith}
+use Rattle.std.specs.Prelude.{if◌then◌else◌, is_some, Option, None, Some}
 use Rattle.std.specs.List.{list_any}
 use Rattle.std.proofs.lemmas.Bool.{and_parts, or_left}
 use Rattle.sig_core.specs.declared.member.TxId.{TxId}
 use Rattle.sig_core.specs.declared.op.Answer.{Answer}
 use Rattle.sig_core.specs.declared.op.Op.{Op}
 use Rattle.sig_core.specs.declared.outcome.AbortCause.{AbortCause}
-use Rattle.sig_core.specs.declared.outcome.AbortCause.TheVariants as cause
 use Rattle.sig_core.specs.declared.outs.Outgoing.{Outgoing}
+use Rattle.sig_core.specs.declared.signal.Body.{Body}
+use Rattle.sig_core.specs.declared.signal.Body.TheVariants.{Client, Chain, Epoch}
+use Rattle.sig_core.specs.declared.signal.chain.ChainSignal.TheVariants.{LqhKeyConf, LqhKeyRef}
+use Rattle.sig_core.specs.declared.signal.client.ClientSignal.TheVariants.{TcKeyReq, TcCommitReq, TcRollbackReq}
+use Rattle.sig_core.specs.declared.signal.epoch.EpochSignal.TheVariants.{DiVerifyConf}
 use Rattle.frag_map.specs.Layout.{Layout, chain_of}
 use Rattle.sig_core.specs.Op.{key_of}
 use Rattle.sig_core.specs.Same.{same_tx}
@@ -17,19 +21,19 @@ use Rattle.tc_block.specs.declared.phase.Phase.{Phase}
 use Rattle.tc_block.specs.declared.phase.Phase.TheVariants.{Open, Verifying, Committing, Completing, Aborting}
 use Rattle.tc_block.specs.declared.transaction.Transaction.{Transaction}
 use Rattle.tc_block.specs.Abort as abort
-use Rattle.tc_block.specs.Commit as commit
-use Rattle.tc_block.specs.Complete as complete
 use Rattle.tc_block.specs.Operate as operate
-use Rattle.tc_block.specs.Sends.{entering, go_on_if, go_on_row}
-use Rattle.tc_block.specs.Turn.{Turn, going}
+use Rattle.tc_block.specs.Sends.{entering}
+use Rattle.tc_block.specs.Turn.{Turn, asking}
 use Rattle.tc_block.specs.Phases.{is_aborting}
+use Rattle.tc_block.proofs.EachTurn.{AbortForms, CommittedForms, TurnForms}
 use Rattle.host_laws.specs.Ways.{back_by, put_ways}
 use Rattle.sig_core.proofs.Keys.{same_tx-self}
 use Rattle.host_laws.specs.Counts.{one_if}
-use Rattle.host_laws.proofs.TcOps.{aborted_asks, answer_asks, commit_asks, committed_asks, completed_asks, decide_asks, go_on_asks, is_right, may_ask, refuse_asks, rollback_asks, wait_asks}
+use Rattle.host_laws.proofs.TcOps.{is_right, may_ask}
 use Rattle.run_laws.specs.Tokens.{budget_of}
 use Rattle.run_laws.proofs.LqhTokens.{tokens_out}
-use Rattle.run_laws.proofs.TcStill.{AreStill, aborted_still, answer_still, commit_still, committed_still, completed_still, decide_still, go_on_still, refuse_still, rollback_still, still_out, wait_still}
+use Rattle.run_laws.proofs.TcCircle.{ready_is}
+use Rattle.run_laws.proofs.TcStill.{IsStill, still_out, turns_still}
 
 -- these signals give the transaction up
 abbrev pub gives_up : TxId → List Outgoing → Bool
@@ -90,147 +94,116 @@ pub record TurnTokens (tx : TxId) (t : Transaction) (came : ℕ) (turn : Turn) :
   pub own : (m : ℕ) → m + came ≤ budget_of t → m + tokens_out tx turn.step.effects.sends ≤ budget_after tx turn
   pub others : (v : TxId) → same_tx tx v ≡ false → tokens_out v turn.step.effects.sends ≡ 0
 
-module _ (tx : TxId) (t : Transaction) (right : is_right t.asked t.phase ≡ true) where
+-- who is told of its abort is given up
+end_gives_up : (tx : TxId) (node : ℕ) (why : AbortCause) (b : Bool) → gives_up tx (abort.abort_end node tx why b) ≡ true
+end_gives_up tx node why true = or_left (same_tx tx tx) false (same_tx-self tx)
+end_gives_up tx node why false = or_left (same_tx tx tx) false (same_tx-self tx)
+
+right_aborting : (asked : Option Asked) (why : AbortCause) (verifying : Bool) (awaited : ℕ) → is_right asked (Aborting why verifying awaited) ≡ true
+right_aborting None why verifying awaited = refl
+right_aborting (Some a) why verifying awaited = refl
+
+right_none : (phase : Phase) (asked : Option Asked) → asked ≡ None → is_right asked phase ≡ true
+right_none phase asked none = ap (λ a. is_right a phase) none
+
+module _ (node : ℕ) (layout : Layout) (tx : TxId) (t : Transaction) (right : is_right t.asked t.phase ≡ true) (came : ℕ) where
+  abbrev R : Turn → Type 0
+  R turn = TurnTokens tx t came turn
+
   -- a turn at which nothing of it is sent
-  still_turn : (came : ℕ) (turn : Turn) → is_right turn.step.state.asked turn.step.state.phase ≡ true → ((v : TxId) → AreStill v turn.step.effects.sends)
-      → ((m : ℕ) → m + came ≤ budget_of t → m ≤ budget_after tx turn) → TurnTokens tx t came turn
-  still_turn came turn is still own = record {
+  still_turn : (turn : Turn) → is_right turn.step.state.asked turn.step.state.phase ≡ true → ((v : TxId) → IsStill v turn)
+      → ((m : ℕ) → m + came ≤ budget_of t → m ≤ budget_after tx turn) → R turn
+  still_turn turn is still own = record {
     right = is;
-    own = λ m low. omega (arith, own m low, still_out tx turn.step.effects.sends (still tx));
-    others = λ v apart. still_out v turn.step.effects.sends (still v);
+    own = λ m low. omega (arith, own m low, still_out tx turn.step.effects.sends (still tx).sends);
+    others = λ v apart. still_out v turn.step.effects.sends (still v).sends;
   }
 
-  pub go_on_turn : (node : ℕ) (layout : Layout) (at came : ℕ) → TurnTokens tx t came (going (go_on_row node layout tx t at))
-  unfolding go_on_row
-  go_on_turn node layout at came =
-      still_turn came (going (go_on_row node layout tx t at)) (go_on_asks 0 tx [] t right node layout at).right (λ v. go_on_still v tx node layout t at) (by (nat_lt at 512))
+  -- behind which it is as before, but for its phase; or there may be one
+  as_before : (turn : Turn) → is_right turn.step.state.asked turn.step.state.phase ≡ true → ((v : TxId) → IsStill v turn)
+      → budget_after tx turn ≡ budget_of t → R turn
+  as_before turn is still same = still_turn turn is still (λ m low. omega (arith, low, same))
+
+  one_then : (turn : Turn) → is_right turn.step.state.asked turn.step.state.phase ≡ true → ((v : TxId) → IsStill v turn)
+      → budget_after tx turn ≡ 1 → R turn
+  one_then turn is still one = still_turn turn is still (λ m low. omega (arith, low, few t.phase t.asked, one))
+
+  -- nor is there one where it takes neither operations nor is aborted
+  none_then : (phase : Phase) → t.phase ≡ phase → may_ask phase ≡ false → (turn : Turn) → turn.step.state.asked ≡ t.asked
+      → ((v : TxId) → IsStill v turn) → R turn
+  none_then phase at off turn same still =
+      still_turn turn (right_none turn.step.state.phase turn.step.state.asked (same ∙ none t.asked refl)) still (λ m low. omega (arith, low, idle t.phase t.asked right (ap may_ask at ∙ off)))
     where
-      by : (b : Bool) (m : ℕ) → m + came ≤ budget_of t → m ≤ budget_of (go_on_if node layout tx t at b).state
-      by true m low = omega (arith, low)
-      by false m low = omega (arith, low)
+      none : (asked : Option Asked) → t.asked ≡ asked → asked ≡ None
+      none None on = refl
+      none (Some a) on =
+          absurd (let both : true ≡ false = sym right ∙ (ap (λ o. is_right o t.phase) on ∙ (ap may_ask at ∙ off)) in cc)
 
-  pub operate_turn : (layout : Layout) (op : Op) (came : ℕ) → TurnTokens tx t came (going (operate.operate_row layout tx t op))
-  unfolding operate.operate_row
-  operate_turn layout op came = by (operate.can_operate t op) refl
-    where
-      by : (b : Bool) → operate.can_operate t op ≡ b → TurnTokens tx t came (going (operate.operate_if layout tx t op b))
-      by false e = still_turn came (going (operate.operate_if layout tx t op false)) right (λ v. tt) (λ m low. omega (arith, low))
-      by true e =
-          let ready = (and_parts (operate.is_ready t.phase t.asked) _ e).0 in
-          record {
-            right = ready_may t.phase t.asked ready;
-            own = λ m low. omega (arith, low, ready_none t.phase t.asked ready, one_asked t.phase (record { op = op; chain = chain_of layout (key_of op) }), ap one_if (same_tx-self tx));
-            others = λ v apart. omega (arith, ap one_if apart);
-          }
+  still : (v : TxId) (body : Body) → ((op : Op) → body ≡ Client (TcKeyReq tx op) → ⊥) → TurnForms node layout tx t body (IsStill v)
+  still v body other = turns_still v tx node layout t body (λ op is. absurd (other op is))
 
-  -- with a part that came, nothing is left
-  nothing_left : (came : ℕ) → 1 ≤ came → (turn : Turn) (m : ℕ) → m + came ≤ budget_of t → m ≤ budget_after tx turn
-  nothing_left came some turn m low = omega (arith, low, some, few t.phase t.asked)
+  -- whatever comes
+  anyhow : (v : TxId) → TurnForms node layout tx t (Client (TcCommitReq tx)) (IsStill v)
+  anyhow v = still v (Client (TcCommitReq tx)) (λ op is. cc)
 
-  pub answer_turn : (layout : Layout) (key : List ℕ) (answer : Answer) (came : ℕ) → 1 ≤ came → TurnTokens tx t came (going (operate.answer_row layout tx t key answer))
-  answer_turn layout key answer came some =
-      still_turn came (going (operate.answer_row layout tx t key answer)) (answer_asks 0 tx [] t right layout key answer).right (λ v. answer_still v tx layout t key answer)
-      (nothing_left came some (going (operate.answer_row layout tx t key answer)))
+  committed_forms : (epoch : ℕ) (phase : Phase) → t.phase ≡ phase → may_ask phase ≡ false
+      → ((v : TxId) → CommittedForms node layout tx t epoch (IsStill v)) → CommittedForms node layout tx t epoch R
+  unfolding entering
+  committed_forms epoch phase at off each = record {
+    enters = λ some. none_then phase at off _ refl (λ v. (each v).enters some);
+    ends = λ none. none_then phase at off _ refl (λ v. (each v).ends none);
+  }
 
-  pub refuse_turn : (node : ℕ) (layout : Layout) (key : List ℕ) (why : AbortCause) (came : ℕ) → 1 ≤ came → TurnTokens tx t came (abort.refuse_row node layout tx t key why)
-  refuse_turn node layout key why came some =
-      still_turn came (abort.refuse_row node layout tx t key why) (refuse_asks 0 tx [] t right node layout key why).right (λ v. refuse_still v tx node layout t key why)
-      (nothing_left came some (abort.refuse_row node layout tx t key why))
+  abort_forms : (u : Transaction) (why : AbortCause) → is_right u.asked u.phase ≡ true → ((v : TxId) → AbortForms node layout tx u why (IsStill v))
+      → AbortForms node layout tx u why R
+  unfolding entering
+  abort_forms u why is each = record {
+    enters = λ some. one_then _ (right_aborting u.asked why _ _) (λ v. (each v).enters some) refl;
+    ends = λ none. one_then _ is (λ v. (each v).ends none) (ap one_if (end_gives_up tx node why (abort.is_verifying u.phase)));
+  }
 
-  pub wait_turn : (came : ℕ) → TurnTokens tx t came (going (operate.wait_row tx t))
-  unfolding operate.wait_row
-  wait_turn came = still_turn came (going (operate.wait_row tx t)) (wait_asks 0 tx [] t right).right (λ v. wait_still v tx t) (by t.asked)
-    where
-      by : (o : Option Asked) (m : ℕ) → m + came ≤ budget_of t → m ≤ budget_of (operate.wait_by tx t o).state
-      by None m low = omega (arith, low)
-      by (Some a) m low = omega (arith, low)
-
-  pub decide_turn : (node came : ℕ) → TurnTokens tx t came (going (commit.decide_row node tx t))
-  unfolding commit.decide_row
-  decide_turn node came =
-      still_turn came (going (commit.decide_row node tx t)) (decide_asks 0 tx [] t right node).right (λ v. decide_still v tx node t) (by (operate.is_ready t.phase t.asked) refl)
-    where
-      by : (b : Bool) → operate.is_ready t.phase t.asked ≡ b → (m : ℕ) → m + came ≤ budget_of t → m ≤ budget_of (commit.decide_if node tx t b).state
-      by true ready m low = omega (arith, low, ready_none t.phase t.asked ready)
-      by false ready m low = omega (arith, low)
-
-  -- there is none where it is to commit, or commits
-  none_idle : (came : ℕ) → may_ask t.phase ≡ false → (turn : Turn) (m : ℕ) → m + came ≤ budget_of t → m ≤ budget_after tx turn
-  none_idle came off turn m low = omega (arith, low, idle t.phase t.asked right off)
-
-  pub commit_turn : (node : ℕ) (layout : Layout) (epoch came : ℕ) → TurnTokens tx t came (commit.commit_row node layout tx t epoch)
-  unfolding commit.commit_row
-  commit_turn node layout epoch came =
-      still_turn came (commit.commit_row node layout tx t epoch) (commit_asks 0 tx [] t right node layout epoch).right (λ v. commit_still v tx node layout t epoch) (by t.phase refl)
-    where
-      by : (phase : Phase) → t.phase ≡ phase → (m : ℕ) → m + came ≤ budget_of t → m ≤ budget_after tx (commit.commit_by node layout tx t epoch phase)
-      by Verifying p m low = none_idle came (ap may_ask p) (commit.commit_by node layout tx t epoch Verifying) m low
-      by Open p m low = omega (arith, low)
-      by (Committing other awaited) p m low = omega (arith, low)
-      by (Completing other awaited) p m low = omega (arith, low)
-      by (Aborting why verifying awaited) p m low = omega (arith, low)
-
-  pub committed_turn : (node : ℕ) (layout : Layout) (came : ℕ) → TurnTokens tx t came (commit.committed_row node layout tx t)
-  unfolding commit.committed_row
-  committed_turn node layout came =
-      still_turn came (commit.committed_row node layout tx t) (committed_asks 0 tx [] t right node layout).right (λ v. committed_still v tx node layout t) (by t.phase refl)
-    where
-      by : (phase : Phase) → t.phase ≡ phase → (m : ℕ) → m + came ≤ budget_of t → m ≤ budget_after tx (commit.committed_by node layout tx t phase)
-      by (Committing epoch awaited) p m low = none_idle came (ap may_ask p) (commit.committed_by node layout tx t (Committing epoch awaited)) m low
-      by Open p m low = omega (arith, low)
-      by Verifying p m low = omega (arith, low)
-      by (Completing other awaited) p m low = omega (arith, low)
-      by (Aborting why verifying awaited) p m low = omega (arith, low)
-
-  pub completed_turn : (node came : ℕ) → TurnTokens tx t came (complete.completed_row node tx t)
-  unfolding complete.completed_row
-  completed_turn node came =
-      still_turn came (complete.completed_row node tx t) (completed_asks 0 tx [] t right node).right (λ v. completed_still v tx node t) (by t.phase refl)
-    where
-      by : (phase : Phase) → t.phase ≡ phase → (m : ℕ) → m + came ≤ budget_of t → m ≤ budget_after tx (complete.completed_by node tx t phase)
-      by (Completing epoch awaited) p m low = none_idle came (ap may_ask p) (complete.completed_by node tx t (Completing epoch awaited)) m low
-      by Open p m low = omega (arith, low)
-      by Verifying p m low = omega (arith, low)
-      by (Committing other awaited) p m low = omega (arith, low)
-      by (Aborting why verifying awaited) p m low = omega (arith, low)
-
-  -- who is told of its abort is given up
-  end_gives_up : (node : ℕ) (why : AbortCause) (b : Bool) → gives_up tx (abort.abort_end node tx why b) ≡ true
-  end_gives_up node why true = or_left (same_tx tx tx) false (same_tx-self tx)
-  end_gives_up node why false = or_left (same_tx tx tx) false (same_tx-self tx)
-
-  one_then : (node : ℕ) (layout : Layout) (why : AbortCause) → budget_after tx (abort.aborted_for node layout tx t why) ≡ 1
-  unfolding abort.aborted_for entering
-  one_then node layout why = by (abort.aborts_awaited layout t == 0)
-    where
-      by : (b : Bool) → budget_after tx (abort.abort_if node layout tx t why b) ≡ 1
-      by true = ap one_if (end_gives_up node why (abort.is_verifying t.phase))
-      by false = refl
-
-  pub rollback_turn : (node : ℕ) (layout : Layout) (came : ℕ) → TurnTokens tx t came (abort.rollback_row node layout tx t)
-  unfolding abort.rollback_row
-  rollback_turn node layout came =
-      still_turn came (abort.rollback_row node layout tx t) (rollback_asks 0 tx [] t right node layout).right (λ v. rollback_still v tx node layout t) (by t.phase)
-    where
-      by : (phase : Phase) (m : ℕ) → m + came ≤ budget_of t → m ≤ budget_after tx (abort.rollback_by node layout tx t phase)
-      by Open m low = omega (arith, low, few t.phase t.asked, one_then node layout cause.Request)
-      by Verifying m low = omega (arith, low, few t.phase t.asked, one_then node layout cause.Request)
-      by (Committing epoch awaited) m low = omega (arith, low)
-      by (Completing epoch awaited) m low = omega (arith, low)
-      by (Aborting why verifying awaited) m low = omega (arith, low)
-
-  pub aborted_turn : (node came : ℕ) → TurnTokens tx t came (abort.aborted_row node tx t)
-  unfolding abort.aborted_row
-  aborted_turn node came =
-      still_turn came (abort.aborted_row node tx t) (aborted_asks 0 tx [] t right node).right (λ v. aborted_still v tx node t) (by t.phase)
-    where
-      which : (why : AbortCause) (verifying : Bool) (awaited : ℕ) (b : Bool) → budget_after tx (abort.aborted_if node tx t why verifying awaited b) ≡ 1
-      which why verifying awaited true = refl
-      which why verifying awaited false = ap one_if (end_gives_up node why verifying)
-
-      by : (phase : Phase) (m : ℕ) → m + came ≤ budget_of t → m ≤ budget_after tx (abort.aborted_by node tx t phase)
-      by (Aborting why verifying awaited) m low = omega (arith, low, few t.phase t.asked, which why verifying awaited (nat_lt 1 awaited))
-      by Open m low = omega (arith, low)
-      by Verifying m low = omega (arith, low)
-      by (Committing epoch awaited) m low = omega (arith, low)
-      by (Completing epoch awaited) m low = omega (arith, low)
+  pub tokens_forms : (body : Body) → ((key : List ℕ) (answer : Answer) → body ≡ Chain (LqhKeyConf tx key answer) → 1 ≤ came)
+      → TurnForms node layout tx t body R
+  unfolding entering
+  tokens_forms body answered = record {
+    stays = as_before _ right (λ v. (anyhow v).stays) refl;
+    goes_on = λ at. as_before _ right (λ v. (anyhow v).goes_on at) refl;
+    operates = λ op is can.
+        let ready = (and_parts (operate.is_ready t.phase t.asked) _ can).0 in
+        record {
+          right = ready_may t.phase t.asked ready;
+          own = λ m low. omega (
+            arith,
+            low,
+            ready_none t.phase t.asked ready,
+            one_asked t.phase (record { op = op; chain = chain_of layout (key_of op) }),
+            ap one_if (same_tx-self tx),
+          );
+          others = λ v apart. omega (arith, ap one_if apart);
+        };
+    answers = λ key answer asked is on at.
+        still_turn _ refl (λ v. record { state = tt; sends = (refl, tt) })
+        (λ m low. omega (arith, low, answered key answer is, few t.phase t.asked));
+    late = λ key asked why verifying awaited on at.
+        one_then _ refl (λ v. (anyhow v).late key asked why verifying awaited on at) (ap (λ p. budget_at p None) at);
+    waits = λ asked on. as_before _ right (λ v. (anyhow v).waits asked on) refl;
+    decides = λ is ready.
+        still_turn _ (right_none Verifying t.asked (ready_is t.phase t.asked ready).1) (λ v. record { state = tt; sends = (refl, tt) })
+        (λ m low. omega (arith, low, ready_none t.phase t.asked ready));
+    commits = λ epoch is at some.
+        none_then _ at refl _ refl (λ v. (still v (Epoch (DiVerifyConf tx epoch)) (λ op e. cc)).commits epoch refl at some);
+    commits_none = λ epoch is at.
+        committed_forms epoch _ at refl (λ v. (still v (Epoch (DiVerifyConf tx epoch)) (λ op e. cc)).commits_none epoch refl at);
+    committed = λ epoch awaited at more. none_then _ at refl _ refl (λ v. (anyhow v).committed epoch awaited at more);
+    committed_all = λ epoch awaited at. committed_forms epoch _ at refl (λ v. (anyhow v).committed_all epoch awaited at);
+    completed = λ epoch awaited at more. none_then _ at refl _ refl (λ v. (anyhow v).completed epoch awaited at more);
+    completed_all = λ epoch awaited at last. none_then _ at refl _ refl (λ v. (anyhow v).completed_all epoch awaited at last);
+    rolls_back = λ is undecided unaborted.
+        abort_forms t _ right (λ v. (still v (Client (TcRollbackReq tx)) (λ op e. cc)).rolls_back refl undecided unaborted);
+    refuses = λ key why asked is on at.
+        abort_forms (asking t None) why refl (λ v. (still v (Chain (LqhKeyRef tx key why)) (λ op e. cc)).refuses key why asked refl on at);
+    aborted = λ why verifying awaited at more.
+        one_then _ (right_aborting t.asked why verifying _) (λ v. (anyhow v).aborted why verifying awaited at more) refl;
+    aborted_all = λ why verifying awaited at last.
+        one_then _ right (λ v. (anyhow v).aborted_all why verifying awaited at last) (ap one_if (end_gives_up tx node why verifying));
+  }

@@ -2,7 +2,7 @@
 use Rattle.std.proofs.Common.{◌≡◌, ◌≤◌, ◌+◌, ◌&&◌, ℕ, Bool, true, false, List, [], ◌∷◌, refl, sym, ap, ◌∙◌, subst, arith}
 use Rattle.std.specs.Prelude.{if◌then◌else◌, Option, None, Some}
 use Rattle.run_theory.specs.Lists.{Each}
-use Rattle.run_theory.proofs.Pasts.{each_after, each_append, each_before}
+use Rattle.run_theory.proofs.Pasts.{each_after, each_append, each_before, each_map}
 use Rattle.world_core.specs.Steps.{Addressed, HostStep}
 use Rattle.sig_core.specs.declared.member.TxId.{TxId}
 use Rattle.sig_core.specs.declared.outs.Outgoing.{Outgoing}
@@ -10,6 +10,7 @@ use Rattle.sig_core.specs.declared.place.Place.{Place}
 use Rattle.sig_core.specs.declared.signal.Body.{Body}
 use Rattle.sig_core.specs.declared.signal.Body.TheVariants.{Chain}
 use Rattle.sig_core.specs.declared.signal.chain.ChainSignal.TheVariants.{LqhKeyReq, LqhKeyConf, LqhKeyRef}
+use Rattle.sig_core.specs.Place.{coordinator}
 use Rattle.sig_core.specs.Same.{same_key, same_tx}
 use Rattle.lqh_block.specs.Work.{work_key}
 use Rattle.node_core.specs.Requests.{is_request}
@@ -19,6 +20,7 @@ use Rattle.host_laws.specs.Counts.{one_if, tally}
 use Rattle.run_laws.specs.Tokens.{is_token}
 use Rattle.run_laws.specs.Transit.{Takes, joined, taken_by}
 use Rattle.run_laws.proofs.KeyTokens.{Token, answers, is_home, is_rows, performs, put, refuses, token_of, tokens_of}
+use Rattle.run_laws.proofs.TxTurns.{is_for}
 
 -- what holds of all holds of those before, and of those that join
 pub joined_old : (P : Addressed → Type 0) (xs ys : List Addressed) → Each P (joined xs ys) → Each P ys
@@ -102,6 +104,20 @@ module _ (tx : TxId) (key : List ℕ) where
       by : (o : Option Token) → token_of tx key to body ≡ o → o ≡ None
       by None is = refl
       by (Some t) is = absurd (let both : true ≡ false = sym (counts to body t is) ∙ off in cc)
+
+  -- at a coordinator none comes but with a signal for the transaction
+  pub token_for : (node : ℕ) (body : Body) → is_for tx body ≡ false → token_of tx key (coordinator node) body ≡ None
+  token_for node (Chain (LqhKeyReq v work chain at)) off = refl
+  token_for node (Chain (LqhKeyConf v own answer)) off = uncounted (coordinator node) (Chain (LqhKeyConf v own answer)) off
+  token_for node (Chain (LqhKeyRef v own why)) off = uncounted (coordinator node) (Chain (LqhKeyRef v own why)) off
+  token_for node _ off = refl
+
+  -- where no part of an operation is sent there is none
+  pub none_out : (sends : List Outgoing) → Each (λ (o : Outgoing). is_token tx o.body ≡ false) sends → tokens_of tx key sends ≡ []
+  none_out sends still =
+      none_sent sends
+      (each_map (λ (o : Outgoing). is_token tx o.body ≡ false) (λ (o : Outgoing). token_of tx key o.to o.body ≡ None) sends
+      (λ o. uncounted o.to o.body) still)
 
   pub sent_some : (sends : List Outgoing) (t : Token) (rest : List Token) → tokens_of tx key sends ≡ t ∷ rest → 1 ≤ tally (λ (o : Outgoing). is_token tx o.body) sends
   sent_some [] t rest is = absurd cc

@@ -63,9 +63,9 @@ cover tx key i to body = one_if (covers tx key i to body)
 
 -- What a signal tells of a row: a commit one thing of its key, its chain and its place there, and a completion another of its key.
 abbrev pub Tells : TxId → (List ℕ → List Member → ℕ → Type 0) → (List ℕ → Type 0) → Body → Type 0
-Tells tx C D (Chain (Commit other key epoch chain at)) = same_tx other tx ≡ true → C key chain at
-Tells tx C D (Chain (Complete other key chain at)) = same_tx other tx ≡ true → D key
-Tells tx C D _ = Unit {0}
+Tells tx Spread AtAll (Chain (Commit other key epoch chain at)) = same_tx other tx ≡ true → Spread key chain at
+Tells tx Spread AtAll (Chain (Complete other key chain at)) = same_tx other tx ≡ true → AtAll key
+Tells tx Spread AtAll _ = Unit {0}
 
 pub sign_part : (tx : TxId) (body : Body) → is_sign tx body ≡ false → is_part tx body ≡ false
 sign_part tx (Client (TcCommitConf other epoch)) e = refl
@@ -75,10 +75,11 @@ sign_part tx (Chain (Complete other key chain at)) e = e
 sign_part tx (Host (Continue (work.Transaction other) at)) e = e
 sign_part tx _ e = refl
 
-pub part_tells : (tx : TxId) (C : List ℕ → List Member → ℕ → Type 0) (D : List ℕ → Type 0) (body : Body) → is_part tx body ≡ false → Tells tx C D body
-part_tells tx C D (Chain (Commit other key epoch chain at)) e = λ f. not_both (same_tx other tx) f e
-part_tells tx C D (Chain (Complete other key chain at)) e = λ f. not_both (same_tx other tx) f e
-part_tells tx C D _ e = tt
+pub part_tells : (tx : TxId) (Spread : List ℕ → List Member → ℕ → Type 0) (AtAll : List ℕ → Type 0) (body : Body)
+    → is_part tx body ≡ false → Tells tx Spread AtAll body
+part_tells tx Spread AtAll (Chain (Commit other key epoch chain at)) e = λ f. not_both (same_tx other tx) f e
+part_tells tx Spread AtAll (Chain (Complete other key chain at)) e = λ f. not_both (same_tx other tx) f e
+part_tells tx Spread AtAll _ e = tt
 
 pub part_weight : (tx : TxId) (count : ℕ) (to : Place) (body : Body) → is_part tx body ≡ false → weight tx count to body ≡ 0
 part_weight tx count to (Chain (Commit other key epoch chain at)) e = ap one_if e

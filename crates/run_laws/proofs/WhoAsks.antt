@@ -42,9 +42,9 @@ use Rattle.run_laws.proofs.HostAsks as asks
 use Rattle.run_laws.proofs.HostAsks.{HostAsks, Leaves, OpsOf, host_asks, none_ops, zero_ops}
 use Rattle.run_laws.proofs.HomeSteps.{IsHome, IsUnborn, all_home, away, here_now, here_was, own_home}
 use Rattle.run_laws.proofs.LiveAfter.{live_none, strange_none, unborn_none}
-use Rattle.run_laws.proofs.TcAsks.{AreMute, AskTurn, IsAsking, is_ask, is_back, is_conf}
-use Rattle.run_laws.proofs.TcAskTurns.{ask, mute_none}
-use Rattle.run_laws.proofs.TcCircle.{Going, GoesOn, is_early, left_by, notes, operates, rests, verifies}
+use Rattle.run_laws.proofs.TcAsks.{AreMute, AskTurn, IsAsking, ask, is_ask, is_back, is_conf, mute_none}
+use Rattle.run_laws.proofs.TcCircle.{Going, GoesOn, is_early, notes, operates, rests, verifies}
+use Rattle.run_laws.proofs.TxTurns.{left_by}
 use Rattle.run_laws.proofs.Transit.{along_transit}
 use Rattle.run_laws.proofs.Ways.{given_more}
 use Rattle.run_laws.proofs.Weighing.{each_between, each_joins, in_sends, in_transit, joins_weigh, none_weighs, takes_weigh, weigh}
@@ -280,7 +280,7 @@ module _ (start : Start) (tx : TxId) where
             weighs = omega (arith, ap (in_sends (ask tx)) (sent ∙ a.is), ap one_if (same_tx-self tx))
 
         mute_waits : AreMute turn.step.effects.sends → (u : Transaction) → left_by turn ≡ Some u → u.phase ≡ Verifying → IsWaiting u then_is
-        mute_waits mute u left v = by (goes u left (ap is_early v))
+        mute_waits mute u left v = by (goes.goes u left (ap is_early v))
           where
             open_waits : u.phase ≡ Open → ⊥
             open_waits o = let both : Open ≡ Verifying = sym o ∙ v in cc

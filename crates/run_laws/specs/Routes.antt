@@ -1,5 +1,6 @@
 -- Signals along chains: where they are sent, and what they ask for there.
-use Rattle.frag_map.specs.Layout.{chain_of, first_layout, holds}
+use Rattle.frag_map.specs.Laws.{first_chain}
+use Rattle.frag_map.specs.Layout.{first_layout, holds}
 use Rattle.frag_map.specs.Shape.{IsShape}
 use Rattle.world_core.specs.Hosts.{rows_host}
 use Rattle.node_core.specs.Blocks.{has_tc, lqh_of, tc_of}
@@ -31,7 +32,7 @@ use Rattle.run_laws.specs.Transit.{AreInTransit, Comes, IsRun, host_after}
 
 -- the replicas of a key, the primary first; no other layout than the first is installed by now
 abbrev pub replicas : Start → List ℕ → List Member
-replicas start key = chain_of (first_layout start.shape) key
+replicas start key = first_chain start.shape key
 
 -- the node of the primary, and the host of its rows
 abbrev pub primary : Start → List ℕ → ℕ
@@ -102,12 +103,6 @@ pub record AreRouted (start : Start) (es : List HostStep) (xs : List Addressed) 
 abbrev pub SignalsAreRouted : Type 0
 SignalsAreRouted = (start : Start) (es : List HostStep) (xs : List Addressed) → IsRun start es → AreInTransit start es xs → AreRouted start es xs
 
--- no node stands twice among the replicas
-abbrev pub ReplicasAreApart : Type 0
-ReplicasAreApart =
-    (start : Start) (key : List ℕ) (one other : ℕ) → IsShape start.shape → one < length (replicas start key) → other < length (replicas start key)
-    → node_at (replicas start key) one ≡ node_at (replicas start key) other → one ≡ other
-
 -- the replicas are nodes of the key's group
 pub record IsNodeFor (start : Start) (node : ℕ) (key : List ℕ) : Type 0 where
   pub from : 1 ≤ node
@@ -116,7 +111,8 @@ pub record IsNodeFor (start : Start) (node : ℕ) (key : List ℕ) : Type 0 wher
 
 abbrev pub ReplicasAreNodes : Type 0
 ReplicasAreNodes =
-    (start : Start) (key : List ℕ) (at : ℕ) → IsShape start.shape → at < length (replicas start key) → IsNodeFor start (node_at (replicas start key) at) key
+    (start : Start) (key : List ℕ) (at : ℕ) → IsShape start.shape → at < length (replicas start key)
+    → IsNodeFor start (node_at (replicas start key) at) key
 
 -- what asks a replica for something is for the rows of a node, and its answer for the coordinator of the transaction
 abbrev pub IsForBlock : Place → Body → Type 0

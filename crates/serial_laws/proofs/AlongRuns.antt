@@ -32,16 +32,15 @@ use Rattle.host_laws.proofs.Replicas.{keys_have_rows, nodes_begin}
 use Rattle.run_laws.specs.Circle.{IsReplica, at_host, at_primary}
 use Rattle.run_laws.specs.Routes.{primary_host, replicas}
 use Rattle.run_laws.specs.Transit.{Comes, IsRun, logs_of}
+use Rattle.serial_laws.specs.Moments.{ComesAfter, IsLedAt, IsByTurn, decided_at, first_row, history_at, is_final, is_final_entry}
 use Rattle.serial_laws.specs.Owing.{AreOwed}
 use Rattle.serial_laws.proofs.DecisionSteps.{kept_good, unkept_good}
 use Rattle.serial_laws.proofs.FairSteps.{AreWriters, owed_fair}
-use Rattle.serial_laws.proofs.Finals.{decided_at, first_row, history_at, is_final, is_final_entry}
 use Rattle.serial_laws.proofs.KeySteps.{IsBackupWith, IsGoodWith, IsPrimaryWith, good_step, primary_replica, rests_fair}
 use Rattle.serial_laws.proofs.ReplicaHosts.{member_is, node_for, primary_is}
 use Rattle.serial_laws.proofs.Parts.{part_comes, part_turn}
 use Rattle.run_laws.proofs.Decided.{run_is_cut}
 use Rattle.serial_laws.proofs.StepKinds.{StepKind, decision, quiet, step_kind}
-use Rattle.serial_laws.proofs.Turns.{ComesAfter, IsByTurn}
 use Rattle.serial_laws.proofs.Unfinished.{AreUnfinished, once_at, settled_empty, unfinished_now}
 use Rattle.serial_laws.proofs.WriterSteps.{writers_now}
 
@@ -151,6 +150,15 @@ module _ (start : Start) (end : List HostStep) (run : IsRun start end) (turn : I
   holds_at [] past = holds_first
   holds_at (e ∷ es) past =
       holds_next es e past (part_comes start es end e past run) (part_turn start (e ∷ es) end past turn).0 (holds_at es (past_less e past))
+
+  pub keys_led : (es : List HostStep) → IsPast es end → (key : List ℕ) → IsLedAt start end es key
+  keys_led es past key =
+      let good = (holds_at es past).keys key in
+      record {
+        right = good.right;
+        primary = good.first.led;
+        backups = λ g node apart. (good.backups g node apart).led;
+      }
 
   -- where nothing is at work on a key, a node has the row that the history leaves
   rest_row : (key : List ℕ) (g : ℕ) → IsReplica start key g

@@ -25,13 +25,13 @@ use Rattle.run_laws.specs.Completions.{IsCommittedAtAll}
 use Rattle.run_laws.specs.Owed.{IsCarriedOut, IsOwed, IsUndecided}
 use Rattle.run_laws.specs.Routes.{primary_host}
 use Rattle.run_laws.specs.Transit.{Comes, IsRun, logs_of}
+use Rattle.serial_laws.specs.Moments.{IsByTurn, decided_at, is_final}
 use Rattle.serial_laws.specs.Owing.{AreOwed}
-use Rattle.serial_laws.proofs.Finals.{IsWriter, carried_at, decided_at, is_final, undecided_at, writer_final}
-use Rattle.serial_laws.proofs.HostSteps.{host_applies}
+use Rattle.serial_laws.proofs.Finals.{IsWriter, carried_at, undecided_at, writer_final}
+use Rattle.serial_laws.proofs.MarksByKey.{host_applies}
 use Rattle.serial_laws.proofs.KeySteps.{IsFairStep, event_of, primary_replica}
 use Rattle.serial_laws.proofs.ReplicaHosts.{primary_is, replica_below}
 use Rattle.serial_laws.proofs.RowApplies.{AppliesIf}
-use Rattle.serial_laws.proofs.Turns.{IsByTurn}
 
 -- Who is decided and has a record has an entry that writes, and so has who is marked as applied.
 pub record AreWriters (start : Start) (end es : List HostStep) : Type 0 where

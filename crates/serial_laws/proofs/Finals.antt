@@ -1,13 +1,11 @@
 -- What is decided at some time of a run and carried out, what is final at its end, and the history up to that time.
-use Rattle.std.proofs.Common.{◌≡◌, ◌<◌, ℕ, Bool, true, false, not, ◌&&◌, ◌||◌, List, [], ◌∷◌, ◌++◌, filter, refl, sym, ap, ◌∙◌, subst, inl, inr}
+use Rattle.std.proofs.Common.{◌≡◌, ◌<◌, ℕ, Bool, true, false, not, ◌&&◌, ◌||◌, List, [], ◌∷◌, ◌++◌, refl, sym, ap, ◌∙◌, subst, inl, inr}
 use Rattle.std.proofs.lemmas.Bool.{and_from, and_left, and_right, or_left, or_right}
 use Rattle.std.proofs.Math.Path.{fun_ext}
-use Rattle.std.specs.FinMap as map
 use Rattle.std.specs.List.{list_any}
-use Rattle.std.specs.Prelude.{if◌then◌else◌, Option}
+use Rattle.std.specs.Prelude.{if◌then◌else◌}
 use Rattle.run_theory.specs.Lists.{IsIn, IsPast}
 use Rattle.run_theory.proofs.Pasts.{past_self}
-use Rattle.serial_model.specs.Legal.{rows_of}
 use Rattle.sig_core.specs.declared.entry.Entry.{Entry}
 use Rattle.world_core.specs.Steps.{HostStep}
 use Rattle.sig_core.specs.declared.mark.Mark.TheVariants as mark
@@ -15,28 +13,26 @@ use Rattle.sig_core.specs.declared.member.TxId.{TxId}
 use Rattle.sig_core.specs.Same.{same_tx}
 use Rattle.sig_core.proofs.TxLemmas.{same_tx-is}
 use Rattle.world_core.specs.Entries.{entries}
-use Rattle.world_core.specs.History.{is_applied, is_kept, is_reported, writes}
+use Rattle.world_core.specs.History.{is_applied, is_reported, writes}
 use Rattle.world_core.specs.Hosts.{hosts}
 use Rattle.world_core.specs.Machine.{machine}
 use Rattle.world_core.specs.Marks.{has_mark, have_mark}
 use Rattle.world_core.specs.Start.{Start}
-use Rattle.key_laws.specs.Backup.{kept_of}
 use Rattle.host_laws.specs.Causes.{is_decision}
-use Rattle.key_laws.specs.OneKey.{row_at_end}
 use Rattle.key_laws.specs.Primary.{ended_too}
 use Rattle.host_laws.proofs.HostMarks.{AreMarks, decides, plain}
 use Rattle.sig_core.proofs.Keys.{same_tx-self}
 use Rattle.host_laws.proofs.PlainMarks.{ArePlain}
-use Rattle.run_laws.specs.GivenUp.{is_given_up}
 use Rattle.run_laws.specs.Owed.{IsCarriedOut, IsUndecided, is_decided}
 use Rattle.run_laws.specs.Transit.{Comes, IsRun, logs_of}
+use Rattle.serial_laws.specs.Moments.{ComesAfter, IsByTurn}
+use Rattle.serial_laws.specs.Moments as moment
 use Rattle.serial_laws.specs.Owing.{AreOwed}
 use Rattle.serial_laws.proofs.Folds.{any_in, any_item, in_filter, in_front, of_filter}
 use Rattle.serial_laws.proofs.NewDecisions.{decided_now, decided_other, entries_are_once, one_entry, plain_undecided}
 use Rattle.serial_laws.proofs.Parts.{carried_past, given_past, mark_all, mark_past, part_comes, part_logs, part_run, part_turn}
 use Rattle.serial_laws.proofs.RowMarks.{alone_so}
 use Rattle.serial_laws.proofs.RunEntries.{entries_decided, entries_plain, marks_are}
-use Rattle.serial_laws.proofs.Turns.{ComesAfter, IsByTurn}
 
 -- entries stay
 pub entries_past : (start : Start) (es all : List HostStep) (b : Entry) → IsPast es all → IsRun start all → IsByTurn (machine start) all
@@ -63,35 +59,20 @@ pub record IsWriter (start : Start) (es : List HostStep) (v : TxId) : Type 0 whe
   pub writes : writes entry ≡ true
 
 module _ (start : Start) (end : List HostStep) where
-  -- it is given up at the end
-  abbrev pub is_given : TxId → Bool
-  is_given v = is_given_up start (logs_of start end) v
+  abbrev is_given : TxId → Bool
+  is_given = moment.is_given start end
 
-  -- it is decided at this time, and is never given up
-  abbrev pub decided_at : List HostStep → TxId → Bool
-  decided_at es v = is_decided start (logs_of start es) v && not (is_given v)
+  abbrev decided_at : List HostStep → TxId → Bool
+  decided_at = moment.decided_at start end
 
-  -- the entry takes effect
-  abbrev pub is_final_entry : Entry → Bool
-  is_final_entry b = is_kept (hosts start) (logs_of start end) b
+  abbrev is_final_entry : Entry → Bool
+  is_final_entry = moment.is_final_entry start end
 
-  -- the history up to this time
-  abbrev pub history_at : List HostStep → List Entry
-  history_at es = filter is_final_entry (entries (hosts start) (logs_of start es))
+  abbrev history_at : List HostStep → List Entry
+  history_at = moment.history_at start end
 
-  -- it has an entry that takes effect
-  abbrev pub is_final : TxId → Bool
-  is_final v = list_any (λ (b : Entry). same_tx b.tx v) (history_at end)
-
-  abbrev pub kept_at : List HostStep → TxId → Bool
-  kept_at es = kept_of (decided_at es) is_final
-
-  -- the row of a key before the first event, and after the history up to this time
-  abbrev pub first_row : List ℕ → Option (List ℕ)
-  first_row key = map.get (rows_of start.rows) key
-
-  abbrev pub value_at : List ℕ → List HostStep → Option (List ℕ)
-  value_at key es = row_at_end key (first_row key) (history_at es)
+  abbrev is_final : TxId → Bool
+  is_final = moment.is_final start end
 
   module _ (run : IsRun start end) (turn : IsByTurn (machine start) end) (owed : AreOwed) where
     -- what is undecided, or given up, at this time, and what is carried out

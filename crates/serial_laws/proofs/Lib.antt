@@ -5,8 +5,8 @@ pub mod EveryCut
 pub mod FairSteps
 pub mod Finals
 pub mod Folds
-pub mod HostSteps
 pub mod KeySteps
+pub mod MarksByKey
 pub mod NewDecisions
 pub mod NoRecords
 pub mod Parts

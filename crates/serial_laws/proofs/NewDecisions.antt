@@ -29,11 +29,11 @@ use Rattle.host_laws.proofs.PlainMarks.{ArePlain}
 use Rattle.run_laws.proofs.StrictOrder.{one_decided}
 use Rattle.run_laws.specs.Owed.{is_decided}
 use Rattle.run_laws.specs.Transit.{Comes, IsRun, logs_of}
+use Rattle.serial_laws.specs.Moments.{ComesAfter, IsByTurn}
 use Rattle.serial_laws.proofs.Parts.{mark_past, part_comes, part_turn, run_logs}
 use Rattle.run_laws.proofs.Decided.{run_is_causal}
 use Rattle.serial_laws.proofs.RowMarks.{alone_so}
 use Rattle.serial_laws.proofs.RunEntries.{entries_decided, entries_plain, marks_are, new_entry, other_log, own_log}
-use Rattle.serial_laws.proofs.Turns.{ComesAfter, IsByTurn}
 
 -- the step of a mark
 pub record HasMarked (test : Mark → Bool) (log : List HostStep) : Type 0 where

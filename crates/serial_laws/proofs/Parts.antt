@@ -19,7 +19,7 @@ use Rattle.host_laws.specs.Ways.{Way, back, back_by, closes, forth, forth_by, ne
 use Rattle.run_laws.specs.GivenUp.{is_carried_out, is_given_up}
 use Rattle.run_laws.specs.Transit.{Comes, IsRun, logs_of}
 use Rattle.run_laws.proofs.Transit.{comes, earlier}
-use Rattle.serial_laws.proofs.Turns.{IsByTurn}
+use Rattle.serial_laws.specs.Moments.{IsByTurn}
 
 -- a part of a run is a run
 pub part_run : (start : Start) (es all : List HostStep) → IsPast es all → IsRun start all → IsRun start es

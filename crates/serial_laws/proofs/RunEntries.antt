@@ -25,9 +25,9 @@ use Rattle.host_laws.proofs.HostMarks.{AreMarks, decides, plain}
 use Rattle.host_laws.proofs.PlainMarks.{ArePlain}
 use Rattle.run_laws.proofs.StrictOrder.{view_stays}
 use Rattle.run_laws.specs.Transit.{Comes, logs_of}
+use Rattle.serial_laws.specs.Moments.{ComesAfter}
 use Rattle.serial_laws.proofs.EntriesGrow.{entries_more, entries_same}
 use Rattle.serial_laws.proofs.Parts.{run_logs}
-use Rattle.serial_laws.proofs.Turns.{ComesAfter}
 
 plain_none : (h stamp : ℕ) (log : List HostStep) (marks : List Mark) (before : List Entry) → ArePlain marks → entries_in h stamp log marks before ≡ before
 plain_none h stamp log [] before all = refl

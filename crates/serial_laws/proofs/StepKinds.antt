@@ -33,15 +33,15 @@ use Rattle.sig_core.proofs.Keys.{same_tx-self}
 use Rattle.run_laws.specs.Circle.{IsSettledFor}
 use Rattle.run_laws.specs.GivenUp.{is_given_up}
 use Rattle.run_laws.specs.Transit.{Comes, IsRun, logs_of}
+use Rattle.serial_laws.specs.Moments.{ComesAfter, IsByTurn, decided_at, history_at, is_final, is_final_entry, is_given}
 use Rattle.serial_laws.specs.Owing.{AreOwed}
-use Rattle.serial_laws.proofs.Finals.{decided_at, entries_past, final_entry, final_not_given, given_decided, history_at, is_final, is_final_entry, is_given, newly_decided, plain_decided}
+use Rattle.serial_laws.proofs.Finals.{entries_past, final_entry, final_not_given, given_decided, newly_decided, plain_decided}
 use Rattle.serial_laws.proofs.Folds.{filter_last, filter_not_last, in_last}
 use Rattle.serial_laws.proofs.KeySteps.{event_of}
 use Rattle.serial_laws.proofs.NewDecisions.{new_decided}
 use Rattle.serial_laws.proofs.Parts.{given_past}
 use Rattle.serial_laws.proofs.RowMarks.{alone_so}
 use Rattle.serial_laws.proofs.RunEntries.{entries_decided, entries_plain, marks_are, new_entry}
-use Rattle.serial_laws.proofs.Turns.{ComesAfter, IsByTurn}
 
 -- a request for an epoch is no event of any key
 verify_rests : (key : List ℕ) (s : LqhState) (at : BlockId) (tx : TxId) (ops : List (Op × Answer)) → event_for key s at (Epoch (DiVerifyReq tx ops)) ≡ rests

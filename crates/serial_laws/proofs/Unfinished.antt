@@ -22,7 +22,7 @@ use Rattle.run_laws.specs.Owed.{IsOwed}
 use Rattle.run_laws.specs.Routes.{primary_host}
 use Rattle.run_laws.specs.Transit.{Comes, logs_of}
 use Rattle.serial_laws.specs.Owing.{AreOwed}
-use Rattle.serial_laws.proofs.HostSteps.{host_done, host_new}
+use Rattle.serial_laws.proofs.MarksByKey.{host_done, host_new}
 use Rattle.serial_laws.proofs.KeySteps.{IsGoodWith, event_of, host_other, host_own, primary_replica}
 use Rattle.serial_laws.proofs.ReplicaHosts.{replica_runs}
 use Rattle.serial_laws.proofs.NoRecords.{dropped_gone}

@@ -1,8 +1,8 @@
 -- Who is decided and has a record writes, and so does who is applied: one event more.
-use Rattle.std.proofs.Common.{◌≡◌, ◌≢◌, ◌⊎◌, ℕ, Bool, true, false, cond, ◌||◌, List, [], ◌∷◌, refl, sym, ap, ◌∙◌, subst, inl, inr, arith}
+use Rattle.std.proofs.Common.{◌≡◌, ◌≢◌, ◌⊎◌, ℕ, Bool, true, false, cond, ◌||◌, List, [], ◌∷◌, refl, sym, ap, ◌∙◌, subst, inl, inr}
 use Rattle.std.proofs.lemmas.Bool.{cases_eq, or_cases, or_left, or_right}
 use Rattle.std.specs.List.{list_any}
-use Rattle.std.specs.Prelude.{zero, suc, is_some, Option, None, Some}
+use Rattle.std.specs.Prelude.{is_some, Option, None, Some}
 use Rattle.run_theory.specs.Lists.{Each, IsPast}
 use Rattle.run_theory.proofs.Pasts.{each_map, past_less, past_more, past_self}
 use Rattle.run_theory.proofs.Runs.{log_of-other, log_of-own}
@@ -25,15 +25,15 @@ use Rattle.key_laws.specs.Replica.{Event, Replica, aborts, ages, asks, commits, 
 use Rattle.run_laws.specs.Circle.{Agree, IsReplica, at_host, at_primary}
 use Rattle.run_laws.specs.Owed.{IsOwed, IsUndecided}
 use Rattle.run_laws.specs.Transit.{Comes, IsRun, logs_of}
+use Rattle.serial_laws.specs.Moments.{ComesAfter, IsByTurn, decided_at}
 use Rattle.serial_laws.specs.Owing.{AreOwed}
 use Rattle.serial_laws.proofs.FairSteps.{AreWriters}
-use Rattle.serial_laws.proofs.Finals.{IsWriter, carried_at, decided_at, undecided_at, writer_past}
-use Rattle.serial_laws.proofs.HostSteps.{host_applied}
+use Rattle.serial_laws.proofs.Finals.{IsWriter, carried_at, undecided_at, writer_past}
+use Rattle.serial_laws.proofs.MarksByKey.{host_applied}
 use Rattle.serial_laws.proofs.KeySteps.{event_of, host_other, host_own}
 use Rattle.serial_laws.proofs.ReplicaHosts.{primary_is, replica_runs}
 use Rattle.serial_laws.proofs.NoRecords.{IsOfOthers, one_before}
 use Rattle.serial_laws.proofs.StepKinds.{StepKind, decision, quiet}
-use Rattle.serial_laws.proofs.Turns.{ComesAfter, IsByTurn}
 
 -- where an answer on one key was a write, one was
 ops_done : (key : List ℕ) (ops : List (Op × Answer)) → list_any (λ (op : Op × Answer). is_done op.1) (ops_on key ops) ≡ true → list_any (λ (op : Op × Answer). is_done op.1) ops ≡ true

@@ -3,4 +3,4 @@
 
 mod laws;
 
-pub use laws::{every_cut_is_serial, owed_makes_serial};
+pub use laws::{every_cut_is_serial, keys_are_led, owed_makes_serial};

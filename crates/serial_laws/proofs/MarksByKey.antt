@@ -1,5 +1,5 @@
 -- What a step of a host with rows marks, key by key.
-use Rattle.std.proofs.Common.{◌≡◌, ℕ, Bool, true, false, List, refl, ap, ◌∙◌}
+use Rattle.std.proofs.Common.{◌≡◌, ℕ, true, List, refl, ap, ◌∙◌}
 use Rattle.std.specs.List.{list_any}
 use Rattle.std.specs.Prelude.{is_some, None}
 use Rattle.sig_core.specs.declared.member.TxId.{TxId}
@@ -8,7 +8,7 @@ use Rattle.sig_core.specs.declared.place.BlockId.TheVariants as block
 use Rattle.sig_core.specs.declared.signal.Signal.{Signal}
 use Rattle.lqh_block.specs.State.{LqhState}
 use Rattle.node_core.specs.declared.host.Host.{Host}
-use Rattle.node_core.specs.declared.host.Host.TheVariants.{Shell, Main, Tc, Ldm}
+use Rattle.node_core.specs.declared.host.Host.TheVariants.{Ldm}
 use Rattle.node_core.specs.Blocks.{has_lqh}
 use Rattle.node_core.specs.Row.{ldm_row, row}
 use Rattle.world_core.specs.History.{is_applied}

@@ -4,6 +4,7 @@ use Rattle.std.proofs.lemmas.Bool.{false≢true}
 use Rattle.std.specs.Prelude.{◌==◌, ◌&&◌, nat_le, None, Some}
 use Rattle.sig_core.specs.declared.member.Member.{Member}
 use Rattle.sig_core.specs.declared.member.TxId.{TxId}
+use Rattle.sig_core.specs.declared.outs.Outgoing.{Outgoing}
 use Rattle.sig_core.specs.declared.place.BlockId.{BlockId}
 use Rattle.sig_core.specs.declared.place.BlockId.TheVariants as block
 use Rattle.sig_core.specs.declared.place.Place.{Place}
@@ -22,19 +23,18 @@ use Rattle.node_core.specs.Blocks.{api_of, dih_of, has_lqh, tc_of}
 use Rattle.node_core.specs.Row.{row}
 use Rattle.tc_block.specs.declared.transaction.Transaction.{Transaction}
 use Rattle.tc_block.specs.State.{TcState}
-use Rattle.tc_block.specs.Tc.{begun, tc_row}
-use Rattle.host_laws.specs.Counts.{one_if, tally}
+use Rattle.tc_block.specs.Tc.{next_tx, tc_row}
+use Rattle.host_laws.specs.Counts.{one_if}
 use Rattle.host_laws.proofs.LqhOps.{is_lqh}
-use Rattle.host_laws.proofs.TcLives.{is_keyed}
 use Rattle.host_laws.proofs.TcMoves.{TcMove, forgets, host_moves, starts, stays}
 use Rattle.host_laws.proofs.TcMoves as moves
-use Rattle.host_laws.proofs.TcSends.{tx_in}
 use Rattle.host_laws.proofs.Wishes.{is_tc}
 use Rattle.run_laws.specs.Live.{of_host, of_live}
+use Rattle.run_laws.proofs.HomeSteps.{IsHome}
 use Rattle.run_laws.proofs.HostParts.{api_silent, dih_silent}
-use Rattle.run_laws.proofs.TcOwn.{turn_for}
-use Rattle.run_laws.proofs.TxSignals.{cover, is_next}
-use Rattle.run_laws.proofs.TxTurns.{AreSilent, TcTurn, left_by, tc_turn}
+use Rattle.run_laws.proofs.TxSignals.{cover, is_next, is_sign}
+use Rattle.run_laws.proofs.TcOwn.{AreSilent, beside_silent, others_silent}
+use Rattle.run_laws.proofs.TxTurns.{TcTurn, is_for, left_by, tc_turn, turn_for}
 use Rattle.run_laws.proofs.TxTurns as turn
 
 -- a signal for rows comes to a host that runs none, and one by which the transaction goes on finds none
@@ -47,9 +47,8 @@ pub record IsMissed (tx : TxId) (s : Host) (x : Signal) : Type 0 where
 pub data TxStep (tx : TxId) (s : Host) (x : Signal) (t : Step Host) : Type 0 where
   aside : of_host tx t.state ≡ of_host tx s → AreSilent tx t.effects.sends → IsMissed tx s x → TxStep tx s x t
   rows : IsRowsStep s x t → TxStep tx s x t
-  begins : IsTcStep s x t → of_host tx t.state ≡ of_live tx (begun (tc_of s)).live → AreSilent tx t.effects.sends
-      → is_next tx x.body ≡ false → TxStep tx s x t
-  turns : (u : Transaction) → IsTcStep s x t → of_host tx s ≡ Some u → same_tx (tx_in x.body) tx ≡ true
+  begins : IsTcStep s x t → next_tx (tc_of s) ≡ tx → AreSilent tx t.effects.sends → TxStep tx s x t
+  turns : (u : Transaction) → IsTcStep s x t → of_host tx s ≡ Some u → is_for tx x.body ≡ true
       → t.effects.sends ≡ (turn_for (tc_of s).node (tc_of s).layout tx x.body u).step.effects.sends
       → of_host tx t.state ≡ left_by (turn_for (tc_of s).node (tc_of s).layout tx x.body u) → TxStep tx s x t
 
@@ -68,7 +67,11 @@ none_of tx (Ldm l) b is off = refl
 none_of tx (Tc p) block.Tc is off = absurd (false≢true (sym off))
 none_of tx (Tc p) _ is off = cc
 
-module _ (tx : TxId) (s : Host) (x : Signal) (once : tally (is_keyed tx) (tc_of s).live ≤ 1) where
+next_for : (tx : TxId) (b : Body) → is_next tx b ≡ true → is_for tx b ≡ true
+next_for tx (body.Host (Continue (work.Transaction other) at)) is = is
+next_for tx _ is = absurd cc
+
+module _ (tx : TxId) (s : Host) (x : Signal) (home : IsHome tx (tc_of s)) where
   -- the signal is for another block
   elsewhere : (b : BlockId) → x.to.block ≡ b → is_lqh b ≡ false → is_tc b ≡ false → IsMissed tx s x
   elsewhere b at apart away = record {
@@ -83,7 +86,9 @@ module _ (tx : TxId) (s : Host) (x : Signal) (once : tally (is_keyed tx) (tc_of 
       (subst (λ (f : Effects). AreSilent tx f.sends) (sym same) silent) missed
 
   takes_turn : (t : Step Host) → IsTcStep s x t → TxStep tx s x t
-  takes_turn t step = by (tc_turn tx (tc_of s) once x.body)
+  takes_turn t step =
+      by (tc_turn (λ (o : Outgoing). is_sign tx o.body ≡ false) tx (tc_of s) (beside_silent tx (tc_of s)) home.own home.once x.body
+      (others_silent tx (tc_of s) x.body))
     where
       live_is : of_host tx t.state ≡ of_live tx (tc_row (tc_of s) x).state.live
       live_is = ap (λ (c : TcState). of_live tx c.live) step.state
@@ -91,12 +96,11 @@ module _ (tx : TxId) (s : Host) (x : Signal) (once : tally (is_keyed tx) (tc_of 
       silent_too : AreSilent tx (tc_row (tc_of s) x).effects.sends → AreSilent tx t.effects.sends
       silent_too = subst (λ (f : Effects). AreSilent tx f.sends) (sym step.effects)
 
-      by : TcTurn tx (tc_of s) x.body (tc_row (tc_of s) x) → TxStep tx s x t
+      by : TcTurn (λ (o : Outgoing). is_sign tx o.body ≡ false) tx (tc_of s) x.body (tc_row (tc_of s) x) → TxStep tx s x t
       by (turn.idle same silent next) =
           aside (live_is ∙ same) (silent_too silent)
-          (record { rows = λ is. absurd (false≢true (sym (ap is_lqh step.at) ∙ is)); next = λ is home. next is })
-      by (turn.begins is silent none) =
-          begins step (live_is ∙ ap (λ (c : TcState). of_live tx c.live) is) (silent_too silent) none
+          (record { rows = λ is. absurd (false≢true (sym (ap is_lqh step.at) ∙ is)); next = λ is home. next (next_for tx x.body is) })
+      by (turn.begins is left silent none) = begins step is (silent_too silent)
       by (turn.turns u was same sent left) =
           turns u step was same (ap (λ (f : Effects). f.sends) step.effects ∙ sent) (live_is ∙ left)
 
