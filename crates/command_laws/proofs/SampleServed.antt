@@ -28,7 +28,7 @@ use Rattle.command_laws.specs.Sample.{SampleIsServed, committed}
 use Rattle.command_laws.specs.Served.{named_in}
 
 local : (h : ℕ) → IsLog (machine lone) h (committed h)
-unfolding receiver started row shell_row request_row api.begin_row api.commit_row begun_row commit_report_row everyone tc_part_row ldm_row tc.begin_row fresh_shell fresh_part tc_commit.decide_row tc_commit.commit_row all_committed without dih.decide_row dih.end_row acknowledged
+unfolding receiver started row shell_row request_row api.begin_row api.commit_row begun_row commit_report_row everyone tc_part_row ldm_row tc.begin_row fresh_shell fresh_part tc_commit.verify_row tc_commit.commit_row all_committed without dih.decide_row dih.end_row acknowledged
 local zero = (
   record { at = refl; stamped = refl; runs = refl; fits = record { marks = refl; asked = tt } },
   (
@@ -70,7 +70,7 @@ local (suc (suc (suc zero))) = (record { at = refl; stamped = refl; runs = tt; f
 local (suc (suc (suc (suc h)))) = tt
 
 linked : (i j : ℕ) → taken (machine lone) i (committed j) ≡ sent (machine lone) i j (committed i)
-unfolding receiver started row shell_row request_row api.begin_row api.commit_row begun_row commit_report_row everyone tc_part_row ldm_row tc.begin_row fresh_shell fresh_part tc_commit.decide_row tc_commit.commit_row all_committed without dih.decide_row dih.end_row acknowledged
+unfolding receiver started row shell_row request_row api.begin_row api.commit_row begun_row commit_report_row everyone tc_part_row ldm_row tc.begin_row fresh_shell fresh_part tc_commit.verify_row tc_commit.commit_row all_committed without dih.decide_row dih.end_row acknowledged
 linked zero zero = refl
 linked zero (suc zero) = refl
 linked zero (suc (suc zero)) = refl

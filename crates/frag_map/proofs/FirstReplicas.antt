@@ -159,19 +159,6 @@ first_apart shape is key one other one_inside other_inside same =
     around_apart shape.replicas (fragment / groups shape) one other
     (omega (arith, one_inside, long)) (omega (arith, other_inside, long)) seats
 
--- each began the life
-pub first_starts : (shape : Shape) → IsShape shape → (key : List ℕ)
-    → All (λ (member : Member). member.start ≡ 0) (first_chain shape key)
-first_starts shape is key =
-    subst (All (λ (member : Member). member.start ≡ 0)) (sym (chain_is shape is key)) (started shape.replicas)
-  where
-    started : (n : ℕ) → All (λ (member : Member). member.start ≡ 0) (in_order shape (frag_of shape key) n)
-    started n at d inside =
-        let fragment = frag_of shape key in
-        let low : at < n = subst (λ long. at < long) (length-order shape fragment n) inside in
-        ap (λ (member : Member). member.start)
-        (get_or_default (in_order shape fragment n) at d nobody inside ∙ get-order shape fragment n at low)
-
 -- each is of the group that has the key
 pub first_group : (shape : Shape) → IsShape shape → (key : List ℕ) (at : ℕ) → at < length (first_chain shape key)
     → holds shape (node_at (first_chain shape key) at) key ≡ true
@@ -223,15 +210,3 @@ first_viable shape is = ap (λ lost. not (is_some lost)) (none_lost shape is 0 (
 pub few_replicas : (layout : Layout) (key : List ℕ) → length (chain_of layout key) ≤ 8
 unfolding chain_of replicas_of
 few_replicas layout key = take-few 8 _
-
--- a key is of one of the groups
-pub group_below : (shape : Shape) → IsShape shape → (key : List ℕ) → group_of_key shape key < groups shape
-group_below shape is key = fragment_group_below shape is (frag_of shape key)
-
--- and so is a node
-pub node_group_below : (shape : Shape) → IsShape shape → (node : ℕ) → 1 ≤ node → node ≤ shape.nodes
-    → group_of shape node < groups shape
-node_group_below shape is node some few =
-    let all = groups-all shape is in
-    let low : node - 1 < groups shape * shape.replicas = omega (arith, all, some, few) in
-    div_below (node - 1) shape.replicas (groups shape) is.replicas_some low

@@ -1,12 +1,13 @@
 //! Shapes of clusters.
 ghost use Rattle.std.specs.Prelude.{◌≡◌, ◌≤◌, ◌*◌, ◌↔◌, true};
-ghost use Rattle.frag_map.specs.Shape.{IsShape, group_of, groups};
+ghost use Rattle.frag_map.specs.Shape.{IsShape, group_of, groups, is_shape};
 
 use sig_core::Shape;
 
 /// Whether a cluster may be laid out so.
 pub fn is_shape(shape: &Shape) -> bool
-    ensures { result ≡ true ↔ IsShape shape.now }
+    ensures value { result ≡ is_shape shape.now }
+    ensures meaning { result ≡ true ↔ IsShape shape.now }
 {
     1 <= shape.nodes
         && shape.nodes <= 8

@@ -141,7 +141,7 @@ module _ (tx : TxId) (D : Type 0) where
 
     -- whatever turn it takes, but where it asks for an epoch
     pub turn_goes : (t : Transaction) (body : Body) → ((turn : Turn) → TurnGoes tx D t.phase turn → R turn)
-        → (body ≡ Client (TcCommitReq tx) → operate.is_ready t.phase t.asked ≡ true → R (going (commit.decide_if node tx t true)))
+        → (body ≡ Client (TcCommitReq tx) → operate.is_ready t.phase t.asked ≡ true → R (going (commit.verify_if node tx t true)))
         → Known t.phase → ((epoch : ℕ) → body ≡ Epoch (DiVerifyConf tx epoch) → D) → TurnForms node layout tx t body R
     turn_goes t body so asks known told = record {
       stays = so _ (stays t known);

@@ -61,7 +61,7 @@ operate_keyless layout tx t op = (turn_keyless 0 layout tx t (Client (TcKeyReq t
 pub wait_keyless : (tx : TxId) (t : Transaction) → SendsOnly is_keyless (operate.wait_row tx t)
 wait_keyless tx t = (turn_keyless 0 nowhere tx t (Client (TcWaitReq tx)) refl).waits refl
 
-pub decide_keyless : (node : ℕ) (tx : TxId) (t : Transaction) → SendsOnly is_keyless (commit.decide_row node tx t)
+pub decide_keyless : (node : ℕ) (tx : TxId) (t : Transaction) → SendsOnly is_keyless (commit.verify_row node tx t)
 decide_keyless node tx t = (turn_keyless node nowhere tx t (Client (TcCommitReq tx)) refl).decides refl
 
 pub commit_keyless : (node : ℕ) (layout : Layout) (tx : TxId) (t : Transaction) (epoch : ℕ) → TurnKeyless (commit.commit_row node layout tx t epoch)

@@ -255,7 +255,7 @@ module _ (tx : TxId) (s : TcState) where
   tc_fair (Host (Continue (work.Transaction one) at)) = step_fair one _ (λ x. 0) (λ t. go_on_kinds s.node s.layout one t at) (λ t. still one t (going (go_on_row s.node s.layout one t at)) (keyless.go_on_keyless s.node s.layout one t at) ((stays one t s.node s.layout (Host (Continue (work.Transaction one) at)) (λ op is. cc)).goes_on at refl))
   tc_fair (Client (TcBeginReq name)) = begin_fair name (is_full s)
   tc_fair (Client (TcKeyReq one op)) = step_fair one _ (λ x. one_if (same_tx one x)) (λ t. operate_kinds s.layout one t op) (λ t. operate_fair one op t)
-  tc_fair (Client (TcCommitReq one)) = step_fair one _ (λ x. 0) (λ t. decide_kinds s.node one t) (λ t. still one t (going (commit.decide_row s.node one t)) (keyless.decide_keyless s.node one t) ((stays one t s.node s.layout (Client (TcCommitReq one)) (λ op is. cc)).decides refl))
+  tc_fair (Client (TcCommitReq one)) = step_fair one _ (λ x. 0) (λ t. decide_kinds s.node one t) (λ t. still one t (going (commit.verify_row s.node one t)) (keyless.decide_keyless s.node one t) ((stays one t s.node s.layout (Client (TcCommitReq one)) (λ op is. cc)).decides refl))
   tc_fair (Client (TcRollbackReq one)) = turn_fair one _ (λ x. 0) (λ t. rollback_kinds s.node s.layout one t) (λ t. still one t (abort.rollback_row s.node s.layout one t) (keyless.rollback_keyless s.node s.layout one t) ((stays one t s.node s.layout (Client (TcRollbackReq one)) (λ op is. cc)).rolls_back refl))
   tc_fair (Client (TcWaitReq one)) = step_fair one _ (λ x. 0) (λ t. wait_kinds one t) (λ t. still one t (going (operate.wait_row one t)) (keyless.wait_keyless one t) ((stays one t s.node s.layout (Client (TcWaitReq one)) (λ op is. cc)).waits refl))
   tc_fair (Client (LqhWaitConf one ahead)) = pass_fair one ahead (is_some (place_in s one))

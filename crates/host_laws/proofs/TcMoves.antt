@@ -125,11 +125,11 @@ wait_told tx t e = inl (go t.asked e)
     go None e = e
     go (Some asked) e = e
 
-decide_told : (node : ℕ) (tx : TxId) (t : Transaction) → IsTold tx t (going (commit.decide_row node tx t))
-unfolding commit.decide_row
+decide_told : (node : ℕ) (tx : TxId) (t : Transaction) → IsTold tx t (going (commit.verify_row node tx t))
+unfolding commit.verify_row
 decide_told node tx t e = inl (go (operate.is_ready t.phase t.asked) e)
   where
-    go : (b : Bool) → is_completing (commit.decide_if node tx t b).state.phase ≡ true → is_completing t.phase ≡ true
+    go : (b : Bool) → is_completing (commit.verify_if node tx t b).state.phase ≡ true → is_completing t.phase ≡ true
     go true e = absurd (false≢true e)
     go false e = e
 

@@ -189,7 +189,7 @@ module _ (node : ℕ) (D : TxId → Type 0) (taken : Kind) (s : TcState) (begun_
     turn_stays turn goes false = step_stays turn.step goes
 
     -- it asks for an epoch
-    pub verify_stays : taken ≡ kind.wanted tx → is_ready t.phase t.asked ≡ true → StaysNumbered node D taken begun_yet verified (stepped s at (commit.decide_if s.node tx t true))
+    pub verify_stays : taken ≡ kind.wanted tx → is_ready t.phase t.asked ≡ true → StaysNumbered node D taken begun_yet verified (stepped s at (commit.verify_if s.node tx t true))
     verify_stays is ready = record {
       numbered = record {
         own = n.own;

@@ -105,11 +105,11 @@ module _ (n : ℕ) (tx : TxId) (key : List ℕ) where
         go None = record { right = right; asks = λ e. inl (e, refl) }
         go (Some asked) = record { right = right; asks = λ e. inl (e, refl) }
 
-    pub decide_asks : (node : ℕ) → KeepsAsked t (going (commit.decide_row node tx t))
-    unfolding commit.decide_row
+    pub decide_asks : (node : ℕ) → KeepsAsked t (going (commit.verify_row node tx t))
+    unfolding commit.verify_row
     decide_asks node = go (operate.is_ready t.phase t.asked) refl
       where
-        go : (b : Bool) → operate.is_ready t.phase t.asked ≡ b → KeepsAsked t (going (commit.decide_if node tx t b))
+        go : (b : Bool) → operate.is_ready t.phase t.asked ≡ b → KeepsAsked t (going (commit.verify_if node tx t b))
         go true e = record {
           right = ap (λ a. is_right a Verifying) (ready_asks t.phase t.asked e).1;
           asks = λ e. inl (e, refl);

@@ -162,11 +162,11 @@ module _ (n : ℕ) (tx : TxId) (t : Transaction) (known : IsKnown n t) where
       go None = stay_owes []
       go (Some asked) = stay_owes _
 
-  pub decide_owes : (node : ℕ) → TurnOwes n tx t (going (commit.decide_row node tx t)) 0 None
-  unfolding commit.decide_row
+  pub decide_owes : (node : ℕ) → TurnOwes n tx t (going (commit.verify_row node tx t)) 0 None
+  unfolding commit.verify_row
   decide_owes node = go (operate.is_ready t.phase t.asked)
     where
-      go : (b : Bool) → TurnOwes n tx t (going (commit.decide_if node tx t b)) 0 None
+      go : (b : Bool) → TurnOwes n tx t (going (commit.verify_if node tx t b)) 0 None
       go false = stay_owes []
       go true = record { known = known_phase Verifying (λ epoch k is. absurd (other epoch k is)); owes = λ epoch k over is. absurd (other epoch k is) }
         where

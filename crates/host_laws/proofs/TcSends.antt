@@ -84,7 +84,7 @@ answer_kinds layout tx t key answer = (turn_sends 0 layout tx t (Chain (LqhKeyCo
 pub wait_kinds : (tx : TxId) (t : Transaction) → SendsOnly (is_tc_kind tx) (operate.wait_row tx t)
 wait_kinds tx t = (turn_sends 0 nowhere tx t (Client (TcWaitReq tx))).waits refl
 
-pub decide_kinds : (node : ℕ) (tx : TxId) (t : Transaction) → SendsOnly (is_tc_kind tx) (commit.decide_row node tx t)
+pub decide_kinds : (node : ℕ) (tx : TxId) (t : Transaction) → SendsOnly (is_tc_kind tx) (commit.verify_row node tx t)
 decide_kinds node tx t = (turn_sends node nowhere tx t (Client (TcCommitReq tx))).decides refl
 
 pub commit_kinds : (node : ℕ) (layout : Layout) (tx : TxId) (t : Transaction) (epoch : ℕ) → TurnSends tx (commit.commit_row node layout tx t epoch)

@@ -46,7 +46,7 @@ use Rattle.tc_block.specs.Phases.{is_aborting}
 abbrev pub turn_row : TcState → Body → Transaction → Turn
 turn_row s (Host (Continue (work.Transaction tx) at)) t = going (go_on_row s.node s.layout tx t at)
 turn_row s (Client (TcKeyReq tx op)) t = going (operate.operate_row s.layout tx t op)
-turn_row s (Client (TcCommitReq tx)) t = going (commit.decide_row s.node tx t)
+turn_row s (Client (TcCommitReq tx)) t = going (commit.verify_row s.node tx t)
 turn_row s (Client (TcRollbackReq tx)) t = abort.rollback_row s.node s.layout tx t
 turn_row s (Client (TcWaitReq tx)) t = going (operate.wait_row tx t)
 turn_row s (Chain (LqhKeyConf tx key answer)) t = going (operate.answer_row s.layout tx t key answer)
@@ -208,11 +208,11 @@ module _ (s : TcState) (tx : TxId) (t : Transaction) where
       go true e = let r = ready_is t.phase t.asked (first_is (operate.is_ready t.phase t.asked) _ e) in asks op refl r.0 r.1 (last_is (operate.is_ready t.phase t.asked) _ e) refl
       go false e = keeps [] refl refl e
 
-  decide_move : TurnMove s tx t (Client (TcCommitReq tx)) (going (commit.decide_row s.node tx t))
-  unfolding commit.decide_row
+  decide_move : TurnMove s tx t (Client (TcCommitReq tx)) (going (commit.verify_row s.node tx t))
+  unfolding commit.verify_row
   decide_move = go (operate.is_ready t.phase t.asked) refl
     where
-      go : (b : Bool) → operate.is_ready t.phase t.asked ≡ b → TurnMove s tx t (Client (TcCommitReq tx)) (going (commit.decide_if s.node tx t b))
+      go : (b : Bool) → operate.is_ready t.phase t.asked ≡ b → TurnMove s tx t (Client (TcCommitReq tx)) (going (commit.verify_if s.node tx t b))
       go true e = let r = ready_is t.phase t.asked e in decides refl r.0 r.1 refl
       go false e = keeps [] refl refl e
 

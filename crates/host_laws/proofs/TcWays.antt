@@ -161,7 +161,7 @@ module _ (tx : TxId) where
   }
 
   -- a transaction that is open waits for its epoch
-  decide_ways : (node : ℕ) (t : Transaction) → operate.is_ready t.phase t.asked ≡ true → Ways tx t.phase (commit.decide_if node tx t true)
+  decide_ways : (node : ℕ) (t : Transaction) → operate.is_ready t.phase t.asked ≡ true → Ways tx t.phase (commit.verify_if node tx t true)
   decide_ways node t ready = record {
     sends = (tt, tt);
     forward = λ is. not_both (is_decided t.phase) is (undecided t.phase t.asked ready);
@@ -235,7 +235,7 @@ module _ (tx : TxId) where
         backward = λ is. is;
         told = λ is. inl is;
       });
-      decides = λ is ready. goes t.phase (commit.decide_if node tx t true) (decide_ways node t ready);
+      decides = λ is ready. goes t.phase (commit.verify_if node tx t true) (decide_ways node t ready);
       commits = λ epoch is at some. goes t.phase (entering node layout tx t (Committing epoch (length t.touched)))
           (enters node layout t t.phase (Committing epoch (length t.touched)) (λ is. refl) (λ is. not_both (is_aborting t.phase) is (ap is_aborting at)) (λ is. absurd cc));
       commits_none = λ epoch is at. committed_ways t epoch (ap is_aborting at);

@@ -1,5 +1,8 @@
 //! The block of a node that has its rows.
-ghost use Rattle.std.specs.Prelude.{◌≡◌, IfOk};
+ghost use Rattle.std.specs.Prelude.{◌≡◌, IfOk, OnOk, OnErr};
+ghost use Rattle.sig_core.specs.Step.{HasRoom, IsTaken, IsUntouched};
+ghost use Rattle.sig_core.specs.declared.signal.Body.TheVariants.{Chain, Client, Host};
+ghost use Rattle.lqh_block.specs.Lqh.{lqh_table};
 
 use crate::request::{Marker, Request};
 use crate::storage::Storage;
@@ -79,6 +82,109 @@ impl<R: Rows, J: Journal> Lqh<R, J> {
     }
 }
 
+impl<R: Rows, J: Journal> Lqh<R, J> {
+    // Handles a signal along a chain.
+    fn handle_chain(
+        &mut self,
+        alloc: Global,
+        signal: &ChainSignal,
+        out: &mut Outs,
+    ) -> Result<(), NoMemory>
+        requires { HasRoom out.old }
+        ensures ok { OnOk result (IsTaken (lqh_table self.old (Chain signal.now)) self.new out.old out.new) }
+        ensures err { OnErr result (IsUntouched self.old self.new out.old out.new) }
+    {
+        match signal {
+            ChainSignal::LqhKeyReq {
+                tx,
+                work,
+                chain,
+                at,
+            } => {
+                let request = Request {
+                    tx: *tx,
+                    work: work.share()?,
+                    chain: *chain,
+                    at: *at,
+                };
+                self.request(alloc, request, out)
+            }
+            ChainSignal::Commit {
+                tx,
+                key,
+                epoch,
+                chain,
+                at,
+            } => self.commit(*tx, key, *epoch, chain, *at, out),
+            ChainSignal::Complete { tx, key, chain, at } => {
+                self.complete(*tx, key, chain, *at, out);
+                Ok(())
+            }
+            ChainSignal::Abort { tx, key } => {
+                self.abort(*tx, key, out);
+                Ok(())
+            }
+            _ => Ok(()),
+        }
+    }
+
+    // Handles a signal of the client or of a coordinator on its behalf.
+    fn handle_client(
+        &mut self,
+        alloc: Global,
+        signal: &ClientSignal,
+        out: &mut Outs,
+    ) -> Result<(), NoMemory>
+        requires { HasRoom out.old }
+        ensures ok { OnOk result (IsTaken (lqh_table self.old (Client signal.now)) self.new out.old out.new) }
+        ensures err { OnErr result (IsUntouched self.old self.new out.old out.new) }
+    {
+        match signal {
+            ClientSignal::TcCommitAck { tx } => {
+                self.acknowledge(*tx);
+                Ok(())
+            }
+            ClientSignal::LqhWaitReq { tx, key } => {
+                self.tell_wait(*tx, key, out);
+                Ok(())
+            }
+            ClientSignal::DumpReq { at } => self.dump(alloc, *at, out),
+            _ => Ok(()),
+        }
+    }
+
+    // Handles a signal that any block may take.
+    fn handle_host(
+        &mut self,
+        alloc: Global,
+        signal: &HostSignal,
+        out: &mut Outs,
+    ) -> Result<(), NoMemory>
+        requires { HasRoom out.old }
+        ensures ok { OnOk result (IsTaken (lqh_table self.old (Host signal.now)) self.new out.old out.new) }
+        ensures err { OnErr result (IsUntouched self.old self.new out.old out.new) }
+    {
+        match signal {
+            HostSignal::Continue {
+                work: Work::Granted,
+                at: _,
+            } => self.serve(alloc, out),
+            HostSignal::Continue {
+                work: Work::Expired,
+                at: _,
+            } => {
+                self.expire(out);
+                Ok(())
+            }
+            HostSignal::Round => {
+                self.age(out);
+                Ok(())
+            }
+            _ => Ok(()),
+        }
+    }
+}
+
 impl<R: Rows, J: Journal> Actor for Lqh<R, J> {
     ghost use Rattle.sig_core.specs.Step.{stay};
     ghost use Rattle.lqh_block.specs.Lqh.{in_view, lqh_row};
@@ -89,67 +195,9 @@ impl<R: Rows, J: Journal> Actor for Lqh<R, J> {
 
     fn handle(&mut self, alloc: Global, signal: &Signal, out: &mut Outs) -> Result<(), NoMemory> {
         match &signal.body {
-            Body::Chain(
-                ChainSignal::LqhKeyReq {
-                    tx,
-                    work,
-                    chain,
-                    at,
-                },
-            ) => {
-                let request = Request {
-                    tx: *tx,
-                    work: work.share()?,
-                    chain: *chain,
-                    at: *at,
-                };
-                self.request(alloc, request, out)
-            }
-            Body::Host(
-                HostSignal::Continue {
-                    work: Work::Granted,
-                    at: _,
-                },
-            ) => self.serve(alloc, out),
-            Body::Chain(
-                ChainSignal::Commit {
-                    tx,
-                    key,
-                    epoch,
-                    chain,
-                    at,
-                },
-            ) => self.commit(*tx, key, *epoch, chain, *at, out),
-            Body::Chain(ChainSignal::Complete { tx, key, chain, at }) => {
-                self.complete(*tx, key, chain, *at, out);
-                Ok(())
-            }
-            Body::Chain(ChainSignal::Abort { tx, key }) => {
-                self.abort(*tx, key, out);
-                Ok(())
-            }
-            Body::Client(ClientSignal::TcCommitAck { tx }) => {
-                self.acknowledge(*tx);
-                Ok(())
-            }
-            Body::Client(ClientSignal::LqhWaitReq { tx, key }) => {
-                self.tell_wait(*tx, key, out);
-                Ok(())
-            }
-            Body::Client(ClientSignal::DumpReq { at }) => self.dump(alloc, *at, out),
-            Body::Host(HostSignal::Round) => {
-                self.age(out);
-                Ok(())
-            }
-            Body::Host(
-                HostSignal::Continue {
-                    work: Work::Expired,
-                    at: _,
-                },
-            ) => {
-                self.expire(out);
-                Ok(())
-            }
+            Body::Chain(signal) => self.handle_chain(alloc, signal, out),
+            Body::Client(signal) => self.handle_client(alloc, signal, out),
+            Body::Host(signal) => self.handle_host(alloc, signal, out),
             _ => Ok(()),
         }
     }

@@ -169,13 +169,6 @@ pub rows_step : (s : Host) (x : Signal) → IsRowsStep s x (row s x) ⊎ (lqh_of
 rows_step s x = rows_step_by s x (row s x) (block_case s x)
 
 -- what a block's row keeps, a host keeps
-pub keeps_api : (R : ApiState → Type 0) → ((a : ApiState) (x : Signal) → R a → R (api_row a x).state) → (s : Host) (x : Signal) → R (api_of s) → R (api_of (row s x).state)
-keeps_api R kept s x was = go (api_step s x)
-  where
-    go : IsApiStep s x (row s x) ⊎ (api_of (row s x).state ≡ api_of s) → R (api_of (row s x).state)
-    go (inl step) = subst R (sym step.state) (kept (api_of s) x was)
-    go (inr same) = subst R (sym same) was
-
 pub keeps_tc : (R : TcState → Type 0) → ((t : TcState) (x : Signal) → R t → R (tc_row t x).state) → (s : Host) (x : Signal) → R (tc_of s) → R (tc_of (row s x).state)
 keeps_tc R kept s x was = go (tc_step s x)
   where

@@ -8,7 +8,8 @@ use Rattle.row_locks.specs.declared.mode.Lock.{Lock}
 use Rattle.row_locks.specs.declared.mode.Lock.TheVariants.{Granted, Queued}
 use Rattle.row_locks.specs.declared.claim.Holder.{Holder}
 use Rattle.row_locks.specs.declared.claim.Wait.{Wait}
-use Rattle.row_locks.specs.Modes.{same_tx, agree}
+use Rattle.sig_core.specs.Same.{same_tx}
+use Rattle.row_locks.specs.Modes.{agree}
 use Rattle.row_locks.specs.Holders.{agrees_with, holds, holds_enough, first_other, tx_if}
 use Rattle.row_locks.specs.Queues.{waits}
 use Rattle.row_locks.specs.Rows.{RowLock, asked_by, asked_anew, is_quiet}

@@ -4,7 +4,7 @@ use Rattle.std.specs.List.{filter}
 use Rattle.sig_core.specs.declared.member.TxId.{TxId}
 use Rattle.row_locks.specs.declared.claim.Holder.{Holder}
 use Rattle.row_locks.specs.declared.claim.Wait.{Wait}
-use Rattle.row_locks.specs.Modes.{same_tx}
+use Rattle.sig_core.specs.Same.{same_tx}
 use Rattle.row_locks.specs.Holders.{unless_gone, others}
 use Rattle.row_locks.specs.Queues.{without}
 

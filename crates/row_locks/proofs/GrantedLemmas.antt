@@ -5,7 +5,7 @@ use Rattle.std.proofs.lemmas.List.{length-append, length-map, length-take-le, dr
 use Rattle.sig_core.specs.declared.member.TxId.{TxId}
 use Rattle.row_locks.specs.declared.claim.Holder.{Holder}
 use Rattle.row_locks.specs.declared.claim.Wait.{Wait}
-use Rattle.row_locks.specs.Modes.{same_tx}
+use Rattle.sig_core.specs.Same.{same_tx}
 use Rattle.row_locks.specs.Holders.{unless_gone, others, agrees_with, hold}
 use Rattle.row_locks.specs.Queues.{waits, without}
 use Rattle.row_locks.specs.Rows.{Served, served, served_if}

@@ -6,7 +6,8 @@ use Rattle.row_locks.specs.declared.mode.Mode.{Mode}
 use Rattle.row_locks.specs.declared.mode.Mode.TheVariants.{Shared, Exclusive}
 use Rattle.row_locks.specs.declared.claim.Holder.{Holder}
 use Rattle.row_locks.specs.declared.claim.Wait.{Wait}
-use Rattle.row_locks.specs.Modes.{same_tx, is_enough, stronger}
+use Rattle.sig_core.specs.Same.{same_tx}
+use Rattle.row_locks.specs.Modes.{is_enough, stronger}
 use Rattle.row_locks.specs.Holders.{unless_gone, others, holds, holds_enough, holder_of, hold}
 use Rattle.row_locks.specs.Queues.{waits, without, raised, raised_if, aged_all}
 use Rattle.row_locks.specs.Rows.{is_quiet}

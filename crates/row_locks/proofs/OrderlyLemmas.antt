@@ -6,7 +6,8 @@ use Rattle.row_locks.specs.declared.mode.Mode.{Mode}
 use Rattle.row_locks.specs.declared.mode.Mode.TheVariants.{Shared, Exclusive}
 use Rattle.row_locks.specs.declared.claim.Holder.{Holder}
 use Rattle.row_locks.specs.declared.claim.Wait.{Wait}
-use Rattle.row_locks.specs.Modes.{same_tx, agree, stronger}
+use Rattle.sig_core.specs.Same.{same_tx}
+use Rattle.row_locks.specs.Modes.{agree, stronger}
 use Rattle.row_locks.specs.Holders.{unless_gone, others, agrees_with, holds, holds_enough, holder_of, hold}
 use Rattle.row_locks.specs.Queues.{waits, without, wait_of, raised, raised_if, aged_all}
 use Rattle.row_locks.specs.Rows.{RowLock, served, served_if, asked, asked_by, asked_anew, anew, is_quiet, released, unwaited, unqueued, grown_old}
@@ -364,9 +365,6 @@ raises-end hs (x ∷ ws) w e r =
 raises-quiet : (hs : List Holder) (ws : List Wait) → is_quiet ws ≡ true → are_raises_first hs ws ≡ true
 raises-quiet hs [] q = refl
 raises-quiet hs (w ∷ ws) q = absurd (true≢false (sym q))
-
-held_up-more : (hs : List Holder) (x : Wait) (ws : List Wait) (w : Wait) → is_first_held_up hs (x ∷ ws) ≡ true → is_first_held_up hs ((x ∷ ws) ++ w ∷ []) ≡ true
-held_up-more hs x ws w n = n
 
 -- who is first doesn't agree with a transaction that is raised to exclusive
 

@@ -6,7 +6,7 @@ use Rattle.sig_core.specs.declared.member.TxId.{TxId}
 use Rattle.row_locks.specs.declared.mode.Mode.{Mode}
 use Rattle.row_locks.specs.declared.claim.Holder.{Holder}
 use Rattle.row_locks.specs.declared.claim.Wait.{Wait}
-use Rattle.row_locks.specs.Modes.{same_tx}
+use Rattle.sig_core.specs.Same.{same_tx}
 use Rattle.row_locks.specs.Holders.{others, holds_enough}
 use Rattle.row_locks.specs.Queues.{waits, without, raised, raised_if, aged, aged_all}
 use Rattle.row_locks.specs.Rows.{row_lock, anew, served}

@@ -6,7 +6,8 @@ use Rattle.row_locks.specs.declared.mode.Mode.{Mode}
 use Rattle.row_locks.specs.declared.mode.Mode.TheVariants.{Shared, Exclusive}
 use Rattle.row_locks.specs.declared.claim.Holder.{Holder}
 use Rattle.row_locks.specs.declared.claim.Wait.{Wait}
-use Rattle.row_locks.specs.Modes.{same_tx, agree, is_shared}
+use Rattle.sig_core.specs.Same.{same_tx}
+use Rattle.row_locks.specs.Modes.{agree, is_shared}
 use Rattle.row_locks.specs.Holders.{unless_gone, others, agrees_with, holds, holds_enough, holder_of, hold}
 use Rattle.row_locks.specs.Queues.{waits}
 use Rattle.row_locks.specs.Rows.{Served, served, served_if}
@@ -151,11 +152,3 @@ served-exclusive hs [] w some is exclusive a o = absurd (lt_irrefl 0 some)
 served-exclusive hs (x ∷ ws) w some is exclusive a o =
     first_exclusive hs x.tx x.mode x.rounds ws (sym (ap (λ v. v.mode) is) ∙ exclusive) (sym (ap (λ v. agrees_with v.tx v.mode hs) is) ∙ a) o
     ∙ ap (λ v. record { lock = record { holders = hold v.tx v.mode hs; queue = ws }; granted = 1 }) (sym is)
-
--- where the first waiter may not hold the lock, nobody is granted
-pub served-none : (hs : List Holder) (ws : List Wait) (w : Wait) → 0 < length ws → w ≡ get_or ws 0 w → agrees_with w.tx w.mode hs ≡ false
-    → served 0 hs ws ≡ record { lock = record { holders = hs; queue = ws }; granted = 0 }
-served-none hs [] w some is a = absurd (lt_irrefl 0 some)
-served-none hs (x ∷ ws) w some is a =
-    ap (λ b. served_if b (served (0 + 1) (hold x.tx x.mode hs) ws) (record { lock = record { holders = hs; queue = x ∷ ws }; granted = 0 }))
-    (sym (ap (λ v. agrees_with v.tx v.mode hs) is) ∙ a)

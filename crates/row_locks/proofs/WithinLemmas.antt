@@ -5,7 +5,7 @@ use Rattle.std.proofs.lemmas.Bool.Decides.{nat_tests}
 use Rattle.sig_core.specs.declared.member.TxId.{TxId}
 use Rattle.row_locks.specs.declared.mode.Mode.{Mode}
 use Rattle.row_locks.specs.declared.claim.Wait.{Wait}
-use Rattle.row_locks.specs.Modes.{same_tx}
+use Rattle.sig_core.specs.Same.{same_tx}
 use Rattle.row_locks.specs.Holders.{unless_gone}
 use Rattle.row_locks.specs.Queues.{without, raised, raised_if, aged_all, ages, one_round}
 use Rattle.row_locks.specs.Orderly.{are_within_rounds}

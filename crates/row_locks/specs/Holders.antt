@@ -3,7 +3,8 @@ use Rattle.std.specs.Prelude.{Bool, true, false, ◌&&◌, ◌||◌, List, [], �
 use Rattle.sig_core.specs.declared.member.TxId.{TxId}
 use Rattle.row_locks.specs.declared.mode.Mode.{Mode}
 use Rattle.row_locks.specs.declared.claim.Holder.{Holder}
-use Rattle.row_locks.specs.Modes.{same_tx, is_enough, agree}
+use Rattle.sig_core.specs.Same.{same_tx}
+use Rattle.row_locks.specs.Modes.{is_enough, agree}
 
 -- the list with this item in front, unless it is to go
 abbrev pub unless_gone : {A : Type 0} → Bool → A → List A → List A

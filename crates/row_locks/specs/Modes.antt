@@ -1,12 +1,7 @@
--- How the modes of locks stand to one another, and which transaction is which.
-use Rattle.std.specs.Prelude.{Bool, true, false, ◌&&◌, nat_eq}
-use Rattle.sig_core.specs.declared.member.TxId.{TxId}
+-- How the modes of locks stand to one another.
+use Rattle.std.specs.Prelude.{Bool, true, false}
 use Rattle.row_locks.specs.declared.mode.Mode.{Mode}
 use Rattle.row_locks.specs.declared.mode.Mode.TheVariants.{Shared, Exclusive}
-
--- the two are one transaction
-abbrev pub same_tx : TxId → TxId → Bool
-same_tx one other = nat_eq one.tc other.tc && (nat_eq one.start other.start && nat_eq one.seq other.seq)
 
 -- who holds the lock in the first mode has what a request for the second asks
 abbrev pub is_enough : Mode → Mode → Bool

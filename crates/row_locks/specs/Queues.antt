@@ -4,7 +4,8 @@ use Rattle.sig_core.specs.declared.member.TxId.{TxId}
 use Rattle.row_locks.specs.declared.mode.Mode.{Mode}
 use Rattle.row_locks.specs.declared.claim.Wait.{Wait}
 use Rattle.row_locks.specs.declared.queue.TheConstants.{ROUNDS}
-use Rattle.row_locks.specs.Modes.{same_tx, stronger}
+use Rattle.sig_core.specs.Same.{same_tx}
+use Rattle.row_locks.specs.Modes.{stronger}
 use Rattle.row_locks.specs.Holders.{unless_gone}
 
 -- a wait that begins

@@ -1,7 +1,8 @@
 //! The holders of a lock.
 ghost use Rattle.std.specs.Prelude.{◌≡◌, ◌<◌, ◌≤◌, ◌+◌, ◌&&◌, ◌||◌, length};
 ghost use Rattle.std.specs.Vec.{vec_capacity};
-ghost use Rattle.row_locks.specs.Modes.{same_tx, is_enough, agree};
+ghost use Rattle.sig_core.specs.Same.{same_tx};
+ghost use Rattle.row_locks.specs.Modes.{is_enough, agree};
 ghost use Rattle.row_locks.specs.Holders.{others, agrees_with, holds, holds_enough, hold, first_other};
 
 use crate::claim::Holder;

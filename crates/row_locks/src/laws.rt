@@ -4,7 +4,7 @@ ghost use Rattle.std.specs.FinMap as map;
 ghost use Rattle.sig_core.specs.declared.member.TxId.{TxId};
 ghost use Rattle.row_locks.specs.declared.mode.Mode.{Mode};
 ghost use Rattle.row_locks.specs.declared.mode.Lock.TheVariants.{Queued};
-ghost use Rattle.row_locks.specs.Modes.{same_tx};
+ghost use Rattle.sig_core.specs.Same.{same_tx};
 ghost use Rattle.row_locks.specs.OrderlyTables.{AreOrderly};
 ghost use Rattle.row_locks.specs.Queues.{without};
 ghost use Rattle.row_locks.specs.Rounds.{all_unqueued, round_later};

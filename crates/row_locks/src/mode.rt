@@ -1,6 +1,7 @@
 //! The modes of locks, and what a request for one is answered.
 ghost use Rattle.std.specs.Prelude.{◌≡◌};
-ghost use Rattle.row_locks.specs.Modes.{same_tx, is_enough, is_shared, agree, stronger};
+ghost use Rattle.sig_core.specs.Same.{same_tx};
+ghost use Rattle.row_locks.specs.Modes.{is_enough, is_shared, agree, stronger};
 
 use sig_core::TxId;
 

@@ -1,7 +1,7 @@
 //! The queue of a lock.
 ghost use Rattle.std.specs.Prelude.{◌≡◌, ◌≤◌, length};
 ghost use Rattle.row_locks.specs.Queues.{waits, without, raised, raised_if, aged, ages, aged_all};
-ghost use Rattle.row_locks.specs.Modes.{same_tx};
+ghost use Rattle.sig_core.specs.Same.{same_tx};
 ghost use Rattle.row_locks.specs.Rounds.{first_expired, is_expired};
 
 use crate::claim::Wait;

@@ -67,10 +67,10 @@ module _ (node : ℕ) (layout : Layout) (tx : TxId) (t : Transaction) where
   operate_rests Verifying op ahead is = absurd cc
   operate_rests (Aborting why verifying awaited) op ahead is = absurd cc
 
-  decide_rests : (phase : Phase) → is_decided phase ≡ true → t.phase ≡ phase → commit.decide_row node tx t ≡ stay t
-  unfolding commit.decide_row
-  decide_rests (Committing epoch awaited) ahead is = ap (λ ph. commit.decide_if node tx t (operate.is_ready ph t.asked)) is
-  decide_rests (Completing epoch awaited) ahead is = ap (λ ph. commit.decide_if node tx t (operate.is_ready ph t.asked)) is
+  decide_rests : (phase : Phase) → is_decided phase ≡ true → t.phase ≡ phase → commit.verify_row node tx t ≡ stay t
+  unfolding commit.verify_row
+  decide_rests (Committing epoch awaited) ahead is = ap (λ ph. commit.verify_if node tx t (operate.is_ready ph t.asked)) is
+  decide_rests (Completing epoch awaited) ahead is = ap (λ ph. commit.verify_if node tx t (operate.is_ready ph t.asked)) is
   decide_rests Open ahead is = absurd cc
   decide_rests Verifying ahead is = absurd cc
   decide_rests (Aborting why verifying awaited) ahead is = absurd cc

@@ -100,11 +100,11 @@ module _ (node : ℕ) (layout : Layout) (tx : TxId) where
         by true = silent (refl, tt)
         by false = silent tt
 
-    decide_begins : B (going (commit.decide_row node tx t))
-    unfolding commit.decide_row
+    decide_begins : B (going (commit.verify_row node tx t))
+    unfolding commit.verify_row
     decide_begins = by (operate.is_ready t.phase t.asked)
       where
-        by : (b : Bool) → B (going (commit.decide_if node tx t b))
+        by : (b : Bool) → B (going (commit.verify_if node tx t b))
         by true = silent (refl, tt)
         by false = silent tt
 

@@ -182,7 +182,7 @@ module _ (tx : TxId) (t : Transaction) where
       decides = λ is can. record {
         goes = λ u left early.
             let ready = ready_is t.phase t.asked can in
-            let same : (commit.decide_if node tx t true).state ≡ u = cc in
+            let same : (commit.verify_if node tx t true).state ≡ u = cc in
             verifies ready.1 ready.0 (ap (λ (w : Transaction). w.ops) (sym same)) (ap (λ (w : Transaction). w.asked) (sym same) ∙ ready.1)
             (ap (λ (w : Transaction). w.phase) (sym same)) (refl, tt);
       };

@@ -47,7 +47,7 @@ use Rattle.run_laws.proofs.OfLive.{of_other}
 abbrev pub turn_for : ℕ → Layout → TxId → Body → Transaction → Turn
 turn_for node layout tx (Host (Continue (work.Transaction one) at)) t = going (go_on_row node layout tx t at)
 turn_for node layout tx (Client (TcKeyReq one op)) t = going (operate.operate_row layout tx t op)
-turn_for node layout tx (Client (TcCommitReq one)) t = going (commit.decide_row node tx t)
+turn_for node layout tx (Client (TcCommitReq one)) t = going (commit.verify_row node tx t)
 turn_for node layout tx (Client (TcRollbackReq one)) t = abort.rollback_row node layout tx t
 turn_for node layout tx (Client (TcWaitReq one)) t = going (operate.wait_row tx t)
 turn_for node layout tx (Chain (LqhKeyConf one key answer)) t = going (operate.answer_row layout tx t key answer)
@@ -212,7 +212,7 @@ module _ (P : Outgoing → Type 0) (tx : TxId) (s : TcState) (beside : SendsBesi
   tc_turn (Client (TcKeyReq one op)) others =
       going_step _ one (λ t. operate.operate_row s.layout one t op) (turn_step (Client (TcKeyReq one op)) one refl (same_tx-self one) others)
   tc_turn (Client (TcCommitReq one)) others =
-      going_step _ one (λ t. commit.decide_row s.node one t) (turn_step (Client (TcCommitReq one)) one refl (same_tx-self one) others)
+      going_step _ one (λ t. commit.verify_row s.node one t) (turn_step (Client (TcCommitReq one)) one refl (same_tx-self one) others)
   tc_turn (Client (TcRollbackReq one)) others = turn_step (Client (TcRollbackReq one)) one refl (same_tx-self one) others
   tc_turn (Client (TcWaitReq one)) others =
       going_step _ one (λ t. operate.wait_row one t) (turn_step (Client (TcWaitReq one)) one refl (same_tx-self one) others)

@@ -24,9 +24,6 @@ past_trans {A} {xs} p q = record {
   is = q.is ∙ (ap (λ w. q.newer ++ w) p.is ∙ sym (append_assoc q.newer p.newer xs));
 }
 
-pub past_append : {A : Type 0} (newer xs : List A) → IsPast xs (newer ++ xs)
-past_append newer xs = record { newer = newer; is = refl }
-
 -- a part that begins with an entry: it is the whole, or a part of what is below the newest entry
 pub past_cases : {A : Type 0} {xs ys : List A} (y : A) → IsPast xs (y ∷ ys) → (y ∷ ys ≡ xs) ⊎ IsPast xs ys
 past_cases {A} {xs} {ys} y p = go p.newer p.is

@@ -36,10 +36,6 @@ after_none p xs e = sym (drop_all (position_or_len p xs + 1) xs (let past = none
 
 pub ruleset cuts = (before_found, after_found, before_none, after_none, take_rest)
 
--- a space in front of a line changes nothing
-pub words-space : (byte : ℕ) (line : List ℕ) → is_space byte ≡ true → words (byte ∷ line) ≡ words line
-words-space byte line space = ap (filter is_word) (slice_split-cons_yes is_space byte line space)
-
 -- the part before the first space is the first part, and the others are those of what stands behind it
 record IsCut (line : List ℕ) : Type 0 where
   parts : List (List ℕ)

@@ -2,7 +2,6 @@ pub mod EndLemmas
 pub mod LivedLemmas
 pub mod OpenLemmas
 pub mod PrintedLemmas
-pub mod ReaderLemmas
 pub mod ScriptLemmas
 pub mod ServeLemmas
 pub mod SessionLemmas

@@ -1,10 +1,11 @@
 -- The shape that the words behind the program's name ask for.
-use Rattle.std.specs.Prelude.{ℕ, ◌%◌, ◌==◌, ◌&&◌, Bool, true, not, nat_le, if◌then◌else◌, List, [], length, codes, Option, None, Some}
+use Rattle.std.specs.Prelude.{ℕ, ◌&&◌, Bool, true, not, nat_le, if◌then◌else◌, List, [], length, codes, Option, None, Some}
 use Rattle.std.specs.List.{list_any}
 use Rattle.std.specs.Str.{bytes_eq}
 use Rattle.clap.specs.Faults.{fault_of}
 use Rattle.clap.specs.Walk.{Row, Rule, first_of, is_empty}
 use Rattle.clap.specs.Simple.{App, matches_of, new_rule, new_shape, with_rule}
+use Rattle.frag_map.specs.Shape.{is_shape}
 use Rattle.script_lang.specs.Number.{read_digits}
 use Rattle.sig_core.specs.declared.view.Shape.{Shape}
 
@@ -40,15 +41,9 @@ abbrev pub number_or : ℕ → Option (List ℕ) → Option ℕ
 number_or default None = Some default
 number_or default (Some text) = number text
 
--- a cluster may be laid out so
-abbrev pub is_sound : Shape → Bool
-is_sound shape =
-    nat_le 1 shape.nodes && nat_le shape.nodes 8
-    && nat_le 1 shape.replicas && nat_le shape.replicas 4 && (shape.nodes % shape.replicas == 0)
-    && nat_le 1 shape.fragments && nat_le shape.fragments 32
-
+-- the shape, where a cluster may be laid out so
 abbrev pub if_sound : Shape → Option Shape
-if_sound shape = if is_sound shape then Some shape else None
+if_sound shape = if is_shape shape then Some shape else None
 
 -- the shape of these numbers, where each is told and a cluster may be laid out so
 abbrev pub shape_of : Option ℕ → Option ℕ → Option ℕ → Option Shape

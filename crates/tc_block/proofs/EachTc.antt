@@ -79,7 +79,7 @@ module _ (R : TxId → Transaction → Turn → Type 0) (S : Step TcState → Ty
   tc_each (Host (Continue (work.Transaction tx) at)) forms = step_each s _ R S forms tx (λ t. go_on_row s.node s.layout tx t at) (λ t own. own.goes_on at refl)
   tc_each (Client (TcBeginReq name)) forms = begins s _ R S forms name
   tc_each (Client (TcKeyReq tx op)) forms = step_each s _ R S forms tx (λ t. operate_row s.layout tx t op) (λ t own. own.operates op refl)
-  tc_each (Client (TcCommitReq tx)) forms = step_each s _ R S forms tx (λ t. commit.decide_row s.node tx t) (λ t own. own.decides refl)
+  tc_each (Client (TcCommitReq tx)) forms = step_each s _ R S forms tx (λ t. commit.verify_row s.node tx t) (λ t own. own.decides refl)
   tc_each (Client (TcRollbackReq tx)) forms = turn_each s _ R S forms tx (λ t. rollback_row s.node s.layout tx t) (λ t own. own.rolls_back refl)
   tc_each (Client (TcWaitReq tx)) forms = step_each s _ R S forms tx (λ t. wait_row tx t) (λ t own. own.waits refl)
   tc_each (Client (LqhWaitConf tx ahead)) forms = passes s _ R S forms tx ahead

@@ -53,7 +53,7 @@ pub record TurnForms (node : ℕ) (layout : Layout) (tx : TxId) (t : Transaction
   -- the replicas are asked what it waits for
   pub waits : (asked : Asked) → t.asked ≡ Some asked → R (going (operate.wait_by tx t (Some asked)))
   -- it asks for an epoch, and has one
-  pub decides : body ≡ Client (TcCommitReq tx) → operate.is_ready t.phase t.asked ≡ true → R (going (commit.decide_if node tx t true))
+  pub decides : body ≡ Client (TcCommitReq tx) → operate.is_ready t.phase t.asked ≡ true → R (going (commit.verify_if node tx t true))
   pub commits : (epoch : ℕ) → body ≡ Epoch (DiVerifyConf tx epoch) → t.phase ≡ Verifying → (length t.touched == 0) ≡ false → R (going (entering node layout tx t (Committing epoch (length t.touched))))
   pub commits_none : (epoch : ℕ) → body ≡ Epoch (DiVerifyConf tx epoch) → t.phase ≡ Verifying → CommittedForms node layout tx t epoch R
   -- a key is committed, the last one or not, and so with completions
@@ -96,11 +96,11 @@ module _ (node : ℕ) (layout : Layout) (tx : TxId) (t : Transaction) (body : Bo
       by true can = forms.operates op is can
       by false can = forms.stays
 
-  pub decides : body ≡ Client (TcCommitReq tx) → R (going (commit.decide_row node tx t))
-  unfolding commit.decide_row
+  pub decides : body ≡ Client (TcCommitReq tx) → R (going (commit.verify_row node tx t))
+  unfolding commit.verify_row
   decides is = by (operate.is_ready t.phase t.asked) refl
     where
-      by : (b : Bool) → operate.is_ready t.phase t.asked ≡ b → R (going (commit.decide_if node tx t b))
+      by : (b : Bool) → operate.is_ready t.phase t.asked ≡ b → R (going (commit.verify_if node tx t b))
       by true ready = forms.decides is ready
       by false ready = forms.stays
 
@@ -228,7 +228,7 @@ module _ (node : ℕ) (layout : Layout) (tx : TxId) (t : Transaction) (body : Bo
 pub record RowsAre (node : ℕ) (layout : Layout) (tx : TxId) (t : Transaction) (body : Body) (R : Turn → Type 0) : Type 0 where
   pub goes_on : (at : ℕ) → body ≡ Host (Continue (work.Transaction tx) at) → R (going (go_on_row node layout tx t at))
   pub operates : (op : Op) → body ≡ Client (TcKeyReq tx op) → R (going (operate.operate_row layout tx t op))
-  pub decides : body ≡ Client (TcCommitReq tx) → R (going (commit.decide_row node tx t))
+  pub decides : body ≡ Client (TcCommitReq tx) → R (going (commit.verify_row node tx t))
   pub rolls_back : body ≡ Client (TcRollbackReq tx) → R (abort.rollback_row node layout tx t)
   pub waits : body ≡ Client (TcWaitReq tx) → R (going (operate.wait_row tx t))
   pub answers : (key : List ℕ) (answer : Answer) → body ≡ Chain (LqhKeyConf tx key answer) → R (going (operate.answer_row layout tx t key answer))

@@ -15,12 +15,12 @@ use Rattle.tc_block.specs.Sends.{entering}
 use Rattle.tc_block.specs.Turn.{Turn, going, at_phase}
 
 -- a commit is asked for: an epoch is asked for
-abbrev pub decide_if : ℕ → TxId → Transaction → Bool → Step Transaction
-decide_if node tx t true = sending (at_phase t Verifying) (epochs node) (Epoch (DiVerifyReq tx t.ops))
-decide_if node tx t false = stay t
+abbrev pub verify_if : ℕ → TxId → Transaction → Bool → Step Transaction
+verify_if node tx t true = sending (at_phase t Verifying) (epochs node) (Epoch (DiVerifyReq tx t.ops))
+verify_if node tx t false = stay t
 
-unfoldable pub decide_row : ℕ → TxId → Transaction → Step Transaction
-decide_row node tx t = decide_if node tx t (is_ready t.phase t.asked)
+unfoldable pub verify_row : ℕ → TxId → Transaction → Step Transaction
+verify_row node tx t = verify_if node tx t (is_ready t.phase t.asked)
 
 -- the epoch is given: all keys are committed in it
 abbrev pub commit_if : ℕ → Layout → TxId → Transaction → ℕ → Bool → Turn

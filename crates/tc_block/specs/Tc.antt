@@ -17,7 +17,7 @@ use Rattle.frag_map.specs.Layout as layouts
 use Rattle.sig_core.specs.Same.{same_tx}
 use Rattle.sig_core.specs.Step.{Step, stay, sending}
 use Rattle.tc_block.specs.Abort.{aborted_row, refuse_row, rollback_row}
-use Rattle.tc_block.specs.Commit.{commit_row, committed_row, decide_row}
+use Rattle.tc_block.specs.Commit.{commit_row, committed_row, verify_row}
 use Rattle.tc_block.specs.Complete.{completed_row}
 use Rattle.tc_block.specs.Live.{place_in, step_of, turn_of}
 use Rattle.tc_block.specs.Operate.{answer_row, fresh, operate_row, wait_row}
@@ -73,7 +73,7 @@ abbrev pub tc_table : TcState → Body → Step TcState
 tc_table s (Host (Continue (Transaction tx) at)) = step_of s tx (λ t. go_on_row s.node s.layout tx t at)
 tc_table s (Client (TcBeginReq name)) = begin_row s name
 tc_table s (Client (TcKeyReq tx op)) = step_of s tx (λ t. operate_row s.layout tx t op)
-tc_table s (Client (TcCommitReq tx)) = step_of s tx (λ t. decide_row s.node tx t)
+tc_table s (Client (TcCommitReq tx)) = step_of s tx (λ t. verify_row s.node tx t)
 tc_table s (Client (TcRollbackReq tx)) = turn_of s tx (λ t. rollback_row s.node s.layout tx t)
 tc_table s (Client (TcWaitReq tx)) = step_of s tx (λ t. wait_row tx t)
 tc_table s (Client (LqhWaitConf tx ahead)) = pass_row s tx ahead

@@ -1,7 +1,7 @@
 //! The commit of a transaction: from the wish to commit to the last key that is committed.
 ghost use Rattle.std.specs.Prelude.{◌≡◌, ◌==◌, IfOk, OnOk, OnErr, length};
 ghost use Rattle.sig_core.specs.Step.{HasRoom, IsTaken, IsUntouched};
-ghost use Rattle.tc_block.specs.Commit.{commit_if, commit_row, committed_row, decide_row};
+ghost use Rattle.tc_block.specs.Commit.{commit_if, commit_row, committed_row, verify_row};
 
 use crate::phase::Phase;
 use crate::transaction::Transaction;
@@ -15,8 +15,8 @@ impl Transaction {
     ///
     /// # Errors
     /// `NoMemory`, and then nothing has happened.
-    #[tactic(auto, unfolding(crate::specs::Commit::decide_row))]
-    pub fn decide(
+    #[tactic(auto, unfolding(crate::specs::Commit::verify_row))]
+    pub fn verify(
         &mut self,
         alloc: Global,
         node: u8,
@@ -24,7 +24,7 @@ impl Transaction {
         out: &mut Outs,
     ) -> Result<(), NoMemory>
         requires { HasRoom out.old }
-        ensures ok { OnOk result (IsTaken (decide_row node tx self.old) self.new out.old out.new) }
+        ensures ok { OnOk result (IsTaken (verify_row node tx self.old) self.new out.old out.new) }
         ensures err { OnErr result (IsUntouched self.old self.new out.old out.new) }
     {
         if self.is_ready() {

@@ -1,12 +1,14 @@
 //! The coordinator of a node.
 ghost use Rattle.std.specs.Prelude.{◌≡◌, ◌+◌, ◌<◌, ◌^◌, OnOk, OnErr, IfOk, is_some};
 ghost use Rattle.sig_core.specs.Step.{HasRoom, IsTaken, IsUntouched};
+ghost use Rattle.sig_core.specs.declared.signal.Body.TheVariants.{Chain, Client};
 ghost use Rattle.tc_block.specs.Abort.{aborted_row, refuse_row, rollback_row};
-ghost use Rattle.tc_block.specs.Commit.{commit_row, committed_row, decide_row};
+ghost use Rattle.tc_block.specs.Commit.{commit_row, committed_row, verify_row};
 ghost use Rattle.tc_block.specs.Complete.{completed_row};
 ghost use Rattle.tc_block.specs.Live.{place_in, step_of, turn_of, without};
 ghost use Rattle.tc_block.specs.Operate.{answer_row, operate_row, wait_row};
 ghost use Rattle.tc_block.specs.Sends.{go_on_row};
+ghost use Rattle.tc_block.specs.Tc.{tc_table};
 
 use crate::transaction::Transaction;
 use frag_map::Layout;
@@ -138,16 +140,16 @@ impl Tc {
     }
 
     #[tactic(auto, using(crate::proofs::LiveLemmas::live))]
-    fn decide(&mut self, alloc: Global, tx: TxId, out: &mut Outs) -> Result<(), NoMemory>
+    fn verify(&mut self, alloc: Global, tx: TxId, out: &mut Outs) -> Result<(), NoMemory>
         requires { HasRoom out.old }
-        ensures ok { OnOk result (IsTaken (step_of self.old tx (λ t. decide_row self.old.node tx t)) self.new out.old out.new) }
+        ensures ok { OnOk result (IsTaken (step_of self.old tx (λ t. verify_row self.old.node tx t)) self.new out.old out.new) }
         ensures err { OnErr result (IsUntouched self.old self.new out.old out.new) }
     {
         let Some(at) = self.live.get_index_of(&tx) else {
             return Ok(());
         };
         let t = &mut self.live[at];
-        t.decide(alloc, self.node, tx, out)
+        t.verify(alloc, self.node, tx, out)
     }
 
     #[tactic(auto, using(crate::proofs::LiveLemmas::live))]
@@ -268,6 +270,67 @@ impl Tc {
     }
 }
 
+impl Tc {
+    // Handles a signal of the client, or one of the rows for it.
+    fn handle_client(
+        &mut self,
+        alloc: Global,
+        signal: &ClientSignal,
+        out: &mut Outs,
+    ) -> Result<(), NoMemory>
+        requires { HasRoom out.old }
+        ensures ok { OnOk result (IsTaken (tc_table self.old (Client signal.now)) self.new out.old out.new) }
+        ensures err { OnErr result (IsUntouched self.old self.new out.old out.new) }
+    {
+        match signal {
+            ClientSignal::TcBeginReq { name } => self.begin(alloc, *name, out),
+            ClientSignal::TcKeyReq { tx, op } => self.operate(*tx, op, out),
+            ClientSignal::TcCommitReq { tx } => self.verify(alloc, *tx, out),
+            ClientSignal::TcRollbackReq { tx } => {
+                self.rollback(*tx, out);
+                Ok(())
+            }
+            ClientSignal::TcWaitReq { tx } => {
+                self.wait(*tx, out);
+                Ok(())
+            }
+            ClientSignal::LqhWaitConf { tx, ahead } => {
+                self.pass(*tx, *ahead, out);
+                Ok(())
+            }
+            _ => Ok(()),
+        }
+    }
+
+    // Handles an answer of the rows.
+    fn handle_chain(&mut self, signal: &ChainSignal, out: &mut Outs) -> Result<(), NoMemory>
+        requires { HasRoom out.old }
+        ensures ok { OnOk result (IsTaken (tc_table self.old (Chain signal.now)) self.new out.old out.new) }
+        ensures err { OnErr result (IsUntouched self.old self.new out.old out.new) }
+    {
+        match signal {
+            ChainSignal::LqhKeyConf { tx, key, answer } => self.answer(*tx, key, answer, out),
+            ChainSignal::LqhKeyRef { tx, key, cause } => {
+                self.refuse(*tx, key, *cause, out);
+                Ok(())
+            }
+            ChainSignal::Committed { tx, key: _ } => {
+                self.committed(*tx, out);
+                Ok(())
+            }
+            ChainSignal::Completed { tx, key: _ } => {
+                self.completed(*tx, out);
+                Ok(())
+            }
+            ChainSignal::Aborted { tx, key: _ } => {
+                self.aborted(*tx, out);
+                Ok(())
+            }
+            _ => Ok(()),
+        }
+    }
+}
+
 impl Actor for Tc {
     ghost use Rattle.sig_core.specs.Step.{stay};
     ghost use Rattle.tc_block.specs.Tc.{in_view, tc_row};
@@ -278,6 +341,12 @@ impl Actor for Tc {
 
     fn handle(&mut self, alloc: Global, signal: &Signal, out: &mut Outs) -> Result<(), NoMemory> {
         match &signal.body {
+            Body::Client(signal) => self.handle_client(alloc, signal, out),
+            Body::Chain(signal) => self.handle_chain(signal, out),
+            Body::Epoch(EpochSignal::DiVerifyConf { tx, epoch }) => {
+                self.commit(*tx, *epoch, out);
+                Ok(())
+            }
             Body::Host(
                 HostSignal::Continue {
                     work: Work::Transaction(tx),
@@ -285,44 +354,6 @@ impl Actor for Tc {
                 },
             ) => {
                 self.go_on(*tx, *at, out);
-                Ok(())
-            }
-            Body::Client(ClientSignal::TcBeginReq { name }) => self.begin(alloc, *name, out),
-            Body::Client(ClientSignal::TcKeyReq { tx, op }) => self.operate(*tx, op, out),
-            Body::Client(ClientSignal::TcCommitReq { tx }) => self.decide(alloc, *tx, out),
-            Body::Client(ClientSignal::TcRollbackReq { tx }) => {
-                self.rollback(*tx, out);
-                Ok(())
-            }
-            Body::Client(ClientSignal::TcWaitReq { tx }) => {
-                self.wait(*tx, out);
-                Ok(())
-            }
-            Body::Client(ClientSignal::LqhWaitConf { tx, ahead }) => {
-                self.pass(*tx, *ahead, out);
-                Ok(())
-            }
-            Body::Chain(ChainSignal::LqhKeyConf { tx, key, answer }) => {
-                self.answer(*tx, key, answer, out)
-            }
-            Body::Chain(ChainSignal::LqhKeyRef { tx, key, cause }) => {
-                self.refuse(*tx, key, *cause, out);
-                Ok(())
-            }
-            Body::Chain(ChainSignal::Committed { tx, key: _ }) => {
-                self.committed(*tx, out);
-                Ok(())
-            }
-            Body::Chain(ChainSignal::Completed { tx, key: _ }) => {
-                self.completed(*tx, out);
-                Ok(())
-            }
-            Body::Chain(ChainSignal::Aborted { tx, key: _ }) => {
-                self.aborted(*tx, out);
-                Ok(())
-            }
-            Body::Epoch(EpochSignal::DiVerifyConf { tx, epoch }) => {
-                self.commit(*tx, *epoch, out);
                 Ok(())
             }
             _ => Ok(()),

@@ -1,6 +1,6 @@
 use Rattle.std.proofs.Common.{rules, not, ◌∙◌}
 use Rattle.std.proofs.lemmas.Fn.{filter_same}
-use Rattle.row_locks.specs.Modes.{same_tx}
+use Rattle.sig_core.specs.Same.{same_tx}
 use Rattle.row_locks.proofs.GoneLemmas.{filter-others}
 use Rattle.row_locks.proofs.holders.let_go.Goals as goal
 
