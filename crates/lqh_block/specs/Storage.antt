@@ -14,7 +14,8 @@ use Rattle.sig_core.specs.declared.signal.Body.TheVariants.{Chain}
 use Rattle.sig_core.specs.declared.signal.chain.ChainSignal.TheVariants.{LqhKeyReq, LqhKeyConf, LqhKeyRef}
 use Rattle.sig_core.specs.declared.signal.chain.RowWork.{RowWork}
 use Rattle.sig_core.specs.declared.signal.chain.RowWork.TheVariants.{Operate, Store}
-use Rattle.sig_core.specs.Journal.{JournalState, appending, journal_room, reserving, unreserving}
+use Rattle.sig_core.specs.declared.journal.TheConstants.{JOURNAL_BYTES}
+use Rattle.sig_core.specs.Journal.{JournalState, appending, reserving, unreserving}
 use Rattle.sig_core.specs.Op.{answer_to, image_of, key_of}
 use Rattle.sig_core.specs.Place.{coordinator_of, rows_of}
 use Rattle.sig_core.specs.Redo.{size_of}
@@ -74,7 +75,7 @@ prepared_in s tx key image =
 
 -- so many bytes more exceed the journal's room
 abbrev pub is_log_full : JournalState → ℕ → Bool
-is_log_full j need = nat_lt journal_room (j.used + j.reserved + need)
+is_log_full j need = nat_lt JOURNAL_BYTES (j.used + j.reserved + need)
 
 abbrev pub store_if : StorageState → TxId → List ℕ → Option (List ℕ) → List Member → ℕ → Bool → Bool → Step StorageState
 store_if s tx key image chain at true full =

@@ -1,11 +1,8 @@
 //! A journal that keeps no records.
 ghost use Rattle.std.specs.Prelude.{◌≡◌, ⊤};
 
-use sig_core::{Journal, JournalFault, NoMemory, Redo};
+use sig_core::{JOURNAL_BYTES, Journal, JournalFault, NoMemory, Redo};
 use std::marker::Model;
-
-/// How many bytes a journal has, 16 MiB.
-pub const JOURNAL_BYTES: u64 = 16_777_216;
 
 /// A journal that counts the bytes of its records, and keeps none of them.
 #[derive(Drop)]
@@ -16,13 +13,14 @@ pub struct CountJournal {
 
 impl Model for CountJournal {
     ghost use Rattle.std.specs.Prelude.{◌+◌, ◌≤◌};
-    ghost use Rattle.sig_core.specs.Journal.{JournalState, journal_room};
+    ghost use Rattle.sig_core.specs.declared.journal.TheConstants.{JOURNAL_BYTES};
+    ghost use Rattle.sig_core.specs.Journal.{JournalState};
 
     ghost Value = { JournalState };
 
     ghost view = { λ j. record { used = j.used; reserved = j.reserved } };
 
-    ghost invariant = { λ j. j.used + j.reserved ≤ journal_room };
+    ghost invariant = { λ j. j.used + j.reserved ≤ JOURNAL_BYTES };
 }
 
 impl CountJournal {

@@ -19,9 +19,9 @@ mod storage;
 mod wait;
 mod work;
 
-pub use count_journal::{CountJournal, JOURNAL_BYTES};
+pub use count_journal::CountJournal;
 pub use lqh::Lqh;
-pub use map_rows::{MapRows, PLACES};
+pub use map_rows::MapRows;
 pub use request::{Marker, Request};
 
 #[cfg(test)]

@@ -8,12 +8,9 @@ ghost use Rattle.lqh_block.specs.Records.{record_by};
 use crate::places::{Places, has_row};
 use crate::record_id::Version;
 use crate::records::Records;
-use sig_core::{Answer, Key, NoMemory, Op, Rows, RowsFault, Slot, TxId, Value};
+use sig_core::{Answer, Key, NoMemory, Op, PLACES, Rows, RowsFault, Slot, TxId, Value};
 use std::alloc::Global;
 use std::marker::Model;
-
-/// The most places that rows and the keys of records take.
-pub const PLACES: usize = 131_072;
 
 /// Rows in memory. A look-up, of a key or of a record, takes a time that doesn't depend on the numbers of
 /// rows and of records, and so does all else but this: a place is taken or freed in a time that is

@@ -57,7 +57,15 @@ impl<R: Rows, J: Journal> Storage<R, J> {
         let key = work_key(&request.work);
         match answer.get() {
             Answer::Done => {
-                self.store(request.tx, key, image, fragment, &request.chain, request.at, out);
+                self.store(
+                    request.tx,
+                    key,
+                    image,
+                    fragment,
+                    &request.chain,
+                    request.at,
+                    out,
+                );
             }
             Answer::Found(_) | Answer::Missing | Answer::E626 | Answer::E630 => {
                 confirm(request.tx, key, answer, out);
@@ -237,14 +245,7 @@ fn confirm(tx: TxId, key: &Key, answer: HeldAnswer, out: &mut Outs)
 }
 
 // Sends a prepared image to the next place of its chain, or answers the write.
-fn pass_on(
-    tx: TxId,
-    key: &Key,
-    image: Held<Option<Value>>,
-    chain: &Members,
-    at: u8,
-    out: &mut Outs,
-)
+fn pass_on(tx: TxId, key: &Key, image: Held<Option<Value>>, chain: &Members, at: u8, out: &mut Outs)
     requires { length out.old.sends < 16 }
     ensures { out.new ≡ and_send out.old (passed_on tx key.now image chain.now at).to (passed_on tx key.now image chain.now at).body }
 {

@@ -1,5 +1,6 @@
 -- Epochs, signal by signal.
 use Rattle.std.specs.Prelude.{ℕ, Bool, true, false, nat_lt, List, [], ◌∷◌, ◌++◌, length, position, remove, Option, None, Some}
+use Rattle.node_core.specs.declared.dih.TheConstants.{TRANSACTIONS}
 use Rattle.sig_core.specs.declared.mark.Mark.TheVariants.{Decided}
 use Rattle.sig_core.specs.declared.member.TxId.{TxId}
 use Rattle.sig_core.specs.declared.signal.Body.{Body}
@@ -30,7 +31,7 @@ decide_if s tx true =
 decide_if s tx false = stay s
 
 unfoldable pub decide_row : DihState → TxId → Step DihState
-decide_row s tx = decide_if s tx (nat_lt (length s.counted) 64)
+decide_row s tx = decide_if s tx (nat_lt (length s.counted) TRANSACTIONS)
 
 -- a decided transaction has ended
 abbrev pub end_by : DihState → Option ℕ → DihState

@@ -25,12 +25,13 @@ impl Model for Dih {
     ghost use Rattle.std.specs.Prelude.{◌≤◌, length};
     ghost use Rattle.std.specs.Vec.{vec_capacity};
     ghost use Rattle.node_core.specs.Dih.{DihState};
+    ghost use Rattle.node_core.specs.declared.dih.TheConstants.{TRANSACTIONS};
 
     ghost Value = { DihState };
 
     ghost view = { λ d. record { node = d.node; epoch = d.epoch; counted = d.counted.items } };
 
-    ghost invariant = { λ d. 64 ≤ vec_capacity d.counted };
+    ghost invariant = { λ d. TRANSACTIONS ≤ vec_capacity d.counted };
 }
 
 impl Dih {

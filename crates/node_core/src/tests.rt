@@ -1,8 +1,8 @@
 use crate::Host;
 use frag_map::{Layout, first_view};
 use sig_core::{
-    Actor, BlockId, Body, ClientSignal, Held, HostId, Key, Member, NoMemory, Outs, Part, Place, Shape,
-    Signal, Value,
+    Actor, BlockId, Body, ClientSignal, Held, HostId, Key, Member, NoMemory, Outs, Part, Place,
+    Shape, Signal, Value,
 };
 use std::alloc::Global;
 use std::test::Fail;

@@ -1,5 +1,7 @@
 -- The operations of a line.
 use Rattle.std.specs.Prelude.{ℕ, Bool, true, false, List, [], Option, None, Some, Result, Ok, Err}
+use Rattle.sig_core.specs.declared.key.TheConstants.{KEY_BYTES}
+use Rattle.sig_core.specs.declared.value.TheConstants.{VALUE_BYTES}
 use Rattle.sig_core.specs.declared.op.Op.{Op}
 use Rattle.sig_core.specs.declared.op.Op.TheVariants as op
 use Rattle.sig_core.specs.declared.word.WordFault.{WordFault}
@@ -48,4 +50,4 @@ operate_if name kind (Err fault) value = Err BadWord
 
 -- the command of an operation, if the words are a key and a value
 abbrev pub operate : Option ℕ → OpKind → List ℕ → List ℕ → Result Command LineFault
-operate name kind key value = operate_if name kind (if_word 1 32 key key) (if_word 0 200 value value)
+operate name kind key value = operate_if name kind (if_word 1 KEY_BYTES key key) (if_word 0 VALUE_BYTES value value)

@@ -2,6 +2,8 @@
 use Rattle.std.specs.Prelude.{◌≡◌, ℕ, ◌^◌, ◌<◌, ◌≤◌, Bool, true, false, List, [], ◌∷◌, ◌++◌, codes, Option, None, Some, IfSome, Ok}
 use Rattle.std.specs.Fmt.{decimal}
 use Rattle.std.specs.List.{join_with_byte}
+use Rattle.sig_core.specs.declared.key.TheConstants.{KEY_BYTES}
+use Rattle.sig_core.specs.declared.value.TheConstants.{VALUE_BYTES}
 use Rattle.sig_core.specs.declared.op.Op.{Op}
 use Rattle.sig_core.specs.declared.op.Op.TheVariants as op
 use Rattle.sig_core.specs.Word.{if_word}
@@ -66,11 +68,11 @@ IsNode nodes node = (1 ≤ node) × (node ≤ nodes)
 
 -- 1 to 32 printable bytes without spaces
 abbrev pub IsKey : List ℕ → Type 0
-IsKey key = if_word 1 32 key key ≡ Ok key
+IsKey key = if_word 1 KEY_BYTES key key ≡ Ok key
 
 -- at most 200 of them
 abbrev pub IsValue : List ℕ → Type 0
-IsValue value = if_word 0 200 value value ≡ Ok value
+IsValue value = if_word 0 VALUE_BYTES value value ≡ Ok value
 
 abbrev pub IsOperation : Op → Type 0
 IsOperation (op.Get key) = IsKey key

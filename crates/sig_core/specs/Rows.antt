@@ -9,6 +9,7 @@ use Rattle.sig_core.specs.declared.rows.PendingRecord.{PendingRecord}
 use Rattle.sig_core.specs.declared.rows.RowsFault.{RowsFault}
 use Rattle.sig_core.specs.declared.rows.RowsFault.TheVariants.{Full, NoMemory}
 use Rattle.sig_core.specs.declared.rows.Slot.{Slot}
+use Rattle.sig_core.specs.declared.rows.TheConstants.{PLACES}
 use Rattle.sig_core.specs.Op.{answer_to, image_of, key_of}
 use Rattle.sig_core.specs.Same.{same_key, same_tx}
 
@@ -116,13 +117,9 @@ storing s tx key image = record {
   pending = recorded_by s.pending (prepared tx key image) (record_at s.pending tx key);
 }
 
--- the most places that rows and pending keys take
-abbrev pub most_places : ℕ
-most_places = 131072
-
 -- the key has no place, and no more are given
 unfoldable pub is_full : RowsState → List ℕ → Bool
-is_full s key = not (is_some (place_of s.places key)) && nat_le most_places (taken s.places)
+is_full s key = not (is_some (place_of s.places key)) && nat_le PLACES (taken s.places)
 
 -- what the answer to an image of a row says: it is refused exactly where the rows are full, with the count of places taken
 abbrev pub Stores : RowsState → TxId → List ℕ → Option (List ℕ) → RowsState → Result (Unit {0}) RowsFault → Type 0

@@ -2,6 +2,7 @@
 use Rattle.std.specs.Prelude.{◌≡◌, ◌+◌, ◌≤◌, List, [], ◌∷◌, ◌++◌, length}
 use Rattle.sig_core.specs.declared.mark.Mark.{Mark}
 use Rattle.sig_core.specs.declared.outs.Outgoing.{Outgoing}
+use Rattle.sig_core.specs.declared.outs.TheConstants.{OUTS, SIGNAL_OUTS}
 use Rattle.sig_core.specs.declared.place.Place.{Place}
 use Rattle.sig_core.specs.declared.signal.Body.{Body}
 
@@ -53,7 +54,7 @@ pub record IsUntouched {S : Type 0} (old now : S) (out out_now : Effects) : Type
   pub state : now ≡ old
   pub effects : out_now ≡ out
 
--- the effects leave room for those of one more signal: at most 12 signals and 12 marks of 16 each
+-- the effects leave room for those of one more signal
 pub record HasRoom (effects : Effects) : Type 0 where
-  pub sends : length effects.sends + 12 ≤ 16
-  pub marks : length effects.marks + 12 ≤ 16
+  pub sends : length effects.sends + SIGNAL_OUTS ≤ OUTS
+  pub marks : length effects.marks + SIGNAL_OUTS ≤ OUTS

@@ -7,6 +7,9 @@ ghost use Rattle.sig_core.specs.Redo.{size_of};
 use crate::no_memory::NoMemory;
 use crate::redo::Redo;
 
+/// How many bytes a journal has, 16 MiB.
+pub const JOURNAL_BYTES: u64 = 16_777_216;
+
 /// Why a journal keeps no bytes free.
 #[derive(Clone, Copy, Debug, PartialEq, Eq)]
 pub enum JournalFault {

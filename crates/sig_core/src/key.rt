@@ -8,6 +8,7 @@ ghost use Rattle.std.specs.Cmp.Lexicographic.{pointwise, slice_cmp, nat_list_eq_
 ghost use Rattle.std.specs.Prelude.{nat_eq};
 ghost use Rattle.std.specs.Cmp.Rules.{hashing};
 ghost use Rattle.sig_core.specs.Word.{if_word};
+ghost use Rattle.sig_core.specs.declared.key.TheConstants.{KEY_BYTES};
 
 use crate::word::{WordFault, check, put_front};
 use std::cmp::Ordering;
@@ -21,7 +22,7 @@ pub const KEY_BYTES: usize = 32;
 /// The primary key of a row: 1 to 32 bytes, each from 0x21 to 0x7e. Keys compare as lists of bytes.
 #[derive(Clone, Copy)]
 pub struct Key {
-    bytes: [u8; 32],
+    bytes: [u8; KEY_BYTES],
     len: u8,
 }
 
@@ -29,14 +30,15 @@ impl Model for Key {
     ghost use Rattle.std.specs.Prelude.{List, ℕ, take, length};
     ghost use Rattle.sig_core.specs.Filled.{filled, filled-held, length-held};
     ghost use Rattle.sig_core.specs.Word.{IsWord};
+    ghost use Rattle.sig_core.specs.declared.key.TheConstants.{KEY_BYTES};
 
     ghost Value = { List ℕ };
 
     ghost view = { λ k. take k.len k.bytes };
 
-    ghost invariant = { λ k. IsWord 1 32 k.bytes k.len };
+    ghost invariant = { λ k. IsWord 1 KEY_BYTES k.bytes k.len };
 
-    ghost inverse = { λ bytes. record { bytes = filled 0 32 bytes; len = length bytes } };
+    ghost inverse = { λ bytes. record { bytes = filled 0 KEY_BYTES bytes; len = length bytes } };
 
     ghost inverse_ok = { λ k is i. record { bytes = filled-held is.filled i; len = length-held is.filled i } };
 }
@@ -49,7 +51,7 @@ impl Key {
     /// 0x21 to 0x7e.
     #[tactic(auto, using(crate::proofs::WordLemmas::stored_word))]
     pub fn new(bytes: &[u8]) -> Result<Key, WordFault>
-        ensures { result ≡ if_word 1 32 bytes.now bytes.now }
+        ensures { result ≡ if_word 1 KEY_BYTES bytes.now bytes.now }
     {
         check(bytes, 1, KEY_BYTES)?;
         let mut stored = [0; KEY_BYTES];
@@ -64,7 +66,7 @@ impl Key {
     pub fn bytes(&self) -> &[u8]
         ensures value { result.now ≡ self.now }
         ensures least { 1 ≤ length self.now }
-        ensures most { length self.now ≤ 32 }
+        ensures most { length self.now ≤ KEY_BYTES }
     {
         &self.bytes[..self.len as usize]
     }

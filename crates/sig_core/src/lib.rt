@@ -34,7 +34,7 @@ pub use chain::{last_place, node_at, primary_of};
 pub use entry::Entry;
 pub use held::Held;
 pub use held_answer::HeldAnswer;
-pub use journal::{Journal, JournalFault};
+pub use journal::{JOURNAL_BYTES, Journal, JournalFault};
 pub use key::{KEY_BYTES, Key};
 pub use log::{HostLog, Life, LogStep};
 pub use mark::{Mark, Marks};
@@ -43,14 +43,14 @@ pub use members::{MEMBERS, Members};
 pub use no_memory::NoMemory;
 pub use op::{Answer, Op};
 pub use outcome::{AbortCause, Outcome, StopCause};
-pub use outs::{OUTS, Outgoing, Outs};
+pub use outs::{OUTS, Outgoing, Outs, SIGNAL_OUTS};
 pub use place::{
     BlockId, CLIENT, Part, Place, coordinator, coordinator_of, epochs, part_of, rows_of,
 };
 pub use redo::Redo;
 pub use reply::{ApiReply, Refusal, Waiting};
 pub use request::{ApiReq, BatchLine};
-pub use rows::{PendingRecord, Rows, RowsFault, Slot};
+pub use rows::{PLACES, PendingRecord, Rows, RowsFault, Slot};
 pub use seq::Seq;
 pub use signal::{
     Body, ChainSignal, CheckpointSignal, ClientSignal, EpochSignal, FileSignal, HostSignal,

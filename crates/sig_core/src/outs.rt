@@ -13,6 +13,9 @@ use std::marker::Model;
 /// How many signals a step sends at most, and how many marks it has at most.
 pub const OUTS: usize = 16;
 
+/// How many signals a block sends at most at one signal, and how many marks it has for it at most.
+pub const SIGNAL_OUTS: usize = 12;
+
 /// A signal to send, for this place.
 #[derive(Drop)]
 pub struct Outgoing {

@@ -29,6 +29,9 @@ pub struct PendingRecord {
     pub committed: bool,
 }
 
+/// The most places that rows and the keys of records take.
+pub const PLACES: usize = 131_072;
+
 /// Why a write isn't prepared.
 #[derive(Clone, Copy, Debug, PartialEq, Eq)]
 pub enum RowsFault {

@@ -3,6 +3,7 @@ ghost use Rattle.std.specs.Prelude.{◌≡◌, ◌≤◌, length, nat_eq};
 ghost use Rattle.std.specs.Cmp.{partial_equiv_from_equiv};
 ghost use Rattle.std.specs.Cmp.Lexicographic.{pointwise, nat_list_eq_equiv};
 ghost use Rattle.sig_core.specs.Word.{if_word};
+ghost use Rattle.sig_core.specs.declared.value.TheConstants.{VALUE_BYTES};
 
 use crate::word::{WordFault, check, put_front};
 use std::fmt;
@@ -14,7 +15,7 @@ pub const VALUE_BYTES: usize = 200;
 /// The value of a row: 0 to 200 bytes, each from 0x21 to 0x7e.
 #[derive(Clone, Copy)]
 pub struct Value {
-    bytes: [u8; 200],
+    bytes: [u8; VALUE_BYTES],
     len: u8,
 }
 
@@ -22,14 +23,15 @@ impl Model for Value {
     ghost use Rattle.std.specs.Prelude.{List, ℕ, take, length};
     ghost use Rattle.sig_core.specs.Filled.{filled, filled-held, length-held};
     ghost use Rattle.sig_core.specs.Word.{IsWord};
+    ghost use Rattle.sig_core.specs.declared.value.TheConstants.{VALUE_BYTES};
 
     ghost Value = { List ℕ };
 
     ghost view = { λ v. take v.len v.bytes };
 
-    ghost invariant = { λ v. IsWord 0 200 v.bytes v.len };
+    ghost invariant = { λ v. IsWord 0 VALUE_BYTES v.bytes v.len };
 
-    ghost inverse = { λ bytes. record { bytes = filled 0 200 bytes; len = length bytes } };
+    ghost inverse = { λ bytes. record { bytes = filled 0 VALUE_BYTES bytes; len = length bytes } };
 
     ghost inverse_ok = { λ v is i. record { bytes = filled-held is.filled i; len = length-held is.filled i } };
 }
@@ -42,7 +44,7 @@ impl Value {
     /// to 0x7e.
     #[tactic(auto, using(crate::proofs::WordLemmas::stored_word))]
     pub fn new(bytes: &[u8]) -> Result<Value, WordFault>
-        ensures { result ≡ if_word 0 200 bytes.now bytes.now }
+        ensures { result ≡ if_word 0 VALUE_BYTES bytes.now bytes.now }
     {
         check(bytes, 0, VALUE_BYTES)?;
         let mut stored = [0; VALUE_BYTES];
@@ -56,7 +58,7 @@ impl Value {
     /// The value's bytes.
     pub fn bytes(&self) -> &[u8]
         ensures value { result.now ≡ self.now }
-        ensures most { length self.now ≤ 200 }
+        ensures most { length self.now ≤ VALUE_BYTES }
     {
         &self.bytes[..self.len as usize]
     }

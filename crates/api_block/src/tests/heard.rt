@@ -1,7 +1,7 @@
 //! What an API hears, in short.
 use sig_core::{
-    AbortCause, ApiReq, Body, ClientSignal, Held, HeldAnswer, HostSignal, Key, Op, Seq, TxId, Value,
-    Work,
+    AbortCause, ApiReq, Body, ClientSignal, Held, HeldAnswer, HostSignal, Key, Op, Seq, TxId,
+    Value, Work,
 };
 use std::alloc::Global;
 use std::test::Fail;

@@ -69,15 +69,27 @@ pub fn body_of(alloc: Global, heard: Heard) -> Result<Body, Fail> {
 }
 
 fn put(alloc: Global, seq: u64, letter: u8, value: u8) -> Result<Body, Fail> {
-    operate(alloc, seq, Op::Put(Key::new(&[letter])?, Value::new(&[value])?))
+    operate(
+        alloc,
+        seq,
+        Op::Put(Key::new(&[letter])?, Value::new(&[value])?),
+    )
 }
 
 fn insert(alloc: Global, seq: u64, letter: u8, value: u8) -> Result<Body, Fail> {
-    operate(alloc, seq, Op::Ins(Key::new(&[letter])?, Value::new(&[value])?))
+    operate(
+        alloc,
+        seq,
+        Op::Ins(Key::new(&[letter])?, Value::new(&[value])?),
+    )
 }
 
 fn update(alloc: Global, seq: u64, letter: u8, value: u8) -> Result<Body, Fail> {
-    operate(alloc, seq, Op::Upd(Key::new(&[letter])?, Value::new(&[value])?))
+    operate(
+        alloc,
+        seq,
+        Op::Upd(Key::new(&[letter])?, Value::new(&[value])?),
+    )
 }
 
 fn store(alloc: Global, seq: u64, letter: u8, value: u8) -> Result<Body, Fail> {

@@ -3,7 +3,7 @@ ghost use Rattle.std.specs.Prelude.{◌≡◌, OnOk};
 
 use super::conversation::{node, talk};
 use super::heard::{Heard, tx_of};
-use crate::{CountJournal, MapRows, PLACES};
+use crate::{CountJournal, MapRows};
 use sig_core::{Answer, Journal, JournalFault, Key, NoMemory, Op, Rows, Value};
 use std::test::Fail;
 

@@ -3,7 +3,9 @@ use super::heard::{Heard, body_of};
 use super::text::shown;
 use crate::Tc;
 use frag_map::Layout;
-use sig_core::{Actor, BlockId, Held, HostId, Member, Members, NoMemory, Outs, Place, Shape, Signal};
+use sig_core::{
+    Actor, BlockId, Held, HostId, Member, Members, NoMemory, Outs, Place, Shape, Signal,
+};
 use std::alloc::Global;
 use std::process::Abort;
 use std::test::Fail;
