@@ -1,6 +1,6 @@
 use crate::{
-    Answer, BlockId, Body, ClientSignal, Key, Mark, Member, Members, Op, Outs, Place, Redo, Seq,
-    Table, TxId, Value, WordFault, last_place, node_at, primary_of,
+    Answer, BlockId, Body, ClientSignal, Held, HeldAnswer, Key, Mark, Member, Members, Op, Outs,
+    Place, Redo, RowWork, Seq, Table, TxId, Value, WordFault, last_place, node_at, primary_of,
 };
 use std::test::Fail;
 
@@ -75,9 +75,26 @@ fn lists_and_effects_hold_what_was_put_in(rt: HostRuntime) -> Result<(), Fail> {
     outs.send(api, Body::Client(ClientSignal::ViewRep));
     outs.mark(Mark::Durable { epoch: 1 });
     assert_eq!(rt; outs.marks().len(), 1);
+    assert_eq!(rt; outs.take_marks(rt.alloc())?.len(), 1);
+    assert!(rt; outs.marks().is_empty());
     let sent = outs.take_send().ok_or("nothing was sent")?;
     assert_eq!(rt; sent.to, api);
     assert!(rt; outs.take_send().is_none());
+    Ok(())
+}
+
+#[test]
+fn what_is_held_is_held_once_more(rt: HostRuntime) -> Result<(), Fail> {
+    let found = Answer::Found(Value::new(b"v")?);
+    let held = HeldAnswer::new(rt.alloc(), &found)?;
+    assert_eq!(rt; held.share()?.get(), found);
+    assert_eq!(rt; HeldAnswer::done().share()?.get(), Answer::Done);
+    let work = RowWork::Operate(Held::new(rt.alloc(), Op::Get(Key::new(b"k")?))?);
+    let key = match work.share()? {
+        RowWork::Operate(op) => *op.get().key(),
+        RowWork::Store(key, _) => key,
+    };
+    assert_eq!(rt; key, Key::new(b"k")?);
     Ok(())
 }
 
