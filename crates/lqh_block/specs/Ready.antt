@@ -9,7 +9,7 @@ use Rattle.sig_core.specs.Op.{answer_to, key_of}
 use Rattle.sig_core.specs.Rows.{RowsState, seen}
 use Rattle.lqh_block.specs.declared.ready.Ready.{Ready}
 use Rattle.lqh_block.specs.declared.request.Request.{Request}
-use Rattle.lqh_block.specs.Work.{work_image}
+use Rattle.sig_core.specs.Work.{work_image, work_key}
 
 -- what work answers, as the rows are; a store takes effect
 abbrev pub work_answer : RowsState → TxId → RowWork → Answer
@@ -19,4 +19,4 @@ work_answer rows tx (Store key image) = Done
 -- this is what the request answers and passes on
 pub record IsReady (rows : RowsState) (request : Request) (ready : Ready) : Type 0 where
   pub answer : ready.answer ≡ work_answer rows request.tx request.work
-  pub image : ready.image ≡ work_image request.work
+  pub onward : ready.onward ≡ Store (work_key request.work) (work_image request.work)

@@ -11,16 +11,6 @@ use Rattle.row_locks.specs.declared.mode.Mode.{Mode}
 use Rattle.row_locks.specs.declared.mode.Mode.TheVariants.{Shared, Exclusive}
 use Rattle.lqh_block.specs.declared.request.Request.{Request}
 
--- the key of the row
-abbrev pub work_key : RowWork → List ℕ
-work_key (Operate op) = key_of op
-work_key (Store key image) = key
-
--- the image that is stored, where the work takes effect as a write
-abbrev pub work_image : RowWork → Option (List ℕ)
-work_image (Operate op) = image_of op
-work_image (Store key image) = image
-
 abbrev pub op_mode : Op → Mode
 op_mode (Get key) = Shared
 op_mode _ = Exclusive

@@ -8,7 +8,7 @@ ghost use Rattle.lqh_block.specs.State.{go_on, go_on_if, sends_only, with_waitin
 use crate::lqh::Lqh;
 use crate::ready::Ready;
 use crate::request::Request;
-use crate::work::{work_key, work_mode};
+use crate::work::work_mode;
 use frag_map::frag_of;
 use row_locks::{Lock, LockTable};
 use sig_core::{Body, HostSignal, Journal, NoMemory, Outs, Rows, Work, rows_of};
@@ -34,7 +34,7 @@ impl<R: Rows, J: Journal> Lqh<R, J> {
         self.storage.make_room(&request)?;
         self.waiting.reserve(1)?;
         let ready = Ready::new(alloc, &self.storage.rows, &request)?;
-        let key = work_key(&request.work);
+        let key = request.work.key();
         let mode = work_mode(&request.work);
         let fragment = frag_of(key, &self.layout.shape());
         match self.locks.request(request.tx, key, mode)? {
@@ -91,7 +91,7 @@ impl<R: Rows, J: Journal> Lqh<R, J> {
         self.storage.make_room(request)?;
         let ready = Ready::new(alloc, &self.storage.rows, request)?;
         self.waiting.remove(at);
-        let fragment = frag_of(work_key(&request.work), &self.layout.shape());
+        let fragment = frag_of(request.work.key(), &self.layout.shape());
         self.storage.perform(request, ready, fragment, out);
         self.go_on_granted(out);
         Ok(())
@@ -122,7 +122,7 @@ impl<R: Rows, J: Journal> Lqh<R, J> {
 fn is_granted(locks: &LockTable, request: &Request) -> bool
     ensures { result ≡ is_granted locks.now request.now }
 {
-    locks.ahead(request.tx, work_key(&request.work)).is_none()
+    locks.ahead(request.tx, request.work.key()).is_none()
 }
 
 /// The block of this node goes on with some work.

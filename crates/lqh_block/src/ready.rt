@@ -1,11 +1,9 @@
 //! What a request will answer or pass on.
 ghost use Rattle.std.specs.Prelude.{◌≡◌, IfOk};
 ghost use Rattle.lqh_block.specs.Ready.{IsReady, work_answer};
-ghost use Rattle.lqh_block.specs.Work.{work_image};
 
 use crate::request::Request;
-use crate::work::{work_image, work_key};
-use sig_core::{Answer, Held, HeldAnswer, NoMemory, RowWork, Rows, Value};
+use sig_core::{Answer, HeldAnswer, HeldWork, NoMemory, Rows};
 use std::alloc::Global;
 
 /// What performing a request answers, or passes on, in memory of its own. It is made before
@@ -14,8 +12,8 @@ use std::alloc::Global;
 pub struct Ready {
     /// The answer to an operation, as the rows are. That of a store is `Done`.
     pub answer: HeldAnswer,
-    /// The image, where the request takes effect as a write.
-    pub image: Held<Option<Value>>,
+    /// The store that the next replica is asked for.
+    pub onward: HeldWork,
 }
 
 impl Ready {
@@ -27,8 +25,8 @@ impl Ready {
         ensures { IfOk result (IsReady (R.state_of rows.now) request.now) }
     {
         let answer = HeldAnswer::new(alloc, &work_answer(rows, request))?;
-        let image = held_image(alloc, &request.work)?;
-        Ok(Ready { answer, image })
+        let onward = request.work.stored()?;
+        Ok(Ready { answer, onward })
     }
 }
 
@@ -36,18 +34,8 @@ impl Ready {
 fn work_answer<R: Rows>(rows: &R, request: &Request) -> Answer
     ensures { result ≡ work_answer (R.state_of rows.now) request.now.tx request.now.work }
 {
-    match &request.work {
-        RowWork::Operate(op) => op.get().answer_to(&rows.seen(request.tx, op.get().key())),
-        RowWork::Store(_, _) => Answer::Done,
-    }
-}
-
-// The image that is stored: that of an operation is put into memory, and another one held once more.
-fn held_image(alloc: Global, work: &RowWork) -> Result<Held<Option<Value>>, NoMemory>
-    ensures { IfOk result (λ image. image ≡ work_image work.now) }
-{
-    match work {
-        RowWork::Operate(op) => Held::new(alloc, op.get().image()),
-        RowWork::Store(_, image) => image.share(),
+    match request.work.operation() {
+        Some(op) => op.answer_to(&rows.seen(request.tx, op.key())),
+        None => Answer::Done,
     }
 }

@@ -1,13 +1,13 @@
 //! What waits at a node's rows, and what is marked there.
 ghost use Rattle.std.specs.Prelude.{◌≡◌, IfOk};
 
-use sig_core::{Key, Members, NoMemory, RowWork, TxId};
+use sig_core::{HeldWork, Key, Members, NoMemory, TxId};
 
 /// A request of a transaction to prepare something.
 #[derive(Drop)]
 pub struct Request {
     pub tx: TxId,
-    pub work: RowWork,
+    pub work: HeldWork,
     /// The replicas of the row, the primary first.
     pub chain: Members,
     /// The place in the chain, from 0, of this replica.

@@ -10,10 +10,9 @@ ghost use Rattle.lqh_block.specs.Work.{work_image, work_key};
 
 use crate::ready::Ready;
 use crate::request::Request;
-use crate::work::{work_image, work_key};
 use sig_core::{
-    AbortCause, Answer, Body, ChainSignal, Held, HeldAnswer, Journal, JournalFault, Key, Mark,
-    Members, NoMemory, Outs, Redo, RowWork, Rows, RowsFault, TxId, Value, coordinator_of, rows_of,
+    AbortCause, Answer, Body, ChainSignal, HeldAnswer, HeldWork, Journal, JournalFault, Key, Mark,
+    Members, NoMemory, Outs, Redo, Rows, RowsFault, TxId, Value, coordinator_of, rows_of,
 };
 
 /// The rows of a node, and its journal, which keeps as many bytes free as the ends of all prepared
@@ -35,9 +34,9 @@ impl<R: Rows, J: Journal> Storage<R, J> {
         ensures journal { OnOk result (J.has_room self.new.journal (need_of request.now.tx (work_key request.now.work) (work_image request.now.work))) }
         ensures same { storage (R.state_of self.new.rows) (J.used_of self.new.journal) ≡ storage (R.state_of self.old.rows) (J.used_of self.old.journal) }
     {
-        let key = work_key(&request.work);
+        let key = request.work.key();
         self.rows.make_room(key)?;
-        let need = need_of(request.tx, key, &work_image(&request.work));
+        let need = need_of(request.tx, key, &request.work.image());
         self.journal.make_room(need)?;
         Ok(())
     }
@@ -53,14 +52,15 @@ impl<R: Rows, J: Journal> Storage<R, J> {
         ensures few { length out.new.sends ≤ length out.old.sends + 1 }
         ensures taken { IsTaken (perform (storage (R.state_of self.old.rows) (J.used_of self.old.journal)) request.now) (storage (R.state_of self.new.rows) (J.used_of self.new.journal)) out.old out.new }
     {
-        let Ready { answer, image } = ready;
-        let key = work_key(&request.work);
+        let Ready { answer, onward } = ready;
+        let key = request.work.key();
         match answer.get() {
             Answer::Done => {
                 self.store(
                     request.tx,
                     key,
-                    image,
+                    &request.work.image(),
+                    onward,
                     fragment,
                     &request.chain,
                     request.at,
@@ -79,20 +79,22 @@ impl<R: Rows, J: Journal> Storage<R, J> {
         &mut self,
         tx: TxId,
         key: &Key,
-        image: Held<Option<Value>>,
+        image: &Option<Value>,
+        onward: HeldWork,
         fragment: u8,
         chain: &Members,
         at: u8,
         out: &mut Outs,
     )
         requires room { HasRoom out.old }
+        requires onward { onward ≡ Store key.now image.now }
         requires rows { R.has_room self.old.rows key.now }
-        requires journal { J.has_room self.old.journal (need_of tx key.now image) }
+        requires journal { J.has_room self.old.journal (need_of tx key.now image.now) }
         ensures few { length out.new.sends ≤ length out.old.sends + 1 }
         ensures taken { IsTaken (store_row (storage (R.state_of self.old.rows) (J.used_of self.old.journal)) tx key.now image chain.now at) (storage (R.state_of self.new.rows) (J.used_of self.new.journal)) out.old out.new }
     {
         let had = self.rows.record_state(tx, key);
-        let need = need_of(tx, key, image.get());
+        let need = need_of(tx, key, image);
         match self.journal.reserve(need) {
             Ok(()) => {}
             Err(
@@ -112,11 +114,11 @@ impl<R: Rows, J: Journal> Storage<R, J> {
             }
             Err(JournalFault::NoMemory) => unreachable!(),
         }
-        match self.rows.prepare_image(tx, key, image.get()) {
+        match self.rows.prepare_image(tx, key, image) {
             Ok(()) => {
-                journal_image(&mut self.journal, tx, key, image.get(), fragment, had);
+                journal_image(&mut self.journal, tx, key, image, fragment, had);
                 out.mark(Mark::Prepared { tx, key: *key });
-                pass_on(tx, key, image, chain, at, out);
+                pass_on(tx, key, onward, chain, at, out);
             }
             Err(RowsFault::Full { rows }) => {
                 self.journal.unreserve(need);
@@ -196,13 +198,7 @@ fn need_of(tx: TxId, key: &Key, image: &Option<Value>) -> u64
     ensures need { result ≡ need_of tx key.now image.now }
     ensures most { result ≤ 504 }
 {
-    let prepare = Redo::Prepare {
-        tx,
-        fragment: 0,
-        key: *key,
-        image: *image,
-    };
-    prepare.size() + end_size(tx, key)
+    prepare_size(key, image) + end_size(tx, key)
 }
 
 // The bytes that are kept free for the end of a prepared image.
@@ -210,12 +206,7 @@ fn end_size(tx: TxId, key: &Key) -> u64
     ensures size { result ≡ end_size tx key.now }
     ensures most { result ≤ 252 }
 {
-    let commit = Redo::Commit {
-        tx,
-        epoch: 0,
-        key: *key,
-    };
-    commit.size()
+    commit_size(key)
 }
 
 /// Refuses a transaction at a key.
@@ -253,7 +244,7 @@ fn pass_on(tx: TxId, key: &Key, image: Held<Option<Value>>, chain: &Members, at:
         Some(next) => {
             let body = ChainSignal::LqhKeyReq {
                 tx,
-                work: RowWork::Store(*key, image),
+                work: onward,
                 chain: *chain,
                 at: at + 1,
             };

@@ -1,39 +1,19 @@
 //! What a replica is asked to prepare.
 ghost use Rattle.std.specs.Prelude.{◌≡◌};
 ghost use Rattle.sig_core.specs.Same.{same_key, same_tx};
-ghost use Rattle.lqh_block.specs.Work.{is_for, op_mode, work_image, work_key, work_mode};
+ghost use Rattle.lqh_block.specs.Work.{is_for, op_mode, work_mode};
 
 use crate::request::Request;
 use row_locks::Mode;
-use sig_core::{Key, Op, RowWork, TxId, Value};
-
-/// The key of the row.
-pub fn work_key(work: &RowWork) -> &Key
-    ensures { result.now ≡ work_key work.now }
-{
-    match work {
-        RowWork::Operate(op) => op.get().key(),
-        RowWork::Store(key, _) => key,
-    }
-}
-
-/// The image that is stored, where the work takes effect as a write.
-pub fn work_image(work: &RowWork) -> Option<Value>
-    ensures { result ≡ work_image work.now }
-{
-    match work {
-        RowWork::Operate(op) => op.get().image(),
-        RowWork::Store(_, image) => *image.get(),
-    }
-}
+use sig_core::{HeldWork, Key, Op, TxId};
 
 /// How the row is locked for it.
-pub fn work_mode(work: &RowWork) -> Mode
+pub fn work_mode(work: &HeldWork) -> Mode
     ensures { result ≡ work_mode work.now }
 {
-    match work {
-        RowWork::Operate(op) => op_mode(op.get()),
-        RowWork::Store(_, _) => Mode::Exclusive,
+    match work.operation() {
+        Some(op) => op_mode(op),
+        None => Mode::Exclusive,
     }
 }
 
@@ -50,7 +30,7 @@ fn op_mode(op: &Op) -> Mode
 pub fn is_for(tx: TxId, key: &Key, request: &Request) -> bool
     ensures { result ≡ is_for tx key.now request.now }
 {
-    same_tx(request.tx, tx) && same_key(work_key(&request.work), key)
+    same_tx(request.tx, tx) && same_key(request.work.key(), key)
 }
 
 /// Whether the two are one transaction.

@@ -3,3 +3,4 @@ pub mod Keys
 pub mod TableLemmas
 pub mod TxLemmas
 pub mod WordLemmas
+pub mod WorkLemmas

@@ -2,6 +2,7 @@ pub mod Chain
 pub mod Filled
 pub mod Firsts
 pub mod HeldAnswer
+pub mod HeldWork
 pub mod Journal
 pub mod Members
 pub mod Op
@@ -14,3 +15,4 @@ pub mod Same
 pub mod Step
 pub mod Table
 pub mod Word
+pub mod Work

@@ -7,6 +7,7 @@ mod chain;
 mod entry;
 mod held;
 mod held_answer;
+mod held_work;
 mod journal;
 mod key;
 mod log;
@@ -34,6 +35,7 @@ pub use chain::{last_place, node_at, primary_of};
 pub use entry::Entry;
 pub use held::Held;
 pub use held_answer::HeldAnswer;
+pub use held_work::HeldWork;
 pub use journal::{JOURNAL_BYTES, Journal, JournalFault};
 pub use key::{KEY_BYTES, Key};
 pub use log::{HostLog, Life, LogStep};
@@ -47,7 +49,7 @@ pub use outs::{OUTS, Outgoing, Outs, SIGNAL_OUTS};
 pub use place::{
     BlockId, CLIENT, Part, Place, coordinator, coordinator_of, epochs, part_of, rows_of,
 };
-pub use redo::Redo;
+pub use redo::{Redo, commit_size, prepare_size};
 pub use reply::{ApiReply, Refusal, Waiting};
 pub use request::{ApiReq, BatchLine};
 pub use rows::{PLACES, PendingRecord, Rows, RowsFault, Slot};

@@ -1,5 +1,7 @@
 //! Redo records: what a journal keeps of a transaction's writes.
-ghost use Rattle.std.specs.Prelude.{◌≡◌, ◌≤◌};
+ghost use Rattle.std.specs.Prelude.{◌≡◌, ◌≤◌, ℕ};
+ghost use Rattle.sig_core.specs.declared.member.TxId.{TxId};
+ghost use Rattle.sig_core.specs.declared.redo.Redo.TheVariants as redo;
 ghost use Rattle.sig_core.specs.Redo.{image_size, size_of};
 
 use crate::key::Key;
@@ -46,15 +48,33 @@ impl Redo {
                 fragment: _,
                 key,
                 image,
-            } => 19 + key.bytes().len() as u64 + image_size(image),
+            } => prepare_size(key, image),
             Redo::Commit {
                 tx: _,
                 epoch: _,
                 key,
-            } => 25 + key.bytes().len() as u64,
+            } => commit_size(key),
             Redo::Abort { tx: _, key } => 17 + key.bytes().len() as u64,
         }
     }
+}
+
+/// The bytes of a `Prepare` of this key and image.
+#[tactic(auto, unfolding(crate::specs::Redo::size_of))]
+pub fn prepare_size(key: &Key, image: &Option<Value>) -> u64
+    ensures size { (tx : TxId) (fragment : ℕ) → result ≡ size_of (redo.Prepare tx fragment key.now image.now) }
+    ensures most { result ≤ 252 }
+{
+    19 + key.bytes().len() as u64 + image_size(image)
+}
+
+/// The bytes of a `Commit` of this key.
+#[tactic(auto, unfolding(crate::specs::Redo::size_of))]
+pub fn commit_size(key: &Key) -> u64
+    ensures size { (tx : TxId) (epoch : ℕ) → result ≡ size_of (redo.Commit tx epoch key.now) }
+    ensures most { result ≤ 252 }
+{
+    25 + key.bytes().len() as u64
 }
 
 // The bytes that an image takes in a record, if there is one.

@@ -1,6 +1,6 @@
 use crate::{
-    Answer, BlockId, Body, ClientSignal, Held, HeldAnswer, Key, Mark, Member, Members, Op, Outs,
-    Place, Redo, RowWork, Seq, Table, TxId, Value, WordFault, last_place, node_at, primary_of,
+    Answer, BlockId, Body, ClientSignal, Held, HeldAnswer, HeldWork, Key, Mark, Member, Members, Op, Outs,
+    Place, Redo, Seq, Table, TxId, Value, WordFault, last_place, node_at, primary_of,
 };
 use std::test::Fail;
 
@@ -89,12 +89,13 @@ fn what_is_held_is_held_once_more(rt: HostRuntime) -> Result<(), Fail> {
     let held = HeldAnswer::new(rt.alloc(), &found)?;
     assert_eq!(rt; held.share()?.get(), found);
     assert_eq!(rt; HeldAnswer::done().share()?.get(), Answer::Done);
-    let work = RowWork::Operate(Held::new(rt.alloc(), Op::Get(Key::new(b"k")?))?);
-    let key = match work.share()? {
-        RowWork::Operate(op) => *op.get().key(),
-        RowWork::Store(key, _) => key,
-    };
-    assert_eq!(rt; key, Key::new(b"k")?);
+    let (key, value) = (Key::new(b"k")?, Value::new(b"v")?);
+    let work = HeldWork::operate(Held::new(rt.alloc(), Op::Put(key, value))?);
+    assert!(rt; work.share()?.operation().is_some());
+    let stored = work.stored()?;
+    assert!(rt; stored.operation().is_none());
+    assert_eq!(rt; *stored.key(), key);
+    assert_eq!(rt; stored.image(), Some(value));
     Ok(())
 }
 

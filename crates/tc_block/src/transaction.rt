@@ -8,8 +8,8 @@ use crate::sends::{SENDS, send_aborts, send_part, send_waits};
 use crate::touched::{TouchedKeys, same_key};
 use frag_map::Layout;
 use sig_core::{
-    Answer, Body, CLIENT, ChainSignal, ClientSignal, Held, HeldAnswer, Key, NoMemory, Op, Outs,
-    RowWork, Seq, TxId, node_at, rows_of,
+    Answer, Body, CLIENT, ChainSignal, ClientSignal, Held, HeldAnswer, HeldWork, Key, NoMemory, Op, Outs,
+    Seq, TxId, node_at, rows_of,
 };
 use std::alloc::Global;
 
@@ -77,7 +77,7 @@ impl Transaction {
         if self.can_operate(op.get()) {
             let chain = &layout.chain_of(op.get().key());
             let asked = op.share()?;
-            let work = RowWork::Operate(op.share()?);
+            let work = HeldWork::operate(op.share()?);
             self.touched.touch(op.get().key(), chain)?;
             self.asked = Some(Asked {
                 op: asked,

@@ -1,6 +1,6 @@
 //! What the rows of a node hear, in short.
 use sig_core::{
-    Body, ChainSignal, ClientSignal, Held, HostSignal, Key, Member, Members, Op, RowWork, TxId,
+    Body, ChainSignal, ClientSignal, Held, HeldWork, HostSignal, Key, Member, Members, Op, TxId,
     Value, Work,
 };
 use std::alloc::Global;
@@ -48,7 +48,7 @@ pub fn tx_of(seq: u64) -> TxId {
 fn operate(alloc: Global, seq: u64, op: Op) -> Result<Body, Fail> {
     Ok(Body::Chain(ChainSignal::LqhKeyReq {
         tx: tx_of(seq),
-        work: RowWork::Operate(Held::new(alloc, op)?),
+        work: HeldWork::operate(Held::new(alloc, op)?),
         chain: both(),
         at: 0,
     }))
@@ -93,12 +93,10 @@ fn update(alloc: Global, seq: u64, letter: u8, value: u8) -> Result<Body, Fail> 
 }
 
 fn store(alloc: Global, seq: u64, letter: u8, value: u8) -> Result<Body, Fail> {
+    let op = Op::Put(Key::new(&[letter])?, Value::new(&[value])?);
     Ok(Body::Chain(ChainSignal::LqhKeyReq {
         tx: tx_of(seq),
-        work: RowWork::Store(
-            Key::new(&[letter])?,
-            Held::new(alloc, Some(Value::new(&[value])?))?,
-        ),
+        work: HeldWork::store(Held::new(alloc, op)?),
         chain: both(),
         at: 1,
     }))

@@ -1,38 +1,20 @@
 //! Signals along the chain of a row's replicas.
-ghost use Rattle.std.specs.Prelude.{◌≡◌, IfOk};
-
-use crate::held::Held;
 use crate::held_answer::HeldAnswer;
+use crate::held_work::HeldWork;
 use crate::key::Key;
 use crate::member::TxId;
 use crate::members::Members;
-use crate::no_memory::NoMemory;
 use crate::op::Op;
 use crate::outcome::AbortCause;
 use crate::value::Value;
 
 /// What a replica is asked to prepare.
-#[derive(Drop)]
+#[derive(Clone, Copy)]
 pub enum RowWork {
     /// An operation, at the primary.
-    Operate(Held<Op>),
+    Operate(Op),
     /// The image that the primary made of a write, at a backup. None is a deletion.
-    Store(Key, Held<Option<Value>>),
-}
-
-impl RowWork {
-    /// Holds the same work once more.
-    ///
-    /// # Errors
-    /// `NoMemory` where it is held 2^63 - 1 times.
-    pub fn share(&self) -> Result<RowWork, NoMemory>
-        ensures { IfOk result (λ work. work ≡ self.now) }
-    {
-        match self {
-            RowWork::Operate(op) => Ok(RowWork::Operate(op.share()?)),
-            RowWork::Store(key, image) => Ok(RowWork::Store(*key, image.share()?)),
-        }
-    }
+    Store(Key, Option<Value>),
 }
 
 /// Signals along the chain of a row's replicas. The chain lists them, the primary first, and `at`
@@ -41,7 +23,7 @@ impl RowWork {
 pub enum ChainSignal {
     LqhKeyReq {
         tx: TxId,
-        work: RowWork,
+        work: HeldWork,
         chain: Members,
         at: u8,
     },
