@@ -1,5 +1,6 @@
 -- Places and the index of their keys, after a key was put in or taken out.
-use Rattle.std.proofs.Common.{◌≡◌, ℕ, zero, suc, ◌+◌, ◌<◌, ◌≤◌, Bool, true, false, cond, nat_lt, not, nat_eq, List, [], ◌∷◌, ◌++◌, length, slice_set, refl, ap, sym, ◌∙◌, arith, subst}
+use Rattle.std.proofs.Common.{◌≡◌, ℕ, zero, suc, ◌+◌, ◌<◌, ◌≤◌, Bool, true, false, cond, nat_lt, not, nat_eq, List, [], ◌∷◌}
+use Rattle.std.proofs.Common.{◌++◌, length, slice_set, refl, ap, sym, ◌∙◌, arith, subst}
 use Prim.Native.Nat.compare
 use Rattle.std.specs.Prelude.{Option, None, Some, is_some, position, slice_get, slice_index_or}
 use Rattle.std.specs.List.{position_or_len}

@@ -38,8 +38,7 @@ abbrev pub places_state : {S A : Type 0} → Vec (Option Slot) → HashMap (List
 places_state slots index free = record {
   slots = slots.items;
   index = index.entries;
-  roomy =
-      has_spare slots index free;
+  roomy = has_spare slots index free;
 }
 
 abbrev pub records_in : Option KeyEntry → ℕ
