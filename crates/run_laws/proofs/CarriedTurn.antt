@@ -308,8 +308,8 @@ module _ (start : Start) (logs now : ℕ → List HostStep) (e : HostStep) (befo
     turn_leaves g sent = by t.phase refl g
       where
         by : (phase : Phase) → t.phase ≡ phase → IsAhead start logs before tx t.touched phase → TurnLeaves (turn_for node layout tx e.step.taken.body t)
-        by (Committing epoch awaited) is g = committing_leaves (turn_for node layout tx e.step.taken.body t) sent epoch awaited is g (from_committing node layout tx t epoch awaited is e.step.taken.body)
-        by (Completing epoch awaited) is g = completing_leaves (turn_for node layout tx e.step.taken.body t) sent g (from_completing node layout tx t epoch awaited is e.step.taken.body)
+        by (Committing epoch awaited) is g = committing_leaves (turn_for node layout tx e.step.taken.body t) sent epoch awaited is g (from_committing node layout tx t epoch awaited is e.step.taken.body own)
+        by (Completing epoch awaited) is g = completing_leaves (turn_for node layout tx e.step.taken.body t) sent g (from_completing node layout tx t epoch awaited is e.step.taken.body own)
         by Open is g = absurd g
         by Verifying is g = absurd g
         by (Aborting why verifying awaited) is g = absurd g

@@ -1,4 +1,5 @@
--- What each row of a coordinator does to a transaction as to its epoch: it asks for one when it is open, and waits until it has
+-- What each row of a coordinator does to a transaction as to its epoch: it asks for one when it is open, and waits
+-- until it has
 -- one or is given up.
 use Rattle.std.proofs.Common.{◌≡◌, ◌⊎◌, ℕ, ◌==◌, Bool, true, false, ◌||◌, List, [], ◌∷◌, ◌++◌, take, refl, sym, ap, ◌∙◌, subst, inl, inr, arith}
 use Rattle.std.specs.List.{flat_map, list_any}
@@ -74,7 +75,9 @@ pub record IsAsking (tx : TxId) (t : Transaction) (turn : Turn) : Type 0 where
 
 -- what becomes of one that waits for its epoch: it waits on, was given the epoch, or is given up
 abbrev pub IsLate : TxId → Body → Transaction → Turn → Type 0
-IsLate tx body t turn = (left_by turn ≡ Some t) ⊎ ((is_conf tx body ≡ true) ⊎ (list_any (λ (o : Outgoing). is_back tx (way_of o.body)) turn.step.effects.sends ≡ true))
+IsLate tx body t turn = (left_by turn ≡ Some t)
+    ⊎ ((is_conf tx body ≡ true)
+        ⊎ (list_any (λ (o : Outgoing). is_back tx (way_of o.body)) turn.step.effects.sends ≡ true))
 
 pub record AskTurn (tx : TxId) (body : Body) (t : Transaction) (turn : Turn) : Type 0 where
   pub sends : AreMute turn.step.effects.sends ⊎ IsAsking tx t turn
@@ -86,7 +89,8 @@ mute_of tx (Epoch (DiVerifyConf other epoch)) says = absurd says
 mute_of tx _ says = refl
 
 all_mute : (tx : TxId) (sends : List Outgoing) → AllSay tx (Unit {0}) sends → AreMute sends
-all_mute tx sends all = each_map (λ (o : Outgoing). SaysOf tx (Unit {0}) (kind_of o.body)) (λ (o : Outgoing). is_mute o.body ≡ true) sends (λ o says. mute_of tx o.body says) all
+all_mute tx sends all = each_map (λ (o : Outgoing). SaysOf tx (Unit {0}) (kind_of o.body))
+    (λ (o : Outgoing). is_mute o.body ≡ true) sends (λ o says. mute_of tx o.body says) all
 
 module _ (tx : TxId) where
   abbrev GoesBack : List Outgoing → Type 0
@@ -109,7 +113,8 @@ module _ (tx : TxId) where
         → GoesBack (entering node layout tx t (Aborting why verifying (abort.aborts_awaited layout t))).effects.sends
     unfolding entering phase_sends front_sends
     enters_back why verifying none some =
-        part_back node (flat_map (key_sends layout tx (Aborting why verifying (abort.aborts_awaited layout t))) t.touched)
+        part_back node
+            (flat_map (key_sends layout tx (Aborting why verifying (abort.aborts_awaited layout t))) t.touched)
         (aborts_first layout tx why verifying (abort.aborts_awaited layout t) t.touched
         (λ zero_is. absurd (grind (arith, nat_tests, some, zero_is, ap (abort.asked_count layout) none))))
 
@@ -119,8 +124,10 @@ module _ (tx : TxId) where
 
     asks_forms : (body : Body) → TurnForms node layout tx t body Asks
     asks_forms body =
-        turn_goes tx (Unit {0}) Asks node layout t body (λ turn goes. inl (all_mute tx turn.step.effects.sends goes.sends))
-        (λ is ready. let was = ready_is t.phase t.asked ready in inr (record { node = node; was = was.0; free = was.1; left = refl; is = refl }))
+        turn_goes tx (Unit {0}) Asks node layout t body
+            (λ turn goes. inl (all_mute tx turn.step.effects.sends goes.sends))
+        (λ is ready. let was = ready_is t.phase t.asked ready in
+            inr (record { node = node; was = was.0; free = was.1; left = refl; is = refl }))
         (λ is. tt) (λ epoch is. tt)
 
     -- what becomes of it where it waits for its epoch
@@ -128,14 +135,17 @@ module _ (tx : TxId) where
       late : t.phase ≡ Verifying → t.asked ≡ None → IsLate tx body t turn
 
     -- it doesn't wait for it in another phase
-    other_phase : (body : Body) (turn : Turn) (phase : Phase) → t.phase ≡ phase → abort.is_verifying phase ≡ false → Late body turn
+    other_phase : (body : Body) (turn : Turn) (phase : Phase) → t.phase ≡ phase
+        → abort.is_verifying phase ≡ false → Late body turn
     other_phase body turn phase at off = record {
-      late = λ waits none. absurd (let both : true ≡ false = sym (ap abort.is_verifying waits) ∙ (ap abort.is_verifying at ∙ off) in cc);
+      late = λ waits none. absurd (let both : true ≡ false = sym (ap abort.is_verifying waits)
+              ∙ (ap abort.is_verifying at ∙ off) in cc);
     }
 
     -- nor with an operation unanswered
     still_asked : (body : Body) (turn : Turn) (asked : Asked) → t.asked ≡ Some asked → Late body turn
-    still_asked body turn asked on = record { late = λ waits none. absurd (let both : None ≡ Some asked = sym none ∙ on in cc) }
+    still_asked body turn asked on =
+        record { late = λ waits none. absurd (let both : None ≡ Some asked = sym none ∙ on in cc) }
 
     other_committed : (body : Body) (epoch : ℕ) (phase : Phase) → t.phase ≡ phase → abort.is_verifying phase ≡ false
         → CommittedForms node layout tx t epoch (Late body)
@@ -150,13 +160,15 @@ module _ (tx : TxId) where
     late_forms body = record {
       stays = record { late = λ waits none. inl refl };
       goes_on = λ at. record { late = λ waits none. inl refl };
-      operates = λ op is can. other_phase body _ Open (ready_is t.phase t.asked (and_parts (operate.is_ready t.phase t.asked) _ can).0).0 refl;
+      operates = λ op is can. other_phase body _ Open
+          (ready_is t.phase t.asked (and_parts (operate.is_ready t.phase t.asked) _ can).0).0 refl;
       answers = λ key answer asked is on at. still_asked body _ asked on;
       late = λ key asked why verifying awaited on at. still_asked body _ asked on;
       waits = λ asked on. still_asked body _ asked on;
       decides = λ is ready. other_phase body _ Open (ready_is t.phase t.asked ready).0 refl;
       commits = λ epoch is at some. given body _ epoch is;
-      commits_none = λ epoch is at. record { enters = λ some. given body _ epoch is; ends = λ none. given body _ epoch is };
+      commits_none = λ epoch is at. record { enters = λ some. given body _ epoch is; ends =
+              λ none. given body _ epoch is };
       committed = λ epoch awaited at more. other_phase body _ _ at refl;
       committed_all = λ epoch awaited at. other_committed body epoch _ at refl;
       completed = λ epoch awaited at more. other_phase body _ _ at refl;
@@ -165,7 +177,8 @@ module _ (tx : TxId) where
         enters = λ some. record { late = λ waits none. inr (inr (enters_back _ _ none some)) };
         ends = λ nothing. record { late = λ waits none. inr (inr (end_back node _ (abort.is_verifying t.phase))) };
       };
-      refuses = λ key why asked is on at. record { enters = λ some. still_asked body _ asked on; ends = λ none. still_asked body _ asked on };
+      refuses = λ key why asked is on at. record { enters = λ some. still_asked body _ asked on; ends =
+              λ none. still_asked body _ asked on };
       aborted = λ why verifying awaited at more. other_phase body _ _ at refl;
       aborted_all = λ why verifying awaited at last. other_phase body _ _ at refl;
     }
@@ -173,7 +186,8 @@ module _ (tx : TxId) where
     pub turn_asks : (body : Body) → is_for tx body ≡ true → AskTurn tx body t (turn_for node layout tx body t)
     turn_asks body is = record {
       sends = turn_each node layout tx body t Asks (rows_of node layout tx t body Asks (asks_forms body)) is;
-      late = (turn_each node layout tx body t (Late body) (rows_of node layout tx t body (Late body) (late_forms body)) is).late;
+      late = (turn_each node layout tx body t (Late body)
+              (rows_of node layout tx t body (Late body) (late_forms body)) is).late;
     }
 
 -- how many signals ask for an epoch for the transaction, or give it one
@@ -185,25 +199,30 @@ mute_ask tx (Epoch (DiVerifyReq other ops)) is = absurd cc
 mute_ask tx (Epoch (DiVerifyConf other epoch)) is = absurd cc
 mute_ask tx _ is = refl
 
-pub unasked_none : (tx : TxId) (sends : List Outgoing) → Each (λ (o : Outgoing). is_ask tx o.body ≡ false) sends → in_sends (ask tx) sends ≡ 0
+pub unasked_none : (tx : TxId) (sends : List Outgoing) → Each (λ (o : Outgoing). is_ask tx o.body ≡ false) sends
+    → in_sends (ask tx) sends ≡ 0
 unasked_none tx [] all = refl
 unasked_none tx (o ∷ more) all = omega (arith, ap one_if all.0, unasked_none tx more all.1)
 
-mute_each : (tx : TxId) (sends : List Outgoing) → AreMute sends → Each (λ (o : Outgoing). is_ask tx o.body ≡ false) sends
+mute_each : (tx : TxId) (sends : List Outgoing) → AreMute sends
+    → Each (λ (o : Outgoing). is_ask tx o.body ≡ false) sends
 mute_each tx sends =
-    each_map (λ (o : Outgoing). is_mute o.body ≡ true) (λ (o : Outgoing). is_ask tx o.body ≡ false) sends (λ o. mute_ask tx o.body)
+    each_map (λ (o : Outgoing). is_mute o.body ≡ true) (λ (o : Outgoing). is_ask tx o.body ≡ false) sends
+        (λ o. mute_ask tx o.body)
 
 pub mute_none : (tx : TxId) (sends : List Outgoing) → AreMute sends → in_sends (ask tx) sends ≡ 0
 mute_none tx sends mute = unasked_none tx sends (mute_each tx sends mute)
 
 -- the turns of other transactions ask for none of this one, nor does the coordinator beside them
-pub others_mute : (tx : TxId) (s : TcState) (body : Body) → OthersSend (λ (o : Outgoing). is_ask tx o.body ≡ false) tx s body
+pub others_mute : (tx : TxId) (s : TcState) (body : Body)
+    → OthersSend (λ (o : Outgoing). is_ask tx o.body ≡ false) tx s body
 others_mute tx s body one off its t = by (turn_asks one s.node s.layout t body its).sends
   where
     turn : Turn
     turn = turn_for s.node s.layout one body t
 
-    by : AreMute turn.step.effects.sends ⊎ IsAsking one t turn → Each (λ (o : Outgoing). is_ask tx o.body ≡ false) turn.step.effects.sends
+    by : AreMute turn.step.effects.sends ⊎ IsAsking one t turn
+        → Each (λ (o : Outgoing). is_ask tx o.body ≡ false) turn.step.effects.sends
     by (inl mute) = mute_each tx turn.step.effects.sends mute
     by (inr asking) = subst (Each (λ (o : Outgoing). is_ask tx o.body ≡ false)) (sym asking.is) (off, tt)
 

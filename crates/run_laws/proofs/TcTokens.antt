@@ -32,7 +32,8 @@ use Rattle.run_laws.proofs.LqhTokens.{tokens_out}
 use Rattle.run_laws.proofs.OfLive.{AreOthers, of_between, of_inserted, of_none, of_other}
 use Rattle.run_laws.proofs.TcTurns.{TurnTokens, gives_up, tokens_forms}
 
--- one of the coordinator's transactions: its number is of this node, and below the next one, and it is given up if it is aborted
+-- one of the coordinator's transactions: its number is of this node, and below the next one, and it is given up if it
+-- is aborted
 pub record IsOwned (node next : ℕ) (bs : List TxId) (e : TxId × Transaction) : Type 0 where
   pub home : e.0.tc ≡ node
   pub below : e.0.seq < next
@@ -47,10 +48,12 @@ pub record IsSound (s : TcState) (bs : List TxId) : Type 0 where
   pub begun : Each (λ (v : TxId). v.seq < s.next_seq) bs
 
 -- who is given up then is so, whoever was before
-given_up_more : (v : TxId) (sends : List Outgoing) (xs ys : List TxId) → (list_any (same_tx v) xs ≡ true → list_any (same_tx v) ys ≡ true)
+given_up_more : (v : TxId) (sends : List Outgoing) (xs ys : List TxId)
+    → (list_any (same_tx v) xs ≡ true → list_any (same_tx v) ys ≡ true)
     → list_any (same_tx v) (put_ways back_by sends xs) ≡ true → list_any (same_tx v) (put_ways back_by sends ys) ≡ true
 given_up_more v [] xs ys more is = more is
-given_up_more v (o ∷ sends) xs ys more is = given_up_more v sends (back_by (way_of o.body) xs) (back_by (way_of o.body) ys) (by (way_of o.body)) is
+given_up_more v (o ∷ sends) xs ys more is = given_up_more v sends (back_by (way_of o.body) xs)
+    (back_by (way_of o.body) ys) (by (way_of o.body)) is
   where
     by : (w : Way) → list_any (same_tx v) (back_by w xs) ≡ true → list_any (same_tx v) (back_by w ys) ≡ true
     by (forth tx) is = more is
@@ -58,11 +61,13 @@ given_up_more v (o ∷ sends) xs ys more is = given_up_more v sends (back_by (wa
     by neither is = more is
     by (back tx) is = which (or_cases (same_tx v tx) (list_any (same_tx v) xs) is)
       where
-        which : (same_tx v tx ≡ true) ⊎ (list_any (same_tx v) xs ≡ true) → (same_tx v tx || list_any (same_tx v) ys) ≡ true
+        which : (same_tx v tx ≡ true) ⊎ (list_any (same_tx v) xs ≡ true)
+            → (same_tx v tx || list_any (same_tx v) ys) ≡ true
         which (inl one) = or_left (same_tx v tx) (list_any (same_tx v) ys) one
         which (inr rest) = or_right (same_tx v tx) (list_any (same_tx v) ys) (more rest)
 
-pub now_given_up : (v : TxId) (sends : List Outgoing) (bs : List TxId) → gives_up v sends ≡ true → list_any (same_tx v) (put_ways back_by sends bs) ≡ true
+pub now_given_up : (v : TxId) (sends : List Outgoing) (bs : List TxId) → gives_up v sends ≡ true
+    → list_any (same_tx v) (put_ways back_by sends bs) ≡ true
 now_given_up v sends bs is = given_up_more v sends [] bs (λ e. absurd cc) is
 
 -- the more is given up the more there may be
@@ -74,7 +79,8 @@ budget_grows true c None more = omega (arith, ap (λ d. budget_by d None) (more 
 -- How many parts of transaction v there may be after a step at which so many came.
 pub record StepTokens (v : TxId) (s : TcState) (bs : List TxId) (came : ℕ) (step : Step TcState) : Type 0 where
   pub home : (m : ℕ) → m + came ≤ budget_by (list_any (same_tx v) bs) (of_live v s.live)
-      → m + tokens_out v step.effects.sends ≤ budget_by (list_any (same_tx v) (put_ways back_by step.effects.sends bs)) (of_live v step.state.live)
+      → m + tokens_out v step.effects.sends ≤ budget_by (list_any (same_tx v) (put_ways back_by step.effects.sends bs))
+      (of_live v step.state.live)
   pub away : v.tc ≢ s.node → tokens_out v step.effects.sends ≡ 0
 
 module _ (v : TxId) (s : TcState) (bs : List TxId) (n : IsSound s bs) where
@@ -87,7 +93,8 @@ module _ (v : TxId) (s : TcState) (bs : List TxId) (n : IsSound s bs) where
     once_split = subst KeysOnce split.is n.once
 
     own : IsOwned s.node s.next_seq bs (tx, t)
-    own = (each_after (IsOwned s.node s.next_seq bs) split.front ((tx, t) ∷ split.back) (subst (Each (IsOwned s.node s.next_seq bs)) split.is n.live)).0
+    own = (each_after (IsOwned s.node s.next_seq bs) split.front ((tx, t) ∷ split.back)
+            (subst (Each (IsOwned s.node s.next_seq bs)) split.is n.live)).0
 
     others_front : AreOthers tx split.front
     others_front = once_front split.front split.back tx t once_split
@@ -96,19 +103,23 @@ module _ (v : TxId) (s : TcState) (bs : List TxId) (n : IsSound s bs) where
     was = ap (of_live tx) split.is ∙ of_between split.front split.back tx t others_front
 
     -- of another transaction nothing changes
-    turn_other : (turn : Turn) (came : ℕ) → TurnTokens tx t came turn → (live : Live) → of_live v live ≡ of_live v s.live → same_tx tx v ≡ false → (got m : ℕ)
+    turn_other : (turn : Turn) (came : ℕ) → TurnTokens tx t came turn → (live : Live)
+        → of_live v live ≡ of_live v s.live → same_tx tx v ≡ false → (got m : ℕ)
         → m + got ≤ budget_by (list_any (same_tx v) bs) (of_live v s.live)
-        → m + tokens_out v turn.step.effects.sends ≤ budget_by (list_any (same_tx v) (put_ways back_by turn.step.effects.sends bs)) (of_live v live)
+        → m + tokens_out v turn.step.effects.sends ≤ budget_by
+        (list_any (same_tx v) (put_ways back_by turn.step.effects.sends bs)) (of_live v live)
     turn_other turn came is live same apart got m low =
         omega (
           arith,
           low,
           is.others v apart,
-          budget_grows (list_any (same_tx v) bs) (list_any (same_tx v) (put_ways back_by turn.step.effects.sends bs)) (of_live v s.live) (back_more (same_tx v) turn.step.effects.sends bs),
+          budget_grows (list_any (same_tx v) bs) (list_any (same_tx v) (put_ways back_by turn.step.effects.sends bs))
+              (of_live v s.live) (back_more (same_tx v) turn.step.effects.sends bs),
           ap (budget_by (list_any (same_tx v) (put_ways back_by turn.step.effects.sends bs))) same,
         )
 
-    away_turn : (turn : Turn) (came : ℕ) → TurnTokens tx t came turn → v.tc ≢ s.node → tokens_out v turn.step.effects.sends ≡ 0
+    away_turn : (turn : Turn) (came : ℕ) → TurnTokens tx t came turn → v.tc ≢ s.node
+        → tokens_out v turn.step.effects.sends ≡ 0
     away_turn turn came is off = is.others v (by (same_tx tx v) refl)
       where
         by : (b : Bool) → same_tx tx v ≡ b → b ≡ false
@@ -116,7 +127,8 @@ module _ (v : TxId) (s : TcState) (bs : List TxId) (n : IsSound s bs) where
         by true e = absurd (off (ap (λ (w : TxId). w.tc) (sym (same_tx-is tx v e)) ∙ own.home))
 
     -- it takes a turn
-    turn_tokens : (turn : Turn) (came : ℕ) → (same_tx tx v ≡ true → TurnTokens tx t came turn) → TurnTokens tx t 1 turn → (b : Bool) → turn.over ≡ b → StepTokens v s bs came (turned_if s at turn b)
+    turn_tokens : (turn : Turn) (came : ℕ) → (same_tx tx v ≡ true → TurnTokens tx t came turn) → TurnTokens tx t 1 turn
+        → (b : Bool) → turn.over ≡ b → StepTokens v s bs came (turned_if s at turn b)
     unfolding without
     turn_tokens turn came mine is false over = record {
       home = λ m low. by (same_tx tx v) refl m low;
@@ -127,18 +139,25 @@ module _ (v : TxId) (s : TcState) (bs : List TxId) (n : IsSound s bs) where
         now = (turned_if s at turn false).state.live
 
         by : (b : Bool) → same_tx tx v ≡ b → (m : ℕ) → m + came ≤ budget_by (list_any (same_tx v) bs) (of_live v s.live)
-            → m + tokens_out v turn.step.effects.sends ≤ budget_by (list_any (same_tx v) (put_ways back_by turn.step.effects.sends bs)) (of_live v (turned_if s at turn false).state.live)
+            → m + tokens_out v turn.step.effects.sends ≤ budget_by
+            (list_any (same_tx v) (put_ways back_by turn.step.effects.sends bs))
+            (of_live v (turned_if s at turn false).state.live)
         by false apart m low =
             turn_other turn 1 is now
-            (ap (of_live v) (split.set turn.step.state) ∙ (of_other split.front split.back tx v turn.step.state apart ∙ sym (ap (of_live v) split.is ∙ of_other split.front split.back tx v t apart))) apart came m low
+            (ap (of_live v) (split.set turn.step.state) ∙ (of_other split.front split.back tx v turn.step.state apart
+                    ∙ sym (ap (of_live v) split.is ∙ of_other split.front split.back tx v t apart))) apart came m low
         by true e m low =
             let one : tx ≡ v = same_tx-is tx v e in
-            let here : of_live tx now ≡ Some turn.step.state = ap (of_live tx) (split.set turn.step.state) ∙ of_between split.front split.back tx turn.step.state others_front in
+            let here : of_live tx now ≡ Some turn.step.state = ap (of_live tx) (split.set turn.step.state)
+                ∙ of_between split.front split.back tx turn.step.state others_front in
             omega (
               arith,
-              (mine e).own m (omega (arith, low, ap (λ u. budget_by (list_any (same_tx u) bs) (of_live u s.live)) (sym one), ap (budget_by (list_any (same_tx tx) bs)) was)),
+              (mine e).own m
+              (omega (arith, low, ap (λ u. budget_by (list_any (same_tx u) bs) (of_live u s.live)) (sym one), ap
+                      (budget_by (list_any (same_tx tx) bs)) was)),
               ap (λ u. tokens_out u turn.step.effects.sends) one,
-              ap (λ u. budget_by (list_any (same_tx u) (put_ways back_by turn.step.effects.sends bs)) (of_live u now)) one,
+              ap (λ u. budget_by (list_any (same_tx u) (put_ways back_by turn.step.effects.sends bs)) (of_live u now))
+                  one,
               ap (budget_by (list_any (same_tx tx) (put_ways back_by turn.step.effects.sends bs))) here,
               ap (λ b. if b then one_if (gives_up tx turn.step.effects.sends) else budget_of turn.step.state) over,
             )
@@ -151,28 +170,38 @@ module _ (v : TxId) (s : TcState) (bs : List TxId) (n : IsSound s bs) where
         now = (turned_if s at turn true).state.live
 
         none : of_live tx (split.front ++ split.back) ≡ None
-        none = of_none (split.front ++ split.back) tx (each_append (λ (x : TxId × Transaction). same_tx x.0 tx ≡ false) split.front split.back others_front (once_back split.front split.back tx t once_split))
+        none = of_none (split.front ++ split.back) tx (each_append (λ (x : TxId × Transaction). same_tx x.0 tx ≡ false)
+                split.front split.back others_front (once_back split.front split.back tx t once_split))
 
-        ends : one_if (gives_up tx turn.step.effects.sends) ≤ budget_by (list_any (same_tx tx) (put_ways back_by turn.step.effects.sends bs)) None
+        ends : one_if (gives_up tx turn.step.effects.sends) ≤ budget_by
+            (list_any (same_tx tx) (put_ways back_by turn.step.effects.sends bs)) None
         ends = by (gives_up tx turn.step.effects.sends) refl
           where
-            by : (b : Bool) → gives_up tx turn.step.effects.sends ≡ b → one_if b ≤ budget_by (list_any (same_tx tx) (put_ways back_by turn.step.effects.sends bs)) None
+            by : (b : Bool) → gives_up tx turn.step.effects.sends ≡ b
+                → one_if b ≤ budget_by (list_any (same_tx tx) (put_ways back_by turn.step.effects.sends bs)) None
             by false e = omega arith
             by true e = omega (arith, ap (λ d. budget_by d None) (now_given_up tx turn.step.effects.sends bs e))
 
         by : (b : Bool) → same_tx tx v ≡ b → (m : ℕ) → m + came ≤ budget_by (list_any (same_tx v) bs) (of_live v s.live)
-            → m + tokens_out v turn.step.effects.sends ≤ budget_by (list_any (same_tx v) (put_ways back_by turn.step.effects.sends bs)) (of_live v (turned_if s at turn true).state.live)
+            → m + tokens_out v turn.step.effects.sends ≤ budget_by
+            (list_any (same_tx v) (put_ways back_by turn.step.effects.sends bs))
+            (of_live v (turned_if s at turn true).state.live)
         by false apart m low =
             turn_other turn 1 is now
-            (ap (of_live v) split.gone ∙ sym (ap (of_live v) split.is ∙ of_other split.front split.back tx v t apart)) apart came m low
+            (ap (of_live v) split.gone ∙ sym (ap (of_live v) split.is ∙ of_other split.front split.back tx v t apart))
+            apart came m low
         by true e m low =
             let one : tx ≡ v = same_tx-is tx v e in
             omega (
               arith,
-              (mine e).own m (omega (arith, low, ap (λ u. budget_by (list_any (same_tx u) bs) (of_live u s.live)) (sym one), ap (budget_by (list_any (same_tx tx) bs)) was)),
+              (mine e).own m
+              (omega (arith, low, ap (λ u. budget_by (list_any (same_tx u) bs) (of_live u s.live)) (sym one), ap
+                      (budget_by (list_any (same_tx tx) bs)) was)),
               ap (λ u. tokens_out u turn.step.effects.sends) one,
-              ap (λ u. budget_by (list_any (same_tx u) (put_ways back_by turn.step.effects.sends bs)) (of_live u now)) one,
-              ap (budget_by (list_any (same_tx tx) (put_ways back_by turn.step.effects.sends bs))) (ap (of_live tx) split.gone ∙ none),
+              ap (λ u. budget_by (list_any (same_tx u) (put_ways back_by turn.step.effects.sends bs)) (of_live u now))
+                  one,
+              ap (budget_by (list_any (same_tx tx) (put_ways back_by turn.step.effects.sends bs)))
+                  (ap (of_live tx) split.gone ∙ none),
               ap (λ b. if b then one_if (gives_up tx turn.step.effects.sends) else budget_of turn.step.state) over,
               ends,
             )
@@ -184,18 +213,25 @@ module _ (v : TxId) (s : TcState) (bs : List TxId) (n : IsSound s bs) where
       lower : (w : TxId) → w.seq < s.next_seq → same_tx w (next_tx s) ≡ false
       lower w lt =
           let off : nat_eq w.seq s.next_seq ≡ false = ne_eqb w.seq s.next_seq (λ same. omega (arith, lt, same)) in
-          and_right (nat_eq w.tc s.node) (nat_eq w.start s.start && nat_eq w.seq s.next_seq) (and_right (nat_eq w.start s.start) (nat_eq w.seq s.next_seq) off)
+          and_right (nat_eq w.tc s.node) (nat_eq w.start s.start && nat_eq w.seq s.next_seq)
+              (and_right (nat_eq w.start s.start) (nat_eq w.seq s.next_seq) off)
 
       others : AreOthers (next_tx s) s.live
-      others = each_map (IsOwned s.node s.next_seq bs) (λ (x : TxId × Transaction). same_tx x.0 (next_tx s) ≡ false) s.live (λ x is. lower x.0 is.below) n.live
+      others = each_map (IsOwned s.node s.next_seq bs) (λ (x : TxId × Transaction). same_tx x.0 (next_tx s) ≡ false)
+          s.live (λ x is. lower x.0 is.below) n.live
 
-      not_yet : (xs : List TxId) → Each (λ (w : TxId). w.seq < s.next_seq) xs → list_any (same_tx (next_tx s)) xs ≡ false
+      not_yet : (xs : List TxId) → Each (λ (w : TxId). w.seq < s.next_seq) xs
+          → list_any (same_tx (next_tx s)) xs ≡ false
       not_yet [] below = refl
-      not_yet (w ∷ xs) below = ap (λ b. b || list_any (same_tx (next_tx s)) xs) (same_tx-swap (next_tx s) w ∙ lower w below.0) ∙ not_yet xs below.1
+      not_yet (w ∷ xs) below = ap (λ b. b || list_any (same_tx (next_tx s)) xs)
+          (same_tx-swap (next_tx s) w ∙ lower w below.0) ∙ not_yet xs below.1
 
-      by : (b : Bool) → same_tx (next_tx s) v ≡ b → (m : ℕ) → m + 0 ≤ budget_by (list_any (same_tx v) bs) (of_live v s.live)
+      by : (b : Bool) → same_tx (next_tx s) v ≡ b → (m : ℕ)
+          → m + 0 ≤ budget_by (list_any (same_tx v) bs) (of_live v s.live)
           → m + 0 ≤ budget_by (list_any (same_tx v) bs) (of_live v (begun s).live)
-      by false apart m low = omega (arith, low, ap (budget_by (list_any (same_tx v) bs)) (of_inserted s.live (next_tx s) v fresh others apart))
+      by false apart m low =
+          omega (arith, low, ap (budget_by (list_any (same_tx v) bs))
+                  (of_inserted s.live (next_tx s) v fresh others apart))
       by true e m low =
           let one : next_tx s ≡ v = same_tx-is (next_tx s) v e in
           omega (
@@ -211,16 +247,21 @@ module _ (v : TxId) (s : TcState) (bs : List TxId) (n : IsSound s bs) where
   tc_tokens body =
       tc_each Tokens (StepTokens v s bs (one_if (is_token v body))) s body (record {
         turns = λ tx t at split. let right = (own tx t at split).right in
-            rows_both s.node s.layout tx t body (λ turn. TurnTokens tx t (came tx) turn) (λ turn. TurnTokens tx t 1 turn)
+            rows_both s.node s.layout tx t body (λ turn. TurnTokens tx t (came tx) turn)
+                (λ turn. TurnTokens tx t 1 turn)
             (rows_of s.node s.layout tx t body (λ turn. TurnTokens tx t (came tx) turn)
-            (tokens_forms s.node s.layout tx t right (came tx) body (λ key answer is. came_some tx (ap (is_token v) is))))
+            (tokens_forms s.node s.layout tx t right (came tx) body
+                (λ key answer is. came_some tx (ap (is_token v) is))))
             (rows_of s.node s.layout tx t body (λ turn. TurnTokens tx t 1 turn)
             (tokens_forms s.node s.layout tx t right 1 body (λ key answer is. omega arith)));
         turned = λ tx t at split turn is.
-            turn_tokens tx t at split turn (one_if (is_token v body)) (λ e. subst (λ n. TurnTokens tx t n turn) (ap (λ b. cond b (one_if (is_token v body)) 1) e) is.0) is.1 turn.over refl;
+            turn_tokens tx t at split turn (one_if (is_token v body))
+                (λ e. subst (λ n. TurnTokens tx t n turn) (ap (λ b. cond b (one_if (is_token v body)) 1) e) is.0) is.1
+                turn.over refl;
         stays = nothing (one_if (is_token v body));
         full = λ name. record { home = λ m low. omega (arith, low); away = λ off. refl };
-        begins = λ name. let none = begins name in record { home = λ m low. none.home m (omega (arith, low)); away = none.away };
+        begins = λ name. let none = begins name in
+            record { home = λ m low. none.home m (omega (arith, low)); away = none.away };
         passes = λ tx ahead. record { home = λ m low. omega (arith, low); away = λ off. refl };
       })
     where

@@ -56,7 +56,8 @@ few phase asked = by (is_aborting phase) asked
     by false (Some a) = omega arith
 
 -- none where it takes neither operations nor is aborted
-pub idle : (phase : Phase) (asked : Option Asked) → is_right asked phase ≡ true → may_ask phase ≡ false → budget_at phase asked ≡ 0
+pub idle : (phase : Phase) (asked : Option Asked) → is_right asked phase ≡ true → may_ask phase ≡ false
+    → budget_at phase asked ≡ 0
 idle Open asked right off = absurd cc
 idle (Aborting why verifying awaited) asked right off = absurd cc
 idle Verifying None right off = refl
@@ -99,19 +100,22 @@ end_gives_up : (tx : TxId) (node : ℕ) (why : AbortCause) (b : Bool) → gives_
 end_gives_up tx node why true = or_left (same_tx tx tx) false (same_tx-self tx)
 end_gives_up tx node why false = or_left (same_tx tx tx) false (same_tx-self tx)
 
-right_aborting : (asked : Option Asked) (why : AbortCause) (verifying : Bool) (awaited : ℕ) → is_right asked (Aborting why verifying awaited) ≡ true
+right_aborting : (asked : Option Asked) (why : AbortCause) (verifying : Bool) (awaited : ℕ)
+    → is_right asked (Aborting why verifying awaited) ≡ true
 right_aborting None why verifying awaited = refl
 right_aborting (Some a) why verifying awaited = refl
 
 right_none : (phase : Phase) (asked : Option Asked) → asked ≡ None → is_right asked phase ≡ true
 right_none phase asked none = ap (λ a. is_right a phase) none
 
-module _ (node : ℕ) (layout : Layout) (tx : TxId) (t : Transaction) (right : is_right t.asked t.phase ≡ true) (came : ℕ) where
+module _ (node : ℕ) (layout : Layout) (tx : TxId) (t : Transaction)
+    (right : is_right t.asked t.phase ≡ true) (came : ℕ) where
   abbrev R : Turn → Type 0
   R turn = TurnTokens tx t came turn
 
   -- a turn at which nothing of it is sent
-  still_turn : (turn : Turn) → is_right turn.step.state.asked turn.step.state.phase ≡ true → ((v : TxId) → IsStill v turn)
+  still_turn : (turn : Turn) → is_right turn.step.state.asked turn.step.state.phase ≡ true
+      → ((v : TxId) → IsStill v turn)
       → ((m : ℕ) → m + came ≤ budget_of t → m ≤ budget_after tx turn) → R turn
   still_turn turn is still own = record {
     right = is;
@@ -120,7 +124,8 @@ module _ (node : ℕ) (layout : Layout) (tx : TxId) (t : Transaction) (right : i
   }
 
   -- behind which it is as before, but for its phase; or there may be one
-  as_before : (turn : Turn) → is_right turn.step.state.asked turn.step.state.phase ≡ true → ((v : TxId) → IsStill v turn)
+  as_before : (turn : Turn) → is_right turn.step.state.asked turn.step.state.phase ≡ true
+      → ((v : TxId) → IsStill v turn)
       → budget_after tx turn ≡ budget_of t → R turn
   as_before turn is still same = still_turn turn is still (λ m low. omega (arith, low, same))
 
@@ -129,17 +134,20 @@ module _ (node : ℕ) (layout : Layout) (tx : TxId) (t : Transaction) (right : i
   one_then turn is still one = still_turn turn is still (λ m low. omega (arith, low, few t.phase t.asked, one))
 
   -- nor is there one where it takes neither operations nor is aborted
-  none_then : (phase : Phase) → t.phase ≡ phase → may_ask phase ≡ false → (turn : Turn) → turn.step.state.asked ≡ t.asked
+  none_then : (phase : Phase) → t.phase ≡ phase → may_ask phase ≡ false → (turn : Turn)
+      → turn.step.state.asked ≡ t.asked
       → ((v : TxId) → IsStill v turn) → R turn
   none_then phase at off turn same still =
-      still_turn turn (right_none turn.step.state.phase turn.step.state.asked (same ∙ none t.asked refl)) still (λ m low. omega (arith, low, idle t.phase t.asked right (ap may_ask at ∙ off)))
+      still_turn turn (right_none turn.step.state.phase turn.step.state.asked (same ∙ none t.asked refl)) still
+          (λ m low. omega (arith, low, idle t.phase t.asked right (ap may_ask at ∙ off)))
     where
       none : (asked : Option Asked) → t.asked ≡ asked → asked ≡ None
       none None on = refl
       none (Some a) on =
           absurd (let both : true ≡ false = sym right ∙ (ap (λ o. is_right o t.phase) on ∙ (ap may_ask at ∙ off)) in cc)
 
-  still : (v : TxId) (body : Body) → ((op : Op) → body ≡ Client (TcKeyReq tx op) → ⊥) → TurnForms node layout tx t body (IsStill v)
+  still : (v : TxId) (body : Body) → ((op : Op) → body ≡ Client (TcKeyReq tx op) → ⊥)
+      → TurnForms node layout tx t body (IsStill v)
   still v body other = turns_still v tx node layout t body (λ op is. absurd (other op is))
 
   -- whatever comes
@@ -154,15 +162,18 @@ module _ (node : ℕ) (layout : Layout) (tx : TxId) (t : Transaction) (right : i
     ends = λ none. none_then phase at off _ refl (λ v. (each v).ends none);
   }
 
-  abort_forms : (u : Transaction) (why : AbortCause) → is_right u.asked u.phase ≡ true → ((v : TxId) → AbortForms node layout tx u why (IsStill v))
+  abort_forms : (u : Transaction) (why : AbortCause) → is_right u.asked u.phase ≡ true
+      → ((v : TxId) → AbortForms node layout tx u why (IsStill v))
       → AbortForms node layout tx u why R
   unfolding entering
   abort_forms u why is each = record {
     enters = λ some. one_then _ (right_aborting u.asked why _ _) (λ v. (each v).enters some) refl;
-    ends = λ none. one_then _ is (λ v. (each v).ends none) (ap one_if (end_gives_up tx node why (abort.is_verifying u.phase)));
+    ends = λ none. one_then _ is (λ v. (each v).ends none)
+        (ap one_if (end_gives_up tx node why (abort.is_verifying u.phase)));
   }
 
-  pub tokens_forms : (body : Body) → ((key : List ℕ) (answer : Answer) → body ≡ Chain (LqhKeyConf tx key answer) → 1 ≤ came)
+  pub tokens_forms : (body : Body)
+      → ((key : List ℕ) (answer : Answer) → body ≡ Chain (LqhKeyConf tx key answer) → 1 ≤ came)
       → TurnForms node layout tx t body R
   unfolding entering
   tokens_forms body answered = record {
@@ -188,22 +199,31 @@ module _ (node : ℕ) (layout : Layout) (tx : TxId) (t : Transaction) (right : i
         one_then _ refl (λ v. (anyhow v).late key asked why verifying awaited on at) (ap (λ p. budget_at p None) at);
     waits = λ asked on. as_before _ right (λ v. (anyhow v).waits asked on) refl;
     decides = λ is ready.
-        still_turn _ (right_none Verifying t.asked (ready_is t.phase t.asked ready).1) (λ v. record { state = tt; sends = (refl, tt) })
+        still_turn _ (right_none Verifying t.asked (ready_is t.phase t.asked ready).1)
+            (λ v. record { state = tt; sends = (refl, tt) })
         (λ m low. omega (arith, low, ready_none t.phase t.asked ready));
     commits = λ epoch is at some.
-        none_then _ at refl _ refl (λ v. (still v (Epoch (DiVerifyConf tx epoch)) (λ op e. cc)).commits epoch refl at some);
+        none_then _ at refl _ refl
+            (λ v. (still v (Epoch (DiVerifyConf tx epoch)) (λ op e. cc)).commits epoch refl at some);
     commits_none = λ epoch is at.
-        committed_forms epoch _ at refl (λ v. (still v (Epoch (DiVerifyConf tx epoch)) (λ op e. cc)).commits_none epoch refl at);
+        committed_forms epoch _ at refl
+            (λ v. (still v (Epoch (DiVerifyConf tx epoch)) (λ op e. cc)).commits_none epoch refl at);
     committed = λ epoch awaited at more. none_then _ at refl _ refl (λ v. (anyhow v).committed epoch awaited at more);
-    committed_all = λ epoch awaited at. committed_forms epoch _ at refl (λ v. (anyhow v).committed_all epoch awaited at);
+    committed_all = λ epoch awaited at. committed_forms epoch _ at refl
+        (λ v. (anyhow v).committed_all epoch awaited at);
     completed = λ epoch awaited at more. none_then _ at refl _ refl (λ v. (anyhow v).completed epoch awaited at more);
-    completed_all = λ epoch awaited at last. none_then _ at refl _ refl (λ v. (anyhow v).completed_all epoch awaited at last);
+    completed_all = λ epoch awaited at last. none_then _ at refl _ refl
+        (λ v. (anyhow v).completed_all epoch awaited at last);
     rolls_back = λ is undecided unaborted.
-        abort_forms t _ right (λ v. (still v (Client (TcRollbackReq tx)) (λ op e. cc)).rolls_back refl undecided unaborted);
+        abort_forms t _ right (λ v. (still v (Client (TcRollbackReq tx)) (λ op e. cc)).rolls_back
+                refl undecided unaborted);
     refuses = λ key why asked is on at.
-        abort_forms (asking t None) why refl (λ v. (still v (Chain (LqhKeyRef tx key why)) (λ op e. cc)).refuses key why asked refl on at);
+        abort_forms (asking t None) why refl (λ v. (still v (Chain (LqhKeyRef tx key why)) (λ op e. cc)).refuses
+                key why asked refl on at);
     aborted = λ why verifying awaited at more.
-        one_then _ (right_aborting t.asked why verifying _) (λ v. (anyhow v).aborted why verifying awaited at more) refl;
+        one_then _ (right_aborting t.asked why verifying _)
+            (λ v. (anyhow v).aborted why verifying awaited at more) refl;
     aborted_all = λ why verifying awaited at last.
-        one_then _ right (λ v. (anyhow v).aborted_all why verifying awaited at last) (ap one_if (end_gives_up tx node why verifying));
+        one_then _ right (λ v. (anyhow v).aborted_all why verifying awaited at last)
+            (ap one_if (end_gives_up tx node why verifying));
   }
