@@ -13,7 +13,7 @@ use Rattle.sig_core.specs.Step.{Step}
 use Rattle.sig_core.proofs.TxLemmas.{same_tx-is}
 use Rattle.tc_block.specs.declared.transaction.Transaction.{Transaction}
 use Rattle.tc_block.specs.State.{TcState}
-use Rattle.tc_block.specs.Tc.{begun, tc_table}
+use Rattle.tc_block.specs.Tc.{tc_table}
 use Rattle.tc_block.specs.Turn.{Turn}
 use Rattle.tc_block.specs.Phases.{is_aborting}
 use Rattle.host_laws.specs.Ways.{Way, back, back_by, closes, forth, neither, put_ways, way_of}
