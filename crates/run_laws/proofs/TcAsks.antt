@@ -1,15 +1,12 @@
 -- What each row of a coordinator does to a transaction as to its epoch: it asks for one when it is open, and waits
 -- until it has
 -- one or is given up.
-use Rattle.std.proofs.Common.{◌≡◌, ◌⊎◌, ℕ, ◌==◌, Bool, true, false, ◌||◌, List, [], ◌∷◌, ◌++◌, take, refl, sym, ap, ◌∙◌, subst, inl, inr, arith}
-use Rattle.std.specs.List.{flat_map, list_any}
+use Rattle.std.proofs.Common.{◌≡◌, ◌⊎◌, ℕ, Bool, true, false, List, [], ◌∷◌, refl, sym, ap, ◌∙◌, subst, inl, inr, arith}
 use Rattle.std.specs.Prelude.{None, Some}
 use Rattle.std.proofs.lemmas.Bool.{and_parts}
-use Rattle.std.proofs.lemmas.Bool.Decides.{nat_tests}
 use Rattle.run_theory.specs.Lists.{Each}
 use Rattle.run_theory.proofs.Pasts.{each_map}
 use Rattle.sig_core.specs.declared.member.TxId.{TxId}
-use Rattle.sig_core.specs.declared.outcome.AbortCause.{AbortCause}
 use Rattle.sig_core.specs.declared.outs.Outgoing.{Outgoing}
 use Rattle.sig_core.specs.declared.place.Place.{Place}
 use Rattle.sig_core.specs.declared.signal.Body.{Body}
@@ -21,23 +18,22 @@ use Rattle.sig_core.specs.Same.{same_tx}
 use Rattle.sig_core.specs.Step.{to_place}
 use Rattle.tc_block.specs.Abort as abort
 use Rattle.tc_block.specs.Operate as operate
-use Rattle.tc_block.specs.Part.{part_effects, rest}
-use Rattle.tc_block.specs.Sends.{entering, front_sends, key_sends, phase_sends}
 use Rattle.tc_block.specs.declared.phase.Asked.{Asked}
 use Rattle.tc_block.specs.declared.phase.Phase.{Phase}
-use Rattle.tc_block.specs.declared.phase.Phase.TheVariants.{Open, Verifying, Aborting}
+use Rattle.tc_block.specs.declared.phase.Phase.TheVariants.{Open, Verifying}
 use Rattle.tc_block.specs.declared.transaction.Transaction.{Transaction}
 use Rattle.tc_block.specs.Turn.{Turn, at_phase}
 use Rattle.host_laws.specs.Kinds.{kind_of}
-use Rattle.host_laws.specs.Ways.{Way, back, way_of}
 use Rattle.sig_core.proofs.Keys.{same_tx-self}
 use Rattle.tc_block.specs.State.{TcState}
 use Rattle.tc_block.proofs.EachTurn.{CommittedForms, TurnForms, rows_of}
 use Rattle.tc_block.proofs.LiveKeeps.{SendsBeside}
 use Rattle.host_laws.specs.Counts.{one_if}
 use Rattle.host_laws.proofs.TcGoes.{AllSay, SaysOf, turn_goes}
-use Rattle.run_laws.proofs.AbortsFirst.{IsBackFirst, aborts_first}
+use Rattle.run_laws.specs.Keyed.{HasTouchedAsked}
+use Rattle.run_laws.proofs.TcAborts.{enters_told}
 use Rattle.run_laws.proofs.TcCircle.{ready_is}
+use Rattle.run_laws.proofs.TcTurns.{end_gives_up, gives_up}
 use Rattle.run_laws.proofs.TxTurns.{OthersSend, is_for, left_by, turn_each, turn_for}
 use Rattle.run_laws.proofs.Weighing.{in_sends}
 
@@ -51,10 +47,6 @@ is_ask tx body = false
 abbrev pub is_conf : TxId → Body → Bool
 is_conf tx (Epoch (DiVerifyConf other epoch)) = same_tx other tx
 is_conf tx body = false
-
-abbrev pub is_back : TxId → Way → Bool
-is_back tx (back other) = same_tx tx other
-is_back tx way = false
 
 -- of no transaction
 abbrev pub is_mute : Body → Bool
@@ -75,9 +67,7 @@ pub record IsAsking (tx : TxId) (t : Transaction) (turn : Turn) : Type 0 where
 
 -- what becomes of one that waits for its epoch: it waits on, was given the epoch, or is given up
 abbrev pub IsLate : TxId → Body → Transaction → Turn → Type 0
-IsLate tx body t turn = (left_by turn ≡ Some t)
-    ⊎ ((is_conf tx body ≡ true)
-        ⊎ (list_any (λ (o : Outgoing). is_back tx (way_of o.body)) turn.step.effects.sends ≡ true))
+IsLate tx body t turn = (left_by turn ≡ Some t) ⊎ ((is_conf tx body ≡ true) ⊎ (gives_up tx turn.step.effects.sends ≡ true))
 
 pub record AskTurn (tx : TxId) (body : Body) (t : Transaction) (turn : Turn) : Type 0 where
   pub sends : AreMute turn.step.effects.sends ⊎ IsAsking tx t turn
@@ -93,31 +83,7 @@ all_mute tx sends all = each_map (λ (o : Outgoing). SaysOf tx (Unit {0}) (kind_
     (λ (o : Outgoing). is_mute o.body ≡ true) sends (λ o says. mute_of tx o.body says) all
 
 module _ (tx : TxId) where
-  abbrev GoesBack : List Outgoing → Type 0
-  GoesBack sends = list_any (λ (o : Outgoing). is_back tx (way_of o.body)) sends ≡ true
-
-  part_back : (node : ℕ) (sends : List Outgoing) → IsBackFirst tx sends → GoesBack (part_effects node tx sends 0).sends
-  unfolding part_effects
-  part_back node sends f =
-      subst (λ all. GoesBack (take 8 all ++ rest node tx sends 0)) (sym f.is)
-      (ap (λ b. b || list_any (λ (o : Outgoing). is_back tx (way_of o.body)) (take 7 f.more ++ rest node tx sends 0))
-      (ap (is_back tx) f.goes ∙ same_tx-self tx))
-
-  end_back : (node : ℕ) (why : AbortCause) (b : Bool) → GoesBack (abort.abort_end node tx why b)
-  end_back node why true = ap (λ b. b || false) (same_tx-self tx)
-  end_back node why false = ap (λ b. b || false) (same_tx-self tx)
-
   module _ (node : ℕ) (layout : Layout) (t : Transaction) where
-    -- an abort of one without an unanswered operation, that has something to wait for
-    enters_back : (why : AbortCause) (verifying : Bool) → t.asked ≡ None → (abort.aborts_awaited layout t == 0) ≡ false
-        → GoesBack (entering node layout tx t (Aborting why verifying (abort.aborts_awaited layout t))).effects.sends
-    unfolding entering phase_sends front_sends
-    enters_back why verifying none some =
-        part_back node
-            (flat_map (key_sends layout tx (Aborting why verifying (abort.aborts_awaited layout t))) t.touched)
-        (aborts_first layout tx why verifying (abort.aborts_awaited layout t) t.touched
-        (λ zero_is. absurd (grind (arith, nat_tests, some, zero_is, ap (abort.asked_count layout) none))))
-
     -- a turn sends nothing of an epoch, but for the one that asks for it
     abbrev Asks : Turn → Type 0
     Asks turn = AreMute turn.step.effects.sends ⊎ IsAsking tx t turn
@@ -174,8 +140,10 @@ module _ (tx : TxId) where
       completed = λ epoch awaited at more. other_phase body _ _ at refl;
       completed_all = λ epoch awaited at last. other_phase body _ _ at refl;
       rolls_back = λ is undecided unaborted. record {
-        enters = λ some. record { late = λ waits none. inr (inr (enters_back _ _ none some)) };
-        ends = λ nothing. record { late = λ waits none. inr (inr (end_back node _ (abort.is_verifying t.phase))) };
+        enters = λ some. record {
+          late = λ waits none. inr (inr (enters_told tx node layout t _ _ _ (subst (HasTouchedAsked t.touched) (sym none) tt) some));
+        };
+        ends = λ nothing. record { late = λ waits none. inr (inr (end_gives_up tx node _ (abort.is_verifying t.phase))) };
       };
       refuses = λ key why asked is on at. record { enters = λ some. still_asked body _ asked on; ends =
               λ none. still_asked body _ asked on };

@@ -95,7 +95,7 @@ pub record TurnTokens (tx : TxId) (t : Transaction) (came : ℕ) (turn : Turn) :
   pub own : (m : ℕ) → m + came ≤ budget_of t → m + tokens_out tx turn.step.effects.sends ≤ budget_after tx turn
 
 -- who is told of its abort is given up
-end_gives_up : (tx : TxId) (node : ℕ) (why : AbortCause) (b : Bool) → gives_up tx (abort.abort_end node tx why b) ≡ true
+pub end_gives_up : (tx : TxId) (node : ℕ) (why : AbortCause) (b : Bool) → gives_up tx (abort.abort_end node tx why b) ≡ true
 end_gives_up tx node why true = or_left (same_tx tx tx) false (same_tx-self tx)
 end_gives_up tx node why false = or_left (same_tx tx tx) false (same_tx-self tx)
 
