@@ -25,7 +25,7 @@ use Rattle.tc_block.specs.Sends.{entering, phase_sends, wait_of}
 use Rattle.tc_block.specs.Turn.{Turn, asking, at_phase}
 use Rattle.run_theory.proofs.EachSent.{each_mapped}
 use Rattle.tc_block.specs.Phases.{is_completing, is_decided}
-use Rattle.tc_block.proofs.EachTurn.{AbortForms, CommittedForms, SignalForms, is_onward, rows_at}
+use Rattle.tc_block.proofs.EachTurn.{AbortForms, CommittedForms, TurnFormsAt, is_onward, rows_at}
 use Rattle.run_laws.proofs.TcCircle.{ready_is}
 use Rattle.run_laws.proofs.TcOwn.{AreSilent}
 use Rattle.run_laws.proofs.TxTurns.{is_for, turn_each, turn_for}
@@ -95,7 +95,7 @@ module _ (node : ℕ) (layout : Layout) (tx : TxId) (t : Transaction) where
     no_abort u why never = record { enters = λ some. absurd never; ends = λ none. absurd never }
 
   module _ (epoch awaited : ℕ) (is : t.phase ≡ Committing epoch awaited) where
-    committing_forms : (body : Body) → SignalForms node layout tx t body (FromCommitting node layout tx t awaited body)
+    committing_forms : (body : Body) → TurnFormsAt node layout tx t body (FromCommitting node layout tx t awaited body)
     unfolding entering
     committing_forms body = record {
       stays = λ other. rests refl refl tt (next_none tx body other);
@@ -149,7 +149,7 @@ module _ (node : ℕ) (layout : Layout) (tx : TxId) (t : Transaction) where
     off : (phase : Phase) → t.phase ≡ phase → is_completing phase ≡ false → (turn : Turn) → Completes turn
     off = elsewhere is_completing Completes (ap is_completing is)
 
-    completing_forms : (body : Body) → SignalForms node layout tx t body Completes
+    completing_forms : (body : Body) → TurnFormsAt node layout tx t body Completes
     completing_forms body = record {
       stays = λ other. still epoch awaited refl same_phase tt;
       stops = λ at on high. still epoch awaited refl same_phase tt;

@@ -19,7 +19,7 @@ use Rattle.tc_block.specs.Abort as abort
 use Rattle.tc_block.specs.Complete as complete
 use Rattle.tc_block.specs.Part.{part_effects, rest_if}
 use Rattle.tc_block.specs.Sends.{wait_of, abort_of, entering, front_sends, key_sends, phase_sends}
-use Rattle.tc_block.proofs.EachTurn.{AbortForms, SignalForms, rows_at}
+use Rattle.tc_block.proofs.EachTurn.{AbortForms, TurnFormsAt, rows_at}
 use Rattle.tc_block.specs.Turn.{Turn, asking, at_phase, going}
 use Rattle.run_theory.proofs.EachSent.{each_flat, each_mapped}
 use Rattle.host_laws.proofs.TcWays.{not_both}
@@ -101,7 +101,7 @@ module _ (node : ℕ) (layout : Layout) (tx : TxId) where
         some : (n : ℕ) → (suc n == 0) ≡ true → ⊥
         some n q = omega (arith, eqb-true (suc n) 0 q)
 
-    begins_forms : (body : Body) → is_part tx body ≡ false → SignalForms node layout tx t body BeginsAt
+    begins_forms : (body : Body) → is_part tx body ≡ false → TurnFormsAt node layout tx t body BeginsAt
     unfolding entering
     begins_forms body off = record {
       stays = λ other. silent tt;

@@ -21,12 +21,14 @@ module _ (tx : TxId) where
   live_none [] none = refl
   live_none (e ∷ live) none = by (same_tx e.0 tx) refl (live_none live)
     where
-      by : (b : Bool) → same_tx e.0 tx ≡ b → (tally (is_keyed tx) live ≡ 0 → of_live tx live ≡ None) → (if b then Some e.1 else of_live tx live) ≡ None
+      by : (b : Bool) → same_tx e.0 tx ≡ b → (tally (is_keyed tx) live ≡ 0 → of_live tx live ≡ None)
+          → (if b then Some e.1 else of_live tx live) ≡ None
       by true same more = absurd (omega (arith, none, ap one_if same))
       by false off more = more (omega (arith, none))
 
   -- another one behind it
-  pub live_end : (v : TxId) (t : Transaction) (live : Live) → same_tx v tx ≡ false → of_live tx (live ++ (v, t) ∷ []) ≡ of_live tx live
+  pub live_end : (v : TxId) (t : Transaction) (live : Live) → same_tx v tx ≡ false
+      → of_live tx (live ++ (v, t) ∷ []) ≡ of_live tx live
   live_end v t [] off = ap (λ b. if b then Some t else None) off
   live_end v t (e ∷ live) off = ap (λ w. if same_tx e.0 tx then Some e.1 else w) (live_end v t live off)
 
@@ -35,7 +37,8 @@ module _ (tx : TxId) where
       → ((v : TxId) → IsOwn node next v → v ≡ tx → ⊥) → tally (is_keyed tx) live ≡ 0
   absent node next live own other =
       tally_none (is_keyed tx) live
-      (each_map (λ (e : TxId × Transaction). IsOwn node next e.0) (λ (e : TxId × Transaction). same_tx e.0 tx ≡ false) live
+      (each_map (λ (e : TxId × Transaction). IsOwn node next e.0)
+          (λ (e : TxId × Transaction). same_tx e.0 tx ≡ false) live
       (λ e is. by e.0 is (same_tx e.0 tx) refl) own)
     where
       by : (v : TxId) → IsOwn node next v → (b : Bool) → same_tx v tx ≡ b → same_tx v tx ≡ false

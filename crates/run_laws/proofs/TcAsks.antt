@@ -67,7 +67,8 @@ pub record IsAsking (tx : TxId) (t : Transaction) (turn : Turn) : Type 0 where
 
 -- what becomes of one that waits for its epoch: it waits on, was given the epoch, or is given up
 abbrev pub IsLate : TxId → Body → Transaction → Turn → Type 0
-IsLate tx body t turn = (left_by turn ≡ Some t) ⊎ ((is_conf tx body ≡ true) ⊎ (gives_up tx turn.step.effects.sends ≡ true))
+IsLate tx body t turn = (left_by turn ≡ Some t)
+    ⊎ ((is_conf tx body ≡ true) ⊎ (gives_up tx turn.step.effects.sends ≡ true))
 
 pub record AskTurn (tx : TxId) (body : Body) (t : Transaction) (turn : Turn) : Type 0 where
   pub sends : AreMute turn.step.effects.sends ⊎ IsAsking tx t turn
@@ -141,9 +142,11 @@ module _ (tx : TxId) where
       completed_all = λ epoch awaited at last. other_phase body _ _ at refl;
       rolls_back = λ is undecided unaborted. record {
         enters = λ some. record {
-          late = λ waits none. inr (inr (enters_told tx node layout t _ _ _ (subst (HasTouchedAsked t.touched) (sym none) tt) some));
+          late = λ waits none. inr
+              (inr (enters_told tx node layout t _ _ _ (subst (HasTouchedAsked t.touched) (sym none) tt) some));
         };
-        ends = λ nothing. record { late = λ waits none. inr (inr (end_gives_up tx node _ (abort.is_verifying t.phase))) };
+        ends = λ nothing. record { late =
+                λ waits none. inr (inr (end_gives_up tx node _ (abort.is_verifying t.phase))) };
       };
       refuses = λ key why asked is on at. record { enters = λ some. still_asked body _ asked on; ends =
               λ none. still_asked body _ asked on };

@@ -95,7 +95,8 @@ pub record TurnTokens (tx : TxId) (t : Transaction) (came : ℕ) (turn : Turn) :
   pub own : (m : ℕ) → m + came ≤ budget_of t → m + tokens_out tx turn.step.effects.sends ≤ budget_after tx turn
 
 -- who is told of its abort is given up
-pub end_gives_up : (tx : TxId) (node : ℕ) (why : AbortCause) (b : Bool) → gives_up tx (abort.abort_end node tx why b) ≡ true
+pub end_gives_up : (tx : TxId) (node : ℕ) (why : AbortCause) (b : Bool)
+    → gives_up tx (abort.abort_end node tx why b) ≡ true
 end_gives_up tx node why true = or_left (same_tx tx tx) false (same_tx-self tx)
 end_gives_up tx node why false = or_left (same_tx tx tx) false (same_tx-self tx)
 
@@ -141,7 +142,8 @@ module _ (node : ℕ) (layout : Layout) (tx : TxId) (t : Transaction)
       none (Some a) on =
           absurd (let both : true ≡ false = sym right ∙ (ap (λ o. is_right o t.phase) on ∙ (ap may_ask at ∙ off)) in cc)
 
-  still : (body : Body) → ((op : Op) → body ≡ Client (TcKeyReq tx op) → ⊥) → TurnForms node layout tx t body (IsStill tx)
+  still : (body : Body) → ((op : Op) → body ≡ Client (TcKeyReq tx op) → ⊥)
+      → TurnForms node layout tx t body (IsStill tx)
   still body other = turns_still tx tx node layout t body (λ op is. absurd (other op is))
 
   -- whatever comes

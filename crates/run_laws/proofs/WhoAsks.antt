@@ -216,7 +216,8 @@ module _ (start : Start) (tx : TxId) where
         no_back : gives_up tx turn.step.effects.sends ≡ true → ⊥
         no_back goes_back =
             let given : list_any (same_tx tx) (sent_ways start back_by h (e ∷ old h)) ≡ true =
-            now_given_up tx (tc_sends s e.step.taken) (sent_ways start back_by h (old h)) (subst (λ w. gives_up tx w ≡ true) (sym said) goes_back) in
+            now_given_up tx (tc_sends s e.step.taken) (sent_ways start back_by h (old h))
+                (subst (λ w. gives_up tx w ≡ true) (sym said) goes_back) in
             let up : is_given_up start now tx ≡ true =
             subst (λ k. list_any (same_tx tx) (sent_ways start back_by k (now k)) ≡ true) its_home (subst (λ log. list_any (same_tx tx) (sent_ways start back_by h log) ≡ true) (sym own_now) given) in
             let both : true ≡ false = sym up ∙ off in cc
@@ -228,7 +229,8 @@ module _ (start : Start) (tx : TxId) where
         waited : t.phase ≡ Verifying → AreMute turn.step.effects.sends → (left_by turn ≡ Some t) ⊎ (asking then_is ≡ 0)
         waited v mute = by (ask_turn.late v (allowed.waits v).free)
           where
-            by : (left_by turn ≡ Some t) ⊎ ((is_conf tx e.step.taken.body ≡ true) ⊎ (gives_up tx turn.step.effects.sends ≡ true))
+            by : (left_by turn ≡ Some t)
+                ⊎ ((is_conf tx e.step.taken.body ≡ true) ⊎ (gives_up tx turn.step.effects.sends ≡ true))
                 → (left_by turn ≡ Some t) ⊎ (asking then_is ≡ 0)
             by (inl stays) = inl stays
             by (inr (inl conf)) = inr (omega (arith, taken_weighs, now_weighs, mute_weighs mute, (allowed.waits v).few, ap one_if (conf_asks tx e.step.taken.body conf)))

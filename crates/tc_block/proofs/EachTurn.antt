@@ -47,13 +47,15 @@ pub record TurnForms (node : ℕ) (layout : Layout) (tx : TxId) (t : Transaction
   pub goes_on : (at : ℕ) → R (going (go_on_if node layout tx t at true))
   -- an operation goes to its primary, is answered, or is answered when the transaction is aborted already
   pub operates : (op : Op) → body ≡ Client (TcKeyReq tx op) → operate.can_operate t op ≡ true → R (going (operate.operating tx t op (chain_of layout (key_of op))))
-  pub answers : (key : List ℕ) (answer : Answer) (asked : Asked) → body ≡ Chain (LqhKeyConf tx key answer) → t.asked ≡ Some asked → t.phase ≡ Open
+  pub answers : (key : List ℕ) (answer : Answer) (asked : Asked) → body ≡ Chain (LqhKeyConf tx key answer)
+      → t.asked ≡ Some asked → t.phase ≡ Open
       → R (going (sending (operate.answered t asked answer) client (Client (TcKeyConf tx answer))))
   pub late : (key : List ℕ) (asked : Asked) (why : AbortCause) (verifying : Bool) (awaited : ℕ) → t.asked ≡ Some asked → t.phase ≡ Aborting why verifying awaited → R (going (operate.late_answer layout tx t key))
   -- the replicas are asked what it waits for
   pub waits : (asked : Asked) → t.asked ≡ Some asked → R (going (operate.wait_by tx t (Some asked)))
   -- it asks for an epoch, and has one
-  pub decides : body ≡ Client (TcCommitReq tx) → operate.is_ready t.phase t.asked ≡ true → R (going (commit.decide_if node tx t true))
+  pub decides : body ≡ Client (TcCommitReq tx) → operate.is_ready t.phase t.asked ≡ true
+      → R (going (commit.decide_if node tx t true))
   pub commits : (epoch : ℕ) → body ≡ Epoch (DiVerifyConf tx epoch) → t.phase ≡ Verifying → (length t.touched == 0) ≡ false → R (going (entering node layout tx t (Committing epoch (length t.touched))))
   pub commits_none : (epoch : ℕ) → body ≡ Epoch (DiVerifyConf tx epoch) → t.phase ≡ Verifying → CommittedForms node layout tx t epoch R
   -- a key is committed, the last one or not, and so with completions
@@ -76,42 +78,57 @@ is_onward (Host (Continue (work.Transaction tx) at)) = true
 is_onward _ = false
 
 -- the same, each turn with the signal at which it is taken
-pub record SignalForms (node : ℕ) (layout : Layout) (tx : TxId) (t : Transaction) (body : Body) (R : Turn → Type 0) : Type 0 where
+pub record TurnFormsAt (node : ℕ) (layout : Layout) (tx : TxId) (t : Transaction) (body : Body)
+    (R : Turn → Type 0) : Type 0 where
   pub stays : is_onward body ≡ false → R (going (stay t))
   pub stops : (at : ℕ) → body ≡ Host (Continue (work.Transaction tx) at) → nat_lt at 512 ≡ false → R (going (stay t))
-  pub goes_on : (at : ℕ) → body ≡ Host (Continue (work.Transaction tx) at) → R (going (go_on_if node layout tx t at true))
+  pub goes_on : (at : ℕ) → body ≡ Host (Continue (work.Transaction tx) at)
+      → R (going (go_on_if node layout tx t at true))
   pub operates : (op : Op) → body ≡ Client (TcKeyReq tx op) → operate.can_operate t op ≡ true
       → R (going (operate.operating tx t op (chain_of layout (key_of op))))
-  pub answers : (key : List ℕ) (answer : Answer) (asked : Asked) → body ≡ Chain (LqhKeyConf tx key answer) → t.asked ≡ Some asked → t.phase ≡ Open
+  pub answers : (key : List ℕ) (answer : Answer) (asked : Asked) → body ≡ Chain (LqhKeyConf tx key answer)
+      → t.asked ≡ Some asked → t.phase ≡ Open
       → R (going (sending (operate.answered t asked answer) client (Client (TcKeyConf tx answer))))
   pub late : (key : List ℕ) (asked : Asked) (why : AbortCause) (verifying : Bool) (awaited : ℕ) → t.asked ≡ Some asked
       → t.phase ≡ Aborting why verifying awaited → R (going (operate.late_answer layout tx t key))
-  pub waits : (asked : Asked) → body ≡ Client (TcWaitReq tx) → t.asked ≡ Some asked → R (going (operate.wait_by tx t (Some asked)))
-  pub decides : body ≡ Client (TcCommitReq tx) → operate.is_ready t.phase t.asked ≡ true → R (going (commit.decide_if node tx t true))
-  pub commits : (epoch : ℕ) → body ≡ Epoch (DiVerifyConf tx epoch) → t.phase ≡ Verifying → (length t.touched == 0) ≡ false
+  pub waits : (asked : Asked) → body ≡ Client (TcWaitReq tx) → t.asked ≡ Some asked
+      → R (going (operate.wait_by tx t (Some asked)))
+  pub decides : body ≡ Client (TcCommitReq tx) → operate.is_ready t.phase t.asked ≡ true
+      → R (going (commit.decide_if node tx t true))
+  pub commits : (epoch : ℕ) → body ≡ Epoch (DiVerifyConf tx epoch) → t.phase ≡ Verifying
+      → (length t.touched == 0) ≡ false
       → R (going (entering node layout tx t (Committing epoch (length t.touched))))
-  pub commits_none : (epoch : ℕ) → body ≡ Epoch (DiVerifyConf tx epoch) → t.phase ≡ Verifying → (length t.touched == 0) ≡ true
+  pub commits_none : (epoch : ℕ) → body ≡ Epoch (DiVerifyConf tx epoch) → t.phase ≡ Verifying
+      → (length t.touched == 0) ≡ true
       → CommittedForms node layout tx t epoch R
-  pub committed : (key : List ℕ) (epoch awaited : ℕ) → body ≡ Chain (Committed tx key) → t.phase ≡ Committing epoch awaited → nat_lt 1 awaited ≡ true
+  pub committed : (key : List ℕ) (epoch awaited : ℕ) → body ≡ Chain (Committed tx key)
+      → t.phase ≡ Committing epoch awaited → nat_lt 1 awaited ≡ true
       → R (going (stay (at_phase t (Committing epoch (awaited - 1)))))
-  pub committed_all : (key : List ℕ) (epoch awaited : ℕ) → body ≡ Chain (Committed tx key) → t.phase ≡ Committing epoch awaited
+  pub committed_all : (key : List ℕ) (epoch awaited : ℕ) → body ≡ Chain (Committed tx key)
+      → t.phase ≡ Committing epoch awaited
       → nat_lt 1 awaited ≡ false → CommittedForms node layout tx t epoch R
-  pub completed : (key : List ℕ) (epoch awaited : ℕ) → body ≡ Chain (Completed tx key) → t.phase ≡ Completing epoch awaited → nat_lt 1 awaited ≡ true
+  pub completed : (key : List ℕ) (epoch awaited : ℕ) → body ≡ Chain (Completed tx key)
+      → t.phase ≡ Completing epoch awaited → nat_lt 1 awaited ≡ true
       → R (going (stay (at_phase t (Completing epoch (awaited - 1)))))
-  pub completed_all : (key : List ℕ) (epoch awaited : ℕ) → body ≡ Chain (Completed tx key) → t.phase ≡ Completing epoch awaited
+  pub completed_all : (key : List ℕ) (epoch awaited : ℕ) → body ≡ Chain (Completed tx key)
+      → t.phase ≡ Completing epoch awaited
       → nat_lt 1 awaited ≡ false → R (complete.completed_if node tx t epoch awaited false)
   pub rolls_back : body ≡ Client (TcRollbackReq tx) → is_decided t.phase ≡ false → is_aborting t.phase ≡ false
       → AbortForms node layout tx t cause.Request R
-  pub refuses : (key : List ℕ) (why : AbortCause) (asked : Asked) → body ≡ Chain (LqhKeyRef tx key why) → t.asked ≡ Some asked → t.phase ≡ Open
+  pub refuses : (key : List ℕ) (why : AbortCause) (asked : Asked) → body ≡ Chain (LqhKeyRef tx key why)
+      → t.asked ≡ Some asked → t.phase ≡ Open
       → AbortForms node layout tx (asking t None) why R
   pub aborted : (key : List ℕ) (why : AbortCause) (verifying : Bool) (awaited : ℕ) → body ≡ Chain (Aborted tx key)
-      → t.phase ≡ Aborting why verifying awaited → nat_lt 1 awaited ≡ true → R (going (stay (at_phase t (Aborting why verifying (awaited - 1)))))
+      → t.phase ≡ Aborting why verifying awaited → nat_lt 1 awaited ≡ true
+      → R (going (stay (at_phase t (Aborting why verifying (awaited - 1)))))
   pub aborted_all : (key : List ℕ) (why : AbortCause) (verifying : Bool) (awaited : ℕ) → body ≡ Chain (Aborted tx key)
-      → t.phase ≡ Aborting why verifying awaited → nat_lt 1 awaited ≡ false → R (abort.aborted_if node tx t why verifying awaited false)
+      → t.phase ≡ Aborting why verifying awaited → nat_lt 1 awaited ≡ false
+      → R (abort.aborted_if node tx t why verifying awaited false)
 
 -- whatever the signal
-told : (node : ℕ) (layout : Layout) (tx : TxId) (t : Transaction) (body : Body) (R : Turn → Type 0) → TurnForms node layout tx t body R
-    → SignalForms node layout tx t body R
+told : (node : ℕ) (layout : Layout) (tx : TxId) (t : Transaction) (body : Body) (R : Turn → Type 0)
+    → TurnForms node layout tx t body R
+    → TurnFormsAt node layout tx t body R
 told node layout tx t body R forms = record {
   stays = λ other. forms.stays;
   stops = λ at is high. forms.stays;
@@ -142,7 +159,8 @@ asked_on-is (Some a) key asked is = by (same_key (key_of a.op) key) is
     by true e = e
     by false e = cc
 
-module _ (node : ℕ) (layout : Layout) (tx : TxId) (t : Transaction) (body : Body) (R : Turn → Type 0) (forms : SignalForms node layout tx t body R) where
+module _ (node : ℕ) (layout : Layout) (tx : TxId) (t : Transaction) (body : Body) (R : Turn → Type 0)
+    (forms : TurnFormsAt node layout tx t body R) where
   goes_on : (at : ℕ) → body ≡ Host (Continue (work.Transaction tx) at) → R (going (go_on_row node layout tx t at))
   unfolding go_on_row
   goes_on at is = by (nat_lt at 512) refl
@@ -175,7 +193,8 @@ module _ (node : ℕ) (layout : Layout) (tx : TxId) (t : Transaction) (body : Bo
       by None on = forms.stays (ap is_onward is)
       by (Some asked) on = forms.waits asked is on
 
-  answers : (key : List ℕ) (answer : Answer) → body ≡ Chain (LqhKeyConf tx key answer) → R (going (operate.answer_row layout tx t key answer))
+  answers : (key : List ℕ) (answer : Answer) → body ≡ Chain (LqhKeyConf tx key answer)
+      → R (going (operate.answer_row layout tx t key answer))
   unfolding operate.answer_row
   answers key answer is = by (operate.asked_on t.asked key) refl t.phase refl
     where
@@ -248,7 +267,8 @@ module _ (node : ℕ) (layout : Layout) (tx : TxId) (t : Transaction) (body : Bo
       by true none = own.ends none
       by false none = own.enters none
 
-  refuses : (key : List ℕ) (why : AbortCause) → body ≡ Chain (LqhKeyRef tx key why) → R (abort.refuse_row node layout tx t key why)
+  refuses : (key : List ℕ) (why : AbortCause) → body ≡ Chain (LqhKeyRef tx key why)
+      → R (abort.refuse_row node layout tx t key why)
   unfolding abort.refuse_row
   refuses key why is = by (operate.asked_on t.asked key) refl t.phase refl
     where
@@ -301,7 +321,8 @@ pub record RowsAre (node : ℕ) (layout : Layout) (tx : TxId) (t : Transaction) 
   pub aborted : (key : List ℕ) → body ≡ Chain (Aborted tx key) → R (abort.aborted_row node tx t)
   pub commits : (epoch : ℕ) → body ≡ Epoch (DiVerifyConf tx epoch) → R (commit.commit_row node layout tx t epoch)
 
-pub rows_at : (node : ℕ) (layout : Layout) (tx : TxId) (t : Transaction) (body : Body) (R : Turn → Type 0) → SignalForms node layout tx t body R
+pub rows_at : (node : ℕ) (layout : Layout) (tx : TxId) (t : Transaction) (body : Body) (R : Turn → Type 0)
+    → TurnFormsAt node layout tx t body R
     → RowsAre node layout tx t body R
 rows_at node layout tx t body R forms = record {
   goes_on = goes_on node layout tx t body R forms;
@@ -317,7 +338,8 @@ rows_at node layout tx t body R forms = record {
   commits = commits node layout tx t body R forms;
 }
 
-pub rows_of : (node : ℕ) (layout : Layout) (tx : TxId) (t : Transaction) (body : Body) (R : Turn → Type 0) → TurnForms node layout tx t body R
+pub rows_of : (node : ℕ) (layout : Layout) (tx : TxId) (t : Transaction) (body : Body) (R : Turn → Type 0)
+    → TurnForms node layout tx t body R
     → RowsAre node layout tx t body R
 rows_of node layout tx t body R forms = rows_at node layout tx t body R (told node layout tx t body R forms)
 
