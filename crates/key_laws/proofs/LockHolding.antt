@@ -84,7 +84,7 @@ enough_others tx u m hs apart is = any_holds u m (others tx hs) ∙ left hs (sym
     left [] is = is
     left (h ∷ hs) is =
         any_left (is_holding u m) h hs (others tx hs) (same_tx h.tx tx)
-            (apart_claim tx u h.tx (is_enough h.mode m) apart) (left hs) is
+        (apart_claim tx u h.tx (is_enough h.mode m) apart) (left hs) is
 
 -- who comes to hold the lock in a mode takes it from nobody else
 enough_hold : (tx u : TxId) (mode m : Mode) (hs : List Holder) → same_tx tx u ≡ false → holds_enough u m hs ≡ true
@@ -92,7 +92,7 @@ enough_hold : (tx u : TxId) (mode m : Mode) (hs : List Holder) → same_tx tx u 
 enough_hold tx u mode m hs apart is =
     any_holds u m (hold tx mode hs)
     ∙ any_longer (is_holding u m) (others tx hs) (holder_of tx mode) (sym (any_holds u m (others tx hs))
-        ∙ enough_others tx u m hs apart is)
+    ∙ enough_others tx u m hs apart is)
 
 pub enough_own : (tx : TxId) (mode m : Mode) (hs : List Holder) → is_enough mode m ≡ true
     → holds_enough tx m (hold tx mode hs) ≡ true
@@ -116,7 +116,7 @@ hold_keeps tx mode hs agrees less u m is = by (same_tx tx u) refl m is
         (enough_own tx mode Shared hs (shared_any mode))
     own at Exclusive is =
         let enough : holds_enough tx mode hs ≡ true = exclusive_enough tx mode hs
-            (ap (λ t. holds_enough t Exclusive hs) (sym at) ∙ is) in
+        (ap (λ t. holds_enough t Exclusive hs) (sym at) ∙ is) in
         absurd (let both : true ≡ false = sym enough ∙ less in cc)
 
     by : (b : Bool) → same_tx tx u ≡ b → (m : Mode) → holds_enough u m hs ≡ true
@@ -134,20 +134,20 @@ served_keeps n hs (w ∷ ws) need once u m is =
     let first = and_parts (not (waits w.tx ws)) (are_waiting_once ws) once in
     by (agrees_with w.tx w.mode hs) refl (not-true _ parts.0)
     (served_keeps (n + 1) (hold w.tx w.mode hs) ws
-        (need-hold w.tx w.mode hs ws (not-true _ first.0) ∙ parts.1) first.1 u m)
+    (need-hold w.tx w.mode hs ws (not-true _ first.0) ∙ parts.1) first.1 u m)
   where
     by : (b : Bool) → agrees_with w.tx w.mode hs ≡ b → holds_enough w.tx w.mode hs ≡ false
         → (holds_enough u m (hold w.tx w.mode hs) ≡ true
-            → holds_enough u m (served (n + 1) (hold w.tx w.mode hs) ws).lock.holders ≡ true)
+        → holds_enough u m (served (n + 1) (hold w.tx w.mode hs) ws).lock.holders ≡ true)
         → holds_enough u m (served_if b (served (n + 1) (hold w.tx w.mode hs) ws)
-            (record { lock = record { holders = hs; queue = w ∷ ws }; granted = n })).lock.holders ≡ true
+        (record { lock = record { holders = hs; queue = w ∷ ws }; granted = n })).lock.holders ≡ true
     by true e less more = more (hold_keeps w.tx w.mode hs e less u m is)
     by false e less more = is
 
 -- in both modes that makes up holding on
 hold_on : (gone : TxId → Bool) (before after : RowLock) → IsOrderly after
     → ((u : TxId) (m : Mode) → gone u ≡ false → holds_enough u m before.holders ≡ true
-        → holds_enough u m after.holders ≡ true)
+    → holds_enough u m after.holders ≡ true)
     → HoldOn gone before.holders after.holders
 hold_on gone before after orderly keeps = record {
   agreed = orderly.agreed;
@@ -177,23 +177,23 @@ asked_keeps lock tx mode u m is = by (holds_enough tx mode lock.holders) (waits 
 pub requests_hold_on : RequestsHoldOn
 requests_hold_on lock tx mode orderly =
     hold_on (λ v. false) lock (asked lock tx mode).lock (asked_orderly lock tx mode orderly)
-        (λ u m here is. asked_keeps lock tx mode u m is)
+    (λ u m here is. asked_keeps lock tx mode u m is)
 
 pub releases_hold_on : ReleasesHoldOn
 releases_hold_on lock tx orderly =
     let queue : List Wait = without tx lock.queue in
     let need : none_has_enough (others tx lock.holders) queue ≡ true = need-others tx lock.holders queue
-        (gone-without tx lock.queue) ∙ need-without lock.holders tx lock.queue orderly.in_need in
+    (gone-without tx lock.queue) ∙ need-without lock.holders tx lock.queue orderly.in_need in
     hold_on (same_tx tx) lock (released lock tx).lock (released_orderly lock tx orderly)
     (λ u m here is. served_keeps 0 (others tx lock.holders) queue need
-        (waiting-without tx lock.queue orderly.waiting_once) u m (enough_others tx u m lock.holders here is))
+    (waiting-without tx lock.queue orderly.waiting_once) u m (enough_others tx u m lock.holders here is))
 
 pub expiries_hold_on : ExpiriesHoldOn
 expiries_hold_on lock tx orderly =
     hold_on (λ v. false) lock (unwaited lock tx).lock (unwaited_orderly lock tx orderly)
     (λ u m here is. served_keeps 0 lock.holders (without tx lock.queue)
-        (need-without lock.holders tx lock.queue orderly.in_need)
-        (waiting-without tx lock.queue orderly.waiting_once) u m is)
+    (need-without lock.holders tx lock.queue orderly.in_need)
+    (waiting-without tx lock.queue orderly.waiting_once) u m is)
 
 pub grants_hold : GrantsHold
 grants_hold lock tx mode orderly = by (holds_enough tx mode lock.holders) (waits tx lock.queue) refl

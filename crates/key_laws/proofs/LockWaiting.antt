@@ -36,13 +36,13 @@ waits_without : (tx u : TxId) (m : Mode) (ws : List Wait) → same_tx tx u ≡ f
 waits_without tx u m [] apart is = is
 waits_without tx u m (w ∷ ws) apart is =
     any_left (is_waiting u m) w ws (without tx ws) (same_tx w.tx tx) (apart_claim tx u w.tx (is_enough w.mode m) apart)
-        (waits_without tx u m ws apart) is
+    (waits_without tx u m ws apart) is
 
 waits_raised : (tx u : TxId) (mode m : Mode) (ws : List Wait) → waits_enough u m ws ≡ true
     → waits_enough u m (raised tx mode ws) ≡ true
 waits_raised tx u mode m [] is = is
 waits_raised tx u mode m (w ∷ ws) is = by (same_tx w.tx tx) (or_cases (same_tx w.tx u && is_enough w.mode m)
-        (waits_enough u m ws) is) (waits_raised tx u mode m ws)
+    (waits_enough u m ws) is) (waits_raised tx u mode m ws)
   where
     own : (b : Bool) → (same_tx w.tx u && is_enough w.mode m) ≡ true
         → (same_tx (raised_if b mode w).tx u && is_enough (raised_if b mode w).mode m) ≡ true
@@ -53,7 +53,7 @@ waits_raised tx u mode m (w ∷ ws) is = by (same_tx w.tx tx) (or_cases (same_tx
     by : (b : Bool) → ((same_tx w.tx u && is_enough w.mode m) ≡ true) ⊎ (waits_enough u m ws ≡ true)
         → (waits_enough u m ws ≡ true → waits_enough u m (raised tx mode ws) ≡ true)
         → ((same_tx (raised_if b mode w).tx u && is_enough (raised_if b mode w).mode m) || waits_enough u m
-            (raised tx mode ws)) ≡ true
+        (raised tx mode ws)) ≡ true
     by b (inl one) more = or_left _ _ (own b one)
     by b (inr rest) more = or_right _ _ (more rest)
 
@@ -66,7 +66,7 @@ raised_waits tx mode (w ∷ ws) is = by (same_tx w.tx tx) refl is (raised_waits 
     by : (b : Bool) → same_tx w.tx tx ≡ b → (b || waits tx ws) ≡ true
         → (waits tx ws ≡ true → waits_enough tx mode (raised tx mode ws) ≡ true)
         → ((same_tx (raised_if b mode w).tx tx && is_enough (raised_if b mode w).mode mode) || waits_enough tx mode
-            (raised tx mode ws)) ≡ true
+        (raised tx mode ws)) ≡ true
     by true e is more = or_left _ _ (and_from (same_tx w.tx tx) _ e (stronger_enough w.mode mode))
     by false e is more = or_right _ _ (more is)
 
@@ -127,7 +127,7 @@ served_attend n hs (w ∷ ws) need once u m is =
     let first = and_parts (not (waits w.tx ws)) (are_waiting_once ws) once in
     by (agrees_with w.tx w.mode hs) refl (not-true _ parts.0) is
     (served_attend (n + 1) (hold w.tx w.mode hs) ws
-        (need-hold w.tx w.mode hs ws (not-true _ first.0) ∙ parts.1) first.1 u m)
+    (need-hold w.tx w.mode hs ws (not-true _ first.0) ∙ parts.1) first.1 u m)
   where
     onward : (holds_enough w.tx w.mode hs ≡ false) → agrees_with w.tx w.mode hs ≡ true → (holds_enough u m hs ≡ true)
         ⊎ (waits_enough u m (w ∷ ws) ≡ true)
@@ -140,7 +140,7 @@ served_attend n hs (w ∷ ws) need once u m is =
         at (inl one) =
             let own = and_parts (same_tx w.tx u) (is_enough w.mode m) one in
             inl (subst (λ t. holds_enough t m (hold w.tx w.mode hs) ≡ true) (same_tx-is w.tx u own.0)
-                    (enough_own w.tx w.mode m hs own.1))
+            (enough_own w.tx w.mode m hs own.1))
         at (inr rest) = inr rest
 
     whole : (holds_enough u m hs ≡ true) ⊎ (waits_enough u m (w ∷ ws) ≡ true)
@@ -151,9 +151,9 @@ served_attend n hs (w ∷ ws) need once u m is =
     by : (b : Bool) → agrees_with w.tx w.mode hs ≡ b → holds_enough w.tx w.mode hs ≡ false
         → (holds_enough u m hs ≡ true) ⊎ (waits_enough u m (w ∷ ws) ≡ true)
         → ((holds_enough u m (hold w.tx w.mode hs) ≡ true) ⊎ (waits_enough u m ws ≡ true)
-            → is_attended (served (n + 1) (hold w.tx w.mode hs) ws).lock u m ≡ true)
+        → is_attended (served (n + 1) (hold w.tx w.mode hs) ws).lock u m ≡ true)
         → is_attended (served_if b (served (n + 1) (hold w.tx w.mode hs) ws)
-            (record { lock = record { holders = hs; queue = w ∷ ws }; granted = n })).lock u m ≡ true
+        (record { lock = record { holders = hs; queue = w ∷ ws }; granted = n })).lock u m ≡ true
     by true e less is more = more (onward less e is)
     by false e less is more = whole is
 
@@ -161,7 +161,7 @@ pub releases_attend : ReleasesAttend
 releases_attend lock tx v mode orderly apart is =
     let queue : List Wait = without tx lock.queue in
     let need : none_has_enough (others tx lock.holders) queue ≡ true = need-others tx lock.holders queue
-        (gone-without tx lock.queue) ∙ need-without lock.holders tx lock.queue orderly.in_need in
+    (gone-without tx lock.queue) ∙ need-without lock.holders tx lock.queue orderly.in_need in
     served_attend 0 (others tx lock.holders) queue need (waiting-without tx lock.queue orderly.waiting_once) v mode
     (by (or_cases (holds_enough v mode lock.holders) (waits_enough v mode lock.queue) is))
   where
@@ -173,7 +173,7 @@ releases_attend lock tx v mode orderly apart is =
 pub expiries_attend : ExpiriesAttend
 expiries_attend lock tx v mode orderly apart is =
     served_attend 0 lock.holders (without tx lock.queue) (need-without lock.holders tx lock.queue orderly.in_need)
-        (waiting-without tx lock.queue orderly.waiting_once) v mode
+    (waiting-without tx lock.queue orderly.waiting_once) v mode
     (by (or_cases (holds_enough v mode lock.holders) (waits_enough v mode lock.queue) is))
   where
     by : (holds_enough v mode lock.holders ≡ true) ⊎ (waits_enough v mode lock.queue ≡ true)

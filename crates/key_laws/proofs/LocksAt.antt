@@ -17,7 +17,7 @@ pub lock-inserted : (locks : Locks) (key q : List ℕ) (lock : RowLock)
     → lock_at (finite.insert locks key lock) q ≡ (if same_key key q then lock else lock_at locks q)
 lock-inserted locks key q lock =
     ap or_unlocked (finite.get-insert nat_list_cmp_total locks key lock q
-            ∙ ap (λ b. cond b (Some lock) (finite.get locks q)) (tied-same_key q key ∙ same_key-swap q key))
+    ∙ ap (λ b. cond b (Some lock) (finite.get locks q)) (tied-same_key q key ∙ same_key-swap q key))
     ∙ by (same_key key q)
   where
     by : (b : Bool) → or_unlocked (cond b (Some lock) (finite.get locks q)) ≡ (if b then lock else lock_at locks q)
@@ -43,7 +43,7 @@ lock-kept locks key q lock = by (is_idle lock) refl
         → lock_at (kept_if b locks key lock) q ≡ (if same_key key q then lock else lock_at locks q)
     by true idle =
         ap or_unlocked (finite.get-remove nat_list_cmp_total locks key q ∙ ap (λ b. cond b None (finite.get locks q))
-                (tied-same_key q key ∙ same_key-swap q key))
+        (tied-same_key q key ∙ same_key-swap q key))
         ∙ gone (same_key key q) idle
     by false idle = lock-inserted locks key q lock
 

@@ -50,7 +50,7 @@ pub data FromCommitting (node : ℕ) (layout : Layout) (tx : TxId) (t : Transact
   completes : (one : TxId) (key : List ℕ) (epoch next : ℕ) → body ≡ Chain (Committed one key) → awaited ≤ 1
       → turn.over ≡ false → turn.step.state ≡ at_phase t (Completing epoch next)
       → turn.step.effects.sends ≡ (part_effects node tx (phase_sends layout tx (Completing epoch next) t.touched)
-          0).sends → FromCommitting node layout tx t awaited body turn
+      0).sends → FromCommitting node layout tx t awaited body turn
   ends : turn.over ≡ true → Each (λ (o : Outgoing). is_part tx o.body ≡ false) turn.step.effects.sends
       → FromCommitting node layout tx t awaited body turn
 
@@ -60,7 +60,7 @@ pub data FromCompleting (node : ℕ) (layout : Layout) (tx : TxId) (t : Transact
       → AreSilent tx turn.step.effects.sends → FromCompleting node layout tx t turn
   more : (epoch next at : ℕ) → turn.over ≡ false → turn.step.state ≡ at_phase t (Completing epoch next)
       → turn.step.effects.sends ≡ (part_effects node tx (phase_sends layout tx (Completing epoch next) t.touched)
-          at).sends → FromCompleting node layout tx t turn
+      at).sends → FromCompleting node layout tx t turn
   over : turn.over ≡ true → AreSilent tx turn.step.effects.sends → FromCompleting node layout tx t turn
 
 abbrev is_committing : Phase → Bool
@@ -88,8 +88,11 @@ module _ (node : ℕ) (layout : Layout) (tx : TxId) (t : Transaction) where
 
     no_commit : (epoch : ℕ) (phase : Phase) → t.phase ≡ phase → test phase ≡ false
         → CommittedForms node layout tx t epoch R
-    no_commit epoch phase at off = record { enters = λ some. elsewhere phase at off _; ends =
-            λ none. elsewhere phase at off _ }
+    no_commit epoch phase at off = record {
+      enters = λ some. elsewhere phase at off _;
+      ends =
+          λ none. elsewhere phase at off _;
+    }
 
     no_abort : (u : Transaction) (why : AbortCause) → ⊥ → AbortForms node layout tx u why R
     no_abort u why never = record { enters = λ some. absurd never; ends = λ none. absurd never }
@@ -112,11 +115,14 @@ module _ (node : ℕ) (layout : Layout) (tx : TxId) (t : Transaction) where
       committed = λ key e left on at more.
           let same : left ≡ awaited = ap awaited_in (sym at ∙ is) in
           counts tx key e on (grind (arith, nat_tests, more, same)) refl
-              (ap (λ n. at_phase t (Committing e (n - 1))) same) refl;
+          (ap (λ n. at_phase t (Committing e (n - 1))) same) refl;
       committed_all = λ key e left on at last.
           let few : awaited ≤ 1 = grind (arith, nat_tests, last, ap awaited_in (sym at ∙ is)) in
-          record { enters = λ some. completes tx key e (complete.written_count t.touched) on few refl refl refl; ends =
-                  λ none. ends refl (refl, (refl, tt)) };
+          record {
+            enters = λ some. completes tx key e (complete.written_count t.touched) on few refl refl refl;
+            ends =
+                λ none. ends refl (refl, (refl, tt));
+          };
       completed = λ key e left on at more. off _ at refl _;
       completed_all = λ key e left on at last. off _ at refl _;
       rolls_back = λ on undecided unaborted. no_abort is_committing Onward (ap is_committing is) t _

@@ -323,9 +323,9 @@ module _ (start : Start) (es : List HostStep) (e : HostStep) (tx : TxId) (key : 
             let was : of_live tx s.live ≡ Some u = sym live_is ∙ (sym live_now ∙ live) in
             rest_goes start es e tx key come before between transit takes to_home like u
             (circling.going u (live_was ∙ was) early) (ap (tokens_of tx key) sends_are
-                ∙ none_out tx key then.effects.sends still)
+            ∙ none_out tx key then.effects.sends still)
             (inl (ap (λ to. token_of tx key to x.body) to_is ∙ token_for tx key s.node x.body
-                    (others (is_for tx x.body) refl was)))
+            (others (is_for tx x.body) refl was)))
           where
             others : (b : Bool) → is_for tx x.body ≡ b → of_live tx s.live ≡ Some u → is_for tx x.body ≡ false
             others true its was = absurd (let both : None ≡ Some u = sym (deaf its) ∙ was in cc)
@@ -374,7 +374,7 @@ module _ (start : Start) (es : List HostStep) (e : HostStep) (tx : TxId) (key : 
     given_up_not : (id : TxId) (own : List ℕ) → id ≡ tx → x.body ≡ Chain (Abort id own) → ⊥
     given_up_not id own one body_is =
         true_false (sym (aborts_are_of_given_up start es e id own come body_is)
-                ∙ (ap (is_given_up start (logs_of start es)) one ∙ kept))
+        ∙ (ap (is_given_up start (logs_of start es)) one ∙ kept))
 
     no_abort : is_abort tx x.body ≡ false
     no_abort = by (is_abort tx x.body) refl
@@ -416,7 +416,7 @@ module _ (start : Start) (es : List HostStep) (e : HostStep) (tx : TxId) (key : 
         → IsGoing start tx key v t before → Case → IsGoing start tx key w t (joined sent between)
     rows_going t live early going (off apart taken) =
         off_going start es e tx key come before between transit takes t live early (off_here apart)
-            (taken_is None taken) tokens_are going
+        (taken_is None taken) tokens_are going
     rows_going t live early going (asked q body_is q_is own at taken) =
         asked_going start es e tx key come before between transit takes t live early q
         (is_refused (storage_of l) q) x.to.node (event_is ∙ at) q_is own
@@ -429,14 +429,14 @@ module _ (start : Start) (es : List HostStep) (e : HostStep) (tx : TxId) (key : 
         (served_routed q first_is) tokens_are going
     rows_going t live early going (expired_here at taken) =
         expired_going start es e tx key come before between transit takes t live early (ends_here at)
-            (taken_is None taken) tokens_are going
+        (taken_is None taken) tokens_are going
     rows_going t live early going (aborted id own one body_is) = absurd (given_up_not id own one body_is)
     rows_going t live early going (committed id own epoch chain at one body_is) =
         absurd (true_false (sym (commits_are_of_carried_out start es e id own epoch chain at come body_is)
-                    ∙ (ap (is_carried_out start (logs_of start es)) one ∙ undone)))
+        ∙ (ap (is_carried_out start (logs_of start es)) one ∙ undone)))
     rows_going t live early going (completed id own chain at one body_is) =
         absurd (true_false (sym (completions_are_of_carried_out start es e id own chain at come body_is)
-                    ∙ (ap (is_carried_out start (logs_of start es)) one ∙ undone)))
+        ∙ (ap (is_carried_out start (logs_of start es)) one ∙ undone)))
 
     -- before it begins no part of an operation is about
     zero : IsUnborn tx (host_after start es own_home) → NoneAtAll tx key start es come.before before
@@ -460,10 +460,10 @@ module _ (start : Start) (es : List HostStep) (e : HostStep) (tx : TxId) (key : 
     rows_pristine unborn (aborted id own one body_is) = absurd (given_up_not id own one body_is)
     rows_pristine unborn (committed id own epoch chain at one body_is) =
         absurd (true_false (sym (commits_are_of_carried_out start es e id own epoch chain at come body_is)
-                    ∙ (ap (is_carried_out start (logs_of start es)) one ∙ undone)))
+        ∙ (ap (is_carried_out start (logs_of start es)) one ∙ undone)))
     rows_pristine unborn (completed id own chain at one body_is) =
         absurd (true_false (sym (completions_are_of_carried_out start es e id own chain at come body_is)
-                    ∙ (ap (is_carried_out start (logs_of start es)) one ∙ undone)))
+        ∙ (ap (is_carried_out start (logs_of start es)) one ∙ undone)))
 
     rows_circles : Now
     rows_circles = record {

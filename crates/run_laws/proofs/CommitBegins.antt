@@ -48,8 +48,8 @@ pub data Begins (node : ℕ) (layout : Layout) (tx : TxId) (t : Transaction) (tu
   commits : (epoch : ℕ) → t.phase ≡ Verifying → turn.over ≡ false → turn.step.state ≡ at_phase t
       (Committing epoch (length t.touched))
       → turn.step.effects.sends ≡ (part_effects node tx
-          (phase_sends layout tx (Committing epoch (length t.touched)) t.touched) 0).sends
-              → Begins node layout tx t turn
+      (phase_sends layout tx (Committing epoch (length t.touched)) t.touched) 0).sends
+      → Begins node layout tx t turn
 
 module _ (node : ℕ) (layout : Layout) (tx : TxId) where
   -- what an abort sends first
@@ -59,24 +59,28 @@ module _ (node : ℕ) (layout : Layout) (tx : TxId) where
   unfolding phase_sends front_sends key_sends
   all_back why verifying awaited touched =
       each_flat (λ (o : Outgoing). is_back tx o.body ≡ true)
-          (key_sends layout tx (Aborting why verifying awaited)) touched
+      (key_sends layout tx (Aborting why verifying awaited)) touched
       (λ u. each_mapped (λ (o : Outgoing). is_back tx o.body ≡ true) (abort_of tx u.key)
-          (chain_of layout u.key) (λ r. same_tx-self tx))
+      (chain_of layout u.key) (λ r. same_tx-self tx))
 
   part_back : (t : Transaction) (turn : Turn) (xs : List Outgoing) → Each (λ (o : Outgoing). is_back tx o.body ≡ true)
       xs → turn.step.effects.sends ≡ (part_effects node tx xs 0).sends → Begins node layout tx t turn
   unfolding part_effects
   part_back t turn [] all is = silent (subst (AreSilent tx) (sym is) tt)
   part_back t turn (x ∷ xs) all is =
-      backs (record { first = x; more = take 7 xs ++ rest_if node tx 0 (nat_lt (0 + 8) (length (x ∷ xs)));
-                  is = is; aborts = all.0 })
+      backs (record {
+        first = x;
+        more = take 7 xs ++ rest_if node tx 0 (nat_lt (0 + 8) (length (x ∷ xs)));
+        is = is;
+        aborts = all.0;
+      })
 
   enter_back : (t own : Transaction) (why : AbortCause) (verifying : Bool) (awaited : ℕ)
       → Begins node layout tx own (going (entering node layout tx t (Aborting why verifying awaited)))
   unfolding entering
   enter_back t own why verifying awaited =
       part_back own _ (phase_sends layout tx (Aborting why verifying awaited) t.touched)
-          (all_back why verifying awaited t.touched) refl
+      (all_back why verifying awaited t.touched) refl
 
   end_silent : (why : AbortCause) (b : Bool) → AreSilent tx (abort.abort_end node tx why b)
   end_silent why true = (refl, (refl, tt))
@@ -110,9 +114,9 @@ module _ (node : ℕ) (layout : Layout) (tx : TxId) where
       operates = λ op is can. silent (refl, tt);
       answers = λ key answer asked is on at. silent (refl, tt);
       late = λ key asked why verifying awaited on at. silent (each_mapped (λ (o : Outgoing). is_sign tx o.body ≡ false)
-              (abort_of tx key) (chain_of layout key) (λ r. refl));
+          (abort_of tx key) (chain_of layout key) (λ r. refl));
       waits = λ asked is on. silent (each_mapped (λ (o : Outgoing). is_sign tx o.body ≡ false)
-              (wait_of tx (key_of asked.op)) asked.chain (λ r. refl));
+          (wait_of tx (key_of asked.op)) asked.chain (λ r. refl));
       decides = λ is ready. silent (refl, tt);
       commits = λ epoch is at some. commits epoch at refl refl refl;
       commits_none = λ epoch is at none. record {

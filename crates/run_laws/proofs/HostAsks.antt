@@ -57,7 +57,7 @@ module _ (tx : TxId) where
       → Each (λ (o : Outgoing). OpsOf ops o.body) sends
   none_ops ops sends none =
       each_map (λ (o : Outgoing). ask tx o.to o.body ≡ 0) (λ (o : Outgoing). OpsOf ops o.body) sends
-          (λ o is. zero_ops ops o.body is) (none_weighs (λ (o : Outgoing). ask tx o.to o.body) sends none)
+      (λ o is. zero_ops ops o.body is) (none_weighs (λ (o : Outgoing). ask tx o.to o.body) sends none)
 
   -- signals that ask for no epoch, and give one to the transaction at most where one was asked for
   pub record PassesOn (body : Body) (sends : List Outgoing) : Type 0 where
@@ -72,7 +72,7 @@ module _ (tx : TxId) where
 
   api_pass : (s : ApiState) (body : Body) → PassesOn body (api_table s body).effects.sends
   api_pass s body = mute_pass body (api_table s body).effects.sends (api_each (λ (o : Outgoing). is_mute o.body ≡ true)
-          (λ o is. plain o.body is) (λ name node. refl) s body)
+      (λ o is. plain o.body is) (λ name node. refl) s body)
     where
       plain : (b : Body) → is_api_kind b ≡ true → is_mute b ≡ true
       plain (Epoch (DiVerifyReq other ops)) is = absurd cc
@@ -82,7 +82,7 @@ module _ (tx : TxId) where
   lqh_pass : (s : LqhState) (body : Body) → PassesOn body (lqh_table s body).effects.sends
   lqh_pass s body = mute_pass body (lqh_table s body).effects.sends
       (each_of is_lqh_kind (λ (o : Outgoing). is_mute o.body ≡ true) (λ o is. plain o.body is)
-          (lqh_table s body).effects.sends (lqh_kinds s body))
+      (lqh_table s body).effects.sends (lqh_kinds s body))
     where
       plain : (b : Body) → is_lqh_kind b ≡ true → is_mute b ≡ true
       plain (Epoch (DiVerifyReq other ops)) is = absurd cc
@@ -152,8 +152,12 @@ module _ (tx : TxId) where
 
         by : TurnAsks (tc_row (tc_of s) x) → HostAsks s x t.state t.effects.sends
         by (turn.idle live unasked deaf) =
-            leaves (record { passes = none_pass x.body t.effects.sends (none unasked); live =
-                        now ∙ live; unborn = unborn })
+            leaves (record {
+              passes = none_pass x.body t.effects.sends (none unasked);
+              live =
+                  now ∙ live;
+              unborn = unborn;
+            })
         by (turn.turns u was its told is) =
             turned step.runs u (turn_for (tc_of s).node (tc_of s).layout tx x.body u) was (now ∙ is) (sent ∙ told)
             (tc_speaks s x step.runs step.at ∙ told) unborn (turn_asks tx (tc_of s).node (tc_of s).layout u x.body its)
@@ -167,7 +171,7 @@ module _ (tx : TxId) where
     asks_by t home rises (tc_takes step) =
         tc_step t step rises
         (tc_turn (λ (o : Outgoing). is_ask tx o.body ≡ false) tx (tc_of s) (beside_mute tx (tc_of s))
-            home.own home.once x.body
+        home.own home.once x.body
         (others_mute tx (tc_of s) x.body))
     asks_by t home rises (dih_takes step) =
         other_leaves t step.tc (dih_table (dih_of s) x.body).effects step.effects (dih_pass (dih_of s) x.body)
@@ -175,7 +179,7 @@ module _ (tx : TxId) where
         other_leaves t step.tc (lqh_table (lqh_of s) x.body).effects step.effects (lqh_pass (lqh_of s) x.body)
     asks_by t home rises (none_takes step) =
         other_leaves t (ap (λ (u : Step Host). tc_of u.state) step.is) nothing
-            (ap (λ (u : Step Host). u.effects) step.is)
+        (ap (λ (u : Step Host). u.effects) step.is)
         (none_pass x.body [] refl)
 
     pub host_asks : IsHome tx (tc_of s) → HostAsks s x (row s x).state (row s x).effects.sends

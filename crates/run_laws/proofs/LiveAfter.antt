@@ -38,7 +38,7 @@ module _ (tx : TxId) where
   absent node next live own other =
       tally_none (is_keyed tx) live
       (each_map (λ (e : TxId × Transaction). IsOwn node next e.0)
-          (λ (e : TxId × Transaction). same_tx e.0 tx ≡ false) live
+      (λ (e : TxId × Transaction). same_tx e.0 tx ≡ false) live
       (λ e is. by e.0 is (same_tx e.0 tx) refl) own)
     where
       by : (v : TxId) → IsOwn node next v → (b : Bool) → same_tx v tx ≡ b → same_tx v tx ≡ false

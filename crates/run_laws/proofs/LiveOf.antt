@@ -20,7 +20,7 @@ pub of_here : (tx one : TxId) (t : Transaction) (front back : List (TxId × Tran
     → same_tx one tx ≡ true → of_live tx (front ++ (one, t) ∷ back) ≡ Some t
 of_here tx one t front back none same =
     subst (λ k. of_live tx (front ++ (k, t) ∷ back) ≡ Some t) (sym (same_tx-is one tx same))
-        (of_between front back tx t (uncounted_others tx front none))
+    (of_between front back tx t (uncounted_others tx front none))
 
 -- what holds of each holds of it
 pub of_each : (P : TxId → Transaction → Type 0) (tx : TxId) (live : List (TxId × Transaction)) (t : Transaction)

@@ -127,7 +127,7 @@ granted_plain_value s at None = refl
 granted_plain_value s at (Some r) =
     let left = with_waiting s (remove s.waiting at) in
     of_append is_plain (operate.performed left r).effects.sends (operate.more_granted left)
-        (perform_plain (storage_of left) r)
+    (perform_plain (storage_of left) r)
     (granted_plain s.node (is_some (operate.first_granted left.locks left.waiting)))
 
 granted_plain_by : (s : LqhState) (at : Option ℕ) → SendsOnly is_plain (operate.granted_by s at)
@@ -154,7 +154,7 @@ expire_plain_by s None = refl
 expire_plain_by s (Some w) =
     let served = unwaited_at s.locks w.1 w.0 in
     of_append is_plain (serve_granted s.node served) (expire.more_expired (with_lock s w.1 served))
-        (granted_plain s.node (nat_lt 0 served.granted))
+    (granted_plain s.node (nat_lt 0 served.granted))
     (expired_plain s.node (is_some (expired (with_lock s w.1 served).locks)))
 
 expire_plain : (s : LqhState) → SendsOnly is_plain (expire.expire_row s)
@@ -227,34 +227,40 @@ module _ (s : LqhState) (tx : TxId) where
     commit_each : (P : Outgoing → Type 0) → ((o : Outgoing) → is_plain o.body ≡ true → P o)
         → ((at == 0) ≡ true → P (to_place (coordinator_of other) (Chain (Committed other key))))
         → ((at == 0) ≡ false
-            → P (to_place (rows_of (node_at chain (at - 1))) (Chain (Commit other key epoch chain (at - 1)))))
-            → Each P (commit.commit_row s other key epoch chain at).effects.sends
+        → P (to_place (rows_of (node_at chain (at - 1))) (Chain (Commit other key epoch chain (at - 1)))))
+        → Each P (commit.commit_row s other key epoch chain at).effects.sends
     unfolding commit.commit_row
     commit_each P plain last next = by (at == 0) refl
       where
         by : (b : Bool) → (at == 0) ≡ b
             → Each P (commit.told_if (commit.applied s other key epoch (record_state s.rows other key)) other key epoch
-                chain at (record_state s.rows other key) b).effects.sends
-        by true e = (last e, serving_each P (commit.applied s other key epoch (record_state s.rows other key)).node
-                (nat_lt 0 (freed_lock (commit.applied s other key epoch (record_state s.rows other key))
-                        other key).granted) plain)
+            chain at (record_state s.rows other key) b).effects.sends
+        by true e = (
+          last e,
+          serving_each P (commit.applied s other key epoch (record_state s.rows other key)).node
+              (nat_lt 0 (freed_lock (commit.applied s other key epoch (record_state s.rows other key))
+              other key).granted) plain,
+        )
         by false e = (next e, tt)
 
     commit_weigh : (w : Outgoing → ℕ) → ((o : Outgoing) → is_plain o.body ≡ true → w o ≡ 0)
         → weigh w (commit.commit_row s other key epoch chain at).effects.sends
         ≡ (if at == 0 then w (to_place (coordinator_of other) (Chain (Committed other key))) else
-                w (to_place (rows_of (node_at chain (at - 1))) (Chain (Commit other key epoch chain (at - 1)))))
+        w (to_place (rows_of (node_at chain (at - 1))) (Chain (Commit other key epoch chain (at - 1)))))
     unfolding commit.commit_row
     commit_weigh w plain = by (at == 0)
       where
         by : (b : Bool)
             → weigh w (commit.told_if (commit.applied s other key epoch (record_state s.rows other key)) other key epoch
-                chain at (record_state s.rows other key) b).effects.sends
+            chain at (record_state s.rows other key) b).effects.sends
             ≡ (if b then w (to_place (coordinator_of other) (Chain (Committed other key))) else
-                    w (to_place (rows_of (node_at chain (at - 1))) (Chain (Commit other key epoch chain (at - 1)))))
-        by true = omega (arith, serving_none w (commit.applied s other key epoch (record_state s.rows other key)).node
-                (nat_lt 0 (freed_lock (commit.applied s other key epoch (record_state s.rows other key))
-                        other key).granted) plain)
+            w (to_place (rows_of (node_at chain (at - 1))) (Chain (Commit other key epoch chain (at - 1)))))
+        by true = omega (
+          arith,
+          serving_none w (commit.applied s other key epoch (record_state s.rows other key)).node
+              (nat_lt 0 (freed_lock (commit.applied s other key epoch (record_state s.rows other key))
+              other key).granted) plain,
+        )
         by false = omega arith
 
     complete_each : (P : Outgoing → Type 0) → ((o : Outgoing) → is_plain o.body ≡ true → P o)
@@ -272,15 +278,19 @@ module _ (s : LqhState) (tx : TxId) where
   rest_weighs count body e =
       weigh_none (λ (o : Outgoing). weight tx count o.to o.body) (lqh_table s body).effects.sends
       (each_map (λ (o : Outgoing). is_sign tx o.body ≡ false) (λ (o : Outgoing). weight tx count o.to o.body ≡ 0)
-          (lqh_table s body).effects.sends (λ o f. part_weight tx count o.to o.body (sign_part tx o.body f))
-          (other_silent body e))
+      (lqh_table s body).effects.sends (λ o f. part_weight tx count o.to o.body (sign_part tx o.body f))
+      (other_silent body e))
 
   -- what a replica sends on weighs no more
   pub lqh_weighs : (count : ℕ) (to : Place) (body : Body)
       → in_sends (weight tx count) (lqh_table s body).effects.sends ≤ weight tx count to body
   lqh_weighs count to (Chain (Commit other key epoch chain at)) =
-      omega (arith, commit_weigh other key epoch chain at (λ o. weight tx count o.to o.body)
-              (λ o e. part_weight tx count o.to o.body (plain_part o e)), by (at == 0))
+      omega (
+        arith,
+        commit_weigh other key epoch chain at (λ o. weight tx count o.to o.body)
+            (λ o e. part_weight tx count o.to o.body (plain_part o e)),
+        by (at == 0),
+      )
     where
       by : (b : Bool) → (if b then one_if (same_tx other tx) else one_if (same_tx other tx)) ≡ one_if (same_tx other tx)
       by true = refl
@@ -291,7 +301,7 @@ module _ (s : LqhState) (tx : TxId) where
         weigh_none (λ (o : Outgoing). weight tx count o.to o.body)
             (complete.complete_row s other key chain at).effects.sends
             (complete_each other key 0 chain at (λ o. weight tx count o.to o.body ≡ 0)
-                (λ o e. part_weight tx count o.to o.body (plain_part o e)) refl),
+            (λ o e. part_weight tx count o.to o.body (plain_part o e)) refl),
       )
   lqh_weighs count to body = omega (arith, rest_weighs count body refl)
 
@@ -324,17 +334,38 @@ module _ (s : LqhState) (tx : TxId) where
           → (one_if (is_lqh to.block && (same_tx other tx && same_key own key)) ≤ Sent) ⊎ IsLast tx key
           (Chain (Commit other own epoch chain at))
       by false e x p y q =
-          inl (omega (arith, weighs, ap (λ b. if b then 0 else one_if (same_tx other tx && same_key own key)) e, few
-                      (is_lqh to.block) (same_tx other tx && same_key own key)))
+          inl (omega (
+            arith,
+            weighs,
+            ap (λ b. if b then 0 else one_if (same_tx other tx && same_key own key)) e,
+            few
+                (is_lqh to.block) (same_tx other tx && same_key own key),
+          ))
       by true e true p true q =
-          inr (record { one = other; own = own; epoch = epoch; chain = chain; at = at; is = refl; same_one =
-                      p; same_own = q; last = e })
+          inr (record {
+            one = other;
+            own = own;
+            epoch = epoch;
+            chain = chain;
+            at = at;
+            is = refl;
+            same_one =
+                p;
+            same_own = q;
+            last = e;
+          })
       by true e true p false q =
-          inl (omega (arith, none (is_lqh to.block) (same_tx other tx) (same_key own key)
-                      (off_right (same_tx other tx) (same_key own key) q)))
+          inl (omega (
+            arith,
+            none (is_lqh to.block) (same_tx other tx) (same_key own key)
+                (off_right (same_tx other tx) (same_key own key) q),
+          ))
       by true e false p y q =
-          inl (omega (arith, none (is_lqh to.block) (same_tx other tx) (same_key own key)
-                      (ap (λ b. b && same_key own key) p)))
+          inl (omega (
+            arith,
+            none (is_lqh to.block) (same_tx other tx) (same_key own key)
+                (ap (λ b. b && same_key own key) p),
+          ))
   lqh_covers key i to (Host (Continue (work.Transaction other) at)) home =
       inl (omega (arith, ap (λ b. one_if ((is_tc b && (to.node == tx.tc)) && (same_tx other tx && nat_le at i))) home))
   lqh_covers key i to _ home = inl (omega arith)
@@ -343,20 +374,20 @@ module _ (s : LqhState) (tx : TxId) where
   pub lqh_tells : (Spread SpreadOn : List ℕ → List Member → ℕ → Type 0) (AtAll : List ℕ → Type 0) (body : Body)
       → Tells tx Spread AtAll body
       → ((one : TxId) (own : List ℕ) (epoch : ℕ) (chain : List Member) (at : ℕ)
-          → body ≡ Chain (Commit one own epoch chain at)
-          → same_tx one tx ≡ true → (at == 0) ≡ false → Spread own chain at → SpreadOn own chain (at - 1))
+      → body ≡ Chain (Commit one own epoch chain at)
+      → same_tx one tx ≡ true → (at == 0) ≡ false → Spread own chain at → SpreadOn own chain (at - 1))
       → Each (λ (o : Outgoing). Tells tx SpreadOn AtAll o.body) (lqh_table s body).effects.sends
   lqh_tells Spread SpreadOn AtAll (Chain (Commit other own epoch chain at)) tells next =
       commit_each other own epoch chain at (λ o. Tells tx SpreadOn AtAll o.body)
-          (λ o e. part_tells tx SpreadOn AtAll o.body (plain_part o e)) (λ e. tt)
+      (λ o e. part_tells tx SpreadOn AtAll o.body (plain_part o e)) (λ e. tt)
       (λ e same. next other own epoch chain at refl same e (tells same))
   lqh_tells Spread SpreadOn AtAll (Chain (Complete other own chain at)) tells next =
       complete_each other own 0 chain at (λ o. Tells tx SpreadOn AtAll o.body)
-          (λ o e. part_tells tx SpreadOn AtAll o.body (plain_part o e))
+      (λ o e. part_tells tx SpreadOn AtAll o.body (plain_part o e))
       (λ same. tells same)
   lqh_tells Spread SpreadOn AtAll body tells next =
       each_map (λ (o : Outgoing). is_sign tx o.body ≡ false) (λ (o : Outgoing). Tells tx SpreadOn AtAll o.body)
-          (lqh_table s body).effects.sends
+      (lqh_table s body).effects.sends
       (λ o e. part_tells tx SpreadOn AtAll o.body (sign_part tx o.body e)) (other_silent body refl)
 
   -- where none of the transaction comes none is sent

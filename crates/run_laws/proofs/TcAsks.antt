@@ -92,9 +92,9 @@ module _ (tx : TxId) where
     asks_forms : (body : Body) → TurnForms node layout tx t body Asks
     asks_forms body =
         turn_goes tx (Unit {0}) Asks node layout t body
-            (λ turn goes. inl (all_mute tx turn.step.effects.sends goes.sends))
+        (λ turn goes. inl (all_mute tx turn.step.effects.sends goes.sends))
         (λ is ready. let was = ready_is t.phase t.asked ready in
-            inr (record { node = node; was = was.0; free = was.1; left = refl; is = refl }))
+        inr (record { node = node; was = was.0; free = was.1; left = refl; is = refl }))
         (λ is. tt) (λ epoch is. tt)
 
     -- what becomes of it where it waits for its epoch
@@ -106,7 +106,7 @@ module _ (tx : TxId) where
         → abort.is_verifying phase ≡ false → Late body turn
     other_phase body turn phase at off = record {
       late = λ waits none. absurd (let both : true ≡ false = sym (ap abort.is_verifying waits)
-              ∙ (ap abort.is_verifying at ∙ off) in cc);
+          ∙ (ap abort.is_verifying at ∙ off) in cc);
     }
 
     -- nor with an operation unanswered
@@ -134,8 +134,11 @@ module _ (tx : TxId) where
       waits = λ asked on. still_asked body _ asked on;
       decides = λ is ready. other_phase body _ Open (ready_is t.phase t.asked ready).0 refl;
       commits = λ epoch is at some. given body _ epoch is;
-      commits_none = λ epoch is at. record { enters = λ some. given body _ epoch is; ends =
-              λ none. given body _ epoch is };
+      commits_none = λ epoch is at. record {
+        enters = λ some. given body _ epoch is;
+        ends =
+            λ none. given body _ epoch is;
+      };
       committed = λ epoch awaited at more. other_phase body _ _ at refl;
       committed_all = λ epoch awaited at. other_committed body epoch _ at refl;
       completed = λ epoch awaited at more. other_phase body _ _ at refl;
@@ -145,11 +148,16 @@ module _ (tx : TxId) where
           late = λ waits none. inr
               (inr (enters_told tx node layout t _ _ _ (subst (HasTouchedAsked t.touched) (sym none) tt) some));
         };
-        ends = λ nothing. record { late =
-                λ waits none. inr (inr (end_gives_up tx node _ (abort.is_verifying t.phase))) };
+        ends = λ nothing. record {
+          late =
+              λ waits none. inr (inr (end_gives_up tx node _ (abort.is_verifying t.phase)));
+        };
       };
-      refuses = λ key why asked is on at. record { enters = λ some. still_asked body _ asked on; ends =
-              λ none. still_asked body _ asked on };
+      refuses = λ key why asked is on at. record {
+        enters = λ some. still_asked body _ asked on;
+        ends =
+            λ none. still_asked body _ asked on;
+      };
       aborted = λ why verifying awaited at more. other_phase body _ _ at refl;
       aborted_all = λ why verifying awaited at last. other_phase body _ _ at refl;
     }
@@ -158,7 +166,7 @@ module _ (tx : TxId) where
     turn_asks body is = record {
       sends = turn_each node layout tx body t Asks (rows_of node layout tx t body Asks (asks_forms body)) is;
       late = (turn_each node layout tx body t (Late body)
-              (rows_of node layout tx t body (Late body) (late_forms body)) is).late;
+          (rows_of node layout tx t body (Late body) (late_forms body)) is).late;
     }
 
 -- how many signals ask for an epoch for the transaction, or give it one
@@ -179,7 +187,7 @@ mute_each : (tx : TxId) (sends : List Outgoing) → AreMute sends
     → Each (λ (o : Outgoing). is_ask tx o.body ≡ false) sends
 mute_each tx sends =
     each_map (λ (o : Outgoing). is_mute o.body ≡ true) (λ (o : Outgoing). is_ask tx o.body ≡ false) sends
-        (λ o. mute_ask tx o.body)
+    (λ o. mute_ask tx o.body)
 
 pub mute_none : (tx : TxId) (sends : List Outgoing) → AreMute sends → in_sends (ask tx) sends ≡ 0
 mute_none tx sends mute = unasked_none tx sends (mute_each tx sends mute)

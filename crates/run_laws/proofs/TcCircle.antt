@@ -106,13 +106,13 @@ module _ (tx : TxId) (t : Transaction) where
       by u early false is =
           let same : turn.step.state ≡ u = cc in
           absurd (let both : true ≡ false = sym early
-                  ∙ (ap (λ (w : Transaction). is_early w.phase) (sym same) ∙ closed) in cc)
+          ∙ (ap (λ (w : Transaction). is_early w.phase) (sym same) ∙ closed) in cc)
 
   -- or over
   over_goes : (body : Body) (turn : Turn) → turn.over ≡ true → GoesOn tx body t turn
   over_goes body turn over = record {
     goes = λ u is early. absurd (let none : None ≡ Some u =
-            sym (ap (λ b. if b then None else Some turn.step.state) over) ∙ is in cc);
+        sym (ap (λ b. if b then None else Some turn.step.state) over) ∙ is in cc);
   }
 
   answer_going : (layout : Layout) (own : List ℕ) (answer : Answer)
@@ -130,7 +130,7 @@ module _ (tx : TxId) (t : Transaction) where
         goes = λ u is early.
             let same : operate.answered t asked answer ≡ u = cc in
             notes asked answer own refl on p (ap (λ (w : Transaction). w.ops) (sym same))
-                (ap (λ (w : Transaction). w.asked) (sym same))
+            (ap (λ (w : Transaction). w.asked) (sym same))
             (ap (λ (w : Transaction). w.phase) (sym same) ∙ p) (refl, tt);
       }
       by (Some asked) (Aborting why verifying awaited) on p = closed_goes body _ (ap is_early p)
@@ -168,8 +168,11 @@ module _ (tx : TxId) (t : Transaction) where
   module _ (node : ℕ) (layout : Layout) where
     committed_forms : (body : Body) (epoch : ℕ) → CommittedForms node layout tx t epoch (GoesOn tx body t)
     unfolding entering
-    committed_forms body epoch = record { enters = λ some. closed_goes body _ refl; ends =
-            λ none. over_goes body _ refl }
+    committed_forms body epoch = record {
+      enters = λ some. closed_goes body _ refl;
+      ends =
+          λ none. over_goes body _ refl;
+    }
 
     abort_forms : (body : Body) (u : Transaction) (why : AbortCause)
         → AbortForms node layout tx u why (GoesOn tx body t)
@@ -188,7 +191,7 @@ module _ (tx : TxId) (t : Transaction) where
       operates = λ op is can. record {
         goes = λ u left early.
             let ready = ready_is t.phase t.asked (and_parts (operate.is_ready t.phase t.asked)
-                    (fits t.touched (key_of op)) can).0 in
+            (fits t.touched (key_of op)) can).0 in
             let same : (operate.operating tx t op (chain_of layout (key_of op))).state ≡ u = cc in
             operates op (chain_of layout (key_of op)) ready.1 ready.0 (ap (λ (w : Transaction). w.ops) (sym same))
             (ap (λ (w : Transaction). w.asked) (sym same))
@@ -202,7 +205,7 @@ module _ (tx : TxId) (t : Transaction) where
             let ready = ready_is t.phase t.asked can in
             let same : (commit.decide_if node tx t true).state ≡ u = cc in
             verifies ready.1 ready.0 (ap (λ (w : Transaction). w.ops) (sym same))
-                (ap (λ (w : Transaction). w.asked) (sym same) ∙ ready.1)
+            (ap (λ (w : Transaction). w.asked) (sym same) ∙ ready.1)
             (ap (λ (w : Transaction). w.phase) (sym same)) (refl, tt);
       };
       commits = λ epoch is at some. closed_goes body _ refl;
@@ -223,12 +226,12 @@ module _ (tx : TxId) (t : Transaction) where
     pub turn_going : (body : Body) → is_for tx body ≡ true → GoesOn tx body t (turn_for node layout tx body t)
     turn_going (Chain (LqhKeyConf one own answer)) is =
         subst (λ v. GoesOn tx (Chain (LqhKeyConf v own answer)) t
-                (turn_for node layout tx (Chain (LqhKeyConf one own answer)) t))
+        (turn_for node layout tx (Chain (LqhKeyConf one own answer)) t))
         (sym (same_tx-is one tx is)) (answer_going layout own answer)
     turn_going (Chain (LqhKeyRef one own why)) is =
         subst (λ v. GoesOn tx (Chain (LqhKeyRef v own why)) t
-                (turn_for node layout tx (Chain (LqhKeyRef one own why)) t))
+        (turn_for node layout tx (Chain (LqhKeyRef one own why)) t))
         (sym (same_tx-is one tx is)) (refuse_going node layout own why)
     turn_going body is =
         turn_each node layout tx body t (GoesOn tx body t) (rows_each node layout tx t body (GoesOn tx body t)
-                (going_forms body refl)) is
+        (going_forms body refl)) is

@@ -62,9 +62,9 @@ pub others_silent : (tx : TxId) (s : TcState) (body : Body)
     → OthersSend (λ (o : Outgoing). is_sign tx o.body ≡ false) tx s body
 others_silent tx s body one off its t =
     each_of (is_own one) (λ o. is_sign tx o.body ≡ false) (λ o e. own_sign one tx off o.body e)
-        (turn_for s.node s.layout one body t).step.effects.sends
+    (turn_for s.node s.layout one body t).step.effects.sends
     (turn_each s.node s.layout one body t (TurnOnly (is_own one))
-        (own_kinds (is_own one) one body (own one body) s.node s.layout t) its)
+    (own_kinds (is_own one) one body (own one body) s.node s.layout t) its)
 
 pub beside_silent : (tx : TxId) (s : TcState) → SendsBeside (λ (o : Outgoing). is_sign tx o.body ≡ false) s
 beside_silent tx s = record { full = λ name. (refl, tt); begins = λ name. (refl, tt); passes = λ one ahead. (refl, tt) }

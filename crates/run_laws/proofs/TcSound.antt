@@ -111,8 +111,14 @@ module _ (s : TcState) (bs : List TxId) (n : IsSound s bs) where
         → Each (IsOwned s.node s.next_seq (put_ways back_by sends bs)) xs
     still_owned sends xs all =
         each_map (IsOwned s.node s.next_seq bs) (IsOwned s.node s.next_seq (put_ways back_by sends bs)) xs
-        (λ x is. record { home = is.home; below = is.below; right = is.right; touched = is.touched; given =
-                λ on. back_more (same_tx x.0) sends bs (is.given on) }) all
+        (λ x is. record {
+          home = is.home;
+          below = is.below;
+          right = is.right;
+          touched = is.touched;
+          given =
+              λ on. back_more (same_tx x.0) sends bs (is.given on);
+        }) all
 
     own : IsOwned s.node s.next_seq bs (tx, t)
     own = back_owned.0
@@ -130,18 +136,26 @@ module _ (s : TcState) (bs : List TxId) (n : IsSound s bs) where
       live = subst (Each (IsOwned s.node s.next_seq (put_ways back_by turn.step.effects.sends bs)))
           (sym (split.set turn.step.state))
           (each_append (IsOwned s.node s.next_seq (put_ways back_by turn.step.effects.sends bs)) split.front
-              ((tx, turn.step.state) ∷ split.back) (still_owned turn.step.effects.sends split.front front_owned)
-          (record { home = own.home; below = own.below; right = is.right; touched = is.aborts.touched; given =
-                  λ on. given_now turn (is.aborts.aborts on) }, still_owned turn.step.effects.sends
-                      split.back back_owned.1));
+          ((tx, turn.step.state) ∷ split.back) (still_owned turn.step.effects.sends split.front front_owned) (
+            record {
+              home = own.home;
+              below = own.below;
+              right = is.right;
+              touched = is.aborts.touched;
+              given =
+                  λ on. given_now turn (is.aborts.aborts on);
+            },
+            still_owned turn.step.effects.sends
+                split.back back_owned.1,
+          ));
       begun = each_back (λ (v : TxId). v.seq < s.next_seq) tx turn.step.effects.sends bs is.gives own.below n.begun;
     }
     turn_sound turn is true = record {
       once = subst KeysOnce (sym split.gone) (once_gone split.front split.back tx t once_split);
       live = subst (Each (IsOwned s.node s.next_seq (put_ways back_by turn.step.effects.sends bs))) (sym split.gone)
           (each_append (IsOwned s.node s.next_seq (put_ways back_by turn.step.effects.sends bs)) split.front split.back
-              (still_owned turn.step.effects.sends split.front front_owned)
-              (still_owned turn.step.effects.sends split.back back_owned.1));
+          (still_owned turn.step.effects.sends split.front front_owned)
+          (still_owned turn.step.effects.sends split.back back_owned.1));
       begun = each_back (λ (v : TxId). v.seq < s.next_seq) tx turn.step.effects.sends bs is.gives own.below n.begun;
     }
 
@@ -151,8 +165,14 @@ module _ (s : TcState) (bs : List TxId) (n : IsSound s bs) where
     live = each_inserted (IsOwned s.node (s.next_seq + 1) bs) s.live (next_tx s) fresh others
         (record { home = refl; below = omega arith; right = refl; touched = tt; given = λ is. absurd cc })
         (each_map (IsOwned s.node s.next_seq bs) (IsOwned s.node (s.next_seq + 1) bs) s.live
-            (λ x is. record { home = is.home; below = omega (arith, is.below); right = is.right; touched =
-                    is.touched; given = is.given }) n.live);
+        (λ x is. record {
+          home = is.home;
+          below = omega (arith, is.below);
+          right = is.right;
+          touched =
+              is.touched;
+          given = is.given;
+        }) n.live);
     begun = each_map (λ (v : TxId). v.seq < s.next_seq) (λ (v : TxId). v.seq < s.next_seq + 1) bs
         (λ v lt. omega (arith, lt)) n.begun;
   }
@@ -161,7 +181,7 @@ module _ (s : TcState) (bs : List TxId) (n : IsSound s bs) where
       lower w lt =
           let off : nat_eq w.seq s.next_seq ≡ false = ne_eqb w.seq s.next_seq (λ same. omega (arith, lt, same)) in
           and_right (nat_eq w.tc s.node) (nat_eq w.start s.start && nat_eq w.seq s.next_seq)
-              (and_right (nat_eq w.start s.start) (nat_eq w.seq s.next_seq) off)
+          (and_right (nat_eq w.start s.start) (nat_eq w.seq s.next_seq) off)
 
       others : Each (λ (x : TxId × Transaction). same_tx x.0 (next_tx s) ≡ false) s.live
       others = each_map (IsOwned s.node s.next_seq bs) (λ (x : TxId × Transaction). same_tx x.0 (next_tx s) ≡ false)
@@ -177,9 +197,9 @@ module _ (s : TcState) (bs : List TxId) (n : IsSound s bs) where
             (tokens_forms s.node s.layout tx t (own tx t at split).right 1 body (λ key answer is. omega arith)))
             (rows_both s.node s.layout tx t body (λ turn. TurnAborts tx t turn) (λ turn. TurnWays tx t.phase turn)
             (rows_of s.node s.layout tx t body (λ turn. TurnAborts tx t turn)
-                (turn_aborts s.node s.layout tx t (own tx t at split).touched body))
+            (turn_aborts s.node s.layout tx t (own tx t at split).touched body))
             (rows_of s.node s.layout tx t body (λ turn. TurnWays tx t.phase turn)
-                (turn_ways tx s.node s.layout t body)));
+            (turn_ways tx s.node s.layout t body)));
         turned = λ tx t at split turn both. turn_sound tx t at split turn
             (of_turn tx t turn both.0 both.1.0 both.1.1) turn.over;
         stays = n;
@@ -204,19 +224,25 @@ host_sound s x bs is = by (tc_says s x)
     by (takes step says) =
         subst (λ sends. IsSound (tc_of (row s x).state) (put_ways back_by sends bs)) (sym says)
         (subst (λ t. IsSound t (put_ways back_by (tc_row (tc_of s) x).effects.sends bs)) (sym step.state)
-            (tc_sound (tc_of s) bs is x.body))
+        (tc_sound (tc_of s) bs is x.body))
     by (rests state says) =
         subst (λ sends. IsSound (tc_of (row s x).state) (put_ways back_by sends bs)) (sym says)
-            (subst (λ t. IsSound t bs) (sym state) is)
+        (subst (λ t. IsSound t bs) (sym state) is)
 
 started_sound : (start : Start) (h : ℕ) → IsSoundHost (started start h) []
 started_sound start h = record {
-  tc = record { once = subst KeysOnce (sym (first_live start h)) tt; live =
-          subst (Each (IsOwned (tc_of (started start h)).node (tc_of (started start h)).next_seq []))
-              (sym (first_live start h)) tt; begun = tt };
+  tc = record {
+    once = subst KeysOnce (sym (first_live start h)) tt;
+    live =
+        subst (Each (IsOwned (tc_of (started start h)).node (tc_of (started start h)).next_seq []))
+        (sym (first_live start h)) tt;
+    begun = tt;
+  };
   asks = let unasked = started_unasked start h in subst (λ l. WaitersAsk l) (sym unasked.is)
-      (record { asks = λ key tx is. absurd (let both : true ≡ false = sym is ∙ ap (λ o. waits tx (or_unlocked o).queue)
-                  (finite.get-empty key_cmp key) in cc) });
+      (record {
+        asks = λ key tx is. absurd (let both : true ≡ false = sym is ∙ ap (λ o. waits tx (or_unlocked o).queue)
+            (finite.get-empty key_cmp key) in cc);
+      });
 }
 
 -- so it is along any log

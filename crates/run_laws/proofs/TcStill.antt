@@ -75,9 +75,9 @@ module _ (v : TxId) where
     unfolding phase_sends
     phase_still layout phase touched =
         each_append (λ (o : Outgoing). is_token v o.body ≡ false) (front_sends tx phase)
-            (flat_map (key_sends layout tx phase) touched) (front_still phase)
+        (flat_map (key_sends layout tx phase) touched) (front_still phase)
         (each_flat (λ (o : Outgoing). is_token v o.body ≡ false) (key_sends layout tx phase) touched
-            (key_still layout phase))
+        (key_still layout phase))
 
   abbrev pub AnyTransaction : Transaction → Type 0
   AnyTransaction t = Unit {0}
@@ -100,7 +100,7 @@ module _ (v : TxId) where
       → ((op : Op) → body ≡ Client (TcKeyReq tx op) → same_tx tx v ≡ false) → TurnForms node layout tx t body IsStill
   turns_still tx node layout t body other =
       turn_keeps AnyTransaction (λ (o : Outgoing). is_token v o.body ≡ false) node layout
-          (keep_still layout) tx t body tt
+      (keep_still layout) tx t body tt
       (λ op is. record { state = tt; sends = (other op is, tt) })
 
 -- the turns of other transactions send none of this one, nor does the coordinator beside them

@@ -96,7 +96,7 @@ once_few v (e ∷ live) once = by (same_tx e.0 v) refl (once_few v live once.1)
         + tally (is_keyed v) live ≤ 1
     by true same more =
         let apart = subst (λ w. Each (λ (x : TxId × Transaction). same_tx x.0 w ≡ false) live)
-            (same_tx-is e.0 v same) once.0 in
+        (same_tx-is e.0 v same) once.0 in
         omega (arith, tally_none (is_keyed v) live apart, ap one_if same)
     by false off more = omega (arith, more, ap one_if off)
 
@@ -107,7 +107,7 @@ module _ (v : TxId) (s : TcState) (bs : List TxId) (n : IsSound s bs) (body : Bo
   own : Each (λ (e : TxId × Transaction). IsOwn s.node s.next_seq e.0) s.live
   own =
       each_map (IsOwned s.node s.next_seq bs) (λ (e : TxId × Transaction). IsOwn s.node s.next_seq e.0) s.live
-          (λ e is. record { early = is.below; home = is.home }) n.live
+      (λ e is. record { early = is.below; home = is.home }) n.live
 
   -- no transaction is given up whose number isn't given yet
   not_yet : (tx : TxId) (xs : List TxId) → s.next_seq ≤ tx.seq → Each (λ (w : TxId). w.seq < s.next_seq) xs
@@ -163,9 +163,9 @@ module _ (v : TxId) (s : TcState) (bs : List TxId) (n : IsSound s bs) (body : Bo
   pub tc_tokens : StepTokens v s bs came (tc_table s body)
   tc_tokens =
       by (tc_table s body)
-          (tc_turn (λ (o : Outgoing). is_token v o.body ≡ false) v s (beside_still v s) own
-              (once_few v s.live n.once) body
-              (others_still v s body))
+      (tc_turn (λ (o : Outgoing). is_token v o.body ≡ false) v s (beside_still v s) own
+      (once_few v s.live n.once) body
+      (others_still v s body))
     where
       by : (step : Step TcState) → TcTurn (λ (o : Outgoing). is_token v o.body ≡ false) v s body step
           → StepTokens v s bs came step
@@ -195,9 +195,9 @@ module _ (v : TxId) (s : TcState) (bs : List TxId) (n : IsSound s bs) (body : Bo
           }
       by step (turn.turns t was its sent left) =
           turn_tokens step t (turn_for s.node s.layout v body t) was
-              (turn_each s.node s.layout v body t (λ turn. TurnTokens v t came turn)
-                  (rows_of s.node s.layout v t body (λ turn. TurnTokens v t came turn)
-                      (tokens_forms s.node s.layout v t
-                          (each_found (IsOwned s.node s.next_seq bs) s.live v t n.live was).right came body
-                          (λ key answer is. omega (arith, ap one_if (ap (is_token v) is ∙ same_tx-self v))))) its)
-              sent left
+          (turn_each s.node s.layout v body t (λ turn. TurnTokens v t came turn)
+          (rows_of s.node s.layout v t body (λ turn. TurnTokens v t came turn)
+          (tokens_forms s.node s.layout v t
+          (each_found (IsOwned s.node s.next_seq bs) s.live v t n.live was).right came body
+          (λ key answer is. omega (arith, ap one_if (ap (is_token v) is ∙ same_tx-self v))))) its)
+          sent left

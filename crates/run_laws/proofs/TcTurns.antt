@@ -135,7 +135,7 @@ module _ (node : ℕ) (layout : Layout) (tx : TxId) (t : Transaction)
       → turn.step.state.asked ≡ t.asked → IsStill tx turn → R turn
   none_then phase at off turn same still =
       still_turn turn (right_none turn.step.state.phase turn.step.state.asked (same ∙ none t.asked refl)) still
-          (λ m low. omega (arith, low, idle t.phase t.asked right (ap may_ask at ∙ off)))
+      (λ m low. omega (arith, low, idle t.phase t.asked right (ap may_ask at ∙ off)))
     where
       none : (asked : Option Asked) → t.asked ≡ asked → asked ≡ None
       none None on = refl
@@ -195,14 +195,14 @@ module _ (node : ℕ) (layout : Layout) (tx : TxId) (t : Transaction)
     waits = λ asked on. as_before _ right (anyhow.waits asked on) refl;
     decides = λ is ready.
         still_turn _ (right_none Verifying t.asked (ready_is t.phase t.asked ready).1)
-            (record { state = tt; sends = (refl, tt) })
+        (record { state = tt; sends = (refl, tt) })
         (λ m low. omega (arith, low, ready_none t.phase t.asked ready));
     commits = λ epoch is at some.
         none_then _ at refl _ refl
-            ((still (Epoch (DiVerifyConf tx epoch)) (λ op e. cc)).commits epoch refl at some);
+        ((still (Epoch (DiVerifyConf tx epoch)) (λ op e. cc)).commits epoch refl at some);
     commits_none = λ epoch is at.
         committed_forms epoch _ at refl
-            ((still (Epoch (DiVerifyConf tx epoch)) (λ op e. cc)).commits_none epoch refl at);
+        ((still (Epoch (DiVerifyConf tx epoch)) (λ op e. cc)).commits_none epoch refl at);
     committed = λ epoch awaited at more. none_then _ at refl _ refl (anyhow.committed epoch awaited at more);
     committed_all = λ epoch awaited at. committed_forms epoch _ at refl
         (anyhow.committed_all epoch awaited at);
@@ -211,14 +211,14 @@ module _ (node : ℕ) (layout : Layout) (tx : TxId) (t : Transaction)
         (anyhow.completed_all epoch awaited at last);
     rolls_back = λ is undecided unaborted.
         abort_forms t _ right ((still (Client (TcRollbackReq tx)) (λ op e. cc)).rolls_back
-                refl undecided unaborted);
+        refl undecided unaborted);
     refuses = λ key why asked is on at.
         abort_forms (asking t None) why refl ((still (Chain (LqhKeyRef tx key why)) (λ op e. cc)).refuses
-                key why asked refl on at);
+        key why asked refl on at);
     aborted = λ why verifying awaited at more.
         one_then _ (right_aborting t.asked why verifying _)
-            (anyhow.aborted why verifying awaited at more) refl;
+        (anyhow.aborted why verifying awaited at more) refl;
     aborted_all = λ why verifying awaited at last.
         one_then _ right (anyhow.aborted_all why verifying awaited at last)
-            (ap one_if (end_gives_up tx node why verifying));
+        (ap one_if (end_gives_up tx node why verifying));
   }

@@ -46,7 +46,7 @@ takes_more P e before between takes all it = by (is_request e.step.taken.body) r
         let taken = takes.signal given in
         let split = subst (Each P) taken.left all in
         subst (Each P) (sym taken.is) (each_append P taken.front (taken_by e ∷ taken.back)
-                (each_before P taken.front taken.back split) (it, each_after P taken.front taken.back split))
+        (each_before P taken.front taken.back split) (it, each_after P taken.front taken.back split))
 
 -- what is sent is what is in transit then
 pub sent_each : (Q : Place → Body → Type 0) (who : Membership) (h stamp : ℕ) (count : ℕ → ℕ) (sends : List Outgoing)
@@ -134,7 +134,7 @@ module _ (tx : TxId) (key : List ℕ) where
   none_out sends still =
       none_sent sends
       (each_map (λ (o : Outgoing). is_token tx o.body ≡ false)
-          (λ (o : Outgoing). token_of tx key o.to o.body ≡ None) sends
+      (λ (o : Outgoing). token_of tx key o.to o.body ≡ None) sends
       (λ o. uncounted o.to o.body) still)
 
   pub sent_some : (sends : List Outgoing) (t : Token) (rest : List Token) → tokens_of tx key sends ≡ t ∷ rest

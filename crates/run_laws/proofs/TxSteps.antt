@@ -89,7 +89,7 @@ module _ (tx : TxId) (s : Host) (x : Signal) (home : IsHome tx (tc_of s)) where
   takes_turn : (t : Step Host) → IsTcStep s x t → TxStep tx s x t
   takes_turn t step =
       by (tc_turn (λ (o : Outgoing). is_sign tx o.body ≡ false) tx (tc_of s) (beside_silent tx (tc_of s))
-              home.own home.once x.body
+      home.own home.once x.body
       (others_silent tx (tc_of s) x.body))
     where
       live_is : of_host tx t.state ≡ of_live tx (tc_row (tc_of s) x).state.live
@@ -102,8 +102,11 @@ module _ (tx : TxId) (s : Host) (x : Signal) (home : IsHome tx (tc_of s)) where
           → TxStep tx s x t
       by (turn.idle same silent next) =
           aside (live_is ∙ same) (silent_too silent)
-          (record { rows = λ is. absurd (false≢true (sym (ap is_lqh step.at) ∙ is)); next =
-                  λ is home. next (next_for tx x.body is) })
+          (record {
+            rows = λ is. absurd (false≢true (sym (ap is_lqh step.at) ∙ is));
+            next =
+                λ is home. next (next_for tx x.body is);
+          })
       by (turn.begins is left silent none) = begins step is (silent_too silent)
       by (turn.turns u was same sent left) =
           turns u step was same (ap (λ (f : Effects). f.sends) step.effects ∙ sent) (live_is ∙ left)

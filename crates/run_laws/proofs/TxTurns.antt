@@ -143,14 +143,19 @@ module _ (P : Outgoing → Type 0) (tx : TxId) (s : TcState) (beside : SendsBesi
       first : (f : IsEntry (same_tx one) s.live place) → same_tx one tx ≡ true
           → tally (is_keyed tx) (f.front ++ f.back) ≡ 0
       first f e =
-          omega (arith, once, tally_between (is_keyed tx) f.front (f.key, f.value) f.back s.live f.is, ap
-                  one_if (keyed f true e))
+          omega (
+            arith,
+            once,
+            tally_between (is_keyed tx) f.front (f.key, f.value) f.back s.live f.is,
+            ap
+                one_if (keyed f true e),
+          )
 
       stands : (f : IsEntry (same_tx one) s.live place) → same_tx one tx ≡ true → (w : Transaction)
           → of_live tx (f.front ++ (f.key, w) ∷ f.back) ≡ Some w
       stands f e w =
           of_here tx f.key w f.front f.back (omega (arith, first f e, tally_append (is_keyed tx) f.front f.back))
-              (keyed f true e)
+          (keyed f true e)
 
       left : (f : IsEntry (same_tx one) s.live place) (b : Bool) → same_tx one tx ≡ true → (row f.value).over ≡ b
           → (if b then None else Some (row f.value).step.state) ≡ left_by (turn_for s.node s.layout tx body f.value)
@@ -169,12 +174,12 @@ module _ (P : Outgoing → Type 0) (tx : TxId) (s : TcState) (beside : SendsBesi
           → TcTurn P tx s body (turned_if s place (row f.value) b)
       over f false true e o =
           idle (ap (of_live tx) f.removed
-                  ∙ sym (ap (of_live tx) f.is ∙ of_other f.front f.back f.key tx f.value (keyed f false e)))
+          ∙ sym (ap (of_live tx) f.is ∙ of_other f.front f.back f.key tx f.value (keyed f false e)))
           (others one e its f.value) (deaf e)
       over f false false e o =
           idle
           (ap (of_live tx) (f.set (row f.value).step.state) ∙ of_other f.front f.back f.key tx
-              (row f.value).step.state (keyed f false e)
+          (row f.value).step.state (keyed f false e)
           ∙ sym (ap (of_live tx) f.is ∙ of_other f.front f.back f.key tx f.value (keyed f false e)))
           (others one e its f.value) (deaf e)
       over f true true e o =
@@ -211,7 +216,7 @@ module _ (P : Outgoing → Type 0) (tx : TxId) (s : TcState) (beside : SendsBesi
       last =
           insert_new s.live (next_tx s) fresh
           (each_map (λ (x : TxId × Transaction). IsOwn s.node s.next_seq x.0)
-              (λ (x : TxId × Transaction). x.0.seq < s.next_seq) s.live
+          (λ (x : TxId × Transaction). x.0.seq < s.next_seq) s.live
           (λ x o. o.early) own)
 
       by : (m : Bool) → same_tx (next_tx s) tx ≡ m → TcTurn P tx s (Client (TcBeginReq name)) (begin_if s name false)
@@ -232,19 +237,19 @@ module _ (P : Outgoing → Type 0) (tx : TxId) (s : TcState) (beside : SendsBesi
   unfolding begin_row pass_row
   tc_turn (Host (Continue (work.Transaction one) at)) others =
       going_step _ one (λ t. go_on_row s.node s.layout one t at)
-          (turn_step (Host (Continue (work.Transaction one) at)) one refl (same_tx-self one) others)
+      (turn_step (Host (Continue (work.Transaction one) at)) one refl (same_tx-self one) others)
   tc_turn (Client (TcBeginReq name)) others = begin_step name (is_full s)
   tc_turn (Client (TcKeyReq one op)) others =
       going_step _ one (λ t. operate.operate_row s.layout one t op) (turn_step (Client (TcKeyReq one op)) one refl
-              (same_tx-self one) others)
+      (same_tx-self one) others)
   tc_turn (Client (TcCommitReq one)) others =
       going_step _ one (λ t. commit.decide_row s.node one t) (turn_step (Client (TcCommitReq one)) one refl
-              (same_tx-self one) others)
+      (same_tx-self one) others)
   tc_turn (Client (TcRollbackReq one)) others = turn_step (Client (TcRollbackReq one)) one refl
       (same_tx-self one) others
   tc_turn (Client (TcWaitReq one)) others =
       going_step _ one (λ t. operate.wait_row one t)
-          (turn_step (Client (TcWaitReq one)) one refl (same_tx-self one) others)
+      (turn_step (Client (TcWaitReq one)) one refl (same_tx-self one) others)
   tc_turn (Client (LqhWaitConf one ahead)) others = pass_step one ahead (is_some (place_in s one))
   tc_turn (Chain (LqhKeyConf one key answer)) others =
       going_step _ one (λ t. operate.answer_row s.layout one t key answer)

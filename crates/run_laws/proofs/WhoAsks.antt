@@ -217,7 +217,7 @@ module _ (start : Start) (tx : TxId) where
         no_back goes_back =
             let given : list_any (same_tx tx) (sent_ways start back_by h (e ∷ old h)) ≡ true =
             now_given_up tx (tc_sends s e.step.taken) (sent_ways start back_by h (old h))
-                (subst (λ w. gives_up tx w ≡ true) (sym said) goes_back) in
+            (subst (λ w. gives_up tx w ≡ true) (sym said) goes_back) in
             let up : is_given_up start now tx ≡ true =
             subst (λ k. list_any (same_tx tx) (sent_ways start back_by k (now k)) ≡ true) its_home (subst (λ log. list_any (same_tx tx) (sent_ways start back_by h log) ≡ true) (sym own_now) given) in
             let both : true ≡ false = sym up ∙ off in cc

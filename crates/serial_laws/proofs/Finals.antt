@@ -40,7 +40,7 @@ pub entries_past : (start : Start) (es all : List HostStep) (b : Entry) → IsPa
     → IsIn b (entries (hosts start) (logs_of start es)) → IsIn b (entries (hosts start) (logs_of start all))
 entries_past start es all b past run turn inside =
     subst (λ w. IsIn b (entries (hosts start) (logs_of start w))) (sym past.is)
-        (by past.newer (subst (IsRun start) past.is run) (subst (IsByTurn (machine start)) past.is turn))
+    (by past.newer (subst (IsRun start) past.is run) (subst (IsByTurn (machine start)) past.is turn))
   where
     next : (fs : List HostStep) (f : HostStep) (come : Comes start fs f) (after : ComesAfter (machine start) f fs)
         → AreMarks start.epoch f.step.marks
@@ -91,20 +91,20 @@ module _ (start : Start) (end : List HostStep) where
         → decided_at es v ≡ true
     carried_at es v past is =
         and_from (is_decided start (logs_of start es) v) (not (is_given v)) is.decided
-            (ap not (owed.one_way start (logs_of start end) v (carried_past start v es end past is.carried)))
+        (ap not (owed.one_way start (logs_of start end) v (carried_past start v es end past is.carried)))
 
     -- an entry that takes effect is of one that isn't given up
     pub final_not_given : (b : Entry) → is_final_entry b ≡ true → is_given b.tx ≡ false
     final_not_given b is = by (writes b) is
       where
         by : (w : Bool) → (if w then have_mark (is_applied b.tx) (hosts start) (logs_of start end) else
-                have_mark (is_reported b.tx) (hosts start) (logs_of start end)) ≡ true → is_given b.tx ≡ false
+            have_mark (is_reported b.tx) (hosts start) (logs_of start end)) ≡ true → is_given b.tx ≡ false
         by true is = owed.kept start end b.tx run
             (or_left (have_mark (is_applied b.tx) (hosts start) (logs_of start end))
-                (have_mark (is_reported b.tx) (hosts start) (logs_of start end)) is)
+            (have_mark (is_reported b.tx) (hosts start) (logs_of start end)) is)
         by false is = owed.kept start end b.tx run
             (or_right (have_mark (is_applied b.tx) (hosts start) (logs_of start end))
-                (have_mark (is_reported b.tx) (hosts start) (logs_of start end)) is)
+            (have_mark (is_reported b.tx) (hosts start) (logs_of start end)) is)
 
     -- the one entry of a transaction takes effect just where the transaction is final
     pub final_entry : (z : Entry) → IsIn z (entries (hosts start) (logs_of start end))
@@ -116,13 +116,13 @@ module _ (start : Start) (end : List HostStep) where
         by false e false f = refl
         by true e false f =
             absurd (let both : true ≡ false = sym (any_in (λ (b : Entry). same_tx b.tx z.tx) z (history_at end)
-                        (in_filter is_final_entry z (entries (hosts start) (logs_of start end)) inside e)
-                                (same_tx-self z.tx)) ∙ f in cc)
+            (in_filter is_final_entry z (entries (hosts start) (logs_of start end)) inside e)
+            (same_tx-self z.tx)) ∙ f in cc)
         by false e true f =
             let found = any_item (λ (b : Entry). same_tx b.tx z.tx) (history_at end) f in
             let parts = of_filter is_final_entry found.item (entries (hosts start) (logs_of start end)) found.inside in
             let same = one_entry (entries (hosts start) (logs_of start end)) found.item z
-                (entries_are_once start end run turn).once parts.0 inside found.passes in
+            (entries_are_once start end run turn).once parts.0 inside found.passes in
             let own : is_final_entry z ≡ true = subst (λ w. is_final_entry w ≡ true) same parts.1 in
             sym e ∙ own
 
@@ -134,13 +134,13 @@ module _ (start : Start) (end : List HostStep) where
         let applied : have_mark (is_applied is.entry.tx) (hosts start) (logs_of start end) ≡ true =
         mark_all (is_applied is.entry.tx) (hosts start) h (logs_of start end) below
         (mark_past (is_applied is.entry.tx) (logs_of start fs h) (logs_of start end h) (part_logs start fs end later h)
-            (ap (λ t. has_mark (is_applied t) (logs_of start fs h)) is.of ∙ marked)) in
+        (ap (λ t. has_mark (is_applied t) (logs_of start fs h)) is.of ∙ marked)) in
         let takes : is_final_entry is.entry ≡ true =
         ap (λ w. if w then have_mark (is_applied is.entry.tx) (hosts start) (logs_of start end) else
-                have_mark (is_reported is.entry.tx) (hosts start) (logs_of start end)) is.writes ∙ applied in
+        have_mark (is_reported is.entry.tx) (hosts start) (logs_of start end)) is.writes ∙ applied in
         any_in (λ (b : Entry). same_tx b.tx v) is.entry (history_at end)
         (in_filter is_final_entry is.entry (entries (hosts start) (logs_of start end))
-            (entries_past start es end is.entry past run turn is.inside) takes)
+        (entries_past start es end is.entry past run turn is.inside) takes)
         (ap (λ t. same_tx t v) is.of ∙ same_tx-self v)
 
     pub writer_past : (es fs : List HostStep) (v : TxId) → IsPast es fs → IsPast fs end
@@ -159,7 +159,7 @@ module _ (start : Start) (end : List HostStep) where
       pub plain_decided : ArePlain e.step.marks → decided_at (e ∷ es) ≡ decided_at es
       plain_decided all =
           fun_ext (λ v. ap (λ b. b && not (is_given v))
-                  (decided_other start es e come after v (plain_undecided v e.step.marks all)))
+          (decided_other start es e come after v (plain_undecided v e.step.marks all)))
 
       module _ (tx : TxId) (is : e.step.marks ≡ mark.Decided tx start.epoch ∷ []) where
         decision_own : (v : TxId) → same_tx tx v ≡ true → list_any (is_decision v) e.step.marks ≡ true
@@ -176,7 +176,7 @@ module _ (start : Start) (end : List HostStep) where
             by v true same =
                 let gone : not (is_given v) ≡ false = ap not (ap is_given (sym (same_tx-is tx v same)) ∙ given) in
                 and_right (is_decided start (logs_of start (e ∷ es)) v) (not (is_given v)) gone
-                    ∙ sym (and_right (is_decided start (logs_of start es) v) (not (is_given v)) gone)
+                ∙ sym (and_right (is_decided start (logs_of start es) v) (not (is_given v)) gone)
             by v false off = ap (λ b. b && not (is_given v))
                 (decided_other start es e come after v (decision_other v off))
 
@@ -187,7 +187,7 @@ module _ (start : Start) (end : List HostStep) where
             by : (v : TxId) (c : Bool) → same_tx tx v ≡ c → decided_at (e ∷ es) v ≡ (c || decided_at es v)
             by v true same =
                 and_from (is_decided start (logs_of start (e ∷ es)) v) (not (is_given v))
-                    (decided_now start es e come after v (decision_own v same))
-                    (ap not (ap is_given (sym (same_tx-is tx v same)) ∙ alive))
+                (decided_now start es e come after v (decision_own v same))
+                (ap not (ap is_given (sym (same_tx-is tx v same)) ∙ alive))
             by v false off = ap (λ b. b && not (is_given v))
                 (decided_other start es e come after v (decision_other v off))

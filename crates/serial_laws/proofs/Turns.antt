@@ -31,10 +31,15 @@ module _ {E X : Type 0} (m : Machine E X) where
           → IsByTurn m (if b then f ∷ insert m e es else e ∷ f ∷ es)
       by true is more = (each_insert m (λ g. is_after m f g ≡ true) e es is turn.0, more)
       by false is more =
-          let above : is_after m e f ≡ true = turn_total (m.stamp e) (m.stamp f) (m.host e) (m.host f) is apart.0 in
-          ((above, each_map (λ g. is_after m f g ≡ true) (λ g. is_after m e g ≡ true) es
+          let above : is_after m e f ≡ true = turn_total (m.stamp e) (m.stamp f) (m.host e) (m.host f) is apart.0 in (
+            (
+              above,
+              each_map (λ g. is_after m f g ≡ true) (λ g. is_after m e g ≡ true) es
                   (λ g lower. turn_trans (m.stamp e) (m.stamp f) (m.stamp g) (m.host e) (m.host f)
-                              (m.host g) above lower) turn.0), turn)
+                  (m.host g) above lower) turn.0,
+            ),
+            turn,
+          )
 
   turn_insert_all : (n : ℕ) (log es : List E) → Each (λ e. m.host e ≡ n) log → Rises m log → Each (λ e. m.host e < n) es
       → IsByTurn m es → IsByTurn m (insert_all m log es)
@@ -43,9 +48,9 @@ module _ {E X : Type 0} (m : Machine E X) where
       turn_insert e (insert_all m log es)
       (each_insert_all m (λ f. m.host f ≡ m.host e → m.stamp f < m.stamp e) log es
       (each_map (λ f. m.stamp f < m.stamp e) (λ f. m.host f ≡ m.host e → m.stamp f < m.stamp e) log
-          (λ f lower same. lower) rises.0)
+      (λ f lower same. lower) rises.0)
       (each_map (λ f. m.host f < n) (λ f. m.host f ≡ m.host e → m.stamp f < m.stamp e) es
-          (λ f lower same. absurd (omega (arith, lower, same, at.0))) below))
+      (λ f lower same. absurd (omega (arith, lower, same, at.0))) below))
       (turn_insert_all n log es at.1 rises.1 below turn)
 
   turn_both : (n : ℕ) (logs : ℕ → List E) → AreOfHosts m logs → Each (λ e. m.host e < n) (merged m n logs)
@@ -56,7 +61,7 @@ module _ {E X : Type 0} (m : Machine E X) where
         each_insert_all m (λ e. m.host e < suc n) (logs n) (merged m n logs)
             (each_map (λ e. m.host e ≡ n) (λ e. m.host e < suc n) (logs n) (λ e is. omega (arith, is)) (are.at n))
             (each_map (λ e. m.host e < n) (λ e. m.host e < suc n) (merged m n logs)
-                (λ e lower. omega (arith, lower)) below.0),
+            (λ e lower. omega (arith, lower)) below.0),
         turn_insert_all n (logs n) (merged m n logs) (are.at n) (are.rises n) below.0 below.1,
       )
 
