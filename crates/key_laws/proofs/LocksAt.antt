@@ -13,30 +13,37 @@ use Rattle.row_locks.proofs.TableLawLemmas.{get-map_locks}
 use Rattle.sig_core.proofs.Keys.{same_key-swap, tied-same_key}
 
 -- one lock has come to be another
-pub lock-inserted : (locks : Locks) (key q : List ℕ) (lock : RowLock) → lock_at (finite.insert locks key lock) q ≡ (if same_key key q then lock else lock_at locks q)
+pub lock-inserted : (locks : Locks) (key q : List ℕ) (lock : RowLock)
+    → lock_at (finite.insert locks key lock) q ≡ (if same_key key q then lock else lock_at locks q)
 lock-inserted locks key q lock =
-    ap or_unlocked (finite.get-insert nat_list_cmp_total locks key lock q ∙ ap (λ b. cond b (Some lock) (finite.get locks q)) (tied-same_key q key ∙ same_key-swap q key))
+    ap or_unlocked (finite.get-insert nat_list_cmp_total locks key lock q
+    ∙ ap (λ b. cond b (Some lock) (finite.get locks q)) (tied-same_key q key ∙ same_key-swap q key))
     ∙ by (same_key key q)
   where
     by : (b : Bool) → or_unlocked (cond b (Some lock) (finite.get locks q)) ≡ (if b then lock else lock_at locks q)
     by true = refl
     by false = refl
 
-idle_is : (holders : List Holder) (queue : List Wait) → (is_free holders && is_quiet queue) ≡ true → unlocked ≡ record { holders = holders; queue = queue }
+idle_is : (holders : List Holder) (queue : List Wait) → (is_free holders && is_quiet queue) ≡ true
+    → unlocked ≡ record { holders = holders; queue = queue }
 idle_is [] [] is = refl
 idle_is [] (w ∷ queue) is = absurd cc
 idle_is (h ∷ holders) queue is = absurd cc
 
-pub lock-kept : (locks : Locks) (key q : List ℕ) (lock : RowLock) → lock_at (kept locks key lock) q ≡ (if same_key key q then lock else lock_at locks q)
+pub lock-kept : (locks : Locks) (key q : List ℕ) (lock : RowLock)
+    → lock_at (kept locks key lock) q ≡ (if same_key key q then lock else lock_at locks q)
 lock-kept locks key q lock = by (is_idle lock) refl
   where
-    gone : (b : Bool) → is_idle lock ≡ true → or_unlocked (cond b None (finite.get locks q)) ≡ (if b then lock else lock_at locks q)
+    gone : (b : Bool) → is_idle lock ≡ true
+        → or_unlocked (cond b None (finite.get locks q)) ≡ (if b then lock else lock_at locks q)
     gone true idle = idle_is lock.holders lock.queue idle
     gone false idle = refl
 
-    by : (b : Bool) → is_idle lock ≡ b → lock_at (kept_if b locks key lock) q ≡ (if same_key key q then lock else lock_at locks q)
+    by : (b : Bool) → is_idle lock ≡ b
+        → lock_at (kept_if b locks key lock) q ≡ (if same_key key q then lock else lock_at locks q)
     by true idle =
-        ap or_unlocked (finite.get-remove nat_list_cmp_total locks key q ∙ ap (λ b. cond b None (finite.get locks q)) (tied-same_key q key ∙ same_key-swap q key))
+        ap or_unlocked (finite.get-remove nat_list_cmp_total locks key q ∙ ap (λ b. cond b None (finite.get locks q))
+        (tied-same_key q key ∙ same_key-swap q key))
         ∙ gone (same_key key q) idle
     by false idle = lock-inserted locks key q lock
 

@@ -122,7 +122,8 @@ asked_held lock tx m is = asked_held_at lock tx m is (holds_enough tx m lock.hol
 
 -- each lock changed
 
-pub get-map_locks : (g : RowLock → RowLock) (m : Locks) (q : List ℕ) → finite.get (map_locks g m) q ≡ option_map g (finite.get m q)
+pub get-map_locks : (g : RowLock → RowLock) (m : Locks) (q : List ℕ)
+    → finite.get (map_locks g m) q ≡ option_map g (finite.get m q)
 get-map_locks g m q =
     get-locks (map (λ e. (e.0, g e.1)) (finite.entries m)) q ∙ lookup-map_values g (is_at (key_cmp q)) (finite.entries m)
     ∙ ap (option_map g) (sym (finite.get-entries m q ∙ find-lookup key_cmp q (finite.entries m)))

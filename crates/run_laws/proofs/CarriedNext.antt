@@ -310,7 +310,12 @@ module _ (start : Start) (es : List HostStep) (e : HostStep) (come : Comes start
               (λ t there key i. missed_cover missed (λ off k p. aside_cover tx k p e.step.taken.to e.step.taken.body off (λ next tc. some_none t (of_host tx g) (sym (live_was own) ∙ there) (missed.next next tc))) key i)
       next_now (begins step is silent) =
           let own = own_home start es e come tx step.runs (sym (ap (λ (v : TxId). v.tc) is)) in
-          absurd (omega (arith, subst (λ x. tx.seq < next_number x) (here_was start es e come tx own) c.old, ap (λ (v : TxId). v.seq) is))
+          absurd (omega (
+            arith,
+            subst (λ x. tx.seq < next_number x) (here_was start es e come tx own) c.old,
+            ap
+                (λ (v : TxId). v.seq) is,
+          ))
       next_now (turns t step was own_body sent left) = carried_now leaves.told (subst (IsLiveAhead start (logs_of start (e ∷ es)) later tx) (sym (live_now own ∙ left)) leaves.live)
         where
           node_is : tx.tc ≡ (tc_of g).node

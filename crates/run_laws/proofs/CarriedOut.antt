@@ -84,9 +84,12 @@ pub record IsCarried (start : Start) (logs : ℕ → List HostStep) (xs : List A
 -- it tells that still, where its parts do
 pub tells_too : (tx : TxId) (Spread SpreadNow : List ℕ → List Member → ℕ → Type 0) (AtAll AtAllNow : List ℕ → Type 0)
     → ((key : List ℕ) (chain : List Member) (at : ℕ) → Spread key chain at → SpreadNow key chain at)
-    → ((key : List ℕ) → AtAll key → AtAllNow key) → (body : Body) → Tells tx Spread AtAll body → Tells tx SpreadNow AtAllNow body
-tells_too tx Spread SpreadNow AtAll AtAllNow spread everywhere (Chain (Commit other key epoch chain at)) tells = λ e. spread key chain at (tells e)
-tells_too tx Spread SpreadNow AtAll AtAllNow spread everywhere (Chain (Complete other key chain at)) tells = λ e. everywhere key (tells e)
+    → ((key : List ℕ) → AtAll key → AtAllNow key) → (body : Body) → Tells tx Spread AtAll body
+    → Tells tx SpreadNow AtAllNow body
+tells_too tx Spread SpreadNow AtAll AtAllNow spread everywhere (Chain (Commit other key epoch chain at)) tells =
+    λ e. spread key chain at (tells e)
+tells_too tx Spread SpreadNow AtAll AtAllNow spread everywhere (Chain (Complete other key chain at)) tells =
+    λ e. everywhere key (tells e)
 tells_too tx Spread SpreadNow AtAll AtAllNow spread everywhere _ tells = tt
 
 -- a key that is done and marked is committed

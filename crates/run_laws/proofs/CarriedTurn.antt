@@ -135,7 +135,8 @@ module _ (start : Start) (logs now : ℕ → List HostStep) (e : HostStep) (befo
       subst (λ b. IsLiveAhead start now after tx (if b then None else Some turn.step.state)) (sym over)
       (subst (λ (v : Transaction). IsAhead start now after tx v.touched v.phase) (sym is) g)
 
-  module _ (node : ℕ) (layout : Layout) (t : Transaction) (home : node ≡ tx.tc) (at_tc : e.step.taken.to.block ≡ block.Tc) (own : is_for tx e.step.taken.body ≡ true) where
+  module _ (node : ℕ) (layout : Layout) (t : Transaction) (home : node ≡ tx.tc)
+      (at_tc : e.step.taken.to.block ≡ block.Tc) (own : is_for tx e.step.taken.body ≡ true) where
     off_rows : is_lqh e.step.taken.to.block ≡ false
     off_rows = ap is_lqh at_tc
 
@@ -308,8 +309,10 @@ module _ (start : Start) (logs now : ℕ → List HostStep) (e : HostStep) (befo
     turn_leaves g sent = by t.phase refl g
       where
         by : (phase : Phase) → t.phase ≡ phase → IsAhead start logs before tx t.touched phase → TurnLeaves (turn_for node layout tx e.step.taken.body t)
-        by (Committing epoch awaited) is g = committing_leaves (turn_for node layout tx e.step.taken.body t) sent epoch awaited is g (from_committing node layout tx t epoch awaited is e.step.taken.body)
-        by (Completing epoch awaited) is g = completing_leaves (turn_for node layout tx e.step.taken.body t) sent g (from_completing node layout tx t epoch awaited is e.step.taken.body)
+        by (Committing epoch awaited) is g = committing_leaves (turn_for node layout tx e.step.taken.body t) sent epoch
+            awaited is g (from_committing node layout tx t epoch awaited is e.step.taken.body own)
+        by (Completing epoch awaited) is g = completing_leaves (turn_for node layout tx e.step.taken.body t) sent g
+            (from_completing node layout tx t epoch awaited is e.step.taken.body own)
         by Open is g = absurd g
         by Verifying is g = absurd g
         by (Aborting why verifying awaited) is g = absurd g

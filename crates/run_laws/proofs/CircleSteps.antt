@@ -82,7 +82,8 @@ each_passes : {A : Type 0} (p : A → Bool) (xs : List A) → Each (λ x. p x �
 each_passes p [] = tt
 each_passes {A} p (x ∷ xs) = by (p x) refl (each_passes p xs)
   where
-    by : (b : Bool) → p x ≡ b → Each (λ x. p x ≡ true) (filter p xs) → Each (λ x. p x ≡ true) (cond b (x ∷ filter p xs) (filter p xs))
+    by : (b : Bool) → p x ≡ b → Each (λ x. p x ≡ true) (filter p xs)
+        → Each (λ x. p x ≡ true) (cond b (x ∷ filter p xs) (filter p xs))
     by true e more = (e, more)
     by false e more = more
 
@@ -102,7 +103,8 @@ abort_of tx _ is = absurd cc
 
 module _ (start : Start) (es : List HostStep) (e : HostStep) (tx : TxId) (key : List ℕ) (come : Comes start es e)
     (before between : List Addressed) (transit : AreInTransit start es before) (takes : Takes e before between)
-    (kept : is_given_up start (logs_of start es) tx ≡ false) (undone : is_carried_out start (logs_of start es) tx ≡ false) (circling : IsCircling start tx key es before) where
+    (kept : is_given_up start (logs_of start es) tx ≡ false)
+    (undone : is_carried_out start (logs_of start es) tx ≡ false) (circling : IsCircling start tx key es before) where
   abbrev n : ℕ
   n = host_of start es e tx key
 
@@ -161,7 +163,8 @@ module _ (start : Start) (es : List HostStep) (e : HostStep) (tx : TxId) (key : 
   quiet : event ≡ rests → IsLike v w
   quiet is = others_like start es e tx key (ap (λ event. is_of tx (event_of event r)) is)
 
-  going_now : (t : Transaction) → live_at start (logs_of start (e ∷ es)) tx ≡ live_at start (logs_of start es) tx → live_at start (logs_of start (e ∷ es)) tx ≡ Some t → is_early t.phase ≡ true
+  going_now : (t : Transaction) → live_at start (logs_of start (e ∷ es)) tx ≡ live_at start (logs_of start es) tx
+      → live_at start (logs_of start (e ∷ es)) tx ≡ Some t → is_early t.phase ≡ true
       → IsGoing start tx key v t before
   going_now t is live early = circling.going t (sym is ∙ live) early
 
@@ -194,7 +197,8 @@ module _ (start : Start) (es : List HostStep) (e : HostStep) (tx : TxId) (key : 
       bystander_circles (bystander tx here (row here x) f same is still) (event_off key here x apart)
       (λ t live. token_other tx key x.to x.body apart away)
 
-  -- A block that the host doesn't run. No part of an operation is for it: a request comes to rows, and an answer to the coordinator.
+  -- A block that the host doesn't run. No part of an operation is for it: a request comes to rows, and an answer to the
+  -- coordinator.
   missed_circles : runs here x.to.block ≡ false → row here x ≡ stay here → Now
   missed_circles idle is =
       bystander_circles
@@ -279,7 +283,8 @@ module _ (start : Start) (es : List HostStep) (e : HostStep) (tx : TxId) (key : 
         absent : of_live tx s.live ≡ None
         absent = away_absent start tx n (logs_of start es n) (comes_below start es e come) apart
 
-        none : TcTurn (λ (o : Outgoing). is_token tx o.body ≡ false) tx s x.body then → tokens_of tx key then.effects.sends ≡ []
+        none : TcTurn (λ (o : Outgoing). is_token tx o.body ≡ false) tx s x.body then
+            → tokens_of tx key then.effects.sends ≡ []
         none (turn.idle live_is still deaf) = none_out tx key then.effects.sends still
         none (turn.turns t was its sends_is later) = absurd (let both : None ≡ Some t = sym absent ∙ was in cc)
         none (turn.begins next_is later still _) = none_out tx key then.effects.sends still
@@ -312,12 +317,15 @@ module _ (start : Start) (es : List HostStep) (e : HostStep) (tx : TxId) (key : 
         live_now = ap (of_host tx) (here_now start es e come tx at) ∙ ap (λ (c : TcState). of_live tx c.live) step.state
 
         by : (u : Transaction) → live_at start (logs_of start (e ∷ es)) tx ≡ Some u → is_early u.phase ≡ true
-            → TcTurn (λ (o : Outgoing). is_token tx o.body ≡ false) tx s x.body then → IsGoing start tx key w u (joined sent between)
+            → TcTurn (λ (o : Outgoing). is_token tx o.body ≡ false) tx s x.body then
+            → IsGoing start tx key w u (joined sent between)
         by u live early (turn.idle live_is still deaf) =
             let was : of_live tx s.live ≡ Some u = sym live_is ∙ (sym live_now ∙ live) in
             rest_goes start es e tx key come before between transit takes to_home like u
-            (circling.going u (live_was ∙ was) early) (ap (tokens_of tx key) sends_are ∙ none_out tx key then.effects.sends still)
-            (inl (ap (λ to. token_of tx key to x.body) to_is ∙ token_for tx key s.node x.body (others (is_for tx x.body) refl was)))
+            (circling.going u (live_was ∙ was) early) (ap (tokens_of tx key) sends_are
+            ∙ none_out tx key then.effects.sends still)
+            (inl (ap (λ to. token_of tx key to x.body) to_is ∙ token_for tx key s.node x.body
+            (others (is_for tx x.body) refl was)))
           where
             others : (b : Bool) → is_for tx x.body ≡ b → of_live tx s.live ≡ Some u → is_for tx x.body ≡ false
             others true its was = absurd (let both : None ≡ Some u = sym (deaf its) ∙ was in cc)
@@ -365,7 +373,8 @@ module _ (start : Start) (es : List HostStep) (e : HostStep) (tx : TxId) (key : 
 
     given_up_not : (id : TxId) (own : List ℕ) → id ≡ tx → x.body ≡ Chain (Abort id own) → ⊥
     given_up_not id own one body_is =
-        true_false (sym (aborts_are_of_given_up start es e id own come body_is) ∙ (ap (is_given_up start (logs_of start es)) one ∙ kept))
+        true_false (sym (aborts_are_of_given_up start es e id own come body_is)
+        ∙ (ap (is_given_up start (logs_of start es)) one ∙ kept))
 
     no_abort : is_abort tx x.body ≡ false
     no_abort = by (is_abort tx x.body) refl
@@ -403,9 +412,11 @@ module _ (start : Start) (es : List HostStep) (e : HostStep) (tx : TxId) (key : 
         (each_filter (λ (q : Request). IsRequestRouted start l.node q) (asks_for key) l.waiting
         ((signals_are_routed start es before come.before transit).hosts n).waiting) first_is
 
-    rows_going : (t : Transaction) → live_at start (logs_of start (e ∷ es)) tx ≡ Some t → is_early t.phase ≡ true → IsGoing start tx key v t before → Case → IsGoing start tx key w t (joined sent between)
+    rows_going : (t : Transaction) → live_at start (logs_of start (e ∷ es)) tx ≡ Some t → is_early t.phase ≡ true
+        → IsGoing start tx key v t before → Case → IsGoing start tx key w t (joined sent between)
     rows_going t live early going (off apart taken) =
-        off_going start es e tx key come before between transit takes t live early (off_here apart) (taken_is None taken) tokens_are going
+        off_going start es e tx key come before between transit takes t live early (off_here apart)
+        (taken_is None taken) tokens_are going
     rows_going t live early going (asked q body_is q_is own at taken) =
         asked_going start es e tx key come before between transit takes t live early q
         (is_refused (storage_of l) q) x.to.node (event_is ∙ at) q_is own
@@ -417,12 +428,15 @@ module _ (start : Start) (es : List HostStep) (e : HostStep) (tx : TxId) (key : 
         (rows_node start n (logs_of start es n) (comes_below start es e come) step.runs).is
         (served_routed q first_is) tokens_are going
     rows_going t live early going (expired_here at taken) =
-        expired_going start es e tx key come before between transit takes t live early (ends_here at) (taken_is None taken) tokens_are going
+        expired_going start es e tx key come before between transit takes t live early (ends_here at)
+        (taken_is None taken) tokens_are going
     rows_going t live early going (aborted id own one body_is) = absurd (given_up_not id own one body_is)
     rows_going t live early going (committed id own epoch chain at one body_is) =
-        absurd (true_false (sym (commits_are_of_carried_out start es e id own epoch chain at come body_is) ∙ (ap (is_carried_out start (logs_of start es)) one ∙ undone)))
+        absurd (true_false (sym (commits_are_of_carried_out start es e id own epoch chain at come body_is)
+        ∙ (ap (is_carried_out start (logs_of start es)) one ∙ undone)))
     rows_going t live early going (completed id own chain at one body_is) =
-        absurd (true_false (sym (completions_are_of_carried_out start es e id own chain at come body_is) ∙ (ap (is_carried_out start (logs_of start es)) one ∙ undone)))
+        absurd (true_false (sym (completions_are_of_carried_out start es e id own chain at come body_is)
+        ∙ (ap (is_carried_out start (logs_of start es)) one ∙ undone)))
 
     -- before it begins no part of an operation is about
     zero : IsUnborn tx (host_after start es own_home) → NoneAtAll tx key start es come.before before
@@ -431,7 +445,8 @@ module _ (start : Start) (es : List HostStep) (e : HostStep) (tx : TxId) (key : 
         (unborn_absent start tx own_home (logs_of start es own_home) unborn) kept
 
     rows_pristine : IsUnborn tx (host_after start es own_home) → Case → IsPristine w
-    rows_pristine unborn (off apart taken) = pristine_as v w (others_like start es e tx key (off_here apart)).likewise (circling.pristine unborn)
+    rows_pristine unborn (off apart taken) = pristine_as v w (others_like start es e tx key (off_here apart)).likewise
+        (circling.pristine unborn)
     rows_pristine unborn (asked q body_is q_is own at taken) =
         absurd (true_false (sym (counts tx key (rows_of x.to.node) x.body (performs q.work q.at) taken)
         ∙ each_taken (λ (y : Addressed). is_token tx y.signal.body ≡ false) e before between
@@ -440,12 +455,15 @@ module _ (start : Start) (es : List HostStep) (e : HostStep) (tx : TxId) (key : 
         absurd (each-first_by (λ (q : Request). ⊥) (is_by tx) (is_let_in r.lock) r.waiting q
         (subst (Each (λ (q : Request). ⊥)) (sym ((zero unborn).waits n)) tt) first_is
         (ap (λ t. same_tx t tx) q_is ∙ same_tx-self tx))
-    rows_pristine unborn (expired_here at taken) = pristine_as v w (expired_as start es e tx key (ends_here at)) (circling.pristine unborn)
+    rows_pristine unborn (expired_here at taken) = pristine_as v w (expired_as start es e tx key (ends_here at))
+        (circling.pristine unborn)
     rows_pristine unborn (aborted id own one body_is) = absurd (given_up_not id own one body_is)
     rows_pristine unborn (committed id own epoch chain at one body_is) =
-        absurd (true_false (sym (commits_are_of_carried_out start es e id own epoch chain at come body_is) ∙ (ap (is_carried_out start (logs_of start es)) one ∙ undone)))
+        absurd (true_false (sym (commits_are_of_carried_out start es e id own epoch chain at come body_is)
+        ∙ (ap (is_carried_out start (logs_of start es)) one ∙ undone)))
     rows_pristine unborn (completed id own chain at one body_is) =
-        absurd (true_false (sym (completions_are_of_carried_out start es e id own chain at come body_is) ∙ (ap (is_carried_out start (logs_of start es)) one ∙ undone)))
+        absurd (true_false (sym (completions_are_of_carried_out start es e id own chain at come body_is)
+        ∙ (ap (is_carried_out start (logs_of start es)) one ∙ undone)))
 
     rows_circles : Now
     rows_circles = record {

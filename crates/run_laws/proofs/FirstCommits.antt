@@ -146,7 +146,8 @@ module _ (start : Start) (es : List HostStep) (e : HostStep) (come : Comes start
       (λ x f. part_tells tx (IsSpread start (logs_of start (e ∷ es)) tx) (IsCommittedAtAll start (logs_of start (e ∷ es)) tx) x.signal.body f) between_none)
 
   -- a turn of the transaction
-  module _ (t : Transaction) (step : IsTcStep g e.step.taken (row g e.step.taken)) (was : of_host tx g ≡ Some t) (own : is_for tx e.step.taken.body ≡ true)
+  module _ (t : Transaction) (step : IsTcStep g e.step.taken (row g e.step.taken)) (was : of_host tx g ≡ Some t)
+      (own : is_for tx e.step.taken.body ≡ true)
       (sent : sends ≡ (turn_for (tc_of g).node (tc_of g).layout tx e.step.taken.body t).step.effects.sends)
       (left : of_host tx (row g e.step.taken).state ≡ left_by (turn_for (tc_of g).node (tc_of g).layout tx e.step.taken.body t)) where
     abbrev s : TcState

@@ -53,9 +53,11 @@ module _ (tx : TxId) where
   zero_ops ops (Epoch (DiVerifyReq other its)) none = λ on. absurd (omega (arith, none, ap one_if on))
   zero_ops ops _ none = tt
 
-  pub none_ops : (ops : List (Op × Answer)) (sends : List Outgoing) → in_sends (ask tx) sends ≡ 0 → Each (λ (o : Outgoing). OpsOf ops o.body) sends
+  pub none_ops : (ops : List (Op × Answer)) (sends : List Outgoing) → in_sends (ask tx) sends ≡ 0
+      → Each (λ (o : Outgoing). OpsOf ops o.body) sends
   none_ops ops sends none =
-      each_map (λ (o : Outgoing). ask tx o.to o.body ≡ 0) (λ (o : Outgoing). OpsOf ops o.body) sends (λ o is. zero_ops ops o.body is) (none_weighs (λ (o : Outgoing). ask tx o.to o.body) sends none)
+      each_map (λ (o : Outgoing). ask tx o.to o.body ≡ 0) (λ (o : Outgoing). OpsOf ops o.body) sends
+      (λ o is. zero_ops ops o.body is) (none_weighs (λ (o : Outgoing). ask tx o.to o.body) sends none)
 
   -- signals that ask for no epoch, and give one to the transaction at most where one was asked for
   pub record PassesOn (body : Body) (sends : List Outgoing) : Type 0 where
@@ -69,7 +71,8 @@ module _ (tx : TxId) where
   mute_pass body sends mute = none_pass body sends (mute_none tx sends mute)
 
   api_pass : (s : ApiState) (body : Body) → PassesOn body (api_table s body).effects.sends
-  api_pass s body = mute_pass body (api_table s body).effects.sends (api_each (λ (o : Outgoing). is_mute o.body ≡ true) (λ o is. plain o.body is) (λ name node. refl) s body)
+  api_pass s body = mute_pass body (api_table s body).effects.sends (api_each (λ (o : Outgoing). is_mute o.body ≡ true)
+      (λ o is. plain o.body is) (λ name node. refl) s body)
     where
       plain : (b : Body) → is_api_kind b ≡ true → is_mute b ≡ true
       plain (Epoch (DiVerifyReq other ops)) is = absurd cc
@@ -77,18 +80,22 @@ module _ (tx : TxId) where
       plain _ is = refl
 
   lqh_pass : (s : LqhState) (body : Body) → PassesOn body (lqh_table s body).effects.sends
-  lqh_pass s body = mute_pass body (lqh_table s body).effects.sends (each_of is_lqh_kind (λ (o : Outgoing). is_mute o.body ≡ true) (λ o is. plain o.body is) (lqh_table s body).effects.sends (lqh_kinds s body))
+  lqh_pass s body = mute_pass body (lqh_table s body).effects.sends
+      (each_of is_lqh_kind (λ (o : Outgoing). is_mute o.body ≡ true) (λ o is. plain o.body is)
+      (lqh_table s body).effects.sends (lqh_kinds s body))
     where
       plain : (b : Body) → is_lqh_kind b ≡ true → is_mute b ≡ true
       plain (Epoch (DiVerifyReq other ops)) is = absurd cc
       plain (Epoch (DiVerifyConf other epoch)) is = absurd cc
       plain _ is = refl
 
-  decide_pass : (s : DihState) (one : TxId) (ops : List (Op × Answer)) (b : Bool) → PassesOn (Epoch (DiVerifyReq one ops)) (decide_if s one b).effects.sends
+  decide_pass : (s : DihState) (one : TxId) (ops : List (Op × Answer)) (b : Bool)
+      → PassesOn (Epoch (DiVerifyReq one ops)) (decide_if s one b).effects.sends
   decide_pass s one ops true = record { few = omega arith; ops = λ other. (tt, tt) }
   decide_pass s one ops false = none_pass (Epoch (DiVerifyReq one ops)) [] refl
 
-  verify_pass : (s : DihState) (one : TxId) (ops : List (Op × Answer)) → PassesOn (Epoch (DiVerifyReq one ops)) (decide_row s one).effects.sends
+  verify_pass : (s : DihState) (one : TxId) (ops : List (Op × Answer)) → PassesOn (Epoch (DiVerifyReq one ops))
+      (decide_row s one).effects.sends
   unfolding decide_row
   verify_pass s one ops = decide_pass s one ops (nat_lt (length s.counted) 64)
 
@@ -105,13 +112,17 @@ module _ (tx : TxId) where
   -- or gives it a turn, or begins it
   pub data HostAsks (s : Host) (x : Signal) (after : Host) (sends : List Outgoing) : Type 0 where
     leaves : Leaves s x.body after sends → HostAsks s x after sends
-    turned : has_tc s ≡ true → (t : Transaction) (turn : Turn) → of_host tx s ≡ Some t → of_host tx after ≡ left_by turn → sends ≡ turn.step.effects.sends
-        → tc_sends s x ≡ turn.step.effects.sends → (IsUnborn tx after → IsUnborn tx s) → AskTurn tx x.body t turn → GoesOn tx x.body t turn → HostAsks s x after sends
-    begun : has_tc s ≡ true → next_tx (tc_of s) ≡ tx → of_host tx after ≡ Some fresh → in_sends (ask tx) sends ≡ 0 → HostAsks s x after sends
+    turned : has_tc s ≡ true → (t : Transaction) (turn : Turn) → of_host tx s ≡ Some t → of_host tx after ≡ left_by turn
+        → sends ≡ turn.step.effects.sends
+        → tc_sends s x ≡ turn.step.effects.sends → (IsUnborn tx after → IsUnborn tx s) → AskTurn tx x.body t turn
+        → GoesOn tx x.body t turn → HostAsks s x after sends
+    begun : has_tc s ≡ true → next_tx (tc_of s) ≡ tx → of_host tx after ≡ Some fresh → in_sends (ask tx) sends ≡ 0
+        → HostAsks s x after sends
 
   module _ (s : Host) (x : Signal) where
     -- a step of another block leaves it
-    other_leaves : (t : Step Host) → tc_of t.state ≡ tc_of s → (effects : Effects) → t.effects ≡ effects → PassesOn x.body effects.sends
+    other_leaves : (t : Step Host) → tc_of t.state ≡ tc_of s → (effects : Effects) → t.effects ≡ effects
+        → PassesOn x.body effects.sends
         → HostAsks s x t.state t.effects.sends
     other_leaves t same effects is passes = leaves (record {
       passes = subst (λ (f : Effects). PassesOn x.body f.sends) (sym is) passes;
@@ -132,7 +143,8 @@ module _ (tx : TxId) where
         sent : t.effects.sends ≡ (tc_row (tc_of s) x).effects.sends
         sent = ap (λ (f : Effects). f.sends) step.effects
 
-        none : Each (λ (o : Outgoing). is_ask tx o.body ≡ false) (tc_row (tc_of s) x).effects.sends → in_sends (ask tx) t.effects.sends ≡ 0
+        none : Each (λ (o : Outgoing). is_ask tx o.body ≡ false) (tc_row (tc_of s) x).effects.sends
+            → in_sends (ask tx) t.effects.sends ≡ 0
         none unasked = ap (in_sends (ask tx)) sent ∙ unasked_none tx (tc_row (tc_of s) x).effects.sends unasked
 
         unborn : IsUnborn tx t.state → IsUnborn tx s
@@ -140,26 +152,34 @@ module _ (tx : TxId) where
 
         by : TurnAsks (tc_row (tc_of s) x) → HostAsks s x t.state t.effects.sends
         by (turn.idle live unasked deaf) =
-            leaves (record { passes = none_pass x.body t.effects.sends (none unasked); live = now ∙ live; unborn = unborn })
+            leaves (record {
+              passes = none_pass x.body t.effects.sends (none unasked);
+              live =
+                  now ∙ live;
+              unborn = unborn;
+            })
         by (turn.turns u was its told is) =
             turned step.runs u (turn_for (tc_of s).node (tc_of s).layout tx x.body u) was (now ∙ is) (sent ∙ told)
             (tc_speaks s x step.runs step.at ∙ told) unborn (turn_asks tx (tc_of s).node (tc_of s).layout u x.body its)
             (turn_going tx u (tc_of s).node (tc_of s).layout x.body its)
         by (turn.begins next is unasked off) = begun step.runs next (now ∙ is) (none unasked)
 
-    asks_by : (t : Step Host) → IsHome tx (tc_of s) → next_number s ≤ next_number t.state → BlockCase s x t → HostAsks s x t.state t.effects.sends
+    asks_by : (t : Step Host) → IsHome tx (tc_of s) → next_number s ≤ next_number t.state → BlockCase s x t
+        → HostAsks s x t.state t.effects.sends
     asks_by t home rises (api_takes step) =
         other_leaves t step.tc (api_table (api_of s) x.body).effects step.effects (api_pass (api_of s) x.body)
     asks_by t home rises (tc_takes step) =
         tc_step t step rises
-        (tc_turn (λ (o : Outgoing). is_ask tx o.body ≡ false) tx (tc_of s) (beside_mute tx (tc_of s)) home.own home.once x.body
+        (tc_turn (λ (o : Outgoing). is_ask tx o.body ≡ false) tx (tc_of s) (beside_mute tx (tc_of s))
+        home.own home.once x.body
         (others_mute tx (tc_of s) x.body))
     asks_by t home rises (dih_takes step) =
         other_leaves t step.tc (dih_table (dih_of s) x.body).effects step.effects (dih_pass (dih_of s) x.body)
     asks_by t home rises (rows_take step) =
         other_leaves t step.tc (lqh_table (lqh_of s) x.body).effects step.effects (lqh_pass (lqh_of s) x.body)
     asks_by t home rises (none_takes step) =
-        other_leaves t (ap (λ (u : Step Host). tc_of u.state) step.is) nothing (ap (λ (u : Step Host). u.effects) step.is)
+        other_leaves t (ap (λ (u : Step Host). tc_of u.state) step.is) nothing
+        (ap (λ (u : Step Host). u.effects) step.is)
         (none_pass x.body [] refl)
 
     pub host_asks : IsHome tx (tc_of s) → HostAsks s x (row s x).state (row s x).effects.sends

@@ -166,12 +166,14 @@ module _ (tx : TxId) (node : ℕ) (layout : Layout) where
         each_append SoTells (take 8 (drop at xs)) (rest_if node tx at (nat_lt (at + 8) (length xs))) (each_take SoTells 8 (drop at xs) (each_drop SoTells at xs all))
         (rest_tells at (nat_lt (at + 8) (length xs)))
 
-    pub commits_tell : (epoch awaited at : ℕ) (touched : List Touched) → Each (λ (u : Touched). Spread u.key u.chain (last_place u.chain)) touched
+    pub commits_tell : (epoch awaited at : ℕ) (touched : List Touched)
+        → Each (λ (u : Touched). Spread u.key u.chain (last_place u.chain)) touched
         → Each SoTells (part_effects node tx (phase_sends layout tx (Committing epoch awaited) touched) at).sends
     commits_tell epoch awaited at touched all =
         part_tells (phase_sends layout tx (Committing epoch awaited) touched) at (subst (Each SoTells) (sym (commits_are epoch awaited touched)) (each touched all))
       where
-        each : (us : List Touched) → Each (λ (u : Touched). Spread u.key u.chain (last_place u.chain)) us → Each SoTells (map (commit_of tx epoch) us)
+        each : (us : List Touched) → Each (λ (u : Touched). Spread u.key u.chain (last_place u.chain)) us
+            → Each SoTells (map (commit_of tx epoch) us)
         each [] all = tt
         each (u ∷ us) all = (λ e. all.0, each us all.1)
 
@@ -184,6 +186,7 @@ module _ (tx : TxId) (node : ℕ) (layout : Layout) where
         one u d true = (λ e. d, tt)
         one u d false = tt
 
-        each : (us : List Touched) → Each (λ (u : Touched). AtAll u.key) us → Each SoTells (flat_map (key_sends layout tx (Completing epoch awaited)) us)
+        each : (us : List Touched) → Each (λ (u : Touched). AtAll u.key) us
+            → Each SoTells (flat_map (key_sends layout tx (Completing epoch awaited)) us)
         each [] all = tt
         each (u ∷ us) all = each_append SoTells (complete_if tx u u.written) (flat_map (key_sends layout tx (Completing epoch awaited)) us) (one u all.0 u.written) (each us all.1)

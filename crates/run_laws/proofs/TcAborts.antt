@@ -33,7 +33,8 @@ pub record TurnAborts (tx : TxId) (t : Transaction) (turn : Turn) : Type 0 where
   pub aborts : is_aborting turn.step.state.phase ≡ true → (is_aborting t.phase ≡ true) ⊎ (gives_up tx turn.step.effects.sends ≡ true)
 
 -- an abort that has something to wait for
-enters_told : (tx : TxId) (node : ℕ) (layout : Layout) (t : Transaction) (why : AbortCause) (verifying : Bool) (awaited : ℕ) → HasTouchedAsked t.touched t.asked
+pub enters_told : (tx : TxId) (node : ℕ) (layout : Layout) (t : Transaction) (why : AbortCause) (verifying : Bool)
+    (awaited : ℕ) → HasTouchedAsked t.touched t.asked
     → (abort.aborts_awaited layout t == 0) ≡ false → gives_up tx (entering node layout tx t (Aborting why verifying awaited)).effects.sends ≡ true
 unfolding entering part_effects phase_sends front_sends
 enters_told tx node layout t why verifying awaited has waits =

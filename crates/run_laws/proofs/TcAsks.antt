@@ -1,14 +1,12 @@
--- What each row of a coordinator does to a transaction as to its epoch: it asks for one when it is open, and waits until it has
+-- What each row of a coordinator does to a transaction as to its epoch: it asks for one when it is open, and waits
+-- until it has
 -- one or is given up.
-use Rattle.std.proofs.Common.{◌≡◌, ◌⊎◌, ℕ, ◌==◌, Bool, true, false, ◌||◌, List, [], ◌∷◌, ◌++◌, take, refl, sym, ap, ◌∙◌, subst, inl, inr, arith}
-use Rattle.std.specs.List.{flat_map, list_any}
+use Rattle.std.proofs.Common.{◌≡◌, ◌⊎◌, ℕ, Bool, true, false, List, [], ◌∷◌, refl, sym, ap, ◌∙◌, subst, inl, inr, arith}
 use Rattle.std.specs.Prelude.{None, Some}
 use Rattle.std.proofs.lemmas.Bool.{and_parts}
-use Rattle.std.proofs.lemmas.Bool.Decides.{nat_tests}
 use Rattle.run_theory.specs.Lists.{Each}
 use Rattle.run_theory.proofs.Pasts.{each_map}
 use Rattle.sig_core.specs.declared.member.TxId.{TxId}
-use Rattle.sig_core.specs.declared.outcome.AbortCause.{AbortCause}
 use Rattle.sig_core.specs.declared.outs.Outgoing.{Outgoing}
 use Rattle.sig_core.specs.declared.place.Place.{Place}
 use Rattle.sig_core.specs.declared.signal.Body.{Body}
@@ -20,23 +18,22 @@ use Rattle.sig_core.specs.Same.{same_tx}
 use Rattle.sig_core.specs.Step.{to_place}
 use Rattle.tc_block.specs.Abort as abort
 use Rattle.tc_block.specs.Operate as operate
-use Rattle.tc_block.specs.Part.{part_effects, rest}
-use Rattle.tc_block.specs.Sends.{entering, front_sends, key_sends, phase_sends}
 use Rattle.tc_block.specs.declared.phase.Asked.{Asked}
 use Rattle.tc_block.specs.declared.phase.Phase.{Phase}
-use Rattle.tc_block.specs.declared.phase.Phase.TheVariants.{Open, Verifying, Aborting}
+use Rattle.tc_block.specs.declared.phase.Phase.TheVariants.{Open, Verifying}
 use Rattle.tc_block.specs.declared.transaction.Transaction.{Transaction}
 use Rattle.tc_block.specs.Turn.{Turn, at_phase}
 use Rattle.host_laws.specs.Kinds.{kind_of}
-use Rattle.host_laws.specs.Ways.{Way, back, way_of}
 use Rattle.sig_core.proofs.Keys.{same_tx-self}
 use Rattle.tc_block.specs.State.{TcState}
 use Rattle.tc_block.proofs.EachTurn.{CommittedForms, TurnForms, rows_of}
 use Rattle.tc_block.proofs.LiveKeeps.{SendsBeside}
 use Rattle.host_laws.specs.Counts.{one_if}
 use Rattle.host_laws.proofs.TcGoes.{AllSay, SaysOf, turn_goes}
-use Rattle.run_laws.proofs.AbortsFirst.{IsBackFirst, aborts_first}
+use Rattle.run_laws.specs.Keyed.{HasTouchedAsked}
+use Rattle.run_laws.proofs.TcAborts.{enters_told}
 use Rattle.run_laws.proofs.TcCircle.{ready_is}
+use Rattle.run_laws.proofs.TcTurns.{end_gives_up, gives_up}
 use Rattle.run_laws.proofs.TxTurns.{OthersSend, is_for, left_by, turn_each, turn_for}
 use Rattle.run_laws.proofs.Weighing.{in_sends}
 
@@ -50,10 +47,6 @@ is_ask tx body = false
 abbrev pub is_conf : TxId → Body → Bool
 is_conf tx (Epoch (DiVerifyConf other epoch)) = same_tx other tx
 is_conf tx body = false
-
-abbrev pub is_back : TxId → Way → Bool
-is_back tx (back other) = same_tx tx other
-is_back tx way = false
 
 -- of no transaction
 abbrev pub is_mute : Body → Bool
@@ -74,7 +67,8 @@ pub record IsAsking (tx : TxId) (t : Transaction) (turn : Turn) : Type 0 where
 
 -- what becomes of one that waits for its epoch: it waits on, was given the epoch, or is given up
 abbrev pub IsLate : TxId → Body → Transaction → Turn → Type 0
-IsLate tx body t turn = (left_by turn ≡ Some t) ⊎ ((is_conf tx body ≡ true) ⊎ (list_any (λ (o : Outgoing). is_back tx (way_of o.body)) turn.step.effects.sends ≡ true))
+IsLate tx body t turn = (left_by turn ≡ Some t)
+    ⊎ ((is_conf tx body ≡ true) ⊎ (gives_up tx turn.step.effects.sends ≡ true))
 
 pub record AskTurn (tx : TxId) (body : Body) (t : Transaction) (turn : Turn) : Type 0 where
   pub sends : AreMute turn.step.effects.sends ⊎ IsAsking tx t turn
@@ -86,41 +80,21 @@ mute_of tx (Epoch (DiVerifyConf other epoch)) says = absurd says
 mute_of tx _ says = refl
 
 all_mute : (tx : TxId) (sends : List Outgoing) → AllSay tx (Unit {0}) sends → AreMute sends
-all_mute tx sends all = each_map (λ (o : Outgoing). SaysOf tx (Unit {0}) (kind_of o.body)) (λ (o : Outgoing). is_mute o.body ≡ true) sends (λ o says. mute_of tx o.body says) all
+all_mute tx sends all = each_map (λ (o : Outgoing). SaysOf tx (Unit {0}) (kind_of o.body))
+    (λ (o : Outgoing). is_mute o.body ≡ true) sends (λ o says. mute_of tx o.body says) all
 
 module _ (tx : TxId) where
-  abbrev GoesBack : List Outgoing → Type 0
-  GoesBack sends = list_any (λ (o : Outgoing). is_back tx (way_of o.body)) sends ≡ true
-
-  part_back : (node : ℕ) (sends : List Outgoing) → IsBackFirst tx sends → GoesBack (part_effects node tx sends 0).sends
-  unfolding part_effects
-  part_back node sends f =
-      subst (λ all. GoesBack (take 8 all ++ rest node tx sends 0)) (sym f.is)
-      (ap (λ b. b || list_any (λ (o : Outgoing). is_back tx (way_of o.body)) (take 7 f.more ++ rest node tx sends 0))
-      (ap (is_back tx) f.goes ∙ same_tx-self tx))
-
-  end_back : (node : ℕ) (why : AbortCause) (b : Bool) → GoesBack (abort.abort_end node tx why b)
-  end_back node why true = ap (λ b. b || false) (same_tx-self tx)
-  end_back node why false = ap (λ b. b || false) (same_tx-self tx)
-
   module _ (node : ℕ) (layout : Layout) (t : Transaction) where
-    -- an abort of one without an unanswered operation, that has something to wait for
-    enters_back : (why : AbortCause) (verifying : Bool) → t.asked ≡ None → (abort.aborts_awaited layout t == 0) ≡ false
-        → GoesBack (entering node layout tx t (Aborting why verifying (abort.aborts_awaited layout t))).effects.sends
-    unfolding entering phase_sends front_sends
-    enters_back why verifying none some =
-        part_back node (flat_map (key_sends layout tx (Aborting why verifying (abort.aborts_awaited layout t))) t.touched)
-        (aborts_first layout tx why verifying (abort.aborts_awaited layout t) t.touched
-        (λ zero_is. absurd (grind (arith, nat_tests, some, zero_is, ap (abort.asked_count layout) none))))
-
     -- a turn sends nothing of an epoch, but for the one that asks for it
     abbrev Asks : Turn → Type 0
     Asks turn = AreMute turn.step.effects.sends ⊎ IsAsking tx t turn
 
     asks_forms : (body : Body) → TurnForms node layout tx t body Asks
     asks_forms body =
-        turn_goes tx (Unit {0}) Asks node layout t body (λ turn goes. inl (all_mute tx turn.step.effects.sends goes.sends))
-        (λ is ready. let was = ready_is t.phase t.asked ready in inr (record { node = node; was = was.0; free = was.1; left = refl; is = refl }))
+        turn_goes tx (Unit {0}) Asks node layout t body
+        (λ turn goes. inl (all_mute tx turn.step.effects.sends goes.sends))
+        (λ is ready. let was = ready_is t.phase t.asked ready in
+        inr (record { node = node; was = was.0; free = was.1; left = refl; is = refl }))
         (λ is. tt) (λ epoch is. tt)
 
     -- what becomes of it where it waits for its epoch
@@ -128,14 +102,17 @@ module _ (tx : TxId) where
       late : t.phase ≡ Verifying → t.asked ≡ None → IsLate tx body t turn
 
     -- it doesn't wait for it in another phase
-    other_phase : (body : Body) (turn : Turn) (phase : Phase) → t.phase ≡ phase → abort.is_verifying phase ≡ false → Late body turn
+    other_phase : (body : Body) (turn : Turn) (phase : Phase) → t.phase ≡ phase
+        → abort.is_verifying phase ≡ false → Late body turn
     other_phase body turn phase at off = record {
-      late = λ waits none. absurd (let both : true ≡ false = sym (ap abort.is_verifying waits) ∙ (ap abort.is_verifying at ∙ off) in cc);
+      late = λ waits none. absurd (let both : true ≡ false = sym (ap abort.is_verifying waits)
+          ∙ (ap abort.is_verifying at ∙ off) in cc);
     }
 
     -- nor with an operation unanswered
     still_asked : (body : Body) (turn : Turn) (asked : Asked) → t.asked ≡ Some asked → Late body turn
-    still_asked body turn asked on = record { late = λ waits none. absurd (let both : None ≡ Some asked = sym none ∙ on in cc) }
+    still_asked body turn asked on =
+        record { late = λ waits none. absurd (let both : None ≡ Some asked = sym none ∙ on in cc) }
 
     other_committed : (body : Body) (epoch : ℕ) (phase : Phase) → t.phase ≡ phase → abort.is_verifying phase ≡ false
         → CommittedForms node layout tx t epoch (Late body)
@@ -150,22 +127,37 @@ module _ (tx : TxId) where
     late_forms body = record {
       stays = record { late = λ waits none. inl refl };
       goes_on = λ at. record { late = λ waits none. inl refl };
-      operates = λ op is can. other_phase body _ Open (ready_is t.phase t.asked (and_parts (operate.is_ready t.phase t.asked) _ can).0).0 refl;
+      operates = λ op is can. other_phase body _ Open
+          (ready_is t.phase t.asked (and_parts (operate.is_ready t.phase t.asked) _ can).0).0 refl;
       answers = λ key answer asked is on at. still_asked body _ asked on;
       late = λ key asked why verifying awaited on at. still_asked body _ asked on;
       waits = λ asked on. still_asked body _ asked on;
       decides = λ is ready. other_phase body _ Open (ready_is t.phase t.asked ready).0 refl;
       commits = λ epoch is at some. given body _ epoch is;
-      commits_none = λ epoch is at. record { enters = λ some. given body _ epoch is; ends = λ none. given body _ epoch is };
+      commits_none = λ epoch is at. record {
+        enters = λ some. given body _ epoch is;
+        ends =
+            λ none. given body _ epoch is;
+      };
       committed = λ epoch awaited at more. other_phase body _ _ at refl;
       committed_all = λ epoch awaited at. other_committed body epoch _ at refl;
       completed = λ epoch awaited at more. other_phase body _ _ at refl;
       completed_all = λ epoch awaited at last. other_phase body _ _ at refl;
       rolls_back = λ is undecided unaborted. record {
-        enters = λ some. record { late = λ waits none. inr (inr (enters_back _ _ none some)) };
-        ends = λ nothing. record { late = λ waits none. inr (inr (end_back node _ (abort.is_verifying t.phase))) };
+        enters = λ some. record {
+          late = λ waits none. inr
+              (inr (enters_told tx node layout t _ _ _ (subst (HasTouchedAsked t.touched) (sym none) tt) some));
+        };
+        ends = λ nothing. record {
+          late =
+              λ waits none. inr (inr (end_gives_up tx node _ (abort.is_verifying t.phase)));
+        };
       };
-      refuses = λ key why asked is on at. record { enters = λ some. still_asked body _ asked on; ends = λ none. still_asked body _ asked on };
+      refuses = λ key why asked is on at. record {
+        enters = λ some. still_asked body _ asked on;
+        ends =
+            λ none. still_asked body _ asked on;
+      };
       aborted = λ why verifying awaited at more. other_phase body _ _ at refl;
       aborted_all = λ why verifying awaited at last. other_phase body _ _ at refl;
     }
@@ -173,7 +165,8 @@ module _ (tx : TxId) where
     pub turn_asks : (body : Body) → is_for tx body ≡ true → AskTurn tx body t (turn_for node layout tx body t)
     turn_asks body is = record {
       sends = turn_each node layout tx body t Asks (rows_of node layout tx t body Asks (asks_forms body)) is;
-      late = (turn_each node layout tx body t (Late body) (rows_of node layout tx t body (Late body) (late_forms body)) is).late;
+      late = (turn_each node layout tx body t (Late body)
+          (rows_of node layout tx t body (Late body) (late_forms body)) is).late;
     }
 
 -- how many signals ask for an epoch for the transaction, or give it one
@@ -185,25 +178,30 @@ mute_ask tx (Epoch (DiVerifyReq other ops)) is = absurd cc
 mute_ask tx (Epoch (DiVerifyConf other epoch)) is = absurd cc
 mute_ask tx _ is = refl
 
-pub unasked_none : (tx : TxId) (sends : List Outgoing) → Each (λ (o : Outgoing). is_ask tx o.body ≡ false) sends → in_sends (ask tx) sends ≡ 0
+pub unasked_none : (tx : TxId) (sends : List Outgoing) → Each (λ (o : Outgoing). is_ask tx o.body ≡ false) sends
+    → in_sends (ask tx) sends ≡ 0
 unasked_none tx [] all = refl
 unasked_none tx (o ∷ more) all = omega (arith, ap one_if all.0, unasked_none tx more all.1)
 
-mute_each : (tx : TxId) (sends : List Outgoing) → AreMute sends → Each (λ (o : Outgoing). is_ask tx o.body ≡ false) sends
+mute_each : (tx : TxId) (sends : List Outgoing) → AreMute sends
+    → Each (λ (o : Outgoing). is_ask tx o.body ≡ false) sends
 mute_each tx sends =
-    each_map (λ (o : Outgoing). is_mute o.body ≡ true) (λ (o : Outgoing). is_ask tx o.body ≡ false) sends (λ o. mute_ask tx o.body)
+    each_map (λ (o : Outgoing). is_mute o.body ≡ true) (λ (o : Outgoing). is_ask tx o.body ≡ false) sends
+    (λ o. mute_ask tx o.body)
 
 pub mute_none : (tx : TxId) (sends : List Outgoing) → AreMute sends → in_sends (ask tx) sends ≡ 0
 mute_none tx sends mute = unasked_none tx sends (mute_each tx sends mute)
 
 -- the turns of other transactions ask for none of this one, nor does the coordinator beside them
-pub others_mute : (tx : TxId) (s : TcState) (body : Body) → OthersSend (λ (o : Outgoing). is_ask tx o.body ≡ false) tx s body
+pub others_mute : (tx : TxId) (s : TcState) (body : Body)
+    → OthersSend (λ (o : Outgoing). is_ask tx o.body ≡ false) tx s body
 others_mute tx s body one off its t = by (turn_asks one s.node s.layout t body its).sends
   where
     turn : Turn
     turn = turn_for s.node s.layout one body t
 
-    by : AreMute turn.step.effects.sends ⊎ IsAsking one t turn → Each (λ (o : Outgoing). is_ask tx o.body ≡ false) turn.step.effects.sends
+    by : AreMute turn.step.effects.sends ⊎ IsAsking one t turn
+        → Each (λ (o : Outgoing). is_ask tx o.body ≡ false) turn.step.effects.sends
     by (inl mute) = mute_each tx turn.step.effects.sends mute
     by (inr asking) = subst (Each (λ (o : Outgoing). is_ask tx o.body ≡ false)) (sym asking.is) (off, tt)
 

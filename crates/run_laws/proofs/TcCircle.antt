@@ -61,17 +61,24 @@ deaf_of t _ off = tt
 -- It rests, sends an operation to the primary, notes the answer of its operation, or asks for an epoch.
 pub data Going (tx : TxId) (body : Body) (t u : Transaction) (sends : List Outgoing) : Type 0 where
   rests : u ≡ t → AreStill tx sends → IsDeaf t body → Going tx body t u sends
-  operates : (op : Op) (chain : List Member) → t.asked ≡ None → t.phase ≡ Open → u.ops ≡ t.ops → u.asked ≡ Some (record { op = op; chain = chain }) → u.phase ≡ Open
-      → sends ≡ to_place (rows_of (node_at chain 0)) (Chain (LqhKeyReq tx (Operate op) chain 0)) ∷ [] → Going tx body t u sends
-  notes : (asked : Asked) (answer : Answer) (own : List ℕ) → body ≡ Chain (LqhKeyConf tx own answer) → asked_on t.asked own ≡ Some asked → t.phase ≡ Open
-      → u.ops ≡ t.ops ++ (asked.op, answer) ∷ [] → u.asked ≡ None → u.phase ≡ Open → AreStill tx sends → Going tx body t u sends
-  verifies : t.asked ≡ None → t.phase ≡ Open → u.ops ≡ t.ops → u.asked ≡ None → u.phase ≡ Verifying → AreStill tx sends → Going tx body t u sends
+  operates : (op : Op) (chain : List Member) → t.asked ≡ None → t.phase ≡ Open → u.ops ≡ t.ops
+      → u.asked ≡ Some (record { op = op; chain = chain }) → u.phase ≡ Open
+      → sends ≡ to_place (rows_of (node_at chain 0)) (Chain (LqhKeyReq tx (Operate op) chain 0)) ∷ []
+      → Going tx body t u sends
+  notes : (asked : Asked) (answer : Answer) (own : List ℕ) → body ≡ Chain (LqhKeyConf tx own answer)
+      → asked_on t.asked own ≡ Some asked → t.phase ≡ Open
+      → u.ops ≡ t.ops ++ (asked.op, answer) ∷ [] → u.asked ≡ None → u.phase ≡ Open → AreStill tx sends
+      → Going tx body t u sends
+  verifies : t.asked ≡ None → t.phase ≡ Open → u.ops ≡ t.ops → u.asked ≡ None → u.phase ≡ Verifying → AreStill tx sends
+      → Going tx body t u sends
 
 -- so it is, if the transaction is open or waits for its epoch after the turn
 pub record GoesOn (tx : TxId) (body : Body) (t : Transaction) (turn : Turn) : Type 0 where
-  pub goes : (u : Transaction) → left_by turn ≡ Some u → is_early u.phase ≡ true → Going tx body t u turn.step.effects.sends
+  pub goes : (u : Transaction) → left_by turn ≡ Some u → is_early u.phase ≡ true
+      → Going tx body t u turn.step.effects.sends
 
-pub ready_is : (phase : Phase) (asked : Option Asked) → operate.is_ready phase asked ≡ true → (phase ≡ Open) × (asked ≡ None)
+pub ready_is : (phase : Phase) (asked : Option Asked) → operate.is_ready phase asked ≡ true
+    → (phase ≡ Open) × (asked ≡ None)
 ready_is Open None is = (refl, refl)
 ready_is Open (Some asked) is = absurd cc
 ready_is Verifying asked is = absurd cc
@@ -81,26 +88,31 @@ ready_is (Aborting why verifying awaited) asked is = absurd cc
 
 module _ (tx : TxId) (t : Transaction) where
   -- it is as before
-  rest_goes : (body : Body) (turn : Turn) → left_by turn ≡ Some t → AreStill tx turn.step.effects.sends → IsDeaf t body → GoesOn tx body t turn
+  rest_goes : (body : Body) (turn : Turn) → left_by turn ≡ Some t → AreStill tx turn.step.effects.sends
+      → IsDeaf t body → GoesOn tx body t turn
   rest_goes body turn same none deaf = record {
-    goes = λ u is early. let both : Some t ≡ Some u = sym same ∙ is in let now : t ≡ u = cc in rests (sym now) none deaf;
+    goes = λ u is early. let both : Some t ≡ Some u = sym same ∙ is in let now : t ≡ u =
+        cc in rests (sym now) none deaf;
   }
 
   -- it is open no more
   closed_goes : (body : Body) (turn : Turn) → is_early turn.step.state.phase ≡ false → GoesOn tx body t turn
   closed_goes body turn closed = record { goes = λ u is early. by u early turn.over is }
     where
-      by : (u : Transaction) → is_early u.phase ≡ true → (b : Bool) → (if b then None else Some turn.step.state) ≡ Some u
+      by : (u : Transaction) → is_early u.phase ≡ true → (b : Bool)
+          → (if b then None else Some turn.step.state) ≡ Some u
           → Going tx body t u turn.step.effects.sends
       by u early true is = absurd cc
       by u early false is =
           let same : turn.step.state ≡ u = cc in
-          absurd (let both : true ≡ false = sym early ∙ (ap (λ (w : Transaction). is_early w.phase) (sym same) ∙ closed) in cc)
+          absurd (let both : true ≡ false = sym early
+          ∙ (ap (λ (w : Transaction). is_early w.phase) (sym same) ∙ closed) in cc)
 
   -- or over
   over_goes : (body : Body) (turn : Turn) → turn.over ≡ true → GoesOn tx body t turn
   over_goes body turn over = record {
-    goes = λ u is early. absurd (let none : None ≡ Some u = sym (ap (λ b. if b then None else Some turn.step.state) over) ∙ is in cc);
+    goes = λ u is early. absurd (let none : None ≡ Some u =
+        sym (ap (λ b. if b then None else Some turn.step.state) over) ∙ is in cc);
   }
 
   answer_going : (layout : Layout) (own : List ℕ) (answer : Answer)
@@ -112,11 +124,13 @@ module _ (tx : TxId) (t : Transaction) where
       body = Chain (LqhKeyConf tx own answer)
 
       by : (asked : Option Asked) (phase : Phase) → asked_on t.asked own ≡ asked → t.phase ≡ phase
-          → GoesOn tx (Chain (LqhKeyConf tx own answer)) t (going (operate.answer_by layout tx t own answer asked phase))
+          → GoesOn tx (Chain (LqhKeyConf tx own answer)) t
+          (going (operate.answer_by layout tx t own answer asked phase))
       by (Some asked) Open on p = record {
         goes = λ u is early.
             let same : operate.answered t asked answer ≡ u = cc in
-            notes asked answer own refl on p (ap (λ (w : Transaction). w.ops) (sym same)) (ap (λ (w : Transaction). w.asked) (sym same))
+            notes asked answer own refl on p (ap (λ (w : Transaction). w.ops) (sym same))
+            (ap (λ (w : Transaction). w.asked) (sym same))
             (ap (λ (w : Transaction). w.phase) (sym same) ∙ p) (refl, tt);
       }
       by (Some asked) (Aborting why verifying awaited) on p = closed_goes body _ (ap is_early p)
@@ -154,9 +168,14 @@ module _ (tx : TxId) (t : Transaction) where
   module _ (node : ℕ) (layout : Layout) where
     committed_forms : (body : Body) (epoch : ℕ) → CommittedForms node layout tx t epoch (GoesOn tx body t)
     unfolding entering
-    committed_forms body epoch = record { enters = λ some. closed_goes body _ refl; ends = λ none. over_goes body _ refl }
+    committed_forms body epoch = record {
+      enters = λ some. closed_goes body _ refl;
+      ends =
+          λ none. over_goes body _ refl;
+    }
 
-    abort_forms : (body : Body) (u : Transaction) (why : AbortCause) → AbortForms node layout tx u why (GoesOn tx body t)
+    abort_forms : (body : Body) (u : Transaction) (why : AbortCause)
+        → AbortForms node layout tx u why (GoesOn tx body t)
     unfolding entering
     abort_forms body u why = record { enters = λ some. closed_goes body _ refl; ends = λ none. over_goes body _ refl }
 
@@ -171,10 +190,12 @@ module _ (tx : TxId) (t : Transaction) where
       goes_on = λ at. rest_goes body _ refl (still.goes_on at).sends deaf;
       operates = λ op is can. record {
         goes = λ u left early.
-            let ready = ready_is t.phase t.asked (and_parts (operate.is_ready t.phase t.asked) (fits t.touched (key_of op)) can).0 in
+            let ready = ready_is t.phase t.asked (and_parts (operate.is_ready t.phase t.asked)
+            (fits t.touched (key_of op)) can).0 in
             let same : (operate.operating tx t op (chain_of layout (key_of op))).state ≡ u = cc in
             operates op (chain_of layout (key_of op)) ready.1 ready.0 (ap (λ (w : Transaction). w.ops) (sym same))
-            (ap (λ (w : Transaction). w.asked) (sym same)) (ap (λ (w : Transaction). w.phase) (sym same) ∙ ready.0) refl;
+            (ap (λ (w : Transaction). w.asked) (sym same))
+            (ap (λ (w : Transaction). w.phase) (sym same) ∙ ready.0) refl;
       };
       answers = λ key answer asked is on at. absurd (let both : true ≡ false = sym (ap is_reply is) ∙ off in cc);
       late = λ key asked why verifying awaited on at. closed_goes body _ (ap is_early at);
@@ -183,7 +204,8 @@ module _ (tx : TxId) (t : Transaction) where
         goes = λ u left early.
             let ready = ready_is t.phase t.asked can in
             let same : (commit.verify_if node tx t true).state ≡ u = cc in
-            verifies ready.1 ready.0 (ap (λ (w : Transaction). w.ops) (sym same)) (ap (λ (w : Transaction). w.asked) (sym same) ∙ ready.1)
+            verifies ready.1 ready.0 (ap (λ (w : Transaction). w.ops) (sym same))
+            (ap (λ (w : Transaction). w.asked) (sym same) ∙ ready.1)
             (ap (λ (w : Transaction). w.phase) (sym same)) (refl, tt);
       };
       commits = λ epoch is at some. closed_goes body _ refl;
@@ -203,10 +225,13 @@ module _ (tx : TxId) (t : Transaction) where
 
     pub turn_going : (body : Body) → is_for tx body ≡ true → GoesOn tx body t (turn_for node layout tx body t)
     turn_going (Chain (LqhKeyConf one own answer)) is =
-        subst (λ v. GoesOn tx (Chain (LqhKeyConf v own answer)) t (turn_for node layout tx (Chain (LqhKeyConf one own answer)) t))
+        subst (λ v. GoesOn tx (Chain (LqhKeyConf v own answer)) t
+        (turn_for node layout tx (Chain (LqhKeyConf one own answer)) t))
         (sym (same_tx-is one tx is)) (answer_going layout own answer)
     turn_going (Chain (LqhKeyRef one own why)) is =
-        subst (λ v. GoesOn tx (Chain (LqhKeyRef v own why)) t (turn_for node layout tx (Chain (LqhKeyRef one own why)) t))
+        subst (λ v. GoesOn tx (Chain (LqhKeyRef v own why)) t
+        (turn_for node layout tx (Chain (LqhKeyRef one own why)) t))
         (sym (same_tx-is one tx is)) (refuse_going node layout own why)
     turn_going body is =
-        turn_each node layout tx body t (GoesOn tx body t) (rows_each node layout tx t body (GoesOn tx body t) (going_forms body refl)) is
+        turn_each node layout tx body t (GoesOn tx body t) (rows_each node layout tx t body (GoesOn tx body t)
+        (going_forms body refl)) is

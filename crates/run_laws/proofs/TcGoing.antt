@@ -229,7 +229,8 @@ module _ (start : Start) (es : List HostStep) (e : HostStep) (tx : TxId) (key : 
       → (is_early t.phase ≡ true → IsGoing start tx key v t before) → Going tx e.step.taken.body t u sends → IsGoing start tx key w u (joined sent between)
   row_goes t u live now early going (rests same_is none deaf) =
       subst (λ x. IsGoing start tx key w x (joined sent between)) (sym same_is)
-      (deaf_goes t (going (ap (λ (x : Transaction). is_early x.phase) (sym same_is) ∙ early)) (none_out tx key sends none) deaf)
+      (deaf_goes t (going (ap (λ (x : Transaction). is_early x.phase) (sym same_is) ∙ early))
+      (none_out tx key sends none) deaf)
   row_goes t u live now early going (operates op chain asked_none opened ops_is asked_is phase_is sends_is) =
       operate_goes t live (ap is_early opened) (going (ap is_early opened)) asked_none u op chain ops_is asked_is phase_is sends_is
   row_goes t u live now early going (notes asked answer own body_is on opened ops_is asked_none phase_is none) =

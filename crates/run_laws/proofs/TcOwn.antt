@@ -11,7 +11,6 @@ use Rattle.sig_core.specs.declared.signal.host.HostSignal.TheVariants.{Continue}
 use Rattle.sig_core.specs.declared.signal.host.Work.TheVariants as work
 use Rattle.sig_core.specs.Same.{same_tx}
 use Rattle.sig_core.proofs.Keys.{same_tx-self}
-use Rattle.tc_block.specs.declared.transaction.Transaction.{Transaction}
 use Rattle.tc_block.specs.State.{TcState}
 use Rattle.tc_block.proofs.LiveKeeps.{SendsBeside}
 use Rattle.host_laws.proofs.SendKinds.{each_of}
@@ -59,10 +58,13 @@ own tx body = record {
 }
 
 -- the others say nothing of it, nor does the coordinator beside their turns
-pub others_silent : (tx : TxId) (s : TcState) (body : Body) → OthersSend (λ (o : Outgoing). is_sign tx o.body ≡ false) tx s body
+pub others_silent : (tx : TxId) (s : TcState) (body : Body)
+    → OthersSend (λ (o : Outgoing). is_sign tx o.body ≡ false) tx s body
 others_silent tx s body one off its t =
-    each_of (is_own one) (λ o. is_sign tx o.body ≡ false) (λ o e. own_sign one tx off o.body e) (turn_for s.node s.layout one body t).step.effects.sends
-    (turn_each s.node s.layout one body t (TurnOnly (is_own one)) (own_kinds (is_own one) one body (own one body) s.node s.layout t) its)
+    each_of (is_own one) (λ o. is_sign tx o.body ≡ false) (λ o e. own_sign one tx off o.body e)
+    (turn_for s.node s.layout one body t).step.effects.sends
+    (turn_each s.node s.layout one body t (TurnOnly (is_own one))
+    (own_kinds (is_own one) one body (own one body) s.node s.layout t) its)
 
 pub beside_silent : (tx : TxId) (s : TcState) → SendsBeside (λ (o : Outgoing). is_sign tx o.body ≡ false) s
 beside_silent tx s = record { full = λ name. (refl, tt); begins = λ name. (refl, tt); passes = λ one ahead. (refl, tt) }

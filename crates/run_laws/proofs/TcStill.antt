@@ -59,7 +59,8 @@ module _ (v : TxId) where
     complete_still t false = tt
 
     aborts_still : (layout : Layout) (key : List ℕ) → AreStill (aborts_of tx key (chain_of layout key))
-    aborts_still layout key = each_mapped (λ (o : Outgoing). is_token v o.body ≡ false) (abort_of tx key) (chain_of layout key) (λ r. refl)
+    aborts_still layout key = each_mapped (λ (o : Outgoing). is_token v o.body ≡ false) (abort_of tx key)
+        (chain_of layout key) (λ r. refl)
 
     key_still : (layout : Layout) (phase : Phase) (t : Touched) → AreStill (key_sends layout tx phase t)
     unfolding key_sends
@@ -69,11 +70,14 @@ module _ (v : TxId) where
     key_still layout (Completing epoch awaited) t = complete_still t t.written
     key_still layout (Aborting why verifying awaited) t = aborts_still layout t.key
 
-    phase_still : (layout : Layout) (phase : Phase) (touched : List Touched) → AreStill (phase_sends layout tx phase touched)
+    phase_still : (layout : Layout) (phase : Phase) (touched : List Touched)
+        → AreStill (phase_sends layout tx phase touched)
     unfolding phase_sends
     phase_still layout phase touched =
-        each_append (λ (o : Outgoing). is_token v o.body ≡ false) (front_sends tx phase) (flat_map (key_sends layout tx phase) touched) (front_still phase)
-        (each_flat (λ (o : Outgoing). is_token v o.body ≡ false) (key_sends layout tx phase) touched (key_still layout phase))
+        each_append (λ (o : Outgoing). is_token v o.body ≡ false) (front_sends tx phase)
+        (flat_map (key_sends layout tx phase) touched) (front_still phase)
+        (each_flat (λ (o : Outgoing). is_token v o.body ≡ false) (key_sends layout tx phase) touched
+        (key_still layout phase))
 
   abbrev pub AnyTransaction : Transaction → Type 0
   AnyTransaction t = Unit {0}
@@ -95,14 +99,17 @@ module _ (v : TxId) where
   pub turns_still : (tx : TxId) (node : ℕ) (layout : Layout) (t : Transaction) (body : Body)
       → ((op : Op) → body ≡ Client (TcKeyReq tx op) → same_tx tx v ≡ false) → TurnForms node layout tx t body IsStill
   turns_still tx node layout t body other =
-      turn_keeps AnyTransaction (λ (o : Outgoing). is_token v o.body ≡ false) node layout (keep_still layout) tx t body tt
+      turn_keeps AnyTransaction (λ (o : Outgoing). is_token v o.body ≡ false) node layout
+      (keep_still layout) tx t body tt
       (λ op is. record { state = tt; sends = (other op is, tt) })
 
 -- the turns of other transactions send none of this one, nor does the coordinator beside them
-pub others_still : (tx : TxId) (s : TcState) (body : Body) → OthersSend (λ (o : Outgoing). is_token tx o.body ≡ false) tx s body
+pub others_still : (tx : TxId) (s : TcState) (body : Body)
+    → OthersSend (λ (o : Outgoing). is_token tx o.body ≡ false) tx s body
 others_still tx s body one off its t =
     (turn_each s.node s.layout one body t (IsStill tx)
-    (rows_of s.node s.layout one t body (IsStill tx) (turns_still tx one s.node s.layout t body (λ op is. off))) its).sends
+    (rows_of s.node s.layout one t body (IsStill tx) (turns_still tx one s.node s.layout t body (λ op is. off)))
+    its).sends
 
 pub beside_still : (tx : TxId) (s : TcState) → SendsBeside (λ (o : Outgoing). is_token tx o.body ≡ false) s
 beside_still tx s = record { full = λ name. (refl, tt); begins = λ name. (refl, tt); passes = λ one ahead. (refl, tt) }

@@ -56,7 +56,8 @@ few phase asked = by (is_aborting phase) asked
     by false (Some a) = omega arith
 
 -- none where it takes neither operations nor is aborted
-pub idle : (phase : Phase) (asked : Option Asked) → is_right asked phase ≡ true → may_ask phase ≡ false → budget_at phase asked ≡ 0
+pub idle : (phase : Phase) (asked : Option Asked) → is_right asked phase ≡ true → may_ask phase ≡ false
+    → budget_at phase asked ≡ 0
 idle Open asked right off = absurd cc
 idle (Aborting why verifying awaited) asked right off = absurd cc
 idle Verifying None right off = refl
@@ -92,82 +93,88 @@ one_asked phase a = by (is_aborting phase)
 pub record TurnTokens (tx : TxId) (t : Transaction) (came : ℕ) (turn : Turn) : Type 0 where
   pub right : is_right turn.step.state.asked turn.step.state.phase ≡ true
   pub own : (m : ℕ) → m + came ≤ budget_of t → m + tokens_out tx turn.step.effects.sends ≤ budget_after tx turn
-  pub others : (v : TxId) → same_tx tx v ≡ false → tokens_out v turn.step.effects.sends ≡ 0
 
 -- who is told of its abort is given up
-end_gives_up : (tx : TxId) (node : ℕ) (why : AbortCause) (b : Bool) → gives_up tx (abort.abort_end node tx why b) ≡ true
+pub end_gives_up : (tx : TxId) (node : ℕ) (why : AbortCause) (b : Bool)
+    → gives_up tx (abort.abort_end node tx why b) ≡ true
 end_gives_up tx node why true = or_left (same_tx tx tx) false (same_tx-self tx)
 end_gives_up tx node why false = or_left (same_tx tx tx) false (same_tx-self tx)
 
-right_aborting : (asked : Option Asked) (why : AbortCause) (verifying : Bool) (awaited : ℕ) → is_right asked (Aborting why verifying awaited) ≡ true
+right_aborting : (asked : Option Asked) (why : AbortCause) (verifying : Bool) (awaited : ℕ)
+    → is_right asked (Aborting why verifying awaited) ≡ true
 right_aborting None why verifying awaited = refl
 right_aborting (Some a) why verifying awaited = refl
 
 right_none : (phase : Phase) (asked : Option Asked) → asked ≡ None → is_right asked phase ≡ true
 right_none phase asked none = ap (λ a. is_right a phase) none
 
-module _ (node : ℕ) (layout : Layout) (tx : TxId) (t : Transaction) (right : is_right t.asked t.phase ≡ true) (came : ℕ) where
+module _ (node : ℕ) (layout : Layout) (tx : TxId) (t : Transaction)
+    (right : is_right t.asked t.phase ≡ true) (came : ℕ) where
   abbrev R : Turn → Type 0
   R turn = TurnTokens tx t came turn
 
   -- a turn at which nothing of it is sent
-  still_turn : (turn : Turn) → is_right turn.step.state.asked turn.step.state.phase ≡ true → ((v : TxId) → IsStill v turn)
+  still_turn : (turn : Turn) → is_right turn.step.state.asked turn.step.state.phase ≡ true → IsStill tx turn
       → ((m : ℕ) → m + came ≤ budget_of t → m ≤ budget_after tx turn) → R turn
   still_turn turn is still own = record {
     right = is;
-    own = λ m low. omega (arith, own m low, still_out tx turn.step.effects.sends (still tx).sends);
-    others = λ v apart. still_out v turn.step.effects.sends (still v).sends;
+    own = λ m low. omega (arith, own m low, still_out tx turn.step.effects.sends still.sends);
   }
 
   -- behind which it is as before, but for its phase; or there may be one
-  as_before : (turn : Turn) → is_right turn.step.state.asked turn.step.state.phase ≡ true → ((v : TxId) → IsStill v turn)
+  as_before : (turn : Turn) → is_right turn.step.state.asked turn.step.state.phase ≡ true → IsStill tx turn
       → budget_after tx turn ≡ budget_of t → R turn
   as_before turn is still same = still_turn turn is still (λ m low. omega (arith, low, same))
 
-  one_then : (turn : Turn) → is_right turn.step.state.asked turn.step.state.phase ≡ true → ((v : TxId) → IsStill v turn)
+  one_then : (turn : Turn) → is_right turn.step.state.asked turn.step.state.phase ≡ true → IsStill tx turn
       → budget_after tx turn ≡ 1 → R turn
   one_then turn is still one = still_turn turn is still (λ m low. omega (arith, low, few t.phase t.asked, one))
 
   -- nor is there one where it takes neither operations nor is aborted
-  none_then : (phase : Phase) → t.phase ≡ phase → may_ask phase ≡ false → (turn : Turn) → turn.step.state.asked ≡ t.asked
-      → ((v : TxId) → IsStill v turn) → R turn
+  none_then : (phase : Phase) → t.phase ≡ phase → may_ask phase ≡ false → (turn : Turn)
+      → turn.step.state.asked ≡ t.asked → IsStill tx turn → R turn
   none_then phase at off turn same still =
-      still_turn turn (right_none turn.step.state.phase turn.step.state.asked (same ∙ none t.asked refl)) still (λ m low. omega (arith, low, idle t.phase t.asked right (ap may_ask at ∙ off)))
+      still_turn turn (right_none turn.step.state.phase turn.step.state.asked (same ∙ none t.asked refl)) still
+      (λ m low. omega (arith, low, idle t.phase t.asked right (ap may_ask at ∙ off)))
     where
       none : (asked : Option Asked) → t.asked ≡ asked → asked ≡ None
       none None on = refl
       none (Some a) on =
           absurd (let both : true ≡ false = sym right ∙ (ap (λ o. is_right o t.phase) on ∙ (ap may_ask at ∙ off)) in cc)
 
-  still : (v : TxId) (body : Body) → ((op : Op) → body ≡ Client (TcKeyReq tx op) → ⊥) → TurnForms node layout tx t body (IsStill v)
-  still v body other = turns_still v tx node layout t body (λ op is. absurd (other op is))
+  still : (body : Body) → ((op : Op) → body ≡ Client (TcKeyReq tx op) → ⊥)
+      → TurnForms node layout tx t body (IsStill tx)
+  still body other = turns_still tx tx node layout t body (λ op is. absurd (other op is))
 
   -- whatever comes
-  anyhow : (v : TxId) → TurnForms node layout tx t (Client (TcCommitReq tx)) (IsStill v)
-  anyhow v = still v (Client (TcCommitReq tx)) (λ op is. cc)
+  anyhow : TurnForms node layout tx t (Client (TcCommitReq tx)) (IsStill tx)
+  anyhow = still (Client (TcCommitReq tx)) (λ op is. cc)
 
   committed_forms : (epoch : ℕ) (phase : Phase) → t.phase ≡ phase → may_ask phase ≡ false
-      → ((v : TxId) → CommittedForms node layout tx t epoch (IsStill v)) → CommittedForms node layout tx t epoch R
+      → CommittedForms node layout tx t epoch (IsStill tx) → CommittedForms node layout tx t epoch R
   unfolding entering
   committed_forms epoch phase at off each = record {
-    enters = λ some. none_then phase at off _ refl (λ v. (each v).enters some);
-    ends = λ none. none_then phase at off _ refl (λ v. (each v).ends none);
+    enters = λ some. none_then phase at off _ refl (each.enters some);
+    ends = λ none. none_then phase at off _ refl (each.ends none);
   }
 
-  abort_forms : (u : Transaction) (why : AbortCause) → is_right u.asked u.phase ≡ true → ((v : TxId) → AbortForms node layout tx u why (IsStill v))
+  abort_forms : (u : Transaction) (why : AbortCause) → is_right u.asked u.phase ≡ true
+      → AbortForms node layout tx u why (IsStill tx)
       → AbortForms node layout tx u why R
   unfolding entering
   abort_forms u why is each = record {
-    enters = λ some. one_then _ (right_aborting u.asked why _ _) (λ v. (each v).enters some) refl;
-    ends = λ none. one_then _ is (λ v. (each v).ends none) (ap one_if (end_gives_up tx node why (abort.is_verifying u.phase)));
+    enters = λ some. one_then _ (right_aborting u.asked why _ _) (each.enters some) refl;
+    ends = λ none. one_then _ is (each.ends none)
+        (ap one_if (end_gives_up tx node why (abort.is_verifying u.phase)));
   }
 
-  pub tokens_forms : (body : Body) → ((key : List ℕ) (answer : Answer) → body ≡ Chain (LqhKeyConf tx key answer) → 1 ≤ came)
+  pub tokens_forms : (body : Body)
+      → ((key : List ℕ) (answer : Answer) → body ≡ Chain (LqhKeyConf tx key answer) → 1 ≤ came)
       → TurnForms node layout tx t body R
   unfolding entering
   tokens_forms body answered = record {
-    stays = as_before _ right (λ v. (anyhow v).stays) refl;
-    goes_on = λ at. as_before _ right (λ v. (anyhow v).goes_on at) refl;
+    stays = as_before _ right anyhow.stays refl;
+    goes_on = λ at. as_before _ right (anyhow.goes_on at) refl;
     operates = λ op is can.
         let ready = (and_parts (operate.is_ready t.phase t.asked) _ can).0 in
         record {
@@ -179,31 +186,39 @@ module _ (node : ℕ) (layout : Layout) (tx : TxId) (t : Transaction) (right : i
             one_asked t.phase (record { op = op; chain = chain_of layout (key_of op) }),
             ap one_if (same_tx-self tx),
           );
-          others = λ v apart. omega (arith, ap one_if apart);
         };
     answers = λ key answer asked is on at.
-        still_turn _ refl (λ v. record { state = tt; sends = (refl, tt) })
+        still_turn _ refl (record { state = tt; sends = (refl, tt) })
         (λ m low. omega (arith, low, answered key answer is, few t.phase t.asked));
     late = λ key asked why verifying awaited on at.
-        one_then _ refl (λ v. (anyhow v).late key asked why verifying awaited on at) (ap (λ p. budget_at p None) at);
-    waits = λ asked on. as_before _ right (λ v. (anyhow v).waits asked on) refl;
+        one_then _ refl (anyhow.late key asked why verifying awaited on at) (ap (λ p. budget_at p None) at);
+    waits = λ asked on. as_before _ right (anyhow.waits asked on) refl;
     decides = λ is ready.
-        still_turn _ (right_none Verifying t.asked (ready_is t.phase t.asked ready).1) (λ v. record { state = tt; sends = (refl, tt) })
+        still_turn _ (right_none Verifying t.asked (ready_is t.phase t.asked ready).1)
+        (record { state = tt; sends = (refl, tt) })
         (λ m low. omega (arith, low, ready_none t.phase t.asked ready));
     commits = λ epoch is at some.
-        none_then _ at refl _ refl (λ v. (still v (Epoch (DiVerifyConf tx epoch)) (λ op e. cc)).commits epoch refl at some);
+        none_then _ at refl _ refl
+        ((still (Epoch (DiVerifyConf tx epoch)) (λ op e. cc)).commits epoch refl at some);
     commits_none = λ epoch is at.
-        committed_forms epoch _ at refl (λ v. (still v (Epoch (DiVerifyConf tx epoch)) (λ op e. cc)).commits_none epoch refl at);
-    committed = λ epoch awaited at more. none_then _ at refl _ refl (λ v. (anyhow v).committed epoch awaited at more);
-    committed_all = λ epoch awaited at. committed_forms epoch _ at refl (λ v. (anyhow v).committed_all epoch awaited at);
-    completed = λ epoch awaited at more. none_then _ at refl _ refl (λ v. (anyhow v).completed epoch awaited at more);
-    completed_all = λ epoch awaited at last. none_then _ at refl _ refl (λ v. (anyhow v).completed_all epoch awaited at last);
+        committed_forms epoch _ at refl
+        ((still (Epoch (DiVerifyConf tx epoch)) (λ op e. cc)).commits_none epoch refl at);
+    committed = λ epoch awaited at more. none_then _ at refl _ refl (anyhow.committed epoch awaited at more);
+    committed_all = λ epoch awaited at. committed_forms epoch _ at refl
+        (anyhow.committed_all epoch awaited at);
+    completed = λ epoch awaited at more. none_then _ at refl _ refl (anyhow.completed epoch awaited at more);
+    completed_all = λ epoch awaited at last. none_then _ at refl _ refl
+        (anyhow.completed_all epoch awaited at last);
     rolls_back = λ is undecided unaborted.
-        abort_forms t _ right (λ v. (still v (Client (TcRollbackReq tx)) (λ op e. cc)).rolls_back refl undecided unaborted);
+        abort_forms t _ right ((still (Client (TcRollbackReq tx)) (λ op e. cc)).rolls_back
+        refl undecided unaborted);
     refuses = λ key why asked is on at.
-        abort_forms (asking t None) why refl (λ v. (still v (Chain (LqhKeyRef tx key why)) (λ op e. cc)).refuses key why asked refl on at);
+        abort_forms (asking t None) why refl ((still (Chain (LqhKeyRef tx key why)) (λ op e. cc)).refuses
+        key why asked refl on at);
     aborted = λ why verifying awaited at more.
-        one_then _ (right_aborting t.asked why verifying _) (λ v. (anyhow v).aborted why verifying awaited at more) refl;
+        one_then _ (right_aborting t.asked why verifying _)
+        (anyhow.aborted why verifying awaited at more) refl;
     aborted_all = λ why verifying awaited at last.
-        one_then _ right (λ v. (anyhow v).aborted_all why verifying awaited at last) (ap one_if (end_gives_up tx node why verifying));
+        one_then _ right (anyhow.aborted_all why verifying awaited at last)
+        (ap one_if (end_gives_up tx node why verifying));
   }

@@ -55,13 +55,15 @@ weight tx count to _ = 0
 -- the signal leads to the commit of this key, which is the one at place i of those that the transaction touched
 abbrev pub covers : TxId → List ℕ → ℕ → Place → Body → Bool
 covers tx key i to (Chain (Commit other own epoch chain at)) = is_lqh to.block && (same_tx other tx && same_key own key)
-covers tx key i to (Host (Continue (work.Transaction other) at)) = (is_tc to.block && (to.node == tx.tc)) && (same_tx other tx && nat_le at i)
+covers tx key i to (Host (Continue (work.Transaction other) at)) = (is_tc to.block && (to.node == tx.tc))
+    && (same_tx other tx && nat_le at i)
 covers tx key i to _ = false
 
 abbrev pub cover : TxId → List ℕ → ℕ → Place → Body → ℕ
 cover tx key i to body = one_if (covers tx key i to body)
 
--- What a signal tells of a row: a commit one thing of its key, its chain and its place there, and a completion another of its key.
+-- What a signal tells of a row: a commit one thing of its key, its chain and its place there, and a completion another
+-- of its key.
 abbrev pub Tells : TxId → (List ℕ → List Member → ℕ → Type 0) → (List ℕ → Type 0) → Body → Type 0
 Tells tx Spread AtAll (Chain (Commit other key epoch chain at)) = same_tx other tx ≡ true → Spread key chain at
 Tells tx Spread AtAll (Chain (Complete other key chain at)) = same_tx other tx ≡ true → AtAll key
@@ -81,7 +83,8 @@ part_tells tx Spread AtAll (Chain (Commit other key epoch chain at)) e = λ f. n
 part_tells tx Spread AtAll (Chain (Complete other key chain at)) e = λ f. not_both (same_tx other tx) f e
 part_tells tx Spread AtAll _ e = tt
 
-pub part_weight : (tx : TxId) (count : ℕ) (to : Place) (body : Body) → is_part tx body ≡ false → weight tx count to body ≡ 0
+pub part_weight : (tx : TxId) (count : ℕ) (to : Place) (body : Body) → is_part tx body ≡ false
+    → weight tx count to body ≡ 0
 part_weight tx count to (Chain (Commit other key epoch chain at)) e = ap one_if e
 part_weight tx count to (Chain (Committed other key)) e = ap one_if e
 part_weight tx count to (Host (Continue (work.Transaction other) at)) e = ap (λ b. if b then count - at else 0) e
@@ -96,8 +99,10 @@ request_part tx (Host (Continue (work.Transaction other) at)) e = cc
 request_part tx _ e = refl
 
 -- what leads to the commit of one of the keys stands for one at least
-pub cover_weight : (tx : TxId) (key : List ℕ) (i count : ℕ) (to : Place) (body : Body) → i < count → cover tx key i to body ≤ weight tx count to body
-cover_weight tx key i count to (Chain (Commit other own epoch chain at)) low = by (is_lqh to.block) (same_tx other tx) (same_key own key)
+pub cover_weight : (tx : TxId) (key : List ℕ) (i count : ℕ) (to : Place) (body : Body) → i < count
+    → cover tx key i to body ≤ weight tx count to body
+cover_weight tx key i count to (Chain (Commit other own epoch chain at)) low = by (is_lqh to.block)
+    (same_tx other tx) (same_key own key)
   where
     by : (a b c : Bool) → one_if (a && (b && c)) ≤ one_if b
     by true true true = omega arith
@@ -105,7 +110,8 @@ cover_weight tx key i count to (Chain (Commit other own epoch chain at)) low = b
     by true false c = omega arith
     by false true c = omega arith
     by false false c = omega arith
-cover_weight tx key i count to (Host (Continue (work.Transaction other) at)) low = by (is_tc to.block && (to.node == tx.tc)) (same_tx other tx) (nat_le at i) refl
+cover_weight tx key i count to (Host (Continue (work.Transaction other) at)) low =
+    by (is_tc to.block && (to.node == tx.tc)) (same_tx other tx) (nat_le at i) refl
   where
     le : nat_le at i ≡ true → at ≤ i
     le e = grind (arith, nat_tests, e)
@@ -119,14 +125,16 @@ cover_weight tx key i count to (Host (Continue (work.Transaction other) at)) low
 cover_weight tx key i count to _ low = omega arith
 
 -- of rows only commits do
-pub cover_commit : (tx : TxId) (key : List ℕ) (i : ℕ) (to : Place) (body : Body) → is_commit tx body ≡ false → is_next tx body ≡ false → cover tx key i to body ≡ 0
+pub cover_commit : (tx : TxId) (key : List ℕ) (i : ℕ) (to : Place) (body : Body) → is_commit tx body ≡ false
+    → is_next tx body ≡ false → cover tx key i to body ≡ 0
 cover_commit tx key i to (Chain (Commit other own epoch chain at)) e f = by (is_lqh to.block) (same_tx other tx) e
   where
     by : (a b : Bool) → b ≡ false → one_if (a && (b && same_key own key)) ≡ 0
     by true true e = cc
     by true false e = refl
     by false b e = refl
-cover_commit tx key i to (Host (Continue (work.Transaction other) at)) e f = by (is_tc to.block && (to.node == tx.tc)) (same_tx other tx) f
+cover_commit tx key i to (Host (Continue (work.Transaction other) at)) e f =
+    by (is_tc to.block && (to.node == tx.tc)) (same_tx other tx) f
   where
     by : (a b : Bool) → b ≡ false → one_if (a && (b && nat_le at i)) ≡ 0
     by true true e = cc
@@ -134,7 +142,10 @@ cover_commit tx key i to (Host (Continue (work.Transaction other) at)) e f = by 
     by false b e = refl
 cover_commit tx key i to _ e f = refl
 
-pub part_cover : (tx : TxId) (key : List ℕ) (i : ℕ) (to : Place) (body : Body) → is_part tx body ≡ false → cover tx key i to body ≡ 0
-part_cover tx key i to (Chain (Commit other own epoch chain at)) e = cover_commit tx key i to (Chain (Commit other own epoch chain at)) e refl
-part_cover tx key i to (Host (Continue (work.Transaction other) at)) e = cover_commit tx key i to (Host (Continue (work.Transaction other) at)) refl e
+pub part_cover : (tx : TxId) (key : List ℕ) (i : ℕ) (to : Place) (body : Body) → is_part tx body ≡ false
+    → cover tx key i to body ≡ 0
+part_cover tx key i to (Chain (Commit other own epoch chain at)) e = cover_commit tx key i to
+    (Chain (Commit other own epoch chain at)) e refl
+part_cover tx key i to (Host (Continue (work.Transaction other) at)) e = cover_commit tx key i to
+    (Host (Continue (work.Transaction other) at)) refl e
 part_cover tx key i to _ e = refl

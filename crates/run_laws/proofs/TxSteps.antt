@@ -42,7 +42,8 @@ pub record IsMissed (tx : TxId) (s : Host) (x : Signal) : Type 0 where
   pub rows : is_lqh x.to.block ≡ true → has_lqh s ≡ false
   pub next : is_next tx x.body ≡ true → is_tc x.to.block ≡ true → of_host tx s ≡ None
 
--- A step leaves the transaction alone; it is one of the rows; the coordinator begins a transaction; or the transaction takes a
+-- A step leaves the transaction alone; it is one of the rows; the coordinator begins a transaction; or the transaction
+-- takes a
 -- turn.
 pub data TxStep (tx : TxId) (s : Host) (x : Signal) (t : Step Host) : Type 0 where
   aside : of_host tx t.state ≡ of_host tx s → AreSilent tx t.effects.sends → IsMissed tx s x → TxStep tx s x t
@@ -87,7 +88,8 @@ module _ (tx : TxId) (s : Host) (x : Signal) (home : IsHome tx (tc_of s)) where
 
   takes_turn : (t : Step Host) → IsTcStep s x t → TxStep tx s x t
   takes_turn t step =
-      by (tc_turn (λ (o : Outgoing). is_sign tx o.body ≡ false) tx (tc_of s) (beside_silent tx (tc_of s)) home.own home.once x.body
+      by (tc_turn (λ (o : Outgoing). is_sign tx o.body ≡ false) tx (tc_of s) (beside_silent tx (tc_of s))
+      home.own home.once x.body
       (others_silent tx (tc_of s) x.body))
     where
       live_is : of_host tx t.state ≡ of_live tx (tc_row (tc_of s) x).state.live
@@ -96,10 +98,15 @@ module _ (tx : TxId) (s : Host) (x : Signal) (home : IsHome tx (tc_of s)) where
       silent_too : AreSilent tx (tc_row (tc_of s) x).effects.sends → AreSilent tx t.effects.sends
       silent_too = subst (λ (f : Effects). AreSilent tx f.sends) (sym step.effects)
 
-      by : TcTurn (λ (o : Outgoing). is_sign tx o.body ≡ false) tx (tc_of s) x.body (tc_row (tc_of s) x) → TxStep tx s x t
+      by : TcTurn (λ (o : Outgoing). is_sign tx o.body ≡ false) tx (tc_of s) x.body (tc_row (tc_of s) x)
+          → TxStep tx s x t
       by (turn.idle same silent next) =
           aside (live_is ∙ same) (silent_too silent)
-          (record { rows = λ is. absurd (false≢true (sym (ap is_lqh step.at) ∙ is)); next = λ is home. next (next_for tx x.body is) })
+          (record {
+            rows = λ is. absurd (false≢true (sym (ap is_lqh step.at) ∙ is));
+            next =
+                λ is home. next (next_for tx x.body is);
+          })
       by (turn.begins is left silent none) = begins step is (silent_too silent)
       by (turn.turns u was same sent left) =
           turns u step was same (ap (λ (f : Effects). f.sends) step.effects ∙ sent) (live_is ∙ left)
@@ -123,15 +130,19 @@ module _ (tx : TxId) (s : Host) (x : Signal) (home : IsHome tx (tc_of s)) where
 
 module _ (tx : TxId) where
   -- what is no commit for rows, and no signal for its coordinator to go on, leads to no commit
-  pub aside_cover : (key : List ℕ) (i : ℕ) (to : Place) (b : Body) → is_lqh to.block ≡ false → (is_next tx b ≡ true → is_tc to.block ≡ true → ⊥) → cover tx key i to b ≡ 0
-  aside_cover key i to (body.Chain (Commit other own epoch chain at)) off none = ap (λ l. one_if (l && (same_tx other tx && same_key own key))) off
-  aside_cover key i to (body.Host (Continue (work.Transaction other) at)) off none = by (is_tc to.block) refl (same_tx other tx) refl
+  pub aside_cover : (key : List ℕ) (i : ℕ) (to : Place) (b : Body) → is_lqh to.block ≡ false
+      → (is_next tx b ≡ true → is_tc to.block ≡ true → ⊥) → cover tx key i to b ≡ 0
+  aside_cover key i to (body.Chain (Commit other own epoch chain at)) off none =
+      ap (λ l. one_if (l && (same_tx other tx && same_key own key))) off
+  aside_cover key i to (body.Host (Continue (work.Transaction other) at)) off none =
+      by (is_tc to.block) refl (same_tx other tx) refl
     where
       rest : (a : Bool) → one_if (a && false) ≡ 0
       rest true = refl
       rest false = refl
 
-      by : (x : Bool) → is_tc to.block ≡ x → (y : Bool) → same_tx other tx ≡ y → one_if ((x && (to.node == tx.tc)) && (y && nat_le at i)) ≡ 0
+      by : (x : Bool) → is_tc to.block ≡ x → (y : Bool) → same_tx other tx ≡ y
+          → one_if ((x && (to.node == tx.tc)) && (y && nat_le at i)) ≡ 0
       by false p y q = refl
       by true p true q = absurd (none q p)
       by true p false q = rest (to.node == tx.tc)
@@ -139,7 +150,8 @@ module _ (tx : TxId) where
 
   pub away_cover : (key : List ℕ) (i : ℕ) (to : Place) (b : Body) → is_lqh to.block ≡ false
       → (is_tc to.block && (to.node == tx.tc)) ≡ false → cover tx key i to b ≡ 0
-  away_cover key i to (body.Chain (Commit other own epoch chain at)) off far = ap (λ l. one_if (l && (same_tx other tx && same_key own key))) off
+  away_cover key i to (body.Chain (Commit other own epoch chain at)) off far =
+      ap (λ l. one_if (l && (same_tx other tx && same_key own key))) off
   away_cover key i to (body.Host (Continue (work.Transaction other) at)) off far =
       ap (λ h. one_if (h && (same_tx other tx && nat_le at i))) far
   away_cover key i to _ off far = refl

@@ -69,24 +69,14 @@ begun_reads = record { adds = adds; none = refl }
   where
     adds : (k : Kind) (before : List TxId) → begun_by k before ≡ cons_option (begun_of k) before
     adds (kind.begun tx) before = refl
-    adds (kind.wanted tx) before = refl
-    adds (kind.verified tx) before = refl
-    adds (kind.decided tx) before = refl
-    adds (kind.committing tx) before = refl
-    adds (kind.ended tx) before = refl
-    adds kind.other before = refl
+    adds _ before = refl
 
 pub verified_reads : Reads verified_of verified_by
 verified_reads = record { adds = adds; none = refl }
   where
     adds : (k : Kind) (before : List TxId) → verified_by k before ≡ cons_option (verified_of k) before
-    adds (kind.begun tx) before = refl
-    adds (kind.wanted tx) before = refl
     adds (kind.verified tx) before = refl
-    adds (kind.decided tx) before = refl
-    adds (kind.committing tx) before = refl
-    adds (kind.ended tx) before = refl
-    adds kind.other before = refl
+    adds _ before = refl
 
 module _ (start : Start) (read : Kind → Option TxId) (add : Kind → List TxId → List TxId) (reads : Reads read add) where
   abbrev pub read_of : Addressed → Option TxId

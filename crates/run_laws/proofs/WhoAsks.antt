@@ -1,8 +1,8 @@
 -- What asks for an epoch is of a transaction that waits for it with these operations, unless it is given up.
 use Rattle.std.proofs.Common.{◌≡◌, ◌≢◌, ◌⊎◌, ℕ, ◌+◌, ◌≤◌, List, [], ◌∷◌, Bool, true, false, refl, sym, ap, ◌∙◌, subst, inl, inr, arith}
-use Rattle.std.proofs.lemmas.Bool.{cases_eq, or_cases}
+use Rattle.std.proofs.lemmas.Bool.{cases_eq}
 use Rattle.std.specs.List.{list_any}
-use Rattle.std.specs.Prelude.{◌||◌, Option, None, Some}
+use Rattle.std.specs.Prelude.{Option, None, Some}
 use Rattle.run_theory.specs.Lists.{Each, IsIn}
 use Rattle.run_theory.proofs.Pasts.{each_from, each_in, each_map}
 use Rattle.run_theory.proofs.Runs.{log_of-own, log_of-past}
@@ -29,9 +29,8 @@ use Rattle.node_core.specs.Row.{row}
 use Rattle.world_core.specs.Machine.{after, machine, signals_of, step_after}
 use Rattle.world_core.specs.Hosts.{home}
 use Rattle.world_core.specs.Start.{Start}
-use Rattle.host_laws.specs.Ways.{Way, back, back_by, closes, forth, neither, put_ways, sent_ways, tc_sends, way_of}
+use Rattle.host_laws.specs.Ways.{back_by, sent_ways, tc_sends}
 use Rattle.sig_core.proofs.Keys.{same_tx-self}
-use Rattle.host_laws.proofs.OneWay.{back_more}
 use Rattle.host_laws.proofs.BlocksAlong.{first_live}
 use Rattle.host_laws.specs.Counts.{one_if}
 use Rattle.run_laws.specs.Circle.{IsOfWaiting, WaitsWith, WhoAsksWaits}
@@ -42,8 +41,10 @@ use Rattle.run_laws.proofs.HostAsks as asks
 use Rattle.run_laws.proofs.HostAsks.{HostAsks, Leaves, OpsOf, host_asks, none_ops, zero_ops}
 use Rattle.run_laws.proofs.HomeSteps.{IsHome, IsUnborn, all_home, away, here_now, here_was, own_home}
 use Rattle.run_laws.proofs.LiveAfter.{live_none, strange_none, unborn_none}
-use Rattle.run_laws.proofs.TcAsks.{AreMute, AskTurn, IsAsking, ask, is_ask, is_back, is_conf, mute_none}
+use Rattle.run_laws.proofs.TcAsks.{AreMute, AskTurn, IsAsking, ask, is_ask, is_conf, mute_none}
 use Rattle.run_laws.proofs.TcCircle.{Going, GoesOn, is_early, notes, operates, rests, verifies}
+use Rattle.run_laws.proofs.TcTokens.{now_given_up}
+use Rattle.run_laws.proofs.TcTurns.{gives_up}
 use Rattle.run_laws.proofs.TxTurns.{left_by}
 use Rattle.run_laws.proofs.Transit.{along_transit}
 use Rattle.run_laws.proofs.Ways.{given_more}
@@ -64,24 +65,6 @@ no_request tx _ is = refl
 conf_asks : (tx : TxId) (body : Body) → is_conf tx body ≡ true → is_ask tx body ≡ true
 conf_asks tx (Epoch (DiVerifyConf other epoch)) is = is
 conf_asks tx _ is = absurd cc
-
--- what is sent back puts the transaction among those that went back
-back_in : (tx : TxId) (sends : List Outgoing) (bs : List TxId) → list_any (λ (o : Outgoing). is_back tx (way_of o.body)) sends ≡ true → list_any (same_tx tx) (put_ways back_by sends bs) ≡ true
-back_in tx [] bs is = absurd cc
-back_in tx (o ∷ more) bs is =
-    by (way_of o.body) (or_cases (is_back tx (way_of o.body)) (list_any (λ (p : Outgoing). is_back tx (way_of p.body)) more) is) (back_in tx more (back_by (way_of o.body) bs))
-  where
-    here : (w : Way) → is_back tx w ≡ true → list_any (same_tx tx) (back_by w bs) ≡ true
-    here (back other) own = ap (λ b. b || list_any (same_tx tx) bs) own
-    here (forth other) own = absurd cc
-    here (closes other) own = absurd cc
-    here neither own = absurd cc
-
-    by : (w : Way) → (is_back tx w ≡ true) ⊎ (list_any (λ (p : Outgoing). is_back tx (way_of p.body)) more ≡ true)
-        → (list_any (λ (p : Outgoing). is_back tx (way_of p.body)) more ≡ true → list_any (same_tx tx) (put_ways back_by more (back_by w bs)) ≡ true)
-        → list_any (same_tx tx) (put_ways back_by more (back_by w bs)) ≡ true
-    by w (inl own) rest = back_more (same_tx tx) more (back_by w bs) (here w own)
-    by w (inr later) rest = rest later
 
 weigh_in : {A : Type 0} (f : A → ℕ) (x : A) (xs : List A) → IsIn x xs → f x ≤ weigh f xs
 weigh_in f x [] i = absurd i
@@ -230,10 +213,11 @@ module _ (start : Start) (tx : TxId) where
         allowed =
             subst (λ o. Allowed o before) (ap (of_host tx) (here_was start es e come tx its_home) ∙ was) (held.free (not_before off))
 
-        no_back : list_any (λ (o : Outgoing). is_back tx (way_of o.body)) turn.step.effects.sends ≡ true → ⊥
+        no_back : gives_up tx turn.step.effects.sends ≡ true → ⊥
         no_back goes_back =
             let given : list_any (same_tx tx) (sent_ways start back_by h (e ∷ old h)) ≡ true =
-            back_in tx (tc_sends s e.step.taken) (sent_ways start back_by h (old h)) (subst (λ w. list_any (λ (o : Outgoing). is_back tx (way_of o.body)) w ≡ true) (sym said) goes_back) in
+            now_given_up tx (tc_sends s e.step.taken) (sent_ways start back_by h (old h))
+            (subst (λ w. gives_up tx w ≡ true) (sym said) goes_back) in
             let up : is_given_up start now tx ≡ true =
             subst (λ k. list_any (same_tx tx) (sent_ways start back_by k (now k)) ≡ true) its_home (subst (λ log. list_any (same_tx tx) (sent_ways start back_by h log) ≡ true) (sym own_now) given) in
             let both : true ≡ false = sym up ∙ off in cc
@@ -245,7 +229,8 @@ module _ (start : Start) (tx : TxId) where
         waited : t.phase ≡ Verifying → AreMute turn.step.effects.sends → (left_by turn ≡ Some t) ⊎ (asking then_is ≡ 0)
         waited v mute = by (ask_turn.late v (allowed.waits v).free)
           where
-            by : (left_by turn ≡ Some t) ⊎ ((is_conf tx e.step.taken.body ≡ true) ⊎ (list_any (λ (o : Outgoing). is_back tx (way_of o.body)) turn.step.effects.sends ≡ true))
+            by : (left_by turn ≡ Some t)
+                ⊎ ((is_conf tx e.step.taken.body ≡ true) ⊎ (gives_up tx turn.step.effects.sends ≡ true))
                 → (left_by turn ≡ Some t) ⊎ (asking then_is ≡ 0)
             by (inl stays) = inl stays
             by (inr (inl conf)) = inr (omega (arith, taken_weighs, now_weighs, mute_weighs mute, (allowed.waits v).few, ap one_if (conf_asks tx e.step.taken.body conf)))

@@ -7,14 +7,12 @@ use Rattle.std.specs.FinMap as map
 use Rattle.run_theory.specs.Cuts.{IsCut, IsClosed}
 use Rattle.run_theory.specs.Lists.{IsIn}
 use Rattle.run_theory.specs.Runs.{AreLogs, IsWithin}
-use Rattle.serial_model.specs.Legal.{IsLegal, fold, rows_of}
-use Rattle.sig_core.specs.declared.entry.Entry.{Entry}
+use Rattle.serial_model.specs.Legal.{rows_of}
 use Rattle.world_core.specs.Steps.{HostStep}
 use Rattle.sig_core.specs.declared.member.Member.{Member}
 use Rattle.sig_core.specs.declared.member.TxId.{TxId}
 use Rattle.sig_core.specs.declared.signal.Body.TheVariants.{Chain}
 use Rattle.sig_core.specs.declared.signal.chain.ChainSignal.TheVariants.{Commit}
-use Rattle.sig_core.specs.Table.{Rows}
 use Rattle.world_core.specs.History.{history}
 use Rattle.world_core.specs.Hosts.{hosts}
 use Rattle.world_core.specs.Machine.{machine}

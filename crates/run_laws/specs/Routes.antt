@@ -72,7 +72,8 @@ pub record IsCompletionRouted (start : Start) (node : ℕ) (key : List ℕ) (cha
   pub sent : IsSentTo node chain at
 
 abbrev pub IsRouted : Start → ℕ → Body → Type 0
-IsRouted start node (Chain (LqhKeyReq tx work chain at)) = IsRequestRouted start node (record { tx = tx; work = work; chain = chain; at = at })
+IsRouted start node (Chain (LqhKeyReq tx work chain at)) = IsRequestRouted start node
+    (record { tx = tx; work = work; chain = chain; at = at })
 IsRouted start node (Chain (Commit tx key epoch chain at)) = IsCommitRouted start node key chain at
 IsRouted start node (Chain (Complete tx key chain at)) = IsCompletionRouted start node key chain at
 IsRouted start node body = Unit {0}
@@ -101,7 +102,8 @@ pub record AreRouted (start : Start) (es : List HostStep) (xs : List Addressed) 
   pub hosts : (h : ℕ) → IsHostRouted start (host_after start es h)
 
 abbrev pub SignalsAreRouted : Type 0
-SignalsAreRouted = (start : Start) (es : List HostStep) (xs : List Addressed) → IsRun start es → AreInTransit start es xs → AreRouted start es xs
+SignalsAreRouted = (start : Start) (es : List HostStep) (xs : List Addressed) → IsRun start es
+    → AreInTransit start es xs → AreRouted start es xs
 
 -- the replicas are nodes of the key's group
 pub record IsNodeFor (start : Start) (node : ℕ) (key : List ℕ) : Type 0 where
@@ -135,14 +137,17 @@ SignalsAreForBlocks =
 -- a request comes to the primary with an operation, and to each other replica with an image
 abbrev pub RequestsAreForReplicas : Type 0
 RequestsAreForReplicas =
-    (start : Start) (es : List HostStep) (e : HostStep) (tx : TxId) (work : RowWork) (chain : List Member) (at : ℕ) → Comes start es e
+    (start : Start) (es : List HostStep) (e : HostStep) (tx : TxId) (work : RowWork) (chain : List Member)
+    (at : ℕ) → Comes start es e
     → e.step.taken.body ≡ Chain (LqhKeyReq tx work chain at)
-    → (e.host ≡ primary_host start (work_key work) → IsOfOperation work) × (e.host ≢ primary_host start (work_key work) → IsOfImage work)
+    → (e.host ≡ primary_host start (work_key work) → IsOfOperation work)
+    × (e.host ≢ primary_host start (work_key work) → IsOfImage work)
 
 -- a commit is at the first place of its chain just where it comes to the primary
 abbrev pub CommitsEndAtPrimary : Type 0
 CommitsEndAtPrimary =
-    (start : Start) (es : List HostStep) (e : HostStep) (tx : TxId) (key : List ℕ) (epoch : ℕ) (chain : List Member) (at : ℕ) → Comes start es e
+    (start : Start) (es : List HostStep) (e : HostStep) (tx : TxId) (key : List ℕ) (epoch : ℕ) (chain : List Member)
+    (at : ℕ) → Comes start es e
     → e.step.taken.body ≡ Chain (Commit tx key epoch chain at)
     → (at == 0) ≡ (e.host == primary_host start key)
 
@@ -153,4 +158,5 @@ pub record IsOnWay (start : Start) (to : Place) (body : Body) : Type 0 where
 
 -- so is each that comes to a host
 abbrev pub ComingAreRouted : Type 0
-ComingAreRouted = (start : Start) (es : List HostStep) (e : HostStep) → Comes start es e → IsOnWay start e.step.taken.to e.step.taken.body
+ComingAreRouted = (start : Start) (es : List HostStep) (e : HostStep) → Comes start es e
+    → IsOnWay start e.step.taken.to e.step.taken.body

@@ -63,16 +63,21 @@ module _ (start : Start) (end : List HostStep) where
   abbrev pub value_at : List ℕ → List HostStep → Option (List ℕ)
   value_at key es = row_at_end key (first_row key) (history_at es)
 
-  -- The answers of the history up to this moment are right for the key. What is prepared at its primary, and decided and
-  -- final, leads from the row there to the one that this history leaves; and so at each backup where nothing was committed that isn't final.
+  -- The answers of the history up to this moment are right for the key. What is prepared at its primary, and decided
+  -- and
+  -- final, leads from the row there to the one that this history leaves; and so at each backup where nothing was
+  -- committed that isn't final.
   pub record IsLedAt (es : List HostStep) (key : List ℕ) : Type 0 where
     pub right : IsRightAt key (first_row key) (history_at es)
-    pub primary : IsLedTo (kept_of (decided_at es) is_final) (value_at key es) (at_primary start (logs_of start es) key).replica.cell.row
+    pub primary : IsLedTo (kept_of (decided_at es) is_final) (value_at key es)
+        (at_primary start (logs_of start es) key).replica.cell.row
         (at_primary start (logs_of start es) key).replica.cell.pending
     pub backups : (g : ℕ) → IsReplica start key g → g ≢ primary_host start key
-        → IsLedUnlessSpoilt (decided_at es) is_final (value_at key es) (backup_of (at_host start (logs_of start es) key g))
+        → IsLedUnlessSpoilt (decided_at es) is_final (value_at key es)
+        (backup_of (at_host start (logs_of start es) key g))
 
 -- Each key is so at each moment of a run in the order of (stamp, host).
 abbrev pub KeysAreLed : Type 0
 KeysAreLed =
-    (start : Start) (end es : List HostStep) → IsRun start end → IsByTurn (machine start) end → IsPast es end → (key : List ℕ) → IsLedAt start end es key
+    (start : Start) (end es : List HostStep) → IsRun start end → IsByTurn (machine start) end → IsPast es end
+    → (key : List ℕ) → IsLedAt start end es key

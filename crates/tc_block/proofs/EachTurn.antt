@@ -47,13 +47,15 @@ pub record TurnForms (node : ℕ) (layout : Layout) (tx : TxId) (t : Transaction
   pub goes_on : (at : ℕ) → R (going (go_on_if node layout tx t at true))
   -- an operation goes to its primary, is answered, or is answered when the transaction is aborted already
   pub operates : (op : Op) → body ≡ Client (TcKeyReq tx op) → operate.can_operate t op ≡ true → R (going (operate.operating tx t op (chain_of layout (key_of op))))
-  pub answers : (key : List ℕ) (answer : Answer) (asked : Asked) → body ≡ Chain (LqhKeyConf tx key answer) → t.asked ≡ Some asked → t.phase ≡ Open
+  pub answers : (key : List ℕ) (answer : Answer) (asked : Asked) → body ≡ Chain (LqhKeyConf tx key answer)
+      → t.asked ≡ Some asked → t.phase ≡ Open
       → R (going (sending (operate.answered t asked answer) client (Client (TcKeyConf tx answer))))
   pub late : (key : List ℕ) (asked : Asked) (why : AbortCause) (verifying : Bool) (awaited : ℕ) → t.asked ≡ Some asked → t.phase ≡ Aborting why verifying awaited → R (going (operate.late_answer layout tx t key))
   -- the replicas are asked what it waits for
   pub waits : (asked : Asked) → t.asked ≡ Some asked → R (going (operate.wait_by tx t (Some asked)))
   -- it asks for an epoch, and has one
-  pub decides : body ≡ Client (TcCommitReq tx) → operate.is_ready t.phase t.asked ≡ true → R (going (commit.verify_if node tx t true))
+  pub decides : body ≡ Client (TcCommitReq tx) → operate.is_ready t.phase t.asked ≡ true
+      → R (going (commit.verify_if node tx t true))
   pub commits : (epoch : ℕ) → body ≡ Epoch (DiVerifyConf tx epoch) → t.phase ≡ Verifying → (length t.touched == 0) ≡ false → R (going (entering node layout tx t (Committing epoch (length t.touched))))
   pub commits_none : (epoch : ℕ) → body ≡ Epoch (DiVerifyConf tx epoch) → t.phase ≡ Verifying → CommittedForms node layout tx t epoch R
   -- a key is committed, the last one or not, and so with completions
@@ -70,6 +72,84 @@ pub record TurnForms (node : ℕ) (layout : Layout) (tx : TxId) (t : Transaction
   pub aborted_all : (why : AbortCause) (verifying : Bool) (awaited : ℕ) → t.phase ≡ Aborting why verifying awaited → nat_lt 1 awaited ≡ false
       → R (abort.aborted_if node tx t why verifying awaited false)
 
+-- the coordinator goes on with what a transaction sends
+abbrev pub is_onward : Body → Bool
+is_onward (Host (Continue (work.Transaction tx) at)) = true
+is_onward _ = false
+
+-- the same, each turn with the signal at which it is taken
+pub record TurnFormsAt (node : ℕ) (layout : Layout) (tx : TxId) (t : Transaction) (body : Body)
+    (R : Turn → Type 0) : Type 0 where
+  pub stays : is_onward body ≡ false → R (going (stay t))
+  pub stops : (at : ℕ) → body ≡ Host (Continue (work.Transaction tx) at) → nat_lt at 512 ≡ false → R (going (stay t))
+  pub goes_on : (at : ℕ) → body ≡ Host (Continue (work.Transaction tx) at)
+      → R (going (go_on_if node layout tx t at true))
+  pub operates : (op : Op) → body ≡ Client (TcKeyReq tx op) → operate.can_operate t op ≡ true
+      → R (going (operate.operating tx t op (chain_of layout (key_of op))))
+  pub answers : (key : List ℕ) (answer : Answer) (asked : Asked) → body ≡ Chain (LqhKeyConf tx key answer)
+      → t.asked ≡ Some asked → t.phase ≡ Open
+      → R (going (sending (operate.answered t asked answer) client (Client (TcKeyConf tx answer))))
+  pub late : (key : List ℕ) (asked : Asked) (why : AbortCause) (verifying : Bool) (awaited : ℕ) → t.asked ≡ Some asked
+      → t.phase ≡ Aborting why verifying awaited → R (going (operate.late_answer layout tx t key))
+  pub waits : (asked : Asked) → body ≡ Client (TcWaitReq tx) → t.asked ≡ Some asked
+      → R (going (operate.wait_by tx t (Some asked)))
+  pub decides : body ≡ Client (TcCommitReq tx) → operate.is_ready t.phase t.asked ≡ true
+      → R (going (commit.verify_if node tx t true))
+  pub commits : (epoch : ℕ) → body ≡ Epoch (DiVerifyConf tx epoch) → t.phase ≡ Verifying
+      → (length t.touched == 0) ≡ false
+      → R (going (entering node layout tx t (Committing epoch (length t.touched))))
+  pub commits_none : (epoch : ℕ) → body ≡ Epoch (DiVerifyConf tx epoch) → t.phase ≡ Verifying
+      → (length t.touched == 0) ≡ true
+      → CommittedForms node layout tx t epoch R
+  pub committed : (key : List ℕ) (epoch awaited : ℕ) → body ≡ Chain (Committed tx key)
+      → t.phase ≡ Committing epoch awaited → nat_lt 1 awaited ≡ true
+      → R (going (stay (at_phase t (Committing epoch (awaited - 1)))))
+  pub committed_all : (key : List ℕ) (epoch awaited : ℕ) → body ≡ Chain (Committed tx key)
+      → t.phase ≡ Committing epoch awaited
+      → nat_lt 1 awaited ≡ false → CommittedForms node layout tx t epoch R
+  pub completed : (key : List ℕ) (epoch awaited : ℕ) → body ≡ Chain (Completed tx key)
+      → t.phase ≡ Completing epoch awaited → nat_lt 1 awaited ≡ true
+      → R (going (stay (at_phase t (Completing epoch (awaited - 1)))))
+  pub completed_all : (key : List ℕ) (epoch awaited : ℕ) → body ≡ Chain (Completed tx key)
+      → t.phase ≡ Completing epoch awaited
+      → nat_lt 1 awaited ≡ false → R (complete.completed_if node tx t epoch awaited false)
+  pub rolls_back : body ≡ Client (TcRollbackReq tx) → is_decided t.phase ≡ false → is_aborting t.phase ≡ false
+      → AbortForms node layout tx t cause.Request R
+  pub refuses : (key : List ℕ) (why : AbortCause) (asked : Asked) → body ≡ Chain (LqhKeyRef tx key why)
+      → t.asked ≡ Some asked → t.phase ≡ Open
+      → AbortForms node layout tx (asking t None) why R
+  pub aborted : (key : List ℕ) (why : AbortCause) (verifying : Bool) (awaited : ℕ) → body ≡ Chain (Aborted tx key)
+      → t.phase ≡ Aborting why verifying awaited → nat_lt 1 awaited ≡ true
+      → R (going (stay (at_phase t (Aborting why verifying (awaited - 1)))))
+  pub aborted_all : (key : List ℕ) (why : AbortCause) (verifying : Bool) (awaited : ℕ) → body ≡ Chain (Aborted tx key)
+      → t.phase ≡ Aborting why verifying awaited → nat_lt 1 awaited ≡ false
+      → R (abort.aborted_if node tx t why verifying awaited false)
+
+-- whatever the signal
+told : (node : ℕ) (layout : Layout) (tx : TxId) (t : Transaction) (body : Body) (R : Turn → Type 0)
+    → TurnForms node layout tx t body R
+    → TurnFormsAt node layout tx t body R
+told node layout tx t body R forms = record {
+  stays = λ other. forms.stays;
+  stops = λ at is high. forms.stays;
+  goes_on = λ at is. forms.goes_on at;
+  operates = forms.operates;
+  answers = forms.answers;
+  late = forms.late;
+  waits = λ asked is on. forms.waits asked on;
+  decides = forms.decides;
+  commits = forms.commits;
+  commits_none = λ epoch is at none. forms.commits_none epoch is at;
+  committed = λ key epoch awaited is at more. forms.committed epoch awaited at more;
+  committed_all = λ key epoch awaited is at last. forms.committed_all epoch awaited at;
+  completed = λ key epoch awaited is at more. forms.completed epoch awaited at more;
+  completed_all = λ key epoch awaited is at last. forms.completed_all epoch awaited at last;
+  rolls_back = forms.rolls_back;
+  refuses = forms.refuses;
+  aborted = λ key why verifying awaited is at more. forms.aborted why verifying awaited at more;
+  aborted_all = λ key why verifying awaited is at last. forms.aborted_all why verifying awaited at last;
+}
+
 -- the unanswered operation on a key is the unanswered one
 asked_on-is : (o : Option Asked) (key : List ℕ) (asked : Asked) → operate.asked_on o key ≡ Some asked → o ≡ Some asked
 asked_on-is None key asked is = cc
@@ -79,50 +159,52 @@ asked_on-is (Some a) key asked is = by (same_key (key_of a.op) key) is
     by true e = e
     by false e = cc
 
-module _ (node : ℕ) (layout : Layout) (tx : TxId) (t : Transaction) (body : Body) (R : Turn → Type 0) (forms : TurnForms node layout tx t body R) where
-  pub goes_on : (at : ℕ) → R (going (go_on_row node layout tx t at))
+module _ (node : ℕ) (layout : Layout) (tx : TxId) (t : Transaction) (body : Body) (R : Turn → Type 0)
+    (forms : TurnFormsAt node layout tx t body R) where
+  goes_on : (at : ℕ) → body ≡ Host (Continue (work.Transaction tx) at) → R (going (go_on_row node layout tx t at))
   unfolding go_on_row
-  goes_on at = by (nat_lt at 512)
+  goes_on at is = by (nat_lt at 512) refl
     where
-      by : (b : Bool) → R (going (go_on_if node layout tx t at b))
-      by true = forms.goes_on at
-      by false = forms.stays
+      by : (b : Bool) → nat_lt at 512 ≡ b → R (going (go_on_if node layout tx t at b))
+      by true low = forms.goes_on at is
+      by false high = forms.stops at is high
 
-  pub operates : (op : Op) → body ≡ Client (TcKeyReq tx op) → R (going (operate.operate_row layout tx t op))
+  operates : (op : Op) → body ≡ Client (TcKeyReq tx op) → R (going (operate.operate_row layout tx t op))
   unfolding operate.operate_row
   operates op is = by (operate.can_operate t op) refl
     where
       by : (b : Bool) → operate.can_operate t op ≡ b → R (going (operate.operate_if layout tx t op b))
       by true can = forms.operates op is can
-      by false can = forms.stays
+      by false can = forms.stays (ap is_onward is)
 
-  pub decides : body ≡ Client (TcCommitReq tx) → R (going (commit.verify_row node tx t))
+  decides : body ≡ Client (TcCommitReq tx) → R (going (commit.verify_row node tx t))
   unfolding commit.verify_row
   decides is = by (operate.is_ready t.phase t.asked) refl
     where
       by : (b : Bool) → operate.is_ready t.phase t.asked ≡ b → R (going (commit.verify_if node tx t b))
       by true ready = forms.decides is ready
-      by false ready = forms.stays
+      by false ready = forms.stays (ap is_onward is)
 
-  pub waits : R (going (operate.wait_row tx t))
+  waits : body ≡ Client (TcWaitReq tx) → R (going (operate.wait_row tx t))
   unfolding operate.wait_row
-  waits = by t.asked refl
+  waits is = by t.asked refl
     where
       by : (o : Option Asked) → t.asked ≡ o → R (going (operate.wait_by tx t o))
-      by None on = forms.stays
-      by (Some asked) on = forms.waits asked on
+      by None on = forms.stays (ap is_onward is)
+      by (Some asked) on = forms.waits asked is on
 
-  pub answers : (key : List ℕ) (answer : Answer) → body ≡ Chain (LqhKeyConf tx key answer) → R (going (operate.answer_row layout tx t key answer))
+  answers : (key : List ℕ) (answer : Answer) → body ≡ Chain (LqhKeyConf tx key answer)
+      → R (going (operate.answer_row layout tx t key answer))
   unfolding operate.answer_row
   answers key answer is = by (operate.asked_on t.asked key) refl t.phase refl
     where
       by : (o : Option Asked) → operate.asked_on t.asked key ≡ o → (phase : Phase) → t.phase ≡ phase → R (going (operate.answer_by layout tx t key answer o phase))
       by (Some asked) on Open at = forms.answers key answer asked is (asked_on-is t.asked key asked on) at
       by (Some asked) on (Aborting why verifying awaited) at = forms.late key asked why verifying awaited (asked_on-is t.asked key asked on) at
-      by (Some asked) on Verifying at = forms.stays
-      by (Some asked) on (Committing epoch awaited) at = forms.stays
-      by (Some asked) on (Completing epoch awaited) at = forms.stays
-      by None on phase at = forms.stays
+      by (Some asked) on Verifying at = forms.stays (ap is_onward is)
+      by (Some asked) on (Committing epoch awaited) at = forms.stays (ap is_onward is)
+      by (Some asked) on (Completing epoch awaited) at = forms.stays (ap is_onward is)
+      by None on phase at = forms.stays (ap is_onward is)
 
   all_committed : (epoch : ℕ) → CommittedForms node layout tx t epoch R → R (complete.all_committed node layout tx t epoch)
   unfolding complete.all_committed
@@ -132,50 +214,50 @@ module _ (node : ℕ) (layout : Layout) (tx : TxId) (t : Transaction) (body : Bo
       by true none = own.ends none
       by false none = own.enters none
 
-  pub commits : (epoch : ℕ) → body ≡ Epoch (DiVerifyConf tx epoch) → R (commit.commit_row node layout tx t epoch)
+  commits : (epoch : ℕ) → body ≡ Epoch (DiVerifyConf tx epoch) → R (commit.commit_row node layout tx t epoch)
   unfolding commit.commit_row
   commits epoch is = by t.phase refl
     where
       which : t.phase ≡ Verifying → (b : Bool) → (length t.touched == 0) ≡ b → R (commit.commit_if node layout tx t epoch b)
-      which at true none = all_committed epoch (forms.commits_none epoch is at)
+      which at true none = all_committed epoch (forms.commits_none epoch is at none)
       which at false none = forms.commits epoch is at none
 
       by : (phase : Phase) → t.phase ≡ phase → R (commit.commit_by node layout tx t epoch phase)
       by Verifying at = which at (length t.touched == 0) refl
-      by Open at = forms.stays
-      by (Committing other awaited) at = forms.stays
-      by (Completing other awaited) at = forms.stays
-      by (Aborting why verifying awaited) at = forms.stays
+      by Open at = forms.stays (ap is_onward is)
+      by (Committing other awaited) at = forms.stays (ap is_onward is)
+      by (Completing other awaited) at = forms.stays (ap is_onward is)
+      by (Aborting why verifying awaited) at = forms.stays (ap is_onward is)
 
-  pub committed : R (commit.committed_row node layout tx t)
+  committed : (key : List ℕ) → body ≡ Chain (Committed tx key) → R (commit.committed_row node layout tx t)
   unfolding commit.committed_row
-  committed = by t.phase refl
+  committed key is = by t.phase refl
     where
       which : (epoch awaited : ℕ) → t.phase ≡ Committing epoch awaited → (b : Bool) → nat_lt 1 awaited ≡ b → R (commit.committed_if node layout tx t epoch awaited b)
-      which epoch awaited at true more = forms.committed epoch awaited at more
-      which epoch awaited at false more = all_committed epoch (forms.committed_all epoch awaited at)
+      which epoch awaited at true more = forms.committed key epoch awaited is at more
+      which epoch awaited at false more = all_committed epoch (forms.committed_all key epoch awaited is at more)
 
       by : (phase : Phase) → t.phase ≡ phase → R (commit.committed_by node layout tx t phase)
       by (Committing epoch awaited) at = which epoch awaited at (nat_lt 1 awaited) refl
-      by Open at = forms.stays
-      by Verifying at = forms.stays
-      by (Completing epoch awaited) at = forms.stays
-      by (Aborting why verifying awaited) at = forms.stays
+      by Open at = forms.stays (ap is_onward is)
+      by Verifying at = forms.stays (ap is_onward is)
+      by (Completing epoch awaited) at = forms.stays (ap is_onward is)
+      by (Aborting why verifying awaited) at = forms.stays (ap is_onward is)
 
-  pub completed : R (complete.completed_row node tx t)
+  completed : (key : List ℕ) → body ≡ Chain (Completed tx key) → R (complete.completed_row node tx t)
   unfolding complete.completed_row
-  completed = by t.phase refl
+  completed key is = by t.phase refl
     where
       which : (epoch awaited : ℕ) → t.phase ≡ Completing epoch awaited → (b : Bool) → nat_lt 1 awaited ≡ b → R (complete.completed_if node tx t epoch awaited b)
-      which epoch awaited at true more = forms.completed epoch awaited at more
-      which epoch awaited at false more = forms.completed_all epoch awaited at more
+      which epoch awaited at true more = forms.completed key epoch awaited is at more
+      which epoch awaited at false more = forms.completed_all key epoch awaited is at more
 
       by : (phase : Phase) → t.phase ≡ phase → R (complete.completed_by node tx t phase)
       by (Completing epoch awaited) at = which epoch awaited at (nat_lt 1 awaited) refl
-      by Open at = forms.stays
-      by Verifying at = forms.stays
-      by (Committing epoch awaited) at = forms.stays
-      by (Aborting why verifying awaited) at = forms.stays
+      by Open at = forms.stays (ap is_onward is)
+      by Verifying at = forms.stays (ap is_onward is)
+      by (Committing epoch awaited) at = forms.stays (ap is_onward is)
+      by (Aborting why verifying awaited) at = forms.stays (ap is_onward is)
 
   aborts : (u : Transaction) (why : AbortCause) → AbortForms node layout tx u why R → R (abort.aborted_for node layout tx u why)
   unfolding abort.aborted_for
@@ -185,44 +267,45 @@ module _ (node : ℕ) (layout : Layout) (tx : TxId) (t : Transaction) (body : Bo
       by true none = own.ends none
       by false none = own.enters none
 
-  pub refuses : (key : List ℕ) (why : AbortCause) → body ≡ Chain (LqhKeyRef tx key why) → R (abort.refuse_row node layout tx t key why)
+  refuses : (key : List ℕ) (why : AbortCause) → body ≡ Chain (LqhKeyRef tx key why)
+      → R (abort.refuse_row node layout tx t key why)
   unfolding abort.refuse_row
   refuses key why is = by (operate.asked_on t.asked key) refl t.phase refl
     where
       by : (o : Option Asked) → operate.asked_on t.asked key ≡ o → (phase : Phase) → t.phase ≡ phase → R (abort.refuse_by node layout tx t key why o phase)
       by (Some asked) on Open at = aborts (asking t None) why (forms.refuses key why asked is (asked_on-is t.asked key asked on) at)
       by (Some asked) on (Aborting other verifying awaited) at = forms.late key asked other verifying awaited (asked_on-is t.asked key asked on) at
-      by (Some asked) on Verifying at = forms.stays
-      by (Some asked) on (Committing epoch awaited) at = forms.stays
-      by (Some asked) on (Completing epoch awaited) at = forms.stays
-      by None on phase at = forms.stays
+      by (Some asked) on Verifying at = forms.stays (ap is_onward is)
+      by (Some asked) on (Committing epoch awaited) at = forms.stays (ap is_onward is)
+      by (Some asked) on (Completing epoch awaited) at = forms.stays (ap is_onward is)
+      by None on phase at = forms.stays (ap is_onward is)
 
-  pub rolls_back : body ≡ Client (TcRollbackReq tx) → R (abort.rollback_row node layout tx t)
+  rolls_back : body ≡ Client (TcRollbackReq tx) → R (abort.rollback_row node layout tx t)
   unfolding abort.rollback_row
   rolls_back is = by t.phase refl
     where
       by : (phase : Phase) → t.phase ≡ phase → R (abort.rollback_by node layout tx t phase)
       by Open at = aborts t cause.Request (forms.rolls_back is (ap is_decided at) (ap is_aborting at))
       by Verifying at = aborts t cause.Request (forms.rolls_back is (ap is_decided at) (ap is_aborting at))
-      by (Committing epoch awaited) at = forms.stays
-      by (Completing epoch awaited) at = forms.stays
-      by (Aborting why verifying awaited) at = forms.stays
+      by (Committing epoch awaited) at = forms.stays (ap is_onward is)
+      by (Completing epoch awaited) at = forms.stays (ap is_onward is)
+      by (Aborting why verifying awaited) at = forms.stays (ap is_onward is)
 
-  pub aborted : R (abort.aborted_row node tx t)
+  aborted : (key : List ℕ) → body ≡ Chain (Aborted tx key) → R (abort.aborted_row node tx t)
   unfolding abort.aborted_row
-  aborted = by t.phase refl
+  aborted key is = by t.phase refl
     where
       which : (why : AbortCause) (verifying : Bool) (awaited : ℕ) → t.phase ≡ Aborting why verifying awaited → (b : Bool) → nat_lt 1 awaited ≡ b
           → R (abort.aborted_if node tx t why verifying awaited b)
-      which why verifying awaited at true more = forms.aborted why verifying awaited at more
-      which why verifying awaited at false more = forms.aborted_all why verifying awaited at more
+      which why verifying awaited at true more = forms.aborted key why verifying awaited is at more
+      which why verifying awaited at false more = forms.aborted_all key why verifying awaited is at more
 
       by : (phase : Phase) → t.phase ≡ phase → R (abort.aborted_by node tx t phase)
       by (Aborting why verifying awaited) at = which why verifying awaited at (nat_lt 1 awaited) refl
-      by Open at = forms.stays
-      by Verifying at = forms.stays
-      by (Committing epoch awaited) at = forms.stays
-      by (Completing epoch awaited) at = forms.stays
+      by Open at = forms.stays (ap is_onward is)
+      by Verifying at = forms.stays (ap is_onward is)
+      by (Committing epoch awaited) at = forms.stays (ap is_onward is)
+      by (Completing epoch awaited) at = forms.stays (ap is_onward is)
 
 -- what the transaction does by the row of this signal
 pub record RowsAre (node : ℕ) (layout : Layout) (tx : TxId) (t : Transaction) (body : Body) (R : Turn → Type 0) : Type 0 where
@@ -238,20 +321,27 @@ pub record RowsAre (node : ℕ) (layout : Layout) (tx : TxId) (t : Transaction) 
   pub aborted : (key : List ℕ) → body ≡ Chain (Aborted tx key) → R (abort.aborted_row node tx t)
   pub commits : (epoch : ℕ) → body ≡ Epoch (DiVerifyConf tx epoch) → R (commit.commit_row node layout tx t epoch)
 
-pub rows_of : (node : ℕ) (layout : Layout) (tx : TxId) (t : Transaction) (body : Body) (R : Turn → Type 0) → TurnForms node layout tx t body R → RowsAre node layout tx t body R
-rows_of node layout tx t body R forms = record {
-  goes_on = λ at is. goes_on node layout tx t body R forms at;
-  operates = λ op is. operates node layout tx t body R forms op is;
-  decides = λ is. decides node layout tx t body R forms is;
-  rolls_back = λ is. rolls_back node layout tx t body R forms is;
-  waits = λ is. waits node layout tx t body R forms;
-  answers = λ key answer is. answers node layout tx t body R forms key answer is;
-  refuses = λ key why is. refuses node layout tx t body R forms key why is;
-  committed = λ key is. committed node layout tx t body R forms;
-  completed = λ key is. completed node layout tx t body R forms;
-  aborted = λ key is. aborted node layout tx t body R forms;
-  commits = λ epoch is. commits node layout tx t body R forms epoch is;
+pub rows_at : (node : ℕ) (layout : Layout) (tx : TxId) (t : Transaction) (body : Body) (R : Turn → Type 0)
+    → TurnFormsAt node layout tx t body R
+    → RowsAre node layout tx t body R
+rows_at node layout tx t body R forms = record {
+  goes_on = goes_on node layout tx t body R forms;
+  operates = operates node layout tx t body R forms;
+  decides = decides node layout tx t body R forms;
+  rolls_back = rolls_back node layout tx t body R forms;
+  waits = waits node layout tx t body R forms;
+  answers = answers node layout tx t body R forms;
+  refuses = refuses node layout tx t body R forms;
+  committed = committed node layout tx t body R forms;
+  completed = completed node layout tx t body R forms;
+  aborted = aborted node layout tx t body R forms;
+  commits = commits node layout tx t body R forms;
 }
+
+pub rows_of : (node : ℕ) (layout : Layout) (tx : TxId) (t : Transaction) (body : Body) (R : Turn → Type 0)
+    → TurnForms node layout tx t body R
+    → RowsAre node layout tx t body R
+rows_of node layout tx t body R forms = rows_at node layout tx t body R (told node layout tx t body R forms)
 
 -- two predicates together
 pub rows_both : (node : ℕ) (layout : Layout) (tx : TxId) (t : Transaction) (body : Body) (P Q : Turn → Type 0) → RowsAre node layout tx t body P → RowsAre node layout tx t body Q
