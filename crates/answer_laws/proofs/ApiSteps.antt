@@ -24,7 +24,7 @@ use Rattle.api_block.specs.Commands.{ticked_if}
 use Rattle.api_block.specs.Members.{everyone, telling_all}
 use Rattle.api_block.specs.Opened.{asked_for, begins_at, has_tx, is_beginning, same_name}
 use Rattle.api_block.specs.State.{ApiState, about}
-use Rattle.host_laws.proofs.ApiTurns.{IsStray, RequestForms, SignalForms, api_turns}
+use Rattle.host_laws.proofs.ApiTurns.{IsStray, ApiRequestForms, ApiSignalForms, api_turns}
 use Rattle.host_laws.proofs.LqhOps.{left_of}
 use Rattle.host_laws.specs.Counts.{tally}
 use Rattle.host_laws.proofs.SendKinds.{are_of}
@@ -78,7 +78,7 @@ telling_calm told [] = refl
 telling_calm news.Round (member ∷ members) = telling_calm news.Round members
 telling_calm (news.Committed one) (member ∷ members) = telling_calm (news.Committed one) members
 
-at_request : (s : ApiState) (r : ApiReq) (n : ℕ) → RequestForms s (ApiStep s (Host (Continue (work.Request r) n)))
+at_request : (s : ApiState) (r : ApiReq) (n : ℕ) → ApiRequestForms s (ApiStep s (Host (Continue (work.Request r) n)))
 at_request s r n = record {
   opens = λ name node op new. opens name node op refl refl (λ tx. refl);
   refuses = λ name why living. rests refl refl tt;
@@ -113,7 +113,7 @@ unheard_of : (opened : List OpenTransaction) (body : Body) → IsStray opened bo
 unheard_of opened (Client (TcKeyConf one answer)) stray = absent stray
 unheard_of opened _ stray = tt
 
-at_signal : (s : ApiState) (body : Body) → SignalForms s body (ApiStep s body)
+at_signal : (s : ApiState) (body : Body) → ApiSignalForms s body (ApiStep s body)
 at_signal s body = record {
   begins_named = λ name one at f called is e.
       changes f.front f.item _ f.back f.is (f.set _) (begins_ready name one is (beginning_of name one.tc f.item f.passes) refl refl refl refl);

@@ -32,7 +32,7 @@ use Rattle.api_block.specs.Members.{everyone, telling_all}
 use Rattle.api_block.specs.Opened.{answered, behind, begins, begins_at, begun, begun_operating, has_tx}
 use Rattle.api_block.specs.State.{ApiState}
 use Rattle.node_core.specs.Requests.{is_request}
-use Rattle.host_laws.proofs.ApiTurns.{SignalForms, signal_turns}
+use Rattle.host_laws.proofs.ApiTurns.{ApiSignalForms, signal_turns}
 use Rattle.host_laws.proofs.Focus.{IsFocus}
 use Rattle.host_laws.proofs.SendKinds.{are_of}
 
@@ -117,7 +117,7 @@ rows_told node false rows =
 none_added : (s : ApiState) {t : ApiState} {effects : Effects} → t.replies ≡ s.replies → AddsRows s (record { state = t; effects = effects })
 none_added s same = record { more = []; is = same ∙ sym (append-nil s.replies); rows = tt }
 
-at_signal : (s : ApiState) (body : Body) → SignalForms s body (ApiChange s body)
+at_signal : (s : ApiState) (body : Body) → ApiSignalForms s body (ApiChange s body)
 at_signal s body = record {
   begins_named = λ name tx at f called is e. starts name tx (one_of f) (begun f.item tx) is f.passes (f.set _) (told called e refl refl refl);
   begins_alone = λ name tx at f op is e d.

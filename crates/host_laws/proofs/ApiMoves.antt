@@ -23,7 +23,7 @@ use Rattle.api_block.specs.Members.{everyone, telling_all}
 use Rattle.api_block.specs.Opened.{asked_for, begins, begins_at, has_tx, is_beginning}
 use Rattle.api_block.specs.Requests.{is_request}
 use Rattle.api_block.specs.State.{ApiState, about}
-use Rattle.host_laws.proofs.ApiTurns.{IsNew, IsVoid, RequestForms, SignalForms, api_turns}
+use Rattle.host_laws.proofs.ApiTurns.{IsNew, IsVoid, ApiRequestForms, ApiSignalForms, api_turns}
 use Rattle.host_laws.proofs.SendKinds.{are_of}
 
 -- what the API sends, but for the wish for a transaction
@@ -91,7 +91,7 @@ telling_of (news.Committed tx) (member ∷ members) = telling_of (news.Committed
 went_on : {t u : OpenTransaction} → u.name ≡ t.name → u.node ≡ t.node → u.tx ≡ t.tx → is_beginning u.doing ≡ is_beginning t.doing → GoesOn t u
 went_on name node tx begun = record { name = name; node = node; tx = tx; begun = begun }
 
-at_request : (s : ApiState) (r : ApiReq) (n : ℕ) → RequestForms s (Moves s (asking r n))
+at_request : (s : ApiState) (r : ApiReq) (n : ℕ) → ApiRequestForms s (Moves s (asking r n))
 at_request s r n = record {
   opens = λ name node op new. opens name node op new refl refl refl;
   refuses = λ name why living. rests refl refl tt;
@@ -114,7 +114,7 @@ at_request s r n = record {
     round of true = rests refl (telling_of news.Round (everyone s.view)) tt
     round of false = rests refl (telling_of news.Round (everyone s.view)) tt
 
-at_signal : (s : ApiState) (body : Body) → SignalForms s body (Moves s body)
+at_signal : (s : ApiState) (body : Body) → ApiSignalForms s body (Moves s body)
 at_signal s body = record {
   begins_named = λ name tx at f called is e.
       begun_as name tx f.front f.item _ f.back is f.passes (record { name = refl; is = refl; begun = refl }) f.is (ap (λ os. (s.view, os)) (f.set _)) refl;

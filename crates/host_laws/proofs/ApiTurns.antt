@@ -64,7 +64,7 @@ abbrev OwnAt : ApiState → TxId → ℕ → Type 0
 OwnAt s tx at = IsFocus (has_tx tx) s.opened at
 
 -- R is of each form of a step at a request
-pub record RequestForms (s : ApiState) (R : Step ApiState → Type 0) : Type 0 where
+pub record ApiRequestForms (s : ApiState) (R : Step ApiState → Type 0) : Type 0 where
   pub opens : (name : Option ℕ) (node : ℕ) (op : Option Op) → IsNew s name node → R (beginning s name node op)
   pub refuses : (name : Option ℕ) (why : Refusal) → (why ≡ refusal.Down → ⊥) → R (refused s name why)
   pub operates : (name : ℕ) (op : Op) (at : ℕ) (f : NamedAt s name at) (tx : TxId) → f.item.doing ≡ Ready → f.item.tx ≡ Some tx
@@ -86,7 +86,7 @@ pub record RequestForms (s : ApiState) (R : Step ApiState → Type 0) : Type 0 w
   pub rests : R (stay s)
 
 -- and at a signal
-pub record SignalForms (s : ApiState) (body : Body) (R : Step ApiState → Type 0) : Type 0 where
+pub record ApiSignalForms (s : ApiState) (body : Body) (R : Step ApiState → Type 0) : Type 0 where
   pub begins_named : (name : Option ℕ) (tx : TxId) (at : ℕ) (f : IsFocus (begins_at name tx.tc) s.opened at) (called : ℕ)
       → body ≡ Client (TcBeginConf name tx) → f.item.name ≡ Some called
       → R (stay (replied (changing s at (begun f.item tx)) (Begun called tx.tc ∷ [])))
@@ -119,7 +119,7 @@ pub record SignalForms (s : ApiState) (body : Body) (R : Step ApiState → Type 
       → R (stay (replied (with_dump s None) (dump_replies d.node d.digest (gathered d.rows rows))))
   pub rests : IsVoid s.opened body → IsStray s.opened body → R (stay s)
 
-module _ (s : ApiState) (R : Step ApiState → Type 0) (forms : RequestForms s R) where
+module _ (s : ApiState) (R : Step ApiState → Type 0) (forms : ApiRequestForms s R) where
   begin_at_turns : (name node : ℕ) (b : Bool) → tally (is_named (Some name)) s.opened ≡ 0 → is_full s.view node ≡ b → R (begin_at s name node b)
   begin_at_turns name node true none full = forms.opens (Some name) node None (none, full)
   begin_at_turns name node false none full = forms.refuses (Some name) (refusal.NoMember node) (λ e. cc)
@@ -235,7 +235,7 @@ module _ (s : ApiState) (R : Step ApiState → Type 0) (forms : RequestForms s R
   request_turns _ = forms.is_about_none
 
 -- what the coordinators and the rows tell
-module _ (s : ApiState) (body : Body) (R : Step ApiState → Type 0) (forms : SignalForms s body R) where
+module _ (s : ApiState) (body : Body) (R : Step ApiState → Type 0) (forms : ApiSignalForms s body R) where
   -- what it tells of isn't there
   nothing : (told : Body) → body ≡ told → IsVoid s.opened told → IsStray s.opened told → R (stay s)
   nothing told is void stray = forms.rests (subst (IsVoid s.opened) (sym is) void) (subst (IsStray s.opened) (sym is) stray)
@@ -315,6 +315,6 @@ module _ (s : ApiState) (body : Body) (R : Step ApiState → Type 0) (forms : Si
 
 -- whatever the API takes
 pub api_turns : (s : ApiState) (R : Body → Step ApiState → Type 0) (body : Body)
-    → ((r : ApiReq) (at : ℕ) → RequestForms s (R (Host (Continue (work.Request r) at)))) → SignalForms s body (R body) → R body (api_table s body)
+    → ((r : ApiReq) (at : ℕ) → ApiRequestForms s (R (Host (Continue (work.Request r) at)))) → ApiSignalForms s body (R body) → R body (api_table s body)
 api_turns s R (Host (Continue (work.Request r) at)) asked told = request_turns s (R (Host (Continue (work.Request r) at))) (asked r at) r
 api_turns s R body asked told = signal_turns s body (R body) told refl
