@@ -83,7 +83,8 @@ module _ (s : ApiState) (all : AllLiving s.replies) where
     waits = λ tx ahead at f is sound. all;
     dumps = λ d rows next at is sound. all;
     dumped = λ d rows next is sound.
-        each_append (λ (r : ApiReply). is_of_living r ≡ true) s.replies (dump_replies d.node d.digest (gathered d.rows rows)) all
+        each_append (λ (r : ApiReply). is_of_living r ≡ true) s.replies
+        (dump_replies d.node d.digest (gathered d.rows rows)) all
         (lines_live d.node d.digest (gathered d.rows rows));
     rests = λ void stray sound. all;
   }
