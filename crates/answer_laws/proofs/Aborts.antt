@@ -45,7 +45,8 @@ use Rattle.host_laws.proofs.Wishes.{is_tc, sends_of}
 use Rattle.answer_laws.specs.Answered.{AreQuiet, NoAbortIsAwaited}
 use Rattle.tc_block.specs.Phases.{is_aborting}
 
-module _ (start : Start) (shape : IsShape start.shape) (tx : TxId) (some_node : 1 ≤ tx.tc) (few_nodes : tx.tc ≤ start.shape.nodes) where
+module _ (start : Start) (shape : IsShape start.shape) (tx : TxId) (some_node : 1 ≤ tx.tc)
+    (few_nodes : tx.tc ≤ start.shape.nodes) where
   abbrev layout : Layout
   layout = first_layout start.shape
 
@@ -64,7 +65,8 @@ module _ (start : Start) (shape : IsShape start.shape) (tx : TxId) (some_node : 
 
   abbrev OwedBy : (ℕ → List HostStep) → Transaction → ℕ → Type 0
   OwedBy logs t k =
-      IsOwed start tx (is_abort nodes tx) logs (replica_count (first_layout start.shape) t.touched) (asked_count (first_layout start.shape) t.asked) k
+      IsOwed start tx (is_abort nodes tx) logs (replica_count (first_layout start.shape) t.touched)
+      (asked_count (first_layout start.shape) t.asked) k
 
   -- what its abort waits for is at most that
   record IsDue (logs : ℕ → List HostStep) (t : Transaction) (k : ℕ) : Type 0 where
@@ -72,7 +74,9 @@ module _ (start : Start) (shape : IsShape start.shape) (tx : TxId) (some_node : 
     owed : OwedBy logs t k
 
   abbrev AllDue : (ℕ → List HostStep) → Type 0
-  AllDue logs = (t : Transaction) (why : AbortCause) (v : Bool) (k : ℕ) → tx_at tx (after start at (logs at)) ≡ Some t → t.phase ≡ Aborting why v k → IsDue logs t k
+  AllDue logs =
+      (t : Transaction) (why : AbortCause) (v : Bool) (k : ℕ) → tx_at tx
+      (after start at (logs at)) ≡ Some t → t.phase ≡ Aborting why v k → IsDue logs t k
 
   few_all : (touched : List Touched) → length touched ≤ 64 → replica_count (first_layout start.shape) touched ≤ 512
   few_all touched low = omega (arith, low, each_few touched)
@@ -93,7 +97,8 @@ module _ (start : Start) (shape : IsShape start.shape) (tx : TxId) (some_node : 
     sends = (step_after start h (logs h) e).effects.sends
 
     -- rows pass on what came
-    rows_pass : IsRowsStep (after start h (logs h)) x (step_after start h (logs h) e) → came ≤ sends_of (is_abort nodes tx) sends
+    rows_pass : IsRowsStep (after start h (logs h)) x (step_after start h (logs h) e)
+        → came ≤ sends_of (is_abort nodes tx) sends
     rows_pass step =
         omega (
           arith,
@@ -103,11 +108,14 @@ module _ (start : Start) (shape : IsShape start.shape) (tx : TxId) (some_node : 
         )
 
     -- where nothing is said of the transaction none came
-    aside_none : IsAside tx (after start h (logs h)) x (step_after start h (logs h) e) → ((is_tc x.to.block && (x.to.node == tx.tc)) ≡ true → aborted_body tx x.body ≡ true → ⊥) → came ≡ 0
+    aside_none : IsAside tx (after start h (logs h)) x (step_after start h (logs h) e)
+        → ((is_tc x.to.block && (x.to.node == tx.tc)) ≡ true → aborted_body tx x.body ≡ true → ⊥) → came ≡ 0
     aside_none step away = ap one_if (none_at nodes tx x.to x.body rows away)
       where
         rows : (is_lqh x.to.block && is_node nodes x.to.node) ≡ true → ⊥
-        rows q = true≢false (sym (heard_rows start h (logs h) x.to (addressed start logs now h e g) q) ∙ step.unheard (left_of (is_lqh x.to.block) (is_node nodes x.to.node) q))
+        rows q =
+            true≢false
+            (sym (heard_rows start h (logs h) x.to (addressed start logs now h e g) q) ∙ step.unheard (left_of (is_lqh x.to.block) (is_node nodes x.to.node) q))
 
   own_step : (logs now : ℕ → List HostStep) (e : HostStep) → Goes start logs now at e → AllDue logs → AllDue now
   own_step logs now e g all u why v k u_at u_is = by (turn_at start tx at (logs at) e)
@@ -128,7 +136,8 @@ module _ (start : Start) (shape : IsShape start.shape) (tx : TxId) (some_node : 
       now_at = ap (λ log. tx_at tx (after start at log)) (sym g.own) ∙ u_at
 
       -- where the transaction stays as it is, and what came is passed on
-      kept : tx_at tx (step_after start at (logs at) e).state ≡ tx_at tx s → c ≤ sends_of (is_abort nodes tx) own_sends → ((a : ℕ) → is_cont tx a e.step.taken.to e.step.taken.body ≡ false) → IsDue now u k
+      kept : tx_at tx (step_after start at (logs at) e).state ≡ tx_at tx s → c ≤ sends_of (is_abort nodes tx) own_sends
+          → ((a : ℕ) → is_cont tx a e.step.taken.to e.step.taken.body ≡ false) → IsDue now u k
       kept same passed off =
           let due = all u why v k (sym same ∙ now_at) u_is in
           record {
@@ -140,22 +149,30 @@ module _ (start : Start) (shape : IsShape start.shape) (tx : TxId) (some_node : 
           }
 
       by : HostTurn tx s e.step.taken (step_after start at (logs at) e) → IsDue now u k
-      by (in_rows step) = kept (ap (λ t. of_live tx t.live) step.tc) (rows_pass logs now at e g step) (λ a. cont_block tx a e.step.taken.to e.step.taken.body (ap is_tc step.at))
+      by (in_rows step) =
+          kept (ap (λ t. of_live tx t.live) step.tc) (rows_pass logs now at e g step)
+          (λ a. cont_block tx a e.step.taken.to e.step.taken.body (ap is_tc step.at))
       by (aside step) =
-          kept step.same (omega (arith, aside_none logs now at e g step (λ tc said. let turn = answer_turn tx e.step.taken.body said in gone (left_of (is_tc e.step.taken.to.block) (e.step.taken.to.node == tx.tc) tc) turn.0 turn.1)))
+          kept step.same
+          (omega (arith, aside_none logs now at e g step (λ tc said. let turn = answer_turn tx e.step.taken.body said in gone (left_of (is_tc e.step.taken.to.block) (e.step.taken.to.node == tx.tc) tc) turn.0 turn.1)))
           (λ a. off_cont a (is_cont tx a e.step.taken.to e.step.taken.body) refl)
         where
-          gone : is_tc e.step.taken.to.block ≡ true → is_turn e.step.taken.body ≡ true → tx_in e.step.taken.body ≡ tx → ⊥
+          gone : is_tc e.step.taken.to.block ≡ true → is_turn e.step.taken.body ≡ true → tx_in e.step.taken.body ≡ tx
+              → ⊥
           gone tc turn one = no_transaction u (sym (step.absent tc turn one) ∙ (sym step.same ∙ now_at))
 
-          off_cont : (a : ℕ) (b : Bool) → is_cont tx a e.step.taken.to e.step.taken.body ≡ b → is_cont tx a e.step.taken.to e.step.taken.body ≡ false
+          off_cont : (a : ℕ) (b : Bool) → is_cont tx a e.step.taken.to e.step.taken.body ≡ b
+              → is_cont tx a e.step.taken.to e.step.taken.body ≡ false
           off_cont a false q = q
           off_cont a true q = by_block (is_tc e.step.taken.to.block) refl
             where
-              by_block : (b : Bool) → is_tc e.step.taken.to.block ≡ b → is_cont tx a e.step.taken.to e.step.taken.body ≡ false
+              by_block : (b : Bool) → is_tc e.step.taken.to.block ≡ b
+                  → is_cont tx a e.step.taken.to e.step.taken.body ≡ false
               by_block false off = cont_block tx a e.step.taken.to e.step.taken.body off
               by_block true on = let turn = cont_turn tx a e.step.taken.to e.step.taken.body q in absurd (gone on turn.0 turn.1)
-      by (starting step) = absurd (open_not (ap (λ (t : Transaction). t.phase) (the_transaction fresh u (sym step.there ∙ now_at)) ∙ u_is))
+      by (starting step) =
+          absurd
+          (open_not (ap (λ (t : Transaction). t.phase) (the_transaction fresh u (sym step.there ∙ now_at)) ∙ u_is))
         where
           open_not : Open ≡ Aborting why v k → ⊥
           open_not q = cc
@@ -165,24 +182,31 @@ module _ (start : Start) (shape : IsShape start.shape) (tx : TxId) (some_node : 
           came = few_answers nodes tx e.step.taken.to e.step.taken.body (ap is_lqh step.at)
 
           told : HomeStep start tx (is_abort nodes tx) logs now step.turn.step.effects.sends e.step.taken.to e.step.taken.body
-          told = subst (λ xs. HomeStep start tx (is_abort nodes tx) logs now xs e.step.taken.to e.step.taken.body) step.told f
+          told =
+              subst
+              (λ xs. HomeStep start tx (is_abort nodes tx) logs now xs e.step.taken.to e.step.taken.body) step.told f
 
           number : (tc_of s).node ≡ tx.tc
           number = sym (live_home tx (tc_of s) step.was step.there (at_tc start tx at (logs at)).own)
 
           which : (b : Bool) → step.turn.over ≡ b → IsDue now u k
-          which true over = no_transaction u (sym (step.left ∙ ap (λ b. if b then None else Some step.turn.step.state) over) ∙ now_at)
+          which true over =
+              no_transaction u (sym (step.left ∙ ap (λ b. if b then None else Some step.turn.step.state) over) ∙ now_at)
           which false over =
               subst (λ w. IsDue now w k) same
               (moved (abort_move nodes tx (first_layout start.shape) good (tc_of s) number (tc_layout start at (logs at) step.runs) step.was e.step.taken.body step.turn step.move over why v k (ap (λ (w : Transaction). w.phase) same ∙ u_is)))
             where
               same : step.turn.step.state ≡ u
-              same = the_transaction step.turn.step.state u (sym (step.left ∙ ap (λ b. if b then None else Some step.turn.step.state) over) ∙ now_at)
+              same =
+                  the_transaction step.turn.step.state u
+                  (sym (step.left ∙ ap (λ b. if b then None else Some step.turn.step.state) over) ∙ now_at)
 
-              before : (other : AbortCause) (z : Bool) (m : ℕ) → step.was.phase ≡ Aborting other z m → IsDue logs step.was m
+              before : (other : AbortCause) (z : Bool) (m : ℕ) → step.was.phase ≡ Aborting other z m
+                  → IsDue logs step.was m
               before other z m p = all step.was other z m step.there p
 
-              moved : AbortMove nodes tx (first_layout start.shape) good step.was e.step.taken.body step.turn.step.state step.turn.step.effects.sends k → IsDue now step.turn.step.state k
+              moved : AbortMove nodes tx (first_layout start.shape) good step.was e.step.taken.body step.turn.step.state step.turn.step.effects.sends k
+                  → IsDue now step.turn.step.state k
               moved (begins none off some k_is part) = record {
                 some = some;
                 owed = begun_owed start tx (is_abort nodes tx) logs now _ e.step.taken.to e.step.taken.body told _ _ k
@@ -195,28 +219,37 @@ module _ (start : Start) (shape : IsShape start.shape) (tx : TxId) (some_node : 
 
                   by_owed : IsOwed start tx (is_abort nodes tx) now (replica_count (first_layout start.shape) step.was.touched) (asked_count (first_layout start.shape) step.turn.step.state.asked) k
                   by_owed =
-                      waits_owed start tx (is_abort nodes tx) logs now _ e.step.taken.to e.step.taken.body told (replica_count (first_layout start.shape) step.was.touched) (asked_count (first_layout start.shape) step.was.asked) m
-                      (asked_count (first_layout start.shape) step.turn.step.state.asked) k (omega (arith, le, came)) (λ b low. off b e.step.taken.to low) d.owed
-              moved (continues other z place p about low w_is part) = subst (λ w. IsDue now w k) (sym w_is) (record { some = d.some; owed = goes_on d.owed })
+                      waits_owed start tx (is_abort nodes tx) logs now _ e.step.taken.to e.step.taken.body told
+                      (replica_count (first_layout start.shape) step.was.touched)
+                      (asked_count (first_layout start.shape) step.was.asked) m
+                      (asked_count (first_layout start.shape) step.turn.step.state.asked) k (omega (arith, le, came))
+                      (λ b low. off b e.step.taken.to low) d.owed
+              moved (continues other z place p about low w_is part) =
+                  subst (λ w. IsDue now w k) (sym w_is) (record { some = d.some; owed = goes_on d.owed })
                 where
                   d : IsDue logs step.was k
                   d = before other z k p
 
                   goes_on : OwedBy logs step.was k → OwedBy now step.was k
                   goes_on =
-                      continued_owed start tx (is_abort nodes tx) logs now _ e.step.taken.to e.step.taken.body told _ _ k place
-                      (few_all step.was.touched (few_touched start tx at (logs at) step.was step.there)) (omega (arith, came, ap (λ b. one_if (aborted_body tx b)) about))
-                      (λ b differs. ap (is_cont tx b e.step.taken.to) about ∙ cont_place tx b place e.step.taken.to differs) (inr part)
+                      continued_owed start tx
+                      (is_abort nodes tx) logs now _ e.step.taken.to e.step.taken.body told _ _ k place
+                      (few_all step.was.touched (few_touched start tx at (logs at) step.was step.there))
+                      (omega (arith, came, ap (λ b. one_if (aborted_body tx b)) about))
+                      (λ b differs. ap (is_cont tx b e.step.taken.to) about ∙ cont_place tx b place e.step.taken.to differs)
+                      (inr part)
 
   -- the step of another host
-  other_step : (logs now : ℕ → List HostStep) (h : ℕ) (e : HostStep) → Goes start logs now h e → h ≢ at → AllDue logs → AllDue now
+  other_step : (logs now : ℕ → List HostStep) (h : ℕ) (e : HostStep) → Goes start logs now h e → h ≢ at → AllDue logs
+      → AllDue now
   other_step logs now h e g differs all u why v k u_at u_is =
       let log_is = g.others at (λ z. differs (sym z)) in
       let due = all u why v k (ap (λ log. tx_at tx (after start at log)) (sym log_is) ∙ u_at) u_is in
       record {
         some = due.some;
         owed =
-            stays_owed start tx (is_abort nodes tx) logs now (replica_count (first_layout start.shape) u.touched) (asked_count (first_layout start.shape) u.asked) k
+            stays_owed start tx (is_abort nodes tx) logs now (replica_count (first_layout start.shape) u.touched)
+            (asked_count (first_layout start.shape) u.asked) k
             (omega (arith, passed (other_turn start tx h (logs h) e g.low differs), s_more start tx (is_abort nodes tx) (abort_low start tx few_nodes) logs now h e g, t_more start tx (is_abort nodes tx) (abort_low start tx few_nodes) logs now h e g))
             (λ b low. omega (
               arith,
@@ -228,7 +261,9 @@ module _ (start : Start) (shape : IsShape start.shape) (tx : TxId) (some_node : 
       passed : IsRowsStep (after start h (logs h)) e.step.taken (step_after start h (logs h) e) ⊎ IsAside tx (after start h (logs h)) e.step.taken (step_after start h (logs h) e)
           → one_if (is_abort nodes tx e.step.taken.to e.step.taken.body) ≤ sends_of (is_abort nodes tx) (step_after start h (logs h) e).effects.sends
       passed (inl rows) = rows_pass logs now h e g rows
-      passed (inr other) = omega (arith, aside_none logs now h e g other (λ tc said. differs (sym (addressed start logs now h e g) ∙ home_place start tx e.step.taken.to tc)))
+      passed (inr other) =
+          omega
+          (arith, aside_none logs now h e g other (λ tc said. differs (sym (addressed start logs now h e g) ∙ home_place start tx e.step.taken.to tc)))
 
   step : (logs now : ℕ → List HostStep) (h : ℕ) (e : HostStep) → Goes start logs now h e → AllDue logs → AllDue now
   step logs now h e g all = by (cases_eq h at)
@@ -240,9 +275,12 @@ module _ (start : Start) (shape : IsShape start.shape) (tx : TxId) (some_node : 
   first : AllDue (log_of (machine start) [])
   first t why v k there is = no_transaction t (sym (first_none start tx at) ∙ there)
 
-  none_aborts : (logs : ℕ → List HostStep) → AreQuiet start logs → (t : Transaction) (why : AbortCause) (v : Bool) (k : ℕ) → tx_at tx (after start at (logs at)) ≡ Some t → t.asked ≡ None → t.phase ≡ Aborting why v k → ⊥
+  none_aborts : (logs : ℕ → List HostStep) → AreQuiet start logs
+      → (t : Transaction) (why : AbortCause) (v : Bool) (k : ℕ) → tx_at tx (after start at (logs at)) ≡ Some t
+      → t.asked ≡ None → t.phase ≡ Aborting why v k → ⊥
   none_aborts logs quiet t why v k there none is =
-      none_owed start tx (is_abort nodes tx) logs (replica_count (first_layout start.shape) t.touched) k quiet low due.some
+      none_owed start tx (is_abort nodes tx) logs
+      (replica_count (first_layout start.shape) t.touched) k quiet low due.some
       (subst (λ asked. IsOwed start tx (is_abort nodes tx) logs (replica_count (first_layout start.shape) t.touched) (asked_count (first_layout start.shape) asked) k) none due.owed)
     where
       due : IsDue logs t k
@@ -260,7 +298,8 @@ no_abort start logs h tx t quiet low live none = go t.phase refl
 
     go : (phase : Phase) → t.phase ≡ phase → is_aborting t.phase ≡ false
     go (Aborting why v k) p =
-        absurd (none_aborts start quiet.shape tx of.some of.low logs quiet t why v k (subst (λ j. tx_at tx (after start j (logs j)) ≡ Some t) of.is there) none p)
+        absurd
+        (none_aborts start quiet.shape tx of.some of.low logs quiet t why v k (subst (λ j. tx_at tx (after start j (logs j)) ≡ Some t) of.is there) none p)
     go Open p = ap is_aborting p
     go Verifying p = ap is_aborting p
     go (Committing epoch k) p = ap is_aborting p

@@ -24,7 +24,7 @@ use Rattle.api_block.specs.Commands.{ticked_if}
 use Rattle.api_block.specs.Members.{everyone, telling_all}
 use Rattle.api_block.specs.Opened.{asked_for, begins_at, has_tx, is_beginning, same_name}
 use Rattle.api_block.specs.State.{ApiState, about}
-use Rattle.host_laws.proofs.ApiTurns.{IsStray, RequestForms, SignalForms, api_turns}
+use Rattle.host_laws.proofs.ApiTurns.{IsStray, ApiRequestForms, ApiSignalForms, api_turns}
 use Rattle.host_laws.proofs.LqhOps.{left_of}
 use Rattle.host_laws.specs.Counts.{tally}
 use Rattle.host_laws.proofs.SendKinds.{are_of}
@@ -40,7 +40,8 @@ is_calm _ = true
 -- an operation's answer comes for none, or for one that didn't ask
 pub data Unheard (opened : List OpenTransaction) (one : TxId) : Type 0 where
   absent : tally (has_tx one) opened ≡ 0 → Unheard opened one
-  idle : (front : List OpenTransaction) (t : OpenTransaction) (back : List OpenTransaction) → opened ≡ front ++ t ∷ back → has_tx one t ≡ true → is_operating t.doing ≡ false → Unheard opened one
+  idle : (front : List OpenTransaction) (t : OpenTransaction) (back : List OpenTransaction) → opened ≡ front ++ t ∷ back
+      → has_tx one t ≡ true → is_operating t.doing ≡ false → Unheard opened one
 
 abbrev pub IsUnheard : List OpenTransaction → Body → Type 0
 IsUnheard opened (Client (TcKeyConf one answer)) = Unheard opened one
@@ -52,38 +53,53 @@ IsNoAnswer body = (tx : TxId) → answer_of tx body ≡ false
 
 -- one transaction becomes another, and these signals are sent
 pub data Changes (body : Body) (t u : OpenTransaction) (sends : List Outgoing) : Type 0 where
-  begins_ready : (name : Option ℕ) (one : TxId) → body ≡ Client (TcBeginConf name one) → is_beginning t.doing ≡ true → u.tx ≡ Some one → u.operations ≡ t.operations → u.doing ≡ Ready
+  begins_ready : (name : Option ℕ) (one : TxId) → body ≡ Client (TcBeginConf name one) → is_beginning t.doing ≡ true
+      → u.tx ≡ Some one → u.operations ≡ t.operations → u.doing ≡ Ready
       → are_of is_calm sends ≡ true → Changes body t u sends
-  begins_working : (name : Option ℕ) (one : TxId) (op : Op) → body ≡ Client (TcBeginConf name one) → is_beginning t.doing ≡ true → u.tx ≡ Some one → u.operations ≡ 1 → u.doing ≡ Operating
+  begins_working : (name : Option ℕ) (one : TxId) (op : Op) → body ≡ Client (TcBeginConf name one)
+      → is_beginning t.doing ≡ true → u.tx ≡ Some one → u.operations ≡ 1 → u.doing ≡ Operating
       → sends ≡ to_place (coordinator_of one) (Client (TcKeyReq one op)) ∷ [] → Changes body t u sends
-  works : (one : TxId) (op : Op) → IsNoAnswer body → t.tx ≡ Some one → t.doing ≡ Ready → nat_lt t.operations 64 ≡ true → u.tx ≡ t.tx → u.operations ≡ t.operations + 1 → u.doing ≡ Operating
+  works : (one : TxId) (op : Op) → IsNoAnswer body → t.tx ≡ Some one → t.doing ≡ Ready → nat_lt t.operations 64 ≡ true
+      → u.tx ≡ t.tx → u.operations ≡ t.operations + 1 → u.doing ≡ Operating
       → sends ≡ to_place (coordinator_of one) (Client (TcKeyReq one op)) ∷ [] → Changes body t u sends
-  commits : (one : TxId) → IsNoAnswer body → t.tx ≡ Some one → t.doing ≡ Ready → u.tx ≡ t.tx → u.operations ≡ t.operations → u.doing ≡ Committing
+  commits : (one : TxId) → IsNoAnswer body → t.tx ≡ Some one → t.doing ≡ Ready → u.tx ≡ t.tx
+      → u.operations ≡ t.operations → u.doing ≡ Committing
       → sends ≡ to_place (coordinator_of one) (Client (TcCommitReq one)) ∷ [] → Changes body t u sends
-  answered_ready : (one : TxId) (answer : Answer) → body ≡ Client (TcKeyConf one answer) → has_tx one t ≡ true → t.doing ≡ Operating → u.tx ≡ t.tx → u.operations ≡ t.operations → u.doing ≡ Ready
+  answered_ready : (one : TxId) (answer : Answer) → body ≡ Client (TcKeyConf one answer) → has_tx one t ≡ true
+      → t.doing ≡ Operating → u.tx ≡ t.tx → u.operations ≡ t.operations → u.doing ≡ Ready
       → are_of is_calm sends ≡ true → Changes body t u sends
-  answered_last : (one : TxId) (answer : Answer) → body ≡ Client (TcKeyConf one answer) → has_tx one t ≡ true → t.doing ≡ Operating → u.tx ≡ t.tx → u.operations ≡ t.operations → u.doing ≡ Committing
+  answered_last : (one : TxId) (answer : Answer) → body ≡ Client (TcKeyConf one answer) → has_tx one t ≡ true
+      → t.doing ≡ Operating → u.tx ≡ t.tx → u.operations ≡ t.operations → u.doing ≡ Committing
       → sends ≡ to_place (coordinator_of one) (Client (TcCommitReq one)) ∷ [] → Changes body t u sends
-  notes : IsNoAnswer body → u.tx ≡ t.tx → u.operations ≡ t.operations → u.doing ≡ t.doing → are_of is_calm sends ≡ true → Changes body t u sends
+  notes : IsNoAnswer body → u.tx ≡ t.tx → u.operations ≡ t.operations → u.doing ≡ t.doing → are_of is_calm sends ≡ true
+      → Changes body t u sends
 
 -- a step of the API from s at the signal
 pub data ApiStep (s : ApiState) (body : Body) (step : Step ApiState) : Type 0 where
-  rests : step.state.opened ≡ s.opened → are_of is_calm step.effects.sends ≡ true → IsUnheard s.opened body → ApiStep s body step
-  opens : (name : Option ℕ) (node : ℕ) (op : Option Op) → step.state.opened ≡ s.opened ++ asked_for name node op ∷ [] → are_of is_calm step.effects.sends ≡ true → IsNoAnswer body → ApiStep s body step
-  changes : (front : List OpenTransaction) (t u : OpenTransaction) (back : List OpenTransaction) → s.opened ≡ front ++ t ∷ back → step.state.opened ≡ front ++ u ∷ back → Changes body t u step.effects.sends → ApiStep s body step
-  drops : (front : List OpenTransaction) (t : OpenTransaction) (back : List OpenTransaction) → s.opened ≡ front ++ t ∷ back → step.state.opened ≡ front ++ back → are_of is_calm step.effects.sends ≡ true → IsNoAnswer body → ApiStep s body step
+  rests : step.state.opened ≡ s.opened → are_of is_calm step.effects.sends ≡ true → IsUnheard s.opened body
+      → ApiStep s body step
+  opens : (name : Option ℕ) (node : ℕ) (op : Option Op) → step.state.opened ≡ s.opened ++ asked_for name node op ∷ []
+      → are_of is_calm step.effects.sends ≡ true → IsNoAnswer body → ApiStep s body step
+  changes : (front : List OpenTransaction) (t u : OpenTransaction) (back : List OpenTransaction)
+      → s.opened ≡ front ++ t ∷ back → step.state.opened ≡ front ++ u ∷ back → Changes body t u step.effects.sends
+      → ApiStep s body step
+  drops : (front : List OpenTransaction) (t : OpenTransaction) (back : List OpenTransaction)
+      → s.opened ≡ front ++ t ∷ back → step.state.opened ≡ front ++ back → are_of is_calm step.effects.sends ≡ true
+      → IsNoAnswer body → ApiStep s body step
 
 telling_calm : (told : News) (members : List Member) → are_of is_calm (telling_all told members) ≡ true
 telling_calm told [] = refl
 telling_calm news.Round (member ∷ members) = telling_calm news.Round members
 telling_calm (news.Committed one) (member ∷ members) = telling_calm (news.Committed one) members
 
-at_request : (s : ApiState) (r : ApiReq) (n : ℕ) → RequestForms s (ApiStep s (Host (Continue (work.Request r) n)))
+at_request : (s : ApiState) (r : ApiReq) (n : ℕ) → ApiRequestForms s (ApiStep s (Host (Continue (work.Request r) n)))
 at_request s r n = record {
   opens = λ name node op new. opens name node op refl refl (λ tx. refl);
   refuses = λ name why living. rests refl refl tt;
-  operates = λ name op at f one ready own low. changes f.front f.item _ f.back f.is (f.set _) (works one op (λ tx. refl) own ready low refl refl refl refl);
-  commits = λ name at f one ready own. changes f.front f.item _ f.back f.is (f.set _) (commits one (λ tx. refl) own ready refl refl refl refl);
+  operates = λ name op at f one ready own low.
+      changes f.front f.item _ f.back f.is (f.set _) (works one op (λ tx. refl) own ready low refl refl refl refl);
+  commits = λ name at f one ready own.
+      changes f.front f.item _ f.back f.is (f.set _) (commits one (λ tx. refl) own ready refl refl refl refl);
   aborts = λ name at f one own. rests refl refl tt;
   ticks = round;
   dumps = λ node digest. rests refl refl tt;
@@ -99,8 +115,10 @@ at_request s r n = record {
     round of true = rests refl (telling_calm news.Round (everyone s.view)) tt
     round of false = rests refl (telling_calm news.Round (everyone s.view)) tt
 
-beginning_of : (name : Option ℕ) (node : ℕ) (t : OpenTransaction) → begins_at name node t ≡ true → is_beginning t.doing ≡ true
-beginning_of name node t e = left_of (is_beginning t.doing) _ (left_of (is_beginning t.doing && same_name t.name name) _ e)
+beginning_of : (name : Option ℕ) (node : ℕ) (t : OpenTransaction) → begins_at name node t ≡ true
+    → is_beginning t.doing ≡ true
+beginning_of name node t e =
+    left_of (is_beginning t.doing) _ (left_of (is_beginning t.doing && same_name t.name name) _ e)
 
 not_operating : (d : Doing) → (d ≡ Operating → ⊥) → is_operating d ≡ false
 not_operating (Beginning op) other = refl
@@ -113,7 +131,7 @@ unheard_of : (opened : List OpenTransaction) (body : Body) → IsStray opened bo
 unheard_of opened (Client (TcKeyConf one answer)) stray = absent stray
 unheard_of opened _ stray = tt
 
-at_signal : (s : ApiState) (body : Body) → SignalForms s body (ApiStep s body)
+at_signal : (s : ApiState) (body : Body) → ApiSignalForms s body (ApiStep s body)
 at_signal s body = record {
   begins_named = λ name one at f called is e.
       changes f.front f.item _ f.back f.is (f.set _) (begins_ready name one is (beginning_of name one.tc f.item f.passes) refl refl refl refl);
@@ -122,14 +140,18 @@ at_signal s body = record {
   begins_idle = λ name one at f is.
       changes f.front f.item _ f.back f.is (f.set _) (begins_ready name one is (beginning_of name one.tc f.item f.passes) refl refl refl refl);
   refuses = λ name at f is. drops f.front f.item f.back f.is f.removed refl (subst IsNoAnswer (sym is) (λ tx. refl));
-  answers = λ one answer at f name is d e. changes f.front f.item _ f.back f.is (f.set _) (answered_ready one answer is f.passes d refl refl refl refl);
-  answers_last = λ one answer at f is d e. changes f.front f.item _ f.back f.is (f.set _) (answered_last one answer is f.passes d refl refl refl refl);
+  answers = λ one answer at f name is d e.
+      changes f.front f.item _ f.back f.is (f.set _) (answered_ready one answer is f.passes d refl refl refl refl);
+  answers_last = λ one answer at f is d e.
+      changes f.front f.item _ f.back f.is (f.set _) (answered_last one answer is f.passes d refl refl refl refl);
   answers_none = λ one answer at f is other.
       rests refl refl (subst (IsUnheard s.opened) (sym is) (idle f.front f.item f.back f.is f.passes (not_operating f.item.doing other)));
   commits = λ one epoch at f is.
       drops f.front f.item f.back f.is f.removed (telling_calm (news.Committed one) (everyone s.view)) (subst IsNoAnswer (sym is) (λ tx. refl));
-  acknowledges = λ one epoch is none. rests refl (telling_calm (news.Committed one) (everyone s.view)) (subst (IsUnheard s.opened) (sym is) tt);
-  aborts = λ one cause at f is. drops f.front f.item f.back f.is f.removed refl (subst IsNoAnswer (sym is) (λ tx. refl));
+  acknowledges = λ one epoch is none.
+      rests refl (telling_calm (news.Committed one) (everyone s.view)) (subst (IsUnheard s.opened) (sym is) tt);
+  aborts = λ one cause at f is.
+      drops f.front f.item f.back f.is f.removed refl (subst IsNoAnswer (sym is) (λ tx. refl));
   waits = λ one ahead at f is.
       changes f.front f.item _ f.back f.is (f.set _) (notes (subst IsNoAnswer (sym is) (λ tx. refl)) refl refl refl refl);
   dumps = λ d rows next at is. rests refl refl (subst (IsUnheard s.opened) (sym is) tt);

@@ -32,7 +32,8 @@ module _ (start : Start) (tx : TxId) (test : Place → Body → Bool) where
 
   -- the signals by which the coordinator goes on at a place
   abbrev pub conts_sent : ℕ → (ℕ → List HostStep) → ℕ
-  conts_sent place logs = signals (is_cont tx place) (sent (machine start) (home start tx) (home start tx) (logs (home start tx)))
+  conts_sent place logs =
+      signals (is_cont tx place) (sent (machine start) (home start tx) (home start tx) (logs (home start tx)))
 
   abbrev pub conts_taken : ℕ → (ℕ → List HostStep) → ℕ
   conts_taken place logs = signals (is_cont tx place) (taken (machine start) (home start tx) (logs (home start tx)))
@@ -46,14 +47,18 @@ module _ (start : Start) (tx : TxId) (test : Place → Body → Bool) where
 
   -- as many are awaited, of which so many aren't in the list
   abbrev pub IsOwed : (ℕ → List HostStep) → (length more awaited : ℕ) → Type 0
-  IsOwed logs length more awaited = (taken_so_far logs + awaited ≤ sent_so_far logs + more) ⊎ IsLeft logs length more awaited
+  IsOwed logs length more awaited =
+      (taken_so_far logs + awaited ≤ sent_so_far logs + more) ⊎ IsLeft logs length more awaited
 
   pub few_came : (logs : ℕ → List HostStep) → AreLogs (machine start) logs → taken_so_far logs ≤ sent_so_far logs
-  few_came logs right = total_le (hosts start) _ _ (λ i low. total_le (hosts start) _ _ (λ j under. few_taken start logs right test i j))
+  few_came logs right =
+      total_le (hosts start) _ _ (λ i low. total_le (hosts start) _ _ (λ j under. few_taken start logs right test i j))
 
   -- where nothing goes on, what was owed stays owed
-  pub stays_owed : (logs now : ℕ → List HostStep) (l a k : ℕ) → taken_so_far now + sent_so_far logs ≤ taken_so_far logs + sent_so_far now
-      → ((b : ℕ) → b < 512 → conts_taken b now + conts_sent b logs ≤ conts_taken b logs + conts_sent b now) → IsOwed logs l a k → IsOwed now l a k
+  pub stays_owed : (logs now : ℕ → List HostStep) (l a k : ℕ)
+      → taken_so_far now + sent_so_far logs ≤ taken_so_far logs + sent_so_far now
+      → ((b : ℕ) → b < 512 → conts_taken b now + conts_sent b logs ≤ conts_taken b logs + conts_sent b now)
+      → IsOwed logs l a k → IsOwed now l a k
   stays_owed logs now l a k more conts (inl enough) = inl (omega (arith, enough, more))
   stays_owed logs now l a k more conts (inr left) = inr (record {
     place = left.place;
@@ -63,17 +68,23 @@ module _ (start : Start) (tx : TxId) (test : Place → Body → Bool) where
   })
 
   -- at quiet all came
-  pub none_owed : (logs : ℕ → List HostStep) (l k : ℕ) → AreQuiet start logs → home start tx < hosts start → 1 ≤ k → IsOwed logs l 0 k → ⊥
+  pub none_owed : (logs : ℕ → List HostStep) (l k : ℕ) → AreQuiet start logs → home start tx < hosts start → 1 ≤ k
+      → IsOwed logs l 0 k → ⊥
   none_owed logs l k quiet low some = by
     where
       all_taken : taken_so_far logs ≡ sent_so_far logs
-      all_taken = total_same (hosts start) _ _ (λ i under. total_same (hosts start) _ _ (λ j below. ap (signals test) (quiet.quiet i j under below)))
+      all_taken =
+          total_same (hosts start) _ _
+          (λ i under. total_same (hosts start) _ _ (λ j below. ap (signals test) (quiet.quiet i j under below)))
 
       by : IsOwed logs l 0 k → ⊥
       by (inl enough) = omega (arith, enough, some, all_taken)
-      by (inr left) = omega (arith, left.coming, ap (signals (is_cont tx left.place)) (quiet.quiet (home start tx) (home start tx) low low))
+      by (inr left) =
+          omega
+          (arith, left.coming, ap (signals (is_cont tx left.place)) (quiet.quiet (home start tx) (home start tx) low low))
 
-  module _ (low_of : (to : Place) (body : Body) → test to body ≡ true → host_for start to < hosts start) (logs now : ℕ → List HostStep) (h : ℕ) (e : HostStep) (g : Goes start logs now h e) where
+  module _ (low_of : (to : Place) (body : Body) → test to body ≡ true → host_for start to < hosts start)
+      (logs now : ℕ → List HostStep) (h : ℕ) (e : HostStep) (g : Goes start logs now h e) where
     grown : Grown start (hosts start) test logs now h e
     grown = record { own = g.own; others = g.others }
 
@@ -92,8 +103,10 @@ module _ (start : Start) (tx : TxId) (test : Place → Body → Bool) where
     pub c_taken : (b : ℕ) → conts_taken b now ≤ conts_taken b logs + one_if (is_cont tx b to body)
     pub c_few : (b : ℕ) → conts_taken b logs ≤ conts_sent b logs
 
-  pub home_step : ((to : Place) (body : Body) → test to body ≡ true → host_for start to < hosts start) → (logs now : ℕ → List HostStep) (e : HostStep)
-      → Goes start logs now (home start tx) e → HomeStep logs now (step_after start (home start tx) (logs (home start tx)) e).effects.sends e.step.taken.to e.step.taken.body
+  pub home_step : ((to : Place) (body : Body) → test to body ≡ true → host_for start to < hosts start)
+      → (logs now : ℕ → List HostStep) (e : HostStep)
+      → Goes start logs now (home start tx) e
+      → HomeStep logs now (step_after start (home start tx) (logs (home start tx)) e).effects.sends e.step.taken.to e.step.taken.body
   home_step low_of logs now e g =
       let at = home start tx in
       record {
@@ -115,9 +128,11 @@ module _ (start : Start) (tx : TxId) (test : Place → Body → Bool) where
         c_few = λ b. few_taken start logs g.before (is_cont tx b) at at;
       }
 
-  module _ (logs now : ℕ → List HostStep) (sends : List Outgoing) (to : Place) (body : Body) (f : HomeStep logs now sends to body) where
+  module _ (logs now : ℕ → List HostStep) (sends : List Outgoing) (to : Place) (body : Body)
+      (f : HomeStep logs now sends to body) where
     -- the list is begun
-    pub begun_owed : (l a k : ℕ) → one_if (test to body) ≡ 0 → is_cont tx 8 to body ≡ false → k ≡ l + a → IsPart test tx l 0 sends → IsOwed now l a k
+    pub begun_owed : (l a k : ℕ) → one_if (test to body) ≡ 0 → is_cont tx 8 to body ≡ false → k ≡ l + a
+        → IsPart test tx l 0 sends → IsOwed now l a k
     begun_owed l a k none off k_is (inl p) = inr (record {
       place = 8;
       low = omega arith;
@@ -127,7 +142,8 @@ module _ (start : Start) (tx : TxId) (test : Place → Body → Bool) where
     begun_owed l a k none off k_is (inr p) = inl (omega (arith, p, k_is, f.s_more, f.t_more, f.t_few, none))
 
     -- the list doesn't go on: no fewer are awaited than came, but for what is sent now
-    pub waits_owed : (l a m b k : ℕ) → k + one_if (test to body) + a ≤ m + b + sends_of test sends → ((place : ℕ) → place < 512 → is_cont tx place to body ≡ false)
+    pub waits_owed : (l a m b k : ℕ) → k + one_if (test to body) + a ≤ m + b + sends_of test sends
+        → ((place : ℕ) → place < 512 → is_cont tx place to body ≡ false)
         → IsOwed logs l a m → IsOwed now l b k
     waits_owed l a m b k le off (inl enough) = inl (omega (arith, enough, le, f.s_more, f.t_more))
     waits_owed l a m b k le off (inr left) = inr (record {
@@ -138,7 +154,8 @@ module _ (start : Start) (tx : TxId) (test : Place → Body → Bool) where
     })
 
     -- the list goes on at a place
-    pub continued_owed : (l a k place : ℕ) → l ≤ 512 → one_if (test to body) ≡ 0 → ((b : ℕ) → b ≢ place → is_cont tx b to body ≡ false)
+    pub continued_owed : (l a k place : ℕ) → l ≤ 512 → one_if (test to body) ≡ 0
+        → ((b : ℕ) → b ≢ place → is_cont tx b to body ≡ false)
         → (512 ≤ place) ⊎ IsPart test tx l place sends → IsOwed logs l a k → IsOwed now l a k
     continued_owed l a k place few none off part (inl enough) = inl (omega (arith, enough, f.s_more, f.t_more, none))
     continued_owed l a k place few none off part (inr left) = by (cases_eq left.place place)

@@ -95,13 +95,16 @@ module _ (tx : TxId) where
   none_wrong [] none = refl
   none_wrong (x ∷ xs) none = by (told_of tx x.body) refl (none_wrong xs (omega (arith, none)))
     where
-      by : (b : Bool) → told_of tx x.body ≡ b → sends_of (is_wrong tx) xs ≡ 0 → one_if (is_wrong tx x.to x.body) + sends_of (is_wrong tx) xs ≡ 0
+      by : (b : Bool) → told_of tx x.body ≡ b → sends_of (is_wrong tx) xs ≡ 0
+          → one_if (is_wrong tx x.to x.body) + sends_of (is_wrong tx) xs ≡ 0
       by true told rest = absurd (omega (arith, none, ap one_if told))
       by false told rest = omega (arith, rest, ap one_if (told_right x.body told))
 
   more_kind : (body : Body) → more_of tx body ≡ false → tx_in body ≡ tx → is_more body ≡ false
-  more_kind (Client (TcKeyReq other op)) off same = absurd (let both : false ≡ true = sym off ∙ (ap (λ v. same_tx v tx) same ∙ same_tx-self tx) in cc)
-  more_kind (Client (TcCommitReq other)) off same = absurd (let both : false ≡ true = sym off ∙ (ap (λ v. same_tx v tx) same ∙ same_tx-self tx) in cc)
+  more_kind (Client (TcKeyReq other op)) off same =
+      absurd (let both : false ≡ true = sym off ∙ (ap (λ v. same_tx v tx) same ∙ same_tx-self tx) in cc)
+  more_kind (Client (TcCommitReq other)) off same =
+      absurd (let both : false ≡ true = sym off ∙ (ap (λ v. same_tx v tx) same ∙ same_tx-self tx) in cc)
   more_kind _ off same = refl
 
   roll_same : (body : Body) → tx_in body ≡ tx → is_roll body ≡ roll_of tx body
@@ -130,8 +133,10 @@ module _ (tx : TxId) where
     abbrev then_c : Bool
     then_c = if roll_of tx body then true else c
 
-    at_turn : (t : Transaction) → tx_in body ≡ tx → of_live tx s.live ≡ Some t → step.effects.sends ≡ (turn_row s body t).step.effects.sends
-        → of_live tx step.state.live ≡ left_of_turn (turn_row s body t) → s.next_seq ≤ step.state.next_seq → LooseStep Home then_c step.state step.effects.sends
+    at_turn : (t : Transaction) → tx_in body ≡ tx → of_live tx s.live ≡ Some t
+        → step.effects.sends ≡ (turn_row s body t).step.effects.sends
+        → of_live tx step.state.live ≡ left_of_turn (turn_row s body t) → s.next_seq ≤ step.state.next_seq
+        → LooseStep Home then_c step.state step.effects.sends
     at_turn t same live sends left more = record {
       silent = ap (sends_of (is_wrong tx)) sends ∙ none_of is_mild (is_wrong tx) mild_right (turn_row s body t).step.effects.sends q.sends;
       loose = λ at. record { loose = subst (LooseOption then_c) (sym left) (by (turn_row s body t).over refl); early = omega (arith, old.early, more) };
@@ -144,13 +149,18 @@ module _ (tx : TxId) where
         fine = subst (LooseOption c) live old.loose
 
         q : StaysLoose then_c (turn_row s body t)
-        q = subst (λ b. StaysLoose (if b then true else c) (turn_row s body t)) (roll_same body same) (loose_turn c s tx body t same (more_kind body plain same) fine.0 fine.1)
+        q =
+            subst (λ b. StaysLoose (if b then true else c) (turn_row s body t)) (roll_same body same)
+            (loose_turn c s tx body t same (more_kind body plain same) fine.0 fine.1)
 
-        by : (b : Bool) → (turn_row s body t).over ≡ b → LooseOption then_c (if b then None else Some (turn_row s body t).step.state)
+        by : (b : Bool) → (turn_row s body t).over ≡ b
+            → LooseOption then_c (if b then None else Some (turn_row s body t).step.state)
         by true over = tt
         by false over = (q.phase over, q.none)
 
-    at_none : of_live tx s.live ≡ None → of_live tx step.state.live ≡ of_live tx s.live → sends_of (is_told tx) step.effects.sends ≡ 0 → s.next_seq ≤ step.state.next_seq → LooseStep Home then_c step.state step.effects.sends
+    at_none : of_live tx s.live ≡ None → of_live tx step.state.live ≡ of_live tx s.live
+        → sends_of (is_told tx) step.effects.sends ≡ 0 → s.next_seq ≤ step.state.next_seq
+        → LooseStep Home then_c step.state step.effects.sends
     at_none missing same none more = record {
       silent = none_wrong step.effects.sends none;
       loose = λ at. record { loose = subst (LooseOption then_c) (sym (same ∙ missing)) tt; early = omega (arith, (was at).early, more) };
@@ -216,11 +226,14 @@ module _ (tx : TxId) where
       silent : sent_since start (is_wrong tx) h newer log ≡ 0
       loose : home start tx ≡ h → OnTc (IsLooseNow tx (rolled newer)) (after start h (newer ++ log))
 
-    pub host_run : (newer log : List HostStep) → Each (λ (e : HostStep). is_more_to tx e.step.taken.to e.step.taken.body ≡ false) newer → (home start tx ≡ h → OnTc (IsLooseNow tx false) (after start h log))
+    pub host_run : (newer log : List HostStep)
+        → Each (λ (e : HostStep). is_more_to tx e.step.taken.to e.step.taken.body ≡ false) newer
+        → (home start tx ≡ h → OnTc (IsLooseNow tx false) (after start h log))
         → (sent_since start (is_wrong tx) h newer log ≡ 0) × (home start tx ≡ h → OnTc (IsLooseNow tx (rolled newer)) (after start h (newer ++ log)))
     host_run newer log plain was = let r = run newer plain in (r.silent, r.loose)
       where
-        run : (some : List HostStep) → Each (λ (e : HostStep). is_more_to tx e.step.taken.to e.step.taken.body ≡ false) some → HostRun some log
+        run : (some : List HostStep)
+            → Each (λ (e : HostStep). is_more_to tx e.step.taken.to e.step.taken.body ≡ false) some → HostRun some log
         run [] off = record { silent = refl; loose = was }
         run (e ∷ some) off =
             let before = run some off.1 in

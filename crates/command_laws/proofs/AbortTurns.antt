@@ -67,7 +67,8 @@ fronts c tx (Aborting why verifying awaited) e = refl
 fronts c tx Open e = refl
 fronts c tx Verifying e = refl
 
-module _ (c : Bool) (node : ℕ) (layout : Layout) (tx : TxId) (t : Transaction) (fine : is_loose c t.phase ≡ true) (none : t.asked ≡ None) where
+module _ (c : Bool) (node : ℕ) (layout : Layout) (tx : TxId) (t : Transaction) (fine : is_loose c t.phase ≡ true)
+    (none : t.asked ≡ None) where
   not_at : (phase : Phase) → t.phase ≡ phase → is_loose c phase ≡ false → ⊥
   not_at phase is off = let both : false ≡ true = sym off ∙ (ap (is_loose c) (sym is) ∙ fine) in cc
 
@@ -77,11 +78,13 @@ module _ (c : Bool) (node : ℕ) (layout : Layout) (tx : TxId) (t : Transaction)
   not_of : (kind : Body → Bool) (body other : Body) → kind body ≡ false → body ≡ other → kind other ≡ true → ⊥
   not_of kind body other plain is on = let both : true ≡ false = sym on ∙ (ap kind (sym is) ∙ plain) in cc
 
-  ends : (why : AbortCause) (verifying : Bool) → is_requested why ≡ true → are_of is_mild (abort.abort_end node tx why verifying) ≡ true
+  ends : (why : AbortCause) (verifying : Bool) → is_requested why ≡ true
+      → are_of is_mild (abort.abort_end node tx why verifying) ≡ true
   ends why true e = one_kind (is_requested why) e
   ends why false e = one_kind (is_requested why) e
 
-  loose_forms : (body : Body) → is_more body ≡ false → is_roll body ≡ false → TurnForms node layout tx t body (StaysLoose c)
+  loose_forms : (body : Body) → is_more body ≡ false → is_roll body ≡ false
+      → TurnForms node layout tx t body (StaysLoose c)
   loose_forms body plain unrolled = record {
     stays = record { phase = λ on. fine; none = none; sends = refl };
     goes_on = λ at. record { phase = λ on. fine; none = none; sends = rest_of_kind is_mild layout tx (chains tx) node t at (fronts c tx t.phase fine) };
@@ -98,8 +101,10 @@ module _ (c : Bool) (node : ℕ) (layout : Layout) (tx : TxId) (t : Transaction)
     completed_all = λ epoch awaited at last. absurd (not_at (Completing epoch awaited) at refl);
     rolls_back = λ is undecided unaborted. absurd (not_of is_roll body (Client (TcRollbackReq tx)) unrolled is refl);
     refuses = λ key why asked is on at. absurd (not_asked asked on);
-    aborted = λ why verifying awaited at more. record { phase = λ on. ap (is_loose c) (sym at) ∙ fine; none = none; sends = refl };
-    aborted_all = λ why verifying awaited at last. record { phase = λ on. cc; none = none; sends = ends why verifying (ap (is_loose c) (sym at) ∙ fine) };
+    aborted = λ why verifying awaited at more.
+        record { phase = λ on. ap (is_loose c) (sym at) ∙ fine; none = none; sends = refl };
+    aborted_all = λ why verifying awaited at last.
+        record { phase = λ on. cc; none = none; sends = ends why verifying (ap (is_loose c) (sym at) ∙ fine) };
   }
 
   -- the abort is asked for
@@ -112,7 +117,9 @@ module _ (c : Bool) (node : ℕ) (layout : Layout) (tx : TxId) (t : Transaction)
       which false = record {
         phase = λ on. refl;
         none = none;
-        sends = entering_of_kind is_mild layout tx (chains tx) node t (Aborting Request (abort.is_verifying t.phase) (abort.aborts_awaited layout t))
+        sends =
+            entering_of_kind is_mild layout tx (chains tx) node t
+            (Aborting Request (abort.is_verifying t.phase) (abort.aborts_awaited layout t))
             (fronts true tx (Aborting Request (abort.is_verifying t.phase) (abort.aborts_awaited layout t)) refl);
       }
 
@@ -127,7 +134,8 @@ module _ (c : Bool) (node : ℕ) (layout : Layout) (tx : TxId) (t : Transaction)
       by (Completing epoch awaited) is = absurd (not_at (Completing epoch awaited) is refl)
       by (Aborting why verifying awaited) is = record { phase = λ on. ap (is_loose true) is ∙ (ap (is_loose c) (sym is) ∙ fine); none = none; sends = refl }
 
-pub loose_turn : (c : Bool) (s : TcState) (tx : TxId) (body : Body) (t : Transaction) → tx_in body ≡ tx → is_more body ≡ false
+pub loose_turn : (c : Bool) (s : TcState) (tx : TxId) (body : Body) (t : Transaction) → tx_in body ≡ tx
+    → is_more body ≡ false
     → is_loose c t.phase ≡ true → t.asked ≡ None → StaysLoose (if is_roll body then true else c) (turn_row s body t)
 loose_turn c s tx (Client (TcRollbackReq one)) t same plain fine none = rolls_back c s.node s.layout one t fine none
 loose_turn c s tx body t same plain fine none =

@@ -51,11 +51,13 @@ back_of tx _ = false
 abbrev pub is_back : TxId → Place → Body → Bool
 is_back tx to body = back_of tx body
 
-pub each_inserted_value : (P : TxId × Transaction → Type 0) (live : List (TxId × Transaction)) (tx : TxId) (t : Transaction) → ((key : TxId) → P (key, t)) → Each P live → Each P (insert_entry same_tx live tx t)
+pub each_inserted_value : (P : TxId × Transaction → Type 0) (live : List (TxId × Transaction)) (tx : TxId) (t : Transaction)
+    → ((key : TxId) → P (key, t)) → Each P live → Each P (insert_entry same_tx live tx t)
 each_inserted_value P [] tx t own all = (own tx, tt)
 each_inserted_value P (e ∷ live) tx t own all = by (same_tx tx e.0) (each_inserted_value P live tx t own all.1)
   where
-    by : (b : Bool) → Each P (insert_entry same_tx live tx t) → Each P (if b then (e.0, t) ∷ live else e ∷ insert_entry same_tx live tx t)
+    by : (b : Bool) → Each P (insert_entry same_tx live tx t)
+        → Each P (if b then (e.0, t) ∷ live else e ∷ insert_entry same_tx live tx t)
     by true rest = (own e.0, all.1)
     by false rest = (all.0, rest)
 
@@ -75,7 +77,8 @@ module _ (tx : TxId) where
   no_back_firm to (Client (TcRollbackRep other cause)) e = cc
   no_back_firm to _ e = refl
 
-  no_back_other : (one : TxId) → same_tx one tx ≡ false → (to : Place) (body : Body) → is_said one body ≡ true → is_back tx to body ≡ false
+  no_back_other : (one : TxId) → same_tx one tx ≡ false → (to : Place) (body : Body) → is_said one body ≡ true
+      → is_back tx to body ≡ false
   no_back_other one differs to (Client (TcRollbackRep other cause)) e = apart tx one other differs e
   no_back_other one differs to _ e = refl
 
@@ -96,11 +99,14 @@ module _ (tx : TxId) where
         → AllFirm (if b then front ++ back else front ++ (tx_in body, (turn_row s body t).step.state) ∷ back)
     after_turn t front back was stays true = each_less IsFirmFor front (tx_in body, t) back s.live was firm
     after_turn t front back was stays false =
-        each_changed IsFirmFor front (tx_in body, t) (tx_in body, (turn_row s body t).step.state) back s.live was firm (λ before. stays)
+        each_changed IsFirmFor front (tx_in body, t) (tx_in body, (turn_row s body t).step.state) back s.live was firm
+        (λ before. stays)
 
-    turn_firm : (step : Step TcState) (t : Transaction) (front back : List (TxId × Transaction)) → s.live ≡ front ++ (tx_in body, t) ∷ back
+    turn_firm : (step : Step TcState) (t : Transaction) (front back : List (TxId × Transaction))
+        → s.live ≡ front ++ (tx_in body, t) ∷ back
         → step ≡ record { state = with_live s (left_in (tx_in body) front back (turn_row s body t)); effects = (turn_row s body t).step.effects }
-        → sends_of (is_back tx) (turn_row s body t).step.effects.sends ≡ 0 → IsFirmFor (tx_in body, (turn_row s body t).step.state)
+        → sends_of (is_back tx) (turn_row s body t).step.effects.sends ≡ 0
+        → IsFirmFor (tx_in body, (turn_row s body t).step.state)
         → KeepsFirm step.state.live step.effects.sends
     turn_firm step t front back was is quiet stays = record {
       firm = subst (λ (x : Step TcState). AllFirm x.state.live) (sym is) (after_turn t front back was stays (turn_row s body t).over);
@@ -126,7 +132,8 @@ module _ (tx : TxId) where
         by true same =
             let stays = firm_turn s (tx_in body) body t refl (not_push body plain same) (each_at IsFirmFor front (tx_in body, t) back s.live was firm same) in
             turn_firm step t front back was is
-            (none_of is_no_abort (is_back tx) no_back_firm (turn_row s body t).step.effects.sends stays.sends) (λ own. stays.firm)
+            (none_of is_no_abort (is_back tx) no_back_firm (turn_row s body t).step.effects.sends stays.sends)
+            (λ own. stays.firm)
         by false differs =
             turn_firm step t front back was is
             (none_of (is_said (tx_in body)) (is_back tx) (no_back_other (tx_in body) differs) (turn_row s body t).step.effects.sends (turn_said s body t))
@@ -151,12 +158,14 @@ module _ (tx : TxId) where
       (λ effects none off. record { firm = firm; silent = none (is_back tx) back_tc })
 
   -- so no host reports it in steps that take neither an operation of the transaction nor the wish for its abort
-  pub firm_since : (start : Start) (h : ℕ) (newer log : List HostStep) → FirmHost (after start h log) → Each (λ (e : HostStep). is_push_to tx e.step.taken.to e.step.taken.body ≡ false) newer
+  pub firm_since : (start : Start) (h : ℕ) (newer log : List HostStep) → FirmHost (after start h log)
+      → Each (λ (e : HostStep). is_push_to tx e.step.taken.to e.step.taken.body ≡ false) newer
       → FirmHost (after start h (newer ++ log)) × (sent_since start (is_back tx) h newer log ≡ 0)
   firm_since start h [] log firm plain = (firm, refl)
   firm_since start h (e ∷ newer) log firm plain = next (firm_since start h newer log firm plain.1)
     where
-      next : FirmHost (after start h (newer ++ log)) × (sent_since start (is_back tx) h newer log ≡ 0) → FirmHost (after start h (e ∷ (newer ++ log))) × (sent_since start (is_back tx) h (e ∷ newer) log ≡ 0)
+      next : FirmHost (after start h (newer ++ log)) × (sent_since start (is_back tx) h newer log ≡ 0)
+          → FirmHost (after start h (e ∷ (newer ++ log))) × (sent_since start (is_back tx) h (e ∷ newer) log ≡ 0)
       next before =
           let step = host_firm (after start h (newer ++ log)) e.step.taken plain.0 before.0 in
           (step.firm, omega (arith, step.silent, before.1))

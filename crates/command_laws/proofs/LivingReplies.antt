@@ -20,7 +20,7 @@ use Rattle.api_block.specs.Dump.{dump_replies, row_reply}
 use Rattle.api_block.specs.Gathered.{gathered}
 use Rattle.api_block.specs.Members.{everyone, telling_all}
 use Rattle.api_block.specs.State.{ApiState, about}
-use Rattle.host_laws.proofs.ApiTurns.{RequestForms, SignalForms, api_turns}
+use Rattle.host_laws.proofs.ApiTurns.{ApiRequestForms, ApiSignalForms, api_turns}
 use Rattle.command_laws.proofs.LivingTurns.{is_sound}
 use Rattle.command_laws.specs.Living.{is_of_living}
 
@@ -47,7 +47,7 @@ module _ (s : ApiState) (all : AllLiving s.replies) where
   one_more : (reply : ApiReply) → is_of_living reply ≡ true → AllLiving (s.replies ++ reply ∷ [])
   one_more reply lives = each_append (λ (r : ApiReply). is_of_living r ≡ true) s.replies (reply ∷ []) all (lives, tt)
 
-  at_request : (body : Body) → RequestForms s (Lives body)
+  at_request : (body : Body) → ApiRequestForms s (Lives body)
   at_request body = record {
     opens = λ name node op new sound. all;
     refuses = λ name why living sound. one_more _ (refusal_lives name why living);
@@ -68,7 +68,7 @@ module _ (s : ApiState) (all : AllLiving s.replies) where
       round of true sound = one_more _ refl
       round of false sound = all
 
-  at_signal : (body : Body) → SignalForms s body (Lives body)
+  at_signal : (body : Body) → ApiSignalForms s body (Lives body)
   at_signal body = record {
     begins_named = λ name tx at f called is e sound. one_more _ refl;
     begins_alone = λ name tx at f op is e d sound. all;
@@ -83,7 +83,8 @@ module _ (s : ApiState) (all : AllLiving s.replies) where
     waits = λ tx ahead at f is sound. all;
     dumps = λ d rows next at is sound. all;
     dumped = λ d rows next is sound.
-        each_append (λ (r : ApiReply). is_of_living r ≡ true) s.replies (dump_replies d.node d.digest (gathered d.rows rows)) all
+        each_append (λ (r : ApiReply). is_of_living r ≡ true) s.replies
+        (dump_replies d.node d.digest (gathered d.rows rows)) all
         (lines_live d.node d.digest (gathered d.rows rows));
     rests = λ void stray sound. all;
   }

@@ -43,12 +43,15 @@ pub record IsSound (tx : TxId) (s : TcState) : Type 0 where
 
 -- how the transaction fares in a step of its coordinator: nothing is said of it, or it begins, or it takes its turn
 pub data TcGoes (tx : TxId) (s : TcState) (body : Body) (step : Step TcState) : Type 0 where
-  aside : of_live tx step.state.live ≡ of_live tx s.live → sends_of (is_told tx) step.effects.sends ≡ 0 → s.next_seq ≤ step.state.next_seq
+  aside : of_live tx step.state.live ≡ of_live tx s.live → sends_of (is_told tx) step.effects.sends ≡ 0
+      → s.next_seq ≤ step.state.next_seq
       → (is_turn body ≡ true → tx_in body ≡ tx → of_live tx s.live ≡ None) → TcGoes tx s body step
   begins : tx.seq ≡ s.next_seq → of_live tx step.state.live ≡ Some fresh → sends_of (is_told tx) step.effects.sends ≡ 0
       → s.next_seq < step.state.next_seq → TcGoes tx s body step
-  takes : (t : Transaction) → tx_in body ≡ tx → of_live tx s.live ≡ Some t → step.effects.sends ≡ (turn_row s body t).step.effects.sends
-      → of_live tx step.state.live ≡ left_of_turn (turn_row s body t) → s.next_seq ≤ step.state.next_seq → TcGoes tx s body step
+  takes : (t : Transaction) → tx_in body ≡ tx → of_live tx s.live ≡ Some t
+      → step.effects.sends ≡ (turn_row s body t).step.effects.sends
+      → of_live tx step.state.live ≡ left_of_turn (turn_row s body t) → s.next_seq ≤ step.state.next_seq
+      → TcGoes tx s body step
 
 off : (b : Bool) → not b ≡ true → b ≡ false
 off true e = cc
@@ -91,7 +94,8 @@ module _ (tx : TxId) where
 
       by : TxStep tx s body (tc_table s body) → TcGoes tx s body (tc_table s body)
       by (elsewhere same kind absent) =
-          aside (now ∙ same ∙ sym was) (none_of (is_apart tx) (is_told tx) none_apart (tc_table s body).effects.sends kind) (next_grows s body)
+          aside (now ∙ same ∙ sym was)
+          (none_of (is_apart tx) (is_told tx) none_apart (tc_table s body).effects.sends kind) (next_grows s body)
           (λ turn own. was ∙ absent turn own)
       by (born name about one none there told later) =
           begins (ap (λ (v : TxId). v.seq) one) (now ∙ there) (ap (sends_of (is_told tx)) told) later

@@ -52,12 +52,15 @@ module _ (s : ApiState) where
   Refuses step name r = step.state.replies ≡ s.replies ++ Refused name r ∷ []
 
   -- the transaction of a name, looked up
-  module _ (name : ℕ) (r : Refusal) (why : OpenTransaction → Option Refusal) (some : ℕ → OpenTransaction → Step ApiState) where
-    named_due : ((at : ℕ) (t : OpenTransaction) → why t ≡ Some r → Refuses (some at t) (Some name) r) → if_there (Some NotOpen) why (named_in s.opened name) ≡ Some r
+  module _ (name : ℕ) (r : Refusal) (why : OpenTransaction → Option Refusal)
+      (some : ℕ → OpenTransaction → Step ApiState) where
+    named_due : ((at : ℕ) (t : OpenTransaction) → why t ≡ Some r → Refuses (some at t) (Some name) r)
+        → if_there (Some NotOpen) why (named_in s.opened name) ≡ Some r
         → Refuses (where_at s.opened (refused s (Some name) NotOpen) some (place_named s (Some name))) (Some name) r
     named_due each = at_place (position (is_named (Some name)) s.opened)
       where
-        at_item : (at : ℕ) (o : Option OpenTransaction) → if_there (Some NotOpen) why (if_there None (λ t. Some t) o) ≡ Some r
+        at_item : (at : ℕ) (o : Option OpenTransaction)
+            → if_there (Some NotOpen) why (if_there None (λ t. Some t) o) ≡ Some r
             → Refuses (if_there (refused s (Some name) NotOpen) (some at) o) (Some name) r
         at_item at None due = cc
         at_item at (Some t) due = each at t due
@@ -67,46 +70,58 @@ module _ (s : ApiState) where
         at_place None due = cc
         at_place (Some at) due = at_item at (slice_get s.opened at) due
 
-  begin_at_due : (name node : ℕ) (r : Refusal) (full : Bool) → no_member_at node full ≡ Some r → Refuses (begin_at s name node full) (Some name) r
+  begin_at_due : (name node : ℕ) (r : Refusal) (full : Bool) → no_member_at node full ≡ Some r
+      → Refuses (begin_at s name node full) (Some name) r
   begin_at_due name node r true due = absurd cc
   begin_at_due name node r false due = cc
 
-  begin_due : (name : ℕ) (at : Option ℕ) (r : Refusal) → turned_down_for s (request.Begin name at) ≡ Some r → Refuses (begin_row s name at) (Some name) r
+  begin_due : (name : ℕ) (at : Option ℕ) (r : Refusal) → turned_down_for s (request.Begin name at) ≡ Some r
+      → Refuses (begin_row s name at) (Some name) r
   unfolding begin_row
   begin_due name at r = by (is_some (place_named s (Some name)))
     where
-      by : (taken : Bool) → (if taken then Some IsOpen else no_member_at (node_for s.view at) (is_full s.view (node_for s.view at))) ≡ Some r
+      by : (taken : Bool)
+          → (if taken then Some IsOpen else no_member_at (node_for s.view at) (is_full s.view (node_for s.view at))) ≡ Some r
           → Refuses (begin_if s name at taken) (Some name) r
       by true due = cc
       by false due = begin_at_due name (node_for s.view at) r (is_full s.view (node_for s.view at)) due
 
-  operate_due : (name : ℕ) (op : Op) (r : Refusal) → turned_down_for s (request.Operate (Some name) op) ≡ Some r → Refuses (operate_row s name op) (Some name) r
+  operate_due : (name : ℕ) (op : Op) (r : Refusal) → turned_down_for s (request.Operate (Some name) op) ≡ Some r
+      → Refuses (operate_row s name op) (Some name) r
   unfolding operate_row
-  operate_due name op r = named_due name r operation_refused (λ at t. operate_by s name op at t t.doing t.tx) (λ at t. by at t t.doing t.tx)
+  operate_due name op r =
+      named_due name r operation_refused (λ at t. operate_by s name op at t t.doing t.tx) (λ at t. by at t t.doing t.tx)
     where
-      few : (at : ℕ) (t : OpenTransaction) (tx : TxId) (b : Bool) → full_at b ≡ Some r → Refuses (operate_if s name op at t tx b) (Some name) r
+      few : (at : ℕ) (t : OpenTransaction) (tx : TxId) (b : Bool) → full_at b ≡ Some r
+          → Refuses (operate_if s name op at t tx b) (Some name) r
       few at t tx true due = absurd cc
       few at t tx false due = cc
 
-      by : (at : ℕ) (t : OpenTransaction) (d : Doing) (o : Option TxId) → busy_or (full_at (nat_lt t.operations 64)) d o ≡ Some r → Refuses (operate_by s name op at t d o) (Some name) r
+      by : (at : ℕ) (t : OpenTransaction) (d : Doing) (o : Option TxId)
+          → busy_or (full_at (nat_lt t.operations 64)) d o ≡ Some r
+          → Refuses (operate_by s name op at t d o) (Some name) r
       by at t Ready (Some tx) due = few at t tx (nat_lt t.operations 64) due
       by at t Ready None due = cc
       by at t (Beginning first) o due = cc
       by at t Operating o due = cc
       by at t Committing o due = cc
 
-  commit_due : (name : ℕ) (r : Refusal) → turned_down_for s (request.Commit name) ≡ Some r → Refuses (commit_row s name) (Some name) r
+  commit_due : (name : ℕ) (r : Refusal) → turned_down_for s (request.Commit name) ≡ Some r
+      → Refuses (commit_row s name) (Some name) r
   unfolding commit_row
-  commit_due name r = named_due name r commit_refused (λ at t. commit_by s name at t t.doing t.tx) (λ at t. by at t t.doing t.tx)
+  commit_due name r =
+      named_due name r commit_refused (λ at t. commit_by s name at t t.doing t.tx) (λ at t. by at t t.doing t.tx)
     where
-      by : (at : ℕ) (t : OpenTransaction) (d : Doing) (o : Option TxId) → busy_or None d o ≡ Some r → Refuses (commit_by s name at t d o) (Some name) r
+      by : (at : ℕ) (t : OpenTransaction) (d : Doing) (o : Option TxId) → busy_or None d o ≡ Some r
+          → Refuses (commit_by s name at t d o) (Some name) r
       by at t Ready (Some tx) due = absurd cc
       by at t Ready None due = cc
       by at t (Beginning op) o due = cc
       by at t Operating o due = cc
       by at t Committing o due = cc
 
-  abort_due : (name : ℕ) (r : Refusal) → turned_down_for s (request.Abort name) ≡ Some r → Refuses (abort_row s name) (Some name) r
+  abort_due : (name : ℕ) (r : Refusal) → turned_down_for s (request.Abort name) ≡ Some r
+      → Refuses (abort_row s name) (Some name) r
   unfolding abort_row
   abort_due name r = named_due name r (λ t. abort_refused t.tx) (λ at t. abort_by s name t.tx) (λ at t. by t.tx)
     where
@@ -114,7 +129,8 @@ module _ (s : ApiState) where
       by None due = cc
       by (Some tx) due = absurd cc
 
-  lone_due : (op : Op) (r : Refusal) → turned_down_for s (request.Operate None op) ≡ Some r → Refuses (lone_row s op) None r
+  lone_due : (op : Op) (r : Refusal) → turned_down_for s (request.Operate None op) ≡ Some r
+      → Refuses (lone_row s op) None r
   unfolding lone_row
   lone_due op r = by (least_node s.view.full)
     where
@@ -122,15 +138,18 @@ module _ (s : ApiState) where
       by None due = cc
       by (Some node) due = absurd cc
 
-  dump_due : (node : ℕ) (digest : Bool) (r : Refusal) → no_member_at node (is_full s.view node) ≡ Some r → Refuses (dump_row s node digest) None r
+  dump_due : (node : ℕ) (digest : Bool) (r : Refusal) → no_member_at node (is_full s.view node) ≡ Some r
+      → Refuses (dump_row s node digest) None r
   unfolding dump_row
   dump_due node digest r = by (is_full s.view node)
     where
-      by : (full : Bool) → no_member_at node full ≡ Some r → Refuses (dump_if s node digest full (is_some s.dump)) None r
+      by : (full : Bool) → no_member_at node full ≡ Some r
+          → Refuses (dump_if s node digest full (is_some s.dump)) None r
       by true due = absurd cc
       by false due = cc
 
-  request_due : (q : ApiReq) (r : Refusal) → turned_down_for s q ≡ Some r → Refuses (request_row s q) (name_of_request q) r
+  request_due : (q : ApiReq) (r : Refusal) → turned_down_for s q ≡ Some r
+      → Refuses (request_row s q) (name_of_request q) r
   unfolding request_row
   request_due (request.Begin name at) r due = begin_due name at r due
   request_due (request.Operate None op) r due = lone_due op r due
@@ -147,19 +166,24 @@ module _ (s : ApiState) where
     named : named_in s.opened name ≡ Some item
     free : why item ≡ None
 
-  named_taken : (name : ℕ) (why : OpenTransaction → Option Refusal) → if_there (Some NotOpen) why (named_in s.opened name) ≡ None → IsTaken name why
+  named_taken : (name : ℕ) (why : OpenTransaction → Option Refusal)
+      → if_there (Some NotOpen) why (named_in s.opened name) ≡ None → IsTaken name why
   named_taken name why = by (named_in s.opened name) refl
     where
-      by : (o : Option OpenTransaction) → named_in s.opened name ≡ o → if_there (Some NotOpen) why o ≡ None → IsTaken name why
+      by : (o : Option OpenTransaction) → named_in s.opened name ≡ o → if_there (Some NotOpen) why o ≡ None
+          → IsTaken name why
       by None is due = absurd cc
       by (Some t) is due = record { item = t; named = is; free = due }
 
-  taken_by : (name : ℕ) (t : OpenTransaction) (more : Option Refusal) → named_in s.opened name ≡ Some t → busy_or more t.doing t.tx ≡ None
+  taken_by : (name : ℕ) (t : OpenTransaction) (more : Option Refusal) → named_in s.opened name ≡ Some t
+      → busy_or more t.doing t.tx ≡ None
       → (takes : TakesCommands s.opened name) × (takes.item ≡ t) × (more ≡ None)
   taken_by name t more named = by t.doing t.tx refl refl
     where
-      by : (d : Doing) (o : Option TxId) → t.doing ≡ d → t.tx ≡ o → busy_or more d o ≡ None → (takes : TakesCommands s.opened name) × (takes.item ≡ t) × (more ≡ None)
-      by Ready (Some tx) ready own free = (record { item = t; tx = tx; named = named; ready = ready; own = own }, refl, free)
+      by : (d : Doing) (o : Option TxId) → t.doing ≡ d → t.tx ≡ o → busy_or more d o ≡ None
+          → (takes : TakesCommands s.opened name) × (takes.item ≡ t) × (more ≡ None)
+      by Ready (Some tx) ready own free =
+          (record { item = t; tx = tx; named = named; ready = ready; own = own }, refl, free)
       by Ready None ready own free = absurd cc
       by (Beginning op) o ready own free = absurd cc
       by Operating o ready own free = absurd cc
@@ -177,7 +201,8 @@ module _ (s : ApiState) where
       by true is free = grind (arith, nat_tests, is)
       by false is free = absurd cc
 
-  operate_takes : (name : ℕ) (op : Op) → turned_down_for s (request.Operate (Some name) op) ≡ None → TakesOperations s.opened name
+  operate_takes : (name : ℕ) (op : Op) → turned_down_for s (request.Operate (Some name) op) ≡ None
+      → TakesOperations s.opened name
   operate_takes name op free =
       let t = named_taken name operation_refused free in
       let taken = taken_by name t.item (full_at (nat_lt t.item.operations 64)) t.named t.free in
@@ -187,7 +212,9 @@ module _ (s : ApiState) where
 module _ (start : Start) (was now : ℕ → List HostStep) (q : ApiReq) (served : IsServedBetween start was now q) where
   pub refused_where_due : IsRefusedWhereDue start was now q
   refused_where_due r due =
-      subst (λ log. IsIn (Refused (name_of_request q) r) (drop (length (replies_of (after start 0 (was 0)))) (replies_of (after start 0 log)))) (sym f.is)
+      subst
+      (λ log. IsIn (Refused (name_of_request q) r) (drop (length (replies_of (after start 0 (was 0)))) (replies_of (after start 0 log))))
+      (sym f.is)
       (told_since start (was 0) (was 0) f.later f.first (Refused (name_of_request q) r) (past_self (was 0)) replied)
     where
       f : IsFirst start was now q
@@ -199,19 +226,24 @@ module _ (start : Start) (was now : ℕ → List HostStep) (q : ApiReq) (served 
           (first_step start was now q f) ∙ request_due (api_of (after start 0 (was 0))) q r due
           ∙ ap (λ rs. rs ++ Refused (name_of_request q) r ∷ []) (sym (replies_are (after start 0 (was 0))))
 
-  turned_or : {T : Type 0} → (turned_down_for (api_of (after start 0 (was 0))) q ≡ None → T) → IsTurnedDown start was now q ⊎ T
+  turned_or : {T : Type 0} → (turned_down_for (api_of (after start 0 (was 0))) q ≡ None → T)
+      → IsTurnedDown start was now q ⊎ T
   turned_or {T} takes = by (turned_down_for (api_of (after start 0 (was 0))) q) refl
     where
-      by : (o : Option Refusal) → turned_down_for (api_of (after start 0 (was 0))) q ≡ o → IsTurnedDown start was now q ⊎ T
+      by : (o : Option Refusal) → turned_down_for (api_of (after start 0 (was 0))) q ≡ o
+          → IsTurnedDown start was now q ⊎ T
       by None free = inr (takes free)
       by (Some r) due = inl (record { refusal = r; due = due; told = refused_where_due r due })
 
-pub commit_taken : (start : Start) (was now : ℕ → List HostStep) (name : ℕ) → IsServedBetween start was now (request.Commit name)
+pub commit_taken : (start : Start) (was now : ℕ → List HostStep) (name : ℕ)
+    → IsServedBetween start was now (request.Commit name)
     → IsTurnedDown start was now (request.Commit name) ⊎ TakesCommands (opened_in (after start 0 (was 0))) name
 commit_taken start was now name served =
     turned_or start was now (request.Commit name) served (commit_takes (api_of (after start 0 (was 0))) name)
 
-pub operation_taken : (start : Start) (was now : ℕ → List HostStep) (name : ℕ) (op : Op) → IsServedBetween start was now (request.Operate (Some name) op)
+pub operation_taken : (start : Start) (was now : ℕ → List HostStep) (name : ℕ) (op : Op)
+    → IsServedBetween start was now (request.Operate (Some name) op)
     → IsTurnedDown start was now (request.Operate (Some name) op) ⊎ TakesOperations (opened_in (after start 0 (was 0))) name
 operation_taken start was now name op served =
-    turned_or start was now (request.Operate (Some name) op) served (operate_takes (api_of (after start 0 (was 0))) name op)
+    turned_or start was now (request.Operate (Some name) op) served
+    (operate_takes (api_of (after start 0 (was 0))) name op)

@@ -45,7 +45,8 @@ pub record IsReportedCommitted (start : Start) (was now : ℕ → List HostStep)
 
 -- a commit is turned down or reported
 abbrev pub CommitComesTo : Start → (was now : ℕ → List HostStep) → ℕ → Type 0
-CommitComesTo start was now name = IsTurnedDown start was now (request.Commit name) ⊎ IsReportedCommitted start was now name
+CommitComesTo start was now name =
+    IsTurnedDown start was now (request.Commit name) ⊎ IsReportedCommitted start was now name
 
 -- an operation alone was answered, and its transaction reported committed
 pub record IsDoneAlone (start : Start) (was now : ℕ → List HostStep) : Type 0 where
@@ -54,7 +55,8 @@ pub record IsDoneAlone (start : Start) (was now : ℕ → List HostStep) : Type 
 
 -- An operation alone is done, or its transaction is aborted for want of room or of time, or can't begin, or it waits for a lock.
 abbrev pub LoneComesTo : Start → (was now : ℕ → List HostStep) → Type 0
-LoneComesTo start was now = IsDoneAlone start was now ⊎ (IsRefusedAlone start was now ⊎ (IsTurnedAway start was now ⊎ WaitsAlone start was now))
+LoneComesTo start was now =
+    IsDoneAlone start was now ⊎ (IsRefusedAlone start was now ⊎ (IsTurnedAway start was now ⊎ WaitsAlone start was now))
 
 abbrev pub OperationsComeTo : Type 0
 OperationsComeTo =
@@ -62,7 +64,9 @@ OperationsComeTo =
     → IsServedBetween start was now (request.Operate (Some name) op) → OperationComesTo start was now name op
 
 abbrev pub CommitsComeTo : Type 0
-CommitsComeTo = (start : Start) (was now : ℕ → List HostStep) (name : ℕ) → IsServedBetween start was now (request.Commit name) → CommitComesTo start was now name
+CommitsComeTo =
+    (start : Start) (was now : ℕ → List HostStep) (name : ℕ) → IsServedBetween start was now
+    (request.Commit name) → CommitComesTo start was now name
 
 -- the transaction of this name takes commands
 pub record TakesCommands (start : Start) (logs : ℕ → List HostStep) (name : ℕ) (tx : TxId) : Type 0 where
@@ -85,13 +89,17 @@ IsAbortedAs start was now name = IsIn (Ended (Some name) (Aborted cause.Request)
 abbrev pub AnswersRequest : Start → (was now : ℕ → List HostStep) → ApiReq → Type 0
 AnswersRequest start was now (request.Operate (Some name) op) =
     OperationComesTo start was now name op
-    × ((tx : TxId) → TakesOperations start was name tx → IsAnsweredAs start was now name ⊎ (IsRefusedAs start was now name ⊎ StillWaits start now name tx))
+    ×
+    ((tx : TxId) → TakesOperations start was name tx → IsAnsweredAs start was now name ⊎ (IsRefusedAs start was now name ⊎ StillWaits start now name tx))
 AnswersRequest start was now (request.Operate None op) = LoneComesTo start was now
 AnswersRequest start was now (request.Commit name) =
-    CommitComesTo start was now name × ((tx : TxId) → TakesCommands start was name tx → IsToldCommitted start was now name tx)
-AnswersRequest start was now (request.Abort name) = (tx : TxId) → TakesCommands start was name tx → IsAbortedAs start was now name
+    CommitComesTo start was now name ×
+    ((tx : TxId) → TakesCommands start was name tx → IsToldCommitted start was now name tx)
+AnswersRequest start was now (request.Abort name) =
+    (tx : TxId) → TakesCommands start was name tx → IsAbortedAs start was now name
 AnswersRequest start was now request.Pending =
-    (first : ℕ → List HostStep) → IsServedBetween start first was request.Waits → is_left_open (after start 0 (first 0)) ≡ true → IsToldHolder start first was now
+    (first : ℕ → List HostStep) → IsServedBetween start first was request.Waits → is_left_open
+    (after start 0 (first 0)) ≡ true → IsToldHolder start first was now
 AnswersRequest start was now request = Unit {0}
 
 -- The request that comes after `before` in the log of the shell's host is served between two quiet moments of these logs and
@@ -106,7 +114,9 @@ pub record IsAnsweredIn (start : Start) (logs : ℕ → List HostStep) (request 
 -- So it is of each request, if nothing is under way at the end or another request comes later.
 abbrev pub RequestsAreAnswered : Type 0
 RequestsAreAnswered =
-    (start : Start) (logs : ℕ → List HostStep) → IsShape start.shape → AreLogs (machine start) logs → IsWithin (hosts start) logs → AreAskedAtQuiet start logs
-    → (newer : List HostStep) (e : HostStep) (before : List HostStep) (request : ApiReq) → logs 0 ≡ newer ++ e ∷ before → request_in e.step.taken.body ≡ Some request
+    (start : Start) (logs : ℕ → List HostStep) → IsShape start.shape → AreLogs (machine start) logs → IsWithin
+    (hosts start) logs → AreAskedAtQuiet start logs
+    → (newer : List HostStep) (e : HostStep) (before : List HostStep) (request : ApiReq) → logs 0 ≡ newer ++ e ∷ before
+    → request_in e.step.taken.body ≡ Some request
     → IsQuiet (machine start) (hosts start) logs ⊎ IsAskedAgain start newer
     → IsAnsweredIn start logs request before

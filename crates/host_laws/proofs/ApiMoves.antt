@@ -23,7 +23,7 @@ use Rattle.api_block.specs.Members.{everyone, telling_all}
 use Rattle.api_block.specs.Opened.{asked_for, begins, begins_at, has_tx, is_beginning}
 use Rattle.api_block.specs.Requests.{is_request}
 use Rattle.api_block.specs.State.{ApiState, about}
-use Rattle.host_laws.proofs.ApiTurns.{IsNew, IsVoid, RequestForms, SignalForms, api_turns}
+use Rattle.host_laws.proofs.ApiTurns.{IsNew, IsVoid, ApiRequestForms, ApiSignalForms, api_turns}
 use Rattle.host_laws.proofs.SendKinds.{are_of}
 
 -- what the API sends, but for the wish for a transaction
@@ -58,21 +58,27 @@ ended _ = None
 
 -- what a step of the API from s at the signal does to its transactions, and sends
 pub data ApiMove (s : ApiState) (body : Body) (after : View × List OpenTransaction) (sends : List Outgoing) : Type 0 where
-  rests : after ≡ (s.view, s.opened) → are_of is_api_kind sends ≡ true → IsVoid s.opened body → ApiMove s body after sends
+  rests : after ≡ (s.view, s.opened) → are_of is_api_kind sends ≡ true → IsVoid s.opened body
+      → ApiMove s body after sends
   opens : (name : Option ℕ) (node : ℕ) (op : Option Op) → IsNew s name node → is_request body ≡ true
-      → after ≡ (s.view, s.opened ++ asked_for name node op ∷ []) → sends ≡ to_place (coordinator node) (Client (TcBeginReq name)) ∷ [] → ApiMove s body after sends
+      → after ≡ (s.view, s.opened ++ asked_for name node op ∷ [])
+      → sends ≡ to_place (coordinator node) (Client (TcBeginReq name)) ∷ [] → ApiMove s body after sends
   begun_as : (name : Option ℕ) (tx : TxId) (front : List OpenTransaction) (t u : OpenTransaction) (back : List OpenTransaction)
       → body ≡ Client (TcBeginConf name tx) → begins_at name tx.tc t ≡ true → HasBegun tx t u
-      → s.opened ≡ front ++ t ∷ back → after ≡ (s.view, front ++ u ∷ back) → are_of is_api_kind sends ≡ true → ApiMove s body after sends
+      → s.opened ≡ front ++ t ∷ back → after ≡ (s.view, front ++ u ∷ back) → are_of is_api_kind sends ≡ true
+      → ApiMove s body after sends
   goes : (front : List OpenTransaction) (t u : OpenTransaction) (back : List OpenTransaction)
       → GoesOn t u → IsVoid s.opened body
-      → s.opened ≡ front ++ t ∷ back → after ≡ (s.view, front ++ u ∷ back) → are_of is_api_kind sends ≡ true → ApiMove s body after sends
+      → s.opened ≡ front ++ t ∷ back → after ≡ (s.view, front ++ u ∷ back) → are_of is_api_kind sends ≡ true
+      → ApiMove s body after sends
   ends : (tx : TxId) (front : List OpenTransaction) (t : OpenTransaction) (back : List OpenTransaction)
       → ended body ≡ Some tx → has_tx tx t ≡ true
-      → s.opened ≡ front ++ t ∷ back → after ≡ (s.view, front ++ back) → are_of is_api_kind sends ≡ true → ApiMove s body after sends
+      → s.opened ≡ front ++ t ∷ back → after ≡ (s.view, front ++ back) → are_of is_api_kind sends ≡ true
+      → ApiMove s body after sends
   refuses : (name : Option ℕ) (front : List OpenTransaction) (t : OpenTransaction) (back : List OpenTransaction)
       → body ≡ Client (TcBeginRef name) → begins name t ≡ true
-      → s.opened ≡ front ++ t ∷ back → after ≡ (s.view, front ++ back) → are_of is_api_kind sends ≡ true → ApiMove s body after sends
+      → s.opened ≡ front ++ t ∷ back → after ≡ (s.view, front ++ back) → are_of is_api_kind sends ≡ true
+      → ApiMove s body after sends
 
 -- a step moves so
 abbrev pub Moves : ApiState → Body → Step ApiState → Type 0
@@ -88,10 +94,11 @@ telling_of news.Round (member ∷ members) = telling_of news.Round members
 telling_of (news.Committed tx) (member ∷ members) = telling_of (news.Committed tx) members
 
 -- a transaction goes on with its name and number
-went_on : {t u : OpenTransaction} → u.name ≡ t.name → u.node ≡ t.node → u.tx ≡ t.tx → is_beginning u.doing ≡ is_beginning t.doing → GoesOn t u
+went_on : {t u : OpenTransaction} → u.name ≡ t.name → u.node ≡ t.node → u.tx ≡ t.tx
+    → is_beginning u.doing ≡ is_beginning t.doing → GoesOn t u
 went_on name node tx begun = record { name = name; node = node; tx = tx; begun = begun }
 
-at_request : (s : ApiState) (r : ApiReq) (n : ℕ) → RequestForms s (Moves s (asking r n))
+at_request : (s : ApiState) (r : ApiReq) (n : ℕ) → ApiRequestForms s (Moves s (asking r n))
 at_request s r n = record {
   opens = λ name node op new. opens name node op new refl refl refl;
   refuses = λ name why living. rests refl refl tt;
@@ -102,7 +109,8 @@ at_request s r n = record {
   aborts = λ name at f tx own. rests refl refl tt;
   ticks = round;
   dumps = λ node digest. rests refl refl tt;
-  waits = λ p at f tx own. goes f.front f.item _ f.back (went_on refl refl refl refl) tt f.is (ap (λ os. (s.view, os)) (f.set _)) refl;
+  waits = λ p at f tx own.
+      goes f.front f.item _ f.back (went_on refl refl refl refl) tt f.is (ap (λ os. (s.view, os)) (f.set _)) refl;
   pends = λ name holder. rests refl refl tt;
   gives_up = λ holder tx. rests refl refl tt;
   is_about_none = rests refl refl tt;
@@ -114,7 +122,7 @@ at_request s r n = record {
     round of true = rests refl (telling_of news.Round (everyone s.view)) tt
     round of false = rests refl (telling_of news.Round (everyone s.view)) tt
 
-at_signal : (s : ApiState) (body : Body) → SignalForms s body (Moves s body)
+at_signal : (s : ApiState) (body : Body) → ApiSignalForms s body (Moves s body)
 at_signal s body = record {
   begins_named = λ name tx at f called is e.
       begun_as name tx f.front f.item _ f.back is f.passes (record { name = refl; is = refl; begun = refl }) f.is (ap (λ os. (s.view, os)) (f.set _)) refl;
@@ -122,7 +130,8 @@ at_signal s body = record {
       begun_as name tx f.front f.item _ f.back is f.passes (record { name = refl; is = refl; begun = refl }) f.is (ap (λ os. (s.view, os)) (f.set _)) refl;
   begins_idle = λ name tx at f is.
       begun_as name tx f.front f.item _ f.back is f.passes (record { name = refl; is = refl; begun = refl }) f.is (ap (λ os. (s.view, os)) (f.set _)) refl;
-  refuses = λ name at f is. refuses name f.front f.item f.back is f.passes f.is (ap (λ os. (s.view, os)) f.removed) refl;
+  refuses = λ name at f is.
+      refuses name f.front f.item f.back is f.passes f.is (ap (λ os. (s.view, os)) f.removed) refl;
   answers = λ tx answer at f name is d e.
       goes f.front f.item _ f.back (went_on refl refl refl (ap is_beginning (sym d))) (subst (IsVoid s.opened) (sym is) tt) f.is (ap (λ os. (s.view, os)) (f.set _)) refl;
   answers_last = λ tx answer at f is d e.
@@ -130,8 +139,10 @@ at_signal s body = record {
   answers_none = λ tx answer at f is idle. rests refl refl (subst (IsVoid s.opened) (sym is) tt);
   commits = λ tx epoch at f is.
       ends tx f.front f.item f.back (ap ended is) f.passes f.is (ap (λ os. (s.view, os)) f.removed) (telling_of (news.Committed tx) (everyone s.view));
-  acknowledges = λ tx epoch is none. rests refl (telling_of (news.Committed tx) (everyone s.view)) (subst (IsVoid s.opened) (sym is) none);
-  aborts = λ tx cause at f is. ends tx f.front f.item f.back (ap ended is) f.passes f.is (ap (λ os. (s.view, os)) f.removed) refl;
+  acknowledges = λ tx epoch is none.
+      rests refl (telling_of (news.Committed tx) (everyone s.view)) (subst (IsVoid s.opened) (sym is) none);
+  aborts = λ tx cause at f is.
+      ends tx f.front f.item f.back (ap ended is) f.passes f.is (ap (λ os. (s.view, os)) f.removed) refl;
   waits = λ tx ahead at f is.
       goes f.front f.item _ f.back (went_on refl refl refl refl) (subst (IsVoid s.opened) (sym is) tt) f.is (ap (λ os. (s.view, os)) (f.set _)) refl;
   dumps = λ d rows next at is. rests refl refl (subst (IsVoid s.opened) (sym is) tt);

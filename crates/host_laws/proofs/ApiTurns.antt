@@ -64,11 +64,13 @@ abbrev OwnAt : ApiState → TxId → ℕ → Type 0
 OwnAt s tx at = IsFocus (has_tx tx) s.opened at
 
 -- R is of each form of a step at a request
-pub record RequestForms (s : ApiState) (R : Step ApiState → Type 0) : Type 0 where
+pub record ApiRequestForms (s : ApiState) (R : Step ApiState → Type 0) : Type 0 where
   pub opens : (name : Option ℕ) (node : ℕ) (op : Option Op) → IsNew s name node → R (beginning s name node op)
   pub refuses : (name : Option ℕ) (why : Refusal) → (why ≡ refusal.Down → ⊥) → R (refused s name why)
-  pub operates : (name : ℕ) (op : Op) (at : ℕ) (f : NamedAt s name at) (tx : TxId) → f.item.doing ≡ Ready → f.item.tx ≡ Some tx
-      → nat_lt f.item.operations 64 ≡ true → R (key_request (about (changing s at (operating f.item)) (Some (Some name))) tx op)
+  pub operates : (name : ℕ) (op : Op) (at : ℕ) (f : NamedAt s name at) (tx : TxId) → f.item.doing ≡ Ready
+      → f.item.tx ≡ Some tx
+      → nat_lt f.item.operations 64 ≡ true
+      → R (key_request (about (changing s at (operating f.item)) (Some (Some name))) tx op)
   pub commits : (name at : ℕ) (f : NamedAt s name at) (tx : TxId) → f.item.doing ≡ Ready → f.item.tx ≡ Some tx
       → R (sending (about (changing s at (committing f.item)) (Some (Some name))) (coordinator_of tx) (Client (TcCommitReq tx)))
   pub aborts : (name at : ℕ) (f : NamedAt s name at) (tx : TxId) → f.item.tx ≡ Some tx
@@ -86,7 +88,7 @@ pub record RequestForms (s : ApiState) (R : Step ApiState → Type 0) : Type 0 w
   pub rests : R (stay s)
 
 -- and at a signal
-pub record SignalForms (s : ApiState) (body : Body) (R : Step ApiState → Type 0) : Type 0 where
+pub record ApiSignalForms (s : ApiState) (body : Body) (R : Step ApiState → Type 0) : Type 0 where
   pub begins_named : (name : Option ℕ) (tx : TxId) (at : ℕ) (f : IsFocus (begins_at name tx.tc) s.opened at) (called : ℕ)
       → body ≡ Client (TcBeginConf name tx) → f.item.name ≡ Some called
       → R (stay (replied (changing s at (begun f.item tx)) (Begun called tx.tc ∷ [])))
@@ -97,7 +99,8 @@ pub record SignalForms (s : ApiState) (body : Body) (R : Step ApiState → Type 
       → body ≡ Client (TcBeginConf name tx) → R (stay (changing s at (begun f.item tx)))
   pub refuses : (name : Option ℕ) (at : ℕ) (f : IsFocus (begins name) s.opened at)
       → body ≡ Client (TcBeginRef name) → R (stay (over s at (Refused name refusal.TooManyOpen)))
-  pub answers : (tx : TxId) (answer : Answer) (at : ℕ) (f : OwnAt s tx at) (name : ℕ) → body ≡ Client (TcKeyConf tx answer)
+  pub answers : (tx : TxId) (answer : Answer) (at : ℕ) (f : OwnAt s tx at) (name : ℕ)
+      → body ≡ Client (TcKeyConf tx answer)
       → f.item.doing ≡ Operating → f.item.name ≡ Some name
       → R (stay (replied (changing s at (answered f.item Ready)) (Answered (Some name) answer ∷ [])))
   pub answers_last : (tx : TxId) (answer : Answer) (at : ℕ) (f : OwnAt s tx at) → body ≡ Client (TcKeyConf tx answer)
@@ -119,8 +122,9 @@ pub record SignalForms (s : ApiState) (body : Body) (R : Step ApiState → Type 
       → R (stay (replied (with_dump s None) (dump_replies d.node d.digest (gathered d.rows rows))))
   pub rests : IsVoid s.opened body → IsStray s.opened body → R (stay s)
 
-module _ (s : ApiState) (R : Step ApiState → Type 0) (forms : RequestForms s R) where
-  begin_at_turns : (name node : ℕ) (b : Bool) → tally (is_named (Some name)) s.opened ≡ 0 → is_full s.view node ≡ b → R (begin_at s name node b)
+module _ (s : ApiState) (R : Step ApiState → Type 0) (forms : ApiRequestForms s R) where
+  begin_at_turns : (name node : ℕ) (b : Bool) → tally (is_named (Some name)) s.opened ≡ 0 → is_full s.view node ≡ b
+      → R (begin_at s name node b)
   begin_at_turns name node true none full = forms.opens (Some name) node None (none, full)
   begin_at_turns name node false none full = forms.refuses (Some name) (refusal.NoMember node) (λ e. cc)
 
@@ -131,15 +135,18 @@ module _ (s : ApiState) (R : Step ApiState → Type 0) (forms : RequestForms s R
       go : (o : Option ℕ) → place_named s (Some name) ≡ o → R (begin_if s name at (is_some o))
       go (Some place) e = forms.refuses (Some name) refusal.IsOpen (λ e. cc)
       go None e =
-          begin_at_turns name (node_for s.view at) (is_full s.view (node_for s.view at)) (none_placed (is_named (Some name)) s.opened e) refl
+          begin_at_turns name (node_for s.view at) (is_full s.view (node_for s.view at))
+          (none_placed (is_named (Some name)) s.opened e) refl
 
   -- what a command does to the transaction of its name
-  named_turns : (name : ℕ) (some : ℕ → OpenTransaction → Step ApiState) → ((at : ℕ) (f : NamedAt s name at) → R (some at f.item))
+  named_turns : (name : ℕ) (some : ℕ → OpenTransaction → Step ApiState)
+      → ((at : ℕ) (f : NamedAt s name at) → R (some at f.item))
       → R (where_at s.opened (refused s (Some name) refusal.NotOpen) some (place_named s (Some name)))
   named_turns name some =
       where_found (is_named (Some name)) s.opened _ some R (λ none. forms.refuses (Some name) refusal.NotOpen (λ e. cc))
 
-  commit_by_turns : (name at : ℕ) (f : NamedAt s name at) (doing : Doing) (tx : Option TxId) → f.item.doing ≡ doing → f.item.tx ≡ tx
+  commit_by_turns : (name at : ℕ) (f : NamedAt s name at) (doing : Doing) (tx : Option TxId) → f.item.doing ≡ doing
+      → f.item.tx ≡ tx
       → R (commit_by s name at f.item doing tx)
   commit_by_turns name at f Ready (Some tx) e d = forms.commits name at f tx e d
   commit_by_turns name at f _ _ e d = forms.refuses (Some name) refusal.Busy (λ e. cc)
@@ -147,7 +154,8 @@ module _ (s : ApiState) (R : Step ApiState → Type 0) (forms : RequestForms s R
   commit_turns : (name : ℕ) → R (commit_row s name)
   unfolding commit_row
   commit_turns name =
-      named_turns name (λ at t. commit_by s name at t t.doing t.tx) (λ at f. commit_by_turns name at f f.item.doing f.item.tx refl refl)
+      named_turns name (λ at t. commit_by s name at t t.doing t.tx)
+      (λ at f. commit_by_turns name at f f.item.doing f.item.tx refl refl)
 
   abort_by_turns : (name at : ℕ) (f : NamedAt s name at) (tx : Option TxId) → f.item.tx ≡ tx → R (abort_by s name tx)
   abort_by_turns name at f None d = forms.refuses (Some name) refusal.Busy (λ e. cc)
@@ -178,32 +186,40 @@ module _ (s : ApiState) (R : Step ApiState → Type 0) (forms : RequestForms s R
       by None e = forms.refuses None (refusal.NoMember 0) (λ e. cc)
       by (Some node) e = forms.opens None node (Some op) e
 
-  operate_if_turns : (name : ℕ) (op : Op) (at : ℕ) (f : NamedAt s name at) (tx : TxId) (b : Bool) → f.item.doing ≡ Ready → f.item.tx ≡ Some tx
+  operate_if_turns : (name : ℕ) (op : Op) (at : ℕ) (f : NamedAt s name at) (tx : TxId) (b : Bool) → f.item.doing ≡ Ready
+      → f.item.tx ≡ Some tx
       → nat_lt f.item.operations 64 ≡ b → R (operate_if s name op at f.item tx b)
   operate_if_turns name op at f tx true e d low = forms.operates name op at f tx e d low
   operate_if_turns name op at f tx false e d low = forms.refuses (Some name) refusal.TooManyOperations (λ e. cc)
 
-  operate_by_turns : (name : ℕ) (op : Op) (at : ℕ) (f : NamedAt s name at) (doing : Doing) (tx : Option TxId) → f.item.doing ≡ doing → f.item.tx ≡ tx
+  operate_by_turns : (name : ℕ) (op : Op) (at : ℕ) (f : NamedAt s name at) (doing : Doing) (tx : Option TxId)
+      → f.item.doing ≡ doing → f.item.tx ≡ tx
       → R (operate_by s name op at f.item doing tx)
-  operate_by_turns name op at f Ready (Some tx) e d = operate_if_turns name op at f tx (nat_lt f.item.operations 64) e d refl
+  operate_by_turns name op at f Ready (Some tx) e d =
+      operate_if_turns name op at f tx (nat_lt f.item.operations 64) e d refl
   operate_by_turns name op at f _ _ e d = forms.refuses (Some name) refusal.Busy (λ e. cc)
 
   operate_turns : (name : ℕ) (op : Op) → R (operate_row s name op)
   unfolding operate_row
   operate_turns name op =
-      named_turns name (λ at t. operate_by s name op at t t.doing t.tx) (λ at f. operate_by_turns name op at f f.item.doing f.item.tx refl refl)
+      named_turns name (λ at t. operate_by s name op at t t.doing t.tx)
+      (λ at f. operate_by_turns name op at f f.item.doing f.item.tx refl refl)
 
   own_turns : (some : ℕ → OpenTransaction → Step ApiState) (o : Option (Option ℕ))
-      → ((p : OpenTransaction → Bool) (at : ℕ) (f : IsFocus p s.opened at) → R (some at f.item)) → R (where_at s.opened (stay s) some (own_place_by s o))
+      → ((p : OpenTransaction → Bool) (at : ℕ) (f : IsFocus p s.opened at) → R (some at f.item))
+      → R (where_at s.opened (stay s) some (own_place_by s o))
   own_turns some None present = forms.rests
   own_turns some (Some name) present =
       where_found (is_named name) s.opened (stay s) some R (λ none. forms.rests) (λ at f. present (is_named name) at f)
 
   waits_turns : R (waits_row s)
   unfolding waits_row
-  waits_turns = own_turns (λ at t. waits_if s at t (is_unanswered t.doing) t.tx) s.own (λ p at f. by p at f (is_unanswered f.item.doing) f.item.tx refl)
+  waits_turns =
+      own_turns (λ at t. waits_if s at t (is_unanswered t.doing) t.tx) s.own
+      (λ p at f. by p at f (is_unanswered f.item.doing) f.item.tx refl)
     where
-      by : (p : OpenTransaction → Bool) (at : ℕ) (f : IsFocus p s.opened at) (b : Bool) (tx : Option TxId) → f.item.tx ≡ tx → R (waits_if s at f.item b tx)
+      by : (p : OpenTransaction → Bool) (at : ℕ) (f : IsFocus p s.opened at) (b : Bool) (tx : Option TxId)
+          → f.item.tx ≡ tx → R (waits_if s at f.item b tx)
       by p at f true (Some tx) is = forms.waits p at f tx is
       by p at f _ _ is = forms.rests
 
@@ -214,7 +230,9 @@ module _ (s : ApiState) (R : Step ApiState → Type 0) (forms : RequestForms s R
 
   pending_turns : R (pending_row s)
   unfolding pending_row
-  pending_turns = own_turns (λ at t. pending_if s t (is_unanswered t.doing) t.ahead) s.own (λ p at f. by f.item (is_unanswered f.item.doing) f.item.ahead)
+  pending_turns =
+      own_turns (λ at t. pending_if s t (is_unanswered t.doing) t.ahead) s.own
+      (λ p at f. by f.item (is_unanswered f.item.doing) f.item.ahead)
     where
       by : (t : OpenTransaction) (b : Bool) (ahead : Option TxId) → R (pending_if s t b ahead)
       by t true (Some ahead) = pending_by_turns (name_of s ahead) t.name t.tx
@@ -235,10 +253,11 @@ module _ (s : ApiState) (R : Step ApiState → Type 0) (forms : RequestForms s R
   request_turns _ = forms.is_about_none
 
 -- what the coordinators and the rows tell
-module _ (s : ApiState) (body : Body) (R : Step ApiState → Type 0) (forms : SignalForms s body R) where
+module _ (s : ApiState) (body : Body) (R : Step ApiState → Type 0) (forms : ApiSignalForms s body R) where
   -- what it tells of isn't there
   nothing : (told : Body) → body ≡ told → IsVoid s.opened told → IsStray s.opened told → R (stay s)
-  nothing told is void stray = forms.rests (subst (IsVoid s.opened) (sym is) void) (subst (IsStray s.opened) (sym is) stray)
+  nothing told is void stray =
+      forms.rests (subst (IsVoid s.opened) (sym is) void) (subst (IsStray s.opened) (sym is) stray)
 
   begun_turns : (name : Option ℕ) (tx : TxId) → body ≡ Client (TcBeginConf name tx) → R (begun_row s name tx)
   unfolding begun_row
@@ -246,7 +265,8 @@ module _ (s : ApiState) (body : Body) (R : Step ApiState → Type 0) (forms : Si
       where_found (begins_at name tx.tc) s.opened (stay s) (λ at t. begun_by s tx at t t.name t.doing) R
       (λ none. nothing (Client (TcBeginConf name tx)) is none tt) (λ at f. by at f f.item.name f.item.doing refl refl)
     where
-      by : (at : ℕ) (f : IsFocus (begins_at name tx.tc) s.opened at) (called : Option ℕ) (doing : Doing) → f.item.name ≡ called → f.item.doing ≡ doing
+      by : (at : ℕ) (f : IsFocus (begins_at name tx.tc) s.opened at) (called : Option ℕ) (doing : Doing)
+          → f.item.name ≡ called → f.item.doing ≡ doing
           → R (begun_by s tx at f.item called doing)
       by at f (Some called) doing e d = forms.begins_named name tx at f called is e
       by at f None (Beginning (Some op)) e d = forms.begins_alone name tx at f op is e d
@@ -272,12 +292,14 @@ module _ (s : ApiState) (body : Body) (R : Step ApiState → Type 0) (forms : Si
       by at f Committing name d e = forms.answers_none tx answer at f is (λ working. cc)
       by at f (Beginning op) name d e = forms.answers_none tx answer at f is (λ working. cc)
 
-  commit_report_turns : (tx : TxId) (epoch : ℕ) → body ≡ Client (TcCommitConf tx epoch) → R (commit_report_row s tx epoch)
+  commit_report_turns : (tx : TxId) (epoch : ℕ) → body ≡ Client (TcCommitConf tx epoch)
+      → R (commit_report_row s tx epoch)
   unfolding commit_report_row
   commit_report_turns tx epoch is =
       where_found (has_tx tx) s.opened _ _ R (λ none. forms.acknowledges tx epoch is none) (λ at f. forms.commits tx epoch at f is)
 
-  abort_report_turns : (tx : TxId) (cause : AbortCause) → body ≡ Client (TcRollbackRep tx cause) → R (abort_report_row s tx cause)
+  abort_report_turns : (tx : TxId) (cause : AbortCause) → body ≡ Client (TcRollbackRep tx cause)
+      → R (abort_report_row s tx cause)
   unfolding abort_report_row
   abort_report_turns tx cause is =
       where_found (has_tx tx) s.opened _ _ R (λ none. nothing (Client (TcRollbackRep tx cause)) is none tt) (λ at f. forms.aborts tx cause at f is)
@@ -287,7 +309,8 @@ module _ (s : ApiState) (body : Body) (R : Step ApiState → Type 0) (forms : Si
   behind_turns tx ahead is =
       where_found (has_tx tx) s.opened s _ (λ after. R (stay after)) (λ none. nothing (Client (TcWaitConf tx ahead)) is tt tt) (λ at f. forms.waits tx ahead at f is)
 
-  dumped_turns : (rows : List (List ℕ × List ℕ)) (next : Option ℕ) → body ≡ Client (DumpConf rows next) → R (dumped_row s rows next)
+  dumped_turns : (rows : List (List ℕ × List ℕ)) (next : Option ℕ) → body ≡ Client (DumpConf rows next)
+      → R (dumped_row s rows next)
   unfolding dumped_row
   dumped_turns rows next is = by s.dump
     where
@@ -315,6 +338,8 @@ module _ (s : ApiState) (body : Body) (R : Step ApiState → Type 0) (forms : Si
 
 -- whatever the API takes
 pub api_turns : (s : ApiState) (R : Body → Step ApiState → Type 0) (body : Body)
-    → ((r : ApiReq) (at : ℕ) → RequestForms s (R (Host (Continue (work.Request r) at)))) → SignalForms s body (R body) → R body (api_table s body)
-api_turns s R (Host (Continue (work.Request r) at)) asked told = request_turns s (R (Host (Continue (work.Request r) at))) (asked r at) r
+    → ((r : ApiReq) (at : ℕ) → ApiRequestForms s (R (Host (Continue (work.Request r) at))))
+    → ApiSignalForms s body (R body) → R body (api_table s body)
+api_turns s R (Host (Continue (work.Request r) at)) asked told =
+    request_turns s (R (Host (Continue (work.Request r) at))) (asked r at) r
 api_turns s R body asked told = signal_turns s body (R body) told refl

@@ -116,13 +116,18 @@ api_aside tx (body.Epoch c) e = absurd (false≢true e)
 api_aside tx (body.Host (Continue (work.Transaction other) at)) e = absurd (false≢true e)
 api_aside tx _ e = refl
 
-move_aside : (tx : TxId) (s : ApiState) (b : Body) (after : View × List OpenTransaction) (sends : List Outgoing) → ApiMove s b after sends → are_of (is_aside tx) sends ≡ true
+move_aside : (tx : TxId) (s : ApiState) (b : Body) (after : View × List OpenTransaction) (sends : List Outgoing)
+    → ApiMove s b after sends → are_of (is_aside tx) sends ≡ true
 move_aside tx s b after sends (rests is kind void) = of_kind is_api_kind (is_aside tx) (api_aside tx) sends kind
 move_aside tx s b after sends (opens other at op new request is told) = ap (are_of (is_aside tx)) told
-move_aside tx s b after sends (begun_as other one front t u back about passes begun was is kind) = of_kind is_api_kind (is_aside tx) (api_aside tx) sends kind
-move_aside tx s b after sends (goes front t u back go void was is kind) = of_kind is_api_kind (is_aside tx) (api_aside tx) sends kind
-move_aside tx s b after sends (ends one front t back about passes was is kind) = of_kind is_api_kind (is_aside tx) (api_aside tx) sends kind
-move_aside tx s b after sends (refuses other front t back about passes was is kind) = of_kind is_api_kind (is_aside tx) (api_aside tx) sends kind
+move_aside tx s b after sends (begun_as other one front t u back about passes begun was is kind) =
+    of_kind is_api_kind (is_aside tx) (api_aside tx) sends kind
+move_aside tx s b after sends (goes front t u back go void was is kind) =
+    of_kind is_api_kind (is_aside tx) (api_aside tx) sends kind
+move_aside tx s b after sends (ends one front t back about passes was is kind) =
+    of_kind is_api_kind (is_aside tx) (api_aside tx) sends kind
+move_aside tx s b after sends (refuses other front t back about passes was is kind) =
+    of_kind is_api_kind (is_aside tx) (api_aside tx) sends kind
 
 -- a host that runs none of a block has nothing of it
 idle_absent : (tx : TxId) (s : Host) (at : BlockId) → runs s at ≡ false → is_tc at ≡ true → tx_at tx s ≡ None
@@ -147,10 +152,12 @@ idle_tc (Main m) at off on = absurd (false≢true on)
 idle_tc (Ldm s) at off on = absurd (false≢true on)
 
 -- of a host that runs rows: the step is theirs, or the signal is for another block
-pub rows_turn : (s : Host) (x : Signal) → has_lqh s ≡ true → IsRowsStep s x (row s x) ⊎ ((lqh_of (row s x).state ≡ lqh_of s) × (is_lqh x.to.block ≡ false))
+pub rows_turn : (s : Host) (x : Signal) → has_lqh s ≡ true
+    → IsRowsStep s x (row s x) ⊎ ((lqh_of (row s x).state ≡ lqh_of s) × (is_lqh x.to.block ≡ false))
 rows_turn s x on = by (row s x) (block_case s x)
   where
-    by : (t : Step Host) → BlockCase s x t → IsRowsStep s x t ⊎ ((lqh_of t.state ≡ lqh_of s) × (is_lqh x.to.block ≡ false))
+    by : (t : Step Host) → BlockCase s x t
+        → IsRowsStep s x t ⊎ ((lqh_of t.state ≡ lqh_of s) × (is_lqh x.to.block ≡ false))
     by t (rows_take step) = inl step
     by t (api_takes step) = inr (step.rows, ap is_lqh step.at)
     by t (tc_takes step) = inr (step.rows, ap is_lqh step.at)
@@ -162,7 +169,8 @@ rows_turn s x on = by (row s x) (block_case s x)
         off true e = absurd (true≢false (sym on ∙ idle_unheard s x.to.block step.runs e))
 
 -- of a host that runs a coordinator: the step is its, or the signal is for another block
-pub tc_turn : (s : Host) (x : Signal) → has_tc s ≡ true → IsTcStep s x (row s x) ⊎ ((tc_of (row s x).state ≡ tc_of s) × (is_tc x.to.block ≡ false))
+pub tc_turn : (s : Host) (x : Signal) → has_tc s ≡ true
+    → IsTcStep s x (row s x) ⊎ ((tc_of (row s x).state ≡ tc_of s) × (is_tc x.to.block ≡ false))
 tc_turn s x on = by (row s x) (block_case s x)
   where
     by : (t : Step Host) → BlockCase s x t → IsTcStep s x t ⊎ ((tc_of t.state ≡ tc_of s) × (is_tc x.to.block ≡ false))
@@ -172,9 +180,12 @@ tc_turn s x on = by (row s x) (block_case s x)
     by t (dih_takes step) = inr (step.tc, ap is_tc step.at)
     by t (none_takes step) = inr (ap (λ u. tc_of u.state) step.is, idle_tc s x.to.block step.runs on)
 
-module _ (tx : TxId) (s : Host) (x : Signal) (once : tally (is_keyed tx) (tc_of s).live ≤ 1) (own : Each (λ (e : TxId × Transaction). IsOwn (tc_of s).node (tc_of s).next_seq e.0) (tc_of s).live) where
+module _ (tx : TxId) (s : Host) (x : Signal) (once : tally (is_keyed tx) (tc_of s).live ≤ 1)
+    (own : Each (λ (e : TxId × Transaction). IsOwn (tc_of s).node (tc_of s).next_seq e.0) (tc_of s).live) where
   -- a step of another block than the coordinator and the rows
-  besides : (t : Step Host) → tc_of t.state ≡ tc_of s → lqh_of t.state ≡ lqh_of s → are_of (is_aside tx) t.effects.sends ≡ true → is_tc x.to.block ≡ false → is_lqh x.to.block ≡ false → HostTurn tx s x t
+  besides : (t : Step Host) → tc_of t.state ≡ tc_of s → lqh_of t.state ≡ lqh_of s
+      → are_of (is_aside tx) t.effects.sends ≡ true → is_tc x.to.block ≡ false → is_lqh x.to.block ≡ false
+      → HostTurn tx s x t
   besides t tc rows kind not_tc not_lqh =
       aside (record {
         same = ap (λ u. of_live tx u.live) tc;
@@ -225,7 +236,9 @@ module _ (tx : TxId) (s : Host) (x : Signal) (once : tally (is_keyed tx) (tc_of 
 
   turn_by : (t : Step Host) → BlockCase s x t → HostTurn tx s x t
   turn_by t (api_takes step) =
-      besides t step.tc step.rows (ap (λ f. are_of (is_aside tx) f.sends) step.effects ∙ move_aside tx (api_of s) x.body _ _ (api_moves (api_of s) x.body)) (ap is_tc step.at) (ap is_lqh step.at)
+      besides t step.tc step.rows
+      (ap (λ f. are_of (is_aside tx) f.sends) step.effects ∙ move_aside tx (api_of s) x.body _ _ (api_moves (api_of s) x.body))
+      (ap is_tc step.at) (ap is_lqh step.at)
   turn_by t (tc_takes step) = in_tc t step (tx_step tx (tc_of s) x.body once own)
   turn_by t (dih_takes step) =
       besides t step.tc step.rows

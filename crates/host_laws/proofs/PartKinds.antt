@@ -20,7 +20,8 @@ use Rattle.host_laws.proofs.SendKinds.{are_of, one_kind}
 
 -- the kind has all that stands in a transaction's lists
 pub record IsPartKind (kind : Body → Bool) (tx : TxId) : Type 0 where
-  pub commit : (key : List ℕ) (epoch : ℕ) (chain : List Member) (at : ℕ) → kind (Chain (Commit tx key epoch chain at)) ≡ true
+  pub commit : (key : List ℕ) (epoch : ℕ) (chain : List Member) (at : ℕ)
+      → kind (Chain (Commit tx key epoch chain at)) ≡ true
   pub complete : (key : List ℕ) (chain : List Member) (at : ℕ) → kind (Chain (Complete tx key chain at)) ≡ true
   pub abort : (key : List ℕ) → kind (Chain (Abort tx key)) ≡ true
   pub cont : (at : ℕ) → kind (Host (Continue (work.Transaction tx) at)) ≡ true
@@ -43,5 +44,6 @@ module _ (kind : Body → Bool) (tx : TxId) (p : IsPartKind kind tx) where
       → are_of kind (part_effects node tx (phase_sends layout tx phase touched) at).sends ≡ true
   parts_of node layout phase touched at = parts_of_kind kind layout tx chains node phase touched at (front_of phase)
 
-  pub entering_of : (node : ℕ) (layout : Layout) (t : Transaction) (phase : Phase) → are_of kind (entering node layout tx t phase).effects.sends ≡ true
+  pub entering_of : (node : ℕ) (layout : Layout) (t : Transaction) (phase : Phase)
+      → are_of kind (entering node layout tx t phase).effects.sends ≡ true
   entering_of node layout t phase = entering_of_kind kind layout tx chains node t phase (front_of phase)

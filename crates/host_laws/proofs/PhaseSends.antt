@@ -22,17 +22,20 @@ use Rattle.host_laws.proofs.SendKinds.{are_of, of_append, of_drop, of_flat, of_m
 
 -- a kind of signal that has what is sent to replicas, and what goes on with a list
 pub record HasChains (tx : TxId) (kind : Body → Bool) : Type 0 where
-  pub commits : (key : List ℕ) (epoch : ℕ) (chain : List Member) (at : ℕ) → kind (Chain (Commit tx key epoch chain at)) ≡ true
+  pub commits : (key : List ℕ) (epoch : ℕ) (chain : List Member) (at : ℕ)
+      → kind (Chain (Commit tx key epoch chain at)) ≡ true
   pub completes : (key : List ℕ) (chain : List Member) (at : ℕ) → kind (Chain (Complete tx key chain at)) ≡ true
   pub aborts : (key : List ℕ) → kind (Chain (Abort tx key)) ≡ true
   pub goes_on : (at : ℕ) → kind (Host (Continue (work.Transaction tx) at)) ≡ true
 
 -- a part of a list is of the kind that the list is of, and the signal to go on
 pub part_of : (kind : Body → Bool) (tx : TxId) → ((at : ℕ) → kind (Host (Continue (work.Transaction tx) at)) ≡ true)
-    → (node : ℕ) (sends : List Outgoing) (at : ℕ) → are_of kind sends ≡ true → are_of kind (part_effects node tx sends at).sends ≡ true
+    → (node : ℕ) (sends : List Outgoing) (at : ℕ) → are_of kind sends ≡ true
+    → are_of kind (part_effects node tx sends at).sends ≡ true
 unfolding part_effects
 part_of kind tx goes_on node sends at all =
-    of_append kind (take 8 (drop at sends)) _ (of_take kind 8 (drop at sends) (of_drop kind at sends all)) (by (nat_lt _ (length sends)))
+    of_append kind (take 8 (drop at sends)) _ (of_take kind 8 (drop at sends) (of_drop kind at sends all))
+    (by (nat_lt _ (length sends)))
   where
     by : (b : Bool) → are_of kind (rest_if node tx at b) ≡ true
     by true = one_kind _ (goes_on _)
@@ -54,21 +57,29 @@ module _ (kind : Body → Bool) (layout : Layout) (tx : TxId) (has : HasChains t
   keys_of_kind Open t = refl
   keys_of_kind Verifying t = refl
 
-  pub phase_of_kind : (phase : Phase) (touched : List Touched) → are_of kind (front_sends tx phase) ≡ true → are_of kind (phase_sends layout tx phase touched) ≡ true
+  pub phase_of_kind : (phase : Phase) (touched : List Touched) → are_of kind (front_sends tx phase) ≡ true
+      → are_of kind (phase_sends layout tx phase touched) ≡ true
   unfolding phase_sends
   phase_of_kind phase touched front =
-      of_append kind (front_sends tx phase) (flat_map (key_sends layout tx phase) touched) front (of_flat kind (key_sends layout tx phase) touched (keys_of_kind phase))
+      of_append kind (front_sends tx phase) (flat_map (key_sends layout tx phase) touched) front
+      (of_flat kind (key_sends layout tx phase) touched (keys_of_kind phase))
 
-  part_of_kind : (node : ℕ) (sends : List Outgoing) (at : ℕ) → are_of kind sends ≡ true → are_of kind (part_effects node tx sends at).sends ≡ true
+  part_of_kind : (node : ℕ) (sends : List Outgoing) (at : ℕ) → are_of kind sends ≡ true
+      → are_of kind (part_effects node tx sends at).sends ≡ true
   part_of_kind node sends at all = part_of kind tx has.goes_on node sends at all
 
-  pub entering_of_kind : (node : ℕ) (t : Transaction) (phase : Phase) → are_of kind (front_sends tx phase) ≡ true → are_of kind (entering node layout tx t phase).effects.sends ≡ true
+  pub entering_of_kind : (node : ℕ) (t : Transaction) (phase : Phase) → are_of kind (front_sends tx phase) ≡ true
+      → are_of kind (entering node layout tx t phase).effects.sends ≡ true
   unfolding entering
-  entering_of_kind node t phase front = part_of_kind node (phase_sends layout tx phase t.touched) 0 (phase_of_kind phase t.touched front)
+  entering_of_kind node t phase front =
+      part_of_kind node (phase_sends layout tx phase t.touched) 0 (phase_of_kind phase t.touched front)
 
-  pub parts_of_kind : (node : ℕ) (phase : Phase) (touched : List Touched) (at : ℕ) → are_of kind (front_sends tx phase) ≡ true
+  pub parts_of_kind : (node : ℕ) (phase : Phase) (touched : List Touched) (at : ℕ)
+      → are_of kind (front_sends tx phase) ≡ true
       → are_of kind (part_effects node tx (phase_sends layout tx phase touched) at).sends ≡ true
-  parts_of_kind node phase touched at front = part_of_kind node (phase_sends layout tx phase touched) at (phase_of_kind phase touched front)
+  parts_of_kind node phase touched at front =
+      part_of_kind node (phase_sends layout tx phase touched) at (phase_of_kind phase touched front)
 
-  pub rest_of_kind : (node : ℕ) (t : Transaction) (at : ℕ) → are_of kind (front_sends tx t.phase) ≡ true → are_of kind (go_on_if node layout tx t at true).effects.sends ≡ true
+  pub rest_of_kind : (node : ℕ) (t : Transaction) (at : ℕ) → are_of kind (front_sends tx t.phase) ≡ true
+      → are_of kind (go_on_if node layout tx t at true).effects.sends ≡ true
   rest_of_kind node t at front = parts_of_kind node t.phase t.touched at front

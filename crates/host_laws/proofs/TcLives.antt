@@ -28,7 +28,8 @@ use Rattle.tc_block.specs.Phases.{is_completing}
 pub lower_apart : (s : TcState) (v : TxId) → v.seq < s.next_seq → same_tx v (next_tx s) ≡ false
 lower_apart s v lt =
     let off : nat_eq v.seq s.next_seq ≡ false = ne_eqb v.seq s.next_seq (λ same. omega (arith, lt, same)) in
-    and_right (nat_eq v.tc s.node) (nat_eq v.start s.start && nat_eq v.seq s.next_seq) (and_right (nat_eq v.start s.start) (nat_eq v.seq s.next_seq) off)
+    and_right (nat_eq v.tc s.node) (nat_eq v.start s.start && nat_eq v.seq s.next_seq)
+    (and_right (nat_eq v.start s.start) (nat_eq v.seq s.next_seq) off)
 
 -- a transaction has begun
 abbrev pub start_of : TxId → Body → Bool
@@ -80,25 +81,36 @@ no_end_still tx _ e = refl
 pub apart : (tx one other : TxId) → same_tx one tx ≡ false → same_tx other one ≡ true → same_tx other tx ≡ false
 apart tx one other differs same = ap (λ t. same_tx t tx) (same_tx-is other one same) ∙ differs
 
-no_end_other : (tx one : TxId) → same_tx one tx ≡ false → (body : Body) → is_tc_kind one body ≡ true → end_of tx body ≡ false
+no_end_other : (tx one : TxId) → same_tx one tx ≡ false → (body : Body) → is_tc_kind one body ≡ true
+    → end_of tx body ≡ false
 no_end_other tx one differs (Client (TcCommitConf other epoch)) e = apart tx one other differs e
 no_end_other tx one differs (Client (TcRollbackRep other cause)) e = apart tx one other differs e
 no_end_other tx one differs _ e = refl
 
 no_starts : (tx one : TxId) (sends : List Outgoing) → are_of (is_tc_kind one) sends ≡ true → starts_in tx sends ≡ 0
-no_starts tx one sends kind = none_of (is_tc_kind one) (to_node 0 (is_start tx)) (λ to b k. and_false (to.node == 0) (is_api to.block) (no_start_tc tx one b k)) sends kind
+no_starts tx one sends kind =
+    none_of (is_tc_kind one) (to_node 0 (is_start tx))
+    (λ to b k. and_false (to.node == 0) (is_api to.block) (no_start_tc tx one b k)) sends kind
 
 no_starts_still : (tx : TxId) (sends : List Outgoing) → are_of is_still_kind sends ≡ true → starts_in tx sends ≡ 0
-no_starts_still tx sends kind = none_of is_still_kind (to_node 0 (is_start tx)) (λ to b k. and_false (to.node == 0) (is_api to.block) (no_start_still tx b k)) sends kind
+no_starts_still tx sends kind =
+    none_of is_still_kind (to_node 0 (is_start tx))
+    (λ to b k. and_false (to.node == 0) (is_api to.block) (no_start_still tx b k)) sends kind
 
 no_ends_still : (tx : TxId) (sends : List Outgoing) → are_of is_still_kind sends ≡ true → ends_in tx sends ≡ 0
-no_ends_still tx sends kind = none_of is_still_kind (to_node 0 (is_end tx)) (λ to b k. and_false (to.node == 0) (is_api to.block) (no_end_still tx b k)) sends kind
+no_ends_still tx sends kind =
+    none_of is_still_kind (to_node 0 (is_end tx))
+    (λ to b k. and_false (to.node == 0) (is_api to.block) (no_end_still tx b k)) sends kind
 
-no_ends_other : (tx one : TxId) (sends : List Outgoing) → same_tx one tx ≡ false → are_of (is_tc_kind one) sends ≡ true → ends_in tx sends ≡ 0
-no_ends_other tx one sends differs kind = none_of (is_tc_kind one) (to_node 0 (is_end tx)) (λ to b k. and_false (to.node == 0) (is_api to.block) (no_end_other tx one differs b k)) sends kind
+no_ends_other : (tx one : TxId) (sends : List Outgoing) → same_tx one tx ≡ false → are_of (is_tc_kind one) sends ≡ true
+    → ends_in tx sends ≡ 0
+no_ends_other tx one sends differs kind =
+    none_of (is_tc_kind one) (to_node 0 (is_end tx))
+    (λ to b k. and_false (to.node == 0) (is_api to.block) (no_end_other tx one differs b k)) sends kind
 
 -- a new number stands last
-pub insert_new : (live : List (TxId × Transaction)) (tx : TxId) (t : Transaction) → Each (λ (e : TxId × Transaction). e.0.seq < tx.seq) live → insert_entry same_tx live tx t ≡ live ++ (tx, t) ∷ []
+pub insert_new : (live : List (TxId × Transaction)) (tx : TxId) (t : Transaction)
+    → Each (λ (e : TxId × Transaction). e.0.seq < tx.seq) live → insert_entry same_tx live tx t ≡ live ++ (tx, t) ∷ []
 insert_new [] tx t early = refl
 insert_new (e ∷ live) tx t early = go (same_tx tx e.0) refl (insert_new live tx t early.1)
   where
@@ -146,7 +158,9 @@ kept_start tx s b e k = go (same_tx (next_tx s) tx) refl
           told = λ h. k.told (omega (arith, h, done));
           once = omega (arith, ap one_if same, zero_b);
           unborn = λ h. absurd (omega (arith, h, seq));
-          own = each_append (λ (x : TxId × Transaction). IsOwn s.node (s.next_seq + 1) x.0) s.live ((next_tx s, fresh) ∷ [])
+          own =
+              each_append (λ (x : TxId × Transaction). IsOwn s.node (s.next_seq + 1) x.0) s.live
+              ((next_tx s, fresh) ∷ [])
               (each_map (λ (x : TxId × Transaction). IsOwn s.node s.next_seq x.0) (λ (x : TxId × Transaction). IsOwn s.node (s.next_seq + 1) x.0) s.live (λ x o. record { early = omega (arith, o.early); home = o.home }) k.own)
               (record { early = omega arith; home = refl }, tt);
         }
@@ -158,7 +172,9 @@ kept_start tx s b e k = go (same_tx (next_tx s) tx) refl
           told = λ h. k.told (omega (arith, h, done));
           once = omega (arith, k.once, ap one_if same);
           unborn = λ h. omega (arith, k.unborn (omega (arith, h)), ap one_if same);
-          own = each_append (λ (x : TxId × Transaction). IsOwn s.node (s.next_seq + 1) x.0) s.live ((next_tx s, fresh) ∷ [])
+          own =
+              each_append (λ (x : TxId × Transaction). IsOwn s.node (s.next_seq + 1) x.0) s.live
+              ((next_tx s, fresh) ∷ [])
               (each_map (λ (x : TxId × Transaction). IsOwn s.node s.next_seq x.0) (λ (x : TxId × Transaction). IsOwn s.node (s.next_seq + 1) x.0) s.live (λ x o. record { early = omega (arith, o.early); home = o.home }) k.own)
               (record { early = omega arith; home = refl }, tt);
         }
@@ -166,7 +182,8 @@ kept_start tx s b e k = go (same_tx (next_tx s) tx) refl
 -- transactions of which so many stand there, and so many complete, after so many reports of its end
 kept_live : (tx : TxId) (s : TcState) (live : List (TxId × Transaction)) (b e x y : ℕ) → IsKept tx s b e → x ≡ 0
     → tally (is_keyed tx) live ≤ tally (is_keyed tx) s.live → (1 ≤ y → 1 ≤ tally (is_keyed tx) s.live)
-    → (1 ≤ tally (is_keyed tx) s.live → 1 ≤ tally (is_keyed tx) live + (y + e)) → (1 ≤ tally (is_over tx) live → 1 ≤ y + e) → Each (λ (z : TxId × Transaction). IsOwn s.node s.next_seq z.0) live
+    → (1 ≤ tally (is_keyed tx) s.live → 1 ≤ tally (is_keyed tx) live + (y + e))
+    → (1 ≤ tally (is_over tx) live → 1 ≤ y + e) → Each (λ (z : TxId × Transaction). IsOwn s.node s.next_seq z.0) live
     → IsKept tx (record { node = s.node; start = s.start; next_seq = s.next_seq; layout = s.layout; live = live }) (x + b) (y + e)
 kept_live tx s live b e x y k p fewer due left told own = record {
   began = omega (arith, k.began, fewer, p);
@@ -196,16 +213,21 @@ kept_live tx s live b e x y k p fewer due left told own = record {
         by (inr d) = omega (arith, d)
 
 -- one of its transactions takes a turn
-kept_turn : (tx one : TxId) (s : TcState) (t u : Transaction) (front back : List (TxId × Transaction)) (sends : List Outgoing) (b e : ℕ) → IsKept tx s b e
-    → s.live ≡ front ++ (one, t) ∷ back → are_of (is_tc_kind one) sends ≡ true → (is_completing u.phase ≡ true → (is_completing t.phase ≡ true) ⊎ (1 ≤ ends_in one sends))
+kept_turn : (tx one : TxId) (s : TcState) (t u : Transaction) (front back : List (TxId × Transaction)) (sends : List Outgoing) (b e : ℕ)
+    → IsKept tx s b e
+    → s.live ≡ front ++ (one, t) ∷ back → are_of (is_tc_kind one) sends ≡ true
+    → (is_completing u.phase ≡ true → (is_completing t.phase ≡ true) ⊎ (1 ≤ ends_in one sends))
     → IsKept tx (record { node = s.node; start = s.start; next_seq = s.next_seq; layout = s.layout; live = front ++ (one, u) ∷ back }) (starts_in tx sends + b) (ends_in tx sends + e)
 kept_turn tx one s t u front back sends b e k is kind told =
-    kept_live tx s (front ++ (one, u) ∷ back) b e (starts_in tx sends) (ends_in tx sends) k (no_starts tx one sends kind)
+    kept_live tx s (front ++ (one, u) ∷ back) b e (starts_in tx sends) (ends_in tx sends) k
+    (no_starts tx one sends kind)
     (omega (arith, keyed)) (due (same_tx one tx) refl) (λ h. omega (arith, h, keyed)) (done (same_tx one tx) refl)
     (each_changed (λ (x : TxId × Transaction). IsOwn s.node s.next_seq x.0) front (one, t) (one, u) back s.live is k.own (λ o. o))
   where
     keyed : tally (is_keyed tx) (front ++ (one, u) ∷ back) ≡ tally (is_keyed tx) s.live
-    keyed = omega (arith, tally_between (is_keyed tx) front (one, t) back s.live is, tally_between (is_keyed tx) front (one, u) back (front ++ (one, u) ∷ back) refl)
+    keyed =
+        omega
+        (arith, tally_between (is_keyed tx) front (one, t) back s.live is, tally_between (is_keyed tx) front (one, u) back (front ++ (one, u) ∷ back) refl)
 
     due : (m : Bool) → same_tx one tx ≡ m → 1 ≤ ends_in tx sends → 1 ≤ tally (is_keyed tx) s.live
     due true same h = omega (arith, tally_between (is_keyed tx) front (one, t) back s.live is, ap one_if same)
@@ -217,10 +239,12 @@ kept_turn tx one s t u front back sends b e k is kind told =
     done_new : tally (is_over tx) (front ++ (one, u) ∷ back) ≡ tally (is_over tx) (front ++ back) + one_if (same_tx one tx && is_completing u.phase)
     done_new = tally_between (is_over tx) front (one, u) back (front ++ (one, u) ∷ back) refl
 
-    done : (m : Bool) → same_tx one tx ≡ m → 1 ≤ tally (is_over tx) (front ++ (one, u) ∷ back) → 1 ≤ ends_in tx sends + e
+    done : (m : Bool) → same_tx one tx ≡ m → 1 ≤ tally (is_over tx) (front ++ (one, u) ∷ back)
+        → 1 ≤ ends_in tx sends + e
     done false same h =
         let before : 1 ≤ tally (is_over tx) s.live =
-        omega (arith, h, done_new, done_old, ap (λ m. one_if (m && is_completing u.phase)) same, ap (λ m. one_if (m && is_completing t.phase)) same) in
+        omega
+        (arith, h, done_new, done_old, ap (λ m. one_if (m && is_completing u.phase)) same, ap (λ m. one_if (m && is_completing t.phase)) same) in
         omega (arith, k.told before)
     done true same h = by (is_completing u.phase) refl
       where
@@ -240,8 +264,10 @@ kept_turn tx one s t u front back sends b e k is kind told =
                 omega (arith, here)
 
 -- or is forgotten
-kept_forget : (tx one : TxId) (s : TcState) (t : Transaction) (front back : List (TxId × Transaction)) (sends : List Outgoing) (b e : ℕ) → IsKept tx s b e
-    → s.live ≡ front ++ (one, t) ∷ back → are_of (is_tc_kind one) sends ≡ true → (is_completing t.phase ≡ true) ⊎ (1 ≤ ends_in one sends)
+kept_forget : (tx one : TxId) (s : TcState) (t : Transaction) (front back : List (TxId × Transaction)) (sends : List Outgoing) (b e : ℕ)
+    → IsKept tx s b e
+    → s.live ≡ front ++ (one, t) ∷ back → are_of (is_tc_kind one) sends ≡ true
+    → (is_completing t.phase ≡ true) ⊎ (1 ≤ ends_in one sends)
     → IsKept tx (record { node = s.node; start = s.start; next_seq = s.next_seq; layout = s.layout; live = front ++ back }) (starts_in tx sends + b) (ends_in tx sends + e)
 kept_forget tx one s t front back sends b e k is kind told =
     kept_live tx s (front ++ back) b e (starts_in tx sends) (ends_in tx sends) k (no_starts tx one sends kind)
@@ -259,11 +285,13 @@ kept_forget tx one s t front back sends b e k is kind told =
     due true same h = omega (arith, keyed, ap one_if same)
     due false same h = absurd (omega (arith, h, no_ends_other tx one sends same kind))
 
-    left : (m : Bool) → same_tx one tx ≡ m → 1 ≤ tally (is_keyed tx) s.live → 1 ≤ tally (is_keyed tx) (front ++ back) + (ends_in tx sends + e)
+    left : (m : Bool) → same_tx one tx ≡ m → 1 ≤ tally (is_keyed tx) s.live
+        → 1 ≤ tally (is_keyed tx) (front ++ back) + (ends_in tx sends + e)
     left false same h = omega (arith, h, keyed, ap one_if same)
     left true same h = which told
       where
-        which : (is_completing t.phase ≡ true) ⊎ (1 ≤ ends_in one sends) → 1 ≤ tally (is_keyed tx) (front ++ back) + (ends_in tx sends + e)
+        which : (is_completing t.phase ≡ true) ⊎ (1 ≤ ends_in one sends)
+            → 1 ≤ tally (is_keyed tx) (front ++ back) + (ends_in tx sends + e)
         which (inl was) =
             let before : 1 ≤ tally (is_over tx) s.live = omega (arith, done_old, ap (λ m. one_if (m && is_completing t.phase)) same, ap one_if was) in
             omega (arith, k.told before)
@@ -272,14 +300,17 @@ kept_forget tx one s t front back sends b e k is kind told =
             omega (arith, here)
 
 -- a step of a coordinator keeps all that
-pub kept_move : (tx : TxId) (s after : TcState) (sends : List Outgoing) (b e : ℕ) → TcMove s after sends → IsKept tx s b e → IsKept tx after (starts_in tx sends + b) (ends_in tx sends + e)
+pub kept_move : (tx : TxId) (s after : TcState) (sends : List Outgoing) (b e : ℕ) → TcMove s after sends
+    → IsKept tx s b e → IsKept tx after (starts_in tx sends + b) (ends_in tx sends + e)
 kept_move tx s after sends b e (stays is kind) k =
     subst (λ a. IsKept tx a (starts_in tx sends + b) (ends_in tx sends + e)) (sym is)
     (kept_same tx s b e (starts_in tx sends) (ends_in tx sends) (no_starts_still tx sends kind) (no_ends_still tx sends kind) k)
 kept_move tx s after sends b e (turns one t u front back is now kind told) k =
-    subst (λ a. IsKept tx a (starts_in tx sends + b) (ends_in tx sends + e)) (sym now) (kept_turn tx one s t u front back sends b e k is kind told)
+    subst (λ a. IsKept tx a (starts_in tx sends + b) (ends_in tx sends + e)) (sym now)
+    (kept_turn tx one s t u front back sends b e k is kind told)
 kept_move tx s after sends b e (forgets one t front back is now kind told) k =
-    subst (λ a. IsKept tx a (starts_in tx sends + b) (ends_in tx sends + e)) (sym now) (kept_forget tx one s t front back sends b e k is kind told)
+    subst (λ a. IsKept tx a (starts_in tx sends + b) (ends_in tx sends + e)) (sym now)
+    (kept_forget tx one s t front back sends b e k is kind told)
 kept_move tx s after sends b e (starts name is told) k =
     subst (λ a. IsKept tx a (starts_in tx sends + b) (ends_in tx sends + e)) (sym (is ∙ ap (λ live. record { node = s.node; start = s.start; next_seq = s.next_seq + 1; layout = s.layout; live = live })
     (insert_new s.live (next_tx s) fresh (each_map (λ (x : TxId × Transaction). IsOwn s.node s.next_seq x.0) (λ (x : TxId × Transaction). x.0.seq < s.next_seq) s.live (λ x o. o.early) k.own))))
@@ -296,7 +327,8 @@ kept_move tx s after sends b e (starts name is told) k =
     ends = omega (arith, ap (ends_in tx) told)
 
 -- the end is reported of one that has begun
-pub due_move : (tx : TxId) (s after : TcState) (sends : List Outgoing) (b e : ℕ) → TcMove s after sends → IsKept tx s b e → 1 ≤ ends_in tx sends → 1 ≤ b
+pub due_move : (tx : TxId) (s after : TcState) (sends : List Outgoing) (b e : ℕ) → TcMove s after sends
+    → IsKept tx s b e → 1 ≤ ends_in tx sends → 1 ≤ b
 due_move tx s after sends b e (stays is kind) k some = absurd (omega (arith, some, no_ends_still tx sends kind))
 due_move tx s after sends b e (starts name is told) k some = absurd (omega (arith, some, ap (ends_in tx) told))
 due_move tx s after sends b e (turns one t u front back is now kind told) k some = go (same_tx one tx) refl

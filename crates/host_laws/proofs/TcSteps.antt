@@ -83,7 +83,8 @@ is_rest_kind (Client (TcBeginRef name)) = true
 is_rest_kind (Client (TcWaitConf tx ahead)) = true
 is_rest_kind _ = false
 
-said_apart : (tx one : TxId) → same_tx one tx ≡ false → (body : Body) → is_said one body ≡ true → is_apart tx body ≡ true
+said_apart : (tx one : TxId) → same_tx one tx ≡ false → (body : Body) → is_said one body ≡ true
+    → is_apart tx body ≡ true
 said_apart tx one off (Client (TcKeyConf other answer)) e = ap not (apart tx one other off e)
 said_apart tx one off (Client (TcCommitConf other epoch)) e = ap not (apart tx one other off e)
 said_apart tx one off (Client (TcRollbackRep other cause)) e = ap not (apart tx one other off e)
@@ -118,10 +119,12 @@ said_kinds tx body = record {
     self = same_tx-self tx
 
 -- all that a transaction sends is said of it
-pub turn_said : (s : TcState) (body : Body) (t : Transaction) → are_of (is_said (tx_in body)) (turn_row s body t).step.effects.sends ≡ true
+pub turn_said : (s : TcState) (body : Body) (t : Transaction)
+    → are_of (is_said (tx_in body)) (turn_row s body t).step.effects.sends ≡ true
 turn_said s body t =
     let tx = tx_in body in
-    turn_at s tx body t (TurnOnly (is_said tx)) refl (own_forms (is_said tx) tx body (said_kinds tx body) s.node s.layout t)
+    turn_at s tx body t (TurnOnly (is_said tx)) refl
+    (own_forms (is_said tx) tx body (said_kinds tx body) s.node s.layout t)
 
 -- a transaction takes a turn, and is forgotten if it is over
 abbrev pub left_in : TxId → List (TxId × Transaction) → List (TxId × Transaction) → Turn → List (TxId × Transaction)
@@ -130,12 +133,16 @@ left_in tx front back turn = if turn.over then front ++ back else front ++ (tx, 
 -- a step of a coordinator
 pub data TcStep (s : TcState) (body : Body) (step : Step TcState) : Type 0 where
   rests : is_turn body ≡ false → step.state ≡ s → are_of is_rest_kind step.effects.sends ≡ true → TcStep s body step
-  begins : (name : Option ℕ) → body ≡ Client (TcBeginReq name) → is_full s ≡ false → step ≡ sending (begun s) client (Client (TcBeginConf name (next_tx s))) → TcStep s body step
+  begins : (name : Option ℕ) → body ≡ Client (TcBeginReq name) → is_full s ≡ false
+      → step ≡ sending (begun s) client (Client (TcBeginConf name (next_tx s))) → TcStep s body step
   misses : is_turn body ≡ true → tally (is_keyed (tx_in body)) s.live ≡ 0 → step ≡ stay s → TcStep s body step
-  takes : is_turn body ≡ true → (t : Transaction) (front back : List (TxId × Transaction)) → s.live ≡ front ++ (tx_in body, t) ∷ back
-      → step ≡ record { state = with_live s (left_in (tx_in body) front back (turn_row s body t)); effects = (turn_row s body t).step.effects } → TcStep s body step
+  takes : is_turn body ≡ true → (t : Transaction) (front back : List (TxId × Transaction))
+      → s.live ≡ front ++ (tx_in body, t) ∷ back
+      → step ≡ record { state = with_live s (left_in (tx_in body) front back (turn_row s body t)); effects = (turn_row s body t).step.effects }
+      → TcStep s body step
 
-taken_turn : (s : TcState) (body : Body) → is_turn body ≡ true → TcStep s body (turn_of s (tx_in body) (turn_row s body))
+taken_turn : (s : TcState) (body : Body) → is_turn body ≡ true
+    → TcStep s body (turn_of s (tx_in body) (turn_row s body))
 unfolding without
 taken_turn s body is = go (nat_lt place (length (keys_of s.live))) refl
   where
@@ -145,27 +152,34 @@ taken_turn s body is = go (nat_lt place (length (keys_of s.live))) refl
     place : ℕ
     place = prefix_len (λ x. not (same_tx one x)) (keys_of s.live)
 
-    over : (f : IsEntry (same_tx one) s.live place) (b : Bool) → (turn_row s body f.value).over ≡ b → TcStep s body (turned_if s place (turn_row s body f.value) b)
+    over : (f : IsEntry (same_tx one) s.live place) (b : Bool) → (turn_row s body f.value).over ≡ b
+        → TcStep s body (turned_if s place (turn_row s body f.value) b)
     over f true e =
-        takes is f.value f.front f.back (f.is ∙ ap (λ k. f.front ++ (k, f.value) ∷ f.back) (sym (same_tx-is one f.key f.passes)))
+        takes is f.value f.front f.back
+        (f.is ∙ ap (λ k. f.front ++ (k, f.value) ∷ f.back) (sym (same_tx-is one f.key f.passes)))
         (ap (λ live. record { state = with_live s live; effects = (turn_row s body f.value).step.effects })
         (f.removed ∙ ap (λ b. if b then f.front ++ f.back else f.front ++ (one, (turn_row s body f.value).step.state) ∷ f.back) (sym e)))
     over f false e =
-        takes is f.value f.front f.back (f.is ∙ ap (λ k. f.front ++ (k, f.value) ∷ f.back) (sym (same_tx-is one f.key f.passes)))
+        takes is f.value f.front f.back
+        (f.is ∙ ap (λ k. f.front ++ (k, f.value) ∷ f.back) (sym (same_tx-is one f.key f.passes)))
         (ap (λ live. record { state = with_live s live; effects = (turn_row s body f.value).step.effects })
         ((f.set (turn_row s body f.value).step.state ∙ ap (λ k. f.front ++ (k, (turn_row s body f.value).step.state) ∷ f.back) (sym (same_tx-is one f.key f.passes)))
         ∙ ap (λ b. if b then f.front ++ f.back else f.front ++ (one, (turn_row s body f.value).step.state) ∷ f.back) (sym e)))
 
-    go : (b : Bool) → nat_lt place (length (keys_of s.live)) ≡ b → TcStep s body (turn_place s (turn_row s body) (cond b (Some place) None))
+    go : (b : Bool) → nat_lt place (length (keys_of s.live)) ≡ b
+        → TcStep s body (turn_place s (turn_row s body) (cond b (Some place) None))
     go true e =
         let f = found (same_tx one) s.live (grind (arith, nat_tests, e)) in
-        subst (λ o. TcStep s body (turn_value s (turn_row s body) place o)) (sym f.get) (over f (turn_row s body f.value).over refl)
+        subst (λ o. TcStep s body (turn_value s (turn_row s body) place o)) (sym f.get)
+        (over f (turn_row s body f.value).over refl)
     go false e = misses is (absent_key one one s.live (same_tx-self one) (grind (arith, nat_tests, e))) refl
 
-taken_step : (s : TcState) (body : Body) (row : Transaction → Step Transaction) → is_turn body ≡ true → ((t : Transaction) → going (row t) ≡ turn_row s body t)
+taken_step : (s : TcState) (body : Body) (row : Transaction → Step Transaction) → is_turn body ≡ true
+    → ((t : Transaction) → going (row t) ≡ turn_row s body t)
     → TcStep s body (step_of s (tx_in body) row)
 taken_step s body row is same =
-    subst (TcStep s body) (sym (step_is s (tx_in body) row ∙ ap (turn_of s (tx_in body)) (λ i t. same t i))) (taken_turn s body is)
+    subst (TcStep s body) (sym (step_is s (tx_in body) row ∙ ap (turn_of s (tx_in body)) (λ i t. same t i)))
+    (taken_turn s body is)
 
 -- each step of a coordinator is one of these
 pub tc_step : (s : TcState) (body : Body) → TcStep s body (tc_table s body)
@@ -180,7 +194,8 @@ tc_step s (Client (LqhWaitConf tx ahead)) = go (is_some (place_in s tx))
     go : (b : Bool) → TcStep s (Client (LqhWaitConf tx ahead)) (pass_if s tx ahead b)
     go true = rests refl refl refl
     go false = rests refl refl refl
-tc_step s (Host (Continue (work.Transaction tx) at)) = taken_step s (Host (Continue (work.Transaction tx) at)) _ refl (λ t. refl)
+tc_step s (Host (Continue (work.Transaction tx) at)) =
+    taken_step s (Host (Continue (work.Transaction tx) at)) _ refl (λ t. refl)
 tc_step s (Client (TcKeyReq tx op)) = taken_step s (Client (TcKeyReq tx op)) _ refl (λ t. refl)
 tc_step s (Client (TcCommitReq tx)) = taken_step s (Client (TcCommitReq tx)) _ refl (λ t. refl)
 tc_step s (Client (TcRollbackReq tx)) = taken_turn s (Client (TcRollbackReq tx)) refl
@@ -198,31 +213,43 @@ pub live_none : (tx : TxId) (live : List (TxId × Transaction)) → tally (is_ke
 live_none tx [] none = refl
 live_none tx (e ∷ live) none = go (same_tx e.0 tx) refl (live_none tx live)
   where
-    go : (b : Bool) → same_tx e.0 tx ≡ b → (tally (is_keyed tx) live ≡ 0 → of_live tx live ≡ None) → (if b then Some e.1 else of_live tx live) ≡ None
+    go : (b : Bool) → same_tx e.0 tx ≡ b → (tally (is_keyed tx) live ≡ 0 → of_live tx live ≡ None)
+        → (if b then Some e.1 else of_live tx live) ≡ None
     go true is rest = absurd (omega (arith, none, ap one_if is))
     go false is rest = rest (omega (arith, none, ap one_if is))
 
-live_between : (tx : TxId) (front : List (TxId × Transaction)) (x : TxId × Transaction) (back : List (TxId × Transaction)) → same_tx x.0 tx ≡ false
+live_between : (tx : TxId) (front : List (TxId × Transaction)) (x : TxId × Transaction) (back : List (TxId × Transaction))
+    → same_tx x.0 tx ≡ false
     → of_live tx (front ++ x ∷ back) ≡ of_live tx (front ++ back)
 live_between tx [] x back off = ap (λ b. if b then Some x.1 else of_live tx back) off
-live_between tx (e ∷ front) x back off = ap (λ o. if same_tx e.0 tx then Some e.1 else o) (live_between tx front x back off)
+live_between tx (e ∷ front) x back off =
+    ap (λ o. if same_tx e.0 tx then Some e.1 else o) (live_between tx front x back off)
 
-live_here : (tx : TxId) (front : List (TxId × Transaction)) (t : Transaction) (back : List (TxId × Transaction)) → tally (is_keyed tx) front ≡ 0 → of_live tx (front ++ (tx, t) ∷ back) ≡ Some t
+live_here : (tx : TxId) (front : List (TxId × Transaction)) (t : Transaction) (back : List (TxId × Transaction))
+    → tally (is_keyed tx) front ≡ 0 → of_live tx (front ++ (tx, t) ∷ back) ≡ Some t
 live_here tx [] t back none = ap (λ b. if b then Some t else of_live tx back) (same_tx-self tx)
 live_here tx (e ∷ front) t back none = go (same_tx e.0 tx) refl (live_here tx front t back)
   where
-    go : (b : Bool) → same_tx e.0 tx ≡ b → (tally (is_keyed tx) front ≡ 0 → of_live tx (front ++ (tx, t) ∷ back) ≡ Some t) → (if b then Some e.1 else of_live tx (front ++ (tx, t) ∷ back)) ≡ Some t
+    go : (b : Bool) → same_tx e.0 tx ≡ b
+        → (tally (is_keyed tx) front ≡ 0 → of_live tx (front ++ (tx, t) ∷ back) ≡ Some t)
+        → (if b then Some e.1 else of_live tx (front ++ (tx, t) ∷ back)) ≡ Some t
     go true is rest = absurd (omega (arith, none, ap one_if is))
     go false is rest = rest (omega (arith, none, ap one_if is))
 
 -- one that is live, where no two are of one number
-pub live_in : (tx : TxId) (t : Transaction) (live : List (TxId × Transaction)) → tally (is_keyed tx) live ≤ 1 → IsIn (tx, t) live → of_live tx live ≡ Some t
+pub live_in : (tx : TxId) (t : Transaction) (live : List (TxId × Transaction)) → tally (is_keyed tx) live ≤ 1
+    → IsIn (tx, t) live → of_live tx live ≡ Some t
 live_in tx t [] once i = absurd i
-live_in tx t (e ∷ live) once (inl same) = ap (λ b. if b then Some e.1 else of_live tx live) (ap (λ (x : TxId × Transaction). same_tx x.0 tx) (sym same) ∙ same_tx-self tx) ∙ ap (λ (x : TxId × Transaction). Some x.1) (sym same)
+live_in tx t (e ∷ live) once (inl same) =
+    ap (λ b. if b then Some e.1 else of_live tx live)
+    (ap (λ (x : TxId × Transaction). same_tx x.0 tx) (sym same) ∙ same_tx-self tx)
+    ∙ ap (λ (x : TxId × Transaction). Some x.1) (sym same)
 live_in tx t (e ∷ live) once (inr i) = go (same_tx e.0 tx) refl (live_in tx t live)
   where
-    go : (b : Bool) → same_tx e.0 tx ≡ b → (tally (is_keyed tx) live ≤ 1 → IsIn (tx, t) live → of_live tx live ≡ Some t) → (if b then Some e.1 else of_live tx live) ≡ Some t
-    go true is rest = absurd (omega (arith, once, ap one_if is, tally_in (is_keyed tx) (tx, t) live i (same_tx-self tx)))
+    go : (b : Bool) → same_tx e.0 tx ≡ b → (tally (is_keyed tx) live ≤ 1 → IsIn (tx, t) live → of_live tx live ≡ Some t)
+        → (if b then Some e.1 else of_live tx live) ≡ Some t
+    go true is rest =
+        absurd (omega (arith, once, ap one_if is, tally_in (is_keyed tx) (tx, t) live i (same_tx-self tx)))
     go false is rest = rest (omega (arith, once, ap one_if is)) i
 
 -- what is left of a transaction after its turn
@@ -233,22 +260,32 @@ left_of_turn turn = if turn.over then None else Some turn.step.state
 pub data TxStep (tx : TxId) (s : TcState) (body : Body) (step : Step TcState) : Type 0 where
   elsewhere : of_live tx step.state.live ≡ of_live tx s.live → are_of (is_apart tx) step.effects.sends ≡ true
       → (is_turn body ≡ true → tx_in body ≡ tx → of_live tx s.live ≡ None) → TxStep tx s body step
-  born : (name : Option ℕ) → body ≡ Client (TcBeginReq name) → tx ≡ next_tx s → of_live tx s.live ≡ None → of_live tx step.state.live ≡ Some fresh
-      → step.effects.sends ≡ record { to = client; body = Client (TcBeginConf name tx) } ∷ [] → s.next_seq < step.state.next_seq → TxStep tx s body step
-  turned : (t : Transaction) → is_turn body ≡ true → tx_in body ≡ tx → of_live tx s.live ≡ Some t → TurnMove s tx t body (turn_row s body t)
-      → of_live tx step.state.live ≡ left_of_turn (turn_row s body t) → step.effects.sends ≡ (turn_row s body t).step.effects.sends → TxStep tx s body step
+  born : (name : Option ℕ) → body ≡ Client (TcBeginReq name) → tx ≡ next_tx s → of_live tx s.live ≡ None
+      → of_live tx step.state.live ≡ Some fresh
+      → step.effects.sends ≡ record { to = client; body = Client (TcBeginConf name tx) } ∷ []
+      → s.next_seq < step.state.next_seq → TxStep tx s body step
+  turned : (t : Transaction) → is_turn body ≡ true → tx_in body ≡ tx → of_live tx s.live ≡ Some t
+      → TurnMove s tx t body (turn_row s body t)
+      → of_live tx step.state.live ≡ left_of_turn (turn_row s body t)
+      → step.effects.sends ≡ (turn_row s body t).step.effects.sends → TxStep tx s body step
 
-module _ (tx : TxId) (s : TcState) (body : Body) (once : tally (is_keyed tx) s.live ≤ 1) (own : Each (λ (e : TxId × Transaction). IsOwn s.node s.next_seq e.0) s.live) where
+module _ (tx : TxId) (s : TcState) (body : Body) (once : tally (is_keyed tx) s.live ≤ 1)
+    (own : Each (λ (e : TxId × Transaction). IsOwn s.node s.next_seq e.0) s.live) where
   tx_of : (step : Step TcState) → TcStep s body step → TxStep tx s body step
   tx_of step (rests about is kind) =
-      elsewhere (ap (λ (x : TcState). of_live tx x.live) is) (of_kind is_rest_kind (is_apart tx) (rest_apart tx) step.effects.sends kind) (λ turn. absurd (false≢true (sym about ∙ turn)))
+      elsewhere (ap (λ (x : TcState). of_live tx x.live) is)
+      (of_kind is_rest_kind (is_apart tx) (rest_apart tx) step.effects.sends kind)
+      (λ turn. absurd (false≢true (sym about ∙ turn)))
   tx_of step (misses about none is) =
-      elsewhere (ap (λ (x : Step TcState). of_live tx x.state.live) is) (ap (λ (x : Step TcState). are_of (is_apart tx) x.effects.sends) is)
+      elsewhere (ap (λ (x : Step TcState). of_live tx x.state.live) is)
+      (ap (λ (x : Step TcState). are_of (is_apart tx) x.effects.sends) is)
       (λ turn same. live_none tx s.live (subst (λ x. tally (is_keyed x) s.live ≡ 0) same none))
   tx_of step (begins name about room is) = go (same_tx (next_tx s) tx) refl
     where
       last : insert_entry same_tx s.live (next_tx s) fresh ≡ s.live ++ (next_tx s, fresh) ∷ []
-      last = insert_new s.live (next_tx s) fresh (each_map (λ (x : TxId × Transaction). IsOwn s.node s.next_seq x.0) (λ (x : TxId × Transaction). x.0.seq < s.next_seq) s.live (λ x o. o.early) own)
+      last =
+          insert_new s.live (next_tx s) fresh
+          (each_map (λ (x : TxId × Transaction). IsOwn s.node s.next_seq x.0) (λ (x : TxId × Transaction). x.0.seq < s.next_seq) s.live (λ x o. o.early) own)
 
       now : of_live tx step.state.live ≡ of_live tx (s.live ++ (next_tx s, fresh) ∷ [])
       now = ap (λ (x : Step TcState). of_live tx x.state.live) is ∙ ap (of_live tx) last
@@ -260,18 +297,22 @@ module _ (tx : TxId) (s : TcState) (body : Body) (once : tally (is_keyed tx) s.l
       plain : (x : Body) → is_turn x ≡ true → x ≡ Client (TcBeginReq name) → ⊥
       plain x turn same = false≢true (ap is_turn (sym same) ∙ turn)
 
-      fewer : (live : List (TxId × Transaction)) → tx.seq ≡ s.next_seq → Each (λ (e : TxId × Transaction). IsOwn s.node s.next_seq e.0) live → tally (is_keyed tx) live ≡ 0
+      fewer : (live : List (TxId × Transaction)) → tx.seq ≡ s.next_seq
+          → Each (λ (e : TxId × Transaction). IsOwn s.node s.next_seq e.0) live → tally (is_keyed tx) live ≡ 0
       fewer [] seq early = refl
       fewer (e ∷ live) seq early = by (same_tx e.0 tx) refl (fewer live seq early.1)
         where
-          by : (b : Bool) → same_tx e.0 tx ≡ b → tally (is_keyed tx) live ≡ 0 → one_if (same_tx e.0 tx) + tally (is_keyed tx) live ≡ 0
-          by true same rest = absurd (omega (arith, early.0.early, seq, ap (λ (x : TxId). x.seq) (same_tx-is e.0 tx same)))
+          by : (b : Bool) → same_tx e.0 tx ≡ b → tally (is_keyed tx) live ≡ 0
+              → one_if (same_tx e.0 tx) + tally (is_keyed tx) live ≡ 0
+          by true same rest =
+              absurd (omega (arith, early.0.early, seq, ap (λ (x : TxId). x.seq) (same_tx-is e.0 tx same)))
           by false same rest = omega (arith, rest, ap one_if same)
 
       go : (b : Bool) → same_tx (next_tx s) tx ≡ b → TxStep tx s body step
       go false off =
           elsewhere (now ∙ live_between tx s.live (next_tx s, fresh) [] off ∙ ap (of_live tx) (nothing s.live))
-          (ap (λ (x : Step TcState). are_of (is_apart tx) x.effects.sends) is ∙ ap (λ b. if not b then true else false) off) (λ turn same. absurd (plain body turn about))
+          (ap (λ (x : Step TcState). are_of (is_apart tx) x.effects.sends) is ∙ ap (λ b. if not b then true else false) off)
+          (λ turn same. absurd (plain body turn about))
       go true same =
           let here : tx ≡ next_tx s = sym (same_tx-is (next_tx s) tx same) in
           let none : tally (is_keyed tx) s.live ≡ 0 = fewer s.live (ap (λ (x : TxId). x.seq) here) own in
@@ -303,11 +344,13 @@ module _ (tx : TxId) (s : TcState) (body : Body) (once : tally (is_keyed tx) s.l
           (ap (are_of (is_apart tx)) sends_are ∙ of_kind (is_said (tx_in body)) (is_apart tx) (said_apart tx (tx_in body) off) turn.step.effects.sends (turn_said s body t))
           (λ turn same. absurd (false≢true (sym off ∙ (ap (λ x. same_tx x tx) same ∙ same_tx-self tx))))
         where
-          kept : (b : Bool) → of_live tx (if b then front ++ back else front ++ (tx_in body, turn.step.state) ∷ back) ≡ of_live tx (front ++ back)
+          kept : (b : Bool)
+              → of_live tx (if b then front ++ back else front ++ (tx_in body, turn.step.state) ∷ back) ≡ of_live tx (front ++ back)
           kept true = refl
           kept false = live_between tx front (tx_in body, turn.step.state) back off
       go true same =
-          turned t about one (ap (of_live tx) was ∙ ap (λ k. of_live tx (front ++ (k, t) ∷ back)) one ∙ live_here tx front t back none)
+          turned t about one
+          (ap (of_live tx) was ∙ ap (λ k. of_live tx (front ++ (k, t) ∷ back)) one ∙ live_here tx front t back none)
           (subst (λ k. TurnMove s k t body turn) one move) (ap (of_live tx) live_are ∙ kept turn.over) sends_are
         where
           one : tx_in body ≡ tx
@@ -316,9 +359,12 @@ module _ (tx : TxId) (s : TcState) (body : Body) (once : tally (is_keyed tx) s.l
           none : tally (is_keyed tx) front ≡ 0
           none = omega (arith, once, counted, ap one_if same, tally_append (is_keyed tx) front back)
 
-          kept : (b : Bool) → of_live tx (if b then front ++ back else front ++ (tx_in body, turn.step.state) ∷ back) ≡ (if b then None else Some turn.step.state)
+          kept : (b : Bool)
+              → of_live tx (if b then front ++ back else front ++ (tx_in body, turn.step.state) ∷ back) ≡ (if b then None else Some turn.step.state)
           kept true = live_none tx (front ++ back) (omega (arith, once, counted, ap one_if same))
-          kept false = ap (λ k. of_live tx (front ++ (k, turn.step.state) ∷ back)) one ∙ live_here tx front turn.step.state back none
+          kept false =
+              ap (λ k. of_live tx (front ++ (k, turn.step.state) ∷ back)) one
+              ∙ live_here tx front turn.step.state back none
 
   pub tx_step : TxStep tx s body (tc_table s body)
   tx_step = tx_of (tc_table s body) (tc_step s body)
@@ -333,24 +379,30 @@ next_grows s body = go (tc_table s body) (tc_step s body)
     go step (misses about none is) = omega (arith, ap (λ (x : Step TcState). x.state.next_seq) is)
     go step (takes about t front back was is) = omega (arith, ap (λ (x : Step TcState). x.state.next_seq) is)
 
-pub live_early : (tx : TxId) (s : TcState) (t : Transaction) → of_live tx s.live ≡ Some t → Each (λ (e : TxId × Transaction). IsOwn s.node s.next_seq e.0) s.live → tx.seq < s.next_seq
+pub live_early : (tx : TxId) (s : TcState) (t : Transaction) → of_live tx s.live ≡ Some t
+    → Each (λ (e : TxId × Transaction). IsOwn s.node s.next_seq e.0) s.live → tx.seq < s.next_seq
 live_early tx s t there own = go s.live there own
   where
-    go : (live : List (TxId × Transaction)) → of_live tx live ≡ Some t → Each (λ (e : TxId × Transaction). IsOwn s.node s.next_seq e.0) live → tx.seq < s.next_seq
+    go : (live : List (TxId × Transaction)) → of_live tx live ≡ Some t
+        → Each (λ (e : TxId × Transaction). IsOwn s.node s.next_seq e.0) live → tx.seq < s.next_seq
     go [] there own = absurd cc
     go (e ∷ live) there own = by (same_tx e.0 tx) refl there (λ rest. go live rest own.1)
       where
-        by : (b : Bool) → same_tx e.0 tx ≡ b → (if b then Some e.1 else of_live tx live) ≡ Some t → (of_live tx live ≡ Some t → tx.seq < s.next_seq) → tx.seq < s.next_seq
+        by : (b : Bool) → same_tx e.0 tx ≡ b → (if b then Some e.1 else of_live tx live) ≡ Some t
+            → (of_live tx live ≡ Some t → tx.seq < s.next_seq) → tx.seq < s.next_seq
         by true is there rest = omega (arith, own.0.early, ap (λ (x : TxId). x.seq) (same_tx-is e.0 tx is))
         by false is there rest = rest there
 
-pub live_home : (tx : TxId) (s : TcState) (t : Transaction) → of_live tx s.live ≡ Some t → Each (λ (e : TxId × Transaction). IsOwn s.node s.next_seq e.0) s.live → tx.tc ≡ s.node
+pub live_home : (tx : TxId) (s : TcState) (t : Transaction) → of_live tx s.live ≡ Some t
+    → Each (λ (e : TxId × Transaction). IsOwn s.node s.next_seq e.0) s.live → tx.tc ≡ s.node
 live_home tx s t there own = go s.live there own
   where
-    go : (live : List (TxId × Transaction)) → of_live tx live ≡ Some t → Each (λ (e : TxId × Transaction). IsOwn s.node s.next_seq e.0) live → tx.tc ≡ s.node
+    go : (live : List (TxId × Transaction)) → of_live tx live ≡ Some t
+        → Each (λ (e : TxId × Transaction). IsOwn s.node s.next_seq e.0) live → tx.tc ≡ s.node
     go [] there own = absurd cc
     go (e ∷ live) there own = by (same_tx e.0 tx) refl there (λ rest. go live rest own.1)
       where
-        by : (b : Bool) → same_tx e.0 tx ≡ b → (if b then Some e.1 else of_live tx live) ≡ Some t → (of_live tx live ≡ Some t → tx.tc ≡ s.node) → tx.tc ≡ s.node
+        by : (b : Bool) → same_tx e.0 tx ≡ b → (if b then Some e.1 else of_live tx live) ≡ Some t
+            → (of_live tx live ≡ Some t → tx.tc ≡ s.node) → tx.tc ≡ s.node
         by true is there rest = sym (ap (λ (x : TxId). x.tc) (same_tx-is e.0 tx is)) ∙ own.0.home
         by false is there rest = rest there

@@ -58,7 +58,8 @@ turn_row s (Epoch (DiVerifyConf tx epoch)) t = commit.commit_row s.node s.layout
 turn_row s _ t = going (stay t)
 
 -- what holds of each form of turn that the transaction may take at the signal holds of the turn
-pub turn_at : (s : TcState) (tx : TxId) (body : Body) (t : Transaction) (R : Turn → Type 0) → tx_in body ≡ tx → TurnForms s.node s.layout tx t body R
+pub turn_at : (s : TcState) (tx : TxId) (body : Body) (t : Transaction) (R : Turn → Type 0) → tx_in body ≡ tx
+    → TurnForms s.node s.layout tx t body R
     → R (turn_row s body t)
 turn_at s tx body t R same forms = by body (rows_of s.node s.layout (tx_in body) t body R own) own.stays
   where
@@ -123,68 +124,98 @@ pub record IsAnswered (t : Transaction) (key : List ℕ) (asked : Asked) : Type 
 
 -- a transaction that is open, or verifying, is given up: w is what it is then, but for its phase
 pub data GivesUp (t : Transaction) (body : Body) (w : Transaction) : Type 0 where
-  asked_to : (t.phase ≡ Open) ⊎ (t.phase ≡ Verifying) → (tx : TxId) → body ≡ Client (TcRollbackReq tx) → w ≡ t → GivesUp t body w
-  refused : (tx : TxId) (key : List ℕ) (why : AbortCause) (asked : Asked) → t.phase ≡ Open → body ≡ Chain (LqhKeyRef tx key why) → IsAnswered t key asked → w ≡ asking t None → GivesUp t body w
+  asked_to : (t.phase ≡ Open) ⊎ (t.phase ≡ Verifying) → (tx : TxId) → body ≡ Client (TcRollbackReq tx) → w ≡ t
+      → GivesUp t body w
+  refused : (tx : TxId) (key : List ℕ) (why : AbortCause) (asked : Asked) → t.phase ≡ Open
+      → body ≡ Chain (LqhKeyRef tx key why) → IsAnswered t key asked → w ≡ asking t None → GivesUp t body w
 
 -- all its keys are committed
 pub data IsCommitted (t : Transaction) (body : Body) : Type 0 where
   at_once : (tx : TxId) (epoch : ℕ) → t.phase ≡ Verifying → body ≡ Epoch (DiVerifyConf tx epoch) → IsCommitted t body
-  at_last : (tx : TxId) (key : List ℕ) → is_committing t.phase ≡ true → body ≡ Chain (Committed tx key) → IsCommitted t body
+  at_last : (tx : TxId) (key : List ℕ) → is_committing t.phase ≡ true → body ≡ Chain (Committed tx key)
+      → IsCommitted t body
 
 -- What the signal makes of the transaction, and what is sent then: it stays as it is, and why; it goes on with a list; it asks
 -- for an operation, is answered, or is answered late; it asks for its epoch; it begins to abort, or ends at once; an abort
 -- goes on, or ends; its keys are committed, and completed, or that goes on or ends.
 pub data TurnMove (s : TcState) (tx : TxId) (t : Transaction) (body : Body) (turn : Turn) : Type 0 where
-  keeps : (sends : List Outgoing) → turn ≡ going (record { state = t; effects = sends_only sends }) → are_of is_wait_kind sends ≡ true → IsMissed t body → TurnMove s tx t body turn
+  keeps : (sends : List Outgoing) → turn ≡ going (record { state = t; effects = sends_only sends })
+      → are_of is_wait_kind sends ≡ true → IsMissed t body → TurnMove s tx t body turn
   goes_on : (at : ℕ) → body ≡ Host (Continue (work.Transaction tx) at) → at < 512
-      → turn ≡ going (record { state = t; effects = part_effects s.node tx (phase_sends s.layout tx t.phase t.touched) at }) → TurnMove s tx t body turn
-  asks : (op : Op) → body ≡ Client (TcKeyReq tx op) → t.phase ≡ Open → t.asked ≡ None → fits t.touched (key_of op) ≡ true → turn ≡ going (operate.operating tx t op (chain_of s.layout (key_of op))) → TurnMove s tx t body turn
-  answers : (key : List ℕ) (answer : Answer) (asked : Asked) → body ≡ Chain (LqhKeyConf tx key answer) → t.phase ≡ Open → IsAnswered t key asked
-      → turn ≡ going (sending (operate.answered t asked answer) client (Client (TcKeyConf tx answer))) → TurnMove s tx t body turn
-  late : (key : List ℕ) (asked : Asked) → is_row_answer body ≡ true → is_aborting t.phase ≡ true → IsAnswered t key asked → turn ≡ going (operate.late_answer s.layout tx t key) → TurnMove s tx t body turn
-  decides : body ≡ Client (TcCommitReq tx) → t.phase ≡ Open → t.asked ≡ None → turn ≡ going (sending (at_phase t Verifying) (epochs s.node) (Epoch (DiVerifyReq tx t.ops))) → TurnMove s tx t body turn
-  aborts : (w : Transaction) (why : AbortCause) → GivesUp t body w → 1 ≤ abort.aborts_awaited s.layout w → turn ≡ abort.abort_if s.node s.layout tx w why false → TurnMove s tx t body turn
-  gives_up : (w : Transaction) (why : AbortCause) → GivesUp t body w → turn ≡ abort.abort_if s.node s.layout tx w why true → abort.aborts_awaited s.layout w ≡ 0 → TurnMove s tx t body turn
-  aborted : (key : List ℕ) (why : AbortCause) (v : Bool) (k : ℕ) → body ≡ Chain (Aborted tx key) → t.phase ≡ Aborting why v k → 1 < k
+      → turn ≡ going (record { state = t; effects = part_effects s.node tx (phase_sends s.layout tx t.phase t.touched) at })
+      → TurnMove s tx t body turn
+  asks : (op : Op) → body ≡ Client (TcKeyReq tx op) → t.phase ≡ Open → t.asked ≡ None
+      → fits t.touched (key_of op) ≡ true → turn ≡ going (operate.operating tx t op (chain_of s.layout (key_of op)))
+      → TurnMove s tx t body turn
+  answers : (key : List ℕ) (answer : Answer) (asked : Asked) → body ≡ Chain (LqhKeyConf tx key answer) → t.phase ≡ Open
+      → IsAnswered t key asked
+      → turn ≡ going (sending (operate.answered t asked answer) client (Client (TcKeyConf tx answer)))
+      → TurnMove s tx t body turn
+  late : (key : List ℕ) (asked : Asked) → is_row_answer body ≡ true → is_aborting t.phase ≡ true
+      → IsAnswered t key asked → turn ≡ going (operate.late_answer s.layout tx t key) → TurnMove s tx t body turn
+  decides : body ≡ Client (TcCommitReq tx) → t.phase ≡ Open → t.asked ≡ None
+      → turn ≡ going (sending (at_phase t Verifying) (epochs s.node) (Epoch (DiVerifyReq tx t.ops)))
+      → TurnMove s tx t body turn
+  aborts : (w : Transaction) (why : AbortCause) → GivesUp t body w → 1 ≤ abort.aborts_awaited s.layout w
+      → turn ≡ abort.abort_if s.node s.layout tx w why false → TurnMove s tx t body turn
+  gives_up : (w : Transaction) (why : AbortCause) → GivesUp t body w
+      → turn ≡ abort.abort_if s.node s.layout tx w why true → abort.aborts_awaited s.layout w ≡ 0
+      → TurnMove s tx t body turn
+  aborted : (key : List ℕ) (why : AbortCause) (v : Bool) (k : ℕ) → body ≡ Chain (Aborted tx key)
+      → t.phase ≡ Aborting why v k → 1 < k
       → turn ≡ going (stay (at_phase t (Aborting why v (k - 1)))) → TurnMove s tx t body turn
-  abort_ends : (key : List ℕ) (why : AbortCause) (v : Bool) (k : ℕ) → body ≡ Chain (Aborted tx key) → t.phase ≡ Aborting why v k → k ≤ 1
+  abort_ends : (key : List ℕ) (why : AbortCause) (v : Bool) (k : ℕ) → body ≡ Chain (Aborted tx key)
+      → t.phase ≡ Aborting why v k → k ≤ 1
       → turn ≡ ending t (sends_only (abort.abort_end s.node tx why v)) → TurnMove s tx t body turn
-  commits : (epoch : ℕ) → body ≡ Epoch (DiVerifyConf tx epoch) → t.phase ≡ Verifying → turn ≡ going (entering s.node s.layout tx t (Committing epoch (length t.touched))) → TurnMove s tx t body turn
-  committed : (epoch k : ℕ) → t.phase ≡ Committing epoch k → turn ≡ going (stay (at_phase t (Committing epoch (k - 1)))) → TurnMove s tx t body turn
-  completes : (epoch : ℕ) → IsCommitted t body → turn ≡ going (entering s.node s.layout tx t (Completing epoch (complete.written_count t.touched))) → TurnMove s tx t body turn
-  ends : (epoch : ℕ) → IsCommitted t body → turn ≡ ending t (sends_only (reported tx epoch ∷ verify_end s.node tx ∷ [])) → TurnMove s tx t body turn
-  completed : (epoch k : ℕ) → t.phase ≡ Completing epoch k → turn ≡ going (stay (at_phase t (Completing epoch (k - 1)))) → TurnMove s tx t body turn
-  all_completed : (epoch k : ℕ) → t.phase ≡ Completing epoch k → turn ≡ ending t (sends_only (verify_end s.node tx ∷ [])) → TurnMove s tx t body turn
+  commits : (epoch : ℕ) → body ≡ Epoch (DiVerifyConf tx epoch) → t.phase ≡ Verifying
+      → turn ≡ going (entering s.node s.layout tx t (Committing epoch (length t.touched))) → TurnMove s tx t body turn
+  committed : (epoch k : ℕ) → t.phase ≡ Committing epoch k → turn ≡ going (stay (at_phase t (Committing epoch (k - 1))))
+      → TurnMove s tx t body turn
+  completes : (epoch : ℕ) → IsCommitted t body
+      → turn ≡ going (entering s.node s.layout tx t (Completing epoch (complete.written_count t.touched)))
+      → TurnMove s tx t body turn
+  ends : (epoch : ℕ) → IsCommitted t body → turn ≡ ending t (sends_only (reported tx epoch ∷ verify_end s.node tx ∷ []))
+      → TurnMove s tx t body turn
+  completed : (epoch k : ℕ) → t.phase ≡ Completing epoch k → turn ≡ going (stay (at_phase t (Completing epoch (k - 1))))
+      → TurnMove s tx t body turn
+  all_completed : (epoch k : ℕ) → t.phase ≡ Completing epoch k
+      → turn ≡ ending t (sends_only (verify_end s.node tx ∷ [])) → TurnMove s tx t body turn
 
 -- a turn that is over isn't one that isn't
 pub over_not : {A : Type 0} (turn other : Turn) → turn ≡ other → other.over ≡ true → turn.over ≡ false → A
 over_not turn other is o e = absurd (false≢true (sym e ∙ (ap (λ (x : Turn). x.over) is ∙ o)))
 
 -- a transaction that comes to a phase is in it
-pub entered_phase : (node : ℕ) (layout : Layout) (tx : TxId) (w : Transaction) (phase : Phase) → (entering node layout tx w phase).state.phase ≡ phase
+pub entered_phase : (node : ℕ) (layout : Layout) (tx : TxId) (w : Transaction) (phase : Phase)
+    → (entering node layout tx w phase).state.phase ≡ phase
 unfolding entering
 entered_phase node layout tx w phase = refl
 
-asked_is : (o : Option Asked) (key : List ℕ) (b : Asked) → operate.asked_on o key ≡ Some b → (o ≡ Some b) × (same_key (key_of b.op) key ≡ true)
+asked_is : (o : Option Asked) (key : List ℕ) (b : Asked) → operate.asked_on o key ≡ Some b
+    → (o ≡ Some b) × (same_key (key_of b.op) key ≡ true)
 asked_is None key b e = absurd cc
 asked_is (Some c) key b e = by (same_key (key_of c.op) key) refl e
   where
-    by : (x : Bool) → same_key (key_of c.op) key ≡ x → operate.asked_if c x ≡ Some b → (Some c ≡ Some b) × (same_key (key_of b.op) key ≡ true)
+    by : (x : Bool) → same_key (key_of c.op) key ≡ x → operate.asked_if c x ≡ Some b
+        → (Some c ≡ Some b) × (same_key (key_of b.op) key ≡ true)
     by true p q =
         let same : c ≡ b = cc in
         (q, ap (λ (a : Asked). same_key (key_of a.op) key) (sym same) ∙ p)
     by false p q = absurd cc
 
 module _ (s : TcState) (tx : TxId) (t : Transaction) where
-  go_on_move : (at : ℕ) → TurnMove s tx t (Host (Continue (work.Transaction tx) at)) (going (go_on_row s.node s.layout tx t at))
+  go_on_move : (at : ℕ)
+      → TurnMove s tx t (Host (Continue (work.Transaction tx) at)) (going (go_on_row s.node s.layout tx t at))
   unfolding go_on_row
   go_on_move at = go (nat_lt at 512) refl
     where
-      go : (b : Bool) → nat_lt at 512 ≡ b → TurnMove s tx t (Host (Continue (work.Transaction tx) at)) (going (go_on_if s.node s.layout tx t at b))
+      go : (b : Bool) → nat_lt at 512 ≡ b
+          → TurnMove s tx t (Host (Continue (work.Transaction tx) at)) (going (go_on_if s.node s.layout tx t at b))
       go true e = goes_on at refl (grind (arith, nat_tests, e)) refl
       go false e = keeps [] refl refl (grind (arith, nat_tests, e))
 
-  ready_is : (phase : Phase) (asked : Option Asked) → operate.is_ready phase asked ≡ true → (phase ≡ Open) × (asked ≡ None)
+  ready_is : (phase : Phase) (asked : Option Asked) → operate.is_ready phase asked ≡ true
+      → (phase ≡ Open) × (asked ≡ None)
   ready_is Open None e = (refl, refl)
   ready_is Open (Some asked) e = absurd cc
   ready_is Verifying asked e = absurd cc
@@ -204,7 +235,8 @@ module _ (s : TcState) (tx : TxId) (t : Transaction) where
   unfolding operate.operate_row
   operate_move op = go (operate.can_operate t op) refl
     where
-      go : (b : Bool) → operate.can_operate t op ≡ b → TurnMove s tx t (Client (TcKeyReq tx op)) (going (operate.operate_if s.layout tx t op b))
+      go : (b : Bool) → operate.can_operate t op ≡ b
+          → TurnMove s tx t (Client (TcKeyReq tx op)) (going (operate.operate_if s.layout tx t op b))
       go true e = let r = ready_is t.phase t.asked (first_is (operate.is_ready t.phase t.asked) _ e) in asks op refl r.0 r.1 (last_is (operate.is_ready t.phase t.asked) _ e) refl
       go false e = keeps [] refl refl e
 
@@ -212,15 +244,18 @@ module _ (s : TcState) (tx : TxId) (t : Transaction) where
   unfolding commit.verify_row
   decide_move = go (operate.is_ready t.phase t.asked) refl
     where
-      go : (b : Bool) → operate.is_ready t.phase t.asked ≡ b → TurnMove s tx t (Client (TcCommitReq tx)) (going (commit.verify_if s.node tx t b))
+      go : (b : Bool) → operate.is_ready t.phase t.asked ≡ b
+          → TurnMove s tx t (Client (TcCommitReq tx)) (going (commit.verify_if s.node tx t b))
       go true e = let r = ready_is t.phase t.asked e in decides refl r.0 r.1 refl
       go false e = keeps [] refl refl e
 
-  abort_move : (w : Transaction) (why : AbortCause) (body : Body) → GivesUp t body w → TurnMove s tx t body (abort.aborted_for s.node s.layout tx w why)
+  abort_move : (w : Transaction) (why : AbortCause) (body : Body) → GivesUp t body w
+      → TurnMove s tx t body (abort.aborted_for s.node s.layout tx w why)
   unfolding abort.aborted_for
   abort_move w why body gives = go (abort.aborts_awaited s.layout w == 0) refl
     where
-      go : (b : Bool) → (abort.aborts_awaited s.layout w == 0) ≡ b → TurnMove s tx t body (abort.abort_if s.node s.layout tx w why b)
+      go : (b : Bool) → (abort.aborts_awaited s.layout w == 0) ≡ b
+          → TurnMove s tx t body (abort.abort_if s.node s.layout tx w why b)
       go true e = gives_up w why gives refl (grind (arith, nat_tests, e))
       go false e = aborts w why gives (grind (arith, nat_tests, e)) refl
 
@@ -228,7 +263,8 @@ module _ (s : TcState) (tx : TxId) (t : Transaction) where
   unfolding abort.rollback_row
   rollback_move = by t.phase refl
     where
-      by : (phase : Phase) → t.phase ≡ phase → TurnMove s tx t (Client (TcRollbackReq tx)) (abort.rollback_by s.node s.layout tx t phase)
+      by : (phase : Phase) → t.phase ≡ phase
+          → TurnMove s tx t (Client (TcRollbackReq tx)) (abort.rollback_by s.node s.layout tx t phase)
       by Open p = abort_move t cause.Request _ (asked_to (inl p) tx refl refl)
       by Verifying p = abort_move t cause.Request _ (asked_to (inr p) tx refl refl)
       by (Committing epoch awaited) p = keeps [] refl refl tt
@@ -241,13 +277,16 @@ module _ (s : TcState) (tx : TxId) (t : Transaction) where
     where
       go : (asked : Option Asked) → TurnMove s tx t (Client (TcWaitReq tx)) (going (operate.wait_by tx t asked))
       go None = keeps [] refl refl tt
-      go (Some asked) = keeps (waits_of tx (key_of asked.op) asked.chain) refl (of_map is_wait_kind _ asked.chain (λ m. refl)) tt
+      go (Some asked) =
+          keeps (waits_of tx (key_of asked.op) asked.chain) refl (of_map is_wait_kind _ asked.chain (λ m. refl)) tt
 
-  answer_move : (key : List ℕ) (answer : Answer) → TurnMove s tx t (Chain (LqhKeyConf tx key answer)) (going (operate.answer_row s.layout tx t key answer))
+  answer_move : (key : List ℕ) (answer : Answer)
+      → TurnMove s tx t (Chain (LqhKeyConf tx key answer)) (going (operate.answer_row s.layout tx t key answer))
   unfolding operate.answer_row
   answer_move key answer = by (operate.asked_on t.asked key) t.phase refl refl
     where
-      by : (o : Option Asked) (phase : Phase) → operate.asked_on t.asked key ≡ o → t.phase ≡ phase → TurnMove s tx t (Chain (LqhKeyConf tx key answer)) (going (operate.answer_by s.layout tx t key answer o phase))
+      by : (o : Option Asked) (phase : Phase) → operate.asked_on t.asked key ≡ o → t.phase ≡ phase
+          → TurnMove s tx t (Chain (LqhKeyConf tx key answer)) (going (operate.answer_by s.layout tx t key answer o phase))
       by (Some b) Open on p = let r = asked_is t.asked key b on in answers key answer b refl p (record { is = r.0; on = r.1 }) refl
       by (Some b) (Aborting why verifying awaited) on p = let r = asked_is t.asked key b on in late key b refl (ap is_aborting p) (record { is = r.0; on = r.1 }) refl
       by (Some b) Verifying on p = keeps [] refl refl (inr (ap may_ask p))
@@ -255,11 +294,13 @@ module _ (s : TcState) (tx : TxId) (t : Transaction) where
       by (Some b) (Completing epoch awaited) on p = keeps [] refl refl (inr (ap may_ask p))
       by None phase on p = keeps [] refl refl (inl on)
 
-  refuse_move : (key : List ℕ) (why : AbortCause) → TurnMove s tx t (Chain (LqhKeyRef tx key why)) (abort.refuse_row s.node s.layout tx t key why)
+  refuse_move : (key : List ℕ) (why : AbortCause)
+      → TurnMove s tx t (Chain (LqhKeyRef tx key why)) (abort.refuse_row s.node s.layout tx t key why)
   unfolding abort.refuse_row
   refuse_move key why = by (operate.asked_on t.asked key) t.phase refl refl
     where
-      by : (o : Option Asked) (phase : Phase) → operate.asked_on t.asked key ≡ o → t.phase ≡ phase → TurnMove s tx t (Chain (LqhKeyRef tx key why)) (abort.refuse_by s.node s.layout tx t key why o phase)
+      by : (o : Option Asked) (phase : Phase) → operate.asked_on t.asked key ≡ o → t.phase ≡ phase
+          → TurnMove s tx t (Chain (LqhKeyRef tx key why)) (abort.refuse_by s.node s.layout tx t key why o phase)
       by (Some b) Open on p = let r = asked_is t.asked key b on in abort_move (asking t None) why _ (refused tx key why b p refl (record { is = r.0; on = r.1 }) refl)
       by (Some b) (Aborting other verifying awaited) on p = let r = asked_is t.asked key b on in late key b refl (ap is_aborting p) (record { is = r.0; on = r.1 }) refl
       by (Some b) Verifying on p = keeps [] refl refl (inr (ap may_ask p))
@@ -267,7 +308,8 @@ module _ (s : TcState) (tx : TxId) (t : Transaction) where
       by (Some b) (Completing epoch awaited) on p = keeps [] refl refl (inr (ap may_ask p))
       by None phase on p = keeps [] refl refl (inl on)
 
-  all_committed_move : (epoch : ℕ) (body : Body) → IsCommitted t body → TurnMove s tx t body (complete.all_committed s.node s.layout tx t epoch)
+  all_committed_move : (epoch : ℕ) (body : Body) → IsCommitted t body
+      → TurnMove s tx t body (complete.all_committed s.node s.layout tx t epoch)
   unfolding complete.all_committed
   all_committed_move epoch body is = go (complete.written_count t.touched == 0)
     where
@@ -275,30 +317,36 @@ module _ (s : TcState) (tx : TxId) (t : Transaction) where
       go true = ends epoch is refl
       go false = completes epoch is refl
 
-  commit_move : (epoch : ℕ) → TurnMove s tx t (Epoch (DiVerifyConf tx epoch)) (commit.commit_row s.node s.layout tx t epoch)
+  commit_move : (epoch : ℕ)
+      → TurnMove s tx t (Epoch (DiVerifyConf tx epoch)) (commit.commit_row s.node s.layout tx t epoch)
   unfolding commit.commit_row
   commit_move epoch = by t.phase refl
     where
-      which : t.phase ≡ Verifying → (b : Bool) → TurnMove s tx t (Epoch (DiVerifyConf tx epoch)) (commit.commit_if s.node s.layout tx t epoch b)
+      which : t.phase ≡ Verifying → (b : Bool)
+          → TurnMove s tx t (Epoch (DiVerifyConf tx epoch)) (commit.commit_if s.node s.layout tx t epoch b)
       which p true = all_committed_move epoch _ (at_once tx epoch p refl)
       which p false = commits epoch refl p refl
 
-      by : (phase : Phase) → t.phase ≡ phase → TurnMove s tx t (Epoch (DiVerifyConf tx epoch)) (commit.commit_by s.node s.layout tx t epoch phase)
+      by : (phase : Phase) → t.phase ≡ phase
+          → TurnMove s tx t (Epoch (DiVerifyConf tx epoch)) (commit.commit_by s.node s.layout tx t epoch phase)
       by Verifying p = which p (length t.touched == 0)
       by Open p = keeps [] refl refl (ap abort.is_verifying p)
       by (Committing other awaited) p = keeps [] refl refl (ap abort.is_verifying p)
       by (Completing other awaited) p = keeps [] refl refl (ap abort.is_verifying p)
       by (Aborting why verifying awaited) p = keeps [] refl refl (ap abort.is_verifying p)
 
-  committed_move : (key : List ℕ) → TurnMove s tx t (Chain (Committed tx key)) (commit.committed_row s.node s.layout tx t)
+  committed_move : (key : List ℕ)
+      → TurnMove s tx t (Chain (Committed tx key)) (commit.committed_row s.node s.layout tx t)
   unfolding commit.committed_row
   committed_move key = by t.phase refl
     where
-      which : (epoch k : ℕ) → t.phase ≡ Committing epoch k → (b : Bool) → TurnMove s tx t (Chain (Committed tx key)) (commit.committed_if s.node s.layout tx t epoch k b)
+      which : (epoch k : ℕ) → t.phase ≡ Committing epoch k → (b : Bool)
+          → TurnMove s tx t (Chain (Committed tx key)) (commit.committed_if s.node s.layout tx t epoch k b)
       which epoch k p true = committed epoch k p refl
       which epoch k p false = all_committed_move epoch _ (at_last tx key (ap is_committing p) refl)
 
-      by : (phase : Phase) → t.phase ≡ phase → TurnMove s tx t (Chain (Committed tx key)) (commit.committed_by s.node s.layout tx t phase)
+      by : (phase : Phase) → t.phase ≡ phase
+          → TurnMove s tx t (Chain (Committed tx key)) (commit.committed_by s.node s.layout tx t phase)
       by (Committing epoch k) p = which epoch k p (nat_lt 1 k)
       by Open p = keeps [] refl refl tt
       by Verifying p = keeps [] refl refl tt
@@ -309,11 +357,13 @@ module _ (s : TcState) (tx : TxId) (t : Transaction) where
   unfolding complete.completed_row
   completed_move key = by t.phase refl
     where
-      which : (epoch k : ℕ) → t.phase ≡ Completing epoch k → (b : Bool) → TurnMove s tx t (Chain (Completed tx key)) (complete.completed_if s.node tx t epoch k b)
+      which : (epoch k : ℕ) → t.phase ≡ Completing epoch k → (b : Bool)
+          → TurnMove s tx t (Chain (Completed tx key)) (complete.completed_if s.node tx t epoch k b)
       which epoch k p true = completed epoch k p refl
       which epoch k p false = all_completed epoch k p refl
 
-      by : (phase : Phase) → t.phase ≡ phase → TurnMove s tx t (Chain (Completed tx key)) (complete.completed_by s.node tx t phase)
+      by : (phase : Phase) → t.phase ≡ phase
+          → TurnMove s tx t (Chain (Completed tx key)) (complete.completed_by s.node tx t phase)
       by (Completing epoch k) p = which epoch k p (nat_lt 1 k)
       by Open p = keeps [] refl refl tt
       by Verifying p = keeps [] refl refl tt
@@ -324,11 +374,13 @@ module _ (s : TcState) (tx : TxId) (t : Transaction) where
   unfolding abort.aborted_row
   aborted_move key = by t.phase refl
     where
-      which : (why : AbortCause) (v : Bool) (k : ℕ) → t.phase ≡ Aborting why v k → (b : Bool) → nat_lt 1 k ≡ b → TurnMove s tx t (Chain (Aborted tx key)) (abort.aborted_if s.node tx t why v k b)
+      which : (why : AbortCause) (v : Bool) (k : ℕ) → t.phase ≡ Aborting why v k → (b : Bool) → nat_lt 1 k ≡ b
+          → TurnMove s tx t (Chain (Aborted tx key)) (abort.aborted_if s.node tx t why v k b)
       which why v k p true e = aborted key why v k refl p (grind (arith, nat_tests, e)) refl
       which why v k p false e = abort_ends key why v k refl p (grind (arith, nat_tests, e)) refl
 
-      by : (phase : Phase) → t.phase ≡ phase → TurnMove s tx t (Chain (Aborted tx key)) (abort.aborted_by s.node tx t phase)
+      by : (phase : Phase) → t.phase ≡ phase
+          → TurnMove s tx t (Chain (Aborted tx key)) (abort.aborted_by s.node tx t phase)
       by (Aborting why v k) p = which why v k p (nat_lt 1 k) refl
       by Open p = keeps [] refl refl (ap is_aborting p)
       by Verifying p = keeps [] refl refl (ap is_aborting p)
@@ -336,7 +388,8 @@ module _ (s : TcState) (tx : TxId) (t : Transaction) where
       by (Completing epoch k) p = keeps [] refl refl (ap is_aborting p)
 
 -- every turn is such a move
-pub turn_moves : (s : TcState) (body : Body) (t : Transaction) → is_turn body ≡ true → TurnMove s (tx_in body) t body (turn_row s body t)
+pub turn_moves : (s : TcState) (body : Body) (t : Transaction) → is_turn body ≡ true
+    → TurnMove s (tx_in body) t body (turn_row s body t)
 turn_moves s (Host (Continue (work.Transaction tx) at)) t is = go_on_move s tx t at
 turn_moves s (Client (TcKeyReq tx op)) t is = operate_move s tx t op
 turn_moves s (Client (TcCommitReq tx)) t is = decide_move s tx t
