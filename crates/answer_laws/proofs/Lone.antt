@@ -6,7 +6,7 @@ use Rattle.std.specs.Cmp.Lexicographic.{slice_cmp}
 use Rattle.std.specs.FinMap as finite
 use Rattle.std.specs.Ordering.{nat_cmp}
 use Rattle.frag_map.specs.Layout.{Layout}
-use Rattle.lqh_block.specs.Work.{work_key}
+use Rattle.sig_core.specs.Work.{work_key}
 use Rattle.node_core.proofs.HostCases.{IsRowsStep, keeps_rows}
 use Rattle.node_core.specs.Blocks.{lqh_of, tc_of}
 use Rattle.node_core.specs.declared.host.Host.{Host}

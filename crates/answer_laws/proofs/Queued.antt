@@ -5,7 +5,7 @@ use Rattle.std.proofs.lemmas.Bool.{cases_eq, eq-eqb, eqb-true, false≢true}
 use Rattle.lqh_block.specs.declared.request.Request.{Request}
 use Rattle.lqh_block.specs.Lqh.{lqh_table}
 use Rattle.lqh_block.specs.State.{LqhState}
-use Rattle.lqh_block.specs.Work.{work_key}
+use Rattle.sig_core.specs.Work.{work_key}
 use Rattle.node_core.proofs.HostCases.{IsRowsStep, keeps_rows}
 use Rattle.node_core.specs.Blocks.{lqh_of}
 use Rattle.node_core.specs.Fresh.{fresh_part}

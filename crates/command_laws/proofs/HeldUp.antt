@@ -18,7 +18,7 @@ use Rattle.row_locks.specs.Tables.{ahead_at}
 use Rattle.api_block.specs.declared.opened.Doing.TheVariants.{Operating}
 use Rattle.api_block.specs.declared.opened.OpenTransaction.{OpenTransaction}
 use Rattle.lqh_block.specs.declared.request.Request.{Request}
-use Rattle.lqh_block.specs.Work.{work_key}
+use Rattle.sig_core.specs.Work.{work_key}
 use Rattle.node_core.specs.Blocks.{lqh_of, tc_of}
 use Rattle.node_core.specs.declared.host.Host.{Host}
 use Rattle.tc_block.specs.declared.phase.Asked.{Asked}

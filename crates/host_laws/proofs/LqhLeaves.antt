@@ -31,7 +31,8 @@ use Rattle.lqh_block.specs.Expire as expire
 use Rattle.lqh_block.specs.Lqh.{lqh_table}
 use Rattle.lqh_block.specs.State.{LqhState, freed_lock, go_on_if, serve_granted, with_lock, with_waiting}
 use Rattle.lqh_block.specs.Wait as wait
-use Rattle.lqh_block.specs.Work.{is_for, work_key}
+use Rattle.sig_core.specs.Work.{work_key}
+use Rattle.lqh_block.specs.Work.{is_for}
 use Rattle.key_laws.proofs.LocksAt.{lock-aged, lock-kept}
 use Rattle.host_laws.proofs.Focus.{IsFocus, absent, found}
 use Rattle.host_laws.proofs.LqhOps.{left_of, right_of, true_and}

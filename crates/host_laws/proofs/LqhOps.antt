@@ -44,7 +44,8 @@ use Rattle.lqh_block.specs.State.{LqhState, freed_lock, serve_granted, storage_o
 use Rattle.lqh_block.specs.Storage as storage
 use Rattle.lqh_block.specs.Storage.{StorageState}
 use Rattle.lqh_block.specs.Wait as wait
-use Rattle.lqh_block.specs.Work.{is_for, work_key}
+use Rattle.sig_core.specs.Work.{work_key}
+use Rattle.lqh_block.specs.Work.{is_for}
 use Rattle.host_laws.proofs.Focus.{IsFocus, found}
 use Rattle.host_laws.proofs.Tally.{tally_append, tally_between}
 use Rattle.host_laws.specs.Counts.{one_if, tally}

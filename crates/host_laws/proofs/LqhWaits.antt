@@ -33,7 +33,8 @@ use Rattle.lqh_block.specs.Operate as operate
 use Rattle.lqh_block.specs.State.{LqhState, go_on_if, storage_of, with_waiting}
 use Rattle.lqh_block.specs.Storage as storage
 use Rattle.lqh_block.specs.Storage.{StorageState}
-use Rattle.lqh_block.specs.Work.{is_for, work_key, work_mode}
+use Rattle.sig_core.specs.Work.{work_key}
+use Rattle.lqh_block.specs.Work.{is_for, work_mode}
 use Rattle.key_laws.proofs.LocksAt.{lock-inserted}
 use Rattle.host_laws.proofs.Focus.{IsFocus, absent, found}
 use Rattle.host_laws.proofs.LqhOps.{is_lqh, left_of, right_of, true_and}

@@ -41,7 +41,8 @@ use Rattle.lqh_block.specs.Lqh.{unasked_yet}
 use Rattle.lqh_block.specs.Operate as operate
 use Rattle.lqh_block.specs.State.{LqhState, storage_of, unlocked}
 use Rattle.lqh_block.specs.Wait as wait
-use Rattle.lqh_block.specs.Work.{work_key, work_mode}
+use Rattle.sig_core.specs.Work.{work_key}
+use Rattle.lqh_block.specs.Work.{work_mode}
 use Rattle.node_core.specs.Committed as committed
 use Rattle.node_core.specs.declared.host.Host as host
 use Rattle.node_core.specs.declared.host.Host.TheVariants.{Shell, Main, Tc, Ldm}

@@ -13,7 +13,8 @@ use Rattle.lqh_block.proofs.IndexLemmas.{same}
 use Rattle.lqh_block.specs.declared.request.Request.{Request}
 use Rattle.lqh_block.specs.Operate as operate
 use Rattle.lqh_block.specs.State.{LqhState, storage_of, with_waiting}
-use Rattle.lqh_block.specs.Work.{work_key, work_mode}
+use Rattle.sig_core.specs.Work.{work_key}
+use Rattle.lqh_block.specs.Work.{work_mode}
 use Rattle.sig_core.specs.Firsts.{drop_first, first}
 use Rattle.key_laws.specs.Replica.{Event, Replica, asked_by, asks, asks_for, at_key, cell_at, if_on, is_let_in, is_refused, key_after, rests, served_by, serves, serves_if, worked}
 use Rattle.key_laws.proofs.PerformedAt.{cell-performed}

@@ -19,7 +19,8 @@ use Rattle.lqh_block.specs.Complete as complete
 use Rattle.lqh_block.specs.Expire as expire
 use Rattle.lqh_block.specs.State.{LqhState, unlocked, with_lock, with_waiting}
 use Rattle.lqh_block.specs.Storage as storage
-use Rattle.lqh_block.specs.Work.{is_for, work_key}
+use Rattle.sig_core.specs.Work.{work_key}
+use Rattle.lqh_block.specs.Work.{is_for}
 use Rattle.sig_core.specs.Firsts.{drop_first}
 use Rattle.key_laws.specs.Placed.{IsPlaced}
 use Rattle.key_laws.specs.Replica.{aborting, ageing, aborts, ages, asks_for, at_key, cell_at, committing, commits, completes, completing, expired_by, expires, expires_if, if_on, is_by, key_after, rests}

@@ -17,7 +17,7 @@ use Rattle.lqh_block.proofs.IndexLemmas.{same}
 use Rattle.lqh_block.specs.declared.request.Request.{Request}
 use Rattle.lqh_block.specs.Storage as storage
 use Rattle.lqh_block.specs.Storage.{StorageState}
-use Rattle.lqh_block.specs.Work.{work_key}
+use Rattle.sig_core.specs.Work.{work_key}
 use Rattle.key_laws.specs.Placed.{IsPlaced}
 use Rattle.key_laws.specs.Records.{found, seen_by}
 use Rattle.key_laws.specs.Replica.{cell_at, is_refused, operated, storing, worked}

@@ -26,7 +26,8 @@ use Rattle.lqh_block.specs.Expire.{aged}
 use Rattle.lqh_block.specs.Operate.{is_granted}
 use Rattle.lqh_block.specs.State.{LqhState, storage_of}
 use Rattle.lqh_block.specs.Storage.{StorageState, is_log_full, need_of}
-use Rattle.lqh_block.specs.Work.{work_image, work_key, work_mode}
+use Rattle.sig_core.specs.Work.{work_image, work_key}
+use Rattle.lqh_block.specs.Work.{work_mode}
 use Rattle.sig_core.specs.Firsts.{drop_first, first}
 use Rattle.key_laws.specs.Records.{as_committed, committed_row, edited, found, if_committed, seen_by, stored, unless_committed}
 

@@ -42,7 +42,7 @@ use Rattle.lqh_block.specs.State.{LqhState, freed_lock, go_on, go_on_if, serve_g
 use Rattle.lqh_block.specs.Storage as storage
 use Rattle.lqh_block.specs.Storage.{StorageState}
 use Rattle.lqh_block.specs.Wait as wait
-use Rattle.lqh_block.specs.Work.{work_key}
+use Rattle.sig_core.specs.Work.{work_key}
 
 -- what is sent of a request that is performed: it is refused or answered, or its image goes to the next place of its chain
 pub record RequestSends (P : Outgoing → Type 0) (r : Request) : Type 0 where

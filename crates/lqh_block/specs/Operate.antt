@@ -11,7 +11,8 @@ use Rattle.row_locks.specs.Tables.{Locks, ahead_at, asked_at}
 use Rattle.lqh_block.specs.declared.request.Request.{Request}
 use Rattle.lqh_block.specs.State.{LqhState, go_on_if, in_storage, storage_of, with_locks, with_waiting}
 use Rattle.lqh_block.specs.Storage.{perform}
-use Rattle.lqh_block.specs.Work.{work_key, work_mode}
+use Rattle.sig_core.specs.Work.{work_key}
+use Rattle.lqh_block.specs.Work.{work_mode}
 
 -- the request is performed
 abbrev pub performed : LqhState → Request → Step LqhState

@@ -1,12 +1,12 @@
 -- What a replica is asked to prepare.
-use Rattle.std.specs.Prelude.{ℕ, ◌&&◌, Bool, List, Option}
+use Rattle.std.specs.Prelude.{ℕ, ◌&&◌, Bool, List}
 use Rattle.sig_core.specs.declared.member.TxId.{TxId}
 use Rattle.sig_core.specs.declared.op.Op.{Op}
 use Rattle.sig_core.specs.declared.op.Op.TheVariants.{Get}
 use Rattle.sig_core.specs.declared.signal.chain.RowWork.{RowWork}
 use Rattle.sig_core.specs.declared.signal.chain.RowWork.TheVariants.{Operate, Store}
-use Rattle.sig_core.specs.Op.{image_of, key_of}
 use Rattle.sig_core.specs.Same.{same_key, same_tx}
+use Rattle.sig_core.specs.Work.{work_key}
 use Rattle.row_locks.specs.declared.mode.Mode.{Mode}
 use Rattle.row_locks.specs.declared.mode.Mode.TheVariants.{Shared, Exclusive}
 use Rattle.lqh_block.specs.declared.request.Request.{Request}

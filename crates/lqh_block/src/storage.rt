@@ -1,18 +1,20 @@
 //! The rows of a node and its journal: what is prepared, committed and given up.
-ghost use Rattle.std.specs.Prelude.{◌≡◌, ◌+◌, ◌<◌, ◌≤◌, OnOk, Some, false, length};
+ghost use Rattle.std.specs.Prelude.{◌≡◌, ◌+◌, ◌<◌, ◌≤◌, ℕ, List, OnOk, Option, Some, false, length};
+ghost use Rattle.sig_core.specs.declared.signal.chain.RowWork.TheVariants.{Store};
 ghost use Rattle.sig_core.specs.Journal.{appending};
 ghost use Rattle.sig_core.specs.Rows.{complete_record, record_state};
 ghost use Rattle.lqh_block.specs.Due.{IsCovered};
 ghost use Rattle.lqh_block.specs.Ready.{IsReady};
 ghost use Rattle.sig_core.specs.Step.{HasRoom, IsTaken, and_send};
 ghost use Rattle.lqh_block.specs.Storage.{aborted_in, committed_in, confirmed, end_size, kept_once, need_of, passed_on, perform, prepare_size, refusal, storage, store_row};
-ghost use Rattle.lqh_block.specs.Work.{work_image, work_key};
+ghost use Rattle.sig_core.specs.Work.{work_image, work_key};
 
 use crate::ready::Ready;
 use crate::request::Request;
 use sig_core::{
     AbortCause, Answer, Body, ChainSignal, HeldAnswer, HeldWork, Journal, JournalFault, Key, Mark,
-    Members, NoMemory, Outs, Redo, Rows, RowsFault, TxId, Value, coordinator_of, rows_of,
+    Members, NoMemory, Outs, Redo, Rows, RowsFault, TxId, Value, commit_size, coordinator_of,
+    prepare_size, rows_of,
 };
 
 /// The rows of a node, and its journal, which keeps as many bytes free as the ends of all prepared
@@ -91,7 +93,7 @@ impl<R: Rows, J: Journal> Storage<R, J> {
         requires rows { R.has_room self.old.rows key.now }
         requires journal { J.has_room self.old.journal (need_of tx key.now image.now) }
         ensures few { length out.new.sends ≤ length out.old.sends + 1 }
-        ensures taken { IsTaken (store_row (storage (R.state_of self.old.rows) (J.used_of self.old.journal)) tx key.now image chain.now at) (storage (R.state_of self.new.rows) (J.used_of self.new.journal)) out.old out.new }
+        ensures taken { IsTaken (store_row (storage (R.state_of self.old.rows) (J.used_of self.old.journal)) tx key.now image.now chain.now at) (storage (R.state_of self.new.rows) (J.used_of self.new.journal)) out.old out.new }
     {
         let had = self.rows.record_state(tx, key);
         let need = need_of(tx, key, image);
@@ -194,6 +196,7 @@ fn journal_image<J: Journal>(
 }
 
 // The bytes that a journal needs for an image.
+#[tactic(auto, unfolding(sig_core::specs::Redo::size_of))]
 fn need_of(tx: TxId, key: &Key, image: &Option<Value>) -> u64
     ensures need { result ≡ need_of tx key.now image.now }
     ensures most { result ≤ 504 }
@@ -202,6 +205,7 @@ fn need_of(tx: TxId, key: &Key, image: &Option<Value>) -> u64
 }
 
 // The bytes that are kept free for the end of a prepared image.
+#[tactic(auto, unfolding(sig_core::specs::Redo::size_of))]
 fn end_size(tx: TxId, key: &Key) -> u64
     ensures size { result ≡ end_size tx key.now }
     ensures most { result ≤ 252 }
@@ -236,9 +240,9 @@ fn confirm(tx: TxId, key: &Key, answer: HeldAnswer, out: &mut Outs)
 }
 
 // Sends a prepared image to the next place of its chain, or answers the write.
-fn pass_on(tx: TxId, key: &Key, image: Held<Option<Value>>, chain: &Members, at: u8, out: &mut Outs)
+fn pass_on(tx: TxId, key: &Key, onward: HeldWork, chain: &Members, at: u8, out: &mut Outs)
     requires { length out.old.sends < 16 }
-    ensures { out.new ≡ and_send out.old (passed_on tx key.now image chain.now at).to (passed_on tx key.now image chain.now at).body }
+    ensures { (image : Option (List ℕ)) → onward ≡ Store key.now image → out.new ≡ and_send out.old (passed_on tx key.now image chain.now at).to (passed_on tx key.now image chain.now at).body }
 {
     match chain.as_slice().get(at as usize + 1).copied() {
         Some(next) => {

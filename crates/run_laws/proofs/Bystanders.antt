@@ -13,7 +13,7 @@ use Rattle.sig_core.specs.Same.{same_key, same_tx}
 use Rattle.sig_core.specs.Step.{Effects, Step}
 use Rattle.sig_core.proofs.TxLemmas.{same_tx-is}
 use Rattle.lqh_block.specs.declared.request.Request.{Request}
-use Rattle.lqh_block.specs.Work.{work_key}
+use Rattle.sig_core.specs.Work.{work_key}
 use Rattle.node_core.specs.declared.host.Host.{Host}
 use Rattle.node_core.specs.Blocks.{tc_of}
 use Rattle.tc_block.specs.State.{TcState}

@@ -19,7 +19,7 @@ use Rattle.sig_core.proofs.TxLemmas.{same_tx-is}
 use Rattle.lqh_block.proofs.IndexLemmas as index
 use Rattle.lqh_block.specs.declared.request.Request.{Request}
 use Rattle.lqh_block.specs.State.{LqhState, storage_of}
-use Rattle.lqh_block.specs.Work.{work_key}
+use Rattle.sig_core.specs.Work.{work_key}
 use Rattle.node_core.proofs.HostCases.{BlockCase, IsRowsStep, IsTcStep, api_takes, block_case, dih_takes, none_takes, rows_take, runs, tc_takes}
 use Rattle.node_core.specs.declared.host.Host.{Host}
 use Rattle.node_core.specs.Blocks.{api_of, dih_of, lqh_of, tc_of}

@@ -39,7 +39,8 @@ use Rattle.lqh_block.specs.State.{LqhState, freed_lock, go_on_if, serve_granted,
 use Rattle.lqh_block.specs.Storage as storage
 use Rattle.lqh_block.specs.Storage.{StorageState}
 use Rattle.lqh_block.specs.Wait as wait
-use Rattle.lqh_block.specs.Work.{work_key, work_mode}
+use Rattle.sig_core.specs.Work.{work_key}
+use Rattle.lqh_block.specs.Work.{work_mode}
 use Rattle.sig_core.specs.Firsts.{first}
 use Rattle.key_laws.specs.Records.{found, seen_by}
 use Rattle.key_laws.specs.Replica.{Event, Replica, aborts, ages, asks, at_key, cell_at, commits, completes, event_at, expired_by, expires, expires_if, if_on, is_refused, rests, serves, serves_if}

@@ -23,7 +23,8 @@ use Rattle.row_locks.specs.declared.mode.Lock.{Lock}
 use Rattle.row_locks.specs.declared.mode.Lock.TheVariants.{Granted, Queued}
 use Rattle.row_locks.specs.Rows.{asked}
 use Rattle.lqh_block.specs.declared.request.Request.{Request}
-use Rattle.lqh_block.specs.Work.{work_key, work_mode}
+use Rattle.sig_core.specs.Work.{work_key}
+use Rattle.lqh_block.specs.Work.{work_mode}
 use Rattle.sig_core.specs.Firsts.{first}
 use Rattle.key_laws.specs.Records.{found, seen_by}
 use Rattle.key_laws.specs.Replica.{Cell, Event, Replica, ages, asks, expires, is_let_in, serves}

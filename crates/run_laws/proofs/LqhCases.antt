@@ -17,7 +17,7 @@ use Rattle.lqh_block.specs.declared.request.Request.{Request}
 use Rattle.lqh_block.specs.Expire.{aged}
 use Rattle.lqh_block.specs.Operate.{is_granted}
 use Rattle.lqh_block.specs.State.{LqhState, storage_of}
-use Rattle.lqh_block.specs.Work.{work_key}
+use Rattle.sig_core.specs.Work.{work_key}
 use Rattle.sig_core.specs.Firsts.{first}
 use Rattle.key_laws.specs.Replica.{Event, Replica, aborts, ages, asks, at_key, commits, completes, event_at, expired_by, expires, expires_if, if_on, is_let_in, is_refused, rests, serves, serves_if}
 use Rattle.run_laws.proofs.KeyTokens.{performs, token_of}

@@ -42,7 +42,8 @@ use Rattle.lqh_block.specs.State.{LqhState, freed_lock, go_on_if, serve_granted,
 use Rattle.lqh_block.specs.Storage as storage
 use Rattle.lqh_block.specs.Storage.{StorageState}
 use Rattle.lqh_block.specs.Wait as wait
-use Rattle.lqh_block.specs.Work.{is_for, work_key}
+use Rattle.sig_core.specs.Work.{work_key}
+use Rattle.lqh_block.specs.Work.{is_for}
 use Rattle.host_laws.proofs.Focus.{IsFocus, found, none_placed}
 use Rattle.host_laws.proofs.Tally.{tally_append, tally_between}
 use Rattle.host_laws.specs.Counts.{one_if, tally}

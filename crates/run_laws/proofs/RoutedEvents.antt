@@ -6,7 +6,7 @@ use Rattle.sig_core.specs.declared.signal.chain.RowWork.{RowWork}
 use Rattle.sig_core.specs.declared.signal.chain.RowWork.TheVariants.{Operate, Store}
 use Rattle.sig_core.specs.Chain.{node_at, primary_of}
 use Rattle.frag_map.specs.Shape.{IsShape}
-use Rattle.lqh_block.specs.Work.{work_key}
+use Rattle.sig_core.specs.Work.{work_key}
 use Rattle.node_core.specs.Blocks.{has_lqh}
 use Rattle.world_core.proofs.HostNumbers.{rows_run}
 use Rattle.world_core.specs.Hosts.{rows_host}

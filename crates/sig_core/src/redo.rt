@@ -1,8 +1,6 @@
 //! Redo records: what a journal keeps of a transaction's writes.
-ghost use Rattle.std.specs.Prelude.{◌≡◌, ◌≤◌, ℕ};
-ghost use Rattle.sig_core.specs.declared.member.TxId.{TxId};
-ghost use Rattle.sig_core.specs.declared.redo.Redo.TheVariants as redo;
-ghost use Rattle.sig_core.specs.Redo.{image_size, size_of};
+ghost use Rattle.std.specs.Prelude.{◌≡◌, ◌≤◌};
+ghost use Rattle.sig_core.specs.Redo.{commit_bytes, image_size, prepare_bytes, size_of};
 
 use crate::key::Key;
 use crate::member::TxId;
@@ -60,18 +58,16 @@ impl Redo {
 }
 
 /// The bytes of a `Prepare` of this key and image.
-#[tactic(auto, unfolding(crate::specs::Redo::size_of))]
 pub fn prepare_size(key: &Key, image: &Option<Value>) -> u64
-    ensures size { (tx : TxId) (fragment : ℕ) → result ≡ size_of (redo.Prepare tx fragment key.now image.now) }
+    ensures size { result ≡ prepare_bytes key.now image.now }
     ensures most { result ≤ 252 }
 {
     19 + key.bytes().len() as u64 + image_size(image)
 }
 
 /// The bytes of a `Commit` of this key.
-#[tactic(auto, unfolding(crate::specs::Redo::size_of))]
 pub fn commit_size(key: &Key) -> u64
-    ensures size { (tx : TxId) (epoch : ℕ) → result ≡ size_of (redo.Commit tx epoch key.now) }
+    ensures size { result ≡ commit_bytes key.now }
     ensures most { result ≤ 252 }
 {
     25 + key.bytes().len() as u64

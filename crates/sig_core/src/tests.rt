@@ -1,6 +1,6 @@
 use crate::{
-    Answer, BlockId, Body, ClientSignal, Held, HeldAnswer, HeldWork, Key, Mark, Member, Members, Op, Outs,
-    Place, Redo, Seq, Table, TxId, Value, WordFault, last_place, node_at, primary_of,
+    Answer, BlockId, Body, ClientSignal, Held, HeldAnswer, HeldWork, Key, Mark, Member, Members,
+    Op, Outs, Place, Redo, Seq, Table, TxId, Value, WordFault, last_place, node_at, primary_of,
 };
 use std::test::Fail;
 

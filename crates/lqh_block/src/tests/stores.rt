@@ -4,7 +4,7 @@ ghost use Rattle.std.specs.Prelude.{◌≡◌, OnOk};
 use super::conversation::{node, talk};
 use super::heard::{Heard, tx_of};
 use crate::{CountJournal, MapRows};
-use sig_core::{Answer, Journal, JournalFault, Key, NoMemory, Op, Rows, Value};
+use sig_core::{Answer, Journal, JournalFault, Key, NoMemory, Op, PLACES, Rows, Value};
 use std::test::Fail;
 
 #[test]
