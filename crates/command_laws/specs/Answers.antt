@@ -3,6 +3,7 @@ use Rattle.frag_map.specs.Shape.{IsShape}
 use Rattle.std.specs.Prelude.{◌≡◌, ◌<◌, ◌⊎◌, ℕ, true, List, ◌∷◌, ◌++◌, None, Some}
 use Rattle.run_theory.specs.Lists.{IsIn}
 use Rattle.run_theory.specs.Runs.{AreLogs, IsWithin}
+use Rattle.api_block.specs.declared.operate.TheConstants.{OPERATIONS}
 use Rattle.api_block.specs.declared.opened.Doing.TheVariants.{Ready}
 use Rattle.api_block.specs.declared.opened.OpenTransaction.{OpenTransaction}
 use Rattle.world_core.specs.Steps.{HostStep}
@@ -78,7 +79,7 @@ pub record TakesCommands (start : Start) (logs : ℕ → List HostStep) (name : 
 -- and operations, of which it has had fewer than it may
 pub record TakesOperations (start : Start) (logs : ℕ → List HostStep) (name : ℕ) (tx : TxId) : Type 0 where
   pub takes : TakesCommands start logs name tx
-  pub few : takes.item.operations < 64
+  pub few : takes.item.operations < OPERATIONS
 
 -- it was reported aborted, as was asked for
 abbrev pub IsAbortedAs : Start → (was now : ℕ → List HostStep) → ℕ → Type 0

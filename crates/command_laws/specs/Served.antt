@@ -21,6 +21,7 @@ use Rattle.sig_core.specs.declared.request.ApiReq.TheVariants.{Commit, Operate}
 use Rattle.sig_core.specs.declared.request.ApiReq.TheVariants as request
 use Rattle.sig_core.specs.Op.{key_of}
 use Rattle.sig_core.specs.Same.{same_tx}
+use Rattle.api_block.specs.declared.operate.TheConstants.{OPERATIONS}
 use Rattle.api_block.specs.declared.opened.Doing.TheVariants.{Operating, Ready}
 use Rattle.api_block.specs.declared.opened.OpenTransaction.{OpenTransaction}
 use Rattle.api_block.specs.Opened.{has_tx, is_named, own_place, where_at}
@@ -178,5 +179,5 @@ pub record StillWaits (start : Start) (now : ℕ → List HostStep) (name : ℕ)
 abbrev pub OperationsAreAnswered : Type 0
 OperationsAreAnswered =
     (start : Start) (was now : ℕ → List HostStep) (name : ℕ) (op : Op) (t : OpenTransaction) (tx : TxId) → IsServedBetween start was now (Operate (Some name) op)
-    → named_in (opened_after start was) name ≡ Some t → t.doing ≡ Ready → t.tx ≡ Some tx → t.operations < 64
+    → named_in (opened_after start was) name ≡ Some t → t.doing ≡ Ready → t.tx ≡ Some tx → t.operations < OPERATIONS
     → IsAnsweredAs start was now name ⊎ (IsRefusedAs start was now name ⊎ StillWaits start now name tx)

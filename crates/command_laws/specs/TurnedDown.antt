@@ -7,6 +7,7 @@ use Rattle.sig_core.specs.declared.reply.Refusal.{Refusal}
 use Rattle.sig_core.specs.declared.reply.Refusal.TheVariants.{Busy, IsOpen, NoMember, NotOpen, TooManyOperations}
 use Rattle.sig_core.specs.declared.request.ApiReq.{ApiReq}
 use Rattle.sig_core.specs.declared.request.ApiReq.TheVariants.{Abort, Begin, Commit, Digest, Operate, Rows}
+use Rattle.api_block.specs.declared.operate.TheConstants.{OPERATIONS}
 use Rattle.api_block.specs.declared.opened.Doing.{Doing}
 use Rattle.api_block.specs.declared.opened.Doing.TheVariants.{Ready}
 use Rattle.api_block.specs.declared.opened.OpenTransaction.{OpenTransaction}
@@ -30,7 +31,7 @@ abbrev pub full_at : Bool → Option Refusal
 full_at few = if few then None else Some TooManyOperations
 
 abbrev pub operation_refused : OpenTransaction → Option Refusal
-operation_refused t = busy_or (full_at (nat_lt t.operations 64)) t.doing t.tx
+operation_refused t = busy_or (full_at (nat_lt t.operations OPERATIONS)) t.doing t.tx
 
 abbrev pub commit_refused : OpenTransaction → Option Refusal
 commit_refused t = busy_or None t.doing t.tx

@@ -51,10 +51,17 @@ refusal tx key cause = to_place (coordinator_of tx) (Chain (LqhKeyRef tx key cau
 abbrev pub confirmed : TxId → List ℕ → Answer → Outgoing
 confirmed tx key answer = to_place (coordinator_of tx) (Chain (LqhKeyConf tx key answer))
 
--- an image that is prepared here goes on to the next place of its chain; where there is none the write is answered
+-- work that is done here is sent on to the next place of its chain; where there is none the write is answered
+abbrev pub sent_to : TxId → List ℕ → RowWork → List Member → ℕ → Option Member → Outgoing
+sent_to tx key work chain at None = confirmed tx key Done
+sent_to tx key work chain at (Some next) = to_place (rows_of next.node) (Chain (LqhKeyReq tx work chain (at + 1)))
+
+abbrev pub sent_on : TxId → List ℕ → RowWork → List Member → ℕ → Outgoing
+sent_on tx key work chain at = sent_to tx key work chain at (slice_get chain (at + 1))
+
+-- an image that is prepared here goes on so
 abbrev pub passed_to : TxId → List ℕ → Option (List ℕ) → List Member → ℕ → Option Member → Outgoing
-passed_to tx key image chain at None = confirmed tx key Done
-passed_to tx key image chain at (Some next) = to_place (rows_of next.node) (Chain (LqhKeyReq tx (Store key image) chain (at + 1)))
+passed_to tx key image chain at next = sent_to tx key (Store key image) chain at next
 
 abbrev pub passed_on : TxId → List ℕ → Option (List ℕ) → List Member → ℕ → Outgoing
 passed_on tx key image chain at = passed_to tx key image chain at (slice_get chain (at + 1))

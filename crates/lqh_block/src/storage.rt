@@ -1,12 +1,12 @@
 //! The rows of a node and its journal: what is prepared, committed and given up.
-ghost use Rattle.std.specs.Prelude.{◌≡◌, ◌+◌, ◌<◌, ◌≤◌, ℕ, List, OnOk, Option, Some, false, length};
+ghost use Rattle.std.specs.Prelude.{◌≡◌, ◌+◌, ◌<◌, ◌≤◌, OnOk, Some, false, length};
 ghost use Rattle.sig_core.specs.declared.signal.chain.RowWork.TheVariants.{Store};
 ghost use Rattle.sig_core.specs.Journal.{appending};
 ghost use Rattle.sig_core.specs.Rows.{complete_record, record_state};
 ghost use Rattle.lqh_block.specs.Due.{IsCovered};
 ghost use Rattle.lqh_block.specs.Ready.{IsReady};
 ghost use Rattle.sig_core.specs.Step.{HasRoom, IsTaken, and_send};
-ghost use Rattle.lqh_block.specs.Storage.{aborted_in, committed_in, confirmed, end_size, kept_once, need_of, passed_on, perform, prepare_size, refusal, storage, store_row};
+ghost use Rattle.lqh_block.specs.Storage.{aborted_in, committed_in, confirmed, end_size, kept_once, need_of, perform, prepare_size, refusal, sent_on, storage, store_row};
 ghost use Rattle.sig_core.specs.Work.{work_image, work_key};
 
 use crate::ready::Ready;
@@ -239,10 +239,10 @@ fn confirm(tx: TxId, key: &Key, answer: HeldAnswer, out: &mut Outs)
     out.send(coordinator_of(tx), Body::Chain(body));
 }
 
-// Sends a prepared image to the next place of its chain, or answers the write.
+// Sends work on to the next place of its chain, or answers the write.
 fn pass_on(tx: TxId, key: &Key, onward: HeldWork, chain: &Members, at: u8, out: &mut Outs)
     requires { length out.old.sends < 16 }
-    ensures { (image : Option (List ℕ)) → onward ≡ Store key.now image → out.new ≡ and_send out.old (passed_on tx key.now image chain.now at).to (passed_on tx key.now image chain.now at).body }
+    ensures { out.new ≡ and_send out.old (sent_on tx key.now onward chain.now at).to (sent_on tx key.now onward chain.now at).body }
 {
     match chain.as_slice().get(at as usize + 1).copied() {
         Some(next) => {
