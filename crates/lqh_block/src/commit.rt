@@ -12,8 +12,8 @@ use crate::operate::serve_granted;
 use crate::request::Marker;
 use crate::work::{same_key, same_tx};
 use sig_core::{
-    Body, ChainSignal, Journal, Key, Mark, Members, NoMemory, Outs, Rows, TxId, coordinator_of,
-    node_at, rows_of,
+    Body, Chain, ChainSignal, Journal, Key, Mark, Members, NoMemory, Outs, Rows, TxId,
+    coordinator_of, node_at, rows_of,
 };
 
 impl<R: Rows, J: Journal> Lqh<R, J> {
@@ -87,7 +87,7 @@ impl<R: Rows, J: Journal> Lqh<R, J> {
                 tx,
                 key: *key,
                 epoch,
-                chain: *chain,
+                chain: Chain::of(chain),
                 at: at - 1,
             };
             out.send(rows_of(node_at(chain, at as usize - 1)), Body::Chain(body));
@@ -120,7 +120,7 @@ fn tell_completion(tx: TxId, key: &Key, chain: &Members, at: u8, out: &mut Outs)
         let body = ChainSignal::Complete {
             tx,
             key: *key,
-            chain: *chain,
+            chain: Chain::of(chain),
             at: at - 1,
         };
         out.send(rows_of(node_at(chain, at as usize - 1)), Body::Chain(body));

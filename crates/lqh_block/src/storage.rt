@@ -12,8 +12,8 @@ ghost use Rattle.sig_core.specs.Work.{work_image, work_key};
 use crate::ready::Ready;
 use crate::request::Request;
 use sig_core::{
-    AbortCause, Answer, Body, ChainSignal, HeldAnswer, HeldWork, Journal, JournalFault, Key, Mark,
-    Members, NoMemory, Outs, Redo, Rows, RowsFault, TxId, Value, commit_size, coordinator_of,
+    AbortCause, Answer, Body, Chain, ChainSignal, HeldAnswer, HeldWork, Journal, JournalFault, Key,
+    Mark, Members, NoMemory, Outs, Redo, Rows, RowsFault, TxId, Value, commit_size, coordinator_of,
     prepare_size, rows_of,
 };
 
@@ -249,7 +249,7 @@ fn pass_on(tx: TxId, key: &Key, onward: HeldWork, chain: &Members, at: u8, out: 
             let body = ChainSignal::LqhKeyReq {
                 tx,
                 work: onward,
-                chain: *chain,
+                chain: Chain::of(chain),
                 at: at + 1,
             };
             out.send(rows_of(next.node), Body::Chain(body));

@@ -1,3 +1,4 @@
+pub mod ChainLemmas
 pub mod Firsts
 pub mod Keys
 pub mod TableLemmas

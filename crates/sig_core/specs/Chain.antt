@@ -1,6 +1,11 @@
 -- Chains: the replicas of a row, the primary first.
-use Rattle.std.specs.Prelude.{ℕ, ◌-◌, List, length, slice_get, option_to_list, Option, None, Some}
+use Rattle.std.specs.Prelude.{ℕ, ◌-◌, List, [], ◌∷◌, length, slice_get, option_to_list, Option, None, Some}
 use Rattle.sig_core.specs.declared.member.Member.{Member}
+
+-- members by their nodes and starts
+abbrev pub members_by : List ℕ → List ℕ → List Member
+members_by (node ∷ nodes) (start ∷ starts) = record { node = node; start = start } ∷ members_by nodes starts
+members_by _ _ = []
 
 -- the primary of a chain, alone
 abbrev pub primary_of : List Member → List Member

@@ -2,7 +2,65 @@
 ghost use Rattle.std.specs.Prelude.{◌≡◌};
 ghost use Rattle.sig_core.specs.Chain.{last_place, node_at, primary_of};
 
-use crate::members::Members;
+use crate::member::Member;
+use crate::members::{MEMBERS, Members};
+use std::marker::Model;
+
+/// The replicas of a row, the primary first, in the room that they take in a signal. Contracts see
+/// the list of them.
+#[derive(Drop)]
+pub struct Chain {
+    nodes: [u8; 8],
+    starts: [u32; 8],
+    len: u8,
+}
+
+impl Model for Chain {
+    ghost use Rattle.std.specs.Prelude.{◌≤◌, List, take};
+    ghost use Rattle.sig_core.specs.declared.member.Member.{Member};
+    ghost use Rattle.sig_core.specs.Chain.{members_by};
+
+    ghost Value = { List Member };
+
+    ghost view = { λ c. members_by (take c.len c.nodes) (take c.len c.starts) };
+
+    ghost invariant = { λ c. c.len ≤ 8 };
+}
+
+impl Chain {
+    /// The chain of these replicas.
+    pub fn of(replicas: &Members) -> Chain
+        ensures { result ≡ replicas.now }
+    {
+        let mut nodes = [0; MEMBERS];
+        let mut starts = [0; MEMBERS];
+        let mut len = 0;
+        for replica in replicas.as_slice() {
+            nodes[len] = replica.node;
+            starts[len] = replica.start;
+            len += 1;
+        }
+        Chain {
+            nodes,
+            starts,
+            len: len as u8,
+        }
+    }
+
+    /// The replicas.
+    pub fn members(&self) -> Members
+        ensures { result ≡ self.now }
+    {
+        let mut members = Members::new();
+        for at in 0..self.len as usize {
+            members.push(Member {
+                node: self.nodes[at],
+                start: self.starts[at],
+            });
+        }
+        members
+    }
+}
 
 /// The primary of a chain, alone.
 pub fn primary_of(chain: &Members) -> Members

@@ -31,7 +31,7 @@ mod view;
 mod word;
 
 pub use actor::Actor;
-pub use chain::{last_place, node_at, primary_of};
+pub use chain::{Chain, last_place, node_at, primary_of};
 pub use entry::Entry;
 pub use held::Held;
 pub use held_answer::HeldAnswer;

@@ -11,7 +11,7 @@ use crate::phase::Phase;
 use crate::touched::Touched;
 use frag_map::Layout;
 use sig_core::{
-    Body, CLIENT, ChainSignal, ClientSignal, HostSignal, Key, Members, Outs, TxId, Work,
+    Body, CLIENT, Chain, ChainSignal, ClientSignal, HostSignal, Key, Members, Outs, TxId, Work,
     coordinator, last_place, node_at, rows_of,
 };
 
@@ -127,7 +127,7 @@ fn offer_commit(tx: TxId, epoch: u64, t: &Touched, part: &mut Part, out: &mut Ou
         tx,
         key: t.key,
         epoch,
-        chain: t.chain,
+        chain: Chain::of(&t.chain),
         at: last,
     };
     part.offer(
@@ -147,7 +147,7 @@ fn offer_complete(tx: TxId, t: &Touched, part: &mut Part, out: &mut Outs)
         let body = ChainSignal::Complete {
             tx,
             key: t.key,
-            chain: t.chain,
+            chain: Chain::of(&t.chain),
             at,
         };
         part.offer(

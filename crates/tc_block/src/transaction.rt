@@ -8,8 +8,8 @@ use crate::sends::{SENDS, send_aborts, send_part, send_waits};
 use crate::touched::{TouchedKeys, same_key};
 use frag_map::Layout;
 use sig_core::{
-    Answer, Body, CLIENT, ChainSignal, ClientSignal, Held, HeldAnswer, HeldWork, Key, NoMemory, Op, Outs,
-    Seq, TxId, node_at, rows_of,
+    Answer, Body, CLIENT, Chain, ChainSignal, ClientSignal, Held, HeldAnswer, HeldWork, Key,
+    NoMemory, Op, Outs, Seq, TxId, node_at, rows_of,
 };
 use std::alloc::Global;
 
@@ -86,7 +86,7 @@ impl Transaction {
             let body = ChainSignal::LqhKeyReq {
                 tx,
                 work,
-                chain: *chain,
+                chain: Chain::of(chain),
                 at: 0,
             };
             out.send(rows_of(node_at(chain, 0)), Body::Chain(body));

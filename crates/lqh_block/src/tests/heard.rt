@@ -1,7 +1,7 @@
 //! What the rows of a node hear, in short.
 use sig_core::{
-    Body, ChainSignal, ClientSignal, Held, HeldWork, HostSignal, Key, Member, Members, Op, TxId,
-    Value, Work,
+    Body, Chain, ChainSignal, ClientSignal, Held, HeldWork, HostSignal, Key, Member, Members, Op,
+    TxId, Value, Work,
 };
 use std::alloc::Global;
 use std::test::Fail;
@@ -49,7 +49,7 @@ fn operate(alloc: Global, seq: u64, op: Op) -> Result<Body, Fail> {
     Ok(Body::Chain(ChainSignal::LqhKeyReq {
         tx: tx_of(seq),
         work: HeldWork::operate(Held::new(alloc, op)?),
-        chain: both(),
+        chain: Chain::of(&both()),
         at: 0,
     }))
 }
@@ -97,7 +97,7 @@ fn store(alloc: Global, seq: u64, letter: u8, value: u8) -> Result<Body, Fail> {
     Ok(Body::Chain(ChainSignal::LqhKeyReq {
         tx: tx_of(seq),
         work: HeldWork::store(Held::new(alloc, op)?),
-        chain: both(),
+        chain: Chain::of(&both()),
         at: 1,
     }))
 }
@@ -109,13 +109,13 @@ fn other_body(heard: Heard) -> Result<Body, Fail> {
             tx: tx_of(seq),
             key: Key::new(&[letter])?,
             epoch: 5,
-            chain: both(),
+            chain: Chain::of(&both()),
             at,
         })),
         Heard::Complete(seq, letter, at) => Ok(Body::Chain(ChainSignal::Complete {
             tx: tx_of(seq),
             key: Key::new(&[letter])?,
-            chain: both(),
+            chain: Chain::of(&both()),
             at,
         })),
         Heard::Abort(seq, letter) => Ok(Body::Chain(ChainSignal::Abort {

@@ -1,9 +1,9 @@
 //! Signals along the chain of a row's replicas.
+use crate::chain::Chain;
 use crate::held_answer::HeldAnswer;
 use crate::held_work::HeldWork;
 use crate::key::Key;
 use crate::member::TxId;
-use crate::members::Members;
 use crate::op::Op;
 use crate::outcome::AbortCause;
 use crate::value::Value;
@@ -24,7 +24,7 @@ pub enum ChainSignal {
     LqhKeyReq {
         tx: TxId,
         work: HeldWork,
-        chain: Members,
+        chain: Chain,
         at: u8,
     },
     LqhKeyConf {
@@ -41,7 +41,7 @@ pub enum ChainSignal {
         tx: TxId,
         key: Key,
         epoch: u64,
-        chain: Members,
+        chain: Chain,
         at: u8,
     },
     Committed {
@@ -51,7 +51,7 @@ pub enum ChainSignal {
     Complete {
         tx: TxId,
         key: Key,
-        chain: Members,
+        chain: Chain,
         at: u8,
     },
     Completed {

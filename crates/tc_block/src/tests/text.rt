@@ -75,7 +75,7 @@ fn show_chain(text: &mut String, signal: &ChainSignal) -> Result<(), AllocError>
             at,
         } => {
             put_number(text, "operate at ", u64::from(*at))?;
-            put_number(text, " of ", chain.as_slice().len() as u64)
+            put_number(text, " of ", chain.members().as_slice().len() as u64)
         }
         ChainSignal::Commit {
             tx: _,
