@@ -67,7 +67,7 @@ IsTurn s step grants =
 turn_if : (s : ArbiterState) (node number : ℕ) (members : List Member) (joining : Option Member) (granted : Bool)
     → is_granted s number members joining ≡ granted
     → IsTurn s (arbit_if s node number members granted)
-        (flat_map (λ send. granted_by (Membership (ArbitReq number members joining)) send.body) (arbit_if s node number members granted).effects.sends)
+    (flat_map (λ send. granted_by (Membership (ArbitReq number members joining)) send.body) (arbit_if s node number members granted).effects.sends)
 turn_if s node number members joining true e =
     inr (asked_for number members joining, (refl, (refl, given s number members joining e)))
 turn_if s node number members joining false e = inl (refl, refl)
