@@ -1,0 +1,3 @@
+mod GrantLemmas
+mod LawLemmas
+mod SetLemmas

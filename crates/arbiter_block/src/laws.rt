@@ -1,0 +1,28 @@
+//! What is true of all that the arbitrator grants, whatever signals come, in whatever order.
+ghost use Rattle.arbiter_block.specs.Laws.{AskedAgainIsAnsweredAlike, EachSetLiesInTheOneBefore, LastGrantIsKept, OneSetForEachNumber, ZeroIsNeverGranted};
+
+/// No number is granted with two sets. The first view counts as granted.
+pub fn one_set_for_each_number()
+    ensures { OneSetForEachNumber }
+{}
+
+/// Each granted set lies in the one that was granted before, but for the member that joins, and
+/// the numbers never fall.
+pub fn each_set_lies_in_the_one_before()
+    ensures { EachSetLiesInTheOneBefore }
+{}
+
+/// The number 0 is never granted.
+pub fn zero_is_never_granted()
+    ensures { ZeroIsNeverGranted }
+{}
+
+/// What the arbitrator keeps, and names when it refuses, is what it granted last.
+pub fn last_grant_is_kept()
+    ensures { LastGrantIsKept }
+{}
+
+/// A request that comes once more at once gets the same answer, and changes nothing more.
+pub fn asked_again_is_answered_alike()
+    ensures { AskedAgainIsAnsweredAlike }
+{}
