@@ -1,12 +1,14 @@
 -- What the calls of a world come to.
 use Rattle.std.proofs.Common.{◌≡◌, ℕ, ◌<◌, List, Bool, true, false, refl, ap, sym, ◌∙◌, subst, arith}
-use Rattle.std.specs.Prelude.{None, Some, OnOk, Result, Ok, Err, slice_index_or}
+use Rattle.std.specs.Prelude.{None, Some, OnErr, OnOk, Result, Ok, Err, slice_index_or}
 use Rattle.std.proofs.lemmas.Bool.{true≢false}
 use Rattle.run_theory.proofs.Pasts.{past_self, past_trans}
+use Rattle.sig_core.specs.declared.log.HostLog.{HostLog}
 use Rattle.sig_core.specs.declared.no_memory.NoMemory.{NoMemory}
 use Rattle.sig_core.specs.declared.request.ApiReq.{ApiReq}
 use Rattle.world_core.specs.Driven.{HasAsked, HaveGrown, IsDriven, IsSound, IsStepped, IsWorld}
 use Rattle.world_core.specs.Hosts.{hosts}
+use Rattle.world_core.specs.Labels.{AreLabelled}
 use Rattle.world_core.specs.Machine.{request_signal}
 use Rattle.world_core.specs.Network.{Arrival, take_first}
 use Rattle.world_core.specs.Start.{Start}
@@ -88,6 +90,17 @@ pub record IsUnderWay (w t : Whole) : Type 0 where
 pub under_way : (w : Whole) → IsWorld w → IsUnderWay w w
 under_way w is =
     record { is = is; driven = λ start sound. record { right = λ given was. was; grown = grown_itself start w sound } }
+
+-- its logs say whose they are
+pub sound_labels : (start : Start) (w : Whole) → IsSound start w → AreLabelled start w.logs
+sound_labels start w sound = record { one_each = sound.right.sizes.logs; labels = sound.right.labels }
+
+-- and still do where a step was left off
+pub labels_kept : (result : Result (Unit {0}) NoMemory) (w a : Whole) (logs : List HostLog) → IsUnderWay w a → logs ≡ a.logs → (start : Start) → IsSound start w
+    → OnErr result (AreLabelled start logs)
+labels_kept (Ok done) w a logs way same start sound = tt
+labels_kept (Err fault) w a logs way same start sound =
+    subst (AreLabelled start) (sym same) (sound_labels start a (stays_sound start w a (way.driven start sound) sound))
 
 -- one step further
 pub goes_on : (w a b : Whole) (went : Bool) → went ≡ true → IsUnderWay w a → ((start : Start) → IsSound start a → IsStepped start a b went) → IsUnderWay w b

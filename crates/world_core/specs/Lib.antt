@@ -4,6 +4,7 @@ pub mod Entries
 pub mod History
 pub mod Hosts
 pub mod Inbox
+pub mod Labels
 pub mod Lives
 pub mod Machine
 pub mod Marks

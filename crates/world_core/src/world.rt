@@ -39,6 +39,7 @@ pub struct World {
 impl World {
     ghost use Rattle.std.specs.Prelude.{◌++◌, option_to_list, None, []};
     ghost use Rattle.world_core.specs.Driven.{HasAsked, HaveGrown, IsDriven, IsSound, IsStepped, IsWorld};
+    ghost use Rattle.world_core.specs.Labels.{AreLabelled};
     ghost use Rattle.world_core.specs.Lives.{fresh_life};
     ghost use Rattle.world_core.specs.Start.{Start};
     ghost use Rattle.world_core.specs.World.{CanTake, IsIdle, is_left_open, logs_at, moved, new_world, replies_of, with_replies};
@@ -97,6 +98,7 @@ impl World {
         ensures driven { (start : Start) → IsSound start (whole_of self.old) → OnOk result (IsDriven start (whole_of self.old) (whole_of self.new)) }
         ensures quiet { OnOk result (IsIdle (whole_of self.new)) }
         ensures err { (start : Start) → IsSound start (whole_of self.old) → OnErr result (HaveGrown start (logs_at self.old.logs) (logs_at self.new.logs)) }
+        ensures labels { (start : Start) → IsSound start (whole_of self.old) → OnErr result (AreLabelled start self.new.logs) }
     {
         for _ in rt.forever() {
             if !self.step(alloc)? {
