@@ -79,6 +79,11 @@ abbrev pub all_requests : Option Command → List ApiReq
 all_requests None = []
 all_requests (Some command) = requests_of command ++ questions
 
+-- the first commands were asked for, in host 0's log, and nothing else
+pub record AreAskedInFront (start : Start) (commands : List Command) (log : List HostStep) : Type 0 where
+  pub count : ℕ
+  pub asked : AreAsked start (reverse (take count commands)) log
+
 -- The first commands were asked for, and of the next one a first part of what is asked for it, in host 0's log.
 pub record AreAskedInPart (start : Start) (commands : List Command) (log : List HostStep) : Type 0 where
   pub count : ℕ
