@@ -1,12 +1,12 @@
 -- What the logs say where a session ends.
-use Rattle.std.proofs.Common.{◌≡◌, ℕ, List, [], ◌∷◌, ◌++◌, length, take, reverse, Bool, true, false, refl, ap, sym, subst, ◌∙◌}
-use Rattle.std.specs.Prelude.{Option, Some, slice_get}
+use Rattle.std.proofs.Common.{◌≡◌, inl, ℕ, List, [], ◌∷◌, ◌++◌, length, take, reverse, Bool, true, false, refl, ap, sym, subst, ◌∙◌}
+use Rattle.std.specs.Prelude.{Option, None, Some, slice_get}
 use Rattle.std.specs.Io.KnownBytes.{Appends}
 use Rattle.std.proofs.lemmas.List.{append-nil, take_at}
 use Rattle.run_theory.proofs.Pasts.{past_self}
 use Rattle.script_lang.specs.declared.command.Command.{Command}
 use Rattle.sig_core.specs.declared.log.HostLog.{HostLog}
-use Rattle.shell_top.specs.Asked.{AreAsked, AreAskedInFront, AreAskedInPart, all_requests}
+use Rattle.shell_top.specs.Asked.{AreAsked, AreAskedInFront, AreAskedInPart, AsksInPart}
 use Rattle.shell_top.specs.declared.ended.Ending.{Ending}
 use Rattle.shell_top.specs.declared.ended.Ending.TheVariants as ending
 use Rattle.shell_top.specs.Lived.{AreAskedFor, AreLived}
@@ -15,6 +15,7 @@ use Rattle.shell_top.specs.Served.{AreLeft, IsServed}
 use Rattle.shell_top.proofs.PrintedLemmas.{part_behind}
 use Rattle.world_core.specs.Requests.{requests}
 use Rattle.world_core.specs.Start.{Start}
+use Rattle.world_core.specs.Steps.{HostStep}
 use Rattle.world_core.specs.World.{Whole, logs_at}
 use Rattle.world_core.proofs.QuietLemmas.{quiet_logs}
 use Rattle.world_core.proofs.StepDriven.{right_logs, within}
@@ -33,6 +34,10 @@ module _ (start : Start) where
       record { count = length done; asked = subst (λ cs. AreAsked start (reverse cs) (logs_at w.logs 0)) (sym front) was.asked }
 
   -- and nothing of the next one
+  none_begun : (log : List HostStep) (next : Option Command) → AsksInPart start next log log
+  none_begun log None = refl
+  none_begun log (Some c) = inl (record { part = 0; begun = sym (append-nil (requests log)) })
+
   served_in_part : (done rest : List Command) (w : Whole) (commands : List Command) → IsServed start done w → commands ≡ done ++ rest → AreAskedInPart start commands (logs_at w.logs 0)
   served_in_part done rest w commands was is =
       let front : take (length done) commands ≡ done = ap (take (length done)) is ∙ take_at done rest (length done) refl in
@@ -41,8 +46,7 @@ module _ (start : Start) where
         before = logs_at w.logs 0;
         asked = subst (λ cs. AreAsked start (reverse cs) (logs_at w.logs 0)) (sym front) was.asked;
         past = past_self (logs_at w.logs 0);
-        part = 0;
-        begun = sym (append-nil (requests (logs_at w.logs 0)));
+        begun = none_begun (logs_at w.logs 0) (slice_get commands (length done));
       }
 
   -- these are all, unless the session was cut short
@@ -80,8 +84,7 @@ module _ (start : Start) where
           before = logs_at w.logs 0;
           asked = subst (λ cs. AreAsked start (reverse cs) (logs_at w.logs 0)) (sym front) was.asked;
           past = left.left.more 0;
-          part = left.left.part;
-          begun = left.left.requests ∙ ap (λ o. requests (logs_at w.logs 0) ++ take left.left.part (all_requests o)) (sym next);
+          begun = subst (λ o. AsksInPart start o (logs_at w.logs 0) (logs_at logs 0)) (sym next) left.begun;
         };
         at_quiet = left.left.at_quiet was.quiet was.at_quiet;
         quiet = λ kept. absurd (kept refl);

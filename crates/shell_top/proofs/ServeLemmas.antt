@@ -16,7 +16,7 @@ use Rattle.sig_core.specs.declared.reply.ApiReply.{ApiReply}
 use Rattle.sig_core.specs.declared.request.ApiReq.{ApiReq}
 use Rattle.sig_core.specs.declared.request.ApiReq.TheVariants.{Tick}
 use Rattle.shell_top.specs.Arranged.{arranged}
-use Rattle.shell_top.specs.Asked.{AreAsked, AsksOn, IsAskedNext, is_served, name_in, questions, requests_of, rounds_behind}
+use Rattle.shell_top.specs.Asked.{AreAsked, AsksInPart, AsksOn, IsAskedNext, is_served, name_in, questions, requests_of, rounds_behind}
 use Rattle.shell_top.specs.declared.ended.Ending.TheVariants as ending
 use Rattle.shell_top.specs.Printed.{AppendsPart}
 use Rattle.shell_top.specs.Served.{AreLeft, AreLeftOff, AsksFirst, HasGoneOn, HasServed, IsServed, PrintsCommand, ServesCommand}
@@ -204,8 +204,9 @@ module _ (start : Start) where
       ∙ ap (λ name. text_of start before ++ reply_lines (arranged name (drop (length (replies_in start before)) (replies_in start log)))) has.name
 
   -- memory was wanting in a command: its text goes on
-  pub left_text : (c : Command) (w : Whole) (logs : List HostLog) → is_served c ≡ true → AreLeftOff start (requests_of c ++ questions) w logs → AreLeft start c w logs
-  left_text c w logs served left = go left.begun
+  pub left_text : (c : Command) (w : Whole) (logs : List HostLog) → is_served c ≡ true → AreLeftOff start (requests_of c ++ questions) w logs
+      → AsksInPart start (Some c) (logs_at w.logs 0) (logs_at logs 0) → AreLeft start c w logs
+  left_text c w logs served left begun = go left.begun
     where
       has : HasFirst c
       has = has_first c served
@@ -218,13 +219,14 @@ module _ (start : Start) where
       asked (suc part) is next =
           record {
             left = left;
+            begun = begun;
             more = reply_lines (arranged (name_in c) (drop (length (replies_in start (logs_at w.logs 0))) (replies_in start (logs_at logs 0))));
             text = text_behind has.first (take part (has.rest ++ questions)) (logs_at w.logs 0) (logs_at logs 0) next is c has refl
                 (none_take part (has.rest ++ questions) (none_both has.rest questions has.none refl));
           }
 
       go : (logs_at logs 0 ≡ logs_at w.logs 0) ⊎ IsAskedNext (logs_at w.logs 0) (logs_at logs 0) → AreLeft start c w logs
-      go (inl same) = record { left = left; more = []; text = ap (text_of start) same ∙ sym (append-nil (text_of start (logs_at w.logs 0))) }
+      go (inl same) = record { left = left; begun = begun; more = []; text = ap (text_of start) same ∙ sym (append-nil (text_of start (logs_at w.logs 0))) }
       go (inr next) = asked left.part (left.requests ∙ ap (λ rs. requests (logs_at w.logs 0) ++ take left.part rs) are) next
 
   -- all that was asked for behind a world: the command's first request, and others that begin none
@@ -398,18 +400,27 @@ module _ (start : Start) (c : Command) (w : Whole) where
       go true asked = served_sound start questions u v asked (own_sound u sound own)
 
   pub left_own : (logs : List HostLog) → is_served c ≡ true → AreLeftOff start (requests_of c) w logs → AreLeft start c w logs
-  left_own logs is left = left_text start c w logs is (left_of_more start (requests_of c) questions w logs left)
+  left_own logs is left =
+      left_text start c w logs is (left_of_more start (requests_of c) questions w logs left) (inl (record { part = left.part; begun = left.requests }))
 
-  pub left_about : (u : Whole) (logs : List HostLog) → is_served c ≡ true → HasServed start (requests_of c) w u → AreLeftOff start questions u logs → AreLeft start c w logs
-  left_about u logs is own left = left_text start c w logs is (left_later start (requests_of c) questions w u logs own left)
+  pub left_about : (u : Whole) (logs : List HostLog) → is_served c ≡ true → IsSound start w → HasServed start (requests_of c) w u → is_left_open u ≡ true → AreLeftOff start questions u logs
+      → AreLeft start c w logs
+  left_about u logs is sound own opened left =
+      left_text start c w logs is (left_later start (requests_of c) questions w u logs own left)
+      (inr (record {
+        served = logs_at u.logs 0;
+        past = left.more 0;
+        own = own.requests;
+        left_open = sym (open_is start u (own_sound u sound own)) ∙ opened;
+        on = record { part = left.part; begun = left.requests };
+      }))
 
   left_gone : (u v : Whole) (logs : List HostLog) → is_served c ≡ true → IsSound start w → HasServed start (requests_of c) w u → HasGoneOn start u v (is_left_open u) → logs ≡ v.logs → AreLeft start c w logs
-  left_gone u v logs is sound own on same = go (is_left_open u) on
+  left_gone u v logs is sound own on same = go (is_left_open u) refl on
     where
-      go : (b : Bool) → HasGoneOn start u v b → AreLeft start c w logs
-      go false gone = left_own logs is (left_served start (requests_of c) w u logs own sound (same ∙ ap (λ (x : Whole). x.logs) gone))
-      go true asked =
-          left_text start c w logs is (left_served start (requests_of c ++ questions) w v logs (both_served start (requests_of c) questions w u v own asked) sound same)
+      go : (b : Bool) → is_left_open u ≡ b → HasGoneOn start u v b → AreLeft start c w logs
+      go false e gone = left_own logs is (left_served start (requests_of c) w u logs own sound (same ∙ ap (λ (x : Whole). x.logs) gone))
+      go true e asked = left_about u logs is sound own e (left_served start questions u v logs asked (own_sound u sound own) same)
 
   pub left_answers : (u v : Whole) (logs : List HostLog) (result : Result (Vec ℕ) NoMemory) → is_served c ≡ true → IsSound start w → HasServed start (requests_of c) w u
       → HasGoneOn start u v (is_left_open u) → OnErr result (logs ≡ v.logs) → OnErr result (AreLeft start c w logs)

@@ -1,5 +1,5 @@
 -- What a world has done for the commands that it was asked for.
-use Rattle.std.specs.Prelude.{◌≡◌, ◌⊎◌, ℕ, Bool, true, false, List, [], ◌∷◌, ◌++◌, reverse, take, Option, MatchOption}
+use Rattle.std.specs.Prelude.{◌≡◌, ◌⊎◌, ℕ, Bool, true, false, List, [], ◌∷◌, ◌++◌, reverse, take, Option, Some, MatchOption}
 use Rattle.std.specs.Io.KnownBytes.{Appends}
 use Rattle.run_theory.specs.Lists.{IsPast}
 use Rattle.run_theory.specs.Runs.{AreLogs, IsWithin}
@@ -8,7 +8,7 @@ use Rattle.sig_core.specs.declared.log.HostLog.{HostLog}
 use Rattle.world_core.specs.Steps.{HostStep}
 use Rattle.sig_core.specs.declared.reply.ApiReply.{ApiReply}
 use Rattle.sig_core.specs.declared.request.ApiReq.{ApiReq}
-use Rattle.shell_top.specs.Asked.{AreAsked, IsAskedNext, questions, requests_of}
+use Rattle.shell_top.specs.Asked.{AreAsked, AsksInPart, IsAskedNext, questions, requests_of}
 use Rattle.shell_top.specs.declared.ended.Ending.{Ending}
 use Rattle.shell_top.specs.declared.ended.Ending.TheVariants.{WriteFault, NoMemory}
 use Rattle.shell_top.specs.Printed.{AppendsPart}
@@ -62,10 +62,11 @@ pub record IsServed (start : Start) (commands : List Command) (w : Whole) : Type
   pub at_quiet : AreAskedAtQuiet start (logs_at w.logs)
   pub none_left : replies_of w ≡ []
 
--- Memory was wanting while a command was served, after these commands: what the logs are then. Their text goes on from
--- the text before.
+-- Memory was wanting while a command was served, after these commands: what the logs are then. The questions were asked
+-- only where it left something of its own unanswered. The text of the logs goes on from the text before.
 pub record AreLeft (start : Start) (command : Command) (w : Whole) (logs : List HostLog) : Type 0 where
   pub left : AreLeftOff start (requests_of command ++ questions) w logs
+  pub begun : AsksInPart start (Some command) (logs_at w.logs 0) (logs_at logs 0)
   pub more : List ℕ
   pub text : text_of start (logs_at logs 0) ≡ text_of start (logs_at w.logs 0) ++ more
 
