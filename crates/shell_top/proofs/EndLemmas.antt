@@ -1,5 +1,6 @@
 -- How a whole session is told: its lines, and then the line of the fault by which it was meant to end.
-use Rattle.std.proofs.Common.{reverse, map, ◌≡◌, ◌⊎◌, ◌≤◌, ℕ, List, [], ◌∷◌, ◌++◌, length, true, false, refl, ap, sym, subst, ◌∙◌, arith, inl, inr}
+use Rattle.std.proofs.Common.{reverse, map, ◌≡◌, ◌⊎◌, ◌≤◌, ℕ, List, [], ◌∷◌, ◌++◌, length, true, false, refl, ap, sym}
+use Rattle.std.proofs.Common.{subst, ◌∙◌, arith, inl, inr}
 use Rattle.std.specs.Prelude.{Option, None, Some}
 use Rattle.std.specs.Global.{Vec}
 use Rattle.std.specs.Io.KnownBytes.{Appends, Consumes}
@@ -99,14 +100,15 @@ pub rose_still : (before mid now : ℕ) → Rose before mid → mid ≤ now → 
 rose_still before mid now rose kept = omega (arith, rose, kept)
 
 -- where printing was cut short, nothing more is printed
-pub nothing_more_printed : (meant : Ending) (written : Option (List ℕ)) → is_cut_short meant ≡ true → Prints meant meant written written (fault_line meant)
+pub nothing_more_printed : (meant : Ending) (written : Option (List ℕ)) → is_cut_short meant ≡ true
+    → Prints meant meant written written (fault_line meant)
 nothing_more_printed ending.WriteFault written cut = record { count = 0; appended = Appends-nil written }
 nothing_more_printed ending.NoMemory written cut = record { count = 0; appended = Appends-nil written }
 nothing_more_printed _ written cut = cc
 
 -- what the one life says
-pub is_life : (shape : Shape) → IsShape shape → (e : Ending) (commands : List Command) (logs : List HostLog) → AreLived (fresh shape) e commands logs
-    → IsLife shape e commands (fresh_life logs)
+pub is_life : (shape : Shape) → IsShape shape → (e : Ending) (commands : List Command) (logs : List HostLog)
+    → AreLived (fresh shape) e commands logs → IsLife shape e commands (fresh_life logs)
 is_life shape sound e commands logs lived =
     record {
       begins = refl;
@@ -120,11 +122,14 @@ is_life shape sound e commands logs lived =
     }
 
 -- it was done with its lines
-pub session_done : (shape : Shape) → IsShape shape → (left left_now written mid now : Option (List ℕ)) (ReadFailed WriteFailed : Type 0) (meant result : Ending)
-    → (logs : List HostLog) (lives : List Life) → lives ≡ fresh_life logs ∷ [] → AreLinesDone shape left left_now written mid meant logs
-    → (meant ≡ ending.ReadFault → ReadFailed) → (meant ≡ ending.WriteFault → WriteFailed) → (is_cut_short meant ≡ true → result ≡ meant)
-    → Prints result meant mid now (fault_line meant) → IsSession (Some shape) left left_now written now ReadFailed WriteFailed result lives
-session_done shape sound left left_now written mid now ReadFailed WriteFailed meant result logs lives one lines read_cause write_cause cut_short last =
+pub session_done : (shape : Shape) → IsShape shape → (left left_now written mid now : Option (List ℕ))
+    → (ReadFailed WriteFailed : Type 0) (meant result : Ending) (logs : List HostLog) (lives : List Life)
+    → lives ≡ fresh_life logs ∷ [] → AreLinesDone shape left left_now written mid meant logs
+    → (meant ≡ ending.ReadFault → ReadFailed) → (meant ≡ ending.WriteFault → WriteFailed)
+    → (is_cut_short meant ≡ true → result ≡ meant) → Prints result meant mid now (fault_line meant)
+    → IsSession (Some shape) left left_now written now ReadFailed WriteFailed result lives
+session_done shape sound left left_now written mid now ReadFailed WriteFailed meant result logs lives one lines
+    read_cause write_cause cut_short last =
     subst (IsSession (Some shape) left left_now written now ReadFailed WriteFailed result) (sym one)
     (record {
       input = lines.input;
@@ -145,10 +150,13 @@ session_done shape sound left left_now written mid now ReadFailed WriteFailed me
     })
 
 -- the words are refused, and nothing is read
-pub session_refused : (asked : Option Shape) (left written now : Option (List ℕ)) (ReadFailed WriteFailed : Type 0) (result : Ending) (lives : List Life) → lives ≡ [] → asked ≡ None
-    → Prints result ending.Words written now (fault_line ending.Words) → IsSession asked left left written now ReadFailed WriteFailed result lives
+pub session_refused : (asked : Option Shape) (left written now : Option (List ℕ)) (ReadFailed WriteFailed : Type 0)
+    → (result : Ending) (lives : List Life) → lives ≡ [] → asked ≡ None
+    → Prints result ending.Words written now (fault_line ending.Words)
+    → IsSession asked left left written now ReadFailed WriteFailed result lives
 session_refused asked left written now ReadFailed WriteFailed result lives no_life none printed =
-    subst (λ (asked : Option Shape). IsSession asked left left written now ReadFailed WriteFailed result lives) (sym none)
+    subst (λ (asked : Option Shape). IsSession asked left left written now ReadFailed WriteFailed result lives)
+    (sym none)
     (subst (IsSession None left left written now ReadFailed WriteFailed result) (sym no_life)
     (record {
       input = [];
@@ -168,7 +176,8 @@ session_refused asked left written now ReadFailed WriteFailed result lives no_li
     }))
 
 -- memory is wanting before the first line
-unstarted : (asked : Option Shape) (left written : Option (List ℕ)) (ReadFailed WriteFailed : Type 0) → IsSession asked left left written written ReadFailed WriteFailed ending.NoMemory []
+unstarted : (asked : Option Shape) (left written : Option (List ℕ)) (ReadFailed WriteFailed : Type 0)
+    → IsSession asked left left written written ReadFailed WriteFailed ending.NoMemory []
 unstarted None left written ReadFailed WriteFailed =
     record {
       input = [];
@@ -204,7 +213,9 @@ unstarted (Some shape) left written ReadFailed WriteFailed =
       bounded = omega arith;
     }
 
-pub session_unstarted : (asked : Option Shape) (left written : Option (List ℕ)) (ReadFailed WriteFailed : Type 0) (lives : List Life) → lives ≡ []
+pub session_unstarted : (asked : Option Shape) (left written : Option (List ℕ)) (ReadFailed WriteFailed : Type 0)
+    → (lives : List Life) → lives ≡ []
     → IsSession asked left left written written ReadFailed WriteFailed ending.NoMemory lives
 session_unstarted asked left written ReadFailed WriteFailed lives none =
-    subst (IsSession asked left left written written ReadFailed WriteFailed ending.NoMemory) (sym none) (unstarted asked left written ReadFailed WriteFailed)
+    subst (IsSession asked left left written written ReadFailed WriteFailed ending.NoMemory) (sym none)
+    (unstarted asked left written ReadFailed WriteFailed)

@@ -1,5 +1,6 @@
 -- What the logs say where a session ends.
-use Rattle.std.proofs.Common.{◌≡◌, inl, ℕ, List, [], ◌∷◌, ◌++◌, length, take, reverse, Bool, true, false, refl, ap, sym, subst, ◌∙◌}
+use Rattle.std.proofs.Common.{◌≡◌, inl, ℕ, List, [], ◌∷◌, ◌++◌, length, take, reverse, Bool, true, false, refl, ap, sym}
+use Rattle.std.proofs.Common.{subst, ◌∙◌}
 use Rattle.std.specs.Prelude.{Option, None, Some, slice_get}
 use Rattle.std.specs.Io.KnownBytes.{Appends}
 use Rattle.std.proofs.lemmas.List.{append-nil, take_at}
@@ -28,10 +29,15 @@ get_behind (x ∷ front) rest c = get_behind front rest c
 
 module _ (start : Start) where
   -- the world has served these commands, which are a front of all
-  served_in_front : (done rest : List Command) (w : Whole) (commands : List Command) → IsServed start done w → commands ≡ done ++ rest → AreAskedInFront start commands (logs_at w.logs 0)
+  served_in_front : (done rest : List Command) (w : Whole) (commands : List Command) → IsServed start done w
+      → commands ≡ done ++ rest → AreAskedInFront start commands (logs_at w.logs 0)
   served_in_front done rest w commands was is =
-      let front : take (length done) commands ≡ done = ap (take (length done)) is ∙ take_at done rest (length done) refl in
-      record { count = length done; asked = subst (λ cs. AreAsked start (reverse cs) (logs_at w.logs 0)) (sym front) was.asked }
+      let front : take (length done) commands ≡ done =
+      ap (take (length done)) is ∙ take_at done rest (length done) refl in
+      record {
+        count = length done;
+        asked = subst (λ cs. AreAsked start (reverse cs) (logs_at w.logs 0)) (sym front) was.asked;
+      }
 
   -- and nothing of the next one
   none_begun : (log : List HostStep) (next : Option Command) → AsksInPart start next log log
@@ -62,7 +68,8 @@ module _ (start : Start) where
         quiet = λ kept. quiet_logs start was.given w was.right was.quiet;
       }
     where
-      asked : (e : Ending) → (is_cut_short e ≡ false → rest ≡ []) → AreAskedFor start e commands (logs_at w.logs 0)
+      asked : (e : Ending) → (is_cut_short e ≡ false → rest ≡ [])
+          → AreAskedFor start e commands (logs_at w.logs 0)
       asked ending.WriteFault none = served_in_front done rest w commands was is
       asked ending.NoMemory none = served_in_part done rest w commands was is
       asked _ none =

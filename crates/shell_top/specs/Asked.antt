@@ -1,5 +1,6 @@
 -- What the shell asks for: command after command, and about each that leaves something of its own unanswered.
-use Rattle.std.specs.Prelude.{◌≡◌, ◌⊎◌, ℕ, zero, suc, ◌+◌, ◌-◌, Bool, true, false, List, [], ◌∷◌, ◌++◌, reverse, take, slice_get, Option, None, Some}
+use Rattle.std.specs.Prelude.{◌≡◌, ◌⊎◌, ℕ, zero, suc, ◌+◌, ◌-◌, Bool, true, false, List, [], ◌∷◌, ◌++◌, reverse, take}
+use Rattle.std.specs.Prelude.{slice_get, Option, None, Some}
 use Rattle.node_core.specs.Replies.{is_left_open}
 use Rattle.node_core.specs.Requests.{is_request}
 use Rattle.run_theory.specs.Lists.{IsPast}
@@ -91,7 +92,8 @@ pub record AsksOnInPart (start : Start) (command : Command) (before log : List H
 -- a first part of what is asked for a command, if there is one, was asked for
 abbrev pub AsksInPart : Start → Option Command → List HostStep → List HostStep → Type 0
 AsksInPart start None before log = requests log ≡ requests before
-AsksInPart start (Some command) before log = AsksFirstOf (requests_of command) before log ⊎ AsksOnInPart start command before log
+AsksInPart start (Some command) before log =
+    AsksFirstOf (requests_of command) before log ⊎ AsksOnInPart start command before log
 
 -- the first commands were asked for, in host 0's log, and nothing else
 pub record AreAskedInFront (start : Start) (commands : List Command) (log : List HostStep) : Type 0 where

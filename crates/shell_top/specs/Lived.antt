@@ -54,9 +54,9 @@ EachIsAnswered start ending logs =
     → (ending ≡ NoMemory → IsAskedAgain start newer)
     → IsAnsweredIn start logs request before
 
--- What a life of a cluster of this shape says: it begins without rows, in the first epoch; its logs, one for each host and
--- each with its host's number, are a run of the machine from there; the requests in them are those of the commands; every closed cut of them is serial; and
--- each request is answered, with no reply that tells of a host that stopped.
+-- What a life of a cluster of this shape says: it begins without rows, in the first epoch; its logs, one for each host
+-- and each with its host's number, are a run of the machine from there; the requests in them are those of the commands;
+-- every closed cut of them is serial; and each request is answered, with no reply that tells of a host that stopped.
 pub record IsLife (shape : Shape) (ending : Ending) (commands : List Command) (life : Life) : Type 0 where
   pub begins : start_of shape life ≡ fresh shape
   pub lived : AreLived (start_of shape life) ending commands life.logs

@@ -45,7 +45,8 @@ nodes_of (Some shape) = shape.nodes
 -- and then the line of the fault by which it was meant to end. It was meant to end by a fault of the source or the sink
 -- only where that failed. Where its replies were cut short, it ended for that. Where the words asked for no cluster,
 -- nothing was read, and the session ended for that, or for want of memory.
-pub record IsSession (asked : Option Shape) (left left_now written written_now : Option (List ℕ)) (ReadFailed WriteFailed : Type 0) (ending : Ending) (lives : List Life) : Type 0 where
+pub record IsSession (asked : Option Shape) (left left_now written written_now : Option (List ℕ))
+    (ReadFailed WriteFailed : Type 0) (ending : Ending) (lives : List Life) : Type 0 where
   pub input : List ℕ
   pub ended : Bool
   pub meant : Ending
@@ -62,7 +63,8 @@ pub record IsSession (asked : Option Shape) (left left_now written written_now :
   pub bounded : length input ≤ 513 * 65536 + 1024
 
 -- a session, and the status that tells how it ended
-pub record HasSession (asked : Option Shape) (left left_now written written_now : Option (List ℕ)) (ReadFailed WriteFailed : Type 0) (status : ℕ) (lives : List Life) : Type 0 where
+pub record HasSession (asked : Option Shape) (left left_now written written_now : Option (List ℕ))
+    (ReadFailed WriteFailed : Type 0) (status : ℕ) (lives : List Life) : Type 0 where
   pub ending : Ending
   pub session : IsSession asked left left_now written written_now ReadFailed WriteFailed ending lives
   pub told : status ≡ status_of ending

@@ -12,8 +12,10 @@ returns-in-Ok-Some-clause-session g c =
     sym c.in-Ok-Some.field-0-is
     ∙ subst (λ result. IfOk result (λ asked. asked ≡ asked_shape (map string_bytes c.args.words.now))) c.in-Ok-Some.is c.shape_asked.ensures.told in
     subst (λ asked. IsSession asked (g.S.Source.left c.args.source.now) (g.S.Source.left c.run_shape.new.source) (g.K.Sink.written c.args.sink.now)
-    (g.K.Sink.written c.run_shape.new.sink) (Rose (g.S.Source.faults c.args.source.now) (g.S.Source.faults c.run_shape.new.source))
-    (Rose (g.K.Sink.faults c.args.sink.now) (g.K.Sink.faults c.run_shape.new.sink)) c.run_shape.result.ending c.run_shape.result.lives.items) told c.run_shape.ensures.session
+    (g.K.Sink.written c.run_shape.new.sink)
+    (Rose (g.S.Source.faults c.args.source.now) (g.S.Source.faults c.run_shape.new.source))
+    (Rose (g.K.Sink.faults c.args.sink.now) (g.K.Sink.faults c.run_shape.new.sink)) c.run_shape.result.ending
+    c.run_shape.result.lives.items) told c.run_shape.ensures.session
 
 pub returns-in-Ok-None-clause-session : goal.returns-in-Ok-None-clause-session
 returns-in-Ok-None-clause-session g c =
