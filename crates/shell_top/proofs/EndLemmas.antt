@@ -1,11 +1,13 @@
 -- How a whole session is told: its lines, and then the line of the fault by which it was meant to end.
-use Rattle.std.proofs.Common.{reverse, map, ◌≡◌, ◌⊎◌, ℕ, List, [], ◌∷◌, ◌++◌, length, false, refl, ap, sym, subst, ◌∙◌, arith, inl, inr}
+use Rattle.std.proofs.Common.{reverse, map, ◌≡◌, ◌⊎◌, ◌≤◌, ℕ, List, [], ◌∷◌, ◌++◌, length, true, false, refl, ap, sym}
+use Rattle.std.proofs.Common.{subst, ◌∙◌, arith, inl, inr}
 use Rattle.std.specs.Prelude.{Option, None, Some}
 use Rattle.std.specs.Global.{Vec}
 use Rattle.std.specs.Io.KnownBytes.{Appends, Consumes}
 use Rattle.std.proofs.KnownBytes.{Appends-nil, Consumes-nil}
 use Rattle.std.proofs.lemmas.List.{append-nil}
 use Rattle.run_theory.proofs.Merging.{merged_run}
+use Rattle.host_io.specs.Fault.{Rose}
 use Rattle.sig_core.specs.declared.log.HostLog.{HostLog}
 use Rattle.sig_core.specs.declared.view.Shape.{Shape}
 use Rattle.frag_map.specs.Shape.{IsShape}
@@ -93,9 +95,20 @@ ends_or_goes_on : (e : Ending) (Q A : Type 0) → ((e ≡ ending.NoMemory → �
 ends_or_goes_on ending.NoMemory Q A quiet again = inr (again refl)
 ends_or_goes_on _ Q A quiet again = inl (quiet (λ is. absurd cc))
 
+-- a count that rose and doesn't fall has risen
+pub rose_still : (before mid now : ℕ) → Rose before mid → mid ≤ now → Rose before now
+rose_still before mid now rose kept = omega (arith, rose, kept)
+
+-- where printing was cut short, nothing more is printed
+pub nothing_more_printed : (meant : Ending) (written : Option (List ℕ)) → is_cut_short meant ≡ true
+    → Prints meant meant written written (fault_line meant)
+nothing_more_printed ending.WriteFault written cut = record { count = 0; appended = Appends-nil written }
+nothing_more_printed ending.NoMemory written cut = record { count = 0; appended = Appends-nil written }
+nothing_more_printed _ written cut = cc
+
 -- what the one life says
-pub is_life : (shape : Shape) → IsShape shape → (e : Ending) (commands : List Command) (logs : List HostLog) → AreLived (fresh shape) e commands (logs_at logs)
-    → IsLife shape e commands (fresh_life logs)
+pub is_life : (shape : Shape) → IsShape shape → (e : Ending) (commands : List Command) (logs : List HostLog)
+    → AreLived (fresh shape) e commands logs → IsLife shape e commands (fresh_life logs)
 is_life shape sound e commands logs lived =
     record {
       begins = refl;
@@ -109,11 +122,15 @@ is_life shape sound e commands logs lived =
     }
 
 -- it was done with its lines
-pub session_done : (shape : Shape) → IsShape shape → (left left_now written mid now : Option (List ℕ)) (meant result : Ending) (logs : List HostLog) (lives : List Life)
-    → lives ≡ fresh_life logs ∷ [] → AreLinesDone shape left left_now written mid meant logs → Prints result meant mid now (fault_line meant)
-    → IsSession (Some shape) left left_now written now result lives
-session_done shape sound left left_now written mid now meant result logs lives one lines last =
-    subst (IsSession (Some shape) left left_now written now result) (sym one)
+pub session_done : (shape : Shape) → IsShape shape → (left left_now written mid now : Option (List ℕ))
+    → (ReadFailed WriteFailed : Type 0) (meant result : Ending) (logs : List HostLog) (lives : List Life)
+    → lives ≡ fresh_life logs ∷ [] → AreLinesDone shape left left_now written mid meant logs
+    → (meant ≡ ending.ReadFault → ReadFailed) → (meant ≡ ending.WriteFault → WriteFailed)
+    → (is_cut_short meant ≡ true → result ≡ meant) → Prints result meant mid now (fault_line meant)
+    → IsSession (Some shape) left left_now written now ReadFailed WriteFailed result lives
+session_done shape sound left left_now written mid now ReadFailed WriteFailed meant result logs lives one lines
+    read_cause write_cause cut_short last =
+    subst (IsSession (Some shape) left left_now written now ReadFailed WriteFailed result) (sym one)
     (record {
       input = lines.input;
       ended = lines.ended;
@@ -121,6 +138,9 @@ session_done shape sound left left_now written mid now meant result logs lives o
       consumed = lines.consumed;
       at_end = lines.at_end;
       ends = lines.ends;
+      read_cause = read_cause;
+      write_cause = write_cause;
+      cut_short = cut_short;
       told = prints_both (is_cut_short meant) (is_cut_short result) meant result refl refl written mid now (session_text (Some shape) (fresh_life logs ∷ []))
           (subst (Prints meant meant written mid) (sym (append-nil (text_of (fresh shape) (logs_at logs 0)))) lines.told) last;
       lived = is_life shape sound meant (script_from shape.nodes lines.ended 1 lines.input).commands logs lines.lived;
@@ -130,11 +150,14 @@ session_done shape sound left left_now written mid now meant result logs lives o
     })
 
 -- the words are refused, and nothing is read
-pub session_refused : (asked : Option Shape) (left written now : Option (List ℕ)) (result : Ending) (lives : List Life) → lives ≡ [] → asked ≡ None
-    → Prints result ending.Words written now (fault_line ending.Words) → IsSession asked left left written now result lives
-session_refused asked left written now result lives no_life none printed =
-    subst (λ (asked : Option Shape). IsSession asked left left written now result lives) (sym none)
-    (subst (IsSession None left left written now result) (sym no_life)
+pub session_refused : (asked : Option Shape) (left written now : Option (List ℕ)) (ReadFailed WriteFailed : Type 0)
+    → (result : Ending) (lives : List Life) → lives ≡ [] → asked ≡ None
+    → Prints result ending.Words written now (fault_line ending.Words)
+    → IsSession asked left left written now ReadFailed WriteFailed result lives
+session_refused asked left written now ReadFailed WriteFailed result lives no_life none printed =
+    subst (λ (asked : Option Shape). IsSession asked left left written now ReadFailed WriteFailed result lives)
+    (sym none)
+    (subst (IsSession None left left written now ReadFailed WriteFailed result) (sym no_life)
     (record {
       input = [];
       ended = false;
@@ -142,6 +165,9 @@ session_refused asked left written now result lives no_life none printed =
       consumed = Consumes-nil left;
       at_end = λ is. cc;
       ends = tt;
+      read_cause = λ is. cc;
+      write_cause = λ is. cc;
+      cut_short = λ is. cc;
       told = printed;
       lived = (refl, refl);
       words_first = λ any. (refl, refl);
@@ -150,8 +176,9 @@ session_refused asked left written now result lives no_life none printed =
     }))
 
 -- memory is wanting before the first line
-unstarted : (asked : Option Shape) (left written : Option (List ℕ)) → IsSession asked left left written written ending.NoMemory []
-unstarted None left written =
+unstarted : (asked : Option Shape) (left written : Option (List ℕ)) (ReadFailed WriteFailed : Type 0)
+    → IsSession asked left left written written ReadFailed WriteFailed ending.NoMemory []
+unstarted None left written ReadFailed WriteFailed =
     record {
       input = [];
       ended = false;
@@ -159,13 +186,16 @@ unstarted None left written =
       consumed = Consumes-nil left;
       at_end = λ is. cc;
       ends = tt;
+      read_cause = λ is. cc;
+      write_cause = λ is. cc;
+      cut_short = λ is. refl;
       told = record { count = 0; appended = Appends-nil written };
       lived = (refl, refl);
       words_first = λ none. (refl, refl);
       words_refused = λ is. cc;
       bounded = omega arith;
     }
-unstarted (Some shape) left written =
+unstarted (Some shape) left written ReadFailed WriteFailed =
     record {
       input = [];
       ended = false;
@@ -173,6 +203,9 @@ unstarted (Some shape) left written =
       consumed = Consumes-nil left;
       at_end = λ is. cc;
       ends = tt;
+      read_cause = λ is. cc;
+      write_cause = λ is. cc;
+      cut_short = λ is. refl;
       told = record { count = 0; appended = Appends-nil written };
       lived = (refl, refl);
       words_first = λ none. cc;
@@ -180,5 +213,9 @@ unstarted (Some shape) left written =
       bounded = omega arith;
     }
 
-pub session_unstarted : (asked : Option Shape) (left written : Option (List ℕ)) (lives : List Life) → lives ≡ [] → IsSession asked left left written written ending.NoMemory lives
-session_unstarted asked left written lives none = subst (IsSession asked left left written written ending.NoMemory) (sym none) (unstarted asked left written)
+pub session_unstarted : (asked : Option Shape) (left written : Option (List ℕ)) (ReadFailed WriteFailed : Type 0)
+    → (lives : List Life) → lives ≡ []
+    → IsSession asked left left written written ReadFailed WriteFailed ending.NoMemory lives
+session_unstarted asked left written ReadFailed WriteFailed lives none =
+    subst (IsSession asked left left written written ReadFailed WriteFailed ending.NoMemory) (sym none)
+    (unstarted asked left written ReadFailed WriteFailed)

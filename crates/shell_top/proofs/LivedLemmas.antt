@@ -1,12 +1,13 @@
 -- What the logs say where a session ends.
-use Rattle.std.proofs.Common.{◌≡◌, ℕ, List, [], ◌∷◌, ◌++◌, length, take, reverse, Bool, true, false, refl, ap, sym, subst, ◌∙◌}
-use Rattle.std.specs.Prelude.{Option, Some, slice_get}
+use Rattle.std.proofs.Common.{◌≡◌, inl, ℕ, List, [], ◌∷◌, ◌++◌, length, take, reverse, Bool, true, false, refl, ap, sym}
+use Rattle.std.proofs.Common.{subst, ◌∙◌}
+use Rattle.std.specs.Prelude.{Option, None, Some, slice_get}
 use Rattle.std.specs.Io.KnownBytes.{Appends}
 use Rattle.std.proofs.lemmas.List.{append-nil, take_at}
 use Rattle.run_theory.proofs.Pasts.{past_self}
 use Rattle.script_lang.specs.declared.command.Command.{Command}
 use Rattle.sig_core.specs.declared.log.HostLog.{HostLog}
-use Rattle.shell_top.specs.Asked.{AreAsked, AreAskedInPart, all_requests}
+use Rattle.shell_top.specs.Asked.{AreAsked, AreAskedInFront, AreAskedInPart, AsksInPart}
 use Rattle.shell_top.specs.declared.ended.Ending.{Ending}
 use Rattle.shell_top.specs.declared.ended.Ending.TheVariants as ending
 use Rattle.shell_top.specs.Lived.{AreAskedFor, AreLived}
@@ -15,9 +16,11 @@ use Rattle.shell_top.specs.Served.{AreLeft, IsServed}
 use Rattle.shell_top.proofs.PrintedLemmas.{part_behind}
 use Rattle.world_core.specs.Requests.{requests}
 use Rattle.world_core.specs.Start.{Start}
+use Rattle.world_core.specs.Steps.{HostStep}
 use Rattle.world_core.specs.World.{Whole, logs_at}
 use Rattle.world_core.proofs.QuietLemmas.{quiet_logs}
 use Rattle.world_core.proofs.StepDriven.{right_logs, within}
+use Rattle.world_core.proofs.WorldLemmas.{sound_labels}
 
 -- what stands behind a front
 get_behind : (front rest : List Command) (c : Command) → slice_get (front ++ c ∷ rest) (length front) ≡ Some c
@@ -26,6 +29,21 @@ get_behind (x ∷ front) rest c = get_behind front rest c
 
 module _ (start : Start) where
   -- the world has served these commands, which are a front of all
+  served_in_front : (done rest : List Command) (w : Whole) (commands : List Command) → IsServed start done w
+      → commands ≡ done ++ rest → AreAskedInFront start commands (logs_at w.logs 0)
+  served_in_front done rest w commands was is =
+      let front : take (length done) commands ≡ done =
+      ap (take (length done)) is ∙ take_at done rest (length done) refl in
+      record {
+        count = length done;
+        asked = subst (λ cs. AreAsked start (reverse cs) (logs_at w.logs 0)) (sym front) was.asked;
+      }
+
+  -- and nothing of the next one
+  none_begun : (log : List HostStep) (next : Option Command) → AsksInPart start next log log
+  none_begun log None = refl
+  none_begun log (Some c) = inl (record { part = 0; begun = sym (append-nil (requests log)) })
+
   served_in_part : (done rest : List Command) (w : Whole) (commands : List Command) → IsServed start done w → commands ≡ done ++ rest → AreAskedInPart start commands (logs_at w.logs 0)
   served_in_part done rest w commands was is =
       let front : take (length done) commands ≡ done = ap (take (length done)) is ∙ take_at done rest (length done) refl in
@@ -34,35 +52,38 @@ module _ (start : Start) where
         before = logs_at w.logs 0;
         asked = subst (λ cs. AreAsked start (reverse cs) (logs_at w.logs 0)) (sym front) was.asked;
         past = past_self (logs_at w.logs 0);
-        part = 0;
-        begun = sym (append-nil (requests (logs_at w.logs 0)));
+        begun = none_begun (logs_at w.logs 0) (slice_get commands (length done));
       }
 
   -- these are all, unless the session was cut short
   pub served_lived : (e : Ending) (done rest : List Command) (w : Whole) (commands : List Command) → IsServed start done w → commands ≡ done ++ rest
-      → (is_cut_short e ≡ false → rest ≡ []) → AreLived start e commands (logs_at w.logs)
+      → (is_cut_short e ≡ false → rest ≡ []) → AreLived start e commands w.logs
   served_lived e done rest w commands was is last =
       record {
+        labelled = sound_labels start w (record { given = was.given; right = was.right });
         right = right_logs start was.given w was.right;
         within = within start was.given w was.right;
-        asked = asked (is_cut_short e) last;
+        asked = asked e last;
         at_quiet = was.at_quiet;
         quiet = λ kept. quiet_logs start was.given w was.right was.quiet;
       }
     where
-      asked : (cut : Bool) → (cut ≡ false → rest ≡ []) → AreAskedFor start cut commands (logs_at w.logs 0)
-      asked true none = served_in_part done rest w commands was is
-      asked false none =
+      asked : (e : Ending) → (is_cut_short e ≡ false → rest ≡ [])
+          → AreAskedFor start e commands (logs_at w.logs 0)
+      asked ending.WriteFault none = served_in_front done rest w commands was is
+      asked ending.NoMemory none = served_in_part done rest w commands was is
+      asked _ none =
           let all : commands ≡ done = is ∙ ap (λ cs. done ++ cs) (none refl) ∙ append-nil done in
           subst (λ cs. AreAsked start (reverse cs) (logs_at w.logs 0)) (sym all) was.asked
 
   -- memory was wanting while the next command was served
   pub left_lived : (done : List Command) (c : Command) (rest : List Command) (w : Whole) (logs : List HostLog) (commands : List Command) → IsServed start done w → AreLeft start c w logs
-      → commands ≡ done ++ c ∷ rest → AreLived start ending.NoMemory commands (logs_at logs)
+      → commands ≡ done ++ c ∷ rest → AreLived start ending.NoMemory commands logs
   left_lived done c rest w logs commands was left is =
       let front : take (length done) commands ≡ done = ap (take (length done)) is ∙ take_at done (c ∷ rest) (length done) refl in
       let next : slice_get commands (length done) ≡ Some c = ap (λ cs. slice_get cs (length done)) is ∙ get_behind done rest c in
       record {
+        labelled = left.left.labelled;
         right = left.left.right;
         within = left.left.within;
         asked = record {
@@ -70,8 +91,7 @@ module _ (start : Start) where
           before = logs_at w.logs 0;
           asked = subst (λ cs. AreAsked start (reverse cs) (logs_at w.logs 0)) (sym front) was.asked;
           past = left.left.more 0;
-          part = left.left.part;
-          begun = left.left.requests ∙ ap (λ o. requests (logs_at w.logs 0) ++ take left.left.part (all_requests o)) (sym next);
+          begun = subst (λ o. AsksInPart start o (logs_at w.logs 0) (logs_at logs 0)) (sym next) left.begun;
         };
         at_quiet = left.left.at_quiet was.quiet was.at_quiet;
         quiet = λ kept. absurd (kept refl);

@@ -16,7 +16,8 @@ use Rattle.sig_core.specs.declared.reply.ApiReply.{ApiReply}
 use Rattle.sig_core.specs.declared.request.ApiReq.{ApiReq}
 use Rattle.sig_core.specs.declared.request.ApiReq.TheVariants.{Tick}
 use Rattle.shell_top.specs.Arranged.{arranged}
-use Rattle.shell_top.specs.Asked.{AreAsked, AsksOn, IsAskedNext, is_served, name_in, questions, requests_of, rounds_behind}
+use Rattle.shell_top.specs.Asked.{AreAsked, AsksInPart, AsksOn, IsAskedNext, is_served, name_in, questions, requests_of}
+use Rattle.shell_top.specs.Asked.{rounds_behind}
 use Rattle.shell_top.specs.declared.ended.Ending.TheVariants as ending
 use Rattle.shell_top.specs.Printed.{AppendsPart}
 use Rattle.shell_top.specs.Served.{AreLeft, AreLeftOff, AsksFirst, HasGoneOn, HasServed, IsServed, PrintsCommand, ServesCommand}
@@ -24,6 +25,7 @@ use Rattle.shell_top.specs.Text.{reply_lines}
 use Rattle.shell_top.specs.Told.{replies_in, text_of}
 use Rattle.shell_top.proofs.ToldLemmas.{HasFirst, asked_in, asks_for, has_first, none_begins, none_both, none_take, one_more, requests_newer}
 use Rattle.world_core.specs.Driven.{HasAsked, HaveGrown, IsDriven, IsSound, IsWorld}
+use Rattle.world_core.specs.Labels.{AreLabelled}
 use Rattle.world_core.specs.Machine.{after}
 use Rattle.world_core.specs.Requests.{request_in, requests}
 use Rattle.world_core.specs.Right.{IsRight}
@@ -31,6 +33,7 @@ use Rattle.world_core.specs.Start.{Start}
 use Rattle.world_core.specs.World.{IsIdle, Whole, is_left_open, logs_at, replies_of, with_replies}
 use Rattle.world_core.proofs.Replies.{open_is, replies_are, replies_gone, told_right}
 use Rattle.world_core.proofs.StepDriven.{right_logs, within}
+use Rattle.world_core.proofs.WorldLemmas.{sound_labels}
 
 -- the next step still is when the log has grown
 next_longer : (before log all : List HostStep) → IsAskedNext before log → IsPast log all → IsAskedNext before all
@@ -100,10 +103,12 @@ module _ (start : Start) where
       }
 
   -- memory was wanting before anything was asked for
-  pub left_unasked : (asked : List ApiReq) (w : Whole) (logs : List HostLog) → IsSound start w → logs ≡ w.logs → AreLeftOff start asked w (logs_at logs)
+  pub left_unasked : (asked : List ApiReq) (w : Whole) (logs : List HostLog) → IsSound start w → logs ≡ w.logs
+      → AreLeftOff start asked w logs
   left_unasked asked w logs sound same =
-      subst (λ ls. AreLeftOff start asked w (logs_at ls)) (sym same)
+      subst (AreLeftOff start asked w) (sym same)
       (record {
+        labelled = sound_labels start w sound;
         right = right_logs start sound.given w sound.right;
         within = within start sound.given w sound.right;
         more = λ h. past_self (logs_at w.logs h);
@@ -114,9 +119,12 @@ module _ (start : Start) where
       })
 
   -- or when one thing was
-  pub left_undriven : (request : ApiReq) (w u : Whole) (logs : List HostLog) → HasAsked start request w u → HaveGrown start (logs_at u.logs) (logs_at logs) → AreLeftOff start (request ∷ []) w (logs_at logs)
-  left_undriven request w u logs asked grown =
+  pub left_undriven : (request : ApiReq) (w u : Whole) (logs : List HostLog) → HasAsked start request w u
+      → HaveGrown start (logs_at u.logs) (logs_at logs) → AreLabelled start logs
+      → AreLeftOff start (request ∷ []) w logs
+  left_undriven request w u logs asked grown labelled =
       record {
+        labelled = labelled;
         right = grown.right;
         within = grown.within;
         more = λ h. past_trans (asked.more h) (grown.more h);
@@ -128,19 +136,24 @@ module _ (start : Start) where
       }
 
   -- or behind what was served
-  begun_later : (asked more : List ApiReq) (w u : Whole) (logs : ℕ → List HostStep) → HasServed start asked w u → AreLeftOff start more u logs
-      → (logs 0 ≡ logs_at w.logs 0) ⊎ IsAskedNext (logs_at w.logs 0) (logs 0)
+  begun_later : (asked more : List ApiReq) (w u : Whole) (logs : List HostLog) → HasServed start asked w u
+      → AreLeftOff start more u logs
+      → (logs_at logs 0 ≡ logs_at w.logs 0) ⊎ IsAskedNext (logs_at w.logs 0) (logs_at logs 0)
   begun_later asked more w u logs served left = go asked served.next left.begun
     where
-      go : (rs : List ApiReq) → AsksFirst rs (logs_at w.logs 0) (logs_at u.logs 0) → (logs 0 ≡ logs_at u.logs 0) ⊎ IsAskedNext (logs_at u.logs 0) (logs 0)
-          → (logs 0 ≡ logs_at w.logs 0) ⊎ IsAskedNext (logs_at w.logs 0) (logs 0)
-      go (r ∷ rs) next begun = inr (next_longer (logs_at w.logs 0) (logs_at u.logs 0) (logs 0) next (left.more 0))
+      go : (rs : List ApiReq) → AsksFirst rs (logs_at w.logs 0) (logs_at u.logs 0)
+          → (logs_at logs 0 ≡ logs_at u.logs 0) ⊎ IsAskedNext (logs_at u.logs 0) (logs_at logs 0)
+          → (logs_at logs 0 ≡ logs_at w.logs 0) ⊎ IsAskedNext (logs_at w.logs 0) (logs_at logs 0)
+      go (r ∷ rs) next begun =
+          inr (next_longer (logs_at w.logs 0) (logs_at u.logs 0) (logs_at logs 0) next (left.more 0))
       go [] same (inl none) = inl (none ∙ same)
-      go [] same (inr next) = inr (subst (λ l. IsAskedNext l (logs 0)) same next)
+      go [] same (inr next) = inr (subst (λ l. IsAskedNext l (logs_at logs 0)) same next)
 
-  pub left_later : (asked more : List ApiReq) (w u : Whole) (logs : ℕ → List HostStep) → HasServed start asked w u → AreLeftOff start more u logs → AreLeftOff start (asked ++ more) w logs
+  pub left_later : (asked more : List ApiReq) (w u : Whole) (logs : List HostLog) → HasServed start asked w u
+      → AreLeftOff start more u logs → AreLeftOff start (asked ++ more) w logs
   left_later asked more w u logs served left =
       record {
+        labelled = left.labelled;
         right = left.right;
         within = left.within;
         more = λ h. past_trans (served.more h) (left.more h);
@@ -152,10 +165,12 @@ module _ (start : Start) where
       }
 
   -- what was left off of some things was left off of more
-  pub left_of_more : (asked more : List ApiReq) (w : Whole) (logs : ℕ → List HostStep) → AreLeftOff start asked w logs → AreLeftOff start (asked ++ more) w logs
+  pub left_of_more : (asked more : List ApiReq) (w : Whole) (logs : List HostLog) → AreLeftOff start asked w logs
+      → AreLeftOff start (asked ++ more) w logs
   left_of_more asked more w logs left =
       let part = part_longer left.part asked more in
       record {
+        labelled = left.labelled;
         right = left.right;
         within = left.within;
         more = left.more;
@@ -166,10 +181,11 @@ module _ (start : Start) where
       }
 
   -- all was served, and then memory was wanting
-  pub left_served : (asked : List ApiReq) (w t : Whole) (logs : List HostLog) → HasServed start asked w t → IsSound start w → logs ≡ t.logs → AreLeftOff start asked w (logs_at logs)
+  pub left_served : (asked : List ApiReq) (w t : Whole) (logs : List HostLog) → HasServed start asked w t
+      → IsSound start w → logs ≡ t.logs → AreLeftOff start asked w logs
   left_served asked w t logs served sound same =
-      subst (λ rs. AreLeftOff start rs w (logs_at logs)) (append-nil asked)
-      (left_later asked [] w t (logs_at logs) served (left_unasked [] t logs (served_sound asked w t served sound) same))
+      subst (λ rs. AreLeftOff start rs w logs) (append-nil asked)
+      (left_later asked [] w t logs served (left_unasked [] t logs (served_sound asked w t served sound) same))
 
   -- no request, though the next step is one
   none_asked : (before log : List HostStep) → IsAskedNext before log → requests log ≡ requests before ++ [] → ⊥
@@ -197,8 +213,10 @@ module _ (start : Start) where
       ∙ ap (λ name. text_of start before ++ reply_lines (arranged name (drop (length (replies_in start before)) (replies_in start log)))) has.name
 
   -- memory was wanting in a command: its text goes on
-  pub left_text : (c : Command) (w : Whole) (logs : List HostLog) → is_served c ≡ true → AreLeftOff start (requests_of c ++ questions) w (logs_at logs) → AreLeft start c w logs
-  left_text c w logs served left = go left.begun
+  pub left_text : (c : Command) (w : Whole) (logs : List HostLog) → is_served c ≡ true
+      → AreLeftOff start (requests_of c ++ questions) w logs
+      → AsksInPart start (Some c) (logs_at w.logs 0) (logs_at logs 0) → AreLeft start c w logs
+  left_text c w logs served left begun = go left.begun
     where
       has : HasFirst c
       has = has_first c served
@@ -211,13 +229,16 @@ module _ (start : Start) where
       asked (suc part) is next =
           record {
             left = left;
+            begun = begun;
             more = reply_lines (arranged (name_in c) (drop (length (replies_in start (logs_at w.logs 0))) (replies_in start (logs_at logs 0))));
             text = text_behind has.first (take part (has.rest ++ questions)) (logs_at w.logs 0) (logs_at logs 0) next is c has refl
                 (none_take part (has.rest ++ questions) (none_both has.rest questions has.none refl));
           }
 
       go : (logs_at logs 0 ≡ logs_at w.logs 0) ⊎ IsAskedNext (logs_at w.logs 0) (logs_at logs 0) → AreLeft start c w logs
-      go (inl same) = record { left = left; more = []; text = ap (text_of start) same ∙ sym (append-nil (text_of start (logs_at w.logs 0))) }
+      go (inl same) =
+          let text = ap (text_of start) same ∙ sym (append-nil (text_of start (logs_at w.logs 0))) in
+          record { left = left; begun = begun; more = []; text = text }
       go (inr next) = asked left.part (left.requests ∙ ap (λ rs. requests (logs_at w.logs 0) ++ take left.part rs) are) next
 
   -- all that was asked for behind a world: the command's first request, and others that begin none
@@ -317,9 +338,13 @@ module _ (start : Start) (request : ApiReq) where
   asked_ok (Err fault) w u t sound asked drove quiet = tt
 
   pub asked_err : (result : Result (Unit {0}) NoMemory) (w u : Whole) (logs : List HostLog) → IsSound start w → HasAsked start request w u
-      → (IsSound start u → OnErr result (HaveGrown start (logs_at u.logs) (logs_at logs))) → OnErr result (AreLeftOff start (request ∷ []) w (logs_at logs))
-  asked_err (Ok done) w u logs sound asked grown = tt
-  asked_err (Err fault) w u logs sound asked grown = left_undriven start request w u logs asked (grown (asked_sound w u sound asked))
+      → (IsSound start u → OnErr result (HaveGrown start (logs_at u.logs) (logs_at logs)))
+      → (IsSound start u → OnErr result (AreLabelled start logs))
+      → OnErr result (AreLeftOff start (request ∷ []) w logs)
+  asked_err (Ok done) w u logs sound asked grown labelled = tt
+  asked_err (Err fault) w u logs sound asked grown labelled =
+      left_undriven start request w u logs asked (grown (asked_sound w u sound asked))
+      (labelled (asked_sound w u sound asked))
 
 -- one list of requests was asked for, and then another
 module _ (start : Start) (asked more : List ApiReq) where
@@ -327,13 +352,13 @@ module _ (start : Start) (asked more : List ApiReq) where
   both_ok (Ok done) w u t one two = both_served start asked more w u t one two
   both_ok (Err fault) w u t one two = tt
 
-  pub first_err : (w u : Whole) → AreLeftOff start asked w (logs_at u.logs) → AreLeftOff start (asked ++ more) w (logs_at u.logs)
-  first_err w u left = left_of_more start asked more w (logs_at u.logs) left
+  pub first_err : (w u : Whole) → AreLeftOff start asked w u.logs → AreLeftOff start (asked ++ more) w u.logs
+  first_err w u left = left_of_more start asked more w u.logs left
 
-  pub second_err : (result : Result (Unit {0}) NoMemory) (w u t : Whole) → HasServed start asked w u → OnErr result (AreLeftOff start more u (logs_at t.logs))
-      → OnErr result (AreLeftOff start (asked ++ more) w (logs_at t.logs))
+  pub second_err : (result : Result (Unit {0}) NoMemory) (w u t : Whole) → HasServed start asked w u
+      → OnErr result (AreLeftOff start more u t.logs) → OnErr result (AreLeftOff start (asked ++ more) w t.logs)
   second_err (Ok done) w u t one left = tt
-  second_err (Err fault) w u t one left = left_later start asked more w u (logs_at t.logs) one left
+  second_err (Err fault) w u t one left = left_later start asked more w u t.logs one left
 
 -- a list of requests, and those behind it
 record IsFrontOf (front all : List ApiReq) : Type 0 where
@@ -363,13 +388,14 @@ module _ (start : Start) (rounds n : ℕ) where
       let same : suc n ≡ n + 1 = omega arith in
       subst (λ k. HasServed start (rounds_behind rounds k) w t) same (both_served start (rounds_behind rounds n) (Tick (n + 2) rounds ∷ []) w u t before next)
 
-  pub round_left : (all : ℕ) (w u : Whole) (logs : List HostLog) → n < all → HasServed start (rounds_behind rounds n) w u → AreLeftOff start (Tick (n + 2) rounds ∷ []) u (logs_at logs)
-      → AreLeftOff start (rounds_behind rounds all) w (logs_at logs)
+  pub round_left : (all : ℕ) (w u : Whole) (logs : List HostLog) → n < all
+      → HasServed start (rounds_behind rounds n) w u → AreLeftOff start (Tick (n + 2) rounds ∷ []) u logs
+      → AreLeftOff start (rounds_behind rounds all) w logs
   round_left all w u logs low before left =
       let front = rounds_front rounds (suc n) all (omega (arith, low)) in
-      subst (λ rs. AreLeftOff start rs w (logs_at logs)) (sym front.is)
-      (left_of_more start (rounds_behind rounds (suc n)) front.rest w (logs_at logs)
-      (left_later start (rounds_behind rounds n) (Tick (n + 2) rounds ∷ []) w u (logs_at logs) before left))
+      subst (λ rs. AreLeftOff start rs w logs) (sym front.is)
+      (left_of_more start (rounds_behind rounds (suc n)) front.rest w logs
+      (left_later start (rounds_behind rounds n) (Tick (n + 2) rounds ∷ []) w u logs before left))
 
 -- the same, by what the calls answered
 pub on_err : {A E P : Type 0} (result : Result A E) → P → OnErr result P
@@ -388,19 +414,34 @@ module _ (start : Start) (c : Command) (w : Whole) where
       go false same = subst (IsSound start) (sym same) (own_sound u sound own)
       go true asked = served_sound start questions u v asked (own_sound u sound own)
 
-  pub left_own : (logs : List HostLog) → is_served c ≡ true → AreLeftOff start (requests_of c) w (logs_at logs) → AreLeft start c w logs
-  left_own logs is left = left_text start c w logs is (left_of_more start (requests_of c) questions w (logs_at logs) left)
+  pub left_own : (logs : List HostLog) → is_served c ≡ true → AreLeftOff start (requests_of c) w logs
+      → AreLeft start c w logs
+  left_own logs is left =
+      left_text start c w logs is (left_of_more start (requests_of c) questions w logs left)
+      (inl (record { part = left.part; begun = left.requests }))
 
-  pub left_about : (u : Whole) (logs : List HostLog) → is_served c ≡ true → HasServed start (requests_of c) w u → AreLeftOff start questions u (logs_at logs) → AreLeft start c w logs
-  left_about u logs is own left = left_text start c w logs is (left_later start (requests_of c) questions w u (logs_at logs) own left)
+  pub left_about : (u : Whole) (logs : List HostLog) → is_served c ≡ true → IsSound start w
+      → HasServed start (requests_of c) w u → is_left_open u ≡ true → AreLeftOff start questions u logs
+      → AreLeft start c w logs
+  left_about u logs is sound own opened left =
+      left_text start c w logs is (left_later start (requests_of c) questions w u logs own left)
+      (inr (record {
+        served = logs_at u.logs 0;
+        past = left.more 0;
+        own = own.requests;
+        left_open = sym (open_is start u (own_sound u sound own)) ∙ opened;
+        on = record { part = left.part; begun = left.requests };
+      }))
 
   left_gone : (u v : Whole) (logs : List HostLog) → is_served c ≡ true → IsSound start w → HasServed start (requests_of c) w u → HasGoneOn start u v (is_left_open u) → logs ≡ v.logs → AreLeft start c w logs
-  left_gone u v logs is sound own on same = go (is_left_open u) on
+  left_gone u v logs is sound own on same = go (is_left_open u) refl on
     where
-      go : (b : Bool) → HasGoneOn start u v b → AreLeft start c w logs
-      go false gone = left_own logs is (left_served start (requests_of c) w u logs own sound (same ∙ ap (λ (x : Whole). x.logs) gone))
-      go true asked =
-          left_text start c w logs is (left_served start (requests_of c ++ questions) w v logs (both_served start (requests_of c) questions w u v own asked) sound same)
+      go : (b : Bool) → is_left_open u ≡ b → HasGoneOn start u v b → AreLeft start c w logs
+      go false e gone =
+          left_own logs is
+          (left_served start (requests_of c) w u logs own sound (same ∙ ap (λ (x : Whole). x.logs) gone))
+      go true e asked =
+          left_about u logs is sound own e (left_served start questions u v logs asked (own_sound u sound own) same)
 
   pub left_answers : (u v : Whole) (logs : List HostLog) (result : Result (Vec ℕ) NoMemory) → is_served c ≡ true → IsSound start w → HasServed start (requests_of c) w u
       → HasGoneOn start u v (is_left_open u) → OnErr result (logs ≡ v.logs) → OnErr result (AreLeft start c w logs)

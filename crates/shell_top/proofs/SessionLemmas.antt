@@ -94,7 +94,8 @@ module _ (shape : Shape) (left written : Option (List ℕ)) where
 
     -- the session ends here
     ends_here : (written_then : Option (List ℕ)) (e : Ending) (ended : Bool) (logs : List HostLog) → (ended ≡ true → IsAtEnd left_now) → Ends e ended (all_read ended)
-        → Prints e e written written_then (text_of (fresh shape) (logs_at logs 0)) → AreLived (fresh shape) e (all_read ended).commands (logs_at logs) → (e ≡ ending.Words → ⊥)
+        → Prints e e written written_then (text_of (fresh shape) (logs_at logs 0))
+        → AreLived (fresh shape) e (all_read ended).commands logs → (e ≡ ending.Words → ⊥)
         → AreLinesDone shape left left_now written written_then e logs
     ends_here written_then e ended logs at_end ends told lived no_words = record {
       input = u.consumed ++ held;
@@ -109,7 +110,8 @@ module _ (shape : Shape) (left written : Option (List ℕ)) where
     }
 
     -- where what is held asks for no command, the logs say that all was asked for
-    all_lived : (e : Ending) (ended : Bool) (rest : Script) → script_from shape.nodes ended line held ≡ rest → rest.commands ≡ [] → AreLived (fresh shape) e (all_read ended).commands (logs_at s.logs)
+    all_lived : (e : Ending) (ended : Bool) (rest : Script) → script_from shape.nodes ended line held ≡ rest
+        → rest.commands ≡ [] → AreLived (fresh shape) e (all_read ended).commands s.logs
     all_lived e ended rest is none =
         served_lived (fresh shape) e u.commands [] s (all_read ended).commands u.served
         (ap (λ (x : Script). x.commands) (all_asked ended rest is) ∙ ap (λ commands. u.commands ++ commands) none) (λ whole. refl)

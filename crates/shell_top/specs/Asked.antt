@@ -1,5 +1,6 @@
 -- What the shell asks for: command after command, and about each that leaves something of its own unanswered.
-use Rattle.std.specs.Prelude.{◌≡◌, ℕ, zero, suc, ◌+◌, ◌-◌, Bool, true, false, List, [], ◌∷◌, ◌++◌, reverse, take, slice_get, Option, None, Some}
+use Rattle.std.specs.Prelude.{◌≡◌, ◌⊎◌, ℕ, zero, suc, ◌+◌, ◌-◌, Bool, true, false, List, [], ◌∷◌, ◌++◌, reverse, take}
+use Rattle.std.specs.Prelude.{slice_get, Option, None, Some}
 use Rattle.node_core.specs.Replies.{is_left_open}
 use Rattle.node_core.specs.Requests.{is_request}
 use Rattle.run_theory.specs.Lists.{IsPast}
@@ -74,10 +75,30 @@ abbrev pub AreAsked : Start → List Command → List HostStep → Type 0
 AreAsked start [] log = requests log ≡ []
 AreAsked start (command ∷ earlier) log = AsksAfter start command log (AreAsked start earlier)
 
--- all that is asked for a command at most
-abbrev pub all_requests : Option Command → List ApiReq
-all_requests None = []
-all_requests (Some command) = requests_of command ++ questions
+-- a first part of these requests was asked for behind `before`
+pub record AsksFirstOf (asked : List ApiReq) (before log : List HostStep) : Type 0 where
+  pub part : ℕ
+  pub begun : requests log ≡ requests before ++ take part asked
+
+-- A command's own requests were served, and left something of its own unanswered; so a first part of the questions was
+-- asked.
+pub record AsksOnInPart (start : Start) (command : Command) (before log : List HostStep) : Type 0 where
+  pub served : List HostStep
+  pub past : IsPast served log
+  pub own : requests served ≡ requests before ++ requests_of command
+  pub left_open : is_left_open (after start 0 served) ≡ true
+  pub on : AsksFirstOf questions served log
+
+-- a first part of what is asked for a command, if there is one, was asked for
+abbrev pub AsksInPart : Start → Option Command → List HostStep → List HostStep → Type 0
+AsksInPart start None before log = requests log ≡ requests before
+AsksInPart start (Some command) before log =
+    AsksFirstOf (requests_of command) before log ⊎ AsksOnInPart start command before log
+
+-- the first commands were asked for, in host 0's log, and nothing else
+pub record AreAskedInFront (start : Start) (commands : List Command) (log : List HostStep) : Type 0 where
+  pub count : ℕ
+  pub asked : AreAsked start (reverse (take count commands)) log
 
 -- The first commands were asked for, and of the next one a first part of what is asked for it, in host 0's log.
 pub record AreAskedInPart (start : Start) (commands : List Command) (log : List HostStep) : Type 0 where
@@ -85,8 +106,7 @@ pub record AreAskedInPart (start : Start) (commands : List Command) (log : List 
   pub before : List HostStep
   pub asked : AreAsked start (reverse (take count commands)) before
   pub past : IsPast before log
-  pub part : ℕ
-  pub begun : requests log ≡ requests before ++ take part (all_requests (slice_get commands count))
+  pub begun : AsksInPart start (slice_get commands count) before log
 
 -- the name of the transaction that a command is about, if it has one
 abbrev pub name_in : Command → Option ℕ

@@ -10,15 +10,16 @@ use Rattle.command_laws.specs.Living.{is_of_living}
 use Rattle.node_core.specs.Replies.{replies_of}
 use Rattle.script_lang.specs.declared.command.Command.{Command}
 use Rattle.sig_core.specs.declared.view.Shape.{Shape}
+use Rattle.sig_core.specs.declared.log.HostLog.{HostLog}
 use Rattle.sig_core.specs.declared.log.Life.{Life}
 use Rattle.world_core.specs.Steps.{HostStep}
 use Rattle.sig_core.specs.declared.reply.ApiReply.{ApiReply}
 use Rattle.sig_core.specs.declared.request.ApiReq.{ApiReq}
-use Rattle.shell_top.specs.Asked.{AreAsked, AreAskedInPart}
+use Rattle.shell_top.specs.Asked.{AreAsked, AreAskedInFront, AreAskedInPart}
 use Rattle.shell_top.specs.declared.ended.Ending.{Ending}
-use Rattle.shell_top.specs.declared.ended.Ending.TheVariants.{NoMemory, Words}
-use Rattle.shell_top.specs.Printed.{is_cut_short}
+use Rattle.shell_top.specs.declared.ended.Ending.TheVariants.{NoMemory, Words, WriteFault}
 use Rattle.shell_top.specs.Told.{text_of}
+use Rattle.world_core.specs.Labels.{AreLabelled}
 use Rattle.world_core.specs.Lives.{logs_of, start_of}
 use Rattle.world_core.specs.Hosts.{hosts}
 use Rattle.world_core.specs.Machine.{after, machine}
@@ -26,20 +27,24 @@ use Rattle.world_core.specs.Quiet.{IsQuiet}
 use Rattle.world_core.specs.Requests.{AreAskedAtQuiet, request_in}
 use Rattle.world_core.specs.SerialLaw.{IsSerial}
 use Rattle.world_core.specs.Start.{Start, fresh}
+use Rattle.world_core.specs.World.{logs_at}
 
--- all commands were asked for, or, where the session was cut short, a first part of what is asked for them
-abbrev pub AreAskedFor : Start → Bool → List Command → List HostStep → Type 0
-AreAskedFor start false commands log = AreAsked start (reverse commands) log
-AreAskedFor start true commands log = AreAskedInPart start commands log
+-- All commands were asked for; or, where the sink failed meanwhile, the first of them; or, where memory was wanting
+-- meanwhile, the first of them and a first part of what is asked for the next one.
+abbrev pub AreAskedFor : Start → Ending → List Command → List HostStep → Type 0
+AreAskedFor start WriteFault commands log = AreAskedInFront start commands log
+AreAskedFor start NoMemory commands log = AreAskedInPart start commands log
+AreAskedFor start ending commands log = AreAsked start (reverse commands) log
 
--- The logs of a life in which the shell asked for the commands, each at quiet, unless the session was cut short. At its
--- end nothing was under way, unless memory was wanting.
-pub record AreLived (start : Start) (ending : Ending) (commands : List Command) (logs : ℕ → List HostStep) : Type 0 where
-  pub right : AreLogs (machine start) logs
-  pub within : IsWithin (hosts start) logs
-  pub asked : AreAskedFor start (is_cut_short ending) commands (logs 0)
-  pub at_quiet : AreAskedAtQuiet start logs
-  pub quiet : (ending ≡ NoMemory → ⊥) → IsQuiet (machine start) (hosts start) logs
+-- The logs of a life in which the shell asked for the commands, each at quiet, as far as the session came. There is one
+-- for each host, and it says which host's it is. At its end nothing was under way, unless memory was wanting.
+pub record AreLived (start : Start) (ending : Ending) (commands : List Command) (logs : List HostLog) : Type 0 where
+  pub labelled : AreLabelled start logs
+  pub right : AreLogs (machine start) (logs_at logs)
+  pub within : IsWithin (hosts start) (logs_at logs)
+  pub asked : AreAskedFor start ending commands (logs_at logs 0)
+  pub at_quiet : AreAskedAtQuiet start (logs_at logs)
+  pub quiet : (ending ≡ NoMemory → ⊥) → IsQuiet (machine start) (hosts start) (logs_at logs)
 
 -- Each request in these logs is served between two quiet moments and answered there as it should be; but for the last one,
 -- where memory was wanting.
@@ -49,12 +54,12 @@ EachIsAnswered start ending logs =
     → (ending ≡ NoMemory → IsAskedAgain start newer)
     → IsAnsweredIn start logs request before
 
--- What a life of a cluster of this shape says: it begins without rows, in the first epoch; its logs, one for each host, are
--- a run of the machine from there; the requests in them are those of the commands; every closed cut of them is serial; and
--- each request is answered, with no reply that tells of a host that stopped.
+-- What a life of a cluster of this shape says: it begins without rows, in the first epoch; its logs, one for each host
+-- and each with its host's number, are a run of the machine from there; the requests in them are those of the commands;
+-- every closed cut of them is serial; and each request is answered, with no reply that tells of a host that stopped.
 pub record IsLife (shape : Shape) (ending : Ending) (commands : List Command) (life : Life) : Type 0 where
   pub begins : start_of shape life ≡ fresh shape
-  pub lived : AreLived (start_of shape life) ending commands (logs_of life)
+  pub lived : AreLived (start_of shape life) ending commands life.logs
   pub run : LogsRun (machine (start_of shape life)) (hosts (start_of shape life)) (logs_of life)
   pub serial : (inside : ℕ → List HostStep) → IsCut inside (logs_of life) → IsClosed (machine (start_of shape life)) inside → IsSerial (start_of shape life) inside
   pub answered : EachIsAnswered (start_of shape life) ending (logs_of life)

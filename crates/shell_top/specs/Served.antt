@@ -1,5 +1,6 @@
 -- What a world has done for the commands that it was asked for.
-use Rattle.std.specs.Prelude.{◌≡◌, ◌⊎◌, ℕ, Bool, true, false, List, [], ◌∷◌, ◌++◌, reverse, take, Option, MatchOption}
+use Rattle.std.specs.Prelude.{◌≡◌, ◌⊎◌, ℕ, Bool, true, false, List, [], ◌∷◌, ◌++◌, reverse, take, Option, Some}
+use Rattle.std.specs.Prelude.{MatchOption}
 use Rattle.std.specs.Io.KnownBytes.{Appends}
 use Rattle.run_theory.specs.Lists.{IsPast}
 use Rattle.run_theory.specs.Runs.{AreLogs, IsWithin}
@@ -8,13 +9,14 @@ use Rattle.sig_core.specs.declared.log.HostLog.{HostLog}
 use Rattle.world_core.specs.Steps.{HostStep}
 use Rattle.sig_core.specs.declared.reply.ApiReply.{ApiReply}
 use Rattle.sig_core.specs.declared.request.ApiReq.{ApiReq}
-use Rattle.shell_top.specs.Asked.{AreAsked, IsAskedNext, questions, requests_of}
+use Rattle.shell_top.specs.Asked.{AreAsked, AsksInPart, IsAskedNext, questions, requests_of}
 use Rattle.shell_top.specs.declared.ended.Ending.{Ending}
 use Rattle.shell_top.specs.declared.ended.Ending.TheVariants.{WriteFault, NoMemory}
 use Rattle.shell_top.specs.Printed.{AppendsPart}
 use Rattle.shell_top.specs.Told.{text_of}
 use Rattle.world_core.specs.Driven.{IsSound}
 use Rattle.world_core.specs.Hosts.{hosts}
+use Rattle.world_core.specs.Labels.{AreLabelled}
 use Rattle.world_core.specs.Machine.{machine}
 use Rattle.world_core.specs.Requests.{AreAskedAtQuiet, requests}
 use Rattle.world_core.specs.Right.{IsRight}
@@ -37,14 +39,15 @@ pub record HasServed (start : Start) (asked : List ApiReq) (w t : Whole) : Type 
 
 -- Memory was wanting while the world was asked for these requests: of the logs, a first part of them was asked for, each
 -- at quiet; where none was, the shell's host made no step.
-pub record AreLeftOff (start : Start) (asked : List ApiReq) (w : Whole) (logs : ℕ → List HostStep) : Type 0 where
-  pub right : AreLogs (machine start) logs
-  pub within : IsWithin (hosts start) logs
-  pub more : (h : ℕ) → IsPast (logs_at w.logs h) (logs h)
+pub record AreLeftOff (start : Start) (asked : List ApiReq) (w : Whole) (logs : List HostLog) : Type 0 where
+  pub labelled : AreLabelled start logs
+  pub right : AreLogs (machine start) (logs_at logs)
+  pub within : IsWithin (hosts start) (logs_at logs)
+  pub more : (h : ℕ) → IsPast (logs_at w.logs h) (logs_at logs h)
   pub part : ℕ
-  pub requests : requests (logs 0) ≡ requests (logs_at w.logs 0) ++ take part asked
-  pub at_quiet : IsIdle w → AreAskedAtQuiet start (logs_at w.logs) → AreAskedAtQuiet start logs
-  pub begun : (logs 0 ≡ logs_at w.logs 0) ⊎ IsAskedNext (logs_at w.logs 0) (logs 0)
+  pub requests : requests (logs_at logs 0) ≡ requests (logs_at w.logs 0) ++ take part asked
+  pub at_quiet : IsIdle w → AreAskedAtQuiet start (logs_at w.logs) → AreAskedAtQuiet start (logs_at logs)
+  pub begun : (logs_at logs 0 ≡ logs_at w.logs 0) ⊎ IsAskedNext (logs_at w.logs 0) (logs_at logs 0)
 
 -- What was asked about the last command: nothing where it left nothing of its own unanswered, and else the questions.
 abbrev pub HasGoneOn : Start → Whole → Whole → Bool → Type 0
@@ -60,10 +63,11 @@ pub record IsServed (start : Start) (commands : List Command) (w : Whole) : Type
   pub at_quiet : AreAskedAtQuiet start (logs_at w.logs)
   pub none_left : replies_of w ≡ []
 
--- Memory was wanting while a command was served, after these commands: what the logs are then. Their text goes on from
--- the text before.
+-- Memory was wanting while a command was served, after these commands: what the logs are then. The questions were asked
+-- only where it left something of its own unanswered. The text of the logs goes on from the text before.
 pub record AreLeft (start : Start) (command : Command) (w : Whole) (logs : List HostLog) : Type 0 where
-  pub left : AreLeftOff start (requests_of command ++ questions) w (logs_at logs)
+  pub left : AreLeftOff start (requests_of command ++ questions) w logs
+  pub begun : AsksInPart start (Some command) (logs_at w.logs 0) (logs_at logs 0)
   pub more : List ℕ
   pub text : text_of start (logs_at logs 0) ≡ text_of start (logs_at w.logs 0) ++ more
 

@@ -9,7 +9,7 @@ use Rattle.shell_top.specs.declared.ended.Ending.{Ending}
 use Rattle.shell_top.specs.declared.ended.Ending.TheVariants.{Finished, Words, Refused, ReadFault, WriteFault, NoMemory, TooLong}
 use Rattle.shell_top.specs.declared.session.Session.{Session}
 use Rattle.shell_top.specs.Lived.{AreLived, AreLives, may_be_unborn, session_text}
-use Rattle.shell_top.specs.Printed.{Prints}
+use Rattle.shell_top.specs.Printed.{Prints, is_cut_short}
 use Rattle.shell_top.specs.Script.{Script, script_from}
 use Rattle.shell_top.specs.Served.{IsServed}
 use Rattle.shell_top.specs.Text.{fault_line, status_of}
@@ -42,15 +42,20 @@ nodes_of (Some shape) = shape.nodes
 
 -- The session of a cluster of the shape that its words asked for. It read `input`, and up to its end where `ended`. It
 -- printed the text of the logs of its life, in which the commands of its lines were asked for, up to the first fault,
--- and then the line of the fault by which it was meant to end. Where the words asked for no cluster, nothing was read,
--- and the session ended for that, or for want of memory.
-pub record IsSession (asked : Option Shape) (left left_now written written_now : Option (List ℕ)) (ending : Ending) (lives : List Life) : Type 0 where
+-- and then the line of the fault by which it was meant to end. It was meant to end by a fault of the source or the sink
+-- only where that failed. Where its replies were cut short, it ended for that. Where the words asked for no cluster,
+-- nothing was read, and the session ended for that, or for want of memory.
+pub record IsSession (asked : Option Shape) (left left_now written written_now : Option (List ℕ))
+    (ReadFailed WriteFailed : Type 0) (ending : Ending) (lives : List Life) : Type 0 where
   pub input : List ℕ
   pub ended : Bool
   pub meant : Ending
   pub consumed : Consumes left left_now input
   pub at_end : ended ≡ true → IsAtEnd left_now
   pub ends : Ends meant ended (script_from (nodes_of asked) ended 1 input)
+  pub read_cause : meant ≡ ReadFault → ReadFailed
+  pub write_cause : meant ≡ WriteFault → WriteFailed
+  pub cut_short : is_cut_short meant ≡ true → ending ≡ meant
   pub told : Prints ending meant written written_now (session_text asked lives ++ fault_line meant)
   pub lived : AreLives asked meant (script_from (nodes_of asked) ended 1 input).commands input lives
   pub words_first : asked ≡ None → (may_be_unborn meant ≡ true) × (input ≡ [])
@@ -58,9 +63,10 @@ pub record IsSession (asked : Option Shape) (left left_now written written_now :
   pub bounded : length input ≤ 513 * 65536 + 1024
 
 -- a session, and the status that tells how it ended
-pub record HasSession (asked : Option Shape) (left left_now written written_now : Option (List ℕ)) (status : ℕ) (lives : List Life) : Type 0 where
+pub record HasSession (asked : Option Shape) (left left_now written written_now : Option (List ℕ))
+    (ReadFailed WriteFailed : Type 0) (status : ℕ) (lives : List Life) : Type 0 where
   pub ending : Ending
-  pub session : IsSession asked left left_now written written_now ending lives
+  pub session : IsSession asked left left_now written written_now ReadFailed WriteFailed ending lives
   pub told : status ≡ status_of ending
 
 -- commands in front of a script
@@ -88,7 +94,7 @@ pub record AreLinesDone (shape : Shape) (left left_now written written_now : Opt
   pub at_end : ended ≡ true → IsAtEnd left_now
   pub ends : Ends ending ended (script_from shape.nodes ended 1 input)
   pub told : Prints ending ending written written_now (text_of (fresh shape) (logs_at logs 0))
-  pub lived : AreLived (fresh shape) ending (script_from shape.nodes ended 1 input).commands (logs_at logs)
+  pub lived : AreLived (fresh shape) ending (script_from shape.nodes ended 1 input).commands logs
   pub no_words : ending ≡ Words → ⊥
   pub bounded : length input ≤ 513 * 65536 + 1024
 

@@ -1,4 +1,7 @@
 //! How a session ends.
+ghost use Rattle.std.specs.Prelude.{◌≡◌};
+ghost use Rattle.shell_top.specs.Printed.{is_cut_short};
+
 use host_io::Disk;
 use script_lang::LineFault;
 use sig_core::Life;
@@ -19,6 +22,13 @@ pub enum Ending {
     NoMemory,
     /// The line has more than 512 bytes, or is the 65,537th.
     TooLong { line: u32 },
+}
+
+/// Whether a session that ends so may have printed only a first part of its replies.
+pub fn is_cut_short(ending: &Ending) -> bool
+    ensures { result ≡ is_cut_short ending.now }
+{
+    matches!(ending, Ending::WriteFault | Ending::NoMemory)
 }
 
 /// What a session leaves.

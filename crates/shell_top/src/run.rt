@@ -1,15 +1,15 @@
 //! The top call: a whole session.
-ghost use Rattle.std.specs.Prelude.{◌≡◌, ◌≤◌, ◌⊎◌, IfOk, Some, map, string_bytes};
+ghost use Rattle.std.specs.Prelude.{◌≡◌, ◌≤◌, ◌⊎◌, true, IfOk, Some, map, string_bytes};
 ghost use Rattle.frag_map.specs.Shape.{IsShape};
 ghost use Rattle.host_io.specs.Fault.{Rose};
 ghost use Rattle.shell_top.specs.declared.ended.Ending.TheVariants as ending;
 ghost use Rattle.shell_top.specs.Opened.{HasOpened};
-ghost use Rattle.shell_top.specs.Printed.{Prints};
+ghost use Rattle.shell_top.specs.Printed.{Prints, is_cut_short};
 ghost use Rattle.shell_top.specs.Session.{IsSession, HasSession};
 ghost use Rattle.shell_top.specs.Text.{fault_line};
 ghost use Rattle.shell_top.specs.Words.{asked_shape};
 
-use crate::ended::{Ended, Ending};
+use crate::ended::{Ended, Ending, is_cut_short};
 use crate::session::Session;
 use crate::text::{fault_line, status_of};
 use crate::words::shape_asked;
@@ -32,7 +32,7 @@ pub fn run_shell<R: Threads + Wait + Sync, S: Source, K: Sink, G: Gate + Sync>(
     disks: Vec<Box<dyn Disk + Send>>,
     _gate: &G,
 ) -> Ended
-    ensures session { HasSession (asked_shape (map string_bytes words.now)) (S.left source.old) (S.left source.new) (K.written sink.old) (K.written sink.new) result.status result.lives.items }
+    ensures session { HasSession (asked_shape (map string_bytes words.now)) (S.left source.old) (S.left source.new) (K.written sink.old) (K.written sink.new) (Rose (S.faults source.old) (S.faults source.new)) (Rose (K.faults sink.old) (K.faults sink.new)) result.status result.lives.items }
     ensures read_fault { result.status ≡ 3 → Rose (S.faults source.old) (S.faults source.new) }
     ensures write_fault { result.status ≡ 4 → Rose (K.faults sink.old) (K.faults sink.new) }
     ensures disks { result.disks ≡ disks }
@@ -60,7 +60,7 @@ fn run_session<R: Wait, S: Source, K: Sink>(
     source: &mut S,
     sink: &mut K,
 ) -> Outcome
-    ensures session { IsSession (asked_shape (map string_bytes words.now)) (S.left source.old) (S.left source.new) (K.written sink.old) (K.written sink.new) result.ending result.lives.items }
+    ensures session { IsSession (asked_shape (map string_bytes words.now)) (S.left source.old) (S.left source.new) (K.written sink.old) (K.written sink.new) (Rose (S.faults source.old) (S.faults source.new)) (Rose (K.faults sink.old) (K.faults sink.new)) result.ending result.lives.items }
     ensures read_fault { result.ending ≡ ending.ReadFault → Rose (S.faults source.old) (S.faults source.new) }
     ensures write_fault { result.ending ≡ ending.WriteFault → Rose (K.faults sink.old) (K.faults sink.new) }
 {
@@ -86,7 +86,7 @@ fn run_shape<R: Wait, S: Source, K: Sink>(
     sink: &mut K,
 ) -> Outcome
     requires { IsShape shape }
-    ensures session { IsSession (Some shape) (S.left source.old) (S.left source.new) (K.written sink.old) (K.written sink.new) result.ending result.lives.items }
+    ensures session { IsSession (Some shape) (S.left source.old) (S.left source.new) (K.written sink.old) (K.written sink.new) (Rose (S.faults source.old) (S.faults source.new)) (Rose (K.faults sink.old) (K.faults sink.new)) result.ending result.lives.items }
     ensures read_fault { result.ending ≡ ending.ReadFault → Rose (S.faults source.old) (S.faults source.new) }
     ensures write_fault { result.ending ≡ ending.WriteFault → Rose (K.faults sink.old) (K.faults sink.new) }
 {
@@ -129,7 +129,7 @@ fn run_opened<R: Wait, S: Source, K: Sink>(
     sink: &mut K,
 ) -> Outcome
     requires { HasOpened opened.session opened.lives }
-    ensures session { IsSession (Some opened.session.shape) (S.left source.old) (S.left source.new) (K.written sink.old) (K.written sink.new) result.ending result.lives.items }
+    ensures session { IsSession (Some opened.session.shape) (S.left source.old) (S.left source.new) (K.written sink.old) (K.written sink.new) (Rose (S.faults source.old) (S.faults source.new)) (Rose (K.faults sink.old) (K.faults sink.new)) result.ending result.lives.items }
     ensures read_fault { result.ending ≡ ending.ReadFault → Rose (S.faults source.old) (S.faults source.new) }
     ensures write_fault { result.ending ≡ ending.WriteFault → Rose (K.faults sink.old) (K.faults sink.new) }
 {
@@ -143,13 +143,18 @@ fn run_opened<R: Wait, S: Source, K: Sink>(
     Outcome { ending, lives }
 }
 
-/// Prints the line of the fault by which a session is meant to end, and says how it ends.
+/// Prints the line of the fault by which a session is meant to end, and says how it ends. Where the
+/// replies were cut short, that stays why.
 fn finish<K: Sink>(alloc: Global, sink: &mut K, meant: Ending) -> Ending
     ensures printed { Prints result meant (K.written sink.old) (K.written sink.new) (fault_line meant) }
+    ensures cut_short { is_cut_short meant ≡ true → result ≡ meant }
     ensures read_fault { result ≡ ending.ReadFault → meant ≡ ending.ReadFault }
     ensures write_fault { result ≡ ending.WriteFault → meant ≡ ending.WriteFault ⊎ Rose (K.faults sink.old) (K.faults sink.new) }
     ensures steady { K.faults sink.old ≤ K.faults sink.new }
 {
+    if is_cut_short(&meant) {
+        return meant;
+    }
     let line = match fault_line(alloc, &meant) {
         Ok(line) => line,
         Err(NoMemory) => return Ending::NoMemory,

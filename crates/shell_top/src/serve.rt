@@ -9,7 +9,7 @@ ghost use Rattle.shell_top.specs.Served.{AreLeft, AreLeftOff, HasGoneOn, HasServ
 ghost use Rattle.shell_top.specs.Text.{reply_lines};
 ghost use Rattle.world_core.specs.Driven.{IsSound};
 ghost use Rattle.world_core.specs.Start.{Start};
-ghost use Rattle.world_core.specs.World.{is_left_open, logs_at, replies_of, with_replies};
+ghost use Rattle.world_core.specs.World.{is_left_open, replies_of, with_replies};
 ghost use Rattle.world_core.specs.WorldOf.{whole_of};
 
 use crate::arranged::arranged;
@@ -31,7 +31,7 @@ fn ask<R: Wait>(rt: &R, alloc: Global, world: &mut World, request: ApiReq) -> Re
     ghost start: { Start }
     requires { IsSound start (whole_of world.old) }
     ensures ok { OnOk result (HasServed start (request ∷ []) (whole_of world.old) (whole_of world.new)) }
-    ensures err { OnErr result (AreLeftOff start (request ∷ []) (whole_of world.old) (logs_at (whole_of world.new).logs)) }
+    ensures err { OnErr result (AreLeftOff start (request ∷ []) (whole_of world.old) (whole_of world.new).logs) }
 {
     world.ask(alloc, request)?;
     world.drive(rt, alloc)
@@ -42,7 +42,7 @@ fn tick<R: Wait>(rt: &R, alloc: Global, world: &mut World, rounds: u8) -> Result
     ghost start: { Start }
     requires { IsSound start (whole_of world.old) }
     ensures ok { OnOk result (HasServed start (requests_of (Command.Tick rounds)) (whole_of world.old) (whole_of world.new)) }
-    ensures err { OnErr result (AreLeftOff start (requests_of (Command.Tick rounds)) (whole_of world.old) (logs_at (whole_of world.new).logs)) }
+    ensures err { OnErr result (AreLeftOff start (requests_of (Command.Tick rounds)) (whole_of world.old) (whole_of world.new).logs) }
 {
     let first = ApiReq::Tick {
         round: 1,
@@ -62,7 +62,7 @@ fn further_rounds<R: Wait>(
     ghost start: { Start }
     requires { IsSound start (whole_of world.old) }
     ensures ok { OnOk result (HasServed start (rounds_behind rounds (rounds - 1)) (whole_of world.old) (whole_of world.new)) }
-    ensures err { OnErr result (AreLeftOff start (rounds_behind rounds (rounds - 1)) (whole_of world.old) (logs_at (whole_of world.new).logs)) }
+    ensures err { OnErr result (AreLeftOff start (rounds_behind rounds (rounds - 1)) (whole_of world.old) (whole_of world.new).logs) }
 {
     for behind in 0..rounds.saturating_sub(1) {
         let next = ApiReq::Tick {
@@ -85,7 +85,7 @@ fn ask_own<R: Wait>(
     requires opened { IsSound start (whole_of world.old) }
     requires served { is_served command.now ≡ true }
     ensures ok { OnOk result (HasServed start (requests_of command.now) (whole_of world.old) (whole_of world.new)) }
-    ensures err { OnErr result (AreLeftOff start (requests_of command.now) (whole_of world.old) (logs_at (whole_of world.new).logs)) }
+    ensures err { OnErr result (AreLeftOff start (requests_of command.now) (whole_of world.old) (whole_of world.new).logs) }
 {
     match command {
         Command::Begin { name, node } => {
@@ -116,7 +116,7 @@ fn ask_questions<R: Wait>(rt: &R, alloc: Global, world: &mut World) -> Result<()
     ghost start: { Start }
     requires { IsSound start (whole_of world.old) }
     ensures ok { OnOk result (HasServed start questions (whole_of world.old) (whole_of world.new)) }
-    ensures err { OnErr result (AreLeftOff start questions (whole_of world.old) (logs_at (whole_of world.new).logs)) }
+    ensures err { OnErr result (AreLeftOff start questions (whole_of world.old) (whole_of world.new).logs) }
 {
     ask(rt, alloc, world, ApiReq::Waits)?;
     ask(rt, alloc, world, ApiReq::Pending)
@@ -154,7 +154,7 @@ fn ask_about<R: Wait>(rt: &R, alloc: Global, world: &mut World) -> Result<(), No
     requires { IsSound start (whole_of world.old) }
     ensures ok { OnOk result (HasGoneOn start (whole_of world.old) (whole_of world.new) (is_left_open (whole_of world.old))) }
     ensures opened { OnErr result (is_left_open (whole_of world.old) ≡ true) }
-    ensures err { OnErr result (AreLeftOff start questions (whole_of world.old) (logs_at (whole_of world.new).logs)) }
+    ensures err { OnErr result (AreLeftOff start questions (whole_of world.old) (whole_of world.new).logs) }
 {
     if world.is_left_open() {
         return ask_questions(rt, alloc, world);

@@ -96,8 +96,8 @@ pub sound_labels : (start : Start) (w : Whole) → IsSound start w → AreLabell
 sound_labels start w sound = record { one_each = sound.right.sizes.logs; labels = sound.right.labels }
 
 -- and still do where a step was left off
-pub labels_kept : (result : Result (Unit {0}) NoMemory) (w a : Whole) (logs : List HostLog) → IsUnderWay w a → logs ≡ a.logs → (start : Start) → IsSound start w
-    → OnErr result (AreLabelled start logs)
+pub labels_kept : (result : Result (Unit {0}) NoMemory) (w a : Whole) (logs : List HostLog) → IsUnderWay w a
+    → logs ≡ a.logs → (start : Start) → IsSound start w → OnErr result (AreLabelled start logs)
 labels_kept (Ok done) w a logs way same start sound = tt
 labels_kept (Err fault) w a logs way same start sound =
     subst (AreLabelled start) (sym same) (sound_labels start a (stays_sound start w a (way.driven start sound) sound))

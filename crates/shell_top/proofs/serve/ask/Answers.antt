@@ -18,4 +18,4 @@ returns-clause-ok g c =
 pub returns-clause-err : goal.returns-clause-err
 returns-clause-err g c =
     asked_err g.start c.args.request c.drive.result (whole_of c.args.world.now) (whole_of c.ask.new.self) c.drive.new.self.logs c.requires.1
-    (c.in_ok-ask.ensures.ok g.start c.requires.1) (c.drive.ensures.err g.start)
+    (c.in_ok-ask.ensures.ok g.start c.requires.1) (c.drive.ensures.err g.start) (c.drive.ensures.labels g.start)

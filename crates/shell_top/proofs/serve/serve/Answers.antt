@@ -12,8 +12,9 @@ ask_about-requires g c lives outlive = (outlive, own_sound g.start c.args.comman
 pub returns-in_err-ask_about-clause-err : goal.returns-in_err-ask_about-clause-err
 returns-in_err-ask_about-clause-err g c =
     on_err c.from_residual-in_err-ask_about.result
-    (left_about g.start c.args.command.now (whole_of c.args.world.now) (whole_of c.ask_own.new.world) c.ask_about.new.world.logs c.requires.1.1 c.in_ok-ask_own.ensures.ok
-    c.in_err-ask_about.ensures.err)
+    (left_about g.start c.args.command.now (whole_of c.args.world.now) (whole_of c.ask_own.new.world)
+    c.ask_about.new.world.logs c.requires.1.1 c.requires.1.0 c.in_ok-ask_own.ensures.ok
+    c.in_err-ask_about.ensures.opened c.in_err-ask_about.ensures.err)
 
 pub answers-requires : goal.answers-requires
 answers-requires g c =

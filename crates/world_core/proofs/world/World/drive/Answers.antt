@@ -14,7 +14,9 @@ returns-then-not-branch-clause-quiet g c =
     is_quiet (whole_of c.args.self.now) (whole_of c.loop.self) (whole_of c.step.new.self) c.in_ok-step.field-0 c.if-not-branch.true c.loop.invariant.0 c.in_ok-step.ensures.ok
 
 pub returns-in_err-step-clause-labels : goal.returns-in_err-step-clause-labels
-returns-in_err-step-clause-labels g c = labels_kept c.from_residual.result (whole_of c.args.self.now) (whole_of c.loop.self) _ c.loop.invariant.0 c.in_err-step.ensures.err
+returns-in_err-step-clause-labels g c =
+    labels_kept c.from_residual.result (whole_of c.args.self.now) (whole_of c.loop.self) _ c.loop.invariant.0
+    c.in_err-step.ensures.err
 
 pub loop-preserved : goal.loop-preserved
 loop-preserved g c = (
