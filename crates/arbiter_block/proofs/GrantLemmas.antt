@@ -2,14 +2,13 @@
 use Rattle.std.proofs.Common.{◌≡◌, ◌⊎◌, ◌∙◌, ℕ, ◌≤◌, ◌<◌, ◌==◌, ◌&&◌, Bool, true, false, nat_lt, not, List, [], ◌∷◌, ◌++◌, refl, ap, sym, subst, arith, inl, inr}
 use Rattle.std.proofs.lemmas.Bool.{and_parts, and_from, eqb-true, eq-eqb, le-ltb, ltb-true}
 use Rattle.std.proofs.lemmas.List.Elements.{All-filter, All-contains_itself}
-use Rattle.std.specs.List.{All, Contains, filter, flat_map}
+use Rattle.std.specs.List.{All, Contains}
 use Rattle.std.specs.Prelude.{Option, if◌then◌else◌}
 use Rattle.sig_core.specs.declared.member.Member.{Member}
 use Rattle.sig_core.specs.declared.signal.Body.{Body}
 use Rattle.sig_core.specs.declared.signal.Body.TheVariants.{Membership}
 use Rattle.sig_core.specs.declared.signal.Signal.{Signal}
 use Rattle.sig_core.specs.declared.signal.membership.MembershipSignal.TheVariants.{ArbitReq}
-use Rattle.sig_core.specs.Step.{Step}
 use Rattle.arbiter_block.specs.Arbiter.{ArbiterState, arbit_if, arbit_row, arbiter_row, arbiter_table, is_granted}
 use Rattle.arbiter_block.specs.Laws.{Grant, after_all, granted_along, granted_at, keeping, others_of}
 use Rattle.arbiter_block.specs.Sets.{is_joining, is_same_set, lie_in, without_joining}

@@ -4,7 +4,7 @@ use Rattle.std.proofs.lemmas.Bool.{and_parts, and_from, eqb-true, eq-eqb, falseâ
 use Rattle.std.proofs.lemmas.List.Elements.{All-nil, All-cons}
 use Rattle.std.proofs.lemmas.Map.Views.{Contains-from_any}
 use Rattle.std.specs.Cmp.Lexicographic.{pointwise}
-use Rattle.std.specs.List.{All, Contains, filter, list_all}
+use Rattle.std.specs.List.{All, Contains, list_all}
 use Rattle.std.specs.Prelude.{Option}
 use Rattle.sig_core.specs.declared.member.Member.{Member}
 use Rattle.arbiter_block.specs.Sets.{is_among, is_joining, is_same_set, joins_or_is_among, lie_in, same_member, without_joining}
