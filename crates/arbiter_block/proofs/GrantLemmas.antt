@@ -1,18 +1,17 @@
 -- What the arbitrator grants at one signal, and along a list of them.
-use Rattle.std.proofs.Common.{◌≡◌, ◌⊎◌, ◌∙◌, ℕ, ◌≤◌, ◌<◌, ◌==◌, ◌&&◌, Bool, true, false, nat_lt, not, cond, List, [], ◌∷◌, ◌++◌, refl, ap, sym, subst, arith, inl, inr}
+use Rattle.std.proofs.Common.{◌≡◌, ◌⊎◌, ◌∙◌, ℕ, ◌≤◌, ◌<◌, ◌==◌, ◌&&◌, Bool, true, false, nat_lt, not, List, [], ◌∷◌, ◌++◌, refl, ap, sym, subst, arith, inl, inr}
 use Rattle.std.proofs.lemmas.Bool.{and_parts, and_from, eqb-true, eq-eqb, le-ltb, ltb-true}
 use Rattle.std.proofs.lemmas.List.Elements.{All-filter, All-contains_itself}
-use Rattle.std.specs.List.{All, Contains, filter, flat_map}
+use Rattle.std.specs.List.{All, Contains}
 use Rattle.std.specs.Prelude.{Option, if◌then◌else◌}
 use Rattle.sig_core.specs.declared.member.Member.{Member}
 use Rattle.sig_core.specs.declared.signal.Body.{Body}
 use Rattle.sig_core.specs.declared.signal.Body.TheVariants.{Membership}
 use Rattle.sig_core.specs.declared.signal.Signal.{Signal}
 use Rattle.sig_core.specs.declared.signal.membership.MembershipSignal.TheVariants.{ArbitReq}
-use Rattle.sig_core.specs.Step.{Step}
 use Rattle.arbiter_block.specs.Arbiter.{ArbiterState, arbit_if, arbit_row, arbiter_row, arbiter_table, is_granted}
-use Rattle.arbiter_block.specs.Laws.{Grant, after_all, granted_along, granted_by, keeping, others_of}
-use Rattle.arbiter_block.specs.Sets.{is_joining, is_same_set, lie_in}
+use Rattle.arbiter_block.specs.Laws.{Grant, after_all, granted_along, granted_at, keeping, others_of}
+use Rattle.arbiter_block.specs.Sets.{is_joining, is_same_set, lie_in, without_joining}
 use Rattle.arbiter_block.proofs.SetLemmas.{lying, same_set-is, same_set-self}
 
 -- what may be granted, by what is kept
@@ -27,9 +26,9 @@ asked_for number members joining = record { number = number; members = members; 
 
 -- of a set that lies in itself
 itself : (set members : List Member) (joining : Option Member) → members ≡ set
-    → All (Contains set) (filter (λ member. not (is_joining joining member)) members)
+    → All (Contains set) (without_joining joining members)
 itself set members joining e =
-    subst (λ (set : List Member). All (Contains set) (filter (λ member. not (is_joining joining member)) members)) e
+    subst (λ (set : List Member). All (Contains set) (without_joining joining members)) e
     (All-filter (λ member. not (is_joining joining member)) (Contains members) members (All-contains_itself members))
 
 given_if : (s : ArbiterState) (number : ℕ) (members : List Member) (joining : Option Member) (greater : Bool)
@@ -59,21 +58,25 @@ given : (s : ArbiterState) (number : ℕ) (members : List Member) (joining : Opt
 given s number members joining e = given_if s number members joining (nat_lt s.number number) refl e
 
 -- what an answer to a signal leaves: nothing is granted and what was kept is kept, or one set is granted and kept
-abbrev IsTurn : ArbiterState → Step ArbiterState → List Grant → Type 0
-IsTurn s step grants =
-    ((grants ≡ []) × (step.state ≡ s))
-    ⊎ ((grant : Grant) × ((grants ≡ grant ∷ []) × ((step.state ≡ keeping grant) × Given s grant)))
+abbrev IsTurn : ArbiterState → ArbiterState → List Grant → Type 0
+IsTurn s state grants =
+    ((grants ≡ []) × (state ≡ s))
+    ⊎ ((grant : Grant) × ((grants ≡ grant ∷ []) × ((state ≡ keeping grant) × Given s grant)))
+
+-- a request, as a signal says it
+abbrev request : ℕ → List Member → Option Member → Body
+request number members joining = Membership (ArbitReq number members joining)
 
 turn_if : (s : ArbiterState) (node number : ℕ) (members : List Member) (joining : Option Member) (granted : Bool)
     → is_granted s number members joining ≡ granted
-    → IsTurn s (arbit_if s node number members granted)
-    (flat_map (λ send. granted_by (Membership (ArbitReq number members joining)) send.body) (arbit_if s node number members granted).effects.sends)
+    → IsTurn s (arbit_if s node number members granted).state
+    (granted_at (request number members joining) (arbit_if s node number members granted).effects.sends)
 turn_if s node number members joining true e =
     inr (asked_for number members joining, (refl, (refl, given s number members joining e)))
 turn_if s node number members joining false e = inl (refl, refl)
 
 turn : (s : ArbiterState) (node : ℕ) (body : Body)
-    → IsTurn s (arbiter_table s node body) (flat_map (λ send. granted_by body send.body) (arbiter_table s node body).effects.sends)
+    → IsTurn s (arbiter_table s node body).state (granted_at body (arbiter_table s node body).effects.sends)
 unfolding arbit_row
 turn s node (Membership (ArbitReq number members joining)) =
     turn_if s node number members joining (is_granted s number members joining) refl
@@ -89,8 +92,13 @@ pub chain : (s : ArbiterState) (signals : List Signal) → Chain s (granted_alon
 chain s [] = refl
 chain s (x ∷ xs) = by (arbiter_row s x).state _ (turn s x.member.node x.body) (λ state. chain state xs)
   where
-    by : (state : ArbiterState) (grants : List Grant)
-        → ((grants ≡ []) × (state ≡ s)) ⊎ ((grant : Grant) × ((grants ≡ grant ∷ []) × ((state ≡ keeping grant) × Given s grant)))
+    ends_with : (grant : Grant) (state : ArbiterState) → keeping grant ≡ state
+        → Chain (keeping grant) (granted_along (keeping grant) xs) (after_all (keeping grant) xs)
+        → Chain (keeping grant) (granted_along state xs) (after_all state xs)
+    ends_with grant state same rest =
+        subst (λ (state : ArbiterState). Chain (keeping grant) (granted_along state xs) (after_all state xs)) same rest
+
+    by : (state : ArbiterState) (grants : List Grant) → IsTurn s state grants
         → ((state : ArbiterState) → Chain state (granted_along state xs) (after_all state xs))
         → Chain s (grants ++ granted_along state xs) (after_all state xs)
     by state grants (inl (none, stays)) later =
@@ -98,21 +106,27 @@ chain s (x ∷ xs) = by (arbiter_row s x).state _ (turn s x.member.node x.body) 
         (subst (λ (state : ArbiterState). Chain s (granted_along state xs) (after_all state xs)) (sym stays) (later s))
     by state grants (inr (grant, (one, (kept, may)))) later =
         subst (λ (grants : List Grant). Chain s (grants ++ granted_along state xs) (after_all state xs)) (sym one)
-        (may, subst (λ (state : ArbiterState). Chain (keeping grant) (granted_along state xs) (after_all state xs)) (sym kept) (later (keeping grant)))
+        (may, ends_with grant state (sym kept) (later (keeping grant)))
 
 -- a set that is kept is granted again
 again_granted : (number : ℕ) (members : List Member) (joining : Option Member)
     → is_granted (record { number = number; members = members }) number members joining ≡ true
 again_granted number members joining =
-    ap (λ (greater : Bool). if greater then lie_in members members joining else number == number && is_same_set members members) (le-ltb number number (omega arith))
+    ap granted_if (le-ltb number number (omega arith))
     ∙ and_from _ _ (eq-eqb number number refl) (same_set-self members)
+  where
+    granted_if : Bool → Bool
+    granted_if greater =
+        if greater then lie_in members members joining else number == number && is_same_set members members
 
 again_if : (s : ArbiterState) (node number : ℕ) (members : List Member) (joining : Option Member) (granted : Bool)
     → is_granted s number members joining ≡ granted
-    → arbit_row (arbit_if s node number members granted).state node number members joining ≡ arbit_if s node number members granted
+    → arbit_row (arbit_if s node number members granted).state node number members joining
+    ≡ arbit_if s node number members granted
 unfolding arbit_row
 again_if s node number members joining true e =
-    ap (arbit_if (record { number = number; members = members }) node number members) (again_granted number members joining)
+    ap (arbit_if (keeping (asked_for number members joining)) node number members)
+    (again_granted number members joining)
 again_if s node number members joining false e = ap (arbit_if s node number members) e
 
 -- a signal that comes once more at once is answered as before

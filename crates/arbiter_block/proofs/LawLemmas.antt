@@ -1,15 +1,14 @@
 -- What is true of grants that stand behind one another.
-use Rattle.std.proofs.Common.{◌≡◌, ℕ, ◌≤◌, List, [], ◌∷◌, refl, ◌∙◌, arith}
+use Rattle.std.proofs.Common.{◌≡◌, ◌≤◌, List, [], ◌∷◌, ◌∙◌, arith}
 use Rattle.std.proofs.lemmas.List.Elements.{All-nil, All-cons}
 use Rattle.std.proofs.lemmas.List.Kept.{AllPairs-cons}
 use Rattle.std.specs.List.{All, AllPairs}
-use Rattle.sig_core.specs.declared.member.Member.{Member}
-use Rattle.sig_core.specs.declared.signal.Signal.{Signal}
 use Rattle.arbiter_block.specs.Arbiter.{ArbiterState, fresh_arbiter}
-use Rattle.arbiter_block.specs.Laws.{AskedAgainIsAnsweredAlike, EachSetLiesInTheOneBefore, Grant, LastGrantIsKept, OneSetForEachNumber, SucceedOneAnother, ZeroIsNeverGranted, after_all, all_granted, first_grant, granted_along, keeping, last_of}
+use Rattle.arbiter_block.specs.Laws.{AskedAgainIsAnsweredAlike, EachSetLiesInTheOneBefore, Grant, HaveOneSet, LastGrantIsKept, OneSetForEachNumber, SucceedOneAnother, ZeroIsNeverGranted, first_grant, keeping, last_of}
 use Rattle.arbiter_block.proofs.GrantLemmas.{Chain, Given, again, chain}
 
-succeed : (before : Grant) (grants : List Grant) (end : ArbiterState) → Chain (keeping before) grants end → SucceedOneAnother before grants
+succeed : (before : Grant) (grants : List Grant) (end : ArbiterState)
+    → Chain (keeping before) grants end → SucceedOneAnother before grants
 succeed before [] end c = tt
 succeed before (grant ∷ later) end c =
     (record { number = c.0.number; members = c.0.members }, succeed grant later end c.1)
@@ -17,14 +16,16 @@ succeed before (grant ∷ later) end c =
 pub each_set_lies : EachSetLiesInTheOneBefore
 each_set_lies members signals = succeed (first_grant members) _ _ (chain (fresh_arbiter members) signals)
 
-last_kept : (before : Grant) (grants : List Grant) (end : ArbiterState) → Chain (keeping before) grants end → end ≡ keeping (last_of before grants)
+last_kept : (before : Grant) (grants : List Grant) (end : ArbiterState)
+    → Chain (keeping before) grants end → end ≡ keeping (last_of before grants)
 last_kept before [] end c = c
 last_kept before (grant ∷ later) end c = last_kept grant later end c.1
 
 pub last_is_kept : LastGrantIsKept
 last_is_kept members signals = last_kept (first_grant members) _ _ (chain (fresh_arbiter members) signals)
 
-above_zero : (s : ArbiterState) (grants : List Grant) (end : ArbiterState) → 1 ≤ s.number → Chain s grants end → All (λ grant. 1 ≤ grant.number) grants
+above_zero : (s : ArbiterState) (grants : List Grant) (end : ArbiterState)
+    → 1 ≤ s.number → Chain s grants end → All (λ grant. 1 ≤ grant.number) grants
 above_zero s [] end least c = All-nil _
 above_zero s (grant ∷ later) end least c =
     let below : s.number ≤ grant.number = c.0.number in
@@ -59,11 +60,10 @@ all_above s (first ∷ later) end c =
     (λ k d within. higher s first _ c.0 (all_above (keeping first) later end c.1 k d within))
 
 pairs : (before : Grant) (grants : List Grant) (end : ArbiterState) → Chain (keeping before) grants end
-    → AllPairs (λ one other. one.number ≡ other.number → one.members ≡ other.members) (before ∷ grants)
-pairs before [] end c =
-    AllPairs-cons (λ (one other : Grant). one.number ≡ other.number → one.members ≡ other.members) before [] (All-nil _) (λ i j d less within. absurd (omega arith))
+    → AllPairs HaveOneSet (before ∷ grants)
+pairs before [] end c = AllPairs-cons HaveOneSet before [] (All-nil _) (λ i j d less within. absurd (omega arith))
 pairs before (grant ∷ later) end c =
-    AllPairs-cons (λ (one other : Grant). one.number ≡ other.number → one.members ≡ other.members) before (grant ∷ later)
+    AllPairs-cons HaveOneSet before (grant ∷ later)
     (λ k d within. (all_above (keeping before) (grant ∷ later) end c k d within).same)
     (pairs grant later end c.1)
 

@@ -1,13 +1,13 @@
 -- What the tests of members and sets tell.
-use Rattle.std.proofs.Common.{◌≡◌, Bool, true, false, not, cond, ◌&&◌, ◌||◌, nat_eq, List, [], ◌∷◌, refl, ap, sym}
-use Rattle.std.proofs.lemmas.Bool.{and_parts, and_from, eqb-true, eq-eqb, false≢true, true≢false}
+use Rattle.std.proofs.Common.{◌≡◌, Bool, true, false, not, cond, ◌||◌, nat_eq, List, [], ◌∷◌, refl}
+use Rattle.std.proofs.lemmas.Bool.{and_parts, and_from, eqb-true, eq-eqb, false≢true}
 use Rattle.std.proofs.lemmas.List.Elements.{All-nil, All-cons}
 use Rattle.std.proofs.lemmas.Map.Views.{Contains-from_any}
 use Rattle.std.specs.Cmp.Lexicographic.{pointwise}
-use Rattle.std.specs.List.{All, Contains, filter, list_all}
+use Rattle.std.specs.List.{All, Contains, list_all}
 use Rattle.std.specs.Prelude.{Option}
 use Rattle.sig_core.specs.declared.member.Member.{Member}
-use Rattle.arbiter_block.specs.Sets.{is_among, is_joining, is_same_set, lie_in, same_member}
+use Rattle.arbiter_block.specs.Sets.{is_among, is_joining, is_same_set, joins_or_is_among, lie_in, same_member, without_joining}
 
 -- equal members are one
 same_member-is : (a b : Member) → same_member a b ≡ true → a ≡ b
@@ -44,20 +44,19 @@ unfolding is_same_set
 same_set-self xs = pointwise-self xs
 
 others_lie : (set : List Member) (joining : Option Member) (members : List Member)
-    → list_all (λ member. is_joining joining member || is_among set member) members ≡ true
-    → All (Contains set) (filter (λ member. not (is_joining joining member)) members)
+    → list_all (joins_or_is_among set joining) members ≡ true → All (Contains set) (without_joining joining members)
 others_lie set joining [] e = All-nil (Contains set)
 others_lie set joining (x ∷ xs) e =
-    let parts = and_parts (is_joining joining x || is_among set x) (list_all (λ member. is_joining joining member || is_among set member) xs) e in
+    let parts = and_parts (joins_or_is_among set joining x) (list_all (joins_or_is_among set joining) xs) e in
     at (is_joining joining x) parts.0 (others_lie set joining xs parts.1)
   where
-    at : (joins : Bool) → (joins || is_among set x) ≡ true → All (Contains set) (filter (λ member. not (is_joining joining member)) xs)
-        → All (Contains set) (cond (not joins) (x ∷ filter (λ member. not (is_joining joining member)) xs) (filter (λ member. not (is_joining joining member)) xs))
+    at : (joins : Bool) → (joins || is_among set x) ≡ true → All (Contains set) (without_joining joining xs)
+        → All (Contains set) (cond (not joins) (x ∷ without_joining joining xs) (without_joining joining xs))
     at true e rest = rest
     at false e rest = All-cons (Contains set) x _ (Contains-from_any same_member-is x set e) rest
 
 -- members that lie in a set: each of them, but for the one that joins, is among it
-pub lying : (set members : List Member) (joining : Option Member) → lie_in set members joining ≡ true
-    → All (Contains set) (filter (λ member. not (is_joining joining member)) members)
+pub lying : (set members : List Member) (joining : Option Member)
+    → lie_in set members joining ≡ true → All (Contains set) (without_joining joining members)
 unfolding lie_in
 lying set members joining e = others_lie set joining members e

@@ -1,5 +1,5 @@
 -- What the arbitrator grants, along a list of signals.
-use Rattle.std.specs.Prelude.{◌≡◌, ◌≤◌, ℕ, Bool, not, List, [], ◌∷◌, ◌++◌, filter, All, Contains, Option, None}
+use Rattle.std.specs.Prelude.{◌≡◌, ◌≤◌, ℕ, List, [], ◌∷◌, ◌++◌, All, Contains, Option, None}
 use Rattle.std.specs.List.{AllPairs, flat_map}
 use Rattle.sig_core.specs.declared.member.Member.{Member}
 use Rattle.sig_core.specs.declared.outs.Outgoing.{Outgoing}
@@ -8,7 +8,7 @@ use Rattle.sig_core.specs.declared.signal.Body.TheVariants.{Membership}
 use Rattle.sig_core.specs.declared.signal.Signal.{Signal}
 use Rattle.sig_core.specs.declared.signal.membership.MembershipSignal.TheVariants.{ArbitReq, ArbitConf}
 use Rattle.arbiter_block.specs.Arbiter.{ArbiterState, arbiter_row, fresh_arbiter}
-use Rattle.arbiter_block.specs.Sets.{is_joining}
+use Rattle.arbiter_block.specs.Sets.{without_joining}
 
 -- a number that was granted, the set that was granted for it, and the member that joined with it
 pub record Grant : Type 0 where
@@ -23,8 +23,8 @@ granted_by (Membership (ArbitReq number members joining)) (Membership (ArbitConf
 granted_by asked answer = []
 
 -- what is granted at a signal, by what is sent
-abbrev pub granted_at : Signal → List Outgoing → List Grant
-granted_at x sends = flat_map (λ send. granted_by x.body send.body) sends
+abbrev pub granted_at : Body → List Outgoing → List Grant
+granted_at asked sends = flat_map (λ send. granted_by asked send.body) sends
 
 -- the arbitrator after these signals
 abbrev pub after_all : ArbiterState → List Signal → ArbiterState
@@ -34,7 +34,7 @@ after_all s (x ∷ xs) = after_all (arbiter_row s x).state xs
 -- what it grants at them, in order
 abbrev pub granted_along : ArbiterState → List Signal → List Grant
 granted_along s [] = []
-granted_along s (x ∷ xs) = granted_at x (arbiter_row s x).effects.sends ++ granted_along (arbiter_row s x).state xs
+granted_along s (x ∷ xs) = granted_at x.body (arbiter_row s x).effects.sends ++ granted_along (arbiter_row s x).state xs
 
 -- the first view counts as granted
 abbrev pub first_grant : List Member → Grant
@@ -46,15 +46,18 @@ all_granted members signals = first_grant members ∷ granted_along (fresh_arbit
 
 -- the set without the member that joined with it
 abbrev pub others_of : Grant → List Member
-others_of grant = filter (λ member. not (is_joining grant.joining member)) grant.members
+others_of grant = without_joining grant.joining grant.members
+
+-- if the two have one number, they have one set
+abbrev pub HaveOneSet : Grant → Grant → Type 0
+HaveOneSet one other = one.number ≡ other.number → one.members ≡ other.members
 
 -- no number is granted with two sets
 abbrev pub OneSetForEachNumber : Type 0
 OneSetForEachNumber =
-    (members : List Member) (signals : List Signal)
-    → AllPairs (λ one other. one.number ≡ other.number → one.members ≡ other.members) (all_granted members signals)
+    (members : List Member) (signals : List Signal) → AllPairs HaveOneSet (all_granted members signals)
 
--- a grant may stand behind another: its number isn't less, and its set lies in the other's but for the member that joins
+-- a grant may stand behind another: its number isn't less, and its set lies in the other's, but for who joins
 pub record Succeeds (before grant : Grant) : Type 0 where
   pub number : before.number ≤ grant.number
   pub members : All (Contains before.members) (others_of grant)

@@ -16,8 +16,10 @@ pub enum Heard {
 /// At most eight members, as a list.
 pub fn members_of(all: &[Member]) -> Members {
     let mut members = Members::new();
-    for member in all.iter().take(8) {
-        members.push(*member);
+    for member in all {
+        if members.as_slice().len() < 8 {
+            members.push(*member);
+        }
     }
     members
 }
