@@ -2,7 +2,7 @@
 use Rattle.std.specs.Prelude.{ℕ, List, [], ◌∷◌, ◌++◌, Option, None, Some, codes}
 use Rattle.std.specs.Fmt.{decimal}
 use Rattle.sig_core.specs.declared.reply.ApiReply.{ApiReply}
-use Rattle.sig_core.specs.declared.reply.ApiReply.TheVariants.{Begun, Answered, Ended, Pending, Refused, Stopped, Ticked, Cut, Durable, Checkpoint, Started, StartEnded, Row, Rows, Digest, View, Crashed, Restarted, BatchEnd}
+use Rattle.sig_core.specs.declared.reply.ApiReply.TheVariants.{Begun, Answered, Ended, Pending, Refused, Stopped, Ticked, Cut, Closed, Durable, Checkpoint, Started, StartEnded, Row, Rows, Digest, View, Crashed, Restarted, BatchEnd}
 use Rattle.script_lang.specs.AnswerText.{answer_words}
 use Rattle.script_lang.specs.OutcomeText.{outcome_words}
 use Rattle.script_lang.specs.WaitingText.{waiting_words}
@@ -25,6 +25,7 @@ name_of (Refused name refusal) = name
 name_of (Stopped node cause) = None
 name_of (Ticked rounds) = None
 name_of (Cut one other) = None
+name_of (Closed epoch) = None
 name_of (Durable epoch) = None
 name_of (Checkpoint epoch) = None
 name_of (Started node) = None
@@ -52,6 +53,7 @@ reply_words (Refused name refusal) = refusal_words refusal
 reply_words (Stopped node cause) = stop_words node cause
 reply_words (Ticked rounds) = codes "ticked " ++ decimal rounds
 reply_words (Cut one other) = codes "cut " ++ decimal one ++ codes " " ++ decimal other
+reply_words (Closed epoch) = codes "closed " ++ decimal epoch
 reply_words (Durable epoch) = codes "durable " ++ decimal epoch
 reply_words (Checkpoint epoch) = codes "checkpoint " ++ decimal epoch
 reply_words (Started node) = codes "started " ++ decimal node

@@ -56,6 +56,7 @@ fn name_of(reply: &ApiReply) -> Option<u16>
         ApiReply::Stopped { .. }
         | ApiReply::Ticked { .. }
         | ApiReply::Cut { .. }
+        | ApiReply::Closed { .. }
         | ApiReply::Durable { .. }
         | ApiReply::Checkpoint { .. }
         | ApiReply::Started { .. }
@@ -93,6 +94,7 @@ fn add_words(alloc: Global, reply: &ApiReply, line: &mut Vec<u8>) -> Result<(), 
         ApiReply::Stopped { node, cause } => add_stop(alloc, *node, cause, line),
         ApiReply::Ticked { rounds } => add(line, &format!(in alloc; "ticked {rounds}")?),
         ApiReply::Cut { one, other } => add(line, &cut_words(alloc, *one, *other)?),
+        ApiReply::Closed { epoch } => add(line, &format!(in alloc; "closed {epoch}")?),
         ApiReply::Durable { epoch } => add(line, &format!(in alloc; "durable {epoch}")?),
         ApiReply::Checkpoint { epoch } => add(line, &format!(in alloc; "checkpoint {epoch}")?),
         ApiReply::Started { node } => add(line, &format!(in alloc; "started {node}")?),

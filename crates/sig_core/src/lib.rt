@@ -3,6 +3,7 @@
 #![tactic(auto)]
 
 mod actor;
+mod boxed;
 mod chain;
 mod entry;
 mod held;
@@ -31,6 +32,7 @@ mod view;
 mod word;
 
 pub use actor::Actor;
+pub use boxed::Boxed;
 pub use chain::{Chain, last_place, node_at, primary_of};
 pub use entry::Entry;
 pub use held::Held;

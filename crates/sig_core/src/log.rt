@@ -1,4 +1,5 @@
 //! Logs: what each host did in a life.
+use crate::boxed::Boxed;
 use crate::key::Key;
 use crate::mark::Marks;
 use crate::member::HostId;
@@ -11,7 +12,7 @@ use crate::value::Value;
 pub struct LogStep {
     /// One more than the greater of the stamps of the host's step before and of the signal.
     pub stamp: u64,
-    pub taken: Signal,
+    pub taken: Boxed<Signal>,
     pub marks: Marks,
 }
 

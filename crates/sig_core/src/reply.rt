@@ -45,6 +45,7 @@ pub enum ApiReply {
     Stopped { node: u8, cause: StopCause },
     Ticked { rounds: u8 },
     Cut { one: u8, other: u8 },
+    Closed { epoch: u64 },
     Durable { epoch: u64 },
     Checkpoint { epoch: u64 },
     Started { node: u8 },

@@ -10,6 +10,8 @@ pub enum BatchLine {
     Operate { name: u16, op: Op },
     /// Stop the node when its coordinator's host has taken this many signals after the order.
     Kill { node: u8, after: u32 },
+    /// Close the current epoch, in memory alone.
+    Micro,
     Gcp,
     Lcp,
 }
@@ -27,6 +29,9 @@ pub enum ApiReq {
     Cut { one: u8, other: u8 },
     /// A round, from 1, of as many as `of`.
     Tick { round: u8, of: u8 },
+    /// Close the current epoch, in memory alone.
+    Micro,
+    /// Close the current epoch, and make it durable.
     Gcp,
     Lcp,
     Start { node: u8 },

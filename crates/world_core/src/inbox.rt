@@ -4,7 +4,7 @@ ghost use Rattle.world_core.specs.Inbox.{behind, is_busy, is_taken, new_link, ta
 ghost use Rattle.world_core.specs.Machine.{headed};
 
 use crate::hosts::Membership;
-use sig_core::{HostId, NoMemory, Outgoing, Signal};
+use sig_core::{Boxed, HostId, NoMemory, Outgoing, Signal};
 use std::alloc::Global;
 use std::collections::VecDeque;
 use std::marker::Model;
@@ -12,7 +12,7 @@ use std::marker::Model;
 /// A link from one host to another, or to itself: the signals on their way, the oldest first.
 #[derive(Drop)]
 struct Link {
-    signals: VecDeque<Signal>,
+    signals: VecDeque<Boxed<Signal>>,
     /// How many signals were put on it.
     sent: u64,
 }
@@ -44,6 +44,7 @@ impl Link {
     /// Puts a signal that host `from` sends in the step of this stamp behind the others.
     fn put(
         &mut self,
+        alloc: Global,
         who: &Membership,
         from: u32,
         stamp: u64,
@@ -54,7 +55,7 @@ impl Link {
     {
         let Outgoing { to, body } = sent;
         let view = who.share_view()?;
-        self.signals.push_back(Signal {
+        let signal = Signal {
             from: HostId(from),
             member: who.member_at(from),
             to,
@@ -62,12 +63,13 @@ impl Link {
             stamp,
             view,
             body,
-        })?;
+        };
+        self.signals.push_back(Boxed::new(alloc, signal)?)?;
         self.sent = self.sent.saturating_add(1);
         Ok(())
     }
 
-    fn take(&mut self) -> Option<Signal>
+    fn take(&mut self) -> Option<Boxed<Signal>>
         ensures { MatchOption result ((self.old.signals ≡ []) × (self.new ≡ self.old)) (λ signal. is_taken self.old signal self.new) }
     {
         self.signals.pop_front()
@@ -125,6 +127,7 @@ impl Inbox {
     /// `NoMemory`, and then the inbox is of no use.
     pub fn put(
         &mut self,
+        alloc: Global,
         who: &Membership,
         from: u32,
         stamp: u64,
@@ -135,7 +138,7 @@ impl Inbox {
         let at = from as usize;
         if at < self.links.len() {
             let was_busy = self.links[at].is_busy();
-            self.links[at].put(who, from, stamp, sent)?;
+            self.links[at].put(alloc, who, from, stamp, sent)?;
             if !was_busy {
                 self.busy += 1;
             }
@@ -144,7 +147,7 @@ impl Inbox {
     }
 
     /// Takes the first signal of the first link that has one.
-    pub fn take(&mut self) -> Option<Signal>
+    pub fn take(&mut self) -> Option<Boxed<Signal>>
         ensures none { IfNone result (take_first self.old ≡ None) }
         ensures kept { IfNone result (self.new ≡ self.old) }
         ensures signal { IfSome result (λ signal. take_first self.old ≡ Some (taken signal self.new)) }
@@ -154,7 +157,7 @@ impl Inbox {
     }
 
     /// Takes the first signal of the link from a host.
-    pub fn take_from(&mut self, from: u32) -> Option<Signal>
+    pub fn take_from(&mut self, from: u32) -> Option<Boxed<Signal>>
         ensures none { IfNone result (taken_at self.old (Some from) ≡ None) }
         ensures kept { IfNone result (self.new ≡ self.old) }
         ensures signal { IfSome result (λ signal. taken_at self.old (Some from) ≡ Some (taken signal self.new)) }
@@ -175,7 +178,7 @@ fn first_busy(links: &[Link]) -> Option<usize>
 }
 
 /// Takes the first signal of the link at a place, of links so many of which have one.
-fn take_at(links: &mut [Link], busy: &mut usize, at: usize) -> Option<Signal>
+fn take_at(links: &mut [Link], busy: &mut usize, at: usize) -> Option<Boxed<Signal>>
     requires at { at < length links.old }
     requires counted { busy.old ≡ count_by is_busy links.old }
     ensures counted { busy.new ≡ count_by is_busy links.new }

@@ -5,7 +5,7 @@ ghost use Rattle.world_core.specs.Network.{arrival};
 
 use crate::hosts::Membership;
 use crate::inbox::Inbox;
-use sig_core::{NoMemory, Outgoing, Signal};
+use sig_core::{Boxed, NoMemory, Outgoing, Signal};
 use std::alloc::Global;
 use std::marker::Model;
 
@@ -13,7 +13,7 @@ use std::marker::Model;
 #[derive(Drop)]
 pub struct Arrived {
     pub host: u32,
-    pub signal: Signal,
+    pub signal: Boxed<Signal>,
 }
 
 /// The links to each host, in the order of hosts.
@@ -58,6 +58,7 @@ impl Network {
     /// `NoMemory`, and then the network is of no use.
     pub fn put(
         &mut self,
+        alloc: Global,
         who: &Membership,
         from: u32,
         stamp: u64,
@@ -67,7 +68,7 @@ impl Network {
     {
         let at = who.receiver(&sent.to) as usize;
         if at < self.inboxes.len() {
-            self.inboxes[at].put(who, from, stamp, sent)?;
+            self.inboxes[at].put(alloc, who, from, stamp, sent)?;
         }
         Ok(())
     }

@@ -14,7 +14,7 @@ use crate::network::Network;
 use frag_map::Layout;
 use node_core::Host;
 use sig_core::{
-    Actor, ApiReply, ApiReq, Body, CLIENT, HostId, HostSignal, Key, Life, LogStep, Member,
+    Actor, ApiReply, ApiReq, Body, Boxed, CLIENT, HostId, HostSignal, Key, Life, LogStep, Member,
     NoMemory, Outs, Seq, Shape, Signal, Value, Work,
 };
 use std::alloc::Global;
@@ -86,7 +86,7 @@ impl World {
         ensures err { OnErr result (self.new.logs ≡ self.old.logs) }
     {
         let signal = request_signal(&self.who, self.stamps[0], request)?;
-        self.handle(alloc, 0, signal)
+        self.handle(alloc, 0, Boxed::new(alloc, signal)?)
     }
 
     /// Takes steps until nothing is under way. It isn't claimed that this ends.
@@ -160,23 +160,23 @@ impl World {
         &mut self,
         alloc: Global,
         host: u32,
-        signal: Signal,
+        signal: Boxed<Signal>,
     ) -> Result<(), NoMemory>
         requires { CanTake (whole_of self.old) host }
         ensures ok { OnOk result (whole_of self.new ≡ moved (whole_of self.old) (record { to = host; signal = signal })) }
         ensures err { OnErr result (self.new.logs ≡ self.old.logs) }
     {
         let at = host as usize;
-        let before = self.stamps[at].max(signal.stamp);
+        let before = self.stamps[at].max(signal.get().stamp);
         if before >= STAMPS_END {
             return Err(NoMemory);
         }
         let stamp = before + 1;
         self.outs.clear();
-        self.bodies[at].handle(alloc, &signal, &mut self.outs)?;
+        self.bodies[at].handle(alloc, signal.get(), &mut self.outs)?;
         self.stamps[at] = stamp;
         let marks = self.outs.take_marks(alloc)?;
-        dispatch(&mut self.network, &self.who, host, stamp, &mut self.outs)?;
+        dispatch(alloc, &mut self.network, &self.who, host, stamp, &mut self.outs)?;
         let taken = signal;
         self.logs.add(
             host,
@@ -250,6 +250,7 @@ fn request_signal(who: &Membership, stamp: u64, request: ApiReq) -> Result<Signa
 
 /// Puts what a step of a host sends on its way.
 fn dispatch(
+    alloc: Global,
     network: &mut Network,
     who: &Membership,
     host: u32,
@@ -259,7 +260,7 @@ fn dispatch(
     ensures { OnOk result (network.new ≡ put_all network.old who.now host stamp outs.old.sends) }
 {
     while let Some(sent) = outs.take_send() {
-        network.put(who, host, stamp, sent)?;
+        network.put(alloc, who, host, stamp, sent)?;
     }
     Ok(())
 }

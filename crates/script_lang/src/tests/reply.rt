@@ -201,6 +201,7 @@ fn events_of_the_cluster_tell_their_numbers(rt: HostRuntime) -> Result<(), Fail>
     let table = [
         (ApiReply::Ticked { rounds: 255 }, b"ticked 255\n".as_slice()),
         (ApiReply::Cut { one: 3, other: 1 }, b"cut 3 1\n"),
+        (ApiReply::Closed { epoch: 4 }, b"closed 4\n"),
         (ApiReply::Durable { epoch: 5 }, b"durable 5\n"),
         (ApiReply::Checkpoint { epoch: 6 }, b"checkpoint 6\n"),
         (ApiReply::Started { node: 2 }, b"started 2\n"),

@@ -23,16 +23,30 @@ pub enum EpochSignal {
     GcpRep {
         epoch: u64,
     },
+    MicroReq,
+    MicroRep {
+        epoch: u64,
+    },
+    /// No epoch is given from now on; `next` will follow this one.
     GcpPrepare {
         epoch: u64,
+        next: u64,
     },
     GcpPrepareConf {
         epoch: u64,
     },
     GcpCommit {
         epoch: u64,
+        next: u64,
     },
     GcpNodeFinish {
+        epoch: u64,
+    },
+    /// No transaction of this epoch, or of one before it, is unfinished at any member.
+    GcpClosed {
+        epoch: u64,
+    },
+    GcpClosedConf {
         epoch: u64,
     },
     GcpSaveReq {
@@ -54,9 +68,12 @@ pub enum EpochSignal {
     },
     GcpOrd,
     GcpStateReq,
+    /// What a block doesn't know is 0.
     GcpStateConf {
         current: u64,
         prepared: u64,
+        next: u64,
+        closed: u64,
         saved: u64,
         durable: u64,
     },
