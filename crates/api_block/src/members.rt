@@ -1,9 +1,8 @@
 //! The members of the view, and what they are told.
 ghost use Rattle.std.specs.Prelude.{◌≡◌, ◌+◌, ◌-◌, ◌≤◌, length, take};
 ghost use Rattle.std.specs.List.{list_any};
-ghost use Rattle.sig_core.specs.Step.{joined};
+ghost use Rattle.sig_core.specs.Step.{joined, sends_only};
 ghost use Rattle.api_block.specs.Members.{everyone, is_at, is_full, least_from, least_node, lesser, news_body, telling_all};
-ghost use Rattle.api_block.specs.State.{sends_only};
 
 use sig_core::{Body, ClientSignal, HostSignal, Member, Outs, TxId, View, rows_of};
 

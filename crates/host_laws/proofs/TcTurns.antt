@@ -20,7 +20,7 @@ use Rattle.frag_map.specs.Layout.{Layout}
 use Rattle.sig_core.specs.Op.{key_of}
 use Rattle.sig_core.specs.Place.{client, epochs}
 use Rattle.sig_core.specs.Same.{same_key}
-use Rattle.sig_core.specs.Step.{sending, stay}
+use Rattle.sig_core.specs.Step.{sending, stay, sends_only}
 use Rattle.tc_block.specs.declared.phase.Asked.{Asked}
 use Rattle.tc_block.specs.declared.phase.Phase.{Phase}
 use Rattle.tc_block.specs.declared.phase.Phase.TheVariants.{Open, Verifying, Committing, Completing, Aborting}
@@ -34,7 +34,7 @@ use Rattle.tc_block.specs.Part.{part_effects}
 use Rattle.tc_block.specs.Sends.{entering, go_on_if, go_on_row, phase_sends, reported, verify_end, waits_of}
 use Rattle.tc_block.specs.State.{TcState}
 use Rattle.tc_block.specs.Touched.{fits}
-use Rattle.tc_block.specs.Turn.{Turn, asking, at_phase, ending, going, sends_only}
+use Rattle.tc_block.specs.Turn.{Turn, asking, at_phase, ending, going}
 use Rattle.tc_block.proofs.EachTurn.{RowsAre, TurnForms, rows_of}
 use Rattle.host_laws.proofs.SendKinds.{are_of, of_map}
 use Rattle.host_laws.proofs.TcOps.{may_ask}

@@ -2,8 +2,7 @@
 use Rattle.std.proofs.Common.{◌≡◌, List, [], ◌++◌, append_assoc}
 use Rattle.std.proofs.lemmas.List.{append-nil}
 use Rattle.sig_core.specs.declared.outs.Outgoing.{Outgoing}
-use Rattle.sig_core.specs.Step.{Effects, joined}
-use Rattle.lqh_block.specs.State.{sends_only}
+use Rattle.sig_core.specs.Step.{Effects, joined, sends_only}
 
 -- signals that stand behind the effects of a step
 pub joined-sends_only : (before step : Effects) (sends : List Outgoing)

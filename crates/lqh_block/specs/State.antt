@@ -58,10 +58,6 @@ abbrev pub go_on_if : ℕ → Work → Bool → List Outgoing
 go_on_if node work true = go_on node work ∷ []
 go_on_if node work false = []
 
--- signals and no marks
-abbrev pub sends_only : List Outgoing → Effects
-sends_only sends = record { sends = sends; marks = [] }
-
 -- the signal by which the block goes on with waits that were granted, if some were
 abbrev pub serve_granted : ℕ → Served → List Outgoing
 serve_granted node served = go_on_if node Granted (nat_lt 0 served.granted)

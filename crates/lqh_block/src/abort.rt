@@ -1,9 +1,8 @@
 //! The abort of a transaction's part in a row.
 ghost use Rattle.std.specs.Prelude.{◌≡◌, ◌<◌, [], length};
 ghost use Rattle.sig_core.specs.Rows.{record_state};
-ghost use Rattle.sig_core.specs.Step.{HasRoom, IsTaken, joined};
+ghost use Rattle.sig_core.specs.Step.{HasRoom, IsTaken, joined, sends_only};
 ghost use Rattle.lqh_block.specs.Abort.{abort_row, given_up, given_up_marks, refused_by, unasked, waits_at};
-ghost use Rattle.lqh_block.specs.State.{sends_only};
 
 use crate::lqh::Lqh;
 use crate::operate::serve_granted;

@@ -1,9 +1,8 @@
 //! Waits that stood too long.
 ghost use Rattle.std.specs.Prelude.{◌≡◌, ◌<◌, length};
-ghost use Rattle.sig_core.specs.Step.{HasRoom, IsTaken, joined};
+ghost use Rattle.sig_core.specs.Step.{HasRoom, IsTaken, joined, sends_only};
 ghost use Rattle.row_locks.specs.Tables.{unwaited_at};
 ghost use Rattle.lqh_block.specs.Expire.{expire_row, expiring, more_expired, round_row};
-ghost use Rattle.lqh_block.specs.State.{sends_only};
 
 use crate::lqh::Lqh;
 use crate::operate::{go_on, serve_granted};

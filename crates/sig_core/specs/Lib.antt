@@ -9,6 +9,7 @@ pub mod Op
 pub mod Outs
 pub mod Part
 pub mod Place
+pub mod Portion
 pub mod Redo
 pub mod Rows
 pub mod Same

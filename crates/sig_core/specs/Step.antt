@@ -20,6 +20,10 @@ pub record Step (S : Type 0) : Type 0 where
 abbrev pub nothing : Effects
 nothing = record { sends = []; marks = [] }
 
+-- signals and no marks
+abbrev pub sends_only : List Outgoing → Effects
+sends_only sends = record { sends = sends; marks = [] }
+
 -- effects, and then others
 abbrev pub joined : Effects → Effects → Effects
 joined first second = record { sends = first.sends ++ second.sends; marks = first.marks ++ second.marks }

@@ -20,6 +20,7 @@ mod op;
 mod outcome;
 mod outs;
 mod place;
+mod portion;
 mod redo;
 mod reply;
 mod request;
@@ -49,8 +50,10 @@ pub use op::{Answer, Op};
 pub use outcome::{AbortCause, Outcome, StopCause};
 pub use outs::{OUTS, Outgoing, Outs, SIGNAL_OUTS};
 pub use place::{
-    BlockId, CLIENT, Part, Place, coordinator, coordinator_of, epochs, part_of, rows_of,
+    ARBITER, BlockId, CLIENT, Part, Place, checkpoints, coordinator, coordinator_of, epochs,
+    membership, part_of, rows_of, takeover,
 };
+pub use portion::{PORTION, Portion};
 pub use redo::{Redo, commit_size, prepare_size};
 pub use reply::{ApiReply, Refusal, Waiting};
 pub use request::{ApiReq, BatchLine};

@@ -1,7 +1,7 @@
 //! Where a signal is for.
 ghost use Rattle.std.specs.Prelude.{◌≡◌};
 ghost use Rattle.sig_core.specs.Part.{part_of};
-ghost use Rattle.sig_core.specs.Place.{coordinator, coordinator_of, epochs, rows_of};
+ghost use Rattle.sig_core.specs.Place.{checkpoints, coordinator, coordinator_of, epochs, membership, rows_of, takeover};
 
 use crate::member::TxId;
 
@@ -66,6 +66,22 @@ pub const CLIENT: Place = Place {
     block: BlockId::Api,
 };
 
+/// The block that grants views, on the shell host.
+pub const ARBITER: Place = Place {
+    node: 0,
+    block: BlockId::Arbiter,
+};
+
+/// The membership of a node.
+pub fn membership(node: u8) -> Place
+    ensures { result ≡ membership node }
+{
+    Place {
+        node,
+        block: BlockId::Qmgr,
+    }
+}
+
 /// The coordinator of a node.
 pub fn coordinator(node: u8) -> Place
     ensures { result ≡ coordinator node }
@@ -100,5 +116,25 @@ pub fn rows_of(node: u8) -> Place
     Place {
         node,
         block: BlockId::Lqh,
+    }
+}
+
+/// The block of a node that ends the transactions of coordinators that failed.
+pub fn takeover(node: u8) -> Place
+    ensures { result ≡ takeover node }
+{
+    Place {
+        node,
+        block: BlockId::Takeover,
+    }
+}
+
+/// The block of a node that drives checkpoints.
+pub fn checkpoints(node: u8) -> Place
+    ensures { result ≡ checkpoints node }
+{
+    Place {
+        node,
+        block: BlockId::GcpMaster,
     }
 }

@@ -3,4 +3,3 @@ pub mod EachTurn
 pub mod LiveKeeps
 pub mod LiveLemmas
 pub mod LiveSplit
-pub mod PartLemmas

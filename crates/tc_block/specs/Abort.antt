@@ -8,7 +8,7 @@ use Rattle.sig_core.specs.declared.signal.Body.TheVariants.{Client}
 use Rattle.sig_core.specs.declared.signal.client.ClientSignal.TheVariants.{TcRollbackRep}
 use Rattle.frag_map.specs.Layout.{Layout}
 use Rattle.sig_core.specs.Op.{key_of}
-use Rattle.sig_core.specs.Step.{stay, to_place}
+use Rattle.sig_core.specs.Step.{stay, to_place, sends_only}
 use Rattle.tc_block.specs.declared.phase.Asked.{Asked}
 use Rattle.tc_block.specs.declared.phase.Phase.{Phase}
 use Rattle.tc_block.specs.declared.phase.Phase.TheVariants.{Open, Verifying, Aborting}
@@ -18,7 +18,7 @@ use Rattle.frag_map.specs.Layout.{chain_of}
 use Rattle.tc_block.specs.Operate.{asked_on, late_answer}
 use Rattle.sig_core.specs.Place.{client}
 use Rattle.tc_block.specs.Sends.{entering, verify_end}
-use Rattle.tc_block.specs.Turn.{Turn, going, ending, at_phase, asking, sends_only}
+use Rattle.tc_block.specs.Turn.{Turn, going, ending, at_phase, asking}
 
 -- how many replicas the keys have in a layout, all together
 abbrev pub replica_count : Layout → List Touched → ℕ

@@ -2,13 +2,13 @@
 use Rattle.std.specs.Prelude.{ℕ, ◌+◌, ◌-◌, ◌==◌, Bool, true, false, nat_lt, List, [], ◌∷◌}
 use Rattle.sig_core.specs.declared.member.TxId.{TxId}
 use Rattle.frag_map.specs.Layout.{Layout}
-use Rattle.sig_core.specs.Step.{stay}
+use Rattle.sig_core.specs.Step.{stay, sends_only}
 use Rattle.tc_block.specs.declared.phase.Phase.{Phase}
 use Rattle.tc_block.specs.declared.phase.Phase.TheVariants.{Completing}
 use Rattle.tc_block.specs.declared.touched.Touched.{Touched}
 use Rattle.tc_block.specs.declared.transaction.Transaction.{Transaction}
 use Rattle.tc_block.specs.Sends.{entering, reported, verify_end}
-use Rattle.tc_block.specs.Turn.{Turn, going, ending, at_phase, sends_only}
+use Rattle.tc_block.specs.Turn.{Turn, going, ending, at_phase}
 
 -- how many of the keys were written
 abbrev pub one_if : Bool → ℕ

@@ -12,7 +12,7 @@ use Rattle.sig_core.specs.declared.signal.client.ClientSignal.TheVariants.{TcKey
 use Rattle.frag_map.specs.Layout.{Layout}
 use Rattle.sig_core.specs.Op.{key_of}
 use Rattle.sig_core.specs.Same.{same_key}
-use Rattle.sig_core.specs.Step.{Step, stay, sending}
+use Rattle.sig_core.specs.Step.{Step, stay, sending, sends_only}
 use Rattle.tc_block.specs.declared.phase.Asked.{Asked}
 use Rattle.tc_block.specs.declared.phase.Phase.{Phase}
 use Rattle.tc_block.specs.declared.phase.Phase.TheVariants.{Open, Aborting}
@@ -23,7 +23,7 @@ use Rattle.frag_map.specs.Layout.{chain_of}
 use Rattle.sig_core.specs.Place.{client, rows_of}
 use Rattle.tc_block.specs.Sends.{aborts_of, waits_of}
 use Rattle.tc_block.specs.Touched.{fits, touch, write}
-use Rattle.tc_block.specs.Turn.{asking, sends_only}
+use Rattle.tc_block.specs.Turn.{asking}
 
 -- a transaction that has begun
 abbrev pub fresh : Transaction

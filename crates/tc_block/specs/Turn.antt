@@ -6,10 +6,6 @@ use Rattle.tc_block.specs.declared.phase.Asked.{Asked}
 use Rattle.tc_block.specs.declared.phase.Phase.{Phase}
 use Rattle.tc_block.specs.declared.transaction.Transaction.{Transaction}
 
--- signals and no marks
-abbrev pub sends_only : List Outgoing → Effects
-sends_only sends = record { sends = sends; marks = [] }
-
 -- a step of a transaction, and whether it is over then, so that the coordinator forgets it
 pub record Turn : Type 0 where
   pub step : Step Transaction

@@ -4,7 +4,6 @@
 mod abort;
 mod commit;
 mod complete;
-mod part;
 mod phase;
 mod sends;
 mod tc;

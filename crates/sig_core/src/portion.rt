@@ -2,14 +2,16 @@
 ghost use Rattle.std.specs.Prelude.{◌≡◌, ◌+◌, ◌≤◌, false, length};
 ghost use Rattle.sig_core.specs.Step.{to_place};
 
-use sig_core::{Body, Outs, Place};
+use crate::outs::Outs;
+use crate::place::Place;
+use crate::signal::Body;
 
 /// How many sends of a list an event does.
-pub const PART: usize = 8;
+pub const PORTION: usize = 8;
 
 /// How far an event has come with a list of sends that it goes through.
 #[derive(Clone, Copy)]
-pub struct Part {
+pub struct Portion {
     /// How many are still to be passed over: earlier events sent them.
     pub skip: u64,
     /// How many more this event sends.
@@ -18,16 +20,16 @@ pub struct Part {
     pub more: bool,
 }
 
-impl Part {
-    ghost use Rattle.tc_block.specs.Part.{offered, so_far};
+impl Portion {
+    ghost use Rattle.sig_core.specs.Portion.{offered, so_far};
 
     /// Nothing of the list was gone through yet, and the event sends from place `at` on.
-    pub fn new(at: u64) -> Part
+    pub fn new(at: u64) -> Portion
         ensures { result ≡ record { skip = at; room = 8; more = false } }
     {
-        Part {
+        Portion {
             skip: at,
-            room: PART,
+            room: PORTION,
             more: false,
         }
     }

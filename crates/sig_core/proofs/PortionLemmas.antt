@@ -1,18 +1,14 @@
--- Going through a list of sends: an event sends the part of it from a place on, and knows whether more is left.
+-- Going through a list of sends: an event sends the portion of it from a place on, and knows whether more is left.
 use Rattle.std.proofs.Common.{◌≡◌, ◌<◌, ◌+◌, ◌-◌, ◌++◌, ℕ, zero, suc, Bool, true, false, ◌||◌, List, [], ◌∷◌, length, take, drop, map, get_or, nat_lt, refl, ap, sym, ◌∙◌, arith, append_assoc}
 use Rattle.std.proofs.lemmas.Bool.Decides.{nat_tests}
 use Rattle.std.proofs.lemmas.List.{drop_more, append-nil}
 use Rattle.std.specs.List.{flat_map}
-use Rattle.sig_core.specs.declared.member.TxId.{TxId}
 use Rattle.sig_core.specs.declared.outs.Outgoing.{Outgoing}
-use Rattle.sig_core.specs.declared.signal.Body.TheVariants.{Host}
-use Rattle.sig_core.specs.declared.signal.host.HostSignal.TheVariants.{Continue}
-use Rattle.sig_core.specs.declared.signal.host.Work.TheVariants.{Transaction}
-use Rattle.sig_core.specs.Step.{Effects, joined, and_send}
-use Rattle.tc_block.specs.declared.part.Part.{Part}
-use Rattle.tc_block.specs.Part.{Offered, all_offered, go_on_to, offered, offered_by, offered_from, part, part_effects, rest_if, so_far}
-use Rattle.sig_core.specs.Place.{coordinator}
-use Rattle.tc_block.specs.Turn.{sends_only}
+use Rattle.sig_core.specs.declared.place.Place.{Place}
+use Rattle.sig_core.specs.declared.portion.Portion.{Portion}
+use Rattle.sig_core.specs.declared.signal.host.Work.{Work}
+use Rattle.sig_core.specs.Portion.{Offered, all_offered, go_on_at, offered, offered_by, offered_from, portion, portion_effects, rest_if, so_far}
+use Rattle.sig_core.specs.Step.{Effects, joined, and_send, sends_only}
 
 -- two lists, one after the other
 pub all_offered-append : (o : Offered) (xs ys : List Outgoing) → all_offered o (xs ++ ys) ≡ all_offered (all_offered o xs) ys
@@ -37,7 +33,7 @@ map_offer_more f items i d o next inside is =
 -- what was sent, and whether more is left, when all of a list was gone through
 pub record IsSent (o : Offered) (before : Effects) (sends : List Outgoing) (left : Bool) : Type 0 where
   pub effects : o.effects ≡ joined before (sends_only sends)
-  pub more : o.part.more ≡ left
+  pub more : o.portion.more ≡ left
 
 -- an event so far
 abbrev at_work : ℕ → ℕ → Bool → Effects → Offered
@@ -103,7 +99,7 @@ all_sent (suc skip) room more e (x ∷ xs) =
     let next : suc skip + room ≡ suc (skip + room) = omega arith in
     record {
       effects = ap (λ o. (all_offered o xs).effects) step ∙ rest.effects;
-      more = ap (λ o. (all_offered o xs).part.more) step ∙ rest.more
+      more = ap (λ o. (all_offered o xs).portion.more) step ∙ rest.more
           ∙ ap (λ b. more || b) (sym (ap (λ n. nat_lt n (suc (length xs))) next ∙ both_more (skip + room) (length xs)));
     }
 all_sent zero (suc room) more e (x ∷ xs) =
@@ -112,7 +108,7 @@ all_sent zero (suc room) more e (x ∷ xs) =
     let next : 0 + suc room ≡ suc (0 + room) = omega arith in
     record {
       effects = ap (λ o. (all_offered o xs).effects) step ∙ rest.effects ∙ sends_one_more e x (take room xs);
-      more = ap (λ o. (all_offered o xs).part.more) step ∙ rest.more
+      more = ap (λ o. (all_offered o xs).portion.more) step ∙ rest.more
           ∙ ap (λ b. more || b) (sym (ap (λ n. nat_lt n (suc (length xs))) next ∙ both_more (0 + room) (length xs)));
     }
 all_sent zero zero more e (x ∷ xs) =
@@ -123,29 +119,27 @@ all_sent zero zero more e (x ∷ xs) =
     }
 
 -- an event that sends from a place on
-pub part_sent : (at : ℕ) (e : Effects) (xs : List Outgoing) → IsSent (all_offered (offered_from at e) xs) e (part xs at) (nat_lt (at + 8) (length xs))
-part_sent at e xs = all_sent at 8 false e xs
+pub portion_sent : (at : ℕ) (e : Effects) (xs : List Outgoing) → IsSent (all_offered (offered_from at e) xs) e (portion xs at) (nat_lt (at + 8) (length xs))
+portion_sent at e xs = all_sent at 8 false e xs
 
--- the last part of a list, and one that isn't
-pub ends_with_part : (node : ℕ) (tx : TxId) (at : ℕ) (e out : Effects) (p : Part) (xs : List Outgoing)
-    → so_far p out ≡ all_offered (offered_from at e) xs → p.more ≡ false → out ≡ joined e (part_effects node tx xs at)
-unfolding part_effects
-ends_with_part node tx at e out p xs is none =
-    let sent = part_sent at e xs in
-    let last : nat_lt (at + 8) (length xs) ≡ false = sym sent.more ∙ ap (λ (o : Offered). o.part.more) (sym is) ∙ none in
+-- the last portion of a list, and one that isn't
+pub ends_with_portion : (by : Place) (work : Work) (at : ℕ) (e out : Effects) (p : Portion) (xs : List Outgoing)
+    → so_far p out ≡ all_offered (offered_from at e) xs → p.more ≡ false → out ≡ joined e (portion_effects by work xs at)
+ends_with_portion by work at e out p xs is none =
+    let sent = portion_sent at e xs in
+    let last : nat_lt (at + 8) (length xs) ≡ false = sym sent.more ∙ ap (λ (o : Offered). o.portion.more) (sym is) ∙ none in
     ap (λ (o : Offered). o.effects) is ∙ sent.effects
-    ∙ ap (λ ys. joined e (sends_only ys)) (sym (ap (λ b. part xs at ++ rest_if node tx at b) last ∙ append-nil (part xs at)))
+    ∙ ap (λ ys. joined e (sends_only ys)) (sym (ap (λ b. portion xs at ++ rest_if by work at b) last ∙ append-nil (portion xs at)))
 
-pub goes_on_after_part : (node : ℕ) (tx : TxId) (at : ℕ) (e out : Effects) (p : Part) (xs : List Outgoing)
+pub goes_on_after_portion : (by : Place) (work : Work) (at : ℕ) (e out : Effects) (p : Portion) (xs : List Outgoing)
     → so_far p out ≡ all_offered (offered_from at e) xs → p.more ≡ true
-    → and_send out (coordinator node) (Host (Continue (Transaction tx) (at + 8))) ≡ joined e (part_effects node tx xs at)
-unfolding part_effects
-goes_on_after_part node tx at e out p xs is some =
-    let sent = part_sent at e xs in
-    let next : nat_lt (at + 8) (length xs) ≡ true = sym sent.more ∙ ap (λ (o : Offered). o.part.more) (sym is) ∙ some in
-    let go_on = go_on_to node tx (at + 8) in
+    → and_send out by (go_on_at by work (at + 8)).body ≡ joined e (portion_effects by work xs at)
+goes_on_after_portion by work at e out p xs is some =
+    let sent = portion_sent at e xs in
+    let next : nat_lt (at + 8) (length xs) ≡ true = sym sent.more ∙ ap (λ (o : Offered). o.portion.more) (sym is) ∙ some in
+    let go_on = go_on_at by work (at + 8) in
     ap (λ (o : Offered). and_send o.effects go_on.to go_on.body) is ∙ ap (λ (before : Effects). and_send before go_on.to go_on.body) sent.effects
-    ∙ ap (λ ys. record { sends = ys; marks = e.marks ++ [] }) (append_assoc e.sends (part xs at) (go_on ∷ []))
-    ∙ ap (λ b. joined e (sends_only (part xs at ++ rest_if node tx at b))) (sym next)
+    ∙ ap (λ ys. record { sends = ys; marks = e.marks ++ [] }) (append_assoc e.sends (portion xs at) (go_on ∷ []))
+    ∙ ap (λ b. joined e (sends_only (portion xs at ++ rest_if by work at b))) (sym next)
 
-pub ruleset parts = (all_offered-append, flat_offer_more, map_offer_more)
+pub ruleset portions = (all_offered-append, flat_offer_more, map_offer_more)
