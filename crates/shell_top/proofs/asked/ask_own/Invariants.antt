@@ -1,4 +1,4 @@
-use Rattle.shell_top.proofs.serve.ask_own.Given as goal
+use Rattle.shell_top.proofs.asked.ask_own.Given as goal
 
 abbrev pub ghost-ask : goal.ghost-ask
 ghost-ask g a = g.start

@@ -1,6 +1,6 @@
 use Rattle.world_core.specs.WorldOf.{whole_of}
-use Rattle.shell_top.proofs.ServeLemmas.{left_about, left_answers, left_own, on_err, own_sound, serves_ok, gone_sound}
-use Rattle.shell_top.proofs.serve.serve.Goals as goal
+use Rattle.shell_top.proofs.ServedLemmas.{left_about, left_answers, left_own, on_err, own_sound, serves_ok, gone_sound}
+use Rattle.shell_top.proofs.served.serve.Goals as goal
 
 pub returns-in_err-ask_own-clause-err : goal.returns-in_err-ask_own-clause-err
 returns-in_err-ask_own-clause-err g c =

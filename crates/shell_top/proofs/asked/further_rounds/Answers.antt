@@ -2,8 +2,8 @@ use Rattle.std.proofs.Common.{[], ◌∷◌, ◌-◌, ◌+◌, arith}
 use Rattle.std.proofs.lemmas.Bool.Decides.{nat_tests}
 use Rattle.sig_core.specs.declared.request.ApiReq.TheVariants.{Tick}
 use Rattle.world_core.specs.WorldOf.{whole_of}
-use Rattle.shell_top.proofs.ServeLemmas.{on_err, round_left, round_served, served_sound}
-use Rattle.shell_top.proofs.serve.further_rounds.Goals as goal
+use Rattle.shell_top.proofs.ServedLemmas.{on_err, round_left, round_served, served_sound}
+use Rattle.shell_top.proofs.asked.further_rounds.Goals as goal
 
 pub returns-in_err-ask-clause-err : goal.returns-in_err-ask-clause-err
 returns-in_err-ask-clause-err g c =

@@ -1,7 +1,7 @@
 use Rattle.std.proofs.Common.{[], ◌∷◌}
 use Rattle.world_core.specs.WorldOf.{whole_of}
-use Rattle.shell_top.proofs.ServeLemmas.{asked_ok, asked_err, asked_world, left_unasked, on_err}
-use Rattle.shell_top.proofs.serve.ask.Goals as goal
+use Rattle.shell_top.proofs.ServedLemmas.{asked_ok, asked_err, asked_world, left_unasked, on_err}
+use Rattle.shell_top.proofs.asked.ask.Goals as goal
 
 pub returns-in_err-ask-clause-err : goal.returns-in_err-ask-clause-err
 returns-in_err-ask-clause-err g c =

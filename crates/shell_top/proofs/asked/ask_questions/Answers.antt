@@ -1,8 +1,8 @@
 use Rattle.std.proofs.Common.{[], ◌∷◌}
 use Rattle.sig_core.specs.declared.request.ApiReq.TheVariants.{Waits, Pending}
 use Rattle.world_core.specs.WorldOf.{whole_of}
-use Rattle.shell_top.proofs.ServeLemmas.{both_ok, first_err, on_err, second_err, served_sound}
-use Rattle.shell_top.proofs.serve.ask_questions.Goals as goal
+use Rattle.shell_top.proofs.ServedLemmas.{both_ok, first_err, on_err, second_err, served_sound}
+use Rattle.shell_top.proofs.asked.ask_questions.Goals as goal
 
 pub returns-in_err-ask-clause-err : goal.returns-in_err-ask-clause-err
 returns-in_err-ask-clause-err g c =

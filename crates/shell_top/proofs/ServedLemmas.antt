@@ -23,7 +23,7 @@ use Rattle.shell_top.specs.Printed.{AppendsPart}
 use Rattle.shell_top.specs.Served.{AreLeft, AreLeftOff, AsksFirst, HasGoneOn, HasServed, IsServed, PrintsCommand, ServesCommand}
 use Rattle.shell_top.specs.Text.{reply_lines}
 use Rattle.shell_top.specs.Told.{replies_in, text_of}
-use Rattle.shell_top.proofs.ToldLemmas.{HasFirst, asked_in, asks_for, has_first, none_begins, none_both, none_take, one_more, requests_newer}
+use Rattle.shell_top.proofs.ToldLemmas.{HasFirst, asked_in, asks_for, has_first, none_heads, none_both, none_take, one_more, requests_newer}
 use Rattle.world_core.specs.Driven.{HasAsked, HaveGrown, IsDriven, IsSound, IsWorld}
 use Rattle.world_core.specs.Labels.{AreLabelled}
 use Rattle.world_core.specs.Machine.{after}
@@ -205,11 +205,11 @@ module _ (start : Start) where
 
   -- the text of a log behind which some requests of a command were asked for
   text_behind : (first : ApiReq) (rest : List ApiReq) (before log : List HostStep) → IsAskedNext before log → requests log ≡ requests before ++ first ∷ rest
-      → (c : Command) (has : HasFirst c) → first ≡ has.first → none_begins rest ≡ true
+      → (c : Command) (has : HasFirst c) → first ≡ has.first → none_heads rest ≡ true
       → text_of start log ≡ text_of start before ++ reply_lines (arranged (name_in c) (drop (length (replies_in start before)) (replies_in start log)))
   text_behind first rest before log next are c has same none =
       let for = asks_for first rest before log next are in
-      one_more start has.first for.asking for.newer before log for.is (for.asks ∙ ap Some same) has.begins_it (subst (λ rs. none_begins rs ≡ true) (sym for.others) none)
+      one_more start has.first for.asking for.newer before log for.is (for.asks ∙ ap Some same) has.begins_it (subst (λ rs. none_heads rs ≡ true) (sym for.others) none)
       ∙ ap (λ name. text_of start before ++ reply_lines (arranged name (drop (length (replies_in start before)) (replies_in start log)))) has.name
 
   -- memory was wanting in a command: its text goes on
@@ -244,7 +244,7 @@ module _ (start : Start) where
   -- all that was asked for behind a world: the command's first request, and others that begin none
   record Behind (c : Command) (has : HasFirst c) (w v : Whole) : Type 0 where
     rest : List ApiReq
-    none : none_begins rest ≡ true
+    none : none_heads rest ≡ true
     served : HasServed start (has.first ∷ rest) w v
 
   -- all that was asked for

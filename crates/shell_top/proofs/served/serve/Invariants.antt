@@ -1,4 +1,4 @@
-use Rattle.shell_top.proofs.serve.serve.Given as goal
+use Rattle.shell_top.proofs.served.serve.Given as goal
 
 abbrev pub ghost-ask_own : goal.ghost-ask_own
 ghost-ask_own g a = g.start

@@ -1,8 +1,8 @@
 use Rattle.std.proofs.Common.{refl}
 use Rattle.world_core.specs.WorldOf.{whole_of}
 use Rattle.shell_top.specs.Asked.{requests_of}
-use Rattle.shell_top.proofs.ServeLemmas.{left_unasked, on_err}
-use Rattle.shell_top.proofs.serve.ask_own.Goals as goal
+use Rattle.shell_top.proofs.ServedLemmas.{left_unasked, on_err}
+use Rattle.shell_top.proofs.asked.ask_own.Goals as goal
 
 pub returns-in_err-new-in-Operate-clause-err : goal.returns-in_err-new-in-Operate-clause-err
 returns-in_err-new-in-Operate-clause-err g c =
