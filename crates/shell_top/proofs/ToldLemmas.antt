@@ -62,7 +62,7 @@ none_both (x ∷ xs) ys p q = go (is_some (heads_by x)) p (λ r. none_both xs ys
     go false p later = later p
 
 -- a step that begins no command goes on with the last one
-same_telling : (t : Telling) (replies : List ApiReply) (asked : Option ApiReq) → none_heads (option_to_list asked) ≡ true → telling_by t replies (begins asked) ≡ t
+same_telling : (t : Telling) (replies : List ApiReply) (asked : Option ApiReq) → none_heads (option_to_list asked) ≡ true → telling_by t replies (heads asked) ≡ t
 same_telling t replies None e = refl
 same_telling t replies (Some asked) e = go (heads_by asked) e
   where
