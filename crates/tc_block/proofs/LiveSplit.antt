@@ -67,6 +67,39 @@ split_at tx (e ∷ es) at t is there = by (same_tx tx e.0) refl (sym (position-c
         let last = behind (position (same_tx tx) (keys_of es)) at is in
         further last.place last.next (more last.place last.found (ap (slice_get (values_of (e ∷ es))) last.next ∙ there))
 
+-- where there is a place there is a transaction
+pub no_value : (tx : TxId) (live : Live) (at : ℕ) → position (same_tx tx) (keys_of live) ≡ Some at
+    → slice_get (values_of live) at ≡ None → ⊥
+no_value tx [] at is none = cc
+no_value tx (e ∷ es) at is none = by (same_tx tx e.0) (sym (position-cons (same_tx tx) e.0 (keys_of es)) ∙ is) (no_value tx es)
+  where
+    by : (b : Bool) → place_by b (position (same_tx tx) (keys_of es)) ≡ Some at
+        → ((m : ℕ) → position (same_tx tx) (keys_of es) ≡ Some m → slice_get (values_of es) m ≡ None → ⊥) → ⊥
+    by true is more =
+        let zero_is : 0 ≡ at = cc in
+        let gone : Some e.1 ≡ None = ap (slice_get (values_of (e ∷ es))) zero_is ∙ none in cc
+    by false is more =
+        let last = behind (position (same_tx tx) (keys_of es)) at is in
+        more last.place last.found (ap (slice_get (values_of (e ∷ es))) last.next ∙ none)
+
+-- these transactions are all others
+abbrev pub AreOthers : TxId → Live → Type 0
+AreOthers tx live = Each (λ (x : TxId × Transaction). same_tx x.0 tx ≡ false) live
+
+-- so they are where the transaction has no place
+pub no_place : (tx : TxId) (live : Live) → position (same_tx tx) (keys_of live) ≡ None → AreOthers tx live
+no_place tx [] is = tt
+no_place tx (e ∷ es) is = by (same_tx tx e.0) refl (sym (position-cons (same_tx tx) e.0 (keys_of es)) ∙ is) (no_place tx es)
+  where
+    by : (b : Bool) → same_tx tx e.0 ≡ b → place_by b (position (same_tx tx) (keys_of es)) ≡ None
+        → (position (same_tx tx) (keys_of es) ≡ None → AreOthers tx es) → AreOthers tx (e ∷ es)
+    by true own is more = absurd (let first : ◌≡◌ {A = Option ℕ} (Some 0) None = is in cc)
+    by false own is more = (same_tx-swap e.0 tx ∙ own, more (none (position (same_tx tx) (keys_of es)) is))
+      where
+        none : (o : Option ℕ) → place_by false o ≡ None → o ≡ None
+        none None q = refl
+        none (Some m) q = absurd cc
+
 -- no transaction stands twice
 abbrev pub KeysOnce : Live → Type 0
 KeysOnce [] = Unit {0}

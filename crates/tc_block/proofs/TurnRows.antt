@@ -1,0 +1,157 @@
+-- What a transaction does at a signal about it, as one function; and what a step of the coordinator is, as cases.
+use Rattle.std.proofs.Common.{◌≡◌, ℕ, Bool, true, false, refl, ap, ◌∙◌}
+use Rattle.std.specs.Map.{values_of}
+use Rattle.std.specs.Prelude.{Option, None, Some, is_some, slice_get}
+use Rattle.sig_core.specs.declared.member.TxId.{TxId}
+use Rattle.sig_core.specs.declared.signal.Body.{Body}
+use Rattle.sig_core.specs.declared.signal.Body.TheVariants.{Host, Client, Chain, Epoch}
+use Rattle.sig_core.specs.declared.signal.chain.ChainSignal.TheVariants.{LqhKeyConf, LqhKeyRef, Committed, Completed, Aborted}
+use Rattle.sig_core.specs.declared.signal.client.ClientSignal.TheVariants.{TcBeginReq, TcKeyReq, TcCommitReq, TcRollbackReq, TcWaitReq, LqhWaitConf}
+use Rattle.sig_core.specs.declared.signal.epoch.EpochSignal.TheVariants.{DiVerifyConf}
+use Rattle.sig_core.specs.declared.signal.host.HostSignal.TheVariants.{Continue}
+use Rattle.sig_core.specs.declared.signal.host.Work.TheVariants as work
+use Rattle.sig_core.specs.Step.{Step, stay}
+use Rattle.tc_block.specs.Abort.{aborted_row, refuse_row, rollback_row}
+use Rattle.tc_block.specs.Commit as commit
+use Rattle.tc_block.specs.Complete.{completed_row}
+use Rattle.tc_block.specs.declared.transaction.Transaction.{Transaction}
+use Rattle.tc_block.specs.Live.{place_in, step_of, step_place, step_value, turn_of, turn_place, turn_value, turned}
+use Rattle.tc_block.specs.Operate.{answer_row, operate_row, wait_row}
+use Rattle.tc_block.specs.Sends.{go_on_row}
+use Rattle.tc_block.specs.State.{TcState}
+use Rattle.tc_block.specs.Tc.{begin_if, begin_row, is_full, pass_if, pass_row, tc_table}
+use Rattle.tc_block.specs.Turn.{Turn, going}
+use Rattle.tc_block.proofs.EachTurn.{RowsAre}
+use Rattle.tc_block.proofs.LiveSplit.{AreOthers, Split, no_place, no_value, split_at}
+
+-- the transaction that a signal to the coordinator is about
+abbrev pub tx_in : Body → TxId
+tx_in (Host (Continue (work.Transaction tx) at)) = tx
+tx_in (Client (TcKeyReq tx op)) = tx
+tx_in (Client (TcCommitReq tx)) = tx
+tx_in (Client (TcRollbackReq tx)) = tx
+tx_in (Client (TcWaitReq tx)) = tx
+tx_in (Client (LqhWaitConf tx ahead)) = tx
+tx_in (Chain (LqhKeyConf tx key answer)) = tx
+tx_in (Chain (LqhKeyRef tx key why)) = tx
+tx_in (Chain (Committed tx key)) = tx
+tx_in (Chain (Completed tx key)) = tx
+tx_in (Chain (Aborted tx key)) = tx
+tx_in (Epoch (DiVerifyConf tx epoch)) = tx
+tx_in _ = record { tc = 0; start = 0; seq = 0 }
+
+-- at the signal a transaction takes a turn
+abbrev pub is_turn : Body → Bool
+is_turn (Host (Continue (work.Transaction tx) at)) = true
+is_turn (Client (TcKeyReq tx op)) = true
+is_turn (Client (TcCommitReq tx)) = true
+is_turn (Client (TcRollbackReq tx)) = true
+is_turn (Client (TcWaitReq tx)) = true
+is_turn (Chain (LqhKeyConf tx key answer)) = true
+is_turn (Chain (LqhKeyRef tx key why)) = true
+is_turn (Chain (Committed tx key)) = true
+is_turn (Chain (Completed tx key)) = true
+is_turn (Chain (Aborted tx key)) = true
+is_turn (Epoch (DiVerifyConf tx epoch)) = true
+is_turn _ = false
+
+-- what the transaction's row makes of it then
+abbrev pub turn_row : TcState → Body → Transaction → Turn
+turn_row s (Host (Continue (work.Transaction tx) at)) t = going (go_on_row s.node s.layout tx t at)
+turn_row s (Client (TcKeyReq tx op)) t = going (operate_row s.layout tx t op)
+turn_row s (Client (TcCommitReq tx)) t = going (commit.verify_row s.node tx t)
+turn_row s (Client (TcRollbackReq tx)) t = rollback_row s.node s.layout tx t
+turn_row s (Client (TcWaitReq tx)) t = going (wait_row tx t)
+turn_row s (Chain (LqhKeyConf tx key answer)) t = going (answer_row s.layout tx t key answer)
+turn_row s (Chain (LqhKeyRef tx key why)) t = refuse_row s.node s.layout tx t key why
+turn_row s (Chain (Committed tx key)) t = commit.committed_row s.node s.layout tx t
+turn_row s (Chain (Completed tx key)) t = completed_row s.node tx t
+turn_row s (Chain (Aborted tx key)) t = aborted_row s.node tx t
+turn_row s (Epoch (DiVerifyConf tx epoch)) t = commit.commit_row s.node s.layout tx t epoch
+turn_row s _ t = going (stay t)
+
+-- what holds of what the transaction does by each row holds of its turn
+pub turn_by : (s : TcState) (t : Transaction) (R : Turn → Type 0) (body : Body)
+    → RowsAre s.node s.layout (tx_in body) t body R
+    → (is_turn body ≡ false → R (going (stay t))) → R (turn_row s body t)
+turn_by s t R (Host (Continue (work.Transaction tx) at)) rows other = rows.goes_on at refl
+turn_by s t R (Client (TcKeyReq tx op)) rows other = rows.operates op refl
+turn_by s t R (Client (TcCommitReq tx)) rows other = rows.decides refl
+turn_by s t R (Client (TcRollbackReq tx)) rows other = rows.rolls_back refl
+turn_by s t R (Client (TcWaitReq tx)) rows other = rows.waits refl
+turn_by s t R (Chain (LqhKeyConf tx key answer)) rows other = rows.answers key answer refl
+turn_by s t R (Chain (LqhKeyRef tx key why)) rows other = rows.refuses key why refl
+turn_by s t R (Chain (Committed tx key)) rows other = rows.committed key refl
+turn_by s t R (Chain (Completed tx key)) rows other = rows.completed key refl
+turn_by s t R (Chain (Aborted tx key)) rows other = rows.aborted key refl
+turn_by s t R (Epoch (DiVerifyConf tx epoch)) rows other = rows.commits epoch refl
+turn_by s t R _ rows other = other refl
+
+-- What a step of a coordinator is: nothing, a transaction that has no place, or one that begins; the answer to who waits is
+-- passed on; or a transaction takes its turn, if it is there.
+pub data TcStep (s : TcState) (body : Body) (step : Step TcState) : Type 0 where
+  rests : is_turn body ≡ false → step ≡ stay s → TcStep s body step
+  refuses : (name : Option ℕ) → body ≡ Client (TcBeginReq name) → step ≡ begin_if s name true → TcStep s body step
+  begins : (name : Option ℕ) → body ≡ Client (TcBeginReq name) → is_full s ≡ false → step ≡ begin_if s name false
+      → TcStep s body step
+  passes : (tx ahead : TxId) → body ≡ Client (LqhWaitConf tx ahead) → step ≡ pass_if s tx ahead true
+      → TcStep s body step
+  misses : is_turn body ≡ true → AreOthers (tx_in body) s.live → step ≡ stay s → TcStep s body step
+  takes : is_turn body ≡ true → (t : Transaction) (at : ℕ) → Split (tx_in body) t s.live at
+      → step ≡ turned s at (turn_row s body t)
+      → TcStep s body step
+
+module _ (s : TcState) where
+  -- a step of a transaction is a turn after which it isn't over
+  step_is : (tx : TxId) (row : Transaction → Step Transaction) → step_of s tx row ≡ turn_of s tx (λ t. going (row t))
+  step_is tx row = at_place (place_in s tx)
+    where
+      at_value : (at : ℕ) (t : Option Transaction) → step_value s row at t ≡ turn_value s (λ t. going (row t)) at t
+      at_value at None = refl
+      at_value at (Some t) = refl
+
+      at_place : (o : Option ℕ) → step_place s row o ≡ turn_place s (λ t. going (row t)) o
+      at_place None = refl
+      at_place (Some at) = at_value at (slice_get (values_of s.live) at)
+
+  turn_step : (body : Body) (step : Step TcState) → is_turn body ≡ true
+      → step ≡ turn_of s (tx_in body) (turn_row s body)
+      → TcStep s body step
+  turn_step body step turns is = at_place (place_in s (tx_in body)) refl is
+    where
+      at_value : (at : ℕ) → place_in s (tx_in body) ≡ Some at → (t : Option Transaction)
+          → slice_get (values_of s.live) at ≡ t
+          → step ≡ turn_value s (turn_row s body) at t → TcStep s body step
+      at_value at here None there same = absurd (no_value (tx_in body) s.live at here there)
+      at_value at here (Some t) there same = takes turns t at (split_at (tx_in body) s.live at t here there) same
+
+      at_place : (at : Option ℕ) → place_in s (tx_in body) ≡ at → step ≡ turn_place s (turn_row s body) at
+          → TcStep s body step
+      at_place None here same = misses turns (no_place (tx_in body) s.live here) same
+      at_place (Some at) here same = at_value at here (slice_get (values_of s.live) at) refl same
+
+  -- each step is one of these
+  pub tc_step : (body : Body) → TcStep s body (tc_table s body)
+  unfolding begin_row pass_row
+  tc_step (Client (TcBeginReq name)) = by (is_full s) refl
+    where
+      by : (b : Bool) → is_full s ≡ b → TcStep s (Client (TcBeginReq name)) (begin_if s name b)
+      by true full = refuses name refl refl
+      by false room = begins name refl room refl
+  tc_step (Client (LqhWaitConf tx ahead)) = by (is_some (place_in s tx))
+    where
+      by : (b : Bool) → TcStep s (Client (LqhWaitConf tx ahead)) (pass_if s tx ahead b)
+      by true = passes tx ahead refl refl
+      by false = rests refl refl
+  tc_step (Host (Continue (work.Transaction tx) at)) = turn_step (Host (Continue (work.Transaction tx) at)) _ refl (step_is tx _)
+  tc_step (Client (TcKeyReq tx op)) = turn_step (Client (TcKeyReq tx op)) _ refl (step_is tx _)
+  tc_step (Client (TcCommitReq tx)) = turn_step (Client (TcCommitReq tx)) _ refl (step_is tx _)
+  tc_step (Client (TcRollbackReq tx)) = turn_step (Client (TcRollbackReq tx)) _ refl refl
+  tc_step (Client (TcWaitReq tx)) = turn_step (Client (TcWaitReq tx)) _ refl (step_is tx _)
+  tc_step (Chain (LqhKeyConf tx key answer)) = turn_step (Chain (LqhKeyConf tx key answer)) _ refl (step_is tx _)
+  tc_step (Chain (LqhKeyRef tx key why)) = turn_step (Chain (LqhKeyRef tx key why)) _ refl refl
+  tc_step (Chain (Committed tx key)) = turn_step (Chain (Committed tx key)) _ refl refl
+  tc_step (Chain (Completed tx key)) = turn_step (Chain (Completed tx key)) _ refl refl
+  tc_step (Chain (Aborted tx key)) = turn_step (Chain (Aborted tx key)) _ refl refl
+  tc_step (Epoch (DiVerifyConf tx epoch)) = turn_step (Epoch (DiVerifyConf tx epoch)) _ refl refl
+  tc_step _ = rests refl refl
