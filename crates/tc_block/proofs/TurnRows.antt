@@ -1,7 +1,7 @@
 -- What a transaction does at a signal about it, as one function; and what a step of the coordinator is, as cases.
-use Rattle.std.proofs.Common.{◌≡◌, ℕ, Bool, true, false, refl, ap, ◌∙◌}
+use Rattle.std.proofs.Common.{◌≡◌, ℕ, Bool, true, false, ◌∷◌, ◌++◌, refl, ap, ◌∙◌}
 use Rattle.std.specs.Map.{values_of}
-use Rattle.std.specs.Prelude.{Option, None, Some, is_some, slice_get}
+use Rattle.std.specs.Prelude.{Option, None, Some, is_some, slice_get, if◌then◌else◌}
 use Rattle.sig_core.specs.declared.member.TxId.{TxId}
 use Rattle.sig_core.specs.declared.signal.Body.{Body}
 use Rattle.sig_core.specs.declared.signal.Body.TheVariants.{Host, Client, Chain, Epoch}
@@ -15,14 +15,14 @@ use Rattle.tc_block.specs.Abort.{aborted_row, refuse_row, rollback_row}
 use Rattle.tc_block.specs.Commit as commit
 use Rattle.tc_block.specs.Complete.{completed_row}
 use Rattle.tc_block.specs.declared.transaction.Transaction.{Transaction}
-use Rattle.tc_block.specs.Live.{place_in, step_of, step_place, step_value, turn_of, turn_place, turn_value, turned}
+use Rattle.tc_block.specs.Live.{place_in, step_of, step_place, step_value, turn_of, turn_place, turn_value, turned, turned_if, without}
 use Rattle.tc_block.specs.Operate.{answer_row, operate_row, wait_row}
 use Rattle.tc_block.specs.Sends.{go_on_row}
-use Rattle.tc_block.specs.State.{TcState}
+use Rattle.tc_block.specs.State.{TcState, with_live}
 use Rattle.tc_block.specs.Tc.{begin_if, begin_row, is_full, pass_if, pass_row, tc_table}
 use Rattle.tc_block.specs.Turn.{Turn, going}
 use Rattle.tc_block.proofs.EachTurn.{RowsAre}
-use Rattle.tc_block.proofs.LiveSplit.{AreOthers, Split, no_place, no_value, split_at}
+use Rattle.tc_block.proofs.LiveSplit.{AreOthers, Live, Split, no_place, no_value, split_at}
 
 -- the transaction that a signal to the coordinator is about
 abbrev pub tx_in : Body → TxId
@@ -87,8 +87,12 @@ turn_by s t R (Chain (Aborted tx key)) rows other = rows.aborted key refl
 turn_by s t R (Epoch (DiVerifyConf tx epoch)) rows other = rows.commits epoch refl
 turn_by s t R _ rows other = other refl
 
--- What a step of a coordinator is: nothing, a transaction that has no place, or one that begins; the answer to who waits is
--- passed on; or a transaction takes its turn, if it is there.
+-- a transaction takes a turn, and is forgotten if it is over
+abbrev pub left_in : TxId → Live → Live → Turn → Live
+left_in tx front back turn = if turn.over then front ++ back else front ++ (tx, turn.step.state) ∷ back
+
+-- What a step of a coordinator is: nothing comes of it; a transaction has no room, or begins; the answer to who waits is
+-- passed on; the transaction isn't there; or it takes its turn.
 pub data TcStep (s : TcState) (body : Body) (step : Step TcState) : Type 0 where
   rests : is_turn body ≡ false → step ≡ stay s → TcStep s body step
   refuses : (name : Option ℕ) → body ≡ Client (TcBeginReq name) → step ≡ begin_if s name true → TcStep s body step
@@ -97,8 +101,8 @@ pub data TcStep (s : TcState) (body : Body) (step : Step TcState) : Type 0 where
   passes : (tx ahead : TxId) → body ≡ Client (LqhWaitConf tx ahead) → step ≡ pass_if s tx ahead true
       → TcStep s body step
   misses : is_turn body ≡ true → AreOthers (tx_in body) s.live → step ≡ stay s → TcStep s body step
-  takes : is_turn body ≡ true → (t : Transaction) (at : ℕ) → Split (tx_in body) t s.live at
-      → step ≡ turned s at (turn_row s body t)
+  takes : is_turn body ≡ true → (t : Transaction) (front back : Live) → s.live ≡ front ++ (tx_in body, t) ∷ back
+      → step ≡ record { state = with_live s (left_in (tx_in body) front back (turn_row s body t)); effects = (turn_row s body t).step.effects }
       → TcStep s body step
 
 module _ (s : TcState) where
@@ -114,6 +118,17 @@ module _ (s : TcState) where
       at_place None = refl
       at_place (Some at) = at_value at (slice_get (values_of s.live) at)
 
+  -- what a turn leaves at its place
+  left_is : (tx : TxId) (t : Transaction) (at : ℕ) (split : Split tx t s.live at) (turn : Turn)
+      → turned s at turn ≡ record { state = with_live s (left_in tx split.front split.back turn); effects = turn.step.effects }
+  unfolding without
+  left_is tx t at split turn = by turn.over
+    where
+      by : (b : Bool) → turned_if s at turn b
+          ≡ record { state = with_live s (if b then split.front ++ split.back else split.front ++ (tx, turn.step.state) ∷ split.back); effects = turn.step.effects }
+      by true = ap (λ live. record { state = with_live s live; effects = turn.step.effects }) split.gone
+      by false = ap (λ live. record { state = with_live s live; effects = turn.step.effects }) (split.set turn.step.state)
+
   turn_step : (body : Body) (step : Step TcState) → is_turn body ≡ true
       → step ≡ turn_of s (tx_in body) (turn_row s body)
       → TcStep s body step
@@ -123,7 +138,9 @@ module _ (s : TcState) where
           → slice_get (values_of s.live) at ≡ t
           → step ≡ turn_value s (turn_row s body) at t → TcStep s body step
       at_value at here None there same = absurd (no_value (tx_in body) s.live at here there)
-      at_value at here (Some t) there same = takes turns t at (split_at (tx_in body) s.live at t here there) same
+      at_value at here (Some t) there same =
+          let split = split_at (tx_in body) s.live at t here there in
+          takes turns t split.front split.back split.is (same ∙ left_is (tx_in body) t at split (turn_row s body t))
 
       at_place : (at : Option ℕ) → place_in s (tx_in body) ≡ at → step ≡ turn_place s (turn_row s body) at
           → TcStep s body step
