@@ -47,7 +47,8 @@ use Rattle.host_laws.proofs.Tally.{Counted, counted, none_if, only_one, tally_in
 use Rattle.host_laws.specs.Counts.{one_if, tally}
 use Rattle.host_laws.proofs.TcKeys.{answer_of, answers_in, is_answer, is_asked, is_key, key_of_tx, tc_fair}
 use Rattle.host_laws.proofs.TcMoves.{end_of, is_end}
-use Rattle.host_laws.proofs.TcSends.{tc_kinds, tx_in}
+use Rattle.tc_block.proofs.TurnRows.{tx_in}
+use Rattle.host_laws.proofs.TcSends.{tc_kinds}
 use Rattle.answer_laws.proofs.Totals.{spread_few}
 use Rattle.host_laws.proofs.Sums.{total_add, total_at, total_le, total_same}
 use Rattle.host_laws.specs.Counts.{total}

@@ -46,16 +46,16 @@ use Rattle.host_laws.proofs.BlocksAlong.{IsHome, first_live, reaches, tc_layout}
 use Rattle.host_laws.proofs.HostTurns.{rows_turn, tc_turn}
 use Rattle.host_laws.proofs.LinkCounts.{signals}
 use Rattle.host_laws.proofs.LqhOps.{is_good, is_lqh, is_node, left_of, right_of, true_and}
-use Rattle.answer_laws.proofs.NodeOwes.{OwesOf, StepOwes, at_if, came_in, cont_in, tc_owes}
+use Rattle.answer_laws.proofs.NodeOwes.{OwesOf, StepOwes, tc_owes}
 use Rattle.host_laws.proofs.PartCounts.{IsPart, cont_block, is_cont}
 use Rattle.host_laws.proofs.TcCommits.{chain_at, is_chain, is_commit}
 use Rattle.host_laws.proofs.TcMoves.{same_tx-is}
-use Rattle.host_laws.proofs.TcOwes.{IsKnown, Owes, begins, goes_on, waits}
+use Rattle.host_laws.proofs.TcOwes.{at_if, begins, came_in, cont_in, goes_on, IsKnown, Owes, waits}
 use Rattle.host_laws.proofs.TcSends.{eqb-self}
 use Rattle.answer_laws.proofs.SentInParts.{HomeStep, IsOwed, begun_owed, continued_owed, home_step, none_owed, s_more, stays_owed, t_more, waits_owed}
 use Rattle.host_laws.proofs.Wishes.{is_tc, sends_of}
 use Rattle.answer_laws.specs.Answered.{AreQuiet, IsLiveAs, NoCommitIsAwaited}
-use Rattle.host_laws.specs.Phases.{is_committing}
+use Rattle.tc_block.specs.Phases.{is_committing}
 
 -- what came along the chain
 abbrev came_along : ℕ → TxId → Body → ℕ

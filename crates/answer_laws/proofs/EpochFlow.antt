@@ -27,10 +27,11 @@ use Rattle.answer_laws.proofs.EpochLives.{TurnCounts, asking, ending, gone, unch
 use Rattle.host_laws.proofs.SendKinds.{are_of, is_dih_kind, is_lqh_kind, is_tc_kind, none_of, of_kind}
 use Rattle.host_laws.proofs.Tally.{and_few, none_if, tally_append}
 use Rattle.host_laws.specs.Counts.{one_if}
-use Rattle.host_laws.proofs.TcSends.{tc_kinds, tx_in}
+use Rattle.host_laws.proofs.TcSends.{tc_kinds}
 use Rattle.host_laws.proofs.TcSteps.{TcStep, begins, is_rest_kind, misses, takes, tc_step}
 use Rattle.host_laws.proofs.TcSteps as steps
-use Rattle.host_laws.proofs.TcTurns.{turn_moves, turn_row}
+use Rattle.tc_block.proofs.TurnRows.{tx_in, turn_row}
+use Rattle.host_laws.proofs.TcTurns.{turn_moves}
 use Rattle.host_laws.proofs.Wishes.{and_false, is_tc, second_fails, sends_of}
 
 -- a transaction asks for an epoch, and is given one

@@ -38,7 +38,8 @@ use Rattle.host_laws.proofs.LqhSends.{lqh_kinds}
 use Rattle.host_laws.proofs.SendKinds.{are_of, is_dih_kind, is_lqh_kind, is_tc_kind, none_of}
 use Rattle.host_laws.proofs.TcKeys.{answer_of, answers_in, is_answer, is_key, key_of_tx}
 use Rattle.host_laws.proofs.TcLives.{is_start, start_of}
-use Rattle.host_laws.proofs.TcSends.{tc_kinds, tx_in}
+use Rattle.tc_block.proofs.TurnRows.{tx_in}
+use Rattle.host_laws.proofs.TcSends.{tc_kinds}
 use Rattle.host_laws.proofs.Wishes.{and_false, is_api, is_tc, sends_of, to_node}
 
 -- what isn't said of the transaction answers none of its operations

@@ -20,8 +20,8 @@ use Rattle.tc_block.specs.Turn.{Turn}
 use Rattle.tc_block.proofs.EachTurn.{TurnForms}
 use Rattle.host_laws.proofs.SendKinds.{are_of, one_kind}
 use Rattle.host_laws.proofs.PhaseSends.{HasChains, entering_of_kind, rest_of_kind}
-use Rattle.host_laws.proofs.TcSends.{tx_in}
-use Rattle.host_laws.proofs.TcTurns.{turn_at, turn_row}
+use Rattle.tc_block.proofs.TurnRows.{tx_in, turn_row}
+use Rattle.host_laws.proofs.TcTurns.{turn_at}
 
 -- the client asked for it
 abbrev pub is_requested : AbortCause → Bool

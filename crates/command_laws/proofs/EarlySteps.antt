@@ -19,7 +19,7 @@ use Rattle.tc_block.specs.Turn.{Turn}
 use Rattle.host_laws.specs.Counts.{one_if}
 use Rattle.host_laws.proofs.ApiMoves.{is_api_kind}
 use Rattle.host_laws.proofs.SendKinds.{are_of, is_dih_kind, is_tc_kind, none_of, of_kind}
-use Rattle.host_laws.proofs.TcSends.{tc_kinds, tx_in}
+use Rattle.host_laws.proofs.TcSends.{tc_kinds}
 use Rattle.host_laws.proofs.Wishes.{is_tc, sends_of}
 use Rattle.run_laws.specs.Live.{of_live}
 use Rattle.command_laws.proofs.EarlyTurns.{EarlyTurn, IsLeaving, is_no_end, is_past, is_wish, open_turn, past_turn}
@@ -28,7 +28,7 @@ use Rattle.command_laws.proofs.LqhFair.{is_fair}
 use Rattle.command_laws.proofs.TcPath.{IsSound, TcGoes, aside, begins, is_told, takes, told_of}
 use Rattle.command_laws.proofs.TellsOnce.{live_early}
 use Rattle.host_laws.proofs.TcSteps.{left_of_turn}
-use Rattle.host_laws.proofs.TcTurns.{turn_row}
+use Rattle.tc_block.proofs.TurnRows.{tx_in, turn_row}
 use Rattle.command_laws.specs.Served.{is_refusal}
 
 -- an abort of the transaction, or a refusal for another cause

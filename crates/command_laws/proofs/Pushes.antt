@@ -32,7 +32,8 @@ use Rattle.host_laws.proofs.DihSends.{dih_kinds}
 use Rattle.host_laws.proofs.LqhOps.{left_of}
 use Rattle.host_laws.proofs.LqhSends.{lqh_kinds}
 use Rattle.host_laws.proofs.SendKinds.{are_of, is_dih_kind, is_lqh_kind, is_tc_kind, none_of, of_kind}
-use Rattle.host_laws.proofs.TcSends.{tc_kinds, tx_in}
+use Rattle.tc_block.proofs.TurnRows.{tx_in}
+use Rattle.host_laws.proofs.TcSends.{tc_kinds}
 use Rattle.host_laws.proofs.Wishes.{is_tc, sends_of}
 use Rattle.host_laws.specs.OpenedAfter.{opened_in}
 use Rattle.command_laws.proofs.ApiChanges.{ApiChange, answers, api_changes, commits, ends, is_news_kind, refuses, rests, starts, waits}

@@ -17,10 +17,9 @@ use Rattle.tc_block.specs.Tc.{tc_table}
 use Rattle.host_laws.specs.Counts.{tally}
 use Rattle.host_laws.proofs.SendKinds.{none_of}
 use Rattle.host_laws.proofs.TcLives.{IsOwn, is_keyed}
-use Rattle.host_laws.proofs.TcSends.{tx_in}
 use Rattle.host_laws.proofs.TcSteps.{TxStep, born, elsewhere, is_apart, left_of_turn, next_grows, turned, tx_step}
 use Rattle.host_laws.proofs.TcSteps as steps
-use Rattle.host_laws.proofs.TcTurns.{is_turn, turn_row}
+use Rattle.tc_block.proofs.TurnRows.{tx_in, is_turn, turn_row}
 use Rattle.host_laws.proofs.Wishes.{sends_of}
 use Rattle.run_laws.specs.Live.{of_live}
 use Rattle.command_laws.proofs.HostSends.{IsOfTc, is_other_kind}

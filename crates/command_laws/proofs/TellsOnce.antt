@@ -24,7 +24,6 @@ use Rattle.host_laws.proofs.SendKinds.{none_of}
 use Rattle.host_laws.proofs.TcKeys.{answer_of, is_asked, key_of_tx, tc_fair, is_key}
 use Rattle.host_laws.proofs.TcLives.{IsOwn}
 use Rattle.host_laws.proofs.TcMoves.{same_tx-is}
-use Rattle.host_laws.proofs.TcSends.{tx_in}
 use Rattle.host_laws.proofs.Wishes.{is_api, is_tc, sends_of}
 use Rattle.run_laws.specs.Live.{of_live}
 use Rattle.command_laws.proofs.Firm.{firm_turn, is_firm, is_no_abort}
@@ -32,7 +31,7 @@ use Rattle.command_laws.proofs.FirmHosts.{is_back, no_back_firm, not_push, push_
 use Rattle.command_laws.proofs.BlockSteps.{tc_host}
 use Rattle.command_laws.proofs.TcPath.{IsSound, TcGoes, aside, begins, is_told, takes, tc_goes, told_of, told_tc}
 use Rattle.host_laws.proofs.TcSteps.{left_of_turn}
-use Rattle.host_laws.proofs.TcTurns.{turn_row}
+use Rattle.tc_block.proofs.TurnRows.{tx_in, turn_row}
 use Rattle.command_laws.proofs.TurnTells.{TurnTells, is_reply, turn_tells}
 
 -- where one test implies another, fewer signals pass it

@@ -32,8 +32,8 @@ use Rattle.host_laws.proofs.Tally.{tally_append, tally_between, tally_in}
 use Rattle.host_laws.specs.Counts.{one_if, tally}
 use Rattle.host_laws.proofs.TcLives.{IsOwn, apart, insert_new, is_keyed}
 use Rattle.host_laws.proofs.TcMoves.{found, IsEntry, same_tx-is, step_is}
-use Rattle.host_laws.proofs.TcSends.{tx_in}
-use Rattle.host_laws.proofs.TcTurns.{TurnMove, is_turn, turn_at, turn_moves, turn_row}
+use Rattle.tc_block.proofs.TurnRows.{tx_in, is_turn, turn_row}
+use Rattle.host_laws.proofs.TcTurns.{TurnMove, turn_at, turn_moves}
 use Rattle.host_laws.proofs.TurnKinds.{OwnKinds, TurnOnly, own_forms}
 
 -- the transaction among those that a coordinator hasn't forgotten

@@ -19,7 +19,8 @@ use Rattle.host_laws.proofs.DihSends.{dih_kinds}
 use Rattle.host_laws.proofs.LqhSends.{lqh_kinds}
 use Rattle.host_laws.proofs.SendKinds.{is_dih_kind, is_lqh_kind, is_tc_kind, none_of}
 use Rattle.host_laws.specs.Counts.{one_if, tally}
-use Rattle.host_laws.proofs.TcSends.{tc_kinds, tx_in}
+use Rattle.tc_block.proofs.TurnRows.{tx_in}
+use Rattle.host_laws.proofs.TcSends.{tc_kinds}
 
 abbrev pub is_tc : BlockId → Bool
 is_tc block.Tc = true

@@ -25,8 +25,7 @@ use Rattle.tc_block.specs.Sends.{entering, phase_sends, wait_of}
 use Rattle.tc_block.specs.Turn.{Turn, asking, at_phase}
 use Rattle.run_theory.proofs.EachSent.{each_mapped}
 use Rattle.tc_block.specs.Phases.{is_completing, is_decided}
-use Rattle.tc_block.proofs.EachTurn.{AbortForms, CommittedForms, TurnFormsAt, is_onward, rows_at}
-use Rattle.run_laws.proofs.TcCircle.{ready_is}
+use Rattle.tc_block.proofs.EachTurn.{AbortForms, CommittedForms, is_onward, ready_is, rows_at, TurnFormsAt}
 use Rattle.run_laws.proofs.TcOwn.{AreSilent}
 use Rattle.run_laws.proofs.TxTurns.{is_for, turn_each, turn_for}
 use Rattle.run_laws.proofs.TxSignals.{is_next, is_part, is_sign}

@@ -26,13 +26,12 @@ use Rattle.tc_block.specs.Turn.{Turn, at_phase}
 use Rattle.host_laws.specs.Kinds.{kind_of}
 use Rattle.sig_core.proofs.Keys.{same_tx-self}
 use Rattle.tc_block.specs.State.{TcState}
-use Rattle.tc_block.proofs.EachTurn.{CommittedForms, TurnForms, rows_of}
+use Rattle.tc_block.proofs.EachTurn.{CommittedForms, ready_is, rows_of, TurnForms}
 use Rattle.tc_block.proofs.LiveKeeps.{SendsBeside}
 use Rattle.host_laws.specs.Counts.{one_if}
 use Rattle.host_laws.proofs.TcGoes.{AllSay, SaysOf, turn_goes}
 use Rattle.run_laws.specs.Keyed.{HasTouchedAsked}
 use Rattle.run_laws.proofs.TcAborts.{enters_told}
-use Rattle.run_laws.proofs.TcCircle.{ready_is}
 use Rattle.run_laws.proofs.TcTurns.{end_gives_up, gives_up}
 use Rattle.run_laws.proofs.TxTurns.{OthersSend, is_for, left_by, turn_each, turn_for}
 use Rattle.run_laws.proofs.Weighing.{in_sends}

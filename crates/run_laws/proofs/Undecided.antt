@@ -21,7 +21,7 @@ use Rattle.run_laws.proofs.Causal.{sent_kinds}
 use Rattle.host_laws.proofs.OneWay.{forth_decided, not_apart}
 use Rattle.host_laws.proofs.TcNumbers.{IsLive, verified_by}
 use Rattle.host_laws.proofs.TcWays.{not_both}
-use Rattle.host_laws.proofs.TcOps.{may_ask}
+use Rattle.tc_block.proofs.EachTurn.{may_ask}
 use Rattle.run_laws.specs.Live.{live_at, of_host, of_live}
 use Rattle.run_laws.specs.Tokens.{budget_by}
 use Rattle.run_laws.specs.Transit.{logs_of}
