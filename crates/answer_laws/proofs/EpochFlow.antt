@@ -28,9 +28,9 @@ use Rattle.host_laws.proofs.SendKinds.{are_of, is_dih_kind, is_lqh_kind, is_tc_k
 use Rattle.host_laws.proofs.Tally.{and_few, none_if, tally_append}
 use Rattle.host_laws.specs.Counts.{one_if}
 use Rattle.host_laws.proofs.TcSends.{tc_kinds}
-use Rattle.host_laws.proofs.TcSteps.{TcStep, begins, is_rest_kind, misses, takes, tc_step}
+use Rattle.host_laws.proofs.TcSteps.{is_rest_kind}
 use Rattle.host_laws.proofs.TcSteps as steps
-use Rattle.tc_block.proofs.TurnRows.{tx_in, turn_row}
+use Rattle.tc_block.proofs.TurnRows.{begins, misses, takes, tc_step, TcStep, turn_row, tx_in}
 use Rattle.host_laws.proofs.TcTurns.{turn_moves}
 use Rattle.host_laws.proofs.Wishes.{and_false, is_tc, second_fails, sends_of}
 

@@ -34,10 +34,10 @@ use Rattle.host_laws.proofs.SendKinds.{are_of, of_kind, of_map}
 use Rattle.host_laws.proofs.Tally.{tally_append, tally_between}
 use Rattle.host_laws.specs.Counts.{one_if, tally}
 use Rattle.host_laws.proofs.TcLives.{IsOwn, insert_new}
-use Rattle.host_laws.proofs.TcSteps.{TcStep, begins, is_rest_kind, misses, rests, takes, tc_step}
+use Rattle.host_laws.proofs.TcSteps.{is_rest_kind}
 use Rattle.host_laws.proofs.TcTurns.{GivesUp, IsCommitted, TurnMove, abort_ends, aborted, aborts, all_completed, answers, asked_to, asks, at_last, at_once, commits, committed, completed, completes, decides, ends, gives_up, goes_on, is_wait_kind, keeps, late, refused, turn_moves}
 use Rattle.tc_block.specs.Phases.{is_committing}
-use Rattle.tc_block.proofs.TurnRows.{tx_in, turn_row}
+use Rattle.tc_block.proofs.TurnRows.{begins, misses, rests, takes, tc_step, TcStep, turn_row, tx_in}
 
 -- an epoch was asked for, and its end isn't told
 abbrev pub is_counted : Phase → Bool

@@ -25,8 +25,8 @@ use Rattle.world_core.specs.Steps.{HostStep}
 use Rattle.host_laws.proofs.ApiBegins.{each_at, each_changed, each_less}
 use Rattle.host_laws.proofs.SendKinds.{none_of}
 use Rattle.host_laws.proofs.TcLives.{apart}
-use Rattle.host_laws.proofs.TcSteps.{TcStep, begins, is_rest_kind, is_said, misses, rests, takes, tc_step, turn_said}
-use Rattle.tc_block.proofs.TurnRows.{tx_in, left_in, turn_row}
+use Rattle.host_laws.proofs.TcSteps.{is_rest_kind, is_said, turn_said}
+use Rattle.tc_block.proofs.TurnRows.{begins, left_in, misses, rests, takes, tc_step, TcStep, turn_row, tx_in}
 use Rattle.host_laws.proofs.Wishes.{is_tc, sends_of}
 use Rattle.command_laws.proofs.Firm.{firm_turn, is_firm, is_no_abort, is_push}
 use Rattle.command_laws.proofs.HostSends.{IsOfTc, is_other_kind}

@@ -19,7 +19,7 @@ use Rattle.host_laws.proofs.LinkCounts.{signals, steps, taken_steps}
 use Rattle.run_laws.proofs.Begun.{keeps}
 use Rattle.host_laws.proofs.TcLives.{is_keyed, is_start}
 use Rattle.answer_laws.specs.Answered.{AreQuiet}
-use Rattle.run_laws.specs.Live.{of_live}
+use Rattle.host_laws.specs.Live.{of_live}
 use Rattle.command_laws.proofs.HostKinds.{no_rows}
 use Rattle.command_laws.proofs.TcPath.{IsSound, none_there}
 

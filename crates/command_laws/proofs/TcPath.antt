@@ -21,7 +21,7 @@ use Rattle.host_laws.proofs.TcSteps.{TxStep, born, elsewhere, is_apart, left_of_
 use Rattle.host_laws.proofs.TcSteps as steps
 use Rattle.tc_block.proofs.TurnRows.{tx_in, is_turn, turn_row}
 use Rattle.host_laws.proofs.Wishes.{sends_of}
-use Rattle.run_laws.specs.Live.{of_live}
+use Rattle.host_laws.specs.Live.{of_live}
 use Rattle.command_laws.proofs.HostSends.{IsOfTc, is_other_kind}
 
 -- what the coordinator tells the client of the transaction, once it has begun, and replicas of its abort

@@ -25,7 +25,7 @@ use Rattle.host_laws.proofs.TcKeys.{answer_of, is_asked, key_of_tx, tc_fair, is_
 use Rattle.host_laws.proofs.TcLives.{IsOwn}
 use Rattle.host_laws.proofs.TcMoves.{same_tx-is}
 use Rattle.host_laws.proofs.Wishes.{is_api, is_tc, sends_of}
-use Rattle.run_laws.specs.Live.{of_live}
+use Rattle.host_laws.specs.Live.{of_live}
 use Rattle.command_laws.proofs.Firm.{firm_turn, is_firm, is_no_abort}
 use Rattle.command_laws.proofs.FirmHosts.{is_back, no_back_firm, not_push, push_of}
 use Rattle.command_laws.proofs.BlockSteps.{tc_host}

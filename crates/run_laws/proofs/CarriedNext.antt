@@ -41,7 +41,8 @@ use Rattle.sig_core.proofs.Keys.{same_key-self}
 use Rattle.run_laws.specs.Circle.{at_host}
 use Rattle.run_laws.specs.Completions.{IsCommittedAtAll}
 use Rattle.run_laws.specs.GivenUp.{is_carried_out, is_given_up}
-use Rattle.run_laws.specs.Live.{live_at, of_host, of_live}
+use Rattle.host_laws.specs.Live.{of_live}
+use Rattle.run_laws.specs.Live.{live_at, of_host}
 use Rattle.run_laws.specs.Routes.{IsCommitRouted, IsForBlock, IsNodeFor, IsOnWay, IsRouted, replicas}
 use Rattle.run_laws.specs.Tokens.{tokens}
 use Rattle.run_laws.specs.Transit.{Comes, Takes, joined, logs_of}

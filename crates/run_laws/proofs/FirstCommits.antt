@@ -41,7 +41,8 @@ use Rattle.run_laws.specs.Circle.{IsSettled, at_host}
 use Rattle.run_laws.specs.Completions.{IsCommittedAtAll}
 use Rattle.run_laws.specs.GivenUp.{is_carried_out, is_given_up}
 use Rattle.run_laws.specs.Keyed.{IsTouchedRightly, IsWrittenRightly}
-use Rattle.run_laws.specs.Live.{live_at, of_host, of_live}
+use Rattle.host_laws.specs.Live.{of_live}
+use Rattle.run_laws.specs.Live.{live_at, of_host}
 use Rattle.run_laws.specs.Routes.{IsTouchedRouted, IsTransactionRouted, primary_host}
 use Rattle.run_laws.specs.Transit.{AreInTransit, Comes, Takes, joined, logs_of}
 use Rattle.run_laws.proofs.CarriedOut.{IsAlong, IsCarried, IsGoing, IsLiveAhead, IsSpread, TellsOf, along_stays}

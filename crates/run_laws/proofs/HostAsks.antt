@@ -32,7 +32,8 @@ use Rattle.host_laws.proofs.LqhSends.{lqh_kinds}
 use Rattle.host_laws.proofs.SendKinds.{each_of, is_lqh_kind}
 use Rattle.host_laws.proofs.ApiMoves.{is_api_kind}
 use Rattle.host_laws.specs.Counts.{one_if}
-use Rattle.run_laws.specs.Live.{of_host, of_live}
+use Rattle.host_laws.specs.Live.{of_live}
+use Rattle.run_laws.specs.Live.{of_host}
 use Rattle.run_laws.proofs.HomeSteps.{IsHome, IsUnborn}
 use Rattle.run_laws.proofs.TxSteps.{next_number, number_rises}
 use Rattle.run_laws.proofs.TcAsks.{AreMute, AskTurn, ask, beside_mute, is_ask, is_mute, mute_none, others_mute, turn_asks, unasked_none}

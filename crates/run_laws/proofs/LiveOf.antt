@@ -8,8 +8,9 @@ use Rattle.sig_core.proofs.TxLemmas.{same_tx-is}
 use Rattle.tc_block.specs.declared.transaction.Transaction.{Transaction}
 use Rattle.host_laws.specs.Counts.{tally}
 use Rattle.host_laws.proofs.TcLives.{is_keyed}
-use Rattle.run_laws.specs.Live.{of_live}
-use Rattle.run_laws.proofs.OfLive.{AreOthers, each_found, of_between}
+use Rattle.host_laws.proofs.OfLive.{each_found, of_between}
+use Rattle.tc_block.proofs.LiveSplit.{AreOthers}
+use Rattle.host_laws.specs.Live.{of_live}
 use Rattle.run_laws.proofs.Weighing.{none_passes}
 
 -- those of which none is counted are others

@@ -26,11 +26,12 @@ use Rattle.host_laws.proofs.TcLives.{IsOwn, is_keyed}
 use Rattle.sig_core.proofs.Keys.{same_tx-self}
 use Rattle.host_laws.proofs.TcOps.{is_right}
 use Rattle.run_laws.specs.Keyed.{HasTouchedAsked}
-use Rattle.run_laws.specs.Live.{of_live}
 use Rattle.run_laws.specs.Tokens.{budget_by, budget_of, is_token}
 use Rattle.run_laws.proofs.LqhTokens.{tokens_out}
-use Rattle.run_laws.proofs.LiveAfter.{live_none, unborn_none}
-use Rattle.run_laws.proofs.OfLive.{each_found}
+use Rattle.run_laws.proofs.LiveAfter.{unborn_none}
+use Rattle.host_laws.proofs.OfLive.{each_found}
+use Rattle.host_laws.proofs.TcSteps.{live_none}
+use Rattle.host_laws.specs.Live.{of_live}
 use Rattle.run_laws.proofs.TcStill.{beside_still, others_still, still_out}
 use Rattle.run_laws.proofs.TcTurns.{TurnTokens, budget_after, gives_up, tokens_forms}
 use Rattle.run_laws.proofs.TxTurns.{TcTurn, left_by, tc_turn, turn_each, turn_for}

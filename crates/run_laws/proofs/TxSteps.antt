@@ -29,7 +29,8 @@ use Rattle.host_laws.proofs.LqhOps.{is_lqh}
 use Rattle.host_laws.proofs.TcMoves.{TcMove, forgets, host_moves, starts, stays}
 use Rattle.host_laws.proofs.TcMoves as moves
 use Rattle.host_laws.proofs.Wishes.{is_tc}
-use Rattle.run_laws.specs.Live.{of_host, of_live}
+use Rattle.host_laws.specs.Live.{of_live}
+use Rattle.run_laws.specs.Live.{of_host}
 use Rattle.run_laws.proofs.HomeSteps.{IsHome}
 use Rattle.run_laws.proofs.HostParts.{api_silent, dih_silent}
 use Rattle.run_laws.proofs.TxSignals.{cover, is_next, is_sign}

@@ -38,10 +38,11 @@ use Rattle.host_laws.proofs.Tally.{tally_append, tally_between}
 use Rattle.host_laws.specs.Counts.{one_if, tally}
 use Rattle.host_laws.proofs.TcLives.{IsOwn, insert_new, is_keyed}
 use Rattle.host_laws.proofs.TcMoves.{IsEntry, found, same_tx-is, step_is}
-use Rattle.run_laws.specs.Live.{of_live}
-use Rattle.run_laws.proofs.LiveAfter.{live_end, live_none, unborn_none}
+use Rattle.run_laws.proofs.LiveAfter.{live_end, unborn_none}
 use Rattle.run_laws.proofs.LiveOf.{of_here}
-use Rattle.run_laws.proofs.OfLive.{of_other}
+use Rattle.host_laws.proofs.OfLive.{of_other}
+use Rattle.host_laws.proofs.TcSteps.{live_none}
+use Rattle.host_laws.specs.Live.{of_live}
 
 -- the turn that a signal for it gives to a transaction
 abbrev pub turn_for : ℕ → Layout → TxId → Body → Transaction → Turn

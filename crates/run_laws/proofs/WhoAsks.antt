@@ -35,12 +35,14 @@ use Rattle.host_laws.proofs.BlocksAlong.{first_live}
 use Rattle.host_laws.specs.Counts.{one_if}
 use Rattle.run_laws.specs.Circle.{IsOfWaiting, WaitsWith, WhoAsksWaits}
 use Rattle.run_laws.specs.GivenUp.{is_given_up}
-use Rattle.run_laws.specs.Live.{live_at, of_host, of_live}
+use Rattle.run_laws.specs.Live.{live_at, of_host}
 use Rattle.run_laws.specs.Transit.{AreInTransit, Comes, IsRun, Takes, joined, logs_of}
 use Rattle.run_laws.proofs.HostAsks as asks
 use Rattle.run_laws.proofs.HostAsks.{HostAsks, Leaves, OpsOf, host_asks, none_ops, zero_ops}
 use Rattle.run_laws.proofs.HomeSteps.{IsHome, IsUnborn, all_home, away, here_now, here_was, own_home}
-use Rattle.run_laws.proofs.LiveAfter.{live_none, strange_none, unborn_none}
+use Rattle.host_laws.proofs.TcSteps.{live_none}
+use Rattle.host_laws.specs.Live.{of_live}
+use Rattle.run_laws.proofs.LiveAfter.{strange_none, unborn_none}
 use Rattle.run_laws.proofs.TcAsks.{AreMute, AskTurn, IsAsking, ask, is_ask, is_conf, mute_none}
 use Rattle.run_laws.proofs.TcCircle.{Going, GoesOn, is_early, notes, operates, rests, verifies}
 use Rattle.run_laws.proofs.TcTokens.{now_given_up}

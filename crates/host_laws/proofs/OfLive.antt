@@ -7,12 +7,8 @@ use Rattle.sig_core.specs.Same.{same_tx}
 use Rattle.sig_core.proofs.TxLemmas.{same_tx-is}
 use Rattle.tc_block.specs.declared.transaction.Transaction.{Transaction}
 use Rattle.sig_core.proofs.Keys.{same_tx-self}
-use Rattle.tc_block.proofs.LiveSplit.{Live}
-use Rattle.run_laws.specs.Live.{of_live}
-
--- the transactions are others
-abbrev pub AreOthers : TxId → Live → Type 0
-AreOthers tx live = Each (λ (x : TxId × Transaction). same_tx x.0 tx ≡ false) live
+use Rattle.tc_block.proofs.LiveSplit.{AreOthers, Live}
+use Rattle.host_laws.specs.Live.{of_live}
 
 -- one between others
 pub of_between : (front back : Live) (tx : TxId) (t : Transaction) → AreOthers tx front → of_live tx (front ++ (tx, t) ∷ back) ≡ Some t
