@@ -27,7 +27,8 @@ use Rattle.run_theory.proofs.EachSent.{each_mapped}
 use Rattle.tc_block.specs.Phases.{is_completing, is_decided}
 use Rattle.tc_block.proofs.EachTurn.{AbortForms, CommittedForms, is_onward, ready_is, rows_at, TurnFormsAt}
 use Rattle.run_laws.proofs.TcOwn.{AreSilent}
-use Rattle.run_laws.proofs.TxTurns.{is_for, turn_each, turn_for}
+use Rattle.tc_block.proofs.TurnRows.{turn_for}
+use Rattle.run_laws.proofs.TxTurns.{is_for, turn_each}
 use Rattle.run_laws.proofs.TxSignals.{is_next, is_part, is_sign}
 
 -- a turn of a transaction that commits, and awaits so many

@@ -59,7 +59,7 @@ use Rattle.run_laws.proofs.RoutesChain.{primary_first, primary_length, replicas_
 use Rattle.run_laws.proofs.StepFades.{EndsAtPrimary, NoAbort, StepFades, step_fades}
 use Rattle.run_laws.proofs.TxSignals.{cover, part_tells, request_part, weight}
 use Rattle.run_laws.proofs.TcOwn.{AreSilent}
-use Rattle.run_laws.proofs.TxTurns.{turn_for}
+use Rattle.tc_block.proofs.TurnRows.{turn_for}
 use Rattle.run_laws.proofs.Weighing.{each_between, each_joins, each_taken, in_sends, in_transit, joins_weigh, takes_weigh}
 
 module _ (start : Start) (es : List HostStep) (e : HostStep) (come : Comes start es e) where

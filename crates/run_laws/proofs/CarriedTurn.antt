@@ -39,7 +39,8 @@ use Rattle.run_laws.proofs.PartSends.{commits_tell, completions_tell, length_mid
 use Rattle.run_laws.proofs.StepFades.{StepFades}
 use Rattle.run_laws.proofs.TxSignals.{cover, cover_weight, covers, is_next, is_part, is_sign, part_cover, part_tells, part_weight, request_part, sign_part, weight}
 use Rattle.run_laws.proofs.TcOwn.{AreSilent}
-use Rattle.run_laws.proofs.TxTurns.{is_for, left_by, turn_for}
+use Rattle.tc_block.proofs.TurnRows.{turn_for}
+use Rattle.run_laws.proofs.TxTurns.{is_for, left_by}
 use Rattle.run_laws.proofs.Weighing.{in_sends, in_transit, weigh_less, weigh_none}
 
 -- what holds at each place of a list holds of each of it

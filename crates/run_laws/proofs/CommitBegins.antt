@@ -25,7 +25,8 @@ use Rattle.run_theory.proofs.EachSent.{each_flat, each_mapped}
 use Rattle.host_laws.proofs.TcWays.{not_both}
 use Rattle.sig_core.proofs.Keys.{same_tx-self}
 use Rattle.run_laws.proofs.TcOwn.{AreSilent}
-use Rattle.run_laws.proofs.TxTurns.{is_for, turn_each, turn_for}
+use Rattle.tc_block.proofs.TurnRows.{turn_for}
+use Rattle.run_laws.proofs.TxTurns.{is_for, turn_each}
 use Rattle.run_laws.proofs.TxSignals.{is_part, is_sign}
 
 -- a row of the transaction is to be aborted

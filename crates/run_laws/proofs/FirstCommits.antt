@@ -64,7 +64,8 @@ use Rattle.run_laws.proofs.StepFades.{StepFades, marks_at}
 use Rattle.run_laws.proofs.TcSaid.{tc_silent, tc_speaks}
 use Rattle.run_laws.proofs.TxSignals.{cover, is_part, is_sign, part_tells, part_weight, request_part, sign_part, weight}
 use Rattle.run_laws.proofs.TcOwn.{AreSilent}
-use Rattle.run_laws.proofs.TxTurns.{is_for, left_by, turn_for}
+use Rattle.tc_block.proofs.TurnRows.{turn_for}
+use Rattle.run_laws.proofs.TxTurns.{is_for, left_by}
 use Rattle.run_laws.proofs.VerifiedSettled.{verified_settled}
 use Rattle.run_laws.proofs.Weighing.{each_joins, in_sends, in_transit, joins_weigh, none_weighs, takes_weigh, weigh_none}
 

@@ -38,7 +38,8 @@ use Rattle.run_laws.proofs.HomeSteps.{IsHome, IsUnborn}
 use Rattle.run_laws.proofs.TxSteps.{next_number, number_rises}
 use Rattle.run_laws.proofs.TcAsks.{AreMute, AskTurn, ask, beside_mute, is_ask, is_mute, mute_none, others_mute, turn_asks, unasked_none}
 use Rattle.run_laws.proofs.TcCircle.{GoesOn, turn_going}
-use Rattle.run_laws.proofs.TxTurns.{TcTurn, left_by, tc_turn, turn_for}
+use Rattle.tc_block.proofs.TurnRows.{turn_for}
+use Rattle.run_laws.proofs.TxTurns.{TcTurn, left_by, tc_turn}
 use Rattle.run_laws.proofs.TxTurns as turn
 use Rattle.run_laws.proofs.TcSaid.{tc_speaks}
 use Rattle.run_laws.proofs.WaysPassed.{api_each}

@@ -33,7 +33,8 @@ use Rattle.host_laws.proofs.TcGoes.{AllSay, SaysOf, turn_goes}
 use Rattle.run_laws.specs.Keyed.{HasTouchedAsked}
 use Rattle.run_laws.proofs.TcAborts.{enters_told}
 use Rattle.run_laws.proofs.TcTurns.{end_gives_up, gives_up}
-use Rattle.run_laws.proofs.TxTurns.{OthersSend, is_for, left_by, turn_each, turn_for}
+use Rattle.tc_block.proofs.TurnRows.{turn_for}
+use Rattle.run_laws.proofs.TxTurns.{OthersSend, is_for, left_by, turn_each}
 use Rattle.run_laws.proofs.Weighing.{in_sends}
 
 -- the signal asks for an epoch for the transaction, or gives it one

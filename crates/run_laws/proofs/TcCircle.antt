@@ -33,7 +33,8 @@ use Rattle.tc_block.proofs.EachTurn.{AbortForms, CommittedForms, TurnForms}
 use Rattle.tc_block.proofs.EachTurn.{rows_of as rows_each}
 use Rattle.host_laws.proofs.TcMoves.{same_tx-is}
 use Rattle.run_laws.proofs.TcStill.{AreStill, IsStill, turns_still}
-use Rattle.run_laws.proofs.TxTurns.{is_for, left_by, turn_each, turn_for}
+use Rattle.tc_block.proofs.TurnRows.{turn_for}
+use Rattle.run_laws.proofs.TxTurns.{is_for, left_by, turn_each}
 
 -- it is open, or waits for its epoch
 abbrev pub is_early : Phase → Bool

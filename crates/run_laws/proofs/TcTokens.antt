@@ -34,7 +34,8 @@ use Rattle.host_laws.proofs.TcSteps.{live_none}
 use Rattle.host_laws.specs.Live.{of_live}
 use Rattle.run_laws.proofs.TcStill.{beside_still, others_still, still_out}
 use Rattle.run_laws.proofs.TcTurns.{TurnTokens, budget_after, gives_up, tokens_forms}
-use Rattle.run_laws.proofs.TxTurns.{TcTurn, left_by, tc_turn, turn_each, turn_for}
+use Rattle.tc_block.proofs.TurnRows.{turn_for}
+use Rattle.run_laws.proofs.TxTurns.{TcTurn, left_by, tc_turn, turn_each}
 use Rattle.run_laws.proofs.TxTurns as turn
 
 -- one of the coordinator's transactions: its number is of this node, and below the next one, and it is given up if it

@@ -35,7 +35,8 @@ use Rattle.run_laws.proofs.HomeSteps.{IsHome}
 use Rattle.run_laws.proofs.HostParts.{api_silent, dih_silent}
 use Rattle.run_laws.proofs.TxSignals.{cover, is_next, is_sign}
 use Rattle.run_laws.proofs.TcOwn.{AreSilent, beside_silent, others_silent}
-use Rattle.run_laws.proofs.TxTurns.{TcTurn, is_for, left_by, tc_turn, turn_for}
+use Rattle.tc_block.proofs.TurnRows.{turn_for}
+use Rattle.run_laws.proofs.TxTurns.{TcTurn, is_for, left_by, tc_turn}
 use Rattle.run_laws.proofs.TxTurns as turn
 
 -- a signal for rows comes to a host that runs none, and one by which the transaction goes on finds none

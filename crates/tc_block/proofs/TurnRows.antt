@@ -11,6 +11,7 @@ use Rattle.sig_core.specs.declared.signal.epoch.EpochSignal.TheVariants.{DiVerif
 use Rattle.sig_core.specs.declared.signal.host.HostSignal.TheVariants.{Continue}
 use Rattle.sig_core.specs.declared.signal.host.Work.TheVariants as work
 use Rattle.sig_core.specs.Step.{Step, stay}
+use Rattle.frag_map.specs.Layout.{Layout}
 use Rattle.tc_block.specs.Abort.{aborted_row, refuse_row, rollback_row}
 use Rattle.tc_block.specs.Commit as commit
 use Rattle.tc_block.specs.Complete.{completed_row}
@@ -55,37 +56,46 @@ is_turn (Chain (Aborted tx key)) = true
 is_turn (Epoch (DiVerifyConf tx epoch)) = true
 is_turn _ = false
 
--- what the transaction's row makes of it then
+-- the turn that a signal for it gives to a transaction
+abbrev pub turn_for : ℕ → Layout → TxId → Body → Transaction → Turn
+turn_for node layout tx (Host (Continue (work.Transaction one) at)) t = going (go_on_row node layout tx t at)
+turn_for node layout tx (Client (TcKeyReq one op)) t = going (operate_row layout tx t op)
+turn_for node layout tx (Client (TcCommitReq one)) t = going (commit.verify_row node tx t)
+turn_for node layout tx (Client (TcRollbackReq one)) t = rollback_row node layout tx t
+turn_for node layout tx (Client (TcWaitReq one)) t = going (wait_row tx t)
+turn_for node layout tx (Chain (LqhKeyConf one key answer)) t = going (answer_row layout tx t key answer)
+turn_for node layout tx (Chain (LqhKeyRef one key why)) t = refuse_row node layout tx t key why
+turn_for node layout tx (Chain (Committed one key)) t = commit.committed_row node layout tx t
+turn_for node layout tx (Chain (Completed one key)) t = completed_row node tx t
+turn_for node layout tx (Chain (Aborted one key)) t = aborted_row node tx t
+turn_for node layout tx (Epoch (DiVerifyConf one epoch)) t = commit.commit_row node layout tx t epoch
+turn_for node layout tx _ t = going (stay t)
+
+-- the turn of the transaction that the signal is about
 abbrev pub turn_row : TcState → Body → Transaction → Turn
-turn_row s (Host (Continue (work.Transaction tx) at)) t = going (go_on_row s.node s.layout tx t at)
-turn_row s (Client (TcKeyReq tx op)) t = going (operate_row s.layout tx t op)
-turn_row s (Client (TcCommitReq tx)) t = going (commit.verify_row s.node tx t)
-turn_row s (Client (TcRollbackReq tx)) t = rollback_row s.node s.layout tx t
-turn_row s (Client (TcWaitReq tx)) t = going (wait_row tx t)
-turn_row s (Chain (LqhKeyConf tx key answer)) t = going (answer_row s.layout tx t key answer)
-turn_row s (Chain (LqhKeyRef tx key why)) t = refuse_row s.node s.layout tx t key why
-turn_row s (Chain (Committed tx key)) t = commit.committed_row s.node s.layout tx t
-turn_row s (Chain (Completed tx key)) t = completed_row s.node tx t
-turn_row s (Chain (Aborted tx key)) t = aborted_row s.node tx t
-turn_row s (Epoch (DiVerifyConf tx epoch)) t = commit.commit_row s.node s.layout tx t epoch
-turn_row s _ t = going (stay t)
+turn_row s body t = turn_for s.node s.layout (tx_in body) body t
 
 -- what holds of what the transaction does by each row holds of its turn
+pub turn_with : (node : ℕ) (layout : Layout) (tx : TxId) (body : Body) (t : Transaction) (R : Turn → Type 0)
+    → RowsAre node layout tx t body R
+    → tx_in body ≡ tx → (is_turn body ≡ false → R (going (stay t))) → R (turn_for node layout tx body t)
+turn_with node layout tx (Host (Continue (work.Transaction one) at)) t R rows same other = rows.goes_on at (ap (λ v. Host (Continue (work.Transaction v) at)) same)
+turn_with node layout tx (Client (TcKeyReq one op)) t R rows same other = rows.operates op (ap (λ v. Client (TcKeyReq v op)) same)
+turn_with node layout tx (Client (TcCommitReq one)) t R rows same other = rows.decides (ap (λ v. Client (TcCommitReq v)) same)
+turn_with node layout tx (Client (TcRollbackReq one)) t R rows same other = rows.rolls_back (ap (λ v. Client (TcRollbackReq v)) same)
+turn_with node layout tx (Client (TcWaitReq one)) t R rows same other = rows.waits (ap (λ v. Client (TcWaitReq v)) same)
+turn_with node layout tx (Chain (LqhKeyConf one key answer)) t R rows same other = rows.answers key answer (ap (λ v. Chain (LqhKeyConf v key answer)) same)
+turn_with node layout tx (Chain (LqhKeyRef one key why)) t R rows same other = rows.refuses key why (ap (λ v. Chain (LqhKeyRef v key why)) same)
+turn_with node layout tx (Chain (Committed one key)) t R rows same other = rows.committed key (ap (λ v. Chain (Committed v key)) same)
+turn_with node layout tx (Chain (Completed one key)) t R rows same other = rows.completed key (ap (λ v. Chain (Completed v key)) same)
+turn_with node layout tx (Chain (Aborted one key)) t R rows same other = rows.aborted key (ap (λ v. Chain (Aborted v key)) same)
+turn_with node layout tx (Epoch (DiVerifyConf one epoch)) t R rows same other = rows.commits epoch (ap (λ v. Epoch (DiVerifyConf v epoch)) same)
+turn_with node layout tx _ t R rows same other = other refl
+
 pub turn_by : (s : TcState) (t : Transaction) (R : Turn → Type 0) (body : Body)
     → RowsAre s.node s.layout (tx_in body) t body R
     → (is_turn body ≡ false → R (going (stay t))) → R (turn_row s body t)
-turn_by s t R (Host (Continue (work.Transaction tx) at)) rows other = rows.goes_on at refl
-turn_by s t R (Client (TcKeyReq tx op)) rows other = rows.operates op refl
-turn_by s t R (Client (TcCommitReq tx)) rows other = rows.decides refl
-turn_by s t R (Client (TcRollbackReq tx)) rows other = rows.rolls_back refl
-turn_by s t R (Client (TcWaitReq tx)) rows other = rows.waits refl
-turn_by s t R (Chain (LqhKeyConf tx key answer)) rows other = rows.answers key answer refl
-turn_by s t R (Chain (LqhKeyRef tx key why)) rows other = rows.refuses key why refl
-turn_by s t R (Chain (Committed tx key)) rows other = rows.committed key refl
-turn_by s t R (Chain (Completed tx key)) rows other = rows.completed key refl
-turn_by s t R (Chain (Aborted tx key)) rows other = rows.aborted key refl
-turn_by s t R (Epoch (DiVerifyConf tx epoch)) rows other = rows.commits epoch refl
-turn_by s t R _ rows other = other refl
+turn_by s t R body rows other = turn_with s.node s.layout (tx_in body) body t R rows refl other
 
 -- a transaction takes a turn, and is forgotten if it is over
 abbrev pub left_in : TxId → Live → Live → Turn → Live
