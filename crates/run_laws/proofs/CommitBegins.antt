@@ -109,12 +109,12 @@ module _ (node : ℕ) (layout : Layout) (tx : TxId) where
     begins_forms : (body : Body) → is_part tx body ≡ false → TurnFormsAt node layout tx t body BeginsAt
     unfolding entering
     begins_forms body off = record {
-      stays = λ other. silent tt;
+      stays = λ other missed. silent tt;
       stops = λ at is high. silent tt;
-      goes_on = λ at is. is_one (ap (is_part tx) is ∙ same_tx-self tx);
+      goes_on = λ at is low. is_one (ap (is_part tx) is ∙ same_tx-self tx);
       operates = λ op is can. silent (refl, tt);
       answers = λ key answer asked is on at. silent (refl, tt);
-      late = λ key asked why verifying awaited on at. silent (each_mapped (λ (o : Outgoing). is_sign tx o.body ≡ false)
+      late = λ key asked why verifying awaited is on at. silent (each_mapped (λ (o : Outgoing). is_sign tx o.body ≡ false)
           (abort_of tx key) (chain_of layout key) (λ r. refl));
       waits = λ asked is on. silent (each_mapped (λ (o : Outgoing). is_sign tx o.body ≡ false)
           (wait_of tx (key_of asked.op)) asked.chain (λ r. refl));

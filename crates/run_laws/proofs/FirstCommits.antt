@@ -36,7 +36,6 @@ use Rattle.sig_core.proofs.Keys.{same_tx-self}
 use Rattle.host_laws.specs.Counts.{one_if}
 use Rattle.run_laws.proofs.Always.{few_touched}
 use Rattle.host_laws.proofs.TcLives.{IsOwn}
-use Rattle.host_laws.proofs.TcSteps as answered
 use Rattle.run_laws.specs.Circle.{IsSettled, at_host}
 use Rattle.run_laws.specs.Completions.{IsCommittedAtAll}
 use Rattle.run_laws.specs.GivenUp.{is_carried_out, is_given_up}
@@ -79,11 +78,6 @@ off_part tx b none = by (is_part tx b) refl
     by : (x : Bool) → is_part tx b ≡ x → is_part tx b ≡ false
     by true e = absurd (omega (arith, none, ap one_if e))
     by false e = e
-
--- it is found alike
-found_alike : (tx : TxId) (live : List (TxId × Transaction)) → answered.of_live tx live ≡ of_live tx live
-found_alike tx [] = refl
-found_alike tx (x ∷ live) = ap (λ o. if same_tx x.0 tx then Some x.1 else o) (found_alike tx live)
 
 module _ (start : Start) (es : List HostStep) (e : HostStep) (come : Comes start es e) (before between : List Addressed) (transit : AreInTransit start es before) (takes : Takes e before between)
     (tx : TxId) (uncarried : is_carried_out start (logs_of start es) tx ≡ false) (ungiven : is_given_up start (logs_of start es) tx ≡ false) (none : in_transit (part tx) before ≡ 0) where
@@ -212,7 +206,7 @@ module _ (start : Start) (es : List HostStep) (e : HostStep) (come : Comes start
         all (u ∷ us) r k = (settled_along start (logs_of start es) tx t.ops u (settled.settled u.key) r.0 k.0, all us r.1 k.1)
 
     few : length t.touched ≤ 64
-    few = few_touched start tx h (logs_of start es h) t (found_alike tx s.live ∙ was)
+    few = few_touched start tx h (logs_of start es h) t was
 
     abbrev PartOf : ℕ → List Outgoing
     PartOf epoch = (part_effects s.node tx (phase_sends s.layout tx (Committing epoch (length t.touched)) t.touched) 0).sends
