@@ -23,13 +23,12 @@ use Rattle.world_core.specs.Machine.{after}
 use Rattle.run_laws.proofs.AlongSteps.{is_dih}
 use Rattle.host_laws.proofs.ApiMoves.{ApiMove, begun_as, ends, goes, is_api_kind, opens, refuses, rests}
 use Rattle.answer_laws.proofs.EpochCounts.{counts_by, ended_by, is_epochless, with_asked}
-use Rattle.answer_laws.proofs.EpochLives.{TurnCounts, asking, ending, gone, unchanged, turn_counts, rest_plain}
+use Rattle.answer_laws.proofs.EpochLives.{TurnCounts, asking, ending, gone, unchanged, turn_counts}
 use Rattle.host_laws.proofs.SendKinds.{are_of, is_dih_kind, is_lqh_kind, is_tc_kind, none_of, of_kind}
 use Rattle.host_laws.proofs.Tally.{and_few, none_if, tally_append}
 use Rattle.host_laws.specs.Counts.{one_if}
 use Rattle.host_laws.proofs.TcSends.{tc_kinds}
-use Rattle.host_laws.proofs.TcSteps.{is_rest_kind}
-use Rattle.host_laws.proofs.TcSteps as steps
+use Rattle.tc_block.proofs.TurnRows as turns
 use Rattle.tc_block.proofs.TurnRows.{begins, misses, takes, tc_step, TcStep, turn_row, tx_in}
 use Rattle.host_laws.proofs.TcTurns.{turn_moves}
 use Rattle.host_laws.proofs.Wishes.{and_false, is_tc, second_fails, sends_of}
@@ -76,8 +75,10 @@ pub tc_epochs : (s : TcState) (at : Place → Bool) → at (epochs s.node) ≡ f
 tc_epochs s at off body = go (tc_table s body) (tc_step s body)
   where
     go : (step : Step TcState) → TcStep s body step → sends_of (at_place at is_epoch) step.effects.sends ≡ 0
-    go step (steps.rests about is kind) = plain_none at step.effects.sends (of_kind is_rest_kind is_epochless rest_plain step.effects.sends kind)
+    go step (turns.rests off is) = ap (λ (x : Step TcState). sends_of (at_place at is_epoch) x.effects.sends) is
+    go step (turns.refuses name about is) = ap (λ (x : Step TcState). sends_of (at_place at is_epoch) x.effects.sends) is ∙ none_if (at client)
     go step (begins name about room is) = ap (λ (x : Step TcState). sends_of (at_place at is_epoch) x.effects.sends) is ∙ none_if (at client)
+    go step (turns.passes tx ahead about is) = ap (λ (x : Step TcState). sends_of (at_place at is_epoch) x.effects.sends) is ∙ none_if (at client)
     go step (misses about none is) = ap (λ (x : Step TcState). sends_of (at_place at is_epoch) x.effects.sends) is
     go step (takes about t front back was is) =
         ap (λ (x : Step TcState). sends_of (at_place at is_epoch) x.effects.sends) is ∙ by (turn_counts s (tx_in body) t body (turn_row s body t) (turn_moves s body t about))

@@ -34,10 +34,9 @@ use Rattle.host_laws.proofs.SendKinds.{are_of, of_kind, of_map}
 use Rattle.host_laws.proofs.Tally.{tally_append, tally_between}
 use Rattle.host_laws.specs.Counts.{one_if, tally}
 use Rattle.host_laws.proofs.TcLives.{IsOwn, insert_new}
-use Rattle.host_laws.proofs.TcSteps.{is_rest_kind}
 use Rattle.host_laws.proofs.TcTurns.{GivesUp, IsCommitted, TurnMove, abort_ends, aborted, aborts, all_completed, answers, asked_to, asks, at_last, at_once, commits, committed, completed, completes, decides, ends, gives_up, goes_on, is_wait_kind, keeps, late, refused, turn_moves}
 use Rattle.tc_block.specs.Phases.{is_committing}
-use Rattle.tc_block.proofs.TurnRows.{begins, misses, rests, takes, tc_step, TcStep, turn_row, tx_in}
+use Rattle.tc_block.proofs.TurnRows.{begins, misses, rests, takes, tc_step, TcStep, turn_row, tx_in, passes, refuses}
 
 -- an epoch was asked for, and its end isn't told
 abbrev pub is_counted : Phase → Bool
@@ -66,11 +65,6 @@ wait_plain : (body : Body) → is_wait_kind body ≡ true → is_epochless body 
 wait_plain (Epoch (DiVerifyReq tx ops)) e = cc
 wait_plain (Epoch _) e = cc
 wait_plain _ e = refl
-
-pub rest_plain : (body : Body) → is_rest_kind body ≡ true → is_epochless body ≡ true
-rest_plain (Epoch (DiVerifyReq tx ops)) e = cc
-rest_plain (Epoch _) e = cc
-rest_plain _ e = refl
 
 plain_part : (tx : TxId) → IsPartKind is_epochless tx
 plain_part tx = record {
@@ -181,13 +175,18 @@ module _ (s : TcState) (at : Place → Bool) (own : at (epochs s.node) ≡ true)
   own_place : (at (epochs s.node) && true) ≡ true
   own_place = ap (λ b. b && true) own
 
+  idle : (step other : Step TcState) → step ≡ other → other.state ≡ s → are_of is_epochless other.effects.sends ≡ true
+      → StepCounts at step.state step.effects.sends c
+  idle step other is same kind =
+      let live_is : step.state.live ≡ s.live = ap (λ (x : Step TcState). x.state.live) is ∙ ap (λ (x : TcState). x.live) same in
+      plain_step step (ap (λ (x : Step TcState). are_of is_epochless x.effects.sends) is ∙ kind) (ap (tally is_counted_one) live_is)
+      (λ v. ap (tally (is_counted_as v)) live_is) (omega (arith, k.room, ap length live_is))
+
   step_of_counts : (step : Step TcState) → TcStep s body step → StepCounts at step.state step.effects.sends c
-  step_of_counts step (rests about is kind) =
-      plain_step step (of_kind is_rest_kind is_epochless rest_plain step.effects.sends kind) (ap (λ (x : TcState). tally is_counted_one x.live) is)
-      (λ v. ap (λ (x : TcState). tally (is_counted_as v) x.live) is) (omega (arith, k.room, ap (λ (x : TcState). length x.live) is))
-  step_of_counts step (misses about none is) =
-      plain_step step (ap (λ (x : Step TcState). are_of is_epochless x.effects.sends) is) (ap (λ (x : Step TcState). tally is_counted_one x.state.live) is)
-      (λ v. ap (λ (x : Step TcState). tally (is_counted_as v) x.state.live) is) (omega (arith, k.room, ap (λ (x : Step TcState). length x.state.live) is))
+  step_of_counts step (rests off is) = idle step _ is refl refl
+  step_of_counts step (refuses name about is) = idle step _ is refl refl
+  step_of_counts step (passes tx ahead about is) = idle step _ is refl refl
+  step_of_counts step (misses about none is) = idle step _ is refl refl
   step_of_counts step (begins name about room is) =
       plain_step step (ap (λ (x : Step TcState). are_of is_epochless x.effects.sends) is)
       (now tally_all ∙ omega (arith, tally_append is_counted_one s.live ((next_tx s, fresh) ∷ [])))

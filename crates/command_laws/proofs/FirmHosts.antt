@@ -25,8 +25,8 @@ use Rattle.world_core.specs.Steps.{HostStep}
 use Rattle.host_laws.proofs.ApiBegins.{each_at, each_changed, each_less}
 use Rattle.host_laws.proofs.SendKinds.{none_of}
 use Rattle.host_laws.proofs.TcLives.{apart}
-use Rattle.host_laws.proofs.TcSteps.{is_rest_kind, is_said, turn_said}
-use Rattle.tc_block.proofs.TurnRows.{begins, left_in, misses, rests, takes, tc_step, TcStep, turn_row, tx_in}
+use Rattle.host_laws.proofs.TcSteps.{is_said, turn_said}
+use Rattle.tc_block.proofs.TurnRows.{begins, left_in, misses, rests, takes, tc_step, TcStep, turn_row, tx_in, passes, refuses}
 use Rattle.host_laws.proofs.Wishes.{is_tc, sends_of}
 use Rattle.command_laws.proofs.Firm.{firm_turn, is_firm, is_no_abort, is_push}
 use Rattle.command_laws.proofs.HostSends.{IsOfTc, is_other_kind}
@@ -68,10 +68,6 @@ module _ (tx : TxId) where
   abbrev pub AllFirm : List (TxId × Transaction) → Type 0
   AllFirm live = Each IsFirmFor live
 
-  no_back_rest : (to : Place) (body : Body) → is_rest_kind body ≡ true → is_back tx to body ≡ false
-  no_back_rest to (Client (TcRollbackRep other cause)) e = cc
-  no_back_rest to _ e = refl
-
   pub no_back_firm : (to : Place) (body : Body) → is_no_abort body ≡ true → is_back tx to body ≡ false
   no_back_firm to (Client (TcRollbackRep other cause)) e = cc
   no_back_firm to _ e = refl
@@ -112,15 +108,18 @@ module _ (tx : TxId) where
       silent = ap (λ (x : Step TcState). sends_of (is_back tx) x.effects.sends) is ∙ quiet;
     }
 
+    idle : (step other : Step TcState) → step ≡ other → other.state ≡ s → sends_of (is_back tx) other.effects.sends ≡ 0
+        → KeepsFirm step.state.live step.effects.sends
+    idle step other is same quiet = record {
+      firm = subst (λ (x : Step TcState). AllFirm x.state.live) (sym is) (subst (λ (x : TcState). AllFirm x.live) (sym same) firm);
+      silent = ap (λ (x : Step TcState). sends_of (is_back tx) x.effects.sends) is ∙ quiet;
+    }
+
     step_firm : (step : Step TcState) → TcStep s body step → KeepsFirm step.state.live step.effects.sends
-    step_firm step (rests about is kind) = record {
-      firm = subst (λ state. AllFirm state.live) (sym is) firm;
-      silent = none_of is_rest_kind (is_back tx) no_back_rest step.effects.sends kind;
-    }
-    step_firm step (misses about none is) = record {
-      firm = subst (λ (x : Step TcState). AllFirm x.state.live) (sym is) firm;
-      silent = ap (λ (x : Step TcState). sends_of (is_back tx) x.effects.sends) is;
-    }
+    step_firm step (rests off is) = idle step _ is refl refl
+    step_firm step (refuses name about is) = idle step _ is refl refl
+    step_firm step (passes one ahead about is) = idle step _ is refl refl
+    step_firm step (misses about none is) = idle step _ is refl refl
     step_firm step (begins name about room is) = record {
       firm = subst (λ (x : Step TcState). AllFirm x.state.live) (sym is) (each_inserted_value _ s.live _ fresh (λ key same. refl) firm);
       silent = ap (λ (x : Step TcState). sends_of (is_back tx) x.effects.sends) is;
