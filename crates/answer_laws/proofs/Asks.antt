@@ -52,7 +52,7 @@ use Rattle.host_laws.proofs.TcSends.{tc_kinds}
 use Rattle.answer_laws.proofs.Totals.{spread_few}
 use Rattle.host_laws.proofs.Sums.{total_add, total_at, total_le, total_same}
 use Rattle.host_laws.specs.Counts.{total}
-use Rattle.host_laws.proofs.Wishes.{and_false, is_api, is_tc, second_fails, sends_of, to_node}
+use Rattle.host_laws.proofs.Wishes.{and_false, is_api, is_tc, second_fails, sends_of, to_node, tc_none}
 use Rattle.answer_laws.specs.Answered.{AreQuiet, EachAsksWhereOperating, is_operating}
 use Rattle.host_laws.specs.OpenedAfter.{opened_after, opened_in}
 
@@ -90,14 +90,8 @@ plain_answer tx _ e = cc
 
 -- a host that doesn't run the API sends no operation to a coordinator
 tc_no_key : (tx : TxId) (s : TcState) (body : Body) → sends_of (is_key tx) (tc_table s body).effects.sends ≡ 0
-unfolding begin_row
-tc_no_key tx s (Client (TcBeginReq name)) = go (is_full s)
-  where
-    go : (b : Bool) → sends_of (is_key tx) (begin_if s name b).effects.sends ≡ 0
-    go true = refl
-    go false = refl
-tc_no_key tx s body =
-    none_of (is_tc_kind (tx_in body)) (is_key tx) (λ to b k. second_fails (is_tc to.block) (no_key_tc tx (tx_in body) b k)) (tc_table s body).effects.sends (tc_kinds s body refl)
+tc_no_key tx =
+    tc_none (is_key tx) (λ one to b k. second_fails (is_tc to.block) (no_key_tc tx one b k)) (λ name. refl) (λ name other. refl)
 
 host_no_key : (tx : TxId) (s : host.Host) (x : Signal) → has_api s ≡ false → sends_of (is_key tx) (row s x).effects.sends ≡ 0
 host_no_key tx s x other =

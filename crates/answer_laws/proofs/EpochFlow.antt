@@ -31,7 +31,7 @@ use Rattle.host_laws.proofs.TcSends.{tc_kinds}
 use Rattle.tc_block.proofs.TurnRows as turns
 use Rattle.tc_block.proofs.TurnRows.{begins, misses, takes, tc_step, TcStep, turn_row, tx_in}
 use Rattle.host_laws.proofs.TcTurns.{turn_moves}
-use Rattle.host_laws.proofs.Wishes.{and_false, is_tc, second_fails, sends_of}
+use Rattle.host_laws.proofs.Wishes.{and_false, is_tc, second_fails, sends_of, tc_none}
 
 -- a transaction asks for an epoch, and is given one
 abbrev pub is_req : TxId → Place → Body → Bool
@@ -166,13 +166,9 @@ pub no_conf : (at : Place → Bool) (tx : TxId) (kind : Body → Bool) → ((to 
 no_conf at tx kind fails sends e = none_of kind (at_place at (is_conf tx)) (λ to body k. second_fails (at to) (fails to body k)) sends e
 
 pub tc_confless : (at : Place → Bool) (tx : TxId) (s : TcState) (body : Body) → sends_of (at_place at (is_conf tx)) (tc_table s body).effects.sends ≡ 0
-unfolding begin_row
-tc_confless at tx s (Client (TcBeginReq other)) = by (is_full s)
-  where
-    by : (b : Bool) → sends_of (at_place at (is_conf tx)) (begin_if s other b).effects.sends ≡ 0
-    by true = none_if (at client)
-    by false = none_if (at client)
-tc_confless at tx s body = no_conf at tx (is_tc_kind (tx_in body)) (fails (tx_in body)) (tc_table s body).effects.sends (tc_kinds s body refl)
+tc_confless at tx s body =
+    tc_none (at_place at (is_conf tx)) (λ one to b k. second_fails (at to) (fails one to b k))
+    (λ name. second_fails (at client) refl) (λ name other. second_fails (at client) refl) s body
   where
     fails : (one : TxId) (to : Place) (body : Body) → is_tc_kind one body ≡ true → is_conf tx to body ≡ false
     fails one to (Epoch (DiVerifyConf other epoch)) e = cc

@@ -40,7 +40,7 @@ use Rattle.host_laws.proofs.TcKeys.{answer_of, answers_in, is_answer, is_key, ke
 use Rattle.host_laws.proofs.TcLives.{is_start, start_of}
 use Rattle.tc_block.proofs.TurnRows.{tx_in}
 use Rattle.host_laws.proofs.TcSends.{tc_kinds}
-use Rattle.host_laws.proofs.Wishes.{and_false, is_api, is_tc, sends_of, to_node}
+use Rattle.host_laws.proofs.Wishes.{and_false, is_api, is_tc, sends_of, to_node, tc_none}
 
 -- what isn't said of the transaction answers none of its operations
 pub aside_answers : (tx : TxId) (sends : List Outgoing) → are_of (is_aside tx) sends ≡ true → answers_in tx sends ≡ 0
@@ -69,14 +69,12 @@ commitless tx kind none sends all = none_of kind (is_commit_req tx) fails sends 
     fails to (Client (TcCommitReq other)) e = absurd (false≢true (sym (none other) ∙ e))
     fails to _ e = refl
 
-begin_commits : (tx : TxId) (s : TcState) (name : Option ℕ) (b : Bool) → sends_of (is_commit_req tx) (begin_if s name b).effects.sends ≡ 0
-begin_commits tx s name true = refl
-begin_commits tx s name false = refl
-
 tc_commitless : (tx : TxId) (s : TcState) (body : Body) → sends_of (is_commit_req tx) (tc_table s body).effects.sends ≡ 0
-unfolding begin_row
-tc_commitless tx s (Client (TcBeginReq name)) = begin_commits tx s name (is_full s)
-tc_commitless tx s body = commitless tx (is_tc_kind (tx_in body)) (λ other. refl) (tc_table s body).effects.sends (tc_kinds s body refl)
+tc_commitless tx = tc_none (is_commit_req tx) fails (λ name. refl) (λ name other. refl)
+  where
+    fails : (one : TxId) (to : Place) (b : Body) → is_tc_kind one b ≡ true → is_commit_req tx to b ≡ false
+    fails one to (Client (TcCommitReq other)) e = cc
+    fails one to _ e = refl
 
 host_commitless : (tx : TxId) (s : host.Host) (x : Signal) → has_api s ≡ false → sends_of (is_commit_req tx) (row s x).effects.sends ≡ 0
 host_commitless tx s x other =

@@ -19,7 +19,7 @@ use Rattle.tc_block.specs.Turn.{Turn}
 use Rattle.host_laws.specs.Counts.{one_if}
 use Rattle.host_laws.proofs.ApiMoves.{is_api_kind}
 use Rattle.host_laws.proofs.SendKinds.{are_of, is_dih_kind, is_tc_kind, none_of, of_kind}
-use Rattle.host_laws.proofs.TcSends.{tc_kinds}
+use Rattle.host_laws.proofs.TcSends.{tc_kinds, tc_only}
 use Rattle.host_laws.proofs.Wishes.{is_tc, sends_of}
 use Rattle.host_laws.specs.Live.{of_live}
 use Rattle.command_laws.proofs.EarlyTurns.{EarlyTurn, IsLeaving, is_no_end, is_past, is_wish, open_turn, past_turn}
@@ -62,14 +62,8 @@ no_ref_tc : (one : TxId) (body : Body) → is_tc_kind one body ≡ true → is_n
 no_ref_tc one (Chain (LqhKeyRef tx key why)) e = cc
 no_ref_tc one _ e = refl
 
-begin_no_ref : (s : TcState) (name : Option ℕ) (b : Bool) → are_of is_no_ref (begin_if s name b).effects.sends ≡ true
-begin_no_ref s name true = refl
-begin_no_ref s name false = refl
-
 pub tc_no_ref : (s : TcState) (body : Body) → are_of is_no_ref (tc_table s body).effects.sends ≡ true
-unfolding begin_row
-tc_no_ref s (Client (TcBeginReq name)) = begin_no_ref s name (is_full s)
-tc_no_ref s body = of_kind (is_tc_kind (tx_in body)) is_no_ref (no_ref_tc (tx_in body)) (tc_table s body).effects.sends (tc_kinds s body refl)
+tc_no_ref = tc_only is_no_ref no_ref_tc (λ name. refl) (λ name tx. refl)
 
 abbrev pub OpenOption : Option Transaction → Type 0
 OpenOption None = Unit {0}

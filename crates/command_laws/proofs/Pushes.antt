@@ -33,7 +33,7 @@ use Rattle.host_laws.proofs.LqhOps.{left_of}
 use Rattle.host_laws.proofs.LqhSends.{lqh_kinds}
 use Rattle.host_laws.proofs.SendKinds.{are_of, is_dih_kind, is_lqh_kind, is_tc_kind, none_of, of_kind}
 use Rattle.tc_block.proofs.TurnRows.{tx_in}
-use Rattle.host_laws.proofs.TcSends.{tc_kinds}
+use Rattle.host_laws.proofs.TcSends.{tc_kinds, tc_only}
 use Rattle.host_laws.proofs.Wishes.{is_tc, sends_of}
 use Rattle.host_laws.specs.OpenedAfter.{opened_in}
 use Rattle.command_laws.proofs.ApiChanges.{ApiChange, answers, api_changes, commits, ends, is_news_kind, refuses, rests, starts, waits}
@@ -77,14 +77,8 @@ lqh_is_node (Client (TcRollbackReq one)) e = cc
 lqh_is_node (Client (TcWaitReq one)) e = cc
 lqh_is_node _ e = refl
 
-begin_is_node : (s : TcState) (name : Option ℕ) (b : Bool) → are_of is_node_kind (begin_if s name b).effects.sends ≡ true
-begin_is_node s name true = refl
-begin_is_node s name false = refl
-
 tc_sends_node : (s : TcState) (body : Body) → are_of is_node_kind (tc_table s body).effects.sends ≡ true
-unfolding begin_row
-tc_sends_node s (Client (TcBeginReq name)) = begin_is_node s name (is_full s)
-tc_sends_node s body = of_kind (is_tc_kind (tx_in body)) is_node_kind (tc_is_node (tx_in body)) (tc_table s body).effects.sends (tc_kinds s body refl)
+tc_sends_node = tc_only is_node_kind tc_is_node (λ name. refl) (λ name tx. refl)
 
 host_sends_node : (g : host.Host) (x : Signal) → has_api g ≡ false → are_of is_node_kind (row g x).effects.sends ≡ true
 host_sends_node g x none = of_effects (λ f. are_of is_node_kind f.sends ≡ true) g x refl (record {

@@ -6,15 +6,15 @@ use Rattle.std.proofs.lemmas.Bool.Decides.{nat_tests}
 use Rattle.sig_core.specs.declared.member.TxId.{TxId}
 use Rattle.sig_core.specs.declared.signal.Body.{Body}
 use Rattle.sig_core.specs.declared.signal.Body.TheVariants.{Client}
-use Rattle.sig_core.specs.declared.signal.client.ClientSignal.TheVariants.{TcBeginReq}
+use Rattle.sig_core.specs.declared.signal.client.ClientSignal.TheVariants.{TcBeginReq, TcBeginConf, TcBeginRef, TcWaitConf}
 use Rattle.sig_core.specs.Step.{Step}
 use Rattle.tc_block.specs.declared.transaction.Transaction.{Transaction}
 use Rattle.tc_block.specs.State.{TcState}
-use Rattle.tc_block.specs.Tc.{tc_table}
+use Rattle.tc_block.specs.Tc.{next_tx, tc_table}
 use Rattle.tc_block.specs.Turn.{Turn}
 use Rattle.sig_core.proofs.Keys.{same_tx-self}
 use Rattle.tc_block.proofs.TurnRows.{TcStep, begins, misses, passes, refuses, rests, takes, tc_step, turn_by, turn_row, tx_in}
-use Rattle.host_laws.proofs.SendKinds.{SendsOnly, are_of, is_begin_wish, is_tc_kind}
+use Rattle.host_laws.proofs.SendKinds.{SendsOnly, are_of, is_begin_wish, is_tc_kind, of_kind, one_kind}
 use Rattle.host_laws.proofs.TurnKinds.{OwnKinds, own_kinds}
 
 pub eqb-self : (n : ℕ) → nat_eq n n ≡ true
@@ -59,3 +59,24 @@ tc_kinds s body other = by (tc_table s body) (tc_step s body)
     by step (passes tx ahead about is) = ap sent is
     by step (misses turns none is) = ap sent is
     by step (takes turns t front back was is) = ap sent is ∙ turn_sends s body t
+
+-- all that a coordinator sends is of a kind that has what it sends of a transaction, and whether one begins
+pub tc_only : (kind : Body → Bool) → ((one : TxId) (b : Body) → is_tc_kind one b ≡ true → kind b ≡ true)
+    → ((name : Option ℕ) → kind (Client (TcBeginRef name)) ≡ true)
+    → ((name : Option ℕ) (tx : TxId) → kind (Client (TcBeginConf name tx)) ≡ true)
+    → (s : TcState) (body : Body) → SendsOnly kind (tc_table s body)
+tc_only kind has has_ref has_conf s body = by (tc_table s body) (tc_step s body)
+  where
+    sent : Step TcState → Bool
+    sent step = are_of kind step.effects.sends
+
+    by : (step : Step TcState) → TcStep s body step → sent step ≡ true
+    by step (rests off is) = ap sent is
+    by step (refuses name about is) = ap sent is ∙ one_kind (kind (Client (TcBeginRef name))) (has_ref name)
+    by step (begins name about room is) =
+        ap sent is ∙ one_kind (kind (Client (TcBeginConf name (next_tx s)))) (has_conf name (next_tx s))
+    by step (passes tx ahead about is) =
+        ap sent is ∙ one_kind (kind (Client (TcWaitConf tx ahead))) (has tx (Client (TcWaitConf tx ahead)) refl)
+    by step (misses turns none is) = ap sent is
+    by step (takes turns t front back was is) =
+        ap sent is ∙ of_kind (is_tc_kind (tx_in body)) kind (has (tx_in body)) _ (turn_sends s body t)
