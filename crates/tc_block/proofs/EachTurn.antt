@@ -27,6 +27,7 @@ use Rattle.tc_block.specs.declared.phase.Phase.{Phase}
 use Rattle.tc_block.specs.declared.phase.Phase.TheVariants.{Open, Verifying, Committing, Completing, Aborting}
 use Rattle.tc_block.specs.declared.transaction.Transaction.{Transaction}
 use Rattle.tc_block.specs.Operate as operate
+use Rattle.tc_block.specs.declared.sends.TheConstants.{SENDS}
 use Rattle.tc_block.specs.Sends.{entering, go_on_if, go_on_row}
 use Rattle.tc_block.specs.Turn.{Turn, asking, at_phase, going}
 use Rattle.tc_block.specs.Phases.{is_aborting, is_committing, is_completing, is_decided}
@@ -40,7 +41,7 @@ may_ask _ = false
 -- why a signal leaves the transaction alone: the end of its list is passed, it can't do what it is asked for now, it has
 -- no such operation unanswered, or it is in another phase
 abbrev pub IsMissed : Transaction → Body → Type 0
-IsMissed t (Host (Continue (work.Transaction tx) at)) = 512 ≤ at
+IsMissed t (Host (Continue (work.Transaction tx) at)) = SENDS ≤ at
 IsMissed t (Client (TcKeyReq tx op)) = operate.can_operate t op ≡ false
 IsMissed t (Client (TcCommitReq tx)) = operate.is_ready t.phase t.asked ≡ false
 IsMissed t (Client (TcRollbackReq tx)) = (is_decided t.phase || is_aborting t.phase) ≡ true
@@ -124,9 +125,9 @@ is_onward _ = false
 pub record TurnFormsAt (node : ℕ) (layout : Layout) (tx : TxId) (t : Transaction) (body : Body)
     (R : Turn → Type 0) : Type 0 where
   pub stays : is_onward body ≡ false → IsMissed t body → R (going (stay t))
-  pub stops : (at : ℕ) → body ≡ Host (Continue (work.Transaction tx) at) → 512 ≤ at → R (going (stay t))
+  pub stops : (at : ℕ) → body ≡ Host (Continue (work.Transaction tx) at) → SENDS ≤ at → R (going (stay t))
   -- it sends more of what it sends in its phase
-  pub goes_on : (at : ℕ) → body ≡ Host (Continue (work.Transaction tx) at) → nat_lt at 512 ≡ true
+  pub goes_on : (at : ℕ) → body ≡ Host (Continue (work.Transaction tx) at) → nat_lt at SENDS ≡ true
       → R (going (go_on_if node layout tx t at true))
   -- an operation goes to its primary, is answered, or is answered when the transaction is aborted already
   pub operates : (op : Op) → body ≡ Client (TcKeyReq tx op) → operate.can_operate t op ≡ true
@@ -224,9 +225,9 @@ module _ (node : ℕ) (layout : Layout) (tx : TxId) (t : Transaction) (body : Bo
     (forms : TurnFormsAt node layout tx t body R) where
   goes_on : (at : ℕ) → body ≡ Host (Continue (work.Transaction tx) at) → R (going (go_on_row node layout tx t at))
   unfolding go_on_row
-  goes_on at is = by (nat_lt at 512) refl
+  goes_on at is = by (nat_lt at SENDS) refl
     where
-      by : (b : Bool) → nat_lt at 512 ≡ b → R (going (go_on_if node layout tx t at b))
+      by : (b : Bool) → nat_lt at SENDS ≡ b → R (going (go_on_if node layout tx t at b))
       by true low = forms.goes_on at is low
       by false high = forms.stops at is (grind (arith, nat_tests, high))
 

@@ -115,6 +115,19 @@ pub data TcStep (s : TcState) (body : Body) (step : Step TcState) : Type 0 where
       → step ≡ record { state = with_live s (left_in (tx_in body) front back (turn_row s body t)); effects = (turn_row s body t).step.effects }
       → TcStep s body step
 
+-- the same, with the place of the transaction whose turn it is
+pub data PlacedStep (s : TcState) (body : Body) (step : Step TcState) : Type 0 where
+  idles : is_turn body ≡ false → step ≡ stay s → PlacedStep s body step
+  lacks : (name : Option ℕ) → body ≡ Client (TcBeginReq name) → step ≡ begin_if s name true → PlacedStep s body step
+  opens : (name : Option ℕ) → body ≡ Client (TcBeginReq name) → is_full s ≡ false → step ≡ begin_if s name false
+      → PlacedStep s body step
+  tells : (tx ahead : TxId) → body ≡ Client (LqhWaitConf tx ahead) → step ≡ pass_if s tx ahead true
+      → PlacedStep s body step
+  lost : is_turn body ≡ true → AreOthers (tx_in body) s.live → step ≡ stay s → PlacedStep s body step
+  goes : is_turn body ≡ true → (t : Transaction) (at : ℕ) → Split (tx_in body) t s.live at
+      → step ≡ turned s at (turn_row s body t)
+      → PlacedStep s body step
+
 module _ (s : TcState) where
   -- a step of a transaction is a turn after which it isn't over
   step_is : (tx : TxId) (row : Transaction → Step Transaction) → step_of s tx row ≡ turn_of s tx (λ t. going (row t))
@@ -141,44 +154,54 @@ module _ (s : TcState) where
 
   turn_step : (body : Body) (step : Step TcState) → is_turn body ≡ true
       → step ≡ turn_of s (tx_in body) (turn_row s body)
-      → TcStep s body step
+      → PlacedStep s body step
   turn_step body step turns is = at_place (place_in s (tx_in body)) refl is
     where
       at_value : (at : ℕ) → place_in s (tx_in body) ≡ Some at → (t : Option Transaction)
           → slice_get (values_of s.live) at ≡ t
-          → step ≡ turn_value s (turn_row s body) at t → TcStep s body step
+          → step ≡ turn_value s (turn_row s body) at t → PlacedStep s body step
       at_value at here None there same = absurd (no_value (tx_in body) s.live at here there)
-      at_value at here (Some t) there same =
-          let split = split_at (tx_in body) s.live at t here there in
-          takes turns t split.front split.back split.is (same ∙ left_is (tx_in body) t at split (turn_row s body t))
+      at_value at here (Some t) there same = goes turns t at (split_at (tx_in body) s.live at t here there) same
 
       at_place : (at : Option ℕ) → place_in s (tx_in body) ≡ at → step ≡ turn_place s (turn_row s body) at
-          → TcStep s body step
-      at_place None here same = misses turns (no_place (tx_in body) s.live here) same
+          → PlacedStep s body step
+      at_place None here same = lost turns (no_place (tx_in body) s.live here) same
       at_place (Some at) here same = at_value at here (slice_get (values_of s.live) at) refl same
+
+  pub placed_step : (body : Body) → PlacedStep s body (tc_table s body)
+  unfolding begin_row pass_row
+  placed_step (Client (TcBeginReq name)) = by (is_full s) refl
+    where
+      by : (b : Bool) → is_full s ≡ b → PlacedStep s (Client (TcBeginReq name)) (begin_if s name b)
+      by true full = lacks name refl refl
+      by false room = opens name refl room refl
+  placed_step (Client (LqhWaitConf tx ahead)) = by (is_some (place_in s tx))
+    where
+      by : (b : Bool) → PlacedStep s (Client (LqhWaitConf tx ahead)) (pass_if s tx ahead b)
+      by true = tells tx ahead refl refl
+      by false = idles refl refl
+  placed_step (Host (Continue (work.Transaction tx) at)) = turn_step (Host (Continue (work.Transaction tx) at)) _ refl (step_is tx _)
+  placed_step (Client (TcKeyReq tx op)) = turn_step (Client (TcKeyReq tx op)) _ refl (step_is tx _)
+  placed_step (Client (TcCommitReq tx)) = turn_step (Client (TcCommitReq tx)) _ refl (step_is tx _)
+  placed_step (Client (TcRollbackReq tx)) = turn_step (Client (TcRollbackReq tx)) _ refl refl
+  placed_step (Client (TcWaitReq tx)) = turn_step (Client (TcWaitReq tx)) _ refl (step_is tx _)
+  placed_step (Chain (LqhKeyConf tx key answer)) = turn_step (Chain (LqhKeyConf tx key answer)) _ refl (step_is tx _)
+  placed_step (Chain (LqhKeyRef tx key why)) = turn_step (Chain (LqhKeyRef tx key why)) _ refl refl
+  placed_step (Chain (Committed tx key)) = turn_step (Chain (Committed tx key)) _ refl refl
+  placed_step (Chain (Completed tx key)) = turn_step (Chain (Completed tx key)) _ refl refl
+  placed_step (Chain (Aborted tx key)) = turn_step (Chain (Aborted tx key)) _ refl refl
+  placed_step (Epoch (DiVerifyConf tx epoch)) = turn_step (Epoch (DiVerifyConf tx epoch)) _ refl refl
+  placed_step _ = idles refl refl
 
   -- each step is one of these
   pub tc_step : (body : Body) → TcStep s body (tc_table s body)
-  unfolding begin_row pass_row
-  tc_step (Client (TcBeginReq name)) = by (is_full s) refl
+  tc_step body = by (placed_step body)
     where
-      by : (b : Bool) → is_full s ≡ b → TcStep s (Client (TcBeginReq name)) (begin_if s name b)
-      by true full = refuses name refl refl
-      by false room = begins name refl room refl
-  tc_step (Client (LqhWaitConf tx ahead)) = by (is_some (place_in s tx))
-    where
-      by : (b : Bool) → TcStep s (Client (LqhWaitConf tx ahead)) (pass_if s tx ahead b)
-      by true = passes tx ahead refl refl
-      by false = rests refl refl
-  tc_step (Host (Continue (work.Transaction tx) at)) = turn_step (Host (Continue (work.Transaction tx) at)) _ refl (step_is tx _)
-  tc_step (Client (TcKeyReq tx op)) = turn_step (Client (TcKeyReq tx op)) _ refl (step_is tx _)
-  tc_step (Client (TcCommitReq tx)) = turn_step (Client (TcCommitReq tx)) _ refl (step_is tx _)
-  tc_step (Client (TcRollbackReq tx)) = turn_step (Client (TcRollbackReq tx)) _ refl refl
-  tc_step (Client (TcWaitReq tx)) = turn_step (Client (TcWaitReq tx)) _ refl (step_is tx _)
-  tc_step (Chain (LqhKeyConf tx key answer)) = turn_step (Chain (LqhKeyConf tx key answer)) _ refl (step_is tx _)
-  tc_step (Chain (LqhKeyRef tx key why)) = turn_step (Chain (LqhKeyRef tx key why)) _ refl refl
-  tc_step (Chain (Committed tx key)) = turn_step (Chain (Committed tx key)) _ refl refl
-  tc_step (Chain (Completed tx key)) = turn_step (Chain (Completed tx key)) _ refl refl
-  tc_step (Chain (Aborted tx key)) = turn_step (Chain (Aborted tx key)) _ refl refl
-  tc_step (Epoch (DiVerifyConf tx epoch)) = turn_step (Epoch (DiVerifyConf tx epoch)) _ refl refl
-  tc_step _ = rests refl refl
+      by : PlacedStep s body (tc_table s body) → TcStep s body (tc_table s body)
+      by (idles off is) = rests off is
+      by (lacks name about is) = refuses name about is
+      by (opens name about room is) = begins name about room is
+      by (tells tx ahead about is) = passes tx ahead about is
+      by (lost turns none is) = misses turns none is
+      by (goes turns t at split is) =
+          takes turns t split.front split.back split.is (is ∙ left_is (tx_in body) t at split (turn_row s body t))
