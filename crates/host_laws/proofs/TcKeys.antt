@@ -1,6 +1,6 @@
 -- A coordinator answers each operation that it takes once: what it has unanswered and what it has answered it was asked for.
-use Rattle.std.proofs.Common.{◌≡◌, ℕ, ◌+◌, ◌≤◌, List, [], ◌∷◌, ◌++◌, length, Bool, true, false, refl, ap, sym, ◌∙◌, subst, arith}
-use Rattle.std.specs.Prelude.{◌==◌, ◌&&◌, is_some, Option, None, Some, if◌then◌else◌}
+use Rattle.std.proofs.Common.{◌≡◌, ℕ, ◌+◌, ◌≤◌, List, [], ◌∷◌, ◌++◌, Bool, true, false, refl, ap, sym, subst, arith}
+use Rattle.std.specs.Prelude.{◌==◌, ◌&&◌, is_some, None, if◌then◌else◌}
 use Rattle.indexmap.specs.IndexMap.{insert_entry}
 use Rattle.sig_core.specs.declared.member.TxId.{TxId}
 use Rattle.sig_core.specs.declared.outcome.AbortCause.{AbortCause}

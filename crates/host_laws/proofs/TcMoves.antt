@@ -1,5 +1,5 @@
 -- What each row of a coordinator does to its transactions, and which of its signals report the end of one.
-use Rattle.std.proofs.Common.{◌≡◌, ◌⊎◌, ℕ, suc, ◌+◌, ◌<◌, ◌≤◌, List, [], ◌∷◌, ◌++◌, length, Bool, true, false, cond, refl, ap, sym, ◌∙◌, subst, arith, inl, inr}
+use Rattle.std.proofs.Common.{◌≡◌, ◌⊎◌, ℕ, ◌≤◌, List, [], ◌∷◌, ◌++◌, Bool, true, false, refl, ap, sym, ◌∙◌, subst, arith, inl, inr}
 use Rattle.std.specs.Prelude.{◌==◌, ◌&&◌, ◌||◌, nat_eq, Option, None, if◌then◌else◌}
 use Rattle.std.proofs.lemmas.Bool.{eqb-true, false≢true}
 use Rattle.sig_core.specs.declared.member.TxId.{TxId}
@@ -27,7 +27,7 @@ use Rattle.sig_core.proofs.Keys.{same_tx-self}
 use Rattle.host_laws.proofs.ApiMoves.{ApiMove, api_moves, begun_as, ends, goes, is_api_kind, opens, refuses, rests}
 use Rattle.host_laws.proofs.DihSends.{dih_kinds}
 use Rattle.host_laws.proofs.LqhSends.{lqh_kinds}
-use Rattle.host_laws.proofs.SendKinds.{SendsOnly, are_of, is_dih_kind, is_lqh_kind, is_tc_kind, of_kind}
+use Rattle.host_laws.proofs.SendKinds.{are_of, is_dih_kind, is_lqh_kind, is_tc_kind, of_kind}
 use Rattle.host_laws.specs.Counts.{one_if}
 use Rattle.host_laws.proofs.Wishes.{is_api, sends_of, to_node}
 use Rattle.sig_core.specs.declared.signal.Body.TheVariants.{Client}

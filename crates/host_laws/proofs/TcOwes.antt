@@ -1,6 +1,6 @@
 -- Turn by turn, what a transaction that commits waits for.
 use Rattle.std.proofs.Common.{◌≡◌, ◌⊎◌, ℕ, zero, suc, ◌+◌, ◌-◌, ◌≤◌, ◌<◌, List, [], ◌∷◌, ◌++◌, length, Bool, true, false, refl, ap, sym, ◌∙◌, subst, arith, inl, inr}
-use Rattle.std.specs.Prelude.{◌==◌, ◌&&◌, ◌||◌, nat_lt, is_some, slice_set, Option, None, Some}
+use Rattle.std.specs.Prelude.{◌&&◌, ◌||◌, nat_lt, is_some, slice_set, Option, None, Some}
 use Rattle.std.proofs.lemmas.Bool.Decides.{nat_tests}
 use Rattle.run_theory.proofs.Pasts.{each_append}
 use Rattle.run_theory.specs.Lists.{Each}
@@ -15,7 +15,7 @@ use Rattle.sig_core.specs.Chain.{primary_of}
 use Rattle.sig_core.specs.Op.{key_of}
 use Rattle.tc_block.specs.declared.phase.Asked.{Asked}
 use Rattle.tc_block.specs.declared.phase.Phase.{Phase}
-use Rattle.tc_block.specs.declared.phase.Phase.TheVariants.{Open, Verifying, Committing, Completing, Aborting}
+use Rattle.tc_block.specs.declared.phase.Phase.TheVariants.{Verifying, Committing, Completing, Aborting}
 use Rattle.tc_block.specs.declared.touched.Touched.{Touched}
 use Rattle.tc_block.specs.declared.transaction.Transaction.{Transaction}
 use Rattle.frag_map.specs.Layout.{chain_of}
@@ -31,7 +31,7 @@ use Rattle.sig_core.specs.declared.signal.Body.TheVariants.{Host, Chain}
 use Rattle.sig_core.specs.declared.signal.chain.ChainSignal.TheVariants.{Committed}
 use Rattle.sig_core.specs.declared.signal.host.HostSignal.TheVariants.{Continue}
 use Rattle.sig_core.specs.declared.signal.host.Work.TheVariants as work
-use Rattle.sig_core.specs.Same.{same_key, same_tx}
+use Rattle.sig_core.specs.Same.{same_tx}
 use Rattle.sig_core.specs.Step.{stay}
 use Rattle.tc_block.specs.Phases.{is_committing}
 use Rattle.tc_block.specs.Sends.{entering, phase_sends}
@@ -40,11 +40,14 @@ use Rattle.sig_core.proofs.Keys.{same_tx-self}
 use Rattle.tc_block.proofs.EachTurn.{CommittedForms, IsMissed, TurnFormsAt, is_onward, ready_is}
 use Rattle.host_laws.proofs.LqhOps.{is_good, is_node, left_of, true_and}
 use Rattle.host_laws.specs.Counts.{one_if}
+use Rattle.sig_core.specs.declared.portion.TheConstants.{PORTION}
+use Rattle.tc_block.specs.declared.sends.TheConstants.{SENDS}
+use Rattle.tc_block.specs.declared.touched.TheConstants.{KEYS}
 
 -- what is so of each of a coordinator's transactions
 pub record IsKnown (n : ℕ) (t : Transaction) : Type 0 where
   pub chains : Each (λ (x : Touched). is_chain n x.chain ≡ true) t.touched
-  pub few : length t.touched ≤ 64
+  pub few : length t.touched ≤ KEYS
   pub asked : (a : Asked) → t.asked ≡ Some a → is_chain n a.chain ≡ true
   pub some : (epoch k : ℕ) → t.phase ≡ Committing epoch k → 1 ≤ k
 
@@ -64,17 +67,17 @@ cont_in tx _ = None
 -- what a turn makes of what it waits for: it begins to wait for what it sends, waits on, or goes on to send
 pub data Owes (n : ℕ) (tx : TxId) (t u : Transaction) (sends : List Outgoing) (k came : ℕ) (at : Option ℕ) : Type 0 where
   begins : came ≡ 0 → at ≡ None → k ≡ length u.touched
-      → ((8 < length u.touched) × (8 ≤ sends_of (is_commit n tx) sends) × (1 ≤ sends_of (is_cont tx 8) sends)) ⊎ (length u.touched ≤ sends_of (is_commit n tx) sends) → Owes n tx t u sends k came at
+      → ((PORTION < length u.touched) × (PORTION ≤ sends_of (is_commit n tx) sends) × (1 ≤ sends_of (is_cont tx PORTION) sends)) ⊎ (length u.touched ≤ sends_of (is_commit n tx) sends) → Owes n tx t u sends k came at
   waits : (epoch before : ℕ) → t.phase ≡ Committing epoch before → at ≡ None → k + came ≤ before → u.touched ≡ t.touched → Owes n tx t u sends k came at
   goes_on : (epoch a : ℕ) → at ≡ Some a → came ≡ 0 → t.phase ≡ Committing epoch k → u.touched ≡ t.touched
-      → (512 ≤ a) ⊎ (((a + 8 < length u.touched) × (8 ≤ sends_of (is_commit n tx) sends) × (1 ≤ sends_of (is_cont tx (a + 8)) sends)) ⊎ (length u.touched ≤ a + sends_of (is_commit n tx) sends))
+      → (SENDS ≤ a) ⊎ (((a + PORTION < length u.touched) × (PORTION ≤ sends_of (is_commit n tx) sends) × (1 ≤ sends_of (is_cont tx (a + PORTION)) sends)) ⊎ (length u.touched ≤ a + sends_of (is_commit n tx) sends))
       → Owes n tx t u sends k came at
 
 pub record TurnOwes (n : ℕ) (tx : TxId) (t : Transaction) (turn : Turn) (came : ℕ) (at : Option ℕ) : Type 0 where
   pub known : IsKnown n turn.step.state
   pub owes : (epoch k : ℕ) → turn.over ≡ false → turn.step.state.phase ≡ Committing epoch k → Owes n tx t turn.step.state turn.step.effects.sends k came at
 
-from_start : (l s c : ℕ) → ((8 < l) × (8 ≤ s) × (1 ≤ c)) ⊎ (l ≤ 0 + s) → ((8 < l) × (8 ≤ s) × (1 ≤ c)) ⊎ (l ≤ s)
+from_start : (l s c : ℕ) → ((PORTION < l) × (PORTION ≤ s) × (1 ≤ c)) ⊎ (l ≤ 0 + s) → ((PORTION < l) × (PORTION ≤ s) × (1 ≤ c)) ⊎ (l ≤ s)
 from_start l s c (inl h) = inl h
 from_start l s c (inr h) = inr (omega (arith, h))
 
@@ -96,24 +99,24 @@ primary_chain : (n : ℕ) (chain : List Member) → is_chain n chain ≡ true �
 primary_chain n [] good = cc
 primary_chain n (m ∷ chain) good = true_and (is_node n m.node && true) true (true_and (is_node n m.node) true (left_of (is_node n m.node) (is_good n chain) (left_of (is_good n (m ∷ chain)) _ good)) refl) refl
 
-touch_known : (n : ℕ) (touched : List Touched) (key : List ℕ) (chain : List Member) → is_chain n chain ≡ true → fits touched key ≡ true → length touched ≤ 64 → Each (λ (x : Touched). is_chain n x.chain ≡ true) touched
-    → (Each (λ (x : Touched). is_chain n x.chain ≡ true) (touch touched key chain)) × (length (touch touched key chain) ≤ 64)
+touch_known : (n : ℕ) (touched : List Touched) (key : List ℕ) (chain : List Member) → is_chain n chain ≡ true → fits touched key ≡ true → length touched ≤ KEYS → Each (λ (x : Touched). is_chain n x.chain ≡ true) touched
+    → (Each (λ (x : Touched). is_chain n x.chain ≡ true) (touch touched key chain)) × (length (touch touched key chain) ≤ KEYS)
 touch_known n touched key chain good fit few all = go (place_of touched key) refl
   where
-    go : (o : Option ℕ) → place_of touched key ≡ o → (Each (λ (x : Touched). is_chain n x.chain ≡ true) (touched_by touched key chain o)) × (length (touched_by touched key chain o) ≤ 64)
+    go : (o : Option ℕ) → place_of touched key ≡ o → (Each (λ (x : Touched). is_chain n x.chain ≡ true) (touched_by touched key chain o)) × (length (touched_by touched key chain o) ≤ KEYS)
     go (Some at) e = (all, few)
     go None e =
-        let low : nat_lt (length touched) 64 ≡ true = ap (λ o. is_some o || nat_lt (length touched) 64) (sym e) ∙ fit in
+        let low : nat_lt (length touched) KEYS ≡ true = ap (λ o. is_some o || nat_lt (length touched) KEYS) (sym e) ∙ fit in
         (each_append (λ (x : Touched). is_chain n x.chain ≡ true) touched (unwritten key chain ∷ []) all (primary_chain n chain good, tt), omega (arith, last_length touched (unwritten key chain), under low))
       where
-        under : nat_lt (length touched) 64 ≡ true → length touched < 64
+        under : nat_lt (length touched) KEYS ≡ true → length touched < KEYS
         under q = grind (arith, nat_tests, q)
 
-after_known : (n : ℕ) (a : Answer) (touched : List Touched) (op : Op) (chain : List Member) → is_chain n chain ≡ true → length touched ≤ 64 → Each (λ (x : Touched). is_chain n x.chain ≡ true) touched
-    → (Each (λ (x : Touched). is_chain n x.chain ≡ true) (operate.touched_after a touched op chain)) × (length (operate.touched_after a touched op chain) ≤ 64)
+after_known : (n : ℕ) (a : Answer) (touched : List Touched) (op : Op) (chain : List Member) → is_chain n chain ≡ true → length touched ≤ KEYS → Each (λ (x : Touched). is_chain n x.chain ≡ true) touched
+    → (Each (λ (x : Touched). is_chain n x.chain ≡ true) (operate.touched_after a touched op chain)) × (length (operate.touched_after a touched op chain) ≤ KEYS)
 after_known n answer.Done touched op chain good few all = go (place_of touched (key_of op))
   where
-    go : (o : Option ℕ) → (Each (λ (x : Touched). is_chain n x.chain ≡ true) (written_by touched (key_of op) chain o)) × (length (written_by touched (key_of op) chain o) ≤ 64)
+    go : (o : Option ℕ) → (Each (λ (x : Touched). is_chain n x.chain ≡ true) (written_by touched (key_of op) chain o)) × (length (written_by touched (key_of op) chain o) ≤ KEYS)
     go None = (all, few)
     go (Some at) = (set_each (λ (x : Touched). is_chain n x.chain ≡ true) touched at (written (key_of op) chain) good all, omega (arith, few, set_length touched at (written (key_of op) chain)))
 after_known n (answer.Found value) touched op chain good few all = (all, few)
@@ -198,7 +201,7 @@ module _ (n : ℕ) (tx : TxId) (t : Transaction) (known : IsKnown n t) where
       };
       goes_on = λ at is low. record {
         known = known;
-        owes = λ epoch k going on. goes_on epoch at (onward_is at is) (ap (came_in tx) is) on refl (inr (subst (λ phase. ((at + 8 < length t.touched) × (8 ≤ sends_of (is_commit n tx) (part_effects node tx (phase_sends layout tx phase t.touched) at).sends) × (1 ≤ sends_of (is_cont tx (at + 8)) (part_effects node tx (phase_sends layout tx phase t.touched) at).sends)) ⊎ (length t.touched ≤ at + sends_of (is_commit n tx) (part_effects node tx (phase_sends layout tx phase t.touched) at).sends)) (sym on) (part_law n tx node layout epoch k at t.touched home known.chains)));
+        owes = λ epoch k going on. goes_on epoch at (onward_is at is) (ap (came_in tx) is) on refl (inr (subst (λ phase. ((at + PORTION < length t.touched) × (PORTION ≤ sends_of (is_commit n tx) (part_effects node tx (phase_sends layout tx phase t.touched) at).sends) × (1 ≤ sends_of (is_cont tx (at + PORTION)) (part_effects node tx (phase_sends layout tx phase t.touched) at).sends)) ⊎ (length t.touched ≤ at + sends_of (is_commit n tx) (part_effects node tx (phase_sends layout tx phase t.touched) at).sends)) (sym on) (part_law n tx node layout epoch k at t.touched home known.chains)));
       };
       operates = λ op is can.
           let both = and_parts (operate.is_ready t.phase t.asked) (fits t.touched (key_of op)) can in

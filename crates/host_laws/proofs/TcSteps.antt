@@ -9,7 +9,7 @@ use Rattle.sig_core.specs.declared.member.TxId.{TxId}
 use Rattle.sig_core.specs.declared.signal.Body.{Body}
 use Rattle.sig_core.specs.declared.signal.Body.TheVariants.{Host, Client, Chain, Epoch}
 use Rattle.sig_core.specs.declared.signal.chain.ChainSignal.TheVariants.{LqhKeyReq, LqhKeyConf, LqhKeyRef, Commit, Committed, Complete, Completed, Abort, Aborted}
-use Rattle.sig_core.specs.declared.signal.client.ClientSignal.TheVariants.{TcBeginReq, TcBeginConf, TcBeginRef, TcKeyReq, TcKeyConf, TcCommitReq, TcCommitConf, TcRollbackReq, TcRollbackRep, TcWaitReq, TcWaitConf, LqhWaitReq, LqhWaitConf}
+use Rattle.sig_core.specs.declared.signal.client.ClientSignal.TheVariants.{TcBeginReq, TcBeginConf, TcKeyConf, TcCommitConf, TcRollbackRep, LqhWaitReq}
 use Rattle.sig_core.specs.declared.signal.epoch.EpochSignal.TheVariants.{DiVerifyReq, DiVerifyConf, DiVerifyEnd}
 use Rattle.sig_core.specs.declared.signal.host.HostSignal.TheVariants.{Continue}
 use Rattle.sig_core.specs.declared.signal.host.Work.TheVariants as work
@@ -17,7 +17,7 @@ use Rattle.sig_core.specs.Place.{client}
 use Rattle.sig_core.specs.Same.{same_tx}
 use Rattle.tc_block.specs.declared.transaction.Transaction.{Transaction}
 use Rattle.tc_block.specs.Operate.{fresh}
-use Rattle.tc_block.specs.State.{TcState, with_live}
+use Rattle.tc_block.specs.State.{TcState}
 use Rattle.sig_core.proofs.Keys.{same_tx-self}
 use Rattle.host_laws.proofs.SendKinds.{are_of, of_kind}
 use Rattle.host_laws.specs.Counts.{one_if, tally}
@@ -25,7 +25,7 @@ use Rattle.host_laws.proofs.TcLives.{IsOwn, apart, insert_new, is_keyed}
 use Rattle.host_laws.proofs.TcTurns.{TurnMove, turn_at, turn_moves}
 use Rattle.host_laws.proofs.TurnKinds.{OwnKinds, TurnOnly, own_forms}
 use Rattle.sig_core.specs.Step.{Step}
-use Rattle.tc_block.specs.Tc.{begun, is_full, next_tx, tc_table}
+use Rattle.tc_block.specs.Tc.{next_tx, tc_table}
 use Rattle.tc_block.specs.Turn.{Turn}
 use Rattle.tc_block.proofs.LiveSplit.{AreOthers}
 use Rattle.tc_block.proofs.TurnRows.{TcStep, begins, is_turn, left_in, misses, passes, refuses, rests, takes, tc_step, turn_row, tx_in}

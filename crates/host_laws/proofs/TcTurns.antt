@@ -1,25 +1,23 @@
 -- What a signal makes of a coordinator's transaction, case by case.
 use Rattle.std.proofs.Common.{◌≡◌, ◌⊎◌, ℕ, ◌-◌, ◌≤◌, ◌<◌, List, [], ◌∷◌, length, Bool, true, false, refl, ap, subst, sym, ◌∙◌, arith, inl, inr}
-use Rattle.std.specs.Prelude.{◌==◌, ◌&&◌, nat_lt, Option, None, Some}
+use Rattle.std.specs.Prelude.{None}
 use Rattle.std.proofs.lemmas.Bool.{and_parts, false≢true}
 use Rattle.std.proofs.lemmas.Bool.Decides.{nat_tests}
 use Rattle.sig_core.specs.declared.member.TxId.{TxId}
 use Rattle.sig_core.specs.declared.op.Answer.{Answer}
 use Rattle.sig_core.specs.declared.op.Op.{Op}
 use Rattle.sig_core.specs.declared.outcome.AbortCause.{AbortCause}
-use Rattle.sig_core.specs.declared.outcome.AbortCause.TheVariants as cause
 use Rattle.sig_core.specs.declared.outs.Outgoing.{Outgoing}
 use Rattle.sig_core.specs.declared.signal.Body.{Body}
 use Rattle.sig_core.specs.declared.signal.Body.TheVariants.{Host, Client, Chain, Epoch}
-use Rattle.sig_core.specs.declared.signal.chain.ChainSignal.TheVariants.{LqhKeyConf, LqhKeyRef, Committed, Completed, Aborted}
-use Rattle.sig_core.specs.declared.signal.client.ClientSignal.TheVariants.{TcKeyReq, TcKeyConf, TcCommitReq, TcRollbackReq, TcWaitReq, LqhWaitReq}
+use Rattle.sig_core.specs.declared.signal.chain.ChainSignal.TheVariants.{LqhKeyConf, LqhKeyRef, Committed, Aborted}
+use Rattle.sig_core.specs.declared.signal.client.ClientSignal.TheVariants.{TcKeyReq, TcKeyConf, TcCommitReq, TcRollbackReq, LqhWaitReq}
 use Rattle.sig_core.specs.declared.signal.epoch.EpochSignal.TheVariants.{DiVerifyReq, DiVerifyConf}
 use Rattle.sig_core.specs.declared.signal.host.HostSignal.TheVariants.{Continue}
 use Rattle.sig_core.specs.declared.signal.host.Work.TheVariants as work
 use Rattle.frag_map.specs.Layout.{Layout}
 use Rattle.sig_core.specs.Op.{key_of}
 use Rattle.sig_core.specs.Place.{client, epochs}
-use Rattle.sig_core.specs.Same.{same_key}
 use Rattle.sig_core.specs.Step.{sending, stay, sends_only}
 use Rattle.tc_block.specs.declared.phase.Asked.{Asked}
 use Rattle.tc_block.specs.declared.phase.Phase.{Phase}
@@ -27,11 +25,10 @@ use Rattle.tc_block.specs.declared.phase.Phase.TheVariants.{Open, Verifying, Com
 use Rattle.tc_block.specs.declared.transaction.Transaction.{Transaction}
 use Rattle.tc_block.specs.Abort as abort
 use Rattle.frag_map.specs.Layout.{chain_of}
-use Rattle.tc_block.specs.Commit as commit
 use Rattle.tc_block.specs.Complete as complete
 use Rattle.tc_block.specs.Operate as operate
 use Rattle.tc_block.specs.Part.{part_effects}
-use Rattle.tc_block.specs.Sends.{entering, go_on_if, go_on_row, phase_sends, reported, verify_end, waits_of}
+use Rattle.tc_block.specs.Sends.{entering, phase_sends, reported, verify_end, waits_of}
 use Rattle.tc_block.specs.State.{TcState}
 use Rattle.tc_block.specs.Touched.{fits}
 use Rattle.tc_block.specs.Turn.{Turn, asking, at_phase, ending, going}
@@ -39,6 +36,7 @@ use Rattle.host_laws.proofs.SendKinds.{are_of, of_map}
 use Rattle.tc_block.specs.Phases.{is_aborting, is_committing, is_decided}
 use Rattle.tc_block.proofs.EachTurn.{AbortForms, CommittedForms, IsAnswered, IsMissed, IsRowAnswer, TurnForms, TurnFormsAt, by_conf, by_ref, ready_is, rows_at, rows_of}
 use Rattle.tc_block.proofs.TurnRows.{is_turn, turn_by, turn_row, tx_in}
+use Rattle.tc_block.specs.declared.sends.TheConstants.{SENDS}
 
 -- what holds of each form of turn that the transaction may take at the signal holds of the turn
 pub turn_at : (s : TcState) (tx : TxId) (body : Body) (t : Transaction) (R : Turn → Type 0) → tx_in body ≡ tx
@@ -79,7 +77,7 @@ pub data IsCommitted (t : Transaction) (body : Body) : Type 0 where
 pub data TurnMove (s : TcState) (tx : TxId) (t : Transaction) (body : Body) (turn : Turn) : Type 0 where
   keeps : (sends : List Outgoing) → turn ≡ going (record { state = t; effects = sends_only sends })
       → are_of is_wait_kind sends ≡ true → IsMissed t body → TurnMove s tx t body turn
-  goes_on : (at : ℕ) → body ≡ Host (Continue (work.Transaction tx) at) → at < 512
+  goes_on : (at : ℕ) → body ≡ Host (Continue (work.Transaction tx) at) → at < SENDS
       → turn ≡ going (record { state = t; effects = part_effects s.node tx (phase_sends s.layout tx t.phase t.touched) at })
       → TurnMove s tx t body turn
   asks : (op : Op) → body ≡ Client (TcKeyReq tx op) → t.phase ≡ Open → t.asked ≡ None

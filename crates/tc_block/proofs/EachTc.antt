@@ -1,5 +1,5 @@
 -- What holds of each form of turn of a coordinator's transactions, and of what it does beside them, holds of each of its steps.
-use Rattle.std.proofs.Common.{◌≡◌, ℕ, true, false, sym, ◌∙◌, subst}
+use Rattle.std.proofs.Common.{ℕ, true, false, sym, ◌∙◌, subst}
 use Rattle.std.proofs.lemmas.Bool.{false≢true}
 use Rattle.std.specs.Prelude.{Option}
 use Rattle.sig_core.specs.declared.member.TxId.{TxId}
