@@ -11,7 +11,6 @@ use Rattle.sig_core.specs.declared.place.BlockId.TheVariants as block
 use Rattle.sig_core.specs.declared.place.Place.{Place}
 use Rattle.sig_core.specs.declared.signal.Body.{Body}
 use Rattle.sig_core.specs.Chain.{last_place}
-use Rattle.sig_core.specs.Same.{same_tx}
 use Rattle.sig_core.specs.Step.{Effects}
 use Rattle.tc_block.specs.declared.phase.Phase.TheVariants.{Committing, Verifying}
 use Rattle.tc_block.specs.declared.touched.Touched.{Touched}
@@ -40,7 +39,6 @@ use Rattle.run_laws.specs.Circle.{IsSettled, at_host}
 use Rattle.run_laws.specs.Completions.{IsCommittedAtAll}
 use Rattle.run_laws.specs.GivenUp.{is_carried_out, is_given_up}
 use Rattle.run_laws.specs.Keyed.{IsTouchedRightly, IsWrittenRightly}
-use Rattle.host_laws.specs.Live.{of_live}
 use Rattle.run_laws.specs.Live.{live_at, of_host}
 use Rattle.run_laws.specs.Routes.{IsTouchedRouted, IsTransactionRouted, primary_host}
 use Rattle.run_laws.specs.Transit.{AreInTransit, Comes, Takes, joined, logs_of}
@@ -64,7 +62,8 @@ use Rattle.run_laws.proofs.TcSaid.{tc_silent, tc_speaks}
 use Rattle.run_laws.proofs.TxSignals.{cover, is_part, is_sign, part_tells, part_weight, request_part, sign_part, weight}
 use Rattle.run_laws.proofs.TcOwn.{AreSilent}
 use Rattle.tc_block.proofs.TurnRows.{turn_for}
-use Rattle.run_laws.proofs.TxTurns.{is_for, left_by}
+use Rattle.host_laws.proofs.TcSteps.{left_of_turn}
+use Rattle.run_laws.proofs.TxTurns.{is_for}
 use Rattle.run_laws.proofs.VerifiedSettled.{verified_settled}
 use Rattle.run_laws.proofs.Weighing.{each_joins, in_sends, in_transit, joins_weigh, none_weighs, takes_weigh, weigh_none}
 
@@ -145,7 +144,7 @@ module _ (start : Start) (es : List HostStep) (e : HostStep) (come : Comes start
   module _ (t : Transaction) (step : IsTcStep g e.step.taken (row g e.step.taken)) (was : of_host tx g ≡ Some t)
       (own : is_for tx e.step.taken.body ≡ true)
       (sent : sends ≡ (turn_for (tc_of g).node (tc_of g).layout tx e.step.taken.body t).step.effects.sends)
-      (left : of_host tx (row g e.step.taken).state ≡ left_by (turn_for (tc_of g).node (tc_of g).layout tx e.step.taken.body t)) where
+      (left : of_host tx (row g e.step.taken).state ≡ left_of_turn (turn_for (tc_of g).node (tc_of g).layout tx e.step.taken.body t)) where
     abbrev s : TcState
     s = tc_of g
 
@@ -165,7 +164,7 @@ module _ (start : Start) (es : List HostStep) (e : HostStep) (come : Comes start
     node_is : s.node ≡ tx.tc
     node_is = sym own_is.home
 
-    live_now : live_at start (logs_of start (e ∷ es)) tx ≡ left_by turn_is
+    live_now : live_at start (logs_of start (e ∷ es)) tx ≡ left_of_turn turn_is
     live_now = ap (of_host tx) (here_now start es e come tx same) ∙ left
 
     live_was : live_at start (logs_of start es) tx ≡ Some t
@@ -221,7 +220,7 @@ module _ (start : Start) (es : List HostStep) (e : HostStep) (come : Comes start
       live = subst (IsLiveAhead start (logs_of start (e ∷ es)) later tx) (sym (live_now ∙ left_is)) going;
     }
       where
-        left_is : left_by turn_is ≡ Some (at_phase t (Committing epoch (length t.touched)))
+        left_is : left_of_turn turn_is ≡ Some (at_phase t (Committing epoch (length t.touched)))
         left_is = ap (λ b. if b then None else Some turn_is.step.state) over ∙ ap (λ v. Some v) st
 
         going : IsGoing start (logs_of start (e ∷ es)) later tx t.touched (length t.touched)

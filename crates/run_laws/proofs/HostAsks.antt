@@ -39,7 +39,8 @@ use Rattle.run_laws.proofs.TxSteps.{next_number, number_rises}
 use Rattle.run_laws.proofs.TcAsks.{AreMute, AskTurn, ask, beside_mute, is_ask, is_mute, mute_none, others_mute, turn_asks, unasked_none}
 use Rattle.run_laws.proofs.TcCircle.{GoesOn, turn_going}
 use Rattle.tc_block.proofs.TurnRows.{turn_for}
-use Rattle.run_laws.proofs.TxTurns.{TcTurn, left_by, tc_turn}
+use Rattle.host_laws.proofs.TcSteps.{left_of_turn}
+use Rattle.run_laws.proofs.TxTurns.{TcTurn, tc_turn}
 use Rattle.run_laws.proofs.TxTurns as turn
 use Rattle.run_laws.proofs.TcSaid.{tc_speaks}
 use Rattle.run_laws.proofs.WaysPassed.{api_each}
@@ -114,7 +115,7 @@ module _ (tx : TxId) where
   -- or gives it a turn, or begins it
   pub data HostAsks (s : Host) (x : Signal) (after : Host) (sends : List Outgoing) : Type 0 where
     leaves : Leaves s x.body after sends → HostAsks s x after sends
-    turned : has_tc s ≡ true → (t : Transaction) (turn : Turn) → of_host tx s ≡ Some t → of_host tx after ≡ left_by turn
+    turned : has_tc s ≡ true → (t : Transaction) (turn : Turn) → of_host tx s ≡ Some t → of_host tx after ≡ left_of_turn turn
         → sends ≡ turn.step.effects.sends
         → tc_sends s x ≡ turn.step.effects.sends → (IsUnborn tx after → IsUnborn tx s) → AskTurn tx x.body t turn
         → GoesOn tx x.body t turn → HostAsks s x after sends

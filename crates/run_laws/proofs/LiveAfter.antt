@@ -6,7 +6,7 @@ use Rattle.run_theory.proofs.Pasts.{each_map}
 use Rattle.sig_core.specs.declared.member.TxId.{TxId}
 use Rattle.sig_core.specs.Same.{same_tx}
 use Rattle.tc_block.specs.declared.transaction.Transaction.{Transaction}
-use Rattle.host_laws.specs.Counts.{one_if, tally}
+use Rattle.host_laws.specs.Counts.{tally}
 use Rattle.host_laws.proofs.Tally.{tally_none}
 use Rattle.host_laws.proofs.TcLives.{IsOwn, is_keyed}
 use Rattle.host_laws.proofs.TcMoves.{same_tx-is}

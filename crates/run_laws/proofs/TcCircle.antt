@@ -1,7 +1,7 @@
 -- What a row of a coordinator does to a transaction that is open, or waits for its epoch, then.
 use Rattle.std.proofs.Common.{◌≡◌, ◌⊎◌, ◌++◌, ℕ, List, [], ◌∷◌, Bool, true, false, refl, sym, ap, ◌∙◌, subst, inl, inr}
 use Rattle.std.proofs.lemmas.Bool.{and_parts}
-use Rattle.std.specs.Prelude.{◌==◌, if◌then◌else◌, Option, None, Some}
+use Rattle.std.specs.Prelude.{if◌then◌else◌, None, Some}
 use Rattle.sig_core.specs.declared.member.Member.{Member}
 use Rattle.sig_core.specs.declared.member.TxId.{TxId}
 use Rattle.sig_core.specs.declared.op.Answer.{Answer}
@@ -28,7 +28,8 @@ use Rattle.tc_block.specs.Sends.{entering}
 use Rattle.tc_block.specs.Touched.{fits}
 use Rattle.run_laws.proofs.TcStill.{AreStill, IsStill, turns_still}
 use Rattle.tc_block.proofs.TurnRows.{turn_for}
-use Rattle.run_laws.proofs.TxTurns.{is_for, left_by, turn_each}
+use Rattle.host_laws.proofs.TcSteps.{left_of_turn}
+use Rattle.run_laws.proofs.TxTurns.{is_for, turn_each}
 use Rattle.sig_core.specs.Step.{stay, to_place}
 use Rattle.tc_block.specs.Turn.{Turn, asking, going}
 use Rattle.tc_block.proofs.EachTurn.{AbortForms, CommittedForms, IsMissed, TurnForms, TurnFormsAt, may_ask, ready_is, rows_at}
@@ -61,12 +62,12 @@ pub data Going (tx : TxId) (body : Body) (t u : Transaction) (sends : List Outgo
 
 -- so it is, if the transaction is open or waits for its epoch after the turn
 pub record GoesOn (tx : TxId) (body : Body) (t : Transaction) (turn : Turn) : Type 0 where
-  pub goes : (u : Transaction) → left_by turn ≡ Some u → is_early u.phase ≡ true
+  pub goes : (u : Transaction) → left_of_turn turn ≡ Some u → is_early u.phase ≡ true
       → Going tx body t u turn.step.effects.sends
 
 module _ (tx : TxId) (t : Transaction) where
   -- it is as before
-  rest_goes : (body : Body) (turn : Turn) → left_by turn ≡ Some t → AreStill tx turn.step.effects.sends
+  rest_goes : (body : Body) (turn : Turn) → left_of_turn turn ≡ Some t → AreStill tx turn.step.effects.sends
       → IsDeaf t body → GoesOn tx body t turn
   rest_goes body turn same none deaf = record {
     goes = λ u is early. let both : Some t ≡ Some u = sym same ∙ is in let now : t ≡ u =

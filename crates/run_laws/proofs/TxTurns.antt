@@ -1,7 +1,7 @@
 -- What a step of a coordinator does to one transaction: it takes its turn, begins, or is left alone.
 use Rattle.std.proofs.Common.{◌≡◌, ℕ, ◌≤◌, ◌<◌, [], ◌∷◌, ◌++◌, Bool, true, false, refl, ap, sym, ◌∙◌, subst, arith}
 use Rattle.std.proofs.lemmas.Bool.{and_parts, false≢true}
-use Rattle.std.specs.Prelude.{◌&&◌, Option, None, Some, if◌then◌else◌}
+use Rattle.std.specs.Prelude.{◌&&◌, None, Some, if◌then◌else◌}
 use Rattle.indexmap.specs.IndexMap.{insert_entry}
 use Rattle.run_theory.specs.Lists.{Each}
 use Rattle.run_theory.proofs.Pasts.{each_map}
@@ -27,7 +27,7 @@ use Rattle.host_laws.specs.Live.{of_live}
 use Rattle.host_laws.proofs.OfLive.{of_other}
 use Rattle.host_laws.proofs.Tally.{tally_append, tally_between, tally_none}
 use Rattle.host_laws.proofs.TcLives.{IsOwn, insert_new, is_keyed}
-use Rattle.host_laws.proofs.TcSteps.{live_none}
+use Rattle.host_laws.proofs.TcSteps.{left_of_turn, live_none}
 use Rattle.run_laws.proofs.LiveAfter.{live_end, unborn_none}
 use Rattle.run_laws.proofs.LiveOf.{of_here}
 
@@ -42,10 +42,6 @@ turn_each node layout tx body t R rows is =
     let both = and_parts (is_turn body) (same_tx (tx_in body) tx) is in
     turn_with node layout tx body t R rows (same_tx-is (tx_in body) tx both.1)
     (λ off. absurd (false≢true (sym off ∙ both.0)))
-
--- the transaction after a turn, unless it is over
-abbrev pub left_by : Turn → Option Transaction
-left_by turn = if turn.over then None else Some turn.step.state
 
 -- what is sent where transactions other than this one take a turn is so
 abbrev pub OthersSend : (P : Outgoing → Type 0) → TxId → TcState → Body → Type 0
@@ -63,7 +59,7 @@ pub data TcTurn (P : Outgoing → Type 0) (tx : TxId) (s : TcState) (body : Body
       → TcTurn P tx s body step
   turns : (t : Transaction) → of_live tx s.live ≡ Some t → is_for tx body ≡ true
       → step.effects.sends ≡ (turn_for s.node s.layout tx body t).step.effects.sends
-      → of_live tx step.state.live ≡ left_by (turn_for s.node s.layout tx body t) → TcTurn P tx s body step
+      → of_live tx step.state.live ≡ left_of_turn (turn_for s.node s.layout tx body t) → TcTurn P tx s body step
 
 module _ (P : Outgoing → Type 0) (tx : TxId) (s : TcState) (beside : SendsBeside P s)
     (own : Each (λ (e : TxId × Transaction). IsOwn s.node s.next_seq e.0) s.live)
@@ -149,7 +145,7 @@ module _ (P : Outgoing → Type 0) (tx : TxId) (s : TcState) (beside : SendsBesi
             (ap (λ b. b && same_tx one tx) turn ∙ own)
             (ap (λ v. (turn_for s.node s.layout v body t).step.effects.sends) is)
             (left row.over (live_none tx (front ++ back) rest) own none
-            ∙ ap (λ v. left_by (turn_for s.node s.layout v body t)) is)
+            ∙ ap (λ v. left_of_turn (turn_for s.node s.layout v body t)) is)
 
   pub tc_turn : (body : Body) → OthersSend P tx s body → TcTurn P tx s body (tc_table s body)
   tc_turn body others = by body others (tc_table s body) (tc_step s body)
