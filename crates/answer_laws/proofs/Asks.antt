@@ -12,7 +12,7 @@ use Rattle.sig_core.specs.declared.place.BlockId.TheVariants as block
 use Rattle.sig_core.specs.declared.signal.Body.{Body}
 use Rattle.sig_core.specs.declared.signal.Body.TheVariants.{Client}
 use Rattle.sig_core.specs.declared.signal.Signal.{Signal}
-use Rattle.sig_core.specs.declared.signal.client.ClientSignal.TheVariants.{TcBeginReq, TcKeyReq, TcKeyConf}
+use Rattle.sig_core.specs.declared.signal.client.ClientSignal.TheVariants.{TcKeyReq, TcKeyConf}
 use Rattle.sig_core.specs.declared.view.View.{View}
 use Rattle.sig_core.specs.Step.{Step}
 use Rattle.api_block.specs.declared.opened.OpenTransaction.{OpenTransaction}
@@ -26,7 +26,7 @@ use Rattle.node_core.specs.Dih.{dih_table}
 use Rattle.node_core.specs.Requests.{is_request}
 use Rattle.node_core.specs.Row.{row, shell_row}
 use Rattle.tc_block.specs.State.{TcState}
-use Rattle.tc_block.specs.Tc.{begin_if, begin_row, is_full, tc_table}
+use Rattle.tc_block.specs.Tc.{tc_table}
 use Rattle.world_core.specs.Hosts.{home, hosts}
 use Rattle.world_core.specs.Machine.{after, machine, step_after}
 use Rattle.world_core.specs.Start.{Start}
@@ -47,8 +47,6 @@ use Rattle.host_laws.proofs.Tally.{Counted, counted, none_if, only_one, tally_in
 use Rattle.host_laws.specs.Counts.{one_if, tally}
 use Rattle.host_laws.proofs.TcKeys.{answer_of, answers_in, is_answer, is_asked, is_key, key_of_tx, tc_fair}
 use Rattle.host_laws.proofs.TcMoves.{end_of, is_end}
-use Rattle.tc_block.proofs.TurnRows.{tx_in}
-use Rattle.host_laws.proofs.TcSends.{tc_kinds}
 use Rattle.answer_laws.proofs.Totals.{spread_few}
 use Rattle.host_laws.proofs.Sums.{total_add, total_at, total_le, total_same}
 use Rattle.host_laws.specs.Counts.{total}

@@ -9,8 +9,7 @@ use Rattle.sig_core.specs.declared.member.TxId.{TxId}
 use Rattle.sig_core.specs.declared.outs.Outgoing.{Outgoing}
 use Rattle.sig_core.specs.declared.place.Place.{Place}
 use Rattle.sig_core.specs.declared.signal.Body.{Body}
-use Rattle.sig_core.specs.declared.signal.Body.TheVariants.{Client, Epoch}
-use Rattle.sig_core.specs.declared.signal.client.ClientSignal.TheVariants.{TcBeginReq}
+use Rattle.sig_core.specs.declared.signal.Body.TheVariants.{Epoch}
 use Rattle.sig_core.specs.declared.signal.epoch.EpochSignal.TheVariants.{DiVerifyReq, DiVerifyConf, DiVerifyEnd}
 use Rattle.sig_core.specs.declared.view.View.{View}
 use Rattle.sig_core.specs.Place.{client, coordinator, epochs}
@@ -18,7 +17,7 @@ use Rattle.sig_core.specs.Same.{same_tx}
 use Rattle.sig_core.specs.Step.{Step}
 use Rattle.tc_block.specs.Sends.{verify_end}
 use Rattle.tc_block.specs.State.{TcState}
-use Rattle.tc_block.specs.Tc.{begin_if, begin_row, is_full, tc_table}
+use Rattle.tc_block.specs.Tc.{tc_table}
 use Rattle.world_core.specs.Machine.{after}
 use Rattle.run_laws.proofs.AlongSteps.{is_dih}
 use Rattle.host_laws.proofs.ApiMoves.{ApiMove, begun_as, ends, goes, is_api_kind, opens, refuses, rests}
@@ -27,7 +26,6 @@ use Rattle.answer_laws.proofs.EpochLives.{TurnCounts, asking, ending, gone, unch
 use Rattle.host_laws.proofs.SendKinds.{are_of, is_dih_kind, is_lqh_kind, is_tc_kind, none_of, of_kind}
 use Rattle.host_laws.proofs.Tally.{and_few, none_if, tally_append}
 use Rattle.host_laws.specs.Counts.{one_if}
-use Rattle.host_laws.proofs.TcSends.{tc_kinds}
 use Rattle.tc_block.proofs.TurnRows as turns
 use Rattle.tc_block.proofs.TurnRows.{begins, misses, takes, tc_step, TcStep, turn_row, tx_in}
 use Rattle.host_laws.proofs.TcTurns.{turn_moves}

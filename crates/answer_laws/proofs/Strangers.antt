@@ -1,6 +1,6 @@
 -- Which hosts tell of a transaction: its coordinator alone answers its operations, and the API alone asks for its commit.
 use Rattle.std.proofs.Common.{◌≡◌, ◌≢◌, ℕ, ◌≤◌, ◌<◌, List, [], ◌∷◌, Bool, true, false, refl, ap, sym, ◌∙◌, arith}
-use Rattle.std.specs.Prelude.{◌==◌, not, Option}
+use Rattle.std.specs.Prelude.{◌==◌, not}
 use Rattle.std.proofs.lemmas.Bool.{false≢true}
 use Rattle.lqh_block.specs.Lqh.{lqh_table}
 use Rattle.node_core.proofs.HostCases.{of_effects}
@@ -17,10 +17,10 @@ use Rattle.sig_core.specs.declared.place.Place.{Place}
 use Rattle.sig_core.specs.declared.signal.Body.{Body}
 use Rattle.sig_core.specs.declared.signal.Body.TheVariants.{Client}
 use Rattle.sig_core.specs.declared.signal.Signal.{Signal}
-use Rattle.sig_core.specs.declared.signal.client.ClientSignal.TheVariants.{TcBeginReq, TcKeyConf, TcCommitReq}
+use Rattle.sig_core.specs.declared.signal.client.ClientSignal.TheVariants.{TcKeyConf, TcCommitReq}
 use Rattle.sig_core.specs.Same.{same_tx}
 use Rattle.tc_block.specs.State.{TcState}
-use Rattle.tc_block.specs.Tc.{begin_if, begin_row, is_full, tc_table}
+use Rattle.tc_block.specs.Tc.{tc_table}
 use Rattle.world_core.specs.Hosts.{home, hosts, tc_host}
 use Rattle.world_core.specs.Machine.{after, machine, step_after}
 use Rattle.world_core.specs.Start.{Start}
@@ -38,8 +38,6 @@ use Rattle.host_laws.proofs.LqhSends.{lqh_kinds}
 use Rattle.host_laws.proofs.SendKinds.{are_of, is_dih_kind, is_lqh_kind, is_tc_kind, none_of}
 use Rattle.host_laws.proofs.TcKeys.{answer_of, answers_in, is_answer, is_key, key_of_tx}
 use Rattle.host_laws.proofs.TcLives.{is_start, start_of}
-use Rattle.tc_block.proofs.TurnRows.{tx_in}
-use Rattle.host_laws.proofs.TcSends.{tc_kinds}
 use Rattle.host_laws.proofs.Wishes.{and_false, is_api, is_tc, sends_of, to_node, tc_none}
 
 -- what isn't said of the transaction answers none of its operations

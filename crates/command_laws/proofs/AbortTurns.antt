@@ -18,7 +18,7 @@ use Rattle.tc_block.specs.State.{TcState}
 use Rattle.tc_block.specs.Turn.{Turn}
 use Rattle.host_laws.proofs.SendKinds.{are_of, one_kind}
 use Rattle.host_laws.proofs.PhaseSends.{HasChains, entering_of_kind, rest_of_kind}
-use Rattle.std.specs.Prelude.{◌==◌, ◌||◌, if◌then◌else◌, not, None, Some}
+use Rattle.std.specs.Prelude.{◌||◌, if◌then◌else◌, not, None, Some}
 use Rattle.std.proofs.lemmas.Bool.{false≢true}
 use Rattle.tc_block.specs.Phases.{is_aborting, is_decided}
 use Rattle.tc_block.proofs.EachTurn.{IsMissed, TurnFormsAt, rows_at}

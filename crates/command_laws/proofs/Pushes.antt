@@ -1,6 +1,5 @@
 -- What the shell's host sends to coordinators, and that nodes send nothing of that.
 use Rattle.std.proofs.Common.{◌≡◌, ℕ, suc, Bool, true, false, List, [], ◌∷◌, ◌++◌, refl, sym, ap, ◌∙◌, subst, arith}
-use Rattle.std.specs.Prelude.{Option}
 use Rattle.run_theory.specs.Lists.{Each}
 use Rattle.sig_core.specs.declared.member.TxId.{TxId}
 use Rattle.sig_core.specs.declared.outs.Outgoing.{Outgoing}
@@ -22,7 +21,7 @@ use Rattle.node_core.specs.Dih.{dih_table}
 use Rattle.node_core.specs.Requests.{is_request}
 use Rattle.node_core.specs.Row.{row}
 use Rattle.tc_block.specs.State.{TcState}
-use Rattle.tc_block.specs.Tc.{begin_if, begin_row, is_full, tc_table}
+use Rattle.tc_block.specs.Tc.{tc_table}
 use Rattle.world_core.proofs.HostNumbers.{api_runs}
 use Rattle.world_core.specs.Machine.{after, step_after}
 use Rattle.world_core.specs.Start.{Start}
@@ -32,8 +31,7 @@ use Rattle.host_laws.proofs.DihSends.{dih_kinds}
 use Rattle.host_laws.proofs.LqhOps.{left_of}
 use Rattle.host_laws.proofs.LqhSends.{lqh_kinds}
 use Rattle.host_laws.proofs.SendKinds.{are_of, is_dih_kind, is_lqh_kind, is_tc_kind, none_of, of_kind}
-use Rattle.tc_block.proofs.TurnRows.{tx_in}
-use Rattle.host_laws.proofs.TcSends.{tc_kinds, tc_only}
+use Rattle.host_laws.proofs.TcSends.{tc_only}
 use Rattle.host_laws.proofs.Wishes.{is_tc, sends_of}
 use Rattle.host_laws.specs.OpenedAfter.{opened_in}
 use Rattle.command_laws.proofs.ApiChanges.{ApiChange, answers, api_changes, commits, ends, is_news_kind, refuses, rests, starts, waits}
