@@ -68,7 +68,8 @@ module _ (n : ℕ) (tx : TxId) where
 
   pub record StepOwes (s after : TcState) (sends : List Outgoing) (came : ℕ) (at : Option ℕ) : Type 0 where
     pub known : Each (λ (e : TxId × Transaction). IsKnown n e.1) after.live
-    pub owes : (u : Transaction) (epoch k : ℕ) → IsIn (tx, u) after.live → u.phase ≡ Committing epoch k → OwesOf s u sends k came at
+    pub owes : (u : Transaction) (epoch k : ℕ) → IsIn (tx, u) after.live → u.phase ≡ Committing epoch k
+        → OwesOf s u sends k came at
 
   -- nothing came for it at no turn, or one of another transaction
   no_turn : (body : Body) → is_turn body ≡ false → (came_in tx body ≡ 0) × (cont_in tx body ≡ None)
@@ -81,8 +82,10 @@ module _ (n : ℕ) (tx : TxId) where
   other_turn (Chain (Committed one key)) differs = (ap one_if differs, refl)
   other_turn _ differs = (refl, refl)
 
-  module _ (s : TcState) (body : Body) (known : Each (λ (e : TxId × Transaction). IsKnown n e.1) s.live) (once : tally (is_keyed tx) s.live ≤ 1)
-      (own : Each (λ (e : TxId × Transaction). IsOwn s.node s.next_seq e.0) s.live) (good : (key : List ℕ) → is_chain n (chain_of s.layout key) ≡ true) where
+  module _ (s : TcState) (body : Body) (known : Each (λ (e : TxId × Transaction). IsKnown n e.1) s.live)
+      (once : tally (is_keyed tx) s.live ≤ 1)
+      (own : Each (λ (e : TxId × Transaction). IsOwn s.node s.next_seq e.0) s.live)
+          (good : (key : List ℕ) → is_chain n (chain_of s.layout key) ≡ true) where
     abbrev Steps : Step TcState → Type 0
     Steps step = StepOwes s step.state step.effects.sends (came_in tx body) (cont_in tx body)
 
@@ -90,13 +93,16 @@ module _ (n : ℕ) (tx : TxId) where
     IsStill = (came_in tx body ≡ 0) × (cont_in tx body ≡ None)
 
     -- one that took no turn
-    others : (sends : List Outgoing) (u : Transaction) (epoch k : ℕ) → IsStill → IsIn (tx, u) s.live → u.phase ≡ Committing epoch k
+    others : (sends : List Outgoing) (u : Transaction) (epoch k : ℕ) → IsStill → IsIn (tx, u) s.live
+        → u.phase ≡ Committing epoch k
         → OwesOf s u sends k (came_in tx body) (cont_in tx body)
-    others sends u epoch k none i is = record { before = u; inside = i; owes = waits epoch k is none.1 (omega (arith, none.0)) refl }
+    others sends u epoch k none i is =
+        record { before = u; inside = i; owes = waits epoch k is none.1 (omega (arith, none.0)) refl }
 
     idle : (step other : Step TcState) → step ≡ other → other.state ≡ s → IsStill → Steps step
     idle step other is same none =
-        let live_is : step.state.live ≡ s.live = ap (λ (x : Step TcState). x.state.live) is ∙ ap (λ (x : TcState). x.live) same in
+        let live_is : step.state.live ≡ s.live = ap (λ (x : Step TcState). x.state.live) is
+            ∙ ap (λ (x : TcState). x.live) same in
         record {
           known = subst (Each (λ (e : TxId × Transaction). IsKnown n e.1)) (sym live_is) known;
           owes = λ u epoch k i on. others step.effects.sends u epoch k none (subst (IsIn (tx, u)) live_is i) on;
@@ -107,37 +113,48 @@ module _ (n : ℕ) (tx : TxId) where
     by step (refuses name about is) = idle step _ is refl (no_turn body (ap is_turn about))
     by step (passes one ahead about is) = idle step _ is refl (no_turn body (ap is_turn about))
     by step (misses turns none is) =
-        subst Steps (sym is) (record { known = known; owes = λ u epoch k i on. which (same_tx (tx_in body) tx) refl u epoch k i on })
+        subst Steps (sym is)
+            (record { known = known; owes = λ u epoch k i on. which (same_tx (tx_in body) tx) refl u epoch k i on })
       where
-        which : (m : Bool) → same_tx (tx_in body) tx ≡ m → (u : Transaction) (epoch k : ℕ) → IsIn (tx, u) s.live → u.phase ≡ Committing epoch k
+        which : (m : Bool) → same_tx (tx_in body) tx ≡ m → (u : Transaction) (epoch k : ℕ) → IsIn (tx, u) s.live
+            → u.phase ≡ Committing epoch k
             → OwesOf s u [] k (came_in tx body) (cont_in tx body)
         which false differs u epoch k i on = others [] u epoch k (other_turn body differs) i on
         which true same u epoch k i on =
-            let away = tally_none (is_keyed tx) s.live (subst (λ x. AreOthers x s.live) (same_tx-is (tx_in body) tx same) none) in
+            let away = tally_none (is_keyed tx) s.live
+                (subst (λ x. AreOthers x s.live) (same_tx-is (tx_in body) tx same) none) in
             absurd (omega (arith, tally_in (is_keyed tx) (tx, u) s.live i (same_tx-self tx), away))
     by step (begins name about room is) =
         subst Steps (sym is)
         (record {
-          known = subst (Each (λ (z : TxId × Transaction). IsKnown n z.1)) (sym last) (each_append (λ (z : TxId × Transaction). IsKnown n z.1) s.live ((next_tx s, fresh) ∷ []) known (fresh_known, tt));
-          owes = λ u epoch k i on. which u epoch k on (in_behind (tx, u) (next_tx s, fresh) s.live (subst (IsIn (tx, u)) last i));
+          known = subst (Each (λ (z : TxId × Transaction). IsKnown n z.1)) (sym last)
+              (each_append (λ (z : TxId × Transaction). IsKnown n z.1) s.live ((next_tx s, fresh) ∷ []) known
+              (fresh_known, tt));
+          owes = λ u epoch k i on. which u epoch k on
+              (in_behind (tx, u) (next_tx s, fresh) s.live (subst (IsIn (tx, u)) last i));
         })
       where
         last : insert_entry same_tx s.live (next_tx s) fresh ≡ s.live ++ (next_tx s, fresh) ∷ []
-        last = insert_new s.live (next_tx s) fresh (each_map (λ (x : TxId × Transaction). IsOwn s.node s.next_seq x.0) (λ (x : TxId × Transaction). x.0.seq < s.next_seq) s.live (λ x o. o.early) own)
+        last = insert_new s.live (next_tx s) fresh
+            (each_map (λ (x : TxId × Transaction). IsOwn s.node s.next_seq x.0)
+            (λ (x : TxId × Transaction). x.0.seq < s.next_seq) s.live (λ x o. o.early) own)
 
         open_phase : (epoch k : ℕ) → Open ≡ Committing epoch k → ⊥
         open_phase epoch k is = cc
 
         fresh_known : IsKnown n fresh
-        fresh_known = record { chains = tt; few = omega arith; asked = λ a e. absurd (no_some a e); some = λ epoch k is. absurd (open_phase epoch k is) }
+        fresh_known = record { chains = tt; few = omega arith; asked = λ a e. absurd (no_some a e); some =
+            λ epoch k is. absurd (open_phase epoch k is) }
           where
             no_some : (a : Asked) → None ≡ Some a → ⊥
             no_some a e = cc
 
-        which : (u : Transaction) (epoch k : ℕ) → u.phase ≡ Committing epoch k → IsIn (tx, u) s.live ⊎ (◌≡◌ {A = TxId × Transaction} (tx, u) (next_tx s, fresh))
+        which : (u : Transaction) (epoch k : ℕ) → u.phase ≡ Committing epoch k
+            → IsIn (tx, u) s.live ⊎ (◌≡◌ {A = TxId × Transaction} (tx, u) (next_tx s, fresh))
             → OwesOf s u (begin_if s name false).effects.sends k (came_in tx body) (cont_in tx body)
         which u epoch k on (inl i) = others _ u epoch k (no_turn body (ap is_turn about)) i on
-        which u epoch k on (inr same) = absurd (open_phase epoch k (ap (λ (z : TxId × Transaction). z.1.phase) (sym same) ∙ on))
+        which u epoch k on (inr same) =
+            absurd (open_phase epoch k (ap (λ (z : TxId × Transaction). z.1.phase) (sym same) ∙ on))
     by step (takes turns t front back was is) = subst Steps (sym is) (over turn.over refl)
       where
         one : TxId
@@ -150,16 +167,19 @@ module _ (n : ℕ) (tx : TxId) where
         known_was = each_at (λ (e : TxId × Transaction). IsKnown n e.1) front (one, t) back s.live was known
 
         home : s.node ≡ one.tc
-        home = sym (each_at (λ (e : TxId × Transaction). IsOwn s.node s.next_seq e.0) front (one, t) back s.live was own).home
+        home = sym (each_at (λ (e : TxId × Transaction). IsOwn s.node s.next_seq e.0) front
+            (one, t) back s.live was own).home
 
         owing : TurnOwes n one t turn (came_in one body) (cont_in one body)
         owing =
             turn_by s t (Owing n one t known_was body) body
-            (rows_at s.node s.layout one t body (Owing n one t known_was body) (owes_forms n one t known_was body s.node s.layout home good))
+            (rows_at s.node s.layout one t body (Owing n one t known_was body)
+                (owes_forms n one t known_was body s.node s.layout home good))
             (λ off. absurd (false≢true (sym off ∙ turns)))
 
         -- no two are of one number
-        rest : (u : Transaction) (epoch k : ℕ) (m : Bool) → same_tx one tx ≡ m → IsIn (tx, u) (front ++ back) → u.phase ≡ Committing epoch k
+        rest : (u : Transaction) (epoch k : ℕ) (m : Bool) → same_tx one tx ≡ m → IsIn (tx, u) (front ++ back)
+            → u.phase ≡ Committing epoch k
             → OwesOf s u turn.step.effects.sends k (came_in tx body) (cont_in tx body)
         rest u epoch k true same i on =
             absurd (omega (
@@ -170,10 +190,13 @@ module _ (n : ℕ) (tx : TxId) where
               ap one_if same,
             ))
         rest u epoch k false differs i on =
-            others _ u epoch k (other_turn body differs) (subst (IsIn (tx, u)) (sym was) (in_more (tx, u) (one, t) front back i)) on
+            others _ u epoch k (other_turn body differs)
+                (subst (IsIn (tx, u)) (sym was) (in_more (tx, u) (one, t) front back i)) on
 
         after : Bool → Step TcState
-        after b = record { state = with_live s (if b then front ++ back else front ++ (one, turn.step.state) ∷ back); effects = turn.step.effects }
+        after b = record { state =
+            with_live s (if b then front ++ back else front ++ (one, turn.step.state) ∷ back); effects =
+            turn.step.effects }
 
         over : (b : Bool) → turn.over ≡ b → Steps (after b)
         over true e = record {
@@ -181,21 +204,26 @@ module _ (n : ℕ) (tx : TxId) where
           owes = λ u epoch k i on. rest u epoch k (same_tx one tx) refl i on;
         }
         over false e = record {
-          known = each_changed (λ (z : TxId × Transaction). IsKnown n z.1) front (one, t) (one, turn.step.state) back s.live was known (λ r. owing.known);
+          known = each_changed (λ (z : TxId × Transaction). IsKnown n z.1) front (one, t)
+              (one, turn.step.state) back s.live was known (λ r. owing.known);
           owes = λ u epoch k i on. which u epoch k on (in_split (tx, u) (one, turn.step.state) front back i);
         }
           where
-            which : (u : Transaction) (epoch k : ℕ) → u.phase ≡ Committing epoch k → IsIn (tx, u) (front ++ back) ⊎ (◌≡◌ {A = TxId × Transaction} (tx, u) (one, turn.step.state))
+            which : (u : Transaction) (epoch k : ℕ) → u.phase ≡ Committing epoch k
+                → IsIn (tx, u) (front ++ back) ⊎ (◌≡◌ {A = TxId × Transaction} (tx, u) (one, turn.step.state))
                 → OwesOf s u turn.step.effects.sends k (came_in tx body) (cont_in tx body)
             which u epoch k on (inl i) = rest u epoch k (same_tx one tx) refl i on
             which u epoch k on (inr same) =
                 let is_one : tx ≡ one = ap (λ (z : TxId × Transaction). z.0) same in
                 let value_is : u ≡ turn.step.state = ap (λ (z : TxId × Transaction). z.1) same in
-                let mine : TurnOwes n tx t turn (came_in tx body) (cont_in tx body) = subst (λ x. TurnOwes n x t turn (came_in x body) (cont_in x body)) (sym is_one) owing in
+                let mine : TurnOwes n tx t turn (came_in tx body) (cont_in tx body) =
+                    subst (λ x. TurnOwes n x t turn (came_in x body) (cont_in x body)) (sym is_one) owing in
                 record {
                   before = t;
-                  inside = subst (IsIn (tx, t)) (sym was) (subst (λ x. IsIn (tx, t) (front ++ (x, t) ∷ back)) is_one (in_middle front (tx, t) back));
-                  owes = subst (λ v. Owes n tx t v turn.step.effects.sends k (came_in tx body) (cont_in tx body)) (sym value_is)
+                  inside = subst (IsIn (tx, t)) (sym was)
+                      (subst (λ x. IsIn (tx, t) (front ++ (x, t) ∷ back)) is_one (in_middle front (tx, t) back));
+                  owes = subst (λ v. Owes n tx t v turn.step.effects.sends k (came_in tx body) (cont_in tx body))
+                      (sym value_is)
                       (mine.owes epoch k e (ap (λ (v : Transaction). v.phase) (sym value_is) ∙ on));
                 }
 

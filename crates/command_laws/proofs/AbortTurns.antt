@@ -1,4 +1,5 @@
--- A transaction that is open with no operation unanswered, and that is asked for neither one nor a commit, stays so until it is
+-- A transaction that is open with no operation unanswered, and that is asked for neither one nor a commit, stays so
+-- until it is
 -- aborted at the client's request.
 use Rattle.std.proofs.Common.{◌≡◌, ℕ, Bool, true, false, refl, sym, ap, ◌∙◌}
 use Rattle.sig_core.specs.declared.member.TxId.{TxId}
@@ -58,7 +59,8 @@ pub record StaysLoose (asked : Bool) (turn : Turn) : Type 0 where
   pub sends : are_of is_mild turn.step.effects.sends ≡ true
 
 chains : (tx : TxId) → HasChains tx is_mild
-chains tx = record { commits = λ key epoch chain at. refl; completes = λ key chain at. refl; aborts = λ key. refl; goes_on = λ at. refl }
+chains tx = record { commits = λ key epoch chain at. refl; completes = λ key chain at. refl; aborts =
+    λ key. refl; goes_on = λ at. refl }
 
 fronts : (c : Bool) (tx : TxId) (phase : Phase) → is_loose c phase ≡ true → are_of is_mild (front_sends tx phase) ≡ true
 unfolding front_sends
@@ -90,23 +92,28 @@ module _ (c : Bool) (node : ℕ) (layout : Layout) (tx : TxId) (t : Transaction)
   still_loose false late = fine
   still_loose true late = by t.phase refl (late refl)
     where
-      by : (phase : Phase) → t.phase ≡ phase → (is_decided phase || is_aborting phase) ≡ true → is_loose true t.phase ≡ true
+      by : (phase : Phase) → t.phase ≡ phase → (is_decided phase || is_aborting phase) ≡ true
+          → is_loose true t.phase ≡ true
       by Open is e = absurd cc
       by Verifying is e = absurd cc
       by (Committing epoch awaited) is e = absurd (not_at (Committing epoch awaited) is refl)
       by (Completing epoch awaited) is e = absurd (not_at (Completing epoch awaited) is refl)
       by (Aborting why verifying awaited) is e = ap (is_loose true) is ∙ (ap (is_loose c) (sym is) ∙ fine)
 
-  roll_missed : (body : Body) → IsMissed t body → is_roll body ≡ true → (is_decided t.phase || is_aborting t.phase) ≡ true
+  roll_missed : (body : Body) → IsMissed t body → is_roll body ≡ true
+      → (is_decided t.phase || is_aborting t.phase) ≡ true
   roll_missed (Client (TcRollbackReq one)) missed e = missed
   roll_missed _ missed e = absurd cc
 
-  loose_forms : (body : Body) → is_more body ≡ false → TurnFormsAt node layout tx t body (StaysLoose (if is_roll body then true else c))
+  loose_forms : (body : Body) → is_more body ≡ false
+      → TurnFormsAt node layout tx t body (StaysLoose (if is_roll body then true else c))
   unfolding entering
   loose_forms body plain = record {
-    stays = λ other missed. record { phase = λ on. still_loose (is_roll body) (roll_missed body missed); none = none; sends = refl };
+    stays = λ other missed. record { phase = λ on. still_loose (is_roll body) (roll_missed body missed); none =
+        none; sends = refl };
     stops = λ at is high. record { phase = λ on. unrolled is refl; none = none; sends = refl };
-    goes_on = λ at is low. record { phase = λ on. unrolled is refl; none = none; sends = rest_of_kind is_mild layout tx (chains tx) node t at (fronts c tx t.phase fine) };
+    goes_on = λ at is low. record { phase = λ on. unrolled is refl; none = none; sends =
+        rest_of_kind is_mild layout tx (chains tx) node t at (fronts c tx t.phase fine) };
     operates = λ op is can. absurd (not_of is_more body (Client (TcKeyReq tx op)) plain is refl);
     answers = λ key answer asked is own at. absurd (not_asked asked own.is);
     late = λ key asked why verifying awaited is own at. absurd (not_asked asked own.is);

@@ -50,7 +50,8 @@ back_of tx _ = false
 abbrev pub is_back : TxId → Place → Body → Bool
 is_back tx to body = back_of tx body
 
-pub each_inserted_value : (P : TxId × Transaction → Type 0) (live : List (TxId × Transaction)) (tx : TxId) (t : Transaction)
+pub each_inserted_value : (P : TxId × Transaction → Type 0) (live : List (TxId × Transaction)) (tx : TxId)
+    (t : Transaction)
     → ((key : TxId) → P (key, t)) → Each P live → Each P (insert_entry same_tx live tx t)
 each_inserted_value P [] tx t own all = (own tx, tt)
 each_inserted_value P (e ∷ live) tx t own all = by (same_tx tx e.0) (each_inserted_value P live tx t own all.1)
@@ -99,19 +100,22 @@ module _ (tx : TxId) where
 
     turn_firm : (step : Step TcState) (t : Transaction) (front back : List (TxId × Transaction))
         → s.live ≡ front ++ (tx_in body, t) ∷ back
-        → step ≡ record { state = with_live s (left_in (tx_in body) front back (turn_row s body t)); effects = (turn_row s body t).step.effects }
+        → step ≡ record { state = with_live s (left_in (tx_in body) front back (turn_row s body t)); effects =
+            (turn_row s body t).step.effects }
         → sends_of (is_back tx) (turn_row s body t).step.effects.sends ≡ 0
         → IsFirmFor (tx_in body, (turn_row s body t).step.state)
         → KeepsFirm step.state.live step.effects.sends
     turn_firm step t front back was is quiet stays = record {
-      firm = subst (λ (x : Step TcState). AllFirm x.state.live) (sym is) (after_turn t front back was stays (turn_row s body t).over);
+      firm = subst (λ (x : Step TcState). AllFirm x.state.live) (sym is)
+          (after_turn t front back was stays (turn_row s body t).over);
       silent = ap (λ (x : Step TcState). sends_of (is_back tx) x.effects.sends) is ∙ quiet;
     }
 
     idle : (step other : Step TcState) → step ≡ other → other.state ≡ s → sends_of (is_back tx) other.effects.sends ≡ 0
         → KeepsFirm step.state.live step.effects.sends
     idle step other is same quiet = record {
-      firm = subst (λ (x : Step TcState). AllFirm x.state.live) (sym is) (subst (λ (x : TcState). AllFirm x.live) (sym same) firm);
+      firm = subst (λ (x : Step TcState). AllFirm x.state.live) (sym is)
+          (subst (λ (x : TcState). AllFirm x.live) (sym same) firm);
       silent = ap (λ (x : Step TcState). sends_of (is_back tx) x.effects.sends) is ∙ quiet;
     }
 
@@ -121,20 +125,23 @@ module _ (tx : TxId) where
     step_firm step (passes one ahead about is) = idle step _ is refl refl
     step_firm step (misses about none is) = idle step _ is refl refl
     step_firm step (begins name about room is) = record {
-      firm = subst (λ (x : Step TcState). AllFirm x.state.live) (sym is) (each_inserted_value _ s.live _ fresh (λ key same. refl) firm);
+      firm = subst (λ (x : Step TcState). AllFirm x.state.live) (sym is)
+          (each_inserted_value _ s.live _ fresh (λ key same. refl) firm);
       silent = ap (λ (x : Step TcState). sends_of (is_back tx) x.effects.sends) is;
     }
     step_firm step (takes about t front back was is) = by (same_tx (tx_in body) tx) refl
       where
         by : (b : Bool) → same_tx (tx_in body) tx ≡ b → KeepsFirm step.state.live step.effects.sends
         by true same =
-            let stays = firm_turn s (tx_in body) body t refl (not_push body plain same) (each_at IsFirmFor front (tx_in body, t) back s.live was firm same) in
+            let stays = firm_turn s (tx_in body) body t refl (not_push body plain same)
+                (each_at IsFirmFor front (tx_in body, t) back s.live was firm same) in
             turn_firm step t front back was is
             (none_of is_no_abort (is_back tx) no_back_firm (turn_row s body t).step.effects.sends stays.sends)
             (λ own. stays.firm)
         by false differs =
             turn_firm step t front back was is
-            (none_of (is_said (tx_in body)) (is_back tx) (no_back_other (tx_in body) differs) (turn_row s body t).step.effects.sends (turn_said s body t))
+            (none_of (is_said (tx_in body)) (is_back tx) (no_back_other (tx_in body) differs)
+                (turn_row s body t).step.effects.sends (turn_said s body t))
             (λ own. absurd (let both : false ≡ true = sym differs ∙ own in cc))
 
   abbrev pub FirmHost : Host → Type 0

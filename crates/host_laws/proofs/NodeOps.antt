@@ -47,7 +47,8 @@ module _ (n : ℕ) (tx : TxId) (key : List ℕ) where
 
   pub record StepAsks (s after : TcState) (sends : List Outgoing) (came : ℕ) : Type 0 where
     pub right : AreRight after.live
-    pub asks : 1 ≤ tally is_asking after.live → ((1 ≤ tally is_asking s.live) × (came ≡ 0)) ⊎ (came + 1 ≤ ops n tx key sends)
+    pub asks : 1 ≤ tally is_asking after.live
+        → ((1 ≤ tally is_asking s.live) × (came ≡ 0)) ⊎ (came + 1 ≤ ops n tx key sends)
 
   -- an answer came only at a turn, of the transaction
   turned_came : (body : Body) → is_turn body ≡ false → answers_of tx key body ≡ 0
@@ -61,12 +62,14 @@ module _ (n : ℕ) (tx : TxId) (key : List ℕ) where
   others_came _ differs = refl
 
   module _ (s : TcState) (body : Body) (right : AreRight s.live) (once : tally (is_keyed tx) s.live ≤ 1)
-      (own : Each (λ (e : TxId × Transaction). IsOwn s.node s.next_seq e.0) s.live) (good : IsGoodLayout n s.layout) where
+      (own : Each (λ (e : TxId × Transaction). IsOwn s.node s.next_seq e.0) s.live)
+          (good : IsGoodLayout n s.layout) where
     abbrev Steps : Step TcState → Type 0
     Steps step = StepAsks s step.state step.effects.sends (answers_of tx key body)
 
     abbrev Told : List Outgoing → Type 0
-    Told sends = ((1 ≤ tally is_asking s.live) × (answers_of tx key body ≡ 0)) ⊎ (answers_of tx key body + 1 ≤ ops n tx key sends)
+    Told sends = ((1 ≤ tally is_asking s.live) × (answers_of tx key body ≡ 0))
+        ⊎ (answers_of tx key body + 1 ≤ ops n tx key sends)
 
     idle : (step other : Step TcState) → step ≡ other → other.state ≡ s → answers_of tx key body ≡ 0 → Steps step
     idle step other is same none = record {
@@ -81,7 +84,8 @@ module _ (n : ℕ) (tx : TxId) (key : List ℕ) where
     by step (rests off is) = idle step _ is refl (turned_came body off)
     by step (refuses name about is) = idle step _ is refl (ap (answers_of tx key) about)
     by step (passes one ahead about is) = idle step _ is refl (ap (answers_of tx key) about)
-    by step (misses turns others is) = subst Steps (sym is) (record { right = right; asks = λ some. which some (same_tx one tx) refl })
+    by step (misses turns others is) =
+        subst Steps (sym is) (record { right = right; asks = λ some. which some (same_tx one tx) refl })
       where
         one : TxId
         one = tx_in body
@@ -94,12 +98,18 @@ module _ (n : ℕ) (tx : TxId) (key : List ℕ) where
     by step (begins name about room is) =
         subst Steps (sym is)
         (record {
-          right = subst AreRight (sym last) (each_append (λ (e : TxId × Transaction). is_right e.1.asked e.1.phase ≡ true) s.live ((next_tx s, fresh) ∷ []) right (refl, tt));
-          asks = λ some. inl (omega (arith, some, ap (tally is_asking) last, tally_append is_asking s.live ((next_tx s, fresh) ∷ []), none (same_tx (next_tx s) tx)), ap (answers_of tx key) about);
+          right = subst AreRight (sym last)
+              (each_append (λ (e : TxId × Transaction). is_right e.1.asked e.1.phase ≡ true) s.live
+              ((next_tx s, fresh) ∷ []) right (refl, tt));
+          asks = λ some. inl (omega
+              (arith, some, ap (tally is_asking) last, tally_append is_asking s.live ((next_tx s, fresh) ∷ []),
+              none (same_tx (next_tx s) tx)), ap (answers_of tx key) about);
         })
       where
         last : insert_entry same_tx s.live (next_tx s) fresh ≡ s.live ++ (next_tx s, fresh) ∷ []
-        last = insert_new s.live (next_tx s) fresh (each_map (λ (x : TxId × Transaction). IsOwn s.node s.next_seq x.0) (λ (x : TxId × Transaction). x.0.seq < s.next_seq) s.live (λ x o. o.early) own)
+        last = insert_new s.live (next_tx s) fresh
+            (each_map (λ (x : TxId × Transaction). IsOwn s.node s.next_seq x.0)
+            (λ (x : TxId × Transaction). x.0.seq < s.next_seq) s.live (λ x o. o.early) own)
 
         none : (b : Bool) → one_if (b && false) ≡ 0
         none true = refl
@@ -113,12 +123,14 @@ module _ (n : ℕ) (tx : TxId) (key : List ℕ) where
         turn = turn_row s body t
 
         right_was : is_right t.asked t.phase ≡ true
-        right_was = each_at (λ (e : TxId × Transaction). is_right e.1.asked e.1.phase ≡ true) front (one, t) back s.live was right
+        right_was = each_at (λ (e : TxId × Transaction). is_right e.1.asked e.1.phase ≡ true) front
+            (one, t) back s.live was right
 
         turned : TurnAsks n one key t turn (answers_of one key body)
         turned =
             turn_by s t (Asks n one key t right_was body) body
-            (rows_at s.node s.layout one t body (Asks n one key t right_was body) (asks_forms n one key t right_was body s.node s.layout good))
+            (rows_at s.node s.layout one t body (Asks n one key t right_was body)
+                (asks_forms n one key t right_was body s.node s.layout good))
             (λ off. record { right = right_was; asks = λ e. inl (e, turned_none body off) })
           where
             turned_none : (b : Body) → is_turn b ≡ false → answers_of one key b ≡ 0
@@ -149,23 +161,31 @@ module _ (n : ℕ) (tx : TxId) (key : List ℕ) where
             mine : TurnAsks n tx key t turn (answers_of tx key body)
             mine = subst (λ x. TurnAsks n x key t turn (answers_of x key body)) one_tx turned
 
-            which : ((asks_key key t.asked ≡ true) × (answers_of tx key body ≡ 0)) ⊎ (answers_of tx key body + 1 ≤ ops n tx key turn.step.effects.sends)
+            which : ((asks_key key t.asked ≡ true) × (answers_of tx key body ≡ 0))
+                ⊎ (answers_of tx key body + 1 ≤ ops n tx key turn.step.effects.sends)
                 → Told turn.step.effects.sends
-            which (inl asked) = inl (omega (arith, had, ap (λ b. one_if (b && asks_key key t.asked)) same, ap one_if asked.0), asked.1)
+            which (inl asked) = inl
+                (omega (arith, had, ap (λ b. one_if (b && asks_key key t.asked)) same, ap one_if asked.0), asked.1)
             which (inr sent) = inr sent
 
         after : Bool → Step TcState
-        after b = record { state = with_live s (if b then front ++ back else front ++ (one, turn.step.state) ∷ back); effects = turn.step.effects }
+        after b = record { state =
+            with_live s (if b then front ++ back else front ++ (one, turn.step.state) ∷ back); effects =
+            turn.step.effects }
 
         over : (b : Bool) → turn.over ≡ b → Steps (after b)
         over true e = record {
-          right = each_less (λ (x : TxId × Transaction). is_right x.1.asked x.1.phase ≡ true) front (one, t) back s.live was right;
+          right = each_less (λ (x : TxId × Transaction). is_right x.1.asked x.1.phase ≡ true) front
+              (one, t) back s.live was right;
           asks = rest (same_tx one tx) refl;
         }
         over false e = record {
-          right = each_changed (λ (x : TxId × Transaction). is_right x.1.asked x.1.phase ≡ true) front (one, t) (one, turn.step.state) back s.live was right (λ r. turned.right);
+          right = each_changed (λ (x : TxId × Transaction). is_right x.1.asked x.1.phase ≡ true) front (one, t)
+              (one, turn.step.state) back s.live was right (λ r. turned.right);
           asks = λ some. left (same_tx one tx) refl (asks_key key turn.step.state.asked) refl
-              (omega (arith, some, tally_between is_asking front (one, turn.step.state) back (front ++ (one, turn.step.state) ∷ back) refl));
+              (omega (arith, some,
+                  tally_between is_asking front (one, turn.step.state) back
+                  (front ++ (one, turn.step.state) ∷ back) refl));
         }
 
     pub tc_steps : StepAsks s (tc_table s body).state (tc_table s body).effects.sends (answers_of tx key body)

@@ -19,7 +19,8 @@ is_answered _ = false
 
 own : (tx : TxId) (body : Body) → is_answered body ≡ false → OwnKinds tx is_keyless body
 own tx body other = record {
-  chains = record { commits = λ key epoch chain at. refl; completes = λ key chain at. refl; aborts = λ key. refl; goes_on = λ at. refl };
+  chains = record { commits = λ key epoch chain at. refl; completes = λ key chain at. refl; aborts =
+      λ key. refl; goes_on = λ at. refl };
   operates = λ op chain. refl;
   answers = λ key answer is. absurd (let both : true ≡ false = sym (ap is_answered is) ∙ other in cc);
   waits = λ key. refl;
@@ -34,5 +35,6 @@ pub keyless_forms : (node : ℕ) (layout : Layout) (tx : TxId) (t : Transaction)
     → TurnForms node layout tx t body (TurnOnly is_keyless)
 keyless_forms node layout tx t body other = own_forms is_keyless tx body (own tx body other) node layout t
 
-pub late_keyless : (layout : Layout) (tx : TxId) (t : Transaction) (key : List ℕ) → SendsOnly is_keyless (operate.late_answer layout tx t key)
+pub late_keyless : (layout : Layout) (tx : TxId) (t : Transaction) (key : List ℕ)
+    → SendsOnly is_keyless (operate.late_answer layout tx t key)
 late_keyless layout tx t key = of_map is_keyless (abort_of tx key) (chain_of layout key) (λ r. refl)

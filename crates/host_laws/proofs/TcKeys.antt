@@ -1,4 +1,5 @@
--- A coordinator answers each operation that it takes once: what it has unanswered and what it has answered it was asked for.
+-- A coordinator answers each operation that it takes once: what it has unanswered and what it has answered it was asked
+-- for.
 use Rattle.std.proofs.Common.{◌≡◌, ℕ, ◌+◌, ◌≤◌, List, [], ◌∷◌, ◌++◌, Bool, true, false, refl, ap, sym, subst, arith}
 use Rattle.std.specs.Prelude.{◌==◌, ◌&&◌, is_some, None, if◌then◌else◌}
 use Rattle.indexmap.specs.IndexMap.{insert_entry}
@@ -62,14 +63,20 @@ no_answer_keyless tx (Client (TcKeyConf other answer)) e = cc
 no_answer_keyless tx _ e = refl
 
 pub no_answers : (tx : TxId) (sends : List Outgoing) → are_of is_keyless sends ≡ true → answers_in tx sends ≡ 0
-no_answers tx sends kind = none_of is_keyless (to_node 0 (is_answer tx)) (λ to b k. and_false (to.node == 0) (is_api to.block) (no_answer_keyless tx b k)) sends kind
+no_answers tx sends kind =
+    none_of is_keyless (to_node 0 (is_answer tx))
+    (λ to b k. and_false (to.node == 0) (is_api to.block) (no_answer_keyless tx b k)) sends kind
 
-no_answer_other : (tx one : TxId) → same_tx one tx ≡ false → (body : Body) → is_tc_kind one body ≡ true → answer_of tx body ≡ false
+no_answer_other : (tx one : TxId) → same_tx one tx ≡ false → (body : Body) → is_tc_kind one body ≡ true
+    → answer_of tx body ≡ false
 no_answer_other tx one differs (Client (TcKeyConf other answer)) e = apart tx one other differs e
 no_answer_other tx one differs _ e = refl
 
-no_answers_other : (tx one : TxId) (sends : List Outgoing) → same_tx one tx ≡ false → are_of (is_tc_kind one) sends ≡ true → answers_in tx sends ≡ 0
-no_answers_other tx one sends differs kind = none_of (is_tc_kind one) (to_node 0 (is_answer tx)) (λ to b k. and_false (to.node == 0) (is_api to.block) (no_answer_other tx one differs b k)) sends kind
+no_answers_other : (tx one : TxId) (sends : List Outgoing) → same_tx one tx ≡ false
+    → are_of (is_tc_kind one) sends ≡ true → answers_in tx sends ≡ 0
+no_answers_other tx one sends differs kind =
+    none_of (is_tc_kind one) (to_node 0 (is_answer tx))
+    (λ to b k. and_false (to.node == 0) (is_api to.block) (no_answer_other tx one differs b k)) sends kind
 
 -- what is unanswered after a turn, or was answered with it, was unanswered before, or came with it
 record IsFair (tx : TxId) (t : Transaction) (turn : Turn) (came : ℕ) : Type 0 where
@@ -84,7 +91,8 @@ module _ (node : ℕ) (layout : Layout) (tx : TxId) (t : Transaction) (body : Bo
   Fairly turn = IsFair tx t turn (one_if (key_of_tx tx body))
 
   -- a turn that answers nothing
-  still : (turn : Turn) → are_of is_keyless turn.step.effects.sends ≡ true → has_asked turn.step.state ≤ has_asked t → Fairly turn
+  still : (turn : Turn) → are_of is_keyless turn.step.effects.sends ≡ true → has_asked turn.step.state ≤ has_asked t
+      → Fairly turn
   still turn kind less = record { fair = omega (arith, no_answers tx turn.step.effects.sends kind, less) }
 
   abort_fair : (u : Transaction) (why : AbortCause) → has_asked u ≤ has_asked t
@@ -155,9 +163,11 @@ turn_fair s body t =
 
 module _ (tx : TxId) (s : TcState) where
   abbrev Fair : Step TcState → ℕ → Type 0
-  Fair step came = tally (is_asked tx) step.state.live + answers_in tx step.effects.sends ≤ tally (is_asked tx) s.live + came
+  Fair step came = tally (is_asked tx) step.state.live + answers_in tx step.effects.sends ≤ tally
+      (is_asked tx) s.live + came
 
-  fresh_few : (live : List (TxId × Transaction)) (one : TxId) → tally (is_asked tx) (insert_entry same_tx live one operate.fresh) ≤ tally (is_asked tx) live
+  fresh_few : (live : List (TxId × Transaction)) (one : TxId)
+      → tally (is_asked tx) (insert_entry same_tx live one operate.fresh) ≤ tally (is_asked tx) live
   fresh_few [] one = none (same_tx one tx)
     where
       none : (b : Bool) → one_if (b && false) + 0 ≤ 0
@@ -170,19 +180,23 @@ module _ (tx : TxId) (s : TcState) where
       none false c = omega arith
 
       go : (b : Bool) → tally (is_asked tx) (insert_entry same_tx live one operate.fresh) ≤ tally (is_asked tx) live
-          → tally (is_asked tx) (if b then (e.0, operate.fresh) ∷ live else e ∷ insert_entry same_tx live one operate.fresh) ≤ tally (is_asked tx) (e ∷ live)
+          → tally (is_asked tx)
+              (if b then (e.0, operate.fresh) ∷ live else e ∷ insert_entry same_tx live one operate.fresh) ≤ tally
+              (is_asked tx) (e ∷ live)
       go true rest = omega (arith, none (same_tx e.0 tx) (is_some e.1.asked))
       go false rest = omega (arith, rest)
 
   -- what is left of the transaction whose turn it was
   left_few : (one : TxId) (front back : List (TxId × Transaction)) (turn : Turn)
-      → tally (is_asked tx) (left_in one front back turn) ≤ tally (is_asked tx) (front ++ back) + one_if (is_asked tx (one, turn.step.state))
+      → tally (is_asked tx) (left_in one front back turn) ≤ tally (is_asked tx) (front ++ back) + one_if
+          (is_asked tx (one, turn.step.state))
   left_few one front back turn = by turn.over
     where
       by : (b : Bool) → tally (is_asked tx) (if b then front ++ back else front ++ (one, turn.step.state) ∷ back)
           ≤ tally (is_asked tx) (front ++ back) + one_if (is_asked tx (one, turn.step.state))
       by true = omega arith
-      by false = omega (arith, tally_between (is_asked tx) front (one, turn.step.state) back (front ++ (one, turn.step.state) ∷ back) refl)
+      by false = omega (arith,
+          tally_between (is_asked tx) front (one, turn.step.state) back (front ++ (one, turn.step.state) ∷ back) refl)
 
   pub tc_fair : (body : Body) → Fair (tc_table s body) (one_if (key_of_tx tx body))
   tc_fair body = by (tc_table s body) (tc_step s body)
@@ -205,7 +219,8 @@ module _ (tx : TxId) (s : TcState) where
           turn : Turn
           turn = turn_row s body t
 
-          had : tally (is_asked tx) s.live ≡ tally (is_asked tx) (front ++ back) + one_if (same_tx one tx && is_some t.asked)
+          had : tally (is_asked tx) s.live
+              ≡ tally (is_asked tx) (front ++ back) + one_if (same_tx one tx && is_some t.asked)
           had = tally_between (is_asked tx) front (one, t) back s.live was
 
           which : (m : Bool) → same_tx one tx ≡ m
@@ -224,7 +239,8 @@ module _ (tx : TxId) (s : TcState) where
                 arith,
                 had,
                 left_few one front back turn,
-                (subst (λ x. IsFair x t turn (one_if (key_of_tx x body))) (same_tx-is one tx same) (turn_fair s body t)).fair,
+                (subst (λ x. IsFair x t turn (one_if (key_of_tx x body))) (same_tx-is one tx same)
+                    (turn_fair s body t)).fair,
                 ap (λ b. one_if (b && is_some turn.step.state.asked)) same,
                 ap (λ b. one_if (b && is_some t.asked)) same,
               )

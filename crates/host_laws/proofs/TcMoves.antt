@@ -61,16 +61,20 @@ pub same_tx-is : (a b : TxId) → same_tx a b ≡ true → a ≡ b
 unfolding mk_tx
 same_tx-is a b e = go (nat_eq a.tc b.tc) (nat_eq a.start b.start) (nat_eq a.seq b.seq) refl refl refl e
   where
-    go : (x y z : Bool) → nat_eq a.tc b.tc ≡ x → nat_eq a.start b.start ≡ y → nat_eq a.seq b.seq ≡ z → (x && (y && z)) ≡ true → a ≡ b
+    go : (x y z : Bool) → nat_eq a.tc b.tc ≡ x → nat_eq a.start b.start ≡ y → nat_eq a.seq b.seq ≡ z
+        → (x && (y && z)) ≡ true → a ≡ b
     go true true true p q r e =
-        ap (λ n. mk_tx n a.start a.seq) (eqb-true a.tc b.tc p) ∙ ap (λ n. mk_tx b.tc n a.seq) (eqb-true a.start b.start q) ∙ ap (λ n. mk_tx b.tc b.start n) (eqb-true a.seq b.seq r)
+        ap (λ n. mk_tx n a.start a.seq) (eqb-true a.tc b.tc p)
+            ∙ ap (λ n. mk_tx b.tc n a.seq) (eqb-true a.start b.start q)
+            ∙ ap (λ n. mk_tx b.tc b.start n) (eqb-true a.seq b.seq r)
     go true true false p q r e = cc
     go true false z p q r e = cc
     go false y z p q r e = cc
 
 -- the end is reported with a turn after which the transaction is over or completes, unless it was completing
 abbrev IsTold : TxId → Transaction → Turn → Type 0
-IsTold tx t turn = (turn.over || is_completing turn.step.state.phase) ≡ true → (is_completing t.phase ≡ true) ⊎ (1 ≤ ends_in tx turn.step.effects.sends)
+IsTold tx t turn = (turn.over || is_completing turn.step.state.phase) ≡ true
+    → (is_completing t.phase ≡ true) ⊎ (1 ≤ ends_in tx turn.step.effects.sends)
 
 abort_end_told : (node : ℕ) (tx : TxId) (why : AbortCause) (b : Bool) → 1 ≤ ends_in tx (abort.abort_end node tx why b)
 abort_end_told node tx why true = omega (arith, ap one_if (same_tx-self tx), none (node == 0))
@@ -120,7 +124,8 @@ module _ (node : ℕ) (layout : Layout) (tx : TxId) (t : Transaction) where
 turn_told : (s : TcState) (body : Body) (t : Transaction) → IsTold (tx_in body) t (turn_row s body t)
 turn_told s body t =
     let tx = tx_in body in
-    turn_by s t (IsTold tx t) body (rows_of s.node s.layout tx t body (IsTold tx t) (told_forms s.node s.layout tx t body))
+    turn_by s t (IsTold tx t) body
+        (rows_of s.node s.layout tx t body (IsTold tx t) (told_forms s.node s.layout tx t body))
     (λ off over. inl over)
 
 -- what tells neither that a transaction has begun nor of its end
@@ -133,11 +138,17 @@ is_still_kind _ = true
 -- what a step of a coordinator from s does to its transactions, and sends
 pub data TcMove (s : TcState) (after : TcState) (sends : List Outgoing) : Type 0 where
   stays : after ≡ s → are_of is_still_kind sends ≡ true → TcMove s after sends
-  starts : (name : Option ℕ) → after ≡ begun s → sends ≡ to_place client (Client (TcBeginConf name (next_tx s))) ∷ [] → TcMove s after sends
-  turns : (tx : TxId) (t u : Transaction) (front back : List (TxId × Transaction)) → s.live ≡ front ++ (tx, t) ∷ back → after ≡ with_live s (front ++ (tx, u) ∷ back)
-      → are_of (is_tc_kind tx) sends ≡ true → (is_completing u.phase ≡ true → (is_completing t.phase ≡ true) ⊎ (1 ≤ ends_in tx sends)) → TcMove s after sends
-  forgets : (tx : TxId) (t : Transaction) (front back : List (TxId × Transaction)) → s.live ≡ front ++ (tx, t) ∷ back → after ≡ with_live s (front ++ back)
-      → are_of (is_tc_kind tx) sends ≡ true → (is_completing t.phase ≡ true) ⊎ (1 ≤ ends_in tx sends) → TcMove s after sends
+  starts : (name : Option ℕ) → after ≡ begun s → sends ≡ to_place client (Client (TcBeginConf name (next_tx s))) ∷ []
+      → TcMove s after sends
+  turns : (tx : TxId) (t u : Transaction) (front back : List (TxId × Transaction)) → s.live ≡ front ++ (tx, t) ∷ back
+      → after ≡ with_live s (front ++ (tx, u) ∷ back)
+      → are_of (is_tc_kind tx) sends ≡ true
+          → (is_completing u.phase ≡ true → (is_completing t.phase ≡ true) ⊎ (1 ≤ ends_in tx sends))
+          → TcMove s after sends
+  forgets : (tx : TxId) (t : Transaction) (front back : List (TxId × Transaction)) → s.live ≡ front ++ (tx, t) ∷ back
+      → after ≡ with_live s (front ++ back)
+      → are_of (is_tc_kind tx) sends ≡ true → (is_completing t.phase ≡ true) ⊎ (1 ≤ ends_in tx sends)
+          → TcMove s after sends
 
 abbrev pub Moves : TcState → Step TcState → Type 0
 Moves s step = TcMove s step.state step.effects.sends
@@ -146,7 +157,8 @@ Moves s step = TcMove s step.state step.effects.sends
 pub tc_moves : (s : TcState) (body : Body) → Moves s (tc_table s body)
 tc_moves s body = by (tc_table s body) (tc_step s body)
   where
-    idle : (step other : Step TcState) → step ≡ other → other.state ≡ s → are_of is_still_kind other.effects.sends ≡ true
+    idle : (step other : Step TcState) → step ≡ other → other.state ≡ s
+        → are_of is_still_kind other.effects.sends ≡ true
         → Moves s step
     idle step other is same kind =
         stays (ap (λ (x : Step TcState). x.state) is ∙ same)
@@ -163,14 +175,18 @@ tc_moves s body = by (tc_table s body) (tc_step s body)
         subst (Moves s) (sym is) (over (turn_row s body t) (turn_sends s body t) (turn_told s body t))
       where
         over : (turn : Turn) → TurnSends (tx_in body) turn → IsTold (tx_in body) t turn
-            → Moves s (record { state = with_live s (left_in (tx_in body) front back turn); effects = turn.step.effects })
+            → Moves s (record { state = with_live s (left_in (tx_in body) front back turn); effects =
+                turn.step.effects })
         over turn kind told = which turn.over refl
           where
-            done : (b : Bool) → turn.over ≡ b → (turn.over || is_completing turn.step.state.phase) ≡ (b || is_completing turn.step.state.phase)
+            done : (b : Bool) → turn.over ≡ b
+                → (turn.over || is_completing turn.step.state.phase) ≡ (b || is_completing turn.step.state.phase)
             done b e = ap (λ c. c || is_completing turn.step.state.phase) e
 
             which : (b : Bool) → turn.over ≡ b
-                → Moves s (record { state = with_live s (if b then front ++ back else front ++ (tx_in body, turn.step.state) ∷ back); effects = turn.step.effects })
+                → Moves s (record { state =
+                    with_live s (if b then front ++ back else front ++ (tx_in body, turn.step.state) ∷ back); effects =
+                    turn.step.effects })
             which true e = forgets (tx_in body) t front back was refl kind (told (done true e))
             which false e =
                 turns (tx_in body) t turn.step.state front back was refl kind (λ c. told (done false e ∙ c))
@@ -188,13 +204,18 @@ still_api (Client (TcCommitConf tx epoch)) e = cc
 still_api (Client (TcRollbackRep tx cause)) e = cc
 still_api _ e = refl
 
-move_still : (s : ApiState) (body : Body) (after : View × List OpenTransaction) (sends : List Outgoing) → ApiMove s body after sends → are_of is_still_kind sends ≡ true
+move_still : (s : ApiState) (body : Body) (after : View × List OpenTransaction) (sends : List Outgoing)
+    → ApiMove s body after sends → are_of is_still_kind sends ≡ true
 move_still s body after sends (rests is kind void) = of_kind is_api_kind is_still_kind still_api sends kind
 move_still s body after sends (opens other at op new request is told) = ap (are_of is_still_kind) told
-move_still s body after sends (begun_as other one front t u back about passes begun was is kind) = of_kind is_api_kind is_still_kind still_api sends kind
-move_still s body after sends (goes front t u back go void was is kind) = of_kind is_api_kind is_still_kind still_api sends kind
-move_still s body after sends (ends one front t back about passes was is kind) = of_kind is_api_kind is_still_kind still_api sends kind
-move_still s body after sends (refuses other front t back about passes was is kind) = of_kind is_api_kind is_still_kind still_api sends kind
+move_still s body after sends (begun_as other one front t u back about passes begun was is kind) =
+    of_kind is_api_kind is_still_kind still_api sends kind
+move_still s body after sends (goes front t u back go void was is kind) =
+    of_kind is_api_kind is_still_kind still_api sends kind
+move_still s body after sends (ends one front t back about passes was is kind) =
+    of_kind is_api_kind is_still_kind still_api sends kind
+move_still s body after sends (refuses other front t back about passes was is kind) =
+    of_kind is_api_kind is_still_kind still_api sends kind
 
 -- nor whose coordinator it is
 pub tc_node : (s after : TcState) (sends : List Outgoing) → TcMove s after sends → after.node ≡ s.node
@@ -222,15 +243,20 @@ host_moves s x = go (row s x) (block_case s x)
     go : (t : Step host.Host) → BlockCase s x t → TcMove (tc_of s) (tc_of t.state) t.effects.sends
     go t (tc_takes step) =
         subst (λ u. TcMove (tc_of s) u t.effects.sends) (sym step.state)
-        (subst (λ f. TcMove (tc_of s) (tc_table (tc_of s) x.body).state f.sends) (sym step.effects) (tc_moves (tc_of s) x.body))
+        (subst (λ f. TcMove (tc_of s) (tc_table (tc_of s) x.body).state f.sends) (sym step.effects)
+            (tc_moves (tc_of s) x.body))
     go t (api_takes step) =
-        stays step.tc (ap (λ f. are_of is_still_kind f.sends) step.effects ∙ move_still (api_of s) x.body _ _ (api_moves (api_of s) x.body))
+        stays step.tc (ap (λ f. are_of is_still_kind f.sends) step.effects
+            ∙ move_still (api_of s) x.body _ _ (api_moves (api_of s) x.body))
     go t (dih_takes step) =
         stays step.tc
         (ap (λ f. are_of is_still_kind f.sends) step.effects
-        ∙ of_kind is_dih_kind is_still_kind still_dih (dih_table (dih_of s) x.body).effects.sends (dih_kinds (dih_of s) x.body))
+        ∙ of_kind is_dih_kind is_still_kind still_dih (dih_table (dih_of s) x.body).effects.sends
+            (dih_kinds (dih_of s) x.body))
     go t (rows_take step) =
         stays step.tc
         (ap (λ f. are_of is_still_kind f.sends) step.effects
-        ∙ of_kind is_lqh_kind is_still_kind still_lqh (lqh_table (lqh_of s) x.body).effects.sends (lqh_kinds (lqh_of s) x.body))
-    go t (none_takes step) = stays (ap (λ u. tc_of u.state) step.is) (ap (λ u. are_of is_still_kind u.effects.sends) step.is)
+        ∙ of_kind is_lqh_kind is_still_kind still_lqh (lqh_table (lqh_of s) x.body).effects.sends
+            (lqh_kinds (lqh_of s) x.body))
+    go t (none_takes step) =
+        stays (ap (λ u. tc_of u.state) step.is) (ap (λ u. are_of is_still_kind u.effects.sends) step.is)

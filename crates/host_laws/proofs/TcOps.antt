@@ -42,7 +42,8 @@ right_asking : (asked : Option Asked) (phase : Phase) → may_ask phase ≡ true
 right_asking None phase e = refl
 right_asking (Some asked) phase e = e
 
-right_as : (asked : Option Asked) (phase other : Phase) → may_ask phase ≡ may_ask other → is_right asked phase ≡ true → is_right asked other ≡ true
+right_as : (asked : Option Asked) (phase other : Phase) → may_ask phase ≡ may_ask other → is_right asked phase ≡ true
+    → is_right asked other ≡ true
 right_as None phase other same e = refl
 right_as (Some asked) phase other same e = sym same ∙ e
 
@@ -53,11 +54,13 @@ answers_of tx key (Chain (LqhKeyRef one at why)) = one_if (same_tx one tx && sam
 answers_of tx key _ = 0
 
 module _ (n : ℕ) (tx : TxId) (key : List ℕ) where
-  -- a turn of the transaction, at which an answer came or none: what it has unanswered then it had before, and it wasn't
+  -- a turn of the transaction, at which an answer came or none: what it has unanswered then it had before, and it
+  -- wasn't
   -- answered, or it was sent
   pub record TurnAsks (t : Transaction) (turn : Turn) (came : ℕ) : Type 0 where
     pub right : is_right turn.step.state.asked turn.step.state.phase ≡ true
-    pub asks : asks_key key turn.step.state.asked ≡ true → ((asks_key key t.asked ≡ true) × (came ≡ 0)) ⊎ (came + 1 ≤ ops n tx key turn.step.effects.sends)
+    pub asks : asks_key key turn.step.state.asked ≡ true
+        → ((asks_key key t.asked ≡ true) × (came ≡ 0)) ⊎ (came + 1 ≤ ops n tx key turn.step.effects.sends)
 
   module _ (t : Transaction) (right : is_right t.asked t.phase ≡ true) (body : Body) where
     abbrev pub Asks : Turn → Type 0
@@ -98,7 +101,8 @@ module _ (n : ℕ) (tx : TxId) (key : List ℕ) where
             some_none q = cc
 
     -- where it is decided it has none unanswered
-    shut_none : (asked : Option Asked) → is_right asked t.phase ≡ true → may_ask t.phase ≡ false → asks_key key asked ≡ true → ⊥
+    shut_none : (asked : Option Asked) → is_right asked t.phase ≡ true → may_ask t.phase ≡ false
+        → asks_key key asked ≡ true → ⊥
     shut_none None own shut e = cc
     shut_none (Some a) own shut e = false≢true (sym shut ∙ own)
 
@@ -107,7 +111,8 @@ module _ (n : ℕ) (tx : TxId) (key : List ℕ) where
         → TurnAsks t (going (stay t)) (one_if (same_tx one tx && same_key at key))
     late_asks one at (inl none) = record {
       right = right;
-      asks = λ e. inl (e, ap (λ b. one_if (same_tx one tx && b)) (late_none at t.asked none e) ∙ fails (same_tx one tx));
+      asks = λ e. inl (e, ap (λ b. one_if (same_tx one tx && b)) (late_none at t.asked none e)
+          ∙ fails (same_tx one tx));
     }
       where
         fails : (b : Bool) → one_if (b && false) ≡ 0
@@ -142,7 +147,9 @@ module _ (n : ℕ) (tx : TxId) (key : List ℕ) where
             right = ap may_ask ready.0;
             asks = λ asked. inr (
                 let chain = chain_of layout (key_of op) in
-                let one = true_and (is_node n (node_at chain 0)) _ (good.first (key_of op)) (true_and (same_tx tx tx) _ (same_tx-self tx) (true_and (same_key (key_of op) key) (is_good n chain) asked (good.good (key_of op)))) in
+                let one = true_and (is_node n (node_at chain 0)) _ (good.first (key_of op))
+                    (true_and (same_tx tx tx) _ (same_tx-self tx)
+                    (true_and (same_key (key_of op) key) (is_good n chain) asked (good.good (key_of op)))) in
                 omega (arith, ap one_if one, none is refl)
                 );
           };

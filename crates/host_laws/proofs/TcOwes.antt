@@ -65,19 +65,26 @@ cont_in tx (Host (Continue (work.Transaction one) a)) = at_if (same_tx one tx) a
 cont_in tx _ = None
 
 -- what a turn makes of what it waits for: it begins to wait for what it sends, waits on, or goes on to send
-pub data Owes (n : ℕ) (tx : TxId) (t u : Transaction) (sends : List Outgoing) (k came : ℕ) (at : Option ℕ) : Type 0 where
+pub data Owes (n : ℕ) (tx : TxId) (t u : Transaction) (sends : List Outgoing) (k came : ℕ)
+    (at : Option ℕ) : Type 0 where
   begins : came ≡ 0 → at ≡ None → k ≡ length u.touched
-      → ((PORTION < length u.touched) × (PORTION ≤ sends_of (is_commit n tx) sends) × (1 ≤ sends_of (is_cont tx PORTION) sends)) ⊎ (length u.touched ≤ sends_of (is_commit n tx) sends) → Owes n tx t u sends k came at
-  waits : (epoch before : ℕ) → t.phase ≡ Committing epoch before → at ≡ None → k + came ≤ before → u.touched ≡ t.touched → Owes n tx t u sends k came at
+      → ((PORTION < length u.touched) × (PORTION ≤ sends_of (is_commit n tx) sends)
+          × (1 ≤ sends_of (is_cont tx PORTION) sends)) ⊎ (length u.touched ≤ sends_of (is_commit n tx) sends)
+          → Owes n tx t u sends k came at
+  waits : (epoch before : ℕ) → t.phase ≡ Committing epoch before → at ≡ None → k + came ≤ before
+      → u.touched ≡ t.touched → Owes n tx t u sends k came at
   goes_on : (epoch a : ℕ) → at ≡ Some a → came ≡ 0 → t.phase ≡ Committing epoch k → u.touched ≡ t.touched
-      → (SENDS ≤ a) ⊎ (((a + PORTION < length u.touched) × (PORTION ≤ sends_of (is_commit n tx) sends) × (1 ≤ sends_of (is_cont tx (a + PORTION)) sends)) ⊎ (length u.touched ≤ a + sends_of (is_commit n tx) sends))
+      → (SENDS ≤ a) ⊎ (((a + PORTION < length u.touched) × (PORTION ≤ sends_of (is_commit n tx) sends)
+          × (1 ≤ sends_of (is_cont tx (a + PORTION)) sends)) ⊎ (length u.touched ≤ a + sends_of (is_commit n tx) sends))
       → Owes n tx t u sends k came at
 
 pub record TurnOwes (n : ℕ) (tx : TxId) (t : Transaction) (turn : Turn) (came : ℕ) (at : Option ℕ) : Type 0 where
   pub known : IsKnown n turn.step.state
-  pub owes : (epoch k : ℕ) → turn.over ≡ false → turn.step.state.phase ≡ Committing epoch k → Owes n tx t turn.step.state turn.step.effects.sends k came at
+  pub owes : (epoch k : ℕ) → turn.over ≡ false → turn.step.state.phase ≡ Committing epoch k
+      → Owes n tx t turn.step.state turn.step.effects.sends k came at
 
-from_start : (l s c : ℕ) → ((PORTION < l) × (PORTION ≤ s) × (1 ≤ c)) ⊎ (l ≤ 0 + s) → ((PORTION < l) × (PORTION ≤ s) × (1 ≤ c)) ⊎ (l ≤ s)
+from_start : (l s c : ℕ) → ((PORTION < l) × (PORTION ≤ s) × (1 ≤ c)) ⊎ (l ≤ 0 + s)
+    → ((PORTION < l) × (PORTION ≤ s) × (1 ≤ c)) ⊎ (l ≤ s)
 from_start l s c (inl h) = inl h
 from_start l s c (inr h) = inr (omega (arith, h))
 
@@ -97,28 +104,41 @@ last_length (x ∷ xs) y = omega (arith, last_length xs y)
 
 primary_chain : (n : ℕ) (chain : List Member) → is_chain n chain ≡ true → is_chain n (primary_of chain) ≡ true
 primary_chain n [] good = cc
-primary_chain n (m ∷ chain) good = true_and (is_node n m.node && true) true (true_and (is_node n m.node) true (left_of (is_node n m.node) (is_good n chain) (left_of (is_good n (m ∷ chain)) _ good)) refl) refl
+primary_chain n (m ∷ chain) good =
+    true_and (is_node n m.node && true) true
+    (true_and (is_node n m.node) true
+    (left_of (is_node n m.node) (is_good n chain) (left_of (is_good n (m ∷ chain)) _ good)) refl) refl
 
-touch_known : (n : ℕ) (touched : List Touched) (key : List ℕ) (chain : List Member) → is_chain n chain ≡ true → fits touched key ≡ true → length touched ≤ KEYS → Each (λ (x : Touched). is_chain n x.chain ≡ true) touched
-    → (Each (λ (x : Touched). is_chain n x.chain ≡ true) (touch touched key chain)) × (length (touch touched key chain) ≤ KEYS)
+touch_known : (n : ℕ) (touched : List Touched) (key : List ℕ) (chain : List Member) → is_chain n chain ≡ true
+    → fits touched key ≡ true → length touched ≤ KEYS → Each (λ (x : Touched). is_chain n x.chain ≡ true) touched
+    → (Each (λ (x : Touched). is_chain n x.chain ≡ true) (touch touched key chain))
+        × (length (touch touched key chain) ≤ KEYS)
 touch_known n touched key chain good fit few all = go (place_of touched key) refl
   where
-    go : (o : Option ℕ) → place_of touched key ≡ o → (Each (λ (x : Touched). is_chain n x.chain ≡ true) (touched_by touched key chain o)) × (length (touched_by touched key chain o) ≤ KEYS)
+    go : (o : Option ℕ) → place_of touched key ≡ o
+        → (Each (λ (x : Touched). is_chain n x.chain ≡ true) (touched_by touched key chain o))
+        × (length (touched_by touched key chain o) ≤ KEYS)
     go (Some at) e = (all, few)
     go None e =
-        let low : nat_lt (length touched) KEYS ≡ true = ap (λ o. is_some o || nat_lt (length touched) KEYS) (sym e) ∙ fit in
-        (each_append (λ (x : Touched). is_chain n x.chain ≡ true) touched (unwritten key chain ∷ []) all (primary_chain n chain good, tt), omega (arith, last_length touched (unwritten key chain), under low))
+        let low : nat_lt (length touched) KEYS ≡ true = ap (λ o. is_some o || nat_lt (length touched) KEYS) (sym e)
+            ∙ fit in
+        (each_append (λ (x : Touched). is_chain n x.chain ≡ true) touched (unwritten key chain ∷ []) all
+            (primary_chain n chain good, tt), omega (arith, last_length touched (unwritten key chain), under low))
       where
         under : nat_lt (length touched) KEYS ≡ true → length touched < KEYS
         under q = grind (arith, nat_tests, q)
 
-after_known : (n : ℕ) (a : Answer) (touched : List Touched) (op : Op) (chain : List Member) → is_chain n chain ≡ true → length touched ≤ KEYS → Each (λ (x : Touched). is_chain n x.chain ≡ true) touched
-    → (Each (λ (x : Touched). is_chain n x.chain ≡ true) (operate.touched_after a touched op chain)) × (length (operate.touched_after a touched op chain) ≤ KEYS)
+after_known : (n : ℕ) (a : Answer) (touched : List Touched) (op : Op) (chain : List Member) → is_chain n chain ≡ true
+    → length touched ≤ KEYS → Each (λ (x : Touched). is_chain n x.chain ≡ true) touched
+    → (Each (λ (x : Touched). is_chain n x.chain ≡ true) (operate.touched_after a touched op chain))
+        × (length (operate.touched_after a touched op chain) ≤ KEYS)
 after_known n answer.Done touched op chain good few all = go (place_of touched (key_of op))
   where
-    go : (o : Option ℕ) → (Each (λ (x : Touched). is_chain n x.chain ≡ true) (written_by touched (key_of op) chain o)) × (length (written_by touched (key_of op) chain o) ≤ KEYS)
+    go : (o : Option ℕ) → (Each (λ (x : Touched). is_chain n x.chain ≡ true) (written_by touched (key_of op) chain o))
+        × (length (written_by touched (key_of op) chain o) ≤ KEYS)
     go None = (all, few)
-    go (Some at) = (set_each (λ (x : Touched). is_chain n x.chain ≡ true) touched at (written (key_of op) chain) good all, omega (arith, few, set_length touched at (written (key_of op) chain)))
+    go (Some at) = (set_each (λ (x : Touched). is_chain n x.chain ≡ true) touched at
+        (written (key_of op) chain) good all, omega (arith, few, set_length touched at (written (key_of op) chain)))
 after_known n (answer.Found value) touched op chain good few all = (all, few)
 after_known n answer.Missing touched op chain good few all = (all, few)
 after_known n answer.E626 touched op chain good few all = (all, few)
@@ -183,14 +203,16 @@ module _ (n : ℕ) (tx : TxId) (t : Transaction) (known : IsKnown n t) where
       known = known;
       owes = λ epoch k going is. absurd (not_committing t.phase missed epoch k is);
     }
-    missed_owes _ off missed = record { known = known; owes = λ epoch k going is. waits epoch k is refl (omega arith) refl }
+    missed_owes _ off missed =
+        record { known = known; owes = λ epoch k going is. waits epoch k is refl (omega arith) refl }
 
     -- the coordinator goes on with it
     onward_is : (at : ℕ) → body ≡ Host (Continue (work.Transaction tx) at) → cont_in tx body ≡ Some at
     onward_is at is = ap (cont_in tx) is ∙ ap (λ b. at_if b at) (same_tx-self tx)
 
     -- so it is at each turn
-    pub owes_forms : (node : ℕ) (layout : Layout) → node ≡ tx.tc → ((key : List ℕ) → is_chain n (chain_of layout key) ≡ true)
+    pub owes_forms : (node : ℕ) (layout : Layout) → node ≡ tx.tc
+        → ((key : List ℕ) → is_chain n (chain_of layout key) ≡ true)
         → TurnFormsAt node layout tx t body (Owing body)
     unfolding entering
     owes_forms node layout home good = record {
@@ -201,11 +223,21 @@ module _ (n : ℕ) (tx : TxId) (t : Transaction) (known : IsKnown n t) where
       };
       goes_on = λ at is low. record {
         known = known;
-        owes = λ epoch k going on. goes_on epoch at (onward_is at is) (ap (came_in tx) is) on refl (inr (subst (λ phase. ((at + PORTION < length t.touched) × (PORTION ≤ sends_of (is_commit n tx) (part_effects node tx (phase_sends layout tx phase t.touched) at).sends) × (1 ≤ sends_of (is_cont tx (at + PORTION)) (part_effects node tx (phase_sends layout tx phase t.touched) at).sends)) ⊎ (length t.touched ≤ at + sends_of (is_commit n tx) (part_effects node tx (phase_sends layout tx phase t.touched) at).sends)) (sym on) (part_law n tx node layout epoch k at t.touched home known.chains)));
+        owes = λ epoch k going on. goes_on epoch at (onward_is at is) (ap (came_in tx) is) on refl
+            (inr (subst (λ phase.
+            ((at + PORTION < length t.touched)
+            × (PORTION ≤ sends_of (is_commit n tx)
+            (part_effects node tx (phase_sends layout tx phase t.touched) at).sends)
+            × (1 ≤ sends_of (is_cont tx (at + PORTION))
+            (part_effects node tx (phase_sends layout tx phase t.touched) at).sends))
+            ⊎ (length t.touched ≤ at + sends_of (is_commit n tx)
+            (part_effects node tx (phase_sends layout tx phase t.touched) at).sends)) (sym on)
+            (part_law n tx node layout epoch k at t.touched home known.chains)));
       };
       operates = λ op is can.
           let both = and_parts (operate.is_ready t.phase t.asked) (fits t.touched (key_of op)) can in
-          let touched = touch_known n t.touched (key_of op) (chain_of layout (key_of op)) (good (key_of op)) both.1 known.few known.chains in
+          let touched = touch_known n t.touched (key_of op) (chain_of layout (key_of op))
+              (good (key_of op)) both.1 known.few known.chains in
           moves _
           (record {
             chains = touched.0;
@@ -215,25 +247,32 @@ module _ (n : ℕ) (tx : TxId) (t : Transaction) (known : IsKnown n t) where
           })
           (ap is_committing (ready_is t.phase t.asked both.0).0);
       answers = λ key answer asked is own at.
-          let touched = after_known n answer t.touched asked.op asked.chain (known.asked asked own.is) known.few known.chains in
-          moves _ (record { chains = touched.0; few = touched.1; asked = known_none.asked; some = known.some }) (ap is_committing at);
+          let touched = after_known n answer t.touched asked.op asked.chain
+              (known.asked asked own.is) known.few known.chains in
+          moves _ (record { chains = touched.0; few = touched.1; asked = known_none.asked; some = known.some })
+              (ap is_committing at);
       late = λ key asked why verifying awaited is own at. moves _ known_none (ap is_committing at);
       waits = λ asked is on. waits_on _ (ap (came_in tx) is, ap (cont_in tx) is) known refl refl;
       decides = λ is ready. moves _ (to_phase Verifying refl) refl;
       commits = λ epoch is at some.
           let more : 1 ≤ length t.touched = grind (arith, nat_tests, some) in
           record {
-            known = known_phase (Committing epoch (length t.touched)) (λ f k on. omega (arith, the_k epoch (length t.touched) f k on, more));
-            owes = λ f k going on. begins (ap (came_in tx) is) (ap (cont_in tx) is) (the_k epoch (length t.touched) f k on)
-                (from_start (length t.touched) _ _ (part_law n tx node layout epoch (length t.touched) 0 t.touched home known.chains));
+            known = known_phase (Committing epoch (length t.touched))
+                (λ f k on. omega (arith, the_k epoch (length t.touched) f k on, more));
+            owes = λ f k going on. begins (ap (came_in tx) is) (ap (cont_in tx) is)
+                (the_k epoch (length t.touched) f k on)
+                (from_start (length t.touched) _ _
+                    (part_law n tx node layout epoch (length t.touched) 0 t.touched home known.chains));
           };
       commits_none = λ epoch is at none. commit_owes node layout epoch;
       committed = λ key epoch awaited is at last.
           let more : 1 < awaited = grind (arith, nat_tests, last) in
           record {
-            known = known_phase (Committing epoch (awaited - 1)) (λ f k on. omega (arith, the_k epoch (awaited - 1) f k on, more));
+            known = known_phase (Committing epoch (awaited - 1))
+                (λ f k on. omega (arith, the_k epoch (awaited - 1) f k on, more));
             owes = λ f k going on. waits epoch awaited at (ap (cont_in tx) is)
-                (omega (arith, the_k epoch (awaited - 1) f k on, more, ap (came_in tx) is, ap one_if (same_tx-self tx))) refl;
+                (omega (arith, the_k epoch (awaited - 1) f k on, more, ap (came_in tx) is,
+                    ap one_if (same_tx-self tx))) refl;
           };
       committed_all = λ key epoch awaited is at last. commit_owes node layout epoch;
       completed = λ key epoch awaited is at more. moves _ (to_phase (Completing epoch _) refl) refl;
@@ -244,14 +283,16 @@ module _ (n : ℕ) (tx : TxId) (t : Transaction) (known : IsKnown n t) where
       };
       refuses = λ key why asked is own at. record {
         enters = λ some. moves _
-            (record { chains = known.chains; few = known.few; asked = known_none.asked; some = (to_phase (Aborting _ _ _) refl).some }) refl;
+            (record { chains = known.chains; few = known.few; asked = known_none.asked; some =
+                (to_phase (Aborting _ _ _) refl).some }) refl;
         ends = λ none. over _ refl known_none;
       };
       aborted = λ key why verifying awaited is at more. moves _ (to_phase (Aborting why verifying _) refl) refl;
       aborted_all = λ key why verifying awaited is at last. over _ refl known;
     }
       where
-        the_one : (op : Op) (a : Asked) → Some (record { op = op; chain = chain_of layout (key_of op) }) ≡ Some a → record { op = op; chain = chain_of layout (key_of op) } ≡ a
+        the_one : (op : Op) (a : Asked) → Some (record { op = op; chain = chain_of layout (key_of op) }) ≡ Some a
+            → record { op = op; chain = chain_of layout (key_of op) } ≡ a
         the_one op a q = cc
 
         the_k : (epoch n f k : ℕ) → Committing epoch n ≡ Committing f k → k ≡ n

@@ -26,7 +26,8 @@ TurnSends tx turn = SendsOnly (is_tc_kind tx) turn.step
 
 own : (tx : TxId) (body : Body) → OwnKinds tx (is_tc_kind tx) body
 own tx body = record {
-  chains = record { commits = λ key epoch chain at. refl; completes = λ key chain at. refl; aborts = λ key. refl; goes_on = λ at. refl };
+  chains = record { commits = λ key epoch chain at. refl; completes = λ key chain at. refl; aborts =
+      λ key. refl; goes_on = λ at. refl };
   operates = λ op chain. refl;
   answers = λ key answer is. same_tx-self tx;
   waits = λ key. refl;
@@ -43,7 +44,8 @@ turn_sends s body t =
     turn_by s t (TurnSends tx) body (own_kinds (is_tc_kind tx) tx body (own tx body) s.node s.layout t) (λ off. refl)
 
 -- and each step of the coordinator, unless it begins a transaction
-pub tc_kinds : (s : TcState) (body : Body) → is_begin_wish body ≡ false → SendsOnly (is_tc_kind (tx_in body)) (tc_table s body)
+pub tc_kinds : (s : TcState) (body : Body) → is_begin_wish body ≡ false
+    → SendsOnly (is_tc_kind (tx_in body)) (tc_table s body)
 tc_kinds s body other = by (tc_table s body) (tc_step s body)
   where
     sent : Step TcState → Bool

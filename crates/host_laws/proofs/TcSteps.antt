@@ -29,7 +29,7 @@ use Rattle.tc_block.specs.Tc.{next_tx, tc_table}
 use Rattle.tc_block.specs.Turn.{Turn}
 use Rattle.tc_block.proofs.LiveSplit.{AreOthers}
 use Rattle.tc_block.proofs.TurnRows.{TcStep, begins, is_turn, left_in, misses, passes, refuses, rests, takes, tc_step, turn_row, tx_in}
-use Rattle.host_laws.proofs.OfLive.{of_between, of_other}
+use Rattle.host_laws.proofs.OfLive.{each_found, of_here, of_other}
 use Rattle.host_laws.proofs.Tally.{tally_append, tally_between, tally_in, tally_none}
 use Rattle.host_laws.proofs.TcMoves.{same_tx-is}
 use Rattle.host_laws.specs.Live.{of_live}
@@ -87,7 +87,8 @@ said_apart tx one off _ e = cc
 
 said_kinds : (tx : TxId) (body : Body) → OwnKinds tx (is_said tx) body
 said_kinds tx body = record {
-  chains = record { commits = λ key epoch chain at. self; completes = λ key chain at. self; aborts = λ key. self; goes_on = λ at. self };
+  chains = record { commits = λ key epoch chain at. self; completes = λ key chain at. self; aborts =
+      λ key. self; goes_on = λ at. self };
   operates = λ op chain. self;
   answers = λ key answer is. self;
   waits = λ key. refl;
@@ -118,18 +119,6 @@ live_none tx (e ∷ live) none = go (same_tx e.0 tx) refl (live_none tx live)
     go true is rest = absurd (omega (arith, none, ap one_if is))
     go false is rest = rest (omega (arith, none, ap one_if is))
 
-live_here : (tx : TxId) (front : List (TxId × Transaction)) (t : Transaction) (back : List (TxId × Transaction))
-    → tally (is_keyed tx) front ≡ 0 → of_live tx (front ++ (tx, t) ∷ back) ≡ Some t
-live_here tx front t back none = of_between front back tx t (none_keyed front none)
-  where
-    none_keyed : (live : List (TxId × Transaction)) → tally (is_keyed tx) live ≡ 0 → AreOthers tx live
-    none_keyed [] zero = tt
-    none_keyed (e ∷ live) zero = by (same_tx e.0 tx) refl (none_keyed live)
-      where
-        by : (b : Bool) → same_tx e.0 tx ≡ b → (tally (is_keyed tx) live ≡ 0 → AreOthers tx live) → AreOthers tx (e ∷ live)
-        by true same rest = absurd (omega (arith, zero, ap one_if same))
-        by false off rest = (off, rest (omega (arith, zero)))
-
 -- one that is live, where no two are of one number
 pub live_in : (tx : TxId) (t : Transaction) (live : List (TxId × Transaction)) → tally (is_keyed tx) live ≤ 1
     → IsIn (tx, t) live → of_live tx live ≡ Some t
@@ -150,7 +139,8 @@ live_in tx t (e ∷ live) once (inr i) = go (same_tx e.0 tx) refl (live_in tx t 
 abbrev pub left_of_turn : Turn → Option Transaction
 left_of_turn turn = if turn.over then None else Some turn.step.state
 
--- A step of a coordinator, as far as one transaction goes: it is about another, the transaction begins, or it takes a turn.
+-- A step of a coordinator, as far as one transaction goes: it is about another, the transaction begins, or it takes a
+-- turn.
 pub data TxStep (tx : TxId) (s : TcState) (body : Body) (step : Step TcState) : Type 0 where
   elsewhere : of_live tx step.state.live ≡ of_live tx s.live → are_of (is_apart tx) step.effects.sends ≡ true
       → (is_turn body ≡ true → tx_in body ≡ tx → of_live tx s.live ≡ None) → TxStep tx s body step
@@ -175,8 +165,10 @@ module _ (tx : TxId) (s : TcState) (body : Body) (once : tally (is_keyed tx) s.l
 
   tx_of : (step : Step TcState) → TcStep s body step → TxStep tx s body step
   tx_of step (rests off is) = idle step _ is refl refl (λ turn. absurd (false≢true (sym off ∙ turn)))
-  tx_of step (refuses name about is) = idle step _ is refl refl (λ turn. absurd (false≢true (sym (ap is_turn about) ∙ turn)))
-  tx_of step (passes one ahead about is) = idle step _ is refl refl (λ turn. absurd (false≢true (sym (ap is_turn about) ∙ turn)))
+  tx_of step (refuses name about is) =
+      idle step _ is refl refl (λ turn. absurd (false≢true (sym (ap is_turn about) ∙ turn)))
+  tx_of step (passes one ahead about is) =
+      idle step _ is refl refl (λ turn. absurd (false≢true (sym (ap is_turn about) ∙ turn)))
   tx_of step (misses turns others is) =
       idle step _ is refl refl
       (λ turn same. live_none tx s.live (tally_none (is_keyed tx) s.live (subst (λ x. AreOthers x s.live) same others)))
@@ -185,7 +177,8 @@ module _ (tx : TxId) (s : TcState) (body : Body) (once : tally (is_keyed tx) s.l
       last : insert_entry same_tx s.live (next_tx s) fresh ≡ s.live ++ (next_tx s, fresh) ∷ []
       last =
           insert_new s.live (next_tx s) fresh
-          (each_map (λ (x : TxId × Transaction). IsOwn s.node s.next_seq x.0) (λ (x : TxId × Transaction). x.0.seq < s.next_seq) s.live (λ x o. o.early) own)
+          (each_map (λ (x : TxId × Transaction). IsOwn s.node s.next_seq x.0)
+              (λ (x : TxId × Transaction). x.0.seq < s.next_seq) s.live (λ x o. o.early) own)
 
       now : of_live tx step.state.live ≡ of_live tx (s.live ++ (next_tx s, fresh) ∷ [])
       now = ap (λ (x : Step TcState). of_live tx x.state.live) is ∙ ap (of_live tx) last
@@ -211,14 +204,17 @@ module _ (tx : TxId) (s : TcState) (body : Body) (once : tally (is_keyed tx) s.l
       go : (b : Bool) → same_tx (next_tx s) tx ≡ b → TxStep tx s body step
       go false off =
           elsewhere (now ∙ of_other s.live [] (next_tx s) tx fresh off ∙ ap (of_live tx) (nothing s.live))
-          (ap (λ (x : Step TcState). are_of (is_apart tx) x.effects.sends) is ∙ ap (λ b. if not b then true else false) off)
+          (ap (λ (x : Step TcState). are_of (is_apart tx) x.effects.sends) is
+              ∙ ap (λ b. if not b then true else false) off)
           (λ turn same. absurd (plain body turn about))
       go true same =
           let here : tx ≡ next_tx s = sym (same_tx-is (next_tx s) tx same) in
           let none : tally (is_keyed tx) s.live ≡ 0 = fewer s.live (ap (λ (x : TxId). x.seq) here) own in
           born name about here (live_none tx s.live none)
-          (now ∙ ap (λ k. of_live tx (s.live ++ (k, fresh) ∷ [])) (sym here) ∙ live_here tx s.live fresh [] none)
-          (ap (λ (x : Step TcState). x.effects.sends) is ∙ ap (λ k. record { to = client; body = Client (TcBeginConf name k) } ∷ []) (sym here))
+          (now ∙ ap (λ k. of_live tx (s.live ++ (k, fresh) ∷ [])) (sym here)
+              ∙ of_here tx tx fresh s.live [] none (same_tx-self tx))
+          (ap (λ (x : Step TcState). x.effects.sends) is
+              ∙ ap (λ k. record { to = client; body = Client (TcBeginConf name k) } ∷ []) (sym here))
           (omega (arith, ap (λ (x : Step TcState). x.state.next_seq) is))
   tx_of step (takes about t front back was is) = go (same_tx (tx_in body) tx) refl
     where
@@ -240,17 +236,22 @@ module _ (tx : TxId) (s : TcState) (body : Body) (once : tally (is_keyed tx) s.l
       go : (b : Bool) → same_tx (tx_in body) tx ≡ b → TxStep tx s body step
       go false off =
           elsewhere
-          (ap (of_live tx) live_are ∙ kept turn.over ∙ sym (ap (of_live tx) was ∙ of_other front back (tx_in body) tx t off))
-          (ap (are_of (is_apart tx)) sends_are ∙ of_kind (is_said (tx_in body)) (is_apart tx) (said_apart tx (tx_in body) off) turn.step.effects.sends (turn_said s body t))
+          (ap (of_live tx) live_are ∙ kept turn.over
+              ∙ sym (ap (of_live tx) was ∙ of_other front back (tx_in body) tx t off))
+          (ap (are_of (is_apart tx)) sends_are
+              ∙ of_kind (is_said (tx_in body)) (is_apart tx) (said_apart tx (tx_in body) off) turn.step.effects.sends
+              (turn_said s body t))
           (λ turn same. absurd (false≢true (sym off ∙ (ap (λ x. same_tx x tx) same ∙ same_tx-self tx))))
         where
           kept : (b : Bool)
-              → of_live tx (if b then front ++ back else front ++ (tx_in body, turn.step.state) ∷ back) ≡ of_live tx (front ++ back)
+              → of_live tx (if b then front ++ back else front ++ (tx_in body, turn.step.state) ∷ back)
+                  ≡ of_live tx (front ++ back)
           kept true = refl
           kept false = of_other front back (tx_in body) tx turn.step.state off
       go true same =
           turned t about one
-          (ap (of_live tx) was ∙ ap (λ k. of_live tx (front ++ (k, t) ∷ back)) one ∙ live_here tx front t back none)
+          (ap (of_live tx) was ∙ ap (λ k. of_live tx (front ++ (k, t) ∷ back)) one
+              ∙ of_here tx tx t front back none (same_tx-self tx))
           (subst (λ k. TurnMove s k t body turn) one move) (ap (of_live tx) live_are ∙ kept turn.over) sends_are
         where
           one : tx_in body ≡ tx
@@ -260,11 +261,12 @@ module _ (tx : TxId) (s : TcState) (body : Body) (once : tally (is_keyed tx) s.l
           none = omega (arith, once, counted, ap one_if same, tally_append (is_keyed tx) front back)
 
           kept : (b : Bool)
-              → of_live tx (if b then front ++ back else front ++ (tx_in body, turn.step.state) ∷ back) ≡ (if b then None else Some turn.step.state)
+              → of_live tx (if b then front ++ back else front ++ (tx_in body, turn.step.state) ∷ back)
+                  ≡ (if b then None else Some turn.step.state)
           kept true = live_none tx (front ++ back) (omega (arith, once, counted, ap one_if same))
           kept false =
               ap (λ k. of_live tx (front ++ (k, turn.step.state) ∷ back)) one
-              ∙ live_here tx front turn.step.state back none
+              ∙ of_here tx tx turn.step.state front back none (same_tx-self tx)
 
   pub tx_step : TxStep tx s body (tc_table s body)
   tx_step = tx_of (tc_table s body) (tc_step s body)
@@ -283,28 +285,8 @@ next_grows s body = go (tc_table s body) (tc_step s body)
 
 pub live_early : (tx : TxId) (s : TcState) (t : Transaction) → of_live tx s.live ≡ Some t
     → Each (λ (e : TxId × Transaction). IsOwn s.node s.next_seq e.0) s.live → tx.seq < s.next_seq
-live_early tx s t there own = go s.live there own
-  where
-    go : (live : List (TxId × Transaction)) → of_live tx live ≡ Some t
-        → Each (λ (e : TxId × Transaction). IsOwn s.node s.next_seq e.0) live → tx.seq < s.next_seq
-    go [] there own = absurd cc
-    go (e ∷ live) there own = by (same_tx e.0 tx) refl there (λ rest. go live rest own.1)
-      where
-        by : (b : Bool) → same_tx e.0 tx ≡ b → (if b then Some e.1 else of_live tx live) ≡ Some t
-            → (of_live tx live ≡ Some t → tx.seq < s.next_seq) → tx.seq < s.next_seq
-        by true is there rest = omega (arith, own.0.early, ap (λ (x : TxId). x.seq) (same_tx-is e.0 tx is))
-        by false is there rest = rest there
+live_early tx s t there own = (each_found (λ e. IsOwn s.node s.next_seq e.0) s.live tx t own there).early
 
 pub live_home : (tx : TxId) (s : TcState) (t : Transaction) → of_live tx s.live ≡ Some t
     → Each (λ (e : TxId × Transaction). IsOwn s.node s.next_seq e.0) s.live → tx.tc ≡ s.node
-live_home tx s t there own = go s.live there own
-  where
-    go : (live : List (TxId × Transaction)) → of_live tx live ≡ Some t
-        → Each (λ (e : TxId × Transaction). IsOwn s.node s.next_seq e.0) live → tx.tc ≡ s.node
-    go [] there own = absurd cc
-    go (e ∷ live) there own = by (same_tx e.0 tx) refl there (λ rest. go live rest own.1)
-      where
-        by : (b : Bool) → same_tx e.0 tx ≡ b → (if b then Some e.1 else of_live tx live) ≡ Some t
-            → (of_live tx live ≡ Some t → tx.tc ≡ s.node) → tx.tc ≡ s.node
-        by true is there rest = sym (ap (λ (x : TxId). x.tc) (same_tx-is e.0 tx is)) ∙ own.0.home
-        by false is there rest = rest there
+live_home tx s t there own = (each_found (λ e. IsOwn s.node s.next_seq e.0) s.live tx t own there).home

@@ -99,7 +99,8 @@ no_wish_lqh name (Client (TcBeginReq other)) e = cc
 no_wish_lqh name _ e = refl
 
 -- a coordinator sends none of what it sends neither of a transaction nor of one that begins
-pub tc_none : (p : Place → Body → Bool) → ((one : TxId) (to : Place) (b : Body) → is_tc_kind one b ≡ true → p to b ≡ false)
+pub tc_none : (p : Place → Body → Bool)
+    → ((one : TxId) (to : Place) (b : Body) → is_tc_kind one b ≡ true → p to b ≡ false)
     → ((name : Option ℕ) → p client (Client (TcBeginRef name)) ≡ false)
     → ((name : Option ℕ) (tx : TxId) → p client (Client (TcBeginConf name tx)) ≡ false)
     → (s : TcState) (body : Body) → sends_of p (tc_table s body).effects.sends ≡ 0
@@ -118,36 +119,51 @@ tc_none p fails fails_ref fails_conf s body = by (tc_table s body) (tc_step s bo
     by step (takes turns t front back was is) =
         ap sent is ∙ none_of (is_tc_kind (tx_in body)) p (fails (tx_in body)) _ (turn_sends s body t)
 
-begin_replies : (name : Option ℕ) (s : TcState) (other : Option ℕ) (b : Bool) → sends_of (to_node 0 (is_reply name)) (begin_if s other b).effects.sends ≡ one_if (same_name other name)
+begin_replies : (name : Option ℕ) (s : TcState) (other : Option ℕ) (b : Bool)
+    → sends_of (to_node 0 (is_reply name)) (begin_if s other b).effects.sends ≡ one_if (same_name other name)
 begin_replies name s other true = omega arith
 begin_replies name s other false = omega arith
 
 -- a coordinator replies to each wish that it takes, and to nothing else
-pub tc_replies : (name : Option ℕ) (s : TcState) (body : Body) → sends_of (to_node 0 (is_reply name)) (tc_table s body).effects.sends ≡ one_if (wish_of name body)
+pub tc_replies : (name : Option ℕ) (s : TcState) (body : Body)
+    → sends_of (to_node 0 (is_reply name)) (tc_table s body).effects.sends ≡ one_if (wish_of name body)
 unfolding begin_row
 tc_replies name s (Client (TcBeginReq other)) = begin_replies name s other (is_full s)
 tc_replies name s body =
-    none_of (is_tc_kind (tx_in body)) (to_node 0 (is_reply name)) (λ to b k. and_false (to.node == 0) (is_api to.block) (no_reply_tc name (tx_in body) b k))
+    none_of (is_tc_kind (tx_in body)) (to_node 0 (is_reply name))
+        (λ to b k. and_false (to.node == 0) (is_api to.block) (no_reply_tc name (tx_in body) b k))
     (tc_table s body).effects.sends (tc_kinds s body refl)
 
 -- epochs and rows reply to none
-pub dih_replies : (name : Option ℕ) (s : DihState) (body : Body) → sends_of (to_node 0 (is_reply name)) (dih_table s body).effects.sends ≡ 0
+pub dih_replies : (name : Option ℕ) (s : DihState) (body : Body)
+    → sends_of (to_node 0 (is_reply name)) (dih_table s body).effects.sends ≡ 0
 dih_replies name s body =
-    none_of is_dih_kind (to_node 0 (is_reply name)) (λ to b k. and_false (to.node == 0) (is_api to.block) (no_reply_dih name b k))
+    none_of is_dih_kind (to_node 0 (is_reply name))
+        (λ to b k. and_false (to.node == 0) (is_api to.block) (no_reply_dih name b k))
     (dih_table s body).effects.sends (dih_kinds s body)
 
-pub lqh_replies : (name : Option ℕ) (s : LqhState) (body : Body) → sends_of (to_node 0 (is_reply name)) (lqh_table s body).effects.sends ≡ 0
+pub lqh_replies : (name : Option ℕ) (s : LqhState) (body : Body)
+    → sends_of (to_node 0 (is_reply name)) (lqh_table s body).effects.sends ≡ 0
 lqh_replies name s body =
-    none_of is_lqh_kind (to_node 0 (is_reply name)) (λ to b k. and_false (to.node == 0) (is_api to.block) (no_reply_lqh name b k))
+    none_of is_lqh_kind (to_node 0 (is_reply name))
+        (λ to b k. and_false (to.node == 0) (is_api to.block) (no_reply_lqh name b k))
     (lqh_table s body).effects.sends (lqh_kinds s body)
 
 -- none of them wishes for one
-pub tc_wishes : (name : Option ℕ) (s : TcState) (body : Body) → sends_of (is_wish name) (tc_table s body).effects.sends ≡ 0
+pub tc_wishes : (name : Option ℕ) (s : TcState) (body : Body)
+    → sends_of (is_wish name) (tc_table s body).effects.sends ≡ 0
 tc_wishes name =
-    tc_none (is_wish name) (λ one to b k. second_fails (is_tc to.block) (no_wish_tc name one b k)) (λ other. refl) (λ other tx. refl)
+    tc_none (is_wish name) (λ one to b k. second_fails (is_tc to.block) (no_wish_tc name one b k)) (λ other. refl)
+        (λ other tx. refl)
 
-pub dih_wishes : (name : Option ℕ) (s : DihState) (body : Body) → sends_of (is_wish name) (dih_table s body).effects.sends ≡ 0
-dih_wishes name s body = none_of is_dih_kind (is_wish name) (λ to b k. second_fails (is_tc to.block) (no_wish_dih name b k)) (dih_table s body).effects.sends (dih_kinds s body)
+pub dih_wishes : (name : Option ℕ) (s : DihState) (body : Body)
+    → sends_of (is_wish name) (dih_table s body).effects.sends ≡ 0
+dih_wishes name s body =
+    none_of is_dih_kind (is_wish name) (λ to b k. second_fails (is_tc to.block) (no_wish_dih name b k))
+    (dih_table s body).effects.sends (dih_kinds s body)
 
-pub lqh_wishes : (name : Option ℕ) (s : LqhState) (body : Body) → sends_of (is_wish name) (lqh_table s body).effects.sends ≡ 0
-lqh_wishes name s body = none_of is_lqh_kind (is_wish name) (λ to b k. second_fails (is_tc to.block) (no_wish_lqh name b k)) (lqh_table s body).effects.sends (lqh_kinds s body)
+pub lqh_wishes : (name : Option ℕ) (s : LqhState) (body : Body)
+    → sends_of (is_wish name) (lqh_table s body).effects.sends ≡ 0
+lqh_wishes name s body =
+    none_of is_lqh_kind (is_wish name) (λ to b k. second_fails (is_tc to.block) (no_wish_lqh name b k))
+    (lqh_table s body).effects.sends (lqh_kinds s body)

@@ -13,16 +13,6 @@ use Rattle.tc_block.proofs.LiveSplit.{AreOthers}
 use Rattle.host_laws.specs.Live.{of_live}
 use Rattle.run_laws.proofs.Weighing.{none_passes}
 
--- those of which none is counted are others
-pub uncounted_others : (tx : TxId) (live : List (TxId × Transaction)) → tally (is_keyed tx) live ≡ 0 → AreOthers tx live
-uncounted_others tx live none = none_passes (is_keyed tx) live none
-
-pub of_here : (tx one : TxId) (t : Transaction) (front back : List (TxId × Transaction)) → tally (is_keyed tx) front ≡ 0
-    → same_tx one tx ≡ true → of_live tx (front ++ (one, t) ∷ back) ≡ Some t
-of_here tx one t front back none same =
-    subst (λ k. of_live tx (front ++ (k, t) ∷ back) ≡ Some t) (sym (same_tx-is one tx same))
-    (of_between front back tx t (uncounted_others tx front none))
-
 -- what holds of each holds of it
 pub of_each : (P : TxId → Transaction → Type 0) (tx : TxId) (live : List (TxId × Transaction)) (t : Transaction)
     → Each (λ (e : TxId × Transaction). P e.0 e.1) live → of_live tx live ≡ Some t → P tx t

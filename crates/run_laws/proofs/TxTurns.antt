@@ -24,12 +24,11 @@ use Rattle.tc_block.proofs.LiveSplit.{AreOthers}
 use Rattle.tc_block.proofs.TurnRows.{TcStep, begins as begins_one, is_turn, left_in, misses, passes, refuses, rests, takes, tc_step, turn_for, turn_row, turn_with, tx_in}
 use Rattle.host_laws.specs.Counts.{one_if, tally}
 use Rattle.host_laws.specs.Live.{of_live}
-use Rattle.host_laws.proofs.OfLive.{of_other}
+use Rattle.host_laws.proofs.OfLive.{of_here, of_other}
 use Rattle.host_laws.proofs.Tally.{tally_append, tally_between, tally_none}
 use Rattle.host_laws.proofs.TcLives.{IsOwn, insert_new, is_keyed}
 use Rattle.host_laws.proofs.TcSteps.{left_of_turn, live_none}
 use Rattle.run_laws.proofs.LiveAfter.{live_end, unborn_none}
-use Rattle.run_laws.proofs.LiveOf.{of_here}
 
 -- the signal is one for the transaction
 abbrev pub is_for : TxId → Body → Bool
@@ -122,12 +121,14 @@ module _ (P : Outgoing → Type 0) (tx : TxId) (s : TcState) (beside : SendsBesi
 
         -- what is left of it
         left : (b : Bool) → of_live tx (front ++ back) ≡ None → same_tx one tx ≡ true → tally (is_keyed tx) front ≡ 0
-            → of_live tx (if b then front ++ back else front ++ (one, row.step.state) ∷ back) ≡ (if b then None else Some row.step.state)
+            → of_live tx (if b then front ++ back else front ++ (one, row.step.state) ∷ back)
+                ≡ (if b then None else Some row.step.state)
         left true gone own none = gone
         left false gone own none = of_here tx one row.step.state front back none own
 
         other : (b : Bool) → same_tx one tx ≡ false
-            → of_live tx (if b then front ++ back else front ++ (one, row.step.state) ∷ back) ≡ of_live tx (front ++ back)
+            → of_live tx (if b then front ++ back else front ++ (one, row.step.state) ∷ back)
+                ≡ of_live tx (front ++ back)
         other true differs = refl
         other false differs = of_other front back one tx row.step.state differs
 

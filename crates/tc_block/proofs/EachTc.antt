@@ -1,4 +1,5 @@
--- What holds of each form of turn of a coordinator's transactions, and of what it does beside them, holds of each of its steps.
+-- What holds of each form of turn of a coordinator's transactions, and of what it does beside them, holds of each of
+-- its steps.
 use Rattle.std.proofs.Common.{ℕ, true, false, sym, ◌∙◌, subst}
 use Rattle.std.proofs.lemmas.Bool.{false≢true}
 use Rattle.std.specs.Prelude.{Option}
@@ -14,12 +15,15 @@ use Rattle.tc_block.proofs.EachTurn.{RowsAre}
 use Rattle.tc_block.proofs.LiveSplit.{Split}
 use Rattle.tc_block.proofs.TurnRows.{PlacedStep, goes, idles, lacks, lost, opens, placed_step, tells, turn_by, turn_row, tx_in}
 
--- R is of each turn that a transaction of the coordinator may take at the signal, and S of the step that it makes; and of
+-- R is of each turn that a transaction of the coordinator may take at the signal, and S of the step that it makes; and
+-- of
 -- the other steps
-pub record TcForms (s : TcState) (body : Body) (R : TxId → Transaction → Turn → Type 0) (S : Step TcState → Type 0) : Type 0
+pub record TcForms (s : TcState) (body : Body) (R : TxId → Transaction → Turn → Type 0)
+    (S : Step TcState → Type 0) : Type 0
     where
   pub turns : (tx : TxId) (t : Transaction) (at : ℕ) → Split tx t s.live at → RowsAre s.node s.layout tx t body (R tx t)
-  pub turned : (tx : TxId) (t : Transaction) (at : ℕ) → Split tx t s.live at → (turn : Turn) → R tx t turn → S (turned s at turn)
+  pub turned : (tx : TxId) (t : Transaction) (at : ℕ) → Split tx t s.live at → (turn : Turn) → R tx t turn
+      → S (turned s at turn)
   pub stays : S (stay s)
   pub full : (name : Option ℕ) → S (begin_if s name true)
   pub begins : (name : Option ℕ) → S (begin_if s name false)
@@ -40,4 +44,5 @@ tc_each R S s body forms = by (tc_table s body) (placed_step s body)
     by step (goes turn t at split is) =
         subst S (sym is)
         (forms.turned (tx_in body) t at split (turn_row s body t)
-        (turn_by s t (R (tx_in body) t) body (forms.turns (tx_in body) t at split) (λ off. absurd (false≢true (sym off ∙ turn)))))
+        (turn_by s t (R (tx_in body) t) body (forms.turns (tx_in body) t at split)
+            (λ off. absurd (false≢true (sym off ∙ turn)))))

@@ -38,7 +38,8 @@ may_ask Open = true
 may_ask (Aborting why verifying awaited) = true
 may_ask _ = false
 
--- why a signal leaves the transaction alone: the end of its list is passed, it can't do what it is asked for now, it has
+-- why a signal leaves the transaction alone: the end of its list is passed, it can't do what it is asked for now, it
+-- has
 -- no such operation unanswered, or it is in another phase
 abbrev pub IsMissed : Transaction → Body → Type 0
 IsMissed t (Host (Continue (work.Transaction tx) at)) = SENDS ≤ at
@@ -75,45 +76,62 @@ ready_is (Completing epoch awaited) asked is = absurd cc
 ready_is (Aborting why verifying awaited) asked is = absurd cc
 
 -- an abort begins, or has nothing to wait for
-pub record AbortForms (node : ℕ) (layout : Layout) (tx : TxId) (t : Transaction) (why : AbortCause) (R : Turn → Type 0) : Type 0 where
-  pub enters : (abort.aborts_awaited layout t == 0) ≡ false → R (going (entering node layout tx t (Aborting why (abort.is_verifying t.phase) (abort.aborts_awaited layout t))))
+pub record AbortForms (node : ℕ) (layout : Layout) (tx : TxId) (t : Transaction) (why : AbortCause)
+    (R : Turn → Type 0) : Type 0 where
+  pub enters : (abort.aborts_awaited layout t == 0) ≡ false
+      → R (going (entering node layout tx t
+      (Aborting why (abort.is_verifying t.phase) (abort.aborts_awaited layout t))))
   pub ends : (abort.aborts_awaited layout t == 0) ≡ true → R (abort.abort_if node layout tx t why true)
 
 -- all keys are committed: what was written is completed, or nothing was
-pub record CommittedForms (node : ℕ) (layout : Layout) (tx : TxId) (t : Transaction) (epoch : ℕ) (R : Turn → Type 0) : Type 0 where
-  pub enters : (complete.written_count t.touched == 0) ≡ false → R (going (entering node layout tx t (Completing epoch (complete.written_count t.touched))))
+pub record CommittedForms (node : ℕ) (layout : Layout) (tx : TxId) (t : Transaction) (epoch : ℕ)
+    (R : Turn → Type 0) : Type 0 where
+  pub enters : (complete.written_count t.touched == 0) ≡ false
+      → R (going (entering node layout tx t (Completing epoch (complete.written_count t.touched))))
   pub ends : (complete.written_count t.touched == 0) ≡ true → R (complete.all_committed_if node layout tx t epoch true)
 
 -- the turns that the transaction may take at this signal
-pub record TurnForms (node : ℕ) (layout : Layout) (tx : TxId) (t : Transaction) (body : Body) (R : Turn → Type 0) : Type 0 where
+pub record TurnForms (node : ℕ) (layout : Layout) (tx : TxId) (t : Transaction) (body : Body)
+    (R : Turn → Type 0) : Type 0 where
   -- it does nothing, or sends more of what it sends in its phase
   pub stays : R (going (stay t))
   pub goes_on : (at : ℕ) → R (going (go_on_if node layout tx t at true))
   -- an operation goes to its primary, is answered, or is answered when the transaction is aborted already
-  pub operates : (op : Op) → body ≡ Client (TcKeyReq tx op) → operate.can_operate t op ≡ true → R (going (operate.operating tx t op (chain_of layout (key_of op))))
+  pub operates : (op : Op) → body ≡ Client (TcKeyReq tx op) → operate.can_operate t op ≡ true
+      → R (going (operate.operating tx t op (chain_of layout (key_of op))))
   pub answers : (key : List ℕ) (answer : Answer) (asked : Asked) → body ≡ Chain (LqhKeyConf tx key answer)
       → t.asked ≡ Some asked → t.phase ≡ Open
       → R (going (sending (operate.answered t asked answer) client (Client (TcKeyConf tx answer))))
-  pub late : (key : List ℕ) (asked : Asked) (why : AbortCause) (verifying : Bool) (awaited : ℕ) → t.asked ≡ Some asked → t.phase ≡ Aborting why verifying awaited → R (going (operate.late_answer layout tx t key))
+  pub late : (key : List ℕ) (asked : Asked) (why : AbortCause) (verifying : Bool) (awaited : ℕ) → t.asked ≡ Some asked
+      → t.phase ≡ Aborting why verifying awaited → R (going (operate.late_answer layout tx t key))
   -- the replicas are asked what it waits for
   pub waits : (asked : Asked) → t.asked ≡ Some asked → R (going (operate.wait_by tx t (Some asked)))
   -- it asks for an epoch, and has one
   pub decides : body ≡ Client (TcCommitReq tx) → operate.is_ready t.phase t.asked ≡ true
       → R (going (commit.verify_if node tx t true))
-  pub commits : (epoch : ℕ) → body ≡ Epoch (DiVerifyConf tx epoch) → t.phase ≡ Verifying → (length t.touched == 0) ≡ false → R (going (entering node layout tx t (Committing epoch (length t.touched))))
-  pub commits_none : (epoch : ℕ) → body ≡ Epoch (DiVerifyConf tx epoch) → t.phase ≡ Verifying → CommittedForms node layout tx t epoch R
+  pub commits : (epoch : ℕ) → body ≡ Epoch (DiVerifyConf tx epoch) → t.phase ≡ Verifying
+      → (length t.touched == 0) ≡ false → R (going (entering node layout tx t (Committing epoch (length t.touched))))
+  pub commits_none : (epoch : ℕ) → body ≡ Epoch (DiVerifyConf tx epoch) → t.phase ≡ Verifying
+      → CommittedForms node layout tx t epoch R
   -- a key is committed, the last one or not, and so with completions
-  pub committed : (epoch awaited : ℕ) → t.phase ≡ Committing epoch awaited → nat_lt 1 awaited ≡ true → R (going (stay (at_phase t (Committing epoch (awaited - 1)))))
+  pub committed : (epoch awaited : ℕ) → t.phase ≡ Committing epoch awaited → nat_lt 1 awaited ≡ true
+      → R (going (stay (at_phase t (Committing epoch (awaited - 1)))))
   pub committed_all : (epoch awaited : ℕ) → t.phase ≡ Committing epoch awaited → CommittedForms node layout tx t epoch R
-  pub completed : (epoch awaited : ℕ) → t.phase ≡ Completing epoch awaited → nat_lt 1 awaited ≡ true → R (going (stay (at_phase t (Completing epoch (awaited - 1)))))
-  pub completed_all : (epoch awaited : ℕ) → t.phase ≡ Completing epoch awaited → nat_lt 1 awaited ≡ false → R (complete.completed_if node tx t epoch awaited false)
+  pub completed : (epoch awaited : ℕ) → t.phase ≡ Completing epoch awaited → nat_lt 1 awaited ≡ true
+      → R (going (stay (at_phase t (Completing epoch (awaited - 1)))))
+  pub completed_all : (epoch awaited : ℕ) → t.phase ≡ Completing epoch awaited → nat_lt 1 awaited ≡ false
+      → R (complete.completed_if node tx t epoch awaited false)
   -- it is given up: the client wishes it, or an operation is refused
-  pub rolls_back : body ≡ Client (TcRollbackReq tx) → is_decided t.phase ≡ false → is_aborting t.phase ≡ false → AbortForms node layout tx t cause.Request R
-  pub refuses : (key : List ℕ) (why : AbortCause) (asked : Asked) → body ≡ Chain (LqhKeyRef tx key why) → t.asked ≡ Some asked → t.phase ≡ Open → AbortForms node layout tx (asking t None) why R
+  pub rolls_back : body ≡ Client (TcRollbackReq tx) → is_decided t.phase ≡ false → is_aborting t.phase ≡ false
+      → AbortForms node layout tx t cause.Request R
+  pub refuses : (key : List ℕ) (why : AbortCause) (asked : Asked) → body ≡ Chain (LqhKeyRef tx key why)
+      → t.asked ≡ Some asked → t.phase ≡ Open → AbortForms node layout tx (asking t None) why R
   -- a replica has aborted a key, the last one or not
-  pub aborted : (why : AbortCause) (verifying : Bool) (awaited : ℕ) → t.phase ≡ Aborting why verifying awaited → nat_lt 1 awaited ≡ true
+  pub aborted : (why : AbortCause) (verifying : Bool) (awaited : ℕ) → t.phase ≡ Aborting why verifying awaited
+      → nat_lt 1 awaited ≡ true
       → R (going (stay (at_phase t (Aborting why verifying (awaited - 1)))))
-  pub aborted_all : (why : AbortCause) (verifying : Bool) (awaited : ℕ) → t.phase ≡ Aborting why verifying awaited → nat_lt 1 awaited ≡ false
+  pub aborted_all : (why : AbortCause) (verifying : Bool) (awaited : ℕ) → t.phase ≡ Aborting why verifying awaited
+      → nat_lt 1 awaited ≡ false
       → R (abort.aborted_if node tx t why verifying awaited false)
 
 -- the coordinator goes on with what a transaction sends
@@ -264,19 +282,25 @@ module _ (node : ℕ) (layout : Layout) (tx : TxId) (t : Transaction) (body : Bo
   unfolding operate.answer_row
   answers key answer is = by (operate.asked_on t.asked key) refl t.phase refl
     where
-      by : (o : Option Asked) → operate.asked_on t.asked key ≡ o → (phase : Phase) → t.phase ≡ phase → R (going (operate.answer_by layout tx t key answer o phase))
+      by : (o : Option Asked) → operate.asked_on t.asked key ≡ o → (phase : Phase) → t.phase ≡ phase
+          → R (going (operate.answer_by layout tx t key answer o phase))
       by (Some asked) on Open at = forms.answers key answer asked is (answered_by t key asked on) at
-      by (Some asked) on (Aborting why verifying awaited) at = forms.late key asked why verifying awaited (by_conf answer is) (answered_by t key asked on) at
+      by (Some asked) on (Aborting why verifying awaited) at =
+          forms.late key asked why verifying awaited (by_conf answer is) (answered_by t key asked on) at
       by (Some asked) on Verifying at = miss (Chain (LqhKeyConf tx key answer)) is refl (inr (ap may_ask at))
-      by (Some asked) on (Committing epoch awaited) at = miss (Chain (LqhKeyConf tx key answer)) is refl (inr (ap may_ask at))
-      by (Some asked) on (Completing epoch awaited) at = miss (Chain (LqhKeyConf tx key answer)) is refl (inr (ap may_ask at))
+      by (Some asked) on (Committing epoch awaited) at =
+          miss (Chain (LqhKeyConf tx key answer)) is refl (inr (ap may_ask at))
+      by (Some asked) on (Completing epoch awaited) at =
+          miss (Chain (LqhKeyConf tx key answer)) is refl (inr (ap may_ask at))
       by None on phase at = miss (Chain (LqhKeyConf tx key answer)) is refl (inl on)
 
-  all_committed : (epoch : ℕ) → CommittedForms node layout tx t epoch R → R (complete.all_committed node layout tx t epoch)
+  all_committed : (epoch : ℕ) → CommittedForms node layout tx t epoch R
+      → R (complete.all_committed node layout tx t epoch)
   unfolding complete.all_committed
   all_committed epoch own = by (complete.written_count t.touched == 0) refl
     where
-      by : (b : Bool) → (complete.written_count t.touched == 0) ≡ b → R (complete.all_committed_if node layout tx t epoch b)
+      by : (b : Bool) → (complete.written_count t.touched == 0) ≡ b
+          → R (complete.all_committed_if node layout tx t epoch b)
       by true none = own.ends none
       by false none = own.enters none
 
@@ -284,7 +308,8 @@ module _ (node : ℕ) (layout : Layout) (tx : TxId) (t : Transaction) (body : Bo
   unfolding commit.commit_row
   commits epoch is = by t.phase refl
     where
-      which : t.phase ≡ Verifying → (b : Bool) → (length t.touched == 0) ≡ b → R (commit.commit_if node layout tx t epoch b)
+      which : t.phase ≡ Verifying → (b : Bool) → (length t.touched == 0) ≡ b
+          → R (commit.commit_if node layout tx t epoch b)
       which at true none = all_committed epoch (forms.commits_none epoch is at none)
       which at false none = forms.commits epoch is at none
 
@@ -299,7 +324,8 @@ module _ (node : ℕ) (layout : Layout) (tx : TxId) (t : Transaction) (body : Bo
   unfolding commit.committed_row
   committed key is = by t.phase refl
     where
-      which : (epoch awaited : ℕ) → t.phase ≡ Committing epoch awaited → (b : Bool) → nat_lt 1 awaited ≡ b → R (commit.committed_if node layout tx t epoch awaited b)
+      which : (epoch awaited : ℕ) → t.phase ≡ Committing epoch awaited → (b : Bool) → nat_lt 1 awaited ≡ b
+          → R (commit.committed_if node layout tx t epoch awaited b)
       which epoch awaited at true more = forms.committed key epoch awaited is at more
       which epoch awaited at false more = all_committed epoch (forms.committed_all key epoch awaited is at more)
 
@@ -314,7 +340,8 @@ module _ (node : ℕ) (layout : Layout) (tx : TxId) (t : Transaction) (body : Bo
   unfolding complete.completed_row
   completed key is = by t.phase refl
     where
-      which : (epoch awaited : ℕ) → t.phase ≡ Completing epoch awaited → (b : Bool) → nat_lt 1 awaited ≡ b → R (complete.completed_if node tx t epoch awaited b)
+      which : (epoch awaited : ℕ) → t.phase ≡ Completing epoch awaited → (b : Bool) → nat_lt 1 awaited ≡ b
+          → R (complete.completed_if node tx t epoch awaited b)
       which epoch awaited at true more = forms.completed key epoch awaited is at more
       which epoch awaited at false more = forms.completed_all key epoch awaited is at more
 
@@ -325,7 +352,8 @@ module _ (node : ℕ) (layout : Layout) (tx : TxId) (t : Transaction) (body : Bo
       by (Committing epoch awaited) at = miss (Chain (Completed tx key)) is refl (ap is_completing at)
       by (Aborting why verifying awaited) at = miss (Chain (Completed tx key)) is refl (ap is_completing at)
 
-  aborts : (u : Transaction) (why : AbortCause) → AbortForms node layout tx u why R → R (abort.aborted_for node layout tx u why)
+  aborts : (u : Transaction) (why : AbortCause) → AbortForms node layout tx u why R
+      → R (abort.aborted_for node layout tx u why)
   unfolding abort.aborted_for
   aborts u why own = by (abort.aborts_awaited layout u == 0) refl
     where
@@ -338,12 +366,17 @@ module _ (node : ℕ) (layout : Layout) (tx : TxId) (t : Transaction) (body : Bo
   unfolding abort.refuse_row
   refuses key why is = by (operate.asked_on t.asked key) refl t.phase refl
     where
-      by : (o : Option Asked) → operate.asked_on t.asked key ≡ o → (phase : Phase) → t.phase ≡ phase → R (abort.refuse_by node layout tx t key why o phase)
-      by (Some asked) on Open at = aborts (asking t None) why (forms.refuses key why asked is (answered_by t key asked on) at)
-      by (Some asked) on (Aborting other verifying awaited) at = forms.late key asked other verifying awaited (by_ref why is) (answered_by t key asked on) at
+      by : (o : Option Asked) → operate.asked_on t.asked key ≡ o → (phase : Phase) → t.phase ≡ phase
+          → R (abort.refuse_by node layout tx t key why o phase)
+      by (Some asked) on Open at =
+          aborts (asking t None) why (forms.refuses key why asked is (answered_by t key asked on) at)
+      by (Some asked) on (Aborting other verifying awaited) at =
+          forms.late key asked other verifying awaited (by_ref why is) (answered_by t key asked on) at
       by (Some asked) on Verifying at = miss (Chain (LqhKeyRef tx key why)) is refl (inr (ap may_ask at))
-      by (Some asked) on (Committing epoch awaited) at = miss (Chain (LqhKeyRef tx key why)) is refl (inr (ap may_ask at))
-      by (Some asked) on (Completing epoch awaited) at = miss (Chain (LqhKeyRef tx key why)) is refl (inr (ap may_ask at))
+      by (Some asked) on (Committing epoch awaited) at =
+          miss (Chain (LqhKeyRef tx key why)) is refl (inr (ap may_ask at))
+      by (Some asked) on (Completing epoch awaited) at =
+          miss (Chain (LqhKeyRef tx key why)) is refl (inr (ap may_ask at))
       by None on phase at = miss (Chain (LqhKeyRef tx key why)) is refl (inl on)
 
   rolls_back : body ≡ Client (TcRollbackReq tx) → R (abort.rollback_row node layout tx t)
@@ -353,15 +386,19 @@ module _ (node : ℕ) (layout : Layout) (tx : TxId) (t : Transaction) (body : Bo
       by : (phase : Phase) → t.phase ≡ phase → R (abort.rollback_by node layout tx t phase)
       by Open at = aborts t cause.Request (forms.rolls_back is (ap is_decided at) (ap is_aborting at))
       by Verifying at = aborts t cause.Request (forms.rolls_back is (ap is_decided at) (ap is_aborting at))
-      by (Committing epoch awaited) at = miss (Client (TcRollbackReq tx)) is refl (ap (λ phase. is_decided phase || is_aborting phase) at)
-      by (Completing epoch awaited) at = miss (Client (TcRollbackReq tx)) is refl (ap (λ phase. is_decided phase || is_aborting phase) at)
-      by (Aborting why verifying awaited) at = miss (Client (TcRollbackReq tx)) is refl (ap (λ phase. is_decided phase || is_aborting phase) at)
+      by (Committing epoch awaited) at =
+          miss (Client (TcRollbackReq tx)) is refl (ap (λ phase. is_decided phase || is_aborting phase) at)
+      by (Completing epoch awaited) at =
+          miss (Client (TcRollbackReq tx)) is refl (ap (λ phase. is_decided phase || is_aborting phase) at)
+      by (Aborting why verifying awaited) at =
+          miss (Client (TcRollbackReq tx)) is refl (ap (λ phase. is_decided phase || is_aborting phase) at)
 
   aborted : (key : List ℕ) → body ≡ Chain (Aborted tx key) → R (abort.aborted_row node tx t)
   unfolding abort.aborted_row
   aborted key is = by t.phase refl
     where
-      which : (why : AbortCause) (verifying : Bool) (awaited : ℕ) → t.phase ≡ Aborting why verifying awaited → (b : Bool) → nat_lt 1 awaited ≡ b
+      which : (why : AbortCause) (verifying : Bool) (awaited : ℕ) → t.phase ≡ Aborting why verifying awaited
+          → (b : Bool) → nat_lt 1 awaited ≡ b
           → R (abort.aborted_if node tx t why verifying awaited b)
       which why verifying awaited at true more = forms.aborted key why verifying awaited is at more
       which why verifying awaited at false more = forms.aborted_all key why verifying awaited is at more
@@ -374,14 +411,17 @@ module _ (node : ℕ) (layout : Layout) (tx : TxId) (t : Transaction) (body : Bo
       by (Completing epoch awaited) at = miss (Chain (Aborted tx key)) is refl (ap is_aborting at)
 
 -- what the transaction does by the row of this signal
-pub record RowsAre (node : ℕ) (layout : Layout) (tx : TxId) (t : Transaction) (body : Body) (R : Turn → Type 0) : Type 0 where
+pub record RowsAre (node : ℕ) (layout : Layout) (tx : TxId) (t : Transaction) (body : Body)
+    (R : Turn → Type 0) : Type 0 where
   pub goes_on : (at : ℕ) → body ≡ Host (Continue (work.Transaction tx) at) → R (going (go_on_row node layout tx t at))
   pub operates : (op : Op) → body ≡ Client (TcKeyReq tx op) → R (going (operate.operate_row layout tx t op))
   pub decides : body ≡ Client (TcCommitReq tx) → R (going (commit.verify_row node tx t))
   pub rolls_back : body ≡ Client (TcRollbackReq tx) → R (abort.rollback_row node layout tx t)
   pub waits : body ≡ Client (TcWaitReq tx) → R (going (operate.wait_row tx t))
-  pub answers : (key : List ℕ) (answer : Answer) → body ≡ Chain (LqhKeyConf tx key answer) → R (going (operate.answer_row layout tx t key answer))
-  pub refuses : (key : List ℕ) (why : AbortCause) → body ≡ Chain (LqhKeyRef tx key why) → R (abort.refuse_row node layout tx t key why)
+  pub answers : (key : List ℕ) (answer : Answer) → body ≡ Chain (LqhKeyConf tx key answer)
+      → R (going (operate.answer_row layout tx t key answer))
+  pub refuses : (key : List ℕ) (why : AbortCause) → body ≡ Chain (LqhKeyRef tx key why)
+      → R (abort.refuse_row node layout tx t key why)
   pub committed : (key : List ℕ) → body ≡ Chain (Committed tx key) → R (commit.committed_row node layout tx t)
   pub completed : (key : List ℕ) → body ≡ Chain (Completed tx key) → R (complete.completed_row node tx t)
   pub aborted : (key : List ℕ) → body ≡ Chain (Aborted tx key) → R (abort.aborted_row node tx t)
@@ -410,7 +450,8 @@ pub rows_of : (node : ℕ) (layout : Layout) (tx : TxId) (t : Transaction) (body
 rows_of node layout tx t body R forms = rows_at node layout tx t body R (told node layout tx t body R forms)
 
 -- two predicates together
-pub rows_both : (node : ℕ) (layout : Layout) (tx : TxId) (t : Transaction) (body : Body) (P Q : Turn → Type 0) → RowsAre node layout tx t body P → RowsAre node layout tx t body Q
+pub rows_both : (node : ℕ) (layout : Layout) (tx : TxId) (t : Transaction) (body : Body) (P Q : Turn → Type 0)
+    → RowsAre node layout tx t body P → RowsAre node layout tx t body Q
     → RowsAre node layout tx t body (λ turn. P turn × Q turn)
 rows_both node layout tx t body P Q p q = record {
   goes_on = λ at is. (p.goes_on at is, q.goes_on at is);

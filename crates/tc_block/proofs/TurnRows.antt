@@ -79,17 +79,27 @@ turn_row s body t = turn_for s.node s.layout (tx_in body) body t
 pub turn_with : (node : ℕ) (layout : Layout) (tx : TxId) (body : Body) (t : Transaction) (R : Turn → Type 0)
     → RowsAre node layout tx t body R
     → tx_in body ≡ tx → (is_turn body ≡ false → R (going (stay t))) → R (turn_for node layout tx body t)
-turn_with node layout tx (Host (Continue (work.Transaction one) at)) t R rows same other = rows.goes_on at (ap (λ v. Host (Continue (work.Transaction v) at)) same)
-turn_with node layout tx (Client (TcKeyReq one op)) t R rows same other = rows.operates op (ap (λ v. Client (TcKeyReq v op)) same)
-turn_with node layout tx (Client (TcCommitReq one)) t R rows same other = rows.decides (ap (λ v. Client (TcCommitReq v)) same)
-turn_with node layout tx (Client (TcRollbackReq one)) t R rows same other = rows.rolls_back (ap (λ v. Client (TcRollbackReq v)) same)
+turn_with node layout tx (Host (Continue (work.Transaction one) at)) t R rows same other =
+    rows.goes_on at (ap (λ v. Host (Continue (work.Transaction v) at)) same)
+turn_with node layout tx (Client (TcKeyReq one op)) t R rows same other =
+    rows.operates op (ap (λ v. Client (TcKeyReq v op)) same)
+turn_with node layout tx (Client (TcCommitReq one)) t R rows same other =
+    rows.decides (ap (λ v. Client (TcCommitReq v)) same)
+turn_with node layout tx (Client (TcRollbackReq one)) t R rows same other =
+    rows.rolls_back (ap (λ v. Client (TcRollbackReq v)) same)
 turn_with node layout tx (Client (TcWaitReq one)) t R rows same other = rows.waits (ap (λ v. Client (TcWaitReq v)) same)
-turn_with node layout tx (Chain (LqhKeyConf one key answer)) t R rows same other = rows.answers key answer (ap (λ v. Chain (LqhKeyConf v key answer)) same)
-turn_with node layout tx (Chain (LqhKeyRef one key why)) t R rows same other = rows.refuses key why (ap (λ v. Chain (LqhKeyRef v key why)) same)
-turn_with node layout tx (Chain (Committed one key)) t R rows same other = rows.committed key (ap (λ v. Chain (Committed v key)) same)
-turn_with node layout tx (Chain (Completed one key)) t R rows same other = rows.completed key (ap (λ v. Chain (Completed v key)) same)
-turn_with node layout tx (Chain (Aborted one key)) t R rows same other = rows.aborted key (ap (λ v. Chain (Aborted v key)) same)
-turn_with node layout tx (Epoch (DiVerifyConf one epoch)) t R rows same other = rows.commits epoch (ap (λ v. Epoch (DiVerifyConf v epoch)) same)
+turn_with node layout tx (Chain (LqhKeyConf one key answer)) t R rows same other =
+    rows.answers key answer (ap (λ v. Chain (LqhKeyConf v key answer)) same)
+turn_with node layout tx (Chain (LqhKeyRef one key why)) t R rows same other =
+    rows.refuses key why (ap (λ v. Chain (LqhKeyRef v key why)) same)
+turn_with node layout tx (Chain (Committed one key)) t R rows same other =
+    rows.committed key (ap (λ v. Chain (Committed v key)) same)
+turn_with node layout tx (Chain (Completed one key)) t R rows same other =
+    rows.completed key (ap (λ v. Chain (Completed v key)) same)
+turn_with node layout tx (Chain (Aborted one key)) t R rows same other =
+    rows.aborted key (ap (λ v. Chain (Aborted v key)) same)
+turn_with node layout tx (Epoch (DiVerifyConf one epoch)) t R rows same other =
+    rows.commits epoch (ap (λ v. Epoch (DiVerifyConf v epoch)) same)
 turn_with node layout tx _ t R rows same other = other refl
 
 pub turn_by : (s : TcState) (t : Transaction) (R : Turn → Type 0) (body : Body)
@@ -101,7 +111,8 @@ turn_by s t R body rows other = turn_with s.node s.layout (tx_in body) body t R 
 abbrev pub left_in : TxId → Live → Live → Turn → Live
 left_in tx front back turn = if turn.over then front ++ back else front ++ (tx, turn.step.state) ∷ back
 
--- What a step of a coordinator is: nothing comes of it; a transaction has no room, or begins; the answer to who waits is
+-- What a step of a coordinator is: nothing comes of it; a transaction has no room, or begins; the answer to who waits
+-- is
 -- passed on; the transaction isn't there; or it takes its turn.
 pub data TcStep (s : TcState) (body : Body) (step : Step TcState) : Type 0 where
   rests : is_turn body ≡ false → step ≡ stay s → TcStep s body step
@@ -112,7 +123,8 @@ pub data TcStep (s : TcState) (body : Body) (step : Step TcState) : Type 0 where
       → TcStep s body step
   misses : is_turn body ≡ true → AreOthers (tx_in body) s.live → step ≡ stay s → TcStep s body step
   takes : is_turn body ≡ true → (t : Transaction) (front back : Live) → s.live ≡ front ++ (tx_in body, t) ∷ back
-      → step ≡ record { state = with_live s (left_in (tx_in body) front back (turn_row s body t)); effects = (turn_row s body t).step.effects }
+      → step ≡ record { state = with_live s (left_in (tx_in body) front back (turn_row s body t)); effects =
+          (turn_row s body t).step.effects }
       → TcStep s body step
 
 -- the same, with the place of the transaction whose turn it is
@@ -143,14 +155,18 @@ module _ (s : TcState) where
 
   -- what a turn leaves at its place
   left_is : (tx : TxId) (t : Transaction) (at : ℕ) (split : Split tx t s.live at) (turn : Turn)
-      → turned s at turn ≡ record { state = with_live s (left_in tx split.front split.back turn); effects = turn.step.effects }
+      → turned s at turn ≡ record { state = with_live s (left_in tx split.front split.back turn); effects =
+          turn.step.effects }
   unfolding without
   left_is tx t at split turn = by turn.over
     where
       by : (b : Bool) → turned_if s at turn b
-          ≡ record { state = with_live s (if b then split.front ++ split.back else split.front ++ (tx, turn.step.state) ∷ split.back); effects = turn.step.effects }
+          ≡ record { state = with_live s
+              (if b then split.front ++ split.back else split.front ++ (tx, turn.step.state) ∷ split.back); effects =
+              turn.step.effects }
       by true = ap (λ live. record { state = with_live s live; effects = turn.step.effects }) split.gone
-      by false = ap (λ live. record { state = with_live s live; effects = turn.step.effects }) (split.set turn.step.state)
+      by false = ap (λ live. record { state = with_live s live; effects = turn.step.effects })
+          (split.set turn.step.state)
 
   turn_step : (body : Body) (step : Step TcState) → is_turn body ≡ true
       → step ≡ turn_of s (tx_in body) (turn_row s body)
@@ -180,7 +196,8 @@ module _ (s : TcState) where
       by : (b : Bool) → PlacedStep s (Client (LqhWaitConf tx ahead)) (pass_if s tx ahead b)
       by true = tells tx ahead refl refl
       by false = idles refl refl
-  placed_step (Host (Continue (work.Transaction tx) at)) = turn_step (Host (Continue (work.Transaction tx) at)) _ refl (step_is tx _)
+  placed_step (Host (Continue (work.Transaction tx) at)) =
+      turn_step (Host (Continue (work.Transaction tx) at)) _ refl (step_is tx _)
   placed_step (Client (TcKeyReq tx op)) = turn_step (Client (TcKeyReq tx op)) _ refl (step_is tx _)
   placed_step (Client (TcCommitReq tx)) = turn_step (Client (TcCommitReq tx)) _ refl (step_is tx _)
   placed_step (Client (TcRollbackReq tx)) = turn_step (Client (TcRollbackReq tx)) _ refl refl
