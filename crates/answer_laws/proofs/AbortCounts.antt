@@ -28,8 +28,8 @@ use Rattle.host_laws.specs.Counts.{one_if}
 use Rattle.answer_laws.proofs.TcAborts.{aborted_body, is_abort}
 use Rattle.host_laws.proofs.PartCounts.{is_cont}
 use Rattle.host_laws.proofs.TcMoves.{same_tx-is}
-use Rattle.host_laws.proofs.TcSends.{eqb-self, tx_in}
-use Rattle.host_laws.proofs.TcTurns.{is_turn}
+use Rattle.host_laws.proofs.TcSends.{eqb-self}
+use Rattle.tc_block.proofs.TurnRows.{tx_in, is_turn}
 use Rattle.host_laws.proofs.Wishes.{is_tc, sends_of}
 
 -- what came to the rows of a node

@@ -52,7 +52,7 @@ use Rattle.host_laws.proofs.TcMoves.{same_tx-is}
 use Rattle.host_laws.proofs.TcSends.{eqb-self}
 use Rattle.host_laws.proofs.Wishes.{is_api, is_tc, sends_of}
 use Rattle.host_laws.specs.Counts.{one_if}
-use Rattle.run_laws.specs.Live.{of_live}
+use Rattle.host_laws.specs.Live.{of_live}
 use Rattle.command_laws.proofs.HostKinds.{no_rows, runs_rows}
 use Rattle.command_laws.proofs.BlockSteps.{tc_host}
 

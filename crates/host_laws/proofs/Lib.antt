@@ -19,6 +19,7 @@ pub mod LqhOther
 pub mod LqhSends
 pub mod LqhWaits
 pub mod NodeOps
+pub mod OfLive
 pub mod OneWay
 pub mod PartCounts
 pub mod PartKinds
