@@ -26,14 +26,14 @@ lqh_says s body =
       grants_more = tt;
       expires_more = tt;
       commits_on = λ tx key epoch chain at is behind. ap kind_of is;
-      committed = λ tx key. tt;
+      committed = λ tx key epoch chain at sent first. tt;
       completes_on = λ tx key chain at is behind. tt;
-      completed = λ tx key. tt;
-      aborted = λ tx key. tt;
+      completed = λ tx key chain at sent first. tt;
+      aborted = λ tx key sent. tt;
       gives_up = λ tx key is. tt;
       times_out = λ tx key. tt;
-      waits = λ tx ahead. tt;
-      dumps = λ rows next. tt;
+      waits = λ tx key ahead sent there. tt;
+      dumps = λ at rows next sent. tt;
     })
   where
     request : (r : Request) → RequestSends (λ (o : Outgoing). RowsSay (kind_of body) (kind_of o.body)) r
