@@ -340,6 +340,17 @@ module _ (Q : Step LqhState → Type 0) (s : LqhState) where
       by None is = forms.none is
       by (Some ahead) is = forms.some ahead is
 
+  -- rows are asked for: some are told, and where the next ones are
+  pub dump_forms : (at : ℕ) → ((rows : List (List ℕ × List ℕ)) (next : Option ℕ) → Q (sending s client (Client (DumpConf rows next))))
+      → Q (dump.dump_row s at)
+  unfolding dump.dump_row
+  dump_forms at told = told _ _
+
+  -- markers go
+  pub acknowledge_forms : (tx : TxId) → ((markers : List Marker) → Q (stay (with_markers s markers))) → Q (stay (wait.acknowledged s tx))
+  unfolding wait.acknowledged
+  acknowledge_forms tx left = left _
+
 -- the signal is for the rows of a node
 abbrev pub is_for_rows : Body → Bool
 is_for_rows (Chain (LqhKeyReq tx what chain at)) = true
@@ -363,7 +374,6 @@ pub record LqhForms (Q : Body → Step LqhState → Type 0) (s : LqhState) : Typ
   pub completes : (tx : TxId) (key : List ℕ) (chain : List Member) (at : ℕ)
       → CompleteForms (Q (Chain (Complete tx key chain at))) s tx key chain at
   pub aborts : (tx : TxId) (key : List ℕ) → AbortForms (Q (Chain (Abort tx key))) s tx key
-  -- markers go
   pub acknowledges : (tx : TxId) (markers : List Marker) → Q (Client (TcCommitAck tx)) (stay (with_markers s markers))
   pub waits : (tx : TxId) (key : List ℕ) → WaitForms (Q (Client (LqhWaitReq tx key))) s tx key
   pub dumps : (at : ℕ) (rows : List (List ℕ × List ℕ)) (next : Option ℕ)
@@ -376,7 +386,6 @@ pub record LqhForms (Q : Body → Step LqhState → Type 0) (s : LqhState) : Typ
 
 -- whatever the rows take
 pub lqh_forms : (Q : Body → Step LqhState → Type 0) (s : LqhState) → LqhForms Q s → (body : Body) → Q body (lqh_table s body)
-unfolding wait.acknowledged dump.dump_row
 lqh_forms Q s forms (Chain (LqhKeyReq tx what chain at)) =
     let r : Request = record { tx = tx; work = what; chain = chain; at = at } in
     request_forms (Q (Chain (LqhKeyReq tx what chain at))) s r (forms.asks r)
@@ -386,9 +395,9 @@ lqh_forms Q s forms (Chain (Commit tx key epoch chain at)) =
 lqh_forms Q s forms (Chain (Complete tx key chain at)) =
     complete_forms (Q (Chain (Complete tx key chain at))) s tx key chain at (forms.completes tx key chain at)
 lqh_forms Q s forms (Chain (Abort tx key)) = abort_forms (Q (Chain (Abort tx key))) s tx key (forms.aborts tx key)
-lqh_forms Q s forms (Client (TcCommitAck tx)) = forms.acknowledges tx _
+lqh_forms Q s forms (Client (TcCommitAck tx)) = acknowledge_forms (Q (Client (TcCommitAck tx))) s tx (forms.acknowledges tx)
 lqh_forms Q s forms (Client (LqhWaitReq tx key)) = wait_forms (Q (Client (LqhWaitReq tx key))) s tx key (forms.waits tx key)
-lqh_forms Q s forms (Client (DumpReq at)) = forms.dumps at _ _
+lqh_forms Q s forms (Client (DumpReq at)) = dump_forms (Q (Client (DumpReq at))) s at (forms.dumps at)
 lqh_forms Q s forms (Host Round) = expire_forms (Q (Host Round)) (expire.aged s) forms.ages
 lqh_forms Q s forms (Host (Continue work.Expired at)) = expire_forms (Q (Host (Continue work.Expired at))) s (forms.expires at)
 lqh_forms Q s forms body = forms.rests body refl
