@@ -3,7 +3,7 @@ use Rattle.std.proofs.Common.{◌≡◌, ◌==◌, ◌%◌, ℕ, zero, suc, Bool
 use Rattle.std.proofs.lemmas.Bool.{false≢true}
 use Rattle.std.specs.Cmp.Lexicographic.{nat_list_cmp_total}
 use Rattle.std.specs.FinMap as map
-use Rattle.std.specs.Prelude.{if◌then◌else◌, Option, None, Some, slice_get}
+use Rattle.std.specs.Prelude.{if◌then◌else◌, Option, None, Some}
 use Rattle.run_theory.specs.Lists.{Each}
 use Rattle.sig_core.specs.declared.member.Member.{Member}
 use Rattle.sig_core.specs.declared.member.TxId.{TxId}
@@ -17,29 +17,29 @@ use Rattle.sig_core.specs.declared.signal.Signal.{Signal}
 use Rattle.sig_core.specs.declared.signal.client.ClientSignal.TheVariants.{TcCommitAck, LqhWaitReq, DumpReq}
 use Rattle.sig_core.specs.declared.signal.host.HostSignal.TheVariants.{Round, Continue}
 use Rattle.sig_core.specs.declared.signal.host.Work.TheVariants as work
-use Rattle.sig_core.specs.Rows.{RowsState, is_on, no_rows, put_row, record_state, with_place}
+use Rattle.sig_core.specs.Rows.{RowsState, complete_record, is_on, no_rows, put_row, record_state, with_place}
 use Rattle.sig_core.specs.declared.rows.PendingRecord.{PendingRecord}
 use Rattle.sig_core.specs.declared.view.Shape.{Shape}
 use Rattle.sig_core.specs.Same.{same_key}
 use Rattle.sig_core.specs.Table.{Rows}
 use Rattle.serial_model.specs.Legal.{rows_over}
-use Rattle.row_locks.specs.declared.mode.Lock.{Lock}
-use Rattle.row_locks.specs.declared.mode.Lock.TheVariants.{Granted, Queued}
 use Rattle.row_locks.specs.OrderlyTables.{AreOrderly}
-use Rattle.row_locks.specs.Rounds.{expired}
-use Rattle.row_locks.specs.Tables.{ahead_at, or_unlocked}
+use Rattle.row_locks.specs.Tables.{or_unlocked}
 use Rattle.row_locks.proofs.LocksLemmas.{key_cmp}
 use Rattle.row_locks.proofs.TableLawLemmas.{age_round_orderly, empty_orderly, release_orderly, request_orderly, unwait_orderly}
 use Rattle.lqh_block.proofs.IndexLemmas.{same as same_key-is}
 use Rattle.lqh_block.specs.declared.request.Request.{Request}
 use Rattle.lqh_block.specs.Abort as abort
 use Rattle.lqh_block.specs.Commit as commit
-use Rattle.lqh_block.specs.Complete as complete
 use Rattle.lqh_block.specs.Dump as dump
 use Rattle.lqh_block.specs.Expire as expire
 use Rattle.lqh_block.specs.Lqh.{unasked_yet}
 use Rattle.lqh_block.specs.Operate as operate
+use Rattle.lqh_block.specs.State as rows_state
 use Rattle.lqh_block.specs.State.{LqhState, storage_of, unlocked}
+use Rattle.lqh_block.specs.Storage.{StorageState}
+use Rattle.lqh_block.specs.declared.request.Marker.{Marker}
+use Rattle.lqh_block.proofs.LqhForms.{Applies, ExpireForms, GivesUp, acknowledge_forms, dump_forms, lqh_forms, wait_forms}
 use Rattle.lqh_block.specs.Wait as wait
 use Rattle.sig_core.specs.Work.{work_key}
 use Rattle.lqh_block.specs.Work.{work_mode}
@@ -89,8 +89,8 @@ signals_are_events s (Host (Continue work.Expired at)) key well = expire_event s
 signals_are_events s _ key well = refl
 
 -- each step leaves the replica well
-expire_well : (s t : LqhState) → IsWell t → ExpireForms (λ step. IsWell step.state) t
-expire_well s t well = record {
+expire_well : (t : LqhState) → IsWell t → ExpireForms (λ step. IsWell step.state) t
+expire_well t well = record {
   rests = λ is. well;
   none = λ tx key is none. record { placed = well.placed; orderly = unwait_orderly t.locks key tx well.orderly };
   some = λ tx key is at r there here. record { placed = well.placed; orderly = unwait_orderly t.locks key tx well.orderly };
@@ -149,15 +149,15 @@ signals_keep_well s body well =
       acknowledges = λ tx markers. record { placed = well.placed; orderly = well.orderly };
       waits = λ tx key. record { none = λ is. well; some = λ ahead is. well };
       dumps = λ at rows next. well;
-      ages = expire_well s (expire.aged s) (record { placed = well.placed; orderly = age_round_orderly s.locks well.orderly });
-      expires = λ at. expire_well s s well;
+      ages = expire_well (expire.aged s) (record { placed = well.placed; orderly = age_round_orderly s.locks well.orderly });
+      expires = λ at. expire_well s well;
       rests = λ body is. well;
     }) body
   where
     asked_orderly : (q : Request) → AreOrderly (operate.asked_for s q).locks
     asked_orderly q = request_orderly s.locks (work_key q.work) q.tx (work_mode q.work) well.orderly
 
-    completed : (tx : TxId) (key : List ℕ) → IsWell (unlocked (with_rows s (complete_record s.rows tx key)) tx key)
+    completed : (tx : TxId) (key : List ℕ) → IsWell (unlocked (rows_state.with_rows s (complete_record s.rows tx key)) tx key)
     completed tx key = record {
       placed = placed-completed s.rows tx key well.placed;
       orderly = release_orderly s.locks key tx well.orderly;
