@@ -1,12 +1,12 @@
 -- A new record on a key is marked as prepared.
-use Rattle.std.proofs.Common.{◌≡◌, ◌==◌, ℕ, Bool, true, false, ◌&&◌, ◌||◌, List, refl, sym, ap, ◌∙◌}
+use Rattle.std.proofs.Common.{◌≡◌, ◌==◌, ℕ, Bool, true, false, ◌&&◌, ◌||◌, List, [], ◌∷◌, refl, sym, ap, ◌∙◌}
 use Rattle.std.proofs.lemmas.Bool.{and_from}
 use Rattle.std.specs.List.{list_any}
 use Rattle.std.specs.Prelude.{if◌then◌else◌, is_some, Option, None, Some}
 use Rattle.sig_core.specs.declared.mark.Mark.{Mark}
+use Rattle.sig_core.specs.declared.mark.Mark.TheVariants.{Prepared}
 use Rattle.sig_core.specs.declared.member.Member.{Member}
 use Rattle.sig_core.specs.declared.member.TxId.{TxId}
-use Rattle.sig_core.specs.declared.outs.Outgoing.{Outgoing}
 use Rattle.sig_core.specs.declared.rows.PendingRecord.{PendingRecord}
 use Rattle.sig_core.specs.declared.signal.Body.{Body}
 use Rattle.sig_core.specs.declared.signal.Body.TheVariants.{Host, Client, Chain}
@@ -26,7 +26,7 @@ use Rattle.lqh_block.specs.Operate as operate
 use Rattle.lqh_block.specs.State.{LqhState, storage_of}
 use Rattle.lqh_block.specs.Storage as storage
 use Rattle.lqh_block.specs.Storage.{StorageState}
-use Rattle.lqh_block.proofs.LqhForms.{granted_forms, perform_forms, preparing, request_forms}
+use Rattle.lqh_block.proofs.LqhForms.{granted_forms, perform_forms, request_forms}
 use Rattle.world_core.specs.Rest.{is_prepared}
 use Rattle.key_laws.specs.Records.{as_committed, found, if_committed, unless_committed}
 use Rattle.key_laws.specs.Replica.{Event, Replica, aborts, ages, at_key, cell_at, commits, completes, event_at, expired_by, expires, expires_if, if_on, key_after, rests, storing}
@@ -46,9 +46,9 @@ module _ (v : TxId) (key : List ℕ) where
   MarksNew s after marks = is_some (found v (cell_at key after.rows).pending) ≡ true → found v (cell_at key s.rows).pending ≡ None → list_any (is_prepared v key) marks ≡ true
 
   -- an image that is prepared
-  prepares : (s : StorageState) (r : Request) (image : Option (List ℕ)) (o : Outgoing)
-      → MarksNew s (preparing s r.tx (work_key r.work) image o).state (preparing s r.tx (work_key r.work) image o).effects.marks
-  prepares s r image o is none = by (same_key own key) refl (same_tx r.tx v) refl
+  prepares : (s : StorageState) (r : Request) (image : Option (List ℕ))
+      → MarksNew s (storage.prepared_in s r.tx (work_key r.work) image) (Prepared r.tx (work_key r.work) ∷ [])
+  prepares s r image is none = by (same_key own key) refl (same_tx r.tx v) refl
     where
       own : List ℕ
       own = work_key r.work
@@ -73,8 +73,8 @@ module _ (v : TxId) (key : List ℕ) where
         log_full = λ used reserved need is none. none_there _ _ refl none is;
         table_full = λ rows is none. none_there _ _ refl none is;
         answers = λ a is none. none_there _ _ refl none is;
-        passes = λ image next there. prepares s r image _;
-        ends = λ image last. prepares s r image _;
+        passes = λ image next there. prepares s r image;
+        ends = λ image last. prepares s r image;
       })
 
   abbrev RowMarksNew : LqhState → LqhState → List Mark → Type 0
