@@ -39,7 +39,7 @@ use Rattle.lqh_block.specs.State as rows_state
 use Rattle.lqh_block.specs.State.{LqhState, storage_of, unlocked}
 use Rattle.lqh_block.specs.Storage.{StorageState}
 use Rattle.lqh_block.specs.declared.request.Marker.{Marker}
-use Rattle.lqh_block.proofs.LqhForms.{Applies, ExpireForms, GivesUp, acknowledge_forms, dump_forms, lqh_forms, wait_forms}
+use Rattle.lqh_block.proofs.LqhForms.{ExpireForms, acknowledge_forms, dump_forms, lqh_forms, wait_forms}
 use Rattle.lqh_block.specs.Wait as wait
 use Rattle.sig_core.specs.Work.{work_key}
 use Rattle.lqh_block.specs.Work.{work_mode}
@@ -61,7 +61,7 @@ use Rattle.host_laws.specs.ReplicaLaws.{KeysHaveRows, LogsFollowEvents, NodesBeg
 use Rattle.key_laws.proofs.CellsAt.{placed-aborted, placed-committed, placed-completed}
 use Rattle.key_laws.proofs.PerformedAt.{placed-performed}
 use Rattle.key_laws.proofs.KeyAfter.{granted_event, replica_is, request_event}
-use Rattle.key_laws.proofs.KeyEnds.{abort_event, applied_locks, applied_rows, commit_event, complete_event, expire_event, given_locks, given_rows, round_event, unasked_is}
+use Rattle.key_laws.proofs.KeyEnds.{abort_event, commit_event, committed_rows, complete_event, expire_event, given_up_rows, round_event}
 use Rattle.sig_core.proofs.Keys.{same_key-swap, tied-same_key}
 use Rattle.key_laws.proofs.PlacesAt.{apart-set_row, apart-with_place, has-own_place, row-set_row, row-with_place, row_at, row_of-at}
 
@@ -96,24 +96,6 @@ expire_well t well = record {
   some = λ tx key is at r there here. record { placed = well.placed; orderly = unwait_orderly t.locks key tx well.orderly };
 }
 
--- what a commit makes of the rows
-applied_placed : (s : LqhState) (tx : TxId) (key : List ℕ) (epoch : ℕ) (had : Option Bool) (st : StorageState) (markers : List Marker)
-    → Applies s tx key epoch had st markers → IsPlaced s.rows → IsPlaced st.rows
-applied_placed s tx key epoch had st markers applies placed =
-    let now : st.rows ≡ (commit.applied s tx key epoch had).rows = ap (λ (t : LqhState). t.rows) applies.is in
-    let same : (commit.applied s tx key epoch had).rows ≡ (commit.applied s tx key epoch (record_state s.rows tx key)).rows =
-    ap (λ o. (commit.applied s tx key epoch o).rows) (sym applies.had_is) in
-    subst IsPlaced (sym (now ∙ (same ∙ applied_rows s tx key epoch))) (placed-committed s.rows tx key placed)
-
--- and an abort
-given_placed : (s : LqhState) (tx : TxId) (key : List ℕ) (had : Option Bool) (st : StorageState)
-    → GivesUp s tx key had st → IsPlaced s.rows → IsPlaced st.rows
-given_placed s tx key had st gives placed =
-    let now : st.rows ≡ (abort.given_up s tx key had).rows = ap (λ (t : LqhState). t.rows) (gives.is s.waiting) in
-    let same : (abort.given_up s tx key had).rows ≡ (abort.given_up s tx key (record_state s.rows tx key)).rows =
-    ap (λ o. (abort.given_up s tx key o).rows) (sym gives.had_is) in
-    subst IsPlaced (sym (now ∙ (same ∙ given_rows s tx key))) (placed-aborted s.rows tx key placed)
-
 pub signals_keep_well : SignalsKeepWell
 signals_keep_well s body well =
     lqh_forms (λ body step. IsWell step.state) s (record {
@@ -127,22 +109,22 @@ signals_keep_well s body well =
       };
       commits = λ tx key epoch chain at. record {
         last = λ had st markers applies first. record {
-          placed = applied_placed s tx key epoch had st markers applies well.placed;
+          placed = subst IsPlaced (sym (committed_rows applies)) (placed-committed s.rows tx key well.placed);
           orderly = release_orderly s.locks key tx well.orderly;
         };
         passes = λ had st markers applies first. record {
-          placed = applied_placed s tx key epoch had st markers applies well.placed;
+          placed = subst IsPlaced (sym (committed_rows applies)) (placed-committed s.rows tx key well.placed);
           orderly = well.orderly;
         };
       };
       completes = λ tx key chain at. record { last = λ first. completed tx key; passes = λ first. completed tx key };
       aborts = λ tx key. record {
         none = λ had st gives none. record {
-          placed = given_placed s tx key had st gives well.placed;
+          placed = subst IsPlaced (sym (given_up_rows gives)) (placed-aborted s.rows tx key well.placed);
           orderly = release_orderly s.locks key tx well.orderly;
         };
         some = λ had st gives at r there here. record {
-          placed = given_placed s tx key had st gives well.placed;
+          placed = subst IsPlaced (sym (given_up_rows gives)) (placed-aborted s.rows tx key well.placed);
           orderly = release_orderly s.locks key tx well.orderly;
         };
       };
