@@ -8,6 +8,7 @@ use Rattle.frag_map.specs.Shape.{IsShape}
 use Rattle.lqh_block.specs.Commit as commit
 use Rattle.lqh_block.specs.Lqh.{lqh_table}
 use Rattle.lqh_block.specs.State.{LqhState}
+use Rattle.lqh_block.proofs.LqhForms.{commit_forms}
 use Rattle.node_core.proofs.HostCases.{IsRowsStep, IsTcStep, tc_step}
 use Rattle.node_core.specs.Blocks.{has_tc, lqh_of, tc_of}
 use Rattle.run_theory.proofs.Pasts.{each_in}
@@ -66,35 +67,45 @@ came_along n tx _ = 0
 -- a replica answers a commit or passes it on
 commit_passed : (n : ℕ) (tx : TxId) (s : LqhState) (other : TxId) (key : List ℕ) (epoch : ℕ) (chain : List Member) (at : ℕ)
     → one_if (same_tx other tx && (is_good n chain && nat_lt at (length chain))) ≤ sends_of (is_commit n tx) (commit.commit_row s other key epoch chain at).effects.sends
-unfolding commit.commit_row
-commit_passed n tx s other key epoch chain at =
-    go (same_tx other tx && (is_good n chain && nat_lt at (length chain))) refl (at == 0) refl
+commit_passed n tx s other key epoch chain at = by (same_tx other tx && (is_good n chain && nat_lt at (length chain))) refl
   where
-    go : (m : Bool) → (same_tx other tx && (is_good n chain && nat_lt at (length chain))) ≡ m → (b : Bool)
-        → (at == 0) ≡ b
-        → one_if m ≤ sends_of (is_commit n tx) (commit.told_if (commit.applied s other key epoch (record_state s.rows other key)) other key epoch chain at (record_state s.rows other key) b).effects.sends
-    go false e b z = omega arith
-    go true e true z =
-        let same = left_of (same_tx other tx) (is_good n chain && nat_lt at (length chain)) e in
-        omega
-        (arith, ap one_if (true_and (other.tc == tx.tc) (same_tx other tx) (subst (λ (t : TxId). (t.tc == tx.tc) ≡ true) (sym (same_tx-is other tx same)) (eqb-self tx.tc)) same))
-    go true e false z =
-        let rest = right_of (same_tx other tx) (is_good n chain && nat_lt at (length chain)) e in
-        let good = left_of (is_good n chain) (nat_lt at (length chain)) rest in
-        let low = under (right_of (is_good n chain) (nat_lt at (length chain)) rest) in
-        omega (
-          arith,
-          ap one_if (true_and (is_node n (node_at chain (at - 1))) (same_tx other tx && (is_good n chain && nat_lt (at - 1) (length chain))) (chain_at n chain (at - 1) good (omega (arith, low)))
-              (true_and (same_tx other tx) (is_good n chain && nat_lt (at - 1) (length chain)) (left_of (same_tx other tx) (is_good n chain && nat_lt at (length chain)) e)
-              (true_and (is_good n chain) (nat_lt (at - 1) (length chain)) good (less low)))),
-        )
-      where
-        under : nat_lt at (length chain) ≡ true → at < length chain
-        under q = grind (arith, nat_tests, q)
+    under : nat_lt at (length chain) ≡ true → at < length chain
+    under q = grind (arith, nat_tests, q)
 
-        less : at < length chain → nat_lt (at - 1) (length chain) ≡ true
-        less q =
-            let r : at - 1 < length chain = omega (arith, q) in grind (arith, nat_tests, r)
+    less : at < length chain → nat_lt (at - 1) (length chain) ≡ true
+    less q =
+        let r : at - 1 < length chain = omega (arith, q) in grind (arith, nat_tests, r)
+
+    by : (m : Bool) → (same_tx other tx && (is_good n chain && nat_lt at (length chain))) ≡ m
+        → one_if m ≤ sends_of (is_commit n tx) (commit.commit_row s other key epoch chain at).effects.sends
+    by false e = omega arith
+    by true e =
+        commit_forms (λ step. 1 ≤ sends_of (is_commit n tx) step.effects.sends) s other key epoch chain at (record {
+          last = λ had st markers applies first. omega (
+            arith,
+            ap one_if (true_and (other.tc == tx.tc) (same_tx other tx)
+                (subst (λ (t : TxId). (t.tc == tx.tc) ≡ true) (sym (same_tx-is other tx same)) (eqb-self tx.tc)) same),
+          );
+          passes = λ had st markers applies behind. omega (
+            arith,
+            ap one_if (true_and (is_node n (node_at chain (at - 1))) (same_tx other tx && (is_good n chain && nat_lt (at - 1) (length chain)))
+                (chain_at n chain (at - 1) good (omega (arith, low)))
+                (true_and (same_tx other tx) (is_good n chain && nat_lt (at - 1) (length chain)) same
+                (true_and (is_good n chain) (nat_lt (at - 1) (length chain)) good (less low)))),
+          );
+        })
+      where
+        same : same_tx other tx ≡ true
+        same = left_of (same_tx other tx) (is_good n chain && nat_lt at (length chain)) e
+
+        rest : (is_good n chain && nat_lt at (length chain)) ≡ true
+        rest = right_of (same_tx other tx) (is_good n chain && nat_lt at (length chain)) e
+
+        good : is_good n chain ≡ true
+        good = left_of (is_good n chain) (nat_lt at (length chain)) rest
+
+        low : at < length chain
+        low = under (right_of (is_good n chain) (nat_lt at (length chain)) rest)
 
 lqh_commits : (n : ℕ) (tx : TxId) (s : LqhState) (body : Body)
     → came_along n tx body ≤ sends_of (is_commit n tx) (lqh_table s body).effects.sends

@@ -27,6 +27,7 @@ pub mod PhaseSends
 pub mod PlainMarks
 pub mod QueueWaits
 pub mod Replicas
+pub mod RequestCounts
 pub mod SendKinds
 pub mod ShellHost
 pub mod StartedHosts
