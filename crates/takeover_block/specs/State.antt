@@ -1,0 +1,44 @@
+-- The state of a takeover.
+use Rattle.std.specs.Prelude.{ℕ, Bool, true, false, List, [], slice_get, Option, None, Some}
+use Rattle.sig_core.specs.declared.member.TxId.{TxId}
+use Rattle.sig_core.specs.declared.view.View.{View}
+use Rattle.sig_core.specs.Same.{same_tx}
+use Rattle.frag_map.specs.Layout.{Layout}
+use Rattle.frag_map.specs.Layout as layouts
+use Rattle.takeover_block.specs.declared.gathered.Gathered.{Gathered}
+use Rattle.takeover_block.specs.declared.stage.Stage.{Stage}
+use Rattle.takeover_block.specs.declared.stage.Stage.TheVariants.{Resting}
+
+-- a takeover: its node and layout, how far it has come, and the transactions that were gathered and aren't done with, in
+-- order of TxId. While it is at work, the first of them is the one that it is at
+pub record TakeoverState : Type 0 where
+  pub node : ℕ
+  pub layout : Layout
+  pub stage : Stage
+  pub gathered : List Gathered
+
+-- nothing is under way
+abbrev pub resting : ℕ → Layout → TakeoverState
+resting node layout = record { node = node; layout = layout; stage = Resting; gathered = [] }
+
+abbrev pub at_stage : TakeoverState → Stage → TakeoverState
+at_stage s stage = record { node = s.node; layout = s.layout; stage = stage; gathered = s.gathered }
+
+abbrev pub with_gathered : TakeoverState → List Gathered → TakeoverState
+with_gathered s gathered = record { node = s.node; layout = s.layout; stage = s.stage; gathered = gathered }
+
+abbrev pub only : TxId → Gathered → Bool → Option Gathered
+only tx g true = Some g
+only tx g false = None
+
+abbrev pub only_of : TxId → Option Gathered → Option Gathered
+only_of tx None = None
+only_of tx (Some g) = only tx g (same_tx g.tx tx)
+
+-- the first of the transactions, if it is this one
+unfoldable pub first_of : List Gathered → TxId → Option Gathered
+first_of gathered tx = only_of tx (slice_get gathered 0)
+
+-- another view is installed: what was under way ends, and what was gathered is forgotten
+abbrev pub in_view : TakeoverState → View → TakeoverState
+in_view s view = resting s.node (layouts.in_view s.layout view)
