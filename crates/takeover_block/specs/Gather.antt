@@ -1,6 +1,5 @@
 -- What is gathered: each transaction that a member tells of, with its keys and, where one is committed, its epoch.
 use Rattle.std.specs.Prelude.{ℕ, ◌+◌, ◌-◌, ◌==◌, ◌&&◌, ◌||◌, Bool, true, false, nat_lt, List, [], ◌∷◌, insert, length, position, slice_get, slice_set, Option, None, Some}
-use Rattle.std.specs.List.{position_or_len}
 use Rattle.sig_core.specs.declared.member.TxId.{TxId}
 use Rattle.sig_core.specs.declared.signal.takeover.RecordState.{RecordState}
 use Rattle.sig_core.specs.declared.signal.takeover.RecordState.TheVariants.{Prepared, Committed, Marker}
@@ -69,15 +68,22 @@ is_of tx g = same_tx g.tx tx
 abbrev pub is_behind : TxId → Gathered → Bool
 is_behind tx g = is_before tx g.tx
 
--- a transaction that is new stands before the first that is behind it
-abbrev pub noted_at : List Gathered → TxId → List ℕ → Option ℕ → ℕ → Option Gathered → List Gathered
-noted_at gathered tx key epoch at None = gathered
-noted_at gathered tx key epoch at (Some g) = slice_set gathered at (told_more g key epoch)
+-- where a transaction that is new is to stand: before the first that is behind it
+abbrev pub place_or : ℕ → Option ℕ → ℕ
+place_or end None = end
+place_or end (Some at) = at
+
+abbrev pub place_for : List Gathered → TxId → ℕ
+place_for gathered tx = place_or (length gathered) (position (is_behind tx) gathered)
+
+-- one more record of the transaction at a place was told
+abbrev pub noted_at : List Gathered → List ℕ → Option ℕ → ℕ → Option Gathered → List Gathered
+noted_at gathered key epoch at None = gathered
+noted_at gathered key epoch at (Some g) = slice_set gathered at (told_more g key epoch)
 
 abbrev pub noted_by : List Gathered → TxId → List ℕ → Option ℕ → Option ℕ → List Gathered
-noted_by gathered tx key epoch None =
-    insert gathered (position_or_len (is_behind tx) gathered) (told_first tx key epoch)
-noted_by gathered tx key epoch (Some at) = noted_at gathered tx key epoch at (slice_get gathered at)
+noted_by gathered tx key epoch None = insert gathered (place_for gathered tx) (told_first tx key epoch)
+noted_by gathered tx key epoch (Some at) = noted_at gathered key epoch at (slice_get gathered at)
 
 -- a record is among what is gathered
 unfoldable pub noted : List Gathered → TxId → List ℕ → Option ℕ → List Gathered

@@ -1,8 +1,7 @@
 //! What is gathered of transactions.
-ghost use Rattle.std.specs.Prelude.{◌≡◌, ◌^◌, ◌≤◌, None, Some, IfOk, MatchOption, OnOk, OnErr};
-ghost use Rattle.std.specs.List.{position_or_len};
+ghost use Rattle.std.specs.Prelude.{◌≡◌, ◌<◌, ◌≤◌, IfOk, IfSome, MatchOption, None, OnErr, OnOk, Some, length, position, slice_get};
 ghost use Rattle.sig_core.specs.Same.{same_tx};
-ghost use Rattle.takeover_block.specs.Gather.{first_epoch, is_before, is_behind, is_of, noted, told_epoch, told_first, told_more};
+ghost use Rattle.takeover_block.specs.Gather.{first_epoch, is_before, is_behind, is_of, noted, noted_at, place_for, told_epoch, told_first, told_more};
 ghost use Rattle.takeover_block.specs.State.{first_of};
 
 use crate::keys::Keys;
@@ -73,7 +72,7 @@ fn first_epoch(known: Option<u64>, told: Option<u64>) -> Option<u64>
 ///
 /// # Errors
 /// `NoMemory`, and then all is as it was.
-#[tactic(auto, using(crate::proofs::GatherLemmas::gathers), unfolding(crate::specs::Gather::noted))]
+#[tactic(auto, unfolding(crate::specs::Gather::noted))]
 pub fn note(
     alloc: Global,
     gathered: &mut Vec<Gathered>,
@@ -84,11 +83,8 @@ pub fn note(
     ensures ok { OnOk result (gathered.new.items ≡ noted gathered.old.items tx key.now epoch) }
     ensures err { OnErr result (gathered.new.items ≡ gathered.old.items) }
 {
-    match gathered.iter().position(|g| is_of(tx, g)) {
-        Some(at) => {
-            let g = &mut gathered[at];
-            g.more(key, epoch)
-        }
+    match place_of(gathered.as_slice(), tx) {
+        Some(at) => note_at(gathered, at, key, epoch),
         None => {
             let at = place_for(gathered.as_slice(), tx);
             let g = Gathered::first(alloc, tx, key, epoch)?;
@@ -98,14 +94,47 @@ pub fn note(
     }
 }
 
+// One more record of the transaction at a place is told of.
+#[tactic(auto, using(crate::proofs::GatherLemmas::gathers))]
+fn note_at(
+    gathered: &mut Vec<Gathered>,
+    at: usize,
+    key: &Key,
+    epoch: Option<u64>,
+) -> Result<(), NoMemory>
+    requires { at < length gathered.old.items }
+    ensures ok { OnOk result (gathered.new.items ≡ noted_at gathered.old.items key.now epoch at (slice_get gathered.old.items at)) }
+    ensures err { OnErr result (gathered.new.items ≡ gathered.old.items) }
+{
+    let g = &mut gathered[at];
+    g.more(key, epoch)
+}
+
+// Where the transaction stands, if it was told of.
+fn place_of(gathered: &[Gathered], tx: TxId) -> Option<usize>
+    ensures value { result ≡ position (is_of tx) gathered.now }
+    ensures within { IfSome result (λ at. at < length gathered.now) }
+{
+    gathered.iter().position(|g| is_of(tx, g))
+}
+
 // Where a transaction that is new is to stand: before the first that is behind it.
 fn place_for(gathered: &[Gathered], tx: TxId) -> usize
-    ensures { result ≡ position_or_len (is_behind tx) gathered.now }
+    ensures value { result ≡ place_for gathered.now tx }
+    ensures within { result ≤ length gathered.now }
 {
-    match gathered.iter().position(|g| is_behind(tx, g)) {
+    match first_behind(gathered, tx) {
         Some(at) => at,
         None => gathered.len(),
     }
+}
+
+// Where the first stands that is behind the transaction.
+fn first_behind(gathered: &[Gathered], tx: TxId) -> Option<usize>
+    ensures value { result ≡ position (is_behind tx) gathered.now }
+    ensures within { IfSome result (λ at. at < length gathered.now) }
+{
+    gathered.iter().position(|g| is_behind(tx, g))
 }
 
 fn is_behind(tx: TxId, g: &Gathered) -> bool
@@ -136,9 +165,10 @@ fn same_tx(one: TxId, other: TxId) -> bool
 }
 
 /// The first of the transactions, if it is this one.
-#[tactic(auto, unfolding(crate::specs::State::first_of))]
+#[tactic(auto, using(std::proofs::lemmas::Option::slice_get_within), unfolding(crate::specs::State::first_of))]
 pub fn first_of(gathered: &[Gathered], tx: TxId) -> Option<&Gathered>
-    ensures { MatchOption result (first_of gathered.now tx ≡ None) (λ g. first_of gathered.now tx ≡ Some g.now) }
+    ensures some { IfSome result (λ g. 1 ≤ length gathered.now) }
+    ensures value { MatchOption result (first_of gathered.now tx ≡ None) (λ g. first_of gathered.now tx ≡ Some g.now) }
 {
     match gathered.first() {
         Some(g) if same_tx(g.tx, tx) => Some(g),

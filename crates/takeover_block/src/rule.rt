@@ -68,8 +68,14 @@ fn is_at_work(stage: Stage) -> bool
     ensures { result ≡ is_at_work stage }
 {
     match stage {
-        Stage::Committing { epoch: _, awaited: _ }
-        | Stage::Completing { epoch: _, awaited: _ }
+        Stage::Committing {
+            epoch: _,
+            awaited: _,
+        }
+        | Stage::Completing {
+            epoch: _,
+            awaited: _,
+        }
         | Stage::Aborting { awaited: _ } => true,
         Stage::Resting | Stage::Gathering { awaited: _ } => false,
     }

@@ -20,14 +20,7 @@ pub const SENDS: u64 = 0x10_0000_0000;
 
 /// Sends what is sent for a transaction at a stage, from place `at` on, and where something is left
 /// the signal by which the takeover goes on with it.
-pub fn send_stage(
-    node: u8,
-    layout: &Layout,
-    stage: Stage,
-    g: &Gathered,
-    at: u64,
-    out: &mut Outs,
-)
+pub fn send_stage(node: u8, layout: &Layout, stage: Stage, g: &Gathered, at: u64, out: &mut Outs)
     requires room { length out.old.sends + 9 ≤ 16 }
     requires place { at < 2 ^ 36 }
     ensures { out.new ≡ joined out.old (stage_effects node layout.now stage g.now at) }
@@ -136,11 +129,7 @@ fn offer_commit(
         chain: Chain::of(chain),
         at,
     };
-    portion.offer(
-        rows_of(node_at(chain, at as usize)),
-        Body::Chain(body),
-        out,
-    );
+    portion.offer(rows_of(node_at(chain, at as usize)), Body::Chain(body), out);
 }
 
 // Completes a key, from the last place of its chain on.
@@ -156,11 +145,7 @@ fn offer_complete(tx: TxId, key: &Key, chain: &Members, portion: &mut Portion, o
         chain: Chain::of(chain),
         at,
     };
-    portion.offer(
-        rows_of(node_at(chain, at as usize)),
-        Body::Chain(body),
-        out,
-    );
+    portion.offer(rows_of(node_at(chain, at as usize)), Body::Chain(body), out);
 }
 
 // Aborts a key at each of its replicas.

@@ -51,7 +51,10 @@ impl Takeover {
         ensures value { result ≡ is_some (first_of self.now.gathered tx) }
         ensures some { IsTrue result → 1 ≤ length self.now.gathered }
     {
-        first_of(self.gathered.as_slice(), tx).is_some()
+        match first_of(self.gathered.as_slice(), tx) {
+            Some(_) => true,
+            None => false,
+        }
     }
 
     // Handles a signal of a takeover.

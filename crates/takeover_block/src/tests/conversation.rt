@@ -4,9 +4,7 @@ use super::heard::{Heard, body_of};
 use super::text::shown;
 use crate::Takeover;
 use frag_map::Layout;
-use sig_core::{
-    Actor, BlockId, Held, HostId, Member, Members, Outs, Place, Shape, Signal, View,
-};
+use sig_core::{Actor, BlockId, Held, HostId, Member, Members, Outs, Place, Shape, Signal, View};
 use std::alloc::Global;
 use std::process::Abort;
 use std::test::Fail;
@@ -55,12 +53,7 @@ fn signal(alloc: Global, number: u64, heard: Heard) -> Result<Signal, Fail> {
 }
 
 // What the takeover sends at a signal with the header of a view.
-fn sent(
-    alloc: Global,
-    takeover: &mut Takeover,
-    number: u64,
-    heard: Heard,
-) -> Result<String, Fail> {
+fn sent(alloc: Global, takeover: &mut Takeover, number: u64, heard: Heard) -> Result<String, Fail> {
     let mut outs = Outs::new(alloc)?;
     takeover.handle(alloc, &signal(alloc, number, heard)?, &mut outs)?;
     Ok(shown(alloc, &mut outs)?)
@@ -360,19 +353,25 @@ fn more_than_eight_commits_go_in_portions(rt: HostRuntime) -> Result<(), Fail> {
     let mut takeover = Takeover::new(alloc, 2, without_primary());
     of_nine_keys(&rt, alloc, &mut takeover, Some(5))?;
     let text = sent(alloc, &mut takeover, 2, Heard::End)?;
-    assert!(&rt; text.as_str().ends_with("lqh3 commit 1.7 h in 5 at 1 of 2, takeover2 go on 8"));
-    let rest = [(
-        Heard::GoOn((1, 7), 8),
-        "lqh3 commit 1.7 i in 5 at 1 of 2",
-    )];
+    assert!(&rt;
+        text.as_str()
+            .ends_with("lqh3 commit 1.7 h in 5 at 1 of 2, takeover2 go on 8")
+    );
+    let rest = [(Heard::GoOn((1, 7), 8), "lqh3 commit 1.7 i in 5 at 1 of 2")];
     talk(&rt, alloc, &mut takeover, 2, &rest)?;
     for _ in 0..8u8 {
         let one = [(Heard::Committed((1, 7), b'a'), "")];
         talk(&rt, alloc, &mut takeover, 2, &one)?;
     }
     let text = sent(alloc, &mut takeover, 2, Heard::Committed((1, 7), b'i'))?;
-    assert!(&rt; text.as_str().starts_with("api0 committed 1.7 in 5, lqh3 complete 1.7 a at 1 of 2"));
-    assert!(&rt; text.as_str().ends_with("lqh3 complete 1.7 g at 1 of 2, takeover2 go on 8"));
+    assert!(&rt;
+        text.as_str()
+            .starts_with("api0 committed 1.7 in 5, lqh3 complete 1.7 a at 1 of 2")
+    );
+    assert!(&rt;
+        text.as_str()
+            .ends_with("lqh3 complete 1.7 g at 1 of 2, takeover2 go on 8")
+    );
     let rest = [(
         Heard::GoOn((1, 7), 8),
         "lqh3 complete 1.7 h at 1 of 2, lqh3 complete 1.7 i at 1 of 2",

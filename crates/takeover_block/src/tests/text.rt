@@ -69,12 +69,7 @@ fn show_chain(text: &mut String, signal: &ChainSignal) -> Result<(), AllocError>
             put_number(text, " at ", u64::from(*at))?;
             put_number(text, " of ", chain.members().as_slice().len() as u64)
         }
-        ChainSignal::Complete {
-            tx,
-            key,
-            chain,
-            at,
-        } => {
+        ChainSignal::Complete { tx, key, chain, at } => {
             put_tx(text, "complete ", *tx)?;
             put_key(text, key)?;
             put_number(text, " at ", u64::from(*at))?;

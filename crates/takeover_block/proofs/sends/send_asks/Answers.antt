@@ -11,9 +11,9 @@ unfolding ask_effects
 returns-then-portion c =
     let xs = asks_of c.args.view.now in
     let is : so_far c.offer_asks.new.portion c.offer_asks.new.out
-        ≡ all_offered (offered_from c.args.at c.args.out.now) xs = cc in
+    ≡ all_offered (offered_from c.args.at c.args.out.now) xs = cc in
     let done = goes_on_after_portion (takeover c.args.node) Members c.args.at c.args.out.now
-        c.offer_asks.new.out c.offer_asks.new.portion xs is c.if-portion.true in
+    c.offer_asks.new.out c.offer_asks.new.portion xs is c.if-portion.true in
     cc done
 
 pub returns-else-portion : goal.returns-else-portion
@@ -21,6 +21,6 @@ unfolding ask_effects
 returns-else-portion c =
     let xs = asks_of c.args.view.now in
     let is : so_far c.offer_asks.new.portion c.offer_asks.new.out
-        ≡ all_offered (offered_from c.args.at c.args.out.now) xs = cc in
+    ≡ all_offered (offered_from c.args.at c.args.out.now) xs = cc in
     ends_with_portion (takeover c.args.node) Members c.args.at c.args.out.now
     c.offer_asks.new.out c.offer_asks.new.portion xs is c.if-portion.false

@@ -11,9 +11,9 @@ unfolding stage_effects
 returns-then-portion c =
     let xs = stage_sends c.args.layout.now c.args.stage c.args.g.now in
     let is : so_far c.offer_stage.new.portion c.offer_stage.new.out
-        ≡ all_offered (offered_from c.args.at c.args.out.now) xs = cc in
+    ≡ all_offered (offered_from c.args.at c.args.out.now) xs = cc in
     let done = goes_on_after_portion (takeover c.args.node) (Transaction c.args.g.now.tx) c.args.at c.args.out.now
-        c.offer_stage.new.out c.offer_stage.new.portion xs is c.if-portion.true in
+    c.offer_stage.new.out c.offer_stage.new.portion xs is c.if-portion.true in
     cc done
 
 pub returns-else-portion : goal.returns-else-portion
@@ -21,6 +21,6 @@ unfolding stage_effects
 returns-else-portion c =
     let xs = stage_sends c.args.layout.now c.args.stage c.args.g.now in
     let is : so_far c.offer_stage.new.portion c.offer_stage.new.out
-        ≡ all_offered (offered_from c.args.at c.args.out.now) xs = cc in
+    ≡ all_offered (offered_from c.args.at c.args.out.now) xs = cc in
     ends_with_portion (takeover c.args.node) (Transaction c.args.g.now.tx) c.args.at c.args.out.now
     c.offer_stage.new.out c.offer_stage.new.portion xs is c.if-portion.false
