@@ -10,33 +10,39 @@ use Rattle.takeover_block.specs.declared.gathered.Gathered.{Gathered}
 use Rattle.takeover_block.specs.declared.stage.Stage.{Stage}
 use Rattle.takeover_block.specs.declared.stage.Stage.TheVariants.{Gathering}
 use Rattle.takeover_block.specs.Keys.{with_key}
-use Rattle.takeover_block.specs.Rule.{is_onward, ruling}
-use Rattle.takeover_block.specs.Sends.{ask_effects}
-use Rattle.takeover_block.specs.State.{TakeoverState, at_stage, with_gathered}
+use Rattle.takeover_block.specs.Rule.{is_left, ruling}
+use Rattle.takeover_block.specs.Sends.{ask_effects, ask_left}
+use Rattle.takeover_block.specs.State.{TakeoverState, at_stage, come_to, with_gathered, with_left}
 
 -- how many members a view has
 abbrev pub member_count : View → ℕ
 member_count view = length view.full + length view.starting
 
 -- the takeover with nothing gathered, and so many members that have still to end
-abbrev pub asked : TakeoverState → ℕ → TakeoverState
-asked s awaited = record { node = s.node; layout = s.layout; stage = Gathering awaited; gathered = [] }
+abbrev pub asking : TakeoverState → ℕ → ℕ → TakeoverState
+asking s awaited left = with_gathered (come_to s (Gathering awaited) left) []
 
 abbrev pub order_if : TakeoverState → ℕ → Bool → Step TakeoverState
-order_if s awaited true = ruling (asked s awaited)
-order_if s awaited false = record { state = asked s awaited; effects = ask_effects s.node s.layout.view 0 }
+order_if s awaited true = ruling (asking s awaited 0)
+order_if s awaited false = record {
+  state = asking s awaited (ask_left s.layout.view 0);
+  effects = ask_effects s.node s.layout.view 0;
+}
 
 -- a takeover is ordered: what was gathered is forgotten, and every member is asked
 unfoldable pub order_row : TakeoverState → Step TakeoverState
 order_row s = order_if s (member_count s.layout.view) (member_count s.layout.view == 0)
 
 abbrev pub ask_by : TakeoverState → ℕ → Bool → Stage → Step TakeoverState
-ask_by s at true (Gathering awaited) = record { state = s; effects = ask_effects s.node s.layout.view at }
+ask_by s at true (Gathering awaited) = record {
+  state = with_left s (ask_left s.layout.view at);
+  effects = ask_effects s.node s.layout.view at;
+}
 ask_by s at _ _ = stay s
 
 -- the members that weren't asked yet are, from a place on
-unfoldable pub ask_row : TakeoverState → View → ℕ → Step TakeoverState
-ask_row s view at = ask_by s at (is_onward s.layout view at) s.stage
+unfoldable pub ask_row : TakeoverState → ℕ → Step TakeoverState
+ask_row s at = ask_by s at (is_left s at) s.stage
 
 -- one transaction stands before another
 abbrev pub is_before : TxId → TxId → Bool

@@ -1,15 +1,14 @@
 -- One transaction after the other is ruled on: committed where a member told an epoch of it, and else aborted.
 use Rattle.std.specs.Prelude.{ℕ, ◌+◌, ◌==◌, ◌&&◌, Bool, true, false, nat_lt, List, [], ◌∷◌, length, remove, slice_get, Option, None, Some}
 use Rattle.sig_core.specs.declared.member.TxId.{TxId}
-use Rattle.sig_core.specs.declared.view.View.{View}
 use Rattle.sig_core.specs.Step.{Effects, Step, joined, sends_only, stay}
 use Rattle.frag_map.specs.Layout.{Layout, chain_of}
 use Rattle.takeover_block.specs.declared.gathered.Gathered.{Gathered}
 use Rattle.takeover_block.specs.declared.sends.TheConstants.{SENDS}
 use Rattle.takeover_block.specs.declared.stage.Stage.{Stage}
 use Rattle.takeover_block.specs.declared.stage.Stage.TheVariants.{Resting, Gathering, Committing, Completing, Aborting}
-use Rattle.takeover_block.specs.Sends.{stage_effects, told_over}
-use Rattle.takeover_block.specs.State.{TakeoverState, at_stage, first_of, with_gathered}
+use Rattle.takeover_block.specs.Sends.{stage_effects, stage_left, told_over}
+use Rattle.takeover_block.specs.State.{TakeoverState, come_to, first_of, with_gathered, with_left}
 
 -- how many replicas the keys have in a layout, all together
 abbrev pub replica_count : Layout → List (List ℕ) → ℕ
@@ -26,10 +25,13 @@ way_of layout g = way_by layout g.keys g.epoch
 
 -- the takeover comes to a stage with its transaction, and sends the first of what is sent in it
 unfoldable pub entering : TakeoverState → Gathered → Stage → Step TakeoverState
-entering s g stage = record { state = at_stage s stage; effects = stage_effects s.node s.layout stage g 0 }
+entering s g stage = record {
+  state = come_to s stage (stage_left s.layout stage g 0);
+  effects = stage_effects s.node s.layout stage g 0;
+}
 
 abbrev pub ruling_by : TakeoverState → Option Gathered → Step TakeoverState
-ruling_by s None = record { state = at_stage s Resting; effects = sends_only (told_over s.node) }
+ruling_by s None = record { state = come_to s Resting 0; effects = sends_only (told_over s.node) }
 ruling_by s (Some g) = entering s g (way_of s.layout g)
 
 -- the first of the transactions is ruled on; where none is left, the takeover is over
@@ -52,14 +54,22 @@ is_at_work (Aborting awaited) = true
 is_at_work Resting = false
 is_at_work (Gathering awaited) = false
 
--- work was left in the view that is in force, at a place that lists have: none has 2 ^ 36 signals
-abbrev pub is_onward : Layout → View → ℕ → Bool
-is_onward layout view at = view.number == layout.view.number && nat_lt at SENDS
+-- something of the list of a stage is left, from this place on. No list has 2 ^ 36 signals
+abbrev pub is_left : TakeoverState → ℕ → Bool
+is_left s at = nat_lt 0 at && (at == s.left && nat_lt at SENDS)
+
+-- the list of the stage goes on, from a place on
+abbrev pub sending_on : TakeoverState → Gathered → ℕ → Step TakeoverState
+sending_on s g at = record {
+  state = with_left s (stage_left s.layout s.stage g at);
+  effects = stage_effects s.node s.layout s.stage g at;
+}
 
 abbrev pub go_on_by : TakeoverState → ℕ → Bool → Bool → Option Gathered → Step TakeoverState
-go_on_by s at true true (Some g) = record { state = s; effects = stage_effects s.node s.layout s.stage g at }
+go_on_by s at true true (Some g) = sending_on s g at
 go_on_by s at _ _ _ = stay s
 
--- the rest of what is sent for the transaction at work, from a place on
-unfoldable pub go_on_row : TakeoverState → View → TxId → ℕ → Step TakeoverState
-go_on_row s view tx at = go_on_by s at (is_onward s.layout view at) (is_at_work s.stage) (first_of s.gathered tx)
+-- the rest of what is sent for the transaction at work, from a place on; another place than the one that is left does
+-- nothing
+unfoldable pub go_on_row : TakeoverState → TxId → ℕ → Step TakeoverState
+go_on_row s tx at = go_on_by s at (is_left s at) (is_at_work s.stage) (first_of s.gathered tx)

@@ -1,9 +1,10 @@
 -- What a takeover sends, stage by stage.
-use Rattle.std.specs.Prelude.{ℕ, List, [], ◌∷◌, ◌++◌, map}
+use Rattle.std.specs.Prelude.{ℕ, ◌+◌, Bool, true, false, nat_lt, List, [], ◌∷◌, ◌++◌, length, map}
 use Rattle.std.specs.List.{flat_map}
 use Rattle.sig_core.specs.declared.member.Member.{Member}
 use Rattle.sig_core.specs.declared.member.TxId.{TxId}
 use Rattle.sig_core.specs.declared.outs.Outgoing.{Outgoing}
+use Rattle.sig_core.specs.declared.portion.TheConstants.{PORTION}
 use Rattle.sig_core.specs.declared.signal.Body.TheVariants.{Client, Chain, Takeover}
 use Rattle.sig_core.specs.declared.signal.chain.ChainSignal.TheVariants.{Commit, Complete, Abort}
 use Rattle.sig_core.specs.declared.signal.client.ClientSignal.TheVariants.{TcKeyFailConf, TcKeyFailRef, NfCompleteRep}
@@ -19,6 +20,14 @@ use Rattle.takeover_block.specs.declared.gathered.Gathered.{Gathered}
 use Rattle.takeover_block.specs.declared.stage.Stage.{Stage}
 use Rattle.takeover_block.specs.declared.stage.Stage.TheVariants.{Resting, Gathering, Committing, Completing, Aborting}
 
+-- the place from which a list goes on after an event that sent from a place on; 0 where nothing is left
+abbrev pub left_if : ℕ → Bool → ℕ
+left_if at true = at + PORTION
+left_if at false = 0
+
+abbrev pub left_after : List Outgoing → ℕ → ℕ
+left_after sends at = left_if at (nat_lt (at + PORTION) (length sends))
+
 -- a member is asked for its records and markers
 abbrev pub ask_of : Member → Outgoing
 ask_of member = to_place (rows_of member.node) (Takeover LqhTransReq)
@@ -27,9 +36,12 @@ ask_of member = to_place (rows_of member.node) (Takeover LqhTransReq)
 unfoldable pub asks_of : View → List Outgoing
 asks_of view = map ask_of view.full ++ map ask_of view.starting
 
--- what an event sends of that, from a place on
+-- what an event sends of that, from a place on, and the place that is left
 unfoldable pub ask_effects : ℕ → View → ℕ → Effects
 ask_effects node view at = portion_effects (takeover node) work.Members (asks_of view) at
+
+unfoldable pub ask_left : View → ℕ → ℕ
+ask_left view at = left_after (asks_of view) at
 
 -- a chain's last place is told to commit the key
 abbrev pub commit_along : TxId → ℕ → List ℕ → List Member → Outgoing
@@ -80,7 +92,10 @@ front_sends tx (Gathering awaited) = []
 unfoldable pub stage_sends : Layout → Stage → Gathered → List Outgoing
 stage_sends layout stage g = front_sends g.tx stage ++ flat_map (key_sends layout g.tx stage) g.keys
 
--- what an event sends of that, from a place on
+-- what an event sends of that, from a place on, and the place that is left
 unfoldable pub stage_effects : ℕ → Layout → Stage → Gathered → ℕ → Effects
 stage_effects node layout stage g at =
     portion_effects (takeover node) (work.Transaction g.tx) (stage_sends layout stage g) at
+
+unfoldable pub stage_left : Layout → Stage → Gathered → ℕ → ℕ
+stage_left layout stage g at = left_after (stage_sends layout stage g) at

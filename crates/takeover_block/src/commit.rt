@@ -28,7 +28,7 @@ impl Takeover {
             } else {
                 let awaited = g.keys.as_slice().len();
                 let stage = Stage::Completing { epoch, awaited };
-                send_stage(self.node, &self.layout, stage, g, 0, out);
+                self.left = send_stage(self.node, &self.layout, stage, g, 0, out);
                 self.stage = stage;
             }
         }

@@ -4,11 +4,10 @@ ghost use Rattle.sig_core.specs.Step.{HasRoom, IsTaken, IsUntouched};
 ghost use Rattle.takeover_block.specs.Gather.{ask_row, end_row, order_row, tell_row};
 
 use crate::gathered::{note, told_epoch};
-use crate::rule::is_onward;
 use crate::sends::send_asks;
 use crate::stage::Stage;
 use crate::takeover::Takeover;
-use sig_core::{Key, NoMemory, Outs, RecordState, TxId, View};
+use sig_core::{Key, NoMemory, Outs, RecordState, TxId};
 use std::alloc::Global;
 
 impl Takeover {
@@ -23,23 +22,24 @@ impl Takeover {
         self.stage = Stage::Gathering { awaited };
         self.gathered.clear();
         if awaited == 0 {
+            self.left = 0;
             self.rule(out);
         } else {
-            send_asks(self.node, self.layout.view(), 0, out);
+            self.left = send_asks(self.node, self.layout.view(), 0, out);
         }
     }
 
     /// Goes on asking, from a place of the members on.
     #[tactic(auto, unfolding(crate::specs::Gather::ask_row))]
-    pub(crate) fn ask_more(&self, view: &View, at: u64, out: &mut Outs)
+    pub(crate) fn ask_more(&mut self, at: u64, out: &mut Outs)
         requires { HasRoom out.old }
-        ensures { IsTaken (ask_row self.now view.now at) self.now out.old out.new }
+        ensures { IsTaken (ask_row self.old at) self.new out.old out.new }
     {
-        if !is_onward(&self.layout, view, at) {
+        if !self.is_left(at) {
             return;
         }
         if let Stage::Gathering { awaited: _ } = self.stage {
-            send_asks(self.node, self.layout.view(), at, out);
+            self.left = send_asks(self.node, self.layout.view(), at, out);
         }
     }
 

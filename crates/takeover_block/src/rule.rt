@@ -1,14 +1,14 @@
 //! One transaction after the other is ruled on.
 ghost use Rattle.std.specs.Prelude.{◌≡◌, ◌+◌, ◌*◌, ◌≤◌, ◌<◌, ◌^◌, length};
 ghost use Rattle.sig_core.specs.Step.{HasRoom, IsTaken};
-ghost use Rattle.takeover_block.specs.Rule.{go_on_row, going_on, is_at_work, is_onward, replica_count, ruling, way_of};
+ghost use Rattle.takeover_block.specs.Rule.{go_on_row, going_on, is_at_work, is_left, replica_count, ruling, way_of};
 
 use crate::gathered::{Gathered, first_of};
 use crate::sends::{SENDS, send_over, send_stage};
 use crate::stage::Stage;
 use crate::takeover::Takeover;
 use frag_map::Layout;
-use sig_core::{Key, Outs, TxId, View};
+use sig_core::{Key, Outs, TxId};
 
 impl Takeover {
     /// Rules on the first of the transactions: it is committed where a member told an epoch of it,
@@ -21,11 +21,12 @@ impl Takeover {
         match self.gathered.as_slice().first() {
             Some(g) => {
                 let stage = way_of(&self.layout, g);
-                send_stage(self.node, &self.layout, stage, g, 0, out);
+                self.left = send_stage(self.node, &self.layout, stage, g, 0, out);
                 self.stage = stage;
             }
             None => {
                 self.stage = Stage::Resting;
+                self.left = 0;
                 send_over(self.node, out);
             }
         }
@@ -42,26 +43,27 @@ impl Takeover {
         self.rule(out);
     }
 
-    /// Goes on with what is sent for the transaction at work, from a place on.
+    /// Goes on with what is sent for the transaction at work, from a place on. Another place than
+    /// the one that is left does nothing.
     #[tactic(auto, unfolding(crate::specs::Rule::go_on_row))]
-    pub(crate) fn send_more(&self, view: &View, tx: TxId, at: u64, out: &mut Outs)
+    pub(crate) fn send_more(&mut self, tx: TxId, at: u64, out: &mut Outs)
         requires { HasRoom out.old }
-        ensures { IsTaken (go_on_row self.now view.now tx at) self.now out.old out.new }
+        ensures { IsTaken (go_on_row self.old tx at) self.new out.old out.new }
     {
-        if !is_onward(&self.layout, view, at) || !is_at_work(self.stage) {
+        if !self.is_left(at) || !is_at_work(self.stage) {
             return;
         }
         if let Some(g) = first_of(self.gathered.as_slice(), tx) {
-            send_stage(self.node, &self.layout, self.stage, g, at, out);
+            self.left = send_stage(self.node, &self.layout, self.stage, g, at, out);
         }
     }
-}
 
-/// Whether work was left in the view that is in force, at a place that lists have.
-pub fn is_onward(layout: &Layout, view: &View, at: u64) -> bool
-    ensures { result ≡ is_onward layout.now view.now at }
-{
-    view.number == layout.view().number && at < SENDS
+    /// Whether something of the list of the stage is left, from this place on.
+    pub(crate) fn is_left(&self, at: u64) -> bool
+        ensures { result ≡ is_left self.now at }
+    {
+        at > 0 && at == self.left && at < SENDS
+    }
 }
 
 fn is_at_work(stage: Stage) -> bool

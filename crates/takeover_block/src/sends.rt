@@ -3,7 +3,7 @@ ghost use Rattle.std.specs.Prelude.{◌≡◌, ◌+◌, ◌<◌, ◌≤◌, ◌^
 ghost use Rattle.std.specs.List.{flat_map};
 ghost use Rattle.sig_core.specs.Step.{HasRoom, and_send, joined, sends_only};
 ghost use Rattle.sig_core.specs.Portion.{all_offered, so_far};
-ghost use Rattle.takeover_block.specs.Sends.{abort_at, ask_effects, ask_of, asks_of, commit_along, complete_along, front_sends, key_sends, stage_effects, stage_sends, told_over};
+ghost use Rattle.takeover_block.specs.Sends.{abort_at, ask_effects, ask_left, ask_of, asks_of, commit_along, complete_along, front_sends, key_sends, stage_effects, stage_left, stage_sends, told_over};
 
 use crate::gathered::Gathered;
 use crate::keys::Keys;
@@ -19,11 +19,19 @@ use sig_core::{
 pub const SENDS: u64 = 0x10_0000_0000;
 
 /// Sends what is sent for a transaction at a stage, from place `at` on, and where something is left
-/// the signal by which the takeover goes on with it.
-pub fn send_stage(node: u8, layout: &Layout, stage: Stage, g: &Gathered, at: u64, out: &mut Outs)
+/// the signal by which the takeover goes on with it. Answers the place that is left, or 0.
+pub fn send_stage(
+    node: u8,
+    layout: &Layout,
+    stage: Stage,
+    g: &Gathered,
+    at: u64,
+    out: &mut Outs,
+) -> u64
     requires room { length out.old.sends + 9 ≤ 16 }
     requires place { at < 2 ^ 36 }
-    ensures { out.new ≡ joined out.old (stage_effects node layout.now stage g.now at) }
+    ensures effects { out.new ≡ joined out.old (stage_effects node layout.now stage g.now at) }
+    ensures left { result ≡ stage_left layout.now stage g.now at }
 {
     let mut portion = Portion::new(at);
     offer_stage(layout, stage, g, &mut portion, out);
@@ -34,6 +42,9 @@ pub fn send_stage(node: u8, layout: &Layout, stage: Stage, g: &Gathered, at: u64
             takeover(node),
             Body::Host(HostSignal::Continue { work, at: next }),
         );
+        next
+    } else {
+        0
     }
 }
 
@@ -162,11 +173,13 @@ fn offer_aborts(tx: TxId, key: &Key, chain: &Members, portion: &mut Portion, out
 }
 
 /// Asks every member for its records and markers, from place `at` of the members on, and where some
-/// are left sends the signal by which the takeover goes on with them.
-pub fn send_asks(node: u8, view: &View, at: u64, out: &mut Outs)
+/// are left sends the signal by which the takeover goes on with them. Answers the place that is
+/// left, or 0.
+pub fn send_asks(node: u8, view: &View, at: u64, out: &mut Outs) -> u64
     requires room { length out.old.sends + 9 ≤ 16 }
     requires place { at < 2 ^ 36 }
-    ensures { out.new ≡ joined out.old (ask_effects node view.now at) }
+    ensures effects { out.new ≡ joined out.old (ask_effects node view.now at) }
+    ensures left { result ≡ ask_left view.now at }
 {
     let mut portion = Portion::new(at);
     offer_asks(view, &mut portion, out);
@@ -177,6 +190,9 @@ pub fn send_asks(node: u8, view: &View, at: u64, out: &mut Outs)
             takeover(node),
             Body::Host(HostSignal::Continue { work, at: next }),
         );
+        next
+    } else {
+        0
     }
 }
 

@@ -21,6 +21,8 @@ pub struct Takeover {
     pub(crate) node: u8,
     pub(crate) layout: Layout,
     pub(crate) stage: Stage,
+    /// The place from which the list of the stage goes on; 0 where nothing is left of it.
+    pub(crate) left: u64,
     /// The transactions that were gathered and aren't done with, in order of `TxId`.
     pub(crate) gathered: Vec<Gathered>,
 }
@@ -30,7 +32,7 @@ impl Model for Takeover {
 
     ghost Value = { TakeoverState };
 
-    ghost view = { λ t. record { node = t.node; layout = t.layout; stage = t.stage; gathered = t.gathered.items } };
+    ghost view = { λ t. record { node = t.node; layout = t.layout; stage = t.stage; left = t.left; gathered = t.gathered.items } };
 }
 
 impl Takeover {
@@ -42,6 +44,7 @@ impl Takeover {
             node,
             layout,
             stage: Stage::Resting,
+            left: 0,
             gathered: Vec::new(alloc),
         }
     }
@@ -61,12 +64,11 @@ impl Takeover {
     fn handle_takeover(
         &mut self,
         alloc: Global,
-        view: &View,
         signal: &TakeoverSignal,
         out: &mut Outs,
     ) -> Result<(), NoMemory>
         requires { HasRoom out.old }
-        ensures ok { OnOk result (IsTaken (takeover_table self.old view.now (Told signal.now)) self.new out.old out.new) }
+        ensures ok { OnOk result (IsTaken (takeover_table self.old (Told signal.now)) self.new out.old out.new) }
         ensures err { OnErr result (IsUntouched self.old self.new out.old out.new) }
     {
         match signal {
@@ -89,9 +91,9 @@ impl Takeover {
     }
 
     // Handles an answer of the rows.
-    fn handle_chain(&mut self, view: &View, signal: &ChainSignal, out: &mut Outs)
+    fn handle_chain(&mut self, signal: &ChainSignal, out: &mut Outs)
         requires { HasRoom out.old }
-        ensures { IsTaken (takeover_table self.old view.now (Chain signal.now)) self.new out.old out.new }
+        ensures { IsTaken (takeover_table self.old (Chain signal.now)) self.new out.old out.new }
     {
         match signal {
             ChainSignal::Committed { tx, key: _ } => self.committed(*tx, out),
@@ -102,19 +104,19 @@ impl Takeover {
     }
 
     // Goes on with a list.
-    fn handle_host(&mut self, view: &View, signal: &HostSignal, out: &mut Outs)
+    fn handle_host(&mut self, signal: &HostSignal, out: &mut Outs)
         requires { HasRoom out.old }
-        ensures { IsTaken (takeover_table self.old view.now (Host signal.now)) self.new out.old out.new }
+        ensures { IsTaken (takeover_table self.old (Host signal.now)) self.new out.old out.new }
     {
         match signal {
             HostSignal::Continue {
                 work: Work::Transaction(tx),
                 at,
-            } => self.send_more(view, *tx, *at, out),
+            } => self.send_more(*tx, *at, out),
             HostSignal::Continue {
                 work: Work::Members,
                 at,
-            } => self.ask_more(view, *at, out),
+            } => self.ask_more(*at, out),
             _ => {}
         }
     }
@@ -130,15 +132,14 @@ impl Actor for Takeover {
     ghost installed = { λ s view. stay (in_view s view) };
 
     fn handle(&mut self, alloc: Global, signal: &Signal, out: &mut Outs) -> Result<(), NoMemory> {
-        let view = signal.view.get();
         match &signal.body {
-            Body::Takeover(told) => self.handle_takeover(alloc, view, told, out),
+            Body::Takeover(told) => self.handle_takeover(alloc, told, out),
             Body::Chain(answer) => {
-                self.handle_chain(view, answer, out);
+                self.handle_chain(answer, out);
                 Ok(())
             }
             Body::Host(work) => {
-                self.handle_host(view, work, out);
+                self.handle_host(work, out);
                 Ok(())
             }
             _ => Ok(()),
@@ -150,6 +151,7 @@ impl Actor for Takeover {
     fn install(&mut self, view: &View, _out: &mut Outs) {
         self.layout.install(view);
         self.stage = Stage::Resting;
+        self.left = 0;
         self.gathered.clear();
     }
 }

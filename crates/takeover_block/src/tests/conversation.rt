@@ -37,7 +37,7 @@ fn without_primary() -> Layout {
     Layout::new(shape, view(2, &[2, 3]))
 }
 
-fn signal(alloc: Global, number: u64, heard: Heard) -> Result<Signal, Fail> {
+fn signal(alloc: Global, heard: Heard) -> Result<Signal, Fail> {
     Ok(Signal {
         from: HostId(6),
         member: Member { node: 2, start: 0 },
@@ -47,37 +47,36 @@ fn signal(alloc: Global, number: u64, heard: Heard) -> Result<Signal, Fail> {
         },
         seq: 0,
         stamp: 0,
-        view: Held::new(alloc, view(number, &[2, 3]))?,
+        view: Held::new(alloc, view(2, &[2, 3]))?,
         body: body_of(heard)?,
     })
 }
 
-// What the takeover sends at a signal with the header of a view.
-fn sent(alloc: Global, takeover: &mut Takeover, number: u64, heard: Heard) -> Result<String, Fail> {
+// What the takeover sends at a signal.
+fn sent(alloc: Global, takeover: &mut Takeover, heard: Heard) -> Result<String, Fail> {
     let mut outs = Outs::new(alloc)?;
-    takeover.handle(alloc, &signal(alloc, number, heard)?, &mut outs)?;
+    takeover.handle(alloc, &signal(alloc, heard)?, &mut outs)?;
     Ok(shown(alloc, &mut outs)?)
 }
 
-// At each signal of this view the takeover sends just this.
+// At each signal the takeover sends just this.
 fn talk(
     rt: &impl Abort,
     alloc: Global,
     takeover: &mut Takeover,
-    number: u64,
     lines: &[(Heard, &str)],
 ) -> Result<(), Fail> {
     for (heard, expected) in lines {
-        let text = sent(alloc, takeover, number, *heard)?;
+        let text = sent(alloc, takeover, *heard)?;
         assert_eq!(rt; text.as_str(), *expected);
     }
     Ok(())
 }
 
-// A conversation from the start, in view 2.
+// A conversation from the start.
 fn talk_afresh(rt: &impl Abort, alloc: Global, lines: &[(Heard, &str)]) -> Result<(), Fail> {
     let mut takeover = Takeover::new(alloc, 2, without_primary());
-    talk(rt, alloc, &mut takeover, 2, lines)
+    talk(rt, alloc, &mut takeover, lines)
 }
 
 #[test]
@@ -224,7 +223,7 @@ fn it_begins_anew_in_the_middle_of_a_commit(rt: HostRuntime) -> Result<(), Fail>
         (Heard::End, ""),
         (Heard::End, "lqh3 commit 1.7 a in 5 at 1 of 2"),
     ];
-    talk(&rt, alloc, &mut takeover, 2, &lines)?;
+    talk(&rt, alloc, &mut takeover, &lines)?;
     takeover.install(&view(3, &[2]), &mut Outs::new(alloc)?);
     let lines = [
         (Heard::Committed((1, 7), b'a'), ""),
@@ -237,7 +236,7 @@ fn it_begins_anew_in_the_middle_of_a_commit(rt: HostRuntime) -> Result<(), Fail>
         ),
         (Heard::Completed((1, 7), b'a'), "api0 over, gcp2 over"),
     ];
-    talk(&rt, alloc, &mut takeover, 3, &lines)
+    talk(&rt, alloc, &mut takeover, &lines)
 }
 
 #[test]
@@ -266,32 +265,6 @@ fn it_begins_anew_in_the_middle_of_an_abort(rt: HostRuntime) -> Result<(), Fail>
     talk_afresh(&rt, rt.alloc(), &lines)
 }
 
-#[test]
-fn what_was_left_in_an_older_view_is_not_sent(rt: HostRuntime) -> Result<(), Fail> {
-    let alloc = rt.alloc();
-    let mut takeover = Takeover::new(alloc, 2, without_primary());
-    let order = [(Heard::Order, "lqh2 tell, lqh3 tell")];
-    talk(&rt, alloc, &mut takeover, 2, &order)?;
-    takeover.install(&view(3, &[2, 3]), &mut Outs::new(alloc)?);
-    let ended = [(Heard::End, "")];
-    talk(&rt, alloc, &mut takeover, 2, &ended)?;
-    let lines = [
-        (Heard::Order, "lqh2 tell, lqh3 tell"),
-        (Heard::Prepared((1, 7), b'a'), ""),
-        (Heard::AskOn(1), "lqh3 tell"),
-        (Heard::End, ""),
-        (Heard::End, "lqh2 abort 1.7 a, lqh3 abort 1.7 a"),
-        (Heard::GoOn((1, 7), 1), "lqh3 abort 1.7 a"),
-        (Heard::GoOn((1, 7), 2), ""),
-        (Heard::GoOn((1, 7), 0x10_0000_0000), ""),
-        (Heard::GoOn((1, 8), 1), ""),
-        (Heard::AskOn(1), ""),
-    ];
-    talk(&rt, alloc, &mut takeover, 3, &lines)?;
-    let old = [(Heard::GoOn((1, 7), 1), ""), (Heard::AskOn(0), "")];
-    talk(&rt, alloc, &mut takeover, 2, &old)
-}
-
 // A takeover that has gathered nine keys of a transaction.
 fn of_nine_keys(
     rt: &impl Abort,
@@ -300,15 +273,15 @@ fn of_nine_keys(
     epoch: Option<u64>,
 ) -> Result<(), Fail> {
     let order = [(Heard::Order, "lqh2 tell, lqh3 tell")];
-    talk(rt, alloc, takeover, 2, &order)?;
+    talk(rt, alloc, takeover, &order)?;
     for i in 0..9u8 {
         let heard = match epoch {
             Some(epoch) => Heard::Record((1, 7), b'a' + i, epoch),
             None => Heard::Prepared((1, 7), b'a' + i),
         };
-        talk(rt, alloc, takeover, 2, &[(heard, "")])?;
+        talk(rt, alloc, takeover, &[(heard, "")])?;
     }
-    talk(rt, alloc, takeover, 2, &[(Heard::End, "")])
+    talk(rt, alloc, takeover, &[(Heard::End, "")])
 }
 
 #[test]
@@ -330,13 +303,12 @@ fn more_than_eight_aborts_go_in_portions(rt: HostRuntime) -> Result<(), Fail> {
             "lqh2 abort 1.7 i, lqh3 abort 1.7 i",
         ),
     ];
-    talk(&rt, alloc, &mut takeover, 2, &lines)?;
+    talk(&rt, alloc, &mut takeover, &lines)?;
     for _ in 0..17u8 {
         talk(
             &rt,
             alloc,
             &mut takeover,
-            2,
             &[(Heard::Aborted((1, 7), b'a'), "")],
         )?;
     }
@@ -344,7 +316,86 @@ fn more_than_eight_aborts_go_in_portions(rt: HostRuntime) -> Result<(), Fail> {
         Heard::Aborted((1, 7), b'i'),
         "api0 aborted 1.7, api0 over, gcp2 over",
     )];
-    talk(&rt, alloc, &mut takeover, 2, &last)
+    talk(&rt, alloc, &mut takeover, &last)
+}
+
+#[test]
+fn a_list_that_an_installation_ends_begins_anew(rt: HostRuntime) -> Result<(), Fail> {
+    let alloc = rt.alloc();
+    let mut takeover = Takeover::new(alloc, 2, without_primary());
+    of_nine_keys(&rt, alloc, &mut takeover, Some(5))?;
+    let text = sent(alloc, &mut takeover, Heard::End)?;
+    assert!(&rt;
+        text.as_str()
+            .ends_with("1.7 h in 5 at 1 of 2, takeover2 go on 8")
+    );
+    takeover.install(&view(3, &[2]), &mut Outs::new(alloc)?);
+    let lines = [
+        (Heard::GoOn((1, 7), 8), ""),
+        (Heard::Order, "lqh2 tell"),
+        (Heard::GoOn((1, 7), 8), ""),
+        (Heard::Record((1, 7), b'a', 5), ""),
+        (Heard::End, "lqh2 commit 1.7 a in 5 at 0 of 1"),
+        (Heard::GoOn((1, 7), 8), ""),
+        (Heard::GoOn((1, 7), 0), ""),
+    ];
+    talk(&rt, alloc, &mut takeover, &lines)
+}
+
+#[test]
+fn each_of_a_list_is_sent_once(rt: HostRuntime) -> Result<(), Fail> {
+    let alloc = rt.alloc();
+    let mut takeover = Takeover::new(alloc, 2, without_primary());
+    of_nine_keys(&rt, alloc, &mut takeover, Some(5))?;
+    sent(alloc, &mut takeover, Heard::End)?;
+    let lines = [
+        (Heard::GoOn((1, 7), 0), ""),
+        (Heard::GoOn((1, 7), 7), ""),
+        (Heard::GoOn((1, 8), 8), ""),
+        (Heard::AskOn(8), ""),
+        (Heard::GoOn((1, 7), 8), "lqh3 commit 1.7 i in 5 at 1 of 2"),
+        (Heard::GoOn((1, 7), 8), ""),
+    ];
+    talk(&rt, alloc, &mut takeover, &lines)
+}
+
+// No view has nine members.
+#[test]
+fn nine_members_are_asked_in_portions(rt: HostRuntime) -> Result<(), Fail> {
+    let alloc = rt.alloc();
+    let shape = Shape {
+        nodes: 8,
+        replicas: 1,
+        fragments: 8,
+    };
+    let mut nine = view(2, &[2, 3, 4, 5, 6, 7, 8, 1]);
+    nine.starting.push(Member { node: 9, start: 1 });
+    let mut takeover = Takeover::new(alloc, 2, Layout::new(shape, nine));
+    let lines = [
+        (
+            Heard::Order,
+            "lqh2 tell, lqh3 tell, lqh4 tell, lqh5 tell, lqh6 tell, lqh7 tell, lqh8 tell, lqh1 tell, takeover2 go on 8",
+        ),
+        (Heard::AskOn(1), ""),
+        (Heard::GoOn((1, 7), 8), ""),
+        (Heard::AskOn(8), "lqh9 tell"),
+        (Heard::AskOn(8), ""),
+    ];
+    talk(&rt, alloc, &mut takeover, &lines)?;
+    for _ in 0..8u8 {
+        talk(&rt, alloc, &mut takeover, &[(Heard::End, "")])?;
+    }
+    let last = [(Heard::End, "api0 over, gcp2 over")];
+    talk(&rt, alloc, &mut takeover, &last)
+}
+
+#[test]
+fn a_view_of_nobody_is_over_at_once(rt: HostRuntime) -> Result<(), Fail> {
+    let alloc = rt.alloc();
+    let layout = Layout::new(without_primary().shape(), view(2, &[]));
+    let mut takeover = Takeover::new(alloc, 2, layout);
+    let lines = [(Heard::Order, "api0 over, gcp2 over"), (Heard::End, "")];
+    talk(&rt, alloc, &mut takeover, &lines)
 }
 
 #[test]
@@ -352,18 +403,18 @@ fn more_than_eight_commits_go_in_portions(rt: HostRuntime) -> Result<(), Fail> {
     let alloc = rt.alloc();
     let mut takeover = Takeover::new(alloc, 2, without_primary());
     of_nine_keys(&rt, alloc, &mut takeover, Some(5))?;
-    let text = sent(alloc, &mut takeover, 2, Heard::End)?;
+    let text = sent(alloc, &mut takeover, Heard::End)?;
     assert!(&rt;
         text.as_str()
             .ends_with("lqh3 commit 1.7 h in 5 at 1 of 2, takeover2 go on 8")
     );
     let rest = [(Heard::GoOn((1, 7), 8), "lqh3 commit 1.7 i in 5 at 1 of 2")];
-    talk(&rt, alloc, &mut takeover, 2, &rest)?;
+    talk(&rt, alloc, &mut takeover, &rest)?;
     for _ in 0..8u8 {
         let one = [(Heard::Committed((1, 7), b'a'), "")];
-        talk(&rt, alloc, &mut takeover, 2, &one)?;
+        talk(&rt, alloc, &mut takeover, &one)?;
     }
-    let text = sent(alloc, &mut takeover, 2, Heard::Committed((1, 7), b'i'))?;
+    let text = sent(alloc, &mut takeover, Heard::Committed((1, 7), b'i'))?;
     assert!(&rt;
         text.as_str()
             .starts_with("api0 committed 1.7 in 5, lqh3 complete 1.7 a at 1 of 2")
@@ -376,7 +427,7 @@ fn more_than_eight_commits_go_in_portions(rt: HostRuntime) -> Result<(), Fail> {
         Heard::GoOn((1, 7), 8),
         "lqh3 complete 1.7 h at 1 of 2, lqh3 complete 1.7 i at 1 of 2",
     )];
-    talk(&rt, alloc, &mut takeover, 2, &rest)
+    talk(&rt, alloc, &mut takeover, &rest)
 }
 
 #[test]
@@ -384,17 +435,17 @@ fn eight_transactions_end_one_after_the_other(rt: HostRuntime) -> Result<(), Fai
     let alloc = rt.alloc();
     let mut takeover = Takeover::new(alloc, 2, without_primary());
     let order = [(Heard::Order, "lqh2 tell, lqh3 tell")];
-    talk(&rt, alloc, &mut takeover, 2, &order)?;
+    talk(&rt, alloc, &mut takeover, &order)?;
     for i in 0..8u8 {
         let told = [(Heard::Record((1, 8 - u64::from(i)), b'a', 5), "")];
-        talk(&rt, alloc, &mut takeover, 2, &told)?;
+        talk(&rt, alloc, &mut takeover, &told)?;
     }
-    talk(&rt, alloc, &mut takeover, 2, &[(Heard::End, "")])?;
+    talk(&rt, alloc, &mut takeover, &[(Heard::End, "")])?;
     let first = [(Heard::End, "lqh3 commit 1.1 a in 5 at 1 of 2")];
-    talk(&rt, alloc, &mut takeover, 2, &first)?;
+    talk(&rt, alloc, &mut takeover, &first)?;
     for i in 1..8u64 {
-        sent(alloc, &mut takeover, 2, Heard::Committed((1, i), b'a'))?;
-        let text = sent(alloc, &mut takeover, 2, Heard::Completed((1, i), b'a'))?;
+        sent(alloc, &mut takeover, Heard::Committed((1, i), b'a'))?;
+        let text = sent(alloc, &mut takeover, Heard::Completed((1, i), b'a'))?;
         let next = i + 1;
         let expected = format!(in alloc; "lqh3 commit 1.{next} a in 5 at 1 of 2")?;
         assert_eq!(&rt; text.as_str(), expected.as_str());
@@ -406,5 +457,5 @@ fn eight_transactions_end_one_after_the_other(rt: HostRuntime) -> Result<(), Fai
         ),
         (Heard::Completed((1, 8), b'a'), "api0 over, gcp2 over"),
     ];
-    talk(&rt, alloc, &mut takeover, 2, &last)
+    talk(&rt, alloc, &mut takeover, &last)
 }
