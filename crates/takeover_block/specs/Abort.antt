@@ -1,5 +1,5 @@
 -- A transaction is aborted, signal by signal.
-use Rattle.std.specs.Prelude.{ℕ, ◌-◌, Bool, true, false, nat_lt, [], ◌∷◌, Option, None, Some}
+use Rattle.std.specs.Prelude.{ℕ, ◌-◌, Bool, true, false, nat_lt, [], ◌∷◌, Option, Some}
 use Rattle.sig_core.specs.declared.member.TxId.{TxId}
 use Rattle.sig_core.specs.Step.{Step, sends_only, stay}
 use Rattle.takeover_block.specs.declared.gathered.Gathered.{Gathered}

@@ -1,5 +1,5 @@
 -- A transaction is committed, signal by signal.
-use Rattle.std.specs.Prelude.{ℕ, ◌-◌, Bool, true, false, nat_lt, length, Option, None, Some}
+use Rattle.std.specs.Prelude.{ℕ, ◌-◌, Bool, true, false, nat_lt, length, Option, Some}
 use Rattle.sig_core.specs.declared.member.TxId.{TxId}
 use Rattle.sig_core.specs.Step.{Step, stay}
 use Rattle.takeover_block.specs.declared.gathered.Gathered.{Gathered}
