@@ -2,6 +2,7 @@ pub mod Abort
 pub mod Commit
 pub mod Gather
 pub mod Keys
+pub mod Laws
 pub mod Rule
 pub mod Sends
 pub mod State

@@ -6,11 +6,13 @@ mod commit;
 mod gather;
 mod gathered;
 mod keys;
+mod laws;
 mod rule;
 mod sends;
 mod stage;
 mod takeover;
 
+pub use laws::{aborts_what_nobody_committed, commits_what_was_told, rules_when_all_have_ended};
 pub use takeover::Takeover;
 
 #[cfg(test)]

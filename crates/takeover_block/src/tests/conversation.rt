@@ -368,8 +368,13 @@ fn nine_members_are_asked_in_portions(rt: HostRuntime) -> Result<(), Fail> {
         replicas: 1,
         fragments: 8,
     };
-    let mut nine = view(2, &[2, 3, 4, 5, 6, 7, 8, 1]);
-    nine.starting.push(Member { node: 9, start: 1 });
+    let mut starting = Members::new();
+    starting.push(Member { node: 9, start: 1 });
+    let nine = View {
+        number: 2,
+        full: view(2, &[2, 3, 4, 5, 6, 7, 8, 1]).full,
+        starting,
+    };
     let mut takeover = Takeover::new(alloc, 2, Layout::new(shape, nine));
     let lines = [
         (
