@@ -1,6 +1,8 @@
 pub mod GatherLemmas
 pub mod LawLemmas
 pub mod NotedLemmas
+pub mod OrderLaw
+pub mod OrderLemmas
 pub mod SendLemmas
 pub mod SentLemmas
 pub mod SoundLemmas

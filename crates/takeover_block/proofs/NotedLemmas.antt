@@ -1,7 +1,7 @@
 -- Where a record goes among what is gathered.
 use Rattle.std.proofs.Common.{◌≡◌, ◌∙◌, ◌⊎◌, inl, inr, ℕ, suc, Bool, true, false, List, [], ◌∷◌, ◌++◌, take, drop, refl, ap, sym, subst}
 use Rattle.std.proofs.lemmas.List.{take-append-drop}
-use Rattle.std.specs.Prelude.{Option, None, Some, position, slice_get, slice_set}
+use Rattle.std.specs.Prelude.{Option, None, Some, insert, position, slice_get, slice_set}
 use Rattle.run_theory.specs.Lists.{Each}
 use Rattle.run_theory.proofs.Pasts.{each_after, each_append, each_before}
 use Rattle.sig_core.specs.declared.member.TxId.{TxId}
@@ -110,21 +110,18 @@ split_at tx (g ∷ gs) at is =
         let b = behind (position (is_of tx) gs) at e in
         subst (Split tx (g ∷ gs)) b.next (further b.place (rest b.place b.found))
 
--- either of both
-pub noted_is : (gs : List Gathered) (tx : TxId) (key : List ℕ) (epoch : Option ℕ)
-    → IsNew tx key epoch gs (noted gs tx key epoch) ⊎ IsMore tx key epoch gs (noted gs tx key epoch)
+-- it is put at its place as a new one, or belongs to one that was told of before
+abbrev pub NotedAs : TxId → List ℕ → Option ℕ → List Gathered → List Gathered → Type 0
+NotedAs tx key epoch gs now =
+    (Apart tx gs × (now ≡ insert gs (place_for gs tx) (told_first tx key epoch))) ⊎ IsMore tx key epoch gs now
+
+pub noted_as : (gs : List Gathered) (tx : TxId) (key : List ℕ) (epoch : Option ℕ)
+    → NotedAs tx key epoch gs (noted gs tx key epoch)
 unfolding noted
-noted_is gs tx key epoch = by (position (is_of tx) gs) refl
+noted_as gs tx key epoch = by (position (is_of tx) gs) refl
   where
-    by : (at : Option ℕ) → position (is_of tx) gs ≡ at
-        → IsNew tx key epoch gs (noted_by gs tx key epoch at) ⊎ IsMore tx key epoch gs (noted_by gs tx key epoch at)
-    by None is = inl (record {
-      front = take (place_for gs tx) gs;
-      back = drop (place_for gs tx) gs;
-      is = sym (take-append-drop (place_for gs tx) gs);
-      after = refl;
-      apart = none_apart tx gs is;
-    })
+    by : (at : Option ℕ) → position (is_of tx) gs ≡ at → NotedAs tx key epoch gs (noted_by gs tx key epoch at)
+    by None is = inl (none_apart tx gs is, refl)
     by (Some at) is =
         let split = split_at tx gs at is in
         inr (record {
@@ -135,6 +132,22 @@ noted_is gs tx key epoch = by (position (is_of tx) gs) refl
           is = split.is;
           after = ap (noted_at gs key epoch at) split.get ∙ split.put (told_more split.own key epoch);
         })
+
+-- either of both, as parts of a list
+pub noted_is : (gs : List Gathered) (tx : TxId) (key : List ℕ) (epoch : Option ℕ)
+    → IsNew tx key epoch gs (noted gs tx key epoch) ⊎ IsMore tx key epoch gs (noted gs tx key epoch)
+noted_is gs tx key epoch = by (noted_as gs tx key epoch)
+  where
+    by : NotedAs tx key epoch gs (noted gs tx key epoch)
+        → IsNew tx key epoch gs (noted gs tx key epoch) ⊎ IsMore tx key epoch gs (noted gs tx key epoch)
+    by (inl new) = inl (record {
+      front = take (place_for gs tx) gs;
+      back = drop (place_for gs tx) gs;
+      is = sym (take-append-drop (place_for gs tx) gs);
+      after = new.1;
+      apart = new.0;
+    })
+    by (inr more) = inr more
 
 -- one that is none of the others may stand among them
 pub distinct_with : (front back : List Gathered) (w : Gathered) → Distinct (front ++ back) → Apart w.tx (front ++ back)

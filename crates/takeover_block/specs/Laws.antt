@@ -10,7 +10,8 @@ use Rattle.sig_core.specs.declared.signal.chain.ChainSignal.TheVariants.{Commit,
 use Rattle.sig_core.specs.declared.signal.client.ClientSignal.TheVariants.{TcKeyFailConf, TcKeyFailRef}
 use Rattle.sig_core.specs.declared.signal.takeover.TakeoverSignal.TheVariants.{TakeoverOrd, LqhTransConf, LqhTransEnd}
 use Rattle.frag_map.specs.Layout.{Layout}
-use Rattle.takeover_block.specs.Gather.{member_count, told_epoch}
+use Rattle.takeover_block.specs.declared.gathered.Gathered.{Gathered}
+use Rattle.takeover_block.specs.Gather.{is_before, member_count, told_epoch}
 use Rattle.takeover_block.specs.State.{TakeoverState, resting}
 use Rattle.takeover_block.specs.Takeover.{takeover_row}
 
@@ -52,6 +53,16 @@ IsTold told tx epoch = IsIn (telling tx (Some epoch)) told
 abbrev pub IsUntold : List Telling → TxId → Type 0
 IsUntold told tx = Each (λ t. t.tx ≡ tx → t.epoch ≡ None) told
 
+-- each stands before all that are behind it, by TxId
+abbrev pub AreInOrder : List Gathered → Type 0
+AreInOrder [] = Unit {0}
+AreInOrder (g ∷ gs) = Each (λ later. is_before g.tx later.tx ≡ true) gs × AreInOrder gs
+
+-- the takeover after these signals
+abbrev pub after_all : TakeoverState → List Signal → TakeoverState
+after_all s [] = s
+after_all s (x ∷ xs) = after_all (takeover_row s x).state xs
+
 -- P is of each signal that is sent along these, with what was heard when it was sent
 abbrev pub EachSent : (Heard → Outgoing → Type 0) → ℕ → TakeoverState → Heard → List Signal → Type 0
 EachSent P members s h [] = Unit {0}
@@ -91,3 +102,9 @@ AbortsWhatNobodyCommitted = Always (λ h send. AbortIsUntold h send.body)
 
 abbrev pub RulesWhenAllHaveEnded : Type 0
 RulesWhenAllHaveEnded = Always (λ h send. AllHaveEnded h send.body)
+
+-- whatever was heard, what is gathered stands in order of TxId, each transaction once. The first of it is ruled on, and
+-- then the next
+abbrev pub GatheredStandInOrder : Type 0
+GatheredStandInOrder =
+    (node : ℕ) (layout : Layout) (signals : List Signal) → AreInOrder (after_all (resting node layout) signals).gathered

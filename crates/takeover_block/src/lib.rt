@@ -12,7 +12,10 @@ mod sends;
 mod stage;
 mod takeover;
 
-pub use laws::{aborts_what_nobody_committed, commits_what_was_told, rules_when_all_have_ended};
+pub use laws::{
+    aborts_what_nobody_committed, commits_what_was_told, gathered_stand_in_order,
+    rules_when_all_have_ended,
+};
 pub use takeover::Takeover;
 
 #[cfg(test)]
