@@ -21,9 +21,10 @@ use Rattle.frag_map.specs.Layout.{Layout}
 use Rattle.takeover_block.specs.Abort as abort
 use Rattle.takeover_block.specs.Commit as commit
 use Rattle.takeover_block.specs.Gather as gather
+use Rattle.takeover_block.specs.Gathered.{first_of, only, told_epoch}
 use Rattle.takeover_block.specs.Rule as rule
 use Rattle.takeover_block.specs.Sends.{stage_left}
-use Rattle.takeover_block.specs.State.{TakeoverState, first_of, only, resting}
+use Rattle.takeover_block.specs.State.{TakeoverState, resting}
 use Rattle.takeover_block.specs.Takeover.{takeover_row, takeover_table}
 use Rattle.takeover_block.specs.declared.gathered.Gathered.{Gathered}
 use Rattle.takeover_block.specs.declared.stage.Stage.{Stage}
@@ -111,8 +112,8 @@ module _ (node : ℕ) (layout : Layout) where
 
   -- the first of them is done with
   next_sound : (stage : Stage) (left : ℕ) (g : Gathered) (gs : List Gathered) (h : Heard) → h.awaited ≡ 0
-      → IsGathered h.told (g ∷ gs) → StepIsSound layout (rule.going_on (at node layout stage left (g ∷ gs))) h
-  unfolding rule.going_on
+      → IsGathered h.told (g ∷ gs) → StepIsSound layout (rule.finishing (at node layout stage left (g ∷ gs))) h
+  unfolding rule.finishing
   next_sound stage left g gs h none got =
       ruling_sound stage left gs h none (record { each = got.each.1; distinct = got.distinct.1 })
 
@@ -141,27 +142,27 @@ module _ (node : ℕ) (layout : Layout) where
   tell_sound : (stage : Stage) (left : ℕ) (gs : List Gathered) (h : Heard) (tx : TxId) (key : List ℕ)
       (state : RecordState) (epoch : ℕ) → IsSound (at node layout stage left gs) h
       → StepIsSound layout (gather.tell_row (at node layout stage left gs) tx key state epoch)
-      (hear_if h (telling tx (gather.told_epoch state epoch)) (nat_lt 0 h.awaited))
+      (hear_if h (telling tx (told_epoch state epoch)) (nat_lt 0 h.awaited))
   unfolding gather.tell_row
   tell_sound stage left gs h tx key state epoch sound = by stage sound
     where
       ignored : (stage : Stage) → h.awaited ≡ 0 → IsSound (at node layout stage left gs) h
-          → StepIsSound layout (stay (at node layout stage left gs)) (hear_if h (telling tx (gather.told_epoch state epoch)) (nat_lt 0 h.awaited))
+          → StepIsSound layout (stay (at node layout stage left gs)) (hear_if h (telling tx (told_epoch state epoch)) (nat_lt 0 h.awaited))
       ignored stage none sound =
-          subst (λ n. StepIsSound layout (stay (at node layout stage left gs)) (hear_if h (telling tx (gather.told_epoch state epoch)) (nat_lt 0 n))) (sym none)
+          subst (λ n. StepIsSound layout (stay (at node layout stage left gs)) (hear_if h (telling tx (told_epoch state epoch)) (nat_lt 0 n))) (sym none)
           (stays (at node layout stage left gs) h sound)
 
       by : (stage : Stage) → IsSound (at node layout stage left gs) h
           → StepIsSound layout
-          (gather.tell_by (at node layout stage left gs) tx key (gather.told_epoch state epoch) stage)
-          (hear_if h (telling tx (gather.told_epoch state epoch)) (nat_lt 0 h.awaited))
+          (gather.tell_by (at node layout stage left gs) tx key (told_epoch state epoch) stage)
+          (hear_if h (telling tx (told_epoch state epoch)) (nat_lt 0 h.awaited))
       by (Gathering n) sound =
           let some : nat_lt 0 h.awaited ≡ true = is_some_of h.awaited n sound.fits.0 sound.fits.1 in
-          let noted = noted_sound h.told tx key (gather.told_epoch state epoch) gs
+          let noted = noted_sound h.told tx key (told_epoch state epoch) gs
           (record { gathered = sound.gathered; covers = sound.fits.2 }) in
           subst (λ b. StepIsSound layout
-          (gather.tell_by (at node layout (Gathering n) left gs) tx key (gather.told_epoch state epoch) (Gathering n))
-          (hear_if h (telling tx (gather.told_epoch state epoch)) b)) (sym some) (record {
+          (gather.tell_by (at node layout (Gathering n) left gs) tx key (told_epoch state epoch) (Gathering n))
+          (hear_if h (telling tx (told_epoch state epoch)) b)) (sym some) (record {
             same = refl;
             state = record { gathered = noted.gathered; fits = (sound.fits.0, sound.fits.1, noted.covers) };
             sends = tt;

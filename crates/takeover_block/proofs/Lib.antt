@@ -1,4 +1,4 @@
-pub mod GatherLemmas
+pub mod GatheredLemmas
 pub mod LawLemmas
 pub mod NotedLemmas
 pub mod OrderLaw

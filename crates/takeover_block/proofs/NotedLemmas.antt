@@ -10,7 +10,7 @@ use Rattle.sig_core.proofs.Firsts.{place_by, position-cons}
 use Rattle.sig_core.proofs.Keys.{same_tx-self}
 use Rattle.sig_core.proofs.TxLemmas.{same_tx-is}
 use Rattle.takeover_block.specs.declared.gathered.Gathered.{Gathered}
-use Rattle.takeover_block.specs.Gather.{is_of, noted, noted_at, noted_by, place_for, told_first, told_more}
+use Rattle.takeover_block.specs.Gathered.{is_of, noted, noted_at, noted_by, place_for, told_first, told_more}
 
 -- none of these is the transaction
 abbrev pub Apart : TxId → List Gathered → Type 0

@@ -10,12 +10,12 @@ use Rattle.sig_core.specs.declared.signal.host.HostSignal.TheVariants.{Continue}
 use Rattle.sig_core.specs.declared.signal.host.Work.TheVariants.{Transaction, Members}
 use Rattle.sig_core.specs.declared.signal.takeover.RecordState.{RecordState}
 use Rattle.sig_core.specs.declared.signal.takeover.TakeoverSignal.TheVariants.{TakeoverOrd, LqhTransConf, LqhTransEnd}
-use Rattle.frag_map.specs.Layout.{Layout}
 use Rattle.takeover_block.specs.Abort as abort
 use Rattle.takeover_block.specs.Commit as commit
 use Rattle.takeover_block.specs.Gather as gather
+use Rattle.takeover_block.specs.Gathered.{first_of, told_epoch}
 use Rattle.takeover_block.specs.Rule as rule
-use Rattle.takeover_block.specs.State.{TakeoverState, first_of, resting, with_gathered}
+use Rattle.takeover_block.specs.State.{TakeoverState, resting, with_gathered}
 use Rattle.takeover_block.specs.Takeover.{takeover_row, takeover_table}
 use Rattle.takeover_block.specs.declared.gathered.Gathered.{Gathered}
 use Rattle.takeover_block.specs.declared.stage.Stage.{Stage}
@@ -37,8 +37,8 @@ ruled s order = by (slice_get s.gathered 0)
 
 module _ (s : TakeoverState) (order : IsOrdered s) where
   -- the first of them is done with
-  next : IsOrdered (rule.going_on s).state
-  unfolding rule.going_on
+  next : IsOrdered (rule.finishing s).state
+  unfolding rule.finishing
   next = ruled (with_gathered s (remove s.gathered 0)) (without s.gathered order)
     where
       without : (gs : List Gathered) → AreInOrder gs → AreInOrder (remove gs 0)
@@ -58,8 +58,8 @@ module _ (s : TakeoverState) (order : IsOrdered s) where
   unfolding gather.tell_row
   told tx key state epoch = by s.stage
     where
-      by : (stage : Stage) → IsOrdered (gather.tell_by s tx key (gather.told_epoch state epoch) stage).state
-      by (Gathering n) = noted_order s.gathered tx key (gather.told_epoch state epoch) order
+      by : (stage : Stage) → IsOrdered (gather.tell_by s tx key (told_epoch state epoch) stage).state
+      by (Gathering n) = noted_order s.gathered tx key (told_epoch state epoch) order
       by Resting = order
       by (Committing e n) = order
       by (Completing e n) = order

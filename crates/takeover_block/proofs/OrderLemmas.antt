@@ -1,5 +1,5 @@
 -- What is gathered stands in order of `TxId`.
-use Rattle.std.proofs.Common.{◌≡◌, ◌∙◌, ◌<◌, ◌+◌, ◌⊎◌, inl, inr, ℕ, suc, ◌==◌, ◌&&◌, ◌||◌, Bool, true, false, List, [], ◌∷◌, ◌++◌}
+use Rattle.std.proofs.Common.{◌≡◌, ◌∙◌, ◌<◌, ◌⊎◌, inl, inr, ℕ, suc, ◌==◌, ◌&&◌, ◌||◌, Bool, true, false, List, [], ◌∷◌, ◌++◌}
 use Rattle.std.proofs.Common.{drop, length, nat_lt, take, arith, refl, ap, sym, subst}
 use Rattle.std.proofs.lemmas.Bool.{and_from, and_parts, eq-eqb, eqb-true, lt-ltb, ltb-true, or_cases, or_parts}
 use Rattle.std.proofs.lemmas.Bool.Decides.{nat_tests}
@@ -10,9 +10,9 @@ use Rattle.run_theory.proofs.Pasts.{each_after, each_append, each_before, each_m
 use Rattle.sig_core.specs.declared.member.TxId.{TxId}
 use Rattle.sig_core.proofs.Firsts.{place_by, position-cons}
 use Rattle.takeover_block.specs.declared.gathered.Gathered.{Gathered}
-use Rattle.takeover_block.specs.Gather.{is_before, is_behind, noted, place_for, place_or, told_first, told_more}
+use Rattle.takeover_block.specs.Gathered.{is_before, is_behind, noted, place_for, place_or, told_first, told_more}
 use Rattle.takeover_block.specs.Laws.{AreInOrder}
-use Rattle.takeover_block.proofs.NotedLemmas.{Apart, IsMore, NotedAs, noted_as}
+use Rattle.takeover_block.proofs.NotedLemmas.{Apart, NotedAs, noted_as}
 
 -- one number is less, or the two are one and a test passes
 abbrev lex : ℕ → ℕ → Bool → Bool

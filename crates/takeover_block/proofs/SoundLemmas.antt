@@ -5,7 +5,7 @@ use Rattle.run_theory.specs.Lists.{Each}
 use Rattle.run_theory.proofs.Pasts.{each_after, each_append, each_before, each_map}
 use Rattle.sig_core.specs.declared.member.TxId.{TxId}
 use Rattle.takeover_block.specs.declared.gathered.Gathered.{Gathered}
-use Rattle.takeover_block.specs.Gather.{first_epoch, noted, told_first, told_more}
+use Rattle.takeover_block.specs.Gathered.{first_epoch, noted, told_first, told_more}
 use Rattle.takeover_block.specs.Laws.{IsTold, IsUntold, Telling, telling}
 use Rattle.takeover_block.proofs.NotedLemmas.{Apart, Distinct, IsMore, IsNew, distinct_with, noted_is, others}
 

@@ -5,8 +5,9 @@ use Rattle.sig_core.specs.Step.{Step, stay}
 use Rattle.takeover_block.specs.declared.gathered.Gathered.{Gathered}
 use Rattle.takeover_block.specs.declared.stage.Stage.{Stage}
 use Rattle.takeover_block.specs.declared.stage.Stage.TheVariants.{Committing, Completing}
-use Rattle.takeover_block.specs.Rule.{entering, going_on}
-use Rattle.takeover_block.specs.State.{TakeoverState, at_stage, first_of}
+use Rattle.takeover_block.specs.Gathered.{first_of}
+use Rattle.takeover_block.specs.Rule.{entering, finishing}
+use Rattle.takeover_block.specs.State.{TakeoverState, at_stage}
 
 -- a key is committed, the last one or not: then the client is told, and each key is completed
 abbrev pub committed_if : TakeoverState → Gathered → ℕ → ℕ → Bool → Step TakeoverState
@@ -23,7 +24,7 @@ committed_row s tx = committed_by s (first_of s.gathered tx) s.stage
 -- a key is completed, the last one or not: then the transaction is done with
 abbrev pub completed_if : TakeoverState → ℕ → ℕ → Bool → Step TakeoverState
 completed_if s epoch awaited true = stay (at_stage s (Completing epoch (awaited - 1)))
-completed_if s epoch awaited false = going_on s
+completed_if s epoch awaited false = finishing s
 
 abbrev pub completed_by : TakeoverState → Option Gathered → Stage → Step TakeoverState
 completed_by s (Some g) (Completing epoch awaited) = completed_if s epoch awaited (nat_lt 1 awaited)

@@ -11,7 +11,8 @@ use Rattle.sig_core.specs.declared.signal.client.ClientSignal.TheVariants.{TcKey
 use Rattle.sig_core.specs.declared.signal.takeover.TakeoverSignal.TheVariants.{TakeoverOrd, LqhTransConf, LqhTransEnd}
 use Rattle.frag_map.specs.Layout.{Layout}
 use Rattle.takeover_block.specs.declared.gathered.Gathered.{Gathered}
-use Rattle.takeover_block.specs.Gather.{is_before, member_count, told_epoch}
+use Rattle.takeover_block.specs.Gather.{member_count}
+use Rattle.takeover_block.specs.Gathered.{is_before, told_epoch}
 use Rattle.takeover_block.specs.State.{TakeoverState, resting}
 use Rattle.takeover_block.specs.Takeover.{takeover_row}
 

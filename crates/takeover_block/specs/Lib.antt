@@ -1,6 +1,7 @@
 pub mod Abort
 pub mod Commit
 pub mod Gather
+pub mod Gathered
 pub mod Keys
 pub mod Laws
 pub mod Rule

@@ -7,8 +7,9 @@ use Rattle.takeover_block.specs.declared.gathered.Gathered.{Gathered}
 use Rattle.takeover_block.specs.declared.sends.TheConstants.{SENDS}
 use Rattle.takeover_block.specs.declared.stage.Stage.{Stage}
 use Rattle.takeover_block.specs.declared.stage.Stage.TheVariants.{Resting, Gathering, Committing, Completing, Aborting}
+use Rattle.takeover_block.specs.Gathered.{first_of}
 use Rattle.takeover_block.specs.Sends.{stage_effects, stage_left, told_over}
-use Rattle.takeover_block.specs.State.{TakeoverState, come_to, first_of, with_gathered, with_left}
+use Rattle.takeover_block.specs.State.{TakeoverState, come_to, with_gathered, with_left}
 
 -- how many replicas the keys have in a layout, all together
 abbrev pub replica_count : Layout → List (List ℕ) → ℕ
@@ -39,8 +40,8 @@ unfoldable pub ruling : TakeoverState → Step TakeoverState
 ruling s = ruling_by s (slice_get s.gathered 0)
 
 -- the first of the transactions is done with: the next is ruled on
-unfoldable pub going_on : TakeoverState → Step TakeoverState
-going_on s = ruling (with_gathered s (remove s.gathered 0))
+unfoldable pub finishing : TakeoverState → Step TakeoverState
+finishing s = ruling (with_gathered s (remove s.gathered 0))
 
 -- effects, and then those of a step
 abbrev pub after : Effects → Step TakeoverState → Step TakeoverState

@@ -1,8 +1,6 @@
 -- The state of a takeover.
-use Rattle.std.specs.Prelude.{ℕ, Bool, true, false, List, [], slice_get, Option, None, Some}
-use Rattle.sig_core.specs.declared.member.TxId.{TxId}
+use Rattle.std.specs.Prelude.{ℕ, List, []}
 use Rattle.sig_core.specs.declared.view.View.{View}
-use Rattle.sig_core.specs.Same.{same_tx}
 use Rattle.frag_map.specs.Layout.{Layout}
 use Rattle.frag_map.specs.Layout as layouts
 use Rattle.takeover_block.specs.declared.gathered.Gathered.{Gathered}
@@ -36,18 +34,6 @@ with_left s left = record { node = s.node; layout = s.layout; stage = s.stage; l
 
 abbrev pub with_gathered : TakeoverState → List Gathered → TakeoverState
 with_gathered s gathered = record { node = s.node; layout = s.layout; stage = s.stage; left = s.left; gathered = gathered }
-
-abbrev pub only : TxId → Gathered → Bool → Option Gathered
-only tx g true = Some g
-only tx g false = None
-
-abbrev pub only_of : TxId → Option Gathered → Option Gathered
-only_of tx None = None
-only_of tx (Some g) = only tx g (same_tx g.tx tx)
-
--- the first of the transactions, if it is this one
-unfoldable pub first_of : List Gathered → TxId → Option Gathered
-first_of gathered tx = only_of tx (slice_get gathered 0)
 
 -- another view is installed: what was under way ends, and what was gathered is forgotten
 abbrev pub in_view : TakeoverState → View → TakeoverState

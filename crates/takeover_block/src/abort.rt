@@ -25,7 +25,7 @@ impl Takeover {
                 };
             } else {
                 out.send(CLIENT, Body::Client(ClientSignal::TcKeyFailRef { tx }));
-                self.go_on(out);
+                self.finish(out);
             }
         }
     }

@@ -50,7 +50,7 @@ impl Takeover {
                     awaited: awaited - 1,
                 };
             } else {
-                self.go_on(out);
+                self.finish(out);
             }
         }
     }

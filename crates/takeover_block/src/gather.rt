@@ -13,7 +13,7 @@ use std::alloc::Global;
 impl Takeover {
     /// Begins anew: forgets what was gathered, and asks every member.
     #[tactic(auto, unfolding(crate::specs::Gather::order_row))]
-    pub(crate) fn begin(&mut self, out: &mut Outs)
+    pub(crate) fn order(&mut self, out: &mut Outs)
         requires { HasRoom out.old }
         ensures { IsTaken (order_row self.old) self.new out.old out.new }
     {
@@ -31,7 +31,7 @@ impl Takeover {
 
     /// Goes on asking, from a place of the members on.
     #[tactic(auto, unfolding(crate::specs::Gather::ask_row))]
-    pub(crate) fn ask_more(&mut self, at: u64, out: &mut Outs)
+    pub(crate) fn ask(&mut self, at: u64, out: &mut Outs)
         requires { HasRoom out.old }
         ensures { IsTaken (ask_row self.old at) self.new out.old out.new }
     {
@@ -48,7 +48,7 @@ impl Takeover {
     /// # Errors
     /// `NoMemory`, and then nothing has happened.
     #[tactic(auto, unfolding(crate::specs::Gather::tell_row))]
-    pub(crate) fn hear(
+    pub(crate) fn tell(
         &mut self,
         alloc: Global,
         tx: TxId,
@@ -69,7 +69,7 @@ impl Takeover {
 
     /// A member has told all. When all have, the first transaction is ruled on.
     #[tactic(auto, unfolding(crate::specs::Gather::end_row))]
-    pub(crate) fn member_ended(&mut self, out: &mut Outs)
+    pub(crate) fn end(&mut self, out: &mut Outs)
         requires { HasRoom out.old }
         ensures { IsTaken (end_row self.old) self.new out.old out.new }
     {

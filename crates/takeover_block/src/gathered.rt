@@ -1,8 +1,7 @@
 //! What is gathered of transactions.
 ghost use Rattle.std.specs.Prelude.{◌≡◌, ◌<◌, ◌≤◌, IfOk, IfSome, MatchOption, None, OnErr, OnOk, Some, length, position, slice_get};
 ghost use Rattle.sig_core.specs.Same.{same_tx};
-ghost use Rattle.takeover_block.specs.Gather.{first_epoch, is_before, is_behind, is_of, noted, noted_at, place_for, told_epoch, told_first, told_more};
-ghost use Rattle.takeover_block.specs.State.{first_of};
+ghost use Rattle.takeover_block.specs.Gathered.{first_epoch, first_of, is_before, is_behind, is_of, noted, noted_at, place_for, told_epoch, told_first, told_more};
 
 use crate::keys::Keys;
 use sig_core::{Key, NoMemory, RecordState, TxId};
@@ -72,7 +71,7 @@ fn first_epoch(known: Option<u64>, told: Option<u64>) -> Option<u64>
 ///
 /// # Errors
 /// `NoMemory`, and then all is as it was.
-#[tactic(auto, unfolding(crate::specs::Gather::noted))]
+#[tactic(auto, unfolding(crate::specs::Gathered::noted))]
 pub fn note(
     alloc: Global,
     gathered: &mut Vec<Gathered>,
@@ -95,7 +94,7 @@ pub fn note(
 }
 
 // One more record of the transaction at a place is told of.
-#[tactic(auto, using(crate::proofs::GatherLemmas::gathers))]
+#[tactic(auto, using(crate::proofs::GatheredLemmas::gathers))]
 fn note_at(
     gathered: &mut Vec<Gathered>,
     at: usize,
@@ -165,7 +164,7 @@ fn same_tx(one: TxId, other: TxId) -> bool
 }
 
 /// The first of the transactions, if it is this one.
-#[tactic(auto, using(std::proofs::lemmas::Option::slice_get_within), unfolding(crate::specs::State::first_of))]
+#[tactic(auto, using(std::proofs::lemmas::Option::slice_get_within), unfolding(crate::specs::Gathered::first_of))]
 pub fn first_of(gathered: &[Gathered], tx: TxId) -> Option<&Gathered>
     ensures some { IfSome result (λ g. 1 ≤ length gathered.now) }
     ensures value { MatchOption result (first_of gathered.now tx ≡ None) (λ g. first_of gathered.now tx ≡ Some g.now) }

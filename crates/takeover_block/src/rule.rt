@@ -1,7 +1,7 @@
 //! One transaction after the other is ruled on.
 ghost use Rattle.std.specs.Prelude.{◌≡◌, ◌+◌, ◌*◌, ◌≤◌, ◌<◌, ◌^◌, length};
 ghost use Rattle.sig_core.specs.Step.{HasRoom, IsTaken};
-ghost use Rattle.takeover_block.specs.Rule.{go_on_row, going_on, is_at_work, is_left, replica_count, ruling, way_of};
+ghost use Rattle.takeover_block.specs.Rule.{go_on_row, finishing, is_at_work, is_left, replica_count, ruling, way_of};
 
 use crate::gathered::{Gathered, first_of};
 use crate::sends::{SENDS, send_over, send_stage};
@@ -33,11 +33,11 @@ impl Takeover {
     }
 
     /// The first of the transactions is done with: the next is ruled on.
-    #[tactic(auto, unfolding(crate::specs::Rule::going_on))]
-    pub(crate) fn go_on(&mut self, out: &mut Outs)
+    #[tactic(auto, unfolding(crate::specs::Rule::finishing))]
+    pub(crate) fn finish(&mut self, out: &mut Outs)
         requires room { length out.old.sends + 9 ≤ 16 }
         requires some { 1 ≤ length self.old.gathered }
-        ensures { IsTaken (going_on self.old) self.new out.old out.new }
+        ensures { IsTaken (finishing self.old) self.new out.old out.new }
     {
         self.gathered.remove(0);
         self.rule(out);
@@ -46,7 +46,7 @@ impl Takeover {
     /// Goes on with what is sent for the transaction at work, from a place on. Another place than
     /// the one that is left does nothing.
     #[tactic(auto, unfolding(crate::specs::Rule::go_on_row))]
-    pub(crate) fn send_more(&mut self, tx: TxId, at: u64, out: &mut Outs)
+    pub(crate) fn go_on(&mut self, tx: TxId, at: u64, out: &mut Outs)
         requires { HasRoom out.old }
         ensures { IsTaken (go_on_row self.old tx at) self.new out.old out.new }
     {

@@ -2,7 +2,8 @@
 ghost use Rattle.std.specs.Prelude.{◌≡◌, ◌≤◌, IsTrue, OnOk, OnErr, is_some, length};
 ghost use Rattle.sig_core.specs.Step.{HasRoom, IsTaken, IsUntouched};
 ghost use Rattle.sig_core.specs.declared.signal.Body.TheVariants.{Chain, Host, Takeover as Told};
-ghost use Rattle.takeover_block.specs.State.{first_of, resting};
+ghost use Rattle.takeover_block.specs.Gathered.{first_of};
+ghost use Rattle.takeover_block.specs.State.{resting};
 ghost use Rattle.takeover_block.specs.Takeover.{takeover_table};
 
 use crate::gathered::{Gathered, first_of};
@@ -73,7 +74,7 @@ impl Takeover {
     {
         match signal {
             TakeoverSignal::TakeoverOrd => {
-                self.begin(out);
+                self.order(out);
                 Ok(())
             }
             TakeoverSignal::LqhTransConf {
@@ -81,9 +82,9 @@ impl Takeover {
                 key,
                 state,
                 epoch,
-            } => self.hear(alloc, *tx, key, *state, *epoch, out),
+            } => self.tell(alloc, *tx, key, *state, *epoch, out),
             TakeoverSignal::LqhTransEnd => {
-                self.member_ended(out);
+                self.end(out);
                 Ok(())
             }
             _ => Ok(()),
@@ -112,11 +113,11 @@ impl Takeover {
             HostSignal::Continue {
                 work: Work::Transaction(tx),
                 at,
-            } => self.send_more(*tx, *at, out),
+            } => self.go_on(*tx, *at, out),
             HostSignal::Continue {
                 work: Work::Members,
                 at,
-            } => self.ask_more(*at, out),
+            } => self.ask(*at, out),
             _ => {}
         }
     }
