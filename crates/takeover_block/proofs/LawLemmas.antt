@@ -1,5 +1,6 @@
 -- What is true of a takeover along any list of signals.
-use Rattle.std.proofs.Common.{◌≡◌, ◌∙◌, ◌≤◌, ◌-◌, ◌==◌, ℕ, zero, suc, Bool, true, false, List, [], ◌∷◌, length, nat_lt, arith, refl, ap, sym, subst}
+use Rattle.std.proofs.Common.{◌≡◌, ◌∙◌, ◌≤◌, ◌-◌, ◌==◌, ℕ, zero, suc, Bool, true, false}
+use Rattle.std.proofs.Common.{List, [], ◌∷◌, length, nat_lt, arith, refl, ap, sym, subst}
 use Rattle.std.proofs.lemmas.Bool.{eqb-true}
 use Rattle.std.proofs.lemmas.Bool.Decides.{nat_tests}
 use Rattle.std.specs.Prelude.{Option, None, Some}
@@ -29,7 +30,9 @@ use Rattle.takeover_block.specs.Takeover.{takeover_row, takeover_table}
 use Rattle.takeover_block.specs.declared.gathered.Gathered.{Gathered}
 use Rattle.takeover_block.specs.declared.stage.Stage.{Stage}
 use Rattle.takeover_block.specs.declared.stage.Stage.TheVariants.{Resting, Gathering, Committing, Completing, Aborting}
-use Rattle.takeover_block.specs.Laws.{AbortIsUntold, AbortsWhatNobodyCommitted, AllHaveEnded, CommitIsTold, CommitsWhatWasTold, EachSent, Heard, IsUntold, RulesWhenAllHaveEnded, hear, hear_if, telling, unordered}
+use Rattle.takeover_block.specs.Laws.{AbortIsUntold, AbortsWhatNobodyCommitted, AllHaveEnded, CommitIsTold}
+use Rattle.takeover_block.specs.Laws.{CommitsWhatWasTold, EachSent, Heard, IsUntold, RulesWhenAllHaveEnded}
+use Rattle.takeover_block.specs.Laws.{hear, hear_if, telling, unordered}
 use Rattle.takeover_block.proofs.SentLemmas.{AreRight, FitsTold, IsRight, ask_right, stage_right}
 use Rattle.takeover_block.proofs.SoundLemmas.{AgreesBy, Covers, IsGathered, noted_sound}
 
@@ -147,9 +150,11 @@ module _ (node : ℕ) (layout : Layout) where
   tell_sound stage left gs h tx key state epoch sound = by stage sound
     where
       ignored : (stage : Stage) → h.awaited ≡ 0 → IsSound (at node layout stage left gs) h
-          → StepIsSound layout (stay (at node layout stage left gs)) (hear_if h (telling tx (told_epoch state epoch)) (nat_lt 0 h.awaited))
+          → StepIsSound layout (stay (at node layout stage left gs))
+          (hear_if h (telling tx (told_epoch state epoch)) (nat_lt 0 h.awaited))
       ignored stage none sound =
-          subst (λ n. StepIsSound layout (stay (at node layout stage left gs)) (hear_if h (telling tx (told_epoch state epoch)) (nat_lt 0 n))) (sym none)
+          subst (λ n. StepIsSound layout (stay (at node layout stage left gs))
+          (hear_if h (telling tx (told_epoch state epoch)) (nat_lt 0 n))) (sym none)
           (stays (at node layout stage left gs) h sound)
 
       by : (stage : Stage) → IsSound (at node layout stage left gs) h
@@ -193,25 +198,38 @@ module _ (node : ℕ) (layout : Layout) where
           }
       by false last =
           ruling_sound (Gathering n) left gs (record { awaited = h.awaited - 1; told = h.told })
-          (none_less h.awaited n sound.fits.0 last) (record { each = sound.gathered.each; distinct = sound.gathered.distinct })
+          (none_less h.awaited n sound.fits.0 last)
+          (record { each = sound.gathered.each; distinct = sound.gathered.distinct })
   end_sound Resting left gs h sound = record {
     same = refl;
-    state = record { gathered = sound.gathered; fits = (ap (λ a. a - 1) sound.fits.0, ended_first gs Resting h sound.fits.1) };
+    state = record {
+      gathered = sound.gathered;
+      fits = (ap (λ a. a - 1) sound.fits.0, ended_first gs Resting h sound.fits.1);
+    };
     sends = tt;
   }
   end_sound (Committing e n) left gs h sound = record {
     same = refl;
-    state = record { gathered = sound.gathered; fits = (ap (λ a. a - 1) sound.fits.0, ended_first gs (Committing e n) h sound.fits.1) };
+    state = record {
+      gathered = sound.gathered;
+      fits = (ap (λ a. a - 1) sound.fits.0, ended_first gs (Committing e n) h sound.fits.1);
+    };
     sends = tt;
   }
   end_sound (Completing e n) left gs h sound = record {
     same = refl;
-    state = record { gathered = sound.gathered; fits = (ap (λ a. a - 1) sound.fits.0, ended_first gs (Completing e n) h sound.fits.1) };
+    state = record {
+      gathered = sound.gathered;
+      fits = (ap (λ a. a - 1) sound.fits.0, ended_first gs (Completing e n) h sound.fits.1);
+    };
     sends = tt;
   }
   end_sound (Aborting n) left gs h sound = record {
     same = refl;
-    state = record { gathered = sound.gathered; fits = (ap (λ a. a - 1) sound.fits.0, ended_first gs (Aborting n) h sound.fits.1) };
+    state = record {
+      gathered = sound.gathered;
+      fits = (ap (λ a. a - 1) sound.fits.0, ended_first gs (Aborting n) h sound.fits.1);
+    };
     sends = tt;
   }
 

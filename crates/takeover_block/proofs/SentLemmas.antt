@@ -18,7 +18,8 @@ use Rattle.takeover_block.specs.declared.gathered.Gathered.{Gathered}
 use Rattle.takeover_block.specs.declared.stage.Stage.{Stage}
 use Rattle.takeover_block.specs.declared.stage.Stage.TheVariants.{Resting, Gathering, Committing, Completing, Aborting}
 use Rattle.takeover_block.specs.Laws.{AbortIsUntold, AllHaveEnded, CommitIsTold, Heard, IsTold, IsUntold}
-use Rattle.takeover_block.specs.Sends.{abort_at, ask_effects, ask_of, asks_of, front_sends, key_sends, key_sends_along, stage_effects, stage_sends}
+use Rattle.takeover_block.specs.Sends.{abort_at, ask_effects, ask_of, asks_of, front_sends}
+use Rattle.takeover_block.specs.Sends.{key_sends, key_sends_along, stage_effects, stage_sends}
 
 -- all that the laws say of what is sent
 pub record IsRight (h : Heard) (body : Body) : Type 0 where
@@ -56,7 +57,8 @@ module _ (h : Heard) where
   portion_right : (by : Place) (w : Work) (sends : List Outgoing) (at : ℕ) → AreRight h sends
       → AreRight h (portion_effects by w sends at).sends
   portion_right by w sends at r =
-      each_append (λ send. IsRight h send.body) (take 8 (drop at sends)) (rest_if by w at (nat_lt (at + 8) (length sends)))
+      each_append (λ send. IsRight h send.body) (take 8 (drop at sends))
+      (rest_if by w at (nat_lt (at + 8) (length sends)))
       (right_take h 8 (drop at sends) (right_drop h at sends r)) (onward by w at (nat_lt (at + 8) (length sends)))
 
   asks_right : (members : List Member) → AreRight h (map ask_of members)
@@ -90,7 +92,8 @@ module _ (h : Heard) where
     unfolding key_sends
     keys_right layout tx stage [] fits = tt
     keys_right layout tx stage (key ∷ keys) fits =
-        each_append (λ send. IsRight h send.body) (key_sends layout tx stage key) (flat_map (key_sends layout tx stage) keys)
+        each_append (λ send. IsRight h send.body) (key_sends layout tx stage key)
+        (flat_map (key_sends layout tx stage) keys)
         (along_right tx stage key (chain_of layout key) fits) (keys_right layout tx stage keys fits)
 
     front_right : (tx : TxId) (stage : Stage) → FitsTold h tx stage → AreRight h (front_sends tx stage)
@@ -106,5 +109,6 @@ module _ (h : Heard) where
     unfolding stage_effects stage_sends
     stage_right node layout stage g at fits =
         portion_right (takeover node) (work.Transaction g.tx) (stage_sends layout stage g) at
-        (each_append (λ send. IsRight h send.body) (front_sends g.tx stage) (flat_map (key_sends layout g.tx stage) g.keys)
+        (each_append (λ send. IsRight h send.body) (front_sends g.tx stage)
+        (flat_map (key_sends layout g.tx stage) g.keys)
         (front_right g.tx stage fits) (keys_right layout g.tx stage g.keys fits))

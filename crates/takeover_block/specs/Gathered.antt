@@ -20,6 +20,7 @@ told_epoch Prepared epoch = None
 told_epoch Committed epoch = Some epoch
 told_epoch Marker epoch = Some epoch
 
+-- the first epoch that was told
 abbrev pub first_epoch : Option ℕ → Option ℕ → Option ℕ
 first_epoch None told = told
 first_epoch (Some epoch) told = Some epoch
@@ -32,6 +33,7 @@ told_more g key epoch = record { tx = g.tx; keys = with_key g.keys key; epoch = 
 abbrev pub told_first : TxId → List ℕ → Option ℕ → Gathered
 told_first tx key epoch = record { tx = tx; keys = key ∷ []; epoch = epoch }
 
+-- it is of this transaction, or of one that stands behind it
 abbrev pub is_of : TxId → Gathered → Bool
 is_of tx g = same_tx g.tx tx
 

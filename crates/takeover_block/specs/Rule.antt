@@ -1,5 +1,6 @@
 -- One transaction after the other is ruled on: committed where a member told an epoch of it, and else aborted.
-use Rattle.std.specs.Prelude.{ℕ, ◌+◌, ◌==◌, ◌&&◌, Bool, true, false, nat_lt, List, [], ◌∷◌, length, remove, slice_get, Option, None, Some}
+use Rattle.std.specs.Prelude.{ℕ, ◌+◌, ◌==◌, ◌&&◌, Bool, true, false, nat_lt, List}
+use Rattle.std.specs.Prelude.{[], ◌∷◌, length, remove, slice_get, Option, None, Some}
 use Rattle.sig_core.specs.declared.member.TxId.{TxId}
 use Rattle.sig_core.specs.Step.{Effects, Step, joined, sends_only, stay}
 use Rattle.frag_map.specs.Layout.{Layout, chain_of}

@@ -33,7 +33,13 @@ abbrev pub with_left : TakeoverState → ℕ → TakeoverState
 with_left s left = record { node = s.node; layout = s.layout; stage = s.stage; left = left; gathered = s.gathered }
 
 abbrev pub with_gathered : TakeoverState → List Gathered → TakeoverState
-with_gathered s gathered = record { node = s.node; layout = s.layout; stage = s.stage; left = s.left; gathered = gathered }
+with_gathered s gathered = record {
+  node = s.node;
+  layout = s.layout;
+  stage = s.stage;
+  left = s.left;
+  gathered = gathered;
+}
 
 -- another view is installed: what was under way ends, and what was gathered is forgotten
 abbrev pub in_view : TakeoverState → View → TakeoverState
