@@ -1,3 +1,4 @@
+pub mod EachTakeover
 pub mod GatheredLemmas
 pub mod LawLemmas
 pub mod NotedLemmas
