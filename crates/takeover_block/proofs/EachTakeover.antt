@@ -41,7 +41,9 @@ is_heard _ = false
 pub record TakeoverForms (s : TakeoverState) (body : Body) (S : Step TakeoverState → Type 0) : Type 0 where
   -- it does nothing
   pub stays : is_heard body ≡ false → S (stay s)
-  pub unasked : is_heard body ≡ true → is_gathering s.stage ≡ false → S (stay s)
+  pub untold : (tx : TxId) (key : List ℕ) (state : RecordState) (epoch : ℕ)
+      → body ≡ Takeover (LqhTransConf tx key state epoch) → is_gathering s.stage ≡ false → S (stay s)
+  pub unended : body ≡ Takeover LqhTransEnd → is_gathering s.stage ≡ false → S (stay s)
   -- it is ordered, with members to ask or with none, and goes on asking
   pub orders : body ≡ Takeover TakeoverOrd → (gather.member_count s.layout.view == 0) ≡ false
       → S (gather.order_if s (gather.member_count s.layout.view) false)
@@ -109,10 +111,10 @@ module _ (s : TakeoverState) (S : Step TakeoverState → Type 0) where
     where
       by : (stage : Stage) → s.stage ≡ stage → S (gather.tell_by s tx key (told_epoch state epoch) stage)
       by (Gathering n) is = forms.tells tx key state epoch n refl is
-      by Resting is = forms.unasked refl (ap is_gathering is)
-      by (Committing e n) is = forms.unasked refl (ap is_gathering is)
-      by (Completing e n) is = forms.unasked refl (ap is_gathering is)
-      by (Aborting n) is = forms.unasked refl (ap is_gathering is)
+      by Resting is = forms.untold tx key state epoch refl (ap is_gathering is)
+      by (Committing e n) is = forms.untold tx key state epoch refl (ap is_gathering is)
+      by (Completing e n) is = forms.untold tx key state epoch refl (ap is_gathering is)
+      by (Aborting n) is = forms.untold tx key state epoch refl (ap is_gathering is)
 
   ended : TakeoverForms s (Takeover LqhTransEnd) S → S (gather.end_row s)
   unfolding gather.end_row
@@ -124,10 +126,10 @@ module _ (s : TakeoverState) (S : Step TakeoverState → Type 0) where
 
       by : (stage : Stage) → s.stage ≡ stage → S (gather.end_by s stage)
       by (Gathering n) is = counted n is (nat_lt 1 n) refl
-      by Resting is = forms.unasked refl (ap is_gathering is)
-      by (Committing e n) is = forms.unasked refl (ap is_gathering is)
-      by (Completing e n) is = forms.unasked refl (ap is_gathering is)
-      by (Aborting n) is = forms.unasked refl (ap is_gathering is)
+      by Resting is = forms.unended refl (ap is_gathering is)
+      by (Committing e n) is = forms.unended refl (ap is_gathering is)
+      by (Completing e n) is = forms.unended refl (ap is_gathering is)
+      by (Aborting n) is = forms.unended refl (ap is_gathering is)
 
   committed : (tx : TxId) (key : List ℕ) → TakeoverForms s (Chain (Committed tx key)) S → S (commit.committed_row s tx)
   unfolding commit.committed_row

@@ -39,7 +39,8 @@ unfolding entering
 step_ordered s body order =
     takeover_each s (λ (step : Step TakeoverState). IsOrdered step.state) body (record {
       stays = λ other. order;
-      unasked = λ heard idle. order;
+      untold = λ tx key state epoch is idle. order;
+      unended = λ is idle. order;
       orders = λ is some. tt;
       orders_nobody = λ is none. ruled (asking s (member_count s.layout.view) 0) tt;
       asks = λ place n is due at. order;
