@@ -20,3 +20,5 @@ pub use orders::{Ended, Order};
 pub use phase::{Asked, Phase, Run};
 pub use voices::{VOICES, Voice, Voices};
 
+#[cfg(test)]
+mod tests;

@@ -10,7 +10,8 @@ use crate::orders::Ended;
 use crate::phase::{Asked, Phase};
 use crate::voices::{VOICES, Voice, Voices, has_all, is_heard, is_in, is_same};
 use sig_core::{
-    Actor, Body, EpochSignal, HostSignal, Member, NoMemory, Outs, Signal, TakeoverSignal, View, Work,
+    Actor, Body, EpochSignal, HostSignal, Member, NoMemory, Outs, Signal, TakeoverSignal, View,
+    Work,
 };
 use std::alloc::Global;
 use std::marker::Model;

@@ -9,8 +9,8 @@ use crate::orders::{Ended, Order, mask_of};
 use crate::phase::Phase;
 use crate::voices::Voices;
 use sig_core::{
-    BlockId, Body, CLIENT, EpochSignal, HostSignal, Member, Outs, PORTION, Place, Portion, View, Work,
-    checkpoints,
+    BlockId, Body, CLIENT, EpochSignal, HostSignal, Member, Outs, PORTION, Place, Portion, View,
+    Work, checkpoints,
 };
 
 /// More signals than a list of sends has: of eight members both blocks are told that an epoch is
@@ -87,13 +87,7 @@ impl GcpMaster {
 
 // What is told of a closing that has ended.
 #[tactic(auto, using(sig_core::proofs::PortionLemmas::portions), unfolding(crate::specs::Sends::front_sends))]
-fn offer_front(
-    node: u8,
-    view: &View,
-    front: Option<Ended>,
-    portion: &mut Portion,
-    out: &mut Outs,
-)
+fn offer_front(node: u8, view: &View, front: Option<Ended>, portion: &mut Portion, out: &mut Outs)
     requires { length out.old.sends + portion.old.room ≤ 15 }
     ensures offered { so_far portion.new out.new ≡ all_offered (so_far portion.old out.old) (front_sends node view.now front) }
     ensures fits { length out.new.sends + portion.new.room ≤ 15 }
