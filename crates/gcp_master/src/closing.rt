@@ -114,7 +114,8 @@ impl GcpMaster {
         if let Phase::Copying { run } = self.phase {
             if run.epoch == epoch && self.counts(&voice) {
                 self.count(voice);
-                if self.all_in(1) {
+                let all_copied = self.all_in(1);
+                if all_copied {
                     self.end_global(run, out);
                 }
             }

@@ -1,0 +1,4 @@
+pub mod Dih
+pub mod Orders
+pub mod State
+pub mod Verify
