@@ -1,5 +1,5 @@
 -- The orders of the master of checkpoints, fences, and views.
-use Rattle.std.specs.Prelude.{ℕ, if◌then◌else◌, Bool, true, false, nat_le, nat_lt, List, [], ◌∷◌, Some}
+use Rattle.std.specs.Prelude.{ℕ, if◌then◌else◌, Bool, true, false, nat_le, nat_lt, Some}
 use Rattle.sig_core.specs.declared.signal.Body.TheVariants.{Epoch, Membership}
 use Rattle.sig_core.specs.declared.signal.epoch.EpochSignal.TheVariants.{GcpPrepareConf, GcpClosedConf, CopyGciConf, GcpStateConf}
 use Rattle.sig_core.specs.declared.signal.membership.MembershipSignal.TheVariants.{FenceConf}

@@ -5,7 +5,8 @@ ghost use Rattle.dih_node.specs.Dih.{dih_row, epoch_table, fresh_dih};
 ghost use Rattle.dih_node.specs.Orders.{install_row};
 
 use sig_core::{
-    Actor, Body, EpochSignal, HostSignal, MembershipSignal, NoMemory, Outs, Signal, TxId, View, Work,
+    Actor, Body, EpochSignal, HostSignal, MembershipSignal, NoMemory, Outs, Signal, TxId, View,
+    Work,
 };
 use std::alloc::Global;
 use std::marker::Model;
@@ -68,7 +69,13 @@ impl Dih {
     ///
     /// # Errors
     /// `NoMemory`.
-    pub fn new(alloc: Global, node: u8, number: u64, current: u64, start: u64) -> Result<Dih, NoMemory>
+    pub fn new(
+        alloc: Global,
+        node: u8,
+        number: u64,
+        current: u64,
+        start: u64,
+    ) -> Result<Dih, NoMemory>
         ensures { IfOk result (λ dih. dih ≡ fresh_dih node number current start) }
     {
         let counted = Vec::with_capacity(alloc, TRANSACTIONS)?;

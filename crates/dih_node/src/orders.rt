@@ -1,5 +1,5 @@
 //! The orders of the master of checkpoints.
-ghost use Rattle.std.specs.Prelude.{◌≡◌};
+ghost use Rattle.std.specs.Prelude.{◌≡◌, ◌+◌, ◌≤◌, length};
 ghost use Rattle.sig_core.specs.Step.{HasRoom, IsTaken, stay};
 ghost use Rattle.dih_node.specs.Orders.{close_row, commit_row, copy_row, done_row, greater, noting, prepare_row, state_row};
 
@@ -50,7 +50,8 @@ impl Dih {
     // The end of an order is reported to who sent it last.
     fn note(&mut self, from: u8, epoch: u64, out: &mut Outs)
         requires { HasRoom out.old }
-        ensures { IsTaken (noting self.old from epoch) self.new out.old out.new }
+        ensures taken { IsTaken (noting self.old from epoch) self.new out.old out.new }
+        ensures few { length out.new.sends ≤ length out.old.sends + 1 }
     {
         self.order = Some(Report { epoch, to: from });
         self.report(out);

@@ -1,9 +1,9 @@
 //! Transactions are given epochs.
-ghost use Rattle.std.specs.Prelude.{◌≡◌, ◌+◌, ◌<◌, ◌≤◌, length, position};
+ghost use Rattle.std.specs.Prelude.{◌≡◌, ◌+◌, ◌<◌, ◌≤◌, length, position, Some};
 ghost use Rattle.sig_core.specs.Same.{same_tx};
 ghost use Rattle.sig_core.specs.Step.{HasRoom, IsTaken};
 ghost use Rattle.dih_node.specs.State.{gives, is_unfinished};
-ghost use Rattle.dih_node.specs.Verify.{end_row, ended, given, is_of, reported, serve_row, verify_row};
+ghost use Rattle.dih_node.specs.Verify.{end_row, ended, given, is_of, reported, serve_by, serve_row, verify_row};
 
 use crate::dih::{Counted, Dih, TRANSACTIONS};
 use sig_core::{Body, EpochSignal, Mark, Outs, TxId, checkpoints, coordinator};
@@ -49,8 +49,9 @@ impl Dih {
     #[tactic(auto, unfolding(crate::specs::Verify::given))]
     fn give(&mut self, tx: TxId, out: &mut Outs)
         requires count { length self.old.counted + length self.old.held < 64 }
-        requires { HasRoom out.old }
-        ensures { IsTaken (given self.old tx) self.new out.old out.new }
+        requires room { HasRoom out.old }
+        ensures taken { IsTaken (given self.old tx) self.new out.old out.new }
+        ensures few { length out.new.sends ≤ length out.old.sends + 1 }
     {
         let epoch = self.current;
         self.counted.push_reserved(Counted { tx, epoch });
@@ -84,11 +85,22 @@ impl Dih {
     {
         if number == self.number && self.gives() {
             if let Some(tx) = self.held.first().copied() {
-                self.held.remove(0);
-                self.give(tx, out);
-                self.go_on_if(!self.held.is_empty(), out);
+                self.serve_first(tx, out);
             }
         }
+    }
+
+    // Serves the oldest request that is held, which is this one.
+    #[tactic(auto, unfolding(crate::specs::Verify::given))]
+    fn serve_first(&mut self, tx: TxId, out: &mut Outs)
+        requires some { 0 < length self.old.held }
+        requires room { HasRoom out.old }
+        ensures { IsTaken (serve_by self.old (Some tx)) self.new out.old out.new }
+    {
+        self.held.remove(0);
+        let more = !self.held.is_empty();
+        self.give(tx, out);
+        self.go_on_if(more, out);
     }
 
     // A transaction ends.
@@ -117,7 +129,8 @@ impl Dih {
     #[tactic(auto, unfolding(crate::specs::Verify::reported))]
     pub(crate) fn report(&mut self, out: &mut Outs)
         requires { length out.old.sends + 12 ≤ 16 }
-        ensures { IsTaken (reported self.old) self.new out.old out.new }
+        ensures taken { IsTaken (reported self.old) self.new out.old out.new }
+        ensures few { length out.new.sends ≤ length out.old.sends + 1 }
     {
         if let Some(order) = self.order {
             if !is_unfinished(&self.counted, order.epoch) {

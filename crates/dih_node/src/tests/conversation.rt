@@ -236,7 +236,13 @@ fn a_later_start(rt: HostRuntime) -> Result<(), Fail> {
 fn sixty_four_are_kept(rt: HostRuntime) -> Result<(), Fail> {
     let alloc = rt.alloc();
     let mut dih = Dih::new(alloc, 2, 1, 10, 5)?;
-    talk(&rt, alloc, &mut dih, 1, &[(Heard::Prepare(1, 10, 11), "gcp1 prepared 10")])?;
+    talk(
+        &rt,
+        alloc,
+        &mut dih,
+        1,
+        &[(Heard::Prepare(1, 10, 11), "gcp1 prepared 10")],
+    )?;
     for seq in 0..64u64 {
         talk(&rt, alloc, &mut dih, 1, &[(Heard::Ask(seq + 1), "")])?;
     }

@@ -1,5 +1,7 @@
 //! What a node's epochs send and mark, as text.
-use sig_core::{BlockId, Body, EpochSignal, HostSignal, Mark, MembershipSignal, Outgoing, Outs, Work};
+use sig_core::{
+    BlockId, Body, EpochSignal, HostSignal, Mark, MembershipSignal, Outgoing, Outs, Work,
+};
 use std::alloc::{AllocError, Global};
 
 /// The marks, and then all that is sent, in order, with commas between.

@@ -1,5 +1,5 @@
 //! Conversations of a master with the members of a cluster.
-use super::heard::{Heard, body_of, epoch_of, sender_of};
+use super::heard::{Heard, body_of, sender_of};
 use super::text::shown;
 use crate::{GcpMaster, MICROS};
 use sig_core::{Actor, BlockId, Held, Member, Members, Outs, Place, Signal, View};
@@ -260,9 +260,9 @@ fn numbers_are_used_up(rt: HostRuntime) -> Result<(), Fail> {
         1,
         &[(Heard::Micro, "!stopped")],
     )?;
-    let mut master = GcpMaster::new(one, &view(1, 1, 1), last * MICROS + epoch_of((0, 7)));
+    let mut master = GcpMaster::new(one, &view(1, 1, 1), last * MICROS + 7);
     talk(&rt, rt.alloc(), &mut master, 1, &[(Heard::Gcp, "!stopped")])?;
     let lines = [(Heard::Micro, "dih1 prepare 4294967295/7 4294967295/8")];
-    let mut master = GcpMaster::new(one, &view(1, 1, 1), last * MICROS + epoch_of((0, 7)));
+    let mut master = GcpMaster::new(one, &view(1, 1, 1), last * MICROS + 7);
     talk(&rt, rt.alloc(), &mut master, 1, &lines)
 }

@@ -101,7 +101,7 @@ fn epoch_body(heard: Heard) -> EpochSignal {
         Heard::RowsFar(_, noted, saved) => rows_far(noted, saved),
         Heard::Prepare(_, e) => EpochSignal::GcpPrepare {
             epoch: epoch_of(e),
-            next: epoch_of(e) + 1,
+            next: epoch_of(e),
         },
         _ => EpochSignal::GcpReq,
     }
