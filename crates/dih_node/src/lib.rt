@@ -3,10 +3,12 @@
 
 mod dih;
 mod fences;
+mod laws;
 mod orders;
 mod verify;
 
 pub use dih::{Counted, Dih, Report, TRANSACTIONS};
+pub use laws::epochs_never_fall;
 
 #[cfg(test)]
 mod tests;

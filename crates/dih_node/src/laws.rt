@@ -1,0 +1,8 @@
+//! What is true of the epochs that a node gives, whatever comes, in whatever order.
+ghost use Rattle.dih_node.specs.Laws.{EpochsNeverFall};
+
+/// The epochs that a node gives never fall, where each order to commit names a greater one to
+/// follow.
+pub fn epochs_never_fall()
+    ensures { EpochsNeverFall }
+{}
