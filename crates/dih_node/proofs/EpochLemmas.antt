@@ -41,11 +41,11 @@ gives_it : (s : DihState) (step : Step DihState) → step.state.current ≡ s.cu
 gives_it s step same one = record { rises = at_least s.current step.state.current same; given = inr one }
 
 -- a report leaves it, and gives none
-record Quiet (s : DihState) (step : Step DihState) : Type 0 where
+pub record Quiet (s : DihState) (step : Step DihState) : Type 0 where
   current : step.state.current ≡ s.current
   marks : step.effects.marks ≡ []
 
-report_quiet : (s : DihState) → Quiet s (reported s)
+pub report_quiet : (s : DihState) → Quiet s (reported s)
 unfolding reported
 report_quiet s = by s.order
   where
@@ -57,11 +57,11 @@ report_quiet s = by s.order
     by None = record { current = refl; marks = refl }
     by (Some order) = by_if order (is_unfinished s.counted order.epoch)
 
-quiet_gives_none : (s : DihState) (step : Step DihState) → Quiet s step → given_at step ≡ []
+pub quiet_gives_none : (s : DihState) (step : Step DihState) → Quiet s step → given_at step ≡ []
 quiet_gives_none s step quiet = ap (flat_map given_by) quiet.marks
 
 -- and one that goes on with what is held
-goes_on_gives_none : (s : DihState) (step : Step DihState) → Quiet s step → flat_map given_by (step.effects.marks ++ []) ≡ []
+pub goes_on_gives_none : (s : DihState) (step : Step DihState) → Quiet s step → flat_map given_by (step.effects.marks ++ []) ≡ []
 goes_on_gives_none s step quiet = ap (λ marks. flat_map given_by (marks ++ [])) quiet.marks
 
 reported_stays : (s now : DihState) → now.current ≡ s.current → Kept s (reported now)

@@ -1,1 +1,2 @@
 mod EpochLemmas
+mod NoneLemmas

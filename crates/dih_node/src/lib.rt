@@ -8,7 +8,7 @@ mod orders;
 mod verify;
 
 pub use dih::{Counted, Dih, Report, TRANSACTIONS};
-pub use laws::epochs_never_fall;
+pub use laws::{epochs_never_fall, none_is_given_while_prepared};
 
 #[cfg(test)]
 mod tests;
