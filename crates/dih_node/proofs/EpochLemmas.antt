@@ -19,8 +19,8 @@ use Rattle.sig_core.specs.Step.{Step, sending}
 use Rattle.dih_node.specs.declared.dih.Report.{Report}
 use Rattle.dih_node.specs.declared.dih.TheConstants.{TRANSACTIONS}
 use Rattle.dih_node.specs.Dih.{dih_table, epoch_table}
-use Rattle.dih_node.specs.Laws.{AllNameGreater, EpochsNeverFall, Event, Installs, NamesGreater, NoneIsGivenWhilePrepared, Takes, given_along, given_at, given_by, step_at}
-use Rattle.dih_node.specs.Orders.{close_row, commit_if, commit_row, committed, copy_row, done_row, fence_row, install_row, noting, prepare_row, prepared_if, state_row}
+use Rattle.dih_node.specs.Laws.{AllNameGreater, EpochsNeverFall, Event, Installs, NamesGreater, Takes, given_along, given_at, given_by, step_at}
+use Rattle.dih_node.specs.Orders.{close_row, commit_if, commit_row, committed, copy_row, done_row, fence_row, install_row, prepare_row, prepared_if, state_row}
 use Rattle.dih_node.specs.State.{DihState, gives, is_unfinished}
 use Rattle.dih_node.specs.Verify.{end_row, ended, ended_by, given, held_by, is_of, report_by, report_if, reported, serve_by, serve_if, serve_row, take_if, verify_if, verify_row}
 
@@ -183,8 +183,7 @@ rises_by s step later kept rest = by (given_at step) kept.given
     by : (epochs : List ℕ) → (epochs ≡ []) ⊎ (epochs ≡ s.current ∷ []) → Rises s.current (epochs ++ later)
     by epochs (inl none) = subst (λ (epochs : List ℕ). Rises s.current (epochs ++ later)) (sym none) (above, rest.1)
     by epochs (inr one) =
-        subst (λ (epochs : List ℕ). Rises s.current (epochs ++ later)) (sym one)
-        (
+        subst (λ (epochs : List ℕ). Rises s.current (epochs ++ later)) (sym one) (
           All-cons (λ epoch. s.current ≤ epoch) s.current later same above,
           AllPairs-cons (λ one other. one ≤ other) s.current later above rest.1,
         )

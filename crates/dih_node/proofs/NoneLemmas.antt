@@ -1,7 +1,7 @@
 -- While an epoch is prepared, or a view is promised that isn't installed, nothing is given.
-use Rattle.std.proofs.Common.{◌≡◌, ℕ, ◌+◌, Bool, true, false, nat_le, nat_lt, List, [], refl, sym, ◌∙◌}
+use Rattle.std.proofs.Common.{◌≡◌, ℕ, ◌+◌, Bool, true, false, nat_le, nat_lt, [], refl, sym}
 use Rattle.std.proofs.lemmas.Bool.{false≢true}
-use Rattle.std.specs.Prelude.{Option, Some, ◌==◌, length, slice_get}
+use Rattle.std.specs.Prelude.{Some, ◌==◌, length}
 use Rattle.sig_core.specs.declared.member.TxId.{TxId}
 use Rattle.sig_core.specs.declared.signal.Body.{Body}
 use Rattle.sig_core.specs.declared.signal.Body.TheVariants.{Host, Membership, Epoch}
@@ -12,7 +12,7 @@ use Rattle.sig_core.specs.declared.signal.host.Work.TheVariants.{Held}
 use Rattle.sig_core.specs.declared.signal.membership.MembershipSignal.TheVariants.{FenceReq}
 use Rattle.dih_node.specs.declared.dih.TheConstants.{TRANSACTIONS}
 use Rattle.dih_node.specs.Dih.{dih_table, epoch_table}
-use Rattle.dih_node.specs.Laws.{Event, Installs, NoneIsGivenWhilePrepared, Takes, given_at}
+use Rattle.dih_node.specs.Laws.{Installs, NoneIsGivenWhilePrepared, Takes, given_at}
 use Rattle.dih_node.specs.Orders.{close_row, commit_if, commit_row, committed, copy_row, done_row, fence_row, install_row, prepare_row, state_row}
 use Rattle.dih_node.specs.State.{DihState, gives}
 use Rattle.dih_node.specs.Verify.{end_row, ended, reported, serve_if, serve_row, take_if, verify_if, verify_row}

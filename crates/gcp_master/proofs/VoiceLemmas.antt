@@ -1,7 +1,7 @@
 -- A confirmation more in the array.
-use Rattle.std.proofs.Common.{◌≡◌, ◌<◌, ◌≤◌, ◌+◌, ◌-◌, zero, suc, length, ℕ, List, [], ◌∷◌, take, drop, refl, ap, sym, ◌∙◌, arith, slice_set}
+use Rattle.std.proofs.Common.{◌≡◌, ◌<◌, ◌+◌, ◌-◌, zero, suc, length, ℕ, List, [], ◌∷◌, take, drop, refl, ap, sym, ◌∙◌, arith, slice_set}
 use Rattle.std.specs.Prelude.{replicate}
-use Rattle.std.proofs.lemmas.List.{length-set, length-take-le}
+use Rattle.std.proofs.lemmas.List.{length-set}
 use Rattle.sig_core.specs.Filled.{IsFilled, length-held}
 
 -- behind the place that is set nothing changes

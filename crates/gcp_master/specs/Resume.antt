@@ -1,5 +1,5 @@
 -- How a master goes on in a view that was installed.
-use Rattle.std.specs.Prelude.{◌==◌, Bool, true, false, nat_eq, List, [], slice_get, Option, None, Some}
+use Rattle.std.specs.Prelude.{Bool, true, false, [], slice_get, Option, None, Some}
 use Rattle.sig_core.specs.declared.member.Member.{Member}
 use Rattle.sig_core.specs.declared.view.View.{View}
 use Rattle.sig_core.specs.Step.{Step, stay}
@@ -12,7 +12,7 @@ use Rattle.gcp_master.specs.declared.voices.Voice.{Voice}
 use Rattle.gcp_master.specs.Begin.{begins}
 use Rattle.gcp_master.specs.Known.{learned, nothing_known, resumed}
 use Rattle.gcp_master.specs.Sends.{entering}
-use Rattle.gcp_master.specs.State.{MasterState, all_in, at_phase, counted, counts}
+use Rattle.gcp_master.specs.State.{MasterState, all_in, counted, counts}
 use Rattle.gcp_master.specs.Voices.{is_among, same_member}
 
 -- the master is ordered to go on: it asks both blocks of each member how far they are

@@ -1,5 +1,5 @@
 -- The state of a master.
-use Rattle.std.specs.Prelude.{ℕ, ◌++◌, ◌&&◌, Bool, false, not, nat_lt, List, [], ◌∷◌, length, Option, None}
+use Rattle.std.specs.Prelude.{ℕ, ◌++◌, ◌&&◌, Bool, not, nat_lt, List, [], ◌∷◌, length, Option, None}
 use Rattle.sig_core.specs.declared.member.Member.{Member}
 use Rattle.sig_core.specs.declared.view.View.{View}
 use Rattle.gcp_master.specs.declared.orders.Ended.{Ended}

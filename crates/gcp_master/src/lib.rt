@@ -4,6 +4,7 @@
 mod begin;
 mod closing;
 mod known;
+mod laws;
 mod master;
 mod numbers;
 mod orders;
@@ -14,6 +15,7 @@ mod sends;
 mod voices;
 
 pub use known::{Known, Told};
+pub use laws::{outsiders_confirm_nothing, twice_confirmed_counts_once};
 pub use master::GcpMaster;
 pub use numbers::{MICROS, next_global, next_micro};
 pub use orders::{Ended, Order};

@@ -1,4 +1,4 @@
-use Rattle.std.proofs.Common.{rules, ◌≡◌, ◌∙◌, length}
+use Rattle.std.proofs.Common.{rules, ◌∙◌}
 use Rattle.sig_core.specs.Members.{nobody}
 use Rattle.sig_core.specs.Portion.{so_far}
 use Rattle.sig_core.proofs.PortionLemmas.{map_offer_more}
