@@ -37,7 +37,8 @@ stays : (s : DihState) (step : Step DihState) → step.state.current ≡ s.curre
 stays s step same none = record { rises = at_least s.current step.state.current same; given = inl none }
 
 -- it is given
-gives_it : (s : DihState) (step : Step DihState) → step.state.current ≡ s.current → given_at step ≡ s.current ∷ [] → Kept s step
+gives_it : (s : DihState) (step : Step DihState) → step.state.current ≡ s.current → given_at step ≡ s.current ∷ []
+    → Kept s step
 gives_it s step same one = record { rises = at_least s.current step.state.current same; given = inr one }
 
 -- a report leaves it, and gives none
@@ -61,7 +62,8 @@ pub quiet_gives_none : (s : DihState) (step : Step DihState) → Quiet s step �
 quiet_gives_none s step quiet = ap (flat_map given_by) quiet.marks
 
 -- and one that goes on with what is held
-pub goes_on_gives_none : (s : DihState) (step : Step DihState) → Quiet s step → flat_map given_by (step.effects.marks ++ []) ≡ []
+pub goes_on_gives_none : (s : DihState) (step : Step DihState) → Quiet s step
+    → flat_map given_by (step.effects.marks ++ []) ≡ []
 goes_on_gives_none s step quiet = ap (λ marks. flat_map given_by (marks ++ [])) quiet.marks
 
 reported_stays : (s now : DihState) → now.current ≡ s.current → Kept s (reported now)
@@ -119,7 +121,8 @@ prepare_kept : (s : DihState) (from epoch next : ℕ) → Kept s (prepare_row s 
 unfolding prepare_row
 prepare_kept s from epoch next = by (nat_le s.current epoch)
   where
-    by : (ahead : Bool) → Kept s (sending (prepared_if s epoch next ahead) (checkpoints from) (Epoch (GcpPrepareConf epoch)))
+    by : (ahead : Bool)
+        → Kept s (sending (prepared_if s epoch next ahead) (checkpoints from) (Epoch (GcpPrepareConf epoch)))
     by true = stays s _ refl refl
     by false = stays s _ refl refl
 
@@ -140,7 +143,8 @@ commit_kept s from epoch next greater = by (nat_le s.current epoch) refl
     by false e = reported_stays s (record s { order = Some (record { epoch = epoch; to = from }) }) refl
 
 -- a signal of epochs, any signal, and any event
-epoch_kept : (s : DihState) (from : ℕ) (signal : EpochSignal) → NamesGreater (Epoch signal) → Kept s (epoch_table s from signal)
+epoch_kept : (s : DihState) (from : ℕ) (signal : EpochSignal) → NamesGreater (Epoch signal)
+    → Kept s (epoch_table s from signal)
 unfolding close_row copy_row done_row state_row
 epoch_kept s from (DiVerifyReq tx ops) _ = verify_kept s tx
 epoch_kept s from (DiVerifyEnd tx) _ = end_kept s tx
@@ -167,7 +171,8 @@ install_kept s number = stays s _ refl refl
 abbrev Rises : ℕ → List ℕ → Type 0
 Rises least epochs = All (λ epoch. least ≤ epoch) epochs × AllPairs (λ one other. one ≤ other) epochs
 
-higher : (least next : ℕ) (epochs : List ℕ) → least ≤ next → All (λ epoch. next ≤ epoch) epochs → All (λ epoch. least ≤ epoch) epochs
+higher : (least next : ℕ) (epochs : List ℕ) → least ≤ next → All (λ epoch. next ≤ epoch) epochs
+    → All (λ epoch. least ≤ epoch) epochs
 higher least next epochs below all k d within = let above = all k d within in omega (arith, below, above)
 
 rises_by : (s : DihState) (step : Step DihState) (later : List ℕ) → Kept s step → Rises step.state.current later

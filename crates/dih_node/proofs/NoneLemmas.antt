@@ -55,7 +55,8 @@ commit_none s from epoch next = by (nat_le s.current epoch)
         let now = record s { order = Some (record { epoch = epoch; to = from }) } in
         quiet_gives_none now (reported now) (report_quiet now)
 
-epoch_none : (s : DihState) (from : ℕ) (signal : EpochSignal) → gives s ≡ false → given_at (epoch_table s from signal) ≡ []
+epoch_none : (s : DihState) (from : ℕ) (signal : EpochSignal) → gives s ≡ false
+    → given_at (epoch_table s from signal) ≡ []
 unfolding prepare_row close_row copy_row done_row state_row
 epoch_none s from (DiVerifyReq tx ops) e = verify_none s tx e
 epoch_none s from (DiVerifyEnd tx) e = end_none s tx
@@ -67,7 +68,8 @@ epoch_none s from (GcpDone epoch) e = refl
 epoch_none s from GcpStateReq e = refl
 epoch_none s from _ e = refl
 
-body_none : (s : DihState) (from number : ℕ) (body : Body) → gives s ≡ false → given_at (dih_table s from number body) ≡ []
+body_none : (s : DihState) (from number : ℕ) (body : Body) → gives s ≡ false
+    → given_at (dih_table s from number body) ≡ []
 unfolding fence_row
 body_none s from number (Host (Continue Held at)) e = serve_none s number e
 body_none s from number (Membership (FenceReq proposal)) e = refl

@@ -13,8 +13,8 @@ use Rattle.dih_node.specs.Orders.{close_row, commit_row, copy_row, done_row, fen
 use Rattle.dih_node.specs.State.{DihState}
 use Rattle.dih_node.specs.Verify.{end_row, serve_row, verify_row}
 
--- A node that begins in a view of this number, with this current epoch, in a life that starts from that one. A later start
--- begins with current epoch 0, and gives none before it has committed one.
+-- A node that begins in a view of this number, with this current epoch, in a life that starts from that one. A later
+-- start begins with current epoch 0, and gives none before it has committed one.
 abbrev pub fresh_dih : ℕ → ℕ → ℕ → ℕ → DihState
 fresh_dih node number current start =
     record {
@@ -43,8 +43,8 @@ epoch_table s from (GcpDone epoch) = done_row s epoch
 epoch_table s from GcpStateReq = state_row s from
 epoch_table s from _ = stay s
 
--- what it does, by the node that a signal comes from, the number of the sender's view, and what the signal says. It leaves
--- the others alone
+-- what it does, by the node that a signal comes from, the number of the sender's view, and what the signal says. It
+-- leaves the others alone
 abbrev pub dih_table : DihState → ℕ → ℕ → Body → Step DihState
 dih_table s from number (Host (Continue Held at)) = serve_row s number
 dih_table s from number (Membership (FenceReq proposal)) = fence_row s proposal.number

@@ -47,7 +47,9 @@ AllNameGreater (Installs number ∷ events) = AllNameGreater events
 
 -- the epochs that a node gives never fall
 abbrev pub EpochsNeverFall : Type 0
-EpochsNeverFall = (s : DihState) (events : List Event) → AllNameGreater events → AllPairs (λ one other. one ≤ other) (given_along s events)
+EpochsNeverFall =
+    (s : DihState) (events : List Event) → AllNameGreater events
+    → AllPairs (λ one other. one ≤ other) (given_along s events)
 
 -- none is given while an epoch is prepared, or a view is promised that isn't installed
 abbrev pub NoneIsGivenWhilePrepared : Type 0

@@ -48,7 +48,8 @@ commit_row s from epoch next = commit_if s from epoch next (nat_le s.current epo
 
 -- it notes that an epoch is closed
 unfoldable pub close_row : DihState → ℕ → ℕ → Step DihState
-close_row s from epoch = sending (record s { closed = greater s.closed epoch }) (checkpoints from) (Epoch (GcpClosedConf epoch))
+close_row s from epoch =
+    sending (record s { closed = greater s.closed epoch }) (checkpoints from) (Epoch (GcpClosedConf epoch))
 
 -- without a disk there is no system file to write
 unfoldable pub copy_row : DihState → ℕ → ℕ → Step DihState

@@ -17,7 +17,8 @@ unfoldable pub given : DihState → TxId → Step DihState
 given s tx =
     record {
       state = record s { counted = s.counted ++ record { tx = tx; epoch = s.current } ∷ [] };
-      effects = and_send (and_mark nothing (Decided tx s.current)) (coordinator s.node) (Epoch (DiVerifyConf tx s.current));
+      effects =
+          and_send (and_mark nothing (Decided tx s.current)) (coordinator s.node) (Epoch (DiVerifyConf tx s.current));
     }
 
 -- where no epoch is given the request is held
@@ -36,7 +37,11 @@ verify_row s tx = take_if s tx (nat_lt (length s.counted + length s.held) TRANSA
 
 -- the oldest request that is held is served, and then the next one
 abbrev pub serve_one : DihState → Step DihState → Step DihState
-serve_one s step = record { state = step.state; effects = joined step.effects (sends_only (go_on_if s.node (nat_lt 0 (length s.held)))) }
+serve_one s step =
+    record {
+      state = step.state;
+      effects = joined step.effects (sends_only (go_on_if s.node (nat_lt 0 (length s.held))));
+    }
 
 abbrev pub serve_by : DihState → Option TxId → Step DihState
 serve_by s None = stay s

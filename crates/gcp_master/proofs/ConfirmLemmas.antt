@@ -46,7 +46,8 @@ heard p (w ∷ voices) v e = ap (λ b. p w || b) (heard p voices v e) ∙ or_tru
 pub counted_once : (s : MasterState) (v : Voice) → counts (counted s v) v ≡ false
 unfolding counts
 counted_once s v =
-    ap (λ b. is_in s.view v.member && (not b && nat_lt (length (s.voices ++ v ∷ [])) VOICES)) (heard (same_voice v) s.voices v (same_voice-self v))
+    ap (λ b. is_in s.view v.member && (not b && nat_lt (length (s.voices ++ v ∷ [])) VOICES))
+    (heard (same_voice v) s.voices v (same_voice-self v))
     ∙ and_false (is_in s.view v.member)
 
 -- one that doesn't count changes nothing
@@ -110,7 +111,14 @@ outside s v number (Epoch (GcpClosedConf epoch)) e none = note_ignored s v none 
 outside s v number (Epoch (GcpSaveConf epoch)) e none = save_ignored s v none epoch
 outside s v number (Epoch (CopyGciConf epoch)) e none = copy_ignored s v none epoch
 outside s v number (Epoch (GcpStateConf current prepared next closed saved durable)) e none =
-    state_ignored s v none (record { current = current; prepared = prepared; next = next; closed = closed; saved = saved; durable = durable })
+    let told : Told = record {
+      current = current;
+      prepared = prepared;
+      next = next;
+      closed = closed;
+      saved = saved;
+      durable = durable;
+    } in state_ignored s v none told
 outside s v number _ e none = absurd (false≢true e)
 
 pub outsiders_confirm_nothing : OutsidersConfirmNothing

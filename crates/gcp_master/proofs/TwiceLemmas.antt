@@ -5,7 +5,7 @@ use Rattle.std.specs.Prelude.{Option, None, Some, if◌then◌else◌}
 use Rattle.sig_core.specs.declared.signal.Body.{Body}
 use Rattle.sig_core.specs.declared.signal.Body.TheVariants.{Epoch}
 use Rattle.sig_core.specs.declared.signal.epoch.EpochSignal.TheVariants.{GcpPrepareConf, GcpNodeFinish, GcpClosedConf, GcpSaveConf, CopyGciConf, GcpStateConf}
-use Rattle.sig_core.specs.Step.{stay}
+use Rattle.sig_core.specs.Step.{Step, stay}
 use Rattle.gcp_master.specs.declared.known.Known.{Known}
 use Rattle.gcp_master.specs.declared.known.Told.{Told}
 use Rattle.gcp_master.specs.declared.orders.Ended.{Ended}
@@ -63,7 +63,8 @@ begins_phase s true listed = refl
 begins_phase s false true = refl
 begins_phase s false false = listed_phase s 0
 
-begins_rests : (s : MasterState) (current : ℕ) (listed : Bool) → rests s.phase ≡ true → rests (begins s current listed).state.phase ≡ true
+begins_rests : (s : MasterState) (current : ℕ) (listed : Bool) → rests s.phase ≡ true
+    → rests (begins s current listed).state.phase ≡ true
 unfolding begins
 begins_rests s current listed e =
     ap rests (begins_phase (begun s current).state (begun s current).spent listed) ∙ begun_rests s current e
@@ -72,51 +73,58 @@ ended_rests : (s : MasterState) (run : Run) (what : Ended) → rests (ended s ru
 ended_rests s run what = begins_rests (record (at_phase s (Resting run.next)) { front = Some what }) run.next false refl
 
 module _ (v : Voice) (epoch : ℕ) where
-  prepare_twice : (s : MasterState) → prepare_row (prepare_row s v epoch).state v epoch ≡ stay (prepare_row s v epoch).state
+  -- by this row nothing happens
+  abbrev Settles : (MasterState → Voice → ℕ → Step MasterState) → MasterState → Type 0
+  Settles row now = row now v epoch ≡ stay now
+
+  prepare_twice : (s : MasterState) → Settles prepare_row (prepare_row s v epoch).state
   unfolding prepare_row
   prepare_twice s = by s.phase refl
     where
-      over : (now : MasterState) (run : Run) → now.phase ≡ Committing run → prepare_row now v epoch ≡ stay now
+      over : (now : MasterState) (run : Run) → now.phase ≡ Committing run → Settles prepare_row now
       over now run is = ap (prepare_by now v epoch) is
 
-      by_all : (run : Run) (all : Bool) → prepare_row (prepared_if (counted s v) run all).state v epoch ≡ stay (prepared_if (counted s v) run all).state
-      by_all run true = over (entering (counted s v) (Committing run)).state run (listed_phase (at_phase (counted s v) (Committing run)) 0)
+      by_all : (run : Run) (all : Bool) → Settles prepare_row (prepared_if (counted s v) run all).state
+      by_all run true =
+          over (entering (counted s v) (Committing run)).state run
+          (listed_phase (at_phase (counted s v) (Committing run)) 0)
       by_all run false = prepare_ignored (counted s v) v (counted_once s v) epoch
 
       by_if : (run : Run) → s.phase ≡ Preparing run → (counting : Bool) → (run.epoch == epoch && counts s v) ≡ counting
-          → prepare_row (prepare_if s v run counting).state v epoch ≡ stay (prepare_if s v run counting).state
+          → Settles prepare_row (prepare_if s v run counting).state
       by_if run is true e = by_all run (all_in 1 (counted s v))
       by_if run is false e = ap (prepare_by s v epoch) is ∙ ap (prepare_if s v run) e
 
-      by : (phase : Phase) → s.phase ≡ phase → prepare_row (prepare_by s v epoch phase).state v epoch ≡ stay (prepare_by s v epoch phase).state
+      by : (phase : Phase) → s.phase ≡ phase → Settles prepare_row (prepare_by s v epoch phase).state
       by (Preparing run) is = by_if run is (run.epoch == epoch && counts s v) refl
       by _ is = ap (prepare_by s v epoch) is
 
-  finish_twice : (s : MasterState) → finish_row (finish_row s v epoch).state v epoch ≡ stay (finish_row s v epoch).state
+  finish_twice : (s : MasterState) → Settles finish_row (finish_row s v epoch).state
   unfolding finish_row close_if_all
   finish_twice s = by s.phase refl
     where
-      over : (now : MasterState) (run : Run) → now.phase ≡ Closing run → finish_row now v epoch ≡ stay now
+      over : (now : MasterState) (run : Run) → now.phase ≡ Closing run → Settles finish_row now
       over now run is = ap (finish_by now v epoch) is
 
-      by_all : (run : Run) (all : Bool) → finish_row (closed_if (counted s v) run all).state v epoch ≡ stay (closed_if (counted s v) run all).state
-      by_all run true = over (entering (counted s v) (Closing run)).state run (listed_phase (at_phase (counted s v) (Closing run)) 0)
+      by_all : (run : Run) (all : Bool) → Settles finish_row (closed_if (counted s v) run all).state
+      by_all run true =
+          over (entering (counted s v) (Closing run)).state run (listed_phase (at_phase (counted s v) (Closing run)) 0)
       by_all run false = finish_ignored (counted s v) v (counted_once s v) epoch
 
       by_if : (run : Run) → s.phase ≡ Committing run → (counting : Bool) → (run.epoch == epoch && counts s v) ≡ counting
-          → finish_row (finish_if s v run counting).state v epoch ≡ stay (finish_if s v run counting).state
+          → Settles finish_row (finish_if s v run counting).state
       by_if run is true e = by_all run (not (counted s v).owed && all_in 1 (counted s v))
       by_if run is false e = ap (finish_by s v epoch) is ∙ ap (finish_if s v run) e
 
-      by : (phase : Phase) → s.phase ≡ phase → finish_row (finish_by s v epoch phase).state v epoch ≡ stay (finish_by s v epoch phase).state
+      by : (phase : Phase) → s.phase ≡ phase → Settles finish_row (finish_by s v epoch phase).state
       by (Committing run) is = by_if run is (run.epoch == epoch && counts s v) refl
       by _ is = ap (finish_by s v epoch) is
 
-  note_twice : (s : MasterState) → note_row (note_row s v epoch).state v epoch ≡ stay (note_row s v epoch).state
+  note_twice : (s : MasterState) → Settles note_row (note_row s v epoch).state
   unfolding note_row
   note_twice s = by s.phase refl
     where
-      saving : (now : MasterState) (run : Run) → now.phase ≡ Saving run → note_row now v epoch ≡ stay now
+      saving : (now : MasterState) (run : Run) → now.phase ≡ Saving run → Settles note_row now
       saving now run is = ap (note_by now v epoch) is
 
       resting : (now : MasterState) (phase : Phase) → rests phase ≡ true → note_by now v epoch phase ≡ stay now
@@ -124,46 +132,48 @@ module _ (v : Voice) (epoch : ℕ) where
       resting now (Preparing run) e = refl
       resting now _ e = absurd (false≢true e)
 
-      by_first : (run : Run) (first : Bool) → note_row (noted_by (counted s v) run first).state v epoch ≡ stay (noted_by (counted s v) run first).state
-      by_first run true = saving (entering (counted s v) (Saving run)).state run (listed_phase (at_phase (counted s v) (Saving run)) 0)
+      by_first : (run : Run) (first : Bool) → Settles note_row (noted_by (counted s v) run first).state
+      by_first run true =
+          saving (entering (counted s v) (Saving run)).state run (listed_phase (at_phase (counted s v) (Saving run)) 0)
       by_first run false =
-          resting (ended (counted s v) run (Micro run.epoch)).state (ended (counted s v) run (Micro run.epoch)).state.phase
-          (ended_rests (counted s v) run (Micro run.epoch))
+          let now = (ended (counted s v) run (Micro run.epoch)).state in
+          resting now now.phase (ended_rests (counted s v) run (Micro run.epoch))
 
-      by_all : (run : Run) (all : Bool) → note_row (noted_if (counted s v) run all).state v epoch ≡ stay (noted_if (counted s v) run all).state
+      by_all : (run : Run) (all : Bool) → Settles note_row (noted_if (counted s v) run all).state
       by_all run true = by_first run (is_first run.next)
       by_all run false = note_ignored (counted s v) v (counted_once s v) epoch
 
       by_if : (run : Run) → s.phase ≡ Closing run → (counting : Bool) → (run.epoch == epoch && counts s v) ≡ counting
-          → note_row (note_if s v run counting).state v epoch ≡ stay (note_if s v run counting).state
+          → Settles note_row (note_if s v run counting).state
       by_if run is true e = by_all run (all_in 2 (counted s v))
       by_if run is false e = ap (note_by s v epoch) is ∙ ap (note_if s v run) e
 
-      by : (phase : Phase) → s.phase ≡ phase → note_row (note_by s v epoch phase).state v epoch ≡ stay (note_by s v epoch phase).state
+      by : (phase : Phase) → s.phase ≡ phase → Settles note_row (note_by s v epoch phase).state
       by (Closing run) is = by_if run is (run.epoch == epoch && counts s v) refl
       by _ is = ap (note_by s v epoch) is
 
-  save_twice : (s : MasterState) → save_row (save_row s v epoch).state v epoch ≡ stay (save_row s v epoch).state
+  save_twice : (s : MasterState) → Settles save_row (save_row s v epoch).state
   unfolding save_row
   save_twice s = by s.phase refl
     where
-      over : (now : MasterState) (run : Run) → now.phase ≡ Copying run → save_row now v epoch ≡ stay now
+      over : (now : MasterState) (run : Run) → now.phase ≡ Copying run → Settles save_row now
       over now run is = ap (save_by now v epoch) is
 
-      by_all : (run : Run) (all : Bool) → save_row (saved_if (counted s v) run all).state v epoch ≡ stay (saved_if (counted s v) run all).state
-      by_all run true = over (entering (counted s v) (Copying run)).state run (listed_phase (at_phase (counted s v) (Copying run)) 0)
+      by_all : (run : Run) (all : Bool) → Settles save_row (saved_if (counted s v) run all).state
+      by_all run true =
+          over (entering (counted s v) (Copying run)).state run (listed_phase (at_phase (counted s v) (Copying run)) 0)
       by_all run false = save_ignored (counted s v) v (counted_once s v) epoch
 
       by_if : (run : Run) → s.phase ≡ Saving run → (counting : Bool) → (run.epoch == epoch && counts s v) ≡ counting
-          → save_row (save_if s v run counting).state v epoch ≡ stay (save_if s v run counting).state
+          → Settles save_row (save_if s v run counting).state
       by_if run is true e = by_all run (all_in 1 (counted s v))
       by_if run is false e = ap (save_by s v epoch) is ∙ ap (save_if s v run) e
 
-      by : (phase : Phase) → s.phase ≡ phase → save_row (save_by s v epoch phase).state v epoch ≡ stay (save_by s v epoch phase).state
+      by : (phase : Phase) → s.phase ≡ phase → Settles save_row (save_by s v epoch phase).state
       by (Saving run) is = by_if run is (run.epoch == epoch && counts s v) refl
       by _ is = ap (save_by s v epoch) is
 
-  copy_twice : (s : MasterState) → copy_row (copy_row s v epoch).state v epoch ≡ stay (copy_row s v epoch).state
+  copy_twice : (s : MasterState) → Settles copy_row (copy_row s v epoch).state
   unfolding copy_row
   copy_twice s = by s.phase refl
     where
@@ -172,18 +182,18 @@ module _ (v : Voice) (epoch : ℕ) where
       resting now (Preparing run) e = refl
       resting now _ e = absurd (false≢true e)
 
-      by_all : (run : Run) (all : Bool) → copy_row (copied_if (counted s v) run all).state v epoch ≡ stay (copied_if (counted s v) run all).state
+      by_all : (run : Run) (all : Bool) → Settles copy_row (copied_if (counted s v) run all).state
       by_all run true =
-          let what = Global run.epoch run.copy in
-          resting (ended (counted s v) run what).state (ended (counted s v) run what).state.phase (ended_rests (counted s v) run what)
+          let now = (ended (counted s v) run (Global run.epoch run.copy)).state in
+          resting now now.phase (ended_rests (counted s v) run (Global run.epoch run.copy))
       by_all run false = copy_ignored (counted s v) v (counted_once s v) epoch
 
       by_if : (run : Run) → s.phase ≡ Copying run → (counting : Bool) → (run.epoch == epoch && counts s v) ≡ counting
-          → copy_row (copy_if s v run counting).state v epoch ≡ stay (copy_if s v run counting).state
+          → Settles copy_row (copy_if s v run counting).state
       by_if run is true e = by_all run (all_in 1 (counted s v))
       by_if run is false e = ap (copy_by s v epoch) is ∙ ap (copy_if s v run) e
 
-      by : (phase : Phase) → s.phase ≡ phase → copy_row (copy_by s v epoch phase).state v epoch ≡ stay (copy_by s v epoch phase).state
+      by : (phase : Phase) → s.phase ≡ phase → Settles copy_row (copy_by s v epoch phase).state
       by (Copying run) is = by_if run is (run.epoch == epoch && counts s v) refl
       by _ is = ap (copy_by s v epoch) is
 
@@ -214,11 +224,15 @@ resumed_elsewhere known =
     by false false false false false = refl
 
 module _ (v : Voice) (told : Told) where
+  -- nothing happens when this block tells
+  abbrev Hushes : MasterState → Type 0
+  Hushes now = state_row now v told ≡ stay now
+
   over_by : (now : MasterState) (phase : Phase) → gathers phase ≡ false → state_by now v told phase ≡ stay now
   over_by now (Gathering known) e = absurd (false≢true (sym e))
   over_by now _ e = refl
 
-  over : (now : MasterState) (phase : Phase) → gathers phase ≡ false → now.phase ≡ phase → state_row now v told ≡ stay now
+  over : (now : MasterState) (phase : Phase) → gathers phase ≡ false → now.phase ≡ phase → Hushes now
   unfolding state_row
   over now phase e is = ap (state_by now v told) is ∙ over_by now phase e
 
@@ -226,7 +240,7 @@ module _ (v : Voice) (told : Told) where
   abbrev Calm : MasterState → Type 0
   Calm now = (gathers now.phase ≡ false) ⊎ (counts now v ≡ false)
 
-  calm_stays : (now : MasterState) → Calm now → state_row now v told ≡ stay now
+  calm_stays : (now : MasterState) → Calm now → Hushes now
   calm_stays now (inl e) = over now now.phase e refl
   calm_stays now (inr none) = state_ignored now v none told
 
@@ -262,42 +276,51 @@ module _ (v : Voice) (told : Told) where
   begins_calm s false false (inr none) = inr (listed_counts s 0 ∙ none)
 
   resumed_stays : (s : MasterState) (phase : Phase) → gathers phase ≡ false → counts s v ≡ false
-      → state_row (resume_at s phase).state v told ≡ stay (resume_at s phase).state
+      → Hushes (resume_at s phase).state
   unfolding begins
   resumed_stays s (Resting current) e none =
       calm_stays (begins s current false).state
       (begins_calm (begun s current).state (begun s current).spent false (begun_calm s current none))
   resumed_stays s (Gathering known) e none = absurd (false≢true (sym e))
-  resumed_stays s Unordered e none = over (entering s Unordered).state Unordered refl (listed_phase (at_phase s Unordered) 0)
-  resumed_stays s (Preparing run) e none = over (entering s (Preparing run)).state (Preparing run) refl (listed_phase (at_phase s (Preparing run)) 0)
-  resumed_stays s (Committing run) e none = over (entering s (Committing run)).state (Committing run) refl (listed_phase (at_phase s (Committing run)) 0)
-  resumed_stays s (Closing run) e none = over (entering s (Closing run)).state (Closing run) refl (listed_phase (at_phase s (Closing run)) 0)
-  resumed_stays s (Saving run) e none = over (entering s (Saving run)).state (Saving run) refl (listed_phase (at_phase s (Saving run)) 0)
-  resumed_stays s (Copying run) e none = over (entering s (Copying run)).state (Copying run) refl (listed_phase (at_phase s (Copying run)) 0)
+  resumed_stays s Unordered e none =
+      over (entering s Unordered).state Unordered refl (listed_phase (at_phase s Unordered) 0)
+  resumed_stays s (Preparing run) e none =
+      over (entering s (Preparing run)).state (Preparing run) refl (listed_phase (at_phase s (Preparing run)) 0)
+  resumed_stays s (Committing run) e none =
+      over (entering s (Committing run)).state (Committing run) refl (listed_phase (at_phase s (Committing run)) 0)
+  resumed_stays s (Closing run) e none =
+      over (entering s (Closing run)).state (Closing run) refl (listed_phase (at_phase s (Closing run)) 0)
+  resumed_stays s (Saving run) e none =
+      over (entering s (Saving run)).state (Saving run) refl (listed_phase (at_phase s (Saving run)) 0)
+  resumed_stays s (Copying run) e none =
+      over (entering s (Copying run)).state (Copying run) refl (listed_phase (at_phase s (Copying run)) 0)
 
   knowing_once : (s : MasterState) (known : Known) → counts (knowing (counted s v) known) v ≡ false
   unfolding counts
   knowing_once s known = counted_once s v
 
-  state_twice : (s : MasterState) → state_row (state_row s v told).state v told ≡ stay (state_row s v told).state
+  state_twice : (s : MasterState) → Hushes (state_row s v told).state
   unfolding state_row
   state_twice s = by s.phase refl
     where
       by_all : (known : Known) (all : Bool)
-          → state_row (told_all_if (knowing (counted s v) known) known all).state v told ≡ stay (told_all_if (knowing (counted s v) known) known all).state
-      by_all known true = resumed_stays (knowing (counted s v) known) (resumed known) (resumed_elsewhere known) (knowing_once s known)
+          → Hushes (told_all_if (knowing (counted s v) known) known all).state
+      by_all known true =
+          resumed_stays (knowing (counted s v) known) (resumed known) (resumed_elsewhere known) (knowing_once s known)
       by_all known false = state_ignored (knowing (counted s v) known) v (knowing_once s known) told
 
-      by_if : (known known_now : Known) → s.phase ≡ Gathering known → known_now ≡ learned_if known told (is_among s.view.full v.member)
+      by_if : (known known_now : Known) → s.phase ≡ Gathering known
+          → known_now ≡ learned_if known told (is_among s.view.full v.member)
           → (counting : Bool) → counts s v ≡ counting
-          → state_row (state_if s v known_now counting).state v told ≡ stay (state_if s v known_now counting).state
+          → Hushes (state_if s v known_now counting).state
       by_if known known_now is now true e = by_all known_now (all_in 2 (counted s v))
       by_if known known_now is now false e =
           ap (state_by s v told) is
           ∙ ap (λ b. state_if s v (learned_if known told (is_among s.view.full v.member)) b) e
 
-      by : (phase : Phase) → s.phase ≡ phase → state_row (state_by s v told phase).state v told ≡ stay (state_by s v told phase).state
-      by (Gathering known) is = by_if known (learned_if known told (is_among s.view.full v.member)) is refl (counts s v) refl
+      by : (phase : Phase) → s.phase ≡ phase → Hushes (state_by s v told phase).state
+      by (Gathering known) is =
+          by_if known (learned_if known told (is_among s.view.full v.member)) is refl (counts s v) refl
       by _ is = ap (state_by s v told) is
 
 twice : (s : MasterState) (v : Voice) (number : ℕ) (body : Body) → is_confirmation body ≡ true
@@ -308,7 +331,14 @@ twice s v number (Epoch (GcpClosedConf epoch)) e = note_twice v epoch s
 twice s v number (Epoch (GcpSaveConf epoch)) e = save_twice v epoch s
 twice s v number (Epoch (CopyGciConf epoch)) e = copy_twice v epoch s
 twice s v number (Epoch (GcpStateConf current prepared next closed saved durable)) e =
-    state_twice v (record { current = current; prepared = prepared; next = next; closed = closed; saved = saved; durable = durable }) s
+    let told : Told = record {
+      current = current;
+      prepared = prepared;
+      next = next;
+      closed = closed;
+      saved = saved;
+      durable = durable;
+    } in state_twice v told s
 twice s v number _ e = absurd (false≢true e)
 
 pub twice_confirmed_counts_once : TwiceConfirmedCountsOnce

@@ -5,7 +5,8 @@ use Rattle.std.proofs.lemmas.List.{length-set}
 use Rattle.sig_core.specs.Filled.{IsFilled, length-held}
 
 -- behind the place that is set nothing changes
-drop-set : {X : Type 0} (items : List X) (len : ℕ) (x : X) → drop (suc len) (slice_set items len x) ≡ drop (suc len) items
+drop-set : {X : Type 0} (items : List X) (len : ℕ) (x : X)
+    → drop (suc len) (slice_set items len x) ≡ drop (suc len) items
 drop-set [] zero x = refl
 drop-set [] (suc len) x = refl
 drop-set (y ∷ items) zero x = refl
@@ -31,5 +32,7 @@ pushed filler items len x is few =
     record {
       fits = omega (arith, held, few);
       whole = length-set items len x ∙ is.whole;
-      rest = ap (λ n. drop n (slice_set items len x)) next ∙ drop-set items len x ∙ drop-one items len ∙ ap (drop 1) is.rest ∙ one_less (16 - len) filler ∙ ap (λ n. replicate n filler) less;
+      rest =
+          ap (λ n. drop n (slice_set items len x)) next ∙ drop-set items len x ∙ drop-one items len
+          ∙ ap (drop 1) is.rest ∙ one_less (16 - len) filler ∙ ap (λ n. replicate n filler) less;
     }

@@ -60,7 +60,8 @@ takeover_row s = takeover_by (record s { owed = false }) s.phase
 abbrev pub ended : MasterState → Run → Ended → Step MasterState
 ended s run what = begins (record (at_phase s (Resting run.next)) { front = Some what }) run.next false
 
--- both blocks of all members have noted that the epoch is closed: a global checkpoint saves it, a micro closing has ended
+-- both blocks of all members have noted that the epoch is closed: a global checkpoint saves it, and a micro closing has
+-- ended
 abbrev pub noted_by : MasterState → Run → Bool → Step MasterState
 noted_by s run true = entering s (Saving run)
 noted_by s run false = ended s run (Micro run.epoch)

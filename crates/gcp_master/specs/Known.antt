@@ -16,7 +16,16 @@ greater one other = if nat_lt one other then other else one
 
 -- nothing was told: no least one is known yet
 abbrev pub nothing_known : Known
-nothing_known = record { epoch = 0; next = 0; least = 2 ^ 64 - 1; greatest = 0; closed = 2 ^ 64 - 1; saved = 2 ^ 64 - 1; durable = 2 ^ 64 - 1 }
+nothing_known =
+    record {
+      epoch = 0;
+      next = 0;
+      least = 2 ^ 64 - 1;
+      greatest = 0;
+      closed = 2 ^ 64 - 1;
+      saved = 2 ^ 64 - 1;
+      durable = 2 ^ 64 - 1;
+    }
 
 -- the rows of a full member have told this
 abbrev pub learned_of_rows : Known → Told → Known

@@ -22,7 +22,8 @@ is_confirmation body = false
 -- a confirmation of who isn't in the view changes nothing, sends nothing and marks nothing
 abbrev pub OutsidersConfirmNothing : Type 0
 OutsidersConfirmNothing =
-    (s : MasterState) (x : Signal) → is_confirmation x.body ≡ true → is_in s.view x.member ≡ false → master_row s x ≡ stay s
+    (s : MasterState) (x : Signal) → is_confirmation x.body ≡ true → is_in s.view x.member ≡ false
+    → master_row s x ≡ stay s
 
 -- one that comes once more at once doesn't either
 abbrev pub TwiceConfirmedCountsOnce : Type 0

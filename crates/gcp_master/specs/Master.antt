@@ -11,6 +11,7 @@ use Rattle.sig_core.specs.declared.signal.host.Work.TheVariants.{Members}
 use Rattle.sig_core.specs.declared.signal.takeover.TakeoverSignal.TheVariants.{TakeoverEnd}
 use Rattle.sig_core.specs.declared.view.View.{View}
 use Rattle.sig_core.specs.Step.{Step, stay}
+use Rattle.gcp_master.specs.declared.known.Told.{Told}
 use Rattle.gcp_master.specs.declared.phase.Phase.{Phase}
 use Rattle.gcp_master.specs.declared.phase.Phase.TheVariants.{Unordered, Resting}
 use Rattle.gcp_master.specs.declared.voices.Voice.{Voice}
@@ -38,13 +39,25 @@ fresh_master member view epoch =
       voices = [];
     }
 
+-- what a block tells, as a signal has it
+abbrev pub told : ℕ → ℕ → ℕ → ℕ → ℕ → ℕ → Told
+told current prepared next closed saved durable =
+    record {
+      current = current;
+      prepared = prepared;
+      next = next;
+      closed = closed;
+      saved = saved;
+      durable = durable;
+    }
+
 -- what the master does at a signal of epochs, by who sent it
 abbrev pub epoch_table : MasterState → Voice → EpochSignal → Step MasterState
 epoch_table s voice GcpReq = asked_row s (global_asked s.asked voice.member.node)
 epoch_table s voice MicroReq = asked_row s (micro_asked s.asked)
 epoch_table s voice GcpOrd = order_row s
 epoch_table s voice (GcpStateConf current prepared next closed saved durable) =
-    state_row s voice (record { current = current; prepared = prepared; next = next; closed = closed; saved = saved; durable = durable })
+    state_row s voice (told current prepared next closed saved durable)
 epoch_table s voice (GcpPrepareConf epoch) = prepare_row s voice epoch
 epoch_table s voice (GcpNodeFinish epoch) = finish_row s voice epoch
 epoch_table s voice (GcpClosedConf epoch) = note_row s voice epoch
@@ -52,7 +65,8 @@ epoch_table s voice (GcpSaveConf epoch) = save_row s voice epoch
 epoch_table s voice (CopyGciConf epoch) = copy_row s voice epoch
 epoch_table s voice _ = stay s
 
--- what it does, by who sent a signal, the number of the sender's view, and what the signal says. It leaves the others alone
+-- what it does, by who sent a signal, the number of the sender's view, and what the signal says. It leaves the others
+-- alone
 abbrev pub master_table : MasterState → Voice → ℕ → Body → Step MasterState
 master_table s voice number (Host (Continue Members at)) = go_on_row s number at
 master_table s voice number (Takeover TakeoverEnd) = takeover_row s

@@ -9,8 +9,8 @@ use Rattle.gcp_master.specs.declared.voices.TheConstants.{VOICES}
 use Rattle.gcp_master.specs.declared.voices.Voice.{Voice}
 use Rattle.gcp_master.specs.Voices.{has_all, is_heard, is_in}
 
--- a master: its member and view, how far it has come, the closing of whose end not all were told yet, what was asked for
--- and isn't begun, whether a takeover has yet to end in this view, and who has confirmed what it ordered last
+-- a master: its member and view, how far it has come, the closing of whose end not all were told yet, what was asked
+-- for and isn't begun, whether a takeover has yet to end in this view, and who has confirmed what it ordered last
 pub record MasterState : Type 0 where
   pub member : Member
   pub view : View

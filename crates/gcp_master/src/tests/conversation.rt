@@ -248,6 +248,20 @@ fn lists_end_at_an_installation(rt: HostRuntime) -> Result<(), Fail> {
     talk(&rt, rt.alloc(), &mut master, 2, &lines)
 }
 
+// The master of a node that isn't the president does nothing.
+#[test]
+fn another_node(rt: HostRuntime) -> Result<(), Fail> {
+    let two = Member { node: 2, start: 0 };
+    let mut master = GcpMaster::new(two, &view(1, 2, 2), MICROS);
+    let lines = [
+        (Heard::Gcp, ""),
+        (Heard::Micro, ""),
+        (Heard::Prepared(1, (1, 0)), ""),
+        (Heard::Takeover, ""),
+    ];
+    talk(&rt, rt.alloc(), &mut master, 1, &lines)
+}
+
 #[test]
 fn numbers_are_used_up(rt: HostRuntime) -> Result<(), Fail> {
     let one = Member { node: 1, start: 0 };

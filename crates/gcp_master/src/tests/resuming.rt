@@ -210,3 +210,50 @@ fn requests_at_an_installation(rt: HostRuntime) -> Result<(), Fail> {
     ];
     talk(&rt, alloc, &mut master, 5, &lines)
 }
+
+// What is asked for while the end of a checkpoint is told begins behind that.
+#[test]
+fn asked_while_the_end_is_told(rt: HostRuntime) -> Result<(), Fail> {
+    let alloc = rt.alloc();
+    let mut master = fresh(5);
+    master.install(&view(2, 5, 5), &mut Outs::new(alloc)?);
+    let order = (
+        Heard::Order,
+        "dih1 tell, dih2 tell, dih3 tell, dih4 tell, dih5 tell, lqh1 tell, lqh2 tell, lqh3 tell, \
+         gcp1 more 8",
+    );
+    talk(&rt, alloc, &mut master, 2, &[order])?;
+    let told = far((1, 0), (2, 0), (1, 0), (0, 0));
+    for before in 0..4u8 {
+        let lines = [
+            (Heard::Far(before + 1, told), ""),
+            (Heard::RowsFar(before + 1, (1, 0), (1, 0)), ""),
+        ];
+        talk(&rt, alloc, &mut master, 2, &lines)?;
+    }
+    let lines = [
+        (Heard::Far(5, told), ""),
+        (
+            Heard::RowsFar(5, (1, 0), (1, 0)),
+            "dih1 file 1/0 of 31, dih2 file 1/0 of 31, dih3 file 1/0 of 31, dih4 file 1/0 of 31, \
+             dih5 file 1/0 of 31",
+        ),
+        (Heard::Copied(1, (1, 0)), ""),
+        (Heard::Copied(2, (1, 0)), ""),
+        (Heard::Copied(3, (1, 0)), ""),
+        (Heard::Copied(4, (1, 0)), ""),
+        (
+            Heard::Copied(5, (1, 0)),
+            "dih1 done 1/0, dih2 done 1/0, dih3 done 1/0, dih4 done 1/0, dih5 done 1/0, \
+             lqh1 done 1/0, lqh2 done 1/0, lqh3 done 1/0, gcp1 more 8, !durable 1/0",
+        ),
+        (Heard::Micro, ""),
+        (
+            Heard::More(2, 8),
+            "lqh4 done 1/0, lqh5 done 1/0, api0 durable 1/0, dih1 prepare 2/0 2/1, \
+             dih2 prepare 2/0 2/1, dih3 prepare 2/0 2/1, dih4 prepare 2/0 2/1, dih5 prepare 2/0 2/1",
+        ),
+        (Heard::More(2, 16), ""),
+    ];
+    talk(&rt, alloc, &mut master, 2, &lines)
+}

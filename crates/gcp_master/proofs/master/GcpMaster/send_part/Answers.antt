@@ -18,12 +18,15 @@ returns-then-portion c =
     let by = checkpoints s.member.node in
     let out = c.offer_list.new.out in
     let is : so_far c.offer_list.new.portion out ≡ all_offered (offered_from c.args.at c.args.out.now) xs =
-    c.offer_list.ensures.offered ∙ ap (λ (p : Portion). all_offered (so_far p c.args.out.now) xs) c.new-portion.ensures in
+    c.offer_list.ensures.offered
+    ∙ ap (λ (p : Portion). all_offered (so_far p c.args.out.now) xs) c.new-portion.ensures in
     let to : c.checkpoints.result ≡ by =
     c.checkpoints.ensures ∙ ap (λ (s : MasterState). checkpoints s.member.node) c.self.view_is in
-    let done = goes_on_after_portion by Members c.args.at c.args.out.now out c.offer_list.new.portion xs is c.if-portion.true in
+    let portion = c.offer_list.new.portion in
+    let done = goes_on_after_portion by Members c.args.at c.args.out.now out portion xs is c.if-portion.true in
     record {
-      effects = c.send.ensures ∙ ap (λ (p : Place). and_send out p (go_on_at by Members (c.args.at + 8)).body) to ∙ done;
+      effects =
+          c.send.ensures ∙ ap (λ (p : Place). and_send out p (go_on_at by Members (c.args.at + 8)).body) to ∙ done;
       left = ap (λ (o : Offered). o.portion.more) is ∙ (portion_sent c.args.at c.args.out.now xs).more;
     }
 
@@ -34,10 +37,11 @@ returns-else-portion c =
     let xs = master_sends s in
     let out = c.offer_list.new.out in
     let is : so_far c.offer_list.new.portion out ≡ all_offered (offered_from c.args.at c.args.out.now) xs =
-    c.offer_list.ensures.offered ∙ ap (λ (p : Portion). all_offered (so_far p c.args.out.now) xs) c.new-portion.ensures in
+    c.offer_list.ensures.offered
+    ∙ ap (λ (p : Portion). all_offered (so_far p c.args.out.now) xs) c.new-portion.ensures in
     record {
       effects =
-          ends_with_portion (checkpoints s.member.node) Members c.args.at c.args.out.now out c.offer_list.new.portion xs is
-          c.if-portion.false;
+          ends_with_portion (checkpoints s.member.node) Members c.args.at c.args.out.now out
+          c.offer_list.new.portion xs is c.if-portion.false;
       left = ap (λ (o : Offered). o.portion.more) is ∙ (portion_sent c.args.at c.args.out.now xs).more;
     }
