@@ -26,7 +26,7 @@ use Rattle.sig_core.proofs.Keys.{same_tx-self}
 use Rattle.sig_core.proofs.TxLemmas.{same_tx-is}
 use Rattle.tc_block.proofs.EachTurn.{rows_at}
 use Rattle.tc_block.proofs.LiveSplit.{AreOthers}
-use Rattle.tc_block.proofs.TurnRows.{TcStep, begins, is_turn, misses, passes, refuses, rests, takes, tc_step, turn_by, turn_row, tx_in}
+use Rattle.tc_block.proofs.TurnRows.{TcStep, begins, is_turn, misses, passes, refuses, rests, takes, tc_step, turn_by, turn_row, tx_in, left_if}
 use Rattle.host_laws.proofs.ApiBegins.{each_at, each_changed, each_less, in_middle}
 use Rattle.host_laws.proofs.Tally.{tally_between, tally_in, tally_none}
 use Rattle.host_laws.specs.Counts.{one_if, tally}
@@ -193,12 +193,7 @@ module _ (n : ℕ) (tx : TxId) where
             others _ u epoch k (other_turn body differs)
                 (subst (IsIn (tx, u)) (sym was) (in_more (tx, u) (one, t) front back i)) on
 
-        after : Bool → Step TcState
-        after b = record { state =
-            with_live s (if b then front ++ back else front ++ (one, turn.step.state) ∷ back); effects =
-            turn.step.effects }
-
-        over : (b : Bool) → turn.over ≡ b → Steps (after b)
+        over : (b : Bool) → turn.over ≡ b → Steps (left_if s one front back turn b)
         over true e = record {
           known = each_less (λ (z : TxId × Transaction). IsKnown n z.1) front (one, t) back s.live was known;
           owes = λ u epoch k i on. rest u epoch k (same_tx one tx) refl i on;

@@ -39,7 +39,7 @@ use Rattle.tc_block.specs.Tc.{begun, next_tx, tc_table}
 use Rattle.tc_block.specs.Turn.{Turn, asking}
 use Rattle.tc_block.specs.Phases.{is_completing}
 use Rattle.tc_block.proofs.EachTurn.{AbortForms, CommittedForms, TurnForms, rows_of}
-use Rattle.tc_block.proofs.TurnRows.{TcStep, begins, left_in, misses, passes as passed_on, refuses as lacks, rests as rested, takes, tc_step, turn_by, turn_row, tx_in}
+use Rattle.tc_block.proofs.TurnRows.{TcStep, begins, left_in, misses, passes as passed_on, refuses as lacks, rests as rested, takes, tc_step, turn_by, turn_row, tx_in, left_if, left_step}
 use Rattle.host_laws.proofs.TcSends.{TurnSends, turn_sends}
 pub use Rattle.sig_core.proofs.TxLemmas.{same_tx-is}
 
@@ -159,8 +159,7 @@ tc_moves s body = by (tc_table s body) (tc_step s body)
         subst (Moves s) (sym is) (over (turn_row s body t) (turn_sends s body t) (turn_told s body t))
       where
         over : (turn : Turn) → TurnSends (tx_in body) turn → IsTold (tx_in body) t turn
-            → Moves s (record { state = with_live s (left_in (tx_in body) front back turn); effects =
-                turn.step.effects })
+            → Moves s (left_step s (tx_in body) front back turn)
         over turn kind told = which turn.over refl
           where
             done : (b : Bool) → turn.over ≡ b
@@ -168,9 +167,7 @@ tc_moves s body = by (tc_table s body) (tc_step s body)
             done b e = ap (λ c. c || is_completing turn.step.state.phase) e
 
             which : (b : Bool) → turn.over ≡ b
-                → Moves s (record { state =
-                    with_live s (if b then front ++ back else front ++ (tx_in body, turn.step.state) ∷ back); effects =
-                    turn.step.effects })
+                → Moves s (left_if s (tx_in body) front back turn b)
             which true e = forgets (tx_in body) t front back was refl kind (told (done true e))
             which false e =
                 turns (tx_in body) t turn.step.state front back was refl kind (λ c. told (done false e ∙ c))
