@@ -1,6 +1,6 @@
 -- What a step of a coordinator does to an operation of a transaction: it is kept at the replicas, or was answered.
 use Rattle.std.proofs.Common.{◌≡◌, ◌⊎◌, ℕ, ◌+◌, ◌≤◌, ◌<◌, List, [], ◌∷◌, ◌++◌, Bool, true, false, refl, ap, sym, ◌∙◌, subst, arith, inl, inr}
-use Rattle.std.specs.Prelude.{◌&&◌, if◌then◌else◌}
+use Rattle.std.specs.Prelude.{◌&&◌}
 use Rattle.indexmap.specs.IndexMap.{insert_entry}
 use Rattle.run_theory.proofs.Pasts.{each_append, each_map}
 use Rattle.run_theory.specs.Lists.{Each}
@@ -13,7 +13,7 @@ use Rattle.sig_core.specs.Same.{same_key, same_tx}
 use Rattle.sig_core.specs.Step.{Step}
 use Rattle.tc_block.specs.declared.transaction.Transaction.{Transaction}
 use Rattle.tc_block.specs.Operate.{fresh}
-use Rattle.tc_block.specs.State.{TcState, with_live}
+use Rattle.tc_block.specs.State.{TcState}
 use Rattle.tc_block.specs.Tc.{next_tx, tc_table}
 use Rattle.tc_block.specs.Turn.{Turn}
 use Rattle.tc_block.proofs.EachTurn.{rows_at}

@@ -17,7 +17,7 @@ use Rattle.sig_core.specs.Step.{Step}
 use Rattle.tc_block.specs.declared.transaction.Transaction.{Transaction}
 use Rattle.tc_block.specs.Operate as operate
 use Rattle.tc_block.specs.Sends.{entering}
-use Rattle.tc_block.specs.State.{TcState, with_live}
+use Rattle.tc_block.specs.State.{TcState}
 use Rattle.tc_block.specs.Tc.{next_tx, tc_table}
 use Rattle.tc_block.specs.Turn.{Turn, asking}
 use Rattle.sig_core.proofs.Keys.{same_tx-self}
