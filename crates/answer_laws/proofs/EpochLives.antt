@@ -108,8 +108,10 @@ module _ (s : TcState) (tx : TxId) (t : Transaction) (body : Body) (turn : Turn)
 
   end_counts : (u : Transaction) (why : AbortCause) (v : Bool) → is_counted t.phase ≡ v
       → TurnCounts s.node tx t
-          (record { step = record { state = u; effects =
-          record { sends = abort.abort_end s.node tx why v; marks = [] } }; over = true })
+          (record {
+            step = record { state = u; effects = record { sends = abort.abort_end s.node tx why v; marks = [] } };
+            over = true;
+          })
   end_counts u why true e = ending refl e [] (abort.rolled_back tx why ∷ []) refl refl refl
   end_counts u why false e = gone refl e refl
 

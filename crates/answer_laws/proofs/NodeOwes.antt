@@ -1,6 +1,6 @@
 -- What a step of a coordinator makes of what a transaction that commits waits for.
 use Rattle.std.proofs.Common.{◌≡◌, ◌⊎◌, ℕ, ◌≤◌, ◌<◌, List, [], ◌∷◌, ◌++◌, Bool, true, false, refl, ap, sym, ◌∙◌, subst, arith, inl, inr}
-use Rattle.std.specs.Prelude.{Option, None, Some, if◌then◌else◌}
+use Rattle.std.specs.Prelude.{Option, None, Some}
 use Rattle.std.proofs.lemmas.Bool.{false≢true}
 use Rattle.indexmap.specs.IndexMap.{insert_entry}
 use Rattle.run_theory.proofs.Pasts.{each_append, each_map}
@@ -19,14 +19,14 @@ use Rattle.tc_block.specs.declared.phase.Asked.{Asked}
 use Rattle.tc_block.specs.declared.phase.Phase.TheVariants.{Open, Committing}
 use Rattle.tc_block.specs.declared.transaction.Transaction.{Transaction}
 use Rattle.tc_block.specs.Operate.{fresh}
-use Rattle.tc_block.specs.State.{TcState, with_live}
+use Rattle.tc_block.specs.State.{TcState}
 use Rattle.tc_block.specs.Tc.{begin_if, next_tx, tc_table}
 use Rattle.tc_block.specs.Turn.{Turn}
 use Rattle.sig_core.proofs.Keys.{same_tx-self}
 use Rattle.sig_core.proofs.TxLemmas.{same_tx-is}
 use Rattle.tc_block.proofs.EachTurn.{rows_at}
 use Rattle.tc_block.proofs.LiveSplit.{AreOthers}
-use Rattle.tc_block.proofs.TurnRows.{TcStep, begins, is_turn, misses, passes, refuses, rests, takes, tc_step, turn_by, turn_row, tx_in}
+use Rattle.tc_block.proofs.TurnRows.{TcStep, begins, is_turn, misses, passes, refuses, rests, takes, tc_step, turn_by, turn_row, tx_in, left_if}
 use Rattle.host_laws.proofs.ApiBegins.{each_at, each_changed, each_less, in_middle}
 use Rattle.host_laws.proofs.Tally.{tally_between, tally_in, tally_none}
 use Rattle.host_laws.specs.Counts.{one_if, tally}
@@ -193,12 +193,7 @@ module _ (n : ℕ) (tx : TxId) where
             others _ u epoch k (other_turn body differs)
                 (subst (IsIn (tx, u)) (sym was) (in_more (tx, u) (one, t) front back i)) on
 
-        after : Bool → Step TcState
-        after b = record { state =
-            with_live s (if b then front ++ back else front ++ (one, turn.step.state) ∷ back); effects =
-            turn.step.effects }
-
-        over : (b : Bool) → turn.over ≡ b → Steps (after b)
+        over : (b : Bool) → turn.over ≡ b → Steps (left_if s one front back turn b)
         over true e = record {
           known = each_less (λ (z : TxId × Transaction). IsKnown n z.1) front (one, t) back s.live was known;
           owes = λ u epoch k i on. rest u epoch k (same_tx one tx) refl i on;

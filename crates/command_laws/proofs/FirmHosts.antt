@@ -17,7 +17,7 @@ use Rattle.node_core.specs.declared.host.Host.{Host}
 use Rattle.node_core.specs.Row.{row}
 use Rattle.tc_block.specs.declared.transaction.Transaction.{Transaction}
 use Rattle.tc_block.specs.Operate.{fresh}
-use Rattle.tc_block.specs.State.{TcState, with_live}
+use Rattle.tc_block.specs.State.{TcState}
 use Rattle.tc_block.specs.Tc.{tc_row}
 use Rattle.world_core.specs.Machine.{after}
 use Rattle.world_core.specs.Start.{Start}
@@ -26,7 +26,7 @@ use Rattle.host_laws.proofs.ApiBegins.{each_at, each_changed, each_less}
 use Rattle.host_laws.proofs.SendKinds.{none_of}
 use Rattle.host_laws.proofs.TcLives.{apart}
 use Rattle.host_laws.proofs.TcSteps.{is_said, turn_said}
-use Rattle.tc_block.proofs.TurnRows.{begins, left_in, misses, rests, takes, tc_step, TcStep, turn_row, tx_in, passes, refuses}
+use Rattle.tc_block.proofs.TurnRows.{begins, misses, rests, takes, tc_step, TcStep, turn_row, tx_in, passes, refuses, left_step}
 use Rattle.host_laws.proofs.Wishes.{is_tc, sends_of}
 use Rattle.command_laws.proofs.Firm.{firm_turn, is_firm, is_no_abort, is_push}
 use Rattle.command_laws.proofs.HostSends.{IsOfTc, is_other_kind}
@@ -100,8 +100,7 @@ module _ (tx : TxId) where
 
     turn_firm : (step : Step TcState) (t : Transaction) (front back : List (TxId × Transaction))
         → s.live ≡ front ++ (tx_in body, t) ∷ back
-        → step ≡ record { state = with_live s (left_in (tx_in body) front back (turn_row s body t)); effects =
-            (turn_row s body t).step.effects }
+        → step ≡ left_step s (tx_in body) front back (turn_row s body t)
         → sends_of (is_back tx) (turn_row s body t).step.effects.sends ≡ 0
         → IsFirmFor (tx_in body, (turn_row s body t).step.state)
         → KeepsFirm step.state.live step.effects.sends

@@ -1,7 +1,6 @@
 -- A coordinator that takes one operation of a transaction answers it, or reports an abort, and not both.
 use Rattle.std.proofs.Common.{◌≡◌, ◌⊎◌, ◌<◌, ◌≤◌, ◌+◌, ℕ, zero, suc, Bool, true, false, List, [], ◌∷◌, refl, sym, ap, ◌∙◌, subst, inl, inr, arith}
 use Rattle.std.specs.Prelude.{◌==◌, ◌&&◌, Option, None, Some, if◌then◌else◌}
-use Rattle.run_theory.specs.Lists.{Each}
 use Rattle.sig_core.proofs.Keys.{same_tx-self}
 use Rattle.sig_core.specs.declared.member.TxId.{TxId}
 use Rattle.sig_core.specs.declared.outs.Outgoing.{Outgoing}
@@ -22,8 +21,6 @@ use Rattle.tc_block.specs.Turn.{Turn}
 use Rattle.host_laws.specs.Counts.{one_if, tally}
 use Rattle.host_laws.proofs.SendKinds.{none_of}
 use Rattle.host_laws.proofs.TcKeys.{answer_of, is_asked, key_of_tx, tc_fair, is_key}
-use Rattle.host_laws.proofs.TcLives.{IsOwn}
-use Rattle.host_laws.proofs.TcMoves.{same_tx-is}
 use Rattle.host_laws.proofs.Wishes.{is_api, is_tc, sends_of}
 use Rattle.host_laws.specs.Live.{of_live}
 use Rattle.command_laws.proofs.Firm.{firm_turn, is_firm, is_no_abort}

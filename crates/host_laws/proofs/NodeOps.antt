@@ -1,6 +1,6 @@
 -- What a step of a coordinator does to an operation of a transaction: it is kept at the replicas, or was answered.
 use Rattle.std.proofs.Common.{◌≡◌, ◌⊎◌, ℕ, ◌+◌, ◌≤◌, ◌<◌, List, [], ◌∷◌, ◌++◌, Bool, true, false, refl, ap, sym, ◌∙◌, subst, arith, inl, inr}
-use Rattle.std.specs.Prelude.{◌&&◌, if◌then◌else◌}
+use Rattle.std.specs.Prelude.{◌&&◌}
 use Rattle.indexmap.specs.IndexMap.{insert_entry}
 use Rattle.run_theory.proofs.Pasts.{each_append, each_map}
 use Rattle.run_theory.specs.Lists.{Each}
@@ -13,12 +13,12 @@ use Rattle.sig_core.specs.Same.{same_key, same_tx}
 use Rattle.sig_core.specs.Step.{Step}
 use Rattle.tc_block.specs.declared.transaction.Transaction.{Transaction}
 use Rattle.tc_block.specs.Operate.{fresh}
-use Rattle.tc_block.specs.State.{TcState, with_live}
+use Rattle.tc_block.specs.State.{TcState}
 use Rattle.tc_block.specs.Tc.{next_tx, tc_table}
 use Rattle.tc_block.specs.Turn.{Turn}
 use Rattle.tc_block.proofs.EachTurn.{rows_at}
 use Rattle.tc_block.proofs.LiveSplit.{AreOthers}
-use Rattle.tc_block.proofs.TurnRows.{TcStep, begins, is_turn, misses, passes, refuses, rests, takes, tc_step, turn_by, turn_row, tx_in}
+use Rattle.tc_block.proofs.TurnRows.{TcStep, begins, is_turn, misses, passes, refuses, rests, takes, tc_step, turn_by, turn_row, tx_in, left_if}
 use Rattle.host_laws.proofs.ApiBegins.{each_at, each_changed, each_less}
 use Rattle.host_laws.proofs.LqhOps.{ops}
 use Rattle.host_laws.proofs.Tally.{tally_append, tally_between, tally_none}
@@ -168,12 +168,7 @@ module _ (n : ℕ) (tx : TxId) (key : List ℕ) where
                 (omega (arith, had, ap (λ b. one_if (b && asks_key key t.asked)) same, ap one_if asked.0), asked.1)
             which (inr sent) = inr sent
 
-        after : Bool → Step TcState
-        after b = record { state =
-            with_live s (if b then front ++ back else front ++ (one, turn.step.state) ∷ back); effects =
-            turn.step.effects }
-
-        over : (b : Bool) → turn.over ≡ b → Steps (after b)
+        over : (b : Bool) → turn.over ≡ b → Steps (left_if s one front back turn b)
         over true e = record {
           right = each_less (λ (x : TxId × Transaction). is_right x.1.asked x.1.phase ≡ true) front
               (one, t) back s.live was right;

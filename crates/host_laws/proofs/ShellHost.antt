@@ -12,7 +12,7 @@ use Rattle.sig_core.specs.declared.place.BlockId.TheVariants as block
 use Rattle.sig_core.specs.declared.signal.Body.{Body}
 use Rattle.sig_core.specs.declared.signal.Body.TheVariants.{Client}
 use Rattle.sig_core.specs.declared.signal.Signal.{Signal}
-use Rattle.sig_core.specs.declared.signal.client.ClientSignal.TheVariants.{TcBeginReq, TcBeginConf, TcBeginRef}
+use Rattle.sig_core.specs.declared.signal.client.ClientSignal.TheVariants.{TcBeginConf, TcBeginRef}
 use Rattle.sig_core.specs.declared.view.View.{View}
 use Rattle.sig_core.specs.Place.{coordinator}
 use Rattle.sig_core.specs.Step.{Step}
@@ -29,7 +29,7 @@ use Rattle.node_core.specs.Dih.{dih_table}
 use Rattle.node_core.specs.Fresh.{fresh_shell}
 use Rattle.node_core.specs.Row.{row, shell_row}
 use Rattle.tc_block.specs.State.{TcState}
-use Rattle.tc_block.specs.Tc.{begin_if, begin_row, is_full, next_tx, tc_table}
+use Rattle.tc_block.specs.Tc.{next_tx, tc_table}
 use Rattle.world_core.specs.Hosts.{host_for, hosts, started}
 use Rattle.world_core.specs.Machine.{after, machine, step_after}
 use Rattle.world_core.specs.Start.{Start}
@@ -41,8 +41,9 @@ use Rattle.host_laws.proofs.BlocksAlong.{IsHome, at_own_node}
 use Rattle.host_laws.proofs.LinkCounts.{sent_truths}
 use Rattle.host_laws.proofs.LqhSends.{lqh_kinds}
 use Rattle.host_laws.proofs.SendKinds.{are_of, each_of, is_dih_kind, is_lqh_kind, is_tc_kind, none_of}
-use Rattle.tc_block.proofs.TurnRows.{tx_in}
-use Rattle.host_laws.proofs.TcSends.{tc_kinds}
+use Rattle.tc_block.proofs.TurnRows as turns
+use Rattle.tc_block.proofs.TurnRows.{TcStep, tc_step, tx_in}
+use Rattle.host_laws.proofs.TcSends.{turn_sends}
 use Rattle.host_laws.proofs.Wishes.{and_false, dih_replies, dih_wishes, is_api, is_reply, is_tc, is_wish, lqh_replies, lqh_wishes, reply_of, sends_of, tc_replies, tc_wishes, to_node, wish_of}
 use Rattle.host_laws.specs.OpenedAfter.{opened_in}
 use Rattle.host_laws.proofs.Tally.{none_if}
@@ -149,17 +150,27 @@ move_tells P s body after sends (goes front t u back go void was is kind) = neve
 move_tells P s body after sends (ends tx front t back about passes was is kind) = never P is_api_kind (λ name tx. refl) sends kind
 move_tells P s body after sends (refuses name front t back about passes was is kind) = never P is_api_kind (λ name tx. refl) sends kind
 
-begin_tells : (s : TcState) (name : Option ℕ) (b : Bool) → Each (λ (o : Outgoing). TellsOf (λ tx. tx.tc ≡ s.node) o.body) (begin_if s name b).effects.sends
-begin_tells s name true = (λ other tx is. cc, tt)
-begin_tells s name false = (λ other tx is. ap (λ (t : TxId). t.tc) (sym (the_tx other tx is)), tt)
+tc_tells : (s : TcState) (body : Body)
+    → Each (λ (o : Outgoing). TellsOf (λ tx. tx.tc ≡ s.node) o.body) (tc_table s body).effects.sends
+tc_tells s body = by (tc_table s body) (tc_step s body)
   where
-    the_tx : (other : Option ℕ) (tx : TxId) → Client (TcBeginConf name (next_tx s)) ≡ Client (TcBeginConf other tx) → next_tx s ≡ tx
-    the_tx other tx is = cc
+    Told : Step TcState → Type 0
+    Told step = Each (λ (o : Outgoing). TellsOf (λ tx. tx.tc ≡ s.node) o.body) step.effects.sends
 
-tc_tells : (s : TcState) (body : Body) → Each (λ (o : Outgoing). TellsOf (λ tx. tx.tc ≡ s.node) o.body) (tc_table s body).effects.sends
-unfolding begin_row
-tc_tells s (Client (TcBeginReq name)) = begin_tells s name (is_full s)
-tc_tells s body = never (λ tx. tx.tc ≡ s.node) (is_tc_kind (tx_in body)) (λ name tx. refl) (tc_table s body).effects.sends (tc_kinds s body refl)
+    the_tx : (name other : Option ℕ) (tx : TxId) → Client (TcBeginConf name (next_tx s)) ≡ Client (TcBeginConf other tx)
+        → next_tx s ≡ tx
+    the_tx name other tx is = cc
+
+    by : (step : Step TcState) → TcStep s body step → Told step
+    by step (turns.rests off is) = subst Told (sym is) tt
+    by step (turns.refuses name about is) = subst Told (sym is) (λ other tx e. cc, tt)
+    by step (turns.begins name about room is) =
+        subst Told (sym is) (λ other tx e. ap (λ (t : TxId). t.tc) (sym (the_tx name other tx e)), tt)
+    by step (turns.passes one ahead about is) = subst Told (sym is) (λ other tx e. cc, tt)
+    by step (turns.misses turn none is) = subst Told (sym is) tt
+    by step (turns.takes turn t front back was is) =
+        subst Told (sym is)
+        (never (λ tx. tx.tc ≡ s.node) (is_tc_kind (tx_in body)) (λ name tx. refl) _ (turn_sends s body t))
 
 -- who tells that a transaction begins runs the coordinator that gave it its number
 abbrev TellsTruly : host.Host → Body → Type 0

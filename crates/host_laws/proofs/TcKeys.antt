@@ -17,12 +17,12 @@ use Rattle.sig_core.specs.Step.{Step}
 use Rattle.tc_block.specs.declared.transaction.Transaction.{Transaction}
 use Rattle.tc_block.specs.Operate as operate
 use Rattle.tc_block.specs.Sends.{entering}
-use Rattle.tc_block.specs.State.{TcState, with_live}
+use Rattle.tc_block.specs.State.{TcState}
 use Rattle.tc_block.specs.Tc.{next_tx, tc_table}
 use Rattle.tc_block.specs.Turn.{Turn, asking}
 use Rattle.sig_core.proofs.Keys.{same_tx-self}
 use Rattle.tc_block.proofs.EachTurn.{AbortForms, CommittedForms, TurnForms, TurnFormsAt, rows_at}
-use Rattle.tc_block.proofs.TurnRows.{TcStep, begins, left_in, misses, passes, refuses, rests, takes, tc_step, turn_by, turn_row, tx_in}
+use Rattle.tc_block.proofs.TurnRows.{TcStep, begins, left_in, misses, passes, refuses, rests, takes, tc_step, turn_by, turn_row, tx_in, left_step}
 use Rattle.host_laws.proofs.SendKinds.{are_of, is_keyless, is_tc_kind, none_of}
 use Rattle.host_laws.proofs.Tally.{tally_between}
 use Rattle.host_laws.specs.Counts.{one_if, tally}
@@ -224,7 +224,7 @@ module _ (tx : TxId) (s : TcState) where
           had = tally_between (is_asked tx) front (one, t) back s.live was
 
           which : (m : Bool) → same_tx one tx ≡ m
-              → Fair (record { state = with_live s (left_in one front back turn); effects = turn.step.effects }) came
+              → Fair (left_step s one front back turn) came
           which false differs =
               omega (
                 arith,

@@ -1,7 +1,7 @@
 -- What each row of a coordinator does to its transactions, and which of its signals report the end of one.
 use Rattle.std.proofs.Common.{◌≡◌, ◌⊎◌, ℕ, ◌≤◌, List, [], ◌∷◌, ◌++◌, Bool, true, false, refl, ap, sym, ◌∙◌, subst, arith, inl, inr}
-use Rattle.std.specs.Prelude.{◌==◌, ◌&&◌, ◌||◌, nat_eq, Option, None, if◌then◌else◌}
-use Rattle.std.proofs.lemmas.Bool.{eqb-true, false≢true}
+use Rattle.std.specs.Prelude.{◌==◌, ◌&&◌, ◌||◌, Option, None}
+use Rattle.std.proofs.lemmas.Bool.{false≢true}
 use Rattle.sig_core.specs.declared.member.TxId.{TxId}
 use Rattle.sig_core.specs.declared.outcome.AbortCause.{AbortCause}
 use Rattle.sig_core.specs.declared.outs.Outgoing.{Outgoing}
@@ -39,8 +39,9 @@ use Rattle.tc_block.specs.Tc.{begun, next_tx, tc_table}
 use Rattle.tc_block.specs.Turn.{Turn, asking}
 use Rattle.tc_block.specs.Phases.{is_completing}
 use Rattle.tc_block.proofs.EachTurn.{AbortForms, CommittedForms, TurnForms, rows_of}
-use Rattle.tc_block.proofs.TurnRows.{TcStep, begins, left_in, misses, passes as passed_on, refuses as lacks, rests as rested, takes, tc_step, turn_by, turn_row, tx_in}
+use Rattle.tc_block.proofs.TurnRows.{TcStep, begins, misses, passes as passed_on, refuses as lacks, rests as rested, takes, tc_step, turn_by, turn_row, tx_in, left_if, left_step}
 use Rattle.host_laws.proofs.TcSends.{TurnSends, turn_sends}
+pub use Rattle.sig_core.proofs.TxLemmas.{same_tx-is}
 
 -- the end of a transaction is reported
 abbrev pub end_of : TxId → Body → Bool
@@ -53,23 +54,6 @@ is_end tx to body = is_api to.block && end_of tx body
 
 abbrev pub ends_in : TxId → List Outgoing → ℕ
 ends_in tx sends = sends_of (to_node 0 (is_end tx)) sends
-
-mk_tx : ℕ → ℕ → ℕ → TxId
-mk_tx tc start seq = record { tc = tc; start = start; seq = seq }
-
-pub same_tx-is : (a b : TxId) → same_tx a b ≡ true → a ≡ b
-unfolding mk_tx
-same_tx-is a b e = go (nat_eq a.tc b.tc) (nat_eq a.start b.start) (nat_eq a.seq b.seq) refl refl refl e
-  where
-    go : (x y z : Bool) → nat_eq a.tc b.tc ≡ x → nat_eq a.start b.start ≡ y → nat_eq a.seq b.seq ≡ z
-        → (x && (y && z)) ≡ true → a ≡ b
-    go true true true p q r e =
-        ap (λ n. mk_tx n a.start a.seq) (eqb-true a.tc b.tc p)
-            ∙ ap (λ n. mk_tx b.tc n a.seq) (eqb-true a.start b.start q)
-            ∙ ap (λ n. mk_tx b.tc b.start n) (eqb-true a.seq b.seq r)
-    go true true false p q r e = cc
-    go true false z p q r e = cc
-    go false y z p q r e = cc
 
 -- the end is reported with a turn after which the transaction is over or completes, unless it was completing
 abbrev IsTold : TxId → Transaction → Turn → Type 0
@@ -175,8 +159,7 @@ tc_moves s body = by (tc_table s body) (tc_step s body)
         subst (Moves s) (sym is) (over (turn_row s body t) (turn_sends s body t) (turn_told s body t))
       where
         over : (turn : Turn) → TurnSends (tx_in body) turn → IsTold (tx_in body) t turn
-            → Moves s (record { state = with_live s (left_in (tx_in body) front back turn); effects =
-                turn.step.effects })
+            → Moves s (left_step s (tx_in body) front back turn)
         over turn kind told = which turn.over refl
           where
             done : (b : Bool) → turn.over ≡ b
@@ -184,9 +167,7 @@ tc_moves s body = by (tc_table s body) (tc_step s body)
             done b e = ap (λ c. c || is_completing turn.step.state.phase) e
 
             which : (b : Bool) → turn.over ≡ b
-                → Moves s (record { state =
-                    with_live s (if b then front ++ back else front ++ (tx_in body, turn.step.state) ∷ back); effects =
-                    turn.step.effects })
+                → Moves s (left_if s (tx_in body) front back turn b)
             which true e = forgets (tx_in body) t front back was refl kind (told (done true e))
             which false e =
                 turns (tx_in body) t turn.step.state front back was refl kind (λ c. told (done false e ∙ c))

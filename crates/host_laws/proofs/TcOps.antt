@@ -55,8 +55,7 @@ answers_of tx key _ = 0
 
 module _ (n : ℕ) (tx : TxId) (key : List ℕ) where
   -- a turn of the transaction, at which an answer came or none: what it has unanswered then it had before, and it
-  -- wasn't
-  -- answered, or it was sent
+  -- wasn't answered, or it was sent
   pub record TurnAsks (t : Transaction) (turn : Turn) (came : ℕ) : Type 0 where
     pub right : is_right turn.step.state.asked turn.step.state.phase ≡ true
     pub asks : asks_key key turn.step.state.asked ≡ true

@@ -73,16 +73,16 @@ pub data IsCommitted (t : Transaction) (body : Body) : Type 0 where
       → IsCommitted t body
 
 -- What the signal makes of the transaction, and what is sent then: it stays as it is, and why; it goes on with a list;
--- it asks
--- for an operation, is answered, or is answered late; it asks for its epoch; it begins to abort, or ends at once; an
--- abort
--- goes on, or ends; its keys are committed, and completed, or that goes on or ends.
+-- it asks for an operation, is answered, or is answered late; it asks for its epoch; it begins to abort, or ends at
+-- once; an abort goes on, or ends; its keys are committed, and completed, or that goes on or ends.
 pub data TurnMove (s : TcState) (tx : TxId) (t : Transaction) (body : Body) (turn : Turn) : Type 0 where
   keeps : (sends : List Outgoing) → turn ≡ going (record { state = t; effects = sends_only sends })
       → are_of is_wait_kind sends ≡ true → IsMissed t body → TurnMove s tx t body turn
   goes_on : (at : ℕ) → body ≡ Host (Continue (work.Transaction tx) at) → at < SENDS
-      → turn ≡ going (record { state = t; effects =
-          part_effects s.node tx (phase_sends s.layout tx t.phase t.touched) at })
+      → turn ≡ going (record {
+        state = t;
+        effects = part_effects s.node tx (phase_sends s.layout tx t.phase t.touched) at;
+      })
       → TurnMove s tx t body turn
   asks : (op : Op) → body ≡ Client (TcKeyReq tx op) → t.phase ≡ Open → t.asked ≡ None
       → fits t.touched (key_of op) ≡ true → turn ≡ going (operate.operating tx t op (chain_of s.layout (key_of op)))

@@ -1,17 +1,11 @@
 -- The transaction among those that a coordinator has, where no two are of one number.
-use Rattle.std.proofs.Common.{◌≡◌, List, ◌∷◌, ◌++◌, true, sym, subst}
+use Rattle.std.proofs.Common.{◌≡◌, List}
 use Rattle.std.specs.Prelude.{Some}
 use Rattle.run_theory.specs.Lists.{Each}
 use Rattle.sig_core.specs.declared.member.TxId.{TxId}
-use Rattle.sig_core.specs.Same.{same_tx}
-use Rattle.sig_core.proofs.TxLemmas.{same_tx-is}
 use Rattle.tc_block.specs.declared.transaction.Transaction.{Transaction}
-use Rattle.host_laws.specs.Counts.{tally}
-use Rattle.host_laws.proofs.TcLives.{is_keyed}
-use Rattle.host_laws.proofs.OfLive.{each_found, of_between}
-use Rattle.tc_block.proofs.LiveSplit.{AreOthers}
+use Rattle.host_laws.proofs.OfLive.{each_found}
 use Rattle.host_laws.specs.Live.{of_live}
-use Rattle.run_laws.proofs.Weighing.{none_passes}
 
 -- what holds of each holds of it
 pub of_each : (P : TxId → Transaction → Type 0) (tx : TxId) (live : List (TxId × Transaction)) (t : Transaction)

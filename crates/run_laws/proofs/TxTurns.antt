@@ -15,13 +15,13 @@ use Rattle.sig_core.proofs.TxLemmas.{same_tx-is}
 use Rattle.frag_map.specs.Layout.{Layout}
 use Rattle.tc_block.specs.declared.transaction.Transaction.{Transaction}
 use Rattle.tc_block.specs.Operate.{fresh}
-use Rattle.tc_block.specs.State.{TcState, with_live}
+use Rattle.tc_block.specs.State.{TcState}
 use Rattle.tc_block.specs.Tc.{begin_if, next_tx, tc_table}
 use Rattle.tc_block.specs.Turn.{Turn}
 use Rattle.tc_block.proofs.EachTurn.{RowsAre}
 use Rattle.tc_block.proofs.LiveKeeps.{SendsBeside}
 use Rattle.tc_block.proofs.LiveSplit.{AreOthers}
-use Rattle.tc_block.proofs.TurnRows.{TcStep, begins as begins_one, is_turn, left_in, misses, passes, refuses, rests, takes, tc_step, turn_for, turn_row, turn_with, tx_in}
+use Rattle.tc_block.proofs.TurnRows.{TcStep, begins as begins_one, is_turn, misses, passes, refuses, rests, takes, tc_step, turn_for, turn_row, turn_with, tx_in, left_step}
 use Rattle.host_laws.specs.Counts.{one_if, tally}
 use Rattle.host_laws.specs.Live.{of_live}
 use Rattle.host_laws.proofs.OfLive.{of_here, of_other}
@@ -133,7 +133,7 @@ module _ (P : Outgoing → Type 0) (tx : TxId) (s : TcState) (beside : SendsBesi
         other false differs = of_other front back one tx row.step.state differs
 
         which : (m : Bool) → same_tx one tx ≡ m
-            → Goes (record { state = with_live s (left_in one front back row); effects = row.step.effects })
+            → Goes (left_step s one front back row)
         which false differs =
             idle (other row.over differs ∙ sym (ap (of_live tx) was ∙ of_other front back one tx t differs))
             (others one differs (ap (λ b. b && same_tx one one) turn ∙ same_tx-self one) t) (off_turn differs)

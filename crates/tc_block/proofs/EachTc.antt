@@ -16,8 +16,7 @@ use Rattle.tc_block.proofs.LiveSplit.{Split}
 use Rattle.tc_block.proofs.TurnRows.{PlacedStep, goes, idles, lacks, lost, opens, placed_step, tells, turn_by, turn_row, tx_in}
 
 -- R is of each turn that a transaction of the coordinator may take at the signal, and S of the step that it makes; and
--- of
--- the other steps
+-- of the other steps
 pub record TcForms (s : TcState) (body : Body) (R : TxId → Transaction → Turn → Type 0)
     (S : Step TcState → Type 0) : Type 0
     where

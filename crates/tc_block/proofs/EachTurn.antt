@@ -39,8 +39,7 @@ may_ask (Aborting why verifying awaited) = true
 may_ask _ = false
 
 -- why a signal leaves the transaction alone: the end of its list is passed, it can't do what it is asked for now, it
--- has
--- no such operation unanswered, or it is in another phase
+-- has no such operation unanswered, or it is in another phase
 abbrev pub IsMissed : Transaction → Body → Type 0
 IsMissed t (Host (Continue (work.Transaction tx) at)) = SENDS ≤ at
 IsMissed t (Client (TcKeyReq tx op)) = operate.can_operate t op ≡ false

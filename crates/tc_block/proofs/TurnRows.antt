@@ -111,9 +111,18 @@ turn_by s t R body rows other = turn_with s.node s.layout (tx_in body) body t R 
 abbrev pub left_in : TxId → Live → Live → Turn → Live
 left_in tx front back turn = if turn.over then front ++ back else front ++ (tx, turn.step.state) ∷ back
 
+-- the coordinator's step then, where the transaction stands between these
+abbrev pub left_if : TcState → TxId → Live → Live → Turn → Bool → Step TcState
+left_if s tx front back turn over = record {
+  state = with_live s (if over then front ++ back else front ++ (tx, turn.step.state) ∷ back);
+  effects = turn.step.effects;
+}
+
+abbrev pub left_step : TcState → TxId → Live → Live → Turn → Step TcState
+left_step s tx front back turn = left_if s tx front back turn turn.over
+
 -- What a step of a coordinator is: nothing comes of it; a transaction has no room, or begins; the answer to who waits
--- is
--- passed on; the transaction isn't there; or it takes its turn.
+-- is passed on; the transaction isn't there; or it takes its turn.
 pub data TcStep (s : TcState) (body : Body) (step : Step TcState) : Type 0 where
   rests : is_turn body ≡ false → step ≡ stay s → TcStep s body step
   refuses : (name : Option ℕ) → body ≡ Client (TcBeginReq name) → step ≡ begin_if s name true → TcStep s body step
@@ -123,9 +132,7 @@ pub data TcStep (s : TcState) (body : Body) (step : Step TcState) : Type 0 where
       → TcStep s body step
   misses : is_turn body ≡ true → AreOthers (tx_in body) s.live → step ≡ stay s → TcStep s body step
   takes : is_turn body ≡ true → (t : Transaction) (front back : Live) → s.live ≡ front ++ (tx_in body, t) ∷ back
-      → step ≡ record { state = with_live s (left_in (tx_in body) front back (turn_row s body t)); effects =
-          (turn_row s body t).step.effects }
-      → TcStep s body step
+      → step ≡ left_step s (tx_in body) front back (turn_row s body t) → TcStep s body step
 
 -- the same, with the place of the transaction whose turn it is
 pub data PlacedStep (s : TcState) (body : Body) (step : Step TcState) : Type 0 where
@@ -155,15 +162,11 @@ module _ (s : TcState) where
 
   -- what a turn leaves at its place
   left_is : (tx : TxId) (t : Transaction) (at : ℕ) (split : Split tx t s.live at) (turn : Turn)
-      → turned s at turn ≡ record { state = with_live s (left_in tx split.front split.back turn); effects =
-          turn.step.effects }
+      → turned s at turn ≡ left_step s tx split.front split.back turn
   unfolding without
   left_is tx t at split turn = by turn.over
     where
-      by : (b : Bool) → turned_if s at turn b
-          ≡ record { state = with_live s
-              (if b then split.front ++ split.back else split.front ++ (tx, turn.step.state) ∷ split.back); effects =
-              turn.step.effects }
+      by : (b : Bool) → turned_if s at turn b ≡ left_if s tx split.front split.back turn b
       by true = ap (λ live. record { state = with_live s live; effects = turn.step.effects }) split.gone
       by false = ap (λ live. record { state = with_live s live; effects = turn.step.effects })
           (split.set turn.step.state)
