@@ -1,5 +1,6 @@
 -- What a transaction that commits waits for is on its way.
-use Rattle.std.proofs.Common.{◌≡◌, ◌≢◌, ◌⊎◌, ℕ, ◌+◌, ◌-◌, ◌≤◌, ◌<◌, List, [], ◌∷◌, length, Bool, true, false, refl, ap, sym, ◌∙◌, subst, arith, inl, inr}
+use Rattle.std.proofs.Common.{◌≡◌, ◌≢◌, ◌⊎◌, ℕ, ◌+◌, ◌-◌, ◌≤◌, ◌<◌, List, [], ◌∷◌, length, Bool, true, false, refl, ap}
+use Rattle.std.proofs.Common.{sym, ◌∙◌, subst, arith, inl, inr}
 use Rattle.std.specs.Prelude.{◌==◌, ◌&&◌, nat_lt, Option, None, Some}
 use Rattle.std.proofs.lemmas.Bool.{cases_eq, eqb-true, true≢false}
 use Rattle.std.proofs.lemmas.Bool.Decides.{nat_tests}
@@ -27,7 +28,6 @@ use Rattle.sig_core.specs.declared.signal.host.HostSignal.TheVariants.{Continue}
 use Rattle.sig_core.specs.declared.signal.host.Work.TheVariants as work
 use Rattle.sig_core.specs.Chain.{node_at}
 use Rattle.sig_core.specs.Place.{coordinator_of}
-use Rattle.sig_core.specs.Rows.{record_state}
 use Rattle.sig_core.specs.Same.{same_tx}
 use Rattle.tc_block.specs.declared.phase.Phase.{Phase}
 use Rattle.tc_block.specs.declared.phase.Phase.TheVariants.{Open, Verifying, Committing, Completing, Aborting}
@@ -53,7 +53,8 @@ use Rattle.host_laws.proofs.TcCommits.{chain_at, is_chain, is_commit}
 use Rattle.host_laws.proofs.TcMoves.{same_tx-is}
 use Rattle.host_laws.proofs.TcOwes.{at_if, begins, came_in, cont_in, goes_on, IsKnown, Owes, waits}
 use Rattle.host_laws.proofs.TcSends.{eqb-self}
-use Rattle.answer_laws.proofs.SentInParts.{HomeStep, IsOwed, begun_owed, continued_owed, home_step, none_owed, s_more, stays_owed, t_more, waits_owed}
+use Rattle.answer_laws.proofs.SentInParts.{HomeStep, IsOwed, begun_owed, continued_owed, home_step, none_owed, s_more}
+use Rattle.answer_laws.proofs.SentInParts.{stays_owed, t_more, waits_owed}
 use Rattle.host_laws.proofs.Wishes.{is_tc, sends_of}
 use Rattle.answer_laws.specs.Answered.{AreQuiet, IsLiveAs, NoCommitIsAwaited}
 use Rattle.tc_block.specs.Phases.{is_committing}
@@ -65,9 +66,12 @@ came_along n tx (Chain (Commit other key epoch chain at)) =
 came_along n tx _ = 0
 
 -- a replica answers a commit or passes it on
-commit_passed : (n : ℕ) (tx : TxId) (s : LqhState) (other : TxId) (key : List ℕ) (epoch : ℕ) (chain : List Member) (at : ℕ)
-    → one_if (same_tx other tx && (is_good n chain && nat_lt at (length chain))) ≤ sends_of (is_commit n tx) (commit.commit_row s other key epoch chain at).effects.sends
-commit_passed n tx s other key epoch chain at = by (same_tx other tx && (is_good n chain && nat_lt at (length chain))) refl
+commit_passed : (n : ℕ) (tx : TxId) (s : LqhState) (other : TxId) (key : List ℕ) (epoch : ℕ) (chain : List Member)
+    (at : ℕ)
+    → one_if (same_tx other tx && (is_good n chain && nat_lt at (length chain)))
+    ≤ sends_of (is_commit n tx) (commit.commit_row s other key epoch chain at).effects.sends
+commit_passed n tx s other key epoch chain at =
+    by (same_tx other tx && (is_good n chain && nat_lt at (length chain))) refl
   where
     under : nat_lt at (length chain) ≡ true → at < length chain
     under q = grind (arith, nat_tests, q)
@@ -88,7 +92,8 @@ commit_passed n tx s other key epoch chain at = by (same_tx other tx && (is_good
           );
           passes = λ had st markers applies behind. omega (
             arith,
-            ap one_if (true_and (is_node n (node_at chain (at - 1))) (same_tx other tx && (is_good n chain && nat_lt (at - 1) (length chain)))
+            ap one_if (true_and (is_node n (node_at chain (at - 1)))
+                (same_tx other tx && (is_good n chain && nat_lt (at - 1) (length chain)))
                 (chain_at n chain (at - 1) good (omega (arith, low)))
                 (true_and (same_tx other tx) (is_good n chain && nat_lt (at - 1) (length chain)) same
                 (true_and (is_good n chain) (nat_lt (at - 1) (length chain)) good (less low)))),
@@ -123,7 +128,8 @@ few_answers : (n : ℕ) (tx : TxId) (to : Place) (body : Body) → is_lqh to.blo
     → one_if (is_commit n tx to body) ≤ came_in tx body
 few_answers n tx to (Chain (Commit other key epoch chain at)) e =
     omega
-    (arith, ap (λ b. one_if ((b && is_node n to.node) && (same_tx other tx && (is_good n chain && nat_lt at (length chain))))) e)
+    (arith, ap (λ b. one_if ((b && is_node n to.node)
+    && (same_tx other tx && (is_good n chain && nat_lt at (length chain))))) e)
 few_answers n tx to (Chain (Committed other key)) e = and_few (is_tc to.block && (to.node == tx.tc)) _
 few_answers n tx to _ e = omega arith
 
@@ -138,12 +144,15 @@ none_at n tx to _ p q = refl
 commit_low : (start : Start) (tx : TxId) → tx.tc ≤ start.shape.nodes → (to : Place) (body : Body)
     → is_commit (start.shape.nodes + 1) tx to body ≡ true → host_for start to < hosts start
 commit_low start tx low to (Chain (Commit other key epoch chain at)) e =
-    let node = right_of (is_lqh to.block) (is_node (start.shape.nodes + 1) to.node) (left_of (is_lqh to.block && is_node (start.shape.nodes + 1) to.node) _ e) in
-    let under : to.node < start.shape.nodes + 1 = grind (arith, nat_tests, right_of (nat_lt 0 to.node) (nat_lt to.node (start.shape.nodes + 1)) node) in
+    let node = right_of (is_lqh to.block) (is_node (start.shape.nodes + 1) to.node)
+        (left_of (is_lqh to.block && is_node (start.shape.nodes + 1) to.node) _ e) in
+    let under : to.node < start.shape.nodes + 1 =
+        grind (arith, nat_tests, right_of (nat_lt 0 to.node) (nat_lt to.node (start.shape.nodes + 1)) node) in
     reaches start to (omega (arith, under))
 commit_low start tx low to (Chain (Committed other key)) e =
     reaches start to
-    (omega (arith, low, eqb-true to.node tx.tc (right_of (is_tc to.block) (to.node == tx.tc) (left_of (is_tc to.block && (to.node == tx.tc)) _ e))))
+    (omega (arith, low, eqb-true to.node tx.tc
+    (right_of (is_tc to.block) (to.node == tx.tc) (left_of (is_tc to.block && (to.node == tx.tc)) _ e))))
 commit_low start tx low to _ e = cc
 
 -- what goes on goes on at a place
@@ -177,10 +186,13 @@ module _ (start : Start) (shape : IsShape start.shape) (tx : TxId) where
   owes : (h : ℕ) (log : List HostStep) (body : Body) → has_tc (after start h log) ≡ true
       → AreKnown (tc_of (after start h log))
       → StepOwes nodes tx (tc_of (after start h log)) (tc_table (tc_of (after start h log)) body).state (tc_table (tc_of (after start h log)) body).effects.sends (came_in tx body) (cont_in tx body)
+      → StepOwes nodes tx (tc_of (after start h log)) (tc_table (tc_of (after start h log)) body).state
+      (tc_table (tc_of (after start h log)) body).effects.sends (came_in nodes tx body) (cont_in nodes tx body)
   owes h log body on known =
       let x = at_tc start tx h log in
       tc_owes nodes tx (tc_of (after start h log)) body known x.once x.own
-      (subst (λ (l : Layout). (key : List ℕ) → is_chain nodes (chain_of l key) ≡ true) (sym (tc_layout start h log on)) good)
+      (subst (λ (l : Layout). (key : List ℕ) → is_chain nodes (chain_of l key) ≡ true)
+      (sym (tc_layout start h log on)) good)
 
   known_after : (h : ℕ) (log : List HostStep) → AreKnown (tc_of (after start h log))
   known_after h [] =
@@ -188,7 +200,8 @@ module _ (start : Start) (shape : IsShape start.shape) (tx : TxId) where
   known_after h (e ∷ log) = by (known_after h log) (tc_step (after start h log) e.step.taken)
     where
       by : AreKnown (tc_of (after start h log))
-          → IsTcStep (after start h log) e.step.taken (step_after start h log e) ⊎ (tc_of (step_after start h log e).state ≡ tc_of (after start h log))
+          → IsTcStep (after start h log) e.step.taken (step_after start h log e)
+          ⊎ (tc_of (step_after start h log e).state ≡ tc_of (after start h log))
           → AreKnown (tc_of (step_after start h log e).state)
       by known (inl step) = subst AreKnown (sym step.state) (owes h log e.step.taken.body step.runs known).known
       by known (inr same) = subst AreKnown (sym same) known
@@ -202,17 +215,20 @@ module _ (start : Start) (shape : IsShape start.shape) (tx : TxId) where
       (after start at (logs at)) → u.phase ≡ Committing epoch k → IsAwaited logs (length u.touched) k
 
   -- a step at the transaction's home is as the coordinator's row says, or leaves its transactions
-  data AtHome (s now : TcState) (u : Transaction) (sends : List Outgoing) (k : ℕ) (to : Place) (body : Body) : Type 0 where
+  data AtHome (s now : TcState) (u : Transaction) (sends : List Outgoing) (k : ℕ) (to : Place)
+      (body : Body) : Type 0 where
     owed : (at : Option ℕ) (came : ℕ) → one_if (is_commit nodes tx to body) ≤ came
         → ((a : ℕ) → is_cont tx a to body ≡ true → at ≡ Some a) → OwesOf nodes tx s u sends k came at
         → AtHome s now u sends k to body
     kept : IsIn (tx, u) s.live → one_if (is_commit nodes tx to body) ≤ sends_of (is_commit nodes tx) sends
         → ((a : ℕ) → is_cont tx a to body ≡ false) → AtHome s now u sends k to body
 
-  home_next : (logs now : ℕ → List HostStep) (x next : TcState) (u : Transaction) (epoch k : ℕ) (sends : List Outgoing) (to : Place) (body : Body)
+  home_next : (logs now : ℕ → List HostStep) (x next : TcState) (u : Transaction) (epoch k : ℕ) (sends : List Outgoing)
+      (to : Place) (body : Body)
       → HomeStep start tx (is_commit nodes tx) logs now sends to body
       → Each (λ (e : TxId × Transaction). IsKnown nodes e.1) x.live
-      → ((t : Transaction) (f m : ℕ) → IsIn (tx, t) x.live → t.phase ≡ Committing f m → IsAwaited logs (length t.touched) m)
+      → ((t : Transaction) (f m : ℕ) → IsIn (tx, t) x.live → t.phase ≡ Committing f m
+      → IsAwaited logs (length t.touched) m)
       → u.phase ≡ Committing epoch k → AtHome x next u sends k to body → IsAwaited now (length u.touched) k
   home_next logs now x next u epoch k sends to body f known all is (kept i less none) =
       waits_owed start tx (is_commit nodes tx) logs now sends to body f (length u.touched) 0 k 0 k (omega (arith, less))
@@ -238,13 +254,15 @@ module _ (start : Start) (shape : IsShape start.shape) (tx : TxId) where
           (omega (arith, less, none_came)) (not_cont 8 (no_some none 8)) (omega (arith, l))
           (first_part parts)
         where
-          first_part : ((8 < length u.touched) × (8 ≤ sends_of (is_commit nodes tx) sends) × (1 ≤ sends_of (is_cont tx 8) sends)) ⊎ (length u.touched ≤ sends_of (is_commit nodes tx) sends)
+          first_part : ((8 < length u.touched) × (8 ≤ sends_of (is_commit nodes tx) sends)
+              × (1 ≤ sends_of (is_cont tx 8) sends)) ⊎ (length u.touched ≤ sends_of (is_commit nodes tx) sends)
               → IsPart (is_commit nodes tx) tx (length u.touched) 0 sends
           first_part (inl p) = inl p
           first_part (inr p) = inr (omega (arith, p))
       go (waits other before was none le same) =
           subst (λ n. IsAwaited now n k) (sym (ap length same))
-          (waits_owed start tx (is_commit nodes tx) logs now sends to body f (length of.before.touched) 0 before 0 k (omega (arith, le, less)) (λ b low. not_cont b (no_some none b))
+          (waits_owed start tx (is_commit nodes tx) logs now sends to body f (length of.before.touched) 0 before 0 k
+          (omega (arith, le, less)) (λ b low. not_cont b (no_some none b))
           (all of.before other before of.inside was))
       go (goes_on other a some none_came was same parts) =
           continued_owed start tx (is_commit nodes tx) logs now sends to body f (length u.touched) 0 k a few_touched
@@ -255,7 +273,8 @@ module _ (start : Start) (shape : IsShape start.shape) (tx : TxId) where
           few_touched : length u.touched ≤ 512
           few_touched =
               omega
-              (arith, (each_in (λ (e : TxId × Transaction). IsKnown nodes e.1) (tx, of.before) x.live known of.inside).few, ap length same)
+              (arith, (each_in (λ (e : TxId × Transaction). IsKnown nodes e.1)
+              (tx, of.before) x.live known of.inside).few, ap length same)
 
           differs_some : (b : ℕ) → b ≢ a → at ≡ Some b → ⊥
           differs_some b differs q = differs (the_a (sym q ∙ some))
@@ -287,11 +306,13 @@ module _ (start : Start) (shape : IsShape start.shape) (tx : TxId) where
           by false none = omega (arith, none_at nodes tx x.to x.body none away)
           by true on =
               rows
-              (rows_turn (after start h (logs h)) x (heard_rows start h (logs h) x.to (addressed start logs now h e g) on))
+              (rows_turn (after start h (logs h)) x
+              (heard_rows start h (logs h) x.to (addressed start logs now h e g) on))
             where
               rows : IsRowsStep (after start h (logs h)) x (step_after start h (logs h) e)
                   ⊎
-                  ((lqh_of (step_after start h (logs h) e).state ≡ lqh_of (after start h (logs h))) × (is_lqh x.to.block ≡ false)) → came ≤ sends_of
+                  ((lqh_of (step_after start h (logs h) e).state ≡ lqh_of (after start h (logs h)))
+                  × (is_lqh x.to.block ≡ false)) → came ≤ sends_of
                   (is_commit nodes tx) sends
               rows (inr other) =
                   absurd (true≢false (sym (left_of (is_lqh x.to.block) (is_node nodes x.to.node) on) ∙ other.1))
@@ -316,14 +337,20 @@ module _ (start : Start) (shape : IsShape start.shape) (tx : TxId) where
 
         by : IsTcStep (after start at (logs at)) e.step.taken (step_after start at (logs at) e)
             ⊎
-            ((tc_of (step_after start at (logs at) e).state ≡ tc_of (after start at (logs at))) × (is_tc e.step.taken.to.block ≡ false))
-            → AtHome (tc_of (after start at (logs at))) (tc_of (step_after start at (logs at) e).state) u (step_after start at (logs at) e).effects.sends k e.step.taken.to e.step.taken.body
+            ((tc_of (step_after start at (logs at) e).state ≡ tc_of (after start at (logs at)))
+            × (is_tc e.step.taken.to.block ≡ false))
+            → AtHome (tc_of (after start at (logs at))) (tc_of (step_after start at (logs at) e).state) u
+            (step_after start at (logs at) e).effects.sends k e.step.taken.to e.step.taken.body
         by (inl step) =
             owed (cont_in tx e.step.taken.body) (came_in tx e.step.taken.body)
             (few_answers nodes tx e.step.taken.to e.step.taken.body (ap is_lqh step.at))
             (λ a c. cont_is nodes tx a e.step.taken.to e.step.taken.body c)
             (subst (λ f. OwesOf nodes tx (tc_of (after start at (logs at))) u f.sends k (came_in tx e.step.taken.body) (cont_in tx e.step.taken.body)) (sym step.effects)
             ((owes at (logs at) e.step.taken.body step.runs (known_after at (logs at))).owes u epoch k (subst (λ (t : TcState). IsIn (tx, u) t.live) step.state live_now) is))
+            (subst (λ f. OwesOf nodes tx (tc_of (after start at (logs at))) u f.sends k
+            (came_in nodes tx e.step.taken.body) (cont_in nodes tx e.step.taken.body)) (sym step.effects)
+            ((owes at (logs at) e.step.taken.body step.runs (known_after at (logs at))).owes u epoch k
+            (subst (λ (t : TcState). IsIn (tx, u) t.live) step.state live_now) is))
         by (inr other) =
             kept (subst (λ (t : TcState). IsIn (tx, u) t.live) other.0 live_now)
             (passed logs now at e g (ap (λ b. b && (e.step.taken.to.node == tx.tc)) other.1))
@@ -336,7 +363,9 @@ module _ (start : Start) (shape : IsShape start.shape) (tx : TxId) where
         by (inl same) = own_step logs now e (subst (λ j. Goes start logs now j e) same g) all
         by (inr differs) = λ u epoch k live is.
             stays_owed start tx (is_commit nodes tx) logs now (length u.touched) 0 k
-            (omega (arith, s_more start tx (is_commit nodes tx) (commit_low start tx few_nodes) logs now h e g, t_more start tx (is_commit nodes tx) (commit_low start tx few_nodes) logs now h e g, passed logs now h e g (away _ refl)))
+            (omega (arith, s_more start tx (is_commit nodes tx)
+            (commit_low start tx few_nodes) logs now h e g, t_more start tx (is_commit nodes tx)
+            (commit_low start tx few_nodes) logs now h e g, passed logs now h e g (away _ refl)))
             (λ b low. omega (
               arith,
               ap (λ log. signals (is_cont tx b) (taken (machine start) at log)) log_is,
@@ -364,7 +393,8 @@ module _ (start : Start) (shape : IsShape start.shape) (tx : TxId) where
         (along start AllOwed first step logs quiet.within quiet.right t epoch k live is)
       where
         some : 1 ≤ k
-        some = (each_in (λ (e : TxId × Transaction). IsKnown nodes e.1) (tx, t) (tc_of (after start at (logs at))).live (known_after at (logs at)) live).some epoch k is
+        some = (each_in (λ (e : TxId × Transaction). IsKnown nodes e.1) (tx, t) (tc_of (after start at (logs at))).live
+            (known_after at (logs at)) live).some epoch k is
 
 -- at quiet no coordinator waits for a commit
 pub no_commit : NoCommitIsAwaited
@@ -379,7 +409,8 @@ no_commit start logs h tx t quiet low live = go t.phase refl
     go : (phase : Phase) → t.phase ≡ phase → is_committing t.phase ≡ false
     go (Committing epoch k) p =
         absurd
-        (none_commits start quiet.shape tx of.some of.low logs quiet t epoch k (subst (λ j. IsLiveAs tx t (after start j (logs j))) of.is live) p)
+        (none_commits start quiet.shape tx of.some of.low logs quiet t epoch k
+        (subst (λ j. IsLiveAs tx t (after start j (logs j))) of.is live) p)
     go Open p = ap is_committing p
     go Verifying p = ap is_committing p
     go (Completing epoch k) p = ap is_committing p

@@ -18,10 +18,12 @@ is_back one (Chain (Commit other key epoch chain at)) = not (same_tx other one)
 is_back one (Chain (Complete other key chain at)) = not (same_tx other one)
 is_back one _ = true
 
-pub lqh_back : (one : TxId) (s : LqhState) (body : Body) → is_forth one body ≡ false → SendsOnly (is_back one) (lqh_table s body)
+pub lqh_back : (one : TxId) (s : LqhState) (body : Body) → is_forth one body ≡ false
+    → SendsOnly (is_back one) (lqh_table s body)
 lqh_back one s body off =
     of_each (is_back one) (lqh_table s body).effects.sends
-    (lqh_passes (λ b. is_back one b ≡ true) s body owns (λ tx key epoch chain at is. ap not (sym (ap (is_forth one) is) ∙ off))
+    (lqh_passes (λ b. is_back one b ≡ true) s body owns
+    (λ tx key epoch chain at is. ap not (sym (ap (is_forth one) is) ∙ off))
     (λ tx key chain at is. ap not (sym (ap (is_forth one) is) ∙ off)))
   where
     owns : (b : Body) → is_own_kind b ≡ true → is_back one b ≡ true

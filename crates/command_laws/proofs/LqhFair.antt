@@ -20,7 +20,8 @@ is_fair own (Chain (Abort tx key)) = not (same_tx tx own)
 is_fair own (Chain (LqhKeyRef tx key why)) = if is_refusal why then true else not (same_tx tx own)
 is_fair own _ = true
 
-pub lqh_fair : (own : TxId) (s : LqhState) (body : Body) → is_fair own body ≡ true → SendsOnly (is_fair own) (lqh_table s body)
+pub lqh_fair : (own : TxId) (s : LqhState) (body : Body) → is_fair own body ≡ true
+    → SendsOnly (is_fair own) (lqh_table s body)
 lqh_fair own s body fair =
     of_each (is_fair own) (lqh_table s body).effects.sends
     (lqh_sends_each (λ (o : Outgoing). is_fair own o.body ≡ true) s body (record {
@@ -40,4 +41,5 @@ lqh_fair own s body fair =
     }))
   where
     request : (r : Request) → RequestSends (λ (o : Outgoing). is_fair own o.body ≡ true) r
-    request r = record { log_full = λ used reserved need. refl; table_full = λ rows. refl; answers = λ a. refl; passes = λ image next is. refl }
+    request r = record { log_full = λ used reserved need. refl; table_full = λ rows. refl; answers = λ a. refl; passes =
+        λ image next is. refl }

@@ -1,8 +1,10 @@
 -- What a node does at questions of what a transaction waits for: it changes nothing, and asks, finds or passes on.
-use Rattle.std.proofs.Common.{◌≡◌, ◌≤◌, ℕ, suc, Bool, true, false, List, [], ◌∷◌, refl, sym, ap, ◌∙◌, subst, inl, inr, arith}
+use Rattle.std.proofs.Common.{◌≡◌, ◌≤◌, ℕ, suc, Bool, true, false, List, [], ◌∷◌, refl, sym, ap, ◌∙◌, subst, inl, inr}
+use Rattle.std.proofs.Common.{arith}
 use Rattle.std.proofs.lemmas.Bool.Decides.{nat_tests}
 use Rattle.std.specs.Map.{keys_of, values_of}
-use Rattle.std.specs.Prelude.{◌==◌, ◌&&◌, Option, None, Some, if◌then◌else◌, is_some, map, nat_eq, not, position, slice_get}
+use Rattle.std.specs.Prelude.{◌==◌, ◌&&◌, Option, None, Some, if◌then◌else◌, is_some, map, nat_eq, not, position}
+use Rattle.std.specs.Prelude.{slice_get}
 use Rattle.indexmap.specs.IndexMap.{set_value_at}
 use Rattle.run_theory.specs.Lists.{IsIn}
 use Rattle.sig_core.proofs.Firsts.{place_by, position-cons}
@@ -16,7 +18,8 @@ use Rattle.sig_core.specs.declared.place.BlockId.TheVariants as block
 use Rattle.sig_core.specs.declared.place.Place.{Place}
 use Rattle.sig_core.specs.declared.signal.Body.{Body}
 use Rattle.sig_core.specs.declared.signal.Body.TheVariants.{Client}
-use Rattle.sig_core.specs.declared.signal.client.ClientSignal.TheVariants.{LqhWaitConf, LqhWaitReq, TcWaitConf, TcWaitReq}
+use Rattle.sig_core.specs.declared.signal.client.ClientSignal.TheVariants.{LqhWaitConf, LqhWaitReq, TcWaitConf}
+use Rattle.sig_core.specs.declared.signal.client.ClientSignal.TheVariants.{TcWaitReq}
 use Rattle.sig_core.specs.declared.signal.Signal.{Signal}
 use Rattle.sig_core.specs.Op.{key_of}
 use Rattle.sig_core.specs.Place.{client}
@@ -26,7 +29,8 @@ use Rattle.row_locks.specs.Tables.{ahead_at}
 use Rattle.lqh_block.specs.Lqh.{lqh_table}
 use Rattle.lqh_block.specs.State.{LqhState}
 use Rattle.lqh_block.proofs.LqhForms.{wait_forms}
-use Rattle.node_core.proofs.HostCases.{BlockCase, HostCase, api_takes, block_case, dih_takes, host_case, none_takes, of_api, of_dih, of_none, of_rows, of_tc, rows_take, runs, tc_takes}
+use Rattle.node_core.proofs.HostCases.{BlockCase, HostCase, api_takes, block_case, dih_takes, host_case, none_takes}
+use Rattle.node_core.proofs.HostCases.{of_api, of_dih, of_none, of_rows, of_tc, rows_take, runs, tc_takes}
 use Rattle.node_core.specs.Blocks.{has_api, has_lqh, lqh_of, tc_of}
 use Rattle.node_core.specs.declared.host.Host.{Host}
 use Rattle.node_core.specs.declared.host.Host.TheVariants.{Ldm, Tc}
@@ -114,7 +118,8 @@ same_key-is (x ∷ a) [] e = cc
 same_key-is (x ∷ a) (y ∷ b) e = by (nat_eq x y) refl e (same_key-is a b)
   where
     by : (c : Bool) → nat_eq x y ≡ c → (c && same_key a b) ≡ true → (same_key a b ≡ true → a ≡ b) → x ∷ a ≡ y ∷ b
-    by true is both rest = let first : x ≡ y = grind (arith, nat_tests, is) in ap (λ n. n ∷ a) first ∙ ap (λ w. y ∷ w) (rest both)
+    by true is both rest = let first : x ≡ y = grind (arith, nat_tests, is) in ap (λ n. n ∷ a) first
+        ∙ ap (λ w. y ∷ w) (rest both)
     by false is both rest = cc
 
 -- one of a list stands among what is made of it
@@ -129,21 +134,26 @@ pub record IsPlacedAt (tx : TxId) (t : Transaction) (live : List (TxId × Transa
   pub place : position (same_tx tx) (keys_of live) ≡ Some at
   pub get : slice_get (values_of live) at ≡ Some t
 
-pub placed_at : (tx : TxId) (live : List (TxId × Transaction)) (t : Transaction) → of_live tx live ≡ Some t → IsPlacedAt tx t live
+pub placed_at : (tx : TxId) (live : List (TxId × Transaction)) (t : Transaction) → of_live tx live ≡ Some t
+    → IsPlacedAt tx t live
 placed_at tx [] t is = absurd cc
 placed_at tx (e ∷ live) t is = by (same_tx e.0 tx) refl is (placed_at tx live t)
   where
-    by : (b : Bool) → same_tx e.0 tx ≡ b → (if b then Some e.1 else of_live tx live) ≡ Some t → (of_live tx live ≡ Some t → IsPlacedAt tx t live) → IsPlacedAt tx t (e ∷ live)
+    by : (b : Bool) → same_tx e.0 tx ≡ b → (if b then Some e.1 else of_live tx live) ≡ Some t
+        → (of_live tx live ≡ Some t → IsPlacedAt tx t live) → IsPlacedAt tx t (e ∷ live)
     by true same found rest = record {
       at = 0;
-      place = position-cons (same_tx tx) e.0 (keys_of live) ∙ ap (λ b. place_by b (position (same_tx tx) (keys_of live))) (same_tx-swap tx e.0 ∙ same);
+      place = position-cons (same_tx tx) e.0 (keys_of live)
+          ∙ ap (λ b. place_by b (position (same_tx tx) (keys_of live))) (same_tx-swap tx e.0 ∙ same);
       get = found;
     }
     by false differs found rest =
         let r = rest found in
         record {
           at = suc r.at;
-          place = position-cons (same_tx tx) e.0 (keys_of live) ∙ ap (λ b. place_by b (position (same_tx tx) (keys_of live))) (same_tx-swap tx e.0 ∙ differs) ∙ ap (place_by false) r.place;
+          place = position-cons (same_tx tx) e.0 (keys_of live)
+              ∙ ap (λ b. place_by b (position (same_tx tx) (keys_of live))) (same_tx-swap tx e.0 ∙ differs)
+              ∙ ap (place_by false) r.place;
           get = r.get;
         }
 
@@ -157,10 +167,13 @@ module _ (start : Start) (tx : TxId) where
     pub same : step.state ≡ s
     pub plain : sends_of (is_other tx) step.effects.sends ≡ 0
 
-  of_kind_step : {S : Type 0} (s : S) (step : Step S) → step.state ≡ s → are_of (is_wait_of tx) step.effects.sends ≡ true → IsQuietStep s step
-  of_kind_step s step same kind = record { same = same; plain = none_of (is_wait_of tx) (is_other tx) no_other step.effects.sends kind }
+  of_kind_step : {S : Type 0} (s : S) (step : Step S) → step.state ≡ s
+      → are_of (is_wait_of tx) step.effects.sends ≡ true → IsQuietStep s step
+  of_kind_step s step same kind = record { same = same; plain =
+      none_of (is_wait_of tx) (is_other tx) no_other step.effects.sends kind }
 
-  waits_kind : (one : TxId) (key : List ℕ) (members : List Member) → same_tx one tx ≡ true → are_of (is_wait_of tx) (waits_of one key members) ≡ true
+  waits_kind : (one : TxId) (key : List ℕ) (members : List Member) → same_tx one tx ≡ true
+      → are_of (is_wait_of tx) (waits_of one key members) ≡ true
   waits_kind one key members e = of_map (is_wait_of tx) (wait_of one key) members (λ m. e)
 
   row_state_same : (one : TxId) (t : Transaction) → (wait_row one t).state ≡ t
@@ -171,7 +184,8 @@ module _ (start : Start) (tx : TxId) where
       by None = refl
       by (Some asked) = refl
 
-  row_kind : (one : TxId) (t : Transaction) → same_tx one tx ≡ true → are_of (is_wait_of tx) (wait_row one t).effects.sends ≡ true
+  row_kind : (one : TxId) (t : Transaction) → same_tx one tx ≡ true
+      → are_of (is_wait_of tx) (wait_row one t).effects.sends ≡ true
   unfolding wait_row
   row_kind one t e = by t.asked
     where
@@ -182,18 +196,21 @@ module _ (start : Start) (tx : TxId) where
   want_step : (s : TcState) (one : TxId) → same_tx one tx ≡ true → IsQuietStep s (step_of s one (wait_row one))
   want_step s one e = at_place (place_in s one) refl
     where
-      at_value : (at : ℕ) → place_in s one ≡ Some at → (o : Option Transaction) → slice_get (values_of s.live) at ≡ o → IsQuietStep s (step_value s (wait_row one) at o)
+      at_value : (at : ℕ) → place_in s one ≡ Some at → (o : Option Transaction) → slice_get (values_of s.live) at ≡ o
+          → IsQuietStep s (step_value s (wait_row one) at o)
       at_value at at_is None is = of_kind_step s _ refl refl
       at_value at at_is (Some t) is =
           let split = split_at one s.live at t at_is is in
-          let live_same : set_value_at s.live at (wait_row one t).state ≡ s.live = ap (set_value_at s.live at) (row_state_same one t) ∙ split.set t ∙ sym split.is in
+          let live_same : set_value_at s.live at (wait_row one t).state ≡ s.live =
+              ap (set_value_at s.live at) (row_state_same one t) ∙ split.set t ∙ sym split.is in
           of_kind_step s (stepped s at (wait_row one t)) (ap (with_live s) live_same) (row_kind one t e)
 
       at_place : (o : Option ℕ) → place_in s one ≡ o → IsQuietStep s (step_place s (wait_row one) o)
       at_place None is = of_kind_step s _ refl refl
       at_place (Some at) is = at_value at is (slice_get (values_of s.live) at) refl
 
-  pass_step : (s : TcState) (one ahead : TxId) (b : Bool) → same_tx one tx ≡ true → IsQuietStep s (pass_if s one ahead b)
+  pass_step : (s : TcState) (one ahead : TxId) (b : Bool) → same_tx one tx ≡ true
+      → IsQuietStep s (pass_if s one ahead b)
   pass_step s one ahead true e = of_kind_step s (pass_if s one ahead true) refl (one_kind (same_tx one tx) e)
   pass_step s one ahead false e = of_kind_step s (pass_if s one ahead false) refl refl
 
@@ -242,25 +259,37 @@ module _ (start : Start) (tx : TxId) where
 
   -- what it sends on
   -- a coordinator that has the transaction's operation unanswered asks each node that this was sent along
-  wants_here : (s : TcState) (t : Transaction) (asked : Asked) (member : Member) → of_live tx s.live ≡ Some t → t.asked ≡ Some asked → IsIn member asked.chain
-      → 1 ≤ sends_of (to_host start (rows_host start member.node) (is_probe tx (key_of asked.op))) (step_of s tx (wait_row tx)).effects.sends
+  wants_here : (s : TcState) (t : Transaction) (asked : Asked) (member : Member) → of_live tx s.live ≡ Some t
+      → t.asked ≡ Some asked → IsIn member asked.chain
+      → 1 ≤ sends_of (to_host start (rows_host start member.node) (is_probe tx (key_of asked.op)))
+      (step_of s tx (wait_row tx)).effects.sends
   unfolding wait_row
   wants_here s t asked member live unanswered inside =
-      subst (λ (step : Step TcState). 1 ≤ sends_of (to_host start (rows_host start member.node) (is_probe tx (key_of asked.op))) step.effects.sends) (sym there)
-      (tally_in (λ (x : Outgoing). to_host start (rows_host start member.node) (is_probe tx (key_of asked.op)) x.to x.body) (wait_of tx (key_of asked.op) member) (waits_of tx (key_of asked.op) asked.chain)
+      subst (λ (step : Step TcState). 1 ≤ sends_of
+          (to_host start (rows_host start member.node) (is_probe tx (key_of asked.op))) step.effects.sends) (sym there)
+      (tally_in (λ (x : Outgoing). to_host start (rows_host start member.node)
+      (is_probe tx (key_of asked.op)) x.to x.body) (wait_of tx (key_of asked.op) member)
+      (waits_of tx (key_of asked.op) asked.chain)
       (in_made (wait_of tx (key_of asked.op)) member asked.chain inside)
-      (true_and (rows_host start member.node == rows_host start member.node) _ (eqb-self (rows_host start member.node)) (true_and (same_tx tx tx) (same_key (key_of asked.op) (key_of asked.op)) (same_tx-self tx) (same_key-self (key_of asked.op)))))
+      (true_and (rows_host start member.node == rows_host start member.node) _ (eqb-self (rows_host start member.node))
+      (true_and (same_tx tx tx) (same_key (key_of asked.op) (key_of asked.op)) (same_tx-self tx)
+      (same_key-self (key_of asked.op)))))
     where
       p : IsPlacedAt tx t s.live
       p = placed_at tx s.live t live
 
       there : step_of s tx (wait_row tx) ≡ stepped s p.at (wait_by tx t (Some asked))
-      there = ap (step_place s (wait_row tx)) p.place ∙ ap (step_value s (wait_row tx) p.at) p.get ∙ ap (λ o. stepped s p.at (wait_by tx t o)) unanswered
+      there = ap (step_place s (wait_row tx)) p.place ∙ ap (step_value s (wait_row tx) p.at) p.get
+          ∙ ap (λ o. stepped s p.at (wait_by tx t o)) unanswered
 
-  tc_wants : (s : TcState) (t : Transaction) (asked : Asked) (member : Member) → of_live tx s.live ≡ Some t → t.asked ≡ Some asked → IsIn member asked.chain → (body : Body) → want_of tx body ≡ true
-      → 1 ≤ sends_of (to_host start (rows_host start member.node) (is_probe tx (key_of asked.op))) (tc_table s body).effects.sends
+  tc_wants : (s : TcState) (t : Transaction) (asked : Asked) (member : Member) → of_live tx s.live ≡ Some t
+      → t.asked ≡ Some asked → IsIn member asked.chain → (body : Body) → want_of tx body ≡ true
+      → 1 ≤ sends_of (to_host start (rows_host start member.node) (is_probe tx (key_of asked.op)))
+      (tc_table s body).effects.sends
   tc_wants s t asked member live unanswered inside (Client (TcWaitReq one)) e =
-      subst (λ v. 1 ≤ sends_of (to_host start (rows_host start member.node) (is_probe tx (key_of asked.op))) (step_of s v (λ w. wait_row v w)).effects.sends) (sym (same_tx-is one tx e)) (wants_here s t asked member live unanswered inside)
+      subst (λ v. 1 ≤ sends_of (to_host start (rows_host start member.node) (is_probe tx (key_of asked.op)))
+          (step_of s v (λ w. wait_row v w)).effects.sends) (sym (same_tx-is one tx e))
+          (wants_here s t asked member live unanswered inside)
   tc_wants s t asked member live unanswered inside _ e = cc
 
   -- where a coordinator has the transaction, what it sends at such a signal is sent
@@ -294,7 +323,8 @@ module _ (start : Start) (tx : TxId) where
       → probe_of tx key body ≡ true → 1 ≤ sends_of (to_host start (home start tx) (is_found tx))
       (lqh_table s body).effects.sends
   lqh_finds s key held (Client (LqhWaitReq one at)) e =
-      wait_forms (λ step. 1 ≤ sends_of (to_host start (home start tx) (is_found tx)) step.effects.sends) s one at (record {
+      wait_forms (λ step. 1 ≤ sends_of (to_host start (home start tx) (is_found tx)) step.effects.sends) s one at
+          (record {
         none = λ is. absurd (let both : false ≡ true = sym (ap is_some is) ∙ here in cc);
         some = λ ahead is. omega (
           arith,
@@ -312,10 +342,12 @@ module _ (start : Start) (tx : TxId) where
       here : is_some (ahead_at s.locks at one) ≡ true
       here =
           ap (λ u. is_some (ahead_at s.locks at u)) own
-          ∙ (ap (λ k. is_some (ahead_at s.locks k tx)) (same_key-is at key (right_of (same_tx one tx) (same_key at key) e)) ∙ held)
+          ∙ (ap (λ k. is_some (ahead_at s.locks k tx))
+          (same_key-is at key (right_of (same_tx one tx) (same_key at key) e)) ∙ held)
   lqh_finds s key held _ e = cc
 
-  pub host_finds : (g : Host) (key : List ℕ) → is_some (ahead_at (lqh_of g).locks key tx) ≡ true → (x : Signal) → is_probe tx key x.to x.body ≡ true
+  pub host_finds : (g : Host) (key : List ℕ) → is_some (ahead_at (lqh_of g).locks key tx) ≡ true → (x : Signal)
+      → is_probe tx key x.to x.body ≡ true
       → 1 ≤ sends_of (to_host start (home start tx) (is_found tx)) (row g x).effects.sends
   host_finds g key held x is = go (row g x) (block_case g x)
     where
@@ -344,7 +376,8 @@ module _ (start : Start) (tx : TxId) where
       go t (none_takes step) = absurd (no_locks (sym (runs_rows g) ∙ ap (runs g) (sym at_rows) ∙ step.runs))
 
   -- its coordinator passes that on to the API
-  pass_one : (s : TcState) (ahead : TxId) (b : Bool) → b ≡ true → 1 ≤ sends_of (to_host start 0 (is_passed tx)) (pass_if s tx ahead b).effects.sends
+  pass_one : (s : TcState) (ahead : TxId) (b : Bool) → b ≡ true
+      → 1 ≤ sends_of (to_host start 0 (is_passed tx)) (pass_if s tx ahead b).effects.sends
   pass_one s ahead true e =
       omega (
         arith,
@@ -353,10 +386,12 @@ module _ (start : Start) (tx : TxId) where
       )
   pass_one s ahead false e = cc
 
-  tc_passes : (s : TcState) (t : Transaction) → of_live tx s.live ≡ Some t → (body : Body) → found_of tx body ≡ true → 1 ≤ sends_of (to_host start 0 (is_passed tx)) (tc_table s body).effects.sends
+  tc_passes : (s : TcState) (t : Transaction) → of_live tx s.live ≡ Some t → (body : Body) → found_of tx body ≡ true
+      → 1 ≤ sends_of (to_host start 0 (is_passed tx)) (tc_table s body).effects.sends
   unfolding pass_row
   tc_passes s t live (Client (LqhWaitConf one ahead)) e =
-      subst (λ v. 1 ≤ sends_of (to_host start 0 (is_passed tx)) (pass_if s v ahead (is_some (place_in s v))).effects.sends) (sym (same_tx-is one tx e))
+      subst (λ v. 1 ≤ sends_of (to_host start 0 (is_passed tx))
+          (pass_if s v ahead (is_some (place_in s v))).effects.sends) (sym (same_tx-is one tx e))
       (pass_one s ahead (is_some (place_in s tx)) (ap is_some (placed_at tx s.live t live).place))
   tc_passes s t live _ e = cc
 

@@ -1,5 +1,6 @@
 -- The first item of a list that passes a test, with what stands before and behind it.
-use Rattle.std.proofs.Common.{◌≡◌, ℕ, suc, ◌+◌, ◌<◌, ◌≤◌, List, [], ◌∷◌, ◌++◌, length, Bool, true, false, cond, refl, ap, sym, ◌∙◌, subst, arith}
+use Rattle.std.proofs.Common.{◌≡◌, ℕ, suc, ◌+◌, ◌<◌, ◌≤◌, List, [], ◌∷◌, ◌++◌, length, Bool, true, false, cond, refl}
+use Rattle.std.proofs.Common.{ap, sym, ◌∙◌, subst, arith}
 use Rattle.std.specs.Prelude.{Option, None, Some, nat_lt, not, position, remove, slice_get, slice_set}
 use Rattle.std.specs.List.{prefix_len}
 use Rattle.std.proofs.Math.Numerals.{one-add}
@@ -32,14 +33,16 @@ behind p x xs at f = record {
   removed = ap (λ ys. x ∷ ys) f.removed;
 }
 
-pub found : {A : Type 0} (p : A → Bool) (xs : List A) → prefix_len (λ x. not (p x)) xs < length xs → IsFocus p xs (prefix_len (λ x. not (p x)) xs)
+pub found : {A : Type 0} (p : A → Bool) (xs : List A) → prefix_len (λ x. not (p x)) xs < length xs
+    → IsFocus p xs (prefix_len (λ x. not (p x)) xs)
 found p [] low = absurd (omega (arith, low))
 found {A} p (x ∷ xs) low = go (p x) refl low (found p xs)
   where
     go : (b : Bool) → p x ≡ b → cond (not b) (1 + prefix_len (λ y. not (p y)) xs) 0 < suc (length xs)
         → (prefix_len (λ y. not (p y)) xs < length xs → IsFocus p xs (prefix_len (λ y. not (p y)) xs))
         → IsFocus p (x ∷ xs) (cond (not b) (1 + prefix_len (λ y. not (p y)) xs) 0)
-    go true e low rest = record { item = x; front = []; back = xs; is = refl; passes = e; get = refl; set = λ other. refl; removed = refl }
+    go true e low rest = record { item = x; front = []; back = xs; is = refl; passes = e; get = refl; set = λ other.
+        refl; removed = refl }
     go false e low rest =
         subst (λ k. IsFocus p (x ∷ xs) k) (sym (one-add (prefix_len (λ y. not (p y)) xs)))
         (behind p x xs (prefix_len (λ y. not (p y)) xs) (rest (omega (arith, low))))
@@ -57,22 +60,26 @@ absent p (x ∷ xs) past = go (p x) past (absent p xs)
         omega (arith, none)
 
 -- what is so of what is said where there is none, and of what is said of each that is found, is so of what is said
-pub where_found : {A : Type 0} (p : OpenTransaction → Bool) (xs : List OpenTransaction) (none : A) (some : ℕ → OpenTransaction → A) (P : A → Type 0)
-    → (tally p xs ≡ 0 → P none) → ((at : ℕ) (f : IsFocus p xs at) → P (some at f.item)) → P (where_at xs none some (position p xs))
+pub where_found : {A : Type 0} (p : OpenTransaction → Bool) (xs : List OpenTransaction) (none : A)
+    (some : ℕ → OpenTransaction → A) (P : A → Type 0)
+    → (tally p xs ≡ 0 → P none) → ((at : ℕ) (f : IsFocus p xs at) → P (some at f.item))
+    → P (where_at xs none some (position p xs))
 where_found {A} p xs none some P missing present = go (nat_lt (prefix_len (λ x. not (p x)) xs) (length xs)) refl
   where
     go : (b : Bool) → nat_lt (prefix_len (λ x. not (p x)) xs) (length xs) ≡ b
         → P (where_at xs none some (cond b (Some (prefix_len (λ x. not (p x)) xs)) None))
     go true e =
         let f = found p xs (grind (arith, nat_tests, e)) in
-        subst (λ o. P (if_there none (some (prefix_len (λ x. not (p x)) xs)) o)) (sym f.get) (present (prefix_len (λ x. not (p x)) xs) f)
+        subst (λ o. P (if_there none (some (prefix_len (λ x. not (p x)) xs)) o)) (sym f.get)
+            (present (prefix_len (λ x. not (p x)) xs) f)
     go false e = missing (absent p xs (grind (arith, nat_tests, e)))
 
 -- where no place is found none passes
 pub none_placed : {A : Type 0} (p : A → Bool) (xs : List A) → position p xs ≡ None → tally p xs ≡ 0
 none_placed p xs none = go (nat_lt (prefix_len (λ x. not (p x)) xs) (length xs)) refl none
   where
-    go : (b : Bool) → nat_lt (prefix_len (λ x. not (p x)) xs) (length xs) ≡ b → cond b (Some (prefix_len (λ x. not (p x)) xs)) None ≡ None → tally p xs ≡ 0
+    go : (b : Bool) → nat_lt (prefix_len (λ x. not (p x)) xs) (length xs) ≡ b
+        → cond b (Some (prefix_len (λ x. not (p x)) xs)) None ≡ None → tally p xs ≡ 0
     go true e none = cc
     go false e none = absent p xs (grind (arith, nat_tests, e))
 
@@ -84,7 +91,8 @@ pub record IsTakenAt {A : Type 0} (p : A → Bool) (xs : List A) (at : ℕ) (x :
   pub passes : p x ≡ true
   pub removed : remove xs at ≡ front ++ back
 
-pub taken_at : {A : Type 0} (p : A → Bool) (xs : List A) (at : ℕ) (x : A) → position p xs ≡ Some at → slice_get xs at ≡ Some x
+pub taken_at : {A : Type 0} (p : A → Bool) (xs : List A) (at : ℕ) (x : A) → position p xs ≡ Some at
+    → slice_get xs at ≡ Some x
     → IsTakenAt p xs at x
 taken_at {A} p xs at x there here = by (nat_lt place (length xs)) refl there
   where
@@ -96,9 +104,11 @@ taken_at {A} p xs at x there here = by (nat_lt place (length xs)) refl there
         let both : Some f.item ≡ Some x = sym f.get ∙ (ap (slice_get xs) same ∙ here) in
         let item : f.item ≡ x = cc in
         subst (λ k. IsTakenAt p xs k x) same
-        (subst (λ y. IsTakenAt p xs place y) item (record { front = f.front; back = f.back; is = f.is; passes = f.passes; removed = f.removed }))
+        (subst (λ y. IsTakenAt p xs place y) item
+        (record { front = f.front; back = f.back; is = f.is; passes = f.passes; removed = f.removed }))
 
-    by : (b : Bool) → nat_lt place (length xs) ≡ b → cond {A = Option ℕ} b (Some place) None ≡ Some at → IsTakenAt p xs at x
+    by : (b : Bool) → nat_lt place (length xs) ≡ b → cond {A = Option ℕ} b (Some place) None ≡ Some at
+        → IsTakenAt p xs at x
     by true e found_at =
         let same : place ≡ at = cc in
         of_focus same (found p xs (grind (arith, nat_tests, e)))

@@ -1,13 +1,12 @@
 -- A request for an operation is answered, passed on or waits, at each replica.
-use Rattle.std.proofs.Common.{◌≡◌, ℕ, zero, suc, ◌+◌, ◌≤◌, List, [], ◌∷◌, Bool, true, false, refl, ap, sym, subst, arith}
-use Rattle.std.specs.Prelude.{◌==◌, ◌&&◌, nat_lt, slice_get, Option, None, Some}
+use Rattle.std.proofs.Common.{◌≡◌, ℕ, zero, suc, ◌+◌, ◌≤◌, List, [], ◌∷◌, Bool, true, false, refl, ap, sym, subst}
+use Rattle.std.proofs.Common.{arith}
+use Rattle.std.specs.Prelude.{◌==◌, ◌&&◌, nat_lt, slice_get, Some}
 use Rattle.std.specs.List.{list_all}
 use Rattle.std.proofs.lemmas.Bool.{false≢true}
 use Rattle.sig_core.specs.declared.member.Member.{Member}
 use Rattle.sig_core.specs.declared.member.TxId.{TxId}
-use Rattle.sig_core.specs.declared.op.Answer.TheVariants as answer
 use Rattle.sig_core.specs.declared.outcome.AbortCause.{AbortCause}
-use Rattle.sig_core.specs.declared.outcome.AbortCause.TheVariants as cause
 use Rattle.sig_core.specs.declared.outs.Outgoing.{Outgoing}
 use Rattle.sig_core.specs.declared.place.BlockId.{BlockId}
 use Rattle.sig_core.specs.declared.place.BlockId.TheVariants as block
@@ -49,9 +48,12 @@ is_mine n tx key r = same_tx r.tx tx && (same_key (work_key r.work) key && is_go
 
 -- a request for an operation of the transaction on the key, or its answer
 abbrev pub is_op : ℕ → TxId → List ℕ → Place → Body → Bool
-is_op n tx key to (Chain (LqhKeyReq other what chain at)) = (is_lqh to.block && is_node n to.node) && is_mine n tx key (record { tx = other; work = what; chain = chain; at = at })
-is_op n tx key to (Chain (LqhKeyConf other at answer)) = (is_tc to.block && (to.node == tx.tc)) && (same_tx other tx && same_key at key)
-is_op n tx key to (Chain (LqhKeyRef other at cause)) = (is_tc to.block && (to.node == tx.tc)) && (same_tx other tx && same_key at key)
+is_op n tx key to (Chain (LqhKeyReq other what chain at)) = (is_lqh to.block && is_node n to.node)
+    && is_mine n tx key (record { tx = other; work = what; chain = chain; at = at })
+is_op n tx key to (Chain (LqhKeyConf other at answer)) = (is_tc to.block && (to.node == tx.tc))
+    && (same_tx other tx && same_key at key)
+is_op n tx key to (Chain (LqhKeyRef other at cause)) = (is_tc to.block && (to.node == tx.tc))
+    && (same_tx other tx && same_key at key)
 is_op n tx key to _ = false
 
 pub true_and : (a b : Bool) → a ≡ true → b ≡ true → (a && b) ≡ true
@@ -66,12 +68,14 @@ pub right_of : (a b : Bool) → (a && b) ≡ true → b ≡ true
 right_of true b e = e
 right_of false b e = cc
 
-all_get : (n : ℕ) (chain : List Member) (at : ℕ) (next : Member) → is_good n chain ≡ true → slice_get chain at ≡ Some next → is_node n next.node ≡ true
+all_get : (n : ℕ) (chain : List Member) (at : ℕ) (next : Member) → is_good n chain ≡ true
+    → slice_get chain at ≡ Some next → is_node n next.node ≡ true
 all_get n [] at next good e = cc
 all_get n (m ∷ chain) zero next good e =
     let same : m ≡ next = cc in
     subst (λ (x : Member). is_node n x.node ≡ true) same (left_of (is_node n m.node) (is_good n chain) good)
-all_get n (m ∷ chain) (suc at) next good e = all_get n chain at next (right_of (is_node n m.node) (is_good n chain) good) e
+all_get n (m ∷ chain) (suc at) next good e = all_get n chain
+    at next (right_of (is_node n m.node) (is_good n chain) good) e
 
 module _ (n : ℕ) (tx : TxId) (key : List ℕ) where
   -- how many of these signals are such
@@ -82,10 +86,12 @@ module _ (n : ℕ) (tx : TxId) (key : List ℕ) where
   mine r = is_mine n tx key r
 
   -- an answer counts where the request did
-  answered : (other : TxId) (at : List ℕ) → (same_tx other tx && same_key at key) ≡ true → ((other.tc == tx.tc) && (same_tx other tx && same_key at key)) ≡ true
+  answered : (other : TxId) (at : List ℕ) → (same_tx other tx && same_key at key) ≡ true
+      → ((other.tc == tx.tc) && (same_tx other tx && same_key at key)) ≡ true
   answered other at e =
       true_and (other.tc == tx.tc) (same_tx other tx && same_key at key)
-      (subst (λ (t : TxId). (t.tc == tx.tc) ≡ true) (sym (same_tx-is other tx (left_of (same_tx other tx) (same_key at key) e))) (eqb-self tx.tc)) e
+      (subst (λ (t : TxId). (t.tc == tx.tc) ≡ true)
+      (sym (same_tx-is other tx (left_of (same_tx other tx) (same_key at key) e))) (eqb-self tx.tc)) e
 
   without_chain : (a b c : Bool) → (a && (b && c)) ≡ true → (a && b) ≡ true
   without_chain true true c e = refl
@@ -113,7 +119,8 @@ module _ (n : ℕ) (tx : TxId) (key : List ℕ) where
           told : 1 ≤ one_if ((r.tx.tc == tx.tc) && (same_tx r.tx tx && same_key (work_key r.work) key)) + 0
           told = omega (
             arith,
-            ap one_if (answered r.tx (work_key r.work) (without_chain (same_tx r.tx tx) (same_key (work_key r.work) key) (is_good n r.chain) e)),
+            ap one_if (answered r.tx (work_key r.work)
+                (without_chain (same_tx r.tx tx) (same_key (work_key r.work) key) (is_good n r.chain) e)),
           )
 
           good : is_good n r.chain ≡ true
@@ -130,7 +137,8 @@ module _ (n : ℕ) (tx : TxId) (key : List ℕ) where
       one = same_tx-is r.tx other (left_of (same_tx r.tx other) (same_key (work_key r.work) at_key) passes)
 
       is_key : work_key r.work ≡ at_key
-      is_key = same_key-is (work_key r.work) at_key (right_of (same_tx r.tx other) (same_key (work_key r.work) at_key) passes)
+      is_key = same_key-is (work_key r.work) at_key
+          (right_of (same_tx r.tx other) (same_key (work_key r.work) at_key) passes)
 
       by : (b : Bool) → mine r ≡ b → one_if b ≤ ops (storage.refusal other at_key why ∷ [])
       by false e = omega arith
@@ -153,12 +161,16 @@ module _ (n : ℕ) (tx : TxId) (key : List ℕ) where
 
   -- what waited and came still waits, or is told
   pub lqh_ops : (s : LqhState) (body : Body)
-      → tally mine s.waiting + came_of body ≤ tally mine (lqh_table s body).state.waiting + ops (lqh_table s body).effects.sends
-  lqh_ops s body = by (count_step mine (λ (o : Outgoing). is_op n tx key o.to o.body) (λ o e. only_work o.to o.body e) s body)
+      → tally mine s.waiting + came_of body
+      ≤ tally mine (lqh_table s body).state.waiting + ops (lqh_table s body).effects.sends
+  lqh_ops s body = by (count_step mine (λ (o : Outgoing). is_op n tx key o.to o.body)
+      (λ o e. only_work o.to o.body e) s body)
     where
       by : CountStep mine (λ (o : Outgoing). is_op n tx key o.to o.body) s (came_of body) (lqh_table s body)
-          → tally mine s.waiting + came_of body ≤ tally mine (lqh_table s body).state.waiting + ops (lqh_table s body).effects.sends
+          → tally mine s.waiting + came_of body
+          ≤ tally mine (lqh_table s body).state.waiting + ops (lqh_table s body).effects.sends
       by (performs st r waits sends) = omega (arith, waits, sends, perform_ops st r)
-      by (refuses other at_key why r passes waits sends) = omega (arith, waits, sends, refused_ops other at_key why r passes)
+      by (refuses other at_key why r passes waits sends) =
+          omega (arith, waits, sends, refused_ops other at_key why r passes)
       by (ends other at_key queued none waits sends) = omega (arith, waits)
       by (rests waits sends) = omega (arith, waits)

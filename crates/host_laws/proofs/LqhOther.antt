@@ -23,9 +23,11 @@ is_own_kind (Chain (Commit tx key epoch chain at)) = false
 is_own_kind (Chain (Complete tx key chain at)) = false
 is_own_kind body = is_lqh_kind body
 
--- What is so of each such signal, and of a commit or a completion behind the same one that was taken, is so of all that is sent.
+-- What is so of each such signal, and of a commit or a completion behind the same one that was taken, is so of all that
+-- is sent.
 pub lqh_passes : (P : Body → Type 0) (s : LqhState) (body : Body) → ((b : Body) → is_own_kind b ≡ true → P b)
-    → ((tx : TxId) (key : List ℕ) (epoch : ℕ) (chain : List Member) (at : ℕ) → body ≡ Chain (Commit tx key epoch chain at)
+    → ((tx : TxId) (key : List ℕ) (epoch : ℕ) (chain : List Member) (at : ℕ)
+    → body ≡ Chain (Commit tx key epoch chain at)
     → P (Chain (Commit tx key epoch chain (at - 1))))
     → ((tx : TxId) (key : List ℕ) (chain : List Member) (at : ℕ) → body ≡ Chain (Complete tx key chain at)
     → P (Chain (Complete tx key chain (at - 1))))

@@ -1,5 +1,7 @@
--- One key of one transaction at a replica: how many requests wait, whether it is in the queue, and whether the block goes on.
-use Rattle.std.proofs.Common.{◌≡◌, ◌⊎◌, ℕ, ◌+◌, ◌≤◌, List, [], ◌∷◌, ◌++◌, Bool, true, false, refl, ap, sym, ◌∙◌, subst, arith, inl, inr}
+-- One key of one transaction at a replica: how many requests wait, whether it is in the queue, and whether the block
+-- goes on.
+use Rattle.std.proofs.Common.{◌≡◌, ◌⊎◌, ℕ, ◌+◌, ◌≤◌, List, [], ◌∷◌, ◌++◌, Bool, true, false, refl, ap, sym, ◌∙◌, subst}
+use Rattle.std.proofs.Common.{arith, inl, inr}
 use Rattle.std.specs.Prelude.{◌==◌, ◌&&◌, ◌||◌, not, is_some, position, remove, if◌then◌else◌, Option, None, Some}
 use Rattle.std.proofs.lemmas.Bool.{false≢true}
 use Rattle.sig_core.specs.declared.member.TxId.{TxId}
@@ -7,7 +9,8 @@ use Rattle.sig_core.specs.declared.outs.Outgoing.{Outgoing}
 use Rattle.sig_core.specs.declared.place.Place.{Place}
 use Rattle.sig_core.specs.declared.signal.Body.{Body}
 use Rattle.sig_core.specs.declared.signal.Body.TheVariants.{Host, Chain}
-use Rattle.sig_core.specs.declared.signal.chain.ChainSignal.TheVariants.{LqhKeyReq, LqhKeyConf, LqhKeyRef, Commit, Complete}
+use Rattle.sig_core.specs.declared.signal.chain.ChainSignal.TheVariants.{LqhKeyReq, LqhKeyConf, LqhKeyRef, Commit}
+use Rattle.sig_core.specs.declared.signal.chain.ChainSignal.TheVariants.{Complete}
 use Rattle.sig_core.specs.declared.signal.host.HostSignal.TheVariants.{Continue}
 use Rattle.sig_core.specs.declared.signal.host.Work.TheVariants as work
 use Rattle.sig_core.specs.Same.{same_key, same_tx}
@@ -40,7 +43,8 @@ use Rattle.host_laws.proofs.Wishes.{is_tc, sends_of}
 
 -- a request of the transaction for the key, or its answer, wherever it goes
 abbrev pub is_hop : TxId → List ℕ → Place → Body → Bool
-is_hop tx key to (Chain (LqhKeyReq other what chain at)) = is_lqh to.block && (same_tx other tx && same_key (work_key what) key)
+is_hop tx key to (Chain (LqhKeyReq other what chain at)) = is_lqh to.block
+    && (same_tx other tx && same_key (work_key what) key)
 is_hop tx key to (Chain (LqhKeyConf other at answer)) = is_tc to.block && (same_tx other tx && same_key at key)
 is_hop tx key to (Chain (LqhKeyRef other at cause)) = is_tc to.block && (same_tx other tx && same_key at key)
 is_hop tx key to _ = false
@@ -82,13 +86,15 @@ module _ (tx : TxId) (key : List ℕ) where
 
   -- a request waited outside the queue before, at another signal than the block's own, or the block goes on
   abbrev pub IsServed : LqhState → Body → List Outgoing → Type 0
-  IsServed s body sends = ((1 ≤ waiting s) × ((queued s ≡ false) × (is_more_body body ≡ false))) ⊎ (1 ≤ goes_on s.node sends)
+  IsServed s body sends = ((1 ≤ waiting s) × ((queued s ≡ false) × (is_more_body body ≡ false)))
+      ⊎ (1 ≤ goes_on s.node sends)
 
   -- who is in the queue waits
   abbrev pub HasAsked : LqhState → Type 0
   HasAsked s = queued s ≡ true → 1 ≤ waiting s
 
-  -- What a step of the rows keeps: who is in the queue waits, and who waits and isn't in the queue did so before, or the block goes on.
+  -- What a step of the rows keeps: who is in the queue waits, and who waits and isn't in the queue did so before, or
+  -- the block goes on.
   pub record Stays (s : LqhState) (body : Body) (step : Step LqhState) : Type 0 where
     pub there : HasAsked s → HasAsked step.state
     pub served : waiting s ≤ 1 → is_forth tx body ≡ false → 1 ≤ waiting step.state → queued step.state ≡ false
@@ -114,7 +120,8 @@ module _ (tx : TxId) (key : List ℕ) where
   -- no more waits or is told of than came or waited
   pub few_hops : (s : LqhState) (body : Body) → HasAsked s
       → waiting (lqh_table s body).state + hops (lqh_table s body).effects.sends ≤ waiting s + came_to body
-  few_hops s body q = by (count_step own (λ (o : Outgoing). is_hop tx key o.to o.body) (λ o e. only_work o.to o.body e) s body)
+  few_hops s body q = by (count_step own (λ (o : Outgoing). is_hop tx key o.to o.body)
+      (λ o e. only_work o.to o.body e) s body)
     where
       -- what is refused is the request's
       refused : (other : TxId) (at_key : List ℕ) (r : Request) → is_for other at_key r ≡ true
@@ -123,20 +130,24 @@ module _ (tx : TxId) (key : List ℕ) where
           ap (λ t. one_if (same_tx t tx && same_key at_key key))
           (sym (same_tx-is r.tx other (left_of (same_tx r.tx other) (same_key (work_key r.work) at_key) passes)))
           ∙ ap (λ k. one_if (same_tx r.tx tx && same_key k key))
-          (sym (same_key-is (work_key r.work) at_key (right_of (same_tx r.tx other) (same_key (work_key r.work) at_key) passes)))
+          (sym (same_key-is (work_key r.work) at_key
+          (right_of (same_tx r.tx other) (same_key (work_key r.work) at_key) passes)))
 
       -- who is in the queue of the key has a request
       unasked : (other : TxId) (at_key : List ℕ) → waits other (lock_at s.locks at_key).queue ≡ true
           → position (is_for other at_key) s.waiting ≡ None
-          → (b : Bool) → (same_tx other tx && same_key at_key key) ≡ b → one_if (same_tx other tx && same_key at_key key) ≡ 0
+          → (b : Bool) → (same_tx other tx && same_key at_key key) ≡ b
+          → one_if (same_tx other tx && same_key at_key key) ≡ 0
       unasked other at_key on none false e = ap one_if e
       unasked other at_key on none true e =
           let one : other ≡ tx = same_tx-is other tx (left_of (same_tx other tx) (same_key at_key key) e) in
           let at : at_key ≡ key = same_key-is at_key key (right_of (same_tx other tx) (same_key at_key key) e) in
           let here : queued s ≡ true =
-          subst (λ k. waits tx (lock_at s.locks k).queue ≡ true) at (subst (λ u. waits u (lock_at s.locks at_key).queue ≡ true) one on) in
+          subst (λ k. waits tx (lock_at s.locks k).queue ≡ true) at
+              (subst (λ u. waits u (lock_at s.locks at_key).queue ≡ true) one on) in
           let gone : position (is_for tx key) s.waiting ≡ None =
-          subst (λ k. position (is_for tx k) s.waiting ≡ None) at (subst (λ u. position (is_for u at_key) s.waiting ≡ None) one none) in
+          subst (λ k. position (is_for tx k) s.waiting ≡ None) at
+              (subst (λ u. position (is_for u at_key) s.waiting ≡ None) one none) in
           absurd (omega (arith, q here, none_placed (is_for tx key) s.waiting gone))
 
       by : CountStep own (λ (o : Outgoing). is_hop tx key o.to o.body) s (came_to body) (lqh_table s body)
@@ -151,21 +162,25 @@ module _ (tx : TxId) (key : List ℕ) where
   pub granted_is : (s : LqhState) (r : Request) → own r ≡ true → operate.is_granted s.locks r ≡ not (queued s)
   granted_is s r mine =
       let one : r.tx ≡ tx = same_tx-is r.tx tx (left_of (same_tx r.tx tx) (same_key (work_key r.work) key) mine) in
-      let on : work_key r.work ≡ key = same_key-is (work_key r.work) key (right_of (same_tx r.tx tx) (same_key (work_key r.work) key) mine) in
-      ap (λ k. not (is_some (ahead_at s.locks k r.tx))) on ∙ (ap (λ t. not (is_some (ahead_at s.locks key t))) one ∙ ap not (some_is (queued s)))
+      let on : work_key r.work ≡ key = same_key-is (work_key r.work) key
+          (right_of (same_tx r.tx tx) (same_key (work_key r.work) key) mine) in
+      ap (λ k. not (is_some (ahead_at s.locks k r.tx))) on
+          ∙ (ap (λ t. not (is_some (ahead_at s.locks key t))) one ∙ ap not (some_is (queued s)))
     where
       some_is : (b : Bool) → is_some (some_if b (first_other tx (lock_at s.locks key).holders)) ≡ b
       some_is true = refl
       some_is false = refl
 
-  pub request_stays : (s : LqhState) (r : Request) → RequestForms (Stays s (Chain (LqhKeyReq r.tx r.work r.chain r.at))) s r
+  pub request_stays : (s : LqhState) (r : Request)
+      → RequestForms (Stays s (Chain (LqhKeyReq r.tx r.work r.chain r.at))) s r
   request_stays s r = record {
     granted = λ is. record {
       there = λ q on. q (sym (same is) ∙ on);
       served = λ one forth some off. inl (some, (sym (same is) ∙ off, refl));
     };
     queued = λ ahead is. record {
-      there = λ q on. omega (arith, tally_append own s.waiting (r ∷ []), some ahead is q (same_key (work_key r.work) key) refl on);
+      there = λ q on. omega (arith, tally_append own s.waiting (r ∷ []), some ahead is q
+          (same_key (work_key r.work) key) refl on);
       served = λ one forth some off. let was = before ahead is off some in inl (was.0, (was.1, refl));
     };
   }
@@ -174,8 +189,12 @@ module _ (tx : TxId) (key : List ℕ) where
       a = asked_waits tx r.tx (lock_at s.locks (work_key r.work)) (work_mode r.work)
 
       -- the lock of the key, and of another
-      at_lock : (b : Bool) → same_key (work_key r.work) key ≡ b → queued (operate.asked_for s r) ≡ waits tx (if b then (operate.asking s r).lock else lock_at s.locks key).queue
-      at_lock b e = ap (λ (l : RowLock). waits tx l.queue) (lock-inserted s.locks (work_key r.work) key (operate.asking s r).lock ∙ ap (λ b. if b then (operate.asking s r).lock else lock_at s.locks key) e)
+      at_lock : (b : Bool) → same_key (work_key r.work) key ≡ b
+          → queued (operate.asked_for s r) ≡ waits tx
+          (if b then (operate.asking s r).lock else lock_at s.locks key).queue
+      at_lock b e = ap (λ (l : RowLock). waits tx l.queue)
+          (lock-inserted s.locks (work_key r.work) key (operate.asking s r).lock
+          ∙ ap (λ b. if b then (operate.asking s r).lock else lock_at s.locks key) e)
 
       own_lock : same_key (work_key r.work) key ≡ true → waits tx (lock_at s.locks (work_key r.work)).queue ≡ queued s
       own_lock e = ap (λ k. waits tx (lock_at s.locks k).queue) (same_key-is (work_key r.work) key e)
@@ -188,25 +207,30 @@ module _ (tx : TxId) (key : List ℕ) where
           by true e = at_lock true e ∙ (a.granted is ∙ own_lock e)
           by false e = at_lock false e
 
-      some : (ahead : TxId) → (operate.asking s r).answer ≡ Queued ahead → HasAsked s → (b : Bool) → same_key (work_key r.work) key ≡ b → queued (operate.asked_for s r) ≡ true → 1 ≤ waiting s + one_if (own r)
+      some : (ahead : TxId) → (operate.asking s r).answer ≡ Queued ahead → HasAsked s → (b : Bool)
+          → same_key (work_key r.work) key ≡ b → queued (operate.asked_for s r) ≡ true → 1 ≤ waiting s + one_if (own r)
       some ahead is q true e on = which (queued s) refl (same_tx r.tx tx) refl
         where
           now : (queued s || same_tx r.tx tx) ≡ true
-          now = ap (λ b. b || same_tx r.tx tx) (sym (own_lock e)) ∙ (sym (a.queued ahead is) ∙ (sym (at_lock true e) ∙ on))
+          now = ap (λ b. b || same_tx r.tx tx) (sym (own_lock e))
+              ∙ (sym (a.queued ahead is) ∙ (sym (at_lock true e) ∙ on))
 
           which : (c : Bool) → queued s ≡ c → (d : Bool) → same_tx r.tx tx ≡ d → 1 ≤ waiting s + one_if (own r)
           which true qs d ds = omega (arith, q qs)
-          which false qs true ds = omega (arith, ap one_if (true_and (same_tx r.tx tx) (same_key (work_key r.work) key) ds e))
+          which false qs true ds = omega (arith, ap one_if
+              (true_and (same_tx r.tx tx) (same_key (work_key r.work) key) ds e))
           which false qs false ds = absurd (false≢true (sym (ap (λ b. b || same_tx r.tx tx) qs ∙ ds) ∙ now))
       some ahead is q false e on = omega (arith, q (sym (at_lock false e) ∙ on))
 
       -- this one is in the queue itself
-      before : (ahead : TxId) → (operate.asking s r).answer ≡ Queued ahead → queued (operate.asked_for s r) ≡ false → 1 ≤ tally own (s.waiting ++ r ∷ []) → (1 ≤ waiting s) × (queued s ≡ false)
+      before : (ahead : TxId) → (operate.asking s r).answer ≡ Queued ahead → queued (operate.asked_for s r) ≡ false
+          → 1 ≤ tally own (s.waiting ++ r ∷ []) → (1 ≤ waiting s) × (queued s ≡ false)
       before ahead is off some_now = by (same_key (work_key r.work) key) refl
         where
           by : (b : Bool) → same_key (work_key r.work) key ≡ b → (1 ≤ waiting s) × (queued s ≡ false)
           by false e =
-              (omega (arith, some_now, tally_append own s.waiting (r ∷ []), ap (λ b. one_if (same_tx r.tx tx && b)) e, none (same_tx r.tx tx)), sym (at_lock false e) ∙ off)
+              (omega (arith, some_now, tally_append own s.waiting (r ∷ []), ap
+              (λ b. one_if (same_tx r.tx tx && b)) e, none (same_tx r.tx tx)), sym (at_lock false e) ∙ off)
             where
               none : (b : Bool) → one_if (b && false) ≡ 0
               none true = refl
@@ -214,12 +238,15 @@ module _ (tx : TxId) (key : List ℕ) where
           by true e = parts (queued s) refl (same_tx r.tx tx) refl
             where
               now : (queued s || same_tx r.tx tx) ≡ false
-              now = ap (λ b. b || same_tx r.tx tx) (sym (own_lock e)) ∙ (sym (a.queued ahead is) ∙ (sym (at_lock true e) ∙ off))
+              now = ap (λ b. b || same_tx r.tx tx) (sym (own_lock e))
+                  ∙ (sym (a.queued ahead is) ∙ (sym (at_lock true e) ∙ off))
 
-              parts : (c : Bool) → queued s ≡ c → (d : Bool) → same_tx r.tx tx ≡ d → (1 ≤ waiting s) × (queued s ≡ false)
+              parts : (c : Bool) → queued s ≡ c → (d : Bool) → same_tx r.tx tx ≡ d
+                  → (1 ≤ waiting s) × (queued s ≡ false)
               parts true qs d ds = absurd (false≢true (sym now ∙ ap (λ b. b || same_tx r.tx tx) qs))
               parts false qs true ds = absurd (false≢true (sym now ∙ (ap (λ b. b || same_tx r.tx tx) qs ∙ ds)))
-              parts false qs false ds = (omega (arith, some_now, tally_append own s.waiting (r ∷ []), ap (λ b. one_if (b && same_key (work_key r.work) key)) ds), qs)
+              parts false qs false ds = (omega (arith, some_now, tally_append own s.waiting (r ∷ []), ap
+                  (λ b. one_if (b && same_key (work_key r.work) key)) ds), qs)
 
   -- the signal by which the block goes on
   pub more_one : (node : ℕ) → goes_on node (go_on_if node work.Granted true) ≡ 1
@@ -264,7 +291,8 @@ module _ (tx : TxId) (key : List ℕ) where
   }
     where
       -- who is in the queue isn't the one that is granted
-      stays : {place : ℕ} {r : Request} → IsTakenAt (operate.is_granted s.locks) s.waiting place r → 1 ≤ waiting s → queued s ≡ true
+      stays : {place : ℕ} {r : Request} → IsTakenAt (operate.is_granted s.locks) s.waiting place r → 1 ≤ waiting s
+          → queued s ≡ true
           → (b : Bool) → own r ≡ b → 1 ≤ tally own (remove s.waiting place)
       stays {place} {r} t some on false e =
           omega (arith, some, tally_taken (operate.is_granted s.locks) own s.waiting place r t, ap one_if e)

@@ -1,9 +1,10 @@
 -- A replica is its keys.
-use Rattle.std.proofs.Common.{◌≡◌, ◌==◌, ◌%◌, ℕ, zero, suc, Bool, true, false, cond, List, [], ◌∷◌, filter, refl, sym, ap, ◌∙◌, subst}
+use Rattle.std.proofs.Common.{◌≡◌, ◌%◌, ℕ, zero, suc, Bool, true, false, cond, List, [], ◌∷◌, filter, refl, sym, ap}
+use Rattle.std.proofs.Common.{◌∙◌, subst}
 use Rattle.std.proofs.lemmas.Bool.{false≢true}
 use Rattle.std.specs.Cmp.Lexicographic.{nat_list_cmp_total}
 use Rattle.std.specs.FinMap as map
-use Rattle.std.specs.Prelude.{if◌then◌else◌, Option, None, Some}
+use Rattle.std.specs.Prelude.{if◌then◌else◌, Some}
 use Rattle.run_theory.specs.Lists.{Each}
 use Rattle.sig_core.specs.declared.member.Member.{Member}
 use Rattle.sig_core.specs.declared.member.TxId.{TxId}
@@ -17,7 +18,7 @@ use Rattle.sig_core.specs.declared.signal.Signal.{Signal}
 use Rattle.sig_core.specs.declared.signal.client.ClientSignal.TheVariants.{TcCommitAck, LqhWaitReq, DumpReq}
 use Rattle.sig_core.specs.declared.signal.host.HostSignal.TheVariants.{Round, Continue}
 use Rattle.sig_core.specs.declared.signal.host.Work.TheVariants as work
-use Rattle.sig_core.specs.Rows.{RowsState, complete_record, is_on, no_rows, put_row, record_state, with_place}
+use Rattle.sig_core.specs.Rows.{RowsState, complete_record, is_on, no_rows, put_row, with_place}
 use Rattle.sig_core.specs.declared.rows.PendingRecord.{PendingRecord}
 use Rattle.sig_core.specs.declared.view.Shape.{Shape}
 use Rattle.sig_core.specs.Same.{same_key}
@@ -26,19 +27,16 @@ use Rattle.serial_model.specs.Legal.{rows_over}
 use Rattle.row_locks.specs.OrderlyTables.{AreOrderly}
 use Rattle.row_locks.specs.Tables.{or_unlocked}
 use Rattle.row_locks.proofs.LocksLemmas.{key_cmp}
-use Rattle.row_locks.proofs.TableLawLemmas.{age_round_orderly, empty_orderly, release_orderly, request_orderly, unwait_orderly}
+use Rattle.row_locks.proofs.TableLawLemmas.{age_round_orderly, empty_orderly, release_orderly, request_orderly}
+use Rattle.row_locks.proofs.TableLawLemmas.{unwait_orderly}
 use Rattle.lqh_block.proofs.IndexLemmas.{same as same_key-is}
 use Rattle.lqh_block.specs.declared.request.Request.{Request}
-use Rattle.lqh_block.specs.Abort as abort
-use Rattle.lqh_block.specs.Commit as commit
 use Rattle.lqh_block.specs.Dump as dump
 use Rattle.lqh_block.specs.Expire as expire
 use Rattle.lqh_block.specs.Lqh.{unasked_yet}
 use Rattle.lqh_block.specs.Operate as operate
 use Rattle.lqh_block.specs.State as rows_state
 use Rattle.lqh_block.specs.State.{LqhState, storage_of, unlocked}
-use Rattle.lqh_block.specs.Storage.{StorageState}
-use Rattle.lqh_block.specs.declared.request.Marker.{Marker}
 use Rattle.lqh_block.proofs.LqhForms.{ExpireForms, acknowledge_forms, dump_forms, lqh_forms, wait_forms}
 use Rattle.lqh_block.specs.Wait as wait
 use Rattle.sig_core.specs.Work.{work_key}
@@ -57,28 +55,35 @@ use Rattle.world_core.proofs.HostNumbers.{rows_started}
 use Rattle.world_core.specs.Start.{Start, made}
 use Rattle.key_laws.specs.Placed.{AreApart, IsPlaced, has_place}
 use Rattle.key_laws.specs.Replica.{at_key, key_after}
-use Rattle.host_laws.specs.ReplicaLaws.{KeysHaveRows, LogsFollowEvents, NodesBeginAtRest, event_for, event_in, key_in, IsWell, IsWellHost, KeysBeginAtRest, LogsKeepWell, SignalsAreEvents, SignalsKeepWell}
+use Rattle.host_laws.specs.ReplicaLaws.{KeysHaveRows, LogsFollowEvents, NodesBeginAtRest, event_for, event_in, key_in}
+use Rattle.host_laws.specs.ReplicaLaws.{IsWell, IsWellHost, KeysBeginAtRest, LogsKeepWell, SignalsAreEvents}
+use Rattle.host_laws.specs.ReplicaLaws.{SignalsKeepWell}
 use Rattle.key_laws.proofs.CellsAt.{placed-aborted, placed-committed, placed-completed}
 use Rattle.key_laws.proofs.PerformedAt.{placed-performed}
 use Rattle.key_laws.proofs.KeyAfter.{granted_event, replica_is, request_event}
-use Rattle.key_laws.proofs.KeyEnds.{abort_event, commit_event, committed_rows, complete_event, expire_event, given_up_rows, round_event}
+use Rattle.key_laws.proofs.KeyEnds.{abort_event, commit_event, committed_rows, complete_event, expire_event}
+use Rattle.key_laws.proofs.KeyEnds.{given_up_rows, round_event}
 use Rattle.sig_core.proofs.Keys.{same_key-swap, tied-same_key}
-use Rattle.key_laws.proofs.PlacesAt.{apart-set_row, apart-with_place, has-own_place, row-set_row, row-with_place, row_at, row_of-at}
+use Rattle.key_laws.proofs.PlacesAt.{apart-set_row, apart-with_place, has-own_place, row-set_row, row-with_place}
+use Rattle.key_laws.proofs.PlacesAt.{row_at, row_of-at}
 
 acknowledged_same : (s : LqhState) (tx : TxId) (key : List ℕ) → at_key key (wait.acknowledged s tx) ≡ at_key key s
 acknowledged_same s tx key = acknowledge_forms (λ step. at_key key step.state ≡ at_key key s) s tx (λ markers. refl)
 
 wait_same : (s : LqhState) (tx : TxId) (own key : List ℕ) → at_key key (wait.wait_row s tx own).state ≡ at_key key s
 wait_same s tx own key =
-    wait_forms (λ step. at_key key step.state ≡ at_key key s) s tx own (record { none = λ is. refl; some = λ ahead is. refl })
+    wait_forms (λ step. at_key key step.state ≡ at_key key s) s tx own
+        (record { none = λ is. refl; some = λ ahead is. refl })
 
 dump_same : (s : LqhState) (at : ℕ) (key : List ℕ) → at_key key (dump.dump_row s at).state ≡ at_key key s
 dump_same s at key = dump_forms (λ step. at_key key step.state ≡ at_key key s) s at (λ rows next. refl)
 
 pub signals_are_events : SignalsAreEvents
-signals_are_events s (Chain (LqhKeyReq tx what chain at)) key well = request_event s (record { tx = tx; work = what; chain = chain; at = at }) key
+signals_are_events s (Chain (LqhKeyReq tx what chain at)) key well =
+    request_event s (record { tx = tx; work = what; chain = chain; at = at }) key
 signals_are_events s (Host (Continue work.Granted at)) key well = granted_event s key
-signals_are_events s (Chain (Commit tx own epoch chain at)) key well = commit_event s well.placed tx own epoch chain at key
+signals_are_events s (Chain (Commit tx own epoch chain at)) key well = commit_event s well.placed tx own epoch chain
+    at key
 signals_are_events s (Chain (Complete tx own chain at)) key well = complete_event s well.placed tx own chain at key
 signals_are_events s (Chain (Abort tx own)) key well = abort_event s well.placed tx own key
 signals_are_events s (Client (TcCommitAck tx)) key well = acknowledged_same s tx key
@@ -93,7 +98,8 @@ expire_well : (t : LqhState) → IsWell t → ExpireForms (λ step. IsWell step.
 expire_well t well = record {
   rests = λ is. well;
   none = λ tx key is none. record { placed = well.placed; orderly = unwait_orderly t.locks key tx well.orderly };
-  some = λ tx key is at r there here. record { placed = well.placed; orderly = unwait_orderly t.locks key tx well.orderly };
+  some = λ tx key is at r there here. record { placed = well.placed; orderly =
+      unwait_orderly t.locks key tx well.orderly };
 }
 
 pub signals_keep_well : SignalsKeepWell
@@ -105,7 +111,8 @@ signals_keep_well s body well =
       };
       grants = λ at. record {
         none = λ is. well;
-        some = λ place q is here. record { placed = placed-performed (storage_of s) q well.placed; orderly = well.orderly };
+        some = λ place q is here. record { placed = placed-performed (storage_of s) q well.placed; orderly =
+            well.orderly };
       };
       commits = λ tx key epoch chain at. record {
         last = λ had st markers applies first. record {
@@ -131,7 +138,8 @@ signals_keep_well s body well =
       acknowledges = λ tx markers. record { placed = well.placed; orderly = well.orderly };
       waits = λ tx key. record { none = λ is. well; some = λ ahead is. well };
       dumps = λ at rows next. well;
-      ages = expire_well (expire.aged s) (record { placed = well.placed; orderly = age_round_orderly s.locks well.orderly });
+      ages = expire_well (expire.aged s) (record { placed = well.placed; orderly =
+          age_round_orderly s.locks well.orderly });
       expires = λ at. expire_well s well;
       rests = λ body is. well;
     }) body
@@ -139,17 +147,21 @@ signals_keep_well s body well =
     asked_orderly : (q : Request) → AreOrderly (operate.asked_for s q).locks
     asked_orderly q = request_orderly s.locks (work_key q.work) q.tx (work_mode q.work) well.orderly
 
-    completed : (tx : TxId) (key : List ℕ) → IsWell (unlocked (rows_state.with_rows s (complete_record s.rows tx key)) tx key)
+    completed : (tx : TxId) (key : List ℕ)
+        → IsWell (unlocked (rows_state.with_rows s (complete_record s.rows tx key)) tx key)
     completed tx key = record {
       placed = placed-completed s.rows tx key well.placed;
       orderly = release_orderly s.locks key tx well.orderly;
     }
 
 -- the rows of the start
-put_placed : (s : RowsState) (rows : List (List ℕ × List ℕ)) → AreApart s.places → s.pending ≡ [] → IsPlaced (with_rows s rows)
-put_placed s [] apart none = record { apart = apart; placed = subst (Each (λ (r : PendingRecord). has_place s.places r.key ≡ true)) (sym none) tt }
+put_placed : (s : RowsState) (rows : List (List ℕ × List ℕ)) → AreApart s.places → s.pending ≡ []
+    → IsPlaced (with_rows s rows)
+put_placed s [] apart none = record { apart = apart; placed =
+    subst (Each (λ (r : PendingRecord). has_place s.places r.key ≡ true)) (sym none) tt }
 put_placed s (r ∷ rows) apart none =
-    put_placed (put_row s r.0 r.1) rows (apart-set_row (with_place s.places r.0) r.0 (Some r.1) (apart-with_place s.places r.0 apart)) none
+    put_placed (put_row s r.0 r.1) rows (apart-set_row (with_place s.places r.0) r.0 (Some r.1)
+        (apart-with_place s.places r.0 apart)) none
 
 -- a key of the group has of its rows what it has of all rows
 started_row : (shape : Shape) (node : ℕ) (s : RowsState) (table : Rows) (rows : List (List ℕ × List ℕ)) (key : List ℕ)

@@ -1,7 +1,8 @@
--- What a step of a node's rows does to how many requests wait, and to how many signals it sends that are requests or answers of
+-- What a step of a node's rows does to how many requests wait, and to how many signals it sends that are requests or
+-- answers of
 -- them: for any test of requests, and any of such signals.
 use Rattle.std.proofs.Common.{◌≡◌, ℕ, ◌+◌, List, Bool, true, false, refl, sym, ap, ◌∙◌, arith}
-use Rattle.std.specs.Prelude.{[], ◌∷◌, ◌++◌, ◌-◌, ◌==◌, nat_lt, is_some, position, remove, None, Some, slice_get}
+use Rattle.std.specs.Prelude.{[], ◌∷◌, ◌++◌, ◌-◌, nat_lt, is_some, position, remove, None}
 use Rattle.sig_core.specs.declared.member.Member.{Member}
 use Rattle.sig_core.specs.declared.member.TxId.{TxId}
 use Rattle.sig_core.specs.declared.outcome.AbortCause.{AbortCause}
@@ -9,7 +10,8 @@ use Rattle.sig_core.specs.declared.outcome.AbortCause.TheVariants as cause
 use Rattle.sig_core.specs.declared.outs.Outgoing.{Outgoing}
 use Rattle.sig_core.specs.declared.signal.Body.{Body}
 use Rattle.sig_core.specs.declared.signal.Body.TheVariants.{Client, Chain}
-use Rattle.sig_core.specs.declared.signal.chain.ChainSignal.TheVariants.{LqhKeyReq, LqhKeyConf, LqhKeyRef, Committed, Commit, Aborted}
+use Rattle.sig_core.specs.declared.signal.chain.ChainSignal.TheVariants.{LqhKeyReq, LqhKeyConf, LqhKeyRef, Committed}
+use Rattle.sig_core.specs.declared.signal.chain.ChainSignal.TheVariants.{Commit, Aborted}
 use Rattle.sig_core.specs.declared.signal.client.ClientSignal.TheVariants.{LqhWaitConf, DumpConf}
 use Rattle.sig_core.specs.declared.signal.host.Work as work_kind
 use Rattle.sig_core.specs.declared.signal.host.Work.TheVariants as work
@@ -25,11 +27,13 @@ use Rattle.lqh_block.specs.declared.request.Request.{Request}
 use Rattle.lqh_block.specs.Expire as expire
 use Rattle.lqh_block.specs.Lqh.{lqh_table}
 use Rattle.lqh_block.specs.Operate as operate
-use Rattle.lqh_block.specs.State.{LqhState, freed_lock, go_on, go_on_if, serve_granted, storage_of, with_lock, with_waiting}
+use Rattle.lqh_block.specs.State.{LqhState, freed_lock, go_on, go_on_if, serve_granted, storage_of, with_lock}
+use Rattle.lqh_block.specs.State.{with_waiting}
 use Rattle.lqh_block.specs.Storage as storage
 use Rattle.lqh_block.specs.Storage.{StorageState}
 use Rattle.lqh_block.specs.Work.{is_for}
-use Rattle.lqh_block.proofs.LqhForms.{AbortForms, CommitForms, CompleteForms, ExpireForms, GrantedForms, RequestForms, is_for_rows, lqh_forms}
+use Rattle.lqh_block.proofs.LqhForms.{AbortForms, CommitForms, CompleteForms, ExpireForms, GrantedForms, RequestForms}
+use Rattle.lqh_block.proofs.LqhForms.{is_for_rows, lqh_forms}
 use Rattle.key_laws.proofs.LocksAt.{lock-aged}
 use Rattle.host_laws.proofs.Focus.{taken_at, tally_taken}
 use Rattle.host_laws.proofs.QueueWaits.{expired_queued, waits_aged}
@@ -52,19 +56,25 @@ none_asked : (w : Request → Bool) (body : Body) → is_for_rows body ≡ false
 none_asked w (Chain (LqhKeyReq tx what chain at)) e = absurd cc
 none_asked w _ e = refl
 
--- One request that came or waited is performed, or refused, or a wait ends that has none, or else as many wait as did and came.
-pub data CountStep (w : Request → Bool) (test : Outgoing → Bool) (s : LqhState) (came : ℕ) (step : Step LqhState) : Type 0 where
+-- One request that came or waited is performed, or refused, or a wait ends that has none, or else as many wait as did
+-- and came.
+pub data CountStep (w : Request → Bool) (test : Outgoing → Bool) (s : LqhState) (came : ℕ)
+    (step : Step LqhState) : Type 0 where
   performs : (st : StorageState) (r : Request) → tally w s.waiting + came ≡ tally w step.state.waiting + one_if (w r)
       → tally test step.effects.sends ≡ tally test (storage.perform st r).effects.sends → CountStep w test s came step
   refuses : (tx : TxId) (key : List ℕ) (why : AbortCause) (r : Request) → is_for tx key r ≡ true
       → tally w s.waiting + came ≡ tally w step.state.waiting + one_if (w r)
       → tally test step.effects.sends ≡ one_if (test (storage.refusal tx key why)) → CountStep w test s came step
-  ends : (tx : TxId) (key : List ℕ) → waits tx (lock_at s.locks key).queue ≡ true → position (is_for tx key) s.waiting ≡ None
+  ends : (tx : TxId) (key : List ℕ) → waits tx (lock_at s.locks key).queue ≡ true
+      → position (is_for tx key) s.waiting ≡ None
       → tally w s.waiting + came ≡ tally w step.state.waiting
-      → tally test step.effects.sends ≡ one_if (test (storage.refusal tx key cause.Timeout)) → CountStep w test s came step
-  rests : tally w s.waiting + came ≡ tally w step.state.waiting → tally test step.effects.sends ≡ 0 → CountStep w test s came step
+      → tally test step.effects.sends ≡ one_if (test (storage.refusal tx key cause.Timeout))
+      → CountStep w test s came step
+  rests : tally w s.waiting + came ≡ tally w step.state.waiting → tally test step.effects.sends ≡ 0
+      → CountStep w test s came step
 
-module _ (w : Request → Bool) (test : Outgoing → Bool) (are_work : (o : Outgoing) → is_work o.body ≡ false → test o ≡ false) where
+module _ (w : Request → Bool) (test : Outgoing → Bool)
+    (are_work : (o : Outgoing) → is_work o.body ≡ false → test o ≡ false) where
   abbrev Counts : LqhState → ℕ → Step LqhState → Type 0
   Counts s came step = CountStep w test s came step
 
@@ -90,7 +100,8 @@ module _ (w : Request → Bool) (test : Outgoing → Bool) (are_work : (o : Outg
     some = λ at r is here.
         let left = with_waiting s (remove s.waiting at) in
         performs (storage_of s) r
-        (omega (arith, tally_taken (operate.is_granted s.locks) w s.waiting at r (taken_at (operate.is_granted s.locks) s.waiting at r is here)))
+        (omega (arith, tally_taken (operate.is_granted s.locks) w s.waiting at r
+        (taken_at (operate.is_granted s.locks) s.waiting at r is here)))
         (omega (
           arith,
           tally_append test (operate.performed left r).effects.sends (operate.more_granted left),
@@ -103,20 +114,25 @@ module _ (w : Request → Bool) (test : Outgoing → Bool) (are_work : (o : Outg
   commits s tx key epoch chain at = record {
     last = λ had st markers applies first.
         rests (omega arith)
-        (omega (arith, none (to_place (coordinator_of tx) (Chain (Committed tx key))) refl, served_none s.node (freed_lock s tx key)));
+        (omega (arith, none (to_place (coordinator_of tx) (Chain (Committed tx key))) refl, served_none s.node
+        (freed_lock s tx key)));
     passes = λ had st markers applies first.
         rests (omega arith)
-        (omega (arith, none (to_place (rows_of (node_at chain (at - 1))) (Chain (Commit tx key epoch chain (at - 1)))) refl));
+        (omega (arith, none (to_place (rows_of (node_at chain (at - 1))) (Chain (Commit tx key epoch chain (at - 1))))
+        refl));
   }
 
-  completes : (s : LqhState) (tx : TxId) (key : List ℕ) (chain : List Member) (at : ℕ) → CompleteForms (Counts s 0) s tx key chain at
+  completes : (s : LqhState) (tx : TxId) (key : List ℕ) (chain : List Member) (at : ℕ)
+      → CompleteForms (Counts s 0) s tx key chain at
   completes s tx key chain at = record {
     last = λ first.
         rests (omega arith)
-        (omega (arith, none (complete.completed_by tx key chain at true) refl, served_none s.node (freed_lock s tx key)));
+        (omega (arith, none (complete.completed_by tx key chain at true) refl, served_none s.node
+        (freed_lock s tx key)));
     passes = λ first.
         rests (omega arith)
-        (omega (arith, none (complete.completed_by tx key chain at false) refl, served_none s.node (freed_lock s tx key)));
+        (omega (arith, none (complete.completed_by tx key chain at false) refl, served_none s.node
+        (freed_lock s tx key)));
   }
 
   aborts : (s : LqhState) (tx : TxId) (key : List ℕ) → AbortForms (Counts s 0) s tx key
@@ -124,20 +140,25 @@ module _ (w : Request → Bool) (test : Outgoing → Bool) (are_work : (o : Outg
     none = λ had st gives is. rests (omega arith) others;
     some = λ had st gives at r is here.
         let t = taken_at (is_for tx key) s.waiting at r is here in
-        refuses tx key cause.Request r t.passes (omega (arith, tally_taken (is_for tx key) w s.waiting at r t)) (omega (arith, others));
+        refuses tx key cause.Request r t.passes (omega (arith, tally_taken (is_for tx key) w s.waiting at r t))
+            (omega (arith, others));
   }
     where
-      others : tally test (to_place (coordinator_of tx) (Chain (Aborted tx key)) ∷ serve_granted s.node (freed_lock s tx key)) ≡ 0
-      others = omega (arith, none (to_place (coordinator_of tx) (Chain (Aborted tx key))) refl, served_none s.node (freed_lock s tx key))
+      others : tally test (to_place (coordinator_of tx) (Chain (Aborted tx key)) ∷ serve_granted s.node
+          (freed_lock s tx key)) ≡ 0
+      others = omega (arith, none (to_place (coordinator_of tx) (Chain (Aborted tx key))) refl, served_none s.node
+          (freed_lock s tx key))
 
   -- also where the locks are a round older
   expires : (s t : LqhState) → t.waiting ≡ s.waiting
-      → ((tx : TxId) (key : List ℕ) → waits tx (lock_at t.locks key).queue ≡ true → waits tx (lock_at s.locks key).queue ≡ true)
+      → ((tx : TxId) (key : List ℕ) → waits tx (lock_at t.locks key).queue ≡ true
+      → waits tx (lock_at s.locks key).queue ≡ true)
       → ExpireForms (Counts s 0) t
   expires s t same as_long = record {
     rests = λ is. rests (omega (arith, ap (tally w) same)) refl;
     none = λ tx key is gone.
-        ends tx key (as_long tx key (expired_queued t.locks tx key is)) (ap (position (is_for tx key)) (sym same) ∙ gone)
+        ends tx key (as_long tx key (expired_queued t.locks tx key is))
+            (ap (position (is_for tx key)) (sym same) ∙ gone)
         (omega (arith, ap (tally w) same)) (others tx key);
     some = λ tx key is at r there here.
         let taken = taken_at (is_for tx key) t.waiting at r there here in
@@ -147,7 +168,8 @@ module _ (w : Request → Bool) (test : Outgoing → Bool) (are_work : (o : Outg
     where
       others : (tx : TxId) (key : List ℕ)
           → tally test (storage.refusal tx key cause.Timeout
-          ∷ (serve_granted t.node (unwaited_at t.locks key tx) ++ expire.more_expired (with_lock t key (unwaited_at t.locks key tx))))
+          ∷ (serve_granted t.node (unwaited_at t.locks key tx) ++ expire.more_expired
+              (with_lock t key (unwaited_at t.locks key tx))))
           ≡ one_if (test (storage.refusal tx key cause.Timeout))
       others tx key =
           let served = unwaited_at t.locks key tx in
@@ -169,11 +191,14 @@ module _ (w : Request → Bool) (test : Outgoing → Bool) (are_work : (o : Outg
         acknowledges = λ tx markers. rests (omega arith) refl;
         waits = λ tx key. record {
           none = λ is. rests (omega arith) refl;
-          some = λ ahead is. rests (omega arith) (omega (arith, none (to_place (coordinator_of tx) (Client (LqhWaitConf tx ahead))) refl));
+          some = λ ahead is. rests (omega arith)
+              (omega (arith, none (to_place (coordinator_of tx) (Client (LqhWaitConf tx ahead))) refl));
         };
-        dumps = λ at rows next. rests (omega arith) (omega (arith, none (to_place client (Client (DumpConf rows next))) refl));
+        dumps = λ at rows next. rests (omega arith)
+            (omega (arith, none (to_place client (Client (DumpConf rows next))) refl));
         ages = expires s (expire.aged s) refl (λ tx key is.
-            sym (waits_aged tx (lock_at s.locks key).queue) ∙ (ap (λ (l : RowLock). waits tx l.queue) (sym (lock-aged s.locks key)) ∙ is));
+            sym (waits_aged tx (lock_at s.locks key).queue)
+                ∙ (ap (λ (l : RowLock). waits tx l.queue) (sym (lock-aged s.locks key)) ∙ is));
         expires = λ at. expires s s refl (λ tx key is. is);
         rests = λ body is. rests (omega (arith, none_asked w body is)) refl;
       })

@@ -1,5 +1,6 @@
--- What holds of each request that waits at a node, and of each that comes, holds of all that wait after a step of its rows.
-use Rattle.std.proofs.Common.{◌≡◌, List, [], ◌∷◌, refl}
+-- What holds of each request that waits at a node, and of each that comes, holds of all that wait after a step of its
+-- rows.
+use Rattle.std.proofs.Common.{◌≡◌, [], ◌∷◌, refl}
 use Rattle.run_theory.specs.Lists.{Each}
 use Rattle.run_theory.proofs.EachSent.{each_removed}
 use Rattle.run_theory.proofs.Pasts.{each_append}
@@ -26,7 +27,8 @@ module _ (P : Request → Type 0) where
       queued = λ ahead is own. each_append P s.waiting (r ∷ []) all (own r refl, tt);
     };
     grants = λ at. record { none = λ is own. all; some = λ place r is here own. each_removed P s.waiting place all };
-    commits = λ tx key epoch chain at. record { last = λ had st markers applies first own. all; passes = λ had st markers applies first own. all };
+    commits = λ tx key epoch chain at. record { last = λ had st markers applies first own. all; passes =
+        λ had st markers applies first own. all };
     completes = λ tx key chain at. record { last = λ first own. all; passes = λ first own. all };
     aborts = λ tx key. record {
       none = λ had st gives none own. all;
@@ -49,6 +51,8 @@ module _ (P : Request → Type 0) where
   }
 
   -- whatever the rows take
-  pub waiting_each : (s : LqhState) (body : Body) → ((r : Request) → body ≡ Chain (LqhKeyReq r.tx r.work r.chain r.at) → P r)
+  pub waiting_each : (s : LqhState) (body : Body)
+      → ((r : Request) → body ≡ Chain (LqhKeyReq r.tx r.work r.chain r.at) → P r)
       → AreWaiting s → AreWaiting (lqh_table s body).state
-  waiting_each s body own all = lqh_forms (λ body step. Comes body → AreWaiting step.state) s (waiting_forms s all) body own
+  waiting_each s body own all = lqh_forms (λ body step. Comes body → AreWaiting step.state) s
+      (waiting_forms s all) body own

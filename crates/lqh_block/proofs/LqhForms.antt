@@ -1,6 +1,7 @@
--- The forms of the steps of a node's rows, each with what it tests. What is so of each form is so of every step, and so no law
+-- The forms of the steps of a node's rows, each with what it tests. What is so of each form is so of every step, and so
+-- no law
 -- above has to open a row.
-use Rattle.std.proofs.Common.{◌≡◌, ◌==◌, ℕ, List, [], ◌∷◌, ◌++◌, Bool, true, false, refl, sym, subst, ap, ◌∙◌}
+use Rattle.std.proofs.Common.{◌≡◌, ◌==◌, ℕ, List, [], ◌∷◌, ◌++◌, Bool, true, false, refl, sym, subst}
 use Rattle.std.specs.Prelude.{◌+◌, ◌-◌, is_some, position, remove, Option, None, Some, slice_get}
 use Rattle.sig_core.specs.declared.mark.Mark.TheVariants as mark
 use Rattle.sig_core.specs.declared.member.Member.{Member}
@@ -15,7 +16,8 @@ use Rattle.sig_core.specs.declared.signal.Body.TheVariants.{Host, Client, Chain}
 use Rattle.sig_core.specs.declared.signal.chain.ChainSignal.TheVariants.{LqhKeyReq, Commit, Complete, Abort, Aborted}
 use Rattle.sig_core.specs.declared.signal.chain.RowWork.{RowWork}
 use Rattle.sig_core.specs.declared.signal.chain.RowWork.TheVariants.{Operate, Store}
-use Rattle.sig_core.specs.declared.signal.client.ClientSignal.TheVariants.{TcCommitAck, LqhWaitReq, LqhWaitConf, DumpReq, DumpConf}
+use Rattle.sig_core.specs.declared.signal.client.ClientSignal.TheVariants.{TcCommitAck, LqhWaitReq, LqhWaitConf}
+use Rattle.sig_core.specs.declared.signal.client.ClientSignal.TheVariants.{DumpReq, DumpConf}
 use Rattle.sig_core.specs.declared.signal.host.HostSignal.TheVariants.{Round, Continue}
 use Rattle.sig_core.specs.declared.signal.host.Work.TheVariants as work
 use Rattle.sig_core.specs.Op.{answer_to, image_of, key_of}
@@ -38,7 +40,8 @@ use Rattle.lqh_block.specs.Dump as dump
 use Rattle.lqh_block.specs.Expire as expire
 use Rattle.lqh_block.specs.Lqh.{lqh_table}
 use Rattle.lqh_block.specs.Operate as operate
-use Rattle.lqh_block.specs.State.{LqhState, freed_lock, serve_granted, storage_of, unlocked, with_lock, with_markers, with_rows, with_storage, with_waiting}
+use Rattle.lqh_block.specs.State.{LqhState, freed_lock, serve_granted, storage_of, unlocked, with_lock, with_markers}
+use Rattle.lqh_block.specs.State.{with_rows, with_storage, with_waiting}
 use Rattle.lqh_block.specs.Storage as storage
 use Rattle.lqh_block.specs.Storage.{StorageState}
 use Rattle.lqh_block.specs.Wait as wait
@@ -51,12 +54,14 @@ saying s o = record { state = s; effects = record { sends = o ∷ []; marks = []
 -- an image is prepared and marked, and one signal sent
 abbrev pub preparing : StorageState → TxId → List ℕ → Option (List ℕ) → Outgoing → Step StorageState
 preparing s tx key image o =
-    record { state = storage.prepared_in s tx key image; effects = record { sends = o ∷ []; marks = mark.Prepared tx key ∷ [] } }
+    record { state = storage.prepared_in s tx key image; effects =
+        record { sends = o ∷ []; marks = mark.Prepared tx key ∷ [] } }
 
 -- a request that is performed
 pub record PerformForms (Q : Step StorageState → Type 0) (s : StorageState) (r : Request) : Type 0 where
   -- its image has no room in the journal, or none among the rows
-  pub log_full : (used reserved need : ℕ) → Q (saying s (storage.refusal r.tx (work_key r.work) (cause.LogFull used reserved need)))
+  pub log_full : (used reserved need : ℕ)
+      → Q (saying s (storage.refusal r.tx (work_key r.work) (cause.LogFull used reserved need)))
   pub table_full : (rows : ℕ) → Q (saying s (storage.refusal r.tx (work_key r.work) (cause.TableFull rows)))
   -- its operation reads, or fails
   pub answers : (a : Answer) → Q (saying s (storage.confirmed r.tx (work_key r.work) a))
@@ -69,20 +74,27 @@ pub record PerformForms (Q : Step StorageState → Type 0) (s : StorageState) (r
 
 module _ (Q : Step StorageState → Type 0) (s : StorageState) (r : Request) (forms : PerformForms Q s r) where
   -- an image of this key goes on
-  passed : (key : List ℕ) (image : Option (List ℕ)) → work_key r.work ≡ key → (next : Option Member) → slice_get r.chain (r.at + 1) ≡ next
+  passed : (key : List ℕ) (image : Option (List ℕ)) → work_key r.work ≡ key → (next : Option Member)
+      → slice_get r.chain (r.at + 1) ≡ next
       → Q (preparing s r.tx key image (storage.passed_to r.tx key image r.chain r.at next))
-  passed key image is None last = subst (λ k. Q (preparing s r.tx k image (storage.confirmed r.tx k answer.Done))) is (forms.ends image last)
+  passed key image is None last = subst (λ k. Q (preparing s r.tx k image (storage.confirmed r.tx k answer.Done))) is
+      (forms.ends image last)
   passed key image is (Some next) there =
-      subst (λ k. Q (preparing s r.tx k image (to_place (rows_of next.node) (Chain (LqhKeyReq r.tx (Store k image) r.chain (r.at + 1)))))) is
+      subst (λ k. Q (preparing s r.tx k image
+          (to_place (rows_of next.node) (Chain (LqhKeyReq r.tx (Store k image) r.chain (r.at + 1)))))) is
       (forms.passes image next there)
 
-  stored : (key : List ℕ) (image : Option (List ℕ)) → work_key r.work ≡ key → Q (storage.store_row s r.tx key image r.chain r.at)
+  stored : (key : List ℕ) (image : Option (List ℕ)) → work_key r.work ≡ key
+      → Q (storage.store_row s r.tx key image r.chain r.at)
   unfolding storage.store_row
   stored key image is = by (storage.is_log_full s.journal (storage.need_of r.tx key image)) (is_full s.rows key)
     where
       by : (log full : Bool) → Q (storage.store_if s r.tx key image r.chain r.at log full)
-      by true full = subst (λ k. Q (saying s (storage.refusal r.tx k (cause.LogFull s.journal.used s.journal.reserved (storage.need_of r.tx key image))))) is (forms.log_full _ _ _)
-      by false true = subst (λ k. Q (saying s (storage.refusal r.tx k (cause.TableFull (taken s.rows.places))))) is (forms.table_full _)
+      by true full = subst (λ k. Q (saying s
+          (storage.refusal r.tx k (cause.LogFull s.journal.used s.journal.reserved (storage.need_of r.tx key image)))))
+          is (forms.log_full _ _ _)
+      by false true = subst (λ k. Q (saying s (storage.refusal r.tx k (cause.TableFull (taken s.rows.places))))) is
+          (forms.table_full _)
       by false false = passed key image is (slice_get r.chain (r.at + 1)) refl
 
   told : (key : List ℕ) (a : Answer) → work_key r.work ≡ key → Q (saying s (storage.confirmed r.tx key a))
@@ -116,21 +128,27 @@ pub record GrantedForms (Q : Step LqhState → Type 0) (s : LqhState) : Type 0 w
   -- none is granted
   pub none : operate.first_granted s.locks s.waiting ≡ None → Q (stay s)
   -- the first that is granted is performed
-  pub some : (at : ℕ) (r : Request) → operate.first_granted s.locks s.waiting ≡ Some at → slice_get s.waiting at ≡ Some r
+  pub some : (at : ℕ) (r : Request) → operate.first_granted s.locks s.waiting ≡ Some at
+      → slice_get s.waiting at ≡ Some r
       → Q (operate.granted_on (with_waiting s (remove s.waiting at)) r)
 
--- The rows, the journal and the markers once a record is committed that was so (Some true), was prepared (Some false) or isn't there.
-pub record Applies (s : LqhState) (tx : TxId) (key : List ℕ) (epoch : ℕ) (had : Option Bool) (st : StorageState) (markers : List Marker) : Type 0 where
+-- The rows, the journal and the markers once a record is committed that was so (Some true), was prepared (Some false)
+-- or isn't there.
+pub record Applies (s : LqhState) (tx : TxId) (key : List ℕ) (epoch : ℕ) (had : Option Bool) (st : StorageState)
+    (markers : List Marker) : Type 0 where
   pub had_is : record_state s.rows tx key ≡ had
   pub is : with_markers (with_storage s st) markers ≡ commit.applied s tx key epoch had
 
 -- a commit, at a place of its chain
-pub record CommitForms (Q : Step LqhState → Type 0) (s : LqhState) (tx : TxId) (key : List ℕ) (epoch : ℕ) (chain : List Member) (at : ℕ) : Type 0 where
+pub record CommitForms (Q : Step LqhState → Type 0) (s : LqhState) (tx : TxId) (key : List ℕ) (epoch : ℕ)
+    (chain : List Member) (at : ℕ) : Type 0 where
   -- at the primary, which lets go of the lock
-  pub last : (had : Option Bool) (st : StorageState) (markers : List Marker) → Applies s tx key epoch had st markers → (at == 0) ≡ true
+  pub last : (had : Option Bool) (st : StorageState) (markers : List Marker) → Applies s tx key epoch had st markers
+      → (at == 0) ≡ true
       → Q (commit.told_if (with_markers (with_storage s st) markers) tx key epoch chain at had true)
   -- at a backup, which passes it on
-  pub passes : (had : Option Bool) (st : StorageState) (markers : List Marker) → Applies s tx key epoch had st markers → (at == 0) ≡ false
+  pub passes : (had : Option Bool) (st : StorageState) (markers : List Marker) → Applies s tx key epoch had st markers
+      → (at == 0) ≡ false
       → Q (commit.told_if (with_markers (with_storage s st) markers) tx key epoch chain at had false)
 
 -- the step of a completion, with the signal that tells it
@@ -142,27 +160,32 @@ completing s tx key o =
     }
 
 -- a completion, at a place of its chain
-pub record CompleteForms (Q : Step LqhState → Type 0) (s : LqhState) (tx : TxId) (key : List ℕ) (chain : List Member) (at : ℕ) : Type 0 where
+pub record CompleteForms (Q : Step LqhState → Type 0) (s : LqhState) (tx : TxId) (key : List ℕ) (chain : List Member)
+    (at : ℕ) : Type 0 where
   -- at the primary
   pub last : (at == 0) ≡ true → Q (completing s tx key (complete.completed_by tx key chain at true))
   -- at a backup, which passes it on
   pub passes : (at == 0) ≡ false → Q (completing s tx key (complete.completed_by tx key chain at false))
 
 -- the step of an abort, with the requests that still wait, the rows and the journal, and a refusal if one waited
-abbrev pub aborting : LqhState → TxId → List ℕ → List Request → StorageState → Option Bool → List Outgoing → Step LqhState
+abbrev pub aborting : LqhState → TxId → List ℕ → List Request → StorageState → Option Bool → List Outgoing
+    → Step LqhState
 aborting s tx key waiting st had refused =
     record {
       state = unlocked (with_storage (with_waiting s waiting) st) tx key;
       effects = record {
-        sends = refused ++ (to_place (coordinator_of tx) (Chain (Aborted tx key)) ∷ serve_granted s.node (freed_lock s tx key));
+        sends = refused ++ (to_place (coordinator_of tx) (Chain (Aborted tx key)) ∷ serve_granted s.node
+            (freed_lock s tx key));
         marks = abort.given_up_marks tx key had;
       };
     }
 
--- The rows and the journal once a record is given up that was committed (Some true), was prepared (Some false) or isn't there.
+-- The rows and the journal once a record is given up that was committed (Some true), was prepared (Some false) or isn't
+-- there.
 pub record GivesUp (s : LqhState) (tx : TxId) (key : List ℕ) (had : Option Bool) (st : StorageState) : Type 0 where
   pub had_is : record_state s.rows tx key ≡ had
-  pub is : (waiting : List Request) → with_storage (with_waiting s waiting) st ≡ abort.given_up (with_waiting s waiting) tx key had
+  pub is : (waiting : List Request) → with_storage (with_waiting s waiting) st
+      ≡ abort.given_up (with_waiting s waiting) tx key had
 
 -- an abort
 pub record AbortForms (Q : Step LqhState → Type 0) (s : LqhState) (tx : TxId) (key : List ℕ) : Type 0 where
@@ -170,7 +193,8 @@ pub record AbortForms (Q : Step LqhState → Type 0) (s : LqhState) (tx : TxId) 
   pub none : (had : Option Bool) (st : StorageState) → GivesUp s tx key had st → abort.waits_at s tx key ≡ None
       → Q (aborting s tx key s.waiting st had [])
   -- one does, and is refused
-  pub some : (had : Option Bool) (st : StorageState) → GivesUp s tx key had st → (at : ℕ) (r : Request) → abort.waits_at s tx key ≡ Some at
+  pub some : (had : Option Bool) (st : StorageState) → GivesUp s tx key had st → (at : ℕ) (r : Request)
+      → abort.waits_at s tx key ≡ Some at
       → slice_get s.waiting at ≡ Some r
       → Q (aborting s tx key (remove s.waiting at) st had (storage.refusal tx key cause.Request ∷ []))
 
@@ -180,7 +204,8 @@ expiring s tx key served waiting =
     record {
       state = with_waiting (with_lock s key served) waiting;
       effects = record {
-        sends = storage.refusal tx key cause.Timeout ∷ (serve_granted s.node served ++ expire.more_expired (with_lock s key served));
+        sends = storage.refusal tx key cause.Timeout
+            ∷ (serve_granted s.node served ++ expire.more_expired (with_lock s key served));
         marks = mark.Expired tx key ∷ [];
       };
     }
@@ -193,7 +218,8 @@ pub record ExpireForms (Q : Step LqhState → Type 0) (s : LqhState) : Type 0 wh
   pub none : (tx : TxId) (key : List ℕ) → expired s.locks ≡ Some (tx, key) → abort.waits_at s tx key ≡ None
       → Q (expiring s tx key (unwaited_at s.locks key tx) s.waiting)
   -- it has one, which goes
-  pub some : (tx : TxId) (key : List ℕ) → expired s.locks ≡ Some (tx, key) → (at : ℕ) (r : Request) → abort.waits_at s tx key ≡ Some at
+  pub some : (tx : TxId) (key : List ℕ) → expired s.locks ≡ Some (tx, key) → (at : ℕ) (r : Request)
+      → abort.waits_at s tx key ≡ Some at
       → slice_get s.waiting at ≡ Some r → Q (expiring s tx key (unwaited_at s.locks key tx) (remove s.waiting at))
 
 -- a coordinator asks what its transaction waits for
@@ -201,7 +227,8 @@ pub record WaitForms (Q : Step LqhState → Type 0) (s : LqhState) (tx : TxId) (
   -- it waits for nobody
   pub none : ahead_at s.locks key tx ≡ None → Q (stay s)
   -- for this one
-  pub some : (ahead : TxId) → ahead_at s.locks key tx ≡ Some ahead → Q (sending s (coordinator_of tx) (Client (LqhWaitConf tx ahead)))
+  pub some : (ahead : TxId) → ahead_at s.locks key tx ≡ Some ahead
+      → Q (sending s (coordinator_of tx) (Client (LqhWaitConf tx ahead)))
 
 -- an item stands where a list has a place of one that passes
 abbrev IsPlace : {A : Type 0} → List A → Option ℕ → Type 0
@@ -228,30 +255,37 @@ module _ (Q : Step LqhState → Type 0) (s : LqhState) where
 
   pub granted_forms : GrantedForms Q s → Q (operate.granted_row s)
   unfolding operate.granted_row
-  granted_forms forms = by (operate.first_granted s.locks s.waiting) refl (placed (operate.is_granted s.locks) s.waiting)
+  granted_forms forms = by (operate.first_granted s.locks s.waiting) refl
+      (placed (operate.is_granted s.locks) s.waiting)
     where
-      value : (at : ℕ) → operate.first_granted s.locks s.waiting ≡ Some at → (r : Option Request) → slice_get s.waiting at ≡ r → is_some r ≡ true
+      value : (at : ℕ) → operate.first_granted s.locks s.waiting ≡ Some at → (r : Option Request)
+          → slice_get s.waiting at ≡ r → is_some r ≡ true
           → Q (operate.granted_value s at r)
       value at is None here there = absurd cc
       value at is (Some r) here there = forms.some at r is here
 
-      by : (at : Option ℕ) → operate.first_granted s.locks s.waiting ≡ at → IsPlace s.waiting at → Q (operate.granted_by s at)
+      by : (at : Option ℕ) → operate.first_granted s.locks s.waiting ≡ at → IsPlace s.waiting at
+          → Q (operate.granted_by s at)
       by None is there = forms.none is
       by (Some at) is there = value at is (slice_get s.waiting at) refl there
 
-  pub commit_forms : (tx : TxId) (key : List ℕ) (epoch : ℕ) (chain : List Member) (at : ℕ) → CommitForms Q s tx key epoch chain at
+  pub commit_forms : (tx : TxId) (key : List ℕ) (epoch : ℕ) (chain : List Member) (at : ℕ)
+      → CommitForms Q s tx key epoch chain at
       → Q (commit.commit_row s tx key epoch chain at)
   unfolding commit.commit_row
   commit_forms tx key epoch chain at forms = by (record_state s.rows tx key) refl
     where
-      told : (had : Option Bool) (st : StorageState) (markers : List Marker) → Applies s tx key epoch had st markers → (b : Bool) → (at == 0) ≡ b
+      told : (had : Option Bool) (st : StorageState) (markers : List Marker) → Applies s tx key epoch had st markers
+          → (b : Bool) → (at == 0) ≡ b
           → Q (commit.told_if (with_markers (with_storage s st) markers) tx key epoch chain at had b)
       told had st markers applies true first = forms.last had st markers applies first
       told had st markers applies false first = forms.passes had st markers applies first
 
-      by : (had : Option Bool) → record_state s.rows tx key ≡ had → Q (commit.told (commit.applied s tx key epoch had) tx key epoch chain at had)
+      by : (had : Option Bool) → record_state s.rows tx key ≡ had
+          → Q (commit.told (commit.applied s tx key epoch had) tx key epoch chain at had)
       by None there = told None (storage_of s) s.markers (record { had_is = there; is = refl }) (at == 0) refl
-      by (Some true) there = told (Some true) (storage_of s) s.markers (record { had_is = there; is = refl }) (at == 0) refl
+      by (Some true) there = told (Some true) (storage_of s) s.markers (record { had_is = there; is = refl })
+          (at == 0) refl
       by (Some false) there =
           told (Some false) (storage.committed_in (storage_of s) tx key epoch) (commit.marked s.markers tx key)
           (record { had_is = there; is = refl }) (at == 0) refl
@@ -266,7 +300,8 @@ module _ (Q : Step LqhState → Type 0) (s : LqhState) where
       by false first = forms.passes first
 
   -- a request that stands at the first place of the transaction's for the key
-  waiter : (tx : TxId) (key : List ℕ) (at : ℕ) → abort.waits_at s tx key ≡ Some at → is_some (slice_get s.waiting at) ≡ true
+  waiter : (tx : TxId) (key : List ℕ) (at : ℕ) → abort.waits_at s tx key ≡ Some at
+      → is_some (slice_get s.waiting at) ≡ true
   waiter tx key at is = subst (IsPlace s.waiting) is (placed (is_for tx key) s.waiting)
 
   pub abort_forms : (tx : TxId) (key : List ℕ) → AbortForms Q s tx key → Q (abort.abort_row s tx key)
@@ -279,18 +314,22 @@ module _ (Q : Step LqhState → Type 0) (s : LqhState) where
           record {
             state = unlocked (abort.given_up (abort.unasked_by s at) tx key had) tx key;
             effects = record {
-              sends = abort.refused_by tx key at ++ (to_place (coordinator_of tx) (Chain (Aborted tx key)) ∷ serve_granted s.node (freed_lock s tx key));
+              sends = abort.refused_by tx key at ++
+                  (to_place (coordinator_of tx) (Chain (Aborted tx key)) ∷ serve_granted s.node (freed_lock s tx key));
               marks = abort.given_up_marks tx key had;
             };
           }
 
       none : abort.waits_at s tx key ≡ None → (had : Option Bool) → record_state s.rows tx key ≡ had → Q (Does None had)
       none is None there = forms.none None (storage_of s) (record { had_is = there; is = λ waiting. refl }) is
-      none is (Some true) there = forms.none (Some true) (storage_of s) (record { had_is = there; is = λ waiting. refl }) is
+      none is (Some true) there = forms.none (Some true) (storage_of s)
+          (record { had_is = there; is = λ waiting. refl }) is
       none is (Some false) there =
-          forms.none (Some false) (storage.aborted_in (storage_of s) tx key) (record { had_is = there; is = λ waiting. refl }) is
+          forms.none (Some false) (storage.aborted_in (storage_of s) tx key)
+              (record { had_is = there; is = λ waiting. refl }) is
 
-      some : (at : ℕ) → abort.waits_at s tx key ≡ Some at → (r : Option Request) → slice_get s.waiting at ≡ r → is_some r ≡ true
+      some : (at : ℕ) → abort.waits_at s tx key ≡ Some at → (r : Option Request) → slice_get s.waiting at ≡ r
+          → is_some r ≡ true
           → (had : Option Bool) → record_state s.rows tx key ≡ had → Q (Does (Some at) had)
       some at is None here there had had_is = absurd cc
       some at is (Some r) here there None had_is =
@@ -298,7 +337,8 @@ module _ (Q : Step LqhState → Type 0) (s : LqhState) where
       some at is (Some r) here there (Some true) had_is =
           forms.some (Some true) (storage_of s) (record { had_is = had_is; is = λ waiting. refl }) at r is here
       some at is (Some r) here there (Some false) had_is =
-          forms.some (Some false) (storage.aborted_in (storage_of s) tx key) (record { had_is = had_is; is = λ waiting. refl }) at r is here
+          forms.some (Some false) (storage.aborted_in (storage_of s) tx key)
+              (record { had_is = had_is; is = λ waiting. refl }) at r is here
 
       by : (at : Option ℕ) → abort.waits_at s tx key ≡ at → Q (Does at (record_state s.rows tx key))
       by None is = none is (record_state s.rows tx key) refl
@@ -315,12 +355,14 @@ module _ (Q : Step LqhState → Type 0) (s : LqhState) where
           record {
             state = abort.unasked_by (with_lock s key served) at;
             effects = record {
-              sends = storage.refusal tx key cause.Timeout ∷ (serve_granted s.node served ++ expire.more_expired (with_lock s key served));
+              sends = storage.refusal tx key cause.Timeout
+                  ∷ (serve_granted s.node served ++ expire.more_expired (with_lock s key served));
               marks = mark.Expired tx key ∷ [];
             };
           }
 
-      one : (tx : TxId) (key : List ℕ) → expired s.locks ≡ Some (tx, key) → (at : Option ℕ) → abort.waits_at s tx key ≡ at → Q (Does tx key at)
+      one : (tx : TxId) (key : List ℕ) → expired s.locks ≡ Some (tx, key) → (at : Option ℕ)
+          → abort.waits_at s tx key ≡ at → Q (Does tx key at)
       one tx key first None is = forms.none tx key first is
       one tx key first (Some at) is = value (slice_get s.waiting at) refl (waiter tx key at is)
         where
@@ -341,13 +383,15 @@ module _ (Q : Step LqhState → Type 0) (s : LqhState) where
       by (Some ahead) is = forms.some ahead is
 
   -- rows are asked for: some are told, and where the next ones are
-  pub dump_forms : (at : ℕ) → ((rows : List (List ℕ × List ℕ)) (next : Option ℕ) → Q (sending s client (Client (DumpConf rows next))))
+  pub dump_forms : (at : ℕ) → ((rows : List (List ℕ × List ℕ)) (next : Option ℕ)
+      → Q (sending s client (Client (DumpConf rows next))))
       → Q (dump.dump_row s at)
   unfolding dump.dump_row
   dump_forms at told = told _ _
 
   -- markers go
-  pub acknowledge_forms : (tx : TxId) → ((markers : List Marker) → Q (stay (with_markers s markers))) → Q (stay (wait.acknowledged s tx))
+  pub acknowledge_forms : (tx : TxId) → ((markers : List Marker) → Q (stay (with_markers s markers)))
+      → Q (stay (wait.acknowledged s tx))
   unfolding wait.acknowledged
   acknowledge_forms tx left = left _
 
@@ -385,19 +429,25 @@ pub record LqhForms (Q : Body → Step LqhState → Type 0) (s : LqhState) : Typ
   pub rests : (body : Body) → is_for_rows body ≡ false → Q body (stay s)
 
 -- whatever the rows take
-pub lqh_forms : (Q : Body → Step LqhState → Type 0) (s : LqhState) → LqhForms Q s → (body : Body) → Q body (lqh_table s body)
+pub lqh_forms : (Q : Body → Step LqhState → Type 0) (s : LqhState) → LqhForms Q s → (body : Body)
+    → Q body (lqh_table s body)
 lqh_forms Q s forms (Chain (LqhKeyReq tx what chain at)) =
     let r : Request = record { tx = tx; work = what; chain = chain; at = at } in
     request_forms (Q (Chain (LqhKeyReq tx what chain at))) s r (forms.asks r)
-lqh_forms Q s forms (Host (Continue work.Granted at)) = granted_forms (Q (Host (Continue work.Granted at))) s (forms.grants at)
+lqh_forms Q s forms (Host (Continue work.Granted at)) =
+    granted_forms (Q (Host (Continue work.Granted at))) s (forms.grants at)
 lqh_forms Q s forms (Chain (Commit tx key epoch chain at)) =
-    commit_forms (Q (Chain (Commit tx key epoch chain at))) s tx key epoch chain at (forms.commits tx key epoch chain at)
+    commit_forms (Q (Chain (Commit tx key epoch chain at))) s tx key epoch chain
+        at (forms.commits tx key epoch chain at)
 lqh_forms Q s forms (Chain (Complete tx key chain at)) =
     complete_forms (Q (Chain (Complete tx key chain at))) s tx key chain at (forms.completes tx key chain at)
 lqh_forms Q s forms (Chain (Abort tx key)) = abort_forms (Q (Chain (Abort tx key))) s tx key (forms.aborts tx key)
-lqh_forms Q s forms (Client (TcCommitAck tx)) = acknowledge_forms (Q (Client (TcCommitAck tx))) s tx (forms.acknowledges tx)
-lqh_forms Q s forms (Client (LqhWaitReq tx key)) = wait_forms (Q (Client (LqhWaitReq tx key))) s tx key (forms.waits tx key)
+lqh_forms Q s forms (Client (TcCommitAck tx)) =
+    acknowledge_forms (Q (Client (TcCommitAck tx))) s tx (forms.acknowledges tx)
+lqh_forms Q s forms (Client (LqhWaitReq tx key)) =
+    wait_forms (Q (Client (LqhWaitReq tx key))) s tx key (forms.waits tx key)
 lqh_forms Q s forms (Client (DumpReq at)) = dump_forms (Q (Client (DumpReq at))) s at (forms.dumps at)
 lqh_forms Q s forms (Host Round) = expire_forms (Q (Host Round)) (expire.aged s) forms.ages
-lqh_forms Q s forms (Host (Continue work.Expired at)) = expire_forms (Q (Host (Continue work.Expired at))) s (forms.expires at)
+lqh_forms Q s forms (Host (Continue work.Expired at)) =
+    expire_forms (Q (Host (Continue work.Expired at))) s (forms.expires at)
 lqh_forms Q s forms body = forms.rests body refl

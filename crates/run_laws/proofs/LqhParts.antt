@@ -1,6 +1,6 @@
 -- What a replica sends on when it commits or completes a row, and that it sends nothing of that kind at other signals.
 use Rattle.std.proofs.Common.{◌≡◌, ◌⊎◌, ℕ, List, Bool, true, false, refl, sym, ap, ◌∙◌, subst, ◌≤◌, arith, inl, inr}
-use Rattle.std.specs.Prelude.{◌+◌, ◌-◌, ◌==◌, ◌&&◌, if◌then◌else◌, nat_le, nat_lt}
+use Rattle.std.specs.Prelude.{◌-◌, ◌==◌, ◌&&◌, if◌then◌else◌, nat_le, nat_lt}
 use Rattle.sig_core.specs.declared.member.Member.{Member}
 use Rattle.sig_core.specs.declared.member.TxId.{TxId}
 use Rattle.sig_core.specs.declared.outs.Outgoing.{Outgoing}
@@ -29,7 +29,8 @@ use Rattle.host_laws.proofs.LqhOps.{is_lqh}
 use Rattle.host_laws.specs.Counts.{one_if}
 use Rattle.host_laws.proofs.Wishes.{is_tc}
 use Rattle.run_laws.proofs.TcOwn.{AreSilent}
-use Rattle.run_laws.proofs.TxSignals.{Tells, cover, is_part, is_sign, part_cover, part_tells, part_weight, sign_part, weight}
+use Rattle.run_laws.proofs.TxSignals.{Tells, cover, is_part, is_sign, part_cover, part_tells, part_weight, sign_part}
+use Rattle.run_laws.proofs.TxSignals.{weight}
 use Rattle.run_laws.proofs.Weighing.{in_sends, weigh, weigh_none}
 
 -- the signal commits or completes no row, and no coordinator goes on by it
@@ -157,7 +158,8 @@ module _ (s : LqhState) (tx : TxId) where
   -- a completion tells of no commit
   complete_each : (P : Outgoing → Type 0) (other : TxId) (own : List ℕ) (chain : List Member) (at : ℕ)
       → ((o : Outgoing) → is_plain o.body ≡ true → P o)
-      → (((one : TxId) (key : List ℕ) (to : List Member) (place : ℕ) → Chain (Complete other own chain at) ≡ Chain (Complete one key to place)
+      → (((one : TxId) (key : List ℕ) (to : List Member) (place : ℕ)
+      → Chain (Complete other own chain at) ≡ Chain (Complete one key to place)
       → P (to_place (rows_of (node_at to (place - 1))) (Chain (Complete one key to (place - 1))))))
       → Each P (lqh_table s (Chain (Complete other own chain at))).effects.sends
   complete_each P other own chain at plain next =
@@ -181,7 +183,8 @@ module _ (s : LqhState) (tx : TxId) where
   lqh_weighs count to (Chain (Complete other key chain at)) =
       omega (
         arith,
-        weigh_none (λ (o : Outgoing). weight tx count o.to o.body) (lqh_table s (Chain (Complete other key chain at))).effects.sends
+        weigh_none (λ (o : Outgoing). weight tx count o.to o.body)
+            (lqh_table s (Chain (Complete other key chain at))).effects.sends
             (complete_each (λ o. weight tx count o.to o.body ≡ 0) other key chain at
             (λ o e. part_weight tx count o.to o.body (plain_part o e)) (λ one own on place is. refl)),
       )
@@ -274,4 +277,5 @@ module _ (s : LqhState) (tx : TxId) where
   lqh_silent body e =
       sends_each (λ (o : Outgoing). is_part tx o.body ≡ false) body plain_part
       (λ one own epoch chain at is first. sym (ap (is_part tx) is) ∙ e)
-      (λ one own epoch chain at is behind. sym (ap (is_part tx) is) ∙ e) (λ one own chain at is. sym (ap (is_part tx) is) ∙ e)
+      (λ one own epoch chain at is behind. sym (ap (is_part tx) is) ∙ e)
+      (λ one own chain at is. sym (ap (is_part tx) is) ∙ e)

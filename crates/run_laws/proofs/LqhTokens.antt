@@ -32,7 +32,8 @@ module _ (tx : TxId) where
   is_own q = same_tx q.tx tx
 
   -- a request that is performed is answered once, or passed on once
-  perform_tokens : (s : StorageState) (r : Request) → tokens_out tx (storage.perform s r).effects.sends ≤ one_if (is_own r)
+  perform_tokens : (s : StorageState) (r : Request)
+      → tokens_out tx (storage.perform s r).effects.sends ≤ one_if (is_own r)
   perform_tokens s r =
       perform_forms (λ step. tokens_out tx step.effects.sends ≤ one_if (is_own r)) s r (record {
         log_full = λ used reserved need. omega arith;
@@ -45,7 +46,8 @@ module _ (tx : TxId) where
   refused_tokens : (other : TxId) (key : List ℕ) (why : AbortCause) (r : Request) → is_for other key r ≡ true
       → tokens_out tx (storage.refusal other key why ∷ []) ≤ one_if (is_own r)
   refused_tokens other key why r passes =
-      let one : r.tx ≡ other = same_tx-is r.tx other (and_parts (same_tx r.tx other) (same_key (work_key r.work) key) passes).0 in
+      let one : r.tx ≡ other = same_tx-is r.tx other
+          (and_parts (same_tx r.tx other) (same_key (work_key r.work) key) passes).0 in
       omega (arith, ap (λ t. one_if (same_tx t tx)) one)
 
   only_work : (body : Body) → is_work body ≡ false → is_token tx body ≡ false
@@ -62,13 +64,15 @@ module _ (tx : TxId) where
   pub lqh_tokens : (s : LqhState) (body : Body) → WaitersAsk s
       → tokens_out tx (lqh_table s body).effects.sends + tally is_own (lqh_table s body).state.waiting
       ≤ tally is_own s.waiting + one_if (is_token tx body)
-  lqh_tokens s body all = by (count_step is_own (λ (o : Outgoing). is_token tx o.body) (λ o e. only_work o.body e) s body)
+  lqh_tokens s body all = by (count_step is_own (λ (o : Outgoing). is_token tx o.body)
+      (λ o e. only_work o.body e) s body)
     where
       by : CountStep is_own (λ (o : Outgoing). is_token tx o.body) s (asked_by is_own body) (lqh_table s body)
           → tokens_out tx (lqh_table s body).effects.sends + tally is_own (lqh_table s body).state.waiting
           ≤ tally is_own s.waiting + one_if (is_token tx body)
       by (performs st r waits sends) = omega (arith, waits, sends, perform_tokens st r, few_asked body)
-      by (refuses other key why r passes waits sends) = omega (arith, waits, sends, refused_tokens other key why r passes, few_asked body)
+      by (refuses other key why r passes waits sends) =
+          omega (arith, waits, sends, refused_tokens other key why r passes, few_asked body)
       -- who waits too long has a request
       by (ends other key queued none waits sends) =
           absurd (omega (arith, all.asks key other queued, none_placed (is_for other key) s.waiting none))

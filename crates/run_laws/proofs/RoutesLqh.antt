@@ -48,16 +48,20 @@ module _ (start : Start) (node : ℕ) where
   }
 
   -- and a commit or a completion to the place in front
-  sent_on : (s : LqhState) (body : Body) → IsRouted start node body → AreWaiting s.waiting → AreSent start (lqh_table s body).effects.sends
+  sent_on : (s : LqhState) (body : Body) → IsRouted start node body → AreWaiting s.waiting
+      → AreSent start (lqh_table s body).effects.sends
   sent_on s body is all =
       lqh_sends_each (λ (o : Outgoing). IsSent start o) s body (record {
         asked = λ r same. request_sent r (subst (IsRouted start node) same is);
-        waited = λ at r there. request_sent r (each_get (λ (q : Request). IsRequestRouted start node q) s.waiting at r all there);
+        waited = λ at r there. request_sent r
+            (each_get (λ (q : Request). IsRequestRouted start node q) s.waiting at r all there);
         grants_more = record { routed = tt; block = tt };
         expires_more = record { routed = tt; block = tt };
-        commits_on = λ tx key epoch chain at same behind. commit_sent tx key epoch chain at (subst (IsRouted start node) same is);
+        commits_on = λ tx key epoch chain at same behind. commit_sent tx key epoch chain
+            at (subst (IsRouted start node) same is);
         committed = λ tx key epoch chain at sent first. record { routed = tt; block = refl };
-        completes_on = λ tx key chain at same behind. complete_sent tx key chain at (subst (IsRouted start node) same is);
+        completes_on = λ tx key chain at same behind. complete_sent tx key chain
+            at (subst (IsRouted start node) same is);
         completed = λ tx key chain at sent first. record { routed = tt; block = refl };
         aborted = λ tx key sent. record { routed = tt; block = refl };
         gives_up = λ tx key given. record { routed = tt; block = refl };
@@ -66,14 +70,23 @@ module _ (start : Start) (node : ℕ) where
         dumps = λ at rows next sent. record { routed = tt; block = tt };
       })
     where
-      commit_sent : (tx : TxId) (key : List ℕ) (epoch : ℕ) (chain : List Member) (at : ℕ) → IsCommitRouted start node key chain at
+      commit_sent : (tx : TxId) (key : List ℕ) (epoch : ℕ) (chain : List Member) (at : ℕ)
+          → IsCommitRouted start node key chain at
           → IsSent start (to_place (rows_of (node_at chain (at - 1))) (Chain (Commit tx key epoch chain (at - 1))))
-      commit_sent tx key epoch chain at is = record { routed = record { along = is.along; sent = record { inside = omega (arith, is.sent.inside); node_is = refl } }; block = refl }
+      commit_sent tx key epoch chain at is =
+          record { routed = record { along = is.along; sent =
+          record { inside = omega (arith, is.sent.inside); node_is = refl } }; block = refl }
 
-      complete_sent : (tx : TxId) (key : List ℕ) (chain : List Member) (at : ℕ) → IsCompletionRouted start node key chain at
+      complete_sent : (tx : TxId) (key : List ℕ) (chain : List Member) (at : ℕ)
+          → IsCompletionRouted start node key chain at
           → IsSent start (to_place (rows_of (node_at chain (at - 1))) (Chain (Complete tx key chain (at - 1))))
-      complete_sent tx key chain at is = record { routed = record { along = is.along; sent = record { inside = omega (arith, is.sent.inside); node_is = refl } }; block = refl }
+      complete_sent tx key chain at is = record { routed =
+          record { along = is.along; sent = record { inside = omega (arith, is.sent.inside); node_is = refl } }; block =
+          refl }
 
   -- whatever they take
-  pub lqh_routed : (s : LqhState) (body : Body) → IsRouted start node body → AreWaiting s.waiting → RowsRoute (lqh_table s body)
-  lqh_routed s body is all = record { waiting = waiting_each (λ (q : Request). IsRequestRouted start node q) s body (λ r same. subst (IsRouted start node) same is) all; sends = sent_on s body is all }
+  pub lqh_routed : (s : LqhState) (body : Body) → IsRouted start node body → AreWaiting s.waiting
+      → RowsRoute (lqh_table s body)
+  lqh_routed s body is all = record { waiting =
+      waiting_each (λ (q : Request). IsRequestRouted start node q) s body
+      (λ r same. subst (IsRouted start node) same is) all; sends = sent_on s body is all }

@@ -1,4 +1,5 @@
--- What the other blocks say of the way of a transaction: the rows of a node pass on what they took, and the API and the block
+-- What the other blocks say of the way of a transaction: the rows of a node pass on what they took, and the API and the
+-- block
 -- of epochs say nothing.
 use Rattle.std.proofs.Common.{◌≡◌, ℕ, List, true, sym, ap, subst}
 use Rattle.std.specs.Prelude.{Option}
@@ -47,7 +48,8 @@ lqh_passed s body =
     owns _ is = tt
 
 -- what the API sends
-pub api_each : (P : Outgoing → Type 0) → ((o : Outgoing) → is_api_kind o.body ≡ true → P o) → ((name : Option ℕ) (node : ℕ) → P (to_place (coordinator node) (Client (TcBeginReq name))))
+pub api_each : (P : Outgoing → Type 0) → ((o : Outgoing) → is_api_kind o.body ≡ true → P o)
+    → ((name : Option ℕ) (node : ℕ) → P (to_place (coordinator node) (Client (TcBeginReq name))))
     → (s : ApiState) (body : Body) → Each P (api_table s body).effects.sends
 api_each P kinds begins s body = by (api_table s body).effects.sends (api_moves s body)
   where
@@ -60,7 +62,8 @@ api_each P kinds begins s body = by (api_table s body).effects.sends (api_moves 
     by sends (refuses name front t rear about passes was is kind) = each_of is_api_kind P kinds sends kind
 
 pub api_passed : (s : ApiState) (body : Body) → ArePassed (way_of body) (api_table s body).effects.sends
-api_passed s body = api_each (λ (o : Outgoing). IsPassed (way_of body) (way_of o.body)) (λ o is. plain o.body is) (λ name node. tt) s body
+api_passed s body = api_each (λ (o : Outgoing). IsPassed (way_of body) (way_of o.body)) (λ o is. plain o.body is)
+    (λ name node. tt) s body
   where
     plain : (b : Body) → is_api_kind b ≡ true → IsPassed (way_of body) (way_of b)
     plain (Chain (Commit tx key epoch chain at)) is = absurd cc
@@ -71,7 +74,8 @@ api_passed s body = api_each (λ (o : Outgoing). IsPassed (way_of body) (way_of 
     plain _ is = tt
 
 pub dih_passed : (s : DihState) (body : Body) → ArePassed (way_of body) (dih_table s body).effects.sends
-dih_passed s body = each_of is_dih_kind (λ (o : Outgoing). IsPassed (way_of body) (way_of o.body)) (λ o is. plain o.body is) (dih_table s body).effects.sends (dih_kinds s body)
+dih_passed s body = each_of is_dih_kind (λ (o : Outgoing). IsPassed (way_of body) (way_of o.body))
+    (λ o is. plain o.body is) (dih_table s body).effects.sends (dih_kinds s body)
   where
     plain : (b : Body) → is_dih_kind b ≡ true → IsPassed (way_of body) (way_of b)
     plain (Chain (Commit tx key epoch chain at)) is = absurd cc

@@ -25,7 +25,8 @@ use Rattle.lqh_block.specs.State.{LqhState, storage_of}
 use Rattle.world_core.specs.History.{is_applied}
 use Rattle.sig_core.specs.Firsts.{first}
 use Rattle.key_laws.specs.Records.{found}
-use Rattle.key_laws.specs.Replica.{Event, aborts, asks, cell_at, commits, completes, event_at, expires, expires_if, if_on, is_refused, rests, serves, serves_if}
+use Rattle.key_laws.specs.Replica.{Event, aborts, asks, cell_at, commits, completes, event_at, expires, expires_if}
+use Rattle.key_laws.specs.Replica.{if_on, is_refused, rests, serves, serves_if}
 use Rattle.sig_core.proofs.Keys.{same_key-self, same_tx-self}
 use Rattle.serial_laws.proofs.RowMarks.{alone_so, of_marked, state_found}
 use Rattle.lqh_block.proofs.EachLqh.{lqh_marks_each}
@@ -43,19 +44,22 @@ pub record IsAppliedFrom (v : TxId) (s : LqhState) (body : Body) : Type 0 where
   pub there : is_some (found v (cell_at own s.rows).pending) ≡ true
 
 module _ (key : List ℕ) where
-  on_applies : (own : List ℕ) (event : Event) (pending : List PendingRecord) (marks : List Mark) → (same_key own key ≡ true → AppliesIf event pending marks) → AppliesIf (if_on own key event) pending marks
+  on_applies : (own : List ℕ) (event : Event) (pending : List PendingRecord) (marks : List Mark)
+      → (same_key own key ≡ true → AppliesIf event pending marks) → AppliesIf (if_on own key event) pending marks
   on_applies own event pending marks applies = by (same_key own key) refl
     where
       by : (b : Bool) → same_key own key ≡ b → AppliesIf (if b then event else rests) pending marks
       by true e = applies e
       by false e = tt
 
-  had_applies : (tx : TxId) (own : List ℕ) (o : Option PendingRecord) → is_some o ≡ true → list_any (is_applied tx) (commit.applied_marks tx own (state_by o)) ≡ true
+  had_applies : (tx : TxId) (own : List ℕ) (o : Option PendingRecord) → is_some o ≡ true
+      → list_any (is_applied tx) (commit.applied_marks tx own (state_by o)) ≡ true
   had_applies tx own None is = absurd cc
   had_applies tx own (Some r) is = alone_so (same_tx tx tx) (same_tx-self tx)
 
   commit_applies : (s : LqhState) (tx : TxId) (own : List ℕ) (epoch : ℕ) (chain : List Member) (at : ℕ)
-      → AppliesIf (if_on own key (commits tx (at == 0))) (cell_at key s.rows).pending (commit.commit_row s tx own epoch chain at).effects.marks
+      → AppliesIf (if_on own key (commits tx (at == 0))) (cell_at key s.rows).pending
+      (commit.commit_row s tx own epoch chain at).effects.marks
   commit_applies s tx own epoch chain at =
       commit_forms (λ step. Said (at == 0) step.effects.marks) s tx own epoch chain at (record {
         last = λ had st markers applies first. subst (λ b. Said b (commit.applied_marks tx own had)) (sym first)
@@ -71,18 +75,25 @@ module _ (key : List ℕ) where
           → AppliesIf (commits tx true) (cell_at key s.rows).pending (commit.applied_marks tx own had)
       told had had_is e = λ is.
           ap (λ o. list_any (is_applied tx) (commit.applied_marks tx own o)) (sym had_is ∙ state_found s.rows tx own)
-          ∙ had_applies tx own (found tx (cell_at own s.rows).pending) (ap (λ k. is_some (found tx (cell_at k s.rows).pending)) (same own key e) ∙ is)
+          ∙ had_applies tx own (found tx (cell_at own s.rows).pending)
+          (ap (λ k. is_some (found tx (cell_at k s.rows).pending)) (same own key e) ∙ is)
 
-  serves_applies : (s : LqhState) (o : Option Request) (pending : List PendingRecord) (marks : List Mark) → AppliesIf (serves_if key s o) pending marks
+  serves_applies : (s : LqhState) (o : Option Request) (pending : List PendingRecord) (marks : List Mark)
+      → AppliesIf (serves_if key s o) pending marks
   serves_applies s None pending marks = tt
   serves_applies s (Some q) pending marks = on_applies _ (serves (is_refused (storage_of s) q)) pending marks (λ e. tt)
 
-  expires_applies : (o : Option (TxId × List ℕ)) (pending : List PendingRecord) (marks : List Mark) → AppliesIf (expires_if key o) pending marks
+  expires_applies : (o : Option (TxId × List ℕ)) (pending : List PendingRecord) (marks : List Mark)
+      → AppliesIf (expires_if key o) pending marks
   expires_applies None pending marks = tt
   expires_applies (Some wait) pending marks = on_applies wait.1 (expires wait.0) pending marks (λ e. tt)
 
-  pub applies : (s : LqhState) (body : Body) → AppliesIf (event_at key s body) (cell_at key s.rows).pending (lqh_table s body).effects.marks
-  applies s (Chain (LqhKeyReq tx what chain at)) = on_applies _ (asks (record { tx = tx; work = what; chain = chain; at = at }) (is_refused (storage_of s) (record { tx = tx; work = what; chain = chain; at = at }))) (cell_at key s.rows).pending _ (λ e. tt)
+  pub applies : (s : LqhState) (body : Body)
+      → AppliesIf (event_at key s body) (cell_at key s.rows).pending (lqh_table s body).effects.marks
+  applies s (Chain (LqhKeyReq tx what chain at)) =
+      on_applies _ (asks (record { tx = tx; work = what; chain = chain; at = at })
+      (is_refused (storage_of s) (record { tx = tx; work = what; chain = chain; at = at })))
+      (cell_at key s.rows).pending _ (λ e. tt)
   applies s (Host (Continue work.Granted at)) = serves_applies s (first (operate.is_granted s.locks) s.waiting) _ _
   applies s (Chain (Commit tx own epoch chain at)) = commit_applies s tx own epoch chain at
   applies s (Chain (Complete tx own chain at)) = on_applies own (completes tx) (cell_at key s.rows).pending _ (λ e. tt)
@@ -99,21 +110,28 @@ module _ (v : TxId) where
   was_there None committed is = absurd cc
   was_there (Some r) committed is = refl
 
-  pub applied_from : (s : LqhState) (body : Body) → list_any (is_applied v) (lqh_table s body).effects.marks ≡ true → IsAppliedFrom v s body
+  pub applied_from : (s : LqhState) (body : Body) → list_any (is_applied v) (lqh_table s body).effects.marks ≡ true
+      → IsAppliedFrom v s body
   applied_from s body is =
       of_marked (is_applied v) (lqh_table s body).effects.marks is
       (lqh_marks_each (λ m. is_applied v m ≡ true → IsAppliedFrom v s body) s body (record {
         prepared = λ tx own e. absurd cc;
-        applied = λ tx own epoch chain at committed taken first there e. subst (IsAppliedFrom v s) (sym taken) (applied tx own epoch chain at committed first (sym (state_found s.rows tx own) ∙ there) e);
+        applied = λ tx own epoch chain at committed taken first there e.
+            subst (IsAppliedFrom v s) (sym taken)
+            (applied tx own epoch chain at committed first (sym (state_found s.rows tx own) ∙ there) e);
         completed = λ tx own chain at taken e. absurd cc;
         given_up = λ tx own taken there e. absurd cc;
         expired = λ tx own e. absurd cc;
       }))
     where
-      applied : (tx : TxId) (own : List ℕ) (epoch : ℕ) (chain : List Member) (at : ℕ) (committed : Bool) → (at == 0) ≡ true
-          → state_by (found tx (cell_at own s.rows).pending) ≡ Some committed → same_tx tx v ≡ true → IsAppliedFrom v s (Chain (Commit tx own epoch chain at))
+      applied : (tx : TxId) (own : List ℕ) (epoch : ℕ) (chain : List Member) (at : ℕ) (committed : Bool)
+          → (at == 0) ≡ true
+          → state_by (found tx (cell_at own s.rows).pending) ≡ Some committed → same_tx tx v ≡ true
+          → IsAppliedFrom v s (Chain (Commit tx own epoch chain at))
       applied tx own epoch chain at committed first there e = record {
         own = own;
-        event = ap (λ b. if b then commits tx (at == 0) else rests) (same_key-self own) ∙ (λ i. commits (same_tx-is tx v e i) (first i));
-        there = ap (λ t. is_some (found t (cell_at own s.rows).pending)) (sym (same_tx-is tx v e)) ∙ was_there (found tx (cell_at own s.rows).pending) committed there;
+        event = ap (λ b. if b then commits tx (at == 0) else rests) (same_key-self own)
+            ∙ (λ i. commits (same_tx-is tx v e i) (first i));
+        there = ap (λ t. is_some (found t (cell_at own s.rows).pending)) (sym (same_tx-is tx v e))
+            ∙ was_there (found tx (cell_at own s.rows).pending) committed there;
       }

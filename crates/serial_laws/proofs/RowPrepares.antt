@@ -5,7 +5,6 @@ use Rattle.std.specs.List.{list_any}
 use Rattle.std.specs.Prelude.{if◌then◌else◌, is_some, Option, None, Some}
 use Rattle.sig_core.specs.declared.mark.Mark.{Mark}
 use Rattle.sig_core.specs.declared.mark.Mark.TheVariants.{Prepared}
-use Rattle.sig_core.specs.declared.member.Member.{Member}
 use Rattle.sig_core.specs.declared.member.TxId.{TxId}
 use Rattle.sig_core.specs.declared.rows.PendingRecord.{PendingRecord}
 use Rattle.sig_core.specs.declared.signal.Body.{Body}
@@ -29,7 +28,8 @@ use Rattle.lqh_block.specs.Storage.{StorageState}
 use Rattle.lqh_block.proofs.LqhForms.{granted_forms, perform_forms, request_forms}
 use Rattle.world_core.specs.Rest.{is_prepared}
 use Rattle.key_laws.specs.Records.{as_committed, found, if_committed, unless_committed}
-use Rattle.key_laws.specs.Replica.{Event, Replica, aborts, ages, at_key, cell_at, commits, completes, event_at, expired_by, expires, expires_if, if_on, key_after, rests, storing}
+use Rattle.key_laws.specs.Replica.{Event, Replica, aborts, ages, at_key, cell_at, commits, completes, event_at}
+use Rattle.key_laws.specs.Replica.{expired_by, expires, expires_if, if_on, key_after, rests, storing}
 use Rattle.host_laws.specs.ReplicaLaws.{IsWell}
 use Rattle.key_laws.proofs.CellsAt.{cell-storing}
 use Rattle.key_laws.proofs.RecordLemmas.{committed_keeps, found-stored, if_keeps, none-edited, unless_keeps}
@@ -43,7 +43,8 @@ none_there o p same none is = absurd (let both : false ≡ true = sym (ap is_som
 module _ (v : TxId) (key : List ℕ) where
   -- a record that wasn't there is marked
   abbrev MarksNew : StorageState → StorageState → List Mark → Type 0
-  MarksNew s after marks = is_some (found v (cell_at key after.rows).pending) ≡ true → found v (cell_at key s.rows).pending ≡ None → list_any (is_prepared v key) marks ≡ true
+  MarksNew s after marks = is_some (found v (cell_at key after.rows).pending) ≡ true
+      → found v (cell_at key s.rows).pending ≡ None → list_any (is_prepared v key) marks ≡ true
 
   -- an image that is prepared
   prepares : (s : StorageState) (r : Request) (image : Option (List ℕ))
@@ -53,21 +54,29 @@ module _ (v : TxId) (key : List ℕ) where
       own : List ℕ
       own = work_key r.work
 
-      cell : cell_at key (rows.storing s.rows r.tx own image) ≡ (if same_key own key then storing (cell_at key s.rows) r.tx own image false else cell_at key s.rows)
+      cell : cell_at key (rows.storing s.rows r.tx own image)
+          ≡ (if same_key own key then storing (cell_at key s.rows) r.tx own image false else cell_at key s.rows)
       cell = cell-storing s.rows r.tx own image key
 
-      by : (b : Bool) → same_key own key ≡ b → (c : Bool) → same_tx r.tx v ≡ c → ((same_tx r.tx v && same_key own key) || false) ≡ true
-      by true e true f = alone_so (same_tx r.tx v && same_key own key) (and_from (same_tx r.tx v) (same_key own key) f e)
+      by : (b : Bool) → same_key own key ≡ b → (c : Bool) → same_tx r.tx v ≡ c
+          → ((same_tx r.tx v && same_key own key) || false) ≡ true
+      by true e true f = alone_so (same_tx r.tx v && same_key own key)
+          (and_from (same_tx r.tx v) (same_key own key) f e)
       by true e false f =
-          none_there (found v (cell_at key (rows.storing s.rows r.tx own image)).pending) (found v (cell_at key s.rows).pending)
-          (ap (λ c. found v c.pending) (cell ∙ ap (λ b. if b then storing (cell_at key s.rows) r.tx own image false else cell_at key s.rows) e)
+          none_there (found v (cell_at key (rows.storing s.rows r.tx own image)).pending)
+              (found v (cell_at key s.rows).pending)
+          (ap (λ c. found v c.pending) (cell ∙ ap
+          (λ b. if b then storing (cell_at key s.rows) r.tx own image false else cell_at key s.rows) e)
           ∙ found-stored v (prepared r.tx own image) (cell_at key s.rows).pending
           ∙ ap (λ b. if b then Some (prepared r.tx own image) else found v (cell_at key s.rows).pending) f) none is
       by false e c f =
-          none_there (found v (cell_at key (rows.storing s.rows r.tx own image)).pending) (found v (cell_at key s.rows).pending)
-          (ap (λ c. found v c.pending) (cell ∙ ap (λ b. if b then storing (cell_at key s.rows) r.tx own image false else cell_at key s.rows) e)) none is
+          none_there (found v (cell_at key (rows.storing s.rows r.tx own image)).pending)
+              (found v (cell_at key s.rows).pending)
+          (ap (λ c. found v c.pending) (cell ∙ ap
+          (λ b. if b then storing (cell_at key s.rows) r.tx own image false else cell_at key s.rows) e)) none is
 
-  perform_new : (s : StorageState) (r : Request) → MarksNew s (storage.perform s r).state (storage.perform s r).effects.marks
+  perform_new : (s : StorageState) (r : Request)
+      → MarksNew s (storage.perform s r).state (storage.perform s r).effects.marks
   perform_new s r =
       perform_forms (λ step. MarksNew s step.state step.effects.marks) s r (record {
         log_full = λ used reserved need is none. none_there _ _ refl none is;
@@ -78,9 +87,11 @@ module _ (v : TxId) (key : List ℕ) where
       })
 
   abbrev RowMarksNew : LqhState → LqhState → List Mark → Type 0
-  RowMarksNew s after marks = is_some (found v (cell_at key after.rows).pending) ≡ true → found v (cell_at key s.rows).pending ≡ None → list_any (is_prepared v key) marks ≡ true
+  RowMarksNew s after marks = is_some (found v (cell_at key after.rows).pending) ≡ true
+      → found v (cell_at key s.rows).pending ≡ None → list_any (is_prepared v key) marks ≡ true
 
-  request_new : (s : LqhState) (r : Request) → RowMarksNew s (operate.request_row s r).state (operate.request_row s r).effects.marks
+  request_new : (s : LqhState) (r : Request)
+      → RowMarksNew s (operate.request_row s r).state (operate.request_row s r).effects.marks
   request_new s r =
       request_forms (λ step. RowMarksNew s step.state step.effects.marks) s r (record {
         granted = λ granted is none. perform_new (storage_of s) r is none;
@@ -123,20 +134,32 @@ module _ (v : TxId) (key : List ℕ) where
   expires_none None r none = none
   expires_none (Some wait) r none = on_none wait.1 (expires wait.0) (λ r none. none) r none
 
-  event_new : (s : LqhState) (body : Body) → IsWell s → MakesNone (event_at key s body) → RowMarksNew s (lqh_table s body).state (lqh_table s body).effects.marks
+  event_new : (s : LqhState) (body : Body) → IsWell s → MakesNone (event_at key s body)
+      → RowMarksNew s (lqh_table s body).state (lqh_table s body).effects.marks
   event_new s body well makes is none =
-      none_there (found v (at_key key (lqh_table s body).state).cell.pending) (found v (key_after (event_at key s body) (at_key key s)).cell.pending)
+      none_there (found v (at_key key (lqh_table s body).state).cell.pending)
+          (found v (key_after (event_at key s body) (at_key key s)).cell.pending)
       (ap (λ (r : Replica). found v r.cell.pending) (signals_are_events s body key well)) (makes (at_key key s) none) is
 
-  pub new_marked : (s : LqhState) (body : Body) → IsWell s → RowMarksNew s (lqh_table s body).state (lqh_table s body).effects.marks
-  new_marked s (Chain (LqhKeyReq tx what chain at)) well is none = request_new s (record { tx = tx; work = what; chain = chain; at = at }) is none
+  pub new_marked : (s : LqhState) (body : Body) → IsWell s
+      → RowMarksNew s (lqh_table s body).state (lqh_table s body).effects.marks
+  new_marked s (Chain (LqhKeyReq tx what chain at)) well is none =
+      request_new s (record { tx = tx; work = what; chain = chain; at = at }) is none
   new_marked s (Host (Continue work.Granted at)) well is none = granted_new s is none
-  new_marked s (Chain (Commit tx own epoch chain at)) well is none = event_new s (Chain (Commit tx own epoch chain at)) well (on_none own (commits tx (at == 0)) (commits_none tx (at == 0))) is none
-  new_marked s (Chain (Complete tx own chain at)) well is none = event_new s (Chain (Complete tx own chain at)) well (on_none own (completes tx) (completes_none tx)) is none
-  new_marked s (Chain (Abort tx own)) well is none = event_new s (Chain (Abort tx own)) well (on_none own (aborts tx) (aborts_none tx)) is none
-  new_marked s (Client (TcCommitAck tx)) well is none = event_new s (Client (TcCommitAck tx)) well (λ r none. none) is none
-  new_marked s (Client (LqhWaitReq tx own)) well is none = event_new s (Client (LqhWaitReq tx own)) well (λ r none. none) is none
+  new_marked s (Chain (Commit tx own epoch chain at)) well is none =
+      event_new s (Chain (Commit tx own epoch chain at)) well
+      (on_none own (commits tx (at == 0)) (commits_none tx (at == 0))) is none
+  new_marked s (Chain (Complete tx own chain at)) well is none =
+      event_new s (Chain (Complete tx own chain at)) well (on_none own (completes tx) (completes_none tx)) is none
+  new_marked s (Chain (Abort tx own)) well is none =
+      event_new s (Chain (Abort tx own)) well (on_none own (aborts tx) (aborts_none tx)) is none
+  new_marked s (Client (TcCommitAck tx)) well is none =
+      event_new s (Client (TcCommitAck tx)) well (λ r none. none) is none
+  new_marked s (Client (LqhWaitReq tx own)) well is none =
+      event_new s (Client (LqhWaitReq tx own)) well (λ r none. none) is none
   new_marked s (Client (DumpReq at)) well is none = event_new s (Client (DumpReq at)) well (λ r none. none) is none
-  new_marked s (Host Round) well is none = event_new s (Host Round) well (ages_none (expired_by key (expired (expire.aged s).locks))) is none
-  new_marked s (Host (Continue work.Expired at)) well is none = event_new s (Host (Continue work.Expired at)) well (expires_none (expired s.locks)) is none
+  new_marked s (Host Round) well is none =
+      event_new s (Host Round) well (ages_none (expired_by key (expired (expire.aged s).locks))) is none
+  new_marked s (Host (Continue work.Expired at)) well is none =
+      event_new s (Host (Continue work.Expired at)) well (expires_none (expired s.locks)) is none
   new_marked s _ well is none = none_there _ _ refl none is
