@@ -313,7 +313,8 @@ module _ (s : TakeoverState) (h : Heard) (sound : IsSound s h) where
   step_sound body =
       takeover_each s (StepIsSound s.layout (heard_at s h body)) body (record {
         stays = λ other. still other (stay s) stays;
-        untold = λ tx key state epoch is idle. at_body _ is (stay s) (untold (telling tx (told_epoch state epoch)) idle);
+        untold = λ tx key state epoch is idle.
+            at_body _ is (stay s) (untold (telling tx (told_epoch state epoch)) idle);
         unended = λ is idle. at_body _ is (stay s) (unended idle);
         orders = λ is some. at_body _ is _ (ordered false some);
         orders_nobody = λ is none. at_body _ is _ (ordered true none);
