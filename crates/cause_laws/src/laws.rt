@@ -1,0 +1,37 @@
+//! Why transactions are aborted, and why they don't begin.
+ghost use Rattle.cause_laws.specs.Causes.{AbortsAreCaused};
+ghost use Rattle.cause_laws.specs.Reasons.{OnlyLongWaitsExpire};
+ghost use Rattle.cause_laws.specs.TurnedAway.{RepliesAreCaused, RepliesAreTold, TurnedAwayAreTooMany};
+
+/// The rows of a node mark a wait to have stood too long only where it stands in the queue of its
+/// key, and has stood there for eight rounds, that of the signal included.
+pub fn only_long_waits_expire()
+    ensures { OnlyLongWaitsExpire }
+{}
+
+/// Where the abort of a transaction was reported in a closed cut, its cause is in the cut. A time-out,
+/// a full journal and a full table: the rows of a node refused it so, and in their state before that
+/// step a wait of it had stood for eight rounds, the journal had just these bytes used and reserved
+/// and no room for those of an image, or all places were taken. A wish: before the report the client
+/// asked for the abort, or didn't wait any longer. There is no other.
+pub fn aborts_are_caused()
+    ensures { AbortsAreCaused }
+{}
+
+/// Where the client is told in a closed cut that a transaction doesn't begin, its coordinator was
+/// asked for one of this name, and had too many, or no number left.
+pub fn turned_away_are_too_many()
+    ensures { TurnedAwayAreTooMany }
+{}
+
+/// The API replies that too many transactions are open only upon that signal, and an abort only upon
+/// the report of one, with its cause; and it takes back no reply.
+pub fn replies_are_told()
+    ensures { RepliesAreTold }
+{}
+
+/// Of all replies in a closed cut each that tells of an abort has its cause in the cut, and each that
+/// tells that too many are open has a coordinator there that had too many.
+pub fn replies_are_caused()
+    ensures { RepliesAreCaused }
+{}

@@ -1,0 +1,9 @@
+//! Each abort, and each beginning that a coordinator turns away, has its cause.
+#![tactic(auto)]
+
+mod laws;
+
+pub use laws::{
+    aborts_are_caused, only_long_waits_expire, replies_are_caused, replies_are_told,
+    turned_away_are_too_many,
+};
