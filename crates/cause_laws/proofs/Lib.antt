@@ -1,1 +1,2 @@
+pub mod ApiReplies
 pub mod RowReasons
