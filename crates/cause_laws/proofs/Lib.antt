@@ -1,2 +1,4 @@
 pub mod ApiReplies
 pub mod RowReasons
+pub mod TcBegins
+pub mod TcCauses
