@@ -1,4 +1,6 @@
 pub mod ApiReplies
+pub mod CausesAlong
+pub mod CausesGrow
 pub mod RowReasons
 pub mod TcBegins
 pub mod TcCauses
