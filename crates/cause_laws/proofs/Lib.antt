@@ -1,4 +1,5 @@
 pub mod ApiReplies
+pub mod Causes
 pub mod CausesAlong
 pub mod CausesGrow
 pub mod RowReasons
