@@ -105,7 +105,7 @@ at_request s r n = record {
   dumps = λ node digest. rests refl refl tt;
   waits = λ p at f one own. changes f.front f.item _ f.back f.is (f.set _) (notes (λ tx. refl) refl refl refl refl);
   pends = λ name holder. rests refl refl tt;
-  gives_up = λ holder one is. rests refl refl tt;
+  gives_up = λ p at f holder one is alone own. rests refl refl tt;
   is_about_none = rests refl refl tt;
   rests = rests refl refl tt;
 }

@@ -1,9 +1,9 @@
 -- What the API replies, sends and marks of ends and refusals is what it was told, and what it was asked.
-use Rattle.std.proofs.Common.{◌≡◌, ℕ, Bool, true, false, List, [], ◌∷◌, ◌++◌, refl, sym, ap, ◌∙◌, append-nil}
-use Rattle.std.specs.Prelude.{Option, None, map}
-use Rattle.run_theory.specs.Lists.{Each}
+use Rattle.std.proofs.Common.{◌≡◌, ℕ, Bool, true, false, List, [], ◌∷◌, ◌++◌, refl, sym, ◌∙◌, subst, inl, append-nil}
+use Rattle.std.specs.Prelude.{Option, None, Some, map}
+use Rattle.run_theory.specs.Lists.{Each, IsIn}
 use Rattle.run_theory.proofs.EachSent.{each_mapped}
-use Rattle.run_theory.proofs.Pasts.{each_append}
+use Rattle.run_theory.proofs.Pasts.{each_append, in_append}
 use Rattle.sig_core.specs.declared.mark.Mark.{Mark}
 use Rattle.sig_core.specs.declared.mark.Mark.TheVariants.{Reported}
 use Rattle.sig_core.specs.declared.member.TxId.{TxId}
@@ -16,6 +16,7 @@ use Rattle.sig_core.specs.declared.reply.ApiReply.TheVariants.{Refused}
 use Rattle.sig_core.specs.declared.reply.Refusal.{Refusal}
 use Rattle.sig_core.specs.declared.reply.Refusal.TheVariants as refusal
 use Rattle.sig_core.specs.declared.request.ApiReq.{ApiReq}
+use Rattle.sig_core.specs.declared.request.ApiReq.TheVariants as request
 use Rattle.sig_core.specs.declared.signal.Body.{Body}
 use Rattle.sig_core.specs.declared.signal.Body.TheVariants.{Chain, Client, Host}
 use Rattle.sig_core.specs.declared.signal.chain.ChainSignal.TheVariants.{LqhKeyRef}
@@ -27,25 +28,26 @@ use Rattle.sig_core.specs.Step.{Step}
 use Rattle.api_block.specs.Api.{api_table}
 use Rattle.api_block.specs.Commands.{ticked_if}
 use Rattle.api_block.specs.declared.members.News.TheVariants as news
+use Rattle.api_block.specs.declared.opened.OpenTransaction.{OpenTransaction}
 use Rattle.api_block.specs.Dump.{dump_replies, row_reply}
 use Rattle.api_block.specs.Gathered.{gathered}
 use Rattle.api_block.specs.Members.{everyone, telling, telling_all}
+use Rattle.api_block.specs.Opened.{is_named}
 use Rattle.api_block.specs.Outcome.{acknowledging}
 use Rattle.api_block.specs.State.{ApiState, about}
 use Rattle.host_laws.proofs.ApiTurns.{ApiRequestForms, ApiSignalForms, api_turns, is_own_refusal}
-use Rattle.cause_laws.specs.Causes.{is_wish}
+use Rattle.host_laws.proofs.ApiBegins.{same_name-is}
+use Rattle.host_laws.proofs.Focus.{IsFocus}
+use Rattle.cause_laws.specs.Causes.{IsEntered, IsWish}
 use Rattle.cause_laws.specs.TurnedAway.{AddsReplies, IsToldBy, RepliesAreTold}
 
 -- a coordinator is asked for an abort at such a request alone; and no other signal gives a cause
-abbrev pub ApiTells : Body → Place → Body → Type 0
-ApiTells asked to (Client (TcRollbackReq tx)) = (to ≡ coordinator_of tx) × (is_wish asked ≡ true)
-ApiTells asked to (Chain (LqhKeyRef tx key why)) = ⊥
-ApiTells asked to (Client (TcRollbackRep tx why)) = ⊥
-ApiTells asked to (Client (TcBeginRef name)) = ⊥
-ApiTells asked to other = Unit {0}
-
-abbrev Tells : Body → Outgoing → Type 0
-Tells asked o = ApiTells asked o.to o.body
+abbrev pub ApiTells : ApiState → Body → Place → Body → Type 0
+ApiTells s asked to (Client (TcRollbackReq tx)) = (to ≡ coordinator_of tx) × IsWish s asked tx
+ApiTells s asked to (Chain (LqhKeyRef tx key why)) = ⊥
+ApiTells s asked to (Client (TcRollbackRep tx why)) = ⊥
+ApiTells s asked to (Client (TcBeginRef name)) = ⊥
+ApiTells s asked to other = Unit {0}
 
 -- an abort is marked as the signal tells of it
 abbrev pub IsMarkedBy : Body → Mark → Type 0
@@ -55,7 +57,7 @@ IsMarkedBy body other = Unit {0}
 -- what a step of the API does
 pub record ApiFine (s : ApiState) (body : Body) (step : Step ApiState) : Type 0 where
   pub replies : AddsReplies s body step.state
-  pub sends : Each (Tells body) step.effects.sends
+  pub sends : Each (λ (o : Outgoing). ApiTells s body o.to o.body) step.effects.sends
   pub marks : Each (IsMarkedBy body) step.effects.marks
 
 own_told : (body : Body) (name : Option ℕ) (why : Refusal) → is_own_refusal why ≡ true → IsToldBy body (Refused name why)
@@ -70,6 +72,19 @@ lines_told body node false lines =
     each_append (IsToldBy body) (map row_reply lines) _ (each_mapped (IsToldBy body) row_reply lines (λ line. tt)) (tt, tt)
 
 module _ (s : ApiState) where
+  abbrev Tells : Body → Outgoing → Type 0
+  Tells asked o = ApiTells s asked o.to o.body
+
+  -- the entry at a place
+  entered : (p : OpenTransaction → Bool) (at : ℕ) (f : IsFocus p s.opened at) (name : Option ℕ) (tx : TxId)
+      → f.item.name ≡ name → f.item.tx ≡ Some tx → IsEntered s name tx
+  entered p at f name tx named its = record {
+    entry = f.item;
+    there = subst (IsIn f.item) (sym f.is) (in_append f.item f.front (f.item ∷ f.back) (inl refl));
+    named = named;
+    its = its;
+  }
+
   -- no reply more
   same : (body : Body) (after : ApiState) → after.replies ≡ s.replies → AddsReplies s body after
   same body after is = record { more = []; is = is ∙ sym (append-nil s.replies); told = tt }
@@ -90,16 +105,16 @@ module _ (s : ApiState) where
     commits = λ name at f tx ready own. record { replies = same body _ refl; sends = (tt, tt); marks = tt };
     aborts = λ name place f tx is own. record {
       replies = same body _ refl;
-      sends = ((refl, ap (λ (q : ApiReq). is_wish (Host (Continue (work.Request q) at))) is), tt);
+      sends = ((refl, wish tx (request.Abort name) is (entered (is_named (Some name)) place f (Some name) tx (same_name-is f.item.name (Some name) f.passes) own)), tt);
       marks = tt;
     };
     ticks = λ of last. record { replies = round of last; sends = rounds; marks = tt };
     dumps = λ node digest. record { replies = same body _ refl; sends = (tt, tt); marks = tt };
     waits = λ p at f tx own. record { replies = same body _ refl; sends = (tt, tt); marks = tt };
     pends = λ name holder. record { replies = one body _ _ refl tt; sends = tt; marks = tt };
-    gives_up = λ holder tx is. record {
+    gives_up = λ p place f holder tx is alone own. record {
       replies = one body _ _ refl tt;
-      sends = ((refl, ap (λ (q : ApiReq). is_wish (Host (Continue (work.Request q) at))) is), tt);
+      sends = ((refl, wish tx request.Pending is (entered p place f None tx alone own)), tt);
       marks = tt;
     };
     is_about_none = record { replies = same body _ refl; sends = tt; marks = tt };
@@ -108,6 +123,9 @@ module _ (s : ApiState) where
     where
       body : Body
       body = Host (Continue (work.Request r) at)
+
+      wish : (tx : TxId) (q : ApiReq) → r ≡ q → IsWish s (Host (Continue (work.Request q) at)) tx → IsWish s body tx
+      wish tx q is = subst (λ (a : ApiReq). IsWish s (Host (Continue (work.Request a) at)) tx) (sym is)
 
       rounds : Each (Tells body) (telling_all news.Round (everyone s.view))
       rounds = each_mapped (Tells body) (telling news.Round) (everyone s.view) (λ m. tt)

@@ -69,7 +69,7 @@ use Rattle.run_laws.proofs.HomeSteps.{all_home, own_home}
 use Rattle.run_laws.proofs.Transit.{along_transit}
 use Rattle.run_laws.proofs.Ways.{IsTold, given_more, taken_told}
 use Rattle.run_laws.proofs.Weighing.{each_between, each_joins, each_taken}
-use Rattle.cause_laws.specs.Causes.{IsCaused, IsRefused, IsWished}
+use Rattle.cause_laws.specs.Causes.{IsCaused, IsRefused, IsWish, IsWished}
 use Rattle.cause_laws.specs.Reasons.{IsReason}
 use Rattle.cause_laws.specs.TurnedAway.{IsReplyCaused, IsToldBy, IsTurnedAway}
 use Rattle.cause_laws.proofs.ApiReplies.{ApiTells, IsMarkedBy, api_fine}
@@ -269,20 +269,22 @@ module _ (start : Start) where
 
     -- what each block sends
     wish_told : has_api g ≡ true → (tx : TxId)
-        → IsIn (to_place (coordinator_of tx) (Client (TcRollbackReq tx))) (row g x).effects.sends → ApiTells x.body (coordinator_of tx) (Client (TcRollbackReq tx))
+        → IsIn (to_place (coordinator_of tx) (Client (TcRollbackReq tx))) (row g x).effects.sends → ApiTells (api_of g) x.body (coordinator_of tx) (Client (TcRollbackReq tx))
         → IsWished start (now 0) tx
     wish_told runs tx among told = by (api_found start h (old h) runs)
       where
         IsHere : ℕ → Type 0
-        IsHere k = IsPast (e ∷ old k) (now k) × IsIn (to_place (coordinator_of tx) (Client (TcRollbackReq tx))) (step_after start k (old k) e).effects.sends
+        IsHere k =
+            IsPast (e ∷ old k) (now k) × (IsWish (api_of (after start k (old k))) x.body tx
+            × IsIn (to_place (coordinator_of tx) (Client (TcRollbackReq tx))) (step_after start k (old k) e).effects.sends)
 
         by : h ≡ 0 → IsWished start (now 0) tx
         by at =
-            let here : IsHere 0 = subst IsHere at (inside, among) in
-            record { step = e; before = old 0; inside = here.0; asked = told.1; sent = here.1 }
+            let here : IsHere 0 = subst IsHere at (inside, (told.1, among)) in
+            record { step = e; before = old 0; inside = here.0; asked = here.1.0; sent = here.1.1 }
 
     api_told : has_api g ≡ true → (to : Place) (b : Body) → IsIn (to_place to b) (row g x).effects.sends
-        → ApiTells x.body to b → Tells now b
+        → ApiTells (api_of g) x.body to b → Tells now b
     api_told runs to (Client (TcRollbackReq tx)) among told =
         wish_told runs tx (subst (λ p. IsIn (to_place p (Client (TcRollbackReq tx))) (row g x).effects.sends) told.0 among) (refl, told.1)
     api_told runs to (Client (TcRollbackRep tx why)) among told = absurd told
@@ -343,8 +345,8 @@ module _ (start : Start) where
         by : BlockCase g x (row g x) → (o : Outgoing) → IsIn o (row g x).effects.sends → Tells now o.body
         by (api_takes step) o among =
             api_told step.runs o.to o.body among
-            (each_in (λ (o : Outgoing). ApiTells x.body o.to o.body) o (row g x).effects.sends
-            (subst (λ f. Each (λ (o : Outgoing). ApiTells x.body o.to o.body) f.sends) (sym step.effects) (api_fine (api_of g) x.body).sends) among)
+            (each_in (λ (o : Outgoing). ApiTells (api_of g) x.body o.to o.body) o (row g x).effects.sends
+            (subst (λ f. Each (λ (o : Outgoing). ApiTells (api_of g) x.body o.to o.body) f.sends) (sym step.effects) (api_fine (api_of g) x.body).sends) among)
         by (tc_takes step) o among =
             tc_told step.runs o.to o.body among
             (each_in (λ (o : Outgoing). TcTells (Caused old) o.body) o (row g x).effects.sends

@@ -1,5 +1,5 @@
 -- Each abort has its cause.
-use Rattle.std.specs.Prelude.{◌≡◌, ℕ, Bool, true, false, List, ◌∷◌, Option}
+use Rattle.std.specs.Prelude.{◌≡◌, ℕ, true, List, ◌∷◌, Option, None, Some}
 use Rattle.frag_map.specs.Shape.{IsShape}
 use Rattle.run_theory.specs.Lists.{Each, IsIn, IsPast}
 use Rattle.sig_core.specs.declared.mark.Mark.TheVariants.{Reported}
@@ -15,8 +15,10 @@ use Rattle.sig_core.specs.declared.signal.host.HostSignal.TheVariants.{Continue}
 use Rattle.sig_core.specs.declared.signal.host.Work.TheVariants as work
 use Rattle.sig_core.specs.Place.{coordinator_of}
 use Rattle.sig_core.specs.Step.{to_place}
+use Rattle.api_block.specs.declared.opened.OpenTransaction.{OpenTransaction}
+use Rattle.api_block.specs.State.{ApiState}
 use Rattle.lqh_block.specs.Storage.{refusal}
-use Rattle.node_core.specs.Blocks.{has_lqh, lqh_of}
+use Rattle.node_core.specs.Blocks.{api_of, has_lqh, lqh_of}
 use Rattle.world_core.specs.Machine.{after, step_after}
 use Rattle.world_core.specs.Start.{Start}
 use Rattle.world_core.specs.Steps.{HostStep}
@@ -35,18 +37,25 @@ pub record IsRefused (start : Start) (logs : ℕ → List HostStep) (tx : TxId) 
   pub sent : IsIn (refusal tx key why) (step_after start host before step).effects.sends
   pub reason : IsReason (lqh_of (after start host before)) step.step.taken.body step.step.marks tx key why
 
--- a request to abort a transaction, or not to wait any longer for what is unanswered
-abbrev pub is_wish : Body → Bool
-is_wish (Host (Continue (work.Request (request.Abort name)) at)) = true
-is_wish (Host (Continue (work.Request request.Pending) at)) = true
-is_wish body = false
+-- the API has an entry of this name, or of none, for the transaction
+pub record IsEntered (s : ApiState) (name : Option ℕ) (tx : TxId) : Type 0 where
+  pub entry : OpenTransaction
+  pub there : IsIn entry s.opened
+  pub named : entry.name ≡ name
+  pub its : entry.tx ≡ Some tx
+
+-- the request is to abort the transaction of this name, or, where it is an operation alone, not to wait for it any longer
+abbrev pub IsWish : ApiState → Body → TxId → Type 0
+IsWish s (Host (Continue (work.Request (request.Abort name)) at)) tx = IsEntered s (Some name) tx
+IsWish s (Host (Continue (work.Request request.Pending) at)) tx = IsEntered s None tx
+IsWish s body tx = ⊥
 
 -- at such a request, in this log of the shell's host, its coordinator was asked to abort the transaction
 pub record IsWished (start : Start) (log : List HostStep) (tx : TxId) : Type 0 where
   pub step : HostStep
   pub before : List HostStep
   pub inside : IsPast (step ∷ before) log
-  pub asked : is_wish step.step.taken.body ≡ true
+  pub asked : IsWish (api_of (after start 0 before)) step.step.taken.body tx
   pub sent : IsIn (to_place (coordinator_of tx) (Client (TcRollbackReq tx))) (step_after start 0 before step).effects.sends
 
 -- The cause of an abort is found in these logs, and a wish for it in this log of the shell's host. As no host stops, none is

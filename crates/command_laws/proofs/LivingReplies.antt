@@ -59,7 +59,7 @@ module _ (s : ApiState) (all : AllLiving s.replies) where
     dumps = λ node digest sound. all;
     waits = λ p at f tx own sound. all;
     pends = λ name holder sound. one_more _ refl;
-    gives_up = λ holder tx is sound. one_more _ refl;
+    gives_up = λ p at f holder tx is alone own sound. one_more _ refl;
     is_about_none = λ sound. all;
     rests = λ sound. all;
   }

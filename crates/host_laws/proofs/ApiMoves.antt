@@ -112,7 +112,7 @@ at_request s r n = record {
   waits = λ p at f tx own.
       goes f.front f.item _ f.back (went_on refl refl refl refl) tt f.is (ap (λ os. (s.view, os)) (f.set _)) refl;
   pends = λ name holder. rests refl refl tt;
-  gives_up = λ holder tx is. rests refl refl tt;
+  gives_up = λ p at f holder tx is alone own. rests refl refl tt;
   is_about_none = rests refl refl tt;
   rests = rests refl refl tt;
 }

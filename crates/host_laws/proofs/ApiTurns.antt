@@ -88,7 +88,8 @@ pub record ApiRequestForms (s : ApiState) (asked : ApiReq) (R : Step ApiState �
   pub waits : (p : OpenTransaction → Bool) (at : ℕ) (f : IsFocus p s.opened at) (tx : TxId) → f.item.tx ≡ Some tx
       → R (sending (changing s at (behind f.item None)) (coordinator_of tx) (Client (TcWaitReq tx)))
   pub pends : (name holder : Option ℕ) → R (stay (replied s (Pending name (HeldBy holder) ∷ [])))
-  pub gives_up : (holder : Option ℕ) (tx : TxId) → asked ≡ request.Pending
+  pub gives_up : (p : OpenTransaction → Bool) (at : ℕ) (f : IsFocus p s.opened at) (holder : Option ℕ) (tx : TxId)
+      → asked ≡ request.Pending → f.item.name ≡ None → f.item.tx ≡ Some tx
       → R (sending (replied s (Pending None (HeldBy holder) ∷ [])) (coordinator_of tx) (Client (TcRollbackReq tx)))
   pub is_about_none : R (stay (about s None))
   pub rests : R (stay s)
@@ -231,21 +232,23 @@ module _ (s : ApiState) (asked : ApiReq) (R : Step ApiState → Type 0) (forms :
       by p at f true (Some tx) is = forms.waits p at f tx is
       by p at f _ _ is = forms.rests
 
-  pending_by_turns : asked ≡ request.Pending → (holder name : Option ℕ) (tx : Option TxId)
+  pending_by_turns : asked ≡ request.Pending → (p : OpenTransaction → Bool) (at : ℕ) (f : IsFocus p s.opened at)
+      → (holder name : Option ℕ) (tx : Option TxId) → f.item.name ≡ name → f.item.tx ≡ tx
       → R (pending_by s holder name tx)
-  pending_by_turns is holder None (Some tx) = forms.gives_up holder tx is
-  pending_by_turns is holder None None = forms.pends None holder
-  pending_by_turns is holder (Some name) tx = forms.pends (Some name) holder
+  pending_by_turns is p at f holder None (Some tx) alone own = forms.gives_up p at f holder tx is alone own
+  pending_by_turns is p at f holder None None alone own = forms.pends None holder
+  pending_by_turns is p at f holder (Some name) tx alone own = forms.pends (Some name) holder
 
   pending_turns : asked ≡ request.Pending → R (pending_row s)
   unfolding pending_row
   pending_turns is =
       own_turns (λ at t. pending_if s t (is_unanswered t.doing) t.ahead) s.own
-      (λ p at f. by f.item (is_unanswered f.item.doing) f.item.ahead)
+      (λ p at f. by p at f (is_unanswered f.item.doing) f.item.ahead)
     where
-      by : (t : OpenTransaction) (b : Bool) (ahead : Option TxId) → R (pending_if s t b ahead)
-      by t true (Some ahead) = pending_by_turns is (name_of s ahead) t.name t.tx
-      by t _ _ = forms.rests
+      by : (p : OpenTransaction → Bool) (at : ℕ) (f : IsFocus p s.opened at) (b : Bool) (ahead : Option TxId)
+          → R (pending_if s f.item b ahead)
+      by p at f true (Some ahead) = pending_by_turns is p at f (name_of s ahead) f.item.name f.item.tx refl refl
+      by p at f _ _ = forms.rests
 
   pub request_turns : R (request_row s asked)
   unfolding request_row
