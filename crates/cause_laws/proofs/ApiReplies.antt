@@ -7,7 +7,6 @@ use Rattle.run_theory.proofs.Pasts.{each_append, in_append}
 use Rattle.sig_core.specs.declared.mark.Mark.{Mark}
 use Rattle.sig_core.specs.declared.mark.Mark.TheVariants.{Reported}
 use Rattle.sig_core.specs.declared.member.TxId.{TxId}
-use Rattle.sig_core.specs.declared.outcome.AbortCause.{AbortCause}
 use Rattle.sig_core.specs.declared.outcome.Outcome.TheVariants as outcome
 use Rattle.sig_core.specs.declared.outs.Outgoing.{Outgoing}
 use Rattle.sig_core.specs.declared.place.Place.{Place}
@@ -60,7 +59,8 @@ pub record ApiFine (s : ApiState) (body : Body) (step : Step ApiState) : Type 0 
   pub sends : Each (λ (o : Outgoing). ApiTells s body o.to o.body) step.effects.sends
   pub marks : Each (IsMarkedBy body) step.effects.marks
 
-own_told : (body : Body) (name : Option ℕ) (why : Refusal) → is_own_refusal why ≡ true → IsToldBy body (Refused name why)
+own_told : (body : Body) (name : Option ℕ) (why : Refusal) → is_own_refusal why ≡ true
+    → IsToldBy body (Refused name why)
 own_told body name refusal.TooManyOpen own = absurd cc
 own_told body name _ own = tt
 
@@ -69,7 +69,8 @@ lines_told : (body : Body) (node : ℕ) (digest : Bool) (lines : List (List ℕ 
 unfolding dump_replies
 lines_told body node true lines = (tt, tt)
 lines_told body node false lines =
-    each_append (IsToldBy body) (map row_reply lines) _ (each_mapped (IsToldBy body) row_reply lines (λ line. tt)) (tt, tt)
+    each_append (IsToldBy body) (map row_reply lines) _ (each_mapped (IsToldBy body) row_reply lines (λ line. tt))
+    (tt, tt)
 
 module _ (s : ApiState) where
   abbrev Tells : Body → Outgoing → Type 0
@@ -99,13 +100,22 @@ module _ (s : ApiState) where
   at_request r at = record {
     opens = λ name node op new. record { replies = same body _ refl; sends = (tt, tt); marks = tt };
     refuses = λ name why own. record {
-      replies = one body _ _ refl (own_told body name why own); sends = tt; marks = tt;
+      replies = one body _ _ refl (own_told body name why own);
+      sends = tt;
+      marks = tt;
     };
     operates = λ name op at f tx ready own low. record { replies = same body _ refl; sends = (tt, tt); marks = tt };
     commits = λ name at f tx ready own. record { replies = same body _ refl; sends = (tt, tt); marks = tt };
     aborts = λ name place f tx is own. record {
       replies = same body _ refl;
-      sends = ((refl, wish tx (request.Abort name) is (entered (is_named (Some name)) place f (Some name) tx (same_name-is f.item.name (Some name) f.passes) own)), tt);
+      sends = (
+        (
+          refl,
+          wish tx (request.Abort name) is (entered (is_named (Some name)) place f (Some name) tx
+              (same_name-is f.item.name (Some name) f.passes) own),
+        ),
+        tt,
+      );
       marks = tt;
     };
     ticks = λ of last. record { replies = round of last; sends = rounds; marks = tt };
@@ -142,7 +152,9 @@ module _ (s : ApiState) where
     refuses = λ name at f is. record { replies = one body _ _ refl is; sends = tt; marks = tt };
     answers = λ tx answer at f name is d e. record { replies = one body _ _ refl tt; sends = tt; marks = tt };
     answers_last = λ tx answer at f is d e. record {
-      replies = one body _ _ refl tt; sends = (tt, tt); marks = tt;
+      replies = one body _ _ refl tt;
+      sends = (tt, tt);
+      marks = tt;
     };
     answers_none = λ tx answer at f is other. record { replies = same body _ refl; sends = tt; marks = tt };
     commits = λ tx epoch at f is. record { replies = one body _ _ refl tt; sends = known tx; marks = (tt, tt) };

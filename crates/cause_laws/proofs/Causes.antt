@@ -1,8 +1,8 @@
 -- The laws of closed cuts, from what holds along runs.
-use Rattle.std.proofs.Common.{◌≡◌, ℕ, List, [], ◌∷◌, ◌++◌, sym, subst}
+use Rattle.std.proofs.Common.{ℕ, List, [], ◌∷◌, ◌++◌, sym, subst}
 use Rattle.run_theory.proofs.Along.{of_runs_at_cuts, within_cut}
 use Rattle.run_theory.proofs.Pasts.{each_in}
-use Rattle.run_theory.specs.Lists.{Each, IsIn, IsPast}
+use Rattle.run_theory.specs.Lists.{Each}
 use Rattle.run_theory.specs.Runs.{IsWithin, Run, log_of}
 use Rattle.sig_core.specs.declared.mark.Mark.TheVariants.{Reported}
 use Rattle.sig_core.specs.declared.outcome.Outcome.TheVariants.{Aborted}
@@ -35,7 +35,8 @@ module _ (start : Start) (shape : IsShape start.shape) where
       (within_cut (machine start) (stamped start) (hosts start) inside logs cut.within cut.cut)
 
 -- what is marked at a step behind a log
-marks_behind : (start : Start) (logs : ℕ → List HostStep) (newer : List HostStep) (e : HostStep) (before : List HostStep)
+marks_behind : (start : Start) (logs : ℕ → List HostStep) (newer : List HostStep) (e : HostStep)
+    (before : List HostStep)
     → AreMarksCaused start logs (newer ++ e ∷ before) → Each (IsMarkCaused start logs before) e.step.marks
 marks_behind start logs [] e before all = all.0
 marks_behind start logs (f ∷ newer) e before all = marks_behind start logs newer e before all.1
@@ -49,7 +50,8 @@ aborts_caused start inside logs shape cut e before past tx why among =
 pub away_too_many : TurnedAwayAreTooMany
 away_too_many start inside logs shape cut e name among is =
     let all = cuts_tell start shape inside logs cut in
-    subst (Tells start inside) is (each_in (λ (f : HostStep). Tells start inside f.step.taken.body) e (inside 0) (all.taken 0) among)
+    subst (Tells start inside) is
+    (each_in (λ (f : HostStep). Tells start inside f.step.taken.body) e (inside 0) (all.taken 0) among)
 
 pub replies_caused : RepliesAreCaused
 replies_caused start inside logs shape cut =

@@ -1,6 +1,6 @@
--- Along every run: each signal that gives a cause tells of one that is in the logs, and so do each transaction that is aborted,
--- each report and each reply.
-use Rattle.std.proofs.Common.{◌≡◌, ◌≢◌, ◌⊎◌, ℕ, zero, suc, ◌%◌, Bool, true, false, List, [], ◌∷◌, ◌++◌, refl, sym, ap, ◌∙◌, subst, inl, inr}
+-- Along every run: each signal that gives a cause tells of one that is in the logs, and so do each transaction that is
+-- aborted, each report and each reply.
+use Rattle.std.proofs.Common.{◌≡◌, ◌≢◌, ◌⊎◌, ℕ, zero, suc, ◌%◌, Bool, true, false, List, [], ◌∷◌, refl, sym, ap, ◌∙◌, subst, inl, inr}
 use Rattle.std.proofs.lemmas.Bool.{cases_eq, true≢false}
 use Rattle.std.specs.List.{list_any}
 use Rattle.std.specs.Prelude.{length, nat_lt}
@@ -24,26 +24,24 @@ use Rattle.sig_core.specs.declared.reply.ApiReply.TheVariants.{Ended, Refused}
 use Rattle.sig_core.specs.declared.reply.Refusal.TheVariants.{TooManyOpen}
 use Rattle.sig_core.specs.declared.signal.Body.{Body}
 use Rattle.sig_core.specs.declared.signal.Body.TheVariants.{Chain, Client, Epoch}
-use Rattle.sig_core.specs.declared.signal.chain.ChainSignal.TheVariants.{Abort, LqhKeyRef}
+use Rattle.sig_core.specs.declared.signal.chain.ChainSignal.TheVariants.{LqhKeyRef}
 use Rattle.sig_core.specs.declared.signal.client.ClientSignal.TheVariants.{TcBeginRef, TcRollbackRep, TcRollbackReq}
 use Rattle.sig_core.specs.declared.signal.epoch.EpochSignal.TheVariants.{DiVerifyReq}
 use Rattle.sig_core.specs.declared.signal.Signal.{Signal}
-use Rattle.sig_core.specs.Place.{client, coordinator_of}
+use Rattle.sig_core.specs.Place.{coordinator_of}
 use Rattle.sig_core.specs.Same.{same_tx}
-use Rattle.sig_core.specs.Step.{Step, stay, to_place}
+use Rattle.sig_core.specs.Step.{Effects, Step, to_place}
 use Rattle.frag_map.specs.Layout.{first_layout}
 use Rattle.api_block.specs.State.{ApiState}
-use Rattle.api_block.proofs.EachApi.{api_marks_each}
 use Rattle.lqh_block.proofs.EachLqh.{lqh_marks_each}
-use Rattle.lqh_block.specs.Lqh.{lqh_row, lqh_table}
+use Rattle.lqh_block.specs.Lqh.{lqh_table}
 use Rattle.lqh_block.specs.Storage.{refusal}
 use Rattle.tc_block.specs.declared.phase.Phase.{Phase}
 use Rattle.tc_block.specs.declared.phase.Phase.TheVariants.{Aborting, Open}
 use Rattle.tc_block.specs.declared.transaction.Transaction.{Transaction}
 use Rattle.tc_block.specs.Phases.{is_aborting}
 use Rattle.tc_block.specs.State.{TcState}
-use Rattle.tc_block.specs.Tc.{tc_row, tc_table}
-use Rattle.node_core.proofs.HostCases.{BlockCase, IsApiStep, IsDihStep, IsRowsStep, IsTcStep, api_step, api_takes, block_case, dih_takes, each_mark, none_takes, rows_take, tc_step, tc_takes}
+use Rattle.node_core.proofs.HostCases.{BlockCase, IsApiStep, IsRowsStep, IsTcStep, api_step, api_takes, block_case, dih_takes, each_mark, none_takes, rows_take, tc_step, tc_takes}
 use Rattle.node_core.specs.Blocks.{api_of, dih_of, has_api, has_tc, lqh_of, tc_of}
 use Rattle.node_core.specs.declared.host.Host.{Host}
 use Rattle.node_core.specs.Dih.{DihState, decide_if, decide_row, dih_table}
@@ -60,7 +58,6 @@ use Rattle.host_laws.proofs.BlocksAlong.{first_live}
 use Rattle.host_laws.proofs.DihSends.{dih_kinds}
 use Rattle.host_laws.proofs.OneWay.{back_aborting}
 use Rattle.host_laws.proofs.SendKinds.{each_of, is_dih_kind}
-use Rattle.host_laws.proofs.StartedHosts.{none_live}
 use Rattle.host_laws.proofs.TcLives.{IsOwn}
 use Rattle.host_laws.proofs.TcMarks.{tc_marks}
 use Rattle.run_laws.specs.GivenUp.{is_given_up}
@@ -82,7 +79,8 @@ module _ (start : Start) where
   abbrev pub Caused : (ℕ → List HostStep) → TxId → AbortCause → Type 0
   Caused logs tx why = IsCaused start logs (logs 0) tx why
 
-  -- what a refusal tells: of its cause, and where that is that the transaction is aborted, that its coordinator has given it up
+  -- what a refusal tells: of its cause, and where that is that the transaction is aborted, that its coordinator has given
+  -- it up
   abbrev RefusalTells : (ℕ → List HostStep) → TxId → AbortCause → Type 0
   RefusalTells logs tx cause.Request = is_given_up start logs tx ≡ true
   RefusalTells logs tx why = Caused logs tx why
@@ -191,12 +189,14 @@ module _ (start : Start) where
         by tx (Aborting why verifying awaited) is = own_more tx why is
         by tx _ is = tt
 
-    replies_more : (replies : List ApiReply) → Each (IsReplyCaused start small) replies → Each (IsReplyCaused start large) replies
+    replies_more : (replies : List ApiReply) → Each (IsReplyCaused start small) replies
+        → Each (IsReplyCaused start large) replies
     replies_more replies all =
         each_map (IsReplyCaused start small) (IsReplyCaused start large) replies (reply_more start small large past) all
 
   module _ (es : List HostStep) (e : HostStep) (before between : List Addressed) (come : Comes start es e)
-      (transit : AreInTransit start es before) (held : Holds (logs_of start es) before) (takes : Takes e before between) where
+      (transit : AreInTransit start es before) (held : Holds (logs_of start es) before)
+      (takes : Takes e before between) where
     abbrev h : ℕ
     h = e.host
 
@@ -217,6 +217,17 @@ module _ (start : Start) where
 
     own_now : now h ≡ e ∷ old h
     own_now = log_of-own (machine start) e es h refl
+
+    -- all that the step sends
+    abbrev sends : List Outgoing
+    sends = (row g x).effects.sends
+
+    -- the wish for an abort, and the marks of the rows
+    abbrev wish_for : TxId → Outgoing
+    wish_for tx = to_place (coordinator_of tx) (Client (TcRollbackReq tx))
+
+    abbrev row_marks : List Mark
+    row_marks = (lqh_table (lqh_of g) x.body).effects.marks
 
     -- this step, in the logs
     inside : IsPast (e ∷ old h) (now h)
@@ -268,103 +279,116 @@ module _ (start : Start) where
     }
 
     -- what each block sends
-    wish_told : has_api g ≡ true → (tx : TxId)
-        → IsIn (to_place (coordinator_of tx) (Client (TcRollbackReq tx))) (row g x).effects.sends → ApiTells (api_of g) x.body (coordinator_of tx) (Client (TcRollbackReq tx))
+    wish_told : has_api g ≡ true → (tx : TxId) → IsIn (wish_for tx) sends → IsWish (api_of g) x.body tx
         → IsWished start (now 0) tx
-    wish_told runs tx among told = by (api_found start h (old h) runs)
+    wish_told runs tx among wish = by (api_found start h (old h) runs)
       where
         IsHere : ℕ → Type 0
         IsHere k =
             IsPast (e ∷ old k) (now k) × (IsWish (api_of (after start k (old k))) x.body tx
-            × IsIn (to_place (coordinator_of tx) (Client (TcRollbackReq tx))) (step_after start k (old k) e).effects.sends)
+            × IsIn (wish_for tx) (step_after start k (old k) e).effects.sends)
 
         by : h ≡ 0 → IsWished start (now 0) tx
         by at =
-            let here : IsHere 0 = subst IsHere at (inside, (told.1, among)) in
+            let here : IsHere 0 = subst IsHere at (inside, (wish, among)) in
             record { step = e; before = old 0; inside = here.0; asked = here.1.0; sent = here.1.1 }
 
-    api_told : has_api g ≡ true → (to : Place) (b : Body) → IsIn (to_place to b) (row g x).effects.sends
+    api_told : has_api g ≡ true → (to : Place) (b : Body) → IsIn (to_place to b) sends
         → ApiTells (api_of g) x.body to b → Tells now b
     api_told runs to (Client (TcRollbackReq tx)) among told =
-        wish_told runs tx (subst (λ p. IsIn (to_place p (Client (TcRollbackReq tx))) (row g x).effects.sends) told.0 among) (refl, told.1)
+        wish_told runs tx (subst (λ p. IsIn (to_place p (Client (TcRollbackReq tx))) sends) told.0 among) told.1
     api_told runs to (Client (TcRollbackRep tx why)) among told = absurd told
     api_told runs to (Client (TcBeginRef name)) among told = absurd told
     api_told runs to (Chain (LqhKeyRef tx key why)) among told = absurd told
     api_told runs to _ among told = tt
 
-    tc_told : has_tc g ≡ true → (to : Place) (b : Body) → IsIn (to_place to b) (row g x).effects.sends
+    tc_told : has_tc g ≡ true → (to : Place) (b : Body) → IsIn (to_place to b) sends
         → TcTells (Caused old) b → BeginTells (tc_of g) x.body to b → Tells now b
     tc_told runs to (Client (TcRollbackReq tx)) among told begun = absurd told
     tc_told runs to (Client (TcRollbackRep tx why)) among told begun = own_more old now past tx why told
     tc_told runs to (Client (TcBeginRef name)) among told begun = record {
-      host = h; step = e; before = old h; inside = inside; runs = runs; asked = begun.1.0; many = begun.1.1;
-      sent = subst (λ p. IsIn (to_place p (Client (TcBeginRef name))) (row g x).effects.sends) begun.0 among;
+      host = h;
+      step = e;
+      before = old h;
+      inside = inside;
+      runs = runs;
+      asked = begun.1.0;
+      many = begun.1.1;
+      sent = subst (λ p. IsIn (to_place p (Client (TcBeginRef name))) sends) begun.0 among;
     }
     tc_told runs to (Chain (LqhKeyRef tx key why)) among told begun = absurd told
     tc_told runs to _ among told begun = tt
 
     row_refused : IsRowsStep g x (row g x) → (tx : TxId) (key : List ℕ) (why : AbortCause)
-        → IsIn (refusal tx key why) (row g x).effects.sends
-        → IsReason (lqh_of g) x.body (lqh_table (lqh_of g) x.body).effects.marks tx key why → RefusalTells now tx why
+        → IsIn (refusal tx key why) sends → IsReason (lqh_of g) x.body row_marks tx key why → RefusalTells now tx why
     row_refused step tx key why among reason = by why among reason
       where
-        marked : e.step.marks ≡ (lqh_table (lqh_of g) x.body).effects.marks
+        marked : e.step.marks ≡ row_marks
         marked = come.happens.step.fits.marks ∙ ap (λ f. f.marks) step.effects
 
-        refused : (cause : AbortCause) → IsIn (refusal tx key cause) (row g x).effects.sends
-            → IsReason (lqh_of g) x.body (lqh_table (lqh_of g) x.body).effects.marks tx key cause → IsRefused start now tx cause
+        refused : (cause : AbortCause) → IsIn (refusal tx key cause) sends
+            → IsReason (lqh_of g) x.body row_marks tx key cause → IsRefused start now tx cause
         refused cause among reason = record {
-          host = h; step = e; before = old h; inside = inside; runs = step.runs; key = key; sent = among;
+          host = h;
+          step = e;
+          before = old h;
+          inside = inside;
+          runs = step.runs;
+          key = key;
+          sent = among;
           reason = subst (λ ms. IsReason (lqh_of g) x.body ms tx key cause) (sym marked) reason;
         }
 
-        by : (why : AbortCause) → IsIn (refusal tx key why) (row g x).effects.sends
-            → IsReason (lqh_of g) x.body (lqh_table (lqh_of g) x.body).effects.marks tx key why → RefusalTells now tx why
+        by : (why : AbortCause) → IsIn (refusal tx key why) sends
+            → IsReason (lqh_of g) x.body row_marks tx key why → RefusalTells now tx why
         by (cause.LogFull used reserved need) among reason = refused (cause.LogFull used reserved need) among reason
         by (cause.TableFull rows) among reason = refused (cause.TableFull rows) among reason
         by cause.Timeout among reason = refused cause.Timeout among reason
         by cause.Request among reason =
             given_more start old now tx past
-            (subst (λ w. IsTold start old w) (ap way_of reason) (taken_told start es e before between come transit takes))
+            (subst (λ w. IsTold start old w) (ap way_of reason)
+            (taken_told start es e before between come transit takes))
         by (cause.NodeFail view) among reason = absurd reason
         by cause.Down among reason = absurd reason
 
-    row_told : IsRowsStep g x (row g x) → (to : Place) (b : Body) → IsIn (to_place to b) (row g x).effects.sends
-        → RowTells (lqh_of g) x.body (lqh_table (lqh_of g) x.body).effects.marks to b → Tells now b
+    row_told : IsRowsStep g x (row g x) → (to : Place) (b : Body) → IsIn (to_place to b) sends
+        → RowTells (lqh_of g) x.body row_marks to b → Tells now b
     row_told step to (Chain (LqhKeyRef tx key why)) among told =
         row_refused step tx key why
-        (subst (λ p. IsIn (to_place p (Chain (LqhKeyRef tx key why))) (row g x).effects.sends) told.0 among) told.1
+        (subst (λ p. IsIn (to_place p (Chain (LqhKeyRef tx key why))) sends) told.0 among) told.1
     row_told step to (Client (TcRollbackReq tx)) among told = absurd told
     row_told step to (Client (TcRollbackRep tx why)) among told = absurd told
     row_told step to (Client (TcBeginRef name)) among told = absurd told
     row_told step to _ among told = tt
 
-    sends_told : Each (λ (o : Outgoing). Tells now o.body) (row g x).effects.sends
-    sends_told = each_from (λ (o : Outgoing). Tells now o.body) (row g x).effects.sends (by (block_case g x))
+    -- what holds of the effects of a block holds of each signal of the step
+    of_step : (P : Outgoing → Type 0) (f : Effects) → (row g x).effects ≡ f → Each P f.sends → (o : Outgoing) → IsIn o sends
+        → P o
+    of_step P f same all o among =
+        each_in P o sends (subst (λ (f : Effects). Each P f.sends) (sym same) all) among
+
+    sends_told : Each (λ (o : Outgoing). Tells now o.body) sends
+    sends_told = each_from (λ (o : Outgoing). Tells now o.body) sends (by (block_case g x))
       where
-        by : BlockCase g x (row g x) → (o : Outgoing) → IsIn o (row g x).effects.sends → Tells now o.body
+        by : BlockCase g x (row g x) → (o : Outgoing) → IsIn o sends → Tells now o.body
         by (api_takes step) o among =
             api_told step.runs o.to o.body among
-            (each_in (λ (o : Outgoing). ApiTells (api_of g) x.body o.to o.body) o (row g x).effects.sends
-            (subst (λ f. Each (λ (o : Outgoing). ApiTells (api_of g) x.body o.to o.body) f.sends) (sym step.effects) (api_fine (api_of g) x.body).sends) among)
+            (of_step (λ (o : Outgoing). ApiTells (api_of g) x.body o.to o.body) _ step.effects
+            (api_fine (api_of g) x.body).sends o among)
         by (tc_takes step) o among =
             tc_told step.runs o.to o.body among
-            (each_in (λ (o : Outgoing). TcTells (Caused old) o.body) o (row g x).effects.sends
-            (subst (λ f. Each (λ (o : Outgoing). TcTells (Caused old) o.body) f.sends) (sym step.effects)
-            (tc_caused (Caused old) (tc_of g) x.body (tells_tc step.runs) (held.all.live h)).sends) among)
-            (each_in (λ (o : Outgoing). BeginTells (tc_of g) x.body o.to o.body) o (row g x).effects.sends
-            (subst (λ f. Each (λ (o : Outgoing). BeginTells (tc_of g) x.body o.to o.body) f.sends) (sym step.effects)
-            (begins_tell (tc_of g) x.body)) among)
+            (of_step (λ (o : Outgoing). TcTells (Caused old) o.body) _ step.effects
+            (tc_caused (Caused old) (tc_of g) x.body (tells_tc step.runs) (held.all.live h)).sends o among)
+            (of_step (λ (o : Outgoing). BeginTells (tc_of g) x.body o.to o.body) _ step.effects
+            (begins_tell (tc_of g) x.body) o among)
         by (dih_takes step) o among =
-            each_in (λ (o : Outgoing). Tells now o.body) o (row g x).effects.sends
-            (subst (λ f. Each (λ (o : Outgoing). Tells now o.body) f.sends) (sym step.effects)
+            of_step (λ (o : Outgoing). Tells now o.body) _ step.effects
             (each_of is_dih_kind (λ (o : Outgoing). Tells now o.body) (λ o is. dih_tells now o.body is)
-            (dih_table (dih_of g) x.body).effects.sends (dih_kinds (dih_of g) x.body))) among
+            (dih_table (dih_of g) x.body).effects.sends (dih_kinds (dih_of g) x.body)) o among
         by (rows_take step) o among =
             row_told step o.to o.body among
-            (each_in (λ (o : Outgoing). RowTells (lqh_of g) x.body (lqh_table (lqh_of g) x.body).effects.marks o.to o.body) o (row g x).effects.sends
-            (subst (λ f. Each (λ (o : Outgoing). RowTells (lqh_of g) x.body (lqh_table (lqh_of g) x.body).effects.marks o.to o.body) f.sends) (sym step.effects)
-            (rows_tell (lqh_of g) x.body).sends) among)
+            (of_step (λ (o : Outgoing). RowTells (lqh_of g) x.body row_marks o.to o.body) _ step.effects
+            (rows_tell (lqh_of g) x.body).sends o among)
         by (none_takes step) o among =
             absurd (subst (λ (u : Step Host). IsIn o u.effects.sends) step.is among)
 
@@ -372,7 +396,8 @@ module _ (start : Start) where
     live_now : (k : ℕ) → AllCaused (Caused now) (tc_of (after start k (now k))).live
     live_now k = by (cases_eq h k)
       where
-        kept : IsTcStep g x (row g x) ⊎ (tc_of (row g x).state ≡ tc_of g) → AllCaused (Caused old) (tc_of (row g x).state).live
+        kept : IsTcStep g x (row g x) ⊎ (tc_of (row g x).state ≡ tc_of g)
+            → AllCaused (Caused old) (tc_of (row g x).state).live
         kept (inl step) =
             subst (λ (s : TcState). AllCaused (Caused old) s.live) (sym step.state)
             (tc_caused (Caused old) (tc_of g) x.body (tells_tc step.runs) (held.all.live h)).live
@@ -385,13 +410,15 @@ module _ (start : Start) where
         by : (h ≡ k) ⊎ (h ≢ k) → AllCaused (Caused now) (tc_of (after start k (now k))).live
         by (inl same) = subst (λ i. AllCaused (Caused now) (tc_of (after start i (now i))).live) same own
         by (inr other) =
-            subst (λ log. AllCaused (Caused now) (tc_of (after start k log)).live) (sym (log_of-other (machine start) e es k other))
+            subst (λ log. AllCaused (Caused now) (tc_of (after start k log)).live)
+            (sym (log_of-other (machine start) e es k other))
             (live_more old now past (tc_of (after start k (old k))).live (held.all.live k))
 
     -- what is replied there
     reply_told : (reply : ApiReply) → IsToldBy x.body reply → IsReplyCaused start now reply
     reply_told (Refused name TooManyOpen) is = away_more start old now past name (subst (Tells old) is old_told)
-    reply_told (Ended name (outcome.Aborted why)) is = (is.0, own_more old now past is.0 why (subst (Tells old) is.1 old_told))
+    reply_told (Ended name (outcome.Aborted why)) is =
+        (is.0, own_more old now past is.0 why (subst (Tells old) is.1 old_told))
     reply_told _ is = tt
 
     replies_now : (k : ℕ) → Each (IsReplyCaused start now) (api_of (after start k (now k))).replies
@@ -411,12 +438,14 @@ module _ (start : Start) where
         kept (inr same) = subst (λ (s : ApiState). Each (IsReplyCaused start now) s.replies) (sym same) was
 
         own : Each (IsReplyCaused start now) (api_of (after start h (now h))).replies
-        own = subst (λ log. Each (IsReplyCaused start now) (api_of (after start h log)).replies) (sym own_now) (kept (api_step g x))
+        own = subst (λ log. Each (IsReplyCaused start now) (api_of (after start h log)).replies) (sym own_now)
+            (kept (api_step g x))
 
         by : (h ≡ k) ⊎ (h ≢ k) → Each (IsReplyCaused start now) (api_of (after start k (now k))).replies
         by (inl same) = subst (λ i. Each (IsReplyCaused start now) (api_of (after start i (now i))).replies) same own
         by (inr other) =
-            subst (λ log. Each (IsReplyCaused start now) (api_of (after start k log)).replies) (sym (log_of-other (machine start) e es k other))
+            subst (λ log. Each (IsReplyCaused start now) (api_of (after start k log)).replies)
+            (sym (log_of-other (machine start) e es k other))
             (replies_more old now past (api_of (after start k (old k))).replies (held.all.replies k))
 
     -- and what is marked
@@ -429,7 +458,8 @@ module _ (start : Start) where
     step_marks =
         subst (Each (IsMarkCaused now (old 0))) (sym come.happens.step.fits.marks)
         (each_mark (IsMarkCaused now (old 0)) g x (record {
-          api = λ runs at. each_map (IsMarkedBy x.body) (IsMarkCaused now (old 0)) _ mark_told (api_fine (api_of g) x.body).marks;
+          api = λ runs at.
+              each_map (IsMarkedBy x.body) (IsMarkCaused now (old 0)) _ mark_told (api_fine (api_of g) x.body).marks;
           tc = λ runs at. subst (Each (IsMarkCaused now (old 0))) (sym (tc_marks (tc_of g) x.body)) tt;
           dih = λ runs at. dih_caused now (old 0) (dih_of g) x.body;
           rows = λ runs at. rows_caused now (old 0) g x.body;
@@ -450,8 +480,8 @@ module _ (start : Start) where
       all = record {
         taken = λ k. each_next (machine start) (λ (f : HostStep). Tells now f.step.taken.body) es e k
             (tells_more old now past x.body old_told)
-            (each_map (λ (f : HostStep). Tells old f.step.taken.body) (λ (f : HostStep). Tells now f.step.taken.body) (old k)
-            (λ f is. tells_more old now past f.step.taken.body is) (held.all.taken k));
+            (each_map (λ (f : HostStep). Tells old f.step.taken.body) (λ (f : HostStep). Tells now f.step.taken.body)
+            (old k) (λ f is. tells_more old now past f.step.taken.body is) (held.all.taken k));
         live = live_now;
         marks = marks_now;
         replies = replies_now;
@@ -468,7 +498,8 @@ module _ (start : Start) where
   first_replies zero = refl
   first_replies (suc h) = by (part_by (h % 3)) (member_at (made start) (suc h))
     where
-      by : (of : Part) (member : Member) → (api_of (fresh_part of member (first_layout start.shape) start.epoch start.rows)).replies ≡ []
+      by : (of : Part) (member : Member)
+          → (api_of (fresh_part of member (first_layout start.shape) start.epoch start.rows)).replies ≡ []
       by part.Main member = refl
       by part.Tc member = refl
       by part.Ldm member = refl
@@ -485,7 +516,9 @@ module _ (start : Start) where
   }
 
   -- after every run
-  pub all_tell : (es : List HostStep) (xs : List Addressed) → IsRun start es → AreInTransit start es xs → AllTell (logs_of start es)
+  pub all_tell : (es : List HostStep) (xs : List Addressed) → IsRun start es → AreInTransit start es xs
+      → AllTell (logs_of start es)
   all_tell es xs run transit =
       (along_transit start (λ es xs. Holds (logs_of start es) xs) none_hold
-      (λ es e before between come rest held takes. next_holds es e before between come rest held takes) es xs run transit).all
+      (λ es e before between come rest held takes. next_holds es e before between come rest held takes)
+      es xs run transit).all

@@ -1,12 +1,11 @@
--- Whatever the rows of a node refuse they have reason to, and whatever wait they mark to be over has stood too long: here the
--- numbers and the test of each row are what the law is about.
-use Rattle.std.proofs.Common.{◌≡◌, ◌≤◌, ◌<◌, ◌==◌, ℕ, ◌+◌, Bool, true, false, List, [], ◌∷◌, ◌++◌, refl, sym, ap, ◌∙◌, subst, inl, inr, arith}
+-- Whatever the rows of a node refuse they have reason to, and whatever wait they mark to be over has stood too long:
+-- here the numbers and the test of each row are what the law is about.
+use Rattle.std.proofs.Common.{◌≡◌, ◌≤◌, ◌==◌, ℕ, ◌+◌, Bool, true, false, List, [], ◌∷◌, refl, sym, ap, ◌∙◌, subst, inl, inr, arith}
 use Rattle.std.proofs.lemmas.Bool.Decides.{nat_tests}
 use Rattle.std.specs.FinMap.{entries}
 use Rattle.std.specs.Prelude.{◌&&◌, nat_le, nat_lt, not, is_some, remove, slice_get, Option, None, Some}
 use Rattle.run_theory.proofs.Pasts.{each_append}
 use Rattle.run_theory.specs.Lists.{Each, IsIn}
-use Rattle.sig_core.specs.declared.journal.TheConstants.{JOURNAL_BYTES}
 use Rattle.sig_core.specs.declared.mark.Mark.{Mark}
 use Rattle.sig_core.specs.declared.mark.Mark.TheVariants as mark
 use Rattle.sig_core.specs.declared.member.Member.{Member}
@@ -14,7 +13,6 @@ use Rattle.sig_core.specs.declared.member.TxId.{TxId}
 use Rattle.sig_core.specs.declared.op.Answer.{Answer}
 use Rattle.sig_core.specs.declared.op.Answer.TheVariants as answer
 use Rattle.sig_core.specs.declared.op.Op.{Op}
-use Rattle.sig_core.specs.declared.outcome.AbortCause.TheVariants as cause
 use Rattle.sig_core.specs.declared.outs.Outgoing.{Outgoing}
 use Rattle.sig_core.specs.declared.place.Place.{Place}
 use Rattle.sig_core.specs.declared.rows.TheConstants.{PLACES}
@@ -100,7 +98,11 @@ stood : (locks : Locks) (w : TxId × List ℕ) → expired locks ≡ Some w → 
 stood locks w is =
     let s = first_stands (entries locks) w.0 w.1 is in
     record {
-      lock = s.lock; there = s.there; wait = s.over.wait; queued = s.over.queued; whose = s.over.whose;
+      lock = s.lock;
+      there = s.there;
+      wait = s.over.wait;
+      queued = s.over.queued;
+      whose = s.over.whose;
       long = s.over.long;
     }
 
@@ -154,9 +156,16 @@ module _ (s : LqhState) (body : Body) where
           → StepTells (storage.store_if (storage_of s) tx key image chain at log full)
       by true over full there = record {
         sends = (
-          (refl, record {
-            used_is = refl; reserved_is = refl; image = image; need_is = refl; full = grind (arith, nat_tests, over);
-          }),
+          (
+            refl,
+            record {
+              used_is = refl;
+              reserved_is = refl;
+              image = image;
+              need_is = refl;
+              full = grind (arith, nat_tests, over);
+            },
+          ),
           tt,
         );
         marks = tt;
@@ -224,7 +233,8 @@ module _ (s : LqhState) (body : Body) where
       by : (t : LqhState) (had : Option Bool) (b : Bool) → StepTells (commit.told_if t tx key epoch chain at had b)
       by t had true = record {
         sends = (
-          tt, goes_on (commit.applied_marks tx key had) t.node work.Granted (nat_lt 0 (freed_lock t tx key).granted),
+          tt,
+          goes_on (commit.applied_marks tx key had) t.node work.Granted (nat_lt 0 (freed_lock t tx key).granted),
         );
         marks = applied had;
       }

@@ -1,9 +1,9 @@
 -- A coordinator turns a beginning away only where it was asked for one of that name, and has too many.
-use Rattle.std.proofs.Common.{◌≡◌, ◌⊎◌, ◌≤◌, ◌==◌, ℕ, ◌-◌, ◌^◌, Bool, true, false, List, [], ◌∷◌, length, refl, inl, inr, arith}
+use Rattle.std.proofs.Common.{◌≡◌, ◌⊎◌, ◌==◌, ℕ, ◌-◌, ◌^◌, Bool, true, false, length, refl, inl, inr, arith}
 use Rattle.std.proofs.lemmas.Bool.{eqb-true, or_cases}
 use Rattle.std.proofs.lemmas.Bool.Decides.{nat_tests}
 use Rattle.std.specs.Map.{values_of}
-use Rattle.std.specs.Prelude.{◌||◌, nat_le, is_some, Option, None, Some, slice_get}
+use Rattle.std.specs.Prelude.{nat_le, is_some, Option, None, Some, slice_get}
 use Rattle.run_theory.proofs.EachSent.{each_mapped}
 use Rattle.run_theory.specs.Lists.{Each}
 use Rattle.sig_core.specs.declared.member.TxId.{TxId}
@@ -118,7 +118,8 @@ module _ (s : TcState) (body : Body) where
           (rest_of_kind is_other layout tx (chains tx) node t at (fronts tx t.phase));
       operates = λ op is can. (tt, tt);
       answers = λ key answer asked is on at. (tt, tt);
-      late = λ key asked why verifying awaited on at. each_mapped Tells (abort_of tx key) (chain_of layout key) (λ m. tt);
+      late = λ key asked why verifying awaited on at.
+          each_mapped Tells (abort_of tx key) (chain_of layout key) (λ m. tt);
       waits = λ asked on. each_mapped Tells (wait_of tx (key_of asked.op)) asked.chain (λ m. tt);
       decides = λ is ready. (tt, tt);
       commits = λ epoch is at some. enters t (Committing epoch (length t.touched));

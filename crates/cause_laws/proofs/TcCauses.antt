@@ -1,5 +1,5 @@
 -- A coordinator aborts a transaction for the cause that it was told, and reports that cause.
-use Rattle.std.proofs.Common.{◌≡◌, ℕ, Bool, true, false, List, [], ◌∷◌, ◌++◌, length, refl, sym, ap, subst, inl}
+use Rattle.std.proofs.Common.{◌≡◌, ℕ, Bool, true, false, List, [], ◌∷◌, ◌++◌, length, refl, sym, subst, inl}
 use Rattle.std.specs.Prelude.{None, if◌then◌else◌}
 use Rattle.indexmap.specs.IndexMap.{insert_entry}
 use Rattle.run_theory.proofs.EachSent.{each_mapped}
@@ -141,10 +141,12 @@ module _ (C : TxId → AbortCause → Type 0) where
       operates = λ op is can. record { state = fine; sends = (tt, tt) };
       answers = λ key answer asked is on at. record { state = fine; sends = (tt, tt) };
       late = λ key asked why verifying awaited on at. record {
-        state = fine; sends = each_mapped Sent (abort_of tx key) (chain_of layout key) (λ m. tt);
+        state = fine;
+        sends = each_mapped Sent (abort_of tx key) (chain_of layout key) (λ m. tt);
       };
       waits = λ asked on. record {
-        state = fine; sends = each_mapped Sent (wait_of tx (key_of asked.op)) asked.chain (λ m. tt);
+        state = fine;
+        sends = each_mapped Sent (wait_of tx (key_of asked.op)) asked.chain (λ m. tt);
       };
       decides = λ is ready. record { state = tt; sends = (tt, tt) };
       commits = λ epoch is at some. enters t (Committing epoch (length t.touched)) tt;
@@ -157,7 +159,8 @@ module _ (C : TxId → AbortCause → Type 0) where
       refuses = λ key why asked is on at. aborts (asking t None) fine why (refused key why is at);
       aborted = λ why verifying awaited at more. record { state = subst (IsAbortedFor tx) at fine; sends = tt };
       aborted_all = λ why verifying awaited at last. record {
-        state = fine; sends = abort_ends why verifying (subst (IsAbortedFor tx) at fine);
+        state = fine;
+        sends = abort_ends why verifying (subst (IsAbortedFor tx) at fine);
       };
     }
 
@@ -198,7 +201,8 @@ module _ (C : TxId → AbortCause → Type 0) where
       own tx t at split = (each_after Own split.front ((tx, t) ∷ split.back) (all_split tx t at split)).0
 
       among : (tx : TxId) (t : Transaction) (at : ℕ) → Split tx t s.live at → IsIn (tx, t) s.live
-      among tx t at split = subst (IsIn (tx, t)) (sym split.is) (in_append (tx, t) split.front ((tx, t) ∷ split.back) (inl refl))
+      among tx t at split =
+          subst (IsIn (tx, t)) (sym split.is) (in_append (tx, t) split.front ((tx, t) ∷ split.back) (inl refl))
 
       before : (tx : TxId) (t : Transaction) (at : ℕ) (split : Split tx t s.live at) → Each Own split.front
       before tx t at split = each_before Own split.front ((tx, t) ∷ split.back) (all_split tx t at split)

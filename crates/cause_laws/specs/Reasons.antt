@@ -24,8 +24,8 @@ use Rattle.lqh_block.specs.Lqh.{lqh_table}
 use Rattle.lqh_block.specs.State.{LqhState}
 use Rattle.lqh_block.specs.Storage.{need_of}
 
--- The journal has just these bytes used and reserved, and they exceed its room with those that are needed, which are those of
--- some image of the row.
+-- The journal has just these bytes used and reserved, and they exceed its room with those that are needed, which are
+-- those of some image of the row.
 pub record IsLogFull (journal : JournalState) (tx : TxId) (key : List ℕ) (used reserved need : ℕ) : Type 0 where
   pub used_is : used ≡ journal.used
   pub reserved_is : reserved ≡ journal.reserved
@@ -62,8 +62,8 @@ IsLongWait s body other = Unit {0}
 abbrev pub OnlyLongWaitsExpire : Type 0
 OnlyLongWaitsExpire = (s : LqhState) (body : Body) → Each (IsLongWait s body) (lqh_table s body).effects.marks
 
--- In this state, at a signal that says this and is marked so, the rows may refuse the transaction at the key for this cause:
--- for want of room or of time, or since it is aborted, and for no other.
+-- In this state, at a signal that says this and is marked so, the rows may refuse the transaction at the key for this
+-- cause: for want of room or of time, or since it is aborted, and for no other.
 abbrev pub IsReason : LqhState → Body → List Mark → TxId → List ℕ → AbortCause → Type 0
 IsReason s body marks tx key (LogFull used reserved need) = IsLogFull s.journal tx key used reserved need
 IsReason s body marks tx key (TableFull rows) = IsTableFull s.rows key rows

@@ -28,8 +28,8 @@ use Rattle.cause_laws.specs.Causes.{IsCaused}
 abbrev pub HasTooMany : TcState → Type 0
 HasTooMany s = (TRANSACTIONS ≤ length s.live) ⊎ (s.next_seq ≡ 2 ^ 64 - 1)
 
--- There is a moment in the logs at which a coordinator was asked to begin a transaction for this name, had too many in the state
--- before that step, and turned it away.
+-- There is a moment in the logs at which a coordinator was asked to begin a transaction for this name, had too many in
+-- the state before that step, and turned it away.
 pub record IsTurnedAway (start : Start) (logs : ℕ → List HostStep) (name : Option ℕ) : Type 0 where
   pub host : ℕ
   pub step : HostStep
@@ -47,7 +47,8 @@ TurnedAwayAreTooMany =
     → (e : HostStep) (name : Option ℕ) → IsIn e (inside 0) → e.step.taken.body ≡ Client (TcBeginRef name)
     → IsTurnedAway start inside name
 
--- that too many are open is replied only upon that signal of the name, and an abort only upon the report of one for this cause
+-- that too many are open is replied only upon that signal of the name, and an abort only upon the report of one for
+-- this cause
 abbrev pub IsToldBy : Body → ApiReply → Type 0
 IsToldBy body (Refused name TooManyOpen) = body ≡ Client (TcBeginRef name)
 IsToldBy body (Ended name (Aborted why)) = (tx : TxId) × (body ≡ Client (TcRollbackRep tx why))
@@ -62,7 +63,8 @@ pub record AddsReplies (s : ApiState) (body : Body) (after : ApiState) : Type 0 
 abbrev pub RepliesAreTold : Type 0
 RepliesAreTold = (s : ApiState) (body : Body) → AddsReplies s body (api_table s body).state
 
--- the reply tells of an abort that has its cause in these logs, or of a beginning that was turned away in them, or of neither
+-- the reply tells of an abort that has its cause in these logs, or of a beginning that was turned away in them, or of
+-- neither
 abbrev pub IsReplyCaused : Start → (ℕ → List HostStep) → ApiReply → Type 0
 IsReplyCaused start logs (Refused name TooManyOpen) = IsTurnedAway start logs name
 IsReplyCaused start logs (Ended name (Aborted why)) = (tx : TxId) × IsCaused start logs (logs 0) tx why
