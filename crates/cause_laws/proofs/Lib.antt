@@ -2,6 +2,8 @@ pub mod ApiReplies
 pub mod Causes
 pub mod CausesAlong
 pub mod CausesGrow
+pub mod QueueRounds
 pub mod RowReasons
 pub mod TcBegins
 pub mod TcCauses
+pub mod Waited

@@ -1,8 +1,9 @@
 -- Whatever the rows of a node refuse they have reason to, and whatever wait they mark to be over has stood too long:
 -- here the numbers and the test of each row are what the law is about.
-use Rattle.std.proofs.Common.{◌≡◌, ◌≤◌, ◌==◌, ℕ, ◌+◌, Bool, true, false, List, [], ◌∷◌, refl, sym, ap, ◌∙◌, subst, inl, inr, arith}
+use Rattle.std.proofs.Common.{◌≡◌, ◌⊎◌, ◌≤◌, ◌==◌, ℕ, ◌+◌, Bool, true, false, cond, List, [], ◌∷◌, refl, sym, ap, ◌∙◌, subst, inl, inr, arith, T}
 use Rattle.std.proofs.lemmas.Bool.Decides.{nat_tests}
-use Rattle.std.specs.FinMap.{entries}
+use Rattle.std.specs.FinMap as finite
+use Rattle.std.specs.FinMap.Entries.{below_all, is_sorted}
 use Rattle.std.specs.Prelude.{◌&&◌, nat_le, nat_lt, not, is_some, remove, slice_get, Option, None, Some}
 use Rattle.run_theory.proofs.Pasts.{each_append}
 use Rattle.run_theory.specs.Lists.{Each, IsIn}
@@ -25,9 +26,11 @@ use Rattle.sig_core.specs.declared.signal.client.ClientSignal.TheVariants.{TcBeg
 use Rattle.sig_core.specs.declared.signal.host.HostSignal.TheVariants.{Round, Continue}
 use Rattle.sig_core.specs.declared.signal.host.Work.{Work}
 use Rattle.sig_core.specs.declared.signal.host.Work.TheVariants as work
+use Rattle.sig_core.proofs.Keys.{same_key-self, tied-same_key}
 use Rattle.sig_core.specs.Op.{answer_to, image_of, key_of}
 use Rattle.sig_core.specs.Place.{coordinator_of}
 use Rattle.sig_core.specs.Rows.{RowsState, is_full, place_of, record_state, seen, taken}
+use Rattle.sig_core.specs.Same.{same_key}
 use Rattle.sig_core.specs.Step.{Step}
 use Rattle.row_locks.specs.declared.claim.Wait.{Wait}
 use Rattle.row_locks.specs.declared.mode.Lock.{Lock}
@@ -35,7 +38,8 @@ use Rattle.row_locks.specs.declared.mode.Lock.TheVariants.{Granted, Queued}
 use Rattle.row_locks.specs.declared.queue.TheConstants.{ROUNDS}
 use Rattle.row_locks.specs.Rounds.{expired, expired_in, first_expired, found_at, found_if, is_expired}
 use Rattle.row_locks.specs.Rows.{RowLock}
-use Rattle.row_locks.specs.Tables.{Locks, ahead_at, unwaited_at}
+use Rattle.row_locks.specs.Tables.{Locks, ahead_at, or_unlocked, unwaited_at}
+use Rattle.lqh_block.proofs.IndexLemmas.{same as same_key-is}
 use Rattle.lqh_block.specs.Abort as abort
 use Rattle.lqh_block.specs.Commit as commit
 use Rattle.lqh_block.specs.Complete as complete
@@ -47,6 +51,7 @@ use Rattle.lqh_block.specs.Operate as operate
 use Rattle.lqh_block.specs.State.{LqhState, freed_lock, go_on_if, serve_granted, storage_of, with_lock, with_waiting}
 use Rattle.lqh_block.specs.Storage as storage
 use Rattle.lqh_block.specs.Wait as wait
+use Rattle.host_laws.proofs.QueueWaits.{R, below_none, first_T, second_T}
 use Rattle.cause_laws.specs.Reasons.{HasStood, IsLongWait, IsReason, OnlyLongWaitsExpire, locks_with}
 
 -- the first wait that is over stands in the queue, and has stood there for eight rounds
@@ -94,14 +99,45 @@ first_stands (e ∷ es) tx key is = by (first_expired e.1.queue) refl is (first_
           over = first_over e.1.queue tx (first ∙ ap (λ t. Some t) own);
         }
 
+-- an entry is found by its key, where the entries are in order
+in_found : (key : List ℕ) (lock : RowLock) (es : List (List ℕ × RowLock)) → T (is_sorted R es) → IsIn (key, lock) es
+    → finite.find R key es ≡ Some lock
+in_found key lock [] sorted there = absurd there
+in_found key lock (e ∷ es) sorted there =
+    by there (in_found key lock es (second_T (below_all R e.0 es) (is_sorted R es) sorted))
+  where
+    here : (key, lock) ≡ e → finite.find R key (e ∷ es) ≡ Some lock
+    here own =
+        let its : key ≡ e.0 = ap (λ (w : List ℕ × RowLock). w.0) own in
+        ap (λ b. cond b (Some e.1) (finite.find R key es))
+        (tied-same_key key e.0 ∙ (ap (same_key key) (sym its) ∙ same_key-self key))
+        ∙ ap (λ (w : List ℕ × RowLock). Some w.1) (sym own)
+
+    behind : (b : Bool) → same_key key e.0 ≡ b → finite.find R key es ≡ Some lock
+        → finite.find R key (e ∷ es) ≡ Some lock
+    behind false off found =
+        ap (λ b. cond b (Some e.1) (finite.find R key es)) (tied-same_key key e.0 ∙ off) ∙ found
+    behind true on found =
+        let none : finite.find R key es ≡ None = ap (λ k. finite.find R k es) (same_key-is key e.0 on)
+        ∙ below_none e.0 es (first_T (below_all R e.0 es) (is_sorted R es) sorted) in
+        absurd (no_some lock (sym none ∙ found))
+      where
+        no_some : (l : RowLock) → None ≡ Some l → ⊥
+        no_some l q = cc
+
+    by : ((key, lock) ≡ e) ⊎ IsIn (key, lock) es → (IsIn (key, lock) es → finite.find R key es ≡ Some lock)
+        → finite.find R key (e ∷ es) ≡ Some lock
+    by (inl own) rest = here own
+    by (inr more) rest = behind (same_key key e.0) refl (rest more)
+
 stood : (locks : Locks) (w : TxId × List ℕ) → expired locks ≡ Some w → HasStood locks w.0 w.1
 stood locks w is =
-    let s = first_stands (entries locks) w.0 w.1 is in
+    let s = first_stands (finite.entries locks) w.0 w.1 is in
+    let at : finite.get locks w.1 ≡ Some s.lock = finite.get-entries locks w.1
+    ∙ in_found w.1 s.lock (finite.entries locks) (finite.entries_sorted locks) s.there in
     record {
-      lock = s.lock;
-      there = s.there;
       wait = s.over.wait;
-      queued = s.over.queued;
+      queued = subst (λ (o : Option RowLock). IsIn s.over.wait (or_unlocked o).queue) (sym at) s.over.queued;
       whose = s.over.whose;
       long = s.over.long;
     }

@@ -1,3 +1,4 @@
 pub mod Causes
 pub mod Reasons
 pub mod TurnedAway
+pub mod Waited

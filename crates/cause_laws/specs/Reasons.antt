@@ -1,6 +1,5 @@
 -- Why the rows of a node refuse a transaction at a key.
 use Rattle.std.specs.Prelude.{◌≡◌, ◌≤◌, ◌<◌, ℕ, ◌+◌, List, Option, None}
-use Rattle.std.specs.FinMap.{entries}
 use Rattle.run_theory.specs.Lists.{Each, IsIn}
 use Rattle.sig_core.specs.declared.journal.TheConstants.{JOURNAL_BYTES}
 use Rattle.sig_core.specs.declared.mark.Mark.{Mark}
@@ -18,8 +17,7 @@ use Rattle.sig_core.specs.Rows.{RowsState, place_of, taken}
 use Rattle.row_locks.specs.declared.claim.Wait.{Wait}
 use Rattle.row_locks.specs.declared.queue.TheConstants.{ROUNDS}
 use Rattle.row_locks.specs.Rounds.{round_later}
-use Rattle.row_locks.specs.Rows.{RowLock}
-use Rattle.row_locks.specs.Tables.{Locks}
+use Rattle.row_locks.specs.Tables.{Locks, lock_at}
 use Rattle.lqh_block.specs.Lqh.{lqh_table}
 use Rattle.lqh_block.specs.State.{LqhState}
 use Rattle.lqh_block.specs.Storage.{need_of}
@@ -41,10 +39,8 @@ pub record IsTableFull (rows : RowsState) (key : List ℕ) (count : ℕ) : Type 
 
 -- the transaction waits in the queue of the key, and has stood there for eight rounds
 pub record HasStood (locks : Locks) (tx : TxId) (key : List ℕ) : Type 0 where
-  pub lock : RowLock
-  pub there : IsIn (key, lock) (entries locks)
   pub wait : Wait
-  pub queued : IsIn wait lock.queue
+  pub queued : IsIn wait (lock_at locks key).queue
   pub whose : wait.tx ≡ tx
   pub long : ROUNDS ≤ wait.rounds
 

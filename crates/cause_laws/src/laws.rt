@@ -2,11 +2,24 @@
 ghost use Rattle.cause_laws.specs.Causes.{AbortsAreCaused};
 ghost use Rattle.cause_laws.specs.Reasons.{OnlyLongWaitsExpire};
 ghost use Rattle.cause_laws.specs.TurnedAway.{RepliesAreCaused, RepliesAreTold, TurnedAwayAreTooMany};
+ghost use Rattle.cause_laws.specs.Waited.{TimeOutsTakeEightRounds, WaitsHaveTheirRounds};
 
 /// The rows of a node mark a wait to have stood too long only where it stands in the queue of its
 /// key, and has stood there for eight rounds, that of the signal included.
 pub fn only_long_waits_expire()
     ensures { OnlyLongWaitsExpire }
+{}
+
+/// Whoever waits in the queue of a key, after any log of a host, was asked for at a step of it, and
+/// at least as many rounds of time have come since as the queue counts.
+pub fn waits_have_their_rounds()
+    ensures { WaitsHaveTheirRounds }
+{}
+
+/// Where a host marks a wait to have stood too long, that was asked for at a step of its log, and at
+/// least eight rounds of time have come since, that of the step included.
+pub fn time_outs_take_eight_rounds()
+    ensures { TimeOutsTakeEightRounds }
 {}
 
 /// Where the abort of a transaction was reported in a closed cut, its cause is in the cut. A time-out,

@@ -5,5 +5,6 @@ mod laws;
 
 pub use laws::{
     aborts_are_caused, only_long_waits_expire, replies_are_caused, replies_are_told,
-    turned_away_are_too_many,
+    time_outs_take_eight_rounds,
+    turned_away_are_too_many, waits_have_their_rounds,
 };
