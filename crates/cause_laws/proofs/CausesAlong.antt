@@ -1,6 +1,7 @@
 -- Along every run: each signal that gives a cause tells of one that is in the logs, and so do each transaction that is
 -- aborted, each report and each reply.
-use Rattle.std.proofs.Common.{◌≡◌, ◌≢◌, ◌⊎◌, ℕ, zero, suc, ◌%◌, Bool, true, false, List, [], ◌∷◌, refl, sym, ap, ◌∙◌, subst, inl, inr}
+use Rattle.std.proofs.Common.{◌≡◌, ◌≢◌, ◌⊎◌, ℕ, zero, suc, ◌%◌, Bool, true, false, List, [], ◌∷◌, refl, sym, ap, ◌∙◌}
+use Rattle.std.proofs.Common.{subst, inl, inr}
 use Rattle.std.proofs.lemmas.Bool.{cases_eq, true≢false}
 use Rattle.std.specs.List.{list_any}
 use Rattle.std.specs.Prelude.{length, nat_lt}
@@ -9,7 +10,7 @@ use Rattle.run_theory.proofs.Pasts.{each_append, each_from, each_in, each_map, p
 use Rattle.run_theory.proofs.Runs.{log_of-other, log_of-own, log_of-past}
 use Rattle.run_theory.specs.Lists.{Each, IsIn, IsPast}
 use Rattle.sig_core.specs.declared.mark.Mark.{Mark}
-use Rattle.sig_core.specs.declared.mark.Mark.TheVariants.{Reported}
+use Rattle.sig_core.specs.declared.mark.Mark.TheVariants.{Expired, Reported}
 use Rattle.sig_core.specs.declared.member.TxId.{TxId}
 use Rattle.sig_core.specs.declared.outcome.AbortCause.{AbortCause}
 use Rattle.sig_core.specs.declared.outcome.AbortCause.TheVariants as cause
@@ -41,7 +42,8 @@ use Rattle.tc_block.specs.declared.phase.Phase.TheVariants.{Aborting, Open}
 use Rattle.tc_block.specs.declared.transaction.Transaction.{Transaction}
 use Rattle.tc_block.specs.Phases.{is_aborting}
 use Rattle.tc_block.specs.State.{TcState}
-use Rattle.node_core.proofs.HostCases.{BlockCase, IsApiStep, IsRowsStep, IsTcStep, api_step, api_takes, block_case, dih_takes, each_mark, none_takes, rows_take, tc_step, tc_takes}
+use Rattle.node_core.proofs.HostCases.{BlockCase, IsApiStep, IsRowsStep, IsTcStep, api_step, api_takes, block_case}
+use Rattle.node_core.proofs.HostCases.{dih_takes, each_mark, none_takes, rows_take, tc_step, tc_takes}
 use Rattle.node_core.specs.Blocks.{api_of, dih_of, has_api, has_tc, lqh_of, tc_of}
 use Rattle.node_core.specs.declared.host.Host.{Host}
 use Rattle.node_core.specs.Dih.{DihState, decide_if, decide_row, dih_table}
@@ -69,18 +71,20 @@ use Rattle.run_laws.proofs.Weighing.{each_between, each_joins, each_taken}
 use Rattle.cause_laws.specs.Causes.{IsCaused, IsRefused, IsWish, IsWished}
 use Rattle.cause_laws.specs.Reasons.{IsReason}
 use Rattle.cause_laws.specs.TurnedAway.{IsReplyCaused, IsToldBy, IsTurnedAway}
+use Rattle.cause_laws.specs.Waited.{IsOverAfter}
 use Rattle.cause_laws.proofs.ApiReplies.{ApiTells, IsMarkedBy, api_fine}
 use Rattle.cause_laws.proofs.CausesGrow.{away_more, caused_more, reply_more, wished_more}
 use Rattle.cause_laws.proofs.RowReasons.{RowTells, rows_tell}
 use Rattle.cause_laws.proofs.TcBegins.{BeginTells, begins_tell}
 use Rattle.cause_laws.proofs.TcCauses.{AllCaused, IsAbortedFor, TcTells, TellsTc, tc_caused}
+use Rattle.cause_laws.proofs.Waited.{take_eight_rounds}
 
 module _ (start : Start) where
   abbrev pub Caused : (ℕ → List HostStep) → TxId → AbortCause → Type 0
   Caused logs tx why = IsCaused start logs (logs 0) tx why
 
-  -- what a refusal tells: of its cause, and where that is that the transaction is aborted, that its coordinator has given
-  -- it up
+  -- what a refusal tells: of its cause, and where that is that the transaction is aborted, that its coordinator has
+  -- given it up
   abbrev RefusalTells : (ℕ → List HostStep) → TxId → AbortCause → Type 0
   RefusalTells logs tx cause.Request = is_given_up start logs tx ≡ true
   RefusalTells logs tx why = Caused logs tx why
@@ -343,7 +347,12 @@ module _ (start : Start) where
             → IsReason (lqh_of g) x.body row_marks tx key why → RefusalTells now tx why
         by (cause.LogFull used reserved need) among reason = refused (cause.LogFull used reserved need) among reason
         by (cause.TableFull rows) among reason = refused (cause.TableFull rows) among reason
-        by cause.Timeout among reason = refused cause.Timeout among reason
+        by cause.Timeout among reason = record {
+          refused = refused cause.Timeout among reason;
+          waited = each_in (IsOverAfter (e ∷ old h)) (Expired tx key) (row g x).effects.marks
+              (take_eight_rounds start h (old h) e)
+              (subst (λ f. IsIn (Expired tx key) f.marks) (sym step.effects) reason.0);
+        }
         by cause.Request among reason =
             given_more start old now tx past
             (subst (λ w. IsTold start old w) (ap way_of reason)
@@ -362,8 +371,8 @@ module _ (start : Start) where
     row_told step to _ among told = tt
 
     -- what holds of the effects of a block holds of each signal of the step
-    of_step : (P : Outgoing → Type 0) (f : Effects) → (row g x).effects ≡ f → Each P f.sends → (o : Outgoing) → IsIn o sends
-        → P o
+    of_step : (P : Outgoing → Type 0) (f : Effects) → (row g x).effects ≡ f → Each P f.sends → (o : Outgoing)
+        → IsIn o sends → P o
     of_step P f same all o among =
         each_in P o sends (subst (λ (f : Effects). Each P f.sends) (sym same) all) among
 

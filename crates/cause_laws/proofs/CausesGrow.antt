@@ -52,13 +52,17 @@ module _ (start : Start) (small large : ℕ → List HostStep) (past : (h : ℕ)
 
   pub caused_more : (few more : List HostStep) → IsPast few more → (tx : TxId) (why : AbortCause)
       → IsCaused start small few tx why → IsCaused start large more tx why
+  unfolding refused_more
   caused_more few more less tx cause.Request is = wished_more start few more tx less is
   caused_more few more less tx (cause.NodeFail view) is = is
   caused_more few more less tx cause.Down is = is
   caused_more few more less tx (cause.LogFull used reserved need) is =
       refused_more tx (cause.LogFull used reserved need) is
   caused_more few more less tx (cause.TableFull rows) is = refused_more tx (cause.TableFull rows) is
-  caused_more few more less tx cause.Timeout is = refused_more tx cause.Timeout is
+  caused_more few more less tx cause.Timeout is = record {
+    refused = refused_more tx cause.Timeout is.refused;
+    waited = is.waited;
+  }
 
   pub reply_more : (reply : ApiReply) → IsReplyCaused start small reply → IsReplyCaused start large reply
   reply_more (Refused name TooManyOpen) is = away_more name is

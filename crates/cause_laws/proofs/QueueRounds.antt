@@ -1,5 +1,5 @@
 -- What calls on a lock leave of what holds of each wait in its queue, by who waits and for how many rounds.
-use Rattle.std.proofs.Common.{◌≡◌, ℕ, ◌+◌, Bool, true, false, List, [], ◌∷◌, ◌++◌, refl}
+use Rattle.std.proofs.Common.{ℕ, ◌+◌, Bool, true, false, List, [], ◌∷◌, ◌++◌}
 use Rattle.run_theory.proofs.Pasts.{each_append}
 use Rattle.run_theory.specs.Lists.{Each}
 use Rattle.sig_core.specs.declared.member.TxId.{TxId}
@@ -9,7 +9,8 @@ use Rattle.row_locks.specs.declared.claim.Wait.{Wait}
 use Rattle.row_locks.specs.declared.mode.Mode.{Mode}
 use Rattle.row_locks.specs.Holders.{agrees_with, hold, holds, holds_enough, others, unless_gone}
 use Rattle.row_locks.specs.Queues.{aged_all, ages, one_round, raised, raised_if, wait_of, waits, without}
-use Rattle.row_locks.specs.Rows.{RowLock, Served, asked, asked_anew, asked_by, is_quiet, released, row_lock, served, served_if, unwaited}
+use Rattle.row_locks.specs.Rows.{RowLock, Served, asked, asked_anew, asked_by, is_quiet, released, row_lock, served}
+use Rattle.row_locks.specs.Rows.{served_if, unwaited}
 
 abbrev pub AreWaits : (TxId → ℕ → Type 0) → List Wait → Type 0
 AreWaits P queue = Each (λ (w : Wait). P w.tx w.rounds) queue
@@ -38,7 +39,8 @@ module _ (P : TxId → ℕ → Type 0) where
       by false rest = all
 
   pub released_keeps : (lock : RowLock) (tx : TxId) → AreWaits P lock.queue → AreWaits P (released lock tx).lock.queue
-  released_keeps lock tx all = served_keeps 0 (others tx lock.holders) (without tx lock.queue) (without_keeps tx lock.queue all)
+  released_keeps lock tx all =
+      served_keeps 0 (others tx lock.holders) (without tx lock.queue) (without_keeps tx lock.queue all)
 
   pub unwaited_keeps : (lock : RowLock) (tx : TxId) → AreWaits P lock.queue → AreWaits P (unwaited lock tx).lock.queue
   unwaited_keeps lock tx all = served_keeps 0 lock.holders (without tx lock.queue) (without_keeps tx lock.queue all)

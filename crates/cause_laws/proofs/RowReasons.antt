@@ -1,6 +1,7 @@
 -- Whatever the rows of a node refuse they have reason to, and whatever wait they mark to be over has stood too long:
 -- here the numbers and the test of each row are what the law is about.
-use Rattle.std.proofs.Common.{◌≡◌, ◌⊎◌, ◌≤◌, ◌==◌, ℕ, ◌+◌, Bool, true, false, cond, List, [], ◌∷◌, refl, sym, ap, ◌∙◌, subst, inl, inr, arith, T}
+use Rattle.std.proofs.Common.{◌≡◌, ◌⊎◌, ◌≤◌, ◌==◌, ℕ, ◌+◌, Bool, true, false, cond, List, [], ◌∷◌, refl, sym, ap, ◌∙◌}
+use Rattle.std.proofs.Common.{subst, inl, inr, arith, T}
 use Rattle.std.proofs.lemmas.Bool.Decides.{nat_tests}
 use Rattle.std.specs.FinMap as finite
 use Rattle.std.specs.FinMap.Entries.{below_all, is_sorted}
@@ -22,7 +23,8 @@ use Rattle.sig_core.specs.declared.signal.Body.TheVariants.{Host, Client, Chain}
 use Rattle.sig_core.specs.declared.signal.chain.ChainSignal.TheVariants.{LqhKeyReq, LqhKeyRef, Commit, Complete, Abort}
 use Rattle.sig_core.specs.declared.signal.chain.RowWork.{RowWork}
 use Rattle.sig_core.specs.declared.signal.chain.RowWork.TheVariants.{Operate, Store}
-use Rattle.sig_core.specs.declared.signal.client.ClientSignal.TheVariants.{TcBeginRef, TcRollbackRep, TcRollbackReq, LqhWaitReq, DumpReq}
+use Rattle.sig_core.specs.declared.signal.client.ClientSignal.TheVariants.{TcBeginRef, TcRollbackRep, TcRollbackReq}
+use Rattle.sig_core.specs.declared.signal.client.ClientSignal.TheVariants.{LqhWaitReq, DumpReq}
 use Rattle.sig_core.specs.declared.signal.host.HostSignal.TheVariants.{Round, Continue}
 use Rattle.sig_core.specs.declared.signal.host.Work.{Work}
 use Rattle.sig_core.specs.declared.signal.host.Work.TheVariants as work

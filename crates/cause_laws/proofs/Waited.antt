@@ -1,5 +1,5 @@
 -- Who waits has waited for the rounds that its queue counts, and who is over for eight of them.
-use Rattle.std.proofs.Common.{◌≡◌, ◌≤◌, ◌==◌, ℕ, ◌+◌, Bool, true, false, List, [], ◌∷◌, ◌++◌, length, refl, sym, ap, ◌∙◌, subst, arith}
+use Rattle.std.proofs.Common.{◌≡◌, ◌==◌, ℕ, ◌+◌, Bool, true, false, List, [], ◌∷◌, length, refl, sym, ap, subst, arith}
 use Rattle.std.specs.FinMap as finite
 use Rattle.std.specs.Prelude.{Option, None, Some, if◌then◌else◌, nat_lt}
 use Rattle.run_theory.proofs.Pasts.{each_in, each_map}
@@ -15,7 +15,6 @@ use Rattle.sig_core.specs.declared.signal.chain.ChainSignal.TheVariants.{Abort, 
 use Rattle.sig_core.specs.declared.signal.epoch.EpochSignal.TheVariants.{DiVerifyReq}
 use Rattle.sig_core.specs.declared.signal.host.HostSignal.TheVariants.{Continue, Round}
 use Rattle.sig_core.specs.declared.signal.host.Work.TheVariants as work
-use Rattle.sig_core.specs.declared.signal.Signal.{Signal}
 use Rattle.sig_core.specs.Firsts.{first}
 use Rattle.sig_core.specs.Same.{same_key}
 use Rattle.sig_core.specs.Work.{work_key}
@@ -26,25 +25,25 @@ use Rattle.row_locks.specs.declared.mode.Lock.TheVariants.{Granted, Queued}
 use Rattle.row_locks.specs.declared.queue.TheConstants.{ROUNDS}
 use Rattle.row_locks.specs.Rounds.{expired}
 use Rattle.row_locks.specs.Rows.{RowLock, asked}
-use Rattle.row_locks.specs.Tables.{Locks, lock_at, or_unlocked}
+use Rattle.row_locks.specs.Tables.{lock_at, or_unlocked}
 use Rattle.api_block.proofs.EachApi.{api_marks_each}
 use Rattle.lqh_block.proofs.IndexLemmas.{same as same_key-is}
 use Rattle.lqh_block.specs.declared.request.Request.{Request}
 use Rattle.lqh_block.specs.Expire.{aged}
-use Rattle.lqh_block.specs.Lqh.{lqh_table}
 use Rattle.lqh_block.specs.Operate.{is_granted}
 use Rattle.lqh_block.specs.State.{LqhState, storage_of}
 use Rattle.lqh_block.specs.Work.{work_mode}
 use Rattle.node_core.proofs.HostCases.{each_mark}
 use Rattle.node_core.specs.Blocks.{api_of, dih_of, lqh_of, tc_of}
 use Rattle.node_core.specs.declared.host.Host.{Host as AnyHost}
-use Rattle.node_core.specs.declared.host.Host.TheVariants.{Shell, Main, Tc, Ldm}
+use Rattle.node_core.specs.declared.host.Host.TheVariants.{Ldm}
 use Rattle.node_core.specs.Dih.{DihState, decide_if, decide_row, dih_table}
-use Rattle.world_core.specs.Machine.{after, step_after}
+use Rattle.world_core.specs.Machine.{after}
 use Rattle.world_core.specs.Start.{Start}
 use Rattle.world_core.specs.Steps.{HostStep}
 use Rattle.key_laws.proofs.LocksAt.{lock-aged}
-use Rattle.key_laws.specs.Replica.{Replica, asked_by, event_at, expired_by, expires_if, is_let_in, is_refused, key_after, served_by, serves_if}
+use Rattle.key_laws.specs.Replica.{Replica, asked_by, event_at, expired_by, expires_if, is_let_in, is_refused}
+use Rattle.key_laws.specs.Replica.{key_after, served_by, serves_if}
 use Rattle.key_laws.specs.Replica as at
 use Rattle.host_laws.proofs.Replicas.{logs_follow}
 use Rattle.host_laws.proofs.TcMarks.{tc_marks}
@@ -52,7 +51,8 @@ use Rattle.host_laws.specs.Counts.{one_if}
 use Rattle.host_laws.specs.ReplicaLaws.{event_for, event_in, key_in}
 use Rattle.run_laws.proofs.FreshHosts.{started_unasked}
 use Rattle.cause_laws.specs.Reasons.{HasStood, IsLongWait, locks_with}
-use Rattle.cause_laws.specs.Waited.{HasWaited, IsAsking, IsOverAfter, TimeOutsTakeEightRounds, WaitsHaveTheirRounds, is_round, rounds_of}
+use Rattle.cause_laws.specs.Waited.{HasWaited, IsAsking, IsOverAfter, TimeOutsTakeEightRounds, WaitsHaveTheirRounds}
+use Rattle.cause_laws.specs.Waited.{is_round}
 use Rattle.cause_laws.proofs.QueueRounds.{AreWaits, aged_keeps, asked_keeps, released_keeps, unwaited_keeps}
 use Rattle.cause_laws.proofs.RowReasons.{rows_tell}
 
@@ -90,10 +90,11 @@ module _ (e : HostStep) (log : List HostStep) (key : List ℕ) where
 
   all_later : (lock : RowLock) → Stand log key lock → Stand (e ∷ log) key lock
   all_later lock all =
-      each_map (λ (w : Wait). HasWaited log w.tx key w.rounds) (λ (w : Wait). HasWaited (e ∷ log) w.tx key w.rounds) lock.queue
-      (λ w is. later w.tx w.rounds is) all
+      each_map (λ (w : Wait). HasWaited log w.tx key w.rounds) (λ (w : Wait). HasWaited (e ∷ log) w.tx key w.rounds)
+      lock.queue (λ w is. later w.tx w.rounds is) all
 
-  asked_lock : (r : Replica) (now : RowLock) (q : Request) (refused : Bool) (a : Lock) → (asked_by r now q refused a).lock ≡ now
+  asked_lock : (r : Replica) (now : RowLock) (q : Request) (refused : Bool) (a : Lock)
+      → (asked_by r now q refused a).lock ≡ now
   asked_lock r now q refused Granted = refl
   asked_lock r now q refused (Queued ahead) = refl
 
@@ -120,7 +121,8 @@ module _ (e : HostStep) (log : List HostStep) (key : List ℕ) where
     asks q refused is =
         let a = asked r.lock q.tx (work_mode q.work) in
         subst (Stand (e ∷ log) key) (sym (asked_lock r a.lock q refused a.answer))
-        (asked_keeps (λ tx rounds. HasWaited (e ∷ log) tx key rounds) r.lock q.tx (work_mode q.work) (begins q.tx is) stays)
+        (asked_keeps (λ tx rounds. HasWaited (e ∷ log) tx key rounds) r.lock q.tx (work_mode q.work) (begins q.tx is)
+        stays)
 
     serves : (refused : Bool) → Left (at.serves refused) r
     serves refused =
@@ -136,7 +138,8 @@ module _ (e : HostStep) (log : List HostStep) (key : List ℕ) where
     expires : (w : Option (TxId × List ℕ)) → Left (expires_if key w) r
     expires None = stays
     expires (Some w) =
-        if_own w.1 (at.expires w.0) (λ own. unwaited_keeps (λ tx rounds. HasWaited (e ∷ log) tx key rounds) r.lock w.0 stays)
+        if_own w.1 (at.expires w.0)
+        (λ own. unwaited_keeps (λ tx rounds. HasWaited (e ∷ log) tx key rounds) r.lock w.0 stays)
 
     aged_stand : is_round e.step.taken.body ≡ true → Stand (e ∷ log) key (at.ageing r).lock
     aged_stand is =
@@ -211,11 +214,13 @@ module _ (start : Start) (h : ℕ) (log : List HostStep) (e : HostStep) where
       here lock = IsIn stood.wait lock.queue
 
       plain : here (lock_at (lqh_of g).locks key) → HasWaited (e ∷ log) tx key ROUNDS
-      plain among = long (later e log key stood.wait.tx stood.wait.rounds (have_rounds start h log key stood.wait among))
+      plain among =
+          long (later e log key stood.wait.tx stood.wait.rounds (have_rounds start h log key stood.wait among))
 
       by : (b : Body) → e.step.taken.body ≡ b → HasWaited (e ∷ log) tx key ROUNDS
       by (Host Round) is =
-          long (each_in (λ (w : Wait). HasWaited (e ∷ log) w.tx key w.rounds) stood.wait (at.ageing (key_in key g)).lock.queue
+          long (each_in (λ (w : Wait). HasWaited (e ∷ log) w.tx key w.rounds) stood.wait
+          (at.ageing (key_in key g)).lock.queue
           (aged_stand e log key (key_in key g) (stand start h key log) (ap is_round is))
           (subst here (lock-aged (lqh_of g).locks key)
           (subst (λ c. here (lock_at (locks_with c (lqh_of g).locks) key)) is stood.queued)))
@@ -238,8 +243,11 @@ module _ (start : Start) (h : ℕ) (log : List HostStep) (e : HostStep) where
 pub take_eight_rounds : TimeOutsTakeEightRounds
 take_eight_rounds start h log e =
     each_mark (IsOverAfter (e ∷ log)) (after start h log) e.step.taken (record {
-      api = λ runs at. api_marks_each (IsOverAfter (e ∷ log)) (api_of (after start h log)) e.step.taken.body (λ tx epoch is. tt) (λ tx why is. tt);
-      tc = λ runs at. subst (Each (IsOverAfter (e ∷ log))) (sym (tc_marks (tc_of (after start h log)) e.step.taken.body)) tt;
+      api = λ runs at.
+          api_marks_each (IsOverAfter (e ∷ log)) (api_of (after start h log)) e.step.taken.body
+          (λ tx epoch is. tt) (λ tx why is. tt);
+      tc = λ runs at.
+          subst (Each (IsOverAfter (e ∷ log))) (sym (tc_marks (tc_of (after start h log)) e.step.taken.body)) tt;
       dih = λ runs at. dih_none start h log e (dih_of (after start h log)) e.step.taken.body;
       rows = λ runs at.
           each_map (IsLongWait (lqh_of (after start h log)) e.step.taken.body) (IsOverAfter (e ∷ log)) _

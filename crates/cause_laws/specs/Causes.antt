@@ -5,7 +5,7 @@ use Rattle.run_theory.specs.Lists.{IsIn, IsPast}
 use Rattle.sig_core.specs.declared.mark.Mark.TheVariants.{Reported}
 use Rattle.sig_core.specs.declared.member.TxId.{TxId}
 use Rattle.sig_core.specs.declared.outcome.AbortCause.{AbortCause}
-use Rattle.sig_core.specs.declared.outcome.AbortCause.TheVariants.{Down, NodeFail, Request}
+use Rattle.sig_core.specs.declared.outcome.AbortCause.TheVariants.{Down, NodeFail, Request, Timeout}
 use Rattle.sig_core.specs.declared.outcome.Outcome.TheVariants.{Aborted}
 use Rattle.sig_core.specs.declared.request.ApiReq.TheVariants as request
 use Rattle.sig_core.specs.declared.signal.Body.{Body}
@@ -17,6 +17,7 @@ use Rattle.sig_core.specs.Place.{coordinator_of}
 use Rattle.sig_core.specs.Step.{to_place}
 use Rattle.api_block.specs.declared.opened.OpenTransaction.{OpenTransaction}
 use Rattle.api_block.specs.State.{ApiState}
+use Rattle.row_locks.specs.declared.queue.TheConstants.{ROUNDS}
 use Rattle.lqh_block.specs.Storage.{refusal}
 use Rattle.node_core.specs.Blocks.{api_of, has_lqh, lqh_of}
 use Rattle.world_core.specs.Machine.{after, step_after}
@@ -24,6 +25,7 @@ use Rattle.world_core.specs.Start.{Start}
 use Rattle.world_core.specs.Steps.{HostStep}
 use Rattle.run_laws.specs.Laws.{IsClosedCut}
 use Rattle.cause_laws.specs.Reasons.{IsReason}
+use Rattle.cause_laws.specs.Waited.{HasWaited}
 
 -- There is a moment in the logs at which the rows of a node refused the transaction at a key for this cause, and had
 -- reason to, in the state before that step.
@@ -36,6 +38,12 @@ pub record IsRefused (start : Start) (logs : ℕ → List HostStep) (tx : TxId) 
   pub key : List ℕ
   pub sent : IsIn (refusal tx key why) (step_after start host before step).effects.sends
   pub reason : IsReason (lqh_of (after start host before)) step.step.taken.body step.step.marks tx key why
+
+-- It was refused for want of time: the rows were asked for it in the log of their host, and at least eight rounds of
+-- time have come since.
+pub record IsTimedOut (start : Start) (logs : ℕ → List HostStep) (tx : TxId) : Type 0 where
+  pub refused : IsRefused start logs tx Timeout
+  pub waited : HasWaited (refused.step ∷ refused.before) tx refused.key ROUNDS
 
 -- the API has an entry of this name, or of none, for the transaction
 pub record IsEntered (s : ApiState) (name : Option ℕ) (tx : TxId) : Type 0 where
@@ -64,6 +72,7 @@ pub record IsWished (start : Start) (log : List HostStep) (tx : TxId) : Type 0 w
 -- none is for the loss of a node or of the cluster.
 abbrev pub IsCaused : Start → (ℕ → List HostStep) → List HostStep → TxId → AbortCause → Type 0
 IsCaused start logs log tx Request = IsWished start log tx
+IsCaused start logs log tx Timeout = IsTimedOut start logs tx
 IsCaused start logs log tx (NodeFail view) = ⊥
 IsCaused start logs log tx Down = ⊥
 IsCaused start logs log tx why = IsRefused start logs tx why
