@@ -4,6 +4,7 @@ pub mod CausesAlong
 pub mod CausesGrow
 pub mod QueueRounds
 pub mod RowReasons
+pub mod SampleAborted
 pub mod TcBegins
 pub mod TcCauses
 pub mod Waited

@@ -1,6 +1,7 @@
 //! Why transactions are aborted, and why they don't begin.
 ghost use Rattle.cause_laws.specs.Causes.{AbortsAreCaused};
 ghost use Rattle.cause_laws.specs.Reasons.{OnlyLongWaitsExpire};
+ghost use Rattle.cause_laws.specs.Sample.{SampleIsAborted};
 ghost use Rattle.cause_laws.specs.TurnedAway.{RepliesAreCaused, RepliesAreTold, TurnedAwayAreTooMany};
 ghost use Rattle.cause_laws.specs.Waited.{TimeOutsTakeEightRounds, WaitsHaveTheirRounds};
 
@@ -47,4 +48,9 @@ pub fn replies_are_told()
 /// tells that too many are open has a coordinator there that had too many.
 pub fn replies_are_caused()
     ensures { RepliesAreCaused }
+{}
+
+/// There is a closed cut in which an abort was reported, at the client's request.
+pub fn closed_cuts_have_aborts()
+    ensures { SampleIsAborted }
 {}
