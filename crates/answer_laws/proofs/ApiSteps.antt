@@ -92,20 +92,20 @@ telling_calm told [] = refl
 telling_calm news.Round (member ∷ members) = telling_calm news.Round members
 telling_calm (news.Committed one) (member ∷ members) = telling_calm (news.Committed one) members
 
-at_request : (s : ApiState) (r : ApiReq) (n : ℕ) → ApiRequestForms s (ApiStep s (Host (Continue (work.Request r) n)))
+at_request : (s : ApiState) (r : ApiReq) (n : ℕ) → ApiRequestForms s r (ApiStep s (Host (Continue (work.Request r) n)))
 at_request s r n = record {
   opens = λ name node op new. opens name node op refl refl (λ tx. refl);
-  refuses = λ name why living. rests refl refl tt;
+  refuses = λ name why own. rests refl refl tt;
   operates = λ name op at f one ready own low.
       changes f.front f.item _ f.back f.is (f.set _) (works one op (λ tx. refl) own ready low refl refl refl refl);
   commits = λ name at f one ready own.
       changes f.front f.item _ f.back f.is (f.set _) (commits one (λ tx. refl) own ready refl refl refl refl);
-  aborts = λ name at f one own. rests refl refl tt;
+  aborts = λ name at f one is own. rests refl refl tt;
   ticks = round;
   dumps = λ node digest. rests refl refl tt;
   waits = λ p at f one own. changes f.front f.item _ f.back f.is (f.set _) (notes (λ tx. refl) refl refl refl refl);
   pends = λ name holder. rests refl refl tt;
-  gives_up = λ holder one. rests refl refl tt;
+  gives_up = λ p at f holder one is alone own. rests refl refl tt;
   is_about_none = rests refl refl tt;
   rests = rests refl refl tt;
 }

@@ -33,7 +33,7 @@ use Rattle.host_laws.proofs.LqhOps.{left_of}
 use Rattle.host_laws.specs.OpenedAfter.{opened_in}
 use Rattle.command_laws.proofs.ApiChanges.{ApiChange, IsOneOf, answers, api_changes, commits, ends, outcome_in, refuses, rests, starts, waits}
 use Rattle.command_laws.proofs.Entries.{HasOne, IsApart, here_or_apart, same_number}
-use Rattle.command_laws.proofs.HostKinds.{replies_are}
+use Rattle.host_laws.proofs.BlocksAlong.{replies_are}
 use Rattle.command_laws.proofs.BlockSteps.{api_host, api_seen}
 
 -- the step reports the end of the transaction of this name

@@ -35,7 +35,7 @@ use Rattle.host_laws.proofs.Tally.{Counted, counted, tally_append, tally_between
 use Rattle.host_laws.specs.Counts.{one_if, tally}
 use Rattle.run_laws.proofs.AlongSteps.{live_tx}
 use Rattle.host_laws.proofs.ApiBegins.{in_middle}
-use Rattle.host_laws.proofs.BlocksAlong.{no_live}
+use Rattle.host_laws.proofs.BlocksAlong.{no_live, replies_are}
 use Rattle.host_laws.proofs.LinkCounts.{steps, to_host}
 use Rattle.answer_laws.proofs.Lives.{holds_at, live_low, once_started}
 use Rattle.host_laws.proofs.Wishes.{sends_of}
@@ -43,7 +43,7 @@ use Rattle.answer_laws.specs.Answered.{EachIsAnswered, IsLiveAs, is_answered_by}
 use Rattle.host_laws.specs.OpenedAfter.{opened_after}
 use Rattle.host_laws.specs.Live.{of_live}
 use Rattle.command_laws.proofs.First.{IsFirst, first_step, request_first, with_first}
-use Rattle.command_laws.proofs.HostKinds.{api_alone, api_no_rows, no_rows, replies_are}
+use Rattle.command_laws.proofs.HostKinds.{api_alone, api_no_rows, no_rows}
 use Rattle.command_laws.proofs.BlockSteps.{api_seen}
 use Rattle.command_laws.proofs.Since.{sent_since_to, arrives}
 use Rattle.command_laws.proofs.TellsSince.{OnTc}

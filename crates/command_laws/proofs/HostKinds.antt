@@ -7,10 +7,9 @@ use Rattle.sig_core.specs.declared.place.BlockId.TheVariants as block
 use Rattle.row_locks.proofs.LocksLemmas.{key_cmp}
 use Rattle.row_locks.specs.Tables.{ahead_at, ahead_of, or_unlocked}
 use Rattle.node_core.proofs.HostCases.{runs}
-use Rattle.node_core.specs.Blocks.{api_of, has_api, has_lqh, has_tc, lqh_of}
+use Rattle.node_core.specs.Blocks.{has_api, has_lqh, has_tc, lqh_of}
 use Rattle.node_core.specs.declared.host.Host.{Host}
 use Rattle.node_core.specs.declared.host.Host.TheVariants.{Shell, Main, Tc, Ldm}
-use Rattle.node_core.specs.Replies.{replies_of}
 use Rattle.world_core.proofs.HostNumbers.{api_found}
 use Rattle.world_core.specs.Machine.{after}
 use Rattle.world_core.specs.Start.{Start}
@@ -47,14 +46,6 @@ no_rows (Shell s) none key tx = ap (λ o. ahead_of (or_unlocked o) tx) (finite.g
 no_rows (Main m) none key tx = ap (λ o. ahead_of (or_unlocked o) tx) (finite.get-empty key_cmp key)
 no_rows (Tc p) none key tx = ap (λ o. ahead_of (or_unlocked o) tx) (finite.get-empty key_cmp key)
 no_rows (Ldm l) none key tx = cc
-
--- the replies of a host are those of its API
-pub replies_are : (g : Host) → replies_of g ≡ (api_of g).replies
-unfolding replies_of
-replies_are (Shell s) = refl
-replies_are (Main m) = refl
-replies_are (Tc p) = refl
-replies_are (Ldm l) = refl
 
 pub api_no_rows : (g : Host) → has_api g ≡ true → has_lqh g ≡ true → ⊥
 api_no_rows (Shell s) api rows = cc

@@ -8,6 +8,7 @@ use Rattle.sig_core.specs.declared.reply.ApiReply.{ApiReply}
 use Rattle.sig_core.specs.declared.reply.ApiReply.TheVariants.{Refused}
 use Rattle.sig_core.specs.declared.reply.Refusal.{Refusal}
 use Rattle.sig_core.specs.declared.reply.Refusal.TheVariants as refusal
+use Rattle.sig_core.specs.declared.request.ApiReq.{ApiReq}
 use Rattle.sig_core.specs.declared.signal.Body.{Body}
 use Rattle.sig_core.specs.declared.signal.Body.TheVariants.{Host}
 use Rattle.sig_core.specs.declared.signal.host.HostSignal.TheVariants.{Continue}
@@ -20,7 +21,7 @@ use Rattle.api_block.specs.Dump.{dump_replies, row_reply}
 use Rattle.api_block.specs.Gathered.{gathered}
 use Rattle.api_block.specs.Members.{everyone, telling_all}
 use Rattle.api_block.specs.State.{ApiState, about}
-use Rattle.host_laws.proofs.ApiTurns.{ApiRequestForms, ApiSignalForms, api_turns}
+use Rattle.host_laws.proofs.ApiTurns.{ApiRequestForms, ApiSignalForms, api_turns, is_own_refusal}
 use Rattle.command_laws.proofs.LivingTurns.{is_sound}
 use Rattle.command_laws.specs.Living.{is_of_living}
 
@@ -38,27 +39,27 @@ lines_live node false lines =
     each_append (λ (r : ApiReply). is_of_living r ≡ true) (map row_reply lines) _
     (each_mapped (λ (r : ApiReply). is_of_living r ≡ true) row_reply lines (λ line. refl)) (refl, tt)
 
-refusal_lives : (name : Option ℕ) (why : Refusal) → (why ≡ refusal.Down → ⊥) → is_of_living (Refused name why) ≡ true
-refusal_lives name refusal.Down living = absurd (living refl)
-refusal_lives name _ living = refl
+refusal_lives : (name : Option ℕ) (why : Refusal) → is_own_refusal why ≡ true → is_of_living (Refused name why) ≡ true
+refusal_lives name refusal.Down own = absurd cc
+refusal_lives name _ own = refl
 
 module _ (s : ApiState) (all : AllLiving s.replies) where
   -- one more reply
   one_more : (reply : ApiReply) → is_of_living reply ≡ true → AllLiving (s.replies ++ reply ∷ [])
   one_more reply lives = each_append (λ (r : ApiReply). is_of_living r ≡ true) s.replies (reply ∷ []) all (lives, tt)
 
-  at_request : (body : Body) → ApiRequestForms s (Lives body)
-  at_request body = record {
+  at_request : (r : ApiReq) (body : Body) → ApiRequestForms s r (Lives body)
+  at_request r body = record {
     opens = λ name node op new sound. all;
-    refuses = λ name why living sound. one_more _ (refusal_lives name why living);
+    refuses = λ name why own sound. one_more _ (refusal_lives name why own);
     operates = λ name op at f tx ready own low sound. all;
     commits = λ name at f tx ready own sound. all;
-    aborts = λ name at f tx own sound. all;
+    aborts = λ name at f tx is own sound. all;
     ticks = round;
     dumps = λ node digest sound. all;
     waits = λ p at f tx own sound. all;
     pends = λ name holder sound. one_more _ refl;
-    gives_up = λ holder tx sound. one_more _ refl;
+    gives_up = λ p at f holder tx is alone own sound. one_more _ refl;
     is_about_none = λ sound. all;
     rests = λ sound. all;
   }
@@ -90,4 +91,4 @@ module _ (s : ApiState) (all : AllLiving s.replies) where
   }
 
   pub api_lives : (body : Body) → is_sound body ≡ true → AllLiving (api_table s body).state.replies
-  api_lives body = api_turns s Lives body (λ r at. at_request (Host (Continue (work.Request r) at))) (at_signal body)
+  api_lives body = api_turns s Lives body (λ r at. at_request r (Host (Continue (work.Request r) at))) (at_signal body)

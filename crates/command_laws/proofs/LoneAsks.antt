@@ -46,7 +46,7 @@ use Rattle.host_laws.proofs.Wishes.{is_api, is_tc, sends_of}
 use Rattle.host_laws.specs.OpenedAfter.{opened_in}
 use Rattle.command_laws.proofs.ApiChanges.{ApiChange, GoesOnAs, alone, answers, api_changes, commits, ends, idle, is_news_kind, is_row_reply, refuses, rests, starts, told, waits}
 use Rattle.command_laws.proofs.Entries.{HasOne}
-use Rattle.command_laws.proofs.HostKinds.{replies_are}
+use Rattle.host_laws.proofs.BlocksAlong.{replies_are}
 use Rattle.command_laws.proofs.BlockSteps.{api_host}
 use Rattle.command_laws.proofs.Since.{sent_since}
 use Rattle.command_laws.proofs.TellsOnce.{is_wish_back_to, wish_back_of}

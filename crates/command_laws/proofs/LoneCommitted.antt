@@ -48,7 +48,7 @@ use Rattle.command_laws.proofs.EntryGoes.{HasEnded, commit_goes}
 use Rattle.command_laws.proofs.FirmHosts.{back_of, is_back}
 use Rattle.command_laws.proofs.First.{IsFirst, first_step, request_first}
 use Rattle.command_laws.proofs.Homes.{lives_begun}
-use Rattle.command_laws.proofs.HostKinds.{replies_are}
+use Rattle.host_laws.proofs.BlocksAlong.{replies_are}
 use Rattle.command_laws.proofs.BlockSteps.{api_seen}
 use Rattle.command_laws.proofs.LoneAsks.{HasLone, LoneFirst, asks_since, is_lone, lone_first, lone_since}
 use Rattle.command_laws.proofs.Pushes.{is_node_kind, node_since}

@@ -25,7 +25,7 @@ use Rattle.host_laws.proofs.Wishes.{sends_of}
 use Rattle.command_laws.proofs.ApiChanges.{ApiChange, GoesOnAs, alone, answers, api_changes, commits, ends, idle, is_news_kind, refuses, rests, starts, told, waits}
 use Rattle.command_laws.proofs.EarlySteps.{is_wish_to}
 use Rattle.command_laws.proofs.EntryGoes.{HasAnswered, IsAnswering}
-use Rattle.command_laws.proofs.HostKinds.{replies_are}
+use Rattle.host_laws.proofs.BlocksAlong.{replies_are}
 use Rattle.command_laws.proofs.BlockSteps.{api_host, api_seen}
 use Rattle.command_laws.proofs.OperateAsks.{no_wish_news}
 use Rattle.command_laws.proofs.Since.{sent_since}

@@ -38,7 +38,7 @@ use Rattle.host_laws.proofs.ApiMoves.{is_api_kind}
 use Rattle.host_laws.proofs.DihSends.{dih_kinds}
 use Rattle.host_laws.proofs.SendKinds.{are_of, each_of, is_dih_kind, of_kind}
 use Rattle.run_laws.proofs.WaysPassed.{api_each}
-use Rattle.command_laws.proofs.HostKinds.{replies_are}
+use Rattle.host_laws.proofs.BlocksAlong.{replies_are}
 use Rattle.command_laws.proofs.LivingReplies.{AllLiving, api_lives}
 use Rattle.command_laws.proofs.LivingRows.{lqh_sound}
 use Rattle.command_laws.proofs.LivingTurns.{AllLive, is_sound, tc_lives}

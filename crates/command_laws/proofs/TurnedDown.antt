@@ -28,7 +28,7 @@ use Rattle.world_core.specs.Start.{Start}
 use Rattle.world_core.specs.Steps.{HostStep}
 use Rattle.host_laws.specs.OpenedAfter.{opened_in}
 use Rattle.command_laws.proofs.First.{IsFirst, first_step, request_first}
-use Rattle.command_laws.proofs.HostKinds.{replies_are}
+use Rattle.host_laws.proofs.BlocksAlong.{replies_are}
 use Rattle.command_laws.proofs.Told.{told_since}
 use Rattle.command_laws.specs.Served.{IsServedBetween, named_in}
 use Rattle.command_laws.specs.TurnedDown.{IsRefusedWhereDue, IsTurnedDown, abort_refused, busy_or, commit_refused, full_at, name_of_request, no_member_at, none_to_serve, operation_refused, turned_down_for}

@@ -98,21 +98,21 @@ went_on : {t u : OpenTransaction} → u.name ≡ t.name → u.node ≡ t.node �
     → is_beginning u.doing ≡ is_beginning t.doing → GoesOn t u
 went_on name node tx begun = record { name = name; node = node; tx = tx; begun = begun }
 
-at_request : (s : ApiState) (r : ApiReq) (n : ℕ) → ApiRequestForms s (Moves s (asking r n))
+at_request : (s : ApiState) (r : ApiReq) (n : ℕ) → ApiRequestForms s r (Moves s (asking r n))
 at_request s r n = record {
   opens = λ name node op new. opens name node op new refl refl refl;
-  refuses = λ name why living. rests refl refl tt;
+  refuses = λ name why own. rests refl refl tt;
   operates = λ name op at f tx ready own low.
       goes f.front f.item _ f.back (went_on refl refl refl (ap is_beginning (sym ready))) tt f.is (ap (λ os. (s.view, os)) (f.set _)) refl;
   commits = λ name at f tx ready own.
       goes f.front f.item _ f.back (went_on refl refl refl (ap is_beginning (sym ready))) tt f.is (ap (λ os. (s.view, os)) (f.set _)) refl;
-  aborts = λ name at f tx own. rests refl refl tt;
+  aborts = λ name at f tx is own. rests refl refl tt;
   ticks = round;
   dumps = λ node digest. rests refl refl tt;
   waits = λ p at f tx own.
       goes f.front f.item _ f.back (went_on refl refl refl refl) tt f.is (ap (λ os. (s.view, os)) (f.set _)) refl;
   pends = λ name holder. rests refl refl tt;
-  gives_up = λ holder tx. rests refl refl tt;
+  gives_up = λ p at f holder tx is alone own. rests refl refl tt;
   is_about_none = rests refl refl tt;
   rests = rests refl refl tt;
 }

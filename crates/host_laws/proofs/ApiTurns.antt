@@ -64,17 +64,23 @@ NamedAt s name at = IsFocus (is_named (Some name)) s.opened at
 abbrev OwnAt : ApiState → TxId → ℕ → Type 0
 OwnAt s tx at = IsFocus (has_tx tx) s.opened at
 
+-- a refusal that the API gives by itself: neither is the cluster down, nor does a coordinator have too many transactions
+abbrev pub is_own_refusal : Refusal → Bool
+is_own_refusal refusal.Down = false
+is_own_refusal refusal.TooManyOpen = false
+is_own_refusal why = true
+
 -- R is of each form of a step at a request
-pub record ApiRequestForms (s : ApiState) (R : Step ApiState → Type 0) : Type 0 where
+pub record ApiRequestForms (s : ApiState) (asked : ApiReq) (R : Step ApiState → Type 0) : Type 0 where
   pub opens : (name : Option ℕ) (node : ℕ) (op : Option Op) → IsNew s name node → R (beginning s name node op)
-  pub refuses : (name : Option ℕ) (why : Refusal) → (why ≡ refusal.Down → ⊥) → R (refused s name why)
+  pub refuses : (name : Option ℕ) (why : Refusal) → is_own_refusal why ≡ true → R (refused s name why)
   pub operates : (name : ℕ) (op : Op) (at : ℕ) (f : NamedAt s name at) (tx : TxId) → f.item.doing ≡ Ready
       → f.item.tx ≡ Some tx
       → nat_lt f.item.operations OPERATIONS ≡ true
       → R (key_request (about (changing s at (operating f.item)) (Some (Some name))) tx op)
   pub commits : (name at : ℕ) (f : NamedAt s name at) (tx : TxId) → f.item.doing ≡ Ready → f.item.tx ≡ Some tx
       → R (sending (about (changing s at (committing f.item)) (Some (Some name))) (coordinator_of tx) (Client (TcCommitReq tx)))
-  pub aborts : (name at : ℕ) (f : NamedAt s name at) (tx : TxId) → f.item.tx ≡ Some tx
+  pub aborts : (name at : ℕ) (f : NamedAt s name at) (tx : TxId) → asked ≡ request.Abort name → f.item.tx ≡ Some tx
       → R (sending (about s (Some (Some name))) (coordinator_of tx) (Client (TcRollbackReq tx)))
   pub ticks : (of : ℕ) (last : Bool)
       → R (record { state = about (ticked_if s of last) None; effects = record { sends = telling_all news.Round (everyone s.view); marks = [] } })
@@ -83,7 +89,8 @@ pub record ApiRequestForms (s : ApiState) (R : Step ApiState → Type 0) : Type 
   pub waits : (p : OpenTransaction → Bool) (at : ℕ) (f : IsFocus p s.opened at) (tx : TxId) → f.item.tx ≡ Some tx
       → R (sending (changing s at (behind f.item None)) (coordinator_of tx) (Client (TcWaitReq tx)))
   pub pends : (name holder : Option ℕ) → R (stay (replied s (Pending name (HeldBy holder) ∷ [])))
-  pub gives_up : (holder : Option ℕ) (tx : TxId)
+  pub gives_up : (p : OpenTransaction → Bool) (at : ℕ) (f : IsFocus p s.opened at) (holder : Option ℕ) (tx : TxId)
+      → asked ≡ request.Pending → f.item.name ≡ None → f.item.tx ≡ Some tx
       → R (sending (replied s (Pending None (HeldBy holder) ∷ [])) (coordinator_of tx) (Client (TcRollbackReq tx)))
   pub is_about_none : R (stay (about s None))
   pub rests : R (stay s)
@@ -123,18 +130,18 @@ pub record ApiSignalForms (s : ApiState) (body : Body) (R : Step ApiState → Ty
       → R (stay (replied (with_dump s None) (dump_replies d.node d.digest (gathered d.rows rows))))
   pub rests : IsVoid s.opened body → IsStray s.opened body → R (stay s)
 
-module _ (s : ApiState) (R : Step ApiState → Type 0) (forms : ApiRequestForms s R) where
+module _ (s : ApiState) (asked : ApiReq) (R : Step ApiState → Type 0) (forms : ApiRequestForms s asked R) where
   begin_at_turns : (name node : ℕ) (b : Bool) → tally (is_named (Some name)) s.opened ≡ 0 → is_full s.view node ≡ b
       → R (begin_at s name node b)
   begin_at_turns name node true none full = forms.opens (Some name) node None (none, full)
-  begin_at_turns name node false none full = forms.refuses (Some name) (refusal.NoMember node) (λ e. cc)
+  begin_at_turns name node false none full = forms.refuses (Some name) (refusal.NoMember node) refl
 
   begin_turns : (name : ℕ) (at : Option ℕ) → R (begin_row s name at)
   unfolding begin_row
   begin_turns name at = go (place_named s (Some name)) refl
     where
       go : (o : Option ℕ) → place_named s (Some name) ≡ o → R (begin_if s name at (is_some o))
-      go (Some place) e = forms.refuses (Some name) refusal.IsOpen (λ e. cc)
+      go (Some place) e = forms.refuses (Some name) refusal.IsOpen refl
       go None e =
           begin_at_turns name (node_for s.view at) (is_full s.view (node_for s.view at))
           (none_placed (is_named (Some name)) s.opened e) refl
@@ -144,13 +151,13 @@ module _ (s : ApiState) (R : Step ApiState → Type 0) (forms : ApiRequestForms 
       → ((at : ℕ) (f : NamedAt s name at) → R (some at f.item))
       → R (where_at s.opened (refused s (Some name) refusal.NotOpen) some (place_named s (Some name)))
   named_turns name some =
-      where_found (is_named (Some name)) s.opened _ some R (λ none. forms.refuses (Some name) refusal.NotOpen (λ e. cc))
+      where_found (is_named (Some name)) s.opened _ some R (λ none. forms.refuses (Some name) refusal.NotOpen refl)
 
   commit_by_turns : (name at : ℕ) (f : NamedAt s name at) (doing : Doing) (tx : Option TxId) → f.item.doing ≡ doing
       → f.item.tx ≡ tx
       → R (commit_by s name at f.item doing tx)
   commit_by_turns name at f Ready (Some tx) e d = forms.commits name at f tx e d
-  commit_by_turns name at f _ _ e d = forms.refuses (Some name) refusal.Busy (λ e. cc)
+  commit_by_turns name at f _ _ e d = forms.refuses (Some name) refusal.Busy refl
 
   commit_turns : (name : ℕ) → R (commit_row s name)
   unfolding commit_row
@@ -158,13 +165,15 @@ module _ (s : ApiState) (R : Step ApiState → Type 0) (forms : ApiRequestForms 
       named_turns name (λ at t. commit_by s name at t t.doing t.tx)
       (λ at f. commit_by_turns name at f f.item.doing f.item.tx refl refl)
 
-  abort_by_turns : (name at : ℕ) (f : NamedAt s name at) (tx : Option TxId) → f.item.tx ≡ tx → R (abort_by s name tx)
-  abort_by_turns name at f None d = forms.refuses (Some name) refusal.Busy (λ e. cc)
-  abort_by_turns name at f (Some tx) d = forms.aborts name at f tx d
+  abort_by_turns : (name at : ℕ) (f : NamedAt s name at) (tx : Option TxId) → asked ≡ request.Abort name → f.item.tx ≡ tx
+      → R (abort_by s name tx)
+  abort_by_turns name at f None is d = forms.refuses (Some name) refusal.Busy refl
+  abort_by_turns name at f (Some tx) is d = forms.aborts name at f tx is d
 
-  abort_turns : (name : ℕ) → R (abort_row s name)
+  abort_turns : (name : ℕ) → asked ≡ request.Abort name → R (abort_row s name)
   unfolding abort_row
-  abort_turns name = named_turns name (λ at t. abort_by s name t.tx) (λ at f. abort_by_turns name at f f.item.tx refl)
+  abort_turns name is =
+      named_turns name (λ at t. abort_by s name t.tx) (λ at f. abort_by_turns name at f f.item.tx is refl)
 
   tick_turns : (round of : ℕ) → R (tick_row s round of)
   unfolding tick_row
@@ -175,7 +184,7 @@ module _ (s : ApiState) (R : Step ApiState → Type 0) (forms : ApiRequestForms 
   dump_turns node digest = by (is_full s.view node) (is_some s.dump)
     where
       by : (full under_way : Bool) → R (dump_if s node digest full under_way)
-      by false under_way = forms.refuses None (refusal.NoMember node) (λ e. cc)
+      by false under_way = forms.refuses None (refusal.NoMember node) refl
       by true true = forms.is_about_none
       by true false = forms.dumps node digest
 
@@ -184,14 +193,14 @@ module _ (s : ApiState) (R : Step ApiState → Type 0) (forms : ApiRequestForms 
   lone_turns op = by (least_node s.view.full) refl
     where
       by : (node : Option ℕ) → least_node s.view.full ≡ node → R (lone_by s op node)
-      by None e = forms.refuses None (refusal.NoMember 0) (λ e. cc)
+      by None e = forms.refuses None (refusal.NoMember 0) refl
       by (Some node) e = forms.opens None node (Some op) e
 
   operate_if_turns : (name : ℕ) (op : Op) (at : ℕ) (f : NamedAt s name at) (tx : TxId) (b : Bool) → f.item.doing ≡ Ready
       → f.item.tx ≡ Some tx
       → nat_lt f.item.operations OPERATIONS ≡ b → R (operate_if s name op at f.item tx b)
   operate_if_turns name op at f tx true e d low = forms.operates name op at f tx e d low
-  operate_if_turns name op at f tx false e d low = forms.refuses (Some name) refusal.TooManyOperations (λ e. cc)
+  operate_if_turns name op at f tx false e d low = forms.refuses (Some name) refusal.TooManyOperations refl
 
   operate_by_turns : (name : ℕ) (op : Op) (at : ℕ) (f : NamedAt s name at) (doing : Doing) (tx : Option TxId)
       → f.item.doing ≡ doing → f.item.tx ≡ tx
@@ -199,6 +208,8 @@ module _ (s : ApiState) (R : Step ApiState → Type 0) (forms : ApiRequestForms 
   operate_by_turns name op at f Ready (Some tx) e d =
       operate_if_turns name op at f tx (nat_lt f.item.operations OPERATIONS) e d refl
   operate_by_turns name op at f _ _ e d = forms.refuses (Some name) refusal.Busy (λ e. cc)
+      operate_if_turns name op at f tx (nat_lt f.item.operations 64) e d refl
+  operate_by_turns name op at f _ _ e d = forms.refuses (Some name) refusal.Busy refl
 
   operate_turns : (name : ℕ) (op : Op) → R (operate_row s name op)
   unfolding operate_row
@@ -224,34 +235,40 @@ module _ (s : ApiState) (R : Step ApiState → Type 0) (forms : ApiRequestForms 
       by p at f true (Some tx) is = forms.waits p at f tx is
       by p at f _ _ is = forms.rests
 
-  pending_by_turns : (holder name : Option ℕ) (tx : Option TxId) → R (pending_by s holder name tx)
-  pending_by_turns holder None (Some tx) = forms.gives_up holder tx
-  pending_by_turns holder None None = forms.pends None holder
-  pending_by_turns holder (Some name) tx = forms.pends (Some name) holder
+  pending_by_turns : asked ≡ request.Pending → (p : OpenTransaction → Bool) (at : ℕ) (f : IsFocus p s.opened at)
+      → (holder name : Option ℕ) (tx : Option TxId) → f.item.name ≡ name → f.item.tx ≡ tx
+      → R (pending_by s holder name tx)
+  pending_by_turns is p at f holder None (Some tx) alone own = forms.gives_up p at f holder tx is alone own
+  pending_by_turns is p at f holder None None alone own = forms.pends None holder
+  pending_by_turns is p at f holder (Some name) tx alone own = forms.pends (Some name) holder
 
-  pending_turns : R (pending_row s)
+  pending_turns : asked ≡ request.Pending → R (pending_row s)
   unfolding pending_row
-  pending_turns =
+  pending_turns is =
       own_turns (λ at t. pending_if s t (is_unanswered t.doing) t.ahead) s.own
-      (λ p at f. by f.item (is_unanswered f.item.doing) f.item.ahead)
+      (λ p at f. by p at f (is_unanswered f.item.doing) f.item.ahead)
     where
-      by : (t : OpenTransaction) (b : Bool) (ahead : Option TxId) → R (pending_if s t b ahead)
-      by t true (Some ahead) = pending_by_turns (name_of s ahead) t.name t.tx
-      by t _ _ = forms.rests
+      by : (p : OpenTransaction → Bool) (at : ℕ) (f : IsFocus p s.opened at) (b : Bool) (ahead : Option TxId)
+          → R (pending_if s f.item b ahead)
+      by p at f true (Some ahead) = pending_by_turns is p at f (name_of s ahead) f.item.name f.item.tx refl refl
+      by p at f _ _ = forms.rests
 
-  pub request_turns : (r : ApiReq) → R (request_row s r)
+  pub request_turns : R (request_row s asked)
   unfolding request_row
-  request_turns (request.Begin name node) = begin_turns name node
-  request_turns (request.Operate None op) = lone_turns op
-  request_turns (request.Operate (Some name) op) = operate_turns name op
-  request_turns (request.Commit name) = commit_turns name
-  request_turns (request.Abort name) = abort_turns name
-  request_turns (request.Tick round of) = tick_turns round of
-  request_turns (request.Rows node) = dump_turns node false
-  request_turns (request.Digest node) = dump_turns node true
-  request_turns request.Waits = waits_turns
-  request_turns request.Pending = pending_turns
-  request_turns _ = forms.is_about_none
+  request_turns = by asked refl
+    where
+      by : (r : ApiReq) → asked ≡ r → R (request_row s r)
+      by (request.Begin name node) is = begin_turns name node
+      by (request.Operate None op) is = lone_turns op
+      by (request.Operate (Some name) op) is = operate_turns name op
+      by (request.Commit name) is = commit_turns name
+      by (request.Abort name) is = abort_turns name is
+      by (request.Tick round of) is = tick_turns round of
+      by (request.Rows node) is = dump_turns node false
+      by (request.Digest node) is = dump_turns node true
+      by request.Waits is = waits_turns
+      by request.Pending is = pending_turns is
+      by _ is = forms.is_about_none
 
 -- what the coordinators and the rows tell
 module _ (s : ApiState) (body : Body) (R : Step ApiState → Type 0) (forms : ApiSignalForms s body R) where
@@ -339,8 +356,8 @@ module _ (s : ApiState) (body : Body) (R : Step ApiState → Type 0) (forms : Ap
 
 -- whatever the API takes
 pub api_turns : (s : ApiState) (R : Body → Step ApiState → Type 0) (body : Body)
-    → ((r : ApiReq) (at : ℕ) → ApiRequestForms s (R (Host (Continue (work.Request r) at))))
+    → ((r : ApiReq) (at : ℕ) → ApiRequestForms s r (R (Host (Continue (work.Request r) at))))
     → ApiSignalForms s body (R body) → R body (api_table s body)
 api_turns s R (Host (Continue (work.Request r) at)) asked told =
-    request_turns s (R (Host (Continue (work.Request r) at))) (asked r at) r
+    request_turns s r (R (Host (Continue (work.Request r) at))) (asked r at)
 api_turns s R body asked told = signal_turns s body (R body) told refl

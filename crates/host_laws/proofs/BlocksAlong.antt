@@ -17,9 +17,10 @@ use Rattle.lqh_block.specs.Lqh.{lqh_row}
 use Rattle.lqh_block.specs.State.{LqhState}
 use Rattle.node_core.proofs.HostCases.{keeps_rows, keeps_tc}
 use Rattle.node_core.specs.declared.host.Host as host
-use Rattle.node_core.specs.declared.host.Host.TheVariants.{Tc, Ldm}
-use Rattle.node_core.specs.Blocks.{has_api, has_lqh, has_tc, lqh_of, tc_of}
+use Rattle.node_core.specs.declared.host.Host.TheVariants.{Shell, Main, Tc, Ldm}
+use Rattle.node_core.specs.Blocks.{api_of, has_api, has_lqh, has_tc, lqh_of, tc_of}
 use Rattle.node_core.specs.Fresh.{fresh_part, fresh_shell}
+use Rattle.node_core.specs.Replies.{replies_of}
 use Rattle.tc_block.specs.State.{TcState}
 use Rattle.tc_block.specs.Tc.{tc_row}
 use Rattle.world_core.proofs.HostNumbers.{api_found, beyond_host, host_below, host_some, node_host, same_node, tc_after, tc_found, tc_started}
@@ -36,6 +37,14 @@ use Rattle.host_laws.specs.Counts.{one_if}
 pub no_live : (s : host.Host) → has_tc s ≡ false → (tc_of s).live ≡ []
 no_live (Tc p) e = absurd (false≢true (sym e))
 no_live _ e = refl
+
+-- the replies of a host are those of its API
+pub replies_are : (s : host.Host) → replies_of s ≡ (api_of s).replies
+unfolding replies_of
+replies_are (Shell a) = refl
+replies_are (Main m) = refl
+replies_are (Tc p) = refl
+replies_are (Ldm l) = refl
 
 -- one that doesn't run rows has no requests
 pub no_waiting : (s : host.Host) → has_lqh s ≡ false → (lqh_of s).waiting ≡ []

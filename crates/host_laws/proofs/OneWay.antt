@@ -407,3 +407,29 @@ forth_decided start h log =
         by : (b : Bool) → is_decided e.1.phase ≡ b → is_decided e.1.phase ≡ true
         by true on = on
         by false off = absurd (not_apart e.0 cs among (live.uncommitted off))
+
+-- and one that it took back, that it is aborted
+pub back_aborting : (start : Start) (h : ℕ) (log : List HostStep)
+    → Each (λ (e : TxId × Transaction). list_any (same_tx e.0) (sent_ways start back_by h log) ≡ true
+    → is_aborting e.1.phase ≡ true) (tc_of (after start h log)).live
+back_aborting start h log =
+    each_map (IsLive s.node s.next_seq cs bs)
+    (λ (e : TxId × Transaction). list_any (same_tx e.0) bs ≡ true → is_aborting e.1.phase ≡ true) s.live known
+    (log_one start h log).live
+  where
+    s : TcState
+    s = tc_of (after start h log)
+
+    cs : List TxId
+    cs = sent_ways start forth_by h log
+
+    bs : List TxId
+    bs = sent_ways start back_by h log
+
+    known : (e : TxId × Transaction) → IsLive s.node s.next_seq cs bs e → list_any (same_tx e.0) bs ≡ true
+        → is_aborting e.1.phase ≡ true
+    known e live among = by (is_aborting e.1.phase) refl
+      where
+        by : (b : Bool) → is_aborting e.1.phase ≡ b → is_aborting e.1.phase ≡ true
+        by true on = on
+        by false off = absurd (not_apart e.0 bs among (live.unaborted off))

@@ -185,7 +185,7 @@ expired_waits u (w ∷ ws) is = by (is_expired w) is (expired_waits u ws)
         ap (λ v. same_tx v u || waits u ws) same ∙ ap (λ b. b || waits u ws) (same_tx-self u)
     by false e rest = ap (λ b. same_tx w.tx u || b) (rest e) ∙ or_true (same_tx w.tx u)
 
-abbrev R : List ℕ → List ℕ → Ordering
+abbrev pub R : List ℕ → List ℕ → Ordering
 R = slice_cmp nat_cmp
 
 not_tied : (r : Ordering) → T (is_lt r) → is_eq r ≡ false
@@ -193,15 +193,15 @@ not_tied Less p = refl
 not_tied Equal p = absurd p
 not_tied Greater p = absurd p
 
-first_T : (a b : Bool) → T (a && b) → T a
+pub first_T : (a b : Bool) → T (a && b) → T a
 first_T true b p = tt
 first_T false b p = p
 
-second_T : (a b : Bool) → T (a && b) → T b
+pub second_T : (a b : Bool) → T (a && b) → T b
 second_T true b p = p
 second_T false b p = absurd p
 
-below_none : (q : List ℕ) (es : List (List ℕ × RowLock)) → T (below_all R q es) → finite.find R q es ≡ None
+pub below_none : (q : List ℕ) (es : List (List ℕ × RowLock)) → T (below_all R q es) → finite.find R q es ≡ None
 below_none q [] h = refl
 below_none q (e ∷ es) h =
     ap (λ b. cond b (Some e.1) (finite.find R q es)) (not_tied (R q e.0) (first_T (is_lt (R q e.0)) (below_all R q es) h)) ∙ below_none q es (second_T (is_lt (R q e.0)) (below_all R q es) h)

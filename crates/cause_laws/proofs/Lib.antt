@@ -1,0 +1,10 @@
+pub mod ApiReplies
+pub mod Causes
+pub mod CausesAlong
+pub mod CausesGrow
+pub mod QueueRounds
+pub mod RowReasons
+pub mod SampleAborted
+pub mod TcBegins
+pub mod TcCauses
+pub mod Waited
