@@ -1,0 +1,6 @@
+//! What is reported is the history: what the client is told of a transaction is what the history has of it.
+#![tactic(auto)]
+
+mod laws;
+
+pub use laws::histories_grow;
