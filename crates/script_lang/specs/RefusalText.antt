@@ -1,5 +1,5 @@
 -- Why a command did nothing, in words.
-use Rattle.std.specs.Prelude.{ℕ, List, ◌++◌, codes}
+use Rattle.std.specs.Prelude.{ℕ, List, ◌++◌, codes, Option, None}
 use Rattle.std.specs.Fmt.{decimal}
 use Rattle.sig_core.specs.declared.reply.Refusal.{Refusal}
 use Rattle.sig_core.specs.declared.reply.Refusal.TheVariants.{Down, Running, NotOpen, IsOpen, NoMember, NotRunning, RunningNode, InView, Busy, TooManyOperations, TooManyOpen, Batch}
@@ -18,3 +18,12 @@ refusal_words Busy = codes "busy"
 refusal_words TooManyOperations = codes "too many operations 64"
 refusal_words TooManyOpen = codes "too many open 64"
 refusal_words (Batch name) = codes "batch refused " ++ decimal name
+
+-- the name that a refusal is told with: none where it isn't about a transaction
+abbrev pub refused_name : Option ℕ → Refusal → Option ℕ
+refused_name name NotOpen = name
+refused_name name IsOpen = name
+refused_name name Busy = name
+refused_name name TooManyOperations = name
+refused_name name TooManyOpen = name
+refused_name name refusal = None

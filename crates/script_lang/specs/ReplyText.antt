@@ -6,7 +6,7 @@ use Rattle.sig_core.specs.declared.reply.ApiReply.TheVariants.{Begun, Answered, 
 use Rattle.script_lang.specs.AnswerText.{answer_words}
 use Rattle.script_lang.specs.OutcomeText.{outcome_words}
 use Rattle.script_lang.specs.WaitingText.{waiting_words}
-use Rattle.script_lang.specs.RefusalText.{refusal_words}
+use Rattle.script_lang.specs.RefusalText.{refusal_words, refused_name}
 use Rattle.script_lang.specs.StopText.{stop_words}
 use Rattle.script_lang.specs.ViewText.{view_words}
 use Rattle.script_lang.specs.DigestText.{digest_words}
@@ -21,7 +21,7 @@ name_of (Begun name node) = Some name
 name_of (Answered name answer) = name
 name_of (Ended name outcome) = name
 name_of (Pending name on) = name
-name_of (Refused name refusal) = name
+name_of (Refused name refusal) = refused_name name refusal
 name_of (Stopped node cause) = None
 name_of (Ticked rounds) = None
 name_of (Cut one other) = None

@@ -1,6 +1,7 @@
 //! The text of replies: one line for each.
 ghost use Rattle.std.specs.Prelude.{◌≡◌, ◌++◌, string_bytes, OnOk, OnErr, IfOk};
 ghost use Rattle.sig_core.specs.declared.reply.ApiReply.TheVariants.{Cut, Rows};
+ghost use Rattle.script_lang.specs.RefusalText.{refused_name};
 ghost use Rattle.script_lang.specs.ReplyText.{name_of, name_prefix, reply_words, reply_text};
 
 mod answer;
@@ -18,7 +19,7 @@ use digest::add_digest;
 use outcome::add_outcome;
 use refusal::add_refusal;
 use row::add_row;
-use sig_core::{ApiReply, NoMemory};
+use sig_core::{ApiReply, NoMemory, Refusal};
 use std::alloc::Global;
 use stop::add_stop;
 use view::add_view;
@@ -51,8 +52,8 @@ fn name_of(reply: &ApiReply) -> Option<u16>
         ApiReply::Begun { name, .. } => Some(*name),
         ApiReply::Answered { name, .. }
         | ApiReply::Ended { name, .. }
-        | ApiReply::Pending { name, .. }
-        | ApiReply::Refused { name, .. } => *name,
+        | ApiReply::Pending { name, .. } => *name,
+        ApiReply::Refused { name, refusal } => refused_name(*name, refusal),
         ApiReply::Stopped { .. }
         | ApiReply::Ticked { .. }
         | ApiReply::Cut { .. }
@@ -68,6 +69,26 @@ fn name_of(reply: &ApiReply) -> Option<u16>
         | ApiReply::Crashed
         | ApiReply::Restarted { .. }
         | ApiReply::BatchEnd => None,
+    }
+}
+
+// The name that a refusal is told with: none where it isn't about a transaction.
+fn refused_name(name: Option<u16>, refusal: &Refusal) -> Option<u16>
+    ensures { result ≡ refused_name name refusal.now }
+{
+    match refusal {
+        Refusal::NotOpen
+        | Refusal::IsOpen
+        | Refusal::Busy
+        | Refusal::TooManyOperations
+        | Refusal::TooManyOpen => name,
+        Refusal::Down
+        | Refusal::Running
+        | Refusal::NoMember(_)
+        | Refusal::NotRunning(_)
+        | Refusal::RunningNode(_)
+        | Refusal::InView(_)
+        | Refusal::Batch(_) => None,
     }
 }
 

@@ -85,8 +85,8 @@ impl World {
         ensures ok { (start : Start) → IsSound start (whole_of self.old) → OnOk result (HasAsked start request (whole_of self.old) (whole_of self.new)) }
         ensures err { OnErr result (self.new.logs ≡ self.old.logs) }
     {
-        let signal = request_signal(&self.who, self.stamps[0], request)?;
-        self.handle(alloc, 0, Boxed::new(alloc, signal)?)
+        let signal = request_signal(alloc, &self.who, self.stamps[0], request)?;
+        self.handle(alloc, 0, signal)
     }
 
     /// Takes steps until nothing is under way. It isn't claimed that this ends.
@@ -231,10 +231,15 @@ fn part_behind(
 ///
 /// # Errors
 /// `NoMemory`.
-fn request_signal(who: &Membership, stamp: u64, request: ApiReq) -> Result<Signal, NoMemory>
+fn request_signal(
+    alloc: Global,
+    who: &Membership,
+    stamp: u64,
+    request: ApiReq,
+) -> Result<Boxed<Signal>, NoMemory>
     ensures { IfOk result (λ signal. signal ≡ request_signal who.now stamp request) }
 {
-    Ok(Signal {
+    let signal = Signal {
         from: HostId(0),
         member: Member { node: 0, start: 0 },
         to: CLIENT,
@@ -245,7 +250,8 @@ fn request_signal(who: &Membership, stamp: u64, request: ApiReq) -> Result<Signa
             work: Work::Request(request),
             at: 0,
         }),
-    })
+    };
+    Boxed::new(alloc, signal)
 }
 
 /// Puts what a step of a host sends on its way.

@@ -136,34 +136,44 @@ fn waits_with_and_without_a_name(rt: HostRuntime) -> Result<(), Fail> {
 }
 
 #[test]
-fn refusals_with_and_without_a_name(rt: HostRuntime) -> Result<(), Fail> {
+fn refusals_about_a_transaction_have_its_name(rt: HostRuntime) -> Result<(), Fail> {
+    let table = [
+        (Refusal::NotOpen, b"not open\n".as_slice()),
+        (Refusal::IsOpen, b"is open\n"),
+        (Refusal::Busy, b"busy\n"),
+        (Refusal::TooManyOperations, b"too many operations 64\n"),
+        (Refusal::TooManyOpen, b"too many open 64\n"),
+    ];
+    for (refusal, line) in &table {
+        expect(&rt, rt.alloc(), &refused(None, refusal), b"", line)?;
+        expect(&rt, rt.alloc(), &refused(Some(6), refusal), b"@6 ", line)?;
+    }
+    Ok(())
+}
+
+#[test]
+fn refusals_about_nodes_have_no_name(rt: HostRuntime) -> Result<(), Fail> {
     let table = [
         (Refusal::Down, b"down\n".as_slice()),
         (Refusal::Running, b"running\n"),
-        (Refusal::NotOpen, b"not open\n"),
-        (Refusal::IsOpen, b"is open\n"),
         (Refusal::NoMember(5), b"no member 5\n"),
         (Refusal::NotRunning(5), b"not running 5\n"),
         (Refusal::RunningNode(5), b"running 5\n"),
         (Refusal::InView(5), b"in view 5\n"),
-        (Refusal::Busy, b"busy\n"),
-        (Refusal::TooManyOperations, b"too many operations 64\n"),
-        (Refusal::TooManyOpen, b"too many open 64\n"),
         (Refusal::Batch(300), b"batch refused 300\n"),
     ];
     for (refusal, line) in &table {
-        let unnamed = ApiReply::Refused {
-            name: None,
-            refusal: *refusal,
-        };
-        let named = ApiReply::Refused {
-            name: Some(6),
-            refusal: *refusal,
-        };
-        expect(&rt, rt.alloc(), &unnamed, b"", line)?;
-        expect(&rt, rt.alloc(), &named, b"@6 ", line)?;
+        expect(&rt, rt.alloc(), &refused(None, refusal), b"", line)?;
+        expect(&rt, rt.alloc(), &refused(Some(6), refusal), b"", line)?;
     }
     Ok(())
+}
+
+fn refused(name: Option<u16>, refusal: &Refusal) -> ApiReply {
+    ApiReply::Refused {
+        name,
+        refusal: *refusal,
+    }
 }
 
 #[test]
