@@ -109,12 +109,13 @@ insert_both a xs (y ∷ ys) (inr keeps) ordered =
 
 insert_more : (a : Entry) (xs ys : List Entry) → IsSublist xs ys → IsSublist xs (insert a ys)
 insert_more a xs [] none = inl none
-insert_more a xs (y ∷ ys) part = by (is_before a y) part
+insert_more a xs (y ∷ ys) part = by (is_before a y) part (λ zs. insert_more a zs ys)
   where
-    by : (test : Bool) → IsSublist xs (y ∷ ys) → IsSublist xs (if test then a ∷ y ∷ ys else y ∷ insert a ys)
-    by true part = inl part
-    by false (inl rest) = inl (insert_more a xs ys rest)
-    by false (inr keeps) = inr (record { rest = keeps.rest; is = keeps.is; holds = insert_more a keeps.rest ys keeps.holds })
+    by : (test : Bool) → IsSublist xs (y ∷ ys) → ((zs : List Entry) → IsSublist zs ys → IsSublist zs (insert a ys))
+        → IsSublist xs (if test then a ∷ y ∷ ys else y ∷ insert a ys)
+    by true part more = inl part
+    by false (inl rest) more = inl (more xs rest)
+    by false (inr keeps) more = inr (record { rest = keeps.rest; is = keeps.is; holds = more keeps.rest keeps.holds })
 
 all_ordered : (news into : List Entry) → AreOrdered into → AreOrdered (insert_all news into)
 all_ordered [] into ordered = ordered
@@ -153,11 +154,12 @@ module _ (small large : ℕ → List HostStep) (past : (h : ℕ) → IsPast (sma
 
   pub marks_more : (test : Mark → Bool) (n : ℕ) → have_mark test n small ≡ true → have_mark test n large ≡ true
   marks_more test zero is = is
-  marks_more test (suc n) is = by (or_cases (has_mark test (small n)) (have_mark test n small) is)
+  marks_more test (suc n) is = by (or_cases (has_mark test (small n)) (have_mark test n small) is) (marks_more test n)
     where
-      by : (has_mark test (small n) ≡ true) ⊎ (have_mark test n small ≡ true) → (has_mark test (large n) || have_mark test n large) ≡ true
-      by (inl own) = or_left (has_mark test (large n)) (have_mark test n large) (mark_more test n own)
-      by (inr rest) = or_right (has_mark test (large n)) (have_mark test n large) (marks_more test n rest)
+      by : (has_mark test (small n) ≡ true) ⊎ (have_mark test n small ≡ true) → (have_mark test n small ≡ true → have_mark test n large ≡ true)
+          → (has_mark test (large n) || have_mark test n large) ≡ true
+      by (inl own) more = or_left (has_mark test (large n)) (have_mark test n large) (mark_more test n own)
+      by (inr rest) more = or_right (has_mark test (large n)) (have_mark test n large) (more rest)
 
   kept_more : (n : ℕ) (entry : Entry) → is_kept n small entry ≡ true → is_kept n large entry ≡ true
   kept_more n entry = by (writes entry)
