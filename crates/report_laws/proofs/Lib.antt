@@ -1,1 +1,4 @@
+pub mod Aborted
 pub mod Growing
+pub mod ReportMarks
+pub mod RunOf

@@ -1,5 +1,11 @@
 //! What is reported of a transaction is what the history has of it.
 ghost use Rattle.report_laws.specs.Growing.{HistoriesGrow};
+ghost use Rattle.report_laws.specs.Reported.{AbortsAreInNone};
+
+/// Where a transaction was reported aborted, however late, no closed cut has it in its history.
+pub fn aborts_are_in_none()
+    ensures { AbortsAreInNone }
+{}
 
 /// Of two closed cuts, one within the other, the history of the smaller one is that of the larger
 /// one with some entries left out: none of its entries is lost, and none changes its place among

@@ -3,4 +3,4 @@
 
 mod laws;
 
-pub use laws::histories_grow;
+pub use laws::{aborts_are_in_none, histories_grow};
